@@ -1,0 +1,104 @@
+-- What is read, step by step.
+use Rattle.std.proofs.Common.{◌≡◌, ℕ, zero, suc, ◌-◌, ◌<◌, List, [], ◌∷◌, refl, ap, ◌∙◌, sym, arith}
+use Rattle.std.specs.Prelude.{Ok, Err, nat_lt, if◌then◌else◌}
+use Rattle.homeo_syntax.specs.declared.token.Mark.TheVariants as mark
+use Rattle.homeo_syntax.specs.declared.token.Kind.{Kind}
+use Rattle.homeo_syntax.specs.declared.token.Kind.TheVariants as kind
+use Rattle.homeo_syntax.specs.declared.token.Token.{Token}
+use Rattle.homeo_reader.specs.Engine.{Reading, ◌>>=◌, read, calls_at}
+use Rattle.homeo_syntax.specs.Rules.{rule, factor, test}
+use Rattle.homeo_reader.specs.Reading.{factor_read, factors_read, term_read, terms_read, expr_read, factor_by, factor_do, term_do, expr_do}
+use Rattle.homeo_syntax.specs.Source as s
+use Rattle.homeo_reader.specs.Reading.{mark_read, cond_read, cond_do, test_read, tests_read, test_do, comparison_read, comparison_do}
+use Rattle.std.proofs.lemmas.Bool.{lt-ltb}
+use Rattle.homeo_syntax.specs.declared.phrase.Compare.{Compare}
+use Rattle.homeo_reader.proofs.Bools.{if_true}
+use Rattle.homeo_reader.proofs.Flat.{read_then, reads, reads_part, bind_same}
+
+pub term_reads : (room : ℕ) (ts : List Token) → term_read room ts ≡ term_do room ts
+unfolding term_read term_do factor_read factors_read read_then
+term_reads room ts = reads_part (calls_at rule room) _ ts
+
+pub expr_reads : (room : ℕ) (ts : List Token) → expr_read room ts ≡ expr_do room ts
+unfolding expr_read expr_do term_read terms_read read_then
+expr_reads room ts = reads_part (calls_at rule room) _ ts
+
+factor_kind_1 : (k : Kind) (o : ℕ) (ts : List Token) → factor_read 1 (record { kind = k; offset = o } ∷ ts) ≡ factor_by 1 k (record { kind = k; offset = o }) ts
+unfolding factor_read factor_by read_then calls_at
+factor_kind_1 (kind.Fixed mark.Read) o ts = reads (calls_at rule 0) factor (record { kind = kind.Fixed mark.Read; offset = o } ∷ ts)
+factor_kind_1 k o ts = reads (calls_at rule 0) factor (record { kind = k; offset = o } ∷ ts)
+
+pub room_minus : {A : Type 0} → (n : ℕ) (f : ℕ → A) (e : A) → f (suc n) ≡ (if nat_lt 1 (suc (suc n)) then f (suc (suc n) - 1) else e)
+room_minus n f e = sym (if_true (nat_lt 1 (suc (suc n))) (f (suc (suc n) - 1)) e (lt-ltb _ _ (omega arith)) ∙ ap f (omega arith))
+
+factor_kind_2 : (n : ℕ) (k : Kind) (o : ℕ) (ts : List Token) → factor_read (suc (suc n)) (record { kind = k; offset = o } ∷ ts) ≡ factor_by (suc (suc n)) k (record { kind = k; offset = o }) ts
+unfolding factor_read factor_by read_then calls_at expr_read cond_read
+factor_kind_2 n (kind.Fixed mark.Minus) o ts =
+    reads (calls_at rule (suc n)) factor (record { kind = kind.Fixed mark.Minus; offset = o } ∷ ts)
+    ∙ room_minus n (λ m. factor_read m ts >>= λ x. Ok (s.Neg x.0, x.1)) (Err (record { kind = kind.Fixed mark.Minus; offset = o } ∷ ts))
+factor_kind_2 n (kind.Fixed mark.Open) o ts =
+    reads (calls_at rule (suc n)) factor (record { kind = kind.Fixed mark.Open; offset = o } ∷ ts)
+    ∙ room_minus n (λ m. expr_read m ts >>= λ x. mark_read mark.Close x.1 >>= λ y. Ok (x.0, y.1)) (Err (record { kind = kind.Fixed mark.Open; offset = o } ∷ ts))
+factor_kind_2 n k o ts = reads (calls_at rule (suc n)) factor (record { kind = k; offset = o } ∷ ts)
+
+pub factor_reads : (room : ℕ) (ts : List Token) → 0 < room → factor_read room ts ≡ factor_do room ts
+unfolding factor_read factor_do read calls_at
+factor_reads zero ts h = absurd (omega arith)
+factor_reads (suc zero) [] h = refl
+factor_reads (suc (suc n)) [] h = refl
+factor_reads (suc zero) (t ∷ ts) h = factor_kind_1 t.kind t.offset ts
+factor_reads (suc (suc n)) (t ∷ ts) h = factor_kind_2 n t.kind t.offset ts
+
+pub cond_reads : (room : ℕ) (ts : List Token) → cond_read room ts ≡ cond_do room ts
+unfolding cond_read cond_do test_read tests_read read_then
+cond_reads room ts = reads_part (calls_at rule room) _ ts
+
+comparison_kind : (room : ℕ) (k : Kind) (o : ℕ) (ts : List Token) → comparison_read room (record { kind = k; offset = o } ∷ ts) ≡ comparison_do (record { kind = k; offset = o } ∷ ts)
+unfolding comparison_read comparison_do read
+comparison_kind room (kind.Fixed mark.Less) o ts = refl
+comparison_kind room k o ts = refl
+
+pub comparison_reads : (room : ℕ) (ts : List Token) → comparison_read room ts ≡ comparison_do ts
+unfolding comparison_read comparison_do read
+comparison_reads room [] = refl
+comparison_reads room (t ∷ ts) = comparison_kind room t.kind t.offset ts
+
+abbrev compare_do : ℕ → List Token → Reading s.Test
+compare_do m ts = expr_read m ts >>= λ a. comparison_do a.1 >>= λ b. expr_read m b.1 >>= λ c. Ok (s.Comparison b.0 a.0 c.0, c.1)
+
+compared : (m : ℕ) (ts : List Token) → (expr_read m ts >>= λ a. comparison_read m a.1 >>= λ b. expr_read m b.1 >>= λ c. Ok (s.Comparison b.0 a.0 c.0, c.1)) ≡ compare_do m ts
+compared m ts = bind_same (expr_read m ts) _ _ (λ a. ap (then_right m a.0) (comparison_reads m a.1))
+  where
+    then_right : ℕ → s.Expr → Reading Compare → Reading s.Test
+    then_right m left r = r >>= λ b. expr_read m b.1 >>= λ c. Ok (s.Comparison b.0 left c.0, c.1)
+
+test_kind_1 : (k : Kind) (o : ℕ) (ts : List Token) → test_read 1 (record { kind = k; offset = o } ∷ ts) ≡ test_do 1 (record { kind = k; offset = o } ∷ ts)
+unfolding test_read test_do read calls_at
+test_kind_1 (kind.Fixed mark.True) o ts = refl
+test_kind_1 k o ts = refl
+
+test_kind_2 : (n : ℕ) (k : Kind) (o : ℕ) (ts : List Token) → test_read (suc (suc n)) (record { kind = k; offset = o } ∷ ts) ≡ test_do (suc (suc n)) (record { kind = k; offset = o } ∷ ts)
+unfolding test_read test_do read_then calls_at expr_read cond_read comparison_read
+test_kind_2 n (kind.Fixed mark.True) o ts = reads (calls_at rule (suc n)) test (record { kind = kind.Fixed mark.True; offset = o } ∷ ts)
+test_kind_2 n (kind.Fixed mark.Not) o ts =
+    reads (calls_at rule (suc n)) test (record { kind = kind.Fixed mark.Not; offset = o } ∷ ts)
+    ∙ room_minus n (λ m. mark_read mark.Open ts >>= λ a. cond_read m a.1 >>= λ b. mark_read mark.Close b.1 >>= λ c. Ok (s.Not b.0, c.1)) (Err (record { kind = kind.Fixed mark.Not; offset = o } ∷ ts))
+test_kind_2 n k o ts =
+    reads (calls_at rule (suc n)) test (record { kind = k; offset = o } ∷ ts)
+    ∙ compared (suc n) (record { kind = k; offset = o } ∷ ts)
+    ∙ room_minus n (λ m. compare_do m (record { kind = k; offset = o } ∷ ts)) (Err (record { kind = k; offset = o } ∷ ts))
+
+test_nil_2 : (n : ℕ) → test_read (suc (suc n)) [] ≡ test_do (suc (suc n)) []
+unfolding test_read test_do read_then calls_at expr_read cond_read comparison_read
+test_nil_2 n = reads (calls_at rule (suc n)) test [] ∙ compared (suc n) [] ∙ room_minus n (λ m. compare_do m []) (Err [])
+
+test_nil_1 : test_read 1 [] ≡ test_do 1 []
+unfolding test_read test_do read calls_at
+test_nil_1 = refl
+
+pub test_reads : (room : ℕ) (ts : List Token) → 0 < room → test_read room ts ≡ test_do room ts
+test_reads zero ts h = absurd (omega arith)
+test_reads (suc zero) [] h = test_nil_1
+test_reads (suc (suc n)) [] h = test_nil_2 n
+test_reads (suc zero) (t ∷ ts) h = test_kind_1 t.kind t.offset ts
+test_reads (suc (suc n)) (t ∷ ts) h = test_kind_2 n t.kind t.offset ts

@@ -1,0 +1,219 @@
+-- Each identifier of a workload is the place of a name, and no site is negative.
+use Rattle.std.proofs.Common.{◌≡◌, ◌<◌, ℕ, zero, suc, ℤ, pos, negsuc, ◌≤ℤ◌, true, List, [], ◌∷◌, refl, rules as std_rules}
+use Rattle.homeo_syntax.specs.declared.workload.RangeDecl.{RangeDecl}
+use Rattle.homeo_reader.proofs.Bools.{and_split}
+use Rattle.std.specs.Prelude.{None}
+use Rattle.homeo_syntax.specs.Key.{words}
+use Rattle.homeo_syntax.specs.declared.token.Mark.TheVariants as mark
+use Rattle.homeo_syntax.specs.declared.token.Kind.{Kind}
+use Rattle.homeo_syntax.specs.declared.token.Kind.TheVariants as kind
+use Rattle.homeo_syntax.specs.declared.token.Token.{Token}
+use Rattle.homeo_syntax.specs.declared.phrase.Ident.{Ident}
+use Rattle.homeo_syntax.specs.Source as s
+use Rattle.homeo_syntax.specs.SourceView.{exprs, tests, commands}
+use Rattle.homeo_syntax.specs.Classes.{name_class}
+use Rattle.homeo_syntax.specs.Grammar.{call, takes, Means}
+use Rattle.homeo_syntax.specs.Rules as rules
+use Rattle.homeo_syntax.specs.Rules.{Deep, Factor, Test, Command, Tree, Rule, rule, limit, fixed, lead, closed, name_in, value_in, is_natural, is_natural_value, product_of, sum_of}
+use Rattle.homeo_syntax.specs.WellFormed.{Each, EachInExpr, EachInExprs, EachInTest, EachInCond, EachInCommand, EachInCommands, InSchedule, EachIdent, IsBelow}
+use Rattle.homeo_reader.proofs.Keeps.{Sound, Meaning, Every, sound_token, sound_nothing, sound_seq, sound_alt, sound_part, sound_as, sound_many, sound_lead, sound_closed}
+
+-- a name's place is below this number
+abbrev pub Named : ℕ → Kind → Type 0
+Named n (kind.Name m) = m < n
+Named n _ = Unit {0}
+
+is_name : (n : ℕ) (k : Kind) → takes (name_class ∷ []) (λ k. true) k ≡ true → Named n k → name_in k < n
+is_name n (kind.Name m) h f = f
+is_name n (kind.Fixed mark.Assign) h f = let no : ⊥ = cc in absurd no
+is_name n k h f = let no : ⊥ = cc in absurd no
+
+natural_value : (z : ℤ) → is_natural_value z ≡ true → pos 0 ≤ℤ z
+natural_value (pos n) h = search std_rules
+natural_value (negsuc n) h = let no : ⊥ = cc in absurd no
+
+each_of : {A : Type 0} → (P Q : A → Type 0) → ((a : A) → P a → Q a) → (all : List A) → Every P all → Each Q all
+unfolding words
+each_of P Q h [] e = tt
+each_of P Q h (a ∷ all) e = (h a e.0, each_of P Q h all e.1)
+
+each_exprs : (B : Ident → Type 0) (es : List s.Expr) → Every (EachInExpr B) es → EachInExprs B (exprs es)
+unfolding words
+each_exprs B [] h = tt
+each_exprs B (e ∷ es) h = (h.0, each_exprs B es h.1)
+
+each_tests : (B : Ident → Type 0) (ts : List s.Test) → Every (EachInTest B) ts → EachInCond B (tests ts)
+unfolding words
+each_tests B [] h = tt
+each_tests B (t ∷ ts) h = (h.0, each_tests B ts h.1)
+
+each_commands : (B : Ident → Type 0) (cs : List s.Command) → Every (EachInCommand B) cs → EachInCommands B (commands cs)
+unfolding words
+each_commands B [] h = tt
+each_commands B (c ∷ cs) h = (h.0, each_commands B cs h.1)
+
+product_kept : (B : Ident → Type 0) (e : s.Expr) (fs : List s.Expr) → EachInExpr B e → Every (EachInExpr B) fs → EachInExpr B (product_of e fs)
+unfolding words
+product_kept B e [] h k = h
+product_kept B e (f ∷ fs) h k = each_exprs B (e ∷ f ∷ fs) (h, k)
+
+sum_kept : (B : Ident → Type 0) (e : s.Expr) (fs : List s.Expr) → EachInExpr B e → Every (EachInExpr B) fs → EachInExpr B (sum_of e fs)
+unfolding words
+sum_kept B e [] h k = h
+sum_kept B e (f ∷ fs) h k = each_exprs B (e ∷ f ∷ fs) (h, k)
+
+abbrev Phrase : (Ident → Type 0) → (c : Deep) → Tree c → Type 0
+Phrase B Factor = EachInExpr B
+Phrase B Test = EachInTest B
+Phrase B Command = EachInCommand B
+
+abbrev IsTransaction : (Ident → Type 0) → s.Transaction → Type 0
+IsTransaction B t = B t.name × Each (λ (p : RangeDecl). B p.name) t.params × EachInCommands B t.body
+
+abbrev IsClient : (Ident → Type 0) → s.Client → Type 0
+IsClient B c = B c.name × Each (λ (k : s.Call). B k.name) c.calls
+
+abbrev IsSite : s.Client → Type 0
+IsSite c = pos 0 ≤ℤ c.site.value
+
+pub record IsKept (n : ℕ) (names : List (List ℕ)) (w : s.Workload) : Type 0 where
+  pub version : w.version ≡ 1
+  pub names_are : w.names ≡ names
+  pub named : EachIdent (IsBelow n) w
+  pub sites : Each IsSite w.clients
+
+module _ (n : ℕ) (M : Meaning) (hyp : (c : Deep) → Sound M (λ t. Named n t.kind) (call c) (Phrase (IsBelow n) c)) where
+  abbrev F : Token → Type 0
+  F t = Named n t.kind
+
+  abbrev B : Ident → Type 0
+  B = IsBelow n
+
+  abbrev E : s.Expr → Type 0
+  E = EachInExpr B
+
+  anything : {X : Type 0} → (g : Rule X) → Sound M F g (λ x. Unit {0})
+  anything g = record { of = λ a ts s f. tt }
+
+  ident_kept : Sound M F rules.ident B
+  ident_kept = sound_token M F _ _ _ _ B (λ t h f. is_name n t.kind h f)
+
+  term_kept : Sound M F rules.term E
+  term_kept = sound_part M F _ E (sound_as M F _ _ _ E (sound_seq M F _ _ E (Every E) (hyp Factor) (sound_many M F _ E (sound_lead M F mark.Star _ E (hyp Factor)))) (λ p h. product_kept B p.0 p.1 h.0 h.1))
+
+  expr_kept : Sound M F rules.expr E
+  unfolding words
+  expr_kept =
+      sound_part M F _ E (sound_as M F _ _ _ E
+      (sound_seq M F _ _ E (Every E) term_kept (sound_many M F _ E (sound_alt M F _ _ E (sound_lead M F mark.Plus _ E term_kept) (sound_as M F s.Neg _ E E (sound_lead M F mark.Minus _ E term_kept) (λ a h. h)))))
+      (λ p h. sum_kept B p.0 p.1 h.0 h.1))
+
+  cond_kept : Sound M F rules.cond (EachInCond B)
+  cond_kept =
+      sound_part M F _ (EachInCond B) (sound_as M F _ _ _ (EachInCond B)
+      (sound_seq M F _ _ (EachInTest B) (Every (EachInTest B)) (hyp Test) (sound_many M F _ (EachInTest B) (sound_lead M F mark.And _ (EachInTest B) (hyp Test))))
+      (λ p h. each_tests B (p.0 ∷ p.1) h))
+
+  factor_kept : Sound M F rules.factor E
+  unfolding words
+  factor_kept =
+      sound_alt M F _ _ E (sound_token M F _ _ _ _ E (λ t h f. tt))
+      (sound_alt M F _ _ E (sound_as M F s.Neg _ E E (sound_lead M F mark.Minus _ E (hyp Factor)) (λ a h. h))
+      (sound_alt M F _ _ E (sound_lead M F mark.Open _ E (sound_closed M F mark.Close _ E expr_kept))
+      (sound_alt M F _ _ E (sound_as M F s.Read _ B E (sound_lead M F mark.Read _ B (sound_lead M F mark.Open _ B (sound_closed M F mark.Close _ B ident_kept))) (λ a h. h))
+      (sound_as M F s.Name _ B E ident_kept (λ a h. h)))))
+
+  test_kept : Sound M F rules.test (EachInTest B)
+  unfolding words
+  test_kept =
+      sound_alt M F _ _ (EachInTest B) (sound_as M F _ _ (λ u. Unit {0}) (EachInTest B) (anything _) (λ a h. tt))
+      (sound_alt M F _ _ (EachInTest B) (sound_as M F s.Not _ (EachInCond B) (EachInTest B) (sound_lead M F mark.Not _ (EachInCond B) (sound_lead M F mark.Open _ (EachInCond B) (sound_closed M F mark.Close _ (EachInCond B) cond_kept))) (λ a h. h))
+      (sound_as M F _ _ _ (EachInTest B) (sound_seq M F _ _ E _ expr_kept (sound_seq M F _ _ (λ u. Unit {0}) E (anything _) expr_kept)) (λ p h. (h.0, h.1.1))))
+
+  block_kept : Sound M F rules.block (EachInCommands B)
+  unfolding words
+  block_kept =
+      sound_part M F _ (EachInCommands B) (sound_lead M F mark.OpenBrace _ (EachInCommands B) (sound_closed M F mark.CloseBrace _ (EachInCommands B)
+      (sound_alt M F _ _ (EachInCommands B)
+      (sound_as M F _ _ _ (EachInCommands B) (sound_seq M F _ _ (EachInCommand B) (Every (EachInCommand B)) (hyp Command) (sound_many M F _ (EachInCommand B) (sound_lead M F mark.Semicolon _ (EachInCommand B) (hyp Command)))) (λ p h. each_commands B (p.0 ∷ p.1) h))
+      (sound_nothing M F s.NoCommand (EachInCommands B) tt))))
+
+  command_kept : Sound M F rules.command (EachInCommand B)
+  unfolding words
+  command_kept =
+      sound_alt M F _ _ (EachInCommand B) (sound_as M F _ _ (λ u. Unit {0}) (EachInCommand B) (anything _) (λ a h. tt))
+      (sound_alt M F _ _ (EachInCommand B) (sound_as M F s.Block _ (EachInCommands B) (EachInCommand B) block_kept (λ a h. h))
+      (sound_alt M F _ _ (EachInCommand B) (sound_as M F _ _ _ (EachInCommand B) (sound_seq M F _ _ B E ident_kept (sound_lead M F mark.Assign _ E expr_kept)) (λ p h. (h.0, h.1)))
+      (sound_alt M F _ _ (EachInCommand B) (sound_as M F _ _ _ (EachInCommand B) (sound_lead M F mark.Write _ _ (sound_lead M F mark.Open _ _ (sound_seq M F _ _ B E ident_kept (sound_lead M F mark.Equal _ E (sound_closed M F mark.Close _ E expr_kept))))) (λ p h. (h.0, h.1)))
+      (sound_alt M F _ _ (EachInCommand B) (sound_as M F s.Print _ E (EachInCommand B) (sound_lead M F mark.Print _ E (sound_lead M F mark.Open _ E (sound_closed M F mark.Close _ E expr_kept))) (λ a h. h))
+      (sound_as M F _ _ _ (EachInCommand B)
+      (sound_lead M F mark.If _ _ (sound_seq M F _ _ (EachInCond B) _ cond_kept (sound_lead M F mark.Then _ _ (sound_seq M F _ _ (EachInCommand B) (EachInCommand B) (hyp Command) (sound_lead M F mark.Else _ (EachInCommand B) (hyp Command))))))
+      (λ p h. (h.0, h.1.0, h.1.1)))))))
+
+  pub rule_kept : (c : Deep) → Sound M F (rule c) (Phrase B c)
+  rule_kept Factor = factor_kept
+  rule_kept Test = test_kept
+  rule_kept Command = command_kept
+
+  object_kept : Sound M F rules.object (λ o. B o.name)
+  object_kept = sound_part M F _ _ (sound_as M F _ _ _ (λ o. B o.name) (sound_lead M F mark.Object _ _ (sound_seq M F _ _ B (λ u. Unit {0}) ident_kept (anything _))) (λ p h. h.0))
+
+  transaction_kept : Sound M F rules.transaction (IsTransaction B)
+  unfolding words
+  transaction_kept =
+      sound_part M F _ _ (sound_as M F _ _ _ (IsTransaction B) (sound_lead M F mark.Transaction _ _ (sound_seq M F _ _ B (EachInCommands B) ident_kept (sound_lead M F mark.Open _ _ (sound_lead M F mark.Close _ (EachInCommands B) block_kept)))) (λ p h. (h.0, tt, h.1)))
+
+  invocation_kept : Sound M F rules.invocation (λ k. B k.name)
+  invocation_kept = sound_part M F _ _ (sound_as M F _ _ B (λ k. B k.name) (sound_closed M F mark.Close _ B (sound_closed M F mark.Open _ B ident_kept)) (λ a h. h))
+
+  calls_kept : Sound M F rules.calls (Every (λ k. B k.name))
+  calls_kept =
+      sound_part M F _ _ (sound_lead M F mark.OpenBrace _ _ (sound_closed M F mark.CloseBrace _ _ (sound_part M F _ _
+      (sound_alt M F _ _ (Every (λ k. B k.name))
+      (sound_as M F _ _ _ (Every (λ k. B k.name)) (sound_seq M F _ _ (λ k. B k.name) (Every (λ k. B k.name)) invocation_kept (sound_many M F _ _ (sound_lead M F mark.Semicolon _ (λ k. B k.name) invocation_kept))) (λ p h. (h.0, h.1)))
+      (sound_nothing M F [] _ tt)))))
+
+  number_kept : Sound M F rules.number (λ x. pos 0 ≤ℤ x.value)
+  number_kept = sound_token M F _ _ _ _ _ (λ t h f. natural_value (value_in t.kind) (and_split _ (is_natural t.kind) h).1)
+
+  client_kept : Sound M F rules.client (λ c. IsClient B c × IsSite c)
+  client_kept =
+      sound_part M F _ _ (sound_as M F _ _ _ (λ c. IsClient B c × IsSite c) (sound_lead M F mark.Client _ _ (sound_seq M F _ _ B _ ident_kept (sound_lead M F mark.At _ _ (sound_seq M F _ _ (λ x. pos 0 ≤ℤ x.value) (Every (λ k. B k.name)) number_kept calls_kept))))
+      (λ p h. ((h.0, each_of (λ k. B k.name) (λ k. B k.name) (λ a x. x) p.1.1 h.1.1), h.1.0)))
+
+  schedule_kept : Sound M F rules.schedule (InSchedule B)
+  unfolding words
+  schedule_kept =
+      sound_part M F _ _ (sound_alt M F _ _ (InSchedule B)
+      (sound_as M F _ _ (Every B) (InSchedule B) (sound_lead M F mark.Schedule _ _ (sound_many M F _ B ident_kept)) (λ a h. each_of B B (λ x y. y) a h))
+      (sound_nothing M F None (InSchedule B) tt))
+
+  pub workload_kept : (names : List (List ℕ)) → Sound M F (rules.workload names) (IsKept n names)
+  unfolding words
+  workload_kept names =
+      sound_as M F _ _ _ (IsKept n names)
+      (sound_seq M F _ _ (λ u. Unit {0}) _ (anything _)
+      (sound_seq M F _ _ (Every (λ o. B o.name)) _ (sound_many M F _ _ object_kept)
+      (sound_seq M F _ _ (Every (IsTransaction B)) _ (sound_many M F _ _ transaction_kept)
+      (sound_seq M F _ _ (Every (λ c. IsClient B c × IsSite c)) _ (sound_many M F _ _ client_kept)
+      (sound_seq M F _ _ (InSchedule B) (λ u. Unit {0}) schedule_kept (anything _))))))
+      (λ p h. record {
+        version = refl;
+        names_are = refl;
+        named = record {
+          objects = each_of _ _ (λ a x. x) p.1.0 h.1.0;
+          relations = tt;
+          transactions = each_of _ _ (λ a x. x) p.1.1.0 h.1.1.0;
+          clients = each_of (λ c. IsClient B c × IsSite c) (IsClient B) (λ a x. x.0) p.1.1.1.0 h.1.1.1.0;
+          schedule = h.1.1.1.1.0;
+        };
+        sites = each_of (λ c. IsClient B c × IsSite c) IsSite (λ a x. x.1) p.1.1.1.0 h.1.1.1.0;
+      })
+
+kept_at : (n d : ℕ) (c : Deep) → Sound (Means rule d) (λ t. Named n t.kind) (call c) (Phrase (IsBelow n) c)
+kept_at n zero c = record { of = λ a ts s f. absurd s }
+kept_at n (suc d) c = record { of = λ a ts s f. (rule_kept n (Means rule d) (kept_at n d) c).of a ts s f }
+
+-- The identifiers of a workload of tokens whose names are below n are below n.
+pub workload_named : (n : ℕ) (names : List (List ℕ)) → Sound (Means rule limit) (λ t. Named n t.kind) (rules.workload names) (IsKept n names)
+workload_named n names = workload_kept n (Means rule limit) (kept_at n limit) names

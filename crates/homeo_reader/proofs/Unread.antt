@@ -1,0 +1,114 @@
+-- A text at fault reads as no workload, and a text reads as one at most.
+use Rattle.std.proofs.Common.{◌≡◌, ℕ, Bool, true, false, List, [], ◌∷◌, refl, subst, ap, ◌∙◌, sym, inl, inr, not, ◌+◌, map, cond}
+use Rattle.std.specs.Prelude.{Option, Some, None, Result, Ok, Err, position, ◌&&◌}
+use Rattle.std.specs.List.{list_all, position_from}
+use Rattle.std.proofs.lemmas.Iterator.Adapters.{position_from-zero}
+use Rattle.homeo_syntax.specs.declared.token.Token.{Token}
+use Rattle.homeo_syntax.specs.declared.workload.Refusal.{Refusal}
+use Rattle.homeo_syntax.specs.Source as s
+use Rattle.homeo_syntax.specs.Tokens.{is_good, IsClean, Scanned, scanned_of, names_of, tokens_in}
+use Rattle.homeo_syntax.specs.Rules.{IsWorkload}
+use Rattle.homeo_syntax.specs.Reads.{Reads, IsUnread}
+use Rattle.homeo_syntax.specs.declared.workload.Workload.{Workload}
+use Rattle.homeo_syntax.specs.SourceView.{plain_workload}
+use Rattle.homeo_syntax.specs.Grammar.{IsFault}
+use Rattle.homeo_tokens.specs.declared.scanner.Scanned.{Scanned as Written}
+use Rattle.homeo_tokens.specs.declared.scanner.ScanError.{ScanError}
+use Rattle.homeo_tokens.specs.declared.scanner.ScanError.TheVariants as scan
+use Rattle.homeo_tokens.specs.Scans.{Stops}
+use Rattle.homeo_tokens.specs.Views.{plain_scanned}
+use Rattle.homeo_reader.specs.declared.parser.Fault.{Fault}
+use Rattle.homeo_reader.specs.declared.parser.Fault.TheVariants as fault
+use Rattle.homeo_reader.specs.declared.reader.ReadRefusal.{ReadRefusal}
+use Rattle.homeo_reader.specs.declared.reader.ReadRefusal.TheVariants.{Refused, Memory}
+use Rattle.homeo_reader.specs.Reading.{Gives}
+use Rattle.homeo_reader.specs.Exact.{IsAtFault, ReadsExactly, ParsesExactly, offset_at}
+use Rattle.homeo_reader.proofs.Faults.{no_phrase}
+use Rattle.homeo_reader.specs.Declarations.{workload_read}
+use Rattle.homeo_reader.proofs.Top.{one_workload, at_fault}
+
+same_scan : (a b : List Scanned) (x : Result (List Scanned) ℕ) → x ≡ Ok a → x ≡ Ok b → a ≡ b
+same_scan a b x p q = cc
+
+pub one_reading : (text : List ℕ) (v w : s.Workload) → Reads text v → Reads text w → v ≡ w
+one_reading text v w p q =
+    let e = same_scan q.scanned p.scanned (scanned_of text) q.lexemes p.lexemes in
+    one_workload (names_of p.scanned) (tokens_in (names_of p.scanned) p.scanned) v w p.spells
+    (subst (λ (x : List Scanned). IsWorkload (names_of x) w (tokens_in (names_of x) x)) e q.spells)
+
+abbrev is_bad : ℕ → Bool
+is_bad b = not (is_good b)
+
+no_bad : (g : Bool) (i : ℕ) (later : Option ℕ) (all : Bool) → cond (not g) (Some i) later ≡ None → (later ≡ None → all ≡ true) → (g && all) ≡ true
+no_bad true i later all h k = k h
+no_bad false i later all h k = let no : ⊥ = cc in absurd no
+
+some_bad : (g : Bool) (i at : ℕ) (later : Option ℕ) (all : Bool) → cond (not g) (Some i) later ≡ Some at → (g && all) ≡ true → (later ≡ Some at → all ≡ true → ⊥) → ⊥
+some_bad true i at later all h c k = k h c
+some_bad false i at later all h c k = cc
+
+-- there is no bad byte
+clean_from : (text : List ℕ) (i : ℕ) → position_from is_bad i text ≡ None → list_all is_good text ≡ true
+clean_from [] i h = refl
+clean_from (b ∷ text) i h = no_bad (is_good b) i (position_from is_bad (i + 1) text) (list_all is_good text) h (λ e. clean_from text (i + 1) e)
+
+bad_from : (text : List ℕ) (i at : ℕ) → position_from is_bad i text ≡ Some at → list_all is_good text ≡ true → ⊥
+bad_from [] i at h c = cc
+bad_from (b ∷ text) i at h c = some_bad (is_good b) i at (position_from is_bad (i + 1) text) (list_all is_good text) h c (λ e k. bad_from text (i + 1) at e k)
+
+pub clean_text : (text : List ℕ) → position (λ b. not (is_good b)) text ≡ None → IsClean text
+clean_text text h = clean_from text 0 (sym (position_from-zero is_bad text) ∙ h)
+
+bad_text : (text : List ℕ) (at : ℕ) → position (λ b. not (is_good b)) text ≡ Some at → IsClean text → ⊥
+bad_text text at h c = bad_from text 0 at (sym (position_from-zero is_bad text) ∙ h) c
+
+pub unread : (text : List ℕ) (end : ℕ) (r : Refusal) → IsAtFault text end r → (w : s.Workload) → Reads text w → ⊥
+unread text end r (inl f) w p = bad_text text r.offset f.at p.clean
+unread text end r (inr (inl f)) w p = let a = f.at in let b = p.lexemes in cc
+unread text end r (inr (inr f)) w p =
+    let e = same_scan p.scanned f.scanned (scanned_of text) p.lexemes f.lexemes in
+    no_phrase (IsWorkload (names_of f.scanned)) (tokens_in (names_of f.scanned) f.scanned) f.fault f.stuck w
+    (subst (λ (x : List Scanned). IsWorkload (names_of x) w (tokens_in (names_of x) x)) e p.spells)
+
+-- ---- what the functions of the reader return
+pub refused_at : (names : List (List ℕ)) (ts rest : List Token) (end offset : ℕ) (x : ReadRefusal) → x ≡ Refused (record { code = 4; offset = offset }) → offset ≡ offset_at end rest → IsFault (IsWorkload names) ts rest → ParsesExactly names ts end (Err x)
+refused_at names ts rest end offset x e o f =
+    subst (λ (x : ReadRefusal). ParsesExactly names ts end (Err x)) (sym e) (rest, f, ap (λ (n : ℕ). record { code = 4; offset = n }) o)
+
+pub fault_refused : (names : List (List ℕ)) (ts rest : List Token) (end offset : ℕ) (f : Fault) (x : ReadRefusal) → Gives plain_workload (Err f) rest (workload_read names ts) → (f ≡ fault.Memory → x ≡ Memory) → (f ≡ fault.Stuck → x ≡ Refused (record { code = 4; offset = offset })) → offset ≡ offset_at end rest → ParsesExactly names ts end (Err x)
+fault_refused names ts rest end offset fault.Memory x g m k o = subst (λ (x : ReadRefusal). ParsesExactly names ts end (Err x)) (sym (m refl)) tt
+fault_refused names ts rest end offset fault.Stuck x g m k o = refused_at names ts rest end offset x (k refl) o (at_fault names ts rest g)
+
+pub no_token : (text : List ℕ) (end offset : ℕ) (x : ReadRefusal) (e : ScanError) → x ≡ Refused (record { code = 3; offset = offset }) → Stops text e → e ≡ scan.At offset → position (λ b. not (is_good b)) text ≡ None → ReadsExactly text end (Err x)
+no_token text end offset x e h stops is clean =
+    subst (λ (x : ReadRefusal). ReadsExactly text end (Err x)) (sym h)
+    (inr (inl (record { code = refl; clean = clean_text text clean; at = subst (Stops text) is stops })))
+
+parsed_with : (text : List ℕ) (end : ℕ) (scanned : List Scanned) (x : Result Workload ReadRefusal) → IsClean text → scanned_of text ≡ Ok scanned → ParsesExactly (names_of scanned) (tokens_in (names_of scanned) scanned) end x → ReadsExactly text end x
+parsed_with text end scanned (Ok w) clean e p = record { clean = clean; scanned = scanned; lexemes = e; spells = p }
+parsed_with text end scanned (Err Memory) clean e p = tt
+parsed_with text end scanned (Err (Refused r)) clean e p =
+    inr (inr (record { code = ap (λ (r : Refusal). r.code) p.2; clean = clean; scanned = scanned; lexemes = e; fault = p.0; stuck = p.1; at = ap (λ (r : Refusal). r.offset) p.2 }))
+
+pub parsed : (text : List ℕ) (end : ℕ) (items written : List Written) (names : List (List ℕ)) (numbered tokens : List Token) (x : Result Workload ReadRefusal) → position (λ b. not (is_good b)) text ≡ None →
+    scanned_of text ≡ Ok (map plain_scanned items) → written ≡ items → names ≡ names_of (map plain_scanned written) → numbered ≡ tokens_in (names_of (map plain_scanned written)) (map plain_scanned written) → tokens ≡ numbered → ParsesExactly names tokens end x → ReadsExactly text end x
+parsed text end items written names numbered tokens x clean e w n t u p =
+    let all : names ≡ names_of (map plain_scanned items) = n ∙ ap (λ (l : List Written). names_of (map plain_scanned l)) w in
+    let each : tokens ≡ tokens_in (names_of (map plain_scanned items)) (map plain_scanned items) = u ∙ t ∙ ap (λ (l : List Written). tokens_in (names_of (map plain_scanned l)) (map plain_scanned l)) w in
+    parsed_with text end (map plain_scanned items) x (clean_text text clean) e
+    (subst (λ (ts : List Token). ParsesExactly (names_of (map plain_scanned items)) ts end x) each (subst (λ (l : List (List ℕ)). ParsesExactly l tokens end x) all p))
+
+same_refusal : (p q : Refusal) (x : ReadRefusal) → x ≡ Refused p → x ≡ Refused q → p ≡ q
+same_refusal p q x e f = cc
+
+pub unread_as : (text : List ℕ) (end : ℕ) (x : Result Workload ReadRefusal) (e y : ReadRefusal) (q r : Refusal) → ReadsExactly text end x → x ≡ Err e → e ≡ Refused q → y ≡ Refused (record { code = 0; offset = 0 }) → y ≡ Refused r → IsUnread text r
+unread_as text end x e y q r h is e_is f g =
+    let same = same_refusal r (record { code = 0; offset = 0 }) y g f in
+    record {
+      unread = unread text end q (subst (ReadsExactly text end) (is ∙ ap (λ (e : ReadRefusal). Err e) e_is) h);
+      code = ap (λ (r : Refusal). r.code) same;
+      offset = ap (λ (r : Refusal). r.offset) same;
+    }
+
+pub same_err : {X Y : Type 0} → (a b : Y) → (let e : Result X Y = Err a in e ≡ Err b) → a ≡ b
+same_err a b h = cc

@@ -1,0 +1,168 @@
+-- What the parser reads of declarations.
+use Rattle.std.specs.Prelude.{ℕ, List, [], ◌∷◌, map, Option, Some, None, Ok, Err}
+use Rattle.homeo_syntax.specs.declared.token.Mark.TheVariants as mark
+use Rattle.homeo_syntax.specs.declared.token.Kind.{Kind}
+use Rattle.homeo_syntax.specs.declared.token.Kind.TheVariants as kind
+use Rattle.homeo_syntax.specs.declared.token.Token.{Token}
+use Rattle.homeo_syntax.specs.declared.phrase.Ident.{Ident}
+use Rattle.homeo_syntax.specs.declared.phrase.Number.{Number}
+use Rattle.homeo_syntax.specs.declared.workload.ObjectDecl.{ObjectDecl}
+use Rattle.homeo_syntax.specs.declared.workload.Call.{Call}
+use Rattle.homeo_syntax.specs.declared.workload.Transaction.{Transaction}
+use Rattle.homeo_syntax.specs.declared.workload.Client.{Client}
+use Rattle.homeo_syntax.specs.Source as s
+use Rattle.homeo_syntax.specs.SourceView.{plain_call, plain_transaction, plain_client}
+use Rattle.homeo_syntax.specs.Grammar.{many}
+use Rattle.homeo_syntax.specs.Rules as rules
+use Rattle.homeo_syntax.specs.Rules.{Deep, Tree, rule, lead, minus_number, limit}
+use Rattle.homeo_reader.specs.Engine.{Calls, Reading, ◌>>=◌, read, calls_at}
+use Rattle.homeo_reader.specs.Reading.{mark_read, ident_read, number_read, number_is_read, offset_read, if_marked, opt_read, block_read}
+
+abbrev pub call_views : List Call → List s.Call
+call_views cs = map plain_call cs
+
+abbrev pub transaction_views : List Transaction → List s.Transaction
+transaction_views ts = map plain_transaction ts
+
+abbrev pub client_views : List Client → List s.Client
+client_views cs = map plain_client cs
+
+abbrev pub top : Calls Deep Tree
+top = calls_at rule limit
+
+-- ---- what the engine reads by each rule
+unfoldable pub signed_read : List Token → Reading Number
+signed_read ts = read top rules.signed ts
+
+unfoldable pub range_read : List Token → Reading (Number × Number)
+range_read ts = read top rules.range ts
+
+unfoldable pub next_object_read : List Token → Reading (Option ObjectDecl)
+next_object_read ts = opt_read top rules.object ts
+
+unfoldable pub objects_read : List Token → Reading (List ObjectDecl)
+objects_read ts = read top (many rules.object) ts
+
+unfoldable pub next_transaction_read : List Token → Reading (Option s.Transaction)
+next_transaction_read ts = opt_read top rules.transaction ts
+
+unfoldable pub transactions_read : List Token → Reading (List s.Transaction)
+transactions_read ts = read top (many rules.transaction) ts
+
+unfoldable pub invocation_read : List Token → Reading s.Call
+invocation_read ts = read top rules.invocation ts
+
+unfoldable pub first_invocation_read : List Token → Reading (Option s.Call)
+first_invocation_read ts = opt_read top rules.invocation ts
+
+unfoldable pub next_invocation_read : List Token → Reading (Option s.Call)
+next_invocation_read ts = opt_read top (lead mark.Semicolon rules.invocation) ts
+
+unfoldable pub other_invocations_read : List Token → Reading (List s.Call)
+other_invocations_read ts = read top (many (lead mark.Semicolon rules.invocation)) ts
+
+unfoldable pub invocations_read : List Token → Reading (List s.Call)
+invocations_read ts = read top rules.invocations ts
+
+unfoldable pub calls_read : List Token → Reading (List s.Call)
+calls_read ts = read top rules.calls ts
+
+unfoldable pub next_client_read : List Token → Reading (Option s.Client)
+next_client_read ts = opt_read top rules.client ts
+
+unfoldable pub clients_read : List Token → Reading (List s.Client)
+clients_read ts = read top (many rules.client) ts
+
+unfoldable pub next_name_read : List Token → Reading (Option Ident)
+next_name_read ts = opt_read top rules.ident ts
+
+unfoldable pub names_read : List Token → Reading (List Ident)
+names_read ts = read top (many rules.ident) ts
+
+unfoldable pub schedule_read : List Token → Reading (Option (List Ident))
+schedule_read ts = read top rules.schedule ts
+
+unfoldable pub head_read : List Token → Reading Number
+head_read ts = read top rules.head ts
+
+unfoldable pub workload_read : List (List ℕ) → List Token → Reading s.Workload
+workload_read names ts = read top (rules.workload names) ts
+
+-- ---- the same, step by step
+unfoldable pub signed_by : Kind → Token → List Token → Reading Number
+signed_by (kind.Fixed mark.Minus) t ts = number_read ts >>= λ n. Ok (minus_number t.offset n.0, n.1)
+signed_by _ t ts = number_read (t ∷ ts)
+
+unfoldable pub signed_do : List Token → Reading Number
+signed_do [] = Err []
+signed_do (t ∷ ts) = signed_by t.kind t ts
+
+unfoldable pub range_do : List Token → Reading (Number × Number)
+range_do ts = signed_read ts >>= λ a. mark_read mark.Dots a.1 >>= λ b. signed_read b.1 >>= λ c. Ok ((a.0, c.0), c.1)
+
+-- what follows `object`
+unfoldable pub object_rest : List Token → Reading ObjectDecl
+object_rest ts =
+    ident_read ts >>= λ a. mark_read mark.In a.1 >>= λ b. range_read b.1 >>= λ c. mark_read mark.Equal c.1 >>= λ d. signed_read d.1 >>= λ e. Ok (record { name = a.0; lo = c.0.0; hi = c.0.1; start = e.0 }, e.1)
+
+unfoldable pub next_object_do : List Token → Reading (Option ObjectDecl)
+next_object_do ts = if_marked mark.Object ts (λ r. object_rest r >>= λ x. Ok (Some x.0, x.1)) (Ok (None, ts))
+
+-- what follows `transaction`
+unfoldable pub transaction_rest : List Token → Reading s.Transaction
+transaction_rest ts =
+    ident_read ts >>= λ a. mark_read mark.Open a.1 >>= λ b. mark_read mark.Close b.1 >>= λ c. block_read limit c.1 >>= λ d. Ok (record { name = a.0; params = []; body = d.0 }, d.1)
+
+unfoldable pub next_transaction_do : List Token → Reading (Option s.Transaction)
+next_transaction_do ts = if_marked mark.Transaction ts (λ r. transaction_rest r >>= λ x. Ok (Some x.0, x.1)) (Ok (None, ts))
+
+unfoldable pub invocation_do : List Token → Reading s.Call
+invocation_do ts = ident_read ts >>= λ a. mark_read mark.Open a.1 >>= λ b. mark_read mark.Close b.1 >>= λ c. Ok (record { name = a.0; args = [] }, c.1)
+
+unfoldable pub first_invocation_by : Kind → Token → List Token → Reading (Option s.Call)
+first_invocation_by (kind.Name n) t ts = invocation_read (t ∷ ts) >>= λ x. Ok (Some x.0, x.1)
+first_invocation_by _ t ts = Ok (None, t ∷ ts)
+
+unfoldable pub first_invocation_do : List Token → Reading (Option s.Call)
+first_invocation_do [] = Ok (None, [])
+first_invocation_do (t ∷ ts) = first_invocation_by t.kind t ts
+
+unfoldable pub next_invocation_do : List Token → Reading (Option s.Call)
+next_invocation_do ts = if_marked mark.Semicolon ts (λ r. invocation_read r >>= λ x. Ok (Some x.0, x.1)) (Ok (None, ts))
+
+unfoldable pub after_first : Option s.Call → List Token → Reading (List s.Call)
+after_first None ts = Ok ([], ts)
+after_first (Some x) ts = other_invocations_read ts >>= λ y. Ok (x ∷ y.0, y.1)
+
+unfoldable pub invocations_do : List Token → Reading (List s.Call)
+invocations_do ts = first_invocation_read ts >>= λ x. after_first x.0 x.1
+
+unfoldable pub calls_do : List Token → Reading (List s.Call)
+calls_do ts = mark_read mark.OpenBrace ts >>= λ a. invocations_read a.1 >>= λ b. mark_read mark.CloseBrace b.1 >>= λ c. Ok (b.0, c.1)
+
+-- what follows `client`
+unfoldable pub client_rest : List Token → Reading s.Client
+client_rest ts =
+    ident_read ts >>= λ a. mark_read mark.At a.1 >>= λ b. number_read b.1 >>= λ c. calls_read c.1 >>= λ d. Ok (record { name = a.0; site = c.0; calls = d.0 }, d.1)
+
+unfoldable pub next_client_do : List Token → Reading (Option s.Client)
+next_client_do ts = if_marked mark.Client ts (λ r. client_rest r >>= λ x. Ok (Some x.0, x.1)) (Ok (None, ts))
+
+unfoldable pub next_name_by : Kind → Token → List Token → Reading (Option Ident)
+next_name_by (kind.Name n) t ts = Ok (Some (rules.ident_at t), ts)
+next_name_by _ t ts = Ok (None, t ∷ ts)
+
+unfoldable pub next_name_do : List Token → Reading (Option Ident)
+next_name_do [] = Ok (None, [])
+next_name_do (t ∷ ts) = next_name_by t.kind t ts
+
+unfoldable pub schedule_do : List Token → Reading (Option (List Ident))
+schedule_do ts = if_marked mark.Schedule ts (λ r. names_read r >>= λ x. Ok (Some x.0, x.1)) (Ok (None, ts))
+
+unfoldable pub head_do : List Token → Reading Number
+head_do ts = mark_read mark.Workload ts >>= λ a. number_is_read 1 a.1 >>= λ b. mark_read mark.Sites b.1 >>= λ c. number_read c.1 >>= λ d. Ok (d.0, d.1)
+
+unfoldable pub workload_do : List (List ℕ) → List Token → Reading s.Workload
+workload_do names ts =
+    head_read ts >>= λ a. objects_read a.1 >>= λ b. transactions_read b.1 >>= λ c. clients_read c.1 >>= λ d. schedule_read d.1 >>= λ e. offset_read mark.End e.1 >>= λ f.
+    Ok (record { version = 1; names = names; sites = a.0; objects = b.0; relations = []; transactions = c.0; clients = d.0; schedule = e.0; end = f.0 }, f.1)

@@ -1,0 +1,25 @@
+-- Which tokens phrases begin with, and which may go on with a whole one.
+use Rattle.std.specs.Prelude.{ℕ, List, [], ◌∷◌}
+use Rattle.homeo_syntax.specs.declared.token.Mark.TheVariants as mark
+use Rattle.homeo_syntax.specs.Classes.{number_of, name_class, number_class}
+use Rattle.homeo_syntax.specs.Rules.{Deep, Factor, Test, Command}
+use Rattle.homeo_reader.specs.Engine.{Classes}
+
+abbrev pub factor_starts : List ℕ
+factor_starts = number_class ∷ number_of mark.Minus ∷ number_of mark.Open ∷ number_of mark.Read ∷ name_class ∷ []
+
+abbrev pub expr_goes_on : List ℕ
+expr_goes_on = number_of mark.Star ∷ number_of mark.Plus ∷ number_of mark.Minus ∷ []
+
+abbrev pub classes : Classes Deep
+classes = record { starts = starts_of; goes_on = goes_on_of }
+  where
+    starts_of : Deep → List ℕ
+    starts_of Factor = factor_starts
+    starts_of Test = number_of mark.True ∷ number_of mark.Not ∷ factor_starts
+    starts_of Command = number_of mark.Skip ∷ number_of mark.OpenBrace ∷ name_class ∷ number_of mark.Write ∷ number_of mark.Print ∷ number_of mark.If ∷ []
+
+    goes_on_of : Deep → List ℕ
+    goes_on_of Factor = []
+    goes_on_of Test = expr_goes_on
+    goes_on_of Command = expr_goes_on

@@ -1,0 +1,5 @@
+pub mod Declarations
+pub mod Engine
+pub mod Exact
+pub mod FirstTokens
+pub mod Reading

@@ -1,0 +1,215 @@
+-- What the parser reads at each place.
+use Rattle.std.specs.Prelude.{◌≡◌, ℕ, Bool, true, false, ◌++◌, List, [], ◌∷◌, ◌-◌, nat_lt, if◌then◌else◌, map, Option, Some, None, Result, Ok, Err}
+use Rattle.homeo_syntax.specs.declared.token.Mark.{Mark}
+use Rattle.homeo_syntax.specs.declared.token.Mark.TheVariants as mark
+use Rattle.homeo_syntax.specs.declared.token.Kind.{Kind}
+use Rattle.homeo_syntax.specs.declared.token.Kind.TheVariants as kind
+use Rattle.homeo_syntax.specs.declared.token.Token.{Token}
+use Rattle.homeo_syntax.specs.declared.phrase.Ident.{Ident}
+use Rattle.homeo_syntax.specs.declared.phrase.Number.{Number}
+use Rattle.homeo_syntax.specs.declared.phrase.Compare.{Compare}
+use Rattle.homeo_syntax.specs.declared.phrase.Compare.TheVariants as compare
+use Rattle.homeo_syntax.specs.declared.phrase.Expr.{Expr}
+use Rattle.homeo_syntax.specs.declared.phrase.Test.{Test as Test_}
+use Rattle.homeo_syntax.specs.declared.command.Command.{Command as Command_}
+use Rattle.homeo_syntax.specs.Listed.{Listed}
+use Rattle.homeo_syntax.specs.Source as s
+use Rattle.homeo_syntax.specs.SourceView.{tests, commands, plain_expr, plain_test, plain_command}
+use Rattle.homeo_syntax.specs.Classes.{number_of, name_class, number_class}
+use Rattle.homeo_syntax.specs.Grammar.{call, many, alt, as_value}
+use Rattle.homeo_syntax.specs.Rules as rules
+use Rattle.homeo_syntax.specs.Rules.{Deep, Factor, Test, Command, Tree, Rule, rule, lead, ident_at, number_at, value_in, is_natural, is_value, product_of, sum_of, minus_number, limit}
+use Rattle.homeo_reader.specs.declared.parser.Fault.{Fault}
+use Rattle.homeo_reader.specs.declared.parser.Fault.TheVariants.{Memory, Stuck}
+use Rattle.homeo_reader.specs.Engine.{Calls, begins, first_is, Reading, ◌>>=◌, read_token, read, calls_at}
+
+-- What was returned, seen by a view, and the tokens that are left are what the reading gives, unless memory was
+-- wanting.
+abbrev pub Gives : {X Y : Type 0} → (X → Y) → Result X Fault → List Token → Reading Y → Type 0
+Gives view (Ok x) rest reading = reading ≡ Ok (view x, rest)
+Gives view (Err Memory) rest reading = Unit {0}
+Gives view (Err Stuck) rest reading = reading ≡ Err rest
+
+abbrev pub same : {X : Type 0} → X → X
+same x = x
+
+abbrev pub expr_views : List Expr → List s.Expr
+expr_views es = map plain_expr es
+
+abbrev pub test_views : List Test_ → List s.Test
+test_views ts = map plain_test ts
+
+abbrev pub command_views : List Command_ → List s.Command
+command_views cs = map plain_command cs
+
+abbrev pub block_view : Listed Command_ → s.Commands
+block_view l = commands (command_views l.items)
+
+-- ---- single tokens
+abbrev pub mark_read : Mark → List Token → Reading (Unit {0})
+mark_read m ts = read_token (number_of m ∷ []) (λ k. true) (λ t. tt) ts
+
+abbrev pub offset_read : Mark → List Token → Reading ℕ
+offset_read m ts = read_token (number_of m ∷ []) (λ k. true) (λ t. t.offset) ts
+
+abbrev pub ident_read : List Token → Reading Ident
+ident_read ts = read_token (name_class ∷ []) (λ k. true) ident_at ts
+
+abbrev pub number_read : List Token → Reading Number
+number_read ts = read_token (number_class ∷ []) is_natural number_at ts
+
+abbrev pub number_is_read : ℕ → List Token → Reading (Unit {0})
+number_is_read n ts = read_token (number_class ∷ []) (λ k. is_value n (value_in k)) (λ t. tt) ts
+
+-- it was this mark that came first, and the tokens after it are left; or it was not, and all are
+abbrev pub TakesMark : Bool → Mark → List Token → List Token → Type 0
+TakesMark true m old new = mark_read m old ≡ Ok (tt, new)
+TakesMark false m old new = (mark_read m old ≡ Err old) × (new ≡ old)
+
+abbrev pub on_marked : {A : Type 0} → Reading (Unit {0}) → (List Token → Reading A) → Reading A → Reading A
+on_marked (Ok x) go other = go x.1
+on_marked (Err e) go other = other
+
+-- goes on after the mark if it comes first, and the other way if not
+abbrev pub if_marked : {A : Type 0} → Mark → List Token → (List Token → Reading A) → Reading A → Reading A
+if_marked m ts go other = on_marked (mark_read m ts) go other
+
+-- ---- repetitions
+-- what was read, if this holds
+abbrev pub opt_of : {X : Type 0} → Bool → Reading X → List Token → Reading (Option X)
+opt_of b x ts = if b then (x >>= λ x. Ok (Some x.0, x.1)) else Ok (None, ts)
+
+-- a phrase, if one begins here
+abbrev pub opt_read : {X : Type 0} → Calls Deep Tree → Rule X → List Token → Reading (Option X)
+opt_read cs g ts = opt_of (first_is (begins cs g) ts) (read cs g ts) ts
+
+-- these in front of what is read
+abbrev pub with_front : {A : Type 0} → List A → Reading (List A) → Reading (List A)
+with_front front reading = reading >>= λ x. Ok (front ++ x.0, x.1)
+
+-- ---- what the engine reads by each rule
+unfoldable pub factor_read : ℕ → List Token → Reading s.Expr
+factor_read room ts = (calls_at rule room).reads Factor ts
+
+unfoldable pub term_read : ℕ → List Token → Reading s.Expr
+term_read room ts = read (calls_at rule room) rules.term ts
+
+unfoldable pub factors_read : ℕ → List Token → Reading (List s.Expr)
+factors_read room ts = read (calls_at rule room) (many (lead mark.Star (call Factor))) ts
+
+unfoldable pub next_factor_read : ℕ → List Token → Reading (Option s.Expr)
+next_factor_read room ts = opt_read (calls_at rule room) (lead mark.Star (call Factor)) ts
+
+unfoldable pub expr_read : ℕ → List Token → Reading s.Expr
+expr_read room ts = read (calls_at rule room) rules.expr ts
+
+unfoldable pub terms_read : ℕ → List Token → Reading (List s.Expr)
+terms_read room ts = read (calls_at rule room) (many (alt (lead mark.Plus rules.term) (as_value s.Neg (lead mark.Minus rules.term)))) ts
+
+unfoldable pub next_term_read : ℕ → List Token → Reading (Option s.Expr)
+next_term_read room ts = opt_read (calls_at rule room) (alt (lead mark.Plus rules.term) (as_value s.Neg (lead mark.Minus rules.term))) ts
+
+unfoldable pub comparison_read : ℕ → List Token → Reading Compare
+comparison_read room ts = read (calls_at rule room) rules.comparison ts
+
+unfoldable pub test_read : ℕ → List Token → Reading s.Test
+test_read room ts = (calls_at rule room).reads Test ts
+
+unfoldable pub tests_read : ℕ → List Token → Reading (List s.Test)
+tests_read room ts = read (calls_at rule room) (many (lead mark.And (call Test))) ts
+
+unfoldable pub next_test_read : ℕ → List Token → Reading (Option s.Test)
+next_test_read room ts = opt_read (calls_at rule room) (lead mark.And (call Test)) ts
+
+unfoldable pub cond_read : ℕ → List Token → Reading s.Cond
+cond_read room ts = read (calls_at rule room) rules.cond ts
+
+unfoldable pub command_read : ℕ → List Token → Reading s.Command
+command_read room ts = (calls_at rule room).reads Command ts
+
+unfoldable pub commands_read : ℕ → List Token → Reading (List s.Command)
+commands_read room ts = read (calls_at rule room) (many (lead mark.Semicolon (call Command))) ts
+
+unfoldable pub next_command_read : ℕ → List Token → Reading (Option s.Command)
+next_command_read room ts = opt_read (calls_at rule room) (lead mark.Semicolon (call Command)) ts
+
+unfoldable pub block_read : ℕ → List Token → Reading s.Commands
+block_read room ts = read (calls_at rule room) rules.block ts
+
+-- ---- the same, step by step
+unfoldable pub factor_by : ℕ → Kind → Token → List Token → Reading s.Expr
+factor_by room (kind.Number n) t ts = Ok (s.Literal n, ts)
+factor_by room (kind.Name n) t ts = ident_read (t ∷ ts) >>= λ x. Ok (s.Name x.0, x.1)
+factor_by room (kind.Fixed mark.Read) t ts = mark_read mark.Open ts >>= λ x. ident_read x.1 >>= λ y. mark_read mark.Close y.1 >>= λ z. Ok (s.Read y.0, z.1)
+factor_by room (kind.Fixed mark.Minus) t ts = if nat_lt 1 room then (factor_read (room - 1) ts >>= λ x. Ok (s.Neg x.0, x.1)) else Err (t ∷ ts)
+factor_by room (kind.Fixed mark.Open) t ts = if nat_lt 1 room then (expr_read (room - 1) ts >>= λ x. mark_read mark.Close x.1 >>= λ y. Ok (x.0, y.1)) else Err (t ∷ ts)
+factor_by room _ t ts = Err (t ∷ ts)
+
+unfoldable pub factor_do : ℕ → List Token → Reading s.Expr
+factor_do room [] = Err []
+factor_do room (t ∷ ts) = factor_by room t.kind t ts
+
+unfoldable pub next_factor_do : ℕ → List Token → Reading (Option s.Expr)
+next_factor_do room ts = if_marked mark.Star ts (λ r. factor_read room r >>= λ x. Ok (Some x.0, x.1)) (Ok (None, ts))
+
+unfoldable pub term_do : ℕ → List Token → Reading s.Expr
+term_do room ts = factor_read room ts >>= λ x. factors_read room x.1 >>= λ y. Ok (product_of x.0 y.0, y.1)
+
+unfoldable pub next_term_do : ℕ → List Token → Reading (Option s.Expr)
+next_term_do room ts =
+    if_marked mark.Plus ts (λ r. term_read room r >>= λ x. Ok (Some x.0, x.1))
+    (if_marked mark.Minus ts (λ r. term_read room r >>= λ x. Ok (Some (s.Neg x.0), x.1)) (Ok (None, ts)))
+
+unfoldable pub expr_do : ℕ → List Token → Reading s.Expr
+expr_do room ts = term_read room ts >>= λ x. terms_read room x.1 >>= λ y. Ok (sum_of x.0 y.0, y.1)
+
+unfoldable pub comparison_do : List Token → Reading Compare
+comparison_do ts =
+    if_marked mark.Less ts (λ r. Ok (compare.Less, r))
+    (if_marked mark.LessEqual ts (λ r. Ok (compare.LessEqual, r))
+    (if_marked mark.Equal ts (λ r. Ok (compare.Equal, r)) (Err ts)))
+
+unfoldable pub next_test_do : ℕ → List Token → Reading (Option s.Test)
+next_test_do room ts = if_marked mark.And ts (λ r. test_read room r >>= λ x. Ok (Some x.0, x.1)) (Ok (None, ts))
+
+unfoldable pub cond_do : ℕ → List Token → Reading s.Cond
+cond_do room ts = test_read room ts >>= λ x. tests_read room x.1 >>= λ y. Ok (tests (x.0 ∷ y.0), y.1)
+
+unfoldable pub test_do : ℕ → List Token → Reading s.Test
+test_do room ts =
+    if_marked mark.True ts (λ r. Ok (s.True, r))
+    (if nat_lt 1 room then
+    if_marked mark.Not ts
+    (λ r. mark_read mark.Open r >>= λ a. cond_read (room - 1) a.1 >>= λ b. mark_read mark.Close b.1 >>= λ c. Ok (s.Not b.0, c.1))
+    (expr_read (room - 1) ts >>= λ a. comparison_do a.1 >>= λ b. expr_read (room - 1) b.1 >>= λ c. Ok (s.Comparison b.0 a.0 c.0, c.1))
+    else Err ts)
+
+unfoldable pub next_command_do : ℕ → List Token → Reading (Option s.Command)
+next_command_do room ts = if_marked mark.Semicolon ts (λ r. command_read room r >>= λ x. Ok (Some x.0, x.1)) (Ok (None, ts))
+
+unfoldable pub block_do : ℕ → List Token → Reading s.Commands
+block_do room ts =
+    mark_read mark.OpenBrace ts >>= λ a.
+    if_marked mark.CloseBrace a.1 (λ r. Ok (s.NoCommand, r))
+    (if nat_lt 0 room then (command_read room a.1 >>= λ b. commands_read room b.1 >>= λ c. mark_read mark.CloseBrace c.1 >>= λ d. Ok (commands (b.0 ∷ c.0), d.1)) else Err a.1)
+
+-- what follows `if`
+unfoldable pub if_read : ℕ → List Token → Reading s.Command
+if_read room ts = cond_read room ts >>= λ a. mark_read mark.Then a.1 >>= λ b. command_read room b.1 >>= λ c. mark_read mark.Else c.1 >>= λ d. command_read room d.1 >>= λ e. Ok (s.If a.0 c.0 e.0, e.1)
+
+unfoldable pub command_by : ℕ → Kind → Token → List Token → Reading s.Command
+command_by room (kind.Name n) t ts =
+    if nat_lt 1 room then (ident_read (t ∷ ts) >>= λ a. mark_read mark.Assign a.1 >>= λ b. expr_read (room - 1) b.1 >>= λ c. Ok (s.Assign a.0 c.0, c.1)) else Err (t ∷ ts)
+command_by room (kind.Fixed mark.Skip) t ts = Ok (s.Skip, ts)
+command_by room (kind.Fixed mark.OpenBrace) t ts = block_read (room - 1) (t ∷ ts) >>= λ a. Ok (s.Block a.0, a.1)
+command_by room (kind.Fixed mark.Write) t ts =
+    if nat_lt 1 room then (mark_read mark.Open ts >>= λ a. ident_read a.1 >>= λ b. mark_read mark.Equal b.1 >>= λ c. expr_read (room - 1) c.1 >>= λ d. mark_read mark.Close d.1 >>= λ e. Ok (s.Write b.0 d.0, e.1)) else Err (t ∷ ts)
+command_by room (kind.Fixed mark.Print) t ts =
+    if nat_lt 1 room then (mark_read mark.Open ts >>= λ a. expr_read (room - 1) a.1 >>= λ b. mark_read mark.Close b.1 >>= λ c. Ok (s.Print b.0, c.1)) else Err (t ∷ ts)
+command_by room (kind.Fixed mark.If) t ts =
+    if nat_lt 1 room then if_read (room - 1) ts else Err (t ∷ ts)
+command_by room _ t ts = Err (t ∷ ts)
+
+unfoldable pub command_do : ℕ → List Token → Reading s.Command
+command_do room [] = Err []
+command_do room (t ∷ ts) = command_by room t.kind t ts

@@ -1,0 +1,133 @@
+//! Commands and blocks.
+
+ghost use Rattle.std.specs.Prelude.{◌≡◌, ◌<◌, option_map, IfOk, IfErr};
+ghost use Rattle.homeo_syntax.specs.Source as s;
+ghost use Rattle.homeo_syntax.specs.SourceView.{plain_cond, plain_command};
+ghost use Rattle.homeo_reader.specs.Reading.{Gives, command_views, block_view, command_read, if_read, next_command_read, commands_read, block_read};
+
+use crate::parser::{Fault, Parser, list_of};
+use homeo_syntax::{Command, Cond, Kind, List, Mark};
+use std::alloc::Global;
+
+impl<'a> Parser<'a> {
+    #[cycle(command)]
+    #[tactic(auto, using(crate::proofs::CommandSteps::command_reads, homeo_syntax::proofs::SourceViews::command_views), unfolding(crate::specs::Reading::command_do, crate::specs::Reading::command_by))]
+    fn command(&mut self, alloc: Global, room: u32) -> Result<Command, Fault>
+        requires { 0 < room }
+        ensures { Gives plain_command result self.new.rest.now (command_read room self.old.rest.now) }
+    {
+        match self.rest.split_first() {
+            Some((t, rest)) => match t.kind {
+                Kind::Fixed(Mark::Skip) => {
+                    self.rest = rest;
+                    Ok(Command::Skip)
+                }
+                Kind::Fixed(Mark::OpenBrace) => {
+                    let commands = self.block(alloc, room - 1)?;
+                    Ok(Command::Block { commands })
+                }
+                Kind::Name(_) if room > 1 => {
+                    let target = self.name()?;
+                    self.expect(Mark::Assign)?;
+                    let value = self.expr(alloc, room - 1)?;
+                    Ok(Command::Assign { target, value })
+                }
+                Kind::Fixed(Mark::Write) if room > 1 => {
+                    self.rest = rest;
+                    self.expect(Mark::Open)?;
+                    let object = self.name()?;
+                    self.expect(Mark::Equal)?;
+                    let value = self.expr(alloc, room - 1)?;
+                    self.expect(Mark::Close)?;
+                    Ok(Command::Write { object, value })
+                }
+                Kind::Fixed(Mark::Print) if room > 1 => {
+                    self.rest = rest;
+                    self.expect(Mark::Open)?;
+                    let value = self.expr(alloc, room - 1)?;
+                    self.expect(Mark::Close)?;
+                    Ok(Command::Print { value })
+                }
+                Kind::Fixed(Mark::If) if room > 1 => {
+                    self.rest = rest;
+                    self.choice_after_if(alloc, room - 1)
+                }
+                _ => Err(Fault::Stuck),
+            },
+            None => Err(Fault::Stuck),
+        }
+    }
+
+    /// What follows `if`.
+    #[cycle(command)]
+    #[tactic(auto, unfolding(crate::specs::Reading::if_read))]
+    fn choice_after_if(&mut self, alloc: Global, room: u32) -> Result<Command, Fault>
+        requires { 0 < room }
+        ensures { Gives plain_command result self.new.rest.now (if_read room self.old.rest.now) }
+    {
+        let test = self.cond(alloc, room)?;
+        self.expect(Mark::Then)?;
+        let yes = self.command(alloc, room)?;
+        self.expect(Mark::Else)?;
+        let no = self.command(alloc, room)?;
+        choice(alloc, test, yes, no)
+    }
+
+    /// A command after a semicolon, if one comes next.
+    #[cycle(command)]
+    #[tactic(auto, using(crate::proofs::CommandSteps::next_command_reads), unfolding(crate::specs::Reading::next_command_do))]
+    fn next_command(&mut self, alloc: Global, room: u32) -> Result<Option<Command>, Fault>
+        requires { 0 < room }
+        ensures { Gives (option_map plain_command) result self.new.rest.now (next_command_read room self.old.rest.now) }
+    {
+        if self.takes(Mark::Semicolon) {
+            let command = self.command(alloc, room)?;
+            Ok(Some(command))
+        } else {
+            Ok(None)
+        }
+    }
+
+    /// The commands that go on with a list.
+    #[cycle(command)]
+    fn commands(&mut self, alloc: Global, room: u32) -> Result<Vec<Command>, Fault>
+        requires { 0 < room }
+        ensures { Gives (λ v. command_views v.items) result self.new.rest.now (commands_read room self.old.rest.now) }
+    {
+        let mut items = Vec::new(alloc);
+        'more: while let Some(item) = self.next_command(alloc, room)? {
+            items.push(item)?;
+        }
+        Ok(items)
+    }
+
+    /// A block, which is empty where no phrase may go deeper.
+    #[cycle(command)]
+    #[tactic(auto, using(crate::proofs::CommandSteps::block_reads), unfolding(crate::specs::Reading::block_do, homeo_syntax::specs::Key::words))]
+    pub fn block(&mut self, alloc: Global, room: u32) -> Result<List<Command>, Fault>
+        ensures { Gives block_view result self.new.rest.now (block_read room self.old.rest.now) }
+    {
+        self.expect(Mark::OpenBrace)?;
+        if self.takes(Mark::CloseBrace) {
+            return Ok(List::new(alloc));
+        }
+        if room == 0 {
+            return Err(Fault::Stuck);
+        }
+        let first = self.command(alloc, room)?;
+        let others = self.commands(alloc, room)?;
+        self.expect(Mark::CloseBrace)?;
+        list_of(first, others)
+    }
+}
+
+/// A choice of two commands.
+#[tactic(auto, using(homeo_syntax::proofs::SourceViews::command_views))]
+fn choice(alloc: Global, test: Cond, yes: Command, no: Command) -> Result<Command, Fault>
+    ensures ok { IfOk result (λ c. plain_command c ≡ s.If (plain_cond test) (plain_command yes) (plain_command no)) }
+    ensures memory { IfErr result (λ e. e ≡ Fault.Memory) }
+{
+    let yes = Box::new(alloc, yes)?;
+    let no = Box::new(alloc, no)?;
+    Ok(Command::If { test, yes, no })
+}

@@ -1,0 +1,117 @@
+//! The tokens that are left, and what takes one of them.
+
+ghost use Rattle.std.specs.Prelude.{◌≡◌, ◌∷◌, IfOk, IfErr};
+ghost use Rattle.homeo_reader.specs.Reading.{Gives, TakesMark, ident_read, mark_read, same};
+
+use homeo_syntax::{Ident, Kind, List, Mark, Memory, Token};
+use std::alloc::{AllocError, AllocFailed};
+
+/// Why nothing was read: want of memory, or no phrase goes on with the next token.
+#[derive(Clone, Copy, Debug, PartialEq, Eq)]
+pub enum Fault {
+    Memory,
+    Stuck,
+}
+
+impl From<AllocError> for Fault {
+    ghost use Rattle.std.specs.Prelude.{◌≡◌};
+    ghost use Rattle.homeo_reader.specs.declared.parser.Fault.TheVariants.{Memory};
+
+    ghost from_gives = { λ _ e. e ≡ Memory };
+
+    fn from(_e: AllocError) -> Fault {
+        Fault::Memory
+    }
+}
+
+impl<T: Drop> From<AllocFailed<T>> for Fault {
+    ghost use Rattle.std.specs.Prelude.{◌≡◌};
+    ghost use Rattle.homeo_reader.specs.declared.parser.Fault.TheVariants.{Memory};
+
+    ghost from_gives = { λ _ e. e ≡ Memory };
+
+    fn from(_e: AllocFailed<T>) -> Fault {
+        Fault::Memory
+    }
+}
+
+impl From<Memory> for Fault {
+    ghost use Rattle.std.specs.Prelude.{◌≡◌};
+    ghost use Rattle.homeo_reader.specs.declared.parser.Fault.TheVariants as fault;
+
+    ghost from_gives = { λ _ e. e ≡ fault.Memory };
+
+    fn from(_e: Memory) -> Fault {
+        Fault::Memory
+    }
+}
+
+/// The tokens that are left. After a fault the first of them is the one at fault.
+#[derive(Drop)]
+pub struct Parser<'a> {
+    pub rest: &'a [Token],
+}
+
+impl<'a> Parser<'a> {
+    /// Takes this mark.
+    pub fn expect(&mut self, mark: Mark) -> Result<(), Fault>
+        ensures { Gives same result self.new.rest.now (mark_read mark self.old.rest.now) }
+    {
+        match self.rest.split_first() {
+            Some((t, rest)) => {
+                if t.kind == Kind::Fixed(mark) {
+                    self.rest = rest;
+                    Ok(())
+                } else {
+                    Err(Fault::Stuck)
+                }
+            }
+            None => Err(Fault::Stuck),
+        }
+    }
+
+    /// Takes a name.
+    pub fn name(&mut self) -> Result<Ident, Fault>
+        ensures { Gives same result self.new.rest.now (ident_read self.old.rest.now) }
+    {
+        match self.rest.split_first() {
+            Some((t, rest)) => match t.kind {
+                Kind::Name(name) => {
+                    self.rest = rest;
+                    Ok(Ident {
+                        name,
+                        offset: t.offset,
+                    })
+                }
+                _ => Err(Fault::Stuck),
+            },
+            None => Err(Fault::Stuck),
+        }
+    }
+
+    /// Takes this mark, if it comes next.
+    pub fn takes(&mut self, mark: Mark) -> bool
+        ensures { TakesMark result mark self.old.rest.now self.new.rest.now }
+    {
+        match self.rest.split_first() {
+            Some((t, rest)) => {
+                if t.kind == Kind::Fixed(mark) {
+                    self.rest = rest;
+                    true
+                } else {
+                    false
+                }
+            }
+            None => false,
+        }
+    }
+}
+
+/// One item and others as a list.
+pub fn list_of<T: Drop>(first: T, mut others: Vec<T>) -> Result<List<T>, Fault>
+    ensures ok { IfOk result (λ l. l.items ≡ first ∷ others.items) }
+    ensures memory { IfErr result (λ e. e ≡ Fault.Memory) }
+{
+    others.insert(0, first)?;
+    Ok(List::from_vec(others))
+}

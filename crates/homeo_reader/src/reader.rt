@@ -1,0 +1,119 @@
+//! From the bytes to the workload.
+
+ghost use Rattle.std.specs.Prelude.{◌≡◌, ◌<◌, ◌≤◌, ◌^◌, length, IfOk, IsErrOf};
+ghost use Rattle.homeo_syntax.specs.declared.workload.Refusal.{Refusal};
+ghost use Rattle.homeo_syntax.specs.SourceView.{plain_workload};
+ghost use Rattle.homeo_syntax.specs.Reads.{Reads, IsUnread};
+ghost use Rattle.homeo_syntax.specs.WellFormed.{IsWellFormed};
+ghost use Rattle.homeo_reader.specs.Exact.{ReadsExactly, ParsesExactly, offset_at};
+
+use crate::parser::{Fault, Parser};
+use homeo_syntax::{List, Refusal, Text, Token, Workload};
+use homeo_tokens::{Numbered, ScanError, first_bad_byte, number_names, scan};
+use std::alloc::Global;
+
+/// Why no workload was read: the text is refused, or want of memory.
+#[derive(Clone, Copy, Debug, PartialEq, Eq)]
+pub enum ReadRefusal {
+    Refused(Refusal),
+    Memory,
+}
+
+/// A byte that no text may have.
+const BAD_BYTE: u8 = 1;
+
+/// No token begins there.
+const NO_TOKEN: u8 = 3;
+
+/// No workload goes on with the token there.
+const NO_PHRASE: u8 = 4;
+
+/// Where the first of these tokens begins, or the end of the text.
+fn place(tokens: &[Token], end: u64) -> u64
+    ensures { result ≡ offset_at end tokens.now }
+{
+    match tokens.split_first() {
+        Some((t, _)) => t.offset,
+        None => end,
+    }
+}
+
+/// What a fault of the tokens at this offset is to the caller.
+fn refusal_after(fault: Fault, offset: u64) -> ReadRefusal
+    ensures memory { fault ≡ Fault.Memory → result ≡ ReadRefusal.Memory }
+    ensures stuck { fault ≡ Fault.Stuck → result ≡ ReadRefusal.Refused (record { code = 4; offset = offset }) }
+{
+    match fault {
+        Fault::Memory => ReadRefusal::Memory,
+        Fault::Stuck => refused(NO_PHRASE, offset),
+    }
+}
+
+/// The workload with these names that all of the tokens are, of a text that ends at this offset.
+fn parse(
+    alloc: Global,
+    tokens: &[Token],
+    names: List<Text>,
+    end: u64,
+) -> Result<Workload, ReadRefusal>
+    ensures { ParsesExactly names.items tokens.now end result }
+{
+    let mut parser = Parser { rest: tokens };
+    let parsed = parser.workload(alloc, names);
+    let rest = parser.rest;
+    match parsed {
+        Ok(workload) => {
+            if rest.is_empty() {
+                Ok(workload)
+            } else {
+                Err(refused(NO_PHRASE, place(rest, end)))
+            }
+        }
+        Err(fault) => Err(refusal_after(fault, place(rest, end))),
+    }
+}
+
+fn refused(code: u8, offset: u64) -> ReadRefusal
+    ensures { result ≡ ReadRefusal.Refused (record { code = code; offset = offset }) }
+{
+    ReadRefusal::Refused(Refusal { code, offset })
+}
+
+/// Reads a workload, or says where its first fault stands.
+fn read_exactly(alloc: Global, bytes: &[u8]) -> Result<Workload, ReadRefusal>
+    requires { length bytes.now ≤ 1048576 }
+    ensures { ReadsExactly bytes.now (length bytes.now) result }
+{
+    if let Some(offset) = first_bad_byte(bytes) {
+        return Err(refused(BAD_BYTE, offset as u64));
+    }
+    let scanned = match scan(alloc, bytes) {
+        Ok(scanned) => scanned,
+        Err(ScanError::Memory) => return Err(ReadRefusal::Memory),
+        Err(ScanError::At(offset)) => return Err(refused(NO_TOKEN, offset as u64)),
+    };
+    match number_names(alloc, scanned.as_slice()) {
+        Ok(numbered) => {
+            let Numbered { tokens, names } = numbered;
+            parse(alloc, tokens.as_slice(), names, bytes.len() as u64)
+        }
+        Err(_) => Err(ReadRefusal::Memory),
+    }
+}
+
+/// Reads a workload from its text, in the time that the text's length takes.
+///
+/// `Refused` comes exactly for a text that is no workload, with code 0 at offset 0: its own code and place are not
+/// told yet. `Memory` is want of memory.
+pub fn read(alloc: Global, bytes: &[u8]) -> Result<Workload, ReadRefusal>
+    requires { length bytes.now ≤ 1048576 }
+    ensures reads { IfOk result (λ w. Reads bytes.now (plain_workload w)) }
+    ensures well_formed { IfOk result (λ w. IsWellFormed (plain_workload w)) }
+    ensures refused { (r : Refusal) → IsErrOf result (ReadRefusal.Refused r) → IsUnread bytes.now r }
+{
+    match read_exactly(alloc, bytes) {
+        Ok(workload) => Ok(workload),
+        Err(ReadRefusal::Memory) => Err(ReadRefusal::Memory),
+        Err(ReadRefusal::Refused(_)) => Err(refused(0, 0)),
+    }
+}

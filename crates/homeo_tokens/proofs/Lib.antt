@@ -1,0 +1,3 @@
+mod Front
+pub mod Names
+pub mod Steps

@@ -1,0 +1,138 @@
+-- The place of a name among names to which others are put.
+use Rattle.std.proofs.Common.{◌≡◌, ℕ, ◌+◌, Bool, true, false, List, [], ◌∷◌, ◌++◌, length, get_or, map, drop, append_assoc, add-one, drop-cons, ◌<◌, refl, sym, ap, ◌∙◌, arith}
+use Rattle.std.specs.Prelude.{◌||◌, not, if◌then◌else◌}
+use Rattle.std.specs.Borrow.{Bor}
+use Rattle.std.specs.List.{list_any, position_or_len}
+use Rattle.std.specs.Str.{bytes_eq}
+use Rattle.std.proofs.lemmas.List.{map-append}
+use Rattle.homeo_syntax.specs.Lexemes.{Lexeme, Name, Number, Fixed}
+use Rattle.homeo_syntax.specs.declared.token.Kind.{Kind}
+use Rattle.homeo_syntax.specs.declared.token.Kind.TheVariants as kind
+use Rattle.homeo_syntax.specs.declared.token.Token.{Token}
+use Rattle.homeo_syntax.specs.Tokens.{Scanned, with_name, with_lexeme, names_after, place_of, kind_in, tokens_in}
+use Rattle.homeo_tokens.specs.declared.scanner.Scanned.{Scanned as Written}
+use Rattle.homeo_tokens.specs.Views.{plain_lexeme, plain_scanned}
+
+abbrev Ref : Type 0
+Ref = Bor (List ℕ)
+
+abbrev pub seen_all : List Ref → List (List ℕ)
+seen_all ks = map (λ (k : Ref). k.now) ks
+
+abbrev pub same_text : Ref → Ref → Bool
+same_text a b = bytes_eq a.now b.now
+
+any_seen : (w : Ref) (ks : List Ref) → list_any (bytes_eq w.now) (seen_all ks) ≡ list_any (same_text w) ks
+any_seen w [] = refl
+any_seen w (k ∷ ks) = ap (λ (b : Bool). bytes_eq w.now k.now || b) (any_seen w ks)
+
+pub place_seen : (w : Ref) (ks : List Ref) → position_or_len (bytes_eq w.now) (seen_all ks) ≡ position_or_len (same_text w) ks
+place_seen w [] = refl
+place_seen w (k ∷ ks) = ap (λ (n : ℕ). if not (bytes_eq w.now k.now) then 1 + n else 0) (place_seen w ks)
+
+pub put_seen : (w : Ref) (ks : List Ref) → seen_all (if list_any (same_text w) ks then ks else ks ++ w ∷ []) ≡ with_name (seen_all ks) w.now
+put_seen w ks = go (list_any (same_text w) ks) (list_any (bytes_eq w.now) (seen_all ks)) (sym (any_seen w ks))
+  where
+    go : (b d : Bool) → b ≡ d → seen_all (if b then ks else ks ++ w ∷ []) ≡ (if d then seen_all ks else seen_all ks ++ w.now ∷ [])
+    go true true e = refl
+    go true false e = let no : ⊥ = cc in absurd no
+    go false true e = let no : ⊥ = cc in absurd no
+    go false false e = map-append (λ (k : Ref). k.now) ks (w ∷ [])
+
+-- a name that is there keeps its place
+first_place : (b c : Bool) (m n : ℕ) → (b || c) ≡ true → (c ≡ true → m ≡ n) → (if not b then 1 + m else 0) ≡ (if not b then 1 + n else 0)
+first_place true c m n h k = refl
+first_place false c m n h k = ap (λ (m : ℕ). 1 + m) (k h)
+
+place_stays : (w : List ℕ) (names more : List (List ℕ)) → list_any (bytes_eq w) names ≡ true → place_of (names ++ more) w ≡ place_of names w
+place_stays w [] more h = let no : ⊥ = cc in absurd no
+place_stays w (n ∷ names) more h = first_place (bytes_eq w n) (list_any (bytes_eq w) names) _ _ h (λ e. place_stays w names more e)
+
+-- a name that was not there comes last
+last_place : (b c : Bool) (m n : ℕ) → (b || c) ≡ false → (c ≡ false → m ≡ n) → (if not b then 1 + m else 0) ≡ (if not b then 1 + n else 0)
+last_place true c m n h k = refl
+last_place false c m n h k = ap (λ (m : ℕ). 1 + m) (k h)
+
+place_new : (w : List ℕ) (names : List (List ℕ)) → bytes_eq w w ≡ true → list_any (bytes_eq w) names ≡ false → place_of (names ++ w ∷ []) w ≡ place_of names w
+place_new w [] r h = ap (λ (b : Bool). if not b then 1 + 0 else 0) r
+place_new w (n ∷ names) r h = last_place (bytes_eq w n) (list_any (bytes_eq w) names) _ _ h (λ e. place_new w names r e)
+
+or_later : (b c : Bool) → c ≡ true → (b || c) ≡ true
+or_later true c h = refl
+or_later false c h = h
+
+any_last : (w : List ℕ) (names : List (List ℕ)) → bytes_eq w w ≡ true → list_any (bytes_eq w) (names ++ w ∷ []) ≡ true
+any_last w [] r = ap (λ (b : Bool). b || false) r
+any_last w (n ∷ names) r = or_later (bytes_eq w n) _ (any_last w names r)
+
+or_more : (b c d : Bool) → (b || c) ≡ true → (c ≡ true → d ≡ true) → (b || d) ≡ true
+or_more true c d h k = refl
+or_more false c d h k = k h
+
+any_more : (w : List ℕ) (names more : List (List ℕ)) → list_any (bytes_eq w) names ≡ true → list_any (bytes_eq w) (names ++ more) ≡ true
+any_more w [] more h = let no : ⊥ = cc in absurd no
+any_more w (n ∷ names) more h = or_more (bytes_eq w n) (list_any (bytes_eq w) names) _ h (λ e. any_more w names more e)
+
+pub bytes_same : (w : List ℕ) → bytes_eq w w ≡ true
+bytes_same [] = refl
+bytes_same (b ∷ w) = grind (arith, bytes_same w)
+
+-- the place of a name after it is put to the names
+pub place_put : (names : List (List ℕ)) (w : List ℕ) → place_of (with_name names w) w ≡ place_of names w
+place_put names w = go (list_any (bytes_eq w) names) refl
+  where
+    go : (b : Bool) → list_any (bytes_eq w) names ≡ b → place_of (if b then names else names ++ w ∷ []) w ≡ place_of names w
+    go true e = refl
+    go false e = place_new w names (bytes_same w) e
+
+pub any_put : (names : List (List ℕ)) (w : List ℕ) → list_any (bytes_eq w) (with_name names w) ≡ true
+any_put names w = go (list_any (bytes_eq w) names) refl
+  where
+    go : (b : Bool) → list_any (bytes_eq w) names ≡ b → list_any (bytes_eq w) (if b then names else names ++ w ∷ []) ≡ true
+    go true e = e
+    go false e = any_last w names (bytes_same w)
+
+-- and after further lexemes
+after_name : (w v : List ℕ) (names : List (List ℕ)) → list_any (bytes_eq w) names ≡ true → (place_of (with_name names v) w ≡ place_of names w) × (list_any (bytes_eq w) (with_name names v) ≡ true)
+after_name w v names h = go (list_any (bytes_eq v) names)
+  where
+    go : (b : Bool) → (place_of (if b then names else names ++ v ∷ []) w ≡ place_of names w) × (list_any (bytes_eq w) (if b then names else names ++ v ∷ []) ≡ true)
+    go true = (refl, h)
+    go false = (place_stays w names (v ∷ []) h, any_more w names (v ∷ []) h)
+
+pub after_lexeme : (w : List ℕ) (l : Lexeme) (names : List (List ℕ)) → list_any (bytes_eq w) names ≡ true → (place_of (with_lexeme names l) w ≡ place_of names w) × (list_any (bytes_eq w) (with_lexeme names l) ≡ true)
+after_lexeme w (Name v) names h = after_name w v names h
+after_lexeme w (Number n) names h = (refl, h)
+after_lexeme w (Fixed m) names h = (refl, h)
+
+pub place_after : (w : List ℕ) (ts : List Scanned) (names : List (List ℕ)) → list_any (bytes_eq w) names ≡ true → place_of (names_after names ts) w ≡ place_of names w
+place_after w [] names h = refl
+place_after w (t ∷ ts) names h =
+    let s = after_lexeme w t.lexeme names h in
+    place_after w ts (with_lexeme names t.lexeme) s.1 ∙ s.0
+
+kind_after : (names : List (List ℕ)) (l : Lexeme) (ts : List Scanned) → kind_in (names_after (with_lexeme names l) ts) l ≡ kind_in (with_lexeme names l) l
+kind_after names (Name w) ts = ap (λ (n : ℕ). kind.Name n) (place_after w ts (with_name names w) (any_put names w))
+kind_after names (Number n) ts = refl
+kind_after names (Fixed m) ts = refl
+
+-- One more token is numbered.
+module _ (scanned : List Written) (i : ℕ) (d : Written) (old new : List (List ℕ)) (h : i < length scanned) (put : new ≡ with_lexeme old (plain_lexeme (get_or scanned i d).lexeme)) (all : List (List ℕ)) (names : names_after old (map plain_scanned (drop i scanned)) ≡ all) where
+  here : drop i scanned ≡ get_or scanned i d ∷ drop (i + 1) scanned
+  here = rw add-one (drop-cons scanned i d h)
+
+  pub names_step : names_after new (map plain_scanned (drop (i + 1) scanned)) ≡ all
+  names_step =
+      ap (λ (n : List (List ℕ)). names_after n (map plain_scanned (drop (i + 1) scanned))) put
+      ∙ sym (ap (λ (ts : List Written). names_after old (map plain_scanned ts)) here) ∙ names
+
+  pub tokens_step : (tokens after : List Token) (k : Kind) → k ≡ kind_in new (plain_lexeme (get_or scanned i d).lexeme) → after ≡ tokens ++ record { kind = k; offset = (get_or scanned i d).offset } ∷ [] →
+      tokens ++ tokens_in all (map plain_scanned (drop i scanned)) ≡ tokens_in all (map plain_scanned scanned) → after ++ tokens_in all (map plain_scanned (drop (i + 1) scanned)) ≡ tokens_in all (map plain_scanned scanned)
+  tokens_step tokens after k e pushed whole =
+      let l = plain_lexeme (get_or scanned i d).lexeme in
+      let same : k ≡ kind_in all l = e ∙ ap (λ (n : List (List ℕ)). kind_in n l) put ∙ sym (kind_after old l (map plain_scanned (drop (i + 1) scanned)))
+      ∙ ap (λ (n : List (List ℕ)). kind_in (names_after n (map plain_scanned (drop (i + 1) scanned))) l) (sym put) ∙ ap (λ (n : List (List ℕ)). kind_in n l) names_step in
+      ap (λ (ts : List Token). ts ++ tokens_in all (map plain_scanned (drop (i + 1) scanned))) pushed
+      ∙ append_assoc tokens (record { kind = k; offset = (get_or scanned i d).offset } ∷ []) (tokens_in all (map plain_scanned (drop (i + 1) scanned)))
+      ∙ ap (λ (k : Kind). tokens ++ (record { kind = k; offset = (get_or scanned i d).offset } ∷ tokens_in all (map plain_scanned (drop (i + 1) scanned)))) same
+      ∙ sym (ap (λ (ts : List Written). tokens ++ tokens_in all (map plain_scanned ts)) here) ∙ whole

@@ -1,0 +1,10 @@
+//! From a text to its tokens, with each name as its place among the distinct names.
+#![tactic(auto)]
+
+mod lexeme;
+mod numbering;
+mod scanner;
+
+pub use lexeme::Lexeme;
+pub use numbering::{Numbered, number_names};
+pub use scanner::{ScanError, Scanned, first_bad_byte, scan};
