@@ -1,0 +1,18 @@
+mod RuleTexts
+pub mod AbsentItems
+pub mod CommandSteps
+pub mod Equations
+pub mod FaultParts
+pub mod Light
+pub mod LightRuns
+pub mod Lookups
+pub mod Numbers
+pub mod Outcomes
+pub mod SomeValues
+pub mod Sound
+pub mod SoundRules
+pub mod Spots
+pub mod States
+pub mod Steps
+pub mod Tables
+pub mod Within

@@ -1,6 +1,20 @@
 //! What workloads mean: databases, commands, calls one after another, and the rules that an accepted workload meets.
 #![tactic(auto)]
 
+mod accepted;
 mod call;
+mod commands;
+mod database;
+mod numbering;
+mod padded;
+mod phrases;
+mod rules;
+mod runs;
+mod scene;
 
+pub use accepted::Accepted;
 pub use call::{CallId, Purpose};
+pub use database::{Database, initial};
+pub use numbering::{Numbering, Places};
+pub use rules::{Binding, Fault, Item, Local, Phase, SitedCall};
+pub use runs::{eval, eval_call, serial};

@@ -1,0 +1,221 @@
+-- From an accepted workload to its calls.
+use Rattle.std.proofs.Common.{◌≡◌, ℕ, zero, suc, ◌+◌, ◌<◌, ◌≤◌, ◌==◌, Bool, true, false, cond, ℤ, pos, Option, Some, None, List, [], ◌∷◌, ◌++◌, map, length, drop, get_or, All, refl, sym, ap, ◌∙◌, subst, arith, add-one, append_assoc, drop_of_length-le}
+use Rattle.std.proofs.Math.Seq.{drop-cons}
+use Rattle.std.specs.Prelude.{slice_get, find}
+use Rattle.std.specs.Option.{option_and_then}
+use Rattle.std.proofs.lemmas.List.{append-nil, length-map}
+use Rattle.std.proofs.lemmas.Option.{slice_get_within, get_or_from_slice_get}
+use Rattle.homeo_syntax.specs.Source as s
+use Rattle.homeo_syntax.specs.declared.workload.RangeDecl.{RangeDecl}
+use Rattle.homeo_meaning.specs.declared.call.CallId.{CallId}
+use Rattle.homeo_meaning.specs.Key.{words}
+use Rattle.homeo_meaning.specs.Schema.{schema_of, declared_relation}
+use Rattle.homeo_meaning.specs.Bounds.{bounds_of, AreIn, IsWithin}
+use Rattle.homeo_meaning.specs.Initial.{initial, relation_starts}
+use Rattle.homeo_meaning.specs.Context.{context}
+use Rattle.homeo_meaning.specs.Meaning.{State, after_prints, does_all}
+use Rattle.homeo_meaning.specs.Built.{are_built, IsBuiltTransaction, IsBuilt}
+use Rattle.homeo_meaning.specs.Weights.{first_weights, are_light}
+use Rattle.homeo_meaning.specs.CanRun.{can_run_all}
+use Rattle.homeo_meaning.specs.Acceptance.{limit, IsLightBody, IsLightCall}
+use Rattle.homeo_meaning.specs.Calls.{IsGroundCall}
+use Rattle.homeo_meaning.specs.Declarations.{Declarations, declarations, place_from, place_of}
+use Rattle.homeo_meaning.specs.Scenes.{run_of, objects_only, plain_context, start}
+use Rattle.homeo_meaning.specs.Serial.{values_of, values_from, database_like, numbered, call_of, transaction_named, arguments, outcome_at, outcome_of, call_outcome, serial}
+use Rattle.homeo_meaning.proofs.LightRuns.{light_runs}
+use Rattle.homeo_meaning.proofs.Sound.{IsSound}
+use Rattle.homeo_meaning.proofs.States.{state_with}
+use Rattle.homeo_meaning.proofs.Within.{covers_start, length_in, each_in, list_in, does_all_keeps, only_bounds}
+use Rattle.homeo_meaning.proofs.SomeValues.{none_some}
+
+-- ---- a body
+pub record BodyRuns (d : Declarations) (cs : s.Commands) (db : List ℤ) : Type 0 where
+  pub places : length db ≡ length d.objects
+  pub can : can_run_all limit (plain_context d) cs (start db) ≡ true
+  pub within : IsWithin (objects_only d.objects) (database_like db (does_all (plain_context d) cs (start db)).state.database)
+
+pub body_runs : (d : Declarations) (cs : s.Commands) (db : List ℤ) → IsWithin (objects_only d.objects) db → are_built cs ≡ true → are_light limit (plain_context d) cs (first_weights (objects_only d.objects)) ≡ true → BodyRuns d cs db
+unfolding words
+body_runs d cs db within built light =
+    let ds = d.objects in
+    let inside : AreIn (map bounds_of ds) db = subst (λ bs. AreIn bs db) (only_bounds ds) within in
+    let places : length db ≡ length ds = length_in (map bounds_of ds) db inside ∙ length-map ds bounds_of in
+    let all = light_runs limit (plain_context d) (first_weights (objects_only ds)) (start db) cs (covers_start (objects_only ds) db within) built light in
+    let keeps = does_all_keeps (plain_context d) (start db) cs built (each_in ds db inside) in
+    record {
+      places = places;
+      can = all.can;
+      within = subst (λ bs. AreIn bs (database_like db (does_all (plain_context d) cs (start db)).state.database)) (sym (only_bounds ds)) (list_in ds db (does_all (plain_context d) cs (start db)).state.database places keeps);
+    }
+
+-- the values of a list are the list
+values_list : (xs : List ℤ) (k : ℕ) (f : ℕ → ℤ) → ((i : ℕ) → f (k + i) ≡ get_or xs i (pos 0)) → values_from k (length xs) f ≡ xs
+values_list [] k f h = refl
+values_list (x ∷ xs) k f h =
+    let first : k ≡ k + 0 = omega arith in
+    let next : (j : ℕ) → suc k + j ≡ k + suc j = λ j. omega arith in
+    (λ i. (ap f first ∙ h 0) i ∷ values_list xs (suc k) f (λ j. ap f (next j) ∙ h (suc j)) i)
+
+pub like_itself : (base xs : List ℤ) (f : ℕ → ℤ) → length xs ≡ length base → values_of xs ≡ f → xs ≡ database_like base f
+unfolding words
+like_itself base xs f e p =
+    let same : (i : ℕ) → 0 + i ≡ i = λ i. omega arith in
+    sym (values_list xs 0 (values_of xs) (λ i. ap (values_of xs) (same i)))
+    ∙ (λ i. values_from 0 (e i) (p i))
+
+-- ---- a workload with no relations
+pub schema_only : (w : s.Workload) → w.relations ≡ [] → schema_of w ≡ objects_only (schema_of w).objects
+unfolding words
+schema_only w e = λ i. record { objects = (schema_of w).objects; relations = map declared_relation (e i) }
+
+context_is : (w : s.Workload) (params : List RangeDecl) (args : List ℤ) → w.relations ≡ [] → params ≡ [] → context (schema_of w) (map (λ p. p.name.name) params) args ≡ plain_context (declarations w)
+unfolding words
+context_is w params args e p = λ i. context (schema_only w e i) (map (λ p. p.name.name) (p i)) args
+
+pub initial_is : (w : s.Workload) → w.relations ≡ [] → map (λ d. d.start.value) w.objects ≡ initial w
+unfolding words
+initial_is w e =
+    let starts : List ℤ = map (λ d. d.start.value) w.objects in
+    sym (append-nil starts) ∙ ap (λ rs. starts ++ relation_starts (map declared_relation rs)) (sym e)
+
+-- what stands of the transaction at a place, for its body cs on the database db
+pub record TransactionRuns (w : s.Workload) (place : ℕ) (d : Declarations) (cs : s.Commands) (db : List ℤ) : Type 0 where
+  pub within : IsWithin (objects_only d.objects) db
+  pub built : are_built cs ≡ true
+  pub light : are_light limit (plain_context d) cs (first_weights (objects_only d.objects)) ≡ true
+  pub outcome : record { prints = (does_all (plain_context d) cs (start db)).prints; database = database_like db (does_all (plain_context d) cs (start db)).state.database } ≡ outcome_at w (slice_get w.transactions place) [] db
+  pub back : (after : List ℤ) → IsWithin (objects_only d.objects) after → IsWithin (schema_of w) after
+
+all_at : {X : Type 0} (P : X → Type 0) (xs : List X) (i : ℕ) (x : X) → All P xs → slice_get xs i ≡ Some x → P x
+all_at P xs i x h e = subst P (get_or_from_slice_get xs i x x e) (h i x (slice_get_within xs i x e))
+
+own_body : (w : s.Workload) (t : s.Transaction) (place : ℕ) (db : List ℤ) → IsBuilt w → slice_get w.transactions place ≡ Some t → IsLightBody w (slice_get w.transactions place) [] → IsWithin (schema_of w) db → TransactionRuns w place (declarations w) t.body db
+unfolding words
+own_body w t place db built e light within =
+    let b = all_at IsBuiltTransaction w.transactions place t built.transactions e in
+    let x = context_is w t.params [] built.relations b.parameters in
+    let schema = schema_only w built.relations in
+    let l : are_light limit (context (schema_of w) (map (λ p. p.name.name) t.params) []) t.body (first_weights (schema_of w)) ≡ true = subst (λ o. IsLightBody w o []) e light in
+    record {
+      within = subst (λ x. IsWithin x db) schema within;
+      built = b.body;
+      light = sym (λ i. are_light limit (x i) t.body (first_weights (schema i))) ∙ l;
+      outcome = sym (ap (λ o. outcome_at w o [] db) e ∙ (λ i. record { prints = (does_all (x i) t.body (start db)).prints; database = database_like db (does_all (x i) t.body (start db)).state.database }));
+      back = λ after h. subst (λ x. IsWithin x after) (sym schema) h;
+    }
+
+pub transaction_runs : (w : s.Workload) (t : s.Transaction) (place : ℕ) (d : Declarations) (cs : s.Commands) (db : List ℤ) → IsBuilt w → slice_get w.transactions place ≡ Some t → d ≡ declarations w → cs ≡ t.body → IsLightBody w (slice_get w.transactions place) [] → IsWithin (schema_of w) db → TransactionRuns w place d cs db
+transaction_runs w t place d cs db built e p q light within =
+    subst (λ d. TransactionRuns w place d cs db) (sym p) (subst (λ cs. TransactionRuns w place (declarations w) cs db) (sym q) (own_body w t place db built e light within))
+
+-- a run from an empty list of prints
+pub body_ran : (d : Declarations) (cs : s.Commands) (db copy temps ps qs : List ℤ) (r : State) → copy ≡ db → temps ≡ [] → qs ≡ [] → run_of r ps ≡ after_prints qs (does_all (plain_context d) cs (state_with copy temps)) → run_of r ps ≡ does_all (plain_context d) cs (start db)
+unfolding words
+body_ran d cs db copy temps ps qs r p q z e = e ∙ (λ i. after_prints (z i) (does_all (plain_context d) cs (state_with (p i) (q i))))
+
+pub body_starts : (db copy temps : List ℤ) → copy ≡ db → temps ≡ [] → start db ≡ state_with copy temps
+unfolding words
+body_starts db copy temps p q = sym (λ i. state_with (p i) (q i))
+
+-- ---- calls
+numbered_at : (P : s.Call → Type 0) (n : ℕ) (calls : List s.Call) (c : s.Call) → All P calls → numbered n calls ≡ Some c → P c
+numbered_at P zero calls c h e = absurd (none_some e)
+numbered_at P (suc n) calls c h e = all_at P calls n c h e
+
+call_at : (P : s.Call → Type 0) (w : s.Workload) (id : CallId) (c : s.Call) (o : Option s.Client) → slice_get w.clients id.client ≡ o → option_and_then (λ client. numbered id.seq client.calls) o ≡ Some c → All (λ client. All P client.calls) w.clients → P c
+call_at P w id c None e m h = absurd (none_some m)
+call_at P w id c (Some client) e m h = numbered_at P id.seq client.calls c (all_at (λ client. All P client.calls) w.clients id.client client h e) m
+
+pub record CallRuns (w : s.Workload) (c : s.Call) : Type 0 where
+  pub light : IsLightBody w (transaction_named w c.name.name) []
+  pub none : arguments c ≡ []
+
+pub call_runs : (w : s.Workload) (id : CallId) (c : s.Call) → IsSound w → call_of w id ≡ Some c → CallRuns w c
+unfolding words
+call_runs w id c sound e =
+    let empty : c.args ≡ [] = call_at (λ c. c.args ≡ []) w id c (slice_get w.clients id.client) refl e sound.built.arguments in
+    let none : arguments c ≡ [] = ap (map (λ a. a.value)) empty in
+    record { none = none; light = subst (IsLightBody w (transaction_named w c.name.name)) none (call_at (IsLightCall w) w id c (slice_get w.clients id.client) refl e sound.light) }
+
+pub record GroundCallRuns (w : s.Workload) (transaction : ℕ) (args : List ℤ) : Type 0 where
+  pub light : IsLightBody w (slice_get w.transactions transaction) []
+  pub none : args ≡ []
+
+pub ground_call_runs : (w : s.Workload) (transaction : ℕ) (args : List ℤ) → IsSound w → IsGroundCall w transaction args → GroundCallRuns w transaction args
+ground_call_runs w transaction args sound g =
+    let runs = call_runs w g.id g.call sound g.made in
+    record { light = subst (λ t. IsLightBody w t []) (sym g.named) runs.light; none = sym g.given ∙ runs.none }
+
+-- ---- transactions by name
+cond_suc : (b : Bool) (m n : ℕ) → cond b (suc m) (suc n) ≡ suc (cond b m n)
+cond_suc true m n = refl
+cond_suc false m n = refl
+
+place_suc : (k : ℕ) (names : List ℕ) (n : ℕ) → place_from (suc k) names n ≡ suc (place_from k names n)
+unfolding words
+place_suc k [] n = refl
+place_suc k (m ∷ ms) n = ap (cond (m == n) (suc k)) (place_suc (suc k) ms n) ∙ cond_suc (m == n) k (place_from (suc k) ms n)
+
+named_case : (t : s.Transaction) (ts : List s.Transaction) (n p : ℕ) (b : Bool) → slice_get ts p ≡ find (λ t. t.name.name == n) ts → slice_get (t ∷ ts) (cond b 0 (suc p)) ≡ cond b (Some t) (find (λ t. t.name.name == n) ts)
+named_case t ts n p true h = refl
+named_case t ts n p false h = h
+
+transaction_at : (ts : List s.Transaction) (n : ℕ) → slice_get ts (place_from 0 (map (λ t. t.name.name) ts) n) ≡ find (λ t. t.name.name == n) ts
+unfolding words
+transaction_at [] n = refl
+transaction_at (t ∷ ts) n =
+    let names : List ℕ = map (λ t. t.name.name) ts in
+    ap (λ k. slice_get (t ∷ ts) (cond (t.name.name == n) 0 k)) (place_suc 0 names n)
+    ∙ named_case t ts n (place_from 0 names n) (t.name.name == n) (transaction_at ts n)
+
+pub transaction_place : (w : s.Workload) (n : ℕ) → slice_get w.transactions (place_of (declarations w).transactions n) ≡ transaction_named w n
+unfolding words
+transaction_place w n = transaction_at w.transactions n
+
+-- a client's call, by the place of its transaction
+pub record PlacedCall (w : s.Workload) (id : CallId) (place : ℕ) : Type 0 where
+  pub light : IsLightBody w (slice_get w.transactions place) []
+  pub outcome : (db : List ℤ) → outcome_at w (slice_get w.transactions place) [] db ≡ call_outcome w id db
+
+pub placed_call : (w : s.Workload) (id : CallId) (c : s.Call) (d : Declarations) (place : ℕ) → IsSound w → call_of w id ≡ Some c → d ≡ declarations w → place ≡ place_of d.transactions c.name.name → PlacedCall w id place
+unfolding words
+placed_call w id c d place sound made e p =
+    let runs = call_runs w id c sound made in
+    let named : slice_get w.transactions place ≡ transaction_named w c.name.name = ap (slice_get w.transactions) (p ∙ ap (λ d. place_of d.transactions c.name.name) e) ∙ transaction_place w c.name.name in
+    record {
+      light = subst (λ t. IsLightBody w t []) (sym named) runs.light;
+      outcome = λ db. (λ i. outcome_at w (named i) (sym runs.none i) db) ∙ sym (ap (λ o. outcome_of w o db) made);
+    }
+
+-- ---- calls one after another
+pub record SerialStep (w : s.Workload) (db after : List ℤ) (ids : List CallId) (i : ℕ) (before : List (List ℤ)) (prints : List ℤ) : Type 0 where
+  pub logs : (before ++ prints ∷ []) ++ (serial w after (drop (i + 1) ids)).logs ≡ before ++ (serial w db (drop i ids)).logs
+  pub last : (serial w after (drop (i + 1) ids)).database ≡ (serial w db (drop i ids)).database
+
+serial_more : (w : s.Workload) (db : List ℤ) (id : CallId) (ids : List CallId) → serial w db (id ∷ ids) ≡ record { logs = (call_outcome w id db).prints ∷ (serial w (call_outcome w id db).database ids).logs; database = (serial w (call_outcome w id db).database ids).database }
+unfolding words
+serial_more w db id ids = refl
+
+pub serial_step : (w : s.Workload) (db after : List ℤ) (ids : List CallId) (i : ℕ) (none : CallId) (before : List (List ℤ)) (prints : List ℤ) → i < length ids → prints ≡ (call_outcome w (get_or ids i none) db).prints → after ≡ (call_outcome w (get_or ids i none) db).database → SerialStep w db after ids i before prints
+serial_step w db after ids i none before prints h q r =
+    let rest : List CallId = drop (i + 1) ids in
+    let id : CallId = get_or ids i none in
+    let next : drop i ids ≡ id ∷ rest = rw add-one (drop-cons ids i none h) in
+    let whole = ap (serial w db) next ∙ serial_more w db id rest in
+    record {
+      logs = append_assoc before (prints ∷ []) (serial w after rest).logs ∙ (λ j. before ++ q j ∷ (serial w (r j) rest).logs) ∙ ap (λ s. before ++ s.logs) (sym whole);
+      last = (λ j. (serial w (r j) rest).database) ∙ ap (λ s. s.database) (sym whole);
+    }
+
+serial_none : (w : s.Workload) (db : List ℤ) → serial w db [] ≡ record { logs = []; database = db }
+unfolding words
+serial_none w db = refl
+
+pub record SerialEnd (w : s.Workload) (db : List ℤ) (ids : List CallId) (i : ℕ) (before : List (List ℤ)) : Type 0 where
+  pub logs : before ≡ before ++ (serial w db (drop i ids)).logs
+  pub last : db ≡ (serial w db (drop i ids)).database
+
+pub serial_end : (w : s.Workload) (db : List ℤ) (ids : List CallId) (i : ℕ) (before : List (List ℤ)) → length ids ≤ i → SerialEnd w db ids i before
+serial_end w db ids i before h =
+    let whole = ap (serial w db) (drop_of_length-le ids h) ∙ serial_none w db in
+    record { logs = sym (ap (λ s. before ++ s.logs) whole ∙ append-nil before); last = sym (ap (λ s. s.database) whole) }

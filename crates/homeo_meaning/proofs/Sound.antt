@@ -1,0 +1,37 @@
+-- What acceptance says that evaluation rests on.
+use Rattle.std.proofs.Common.{All, List, ◌++◌}
+use Rattle.std.specs.List.{flat_map}
+use Rattle.homeo_syntax.specs.Source as s
+use Rattle.homeo_meaning.specs.Key.{words}
+use Rattle.homeo_meaning.specs.declared.call.Purpose.TheVariants.{Run}
+use Rattle.homeo_meaning.specs.declared.rules.Fault.{Fault}
+use Rattle.homeo_meaning.specs.GlobalNames.{scope_of}
+use Rattle.homeo_meaning.specs.NumberRules.{object_faults}
+use Rattle.homeo_meaning.specs.CallRules.{client_faults}
+use Rattle.homeo_meaning.specs.Faults.{of_transaction}
+use Rattle.homeo_meaning.proofs.FaultParts.{none_first, NoFault, parts}
+use Rattle.homeo_meaning.proofs.SoundRules.{is-built, starts-within, all-light}
+use Rattle.homeo_meaning.specs.Schema.{schema_of}
+use Rattle.homeo_meaning.specs.Bounds.{IsWithin}
+use Rattle.homeo_meaning.specs.Initial.{initial}
+use Rattle.homeo_meaning.specs.Built.{IsBuilt}
+use Rattle.homeo_meaning.specs.Acceptance.{IsLightCall, IsAccepted}
+
+pub record IsSound (w : s.Workload) : Type 0 where
+  pub built : IsBuilt w
+  pub light : All (λ client. All (IsLightCall w) client.calls) w.clients
+  pub starts : IsWithin (schema_of w) (initial w)
+
+pub sound : (w : s.Workload) → IsAccepted w → IsSound w
+unfolding words
+sound w a =
+    let p : NoFault Run w = parts Run w a.rules in
+    let built : IsBuilt w = is-built w p.unbuilt in
+    let objects : List Fault = flat_map object_faults w.objects in
+    let transactions : List Fault = flat_map (of_transaction (scope_of w)) w.transactions in
+    let clients : List Fault = flat_map (client_faults w.sites (scope_of w) w.transactions) w.clients in
+    record {
+      built = built;
+      light = all-light w built p.declared p.weights;
+      starts = starts-within w built.relations (none_first objects transactions (none_first (objects ++ transactions) clients p.declared));
+    }

@@ -1,0 +1,264 @@
+-- What the absence of faults says.
+use Rattle.std.proofs.Common.{◌≡◌, ℕ, zero, suc, ◌+◌, ℤ, ◌≤ℤ◌, Bool, true, false, cond, not, ◌&&◌, ◌||◌, ◌==◌, List, [], ◌∷◌, ◌++◌, map, Option, Some, None, All, refl, sym, ap, subst, ◌∙◌, add-zero, zero-add, arith, append-nil, append_assoc}
+use Rattle.std.specs.Prelude.{slice_get, find, int_lt}
+use Rattle.std.proofs.lemmas.Int.{ints}
+use Rattle.std.proofs.lemmas.List.Concat.{flat_map-append}
+use Rattle.std.specs.List.{flat_map}
+use Rattle.homeo_syntax.specs.Source as s
+use Rattle.homeo_syntax.specs.declared.phrase.Ident.{Ident}
+use Rattle.homeo_syntax.specs.declared.workload.ObjectDecl.{ObjectDecl}
+use Rattle.homeo_syntax.specs.declared.workload.RangeDecl.{RangeDecl}
+use Rattle.homeo_meaning.specs.Key.{words}
+use Rattle.homeo_meaning.specs.Schema.{declared_object, declared_relation, schema_of}
+use Rattle.homeo_meaning.specs.Bounds.{Bounds, bounds_of, relation_bounds, AreIn, IsWithin}
+use Rattle.homeo_meaning.specs.Initial.{relation_starts, initial}
+use Rattle.homeo_meaning.specs.Context.{context}
+use Rattle.homeo_meaning.specs.Weights.{first_weights, are_light}
+use Rattle.homeo_meaning.specs.Built.{are_built, IsBuiltTransaction, IsBuilt}
+use Rattle.homeo_meaning.specs.Serial.{transaction_named, arguments}
+use Rattle.homeo_meaning.specs.Acceptance.{limit, IsLightBody, IsLightCall}
+use Rattle.homeo_meaning.specs.NameRules.{when, fault}
+use Rattle.homeo_meaning.specs.GlobalNames.{GlobalName, numbered_from, first_named, scope_of, transaction_at, called, sited_calls_of}
+use Rattle.homeo_meaning.specs.NumberRules.{range_faults, outside, object_faults, site_faults}
+use Rattle.homeo_meaning.specs.CallRules.{call_faults, client_faults}
+use Rattle.homeo_meaning.specs.SizeRules.{is_empty, unbuilt_relation, unbuilt_transaction, unbuilt_call, unbuilt_faults, is_light_body, heavy_call, weight_faults}
+use Rattle.homeo_meaning.specs.Faults.{of_transaction, declared_faults}
+use Rattle.homeo_meaning.specs.declared.rules.Fault.{Fault}
+use Rattle.homeo_meaning.specs.declared.rules.SitedCall.{SitedCall}
+use Rattle.homeo_meaning.specs.declared.rules.Item.{Item}
+use Rattle.homeo_meaning.specs.declared.rules.Item.TheVariants as I
+use Rattle.homeo_meaning.specs.declared.rules.Phase.{Phase}
+use Rattle.homeo_meaning.specs.declared.rules.Phase.TheVariants as F
+use Rattle.homeo_meaning.proofs.FaultParts.{none_first, none_second}
+
+-- ---- small steps
+no_fault : (p : Phase) (x : Ident) (b : Bool) → when (not b) (fault p x) ≡ [] → b ≡ true
+no_fault p x true e = refl
+no_fault p x false e = cc
+
+and_left : (a b : Bool) → (a && b) ≡ true → a ≡ true
+and_left true b e = refl
+and_left false b e = cc
+
+and_right : (a b : Bool) → (a && b) ≡ true → b ≡ true
+and_right true b e = e
+and_right false b e = cc
+
+empty : {A : Type 0} (xs : List A) → is_empty xs ≡ true → xs ≡ []
+empty [] e = refl
+empty (x ∷ xs) e = cc
+
+pub all_none : {A : Type 0} (P : A → Type 0) → All P []
+all_none P k d h = absurd (omega arith)
+
+pub all_more : {A : Type 0} (P : A → Type 0) (x : A) (xs : List A) → P x → All P xs → All P (x ∷ xs)
+all_more P x xs p h zero d lt = p
+all_more P x xs p h (suc k) d lt = h k d (omega arith)
+
+pub all_head : {A : Type 0} (P : A → Type 0) (x : A) (xs : List A) → All P (x ∷ xs) → P x
+all_head P x xs h = h 0 x (omega arith)
+
+pub all_tail : {A : Type 0} (P : A → Type 0) (x : A) (xs : List A) → All P (x ∷ xs) → All P xs
+all_tail P x xs h k d lt = h (suc k) d (omega arith)
+
+-- each item of a list has no fault where the list has none
+pub each-none : {A : Type 0} (rule : A → List Fault) (P : A → Type 0) → ((x : A) → rule x ≡ [] → P x) → (xs : List A) → flat_map rule xs ≡ [] → All P xs
+each-none rule P h [] e = all_none P
+each-none rule P h (x ∷ xs) e = all_more P x xs (h x (none_first (rule x) (flat_map rule xs) e)) (each-none rule P h xs (none_second (rule x) (flat_map rule xs) e))
+
+-- ---- what can be run
+no_relations : (qs : List s.RelationDecl) → flat_map unbuilt_relation qs ≡ [] → qs ≡ []
+unfolding words
+no_relations [] e = refl
+no_relations (q ∷ qs) e = cc
+
+built_transaction : (t : s.Transaction) → unbuilt_transaction t ≡ [] → IsBuiltTransaction t
+unfolding words
+built_transaction t e =
+    let both : (is_empty t.params && are_built t.body) ≡ true = no_fault F.Unbuilt t.name (is_empty t.params && are_built t.body) e in
+    record { parameters = empty t.params (and_left (is_empty t.params) (are_built t.body) both); body = and_right (is_empty t.params) (are_built t.body) both }
+
+no_arguments : (c : s.Call) → unbuilt_call c ≡ [] → c.args ≡ []
+unfolding words
+no_arguments c e = empty c.args (no_fault F.Unbuilt c.name (is_empty c.args) e)
+
+pub is-built : (w : s.Workload) → unbuilt_faults w ≡ [] → IsBuilt w
+unfolding words
+is-built w e =
+    let a : List Fault = flat_map unbuilt_relation w.relations in
+    let b : List Fault = flat_map unbuilt_transaction w.transactions in
+    let c : List Fault = flat_map (λ client. flat_map unbuilt_call client.calls) w.clients in
+    let first : (a ++ b) ≡ [] = none_first (a ++ b) c e in
+    record {
+      relations = no_relations w.relations (none_first a b first);
+      transactions = each-none unbuilt_transaction IsBuiltTransaction built_transaction w.transactions (none_second a b first);
+      arguments = each-none (λ (client : s.Client). flat_map unbuilt_call client.calls) (λ client. All (λ call. call.args ≡ []) client.calls) (λ client h. each-none unbuilt_call (λ call. call.args ≡ []) no_arguments client.calls h) w.clients (none_second (a ++ b) c e);
+    }
+
+-- ---- the initial database
+pub not_less : (a b : ℤ) → int_lt a b ≡ false → b ≤ℤ a
+not_less a b h = grind (arith, ints)
+
+not_below : (p : Phase) (n : ℕ) (a b : ℤ) (z : Bool) → when (int_lt a b || z) (record { phase = p; offset = n } ∷ []) ≡ [] → b ≤ℤ a
+not_below p n a b z e = by_case (int_lt a b) refl e
+  where
+    by_case : (c : Bool) → int_lt a b ≡ c → when (c || z) (record { phase = p; offset = n } ∷ []) ≡ [] → b ≤ℤ a
+    by_case true h e = cc
+    by_case false h e = not_less a b h
+
+not_above : (p : Phase) (n : ℕ) (z : Bool) (a b : ℤ) → when (z || int_lt a b) (record { phase = p; offset = n } ∷ []) ≡ [] → b ≤ℤ a
+not_above p n true a b e = cc
+not_above p n false a b e = by_case (int_lt a b) refl e
+  where
+    by_case : (c : Bool) → int_lt a b ≡ c → when c (record { phase = p; offset = n } ∷ []) ≡ [] → b ≤ℤ a
+    by_case true h e = cc
+    by_case false h e = not_less a b h
+
+starts_in : (os : List ObjectDecl) → flat_map object_faults os ≡ [] → AreIn (map bounds_of (map declared_object os)) (map (λ d. d.start.value) os)
+unfolding words
+starts_in [] e = tt
+starts_in (d ∷ os) e =
+    let here : object_faults d ≡ [] = none_first (object_faults d) (flat_map object_faults os) e in
+    let inside : outside d.lo d.hi d.start ≡ [] = none_second (range_faults d.lo d.hi) (outside d.lo d.hi d.start) here in
+    ((not_below F.Bounds d.start.offset d.start.value d.lo.value (int_lt d.hi.value d.start.value) inside, not_above F.Bounds d.start.offset (int_lt d.start.value d.lo.value) d.hi.value d.start.value inside), starts_in os (none_second (object_faults d) (flat_map object_faults os) e))
+
+no_more : (bs : List Bounds) (vs : List ℤ) → AreIn bs vs → AreIn (bs ++ []) (vs ++ [])
+no_more bs vs h = subst (λ l. AreIn l (vs ++ [])) (sym (append-nil bs)) (subst (λ l. AreIn bs l) (sym (append-nil vs)) h)
+
+pub starts-within : (w : s.Workload) → w.relations ≡ [] → flat_map object_faults w.objects ≡ [] → IsWithin (schema_of w) (initial w)
+unfolding words
+starts-within w none e =
+    subst (λ (l : List s.RelationDecl). AreIn (map bounds_of (map declared_object w.objects) ++ relation_bounds (map declared_relation l)) (map (λ d. d.start.value) w.objects ++ relation_starts (map declared_relation l))) (sym none) (no_more (map bounds_of (map declared_object w.objects)) (map (λ d. d.start.value) w.objects) (starts_in w.objects e))
+
+-- ---- calls
+pub record Names (ts : List s.Transaction) (i n k : ℕ) : Type 0 where
+  pub place : ℕ
+  pub after : k ≡ i + place
+  pub found : find (λ (t : s.Transaction). t.name.name == n) ts ≡ slice_get ts place
+  pub transaction : s.Transaction
+  pub there : find (λ (t : s.Transaction). t.name.name == n) ts ≡ Some transaction
+
+-- a number of a transaction
+abbrev number_of : Option Item → Option ℕ
+number_of (Some (I.Transaction k)) = Some k
+number_of _ = None
+
+others : (kind : ℕ → Item) → ((k : ℕ) → number_of (Some (kind k)) ≡ None) → (n i : ℕ) (xs : List Ident) (more : List GlobalName) (k : ℕ) → first_named (numbered_from kind i xs ++ more) n ≡ Some (I.Transaction k) → first_named more n ≡ Some (I.Transaction k)
+unfolding words
+others kind h n i [] more k e = e
+others kind h n i (x ∷ xs) more k e = by_case (x.name == n) (others kind h n (i + 1) xs more k) e
+  where
+    by_case : (b : Bool) → (first_named (numbered_from kind (i + 1) xs ++ more) n ≡ Some (I.Transaction k) → first_named more n ≡ Some (I.Transaction k)) → cond b (Some (kind i)) (first_named (numbered_from kind (i + 1) xs ++ more) n) ≡ Some (I.Transaction k) → first_named more n ≡ Some (I.Transaction k)
+    by_case true rest e = let no : None ≡ Some k = sym (h i) ∙ ap number_of e in cc
+    by_case false rest e = rest e
+
+no_client : (n i : ℕ) (xs : List Ident) (k : ℕ) → first_named (numbered_from I.Client i xs) n ≡ Some (I.Transaction k) → ⊥
+unfolding words
+no_client n i [] k e = cc
+no_client n i (x ∷ xs) k e = by_case (x.name == n) (no_client n (i + 1) xs k) e
+  where
+    by_case : (b : Bool) → (first_named (numbered_from I.Client (i + 1) xs) n ≡ Some (I.Transaction k) → ⊥) → cond b (Some (I.Client i)) (first_named (numbered_from I.Client (i + 1) xs) n) ≡ Some (I.Transaction k) → ⊥
+    by_case true rest e = let no : None ≡ Some k = ap number_of e in cc
+    by_case false rest e = rest e
+
+the_transaction : (n i : ℕ) (ts : List s.Transaction) (cs : List Ident) (k : ℕ) → first_named (numbered_from I.Transaction i (map (λ t. t.name) ts) ++ numbered_from I.Client 0 cs) n ≡ Some (I.Transaction k) → Names ts i n k
+unfolding words
+the_transaction n i [] cs k e = absurd (no_client n 0 cs k e)
+the_transaction n i (t ∷ ts) cs k e = found_in (t.name.name == n) refl (the_transaction n (i + 1) ts cs k) e
+  where
+    found_in : (b : Bool) → (t.name.name == n) ≡ b → (first_named (numbered_from I.Transaction (i + 1) (map (λ t. t.name) ts) ++ numbered_from I.Client 0 cs) n ≡ Some (I.Transaction k) → Names ts (i + 1) n k) → cond b (Some (I.Transaction i)) (first_named (numbered_from I.Transaction (i + 1) (map (λ t. t.name) ts) ++ numbered_from I.Client 0 cs) n) ≡ Some (I.Transaction k) → Names (t ∷ ts) i n k
+    found_in true h rest e =
+        let same : Some i ≡ Some k = ap number_of e in
+        let is : i ≡ k = cc in
+        record { place = 0; after = sym is ∙ sym (add-zero i); found = ap (λ (b : Bool). cond b (Some t) (find (λ (u : s.Transaction). u.name.name == n) ts)) h; transaction = t; there = ap (λ (b : Bool). cond b (Some t) (find (λ (u : s.Transaction). u.name.name == n) ts)) h }
+    found_in false h rest e =
+        let r : Names ts (i + 1) n k = rest e in
+        let a : k ≡ i + 1 + r.place = r.after in
+        record { place = suc r.place; after = omega arith; found = ap (λ (b : Bool). cond b (Some t) (find (λ (u : s.Transaction). u.name.name == n) ts)) h ∙ r.found; transaction = r.transaction; there = ap (λ (b : Bool). cond b (Some t) (find (λ (u : s.Transaction). u.name.name == n) ts)) h ∙ r.there }
+
+pub names_of : (w : s.Workload) (n k : ℕ) → (scope_of w).item n ≡ Some (I.Transaction k) → Names w.transactions 0 n k
+unfolding words
+names_of w n k e =
+    let o = numbered_from I.Object 0 (map (λ (d : ObjectDecl). d.name) w.objects) in
+    let r = numbered_from I.Relation 0 (map (λ (d : s.RelationDecl). d.name) w.relations) in
+    let t = numbered_from I.Transaction 0 (map (λ (d : s.Transaction). d.name) w.transactions) in
+    let c = numbered_from I.Client 0 (map (λ (d : s.Client). d.name) w.clients) in
+    let grouped : ((o ++ r) ++ t) ++ c ≡ o ++ (r ++ (t ++ c)) = append_assoc (o ++ r) t c ∙ append_assoc o r (t ++ c) in
+    let e1 : first_named (o ++ (r ++ (t ++ c))) n ≡ Some (I.Transaction k) = ap (λ l. first_named l n) (sym grouped) ∙ e in
+    let e2 : first_named (r ++ (t ++ c)) n ≡ Some (I.Transaction k) = others I.Object (λ k. refl) n 0 (map (λ (d : ObjectDecl). d.name) w.objects) (r ++ (t ++ c)) k e1 in
+    let e3 : first_named (t ++ c) n ≡ Some (I.Transaction k) = others I.Relation (λ k. refl) n 0 (map (λ (d : s.RelationDecl). d.name) w.relations) (t ++ c) k e2 in
+    the_transaction n 0 w.transactions (map (λ (d : s.Client). d.name) w.clients) k e3
+
+pub named-is : (w : s.Workload) (n k : ℕ) → (scope_of w).item n ≡ Some (I.Transaction k) → transaction_named w n ≡ slice_get w.transactions k
+unfolding words
+named-is w n k e =
+    let f : Names w.transactions 0 n k = names_of w n k e in
+    let place : f.place ≡ k = sym (zero-add f.place) ∙ sym f.after in
+    f.found ∙ ap (slice_get w.transactions) place
+
+-- a call without a fault names a transaction
+pub names_one : (w : s.Workload) (c : s.Call) (g : Option Item) → call_faults w.transactions g c ≡ [] → (k : ℕ) × (g ≡ Some (I.Transaction k))
+unfolding words
+names_one w c None e = cc
+names_one w c (Some (I.Transaction k)) e = (k, refl)
+names_one w c (Some (I.Object k)) e = cc
+names_one w c (Some (I.Relation k)) e = cc
+names_one w c (Some (I.Client k)) e = cc
+
+light_body : (w : s.Workload) (o : Option s.Transaction) (args : List ℤ) → args ≡ [] → ((t : s.Transaction) → o ≡ Some t → t.params ≡ []) → is_light_body w o ≡ true → IsLightBody w o args
+unfolding words
+light_body w None args none no_params e = tt
+light_body w (Some t) args none no_params e =
+    subst (λ (ps : List RangeDecl). are_light limit (context (schema_of w) (map (λ p. p.name.name) ps) args) t.body (first_weights (schema_of w)) ≡ true) (sym (no_params t refl)) (subst (λ l. are_light limit (context (schema_of w) [] l) t.body (first_weights (schema_of w)) ≡ true) (sym none) e)
+
+built_at : (ts : List s.Transaction) (k : ℕ) (t : s.Transaction) → All IsBuiltTransaction ts → slice_get ts k ≡ Some t → t.params ≡ []
+built_at [] k t h e = cc
+built_at (u ∷ ts) zero t h e =
+    let same : u ≡ t = some_is u t e in
+    subst (λ (v : s.Transaction). v.params ≡ []) same (all_head IsBuiltTransaction u ts h).parameters
+  where
+    some_is : (u t : s.Transaction) → Some u ≡ Some t → u ≡ t
+    some_is u t e = cc
+built_at (u ∷ ts) (suc k) t h e = built_at ts k t (all_tail IsBuiltTransaction u ts h) e
+
+light_call : (w : s.Workload) (c : s.Call) → IsBuilt w → c.args ≡ [] → call_faults w.transactions ((scope_of w).item c.name.name) c ≡ [] → is_light_body w (called w c.name) ≡ true → IsLightCall w c
+unfolding words
+light_call w c built none e light =
+    let k : (k : ℕ) × ((scope_of w).item c.name.name ≡ Some (I.Transaction k)) = names_one w c ((scope_of w).item c.name.name) e in
+    let is : transaction_named w c.name.name ≡ slice_get w.transactions k.0 = named-is w c.name.name k.0 k.1 in
+    let body : is_light_body w (slice_get w.transactions k.0) ≡ true = ap (λ g. is_light_body w (transaction_at w g)) (sym k.1) ∙ light in
+    subst (λ o. IsLightBody w o (arguments c)) (sym is) (light_body w (slice_get w.transactions k.0) (arguments c) (ap (λ l. map (λ a. a.value) l) none) (λ t h. built_at w.transactions k.0 t built.transactions h) body)
+
+abbrev no_args : s.Call → Type 0
+no_args call = call.args ≡ []
+
+abbrev none_of : s.Client → Type 0
+none_of client = All (λ call. call.args ≡ []) client.calls
+
+abbrev sited : s.Call → ℤ → SitedCall
+sited c site = record { name = c.name; site = site }
+
+module _ (w : s.Workload) (built : IsBuilt w) where
+  light_calls : (site : ℤ) (calls : List s.Call) → All (λ call. call.args ≡ []) calls → flat_map (λ (c : s.Call). call_faults w.transactions ((scope_of w).item c.name.name) c) calls ≡ [] → flat_map (heavy_call w) (map (λ (c : s.Call). sited c site) calls) ≡ [] → All (IsLightCall w) calls
+  unfolding words
+  light_calls site [] none e heavy = all_none (IsLightCall w)
+  light_calls site (c ∷ calls) none e heavy =
+      let rest : List Fault = flat_map (heavy_call w) (map (λ (c : s.Call). sited c site) calls) in
+      let more : List Fault = flat_map (λ (c : s.Call). call_faults w.transactions ((scope_of w).item c.name.name) c) calls in
+      let first : List Fault = call_faults w.transactions ((scope_of w).item c.name.name) c in
+      let light : is_light_body w (called w c.name) ≡ true = no_fault F.Weight c.name (is_light_body w (called w c.name)) (none_first (heavy_call w (sited c site)) rest heavy) in
+      all_more (IsLightCall w) c calls (light_call w c built (all_head no_args c calls none) (none_first first more e) light) (light_calls site calls (all_tail no_args c calls none) (none_second first more e) (none_second (heavy_call w (sited c site)) rest heavy))
+
+  light_clients : (cs : List s.Client) → All (λ (client : s.Client). All (λ call. call.args ≡ []) client.calls) cs → flat_map (client_faults w.sites (scope_of w) w.transactions) cs ≡ [] → flat_map (heavy_call w) (flat_map sited_calls_of cs) ≡ [] → All (λ client. All (IsLightCall w) client.calls) cs
+  unfolding words
+  light_clients [] none e heavy = all_none (λ client. All (IsLightCall w) client.calls)
+  light_clients (c ∷ cs) none e heavy =
+      let faults : List Fault = flat_map (λ (call : s.Call). call_faults w.transactions ((scope_of w).item call.name.name) call) c.calls in
+      let sites : List Fault = site_faults w.sites c.site in
+      let more : List Fault = flat_map (client_faults w.sites (scope_of w) w.transactions) cs in
+      let split : flat_map (heavy_call w) (sited_calls_of c) ++ flat_map (heavy_call w) (flat_map sited_calls_of cs) ≡ [] = sym (flat_map-append (heavy_call w) (sited_calls_of c) (flat_map sited_calls_of cs)) ∙ heavy in
+      all_more (λ (client : s.Client). All (IsLightCall w) client.calls) c cs (light_calls c.site.value c.calls (all_head none_of c cs none) (none_first faults sites (none_first (faults ++ sites) more e)) (none_first (flat_map (heavy_call w) (sited_calls_of c)) (flat_map (heavy_call w) (flat_map sited_calls_of cs)) split)) (light_clients cs (all_tail none_of c cs none) (none_second (faults ++ sites) more e) (none_second (flat_map (heavy_call w) (sited_calls_of c)) (flat_map (heavy_call w) (flat_map sited_calls_of cs)) split))
+
+pub all-light : (w : s.Workload) → IsBuilt w → declared_faults w ≡ [] → weight_faults w ≡ [] → All (λ client. All (IsLightCall w) client.calls) w.clients
+unfolding words
+all-light w built e heavy = light_clients w built w.clients built.arguments (none_second (flat_map object_faults w.objects ++ flat_map (of_transaction (scope_of w)) w.transactions) (flat_map (client_faults w.sites (scope_of w) w.transactions) w.clients) e) heavy

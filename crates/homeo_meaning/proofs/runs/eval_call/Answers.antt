@@ -1,0 +1,45 @@
+use Rattle.std.proofs.Common.{◌≡◌, [], ap, sym, subst, ◌∙◌}
+use Rattle.std.specs.Prelude.{IfOk, OnOk, slice_get}
+use Rattle.homeo_syntax.specs.SourceView.{plain_call, plain_workload}
+use Rattle.homeo_syntax.specs.Key.{words as tree_words}
+use Rattle.homeo_meaning.specs.Built.{IsBuilt}
+use Rattle.homeo_meaning.specs.Acceptance.{IsLightBody}
+use Rattle.homeo_meaning.specs.Serial.{call_of, outcome_at}
+use Rattle.homeo_meaning.proofs.Outcomes.{placed_call}
+use Rattle.homeo_meaning.proofs.Sound.{sound}
+use Rattle.homeo_meaning.proofs.runs.eval_call.Goals as goal
+
+pub run_at-requires-clause-built : goal.run_at-requires-clause-built
+run_at-requires-clause-built c =
+    subst (λ w. IsBuilt (plain_workload w)) (sym c.workload-workload.ensures.value) (sound (plain_workload c.args.w.now) c.workload-workload.ensures.accepted).built
+
+pub run_at-requires-clause-light : goal.run_at-requires-clause-light
+unfolding tree_words
+run_at-requires-clause-light c =
+    let value = c.workload-workload.ensures.value in
+    let w = plain_workload c.args.w.now in
+    let made = ap (λ w. call_of (plain_workload w) c.args.call) (sym value) ∙ c.find_call-called.ensures in
+    let call = placed_call w c.args.call (plain_call c.find_call-called.result.now) c.args.numbering.now c.transaction-place.result (sound w c.workload-workload.ensures.accepted) made c.requires.numbering c.transaction-place.ensures in
+    subst (λ w. IsLightBody (plain_workload w) (slice_get (plain_workload w).transactions c.transaction-place.result) []) (sym value) call.light
+
+pub returns-clause-prints : goal.returns-clause-prints
+unfolding tree_words
+returns-clause-prints c =
+    let value = c.workload-workload.ensures.value in
+    let w = plain_workload c.args.w.now in
+    let made = ap (λ w. call_of (plain_workload w) c.args.call) (sym value) ∙ c.find_call-called.ensures in
+    let call = placed_call w c.args.call (plain_call c.find_call-called.result.now) c.args.numbering.now c.transaction-place.result (sound w c.workload-workload.ensures.accepted) made c.requires.numbering c.transaction-place.ensures in
+    let base = c.args.database.now.items in
+    let own = ap (λ w. (outcome_at (plain_workload w) (slice_get (plain_workload w).transactions c.transaction-place.result) [] base).prints) value in
+    subst (λ v. IfOk c.run_at.result (λ p. p.items ≡ v)) (own ∙ ap (λ o. o.prints) (call.outcome base)) c.run_at.ensures.prints
+
+pub returns-clause-database : goal.returns-clause-database
+unfolding tree_words
+returns-clause-database c =
+    let value = c.workload-workload.ensures.value in
+    let w = plain_workload c.args.w.now in
+    let made = ap (λ w. call_of (plain_workload w) c.args.call) (sym value) ∙ c.find_call-called.ensures in
+    let call = placed_call w c.args.call (plain_call c.find_call-called.result.now) c.args.numbering.now c.transaction-place.result (sound w c.workload-workload.ensures.accepted) made c.requires.numbering c.transaction-place.ensures in
+    let base = c.args.database.now.items in
+    let own = ap (λ w. (outcome_at (plain_workload w) (slice_get (plain_workload w).transactions c.transaction-place.result) [] base).database) value in
+    subst (λ v. OnOk c.run_at.result (c.run_at.new.base.items ≡ v)) (own ∙ ap (λ o. o.database) (call.outcome base)) c.run_at.ensures.database

@@ -1,0 +1,95 @@
+-- All faults of a workload, and the one that decides.
+use Rattle.std.specs.Prelude.{◌≡◌, ◌⊎◌, ℕ, Bool, false, ◌&&◌, ◌||◌, List, [], ◌∷◌, ◌++◌, map, ◌==◌, nat_lt}
+use Rattle.std.specs.List.{flat_map}
+use Rattle.homeo_syntax.specs.Source as s
+use Rattle.homeo_syntax.specs.declared.workload.Refusal.{Refusal}
+use Rattle.homeo_meaning.specs.Key.{words}
+use Rattle.homeo_meaning.specs.Bindings.{Scope}
+use Rattle.homeo_meaning.specs.TransactionRules.{each, transaction_faults}
+use Rattle.homeo_meaning.specs.GlobalNames.{global_names, duplicate, scope_of}
+use Rattle.homeo_meaning.specs.NumberRules.{object_faults, parameter_bounds, limit_faults}
+use Rattle.homeo_meaning.specs.CallRules.{client_faults, schedule_faults}
+use Rattle.homeo_meaning.specs.SizeRules.{unbuilt_faults, print_faults, weight_faults}
+use Rattle.homeo_meaning.specs.declared.call.Purpose.{Purpose}
+use Rattle.homeo_meaning.specs.declared.rules.Fault.{Fault}
+use Rattle.homeo_meaning.specs.declared.rules.Phase.{Phase}
+use Rattle.homeo_meaning.specs.declared.rules.Phase.TheVariants as P
+
+-- the bounds of its parameters, and its names
+abbrev pub of_transaction : Scope → s.Transaction → List Fault
+unfolding words
+of_transaction scope t = flat_map parameter_bounds t.params ++ transaction_faults scope t
+
+-- bounds and names, of what is declared and called
+abbrev pub declared_faults : s.Workload → List Fault
+unfolding words
+declared_faults w =
+    flat_map object_faults w.objects
+    ++ flat_map (of_transaction (scope_of w)) w.transactions
+    ++ flat_map (client_faults w.sites (scope_of w) w.transactions) w.clients
+
+-- all faults of a workload that is read for a purpose
+abbrev pub faults : Purpose → s.Workload → List Fault
+unfolding words
+faults purpose w =
+    unbuilt_faults w
+    ++ each duplicate (map (λ d. d.name) (global_names w))
+    ++ declared_faults w
+    ++ limit_faults w
+    ++ schedule_faults purpose (scope_of w) w.clients w.end w.schedule
+    ++ print_faults w
+    ++ weight_faults w
+
+-- ---- the fault that decides
+-- the place of a phase in the order in which they are tried
+abbrev pub rank : Phase → ℕ
+unfolding words
+rank P.Unbuilt = 0
+rank P.Duplicate = 1
+rank P.Unknown = 2
+rank P.Kind = 3
+rank P.Arity = 4
+rank P.Bounds = 5
+rank P.Limits = 6
+rank P.Schedule = 7
+rank P.Size = 8
+rank P.Weight = 9
+
+-- the number of a phase's refusals
+abbrev pub code : Phase → ℕ
+unfolding words
+code P.Unbuilt = 0
+code P.Duplicate = 5
+code P.Unknown = 6
+code P.Kind = 7
+code P.Arity = 8
+code P.Bounds = 9
+code P.Limits = 13
+code P.Schedule = 14
+code P.Size = 11
+code P.Weight = 10
+
+-- an earlier phase, or in one phase a lesser offset
+abbrev pub comes_before : Fault → Fault → Bool
+unfolding words
+comes_before f g = nat_lt (rank f.phase) (rank g.phase) || ((rank f.phase == rank g.phase) && nat_lt f.offset g.offset)
+
+abbrev pub IsFaultIn : Fault → List Fault → Type 0
+IsFaultIn f [] = ⊥
+IsFaultIn f (g ∷ gs) = (g ≡ f) ⊎ IsFaultIn f gs
+
+-- none of an earlier phase, and none in its own phase at a lesser offset
+abbrev pub NoneBefore : Fault → List Fault → Type 0
+NoneBefore f [] = Unit {0}
+NoneBefore f (g ∷ gs) = (comes_before g f ≡ false) × NoneBefore f gs
+
+pub record Decides (all : List Fault) (f : Fault) : Type 0 where
+  pub there : IsFaultIn f all
+  pub first : NoneBefore f all
+
+-- a refusal has the code and the offset of the fault that decides
+pub record IsRefusedBy (purpose : Purpose) (w : s.Workload) (r : Refusal) : Type 0 where
+  pub fault : Fault
+  pub decides : Decides (faults purpose w) fault
+  pub same_code : r.code ≡ code fault.phase
+  pub same_offset : r.offset ≡ fault.offset

@@ -1,0 +1,98 @@
+-- The rules of bounds, and of how much may be declared.
+use Rattle.std.specs.Prelude.{ℕ, ◌+◌, slice_get, ℤ, int_lt, int_le, pos, neg_ℤ, Bool, ◌&&◌, ◌||◌, List, [], ◌∷◌, ◌++◌, length, Option, Some, None, ◌==◌, if◌then◌else◌}
+use Rattle.std.specs.Ordering.{int_eq}
+use Rattle.std.specs.List.{list_any}
+use Rattle.homeo_syntax.specs.Source as s
+use Rattle.homeo_syntax.specs.declared.phrase.Ident.{Ident}
+use Rattle.homeo_syntax.specs.declared.phrase.Number.{Number}
+use Rattle.homeo_syntax.specs.declared.workload.RangeDecl.{RangeDecl}
+use Rattle.homeo_syntax.specs.declared.workload.ObjectDecl.{ObjectDecl}
+use Rattle.homeo_meaning.specs.Key.{words}
+use Rattle.homeo_meaning.specs.NameRules.{when, fault, number_fault}
+use Rattle.homeo_meaning.specs.TransactionRules.{each}
+use Rattle.homeo_meaning.specs.GlobalNames.{sited_calls}
+use Rattle.homeo_meaning.specs.declared.rules.SitedCall.{SitedCall}
+use Rattle.homeo_meaning.specs.declared.rules.Fault.{Fault}
+use Rattle.homeo_meaning.specs.declared.rules.Phase.TheVariants.{Bounds, Limits}
+
+-- ---- bounds
+-- no bound is larger than 10^12, with or without sign
+abbrev pub largest_bound : ℤ
+largest_bound = pos 1000000000000
+
+abbrev pub too_large : Number → List Fault
+unfolding words
+too_large n = when (int_lt n.value (neg_ℤ largest_bound) || int_lt largest_bound n.value) (number_fault Bounds n)
+
+abbrev pub crossed : Number → Number → List Fault
+unfolding words
+crossed lo hi = when (int_lt hi.value lo.value) (number_fault Bounds lo)
+
+abbrev pub range_faults : Number → Number → List Fault
+unfolding words
+range_faults lo hi = too_large lo ++ too_large hi ++ crossed lo hi
+
+abbrev pub outside : Number → Number → Number → List Fault
+unfolding words
+outside lo hi n = when (int_lt n.value lo.value || int_lt hi.value n.value) (number_fault Bounds n)
+
+abbrev pub object_faults : ObjectDecl → List Fault
+unfolding words
+object_faults d = range_faults d.lo d.hi ++ outside d.lo d.hi d.start
+
+abbrev pub parameter_bounds : RangeDecl → List Fault
+unfolding words
+parameter_bounds d = range_faults d.lo d.hi
+
+-- where there is an argument, it is within the bounds of its parameter
+abbrev pub argument_outside : RangeDecl → Option Number → List Fault
+unfolding words
+argument_outside d None = []
+argument_outside d (Some a) = outside d.lo d.hi a
+
+-- of the parameters from number i on
+abbrev pub arguments_outside : ℕ → List RangeDecl → List Number → List Fault
+unfolding words
+arguments_outside i [] args = []
+arguments_outside i (d ∷ ds) args = argument_outside d (slice_get args i) ++ arguments_outside (i + 1) ds args
+
+-- a client stands at a site that there is
+abbrev pub site_faults : Number → Number → List Fault
+unfolding words
+site_faults sites site = when (int_le sites.value site.value) (number_fault Bounds site)
+
+-- ---- limits
+-- from 1 to 16 sites
+abbrev pub site_count_faults : Number → List Fault
+unfolding words
+site_count_faults n = when (int_lt n.value (pos 1) || int_lt (pos 16) n.value) (number_fault Limits n)
+
+-- the one that comes after as many as there may be
+abbrev pub passes_limit : {A : Type 0} → ℕ → (A → Ident) → List A → A → List Fault
+unfolding words
+passes_limit most name before x = when (length before == most) (fault Limits (name x))
+
+abbrev pub same_ground : SitedCall → SitedCall → Bool
+unfolding words
+same_ground u v = (u.name.name == v.name.name) && int_eq u.site v.site
+
+-- those kept, and then each that is the same ground call as none before it
+abbrev pub distinct_after : List SitedCall → List SitedCall → List SitedCall
+unfolding words
+distinct_after kept [] = kept
+distinct_after kept (u ∷ us) = distinct_after (if list_any (same_ground u) kept then kept else kept ++ u ∷ []) us
+
+-- the first call of each ground call: without arguments, a transaction and a site
+abbrev pub ground_calls : s.Workload → List SitedCall
+unfolding words
+ground_calls w = distinct_after [] (sited_calls w)
+
+abbrev pub limit_faults : s.Workload → List Fault
+unfolding words
+limit_faults w =
+    site_count_faults w.sites
+    ++ each (passes_limit 1024 (λ (d : ObjectDecl). d.name)) w.objects
+    ++ each (passes_limit 256 (λ (t : s.Transaction). t.name)) w.transactions
+    ++ each (passes_limit 64 (λ (c : s.Client). c.name)) w.clients
+    ++ each (passes_limit 20000 (λ (c : SitedCall). c.name)) (sited_calls w)
+    ++ each (passes_limit 1024 (λ (c : SitedCall). c.name)) (ground_calls w)

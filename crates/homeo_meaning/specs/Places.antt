@@ -1,0 +1,72 @@
+-- A transaction's text as the list of its places of names, in the order of the text.
+use Rattle.std.specs.Prelude.{List, [], ◌∷◌, ◌++◌}
+use Rattle.homeo_syntax.specs.declared.phrase.Ident.{Ident}
+use Rattle.homeo_syntax.specs.Source.{Expr, Exprs, Literal, Name, Read, Sum, Product, Neg, Field, Row, Count, Total, NoExpr, MoreExpr, Test, Cond, True, Not, Comparison, NoTest, MoreTest, Command, Commands, Skip, Assign, Write, Print, If, Block, SetField, SetRow, Foreach, Insert, Delete, Update, NoCommand, MoreCommand}
+use Rattle.homeo_meaning.specs.Key.{words}
+use Rattle.homeo_meaning.specs.Bindings as b
+
+-- what stands at a place
+pub data Mark : Type 0 where
+  TakesObject : (x : Ident) → Mark
+  -- a parameter or a temporary
+  TakesValue : (x : Ident) → Mark
+  -- the end of a command that assigns
+  Assigns : (t : Ident) → Mark
+
+-- with the row variables that hold it, the innermost first
+pub record Place : Type 0 where
+  pub rows : List b.Row
+  pub mark : Mark
+
+abbrev pub at : List b.Row → Mark → Place
+at rows m = record { rows = rows; mark = m }
+
+-- forms over relations have no places yet: a text that has one is refused before its names are judged
+abbrev mutual
+  unfolding words
+
+  pub in_expr : List b.Row → Expr → List Place
+  in_expr rows (Literal n) = []
+  in_expr rows (Name x) = at rows (TakesValue x) ∷ []
+  in_expr rows (Read x) = at rows (TakesObject x) ∷ []
+  in_expr rows (Sum es) = in_exprs rows es
+  in_expr rows (Product es) = in_exprs rows es
+  in_expr rows (Neg e) = in_expr rows e
+  in_expr rows (Field q e f) = []
+  in_expr rows (Row r f) = []
+  in_expr rows (Count r q c) = []
+  in_expr rows (Total r f q c) = []
+
+  pub in_exprs : List b.Row → Exprs → List Place
+  in_exprs rows NoExpr = []
+  in_exprs rows (MoreExpr e es) = in_expr rows e ++ in_exprs rows es
+
+  pub in_test : List b.Row → Test → List Place
+  in_test rows True = []
+  in_test rows (Not c) = in_cond rows c
+  in_test rows (Comparison op d e) = in_expr rows d ++ in_expr rows e
+
+  pub in_cond : List b.Row → Cond → List Place
+  in_cond rows NoTest = []
+  in_cond rows (MoreTest t c) = in_test rows t ++ in_cond rows c
+
+abbrev mutual
+  unfolding words
+
+  pub in_command : List b.Row → Command → List Place
+  in_command rows Skip = []
+  in_command rows (Assign t e) = in_expr rows e ++ at rows (Assigns t) ∷ []
+  in_command rows (Write x e) = at rows (TakesObject x) ∷ in_expr rows e
+  in_command rows (Print e) = in_expr rows e
+  in_command rows (If t c d) = in_cond rows t ++ in_command rows c ++ in_command rows d
+  in_command rows (Block cs) = in_commands rows cs
+  in_command rows (SetField q i f e) = []
+  in_command rows (SetRow r f e) = []
+  in_command rows (Foreach r q t cs) = []
+  in_command rows (Insert q fs t) = []
+  in_command rows (Delete r q t) = []
+  in_command rows (Update r q t f e) = []
+
+  pub in_commands : List b.Row → Commands → List Place
+  in_commands rows NoCommand = []
+  in_commands rows (MoreCommand c cs) = in_command rows c ++ in_commands rows cs
