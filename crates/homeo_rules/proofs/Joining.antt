@@ -1,0 +1,258 @@
+-- What the code finds of a whole workload, rule by rule.
+use Rattle.std.proofs.Common.{◌≡◌, ℕ, ◌+◌, true, List, [], ◌∷◌, ◌++◌, map, replicate, length, Option, Some, None, refl, sym, ap, subst, ◌∙◌}
+use Rattle.std.specs.Prelude.{slice_get}
+use Rattle.std.specs.List.{flat_map}
+use Rattle.homeo_syntax.specs.Key.{words as syntax_words}
+use Rattle.homeo_syntax.specs.Source as s
+use Rattle.homeo_syntax.specs.SourceView.{plain_relation, plain_transaction, plain_client, plain_schedule, plain_workload}
+use Rattle.homeo_syntax.specs.WellFormed.{Each, IsBelow, InSchedule, EachInCommands, IsWellFormed}
+use Rattle.homeo_syntax.specs.declared.phrase.Ident.{Ident}
+use Rattle.homeo_syntax.specs.declared.workload.ObjectDecl.{ObjectDecl}
+use Rattle.homeo_syntax.specs.declared.workload.RangeDecl.{RangeDecl}
+use Rattle.homeo_syntax.specs.declared.workload.RelationDecl.{RelationDecl}
+use Rattle.homeo_syntax.specs.declared.workload.Transaction.{Transaction}
+use Rattle.homeo_syntax.specs.declared.workload.Client.{Client}
+use Rattle.homeo_syntax.specs.declared.workload.Workload.{Workload}
+use Rattle.homeo_meaning.specs.Key.{words as meaning_words}
+use Rattle.homeo_meaning.specs.Bindings.{Scope}
+use Rattle.homeo_meaning.specs.TransactionRules.{each}
+use Rattle.homeo_meaning.specs.GlobalNames.{GlobalName, numbered_from, global_names, duplicate, scope_of, sited_calls, called}
+use Rattle.homeo_meaning.specs.NumberRules.{object_faults, site_count_faults, passes_limit, limit_faults, distinct_after}
+use Rattle.homeo_meaning.specs.CallRules.{client_faults, schedule_faults}
+use Rattle.homeo_meaning.specs.SizeRules.{unbuilt_relation, unbuilt_transaction, unbuilt_call, unbuilt_faults, prints_of, print_faults, weight_faults}
+use Rattle.homeo_meaning.specs.Faults.{of_transaction, declared_faults, faults}
+use Rattle.homeo_meaning.specs.Deciding.{keep_all}
+use Rattle.homeo_meaning.specs.declared.call.Purpose.{Purpose}
+use Rattle.homeo_meaning.specs.declared.rules.Fault.{Fault}
+use Rattle.homeo_meaning.specs.declared.rules.SitedCall.{SitedCall}
+use Rattle.homeo_meaning.specs.declared.rules.Item.{Item}
+use Rattle.homeo_meaning.specs.declared.rules.Item.TheVariants as I
+use Rattle.homeo_rules.specs.Key.{words}
+use Rattle.homeo_rules.specs.Scopes.{scope_with}
+use Rattle.homeo_rules.specs.Items.{Items, along_names}
+use Rattle.homeo_rules.specs.Listwise.{along_all}
+use Rattle.homeo_rules.specs.Within.{AreNamed}
+use Rattle.homeo_rules.specs.Callers.{client_faults_of, transaction_faults_of}
+use Rattle.homeo_rules.specs.Stages.{unbuilt_relation_of, unbuilt_transaction_of, unbuilt_client_of}
+use Rattle.homeo_rules.specs.Limited.{object_passing, transaction_passing, client_passing, call_passing, distinct_within, sited_of}
+use Rattle.homeo_rules.specs.Printing.{capped_prints, print_all}
+use Rattle.homeo_rules.specs.Weighing.{transaction_fits, heavy_fault}
+use Rattle.homeo_rules.specs.Decided.{NamesGlobals, is_decided, faults_with_names}
+use Rattle.homeo_rules.proofs.Steps.{keep_all-append}
+use Rattle.homeo_rules.proofs.Listing.{all-along, all-mapped}
+use Rattle.homeo_rules.proofs.First.{along, along-append, along-numbered, Along, table_is, NamesWithin}
+use Rattle.homeo_rules.proofs.Limiting.{passing, limit-is, transaction-plain, client-plain, call-plain, within, sited-plain}
+use Rattle.homeo_rules.proofs.Printings.{printed, counts-plain}
+use Rattle.homeo_rules.proofs.HeavyCalls.{heavy-calls, decided}
+
+-- ---- what can be run
+pub unbuilt-along : (w : Workload) (rs : List RelationDecl) (ts : List Transaction) (cs : List Client) → rs ≡ w.relations.items → ts ≡ w.transactions.items → cs ≡ w.clients.items → along_all unbuilt_client_of (along_all unbuilt_transaction_of (along_all unbuilt_relation_of None rs) ts) cs ≡ keep_all None (unbuilt_faults (plain_workload w))
+unfolding words meaning_words syntax_words
+unbuilt-along w rs ts cs er et ec =
+    let a : List Fault = flat_map unbuilt_relation (map plain_relation w.relations.items) in
+    let b : List Fault = flat_map unbuilt_transaction (map plain_transaction w.transactions.items) in
+    let c : List Fault = flat_map (λ (client : s.Client). flat_map unbuilt_call client.calls) (map plain_client w.clients.items) in
+    (λ i. along_all unbuilt_client_of (along_all unbuilt_transaction_of (along_all unbuilt_relation_of None (er i)) (et i)) (ec i))
+    ∙ sym (
+    keep_all-append None (a ++ b) c
+    ∙ all-mapped plain_client (λ (client : s.Client). flat_map unbuilt_call client.calls) (keep_all None (a ++ b)) w.clients.items
+    ∙ ap (λ o. along_all unbuilt_client_of o w.clients.items) (
+    keep_all-append None a b
+    ∙ all-mapped plain_transaction unbuilt_transaction (keep_all None a) w.transactions.items
+    ∙ ap (λ o. along_all unbuilt_transaction_of o w.transactions.items) (all-mapped plain_relation unbuilt_relation None w.relations.items)))
+
+-- ---- global names
+names-map : {A : Type 0} (n : ℕ) (name : A → Ident) (kind : ℕ → Item) (i : ℕ) (xs : List A) → Each (λ x. IsBelow n (name x)) xs → NamesWithin n (numbered_from kind i (map name xs))
+unfolding meaning_words syntax_words
+names-map n name kind i [] h = tt
+names-map n name kind i (x ∷ xs) h = (h.0, names-map n name kind (i + 1) xs h.1)
+
+both : (n : ℕ) (xs ys : List GlobalName) → NamesWithin n xs → NamesWithin n ys → NamesWithin n (xs ++ ys)
+both n [] ys h k = k
+both n (x ∷ xs) ys h k = (h.0, both n xs ys h.1 k)
+
+firsts : {A : Type 0} (P Q : A → Type 0) (xs : List A) → Each (λ x. P x × Q x) xs → Each P xs
+unfolding syntax_words
+firsts P Q [] h = tt
+firsts P Q (x ∷ xs) h = (h.0.0, firsts P Q xs h.1)
+
+transaction-names : (n : ℕ) (ts : List s.Transaction) → Each (λ (t : s.Transaction). IsBelow n t.name × Each (λ (p : RangeDecl). IsBelow n p.name) t.params × EachInCommands (IsBelow n) t.body) ts → Each (λ (t : s.Transaction). IsBelow n t.name) ts
+unfolding syntax_words
+transaction-names n [] h = tt
+transaction-names n (t ∷ ts) h = (h.0.0, transaction-names n ts h.1)
+
+all-named : (w : s.Workload) → IsWellFormed w → NamesWithin (length w.names) (global_names w)
+unfolding meaning_words syntax_words
+all-named w f =
+    let n : ℕ = length w.names in
+    let o = names-map n (λ (d : ObjectDecl). d.name) I.Object 0 w.objects f.named.objects in
+    let r = names-map n (λ (d : s.RelationDecl). d.name) I.Relation 0 w.relations (firsts _ _ w.relations f.named.relations) in
+    let t = names-map n (λ (d : s.Transaction). d.name) I.Transaction 0 w.transactions (transaction-names n w.transactions f.named.transactions) in
+    let c = names-map n (λ (d : s.Client). d.name) I.Client 0 w.clients (firsts _ _ w.clients f.named.clients) in
+    both n _ _ (both n _ _ (both n _ _ o r) t) c
+
+pub are-named : (n : ℕ) (ts : List Transaction) → Each (λ (t : s.Transaction). IsBelow n t.name × Each (λ (p : RangeDecl). IsBelow n p.name) t.params × EachInCommands (IsBelow n) t.body) (map plain_transaction ts) → AreNamed n ts
+unfolding words syntax_words
+are-named n [] h = tt
+are-named n (t ∷ ts) h = ((h.0.1, h.0.2), are-named n ts h.1)
+
+names-plain : {A B : Type 0} (view : A → B) (f : A → Ident) (g : B → Ident) → ((x : A) → g (view x) ≡ f x) → (xs : List A) → map f xs ≡ map g (map view xs)
+names-plain view f g e [] = refl
+names-plain view f g e (x ∷ xs) = λ i. sym (e x) i ∷ names-plain view f g e xs i
+
+pub entered-all : (w : Workload) (best : Option Fault) (n : ℕ) (t0 t1 t2 t3 t4 : Items) (os : List ObjectDecl) (rs : List RelationDecl) (ts : List Transaction) (cs : List Client) → IsWellFormed (plain_workload w) → n ≡ length w.names.items → t0 ≡ record { items = replicate n None; best = best } → os ≡ w.objects.items → rs ≡ w.relations.items → ts ≡ w.transactions.items → cs ≡ w.clients.items → t1 ≡ along_names (λ d. d.name) I.Object 0 t0 os → t2 ≡ along_names (λ d. d.name) I.Relation 0 t1 rs → t3 ≡ along_names (λ d. d.name) I.Transaction 0 t2 ts → t4 ≡ along_names (λ d. d.name) I.Client 0 t3 cs → NamesGlobals (plain_workload w) best t4
+unfolding words meaning_words syntax_words
+entered-all w best n t0 t1 t2 t3 t4 os rs ts cs formed en e0 eo er et ec e1 e2 e3 e4 =
+    let p : s.Workload = plain_workload w in
+    let start : Items = record { items = replicate (length w.names.items) None; best = best } in
+    let o : List GlobalName = numbered_from I.Object 0 (map (λ d. d.name) p.objects) in
+    let r : List GlobalName = numbered_from I.Relation 0 (map (λ d. d.name) p.relations) in
+    let t : List GlobalName = numbered_from I.Transaction 0 (map (λ d. d.name) p.transactions) in
+    let c : List GlobalName = numbered_from I.Client 0 (map (λ d. d.name) p.clients) in
+    let s0 : t0 ≡ start = e0 ∙ ap (λ k. record { items = replicate k None; best = best }) en in
+    let s1 : t1 ≡ along start o = e1 ∙ (λ i. along_names (λ d. d.name) I.Object 0 (s0 i) (eo i)) ∙ along-numbered (λ (d : ObjectDecl). d.name) I.Object 0 start w.objects.items in
+    let s2 : t2 ≡ along (along start o) r =
+    e2 ∙ (λ i. along_names (λ d. d.name) I.Relation 0 (s1 i) (er i)) ∙ along-numbered (λ (d : RelationDecl). d.name) I.Relation 0 (along start o) w.relations.items
+    ∙ ap (λ l. along (along start o) (numbered_from I.Relation 0 l)) (names-plain plain_relation (λ d. d.name) (λ d. d.name) (λ x. refl) w.relations.items) in
+    let s3 : t3 ≡ along (along (along start o) r) t =
+    e3 ∙ (λ i. along_names (λ d. d.name) I.Transaction 0 (s2 i) (et i)) ∙ along-numbered (λ (d : Transaction). d.name) I.Transaction 0 (along (along start o) r) w.transactions.items
+    ∙ ap (λ l. along (along (along start o) r) (numbered_from I.Transaction 0 l)) (names-plain plain_transaction (λ d. d.name) (λ d. d.name) (λ x. refl) w.transactions.items) in
+    let s4 : t4 ≡ along (along (along (along start o) r) t) c =
+    e4 ∙ (λ i. along_names (λ d. d.name) I.Client 0 (s3 i) (ec i)) ∙ along-numbered (λ (d : Client). d.name) I.Client 0 (along (along (along start o) r) t) w.clients.items
+    ∙ ap (λ l. along (along (along (along start o) r) t) (numbered_from I.Client 0 l)) (names-plain plain_client (λ d. d.name) (λ d. d.name) (λ x. refl) w.clients.items) in
+    let joined : along (along (along (along start o) r) t) c ≡ along start (global_names p) =
+    sym (along-append start ((o ++ r) ++ t) c ∙ ap (λ z. along z c) (along-append start (o ++ r) t ∙ ap (λ z. along z t) (along-append start o r))) in
+    let whole : Along (length w.names.items) [] start (along start (global_names p)) (global_names p) = table_is (length w.names.items) best (global_names p) (all-named p formed) in
+    let e : t4 ≡ along start (global_names p) = s4 ∙ joined in
+    record {
+      scope = ap (λ (u : Items). scope_with u.items) e ∙ (λ i. record { item = λ m. whole.agree m i });
+      kept = ap (λ (u : Items). u.best) e ∙ whole.best;
+    }
+
+-- ---- what is declared and called
+pub declared-along : (w : Workload) (sc : Scope) (best : Option Fault) (os : List ObjectDecl) (ts us : List Transaction) (cs : List Client) → sc ≡ scope_of (plain_workload w) → os ≡ w.objects.items → ts ≡ w.transactions.items → us ≡ w.transactions.items → cs ≡ w.clients.items → along_all (client_faults_of w.sites sc us) (along_all (transaction_faults_of sc) (along_all object_faults best os) ts) cs ≡ keep_all best (declared_faults (plain_workload w))
+unfolding words meaning_words syntax_words
+declared-along w sc best os ts us cs es eo et eu ec =
+    let p : s.Workload = plain_workload w in
+    let a : List Fault = flat_map object_faults w.objects.items in
+    let b : List Fault = flat_map (of_transaction (scope_of p)) p.transactions in
+    let c : List Fault = flat_map (client_faults w.sites (scope_of p) p.transactions) p.clients in
+    (λ i. along_all (client_faults_of w.sites (es i) (eu i)) (along_all (transaction_faults_of (es i)) (along_all object_faults best (eo i)) (et i)) (ec i))
+    ∙ sym (
+    keep_all-append best (a ++ b) c
+    ∙ all-mapped plain_client (client_faults w.sites (scope_of p) p.transactions) (keep_all best (a ++ b)) w.clients.items
+    ∙ ap (λ o. along_all (client_faults_of w.sites (scope_of p) w.transactions.items) o w.clients.items) (
+    keep_all-append best a b
+    ∙ all-mapped plain_transaction (of_transaction (scope_of p)) (keep_all best a) w.transactions.items
+    ∙ ap (λ o. along_all (transaction_faults_of (scope_of p)) o w.transactions.items) (all-along object_faults best w.objects.items)))
+
+-- ---- limits
+object-plain : (o : Option ObjectDecl) → passing (λ (d : ObjectDecl). d.name) o ≡ object_passing o
+object-plain None = refl
+object-plain (Some d) = refl
+
+pub limits-along : (w : Workload) (best : Option Fault) (os : List ObjectDecl) (ts : List Transaction) (cs : List Client) (calls : List SitedCall) → os ≡ w.objects.items → ts ≡ w.transactions.items → cs ≡ w.clients.items → calls ≡ sited_calls (plain_workload w) → keep_all (keep_all (keep_all (keep_all (keep_all (keep_all best (site_count_faults w.sites)) (object_passing (slice_get os 1024))) (transaction_passing (slice_get ts 256))) (client_passing (slice_get cs 64))) (call_passing (slice_get calls 20000))) (call_passing (slice_get (distinct_within 1024 [] calls) 1024)) ≡ keep_all best (limit_faults (plain_workload w))
+unfolding words meaning_words syntax_words
+limits-along w best os ts cs calls eo et ec el =
+    let p : s.Workload = plain_workload w in
+    let a : List Fault = site_count_faults w.sites in
+    let b : List Fault = each (passes_limit 1024 (λ (d : ObjectDecl). d.name)) p.objects in
+    let c : List Fault = each (passes_limit 256 (λ (t : s.Transaction). t.name)) p.transactions in
+    let d : List Fault = each (passes_limit 64 (λ (c : s.Client). c.name)) p.clients in
+    let f : List Fault = each (passes_limit 20000 (λ (c : SitedCall). c.name)) (sited_calls p) in
+    let g : List Fault = each (passes_limit 1024 (λ (c : SitedCall). c.name)) (distinct_after [] (sited_calls p)) in
+    let eb : object_passing (slice_get os 1024) ≡ b = ap (λ l. object_passing (slice_get l 1024)) eo ∙ sym (limit-is 1024 (λ (d : ObjectDecl). d.name) p.objects ∙ object-plain (slice_get p.objects 1024)) in
+    let ecc : transaction_passing (slice_get ts 256) ≡ c = ap (λ l. transaction_passing (slice_get l 256)) et ∙ sym (limit-is 256 (λ (t : s.Transaction). t.name) p.transactions ∙ transaction-plain w.transactions.items 256) in
+    let ed : client_passing (slice_get cs 64) ≡ d = ap (λ l. client_passing (slice_get l 64)) ec ∙ sym (limit-is 64 (λ (c : s.Client). c.name) p.clients ∙ client-plain w.clients.items 64) in
+    let ef : call_passing (slice_get calls 20000) ≡ f = ap (λ l. call_passing (slice_get l 20000)) el ∙ sym (limit-is 20000 (λ (c : SitedCall). c.name) (sited_calls p) ∙ call-plain (slice_get (sited_calls p) 20000)) in
+    let eg : call_passing (slice_get (distinct_within 1024 [] calls) 1024) ≡ g =
+    ap (λ l. call_passing (slice_get (distinct_within 1024 [] l) 1024)) el
+    ∙ ap call_passing (within 1024 (sited_calls p) [])
+    ∙ sym (limit-is 1024 (λ (c : SitedCall). c.name) (distinct_after [] (sited_calls p)) ∙ call-plain (slice_get (distinct_after [] (sited_calls p)) 1024)) in
+    (λ i. keep_all (keep_all (keep_all (keep_all (keep_all (keep_all best a) (eb i)) (ecc i)) (ed i)) (ef i)) (eg i))
+    ∙ sym (
+    keep_all-append best (a ++ b ++ c ++ d ++ f) g
+    ∙ ap (λ o. keep_all o g) (
+    keep_all-append best (a ++ b ++ c ++ d) f
+    ∙ ap (λ o. keep_all o f) (
+    keep_all-append best (a ++ b ++ c) d
+    ∙ ap (λ o. keep_all o d) (
+    keep_all-append best (a ++ b) c
+    ∙ ap (λ o. keep_all o c) (keep_all-append best a b)))))
+
+-- ---- prints and weights
+pub prints-along : (w : Workload) (sc : Scope) (best : Option Fault) (ts : List Transaction) (calls : List SitedCall) → sc ≡ scope_of (plain_workload w) → ts ≡ w.transactions.items → calls ≡ sited_calls (plain_workload w) → (print_all sc (map capped_prints ts) (record { total = 0; best = best }) calls).best ≡ keep_all best (print_faults (plain_workload w))
+unfolding meaning_words syntax_words
+prints-along w sc best ts calls es et el =
+    let p : s.Workload = plain_workload w in
+    (λ i. (print_all (es i) (map capped_prints (et i)) (record { total = 0; best = best }) (el i)).best)
+    ∙ printed (scope_of p) (map capped_prints w.transactions.items) (λ x. prints_of (called p x)) (λ x. counts-plain p w.transactions.items refl ((scope_of p).item x.name)) best (sited_calls p)
+
+pub weights-along : (w : Workload) (sc : Scope) (n : ℕ) (best : Option Fault) (os : List ObjectDecl) (ts : List Transaction) (calls : List SitedCall) → IsWellFormed (plain_workload w) → n ≡ length w.names.items → sc ≡ scope_of (plain_workload w) → os ≡ w.objects.items → ts ≡ w.transactions.items → calls ≡ sited_calls (plain_workload w) → along_all (heavy_fault sc (map (transaction_fits sc os n) ts)) best calls ≡ keep_all best (weight_faults (plain_workload w))
+unfolding syntax_words
+weights-along w sc n best os ts calls formed en es eo et el =
+    let p : s.Workload = plain_workload w in
+    (λ i. along_all (heavy_fault (es i) (map (transaction_fits (es i) (eo i) (en i)) (et i))) best (el i))
+    ∙ heavy-calls p (length w.names.items) w.transactions.items best (sited_calls p) refl (are-named (length w.names.items) w.transactions.items formed.named.transactions) refl
+
+pub skipped : (w : s.Workload) (best : Option Fault) → is_decided best ≡ true → best ≡ keep_all best (weight_faults w)
+unfolding meaning_words
+skipped w None h = cc
+skipped w (Some f) h = sym (decided w f h (sited_calls w))
+
+-- ---- the names of what is read
+pub order-named : (w : Workload) (n : ℕ) → IsWellFormed (plain_workload w) → n ≡ length w.names.items → InSchedule (IsBelow n) (plain_schedule w.schedule)
+unfolding syntax_words
+order-named w n formed e = subst (λ k. InSchedule (IsBelow k) (plain_schedule w.schedule)) (sym e) formed.named.schedule
+
+pub transactions-named : (w : Workload) (n : ℕ) (ts : List Transaction) → IsWellFormed (plain_workload w) → n ≡ length w.names.items → ts ≡ w.transactions.items → AreNamed n ts
+unfolding syntax_words
+transactions-named w n ts formed en et =
+    subst (λ l. AreNamed n l) (sym et) (subst (λ k. AreNamed k w.transactions.items) (sym en) (are-named (length w.names.items) w.transactions.items formed.named.transactions))
+
+pub schedule-along : (w : Workload) (purpose : Purpose) (sc : Scope) (best : Option Fault) (cs : List Client) → sc ≡ scope_of (plain_workload w) → cs ≡ w.clients.items → keep_all best (schedule_faults purpose sc (map plain_client cs) w.end (plain_schedule w.schedule)) ≡ keep_all best (schedule_faults purpose (scope_of (plain_workload w)) (plain_workload w).clients (plain_workload w).end (plain_workload w).schedule)
+unfolding syntax_words
+schedule-along w purpose sc best cs es ec = λ i. keep_all best (schedule_faults purpose (es i) (map plain_client (ec i)) w.end (plain_schedule w.schedule))
+
+pub calls-are : (w : Workload) (calls : List SitedCall) (cs : List Client) → calls ≡ sited_of cs → cs ≡ w.clients.items → calls ≡ sited_calls (plain_workload w)
+unfolding meaning_words syntax_words
+calls-are w calls cs e ec = e ∙ ap sited_of ec ∙ sited-plain w.clients.items
+
+pub with-names : (purpose : Purpose) (w : s.Workload) (best : Option Fault) → keep_all (keep_all (keep_all (keep_all (keep_all best (declared_faults w)) (limit_faults w)) (schedule_faults purpose (scope_of w) w.clients w.end w.schedule)) (print_faults w)) (weight_faults w) ≡ keep_all best (faults_with_names purpose w)
+unfolding words
+with-names purpose w best =
+    let a = declared_faults w in
+    let b = limit_faults w in
+    let c = schedule_faults purpose (scope_of w) w.clients w.end w.schedule in
+    let d = print_faults w in
+    sym (
+    keep_all-append best (a ++ b ++ c ++ d) (weight_faults w)
+    ∙ ap (λ o. keep_all o (weight_faults w)) (
+    keep_all-append best (a ++ b ++ c) d
+    ∙ ap (λ o. keep_all o d) (
+    keep_all-append best (a ++ b) c
+    ∙ ap (λ o. keep_all o c) (keep_all-append best a b))))
+
+pub all-faults : (purpose : Purpose) (w : s.Workload) → keep_all (keep_all (keep_all None (unbuilt_faults w)) (each duplicate (map (λ d. d.name) (global_names w)))) (faults_with_names purpose w) ≡ keep_all None (faults purpose w)
+unfolding words meaning_words
+all-faults purpose w =
+    let u = unbuilt_faults w in
+    let n = each duplicate (map (λ (d : GlobalName). d.name) (global_names w)) in
+    let a = declared_faults w in
+    let b = limit_faults w in
+    let c = schedule_faults purpose (scope_of w) w.clients w.end w.schedule in
+    let d = print_faults w in
+    let h = weight_faults w in
+    let start = keep_all (keep_all None u) n in
+    sym (with-names purpose w start)
+    ∙ sym (
+    keep_all-append None (u ++ n ++ a ++ b ++ c ++ d) h
+    ∙ ap (λ o. keep_all o h) (
+    keep_all-append None (u ++ n ++ a ++ b ++ c) d
+    ∙ ap (λ o. keep_all o d) (
+    keep_all-append None (u ++ n ++ a ++ b) c
+    ∙ ap (λ o. keep_all o c) (
+    keep_all-append None (u ++ n ++ a) b
+    ∙ ap (λ o. keep_all o b) (
+    keep_all-append None (u ++ n) a
+    ∙ ap (λ o. keep_all o a) (keep_all-append None u n))))))

@@ -1,0 +1,17 @@
+pub mod Steps
+pub mod Tallied
+pub mod Weighings
+pub mod Walks
+pub mod Numbers
+pub mod Listing
+pub mod Printings
+pub mod Agrees
+pub mod Builds
+pub mod Limiting
+pub mod OneDecides
+pub mod Callings
+pub mod CappedWeights
+pub mod First
+pub mod HeavyCalls
+pub mod Joining
+pub mod Whole

@@ -1,0 +1,139 @@
+-- What comes after as much as there may be is the one that the rule finds.
+use Rattle.std.proofs.Common.{◌≡◌, ℕ, ℤ, zero, suc, ◌+◌, ◌<◌, ◌≤◌, Bool, true, false, cond, not, ◌&&◌, ◌==◌, List, [], ◌∷◌, ◌++◌, map, Option, Some, None, length, refl, sym, ap, ◌∙◌, arith}
+use Rattle.std.specs.Prelude.{slice_get, nat_le}
+use Rattle.std.specs.List.{list_any, flat_map}
+use Rattle.std.proofs.lemmas.Bool.Decides.{nat_tests}
+use Rattle.std.proofs.lemmas.List.{length-append}
+use Rattle.homeo_syntax.specs.Key.{words as syntax_words}
+use Rattle.homeo_syntax.specs.Source as p
+use Rattle.homeo_syntax.specs.SourceView.{plain_transaction, plain_client, plain_call}
+use Rattle.homeo_syntax.specs.declared.phrase.Ident.{Ident}
+use Rattle.homeo_syntax.specs.declared.phrase.Number.{Number}
+use Rattle.homeo_syntax.specs.declared.workload.Call.{Call}
+use Rattle.homeo_syntax.specs.declared.workload.Transaction.{Transaction}
+use Rattle.homeo_syntax.specs.declared.workload.Client.{Client}
+use Rattle.homeo_meaning.specs.Key.{words as meaning_words}
+use Rattle.homeo_meaning.specs.NameRules.{when, fault}
+use Rattle.homeo_meaning.specs.TransactionRules.{each, each_from}
+use Rattle.homeo_meaning.specs.GlobalNames.{sited_calls_of}
+use Rattle.homeo_meaning.specs.NumberRules.{passes_limit, same_ground, distinct_after}
+use Rattle.homeo_meaning.specs.declared.rules.Fault.{Fault}
+use Rattle.homeo_meaning.specs.declared.rules.SitedCall.{SitedCall}
+use Rattle.homeo_meaning.specs.declared.rules.Phase.TheVariants.{Limits}
+use Rattle.homeo_rules.specs.Limited.{transaction_passing, client_passing, call_passing, distinct_within, sited_at, sited_of}
+
+abbrev pub passing : {A : Type 0} → (A → Ident) → Option A → List Fault
+passing name None = []
+passing name (Some x) = fault Limits (name x)
+
+module _ {A : Type 0} (most : ℕ) (name : A → Ident) where
+  longer : (before : List A) (x : A) → length (before ++ x ∷ []) ≡ length before + 1
+  longer before x = length-append before (x ∷ [])
+
+  past : (before xs : List A) → most < length before → each_from (passes_limit most name) before xs ≡ []
+  unfolding meaning_words
+  past before [] h = refl
+  past before (x ∷ xs) h =
+      let other : (length before == most) ≡ false = grind (arith, nat_tests) in
+      let more : most < length (before ++ x ∷ []) = omega (arith, longer before x) in
+      ap (λ b. when b (fault Limits (name x)) ++ each_from (passes_limit most name) (before ++ x ∷ []) xs) other ∙ past (before ++ x ∷ []) xs more
+
+  finds : (before : List A) (k : ℕ) (xs : List A) → length before + k ≡ most → each_from (passes_limit most name) before xs ≡ passing name (slice_get xs k)
+  unfolding meaning_words
+  finds before k [] e = refl
+  finds before zero (x ∷ xs) e =
+      let same : (length before == most) ≡ true = grind (arith, nat_tests) in
+      let more : most < length (before ++ x ∷ []) = omega (arith, longer before x) in
+      ap (λ b. when b (fault Limits (name x)) ++ each_from (passes_limit most name) (before ++ x ∷ []) xs) same
+      ∙ ap (λ fs. fault Limits (name x) ++ fs) (past (before ++ x ∷ []) xs more)
+  finds before (suc k) (x ∷ xs) e =
+      let other : (length before == most) ≡ false = grind (arith, nat_tests) in
+      let next : length (before ++ x ∷ []) + k ≡ most = omega (arith, longer before x) in
+      ap (λ b. when b (fault Limits (name x)) ++ each_from (passes_limit most name) (before ++ x ∷ []) xs) other
+      ∙ finds (before ++ x ∷ []) k xs next
+
+  pub limit-is : (xs : List A) → each (passes_limit most name) xs ≡ passing name (slice_get xs most)
+  unfolding meaning_words
+  limit-is xs = finds [] most xs (omega arith)
+
+pub transaction-plain : (ts : List Transaction) (k : ℕ) → passing (λ (t : p.Transaction). t.name) (slice_get (map plain_transaction ts) k) ≡ transaction_passing (slice_get ts k)
+unfolding syntax_words
+transaction-plain [] k = refl
+transaction-plain (t ∷ ts) zero = refl
+transaction-plain (t ∷ ts) (suc k) = transaction-plain ts k
+
+pub client-plain : (cs : List Client) (k : ℕ) → passing (λ (c : p.Client). c.name) (slice_get (map plain_client cs) k) ≡ client_passing (slice_get cs k)
+unfolding syntax_words
+client-plain [] k = refl
+client-plain (c ∷ cs) zero = refl
+client-plain (c ∷ cs) (suc k) = client-plain cs k
+
+pub call-plain : (o : Option SitedCall) → passing (λ (c : SitedCall). c.name) o ≡ call_passing o
+call-plain None = refl
+call-plain (Some c) = refl
+
+-- ---- ground calls
+get-more : (kept : List SitedCall) (u : SitedCall) (i : ℕ) → i < length kept → slice_get (kept ++ u ∷ []) i ≡ slice_get kept i
+get-more [] u i h = absurd (omega arith)
+get-more (k ∷ kept) u zero h = refl
+get-more (k ∷ kept) u (suc i) h = get-more kept u i (omega arith)
+
+abbrev after_one : Bool → List SitedCall → SitedCall → List SitedCall
+after_one b kept u = cond b kept (kept ++ u ∷ [])
+
+longer_or : (b : Bool) (kept : List SitedCall) (u : SitedCall) → length kept ≤ length (after_one b kept u)
+longer_or true kept u = omega arith
+longer_or false kept u = omega (arith, length-append kept (u ∷ []))
+
+get-after : (b : Bool) (kept : List SitedCall) (u : SitedCall) (i : ℕ) → i < length kept → slice_get (after_one b kept u) i ≡ slice_get kept i
+get-after true kept u i h = refl
+get-after false kept u i h = get-more kept u i h
+
+stays : (kept us : List SitedCall) (i : ℕ) → i < length kept → slice_get (distinct_after kept us) i ≡ slice_get kept i
+unfolding meaning_words
+stays kept [] i h = refl
+stays kept (u ∷ us) i h =
+    let b : Bool = list_any (same_ground u) kept in
+    let more : length kept ≤ length (after_one b kept u) = longer_or b kept u in
+    stays (after_one b kept u) us i (omega arith) ∙ get-after b kept u i h
+
+full : (most : ℕ) (kept us : List SitedCall) → most < length kept → distinct_within most kept us ≡ kept
+full most kept [] h = refl
+full most kept (u ∷ us) h =
+    let no : nat_le (length kept) most ≡ false = grind (arith, nat_tests) in
+    ap (λ b. distinct_within most (cond (b && not (list_any (same_ground u) kept)) (kept ++ u ∷ []) kept) us) no ∙ full most kept us h
+
+flip : (b : Bool) (kept : List SitedCall) (u : SitedCall) → cond (not b) (kept ++ u ∷ []) kept ≡ after_one b kept u
+flip true kept u = refl
+flip false kept u = refl
+
+within_case : (most : ℕ) (kept us : List SitedCall) (u : SitedCall) → ((l : List SitedCall) → slice_get (distinct_within most l us) most ≡ slice_get (distinct_after l us) most) → (b : Bool) → nat_le (length kept) most ≡ b → slice_get (distinct_within most (cond (b && not (list_any (same_ground u) kept)) (kept ++ u ∷ []) kept) us) most ≡ slice_get (distinct_after (after_one (list_any (same_ground u) kept) kept u) us) most
+within_case most kept us u same true e =
+    ap (λ l. slice_get (distinct_within most l us) most) (flip (list_any (same_ground u) kept) kept u) ∙ same (after_one (list_any (same_ground u) kept) kept u)
+within_case most kept us u same false e =
+    let h : most < length kept = grind (arith, nat_tests) in
+    let b : Bool = list_any (same_ground u) kept in
+    let more : length kept ≤ length (after_one b kept u) = longer_or b kept u in
+    ap (λ l. slice_get l most) (full most kept us h) ∙ sym (stays (after_one b kept u) us most (omega arith) ∙ get-after b kept u most h)
+
+-- one more than so many is found among as many
+pub within : (most : ℕ) (us kept : List SitedCall) → slice_get (distinct_within most kept us) most ≡ slice_get (distinct_after kept us) most
+unfolding meaning_words
+within most [] kept = refl
+within most (u ∷ us) kept = within_case most kept us u (within most us) (nat_le (length kept) most) refl
+
+-- ---- calls with their sites
+abbrev record_of : p.Call → ℤ → SitedCall
+record_of call site = record { name = call.name; site = site }
+
+sited-at : (site : Number) (calls : List Call) → sited_at site.value calls ≡ map (λ (call : p.Call). record_of call site.value) (map plain_call calls)
+unfolding syntax_words
+sited-at site [] = refl
+sited-at site (c ∷ calls) = ap (λ l. record_of (plain_call c) site.value ∷ l) (sited-at site calls)
+
+pub sited-plain : (cs : List Client) → sited_of cs ≡ flat_map sited_calls_of (map plain_client cs)
+unfolding meaning_words syntax_words
+sited-plain [] = refl
+sited-plain (c ∷ cs) =
+    ap (λ l. l ++ sited_of cs) (sited-at c.site c.calls.items)
+    ∙ ap (λ l. map (λ (call : p.Call). record_of call c.site.value) (map plain_call c.calls.items) ++ l) (sited-plain cs)

@@ -1,0 +1,186 @@
+-- The places of each kind of phrase, and following them.
+use Rattle.std.proofs.Common.{◌≡◌, ℕ, ℤ, List, [], ◌∷◌, ◌++◌, drop, length, ◌≤◌, refl, sym, ap, ◌∙◌}
+use Rattle.std.proofs.lemmas.List.{drop_all}
+use Rattle.homeo_syntax.specs.Key.{words as syntax_words}
+use Rattle.homeo_syntax.specs.Listed.{Listed}
+use Rattle.homeo_syntax.specs.Source as s
+use Rattle.homeo_syntax.specs.SourceView.{plain_expr, plain_test, plain_cond, plain_command}
+use Rattle.homeo_syntax.specs.declared.phrase.Ident.{Ident}
+use Rattle.homeo_syntax.specs.declared.phrase.Compare.{Compare}
+use Rattle.homeo_syntax.specs.declared.phrase.Expr.{Expr}
+use Rattle.homeo_syntax.specs.declared.phrase.Expr as E
+use Rattle.homeo_syntax.specs.declared.phrase.Test.{Test}
+use Rattle.homeo_syntax.specs.declared.phrase.Cond.{Cond, out-Cond}
+use Rattle.homeo_syntax.specs.declared.command.Command.{Command}
+use Rattle.homeo_syntax.specs.declared.command.Command as C
+use Rattle.homeo_syntax.proofs.SourceViews as v
+use Rattle.homeo_syntax.proofs.SourceViews.{phrase_views, command_views}
+use Rattle.homeo_meaning.specs.Key.{words as meaning_words}
+use Rattle.homeo_meaning.specs.Bindings.{Row, Scope}
+use Rattle.homeo_meaning.specs.Places.{Place, at, in_expr, in_exprs, in_test, in_cond, in_command, in_commands, TakesObject, TakesValue, Assigns}
+use Rattle.homeo_rules.specs.Key.{words}
+use Rattle.homeo_rules.specs.Follow.{Standing, step, follow}
+use Rattle.homeo_rules.specs.Plain.{plain_exprs, plain_tests, plain_commands}
+use Rattle.homeo_rules.specs.Along.{along_exprs, along_tests, along_commands}
+
+-- ---- the views, with lists of phrases as one word each
+pub plain-Sum : (es : Listed Expr) → plain_expr (E.Sum es) ≡ s.Sum (plain_exprs es.items)
+unfolding words
+plain-Sum es = v.plain_Sum es
+
+pub plain-Product : (es : Listed Expr) → plain_expr (E.Product es) ≡ s.Product (plain_exprs es.items)
+unfolding words
+plain-Product es = v.plain_Product es
+
+pub plain-Cond : (c : Cond) → plain_cond c ≡ plain_tests (out-Cond c).tests.items
+unfolding words
+plain-Cond c = v.plain_conjunction c
+
+pub plain-Block : (cs : Listed Command) → plain_command (C.Block cs) ≡ s.Block (plain_commands cs.items)
+unfolding words
+plain-Block cs = v.plain_Block cs
+
+pub ruleset views = (v.plain_Literal, v.plain_Name, v.plain_Read, plain-Sum, plain-Product, v.plain_Neg, v.plain_Field, v.plain_Row, v.plain_Count, v.plain_Total, v.plain_True, v.plain_Not, v.plain_Compare, plain-Cond, v.plain_Skip, v.plain_Assign, v.plain_Write, v.plain_Print, v.plain_If, plain-Block, v.plain_SetField, v.plain_SetRow, v.plain_Foreach, v.plain_Insert, v.plain_Delete, v.plain_Update)
+
+-- ---- following
+pub follow-none : (s : Scope) (k : Standing) → follow s k [] ≡ k
+unfolding words
+follow-none s k = refl
+
+pub follow-one : (s : Scope) (k : Standing) (p : Place) (ps : List Place) → follow s k (p ∷ ps) ≡ follow s (step s k p) ps
+unfolding words
+follow-one s k p ps = refl
+
+pub follow-append : (s : Scope) (k : Standing) (ps qs : List Place) → follow s k (ps ++ qs) ≡ follow s (follow s k ps) qs
+unfolding words
+follow-append s k [] qs = refl
+follow-append s k (p ∷ ps) qs = follow-append s (step s k p) ps qs
+
+pub in-Literal : (rows : List Row) (n : ℤ) → in_expr rows (s.Literal n) ≡ []
+unfolding meaning_words
+in-Literal rows n = refl
+
+pub in-Name : (rows : List Row) (x : Ident) → in_expr rows (s.Name x) ≡ at rows (TakesValue x) ∷ []
+unfolding meaning_words
+in-Name rows x = refl
+
+pub in-Read : (rows : List Row) (x : Ident) → in_expr rows (s.Read x) ≡ at rows (TakesObject x) ∷ []
+unfolding meaning_words
+in-Read rows x = refl
+
+pub in-Sum : (rows : List Row) (es : s.Exprs) → in_expr rows (s.Sum es) ≡ in_exprs rows es
+unfolding meaning_words
+in-Sum rows es = refl
+
+pub in-Product : (rows : List Row) (es : s.Exprs) → in_expr rows (s.Product es) ≡ in_exprs rows es
+unfolding meaning_words
+in-Product rows es = refl
+
+pub in-Neg : (rows : List Row) (e : s.Expr) → in_expr rows (s.Neg e) ≡ in_expr rows e
+unfolding meaning_words
+in-Neg rows e = refl
+
+pub in-Field : (rows : List Row) (q : Ident) (e : s.Expr) (f : Ident) → in_expr rows (s.Field q e f) ≡ []
+unfolding meaning_words
+in-Field rows q e f = refl
+
+pub in-Row : (rows : List Row) (r f : Ident) → in_expr rows (s.Row r f) ≡ []
+unfolding meaning_words
+in-Row rows r f = refl
+
+pub in-Count : (rows : List Row) (r q : Ident) (c : s.Cond) → in_expr rows (s.Count r q c) ≡ []
+unfolding meaning_words
+in-Count rows r q c = refl
+
+pub in-Total : (rows : List Row) (r f q : Ident) (c : s.Cond) → in_expr rows (s.Total r f q c) ≡ []
+unfolding meaning_words
+in-Total rows r f q c = refl
+
+pub in-True : (rows : List Row) → in_test rows s.True ≡ []
+unfolding meaning_words
+in-True rows = refl
+
+pub in-Not : (rows : List Row) (c : s.Cond) → in_test rows (s.Not c) ≡ in_cond rows c
+unfolding meaning_words
+in-Not rows c = refl
+
+pub in-Comparison : (rows : List Row) (op : Compare) (d e : s.Expr) → in_test rows (s.Comparison op d e) ≡ in_expr rows d ++ in_expr rows e
+unfolding meaning_words
+in-Comparison rows op d e = refl
+
+pub in-Skip : (rows : List Row) → in_command rows s.Skip ≡ []
+unfolding meaning_words
+in-Skip rows = refl
+
+pub in-Assign : (rows : List Row) (t : Ident) (e : s.Expr) → in_command rows (s.Assign t e) ≡ in_expr rows e ++ at rows (Assigns t) ∷ []
+unfolding meaning_words
+in-Assign rows t e = refl
+
+pub in-Write : (rows : List Row) (x : Ident) (e : s.Expr) → in_command rows (s.Write x e) ≡ at rows (TakesObject x) ∷ in_expr rows e
+unfolding meaning_words
+in-Write rows x e = refl
+
+pub in-Print : (rows : List Row) (e : s.Expr) → in_command rows (s.Print e) ≡ in_expr rows e
+unfolding meaning_words
+in-Print rows e = refl
+
+pub in-If : (rows : List Row) (t : s.Cond) (c d : s.Command) → in_command rows (s.If t c d) ≡ in_cond rows t ++ in_command rows c ++ in_command rows d
+unfolding meaning_words
+in-If rows t c d = refl
+
+pub in-Block : (rows : List Row) (cs : s.Commands) → in_command rows (s.Block cs) ≡ in_commands rows cs
+unfolding meaning_words
+in-Block rows cs = refl
+
+pub in-SetField : (rows : List Row) (q : Ident) (i : s.Expr) (f : Ident) (e : s.Expr) → in_command rows (s.SetField q i f e) ≡ []
+unfolding meaning_words
+in-SetField rows q i f e = refl
+
+pub in-SetRow : (rows : List Row) (r f : Ident) (e : s.Expr) → in_command rows (s.SetRow r f e) ≡ []
+unfolding meaning_words
+in-SetRow rows r f e = refl
+
+pub in-Foreach : (rows : List Row) (r q : Ident) (t : s.Cond) (cs : s.Commands) → in_command rows (s.Foreach r q t cs) ≡ []
+unfolding meaning_words
+in-Foreach rows r q t cs = refl
+
+pub in-Insert : (rows : List Row) (q : Ident) (fs : List s.FieldValue) (t : Ident) → in_command rows (s.Insert q fs t) ≡ []
+unfolding meaning_words
+in-Insert rows q fs t = refl
+
+pub in-Delete : (rows : List Row) (r q : Ident) (t : s.Cond) → in_command rows (s.Delete r q t) ≡ []
+unfolding meaning_words
+in-Delete rows r q t = refl
+
+pub in-Update : (rows : List Row) (r q : Ident) (t : s.Cond) (f : Ident) (e : s.Expr) → in_command rows (s.Update r q t f e) ≡ []
+unfolding meaning_words
+in-Update rows r q t f e = refl
+
+-- a list of exprs
+pub along-exprs : (s : Scope) (k : Standing) (xs : List Expr) → follow s k (in_exprs [] (plain_exprs xs)) ≡ along_exprs s k xs
+unfolding words syntax_words meaning_words
+along-exprs s k [] = refl
+along-exprs s k (x ∷ xs) = follow-append s k (in_expr [] (plain_expr x)) (in_exprs [] (plain_exprs xs)) ∙ along-exprs s (follow s k (in_expr [] (plain_expr x))) xs
+
+pub end-exprs : (s : Scope) (k start : Standing) (xs : List Expr) (i : ℕ) → length xs ≤ i → along_exprs s k (drop i xs) ≡ along_exprs s start xs → k ≡ follow s start (in_exprs [] (plain_exprs xs))
+end-exprs s k start xs i h e = ap (along_exprs s k) (sym (drop_all i xs h)) ∙ e ∙ sym (along-exprs s start xs)
+
+-- a list of tests
+pub along-tests : (s : Scope) (k : Standing) (xs : List Test) → follow s k (in_cond [] (plain_tests xs)) ≡ along_tests s k xs
+unfolding words syntax_words meaning_words
+along-tests s k [] = refl
+along-tests s k (x ∷ xs) = follow-append s k (in_test [] (plain_test x)) (in_cond [] (plain_tests xs)) ∙ along-tests s (follow s k (in_test [] (plain_test x))) xs
+
+pub end-tests : (s : Scope) (k start : Standing) (xs : List Test) (i : ℕ) → length xs ≤ i → along_tests s k (drop i xs) ≡ along_tests s start xs → k ≡ follow s start (in_cond [] (plain_tests xs))
+end-tests s k start xs i h e = ap (along_tests s k) (sym (drop_all i xs h)) ∙ e ∙ sym (along-tests s start xs)
+
+-- a list of commands
+pub along-commands : (s : Scope) (k : Standing) (xs : List Command) → follow s k (in_commands [] (plain_commands xs)) ≡ along_commands s k xs
+unfolding words syntax_words meaning_words
+along-commands s k [] = refl
+along-commands s k (x ∷ xs) = follow-append s k (in_command [] (plain_command x)) (in_commands [] (plain_commands xs)) ∙ along-commands s (follow s k (in_command [] (plain_command x))) xs
+
+pub end-commands : (s : Scope) (k start : Standing) (xs : List Command) (i : ℕ) → length xs ≤ i → along_commands s k (drop i xs) ≡ along_commands s start xs → k ≡ follow s start (in_commands [] (plain_commands xs))
+end-commands s k start xs i h e = ap (along_commands s k) (sym (drop_all i xs h)) ∙ e ∙ sym (along-commands s start xs)
+
+pub ruleset walks = (views, follow-none, follow-one, follow-append, in-Literal, in-Name, in-Read, in-Sum, in-Product, in-Neg, in-Field, in-Row, in-Count, in-Total, in-True, in-Not, in-Comparison, in-Skip, in-Assign, in-Write, in-Print, in-If, in-Block, in-SetField, in-SetRow, in-Foreach, in-Insert, in-Delete, in-Update, along-exprs, along-tests, along-commands)

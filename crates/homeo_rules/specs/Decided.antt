@@ -1,0 +1,35 @@
+-- The steps in which the fault that decides is found.
+use Rattle.std.specs.Prelude.{◌≡◌, Bool, false, nat_lt, List, ◌++◌, map, Option, Some, None}
+use Rattle.homeo_syntax.specs.Source as s
+use Rattle.homeo_meaning.specs.GlobalNames.{global_names, duplicate, scope_of}
+use Rattle.homeo_meaning.specs.TransactionRules.{each}
+use Rattle.homeo_meaning.specs.NumberRules.{limit_faults}
+use Rattle.homeo_meaning.specs.CallRules.{schedule_faults}
+use Rattle.homeo_meaning.specs.SizeRules.{print_faults, weight_faults}
+use Rattle.homeo_meaning.specs.Faults.{rank, declared_faults}
+use Rattle.homeo_meaning.specs.Deciding.{keep_all}
+use Rattle.homeo_meaning.specs.declared.call.Purpose.{Purpose}
+use Rattle.homeo_meaning.specs.declared.rules.Fault.{Fault}
+use Rattle.homeo_rules.specs.Key.{words}
+use Rattle.homeo_rules.specs.Scopes.{scope_with}
+use Rattle.homeo_rules.specs.Items.{Items}
+
+-- the table of a workload's global names, and the fault that decides with theirs
+pub record NamesGlobals (w : s.Workload) (best : Option Fault) (t : Items) : Type 0 where
+  pub scope : scope_with t.items ≡ scope_of w
+  pub kept : t.best ≡ keep_all best (each duplicate (map (λ d. d.name) (global_names w)))
+
+-- a fault of a phase before weights
+abbrev pub is_decided : Option Fault → Bool
+is_decided None = false
+is_decided (Some f) = nat_lt (rank f.phase) 9
+
+-- the faults of all rules that need the global names
+abbrev pub faults_with_names : Purpose → s.Workload → List Fault
+unfolding words
+faults_with_names purpose w =
+    declared_faults w
+    ++ limit_faults w
+    ++ schedule_faults purpose (scope_of w) w.clients w.end w.schedule
+    ++ print_faults w
+    ++ weight_faults w

@@ -1,0 +1,16 @@
+pub mod Along
+pub mod Callers
+pub mod Decided
+pub mod Follow
+pub mod Items
+pub mod Key
+pub mod Limited
+pub mod Plain
+pub mod Printing
+pub mod Scopes
+pub mod Stages
+pub mod Tally
+pub mod Weighing
+pub mod Params
+pub mod Listwise
+pub mod Within

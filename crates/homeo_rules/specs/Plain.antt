@@ -1,0 +1,20 @@
+-- Lists of phrases and of commands as plain data.
+use Rattle.std.specs.Prelude.{List, map}
+use Rattle.homeo_syntax.specs.Source as s
+use Rattle.homeo_syntax.specs.SourceView.{exprs, tests, commands, plain_expr, plain_test, plain_command}
+use Rattle.homeo_syntax.specs.declared.phrase.Expr.{Expr}
+use Rattle.homeo_syntax.specs.declared.phrase.Test.{Test}
+use Rattle.homeo_syntax.specs.declared.command.Command.{Command}
+use Rattle.homeo_rules.specs.Key.{words}
+
+abbrev pub plain_exprs : List Expr → s.Exprs
+unfolding words
+plain_exprs es = exprs (map plain_expr es)
+
+abbrev pub plain_tests : List Test → s.Cond
+unfolding words
+plain_tests ts = tests (map plain_test ts)
+
+abbrev pub plain_commands : List Command → s.Commands
+unfolding words
+plain_commands cs = commands (map plain_command cs)

@@ -1,0 +1,83 @@
+//! Acceptance.
+
+ghost use Rattle.std.specs.Prelude.{◌≡◌, [], IfOk, IsErrOf};
+ghost use Rattle.homeo_syntax.specs.SourceView.{plain_workload};
+ghost use Rattle.homeo_syntax.specs.WellFormed.{IsWellFormed};
+ghost use Rattle.homeo_meaning.specs.Faults.{faults, IsRefusedBy};
+ghost use Rattle.homeo_syntax.specs.declared.workload.Refusal.{Refusal};
+
+use crate::deciding::code;
+use crate::decision::decide;
+use homeo_meaning::{Accepted, Purpose};
+use homeo_syntax::{Refusal, Workload};
+use std::alloc::Global;
+
+/// Why a workload is not accepted.
+#[derive(Clone, Copy, Debug, PartialEq, Eq)]
+pub enum RuleRefusal {
+    /// The rule that decides is broken, with its number and the place in the text.
+    Refused(Refusal),
+    /// Want of memory.
+    Memory,
+}
+
+/// Accepts a workload without a fault. Of another's faults the one that decides is told: one of the first phase that
+/// has one, and in it the one with the least offset. Want of memory says nothing of the workload.
+pub fn accept(alloc: Global, w: Workload, purpose: Purpose) -> Result<Accepted, RuleRefusal>
+    requires { IsWellFormed (plain_workload w) }
+    ensures same { IfOk result (λ a. plain_workload a ≡ plain_workload w) }
+    ensures accepted { IfOk result (λ a. faults purpose (plain_workload w) ≡ []) }
+    ensures refused { (r : Refusal) → IsErrOf result (RuleRefusal.Refused r) →
+        IsRefusedBy purpose (plain_workload w) r }
+{
+    match decide(alloc, purpose, &w) {
+        Ok(None) => Ok(Accepted::new(w)),
+        Ok(Some(fault)) => Err(RuleRefusal::Refused(Refusal {
+            code: code(fault.phase),
+            offset: fault.offset,
+        })),
+        Err(_) => Err(RuleRefusal::Memory),
+    }
+}
+
+#[cfg(test)]
+mod tests {
+    use super::*;
+    use homeo_syntax::{List, Number};
+
+    #[tactic(auto, using(homeo_syntax::proofs::SourceViews::workload_views), unfolding(homeo_syntax::specs::Key::words))]
+    fn empty(alloc: Global, sites: i64) -> Workload
+        ensures { IsWellFormed (plain_workload result) }
+    {
+        Workload {
+            version: 1,
+            names: List::new(alloc),
+            sites: Number {
+                value: sites,
+                offset: 17,
+            },
+            objects: List::new(alloc),
+            relations: List::new(alloc),
+            transactions: List::new(alloc),
+            clients: List::new(alloc),
+            schedule: None,
+            end: 20,
+        }
+    }
+
+    #[test]
+    fn without_fault(rt: HostRuntime) {
+        let accepted = accept(rt.alloc(), empty(rt.alloc(), 16), Purpose::Steps);
+        assert!(rt; accepted.is_ok());
+    }
+
+    #[test]
+    fn too_many_sites(rt: HostRuntime) {
+        let refused = accept(rt.alloc(), empty(rt.alloc(), 17), Purpose::Steps).err();
+        let limit = Refusal {
+            code: 13,
+            offset: 17,
+        };
+        assert!(rt; refused == Some(RuleRefusal::Refused(limit)));
+    }
+}

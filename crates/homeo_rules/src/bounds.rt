@@ -1,0 +1,121 @@
+//! The rules of bounds.
+
+ghost use Rattle.std.specs.Prelude.{◌≡◌, slice_get};
+ghost use Rattle.homeo_meaning.specs.NumberRules.{argument_outside, too_large, crossed, range_faults, outside, object_faults, parameter_bounds, site_faults};
+ghost use Rattle.homeo_meaning.specs.Deciding.{keep_all};
+ghost use Rattle.homeo_rules.specs.Listwise.{along_all, along_arguments};
+
+use crate::deciding::at_number;
+use homeo_meaning::{Fault, Phase};
+use homeo_syntax::{Number, ObjectDecl, RangeDecl};
+
+/// No bound is larger than this, with or without sign.
+const LARGEST_BOUND: i64 = 1_000_000_000_000;
+
+#[tactic(auto, using(crate::proofs::Steps::keeping), unfolding(homeo_meaning::specs::Key::words))]
+fn check_size(n: Number, best: Option<Fault>) -> Option<Fault>
+    ensures { result ≡ keep_all best (too_large n) }
+{
+    if n.value < -LARGEST_BOUND || LARGEST_BOUND < n.value {
+        at_number(best, Phase::Bounds, n)
+    } else {
+        best
+    }
+}
+
+#[tactic(auto, using(crate::proofs::Steps::keeping), unfolding(homeo_meaning::specs::Key::words))]
+fn check_order(lo: Number, hi: Number, best: Option<Fault>) -> Option<Fault>
+    ensures { result ≡ keep_all best (crossed lo hi) }
+{
+    if hi.value < lo.value {
+        at_number(best, Phase::Bounds, lo)
+    } else {
+        best
+    }
+}
+
+#[tactic(auto, using(crate::proofs::Steps::keeping), unfolding(homeo_meaning::specs::Key::words))]
+fn check_within(lo: Number, hi: Number, n: Number, best: Option<Fault>) -> Option<Fault>
+    ensures { result ≡ keep_all best (outside lo hi n) }
+{
+    if n.value < lo.value || hi.value < n.value {
+        at_number(best, Phase::Bounds, n)
+    } else {
+        best
+    }
+}
+
+#[tactic(auto, using(crate::proofs::Numbers::bounds))]
+fn check_range(lo: Number, hi: Number, best: Option<Fault>) -> Option<Fault>
+    ensures { result ≡ keep_all best (range_faults lo hi) }
+{
+    let best = check_size(lo, best);
+    let best = check_size(hi, best);
+    check_order(lo, hi, best)
+}
+
+#[tactic(auto, using(crate::proofs::Numbers::bounds))]
+fn check_object(d: ObjectDecl, best: Option<Fault>) -> Option<Fault>
+    ensures { result ≡ keep_all best (object_faults d) }
+{
+    let best = check_range(d.lo, d.hi, best);
+    check_within(d.lo, d.hi, d.start, best)
+}
+
+#[tactic(auto, using(crate::proofs::Numbers::bounds))]
+fn check_parameter(d: RangeDecl, best: Option<Fault>) -> Option<Fault>
+    ensures { result ≡ keep_all best (parameter_bounds d) }
+{
+    check_range(d.lo, d.hi, best)
+}
+
+pub fn check_objects(ds: &[ObjectDecl], best: Option<Fault>) -> Option<Fault>
+    ensures { result ≡ along_all object_faults best ds.now }
+{
+    let mut best = best;
+    for d in ds {
+        best = check_object(*d, best);
+    }
+    best
+}
+
+pub fn check_parameters(ds: &[RangeDecl], best: Option<Fault>) -> Option<Fault>
+    ensures { result ≡ along_all parameter_bounds best ds.now }
+{
+    let mut best = best;
+    for d in ds {
+        best = check_parameter(*d, best);
+    }
+    best
+}
+
+#[tactic(auto, using(crate::proofs::Steps::keeping), unfolding(homeo_meaning::specs::Key::words))]
+fn check_argument(d: RangeDecl, args: &[Number], place: usize, best: Option<Fault>) -> Option<Fault>
+    ensures { result ≡ keep_all best (argument_outside d (slice_get args.now place)) }
+{
+    match args.get(place) {
+        Some(a) => check_within(d.lo, d.hi, *a, best),
+        None => best,
+    }
+}
+
+pub fn check_arguments(ds: &[RangeDecl], args: &[Number], best: Option<Fault>) -> Option<Fault>
+    ensures { result ≡ along_arguments best 0 ds.now args.now }
+{
+    let mut best = best;
+    for (i, d) in ds.iter().enumerate() {
+        best = check_argument(*d, args, i, best);
+    }
+    best
+}
+
+#[tactic(auto, using(crate::proofs::Steps::keeping), unfolding(homeo_meaning::specs::Key::words))]
+pub fn check_site(sites: Number, site: Number, best: Option<Fault>) -> Option<Fault>
+    ensures { result ≡ keep_all best (site_faults sites site) }
+{
+    if sites.value <= site.value {
+        at_number(best, Phase::Bounds, site)
+    } else {
+        best
+    }
+}

@@ -1,0 +1,127 @@
+//! What is known at a place of a transaction, and the rules of names there.
+
+ghost use Rattle.std.specs.Prelude.{◌≡◌, [], replicate, IfOk};
+ghost use Rattle.homeo_meaning.specs.Bindings.{binding};
+ghost use Rattle.homeo_meaning.specs.Places.{at, TakesObject, TakesValue, Assigns};
+ghost use Rattle.homeo_meaning.specs.Deciding.{keep_all};
+ghost use Rattle.homeo_meaning.specs.NameRules.{fault};
+ghost use Rattle.homeo_meaning.specs.declared.rules.Local.TheVariants.{Absent};
+ghost use Rattle.homeo_rules.specs.Follow.{local_at, step};
+ghost use Rattle.homeo_rules.specs.Params.{enter_param};
+ghost use Rattle.homeo_rules.specs.Scopes.{scope_in};
+
+use crate::deciding::at_name;
+use crate::scope::Scope;
+use homeo_meaning::{Binding, Fault, Item, Local, Phase};
+use homeo_syntax::{Ident, Memory};
+use std::alloc::Global;
+use std::marker::Model;
+
+/// What each name is within the transaction so far, and the fault that decides so far.
+#[derive(Drop)]
+pub struct Checker {
+    locals: Vec<Local>,
+    best: Option<Fault>,
+}
+
+impl Model for Checker {
+    ghost use Rattle.homeo_rules.specs.Follow.{Standing};
+
+    ghost Value = { Standing };
+
+    ghost view = { λ k. record { locals = k.locals.items; best = k.best } };
+}
+
+impl Checker {
+    /// At the head of a transaction, with the fault that decides so far.
+    pub fn start(alloc: Global, names: usize, best: Option<Fault>) -> Result<Checker, Memory>
+        ensures { IfOk result (λ k. k ≡ record { locals = replicate names Absent; best = best }) }
+    {
+        let locals = vec![in alloc; Local::Absent; names]?;
+        Ok(Checker { locals, best })
+    }
+
+    pub fn best(&self) -> Option<Fault>
+        ensures { result ≡ self.now.best }
+    {
+        self.best
+    }
+
+    fn local(&self, name: u32) -> Local
+        ensures { result ≡ local_at self.now.locals name }
+    {
+        match self.locals.get(name as usize) {
+            Some(local) => *local,
+            None => Local::Absent,
+        }
+    }
+
+    fn keep(&mut self, phase: Phase, x: Ident)
+        ensures { self.new ≡ record { locals = self.old.locals; best = keep_all self.old.best (fault phase x) } }
+    {
+        self.best = at_name(self.best, phase, x);
+    }
+
+    #[tactic(auto, unfolding(homeo_meaning::specs::Key::words))]
+    fn binding(&self, scope: &Scope<'_>, name: u32) -> Binding
+        ensures { result ≡ binding (scope_in scope.now) (local_at self.now.locals) [] name }
+    {
+        match scope.item(name) {
+            Some(item) => Binding::Item(item),
+            None => match self.local(name) {
+                Local::Absent => Binding::Unbound,
+                Local::Parameter => Binding::Parameter,
+                Local::Temporary => Binding::Temporary,
+            },
+        }
+    }
+
+    #[tactic(auto, using(crate::proofs::Steps::steps))]
+    pub fn declares_param(&mut self, scope: &Scope<'_>, x: Ident)
+        ensures { self.new ≡ enter_param (scope_in scope.now) self.old x }
+    {
+        if scope.item(x.name).is_some() || self.local(x.name) == Local::Parameter {
+            self.keep(Phase::Duplicate, x);
+        }
+        if let Some(local) = self.locals.get_mut(x.name as usize) {
+            *local = Local::Parameter;
+        }
+    }
+
+    #[tactic(auto, using(crate::proofs::Steps::steps))]
+    pub fn takes_object(&mut self, scope: &Scope<'_>, x: Ident)
+        ensures { self.new ≡ step (scope_in scope.now) self.old (at [] (TakesObject x)) }
+    {
+        match self.binding(scope, x.name) {
+            Binding::Unbound => self.keep(Phase::Unknown, x),
+            Binding::Item(Item::Object(_)) => {}
+            _ => self.keep(Phase::Kind, x),
+        }
+    }
+
+    #[tactic(auto, using(crate::proofs::Steps::steps))]
+    pub fn takes_value(&mut self, scope: &Scope<'_>, x: Ident)
+        ensures { self.new ≡ step (scope_in scope.now) self.old (at [] (TakesValue x)) }
+    {
+        match self.binding(scope, x.name) {
+            Binding::Unbound => self.keep(Phase::Unknown, x),
+            Binding::Parameter | Binding::Temporary => {}
+            _ => self.keep(Phase::Kind, x),
+        }
+    }
+
+    #[tactic(auto, using(crate::proofs::Steps::steps))]
+    pub fn assigns(&mut self, scope: &Scope<'_>, t: Ident)
+        ensures { self.new ≡ step (scope_in scope.now) self.old (at [] (Assigns t)) }
+    {
+        match self.binding(scope, t.name) {
+            Binding::Unbound => {
+                if let Some(local) = self.locals.get_mut(t.name as usize) {
+                    *local = Local::Temporary;
+                }
+            }
+            Binding::Temporary => {}
+            _ => self.keep(Phase::Kind, t),
+        }
+    }
+}

@@ -1,0 +1,198 @@
+//! The fault of a workload that decides.
+
+ghost use Rattle.std.specs.Prelude.{◌≡◌, None, IfOk};
+ghost use Rattle.homeo_syntax.specs.SourceView.{plain_workload};
+ghost use Rattle.homeo_syntax.specs.WellFormed.{IsWellFormed};
+ghost use Rattle.homeo_meaning.specs.Deciding.{keep_all};
+ghost use Rattle.homeo_meaning.specs.GlobalNames.{scope_of, sited_calls};
+ghost use Rattle.homeo_meaning.specs.NumberRules.{limit_faults};
+ghost use Rattle.homeo_meaning.specs.CallRules.{schedule_faults};
+ghost use Rattle.homeo_meaning.specs.SizeRules.{unbuilt_faults, print_faults, weight_faults};
+ghost use Rattle.homeo_meaning.specs.Faults.{declared_faults, faults};
+ghost use Rattle.homeo_rules.specs.Scopes.{scope_in};
+ghost use Rattle.homeo_rules.specs.Decided.{NamesGlobals, is_decided, faults_with_names};
+
+use crate::bounds::check_objects;
+use crate::built::{check_built_clients, check_built_transactions, check_no_relations};
+use crate::calls::check_clients;
+use crate::deciding::rank;
+use crate::items::{self, Items};
+use crate::limits::{
+    check_call_count, check_client_count, check_ground_calls, check_object_count, check_site_count,
+    check_transaction_count, sited_calls,
+};
+use crate::prints::check_prints;
+use crate::schedule::check_schedule;
+use crate::scope::Scope;
+use crate::transaction::check_transactions;
+use crate::weights::check_weights;
+use homeo_meaning::{Fault, Phase, Purpose, SitedCall};
+use homeo_syntax::{Memory, Workload};
+use std::alloc::Global;
+
+fn unbuilt(w: &Workload) -> Option<Fault>
+    ensures { result ≡ keep_all None (unbuilt_faults (plain_workload w.now)) }
+{
+    let best = check_no_relations(w.relations.as_slice(), None);
+    let best = check_built_transactions(w.transactions.as_slice(), best);
+    check_built_clients(w.clients.as_slice(), best)
+}
+
+fn global_names(alloc: Global, w: &Workload, best: Option<Fault>) -> Result<Items, Memory>
+    requires { IsWellFormed (plain_workload w.now) }
+    ensures { IfOk result (NamesGlobals (plain_workload w.now) best) }
+{
+    let mut items = Items::new(alloc, w.names.as_slice().len(), best)?;
+    items::enter_objects(w.objects.as_slice(), &mut items);
+    items::enter_relations(w.relations.as_slice(), &mut items);
+    items::enter_transactions(w.transactions.as_slice(), &mut items);
+    items::enter_clients(w.clients.as_slice(), &mut items);
+    Ok(items)
+}
+
+fn declared(
+    alloc: Global,
+    w: &Workload,
+    scope: &Scope<'_>,
+    best: Option<Fault>,
+) -> Result<Option<Fault>, Memory>
+    requires formed { IsWellFormed (plain_workload w.now) }
+    requires names { scope_in scope.now ≡ scope_of (plain_workload w.now) }
+    ensures { IfOk result (λ b. b ≡ keep_all best (declared_faults (plain_workload w.now))) }
+{
+    let best = check_objects(w.objects.as_slice(), best);
+    let names = w.names.as_slice().len();
+    let best = check_transactions(alloc, w.transactions.as_slice(), scope, names, best)?;
+    Ok(check_clients(
+        w.clients.as_slice(),
+        w.sites,
+        scope,
+        w.transactions.as_slice(),
+        best,
+    ))
+}
+
+fn limits(
+    alloc: Global,
+    w: &Workload,
+    calls: &[SitedCall],
+    best: Option<Fault>,
+) -> Result<Option<Fault>, Memory>
+    requires { calls.now ≡ sited_calls (plain_workload w.now) }
+    ensures { IfOk result (λ b. b ≡ keep_all best (limit_faults (plain_workload w.now))) }
+{
+    let best = check_site_count(w.sites, best);
+    let best = check_object_count(w.objects.as_slice(), best);
+    let best = check_transaction_count(w.transactions.as_slice(), best);
+    let best = check_client_count(w.clients.as_slice(), best);
+    let best = check_call_count(calls, best);
+    check_ground_calls(alloc, calls, best)
+}
+
+fn schedule(
+    alloc: Global,
+    purpose: Purpose,
+    w: &Workload,
+    scope: &Scope<'_>,
+    best: Option<Fault>,
+) -> Result<Option<Fault>, Memory>
+    requires formed { IsWellFormed (plain_workload w.now) }
+    requires names { scope_in scope.now ≡ scope_of (plain_workload w.now) }
+    ensures { IfOk result (λ b. b ≡ keep_all best (schedule_faults purpose (scope_of (plain_workload w.now)) (plain_workload w.now).clients (plain_workload w.now).end (plain_workload w.now).schedule)) }
+{
+    let names = w.names.as_slice().len();
+    check_schedule(
+        alloc,
+        purpose,
+        &w.schedule,
+        scope,
+        w.clients.as_slice(),
+        names,
+        w.end,
+        best,
+    )
+}
+
+fn prints(
+    alloc: Global,
+    w: &Workload,
+    scope: &Scope<'_>,
+    calls: &[SitedCall],
+    best: Option<Fault>,
+) -> Result<Option<Fault>, Memory>
+    requires names { scope_in scope.now ≡ scope_of (plain_workload w.now) }
+    requires sited { calls.now ≡ sited_calls (plain_workload w.now) }
+    ensures { IfOk result (λ b. b ≡ keep_all best (print_faults (plain_workload w.now))) }
+{
+    check_prints(alloc, w.transactions.as_slice(), scope, calls, best)
+}
+
+/// A fault that comes before all faults of weights.
+#[tactic(auto, unfolding(homeo_meaning::specs::Key::words))]
+fn is_decided(best: Option<Fault>) -> bool
+    ensures { result ≡ is_decided best }
+{
+    match best {
+        Some(fault) => rank(fault.phase) < rank(Phase::Weight),
+        None => false,
+    }
+}
+
+fn weights(
+    alloc: Global,
+    w: &Workload,
+    scope: &Scope<'_>,
+    calls: &[SitedCall],
+    best: Option<Fault>,
+) -> Result<Option<Fault>, Memory>
+    requires formed { IsWellFormed (plain_workload w.now) }
+    requires names { scope_in scope.now ≡ scope_of (plain_workload w.now) }
+    requires sited { calls.now ≡ sited_calls (plain_workload w.now) }
+    ensures { IfOk result (λ b. b ≡ keep_all best (weight_faults (plain_workload w.now))) }
+{
+    if is_decided(best) {
+        return Ok(best);
+    }
+    let names = w.names.as_slice().len();
+    check_weights(
+        alloc,
+        w.transactions.as_slice(),
+        w.objects.as_slice(),
+        names,
+        scope,
+        calls,
+        best,
+    )
+}
+
+fn decide_with(
+    alloc: Global,
+    purpose: Purpose,
+    w: &Workload,
+    scope: &Scope<'_>,
+    best: Option<Fault>,
+) -> Result<Option<Fault>, Memory>
+    requires formed { IsWellFormed (plain_workload w.now) }
+    requires names { scope_in scope.now ≡ scope_of (plain_workload w.now) }
+    ensures { IfOk result (λ b. b ≡ keep_all best (faults_with_names purpose (plain_workload w.now))) }
+{
+    let calls = sited_calls(alloc, w.clients.as_slice())?;
+    let best = declared(alloc, w, scope, best)?;
+    let best = limits(alloc, w, calls.as_slice(), best)?;
+    let best = schedule(alloc, purpose, w, scope, best)?;
+    let best = prints(alloc, w, scope, calls.as_slice(), best)?;
+    weights(alloc, w, scope, calls.as_slice(), best)
+}
+
+/// The fault that decides, if there is one.
+pub fn decide(alloc: Global, purpose: Purpose, w: &Workload) -> Result<Option<Fault>, Memory>
+    requires { IsWellFormed (plain_workload w.now) }
+    ensures { IfOk result (λ b. b ≡ keep_all None (faults purpose (plain_workload w.now))) }
+{
+    let best = unbuilt(w);
+    let items = global_names(alloc, w, best)?;
+    let scope = Scope {
+        items: items.as_slice(),
+    };
+    decide_with(alloc, purpose, w, &scope, items.best())
+}

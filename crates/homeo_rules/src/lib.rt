@@ -1,0 +1,20 @@
+//! The rules that a workload has to meet before it is run, and the refusal of one that doesn't.
+#![tactic(auto)]
+
+mod acceptance;
+mod bounds;
+mod built;
+mod calls;
+mod checker;
+mod deciding;
+mod decision;
+mod items;
+mod limits;
+mod prints;
+mod schedule;
+mod scope;
+mod transaction;
+mod walk;
+mod weights;
+
+pub use acceptance::{RuleRefusal, accept};

@@ -1,0 +1,150 @@
+//! The limits on how much is declared and called.
+
+ghost use Rattle.std.specs.Prelude.{◌≡◌, [], ◌++◌, IfOk, OnOk, slice_get};
+ghost use Rattle.std.specs.List.{list_any};
+ghost use Rattle.homeo_meaning.specs.Deciding.{keep_all};
+ghost use Rattle.homeo_meaning.specs.NumberRules.{site_count_faults, same_ground};
+ghost use Rattle.homeo_rules.specs.Limited.{object_passing, transaction_passing, client_passing, call_passing, kept_with, distinct_within, sited_at, sited_of};
+
+use crate::deciding::{at_name, at_number};
+use homeo_meaning::{Fault, Phase, SitedCall};
+use homeo_syntax::{Call, Client, Memory, Number, ObjectDecl, Transaction};
+use std::alloc::Global;
+
+const MOST_SITES: i64 = 16;
+
+const MOST_OBJECTS: usize = 1024;
+
+const MOST_TRANSACTIONS: usize = 256;
+
+const MOST_CLIENTS: usize = 64;
+
+const MOST_CALLS: usize = 20_000;
+
+const MOST_GROUND_CALLS: usize = 1024;
+
+#[tactic(auto, using(crate::proofs::Steps::keeping), unfolding(homeo_meaning::specs::Key::words))]
+pub fn check_site_count(sites: Number, best: Option<Fault>) -> Option<Fault>
+    ensures { result ≡ keep_all best (site_count_faults sites) }
+{
+    if sites.value < 1 || MOST_SITES < sites.value {
+        at_number(best, Phase::Limits, sites)
+    } else {
+        best
+    }
+}
+
+#[tactic(auto, using(crate::proofs::Steps::keeping), unfolding(homeo_meaning::specs::Key::words))]
+pub fn check_object_count(ds: &[ObjectDecl], best: Option<Fault>) -> Option<Fault>
+    ensures { result ≡ keep_all best (object_passing (slice_get ds.now 1024)) }
+{
+    match ds.get(MOST_OBJECTS) {
+        Some(d) => at_name(best, Phase::Limits, d.name),
+        None => best,
+    }
+}
+
+#[tactic(auto, using(crate::proofs::Steps::keeping), unfolding(homeo_meaning::specs::Key::words))]
+pub fn check_transaction_count(ts: &[Transaction], best: Option<Fault>) -> Option<Fault>
+    ensures { result ≡ keep_all best (transaction_passing (slice_get ts.now 256)) }
+{
+    match ts.get(MOST_TRANSACTIONS) {
+        Some(t) => at_name(best, Phase::Limits, t.name),
+        None => best,
+    }
+}
+
+#[tactic(auto, using(crate::proofs::Steps::keeping), unfolding(homeo_meaning::specs::Key::words))]
+pub fn check_client_count(cs: &[Client], best: Option<Fault>) -> Option<Fault>
+    ensures { result ≡ keep_all best (client_passing (slice_get cs.now 64)) }
+{
+    match cs.get(MOST_CLIENTS) {
+        Some(c) => at_name(best, Phase::Limits, c.name),
+        None => best,
+    }
+}
+
+#[tactic(auto, using(crate::proofs::Steps::keeping), unfolding(homeo_meaning::specs::Key::words))]
+pub fn check_call_count(calls: &[SitedCall], best: Option<Fault>) -> Option<Fault>
+    ensures { result ≡ keep_all best (call_passing (slice_get calls.now 20000)) }
+{
+    match calls.get(MOST_CALLS) {
+        Some(c) => at_name(best, Phase::Limits, c.name),
+        None => best,
+    }
+}
+
+#[tactic(auto, using(crate::proofs::Steps::keeping), unfolding(homeo_meaning::specs::Key::words))]
+fn check_ground_count(calls: &[SitedCall], best: Option<Fault>) -> Option<Fault>
+    ensures { result ≡ keep_all best (call_passing (slice_get calls.now 1024)) }
+{
+    match calls.get(MOST_GROUND_CALLS) {
+        Some(c) => at_name(best, Phase::Limits, c.name),
+        None => best,
+    }
+}
+
+#[tactic(auto, unfolding(homeo_meaning::specs::Key::words))]
+fn is_same_ground(u: SitedCall, v: SitedCall) -> bool
+    ensures { result ≡ same_ground u v }
+{
+    u.name.name == v.name.name && u.site == v.site
+}
+
+fn is_known(kept: &[SitedCall], call: SitedCall) -> bool
+    ensures { result ≡ list_any (same_ground call) kept.now }
+{
+    kept.iter().any(|k| is_same_ground(call, *k))
+}
+
+/// Keeps a call that is the same ground call as none so far, unless too many are kept.
+fn keep_call(kept: &mut Vec<SitedCall>, call: SitedCall) -> Result<(), Memory>
+    ensures { OnOk result (kept.new.items ≡ kept_with 1024 kept.old.items call) }
+{
+    if kept.len() <= MOST_GROUND_CALLS && !is_known(kept.as_slice(), call) {
+        kept.push(call)?;
+    }
+    Ok(())
+}
+
+/// The first call of each ground call, up to one more than there may be.
+fn ground_calls(alloc: Global, calls: &[SitedCall]) -> Result<Vec<SitedCall>, Memory>
+    ensures { IfOk result (λ kept. kept.items ≡ distinct_within 1024 [] calls.now) }
+{
+    let mut kept = Vec::new(alloc);
+    for call in calls {
+        keep_call(&mut kept, *call)?;
+    }
+    Ok(kept)
+}
+
+pub fn check_ground_calls(
+    alloc: Global,
+    calls: &[SitedCall],
+    best: Option<Fault>,
+) -> Result<Option<Fault>, Memory>
+    ensures { IfOk result (λ b. b ≡ keep_all best (call_passing (slice_get (distinct_within 1024 [] calls.now) 1024))) }
+{
+    let kept = ground_calls(alloc, calls)?;
+    Ok(check_ground_count(kept.as_slice(), best))
+}
+
+fn push_calls(cs: &[Call], site: i64, calls: &mut Vec<SitedCall>) -> Result<(), Memory>
+    ensures { OnOk result (calls.new.items ≡ calls.old.items ++ sited_at site cs.now) }
+{
+    for c in cs {
+        calls.push(SitedCall { name: c.name, site })?;
+    }
+    Ok(())
+}
+
+/// All calls, in the order of the text.
+pub fn sited_calls(alloc: Global, cs: &[Client]) -> Result<Vec<SitedCall>, Memory>
+    ensures { IfOk result (λ calls. calls.items ≡ sited_of cs.now) }
+{
+    let mut calls = Vec::new(alloc);
+    for c in cs {
+        push_calls(c.calls.as_slice(), c.site.value, &mut calls)?;
+    }
+    Ok(calls)
+}

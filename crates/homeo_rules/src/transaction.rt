@@ -1,0 +1,76 @@
+//! The rules of bounds and of names in a transaction.
+
+ghost use Rattle.std.specs.Prelude.{◌≡◌, IfOk};
+ghost use Rattle.homeo_syntax.specs.SourceView.{plain_transaction};
+ghost use Rattle.homeo_meaning.specs.Deciding.{keep_all};
+ghost use Rattle.homeo_meaning.specs.Faults.{of_transaction};
+ghost use Rattle.homeo_rules.specs.Params.{enter_params};
+ghost use Rattle.homeo_rules.specs.Scopes.{scope_in};
+ghost use Rattle.homeo_rules.specs.Within.{IsNamed, AreNamed};
+ghost use Rattle.homeo_rules.specs.Callers.{transaction_faults_of};
+ghost use Rattle.homeo_rules.specs.Listwise.{along_all};
+
+use crate::bounds::check_parameters;
+use crate::checker::Checker;
+use crate::scope::Scope;
+use crate::walk::walk_commands;
+use homeo_meaning::Fault;
+use homeo_syntax::{Memory, RangeDecl, Transaction};
+use std::alloc::Global;
+
+fn enter_params(ds: &[RangeDecl], scope: &Scope<'_>, k: &mut Checker)
+    ensures { k.new ≡ enter_params (scope_in scope.now) k.old ds.now }
+{
+    for d in ds {
+        k.declares_param(scope, d.name);
+    }
+}
+
+/// The fault that decides, of the transaction's and of one so far.
+pub fn check_transaction(
+    alloc: Global,
+    t: &Transaction,
+    scope: &Scope<'_>,
+    names: usize,
+    best: Option<Fault>,
+) -> Result<Option<Fault>, Memory>
+    requires { IsNamed names (plain_transaction t.now) }
+    ensures { IfOk result (λ b. b ≡ keep_all best (of_transaction (scope_in scope.now) (plain_transaction t.now))) }
+{
+    let best = check_parameters(t.params.as_slice(), best);
+    let mut k = Checker::start(alloc, names, best)?;
+    enter_params(t.params.as_slice(), scope, &mut k);
+    walk_commands(t.body.as_slice(), scope, &mut k);
+    Ok(k.best())
+}
+
+pub fn check_transactions(
+    alloc: Global,
+    ts: &[Transaction],
+    scope: &Scope<'_>,
+    names: usize,
+    best: Option<Fault>,
+) -> Result<Option<Fault>, Memory>
+    requires { AreNamed names ts.now }
+    ensures { IfOk result (λ b. b ≡ along_all (transaction_faults_of (scope_in scope.now)) best ts.now) }
+{
+    let mut best = best;
+    for t in ts {
+        best = check_one(alloc, t, scope, names, best)?;
+    }
+    Ok(best)
+}
+
+#[tactic(auto, unfolding(crate::specs::Key::words))]
+fn check_one(
+    alloc: Global,
+    t: &Transaction,
+    scope: &Scope<'_>,
+    names: usize,
+    best: Option<Fault>,
+) -> Result<Option<Fault>, Memory>
+    requires { IsNamed names (plain_transaction t.now) }
+    ensures { IfOk result (λ b. b ≡ keep_all best (transaction_faults_of (scope_in scope.now) t.now)) }
+{
+    check_transaction(alloc, t, scope, names, best)
+}
