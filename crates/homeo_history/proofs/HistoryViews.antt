@@ -1,0 +1,36 @@
+-- The view of each part of a history as it is made.
+use Rattle.std.proofs.Common.{◌≡◌, map, refl}
+use Rattle.std.specs.Option.{option_map}
+use Rattle.homeo_history.specs.Key.{words}
+use Rattle.homeo_history.specs.HistoryView.{plain_entry, plain_segment, plain_closing, plain_round, plain_history}
+use Rattle.homeo_history.specs.declared.history.Entry.{Entry}
+use Rattle.homeo_history.specs.declared.history.Segment.{Segment}
+use Rattle.homeo_history.specs.declared.history.Closing.{Closing}
+use Rattle.homeo_history.specs.declared.history.Round.{Round}
+use Rattle.homeo_history.specs.declared.history.History.{History}
+
+pub plain_Entry : (e : Entry) → plain_entry e ≡ record { call = e.call; prints = e.prints.items }
+unfolding words
+plain_Entry e = refl
+
+pub plain_Segment : (s : Segment) → plain_segment s ≡ map plain_entry s.entries.items
+unfolding words
+plain_Segment s = refl
+
+pub plain_Closing : (c : Closing) → plain_closing c ≡ record { site = c.site; entry = plain_entry c.entry }
+unfolding words
+plain_Closing c = refl
+
+pub plain_Round : (r : Round) → plain_round r ≡ record {
+  base = r.base.items;
+  segments = map plain_segment r.segments.items;
+  closing = option_map plain_closing r.closing;
+}
+unfolding words
+plain_Round r = refl
+
+pub plain_History : (h : History) → plain_history h ≡ record { rounds = map plain_round h.rounds.items; last = h.last.items }
+unfolding words
+plain_History h = refl
+
+pub ruleset history_views = (plain_Entry, plain_Segment, plain_Closing, plain_Round, plain_History)

@@ -1,0 +1,3 @@
+pub mod HistoryViews
+pub mod NoEntries
+pub mod StepwiseLaws

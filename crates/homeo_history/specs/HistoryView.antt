@@ -1,0 +1,33 @@
+-- What a value of the types of histories stands for, wherever its parts lie in memory.
+use Rattle.std.specs.Prelude.{List, map, option_map}
+use Rattle.homeo_history.specs.Key.{words}
+use Rattle.homeo_history.specs.History as h
+use Rattle.homeo_history.specs.declared.history.Entry.{Entry}
+use Rattle.homeo_history.specs.declared.history.Segment.{Segment}
+use Rattle.homeo_history.specs.declared.history.Closing.{Closing}
+use Rattle.homeo_history.specs.declared.history.Round.{Round}
+use Rattle.homeo_history.specs.declared.history.History.{History}
+
+abbrev pub plain_entry : Entry → h.Entry
+unfolding words
+plain_entry e = record { call = e.call; prints = e.prints.items }
+
+abbrev pub plain_segment : Segment → List h.Entry
+unfolding words
+plain_segment s = map plain_entry s.entries.items
+
+abbrev pub plain_closing : Closing → h.Closing
+unfolding words
+plain_closing c = record { site = c.site; entry = plain_entry c.entry }
+
+abbrev pub plain_round : Round → h.Round
+unfolding words
+plain_round r = record {
+  base = r.base.items;
+  segments = map plain_segment r.segments.items;
+  closing = option_map plain_closing r.closing;
+}
+
+abbrev pub plain_history : History → h.History
+unfolding words
+plain_history h = record { rounds = map plain_round h.rounds.items; last = h.last.items }

@@ -1,0 +1,7 @@
+pub mod Follows
+pub mod History
+pub mod HistoryView
+pub mod Key
+pub mod Legal
+pub mod Merge
+pub mod Stepwise

@@ -1,0 +1,151 @@
+//! Appending rounds, and the whole report.
+#![tactic(auto, using(crate::proofs::RoundLines::round_steps, crate::proofs::Counts::length_entries_of), unfolding(crate::specs::Key::words, homeo_history::specs::Key::words))]
+
+ghost use Rattle.std.specs.Prelude.{◌≡◌, ◌^◌, ◌<◌, ◌++◌, map, length, option_map, IfOk, OnOk};
+ghost use Rattle.std.specs.List.{flat_map};
+ghost use Rattle.homeo_syntax.specs.SourceView.{plain_workload};
+ghost use Rattle.homeo_history.specs.HistoryView.{plain_entry, plain_segment, plain_closing, plain_round, plain_history};
+ghost use Rattle.homeo_history.specs.Legal.{entries_of, calls_of};
+ghost use Rattle.homeo_report.specs.Report.{heading, segment_text, segments_text, closing_text, round_text, rounds_text, totals_line, report, CanReport};
+
+use crate::append::{push_bytes, push_number};
+use crate::calls::push_entry;
+use crate::objects::push_objects;
+use homeo_history::{Closing, Entry, History, Round, Segment};
+use homeo_meaning::Accepted;
+use homeo_syntax::{Memory, Workload};
+use std::alloc::Global;
+
+fn push_heading(out: &mut Vec<u8>, word: &[u8], number: u64) -> Result<(), Memory>
+    ensures { OnOk result (out.new.items ≡ out.old.items ++ heading word.now number) }
+{
+    push_bytes(out, word)?;
+    push_number(out, number)?;
+    push_bytes(out, b"\n")?;
+    Ok(())
+}
+
+/// Appends the entries of a site, behind its number.
+fn push_segment(out: &mut Vec<u8>, w: &Workload, site: u64, entries: &[Entry]) -> Result<(), Memory>
+    ensures { OnOk result (out.new.items
+        ≡ out.old.items
+        ++ segment_text (plain_workload w.now) site (map plain_entry entries.now)) }
+{
+    push_heading(out, b"site ", site)?;
+    for entry in entries {
+        push_entry(out, w, entry)?;
+    }
+    Ok(())
+}
+
+fn push_segments(out: &mut Vec<u8>, w: &Workload, segments: &[Segment]) -> Result<(), Memory>
+    ensures { OnOk result (out.new.items
+        ≡ out.old.items
+        ++ segments_text (plain_workload w.now) (map plain_segment segments.now)) }
+{
+    for (site, segment) in segments.iter().enumerate() {
+        push_segment(out, w, site as u64, segment.entries.as_slice())?;
+    }
+    Ok(())
+}
+
+fn push_closing(out: &mut Vec<u8>, w: &Workload, closing: &Option<Closing>) -> Result<(), Memory>
+    ensures { OnOk result (out.new.items
+        ≡ out.old.items
+        ++ closing_text (plain_workload w.now) (option_map plain_closing closing.now)) }
+{
+    match closing {
+        Some(closing) => {
+            push_heading(out, b"close ", closing.site as u64)?;
+            push_entry(out, w, &closing.entry)?;
+            Ok(())
+        }
+        None => Ok(()),
+    }
+}
+
+fn push_round(out: &mut Vec<u8>, w: &Workload, number: u64, round: &Round) -> Result<(), Memory>
+    ensures { OnOk result (out.new.items
+        ≡ out.old.items ++ round_text (plain_workload w.now) number (plain_round round.now)) }
+{
+    push_heading(out, b"round ", number)?;
+    push_segments(out, w, round.segments.as_slice())?;
+    push_closing(out, w, &round.closing)?;
+    Ok(())
+}
+
+/// How many entries the segments have.
+fn entries_in(segments: &[Segment]) -> u64
+    requires { length (flat_map plain_segment segments.now) < 2 ^ 64 }
+    ensures { result ≡ length (flat_map plain_segment segments.now) }
+{
+    let mut count = 0;
+    for segment in segments {
+        count += segment.entries.as_slice().len() as u64;
+    }
+    count
+}
+
+/// How many calls the round has.
+fn calls_in(round: &Round) -> u64
+    requires { length (entries_of (plain_round round.now)) < 2 ^ 64 }
+    ensures { result ≡ length (entries_of (plain_round round.now)) }
+{
+    let entries = entries_in(round.segments.as_slice());
+    if round.closing.is_some() {
+        entries + 1
+    } else {
+        entries
+    }
+}
+
+fn push_totals(out: &mut Vec<u8>, rounds: u64, calls: u64) -> Result<(), Memory>
+    ensures { OnOk result (out.new.items ≡ out.old.items ++ totals_line rounds calls) }
+{
+    push_bytes(out, b"rounds ")?;
+    push_number(out, rounds)?;
+    push_bytes(out, b" calls ")?;
+    push_number(out, calls)?;
+    push_bytes(out, b"\n")?;
+    Ok(())
+}
+
+/// Appends all rounds, and gives the number of their calls.
+fn push_rounds(out: &mut Vec<u8>, w: &Workload, rounds: &[Round]) -> Result<u64, Memory>
+    ensures text { OnOk result (out.new.items
+        ≡ out.old.items ++ rounds_text (plain_workload w.now) (map plain_round rounds.now)) }
+    ensures calls { IfOk result (λ n. n ≡ length (calls_of (map plain_round rounds.now))) }
+{
+    let mut calls = 0;
+    for (number, round) in rounds.iter().enumerate() {
+        push_round(out, w, number as u64, round)?;
+        calls += calls_in(round);
+    }
+    Ok(calls)
+}
+
+pub(crate) fn report_of(alloc: Global, history: &History, w: &Workload) -> Result<Vec<u8>, Memory>
+    requires { CanReport (plain_workload w.now) (plain_history history.now) }
+    ensures { IfOk result (λ bytes.
+        bytes.items ≡ report (plain_workload w.now) (plain_history history.now)) }
+{
+    let mut out = Vec::new(alloc);
+    let calls = push_rounds(&mut out, w, history.rounds.as_slice())?;
+    push_bytes(&mut out, b"database\n")?;
+    push_objects(&mut out, w, history.last.as_slice())?;
+    push_totals(&mut out, history.rounds.as_slice().len() as u64, calls)?;
+    Ok(out)
+}
+
+/// The text of the report of a run of a workload. The last database has one value for each object.
+///
+/// # Errors
+///
+/// `Memory` where memory is wanting.
+pub fn report(alloc: Global, history: &History, w: &Accepted) -> Result<Vec<u8>, Memory>
+    requires { CanReport (plain_workload w.now) (plain_history history.now) }
+    ensures { IfOk result (λ bytes.
+        bytes.items ≡ report (plain_workload w.now) (plain_history history.now)) }
+{
+    report_of(alloc, history, w.workload())
+}
