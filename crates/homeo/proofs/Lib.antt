@@ -1,0 +1,4 @@
+pub mod Accepting
+pub mod Decided
+pub mod Scheduling
+pub mod Stepping

@@ -1,0 +1,5 @@
+pub mod Command
+pub mod Key
+pub mod Order
+pub mod Outcome
+pub mod Scheduled

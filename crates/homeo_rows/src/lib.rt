@@ -1,0 +1,237 @@
+//! Whole runs of the top call, over sources and sinks in memory.
+#![tactic(auto)]
+
+#[cfg(test)]
+mod tests {
+    use homeo::{Status, run};
+    use homeo_io::{Memory, MemorySink, MemorySource};
+    use homeo_syntax::{List, Text};
+    use std::alloc::Global;
+    use std::process::Abort;
+    use std::test::Fail;
+
+    const COUNTER: &str =
+        "workload 1\nsites 2\nobject x in 0..3 = 2\ntransaction up() { write(x = read(x) + 1); print(read(x)) }\nclient a at 0 { up() }\nclient b at 1 { up() }\nschedule b a\nend\n";
+
+    const COUNTED: &str =
+        "round 0\nsite 0\nsite 1\nclose 1\nb 1 up(): 3\nround 1\nsite 0\nsite 1\nclose 0\na 1 up(): 3\nround 2\nsite 0\nsite 1\ndatabase\nx = 3\nrounds 3 calls 2\n";
+
+    // What a run is given: words, a text, how many bytes a call takes at most, and the number of a call that fails, or 0.
+    #[derive(Clone, Copy, Drop)]
+    struct Given {
+        words: &'static [&'static str],
+        text: &'static str,
+        piece: usize,
+        read_fails: u64,
+        write_fails: u64,
+        complaint_fails: u64,
+    }
+
+    const PLAIN: Given = Given {
+        words: &["steps"],
+        text: COUNTER,
+        piece: 16,
+        read_fails: 0,
+        write_fails: 0,
+        complaint_fails: 0,
+    };
+
+    fn sink(alloc: Global, piece: usize, fails: u64) -> Result<MemorySink, Fail> {
+        match MemorySink::new(alloc, 4096, piece.max(1), vec![in alloc; fails]?) {
+            Ok(sink) => Ok(sink),
+            Err(Memory) => Err(Fail::from(std::alloc::AllocError)),
+        }
+    }
+
+    // Runs, and compares status, output and complaint.
+    fn check(
+        rt: &impl Abort,
+        alloc: Global,
+        given: Given,
+        status: Status,
+        out: &str,
+        complaint: &str,
+    ) -> Result<(), Fail> {
+        let mut words = List::new(alloc);
+        for word in given.words {
+            words.push(Text::of(alloc, word)?)?;
+        }
+        let mut source = MemorySource::new(
+            given.text.as_bytes().to_vec(alloc)?,
+            given.piece.max(1),
+            vec![in alloc; given.read_fails]?,
+        );
+        let mut taken = sink(alloc, given.piece, given.write_fails)?;
+        let mut said = sink(alloc, given.piece, given.complaint_fails)?;
+        let ended = run(alloc, &words, &mut source, &mut taken, &mut said);
+        assert_eq!(rt; ended, status);
+        assert_eq!(rt; taken.bytes(), out.as_bytes());
+        assert_eq!(rt; said.bytes(), complaint.as_bytes());
+        Ok(())
+    }
+
+    #[test]
+    fn a_text_is_run_call_by_call(rt: HostRuntime) -> Result<(), Fail> {
+        let alloc = rt.alloc();
+        check(&rt, alloc, PLAIN, Status::Done, COUNTED, "")?;
+        let by_bytes = Given { piece: 1, ..PLAIN };
+        check(&rt, alloc, by_bytes, Status::Done, COUNTED, "")?;
+        let nothing = Given {
+            text: "workload 1\nsites 1\nend\n",
+            ..PLAIN
+        };
+        let nothing_ran = "round 0\nsite 0\ndatabase\nrounds 1 calls 0\n";
+        check(&rt, alloc, nothing, Status::Done, nothing_ran, "")
+    }
+
+    #[test]
+    fn other_words_are_no_command(rt: HostRuntime) -> Result<(), Fail> {
+        let usage = "usage: homeo steps\n";
+        let lists: [&'static [&'static str]; 5] = [
+            &[],
+            &["step"],
+            &["steps", "x"],
+            &["--help"],
+            &[""],
+        ];
+        for words in lists {
+            let given = Given { words, ..PLAIN };
+            check(&rt, rt.alloc(), given, Status::Usage, "", usage)?;
+        }
+        Ok(())
+    }
+
+    #[test]
+    fn a_faulty_text_is_refused(rt: HostRuntime) -> Result<(), Fail> {
+        for text in [
+            "",
+            "workload 1\nsites 1\n",
+            "workload 2\nsites 1\nend\n",
+            "workload 1\nsites 0\nend\n",
+            "workload 1\nsites 1\nobject x in 0..3 = 4\nend\n",
+            "workload 1\nsites 1\ntransaction t() { print(x) }\nend\n",
+            "workload 1\nsites 1\ntransaction t() { skip }\nclient a at 0 { t() }\nend\n",
+        ] {
+            let given = Given { text, ..PLAIN };
+            check(
+                &rt,
+                rt.alloc(),
+                given,
+                Status::Refused,
+                "",
+                "refused E0 at 0\n",
+            )?;
+        }
+        Ok(())
+    }
+
+    #[test]
+    fn a_text_of_too_many_bytes_is_refused(rt: HostRuntime) -> Result<(), Fail> {
+        let alloc = rt.alloc();
+        let mut words = List::new(alloc);
+        words.push(Text::of(alloc, "steps")?)?;
+        let spaces = vec![in alloc; b' '; 1_048_577]?;
+        let mut source = MemorySource::new(spaces, 65_536, Vec::new(alloc));
+        let mut taken = sink(alloc, 16, 0)?;
+        let mut said = sink(alloc, 16, 0)?;
+        let ended = run(alloc, &words, &mut source, &mut taken, &mut said);
+        assert_eq!(rt; ended, Status::Refused);
+        assert_eq!(rt; taken.bytes(), b"".as_slice());
+        assert_eq!(rt; said.bytes(), b"refused E2 at 1048576\n".as_slice());
+        Ok(())
+    }
+
+    // Eleven reads of 16 bytes give the text, and the twelfth its end.
+    #[test]
+    fn each_read_fails_in_turn(rt: HostRuntime) -> Result<(), Fail> {
+        for call in 1..13 {
+            let given = Given {
+                read_fails: call,
+                ..PLAIN
+            };
+            check(
+                &rt,
+                rt.alloc(),
+                given,
+                Status::ReadFault,
+                "",
+                "read fault\n",
+            )?;
+        }
+        let later = Given {
+            read_fails: 13,
+            ..PLAIN
+        };
+        check(&rt, rt.alloc(), later, Status::Done, COUNTED, "")
+    }
+
+    // Nine writes of 16 bytes take the report.
+    #[test]
+    fn each_write_fails_in_turn(rt: HostRuntime) -> Result<(), Fail> {
+        let mut taken = 0;
+        for call in 1..10 {
+            let given = Given {
+                write_fails: call,
+                ..PLAIN
+            };
+            let out = COUNTED.get(0..taken).ok_or("the report is as long")?;
+            check(
+                &rt,
+                rt.alloc(),
+                given,
+                Status::WriteFault,
+                out,
+                "write fault\n",
+            )?;
+            taken += 16;
+        }
+        let later = Given {
+            write_fails: 10,
+            ..PLAIN
+        };
+        check(&rt, rt.alloc(), later, Status::Done, COUNTED, "")?;
+        let second = Given {
+            write_fails: 2,
+            ..PLAIN
+        };
+        let out = "round 0\nsite 0\ns";
+        check(
+            &rt,
+            rt.alloc(),
+            second,
+            Status::WriteFault,
+            out,
+            "write fault\n",
+        )
+    }
+
+    #[test]
+    fn a_complaint_that_fails_changes_no_status(rt: HostRuntime) -> Result<(), Fail> {
+        let alloc = rt.alloc();
+        let failing = Given {
+            complaint_fails: 1,
+            ..PLAIN
+        };
+        check(&rt, alloc, failing, Status::Done, COUNTED, "")?;
+        let words = Given {
+            words: &[],
+            ..failing
+        };
+        check(&rt, alloc, words, Status::Usage, "", "")?;
+        let text = Given {
+            text: "x",
+            ..failing
+        };
+        check(&rt, alloc, text, Status::Refused, "", "")?;
+        let reading = Given {
+            read_fails: 1,
+            ..failing
+        };
+        check(&rt, alloc, reading, Status::ReadFault, "", "")?;
+        let writing = Given {
+            write_fails: 1,
+            ..failing
+        };
+        check(&rt, alloc, writing, Status::WriteFault, "", "")
+    }
+}
