@@ -9,12 +9,13 @@ use Rattle.homeo_syntax.specs.declared.token.Token.{Token}
 use Rattle.homeo_syntax.specs.declared.phrase.Ident.{Ident}
 use Rattle.homeo_syntax.specs.declared.phrase.Number.{Number}
 use Rattle.homeo_syntax.specs.declared.workload.ObjectDecl.{ObjectDecl}
+use Rattle.homeo_syntax.specs.declared.workload.RangeDecl.{RangeDecl}
 use Rattle.homeo_syntax.specs.Source as s
 use Rattle.homeo_syntax.specs.Grammar.{seq, many, part, as_value}
-use Rattle.homeo_syntax.specs.Rules.{Command, Rule, Deep, Tree, rule, lead, limit, ident, number, signed, range, block, invocation, calls, workload}
-use Rattle.homeo_reader.specs.Engine.{Calls, Reading, ◌>>=◌, read, calls_at, exists, begins, first_is}
+use Rattle.homeo_syntax.specs.Rules.{Command, Rule, Deep, Tree, rule, lead, closed, limit, ident, number, signed, range, separated, decl, parameters, block, invocation, calls, workload}
+use Rattle.homeo_reader.specs.Engine.{Calls, Reading, ◌>>=◌, read, calls_at, empty, exists, begins, first_is}
 use Rattle.homeo_reader.specs.Reading.{mark_read, if_marked, on_marked, opt_of, opt_read, block_read}
-use Rattle.homeo_reader.specs.Declarations.{top, signed_read, signed_by, signed_do, range_read, range_do, object_rest, next_object_read, next_object_do, objects_read, transaction_rest, next_transaction_read, next_transaction_do, transactions_read, invocation_read, invocation_do, first_invocation_read, first_invocation_by, first_invocation_do, next_invocation_read, next_invocation_do, other_invocations_read, after_first, invocations_read, invocations_do, calls_read, calls_do, client_rest, next_client_read, next_client_do, clients_read, next_name_read, next_name_by, next_name_do, names_read, schedule_read, schedule_do, head_read, head_do, workload_read, workload_do}
+use Rattle.homeo_reader.specs.Declarations.{top, signed_read, signed_by, signed_do, range_read, range_do, object_rest, next_object_read, next_object_do, objects_read, after_first, decl_read, decl_do, first_decl_read, first_decl_by, first_decl_do, next_decl_read, next_decl_do, other_decls_read, parameters_read, parameters_do, transaction_rest, next_transaction_read, next_transaction_do, transactions_read, first_argument_read, first_argument_by, first_argument_do, next_argument_read, next_argument_do, other_arguments_read, arguments_read, arguments_do, invocation_read, invocation_do, first_invocation_read, first_invocation_by, first_invocation_do, next_invocation_read, next_invocation_do, other_invocations_read, invocations_read, invocations_do, calls_read, calls_do, client_rest, next_client_read, next_client_do, clients_read, next_name_read, next_name_by, next_name_do, names_read, schedule_read, schedule_do, head_read, head_do, workload_read, workload_do}
 use Rattle.homeo_reader.proofs.Flat.{read_then, reads, reads_part, flat, bind_assoc}
 use Rattle.homeo_reader.proofs.Lists.{opt_lead, opt_as, mapped}
 use Rattle.homeo_reader.proofs.CommandSteps.{begins_same}
@@ -59,11 +60,11 @@ object_body = seq ident (lead mark.In (seq range (lead mark.Equal signed)))
 abbrev object_of : Ident × ((Number × Number) × Number) → ObjectDecl
 object_of p = record { name = p.0; lo = p.1.0.0; hi = p.1.0.1; start = p.1.1 }
 
-abbrev transaction_body : Rule (Ident × s.Commands)
-transaction_body = seq ident (lead mark.Open (lead mark.Close block))
+abbrev transaction_body : Rule (Ident × (List RangeDecl × s.Commands))
+transaction_body = seq ident (lead mark.Open (seq (closed parameters mark.Close) block))
 
-abbrev transaction_of : Ident × s.Commands → s.Transaction
-transaction_of p = record { name = p.0; params = []; body = p.1 }
+abbrev transaction_of : Ident × (List RangeDecl × s.Commands) → s.Transaction
+transaction_of p = record { name = p.0; params = p.1.0; body = p.1.1 }
 
 some_block : (b : Bool) → (((b && true) || true) && true) ≡ true
 some_block true = refl
@@ -79,16 +80,75 @@ pub next_object_reads : (ts : List Token) → next_object_read ts ≡ next_objec
 unfolding next_object_read next_object_do object_rest range_read signed_read read_then
 next_object_reads ts = lead_rest top object_of mark.Object object_body object_rest refl (λ r. flat top object_body r (λ x. Ok (object_of x.0, x.1))) ts
 
+first_and : {X : Type 0} → (b : Bool) (x : Reading X) (others : List Token → Reading (List X)) (ts : List Token) → (if b then (x >>= λ x. others x.1 >>= λ y. Ok (x.0 ∷ y.0, y.1)) else Ok ([], ts)) ≡ (opt_of b x ts >>= λ x. after_first others x.0 x.1)
+unfolding after_first
+first_and true (Ok x) others ts = refl
+first_and true (Err e) others ts = refl
+first_and false x others ts = refl
+
+-- A list with marks between is the first, if there is one, and then the others.
+separated_reads : {X : Type 0} → (m : Mark) (g : Rule X) (full : empty g ≡ false) (ts : List Token) →
+    read top (part (separated m (part g))) ts ≡ (opt_read top (part g) ts >>= λ x. after_first (λ r. read top (many (lead m (part g))) r) x.0 x.1)
+unfolding read_then
+separated_reads m g full ts =
+    reads_part top (separated m (part g)) ts
+    ∙ ap (λ (b : Bool). if first_is (λ k. (begins top (part g) k && true) || (b && begins top (many (lead m (part g))) k)) ts then (read top (part g) ts >>= λ x. read top (many (lead m (part g))) x.1 >>= λ y. Ok (x.0 ∷ y.0, y.1)) else Ok ([], ts)) full
+    ∙ ap (λ (b : Bool). if b then (read top (part g) ts >>= λ x. read top (many (lead m (part g))) x.1 >>= λ y. Ok (x.0 ∷ y.0, y.1)) else Ok ([], ts)) (begins_same (begins top (part g)) (λ k. begins top (many (lead m (part g))) k) ts)
+    ∙ first_and (first_is (begins top (part g)) ts) (read top (part g) ts) (λ r. read top (many (lead m (part g))) r) ts
+
+pub decl_reads : (ts : List Token) → decl_read ts ≡ decl_do ts
+unfolding decl_read decl_do range_read read_then
+decl_reads ts = reads_part top _ ts
+
+first_decl_kind : (k : Kind) (o : ℕ) (ts : List Token) → first_decl_read (record { kind = k; offset = o } ∷ ts) ≡ first_decl_by k (record { kind = k; offset = o }) ts
+unfolding first_decl_read first_decl_by decl_read
+first_decl_kind (kind.Name n) o ts = refl
+first_decl_kind (kind.Fixed mark.Assign) o ts = refl
+first_decl_kind k o ts = refl
+
+pub first_decl_reads : (ts : List Token) → first_decl_read ts ≡ first_decl_do ts
+unfolding first_decl_read first_decl_do
+first_decl_reads [] = refl
+first_decl_reads (t ∷ ts) = first_decl_kind t.kind t.offset ts
+
+pub next_decl_reads : (ts : List Token) → next_decl_read ts ≡ next_decl_do ts
+unfolding next_decl_read next_decl_do decl_read
+next_decl_reads ts = opt_lead top mark.Comma decl refl ts
+
+pub parameters_reads : (ts : List Token) → parameters_read ts ≡ parameters_do ts
+unfolding parameters_read parameters_do first_decl_read other_decls_read
+parameters_reads ts = separated_reads mark.Comma _ refl ts
+
 pub next_transaction_reads : (ts : List Token) → next_transaction_read ts ≡ next_transaction_do ts
-unfolding next_transaction_read next_transaction_do transaction_rest block_read read_then
+unfolding next_transaction_read next_transaction_do transaction_rest parameters_read block_read read_then
 next_transaction_reads ts = lead_rest top transaction_of mark.Transaction transaction_body transaction_rest (some_block ((calls_at rule limit).exists Command)) (λ r. flat top transaction_body r (λ x. Ok (transaction_of x.0, x.1))) ts
 
 pub next_client_reads : (ts : List Token) → next_client_read ts ≡ next_client_do ts
 unfolding next_client_read next_client_do client_rest calls_read read_then
 next_client_reads ts = lead_rest top client_of mark.Client client_body client_rest refl (λ r. flat top client_body r (λ x. Ok (client_of x.0, x.1))) ts
 
+first_argument_kind : (k : Kind) (o : ℕ) (ts : List Token) → first_argument_read (record { kind = k; offset = o } ∷ ts) ≡ first_argument_by k (record { kind = k; offset = o }) ts
+unfolding first_argument_read first_argument_by signed_read
+first_argument_kind (kind.Fixed mark.Minus) o ts = refl
+first_argument_kind (kind.Number (pos n)) o ts = refl
+first_argument_kind (kind.Number (negsuc n)) o ts = refl
+first_argument_kind k o ts = refl
+
+pub first_argument_reads : (ts : List Token) → first_argument_read ts ≡ first_argument_do ts
+unfolding first_argument_read first_argument_do
+first_argument_reads [] = refl
+first_argument_reads (t ∷ ts) = first_argument_kind t.kind t.offset ts
+
+pub next_argument_reads : (ts : List Token) → next_argument_read ts ≡ next_argument_do ts
+unfolding next_argument_read next_argument_do signed_read
+next_argument_reads ts = opt_lead top mark.Comma signed refl ts
+
+pub arguments_reads : (ts : List Token) → arguments_read ts ≡ arguments_do ts
+unfolding arguments_read arguments_do first_argument_read other_arguments_read
+arguments_reads ts = separated_reads mark.Comma _ refl ts
+
 pub invocation_reads : (ts : List Token) → invocation_read ts ≡ invocation_do ts
-unfolding invocation_read invocation_do read_then
+unfolding invocation_read invocation_do arguments_read read_then
 invocation_reads ts = reads_part top _ ts
 
 first_invocation_kind : (k : Kind) (o : ℕ) (ts : List Token) → first_invocation_read (record { kind = k; offset = o } ∷ ts) ≡ first_invocation_by k (record { kind = k; offset = o }) ts
@@ -106,18 +166,9 @@ pub next_invocation_reads : (ts : List Token) → next_invocation_read ts ≡ ne
 unfolding next_invocation_read next_invocation_do invocation_read
 next_invocation_reads ts = opt_lead top mark.Semicolon invocation refl ts
 
-first_and : (b : Bool) (x : Reading s.Call) (ts : List Token) → (if b then (x >>= λ x. other_invocations_read x.1 >>= λ y. Ok (x.0 ∷ y.0, y.1)) else Ok ([], ts)) ≡ (opt_of b x ts >>= λ x. after_first x.0 x.1)
-unfolding after_first
-first_and true (Ok x) ts = refl
-first_and true (Err e) ts = refl
-first_and false x ts = refl
-
 pub invocations_reads : (ts : List Token) → invocations_read ts ≡ invocations_do ts
-unfolding invocations_read invocations_do first_invocation_read other_invocations_read read_then
-invocations_reads ts =
-    reads_part top _ ts
-    ∙ ap (λ (b : Bool). if b then (read top invocation ts >>= λ x. other_invocations_read x.1 >>= λ y. Ok (x.0 ∷ y.0, y.1)) else Ok ([], ts)) (begins_same (begins top invocation) (λ k. begins top (many (lead mark.Semicolon invocation)) k) ts)
-    ∙ first_and (first_is (begins top invocation) ts) (read top invocation ts) ts
+unfolding invocations_read invocations_do first_invocation_read other_invocations_read
+invocations_reads ts = separated_reads mark.Semicolon _ refl ts
 
 pub calls_reads : (ts : List Token) → calls_read ts ≡ calls_do ts
 unfolding calls_read calls_do invocations_read read_then
@@ -148,3 +199,9 @@ workload_reads names ts = reads top (workload names) ts
 
 abbrev pub semi_invocation : Rule s.Call
 semi_invocation = lead mark.Semicolon invocation
+
+abbrev pub comma_decl : Rule RangeDecl
+comma_decl = lead mark.Comma decl
+
+abbrev pub comma_argument : Rule Number
+comma_argument = lead mark.Comma signed

@@ -4,6 +4,7 @@ use Rattle.homeo_syntax.specs.declared.workload.RangeDecl.{RangeDecl}
 use Rattle.homeo_reader.proofs.Bools.{and_split}
 use Rattle.std.specs.Prelude.{None}
 use Rattle.homeo_syntax.specs.Key.{words}
+use Rattle.homeo_syntax.specs.declared.token.Mark.{Mark}
 use Rattle.homeo_syntax.specs.declared.token.Mark.TheVariants as mark
 use Rattle.homeo_syntax.specs.declared.token.Kind.{Kind}
 use Rattle.homeo_syntax.specs.declared.token.Kind.TheVariants as kind
@@ -158,20 +159,30 @@ module _ (n : ℕ) (M : Meaning) (hyp : (c : Deep) → Sound M (λ t. Named n t.
   object_kept : Sound M F rules.object (λ o. B o.name)
   object_kept = sound_part M F _ _ (sound_as M F _ _ _ (λ o. B o.name) (sound_lead M F mark.Object _ _ (sound_seq M F _ _ B (λ u. Unit {0}) ident_kept (anything _))) (λ p h. h.0))
 
+  separated_kept : {X : Type 0} → (m : Mark) (g : Rule X) (P : X → Type 0) → Sound M F g P → Sound M F (rules.separated m g) (Every P)
+  separated_kept m g P p =
+      sound_alt M F _ _ (Every P)
+      (sound_as M F _ _ _ (Every P) (sound_seq M F _ _ P (Every P) p (sound_many M F _ _ (sound_lead M F m _ P p))) (λ p h. (h.0, h.1)))
+      (sound_nothing M F [] _ tt)
+
+  decl_kept : Sound M F rules.decl (λ p. B p.name)
+  decl_kept = sound_part M F _ _ (sound_as M F _ _ _ (λ p. B p.name) (sound_seq M F _ _ B (λ u. Unit {0}) ident_kept (anything _)) (λ p h. h.0))
+
+  parameters_kept : Sound M F rules.parameters (Every (λ p. B p.name))
+  parameters_kept = sound_part M F _ _ (separated_kept mark.Comma rules.decl (λ p. B p.name) decl_kept)
+
   transaction_kept : Sound M F rules.transaction (IsTransaction B)
-  unfolding words
   transaction_kept =
-      sound_part M F _ _ (sound_as M F _ _ _ (IsTransaction B) (sound_lead M F mark.Transaction _ _ (sound_seq M F _ _ B (EachInCommands B) ident_kept (sound_lead M F mark.Open _ _ (sound_lead M F mark.Close _ (EachInCommands B) block_kept)))) (λ p h. (h.0, tt, h.1)))
+      sound_part M F _ _ (sound_as M F _ _ _ (IsTransaction B)
+      (sound_lead M F mark.Transaction _ _ (sound_seq M F _ _ B _ ident_kept (sound_lead M F mark.Open _ _ (sound_seq M F _ _ (Every (λ p. B p.name)) (EachInCommands B) (sound_closed M F mark.Close _ _ parameters_kept) block_kept))))
+      (λ p h. (h.0, each_of (λ p. B p.name) (λ p. B p.name) (λ a x. x) p.1.0 h.1.0, h.1.1)))
 
   invocation_kept : Sound M F rules.invocation (λ k. B k.name)
-  invocation_kept = sound_part M F _ _ (sound_as M F _ _ B (λ k. B k.name) (sound_closed M F mark.Close _ B (sound_closed M F mark.Open _ B ident_kept)) (λ a h. h))
+  invocation_kept = sound_part M F _ _ (sound_as M F _ _ _ (λ k. B k.name) (sound_seq M F _ _ B (λ u. Unit {0}) ident_kept (anything _)) (λ p h. h.0))
 
   calls_kept : Sound M F rules.calls (Every (λ k. B k.name))
   calls_kept =
-      sound_part M F _ _ (sound_lead M F mark.OpenBrace _ _ (sound_closed M F mark.CloseBrace _ _ (sound_part M F _ _
-      (sound_alt M F _ _ (Every (λ k. B k.name))
-      (sound_as M F _ _ _ (Every (λ k. B k.name)) (sound_seq M F _ _ (λ k. B k.name) (Every (λ k. B k.name)) invocation_kept (sound_many M F _ _ (sound_lead M F mark.Semicolon _ (λ k. B k.name) invocation_kept))) (λ p h. (h.0, h.1)))
-      (sound_nothing M F [] _ tt)))))
+      sound_part M F _ _ (sound_lead M F mark.OpenBrace _ _ (sound_closed M F mark.CloseBrace _ _ (sound_part M F _ _ (separated_kept mark.Semicolon rules.invocation (λ k. B k.name) invocation_kept))))
 
   number_kept : Sound M F rules.number (λ x. pos 0 ≤ℤ x.value)
   number_kept = sound_token M F _ _ _ _ _ (λ t h f. natural_value (value_in t.kind) (and_split _ (is_natural t.kind) h).1)

@@ -1,6 +1,6 @@
 -- The names of a text are distinct, and spelled as names.
 use Rattle.std.proofs.Common.{◌≡◌, ◌≢◌, ◌<◌, ◌≤◌, ◌+◌, ◌-◌, ℕ, zero, suc, Bool, true, false, cond, List, [], ◌∷◌, ◌++◌, length, get_or, take, refl, sym, ap, subst, ◌∙◌, arith, inl, inr, length-append}
-use Rattle.std.specs.Prelude.{Option, Some, None, Result, Ok, Err, nat_lt, pos, if◌then◌else◌, ◌||◌, ◌&&◌, not, AllPairs}
+use Rattle.std.specs.Prelude.{Option, Some, None, Result, Ok, Err, nat_lt, pos, if◌then◌else◌, ◌||◌, ◌&&◌, not, AllPairs, IfOk}
 use Rattle.std.specs.List.{list_all, list_any, take_while, prefix_len}
 use Rattle.std.specs.Str.{bytes_eq}
 use Rattle.std.proofs.lemmas.Bool.{cases_lt}
@@ -14,6 +14,10 @@ use Rattle.homeo_syntax.specs.Tokens.{Scanned, scanned_from, scanned_of, found, 
 use Rattle.homeo_syntax.specs.Rules.{IsWorkload}
 use Rattle.homeo_syntax.specs.Reads.{Reads}
 use Rattle.homeo_syntax.specs.WellFormed.{IsName, BeginsWithLetter, Each, EachIdent, IsBelow, IsWellFormed}
+use Rattle.homeo_syntax.specs.declared.workload.Workload.{Workload}
+use Rattle.homeo_syntax.specs.SourceView.{plain_workload}
+use Rattle.homeo_reader.specs.declared.reader.ReadRefusal.{ReadRefusal}
+use Rattle.homeo_reader.specs.Exact.{ReadsExactly}
 use Rattle.homeo_tokens.proofs.Names.{any_put, after_lexeme, bytes_same}
 use Rattle.homeo_tokens.proofs.Steps.{letter_word}
 use Rattle.homeo_reader.proofs.Keeps.{Fine}
@@ -232,3 +236,7 @@ well_formed text w r =
       named = subst (λ (l : List (List ℕ)). EachIdent (IsBelow (length l)) w) (sym k.names_are) k.named;
       sites = k.sites;
     }
+
+pub formed : (text : List ℕ) (x : Result Workload ReadRefusal) → ReadsExactly text x → IfOk x (λ w. IsWellFormed (plain_workload w))
+formed text (Ok w) p = well_formed text (plain_workload w) p
+formed text (Err e) p = tt

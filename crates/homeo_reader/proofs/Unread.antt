@@ -1,5 +1,5 @@
 -- A text at fault reads as no workload, and a text reads as one at most.
-use Rattle.std.proofs.Common.{◌≡◌, ℕ, Bool, true, false, List, [], ◌∷◌, refl, subst, ap, ◌∙◌, sym, inl, inr, not, ◌+◌, map, cond}
+use Rattle.std.proofs.Common.{◌≡◌, ℕ, Bool, true, false, List, [], ◌∷◌, refl, subst, ap, ◌∙◌, sym, inl, inr, not, ◌+◌, length, map, cond}
 use Rattle.std.specs.Prelude.{Option, Some, None, Result, Ok, Err, position, ◌&&◌}
 use Rattle.std.specs.List.{list_all, position_from}
 use Rattle.std.proofs.lemmas.Iterator.Adapters.{position_from-zero}
@@ -8,7 +8,7 @@ use Rattle.homeo_syntax.specs.declared.workload.Refusal.{Refusal}
 use Rattle.homeo_syntax.specs.Source as s
 use Rattle.homeo_syntax.specs.Tokens.{is_good, IsClean, Scanned, scanned_of, names_of, tokens_in}
 use Rattle.homeo_syntax.specs.Rules.{IsWorkload}
-use Rattle.homeo_syntax.specs.Reads.{Reads, IsUnread}
+use Rattle.homeo_syntax.specs.Reads.{Reads, IsUnread, offset_at}
 use Rattle.homeo_syntax.specs.declared.workload.Workload.{Workload}
 use Rattle.homeo_syntax.specs.SourceView.{plain_workload}
 use Rattle.homeo_syntax.specs.Grammar.{IsFault}
@@ -22,8 +22,8 @@ use Rattle.homeo_reader.specs.declared.parser.Fault.TheVariants as fault
 use Rattle.homeo_reader.specs.declared.reader.ReadRefusal.{ReadRefusal}
 use Rattle.homeo_reader.specs.declared.reader.ReadRefusal.TheVariants.{Refused, Memory}
 use Rattle.homeo_reader.specs.Reading.{Gives}
-use Rattle.homeo_reader.specs.Exact.{IsAtFault, ReadsExactly, ParsesExactly, offset_at}
-use Rattle.homeo_reader.proofs.Faults.{no_phrase}
+use Rattle.homeo_reader.specs.Exact.{ReadsExactly, ParsesExactly}
+use Rattle.homeo_reader.proofs.Faults.{one_fault, no_phrase}
 use Rattle.homeo_reader.specs.Declarations.{workload_read}
 use Rattle.homeo_reader.proofs.Top.{one_workload, at_fault}
 
@@ -62,13 +62,41 @@ clean_text text h = clean_from text 0 (sym (position_from-zero is_bad text) ∙ 
 bad_text : (text : List ℕ) (at : ℕ) → position (λ b. not (is_good b)) text ≡ Some at → IsClean text → ⊥
 bad_text text at h c = bad_from text 0 at (sym (position_from-zero is_bad text) ∙ h) c
 
-pub unread : (text : List ℕ) (end : ℕ) (r : Refusal) → IsAtFault text end r → (w : s.Workload) → Reads text w → ⊥
-unread text end r (inl f) w p = bad_text text r.offset f.at p.clean
-unread text end r (inr (inl f)) w p = let a = f.at in let b = p.lexemes in cc
-unread text end r (inr (inr f)) w p =
+pub unread : (text : List ℕ) (r : Refusal) (w : s.Workload) → IsUnread text r → Reads text w → ⊥
+unread text r w (inl f) p = bad_text text r.offset f.at p.clean
+unread text r w (inr (inl f)) p = let a = f.at in let b = p.lexemes in cc
+unread text r w (inr (inr f)) p =
     let e = same_scan p.scanned f.scanned (scanned_of text) p.lexemes f.lexemes in
     no_phrase (IsWorkload (names_of f.scanned)) (tokens_in (names_of f.scanned) f.scanned) f.fault f.stuck w
     (subst (λ (x : List Scanned). IsWorkload (names_of x) w (tokens_in (names_of x) x)) e p.spells)
+
+same_parts : (r q : Refusal) → r.code ≡ q.code → r.offset ≡ q.offset → r ≡ q
+same_parts r q c o =
+    ap (λ (n : ℕ). record { code = n; offset = r.offset }) c ∙ ap (λ (n : ℕ). record { code = q.code; offset = n }) o
+
+same_place : (x : Option ℕ) (a b : ℕ) → x ≡ Some a → x ≡ Some b → a ≡ b
+same_place x a b p q = cc
+
+same_stop : (x : Result (List Scanned) ℕ) (a b : ℕ) → x ≡ Err a → x ≡ Err b → a ≡ b
+same_stop x a b p q = cc
+
+-- a text has one refusal
+pub one_refusal : (text : List ℕ) (r q : Refusal) → IsUnread text r → IsUnread text q → r ≡ q
+one_refusal text r q (inl f) (inl g) =
+    same_parts r q (f.code ∙ sym g.code) (same_place (position (λ b. not (is_good b)) text) r.offset q.offset f.at g.at)
+one_refusal text r q (inl f) (inr (inl g)) = absurd (bad_text text r.offset f.at g.clean)
+one_refusal text r q (inl f) (inr (inr g)) = absurd (bad_text text r.offset f.at g.clean)
+one_refusal text r q (inr (inl f)) (inl g) = absurd (bad_text text q.offset g.at f.clean)
+one_refusal text r q (inr (inr f)) (inl g) = absurd (bad_text text q.offset g.at f.clean)
+one_refusal text r q (inr (inl f)) (inr (inl g)) =
+    same_parts r q (f.code ∙ sym g.code) (same_stop (scanned_of text) r.offset q.offset f.at g.at)
+one_refusal text r q (inr (inl f)) (inr (inr g)) = let a = f.at in let b = g.lexemes in let no : ⊥ = cc in absurd no
+one_refusal text r q (inr (inr f)) (inr (inl g)) = let a = g.at in let b = f.lexemes in let no : ⊥ = cc in absurd no
+one_refusal text r q (inr (inr f)) (inr (inr g)) =
+    let e = same_scan g.scanned f.scanned (scanned_of text) g.lexemes f.lexemes in
+    let k = one_fault (IsWorkload (names_of f.scanned)) (tokens_in (names_of f.scanned) f.scanned) f.fault g.fault f.stuck
+    (subst (λ (x : List Scanned). IsFault (IsWorkload (names_of x)) (tokens_in (names_of x) x) g.fault) e g.stuck) in
+    same_parts r q (f.code ∙ sym g.code) (f.at ∙ ap (offset_at (length text)) k ∙ sym g.at)
 
 -- ---- what the functions of the reader return
 pub refused_at : (names : List (List ℕ)) (ts rest : List Token) (end offset : ℕ) (x : ReadRefusal) → x ≡ Refused (record { code = 4; offset = offset }) → offset ≡ offset_at end rest → IsFault (IsWorkload names) ts rest → ParsesExactly names ts end (Err x)
@@ -79,36 +107,21 @@ pub fault_refused : (names : List (List ℕ)) (ts rest : List Token) (end offset
 fault_refused names ts rest end offset fault.Memory x g m k o = subst (λ (x : ReadRefusal). ParsesExactly names ts end (Err x)) (sym (m refl)) tt
 fault_refused names ts rest end offset fault.Stuck x g m k o = refused_at names ts rest end offset x (k refl) o (at_fault names ts rest g)
 
-pub no_token : (text : List ℕ) (end offset : ℕ) (x : ReadRefusal) (e : ScanError) → x ≡ Refused (record { code = 3; offset = offset }) → Stops text e → e ≡ scan.At offset → position (λ b. not (is_good b)) text ≡ None → ReadsExactly text end (Err x)
-no_token text end offset x e h stops is clean =
-    subst (λ (x : ReadRefusal). ReadsExactly text end (Err x)) (sym h)
+pub no_token : (text : List ℕ) (offset : ℕ) (x : ReadRefusal) (e : ScanError) → x ≡ Refused (record { code = 3; offset = offset }) → Stops text e → e ≡ scan.At offset → position (λ b. not (is_good b)) text ≡ None → ReadsExactly text (Err x)
+no_token text offset x e h stops is clean =
+    subst (λ (x : ReadRefusal). ReadsExactly text (Err x)) (sym h)
     (inr (inl (record { code = refl; clean = clean_text text clean; at = subst (Stops text) is stops })))
 
-parsed_with : (text : List ℕ) (end : ℕ) (scanned : List Scanned) (x : Result Workload ReadRefusal) → IsClean text → scanned_of text ≡ Ok scanned → ParsesExactly (names_of scanned) (tokens_in (names_of scanned) scanned) end x → ReadsExactly text end x
-parsed_with text end scanned (Ok w) clean e p = record { clean = clean; scanned = scanned; lexemes = e; spells = p }
-parsed_with text end scanned (Err Memory) clean e p = tt
-parsed_with text end scanned (Err (Refused r)) clean e p =
+parsed_with : (text : List ℕ) (scanned : List Scanned) (x : Result Workload ReadRefusal) → IsClean text → scanned_of text ≡ Ok scanned → ParsesExactly (names_of scanned) (tokens_in (names_of scanned) scanned) (length text) x → ReadsExactly text x
+parsed_with text scanned (Ok w) clean e p = record { clean = clean; scanned = scanned; lexemes = e; spells = p }
+parsed_with text scanned (Err Memory) clean e p = tt
+parsed_with text scanned (Err (Refused r)) clean e p =
     inr (inr (record { code = ap (λ (r : Refusal). r.code) p.2; clean = clean; scanned = scanned; lexemes = e; fault = p.0; stuck = p.1; at = ap (λ (r : Refusal). r.offset) p.2 }))
 
-pub parsed : (text : List ℕ) (end : ℕ) (items written : List Written) (names : List (List ℕ)) (numbered tokens : List Token) (x : Result Workload ReadRefusal) → position (λ b. not (is_good b)) text ≡ None →
-    scanned_of text ≡ Ok (map plain_scanned items) → written ≡ items → names ≡ names_of (map plain_scanned written) → numbered ≡ tokens_in (names_of (map plain_scanned written)) (map plain_scanned written) → tokens ≡ numbered → ParsesExactly names tokens end x → ReadsExactly text end x
-parsed text end items written names numbered tokens x clean e w n t u p =
+pub parsed : (text : List ℕ) (items written : List Written) (names : List (List ℕ)) (numbered tokens : List Token) (x : Result Workload ReadRefusal) → position (λ b. not (is_good b)) text ≡ None →
+    scanned_of text ≡ Ok (map plain_scanned items) → written ≡ items → names ≡ names_of (map plain_scanned written) → numbered ≡ tokens_in (names_of (map plain_scanned written)) (map plain_scanned written) → tokens ≡ numbered → ParsesExactly names tokens (length text) x → ReadsExactly text x
+parsed text items written names numbered tokens x clean e w n t u p =
     let all : names ≡ names_of (map plain_scanned items) = n ∙ ap (λ (l : List Written). names_of (map plain_scanned l)) w in
     let each : tokens ≡ tokens_in (names_of (map plain_scanned items)) (map plain_scanned items) = u ∙ t ∙ ap (λ (l : List Written). tokens_in (names_of (map plain_scanned l)) (map plain_scanned l)) w in
-    parsed_with text end (map plain_scanned items) x (clean_text text clean) e
-    (subst (λ (ts : List Token). ParsesExactly (names_of (map plain_scanned items)) ts end x) each (subst (λ (l : List (List ℕ)). ParsesExactly l tokens end x) all p))
-
-same_refusal : (p q : Refusal) (x : ReadRefusal) → x ≡ Refused p → x ≡ Refused q → p ≡ q
-same_refusal p q x e f = cc
-
-pub unread_as : (text : List ℕ) (end : ℕ) (x : Result Workload ReadRefusal) (e y : ReadRefusal) (q r : Refusal) → ReadsExactly text end x → x ≡ Err e → e ≡ Refused q → y ≡ Refused (record { code = 0; offset = 0 }) → y ≡ Refused r → IsUnread text r
-unread_as text end x e y q r h is e_is f g =
-    let same = same_refusal r (record { code = 0; offset = 0 }) y g f in
-    record {
-      unread = unread text end q (subst (ReadsExactly text end) (is ∙ ap (λ (e : ReadRefusal). Err e) e_is) h);
-      code = ap (λ (r : Refusal). r.code) same;
-      offset = ap (λ (r : Refusal). r.offset) same;
-    }
-
-pub same_err : {X Y : Type 0} → (a b : Y) → (let e : Result X Y = Err a in e ≡ Err b) → a ≡ b
-same_err a b h = cc
+    parsed_with text (map plain_scanned items) x (clean_text text clean) e
+    (subst (λ (ts : List Token). ParsesExactly (names_of (map plain_scanned items)) ts (length text) x) each (subst (λ (l : List (List ℕ)). ParsesExactly l tokens (length text) x) all p))

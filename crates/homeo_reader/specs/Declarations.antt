@@ -1,5 +1,5 @@
 -- What the parser reads of declarations.
-use Rattle.std.specs.Prelude.{ℕ, List, [], ◌∷◌, map, Option, Some, None, Ok, Err}
+use Rattle.std.specs.Prelude.{ℕ, pos, List, [], ◌∷◌, map, Option, Some, None, Ok, Err}
 use Rattle.homeo_syntax.specs.declared.token.Mark.TheVariants as mark
 use Rattle.homeo_syntax.specs.declared.token.Kind.{Kind}
 use Rattle.homeo_syntax.specs.declared.token.Kind.TheVariants as kind
@@ -7,6 +7,7 @@ use Rattle.homeo_syntax.specs.declared.token.Token.{Token}
 use Rattle.homeo_syntax.specs.declared.phrase.Ident.{Ident}
 use Rattle.homeo_syntax.specs.declared.phrase.Number.{Number}
 use Rattle.homeo_syntax.specs.declared.workload.ObjectDecl.{ObjectDecl}
+use Rattle.homeo_syntax.specs.declared.workload.RangeDecl.{RangeDecl}
 use Rattle.homeo_syntax.specs.declared.workload.Call.{Call}
 use Rattle.homeo_syntax.specs.declared.workload.Transaction.{Transaction}
 use Rattle.homeo_syntax.specs.declared.workload.Client.{Client}
@@ -43,11 +44,38 @@ next_object_read ts = opt_read top rules.object ts
 unfoldable pub objects_read : List Token → Reading (List ObjectDecl)
 objects_read ts = read top (many rules.object) ts
 
+unfoldable pub decl_read : List Token → Reading RangeDecl
+decl_read ts = read top rules.decl ts
+
+unfoldable pub first_decl_read : List Token → Reading (Option RangeDecl)
+first_decl_read ts = opt_read top rules.decl ts
+
+unfoldable pub next_decl_read : List Token → Reading (Option RangeDecl)
+next_decl_read ts = opt_read top (lead mark.Comma rules.decl) ts
+
+unfoldable pub other_decls_read : List Token → Reading (List RangeDecl)
+other_decls_read ts = read top (many (lead mark.Comma rules.decl)) ts
+
+unfoldable pub parameters_read : List Token → Reading (List RangeDecl)
+parameters_read ts = read top rules.parameters ts
+
 unfoldable pub next_transaction_read : List Token → Reading (Option s.Transaction)
 next_transaction_read ts = opt_read top rules.transaction ts
 
 unfoldable pub transactions_read : List Token → Reading (List s.Transaction)
 transactions_read ts = read top (many rules.transaction) ts
+
+unfoldable pub first_argument_read : List Token → Reading (Option Number)
+first_argument_read ts = opt_read top rules.signed ts
+
+unfoldable pub next_argument_read : List Token → Reading (Option Number)
+next_argument_read ts = opt_read top (lead mark.Comma rules.signed) ts
+
+unfoldable pub other_arguments_read : List Token → Reading (List Number)
+other_arguments_read ts = read top (many (lead mark.Comma rules.signed)) ts
+
+unfoldable pub arguments_read : List Token → Reading (List Number)
+arguments_read ts = read top rules.arguments ts
 
 unfoldable pub invocation_read : List Token → Reading s.Call
 invocation_read ts = read top rules.invocation ts
@@ -108,16 +136,55 @@ object_rest ts =
 unfoldable pub next_object_do : List Token → Reading (Option ObjectDecl)
 next_object_do ts = if_marked mark.Object ts (λ r. object_rest r >>= λ x. Ok (Some x.0, x.1)) (Ok (None, ts))
 
+-- the first of a list, and then the others
+unfoldable pub after_first : {X : Type 0} → (List Token → Reading (List X)) → Option X → List Token → Reading (List X)
+after_first others None ts = Ok ([], ts)
+after_first others (Some x) ts = others ts >>= λ y. Ok (x ∷ y.0, y.1)
+
+unfoldable pub decl_do : List Token → Reading RangeDecl
+decl_do ts =
+    ident_read ts >>= λ a. mark_read mark.In a.1 >>= λ b. range_read b.1 >>= λ c. Ok (record { name = a.0; lo = c.0.0; hi = c.0.1 }, c.1)
+
+unfoldable pub first_decl_by : Kind → Token → List Token → Reading (Option RangeDecl)
+first_decl_by (kind.Name n) t ts = decl_read (t ∷ ts) >>= λ x. Ok (Some x.0, x.1)
+first_decl_by _ t ts = Ok (None, t ∷ ts)
+
+unfoldable pub first_decl_do : List Token → Reading (Option RangeDecl)
+first_decl_do [] = Ok (None, [])
+first_decl_do (t ∷ ts) = first_decl_by t.kind t ts
+
+unfoldable pub next_decl_do : List Token → Reading (Option RangeDecl)
+next_decl_do ts = if_marked mark.Comma ts (λ r. decl_read r >>= λ x. Ok (Some x.0, x.1)) (Ok (None, ts))
+
+unfoldable pub parameters_do : List Token → Reading (List RangeDecl)
+parameters_do ts = first_decl_read ts >>= λ x. after_first other_decls_read x.0 x.1
+
 -- what follows `transaction`
 unfoldable pub transaction_rest : List Token → Reading s.Transaction
 transaction_rest ts =
-    ident_read ts >>= λ a. mark_read mark.Open a.1 >>= λ b. mark_read mark.Close b.1 >>= λ c. block_read limit c.1 >>= λ d. Ok (record { name = a.0; params = []; body = d.0 }, d.1)
+    ident_read ts >>= λ a. mark_read mark.Open a.1 >>= λ b. parameters_read b.1 >>= λ c. mark_read mark.Close c.1 >>= λ d. block_read limit d.1 >>= λ e. Ok (record { name = a.0; params = c.0; body = e.0 }, e.1)
 
 unfoldable pub next_transaction_do : List Token → Reading (Option s.Transaction)
 next_transaction_do ts = if_marked mark.Transaction ts (λ r. transaction_rest r >>= λ x. Ok (Some x.0, x.1)) (Ok (None, ts))
 
+unfoldable pub first_argument_by : Kind → Token → List Token → Reading (Option Number)
+first_argument_by (kind.Fixed mark.Minus) t ts = signed_read (t ∷ ts) >>= λ x. Ok (Some x.0, x.1)
+first_argument_by (kind.Number (pos n)) t ts = signed_read (t ∷ ts) >>= λ x. Ok (Some x.0, x.1)
+first_argument_by _ t ts = Ok (None, t ∷ ts)
+
+unfoldable pub first_argument_do : List Token → Reading (Option Number)
+first_argument_do [] = Ok (None, [])
+first_argument_do (t ∷ ts) = first_argument_by t.kind t ts
+
+unfoldable pub next_argument_do : List Token → Reading (Option Number)
+next_argument_do ts = if_marked mark.Comma ts (λ r. signed_read r >>= λ x. Ok (Some x.0, x.1)) (Ok (None, ts))
+
+unfoldable pub arguments_do : List Token → Reading (List Number)
+arguments_do ts = first_argument_read ts >>= λ x. after_first other_arguments_read x.0 x.1
+
 unfoldable pub invocation_do : List Token → Reading s.Call
-invocation_do ts = ident_read ts >>= λ a. mark_read mark.Open a.1 >>= λ b. mark_read mark.Close b.1 >>= λ c. Ok (record { name = a.0; args = [] }, c.1)
+invocation_do ts =
+    ident_read ts >>= λ a. mark_read mark.Open a.1 >>= λ b. arguments_read b.1 >>= λ c. mark_read mark.Close c.1 >>= λ d. Ok (record { name = a.0; args = c.0 }, d.1)
 
 unfoldable pub first_invocation_by : Kind → Token → List Token → Reading (Option s.Call)
 first_invocation_by (kind.Name n) t ts = invocation_read (t ∷ ts) >>= λ x. Ok (Some x.0, x.1)
@@ -130,12 +197,8 @@ first_invocation_do (t ∷ ts) = first_invocation_by t.kind t ts
 unfoldable pub next_invocation_do : List Token → Reading (Option s.Call)
 next_invocation_do ts = if_marked mark.Semicolon ts (λ r. invocation_read r >>= λ x. Ok (Some x.0, x.1)) (Ok (None, ts))
 
-unfoldable pub after_first : Option s.Call → List Token → Reading (List s.Call)
-after_first None ts = Ok ([], ts)
-after_first (Some x) ts = other_invocations_read ts >>= λ y. Ok (x ∷ y.0, y.1)
-
 unfoldable pub invocations_do : List Token → Reading (List s.Call)
-invocations_do ts = first_invocation_read ts >>= λ x. after_first x.0 x.1
+invocations_do ts = first_invocation_read ts >>= λ x. after_first other_invocations_read x.0 x.1
 
 unfoldable pub calls_do : List Token → Reading (List s.Call)
 calls_do ts = mark_read mark.OpenBrace ts >>= λ a. invocations_read a.1 >>= λ b. mark_read mark.CloseBrace b.1 >>= λ c. Ok (b.0, c.1)

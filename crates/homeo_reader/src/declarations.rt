@@ -3,11 +3,12 @@
 ghost use Rattle.std.specs.Prelude.{◌≡◌, ◌≤ℤ◌, pos, map, option_map, Ok, IfOk};
 ghost use Rattle.homeo_syntax.specs.SourceView.{plain_call, plain_transaction, plain_client, plain_schedule, plain_workload};
 ghost use Rattle.homeo_reader.specs.Reading.{Gives, same, number_read, number_is_read, offset_read};
-ghost use Rattle.homeo_reader.specs.Declarations.{call_views, transaction_views, client_views, signed_read, range_read, object_rest, next_object_read, objects_read, transaction_rest, next_transaction_read, transactions_read, invocation_read, first_invocation_read, next_invocation_read, other_invocations_read, invocations_read, calls_read, client_rest, next_client_read, clients_read, next_name_read, names_read, schedule_read, head_read, workload_read};
+ghost use Rattle.homeo_reader.specs.Declarations.{call_views, transaction_views, client_views, signed_read, range_read, object_rest, next_object_read, objects_read, decl_read, first_decl_read, next_decl_read, other_decls_read, parameters_read, transaction_rest, next_transaction_read, transactions_read, first_argument_read, next_argument_read, other_arguments_read, arguments_read, invocation_read, first_invocation_read, next_invocation_read, other_invocations_read, invocations_read, calls_read, client_rest, next_client_read, clients_read, next_name_read, names_read, schedule_read, head_read, workload_read};
 
 use crate::parser::{Fault, Parser, list_of};
 use homeo_syntax::{
-    Call, Client, Ident, Kind, List, Mark, Number, ObjectDecl, Text, Transaction, Workload,
+    Call, Client, Ident, Kind, List, Mark, Number, ObjectDecl, RangeDecl, Text, Transaction,
+    Workload,
 };
 use std::alloc::Global;
 
@@ -141,6 +142,72 @@ impl<'a> Parser<'a> {
         Ok(items)
     }
 
+    /// Takes a name with its range.
+    #[tactic(auto, using(crate::proofs::DeclarationSteps::decl_reads), unfolding(crate::specs::Declarations::decl_do))]
+    fn decl(&mut self) -> Result<RangeDecl, Fault>
+        ensures { Gives same result self.new.rest.now (decl_read self.old.rest.now) }
+    {
+        let name = self.name()?;
+        self.expect(Mark::In)?;
+        let (lo, hi) = self.range()?;
+        Ok(RangeDecl { name, lo, hi })
+    }
+
+    /// A parameter, if one comes next.
+    #[tactic(auto, using(crate::proofs::DeclarationSteps::first_decl_reads), unfolding(crate::specs::Declarations::first_decl_do, crate::specs::Declarations::first_decl_by))]
+    fn first_decl(&mut self) -> Result<Option<RangeDecl>, Fault>
+        ensures { Gives same result self.new.rest.now (first_decl_read self.old.rest.now) }
+    {
+        match self.rest.split_first() {
+            Some((t, _)) => match t.kind {
+                Kind::Name(_) => {
+                    let decl = self.decl()?;
+                    Ok(Some(decl))
+                }
+                _ => Ok(None),
+            },
+            None => Ok(None),
+        }
+    }
+
+    /// A parameter after a comma, if one comes next.
+    #[tactic(auto, using(crate::proofs::DeclarationSteps::next_decl_reads), unfolding(crate::specs::Declarations::next_decl_do))]
+    fn next_decl(&mut self) -> Result<Option<RangeDecl>, Fault>
+        ensures { Gives same result self.new.rest.now (next_decl_read self.old.rest.now) }
+    {
+        if self.takes(Mark::Comma) {
+            let decl = self.decl()?;
+            Ok(Some(decl))
+        } else {
+            Ok(None)
+        }
+    }
+
+    /// The parameters that go on with a list.
+    fn other_decls(&mut self, alloc: Global) -> Result<Vec<RangeDecl>, Fault>
+        ensures { Gives (λ v. v.items) result self.new.rest.now (other_decls_read self.old.rest.now) }
+    {
+        let mut items = Vec::new(alloc);
+        'more: while let Some(item) = self.next_decl()? {
+            items.push(item)?;
+        }
+        Ok(items)
+    }
+
+    /// The parameters of a transaction, which may be none.
+    #[tactic(auto, using(crate::proofs::DeclarationSteps::parameters_reads), unfolding(crate::specs::Declarations::parameters_do, crate::specs::Declarations::after_first))]
+    fn parameters(&mut self, alloc: Global) -> Result<List<RangeDecl>, Fault>
+        ensures { Gives (λ l. l.items) result self.new.rest.now (parameters_read self.old.rest.now) }
+    {
+        match self.first_decl()? {
+            Some(first) => {
+                let others = self.other_decls(alloc)?;
+                list_of(first, others)
+            }
+            None => Ok(List::new(alloc)),
+        }
+    }
+
     /// What follows `transaction`.
     #[tactic(auto, using(homeo_syntax::proofs::SourceViews::workload_views), unfolding(crate::specs::Declarations::transaction_rest, homeo_syntax::specs::Rules::limit))]
     fn transaction_after_word(&mut self, alloc: Global) -> Result<Transaction, Fault>
@@ -148,13 +215,10 @@ impl<'a> Parser<'a> {
     {
         let name = self.name()?;
         self.expect(Mark::Open)?;
+        let params = self.parameters(alloc)?;
         self.expect(Mark::Close)?;
         let body = self.block(alloc, LIMIT)?;
-        Ok(Transaction {
-            name,
-            params: List::new(alloc),
-            body,
-        })
+        Ok(Transaction { name, params, body })
     }
 
     /// A transaction, if one comes next.
@@ -180,6 +244,65 @@ impl<'a> Parser<'a> {
         Ok(items)
     }
 
+    /// An argument, if one comes next.
+    #[tactic(auto, using(crate::proofs::DeclarationSteps::first_argument_reads), unfolding(crate::specs::Declarations::first_argument_do, crate::specs::Declarations::first_argument_by))]
+    fn first_argument(&mut self) -> Result<Option<Number>, Fault>
+        ensures { Gives same result self.new.rest.now (first_argument_read self.old.rest.now) }
+    {
+        match self.rest.split_first() {
+            Some((t, _)) => match t.kind {
+                Kind::Fixed(Mark::Minus) => {
+                    let argument = self.signed()?;
+                    Ok(Some(argument))
+                }
+                Kind::Number(value) if value >= 0 => {
+                    let argument = self.signed()?;
+                    Ok(Some(argument))
+                }
+                _ => Ok(None),
+            },
+            None => Ok(None),
+        }
+    }
+
+    /// An argument after a comma, if one comes next.
+    #[tactic(auto, using(crate::proofs::DeclarationSteps::next_argument_reads), unfolding(crate::specs::Declarations::next_argument_do))]
+    fn next_argument(&mut self) -> Result<Option<Number>, Fault>
+        ensures { Gives same result self.new.rest.now (next_argument_read self.old.rest.now) }
+    {
+        if self.takes(Mark::Comma) {
+            let argument = self.signed()?;
+            Ok(Some(argument))
+        } else {
+            Ok(None)
+        }
+    }
+
+    /// The arguments that go on with a list.
+    fn other_arguments(&mut self, alloc: Global) -> Result<Vec<Number>, Fault>
+        ensures { Gives (λ v. v.items) result self.new.rest.now (other_arguments_read self.old.rest.now) }
+    {
+        let mut items = Vec::new(alloc);
+        'more: while let Some(item) = self.next_argument()? {
+            items.push(item)?;
+        }
+        Ok(items)
+    }
+
+    /// The arguments of a call, which may be none.
+    #[tactic(auto, using(crate::proofs::DeclarationSteps::arguments_reads), unfolding(crate::specs::Declarations::arguments_do, crate::specs::Declarations::after_first))]
+    fn arguments(&mut self, alloc: Global) -> Result<List<Number>, Fault>
+        ensures { Gives (λ l. l.items) result self.new.rest.now (arguments_read self.old.rest.now) }
+    {
+        match self.first_argument()? {
+            Some(first) => {
+                let others = self.other_arguments(alloc)?;
+                list_of(first, others)
+            }
+            None => Ok(List::new(alloc)),
+        }
+    }
+
     /// Takes a call.
     #[tactic(auto, using(crate::proofs::DeclarationSteps::invocation_reads, homeo_syntax::proofs::SourceViews::workload_views), unfolding(crate::specs::Declarations::invocation_do))]
     fn invocation(&mut self, alloc: Global) -> Result<Call, Fault>
@@ -187,11 +310,9 @@ impl<'a> Parser<'a> {
     {
         let name = self.name()?;
         self.expect(Mark::Open)?;
+        let args = self.arguments(alloc)?;
         self.expect(Mark::Close)?;
-        Ok(Call {
-            name,
-            args: List::new(alloc),
-        })
+        Ok(Call { name, args })
     }
 
     /// A call, if one comes next.

@@ -3,9 +3,9 @@
 ghost use Rattle.std.specs.Prelude.{◌≡◌, ◌<◌, ◌≤◌, ◌^◌, length, IfOk, IsErrOf};
 ghost use Rattle.homeo_syntax.specs.declared.workload.Refusal.{Refusal};
 ghost use Rattle.homeo_syntax.specs.SourceView.{plain_workload};
-ghost use Rattle.homeo_syntax.specs.Reads.{Reads, IsUnread};
+ghost use Rattle.homeo_syntax.specs.Reads.{Reads, IsUnread, offset_at};
 ghost use Rattle.homeo_syntax.specs.WellFormed.{IsWellFormed};
-ghost use Rattle.homeo_reader.specs.Exact.{ReadsExactly, ParsesExactly, offset_at};
+ghost use Rattle.homeo_reader.specs.Exact.{ReadsExactly, ParsesExactly};
 
 use crate::parser::{Fault, Parser};
 use homeo_syntax::{List, Refusal, Text, Token, Workload};
@@ -82,7 +82,7 @@ fn refused(code: u8, offset: u64) -> ReadRefusal
 /// Reads a workload, or says where its first fault stands.
 fn read_exactly(alloc: Global, bytes: &[u8]) -> Result<Workload, ReadRefusal>
     requires { length bytes.now ≤ 1048576 }
-    ensures { ReadsExactly bytes.now (length bytes.now) result }
+    ensures { ReadsExactly bytes.now result }
 {
     if let Some(offset) = first_bad_byte(bytes) {
         return Err(refused(BAD_BYTE, offset as u64));
@@ -103,17 +103,14 @@ fn read_exactly(alloc: Global, bytes: &[u8]) -> Result<Workload, ReadRefusal>
 
 /// Reads a workload from its text, in the time that the text's length takes.
 ///
-/// `Refused` comes exactly for a text that is no workload, with code 0 at offset 0: its own code and place are not
-/// told yet. `Memory` is want of memory.
+/// `Refused` comes exactly for a text that is no workload, with the code and the offset of its first fault: 1 at the
+/// first byte that no text may have; else 3 at the first place where a token should begin and none does; else 4 at
+/// the first token with which no workload goes on, or at the text's length. `Memory` is want of memory.
 pub fn read(alloc: Global, bytes: &[u8]) -> Result<Workload, ReadRefusal>
     requires { length bytes.now ≤ 1048576 }
     ensures reads { IfOk result (λ w. Reads bytes.now (plain_workload w)) }
     ensures well_formed { IfOk result (λ w. IsWellFormed (plain_workload w)) }
     ensures refused { (r : Refusal) → IsErrOf result (ReadRefusal.Refused r) → IsUnread bytes.now r }
 {
-    match read_exactly(alloc, bytes) {
-        Ok(workload) => Ok(workload),
-        Err(ReadRefusal::Memory) => Err(ReadRefusal::Memory),
-        Err(ReadRefusal::Refused(_)) => Err(refused(0, 0)),
-    }
+    read_exactly(alloc, bytes)
 }

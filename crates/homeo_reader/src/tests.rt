@@ -1,57 +1,116 @@
 //! Texts that read as a workload, and texts that do not.
 
 use crate::{ReadRefusal, read};
-use homeo_syntax::{Command, Refusal};
+use homeo_syntax::{Client, Command, Number, Refusal};
 use std::alloc::Global;
 
 const ROW: &[u8] =
-    b"workload 1\nsites 2\nobject x in 0..3 = 2\ntransaction up() { write(x = read(x) + 1); print(read(x)) }\nclient a at 0 { up() }\nclient b at 1 { up() }\nschedule b a\nend\n";
+    b"workload 1\nsites 2\nobject x in 0..3 = 2\ntransaction up(n in 0..9, m in -3..- 2) { write(x = read(x) + n); print(m) }\nclient a at 0 { up(7, - 3) }\nclient b at 1 { up(0,-2); up(1,-2) }\nschedule b a b\nend\n";
 
-const READ: [&[u8]; 7] = [
+const READ: [&[u8]; 9] = [
     b"workload 1 sites 2 end",
     b"workload 01\tsites\r\n0002 end",
     b"workload 1 sites 1 object aaaaaaaaaaaaaaaaaaaaaaaaaaaaaaaa in 0..1 = 0 end",
     b"workload 1 sites 1 object x in -3..- 3=-0 end",
     b"workload 1 sites 000000000000000001 end",
+    b"workload 1 sites 1 transaction t() { print(------------------------------1) } end",
     b"workload 1 sites 1 transaction t() { print(((((((((((((((((((((((((((((((1))))))))))))))))))))))))))))))) } end",
+    b"workload 1 sites 1 transaction t() { if not(not(not(not(not(not(not(not(not(not(not(not(not(not(not(not(not(not(not(not(not(not(not(not(not(not(not(not(not(not(true)))))))))))))))))))))))))))))) then skip else skip } end",
     b"workload 1 sites 1 transaction t() { if a<=b and a<b and not (true) then skip else { a:=-1*2 - b; { } } } client a at 0 { t(); t() } client b at 0 { } schedule a b a end",
 ];
 
-const REFUSED: [&[u8]; 16] = [
-    b"",
-    b"workload 1 sites 2",
-    b"workload 2 sites 2 end",
-    b"workload 1 sites 2 end end",
-    b"workload 1 sites 1 object aaaaaaaaaaaaaaaaaaaaaaaaaaaaaaaaa in 0..1 = 0 end",
-    b"workload 1 sites 1 object x in 0.1 = 0 end",
-    b"workload 1 sites 1 object x in 0..1 := 0 end",
-    b"workload 1 sites 1 object 12ab in 0..1 = 0 end",
-    b"workload 1 sites 1 object end in 0..1 = 0 end",
-    b"workload 1 sites 0000000000000000001 end",
-    b"workload 1 sites -1 end",
-    b"workload 1 sites 1 transaction t() { print((((((((((((((((((((((((((((((((1)))))))))))))))))))))))))))))))) } end",
-    b"workload 1 sites 1 transaction t() { skip; } end",
-    b"workload 1 sites 1 client a at 0 { t(1) } end",
-    b"workload 1 sites 1 \x7f end",
-    b"workload 1 sites 1 : end",
+/// Texts with the code and the offset of their refusals.
+const REFUSED: [(&[u8], u8, u64); 30] = [
+    (b"", 4, 0),
+    (b"_ \x7f", 1, 2),
+    (b"workload 2 \x00", 1, 11),
+    (b"workload 2 :", 3, 11),
+    (b"workload 1 sites 1 _a end", 3, 19),
+    (b"workload 1 sites 1 ! end", 3, 19),
+    (b"workload 1 sites 0000000000000000001 end", 3, 17),
+    (
+        b"workload 1 sites 1 object aaaaaaaaaaaaaaaaaaaaaaaaaaaaaaaaa in 0..1 = 0 end",
+        3,
+        26,
+    ),
+    (b"workload 1 sites 12ab end", 4, 19),
+    (b"workload 1 sites 2 \n", 4, 20),
+    (b"workload 2 sites 2 end", 4, 9),
+    (b"workload 1 sites -1 end", 4, 17),
+    (b"workload 1 sites 2 end end", 4, 23),
+    (b"workload 1 sites 1 object x in 0.1 = 0 end", 4, 32),
+    (b"workload 1 sites 1 object x in 0..1 := 0 end", 4, 36),
+    (b"workload 1 sites 1 object end in 0..1 = 0 end", 4, 26),
+    (b"workload 1 sites 1 relation R[2] (f in 0..1) end", 4, 19),
+    (
+        b"workload 1 sites 1 transaction t() { x := R[0].f } end",
+        4,
+        43,
+    ),
+    (
+        b"workload 1 sites 1 transaction t() { r.f := 1 } end",
+        4,
+        38,
+    ),
+    (
+        b"workload 1 sites 1 transaction t() { print(count(r of R when true)) } end",
+        4,
+        43,
+    ),
+    (
+        b"workload 1 sites 1 transaction t() { foreach r of R when true { } } end",
+        4,
+        37,
+    ),
+    (b"workload 1 sites 1 transaction t() { skip; } end", 4, 43),
+    (
+        b"workload 1 sites 1 transaction t() { print(-------------------------------1) } end",
+        4,
+        73,
+    ),
+    (
+        b"workload 1 sites 1 transaction t() { print((((((((((((((((((((((((((((((((1)))))))))))))))))))))))))))))))) } end",
+        4,
+        73,
+    ),
+    (
+        b"workload 1 sites 1 transaction t() { if not(not(not(not(not(not(not(not(not(not(not(not(not(not(not(not(not(not(not(not(not(not(not(not(not(not(not(not(not(not(not(true))))))))))))))))))))))))))))))) then skip else skip } end",
+        4,
+        160,
+    ),
+    (b"workload 1 sites 1 transaction t(,) { } end", 4, 33),
+    (
+        b"workload 1 sites 1 transaction t(a in 0..1,) { } end",
+        4,
+        43,
+    ),
+    (b"workload 1 sites 1 client a at 0 { t(1,) } end", 4, 39),
+    (b"workload 1 sites 1 client a at 0 { t(1 2) } end", 4, 39),
+    (b"workload 1 sites 1 client a at 0 { t(", 4, 37),
 ];
 
-/// Whether the text reads as a workload; nothing where it is too long or memory is wanting.
-fn reads(alloc: Global, text: &[u8]) -> Option<bool> {
+/// How the text is refused; nothing where it is read or too long, or memory is wanting.
+fn refusal(alloc: Global, text: &[u8]) -> Option<Refusal> {
     if text.len() > 1048576 {
         return None;
     }
     match read(alloc, text) {
-        Ok(_) => Some(true),
-        Err(ReadRefusal::Refused(refusal)) => {
-            if refusal == (Refusal { code: 0, offset: 0 }) {
-                Some(false)
-            } else {
-                None
-            }
-        }
+        Ok(_) => None,
+        Err(ReadRefusal::Refused(refusal)) => Some(refusal),
         Err(ReadRefusal::Memory) => None,
     }
+}
+
+/// Whether the text reads as a workload.
+fn reads(alloc: Global, text: &[u8]) -> bool {
+    text.len() <= 1048576 && read(alloc, text).is_ok()
+}
+
+/// The second of the two arguments of a client's first call.
+fn second_argument(client: &Client) -> Option<Number> {
+    let (call, _) = client.calls.as_slice().split_first()?;
+    let args = call.args.as_slice();
+    if args.len() == 2 { Some(args[1]) } else { None }
 }
 
 #[test]
@@ -59,7 +118,7 @@ fn reads_the_parts(rt: HostRuntime) {
     match read(rt.alloc(), ROW) {
         Ok(workload) => {
             let names = workload.names.as_slice();
-            assert_eq!(rt; names.len(), 4);
+            assert_eq!(rt; names.len(), 6);
             assert_eq!(rt; names[1].as_str(), "up");
             assert_eq!(rt; workload.sites.value, 2);
             let objects = workload.objects.as_slice();
@@ -68,15 +127,27 @@ fn reads_the_parts(rt: HostRuntime) {
             assert_eq!(rt; objects[0].start.value, 2);
             let transactions = workload.transactions.as_slice();
             assert_eq!(rt; transactions.len(), 1);
+            let params = transactions[0].params.as_slice();
+            assert_eq!(rt; params.len(), 2);
+            assert_eq!(rt; params[0].hi.value, 9);
+            assert_eq!(rt; params[1].name.name, 3);
+            assert_eq!(rt; params[1].lo.value, -3);
+            assert_eq!(rt; params[1].hi.value, -2);
+            assert_eq!(rt; params[1].hi.offset, 75);
             let body = transactions[0].body.as_slice();
             assert_eq!(rt; body.len(), 2);
             assert!(rt; matches!(&body[1], Command::Print { value: _ }));
             let clients = workload.clients.as_slice();
             assert_eq!(rt; clients.len(), 2);
             assert_eq!(rt; clients[1].site.value, 1);
-            assert_eq!(rt; clients[1].calls.as_slice().len(), 1);
+            assert_eq!(rt; clients[1].calls.as_slice().len(), 2);
+            let second = Number {
+                value: -3,
+                offset: 139,
+            };
+            assert_eq!(rt; second_argument(&clients[0]), Some(second));
             assert!(rt; workload.schedule.is_some());
-            assert_eq!(rt; workload.end, 159);
+            assert_eq!(rt; workload.end, 198);
         }
         Err(_) => assert!(rt; false),
     }
@@ -85,13 +156,13 @@ fn reads_the_parts(rt: HostRuntime) {
 #[test]
 fn reads_texts(rt: HostRuntime) {
     for text in READ {
-        assert_eq!(rt; reads(rt.alloc(), text), Some(true));
+        assert!(rt; reads(rt.alloc(), text));
     }
 }
 
 #[test]
 fn refuses_texts(rt: HostRuntime) {
-    for text in REFUSED {
-        assert_eq!(rt; reads(rt.alloc(), text), Some(false));
+    for (text, code, offset) in REFUSED {
+        assert_eq!(rt; refusal(rt.alloc(), text), Some(Refusal { code, offset }));
     }
 }

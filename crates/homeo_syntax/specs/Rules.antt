@@ -10,6 +10,7 @@ use Rattle.homeo_syntax.specs.declared.phrase.Number.{Number}
 use Rattle.homeo_syntax.specs.declared.phrase.Compare.{Compare}
 use Rattle.homeo_syntax.specs.declared.phrase.Compare.TheVariants as compare
 use Rattle.homeo_syntax.specs.declared.workload.ObjectDecl.{ObjectDecl}
+use Rattle.homeo_syntax.specs.declared.workload.RangeDecl.{RangeDecl}
 use Rattle.homeo_syntax.specs.Source as s
 use Rattle.homeo_syntax.specs.SourceView.{exprs, tests, commands}
 use Rattle.homeo_syntax.specs.Classes.{number_of, name_class, number_class}
@@ -94,6 +95,10 @@ number_is n = token (number_class ∷ []) (λ k. is_value n (value_in k)) (λ t.
 -- a number with this value, and then the phrase
 abbrev pub lead_number : {A : Type 0} → ℕ → Rule A → Rule A
 lead_number n g = as_value (λ p. p.1) (seq (number_is n) g)
+
+-- [phrase {mark phrase}]
+abbrev pub separated : {A : Type 0} → Mark → Rule A → Rule (List A)
+separated m g = alt (as_value (λ p. p.0 ∷ p.1) (seq g (many (lead m g)))) (nothing [])
 
 -- ---- expressions and conditions
 abbrev pub product_of : s.Expr → List s.Expr → s.Expr
@@ -181,19 +186,32 @@ object =
     part (as_value (λ p. record { name = p.0; lo = p.1.0.0; hi = p.1.0.1; start = p.1.1 })
     (lead mark.Object (seq ident (lead mark.In (seq range (lead mark.Equal signed))))))
 
--- transaction = "transaction" name "(" ")" block
+-- decl = name "in" range
+abbrev pub decl : Rule RangeDecl
+decl = part (as_value (λ p. record { name = p.0; lo = p.1.0; hi = p.1.1 }) (seq ident (lead mark.In range)))
+
+-- parameters = [decl {"," decl}]
+abbrev pub parameters : Rule (List RangeDecl)
+parameters = part (separated mark.Comma decl)
+
+-- transaction = "transaction" name "(" parameters ")" block
 abbrev pub transaction : Rule s.Transaction
 transaction =
-    part (as_value (λ p. record { name = p.0; params = []; body = p.1 })
-    (lead mark.Transaction (seq ident (lead mark.Open (lead mark.Close block)))))
+    part (as_value (λ p. record { name = p.0; params = p.1.0; body = p.1.1 })
+    (lead mark.Transaction (seq ident (lead mark.Open (seq (closed parameters mark.Close) block)))))
 
--- invocation = name "(" ")"
+-- arguments = [signed {"," signed}]
+abbrev pub arguments : Rule (List Number)
+arguments = part (separated mark.Comma signed)
+
+-- invocation = name "(" arguments ")"
 abbrev pub invocation : Rule s.Call
-invocation = part (as_value (λ x. record { name = x; args = [] }) (closed (closed ident mark.Open) mark.Close))
+invocation =
+    part (as_value (λ p. record { name = p.0; args = p.1 }) (seq ident (lead mark.Open (closed arguments mark.Close))))
 
 -- invocations = [invocation {";" invocation}]
 abbrev pub invocations : Rule (List s.Call)
-invocations = part (alt (as_value (λ p. p.0 ∷ p.1) (seq invocation (many (lead mark.Semicolon invocation)))) (nothing []))
+invocations = part (separated mark.Semicolon invocation)
 
 -- calls = "{" invocations "}"
 abbrev pub calls : Rule (List s.Call)

@@ -1,0 +1,10 @@
+use Rattle.std.proofs.Common.{◌≡◌, length}
+use Rattle.homeo_reader.specs.Reading.{with_front}
+use Rattle.homeo_reader.specs.Declarations.{other_arguments_read}
+use Rattle.homeo_reader.proofs.parser.Parser.other_arguments.Given as goal
+
+abbrev pub invariant-more : goal.invariant-more
+invariant-more l = with_front l.items.items (other_arguments_read l.self.rest.now) ≡ other_arguments_read l.initial.self.rest.now
+
+abbrev pub decreases-more : goal.decreases-more
+decreases-more l = length l.self.rest.now
