@@ -9,12 +9,13 @@ use Rattle.homeo_syntax.specs.declared.phrase.Cond as condition
 use Rattle.homeo_syntax.specs.declared.command.Command as tree
 use Rattle.homeo_syntax.specs.Source.{FieldValue, Expr, Cond, Command, Commands, Skip, Assign, Write, Print, If, Block, SetField, SetRow, Foreach, Insert, Delete, Update}
 use Rattle.homeo_syntax.proofs.SourceViews.{plain_If}
+use Rattle.homeo_meaning.specs.declared.arguments.Argument.{Argument}
 use Rattle.homeo_meaning.specs.Key.{words}
 use Rattle.homeo_meaning.specs.Context.{Context, spot}
 use Rattle.homeo_meaning.specs.Declarations.{Declarations}
 use Rattle.homeo_meaning.specs.Meaning.{State, Run, value, holds, done, after_prints, set_temp, write, does, does_all}
 use Rattle.homeo_meaning.specs.CanRun.{expr_fits, cond_fits, can_run, can_run_all}
-use Rattle.homeo_meaning.specs.Scenes.{run_of, plain_context}
+use Rattle.homeo_meaning.specs.Scenes.{run_of, call_context}
 use Rattle.homeo_meaning.proofs.Steps.{drop_next}
 
 after_done : (ps : List ℤ) (s : State) → after_prints ps (done s) ≡ run_of s ps
@@ -29,9 +30,9 @@ pub run_Assign : (x : Context) (s : State) (ps : List ℤ) (t : Ident) (e : Expr
 unfolding words
 run_Assign x s ps t e = after_done ps (set_temp s t.name (value x e s))
 
-pub run_Write : (d : Declarations) (s : State) (ps : List ℤ) (o : Ident) (e : Expr) → after_prints ps (does (plain_context d) (Write o e) s) ≡ run_of (write s (spot d.objects o.name) (spot d.objects o.name).place (value (plain_context d) e s)) ps
+pub run_Write : (d : Declarations) (given : List Argument) (s : State) (ps : List ℤ) (o : Ident) (e : Expr) → after_prints ps (does (call_context d given) (Write o e) s) ≡ run_of (write s (spot d.objects o.name) (spot d.objects o.name).place (value (call_context d given) e s)) ps
 unfolding words
-run_Write d s ps o e = after_done ps (write s (spot d.objects o.name) (spot d.objects o.name).place (value (plain_context d) e s))
+run_Write d given s ps o e = after_done ps (write s (spot d.objects o.name) (spot d.objects o.name).place (value (call_context d given) e s))
 
 pub run_Print : (x : Context) (s : State) (ps : List ℤ) (e : Expr) → after_prints ps (does x (Print e) s) ≡ run_of s (ps ++ value x e s ∷ [])
 unfolding words

@@ -3,6 +3,7 @@ pub mod AbsentItems
 pub mod CommandSteps
 pub mod Equations
 pub mod FaultParts
+pub mod Given
 pub mod Light
 pub mod LightRuns
 pub mod Lookups

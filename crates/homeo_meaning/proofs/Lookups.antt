@@ -7,17 +7,20 @@ use Rattle.std.proofs.lemmas.Option.{slice_get_past, slice_get-map, slice_get_re
 use Rattle.homeo_syntax.specs.Key.{words as tree_words}
 use Rattle.homeo_syntax.specs.Source as s
 use Rattle.homeo_syntax.specs.declared.command.Command.{Command}
+use Rattle.homeo_syntax.specs.declared.workload.RangeDecl.{RangeDecl}
 use Rattle.homeo_syntax.specs.declared.workload.Transaction.{Transaction}
 use Rattle.homeo_syntax.specs.declared.workload.Call.{Call}
 use Rattle.homeo_syntax.specs.declared.workload.Client.{Client}
 use Rattle.homeo_syntax.specs.declared.workload.Workload.{Workload}
 use Rattle.homeo_syntax.specs.SourceView.{commands, plain_command, plain_transaction, plain_call, plain_client, plain_workload}
+use Rattle.homeo_meaning.specs.declared.arguments.Argument.{Argument}
 use Rattle.homeo_meaning.specs.declared.call.CallId.{CallId}
 use Rattle.homeo_meaning.specs.Key.{words}
 use Rattle.homeo_meaning.specs.Calls.{CallExists}
 use Rattle.homeo_meaning.specs.Serial.{numbered, call_of}
 use Rattle.homeo_meaning.specs.Schema.{schema_of}
 use Rattle.homeo_meaning.specs.Bounds.{IsWithin}
+use Rattle.homeo_meaning.specs.Context.{arguments_of}
 use Rattle.homeo_meaning.specs.Built.{IsBuilt}
 use Rattle.homeo_meaning.specs.Acceptance.{IsLightBody}
 use Rattle.homeo_meaning.specs.Declarations.{Declarations, declarations}
@@ -74,7 +77,7 @@ call_here w id cs client calls e h p q exists =
     }
 
 -- what stands of the transaction at a place of the code's list
-pub runs_here : (w : Workload) (ts : List Transaction) (place : ℕ) (t : Transaction) (body : List Command) (d : Declarations) (db : List ℤ) → ts ≡ w.transactions.items → place < length ts → t ≡ get_or ts place t → body ≡ t.body.items → d ≡ declarations (plain_workload w) → IsBuilt (plain_workload w) → IsLightBody (plain_workload w) (slice_get (plain_workload w).transactions place) [] → IsWithin (schema_of (plain_workload w)) db → TransactionRuns (plain_workload w) place d (commands (map plain_command body)) db
+pub runs_here : (w : Workload) (ts : List Transaction) (place : ℕ) (args : List ℤ) (t : Transaction) (params : List RangeDecl) (given bound : List Argument) (body : List Command) (d : Declarations) (db : List ℤ) → ts ≡ w.transactions.items → place < length ts → t ≡ get_or ts place t → params ≡ t.params.items → given ≡ bound → arguments_of (map (λ a. a.name) bound) (map (λ a. a.value) bound) ≡ arguments_of (map (λ p. p.name.name) params) args → body ≡ t.body.items → d ≡ declarations (plain_workload w) → IsBuilt (plain_workload w) → IsLightBody (plain_workload w) (slice_get (plain_workload w).transactions place) args → IsWithin (schema_of (plain_workload w)) db → TransactionRuns (plain_workload w) place args d given (commands (map plain_command body)) db
 unfolding tree_words
-runs_here w ts place t body d db e h p q r built light within =
-    transaction_runs (plain_workload w) (plain_transaction t) place d (commands (map plain_command body)) db built (transaction_here w ts place t e h p) r (ap (λ l. commands (map plain_command l)) q) light within
+runs_here w ts place args t params given bound body d db e h p ps b g q r built light within =
+    transaction_runs (plain_workload w) (plain_transaction t) place args d given (commands (map plain_command body)) db built (transaction_here w ts place t e h p) (ap (λ l. arguments_of (map (λ a. a.name) l) (map (λ a. a.value) l)) b ∙ g ∙ ap (λ ps. arguments_of (map (λ p. p.name.name) ps) args) ps) r (ap (λ l. commands (map plain_command l)) q) light within

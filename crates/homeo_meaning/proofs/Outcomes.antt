@@ -7,20 +7,21 @@ use Rattle.std.proofs.lemmas.List.{append-nil, length-map}
 use Rattle.std.proofs.lemmas.Option.{slice_get_within, get_or_from_slice_get}
 use Rattle.homeo_syntax.specs.Source as s
 use Rattle.homeo_syntax.specs.declared.workload.RangeDecl.{RangeDecl}
+use Rattle.homeo_meaning.specs.declared.arguments.Argument.{Argument}
 use Rattle.homeo_meaning.specs.declared.call.CallId.{CallId}
 use Rattle.homeo_meaning.specs.Key.{words}
-use Rattle.homeo_meaning.specs.Schema.{schema_of, declared_relation}
+use Rattle.homeo_meaning.specs.Schema.{Schema, schema_of, declared_relation}
 use Rattle.homeo_meaning.specs.Bounds.{bounds_of, AreIn, IsWithin}
 use Rattle.homeo_meaning.specs.Initial.{initial, relation_starts}
-use Rattle.homeo_meaning.specs.Context.{context}
+use Rattle.homeo_meaning.specs.Context.{Context, arguments_of, context}
 use Rattle.homeo_meaning.specs.Meaning.{State, after_prints, does_all}
-use Rattle.homeo_meaning.specs.Built.{are_built, IsBuiltTransaction, IsBuilt}
+use Rattle.homeo_meaning.specs.Built.{are_built, IsBuilt}
 use Rattle.homeo_meaning.specs.Weights.{first_weights, are_light}
 use Rattle.homeo_meaning.specs.CanRun.{can_run_all}
 use Rattle.homeo_meaning.specs.Acceptance.{limit, IsLightBody, IsLightCall}
 use Rattle.homeo_meaning.specs.Calls.{IsGroundCall}
 use Rattle.homeo_meaning.specs.Declarations.{Declarations, declarations, place_from, place_of}
-use Rattle.homeo_meaning.specs.Scenes.{run_of, objects_only, plain_context, start}
+use Rattle.homeo_meaning.specs.Scenes.{run_of, objects_only, call_context, start}
 use Rattle.homeo_meaning.specs.Serial.{values_of, values_from, database_like, numbered, call_of, transaction_named, arguments, outcome_at, outcome_of, call_outcome, serial}
 use Rattle.homeo_meaning.proofs.LightRuns.{light_runs}
 use Rattle.homeo_meaning.proofs.Sound.{IsSound}
@@ -29,23 +30,23 @@ use Rattle.homeo_meaning.proofs.Within.{covers_start, length_in, each_in, list_i
 use Rattle.homeo_meaning.proofs.SomeValues.{none_some}
 
 -- ---- a body
-pub record BodyRuns (d : Declarations) (cs : s.Commands) (db : List ℤ) : Type 0 where
+pub record BodyRuns (d : Declarations) (given : List Argument) (cs : s.Commands) (db : List ℤ) : Type 0 where
   pub places : length db ≡ length d.objects
-  pub can : can_run_all limit (plain_context d) cs (start db) ≡ true
-  pub within : IsWithin (objects_only d.objects) (database_like db (does_all (plain_context d) cs (start db)).state.database)
+  pub can : can_run_all limit (call_context d given) cs (start db) ≡ true
+  pub within : IsWithin (objects_only d.objects) (database_like db (does_all (call_context d given) cs (start db)).state.database)
 
-pub body_runs : (d : Declarations) (cs : s.Commands) (db : List ℤ) → IsWithin (objects_only d.objects) db → are_built cs ≡ true → are_light limit (plain_context d) cs (first_weights (objects_only d.objects)) ≡ true → BodyRuns d cs db
+pub body_runs : (d : Declarations) (given : List Argument) (cs : s.Commands) (db : List ℤ) → IsWithin (objects_only d.objects) db → are_built cs ≡ true → are_light limit (call_context d given) cs (first_weights (objects_only d.objects)) ≡ true → BodyRuns d given cs db
 unfolding words
-body_runs d cs db within built light =
+body_runs d given cs db within built light =
     let ds = d.objects in
     let inside : AreIn (map bounds_of ds) db = subst (λ bs. AreIn bs db) (only_bounds ds) within in
     let places : length db ≡ length ds = length_in (map bounds_of ds) db inside ∙ length-map ds bounds_of in
-    let all = light_runs limit (plain_context d) (first_weights (objects_only ds)) (start db) cs (covers_start (objects_only ds) db within) built light in
-    let keeps = does_all_keeps (plain_context d) (start db) cs built (each_in ds db inside) in
+    let all = light_runs limit (call_context d given) (first_weights (objects_only ds)) (start db) cs (covers_start (objects_only ds) db within) built light in
+    let keeps = does_all_keeps (call_context d given) (start db) cs built (each_in ds db inside) in
     record {
       places = places;
       can = all.can;
-      within = subst (λ bs. AreIn bs (database_like db (does_all (plain_context d) cs (start db)).state.database)) (sym (only_bounds ds)) (list_in ds db (does_all (plain_context d) cs (start db)).state.database places keeps);
+      within = subst (λ bs. AreIn bs (database_like db (does_all (call_context d given) cs (start db)).state.database)) (sym (only_bounds ds)) (list_in ds db (does_all (call_context d given) cs (start db)).state.database places keeps);
     }
 
 -- the values of a list are the list
@@ -68,9 +69,14 @@ pub schema_only : (w : s.Workload) → w.relations ≡ [] → schema_of w ≡ ob
 unfolding words
 schema_only w e = λ i. record { objects = (schema_of w).objects; relations = map declared_relation (e i) }
 
-context_is : (w : s.Workload) (params : List RangeDecl) (args : List ℤ) → w.relations ≡ [] → params ≡ [] → context (schema_of w) (map (λ p. p.name.name) params) args ≡ plain_context (declarations w)
+-- a context by its schema and what it gives to names
+abbrev with_arguments : Schema → (ℕ → Option ℤ) → Context
 unfolding words
-context_is w params args e p = λ i. context (schema_only w e i) (map (λ p. p.name.name) (p i)) args
+with_arguments x f = record { schema = x; arguments = f; rows = (context x [] []).rows }
+
+context_is : (w : s.Workload) (params : List RangeDecl) (args : List ℤ) (given : List Argument) → w.relations ≡ [] → arguments_of (map (λ a. a.name) given) (map (λ a. a.value) given) ≡ arguments_of (map (λ p. p.name.name) params) args → context (schema_of w) (map (λ p. p.name.name) params) args ≡ call_context (declarations w) given
+unfolding words
+context_is w params args given e g = λ i. with_arguments (schema_only w e i) (sym g i)
 
 pub initial_is : (w : s.Workload) → w.relations ≡ [] → map (λ d. d.start.value) w.objects ≡ initial w
 unfolding words
@@ -78,40 +84,39 @@ initial_is w e =
     let starts : List ℤ = map (λ d. d.start.value) w.objects in
     sym (append-nil starts) ∙ ap (λ rs. starts ++ relation_starts (map declared_relation rs)) (sym e)
 
--- what stands of the transaction at a place, for its body cs on the database db
-pub record TransactionRuns (w : s.Workload) (place : ℕ) (d : Declarations) (cs : s.Commands) (db : List ℤ) : Type 0 where
+-- what stands of the transaction at a place, for its body cs, with these arguments on the database db
+pub record TransactionRuns (w : s.Workload) (place : ℕ) (args : List ℤ) (d : Declarations) (given : List Argument) (cs : s.Commands) (db : List ℤ) : Type 0 where
   pub within : IsWithin (objects_only d.objects) db
   pub built : are_built cs ≡ true
-  pub light : are_light limit (plain_context d) cs (first_weights (objects_only d.objects)) ≡ true
-  pub outcome : record { prints = (does_all (plain_context d) cs (start db)).prints; database = database_like db (does_all (plain_context d) cs (start db)).state.database } ≡ outcome_at w (slice_get w.transactions place) [] db
+  pub light : are_light limit (call_context d given) cs (first_weights (objects_only d.objects)) ≡ true
+  pub outcome : record { prints = (does_all (call_context d given) cs (start db)).prints; database = database_like db (does_all (call_context d given) cs (start db)).state.database } ≡ outcome_at w (slice_get w.transactions place) args db
   pub back : (after : List ℤ) → IsWithin (objects_only d.objects) after → IsWithin (schema_of w) after
 
 all_at : {X : Type 0} (P : X → Type 0) (xs : List X) (i : ℕ) (x : X) → All P xs → slice_get xs i ≡ Some x → P x
 all_at P xs i x h e = subst P (get_or_from_slice_get xs i x x e) (h i x (slice_get_within xs i x e))
 
-own_body : (w : s.Workload) (t : s.Transaction) (place : ℕ) (db : List ℤ) → IsBuilt w → slice_get w.transactions place ≡ Some t → IsLightBody w (slice_get w.transactions place) [] → IsWithin (schema_of w) db → TransactionRuns w place (declarations w) t.body db
+own_body : (w : s.Workload) (t : s.Transaction) (place : ℕ) (args : List ℤ) (given : List Argument) (db : List ℤ) → IsBuilt w → slice_get w.transactions place ≡ Some t → arguments_of (map (λ a. a.name) given) (map (λ a. a.value) given) ≡ arguments_of (map (λ p. p.name.name) t.params) args → IsLightBody w (slice_get w.transactions place) args → IsWithin (schema_of w) db → TransactionRuns w place args (declarations w) given t.body db
 unfolding words
-own_body w t place db built e light within =
-    let b = all_at IsBuiltTransaction w.transactions place t built.transactions e in
-    let x = context_is w t.params [] built.relations b.parameters in
+own_body w t place args given db built e g light within =
+    let x = context_is w t.params args given built.relations g in
     let schema = schema_only w built.relations in
-    let l : are_light limit (context (schema_of w) (map (λ p. p.name.name) t.params) []) t.body (first_weights (schema_of w)) ≡ true = subst (λ o. IsLightBody w o []) e light in
+    let l : are_light limit (context (schema_of w) (map (λ p. p.name.name) t.params) args) t.body (first_weights (schema_of w)) ≡ true = subst (λ o. IsLightBody w o args) e light in
     record {
       within = subst (λ x. IsWithin x db) schema within;
-      built = b.body;
+      built = all_at (λ t. are_built t.body ≡ true) w.transactions place t built.bodies e;
       light = sym (λ i. are_light limit (x i) t.body (first_weights (schema i))) ∙ l;
-      outcome = sym (ap (λ o. outcome_at w o [] db) e ∙ (λ i. record { prints = (does_all (x i) t.body (start db)).prints; database = database_like db (does_all (x i) t.body (start db)).state.database }));
+      outcome = sym (ap (λ o. outcome_at w o args db) e ∙ (λ i. record { prints = (does_all (x i) t.body (start db)).prints; database = database_like db (does_all (x i) t.body (start db)).state.database }));
       back = λ after h. subst (λ x. IsWithin x after) (sym schema) h;
     }
 
-pub transaction_runs : (w : s.Workload) (t : s.Transaction) (place : ℕ) (d : Declarations) (cs : s.Commands) (db : List ℤ) → IsBuilt w → slice_get w.transactions place ≡ Some t → d ≡ declarations w → cs ≡ t.body → IsLightBody w (slice_get w.transactions place) [] → IsWithin (schema_of w) db → TransactionRuns w place d cs db
-transaction_runs w t place d cs db built e p q light within =
-    subst (λ d. TransactionRuns w place d cs db) (sym p) (subst (λ cs. TransactionRuns w place (declarations w) cs db) (sym q) (own_body w t place db built e light within))
+pub transaction_runs : (w : s.Workload) (t : s.Transaction) (place : ℕ) (args : List ℤ) (d : Declarations) (given : List Argument) (cs : s.Commands) (db : List ℤ) → IsBuilt w → slice_get w.transactions place ≡ Some t → arguments_of (map (λ a. a.name) given) (map (λ a. a.value) given) ≡ arguments_of (map (λ p. p.name.name) t.params) args → d ≡ declarations w → cs ≡ t.body → IsLightBody w (slice_get w.transactions place) args → IsWithin (schema_of w) db → TransactionRuns w place args d given cs db
+transaction_runs w t place args d given cs db built e g p q light within =
+    subst (λ d. TransactionRuns w place args d given cs db) (sym p) (subst (λ cs. TransactionRuns w place args (declarations w) given cs db) (sym q) (own_body w t place args given db built e g light within))
 
 -- a run from an empty list of prints
-pub body_ran : (d : Declarations) (cs : s.Commands) (db copy temps ps qs : List ℤ) (r : State) → copy ≡ db → temps ≡ [] → qs ≡ [] → run_of r ps ≡ after_prints qs (does_all (plain_context d) cs (state_with copy temps)) → run_of r ps ≡ does_all (plain_context d) cs (start db)
+pub body_ran : (d : Declarations) (given : List Argument) (cs : s.Commands) (db copy temps ps qs : List ℤ) (r : State) → copy ≡ db → temps ≡ [] → qs ≡ [] → run_of r ps ≡ after_prints qs (does_all (call_context d given) cs (state_with copy temps)) → run_of r ps ≡ does_all (call_context d given) cs (start db)
 unfolding words
-body_ran d cs db copy temps ps qs r p q z e = e ∙ (λ i. after_prints (z i) (does_all (plain_context d) cs (state_with (p i) (q i))))
+body_ran d given cs db copy temps ps qs r p q z e = e ∙ (λ i. after_prints (z i) (does_all (call_context d given) cs (state_with (p i) (q i))))
 
 pub body_starts : (db copy temps : List ℤ) → copy ≡ db → temps ≡ [] → start db ≡ state_with copy temps
 unfolding words
@@ -126,25 +131,14 @@ call_at : (P : s.Call → Type 0) (w : s.Workload) (id : CallId) (c : s.Call) (o
 call_at P w id c None e m h = absurd (none_some m)
 call_at P w id c (Some client) e m h = numbered_at P id.seq client.calls c (all_at (λ client. All P client.calls) w.clients id.client client h e) m
 
-pub record CallRuns (w : s.Workload) (c : s.Call) : Type 0 where
-  pub light : IsLightBody w (transaction_named w c.name.name) []
-  pub none : arguments c ≡ []
-
-pub call_runs : (w : s.Workload) (id : CallId) (c : s.Call) → IsSound w → call_of w id ≡ Some c → CallRuns w c
+call_light : (w : s.Workload) (id : CallId) (c : s.Call) → IsSound w → call_of w id ≡ Some c → IsLightCall w c
 unfolding words
-call_runs w id c sound e =
-    let empty : c.args ≡ [] = call_at (λ c. c.args ≡ []) w id c (slice_get w.clients id.client) refl e sound.built.arguments in
-    let none : arguments c ≡ [] = ap (map (λ a. a.value)) empty in
-    record { none = none; light = subst (IsLightBody w (transaction_named w c.name.name)) none (call_at (IsLightCall w) w id c (slice_get w.clients id.client) refl e sound.light) }
+call_light w id c sound e = call_at (IsLightCall w) w id c (slice_get w.clients id.client) refl e sound.light
 
-pub record GroundCallRuns (w : s.Workload) (transaction : ℕ) (args : List ℤ) : Type 0 where
-  pub light : IsLightBody w (slice_get w.transactions transaction) []
-  pub none : args ≡ []
-
-pub ground_call_runs : (w : s.Workload) (transaction : ℕ) (args : List ℤ) → IsSound w → IsGroundCall w transaction args → GroundCallRuns w transaction args
-ground_call_runs w transaction args sound g =
-    let runs = call_runs w g.id g.call sound g.made in
-    record { light = subst (λ t. IsLightBody w t []) (sym g.named) runs.light; none = sym g.given ∙ runs.none }
+pub ground_call_light : (w : s.Workload) (transaction : ℕ) (args : List ℤ) → IsSound w → IsGroundCall w transaction args → IsLightBody w (slice_get w.transactions transaction) args
+unfolding words
+ground_call_light w transaction args sound g =
+    subst (IsLightBody w (slice_get w.transactions transaction)) g.given (subst (λ t. IsLightBody w t (arguments g.call)) (sym g.named) (call_light w g.id g.call sound g.made))
 
 -- ---- transactions by name
 cond_suc : (b : Bool) (m n : ℕ) → cond b (suc m) (suc n) ≡ suc (cond b m n)
@@ -173,18 +167,17 @@ unfolding words
 transaction_place w n = transaction_at w.transactions n
 
 -- a client's call, by the place of its transaction
-pub record PlacedCall (w : s.Workload) (id : CallId) (place : ℕ) : Type 0 where
-  pub light : IsLightBody w (slice_get w.transactions place) []
-  pub outcome : (db : List ℤ) → outcome_at w (slice_get w.transactions place) [] db ≡ call_outcome w id db
+pub record PlacedCall (w : s.Workload) (id : CallId) (place : ℕ) (args : List ℤ) : Type 0 where
+  pub light : IsLightBody w (slice_get w.transactions place) args
+  pub outcome : (db : List ℤ) → outcome_at w (slice_get w.transactions place) args db ≡ call_outcome w id db
 
-pub placed_call : (w : s.Workload) (id : CallId) (c : s.Call) (d : Declarations) (place : ℕ) → IsSound w → call_of w id ≡ Some c → d ≡ declarations w → place ≡ place_of d.transactions c.name.name → PlacedCall w id place
+pub placed_call : (w : s.Workload) (id : CallId) (c : s.Call) (d : Declarations) (place : ℕ) (args : List ℤ) → IsSound w → call_of w id ≡ Some c → d ≡ declarations w → place ≡ place_of d.transactions c.name.name → args ≡ arguments c → PlacedCall w id place args
 unfolding words
-placed_call w id c d place sound made e p =
-    let runs = call_runs w id c sound made in
+placed_call w id c d place args sound made e p a =
     let named : slice_get w.transactions place ≡ transaction_named w c.name.name = ap (slice_get w.transactions) (p ∙ ap (λ d. place_of d.transactions c.name.name) e) ∙ transaction_place w c.name.name in
     record {
-      light = subst (λ t. IsLightBody w t []) (sym named) runs.light;
-      outcome = λ db. (λ i. outcome_at w (named i) (sym runs.none i) db) ∙ sym (ap (λ o. outcome_of w o db) made);
+      light = subst (IsLightBody w (slice_get w.transactions place)) (sym a) (subst (λ t. IsLightBody w t (arguments c)) (sym named) (call_light w id c sound made));
+      outcome = λ db. (λ i. outcome_at w (named i) (a i) db) ∙ sym (ap (λ o. outcome_of w o db) made);
     }
 
 -- ---- calls one after another

@@ -7,6 +7,7 @@ use Rattle.homeo_syntax.specs.declared.phrase.Compare.TheVariants.{Less}
 use Rattle.homeo_syntax.specs.declared.phrase.Ident.{Ident}
 use Rattle.homeo_syntax.specs.declared.phrase.Number.{Number}
 use Rattle.homeo_syntax.specs.declared.workload.ObjectDecl.{ObjectDecl}
+use Rattle.homeo_syntax.specs.declared.workload.RangeDecl.{RangeDecl}
 use Rattle.homeo_meaning.specs.Key.{words}
 use Rattle.homeo_meaning.specs.NumberRules.{passes_limit, distinct_after}
 use Rattle.homeo_meaning.specs.TransactionRules.{each}
@@ -15,7 +16,7 @@ use Rattle.homeo_meaning.specs.Faults.{faults}
 use Rattle.homeo_meaning.specs.Deciding.{keep_all}
 use Rattle.homeo_meaning.specs.declared.call.Purpose.{Purpose}
 use Rattle.homeo_meaning.specs.declared.call.Purpose.TheVariants.{Steps, Run}
-use Rattle.homeo_meaning.specs.declared.rules.SitedCall.{SitedCall}
+use Rattle.homeo_meaning.specs.GlobalNames.{SitedCall}
 use Rattle.homeo_meaning.specs.declared.rules.Fault.{Fault}
 use Rattle.homeo_meaning.specs.declared.rules.Phase.{Phase}
 use Rattle.homeo_meaning.specs.declared.rules.Phase.TheVariants as F
@@ -163,11 +164,11 @@ third_of_two : each (passes_limit 2 (λ (d : Ident). d)) (id 0 1 ∷ id 1 2 ∷ 
 unfolding words
 third_of_two = refl
 
-abbrev sited : ℕ → ℕ → ℤ → SitedCall
-sited n o site = record { name = id n o; site = site }
+abbrev sited : ℕ → ℕ → List ℤ → ℤ → SitedCall
+sited n o args site = record { name = id n o; args = args; site = site }
 
--- the same call at another site is another ground call
-ground_calls_once : distinct_after [] (sited 2 1 (pos 0) ∷ sited 2 2 (pos 1) ∷ sited 2 3 (pos 0) ∷ sited 3 4 (pos 0) ∷ []) ≡ sited 2 1 (pos 0) ∷ sited 2 2 (pos 1) ∷ sited 3 4 (pos 0) ∷ []
+-- the same call at another site or with other arguments is another ground call
+ground_calls_once : distinct_after [] (sited 2 1 [] (pos 0) ∷ sited 2 2 [] (pos 1) ∷ sited 2 3 [] (pos 0) ∷ sited 3 4 [] (pos 0) ∷ sited 2 5 (pos 7 ∷ []) (pos 0) ∷ sited 2 6 (pos 8 ∷ []) (pos 0) ∷ sited 2 7 (pos 7 ∷ []) (pos 0) ∷ []) ≡ sited 2 1 [] (pos 0) ∷ sited 2 2 [] (pos 1) ∷ sited 3 4 [] (pos 0) ∷ sited 2 5 (pos 7 ∷ []) (pos 0) ∷ sited 2 6 (pos 8 ∷ []) (pos 0) ∷ []
 unfolding words
 ground_calls_once = refl
 
@@ -239,3 +240,69 @@ not_called = refl
 over_relations : decided Steps (body (s.SetRow (id 6 40) (id 6 41) one ∷ s.Print (s.Name (id 6 42)) ∷ [])) ≡ at F.Unbuilt 30
 unfolding words syntax_words
 over_relations = refl
+
+-- ---- parameters and arguments
+abbrev parameter : ℕ → ℕ → ℤ → ℤ → RangeDecl
+parameter n o lo hi = record { name = id n o; lo = num lo (o + 1); hi = num hi (o + 2) }
+
+-- one object, and one call with these arguments of a transaction with these parameters and this body
+abbrev calling : List RangeDecl → List s.Command → List Number → s.Workload
+calling ps cs args = workload (pos 2) (x ∷ []) (record { name = id 2 30; params = ps; body = commands cs } ∷ []) (client 3 800 (pos 0) (record { name = id 2 810; args = args } ∷ []) ∷ []) (Some (id 3 900 ∷ []))
+
+abbrev p : RangeDecl
+p = parameter 5 40 (pos 0) (pos 9)
+
+as_value : decided Steps (calling (p ∷ []) (s.Print (s.Name (id 5 50)) ∷ []) (num (pos 4) 820 ∷ [])) ≡ None
+unfolding words syntax_words
+as_value = refl
+
+as_target : decided Steps (calling (p ∷ []) (s.Assign (id 5 50) one ∷ []) (num (pos 4) 820 ∷ [])) ≡ at F.Kind 50
+unfolding words syntax_words
+as_target = refl
+
+as_object : decided Steps (calling (p ∷ []) (s.Print (s.Read (id 5 50)) ∷ []) (num (pos 4) 820 ∷ [])) ≡ at F.Kind 50
+unfolding words syntax_words
+as_object = refl
+
+-- a parameter with the name of a client, which is declared later
+global_parameter : decided Steps (calling (parameter 3 40 (pos 0) (pos 9) ∷ []) [] (num (pos 4) 820 ∷ [])) ≡ at F.Duplicate 40
+unfolding words syntax_words
+global_parameter = refl
+
+two_parameters : decided Steps (calling (p ∷ parameter 5 44 (pos 0) (pos 9) ∷ []) [] (num (pos 4) 820 ∷ num (pos 4) 821 ∷ [])) ≡ at F.Duplicate 44
+unfolding words syntax_words
+two_parameters = refl
+
+-- the bounds are compared as they are written, and the least offset decides
+crossed_bounds : decided Steps (calling (parameter 5 40 (pos 5) (pos 4) ∷ []) [] (num (pos 6) 820 ∷ [])) ≡ at F.Bounds 41
+unfolding words syntax_words
+crossed_bounds = refl
+
+large_bound : decided Steps (calling (parameter 5 40 (pos 0) (pos 1000000000001) ∷ []) [] (num (pos 0) 820 ∷ [])) ≡ at F.Bounds 42
+unfolding words syntax_words
+large_bound = refl
+
+argument_too_large : decided Steps (calling (p ∷ []) [] (num (pos 10) 820 ∷ [])) ≡ at F.Bounds 820
+unfolding words syntax_words
+argument_too_large = refl
+
+too_few : decided Steps (calling (p ∷ []) [] []) ≡ at F.Arity 810
+unfolding words syntax_words
+too_few = refl
+
+-- the number of arguments comes before their bounds
+too_many : decided Steps (calling (p ∷ []) [] (num (pos 10) 820 ∷ num (pos 1) 821 ∷ [])) ≡ at F.Arity 810
+unfolding words syntax_words
+too_many = refl
+
+abbrev squared : ℤ → s.Workload
+squared v = calling (parameter 5 40 (neg_ℤ (pos 1000000001)) (pos 9) ∷ []) (s.Print (s.Product (exprs (s.Name (id 5 50) ∷ s.Name (id 5 51) ∷ []))) ∷ []) (num v 820 ∷ [])
+
+light_argument : decided Steps (squared (neg_ℤ (pos 1000000000))) ≡ None
+unfolding words syntax_words
+light_argument = refl
+
+-- the weight is the argument's own, not that of the bounds
+heavy_argument : decided Steps (squared (neg_ℤ (pos 1000000001))) ≡ at F.Weight 810
+unfolding words syntax_words
+heavy_argument = refl

@@ -32,6 +32,6 @@ sound w a =
     let clients : List Fault = flat_map (client_faults w.sites (scope_of w) w.transactions) w.clients in
     record {
       built = built;
-      light = all-light w built p.declared p.weights;
+      light = all-light w p.declared p.weights;
       starts = starts-within w built.relations (none_first objects transactions (none_first (objects ++ transactions) clients p.declared));
     }

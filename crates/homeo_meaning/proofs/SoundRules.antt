@@ -1,5 +1,5 @@
 -- What the absence of faults says.
-use Rattle.std.proofs.Common.{◌≡◌, ℕ, zero, suc, ◌+◌, ℤ, ◌≤ℤ◌, Bool, true, false, cond, not, ◌&&◌, ◌||◌, ◌==◌, List, [], ◌∷◌, ◌++◌, map, Option, Some, None, All, refl, sym, ap, subst, ◌∙◌, add-zero, zero-add, arith, append-nil, append_assoc}
+use Rattle.std.proofs.Common.{◌≡◌, ℕ, zero, suc, ◌+◌, ℤ, ◌≤ℤ◌, Bool, true, false, cond, not, ◌||◌, ◌==◌, List, [], ◌∷◌, ◌++◌, map, Option, Some, None, All, refl, sym, ap, subst, ◌∙◌, add-zero, zero-add, arith, append-nil, append_assoc}
 use Rattle.std.specs.Prelude.{slice_get, find, int_lt}
 use Rattle.std.proofs.lemmas.Int.{ints}
 use Rattle.std.proofs.lemmas.List.Concat.{flat_map-append}
@@ -7,24 +7,20 @@ use Rattle.std.specs.List.{flat_map}
 use Rattle.homeo_syntax.specs.Source as s
 use Rattle.homeo_syntax.specs.declared.phrase.Ident.{Ident}
 use Rattle.homeo_syntax.specs.declared.workload.ObjectDecl.{ObjectDecl}
-use Rattle.homeo_syntax.specs.declared.workload.RangeDecl.{RangeDecl}
 use Rattle.homeo_meaning.specs.Key.{words}
 use Rattle.homeo_meaning.specs.Schema.{declared_object, declared_relation, schema_of}
 use Rattle.homeo_meaning.specs.Bounds.{Bounds, bounds_of, relation_bounds, AreIn, IsWithin}
 use Rattle.homeo_meaning.specs.Initial.{relation_starts, initial}
-use Rattle.homeo_meaning.specs.Context.{context}
-use Rattle.homeo_meaning.specs.Weights.{first_weights, are_light}
-use Rattle.homeo_meaning.specs.Built.{are_built, IsBuiltTransaction, IsBuilt}
+use Rattle.homeo_meaning.specs.Built.{are_built, IsBuilt}
 use Rattle.homeo_meaning.specs.Serial.{transaction_named, arguments}
-use Rattle.homeo_meaning.specs.Acceptance.{limit, IsLightBody, IsLightCall}
+use Rattle.homeo_meaning.specs.Acceptance.{IsLightBody, IsLightCall}
 use Rattle.homeo_meaning.specs.NameRules.{when, fault}
-use Rattle.homeo_meaning.specs.GlobalNames.{GlobalName, numbered_from, first_named, scope_of, transaction_at, called, sited_calls_of}
+use Rattle.homeo_meaning.specs.GlobalNames.{GlobalName, SitedCall, numbered_from, first_named, scope_of, transaction_at, called, sited_calls_of}
 use Rattle.homeo_meaning.specs.NumberRules.{range_faults, outside, object_faults, site_faults}
 use Rattle.homeo_meaning.specs.CallRules.{call_faults, client_faults}
-use Rattle.homeo_meaning.specs.SizeRules.{is_empty, unbuilt_relation, unbuilt_transaction, unbuilt_call, unbuilt_faults, is_light_body, heavy_call, weight_faults}
+use Rattle.homeo_meaning.specs.SizeRules.{unbuilt_relation, unbuilt_transaction, unbuilt_faults, is_light_body, heavy_call, weight_faults}
 use Rattle.homeo_meaning.specs.Faults.{of_transaction, declared_faults}
 use Rattle.homeo_meaning.specs.declared.rules.Fault.{Fault}
-use Rattle.homeo_meaning.specs.declared.rules.SitedCall.{SitedCall}
 use Rattle.homeo_meaning.specs.declared.rules.Item.{Item}
 use Rattle.homeo_meaning.specs.declared.rules.Item.TheVariants as I
 use Rattle.homeo_meaning.specs.declared.rules.Phase.{Phase}
@@ -35,18 +31,6 @@ use Rattle.homeo_meaning.proofs.FaultParts.{none_first, none_second}
 no_fault : (p : Phase) (x : Ident) (b : Bool) → when (not b) (fault p x) ≡ [] → b ≡ true
 no_fault p x true e = refl
 no_fault p x false e = cc
-
-and_left : (a b : Bool) → (a && b) ≡ true → a ≡ true
-and_left true b e = refl
-and_left false b e = cc
-
-and_right : (a b : Bool) → (a && b) ≡ true → b ≡ true
-and_right true b e = e
-and_right false b e = cc
-
-empty : {A : Type 0} (xs : List A) → is_empty xs ≡ true → xs ≡ []
-empty [] e = refl
-empty (x ∷ xs) e = cc
 
 pub all_none : {A : Type 0} (P : A → Type 0) → All P []
 all_none P k d h = absurd (omega arith)
@@ -72,27 +56,18 @@ unfolding words
 no_relations [] e = refl
 no_relations (q ∷ qs) e = cc
 
-built_transaction : (t : s.Transaction) → unbuilt_transaction t ≡ [] → IsBuiltTransaction t
+built_transaction : (t : s.Transaction) → unbuilt_transaction t ≡ [] → are_built t.body ≡ true
 unfolding words
-built_transaction t e =
-    let both : (is_empty t.params && are_built t.body) ≡ true = no_fault F.Unbuilt t.name (is_empty t.params && are_built t.body) e in
-    record { parameters = empty t.params (and_left (is_empty t.params) (are_built t.body) both); body = and_right (is_empty t.params) (are_built t.body) both }
-
-no_arguments : (c : s.Call) → unbuilt_call c ≡ [] → c.args ≡ []
-unfolding words
-no_arguments c e = empty c.args (no_fault F.Unbuilt c.name (is_empty c.args) e)
+built_transaction t e = no_fault F.Unbuilt t.name (are_built t.body) e
 
 pub is-built : (w : s.Workload) → unbuilt_faults w ≡ [] → IsBuilt w
 unfolding words
 is-built w e =
     let a : List Fault = flat_map unbuilt_relation w.relations in
     let b : List Fault = flat_map unbuilt_transaction w.transactions in
-    let c : List Fault = flat_map (λ client. flat_map unbuilt_call client.calls) w.clients in
-    let first : (a ++ b) ≡ [] = none_first (a ++ b) c e in
     record {
-      relations = no_relations w.relations (none_first a b first);
-      transactions = each-none unbuilt_transaction IsBuiltTransaction built_transaction w.transactions (none_second a b first);
-      arguments = each-none (λ (client : s.Client). flat_map unbuilt_call client.calls) (λ client. All (λ call. call.args ≡ []) client.calls) (λ client h. each-none unbuilt_call (λ call. call.args ≡ []) no_arguments client.calls h) w.clients (none_second (a ++ b) c e);
+      relations = no_relations w.relations (none_first a b e);
+      bodies = each-none unbuilt_transaction (λ t. are_built t.body ≡ true) built_transaction w.transactions (none_second a b e);
     }
 
 -- ---- the initial database
@@ -205,60 +180,43 @@ names_one w c (Some (I.Object k)) e = cc
 names_one w c (Some (I.Relation k)) e = cc
 names_one w c (Some (I.Client k)) e = cc
 
-light_body : (w : s.Workload) (o : Option s.Transaction) (args : List ℤ) → args ≡ [] → ((t : s.Transaction) → o ≡ Some t → t.params ≡ []) → is_light_body w o ≡ true → IsLightBody w o args
+light_body : (w : s.Workload) (o : Option s.Transaction) (args : List ℤ) → is_light_body w o args ≡ true → IsLightBody w o args
 unfolding words
-light_body w None args none no_params e = tt
-light_body w (Some t) args none no_params e =
-    subst (λ (ps : List RangeDecl). are_light limit (context (schema_of w) (map (λ p. p.name.name) ps) args) t.body (first_weights (schema_of w)) ≡ true) (sym (no_params t refl)) (subst (λ l. are_light limit (context (schema_of w) [] l) t.body (first_weights (schema_of w)) ≡ true) (sym none) e)
+light_body w None args e = tt
+light_body w (Some t) args e = e
 
-built_at : (ts : List s.Transaction) (k : ℕ) (t : s.Transaction) → All IsBuiltTransaction ts → slice_get ts k ≡ Some t → t.params ≡ []
-built_at [] k t h e = cc
-built_at (u ∷ ts) zero t h e =
-    let same : u ≡ t = some_is u t e in
-    subst (λ (v : s.Transaction). v.params ≡ []) same (all_head IsBuiltTransaction u ts h).parameters
-  where
-    some_is : (u t : s.Transaction) → Some u ≡ Some t → u ≡ t
-    some_is u t e = cc
-built_at (u ∷ ts) (suc k) t h e = built_at ts k t (all_tail IsBuiltTransaction u ts h) e
-
-light_call : (w : s.Workload) (c : s.Call) → IsBuilt w → c.args ≡ [] → call_faults w.transactions ((scope_of w).item c.name.name) c ≡ [] → is_light_body w (called w c.name) ≡ true → IsLightCall w c
+light_call : (w : s.Workload) (c : s.Call) → call_faults w.transactions ((scope_of w).item c.name.name) c ≡ [] → is_light_body w (called w c.name) (arguments c) ≡ true → IsLightCall w c
 unfolding words
-light_call w c built none e light =
+light_call w c e light =
     let k : (k : ℕ) × ((scope_of w).item c.name.name ≡ Some (I.Transaction k)) = names_one w c ((scope_of w).item c.name.name) e in
     let is : transaction_named w c.name.name ≡ slice_get w.transactions k.0 = named-is w c.name.name k.0 k.1 in
-    let body : is_light_body w (slice_get w.transactions k.0) ≡ true = ap (λ g. is_light_body w (transaction_at w g)) (sym k.1) ∙ light in
-    subst (λ o. IsLightBody w o (arguments c)) (sym is) (light_body w (slice_get w.transactions k.0) (arguments c) (ap (λ l. map (λ a. a.value) l) none) (λ t h. built_at w.transactions k.0 t built.transactions h) body)
-
-abbrev no_args : s.Call → Type 0
-no_args call = call.args ≡ []
-
-abbrev none_of : s.Client → Type 0
-none_of client = All (λ call. call.args ≡ []) client.calls
+    let body : is_light_body w (slice_get w.transactions k.0) (arguments c) ≡ true = ap (λ g. is_light_body w (transaction_at w g) (arguments c)) (sym k.1) ∙ light in
+    subst (λ o. IsLightBody w o (arguments c)) (sym is) (light_body w (slice_get w.transactions k.0) (arguments c) body)
 
 abbrev sited : s.Call → ℤ → SitedCall
-sited c site = record { name = c.name; site = site }
+sited c site = record { name = c.name; args = arguments c; site = site }
 
-module _ (w : s.Workload) (built : IsBuilt w) where
-  light_calls : (site : ℤ) (calls : List s.Call) → All (λ call. call.args ≡ []) calls → flat_map (λ (c : s.Call). call_faults w.transactions ((scope_of w).item c.name.name) c) calls ≡ [] → flat_map (heavy_call w) (map (λ (c : s.Call). sited c site) calls) ≡ [] → All (IsLightCall w) calls
+module _ (w : s.Workload) where
+  light_calls : (site : ℤ) (calls : List s.Call) → flat_map (λ (c : s.Call). call_faults w.transactions ((scope_of w).item c.name.name) c) calls ≡ [] → flat_map (heavy_call w) (map (λ (c : s.Call). sited c site) calls) ≡ [] → All (IsLightCall w) calls
   unfolding words
-  light_calls site [] none e heavy = all_none (IsLightCall w)
-  light_calls site (c ∷ calls) none e heavy =
+  light_calls site [] e heavy = all_none (IsLightCall w)
+  light_calls site (c ∷ calls) e heavy =
       let rest : List Fault = flat_map (heavy_call w) (map (λ (c : s.Call). sited c site) calls) in
       let more : List Fault = flat_map (λ (c : s.Call). call_faults w.transactions ((scope_of w).item c.name.name) c) calls in
       let first : List Fault = call_faults w.transactions ((scope_of w).item c.name.name) c in
-      let light : is_light_body w (called w c.name) ≡ true = no_fault F.Weight c.name (is_light_body w (called w c.name)) (none_first (heavy_call w (sited c site)) rest heavy) in
-      all_more (IsLightCall w) c calls (light_call w c built (all_head no_args c calls none) (none_first first more e) light) (light_calls site calls (all_tail no_args c calls none) (none_second first more e) (none_second (heavy_call w (sited c site)) rest heavy))
+      let light : is_light_body w (called w c.name) (arguments c) ≡ true = no_fault F.Weight c.name (is_light_body w (called w c.name) (arguments c)) (none_first (heavy_call w (sited c site)) rest heavy) in
+      all_more (IsLightCall w) c calls (light_call w c (none_first first more e) light) (light_calls site calls (none_second first more e) (none_second (heavy_call w (sited c site)) rest heavy))
 
-  light_clients : (cs : List s.Client) → All (λ (client : s.Client). All (λ call. call.args ≡ []) client.calls) cs → flat_map (client_faults w.sites (scope_of w) w.transactions) cs ≡ [] → flat_map (heavy_call w) (flat_map sited_calls_of cs) ≡ [] → All (λ client. All (IsLightCall w) client.calls) cs
+  light_clients : (cs : List s.Client) → flat_map (client_faults w.sites (scope_of w) w.transactions) cs ≡ [] → flat_map (heavy_call w) (flat_map sited_calls_of cs) ≡ [] → All (λ client. All (IsLightCall w) client.calls) cs
   unfolding words
-  light_clients [] none e heavy = all_none (λ client. All (IsLightCall w) client.calls)
-  light_clients (c ∷ cs) none e heavy =
+  light_clients [] e heavy = all_none (λ client. All (IsLightCall w) client.calls)
+  light_clients (c ∷ cs) e heavy =
       let faults : List Fault = flat_map (λ (call : s.Call). call_faults w.transactions ((scope_of w).item call.name.name) call) c.calls in
       let sites : List Fault = site_faults w.sites c.site in
       let more : List Fault = flat_map (client_faults w.sites (scope_of w) w.transactions) cs in
       let split : flat_map (heavy_call w) (sited_calls_of c) ++ flat_map (heavy_call w) (flat_map sited_calls_of cs) ≡ [] = sym (flat_map-append (heavy_call w) (sited_calls_of c) (flat_map sited_calls_of cs)) ∙ heavy in
-      all_more (λ (client : s.Client). All (IsLightCall w) client.calls) c cs (light_calls c.site.value c.calls (all_head none_of c cs none) (none_first faults sites (none_first (faults ++ sites) more e)) (none_first (flat_map (heavy_call w) (sited_calls_of c)) (flat_map (heavy_call w) (flat_map sited_calls_of cs)) split)) (light_clients cs (all_tail none_of c cs none) (none_second (faults ++ sites) more e) (none_second (flat_map (heavy_call w) (sited_calls_of c)) (flat_map (heavy_call w) (flat_map sited_calls_of cs)) split))
+      all_more (λ (client : s.Client). All (IsLightCall w) client.calls) c cs (light_calls c.site.value c.calls (none_first faults sites (none_first (faults ++ sites) more e)) (none_first (flat_map (heavy_call w) (sited_calls_of c)) (flat_map (heavy_call w) (flat_map sited_calls_of cs)) split)) (light_clients cs (none_second (faults ++ sites) more e) (none_second (flat_map (heavy_call w) (sited_calls_of c)) (flat_map (heavy_call w) (flat_map sited_calls_of cs)) split))
 
-pub all-light : (w : s.Workload) → IsBuilt w → declared_faults w ≡ [] → weight_faults w ≡ [] → All (λ client. All (IsLightCall w) client.calls) w.clients
+pub all-light : (w : s.Workload) → declared_faults w ≡ [] → weight_faults w ≡ [] → All (λ client. All (IsLightCall w) client.calls) w.clients
 unfolding words
-all-light w built e heavy = light_clients w built w.clients built.arguments (none_second (flat_map object_faults w.objects ++ flat_map (of_transaction (scope_of w)) w.transactions) (flat_map (client_faults w.sites (scope_of w) w.transactions) w.clients) e) heavy
+all-light w e heavy = light_clients w w.clients (none_second (flat_map object_faults w.objects ++ flat_map (of_transaction (scope_of w)) w.transactions) (flat_map (client_faults w.sites (scope_of w) w.transactions) w.clients) e) heavy

@@ -53,12 +53,7 @@ abbrev mutual
   are_built NoCommand = true
   are_built (MoreCommand c cs) = is_built c && are_built cs
 
-pub record IsBuiltTransaction (t : s.Transaction) : Type 0 where
-  pub parameters : t.params ≡ []
-  pub body : are_built t.body ≡ true
-
--- no relations, no parameters, no arguments, and each body can be run
+-- no relations, and each body can be run
 pub record IsBuilt (w : s.Workload) : Type 0 where
   pub relations : w.relations ≡ []
-  pub transactions : All IsBuiltTransaction w.transactions
-  pub arguments : All (λ client. All (λ call. call.args ≡ []) client.calls) w.clients
+  pub bodies : All (λ t. are_built t.body ≡ true) w.transactions

@@ -1,13 +1,13 @@
 -- The global names: objects, relations, transactions and clients.
-use Rattle.std.specs.Prelude.{ℕ, ◌+◌, List, [], ◌∷◌, ◌++◌, map, Option, Some, None, ◌==◌, if◌then◌else◌, slice_get}
+use Rattle.std.specs.Prelude.{ℕ, ℤ, ◌+◌, List, [], ◌∷◌, ◌++◌, map, Option, Some, None, ◌==◌, if◌then◌else◌, slice_get}
 use Rattle.std.specs.List.{flat_map}
 use Rattle.homeo_syntax.specs.Source as s
 use Rattle.homeo_syntax.specs.declared.phrase.Ident.{Ident}
 use Rattle.homeo_meaning.specs.Key.{words}
 use Rattle.homeo_meaning.specs.Bindings.{Scope}
+use Rattle.homeo_meaning.specs.Serial.{arguments}
 use Rattle.homeo_meaning.specs.NameRules.{when, fault}
 use Rattle.homeo_meaning.specs.TransactionRules.{is_in}
-use Rattle.homeo_meaning.specs.declared.rules.SitedCall.{SitedCall}
 use Rattle.homeo_meaning.specs.declared.rules.Fault.{Fault}
 use Rattle.homeo_meaning.specs.declared.rules.Phase.TheVariants.{Duplicate}
 use Rattle.homeo_meaning.specs.declared.rules.Item.{Item}
@@ -55,9 +55,15 @@ abbrev pub called : s.Workload → Ident → Option s.Transaction
 unfolding words
 called w x = transaction_at w ((scope_of w).item x.name)
 
+-- what a call calls, with which arguments, and the site of its client
+pub record SitedCall : Type 0 where
+  pub name : Ident
+  pub args : List ℤ
+  pub site : ℤ
+
 abbrev pub sited_calls_of : s.Client → List SitedCall
 unfolding words
-sited_calls_of c = map (λ call. record { name = call.name; site = c.site.value }) c.calls
+sited_calls_of c = map (λ call. record { name = call.name; args = arguments call; site = c.site.value }) c.calls
 
 -- all calls, in the order of the text
 abbrev pub sited_calls : s.Workload → List SitedCall

@@ -1,5 +1,5 @@
 -- The rules of bounds, and of how much may be declared.
-use Rattle.std.specs.Prelude.{ℕ, ◌+◌, slice_get, ℤ, int_lt, int_le, pos, neg_ℤ, Bool, ◌&&◌, ◌||◌, List, [], ◌∷◌, ◌++◌, length, Option, Some, None, ◌==◌, if◌then◌else◌}
+use Rattle.std.specs.Prelude.{ℕ, ◌+◌, slice_get, ℤ, int_lt, int_le, pos, neg_ℤ, Bool, true, false, ◌&&◌, ◌||◌, List, [], ◌∷◌, ◌++◌, length, Option, Some, None, ◌==◌, if◌then◌else◌}
 use Rattle.std.specs.Ordering.{int_eq}
 use Rattle.std.specs.List.{list_any}
 use Rattle.homeo_syntax.specs.Source as s
@@ -10,8 +10,7 @@ use Rattle.homeo_syntax.specs.declared.workload.ObjectDecl.{ObjectDecl}
 use Rattle.homeo_meaning.specs.Key.{words}
 use Rattle.homeo_meaning.specs.NameRules.{when, fault, number_fault}
 use Rattle.homeo_meaning.specs.TransactionRules.{each}
-use Rattle.homeo_meaning.specs.GlobalNames.{sited_calls}
-use Rattle.homeo_meaning.specs.declared.rules.SitedCall.{SitedCall}
+use Rattle.homeo_meaning.specs.GlobalNames.{SitedCall, sited_calls}
 use Rattle.homeo_meaning.specs.declared.rules.Fault.{Fault}
 use Rattle.homeo_meaning.specs.declared.rules.Phase.TheVariants.{Bounds, Limits}
 
@@ -72,9 +71,19 @@ abbrev pub passes_limit : {A : Type 0} → ℕ → (A → Ident) → List A → 
 unfolding words
 passes_limit most name before x = when (length before == most) (fault Limits (name x))
 
+abbrev pub same_numbers : List ℤ → List ℤ → Bool
+same_numbers [] [] = true
+same_numbers (m ∷ ms) (n ∷ ns) = int_eq m n && same_numbers ms ns
+same_numbers _ _ = false
+
+-- calls of one name with equal arguments
+abbrev pub same_body : SitedCall → SitedCall → Bool
+unfolding words
+same_body u v = (u.name.name == v.name.name) && same_numbers u.args v.args
+
 abbrev pub same_ground : SitedCall → SitedCall → Bool
 unfolding words
-same_ground u v = (u.name.name == v.name.name) && int_eq u.site v.site
+same_ground u v = same_body u v && int_eq u.site v.site
 
 -- those kept, and then each that is the same ground call as none before it
 abbrev pub distinct_after : List SitedCall → List SitedCall → List SitedCall
@@ -82,7 +91,7 @@ unfolding words
 distinct_after kept [] = kept
 distinct_after kept (u ∷ us) = distinct_after (if list_any (same_ground u) kept then kept else kept ++ u ∷ []) us
 
--- the first call of each ground call: without arguments, a transaction and a site
+-- the first call of each ground call: a transaction, its arguments and a site
 abbrev pub ground_calls : s.Workload → List SitedCall
 unfolding words
 ground_calls w = distinct_after [] (sited_calls w)

@@ -1,5 +1,6 @@
 -- The states and runs that the lists of the code stand for.
-use Rattle.std.specs.Prelude.{ℤ, pos, List, []}
+use Rattle.std.specs.Prelude.{ℤ, pos, List, [], map}
+use Rattle.homeo_meaning.specs.declared.arguments.Argument.{Argument}
 use Rattle.homeo_meaning.specs.declared.scene.Scene.{Scene}
 use Rattle.homeo_meaning.specs.Key.{words}
 use Rattle.homeo_meaning.specs.Schema.{Declared, Schema}
@@ -21,10 +22,10 @@ abbrev pub objects_only : List Declared → Schema
 unfolding words
 objects_only ds = record { objects = ds; relations = [] }
 
--- the context of a call without arguments
-abbrev pub plain_context : Declarations → Context
+-- the context of a call with these arguments
+abbrev pub call_context : Declarations → List Argument → Context
 unfolding words
-plain_context d = context (objects_only d.objects) [] []
+call_context d arguments = context (objects_only d.objects) (map (λ a. a.name) arguments) (map (λ a. a.value) arguments)
 
 -- where a call begins: temporaries 0
 abbrev pub start : List ℤ → State

@@ -1,5 +1,5 @@
 -- The rules of how much a call prints and of how large its values may get, and of what can be run at this stage.
-use Rattle.std.specs.Prelude.{ℕ, ◌+◌, Bool, true, false, not, ◌&&◌, nat_lt, List, [], ◌∷◌, ◌++◌, Option, Some, None}
+use Rattle.std.specs.Prelude.{ℕ, ℤ, ◌+◌, Bool, true, not, nat_lt, List, ◌++◌, map, Option, Some, None}
 use Rattle.std.specs.List.{flat_map, sum_by}
 use Rattle.homeo_syntax.specs.Source as s
 use Rattle.homeo_syntax.specs.Source.{Command, Commands, Skip, Assign, Write, Print, If, Block, SetField, SetRow, Foreach, Insert, Delete, Update, NoCommand, MoreCommand}
@@ -10,9 +10,8 @@ use Rattle.homeo_meaning.specs.Weights.{first_weights, are_light}
 use Rattle.homeo_meaning.specs.Built.{are_built}
 use Rattle.homeo_meaning.specs.NameRules.{when, fault}
 use Rattle.homeo_meaning.specs.TransactionRules.{each}
-use Rattle.homeo_meaning.specs.GlobalNames.{called, sited_calls}
+use Rattle.homeo_meaning.specs.GlobalNames.{SitedCall, called, sited_calls}
 use Rattle.homeo_syntax.specs.declared.phrase.Ident.{Ident}
-use Rattle.homeo_meaning.specs.declared.rules.SitedCall.{SitedCall}
 use Rattle.homeo_meaning.specs.declared.rules.Fault.{Fault}
 use Rattle.homeo_meaning.specs.declared.rules.Phase.TheVariants.{Unbuilt, Size, Weight}
 
@@ -58,40 +57,30 @@ print_faults w = each (prints_too_much (λ x. prints_of (called w x))) (sited_ca
 abbrev pub heaviest : ℕ
 heaviest = 1000000000000000000
 
--- each expression of the body has a weight of at most 10^18; there are neither parameters nor arguments yet
-abbrev pub is_light_body : s.Workload → Option s.Transaction → Bool
+-- with these arguments, each expression of the body has a weight of at most 10^18
+abbrev pub is_light_body : s.Workload → Option s.Transaction → List ℤ → Bool
 unfolding words
-is_light_body w None = true
-is_light_body w (Some t) = are_light heaviest (context (schema_of w) [] []) t.body (first_weights (schema_of w))
+is_light_body w None args = true
+is_light_body w (Some t) args =
+    are_light heaviest (context (schema_of w) (map (λ p. p.name.name) t.params) args) t.body (first_weights (schema_of w))
 
 abbrev pub heavy_call : s.Workload → SitedCall → List Fault
 unfolding words
-heavy_call w c = when (not (is_light_body w (called w c.name))) (fault Weight c.name)
+heavy_call w c = when (not (is_light_body w (called w c.name) c.args)) (fault Weight c.name)
 
 abbrev pub weight_faults : s.Workload → List Fault
 unfolding words
 weight_faults w = flat_map (heavy_call w) (sited_calls w)
 
 -- ---- what can be run
-abbrev pub is_empty : {A : Type 0} → List A → Bool
-is_empty [] = true
-is_empty (x ∷ xs) = false
-
 abbrev pub unbuilt_relation : s.RelationDecl → List Fault
 unbuilt_relation q = fault Unbuilt q.name
 
 abbrev pub unbuilt_transaction : s.Transaction → List Fault
 unfolding words
-unbuilt_transaction t = when (not (is_empty t.params && are_built t.body)) (fault Unbuilt t.name)
+unbuilt_transaction t = when (not (are_built t.body)) (fault Unbuilt t.name)
 
-abbrev pub unbuilt_call : s.Call → List Fault
-unfolding words
-unbuilt_call c = when (not (is_empty c.args)) (fault Unbuilt c.name)
-
--- relations, parameters, arguments and forms over relations can't be run yet
+-- relations and forms over relations can't be run yet
 abbrev pub unbuilt_faults : s.Workload → List Fault
 unfolding words
-unbuilt_faults w =
-    flat_map unbuilt_relation w.relations
-    ++ flat_map unbuilt_transaction w.transactions
-    ++ flat_map (λ client. flat_map unbuilt_call client.calls) w.clients
+unbuilt_faults w = flat_map unbuilt_relation w.relations ++ flat_map unbuilt_transaction w.transactions

@@ -4,9 +4,8 @@ use Rattle.homeo_syntax.specs.declared.workload.Refusal.{Refusal}
 use Rattle.homeo_syntax.specs.Source as s
 use Rattle.homeo_syntax.specs.Reads.{Reads, IsUnread}
 use Rattle.homeo_meaning.specs.Key.{words}
-use Rattle.homeo_meaning.specs.Faults.{faults, Decides}
+use Rattle.homeo_meaning.specs.Faults.{faults, IsRefusedBy}
 use Rattle.homeo_meaning.specs.declared.call.Purpose.{Purpose}
-use Rattle.homeo_meaning.specs.declared.rules.Fault.{Fault}
 
 -- the most bytes that a text may have
 abbrev pub text_limit : ℕ
@@ -24,14 +23,11 @@ pub record IsTooLong (text : List ℕ) (r : Refusal) : Type 0 where
   pub code : r.code ≡ 2
   pub offset : r.offset ≡ text_limit
 
--- the text reads as a workload that breaks a rule; which one, and where, isn't told yet
+-- the text reads as a workload that breaks a rule, and this refusal is that of the fault that decides
 pub record BreaksRule (text : List ℕ) (purpose : Purpose) (r : Refusal) : Type 0 where
   pub workload : s.Workload
   pub reads : Reads text workload
-  pub fault : Fault
-  pub decides : Decides (faults purpose workload) fault
-  pub code : r.code ≡ 0
-  pub offset : r.offset ≡ 0
+  pub refused : IsRefusedBy purpose workload r
 
 -- the text is refused for this purpose: it is too long, or else it reads as no workload, or as one that breaks a rule
 abbrev pub IsRefused : List ℕ → Purpose → Refusal → Type 0

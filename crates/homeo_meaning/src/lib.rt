@@ -2,6 +2,7 @@
 #![tactic(auto)]
 
 mod accepted;
+mod arguments;
 mod call;
 mod commands;
 mod database;
@@ -16,5 +17,5 @@ pub use accepted::Accepted;
 pub use call::{CallId, Purpose};
 pub use database::{Database, initial};
 pub use numbering::{Numbering, Places};
-pub use rules::{Binding, Fault, Item, Local, Phase, SitedCall};
+pub use rules::{Binding, Fault, Item, Local, Phase};
 pub use runs::{eval, eval_call, serial};

@@ -5,8 +5,9 @@ ghost use Rattle.homeo_syntax.specs.SourceView.{exprs, tests, plain_expr, plain_
 ghost use Rattle.homeo_meaning.specs.Meaning.{compared, value, sum_value, product_value, passes, holds};
 ghost use Rattle.homeo_meaning.specs.Acceptance.{limit};
 ghost use Rattle.homeo_meaning.specs.CanRun.{is_small, expr_fits, sum_fits, product_fits, test_fits, cond_fits};
-ghost use Rattle.homeo_meaning.specs.Scenes.{state_of, plain_context};
+ghost use Rattle.homeo_meaning.specs.Scenes.{state_of, call_context};
 
+use crate::arguments::{Argument, argument_or};
 use crate::numbering::Numbering;
 use crate::scene::Scene;
 use homeo_syntax::{Compare, Cond, Expr, Test};
@@ -49,19 +50,19 @@ fn compared(op: Compare, left: i64, right: i64) -> bool
 /// The value of an expression.
 #[cycle(values)]
 #[tactic(auto, using(homeo_syntax::proofs::Measures::phrase_parts, std::proofs::lemmas::Bool::and_parts, homeo_syntax::proofs::SourceViews::phrase_views), unfolding(crate::specs::Key::words))]
-pub(crate) fn value(e: &Expr, numbering: &Numbering, scene: &Scene) -> i64
-    requires { expr_fits limit (plain_context numbering.now) (plain_expr e.now)
+pub(crate) fn value(e: &Expr, numbering: &Numbering, arguments: &[Argument], scene: &Scene) -> i64
+    requires { expr_fits limit (call_context numbering.now arguments.now) (plain_expr e.now)
         (state_of scene.now) ≡ true }
-    ensures { result ≡ value (plain_context numbering.now) (plain_expr e.now)
+    ensures { result ≡ value (call_context numbering.now arguments.now) (plain_expr e.now)
         (state_of scene.now) }
 {
     match e {
         Expr::Literal(n) => *n,
-        Expr::Name(t) => scene.temp(t.name),
+        Expr::Name(t) => argument_or(arguments, t.name, scene.temp(t.name)),
         Expr::Read(o) => scene.object(numbering.object(o.name)),
-        Expr::Sum(es) => sum(es.as_slice(), numbering, scene),
-        Expr::Product(es) => product(es.as_slice(), numbering, scene),
-        Expr::Neg(e) => negated(value(e, numbering, scene)),
+        Expr::Sum(es) => sum(es.as_slice(), numbering, arguments, scene),
+        Expr::Product(es) => product(es.as_slice(), numbering, arguments, scene),
+        Expr::Neg(e) => negated(value(e, numbering, arguments, scene)),
         Expr::Field { .. } => unreachable!(),
         Expr::Row { .. } => unreachable!(),
         Expr::Count { .. } => unreachable!(),
@@ -71,48 +72,48 @@ pub(crate) fn value(e: &Expr, numbering: &Numbering, scene: &Scene) -> i64
 
 #[cycle(values)]
 #[tactic(auto, using(crate::proofs::Equations::sums, crate::proofs::Steps::steps))]
-fn sum(es: &[Expr], numbering: &Numbering, scene: &Scene) -> i64
-    requires { sum_fits limit (plain_context numbering.now) (exprs (map plain_expr es.now))
-        (state_of scene.now) (pos 0) ≡ true }
-    ensures { result ≡ sum_value (plain_context numbering.now) (exprs (map plain_expr es.now))
-        (state_of scene.now) (pos 0) }
+fn sum(es: &[Expr], numbering: &Numbering, arguments: &[Argument], scene: &Scene) -> i64
+    requires { sum_fits limit (call_context numbering.now arguments.now)
+        (exprs (map plain_expr es.now)) (state_of scene.now) (pos 0) ≡ true }
+    ensures { result ≡ sum_value (call_context numbering.now arguments.now)
+        (exprs (map plain_expr es.now)) (state_of scene.now) (pos 0) }
 {
     let mut total = 0;
     for e in es {
-        total = added(total, value(e, numbering, scene));
+        total = added(total, value(e, numbering, arguments, scene));
     }
     total
 }
 
 #[cycle(values)]
 #[tactic(auto, using(crate::proofs::Equations::products, crate::proofs::Steps::steps))]
-fn product(es: &[Expr], numbering: &Numbering, scene: &Scene) -> i64
-    requires { product_fits limit (plain_context numbering.now) (exprs (map plain_expr es.now))
-        (state_of scene.now) (pos 1) ≡ true }
-    ensures { result ≡ product_value (plain_context numbering.now) (exprs (map plain_expr es.now))
-        (state_of scene.now) (pos 1) }
+fn product(es: &[Expr], numbering: &Numbering, arguments: &[Argument], scene: &Scene) -> i64
+    requires { product_fits limit (call_context numbering.now arguments.now)
+        (exprs (map plain_expr es.now)) (state_of scene.now) (pos 1) ≡ true }
+    ensures { result ≡ product_value (call_context numbering.now arguments.now)
+        (exprs (map plain_expr es.now)) (state_of scene.now) (pos 1) }
 {
     let mut total = 1;
     for e in es {
-        total = multiplied(total, value(e, numbering, scene));
+        total = multiplied(total, value(e, numbering, arguments, scene));
     }
     total
 }
 
 #[cycle(conditions)]
 #[tactic(auto, using(homeo_syntax::proofs::Measures::phrase_parts, std::proofs::lemmas::Bool::and_parts, homeo_syntax::proofs::SourceViews::phrase_views), unfolding(crate::specs::Key::words))]
-fn passes(t: &Test, numbering: &Numbering, scene: &Scene) -> bool
-    requires { test_fits limit (plain_context numbering.now) (plain_test t.now)
+fn passes(t: &Test, numbering: &Numbering, arguments: &[Argument], scene: &Scene) -> bool
+    requires { test_fits limit (call_context numbering.now arguments.now) (plain_test t.now)
         (state_of scene.now) ≡ true }
-    ensures { result ≡ passes (plain_context numbering.now) (plain_test t.now)
+    ensures { result ≡ passes (call_context numbering.now arguments.now) (plain_test t.now)
         (state_of scene.now) }
 {
     match t {
         Test::True => true,
-        Test::Not(c) => !holds(c, numbering, scene),
+        Test::Not(c) => !holds(c, numbering, arguments, scene),
         Test::Compare { op, left, right } => {
-            let left = value(left, numbering, scene);
-            let right = value(right, numbering, scene);
+            let left = value(left, numbering, arguments, scene);
+            let right = value(right, numbering, arguments, scene);
             compared(*op, left, right)
         }
     }
@@ -121,25 +122,25 @@ fn passes(t: &Test, numbering: &Numbering, scene: &Scene) -> bool
 /// Whether each test of a condition passes.
 #[cycle(conditions)]
 #[tactic(auto, using(homeo_syntax::proofs::Measures::phrase_parts, std::proofs::lemmas::Bool::and_parts, homeo_syntax::proofs::SourceViews::phrase_views), unfolding(crate::specs::Key::words))]
-pub(crate) fn holds(c: &Cond, numbering: &Numbering, scene: &Scene) -> bool
-    requires { cond_fits limit (plain_context numbering.now) (plain_cond c.now)
+pub(crate) fn holds(c: &Cond, numbering: &Numbering, arguments: &[Argument], scene: &Scene) -> bool
+    requires { cond_fits limit (call_context numbering.now arguments.now) (plain_cond c.now)
         (state_of scene.now) ≡ true }
-    ensures { result ≡ holds (plain_context numbering.now) (plain_cond c.now)
+    ensures { result ≡ holds (call_context numbering.now arguments.now) (plain_cond c.now)
         (state_of scene.now) }
 {
-    all_pass(c.tests.as_slice(), numbering, scene)
+    all_pass(c.tests.as_slice(), numbering, arguments, scene)
 }
 
 #[cycle(conditions)]
 #[tactic(auto, using(crate::proofs::Equations::conjunctions, crate::proofs::Steps::steps))]
-fn all_pass(ts: &[Test], numbering: &Numbering, scene: &Scene) -> bool
-    requires { cond_fits limit (plain_context numbering.now) (tests (map plain_test ts.now))
-        (state_of scene.now) ≡ true }
-    ensures { result ≡ holds (plain_context numbering.now) (tests (map plain_test ts.now))
-        (state_of scene.now) }
+fn all_pass(ts: &[Test], numbering: &Numbering, arguments: &[Argument], scene: &Scene) -> bool
+    requires { cond_fits limit (call_context numbering.now arguments.now)
+        (tests (map plain_test ts.now)) (state_of scene.now) ≡ true }
+    ensures { result ≡ holds (call_context numbering.now arguments.now)
+        (tests (map plain_test ts.now)) (state_of scene.now) }
 {
     for t in ts {
-        if !passes(t, numbering, scene) {
+        if !passes(t, numbering, arguments, scene) {
             return false;
         }
     }

@@ -1,5 +1,3 @@
-use homeo_syntax::Ident;
-
 /// What a declaration declares, with its number among its like, from 0.
 #[derive(Clone, Copy, Debug, PartialEq, Eq)]
 pub enum Item {
@@ -26,13 +24,6 @@ pub enum Binding {
     /// A row variable, with the name of the relation that it goes over.
     Row(u32),
     Temporary,
-}
-
-/// A call's name, and the site of its client.
-#[derive(Clone, Copy, Debug, PartialEq, Eq)]
-pub struct SitedCall {
-    pub name: Ident,
-    pub site: i64,
 }
 
 /// The phases of the rules, in the order in which they are tried.

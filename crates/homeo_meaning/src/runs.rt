@@ -1,6 +1,6 @@
 //! Calls of an accepted workload, run on one database.
 
-ghost use Rattle.std.specs.Prelude.{◌≡◌, true, [], All, map, slice_get, Some, IfOk, OnOk, OnErr};
+ghost use Rattle.std.specs.Prelude.{◌≡◌, true, All, map, slice_get, Some, IfOk, OnOk, OnErr};
 ghost use Rattle.homeo_syntax.specs.SourceView.{commands, plain_command, plain_call, plain_workload};
 ghost use Rattle.homeo_meaning.specs.Schema.{schema_of};
 ghost use Rattle.homeo_meaning.specs.Bounds.{IsWithin};
@@ -9,11 +9,12 @@ ghost use Rattle.homeo_meaning.specs.Declarations.{declarations};
 ghost use Rattle.homeo_meaning.specs.Acceptance.{limit, IsLightBody};
 ghost use Rattle.homeo_meaning.specs.Built.{are_built, IsBuilt};
 ghost use Rattle.homeo_meaning.specs.Meaning.{does_all};
-ghost use Rattle.homeo_meaning.specs.Scenes.{objects_only, plain_context, start};
+ghost use Rattle.homeo_meaning.specs.Scenes.{objects_only, call_context, start};
 ghost use Rattle.homeo_meaning.specs.Weights.{first_weights, are_light};
 ghost use Rattle.homeo_meaning.specs.Serial.{database_like, call_of, call_outcome, serial};
 
 use crate::accepted::Accepted;
+use crate::arguments::{Argument, argument_values, bind};
 use crate::call::CallId;
 use crate::commands::run_all;
 use crate::database::Database;
@@ -33,16 +34,18 @@ fn run_body(
     alloc: Global,
     body: &[Command],
     numbering: &Numbering,
+    arguments: &[Argument],
     base: &mut Database,
 ) -> Result<Prints, Memory>
     requires within { IsWithin (objects_only numbering.now.objects) base.old.items }
     requires built { are_built (commands (map plain_command body.now)) ≡ true }
-    requires light { are_light limit (plain_context numbering.now)
-        (commands (map plain_command body.now)) (first_weights (objects_only numbering.now.objects)) ≡ true }
-    ensures prints { IfOk result (λ p. p.items ≡ (does_all (plain_context numbering.now)
+    requires light { are_light limit (call_context numbering.now arguments.now)
+        (commands (map plain_command body.now))
+        (first_weights (objects_only numbering.now.objects)) ≡ true }
+    ensures prints { IfOk result (λ p. p.items ≡ (does_all (call_context numbering.now arguments.now)
         (commands (map plain_command body.now)) (start base.old.items)).prints) }
     ensures database { OnOk result (base.new.items ≡ database_like base.old.items (does_all
-        (plain_context numbering.now) (commands (map plain_command body.now))
+        (call_context numbering.now arguments.now) (commands (map plain_command body.now))
         (start base.old.items)).state.database) }
     ensures within { IsWithin (objects_only numbering.now.objects) base.new.items }
     ensures unchanged { OnErr result (base.new ≡ base.old) }
@@ -52,33 +55,44 @@ fn run_body(
         temps: Vec::new(alloc),
     };
     let mut prints = List::new(alloc);
-    run_all(body, numbering, &mut scene, &mut prints)?;
+    run_all(body, numbering, arguments, &mut scene, &mut prints)?;
     *base = List::from_vec(scene.database);
     Ok(prints)
 }
 
-/// Runs the transaction at a place on a database: where there is none, nothing is done.
+/// Runs the transaction at a place with these arguments on a database: where there is no such
+/// transaction, nothing is done.
 fn run_at(
     alloc: Global,
     workload: &Workload,
     place: usize,
     numbering: &Numbering,
+    args: &[i64],
     base: &mut Database,
 ) -> Result<Prints, Memory>
     requires built { IsBuilt (plain_workload workload.now) }
     requires light { IsLightBody (plain_workload workload.now)
-        (slice_get (plain_workload workload.now).transactions place) [] }
+        (slice_get (plain_workload workload.now).transactions place) args.now }
     requires numbering { numbering.now ≡ declarations (plain_workload workload.now) }
     requires within { IsWithin (schema_of (plain_workload workload.now)) base.old.items }
     ensures prints { IfOk result (λ p. p.items ≡
-        (ground_outcome (plain_workload workload.now) place [] base.old.items).prints) }
+        (ground_outcome (plain_workload workload.now) place args.now base.old.items).prints) }
     ensures database { OnOk result (base.new.items ≡
-        (ground_outcome (plain_workload workload.now) place [] base.old.items).database) }
+        (ground_outcome (plain_workload workload.now) place args.now base.old.items).database) }
     ensures within { IsWithin (schema_of (plain_workload workload.now)) base.new.items }
     ensures unchanged { OnErr result (base.new ≡ base.old) }
 {
     match workload.transactions.as_slice().get(place) {
-        Some(transaction) => run_body(alloc, transaction.body.as_slice(), numbering, base),
+        Some(transaction) => {
+            let arguments = bind(alloc, transaction.params.as_slice(), args)?;
+            run_body(
+                alloc,
+                transaction.body.as_slice(),
+                numbering,
+                arguments.as_slice(),
+                base,
+            )
+        }
         None => Ok(List::new(alloc)),
     }
 }
@@ -91,7 +105,8 @@ fn find_call<'a>(workload: &'a Workload, id: CallId) -> &'a Call
     &client.calls.as_slice()[id.seq as usize - 1]
 }
 
-/// Runs the transaction of a number on a database, from temporaries 0, and gives its prints.
+/// Runs the transaction of a number with these arguments on a database, from temporaries 0, and
+/// gives its prints.
 ///
 /// # Errors
 ///
@@ -113,7 +128,14 @@ pub fn eval(
     ensures unchanged { OnErr result (base.new ≡ base.old) }
 {
     let numbering = Numbering::of(alloc, w)?;
-    run_at(alloc, w.workload(), transaction as usize, &numbering, base)
+    run_at(
+        alloc,
+        w.workload(),
+        transaction as usize,
+        &numbering,
+        args,
+        base,
+    )
 }
 
 /// Runs a client's call on a database, from temporaries 0, and gives its prints.
@@ -142,7 +164,8 @@ pub fn eval_call(
     let workload = w.workload();
     let called = find_call(workload, call);
     let place = numbering.transaction(called.name.name);
-    run_at(alloc, workload, place, numbering, database)
+    let args = argument_values(alloc, called.args.as_slice())?;
+    run_at(alloc, workload, place, numbering, args.as_slice(), database)
 }
 
 /// Runs calls one after another on a database, each from temporaries 0, and gives the prints of

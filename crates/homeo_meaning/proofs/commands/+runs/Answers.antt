@@ -2,7 +2,7 @@ use Rattle.std.proofs.Common.{rules, arith, sym, ◌∙◌}
 use Rattle.homeo_syntax.specs.declared.command.Command.TheViews.{the_lemmas}
 use Rattle.homeo_syntax.proofs.SourceViews.{command_views}
 use Rattle.homeo_meaning.specs.Acceptance.{limit}
-use Rattle.homeo_meaning.specs.Scenes.{plain_context, state_of}
+use Rattle.homeo_meaning.specs.Scenes.{call_context, state_of}
 use Rattle.homeo_meaning.proofs.CommandSteps.{can_Block, can_first, run_step, takes_yes, takes_no}
 use Rattle.homeo_meaning.proofs.commands.+runs.Goals as goal
 
@@ -23,7 +23,7 @@ run_all-run-requires t c =
 
 pub run_all-loop-c-preserved : goal.run_all-loop-c-preserved
 run_all-loop-c-preserved t c =
-    let x = plain_context c.args.numbering.now in
+    let x = call_context c.args.numbering.now c.args.arguments.now in
     let s = state_of c.loop-c.scene in
     let u = state_of c.run.new.scene in
     let step = run_step limit x s u c.loop-c.prints.items c.run.new.prints.items c.args.cs.now c.loop-c.c-index c.c-item.result c.loop-c-test.true c.c-item.is c.loop-c.invariant.can c.in_ok-run.ensures.run in

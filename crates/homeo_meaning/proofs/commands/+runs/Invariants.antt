@@ -3,12 +3,12 @@ use Rattle.homeo_syntax.specs.SourceView.{commands, plain_command}
 use Rattle.homeo_meaning.specs.Acceptance.{limit}
 use Rattle.homeo_meaning.specs.Meaning.{after_prints, does_all}
 use Rattle.homeo_meaning.specs.CanRun.{can_run_all}
-use Rattle.homeo_meaning.specs.Scenes.{plain_context, state_of}
+use Rattle.homeo_meaning.specs.Scenes.{call_context, state_of}
 use Rattle.homeo_meaning.proofs.commands.+runs.Given as goal
 
 abbrev pub invariant-run_all-loop-c : goal.invariant-run_all-loop-c
 invariant-run_all-loop-c l =
-    let x = plain_context l.numbering in
+    let x = call_context l.numbering l.arguments in
     let rest = commands (map plain_command (drop l.c-index l.cs)) in
     record {
       places : length l.scene.database.items ≡ length l.initial.scene.database.items;

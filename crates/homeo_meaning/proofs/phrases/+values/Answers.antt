@@ -4,7 +4,7 @@ use Rattle.homeo_syntax.specs.declared.phrase.Expr.{the_lemmas}
 use Rattle.homeo_meaning.specs.Acceptance.{limit}
 use Rattle.homeo_meaning.specs.Meaning.{sum_value, product_value}
 use Rattle.homeo_meaning.specs.CanRun.{is_small, sum_fits, product_fits}
-use Rattle.homeo_meaning.specs.Scenes.{plain_context, state_of}
+use Rattle.homeo_meaning.specs.Scenes.{call_context, state_of}
 use Rattle.homeo_meaning.proofs.Numbers.{kept_is}
 use Rattle.homeo_meaning.proofs.Steps.{sum_step, sum_stop, product_step, product_stop}
 use Rattle.homeo_meaning.proofs.phrases.+values.Goals as goal
@@ -24,7 +24,7 @@ sum-loop-e-preserved t c =
     let k = sum_step c.args.es.now c.loop-e.e-index c.e-item.result c.loop-e-test.true c.e-item.is c.loop-e.invariant.fits in
     let e = kept_is c.value.result _ (search rules) c.value.ensures in
     let n = kept_is c.added-total.result _ (search rules) (c.added-total.ensures ∙ ap (λ v. to_z w64 c.loop-e.total-bits +ℤ v) e) in
-    let x = plain_context c.args.numbering.now in
+    let x = call_context c.args.numbering.now c.args.arguments.now in
     let s = state_of c.args.scene.now in
     let rest = exprs (map plain_expr (drop (c.loop-e.e-index + 1) c.args.es.now)) in
     record {
@@ -50,7 +50,7 @@ product-loop-e-preserved t c =
     let k = product_step c.args.es.now c.loop-e.e-index c.e-item.result c.loop-e-test.true c.e-item.is c.loop-e.invariant.fits in
     let e = kept_is c.value.result _ (search rules) c.value.ensures in
     let n = kept_is c.multiplied-total.result _ (search rules) (c.multiplied-total.ensures ∙ ap (λ v. to_z w64 c.loop-e.total-bits *ℤ v) e) in
-    let x = plain_context c.args.numbering.now in
+    let x = call_context c.args.numbering.now c.args.arguments.now in
     let s = state_of c.args.scene.now in
     let rest = exprs (map plain_expr (drop (c.loop-e.e-index + 1) c.args.es.now)) in
     record {

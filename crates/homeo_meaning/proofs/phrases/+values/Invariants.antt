@@ -3,12 +3,12 @@ use Rattle.homeo_syntax.specs.SourceView.{exprs, plain_expr}
 use Rattle.homeo_meaning.specs.Acceptance.{limit}
 use Rattle.homeo_meaning.specs.Meaning.{sum_value, product_value}
 use Rattle.homeo_meaning.specs.CanRun.{sum_fits, product_fits}
-use Rattle.homeo_meaning.specs.Scenes.{plain_context, state_of}
+use Rattle.homeo_meaning.specs.Scenes.{call_context, state_of}
 use Rattle.homeo_meaning.proofs.phrases.+values.Given as goal
 
 abbrev pub invariant-sum-loop-e : goal.invariant-sum-loop-e
 invariant-sum-loop-e l =
-    let x = plain_context l.numbering in
+    let x = call_context l.numbering l.arguments in
     let s = state_of l.scene in
     let rest = exprs (map plain_expr (drop l.e-index l.es)) in
     record {
@@ -18,7 +18,7 @@ invariant-sum-loop-e l =
 
 abbrev pub invariant-product-loop-e : goal.invariant-product-loop-e
 invariant-product-loop-e l =
-    let x = plain_context l.numbering in
+    let x = call_context l.numbering l.arguments in
     let s = state_of l.scene in
     let rest = exprs (map plain_expr (drop l.e-index l.es)) in
     record {

@@ -1,4 +1,4 @@
-use Rattle.std.proofs.Common.{◌≡◌, [], ap, sym, subst, ◌∙◌}
+use Rattle.std.proofs.Common.{◌≡◌, map, ap, sym, subst, ◌∙◌}
 use Rattle.std.specs.Prelude.{IfOk, OnOk, slice_get}
 use Rattle.homeo_syntax.specs.SourceView.{plain_call, plain_workload}
 use Rattle.homeo_syntax.specs.Key.{words as tree_words}
@@ -19,8 +19,9 @@ run_at-requires-clause-light c =
     let value = c.workload-workload.ensures.value in
     let w = plain_workload c.args.w.now in
     let made = ap (λ w. call_of (plain_workload w) c.args.call) (sym value) ∙ c.find_call-called.ensures in
-    let call = placed_call w c.args.call (plain_call c.find_call-called.result.now) c.args.numbering.now c.transaction-place.result (sound w c.workload-workload.ensures.accepted) made c.requires.numbering c.transaction-place.ensures in
-    subst (λ w. IsLightBody (plain_workload w) (slice_get (plain_workload w).transactions c.transaction-place.result) []) (sym value) call.light
+    let given = c.as_slice-2.ensures.value ∙ c.in_ok-args.ensures ∙ ap (map (λ a. a.value)) c.as_slice.ensures in
+    let call = placed_call w c.args.call (plain_call c.find_call-called.result.now) c.args.numbering.now c.transaction-place.result c.as_slice-2.result.now (sound w c.workload-workload.ensures.accepted) made c.requires.numbering c.transaction-place.ensures given in
+    subst (λ w. IsLightBody (plain_workload w) (slice_get (plain_workload w).transactions c.transaction-place.result) c.as_slice-2.result.now) (sym value) call.light
 
 pub returns-clause-prints : goal.returns-clause-prints
 unfolding tree_words
@@ -28,9 +29,10 @@ returns-clause-prints c =
     let value = c.workload-workload.ensures.value in
     let w = plain_workload c.args.w.now in
     let made = ap (λ w. call_of (plain_workload w) c.args.call) (sym value) ∙ c.find_call-called.ensures in
-    let call = placed_call w c.args.call (plain_call c.find_call-called.result.now) c.args.numbering.now c.transaction-place.result (sound w c.workload-workload.ensures.accepted) made c.requires.numbering c.transaction-place.ensures in
+    let given = c.as_slice-2.ensures.value ∙ c.in_ok-args.ensures ∙ ap (map (λ a. a.value)) c.as_slice.ensures in
+    let call = placed_call w c.args.call (plain_call c.find_call-called.result.now) c.args.numbering.now c.transaction-place.result c.as_slice-2.result.now (sound w c.workload-workload.ensures.accepted) made c.requires.numbering c.transaction-place.ensures given in
     let base = c.args.database.now.items in
-    let own = ap (λ w. (outcome_at (plain_workload w) (slice_get (plain_workload w).transactions c.transaction-place.result) [] base).prints) value in
+    let own = ap (λ w. (outcome_at (plain_workload w) (slice_get (plain_workload w).transactions c.transaction-place.result) c.as_slice-2.result.now base).prints) value in
     subst (λ v. IfOk c.run_at.result (λ p. p.items ≡ v)) (own ∙ ap (λ o. o.prints) (call.outcome base)) c.run_at.ensures.prints
 
 pub returns-clause-database : goal.returns-clause-database
@@ -39,7 +41,8 @@ returns-clause-database c =
     let value = c.workload-workload.ensures.value in
     let w = plain_workload c.args.w.now in
     let made = ap (λ w. call_of (plain_workload w) c.args.call) (sym value) ∙ c.find_call-called.ensures in
-    let call = placed_call w c.args.call (plain_call c.find_call-called.result.now) c.args.numbering.now c.transaction-place.result (sound w c.workload-workload.ensures.accepted) made c.requires.numbering c.transaction-place.ensures in
+    let given = c.as_slice-2.ensures.value ∙ c.in_ok-args.ensures ∙ ap (map (λ a. a.value)) c.as_slice.ensures in
+    let call = placed_call w c.args.call (plain_call c.find_call-called.result.now) c.args.numbering.now c.transaction-place.result c.as_slice-2.result.now (sound w c.workload-workload.ensures.accepted) made c.requires.numbering c.transaction-place.ensures given in
     let base = c.args.database.now.items in
-    let own = ap (λ w. (outcome_at (plain_workload w) (slice_get (plain_workload w).transactions c.transaction-place.result) [] base).database) value in
+    let own = ap (λ w. (outcome_at (plain_workload w) (slice_get (plain_workload w).transactions c.transaction-place.result) c.as_slice-2.result.now base).database) value in
     subst (λ v. OnOk c.run_at.result (c.run_at.new.base.items ≡ v)) (own ∙ ap (λ o. o.database) (call.outcome base)) c.run_at.ensures.database
