@@ -1,9 +1,9 @@
 -- What can be run at this stage, form by form.
-use Rattle.std.proofs.Common.{◌≡◌, ℕ, ℤ, Bool, true, false, ◌&&◌, not, List, [], ◌∷◌, Option, drop, length, ◌≤◌, refl, sym, ap, ◌∙◌}
+use Rattle.std.proofs.Common.{◌≡◌, ℕ, ℤ, Bool, true, false, ◌&&◌, not, List, [], ◌∷◌, drop, length, ◌≤◌, refl, sym, ap, ◌∙◌}
 use Rattle.std.proofs.lemmas.List.{drop_all}
 use Rattle.homeo_syntax.specs.Key.{words as syntax_words}
 use Rattle.homeo_syntax.specs.Source as s
-use Rattle.homeo_syntax.specs.SourceView.{plain_expr, plain_test, plain_command, plain_call}
+use Rattle.homeo_syntax.specs.SourceView.{plain_expr, plain_test, plain_command}
 use Rattle.homeo_syntax.specs.declared.phrase.Ident.{Ident}
 use Rattle.homeo_syntax.specs.declared.phrase.Compare.{Compare}
 use Rattle.homeo_syntax.specs.declared.phrase.Expr.{Expr}
@@ -11,21 +11,14 @@ use Rattle.homeo_syntax.specs.declared.phrase.Test.{Test}
 use Rattle.homeo_syntax.specs.declared.command.Command.{Command}
 use Rattle.homeo_syntax.specs.declared.workload.RelationDecl.{RelationDecl}
 use Rattle.homeo_syntax.specs.declared.workload.Transaction.{Transaction}
-use Rattle.homeo_syntax.specs.declared.workload.Call.{Call}
-use Rattle.homeo_syntax.specs.declared.workload.Client.{Client}
 use Rattle.homeo_meaning.specs.Key.{words as meaning_words}
 use Rattle.homeo_meaning.specs.Built.{is_built_expr, are_built_exprs, is_built_test, is_built_cond, is_built, are_built}
 use Rattle.homeo_meaning.specs.NameRules.{when, fault}
-use Rattle.homeo_meaning.specs.SizeRules.{is_empty, unbuilt_call}
-use Rattle.homeo_meaning.specs.Deciding.{keep_all}
-use Rattle.homeo_meaning.specs.declared.rules.Fault.{Fault}
 use Rattle.homeo_meaning.specs.declared.rules.Phase.TheVariants.{Unbuilt}
 use Rattle.homeo_rules.specs.Key.{words}
 use Rattle.homeo_rules.specs.Plain.{plain_exprs, plain_tests, plain_commands}
-use Rattle.homeo_rules.specs.Listwise.{along_all}
-use Rattle.homeo_rules.specs.Stages.{along_test, unbuilt_relation_of, unbuilt_transaction_of, unbuilt_call_of, unbuilt_client_of}
+use Rattle.homeo_rules.specs.Stages.{along_test, unbuilt_relation_of, unbuilt_transaction_of}
 use Rattle.homeo_rules.proofs.Steps.{keep-none}
-use Rattle.homeo_rules.proofs.Listing.{all-mapped}
 use Rattle.homeo_rules.proofs.Walks.{views}
 
 pub built-Literal : (n : ℤ) → is_built_expr (s.Literal n) ≡ true
@@ -165,18 +158,10 @@ pub relation-is : (q : RelationDecl) → unbuilt_relation_of q ≡ fault Unbuilt
 unfolding words syntax_words meaning_words
 relation-is q = refl
 
-pub transaction-is : (t : Transaction) → unbuilt_transaction_of t ≡ when (not (is_empty t.params.items && are_built (plain_commands t.body.items))) (fault Unbuilt t.name)
+pub transaction-is : (t : Transaction) → unbuilt_transaction_of t ≡ when (not (are_built (plain_commands t.body.items))) (fault Unbuilt t.name)
 unfolding words syntax_words meaning_words
 transaction-is t = refl
 
-pub call-is : (c : Call) → unbuilt_call_of c ≡ when (not (is_empty c.args.items)) (fault Unbuilt c.name)
-unfolding words syntax_words meaning_words
-call-is c = refl
-
-pub client-is : (b : Option Fault) (c : Client) → keep_all b (unbuilt_client_of c) ≡ along_all unbuilt_call_of b c.calls.items
-unfolding words syntax_words
-client-is b c = all-mapped plain_call unbuilt_call b c.calls.items
-
 pub ruleset builds = (views, built-Literal, built-Name, built-Read, built-Sum, built-Product, built-Neg, built-Field, built-Row, built-Count, built-Total, built-True, built-Not, built-Comparison, built-Skip, built-Assign, built-Write, built-Print, built-If, built-Block, built-SetField, built-SetRow, built-Foreach, built-Insert, built-Delete, built-Update)
 
-pub ruleset stages = (keep-none, relation-is, transaction-is, call-is, client-is)
+pub ruleset stages = (keep-none, relation-is, transaction-is)

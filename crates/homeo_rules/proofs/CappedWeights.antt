@@ -1,5 +1,5 @@
 -- Weights in tables are the weights of the definition, up to the cap.
-use Rattle.std.proofs.Common.{◌≡◌, ◌≢◌, ℕ, zero, suc, ◌+◌, ◌*◌, ◌<◌, ◌≤◌, Bool, true, false, cond, ◌&&◌, ◌==◌, List, [], ◌∷◌, None, length, refl, sym, ap, subst, ◌∙◌, arith, max, zero-add, add-zero, add_assoc, slice_set, get_or-set_same, get_or-set_other}
+use Rattle.std.proofs.Common.{◌≡◌, ◌≢◌, ℕ, ℤ, zero, suc, ◌+◌, ◌*◌, ◌<◌, ◌≤◌, Bool, true, false, cond, ◌&&◌, ◌==◌, List, [], ◌∷◌, Option, Some, None, length, refl, sym, ap, subst, ◌∙◌, arith, max, zero-add, add-zero, add_assoc, slice_set, get_or-set_same, get_or-set_other}
 use Rattle.std.specs.Prelude.{nat_le, slice_index, slice_index_or}
 use Rattle.std.proofs.Math.Nat.{min-eq_left, min-eq_right, mul_comm, mul-suc, mul-zero, mul_assoc, one-mul, mul-one}
 use Rattle.std.proofs.lemmas.Int.{clamps}
@@ -9,11 +9,10 @@ use Rattle.homeo_syntax.specs.Key.{words as syntax_words}
 use Rattle.homeo_syntax.specs.Source as s
 use Rattle.homeo_syntax.specs.WellFormed.{IsBelow, EachInCommand, EachInCommands}
 use Rattle.homeo_meaning.specs.Key.{words as meaning_words}
-use Rattle.homeo_meaning.specs.Bindings.{Scope}
 use Rattle.homeo_meaning.specs.Context.{Context, object}
-use Rattle.homeo_meaning.specs.Weights.{Weights, name_weight, weight, sum_weight, product_weight, after, after_all, is_light_test, is_light_cond, is_light, are_light}
+use Rattle.homeo_meaning.specs.Weights.{Weights, number_weight, name_weight, weight, sum_weight, product_weight, after, after_all, is_light_test, is_light_cond, is_light, are_light}
 use Rattle.homeo_rules.specs.Key.{words}
-use Rattle.homeo_rules.specs.Weighing.{Table, cap, object_place, temp_weight, object_weight, weighed, sum_weighed, product_weighed, fits, test_fits, cond_fits, greater_from, table_after, table_after_all, command_fits, commands_fit}
+use Rattle.homeo_rules.specs.Weighing.{Table, Setting, cap, object_place, argument_or, temp_weight, object_weight, weighed, sum_weighed, product_weighed, fits, test_fits, cond_fits, greater_from, table_after, table_after_all, command_fits, commands_fit}
 
 -- ---- capped numbers
 cap-both : (n m : ℕ) → cap (cap n + cap m) ≡ cap (n + m)
@@ -108,13 +107,23 @@ greater-is xs ys f g n ex ey m ax ay =
     ∙ (λ i. max (ax i) (ay i))
     ∙ cap-max (f m) (g m)
 
-module _ (sc : Scope) (count names : ℕ) (x : Context) (none : (n : ℕ) → x.arguments n ≡ None) (placed : (n : ℕ) → (object x n).place ≡ object_place count (sc.item n)) (below : (n : ℕ) → (object x n).place ≤ count) where
+-- the weight of a parameter's argument, where there is one
+abbrev pub weight_of : Option ℤ → Option ℕ
+weight_of None = None
+weight_of (Some v) = Some (cap (number_weight v))
+
+module _ (se : Setting) (names : ℕ) (x : Context) (given : (n : ℕ) → slice_index_or se.arguments n None ≡ weight_of (x.arguments n)) (placed : (n : ℕ) → (object x n).place ≡ object_place se.count (se.scope.item n)) (below : (n : ℕ) → (object x n).place ≤ se.count) where
+  name-is : (o : Option ℤ) (k m : ℕ) → k ≡ cap m → argument_or (weight_of o) k ≡ cap (name_weight o m)
+  unfolding meaning_words
+  name-is None k m e = e
+  name-is (Some v) k m e = refl
+
   mutual
     unfolding words meaning_words
 
-    weight-is : (e : s.Expr) (t : Table) (w : Weights) → Represents names count t w → weighed sc count e t ≡ cap (weight x e w)
+    weight-is : (e : s.Expr) (t : Table) (w : Weights) → Represents names se.count t w → weighed se e t ≡ cap (weight x e w)
     weight-is (s.Literal n) t w r = refl
-    weight-is (s.Name y) t w r = r.temps y.name ∙ ap (λ o. cap (name_weight o (w.temps y.name))) (sym (none y.name))
+    weight-is (s.Name y) t w r = ap (λ o. argument_or o (temp_weight t y.name)) (given y.name) ∙ name-is (x.arguments y.name) (temp_weight t y.name) (w.temps y.name) (r.temps y.name)
     weight-is (s.Read y) t w r = ap (object_weight t) (sym (placed y.name)) ∙ r.objects (object x y.name).place (below y.name)
     weight-is (s.Sum es) t w r = ap (max 1) (sum-is es t w r 0 ∙ ap cap (zero-add (sum_weight x es w))) ∙ cap-max_one (sum_weight x es w)
     weight-is (s.Product es) t w r = product-is es t w r 1 ∙ ap cap (one-mul (product_weight x es w))
@@ -124,53 +133,53 @@ module _ (sc : Scope) (count names : ℕ) (x : Context) (none : (n : ℕ) → x.
     weight-is (s.Count q p c) t w r = refl
     weight-is (s.Total q f p c) t w r = refl
 
-    sum-is : (es : s.Exprs) (t : Table) (w : Weights) → Represents names count t w → (m : ℕ) → sum_weighed sc count es t (cap m) ≡ cap (m + sum_weight x es w)
+    sum-is : (es : s.Exprs) (t : Table) (w : Weights) → Represents names se.count t w → (m : ℕ) → sum_weighed se es t (cap m) ≡ cap (m + sum_weight x es w)
     sum-is s.NoExpr t w r m = ap cap (sym (add-zero m))
     sum-is (s.MoreExpr e es) t w r m =
-        ap (sum_weighed sc count es t) (ap (λ k. cap (cap m + k)) (weight-is e t w r) ∙ cap-both m (weight x e w))
+        ap (sum_weighed se es t) (ap (λ k. cap (cap m + k)) (weight-is e t w r) ∙ cap-both m (weight x e w))
         ∙ sum-is es t w r (m + weight x e w)
         ∙ ap cap (add_assoc m (weight x e w) (sum_weight x es w))
 
-    product-is : (es : s.Exprs) (t : Table) (w : Weights) → Represents names count t w → (m : ℕ) → product_weighed sc count es t (cap m) ≡ cap (m * product_weight x es w)
+    product-is : (es : s.Exprs) (t : Table) (w : Weights) → Represents names se.count t w → (m : ℕ) → product_weighed se es t (cap m) ≡ cap (m * product_weight x es w)
     product-is s.NoExpr t w r m = ap cap (sym (mul-one m))
     product-is (s.MoreExpr e es) t w r m =
-        ap (product_weighed sc count es t) (ap (λ k. cap (cap m * k)) (weight-is e t w r) ∙ cap-mul m (weight x e w))
+        ap (product_weighed se es t) (ap (λ k. cap (cap m * k)) (weight-is e t w r) ∙ cap-mul m (weight x e w))
         ∙ product-is es t w r (m * weight x e w)
         ∙ ap cap (mul_assoc m (weight x e w) (product_weight x es w))
 
-  expr-fits : (e : s.Expr) (t : Table) (w : Weights) → Represents names count t w → fits (weighed sc count e t) ≡ nat_le (weight x e w) 1000000000000000000
+  expr-fits : (e : s.Expr) (t : Table) (w : Weights) → Represents names se.count t w → fits (weighed se e t) ≡ nat_le (weight x e w) 1000000000000000000
   expr-fits e t w r = ap fits (weight-is e t w r) ∙ cap-fits (weight x e w)
 
   mutual
     unfolding words meaning_words
 
-    test-fits : (c : s.Test) (t : Table) (w : Weights) → Represents names count t w → test_fits sc count c t ≡ is_light_test 1000000000000000000 x c w
+    test-fits : (c : s.Test) (t : Table) (w : Weights) → Represents names se.count t w → test_fits se c t ≡ is_light_test 1000000000000000000 x c w
     test-fits s.True t w r = refl
     test-fits (s.Not c) t w r = cond-fits c t w r
     test-fits (s.Comparison op d e) t w r = λ i. expr-fits d t w r i && expr-fits e t w r i
 
-    cond-fits : (c : s.Cond) (t : Table) (w : Weights) → Represents names count t w → cond_fits sc count c t ≡ is_light_cond 1000000000000000000 x c w
+    cond-fits : (c : s.Cond) (t : Table) (w : Weights) → Represents names se.count t w → cond_fits se c t ≡ is_light_cond 1000000000000000000 x c w
     cond-fits s.NoTest t w r = refl
     cond-fits (s.MoreTest a c) t w r = λ i. test-fits a t w r i && cond-fits c t w r i
 
   mutual
     unfolding words meaning_words syntax_words
 
-    after-is : (c : s.Command) (t : Table) (w : Weights) → EachInCommand (IsBelow names) c → Represents names count t w → Represents names count (table_after sc count c t) (after x c w)
+    after-is : (c : s.Command) (t : Table) (w : Weights) → EachInCommand (IsBelow names) c → Represents names se.count t w → Represents names se.count (table_after se c t) (after x c w)
     after-is s.Skip t w h r = r
     after-is (s.Assign y e) t w h r = record {
       objects = r.objects;
-      temps = λ m. set-case t.temps w.temps y.name (weighed sc count e t) (weight x e w) (subst (λ k. y.name < k) (sym r.all_temps) h.0) m (r.temps m) (weight-is e t w r) (y.name == m) refl;
+      temps = λ m. set-case t.temps w.temps y.name (weighed se e t) (weight x e w) (subst (λ k. y.name < k) (sym r.all_temps) h.0) m (r.temps m) (weight-is e t w r) (y.name == m) refl;
       all_objects = r.all_objects;
-      all_temps = length-set t.temps y.name (weighed sc count e t) ∙ r.all_temps;
+      all_temps = length-set t.temps y.name (weighed se e t) ∙ r.all_temps;
     }
     after-is (s.Write y e) t w h r =
-        let k : ℕ = object_place count (sc.item y.name) in
+        let k : ℕ = object_place se.count (se.scope.item y.name) in
         let p : ℕ = (object x y.name).place in
         let same : p ≡ k = placed y.name in
-        let v : ℕ = weighed sc count e t in
-        let low : p ≤ count = below y.name in
-        let all : length t.objects ≡ count + 1 = r.all_objects in
+        let v : ℕ = weighed se e t in
+        let low : p ≤ se.count = below y.name in
+        let all : length t.objects ≡ se.count + 1 = r.all_objects in
         let lt : k < length t.objects = omega arith in
         let greater : max (object_weight t k) v ≡ cap (max (w.objects p) (weight x e w)) = (λ i. max (object_weight t (sym same i)) (weight-is e t w r i)) ∙ (λ i. max (r.objects p low i) (cap (weight x e w))) ∙ cap-max (w.objects p) (weight x e w) in
         record {
@@ -181,13 +190,13 @@ module _ (sc : Scope) (count names : ℕ) (x : Context) (none : (n : ℕ) → x.
         }
     after-is (s.Print e) t w h r = r
     after-is (s.If a c d) t w h r =
-        let one : Represents names count (table_after sc count c t) (after x c w) = after-is c t w h.1 r in
-        let two : Represents names count (table_after sc count d t) (after x d w) = after-is d t w h.2 r in
+        let one : Represents names se.count (table_after se c t) (after x c w) = after-is c t w h.1 r in
+        let two : Represents names se.count (table_after se d t) (after x d w) = after-is d t w h.2 r in
         record {
-          objects = λ m few. greater-is (table_after sc count c t).objects (table_after sc count d t).objects (after x c w).objects (after x d w).objects (count + 1) one.all_objects two.all_objects m (one.objects m few) (two.objects m few);
-          temps = λ m. greater-is (table_after sc count c t).temps (table_after sc count d t).temps (after x c w).temps (after x d w).temps names one.all_temps two.all_temps m (one.temps m) (two.temps m);
-          all_objects = length-greater 0 (table_after sc count c t).objects (table_after sc count d t).objects ∙ one.all_objects;
-          all_temps = length-greater 0 (table_after sc count c t).temps (table_after sc count d t).temps ∙ one.all_temps;
+          objects = λ m few. greater-is (table_after se c t).objects (table_after se d t).objects (after x c w).objects (after x d w).objects (se.count + 1) one.all_objects two.all_objects m (one.objects m few) (two.objects m few);
+          temps = λ m. greater-is (table_after se c t).temps (table_after se d t).temps (after x c w).temps (after x d w).temps names one.all_temps two.all_temps m (one.temps m) (two.temps m);
+          all_objects = length-greater 0 (table_after se c t).objects (table_after se d t).objects ∙ one.all_objects;
+          all_temps = length-greater 0 (table_after se c t).temps (table_after se d t).temps ∙ one.all_temps;
         }
     after-is (s.Block cs) t w h r = after-all cs t w h r
     after-is (s.SetField q i f e) t w h r = r
@@ -197,14 +206,14 @@ module _ (sc : Scope) (count names : ℕ) (x : Context) (none : (n : ℕ) → x.
     after-is (s.Delete q p a) t w h r = r
     after-is (s.Update q p a f e) t w h r = r
 
-    after-all : (cs : s.Commands) (t : Table) (w : Weights) → EachInCommands (IsBelow names) cs → Represents names count t w → Represents names count (table_after_all sc count cs t) (after_all x cs w)
+    after-all : (cs : s.Commands) (t : Table) (w : Weights) → EachInCommands (IsBelow names) cs → Represents names se.count t w → Represents names se.count (table_after_all se cs t) (after_all x cs w)
     after-all s.NoCommand t w h r = r
-    after-all (s.MoreCommand c cs) t w h r = after-all cs (table_after sc count c t) (after x c w) h.1 (after-is c t w h.0 r)
+    after-all (s.MoreCommand c cs) t w h r = after-all cs (table_after se c t) (after x c w) h.1 (after-is c t w h.0 r)
 
   mutual
     unfolding words meaning_words syntax_words
 
-    command-fits : (c : s.Command) (t : Table) (w : Weights) → EachInCommand (IsBelow names) c → Represents names count t w → command_fits sc count c t ≡ is_light 1000000000000000000 x c w
+    command-fits : (c : s.Command) (t : Table) (w : Weights) → EachInCommand (IsBelow names) c → Represents names se.count t w → command_fits se c t ≡ is_light 1000000000000000000 x c w
     command-fits s.Skip t w h r = refl
     command-fits (s.Assign y e) t w h r = expr-fits e t w r
     command-fits (s.Write y e) t w h r = expr-fits e t w r
@@ -218,6 +227,6 @@ module _ (sc : Scope) (count names : ℕ) (x : Context) (none : (n : ℕ) → x.
     command-fits (s.Delete q p a) t w h r = refl
     command-fits (s.Update q p a f e) t w h r = refl
 
-    pub commands-fit : (cs : s.Commands) (t : Table) (w : Weights) → EachInCommands (IsBelow names) cs → Represents names count t w → commands_fit sc count cs t ≡ are_light 1000000000000000000 x cs w
+    pub commands-fit : (cs : s.Commands) (t : Table) (w : Weights) → EachInCommands (IsBelow names) cs → Represents names se.count t w → commands_fit se cs t ≡ are_light 1000000000000000000 x cs w
     commands-fit s.NoCommand t w h r = refl
-    commands-fit (s.MoreCommand c cs) t w h r = λ i. command-fits c t w h.0 r i && commands-fit cs (table_after sc count c t) (after x c w) h.1 (after-is c t w h.0 r) i
+    commands-fit (s.MoreCommand c cs) t w h r = λ i. command-fits c t w h.0 r i && commands-fit cs (table_after se c t) (after x c w) h.1 (after-is c t w h.0 r) i

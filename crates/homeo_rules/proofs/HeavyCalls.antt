@@ -1,27 +1,31 @@
 -- The calls that are found too heavy are those of the definition.
-use Rattle.std.proofs.Common.{◌≡◌, ℕ, zero, suc, ◌+◌, ◌<◌, ◌≤◌, Bool, true, false, cond, not, ◌&&◌, ◌||◌, ◌==◌, List, [], ◌∷◌, ◌++◌, map, replicate, Option, Some, None, length, refl, sym, ap, ◌∙◌, arith, zero-add, add-one}
-use Rattle.std.specs.Prelude.{nat_lt, slice_index_or, slice_get}
+use Rattle.std.proofs.Common.{◌≡◌, ◌≢◌, ℕ, ℤ, zero, suc, ◌+◌, ◌<◌, ◌≤◌, Bool, true, false, cond, not, ◌&&◌, ◌||◌, ◌==◌, List, [], ◌∷◌, ◌++◌, map, replicate, Option, Some, None, length, drop, refl, sym, ap, subst, ◌∙◌, arith, zero-add, add-one, slice_set, get_or, get_or-set_same, get_or-set_other, drop-cons}
+use Rattle.std.specs.Prelude.{nat_lt, is_some, slice_index_or, slice_get}
 use Rattle.std.specs.List.{flat_map}
-use Rattle.std.proofs.lemmas.List.{length-append, length-map, length-replicate}
+use Rattle.std.proofs.lemmas.List.{length-append, length-map, length-replicate, length-set}
 use Rattle.std.proofs.lemmas.Bool.Decides.{nat_tests}
 use Rattle.homeo_syntax.specs.Key.{words as syntax_words}
 use Rattle.homeo_syntax.specs.Source as s
 use Rattle.homeo_syntax.specs.SourceView.{plain_transaction}
 use Rattle.homeo_syntax.specs.declared.phrase.Ident.{Ident}
+use Rattle.homeo_syntax.specs.WellFormed.{Each, IsBelow}
+use Rattle.homeo_syntax.specs.declared.phrase.Number.{Number}
 use Rattle.homeo_syntax.specs.declared.workload.ObjectDecl.{ObjectDecl}
+use Rattle.homeo_syntax.specs.declared.workload.RangeDecl.{RangeDecl}
 use Rattle.homeo_syntax.specs.declared.workload.Transaction.{Transaction}
 use Rattle.homeo_meaning.specs.Key.{words as meaning_words}
+use Rattle.homeo_meaning.specs.Bindings.{Scope}
 use Rattle.homeo_meaning.specs.Schema.{Declared, Relation, declared_object, schema_of}
 use Rattle.homeo_meaning.specs.Bounds.{bounds_of, slot_bounds, relation_bounds}
-use Rattle.homeo_meaning.specs.Context.{spot_from, object, context}
+use Rattle.homeo_meaning.specs.Context.{spot_from, object, arguments_of, context}
 use Rattle.homeo_meaning.specs.Weights.{number_weight, weight_at, first_weights}
 use Rattle.homeo_meaning.specs.NameRules.{when, fault}
+use Rattle.homeo_meaning.specs.GlobalNames as g
 use Rattle.homeo_meaning.specs.GlobalNames.{GlobalName, numbered_from, first_named, scope_of, transaction_at, sited_calls}
 use Rattle.homeo_meaning.specs.SizeRules.{is_light_body, heavy_call, weight_faults}
 use Rattle.homeo_meaning.specs.Faults.{rank, comes_before}
 use Rattle.homeo_meaning.specs.Deciding.{keep_all}
 use Rattle.homeo_meaning.specs.declared.rules.Fault.{Fault}
-use Rattle.homeo_meaning.specs.declared.rules.SitedCall.{SitedCall}
 use Rattle.homeo_meaning.specs.declared.rules.Phase.TheVariants.{Weight}
 use Rattle.homeo_meaning.specs.declared.rules.Item.{Item}
 use Rattle.homeo_meaning.specs.declared.rules.Item.TheVariants as I
@@ -29,9 +33,16 @@ use Rattle.homeo_rules.specs.Key.{words}
 use Rattle.homeo_rules.specs.Plain.{plain_commands}
 use Rattle.homeo_rules.specs.Listwise.{along_all}
 use Rattle.homeo_rules.specs.Within.{IsNamed, AreNamed}
-use Rattle.homeo_rules.specs.Weighing.{cap, object_place, first_weight, first_table, transaction_fits, call_fits, heavy_fault}
-use Rattle.homeo_rules.proofs.Listing.{all-along}
-use Rattle.homeo_rules.proofs.CappedWeights.{Represents, cap-max, commands-fit}
+use Rattle.homeo_rules.specs.Scopes.{scope_in}
+use Rattle.homeo_rules.specs.Sited.{values, sited, same_arguments, same_body_of}
+use Rattle.homeo_rules.specs.Frames.{fits_in, found, AreRight}
+use Rattle.homeo_rules.specs.declared.sited.SitedCall.{SitedCall}
+use Rattle.homeo_rules.specs.declared.weights.Bodies.{Bodies}
+use Rattle.homeo_rules.specs.declared.weights.WeighedCall.{WeighedCall}
+use Rattle.homeo_rules.specs.Weighing.{Setting, cap, object_place, commands_fit, first_weight, first_table, first_entered, with_argument, along_params, argument_weights, transaction_fits, some_fits, item_fits, call_fits, heavy_fault}
+use Rattle.homeo_rules.proofs.Listing.{all-mapped}
+use Rattle.homeo_rules.proofs.Siting.{opt_cons, drop-is, past-is, same-arguments, equal-numbers}
+use Rattle.homeo_rules.proofs.CappedWeights.{Represents, cap-max, weight_of, commands-fit}
 
 -- ---- the place of a name
 abbrev or_else : Option Item → Option Item → Option Item
@@ -75,9 +86,9 @@ or-none : (o : Option Item) → or_else o None ≡ o
 or-none (Some g) = refl
 or-none None = refl
 
-pub placed : (w : s.Workload) (n : ℕ) → (object (context (schema_of w) [] []) n).place ≡ object_place (length w.objects) ((scope_of w).item n)
+pub placed : (w : s.Workload) (params : List ℕ) (args : List ℤ) (n : ℕ) → (object (context (schema_of w) params args) n).place ≡ object_place (length w.objects) ((scope_of w).item n)
 unfolding meaning_words
-placed w n =
+placed w params args n =
     let count : ℕ = length w.objects in
     let objects : List GlobalName = numbered_from I.Object 0 (map (λ d. d.name) w.objects) in
     let relations : List GlobalName = numbered_from I.Relation 0 (map (λ d. d.name) w.relations) in
@@ -108,9 +119,9 @@ spot_low k (d ∷ ds) n = by_case (d.name == n) (spot_low (suc k) ds n)
     by_case true h = omega arith
     by_case false h = omega arith
 
-pub low : (w : s.Workload) (n : ℕ) → (object (context (schema_of w) [] []) n).place ≤ length w.objects
+pub low : (w : s.Workload) (params : List ℕ) (args : List ℤ) (n : ℕ) → (object (context (schema_of w) params args) n).place ≤ length w.objects
 unfolding meaning_words
-low w n =
+low w params args n =
     let h : (spot_from 0 (map declared_object w.objects) n).place ≤ 0 + length (map declared_object w.objects) = spot_low 0 (map declared_object w.objects) n in
     let e : length (map declared_object w.objects) ≡ length w.objects = length-map w.objects declared_object in
     omega arith
@@ -146,31 +157,201 @@ starts w names = record {
   all_temps = length-replicate names 1;
 }
 
+-- ---- the arguments
+abbrev value_at : Option Number → Option ℤ
+value_at None = None
+value_at (Some a) = Some a.value
+
+get-value : (i : ℕ) (args : List Number) → value_at (slice_get args i) ≡ slice_get (values args) i
+get-value i [] = refl
+get-value zero (a ∷ args) = refl
+get-value (suc i) (a ∷ args) = get-value i args
+
+abbrev with_value : List (Option ℕ) → ℕ → Option ℤ → List (Option ℕ)
+with_value l n None = l
+with_value l n (Some v) = first_entered (is_some (slice_index_or l n None)) l n (cap (number_weight v))
+
+with-value : (l : List (Option ℕ)) (n : ℕ) (o : Option Number) → with_argument l n o ≡ with_value l n (value_at o)
+with-value l n None = refl
+with-value l n (Some a) = refl
+
+abbrev along_values : ℕ → List (Option ℕ) → List RangeDecl → List ℤ → List (Option ℕ)
+along_values i l [] vs = l
+along_values i l (d ∷ ds) vs = along_values (i + 1) (with_value l d.name.name (slice_get vs i)) ds vs
+
+pub along-values : (i : ℕ) (l : List (Option ℕ)) (ds : List RangeDecl) (args : List Number) → along_params i l ds args ≡ along_values i l ds (values args)
+along-values i l [] args = refl
+along-values i l (d ∷ ds) args =
+    ap (λ k. along_params (i + 1) k ds args) (with-value l d.name.name (slice_get args i) ∙ ap (with_value l d.name.name) (get-value i args))
+    ∙ along-values (i + 1) (with_value l d.name.name (slice_get (values args) i)) ds args
+
+abbrev or_weight : Option ℕ → Option ℕ → Option ℕ
+or_weight None o = o
+or_weight (Some m) o = Some m
+
+or-none_weight : (o : Option ℕ) → o ≡ or_weight o None
+or-none_weight None = refl
+or-none_weight (Some m) = refl
+
+no-arguments : (ps : List ℕ) (n : ℕ) → arguments_of ps [] n ≡ None
+unfolding meaning_words
+no-arguments [] n = refl
+no-arguments (p ∷ ps) n = refl
+
+length-with : (l : List (Option ℕ)) (n : ℕ) (o : Option ℤ) → length (with_value l n o) ≡ length l
+length-with l n None = refl
+length-with l n (Some v) = by_case (is_some (slice_index_or l n None))
+  where
+    by_case : (b : Bool) → length (first_entered b l n (cap (number_weight v))) ≡ length l
+    by_case true = refl
+    by_case false = length-set l n (Some (cap (number_weight v)))
+
+-- what is entered with one more argument
+one-more : (l : List (Option ℕ)) (p n v : ℕ) (o : Option ℕ) (rest : Option ℤ) (k : ℤ) → p < length l → v ≡ cap (number_weight k) → slice_index_or l p None ≡ o → or_weight (slice_index_or (first_entered (is_some (slice_index_or l p None)) l p v) n None) (weight_of rest) ≡ or_weight (slice_index_or l n None) (weight_of (cond (p == n) (Some k) rest))
+one-more l p n v (Some m) rest k few ev e =
+    ap (λ b. or_weight (slice_index_or (first_entered b l p v) n None) (weight_of rest)) (ap is_some e) ∙ by_case (p == n) refl
+  where
+    by_case : (b : Bool) → (p == n) ≡ b → or_weight (slice_index_or l n None) (weight_of rest) ≡ or_weight (slice_index_or l n None) (weight_of (cond (p == n) (Some k) rest))
+    by_case true q =
+        let same : p ≡ n = grind (arith, nat_tests) in
+        let there : slice_index_or l n None ≡ Some m = subst (λ j. slice_index_or l j None ≡ Some m) same e in
+        ap (λ z. or_weight z (weight_of rest)) there ∙ sym (ap (λ z. or_weight z (weight_of (cond (p == n) (Some k) rest))) there)
+    by_case false q = ap (λ b. or_weight (slice_index_or l n None) (weight_of (cond b (Some k) rest))) (sym q)
+one-more l p n v None rest k few ev e =
+    ap (λ b. or_weight (slice_index_or (first_entered b l p v) n None) (weight_of rest)) (ap is_some e) ∙ by_case (p == n) refl
+  where
+    by_case : (b : Bool) → (p == n) ≡ b → or_weight (slice_index_or (slice_set l p (Some v)) n None) (weight_of rest) ≡ or_weight (slice_index_or l n None) (weight_of (cond (p == n) (Some k) rest))
+    by_case true q =
+        let same : p ≡ n = grind (arith, nat_tests) in
+        let here : slice_index_or (slice_set l p (Some v)) n None ≡ Some v = subst (λ j. slice_index_or (slice_set l p (Some v)) j None ≡ Some v) same (get_or-set_same l p (Some v) None few) in
+        let before : slice_index_or l n None ≡ None = subst (λ j. slice_index_or l j None ≡ None) same e in
+        ap (λ z. or_weight z (weight_of rest)) here
+        ∙ ap Some ev
+        ∙ sym (ap (λ b. or_weight (slice_index_or l n None) (weight_of (cond b (Some k) rest))) q ∙ ap (λ z. or_weight z (weight_of (Some k))) before)
+    by_case false q =
+        let other : n ≢ p = grind (arith, nat_tests) in
+        ap (λ z. or_weight z (weight_of rest)) (get_or-set_other l p n (Some v) None other)
+        ∙ ap (λ b. or_weight (slice_index_or l n None) (weight_of (cond b (Some k) rest))) (sym q)
+
+pub arguments-are : (i : ℕ) (l : List (Option ℕ)) (ds : List RangeDecl) (vs : List ℤ) (n : ℕ) → Each (λ (d : RangeDecl). IsBelow (length l) d.name) ds → slice_index_or (along_values i l ds vs) n None ≡ or_weight (slice_index_or l n None) (weight_of (arguments_of (map (λ d. d.name.name) ds) (drop i vs) n))
+unfolding meaning_words syntax_words
+arguments-are i l [] vs n h = or-none_weight (slice_index_or l n None)
+arguments-are i l (d ∷ ds) vs n h =
+    by_case (arguments-are (i + 1) l ds vs n h.1) (λ k same. arguments-are (i + 1) k ds vs n (subst (λ m. Each (λ (d : RangeDecl). IsBelow m d.name) ds) (sym same) h.1)) (slice_get vs i) refl
+  where
+    p : ℕ
+    p = d.name.name
+
+    params : List ℕ
+    params = map (λ (d : RangeDecl). d.name.name) ds
+
+    rest : List ℤ
+    rest = drop (i + 1) vs
+
+    by_case : slice_index_or (along_values (i + 1) l ds vs) n None ≡ or_weight (slice_index_or l n None) (weight_of (arguments_of params rest n)) → ((k : List (Option ℕ)) → length k ≡ length l → slice_index_or (along_values (i + 1) k ds vs) n None ≡ or_weight (slice_index_or k n None) (weight_of (arguments_of params rest n))) → (o : Option ℤ) → slice_get vs i ≡ o → slice_index_or (along_values (i + 1) (with_value l p (slice_get vs i)) ds vs) n None ≡ or_weight (slice_index_or l n None) (weight_of (arguments_of (p ∷ params) (drop i vs) n))
+    by_case more again None q =
+        ap (λ o. slice_index_or (along_values (i + 1) (with_value l p o) ds vs) n None) q
+        ∙ more
+        ∙ ap (λ k. or_weight (slice_index_or l n None) (weight_of k)) (ap (λ k. arguments_of params k n) (past-is i vs q) ∙ no-arguments params n)
+        ∙ sym (ap (λ k. or_weight (slice_index_or l n None) (weight_of (arguments_of (p ∷ params) k n))) (drop-is i vs ∙ ap (λ o. opt_cons o rest) q))
+    by_case more again (Some v) q =
+        let m : ℕ = cap (number_weight v) in
+        let l' : List (Option ℕ) = first_entered (is_some (slice_index_or l p None)) l p m in
+        ap (λ o. slice_index_or (along_values (i + 1) (with_value l p o) ds vs) n None) q
+        ∙ again l' (length-with l p (Some v))
+        ∙ one-more l p n m (slice_index_or l p None) (arguments_of params rest n) v h.0 refl refl
+        ∙ sym (ap (λ k. or_weight (slice_index_or l n None) (weight_of (arguments_of (p ∷ params) k n))) (drop-is i vs ∙ ap (λ o. opt_cons o rest) q))
+
+none-first : (k n : ℕ) → ◌≡◌ {A = Option ℕ} (slice_index_or (replicate k None) n None) None
+none-first zero n = refl
+none-first (suc k) zero = refl
+none-first (suc k) (suc n) = none-first k n
+
+pub given-are : (names : ℕ) (ds : List RangeDecl) (args : List Number) (n : ℕ) → Each (λ (d : RangeDecl). IsBelow names d.name) ds → slice_index_or (argument_weights names ds args) n None ≡ weight_of (arguments_of (map (λ d. d.name.name) ds) (values args) n)
+given-are names ds args n h =
+    let none : List (Option ℕ) = replicate names None in
+    let few : length none ≡ names = length-replicate names None in
+    ap (λ l. slice_index_or l n None) (along-values 0 none ds args)
+    ∙ arguments-are 0 none ds (values args) n (subst (λ k. Each (λ (d : RangeDecl). IsBelow k d.name) ds) (sym few) h)
+    ∙ ap (λ o. or_weight o (weight_of (arguments_of (map (λ (d : RangeDecl). d.name.name) ds) (values args) n))) (none-first names n)
+
+pub step-params : (l new : List (Option ℕ)) (ds : List RangeDecl) (args : List Number) (i : ℕ) (d : RangeDecl) → i < length ds → new ≡ with_argument l (get_or ds i d).name.name (slice_get args i) → along_params (i + 1) new (drop (i + 1) ds) args ≡ along_params i l (drop i ds) args
+step-params l new ds args i d lt e =
+    ap (λ k. along_params (i + 1) k (drop (i + 1) ds) args) e ∙ sym (ap (λ k. along_params i l k args) (drop_one ds i d lt))
+  where
+    drop_one : (xs : List RangeDecl) (i : ℕ) (d : RangeDecl) → i < length xs → drop i xs ≡ get_or xs i d ∷ drop (i + 1) xs
+    drop_one xs i d lt = rw (add-one, drop-cons xs i d)
+
+-- ---- calls that are known
+-- equal arguments give equal weights
+equal-fits : (sc : Scope) (ds : List ObjectDecl) (names : ℕ) (o : Option Transaction) (xs ys : List Number) → values xs ≡ values ys → some_fits sc ds names o xs ≡ some_fits sc ds names o ys
+unfolding words
+equal-fits sc ds names None xs ys e = refl
+equal-fits sc ds names (Some t) xs ys e =
+    let start : List (Option ℕ) = replicate names None in
+    let same : along_params 0 start t.params.items xs ≡ along_params 0 start t.params.items ys = along-values 0 start t.params.items xs ∙ ap (along_values 0 start t.params.items) e ∙ sym (along-values 0 start t.params.items ys) in
+    ap (λ arguments. commands_fit (record { scope = sc; count = length ds; arguments = arguments }) (plain_commands t.body.items) (first_table ds names)) same
+
+equal-items : (sc : Scope) (ds : List ObjectDecl) (names : ℕ) (ts : List Transaction) (g : Option Item) (xs ys : List Number) → values xs ≡ values ys → item_fits sc ds names ts g xs ≡ item_fits sc ds names ts g ys
+equal-items sc ds names ts None xs ys e = refl
+equal-items sc ds names ts (Some (I.Transaction k)) xs ys e = equal-fits sc ds names (slice_get ts k) xs ys e
+equal-items sc ds names ts (Some (I.Object k)) xs ys e = refl
+equal-items sc ds names ts (Some (I.Relation k)) xs ys e = refl
+equal-items sc ds names ts (Some (I.Client k)) xs ys e = refl
+
+same-fits : (b : Bodies) (c k : SitedCall) → same_body_of c k ≡ true → fits_in b k ≡ fits_in b c
+same-fits b c k e = by_case (c.name.name == k.name.name) refl e
+  where
+    by_case : (z : Bool) → (c.name.name == k.name.name) ≡ z → (z && same_arguments c.args.now k.args.now) ≡ true → fits_in b k ≡ fits_in b c
+    by_case true q e' =
+        let name : c.name.name ≡ k.name.name = grind (arith, nat_tests) in
+        let args : values c.args.now ≡ values k.args.now = equal-numbers (values c.args.now) (values k.args.now) (sym (same-arguments c.args.now k.args.now) ∙ e') in
+        ap (λ n. item_fits (scope_in b.scope) b.objects.now b.names b.transactions.now ((scope_in b.scope).item n) k.args.now) (sym name)
+        ∙ equal-items (scope_in b.scope) b.objects.now b.names b.transactions.now ((scope_in b.scope).item c.name.name) k.args.now c.args.now (sym args)
+    by_case false q e' = cc
+
+pub found-right : (b : Bodies) (known : List WeighedCall) (c : SitedCall) (light : Bool) → AreRight (fits_in b) known → found known c ≡ Some light → light ≡ fits_in b c
+found-right b [] c light h e = cc
+found-right b (k ∷ known) c light h e = by_case (found-right b known c light h.1) (same_body_of c k.call) refl e
+  where
+    by_case : (found known c ≡ Some light → light ≡ fits_in b c) → (z : Bool) → same_body_of c k.call ≡ z → cond z (Some k.light) (found known c) ≡ Some light → light ≡ fits_in b c
+    by_case more true q e' =
+        let is : k.light ≡ light = cc in
+        sym is ∙ h.0 ∙ same-fits b c k.call q
+    by_case more false q e' = more e'
+
+pub push-right : (fits_call : SitedCall → Bool) (known : List WeighedCall) (k : WeighedCall) → AreRight fits_call known → k.light ≡ fits_call k.call → AreRight fits_call (known ++ k ∷ [])
+push-right fits_call [] k h e = (e, tt)
+push-right fits_call (j ∷ known) k h e = (h.0, push-right fits_call known k h.1 e)
+
 -- ---- the calls
 module _ (w : s.Workload) (names : ℕ) where
-  body-fits : (t : Transaction) → IsNamed names (plain_transaction t) → transaction_fits (scope_of w) w.objects names t ≡ is_light_body w (Some (plain_transaction t))
+  body-fits : (t : Transaction) (args : List Number) → IsNamed names (plain_transaction t) → transaction_fits (scope_of w) w.objects names t args ≡ is_light_body w (Some (plain_transaction t)) (values args)
   unfolding words meaning_words syntax_words
-  body-fits t named = commands-fit (scope_of w) (length w.objects) names (context (schema_of w) [] []) (λ n. refl) (placed w) (low w) (plain_commands t.body.items) (first_table w.objects names) (first_weights (schema_of w)) named.1 (starts w names)
+  body-fits t args named =
+      let params : List ℕ = map (λ (d : RangeDecl). d.name.name) t.params.items in
+      let se : Setting = record { scope = scope_of w; count = length w.objects; arguments = argument_weights names t.params.items args } in
+      commands-fit se names (context (schema_of w) params (values args)) (λ n. given-are names t.params.items args n named.0) (placed w params (values args)) (low w params (values args)) (plain_commands t.body.items) (first_table w.objects names) (first_weights (schema_of w)) named.1 (starts w names)
 
-  fits-at : (ts : List Transaction) (k : ℕ) → AreNamed names ts → slice_index_or (map (transaction_fits (scope_of w) w.objects names) ts) k true ≡ is_light_body w (slice_get (map plain_transaction ts) k)
+  fits-at : (ts : List Transaction) (k : ℕ) (args : List Number) → AreNamed names ts → some_fits (scope_of w) w.objects names (slice_get ts k) args ≡ is_light_body w (slice_get (map plain_transaction ts) k) (values args)
   unfolding meaning_words
-  fits-at [] k named = refl
-  fits-at (t ∷ ts) zero named = body-fits t named.0
-  fits-at (t ∷ ts) (suc k) named = fits-at ts k named.1
+  fits-at [] k args named = refl
+  fits-at (t ∷ ts) zero args named = body-fits t args named.0
+  fits-at (t ∷ ts) (suc k) args named = fits-at ts k args named.1
 
-  call-fits : (ts : List Transaction) (g : Option Item) → w.transactions ≡ map plain_transaction ts → AreNamed names ts → call_fits (map (transaction_fits (scope_of w) w.objects names) ts) g ≡ is_light_body w (transaction_at w g)
+  item-fits : (ts : List Transaction) (g : Option Item) (args : List Number) → w.transactions ≡ map plain_transaction ts → AreNamed names ts → item_fits (scope_of w) w.objects names ts g args ≡ is_light_body w (transaction_at w g) (values args)
   unfolding meaning_words
-  call-fits ts None e named = refl
-  call-fits ts (Some (I.Transaction k)) e named = fits-at ts k named ∙ ap (λ l. is_light_body w (slice_get l k)) (sym e)
-  call-fits ts (Some (I.Object k)) e named = refl
-  call-fits ts (Some (I.Relation k)) e named = refl
-  call-fits ts (Some (I.Client k)) e named = refl
+  item-fits ts None args e named = refl
+  item-fits ts (Some (I.Transaction k)) args e named = fits-at ts k args named ∙ ap (λ l. is_light_body w (slice_get l k) (values args)) (sym e)
+  item-fits ts (Some (I.Object k)) args e named = refl
+  item-fits ts (Some (I.Relation k)) args e named = refl
+  item-fits ts (Some (I.Client k)) args e named = refl
 
-  pub heavy-calls : (ts : List Transaction) (best : Option Fault) (calls : List SitedCall) → w.transactions ≡ map plain_transaction ts → AreNamed names ts → calls ≡ sited_calls w → along_all (heavy_fault (scope_of w) (map (transaction_fits (scope_of w) w.objects names) ts)) best calls ≡ keep_all best (weight_faults w)
+  pub heavy-calls : (ts : List Transaction) (best : Option Fault) (calls : List SitedCall) → w.transactions ≡ map plain_transaction ts → AreNamed names ts → map sited calls ≡ sited_calls w → along_all (heavy_fault (call_fits (scope_of w) w.objects names ts)) best calls ≡ keep_all best (weight_faults w)
   unfolding meaning_words
   heavy-calls ts best calls e named ec =
-      ap (λ rule. along_all rule best calls) (λ i c. when (not (call-fits ts ((scope_of w).item c.name.name) e named i)) (fault Weight c.name))
-      ∙ sym (all-along (heavy_call w) best calls)
+      ap (λ rule. along_all rule best calls) (λ i c. when (not (item-fits ts ((scope_of w).item c.name.name) c.args.now e named i)) (fault Weight c.name))
+      ∙ sym (all-mapped sited (heavy_call w) best calls)
       ∙ ap (λ l. keep_all best (flat_map (heavy_call w) l)) ec
 
 -- ---- where a fault of an earlier phase stands
@@ -182,10 +363,10 @@ none-before f h offset =
     let other : (9 == rank f.phase) ≡ false = grind (arith, nat_tests) in
     λ i. no i || (other i && nat_lt offset f.offset)
 
-pub decided : (w : s.Workload) (f : Fault) → nat_lt (rank f.phase) 9 ≡ true → (calls : List SitedCall) → keep_all (Some f) (flat_map (heavy_call w) calls) ≡ Some f
+pub decided : (w : s.Workload) (f : Fault) → nat_lt (rank f.phase) 9 ≡ true → (calls : List g.SitedCall) → keep_all (Some f) (flat_map (heavy_call w) calls) ≡ Some f
 unfolding meaning_words
 decided w f h [] = refl
-decided w f h (c ∷ calls) = by_case (is_light_body w (transaction_at w ((scope_of w).item c.name.name))) (decided w f h calls)
+decided w f h (c ∷ calls) = by_case (is_light_body w (transaction_at w ((scope_of w).item c.name.name)) c.args) (decided w f h calls)
   where
     by_case : (b : Bool) → keep_all (Some f) (flat_map (heavy_call w) calls) ≡ Some f → keep_all (Some f) (when (not b) (fault Weight c.name) ++ flat_map (heavy_call w) calls) ≡ Some f
     by_case true e = e

@@ -19,12 +19,14 @@ use Rattle.homeo_meaning.specs.TransactionRules.{each}
 use Rattle.homeo_meaning.specs.GlobalNames.{GlobalName, numbered_from, global_names, duplicate, scope_of, sited_calls, called}
 use Rattle.homeo_meaning.specs.NumberRules.{object_faults, site_count_faults, passes_limit, limit_faults, distinct_after}
 use Rattle.homeo_meaning.specs.CallRules.{client_faults, schedule_faults}
-use Rattle.homeo_meaning.specs.SizeRules.{unbuilt_relation, unbuilt_transaction, unbuilt_call, unbuilt_faults, prints_of, print_faults, weight_faults}
+use Rattle.homeo_meaning.specs.SizeRules.{unbuilt_relation, unbuilt_transaction, unbuilt_faults, prints_of, prints_too_much, print_faults, weight_faults}
 use Rattle.homeo_meaning.specs.Faults.{of_transaction, declared_faults, faults}
 use Rattle.homeo_meaning.specs.Deciding.{keep_all}
 use Rattle.homeo_meaning.specs.declared.call.Purpose.{Purpose}
 use Rattle.homeo_meaning.specs.declared.rules.Fault.{Fault}
-use Rattle.homeo_meaning.specs.declared.rules.SitedCall.{SitedCall}
+use Rattle.homeo_rules.specs.declared.sited.SitedCall.{SitedCall}
+use Rattle.homeo_rules.specs.Sited.{sited, sited_of}
+use Rattle.homeo_meaning.specs.GlobalNames as g
 use Rattle.homeo_meaning.specs.declared.rules.Item.{Item}
 use Rattle.homeo_meaning.specs.declared.rules.Item.TheVariants as I
 use Rattle.homeo_rules.specs.Key.{words}
@@ -33,33 +35,29 @@ use Rattle.homeo_rules.specs.Items.{Items, along_names}
 use Rattle.homeo_rules.specs.Listwise.{along_all}
 use Rattle.homeo_rules.specs.Within.{AreNamed}
 use Rattle.homeo_rules.specs.Callers.{client_faults_of, transaction_faults_of}
-use Rattle.homeo_rules.specs.Stages.{unbuilt_relation_of, unbuilt_transaction_of, unbuilt_client_of}
-use Rattle.homeo_rules.specs.Limited.{object_passing, transaction_passing, client_passing, call_passing, distinct_within, sited_of}
+use Rattle.homeo_rules.specs.Stages.{unbuilt_relation_of, unbuilt_transaction_of}
+use Rattle.homeo_rules.specs.Limited.{object_passing, transaction_passing, client_passing, call_passing, distinct_within}
 use Rattle.homeo_rules.specs.Printing.{capped_prints, print_all}
-use Rattle.homeo_rules.specs.Weighing.{transaction_fits, heavy_fault}
+use Rattle.homeo_rules.specs.Weighing.{call_fits, heavy_fault}
 use Rattle.homeo_rules.specs.Decided.{NamesGlobals, is_decided, faults_with_names}
 use Rattle.homeo_rules.proofs.Steps.{keep_all-append}
 use Rattle.homeo_rules.proofs.Listing.{all-along, all-mapped}
 use Rattle.homeo_rules.proofs.First.{along, along-append, along-numbered, Along, table_is, NamesWithin}
-use Rattle.homeo_rules.proofs.Limiting.{passing, limit-is, transaction-plain, client-plain, call-plain, within, sited-plain}
+use Rattle.homeo_rules.proofs.Limiting.{passing, limit-is, transaction-plain, client-plain, call-plain, ground-plain, sited-plain}
 use Rattle.homeo_rules.proofs.Printings.{printed, counts-plain}
 use Rattle.homeo_rules.proofs.HeavyCalls.{heavy-calls, decided}
 
 -- ---- what can be run
-pub unbuilt-along : (w : Workload) (rs : List RelationDecl) (ts : List Transaction) (cs : List Client) → rs ≡ w.relations.items → ts ≡ w.transactions.items → cs ≡ w.clients.items → along_all unbuilt_client_of (along_all unbuilt_transaction_of (along_all unbuilt_relation_of None rs) ts) cs ≡ keep_all None (unbuilt_faults (plain_workload w))
+pub unbuilt-along : (w : Workload) (rs : List RelationDecl) (ts : List Transaction) → rs ≡ w.relations.items → ts ≡ w.transactions.items → along_all unbuilt_transaction_of (along_all unbuilt_relation_of None rs) ts ≡ keep_all None (unbuilt_faults (plain_workload w))
 unfolding words meaning_words syntax_words
-unbuilt-along w rs ts cs er et ec =
+unbuilt-along w rs ts er et =
     let a : List Fault = flat_map unbuilt_relation (map plain_relation w.relations.items) in
     let b : List Fault = flat_map unbuilt_transaction (map plain_transaction w.transactions.items) in
-    let c : List Fault = flat_map (λ (client : s.Client). flat_map unbuilt_call client.calls) (map plain_client w.clients.items) in
-    (λ i. along_all unbuilt_client_of (along_all unbuilt_transaction_of (along_all unbuilt_relation_of None (er i)) (et i)) (ec i))
+    (λ i. along_all unbuilt_transaction_of (along_all unbuilt_relation_of None (er i)) (et i))
     ∙ sym (
-    keep_all-append None (a ++ b) c
-    ∙ all-mapped plain_client (λ (client : s.Client). flat_map unbuilt_call client.calls) (keep_all None (a ++ b)) w.clients.items
-    ∙ ap (λ o. along_all unbuilt_client_of o w.clients.items) (
     keep_all-append None a b
     ∙ all-mapped plain_transaction unbuilt_transaction (keep_all None a) w.transactions.items
-    ∙ ap (λ o. along_all unbuilt_transaction_of o w.transactions.items) (all-mapped plain_relation unbuilt_relation None w.relations.items)))
+    ∙ ap (λ o. along_all unbuilt_transaction_of o w.transactions.items) (all-mapped plain_relation unbuilt_relation None w.relations.items))
 
 -- ---- global names
 names-map : {A : Type 0} (n : ℕ) (name : A → Ident) (kind : ℕ → Item) (i : ℕ) (xs : List A) → Each (λ x. IsBelow n (name x)) xs → NamesWithin n (numbered_from kind i (map name xs))
@@ -151,7 +149,7 @@ object-plain : (o : Option ObjectDecl) → passing (λ (d : ObjectDecl). d.name)
 object-plain None = refl
 object-plain (Some d) = refl
 
-pub limits-along : (w : Workload) (best : Option Fault) (os : List ObjectDecl) (ts : List Transaction) (cs : List Client) (calls : List SitedCall) → os ≡ w.objects.items → ts ≡ w.transactions.items → cs ≡ w.clients.items → calls ≡ sited_calls (plain_workload w) → keep_all (keep_all (keep_all (keep_all (keep_all (keep_all best (site_count_faults w.sites)) (object_passing (slice_get os 1024))) (transaction_passing (slice_get ts 256))) (client_passing (slice_get cs 64))) (call_passing (slice_get calls 20000))) (call_passing (slice_get (distinct_within 1024 [] calls) 1024)) ≡ keep_all best (limit_faults (plain_workload w))
+pub limits-along : (w : Workload) (best : Option Fault) (os : List ObjectDecl) (ts : List Transaction) (cs : List Client) (calls : List SitedCall) → os ≡ w.objects.items → ts ≡ w.transactions.items → cs ≡ w.clients.items → map sited calls ≡ sited_calls (plain_workload w) → keep_all (keep_all (keep_all (keep_all (keep_all (keep_all best (site_count_faults w.sites)) (object_passing (slice_get os 1024))) (transaction_passing (slice_get ts 256))) (client_passing (slice_get cs 64))) (call_passing (slice_get calls 20000))) (call_passing (slice_get (distinct_within 1024 [] calls) 1024)) ≡ keep_all best (limit_faults (plain_workload w))
 unfolding words meaning_words syntax_words
 limits-along w best os ts cs calls eo et ec el =
     let p : s.Workload = plain_workload w in
@@ -159,20 +157,25 @@ limits-along w best os ts cs calls eo et ec el =
     let b : List Fault = each (passes_limit 1024 (λ (d : ObjectDecl). d.name)) p.objects in
     let c : List Fault = each (passes_limit 256 (λ (t : s.Transaction). t.name)) p.transactions in
     let d : List Fault = each (passes_limit 64 (λ (c : s.Client). c.name)) p.clients in
-    let f : List Fault = each (passes_limit 20000 (λ (c : SitedCall). c.name)) (sited_calls p) in
-    let g : List Fault = each (passes_limit 1024 (λ (c : SitedCall). c.name)) (distinct_after [] (sited_calls p)) in
+    let f : List Fault = each (passes_limit 20000 (λ (c : g.SitedCall). c.name)) (sited_calls p) in
+    let h : List Fault = each (passes_limit 1024 (λ (c : g.SitedCall). c.name)) (distinct_after [] (sited_calls p)) in
     let eb : object_passing (slice_get os 1024) ≡ b = ap (λ l. object_passing (slice_get l 1024)) eo ∙ sym (limit-is 1024 (λ (d : ObjectDecl). d.name) p.objects ∙ object-plain (slice_get p.objects 1024)) in
     let ecc : transaction_passing (slice_get ts 256) ≡ c = ap (λ l. transaction_passing (slice_get l 256)) et ∙ sym (limit-is 256 (λ (t : s.Transaction). t.name) p.transactions ∙ transaction-plain w.transactions.items 256) in
     let ed : client_passing (slice_get cs 64) ≡ d = ap (λ l. client_passing (slice_get l 64)) ec ∙ sym (limit-is 64 (λ (c : s.Client). c.name) p.clients ∙ client-plain w.clients.items 64) in
-    let ef : call_passing (slice_get calls 20000) ≡ f = ap (λ l. call_passing (slice_get l 20000)) el ∙ sym (limit-is 20000 (λ (c : SitedCall). c.name) (sited_calls p) ∙ call-plain (slice_get (sited_calls p) 20000)) in
-    let eg : call_passing (slice_get (distinct_within 1024 [] calls) 1024) ≡ g =
-    ap (λ l. call_passing (slice_get (distinct_within 1024 [] l) 1024)) el
-    ∙ ap call_passing (within 1024 (sited_calls p) [])
-    ∙ sym (limit-is 1024 (λ (c : SitedCall). c.name) (distinct_after [] (sited_calls p)) ∙ call-plain (slice_get (distinct_after [] (sited_calls p)) 1024)) in
+    let ef : call_passing (slice_get calls 20000) ≡ f =
+    sym (
+    limit-is 20000 (λ (c : g.SitedCall). c.name) (sited_calls p)
+    ∙ ap (λ l. passing (λ (c : g.SitedCall). c.name) (slice_get l 20000)) (sym el)
+    ∙ call-plain calls 20000) in
+    let eg : call_passing (slice_get (distinct_within 1024 [] calls) 1024) ≡ h =
+    sym (
+    limit-is 1024 (λ (c : g.SitedCall). c.name) (distinct_after [] (sited_calls p))
+    ∙ ap (λ l. passing (λ (c : g.SitedCall). c.name) (slice_get (distinct_after [] l) 1024)) (sym el)
+    ∙ ground-plain 1024 calls) in
     (λ i. keep_all (keep_all (keep_all (keep_all (keep_all (keep_all best a) (eb i)) (ecc i)) (ed i)) (ef i)) (eg i))
     ∙ sym (
-    keep_all-append best (a ++ b ++ c ++ d ++ f) g
-    ∙ ap (λ o. keep_all o g) (
+    keep_all-append best (a ++ b ++ c ++ d ++ f) h
+    ∙ ap (λ o. keep_all o h) (
     keep_all-append best (a ++ b ++ c ++ d) f
     ∙ ap (λ o. keep_all o f) (
     keep_all-append best (a ++ b ++ c) d
@@ -181,19 +184,20 @@ limits-along w best os ts cs calls eo et ec el =
     ∙ ap (λ o. keep_all o c) (keep_all-append best a b)))))
 
 -- ---- prints and weights
-pub prints-along : (w : Workload) (sc : Scope) (best : Option Fault) (ts : List Transaction) (calls : List SitedCall) → sc ≡ scope_of (plain_workload w) → ts ≡ w.transactions.items → calls ≡ sited_calls (plain_workload w) → (print_all sc (map capped_prints ts) (record { total = 0; best = best }) calls).best ≡ keep_all best (print_faults (plain_workload w))
+pub prints-along : (w : Workload) (sc : Scope) (best : Option Fault) (ts : List Transaction) (calls : List SitedCall) → sc ≡ scope_of (plain_workload w) → ts ≡ w.transactions.items → map sited calls ≡ sited_calls (plain_workload w) → (print_all sc (map capped_prints ts) (record { total = 0; best = best }) calls).best ≡ keep_all best (print_faults (plain_workload w))
 unfolding meaning_words syntax_words
 prints-along w sc best ts calls es et el =
     let p : s.Workload = plain_workload w in
-    (λ i. (print_all (es i) (map capped_prints (et i)) (record { total = 0; best = best }) (el i)).best)
-    ∙ printed (scope_of p) (map capped_prints w.transactions.items) (λ x. prints_of (called p x)) (λ x. counts-plain p w.transactions.items refl ((scope_of p).item x.name)) best (sited_calls p)
+    (λ i. (print_all (es i) (map capped_prints (et i)) (record { total = 0; best = best }) calls).best)
+    ∙ printed (scope_of p) (map capped_prints w.transactions.items) (λ x. prints_of (called p x)) (λ x. counts-plain p w.transactions.items refl ((scope_of p).item x.name)) best calls
+    ∙ ap (λ l. keep_all best (each (prints_too_much (λ x. prints_of (called p x))) l)) el
 
-pub weights-along : (w : Workload) (sc : Scope) (n : ℕ) (best : Option Fault) (os : List ObjectDecl) (ts : List Transaction) (calls : List SitedCall) → IsWellFormed (plain_workload w) → n ≡ length w.names.items → sc ≡ scope_of (plain_workload w) → os ≡ w.objects.items → ts ≡ w.transactions.items → calls ≡ sited_calls (plain_workload w) → along_all (heavy_fault sc (map (transaction_fits sc os n) ts)) best calls ≡ keep_all best (weight_faults (plain_workload w))
+pub weights-along : (w : Workload) (sc : Scope) (n : ℕ) (best : Option Fault) (os : List ObjectDecl) (ts : List Transaction) (calls : List SitedCall) → IsWellFormed (plain_workload w) → n ≡ length w.names.items → sc ≡ scope_of (plain_workload w) → os ≡ w.objects.items → ts ≡ w.transactions.items → map sited calls ≡ sited_calls (plain_workload w) → along_all (heavy_fault (call_fits sc os n ts)) best calls ≡ keep_all best (weight_faults (plain_workload w))
 unfolding syntax_words
 weights-along w sc n best os ts calls formed en es eo et el =
     let p : s.Workload = plain_workload w in
-    (λ i. along_all (heavy_fault (es i) (map (transaction_fits (es i) (eo i) (en i)) (et i))) best (el i))
-    ∙ heavy-calls p (length w.names.items) w.transactions.items best (sited_calls p) refl (are-named (length w.names.items) w.transactions.items formed.named.transactions) refl
+    (λ i. along_all (heavy_fault (call_fits (es i) (eo i) (en i) (et i))) best calls)
+    ∙ heavy-calls p (length w.names.items) w.transactions.items best calls refl (are-named (length w.names.items) w.transactions.items formed.named.transactions) el
 
 pub skipped : (w : s.Workload) (best : Option Fault) → is_decided best ≡ true → best ≡ keep_all best (weight_faults w)
 unfolding meaning_words
@@ -214,7 +218,7 @@ pub schedule-along : (w : Workload) (purpose : Purpose) (sc : Scope) (best : Opt
 unfolding syntax_words
 schedule-along w purpose sc best cs es ec = λ i. keep_all best (schedule_faults purpose (es i) (map plain_client (ec i)) w.end (plain_schedule w.schedule))
 
-pub calls-are : (w : Workload) (calls : List SitedCall) (cs : List Client) → calls ≡ sited_of cs → cs ≡ w.clients.items → calls ≡ sited_calls (plain_workload w)
+pub calls-are : (w : Workload) (calls : List SitedCall) (cs : List Client) → map sited calls ≡ sited_of cs → cs ≡ w.clients.items → map sited calls ≡ sited_calls (plain_workload w)
 unfolding meaning_words syntax_words
 calls-are w calls cs e ec = e ∙ ap sited_of ec ∙ sited-plain w.clients.items
 

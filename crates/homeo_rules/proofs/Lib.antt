@@ -15,3 +15,4 @@ pub mod First
 pub mod HeavyCalls
 pub mod Joining
 pub mod Whole
+pub mod Siting

@@ -1,9 +1,9 @@
 -- What comes after as much as there may be is the one that the rule finds.
-use Rattle.std.proofs.Common.{◌≡◌, ℕ, ℤ, zero, suc, ◌+◌, ◌<◌, ◌≤◌, Bool, true, false, cond, not, ◌&&◌, ◌==◌, List, [], ◌∷◌, ◌++◌, map, Option, Some, None, length, refl, sym, ap, ◌∙◌, arith}
+use Rattle.std.proofs.Common.{◌≡◌, ℕ, ℤ, zero, suc, ◌+◌, ◌<◌, ◌≤◌, Bool, true, false, cond, not, ◌&&◌, ◌||◌, ◌==◌, List, [], ◌∷◌, ◌++◌, map, Option, Some, None, length, refl, sym, ap, ◌∙◌, arith}
 use Rattle.std.specs.Prelude.{slice_get, nat_le}
 use Rattle.std.specs.List.{list_any, flat_map}
 use Rattle.std.proofs.lemmas.Bool.Decides.{nat_tests}
-use Rattle.std.proofs.lemmas.List.{length-append}
+use Rattle.std.proofs.lemmas.List.{length-append, map-append}
 use Rattle.homeo_syntax.specs.Key.{words as syntax_words}
 use Rattle.homeo_syntax.specs.Source as p
 use Rattle.homeo_syntax.specs.SourceView.{plain_transaction, plain_client, plain_call}
@@ -15,12 +15,16 @@ use Rattle.homeo_syntax.specs.declared.workload.Client.{Client}
 use Rattle.homeo_meaning.specs.Key.{words as meaning_words}
 use Rattle.homeo_meaning.specs.NameRules.{when, fault}
 use Rattle.homeo_meaning.specs.TransactionRules.{each, each_from}
+use Rattle.homeo_meaning.specs.GlobalNames as g
 use Rattle.homeo_meaning.specs.GlobalNames.{sited_calls_of}
+use Rattle.homeo_meaning.specs.Serial.{arguments}
 use Rattle.homeo_meaning.specs.NumberRules.{passes_limit, same_ground, distinct_after}
 use Rattle.homeo_meaning.specs.declared.rules.Fault.{Fault}
-use Rattle.homeo_meaning.specs.declared.rules.SitedCall.{SitedCall}
 use Rattle.homeo_meaning.specs.declared.rules.Phase.TheVariants.{Limits}
-use Rattle.homeo_rules.specs.Limited.{transaction_passing, client_passing, call_passing, distinct_within, sited_at, sited_of}
+use Rattle.homeo_rules.specs.Limited.{transaction_passing, client_passing, call_passing, distinct_within}
+use Rattle.homeo_rules.specs.Sited.{sited, same_ground_of, sited_at, sited_of}
+use Rattle.homeo_rules.specs.declared.sited.SitedCall.{SitedCall}
+use Rattle.homeo_rules.proofs.Siting.{same-ground}
 
 abbrev pub passing : {A : Type 0} → (A → Ident) → Option A → List Fault
 passing name None = []
@@ -68,9 +72,10 @@ client-plain [] k = refl
 client-plain (c ∷ cs) zero = refl
 client-plain (c ∷ cs) (suc k) = client-plain cs k
 
-pub call-plain : (o : Option SitedCall) → passing (λ (c : SitedCall). c.name) o ≡ call_passing o
-call-plain None = refl
-call-plain (Some c) = refl
+pub call-plain : (cs : List SitedCall) (k : ℕ) → passing (λ (c : g.SitedCall). c.name) (slice_get (map sited cs) k) ≡ call_passing (slice_get cs k)
+call-plain [] k = refl
+call-plain (c ∷ cs) zero = refl
+call-plain (c ∷ cs) (suc k) = call-plain cs k
 
 -- ---- ground calls
 get-more : (kept : List SitedCall) (u : SitedCall) (i : ℕ) → i < length kept → slice_get (kept ++ u ∷ []) i ≡ slice_get kept i
@@ -81,6 +86,11 @@ get-more (k ∷ kept) u (suc i) h = get-more kept u i (omega arith)
 abbrev after_one : Bool → List SitedCall → SitedCall → List SitedCall
 after_one b kept u = cond b kept (kept ++ u ∷ [])
 
+-- all that are distinct, without a limit
+abbrev all_distinct : List SitedCall → List SitedCall → List SitedCall
+all_distinct kept [] = kept
+all_distinct kept (u ∷ us) = all_distinct (after_one (list_any (same_ground_of u) kept) kept u) us
+
 longer_or : (b : Bool) (kept : List SitedCall) (u : SitedCall) → length kept ≤ length (after_one b kept u)
 longer_or true kept u = omega arith
 longer_or false kept u = omega (arith, length-append kept (u ∷ []))
@@ -89,11 +99,10 @@ get-after : (b : Bool) (kept : List SitedCall) (u : SitedCall) (i : ℕ) → i <
 get-after true kept u i h = refl
 get-after false kept u i h = get-more kept u i h
 
-stays : (kept us : List SitedCall) (i : ℕ) → i < length kept → slice_get (distinct_after kept us) i ≡ slice_get kept i
-unfolding meaning_words
+stays : (kept us : List SitedCall) (i : ℕ) → i < length kept → slice_get (all_distinct kept us) i ≡ slice_get kept i
 stays kept [] i h = refl
 stays kept (u ∷ us) i h =
-    let b : Bool = list_any (same_ground u) kept in
+    let b : Bool = list_any (same_ground_of u) kept in
     let more : length kept ≤ length (after_one b kept u) = longer_or b kept u in
     stays (after_one b kept u) us i (omega arith) ∙ get-after b kept u i h
 
@@ -101,30 +110,52 @@ full : (most : ℕ) (kept us : List SitedCall) → most < length kept → distin
 full most kept [] h = refl
 full most kept (u ∷ us) h =
     let no : nat_le (length kept) most ≡ false = grind (arith, nat_tests) in
-    ap (λ b. distinct_within most (cond (b && not (list_any (same_ground u) kept)) (kept ++ u ∷ []) kept) us) no ∙ full most kept us h
+    ap (λ b. distinct_within most (cond (b && not (list_any (same_ground_of u) kept)) (kept ++ u ∷ []) kept) us) no ∙ full most kept us h
 
 flip : (b : Bool) (kept : List SitedCall) (u : SitedCall) → cond (not b) (kept ++ u ∷ []) kept ≡ after_one b kept u
 flip true kept u = refl
 flip false kept u = refl
 
-within_case : (most : ℕ) (kept us : List SitedCall) (u : SitedCall) → ((l : List SitedCall) → slice_get (distinct_within most l us) most ≡ slice_get (distinct_after l us) most) → (b : Bool) → nat_le (length kept) most ≡ b → slice_get (distinct_within most (cond (b && not (list_any (same_ground u) kept)) (kept ++ u ∷ []) kept) us) most ≡ slice_get (distinct_after (after_one (list_any (same_ground u) kept) kept u) us) most
+within_case : (most : ℕ) (kept us : List SitedCall) (u : SitedCall) → ((l : List SitedCall) → slice_get (distinct_within most l us) most ≡ slice_get (all_distinct l us) most) → (b : Bool) → nat_le (length kept) most ≡ b → slice_get (distinct_within most (cond (b && not (list_any (same_ground_of u) kept)) (kept ++ u ∷ []) kept) us) most ≡ slice_get (all_distinct (after_one (list_any (same_ground_of u) kept) kept u) us) most
 within_case most kept us u same true e =
-    ap (λ l. slice_get (distinct_within most l us) most) (flip (list_any (same_ground u) kept) kept u) ∙ same (after_one (list_any (same_ground u) kept) kept u)
+    ap (λ l. slice_get (distinct_within most l us) most) (flip (list_any (same_ground_of u) kept) kept u) ∙ same (after_one (list_any (same_ground_of u) kept) kept u)
 within_case most kept us u same false e =
     let h : most < length kept = grind (arith, nat_tests) in
-    let b : Bool = list_any (same_ground u) kept in
+    let b : Bool = list_any (same_ground_of u) kept in
     let more : length kept ≤ length (after_one b kept u) = longer_or b kept u in
     ap (λ l. slice_get l most) (full most kept us h) ∙ sym (stays (after_one b kept u) us most (omega arith) ∙ get-after b kept u most h)
 
 -- one more than so many is found among as many
-pub within : (most : ℕ) (us kept : List SitedCall) → slice_get (distinct_within most kept us) most ≡ slice_get (distinct_after kept us) most
-unfolding meaning_words
+within : (most : ℕ) (us kept : List SitedCall) → slice_get (distinct_within most kept us) most ≡ slice_get (all_distinct kept us) most
 within most [] kept = refl
 within most (u ∷ us) kept = within_case most kept us u (within most us) (nat_le (length kept) most) refl
 
+any-sited : (u : SitedCall) (kept : List SitedCall) → list_any (same_ground_of u) kept ≡ list_any (same_ground (sited u)) (map sited kept)
+any-sited u [] = refl
+any-sited u (k ∷ kept) = λ i. same-ground u k i || any-sited u kept i
+
+sited-after : (b : Bool) (kept : List SitedCall) (u : SitedCall) → map sited (after_one b kept u) ≡ cond b (map sited kept) (map sited kept ++ sited u ∷ [])
+sited-after true kept u = refl
+sited-after false kept u = map-append sited kept (u ∷ [])
+
+distinct-sited : (kept us : List SitedCall) → map sited (all_distinct kept us) ≡ distinct_after (map sited kept) (map sited us)
+unfolding meaning_words
+distinct-sited kept [] = refl
+distinct-sited kept (u ∷ us) =
+    distinct-sited (after_one (list_any (same_ground_of u) kept) kept u) us
+    ∙ ap (λ l. distinct_after l (map sited us)) (
+    sited-after (list_any (same_ground_of u) kept) kept u
+    ∙ ap (λ b. cond b (map sited kept) (map sited kept ++ sited u ∷ [])) (any-sited u kept))
+
+pub ground-plain : (most : ℕ) (us : List SitedCall) → passing (λ (c : g.SitedCall). c.name) (slice_get (distinct_after [] (map sited us)) most) ≡ call_passing (slice_get (distinct_within most [] us) most)
+ground-plain most us =
+    ap (λ l. passing (λ (c : g.SitedCall). c.name) (slice_get l most)) (sym (distinct-sited [] us))
+    ∙ call-plain (all_distinct [] us) most
+    ∙ ap call_passing (sym (within most us []))
+
 -- ---- calls with their sites
-abbrev record_of : p.Call → ℤ → SitedCall
-record_of call site = record { name = call.name; site = site }
+abbrev record_of : p.Call → ℤ → g.SitedCall
+record_of call site = record { name = call.name; args = arguments call; site = site }
 
 sited-at : (site : Number) (calls : List Call) → sited_at site.value calls ≡ map (λ (call : p.Call). record_of call site.value) (map plain_call calls)
 unfolding syntax_words

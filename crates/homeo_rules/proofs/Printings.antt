@@ -23,7 +23,9 @@ use Rattle.homeo_meaning.specs.Deciding.{keep_all}
 use Rattle.homeo_meaning.specs.declared.rules.Fault.{Fault}
 use Rattle.homeo_meaning.specs.declared.rules.Item.{Item}
 use Rattle.homeo_meaning.specs.declared.rules.Item.TheVariants as I
-use Rattle.homeo_meaning.specs.declared.rules.SitedCall.{SitedCall}
+use Rattle.homeo_rules.specs.declared.sited.SitedCall.{SitedCall}
+use Rattle.homeo_rules.specs.Sited.{sited}
+use Rattle.homeo_meaning.specs.GlobalNames as g
 use Rattle.homeo_meaning.specs.declared.rules.Phase.TheVariants.{Size}
 use Rattle.homeo_rules.specs.Key.{words}
 use Rattle.homeo_rules.specs.Plain.{plain_commands}
@@ -123,18 +125,18 @@ capped-both : (n m : ℕ) → min 1000001 (min 1000001 n + min 1000001 m) ≡ mi
 capped-both n m = omega (arith, clamps)
 
 module _ (s : Scope) (counts : List ℕ) (prints : Ident → ℕ) (agree : (x : Ident) → counted_prints counts (s.item x.name) ≡ min 1000001 (prints x)) where
-  print-all : (before : List SitedCall) (t : Printed) (calls : List SitedCall) → t.total ≡ min 1000001 (sum_by (λ (d : SitedCall). prints d.name) before) → (print_all s counts t calls).best ≡ keep_all t.best (each_from (prints_too_much prints) before calls)
+  print-all : (before : List g.SitedCall) (t : Printed) (calls : List SitedCall) → t.total ≡ min 1000001 (sum_by (λ (d : g.SitedCall). prints d.name) before) → (print_all s counts t calls).best ≡ keep_all t.best (each_from (prints_too_much prints) before (map sited calls))
   unfolding meaning_words
   print-all before t [] e = refl
   print-all before t (c ∷ calls) e =
-      let total : ℕ = sum_by (λ (d : SitedCall). prints d.name) before in
+      let total : ℕ = sum_by (λ (d : g.SitedCall). prints d.name) before in
       let new : min 1000001 (t.total + counted_prints counts (s.item c.name.name)) ≡ min 1000001 (total + prints c.name) = (λ i. min 1000001 (e i + agree c.name i)) ∙ capped-both total (prints c.name) in
-      let sum : sum_by (λ (d : SitedCall). prints d.name) (before ++ c ∷ []) ≡ total + prints c.name = sum_by-append (λ (d : SitedCall). prints d.name) before (c ∷ []) ∙ ap (λ n. total + n) (zero-add (prints c.name)) in
-      print-all (before ++ c ∷ []) (print_one s counts t c) calls (new ∙ ap (min 1000001) (sym sum))
-      ∙ ap (λ b. keep_all (keep_all t.best (when b (fault Size c.name))) (each_from (prints_too_much prints) (before ++ c ∷ []) calls)) (ap (nat_lt 1000000) new ∙ capped-test (total + prints c.name))
-      ∙ sym (keep_all-append t.best (prints_too_much prints before c) (each_from (prints_too_much prints) (before ++ c ∷ []) calls))
+      let sum : sum_by (λ (d : g.SitedCall). prints d.name) (before ++ sited c ∷ []) ≡ total + prints c.name = sum_by-append (λ (d : g.SitedCall). prints d.name) before (sited c ∷ []) ∙ ap (λ n. total + n) (zero-add (prints c.name)) in
+      print-all (before ++ sited c ∷ []) (print_one s counts t c) calls (new ∙ ap (min 1000001) (sym sum))
+      ∙ ap (λ b. keep_all (keep_all t.best (when b (fault Size c.name))) (each_from (prints_too_much prints) (before ++ sited c ∷ []) (map sited calls))) (ap (nat_lt 1000000) new ∙ capped-test (total + prints c.name))
+      ∙ sym (keep_all-append t.best (prints_too_much prints before (sited c)) (each_from (prints_too_much prints) (before ++ sited c ∷ []) (map sited calls)))
 
-  pub printed : (best : Option Fault) (calls : List SitedCall) → (print_all s counts (record { total = 0; best = best }) calls).best ≡ keep_all best (each (prints_too_much prints) calls)
+  pub printed : (best : Option Fault) (calls : List SitedCall) → (print_all s counts (record { total = 0; best = best }) calls).best ≡ keep_all best (each (prints_too_much prints) (map sited calls))
   unfolding meaning_words
   printed best calls = print-all [] (record { total = 0; best = best }) calls refl
 

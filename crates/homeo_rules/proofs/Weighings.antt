@@ -1,5 +1,6 @@
 -- Weights in tables, form by form.
-use Rattle.std.proofs.Common.{◌≡◌, ℕ, ℤ, ◌+◌, ◌*◌, Bool, true, false, ◌&&◌, List, [], ◌∷◌, drop, length, ◌≤◌, max, refl, sym, ap, ◌∙◌}
+use Rattle.std.proofs.Common.{◌≡◌, ℕ, ℤ, ◌+◌, ◌*◌, Bool, true, false, ◌&&◌, List, [], ◌∷◌, drop, length, ◌≤◌, max, None, refl, sym, ap, ◌∙◌}
+use Rattle.std.specs.Prelude.{slice_index_or}
 use Rattle.std.proofs.lemmas.List.{drop_all}
 use Rattle.homeo_syntax.specs.Key.{words as syntax_words}
 use Rattle.homeo_syntax.specs.Source as s
@@ -9,178 +10,177 @@ use Rattle.homeo_syntax.specs.declared.phrase.Compare.{Compare}
 use Rattle.homeo_syntax.specs.declared.phrase.Expr.{Expr}
 use Rattle.homeo_syntax.specs.declared.phrase.Test.{Test}
 use Rattle.homeo_syntax.specs.declared.command.Command.{Command}
-use Rattle.homeo_meaning.specs.Bindings.{Scope}
 use Rattle.homeo_meaning.specs.Weights.{number_weight}
 use Rattle.homeo_rules.specs.Key.{words}
 use Rattle.homeo_rules.specs.Plain.{plain_exprs, plain_tests, plain_commands}
 use Rattle.homeo_rules.specs.Stages.{along_test}
-use Rattle.homeo_rules.specs.Weighing.{Table, cap, object_place, temp_weight, object_weight, weighed, sum_weighed, product_weighed, fits, test_fits, cond_fits, with_temp, with_object, greater_table, table_after, table_after_all, command_fits, commands_fit, along_sum, along_product, Weighed, along_weights}
+use Rattle.homeo_rules.specs.Weighing.{Table, Setting, cap, object_place, argument_or, temp_weight, object_weight, weighed, sum_weighed, product_weighed, fits, test_fits, cond_fits, with_temp, with_object, greater_table, table_after, table_after_all, command_fits, commands_fit, along_sum, along_product, Weighed, along_weights}
 use Rattle.homeo_rules.proofs.Walks.{views}
 
-pub weighed-Literal : (sc : Scope) (count : ℕ) (n : ℤ) (t : Table) → weighed sc count (s.Literal n) t ≡ cap (number_weight n)
+pub weighed-Literal : (se : Setting) (n : ℤ) (t : Table) → weighed se (s.Literal n) t ≡ cap (number_weight n)
 unfolding words
-weighed-Literal sc count n t = refl
+weighed-Literal se n t = refl
 
-pub weighed-Name : (sc : Scope) (count : ℕ) (x : Ident) (t : Table) → weighed sc count (s.Name x) t ≡ temp_weight t x.name
+pub weighed-Name : (se : Setting) (x : Ident) (t : Table) → weighed se (s.Name x) t ≡ argument_or (slice_index_or se.arguments x.name None) (temp_weight t x.name)
 unfolding words
-weighed-Name sc count x t = refl
+weighed-Name se x t = refl
 
-pub weighed-Read : (sc : Scope) (count : ℕ) (x : Ident) (t : Table) → weighed sc count (s.Read x) t ≡ object_weight t (object_place count (sc.item x.name))
+pub weighed-Read : (se : Setting) (x : Ident) (t : Table) → weighed se (s.Read x) t ≡ object_weight t (object_place se.count (se.scope.item x.name))
 unfolding words
-weighed-Read sc count x t = refl
+weighed-Read se x t = refl
 
-pub weighed-Sum : (sc : Scope) (count : ℕ) (es : s.Exprs) (t : Table) → weighed sc count (s.Sum es) t ≡ max 1 (sum_weighed sc count es t 0)
+pub weighed-Sum : (se : Setting) (es : s.Exprs) (t : Table) → weighed se (s.Sum es) t ≡ max 1 (sum_weighed se es t 0)
 unfolding words
-weighed-Sum sc count es t = refl
+weighed-Sum se es t = refl
 
-pub weighed-Product : (sc : Scope) (count : ℕ) (es : s.Exprs) (t : Table) → weighed sc count (s.Product es) t ≡ product_weighed sc count es t 1
+pub weighed-Product : (se : Setting) (es : s.Exprs) (t : Table) → weighed se (s.Product es) t ≡ product_weighed se es t 1
 unfolding words
-weighed-Product sc count es t = refl
+weighed-Product se es t = refl
 
-pub weighed-Neg : (sc : Scope) (count : ℕ) (e : s.Expr) (t : Table) → weighed sc count (s.Neg e) t ≡ weighed sc count e t
+pub weighed-Neg : (se : Setting) (e : s.Expr) (t : Table) → weighed se (s.Neg e) t ≡ weighed se e t
 unfolding words
-weighed-Neg sc count e t = refl
+weighed-Neg se e t = refl
 
-pub weighed-Field : (sc : Scope) (count : ℕ) (q : Ident) (e : s.Expr) (f : Ident) (t : Table) → weighed sc count (s.Field q e f) t ≡ 0
+pub weighed-Field : (se : Setting) (q : Ident) (e : s.Expr) (f : Ident) (t : Table) → weighed se (s.Field q e f) t ≡ 0
 unfolding words
-weighed-Field sc count q e f t = refl
+weighed-Field se q e f t = refl
 
-pub weighed-Row : (sc : Scope) (count : ℕ) (r f : Ident) (t : Table) → weighed sc count (s.Row r f) t ≡ 0
+pub weighed-Row : (se : Setting) (r f : Ident) (t : Table) → weighed se (s.Row r f) t ≡ 0
 unfolding words
-weighed-Row sc count r f t = refl
+weighed-Row se r f t = refl
 
-pub weighed-Count : (sc : Scope) (count : ℕ) (r q : Ident) (c : s.Cond) (t : Table) → weighed sc count (s.Count r q c) t ≡ 0
+pub weighed-Count : (se : Setting) (r q : Ident) (c : s.Cond) (t : Table) → weighed se (s.Count r q c) t ≡ 0
 unfolding words
-weighed-Count sc count r q c t = refl
+weighed-Count se r q c t = refl
 
-pub weighed-Total : (sc : Scope) (count : ℕ) (r f q : Ident) (c : s.Cond) (t : Table) → weighed sc count (s.Total r f q c) t ≡ 0
+pub weighed-Total : (se : Setting) (r f q : Ident) (c : s.Cond) (t : Table) → weighed se (s.Total r f q c) t ≡ 0
 unfolding words
-weighed-Total sc count r f q c t = refl
+weighed-Total se r f q c t = refl
 
-pub test_fits-True : (sc : Scope) (count : ℕ) (t : Table) → test_fits sc count s.True t ≡ true
+pub test_fits-True : (se : Setting) (t : Table) → test_fits se s.True t ≡ true
 unfolding words
-test_fits-True sc count t = refl
+test_fits-True se t = refl
 
-pub test_fits-Not : (sc : Scope) (count : ℕ) (c : s.Cond) (t : Table) → test_fits sc count (s.Not c) t ≡ cond_fits sc count c t
+pub test_fits-Not : (se : Setting) (c : s.Cond) (t : Table) → test_fits se (s.Not c) t ≡ cond_fits se c t
 unfolding words
-test_fits-Not sc count c t = refl
+test_fits-Not se c t = refl
 
-pub test_fits-Comparison : (sc : Scope) (count : ℕ) (op : Compare) (d e : s.Expr) (t : Table) → test_fits sc count (s.Comparison op d e) t ≡ (fits (weighed sc count d t) && fits (weighed sc count e t))
+pub test_fits-Comparison : (se : Setting) (op : Compare) (d e : s.Expr) (t : Table) → test_fits se (s.Comparison op d e) t ≡ (fits (weighed se d t) && fits (weighed se e t))
 unfolding words
-test_fits-Comparison sc count op d e t = refl
+test_fits-Comparison se op d e t = refl
 
-pub command_fits-Skip : (sc : Scope) (count : ℕ) (t : Table) → command_fits sc count s.Skip t ≡ true
+pub command_fits-Skip : (se : Setting) (t : Table) → command_fits se s.Skip t ≡ true
 unfolding words
-command_fits-Skip sc count t = refl
+command_fits-Skip se t = refl
 
-pub command_fits-Assign : (sc : Scope) (count : ℕ) (x : Ident) (e : s.Expr) (t : Table) → command_fits sc count (s.Assign x e) t ≡ fits (weighed sc count e t)
+pub command_fits-Assign : (se : Setting) (x : Ident) (e : s.Expr) (t : Table) → command_fits se (s.Assign x e) t ≡ fits (weighed se e t)
 unfolding words
-command_fits-Assign sc count x e t = refl
+command_fits-Assign se x e t = refl
 
-pub command_fits-Write : (sc : Scope) (count : ℕ) (x : Ident) (e : s.Expr) (t : Table) → command_fits sc count (s.Write x e) t ≡ fits (weighed sc count e t)
+pub command_fits-Write : (se : Setting) (x : Ident) (e : s.Expr) (t : Table) → command_fits se (s.Write x e) t ≡ fits (weighed se e t)
 unfolding words
-command_fits-Write sc count x e t = refl
+command_fits-Write se x e t = refl
 
-pub command_fits-Print : (sc : Scope) (count : ℕ) (e : s.Expr) (t : Table) → command_fits sc count (s.Print e) t ≡ fits (weighed sc count e t)
+pub command_fits-Print : (se : Setting) (e : s.Expr) (t : Table) → command_fits se (s.Print e) t ≡ fits (weighed se e t)
 unfolding words
-command_fits-Print sc count e t = refl
+command_fits-Print se e t = refl
 
-pub command_fits-If : (sc : Scope) (count : ℕ) (x : s.Cond) (c d : s.Command) (t : Table) → command_fits sc count (s.If x c d) t ≡ (cond_fits sc count x t && (command_fits sc count c t && command_fits sc count d t))
+pub command_fits-If : (se : Setting) (x : s.Cond) (c d : s.Command) (t : Table) → command_fits se (s.If x c d) t ≡ (cond_fits se x t && (command_fits se c t && command_fits se d t))
 unfolding words
-command_fits-If sc count x c d t = refl
+command_fits-If se x c d t = refl
 
-pub command_fits-Block : (sc : Scope) (count : ℕ) (cs : s.Commands) (t : Table) → command_fits sc count (s.Block cs) t ≡ commands_fit sc count cs t
+pub command_fits-Block : (se : Setting) (cs : s.Commands) (t : Table) → command_fits se (s.Block cs) t ≡ commands_fit se cs t
 unfolding words
-command_fits-Block sc count cs t = refl
+command_fits-Block se cs t = refl
 
-pub command_fits-SetField : (sc : Scope) (count : ℕ) (q : Ident) (i : s.Expr) (f : Ident) (e : s.Expr) (t : Table) → command_fits sc count (s.SetField q i f e) t ≡ true
+pub command_fits-SetField : (se : Setting) (q : Ident) (i : s.Expr) (f : Ident) (e : s.Expr) (t : Table) → command_fits se (s.SetField q i f e) t ≡ true
 unfolding words
-command_fits-SetField sc count q i f e t = refl
+command_fits-SetField se q i f e t = refl
 
-pub command_fits-SetRow : (sc : Scope) (count : ℕ) (r f : Ident) (e : s.Expr) (t : Table) → command_fits sc count (s.SetRow r f e) t ≡ true
+pub command_fits-SetRow : (se : Setting) (r f : Ident) (e : s.Expr) (t : Table) → command_fits se (s.SetRow r f e) t ≡ true
 unfolding words
-command_fits-SetRow sc count r f e t = refl
+command_fits-SetRow se r f e t = refl
 
-pub command_fits-Foreach : (sc : Scope) (count : ℕ) (r q : Ident) (x : s.Cond) (cs : s.Commands) (t : Table) → command_fits sc count (s.Foreach r q x cs) t ≡ true
+pub command_fits-Foreach : (se : Setting) (r q : Ident) (x : s.Cond) (cs : s.Commands) (t : Table) → command_fits se (s.Foreach r q x cs) t ≡ true
 unfolding words
-command_fits-Foreach sc count r q x cs t = refl
+command_fits-Foreach se r q x cs t = refl
 
-pub command_fits-Insert : (sc : Scope) (count : ℕ) (q : Ident) (fs : List s.FieldValue) (x : Ident) (t : Table) → command_fits sc count (s.Insert q fs x) t ≡ true
+pub command_fits-Insert : (se : Setting) (q : Ident) (fs : List s.FieldValue) (x : Ident) (t : Table) → command_fits se (s.Insert q fs x) t ≡ true
 unfolding words
-command_fits-Insert sc count q fs x t = refl
+command_fits-Insert se q fs x t = refl
 
-pub command_fits-Delete : (sc : Scope) (count : ℕ) (r q : Ident) (x : s.Cond) (t : Table) → command_fits sc count (s.Delete r q x) t ≡ true
+pub command_fits-Delete : (se : Setting) (r q : Ident) (x : s.Cond) (t : Table) → command_fits se (s.Delete r q x) t ≡ true
 unfolding words
-command_fits-Delete sc count r q x t = refl
+command_fits-Delete se r q x t = refl
 
-pub command_fits-Update : (sc : Scope) (count : ℕ) (r q : Ident) (x : s.Cond) (f : Ident) (e : s.Expr) (t : Table) → command_fits sc count (s.Update r q x f e) t ≡ true
+pub command_fits-Update : (se : Setting) (r q : Ident) (x : s.Cond) (f : Ident) (e : s.Expr) (t : Table) → command_fits se (s.Update r q x f e) t ≡ true
 unfolding words
-command_fits-Update sc count r q x f e t = refl
+command_fits-Update se r q x f e t = refl
 
-pub table_after-Skip : (sc : Scope) (count : ℕ) (t : Table) → table_after sc count s.Skip t ≡ t
+pub table_after-Skip : (se : Setting) (t : Table) → table_after se s.Skip t ≡ t
 unfolding words
-table_after-Skip sc count t = refl
+table_after-Skip se t = refl
 
-pub table_after-Assign : (sc : Scope) (count : ℕ) (x : Ident) (e : s.Expr) (t : Table) → table_after sc count (s.Assign x e) t ≡ with_temp t x.name (weighed sc count e t)
+pub table_after-Assign : (se : Setting) (x : Ident) (e : s.Expr) (t : Table) → table_after se (s.Assign x e) t ≡ with_temp t x.name (weighed se e t)
 unfolding words
-table_after-Assign sc count x e t = refl
+table_after-Assign se x e t = refl
 
-pub table_after-Write : (sc : Scope) (count : ℕ) (x : Ident) (e : s.Expr) (t : Table) → table_after sc count (s.Write x e) t ≡ with_object t (object_place count (sc.item x.name)) (weighed sc count e t)
+pub table_after-Write : (se : Setting) (x : Ident) (e : s.Expr) (t : Table) → table_after se (s.Write x e) t ≡ with_object t (object_place se.count (se.scope.item x.name)) (weighed se e t)
 unfolding words
-table_after-Write sc count x e t = refl
+table_after-Write se x e t = refl
 
-pub table_after-Print : (sc : Scope) (count : ℕ) (e : s.Expr) (t : Table) → table_after sc count (s.Print e) t ≡ t
+pub table_after-Print : (se : Setting) (e : s.Expr) (t : Table) → table_after se (s.Print e) t ≡ t
 unfolding words
-table_after-Print sc count e t = refl
+table_after-Print se e t = refl
 
-pub table_after-If : (sc : Scope) (count : ℕ) (x : s.Cond) (c d : s.Command) (t : Table) → table_after sc count (s.If x c d) t ≡ greater_table (table_after sc count c t) (table_after sc count d t)
+pub table_after-If : (se : Setting) (x : s.Cond) (c d : s.Command) (t : Table) → table_after se (s.If x c d) t ≡ greater_table (table_after se c t) (table_after se d t)
 unfolding words
-table_after-If sc count x c d t = refl
+table_after-If se x c d t = refl
 
-pub table_after-Block : (sc : Scope) (count : ℕ) (cs : s.Commands) (t : Table) → table_after sc count (s.Block cs) t ≡ table_after_all sc count cs t
+pub table_after-Block : (se : Setting) (cs : s.Commands) (t : Table) → table_after se (s.Block cs) t ≡ table_after_all se cs t
 unfolding words
-table_after-Block sc count cs t = refl
+table_after-Block se cs t = refl
 
-pub table_after-SetField : (sc : Scope) (count : ℕ) (q : Ident) (i : s.Expr) (f : Ident) (e : s.Expr) (t : Table) → table_after sc count (s.SetField q i f e) t ≡ t
+pub table_after-SetField : (se : Setting) (q : Ident) (i : s.Expr) (f : Ident) (e : s.Expr) (t : Table) → table_after se (s.SetField q i f e) t ≡ t
 unfolding words
-table_after-SetField sc count q i f e t = refl
+table_after-SetField se q i f e t = refl
 
-pub table_after-SetRow : (sc : Scope) (count : ℕ) (r f : Ident) (e : s.Expr) (t : Table) → table_after sc count (s.SetRow r f e) t ≡ t
+pub table_after-SetRow : (se : Setting) (r f : Ident) (e : s.Expr) (t : Table) → table_after se (s.SetRow r f e) t ≡ t
 unfolding words
-table_after-SetRow sc count r f e t = refl
+table_after-SetRow se r f e t = refl
 
-pub table_after-Foreach : (sc : Scope) (count : ℕ) (r q : Ident) (x : s.Cond) (cs : s.Commands) (t : Table) → table_after sc count (s.Foreach r q x cs) t ≡ t
+pub table_after-Foreach : (se : Setting) (r q : Ident) (x : s.Cond) (cs : s.Commands) (t : Table) → table_after se (s.Foreach r q x cs) t ≡ t
 unfolding words
-table_after-Foreach sc count r q x cs t = refl
+table_after-Foreach se r q x cs t = refl
 
-pub table_after-Insert : (sc : Scope) (count : ℕ) (q : Ident) (fs : List s.FieldValue) (x : Ident) (t : Table) → table_after sc count (s.Insert q fs x) t ≡ t
+pub table_after-Insert : (se : Setting) (q : Ident) (fs : List s.FieldValue) (x : Ident) (t : Table) → table_after se (s.Insert q fs x) t ≡ t
 unfolding words
-table_after-Insert sc count q fs x t = refl
+table_after-Insert se q fs x t = refl
 
-pub table_after-Delete : (sc : Scope) (count : ℕ) (r q : Ident) (x : s.Cond) (t : Table) → table_after sc count (s.Delete r q x) t ≡ t
+pub table_after-Delete : (se : Setting) (r q : Ident) (x : s.Cond) (t : Table) → table_after se (s.Delete r q x) t ≡ t
 unfolding words
-table_after-Delete sc count r q x t = refl
+table_after-Delete se r q x t = refl
 
-pub table_after-Update : (sc : Scope) (count : ℕ) (r q : Ident) (x : s.Cond) (f : Ident) (e : s.Expr) (t : Table) → table_after sc count (s.Update r q x f e) t ≡ t
+pub table_after-Update : (se : Setting) (r q : Ident) (x : s.Cond) (f : Ident) (e : s.Expr) (t : Table) → table_after se (s.Update r q x f e) t ≡ t
 unfolding words
-table_after-Update sc count r q x f e t = refl
+table_after-Update se r q x f e t = refl
 
 -- ---- lists of phrases
-all-sum : (sc : Scope) (count : ℕ) (t : Table) (n : ℕ) (es : List Expr) → along_sum sc count t n es ≡ sum_weighed sc count (plain_exprs es) t n
+all-sum : (se : Setting) (t : Table) (n : ℕ) (es : List Expr) → along_sum se t n es ≡ sum_weighed se (plain_exprs es) t n
 unfolding words syntax_words
-all-sum sc count t n [] = refl
-all-sum sc count t n (e ∷ es) = all-sum sc count t (cap (n + weighed sc count (plain_expr e) t)) es
+all-sum se t n [] = refl
+all-sum se t n (e ∷ es) = all-sum se t (cap (n + weighed se (plain_expr e) t)) es
 
-pub end-sum : (sc : Scope) (count : ℕ) (t : Table) (n : ℕ) (es : List Expr) (i : ℕ) → length es ≤ i → along_sum sc count t n (drop i es) ≡ along_sum sc count t 0 es → n ≡ sum_weighed sc count (plain_exprs es) t 0
-end-sum sc count t n es i h e = ap (along_sum sc count t n) (sym (drop_all i es h)) ∙ e ∙ all-sum sc count t 0 es
+pub end-sum : (se : Setting) (t : Table) (n : ℕ) (es : List Expr) (i : ℕ) → length es ≤ i → along_sum se t n (drop i es) ≡ along_sum se t 0 es → n ≡ sum_weighed se (plain_exprs es) t 0
+end-sum se t n es i h e = ap (along_sum se t n) (sym (drop_all i es h)) ∙ e ∙ all-sum se t 0 es
 
-all-product : (sc : Scope) (count : ℕ) (t : Table) (n : ℕ) (es : List Expr) → along_product sc count t n es ≡ product_weighed sc count (plain_exprs es) t n
+all-product : (se : Setting) (t : Table) (n : ℕ) (es : List Expr) → along_product se t n es ≡ product_weighed se (plain_exprs es) t n
 unfolding words syntax_words
-all-product sc count t n [] = refl
-all-product sc count t n (e ∷ es) = all-product sc count t (cap (n * weighed sc count (plain_expr e) t)) es
+all-product se t n [] = refl
+all-product se t n (e ∷ es) = all-product se t (cap (n * weighed se (plain_expr e) t)) es
 
-pub end-product : (sc : Scope) (count : ℕ) (t : Table) (n : ℕ) (es : List Expr) (i : ℕ) → length es ≤ i → along_product sc count t n (drop i es) ≡ along_product sc count t 1 es → n ≡ product_weighed sc count (plain_exprs es) t 1
-end-product sc count t n es i h e = ap (along_product sc count t n) (sym (drop_all i es h)) ∙ e ∙ all-product sc count t 1 es
+pub end-product : (se : Setting) (t : Table) (n : ℕ) (es : List Expr) (i : ℕ) → length es ≤ i → along_product se t n (drop i es) ≡ along_product se t 1 es → n ≡ product_weighed se (plain_exprs es) t 1
+end-product se t n es i h e = ap (along_product se t n) (sym (drop_all i es h)) ∙ e ∙ all-product se t 1 es
 
 and_assoc : (a b c : Bool) → ((a && b) && c) ≡ (a && (b && c))
 and_assoc true b c = refl
@@ -190,35 +190,35 @@ and-true : (a : Bool) → a ≡ (a && true)
 and-true true = refl
 and-true false = refl
 
-all-tests : (sc : Scope) (count : ℕ) (t : Table) (b : Bool) (xs : List Test) → along_test (λ x. test_fits sc count (plain_test x) t) b xs ≡ (b && cond_fits sc count (plain_tests xs) t)
+all-tests : (se : Setting) (t : Table) (b : Bool) (xs : List Test) → along_test (λ x. test_fits se (plain_test x) t) b xs ≡ (b && cond_fits se (plain_tests xs) t)
 unfolding words syntax_words
-all-tests sc count t b [] = and-true b
-all-tests sc count t b (x ∷ xs) = all-tests sc count t (b && test_fits sc count (plain_test x) t) xs ∙ and_assoc b (test_fits sc count (plain_test x) t) (cond_fits sc count (plain_tests xs) t)
+all-tests se t b [] = and-true b
+all-tests se t b (x ∷ xs) = all-tests se t (b && test_fits se (plain_test x) t) xs ∙ and_assoc b (test_fits se (plain_test x) t) (cond_fits se (plain_tests xs) t)
 
-pub end-tests : (sc : Scope) (count : ℕ) (t : Table) (b : Bool) (xs : List Test) (i : ℕ) → length xs ≤ i → along_test (λ x. test_fits sc count (plain_test x) t) b (drop i xs) ≡ along_test (λ x. test_fits sc count (plain_test x) t) true xs → b ≡ cond_fits sc count (plain_tests xs) t
-end-tests sc count t b xs i h e = ap (along_test (λ x. test_fits sc count (plain_test x) t) b) (sym (drop_all i xs h)) ∙ e ∙ all-tests sc count t true xs
+pub end-tests : (se : Setting) (t : Table) (b : Bool) (xs : List Test) (i : ℕ) → length xs ≤ i → along_test (λ x. test_fits se (plain_test x) t) b (drop i xs) ≡ along_test (λ x. test_fits se (plain_test x) t) true xs → b ≡ cond_fits se (plain_tests xs) t
+end-tests se t b xs i h e = ap (along_test (λ x. test_fits se (plain_test x) t) b) (sym (drop_all i xs h)) ∙ e ∙ all-tests se t true xs
 
-pub record After (sc : Scope) (count : ℕ) (w : Weighed) (cs : List Command) (v : Weighed) : Type 0 where
-  pub light : v.light ≡ (w.light && commands_fit sc count (plain_commands cs) w.table)
-  pub table : v.table ≡ table_after_all sc count (plain_commands cs) w.table
+pub record After (se : Setting) (w : Weighed) (cs : List Command) (v : Weighed) : Type 0 where
+  pub light : v.light ≡ (w.light && commands_fit se (plain_commands cs) w.table)
+  pub table : v.table ≡ table_after_all se (plain_commands cs) w.table
 
-all-weights : (sc : Scope) (count : ℕ) (w : Weighed) (cs : List Command) → After sc count w cs (along_weights sc count w cs)
+all-weights : (se : Setting) (w : Weighed) (cs : List Command) → After se w cs (along_weights se w cs)
 unfolding words syntax_words
-all-weights sc count w [] = record { light = and-true w.light; table = refl }
-all-weights sc count w (c ∷ cs) =
-    let here : Bool = command_fits sc count (plain_command c) w.table in
-    let next : Table = table_after sc count (plain_command c) w.table in
-    let rest : After sc count (record { light = w.light && here; table = next }) cs (along_weights sc count (record { light = w.light && here; table = next }) cs) = all-weights sc count (record { light = w.light && here; table = next }) cs in
-    record { light = rest.light ∙ and_assoc w.light here (commands_fit sc count (plain_commands cs) next); table = rest.table }
+all-weights se w [] = record { light = and-true w.light; table = refl }
+all-weights se w (c ∷ cs) =
+    let here : Bool = command_fits se (plain_command c) w.table in
+    let next : Table = table_after se (plain_command c) w.table in
+    let rest : After se (record { light = w.light && here; table = next }) cs (along_weights se (record { light = w.light && here; table = next }) cs) = all-weights se (record { light = w.light && here; table = next }) cs in
+    record { light = rest.light ∙ and_assoc w.light here (commands_fit se (plain_commands cs) next); table = rest.table }
 
-module _ (sc : Scope) (count : ℕ) (light : Bool) (t start : Table) (cs : List Command) (i : ℕ) (past : length cs ≤ i) (so_far : along_weights sc count (record { light = light; table = t }) (drop i cs) ≡ along_weights sc count (record { light = true; table = start }) cs) where
-  at_end : record { light = light; table = t } ≡ along_weights sc count (record { light = true; table = start }) cs
-  at_end = ap (along_weights sc count (record { light = light; table = t })) (sym (drop_all i cs past)) ∙ so_far
+module _ (se : Setting) (light : Bool) (t start : Table) (cs : List Command) (i : ℕ) (past : length cs ≤ i) (so_far : along_weights se (record { light = light; table = t }) (drop i cs) ≡ along_weights se (record { light = true; table = start }) cs) where
+  at_end : record { light = light; table = t } ≡ along_weights se (record { light = true; table = start }) cs
+  at_end = ap (along_weights se (record { light = light; table = t })) (sym (drop_all i cs past)) ∙ so_far
 
-  pub end-light : light ≡ commands_fit sc count (plain_commands cs) start
-  end-light = ap (λ w. w.light) at_end ∙ (all-weights sc count (record { light = true; table = start }) cs).light
+  pub end-light : light ≡ commands_fit se (plain_commands cs) start
+  end-light = ap (λ w. w.light) at_end ∙ (all-weights se (record { light = true; table = start }) cs).light
 
-  pub end-table : t ≡ table_after_all sc count (plain_commands cs) start
-  end-table = ap (λ w. w.table) at_end ∙ (all-weights sc count (record { light = true; table = start }) cs).table
+  pub end-table : t ≡ table_after_all se (plain_commands cs) start
+  end-table = ap (λ w. w.table) at_end ∙ (all-weights se (record { light = true; table = start }) cs).table
 
 pub ruleset weighings = (views, weighed-Literal, weighed-Name, weighed-Read, weighed-Sum, weighed-Product, weighed-Neg, weighed-Field, weighed-Row, weighed-Count, weighed-Total, test_fits-True, test_fits-Not, test_fits-Comparison, command_fits-Skip, command_fits-Assign, command_fits-Write, command_fits-Print, command_fits-If, command_fits-Block, command_fits-SetField, command_fits-SetRow, command_fits-Foreach, command_fits-Insert, command_fits-Delete, command_fits-Update, table_after-Skip, table_after-Assign, table_after-Write, table_after-Print, table_after-If, table_after-Block, table_after-SetField, table_after-SetRow, table_after-Foreach, table_after-Insert, table_after-Delete, table_after-Update)

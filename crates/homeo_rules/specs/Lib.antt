@@ -14,3 +14,5 @@ pub mod Weighing
 pub mod Params
 pub mod Listwise
 pub mod Within
+pub mod Sited
+pub mod Frames

@@ -1,15 +1,14 @@
 -- What comes after as much as there may be.
-use Rattle.std.specs.Prelude.{ℕ, ℤ, nat_le, not, ◌&&◌, List, [], ◌∷◌, ◌++◌, length, Option, Some, None, if◌then◌else◌}
+use Rattle.std.specs.Prelude.{ℕ, nat_le, not, ◌&&◌, List, [], ◌∷◌, ◌++◌, length, Option, Some, None, if◌then◌else◌}
 use Rattle.std.specs.List.{list_any}
 use Rattle.homeo_syntax.specs.declared.workload.ObjectDecl.{ObjectDecl}
 use Rattle.homeo_syntax.specs.declared.workload.Transaction.{Transaction}
-use Rattle.homeo_syntax.specs.declared.workload.Call.{Call}
 use Rattle.homeo_syntax.specs.declared.workload.Client.{Client}
 use Rattle.homeo_meaning.specs.NameRules.{fault}
-use Rattle.homeo_meaning.specs.NumberRules.{same_ground}
 use Rattle.homeo_meaning.specs.declared.rules.Fault.{Fault}
-use Rattle.homeo_meaning.specs.declared.rules.SitedCall.{SitedCall}
 use Rattle.homeo_meaning.specs.declared.rules.Phase.TheVariants.{Limits}
+use Rattle.homeo_rules.specs.Sited.{same_ground_of}
+use Rattle.homeo_rules.specs.declared.sited.SitedCall.{SitedCall}
 
 abbrev pub object_passing : Option ObjectDecl → List Fault
 object_passing None = []
@@ -29,17 +28,8 @@ call_passing (Some c) = fault Limits c.name
 
 -- with a call that is the same ground call as none, where no more than so many are kept
 abbrev pub kept_with : ℕ → List SitedCall → SitedCall → List SitedCall
-kept_with most kept u = if nat_le (length kept) most && not (list_any (same_ground u) kept) then kept ++ u ∷ [] else kept
+kept_with most kept u = if nat_le (length kept) most && not (list_any (same_ground_of u) kept) then kept ++ u ∷ [] else kept
 
 abbrev pub distinct_within : ℕ → List SitedCall → List SitedCall → List SitedCall
 distinct_within most kept [] = kept
 distinct_within most kept (u ∷ us) = distinct_within most (kept_with most kept u) us
-
--- calls with their site
-abbrev pub sited_at : ℤ → List Call → List SitedCall
-sited_at site [] = []
-sited_at site (c ∷ cs) = record { name = c.name; site = site } ∷ sited_at site cs
-
-abbrev pub sited_of : List Client → List SitedCall
-sited_of [] = []
-sited_of (c ∷ cs) = sited_at c.site.value c.calls.items ++ sited_of cs

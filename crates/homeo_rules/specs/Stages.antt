@@ -1,12 +1,9 @@
 -- What can't be run yet, of the declarations that plain ones stand for.
 use Rattle.std.specs.Prelude.{Bool, ◌&&◌, List, [], ◌∷◌}
-use Rattle.std.specs.List.{flat_map}
-use Rattle.homeo_syntax.specs.SourceView.{plain_relation, plain_transaction, plain_call, plain_client}
+use Rattle.homeo_syntax.specs.SourceView.{plain_relation, plain_transaction}
 use Rattle.homeo_syntax.specs.declared.workload.RelationDecl.{RelationDecl}
 use Rattle.homeo_syntax.specs.declared.workload.Transaction.{Transaction}
-use Rattle.homeo_syntax.specs.declared.workload.Call.{Call}
-use Rattle.homeo_syntax.specs.declared.workload.Client.{Client}
-use Rattle.homeo_meaning.specs.SizeRules.{unbuilt_relation, unbuilt_transaction, unbuilt_call}
+use Rattle.homeo_meaning.specs.SizeRules.{unbuilt_relation, unbuilt_transaction}
 use Rattle.homeo_meaning.specs.declared.rules.Fault.{Fault}
 use Rattle.homeo_rules.specs.Key.{words}
 
@@ -22,11 +19,3 @@ unbuilt_relation_of q = unbuilt_relation (plain_relation q)
 abbrev pub unbuilt_transaction_of : Transaction → List Fault
 unfolding words
 unbuilt_transaction_of t = unbuilt_transaction (plain_transaction t)
-
-abbrev pub unbuilt_call_of : Call → List Fault
-unfolding words
-unbuilt_call_of c = unbuilt_call (plain_call c)
-
-abbrev pub unbuilt_client_of : Client → List Fault
-unfolding words
-unbuilt_client_of c = flat_map unbuilt_call (plain_client c).calls

@@ -1,17 +1,17 @@
 //! Which commands can be run at this stage: those with no relation in them.
 
 ghost use Rattle.std.specs.Prelude.{◌≡◌, true};
-ghost use Rattle.homeo_syntax.specs.SourceView.{plain_expr, plain_test, plain_cond, plain_command, plain_transaction, plain_relation, plain_call};
+ghost use Rattle.homeo_syntax.specs.SourceView.{plain_expr, plain_test, plain_cond, plain_command, plain_transaction, plain_relation};
 ghost use Rattle.homeo_meaning.specs.Built.{is_built_expr, are_built_exprs, is_built_test, is_built_cond, is_built, are_built};
 ghost use Rattle.homeo_meaning.specs.Deciding.{keep_all};
 ghost use Rattle.homeo_meaning.specs.SizeRules.{unbuilt_transaction};
 ghost use Rattle.homeo_rules.specs.Plain.{plain_exprs, plain_tests, plain_commands};
 ghost use Rattle.homeo_rules.specs.Listwise.{along_all};
-ghost use Rattle.homeo_rules.specs.Stages.{unbuilt_relation_of, unbuilt_transaction_of, unbuilt_call_of, unbuilt_client_of};
+ghost use Rattle.homeo_rules.specs.Stages.{unbuilt_relation_of, unbuilt_transaction_of};
 
 use crate::deciding::at_name;
 use homeo_meaning::{Fault, Phase};
-use homeo_syntax::{Call, Client, Command, Cond, Expr, RelationDecl, Test, Transaction};
+use homeo_syntax::{Command, Cond, Expr, RelationDecl, Test, Transaction};
 
 #[cycle(expressions)]
 #[tactic(auto, using(crate::proofs::Builds::builds))]
@@ -107,7 +107,7 @@ fn are_built(cs: &[Command]) -> bool
 fn check_built_transaction(t: &Transaction, best: Option<Fault>) -> Option<Fault>
     ensures { result ≡ keep_all best (unbuilt_transaction_of t.now) }
 {
-    if t.params.as_slice().is_empty() && are_built(t.body.as_slice()) {
+    if are_built(t.body.as_slice()) {
         best
     } else {
         at_name(best, Phase::Unbuilt, t.name)
@@ -119,17 +119,6 @@ fn check_no_relation(q: &RelationDecl, best: Option<Fault>) -> Option<Fault>
     ensures { result ≡ keep_all best (unbuilt_relation_of q.now) }
 {
     at_name(best, Phase::Unbuilt, q.name)
-}
-
-#[tactic(auto, using(crate::proofs::Builds::stages))]
-fn check_no_arguments(c: &Call, best: Option<Fault>) -> Option<Fault>
-    ensures { result ≡ keep_all best (unbuilt_call_of c.now) }
-{
-    if c.args.as_slice().is_empty() {
-        best
-    } else {
-        at_name(best, Phase::Unbuilt, c.name)
-    }
 }
 
 pub fn check_no_relations(qs: &[RelationDecl], best: Option<Fault>) -> Option<Fault>
@@ -148,33 +137,6 @@ pub fn check_built_transactions(ts: &[Transaction], best: Option<Fault>) -> Opti
     let mut best = best;
     for t in ts {
         best = check_built_transaction(t, best);
-    }
-    best
-}
-
-fn check_built_calls(cs: &[Call], best: Option<Fault>) -> Option<Fault>
-    ensures { result ≡ along_all unbuilt_call_of best cs.now }
-{
-    let mut best = best;
-    for c in cs {
-        best = check_no_arguments(c, best);
-    }
-    best
-}
-
-#[tactic(auto, using(crate::proofs::Builds::stages))]
-fn check_built_client(c: &Client, best: Option<Fault>) -> Option<Fault>
-    ensures { result ≡ keep_all best (unbuilt_client_of c.now) }
-{
-    check_built_calls(c.calls.as_slice(), best)
-}
-
-pub fn check_built_clients(cs: &[Client], best: Option<Fault>) -> Option<Fault>
-    ensures { result ≡ along_all unbuilt_client_of best cs.now }
-{
-    let mut best = best;
-    for c in cs {
-        best = check_built_client(c, best);
     }
     best
 }

@@ -1,6 +1,6 @@
 //! The fault of a workload that decides.
 
-ghost use Rattle.std.specs.Prelude.{◌≡◌, None, IfOk};
+ghost use Rattle.std.specs.Prelude.{◌≡◌, None, map, IfOk};
 ghost use Rattle.homeo_syntax.specs.SourceView.{plain_workload};
 ghost use Rattle.homeo_syntax.specs.WellFormed.{IsWellFormed};
 ghost use Rattle.homeo_meaning.specs.Deciding.{keep_all};
@@ -10,23 +10,25 @@ ghost use Rattle.homeo_meaning.specs.CallRules.{schedule_faults};
 ghost use Rattle.homeo_meaning.specs.SizeRules.{unbuilt_faults, print_faults, weight_faults};
 ghost use Rattle.homeo_meaning.specs.Faults.{declared_faults, faults};
 ghost use Rattle.homeo_rules.specs.Scopes.{scope_in};
+ghost use Rattle.homeo_rules.specs.Sited.{sited};
 ghost use Rattle.homeo_rules.specs.Decided.{NamesGlobals, is_decided, faults_with_names};
 
 use crate::bounds::check_objects;
-use crate::built::{check_built_clients, check_built_transactions, check_no_relations};
+use crate::built::{check_built_transactions, check_no_relations};
 use crate::calls::check_clients;
 use crate::deciding::rank;
 use crate::items::{self, Items};
 use crate::limits::{
     check_call_count, check_client_count, check_ground_calls, check_object_count, check_site_count,
-    check_transaction_count, sited_calls,
+    check_transaction_count,
 };
 use crate::prints::check_prints;
 use crate::schedule::check_schedule;
 use crate::scope::Scope;
+use crate::sited::{SitedCall, sited_calls};
 use crate::transaction::check_transactions;
-use crate::weights::check_weights;
-use homeo_meaning::{Fault, Phase, Purpose, SitedCall};
+use crate::weights::{Bodies, check_weights};
+use homeo_meaning::{Fault, Phase, Purpose};
 use homeo_syntax::{Memory, Workload};
 use std::alloc::Global;
 
@@ -34,8 +36,7 @@ fn unbuilt(w: &Workload) -> Option<Fault>
     ensures { result ≡ keep_all None (unbuilt_faults (plain_workload w.now)) }
 {
     let best = check_no_relations(w.relations.as_slice(), None);
-    let best = check_built_transactions(w.transactions.as_slice(), best);
-    check_built_clients(w.clients.as_slice(), best)
+    check_built_transactions(w.transactions.as_slice(), best)
 }
 
 fn global_names(alloc: Global, w: &Workload, best: Option<Fault>) -> Result<Items, Memory>
@@ -75,10 +76,10 @@ fn declared(
 fn limits(
     alloc: Global,
     w: &Workload,
-    calls: &[SitedCall],
+    calls: &[SitedCall<'_>],
     best: Option<Fault>,
 ) -> Result<Option<Fault>, Memory>
-    requires { calls.now ≡ sited_calls (plain_workload w.now) }
+    requires { map sited calls.now ≡ sited_calls (plain_workload w.now) }
     ensures { IfOk result (λ b. b ≡ keep_all best (limit_faults (plain_workload w.now))) }
 {
     let best = check_site_count(w.sites, best);
@@ -117,11 +118,11 @@ fn prints(
     alloc: Global,
     w: &Workload,
     scope: &Scope<'_>,
-    calls: &[SitedCall],
+    calls: &[SitedCall<'_>],
     best: Option<Fault>,
 ) -> Result<Option<Fault>, Memory>
     requires names { scope_in scope.now ≡ scope_of (plain_workload w.now) }
-    requires sited { calls.now ≡ sited_calls (plain_workload w.now) }
+    requires sited { map sited calls.now ≡ sited_calls (plain_workload w.now) }
     ensures { IfOk result (λ b. b ≡ keep_all best (print_faults (plain_workload w.now))) }
 {
     check_prints(alloc, w.transactions.as_slice(), scope, calls, best)
@@ -142,27 +143,24 @@ fn weights(
     alloc: Global,
     w: &Workload,
     scope: &Scope<'_>,
-    calls: &[SitedCall],
+    calls: &[SitedCall<'_>],
     best: Option<Fault>,
 ) -> Result<Option<Fault>, Memory>
     requires formed { IsWellFormed (plain_workload w.now) }
     requires names { scope_in scope.now ≡ scope_of (plain_workload w.now) }
-    requires sited { calls.now ≡ sited_calls (plain_workload w.now) }
+    requires sited { map sited calls.now ≡ sited_calls (plain_workload w.now) }
     ensures { IfOk result (λ b. b ≡ keep_all best (weight_faults (plain_workload w.now))) }
 {
     if is_decided(best) {
         return Ok(best);
     }
-    let names = w.names.as_slice().len();
-    check_weights(
-        alloc,
-        w.transactions.as_slice(),
-        w.objects.as_slice(),
-        names,
-        scope,
-        calls,
-        best,
-    )
+    let bodies = Bodies {
+        scope: *scope,
+        objects: w.objects.as_slice(),
+        transactions: w.transactions.as_slice(),
+        names: w.names.as_slice().len(),
+    };
+    check_weights(alloc, calls, &bodies, best)
 }
 
 fn decide_with(

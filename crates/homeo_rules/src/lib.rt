@@ -13,6 +13,7 @@ mod limits;
 mod prints;
 mod schedule;
 mod scope;
+mod sited;
 mod transaction;
 mod walk;
 mod weights;

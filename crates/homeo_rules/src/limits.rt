@@ -1,14 +1,16 @@
 //! The limits on how much is declared and called.
 
-ghost use Rattle.std.specs.Prelude.{◌≡◌, [], ◌++◌, IfOk, OnOk, slice_get};
+ghost use Rattle.std.specs.Prelude.{◌≡◌, [], IfOk, OnOk, slice_get};
 ghost use Rattle.std.specs.List.{list_any};
 ghost use Rattle.homeo_meaning.specs.Deciding.{keep_all};
-ghost use Rattle.homeo_meaning.specs.NumberRules.{site_count_faults, same_ground};
-ghost use Rattle.homeo_rules.specs.Limited.{object_passing, transaction_passing, client_passing, call_passing, kept_with, distinct_within, sited_at, sited_of};
+ghost use Rattle.homeo_meaning.specs.NumberRules.{site_count_faults};
+ghost use Rattle.homeo_rules.specs.Limited.{object_passing, transaction_passing, client_passing, call_passing, kept_with, distinct_within};
+ghost use Rattle.homeo_rules.specs.Sited.{same_ground_of};
 
 use crate::deciding::{at_name, at_number};
-use homeo_meaning::{Fault, Phase, SitedCall};
-use homeo_syntax::{Call, Client, Memory, Number, ObjectDecl, Transaction};
+use crate::sited::{SitedCall, is_same_ground};
+use homeo_meaning::{Fault, Phase};
+use homeo_syntax::{Client, Memory, Number, ObjectDecl, Transaction};
 use std::alloc::Global;
 
 const MOST_SITES: i64 = 16;
@@ -65,7 +67,7 @@ pub fn check_client_count(cs: &[Client], best: Option<Fault>) -> Option<Fault>
 }
 
 #[tactic(auto, using(crate::proofs::Steps::keeping), unfolding(homeo_meaning::specs::Key::words))]
-pub fn check_call_count(calls: &[SitedCall], best: Option<Fault>) -> Option<Fault>
+pub fn check_call_count(calls: &[SitedCall<'_>], best: Option<Fault>) -> Option<Fault>
     ensures { result ≡ keep_all best (call_passing (slice_get calls.now 20000)) }
 {
     match calls.get(MOST_CALLS) {
@@ -75,7 +77,7 @@ pub fn check_call_count(calls: &[SitedCall], best: Option<Fault>) -> Option<Faul
 }
 
 #[tactic(auto, using(crate::proofs::Steps::keeping), unfolding(homeo_meaning::specs::Key::words))]
-fn check_ground_count(calls: &[SitedCall], best: Option<Fault>) -> Option<Fault>
+fn check_ground_count(calls: &[SitedCall<'_>], best: Option<Fault>) -> Option<Fault>
     ensures { result ≡ keep_all best (call_passing (slice_get calls.now 1024)) }
 {
     match calls.get(MOST_GROUND_CALLS) {
@@ -84,22 +86,15 @@ fn check_ground_count(calls: &[SitedCall], best: Option<Fault>) -> Option<Fault>
     }
 }
 
-#[tactic(auto, unfolding(homeo_meaning::specs::Key::words))]
-fn is_same_ground(u: SitedCall, v: SitedCall) -> bool
-    ensures { result ≡ same_ground u v }
-{
-    u.name.name == v.name.name && u.site == v.site
-}
-
-fn is_known(kept: &[SitedCall], call: SitedCall) -> bool
-    ensures { result ≡ list_any (same_ground call) kept.now }
+fn is_known(kept: &[SitedCall<'_>], call: SitedCall<'_>) -> bool
+    ensures { result ≡ list_any (same_ground_of call.entry) kept.now }
 {
     kept.iter().any(|k| is_same_ground(call, *k))
 }
 
 /// Keeps a call that is the same ground call as none so far, unless too many are kept.
-fn keep_call(kept: &mut Vec<SitedCall>, call: SitedCall) -> Result<(), Memory>
-    ensures { OnOk result (kept.new.items ≡ kept_with 1024 kept.old.items call) }
+fn keep_call<'a>(kept: &mut Vec<SitedCall<'a>>, call: SitedCall<'a>) -> Result<(), Memory>
+    ensures { OnOk result (kept.new.items ≡ kept_with 1024 kept.old.items call.entry) }
 {
     if kept.len() <= MOST_GROUND_CALLS && !is_known(kept.as_slice(), call) {
         kept.push(call)?;
@@ -108,7 +103,7 @@ fn keep_call(kept: &mut Vec<SitedCall>, call: SitedCall) -> Result<(), Memory>
 }
 
 /// The first call of each ground call, up to one more than there may be.
-fn ground_calls(alloc: Global, calls: &[SitedCall]) -> Result<Vec<SitedCall>, Memory>
+fn ground_calls<'a>(alloc: Global, calls: &[SitedCall<'a>]) -> Result<Vec<SitedCall<'a>>, Memory>
     ensures { IfOk result (λ kept. kept.items ≡ distinct_within 1024 [] calls.now) }
 {
     let mut kept = Vec::new(alloc);
@@ -120,31 +115,11 @@ fn ground_calls(alloc: Global, calls: &[SitedCall]) -> Result<Vec<SitedCall>, Me
 
 pub fn check_ground_calls(
     alloc: Global,
-    calls: &[SitedCall],
+    calls: &[SitedCall<'_>],
     best: Option<Fault>,
 ) -> Result<Option<Fault>, Memory>
     ensures { IfOk result (λ b. b ≡ keep_all best (call_passing (slice_get (distinct_within 1024 [] calls.now) 1024))) }
 {
     let kept = ground_calls(alloc, calls)?;
     Ok(check_ground_count(kept.as_slice(), best))
-}
-
-fn push_calls(cs: &[Call], site: i64, calls: &mut Vec<SitedCall>) -> Result<(), Memory>
-    ensures { OnOk result (calls.new.items ≡ calls.old.items ++ sited_at site cs.now) }
-{
-    for c in cs {
-        calls.push(SitedCall { name: c.name, site })?;
-    }
-    Ok(())
-}
-
-/// All calls, in the order of the text.
-pub fn sited_calls(alloc: Global, cs: &[Client]) -> Result<Vec<SitedCall>, Memory>
-    ensures { IfOk result (λ calls. calls.items ≡ sited_of cs.now) }
-{
-    let mut calls = Vec::new(alloc);
-    for c in cs {
-        push_calls(c.calls.as_slice(), c.site.value, &mut calls)?;
-    }
-    Ok(calls)
 }

@@ -12,7 +12,8 @@ ghost use Rattle.homeo_rules.specs.Scopes.{scope_in};
 
 use crate::deciding::at_name;
 use crate::scope::Scope;
-use homeo_meaning::{Fault, Item, Phase, SitedCall};
+use crate::sited::SitedCall;
+use homeo_meaning::{Fault, Item, Phase};
 use homeo_syntax::{Command, Ident, Memory, Transaction};
 use std::alloc::Global;
 
@@ -109,7 +110,7 @@ fn check_total(total: u64, x: Ident, best: Option<Fault>) -> Option<Fault>
 fn check_totals(
     counts: &[u64],
     scope: &Scope<'_>,
-    calls: &[SitedCall],
+    calls: &[SitedCall<'_>],
     best: Option<Fault>,
 ) -> Option<Fault>
     ensures { result ≡ (print_all (scope_in scope.now) counts.now (record { total = 0; best = best }) calls.now).best }
@@ -128,7 +129,7 @@ pub fn check_prints(
     alloc: Global,
     ts: &[Transaction],
     scope: &Scope<'_>,
-    calls: &[SitedCall],
+    calls: &[SitedCall<'_>],
     best: Option<Fault>,
 ) -> Result<Option<Fault>, Memory>
     ensures { IfOk result (λ b. b ≡ (print_all (scope_in scope.now) (map capped_prints ts.now) (record { total = 0; best = best }) calls.now).best) }

@@ -1,19 +1,25 @@
 //! Weights of expressions: how large their values may get.
 
-ghost use Rattle.std.specs.Prelude.{◌≡◌, ◌+◌, ◌*◌, ◌∷◌, ◌++◌, [], map, max, true, slice_index, slice_index_or, slice_set, IfOk, OnOk};
+ghost use Rattle.std.specs.Prelude.{◌≡◌, None, is_some, slice_get, ◌+◌, ◌*◌, ◌∷◌, ◌++◌, [], map, max, not, slice_index, slice_index_or, slice_set, IfOk, OnOk};
 ghost use Rattle.homeo_syntax.specs.SourceView.{plain_expr, plain_test, plain_cond, plain_command};
 ghost use Rattle.homeo_meaning.specs.Weights.{number_weight};
 ghost use Rattle.homeo_meaning.specs.Deciding.{keep_all};
 ghost use Rattle.homeo_rules.specs.Listwise.{along_all};
-ghost use Rattle.homeo_rules.specs.Weighing.{first_weight, first_table, transaction_fits, call_fits, heavy_fault};
+ghost use Rattle.homeo_rules.specs.Frames.{setting, fits_in, found, AreRight};
+ghost use Rattle.homeo_rules.specs.Weighing.{first_weight, first_table, first_entered, with_argument, argument_weights, transaction_fits, some_fits, heavy_fault};
+ghost use Rattle.homeo_meaning.specs.NameRules.{when, fault};
+ghost use Rattle.homeo_meaning.specs.declared.rules.Phase.TheVariants.{Weight};
 ghost use Rattle.homeo_rules.specs.Plain.{plain_exprs, plain_tests, plain_commands};
 ghost use Rattle.homeo_rules.specs.Scopes.{scope_in};
-ghost use Rattle.homeo_rules.specs.Weighing.{cap, object_place, temp_weight, object_weight, weighed, sum_weighed, product_weighed, fits, test_fits, cond_fits, with_temp, with_object, greater_from, greater_table, table_after, table_after_all, command_fits, commands_fit};
+ghost use Rattle.homeo_rules.specs.Weighing.{cap, object_place, argument_or, temp_weight, object_weight, weighed, sum_weighed, product_weighed, fits, test_fits, cond_fits, with_temp, with_object, greater_from, greater_table, table_after, table_after_all, command_fits, commands_fit};
 
 use crate::deciding::at_name;
 use crate::scope::Scope;
-use homeo_meaning::{Fault, Item, Phase, SitedCall};
-use homeo_syntax::{Command, Cond, Expr, Ident, Memory, ObjectDecl, Test, Transaction};
+use crate::sited::{SitedCall, is_same_body};
+use homeo_meaning::{Fault, Item, Phase};
+use homeo_syntax::{
+    Command, Cond, Expr, Ident, Memory, Number, ObjectDecl, RangeDecl, Test, Transaction,
+};
 use std::alloc::Global;
 use std::marker::Model;
 
@@ -57,11 +63,13 @@ impl Model for Weights {
     ghost view = { λ w. record { objects = w.objects.items; temps = w.temps.items } };
 }
 
-/// What a body is weighed in: the global names, and the number of objects.
+/// What a body is weighed in: the global names, the number of objects, and the weights of the arguments, by the names
+/// of their parameters.
 #[derive(Clone, Copy)]
 pub struct Frame<'a> {
     pub scope: Scope<'a>,
     pub count: usize,
+    pub arguments: &'a [Option<u64>],
 }
 
 impl Frame<'_> {
@@ -72,6 +80,15 @@ impl Frame<'_> {
         match self.scope.item(x.name) {
             Some(Item::Object(place)) => place,
             _ => self.count,
+        }
+    }
+
+    fn argument(&self, x: Ident) -> Option<u64>
+        ensures { result ≡ slice_index_or self.now.arguments.now x.name None }
+    {
+        match self.arguments.get(x.name as usize) {
+            Some(weight) => *weight,
+            None => None,
         }
     }
 }
@@ -124,6 +141,16 @@ impl Weights {
         }
     }
 
+    /// The weight of a parameter's argument, or else of the temporary.
+    fn name(&self, x: Ident, frame: &Frame<'_>) -> u64
+        ensures { result ≡ argument_or (slice_index_or frame.now.arguments.now x.name None) (temp_weight self.now x.name) }
+    {
+        match frame.argument(x) {
+            Some(weight) => weight,
+            None => self.temp(x),
+        }
+    }
+
     fn object(&self, place: usize) -> u64
         ensures { result ≡ object_weight self.now place }
     {
@@ -166,11 +193,11 @@ impl Weights {
     #[cycle(expressions)]
     #[tactic(auto, using(crate::proofs::Weighings::weighings))]
     fn weigh(&self, e: &Expr, frame: &Frame<'_>) -> u64
-        ensures { result ≡ weighed (scope_in frame.now.scope) frame.now.count (plain_expr e.now) self.now }
+        ensures { result ≡ weighed (setting frame.now) (plain_expr e.now) self.now }
     {
         match e {
             Expr::Literal(n) => number_weight(*n),
-            Expr::Name(x) => self.temp(*x),
+            Expr::Name(x) => self.name(*x, frame),
             Expr::Read(x) => self.object(frame.place(*x)),
             Expr::Sum(es) => self.weigh_sum(es.as_slice(), frame).max(1),
             Expr::Product(es) => self.weigh_product(es.as_slice(), frame),
@@ -182,7 +209,7 @@ impl Weights {
     #[cycle(expressions)]
     #[tactic(auto, using(crate::proofs::Weighings::weighings))]
     fn weigh_sum(&self, es: &[Expr], frame: &Frame<'_>) -> u64
-        ensures { result ≡ sum_weighed (scope_in frame.now.scope) frame.now.count (plain_exprs es.now) self.now 0 }
+        ensures { result ≡ sum_weighed (setting frame.now) (plain_exprs es.now) self.now 0 }
     {
         let mut sum = 0;
         for e in es {
@@ -194,7 +221,7 @@ impl Weights {
     #[cycle(expressions)]
     #[tactic(auto, using(crate::proofs::Weighings::weighings))]
     fn weigh_product(&self, es: &[Expr], frame: &Frame<'_>) -> u64
-        ensures { result ≡ product_weighed (scope_in frame.now.scope) frame.now.count (plain_exprs es.now) self.now 1 }
+        ensures { result ≡ product_weighed (setting frame.now) (plain_exprs es.now) self.now 1 }
     {
         let mut product = 1;
         for e in es {
@@ -204,7 +231,7 @@ impl Weights {
     }
 
     fn is_light(&self, e: &Expr, frame: &Frame<'_>) -> bool
-        ensures { result ≡ fits (weighed (scope_in frame.now.scope) frame.now.count (plain_expr e.now) self.now) }
+        ensures { result ≡ fits (weighed (setting frame.now) (plain_expr e.now) self.now) }
     {
         self.weigh(e, frame) <= HEAVIEST
     }
@@ -212,7 +239,7 @@ impl Weights {
     #[cycle(conditions)]
     #[tactic(auto, using(crate::proofs::Weighings::weighings))]
     fn is_light_test(&self, t: &Test, frame: &Frame<'_>) -> bool
-        ensures { result ≡ test_fits (scope_in frame.now.scope) frame.now.count (plain_test t.now) self.now }
+        ensures { result ≡ test_fits (setting frame.now) (plain_test t.now) self.now }
     {
         match t {
             Test::True => true,
@@ -226,7 +253,7 @@ impl Weights {
     #[cycle(conditions)]
     #[tactic(auto, using(crate::proofs::Weighings::weighings))]
     fn is_light_cond(&self, c: &Cond, frame: &Frame<'_>) -> bool
-        ensures { result ≡ cond_fits (scope_in frame.now.scope) frame.now.count (plain_cond c.now) self.now }
+        ensures { result ≡ cond_fits (setting frame.now) (plain_cond c.now) self.now }
     {
         self.are_light_tests(c.tests.as_slice(), frame)
     }
@@ -234,7 +261,7 @@ impl Weights {
     #[cycle(conditions)]
     #[tactic(auto, using(crate::proofs::Weighings::weighings))]
     fn are_light_tests(&self, ts: &[Test], frame: &Frame<'_>) -> bool
-        ensures { result ≡ cond_fits (scope_in frame.now.scope) frame.now.count (plain_tests ts.now) self.now }
+        ensures { result ≡ cond_fits (setting frame.now) (plain_tests ts.now) self.now }
     {
         let mut light = true;
         for t in ts {
@@ -252,8 +279,8 @@ impl Weights {
         c: &Command,
         frame: &Frame<'_>,
     ) -> Result<bool, Memory>
-        ensures light { IfOk result (λ light. light ≡ command_fits (scope_in frame.now.scope) frame.now.count (plain_command c.now) self.old) }
-        ensures weights { OnOk result (self.new ≡ table_after (scope_in frame.now.scope) frame.now.count (plain_command c.now) self.old) }
+        ensures light { IfOk result (λ light. light ≡ command_fits (setting frame.now) (plain_command c.now) self.old) }
+        ensures weights { OnOk result (self.new ≡ table_after (setting frame.now) (plain_command c.now) self.old) }
     {
         match c {
             Command::Assign { target, value } => {
@@ -299,8 +326,8 @@ impl Weights {
         cs: &[Command],
         frame: &Frame<'_>,
     ) -> Result<bool, Memory>
-        ensures light { IfOk result (λ light. light ≡ commands_fit (scope_in frame.now.scope) frame.now.count (plain_commands cs.now) self.old) }
-        ensures weights { OnOk result (self.new ≡ table_after_all (scope_in frame.now.scope) frame.now.count (plain_commands cs.now) self.old) }
+        ensures light { IfOk result (λ light. light ≡ commands_fit (setting frame.now) (plain_commands cs.now) self.old) }
+        ensures weights { OnOk result (self.new ≡ table_after_all (setting frame.now) (plain_commands cs.now) self.old) }
     {
         let mut light = true;
         for c in cs {
@@ -338,101 +365,158 @@ fn first_weights(alloc: Global, ds: &[ObjectDecl], names: usize) -> Result<Weigh
     Ok(Weights { objects, temps })
 }
 
+/// Enters the weight of a parameter's argument, unless an earlier parameter has the name.
+#[tactic(auto, using(crate::proofs::Steps::places))]
+fn enter_weight(weights: &mut Vec<Option<u64>>, x: Ident, weight: u64)
+    ensures { weights.new.items ≡ first_entered (is_some (slice_index_or weights.old.items x.name None)) weights.old.items x.name weight }
+{
+    if let Some(old) = weights.get_mut(x.name as usize) {
+        if old.is_none() {
+            *old = Some(weight);
+        }
+    }
+}
+
+fn enter_argument(weights: &mut Vec<Option<u64>>, d: RangeDecl, args: &[Number], place: usize)
+    ensures { weights.new.items ≡ with_argument weights.old.items d.name.name (slice_get args.now place) }
+{
+    if let Some(arg) = args.get(place) {
+        enter_weight(weights, d.name, number_weight(arg.value));
+    }
+}
+
+/// The weights of the arguments, by the names of their parameters.
+fn argument_weights(
+    alloc: Global,
+    ds: &[RangeDecl],
+    args: &[Number],
+    names: usize,
+) -> Result<Vec<Option<u64>>, Memory>
+    ensures { IfOk result (λ weights. weights.items ≡ argument_weights names ds.now args.now) }
+{
+    let mut weights = vec![in alloc; None; names]?;
+    for (i, d) in ds.iter().enumerate() {
+        enter_argument(&mut weights, *d, args, i);
+    }
+    Ok(weights)
+}
+
+/// What is called and what it is weighed in, the same for each call.
+#[derive(Clone, Copy)]
+pub struct Bodies<'a> {
+    pub scope: Scope<'a>,
+    pub objects: &'a [ObjectDecl],
+    pub transactions: &'a [Transaction],
+    /// How many names the text has.
+    pub names: usize,
+}
+
 #[tactic(auto, unfolding(crate::specs::Key::words))]
 fn is_light_transaction(
     alloc: Global,
     t: &Transaction,
-    ds: &[ObjectDecl],
-    names: usize,
-    scope: &Scope<'_>,
+    args: &[Number],
+    bodies: &Bodies<'_>,
 ) -> Result<bool, Memory>
-    ensures { IfOk result (λ light. light ≡ transaction_fits (scope_in scope.now) ds.now names t.now) }
+    ensures { IfOk result (λ light. light ≡ transaction_fits (scope_in bodies.now.scope) bodies.now.objects.now bodies.now.names t.now args.now) }
 {
+    let arguments = argument_weights(alloc, t.params.as_slice(), args, bodies.names)?;
     let frame = Frame {
-        scope: *scope,
-        count: ds.len(),
+        scope: bodies.scope,
+        count: bodies.objects.len(),
+        arguments: arguments.as_slice(),
     };
-    let mut weights = first_weights(alloc, ds, names)?;
+    let mut weights = first_weights(alloc, bodies.objects, bodies.names)?;
     weights.weigh_commands(alloc, t.body.as_slice(), &frame)
 }
 
-fn light_transactions(
+fn is_light_at(
     alloc: Global,
-    ts: &[Transaction],
-    ds: &[ObjectDecl],
-    names: usize,
-    scope: &Scope<'_>,
-) -> Result<Vec<bool>, Memory>
-    ensures { IfOk result (λ lights. lights.items ≡ map (transaction_fits (scope_in scope.now) ds.now names) ts.now) }
+    place: usize,
+    args: &[Number],
+    bodies: &Bodies<'_>,
+) -> Result<bool, Memory>
+    ensures { IfOk result (λ light. light ≡ some_fits (scope_in bodies.now.scope) bodies.now.objects.now bodies.now.names (slice_get bodies.now.transactions.now place) args.now) }
 {
-    let mut lights = Vec::new(alloc);
-    for t in ts {
-        lights.push(is_light_transaction(alloc, t, ds, names, scope)?)?;
-    }
-    Ok(lights)
-}
-
-fn light_at(lights: &[bool], place: usize) -> bool
-    ensures { result ≡ slice_index_or lights.now place true }
-{
-    match lights.get(place) {
-        Some(light) => *light,
-        None => true,
+    match bodies.transactions.get(place) {
+        Some(t) => is_light_transaction(alloc, t, args, bodies),
+        None => Ok(true),
     }
 }
 
-fn is_light_call(lights: &[bool], scope: &Scope<'_>, x: Ident) -> bool
-    ensures { result ≡ call_fits lights.now ((scope_in scope.now).item x.name) }
+fn is_light_call(alloc: Global, call: SitedCall<'_>, bodies: &Bodies<'_>) -> Result<bool, Memory>
+    ensures { IfOk result (λ light. light ≡ fits_in bodies.now call.entry) }
 {
-    match scope.item(x.name) {
-        Some(Item::Transaction(place)) => light_at(lights, place),
-        _ => true,
+    match bodies.scope.item(call.name.name) {
+        Some(Item::Transaction(place)) => is_light_at(alloc, place, call.args, bodies),
+        _ => Ok(true),
+    }
+}
+
+/// A call that has been weighed, and whether each expression of its body is light.
+#[derive(Clone, Copy)]
+pub struct WeighedCall<'a> {
+    pub call: SitedCall<'a>,
+    pub light: bool,
+}
+
+fn find_light(known: &[WeighedCall<'_>], call: SitedCall<'_>) -> Option<bool>
+    ensures { result ≡ found known.now call.entry }
+{
+    for k in known {
+        if is_same_body(call, k.call) {
+            return Some(k.light);
+        }
+    }
+    None
+}
+
+/// Weighs a call, unless one of the same body is known.
+fn is_light<'a>(
+    alloc: Global,
+    call: SitedCall<'a>,
+    bodies: &Bodies<'_>,
+    known: &mut Vec<WeighedCall<'a>>,
+) -> Result<bool, Memory>
+    requires { AreRight (fits_in bodies.now) known.old.items }
+    ensures light { IfOk result (λ light. light ≡ fits_in bodies.now call.entry) }
+    ensures known { OnOk result (AreRight (fits_in bodies.now) known.new.items) }
+{
+    match find_light(known.as_slice(), call) {
+        Some(light) => Ok(light),
+        None => {
+            let light = is_light_call(alloc, call, bodies)?;
+            known.push(WeighedCall { call, light })?;
+            Ok(light)
+        }
     }
 }
 
 #[tactic(auto, using(crate::proofs::Steps::keeping))]
-fn check_call_weight(
-    lights: &[bool],
-    scope: &Scope<'_>,
-    call: SitedCall,
-    best: Option<Fault>,
-) -> Option<Fault>
-    ensures { result ≡ keep_all best (heavy_fault (scope_in scope.now) lights.now call) }
+fn check_call_weight(light: bool, x: Ident, best: Option<Fault>) -> Option<Fault>
+    ensures { result ≡ keep_all best (when (not light) (fault Weight x)) }
 {
-    if is_light_call(lights, scope, call.name) {
+    if light {
         best
     } else {
-        at_name(best, Phase::Weight, call.name)
+        at_name(best, Phase::Weight, x)
     }
-}
-
-fn check_call_weights(
-    lights: &[bool],
-    scope: &Scope<'_>,
-    calls: &[SitedCall],
-    best: Option<Fault>,
-) -> Option<Fault>
-    ensures { result ≡ along_all (heavy_fault (scope_in scope.now) lights.now) best calls.now }
-{
-    let mut best = best;
-    for call in calls {
-        best = check_call_weight(lights, scope, *call, best);
-    }
-    best
 }
 
 /// The fault that decides, of those of weights and of one so far.
 pub fn check_weights(
     alloc: Global,
-    ts: &[Transaction],
-    ds: &[ObjectDecl],
-    names: usize,
-    scope: &Scope<'_>,
-    calls: &[SitedCall],
+    calls: &[SitedCall<'_>],
+    bodies: &Bodies<'_>,
     best: Option<Fault>,
 ) -> Result<Option<Fault>, Memory>
-    ensures { IfOk result (λ b. b ≡ along_all (heavy_fault (scope_in scope.now) (map (transaction_fits (scope_in scope.now) ds.now names) ts.now)) best calls.now) }
+    ensures { IfOk result (λ b. b ≡ along_all (heavy_fault (fits_in bodies.now)) best calls.now) }
 {
-    let lights = light_transactions(alloc, ts, ds, names, scope)?;
-    Ok(check_call_weights(lights.as_slice(), scope, calls, best))
+    let mut known = Vec::new(alloc);
+    let mut best = best;
+    for call in calls {
+        let light = is_light(alloc, *call, bodies, &mut known)?;
+        best = check_call_weight(light, call.name, best);
+    }
+    Ok(best)
 }

@@ -9,5 +9,5 @@ returns-then-is_decided c = skipped (plain_workload c.args.w.now) c.args.best (s
 
 pub returns : goal.returns
 returns c =
-    let e = weights-along c.args.w.now (scope_in c.args.scope.now) (length c.as_slice-names.result.now) c.args.best c.as_slice-2.result.now c.as_slice.result.now c.args.calls.now c.requires.formed (ap length c.as_slice-names.ensures) c.requires.names c.as_slice-2.ensures c.as_slice.ensures c.requires.sited in
+    let e = weights-along c.args.w.now (scope_in c.args.scope.now) (length c.as_slice-3.result.now) c.args.best c.as_slice.result.now c.as_slice-2.result.now c.args.calls.now c.requires.formed (ap length c.as_slice-3.ensures) c.requires.names c.as_slice.ensures c.as_slice-2.ensures c.requires.sited in
     subst (λ v. IfOk c.check_weights.result (λ b. b ≡ v)) e c.check_weights.ensures

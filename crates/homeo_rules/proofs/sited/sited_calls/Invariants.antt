@@ -1,0 +1,6 @@
+use Rattle.std.proofs.Common.{◌≡◌, ◌++◌, drop, map}
+use Rattle.homeo_rules.specs.Sited.{sited, sited_of}
+use Rattle.homeo_rules.proofs.sited.sited_calls.Given as goal
+
+abbrev pub invariant-loop-c : goal.invariant-loop-c
+invariant-loop-c l = map sited l.calls.items ++ sited_of (drop l.c-index l.cs) ≡ sited_of l.cs
