@@ -17,12 +17,11 @@ use Rattle.homeo_syntax.specs.WellFormed.{Each, InSchedule, IsBelow, IsWellForme
 use Rattle.homeo_meaning.specs.Key.{words as meanings}
 use Rattle.homeo_meaning.specs.NameRules.{when, fault}
 use Rattle.homeo_meaning.specs.TransactionRules.{each, each_from, is_in}
-use Rattle.homeo_meaning.specs.GlobalNames.{GlobalName, global_names, numbered_from, first_named, duplicate, scope_of, sited_calls}
+use Rattle.homeo_meaning.specs.GlobalNames.{GlobalName, SitedCall, global_names, numbered_from, first_named, duplicate, scope_of, sited_calls}
 use Rattle.homeo_meaning.specs.CallRules.{times, call_count, call_faults, client_faults, scheduled, order_faults, is_short, end_fault, schedule_faults}
 use Rattle.homeo_meaning.specs.NumberRules.{object_faults, site_faults, site_count_faults, passes_limit, ground_calls, limit_faults}
 use Rattle.homeo_meaning.specs.Faults.{of_transaction, declared_faults, faults}
 use Rattle.homeo_meaning.proofs.FaultParts.{none_first, none_second, parts}
-use Rattle.homeo_meaning.specs.declared.rules.SitedCall.{SitedCall}
 use Rattle.homeo_meaning.specs.declared.call.Purpose.{Purpose}
 use Rattle.homeo_meaning.specs.declared.call.Purpose.TheVariants.{Steps}
 use Rattle.homeo_meaning.specs.Declarations.{place_of, place_from}

@@ -5,7 +5,7 @@ use Rattle.homeo_io.specs.Moved.{Gave, GaveAll}
 use Rattle.homeo_syntax.specs.declared.workload.Refusal.{Refusal}
 use Rattle.homeo_syntax.specs.Source as s
 use Rattle.homeo_syntax.specs.Reads.{Reads, IsUnread}
-use Rattle.homeo_reader.proofs.Unread.{one_reading}
+use Rattle.homeo_reader.proofs.Unread.{one_reading, unread}
 use Rattle.homeo_meaning.specs.declared.call.Purpose.{Purpose}
 use Rattle.homeo_meaning.specs.declared.call.Purpose.TheVariants.{Steps}
 use Rattle.homeo_meaning.specs.declared.rules.Fault.{Fault}
@@ -22,10 +22,10 @@ none_there all f none there = subst (IsFaultIn f) none there
 pub accepted_not_refused : (text : List ℕ) (purpose : Purpose) (w : s.Workload) (r : Refusal) → Accepts text purpose w → IsRefused text purpose r → ⊥
 unfolding meanings
 accepted_not_refused text purpose w r a (inl long) = omega (arith, a.short, long.long)
-accepted_not_refused text purpose w r a (inr (short, inl unread)) = unread.unread w a.reads
+accepted_not_refused text purpose w r a (inr (short, inl fault)) = unread text r w fault a.reads
 accepted_not_refused text purpose w r a (inr (short, inr broken)) =
     let same : w ≡ broken.workload = one_reading text w broken.workload a.reads broken.reads in
-    none_there (faults purpose broken.workload) broken.fault (subst (λ v. faults purpose v ≡ []) same a.sound) broken.decides.there
+    none_there (faults purpose broken.workload) broken.refused.fault (subst (λ v. faults purpose v ≡ []) same a.sound) broken.refused.decides.there
 
 -- a source that told its bytes gave them
 pub told_is_given : (old new : Option (List ℕ)) (text bytes : List ℕ) → old ≡ Some text → GaveAll old new bytes → text ≡ bytes
@@ -63,18 +63,7 @@ pub refuses_unread : (text : List ℕ) (r : Refusal) → length text ≤ text_li
 unfolding meanings
 refuses_unread text r short unread = inr (short, inl unread)
 
--- what breaks a rule is refused, without saying which or where
-pub refuses_broken : (text : List ℕ) (w : s.Workload) (inner r : Refusal) → length text ≤ text_limit → Reads text w → IsRefusedBy Steps w inner
-    → record { code = 0; offset = 0 } ≡ r → IsRefused text Steps r
+-- what breaks a rule is refused
+pub refuses_broken : (text : List ℕ) (w : s.Workload) (r : Refusal) → length text ≤ text_limit → Reads text w → IsRefusedBy Steps w r → IsRefused text Steps r
 unfolding meanings
-refuses_broken text w inner r short reads by is = inr (
-  short,
-  inr (record {
-    workload = w;
-    reads = reads;
-    fault = by.fault;
-    decides = by.decides;
-    code = ap (λ x. x.code) (sym is);
-    offset = ap (λ x. x.offset) (sym is);
-  }),
-)
+refuses_broken text w r short reads by = inr (short, inr (record { workload = w; reads = reads; refused = by }))

@@ -28,9 +28,6 @@ const TOO_LONG: Refusal = Refusal {
     offset: 1_048_576,
 };
 
-/// What is told where a text reads as a workload that breaks a rule: at this stage neither which rule, nor where.
-const BROKEN_RULE: Refusal = Refusal { code: 0, offset: 0 };
-
 // Why there is no output.
 #[derive(Clone, Copy, Debug, PartialEq, Eq)]
 enum Stop {
@@ -152,7 +149,7 @@ fn report_of(alloc: Global, text: &[u8]) -> Result<Vec<u8>, Stop>
     };
     let accepted = match accept(alloc, workload, Purpose::Steps) {
         Ok(accepted) => accepted,
-        Err(RuleRefusal::Refused(_)) => return Err(Stop::Refused(BROKEN_RULE)),
+        Err(RuleRefusal::Refused(refusal)) => return Err(Stop::Refused(refusal)),
         Err(RuleRefusal::Memory) => return Err(Stop::Memory),
     };
     let history = steps(alloc, &accepted)?;

@@ -103,24 +103,26 @@ mod tests {
 
     #[test]
     fn a_faulty_text_is_refused(rt: HostRuntime) -> Result<(), Fail> {
-        for text in [
-            "",
-            "workload 1\nsites 1\n",
-            "workload 2\nsites 1\nend\n",
-            "workload 1\nsites 0\nend\n",
-            "workload 1\nsites 1\nobject x in 0..3 = 4\nend\n",
-            "workload 1\nsites 1\ntransaction t() { print(x) }\nend\n",
-            "workload 1\nsites 1\ntransaction t() { skip }\nclient a at 0 { t() }\nend\n",
+        for (text, complaint) in [
+            ("", "refused E4 at 0\n"),
+            ("workload 1\nsites 1\n", "refused E4 at 19\n"),
+            ("workload 2\nsites 1\nend\n", "refused E4 at 9\n"),
+            ("workload 1\nsites 0\nend\n", "refused E13 at 17\n"),
+            (
+                "workload 1\nsites 1\nobject x in 0..3 = 4\nend\n",
+                "refused E9 at 38\n",
+            ),
+            (
+                "workload 1\nsites 1\ntransaction t() { print(x) }\nend\n",
+                "refused E6 at 43\n",
+            ),
+            (
+                "workload 1\nsites 1\ntransaction t() { skip }\nclient a at 0 { t() }\nend\n",
+                "refused E14 at 66\n",
+            ),
         ] {
             let given = Given { text, ..PLAIN };
-            check(
-                &rt,
-                rt.alloc(),
-                given,
-                Status::Refused,
-                "",
-                "refused E0 at 0\n",
-            )?;
+            check(&rt, rt.alloc(), given, Status::Refused, "", complaint)?;
         }
         Ok(())
     }

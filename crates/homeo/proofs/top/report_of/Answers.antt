@@ -1,6 +1,8 @@
 use Rattle.std.proofs.Common.{◌≡◌, ◌∙◌, ℕ, IsErrOf, Err, sym, ap, subst}
 use Rattle.homeo_syntax.specs.declared.workload.Refusal.{Refusal}
 use Rattle.homeo_syntax.specs.Reads.{IsUnread}
+use Rattle.homeo_meaning.specs.declared.call.Purpose.TheVariants.{Steps}
+use Rattle.homeo_meaning.specs.Faults.{IsRefusedBy}
 use Rattle.homeo.specs.declared.top.Stop.TheVariants as Stop
 use Rattle.homeo_syntax.specs.SourceView.{plain_workload}
 use Rattle.homeo.specs.Scheduled.{IsWholeOrder, HasSites}
@@ -21,8 +23,9 @@ returns-in-Err-Refused-clause-refused c = λ r is.
 pub returns-in-Err-Refused-accept-clause-refused :
     goal.returns-in-Err-Refused-accept-clause-refused
 returns-in-Err-Refused-accept-clause-refused c = λ r is.
-    let by = c.in-Err-Refused-accept.ensures.refused c.in-Err-Refused-accept.field-0-0 (ap Err c.in-Err-Refused-accept.field-0-is) in
-    refuses_broken c.args.text.now _ c.in-Err-Refused-accept.field-0-0 r c.requires c.in-Ok.ensures.reads by (refusal_of _ r is)
+    let same : c.in-Err-Refused-accept.refusal ≡ r = sym c.in-Err-Refused-accept.refusal-is ∙ refusal_of _ r is in
+    let by = c.in-Err-Refused-accept.ensures.refused c.in-Err-Refused-accept.refusal (ap Err c.in-Err-Refused-accept.field-0-is) in
+    refuses_broken c.args.text.now (plain_workload c.in-Ok.workload) r c.requires c.in-Ok.ensures.reads (subst (IsRefusedBy Steps (plain_workload c.in-Ok.workload)) same by)
 
 pub steps-requires-clause-order : goal.steps-requires-clause-order
 steps-requires-clause-order c =
