@@ -11,7 +11,7 @@ use Rattle.homeo_syntax.specs.declared.workload.RangeDecl.{RangeDecl}
 use Rattle.homeo_meaning.specs.Key.{words}
 use Rattle.homeo_meaning.specs.NumberRules.{passes_limit, distinct_after}
 use Rattle.homeo_meaning.specs.TransactionRules.{each}
-use Rattle.homeo_meaning.specs.SizeRules.{prints_in}
+use Rattle.homeo_meaning.specs.SourceSizes.{prints_in}
 use Rattle.homeo_meaning.specs.Faults.{faults}
 use Rattle.homeo_meaning.specs.Deciding.{keep_all}
 use Rattle.homeo_meaning.specs.declared.call.Purpose.{Purpose}

@@ -9,7 +9,7 @@ use Rattle.homeo_meaning.specs.GlobalNames.{scope_of}
 use Rattle.homeo_meaning.specs.NumberRules.{object_faults}
 use Rattle.homeo_meaning.specs.CallRules.{client_faults}
 use Rattle.homeo_meaning.specs.Faults.{of_transaction}
-use Rattle.homeo_meaning.proofs.FaultParts.{none_first, NoFault, parts}
+use Rattle.homeo_meaning.proofs.FaultParts.{none_first, NoTextFault, NoFault, parts}
 use Rattle.homeo_meaning.proofs.SoundRules.{is-built, starts-within, all-light}
 use Rattle.homeo_meaning.specs.Schema.{schema_of}
 use Rattle.homeo_meaning.specs.Bounds.{IsWithin}
@@ -26,12 +26,13 @@ pub sound : (w : s.Workload) → IsAccepted w → IsSound w
 unfolding words
 sound w a =
     let p : NoFault Run w = parts Run w a.rules in
-    let built : IsBuilt w = is-built w p.unbuilt in
+    let text : NoTextFault Run w = p.text in
+    let built : IsBuilt w = is-built w text.unbuilt in
     let objects : List Fault = flat_map object_faults w.objects in
     let transactions : List Fault = flat_map (of_transaction (scope_of w)) w.transactions in
     let clients : List Fault = flat_map (client_faults w.sites (scope_of w) w.transactions) w.clients in
     record {
       built = built;
-      light = all-light w p.declared p.weights;
-      starts = starts-within w built.relations (none_first objects transactions (none_first (objects ++ transactions) clients p.declared));
+      light = all-light w built text.declared p.form.weights;
+      starts = starts-within w built.relations (none_first objects transactions (none_first (objects ++ transactions) clients text.declared));
     }

@@ -15,10 +15,12 @@ use Rattle.homeo_meaning.specs.Built.{are_built, IsBuilt}
 use Rattle.homeo_meaning.specs.Serial.{transaction_named, arguments}
 use Rattle.homeo_meaning.specs.Acceptance.{IsLightBody, IsLightCall}
 use Rattle.homeo_meaning.specs.NameRules.{when, fault}
-use Rattle.homeo_meaning.specs.GlobalNames.{GlobalName, SitedCall, numbered_from, first_named, scope_of, transaction_at, called, sited_calls_of}
-use Rattle.homeo_meaning.specs.NumberRules.{range_faults, outside, object_faults, site_faults}
+use Rattle.homeo_meaning.specs.GlobalNames.{GlobalName, SitedCall, numbered_from, first_named, scope_of, transaction_at, called, sited_calls_of, sited_calls}
+use Rattle.homeo_meaning.specs.NumberRules.{range_faults, outside, object_faults, site_faults, same_ground, ground_calls}
 use Rattle.homeo_meaning.specs.CallRules.{call_faults, client_faults}
-use Rattle.homeo_meaning.specs.SizeRules.{unbuilt_relation, unbuilt_transaction, unbuilt_faults, is_light_body, heavy_call, weight_faults}
+use Rattle.homeo_meaning.specs.SizeRules.{unbuilt_relation, unbuilt_transaction, unbuilt_faults, call_form, heaviest, heavy_call, weight_faults}
+use Rattle.homeo_meaning.specs.LowWeights.{first_weights, is_light}
+use Rattle.homeo_meaning.specs.SourceSizes.{is_light_body}
 use Rattle.homeo_meaning.specs.Faults.{of_transaction, declared_faults}
 use Rattle.homeo_meaning.specs.declared.rules.Fault.{Fault}
 use Rattle.homeo_meaning.specs.declared.rules.Item.{Item}
@@ -26,6 +28,7 @@ use Rattle.homeo_meaning.specs.declared.rules.Item.TheVariants as I
 use Rattle.homeo_meaning.specs.declared.rules.Phase.{Phase}
 use Rattle.homeo_meaning.specs.declared.rules.Phase.TheVariants as F
 use Rattle.homeo_meaning.proofs.FaultParts.{none_first, none_second}
+use Rattle.homeo_meaning.proofs.FormRules.{light_are, Every, spread, SameCall, same_call}
 
 -- ---- small steps
 no_fault : (p : Phase) (x : Ident) (b : Bool) → when (not b) (fault p x) ≡ [] → b ≡ true
@@ -196,27 +199,57 @@ light_call w c e light =
 abbrev sited : s.Call → ℤ → SitedCall
 sited c site = record { name = c.name; args = arguments c; site = site }
 
+-- a call whose source is too heavy
+abbrev heavy_source : s.Workload → SitedCall → List Fault
+unfolding words
+heavy_source w c = when (not (is_light_body w (called w c.name) c.args)) (fault F.Weight c.name)
+
 module _ (w : s.Workload) where
-  light_calls : (site : ℤ) (calls : List s.Call) → flat_map (λ (c : s.Call). call_faults w.transactions ((scope_of w).item c.name.name) c) calls ≡ [] → flat_map (heavy_call w) (map (λ (c : s.Call). sited c site) calls) ≡ [] → All (IsLightCall w) calls
+  light_calls : (site : ℤ) (calls : List s.Call) → flat_map (λ (c : s.Call). call_faults w.transactions ((scope_of w).item c.name.name) c) calls ≡ [] → flat_map (heavy_source w) (map (λ (c : s.Call). sited c site) calls) ≡ [] → All (IsLightCall w) calls
   unfolding words
   light_calls site [] e heavy = all_none (IsLightCall w)
   light_calls site (c ∷ calls) e heavy =
-      let rest : List Fault = flat_map (heavy_call w) (map (λ (c : s.Call). sited c site) calls) in
+      let rest : List Fault = flat_map (heavy_source w) (map (λ (c : s.Call). sited c site) calls) in
       let more : List Fault = flat_map (λ (c : s.Call). call_faults w.transactions ((scope_of w).item c.name.name) c) calls in
       let first : List Fault = call_faults w.transactions ((scope_of w).item c.name.name) c in
-      let light : is_light_body w (called w c.name) (arguments c) ≡ true = no_fault F.Weight c.name (is_light_body w (called w c.name) (arguments c)) (none_first (heavy_call w (sited c site)) rest heavy) in
-      all_more (IsLightCall w) c calls (light_call w c (none_first first more e) light) (light_calls site calls (none_second first more e) (none_second (heavy_call w (sited c site)) rest heavy))
+      let light : is_light_body w (called w c.name) (arguments c) ≡ true = no_fault F.Weight c.name (is_light_body w (called w c.name) (arguments c)) (none_first (heavy_source w (sited c site)) rest heavy) in
+      all_more (IsLightCall w) c calls (light_call w c (none_first first more e) light) (light_calls site calls (none_second first more e) (none_second (heavy_source w (sited c site)) rest heavy))
 
-  light_clients : (cs : List s.Client) → flat_map (client_faults w.sites (scope_of w) w.transactions) cs ≡ [] → flat_map (heavy_call w) (flat_map sited_calls_of cs) ≡ [] → All (λ client. All (IsLightCall w) client.calls) cs
+  light_clients : (cs : List s.Client) → flat_map (client_faults w.sites (scope_of w) w.transactions) cs ≡ [] → flat_map (heavy_source w) (flat_map sited_calls_of cs) ≡ [] → All (λ client. All (IsLightCall w) client.calls) cs
   unfolding words
   light_clients [] e heavy = all_none (λ client. All (IsLightCall w) client.calls)
   light_clients (c ∷ cs) e heavy =
       let faults : List Fault = flat_map (λ (call : s.Call). call_faults w.transactions ((scope_of w).item call.name.name) call) c.calls in
       let sites : List Fault = site_faults w.sites c.site in
       let more : List Fault = flat_map (client_faults w.sites (scope_of w) w.transactions) cs in
-      let split : flat_map (heavy_call w) (sited_calls_of c) ++ flat_map (heavy_call w) (flat_map sited_calls_of cs) ≡ [] = sym (flat_map-append (heavy_call w) (sited_calls_of c) (flat_map sited_calls_of cs)) ∙ heavy in
-      all_more (λ (client : s.Client). All (IsLightCall w) client.calls) c cs (light_calls c.site.value c.calls (none_first faults sites (none_first (faults ++ sites) more e)) (none_first (flat_map (heavy_call w) (sited_calls_of c)) (flat_map (heavy_call w) (flat_map sited_calls_of cs)) split)) (light_clients cs (none_second (faults ++ sites) more e) (none_second (flat_map (heavy_call w) (sited_calls_of c)) (flat_map (heavy_call w) (flat_map sited_calls_of cs)) split))
+      let split : flat_map (heavy_source w) (sited_calls_of c) ++ flat_map (heavy_source w) (flat_map sited_calls_of cs) ≡ [] = sym (flat_map-append (heavy_source w) (sited_calls_of c) (flat_map sited_calls_of cs)) ∙ heavy in
+      all_more (λ (client : s.Client). All (IsLightCall w) client.calls) c cs (light_calls c.site.value c.calls (none_first faults sites (none_first (faults ++ sites) more e)) (none_first (flat_map (heavy_source w) (sited_calls_of c)) (flat_map (heavy_source w) (flat_map sited_calls_of cs)) split)) (light_clients cs (none_second (faults ++ sites) more e) (none_second (flat_map (heavy_source w) (sited_calls_of c)) (flat_map (heavy_source w) (flat_map sited_calls_of cs)) split))
 
-pub all-light : (w : s.Workload) → declared_faults w ≡ [] → weight_faults w ≡ [] → All (λ client. All (IsLightCall w) client.calls) w.clients
+-- ---- each call is as light as its ground call
+light_ground : (w : s.Workload) → IsBuilt w → flat_map object_faults w.objects ≡ [] → (cs : List SitedCall) → flat_map (heavy_call w) cs ≡ [] → Every (λ c. is_light_body w (called w c.name) c.args ≡ true) cs
 unfolding words
-all-light w e heavy = light_clients w w.clients (none_second (flat_map object_faults w.objects ++ flat_map (of_transaction (scope_of w)) w.transactions) (flat_map (client_faults w.sites (scope_of w) w.transactions) w.clients) e) heavy
+light_ground w b o [] e = tt
+light_ground w b o (c ∷ cs) e =
+    let form : is_light heaviest (call_form w c) (first_weights (schema_of w)) ≡ true = no_fault F.Weight c.name (is_light heaviest (call_form w c) (first_weights (schema_of w))) (none_first (heavy_call w c) (flat_map (heavy_call w) cs) e) in
+    (sym (light_are w b o c) ∙ form, light_ground w b o cs (none_second (heavy_call w c) (flat_map (heavy_call w) cs) e))
+
+light_alike : (w : s.Workload) (u k : SitedCall) → same_ground u k ≡ true → is_light_body w (called w k.name) k.args ≡ true → is_light_body w (called w u.name) u.args ≡ true
+unfolding words
+light_alike w u k e light =
+    let same : SameCall u k = same_call u k e in
+    (λ i. is_light_body w (transaction_at w ((scope_of w).item (same.name i))) (same.args i)) ∙ light
+
+none_heavy : (w : s.Workload) (cs : List SitedCall) → Every (λ c. is_light_body w (called w c.name) c.args ≡ true) cs → flat_map (heavy_source w) cs ≡ []
+unfolding words
+none_heavy w [] h = refl
+none_heavy w (c ∷ cs) h = (λ i. when (not (h.0 i)) (fault F.Weight c.name) ++ flat_map (heavy_source w) cs) ∙ none_heavy w cs h.1
+
+pub all-light : (w : s.Workload) → IsBuilt w → declared_faults w ≡ [] → weight_faults w ≡ [] → All (λ client. All (IsLightCall w) client.calls) w.clients
+unfolding words
+all-light w b e heavy =
+    let objects : List Fault = flat_map object_faults w.objects in
+    let transactions : List Fault = flat_map (of_transaction (scope_of w)) w.transactions in
+    let clients : List Fault = flat_map (client_faults w.sites (scope_of w) w.transactions) w.clients in
+    let bounded : objects ≡ [] = none_first objects transactions (none_first (objects ++ transactions) clients e) in
+    let light : Every (λ (c : SitedCall). is_light_body w (called w c.name) c.args ≡ true) (sited_calls w) = (spread (λ (c : SitedCall). is_light_body w (called w c.name) c.args ≡ true) (light_alike w) [] (sited_calls w) (light_ground w b bounded (ground_calls w) heavy)).all in
+    light_clients w w.clients (none_second (objects ++ transactions) clients e) (none_heavy w (sited_calls w) light)

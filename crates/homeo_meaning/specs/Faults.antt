@@ -9,7 +9,7 @@ use Rattle.homeo_meaning.specs.TransactionRules.{each, transaction_faults}
 use Rattle.homeo_meaning.specs.GlobalNames.{global_names, duplicate, scope_of}
 use Rattle.homeo_meaning.specs.NumberRules.{object_faults, parameter_bounds, limit_faults}
 use Rattle.homeo_meaning.specs.CallRules.{client_faults, schedule_faults}
-use Rattle.homeo_meaning.specs.SizeRules.{unbuilt_faults, print_faults, weight_faults}
+use Rattle.homeo_meaning.specs.SizeRules.{unbuilt_faults, size_faults, print_faults, weight_faults, row_faults}
 use Rattle.homeo_meaning.specs.declared.call.Purpose.{Purpose}
 use Rattle.homeo_meaning.specs.declared.rules.Fault.{Fault}
 use Rattle.homeo_meaning.specs.declared.rules.Phase.{Phase}
@@ -28,17 +28,25 @@ declared_faults w =
     ++ flat_map (of_transaction (scope_of w)) w.transactions
     ++ flat_map (client_faults w.sites (scope_of w) w.transactions) w.clients
 
--- all faults of a workload that is read for a purpose
-abbrev pub faults : Purpose → s.Workload → List Fault
+-- names, bounds, counts and the schedule
+abbrev pub text_faults : Purpose → s.Workload → List Fault
 unfolding words
-faults purpose w =
+text_faults purpose w =
     unbuilt_faults w
     ++ each duplicate (map (λ d. d.name) (global_names w))
     ++ declared_faults w
     ++ limit_faults w
     ++ schedule_faults purpose (scope_of w) w.clients w.end w.schedule
-    ++ print_faults w
-    ++ weight_faults w
+
+-- how large the calls' L forms are, their values and their tables
+abbrev pub form_faults : s.Workload → List Fault
+unfolding words
+form_faults w = size_faults w ++ print_faults w ++ weight_faults w ++ row_faults w
+
+-- all faults of a workload that is read for a purpose
+abbrev pub faults : Purpose → s.Workload → List Fault
+unfolding words
+faults purpose w = text_faults purpose w ++ form_faults w
 
 -- ---- the fault that decides
 -- the place of a phase in the order in which they are tried
@@ -54,6 +62,7 @@ rank P.Limits = 6
 rank P.Schedule = 7
 rank P.Size = 8
 rank P.Weight = 9
+rank P.Rows = 10
 
 -- the number of a phase's refusals
 abbrev pub code : Phase → ℕ
@@ -68,6 +77,7 @@ code P.Limits = 13
 code P.Schedule = 14
 code P.Size = 11
 code P.Weight = 10
+code P.Rows = 12
 
 -- an earlier phase, or in one phase a lesser offset
 abbrev pub comes_before : Fault → Fault → Bool

@@ -10,8 +10,13 @@ pub mod Deciding
 pub mod Declarations
 pub mod Faults
 pub mod GlobalNames
+pub mod Ground
 pub mod Initial
 pub mod Key
+pub mod LForm
+pub mod LowMeaning
+pub mod LowSizes
+pub mod LowWeights
 pub mod Meaning
 pub mod NameRules
 pub mod NumberRules
@@ -20,6 +25,7 @@ pub mod Scenes
 pub mod Schema
 pub mod Serial
 pub mod SizeRules
+pub mod SourceSizes
 pub mod Table
 pub mod TransactionRules
 pub mod Verdict

@@ -6,6 +6,7 @@ mod arguments;
 mod call;
 mod commands;
 mod database;
+pub mod laws;
 mod numbering;
 mod padded;
 mod phrases;
@@ -14,7 +15,7 @@ mod runs;
 mod scene;
 
 pub use accepted::Accepted;
-pub use call::{CallId, Purpose};
+pub use call::{CallId, GroundCall, Purpose};
 pub use database::{Database, initial};
 pub use numbering::{Numbering, Places};
 pub use rules::{Binding, Fault, Item, Local, Phase};

@@ -67,6 +67,14 @@ impl Places {
         Ok(Places { names, places })
     }
 
+    /// Looks the first place of each object's name up.
+    pub fn of_objects(alloc: Global, objects: &[ObjectDecl]) -> Result<Places, Memory>
+        ensures { IfOk result (λ p. p ≡ map (λ d. d.name.name) objects.now) }
+    {
+        let names = object_names(alloc, objects)?;
+        Places::of(alloc, names)
+    }
+
     /// The first place of a name, or the number of names where it is not there.
     pub fn get(&self, name: u32) -> usize
         ensures { result ≡ place_of self.now name }
@@ -86,11 +94,10 @@ impl Numbering {
     {
         let workload = w.workload();
         let objects = workload.objects.as_slice();
-        let object_names = object_names(alloc, objects)?;
         let transaction_names = transaction_names(alloc, workload.transactions.as_slice())?;
         Ok(Numbering {
             objects: Vec::from_slice(alloc, objects)?,
-            object_places: Places::of(alloc, object_names)?,
+            object_places: Places::of_objects(alloc, objects)?,
             transaction_places: Places::of(alloc, transaction_names)?,
         })
     }
@@ -117,7 +124,7 @@ impl Numbering {
     }
 
     /// The place of the transaction of a name, or the number of transactions where there is none.
-    pub(crate) fn transaction(&self, name: u32) -> usize
+    pub fn transaction(&self, name: u32) -> usize
         ensures { result ≡ place_of self.now.transactions name }
     {
         self.transaction_places.get(name)

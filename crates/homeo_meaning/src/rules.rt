@@ -45,10 +45,12 @@ pub enum Phase {
     Limits,
     /// E14: a schedule that doesn't fit the calls.
     Schedule,
-    /// E11: too many print commands.
+    /// E11: a call that is too large or too deep, or calls that are too large or print too much together.
     Size,
     /// E10: an expression whose values may get too large.
     Weight,
+    /// E12: a call whose table has too many rows, or tables that are too large together.
+    Rows,
 }
 
 /// A rule that is broken, and where.

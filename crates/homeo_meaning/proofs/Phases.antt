@@ -1,0 +1,273 @@
+-- The faults of the text come in earlier phases than those of the L forms, so that one of the text's decides where there is one.
+use Rattle.std.proofs.Common.{◌≡◌, ℕ, ◌+◌, ◌<◌, ◌≤◌, pos, neg_ℤ, Bool, true, false, cond, ◌&&◌, ◌||◌, ◌==◌, List, [], ◌∷◌, ◌++◌, map, Option, Some, None, length, refl, ap, subst, ◌∙◌, arith}
+use Rattle.std.specs.Prelude.{nat_lt, slice_get, int_lt, int_le, is_some, not}
+use Rattle.std.specs.List.{flat_map, sum_by}
+use Rattle.std.proofs.lemmas.Bool.Decides.{nat_tests}
+use Rattle.homeo_syntax.specs.Source as s
+use Rattle.homeo_syntax.specs.declared.phrase.Ident.{Ident}
+use Rattle.homeo_syntax.specs.declared.phrase.Number.{Number}
+use Rattle.homeo_syntax.specs.declared.workload.RangeDecl.{RangeDecl}
+use Rattle.homeo_syntax.specs.declared.workload.ObjectDecl.{ObjectDecl}
+use Rattle.homeo_meaning.specs.Key.{words}
+use Rattle.homeo_meaning.specs.Bindings.{Scope, binding}
+use Rattle.homeo_meaning.specs.Places.{Mark, Place, TakesObject, TakesValue, Assigns, in_commands}
+use Rattle.homeo_meaning.specs.NameRules.{when, fault, number_fault, takes_object, takes_value, assigns, judge_mark, judge}
+use Rattle.homeo_meaning.specs.TransactionRules.{is_in, each_from, each, local_of, temporaries, body_faults, parameter_fault, transaction_faults}
+use Rattle.homeo_meaning.specs.GlobalNames.{SitedCall, global_names, duplicate, scope_of, sited_calls}
+use Rattle.homeo_meaning.specs.NumberRules.{largest_bound, too_large, crossed, range_faults, outside, object_faults, parameter_bounds, argument_outside, arguments_outside, site_faults, site_count_faults, passes_limit, ground_calls, limit_faults}
+use Rattle.homeo_meaning.specs.CallRules.{times, call_count, params_of, call_faults, client_faults, scheduled, order_faults, is_short, end_fault, needs_order, has_calls, schedule_faults}
+use Rattle.homeo_meaning.specs.SizeRules.{too_large as too_large_call, size_faults, prints_too_much, print_faults, heavy_call, weight_faults, too_many_rows, row_faults, unbuilt_relation, unbuilt_transaction, unbuilt_faults}
+use Rattle.homeo_meaning.specs.SizeRules.{call_form, extent_of, heaviest, table_size}
+use Rattle.homeo_meaning.specs.LowSizes.{Extent, rows, prints_in}
+use Rattle.homeo_meaning.specs.LowWeights.{first_weights, is_light}
+use Rattle.homeo_meaning.specs.Schema.{schema_of}
+use Rattle.homeo_meaning.specs.Built.{are_built}
+use Rattle.homeo_meaning.specs.Faults.{of_transaction, declared_faults, text_faults, rank, comes_before}
+use Rattle.homeo_meaning.specs.Deciding.{keep, keep_all}
+use Rattle.homeo_meaning.specs.declared.call.Purpose.{Purpose}
+use Rattle.homeo_meaning.specs.declared.rules.Fault.{Fault}
+use Rattle.homeo_meaning.specs.declared.rules.Local.{Local}
+use Rattle.homeo_meaning.specs.declared.rules.Item.{Item}
+use Rattle.homeo_meaning.specs.declared.rules.Item.TheVariants as I
+use Rattle.homeo_meaning.specs.declared.rules.Binding.{Binding}
+use Rattle.homeo_meaning.specs.declared.rules.Binding.TheVariants as B
+use Rattle.homeo_meaning.specs.declared.rules.Phase.TheVariants as F
+
+-- each fault is of a phase from m on and before n
+abbrev pub Between : ℕ → ℕ → List Fault → Type 0
+unfolding words
+Between m n [] = Unit {0}
+Between m n (f ∷ fs) = (m ≤ rank f.phase) × (rank f.phase < n) × Between m n fs
+
+module _ (m n : ℕ) where
+  pub both : (fs gs : List Fault) → Between m n fs → Between m n gs → Between m n (fs ++ gs)
+  unfolding words
+  both [] gs h k = k
+  both (f ∷ fs) gs h k = (h.0, h.1, both fs gs h.2 k)
+
+  pub if_so : (b : Bool) (fs : List Fault) → Between m n fs → Between m n (when b fs)
+  unfolding words
+  if_so true fs h = h
+  if_so false fs h = tt
+
+  pub all_of : {A : Type 0} (rule : A → List Fault) → ((x : A) → Between m n (rule x)) → (xs : List A) → Between m n (flat_map rule xs)
+  unfolding words
+  all_of rule h [] = tt
+  all_of rule h (x ∷ xs) = both (rule x) (flat_map rule xs) (h x) (all_of rule h xs)
+
+  pub each_of : {A : Type 0} (rule : List A → A → List Fault) → ((before : List A) (x : A) → Between m n (rule before x)) → (before xs : List A) → Between m n (each_from rule before xs)
+  unfolding words
+  each_of rule h before [] = tt
+  each_of rule h before (x ∷ xs) = both (rule before x) (each_from rule (before ++ x ∷ []) xs) (h before x) (each_of rule h (before ++ x ∷ []) xs)
+
+pub wider_below : (m n p : ℕ) (fs : List Fault) → n ≤ p → Between m n fs → Between m p fs
+unfolding words
+wider_below m n p [] le h = tt
+wider_below m n p (f ∷ fs) le h = (h.0, omega (arith, h.1), wider_below m n p fs le h.2)
+
+pub wider_above : (l m n : ℕ) (fs : List Fault) → l ≤ m → Between m n fs → Between l n fs
+unfolding words
+wider_above l m n [] le h = tt
+wider_above l m n (f ∷ fs) le h = (omega (arith, h.0), h.1, wider_above l m n fs le h.2)
+
+-- ---- the text's
+abbrev Early : List Fault → Type 0
+Early fs = Between 0 8 fs
+
+takes_object_early : (x : Ident) (b : Binding) → Early (takes_object x b)
+unfolding words
+takes_object_early x B.Unbound = (omega arith, omega arith, tt)
+takes_object_early x (B.Item (I.Object k)) = tt
+takes_object_early x (B.Item (I.Relation k)) = (omega arith, omega arith, tt)
+takes_object_early x (B.Item (I.Transaction k)) = (omega arith, omega arith, tt)
+takes_object_early x (B.Item (I.Client k)) = (omega arith, omega arith, tt)
+takes_object_early x B.Parameter = (omega arith, omega arith, tt)
+takes_object_early x (B.Row q) = (omega arith, omega arith, tt)
+takes_object_early x B.Temporary = (omega arith, omega arith, tt)
+
+takes_value_early : (x : Ident) (b : Binding) → Early (takes_value x b)
+unfolding words
+takes_value_early x B.Unbound = (omega arith, omega arith, tt)
+takes_value_early x (B.Item g) = (omega arith, omega arith, tt)
+takes_value_early x B.Parameter = tt
+takes_value_early x (B.Row q) = (omega arith, omega arith, tt)
+takes_value_early x B.Temporary = tt
+
+assigns_early : (x : Ident) (b : Binding) → Early (assigns x b)
+unfolding words
+assigns_early x B.Unbound = tt
+assigns_early x (B.Item g) = (omega arith, omega arith, tt)
+assigns_early x B.Parameter = (omega arith, omega arith, tt)
+assigns_early x (B.Row q) = (omega arith, omega arith, tt)
+assigns_early x B.Temporary = tt
+
+mark_early : (b : ℕ → Binding) (k : Mark) → Early (judge_mark b k)
+mark_early b (TakesObject x) = takes_object_early x (b x.name)
+mark_early b (TakesValue x) = takes_value_early x (b x.name)
+mark_early b (Assigns t) = assigns_early t (b t.name)
+
+judge_early : (sc : Scope) (local : ℕ → Local) (p : Place) → Early (judge sc local p)
+unfolding words
+judge_early sc local p = mark_early (binding sc local p.rows) p.mark
+
+bounds_early : (x : Number) → Early (number_fault F.Bounds x)
+unfolding words
+bounds_early x = (omega arith, omega arith, tt)
+
+size_early : (x : Number) → Early (too_large x)
+unfolding words
+size_early x = if_so 0 8 (int_lt x.value (neg_ℤ largest_bound) || int_lt largest_bound x.value) (number_fault F.Bounds x) (bounds_early x)
+
+range_early : (lo hi : Number) → Early (range_faults lo hi)
+unfolding words
+range_early lo hi =
+    both 0 8 (too_large lo ++ too_large hi) (crossed lo hi) (both 0 8 (too_large lo) (too_large hi) (size_early lo) (size_early hi)) (if_so 0 8 (int_lt hi.value lo.value) (number_fault F.Bounds lo) (bounds_early lo))
+
+outside_early : (lo hi x : Number) → Early (outside lo hi x)
+unfolding words
+outside_early lo hi x = if_so 0 8 (int_lt x.value lo.value || int_lt hi.value x.value) (number_fault F.Bounds x) (bounds_early x)
+
+object_early : (d : ObjectDecl) → Early (object_faults d)
+unfolding words
+object_early d = both 0 8 (range_faults d.lo d.hi) (outside d.lo d.hi d.start) (range_early d.lo d.hi) (outside_early d.lo d.hi d.start)
+
+transaction_early : (sc : Scope) (t : s.Transaction) → Early (of_transaction sc t)
+unfolding words
+transaction_early sc t =
+    let params : List Ident = map (λ (d : RangeDecl). d.name) t.params in
+    let names : List ℕ = map (λ (x : Ident). x.name) params in
+    both 0 8 (flat_map parameter_bounds t.params) (transaction_faults sc t) (all_of 0 8 parameter_bounds (λ d. range_early d.lo d.hi) t.params) (both 0 8 (each (parameter_fault sc) params) (body_faults sc names (in_commands [] t.body)) (each_of 0 8 (parameter_fault sc) (λ before x. if_so 0 8 (is_some (sc.item x.name) || is_in x.name (map (λ (y : Ident). y.name) before)) (fault F.Duplicate x) (omega arith, omega arith, tt)) [] params) (each_of 0 8 (λ before p. judge sc (local_of names (temporaries sc names before)) p) (λ before p. judge_early sc (local_of names (temporaries sc names before)) p) [] (in_commands [] t.body)))
+
+argument_early : (d : RangeDecl) (o : Option Number) → Early (argument_outside d o)
+unfolding words
+argument_early d None = tt
+argument_early d (Some a) = outside_early d.lo d.hi a
+
+arguments_early : (i : ℕ) (ds : List RangeDecl) (args : List Number) → Early (arguments_outside i ds args)
+unfolding words
+arguments_early i [] args = tt
+arguments_early i (d ∷ ds) args =
+    both 0 8 (argument_outside d (slice_get args i)) (arguments_outside (i + 1) ds args) (argument_early d (slice_get args i)) (arguments_early (i + 1) ds args)
+
+call_early : (ts : List s.Transaction) (g : Option Item) (c : s.Call) → Early (call_faults ts g c)
+unfolding words
+call_early ts None c = (omega arith, omega arith, tt)
+call_early ts (Some (I.Transaction k)) c =
+    let params : List RangeDecl = params_of (slice_get ts k) in
+    both 0 8 (when (not (length c.args == length params)) (fault F.Arity c.name)) (arguments_outside 0 params c.args) (if_so 0 8 (not (length c.args == length params)) (fault F.Arity c.name) (omega arith, omega arith, tt)) (arguments_early 0 params c.args)
+call_early ts (Some (I.Object k)) c = (omega arith, omega arith, tt)
+call_early ts (Some (I.Relation k)) c = (omega arith, omega arith, tt)
+call_early ts (Some (I.Client k)) c = (omega arith, omega arith, tt)
+
+client_early : (sites : Number) (sc : Scope) (ts : List s.Transaction) (c : s.Client) → Early (client_faults sites sc ts c)
+unfolding words
+client_early sites sc ts c =
+    let rule : s.Call → List Fault = λ call. call_faults ts (sc.item call.name.name) call in
+    both 0 8 (flat_map rule c.calls) (site_faults sites c.site) (all_of 0 8 rule (λ call. call_early ts (sc.item call.name.name) call) c.calls) (if_so 0 8 (int_le sites.value c.site.value) (number_fault F.Bounds c.site) (bounds_early c.site))
+
+declared_early : (w : s.Workload) → Early (declared_faults w)
+unfolding words
+declared_early w =
+    let a : List Fault = flat_map object_faults w.objects in
+    let b : List Fault = flat_map (of_transaction (scope_of w)) w.transactions in
+    let c : List Fault = flat_map (client_faults w.sites (scope_of w) w.transactions) w.clients in
+    both 0 8 (a ++ b) c (both 0 8 a b (all_of 0 8 object_faults object_early w.objects) (all_of 0 8 (of_transaction (scope_of w)) (transaction_early (scope_of w)) w.transactions)) (all_of 0 8 (client_faults w.sites (scope_of w) w.transactions) (client_early w.sites (scope_of w) w.transactions) w.clients)
+
+passing_early : {A : Type 0} (most : ℕ) (name : A → Ident) (xs : List A) → Early (each (passes_limit most name) xs)
+unfolding words
+passing_early most name xs = each_of 0 8 (passes_limit most name) (λ before x. if_so 0 8 (length before == most) (fault F.Limits (name x)) (omega arith, omega arith, tt)) [] xs
+
+limits_early : (w : s.Workload) → Early (limit_faults w)
+unfolding words
+limits_early w =
+    let a : List Fault = site_count_faults w.sites in
+    let b : List Fault = each (passes_limit 1024 (λ (d : ObjectDecl). d.name)) w.objects in
+    let c : List Fault = each (passes_limit 256 (λ (t : s.Transaction). t.name)) w.transactions in
+    let d : List Fault = each (passes_limit 64 (λ (c : s.Client). c.name)) w.clients in
+    let f : List Fault = each (passes_limit 20000 (λ (c : SitedCall). c.name)) (sited_calls w) in
+    let g : List Fault = each (passes_limit 1024 (λ (c : SitedCall). c.name)) (ground_calls w) in
+    both 0 8 (a ++ b ++ c ++ d ++ f) g (both 0 8 (a ++ b ++ c ++ d) f (both 0 8 (a ++ b ++ c) d (both 0 8 (a ++ b) c (both 0 8 a b (if_so 0 8 (int_lt w.sites.value (pos 1) || int_lt (pos 16) w.sites.value) (number_fault F.Limits w.sites) (omega arith, omega arith, tt)) (passing_early 1024 (λ (d : ObjectDecl). d.name) w.objects)) (passing_early 256 (λ (t : s.Transaction). t.name) w.transactions)) (passing_early 64 (λ (c : s.Client). c.name) w.clients)) (passing_early 20000 (λ (c : SitedCall). c.name) (sited_calls w))) (passing_early 1024 (λ (c : SitedCall). c.name) (ground_calls w))
+
+scheduled_early : (cs : List s.Client) (before : ℕ) (g : Option Item) (x : Ident) → Early (scheduled cs before g x)
+unfolding words
+scheduled_early cs before None x = (omega arith, omega arith, tt)
+scheduled_early cs before (Some (I.Client k)) x = if_so 0 8 (before == call_count (slice_get cs k)) (fault F.Schedule x) (omega arith, omega arith, tt)
+scheduled_early cs before (Some (I.Object k)) x = (omega arith, omega arith, tt)
+scheduled_early cs before (Some (I.Relation k)) x = (omega arith, omega arith, tt)
+scheduled_early cs before (Some (I.Transaction k)) x = (omega arith, omega arith, tt)
+
+schedule_early : (purpose : Purpose) (sc : Scope) (cs : List s.Client) (end : ℕ) (o : Option (List Ident)) → Early (schedule_faults purpose sc cs end o)
+unfolding words
+schedule_early purpose sc cs end None = if_so 0 8 (needs_order purpose && has_calls cs) (end_fault end) (omega arith, omega arith, tt)
+schedule_early purpose sc cs end (Some xs) =
+    both 0 8 (order_faults sc cs xs) (when (is_short cs xs) (end_fault end)) (each_of 0 8 (λ before x. scheduled cs (times x.name before) (sc.item x.name) x) (λ before x. scheduled_early cs (times x.name before) (sc.item x.name) x) [] xs) (if_so 0 8 (is_short cs xs) (end_fault end) (omega arith, omega arith, tt))
+
+unbuilt_early : (w : s.Workload) → Early (unbuilt_faults w)
+unfolding words
+unbuilt_early w =
+    both 0 8 (flat_map unbuilt_relation w.relations) (flat_map unbuilt_transaction w.transactions) (all_of 0 8 unbuilt_relation (λ q. (omega arith, omega arith, tt)) w.relations) (all_of 0 8 unbuilt_transaction (λ t. if_so 0 8 (not (are_built t.body)) (fault F.Unbuilt t.name) (omega arith, omega arith, tt)) w.transactions)
+
+-- each fault of the text is of a phase before that of sizes
+pub text_early : (purpose : Purpose) (w : s.Workload) → Between 0 8 (text_faults purpose w)
+unfolding words
+text_early purpose w =
+    let a = unbuilt_faults w in
+    let names : List Ident = map (λ d. d.name) (global_names w) in
+    let b = each duplicate names in
+    let c = declared_faults w in
+    let d = limit_faults w in
+    let f = schedule_faults purpose (scope_of w) w.clients w.end w.schedule in
+    both 0 8 (a ++ b ++ c ++ d) f (both 0 8 (a ++ b ++ c) d (both 0 8 (a ++ b) c (both 0 8 a b (unbuilt_early w) (each_of 0 8 duplicate (λ before x. if_so 0 8 (is_in x.name (map (λ (y : Ident). y.name) before)) (fault F.Duplicate x) (omega arith, omega arith, tt)) [] names)) (declared_early w)) (limits_early w)) (schedule_early purpose (scope_of w) w.clients w.end w.schedule)
+
+-- ---- the L forms'
+pub sizes_in : (w : s.Workload) → Between 8 9 (size_faults w ++ print_faults w)
+unfolding words
+sizes_in w =
+    let e : SitedCall → Extent = extent_of w in
+    let prints : SitedCall → ℕ = λ c. prints_in (call_form w c) in
+    both 8 9 (size_faults w) (print_faults w) (each_of 8 9 (too_large_call e) (λ before c. if_so 8 9 (nat_lt 200000 (e c).size || nat_lt 1000 (e c).depth || nat_lt 2000000 (sum_by (λ d. (e d).size) before + (e c).size)) (fault F.Size c.name) (omega arith, omega arith, tt)) [] (ground_calls w)) (each_of 8 9 (prints_too_much prints) (λ before c. if_so 8 9 (nat_lt 1000000 (sum_by prints before + prints c)) (fault F.Size c.name) (omega arith, omega arith, tt)) [] (sited_calls w))
+
+pub later_in : (w : s.Workload) → Between 9 11 (weight_faults w ++ row_faults w)
+unfolding words
+later_in w =
+    both 9 11 (weight_faults w) (row_faults w) (all_of 9 11 (heavy_call w) (λ c. if_so 9 11 (not (is_light heaviest (call_form w c) (first_weights (schema_of w)))) (fault F.Weight c.name) (omega arith, omega arith, tt)) (ground_calls w)) (each_of 9 11 (too_many_rows w) (λ before c. if_so 9 11 (nat_lt 4096 (rows (call_form w c)) || nat_lt 8000000 (sum_by (table_size w) before + table_size w c)) (fault F.Rows c.name) (omega arith, omega arith, tt)) [] (ground_calls w))
+
+-- ---- which one is kept
+abbrev RankedBelow : ℕ → Option Fault → Type 0
+unfolding words
+RankedBelow n None = Unit {0}
+RankedBelow n (Some f) = rank f.phase < n
+
+kept_one : (m n : ℕ) (best : Option Fault) (f : Fault) → RankedBelow n best → rank f.phase < n → RankedBelow n (keep best f)
+unfolding words
+kept_one m n None f h k = k
+kept_one m n (Some g) f h k = by_case (comes_before f g)
+  where
+    by_case : (b : Bool) → RankedBelow n (cond b (Some f) (Some g))
+    by_case true = k
+    by_case false = h
+
+kept_below : (m n : ℕ) (best : Option Fault) (fs : List Fault) → RankedBelow n best → Between m n fs → RankedBelow n (keep_all best fs)
+unfolding words
+kept_below m n best [] h k = h
+kept_below m n best (f ∷ fs) h k = kept_below m n (keep best f) fs (kept_one m n best f h k.1) k.2
+
+stays_first : (f g : Fault) → rank f.phase < rank g.phase → comes_before g f ≡ false
+unfolding words
+stays_first f g h =
+    let no : nat_lt (rank g.phase) (rank f.phase) ≡ false = grind (arith, nat_tests) in
+    let other : (rank g.phase == rank f.phase) ≡ false = grind (arith, nat_tests) in
+    λ i. no i || (other i && nat_lt g.offset f.offset)
+
+-- a fault of an earlier phase decides, whatever comes later
+stays : (m n : ℕ) (f : Fault) (fs : List Fault) → rank f.phase < m → Between m n fs → keep_all (Some f) fs ≡ Some f
+unfolding words
+stays m n f [] h k = refl
+stays m n f (g ∷ fs) h k = ap (λ b. keep_all (cond b (Some g) (Some f)) fs) (stays_first f g (omega (arith, k.0))) ∙ stays m n f fs h k.2
+
+-- where one of the first is kept, it decides with those of later phases too
+pub decides_first : (m n p : ℕ) (fs gs : List Fault) (f : Fault) → Between m n fs → Between n p gs → keep_all None fs ≡ Some f → keep_all (keep_all None fs) gs ≡ Some f
+unfolding words
+decides_first m n p fs gs f h k e =
+    let below : RankedBelow n (keep_all None fs) = kept_below m n None fs tt h in
+    ap (λ o. keep_all o gs) e ∙ stays n p f gs (subst (RankedBelow n) e below) k
