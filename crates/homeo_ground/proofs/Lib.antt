@@ -1,0 +1,7 @@
+pub mod Calls
+pub mod Distinct
+pub mod Example
+pub mod Keys
+pub mod Limits
+pub mod Places
+pub mod Whole

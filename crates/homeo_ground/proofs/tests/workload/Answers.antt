@@ -1,0 +1,30 @@
+-- The workload is that of the definition.
+use Rattle.std.proofs.Common.{[], ◌∷◌, None, pos, map, ap, ◌∙◌}
+use Rattle.homeo_syntax.specs.Key.{words as tree_words}
+use Rattle.homeo_syntax.specs.SourceView.{plain_relation, plain_transaction, plain_client}
+use Rattle.homeo_ground.specs.Example.{number}
+use Rattle.homeo_ground.proofs.Example.{pushed}
+use Rattle.homeo_ground.proofs.tests.workload.Goals as goal
+
+pub returns : goal.returns
+unfolding tree_words
+returns c =
+    let one = pushed c.new-names.result c.push.new.self [] c.in_ok-of.field-0 (ap (λ l. l.items) c.new-names.ensures) c.in_ok-push.ensures.ok in
+    let two = pushed c.push.new.self c.push-2.new.self _ c.in_ok-of-2.field-0 one c.in_ok-push-2.ensures.ok in
+    let three = pushed c.push-2.new.self c.push-3.new.self _ c.in_ok-of-3.field-0 two c.in_ok-push-3.ensures.ok in
+    let names = three ∙ (λ i. c.in_ok-of.ensures i ∷ c.in_ok-of-2.ensures i ∷ c.in_ok-of-3.ensures i ∷ []) in
+    let transactions = pushed c.new-transactions.result c.push-4.new.self [] c.in_ok-sale_of_up_to_3.field-0 (ap (λ l. l.items) c.new-transactions.ensures) c.in_ok-push-4.ensures.ok in
+    let clients = pushed c.new-clients.result c.push-5.new.self [] c.in_ok-sells.field-0 (ap (λ l. l.items) c.new-clients.ensures) c.in_ok-push-5.ensures.ok in
+    let plain_transactions = ap (map plain_transaction) transactions ∙ (λ i. c.in_ok-sale_of_up_to_3.ensures i ∷ []) in
+    let plain_clients = ap (map plain_client) clients ∙ (λ i. c.in_ok-sells.ensures i ∷ []) in
+    λ i. record {
+      version = 1;
+      names = names i;
+      sites = number (pos 1);
+      objects = (c.new.ensures i).items;
+      relations = map plain_relation (c.new-2.ensures i).items;
+      transactions = plain_transactions i;
+      clients = plain_clients i;
+      schedule = None;
+      end = 0;
+    }

@@ -1,0 +1,95 @@
+//! The ground calls of an accepted workload.
+
+ghost use Rattle.std.specs.Prelude.{◌≡◌, ◌<◌, ◌^◌, All, length, map, slice_get, IfOk};
+ghost use Rattle.homeo_syntax.specs.Source as s;
+ghost use Rattle.homeo_syntax.specs.SourceView.{plain_workload};
+ghost use Rattle.homeo_meaning.specs.Ground.{plain_ground, grounds, ground_of};
+ghost use Rattle.homeo_ground.specs.Grounding.{grounding, IsCallIn};
+ghost use Rattle.homeo_ground.specs.Sited.{sited, ground_by, IsSite};
+
+use crate::numbering::number_clients;
+use crate::sited::SitedCall;
+use homeo_meaning::{Accepted, CallId, GroundCall, Numbering};
+use homeo_syntax::Memory;
+use std::alloc::Global;
+use std::marker::Model;
+
+/// The distinct ground calls of a workload, and which of them each call is.
+#[derive(Drop)]
+pub struct Grounding {
+    calls: Vec<GroundCall>,
+    places: Vec<Vec<usize>>,
+}
+
+impl Model for Grounding {
+    ghost use Rattle.std.specs.Prelude.{◌<◌, ◌^◌, length, map};
+    ghost use Rattle.homeo_meaning.specs.Ground.{plain_ground};
+    ghost use Rattle.homeo_ground.specs.Table.{GroundTable};
+
+    ghost Value = { GroundTable };
+
+    ghost view = { λ g. record {
+      calls = map plain_ground g.calls.items;
+      places = map (λ places. places.items) g.places.items;
+    } };
+
+    ghost invariant = { λ g. length g.calls.items < 2 ^ 32 };
+}
+
+/// The ground calls of calls, each with its transaction by its number.
+fn ground_calls(
+    alloc: Global,
+    numbering: &Numbering,
+    calls: &[SitedCall],
+) -> Result<Vec<GroundCall>, Memory>
+    requires sites { All (λ c. IsSite c.site) calls.now }
+    requires few { length numbering.now.transactions < 2 ^ 32 }
+    ensures { IfOk result (λ made. map plain_ground made.items ≡
+        map (ground_by numbering.now.transactions) (map sited calls.now)) }
+{
+    let mut made = Vec::new(alloc);
+    for call in calls {
+        made.push(call.to_ground(alloc, numbering)?)?;
+    }
+    Ok(made)
+}
+
+impl Grounding {
+    /// Finds the distinct ground calls of a workload, in about the time that its calls and their
+    /// arguments take.
+    ///
+    /// # Errors
+    ///
+    /// `Memory` where memory is wanting.
+    pub fn of(alloc: Global, w: &Accepted) -> Result<Grounding, Memory>
+        ensures table { IfOk result (λ g. g ≡ grounding (plain_workload w.now)) }
+        ensures calls { IfOk result (λ g. g.calls ≡ grounds (plain_workload w.now)) }
+    {
+        let numbering = Numbering::of(alloc, w)?;
+        let numbered = number_clients(alloc, w.workload().clients.as_slice())?;
+        Ok(Grounding {
+            calls: ground_calls(alloc, &numbering, numbered.calls.as_slice())?,
+            places: numbered.places,
+        })
+    }
+
+    /// Lends the distinct ground calls, each where it is first called: clients in order, and the
+    /// calls of each in order.
+    pub fn calls(&self) -> &[GroundCall]
+        ensures { map plain_ground result.now ≡ self.now.calls }
+    {
+        self.calls.as_slice()
+    }
+
+    /// The place of a call's ground call among the distinct ones, in constant time and without
+    /// memory. The call is one of the workload that this is the grounding of.
+    pub fn place(&self, call: CallId) -> u32
+        requires exists { IsCallIn self.now call }
+        ensures within { result < length self.now.calls }
+        ensures place { (w : s.Workload) → self.now ≡ grounding w →
+            slice_get (grounds w) result ≡ ground_of w call }
+    {
+        let places = self.places[call.client as usize].as_slice();
+        places[call.seq as usize - 1] as u32
+    }
+}

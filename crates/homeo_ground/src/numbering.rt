@@ -1,0 +1,165 @@
+//! The distinct ground calls among calls, each with the places of the calls that are the same.
+
+ghost use Rattle.std.specs.Prelude.{◌≡◌, [], ◌∷◌, map, IfOk, OnOk};
+ghost use Rattle.std.specs.List.{flat_map};
+ghost use Rattle.homeo_syntax.specs.SourceView.{plain_client};
+ghost use Rattle.homeo_meaning.specs.GlobalNames.{sited_calls_of};
+ghost use Rattle.homeo_meaning.specs.NumberRules.{distinct_after};
+ghost use Rattle.homeo_ground.specs.Grounding.{place_among, places_among};
+ghost use Rattle.homeo_ground.specs.Sited.{sited, sited_all};
+
+use crate::sited::SitedCall;
+use homeo_syntax::{Client, Memory};
+use indexmap::IndexSet;
+use std::alloc::Global;
+
+/// The distinct ground calls in first-seen order, and by client the place of each of its calls
+/// among them.
+#[derive(Drop)]
+pub struct Numbered {
+    pub calls: IndexSet<SitedCall>,
+    pub places: Vec<Vec<usize>>,
+}
+
+/// The place of a call, after it is put behind the calls if none of them is the same ground call.
+fn number_call(calls: &mut IndexSet<SitedCall>, call: SitedCall) -> Result<usize, Memory>
+    ensures calls { OnOk result (sited_all calls.new ≡ distinct_after (sited_all calls.old) (sited call ∷ [])) }
+    ensures place { IfOk result (λ place. place ≡ place_among (sited_all calls.new) (sited call)) }
+{
+    let (place, _) = calls.insert_full(call)?;
+    Ok(place)
+}
+
+/// The places of a client's calls, after those are put behind the calls that are new.
+fn number_client(
+    alloc: Global,
+    client: &Client,
+    calls: &mut IndexSet<SitedCall>,
+) -> Result<Vec<usize>, Memory>
+    ensures calls { OnOk result (sited_all calls.new ≡
+        distinct_after (sited_all calls.old) (sited_calls_of (plain_client client.now))) }
+    ensures places { IfOk result (λ places. places.items ≡
+        map (place_among (sited_all calls.new)) (sited_calls_of (plain_client client.now))) }
+{
+    let mut places = Vec::new(alloc);
+    for call in client.calls.as_slice() {
+        let call = SitedCall::of(alloc, client, call)?;
+        let place = number_call(calls, call)?;
+        places.push(place)?;
+    }
+    Ok(places)
+}
+
+/// The distinct ground calls of clients.
+pub fn number_clients(alloc: Global, clients: &[Client]) -> Result<Numbered, Memory>
+    ensures calls { IfOk result (λ n. sited_all n.calls ≡
+        distinct_after [] (flat_map sited_calls_of (map plain_client clients.now))) }
+    ensures places { IfOk result (λ n. map (λ places. places.items) n.places.items ≡
+        places_among (sited_all n.calls) (map plain_client clients.now)) }
+{
+    let mut calls = IndexSet::new(alloc);
+    let mut places = Vec::new(alloc);
+    for client in clients {
+        let numbers = number_client(alloc, client, &mut calls)?;
+        places.push(numbers)?;
+    }
+    Ok(Numbered { calls, places })
+}
+
+/// By client the place of each of its calls among the distinct ground calls, which are in
+/// first-seen order.
+///
+/// # Errors
+///
+/// `Memory` where memory is wanting.
+pub fn ground_places(alloc: Global, clients: &[Client]) -> Result<Vec<Vec<usize>>, Memory>
+    ensures { IfOk result (λ places. map (λ places. places.items) places.items ≡
+        places_among (distinct_after [] (flat_map sited_calls_of (map plain_client clients.now)))
+        (map plain_client clients.now)) }
+{
+    let numbered = number_clients(alloc, clients)?;
+    Ok(numbered.places)
+}
+
+#[cfg(test)]
+mod tests {
+    use super::*;
+    use homeo_syntax::{Call, Ident, List, Number};
+    use std::test::Fail;
+
+    const BUY: u32 = 7;
+
+    const SELL: u32 = 3;
+
+    fn call(alloc: Global, name: u32, offset: u64, args: &[i64]) -> Result<Call, Memory> {
+        let mut numbers = List::new(alloc);
+        for value in args {
+            numbers.push(Number {
+                value: *value,
+                offset,
+            })?;
+        }
+        Ok(Call {
+            name: Ident { name, offset },
+            args: numbers,
+        })
+    }
+
+    fn client(site: i64, calls: List<Call>) -> Client {
+        Client {
+            name: Ident { name: 9, offset: 0 },
+            site: Number {
+                value: site,
+                offset: 0,
+            },
+            calls,
+        }
+    }
+
+    /// Two clients at sites 1 and 0, and a third at site 1.
+    fn clients(alloc: Global) -> Result<Vec<Client>, Memory> {
+        let mut first = List::new(alloc);
+        first.push(call(alloc, BUY, 10, &[1, 2])?)?;
+        first.push(call(alloc, BUY, 20, &[2, 1])?)?;
+        first.push(call(alloc, BUY, 30, &[1, 2])?)?;
+        first.push(call(alloc, SELL, 40, &[1, 2])?)?;
+        let mut second = List::new(alloc);
+        second.push(call(alloc, BUY, 50, &[1, 2])?)?;
+        let mut third = List::new(alloc);
+        third.push(call(alloc, BUY, 60, &[2, 1])?)?;
+        third.push(call(alloc, BUY, 70, &[1])?)?;
+        third.push(call(alloc, SELL, 80, &[1, 2])?)?;
+        let mut clients = Vec::new(alloc);
+        clients.push(client(1, first))?;
+        clients.push(client(0, second))?;
+        clients.push(client(1, third))?;
+        Ok(clients)
+    }
+
+    #[test]
+    fn calls_have_places_in_first_seen_order(rt: HostRuntime) -> Result<(), Fail> {
+        let clients = clients(rt.alloc())?;
+        let places = ground_places(rt.alloc(), clients.as_slice())?;
+        match places.as_slice() {
+            [first, second, third] => {
+                assert_eq!(rt; first.as_slice(), [0, 1, 0, 2].as_slice());
+                assert_eq!(rt; second.as_slice(), [3].as_slice());
+                assert_eq!(rt; third.as_slice(), [1, 4, 2].as_slice());
+            }
+            _ => panic!(rt; "three clients"),
+        }
+        Ok(())
+    }
+
+    #[test]
+    fn each_ground_call_is_kept_where_it_is_first_called(rt: HostRuntime) -> Result<(), Fail> {
+        let clients = clients(rt.alloc())?;
+        let numbered = number_clients(rt.alloc(), clients.as_slice())?;
+        let mut offsets = Vec::new(rt.alloc());
+        for call in numbered.calls.as_slice() {
+            offsets.push(call.offset)?;
+        }
+        assert_eq!(rt; offsets.as_slice(), [10, 20, 40, 50, 70].as_slice());
+        Ok(())
+    }
+}
