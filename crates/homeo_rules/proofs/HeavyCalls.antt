@@ -1,6 +1,6 @@
 -- The calls that are found too heavy are those of the definition.
-use Rattle.std.proofs.Common.{◌≡◌, ◌≢◌, ℕ, ℤ, zero, suc, ◌+◌, ◌<◌, ◌≤◌, Bool, true, false, cond, not, ◌&&◌, ◌||◌, ◌==◌, List, [], ◌∷◌, ◌++◌, map, replicate, Option, Some, None, length, drop, refl, sym, ap, subst, ◌∙◌, arith, zero-add, add-one, slice_set, get_or, get_or-set_same, get_or-set_other, drop-cons}
-use Rattle.std.specs.Prelude.{nat_lt, is_some, slice_index_or, slice_get}
+use Rattle.std.proofs.Common.{◌≡◌, ◌≢◌, ℕ, ℤ, zero, suc, ◌+◌, ◌<◌, ◌≤◌, Bool, true, false, cond, not, ◌==◌, List, [], ◌∷◌, ◌++◌, map, replicate, Option, Some, None, length, drop, refl, sym, ap, subst, ◌∙◌, arith, zero-add, add-one, slice_set, get_or, get_or-set_same, get_or-set_other, drop-cons}
+use Rattle.std.specs.Prelude.{is_some, slice_index_or, slice_get}
 use Rattle.std.specs.List.{flat_map}
 use Rattle.std.proofs.lemmas.List.{length-append, length-map, length-replicate, length-set}
 use Rattle.std.proofs.lemmas.Bool.Decides.{nat_tests}
@@ -14,16 +14,17 @@ use Rattle.homeo_syntax.specs.declared.workload.ObjectDecl.{ObjectDecl}
 use Rattle.homeo_syntax.specs.declared.workload.RangeDecl.{RangeDecl}
 use Rattle.homeo_syntax.specs.declared.workload.Transaction.{Transaction}
 use Rattle.homeo_meaning.specs.Key.{words as meaning_words}
-use Rattle.homeo_meaning.specs.Bindings.{Scope}
 use Rattle.homeo_meaning.specs.Schema.{Declared, Relation, declared_object, schema_of}
 use Rattle.homeo_meaning.specs.Bounds.{bounds_of, slot_bounds, relation_bounds}
 use Rattle.homeo_meaning.specs.Context.{spot_from, object, arguments_of, context}
 use Rattle.homeo_meaning.specs.Weights.{number_weight, weight_at, first_weights}
 use Rattle.homeo_meaning.specs.NameRules.{when, fault}
-use Rattle.homeo_meaning.specs.GlobalNames as g
-use Rattle.homeo_meaning.specs.GlobalNames.{GlobalName, numbered_from, first_named, scope_of, transaction_at, sited_calls}
-use Rattle.homeo_meaning.specs.SizeRules.{is_light_body, heavy_call, weight_faults}
-use Rattle.homeo_meaning.specs.Faults.{rank, comes_before}
+use Rattle.homeo_meaning.specs.GlobalNames.{GlobalName, numbered_from, first_named, scope_of, transaction_at}
+use Rattle.homeo_meaning.specs.SizeRules.{heavy_call, weight_faults}
+use Rattle.homeo_meaning.specs.SourceSizes.{is_light_body}
+use Rattle.homeo_meaning.specs.Built.{IsBuilt}
+use Rattle.homeo_meaning.specs.NumberRules.{object_faults, ground_calls}
+use Rattle.homeo_meaning.proofs.FormRules.{light_are}
 use Rattle.homeo_meaning.specs.Deciding.{keep_all}
 use Rattle.homeo_meaning.specs.declared.rules.Fault.{Fault}
 use Rattle.homeo_meaning.specs.declared.rules.Phase.TheVariants.{Weight}
@@ -33,15 +34,11 @@ use Rattle.homeo_rules.specs.Key.{words}
 use Rattle.homeo_rules.specs.Plain.{plain_commands}
 use Rattle.homeo_rules.specs.Listwise.{along_all}
 use Rattle.homeo_rules.specs.Within.{IsNamed, AreNamed}
-use Rattle.homeo_rules.specs.Scopes.{scope_in}
-use Rattle.homeo_rules.specs.Sited.{values, sited, same_arguments, same_body_of}
-use Rattle.homeo_rules.specs.Frames.{fits_in, found, AreRight}
+use Rattle.homeo_rules.specs.Sited.{values, sited}
 use Rattle.homeo_rules.specs.declared.sited.SitedCall.{SitedCall}
-use Rattle.homeo_rules.specs.declared.weights.Bodies.{Bodies}
-use Rattle.homeo_rules.specs.declared.weights.WeighedCall.{WeighedCall}
-use Rattle.homeo_rules.specs.Weighing.{Setting, cap, object_place, commands_fit, first_weight, first_table, first_entered, with_argument, along_params, argument_weights, transaction_fits, some_fits, item_fits, call_fits, heavy_fault}
+use Rattle.homeo_rules.specs.Weighing.{Setting, cap, object_place, first_weight, first_table, first_entered, with_argument, along_params, argument_weights, transaction_fits, some_fits, item_fits, call_fits, heavy_fault}
 use Rattle.homeo_rules.proofs.Listing.{all-mapped}
-use Rattle.homeo_rules.proofs.Siting.{opt_cons, drop-is, past-is, same-arguments, equal-numbers}
+use Rattle.homeo_rules.proofs.Siting.{opt_cons, drop-is, past-is}
 use Rattle.homeo_rules.proofs.CappedWeights.{Represents, cap-max, weight_of, commands-fit}
 
 -- ---- the place of a name
@@ -282,48 +279,6 @@ step-params l new ds args i d lt e =
     drop_one : (xs : List RangeDecl) (i : ℕ) (d : RangeDecl) → i < length xs → drop i xs ≡ get_or xs i d ∷ drop (i + 1) xs
     drop_one xs i d lt = rw (add-one, drop-cons xs i d)
 
--- ---- calls that are known
--- equal arguments give equal weights
-equal-fits : (sc : Scope) (ds : List ObjectDecl) (names : ℕ) (o : Option Transaction) (xs ys : List Number) → values xs ≡ values ys → some_fits sc ds names o xs ≡ some_fits sc ds names o ys
-unfolding words
-equal-fits sc ds names None xs ys e = refl
-equal-fits sc ds names (Some t) xs ys e =
-    let start : List (Option ℕ) = replicate names None in
-    let same : along_params 0 start t.params.items xs ≡ along_params 0 start t.params.items ys = along-values 0 start t.params.items xs ∙ ap (along_values 0 start t.params.items) e ∙ sym (along-values 0 start t.params.items ys) in
-    ap (λ arguments. commands_fit (record { scope = sc; count = length ds; arguments = arguments }) (plain_commands t.body.items) (first_table ds names)) same
-
-equal-items : (sc : Scope) (ds : List ObjectDecl) (names : ℕ) (ts : List Transaction) (g : Option Item) (xs ys : List Number) → values xs ≡ values ys → item_fits sc ds names ts g xs ≡ item_fits sc ds names ts g ys
-equal-items sc ds names ts None xs ys e = refl
-equal-items sc ds names ts (Some (I.Transaction k)) xs ys e = equal-fits sc ds names (slice_get ts k) xs ys e
-equal-items sc ds names ts (Some (I.Object k)) xs ys e = refl
-equal-items sc ds names ts (Some (I.Relation k)) xs ys e = refl
-equal-items sc ds names ts (Some (I.Client k)) xs ys e = refl
-
-same-fits : (b : Bodies) (c k : SitedCall) → same_body_of c k ≡ true → fits_in b k ≡ fits_in b c
-same-fits b c k e = by_case (c.name.name == k.name.name) refl e
-  where
-    by_case : (z : Bool) → (c.name.name == k.name.name) ≡ z → (z && same_arguments c.args.now k.args.now) ≡ true → fits_in b k ≡ fits_in b c
-    by_case true q e' =
-        let name : c.name.name ≡ k.name.name = grind (arith, nat_tests) in
-        let args : values c.args.now ≡ values k.args.now = equal-numbers (values c.args.now) (values k.args.now) (sym (same-arguments c.args.now k.args.now) ∙ e') in
-        ap (λ n. item_fits (scope_in b.scope) b.objects.now b.names b.transactions.now ((scope_in b.scope).item n) k.args.now) (sym name)
-        ∙ equal-items (scope_in b.scope) b.objects.now b.names b.transactions.now ((scope_in b.scope).item c.name.name) k.args.now c.args.now (sym args)
-    by_case false q e' = cc
-
-pub found-right : (b : Bodies) (known : List WeighedCall) (c : SitedCall) (light : Bool) → AreRight (fits_in b) known → found known c ≡ Some light → light ≡ fits_in b c
-found-right b [] c light h e = cc
-found-right b (k ∷ known) c light h e = by_case (found-right b known c light h.1) (same_body_of c k.call) refl e
-  where
-    by_case : (found known c ≡ Some light → light ≡ fits_in b c) → (z : Bool) → same_body_of c k.call ≡ z → cond z (Some k.light) (found known c) ≡ Some light → light ≡ fits_in b c
-    by_case more true q e' =
-        let is : k.light ≡ light = cc in
-        sym is ∙ h.0 ∙ same-fits b c k.call q
-    by_case more false q e' = more e'
-
-pub push-right : (fits_call : SitedCall → Bool) (known : List WeighedCall) (k : WeighedCall) → AreRight fits_call known → k.light ≡ fits_call k.call → AreRight fits_call (known ++ k ∷ [])
-push-right fits_call [] k h e = (e, tt)
-push-right fits_call (j ∷ known) k h e = (h.0, push-right fits_call known k h.1 e)
-
 -- ---- the calls
 module _ (w : s.Workload) (names : ℕ) where
   body-fits : (t : Transaction) (args : List Number) → IsNamed names (plain_transaction t) → transaction_fits (scope_of w) w.objects names t args ≡ is_light_body w (Some (plain_transaction t)) (values args)
@@ -347,27 +302,9 @@ module _ (w : s.Workload) (names : ℕ) where
   item-fits ts (Some (I.Relation k)) args e named = refl
   item-fits ts (Some (I.Client k)) args e named = refl
 
-  pub heavy-calls : (ts : List Transaction) (best : Option Fault) (calls : List SitedCall) → w.transactions ≡ map plain_transaction ts → AreNamed names ts → map sited calls ≡ sited_calls w → along_all (heavy_fault (call_fits (scope_of w) w.objects names ts)) best calls ≡ keep_all best (weight_faults w)
+  pub heavy-calls : (ts : List Transaction) (best : Option Fault) (calls : List SitedCall) → IsBuilt w → flat_map object_faults w.objects ≡ [] → w.transactions ≡ map plain_transaction ts → AreNamed names ts → map sited calls ≡ ground_calls w → along_all (heavy_fault (call_fits (scope_of w) w.objects names ts)) best calls ≡ keep_all best (weight_faults w)
   unfolding meaning_words
-  heavy-calls ts best calls e named ec =
-      ap (λ rule. along_all rule best calls) (λ i c. when (not (item-fits ts ((scope_of w).item c.name.name) c.args.now e named i)) (fault Weight c.name))
+  heavy-calls ts best calls built bounded e named ec =
+      ap (λ rule. along_all rule best calls) (λ i c. when (not ((item-fits ts ((scope_of w).item c.name.name) c.args.now e named ∙ sym (light_are w built bounded (sited c))) i)) (fault Weight c.name))
       ∙ sym (all-mapped sited (heavy_call w) best calls)
       ∙ ap (λ l. keep_all best (flat_map (heavy_call w) l)) ec
-
--- ---- where a fault of an earlier phase stands
-none-before : (f : Fault) → nat_lt (rank f.phase) 9 ≡ true → (offset : ℕ) → comes_before (record { phase = Weight; offset = offset }) f ≡ false
-unfolding meaning_words
-none-before f h offset =
-    let lt : rank f.phase < 9 = grind (arith, nat_tests) in
-    let no : nat_lt 9 (rank f.phase) ≡ false = grind (arith, nat_tests) in
-    let other : (9 == rank f.phase) ≡ false = grind (arith, nat_tests) in
-    λ i. no i || (other i && nat_lt offset f.offset)
-
-pub decided : (w : s.Workload) (f : Fault) → nat_lt (rank f.phase) 9 ≡ true → (calls : List g.SitedCall) → keep_all (Some f) (flat_map (heavy_call w) calls) ≡ Some f
-unfolding meaning_words
-decided w f h [] = refl
-decided w f h (c ∷ calls) = by_case (is_light_body w (transaction_at w ((scope_of w).item c.name.name)) c.args) (decided w f h calls)
-  where
-    by_case : (b : Bool) → keep_all (Some f) (flat_map (heavy_call w) calls) ≡ Some f → keep_all (Some f) (when (not b) (fault Weight c.name) ++ flat_map (heavy_call w) calls) ≡ Some f
-    by_case true e = e
-    by_case false e = ap (λ b. keep_all (cond b (Some (record { phase = Weight; offset = c.name.offset })) (Some f)) (flat_map (heavy_call w) calls)) (none-before f h c.name.offset) ∙ e

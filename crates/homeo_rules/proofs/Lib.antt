@@ -16,3 +16,5 @@ pub mod HeavyCalls
 pub mod Joining
 pub mod Whole
 pub mod Siting
+pub mod Sizing
+pub mod Measured

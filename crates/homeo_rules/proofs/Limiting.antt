@@ -3,7 +3,7 @@ use Rattle.std.proofs.Common.{◌≡◌, ℕ, ℤ, zero, suc, ◌+◌, ◌<◌, 
 use Rattle.std.specs.Prelude.{slice_get, nat_le}
 use Rattle.std.specs.List.{list_any, flat_map}
 use Rattle.std.proofs.lemmas.Bool.Decides.{nat_tests}
-use Rattle.std.proofs.lemmas.List.{length-append, map-append}
+use Rattle.std.proofs.lemmas.List.{length-append, length-map, map-append}
 use Rattle.homeo_syntax.specs.Key.{words as syntax_words}
 use Rattle.homeo_syntax.specs.Source as p
 use Rattle.homeo_syntax.specs.SourceView.{plain_transaction, plain_client, plain_call}
@@ -106,6 +106,10 @@ stays kept (u ∷ us) i h =
     let more : length kept ≤ length (after_one b kept u) = longer_or b kept u in
     stays (after_one b kept u) us i (omega arith) ∙ get-after b kept u i h
 
+grows : (kept us : List SitedCall) → length kept ≤ length (all_distinct kept us)
+grows kept [] = omega arith
+grows kept (u ∷ us) = omega (arith, longer_or (list_any (same_ground_of u) kept) kept u, grows (after_one (list_any (same_ground_of u) kept) kept u) us)
+
 full : (most : ℕ) (kept us : List SitedCall) → most < length kept → distinct_within most kept us ≡ kept
 full most kept [] h = refl
 full most kept (u ∷ us) h =
@@ -152,6 +156,35 @@ ground-plain most us =
     ap (λ l. passing (λ (c : g.SitedCall). c.name) (slice_get l most)) (sym (distinct-sited [] us))
     ∙ call-plain (all_distinct [] us) most
     ∙ ap call_passing (sym (within most us []))
+
+-- where no more than so many are distinct, all are kept
+within-all : (most : ℕ) (kept us : List SitedCall) → length (all_distinct kept us) ≤ most → distinct_within most kept us ≡ all_distinct kept us
+within-all most kept [] h = refl
+within-all most kept (u ∷ us) h =
+    let few : length kept ≤ most = omega (arith, grows kept (u ∷ us)) in
+    let some : nat_le (length kept) most ≡ true = grind (arith, nat_tests) in
+    ap (λ b. distinct_within most (cond (b && not (list_any (same_ground_of u) kept)) (kept ++ u ∷ []) kept) us) some
+    ∙ ap (λ l. distinct_within most l us) (flip (list_any (same_ground_of u) kept) kept u)
+    ∙ within-all most (after_one (list_any (same_ground_of u) kept) kept u) us h
+
+none_past : {A : Type 0} (xs : List A) (k : ℕ) → slice_get xs k ≡ None → length xs ≤ k
+none_past [] k e = omega arith
+none_past (x ∷ xs) zero e = cc
+none_past (x ∷ xs) (suc k) e = omega (arith, none_past xs k e)
+
+passing_none : {A : Type 0} (name : A → Ident) (o : Option A) → passing name o ≡ [] → o ≡ None
+passing_none name None e = refl
+passing_none name (Some x) e = cc
+
+-- without a fault of limits, the ground calls are those of the definition
+pub ground-are : (us : List SitedCall) → each (passes_limit 1024 (λ (c : g.SitedCall). c.name)) (distinct_after [] (map sited us)) ≡ [] → map sited (distinct_within 1024 [] us) ≡ distinct_after [] (map sited us)
+ground-are us e =
+    let name : g.SitedCall → Ident = λ c. c.name in
+    let none : slice_get (distinct_after [] (map sited us)) 1024 ≡ None = passing_none name _ (sym (limit-is 1024 name (distinct_after [] (map sited us))) ∙ e) in
+    let few : length (distinct_after [] (map sited us)) ≤ 1024 = none_past (distinct_after [] (map sited us)) 1024 none in
+    let same : map sited (all_distinct [] us) ≡ distinct_after [] (map sited us) = distinct-sited [] us in
+    let long : length (all_distinct [] us) ≡ length (distinct_after [] (map sited us)) = sym (length-map (all_distinct [] us) sited) ∙ ap length same in
+    ap (map sited) (within-all 1024 [] us (omega arith)) ∙ same
 
 -- ---- calls with their sites
 abbrev record_of : p.Call → ℤ → g.SitedCall

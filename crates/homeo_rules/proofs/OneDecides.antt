@@ -84,7 +84,8 @@ phase_at (suc (suc (suc (suc (suc zero))))) = P.Bounds
 phase_at (suc (suc (suc (suc (suc (suc zero)))))) = P.Limits
 phase_at (suc (suc (suc (suc (suc (suc (suc zero))))))) = P.Schedule
 phase_at (suc (suc (suc (suc (suc (suc (suc (suc zero)))))))) = P.Size
-phase_at (suc (suc (suc (suc (suc (suc (suc (suc (suc n))))))))) = P.Weight
+phase_at (suc (suc (suc (suc (suc (suc (suc (suc (suc zero))))))))) = P.Weight
+phase_at (suc (suc (suc (suc (suc (suc (suc (suc (suc (suc n)))))))))) = P.Rows
 
 phase_of : (p : Phase) → phase_at (rank p) ≡ p
 unfolding words
@@ -98,6 +99,7 @@ phase_of P.Limits = refl
 phase_of P.Schedule = refl
 phase_of P.Size = refl
 phase_of P.Weight = refl
+phase_of P.Rows = refl
 
 same_rank : (f g : Fault) → comes_before f g ≡ false → comes_before g f ≡ false → rank f.phase ≡ rank g.phase
 unfolding words

@@ -18,7 +18,8 @@ use Rattle.homeo_meaning.specs.Bindings.{Scope}
 use Rattle.homeo_meaning.specs.NameRules.{when, fault}
 use Rattle.homeo_meaning.specs.TransactionRules.{each, each_from}
 use Rattle.homeo_meaning.specs.GlobalNames.{transaction_at}
-use Rattle.homeo_meaning.specs.SizeRules.{prints_in, prints_in_all, prints_of, prints_too_much}
+use Rattle.homeo_meaning.specs.SourceSizes.{prints_in, prints_in_all, prints_of}
+use Rattle.homeo_meaning.specs.SizeRules.{prints_too_much}
 use Rattle.homeo_meaning.specs.Deciding.{keep_all}
 use Rattle.homeo_meaning.specs.declared.rules.Fault.{Fault}
 use Rattle.homeo_meaning.specs.declared.rules.Item.{Item}
@@ -124,16 +125,16 @@ capped-test n = by_case (nat_lt 1000000 n) refl
 capped-both : (n m : ℕ) → min 1000001 (min 1000001 n + min 1000001 m) ≡ min 1000001 (n + m)
 capped-both n m = omega (arith, clamps)
 
-module _ (s : Scope) (counts : List ℕ) (prints : Ident → ℕ) (agree : (x : Ident) → counted_prints counts (s.item x.name) ≡ min 1000001 (prints x)) where
-  print-all : (before : List g.SitedCall) (t : Printed) (calls : List SitedCall) → t.total ≡ min 1000001 (sum_by (λ (d : g.SitedCall). prints d.name) before) → (print_all s counts t calls).best ≡ keep_all t.best (each_from (prints_too_much prints) before (map sited calls))
+module _ (s : Scope) (counts : List ℕ) (prints : g.SitedCall → ℕ) (agree : (c : g.SitedCall) → counted_prints counts (s.item c.name.name) ≡ min 1000001 (prints c)) where
+  print-all : (before : List g.SitedCall) (t : Printed) (calls : List SitedCall) → t.total ≡ min 1000001 (sum_by (λ (d : g.SitedCall). prints d) before) → (print_all s counts t calls).best ≡ keep_all t.best (each_from (prints_too_much prints) before (map sited calls))
   unfolding meaning_words
   print-all before t [] e = refl
   print-all before t (c ∷ calls) e =
-      let total : ℕ = sum_by (λ (d : g.SitedCall). prints d.name) before in
-      let new : min 1000001 (t.total + counted_prints counts (s.item c.name.name)) ≡ min 1000001 (total + prints c.name) = (λ i. min 1000001 (e i + agree c.name i)) ∙ capped-both total (prints c.name) in
-      let sum : sum_by (λ (d : g.SitedCall). prints d.name) (before ++ sited c ∷ []) ≡ total + prints c.name = sum_by-append (λ (d : g.SitedCall). prints d.name) before (sited c ∷ []) ∙ ap (λ n. total + n) (zero-add (prints c.name)) in
+      let total : ℕ = sum_by (λ (d : g.SitedCall). prints d) before in
+      let new : min 1000001 (t.total + counted_prints counts (s.item c.name.name)) ≡ min 1000001 (total + prints (sited c)) = (λ i. min 1000001 (e i + agree (sited c) i)) ∙ capped-both total (prints (sited c)) in
+      let sum : sum_by (λ (d : g.SitedCall). prints d) (before ++ sited c ∷ []) ≡ total + prints (sited c) = sum_by-append (λ (d : g.SitedCall). prints d) before (sited c ∷ []) ∙ ap (λ n. total + n) (zero-add (prints (sited c))) in
       print-all (before ++ sited c ∷ []) (print_one s counts t c) calls (new ∙ ap (min 1000001) (sym sum))
-      ∙ ap (λ b. keep_all (keep_all t.best (when b (fault Size c.name))) (each_from (prints_too_much prints) (before ++ sited c ∷ []) (map sited calls))) (ap (nat_lt 1000000) new ∙ capped-test (total + prints c.name))
+      ∙ ap (λ b. keep_all (keep_all t.best (when b (fault Size c.name))) (each_from (prints_too_much prints) (before ++ sited c ∷ []) (map sited calls))) (ap (nat_lt 1000000) new ∙ capped-test (total + prints (sited c)))
       ∙ sym (keep_all-append t.best (prints_too_much prints before (sited c)) (each_from (prints_too_much prints) (before ++ sited c ∷ []) (map sited calls)))
 
   pub printed : (best : Option Fault) (calls : List SitedCall) → (print_all s counts (record { total = 0; best = best }) calls).best ≡ keep_all best (each (prints_too_much prints) (map sited calls))

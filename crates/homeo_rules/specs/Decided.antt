@@ -1,12 +1,12 @@
 -- The steps in which the fault that decides is found.
-use Rattle.std.specs.Prelude.{◌≡◌, Bool, false, nat_lt, List, ◌++◌, map, Option, Some, None}
+use Rattle.std.specs.Prelude.{◌≡◌, List, [], ◌++◌, map, Option}
 use Rattle.homeo_syntax.specs.Source as s
 use Rattle.homeo_meaning.specs.GlobalNames.{global_names, duplicate, scope_of}
 use Rattle.homeo_meaning.specs.TransactionRules.{each}
 use Rattle.homeo_meaning.specs.NumberRules.{limit_faults}
 use Rattle.homeo_meaning.specs.CallRules.{schedule_faults}
-use Rattle.homeo_meaning.specs.SizeRules.{print_faults, weight_faults}
-use Rattle.homeo_meaning.specs.Faults.{rank, declared_faults}
+use Rattle.homeo_meaning.specs.SizeRules.{unbuilt_faults}
+use Rattle.homeo_meaning.specs.Faults.{declared_faults}
 use Rattle.homeo_meaning.specs.Deciding.{keep_all}
 use Rattle.homeo_meaning.specs.declared.call.Purpose.{Purpose}
 use Rattle.homeo_meaning.specs.declared.rules.Fault.{Fault}
@@ -19,17 +19,14 @@ pub record NamesGlobals (w : s.Workload) (best : Option Fault) (t : Items) : Typ
   pub scope : scope_with t.items ≡ scope_of w
   pub kept : t.best ≡ keep_all best (each duplicate (map (λ d. d.name) (global_names w)))
 
--- a fault of a phase before weights
-abbrev pub is_decided : Option Fault → Bool
-is_decided None = false
-is_decided (Some f) = nat_lt (rank f.phase) 9
-
--- the faults of all rules that need the global names
+-- the faults of the text that need the global names
 abbrev pub faults_with_names : Purpose → s.Workload → List Fault
 unfolding words
 faults_with_names purpose w =
-    declared_faults w
-    ++ limit_faults w
-    ++ schedule_faults purpose (scope_of w) w.clients w.end w.schedule
-    ++ print_faults w
-    ++ weight_faults w
+    declared_faults w ++ limit_faults w ++ schedule_faults purpose (scope_of w) w.clients w.end w.schedule
+
+-- no fault that speaks of the text comes before those of the L forms
+pub record IsFaultless (w : s.Workload) : Type 0 where
+  pub unbuilt : unbuilt_faults w ≡ []
+  pub declared : declared_faults w ≡ []
+  pub limits : limit_faults w ≡ []

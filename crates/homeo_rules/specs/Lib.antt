@@ -16,3 +16,4 @@ pub mod Listwise
 pub mod Within
 pub mod Sited
 pub mod Frames
+pub mod Sizes

@@ -5,7 +5,7 @@ use Rattle.homeo_syntax.specs.declared.command.Command.{Command}
 use Rattle.homeo_syntax.specs.declared.workload.Transaction.{Transaction}
 use Rattle.homeo_meaning.specs.Bindings.{Scope}
 use Rattle.homeo_meaning.specs.NameRules.{when, fault}
-use Rattle.homeo_meaning.specs.SizeRules.{prints_in, prints_in_all}
+use Rattle.homeo_meaning.specs.SourceSizes.{prints_in, prints_in_all}
 use Rattle.homeo_meaning.specs.Deciding.{keep_all}
 use Rattle.homeo_meaning.specs.declared.rules.Fault.{Fault}
 use Rattle.homeo_meaning.specs.declared.rules.Item.{Item}

@@ -24,6 +24,7 @@ pub fn rank(phase: Phase) -> u8
         Phase::Schedule => 7,
         Phase::Size => 8,
         Phase::Weight => 9,
+        Phase::Rows => 10,
     }
 }
 
@@ -42,6 +43,7 @@ pub fn code(phase: Phase) -> u8
         Phase::Schedule => 14,
         Phase::Size => 11,
         Phase::Weight => 10,
+        Phase::Rows => 12,
     }
 }
 

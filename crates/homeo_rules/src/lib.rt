@@ -14,6 +14,7 @@ mod prints;
 mod schedule;
 mod scope;
 mod sited;
+mod sizes;
 mod transaction;
 mod walk;
 mod weights;

@@ -103,7 +103,10 @@ fn keep_call<'a>(kept: &mut Vec<SitedCall<'a>>, call: SitedCall<'a>) -> Result<(
 }
 
 /// The first call of each ground call, up to one more than there may be.
-fn ground_calls<'a>(alloc: Global, calls: &[SitedCall<'a>]) -> Result<Vec<SitedCall<'a>>, Memory>
+pub fn ground_calls<'a>(
+    alloc: Global,
+    calls: &[SitedCall<'a>],
+) -> Result<Vec<SitedCall<'a>>, Memory>
     ensures { IfOk result (λ kept. kept.items ≡ distinct_within 1024 [] calls.now) }
 {
     let mut kept = Vec::new(alloc);

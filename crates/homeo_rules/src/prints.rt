@@ -2,7 +2,7 @@
 
 ghost use Rattle.std.specs.Prelude.{◌≡◌, ◌+◌, ◌≤◌, min, map, nat_lt, IfOk, slice_index};
 ghost use Rattle.homeo_syntax.specs.SourceView.{plain_command};
-ghost use Rattle.homeo_meaning.specs.SizeRules.{prints_in, prints_in_all};
+ghost use Rattle.homeo_meaning.specs.SourceSizes.{prints_in, prints_in_all};
 ghost use Rattle.homeo_meaning.specs.NameRules.{when, fault};
 ghost use Rattle.homeo_meaning.specs.Deciding.{keep_all};
 ghost use Rattle.homeo_meaning.specs.declared.rules.Phase.TheVariants.{Size};

@@ -36,7 +36,7 @@ fn are_same_arguments(xs: &[Number], ys: &[Number]) -> bool
 }
 
 /// Whether two calls call one transaction with equal arguments.
-pub fn is_same_body(u: SitedCall<'_>, v: SitedCall<'_>) -> bool
+fn is_same_body(u: SitedCall<'_>, v: SitedCall<'_>) -> bool
     ensures { result ≡ same_body_of u.entry v.entry }
 {
     u.name.name == v.name.name && are_same_arguments(u.args, v.args)

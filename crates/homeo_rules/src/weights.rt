@@ -5,7 +5,7 @@ ghost use Rattle.homeo_syntax.specs.SourceView.{plain_expr, plain_test, plain_co
 ghost use Rattle.homeo_meaning.specs.Weights.{number_weight};
 ghost use Rattle.homeo_meaning.specs.Deciding.{keep_all};
 ghost use Rattle.homeo_rules.specs.Listwise.{along_all};
-ghost use Rattle.homeo_rules.specs.Frames.{setting, fits_in, found, AreRight};
+ghost use Rattle.homeo_rules.specs.Frames.{setting, fits_in};
 ghost use Rattle.homeo_rules.specs.Weighing.{first_weight, first_table, first_entered, with_argument, argument_weights, transaction_fits, some_fits, heavy_fault};
 ghost use Rattle.homeo_meaning.specs.NameRules.{when, fault};
 ghost use Rattle.homeo_meaning.specs.declared.rules.Phase.TheVariants.{Weight};
@@ -15,7 +15,7 @@ ghost use Rattle.homeo_rules.specs.Weighing.{cap, object_place, argument_or, tem
 
 use crate::deciding::at_name;
 use crate::scope::Scope;
-use crate::sited::{SitedCall, is_same_body};
+use crate::sited::SitedCall;
 use homeo_meaning::{Fault, Item, Phase};
 use homeo_syntax::{
     Command, Cond, Expr, Ident, Memory, Number, ObjectDecl, RangeDecl, Test, Transaction,
@@ -453,45 +453,6 @@ fn is_light_call(alloc: Global, call: SitedCall<'_>, bodies: &Bodies<'_>) -> Res
     }
 }
 
-/// A call that has been weighed, and whether each expression of its body is light.
-#[derive(Clone, Copy)]
-pub struct WeighedCall<'a> {
-    pub call: SitedCall<'a>,
-    pub light: bool,
-}
-
-fn find_light(known: &[WeighedCall<'_>], call: SitedCall<'_>) -> Option<bool>
-    ensures { result ≡ found known.now call.entry }
-{
-    for k in known {
-        if is_same_body(call, k.call) {
-            return Some(k.light);
-        }
-    }
-    None
-}
-
-/// Weighs a call, unless one of the same body is known.
-fn is_light<'a>(
-    alloc: Global,
-    call: SitedCall<'a>,
-    bodies: &Bodies<'_>,
-    known: &mut Vec<WeighedCall<'a>>,
-) -> Result<bool, Memory>
-    requires { AreRight (fits_in bodies.now) known.old.items }
-    ensures light { IfOk result (λ light. light ≡ fits_in bodies.now call.entry) }
-    ensures known { OnOk result (AreRight (fits_in bodies.now) known.new.items) }
-{
-    match find_light(known.as_slice(), call) {
-        Some(light) => Ok(light),
-        None => {
-            let light = is_light_call(alloc, call, bodies)?;
-            known.push(WeighedCall { call, light })?;
-            Ok(light)
-        }
-    }
-}
-
 #[tactic(auto, using(crate::proofs::Steps::keeping))]
 fn check_call_weight(light: bool, x: Ident, best: Option<Fault>) -> Option<Fault>
     ensures { result ≡ keep_all best (when (not light) (fault Weight x)) }
@@ -512,10 +473,9 @@ pub fn check_weights(
 ) -> Result<Option<Fault>, Memory>
     ensures { IfOk result (λ b. b ≡ along_all (heavy_fault (fits_in bodies.now)) best calls.now) }
 {
-    let mut known = Vec::new(alloc);
     let mut best = best;
     for call in calls {
-        let light = is_light(alloc, *call, bodies, &mut known)?;
+        let light = is_light_call(alloc, *call, bodies)?;
         best = check_call_weight(light, call.name, best);
     }
     Ok(best)

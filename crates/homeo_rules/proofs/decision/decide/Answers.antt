@@ -1,19 +1,36 @@
-use Rattle.std.proofs.Common.{◌≡◌, ◌∙◌, IfOk, subst, ap, map}
+use Rattle.std.proofs.Common.{◌≡◌, ◌∙◌, IfOk, subst, sym, ap, map}
 use Rattle.homeo_syntax.specs.SourceView.{plain_workload}
-use Rattle.homeo_meaning.specs.Deciding.{keep_all}
-use Rattle.homeo_meaning.specs.TransactionRules.{each}
-use Rattle.homeo_meaning.specs.GlobalNames.{global_names, duplicate}
 use Rattle.homeo_rules.specs.Scopes.{scope_with}
-use Rattle.homeo_rules.specs.Decided.{faults_with_names}
-use Rattle.homeo_rules.proofs.Joining.{all-faults}
+use Rattle.homeo_rules.specs.Sited.{sited}
+use Rattle.homeo_rules.proofs.Joining.{calls-are, text-found, text-decides, forms-decide, faultless}
 use Rattle.homeo_rules.proofs.decision.decide.Goals as goal
 
-pub decide_with-requires-clause-names : goal.decide_with-requires-clause-names
-decide_with-requires-clause-names c = ap scope_with c.as_slice.ensures ∙ c.in_ok-items.ensures.scope
+pub text-requires-clause-names : goal.text-requires-clause-names
+text-requires-clause-names c = ap scope_with c.as_slice.ensures ∙ c.in_ok-items.ensures.scope
+
+pub text-requires-clause-sited : goal.text-requires-clause-sited
+text-requires-clause-sited c = ap (map sited) c.as_slice-3.ensures.value ∙ calls-are c.args.w.now c.in_ok-calls.calls.items c.as_slice-2.result.now c.in_ok-calls.ensures c.as_slice-2.ensures
+
+pub forms-requires-clause-names : goal.forms-requires-clause-names
+forms-requires-clause-names c = ap scope_with c.as_slice.ensures ∙ c.in_ok-items.ensures.scope
+
+pub forms-requires-clause-sited : goal.forms-requires-clause-sited
+forms-requires-clause-sited c = ap (map sited) c.as_slice-in-None.ensures.value ∙ calls-are c.args.w.now c.in_ok-calls.calls.items c.as_slice-2.result.now c.in_ok-calls.ensures c.as_slice-2.ensures
+
+pub forms-requires-clause-faultless : goal.forms-requires-clause-faultless
+forms-requires-clause-faultless c =
+    let w = plain_workload c.args.w.now in
+    let found = text-found c.args.purpose w c.unbuilt-best.result c.best.result c.in_ok-best.best (c.best.ensures ∙ c.in_ok-items.ensures.kept) c.unbuilt-best.ensures c.in_ok-best.ensures in
+    faultless c.args.purpose w (sym found ∙ c.in-None.is)
+
+pub returns-in-Some : goal.returns-in-Some
+returns-in-Some c =
+    let w = plain_workload c.args.w.now in
+    let found = text-found c.args.purpose w c.unbuilt-best.result c.best.result c.in_ok-best.best (c.best.ensures ∙ c.in_ok-items.ensures.kept) c.unbuilt-best.ensures c.in_ok-best.ensures in
+    c.in-Some.is ∙ text-decides c.args.purpose w _ (sym found ∙ c.in-Some.is)
 
 pub returns : goal.returns
 returns c =
     let w = plain_workload c.args.w.now in
-    let best = c.best.ensures ∙ c.in_ok-items.ensures.kept ∙ ap (λ b. keep_all b (each duplicate (map (λ d. d.name) (global_names w)))) c.unbuilt-best.ensures in
-    let e = ap (λ b. keep_all b (faults_with_names c.args.purpose w)) best ∙ all-faults c.args.purpose w in
-    subst (λ v. IfOk c.decide_with.result (λ b. b ≡ v)) e c.decide_with.ensures
+    let found = text-found c.args.purpose w c.unbuilt-best.result c.best.result c.in_ok-best.best (c.best.ensures ∙ c.in_ok-items.ensures.kept) c.unbuilt-best.ensures c.in_ok-best.ensures in
+    subst (λ v. IfOk c.forms.result (λ b. b ≡ v)) (forms-decide c.args.purpose w (sym found ∙ c.in-None.is)) c.forms.ensures
