@@ -1,5 +1,5 @@
 -- Where no rule is broken, the schedule runs every call of every client, and the sites are few.
-use Rattle.std.proofs.Common.{◌≡◌, ◌<◌, ◌≤◌, ◌+◌, ◌∙◌, ◌++◌, ◌==◌, ◌||◌, ◌&&◌, ℕ, zero, suc, Bool, true, false, cond, List, [], ◌∷◌, length, map, refl, sym, ap, subst, arith, append_assoc, append-nil, length-append, ◌⊎◌, inl, inr, get_or}
+use Rattle.std.proofs.Common.{◌≡◌, ◌<◌, ◌≤◌, ◌+◌, ◌∙◌, ◌++◌, ◌==◌, ◌||◌, ℕ, zero, suc, Bool, true, false, cond, List, [], ◌∷◌, length, map, refl, sym, ap, subst, arith, append_assoc, append-nil, length-append, ◌⊎◌, inl, inr}
 use Rattle.std.specs.Prelude.{ℤ, pos, ◌≤ℤ◌, ◌<ℤ◌, All, Option, Some, None, slice_get, if◌then◌else◌, nat_lt, int_lt, int_le}
 use Rattle.std.specs.List.{list_any, flat_map}
 use Rattle.std.proofs.lemmas.List.{map-append}
@@ -15,14 +15,13 @@ use Rattle.homeo_syntax.specs.declared.workload.ObjectDecl.{ObjectDecl}
 use Rattle.homeo_syntax.specs.Key.{words as syntax}
 use Rattle.homeo_syntax.specs.WellFormed.{Each, InSchedule, IsBelow, IsWellFormed}
 use Rattle.homeo_meaning.specs.Key.{words as meanings}
-use Rattle.homeo_meaning.specs.NameRules.{when, fault}
+use Rattle.homeo_meaning.specs.NameRules.{when}
 use Rattle.homeo_meaning.specs.TransactionRules.{each, each_from, is_in}
 use Rattle.homeo_meaning.specs.GlobalNames.{GlobalName, SitedCall, global_names, numbered_from, first_named, duplicate, scope_of, sited_calls}
-use Rattle.homeo_meaning.specs.CallRules.{times, call_count, call_faults, client_faults, scheduled, order_faults, is_short, end_fault, schedule_faults}
+use Rattle.homeo_meaning.specs.CallRules.{times, call_count, call_faults, client_faults, scheduled, is_short, end_fault, schedule_faults}
 use Rattle.homeo_meaning.specs.NumberRules.{object_faults, site_faults, site_count_faults, passes_limit, ground_calls, limit_faults}
 use Rattle.homeo_meaning.specs.Faults.{of_transaction, declared_faults, faults}
 use Rattle.homeo_meaning.proofs.FaultParts.{none_first, none_second, parts}
-use Rattle.homeo_meaning.specs.declared.call.Purpose.{Purpose}
 use Rattle.homeo_meaning.specs.declared.call.Purpose.TheVariants.{Steps}
 use Rattle.homeo_meaning.specs.Declarations.{place_of, place_from}
 use Rattle.homeo_meaning.specs.declared.rules.Fault.{Fault}
@@ -31,7 +30,7 @@ use Rattle.homeo_meaning.specs.declared.rules.Item.TheVariants as I
 use Rattle.homeo.specs.Key.{words}
 use Rattle.homeo.specs.Order.{client_names, order_of}
 use Rattle.homeo.specs.Scheduled.{IsWholeOrder, HasSites}
-use Rattle.homeo.proofs.Scheduling.{times-cons, times-snoc}
+use Rattle.homeo.proofs.Scheduling.{times-snoc}
 
 -- ---- lists of faults that are empty
 when_none : (b : Bool) (f : Fault) → when b (f ∷ []) ≡ [] → b ≡ false
@@ -343,11 +342,11 @@ pub whole_order : (w : s.Workload) → IsWellFormed w → faults Steps w ≡ [] 
 whole_order w formed none =
     let all = parts Steps w none in
     record {
-      named = named_in w w.schedule all.schedule;
+      named = named_in w w.schedule all.text.schedule;
       known = known_in (IsBelow (length w.names)) w.schedule formed.named.schedule;
-      placed = λ k c found. (client_known w k c all.names found).0;
-      whole = λ k c found. whole_in w w.schedule k c all.schedule found (client_known w k c all.names found).1;
-      few = (few w all.limits).clients;
+      placed = λ k c found. (client_known w k c all.text.names found).0;
+      whole = λ k c found. whole_in w w.schedule k c all.text.schedule found (client_known w k c all.text.names found).1;
+      few = (few w all.text.limits).clients;
     }
 
 -- ---- the sites
@@ -381,4 +380,4 @@ clients_in w none =
 pub has_sites : (w : s.Workload) → IsWellFormed w → faults Steps w ≡ [] → HasSites w
 has_sites w formed none =
     let all = parts Steps w none in
-    record { few = few_sites w.sites (few w all.limits).sites; clients = sited w w.clients (clients_in w all.declared) formed.sites }
+    record { few = few_sites w.sites (few w all.text.limits).sites; clients = sited w w.clients (clients_in w all.text.declared) formed.sites }

@@ -1,5 +1,5 @@
 -- A text is not both accepted and refused, and what a source told is what it gave.
-use Rattle.std.proofs.Common.{◌≡◌, ◌≤◌, ◌+◌, ◌∙◌, ◌++◌, ℕ, List, [], Some, None, IsErrOf, Err, length, sym, ap, subst, arith, append-nil, length-append, inl, inr}
+use Rattle.std.proofs.Common.{◌≡◌, ◌≤◌, ◌+◌, ◌∙◌, ◌++◌, ℕ, List, [], Some, None, length, sym, ap, subst, arith, append-nil, length-append, inl, inr}
 use Rattle.std.specs.declared.option.Option.{Option}
 use Rattle.homeo_io.specs.Moved.{Gave, GaveAll}
 use Rattle.homeo_syntax.specs.declared.workload.Refusal.{Refusal}
@@ -12,8 +12,7 @@ use Rattle.homeo_meaning.specs.declared.rules.Fault.{Fault}
 use Rattle.homeo_meaning.specs.Faults.{faults, IsFaultIn, IsRefusedBy}
 use Rattle.homeo_meaning.specs.Key.{words as meanings}
 use Rattle.homeo_meaning.specs.Verdict.{Accepts, IsRefused, text_limit}
-use Rattle.homeo.specs.Outcome.{IsOutputOf, IsReportOf, IsRefusedAt, TellsRefused, TellsAccepted}
-use Rattle.homeo.specs.declared.top.Stop.TheVariants as Stop
+use Rattle.homeo.specs.Outcome.{IsOutputOf, IsRefusedAt, TellsRefused, TellsAccepted}
 
 -- no fault is in an empty list
 none_there : (all : List Fault) (f : Fault) → all ≡ [] → IsFaultIn f all → ⊥

@@ -1,6 +1,6 @@
 -- The calls of a schedule that names each client as often as it has calls are all calls of each client, in order.
-use Rattle.std.proofs.Common.{◌≡◌, ◌<◌, ◌≤◌, ◌+◌, ◌-◌, ◌^◌, ◌∙◌, ◌++◌, ◌==◌, ℕ, zero, suc, Bool, true, false, cond, List, [], ◌∷◌, length, map, filter, take, drop, get_or, refl, sym, ap, subst, arith, add-one, add-zero, append_assoc, append-nil, drop_of_length-le}
-use Rattle.std.specs.Prelude.{count_by, All, Option, Some, None, slice_get, slice_index, slice_set}
+use Rattle.std.proofs.Common.{◌≡◌, ◌<◌, ◌≤◌, ◌+◌, ◌-◌, ◌^◌, ◌∙◌, ◌++◌, ◌==◌, ℕ, zero, suc, Bool, true, false, cond, List, [], ◌∷◌, length, map, filter, take, drop, get_or, refl, sym, ap, subst, arith, add-zero, append_assoc, append-nil, drop_of_length-le}
+use Rattle.std.specs.Prelude.{All, Option, Some, None, slice_get, slice_index, slice_set}
 use Rattle.std.specs.Option.{option_map_or}
 use Rattle.std.specs.List.{range_with_len}
 use Rattle.std.proofs.lemmas.List.Sums.{sum_by-cons, sum_by-append, count_by-le-length}

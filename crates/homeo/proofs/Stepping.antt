@@ -1,5 +1,5 @@
 -- The history that one call after another makes, in the order of a schedule.
-use Rattle.std.proofs.Common.{◌≡◌, ◌<◌, ◌≤◌, ◌+◌, ◌∙◌, ◌++◌, ◌==◌, ℕ, suc, Bool, true, cond, List, [], ◌∷◌, length, map, get_or, refl, sym, ap, subst, arith, append_assoc, ◌⊎◌, inl, inr, drop}
+use Rattle.std.proofs.Common.{◌≡◌, ◌<◌, ◌≤◌, ◌+◌, ◌∙◌, ◌++◌, ◌==◌, ℕ, suc, Bool, cond, List, [], ◌∷◌, length, map, get_or, refl, sym, ap, subst, arith, append_assoc, ◌⊎◌, inl, inr, drop}
 use Rattle.std.proofs.lemmas.Grind.{common_steps}
 use Rattle.std.proofs.lemmas.Int.{ints}
 use Rattle.std.specs.Prelude.{ℤ, pos, negsuc, ◌≤ℤ◌, ◌<ℤ◌, All, Option, Some, None, IsSome, is_some, slice_get, unwrap_or}
@@ -14,7 +14,7 @@ use Rattle.homeo_syntax.specs.declared.phrase.Ident.{Ident}
 use Rattle.homeo_meaning.specs.declared.call.CallId.{CallId}
 use Rattle.homeo_meaning.specs.Initial.{initial}
 use Rattle.homeo_meaning.specs.Schema.{nat_of}
-use Rattle.homeo_meaning.specs.Serial.{serial, call_of, call_outcome, numbered}
+use Rattle.homeo_meaning.specs.Serial.{serial, call_outcome, numbered}
 use Rattle.homeo_meaning.specs.Calls.{CallExists}
 use Rattle.homeo_meaning.specs.CallRules.{times}
 use Rattle.homeo_meaning.specs.Declarations.{place_of}

@@ -1,4 +1,3 @@
-use Rattle.std.proofs.Common.{◌≡◌, map, take, ◌∙◌, ap}
 use Rattle.std.proofs.lemmas.Grind.{common_steps}
 use Rattle.std.proofs.Common.{arith}
 use Rattle.homeo_syntax.proofs.SourceViews.{workload_views}

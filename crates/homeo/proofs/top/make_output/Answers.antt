@@ -1,4 +1,4 @@
-use Rattle.std.proofs.Common.{ap, Err, refl}
+use Rattle.std.proofs.Common.{ap, Err}
 use Rattle.homeo.proofs.Decided.{refuses_long}
 use Rattle.homeo.proofs.top.make_output.Goals as goal
 

@@ -1,4 +1,4 @@
-use Rattle.std.proofs.Common.{◌≡◌, ◌∙◌, ℕ, IsErrOf, Err, sym, ap, subst}
+use Rattle.std.proofs.Common.{◌≡◌, ◌∙◌, IsErrOf, Err, sym, ap, subst}
 use Rattle.homeo_syntax.specs.declared.workload.Refusal.{Refusal}
 use Rattle.homeo_syntax.specs.Reads.{IsUnread}
 use Rattle.homeo_meaning.specs.declared.call.Purpose.TheVariants.{Steps}

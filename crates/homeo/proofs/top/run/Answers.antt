@@ -1,4 +1,4 @@
-use Rattle.std.proofs.Common.{◌≡◌, ◌⊎◌, ℕ, ap, Err, refl, inr}
+use Rattle.std.proofs.Common.{◌≡◌, ◌⊎◌, ap, Err, refl, inr}
 use Rattle.homeo_syntax.specs.declared.workload.Refusal.{Refusal as AnyRefusal}
 use Rattle.homeo.specs.declared.status.Status.{Status as AnyStatus}
 use Rattle.homeo.specs.declared.status.Status.TheVariants as Status
