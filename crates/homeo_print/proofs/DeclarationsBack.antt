@@ -1,0 +1,125 @@
+-- Declarations and whole workloads are spelled again by what is printed for them.
+use Rattle.std.proofs.Common.{◌≡◌, ℕ, zero, suc, ℤ, pos, Bool, true, List, [], ◌∷◌, ◌++◌, refl, sym, ap, ◌∙◌, inl, inr}
+use Rattle.std.specs.Prelude.{◌&&◌, None, neg_ℤ}
+use Rattle.std.proofs.lemmas.Bool.{eq-eqb}
+use Rattle.homeo_syntax.specs.declared.token.Mark.TheVariants as mark
+use Rattle.homeo_syntax.specs.declared.token.Kind.{Kind}
+use Rattle.homeo_syntax.specs.declared.token.Kind.TheVariants as kind
+use Rattle.homeo_syntax.specs.declared.token.Token.{Token}
+use Rattle.homeo_syntax.specs.declared.phrase.Number.{Number}
+use Rattle.homeo_syntax.specs.Grammar.{alt, seq, as_value, Means}
+use Rattle.homeo_syntax.specs.Rules as rules
+use Rattle.homeo_syntax.specs.Rules.{Rule, rule, value_in, number_at, minus_number, offset_of}
+use Rattle.homeo_print.specs.Key.{words}
+use Rattle.homeo_print.specs.TokensOf.{Kinds, value_of, number_of, object_kinds, decl_kinds, transaction_kinds, call_kinds, client_kinds, schedule_kinds, workload_kinds}
+use Rattle.homeo_print.specs.Offsets.{number_without, object_without, decl_without, transaction_without, call_without, client_without, schedule_without, without_offsets}
+use Rattle.homeo_print.proofs.Atoms.{kinds_of, atoms, mark_skipped, number_taken, value_taken, mark_taken}
+use Rattle.homeo_print.proofs.Claims.{Meaning, Claim, Back, claim_token, claim_seq, claim_as, claim_left, claim_right, claim_part, claim_kinds, back_offset, back_seq, back_as, back_alt, back_part, back_nothing, back_lead, back_closed, back_many, back_separated}
+use Rattle.homeo_print.proofs.ExpressionsBack.{back_ident}
+use Rattle.homeo_print.proofs.PhrasesBack.{back_block}
+
+-- ---- numbers
+abbrev bare_number : ℤ → Number
+bare_number n = record { value = n; offset = 0 }
+
+-- a claim of a value that is the same apart from offsets
+claim_same : {M : Meaning} {A : Type 0} {g : Rule A} {w : A → A} {a b : A} {ks : Kinds} {ts : List Token} → w a ≡ w b → Claim M g w a ks ts → Claim M g w b ks ts
+claim_same e c = record {
+  same_atoms = c.same_atoms;
+  again = λ us i. let x = c.again us i in record { value = x.value; spells = x.spells; same = x.same ∙ e };
+}
+
+claim_number : {M : Meaning} → (n : ℕ) (ts : List Token) → atoms (kind.Number (pos n) ∷ []) ≡ atoms (kinds_of ts) → Claim M rules.number number_without (bare_number (pos n)) (kind.Number (pos n) ∷ []) ts
+unfolding words
+claim_number n ts e = claim_token _ _ _ _ number_without (bare_number (pos n)) (kind.Number (pos n)) ts refl (λ u h. ap (λ (k : Kind). bare_number (value_in k)) h) e
+
+pub back_number : {M : Meaning} → Back M rules.number number_without number_of
+unfolding words
+back_number {M} = record {
+  of = λ a ts x f.
+      let k = number_taken x.0.kind x.2 in
+      let value : pos k.size ≡ a.value = ap value_in (sym k.is) ∙ sym (ap (λ (n : Number). n.value) x.3) in
+      let same : atoms (kind.Number (pos k.size) ∷ []) ≡ atoms (kinds_of ts) = ap (λ (k : Kind). atoms (k ∷ [])) (sym k.is) ∙ sym (ap (λ (z : List Token). atoms (kinds_of z)) x.1) in
+      claim_same (ap bare_number value) (claim_kinds (ap value_of value) (claim_number k.size ts same));
+}
+
+abbrev minus_rule : Rule Number
+minus_rule = as_value (λ p. minus_number p.0 p.1) (seq (offset_of mark.Minus) rules.number)
+
+claim_minus : {M : Meaning} → (n : ℕ) (ts : List Token) → atoms (kind.Number (pos n) ∷ []) ≡ atoms (kinds_of ts) → Claim M (alt rules.number minus_rule) number_without (bare_number (neg_ℤ (pos n))) (value_of (neg_ℤ (pos n))) ts
+unfolding words
+claim_minus zero ts e = claim_left minus_rule (claim_number 0 ts e)
+claim_minus (suc n) ts e =
+    let o = claim_token _ _ _ _ (λ (o : ℕ). 0) 0 (kind.Fixed mark.Minus) [] (mark_taken mark.Minus (kind.Fixed mark.Minus) refl) (λ u h. refl) refl in
+    claim_right rules.number (claim_as (λ p. minus_number p.0 p.1) number_without (λ x. refl) (claim_seq o (claim_number (suc n) ts e)))
+
+pub back_signed : {M : Meaning} → Back M rules.signed number_without number_of
+unfolding words
+back_signed {M} = record {
+  of = λ a ts x f. elim x [
+    | inl l ↦ claim_part (claim_left minus_rule (back_number.of a ts l f))
+    | inr r ↦
+        let k = number_taken r.1.4.0.kind r.1.4.2 in
+        let value : neg_ℤ (pos k.size) ≡ a.value = ap (λ (k : Kind). neg_ℤ (value_in k)) (sym k.is) ∙ sym (ap (λ (n : Number). neg_ℤ n.value) r.1.4.3) ∙ sym (ap (λ (n : Number). n.value) r.2) in
+        let same : atoms (kind.Number (pos k.size) ∷ []) ≡ atoms (kinds_of ts) =
+        ap (λ (k : Kind). atoms (k ∷ [])) (sym k.is)
+        ∙ sym (ap (λ (z : List Token). atoms (kinds_of z)) r.1.2 ∙ ap (λ (z : List Token). atoms (kinds_of (z ++ r.1.1))) r.1.3.1 ∙ mark_skipped mark.Minus r.1.3.0.kind (kinds_of r.1.1) r.1.3.2 ∙ ap (λ (z : List Token). atoms (kinds_of z)) r.1.4.1) in
+        claim_part (claim_same (ap bare_number value) (claim_kinds (ap value_of value) (claim_minus k.size ts same)))
+  ];
+}
+
+back_value : {M : Meaning} → (n : ℕ) → Back M (rules.number_is n) (λ u. u) (λ u. kind.Number (pos n) ∷ [])
+back_value n = record {
+  of = λ a ts x f. claim_token _ _ _ _ (λ u. u) a (kind.Number (pos n)) ts (ap (λ (b : Bool). true && b) (eq-eqb n n refl)) (λ u e. refl)
+      (ap (λ (k : Kind). atoms (k ∷ [])) (sym (value_taken n x.0.kind x.2)) ∙ sym (ap (λ (z : List Token). atoms (kinds_of z)) x.1));
+}
+
+back_lead_number : {M : Meaning} {A : Type 0} {g : Rule A} {w : A → A} {p : A → Kinds} → (n : ℕ) → Back M g w p → Back M (rules.lead_number n g) w (λ a. kind.Number (pos n) ∷ p a)
+back_lead_number {w = w} {p = p} n x = back_as (λ p. p.1) w (λ a. kind.Number (pos n) ∷ p a) (λ x. refl) (λ x. refl) (back_seq (back_value n) x)
+
+-- ---- declarations
+back_range : {M : Meaning} → Back M rules.range (λ p. (number_without p.0, number_without p.1)) (λ p. number_of p.0 ++ kind.Fixed mark.Dots ∷ number_of p.1)
+back_range = back_part (back_seq back_signed (back_lead mark.Dots back_signed))
+
+back_object : {M : Meaning} → Back M rules.object object_without object_kinds
+unfolding words
+back_object = back_part (back_as _ object_without object_kinds (λ x. refl) (λ x. refl) (back_lead mark.Object (back_seq back_ident (back_lead mark.In (back_seq back_range (back_lead mark.Equal back_signed))))))
+
+back_decl : {M : Meaning} → Back M rules.decl decl_without decl_kinds
+unfolding words
+back_decl = back_part (back_as _ decl_without decl_kinds (λ x. refl) (λ x. refl) (back_seq back_ident (back_lead mark.In back_range)))
+
+back_transaction : (n : ℕ) → Back (Means rule n) rules.transaction transaction_without transaction_kinds
+unfolding words
+back_transaction n =
+    back_part (back_as _ transaction_without transaction_kinds (λ x. refl) (λ x. refl)
+    (back_lead mark.Transaction (back_seq back_ident (back_lead mark.Open (back_seq (back_closed mark.Close (back_part (back_separated mark.Comma back_decl))) (back_block n))))))
+
+back_invocation : {M : Meaning} → Back M rules.invocation call_without call_kinds
+unfolding words
+back_invocation =
+    back_part (back_as _ call_without call_kinds (λ x. refl) (λ x. refl) (back_seq back_ident (back_lead mark.Open (back_closed mark.Close (back_part (back_separated mark.Comma back_signed))))))
+
+back_client : {M : Meaning} → Back M rules.client client_without client_kinds
+unfolding words
+back_client =
+    back_part (back_as _ client_without client_kinds (λ x. refl) (λ x. refl)
+    (back_lead mark.Client (back_seq back_ident (back_lead mark.At (back_seq back_number
+    (back_part (back_lead mark.OpenBrace (back_closed mark.CloseBrace (back_part (back_separated mark.Semicolon back_invocation))))))))))
+
+back_schedule : {M : Meaning} → Back M rules.schedule schedule_without schedule_kinds
+unfolding words
+back_schedule =
+    back_part (back_alt
+    (back_as _ schedule_without schedule_kinds (λ x. refl) (λ x. refl) (back_lead mark.Schedule (back_many back_ident)))
+    (back_nothing None schedule_without schedule_kinds refl))
+
+back_head : {M : Meaning} → Back M rules.head number_without (λ n. kind.Fixed mark.Workload ∷ kind.Number (pos 1) ∷ kind.Fixed mark.Sites ∷ number_of n)
+back_head = back_part (back_lead mark.Workload (back_lead_number 1 (back_lead mark.Sites back_number)))
+
+-- Each workload is spelled again by what is printed for it.
+pub back_workload : (n : ℕ) (names : List (List ℕ)) → Back (Means rule n) (rules.workload names) without_offsets workload_kinds
+unfolding words
+back_workload n names =
+    back_as _ without_offsets workload_kinds (λ x. refl) (λ x. refl)
+    (back_seq back_head (back_seq (back_many back_object) (back_seq (back_many (back_transaction n)) (back_seq (back_many back_client) (back_seq back_schedule (back_offset mark.End))))))

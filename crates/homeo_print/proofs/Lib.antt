@@ -1,0 +1,17 @@
+pub mod Atoms
+pub mod Behind
+pub mod Claims
+pub mod CommandSteps
+pub mod DeclarationSteps
+pub mod DeclarationsBack
+pub mod Deeper
+pub mod ExpressionsBack
+pub mod Laying
+pub mod Lexing
+pub mod Listed
+pub mod Numbered
+pub mod PhraseSteps
+pub mod PhrasesBack
+pub mod ReadingBack
+pub mod Scanning
+pub mod Spelled

@@ -1,0 +1,211 @@
+-- Lexemes and the tokens with their names as places: each way, and the names that they have.
+use Rattle.std.proofs.Common.{◌≡◌, ◌<◌, ℕ, suc, ◌+◌, Bool, true, false, cond, List, [], ◌∷◌, ◌++◌, length, get_or, map, refl, sym, ap, subst, ◌∙◌, arith}
+use Rattle.std.specs.Prelude.{◌||◌, not, if◌then◌else◌}
+use Rattle.std.specs.List.{list_any}
+use Rattle.std.specs.Str.{bytes_eq}
+use Rattle.std.proofs.lemmas.Slice.Eq.{bytes_eq-Decides}
+use Rattle.homeo_syntax.specs.Key.{words as syntax_words}
+use Rattle.homeo_syntax.specs.declared.token.Mark.{Mark}
+use Rattle.homeo_syntax.specs.declared.token.Kind.{Kind}
+use Rattle.homeo_syntax.specs.declared.token.Kind.TheVariants as kind
+use Rattle.homeo_syntax.specs.declared.token.Token.{Token}
+use Rattle.homeo_syntax.specs.Lexemes.{Lexeme, Name, Number, Fixed}
+use Rattle.homeo_syntax.specs.Tokens.{Scanned, with_name, with_lexeme, names_after, names_of, place_of, kind_in, tokens_in}
+use Rattle.homeo_syntax.specs.Rules.{is_natural_value}
+use Rattle.homeo_syntax.specs.WellFormed.{IsName, Each}
+use Rattle.homeo_print.specs.Printed.{lexeme_in, CanStand}
+use Rattle.homeo_print.proofs.Atoms.{kinds_of, with_atom, atoms, Natural, Fine}
+use Rattle.homeo_print.proofs.Spelled.{LexemeOk, ScannedOk}
+
+-- ---- each name of a text is among its names
+differ : true ≡ false → ⊥
+differ e = cc
+
+bytes_same : (w : List ℕ) → bytes_eq w w ≡ true
+bytes_same w = (bytes_eq-Decides w w).1 refl
+
+or_later : (b c : Bool) → c ≡ true → (b || c) ≡ true
+or_later true c h = refl
+or_later false c h = h
+
+any_last : (w : List ℕ) (names : List (List ℕ)) → list_any (bytes_eq w) (names ++ w ∷ []) ≡ true
+any_last w [] = ap (λ (b : Bool). b || false) (bytes_same w)
+any_last w (n ∷ names) = or_later (bytes_eq w n) _ (any_last w names)
+
+or_more : (b c d : Bool) → (b || c) ≡ true → (c ≡ true → d ≡ true) → (b || d) ≡ true
+or_more true c d h k = refl
+or_more false c d h k = k h
+
+any_more : (w : List ℕ) (names more : List (List ℕ)) → list_any (bytes_eq w) names ≡ true → list_any (bytes_eq w) (names ++ more) ≡ true
+any_more w [] more h = absurd (differ (sym h))
+any_more w (n ∷ names) more h = or_more (bytes_eq w n) (list_any (bytes_eq w) names) _ h (λ e. any_more w names more e)
+
+any_put : (names : List (List ℕ)) (w : List ℕ) → list_any (bytes_eq w) (with_name names w) ≡ true
+any_put names w = go (list_any (bytes_eq w) names) refl
+  where
+    go : (b : Bool) → list_any (bytes_eq w) names ≡ b → list_any (bytes_eq w) (if b then names else names ++ w ∷ []) ≡ true
+    go true e = e
+    go false e = any_last w names
+
+any_name : (w v : List ℕ) (names : List (List ℕ)) → list_any (bytes_eq w) names ≡ true → list_any (bytes_eq w) (with_name names v) ≡ true
+any_name w v names h = go (list_any (bytes_eq v) names)
+  where
+    go : (b : Bool) → list_any (bytes_eq w) (if b then names else names ++ v ∷ []) ≡ true
+    go true = h
+    go false = any_more w names (v ∷ []) h
+
+any_lexeme : (w : List ℕ) (l : Lexeme) (names : List (List ℕ)) → list_any (bytes_eq w) names ≡ true → list_any (bytes_eq w) (with_lexeme names l) ≡ true
+any_lexeme w (Name v) names h = any_name w v names h
+any_lexeme w (Number n) names h = h
+any_lexeme w (Fixed m) names h = h
+
+any_after : (w : List ℕ) (ts : List Scanned) (names : List (List ℕ)) → list_any (bytes_eq w) names ≡ true → list_any (bytes_eq w) (names_after names ts) ≡ true
+any_after w [] names h = h
+any_after w (t ∷ ts) names h = any_after w ts (with_lexeme names t.lexeme) (any_lexeme w t.lexeme names h)
+
+abbrev InAll : List (List ℕ) → Lexeme → Type 0
+InAll all (Name w) = list_any (bytes_eq w) all ≡ true
+InAll all (Number n) = Unit {0}
+InAll all (Fixed m) = Unit {0}
+
+abbrev AllIn : List (List ℕ) → List Scanned → Type 0
+AllIn all [] = Unit {0}
+AllIn all (t ∷ ts) = InAll all t.lexeme × AllIn all ts
+
+among : (l : Lexeme) (ts : List Scanned) (names : List (List ℕ)) → InAll (names_after (with_lexeme names l) ts) l
+among (Name w) ts names = any_after w ts (with_name names w) (any_put names w)
+among (Number n) ts names = tt
+among (Fixed m) ts names = tt
+
+all_among : (ts : List Scanned) (names : List (List ℕ)) → AllIn (names_after names ts) ts
+all_among [] names = tt
+all_among (t ∷ ts) names = (among t.lexeme ts names, all_among ts (with_lexeme names t.lexeme))
+
+-- ---- places
+below_more : (b c : Bool) (m n : ℕ) → (b || c) ≡ true → (c ≡ true → m < n) → cond (not b) (1 + m) 0 < suc n
+below_more true c m n h k = omega arith
+below_more false c m n h k = let less = k h in omega arith
+
+place_below : (w : List ℕ) (names : List (List ℕ)) → list_any (bytes_eq w) names ≡ true → place_of names w < length names
+place_below w [] h = absurd (differ (sym h))
+place_below w (n ∷ names) h = below_more (bytes_eq w n) (list_any (bytes_eq w) names) (place_of names w) (length names) h (λ e. place_below w names e)
+
+found_there : (w n : List ℕ) (names : List (List ℕ)) (b c : Bool) (m : ℕ) → bytes_eq w n ≡ b → (b || c) ≡ true → (c ≡ true → get_or names m [] ≡ w) → get_or (n ∷ names) (cond (not b) (1 + m) 0) [] ≡ w
+found_there w n names true c m e h k = sym ((bytes_eq-Decides w n).0 e)
+found_there w n names false c m e h k = let more : 1 + m ≡ suc m = omega arith in ap (λ (i : ℕ). get_or (n ∷ names) i []) more ∙ k h
+
+-- what stands at the place of a name is the name
+at_place : (w : List ℕ) (names : List (List ℕ)) → list_any (bytes_eq w) names ≡ true → get_or names (place_of names w) [] ≡ w
+at_place w [] h = absurd (differ (sym h))
+at_place w (n ∷ names) h = found_there w n names (bytes_eq w n) (list_any (bytes_eq w) names) (place_of names w) refl h (λ e. at_place w names e)
+
+-- ---- lexemes and kinds
+pub lexeme_again : (names : List (List ℕ)) (l : Lexeme) → InAll names l → lexeme_in names (kind_in names l) ≡ l
+lexeme_again names (Name w) h = ap (λ (w : List ℕ). Name w) (at_place w names h)
+lexeme_again names (Number n) h = refl
+lexeme_again names (Fixed m) h = refl
+
+-- a token whose lexeme has it as its kind, and that can stand in a text
+pub record Stands (names : List (List ℕ)) (k : Kind) : Type 0 where
+  pub again : kind_in names (lexeme_in names k) ≡ k
+  pub can : CanStand names k
+
+lexeme_stands : (names : List (List ℕ)) (l : Lexeme) → InAll names l → LexemeOk l → CanStand names (kind_in names l)
+lexeme_stands names (Name w) h k = (place_below w names h, subst IsName (sym (at_place w names h)) k)
+lexeme_stands names (Number n) h k = k
+lexeme_stands names (Fixed m) h k = tt
+
+pub mark_stands : (names : List (List ℕ)) (m : Mark) → Stands names (kind.Fixed m)
+mark_stands names m = record { again = refl; can = tt }
+
+each_stands : (names : List (List ℕ)) (ts : List Scanned) → AllIn names ts → ScannedOk ts → Each (Stands names) (kinds_of (tokens_in names ts))
+unfolding syntax_words
+each_stands names [] h k = tt
+each_stands names (t ∷ ts) h k =
+    (record { again = ap (kind_in names) (lexeme_again names t.lexeme h.0); can = lexeme_stands names t.lexeme h.0 k.0 }, each_stands names ts h.1 k.1)
+
+-- the tokens of a text
+pub text_stands : (ts : List Scanned) → ScannedOk ts → Each (Stands (names_of ts)) (kinds_of (tokens_in (names_of ts) ts))
+text_stands ts k = each_stands (names_of ts) ts (all_among ts []) k
+
+natural : (names : List (List ℕ)) (k : Kind) → CanStand names k → Natural k
+natural names (kind.Name n) h = tt
+natural names (kind.Number n) h = ap is_natural_value h.value
+natural names (kind.Fixed m) h = tt
+
+pub each_natural : (names : List (List ℕ)) (ts : List Token) → Each (Stands names) (kinds_of ts) → Fine ts
+unfolding syntax_words
+each_natural names [] h = tt
+each_natural names (t ∷ ts) h = (natural names t.kind h.0.can, each_natural names ts h.1)
+
+-- ---- a fact of each name and number, and so of each token
+atom_each : (P : Kind → Type 0) (k : Kind) (ks : List Kind) → P k → Each P ks → Each P (with_atom k ks)
+unfolding syntax_words
+atom_each P (kind.Name n) ks h r = (h, r)
+atom_each P (kind.Number n) ks h r = (h, r)
+atom_each P (kind.Fixed m) ks h r = r
+
+pub each_atom : (P : Kind → Type 0) (ks : List Kind) → Each P ks → Each P (atoms ks)
+unfolding syntax_words
+each_atom P [] h = tt
+each_atom P (k ∷ ks) h = atom_each P k (atoms ks) h.0 (each_atom P ks h.1)
+
+atom_parts : (P : Kind → Type 0) (k : Kind) (ks : List Kind) → ((m : Mark) → P (kind.Fixed m)) → Each P (with_atom k ks) → P k × Each P ks
+unfolding syntax_words
+atom_parts P (kind.Name n) ks m h = (h.0, h.1)
+atom_parts P (kind.Number n) ks m h = (h.0, h.1)
+atom_parts P (kind.Fixed f) ks m h = (m f, h)
+
+pub each_of_atoms : (P : Kind → Type 0) (ks : List Kind) → ((m : Mark) → P (kind.Fixed m)) → Each P (atoms ks) → Each P ks
+unfolding syntax_words
+each_of_atoms P [] m h = tt
+each_of_atoms P (k ∷ ks) m h =
+    let r = atom_parts P k (atoms ks) m h in
+    (r.0, each_of_atoms P ks m r.1)
+
+pub each_can : (names : List (List ℕ)) (ks : List Kind) → Each (Stands names) ks → Each (CanStand names) ks
+unfolding syntax_words
+each_can names [] h = tt
+each_can names (k ∷ ks) h = (h.0.can, each_can names ks h.1)
+
+pub kinds_again : (names : List (List ℕ)) (ks : List Kind) → Each (Stands names) ks → map (kind_in names) (map (lexeme_in names) ks) ≡ ks
+unfolding syntax_words
+kinds_again names [] h = refl
+kinds_again names (k ∷ ks) h = ap (λ (x : Kind). x ∷ map (kind_in names) (map (lexeme_in names) ks)) h.0.again ∙ ap (λ (x : List Kind). k ∷ x) (kinds_again names ks h.1)
+
+abbrev pub lexemes_of : List Scanned → List Lexeme
+lexemes_of ts = map (λ (t : Scanned). t.lexeme) ts
+
+pub kinds_are : (names : List (List ℕ)) (ts : List Scanned) → kinds_of (tokens_in names ts) ≡ map (kind_in names) (lexemes_of ts)
+kinds_are names [] = refl
+kinds_are names (t ∷ ts) = ap (λ (x : List Kind). kind_in names t.lexeme ∷ x) (kinds_are names ts)
+
+lexemes_again : (names : List (List ℕ)) (ts : List Scanned) → AllIn names ts → map (lexeme_in names) (kinds_of (tokens_in names ts)) ≡ lexemes_of ts
+lexemes_again names [] h = refl
+lexemes_again names (t ∷ ts) h = ap (λ (x : Lexeme). x ∷ map (lexeme_in names) (kinds_of (tokens_in names ts))) (lexeme_again names t.lexeme h.0) ∙ ap (λ (x : List Lexeme). t.lexeme ∷ x) (lexemes_again names ts h.1)
+
+-- ---- the names that lexemes have
+abbrev names_over : List (List ℕ) → List Lexeme → List (List ℕ)
+names_over names [] = names
+names_over names (l ∷ ls) = names_over (with_lexeme names l) ls
+
+over_is_after : (names : List (List ℕ)) (ts : List Scanned) → names_after names ts ≡ names_over names (lexemes_of ts)
+over_is_after names [] = refl
+over_is_after names (t ∷ ts) = over_is_after (with_lexeme names t.lexeme) ts
+
+over_atom : (all names : List (List ℕ)) (k : Kind) (ks : List Kind) → names_over names (map (lexeme_in all) (with_atom k ks)) ≡ names_over (with_lexeme names (lexeme_in all k)) (map (lexeme_in all) ks)
+over_atom all names (kind.Name n) ks = refl
+over_atom all names (kind.Number n) ks = refl
+over_atom all names (kind.Fixed m) ks = refl
+
+over_atoms : (all names : List (List ℕ)) (ks : List Kind) → names_over names (map (lexeme_in all) (atoms ks)) ≡ names_over names (map (lexeme_in all) ks)
+over_atoms all names [] = refl
+over_atoms all names (k ∷ ks) = over_atom all names k (atoms ks) ∙ over_atoms all (with_lexeme names (lexeme_in all k)) ks
+
+-- Lexemes of tokens with the names and numbers of a text's tokens have the text's names.
+pub names_again : (scanned others : List Scanned) (ks : List Kind) → atoms ks ≡ atoms (kinds_of (tokens_in (names_of scanned) scanned)) → lexemes_of others ≡ map (lexeme_in (names_of scanned)) ks → names_of others ≡ names_of scanned
+names_again scanned others ks same e =
+    let all = names_of scanned in
+    over_is_after [] others ∙ ap (names_over []) e ∙ sym (over_atoms all [] ks)
+    ∙ ap (λ (x : List Kind). names_over [] (map (lexeme_in all) x)) same ∙ over_atoms all [] (kinds_of (tokens_in all scanned))
+    ∙ ap (names_over []) (lexemes_again all scanned (all_among scanned [])) ∙ sym (over_is_after [] scanned)

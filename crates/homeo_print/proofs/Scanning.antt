@@ -1,0 +1,243 @@
+-- The text of tokens is read as these tokens.
+use Rattle.std.proofs.Common.{◌≡◌, ℕ, ◌+◌, ◌-◌, ◌^◌, ◌<◌, Bool, true, false, List, [], ◌∷◌, ◌++◌, length, map, refl, sym, ap, subst, ◌∙◌, arith}
+use Rattle.std.specs.Prelude.{Some, Ok, if◌then◌else◌, ◌||◌, ◌&&◌, ◌==◌, not, ℤ, decimal, unsigned_abs, get_or, nat_le}
+use Rattle.std.specs.List.{list_all}
+use Rattle.std.proofs.lemmas.List.Folds.{list_all-append}
+use Rattle.std.proofs.lemmas.Bool.Decides.{nat_tests}
+use Rattle.homeo_syntax.specs.declared.token.Mark.{Mark}
+use Rattle.homeo_syntax.specs.declared.token.Mark.TheVariants as mark
+use Rattle.homeo_syntax.specs.declared.token.Kind.{Kind}
+use Rattle.homeo_syntax.specs.declared.token.Kind.TheVariants as kind
+use Rattle.homeo_syntax.specs.Key.{words as syntax}
+use Rattle.homeo_syntax.specs.Source as s
+use Rattle.homeo_syntax.specs.Lexemes.{is_space, is_letter, is_digit, is_word, lexeme_of}
+use Rattle.homeo_syntax.specs.Tokens.{is_good, Scanned, in_front, found, scanned_from}
+use Rattle.homeo_syntax.specs.WellFormed.{IsName, Each}
+use Rattle.homeo_print.specs.declared.layout.Sort.{Sort}
+use Rattle.homeo_print.specs.declared.layout.Sort.TheVariants as sort
+use Rattle.homeo_print.specs.declared.layout.Before.{Before}
+use Rattle.homeo_print.specs.declared.layout.Before.TheVariants as before
+use Rattle.homeo_print.specs.Key.{words}
+use Rattle.homeo_print.specs.TokensOf.{workload_kinds}
+use Rattle.homeo_print.specs.Printed.{lexeme_in, CanStand, IsPrintable, ScansAs}
+use Rattle.homeo_print.specs.Layout.{mark_text, token_text, mark_sort, sort_of, gap, after, laid}
+use Rattle.homeo_print.specs.Print.{print}
+use Rattle.homeo_print.proofs.Lexing.{glues, BeginsWithout, BeginsWithDigit, Spells, and_first, and_second, digits_spell, token_lexes}
+
+-- ---- the bytes of a token
+-- the bytes begin with one that passes the test
+abbrev BeginsWith : (ℕ → Bool) → List ℕ → Type 0
+BeginsWith p [] = ⊥
+BeginsWith p (x ∷ xs) = p x ≡ true
+
+abbrev no_space : ℕ → Bool
+no_space x = not (is_space x)
+
+not_space : (b : Bool) → not b ≡ true → b ≡ false
+not_space true h = let no : ⊥ = cc in absurd no
+not_space false h = refl
+
+letter_no_space : (x : ℕ) → is_letter x ≡ true → not (is_space x) ≡ true
+letter_no_space x h = grind (arith, nat_tests)
+
+letter_no_dot : (x : ℕ) → is_letter x ≡ true → (x == 46) ≡ false
+letter_no_dot x h = grind (arith, nat_tests)
+
+digit_no_space : (x : ℕ) → is_digit x ≡ true → not (is_space x) ≡ true
+digit_no_space x h = grind (arith, nat_tests)
+
+word_good : (x : ℕ) → is_word x ≡ true → is_good x ≡ true
+word_good x h = grind (arith, nat_tests)
+
+digit_good : (x : ℕ) → is_digit x ≡ true → is_good x ≡ true
+digit_good x h = grind (arith, nat_tests)
+
+or_last : (a b : Bool) → b ≡ true → (a || b) ≡ true
+or_last true b h = refl
+or_last false b h = h
+
+space_good : (x : ℕ) → is_space x ≡ true → is_good x ≡ true
+space_good x h = or_last (nat_le 32 x && nat_le x 126) (is_space x) h
+
+both : (a b : Bool) → a ≡ true → b ≡ true → (a && b) ≡ true
+both true b h k = k
+both false b h k = let no : ⊥ = cc in absurd no
+
+all_pass : (p q : ℕ → Bool) → ((x : ℕ) → p x ≡ true → q x ≡ true) → (xs : List ℕ) → list_all p xs ≡ true → list_all q xs ≡ true
+all_pass p q f [] h = refl
+all_pass p q f (x ∷ xs) h = both (q x) (list_all q xs) (f x (and_first (p x) (list_all p xs) h)) (all_pass p q f xs (and_second (p x) (list_all p xs) h))
+
+name_begins : (w : List ℕ) → IsName w → BeginsWith no_space w
+name_begins [] name = name.first
+name_begins (x ∷ w) name = letter_no_space x name.first
+
+digits_begin : (ds : List ℕ) → BeginsWithDigit ds → BeginsWith no_space ds
+digits_begin [] h = h
+digits_begin (x ∷ ds) h = digit_no_space x h.1
+
+mark_begins : (m : Mark) → BeginsWith no_space (mark_text m)
+unfolding words
+mark_begins mark.Assign = refl
+mark_begins m = refl
+
+mark_good : (m : Mark) → list_all is_good (mark_text m) ≡ true
+unfolding words
+mark_good mark.Assign = refl
+mark_good m = refl
+
+short_spells : (n : ℕ) → n < 10 ^ 18 → Spells n (decimal n)
+short_spells n h = let fits : n < 2 ^ 64 = omega arith in digits_spell n fits
+
+token_begins : (names : List (List ℕ)) (k : Kind) → CanStand names k → BeginsWith no_space (token_text names k)
+unfolding words
+token_begins names (kind.Name n) can = name_begins (get_or names n []) can.1
+token_begins names (kind.Number n) can = subst (λ (z : ℤ). BeginsWith no_space (decimal (unsigned_abs z))) (sym can.value) (digits_begin (decimal can.size) (short_spells can.size can.short).first)
+token_begins names (kind.Fixed m) can = mark_begins m
+
+token_good : (names : List (List ℕ)) (k : Kind) → CanStand names k → list_all is_good (token_text names k) ≡ true
+unfolding words
+token_good names (kind.Name n) can = all_pass is_word is_good word_good (get_or names n []) can.1.all
+token_good names (kind.Number n) can = ap (λ (z : ℤ). list_all is_good (decimal (unsigned_abs z))) can.value ∙ all_pass is_digit is_good digit_good (decimal can.size) (short_spells can.size can.short).all
+token_good names (kind.Fixed m) can = mark_good m
+
+-- ---- gaps
+gap_space : (b : Before) (s : Sort) → list_all is_space (gap b s) ≡ true
+unfolding words
+gap_space before.Tight sort.Line = refl
+gap_space before.Tight s = refl
+gap_space before.Dot sort.Line = refl
+gap_space before.Dot s = refl
+gap_space before.Head sort.Line = refl
+gap_space before.Head s = refl
+gap_space before.End sort.Line = refl
+gap_space before.End s = refl
+gap_space before.Apart sort.Line = refl
+gap_space before.Apart s = refl
+
+-- ---- what stands behind a token doesn't go on with it
+never : (xs : List ℕ) → BeginsWithout (λ x. false) xs
+never [] = tt
+never (x ∷ xs) = refl
+
+name_no_dot : (w rest : List ℕ) → IsName w → BeginsWithout (λ x. x == 46) (w ++ rest)
+name_no_dot [] rest name = absurd name.first
+name_no_dot (x ∷ w) rest name = letter_no_dot x name.first
+
+clear_name : (b : Before) (w rest : List ℕ) → IsName w → BeginsWithout (glues b) (gap b sort.Name ++ (w ++ rest))
+unfolding words
+clear_name before.Tight w rest name = never (w ++ rest)
+clear_name before.Dot w rest name = name_no_dot w rest name
+clear_name before.Head w rest name = refl
+clear_name before.End w rest name = refl
+clear_name before.Apart w rest name = refl
+
+clear_number : (b : Before) (w rest : List ℕ) → BeginsWithout (glues b) (gap b sort.Number ++ (w ++ rest))
+unfolding words
+clear_number before.Tight w rest = never (w ++ rest)
+clear_number before.Dot w rest = refl
+clear_number before.Head w rest = refl
+clear_number before.End w rest = refl
+clear_number before.Apart w rest = refl
+
+clear_mark : (b : Before) (m : Mark) (rest : List ℕ) → BeginsWithout (glues b) (gap b (mark_sort m) ++ (mark_text m ++ rest))
+unfolding words
+clear_mark before.Tight mark.Assign rest = refl
+clear_mark before.Tight m rest = refl
+clear_mark before.Dot mark.Assign rest = refl
+clear_mark before.Dot m rest = refl
+clear_mark before.Head mark.Assign rest = refl
+clear_mark before.Head m rest = refl
+clear_mark before.End mark.Assign rest = refl
+clear_mark before.End m rest = refl
+clear_mark before.Apart mark.Assign rest = refl
+clear_mark before.Apart m rest = refl
+
+clear_token : (names : List (List ℕ)) (b : Before) (k : Kind) (rest : List ℕ) → CanStand names k → BeginsWithout (glues b) (gap b (sort_of k) ++ (token_text names k ++ rest))
+unfolding words
+clear_token names b (kind.Name n) rest can = clear_name b (get_or names n []) rest can.1
+clear_token names b (kind.Number n) rest can = clear_number b (decimal (unsigned_abs n)) rest
+clear_token names b (kind.Fixed m) rest can = clear_mark b m rest
+
+clear_end : (b : Before) → glues b 10 ≡ false
+clear_end before.Tight = refl
+clear_end before.Dot = refl
+clear_end before.Head = refl
+clear_end before.End = refl
+clear_end before.Apart = refl
+
+clear_laid : (names : List (List ℕ)) (b : Before) (ks : List Kind) → Each (CanStand names) ks → BeginsWithout (glues b) (laid names b ks)
+unfolding words syntax
+clear_laid names b [] can = clear_end b
+clear_laid names b (k ∷ ks) can = clear_token names b k (laid names (after b (sort_of k)) ks) can.0
+
+-- ---- no byte is bad
+laid_good : (names : List (List ℕ)) (b : Before) (ks : List Kind) → Each (CanStand names) ks → list_all is_good (laid names b ks) ≡ true
+unfolding words syntax
+laid_good names b [] can = refl
+laid_good names b (k ∷ ks) can =
+    let g = gap b (sort_of k) in
+    let w = token_text names k in
+    let rest = laid names (after b (sort_of k)) ks in
+    list_all-append is_good g (w ++ rest)
+    ∙ both (list_all is_good g) (list_all is_good (w ++ rest)) (all_pass is_space is_good space_good g (gap_space b (sort_of k)))
+    (list_all-append is_good w rest ∙ both (list_all is_good w) (list_all is_good rest) (token_good names k can.0) (laid_good names (after b (sort_of k)) ks can.1))
+
+-- ---- reading
+-- The text is read from an offset on as these tokens.
+record ReadFrom (names : List (List ℕ)) (ks : List Kind) (text : List ℕ) (at : ℕ) : Type 0 where
+  scanned : List Scanned
+  lexemes : scanned_from 0 at text ≡ Ok scanned
+  same : map (λ t. t.lexeme) scanned ≡ map (lexeme_in names) ks
+
+skip_word : (w rest : List ℕ) (at : ℕ) → scanned_from (length w) at (w ++ rest) ≡ scanned_from 0 (at + length w) rest
+unfolding scanned_from
+skip_word [] rest at = ap (λ a. scanned_from 0 a rest) (omega arith)
+skip_word (x ∷ w) rest at = skip_word w rest (at + 1) ∙ ap (λ a. scanned_from 0 a rest) (omega arith)
+
+spaces_read : (names : List (List ℕ)) (ks : List Kind) (g rest : List ℕ) → list_all is_space g ≡ true → ((at : ℕ) → ReadFrom names ks rest at) → (at : ℕ) → ReadFrom names ks (g ++ rest) at
+unfolding scanned_from
+spaces_read names ks [] rest spaces reads at = reads at
+spaces_read names ks (x ∷ g) rest spaces reads at =
+    let r = spaces_read names ks g rest (and_second (is_space x) (list_all is_space g) spaces) reads (at + 1) in
+    record {
+      scanned = r.scanned;
+      lexemes = ap (λ (b : Bool). if b then scanned_from 0 (at + 1) (g ++ rest) else found at (lexeme_of (x ∷ (g ++ rest))) (λ more. scanned_from more (at + 1) (g ++ rest))) (and_first (is_space x) (list_all is_space g) spaces) ∙ r.lexemes;
+      same = r.same;
+    }
+
+token_read : (names : List (List ℕ)) (k : Kind) (ks : List Kind) (w rest : List ℕ) → BeginsWith no_space w → lexeme_of (w ++ rest) ≡ Some (lexeme_in names k, length w) → ((at : ℕ) → ReadFrom names ks rest at) → (at : ℕ) → ReadFrom names (k ∷ ks) (w ++ rest) at
+unfolding scanned_from
+token_read names k ks [] rest begins lexes reads at = absurd begins
+token_read names k ks (x ∷ w) rest begins lexes reads at =
+    let r = reads (at + 1 + length w) in
+    let t : Scanned = record { lexeme = lexeme_in names k; offset = at } in
+    let shorter : length (x ∷ w) - 1 ≡ length w = omega arith in
+    record {
+      scanned = t ∷ r.scanned;
+      lexemes = ap (λ (b : Bool). if b then scanned_from 0 (at + 1) (w ++ rest) else found at (lexeme_of (x ∷ (w ++ rest))) (λ more. scanned_from more (at + 1) (w ++ rest))) (not_space (is_space x) begins)
+          ∙ ap (λ o. found at o (λ more. scanned_from more (at + 1) (w ++ rest))) lexes
+          ∙ ap (λ (n : ℕ). in_front t (scanned_from n (at + 1) (w ++ rest))) shorter
+          ∙ ap (in_front t) (skip_word w rest (at + 1) ∙ r.lexemes);
+      same = ap (λ l. lexeme_in names k ∷ l) r.same;
+    }
+
+laid_read : (names : List (List ℕ)) (b : Before) (ks : List Kind) → Each (CanStand names) ks → (at : ℕ) → ReadFrom names ks (laid names b ks) at
+unfolding words syntax scanned_from
+laid_read names b [] can at = record { scanned = []; lexemes = refl; same = refl }
+laid_read names b (k ∷ ks) can at =
+    let w = token_text names k in
+    let rest = laid names (after b (sort_of k)) ks in
+    spaces_read names (k ∷ ks) (gap b (sort_of k)) (w ++ rest) (gap_space b (sort_of k))
+    (token_read names k ks w rest (token_begins names k can.0) (token_lexes names b k rest can.0 (clear_laid names (after b (sort_of k)) ks can.1)) (laid_read names (after b (sort_of k)) ks can.1)) at
+
+-- ---- the whole text
+pub print_scans : (w : s.Workload) (text : List ℕ) → text ≡ print w → IsPrintable w → ScansAs w.names (workload_kinds w) text
+unfolding words
+print_scans w text is can =
+    let r = laid_read w.names before.Tight (workload_kinds w) can 0 in
+    record {
+      clean = ap (list_all is_good) is ∙ laid_good w.names before.Tight (workload_kinds w) can;
+      scanned = r.scanned;
+      lexemes = ap (scanned_from 0 0) is ∙ r.lexemes;
+      same = r.same;
+    }

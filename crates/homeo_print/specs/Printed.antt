@@ -1,0 +1,39 @@
+-- What a printed text is read as.
+use Rattle.std.specs.Prelude.{◌≡◌, ◌<◌, ◌^◌, ℕ, ℤ, pos, List, [], map, length, get_or, Ok}
+use Rattle.homeo_syntax.specs.declared.token.Kind.{Kind}
+use Rattle.homeo_syntax.specs.declared.token.Kind.TheVariants as kind
+use Rattle.homeo_syntax.specs.Source as s
+use Rattle.homeo_syntax.specs.Lexemes.{Lexeme, Name, Number, Fixed}
+use Rattle.homeo_syntax.specs.Tokens.{Scanned, IsClean, scanned_of}
+use Rattle.homeo_syntax.specs.WellFormed.{IsName, Each}
+use Rattle.homeo_print.specs.Key.{words}
+use Rattle.homeo_print.specs.TokensOf.{workload_kinds}
+
+-- a token as a lexeme, with each name as its bytes
+abbrev pub lexeme_in : List (List ℕ) → Kind → Lexeme
+lexeme_in names (kind.Name n) = Name (get_or names n [])
+lexeme_in names (kind.Number n) = Number n
+lexeme_in names (kind.Fixed m) = Fixed m
+
+-- no byte of the text is bad, and its lexemes are these tokens
+pub record ScansAs (names : List (List ℕ)) (ks : List Kind) (text : List ℕ) : Type 0 where
+  pub clean : IsClean text
+  pub scanned : List Scanned
+  pub lexemes : scanned_of text ≡ Ok scanned
+  pub same : map (λ t. t.lexeme) scanned ≡ map (lexeme_in names) ks
+
+-- a number of at most 18 digits, without a sign
+pub record IsShort (n : ℤ) : Type 0 where
+  pub size : ℕ
+  pub value : n ≡ pos size
+  pub short : size < 10 ^ 18
+
+-- a name among the names, that a text can have, and a number that a text can have
+abbrev pub CanStand : List (List ℕ) → Kind → Type 0
+CanStand names (kind.Name n) = (n < length names) × IsName (get_or names n [])
+CanStand names (kind.Number n) = IsShort n
+CanStand names (kind.Fixed m) = Unit {0}
+
+abbrev pub IsPrintable : s.Workload → Type 0
+unfolding words
+IsPrintable w = Each (CanStand w.names) (workload_kinds w)

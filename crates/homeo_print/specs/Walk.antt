@@ -1,0 +1,40 @@
+-- The tokens of phrases, as they are put one after another.
+use Rattle.std.specs.Prelude.{[], ◌∷◌}
+use Rattle.homeo_syntax.specs.declared.token.Mark.{Mark}
+use Rattle.homeo_syntax.specs.declared.token.Mark.TheVariants as mark
+use Rattle.homeo_syntax.specs.declared.token.Kind.TheVariants as kind
+use Rattle.homeo_syntax.specs.declared.phrase.Ident.{Ident}
+use Rattle.homeo_syntax.specs.Source as s
+use Rattle.homeo_print.specs.declared.phrases.Place.{Place}
+use Rattle.homeo_print.specs.declared.phrases.Place.TheVariants as place
+use Rattle.homeo_print.specs.Key.{words}
+use Rattle.homeo_print.specs.TokensOf.{Kinds, Level, Alone, AsTerm, AsFactor, expr_at}
+
+abbrev pub level_of : Place → Level
+unfolding words
+level_of place.Alone = Alone
+level_of place.AsTerm = AsTerm
+level_of place.AsFactor = AsFactor
+level_of place.Signed = AsTerm
+
+-- An expression at a place. Where its sign is put already, a negation is what it negates.
+abbrev pub expr_in : Place → s.Expr → Kinds
+unfolding words
+expr_in place.Signed (s.Neg e) = expr_at AsTerm e
+expr_in p e = expr_at (level_of p) e
+
+-- the sign of a term behind another
+abbrev pub sign_of : s.Expr → Mark
+unfolding words
+sign_of (s.Neg e) = mark.Minus
+sign_of e = mark.Plus
+
+-- row.field
+abbrev pub row_field : Ident → Ident → Kinds
+unfolding words
+row_field row field = kind.Name row.name ∷ kind.Fixed mark.Dot ∷ kind.Name field.name ∷ []
+
+-- of relation when
+abbrev pub chosen_of : Ident → Kinds
+unfolding words
+chosen_of relation = kind.Fixed mark.Of ∷ kind.Name relation.name ∷ kind.Fixed mark.When ∷ []

@@ -1,0 +1,292 @@
+//! Tokens as text.
+
+ghost use Rattle.std.specs.Prelude.{◌≡◌, [], ◌++◌, map, get_or, IfOk, OnOk};
+ghost use Rattle.homeo_print.specs.Pieces.{kind_of};
+ghost use Rattle.homeo_print.specs.Layout.{mark_text, token_text, mark_sort, sort_of, loose_gap, name_gap, opening_gap, dot_gap, gap, after_minus, after, printed};
+
+use crate::pieces::Piece;
+use homeo_syntax::{Mark, Memory, Text};
+use itoa::Buffer;
+use std::alloc::Global;
+
+/// How a token stands beside others.
+#[derive(Clone, Copy, Debug, PartialEq, Eq)]
+pub enum Sort {
+    /// A reserved word that begins a line.
+    Line,
+    /// A word or a symbol with a space at each side.
+    Word,
+    /// A word that parentheses follow.
+    Call,
+    Name,
+    Number,
+    Minus,
+    /// `(` or `[`
+    Opening,
+    /// `)` or `]`
+    Closing,
+    /// `,` or `;`
+    Comma,
+    /// `..`
+    Dots,
+    /// `.`
+    Dot,
+}
+
+/// What stands in front of the next token.
+#[derive(Clone, Copy, Debug, PartialEq, Eq)]
+pub enum Before {
+    /// Nothing, an opening bracket, `..` or a sign: what the next token follows at once.
+    Tight,
+    /// `.`
+    Dot,
+    /// A name or a word that parentheses follow.
+    Head,
+    /// A number or a closing bracket.
+    End,
+    /// Anything else.
+    Apart,
+}
+
+#[tactic(auto, unfolding(crate::specs::Key::words))]
+fn mark_text(mark: Mark) -> &'static [u8]
+    ensures text { result.now ≡ mark_text mark }
+{
+    match mark {
+        Mark::Assign => b":=",
+        Mark::Dots => b"..",
+        Mark::LessEqual => b"<=",
+        Mark::Less => b"<",
+        Mark::Equal => b"=",
+        Mark::Plus => b"+",
+        Mark::Minus => b"-",
+        Mark::Star => b"*",
+        Mark::Open => b"(",
+        Mark::Close => b")",
+        Mark::OpenBracket => b"[",
+        Mark::CloseBracket => b"]",
+        Mark::OpenBrace => b"{",
+        Mark::CloseBrace => b"}",
+        Mark::Comma => b",",
+        Mark::Semicolon => b";",
+        Mark::Dot => b".",
+        Mark::Workload => b"workload",
+        Mark::Sites => b"sites",
+        Mark::Object => b"object",
+        Mark::In => b"in",
+        Mark::Relation => b"relation",
+        Mark::Transaction => b"transaction",
+        Mark::Client => b"client",
+        Mark::At => b"at",
+        Mark::Schedule => b"schedule",
+        Mark::End => b"end",
+        Mark::If => b"if",
+        Mark::Then => b"then",
+        Mark::Else => b"else",
+        Mark::Skip => b"skip",
+        Mark::Write => b"write",
+        Mark::Read => b"read",
+        Mark::Print => b"print",
+        Mark::Foreach => b"foreach",
+        Mark::Of => b"of",
+        Mark::When => b"when",
+        Mark::Insert => b"insert",
+        Mark::Into => b"into",
+        Mark::Delete => b"delete",
+        Mark::Update => b"update",
+        Mark::Set => b"set",
+        Mark::Count => b"count",
+        Mark::Sum => b"sum",
+        Mark::Used => b"used",
+        Mark::And => b"and",
+        Mark::Not => b"not",
+        Mark::True => b"true",
+    }
+}
+
+#[tactic(auto, unfolding(crate::specs::Key::words))]
+fn mark_sort(mark: Mark) -> Sort
+    ensures sort { result ≡ mark_sort mark }
+{
+    match mark {
+        Mark::Sites
+        | Mark::Object
+        | Mark::Relation
+        | Mark::Transaction
+        | Mark::Client
+        | Mark::Schedule
+        | Mark::End => Sort::Line,
+        Mark::Read | Mark::Write | Mark::Print | Mark::Count | Mark::Sum => Sort::Call,
+        Mark::Minus => Sort::Minus,
+        Mark::Open | Mark::OpenBracket => Sort::Opening,
+        Mark::Close | Mark::CloseBracket => Sort::Closing,
+        Mark::Comma | Mark::Semicolon => Sort::Comma,
+        Mark::Dots => Sort::Dots,
+        Mark::Dot => Sort::Dot,
+        Mark::Assign
+        | Mark::LessEqual
+        | Mark::Less
+        | Mark::Equal
+        | Mark::Plus
+        | Mark::Star
+        | Mark::OpenBrace
+        | Mark::CloseBrace
+        | Mark::Workload
+        | Mark::In
+        | Mark::At
+        | Mark::If
+        | Mark::Then
+        | Mark::Else
+        | Mark::Skip
+        | Mark::Foreach
+        | Mark::Of
+        | Mark::When
+        | Mark::Insert
+        | Mark::Into
+        | Mark::Delete
+        | Mark::Update
+        | Mark::Set
+        | Mark::Used
+        | Mark::And
+        | Mark::Not
+        | Mark::True => Sort::Word,
+    }
+}
+
+#[tactic(auto, unfolding(crate::specs::Key::words))]
+fn sort_of(piece: Piece) -> Sort
+    ensures sort { result ≡ sort_of (kind_of piece) }
+{
+    match piece {
+        Piece::Name(_) => Sort::Name,
+        Piece::Number(_) => Sort::Number,
+        Piece::Fixed(mark) => mark_sort(mark),
+    }
+}
+
+#[tactic(auto, unfolding(crate::specs::Key::words))]
+fn loose_gap(before: Before) -> &'static [u8]
+    ensures text { result.now ≡ loose_gap before }
+{
+    match before {
+        Before::Tight => b"",
+        Before::Dot | Before::Head | Before::End | Before::Apart => b" ",
+    }
+}
+
+#[tactic(auto, unfolding(crate::specs::Key::words))]
+fn name_gap(before: Before) -> &'static [u8]
+    ensures text { result.now ≡ name_gap before }
+{
+    match before {
+        Before::Tight | Before::Dot => b"",
+        Before::Head | Before::End | Before::Apart => b" ",
+    }
+}
+
+#[tactic(auto, unfolding(crate::specs::Key::words))]
+fn opening_gap(before: Before) -> &'static [u8]
+    ensures text { result.now ≡ opening_gap before }
+{
+    match before {
+        Before::Tight | Before::Head => b"",
+        Before::Dot | Before::End | Before::Apart => b" ",
+    }
+}
+
+#[tactic(auto, unfolding(crate::specs::Key::words))]
+fn dot_gap(before: Before) -> &'static [u8]
+    ensures text { result.now ≡ dot_gap before }
+{
+    match before {
+        Before::Dot => b" ",
+        Before::Tight | Before::Head | Before::End | Before::Apart => b"",
+    }
+}
+
+/// What stands in front of a token.
+#[tactic(auto, unfolding(crate::specs::Key::words))]
+fn gap(before: Before, sort: Sort) -> &'static [u8]
+    ensures text { result.now ≡ gap before sort }
+{
+    match sort {
+        Sort::Line => b"\n",
+        Sort::Word | Sort::Call | Sort::Number | Sort::Minus => loose_gap(before),
+        Sort::Name => name_gap(before),
+        Sort::Opening => opening_gap(before),
+        Sort::Closing | Sort::Comma => b"",
+        Sort::Dots | Sort::Dot => dot_gap(before),
+    }
+}
+
+#[tactic(auto, unfolding(crate::specs::Key::words))]
+fn after_minus(before: Before) -> Before
+    ensures state { result ≡ after_minus before }
+{
+    match before {
+        Before::Head | Before::End => Before::Apart,
+        Before::Tight | Before::Dot | Before::Apart => Before::Tight,
+    }
+}
+
+/// What a token leaves for the next one.
+#[tactic(auto, unfolding(crate::specs::Key::words))]
+fn after(before: Before, sort: Sort) -> Before
+    ensures state { result ≡ after before sort }
+{
+    match sort {
+        Sort::Line | Sort::Word | Sort::Comma => Before::Apart,
+        Sort::Call | Sort::Name => Before::Head,
+        Sort::Number | Sort::Closing => Before::End,
+        Sort::Minus => after_minus(before),
+        Sort::Opening | Sort::Dots => Before::Tight,
+        Sort::Dot => Before::Dot,
+    }
+}
+
+fn push_bytes(text: &mut Vec<u8>, bytes: &[u8]) -> Result<(), Memory>
+    ensures pushed { OnOk result (text.new.items ≡ text.old.items ++ bytes.now) }
+{
+    text.extend_from_slice(bytes)?;
+    Ok(())
+}
+
+fn name_text(names: &[Text], place: u32) -> &[u8]
+    ensures text { result.now ≡ get_or names.now place [] }
+{
+    match names.get(place as usize) {
+        Some(name) => name.as_str().as_bytes(),
+        None => b"",
+    }
+}
+
+/// Puts a token behind a text.
+#[tactic(auto, unfolding(crate::specs::Key::words))]
+fn push_token(text: &mut Vec<u8>, names: &[Text], piece: Piece) -> Result<(), Memory>
+    ensures pushed { OnOk result (text.new.items ≡ text.old.items ++ token_text names.now (kind_of piece)) }
+{
+    match piece {
+        Piece::Name(place) => push_bytes(text, name_text(names, place)),
+        Piece::Number(value) => {
+            let mut digits = Buffer::new();
+            push_bytes(text, digits.format(value).as_bytes())
+        }
+        Piece::Fixed(mark) => push_bytes(text, mark_text(mark)),
+    }
+}
+
+/// The text of tokens, with these names.
+pub fn text_of(alloc: Global, names: &[Text], pieces: &[Piece]) -> Result<Vec<u8>, Memory>
+    ensures text { IfOk result (λ text. text.items ≡ printed names.now (map kind_of pieces.now)) }
+{
+    let mut text = Vec::new(alloc);
+    let mut before = Before::Tight;
+    for piece in pieces {
+        let sort = sort_of(*piece);
+        push_bytes(&mut text, gap(before, sort))?;
+        push_token(&mut text, names, *piece)?;
+        before = after(before, sort);
+    }
+    push_bytes(&mut text, b"\n")?;
+    Ok(text)
+}
