@@ -1,0 +1,4 @@
+//! The L form of a call, and what is true of it.
+#![tactic(auto)]
+
+pub mod laws;
