@@ -1,4 +1,13 @@
-//! The L form of a call, and what is true of it.
+//! The L form of a call: its commands over whole objects, with the arguments put in and each write tested against its
+//! bounds; and what is true of L forms.
 #![tactic(auto)]
 
+mod call;
+mod forming;
+mod frame;
 pub mod laws;
+mod lifting;
+mod making;
+mod objects;
+
+pub use call::desugar;

@@ -1,0 +1,85 @@
+-- An accepted workload has few enough objects.
+use Rattle.std.proofs.Common.{◌≡◌, ◌≢◌, ℕ, suc, ◌+◌, ◌^◌, ◌<◌, ◌≤◌, ◌==◌, cond, Bool, true, false, List, [], ◌∷◌, ◌++◌, length, refl, ap, ◌∙◌, subst, sym, arith, length-append}
+use Rattle.std.proofs.lemmas.List.{length-map}
+use Rattle.std.proofs.lemmas.Bool.Decides.{nat_tests}
+use Rattle.homeo_syntax.specs.Key.{words as tree_words}
+use Rattle.homeo_syntax.specs.Source as s
+use Rattle.homeo_syntax.specs.SourceView.{plain_workload}
+use Rattle.homeo_syntax.specs.declared.phrase.Ident.{Ident}
+use Rattle.homeo_syntax.specs.declared.workload.ObjectDecl.{ObjectDecl}
+use Rattle.homeo_syntax.specs.declared.workload.Workload.{Workload}
+use Rattle.homeo_meaning.specs.Key.{words}
+use Rattle.homeo_meaning.specs.Acceptance.{IsAccepted}
+use Rattle.homeo_meaning.specs.Declarations.{place_from, place_of}
+use Rattle.homeo_meaning.specs.GlobalNames.{SitedCall, sited_calls}
+use Rattle.homeo_meaning.specs.NameRules.{when, fault}
+use Rattle.homeo_meaning.specs.NumberRules.{ground_calls, site_count_faults, passes_limit, limit_faults}
+use Rattle.homeo_meaning.specs.TransactionRules.{each_from, each}
+use Rattle.homeo_meaning.specs.declared.call.Purpose.TheVariants.{Run}
+use Rattle.homeo_meaning.specs.declared.rules.Fault.{Fault}
+use Rattle.homeo_meaning.specs.declared.rules.Phase.TheVariants.{Limits}
+use Rattle.homeo_meaning.proofs.FaultParts.{none_first, none_second, parts}
+use Rattle.homeo_desugar.specs.Found.{AreFound}
+
+not_full : (b : Bool) (x : Ident) → when b (fault Limits x) ≡ [] → b ≡ false
+not_full true x e = cc
+not_full false x e = refl
+
+not_equal : (m n : ℕ) → (m == n) ≡ false → m ≢ n
+not_equal m n h = grind (arith, nat_tests)
+
+within : {A : Type 0} (most : ℕ) (name : A → Ident) (before xs : List A) → each_from (passes_limit most name) before xs ≡ [] → length before ≤ most → length before + length xs ≤ most
+unfolding words
+within most name before [] e h = omega arith
+within most name before (x ∷ xs) e h =
+    let rest : List Fault = each_from (passes_limit most name) (before ++ x ∷ []) xs in
+    let room : length before ≢ most = not_equal (length before) most (not_full (length before == most) (name x) (none_first (when (length before == most) (fault Limits (name x))) rest e)) in
+    let longer : length (before ++ x ∷ []) ≡ length before + 1 = length-append before (x ∷ []) in
+    let more : length (before ++ x ∷ []) + length xs ≤ most = within most name (before ++ x ∷ []) xs (none_second (when (length before == most) (fault Limits (name x))) rest e) (omega arith) in
+    omega arith
+
+limited : (w : s.Workload) → limit_faults w ≡ [] → length w.objects ≤ 1024
+unfolding words
+limited w e5 =
+    let a : List Fault = site_count_faults w.sites in
+    let b : List Fault = each (passes_limit 1024 (λ (d : ObjectDecl). d.name)) w.objects in
+    let c : List Fault = each (passes_limit 256 (λ (t : s.Transaction). t.name)) w.transactions in
+    let d : List Fault = each (passes_limit 64 (λ (c : s.Client). c.name)) w.clients in
+    let f : List Fault = each (passes_limit 20000 (λ (c : SitedCall). c.name)) (sited_calls w) in
+    let g : List Fault = each (passes_limit 1024 (λ (c : SitedCall). c.name)) (ground_calls w) in
+    let e4 = none_first (a ++ b ++ c ++ d ++ f) g e5 in
+    let e3 = none_first (a ++ b ++ c ++ d) f e4 in
+    let e2 = none_first (a ++ b ++ c) d e3 in
+    let e1 = none_first (a ++ b) c e2 in
+    let m : 0 + length w.objects ≤ 1024 = within 1024 (λ (d : ObjectDecl). d.name) [] w.objects (none_second a b e1) (omega arith) in
+    omega arith
+
+small : (n : ℕ) → n ≤ 1024 → n < 2 ^ 32
+small n h = omega arith
+
+pub few_objects : (w own : Workload) (os : List ObjectDecl) → own ≡ w → os ≡ own.objects.items → IsAccepted (plain_workload w) → length os < 2 ^ 32
+unfolding tree_words
+few_objects w own os e f accepted =
+    let h : length w.objects.items ≤ 1024 = limited (plain_workload w) (parts Run (plain_workload w) accepted.rules).text.limits in
+    small (length os) (subst (λ l. length l ≤ 1024) (sym (f ∙ ap (λ w. w.objects.items) e)) h)
+
+-- ---- a name's place is not past the names
+place_from_fits : (k : ℕ) (names : List ℕ) (n : ℕ) → place_from k names n ≤ k + length names
+unfolding words
+place_from_fits k [] n = omega arith
+place_from_fits k (m ∷ ms) n = go (m == n) (place_from_fits (suc k) ms n)
+  where
+    go : (b : Bool) → place_from (suc k) ms n ≤ suc k + length ms → cond b k (place_from (suc k) ms n) ≤ k + suc (length ms)
+    go true h = omega arith
+    go false h = omega arith
+
+place_within : (names : List ℕ) (n : ℕ) → place_of names n ≤ length names
+unfolding words
+place_within names n = let h : place_from 0 names n ≤ 0 + length names = place_from_fits 0 names n in omega arith
+
+pub place_fits : (os : List ObjectDecl) (names : List ℕ) (n : ℕ) → AreFound os names → place_of names n < 2 ^ 32
+place_fits os names n f =
+    let h = place_within names n in
+    let same : length names ≡ length os = ap length f.named ∙ length-map os (λ (d : ObjectDecl). d.name.name) in
+    let k = f.few in
+    omega arith

@@ -1,0 +1,11 @@
+-- The transaction of the number is there.
+use Rattle.homeo_meaning.proofs.Lookups.{transaction_here}
+use Rattle.homeo_desugar.proofs.Looking.{number_within}
+use Rattle.homeo_desugar.proofs.call.find.Goals as goal
+
+pub bounds-as_slice-number : goal.bounds-as_slice-number
+bounds-as_slice-number c = number_within c.args.workload.now c.as_slice.result.now c.args.number c.as_slice.ensures c.requires
+
+pub returns : goal.returns
+returns c =
+    transaction_here c.args.workload.now c.as_slice.result.now c.args.number c.index-as_slice-number.result c.as_slice.ensures (number_within c.args.workload.now c.as_slice.result.now c.args.number c.as_slice.ensures c.requires) c.index-as_slice-number.is
