@@ -1,5 +1,8 @@
-//! Whole runs of the top call, over sources and sinks in memory.
+//! Whole runs of the top call, over sources and sinks in memory, and the calls of a small workload one by one.
 #![tactic(auto)]
+
+#[cfg(test)]
+mod evaluation;
 
 #[cfg(test)]
 mod tests {
