@@ -1,0 +1,7 @@
+pub mod CommandSteps
+pub mod Copies
+pub mod Equations
+pub mod Example
+pub mod Numbers
+pub mod States
+pub mod Steps

@@ -1,0 +1,5 @@
+pub mod CanExec
+pub mod Example
+pub mod Key
+pub mod Scenes
+pub mod Shape

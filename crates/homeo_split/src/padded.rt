@@ -1,0 +1,29 @@
+//! Tables that have an item at every place: past their end it is the absent one.
+
+ghost use Rattle.std.specs.Prelude.{◌≡◌, ℕ, ◌==◌, if◌then◌else◌, slice_index_or, OnOk};
+
+use homeo_syntax::Memory;
+
+pub(crate) fn item_or<T: Copy>(items: &[T], n: usize, absent: T) -> T
+    ensures { result ≡ slice_index_or items.now n absent }
+{
+    if n < items.len() { items[n] } else { absent }
+}
+
+/// Puts an item at a place, with absent ones below it where the table was shorter.
+#[tactic(auto, using(homeo_meaning::proofs::AbsentItems::padded))]
+pub(crate) fn put<T: Copy + Drop>(
+    items: &mut Vec<T>,
+    n: usize,
+    item: T,
+    absent: T,
+) -> Result<(), Memory>
+    ensures { OnOk result ((m : ℕ) → slice_index_or items.new.items m absent ≡
+        if n == m then item else slice_index_or items.old.items m absent) }
+{
+    while items.len() <= n {
+        items.push(absent)?;
+    }
+    items[n] = item;
+    Ok(())
+}

@@ -1,0 +1,131 @@
+//! The values of expressions, and whether conditions hold.
+
+ghost use Rattle.std.specs.Prelude.{◌≡◌, ◌+ℤ◌, ◌*ℤ◌, neg_ℤ, pos, true, map};
+ghost use Rattle.homeo_syntax.specs.LowView.{low_exprs, low_tests, plain_lexpr, plain_ltest, plain_lcond};
+ghost use Rattle.homeo_meaning.specs.Meaning.{compared};
+ghost use Rattle.homeo_meaning.specs.LowMeaning.{TempAt, place_of, value, sum_value, product_value, passes, holds};
+ghost use Rattle.homeo_meaning.specs.CanRun.{is_small};
+ghost use Rattle.homeo_split.specs.CanExec.{limit, expr_fits, sum_fits, product_fits, test_fits, cond_fits};
+ghost use Rattle.homeo_split.specs.Scenes.{scene_state};
+
+use crate::scene::Scene;
+use homeo_syntax::{Compare, LCond, LExpr, LTest};
+
+#[tactic(auto, using(crate::proofs::Numbers::sizes))]
+fn added(a: i64, b: i64) -> i64
+    requires { is_small limit (a +ℤ b) ≡ true }
+    ensures { result ≡ a +ℤ b }
+{
+    a + b
+}
+
+#[tactic(auto, using(crate::proofs::Numbers::sizes))]
+fn multiplied(a: i64, b: i64) -> i64
+    requires { is_small limit (a *ℤ b) ≡ true }
+    ensures { result ≡ a *ℤ b }
+{
+    a * b
+}
+
+#[tactic(auto, using(crate::proofs::Numbers::sizes))]
+fn negated(a: i64) -> i64
+    requires { is_small limit (neg_ℤ a) ≡ true }
+    ensures { result ≡ neg_ℤ a }
+{
+    -a
+}
+
+#[tactic(auto, unfolding(crate::specs::Key::words, homeo_meaning::specs::Key::words))]
+fn compared(op: Compare, left: i64, right: i64) -> bool
+    ensures { result ≡ compared op left right }
+{
+    match op {
+        Compare::Less => left < right,
+        Compare::LessEqual => left <= right,
+        Compare::Equal => left == right,
+    }
+}
+
+/// The value of an expression.
+#[cycle(values)]
+#[tactic(auto, using(homeo_syntax::proofs::Measures::low_expr_parts, std::proofs::lemmas::Bool::and_parts, homeo_syntax::proofs::LowViews::low_phrase_views), unfolding(crate::specs::Key::words, homeo_meaning::specs::Key::words))]
+pub(crate) fn value(e: &LExpr, scene: &Scene) -> i64
+    requires { expr_fits limit (plain_lexpr e.now) (scene_state scene.now) ≡ true }
+    ensures { result ≡ value (plain_lexpr e.now) (scene_state scene.now) }
+{
+    match e {
+        LExpr::Literal(n) => *n,
+        LExpr::Temp(t) => scene.temp(*t),
+        LExpr::Read(x) => scene.read(*x),
+        LExpr::Sum(es) => sum(es.as_slice(), scene),
+        LExpr::Product(es) => product(es.as_slice(), scene),
+        LExpr::Neg(e) => negated(value(e, scene)),
+    }
+}
+
+#[cycle(values)]
+#[tactic(auto, using(crate::proofs::Equations::sums, homeo_meaning::proofs::Steps::steps))]
+fn sum(es: &[LExpr], scene: &Scene) -> i64
+    requires { sum_fits limit (pos 0) (low_exprs (map plain_lexpr es.now)) (scene_state scene.now) ≡ true }
+    ensures { result ≡ sum_value (pos 0) (low_exprs (map plain_lexpr es.now)) (scene_state scene.now) }
+{
+    let mut total = 0;
+    for e in es {
+        total = added(total, value(e, scene));
+    }
+    total
+}
+
+#[cycle(values)]
+#[tactic(auto, using(crate::proofs::Equations::products, homeo_meaning::proofs::Steps::steps))]
+fn product(es: &[LExpr], scene: &Scene) -> i64
+    requires { product_fits limit (pos 1) (low_exprs (map plain_lexpr es.now)) (scene_state scene.now) ≡ true }
+    ensures { result ≡ product_value (pos 1) (low_exprs (map plain_lexpr es.now)) (scene_state scene.now) }
+{
+    let mut total = 1;
+    for e in es {
+        total = multiplied(total, value(e, scene));
+    }
+    total
+}
+
+#[cycle(conditions)]
+#[tactic(auto, using(homeo_syntax::proofs::Measures::low_test_parts, std::proofs::lemmas::Bool::and_parts, homeo_syntax::proofs::LowViews::low_phrase_views), unfolding(crate::specs::Key::words, homeo_meaning::specs::Key::words))]
+fn passes(t: &LTest, scene: &Scene) -> bool
+    requires { test_fits limit (plain_ltest t.now) (scene_state scene.now) ≡ true }
+    ensures { result ≡ passes (plain_ltest t.now) (scene_state scene.now) }
+{
+    match t {
+        LTest::True => true,
+        LTest::Not(c) => !holds(c, scene),
+        LTest::Compare { op, left, right } => {
+            let left = value(left, scene);
+            let right = value(right, scene);
+            compared(*op, left, right)
+        }
+    }
+}
+
+/// Whether each test of a condition passes.
+#[cycle(conditions)]
+#[tactic(auto, using(homeo_syntax::proofs::Measures::low_test_parts, std::proofs::lemmas::Bool::and_parts, homeo_syntax::proofs::LowViews::low_phrase_views), unfolding(crate::specs::Key::words, homeo_meaning::specs::Key::words))]
+pub(crate) fn holds(c: &LCond, scene: &Scene) -> bool
+    requires { cond_fits limit (plain_lcond c.now) (scene_state scene.now) ≡ true }
+    ensures { result ≡ holds (plain_lcond c.now) (scene_state scene.now) }
+{
+    all_pass(c.tests.as_slice(), scene)
+}
+
+#[cycle(conditions)]
+#[tactic(auto, using(crate::proofs::Equations::conjunctions, homeo_meaning::proofs::Steps::steps))]
+fn all_pass(ts: &[LTest], scene: &Scene) -> bool
+    requires { cond_fits limit (low_tests (map plain_ltest ts.now)) (scene_state scene.now) ≡ true }
+    ensures { result ≡ holds (low_tests (map plain_ltest ts.now)) (scene_state scene.now) }
+{
+    for t in ts {
+        if !passes(t, scene) {
+            return false;
+        }
+    }
+    true
+}
