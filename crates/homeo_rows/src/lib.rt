@@ -3,6 +3,8 @@
 
 #[cfg(test)]
 mod evaluation;
+#[cfg(test)]
+mod printing;
 
 #[cfg(test)]
 mod tests {
