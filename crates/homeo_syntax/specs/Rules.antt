@@ -96,9 +96,13 @@ number_is n = token (number_class ∷ []) (λ k. is_value n (value_in k)) (λ t.
 abbrev pub lead_number : {A : Type 0} → ℕ → Rule A → Rule A
 lead_number n g = as_value (λ p. p.1) (seq (number_is n) g)
 
+-- phrase {mark phrase}
+abbrev pub listed : {A : Type 0} → Mark → Rule A → Rule (List A)
+listed m g = as_value (λ p. p.0 ∷ p.1) (seq g (many (lead m g)))
+
 -- [phrase {mark phrase}]
 abbrev pub separated : {A : Type 0} → Mark → Rule A → Rule (List A)
-separated m g = alt (as_value (λ p. p.0 ∷ p.1) (seq g (many (lead m g)))) (nothing [])
+separated m g = alt (listed m g) (nothing [])
 
 -- ---- expressions and conditions
 abbrev pub product_of : s.Expr → List s.Expr → s.Expr
@@ -121,14 +125,28 @@ expr = part (as_value (λ p. sum_of p.0 p.1) (seq term (many (alt (lead mark.Plu
 abbrev pub cond : Rule s.Cond
 cond = part (as_value (λ p. tests (p.0 ∷ p.1)) (seq (call Test) (many (lead mark.And (call Test)))))
 
--- factor = number | "-" factor | "(" expr ")" | "read" "(" name ")" | name
+-- visit = name "of" name "when" cond
+abbrev pub visit : Rule (Ident × (Ident × s.Cond))
+visit = part (seq ident (lead mark.Of (seq ident (lead mark.When cond))))
+
+-- after_name = ["[" expr "]" "." name | "." name], what may stand behind a name
+abbrev pub after_name : Rule (Ident → s.Expr)
+after_name =
+    part (alt (as_value (λ p x. s.Field x p.0 p.1) (lead mark.OpenBracket (seq expr (lead mark.CloseBracket (lead mark.Dot ident)))))
+    (alt (as_value (λ p x. s.Row x p) (lead mark.Dot ident))
+    (nothing s.Name)))
+
+-- factor = number | "-" factor | "(" expr ")" | "read" "(" name ")" | "count" "(" visit ")"
+--        | "sum" "(" name "." visit ")" | name after_name
 abbrev pub factor : Rule s.Expr
 factor =
     alt literal
     (alt (as_value s.Neg (lead mark.Minus (call Factor)))
     (alt (lead mark.Open (closed expr mark.Close))
     (alt (as_value s.Read (lead mark.Read (lead mark.Open (closed ident mark.Close))))
-    (as_value s.Name ident))))
+    (alt (as_value (λ p. s.Count p.0 p.1.0 p.1.1) (lead mark.Count (lead mark.Open (closed visit mark.Close))))
+    (alt (as_value (λ p. s.Total p.0 p.1.0 p.1.1.0 p.1.1.1) (lead mark.Sum (lead mark.Open (seq ident (lead mark.Dot (closed visit mark.Close))))))
+    (as_value (λ p. p.1 p.0) (seq ident after_name)))))))
 
 -- comparison = "<" | "<=" | "="
 abbrev pub comparison : Rule Compare
@@ -152,16 +170,36 @@ block =
     (alt (as_value (λ p. commands (p.0 ∷ p.1)) (seq (call Command) (many (lead mark.Semicolon (call Command))))) (nothing s.NoCommand))
     mark.CloseBrace))
 
--- command = "skip" | block | name ":=" expr | "write" "(" name "=" expr ")" | "print" "(" expr ")"
---         | "if" cond "then" command "else" command
+-- setting = ":=" expr | "[" expr "]" "." name ":=" expr | "." name ":=" expr, behind the name that is set
+abbrev pub setting : Rule (Ident → s.Command)
+setting =
+    part (alt (as_value (λ p x. s.Assign x p) (lead mark.Assign expr))
+    (alt (as_value (λ p x. s.SetField x p.0 p.1.0 p.1.1) (lead mark.OpenBracket (seq expr (lead mark.CloseBracket (lead mark.Dot (seq ident (lead mark.Assign expr)))))))
+    (as_value (λ p x. s.SetRow x p.0 p.1) (lead mark.Dot (seq ident (lead mark.Assign expr))))))
+
+-- field_value = name "=" expr
+abbrev pub field_value : Rule s.FieldValue
+field_value = part (as_value (λ p. record { field = p.0; value = p.1 }) (seq ident (lead mark.Equal expr)))
+
+-- field_values = field_value {"," field_value}
+abbrev pub field_values : Rule (List s.FieldValue)
+field_values = part (listed mark.Comma field_value)
+
+-- command = "skip" | block | name setting | "write" "(" name "=" expr ")" | "print" "(" expr ")"
+--         | "if" cond "then" command "else" command | "foreach" visit block
+--         | "insert" name "(" field_values ")" "into" name | "delete" visit | "update" visit "set" field_value
 abbrev pub command : Rule s.Command
 command =
     alt (as_value (λ p. s.Skip) (fixed mark.Skip))
     (alt (as_value s.Block block)
-    (alt (as_value (λ p. s.Assign p.0 p.1) (seq ident (lead mark.Assign expr)))
+    (alt (as_value (λ p. p.1 p.0) (seq ident setting))
     (alt (as_value (λ p. s.Write p.0 p.1) (lead mark.Write (lead mark.Open (seq ident (lead mark.Equal (closed expr mark.Close))))))
     (alt (as_value s.Print (lead mark.Print (lead mark.Open (closed expr mark.Close))))
-    (as_value (λ p. s.If p.0 p.1.0 p.1.1) (lead mark.If (seq cond (lead mark.Then (seq (call Command) (lead mark.Else (call Command)))))))))))
+    (alt (as_value (λ p. s.If p.0 p.1.0 p.1.1) (lead mark.If (seq cond (lead mark.Then (seq (call Command) (lead mark.Else (call Command)))))))
+    (alt (as_value (λ p. s.Foreach p.0.0 p.0.1.0 p.0.1.1 p.1) (lead mark.Foreach (seq visit block)))
+    (alt (as_value (λ p. s.Insert p.0 p.1.0 p.1.1) (lead mark.Insert (seq ident (lead mark.Open (seq field_values (lead mark.Close (lead mark.Into ident)))))))
+    (alt (as_value (λ p. s.Delete p.0 p.1.0 p.1.1) (lead mark.Delete visit))
+    (as_value (λ p. s.Update p.0.0 p.0.1.0 p.0.1.1 p.1.field p.1.value) (lead mark.Update (seq visit (lead mark.Set field_value))))))))))))
 
 abbrev pub rule : (c : Deep) → Rule (Tree c)
 rule Factor = factor
@@ -189,6 +227,16 @@ object =
 -- decl = name "in" range
 abbrev pub decl : Rule RangeDecl
 decl = part (as_value (λ p. record { name = p.0; lo = p.1.0; hi = p.1.1 }) (seq ident (lead mark.In range)))
+
+-- fields = decl {"," decl}
+abbrev pub fields : Rule (List RangeDecl)
+fields = part (listed mark.Comma decl)
+
+-- relation = "relation" name "[" number "]" "(" fields ")"
+abbrev pub relation : Rule s.RelationDecl
+relation =
+    part (as_value (λ p. record { name = p.0; slots = p.1.0; fields = p.1.1 })
+    (lead mark.Relation (seq ident (lead mark.OpenBracket (seq number (lead mark.CloseBracket (lead mark.Open (closed fields mark.Close))))))))
 
 -- parameters = [decl {"," decl}]
 abbrev pub parameters : Rule (List RangeDecl)
@@ -231,7 +279,7 @@ schedule = part (alt (as_value (λ xs. Some xs) (lead mark.Schedule (many ident)
 abbrev pub head : Rule Number
 head = part (lead mark.Workload (lead_number 1 (lead mark.Sites number)))
 
--- workload = head {object} {transaction} {client} schedule "end"
+-- workload = head {object} {relation} {transaction} {client} schedule "end"
 abbrev pub workload : List (List ℕ) → Rule s.Workload
 workload names =
     as_value (λ p. record {
@@ -239,13 +287,13 @@ workload names =
       names = names;
       sites = p.0;
       objects = p.1.0;
-      relations = [];
-      transactions = p.1.1.0;
-      clients = p.1.1.1.0;
-      schedule = p.1.1.1.1.0;
-      end = p.1.1.1.1.1;
+      relations = p.1.1.0;
+      transactions = p.1.1.1.0;
+      clients = p.1.1.1.1.0;
+      schedule = p.1.1.1.1.1.0;
+      end = p.1.1.1.1.1.1;
     })
-    (seq head (seq (many object) (seq (many transaction) (seq (many client) (seq schedule (offset_of mark.End))))))
+    (seq head (seq (many object) (seq (many relation) (seq (many transaction) (seq (many client) (seq schedule (offset_of mark.End)))))))
 
 -- how deep phrases may go
 unfoldable pub limit : ℕ
