@@ -204,9 +204,11 @@ module _ {M : Meaning} where
   pub back_many : {A : Type 0} {g : Rule A} {w : A → A} {p : A → List Kind} → Back M g w p → Back M (many g) (map w) (flat_map p)
   back_many x = record { of = λ a ts s n. each_back x a ts s n }
 
+  pub back_listed : {A : Type 0} {g : Rule A} {w : A → A} {p : A → List Kind} → (m : Mark) → Back M g w p → Back M (rules.listed m g) (map w) (λ all. separated m (map p all))
+  unfolding words
+  back_listed {w = w} {p = p} m x =
+      back_as (λ p. p.0 ∷ p.1) (map w) (λ all. separated m (map p all)) (λ a. refl) (λ a. ap (λ (x : List Kind). p a.0 ++ x) (led_is m p a.1)) (back_seq x (back_many (back_lead m x)))
+
   pub back_separated : {A : Type 0} {g : Rule A} {w : A → A} {p : A → List Kind} → (m : Mark) → Back M g w p → Back M (rules.separated m g) (map w) (λ all. separated m (map p all))
   unfolding words
-  back_separated {w = w} {p = p} m x =
-      back_alt
-      (back_as (λ p. p.0 ∷ p.1) (map w) (λ all. separated m (map p all)) (λ a. refl) (λ a. ap (λ (x : List Kind). p a.0 ++ x) (led_is m p a.1)) (back_seq x (back_many (back_lead m x))))
-      (back_nothing [] (map w) (λ all. separated m (map p all)) refl)
+  back_separated {w = w} {p = p} m x = back_alt (back_listed m x) (back_nothing [] (map w) (λ all. separated m (map p all)) refl)

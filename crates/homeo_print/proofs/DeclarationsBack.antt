@@ -11,11 +11,11 @@ use Rattle.homeo_syntax.specs.Grammar.{alt, seq, as_value, Means}
 use Rattle.homeo_syntax.specs.Rules as rules
 use Rattle.homeo_syntax.specs.Rules.{Rule, rule, value_in, number_at, minus_number, offset_of}
 use Rattle.homeo_print.specs.Key.{words}
-use Rattle.homeo_print.specs.TokensOf.{Kinds, value_of, number_of, object_kinds, decl_kinds, transaction_kinds, call_kinds, client_kinds, schedule_kinds, workload_kinds}
-use Rattle.homeo_print.specs.Offsets.{number_without, object_without, decl_without, transaction_without, call_without, client_without, schedule_without, without_offsets}
+use Rattle.homeo_print.specs.TokensOf.{Kinds, value_of, number_of, object_kinds, decl_kinds, relation_kinds, transaction_kinds, call_kinds, client_kinds, schedule_kinds, workload_kinds}
+use Rattle.homeo_print.specs.Offsets.{number_without, object_without, decl_without, relation_without, transaction_without, call_without, client_without, schedule_without, without_offsets}
 use Rattle.homeo_print.proofs.Atoms.{kinds_of, atoms, mark_skipped, number_taken, value_taken, mark_taken}
-use Rattle.homeo_print.proofs.Claims.{Meaning, Claim, Back, claim_token, claim_seq, claim_as, claim_left, claim_right, claim_part, claim_kinds, back_offset, back_seq, back_as, back_alt, back_part, back_nothing, back_lead, back_closed, back_many, back_separated}
-use Rattle.homeo_print.proofs.ExpressionsBack.{back_ident}
+use Rattle.homeo_print.proofs.Claims.{Meaning, Claim, Back, claim_token, claim_seq, claim_as, claim_left, claim_right, claim_part, claim_kinds, back_offset, back_seq, back_as, back_alt, back_part, back_nothing, back_lead, back_closed, back_many, back_listed, back_separated}
+use Rattle.homeo_print.proofs.NamesBack.{back_ident}
 use Rattle.homeo_print.proofs.PhrasesBack.{back_block}
 
 -- ---- numbers
@@ -89,6 +89,13 @@ back_decl : {M : Meaning} → Back M rules.decl decl_without decl_kinds
 unfolding words
 back_decl = back_part (back_as _ decl_without decl_kinds (λ x. refl) (λ x. refl) (back_seq back_ident (back_lead mark.In back_range)))
 
+back_relation : {M : Meaning} → Back M rules.relation relation_without relation_kinds
+unfolding words
+back_relation =
+    back_part (back_as _ relation_without relation_kinds (λ x. refl) (λ x. refl)
+    (back_lead mark.Relation (back_seq back_ident (back_lead mark.OpenBracket (back_seq back_number (back_lead mark.CloseBracket
+    (back_lead mark.Open (back_closed mark.Close (back_part (back_listed mark.Comma back_decl))))))))))
+
 back_transaction : (n : ℕ) → Back (Means rule n) rules.transaction transaction_without transaction_kinds
 unfolding words
 back_transaction n =
@@ -122,4 +129,4 @@ pub back_workload : (n : ℕ) (names : List (List ℕ)) → Back (Means rule n) 
 unfolding words
 back_workload n names =
     back_as _ without_offsets workload_kinds (λ x. refl) (λ x. refl)
-    (back_seq back_head (back_seq (back_many back_object) (back_seq (back_many (back_transaction n)) (back_seq (back_many back_client) (back_seq back_schedule (back_offset mark.End))))))
+    (back_seq back_head (back_seq (back_many back_object) (back_seq (back_many back_relation) (back_seq (back_many (back_transaction n)) (back_seq (back_many back_client) (back_seq back_schedule (back_offset mark.End)))))))

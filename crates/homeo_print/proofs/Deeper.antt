@@ -4,7 +4,7 @@ use Rattle.homeo_syntax.specs.declared.token.Kind.{Kind}
 use Rattle.homeo_syntax.specs.declared.token.Token.{Token}
 use Rattle.homeo_syntax.specs.Grammar.{token, nothing, call, seq, alt, many, part, as_value, Repeats, Spells, Means}
 use Rattle.homeo_syntax.specs.Rules.{Deep, Tree, Rule, rule}
-use Rattle.homeo_print.proofs.Claims.{Meaning, Claim}
+use Rattle.homeo_print.proofs.Claims.{Meaning, Claim, Back}
 
 repeats_more : {A : Type 0} → (P Q : A → List Token → Type 0) → ((a : A) (ts : List Token) → P a ts → Q a ts) → (all : List A) (ts : List Token) → Repeats P all ts → Repeats Q all ts
 repeats_more P Q h [] ts s = s
@@ -32,3 +32,16 @@ claim_deeper n {g = g} c = record {
       let x = c.again us i in
       record { value = x.value; spells = raised (Means rule n) (Means rule (suc n)) (deeper n) g x.value us x.spells; same = x.same };
 }
+
+-- what a call means one deeper
+pub claim_called : (n : ℕ) (c : Deep) {w : Tree c → Tree c} {a : Tree c} {ks : List Kind} {ts : List Token} → Claim (Means rule n) (rule c) w a ks ts → Claim (Means rule (suc n)) (call c) w a ks ts
+claim_called n c x = record {
+  same_atoms = x.same_atoms;
+  again = λ us i. let y = x.again us i in record { value = y.value; spells = y.spells; same = y.same };
+}
+
+pub back_called : (n : ℕ) (c : Deep) {w : Tree c → Tree c} {p : Tree c → List Kind} → Back (Means rule n) (rule c) w p → Back (Means rule (suc n)) (call c) w p
+back_called n c x = record { of = λ a ts s f. claim_called n c (x.of a ts s f) }
+
+pub never : (c : Deep) (w : Tree c → Tree c) (p : Tree c → List Kind) → Back (Means rule zero) (call c) w p
+never c w p = record { of = λ a ts s f. absurd s }

@@ -11,28 +11,17 @@ use Rattle.homeo_syntax.specs.declared.token.Token.{Token}
 use Rattle.homeo_syntax.specs.declared.phrase.Ident.{Ident}
 use Rattle.homeo_syntax.specs.Source as s
 use Rattle.homeo_syntax.specs.SourceView.{exprs}
-use Rattle.homeo_syntax.specs.Grammar.{call, alt, as_value, Repeats, Spells, Means}
+use Rattle.homeo_syntax.specs.Grammar.{call, seq, alt, as_value, Repeats, Spells, Means}
 use Rattle.homeo_syntax.specs.Rules as rules
-use Rattle.homeo_syntax.specs.Rules.{Deep, Factor, Tree, Rule, rule, lead, closed, name_in, value_in, ident_at, product_of, sum_of}
+use Rattle.homeo_syntax.specs.Rules.{Deep, Factor, Test, Tree, Rule, rule, lead, closed, name_in, value_in, ident_at, product_of, sum_of}
 use Rattle.homeo_print.specs.Key.{words}
-use Rattle.homeo_print.specs.TokensOf.{Kinds, name_of, parenthesised, Alone, AsTerm, AsFactor, expr_at, sum_kinds, later_terms, product_kinds, later_factors}
-use Rattle.homeo_print.specs.Offsets.{ident_without, expr_without, exprs_without}
+use Rattle.homeo_print.specs.TokensOf.{Kinds, name_of, parenthesised, Alone, AsTerm, AsFactor, expr_at, sum_kinds, later_terms, product_kinds, later_factors, test_kinds, cond_kinds}
+use Rattle.homeo_print.specs.Offsets.{expr_without, exprs_without, test_without, cond_without}
 use Rattle.homeo_print.proofs.Atoms.{kinds_of, atoms, atoms_append, mark_skipped, name_taken, literal_taken, Fine, fine_split}
 use Rattle.homeo_print.proofs.Claims.{Meaning, Claim, Back, claim_token, claim_lead, claim_closed, claim_as, claim_left, claim_right, claim_part, claim_at, claim_kinds, back_seq, back_many, back_lead, back_closed}
-use Rattle.homeo_print.proofs.Deeper.{claim_deeper}
-
-abbrev bare : ℕ → Ident
-bare n = record { name = n; offset = 0 }
-
-pub back_ident : {M : Meaning} → Back M rules.ident ident_without name_of
-unfolding words
-back_ident {M} = record {
-  of = λ a ts x f.
-      let e = name_taken x.0.kind x.2 in
-      subst (λ (y : Ident). Claim M rules.ident ident_without y (name_of y) ts) (sym x.3)
-      (claim_token _ _ _ _ ident_without (ident_at x.0) (kind.Name (name_in x.0.kind)) ts refl (λ u h. ap (λ (k : Kind). bare (name_in k)) h)
-      (ap (λ (k : Kind). atoms (k ∷ [])) (sym e) ∙ sym (ap (λ (z : List Token). atoms (kinds_of z)) x.1)));
-}
+use Rattle.homeo_print.proofs.Deeper.{claim_deeper, claim_called, back_called, never}
+use Rattle.homeo_print.proofs.NamesBack.{Tail, back_ident, tail_alt, tail_part, tail_nothing, tail_as, back_named}
+use Rattle.homeo_print.proofs.TestsBack.{cond_step, test_step, back_visit}
 
 -- ---- what stands between marks
 pub record Inner (M : Meaning) {A : Type 0} (g : Rule A) (a : A) (ts : List Token) : Type 0 where
@@ -104,12 +93,6 @@ expr_of c = record {
       record { value = x.value; spells = ((x.value, []), (us, [], sym (append-nil us), x.spells, refl), refl); same = x.same };
 }
 
-pub claim_called : (n : ℕ) (c : Deep) {w : Tree c → Tree c} {a : Tree c} {ks : Kinds} {ts : List Token} → Claim (Means rule n) (rule c) w a ks ts → Claim (Means rule (suc n)) (call c) w a ks ts
-claim_called n c x = record {
-  same_atoms = x.same_atoms;
-  again = λ us i. let y = x.again us i in record { value = y.value; spells = y.spells; same = y.same };
-}
-
 -- an expression in parentheses is a factor, one deeper
 in_parentheses : (n : ℕ) {e : s.Expr} {ks : Kinds} {ts : List Token} → Claim (Means rule n) rules.expr expr_without e ks ts → Claim (Means rule (suc n)) (call Factor) expr_without e (parenthesised ks) ts
 in_parentheses n c = claim_called n Factor (claim_right _ (claim_right _ (claim_left _ (claim_lead mark.Open (claim_closed mark.Close c)))))
@@ -117,6 +100,23 @@ in_parentheses n c = claim_called n Factor (claim_right _ (claim_right _ (claim_
 -- an expression that is printed the same wherever it stands
 plain_claims : {M : Meaning} → (e : s.Expr) (ks : Kinds) (ts : List Token) → ks ≡ expr_at AsFactor e → ks ≡ expr_at AsTerm e → ks ≡ expr_at Alone e → Negated M e ts → Claim M (call Factor) expr_without e ks ts → Claims M M M e ts
 plain_claims e ks ts f t a n c = record { factor = claim_kinds f c; term = claim_kinds t (term_of c); alone = claim_kinds a (expr_of (term_of c)); negated = n }
+
+-- An expression that is printed the same wherever it stands, and is no negation.
+record Plain (M : Meaning) (e : s.Expr) : Type 0 where
+  term : expr_at AsFactor e ≡ expr_at AsTerm e
+  alone : expr_at AsFactor e ≡ expr_at Alone e
+  negated : (ts : List Token) → Negated M e ts
+
+-- what begins with a name is such an expression
+plain_named : (M N : Meaning) (x : Ident) (k : Ident → s.Expr) (ts : List Token) → Spells M rules.after_name k ts → Plain N (k x)
+unfolding words
+plain_named M N x k ts a = elim a [
+  | inl l ↦ subst (λ (h : Ident → s.Expr). Plain N (h x)) (sym l.2) (record { term = refl; alone = refl; negated = λ ts. tt })
+  | inr a ↦ elim a [
+    | inl l ↦ subst (λ (h : Ident → s.Expr). Plain N (h x)) (sym l.2) (record { term = refl; alone = refl; negated = λ ts. tt })
+    | inr l ↦ subst (λ (h : Ident → s.Expr). Plain N (h x)) (sym l.1) (record { term = refl; alone = refl; negated = λ ts. tt })
+  ]
+]
 
 -- ---- lists of expressions
 exprs_same : (es : List s.Expr) → exprs_without (exprs es) ≡ exprs (map expr_without es)
@@ -173,7 +173,7 @@ plus_claim e c n = claim_left minus_term (claim_lead mark.Plus c)
 abbrev Hypothesis : ℕ → Type 0
 Hypothesis n = (e : s.Expr) (ts : List Token) → Means rule n Factor e ts → Fine ts → Claims (Means rule n) (Means rule n) (Means rule n) e ts
 
-module _ (n : ℕ) (hyp : Hypothesis n) where
+module _ (n : ℕ) (hyp : Hypothesis n) (cond : Back (Means rule n) rules.cond cond_without cond_kinds) where
   abbrev M : Meaning
   M = Means rule n
 
@@ -233,6 +233,9 @@ module _ (n : ℕ) (hyp : Hypothesis n) where
   pub of_expr : (e : s.Expr) (ts : List Token) → Spells M rules.expr e ts → Fine ts → Claims N N M e ts
   of_expr e ts x f = subst (λ (y : s.Expr). Claims N N M y ts) (sym x.2) (expr_claims x.0.0 x.0.1 x.1.0 x.1.1 ts x.1.2 x.1.3 x.1.4 f)
 
+  back_alone : Back M rules.expr expr_without (expr_at Alone)
+  back_alone = record { of = λ e ts x f. (of_expr e ts x f).alone }
+
   of_literal : (e : s.Expr) (ts : List Token) → Spells M rules.literal e ts → Fine ts → Claims N N N e ts
   unfolding words
   of_literal e ts x f =
@@ -268,13 +271,37 @@ module _ (n : ℕ) (hyp : Hypothesis n) where
       (plain_claims (s.Read x.0) (expr_at AsFactor (s.Read x.0)) ts refl refl refl tt
       (claim_called n Factor (claim_right _ (claim_right _ (claim_right _ (claim_left _ (claim_as s.Read expr_without (λ x. refl) c)))))))
 
-  of_name : (e : s.Expr) (ts : List Token) → Spells M (as_value s.Name rules.ident) e ts → Fine ts → Claims N N N e ts
+  of_count : (e : s.Expr) (ts : List Token) → Spells M (as_value (λ p. s.Count p.0 p.1.0 p.1.1) (lead mark.Count (lead mark.Open (closed rules.visit mark.Close)))) e ts → Fine ts → Claims N N N e ts
   unfolding words
-  of_name e ts x f =
-      let c = back_ident.of x.0 ts x.1 f in
+  of_count e ts x f =
+      let c = (back_lead mark.Count (back_lead mark.Open (back_closed mark.Close (back_visit cond)))).of x.0 ts x.1 f in
       subst (λ (y : s.Expr). Claims N N N y ts) (sym x.2)
-      (plain_claims (s.Name x.0) (name_of x.0) ts refl refl refl tt
-      (claim_called n Factor (claim_right _ (claim_right _ (claim_right _ (claim_right _ (claim_as s.Name expr_without (λ x. refl) c)))))))
+      (plain_claims (s.Count x.0.0 x.0.1.0 x.0.1.1) (expr_at AsFactor (s.Count x.0.0 x.0.1.0 x.0.1.1)) ts refl refl refl tt
+      (claim_called n Factor (claim_right _ (claim_right _ (claim_right _ (claim_right _ (claim_left _ (claim_as (λ p. s.Count p.0 p.1.0 p.1.1) expr_without (λ x. refl) c))))))))
+
+  of_total : (e : s.Expr) (ts : List Token) → Spells M (as_value (λ p. s.Total p.0 p.1.0 p.1.1.0 p.1.1.1) (lead mark.Sum (lead mark.Open (seq rules.ident (lead mark.Dot (closed rules.visit mark.Close)))))) e ts → Fine ts → Claims N N N e ts
+  unfolding words
+  of_total e ts x f =
+      let c = (back_lead mark.Sum (back_lead mark.Open (back_seq back_ident (back_lead mark.Dot (back_closed mark.Close (back_visit cond)))))).of x.0 ts x.1 f in
+      subst (λ (y : s.Expr). Claims N N N y ts) (sym x.2)
+      (plain_claims (s.Total x.0.0 x.0.1.0 x.0.1.1.0 x.0.1.1.1) (expr_at AsFactor (s.Total x.0.0 x.0.1.0 x.0.1.1.0 x.0.1.1.1)) ts refl refl refl tt
+      (claim_called n Factor (claim_right _ (claim_right _ (claim_right _ (claim_right _ (claim_right _ (claim_left _ (claim_as (λ p. s.Total p.0 p.1.0 p.1.1.0 p.1.1.1) expr_without (λ x. refl) c)))))))))
+
+  after_name_back : Tail M rules.after_name expr_without (expr_at AsFactor)
+  unfolding words
+  after_name_back =
+      tail_part
+      (tail_alt (tail_as (λ p x. s.Field x p.0 p.1) (λ a. refl) (λ a. refl)
+      (back_seq back_ident (back_lead mark.OpenBracket (back_seq back_alone (back_lead mark.CloseBracket (back_lead mark.Dot back_ident))))))
+      (tail_alt (tail_as (λ p x. s.Row x p) (λ a. refl) (λ a. refl) (back_seq back_ident (back_lead mark.Dot back_ident)))
+      (tail_nothing s.Name (λ x. refl) (λ x. refl))))
+
+  of_name : (e : s.Expr) (ts : List Token) → Spells M (as_value (λ p. p.1 p.0) (seq rules.ident rules.after_name)) e ts → Fine ts → Claims N N N e ts
+  of_name e ts x f =
+      let c = (back_named after_name_back).of e ts x f in
+      let plain : Plain N e = subst (Plain N) (sym x.2) (plain_named M N x.0.0 x.0.1 x.1.1 x.1.4) in
+      plain_claims e (expr_at AsFactor e) ts refl plain.term plain.alone (plain.negated ts)
+      (claim_called n Factor (claim_right _ (claim_right _ (claim_right _ (claim_right _ (claim_right _ (claim_right _ c)))))))
 
   pub of_factor : (e : s.Expr) (ts : List Token) → Spells M rules.factor e ts → Fine ts → Claims N N N e ts
   of_factor e ts x f = elim x [
@@ -283,17 +310,33 @@ module _ (n : ℕ) (hyp : Hypothesis n) where
       | inl y ↦ of_minus e ts y f
       | inr x ↦ elim x [
         | inl y ↦ of_parentheses e ts y f
-        | inr x ↦ elim x [ inl y ↦ of_read e ts y f | inr y ↦ of_name e ts y f ]
+        | inr x ↦ elim x [
+          | inl y ↦ of_read e ts y f
+          | inr x ↦ elim x [
+            | inl y ↦ of_count e ts y f
+            | inr x ↦ elim x [ inl y ↦ of_total e ts y f | inr y ↦ of_name e ts y f ]
+          ]
+        ]
       ]
     ]
   ]
 
-factor_claims : (n : ℕ) → Hypothesis n
-factor_claims zero = λ e ts x f. absurd x
-factor_claims (suc n) = λ e ts x f. of_factor n (factor_claims n) e ts x f
+-- What is known of factors and tests that go a depth deep.
+record Known (n : ℕ) : Type 0 where
+  factors : Hypothesis n
+  test : Back (Means rule n) (call Test) test_without test_kinds
+
+known : (n : ℕ) → Known n
+known zero = record { factors = λ e ts x f. absurd x; test = never Test test_without test_kinds }
+known (suc n) =
+    let k = known n in
+    record {
+      factors = λ e ts x f. of_factor n k.factors (cond_step k.test) e ts x f;
+      test = back_called n Test (test_step (back_alone n k.factors (cond_step k.test)) k.test);
+    }
 
 pub back_expr : (n : ℕ) → Back (Means rule n) rules.expr expr_without (expr_at Alone)
-back_expr n = record { of = λ e ts x f. (of_expr n (factor_claims n) e ts x f).alone }
+back_expr n = back_alone n (known n).factors (cond_step (known n).test)
 
-pub back_factors : (n : ℕ) → Back (Means rule n) (call Factor) expr_without (expr_at AsFactor)
-back_factors n = record { of = λ e ts x f. (factor_claims n e ts x f).factor }
+pub back_cond : (n : ℕ) → Back (Means rule n) rules.cond cond_without cond_kinds
+back_cond n = cond_step (known n).test

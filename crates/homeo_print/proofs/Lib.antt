@@ -9,9 +9,11 @@ pub mod ExpressionsBack
 pub mod Laying
 pub mod Lexing
 pub mod Listed
+pub mod NamesBack
 pub mod Numbered
 pub mod PhraseSteps
 pub mod PhrasesBack
 pub mod ReadingBack
 pub mod Scanning
 pub mod Spelled
+pub mod TestsBack
