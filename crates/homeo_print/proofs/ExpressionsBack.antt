@@ -15,9 +15,9 @@ use Rattle.homeo_syntax.specs.Grammar.{call, seq, alt, as_value, Repeats, Spells
 use Rattle.homeo_syntax.specs.Rules as rules
 use Rattle.homeo_syntax.specs.Rules.{Deep, Factor, Test, Tree, Rule, rule, lead, closed, name_in, value_in, ident_at, product_of, sum_of}
 use Rattle.homeo_print.specs.Key.{words}
-use Rattle.homeo_print.specs.TokensOf.{Kinds, name_of, parenthesised, Alone, AsTerm, AsFactor, expr_at, sum_kinds, later_terms, product_kinds, later_factors, test_kinds, cond_kinds}
+use Rattle.homeo_print.specs.TokensOf.{Kinds, parenthesised, Alone, AsTerm, AsFactor, expr_at, sum_kinds, later_terms, product_kinds, later_factors, test_kinds, cond_kinds}
 use Rattle.homeo_print.specs.Offsets.{expr_without, exprs_without, test_without, cond_without}
-use Rattle.homeo_print.proofs.Atoms.{kinds_of, atoms, atoms_append, mark_skipped, name_taken, literal_taken, Fine, fine_split}
+use Rattle.homeo_print.proofs.Atoms.{kinds_of, atoms, atoms_append, mark_skipped, literal_taken, Fine, fine_split}
 use Rattle.homeo_print.proofs.Claims.{Meaning, Claim, Back, claim_token, claim_lead, claim_closed, claim_as, claim_left, claim_right, claim_part, claim_at, claim_kinds, back_seq, back_many, back_lead, back_closed}
 use Rattle.homeo_print.proofs.Deeper.{claim_deeper, claim_called, back_called, never}
 use Rattle.homeo_print.proofs.NamesBack.{Tail, back_ident, tail_alt, tail_part, tail_nothing, tail_as, back_named}

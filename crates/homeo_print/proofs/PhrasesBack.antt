@@ -12,7 +12,7 @@ use Rattle.homeo_syntax.specs.Rules as rules
 use Rattle.homeo_syntax.specs.Rules.{Deep, Command, rule}
 use Rattle.homeo_print.specs.Key.{words}
 use Rattle.homeo_print.specs.TokensOf.{Kinds, name_of, parenthesised, separated, braced, expr_at, Alone, cond_kinds, setting_kinds, command_kinds, commands_kinds, later_commands}
-use Rattle.homeo_print.specs.Offsets.{ident_without, expr_without, cond_without, field_without, command_without, commands_without}
+use Rattle.homeo_print.specs.Offsets.{expr_without, cond_without, field_without, command_without, commands_without}
 use Rattle.homeo_print.proofs.Claims.{Meaning, Back, back_fixed, back_seq, back_as, back_alt, back_part, back_nothing, back_lead, back_closed, back_many, back_listed}
 use Rattle.homeo_print.proofs.Deeper.{back_called, never}
 use Rattle.homeo_print.proofs.NamesBack.{Tail, back_ident, tail_alt, tail_part, tail_as, back_named}
