@@ -4,7 +4,9 @@ use Rattle.std.specs.Prelude.{Ok, Err, nat_lt, if◌then◌else◌, ◌==◌}
 use Rattle.std.proofs.lemmas.Bool.{lt-ltb, eqb-true}
 use Rattle.homeo_syntax.specs.Classes.{number_of, class_of}
 use Rattle.homeo_syntax.specs.declared.command.Command.{Command as Command_}
-use Rattle.homeo_reader.specs.Reading.{command_views}
+use Rattle.homeo_reader.specs.Commands.{command_views, field_views}
+use Rattle.homeo_syntax.specs.declared.command.FieldValue.{FieldValue}
+use Rattle.homeo_syntax.specs.declared.phrase.Ident.{Ident}
 use Rattle.std.proofs.lemmas.List.{map-append}
 use Rattle.homeo_syntax.specs.declared.token.Mark.{Mark}
 use Rattle.homeo_syntax.specs.declared.token.Mark.TheVariants as mark
@@ -12,20 +14,22 @@ use Rattle.homeo_syntax.specs.declared.token.Kind.{Kind}
 use Rattle.homeo_syntax.specs.declared.token.Kind.TheVariants as kind
 use Rattle.homeo_syntax.specs.declared.token.Token.{Token}
 use Rattle.homeo_syntax.specs.Grammar.{Grammar, call, many, Spells, Means, takes, has}
-use Rattle.homeo_reader.specs.Engine.{Reading, ◌>>=◌, read, calls_at, Calls, Classes, empty, begins, first_is}
-use Rattle.homeo_syntax.specs.Rules.{Rule, Command, rule, command, lead}
+use Rattle.homeo_reader.specs.Engine.{Reading, ◌>>=◌, read, calls_at, Calls, Classes, empty, exists, begins, first_is}
+use Rattle.homeo_syntax.specs.Rules.{Rule, Command, rule, command, field_value, lead}
 use Rattle.homeo_reader.specs.FirstTokens.{classes}
 use Rattle.homeo_syntax.specs.Source as s
-use Rattle.homeo_syntax.specs.SourceView.{commands, plain_command}
-use Rattle.homeo_reader.specs.Reading.{if_read, command_read, commands_read, next_command_read, next_command_do, block_read, block_do, command_by, command_do, expr_read, cond_read, mark_read, ident_read, on_marked}
-use Rattle.homeo_reader.proofs.Bools.{if_true, and_split, not_true, not_false}
-use Rattle.homeo_reader.proofs.Flat.{read_then, reads, reads_part, bind_same}
+use Rattle.homeo_syntax.specs.SourceView.{commands, plain_expr, plain_command, plain_field}
+use Rattle.homeo_syntax.specs.Key.{words}
+use Rattle.homeo_reader.specs.Commands.{if_read, foreach_read, insert_read, delete_read, update_read, command_read, commands_read, next_command_read, next_command_do, block_read, block_do, setting_read, field_setting_rest, row_setting_rest, setting_by, setting_do, field_value_read, field_value_do, next_field_value_read, next_field_value_do, other_field_values_read, field_values_read, field_values_do, command_by, command_do}
+use Rattle.homeo_reader.specs.Reading.{expr_read, cond_read, visit_read, mark_read, ident_read, on_marked}
+use Rattle.homeo_reader.proofs.Bools.{if_true, and_split, and_join, not_true, not_false}
+use Rattle.homeo_reader.proofs.Flat.{read_then, reads, reads_part, flat_part, bind_same}
 use Rattle.homeo_reader.proofs.Words.{Known, Outcome, word_begins, empty_word}
 use Rattle.homeo_reader.proofs.Outcomes.{read_outcome}
 use Rattle.homeo_reader.proofs.Complete.{known_at}
 use Rattle.homeo_reader.proofs.Decided.{decided}
 use Rattle.homeo_reader.proofs.ExprSteps.{room_minus}
-use Rattle.homeo_reader.proofs.Lists.{opt_lead, differ, marked}
+use Rattle.homeo_reader.proofs.Lists.{opt_lead, exists_term, differ, marked}
 
 pub exists_command : (n : ℕ) → 0 < n → (calls_at rule n).exists Command ≡ true
 unfolding calls_at
@@ -36,16 +40,62 @@ pub next_command_reads : (room : ℕ) (ts : List Token) → 0 < room → next_co
 unfolding next_command_read next_command_do command_read read
 next_command_reads room ts h = opt_lead (calls_at rule room) mark.Semicolon (call Command) (exists_command room h) ts
 
+-- ---- what is set
+setting_kind : (n : ℕ) (x : Ident) (k : Kind) (o : ℕ) (ts : List Token) → setting_read (suc n) x (record { kind = k; offset = o } ∷ ts) ≡ setting_by (suc n) x k (record { kind = k; offset = o }) ts
+unfolding setting_read setting_by field_setting_rest row_setting_rest expr_read read_then calls_at
+setting_kind n x (kind.Fixed mark.Assign) o ts = flat_part (calls_at rule (suc n)) _ (record { kind = kind.Fixed mark.Assign; offset = o } ∷ ts) (λ y. Ok (y.0 x, y.1))
+setting_kind n x k o ts = flat_part (calls_at rule (suc n)) _ (record { kind = k; offset = o } ∷ ts) (λ y. Ok (y.0 x, y.1))
+
+setting_nil : (n : ℕ) (x : Ident) → setting_read (suc n) x [] ≡ Err []
+unfolding setting_read read_then calls_at
+setting_nil n x = flat_part (calls_at rule (suc n)) _ [] (λ y. Ok (y.0 x, y.1))
+
+pub setting_reads : (room : ℕ) (x : Ident) (ts : List Token) → 0 < room → setting_read room x ts ≡ setting_do room x ts
+unfolding setting_do
+setting_reads zero x ts h = absurd (omega arith)
+setting_reads (suc n) x [] h = setting_nil n x
+setting_reads (suc n) x (t ∷ ts) h = setting_kind n x t.kind t.offset ts
+
+pub field_value_reads : (room : ℕ) (ts : List Token) → field_value_read room ts ≡ field_value_do room ts
+unfolding field_value_read field_value_do expr_read read_then
+field_value_reads room ts = reads_part (calls_at rule room) _ ts
+
+exists_field_value : (n : ℕ) → 0 < n → exists (calls_at rule n) field_value ≡ true
+exists_field_value n h = and_join _ _ (exists_term n h) refl
+
+pub next_field_value_reads : (room : ℕ) (ts : List Token) → 0 < room → next_field_value_read room ts ≡ next_field_value_do room ts
+unfolding next_field_value_read next_field_value_do field_value_read
+next_field_value_reads room ts h = opt_lead (calls_at rule room) mark.Comma field_value (exists_field_value room h) ts
+
+pub field_values_reads : (room : ℕ) (ts : List Token) → field_values_read room ts ≡ field_values_do room ts
+unfolding field_values_read field_values_do field_value_read other_field_values_read read_then
+field_values_reads room ts = reads_part (calls_at rule room) _ ts
+
+abbrev pub comma_field_value : Rule s.FieldValue
+comma_field_value = lead mark.Comma field_value
+
+pub field_views_push : (new old : List FieldValue) (e : FieldValue) → new ≡ old ++ e ∷ [] → field_views new ≡ field_views old ++ plain_field e ∷ []
+field_views_push new old e h = ap field_views h ∙ map-append plain_field old (e ∷ [])
+
+pub field_of_view : (f : FieldValue) → (plain_field f).field ≡ f.field
+unfolding words
+field_of_view f = refl
+
+pub value_of_view : (f : FieldValue) → (plain_field f).value ≡ plain_expr f.value
+unfolding words
+value_of_view f = refl
+
+-- ---- commands
 command_kind_1 : (k : Kind) (o : ℕ) (ts : List Token) → command_read 1 (record { kind = k; offset = o } ∷ ts) ≡ command_by 1 k (record { kind = k; offset = o }) ts
 unfolding command_read command_by block_read read_then calls_at
 command_kind_1 (kind.Fixed mark.Skip) o ts = reads (calls_at rule 0) command (record { kind = kind.Fixed mark.Skip; offset = o } ∷ ts)
 command_kind_1 k o ts = reads (calls_at rule 0) command (record { kind = k; offset = o } ∷ ts)
 
 command_kind_2 : (n : ℕ) (k : Kind) (o : ℕ) (ts : List Token) → command_read (suc (suc n)) (record { kind = k; offset = o } ∷ ts) ≡ command_by (suc (suc n)) k (record { kind = k; offset = o }) ts
-unfolding command_read command_by block_read read_then calls_at expr_read cond_read if_read
+unfolding command_read command_by block_read setting_read read_then calls_at expr_read cond_read visit_read field_value_read field_values_read if_read foreach_read insert_read delete_read update_read
 command_kind_2 n (kind.Name v) o ts =
     reads (calls_at rule (suc n)) command (record { kind = kind.Name v; offset = o } ∷ ts)
-    ∙ room_minus n (λ m. ident_read (record { kind = kind.Name v; offset = o } ∷ ts) >>= λ a. mark_read mark.Assign a.1 >>= λ b. expr_read m b.1 >>= λ c. Ok (s.Assign a.0 c.0, c.1)) (Err (record { kind = kind.Name v; offset = o } ∷ ts))
+    ∙ room_minus n (λ m. ident_read (record { kind = kind.Name v; offset = o } ∷ ts) >>= λ a. setting_read m a.0 a.1) (Err (record { kind = kind.Name v; offset = o } ∷ ts))
 command_kind_2 n (kind.Fixed mark.OpenBrace) o ts =
     reads (calls_at rule (suc n)) command (record { kind = kind.Fixed mark.OpenBrace; offset = o } ∷ ts)
     ∙ (let less : suc n ≡ suc (suc n) - 1 = omega arith in ap (λ (m : ℕ). block_read m (record { kind = kind.Fixed mark.OpenBrace; offset = o } ∷ ts) >>= λ a. Ok (s.Block a.0, a.1)) less)
@@ -58,6 +108,18 @@ command_kind_2 n (kind.Fixed mark.Print) o ts =
 command_kind_2 n (kind.Fixed mark.If) o ts =
     reads (calls_at rule (suc n)) command (record { kind = kind.Fixed mark.If; offset = o } ∷ ts)
     ∙ room_minus n (λ m. if_read m ts) (Err (record { kind = kind.Fixed mark.If; offset = o } ∷ ts))
+command_kind_2 n (kind.Fixed mark.Foreach) o ts =
+    reads (calls_at rule (suc n)) command (record { kind = kind.Fixed mark.Foreach; offset = o } ∷ ts)
+    ∙ room_minus n (λ m. foreach_read m ts) (Err (record { kind = kind.Fixed mark.Foreach; offset = o } ∷ ts))
+command_kind_2 n (kind.Fixed mark.Insert) o ts =
+    reads (calls_at rule (suc n)) command (record { kind = kind.Fixed mark.Insert; offset = o } ∷ ts)
+    ∙ room_minus n (λ m. insert_read m ts) (Err (record { kind = kind.Fixed mark.Insert; offset = o } ∷ ts))
+command_kind_2 n (kind.Fixed mark.Delete) o ts =
+    reads (calls_at rule (suc n)) command (record { kind = kind.Fixed mark.Delete; offset = o } ∷ ts)
+    ∙ room_minus n (λ m. delete_read m ts) (Err (record { kind = kind.Fixed mark.Delete; offset = o } ∷ ts))
+command_kind_2 n (kind.Fixed mark.Update) o ts =
+    reads (calls_at rule (suc n)) command (record { kind = kind.Fixed mark.Update; offset = o } ∷ ts)
+    ∙ room_minus n (λ m. update_read m ts) (Err (record { kind = kind.Fixed mark.Update; offset = o } ∷ ts))
 command_kind_2 n k o ts = reads (calls_at rule (suc n)) command (record { kind = k; offset = o } ∷ ts)
 
 pub command_reads : (room : ℕ) (ts : List Token) → 0 < room → command_read room ts ≡ command_do room ts

@@ -12,10 +12,11 @@ use Rattle.homeo_syntax.specs.declared.workload.ObjectDecl.{ObjectDecl}
 use Rattle.homeo_syntax.specs.declared.workload.RangeDecl.{RangeDecl}
 use Rattle.homeo_syntax.specs.Source as s
 use Rattle.homeo_syntax.specs.Grammar.{seq, many, part, as_value}
-use Rattle.homeo_syntax.specs.Rules.{Command, Rule, Deep, Tree, rule, lead, closed, limit, ident, number, signed, range, separated, decl, parameters, block, invocation, calls, workload}
+use Rattle.homeo_syntax.specs.Rules.{Command, Rule, Deep, Tree, rule, lead, closed, limit, ident, number, signed, range, separated, decl, fields, relation, parameters, block, invocation, calls, workload}
 use Rattle.homeo_reader.specs.Engine.{Calls, Reading, ◌>>=◌, read, calls_at, empty, exists, begins, first_is}
-use Rattle.homeo_reader.specs.Reading.{mark_read, if_marked, on_marked, opt_of, opt_read, block_read}
-use Rattle.homeo_reader.specs.Declarations.{top, signed_read, signed_by, signed_do, range_read, range_do, object_rest, next_object_read, next_object_do, objects_read, after_first, decl_read, decl_do, first_decl_read, first_decl_by, first_decl_do, next_decl_read, next_decl_do, other_decls_read, parameters_read, parameters_do, transaction_rest, next_transaction_read, next_transaction_do, transactions_read, first_argument_read, first_argument_by, first_argument_do, next_argument_read, next_argument_do, other_arguments_read, arguments_read, arguments_do, invocation_read, invocation_do, first_invocation_read, first_invocation_by, first_invocation_do, next_invocation_read, next_invocation_do, other_invocations_read, invocations_read, invocations_do, calls_read, calls_do, client_rest, next_client_read, next_client_do, clients_read, next_name_read, next_name_by, next_name_do, names_read, schedule_read, schedule_do, head_read, head_do, workload_read, workload_do}
+use Rattle.homeo_reader.specs.Reading.{mark_read, if_marked, on_marked, opt_of, opt_read}
+use Rattle.homeo_reader.specs.Commands.{block_read}
+use Rattle.homeo_reader.specs.Declarations.{top, signed_read, signed_by, signed_do, range_read, range_do, object_rest, next_object_read, next_object_do, objects_read, after_first, decl_read, decl_do, first_decl_read, first_decl_by, first_decl_do, next_decl_read, next_decl_do, other_decls_read, fields_read, fields_do, relation_rest, next_relation_read, next_relation_do, relations_read, parameters_read, parameters_do, transaction_rest, next_transaction_read, next_transaction_do, transactions_read, first_argument_read, first_argument_by, first_argument_do, next_argument_read, next_argument_do, other_arguments_read, arguments_read, arguments_do, invocation_read, invocation_do, first_invocation_read, first_invocation_by, first_invocation_do, next_invocation_read, next_invocation_do, other_invocations_read, invocations_read, invocations_do, calls_read, calls_do, client_rest, next_client_read, next_client_do, clients_read, next_name_read, next_name_by, next_name_do, names_read, schedule_read, schedule_do, head_read, head_do, workload_read, workload_do}
 use Rattle.homeo_reader.proofs.Flat.{read_then, reads, reads_part, flat, bind_assoc}
 use Rattle.homeo_reader.proofs.Lists.{opt_lead, opt_as, mapped}
 use Rattle.homeo_reader.proofs.CommandSteps.{begins_same}
@@ -115,6 +116,20 @@ pub next_decl_reads : (ts : List Token) → next_decl_read ts ≡ next_decl_do t
 unfolding next_decl_read next_decl_do decl_read
 next_decl_reads ts = opt_lead top mark.Comma decl refl ts
 
+pub fields_reads : (ts : List Token) → fields_read ts ≡ fields_do ts
+unfolding fields_read fields_do decl_read other_decls_read read_then
+fields_reads ts = reads_part top _ ts
+
+abbrev relation_body : Rule (Ident × (Number × List RangeDecl))
+relation_body = seq ident (lead mark.OpenBracket (seq number (lead mark.CloseBracket (lead mark.Open (closed fields mark.Close)))))
+
+abbrev relation_of : Ident × (Number × List RangeDecl) → s.RelationDecl
+relation_of p = record { name = p.0; slots = p.1.0; fields = p.1.1 }
+
+pub next_relation_reads : (ts : List Token) → next_relation_read ts ≡ next_relation_do ts
+unfolding next_relation_read next_relation_do relation_rest fields_read read_then
+next_relation_reads ts = lead_rest top relation_of mark.Relation relation_body relation_rest refl (λ r. flat top relation_body r (λ x. Ok (relation_of x.0, x.1))) ts
+
 pub parameters_reads : (ts : List Token) → parameters_read ts ≡ parameters_do ts
 unfolding parameters_read parameters_do first_decl_read other_decls_read
 parameters_reads ts = separated_reads mark.Comma _ refl ts
@@ -194,7 +209,7 @@ unfolding head_read head_do read_then
 head_reads ts = reads_part top _ ts
 
 pub workload_reads : (names : List (List ℕ)) (ts : List Token) → workload_read names ts ≡ workload_do names ts
-unfolding workload_read workload_do head_read objects_read transactions_read clients_read schedule_read read_then
+unfolding workload_read workload_do head_read objects_read relations_read transactions_read clients_read schedule_read read_then
 workload_reads names ts = reads top (workload names) ts
 
 abbrev pub semi_invocation : Rule s.Call

@@ -7,13 +7,14 @@ use Rattle.homeo_syntax.specs.declared.token.Kind.TheVariants as kind
 use Rattle.homeo_syntax.specs.declared.token.Token.{Token}
 use Rattle.homeo_reader.specs.Engine.{Reading, ◌>>=◌, read, calls_at}
 use Rattle.homeo_syntax.specs.Rules.{rule, factor, test}
-use Rattle.homeo_reader.specs.Reading.{factor_read, factors_read, term_read, terms_read, expr_read, factor_by, factor_do, term_do, expr_do}
+use Rattle.homeo_syntax.specs.declared.phrase.Ident.{Ident}
+use Rattle.homeo_reader.specs.Reading.{factor_read, factors_read, term_read, terms_read, expr_read, visit_read, visit_do, field_rest, after_name_read, after_name_by, after_name_do, count_rest, total_rest, factor_by, factor_do, term_do, expr_do}
 use Rattle.homeo_syntax.specs.Source as s
-use Rattle.homeo_reader.specs.Reading.{mark_read, cond_read, cond_do, test_read, tests_read, test_do, comparison_read, comparison_do}
+use Rattle.homeo_reader.specs.Reading.{ident_read, mark_read, cond_read, cond_do, test_read, tests_read, test_do, comparison_read, comparison_do}
 use Rattle.std.proofs.lemmas.Bool.{lt-ltb}
 use Rattle.homeo_syntax.specs.declared.phrase.Compare.{Compare}
 use Rattle.homeo_reader.proofs.Bools.{if_true}
-use Rattle.homeo_reader.proofs.Flat.{read_then, reads, reads_part, bind_same}
+use Rattle.homeo_reader.proofs.Flat.{read_then, reads, reads_part, flat_part, bind_same}
 
 pub term_reads : (room : ℕ) (ts : List Token) → term_read room ts ≡ term_do room ts
 unfolding term_read term_do factor_read factors_read read_then
@@ -23,8 +24,34 @@ pub expr_reads : (room : ℕ) (ts : List Token) → expr_read room ts ≡ expr_d
 unfolding expr_read expr_do term_read terms_read read_then
 expr_reads room ts = reads_part (calls_at rule room) _ ts
 
+pub visit_reads : (room : ℕ) (ts : List Token) → visit_read room ts ≡ visit_do room ts
+unfolding visit_read visit_do cond_read read_then
+visit_reads room ts = reads_part (calls_at rule room) _ ts
+
+after_name_kind_0 : (x : Ident) (k : Kind) (o : ℕ) (ts : List Token) → after_name_read 0 x (record { kind = k; offset = o } ∷ ts) ≡ after_name_by 0 x k (record { kind = k; offset = o }) ts
+unfolding after_name_read after_name_by read_then calls_at
+after_name_kind_0 x (kind.Fixed mark.OpenBracket) o ts = flat_part (calls_at rule 0) _ (record { kind = kind.Fixed mark.OpenBracket; offset = o } ∷ ts) (λ y. Ok (y.0 x, y.1))
+after_name_kind_0 x k o ts = flat_part (calls_at rule 0) _ (record { kind = k; offset = o } ∷ ts) (λ y. Ok (y.0 x, y.1))
+
+after_name_kind_1 : (n : ℕ) (x : Ident) (k : Kind) (o : ℕ) (ts : List Token) → after_name_read (suc n) x (record { kind = k; offset = o } ∷ ts) ≡ after_name_by (suc n) x k (record { kind = k; offset = o }) ts
+unfolding after_name_read after_name_by field_rest expr_read read_then calls_at
+after_name_kind_1 n x (kind.Fixed mark.OpenBracket) o ts =
+    flat_part (calls_at rule (suc n)) _ (record { kind = kind.Fixed mark.OpenBracket; offset = o } ∷ ts) (λ y. Ok (y.0 x, y.1))
+    ∙ sym (if_true (nat_lt 0 (suc n)) (field_rest (suc n) x ts) (Ok (s.Name x, record { kind = kind.Fixed mark.OpenBracket; offset = o } ∷ ts)) (lt-ltb 0 (suc n) (omega arith)))
+after_name_kind_1 n x k o ts = flat_part (calls_at rule (suc n)) _ (record { kind = k; offset = o } ∷ ts) (λ y. Ok (y.0 x, y.1))
+
+after_name_nil : (room : ℕ) (x : Ident) → after_name_read room x [] ≡ Ok (s.Name x, [])
+unfolding after_name_read read_then
+after_name_nil room x = flat_part (calls_at rule room) _ [] (λ y. Ok (y.0 x, y.1))
+
+pub after_name_reads : (room : ℕ) (x : Ident) (ts : List Token) → after_name_read room x ts ≡ after_name_do room x ts
+unfolding after_name_do
+after_name_reads room x [] = after_name_nil room x
+after_name_reads zero x (t ∷ ts) = after_name_kind_0 x t.kind t.offset ts
+after_name_reads (suc n) x (t ∷ ts) = after_name_kind_1 n x t.kind t.offset ts
+
 factor_kind_1 : (k : Kind) (o : ℕ) (ts : List Token) → factor_read 1 (record { kind = k; offset = o } ∷ ts) ≡ factor_by 1 k (record { kind = k; offset = o }) ts
-unfolding factor_read factor_by read_then calls_at
+unfolding factor_read factor_by after_name_read read_then calls_at
 factor_kind_1 (kind.Fixed mark.Read) o ts = reads (calls_at rule 0) factor (record { kind = kind.Fixed mark.Read; offset = o } ∷ ts)
 factor_kind_1 k o ts = reads (calls_at rule 0) factor (record { kind = k; offset = o } ∷ ts)
 
@@ -32,7 +59,16 @@ pub room_minus : {A : Type 0} → (n : ℕ) (f : ℕ → A) (e : A) → f (suc n
 room_minus n f e = sym (if_true (nat_lt 1 (suc (suc n))) (f (suc (suc n) - 1)) e (lt-ltb _ _ (omega arith)) ∙ ap f (omega arith))
 
 factor_kind_2 : (n : ℕ) (k : Kind) (o : ℕ) (ts : List Token) → factor_read (suc (suc n)) (record { kind = k; offset = o } ∷ ts) ≡ factor_by (suc (suc n)) k (record { kind = k; offset = o }) ts
-unfolding factor_read factor_by read_then calls_at expr_read cond_read
+unfolding factor_read factor_by after_name_read count_rest total_rest read_then calls_at expr_read visit_read
+factor_kind_2 n (kind.Name v) o ts =
+    reads (calls_at rule (suc n)) factor (record { kind = kind.Name v; offset = o } ∷ ts)
+    ∙ (let less : suc n ≡ suc (suc n) - 1 = omega arith in ap (λ (m : ℕ). ident_read (record { kind = kind.Name v; offset = o } ∷ ts) >>= λ x. after_name_read m x.0 x.1) less)
+factor_kind_2 n (kind.Fixed mark.Count) o ts =
+    reads (calls_at rule (suc n)) factor (record { kind = kind.Fixed mark.Count; offset = o } ∷ ts)
+    ∙ room_minus n (λ m. count_rest m ts) (Err (record { kind = kind.Fixed mark.Count; offset = o } ∷ ts))
+factor_kind_2 n (kind.Fixed mark.Sum) o ts =
+    reads (calls_at rule (suc n)) factor (record { kind = kind.Fixed mark.Sum; offset = o } ∷ ts)
+    ∙ room_minus n (λ m. total_rest m ts) (Err (record { kind = kind.Fixed mark.Sum; offset = o } ∷ ts))
 factor_kind_2 n (kind.Fixed mark.Minus) o ts =
     reads (calls_at rule (suc n)) factor (record { kind = kind.Fixed mark.Minus; offset = o } ∷ ts)
     ∙ room_minus n (λ m. factor_read m ts >>= λ x. Ok (s.Neg x.0, x.1)) (Err (record { kind = kind.Fixed mark.Minus; offset = o } ∷ ts))

@@ -62,3 +62,7 @@ reads cs g ts = sym (bind_ok (read cs g ts)) ∙ flat cs g ts Ok
 pub reads_part : {Call : Type 0} {Value : Call → Type 0} {X : Type 0} → (cs : Calls Call Value) (g : Grammar Call Value X) (ts : List Token) → read cs (part g) ts ≡ read_then cs g ts Ok
 unfolding read
 reads_part cs g ts = reads cs g ts
+
+pub flat_part : {Call : Type 0} {Value : Call → Type 0} {X Y : Type 0} → (cs : Calls Call Value) (g : Grammar Call Value X) (ts : List Token) (k : X × List Token → Reading Y) → (read cs (part g) ts >>= k) ≡ read_then cs g ts k
+unfolding read
+flat_part cs g ts k = flat cs g ts k

@@ -16,7 +16,7 @@ use Rattle.homeo_syntax.specs.Classes.{name_class}
 use Rattle.homeo_syntax.specs.Grammar.{call, takes, Means}
 use Rattle.homeo_syntax.specs.Rules as rules
 use Rattle.homeo_syntax.specs.Rules.{Deep, Factor, Test, Command, Tree, Rule, rule, limit, fixed, lead, closed, name_in, value_in, is_natural, is_natural_value, product_of, sum_of}
-use Rattle.homeo_syntax.specs.WellFormed.{Each, EachInExpr, EachInExprs, EachInTest, EachInCond, EachInCommand, EachInCommands, InSchedule, EachIdent, IsBelow}
+use Rattle.homeo_syntax.specs.WellFormed.{Each, EachInExpr, EachInExprs, EachInTest, EachInCond, EachInCommand, EachInCommands, EachInFields, InSchedule, EachIdent, IsBelow}
 use Rattle.homeo_reader.proofs.Keeps.{Sound, Meaning, Every, sound_token, sound_nothing, sound_seq, sound_alt, sound_part, sound_as, sound_many, sound_lead, sound_closed}
 
 -- a name's place is below this number
@@ -63,10 +63,18 @@ unfolding words
 sum_kept B e [] h k = h
 sum_kept B e (f ∷ fs) h k = each_exprs B (e ∷ f ∷ fs) (h, k)
 
+each_fields : (B : Ident → Type 0) (fs : List s.FieldValue) → Every (λ f. B f.field × EachInExpr B f.value) fs → EachInFields B fs
+unfolding words
+each_fields B [] h = tt
+each_fields B (f ∷ fs) h = (h.0.0, h.0.1, each_fields B fs h.1)
+
 abbrev Phrase : (Ident → Type 0) → (c : Deep) → Tree c → Type 0
 Phrase B Factor = EachInExpr B
 Phrase B Test = EachInTest B
 Phrase B Command = EachInCommand B
+
+abbrev IsRelation : (Ident → Type 0) → s.RelationDecl → Type 0
+IsRelation B r = B r.name × Each (λ (f : RangeDecl). B f.name) r.fields
 
 abbrev IsTransaction : (Ident → Type 0) → s.Transaction → Type 0
 IsTransaction B t = B t.name × Each (λ (p : RangeDecl). B p.name) t.params × EachInCommands B t.body
@@ -115,6 +123,22 @@ module _ (n : ℕ) (M : Meaning) (hyp : (c : Deep) → Sound M (λ t. Named n t.
       (sound_seq M F _ _ (EachInTest B) (Every (EachInTest B)) (hyp Test) (sound_many M F _ (EachInTest B) (sound_lead M F mark.And _ (EachInTest B) (hyp Test))))
       (λ p h. each_tests B (p.0 ∷ p.1) h))
 
+  visit_kept : Sound M F rules.visit (λ p. B p.0 × (B p.1.0 × EachInCond B p.1.1))
+  visit_kept =
+      sound_part M F _ _ (sound_seq M F _ _ B (λ p. B p.0 × EachInCond B p.1) ident_kept
+      (sound_lead M F mark.Of _ _ (sound_seq M F _ _ B (EachInCond B) ident_kept (sound_lead M F mark.When _ (EachInCond B) cond_kept))))
+
+  -- with each name before it
+  after_name_kept : Sound M F rules.after_name (λ f. (x : Ident) → B x → E (f x))
+  unfolding words
+  after_name_kept =
+      sound_part M F _ _
+      (sound_alt M F _ _ _ (sound_as M F _ _ (λ p. E p.0 × B p.1) (λ f. (x : Ident) → B x → E (f x))
+      (sound_lead M F mark.OpenBracket _ _ (sound_seq M F _ _ E B expr_kept (sound_lead M F mark.CloseBracket _ B (sound_lead M F mark.Dot _ B ident_kept))))
+      (λ p h x b. (b, h.0, h.1)))
+      (sound_alt M F _ _ _ (sound_as M F _ _ B (λ f. (x : Ident) → B x → E (f x)) (sound_lead M F mark.Dot _ B ident_kept) (λ p h x b. (b, h)))
+      (sound_nothing M F s.Name (λ f. (x : Ident) → B x → E (f x)) (λ x b. b))))
+
   factor_kept : Sound M F rules.factor E
   unfolding words
   factor_kept =
@@ -122,7 +146,9 @@ module _ (n : ℕ) (M : Meaning) (hyp : (c : Deep) → Sound M (λ t. Named n t.
       (sound_alt M F _ _ E (sound_as M F s.Neg _ E E (sound_lead M F mark.Minus _ E (hyp Factor)) (λ a h. h))
       (sound_alt M F _ _ E (sound_lead M F mark.Open _ E (sound_closed M F mark.Close _ E expr_kept))
       (sound_alt M F _ _ E (sound_as M F s.Read _ B E (sound_lead M F mark.Read _ B (sound_lead M F mark.Open _ B (sound_closed M F mark.Close _ B ident_kept))) (λ a h. h))
-      (sound_as M F s.Name _ B E ident_kept (λ a h. h)))))
+      (sound_alt M F _ _ E (sound_as M F _ _ _ E (sound_lead M F mark.Count _ _ (sound_lead M F mark.Open _ _ (sound_closed M F mark.Close _ _ visit_kept))) (λ p h. (h.0, h.1.0, h.1.1)))
+      (sound_alt M F _ _ E (sound_as M F _ _ _ E (sound_lead M F mark.Sum _ _ (sound_lead M F mark.Open _ _ (sound_seq M F _ _ B _ ident_kept (sound_lead M F mark.Dot _ _ (sound_closed M F mark.Close _ _ visit_kept))))) (λ p h. (h.0, h.1.0, h.1.1.0, h.1.1.1)))
+      (sound_as M F _ _ _ E (sound_seq M F _ _ B (λ f. (x : Ident) → B x → E (f x)) ident_kept after_name_kept) (λ p h. h.1 p.0 h.0)))))))
 
   test_kept : Sound M F rules.test (EachInTest B)
   unfolding words
@@ -139,17 +165,46 @@ module _ (n : ℕ) (M : Meaning) (hyp : (c : Deep) → Sound M (λ t. Named n t.
       (sound_as M F _ _ _ (EachInCommands B) (sound_seq M F _ _ (EachInCommand B) (Every (EachInCommand B)) (hyp Command) (sound_many M F _ (EachInCommand B) (sound_lead M F mark.Semicolon _ (EachInCommand B) (hyp Command)))) (λ p h. each_commands B (p.0 ∷ p.1) h))
       (sound_nothing M F s.NoCommand (EachInCommands B) tt))))
 
+  -- with each name before it
+  setting_kept : Sound M F rules.setting (λ f. (x : Ident) → B x → EachInCommand B (f x))
+  unfolding words
+  setting_kept =
+      sound_part M F _ _
+      (sound_alt M F _ _ _ (sound_as M F _ _ E (λ f. (x : Ident) → B x → EachInCommand B (f x)) (sound_lead M F mark.Assign _ E expr_kept) (λ p h x b. (b, h)))
+      (sound_alt M F _ _ _ (sound_as M F _ _ (λ p. E p.0 × (B p.1.0 × E p.1.1)) (λ f. (x : Ident) → B x → EachInCommand B (f x))
+      (sound_lead M F mark.OpenBracket _ _ (sound_seq M F _ _ E (λ p. B p.0 × E p.1) expr_kept (sound_lead M F mark.CloseBracket _ _ (sound_lead M F mark.Dot _ _ (sound_seq M F _ _ B E ident_kept (sound_lead M F mark.Assign _ E expr_kept))))))
+      (λ p h x b. (b, h.0, h.1.0, h.1.1)))
+      (sound_as M F _ _ (λ p. B p.0 × E p.1) (λ f. (x : Ident) → B x → EachInCommand B (f x))
+      (sound_lead M F mark.Dot _ _ (sound_seq M F _ _ B E ident_kept (sound_lead M F mark.Assign _ E expr_kept))) (λ p h x b. (b, h.0, h.1)))))
+
+  field_value_kept : Sound M F rules.field_value (λ f. B f.field × E f.value)
+  field_value_kept = sound_part M F _ _ (sound_as M F _ _ _ (λ f. B f.field × E f.value) (sound_seq M F _ _ B E ident_kept (sound_lead M F mark.Equal _ E expr_kept)) (λ p h. h))
+
+  listed_kept : {X : Type 0} → (m : Mark) (g : Rule X) (P : X → Type 0) → Sound M F g P → Sound M F (rules.listed m g) (Every P)
+  listed_kept m g P p = sound_as M F _ _ _ (Every P) (sound_seq M F _ _ P (Every P) p (sound_many M F _ _ (sound_lead M F m _ P p))) (λ p h. (h.0, h.1))
+
+  field_values_kept : Sound M F rules.field_values (Every (λ f. B f.field × E f.value))
+  field_values_kept = sound_part M F _ _ (listed_kept mark.Comma rules.field_value (λ f. B f.field × E f.value) field_value_kept)
+
   command_kept : Sound M F rules.command (EachInCommand B)
   unfolding words
   command_kept =
       sound_alt M F _ _ (EachInCommand B) (sound_as M F _ _ (λ u. Unit {0}) (EachInCommand B) (anything _) (λ a h. tt))
       (sound_alt M F _ _ (EachInCommand B) (sound_as M F s.Block _ (EachInCommands B) (EachInCommand B) block_kept (λ a h. h))
-      (sound_alt M F _ _ (EachInCommand B) (sound_as M F _ _ _ (EachInCommand B) (sound_seq M F _ _ B E ident_kept (sound_lead M F mark.Assign _ E expr_kept)) (λ p h. (h.0, h.1)))
+      (sound_alt M F _ _ (EachInCommand B) (sound_as M F _ _ _ (EachInCommand B) (sound_seq M F _ _ B (λ f. (x : Ident) → B x → EachInCommand B (f x)) ident_kept setting_kept) (λ p h. h.1 p.0 h.0))
       (sound_alt M F _ _ (EachInCommand B) (sound_as M F _ _ _ (EachInCommand B) (sound_lead M F mark.Write _ _ (sound_lead M F mark.Open _ _ (sound_seq M F _ _ B E ident_kept (sound_lead M F mark.Equal _ E (sound_closed M F mark.Close _ E expr_kept))))) (λ p h. (h.0, h.1)))
       (sound_alt M F _ _ (EachInCommand B) (sound_as M F s.Print _ E (EachInCommand B) (sound_lead M F mark.Print _ E (sound_lead M F mark.Open _ E (sound_closed M F mark.Close _ E expr_kept))) (λ a h. h))
-      (sound_as M F _ _ _ (EachInCommand B)
+      (sound_alt M F _ _ (EachInCommand B) (sound_as M F _ _ _ (EachInCommand B)
       (sound_lead M F mark.If _ _ (sound_seq M F _ _ (EachInCond B) _ cond_kept (sound_lead M F mark.Then _ _ (sound_seq M F _ _ (EachInCommand B) (EachInCommand B) (hyp Command) (sound_lead M F mark.Else _ (EachInCommand B) (hyp Command))))))
-      (λ p h. (h.0, h.1.0, h.1.1)))))))
+      (λ p h. (h.0, h.1.0, h.1.1)))
+      (sound_alt M F _ _ (EachInCommand B) (sound_as M F _ _ _ (EachInCommand B) (sound_lead M F mark.Foreach _ _ (sound_seq M F _ _ _ (EachInCommands B) visit_kept block_kept)) (λ p h. (h.0.0, h.0.1.0, h.0.1.1, h.1)))
+      (sound_alt M F _ _ (EachInCommand B) (sound_as M F _ _ _ (EachInCommand B)
+      (sound_lead M F mark.Insert _ _ (sound_seq M F _ _ B _ ident_kept (sound_lead M F mark.Open _ _ (sound_seq M F _ _ (Every (λ f. B f.field × E f.value)) B field_values_kept (sound_lead M F mark.Close _ _ (sound_lead M F mark.Into _ B ident_kept))))))
+      (λ p h. (h.0, each_fields B p.1.0 h.1.0, h.1.1)))
+      (sound_alt M F _ _ (EachInCommand B) (sound_as M F _ _ _ (EachInCommand B) (sound_lead M F mark.Delete _ _ visit_kept) (λ p h. (h.0, h.1.0, h.1.1)))
+      (sound_as M F _ _ _ (EachInCommand B)
+      (sound_lead M F mark.Update _ _ (sound_seq M F _ _ _ (λ f. B f.field × E f.value) visit_kept (sound_lead M F mark.Set _ _ field_value_kept)))
+      (λ p h. (h.0.0, h.0.1.0, h.0.1.1, h.1.0, h.1.1)))))))))))
 
   pub rule_kept : (c : Deep) → Sound M F (rule c) (Phrase B c)
   rule_kept Factor = factor_kept
@@ -160,13 +215,20 @@ module _ (n : ℕ) (M : Meaning) (hyp : (c : Deep) → Sound M (λ t. Named n t.
   object_kept = sound_part M F _ _ (sound_as M F _ _ _ (λ o. B o.name) (sound_lead M F mark.Object _ _ (sound_seq M F _ _ B (λ u. Unit {0}) ident_kept (anything _))) (λ p h. h.0))
 
   separated_kept : {X : Type 0} → (m : Mark) (g : Rule X) (P : X → Type 0) → Sound M F g P → Sound M F (rules.separated m g) (Every P)
-  separated_kept m g P p =
-      sound_alt M F _ _ (Every P)
-      (sound_as M F _ _ _ (Every P) (sound_seq M F _ _ P (Every P) p (sound_many M F _ _ (sound_lead M F m _ P p))) (λ p h. (h.0, h.1)))
-      (sound_nothing M F [] _ tt)
+  separated_kept m g P p = sound_alt M F _ _ (Every P) (listed_kept m g P p) (sound_nothing M F [] _ tt)
 
   decl_kept : Sound M F rules.decl (λ p. B p.name)
   decl_kept = sound_part M F _ _ (sound_as M F _ _ _ (λ p. B p.name) (sound_seq M F _ _ B (λ u. Unit {0}) ident_kept (anything _)) (λ p h. h.0))
+
+  number_kept : Sound M F rules.number (λ x. pos 0 ≤ℤ x.value)
+  number_kept = sound_token M F _ _ _ _ _ (λ t h f. natural_value (value_in t.kind) (and_split _ (is_natural t.kind) h).1)
+
+  relation_kept : Sound M F rules.relation (IsRelation B)
+  relation_kept =
+      sound_part M F _ _ (sound_as M F _ _ _ (IsRelation B)
+      (sound_lead M F mark.Relation _ _ (sound_seq M F _ _ B _ ident_kept (sound_lead M F mark.OpenBracket _ _ (sound_seq M F _ _ (λ x. pos 0 ≤ℤ x.value) _ number_kept
+      (sound_lead M F mark.CloseBracket _ _ (sound_lead M F mark.Open _ _ (sound_closed M F mark.Close _ _ (sound_part M F _ _ (listed_kept mark.Comma rules.decl (λ p. B p.name) decl_kept)))))))))
+      (λ p h. (h.0, each_of (λ p. B p.name) (λ p. B p.name) (λ a x. x) p.1.1 h.1.1)))
 
   parameters_kept : Sound M F rules.parameters (Every (λ p. B p.name))
   parameters_kept = sound_part M F _ _ (separated_kept mark.Comma rules.decl (λ p. B p.name) decl_kept)
@@ -183,9 +245,6 @@ module _ (n : ℕ) (M : Meaning) (hyp : (c : Deep) → Sound M (λ t. Named n t.
   calls_kept : Sound M F rules.calls (Every (λ k. B k.name))
   calls_kept =
       sound_part M F _ _ (sound_lead M F mark.OpenBrace _ _ (sound_closed M F mark.CloseBrace _ _ (sound_part M F _ _ (separated_kept mark.Semicolon rules.invocation (λ k. B k.name) invocation_kept))))
-
-  number_kept : Sound M F rules.number (λ x. pos 0 ≤ℤ x.value)
-  number_kept = sound_token M F _ _ _ _ _ (λ t h f. natural_value (value_in t.kind) (and_split _ (is_natural t.kind) h).1)
 
   client_kept : Sound M F rules.client (λ c. IsClient B c × IsSite c)
   client_kept =
@@ -205,20 +264,21 @@ module _ (n : ℕ) (M : Meaning) (hyp : (c : Deep) → Sound M (λ t. Named n t.
       sound_as M F _ _ _ (IsKept n names)
       (sound_seq M F _ _ (λ u. Unit {0}) _ (anything _)
       (sound_seq M F _ _ (Every (λ o. B o.name)) _ (sound_many M F _ _ object_kept)
+      (sound_seq M F _ _ (Every (IsRelation B)) _ (sound_many M F _ _ relation_kept)
       (sound_seq M F _ _ (Every (IsTransaction B)) _ (sound_many M F _ _ transaction_kept)
       (sound_seq M F _ _ (Every (λ c. IsClient B c × IsSite c)) _ (sound_many M F _ _ client_kept)
-      (sound_seq M F _ _ (InSchedule B) (λ u. Unit {0}) schedule_kept (anything _))))))
+      (sound_seq M F _ _ (InSchedule B) (λ u. Unit {0}) schedule_kept (anything _)))))))
       (λ p h. record {
         version = refl;
         names_are = refl;
         named = record {
           objects = each_of _ _ (λ a x. x) p.1.0 h.1.0;
-          relations = tt;
-          transactions = each_of _ _ (λ a x. x) p.1.1.0 h.1.1.0;
-          clients = each_of (λ c. IsClient B c × IsSite c) (IsClient B) (λ a x. x.0) p.1.1.1.0 h.1.1.1.0;
-          schedule = h.1.1.1.1.0;
+          relations = each_of _ _ (λ a x. x) p.1.1.0 h.1.1.0;
+          transactions = each_of _ _ (λ a x. x) p.1.1.1.0 h.1.1.1.0;
+          clients = each_of (λ c. IsClient B c × IsSite c) (IsClient B) (λ a x. x.0) p.1.1.1.1.0 h.1.1.1.1.0;
+          schedule = h.1.1.1.1.1.0;
         };
-        sites = each_of (λ c. IsClient B c × IsSite c) IsSite (λ a x. x.1) p.1.1.1.0 h.1.1.1.0;
+        sites = each_of (λ c. IsClient B c × IsSite c) IsSite (λ a x. x.1) p.1.1.1.1.0 h.1.1.1.1.0;
       })
 
 kept_at : (n d : ℕ) (c : Deep) → Sound (Means rule d) (λ t. Named n t.kind) (call c) (Phrase (IsBelow n) c)

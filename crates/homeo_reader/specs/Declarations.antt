@@ -8,19 +8,24 @@ use Rattle.homeo_syntax.specs.declared.phrase.Ident.{Ident}
 use Rattle.homeo_syntax.specs.declared.phrase.Number.{Number}
 use Rattle.homeo_syntax.specs.declared.workload.ObjectDecl.{ObjectDecl}
 use Rattle.homeo_syntax.specs.declared.workload.RangeDecl.{RangeDecl}
+use Rattle.homeo_syntax.specs.declared.workload.RelationDecl.{RelationDecl}
 use Rattle.homeo_syntax.specs.declared.workload.Call.{Call}
 use Rattle.homeo_syntax.specs.declared.workload.Transaction.{Transaction}
 use Rattle.homeo_syntax.specs.declared.workload.Client.{Client}
 use Rattle.homeo_syntax.specs.Source as s
-use Rattle.homeo_syntax.specs.SourceView.{plain_call, plain_transaction, plain_client}
+use Rattle.homeo_syntax.specs.SourceView.{plain_call, plain_relation, plain_transaction, plain_client}
 use Rattle.homeo_syntax.specs.Grammar.{many}
 use Rattle.homeo_syntax.specs.Rules as rules
 use Rattle.homeo_syntax.specs.Rules.{Deep, Tree, rule, lead, minus_number, limit}
 use Rattle.homeo_reader.specs.Engine.{Calls, Reading, ◌>>=◌, read, calls_at}
-use Rattle.homeo_reader.specs.Reading.{mark_read, ident_read, number_read, number_is_read, offset_read, if_marked, opt_read, block_read}
+use Rattle.homeo_reader.specs.Commands.{block_read}
+use Rattle.homeo_reader.specs.Reading.{mark_read, ident_read, number_read, number_is_read, offset_read, if_marked, opt_read}
 
 abbrev pub call_views : List Call → List s.Call
 call_views cs = map plain_call cs
+
+abbrev pub relation_views : List RelationDecl → List s.RelationDecl
+relation_views rs = map plain_relation rs
 
 abbrev pub transaction_views : List Transaction → List s.Transaction
 transaction_views ts = map plain_transaction ts
@@ -55,6 +60,15 @@ next_decl_read ts = opt_read top (lead mark.Comma rules.decl) ts
 
 unfoldable pub other_decls_read : List Token → Reading (List RangeDecl)
 other_decls_read ts = read top (many (lead mark.Comma rules.decl)) ts
+
+unfoldable pub fields_read : List Token → Reading (List RangeDecl)
+fields_read ts = read top rules.fields ts
+
+unfoldable pub next_relation_read : List Token → Reading (Option s.RelationDecl)
+next_relation_read ts = opt_read top rules.relation ts
+
+unfoldable pub relations_read : List Token → Reading (List s.RelationDecl)
+relations_read ts = read top (many rules.relation) ts
 
 unfoldable pub parameters_read : List Token → Reading (List RangeDecl)
 parameters_read ts = read top rules.parameters ts
@@ -156,6 +170,17 @@ first_decl_do (t ∷ ts) = first_decl_by t.kind t ts
 unfoldable pub next_decl_do : List Token → Reading (Option RangeDecl)
 next_decl_do ts = if_marked mark.Comma ts (λ r. decl_read r >>= λ x. Ok (Some x.0, x.1)) (Ok (None, ts))
 
+unfoldable pub fields_do : List Token → Reading (List RangeDecl)
+fields_do ts = decl_read ts >>= λ x. other_decls_read x.1 >>= λ y. Ok (x.0 ∷ y.0, y.1)
+
+-- what follows `relation`
+unfoldable pub relation_rest : List Token → Reading s.RelationDecl
+relation_rest ts =
+    ident_read ts >>= λ a. mark_read mark.OpenBracket a.1 >>= λ b. number_read b.1 >>= λ c. mark_read mark.CloseBracket c.1 >>= λ d. mark_read mark.Open d.1 >>= λ e. fields_read e.1 >>= λ f. mark_read mark.Close f.1 >>= λ g. Ok (record { name = a.0; slots = c.0; fields = f.0 }, g.1)
+
+unfoldable pub next_relation_do : List Token → Reading (Option s.RelationDecl)
+next_relation_do ts = if_marked mark.Relation ts (λ r. relation_rest r >>= λ x. Ok (Some x.0, x.1)) (Ok (None, ts))
+
 unfoldable pub parameters_do : List Token → Reading (List RangeDecl)
 parameters_do ts = first_decl_read ts >>= λ x. after_first other_decls_read x.0 x.1
 
@@ -227,5 +252,5 @@ head_do ts = mark_read mark.Workload ts >>= λ a. number_is_read 1 a.1 >>= λ b.
 
 unfoldable pub workload_do : List (List ℕ) → List Token → Reading s.Workload
 workload_do names ts =
-    head_read ts >>= λ a. objects_read a.1 >>= λ b. transactions_read b.1 >>= λ c. clients_read c.1 >>= λ d. schedule_read d.1 >>= λ e. offset_read mark.End e.1 >>= λ f.
-    Ok (record { version = 1; names = names; sites = a.0; objects = b.0; relations = []; transactions = c.0; clients = d.0; schedule = e.0; end = f.0 }, f.1)
+    head_read ts >>= λ a. objects_read a.1 >>= λ b. relations_read b.1 >>= λ c. transactions_read c.1 >>= λ d. clients_read d.1 >>= λ e. schedule_read e.1 >>= λ f. offset_read mark.End f.1 >>= λ g.
+    Ok (record { version = 1; names = names; sites = a.0; objects = b.0; relations = c.0; transactions = d.0; clients = e.0; schedule = f.0; end = g.0 }, g.1)

@@ -29,4 +29,4 @@ classes = record { starts = starts_of; goes_on = goes_on_of }
     goes_on_of : Deep → List ℕ
     goes_on_of Factor = name_goes_on
     goes_on_of Test = expr_goes_on
-    goes_on_of Command = expr_goes_on
+    goes_on_of Command = number_of mark.And ∷ expr_goes_on

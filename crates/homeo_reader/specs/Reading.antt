@@ -1,4 +1,4 @@
--- What the parser reads at each place.
+-- What the parser reads of expressions and conditions, and the words for all that it reads.
 use Rattle.std.specs.Prelude.{◌≡◌, ℕ, Bool, true, false, ◌++◌, List, [], ◌∷◌, ◌-◌, nat_lt, if◌then◌else◌, map, Option, Some, None, Result, Ok, Err}
 use Rattle.homeo_syntax.specs.declared.token.Mark.{Mark}
 use Rattle.homeo_syntax.specs.declared.token.Mark.TheVariants as mark
@@ -11,14 +11,13 @@ use Rattle.homeo_syntax.specs.declared.phrase.Compare.{Compare}
 use Rattle.homeo_syntax.specs.declared.phrase.Compare.TheVariants as compare
 use Rattle.homeo_syntax.specs.declared.phrase.Expr.{Expr}
 use Rattle.homeo_syntax.specs.declared.phrase.Test.{Test as Test_}
-use Rattle.homeo_syntax.specs.declared.command.Command.{Command as Command_}
-use Rattle.homeo_syntax.specs.Listed.{Listed}
 use Rattle.homeo_syntax.specs.Source as s
-use Rattle.homeo_syntax.specs.SourceView.{tests, commands, plain_expr, plain_test, plain_command}
+use Rattle.homeo_syntax.specs.SourceView.{tests, plain_expr, plain_test, plain_cond}
 use Rattle.homeo_syntax.specs.Classes.{number_of, name_class, number_class}
 use Rattle.homeo_syntax.specs.Grammar.{call, many, alt, as_value}
 use Rattle.homeo_syntax.specs.Rules as rules
-use Rattle.homeo_syntax.specs.Rules.{Deep, Factor, Test, Command, Tree, Rule, rule, lead, ident_at, number_at, value_in, is_natural, is_value, product_of, sum_of, minus_number, limit}
+use Rattle.homeo_syntax.specs.Rules.{Deep, Factor, Test, Tree, Rule, rule, lead, ident_at, number_at, value_in, is_natural, is_value, product_of, sum_of}
+use Rattle.homeo_reader.specs.declared.conditions.Visit.{Visit}
 use Rattle.homeo_reader.specs.declared.parser.Fault.{Fault}
 use Rattle.homeo_reader.specs.declared.parser.Fault.TheVariants.{Memory, Stuck}
 use Rattle.homeo_reader.specs.Engine.{Calls, begins, first_is, Reading, ◌>>=◌, read_token, read, calls_at}
@@ -39,11 +38,8 @@ expr_views es = map plain_expr es
 abbrev pub test_views : List Test_ → List s.Test
 test_views ts = map plain_test ts
 
-abbrev pub command_views : List Command_ → List s.Command
-command_views cs = map plain_command cs
-
-abbrev pub block_view : Listed Command_ → s.Commands
-block_view l = commands (command_views l.items)
+abbrev pub visit_view : Visit → Ident × (Ident × s.Cond)
+visit_view v = (v.name, (v.relation, plain_cond v.test))
 
 -- ---- single tokens
 abbrev pub mark_read : Mark → List Token → Reading (Unit {0})
@@ -124,25 +120,44 @@ next_test_read room ts = opt_read (calls_at rule room) (lead mark.And (call Test
 unfoldable pub cond_read : ℕ → List Token → Reading s.Cond
 cond_read room ts = read (calls_at rule room) rules.cond ts
 
-unfoldable pub command_read : ℕ → List Token → Reading s.Command
-command_read room ts = (calls_at rule room).reads Command ts
+unfoldable pub visit_read : ℕ → List Token → Reading (Ident × (Ident × s.Cond))
+visit_read room ts = read (calls_at rule room) rules.visit ts
 
-unfoldable pub commands_read : ℕ → List Token → Reading (List s.Command)
-commands_read room ts = read (calls_at rule room) (many (lead mark.Semicolon (call Command))) ts
-
-unfoldable pub next_command_read : ℕ → List Token → Reading (Option s.Command)
-next_command_read room ts = opt_read (calls_at rule room) (lead mark.Semicolon (call Command)) ts
-
-unfoldable pub block_read : ℕ → List Token → Reading s.Commands
-block_read room ts = read (calls_at rule room) rules.block ts
+-- behind the name x
+unfoldable pub after_name_read : ℕ → Ident → List Token → Reading s.Expr
+after_name_read room x ts = read (calls_at rule room) rules.after_name ts >>= λ y. Ok (y.0 x, y.1)
 
 -- ---- the same, step by step
+-- what follows a name and `[`
+unfoldable pub field_rest : ℕ → Ident → List Token → Reading s.Expr
+field_rest room x ts = expr_read room ts >>= λ a. mark_read mark.CloseBracket a.1 >>= λ b. mark_read mark.Dot b.1 >>= λ c. ident_read c.1 >>= λ d. Ok (s.Field x a.0 d.0, d.1)
+
+unfoldable pub after_name_by : ℕ → Ident → Kind → Token → List Token → Reading s.Expr
+after_name_by room x (kind.Fixed mark.OpenBracket) t ts = if nat_lt 0 room then field_rest room x ts else Ok (s.Name x, t ∷ ts)
+after_name_by room x (kind.Fixed mark.Dot) t ts = ident_read ts >>= λ a. Ok (s.Row x a.0, a.1)
+after_name_by room x _ t ts = Ok (s.Name x, t ∷ ts)
+
+unfoldable pub after_name_do : ℕ → Ident → List Token → Reading s.Expr
+after_name_do room x [] = Ok (s.Name x, [])
+after_name_do room x (t ∷ ts) = after_name_by room x t.kind t ts
+
+-- what follows `count`
+unfoldable pub count_rest : ℕ → List Token → Reading s.Expr
+count_rest room ts = mark_read mark.Open ts >>= λ a. visit_read room a.1 >>= λ b. mark_read mark.Close b.1 >>= λ c. Ok (s.Count b.0.0 b.0.1.0 b.0.1.1, c.1)
+
+-- what follows `sum`
+unfoldable pub total_rest : ℕ → List Token → Reading s.Expr
+total_rest room ts =
+    mark_read mark.Open ts >>= λ a. ident_read a.1 >>= λ b. mark_read mark.Dot b.1 >>= λ c. visit_read room c.1 >>= λ d. mark_read mark.Close d.1 >>= λ e. Ok (s.Total b.0 d.0.0 d.0.1.0 d.0.1.1, e.1)
+
 unfoldable pub factor_by : ℕ → Kind → Token → List Token → Reading s.Expr
 factor_by room (kind.Number n) t ts = Ok (s.Literal n, ts)
-factor_by room (kind.Name n) t ts = ident_read (t ∷ ts) >>= λ x. Ok (s.Name x.0, x.1)
+factor_by room (kind.Name n) t ts = ident_read (t ∷ ts) >>= λ x. after_name_read (room - 1) x.0 x.1
 factor_by room (kind.Fixed mark.Read) t ts = mark_read mark.Open ts >>= λ x. ident_read x.1 >>= λ y. mark_read mark.Close y.1 >>= λ z. Ok (s.Read y.0, z.1)
 factor_by room (kind.Fixed mark.Minus) t ts = if nat_lt 1 room then (factor_read (room - 1) ts >>= λ x. Ok (s.Neg x.0, x.1)) else Err (t ∷ ts)
 factor_by room (kind.Fixed mark.Open) t ts = if nat_lt 1 room then (expr_read (room - 1) ts >>= λ x. mark_read mark.Close x.1 >>= λ y. Ok (x.0, y.1)) else Err (t ∷ ts)
+factor_by room (kind.Fixed mark.Count) t ts = if nat_lt 1 room then count_rest (room - 1) ts else Err (t ∷ ts)
+factor_by room (kind.Fixed mark.Sum) t ts = if nat_lt 1 room then total_rest (room - 1) ts else Err (t ∷ ts)
 factor_by room _ t ts = Err (t ∷ ts)
 
 unfoldable pub factor_do : ℕ → List Token → Reading s.Expr
@@ -175,6 +190,10 @@ next_test_do room ts = if_marked mark.And ts (λ r. test_read room r >>= λ x. O
 unfoldable pub cond_do : ℕ → List Token → Reading s.Cond
 cond_do room ts = test_read room ts >>= λ x. tests_read room x.1 >>= λ y. Ok (tests (x.0 ∷ y.0), y.1)
 
+unfoldable pub visit_do : ℕ → List Token → Reading (Ident × (Ident × s.Cond))
+visit_do room ts =
+    ident_read ts >>= λ a. mark_read mark.Of a.1 >>= λ b. ident_read b.1 >>= λ c. mark_read mark.When c.1 >>= λ d. cond_read room d.1 >>= λ e. Ok ((a.0, (c.0, e.0)), e.1)
+
 unfoldable pub test_do : ℕ → List Token → Reading s.Test
 test_do room ts =
     if_marked mark.True ts (λ r. Ok (s.True, r))
@@ -183,33 +202,3 @@ test_do room ts =
     (λ r. mark_read mark.Open r >>= λ a. cond_read (room - 1) a.1 >>= λ b. mark_read mark.Close b.1 >>= λ c. Ok (s.Not b.0, c.1))
     (expr_read (room - 1) ts >>= λ a. comparison_do a.1 >>= λ b. expr_read (room - 1) b.1 >>= λ c. Ok (s.Comparison b.0 a.0 c.0, c.1))
     else Err ts)
-
-unfoldable pub next_command_do : ℕ → List Token → Reading (Option s.Command)
-next_command_do room ts = if_marked mark.Semicolon ts (λ r. command_read room r >>= λ x. Ok (Some x.0, x.1)) (Ok (None, ts))
-
-unfoldable pub block_do : ℕ → List Token → Reading s.Commands
-block_do room ts =
-    mark_read mark.OpenBrace ts >>= λ a.
-    if_marked mark.CloseBrace a.1 (λ r. Ok (s.NoCommand, r))
-    (if nat_lt 0 room then (command_read room a.1 >>= λ b. commands_read room b.1 >>= λ c. mark_read mark.CloseBrace c.1 >>= λ d. Ok (commands (b.0 ∷ c.0), d.1)) else Err a.1)
-
--- what follows `if`
-unfoldable pub if_read : ℕ → List Token → Reading s.Command
-if_read room ts = cond_read room ts >>= λ a. mark_read mark.Then a.1 >>= λ b. command_read room b.1 >>= λ c. mark_read mark.Else c.1 >>= λ d. command_read room d.1 >>= λ e. Ok (s.If a.0 c.0 e.0, e.1)
-
-unfoldable pub command_by : ℕ → Kind → Token → List Token → Reading s.Command
-command_by room (kind.Name n) t ts =
-    if nat_lt 1 room then (ident_read (t ∷ ts) >>= λ a. mark_read mark.Assign a.1 >>= λ b. expr_read (room - 1) b.1 >>= λ c. Ok (s.Assign a.0 c.0, c.1)) else Err (t ∷ ts)
-command_by room (kind.Fixed mark.Skip) t ts = Ok (s.Skip, ts)
-command_by room (kind.Fixed mark.OpenBrace) t ts = block_read (room - 1) (t ∷ ts) >>= λ a. Ok (s.Block a.0, a.1)
-command_by room (kind.Fixed mark.Write) t ts =
-    if nat_lt 1 room then (mark_read mark.Open ts >>= λ a. ident_read a.1 >>= λ b. mark_read mark.Equal b.1 >>= λ c. expr_read (room - 1) c.1 >>= λ d. mark_read mark.Close d.1 >>= λ e. Ok (s.Write b.0 d.0, e.1)) else Err (t ∷ ts)
-command_by room (kind.Fixed mark.Print) t ts =
-    if nat_lt 1 room then (mark_read mark.Open ts >>= λ a. expr_read (room - 1) a.1 >>= λ b. mark_read mark.Close b.1 >>= λ c. Ok (s.Print b.0, c.1)) else Err (t ∷ ts)
-command_by room (kind.Fixed mark.If) t ts =
-    if nat_lt 1 room then if_read (room - 1) ts else Err (t ∷ ts)
-command_by room _ t ts = Err (t ∷ ts)
-
-unfoldable pub command_do : ℕ → List Token → Reading s.Command
-command_do room [] = Err []
-command_do room (t ∷ ts) = command_by room t.kind t ts

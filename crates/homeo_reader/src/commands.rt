@@ -3,15 +3,17 @@
 ghost use Rattle.std.specs.Prelude.{◌≡◌, ◌<◌, option_map, IfOk, IfErr};
 ghost use Rattle.homeo_syntax.specs.Source as s;
 ghost use Rattle.homeo_syntax.specs.SourceView.{plain_cond, plain_command};
-ghost use Rattle.homeo_reader.specs.Reading.{Gives, command_views, block_view, command_read, if_read, next_command_read, commands_read, block_read};
+ghost use Rattle.homeo_reader.specs.Reading.{Gives};
+ghost use Rattle.homeo_reader.specs.Commands.{command_views, block_view, command_read, if_read, foreach_read, next_command_read, commands_read, block_read};
 
+use crate::conditions::Visit;
 use crate::parser::{Fault, Parser, list_of};
 use homeo_syntax::{Command, Cond, Kind, List, Mark};
 use std::alloc::Global;
 
 impl<'a> Parser<'a> {
     #[cycle(command)]
-    #[tactic(auto, using(crate::proofs::CommandSteps::command_reads, homeo_syntax::proofs::SourceViews::command_views), unfolding(crate::specs::Reading::command_do, crate::specs::Reading::command_by))]
+    #[tactic(auto, using(crate::proofs::CommandSteps::command_reads, homeo_syntax::proofs::SourceViews::command_views), unfolding(crate::specs::Commands::command_do, crate::specs::Commands::command_by))]
     fn command(&mut self, alloc: Global, room: u32) -> Result<Command, Fault>
         requires { 0 < room }
         ensures { Gives plain_command result self.new.rest.now (command_read room self.old.rest.now) }
@@ -27,10 +29,8 @@ impl<'a> Parser<'a> {
                     Ok(Command::Block { commands })
                 }
                 Kind::Name(_) if room > 1 => {
-                    let target = self.name()?;
-                    self.expect(Mark::Assign)?;
-                    let value = self.expr(alloc, room - 1)?;
-                    Ok(Command::Assign { target, value })
+                    let name = self.name()?;
+                    self.setting(alloc, name, room - 1)
                 }
                 Kind::Fixed(Mark::Write) if room > 1 => {
                     self.rest = rest;
@@ -52,6 +52,22 @@ impl<'a> Parser<'a> {
                     self.rest = rest;
                     self.choice_after_if(alloc, room - 1)
                 }
+                Kind::Fixed(Mark::Foreach) if room > 1 => {
+                    self.rest = rest;
+                    self.body_after_foreach(alloc, room - 1)
+                }
+                Kind::Fixed(Mark::Insert) if room > 1 => {
+                    self.rest = rest;
+                    self.insert_after_word(alloc, room - 1)
+                }
+                Kind::Fixed(Mark::Delete) if room > 1 => {
+                    self.rest = rest;
+                    self.delete_after_word(alloc, room - 1)
+                }
+                Kind::Fixed(Mark::Update) if room > 1 => {
+                    self.rest = rest;
+                    self.update_after_word(alloc, room - 1)
+                }
                 _ => Err(Fault::Stuck),
             },
             None => Err(Fault::Stuck),
@@ -60,7 +76,7 @@ impl<'a> Parser<'a> {
 
     /// What follows `if`.
     #[cycle(command)]
-    #[tactic(auto, unfolding(crate::specs::Reading::if_read))]
+    #[tactic(auto, unfolding(crate::specs::Commands::if_read))]
     fn choice_after_if(&mut self, alloc: Global, room: u32) -> Result<Command, Fault>
         requires { 0 < room }
         ensures { Gives plain_command result self.new.rest.now (if_read room self.old.rest.now) }
@@ -73,9 +89,30 @@ impl<'a> Parser<'a> {
         choice(alloc, test, yes, no)
     }
 
+    /// What follows `foreach`.
+    #[cycle(command)]
+    #[tactic(auto, using(homeo_syntax::proofs::SourceViews::command_views), unfolding(crate::specs::Commands::foreach_read))]
+    fn body_after_foreach(&mut self, alloc: Global, room: u32) -> Result<Command, Fault>
+        requires { 0 < room }
+        ensures { Gives plain_command result self.new.rest.now (foreach_read room self.old.rest.now) }
+    {
+        let Visit {
+            name,
+            relation,
+            test,
+        } = self.visit(alloc, room)?;
+        let body = self.block(alloc, room)?;
+        Ok(Command::Foreach {
+            row: name,
+            relation,
+            test,
+            body,
+        })
+    }
+
     /// A command after a semicolon, if one comes next.
     #[cycle(command)]
-    #[tactic(auto, using(crate::proofs::CommandSteps::next_command_reads), unfolding(crate::specs::Reading::next_command_do))]
+    #[tactic(auto, using(crate::proofs::CommandSteps::next_command_reads), unfolding(crate::specs::Commands::next_command_do))]
     fn next_command(&mut self, alloc: Global, room: u32) -> Result<Option<Command>, Fault>
         requires { 0 < room }
         ensures { Gives (option_map plain_command) result self.new.rest.now (next_command_read room self.old.rest.now) }
@@ -103,7 +140,7 @@ impl<'a> Parser<'a> {
 
     /// A block, which is empty where no phrase may go deeper.
     #[cycle(command)]
-    #[tactic(auto, using(crate::proofs::CommandSteps::block_reads), unfolding(crate::specs::Reading::block_do, homeo_syntax::specs::Key::words))]
+    #[tactic(auto, using(crate::proofs::CommandSteps::block_reads), unfolding(crate::specs::Commands::block_do, homeo_syntax::specs::Key::words))]
     pub fn block(&mut self, alloc: Global, room: u32) -> Result<List<Command>, Fault>
         ensures { Gives block_view result self.new.rest.now (block_read room self.old.rest.now) }
     {

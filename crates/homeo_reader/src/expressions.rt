@@ -1,13 +1,14 @@
-//! Expressions and conditions. A room says how much deeper phrases may go.
+//! Expressions. A room says how much deeper phrases may go.
 
-ghost use Rattle.std.specs.Prelude.{◌≡◌, ◌<◌, ◌∷◌, option_map, IfOk, IfErr};
+ghost use Rattle.std.specs.Prelude.{◌≡◌, ◌<◌, option_map, IfOk, IfErr};
 ghost use Rattle.homeo_syntax.specs.Source as s;
-ghost use Rattle.homeo_syntax.specs.SourceView.{plain_expr, plain_test, plain_cond, tests};
+ghost use Rattle.homeo_syntax.specs.SourceView.{plain_expr};
 ghost use Rattle.homeo_syntax.specs.Rules.{product_of, sum_of};
-ghost use Rattle.homeo_reader.specs.Reading.{Gives, same, expr_views, test_views, factor_read, next_factor_read, factors_read, term_read, next_term_read, terms_read, expr_read, comparison_do, test_read, next_test_read, tests_read, cond_read};
+ghost use Rattle.homeo_reader.specs.Reading.{Gives, expr_views, field_rest, after_name_read, count_rest, total_rest, factor_read, next_factor_read, factors_read, term_read, next_term_read, terms_read, expr_read};
 
+use crate::conditions::Visit;
 use crate::parser::{Fault, Parser, list_of};
-use homeo_syntax::{Compare, Cond, Expr, Kind, Mark, Test};
+use homeo_syntax::{Expr, Ident, Kind, Mark};
 use std::alloc::Global;
 
 impl<'a> Parser<'a> {
@@ -25,7 +26,7 @@ impl<'a> Parser<'a> {
                 }
                 Kind::Name(_) => {
                     let name = self.name()?;
-                    Ok(Expr::Name(name))
+                    self.after_name(alloc, name, room - 1)
                 }
                 Kind::Fixed(Mark::Read) => {
                     self.rest = rest;
@@ -45,10 +46,105 @@ impl<'a> Parser<'a> {
                     self.expect(Mark::Close)?;
                     Ok(inner)
                 }
+                Kind::Fixed(Mark::Count) if room > 1 => {
+                    self.rest = rest;
+                    self.count_after_word(alloc, room - 1)
+                }
+                Kind::Fixed(Mark::Sum) if room > 1 => {
+                    self.rest = rest;
+                    self.total_after_word(alloc, room - 1)
+                }
                 _ => Err(Fault::Stuck),
             },
             None => Err(Fault::Stuck),
         }
+    }
+
+    /// The expression of a name, with what stands behind it. No index stands where no phrase may go deeper.
+    #[cycle(expr)]
+    #[tactic(auto, using(crate::proofs::ExprSteps::after_name_reads, homeo_syntax::proofs::SourceViews::phrase_views), unfolding(crate::specs::Reading::after_name_do, crate::specs::Reading::after_name_by))]
+    fn after_name(&mut self, alloc: Global, name: Ident, room: u32) -> Result<Expr, Fault>
+        ensures { Gives plain_expr result self.new.rest.now (after_name_read room name self.old.rest.now) }
+    {
+        match self.rest.split_first() {
+            Some((t, rest)) => match t.kind {
+                Kind::Fixed(Mark::OpenBracket) if room > 0 => {
+                    self.rest = rest;
+                    self.field_after_bracket(alloc, name, room)
+                }
+                Kind::Fixed(Mark::Dot) => {
+                    self.rest = rest;
+                    let field = self.name()?;
+                    Ok(Expr::Row { row: name, field })
+                }
+                _ => Ok(Expr::Name(name)),
+            },
+            None => Ok(Expr::Name(name)),
+        }
+    }
+
+    /// What follows a relation and `[`.
+    #[cycle(expr)]
+    #[tactic(auto, unfolding(crate::specs::Reading::field_rest))]
+    fn field_after_bracket(
+        &mut self,
+        alloc: Global,
+        relation: Ident,
+        room: u32,
+    ) -> Result<Expr, Fault>
+        requires { 0 < room }
+        ensures { Gives plain_expr result self.new.rest.now (field_rest room relation self.old.rest.now) }
+    {
+        let index = self.expr(alloc, room)?;
+        self.expect(Mark::CloseBracket)?;
+        self.expect(Mark::Dot)?;
+        let field = self.name()?;
+        field_of(alloc, relation, index, field)
+    }
+
+    /// What follows `count`.
+    #[cycle(expr)]
+    #[tactic(auto, using(homeo_syntax::proofs::SourceViews::phrase_views), unfolding(crate::specs::Reading::count_rest))]
+    fn count_after_word(&mut self, alloc: Global, room: u32) -> Result<Expr, Fault>
+        requires { 0 < room }
+        ensures { Gives plain_expr result self.new.rest.now (count_rest room self.old.rest.now) }
+    {
+        self.expect(Mark::Open)?;
+        let Visit {
+            name,
+            relation,
+            test,
+        } = self.visit(alloc, room)?;
+        self.expect(Mark::Close)?;
+        Ok(Expr::Count {
+            row: name,
+            relation,
+            test,
+        })
+    }
+
+    /// What follows `sum`.
+    #[cycle(expr)]
+    #[tactic(auto, using(homeo_syntax::proofs::SourceViews::phrase_views), unfolding(crate::specs::Reading::total_rest))]
+    fn total_after_word(&mut self, alloc: Global, room: u32) -> Result<Expr, Fault>
+        requires { 0 < room }
+        ensures { Gives plain_expr result self.new.rest.now (total_rest room self.old.rest.now) }
+    {
+        self.expect(Mark::Open)?;
+        let row = self.name()?;
+        self.expect(Mark::Dot)?;
+        let Visit {
+            name,
+            relation,
+            test,
+        } = self.visit(alloc, room)?;
+        self.expect(Mark::Close)?;
+        Ok(Expr::Total {
+            row,
+            field: name,
+            relation,
+            test,
+        })
     }
 
     /// A factor after a star, if one comes next.
@@ -131,94 +227,6 @@ impl<'a> Parser<'a> {
         let others = self.terms(alloc, room)?;
         sum(first, others)
     }
-
-    /// Takes a comparison.
-    #[tactic(auto, unfolding(crate::specs::Reading::comparison_do))]
-    fn comparison(&mut self) -> Result<Compare, Fault>
-        ensures { Gives same result self.new.rest.now (comparison_do self.old.rest.now) }
-    {
-        if self.takes(Mark::Less) {
-            Ok(Compare::Less)
-        } else if self.takes(Mark::LessEqual) {
-            Ok(Compare::LessEqual)
-        } else if self.takes(Mark::Equal) {
-            Ok(Compare::Equal)
-        } else {
-            Err(Fault::Stuck)
-        }
-    }
-
-    #[cycle(cond)]
-    #[tactic(auto, using(crate::proofs::ExprSteps::test_reads, homeo_syntax::proofs::SourceViews::phrase_views), unfolding(crate::specs::Reading::test_do))]
-    fn test(&mut self, alloc: Global, room: u32) -> Result<Test, Fault>
-        requires { 0 < room }
-        ensures { Gives plain_test result self.new.rest.now (test_read room self.old.rest.now) }
-    {
-        if self.takes(Mark::True) {
-            return Ok(Test::True);
-        }
-        if room <= 1 {
-            return Err(Fault::Stuck);
-        }
-        if self.takes(Mark::Not) {
-            self.expect(Mark::Open)?;
-            let inner = self.cond(alloc, room - 1)?;
-            self.expect(Mark::Close)?;
-            return Ok(Test::Not(inner));
-        }
-        let left = self.expr(alloc, room - 1)?;
-        let op = self.comparison()?;
-        let right = self.expr(alloc, room - 1)?;
-        Ok(Test::Compare { op, left, right })
-    }
-
-    /// A test after `and`, if one comes next.
-    #[cycle(cond)]
-    #[tactic(auto, using(crate::proofs::Lists::next_test_reads), unfolding(crate::specs::Reading::next_test_do))]
-    fn next_test(&mut self, alloc: Global, room: u32) -> Result<Option<Test>, Fault>
-        requires { 0 < room }
-        ensures { Gives (option_map plain_test) result self.new.rest.now (next_test_read room self.old.rest.now) }
-    {
-        if self.takes(Mark::And) {
-            let test = self.test(alloc, room)?;
-            Ok(Some(test))
-        } else {
-            Ok(None)
-        }
-    }
-
-    /// The tests that go on with a condition.
-    #[cycle(cond)]
-    fn tests(&mut self, alloc: Global, room: u32) -> Result<Vec<Test>, Fault>
-        requires { 0 < room }
-        ensures { Gives (λ v. test_views v.items) result self.new.rest.now (tests_read room self.old.rest.now) }
-    {
-        let mut items = Vec::new(alloc);
-        'more: while let Some(item) = self.next_test(alloc, room)? {
-            items.push(item)?;
-        }
-        Ok(items)
-    }
-
-    #[cycle(cond)]
-    #[tactic(auto, using(crate::proofs::ExprSteps::cond_reads), unfolding(crate::specs::Reading::cond_do))]
-    pub fn cond(&mut self, alloc: Global, room: u32) -> Result<Cond, Fault>
-        requires { 0 < room }
-        ensures { Gives plain_cond result self.new.rest.now (cond_read room self.old.rest.now) }
-    {
-        let first = self.test(alloc, room)?;
-        let others = self.tests(alloc, room)?;
-        condition(first, others)
-    }
-}
-
-/// The condition of these tests.
-fn condition(first: Test, others: Vec<Test>) -> Result<Cond, Fault>
-    ensures ok { IfOk result (λ c. plain_cond c ≡ tests (plain_test first ∷ test_views others.items)) }
-    ensures memory { IfErr result (λ e. e ≡ Fault.Memory) }
-{
-    let tests = list_of(first, others)?;
-    Ok(Cond { tests })
 }
 
 /// The product of these factors, which is the first where there is one.
@@ -253,4 +261,18 @@ fn negated(alloc: Global, inner: Expr) -> Result<Expr, Fault>
 {
     let boxed = Box::new(alloc, inner)?;
     Ok(Expr::Neg(boxed))
+}
+
+/// The field of a slot.
+#[tactic(auto, using(homeo_syntax::proofs::SourceViews::phrase_views))]
+fn field_of(alloc: Global, relation: Ident, index: Expr, field: Ident) -> Result<Expr, Fault>
+    ensures ok { IfOk result (λ e. plain_expr e ≡ s.Field relation (plain_expr index) field) }
+    ensures memory { IfErr result (λ e. e ≡ Fault.Memory) }
+{
+    let index = Box::new(alloc, index)?;
+    Ok(Expr::Field {
+        relation,
+        index,
+        field,
+    })
 }

@@ -1,13 +1,18 @@
 //! Reads a workload from its text.
 #![tactic(auto)]
 
+mod changes;
+mod clients;
 mod commands;
+mod conditions;
 mod declarations;
 mod expressions;
 pub mod laws;
+mod numbers;
 mod parser;
 mod reader;
 #[cfg(test)]
 mod tests;
+mod workload;
 
 pub use reader::{ReadRefusal, read};

@@ -1,13 +1,17 @@
 //! Texts that read as a workload, and texts that do not.
 
 use crate::{ReadRefusal, read};
-use homeo_syntax::{Client, Command, Number, Refusal};
+use homeo_syntax::{Client, Command, Compare, Expr, FieldValue, Ident, Number, Refusal, Test};
 use std::alloc::Global;
 
 const ROW: &[u8] =
     b"workload 1\nsites 2\nobject x in 0..3 = 2\ntransaction up(n in 0..9, m in -3..- 2) { write(x = read(x) + n); print(m) }\nclient a at 0 { up(7, - 3) }\nclient b at 1 { up(0,-2); up(1,-2) }\nschedule b a b\nend\n";
 
-const READ: [&[u8]; 9] = [
+// R is name 0, f 1, g 2, S 3, h 4, t 5, r 6 and k 7.
+const RELATIONS: &[u8] =
+    b"workload 1\nsites 1\nrelation R[2] (f in 0..9, g in -1..1)\nrelation S[1] (h in 0..0)\ntransaction t() { R[0].f := R[1].g; foreach r of R when r.f < 3 { r.g := r.f }; insert R (f = 1, g = -2) into k; delete r of S when r.h = 4; update r of R when true set g = 5; print(count(r of S when true)); print(sum(r.f of R when true)) }\nend\n";
+
+const READ: [&[u8]; 12] = [
     b"workload 1 sites 2 end",
     b"workload 01\tsites\r\n0002 end",
     b"workload 1 sites 1 object aaaaaaaaaaaaaaaaaaaaaaaaaaaaaaaa in 0..1 = 0 end",
@@ -17,10 +21,13 @@ const READ: [&[u8]; 9] = [
     b"workload 1 sites 1 transaction t() { print(((((((((((((((((((((((((((((((1))))))))))))))))))))))))))))))) } end",
     b"workload 1 sites 1 transaction t() { if not(not(not(not(not(not(not(not(not(not(not(not(not(not(not(not(not(not(not(not(not(not(not(not(not(not(not(not(not(not(true)))))))))))))))))))))))))))))) then skip else skip } end",
     b"workload 1 sites 1 transaction t() { if a<=b and a<b and not (true) then skip else { a:=-1*2 - b; { } } } client a at 0 { t(); t() } client b at 0 { } schedule a b a end",
+    b"workload 1 sites 1 transaction t() { print(-----------------------------R[0].f) } end",
+    b"workload 1 sites 1 transaction t() { print(------------------------------r.f) } end",
+    b"workload 1 sites 1 transaction t() { {{{{{{{{{{{{{{{{{{{{{{{{{{{{{{foreach r of R when true { skip }}}}}}}}}}}}}}}}}}}}}}}}}}}}}}} } end",
 ];
 
 /// Texts with the code and the offset of their refusals.
-const REFUSED: [(&[u8], u8, u64); 30] = [
+const REFUSED: [(&[u8], u8, u64); 37] = [
     (b"", 4, 0),
     (b"_ \x7f", 1, 2),
     (b"workload 2 \x00", 1, 11),
@@ -41,26 +48,57 @@ const REFUSED: [(&[u8], u8, u64); 30] = [
     (b"workload 1 sites 1 object x in 0.1 = 0 end", 4, 32),
     (b"workload 1 sites 1 object x in 0..1 := 0 end", 4, 36),
     (b"workload 1 sites 1 object end in 0..1 = 0 end", 4, 26),
-    (b"workload 1 sites 1 relation R[2] (f in 0..1) end", 4, 19),
     (
-        b"workload 1 sites 1 transaction t() { x := R[0].f } end",
+        b"workload 1 sites 1 transaction t() { } relation R[2] (f in 0..1) end",
         4,
-        43,
+        39,
+    ),
+    (b"workload 1 sites 1 relation R[-2] (f in 0..1) end", 4, 30),
+    (b"workload 1 sites 1 relation R[2] () end", 4, 34),
+    (
+        b"workload 1 sites 1 transaction t() { print(------------------------------R[0].f) } end",
+        4,
+        74,
     ),
     (
-        b"workload 1 sites 1 transaction t() { r.f := 1 } end",
+        b"workload 1 sites 1 transaction t() { print(------------------------------count(r of R when true)) } end",
         4,
-        38,
+        73,
     ),
     (
-        b"workload 1 sites 1 transaction t() { print(count(r of R when true)) } end",
+        b"workload 1 sites 1 transaction t() { {{{{{{{{{{{{{{{{{{{{{{{{{{{{{{{foreach r of R when true { }}}}}}}}}}}}}}}}}}}}}}}}}}}}}}}} } end",
         4,
-        43,
+        68,
     ),
     (
-        b"workload 1 sites 1 transaction t() { foreach r of R when true { } } end",
+        b"workload 1 sites 1 transaction t() { {{{{{{{{{{{{{{{{{{{{{{{{{{{{{{{r.f := 1}}}}}}}}}}}}}}}}}}}}}}}}}}}}}}} } end",
         4,
-        37,
+        68,
+    ),
+    (
+        b"workload 1 sites 1 transaction t() { R[0] := 1 } end",
+        4,
+        42,
+    ),
+    (
+        b"workload 1 sites 1 transaction t() { print(sum(r of R when true)) } end",
+        4,
+        49,
+    ),
+    (
+        b"workload 1 sites 1 transaction t() { insert R () into k } end",
+        4,
+        47,
+    ),
+    (
+        b"workload 1 sites 1 transaction t() { delete r of R } end",
+        4,
+        51,
+    ),
+    (
+        b"workload 1 sites 1 transaction t() { update r of R when true set f := 1 } end",
+        4,
+        67,
     ),
     (b"workload 1 sites 1 transaction t() { skip; } end", 4, 43),
     (
@@ -148,6 +186,194 @@ fn reads_the_parts(rt: HostRuntime) {
             assert_eq!(rt; second_argument(&clients[0]), Some(second));
             assert!(rt; workload.schedule.is_some());
             assert_eq!(rt; workload.end, 198);
+        }
+        Err(_) => assert!(rt; false),
+    }
+}
+
+#[test]
+fn reads_relations(rt: HostRuntime) {
+    match read(rt.alloc(), RELATIONS) {
+        Ok(workload) => {
+            let relations = workload.relations.as_slice();
+            assert_eq!(rt; relations.len(), 2);
+            assert_eq!(rt;
+                relations[0].name,
+                Ident {
+                    name: 0,
+                    offset: 28
+                }
+            );
+            assert_eq!(rt;
+                relations[0].slots,
+                Number {
+                    value: 2,
+                    offset: 30
+                }
+            );
+            let fields = relations[0].fields.as_slice();
+            assert_eq!(rt; fields.len(), 2);
+            assert_eq!(rt; fields[0].name.name, 1);
+            assert_eq!(rt; fields[0].hi.value, 9);
+            assert_eq!(rt; fields[1].name.name, 2);
+            assert_eq!(rt; fields[1].lo.value, -1);
+            assert_eq!(rt; relations[1].name.name, 3);
+            assert_eq!(rt; relations[1].slots.value, 1);
+            assert_eq!(rt; relations[1].fields.as_slice().len(), 1);
+        }
+        Err(_) => assert!(rt; false),
+    }
+}
+
+/// Whether the expression is the field of the slot with this number.
+fn is_field(value: &Expr, relation: u32, slot: i64, field: u32) -> bool {
+    match value {
+        Expr::Field {
+            relation: of,
+            index,
+            field: name,
+        } => {
+            of.name == relation
+                && matches!(**index, Expr::Literal(n) if n == slot)
+                && name.name == field
+        }
+        _ => false,
+    }
+}
+
+/// Whether the expression is this field of this row.
+fn is_row(value: &Expr, row: u32, field: u32) -> bool {
+    match value {
+        Expr::Row {
+            row: of,
+            field: name,
+        } => of.name == row && name.name == field,
+        _ => false,
+    }
+}
+
+/// Whether the only test is that this field of this row compares so with this number.
+fn is_row_test(tests: &[Test], row: u32, field: u32, compare: Compare, number: i64) -> bool {
+    match tests {
+        [Test::Compare { op, left, right }] => {
+            *op == compare
+                && is_row(left, row, field)
+                && matches!(right, Expr::Literal(n) if *n == number)
+        }
+        _ => false,
+    }
+}
+
+/// Whether the fields are `f = 1` and `g = -2`.
+fn are_inserted(fields: &[FieldValue]) -> bool {
+    match fields {
+        [
+            FieldValue {
+                field: Ident { name: 1, .. },
+                value: Expr::Literal(1),
+            },
+            FieldValue {
+                field: Ident { name: 2, .. },
+                value: Expr::Neg(inner),
+            },
+        ] => matches!(**inner, Expr::Literal(2)),
+        _ => false,
+    }
+}
+
+#[test]
+fn reads_changes(rt: HostRuntime) {
+    match read(rt.alloc(), RELATIONS) {
+        Ok(workload) => {
+            let transactions = workload.transactions.as_slice();
+            assert_eq!(rt; transactions.len(), 1);
+            match transactions[0].body.as_slice() {
+                [
+                    Command::SetField {
+                        relation: Ident { name: 0, .. },
+                        index: Expr::Literal(0),
+                        field: Ident { name: 1, .. },
+                        value,
+                    },
+                    Command::Foreach {
+                        row: Ident { name: 6, .. },
+                        relation: Ident { name: 0, .. },
+                        test: visited,
+                        body,
+                    },
+                    Command::Insert {
+                        relation: Ident { name: 0, .. },
+                        fields,
+                        into: Ident { name: 7, .. },
+                    },
+                    Command::Delete {
+                        row: Ident { name: 6, .. },
+                        relation: Ident { name: 3, .. },
+                        test: deleted,
+                    },
+                    Command::Update {
+                        row: Ident { name: 6, .. },
+                        relation: Ident { name: 0, .. },
+                        test: updated,
+                        field: Ident { name: 2, .. },
+                        value: Expr::Literal(5),
+                    },
+                    _,
+                    _,
+                ] => {
+                    assert!(rt; is_field(value, 0, 1, 2));
+                    assert!(rt; is_row_test(visited.tests.as_slice(), 6, 1, Compare::Less, 3));
+                    match body.as_slice() {
+                        [
+                            Command::SetRow {
+                                row: Ident { name: 6, .. },
+                                field: Ident { name: 2, .. },
+                                value,
+                            },
+                        ] => assert!(rt; is_row(value, 6, 1)),
+                        _ => panic!(rt; "one command"),
+                    }
+                    assert!(rt; are_inserted(fields.as_slice()));
+                    assert!(rt; is_row_test(deleted.tests.as_slice(), 6, 4, Compare::Equal, 4));
+                    assert!(rt; matches!(updated.tests.as_slice(), [Test::True]));
+                }
+                _ => panic!(rt; "seven commands"),
+            }
+        }
+        Err(_) => assert!(rt; false),
+    }
+}
+
+#[test]
+fn reads_totals(rt: HostRuntime) {
+    match read(rt.alloc(), RELATIONS) {
+        Ok(workload) => {
+            let transactions = workload.transactions.as_slice();
+            assert_eq!(rt; transactions.len(), 1);
+            match transactions[0].body.as_slice() {
+                [
+                    ..,
+                    Command::Print {
+                        value: Expr::Count {
+                            row: Ident { name: 6, .. },
+                            relation: Ident { name: 3, .. },
+                            test: counted,
+                        },
+                    },
+                    Command::Print {
+                        value: Expr::Total {
+                            row: Ident { name: 6, .. },
+                            field: Ident { name: 1, .. },
+                            relation: Ident { name: 0, .. },
+                            test: added,
+                        },
+                    },
+                ] => {
+                    assert!(rt; matches!(counted.tests.as_slice(), [Test::True]));
+                    assert!(rt; matches!(added.tests.as_slice(), [Test::True]));
+                }
+                _ => panic!(rt; "two prints"),
+            }
         }
         Err(_) => assert!(rt; false),
     }

@@ -4,8 +4,8 @@ use Rattle.std.proofs.lemmas.Result.{err_from_is_err_and}
 use Rattle.homeo_syntax.specs.declared.command.Command.{Command}
 use Rattle.homeo_syntax.specs.Source as s
 use Rattle.homeo_syntax.specs.SourceView.{plain_command}
-use Rattle.homeo_reader.specs.Reading.{with_front, commands_read, next_command_read}
-use Rattle.homeo_reader.specs.Reading.{command_views}
+use Rattle.homeo_reader.specs.Reading.{with_front}
+use Rattle.homeo_reader.specs.Commands.{command_views, commands_read, next_command_read}
 use Rattle.homeo_reader.proofs.Lists.{step_some, step_smaller, step_none, step_err, gives_err, seen_as, unseen_as}
 use Rattle.homeo_reader.proofs.CommandSteps.{command_views_push, semi_command}
 use Rattle.homeo_reader.proofs.parser.Parser.+command.Goals as goal
