@@ -264,19 +264,124 @@ fn is_row_test(tests: &[Test], row: u32, field: u32, compare: Compare, number: i
     }
 }
 
-/// Whether the fields are `f = 1` and `g = -2`.
+/// Whether the expression is this number.
+fn is_number(value: &Expr, number: i64) -> bool {
+    match value {
+        Expr::Literal(n) => *n == number,
+        _ => false,
+    }
+}
+
+/// Whether it is `R[0].f := R[1].g`.
+fn sets_field(command: &Command) -> bool {
+    match command {
+        Command::SetField {
+            relation,
+            index,
+            field,
+            value,
+        } => {
+            relation.name == 0 && is_number(index, 0) && field.name == 1 && is_field(value, 0, 1, 2)
+        }
+        _ => false,
+    }
+}
+
+/// Whether it is `r.g := r.f`.
+fn sets_row(command: &Command) -> bool {
+    match command {
+        Command::SetRow { row, field, value } => {
+            row.name == 6 && field.name == 2 && is_row(value, 6, 1)
+        }
+        _ => false,
+    }
+}
+
+/// Whether it is `foreach r of R when r.f < 3 { r.g := r.f }`.
+fn visits(command: &Command) -> bool {
+    match command {
+        Command::Foreach {
+            row,
+            relation,
+            test,
+            body,
+        } => {
+            let body = body.as_slice();
+            row.name == 6
+                && relation.name == 0
+                && is_row_test(test.tests.as_slice(), 6, 1, Compare::Less, 3)
+                && body.len() == 1
+                && sets_row(&body[0])
+        }
+        _ => false,
+    }
+}
+
+/// Whether the fields are `f = 1, g = -2`.
 fn are_inserted(fields: &[FieldValue]) -> bool {
     match fields {
-        [
-            FieldValue {
-                field: Ident { name: 1, .. },
-                value: Expr::Literal(1),
-            },
-            FieldValue {
-                field: Ident { name: 2, .. },
-                value: Expr::Neg(inner),
-            },
-        ] => matches!(**inner, Expr::Literal(2)),
+        [first, second] => {
+            first.field.name == 1
+                && is_number(&first.value, 1)
+                && second.field.name == 2
+                && is_negation(&second.value, 2)
+        }
+        _ => false,
+    }
+}
+
+/// Whether the expression is this number with its sign turned.
+fn is_negation(value: &Expr, number: i64) -> bool {
+    match value {
+        Expr::Neg(inner) => matches!(**inner, Expr::Literal(n) if n == number),
+        _ => false,
+    }
+}
+
+/// Whether it is `insert R (f = 1, g = -2) into k`.
+fn inserts(command: &Command) -> bool {
+    match command {
+        Command::Insert {
+            relation,
+            fields,
+            into,
+        } => relation.name == 0 && are_inserted(fields.as_slice()) && into.name == 7,
+        _ => false,
+    }
+}
+
+/// Whether it is `delete r of S when r.h = 4`.
+fn deletes(command: &Command) -> bool {
+    match command {
+        Command::Delete {
+            row,
+            relation,
+            test,
+        } => {
+            row.name == 6
+                && relation.name == 3
+                && is_row_test(test.tests.as_slice(), 6, 4, Compare::Equal, 4)
+        }
+        _ => false,
+    }
+}
+
+/// Whether it is `update r of R when true set g = 5`.
+fn updates(command: &Command) -> bool {
+    match command {
+        Command::Update {
+            row,
+            relation,
+            test,
+            field,
+            value,
+        } => {
+            row.name == 6
+                && relation.name == 0
+                && matches!(test.tests.as_slice(), [Test::True])
+                && field.name == 2
+                && is_number(value, 5)
+        }
         _ => false,
     }
 }
@@ -287,58 +392,13 @@ fn reads_changes(rt: HostRuntime) {
         Ok(workload) => {
             let transactions = workload.transactions.as_slice();
             assert_eq!(rt; transactions.len(), 1);
-            match transactions[0].body.as_slice() {
-                [
-                    Command::SetField {
-                        relation: Ident { name: 0, .. },
-                        index: Expr::Literal(0),
-                        field: Ident { name: 1, .. },
-                        value,
-                    },
-                    Command::Foreach {
-                        row: Ident { name: 6, .. },
-                        relation: Ident { name: 0, .. },
-                        test: visited,
-                        body,
-                    },
-                    Command::Insert {
-                        relation: Ident { name: 0, .. },
-                        fields,
-                        into: Ident { name: 7, .. },
-                    },
-                    Command::Delete {
-                        row: Ident { name: 6, .. },
-                        relation: Ident { name: 3, .. },
-                        test: deleted,
-                    },
-                    Command::Update {
-                        row: Ident { name: 6, .. },
-                        relation: Ident { name: 0, .. },
-                        test: updated,
-                        field: Ident { name: 2, .. },
-                        value: Expr::Literal(5),
-                    },
-                    _,
-                    _,
-                ] => {
-                    assert!(rt; is_field(value, 0, 1, 2));
-                    assert!(rt; is_row_test(visited.tests.as_slice(), 6, 1, Compare::Less, 3));
-                    match body.as_slice() {
-                        [
-                            Command::SetRow {
-                                row: Ident { name: 6, .. },
-                                field: Ident { name: 2, .. },
-                                value,
-                            },
-                        ] => assert!(rt; is_row(value, 6, 1)),
-                        _ => panic!(rt; "one command"),
-                    }
-                    assert!(rt; are_inserted(fields.as_slice()));
-                    assert!(rt; is_row_test(deleted.tests.as_slice(), 6, 4, Compare::Equal, 4));
-                    assert!(rt; matches!(updated.tests.as_slice(), [Test::True]));
-                }
-                _ => panic!(rt; "seven commands"),
-            }
+            let body = transactions[0].body.as_slice();
+            assert_eq!(rt; body.len(), 7);
+            assert!(rt; sets_field(&body[0]));
+            assert!(rt; visits(&body[1]));
+            assert!(rt; inserts(&body[2]));
+            assert!(rt; deletes(&body[3]));
+            assert!(rt; updates(&body[4]));
         }
         Err(_) => assert!(rt; false),
     }
