@@ -1,3 +1,4 @@
+mod RelationTexts
 mod RuleTexts
 pub mod AbsentItems
 pub mod CommandSteps

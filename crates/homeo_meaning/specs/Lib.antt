@@ -14,6 +14,7 @@ pub mod Ground
 pub mod Initial
 pub mod Key
 pub mod LForm
+pub mod ListRules
 pub mod LowMeaning
 pub mod LowSizes
 pub mod LowWeights
