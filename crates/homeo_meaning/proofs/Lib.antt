@@ -16,6 +16,7 @@ pub mod Phases
 pub mod SimpleForms
 pub mod SomeValues
 pub mod Sound
+pub mod SoundRelations
 pub mod SoundRules
 pub mod Spots
 pub mod States
