@@ -6,6 +6,7 @@ pub mod Equations
 pub mod FaultParts
 pub mod FormRules
 pub mod Given
+pub mod Known
 pub mod Light
 pub mod LightForms
 pub mod LightRuns
