@@ -5,6 +5,7 @@ pub mod Built
 pub mod CallRules
 pub mod Calls
 pub mod CanRun
+pub mod Computed
 pub mod Context
 pub mod Deciding
 pub mod Declarations
@@ -14,6 +15,7 @@ pub mod Ground
 pub mod Initial
 pub mod Key
 pub mod LForm
+pub mod LowComputed
 pub mod LowMeaning
 pub mod LowSizes
 pub mod LowWeights
@@ -25,6 +27,7 @@ pub mod Scenes
 pub mod Schema
 pub mod Serial
 pub mod SizeRules
+pub mod Small
 pub mod SourceSizes
 pub mod Table
 pub mod TransactionRules

@@ -1,17 +1,18 @@
--- That each number that an L form computes has a property, in each branch as if it were taken.
+-- That the numbers of an L form have properties: R each that stands in it or is read, and P each that is computed.
+-- In each branch as if it were taken.
 use Rattle.std.specs.Prelude.{ℤ, pos, ◌+ℤ◌, ◌*ℤ◌, neg_ℤ}
 use Rattle.homeo_syntax.specs.Low.{Expr, Exprs, Literal, OfTemp, Read, Sum, Product, Neg, NoExpr, MoreExpr, Test, Cond, True, Not, Comparison, NoTest, MoreTest, Command, Commands, Skip, Assign, Write, Print, Seq, If, NoCommand, MoreCommand}
-use Rattle.homeo_meaning.specs.LowMeaning.{State, value, exec}
-use Rattle.homeo_desugar.specs.Key.{words}
+use Rattle.homeo_meaning.specs.Key.{words}
+use Rattle.homeo_meaning.specs.LowMeaning.{TempAt, place_of, State, value, exec}
 
-module _ (P : ℤ → Type 0) where
+module _ (R P : ℤ → Type 0) where
   abbrev mutual
     unfolding words
 
     pub CanValue : Expr → State → Type 0
-    CanValue (Literal n) s = Unit {0}
-    CanValue (OfTemp t) s = Unit {0}
-    CanValue (Read x) s = Unit {0}
+    CanValue (Literal n) s = R n
+    CanValue (OfTemp t) s = R (s (TempAt t))
+    CanValue (Read x) s = R (s (place_of x))
     CanValue (Sum es) s = CanSum (pos 0) es s
     CanValue (Product es) s = CanProduct (pos 1) es s
     CanValue (Neg e) s = CanValue e s × P (neg_ℤ (value e s))

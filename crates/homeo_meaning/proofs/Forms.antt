@@ -3,32 +3,30 @@ use Rattle.std.proofs.Common.{◌≡◌, ℕ, cond, List, [], ◌∷◌, ℤ, po
 use Rattle.homeo_syntax.specs.declared.low.Temp.TheVariants as temp
 use Rattle.homeo_syntax.specs.Low as L
 use Rattle.homeo_syntax.specs.Source.{Cond, Command, Commands, Skip, Assign, Write, Print, If, Block, SetField, SetRow, Foreach, Insert, Delete, Update, NoCommand, MoreCommand}
-use Rattle.homeo_meaning.specs.Key.{words as meaning_words}
+use Rattle.homeo_meaning.specs.Key.{words}
 use Rattle.homeo_meaning.specs.LowMeaning as M
 use Rattle.homeo_meaning.specs.Schema.{Schema}
 use Rattle.homeo_meaning.specs.Context.{Slot, Context, spot, field_cell, object, slots, fields, bind, context}
 use Rattle.homeo_meaning.specs.Meaning.{State, Run, done, after_prints, set_temp, set_object, write_field, visit_all, value, holds, does, does_all, run}
 use Rattle.homeo_meaning.specs.LForm
 use Rattle.homeo_meaning.specs.LForm.{Lifted, Made, lift, lift_cond, as_one, loop, clear, form, forms, l_form}
-use Rattle.homeo_desugar.specs.Key.{words}
-use Rattle.homeo_desugar.specs.Laws.{whole, IsSameRun}
-use Rattle.homeo_desugar.proofs.Lifts.{seen, seen_run, Lifts, quiet_front, alike_self}
-use Rattle.homeo_desugar.proofs.Loops.{loop_does, seen_choice}
-use Rattle.homeo_desugar.proofs.Values.{lifts, lifts_cond}
-use Rattle.homeo_desugar.proofs.Writes.{placed_does, write_does, write_indexed_does, insert_does}
+use Rattle.homeo_meaning.proofs.Lifts.{seen, seen_run, Lifts, quiet_front, alike_self}
+use Rattle.homeo_meaning.proofs.Loops.{loop_does, seen_choice}
+use Rattle.homeo_meaning.proofs.Values.{lifts, lifts_cond}
+use Rattle.homeo_meaning.proofs.Writes.{placed_does, write_does, write_indexed_does, insert_does}
 
 pub row_does : (slot : Slot) (f : ℕ) (v : State → ℤ) (n : ℕ) (s : M.State) (e : Lifted L.Expr) → Lifts n s e M.value v → seen_run (M.exec (LForm.write_field slot f e).command s) ≡ done (write_field (seen s) slot f (v (seen s)))
-unfolding meaning_words
+unfolding words
 row_does slot f v n s e k = write_does (spot slot.fields f) (field_cell slot f) v n s e k
 
 loop_of : (w : Context) (r q : ℕ) (b : Cond) (body : Slot → ℕ → Made) (source : Slot → State → Run) → ((slot : Slot) (m : ℕ) (s : M.State) → seen_run (M.exec (body slot m).command s) ≡ source slot (seen s)) → (n : ℕ) (s : M.State) → seen_run (M.exec (loop w r q b body n).command s) ≡ visit_all w r q b source (seen s)
-unfolding meaning_words
+unfolding words
 loop_of w r q b body source h n s =
     loop_does (λ slot. lift_cond (bind w r slot) b) (λ slot. holds (bind w r slot) b) (λ slot m a. lifts_cond (bind w r slot) b m a)
     body source h (slots w q) n s
 
 mutual
-  unfolding meaning_words
+  unfolding words
 
   pub form_does : (w : Context) (c : Command) (n : ℕ) (s : M.State) → seen_run (M.exec (form w c n).command s) ≡ does w c (seen s)
   form_does w Skip n s = refl
@@ -64,9 +62,3 @@ mutual
       let r = M.exec (form w c n).command s in
       ap (after_prints r.prints) (forms_do w cs (form w c n).next r.state)
       ∙ ap (λ (z : Run). after_prints z.prints (does_all w cs z.state)) (form_does w c n s)
-
-pub form_law : (x : Schema) (params : List ℕ) (args : List ℤ) (body : Commands) (database : ℕ → ℤ) → IsSameRun (M.exec (l_form x params args body) (whole database)) (run x params args body database)
-unfolding words meaning_words
-form_law x params args body database =
-    let e = forms_do (context x params args) body 0 (whole database) in
-    record { prints = ap (λ (r : Run). r.prints) e; database = λ n. ap (λ (r : Run). r.state.database n) e }

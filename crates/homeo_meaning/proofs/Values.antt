@@ -2,17 +2,17 @@
 use Rattle.std.proofs.Common.{◌≡◌, ℕ, not, ◌&&◌, ℤ, pos, ◌+ℤ◌, ◌*ℤ◌, neg_ℤ, Option, Some, None, refl}
 use Rattle.homeo_syntax.specs.Low as L
 use Rattle.homeo_syntax.specs.Source.{Expr, Exprs, Literal, Name, Read, Sum, Product, Neg, Field, Row, Count, Total, NoExpr, MoreExpr, Test, Cond, True, Not, Comparison, NoTest, MoreTest}
-use Rattle.homeo_meaning.specs.Key.{words as meaning_words}
+use Rattle.homeo_meaning.specs.Key.{words}
 use Rattle.homeo_meaning.specs.LowMeaning as M
 use Rattle.homeo_meaning.specs.Context.{Context, spot, field_cell, slots, fields, bind}
 use Rattle.homeo_meaning.specs.Meaning.{argument_or, compared, value, sum_value, product_value, passes, holds}
 use Rattle.homeo_meaning.specs.LForm.{read, name_of, lift, lift_all, lift_test, lift_cond}
-use Rattle.homeo_desugar.proofs.Lifts.{seen, Lifts, plain_lifts, mapped_lifts, joined_lifts}
-use Rattle.homeo_desugar.proofs.Fields.{indexed_lifts}
-use Rattle.homeo_desugar.proofs.Loops.{counted_lifts}
+use Rattle.homeo_meaning.proofs.Lifts.{seen, Lifts, plain_lifts, mapped_lifts, joined_lifts}
+use Rattle.homeo_meaning.proofs.Fields.{indexed_lifts}
+use Rattle.homeo_meaning.proofs.Loops.{counted_lifts}
 
 name_value : (o : Option ℤ) (x : ℕ) (u : M.State) → M.value (name_of o x) u ≡ argument_or o ((seen u).temps x)
-unfolding meaning_words
+unfolding words
 name_value (Some v) x u = refl
 name_value None x u = refl
 
@@ -24,7 +24,7 @@ abbrev pub products : L.Exprs → M.State → ℤ → ℤ
 products es u k = M.product_value k es u
 
 mutual
-  unfolding meaning_words
+  unfolding words
 
   pub lifts : (w : Context) (e : Expr) (n : ℕ) (s : M.State) → Lifts n s (lift w e n) M.value (value w e)
   lifts w (Literal v) n s = plain_lifts _ n s M.value (value w (Literal v)) (λ u. refl)

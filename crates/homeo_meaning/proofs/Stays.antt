@@ -3,17 +3,15 @@ use Rattle.std.proofs.Common.{◌≡◌, ℕ, suc, ◌==◌, Bool, true, false, 
 use Rattle.std.proofs.lemmas.Int.{ints}
 use Rattle.std.proofs.lemmas.Bool.Decides.{nat_tests}
 use Rattle.homeo_syntax.specs.Source.{FieldValue, Command, Commands, Skip, Assign, Write, Print, If, Block, SetField, SetRow, Foreach, Insert, Delete, Update, NoCommand, MoreCommand}
-use Rattle.homeo_meaning.specs.Key.{words as meaning_words}
+use Rattle.homeo_meaning.specs.Key.{words}
 use Rattle.homeo_meaning.specs.Schema.{Declared, Schema}
 use Rattle.homeo_meaning.specs.Context.{Spot, Slot, Context, spot, cell, field_cell, object, slots, fields, bind, first_where, slot_at, context}
-use Rattle.homeo_meaning.specs.Bounds.{Bounds, all_bounds, IsIn}
+use Rattle.homeo_meaning.specs.Bounds.{Bounds, all_bounds, IsIn, bounds_at, AllWithin}
 use Rattle.homeo_meaning.specs.Meaning.{State, Run, done, is_used, is_free, is_within, set_temp, set_object, write, write_field, write_slot, visit, Setting, settings, are_within, set_fields, fill, insert, value, holds, does, does_all, run}
-use Rattle.homeo_desugar.specs.Key.{words}
-use Rattle.homeo_desugar.specs.Laws.{bounds_at, AllWithin}
-use Rattle.homeo_desugar.proofs.Numbers.{Each, ForSome, each_first, Admits, SlotFits, all_at, slots_fit, object_admits, no_row_fits}
+use Rattle.homeo_meaning.proofs.ObjectBounds.{Each, ForSome, each_first, Admits, SlotFits, all_at, slots_fit, object_admits, no_row_fits}
 
 changed_stays : (w : Schema) (s : State) (x : ℕ) (v : ℤ) → AllWithin w s.database → IsIn (all_at w x) v → AllWithin w (set_object s x v).database
-unfolding words meaning_words
+unfolding words
 changed_stays w s x v h i y = go (x == y) refl
   where
     go : (b : Bool) → (x == y) ≡ b → IsIn (all_at w y) (cond b v (s.database y))
@@ -21,7 +19,7 @@ changed_stays w s x v h i y = go (x == y) refl
     go false e = h y
 
 write_stays : (w : Schema) (s : State) (f : Spot) (x : ℕ) (v : ℤ) → AllWithin w s.database → Admits (all_at w x) f → AllWithin w (write s f x v).database
-unfolding words meaning_words
+unfolding words
 write_stays w s f x v h a = go (is_within f v) refl
   where
     go : (b : Bool) → is_within f v ≡ b → AllWithin w (cond b (set_object s x v) s).database
@@ -29,30 +27,30 @@ write_stays w s f x v h a = go (is_within f v) refl
     go false e = h
 
 slot_stays : (w : Schema) (ds : List Declared) (s : State) (f : ℕ) (o : Option Slot) (v : ℤ) → AllWithin w s.database → ForSome (SlotFits (all_at w) ds) o → AllWithin w (write_slot s (spot ds f) o v).database
-unfolding words meaning_words
+unfolding words
 slot_stays w ds s f None v h k = h
 slot_stays w ds s f (Some slot) v h k = write_stays w s (spot ds f) (cell slot (spot ds f)) v h (k.field f)
 
 -- ---- an insert
 values_admitted : (w : Schema) (ds : List Declared) (slot : Slot) → SlotFits (all_at w) ds slot → (c : Context) (xs : List FieldValue) (s : State) → Each (λ x. Admits (all_at w (cell slot x.field)) x.field) (settings c ds xs s)
-unfolding words meaning_words
+unfolding words
 values_admitted w ds slot k c [] s = tt
 values_admitted w ds slot k c (f ∷ more) s = (k.field f.field.name, values_admitted w ds slot k c more s)
 
 both_true : (a b : Bool) → a && b ≡ true → (a ≡ true) × (b ≡ true)
-unfolding words meaning_words
+unfolding words
 both_true true b e = (refl, e)
 both_true false b e = grind arith
 
 fields_stay : (w : Schema) (slot : Slot) (xs : List Setting) (s : State) → AllWithin w s.database → Each (λ x. Admits (all_at w (cell slot x.field)) x.field) xs → are_within xs ≡ true → AllWithin w (set_fields slot xs s).database
-unfolding words meaning_words
+unfolding words
 fields_stay w slot [] s h a e = h
 fields_stay w slot (x ∷ xs) s h a e =
     let k = both_true (is_within x.field x.value) (are_within xs) e in
     fields_stay w slot xs (set_object s (cell slot x.field) x.value) (changed_stays w s (cell slot x.field) x.value h (a.0 x.value k.0)) a.1 k.1
 
 insert_stays : (w : Context) (q : ℕ) (xs : List FieldValue) (t : ℕ) (s : State) → AllWithin w.schema s.database → AllWithin w.schema (insert (slots w q) (settings w (fields w q) xs s) t s).database
-unfolding words meaning_words
+unfolding words
 insert_stays w q xs t s h = go (are_within all) refl
   where
     all : List Setting
@@ -70,7 +68,7 @@ insert_stays w q xs t s h = go (are_within all) refl
 
 -- ---- a loop
 visit_stays : (w : Schema) (P : Slot → Type 0) (test : Slot → State → Bool) (body : Slot → State → Run) → ((slot : Slot) (s : State) → P slot → AllWithin w s.database → AllWithin w (body slot s).state.database) → (all : List Slot) (s : State) → Each P all → AllWithin w s.database → AllWithin w (visit test body all s).state.database
-unfolding words meaning_words
+unfolding words
 visit_stays w P test body k [] s e h = h
 visit_stays w P test body k (slot ∷ more) s e h = visit_stays w P test body k more here.state e.1 (go (is_used s slot && test slot s))
   where
@@ -87,7 +85,7 @@ abbrev RowsFit : Context → Type 0
 RowsFit w = (r x : ℕ) → Admits (all_at w.schema (field_cell (w.rows r) x)) (spot (w.rows r).fields x)
 
 bound_fits : (w : Context) (r : ℕ) (slot : Slot) (ds : List Declared) → RowsFit w → SlotFits (all_at w.schema) ds slot → RowsFit (bind w r slot)
-unfolding words meaning_words
+unfolding words
 bound_fits w r slot ds h k y x = go (r == y)
   where
     go : (b : Bool) → Admits (all_at w.schema (field_cell (cond b slot (w.rows y)) x)) (spot (cond b slot (w.rows y)).fields x)
@@ -95,7 +93,7 @@ bound_fits w r slot ds h k y x = go (r == y)
     go false = h y x
 
 mutual
-  unfolding words meaning_words
+  unfolding words
 
   pub stays : (w : Context) (c : Command) (s : State) → RowsFit w → AllWithin w.schema s.database → AllWithin w.schema (does w c s).state.database
   stays w Skip s k h = h
@@ -127,18 +125,18 @@ mutual
   all_stay w (MoreCommand c cs) s k h = all_stay w cs (does w c s).state k (stays w c s k h)
 
 pub bounds_law : (x : Schema) (params : List ℕ) (args : List ℤ) (body : Commands) (database : ℕ → ℤ) → AllWithin x database → AllWithin x (run x params args body database).state.database
-unfolding words meaning_words
+unfolding words
 bounds_law x params args body database h =
     all_stay (context x params args) body (record { database = database; temps = λ t. pos 0 }) (λ r f. no_row_fits x f) h
 
 past_end : (bs : List Bounds) (x : ℕ) → length bs ≤ x → bounds_at bs x ≡ record { lo = pos 0; hi = pos 0 }
-unfolding words meaning_words
+unfolding words
 past_end [] x h = refl
 past_end (b ∷ bs) zero h = absurd (omega (arith, h))
 past_end (b ∷ bs) (suc x) h = past_end bs x (omega (arith, h))
 
 -- a number that is no object has the value 0
 pub zero_past_end : (w : Schema) (d : ℕ → ℤ) (x : ℕ) → AllWithin w d → length (all_bounds w) ≤ x → d x ≡ pos 0
-unfolding words meaning_words
+unfolding words
 zero_past_end w d x h le =
     let k = subst (λ b. IsIn b (d x)) (past_end (all_bounds w) x le) (h x) in omega (arith, ints, k.0, k.1)
