@@ -1,3 +1,4 @@
+mod RelationTexts
 mod RuleTexts
 pub mod AbsentItems
 pub mod CommandSteps
@@ -5,16 +6,15 @@ pub mod Conveys
 pub mod Equations
 pub mod FaultParts
 pub mod Fields
+pub mod Fits
 pub mod FormRules
 pub mod Forms
 pub mod Given
 pub mod Lifts
 pub mod Light
 pub mod LightForms
-pub mod LightRuns
 pub mod Lookups
 pub mod Loops
-pub mod LowLight
 pub mod Numbers
 pub mod ObjectBounds
 pub mod Outcomes

@@ -15,6 +15,7 @@ pub mod Ground
 pub mod Initial
 pub mod Key
 pub mod LForm
+pub mod ListRules
 pub mod LowComputed
 pub mod LowMeaning
 pub mod LowSizes
