@@ -22,6 +22,7 @@ pub mod Phases
 pub mod SimpleForms
 pub mod SomeValues
 pub mod Sound
+pub mod SoundRelations
 pub mod SoundRules
 pub mod SourceNumbers
 pub mod Spots

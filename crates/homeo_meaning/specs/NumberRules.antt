@@ -83,7 +83,7 @@ object_making d = record { name = d.name; objects = 1 }
 -- in each slot one object more than fields
 abbrev pub relation_making : s.RelationDecl → Making
 unfolding words
-relation_making q = record { name = q.name; objects = nat_of q.slots.value * (length q.fields + 1) }
+relation_making q = record { name = q.name; objects = nat_of q.slots.value * (1 + length q.fields) }
 
 abbrev pub makings : s.Workload → List Making
 unfolding words
