@@ -5,6 +5,7 @@ pub mod CommandSteps
 pub mod Conveys
 pub mod Equations
 pub mod FaultParts
+pub mod FieldSteps
 pub mod Fields
 pub mod Fits
 pub mod FormRules
@@ -19,13 +20,16 @@ pub mod Numbers
 pub mod ObjectBounds
 pub mod Outcomes
 pub mod Phases
+pub mod Relations
 pub mod SimpleForms
+pub mod Slots
 pub mod SomeValues
 pub mod Sound
 pub mod SoundRelations
 pub mod SoundRules
 pub mod SourceNumbers
 pub mod Spots
+pub mod Starts
 pub mod States
 pub mod Stays
 pub mod Steps

@@ -7,6 +7,7 @@ use Rattle.homeo_meaning.specs.Schema.{Declared, Relation, Schema}
 use Rattle.homeo_meaning.specs.Context.{Spot, Slot, Context, spot_from, spot, cell, field_cell, object, slots_from, find_slots, slots, find_fields, fields, first_where, object_count}
 use Rattle.homeo_meaning.specs.Bounds.{Bounds, bounds_of, slot_bounds, relation_bounds, all_bounds, IsIn, bounds_at}
 use Rattle.homeo_meaning.specs.Meaning.{is_within}
+use Rattle.homeo_meaning.specs.RowsFit.{Admits}
 
 abbrev pub Each : {X : Type 0} → (X → Type 0) → List X → Type 0
 Each P [] = Unit {0}
@@ -24,10 +25,6 @@ each_first P p (slot ∷ more) h = go (p slot) (each_first P p more h.1)
     go : (b : Bool) → ForSome P (first_where p more) → ForSome P (cond b (Some slot) (first_where p more))
     go true k = h.0
     go false k = k
-
--- what a declaration lets through is within these bounds
-abbrev pub Admits : Bounds → Spot → Type 0
-Admits b f = (v : ℤ) → is_within f v ≡ true → IsIn b v
 
 within_lo : (f : Spot) (v : ℤ) → is_within f v ≡ true → (f.lo ≤ℤ v) × (v ≤ℤ f.hi)
 unfolding words

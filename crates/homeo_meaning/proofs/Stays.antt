@@ -8,7 +8,8 @@ use Rattle.homeo_meaning.specs.Schema.{Declared, Schema}
 use Rattle.homeo_meaning.specs.Context.{Spot, Slot, Context, spot, cell, field_cell, object, slots, fields, bind, first_where, slot_at, context}
 use Rattle.homeo_meaning.specs.Bounds.{Bounds, all_bounds, IsIn, bounds_at, AllWithin}
 use Rattle.homeo_meaning.specs.Meaning.{State, Run, done, is_used, is_free, is_within, set_temp, set_object, write, write_field, write_slot, visit, Setting, settings, are_within, set_fields, fill, insert, value, holds, does, does_all, run}
-use Rattle.homeo_meaning.proofs.ObjectBounds.{Each, ForSome, each_first, Admits, SlotFits, all_at, slots_fit, object_admits, no_row_fits}
+use Rattle.homeo_meaning.specs.RowsFit.{Admits, RowsFit}
+use Rattle.homeo_meaning.proofs.ObjectBounds.{Each, ForSome, each_first, SlotFits, all_at, slots_fit, object_admits, no_row_fits}
 
 changed_stays : (w : Schema) (s : State) (x : ℕ) (v : ℤ) → AllWithin w s.database → IsIn (all_at w x) v → AllWithin w (set_object s x v).database
 unfolding words
@@ -80,11 +81,7 @@ visit_stays w P test body k (slot ∷ more) s e h = visit_stays w P test body k 
     go false = h
 
 -- ---- commands
--- the rows in force are slots, or past all objects
-abbrev RowsFit : Context → Type 0
-RowsFit w = (r x : ℕ) → Admits (all_at w.schema (field_cell (w.rows r) x)) (spot (w.rows r).fields x)
-
-bound_fits : (w : Context) (r : ℕ) (slot : Slot) (ds : List Declared) → RowsFit w → SlotFits (all_at w.schema) ds slot → RowsFit (bind w r slot)
+pub bound_fits : (w : Context) (r : ℕ) (slot : Slot) (ds : List Declared) → RowsFit w → SlotFits (all_at w.schema) ds slot → RowsFit (bind w r slot)
 unfolding words
 bound_fits w r slot ds h k y x = go (r == y)
   where

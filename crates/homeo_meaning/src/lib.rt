@@ -6,6 +6,8 @@ mod arguments;
 mod call;
 mod commands;
 mod database;
+mod frame;
+mod inserts;
 pub mod laws;
 mod numbering;
 mod padded;
@@ -13,6 +15,8 @@ mod phrases;
 mod rules;
 mod runs;
 mod scene;
+mod spot;
+mod table;
 
 pub use accepted::Accepted;
 pub use call::{CallId, GroundCall, Purpose};
