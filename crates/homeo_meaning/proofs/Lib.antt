@@ -11,6 +11,7 @@ pub mod Fits
 pub mod FormRules
 pub mod Forms
 pub mod Given
+pub mod InForce
 pub mod Lifts
 pub mod Light
 pub mod LightForms

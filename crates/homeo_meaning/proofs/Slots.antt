@@ -8,10 +8,12 @@ use Rattle.homeo_meaning.specs.declared.table.Slot as code
 use Rattle.homeo_meaning.specs.declared.table.Table.{Table}
 use Rattle.homeo_meaning.specs.Key.{words}
 use Rattle.homeo_meaning.specs.Schema.{Declared, declared_range}
-use Rattle.homeo_meaning.specs.Context.{Slot, slots_from, first_where, slot_at}
+use Rattle.homeo_meaning.specs.Context.{Slot, spot, field_cell, slots_from, first_where, slot_at}
 use Rattle.homeo_meaning.specs.Meaning.{State, Run, done, after_prints, is_used, added, visit}
 use Rattle.homeo_meaning.specs.CanRun.{is_small, adding_fits, visits_fit}
 use Rattle.homeo_meaning.specs.Scenes.{plain_slot, slots_of}
+use Rattle.homeo_meaning.specs.Terms.{term_of}
+use Rattle.homeo_meaning.specs.declared.phrases.Term.TheVariants.{Field}
 
 -- the slot of a number
 abbrev pub slot_of : Table → ℕ → Slot
@@ -138,6 +140,36 @@ add_step b tests passes term t i n h fits =
 pub add_stop : (passes : Slot → Bool) (term : Slot → ℤ) (t : Table) (i : ℕ) (n : ℤ) → t.slots ≤ i → added passes term (left t i) n ≡ n
 unfolding words
 add_stop passes term t i n h = ap (λ l. added passes term l n) (left_none t i h)
+
+-- a field of each slot, by the field's place
+added_fields : (passes : Slot → Bool) (s : State) (f p k first n : ℕ) (ds : List Declared) (z : ℤ) → p ≡ (spot ds f).place → added passes (λ slot. s.database (field_cell slot f)) (slots_from k first ds n) z ≡ added passes (λ slot. s.database (slot.used + 1 + p)) (slots_from k first ds n) z
+unfolding words
+added_fields passes s f p k first zero ds z e = refl
+added_fields passes s f p k first (suc n) ds z e =
+    let slot : Slot = record { number = k; used = first; fields = ds } in
+    let at : s.database (first + 1 + (spot ds f).place) ≡ s.database (first + 1 + p) = ap (λ m. s.database (first + 1 + m)) (sym e) in
+    added_fields passes s f p (suc k) (first + (1 + length ds)) n ds (cond (passes slot) (z +ℤ s.database (first + 1 + (spot ds f).place)) z) e
+    ∙ ap (λ v. added passes (λ slot. s.database (slot.used + 1 + p)) (slots_from (suc k) (first + (1 + length ds)) ds n) (cond (passes slot) (z +ℤ v) z)) at
+
+adding_fields : (b : ℕ) (tests passes : Slot → Bool) (s : State) (f p k first n : ℕ) (ds : List Declared) (z : ℤ) → p ≡ (spot ds f).place → adding_fits b tests passes (λ slot. s.database (field_cell slot f)) (slots_from k first ds n) z ≡ adding_fits b tests passes (λ slot. s.database (slot.used + 1 + p)) (slots_from k first ds n) z
+unfolding words
+adding_fields b tests passes s f p k first zero ds z e = refl
+adding_fields b tests passes s f p k first (suc n) ds z e =
+    let slot : Slot = record { number = k; used = first; fields = ds } in
+    let at : s.database (first + 1 + (spot ds f).place) ≡ s.database (first + 1 + p) = ap (λ m. s.database (first + 1 + m)) (sym e) in
+    ap (λ r. tests slot && (is_small b (z +ℤ s.database (first + 1 + (spot ds f).place)) && r)) (adding_fields b tests passes s f p (suc k) (first + (1 + length ds)) n ds (cond (passes slot) (z +ℤ s.database (first + 1 + (spot ds f).place)) z) e)
+    ∙ ap (λ v. tests slot && (is_small b (z +ℤ v) && adding_fits b tests passes (λ slot. s.database (slot.used + 1 + p)) (slots_from (suc k) (first + (1 + length ds)) ds n) (cond (passes slot) (z +ℤ v) z))) at
+
+-- of the relation that a table is of
+pub total_is : (passes : Slot → Bool) (s : State) (f p : ℕ) (t : Table) (all : List Slot) (z : ℤ) → slots_of t ≡ all → p ≡ (spot (map declared_range t.fields.now) f).place → added passes (term_of (Field p) s) (slots_of t) z ≡ added passes (λ slot. s.database (field_cell slot f)) all z
+unfolding words
+total_is passes s f p t all z e h =
+    sym (ap (λ l. added passes (λ slot. s.database (field_cell slot f)) l z) (sym e) ∙ added_fields passes s f p 0 t.first t.slots (map declared_range t.fields.now) z h)
+
+pub total_fits : (b : ℕ) (tests passes : Slot → Bool) (s : State) (f p : ℕ) (t : Table) (all : List Slot) (z : ℤ) → slots_of t ≡ all → p ≡ (spot (map declared_range t.fields.now) f).place → adding_fits b tests passes (λ slot. s.database (field_cell slot f)) all z ≡ true → adding_fits b tests passes (term_of (Field p) s) (slots_of t) z ≡ true
+unfolding words
+total_fits b tests passes s f p t all z e h k =
+    sym (ap (λ l. adding_fits b tests passes (λ slot. s.database (field_cell slot f)) l z) (sym e) ∙ adding_fields b tests passes s f p 0 t.first t.slots (map declared_range t.fields.now) z h) ∙ k
 
 -- ---- one more visit
 -- what a visit of a slot does

@@ -34,6 +34,7 @@ pub(crate) struct Frame<'a> {
 }
 
 /// The slot of a row.
+#[tactic(auto, unfolding(crate::specs::Key::words))]
 fn find_row<'a>(rows: &Rows<'a>, name: u32) -> Slot<'a>
     ensures { plain_slot result ≡ rows_of rows.now name }
 {

@@ -1,13 +1,12 @@
 //! The values of expressions, and whether conditions hold.
 
-ghost use Rattle.std.specs.Prelude.{◌≡◌, ◌+ℤ◌, ◌*ℤ◌, ◌&&◌, neg_ℤ, pos, true, map};
+ghost use Rattle.std.specs.Prelude.{◌≡◌, ◌+ℤ◌, ◌*ℤ◌, neg_ℤ, pos, true, map};
 ghost use Rattle.homeo_syntax.specs.SourceView.{exprs, tests, plain_expr, plain_test, plain_cond};
-ghost use Rattle.homeo_meaning.specs.Context.{bind};
-ghost use Rattle.homeo_meaning.specs.Meaning.{is_used, added, compared, value, sum_value, product_value, passes, holds};
+ghost use Rattle.homeo_meaning.specs.Meaning.{added, compared, value, sum_value, product_value, passes, holds};
 ghost use Rattle.homeo_meaning.specs.Acceptance.{limit};
 ghost use Rattle.homeo_meaning.specs.CanRun.{is_small, adding_fits, expr_fits, sum_fits, product_fits, test_fits, cond_fits};
 ghost use Rattle.homeo_meaning.specs.Scenes.{state_of, plain_slot, slots_of, IsCounted, frame_context};
-ghost use Rattle.homeo_meaning.specs.Terms.{term_of};
+ghost use Rattle.homeo_meaning.specs.Terms.{term_of, counts, row_fits};
 
 use crate::frame::{Frame, Rows};
 use crate::scene::Scene;
@@ -56,6 +55,7 @@ fn compared(op: Compare, left: i64, right: i64) -> bool
     }
 }
 
+#[tactic(auto, unfolding(crate::specs::Key::words))]
 fn term_at(term: Term, slot: &Slot, scene: &Scene) -> i64
     ensures { result ≡ term_of term (state_of scene.now) (plain_slot slot.now) }
 {
@@ -150,13 +150,10 @@ fn product(es: &[Expr], frame: &Frame, scene: &Scene) -> i64
 fn total(test: &Cond, row: u32, table: &Table, term: Term, frame: &Frame, scene: &Scene) -> i64
     requires counted { IsCounted table.now }
     requires fits { adding_fits limit
-        (λ slot. cond_fits limit (bind (frame_context frame.now) row slot) (plain_cond test.now) (state_of scene.now))
-        (λ slot. is_used (state_of scene.now) slot &&
-            holds (bind (frame_context frame.now) row slot) (plain_cond test.now) (state_of scene.now))
+        (row_fits limit (frame_context frame.now) row (plain_cond test.now) (state_of scene.now))
+        (counts (frame_context frame.now) row (plain_cond test.now) (state_of scene.now))
         (term_of term (state_of scene.now)) (slots_of table.now) (pos 0) ≡ true }
-    ensures { result ≡ added
-        (λ slot. is_used (state_of scene.now) slot &&
-            holds (bind (frame_context frame.now) row slot) (plain_cond test.now) (state_of scene.now))
+    ensures { result ≡ added (counts (frame_context frame.now) row (plain_cond test.now) (state_of scene.now))
         (term_of term (state_of scene.now)) (slots_of table.now) (pos 0) }
 {
     let mut total = 0;
