@@ -21,6 +21,7 @@ pub mod Numbers
 pub mod ObjectBounds
 pub mod Outcomes
 pub mod Phases
+pub mod Placing
 pub mod Relations
 pub mod SimpleForms
 pub mod Slots
@@ -30,11 +31,13 @@ pub mod SoundRelations
 pub mod SoundRules
 pub mod SourceNumbers
 pub mod Spots
+pub mod StartLists
 pub mod Starts
 pub mod States
 pub mod Stays
 pub mod Steps
 pub mod Tables
+pub mod TakenItems
 pub mod Values
 pub mod ValuesFit
 pub mod Within

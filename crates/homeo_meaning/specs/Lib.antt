@@ -37,4 +37,5 @@ pub mod Table
 pub mod Terms
 pub mod TransactionRules
 pub mod Verdict
+pub mod Visits
 pub mod Weights

@@ -1,12 +1,13 @@
 //! What commands do.
 
-ghost use Rattle.std.specs.Prelude.{◌≡◌, ◌&&◌, true, pos, map, length, OnOk};
+ghost use Rattle.std.specs.Prelude.{◌≡◌, ◌&&◌, true, map, length, OnOk};
 ghost use Rattle.homeo_syntax.specs.SourceView.{commands, plain_command, plain_cond, plain_expr};
 ghost use Rattle.homeo_meaning.specs.Context.{spot, object, slots, fields, bind, slot_at};
-ghost use Rattle.homeo_meaning.specs.Meaning.{done, after_prints, is_used, value, holds, set_object, write, write_field, write_slot, visit_all, does, does_all};
+ghost use Rattle.homeo_meaning.specs.Meaning.{done, after_prints, is_used, value, holds, write, write_field, write_slot, visit, does, does_all};
 ghost use Rattle.homeo_meaning.specs.Acceptance.{limit};
 ghost use Rattle.homeo_meaning.specs.CanRun.{on_slots, on_slot, expr_fits, cond_fits, visits_fit, can_run, can_run_all};
 ghost use Rattle.homeo_meaning.specs.Scenes.{state_of, run_of, plain_slot, frame_context, Serves};
+ghost use Rattle.homeo_meaning.specs.Visits.{holds_at, cond_fits_at, does_at, can_run_at, clears, can_clear, writes_at, value_fits_at};
 
 use crate::frame::{Frame, Rows};
 use crate::inserts::insert;
@@ -36,13 +37,12 @@ fn is_visited(test: &Cond, slot: &Slot, row: u32, frame: &Frame, scene: &Scene) 
 
 /// Clears the used slots at which a condition holds of the row. Their fields stay.
 fn delete(test: &Cond, row: u32, relation: u32, frame: &Frame, scene: &mut Scene)
-    requires { visits_fit (λ slot. cond_fits limit (bind (frame_context frame.now) row slot) (plain_cond test.now))
-        (λ slot s. true) (λ slot. holds (bind (frame_context frame.now) row slot) (plain_cond test.now))
-        (λ slot s. done (set_object s slot.used (pos 0))) (slots (frame_context frame.now) relation)
-        (state_of scene.old) ≡ true }
+    requires { visits_fit (cond_fits_at limit (frame_context frame.now) row (plain_cond test.now)) can_clear
+        (holds_at (frame_context frame.now) row (plain_cond test.now)) clears
+        (slots (frame_context frame.now) relation) (state_of scene.old) ≡ true }
     ensures places { length scene.new.database.items ≡ length scene.old.database.items }
-    ensures run { done (state_of scene.new) ≡ visit_all (frame_context frame.now) row relation (plain_cond test.now)
-        (λ slot s. done (set_object s slot.used (pos 0))) (state_of scene.old) }
+    ensures run { done (state_of scene.new) ≡ visit (holds_at (frame_context frame.now) row (plain_cond test.now)) clears
+        (slots (frame_context frame.now) relation) (state_of scene.old) }
 {
     let table = frame.relation(relation);
     for number in 0..table.slots {
@@ -71,16 +71,15 @@ fn value_at(e: &Expr, slot: &Slot, row: u32, frame: &Frame, scene: &Scene) -> i6
 /// Writes a value to a field of each used slot at which a condition holds of the row.
 fn update(test: &Cond, row: u32, relation: u32, field: u32, e: &Expr, frame: &Frame, scene: &mut Scene)
     requires serves { Serves frame.now scene.old }
-    requires fits { visits_fit (λ slot. cond_fits limit (bind (frame_context frame.now) row slot) (plain_cond test.now))
-        (λ slot. expr_fits limit (bind (frame_context frame.now) row slot) (plain_expr e.now))
-        (λ slot. holds (bind (frame_context frame.now) row slot) (plain_cond test.now))
-        (λ slot s. done (write_field s slot field
-            (value (bind (frame_context frame.now) row slot) (plain_expr e.now) s)))
+    requires fits { visits_fit (cond_fits_at limit (frame_context frame.now) row (plain_cond test.now))
+        (value_fits_at limit (frame_context frame.now) row (plain_expr e.now))
+        (holds_at (frame_context frame.now) row (plain_cond test.now))
+        (writes_at (frame_context frame.now) row field (plain_expr e.now))
         (slots (frame_context frame.now) relation) (state_of scene.old) ≡ true }
     ensures places { length scene.new.database.items ≡ length scene.old.database.items }
-    ensures run { done (state_of scene.new) ≡ visit_all (frame_context frame.now) row relation (plain_cond test.now)
-        (λ slot s. done (write_field s slot field
-            (value (bind (frame_context frame.now) row slot) (plain_expr e.now) s))) (state_of scene.old) }
+    ensures run { done (state_of scene.new) ≡ visit (holds_at (frame_context frame.now) row (plain_cond test.now))
+        (writes_at (frame_context frame.now) row field (plain_expr e.now))
+        (slots (frame_context frame.now) relation) (state_of scene.old) }
 {
     let table = frame.relation(relation);
     let place = table.field(field);
@@ -150,16 +149,16 @@ fn foreach(
     prints: &mut List<i64>,
 ) -> Result<(), Memory>
     requires serves { Serves frame.now scene.old }
-    requires fits { visits_fit (λ slot. cond_fits limit (bind (frame_context frame.now) row slot) (plain_cond test.now))
-        (λ slot. can_run_all limit (bind (frame_context frame.now) row slot) (commands (map plain_command body.now.items)))
-        (λ slot. holds (bind (frame_context frame.now) row slot) (plain_cond test.now))
-        (λ slot. does_all (bind (frame_context frame.now) row slot) (commands (map plain_command body.now.items)))
+    requires fits { visits_fit (cond_fits_at limit (frame_context frame.now) row (plain_cond test.now))
+        (can_run_at limit (frame_context frame.now) row (commands (map plain_command body.now.items)))
+        (holds_at (frame_context frame.now) row (plain_cond test.now))
+        (does_at (frame_context frame.now) row (commands (map plain_command body.now.items)))
         (slots (frame_context frame.now) relation) (state_of scene.old) ≡ true }
     ensures places { length scene.new.database.items ≡ length scene.old.database.items }
     ensures run { OnOk result (run_of (state_of scene.new) prints.new.items ≡ after_prints prints.old.items
-        (visit_all (frame_context frame.now) row relation (plain_cond test.now)
-        (λ slot. does_all (bind (frame_context frame.now) row slot) (commands (map plain_command body.now.items)))
-        (state_of scene.old))) }
+        (visit (holds_at (frame_context frame.now) row (plain_cond test.now))
+        (does_at (frame_context frame.now) row (commands (map plain_command body.now.items)))
+        (slots (frame_context frame.now) relation) (state_of scene.old))) }
 {
     let table = frame.relation(relation);
     for number in 0..table.slots {

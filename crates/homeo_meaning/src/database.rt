@@ -41,7 +41,7 @@ fn start_relation(relation: &RelationDecl, database: &mut Database) -> Result<()
     ensures { OnOk result (database.new.items ≡ database.old.items ++
         slot_starts (nat_of relation.now.slots.value) (map declared_range relation.now.fields.items)) }
 {
-    for _ in 0..relation.slots.value {
+    for _ in 0..relation.slots.value as usize {
         start_slot(relation.fields.as_slice(), database)?;
     }
     Ok(())
