@@ -12,6 +12,7 @@ pub mod FormRules
 pub mod Forms
 pub mod Given
 pub mod InForce
+pub mod InsertSteps
 pub mod Lifts
 pub mod Light
 pub mod LightForms
@@ -20,6 +21,7 @@ pub mod Loops
 pub mod Numbers
 pub mod ObjectBounds
 pub mod Outcomes
+pub mod PastObjects
 pub mod Phases
 pub mod Placing
 pub mod Relations

@@ -1,5 +1,5 @@
 -- The slots of a relation that are left in a loop over them.
-use Rattle.std.proofs.Common.{◌≡◌, ℕ, zero, suc, ◌+◌, ◌*◌, ◌-◌, ◌<◌, ◌≤◌, Bool, true, false, cond, ◌&&◌, ℤ, pos, negsuc, ◌+ℤ◌, ◌<ℤ◌, List, [], ◌∷◌, map, length, Option, Some, None, refl, sym, ap, ap₂, ◌∙◌, arith}
+use Rattle.std.proofs.Common.{◌≡◌, ℕ, zero, suc, ◌+◌, ◌*◌, ◌-◌, ◌<◌, ◌≤◌, Bool, true, false, cond, ◌&&◌, ℤ, pos, negsuc, ◌+ℤ◌, ◌<ℤ◌, List, [], ◌∷◌, ◌++◌, map, length, Option, Some, None, refl, sym, ap, ◌∙◌, subst, append_assoc, append-nil, arith}
 use Rattle.std.specs.Ordering.{int_eq}
 use Rattle.std.proofs.lemmas.Int.{ints}
 use Rattle.std.proofs.lemmas.Bool.{and_parts}
@@ -11,7 +11,8 @@ use Rattle.homeo_meaning.specs.Schema.{Declared, declared_range}
 use Rattle.homeo_meaning.specs.Context.{Slot, spot, field_cell, slots_from, first_where, slot_at}
 use Rattle.homeo_meaning.specs.Meaning.{State, Run, done, after_prints, is_used, added, visit}
 use Rattle.homeo_meaning.specs.CanRun.{is_small, adding_fits, visits_fit}
-use Rattle.homeo_meaning.specs.Scenes.{plain_slot, slots_of}
+use Rattle.homeo_meaning.specs.Scenes.{run_of, plain_slot, slots_of}
+use Rattle.homeo_meaning.proofs.ObjectBounds.{Each}
 use Rattle.homeo_meaning.specs.Terms.{term_of}
 use Rattle.homeo_meaning.specs.declared.phrases.Term.TheVariants.{Field}
 
@@ -201,3 +202,76 @@ visit_step tests bodies test body t i s h fits =
 pub visit_stop : (test : Slot → State → Bool) (body : Slot → State → Run) (t : Table) (i : ℕ) (s : State) → t.slots ≤ i → visit test body (left t i) s ≡ done s
 unfolding words
 visit_stop test body t i s h = ap (λ l. visit test body l s) (left_none t i h)
+
+-- a visit that prints nothing
+pub record QuietStep (tests bodies test : Slot → State → Bool) (body : Slot → State → Run) (t : Table) (i : ℕ) (s u : State) : Type 0 where
+  pub fits : visits_fit tests bodies test body (left t (i + 1)) u ≡ true
+  pub same : visit test body (left t (i + 1)) u ≡ visit test body (left t i) s
+
+quiet_then : (r : Run) → after_prints [] r ≡ r
+unfolding words
+quiet_then r = refl
+
+pub quiet_step : (tests bodies test : Slot → State → Bool) (body : Slot → State → Run) (t : Table) (i : ℕ) (s u : State) → VisitStep tests bodies test body t i s → done u ≡ here_of test body (slot_of t i) s → QuietStep tests bodies test body t i s u
+unfolding words
+quiet_step tests bodies test body t i s u step e =
+    let state : u ≡ (here_of test body (slot_of t i) s).state = ap (λ (r : Run). r.state) e in
+    let prints : [] ≡ (here_of test body (slot_of t i) s).prints = ap (λ (r : Run). r.prints) e in
+    record {
+      fits = ap (visits_fit tests bodies test body (left t (i + 1))) state ∙ step.rest;
+      same = sym (quiet_then (visit test body (left t (i + 1)) u)) ∙ (λ j. after_prints (prints j) (visit test body (left t (i + 1)) (state j))) ∙ sym step.same;
+    }
+
+-- a visit that prints
+pub record LoudStep (tests bodies test : Slot → State → Bool) (body : Slot → State → Run) (t : Table) (i : ℕ) (s u : State) (ps qs : List ℤ) : Type 0 where
+  pub fits : visits_fit tests bodies test body (left t (i + 1)) u ≡ true
+  pub same : after_prints qs (visit test body (left t (i + 1)) u) ≡ after_prints ps (visit test body (left t i) s)
+
+prints_twice : (ps qs : List ℤ) (r : Run) → after_prints (ps ++ qs) r ≡ after_prints ps (after_prints qs r)
+unfolding words
+prints_twice ps qs r = λ j. record { state = r.state; prints = append_assoc ps qs r.prints j }
+
+pub loud_step : (tests bodies test : Slot → State → Bool) (body : Slot → State → Run) (t : Table) (i : ℕ) (s u : State) (ps qs : List ℤ) → VisitStep tests bodies test body t i s → run_of u qs ≡ after_prints ps (here_of test body (slot_of t i) s) → LoudStep tests bodies test body t i s u ps qs
+unfolding words
+loud_step tests bodies test body t i s u ps qs step e =
+    let here : Run = here_of test body (slot_of t i) s in
+    let state : u ≡ here.state = ap (λ (r : Run). r.state) e in
+    let prints : qs ≡ ps ++ here.prints = ap (λ (r : Run). r.prints) e in
+    record {
+      fits = ap (visits_fit tests bodies test body (left t (i + 1))) state ∙ step.rest;
+      same = (λ j. after_prints (prints j) (visit test body (left t (i + 1)) (state j))) ∙ prints_twice ps here.prints (visit test body (left t (i + 1)) here.state) ∙ ap (after_prints ps) (sym step.same);
+    }
+
+-- what a visit does where the slot is visited, and where it isn't
+pub here_visited : (test : Slot → State → Bool) (body : Slot → State → Run) (slot : Slot) (s : State) (b : Bool) → b ≡ is_used s slot && test slot s → b ≡ true → here_of test body slot s ≡ body slot s
+unfolding words
+here_visited test body slot s b e h = ap (λ v. cond v (body slot s) (done s)) (sym e ∙ h)
+
+pub here_passed : (test : Slot → State → Bool) (body : Slot → State → Run) (slot : Slot) (s : State) (b : Bool) → b ≡ is_used s slot && test slot s → b ≡ false → here_of test body slot s ≡ done s
+unfolding words
+here_passed test body slot s b e h = ap (λ v. cond v (body slot s) (done s)) (sym e ∙ h)
+
+pub loud_stop : (test : Slot → State → Bool) (body : Slot → State → Run) (t : Table) (i : ℕ) (s : State) (ps : List ℤ) → t.slots ≤ i → run_of s ps ≡ after_prints ps (visit test body (left t i) s)
+unfolding words
+loud_stop test body t i s ps h = sym (ap (after_prints ps) (visit_stop test body t i s h) ∙ (λ j. record { state = s; prints = append-nil ps j }))
+
+-- what holds of each slot of a relation
+each_from : (P : Slot → Type 0) (n k first : ℕ) (ds : List Declared) → Each P (slots_from k first ds n) → (i : ℕ) → i < n → P (record { number = k + i; used = first + i * (1 + length ds); fields = ds })
+unfolding words
+each_from P zero k first ds h i l = absurd (omega arith)
+each_from P (suc n) k first ds h zero l =
+    let number : k ≡ k + 0 = omega arith in
+    let used : first ≡ first + 0 * (1 + length ds) = omega arith in
+    subst P (λ j. record { number = number j; used = used j; fields = ds }) h.0
+each_from P (suc n) k first ds h (suc i) l =
+    let number : suc k + i ≡ k + suc i = omega arith in
+    let used : first + (1 + length ds) + i * (1 + length ds) ≡ first + suc i * (1 + length ds) = omega arith in
+    subst P (λ j. record { number = number j; used = used j; fields = ds }) (each_from P n (suc k) (first + (1 + length ds)) ds h.1 i (omega arith))
+
+pub each_slot : (P : Slot → Type 0) (t : Table) (all : List Slot) → slots_of t ≡ all → Each P all → (i : ℕ) → i < t.slots → P (slot_of t i)
+unfolding words
+each_slot P t all e h i l =
+    let ds : List Declared = map declared_range t.fields.now in
+    let width : length ds ≡ length t.fields.now = length-map t.fields.now declared_range in
+    let number : 0 + i ≡ i = omega arith in
+    subst P (λ j. record { number = number j; used = t.first + i * (1 + width j); fields = ds }) (each_from P t.slots 0 t.first ds (subst (Each P) (sym e) h) i l)

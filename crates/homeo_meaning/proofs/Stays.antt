@@ -33,7 +33,7 @@ slot_stays w ds s f None v h k = h
 slot_stays w ds s f (Some slot) v h k = write_stays w s (spot ds f) (cell slot (spot ds f)) v h (k.field f)
 
 -- ---- an insert
-values_admitted : (w : Schema) (ds : List Declared) (slot : Slot) → SlotFits (all_at w) ds slot → (c : Context) (xs : List FieldValue) (s : State) → Each (λ x. Admits (all_at w (cell slot x.field)) x.field) (settings c ds xs s)
+pub values_admitted : (w : Schema) (ds : List Declared) (slot : Slot) → SlotFits (all_at w) ds slot → (c : Context) (xs : List FieldValue) (s : State) → Each (λ x. Admits (all_at w (cell slot x.field)) x.field) (settings c ds xs s)
 unfolding words
 values_admitted w ds slot k c [] s = tt
 values_admitted w ds slot k c (f ∷ more) s = (k.field f.field.name, values_admitted w ds slot k c more s)
@@ -126,7 +126,7 @@ unfolding words
 bounds_law x params args body database h =
     all_stay (context x params args) body (record { database = database; temps = λ t. pos 0 }) (λ r f. no_row_fits x f) h
 
-past_end : (bs : List Bounds) (x : ℕ) → length bs ≤ x → bounds_at bs x ≡ record { lo = pos 0; hi = pos 0 }
+pub past_end : (bs : List Bounds) (x : ℕ) → length bs ≤ x → bounds_at bs x ≡ record { lo = pos 0; hi = pos 0 }
 unfolding words
 past_end [] x h = refl
 past_end (b ∷ bs) zero h = absurd (omega (arith, h))
