@@ -175,3 +175,16 @@ run_step b x s u ps qs cs i c h p can ran =
           ∙ sym (after_more x s ps (plain_command c) (map plain_command (drop (i + 1) cs)))
           ∙ ap (λ l. after_prints ps (does_all x (commands l) s)) (sym next);
     }
+
+-- both branches of a choice can run
+module _ (b : ℕ) (x : Context) (s : State) {c : tree.Command} {t : condition.Cond} {y z : Box tree.Command Global} (p : c ≡ tree.If t y z) (can : can_run b x (plain_command c) s ≡ true) where
+  branches : (can_run b x (plain_command y.value) s ≡ true) × (can_run b x (plain_command z.value) s ≡ true)
+  branches =
+      let k = and_parts _ _ (sym (ap (λ e. can_run b x (plain_command e) s) p ∙ ap (λ e. can_run b x e s) (plain_If t y z) ∙ can_If b x s (plain_cond t) (plain_command y.value) (plain_command z.value)) ∙ can) in
+      and_parts _ _ k.1
+
+  pub can_yes : {d : tree.Command} → d ≡ y.value → can_run b x (plain_command d) s ≡ true
+  can_yes q = ap (λ e. can_run b x (plain_command e) s) q ∙ branches.0
+
+  pub can_no : {d : tree.Command} → d ≡ z.value → can_run b x (plain_command d) s ≡ true
+  can_no q = ap (λ e. can_run b x (plain_command e) s) q ∙ branches.1

@@ -6,6 +6,7 @@ pub mod Conveys
 pub mod Equations
 pub mod FaultParts
 pub mod FieldSteps
+pub mod FieldWrites
 pub mod Fields
 pub mod Fits
 pub mod FormRules

@@ -110,7 +110,7 @@ all_fit g k first ds (suc n) rest h z =
           (begins_after g (suc first) (first + (1 + length ds)) (map bounds_of ds) more (omega (arith, length-map ds bounds_of)) (begins_next g first (record { lo = pos 0; hi = pos 1 }) (map bounds_of ds ++ more) split)) z,
     )
 
-slots_length : (n : ℕ) (ds : List Declared) → length (slot_bounds n ds) ≡ n * (1 + length ds)
+pub slots_length : (n : ℕ) (ds : List Declared) → length (slot_bounds n ds) ≡ n * (1 + length ds)
 unfolding words
 slots_length zero ds = omega arith
 slots_length (suc n) ds =
@@ -168,3 +168,19 @@ no_row_fits w x =
     let last = object_count (length w.objects) w.relations in
     let h = count_end (all_at w) (length w.objects) w.relations (relations_begin w) in
     spot_admits (λ i. all_at w (last + 1 + i)) 0 [] [] x (λ i. let e : last + 1 + (0 + i) ≡ last + suc i = omega arith in ap (all_at w) e ∙ h (suc i)) (omega (arith, ints), omega (arith, ints))
+
+relations_count : (k : ℕ) (rs : List Relation) → k + length (relation_bounds rs) ≡ object_count k rs
+unfolding words
+relations_count k [] = omega arith
+relations_count k (r ∷ rs) =
+    let both : length (slot_bounds r.slots r.fields ++ relation_bounds rs) ≡ length (slot_bounds r.slots r.fields) + length (relation_bounds rs) = length-append _ _ in
+    let rest = relations_count (k + r.slots * (1 + length r.fields)) rs in
+    omega (arith, both, slots_length r.slots r.fields, rest)
+
+-- how many objects there are
+pub bounds_count : (w : Schema) → length (all_bounds w) ≡ object_count (length w.objects) w.relations
+unfolding words
+bounds_count w =
+    length-append (map bounds_of w.objects) (relation_bounds w.relations)
+    ∙ ap (λ n. n + length (relation_bounds w.relations)) (length-map w.objects bounds_of)
+    ∙ relations_count (length w.objects) w.relations
