@@ -29,12 +29,12 @@ unfolding words
 rows_outside k n = search (rules, the_lemmas)
 
 -- no row in force
-pub frame_outside : (f : Frame) (k : ℕ) → f.rows.now ≡ Outside k → k ≡ length (all_bounds f.numbering.now.schema) → frame_context f ≡ call_context f.numbering.now f.arguments.now
+pub frame_outside : (f : Frame) (k : ℕ) (d : Declarations) (given : List Argument) → f.numbering.now ≡ d → f.arguments.now ≡ given → f.rows.now ≡ Outside k → k ≡ length (all_bounds d.schema) → frame_context f ≡ call_context d given
 unfolding words
-frame_outside f k r e = λ i. record {
-  schema = f.numbering.now.schema;
-  arguments = (call_context f.numbering.now f.arguments.now).arguments;
-  rows = λ n. (ap (λ l. rows_of l n) r ∙ rows_outside k n ∙ ap (λ (m : ℕ). let slot : Slot = record { number = 0; used = m; fields = [] } in slot) (e ∙ bounds_count f.numbering.now.schema)) i;
+frame_outside f k d given n a r e = λ i. record {
+  schema = (n i).schema;
+  arguments = (call_context (n i) (a i)).arguments;
+  rows = λ m. (ap (λ l. rows_of l m) r ∙ rows_outside k m ∙ ap (λ (m : ℕ). let slot : Slot = record { number = 0; used = m; fields = [] } in slot) (e ∙ bounds_count d.schema)) i;
 }
 
 pub call_rows_fit : (d : Declarations) (given : List Argument) → RowsFit (call_context d given)

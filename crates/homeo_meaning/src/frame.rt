@@ -55,6 +55,24 @@ fn find_row<'a>(rows: &Rows<'a>, name: u32) -> Slot<'a>
 }
 
 impl<'a> Frame<'a> {
+    pub(crate) fn new(
+        alloc: Global,
+        numbering: &'a Numbering,
+        arguments: &'a [Argument],
+        rows: &'a Rows<'a>,
+    ) -> Frame<'a>
+        ensures numbering { result.numbering.now ≡ numbering.now }
+        ensures arguments { result.arguments.now ≡ arguments.now }
+        ensures rows { result.rows.now ≡ rows.now }
+    {
+        Frame {
+            alloc,
+            numbering,
+            arguments,
+            rows,
+        }
+    }
+
     /// The slot of a row.
     #[tactic(auto, unfolding(crate::specs::Key::words))]
     pub(crate) fn row(&self, name: u32) -> Slot<'a>

@@ -58,12 +58,7 @@ fn run_body(
     let rows = Rows::Outside {
         objects: scene.database.len(),
     };
-    let frame = Frame {
-        alloc,
-        numbering,
-        arguments,
-        rows: &rows,
-    };
+    let frame = Frame::new(alloc, numbering, arguments, &rows);
     let mut prints = List::new(alloc);
     run_all(body, &frame, &mut scene, &mut prints)?;
     *base = List::from_vec(scene.database);

@@ -1,27 +1,76 @@
-use Rattle.std.proofs.Common.{map, length, ap, sym, subst, ◌∙◌}
+use Rattle.std.proofs.Common.{rules, ◌≡◌, map, length, refl, ap, sym, subst, ◌∙◌}
 use Rattle.homeo_syntax.specs.SourceView.{commands, plain_command}
 use Rattle.homeo_meaning.specs.Key.{words}
 use Rattle.homeo_meaning.specs.Acceptance.{limit}
 use Rattle.homeo_meaning.specs.Bounds.{all_bounds, IsWithin}
 use Rattle.homeo_meaning.specs.CanRun.{can_run_all}
+use Rattle.homeo_meaning.specs.Meaning.{after_prints, does_all}
 use Rattle.homeo_meaning.specs.RowsFit.{RowsFit}
-use Rattle.homeo_meaning.specs.Scenes.{call_context, frame_context, state_of}
+use Rattle.homeo_meaning.specs.Scenes.{call_context, state_of}
 use Rattle.homeo_meaning.proofs.InForce.{frame_outside, call_rows_fit}
 use Rattle.homeo_meaning.proofs.Outcomes.{body_starts, body_ran, like_itself}
+use Rattle.homeo_meaning.proofs.States.{state_with}
 use Rattle.homeo_meaning.proofs.Within.{length_in}
 use Rattle.homeo_meaning.proofs.runs.run_body.Goals as goal
 
 pub run_all-requires-clause-serves : goal.run_all-requires-clause-serves
-run_all-requires-clause-serves c = ?
+unfolding words
+run_all-requires-clause-serves c =
+    let d = c.args.numbering.now in
+    let given = c.args.arguments.now in
+    let cs = commands (map plain_command c.args.body.now) in
+    let base = c.args.base.now.items in
+    let copy = c.in_ok-copied.ensures ∙ c.as_slice.ensures in
+    let len : c.len.result ≡ length c.in_ok-copied.field-0.items = search rules in
+    let f = c.new-frame.result in
+    let ctx = frame_outside f c.len.result d given c.new-frame.ensures.numbering c.new-frame.ensures.arguments c.new-frame.ensures.rows (len ∙ ap length copy ∙ length_in (all_bounds d.schema) base c.requires.within) in
+    record {
+      places = ap length copy ∙ length_in (all_bounds d.schema) base c.requires.within ∙ sym (ap (λ n. length (all_bounds n.schema)) c.new-frame.ensures.numbering);
+      rows = subst RowsFit (sym ctx) (call_rows_fit d given);
+    }
 
 pub run_all-requires-clause-runs : goal.run_all-requires-clause-runs
-run_all-requires-clause-runs c = ?
+unfolding words
+run_all-requires-clause-runs c =
+    let d = c.args.numbering.now in
+    let given = c.args.arguments.now in
+    let cs = commands (map plain_command c.args.body.now) in
+    let base = c.args.base.now.items in
+    let copy = c.in_ok-copied.ensures ∙ c.as_slice.ensures in
+    let len : c.len.result ≡ length c.in_ok-copied.field-0.items = search rules in
+    let f = c.new-frame.result in
+    let ctx = frame_outside f c.len.result d given c.new-frame.ensures.numbering c.new-frame.ensures.arguments c.new-frame.ensures.rows (len ∙ ap length copy ∙ length_in (all_bounds d.schema) base c.requires.within) in
+    ap (λ x. can_run_all limit x cs (state_with c.in_ok-copied.field-0.items c.new.result.items)) ctx
+    ∙ ap (can_run_all limit (call_context d given) cs) (sym (body_starts base _ _ copy c.new.ensures.items)) ∙ c.requires.runs
 
 pub returns-clause-prints : goal.returns-clause-prints
-returns-clause-prints c = ?
+unfolding words
+returns-clause-prints c =
+    let d = c.args.numbering.now in
+    let given = c.args.arguments.now in
+    let cs = commands (map plain_command c.args.body.now) in
+    let base = c.args.base.now.items in
+    let copy = c.in_ok-copied.ensures ∙ c.as_slice.ensures in
+    let len : c.len.result ≡ length c.in_ok-copied.field-0.items = search rules in
+    let f = c.new-frame.result in
+    let ctx = frame_outside f c.len.result d given c.new-frame.ensures.numbering c.new-frame.ensures.arguments c.new-frame.ensures.rows (len ∙ ap length copy ∙ length_in (all_bounds d.schema) base c.requires.within) in
+    let ran = c.in_ok-run_all.ensures.run ∙ ap (λ x. after_prints c.new-prints.result.items (does_all x cs (state_with c.in_ok-copied.field-0.items c.new.result.items))) ctx in
+    ap (λ r. r.prints) (body_ran d given cs base _ _ c.run_all.new.prints.items _ (state_of c.run_all.new.scene) copy c.new.ensures.items (ap (λ l. l.items) c.new-prints.ensures) ran)
 
 pub returns-clause-database : goal.returns-clause-database
-returns-clause-database c = ?
+unfolding words
+returns-clause-database c =
+    let d = c.args.numbering.now in
+    let given = c.args.arguments.now in
+    let cs = commands (map plain_command c.args.body.now) in
+    let base = c.args.base.now.items in
+    let copy = c.in_ok-copied.ensures ∙ c.as_slice.ensures in
+    let len : c.len.result ≡ length c.in_ok-copied.field-0.items = search rules in
+    let f = c.new-frame.result in
+    let ctx = frame_outside f c.len.result d given c.new-frame.ensures.numbering c.new-frame.ensures.arguments c.new-frame.ensures.rows (len ∙ ap length copy ∙ length_in (all_bounds d.schema) base c.requires.within) in
+    let ran = c.in_ok-run_all.ensures.run ∙ ap (λ x. after_prints c.new-prints.result.items (does_all x cs (state_with c.in_ok-copied.field-0.items c.new.result.items))) ctx in
+    let whole = body_ran d given cs base _ _ c.run_all.new.prints.items _ (state_of c.run_all.new.scene) copy c.new.ensures.items (ap (λ l. l.items) c.new-prints.ensures) ran in
+    ap (λ l. l.items) c.from_vec.ensures ∙ like_itself base c.run_all.new.scene.database.items _ (c.in_ok-run_all.ensures.places ∙ ap length copy) (ap (λ r. r.state.database) whole)
 
 pub returns-clause-within : goal.returns-clause-within
 returns-clause-within c =
