@@ -14,6 +14,7 @@ pub mod Forms
 pub mod Given
 pub mod InForce
 pub mod InsertSteps
+pub mod Known
 pub mod Lifts
 pub mod Light
 pub mod LightForms

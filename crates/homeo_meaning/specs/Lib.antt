@@ -14,6 +14,7 @@ pub mod GlobalNames
 pub mod Ground
 pub mod Initial
 pub mod Key
+pub mod KnownNames
 pub mod LForm
 pub mod ListRules
 pub mod LowComputed
