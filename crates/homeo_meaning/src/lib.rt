@@ -4,6 +4,7 @@
 mod accepted;
 mod arguments;
 mod call;
+mod changes;
 mod commands;
 mod database;
 mod frame;

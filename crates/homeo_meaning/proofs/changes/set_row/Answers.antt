@@ -4,7 +4,7 @@ use Rattle.homeo_meaning.specs.Key.{words}
 use Rattle.homeo_meaning.specs.Context.{Slot, spot}
 use Rattle.homeo_meaning.specs.Scenes.{frame_context, state_of}
 use Rattle.homeo_meaning.proofs.FieldWrites.{own_zero, own_written}
-use Rattle.homeo_meaning.proofs.commands.set_row.Goals as goal
+use Rattle.homeo_meaning.proofs.changes.set_row.Goals as goal
 
 pub write_field-requires : goal.write_field-requires
 unfolding words

@@ -6,7 +6,7 @@ use Rattle.homeo_meaning.specs.CanRun.{expr_fits}
 use Rattle.homeo_meaning.specs.Scenes.{state_of}
 use Rattle.homeo_meaning.proofs.InForce.{frame_bound}
 use Rattle.homeo_meaning.proofs.Numbers.{kept_is}
-use Rattle.homeo_meaning.proofs.commands.value_at.Goals as goal
+use Rattle.homeo_meaning.proofs.changes.value_at.Goals as goal
 
 pub value-requires : goal.value-requires
 value-requires c =

@@ -6,7 +6,7 @@ use Rattle.homeo_meaning.specs.Meaning.{holds}
 use Rattle.homeo_meaning.specs.CanRun.{cond_fits}
 use Rattle.homeo_meaning.specs.Scenes.{frame_context, state_of, plain_slot}
 use Rattle.homeo_meaning.proofs.InForce.{frame_bound}
-use Rattle.homeo_meaning.proofs.commands.is_visited.Goals as goal
+use Rattle.homeo_meaning.proofs.changes.is_visited.Goals as goal
 
 pub holds-requires : goal.holds-requires
 holds-requires c =

@@ -3,7 +3,7 @@ use Rattle.std.proofs.lemmas.Int.{to_z-of_z}
 use Rattle.homeo_meaning.specs.Key.{words}
 use Rattle.homeo_meaning.specs.Scenes.{frame_context, state_of}
 use Rattle.homeo_meaning.proofs.FieldWrites.{object_zero, object_written}
-use Rattle.homeo_meaning.proofs.commands.set_object.Goals as goal
+use Rattle.homeo_meaning.proofs.changes.set_object.Goals as goal
 
 pub write-requires : goal.write-requires
 unfolding words

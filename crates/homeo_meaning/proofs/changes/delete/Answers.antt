@@ -8,8 +8,8 @@ use Rattle.homeo_meaning.specs.CanRun.{cond_fits, expr_fits, visits_fit}
 use Rattle.homeo_meaning.specs.Scenes.{frame_context, state_of, plain_slot}
 use Rattle.homeo_meaning.specs.Visits.{holds_at, cond_fits_at, clears, can_clear, writes_at, value_fits_at}
 use Rattle.homeo_meaning.proofs.Slots.{slot_of, left, slot_is, left_all, here_of, visit_step, visit_stop, quiet_step, here_visited, here_passed}
-use Rattle.homeo_meaning.proofs.commands.delete.Goals as goal
-use Rattle.homeo_meaning.proofs.commands.delete.Goals.{then-is_visited, else-is_visited}
+use Rattle.homeo_meaning.proofs.changes.delete.Goals as goal
+use Rattle.homeo_meaning.proofs.changes.delete.Goals.{then-is_visited, else-is_visited}
 
 pub loop-number-init : goal.loop-number-init
 loop-number-init c =

@@ -8,7 +8,7 @@ use Rattle.homeo_meaning.specs.CanRun.{expr_fits}
 use Rattle.homeo_meaning.specs.Scenes.{frame_context, state_of, plain_slot, plain_spot}
 use Rattle.homeo_meaning.proofs.FieldWrites.{none_here, some_here, slot_fits_value, at_fits, at_zero, slot_written, slot_kept}
 use Rattle.homeo_meaning.proofs.Numbers.{kept_is}
-use Rattle.homeo_meaning.proofs.commands.set_field.Goals as goal
+use Rattle.homeo_meaning.proofs.changes.set_field.Goals as goal
 
 pub returns-then-table-eq0-clause-set : goal.returns-then-table-eq0-clause-set
 unfolding words

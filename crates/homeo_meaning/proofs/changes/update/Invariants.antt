@@ -6,7 +6,7 @@ use Rattle.homeo_meaning.specs.CanRun.{visits_fit}
 use Rattle.homeo_meaning.specs.Scenes.{frame_context, state_of}
 use Rattle.homeo_meaning.specs.Visits.{holds_at, cond_fits_at, writes_at, value_fits_at}
 use Rattle.homeo_meaning.proofs.Slots.{left}
-use Rattle.homeo_meaning.proofs.commands.update.Given as goal
+use Rattle.homeo_meaning.proofs.changes.update.Given as goal
 
 abbrev pub invariant-loop-number : goal.invariant-loop-number
 invariant-loop-number l =

@@ -10,8 +10,8 @@ use Rattle.homeo_meaning.specs.Visits.{holds_at, cond_fits_at, clears, can_clear
 use Rattle.homeo_meaning.proofs.FieldWrites.{own_written, each_zero}
 use Rattle.homeo_meaning.proofs.Numbers.{kept_is}
 use Rattle.homeo_meaning.proofs.Slots.{slot_of, left, slot_is, left_all, here_of, visit_step, visit_stop, quiet_step, here_visited, here_passed}
-use Rattle.homeo_meaning.proofs.commands.update.Goals as goal
-use Rattle.homeo_meaning.proofs.commands.update.Goals.{then-is_visited, else-is_visited}
+use Rattle.homeo_meaning.proofs.changes.update.Goals as goal
+use Rattle.homeo_meaning.proofs.changes.update.Goals.{then-is_visited, else-is_visited}
 
 pub loop-number-init : goal.loop-number-init
 loop-number-init c =
