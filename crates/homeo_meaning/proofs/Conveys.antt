@@ -249,7 +249,7 @@ module _ (R P : ℤ → Type 0) where
         (conveys w e n s run u a h.0, subst P (ap neg_ℤ (means_after n s (lift w e n) M.value (value w e) (lifts w e n s) u a)) h.1)
     conveys w (Field r e f) n s = λ run u a h. (
       field_can (literal_of (lift w e n).phrase) (slots w r.name) (spot (fields w r.name) f.name) w e (lift w e n) s (λ k i. index_given w e n s (slots w r.name) k i)
-      (λ runs g. conveys w e n s runs (after (lift w e n).before s) (alike_self (lift w e n).next _) g) run,
+          (λ runs g. conveys w e n s runs (after (lift w e n).before s) (alike_self (lift w e n).next _) g) run,
       means_read w (Field r e f) n s u a (field_reads (literal_of (lift w e n).phrase) (slots w r.name) (spot (fields w r.name) f.name) (lift w e n) u h),
     )
     conveys w (Row r f) n s = λ run u a h. means_read w (Row r f) n s u a h

@@ -1,10 +1,10 @@
 -- The field of a name, looked for from the first field on.
-use Rattle.std.proofs.Common.{◌≡◌, ℕ, suc, ◌+◌, ◌<◌, ◌≤◌, ◌==◌, true, false, cond, ℤ, pos, List, [], ◌∷◌, map, drop, get_or, length, sym, ap, ◌∙◌, arith, add-one, drop_of_length-le}
+use Rattle.std.proofs.Common.{◌≡◌, ℕ, suc, ◌+◌, ◌<◌, ◌≤◌, ◌==◌, true, false, cond, ℤ, pos, List, ◌∷◌, map, drop, get_or, length, sym, ap, ◌∙◌, arith, add-one, drop_of_length-le}
 use Rattle.std.proofs.Math.Seq.{drop-cons}
 use Rattle.std.proofs.lemmas.Bool.Decides.{nat_tests}
 use Rattle.homeo_syntax.specs.declared.workload.RangeDecl.{RangeDecl}
 use Rattle.homeo_meaning.specs.Key.{words}
-use Rattle.homeo_meaning.specs.Schema.{Declared, declared_range}
+use Rattle.homeo_meaning.specs.Schema.{declared_range}
 use Rattle.homeo_meaning.specs.Context.{Spot, spot_from}
 
 abbrev spot_with : ℕ → ℤ → ℤ → Spot

@@ -1,7 +1,5 @@
 -- Writes to fields, by the slot and the place that the code finds.
-use Rattle.std.proofs.Common.{◌≡◌, ℕ, zero, suc, ◌+◌, ◌<◌, ◌≤◌, Bool, true, cond, ℤ, List, [], ◌∷◌, map, length, Option, Some, None, refl, sym, ap, ◌∙◌, subst, arith}
-use Rattle.std.specs.Prelude.{option_map}
-use Rattle.homeo_syntax.specs.declared.workload.RangeDecl.{RangeDecl}
+use Rattle.std.proofs.Common.{◌≡◌, ℕ, zero, suc, ◌+◌, ◌<◌, Bool, true, ℤ, List, [], ◌∷◌, map, length, Option, Some, None, refl, sym, ap, ◌∙◌, subst, arith}
 use Rattle.homeo_meaning.specs.declared.spot.Spot as code_spot
 use Rattle.homeo_meaning.specs.declared.table.Slot as code_slot
 use Rattle.homeo_meaning.specs.declared.table.Table.{Table}
@@ -13,7 +11,7 @@ use Rattle.homeo_meaning.specs.Meaning.{State, write, write_field, write_slot}
 use Rattle.homeo_meaning.specs.CanRun.{on_slots, on_slot}
 use Rattle.homeo_meaning.specs.RowsFit.{Admits}
 use Rattle.homeo_meaning.specs.Scenes.{plain_spot, plain_slot, slots_of, IsZeroPast}
-use Rattle.homeo_meaning.proofs.ObjectBounds.{Each, ForSome, each_first, SlotFits, all_at, slots_fit, object_admits}
+use Rattle.homeo_meaning.proofs.ObjectBounds.{ForSome, each_first, SlotFits, all_at, slots_fit, object_admits}
 use Rattle.homeo_meaning.proofs.PastObjects.{admits_zero}
 use Rattle.homeo_meaning.proofs.Slots.{slot_of, left, left_all, left_none, left_next, each_slot}
 

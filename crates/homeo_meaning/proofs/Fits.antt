@@ -1,7 +1,5 @@
 -- Where each number that a program computes is small, it can be run.
-use Rattle.std.proofs.Common.{◌≡◌, ℕ, ◌≤◌, Bool, true, false, cond, ◌&&◌, List, [], ◌∷◌, ℤ, pos, ◌+ℤ◌, ◌*ℤ◌, neg_ℤ, Option, Some, None, refl, arith}
-use Rattle.std.specs.Prelude.{nat_le}
-use Rattle.std.specs.Int.RustNames.{unsigned_abs}
+use Rattle.std.proofs.Common.{◌≡◌, ℕ, Bool, true, false, cond, ◌&&◌, List, [], ◌∷◌, ℤ, pos, ◌+ℤ◌, ◌*ℤ◌, neg_ℤ, Option, Some, None, refl, arith}
 use Rattle.std.proofs.lemmas.Bool.{and_parts, and_from, false≢true}
 use Rattle.std.proofs.lemmas.Bool.Decides.{nat_tests}
 use Rattle.homeo_syntax.specs.Source.{Expr, Exprs, Literal, Name, Read, Sum, Product, Neg, Field, Row, Count, Total, NoExpr, MoreExpr, Test, Cond, True, Not, Comparison, NoTest, MoreTest, FieldValue, Command, Commands, Skip, Assign, Write, Print, If, Block, SetField, SetRow, Foreach, Insert, Delete, Update, NoCommand, MoreCommand}
@@ -9,7 +7,7 @@ use Rattle.homeo_meaning.specs.Key.{words}
 use Rattle.homeo_meaning.specs.Context.{Slot, Context, field_cell, slots, bind, slot_at}
 use Rattle.homeo_meaning.specs.Meaning.{State, Run, done, is_used, value, holds, set_object, write_field, does, does_all}
 use Rattle.homeo_meaning.specs.Small.{IsSmall}
-use Rattle.homeo_meaning.specs.Computed.{has_none, is_given, Unless, OnSlots, OnSlot, CanAdd, CanValue, CanSum, CanProduct, CanPass, CanHold, CanValues, CanVisit, CanRun, CanRunAll}
+use Rattle.homeo_meaning.specs.Computed.{is_given, Unless, OnSlots, OnSlot, CanAdd, CanValue, CanSum, CanProduct, CanPass, CanHold, CanValues, CanVisit, CanRun, CanRunAll}
 use Rattle.homeo_meaning.specs.CanRun.{is_small, on_slots, on_slot, adding_fits, expr_fits, sum_fits, product_fits, test_fits, cond_fits, values_fit, visits_fit, can_run, can_run_all}
 
 small : (b : ℕ) (v : ℤ) → IsSmall b v → is_small b v ≡ true

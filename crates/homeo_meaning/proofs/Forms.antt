@@ -1,13 +1,12 @@
 -- Every L form does what the source does.
-use Rattle.std.proofs.Common.{◌≡◌, ℕ, cond, List, [], ◌∷◌, ℤ, pos, refl, ap, ap₂, ◌∙◌}
+use Rattle.std.proofs.Common.{◌≡◌, ℕ, cond, [], ◌∷◌, ℤ, pos, refl, ap, ap₂, ◌∙◌}
 use Rattle.homeo_syntax.specs.declared.low.Temp.TheVariants as temp
 use Rattle.homeo_syntax.specs.Low as L
 use Rattle.homeo_syntax.specs.Source.{Cond, Command, Commands, Skip, Assign, Write, Print, If, Block, SetField, SetRow, Foreach, Insert, Delete, Update, NoCommand, MoreCommand}
 use Rattle.homeo_meaning.specs.Key.{words}
 use Rattle.homeo_meaning.specs.LowMeaning as M
-use Rattle.homeo_meaning.specs.Schema.{Schema}
-use Rattle.homeo_meaning.specs.Context.{Slot, Context, spot, field_cell, object, slots, fields, bind, context}
-use Rattle.homeo_meaning.specs.Meaning.{State, Run, done, after_prints, set_temp, set_object, write_field, visit_all, value, holds, does, does_all, run}
+use Rattle.homeo_meaning.specs.Context.{Slot, Context, spot, field_cell, object, slots, fields, bind}
+use Rattle.homeo_meaning.specs.Meaning.{State, Run, done, after_prints, set_temp, set_object, write_field, visit_all, value, holds, does, does_all}
 use Rattle.homeo_meaning.specs.LForm
 use Rattle.homeo_meaning.specs.LForm.{Lifted, Made, lift, lift_cond, as_one, loop, clear, form, forms, l_form}
 use Rattle.homeo_meaning.proofs.Lifts.{seen, seen_run, Lifts, quiet_front, alike_self}

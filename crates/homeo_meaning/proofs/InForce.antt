@@ -6,7 +6,7 @@ use Rattle.homeo_meaning.specs.declared.frame.Rows.{Rows, Outside, Inside, the_l
 use Rattle.homeo_meaning.specs.declared.arguments.Argument.{Argument}
 use Rattle.homeo_meaning.specs.Key.{words}
 use Rattle.homeo_meaning.specs.Bounds.{all_bounds}
-use Rattle.homeo_meaning.specs.Context.{Slot, Context, bind}
+use Rattle.homeo_meaning.specs.Context.{Slot, bind}
 use Rattle.homeo_meaning.specs.Declarations.{Declarations}
 use Rattle.homeo_meaning.specs.RowsFit.{RowsFit}
 use Rattle.homeo_meaning.specs.Scenes.{plain_slot, call_context, rows_of, frame_context}

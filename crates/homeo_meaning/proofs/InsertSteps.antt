@@ -1,5 +1,5 @@
 -- Inserts, setting by setting.
-use Rattle.std.proofs.Common.{◌≡◌, ℕ, suc, ◌+◌, ◌<◌, ◌≤◌, Bool, true, false, cond, ◌&&◌, ℤ, pos, List, [], ◌∷◌, ◌++◌, map, drop, get_or, length, Option, Some, None, refl, sym, ap, ◌∙◌, append_assoc, append-nil, add-one, drop_of_length-le}
+use Rattle.std.proofs.Common.{◌≡◌, ℕ, suc, ◌+◌, ◌<◌, ◌≤◌, Bool, true, false, cond, ◌&&◌, ℤ, pos, List, [], ◌∷◌, ◌++◌, map, drop, get_or, length, Some, None, refl, sym, ap, ◌∙◌, append_assoc, append-nil, add-one}
 use Rattle.std.proofs.Math.Seq.{drop-cons}
 use Rattle.std.proofs.lemmas.Bool.{and_parts}
 use Rattle.std.proofs.lemmas.List.{map-append}
@@ -10,7 +10,7 @@ use Rattle.homeo_syntax.specs.declared.command.FieldValue.{FieldValue}
 use Rattle.homeo_meaning.specs.declared.inserts.Setting as code
 use Rattle.homeo_meaning.specs.Key.{words}
 use Rattle.homeo_meaning.specs.Schema.{Declared}
-use Rattle.homeo_meaning.specs.Context.{Spot, Slot, Context, spot, cell, first_where}
+use Rattle.homeo_meaning.specs.Context.{Slot, Context, spot, cell, first_where}
 use Rattle.homeo_meaning.specs.Meaning.{State, Setting, value, settings, is_free, is_within, are_within, set_fields, set_object, set_temp, fill, insert}
 use Rattle.homeo_meaning.specs.CanRun.{expr_fits, values_fit}
 use Rattle.homeo_meaning.specs.Scenes.{plain_spot}

@@ -1,18 +1,18 @@
 -- Past the objects nothing but 0 is written.
-use Rattle.std.proofs.Common.{◌≡◌, ℕ, zero, suc, ◌+◌, ◌≤◌, Bool, true, ◌&&◌, ℤ, pos, List, [], ◌∷◌, map, length, Option, Some, None, All, refl, sym, ap, ◌∙◌, subst, arith}
+use Rattle.std.proofs.Common.{◌≡◌, ℕ, ◌+◌, ◌≤◌, true, ℤ, pos, List, [], ◌∷◌, map, length, Some, All, sym, subst, arith}
 use Rattle.std.proofs.lemmas.Int.{ints}
 use Rattle.std.proofs.lemmas.Bool.{and_parts}
 use Rattle.homeo_syntax.specs.Source.{FieldValue}
 use Rattle.homeo_meaning.specs.declared.inserts.Setting as code
 use Rattle.homeo_meaning.specs.Key.{words}
 use Rattle.homeo_meaning.specs.Schema.{Schema}
-use Rattle.homeo_meaning.specs.Bounds.{Bounds, all_bounds, bounds_at, IsIn}
-use Rattle.homeo_meaning.specs.Context.{Spot, Slot, Context, spot, cell, field_cell, object, slots, fields, first_where}
-use Rattle.homeo_meaning.specs.Meaning.{State, Setting, settings, is_within, are_within, is_free}
+use Rattle.homeo_meaning.specs.Bounds.{Bounds, all_bounds, IsIn}
+use Rattle.homeo_meaning.specs.Context.{Spot, Slot, Context, cell, slots, fields, first_where}
+use Rattle.homeo_meaning.specs.Meaning.{State, settings, is_within, are_within, is_free}
 use Rattle.homeo_meaning.specs.RowsFit.{Admits}
 use Rattle.homeo_meaning.specs.Scenes.{IsZeroPast}
 use Rattle.homeo_meaning.specs.Settings.{plain_setting}
-use Rattle.homeo_meaning.proofs.ObjectBounds.{Each, ForSome, each_first, SlotFits, all_at, slots_fit, object_admits}
+use Rattle.homeo_meaning.proofs.ObjectBounds.{Each, ForSome, each_first, SlotFits, all_at, slots_fit}
 use Rattle.homeo_meaning.proofs.SoundRules.{all_none, all_more}
 use Rattle.homeo_meaning.proofs.Stays.{past_end, values_admitted}
 

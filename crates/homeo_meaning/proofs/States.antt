@@ -1,16 +1,11 @@
 -- What a change of the code's lists is as a change of the state.
-use Rattle.std.proofs.Common.{◌≡◌, ℕ, ◌<◌, ◌≤◌, ◌==◌, ℤ, pos, Bool, true, false, cond, ◌&&◌, List, set, length, get_or, refl, sym, ap, ◌∙◌, arith}
-use Rattle.std.specs.Prelude.{int_le}
-use Rattle.std.proofs.lemmas.Int.{ints}
-use Rattle.std.proofs.lemmas.Bool.{and_parts}
+use Rattle.std.proofs.Common.{◌≡◌, ℕ, ◌<◌, ◌≤◌, ◌==◌, ℤ, pos, Bool, true, false, cond, List, set, length, get_or, refl, sym, ap, ◌∙◌, arith}
 use Rattle.std.proofs.lemmas.Bool.Decides.{nat_tests}
 use Rattle.std.proofs.lemmas.List.{get_or_past}
 use Rattle.homeo_meaning.specs.Key.{words}
-use Rattle.homeo_meaning.specs.Schema.{Declared}
-use Rattle.homeo_meaning.specs.Context.{Spot, spot}
+use Rattle.homeo_meaning.specs.Context.{Spot}
 use Rattle.homeo_meaning.specs.Meaning.{State, set_temp, set_object, is_within, write}
 use Rattle.homeo_meaning.proofs.AbsentItems.{padded_set}
-use Rattle.homeo_meaning.proofs.Spots.{Missing}
 
 -- a state by the lists of a scene
 abbrev pub state_with : List ℤ → List ℤ → State

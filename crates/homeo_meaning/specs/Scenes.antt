@@ -1,6 +1,5 @@
 -- The states, runs and contexts that the code's values stand for.
-use Rattle.std.specs.Prelude.{◌≡◌, ◌≤◌, ◌<◌, ◌^◌, ◌+◌, ◌*◌, ◌==◌, ℕ, suc, ℤ, pos, true, cond, List, [], ◌∷◌, map, length}
-use Rattle.homeo_syntax.specs.declared.workload.RangeDecl.{RangeDecl}
+use Rattle.std.specs.Prelude.{◌≡◌, ◌≤◌, ◌<◌, ◌^◌, ◌+◌, ◌*◌, ◌==◌, ℕ, ℤ, pos, true, cond, List, [], map, length}
 use Rattle.homeo_meaning.specs.declared.arguments.Argument.{Argument}
 use Rattle.homeo_meaning.specs.declared.scene.Scene.{Scene}
 use Rattle.homeo_meaning.specs.declared.spot.Spot as code_spot

@@ -68,7 +68,15 @@ fn value_at(e: &Expr, slot: &Slot, row: u32, frame: &Frame, scene: &Scene) -> i6
 }
 
 /// Writes a value to a field of each used slot at which a condition holds of the row.
-pub(crate) fn update(test: &Cond, row: u32, relation: u32, field: u32, e: &Expr, frame: &Frame, scene: &mut Scene)
+pub(crate) fn update(
+    test: &Cond,
+    row: u32,
+    relation: u32,
+    field: u32,
+    e: &Expr,
+    frame: &Frame,
+    scene: &mut Scene,
+)
     requires serves { Serves frame.now scene.old }
     requires fits { visits_fit (cond_fits_at limit (frame_context frame.now) row (plain_cond test.now))
         (value_fits_at limit (frame_context frame.now) row (plain_expr e.now))
@@ -92,7 +100,14 @@ pub(crate) fn update(test: &Cond, row: u32, relation: u32, field: u32, e: &Expr,
 }
 
 /// Writes a value to a field of the slot that an index names, where there is one.
-pub(crate) fn set_field(relation: u32, index: &Expr, field: u32, e: &Expr, frame: &Frame, scene: &mut Scene)
+pub(crate) fn set_field(
+    relation: u32,
+    index: &Expr,
+    field: u32,
+    e: &Expr,
+    frame: &Frame,
+    scene: &mut Scene,
+)
     requires serves { Serves frame.now scene.old }
     requires index { on_slots (slots (frame_context frame.now) relation)
         (expr_fits limit (frame_context frame.now) (plain_expr index.now) (state_of scene.old)) ≡ true }
@@ -103,7 +118,7 @@ pub(crate) fn set_field(relation: u32, index: &Expr, field: u32, e: &Expr, frame
     ensures set { state_of scene.new ≡ write_slot (state_of scene.old)
         (spot (fields (frame_context frame.now) relation) field)
         (slot_at (value (frame_context frame.now) (plain_expr index.now) (state_of scene.old))
-            (slots (frame_context frame.now) relation))
+        (slots (frame_context frame.now) relation))
         (value (frame_context frame.now) (plain_expr e.now) (state_of scene.old)) }
 {
     let table = frame.relation(relation);

@@ -9,11 +9,11 @@ ghost use Rattle.homeo_meaning.specs.CanRun.{visits_fit, can_run, can_run_all};
 ghost use Rattle.homeo_meaning.specs.Scenes.{state_of, run_of, frame_context, Serves};
 ghost use Rattle.homeo_meaning.specs.Visits.{holds_at, cond_fits_at, does_at, can_run_at};
 
+use crate::changes::{delete, is_visited, set_field, set_object, set_row, update};
 use crate::frame::{Frame, Rows};
 use crate::inserts::insert;
 use crate::phrases::{holds, value};
 use crate::scene::Scene;
-use crate::changes::{delete, is_visited, set_field, set_object, set_row, update};
 use homeo_syntax::{Command, Cond, List, Memory};
 
 /// Runs commands at each used slot at which a condition holds of the row.
@@ -57,7 +57,12 @@ fn foreach(
 /// Runs a command: the scene is left as the command leaves it, and its prints are added.
 #[cycle(runs)]
 #[tactic(auto, using(homeo_syntax::proofs::SourceViews::command_views, crate::proofs::CommandSteps::runs))]
-pub(crate) fn run(c: &Command, frame: &Frame, scene: &mut Scene, prints: &mut List<i64>) -> Result<(), Memory>
+pub(crate) fn run(
+    c: &Command,
+    frame: &Frame,
+    scene: &mut Scene,
+    prints: &mut List<i64>,
+) -> Result<(), Memory>
     requires serves { Serves frame.now scene.old }
     requires runs { can_run limit (frame_context frame.now) (plain_command c.now) (state_of scene.old) ≡ true }
     ensures places { length scene.new.database.items ≡ length scene.old.database.items }
@@ -142,7 +147,12 @@ pub(crate) fn run(c: &Command, frame: &Frame, scene: &mut Scene, prints: &mut Li
 /// Runs commands one after another.
 #[cycle(runs)]
 #[tactic(auto, using(crate::proofs::CommandSteps::each, crate::proofs::Steps::steps))]
-pub(crate) fn run_all(cs: &[Command], frame: &Frame, scene: &mut Scene, prints: &mut List<i64>) -> Result<(), Memory>
+pub(crate) fn run_all(
+    cs: &[Command],
+    frame: &Frame,
+    scene: &mut Scene,
+    prints: &mut List<i64>,
+) -> Result<(), Memory>
     requires serves { Serves frame.now scene.old }
     requires runs { can_run_all limit (frame_context frame.now) (commands (map plain_command cs.now))
         (state_of scene.old) ≡ true }

@@ -16,7 +16,9 @@ use std::alloc::Global;
 #[derive(Clone, Copy)]
 pub(crate) enum Rows<'a> {
     /// None: a row is then past so many objects.
-    Outside { objects: usize },
+    Outside {
+        objects: usize,
+    },
     Inside {
         name: u32,
         slot: Slot<'a>,
@@ -44,7 +46,11 @@ fn find_row<'a>(rows: &Rows<'a>, name: u32) -> Slot<'a>
             used: *objects,
             fields: &[],
         },
-        Rows::Inside { name: row, slot, outer } => {
+        Rows::Inside {
+            name: row,
+            slot,
+            outer,
+        } => {
             if *row == name {
                 *slot
             } else {

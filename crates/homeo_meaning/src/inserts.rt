@@ -24,7 +24,12 @@ struct Setting {
     value: i64,
 }
 
-fn settings(values: &[FieldValue], table: &Table, frame: &Frame, scene: &Scene) -> Result<Vec<Setting>, Memory>
+fn settings(
+    values: &[FieldValue],
+    table: &Table,
+    frame: &Frame,
+    scene: &Scene,
+) -> Result<Vec<Setting>, Memory>
     requires { values_fit limit (frame_context frame.now) (map plain_field values.now) (state_of scene.now) ≡ true }
     ensures { IfOk result (λ r. map plain_setting r.items ≡ settings (frame_context frame.now)
         (map declared_range table.now.fields.now) (map plain_field values.now) (state_of scene.now)) }
@@ -89,7 +94,7 @@ pub(crate) fn insert(
     ensures places { length scene.new.database.items ≡ length scene.old.database.items }
     ensures set { OnOk result (state_of scene.new ≡ insert (slots (frame_context frame.now) relation)
         (settings (frame_context frame.now) (fields (frame_context frame.now) relation) (map plain_field values.now)
-            (state_of scene.old)) target (state_of scene.old)) }
+        (state_of scene.old)) target (state_of scene.old)) }
 {
     let table = frame.relation(relation);
     let settings = settings(values, &table, frame, scene)?;

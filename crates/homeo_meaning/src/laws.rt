@@ -18,5 +18,5 @@ pub fn values_fit()
         IsAccepted w → IsGroundCall w transaction args → slice_get w.transactions transaction ≡ Some t →
         IsWithin (schema_of w) database →
         CanRunAll (IsSmall limit) (IsSmall limit) (context (schema_of w) (map (λ p. p.name.name) t.params) args)
-            t.body (start database) }
+        t.body (start database) }
 {}

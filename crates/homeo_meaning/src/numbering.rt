@@ -193,7 +193,11 @@ fn object_names(alloc: Global, objects: &[ObjectDecl]) -> Result<Vec<u32>, Memor
 }
 
 /// Places relations one after another, the first of them at this object.
-fn place_relations(alloc: Global, first: usize, relations: &[RelationDecl]) -> Result<Vec<Placed>, Memory>
+fn place_relations(
+    alloc: Global,
+    first: usize,
+    relations: &[RelationDecl],
+) -> Result<Vec<Placed>, Memory>
     requires slots { All HasSlots relations.now }
     requires few { object_count first (map declared_relation (map plain_relation relations.now)) ≤ 1024 }
     ensures relations { IfOk result (λ ps. map placed_relation ps.items ≡

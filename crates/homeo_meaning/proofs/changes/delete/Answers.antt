@@ -1,13 +1,13 @@
-use Rattle.std.proofs.Common.{rules, ◌≡◌, ◌+◌, true, pos, ◌&&◌, length, refl, sym, ap, subst, ◌∙◌}
-use Rattle.homeo_syntax.specs.SourceView.{plain_cond, plain_expr}
+use Rattle.std.proofs.Common.{◌≡◌, true, pos, ◌&&◌, length, refl, sym, ap, subst, ◌∙◌}
+use Rattle.homeo_syntax.specs.SourceView.{plain_cond}
 use Rattle.homeo_meaning.specs.Key.{words}
 use Rattle.homeo_meaning.specs.Acceptance.{limit}
-use Rattle.homeo_meaning.specs.Context.{Slot, bind, spot}
-use Rattle.homeo_meaning.specs.Meaning.{done, is_used, holds, value, visit, write_field, set_object}
-use Rattle.homeo_meaning.specs.CanRun.{cond_fits, expr_fits, visits_fit}
-use Rattle.homeo_meaning.specs.Scenes.{frame_context, state_of, plain_slot}
-use Rattle.homeo_meaning.specs.Visits.{holds_at, cond_fits_at, clears, can_clear, writes_at, value_fits_at}
-use Rattle.homeo_meaning.proofs.Slots.{slot_of, left, slot_is, left_all, here_of, visit_step, visit_stop, quiet_step, here_visited, here_passed}
+use Rattle.homeo_meaning.specs.Context.{Slot, bind}
+use Rattle.homeo_meaning.specs.Meaning.{done, is_used, holds, visit, set_object}
+use Rattle.homeo_meaning.specs.CanRun.{cond_fits, visits_fit}
+use Rattle.homeo_meaning.specs.Scenes.{frame_context, state_of}
+use Rattle.homeo_meaning.specs.Visits.{holds_at, cond_fits_at, clears, can_clear}
+use Rattle.homeo_meaning.proofs.Slots.{slot_of, slot_is, left_all, here_of, visit_step, visit_stop, quiet_step, here_visited, here_passed}
 use Rattle.homeo_meaning.proofs.changes.delete.Goals as goal
 use Rattle.homeo_meaning.proofs.changes.delete.Goals.{then-is_visited, else-is_visited}
 
@@ -47,14 +47,14 @@ loop-number-preserved c =
     let visited = c.is_visited.ensures ∙ ap (λ z. is_used s z && holds (bind x c.args.row z) d s) slot in
     let after = state_of c.if-is_visited.scene in
     let ran : done after ≡ here_of (holds_at x c.args.row d) (clears) (slot_of t i) s = elim c.if-is_visited.branch [
-      then-is_visited w ↦ (ap (λ z. done (state_of z)) w.scene-is ∙ ap done (w.set.ensures.set ∙ ap (λ (z : Slot). set_object s z.used (pos 0)) slot) ∙ sym (here_visited (holds_at x c.args.row d) (clears) (slot_of t i) s c.is_visited.result visited w.if-is_visited.true)) |
-      else-is_visited w ↦ (ap (λ z. done (state_of z)) w.scene-is ∙ sym (here_passed (holds_at x c.args.row d) (clears) (slot_of t i) s c.is_visited.result visited w.if-is_visited.false))
+      | then-is_visited w ↦ (ap (λ z. done (state_of z)) w.scene-is ∙ ap done (w.set.ensures.set ∙ ap (λ (z : Slot). set_object s z.used (pos 0)) slot) ∙ sym (here_visited (holds_at x c.args.row d) (clears) (slot_of t i) s c.is_visited.result visited w.if-is_visited.true))
+      | else-is_visited w ↦ (ap (λ z. done (state_of z)) w.scene-is ∙ sym (here_passed (holds_at x c.args.row d) (clears) (slot_of t i) s c.is_visited.result visited w.if-is_visited.false))
     ] in
     let next = quiet_step (cond_fits_at limit x c.args.row d) (can_clear) (holds_at x c.args.row d) (clears) t i s after step ran in
     record {
       places = elim c.if-is_visited.branch [
-        then-is_visited w ↦ ap (λ z. length z.database.items) w.scene-is ∙ w.set.ensures.places ∙ c.loop-number.invariant.places |
-        else-is_visited w ↦ ap (λ z. length z.database.items) w.scene-is ∙ c.loop-number.invariant.places
+        | then-is_visited w ↦ ap (λ z. length z.database.items) w.scene-is ∙ w.set.ensures.places ∙ c.loop-number.invariant.places
+        | else-is_visited w ↦ ap (λ z. length z.database.items) w.scene-is ∙ c.loop-number.invariant.places
       ];
       fits = next.fits;
       left = next.same ∙ c.loop-number.invariant.left;

@@ -1,15 +1,15 @@
-use Rattle.std.proofs.Common.{rules, ◌≡◌, ◌+◌, true, ◌&&◌, length, refl, sym, ap, subst, ◌∙◌}
+use Rattle.std.proofs.Common.{rules, ◌≡◌, true, ◌&&◌, length, refl, sym, ap, subst, ◌∙◌}
 use Rattle.homeo_syntax.specs.SourceView.{plain_cond, plain_expr}
 use Rattle.homeo_meaning.specs.Key.{words}
 use Rattle.homeo_meaning.specs.Acceptance.{limit}
-use Rattle.homeo_meaning.specs.Context.{Slot, bind, spot}
-use Rattle.homeo_meaning.specs.Meaning.{done, is_used, holds, value, visit, write_field, set_object}
+use Rattle.homeo_meaning.specs.Context.{bind}
+use Rattle.homeo_meaning.specs.Meaning.{done, is_used, holds, value, visit}
 use Rattle.homeo_meaning.specs.CanRun.{cond_fits, expr_fits, visits_fit}
-use Rattle.homeo_meaning.specs.Scenes.{frame_context, state_of, plain_slot}
-use Rattle.homeo_meaning.specs.Visits.{holds_at, cond_fits_at, clears, can_clear, writes_at, value_fits_at}
+use Rattle.homeo_meaning.specs.Scenes.{frame_context, state_of}
+use Rattle.homeo_meaning.specs.Visits.{holds_at, cond_fits_at, writes_at, value_fits_at}
 use Rattle.homeo_meaning.proofs.FieldWrites.{own_written, each_zero}
 use Rattle.homeo_meaning.proofs.Numbers.{kept_is}
-use Rattle.homeo_meaning.proofs.Slots.{slot_of, left, slot_is, left_all, here_of, visit_step, visit_stop, quiet_step, here_visited, here_passed}
+use Rattle.homeo_meaning.proofs.Slots.{slot_of, slot_is, left_all, here_of, visit_step, visit_stop, quiet_step, here_visited, here_passed}
 use Rattle.homeo_meaning.proofs.changes.update.Goals as goal
 use Rattle.homeo_meaning.proofs.changes.update.Goals.{then-is_visited, else-is_visited}
 
@@ -72,14 +72,14 @@ loop-number-preserved c =
     let visited = c.is_visited.ensures ∙ ap (λ z. is_used s z && holds (bind x c.args.row z) d s) slot in
     let after = state_of c.if-is_visited.scene in
     let ran : done after ≡ here_of (holds_at x c.args.row d) (writes_at x c.args.row c.args.field (plain_expr c.args.e.now)) (slot_of t i) s = elim c.if-is_visited.branch [
-      then-is_visited w ↦ (ap (λ z. done (state_of z)) w.scene-is ∙ ap done (w.write_field.ensures.set ∙ own_written c.slot-slot.result c.field-place.result c.args.field (slot_of t i) s (value (bind x c.args.row (slot_of t i)) (plain_expr c.args.e.now) s) _ slot c.field-place.ensures (kept_is w.value_at-v.result _ (search rules) (w.value_at-v.ensures ∙ ap (λ z. value (bind x c.args.row z) (plain_expr c.args.e.now) s) slot))) ∙ sym (here_visited (holds_at x c.args.row d) (writes_at x c.args.row c.args.field (plain_expr c.args.e.now)) (slot_of t i) s c.is_visited.result visited w.if-is_visited.true)) |
-      else-is_visited w ↦ (ap (λ z. done (state_of z)) w.scene-is ∙ sym (here_passed (holds_at x c.args.row d) (writes_at x c.args.row c.args.field (plain_expr c.args.e.now)) (slot_of t i) s c.is_visited.result visited w.if-is_visited.false))
+      | then-is_visited w ↦ (ap (λ z. done (state_of z)) w.scene-is ∙ ap done (w.write_field.ensures.set ∙ own_written c.slot-slot.result c.field-place.result c.args.field (slot_of t i) s (value (bind x c.args.row (slot_of t i)) (plain_expr c.args.e.now) s) _ slot c.field-place.ensures (kept_is w.value_at-v.result _ (search rules) (w.value_at-v.ensures ∙ ap (λ z. value (bind x c.args.row z) (plain_expr c.args.e.now) s) slot))) ∙ sym (here_visited (holds_at x c.args.row d) (writes_at x c.args.row c.args.field (plain_expr c.args.e.now)) (slot_of t i) s c.is_visited.result visited w.if-is_visited.true))
+      | else-is_visited w ↦ (ap (λ z. done (state_of z)) w.scene-is ∙ sym (here_passed (holds_at x c.args.row d) (writes_at x c.args.row c.args.field (plain_expr c.args.e.now)) (slot_of t i) s c.is_visited.result visited w.if-is_visited.false))
     ] in
     let next = quiet_step (cond_fits_at limit x c.args.row d) (value_fits_at limit x c.args.row (plain_expr c.args.e.now)) (holds_at x c.args.row d) (writes_at x c.args.row c.args.field (plain_expr c.args.e.now)) t i s after step ran in
     record {
       places = elim c.if-is_visited.branch [
-        then-is_visited w ↦ ap (λ z. length z.database.items) w.scene-is ∙ w.write_field.ensures.places ∙ c.loop-number.invariant.places |
-        else-is_visited w ↦ ap (λ z. length z.database.items) w.scene-is ∙ c.loop-number.invariant.places
+        | then-is_visited w ↦ ap (λ z. length z.database.items) w.scene-is ∙ w.write_field.ensures.places ∙ c.loop-number.invariant.places
+        | else-is_visited w ↦ ap (λ z. length z.database.items) w.scene-is ∙ c.loop-number.invariant.places
       ];
       fits = next.fits;
       left = next.same ∙ c.loop-number.invariant.left;

@@ -1,4 +1,4 @@
-use Rattle.std.proofs.Common.{rules, arith, ◌≡◌, ◌+◌, true, ◌&&◌, map, length, refl, sym, ap, subst, ◌∙◌}
+use Rattle.std.proofs.Common.{rules, arith, ◌≡◌, true, ◌&&◌, map, length, refl, sym, ap, subst, ◌∙◌}
 use Rattle.homeo_syntax.specs.SourceView.{commands, plain_command, plain_cond, plain_expr}
 use Rattle.homeo_syntax.specs.declared.command.Command.TheViews.{the_lemmas}
 use Rattle.homeo_syntax.proofs.SourceViews.{command_views, plain_Foreach, plain_Delete, plain_Update}
@@ -14,7 +14,7 @@ use Rattle.homeo_meaning.specs.Visits.{holds_at, cond_fits_at, does_at, can_run_
 use Rattle.homeo_meaning.proofs.CommandSteps.{after_quiet, can_Block, can_Foreach, can_first, run_step, can_yes, can_no, run_Delete, run_Update}
 use Rattle.homeo_meaning.proofs.InForce.{frame_bound}
 use Rattle.homeo_meaning.proofs.ObjectBounds.{SlotFits, all_at, slots_fit}
-use Rattle.homeo_meaning.proofs.Slots.{slot_of, left, slot_is, left_all, here_of, visit_step, loud_step, loud_stop, here_visited, here_passed, each_slot}
+use Rattle.homeo_meaning.proofs.Slots.{slot_of, slot_is, left_all, here_of, visit_step, loud_step, loud_stop, here_visited, here_passed, each_slot}
 use Rattle.homeo_meaning.proofs.Stays.{bound_fits}
 use Rattle.homeo_meaning.proofs.commands.+runs.Goals as goal
 use Rattle.homeo_meaning.proofs.commands.+runs.Goals.{foreach-then-is_visited+in_ok-run_all, foreach-else-is_visited}
@@ -74,23 +74,23 @@ foreach-loop-number-preserved t c =
     let after = state_of c.if-is_visited.scene in
     let here = here_of (holds_at x c.args.row d) (does_at x c.args.row cs) (slot_of r i) s in
     let ran : run_of after c.if-is_visited.prints.items ≡ after_prints c.loop-number.prints.items here = elim c.if-is_visited.branch [
-      foreach-then-is_visited+in_ok-run_all w ↦ (
-        let inner = frame_bound c.args.frame.now w.with.result c.args.row c.slot-slot.result w.with.ensures.numbering w.with.ensures.arguments w.with.ensures.rows ∙ ap (bind x c.args.row) slot in
-        (λ j. run_of (state_of (w.scene-is j)) (w.prints-is j).items)
-        ∙ w.in_ok-run_all.ensures.run
-        ∙ (λ j. after_prints c.loop-number.prints.items (does_all (inner j) (commands (map plain_command (w.as_slice.ensures j))) s))
-        ∙ ap (after_prints c.loop-number.prints.items) (sym (here_visited (holds_at x c.args.row d) (does_at x c.args.row cs) (slot_of r i) s c.is_visited.result visited w.if-is_visited.true))
-      ) |
-      foreach-else-is_visited w ↦ (
-        (λ j. run_of (state_of (w.scene-is j)) (w.prints-is j).items)
-        ∙ after_quiet c.loop-number.prints.items s here (sym (here_passed (holds_at x c.args.row d) (does_at x c.args.row cs) (slot_of r i) s c.is_visited.result visited w.if-is_visited.false))
-      )
+      | foreach-then-is_visited+in_ok-run_all w ↦ (
+          let inner = frame_bound c.args.frame.now w.with.result c.args.row c.slot-slot.result w.with.ensures.numbering w.with.ensures.arguments w.with.ensures.rows ∙ ap (bind x c.args.row) slot in
+          (λ j. run_of (state_of (w.scene-is j)) (w.prints-is j).items)
+          ∙ w.in_ok-run_all.ensures.run
+          ∙ (λ j. after_prints c.loop-number.prints.items (does_all (inner j) (commands (map plain_command (w.as_slice.ensures j))) s))
+          ∙ ap (after_prints c.loop-number.prints.items) (sym (here_visited (holds_at x c.args.row d) (does_at x c.args.row cs) (slot_of r i) s c.is_visited.result visited w.if-is_visited.true))
+          )
+      | foreach-else-is_visited w ↦ (
+          (λ j. run_of (state_of (w.scene-is j)) (w.prints-is j).items)
+          ∙ after_quiet c.loop-number.prints.items s here (sym (here_passed (holds_at x c.args.row d) (does_at x c.args.row cs) (slot_of r i) s c.is_visited.result visited w.if-is_visited.false))
+          )
     ] in
     let next = loud_step (cond_fits_at limit x c.args.row d) (can_run_at limit x c.args.row cs) (holds_at x c.args.row d) (does_at x c.args.row cs) r i s after c.loop-number.prints.items c.if-is_visited.prints.items step ran in
     record {
       places = elim c.if-is_visited.branch [
-        foreach-then-is_visited+in_ok-run_all w ↦ ap (λ z. length z.database.items) w.scene-is ∙ w.in_ok-run_all.ensures.places ∙ c.loop-number.invariant.places |
-        foreach-else-is_visited w ↦ ap (λ z. length z.database.items) w.scene-is ∙ c.loop-number.invariant.places
+        | foreach-then-is_visited+in_ok-run_all w ↦ ap (λ z. length z.database.items) w.scene-is ∙ w.in_ok-run_all.ensures.places ∙ c.loop-number.invariant.places
+        | foreach-else-is_visited w ↦ ap (λ z. length z.database.items) w.scene-is ∙ c.loop-number.invariant.places
       ];
       fits = next.fits;
       left = next.same ∙ c.loop-number.invariant.left;

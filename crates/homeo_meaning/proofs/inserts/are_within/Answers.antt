@@ -1,5 +1,4 @@
 use Rattle.std.proofs.Common.{rules, refl, sym, ◌∙◌}
-use Rattle.homeo_meaning.specs.Key.{words}
 use Rattle.homeo_meaning.proofs.InsertSteps.{refuses, admits, admits_all}
 use Rattle.homeo_meaning.proofs.Numbers.{kept_is}
 use Rattle.homeo_meaning.proofs.inserts.are_within.Goals as goal

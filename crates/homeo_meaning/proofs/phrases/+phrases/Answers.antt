@@ -4,7 +4,7 @@ use Rattle.homeo_syntax.specs.declared.phrase.Expr.{the_lemmas}
 use Rattle.homeo_syntax.proofs.SourceViews.{plain_Total, plain_conjunction}
 use Rattle.homeo_meaning.specs.Key.{words}
 use Rattle.homeo_meaning.specs.Acceptance.{limit}
-use Rattle.homeo_meaning.specs.Context.{Slot, bind}
+use Rattle.homeo_meaning.specs.Context.{bind}
 use Rattle.homeo_meaning.specs.Meaning.{is_used, added, value, sum_value, product_value, holds}
 use Rattle.homeo_meaning.specs.CanRun.{is_small, adding_fits, expr_fits, sum_fits, product_fits, cond_fits}
 use Rattle.homeo_meaning.specs.Scenes.{frame_context, state_of}
@@ -115,25 +115,25 @@ total-loop-number-preserved t c =
     let used = c.is_used.ensures ∙ ap (is_used s) slot in
     let here = slot_of c.args.table.now i in
     let total : to_z w64 c.if-is_used.total-bits ≡ cond (counts x c.args.row d s here) (n +ℤ term) n = elim c.if-is_used.branch [
-      total-then-is_used+then-all_pass w ↦ (
-        let inner = frame_bound c.args.frame.now w.with.result c.args.row c.slot-slot.result w.with.ensures.numbering w.with.ensures.arguments w.with.ensures.rows ∙ ap (bind x c.args.row) slot in
-        let test = ap (λ l. tests (map plain_test l)) w.as_slice.ensures ∙ sym (plain_conjunction c.args.test.now) in
-        let passed : holds (bind x c.args.row here) d s ≡ true = sym (w.all_pass.ensures ∙ (λ j. holds (inner j) (test j) s)) ∙ w.if-all_pass.true in
-        let counted : counts x c.args.row d s here ≡ true = λ j. (sym used ∙ w.if-is_used.true) j && passed j in
-        let added_term = kept_is w.term_at.result _ (search rules) (w.term_at.ensures ∙ ap (term_of c.args.term s) slot) in
-        w.total-is ∙ kept_is w.plus-total.result _ (search rules) (w.plus-total.ensures ∙ ap (λ v. n +ℤ v) added_term) ∙ sym (ap (λ b. cond b (n +ℤ term) n) counted)
-      ) |
-      total-then-is_used+else-all_pass w ↦ (
-        let inner = frame_bound c.args.frame.now w.with.result c.args.row c.slot-slot.result w.with.ensures.numbering w.with.ensures.arguments w.with.ensures.rows ∙ ap (bind x c.args.row) slot in
-        let test = ap (λ l. tests (map plain_test l)) w.as_slice.ensures ∙ sym (plain_conjunction c.args.test.now) in
-        let passed : holds (bind x c.args.row here) d s ≡ false = sym (w.all_pass.ensures ∙ (λ j. holds (inner j) (test j) s)) ∙ w.if-all_pass.false in
-        let counted : counts x c.args.row d s here ≡ false = λ j. (sym used ∙ w.if-is_used.true) j && passed j in
-        w.total-is ∙ sym (ap (λ b. cond b (n +ℤ term) n) counted)
-      ) |
-      total-else-is_used w ↦ (
-        let counted : counts x c.args.row d s here ≡ false = λ j. (sym used ∙ w.if-is_used.false) j && holds (bind x c.args.row here) d s in
-        w.total-is ∙ sym (ap (λ b. cond b (n +ℤ term) n) counted)
-      )
+      | total-then-is_used+then-all_pass w ↦ (
+          let inner = frame_bound c.args.frame.now w.with.result c.args.row c.slot-slot.result w.with.ensures.numbering w.with.ensures.arguments w.with.ensures.rows ∙ ap (bind x c.args.row) slot in
+          let test = ap (λ l. tests (map plain_test l)) w.as_slice.ensures ∙ sym (plain_conjunction c.args.test.now) in
+          let passed : holds (bind x c.args.row here) d s ≡ true = sym (w.all_pass.ensures ∙ (λ j. holds (inner j) (test j) s)) ∙ w.if-all_pass.true in
+          let counted : counts x c.args.row d s here ≡ true = λ j. (sym used ∙ w.if-is_used.true) j && passed j in
+          let added_term = kept_is w.term_at.result _ (search rules) (w.term_at.ensures ∙ ap (term_of c.args.term s) slot) in
+          w.total-is ∙ kept_is w.plus-total.result _ (search rules) (w.plus-total.ensures ∙ ap (λ v. n +ℤ v) added_term) ∙ sym (ap (λ b. cond b (n +ℤ term) n) counted)
+          )
+      | total-then-is_used+else-all_pass w ↦ (
+          let inner = frame_bound c.args.frame.now w.with.result c.args.row c.slot-slot.result w.with.ensures.numbering w.with.ensures.arguments w.with.ensures.rows ∙ ap (bind x c.args.row) slot in
+          let test = ap (λ l. tests (map plain_test l)) w.as_slice.ensures ∙ sym (plain_conjunction c.args.test.now) in
+          let passed : holds (bind x c.args.row here) d s ≡ false = sym (w.all_pass.ensures ∙ (λ j. holds (inner j) (test j) s)) ∙ w.if-all_pass.false in
+          let counted : counts x c.args.row d s here ≡ false = λ j. (sym used ∙ w.if-is_used.true) j && passed j in
+          w.total-is ∙ sym (ap (λ b. cond b (n +ℤ term) n) counted)
+          )
+      | total-else-is_used w ↦ (
+          let counted : counts x c.args.row d s here ≡ false = λ j. (sym used ∙ w.if-is_used.false) j && holds (bind x c.args.row here) d s in
+          w.total-is ∙ sym (ap (λ b. cond b (n +ℤ term) n) counted)
+          )
     ] in
     record {
       fits = subst (λ v. adding_fits limit (row_fits limit x c.args.row d s) (counts x c.args.row d s) (term_of c.args.term s) (left c.args.table.now (i + 1)) v ≡ true) (sym total) step.rest;

@@ -3,7 +3,7 @@ use Rattle.homeo_syntax.specs.SourceView.{exprs, tests, plain_expr, plain_test, 
 use Rattle.homeo_meaning.specs.Acceptance.{limit}
 use Rattle.homeo_meaning.specs.Meaning.{added, sum_value, product_value, holds}
 use Rattle.homeo_meaning.specs.CanRun.{adding_fits, sum_fits, product_fits, cond_fits}
-use Rattle.homeo_meaning.specs.Scenes.{frame_context, state_of, plain_slot}
+use Rattle.homeo_meaning.specs.Scenes.{frame_context, state_of}
 use Rattle.homeo_meaning.specs.Terms.{term_of, counts, row_fits}
 use Rattle.homeo_meaning.proofs.Slots.{left}
 use Rattle.homeo_meaning.proofs.phrases.+phrases.Given as goal

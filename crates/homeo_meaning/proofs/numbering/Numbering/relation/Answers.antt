@@ -1,12 +1,8 @@
-use Rattle.std.proofs.Common.{◌≡◌, ◌≤◌, ◌<◌, ◌+◌, ◌*◌, ◌^◌, ℕ, List, map, length, get_or, sym, ap, subst, ◌∙◌, zero-add, arith}
-use Rattle.std.proofs.lemmas.List.{length-map}
-use Rattle.homeo_meaning.specs.declared.numbering.Placed.{Placed}
+use Rattle.std.proofs.Common.{◌<◌, ◌+◌, ◌*◌, ◌^◌, map, length, sym, ap, subst, ◌∙◌, arith}
 use Rattle.homeo_meaning.specs.Key.{words}
-use Rattle.homeo_meaning.specs.Schema.{declared_object, declared_range}
+use Rattle.homeo_meaning.specs.Schema.{declared_range}
 use Rattle.homeo_meaning.specs.Context.{slots_from, find_slots, find_fields}
-use Rattle.homeo_meaning.specs.Declarations.{place_of}
-use Rattle.homeo_meaning.specs.Placed.{placed_relation, StandFrom}
-use Rattle.homeo_meaning.proofs.Relations.{Found, Nothing, found, nothing, found_in, nothing_in}
+use Rattle.homeo_meaning.proofs.Relations.{found_in, nothing_in}
 use Rattle.homeo_meaning.proofs.numbering.Numbering.relation.Goals as goal
 
 pub returns-in-Some-clause-slots : goal.returns-in-Some-clause-slots

@@ -1,4 +1,4 @@
-use Rattle.std.proofs.Common.{rules, ◌≡◌, Some, sym, ap, ◌∙◌}
+use Rattle.std.proofs.Common.{rules, Some, sym, ap, ◌∙◌}
 use Rattle.std.specs.Int.RustNames.{unsigned_abs}
 use Rattle.std.proofs.Common.{w64, to_z, of_z}
 use Rattle.homeo_meaning.proofs.Numbers.{index_is}
