@@ -10,10 +10,10 @@ use Rattle.homeo_meaning.specs.Context.{Spot, Slot, Context, spot, cell, field_c
 use Rattle.homeo_meaning.specs.Meaning.{State, value, holds}
 use Rattle.homeo_meaning.specs.LForm.{Lifted, Made, one_test, equal, read, joined, in_front, within, guarded, write_field, write_chain, write_at, write_by, pair, visits, Target, all_within, field_writes, fill_chain, lift, lift_cond, lift_values, literal_of, as_one, clear, form, forms}
 use Rattle.homeo_desugar.specs.Laws.{TakesFrom}
-use Rattle.homeo_desugar.proofs.Lifts.{at_fresh, quiet, Lifts, quiet_both, quiet_then, quiet_front, joined_lifts}
-use Rattle.homeo_desugar.proofs.Loops.{loop_test}
-use Rattle.homeo_desugar.proofs.Values.{lifts, lifts_cond}
-use Rattle.homeo_desugar.proofs.Writes.{fill_end, lifts_values, pair_value}
+use Rattle.homeo_meaning.proofs.Lifts.{at_fresh, quiet, Lifts, quiet_both, quiet_then, quiet_front, joined_lifts}
+use Rattle.homeo_meaning.proofs.Loops.{loop_test}
+use Rattle.homeo_meaning.proofs.Values.{lifts, lifts_cond}
+use Rattle.homeo_meaning.proofs.Writes.{fill_end, lifts_values, pair_value}
 
 abbrev Keeps : ℕ → M.State → M.State → Type 0
 Keeps n s u = (j : ℕ) → j < n → at_fresh j u ≡ at_fresh j s

@@ -1,20 +1,10 @@
 mod FormExample
 pub mod Building
-pub mod Commands
-pub mod Conveys
 pub mod Equations
 pub mod Few
-pub mod Fields
+pub mod FormLaw
 pub mod Fresh
-pub mod Lifts
-pub mod Light
 pub mod Looking
-pub mod Loops
 pub mod Means
-pub mod Numbers
 pub mod Passing
-pub mod Runs
-pub mod Stays
-pub mod Values
 pub mod Wholes
-pub mod Writes

@@ -6,12 +6,12 @@ use Rattle.homeo_syntax.specs.Low as L
 use Rattle.homeo_meaning.specs.Schema.{schema_of}
 use Rattle.homeo_meaning.specs.Ground.{Ground}
 use Rattle.homeo_meaning.specs.LForm.{l_form}
-use Rattle.homeo_meaning.specs.LowMeaning.{exec}
+use Rattle.homeo_meaning.specs.LowMeaning.{exec, whole}
 use Rattle.homeo_meaning.specs.Meaning.{run}
 use Rattle.homeo_desugar.specs.Key.{words}
 use Rattle.homeo_desugar.specs.Called.{form_of, MeansCall}
-use Rattle.homeo_desugar.specs.Laws.{whole, IsSameRun}
-use Rattle.homeo_desugar.proofs.Commands.{form_law}
+use Rattle.homeo_desugar.specs.Laws.{IsSameRun}
+use Rattle.homeo_desugar.proofs.FormLaw.{form_law}
 
 same_form : (a b : L.Command) → Some a ≡ Some b → a ≡ b
 same_form a b e = cc

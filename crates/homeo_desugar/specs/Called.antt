@@ -5,10 +5,10 @@ use Rattle.homeo_syntax.specs.Low as L
 use Rattle.homeo_meaning.specs.Schema.{schema_of}
 use Rattle.homeo_meaning.specs.Ground.{Ground}
 use Rattle.homeo_meaning.specs.LForm.{l_form}
-use Rattle.homeo_meaning.specs.LowMeaning.{exec}
+use Rattle.homeo_meaning.specs.LowMeaning.{exec, whole}
 use Rattle.homeo_meaning.specs.Meaning.{run}
 use Rattle.homeo_desugar.specs.Key.{words}
-use Rattle.homeo_desugar.specs.Laws.{whole, IsSameRun}
+use Rattle.homeo_desugar.specs.Laws.{IsSameRun}
 
 -- none where there is no such transaction
 abbrev pub form_of : s.Workload → Ground → Option L.Command

@@ -1,9 +1,6 @@
 pub mod Called
-pub mod Computed
 pub mod Found
 pub mod Key
 pub mod Laws
-pub mod LowComputed
 pub mod Settings
-pub mod Small
 pub mod Whole

@@ -3,16 +3,17 @@
 ghost use Rattle.std.specs.Prelude.{◌≡◌, ℕ, ℤ, List, pos, true};
 ghost use Rattle.homeo_syntax.specs.Source.{Command, Commands};
 ghost use Rattle.homeo_meaning.specs.Schema.{Schema};
+ghost use Rattle.homeo_meaning.specs.Bounds.{AllWithin};
 ghost use Rattle.homeo_meaning.specs.Context.{Context, context};
 ghost use Rattle.homeo_meaning.specs.Meaning.{run};
 ghost use Rattle.homeo_meaning.specs.LForm.{form, l_form};
-ghost use Rattle.homeo_meaning.specs.LowMeaning.{State, exec};
+ghost use Rattle.homeo_meaning.specs.LowMeaning.{State, exec, whole};
 ghost use Rattle.homeo_meaning.specs.LowWeights.{first_weights, is_light};
-ghost use Rattle.homeo_desugar.specs.Laws.{whole, IsSameRun, TakesFrom, AllWithin};
+ghost use Rattle.homeo_desugar.specs.Laws.{IsSameRun, TakesFrom};
 ghost use Rattle.homeo_desugar.specs.Whole.{IsWhole};
-ghost use Rattle.homeo_desugar.specs.LowComputed as low;
-ghost use Rattle.homeo_desugar.specs.Computed.{CanRunAll};
-ghost use Rattle.homeo_desugar.specs.Small.{IsSmall, ComputesSmall};
+ghost use Rattle.homeo_meaning.specs.LowComputed as low;
+ghost use Rattle.homeo_meaning.specs.Computed.{CanRunAll};
+ghost use Rattle.homeo_meaning.specs.Small.{IsSmall, Anything, ComputesSmall};
 
 /// The L form of a call prints what the program's own call prints, and leaves every object with the value that the call
 /// leaves it with, whatever the declarations, the arguments and the database.
@@ -40,15 +41,19 @@ pub fn program_stays_within_bounds()
 {}
 
 /// Where each number that the L form of a call computes is at most b in size, so is each that the program's own call
-/// computes, with the partial sums and products from left to right.
+/// computes, with the partial sums and products from left to right; and likewise of the numbers that stand there or are
+/// read.
 pub fn small_forms_have_small_programs()
-    ensures { (b : ℕ) (x : Schema) (params : List ℕ) (args : List ℤ) (body : Commands) (database : ℕ → ℤ) →
-        low.CanRun (IsSmall b) (l_form x params args body) (whole database) →
-        CanRunAll (IsSmall b) (context x params args) body (record { database = database; temps = λ t. pos 0 }) }
+    ensures computed { (b : ℕ) (x : Schema) (params : List ℕ) (args : List ℤ) (body : Commands) (database : ℕ → ℤ) →
+        low.CanRun Anything (IsSmall b) (l_form x params args body) (whole database) →
+        CanRunAll Anything (IsSmall b) (context x params args) body (record { database = database; temps = λ t. pos 0 }) }
+    ensures each { (b : ℕ) (x : Schema) (params : List ℕ) (args : List ℤ) (body : Commands) (database : ℕ → ℤ) →
+        low.CanRun (IsSmall b) (IsSmall b) (l_form x params args body) (whole database) →
+        CanRunAll (IsSmall b) (IsSmall b) (context x params args) body (record { database = database; temps = λ t. pos 0 }) }
 {}
 
-/// Where no expression of the L form of a call weighs more than b, each number that it and the program's own call
-/// compute is at most b in size, whatever the database within its bounds.
+/// Where no expression of the L form of a call weighs more than b, each number of it and of the program's own call is
+/// at most b in size, whatever the database within its bounds.
 pub fn light_forms_compute_small_numbers()
     ensures { (b : ℕ) (x : Schema) (params : List ℕ) (args : List ℤ) (body : Commands) (database : ℕ → ℤ) →
         AllWithin x database → is_light b (l_form x params args body) (first_weights x) ≡ true →

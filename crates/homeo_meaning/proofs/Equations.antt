@@ -16,7 +16,7 @@ pub sum_more : (x : Context) (s : State) (n : ℤ) (e : Expr) (es : List Expr) �
 unfolding words tree_words
 sum_more x s n e es = refl
 
-pub sum_fits_more : (b : ℕ) (x : Context) (s : State) (n : ℤ) (e : Expr) (es : List Expr) → sum_fits b x (exprs (e ∷ es)) s n ≡ is_small b n && (expr_fits b x e s && sum_fits b x (exprs es) s (n +ℤ value x e s))
+pub sum_fits_more : (b : ℕ) (x : Context) (s : State) (n : ℤ) (e : Expr) (es : List Expr) → sum_fits b x (exprs (e ∷ es)) s n ≡ expr_fits b x e s && (is_small b (n +ℤ value x e s) && sum_fits b x (exprs es) s (n +ℤ value x e s))
 unfolding words tree_words
 sum_fits_more b x s n e es = refl
 
@@ -28,7 +28,7 @@ pub product_more : (x : Context) (s : State) (n : ℤ) (e : Expr) (es : List Exp
 unfolding words tree_words
 product_more x s n e es = refl
 
-pub product_fits_more : (b : ℕ) (x : Context) (s : State) (n : ℤ) (e : Expr) (es : List Expr) → product_fits b x (exprs (e ∷ es)) s n ≡ is_small b n && (expr_fits b x e s && product_fits b x (exprs es) s (n *ℤ value x e s))
+pub product_fits_more : (b : ℕ) (x : Context) (s : State) (n : ℤ) (e : Expr) (es : List Expr) → product_fits b x (exprs (e ∷ es)) s n ≡ expr_fits b x e s && (is_small b (n *ℤ value x e s) && product_fits b x (exprs es) s (n *ℤ value x e s))
 unfolding words tree_words
 product_fits_more b x s n e es = refl
 

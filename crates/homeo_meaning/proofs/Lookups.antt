@@ -21,7 +21,6 @@ use Rattle.homeo_meaning.specs.Serial.{numbered, call_of}
 use Rattle.homeo_meaning.specs.Schema.{schema_of}
 use Rattle.homeo_meaning.specs.Bounds.{IsWithin}
 use Rattle.homeo_meaning.specs.Context.{arguments_of}
-use Rattle.homeo_meaning.specs.Built.{IsBuilt}
 use Rattle.homeo_meaning.specs.Acceptance.{IsLightBody}
 use Rattle.homeo_meaning.specs.Declarations.{Declarations, declarations}
 use Rattle.homeo_meaning.proofs.Outcomes.{TransactionRuns, transaction_runs}
@@ -77,7 +76,7 @@ call_here w id cs client calls e h p q exists =
     }
 
 -- what stands of the transaction at a place of the code's list
-pub runs_here : (w : Workload) (ts : List Transaction) (place : ℕ) (args : List ℤ) (t : Transaction) (params : List RangeDecl) (given bound : List Argument) (body : List Command) (d : Declarations) (db : List ℤ) → ts ≡ w.transactions.items → place < length ts → t ≡ get_or ts place t → params ≡ t.params.items → given ≡ bound → arguments_of (map (λ a. a.name) bound) (map (λ a. a.value) bound) ≡ arguments_of (map (λ p. p.name.name) params) args → body ≡ t.body.items → d ≡ declarations (plain_workload w) → IsBuilt (plain_workload w) → IsLightBody (plain_workload w) (slice_get (plain_workload w).transactions place) args → IsWithin (schema_of (plain_workload w)) db → TransactionRuns (plain_workload w) place args d given (commands (map plain_command body)) db
+pub runs_here : (w : Workload) (ts : List Transaction) (place : ℕ) (args : List ℤ) (t : Transaction) (params : List RangeDecl) (given bound : List Argument) (body : List Command) (d : Declarations) (db : List ℤ) → ts ≡ w.transactions.items → place < length ts → t ≡ get_or ts place t → params ≡ t.params.items → given ≡ bound → arguments_of (map (λ a. a.name) bound) (map (λ a. a.value) bound) ≡ arguments_of (map (λ p. p.name.name) params) args → body ≡ t.body.items → d ≡ declarations (plain_workload w) → IsLightBody (plain_workload w) (slice_get (plain_workload w).transactions place) args → IsWithin (schema_of (plain_workload w)) db → TransactionRuns (plain_workload w) place args d given (commands (map plain_command body)) db
 unfolding tree_words
-runs_here w ts place args t params given bound body d db e h p ps b g q r built light within =
-    transaction_runs (plain_workload w) (plain_transaction t) place args d given (commands (map plain_command body)) db built (transaction_here w ts place t e h p) (ap (λ l. arguments_of (map (λ a. a.name) l) (map (λ a. a.value) l)) b ∙ g ∙ ap (λ ps. arguments_of (map (λ p. p.name.name) ps) args) ps) r (ap (λ l. commands (map plain_command l)) q) light within
+runs_here w ts place args t params given bound body d db e h p ps b g q r light within =
+    transaction_runs (plain_workload w) (plain_transaction t) place args d given (commands (map plain_command body)) db (transaction_here w ts place t e h p) (ap (λ l. arguments_of (map (λ a. a.name) l) (map (λ a. a.value) l)) b ∙ g ∙ ap (λ ps. arguments_of (map (λ p. p.name.name) ps) args) ps) r (ap (λ l. commands (map plain_command l)) q) light within

@@ -3,51 +3,34 @@ use Rattle.std.proofs.Common.{◌≡◌, ℕ, zero, suc, ◌+◌, ◌<◌, ◌�
 use Rattle.std.proofs.Math.Seq.{drop-cons}
 use Rattle.std.specs.Prelude.{slice_get, find}
 use Rattle.std.specs.Option.{option_and_then}
-use Rattle.std.proofs.lemmas.List.{append-nil, length-map}
+use Rattle.std.proofs.lemmas.List.{append-nil}
 use Rattle.std.proofs.lemmas.Option.{slice_get_within, get_or_from_slice_get}
 use Rattle.homeo_syntax.specs.Source as s
 use Rattle.homeo_syntax.specs.declared.workload.RangeDecl.{RangeDecl}
 use Rattle.homeo_meaning.specs.declared.arguments.Argument.{Argument}
 use Rattle.homeo_meaning.specs.declared.call.CallId.{CallId}
 use Rattle.homeo_meaning.specs.Key.{words}
-use Rattle.homeo_meaning.specs.Schema.{Schema, schema_of, declared_relation}
-use Rattle.homeo_meaning.specs.Bounds.{bounds_of, AreIn, IsWithin}
-use Rattle.homeo_meaning.specs.Initial.{initial, relation_starts}
+use Rattle.homeo_meaning.specs.Schema.{Schema, schema_of}
+use Rattle.homeo_meaning.specs.Bounds.{IsWithin, AllWithin}
 use Rattle.homeo_meaning.specs.Context.{Context, arguments_of, context}
 use Rattle.homeo_meaning.specs.Meaning.{State, after_prints, does_all}
-use Rattle.homeo_meaning.specs.Built.{are_built, IsBuilt}
-use Rattle.homeo_meaning.specs.Weights.{first_weights, are_light}
+use Rattle.homeo_meaning.specs.LForm.{l_form}
+use Rattle.homeo_meaning.specs.LowWeights.{first_weights, is_light}
+use Rattle.homeo_meaning.specs.Small.{IsSmall}
+use Rattle.homeo_meaning.specs.Computed.{CanRunAll}
 use Rattle.homeo_meaning.specs.CanRun.{can_run_all}
 use Rattle.homeo_meaning.specs.Acceptance.{limit, IsLightBody, IsLightCall}
 use Rattle.homeo_meaning.specs.Calls.{IsGroundCall}
 use Rattle.homeo_meaning.specs.Declarations.{Declarations, declarations, place_from, place_of}
-use Rattle.homeo_meaning.specs.Scenes.{run_of, objects_only, call_context, start}
+use Rattle.homeo_meaning.specs.Scenes.{run_of, call_context, start}
 use Rattle.homeo_meaning.specs.Serial.{values_of, values_from, database_like, numbered, call_of, transaction_named, arguments, outcome_at, outcome_of, call_outcome, serial}
-use Rattle.homeo_meaning.proofs.LightRuns.{light_runs}
+use Rattle.homeo_meaning.proofs.Fits.{runs_fit}
+use Rattle.homeo_meaning.proofs.Light.{light_law}
+use Rattle.homeo_meaning.proofs.Stays.{bounds_law}
 use Rattle.homeo_meaning.proofs.Sound.{IsSound}
 use Rattle.homeo_meaning.proofs.States.{state_with}
-use Rattle.homeo_meaning.proofs.Within.{covers_start, length_in, each_in, list_in, does_all_keeps, only_bounds}
+use Rattle.homeo_meaning.proofs.Within.{all_within, list_in}
 use Rattle.homeo_meaning.proofs.SomeValues.{none_some}
-
--- ---- a body
-pub record BodyRuns (d : Declarations) (given : List Argument) (cs : s.Commands) (db : List ℤ) : Type 0 where
-  pub places : length db ≡ length d.objects
-  pub can : can_run_all limit (call_context d given) cs (start db) ≡ true
-  pub within : IsWithin (objects_only d.objects) (database_like db (does_all (call_context d given) cs (start db)).state.database)
-
-pub body_runs : (d : Declarations) (given : List Argument) (cs : s.Commands) (db : List ℤ) → IsWithin (objects_only d.objects) db → are_built cs ≡ true → are_light limit (call_context d given) cs (first_weights (objects_only d.objects)) ≡ true → BodyRuns d given cs db
-unfolding words
-body_runs d given cs db within built light =
-    let ds = d.objects in
-    let inside : AreIn (map bounds_of ds) db = subst (λ bs. AreIn bs db) (only_bounds ds) within in
-    let places : length db ≡ length ds = length_in (map bounds_of ds) db inside ∙ length-map ds bounds_of in
-    let all = light_runs limit (call_context d given) (first_weights (objects_only ds)) (start db) cs (covers_start (objects_only ds) db within) built light in
-    let keeps = does_all_keeps (call_context d given) (start db) cs built (each_in ds db inside) in
-    record {
-      places = places;
-      can = all.can;
-      within = subst (λ bs. AreIn bs (database_like db (does_all (call_context d given) cs (start db)).state.database)) (sym (only_bounds ds)) (list_in ds db (does_all (call_context d given) cs (start db)).state.database places keeps);
-    }
 
 -- the values of a list are the list
 values_list : (xs : List ℤ) (k : ℕ) (f : ℕ → ℤ) → ((i : ℕ) → f (k + i) ≡ get_or xs i (pos 0)) → values_from k (length xs) f ≡ xs
@@ -64,54 +47,59 @@ like_itself base xs f e p =
     sym (values_list xs 0 (values_of xs) (λ i. ap (values_of xs) (same i)))
     ∙ (λ i. values_from 0 (e i) (p i))
 
--- ---- a workload with no relations
-pub schema_only : (w : s.Workload) → w.relations ≡ [] → schema_of w ≡ objects_only (schema_of w).objects
-unfolding words
-schema_only w e = λ i. record { objects = (schema_of w).objects; relations = map declared_relation (e i) }
-
 -- a context by its schema and what it gives to names
 abbrev with_arguments : Schema → (ℕ → Option ℤ) → Context
 unfolding words
 with_arguments x f = record { schema = x; arguments = f; rows = (context x [] []).rows }
 
-context_is : (w : s.Workload) (params : List RangeDecl) (args : List ℤ) (given : List Argument) → w.relations ≡ [] → arguments_of (map (λ a. a.name) given) (map (λ a. a.value) given) ≡ arguments_of (map (λ p. p.name.name) params) args → context (schema_of w) (map (λ p. p.name.name) params) args ≡ call_context (declarations w) given
+context_is : (w : s.Workload) (params : List RangeDecl) (args : List ℤ) (given : List Argument) → arguments_of (map (λ a. a.name) given) (map (λ a. a.value) given) ≡ arguments_of (map (λ p. p.name.name) params) args → context (schema_of w) (map (λ p. p.name.name) params) args ≡ call_context (declarations w) given
 unfolding words
-context_is w params args given e g = λ i. with_arguments (schema_only w e i) (sym g i)
+context_is w params args given g = λ i. with_arguments (schema_of w) (sym g i)
 
-pub initial_is : (w : s.Workload) → w.relations ≡ [] → map (λ d. d.start.value) w.objects ≡ initial w
+-- what is known of a body whose L form is light
+pub record BodyRuns (x : Schema) (params : List ℕ) (args : List ℤ) (body : s.Commands) (db : List ℤ) : Type 0 where
+  pub small : CanRunAll (IsSmall limit) (IsSmall limit) (context x params args) body (start db)
+  pub can : can_run_all limit (context x params args) body (start db) ≡ true
+  pub within : IsWithin x (database_like db (does_all (context x params args) body (start db)).state.database)
+
+pub body_runs : (x : Schema) (params : List ℕ) (args : List ℤ) (body : s.Commands) (db : List ℤ) → IsWithin x db → is_light limit (l_form x params args body) (first_weights x) ≡ true → BodyRuns x params args body db
 unfolding words
-initial_is w e =
-    let starts : List ℤ = map (λ d. d.start.value) w.objects in
-    sym (append-nil starts) ∙ ap (λ rs. starts ++ relation_starts (map declared_relation rs)) (sym e)
+body_runs x params args body db within light =
+    let all : AllWithin x (values_of db) = all_within x db within in
+    let small = (light_law limit x params args body (values_of db) all light).program in
+    record {
+      small = small;
+      can = runs_fit (IsSmall limit) limit (context x params args) body (start db) small;
+      within = list_in x db (does_all (context x params args) body (start db)).state.database within (bounds_law x params args body (values_of db) all);
+    }
 
 -- what stands of the transaction at a place, for its body cs, with these arguments on the database db
 pub record TransactionRuns (w : s.Workload) (place : ℕ) (args : List ℤ) (d : Declarations) (given : List Argument) (cs : s.Commands) (db : List ℤ) : Type 0 where
-  pub within : IsWithin (objects_only d.objects) db
-  pub built : are_built cs ≡ true
-  pub light : are_light limit (call_context d given) cs (first_weights (objects_only d.objects)) ≡ true
+  pub can : can_run_all limit (call_context d given) cs (start db) ≡ true
+  pub within : IsWithin d.schema db
+  pub after : IsWithin d.schema (database_like db (does_all (call_context d given) cs (start db)).state.database)
   pub outcome : record { prints = (does_all (call_context d given) cs (start db)).prints; database = database_like db (does_all (call_context d given) cs (start db)).state.database } ≡ outcome_at w (slice_get w.transactions place) args db
-  pub back : (after : List ℤ) → IsWithin (objects_only d.objects) after → IsWithin (schema_of w) after
 
 all_at : {X : Type 0} (P : X → Type 0) (xs : List X) (i : ℕ) (x : X) → All P xs → slice_get xs i ≡ Some x → P x
 all_at P xs i x h e = subst P (get_or_from_slice_get xs i x x e) (h i x (slice_get_within xs i x e))
 
-own_body : (w : s.Workload) (t : s.Transaction) (place : ℕ) (args : List ℤ) (given : List Argument) (db : List ℤ) → IsBuilt w → slice_get w.transactions place ≡ Some t → arguments_of (map (λ a. a.name) given) (map (λ a. a.value) given) ≡ arguments_of (map (λ p. p.name.name) t.params) args → IsLightBody w (slice_get w.transactions place) args → IsWithin (schema_of w) db → TransactionRuns w place args (declarations w) given t.body db
+own_body : (w : s.Workload) (t : s.Transaction) (place : ℕ) (args : List ℤ) (given : List Argument) (db : List ℤ) → slice_get w.transactions place ≡ Some t → arguments_of (map (λ a. a.name) given) (map (λ a. a.value) given) ≡ arguments_of (map (λ p. p.name.name) t.params) args → IsLightBody w (slice_get w.transactions place) args → IsWithin (schema_of w) db → TransactionRuns w place args (declarations w) given t.body db
 unfolding words
-own_body w t place args given db built e g light within =
-    let x = context_is w t.params args given built.relations g in
-    let schema = schema_only w built.relations in
-    let l : are_light limit (context (schema_of w) (map (λ p. p.name.name) t.params) args) t.body (first_weights (schema_of w)) ≡ true = subst (λ o. IsLightBody w o args) e light in
+own_body w t place args given db e g light within =
+    let params : List ℕ = map (λ p. p.name.name) t.params in
+    let x = context_is w t.params args given g in
+    let l : is_light limit (l_form (schema_of w) params args t.body) (first_weights (schema_of w)) ≡ true = subst (λ o. IsLightBody w o args) e light in
+    let runs = body_runs (schema_of w) params args t.body db within l in
     record {
-      within = subst (λ x. IsWithin x db) schema within;
-      built = all_at (λ t. are_built t.body ≡ true) w.transactions place t built.bodies e;
-      light = sym (λ i. are_light limit (x i) t.body (first_weights (schema i))) ∙ l;
+      can = subst (λ x. can_run_all limit x t.body (start db) ≡ true) x runs.can;
+      within = within;
+      after = subst (λ x. IsWithin (schema_of w) (database_like db (does_all x t.body (start db)).state.database)) x runs.within;
       outcome = sym (ap (λ o. outcome_at w o args db) e ∙ (λ i. record { prints = (does_all (x i) t.body (start db)).prints; database = database_like db (does_all (x i) t.body (start db)).state.database }));
-      back = λ after h. subst (λ x. IsWithin x after) (sym schema) h;
     }
 
-pub transaction_runs : (w : s.Workload) (t : s.Transaction) (place : ℕ) (args : List ℤ) (d : Declarations) (given : List Argument) (cs : s.Commands) (db : List ℤ) → IsBuilt w → slice_get w.transactions place ≡ Some t → arguments_of (map (λ a. a.name) given) (map (λ a. a.value) given) ≡ arguments_of (map (λ p. p.name.name) t.params) args → d ≡ declarations w → cs ≡ t.body → IsLightBody w (slice_get w.transactions place) args → IsWithin (schema_of w) db → TransactionRuns w place args d given cs db
-transaction_runs w t place args d given cs db built e g p q light within =
-    subst (λ d. TransactionRuns w place args d given cs db) (sym p) (subst (λ cs. TransactionRuns w place args (declarations w) given cs db) (sym q) (own_body w t place args given db built e g light within))
+pub transaction_runs : (w : s.Workload) (t : s.Transaction) (place : ℕ) (args : List ℤ) (d : Declarations) (given : List Argument) (cs : s.Commands) (db : List ℤ) → slice_get w.transactions place ≡ Some t → arguments_of (map (λ a. a.name) given) (map (λ a. a.value) given) ≡ arguments_of (map (λ p. p.name.name) t.params) args → d ≡ declarations w → cs ≡ t.body → IsLightBody w (slice_get w.transactions place) args → IsWithin (schema_of w) db → TransactionRuns w place args d given cs db
+transaction_runs w t place args d given cs db e g p q light within =
+    subst (λ d. TransactionRuns w place args d given cs db) (sym p) (subst (λ cs. TransactionRuns w place args (declarations w) given cs db) (sym q) (own_body w t place args given db e g light within))
 
 -- a run from an empty list of prints
 pub body_ran : (d : Declarations) (given : List Argument) (cs : s.Commands) (db copy temps ps qs : List ℤ) (r : State) → copy ≡ db → temps ≡ [] → qs ≡ [] → run_of r ps ≡ after_prints qs (does_all (call_context d given) cs (state_with copy temps)) → run_of r ps ≡ does_all (call_context d given) cs (start db)

@@ -1,5 +1,5 @@
 -- What the absence of faults says.
-use Rattle.std.proofs.Common.{◌≡◌, ℕ, zero, suc, ◌+◌, ℤ, ◌≤ℤ◌, Bool, true, false, cond, not, ◌||◌, ◌==◌, List, [], ◌∷◌, ◌++◌, map, Option, Some, None, All, refl, sym, ap, subst, ◌∙◌, add-zero, zero-add, arith, append-nil, append_assoc}
+use Rattle.std.proofs.Common.{◌≡◌, ℕ, zero, suc, ◌+◌, ℤ, ◌≤ℤ◌, Bool, true, false, cond, not, ◌||◌, ◌==◌, List, [], ◌∷◌, ◌++◌, map, Option, Some, None, All, refl, sym, ap, subst, ◌∙◌, add-zero, zero-add, arith, append_assoc}
 use Rattle.std.specs.Prelude.{slice_get, find, int_lt}
 use Rattle.std.proofs.lemmas.Int.{ints}
 use Rattle.std.proofs.lemmas.List.Concat.{flat_map-append}
@@ -8,9 +8,8 @@ use Rattle.homeo_syntax.specs.Source as s
 use Rattle.homeo_syntax.specs.declared.phrase.Ident.{Ident}
 use Rattle.homeo_syntax.specs.declared.workload.ObjectDecl.{ObjectDecl}
 use Rattle.homeo_meaning.specs.Key.{words}
-use Rattle.homeo_meaning.specs.Schema.{declared_object, declared_relation, schema_of}
-use Rattle.homeo_meaning.specs.Bounds.{Bounds, bounds_of, relation_bounds, AreIn, IsWithin}
-use Rattle.homeo_meaning.specs.Initial.{relation_starts, initial}
+use Rattle.homeo_meaning.specs.Schema.{declared_object, schema_of}
+use Rattle.homeo_meaning.specs.Bounds.{bounds_of, AreIn}
 use Rattle.homeo_meaning.specs.Built.{are_built, IsBuilt}
 use Rattle.homeo_meaning.specs.Serial.{transaction_named, arguments}
 use Rattle.homeo_meaning.specs.Acceptance.{IsLightBody, IsLightCall}
@@ -18,9 +17,8 @@ use Rattle.homeo_meaning.specs.NameRules.{when, fault}
 use Rattle.homeo_meaning.specs.GlobalNames.{GlobalName, SitedCall, numbered_from, first_named, scope_of, transaction_at, called, sited_calls_of, sited_calls}
 use Rattle.homeo_meaning.specs.NumberRules.{range_faults, outside, object_faults, site_faults, same_ground, ground_calls}
 use Rattle.homeo_meaning.specs.CallRules.{call_faults, client_faults}
-use Rattle.homeo_meaning.specs.SizeRules.{unbuilt_relation, unbuilt_transaction, unbuilt_faults, call_form, heaviest, heavy_call, weight_faults}
+use Rattle.homeo_meaning.specs.SizeRules.{unbuilt_relation, unbuilt_transaction, unbuilt_faults, body_form, call_form, heaviest, heavy_call, weight_faults}
 use Rattle.homeo_meaning.specs.LowWeights.{first_weights, is_light}
-use Rattle.homeo_meaning.specs.SourceSizes.{is_light_body}
 use Rattle.homeo_meaning.specs.Faults.{declared_faults}
 use Rattle.homeo_meaning.specs.declared.rules.Fault.{Fault}
 use Rattle.homeo_meaning.specs.declared.rules.Item.{Item}
@@ -28,7 +26,7 @@ use Rattle.homeo_meaning.specs.declared.rules.Item.TheVariants as I
 use Rattle.homeo_meaning.specs.declared.rules.Phase.{Phase}
 use Rattle.homeo_meaning.specs.declared.rules.Phase.TheVariants as F
 use Rattle.homeo_meaning.proofs.FaultParts.{none_first, none_second, NoDeclaredFault, declared_parts}
-use Rattle.homeo_meaning.proofs.FormRules.{light_are, Every, spread, SameCall, same_call}
+use Rattle.homeo_meaning.proofs.FormRules.{Every, spread, SameCall, same_call}
 
 -- ---- small steps
 no_fault : (p : Phase) (x : Ident) (b : Bool) → when (not b) (fault p x) ≡ [] → b ≡ true
@@ -92,21 +90,13 @@ not_above p n false a b e = by_case (int_lt a b) refl e
     by_case true h e = cc
     by_case false h e = not_less a b h
 
-starts_in : (os : List ObjectDecl) → flat_map object_faults os ≡ [] → AreIn (map bounds_of (map declared_object os)) (map (λ d. d.start.value) os)
+pub starts_in : (os : List ObjectDecl) → flat_map object_faults os ≡ [] → AreIn (map bounds_of (map declared_object os)) (map (λ d. d.start.value) os)
 unfolding words
 starts_in [] e = tt
 starts_in (d ∷ os) e =
     let here : object_faults d ≡ [] = none_first (object_faults d) (flat_map object_faults os) e in
     let inside : outside d.lo d.hi d.start ≡ [] = none_second (range_faults d.lo d.hi) (outside d.lo d.hi d.start) here in
     ((not_below F.Bounds d.start.offset d.start.value d.lo.value (int_lt d.hi.value d.start.value) inside, not_above F.Bounds d.start.offset (int_lt d.start.value d.lo.value) d.hi.value d.start.value inside), starts_in os (none_second (object_faults d) (flat_map object_faults os) e))
-
-no_more : (bs : List Bounds) (vs : List ℤ) → AreIn bs vs → AreIn (bs ++ []) (vs ++ [])
-no_more bs vs h = subst (λ l. AreIn l (vs ++ [])) (sym (append-nil bs)) (subst (λ l. AreIn bs l) (sym (append-nil vs)) h)
-
-pub starts-within : (w : s.Workload) → w.relations ≡ [] → flat_map object_faults w.objects ≡ [] → IsWithin (schema_of w) (initial w)
-unfolding words
-starts-within w none e =
-    subst (λ (l : List s.RelationDecl). AreIn (map bounds_of (map declared_object w.objects) ++ relation_bounds (map declared_relation l)) (map (λ d. d.start.value) w.objects ++ relation_starts (map declared_relation l))) (sym none) (no_more (map bounds_of (map declared_object w.objects)) (map (λ d. d.start.value) w.objects) (starts_in w.objects e))
 
 -- ---- calls
 pub record Names (ts : List s.Transaction) (i n k : ℕ) : Type 0 where
@@ -183,70 +173,68 @@ names_one w c (Some (I.Object k)) e = cc
 names_one w c (Some (I.Relation k)) e = cc
 names_one w c (Some (I.Client k)) e = cc
 
-light_body : (w : s.Workload) (o : Option s.Transaction) (args : List ℤ) → is_light_body w o args ≡ true → IsLightBody w o args
+abbrev is_light_form : s.Workload → Option s.Transaction → List ℤ → Bool
 unfolding words
-light_body w None args e = tt
-light_body w (Some t) args e = e
+is_light_form w o args = is_light heaviest (body_form w o args) (first_weights (schema_of w))
 
-light_call : (w : s.Workload) (c : s.Call) → call_faults w.transactions ((scope_of w).item c.name.name) c ≡ [] → is_light_body w (called w c.name) (arguments c) ≡ true → IsLightCall w c
+light_call : (w : s.Workload) (c : s.Call) → call_faults w.transactions ((scope_of w).item c.name.name) c ≡ [] → is_light_form w (called w c.name) (arguments c) ≡ true → IsLightCall w c
 unfolding words
 light_call w c e light =
     let k : (k : ℕ) × ((scope_of w).item c.name.name ≡ Some (I.Transaction k)) = names_one w c ((scope_of w).item c.name.name) e in
     let is : transaction_named w c.name.name ≡ slice_get w.transactions k.0 = named-is w c.name.name k.0 k.1 in
-    let body : is_light_body w (slice_get w.transactions k.0) (arguments c) ≡ true = ap (λ g. is_light_body w (transaction_at w g) (arguments c)) (sym k.1) ∙ light in
-    subst (λ o. IsLightBody w o (arguments c)) (sym is) (light_body w (slice_get w.transactions k.0) (arguments c) body)
+    let body : is_light_form w (slice_get w.transactions k.0) (arguments c) ≡ true = ap (λ g. is_light_form w (transaction_at w g) (arguments c)) (sym k.1) ∙ light in
+    subst (λ o. IsLightBody w o (arguments c)) (sym is) body
 
 abbrev sited : s.Call → ℤ → SitedCall
 sited c site = record { name = c.name; args = arguments c; site = site }
 
--- a call whose source is too heavy
-abbrev heavy_source : s.Workload → SitedCall → List Fault
+-- a call whose L form is too heavy
+abbrev heavy_form : s.Workload → SitedCall → List Fault
 unfolding words
-heavy_source w c = when (not (is_light_body w (called w c.name) c.args)) (fault F.Weight c.name)
+heavy_form w c = when (not (is_light_form w (called w c.name) c.args)) (fault F.Weight c.name)
 
 module _ (w : s.Workload) where
-  light_calls : (site : ℤ) (calls : List s.Call) → flat_map (λ (c : s.Call). call_faults w.transactions ((scope_of w).item c.name.name) c) calls ≡ [] → flat_map (heavy_source w) (map (λ (c : s.Call). sited c site) calls) ≡ [] → All (IsLightCall w) calls
+  light_calls : (site : ℤ) (calls : List s.Call) → flat_map (λ (c : s.Call). call_faults w.transactions ((scope_of w).item c.name.name) c) calls ≡ [] → flat_map (heavy_form w) (map (λ (c : s.Call). sited c site) calls) ≡ [] → All (IsLightCall w) calls
   unfolding words
   light_calls site [] e heavy = all_none (IsLightCall w)
   light_calls site (c ∷ calls) e heavy =
-      let rest : List Fault = flat_map (heavy_source w) (map (λ (c : s.Call). sited c site) calls) in
+      let rest : List Fault = flat_map (heavy_form w) (map (λ (c : s.Call). sited c site) calls) in
       let more : List Fault = flat_map (λ (c : s.Call). call_faults w.transactions ((scope_of w).item c.name.name) c) calls in
       let first : List Fault = call_faults w.transactions ((scope_of w).item c.name.name) c in
-      let light : is_light_body w (called w c.name) (arguments c) ≡ true = no_fault F.Weight c.name (is_light_body w (called w c.name) (arguments c)) (none_first (heavy_source w (sited c site)) rest heavy) in
-      all_more (IsLightCall w) c calls (light_call w c (none_first first more e) light) (light_calls site calls (none_second first more e) (none_second (heavy_source w (sited c site)) rest heavy))
+      let light : is_light_form w (called w c.name) (arguments c) ≡ true = no_fault F.Weight c.name (is_light_form w (called w c.name) (arguments c)) (none_first (heavy_form w (sited c site)) rest heavy) in
+      all_more (IsLightCall w) c calls (light_call w c (none_first first more e) light) (light_calls site calls (none_second first more e) (none_second (heavy_form w (sited c site)) rest heavy))
 
-  light_clients : (cs : List s.Client) → flat_map (client_faults w.sites (scope_of w) w.transactions) cs ≡ [] → flat_map (heavy_source w) (flat_map sited_calls_of cs) ≡ [] → All (λ client. All (IsLightCall w) client.calls) cs
+  light_clients : (cs : List s.Client) → flat_map (client_faults w.sites (scope_of w) w.transactions) cs ≡ [] → flat_map (heavy_form w) (flat_map sited_calls_of cs) ≡ [] → All (λ client. All (IsLightCall w) client.calls) cs
   unfolding words
   light_clients [] e heavy = all_none (λ client. All (IsLightCall w) client.calls)
   light_clients (c ∷ cs) e heavy =
       let faults : List Fault = flat_map (λ (call : s.Call). call_faults w.transactions ((scope_of w).item call.name.name) call) c.calls in
       let sites : List Fault = site_faults w.sites c.site in
       let more : List Fault = flat_map (client_faults w.sites (scope_of w) w.transactions) cs in
-      let split : flat_map (heavy_source w) (sited_calls_of c) ++ flat_map (heavy_source w) (flat_map sited_calls_of cs) ≡ [] = sym (flat_map-append (heavy_source w) (sited_calls_of c) (flat_map sited_calls_of cs)) ∙ heavy in
-      all_more (λ (client : s.Client). All (IsLightCall w) client.calls) c cs (light_calls c.site.value c.calls (none_first faults sites (none_first (faults ++ sites) more e)) (none_first (flat_map (heavy_source w) (sited_calls_of c)) (flat_map (heavy_source w) (flat_map sited_calls_of cs)) split)) (light_clients cs (none_second (faults ++ sites) more e) (none_second (flat_map (heavy_source w) (sited_calls_of c)) (flat_map (heavy_source w) (flat_map sited_calls_of cs)) split))
+      let split : flat_map (heavy_form w) (sited_calls_of c) ++ flat_map (heavy_form w) (flat_map sited_calls_of cs) ≡ [] = sym (flat_map-append (heavy_form w) (sited_calls_of c) (flat_map sited_calls_of cs)) ∙ heavy in
+      all_more (λ (client : s.Client). All (IsLightCall w) client.calls) c cs (light_calls c.site.value c.calls (none_first faults sites (none_first (faults ++ sites) more e)) (none_first (flat_map (heavy_form w) (sited_calls_of c)) (flat_map (heavy_form w) (flat_map sited_calls_of cs)) split)) (light_clients cs (none_second (faults ++ sites) more e) (none_second (flat_map (heavy_form w) (sited_calls_of c)) (flat_map (heavy_form w) (flat_map sited_calls_of cs)) split))
 
 -- ---- each call is as light as its ground call
-light_ground : (w : s.Workload) → IsBuilt w → flat_map object_faults w.objects ≡ [] → (cs : List SitedCall) → flat_map (heavy_call w) cs ≡ [] → Every (λ c. is_light_body w (called w c.name) c.args ≡ true) cs
+light_ground : (w : s.Workload) (cs : List SitedCall) → flat_map (heavy_call w) cs ≡ [] → Every (λ c. is_light_form w (called w c.name) c.args ≡ true) cs
 unfolding words
-light_ground w b o [] e = tt
-light_ground w b o (c ∷ cs) e =
-    let form : is_light heaviest (call_form w c) (first_weights (schema_of w)) ≡ true = no_fault F.Weight c.name (is_light heaviest (call_form w c) (first_weights (schema_of w))) (none_first (heavy_call w c) (flat_map (heavy_call w) cs) e) in
-    (sym (light_are w b o c) ∙ form, light_ground w b o cs (none_second (heavy_call w c) (flat_map (heavy_call w) cs) e))
+light_ground w [] e = tt
+light_ground w (c ∷ cs) e =
+    (no_fault F.Weight c.name (is_light heaviest (call_form w c) (first_weights (schema_of w))) (none_first (heavy_call w c) (flat_map (heavy_call w) cs) e), light_ground w cs (none_second (heavy_call w c) (flat_map (heavy_call w) cs) e))
 
-light_alike : (w : s.Workload) (u k : SitedCall) → same_ground u k ≡ true → is_light_body w (called w k.name) k.args ≡ true → is_light_body w (called w u.name) u.args ≡ true
+light_alike : (w : s.Workload) (u k : SitedCall) → same_ground u k ≡ true → is_light_form w (called w k.name) k.args ≡ true → is_light_form w (called w u.name) u.args ≡ true
 unfolding words
 light_alike w u k e light =
     let same : SameCall u k = same_call u k e in
-    (λ i. is_light_body w (transaction_at w ((scope_of w).item (same.name i))) (same.args i)) ∙ light
+    (λ i. is_light_form w (transaction_at w ((scope_of w).item (same.name i))) (same.args i)) ∙ light
 
-none_heavy : (w : s.Workload) (cs : List SitedCall) → Every (λ c. is_light_body w (called w c.name) c.args ≡ true) cs → flat_map (heavy_source w) cs ≡ []
+none_heavy : (w : s.Workload) (cs : List SitedCall) → Every (λ c. is_light_form w (called w c.name) c.args ≡ true) cs → flat_map (heavy_form w) cs ≡ []
 unfolding words
 none_heavy w [] h = refl
-none_heavy w (c ∷ cs) h = (λ i. when (not (h.0 i)) (fault F.Weight c.name) ++ flat_map (heavy_source w) cs) ∙ none_heavy w cs h.1
+none_heavy w (c ∷ cs) h = (λ i. when (not (h.0 i)) (fault F.Weight c.name) ++ flat_map (heavy_form w) cs) ∙ none_heavy w cs h.1
 
-pub all-light : (w : s.Workload) → IsBuilt w → declared_faults w ≡ [] → weight_faults w ≡ [] → All (λ client. All (IsLightCall w) client.calls) w.clients
+pub all-light : (w : s.Workload) → declared_faults w ≡ [] → weight_faults w ≡ [] → All (λ client. All (IsLightCall w) client.calls) w.clients
 unfolding words
-all-light w b e heavy =
+all-light w e heavy =
     let p : NoDeclaredFault w = declared_parts w e in
-    let light : Every (λ (c : SitedCall). is_light_body w (called w c.name) c.args ≡ true) (sited_calls w) = (spread (λ (c : SitedCall). is_light_body w (called w c.name) c.args ≡ true) (light_alike w) [] (sited_calls w) (light_ground w b p.objects (ground_calls w) heavy)).all in
+    let light : Every (λ (c : SitedCall). is_light_form w (called w c.name) c.args ≡ true) (sited_calls w) = (spread (λ (c : SitedCall). is_light_form w (called w c.name) c.args ≡ true) (light_alike w) [] (sited_calls w) (light_ground w (ground_calls w) heavy)).all in
     light_clients w w.clients p.clients (none_heavy w (sited_calls w) light)

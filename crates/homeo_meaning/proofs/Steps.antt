@@ -2,11 +2,9 @@
 use Rattle.std.proofs.Common.{◌≡◌, ℕ, suc, ◌+◌, ◌<◌, ◌≤◌, ℤ, ◌+ℤ◌, ◌*ℤ◌, true, ◌&&◌, List, [], ◌∷◌, map, drop, get_or, length, sym, ap, ◌∙◌, add-one, drop_of_length-le}
 use Rattle.std.proofs.Math.Seq.{drop-cons}
 use Rattle.std.proofs.lemmas.Bool.{and_parts}
-use Rattle.homeo_syntax.specs.Source as s
 use Rattle.homeo_syntax.specs.SourceView.{exprs, tests, plain_expr, plain_test}
 use Rattle.homeo_syntax.specs.declared.phrase.Expr.{Expr}
 use Rattle.homeo_syntax.specs.declared.phrase.Test.{Test}
-use Rattle.homeo_meaning.specs.Key.{words}
 use Rattle.homeo_meaning.specs.Context.{Context}
 use Rattle.homeo_meaning.specs.Meaning.{State, value, sum_value, product_value, passes, holds}
 use Rattle.homeo_meaning.specs.CanRun.{is_small, expr_fits, sum_fits, product_fits, test_fits, cond_fits}
@@ -23,17 +21,6 @@ drop_none f xs i h = ap (map f) (drop_of_length-le xs h)
 
 pub ruleset steps = (drop_next, drop_none)
 
--- the number that a sum begins with is small
-sum_small : (b : ℕ) (x : Context) (es : s.Exprs) (s : State) (n : ℤ) → sum_fits b x es s n ≡ true → is_small b n ≡ true
-unfolding words
-sum_small b x s.NoExpr s n h = h
-sum_small b x (s.MoreExpr e es) s n h = (and_parts (is_small b n) _ h).0
-
-product_small : (b : ℕ) (x : Context) (es : s.Exprs) (s : State) (n : ℤ) → product_fits b x es s n ≡ true → is_small b n ≡ true
-unfolding words
-product_small b x s.NoExpr s n h = h
-product_small b x (s.MoreExpr e es) s n h = (and_parts (is_small b n) _ h).0
-
 -- one more term of a sum
 pub record SumStep (b : ℕ) (x : Context) (s : State) (n : ℤ) (es : List Expr) (i : ℕ) (e : Expr) : Type 0 where
   pub first : expr_fits b x (plain_expr e) s ≡ true
@@ -46,7 +33,7 @@ sum_step {b} {x} {s} {n} es i e h p fits =
     let next = drop_next plain_expr es i e h p in
     let k = and_parts _ _ (sym (sum_fits_more b x s n (plain_expr e) (map plain_expr (drop (i + 1) es))) ∙ ap (λ l. sum_fits b x (exprs l) s n) (sym next) ∙ fits) in
     let m = and_parts _ _ k.1 in
-    record { first = m.0; small = sum_small b x _ s _ m.1; rest = m.1; same = sym (sum_more x s n (plain_expr e) (map plain_expr (drop (i + 1) es))) ∙ ap (λ l. sum_value x (exprs l) s n) (sym next) }
+    record { first = k.0; small = m.0; rest = m.1; same = sym (sum_more x s n (plain_expr e) (map plain_expr (drop (i + 1) es))) ∙ ap (λ l. sum_value x (exprs l) s n) (sym next) }
 
 pub sum_stop : (x : Context) (s : State) (n : ℤ) (es : List Expr) (i : ℕ) → length es ≤ i → n ≡ sum_value x (exprs (map plain_expr (drop i es))) s n
 sum_stop x s n es i h = sym (ap (λ l. sum_value x (exprs l) s n) (drop_none plain_expr es i h) ∙ sum_end x s n)
@@ -63,7 +50,7 @@ product_step {b} {x} {s} {n} es i e h p fits =
     let next = drop_next plain_expr es i e h p in
     let k = and_parts _ _ (sym (product_fits_more b x s n (plain_expr e) (map plain_expr (drop (i + 1) es))) ∙ ap (λ l. product_fits b x (exprs l) s n) (sym next) ∙ fits) in
     let m = and_parts _ _ k.1 in
-    record { first = m.0; small = product_small b x _ s _ m.1; rest = m.1; same = sym (product_more x s n (plain_expr e) (map plain_expr (drop (i + 1) es))) ∙ ap (λ l. product_value x (exprs l) s n) (sym next) }
+    record { first = k.0; small = m.0; rest = m.1; same = sym (product_more x s n (plain_expr e) (map plain_expr (drop (i + 1) es))) ∙ ap (λ l. product_value x (exprs l) s n) (sym next) }
 
 pub product_stop : (x : Context) (s : State) (n : ℤ) (es : List Expr) (i : ℕ) → length es ≤ i → n ≡ product_value x (exprs (map plain_expr (drop i es))) s n
 product_stop x s n es i h = sym (ap (λ l. product_value x (exprs l) s n) (drop_none plain_expr es i h) ∙ product_end x s n)

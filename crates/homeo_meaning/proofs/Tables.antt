@@ -5,9 +5,11 @@ use Rattle.homeo_syntax.specs.Key.{words as tree_words}
 use Rattle.homeo_syntax.specs.declared.workload.ObjectDecl.{ObjectDecl}
 use Rattle.homeo_syntax.specs.declared.workload.Transaction.{Transaction}
 use Rattle.homeo_syntax.specs.declared.workload.Workload.{Workload}
-use Rattle.homeo_syntax.specs.SourceView.{plain_transaction, plain_workload}
+use Rattle.homeo_syntax.specs.SourceView.{plain_relation, plain_transaction, plain_workload}
 use Rattle.homeo_meaning.specs.Key.{words}
-use Rattle.homeo_meaning.specs.Schema.{declared_object}
+use Rattle.homeo_meaning.specs.Schema.{declared_object, declared_relation}
+use Rattle.homeo_meaning.specs.declared.numbering.Placed.{Placed}
+use Rattle.homeo_meaning.specs.Placed.{placed_relation}
 use Rattle.homeo_meaning.specs.Declarations.{declarations, place_from}
 
 pub no_names : (names places : List ℕ) (k n : ℕ) → places ≡ [] → length names ≤ k → get_or places n k ≡ place_from k (drop k names) n
@@ -31,6 +33,6 @@ unfolding tree_words
 plain_names [] = refl
 plain_names (t ∷ ts) = ap (λ l. t.name.name ∷ l) (plain_names ts)
 
-pub numbering_is : (w : Workload) (os : List ObjectDecl) (ns : List ℕ) → os ≡ w.objects.items → ns ≡ map (λ t. t.name.name) w.transactions.items → record { objects = map declared_object os; transactions = ns } ≡ declarations (plain_workload w)
+pub numbering_is : (w : Workload) (os : List ObjectDecl) (ps : List Placed) (ns : List ℕ) → os ≡ w.objects.items → map placed_relation ps ≡ map declared_relation (map plain_relation w.relations.items) → ns ≡ map (λ t. t.name.name) w.transactions.items → record { schema = record { objects = map declared_object os; relations = map placed_relation ps }; transactions = ns } ≡ declarations (plain_workload w)
 unfolding words tree_words
-numbering_is w os ns p q = λ i. record { objects = map declared_object (p i); transactions = (q ∙ sym (plain_names w.transactions.items)) i }
+numbering_is w os ps ns p r q = λ i. record { schema = record { objects = map declared_object (p i); relations = r i }; transactions = (q ∙ sym (plain_names w.transactions.items)) i }

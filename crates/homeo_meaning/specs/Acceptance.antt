@@ -1,12 +1,12 @@
 -- Which workloads are accepted.
-use Rattle.std.specs.Prelude.{◌≡◌, ◌^◌, ℕ, ℤ, true, List, [], map, Option, Some, None}
+use Rattle.std.specs.Prelude.{◌≡◌, ◌^◌, ℕ, ℤ, true, List, [], Option, Some}
 use Rattle.homeo_syntax.specs.Source as s
 use Rattle.homeo_syntax.specs.WellFormed.{IsWellFormed}
 use Rattle.homeo_meaning.specs.declared.call.Purpose.TheVariants.{Run}
 use Rattle.homeo_meaning.specs.Key.{words}
 use Rattle.homeo_meaning.specs.Schema.{schema_of}
-use Rattle.homeo_meaning.specs.Context.{context}
-use Rattle.homeo_meaning.specs.Weights.{first_weights, are_light}
+use Rattle.homeo_meaning.specs.LowWeights.{first_weights, is_light}
+use Rattle.homeo_meaning.specs.SizeRules.{body_form}
 use Rattle.homeo_meaning.specs.Serial.{transaction_named, arguments}
 use Rattle.homeo_meaning.specs.Faults.{faults}
 
@@ -14,12 +14,10 @@ use Rattle.homeo_meaning.specs.Faults.{faults}
 abbrev pub limit : ℕ
 limit = 10 ^ 18
 
--- each expression of a call's body has a weight of at most the limit
+-- no expression of the L form of a call with this body and these arguments weighs more than the limit
 abbrev pub IsLightBody : s.Workload → Option s.Transaction → List ℤ → Type 0
 unfolding words
-IsLightBody w None args = Unit {0}
-IsLightBody w (Some t) args =
-    are_light limit (context (schema_of w) (map (λ p. p.name.name) t.params) args) t.body (first_weights (schema_of w)) ≡ true
+IsLightBody w t args = is_light limit (body_form w t args) (first_weights (schema_of w)) ≡ true
 
 abbrev pub IsLightCall : s.Workload → s.Call → Type 0
 unfolding words

@@ -41,3 +41,15 @@ AreIn (b ∷ bs) (v ∷ vs) = IsIn b v × AreIn bs vs
 abbrev pub IsWithin : Schema → List ℤ → Type 0
 unfolding words
 IsWithin x d = AreIn (all_bounds x) d
+
+-- the bounds of the object of a number: 0 and 0 past the last
+abbrev pub bounds_at : List Bounds → ℕ → Bounds
+unfolding words
+bounds_at [] n = record { lo = pos 0; hi = pos 0 }
+bounds_at (b ∷ bs) zero = b
+bounds_at (b ∷ bs) (suc n) = bounds_at bs n
+
+-- each object's value is within its bounds, and past the last object there is 0
+abbrev pub AllWithin : Schema → (ℕ → ℤ) → Type 0
+unfolding words
+AllWithin x values = (n : ℕ) → IsIn (bounds_at (all_bounds x) n) (values n)

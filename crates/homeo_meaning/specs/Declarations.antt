@@ -2,16 +2,16 @@
 use Rattle.std.specs.Prelude.{ℕ, suc, ◌==◌, cond, List, [], ◌∷◌, map}
 use Rattle.homeo_syntax.specs.Source as s
 use Rattle.homeo_meaning.specs.Key.{words}
-use Rattle.homeo_meaning.specs.Schema.{Declared, schema_of}
+use Rattle.homeo_meaning.specs.Schema.{Schema, schema_of}
 
--- the objects, and the names of the transactions
+-- the objects and relations, and the names of the transactions
 pub record Declarations : Type 0 where
-  pub objects : List Declared
+  pub schema : Schema
   pub transactions : List ℕ
 
 abbrev pub declarations : s.Workload → Declarations
 unfolding words
-declarations w = record { objects = (schema_of w).objects; transactions = map (λ t. t.name.name) w.transactions }
+declarations w = record { schema = schema_of w; transactions = map (λ t. t.name.name) w.transactions }
 
 -- the first place of a name, in a list whose first place is k: past the last where it is not there
 abbrev pub place_from : ℕ → List ℕ → ℕ → ℕ

@@ -109,3 +109,10 @@ abbrev mutual
   pub exec_all : Commands → State → Run
   exec_all NoCommand s = record { state = s; prints = [] }
   exec_all (MoreCommand c cs) s = after_prints (exec c s).prints (exec_all cs (exec c s).state)
+
+-- where a call begins: temporaries and deltas are 0, and each object is whole
+abbrev pub whole : (ℕ → ℤ) → State
+unfolding words
+whole database (TempAt t) = pos 0
+whole database (BaseAt n) = database n
+whole database (DeltaAt n site) = pos 0

@@ -4,8 +4,11 @@
 mod accepted;
 mod arguments;
 mod call;
+mod changes;
 mod commands;
 mod database;
+mod frame;
+mod inserts;
 pub mod laws;
 mod numbering;
 mod padded;
@@ -13,6 +16,8 @@ mod phrases;
 mod rules;
 mod runs;
 mod scene;
+mod spot;
+mod table;
 
 pub use accepted::Accepted;
 pub use call::{CallId, GroundCall, Purpose};

@@ -1,13 +1,18 @@
 //! The places of objects and transactions, looked up by name.
 
-ghost use Rattle.std.specs.Prelude.{◌≡◌, map, IfOk};
-ghost use Rattle.homeo_syntax.specs.SourceView.{plain_workload};
+ghost use Rattle.std.specs.Prelude.{◌≡◌, ◌≤◌, All, map, length, IfOk};
+ghost use Rattle.homeo_syntax.specs.SourceView.{plain_relation, plain_workload};
+ghost use Rattle.homeo_meaning.specs.Schema.{declared_range, declared_relation};
 ghost use Rattle.homeo_meaning.specs.Declarations.{declarations, place_of};
-ghost use Rattle.homeo_meaning.specs.Context.{spot};
+ghost use Rattle.homeo_meaning.specs.Context.{spot, find_slots, find_fields, object_count};
+ghost use Rattle.homeo_meaning.specs.Placed.{placed_relation, StandFrom, HasSlots};
+ghost use Rattle.homeo_meaning.specs.Scenes.{plain_spot, slots_of, IsCounted};
 
 use crate::accepted::Accepted;
 use crate::padded::{item_or, put};
-use homeo_syntax::{Bounds, Memory, ObjectDecl, Transaction};
+use crate::spot::Spot;
+use crate::table::Table;
+use homeo_syntax::{Memory, ObjectDecl, RangeDecl, RelationDecl, Transaction};
 use std::alloc::Global;
 use std::marker::Model;
 
@@ -29,27 +34,42 @@ impl Model for Places {
     ghost invariant = { λ p. IsTable p.names.items p.places.items };
 }
 
-/// The places of a workload's objects and transactions by their names, made once for many calls.
+/// A relation, with the number of the first of its objects.
+#[derive(Drop)]
+struct Placed {
+    name: u32,
+    first: usize,
+    slots: usize,
+    fields: Vec<RangeDecl>,
+}
+
+/// The places of a workload's objects, relations and transactions by their names, made once for many calls.
 #[derive(Drop)]
 pub struct Numbering {
     objects: Vec<ObjectDecl>,
+    relations: Vec<Placed>,
     object_places: Places,
+    relation_places: Places,
     transaction_places: Places,
 }
 
 impl Model for Numbering {
-    ghost use Rattle.std.specs.Prelude.{◌≡◌, map};
+    ghost use Rattle.std.specs.Prelude.{map};
     ghost use Rattle.homeo_meaning.specs.Schema.{declared_object};
     ghost use Rattle.homeo_meaning.specs.Declarations.{Declarations};
+    ghost use Rattle.homeo_meaning.specs.Placed.{placed_relation, ArePlaced};
 
     ghost Value = { Declarations };
 
     ghost view = { λ n. record {
-      objects = map declared_object n.objects.items;
+      schema = record {
+        objects = map declared_object n.objects.items;
+        relations = map placed_relation n.relations.items;
+      };
       transactions = n.transaction_places;
     } };
 
-    ghost invariant = { λ n. n.object_places ≡ map (λ d. d.name.name) n.objects.items };
+    ghost invariant = { λ n. ArePlaced n.objects.items n.relations.items n.object_places n.relation_places };
 }
 
 impl Places {
@@ -94,32 +114,63 @@ impl Numbering {
     {
         let workload = w.workload();
         let objects = workload.objects.as_slice();
+        let relations = place_relations(alloc, objects.len(), workload.relations.as_slice())?;
+        let relation_names = relation_names(alloc, relations.as_slice())?;
         let transaction_names = transaction_names(alloc, workload.transactions.as_slice())?;
         Ok(Numbering {
             objects: Vec::from_slice(alloc, objects)?,
+            relations,
             object_places: Places::of_objects(alloc, objects)?,
+            relation_places: Places::of(alloc, relation_names)?,
             transaction_places: Places::of(alloc, transaction_names)?,
         })
     }
 
     /// The number of the object of a name, or the number of objects where there is none.
-    pub(crate) fn object(&self, name: u32) -> usize
-        ensures { result ≡ (spot self.now.objects name).place }
+    fn object(&self, name: u32) -> usize
+        ensures { result ≡ (spot self.now.schema.objects name).place }
     {
         self.object_places.get(name)
     }
 
-    /// The bounds of the object of a name, or 0 and 0 where there is none.
-    pub(crate) fn bounds(&self, name: u32) -> Bounds
-        ensures lo { result.lo ≡ (spot self.now.objects name).lo }
-        ensures hi { result.hi ≡ (spot self.now.objects name).hi }
+    /// The object of a name: where there is none, the number of objects, and the bounds 0 and 0.
+    pub(crate) fn spot(&self, name: u32) -> Spot
+        ensures place { result.place ≡ (spot self.now.schema.objects name).place }
+        ensures lo { result.lo ≡ (spot self.now.schema.objects name).lo }
+        ensures hi { result.hi ≡ (spot self.now.schema.objects name).hi }
     {
-        match self.objects.get(self.object(name)) {
-            Some(object) => Bounds {
+        let place = self.object(name);
+        match self.objects.get(place) {
+            Some(object) => Spot {
+                place,
                 lo: object.lo.value,
                 hi: object.hi.value,
             },
-            None => Bounds { lo: 0, hi: 0 },
+            None => Spot {
+                place,
+                lo: 0,
+                hi: 0,
+            },
+        }
+    }
+
+    /// The slots of the relation of a name: where there is none, none.
+    pub(crate) fn relation(&self, name: u32) -> Table<'_>
+        ensures slots { slots_of result ≡ find_slots (length self.now.schema.objects) self.now.schema.relations name }
+        ensures fields { map declared_range result.fields.now ≡ find_fields self.now.schema.relations name }
+        ensures counted { IsCounted result }
+    {
+        match self.relations.get(self.relation_places.get(name)) {
+            Some(relation) => Table {
+                first: relation.first,
+                slots: relation.slots,
+                fields: relation.fields.as_slice(),
+            },
+            None => Table {
+                first: 0,
+                slots: 0,
+                fields: &[],
+            },
         }
     }
 
@@ -137,6 +188,45 @@ fn object_names(alloc: Global, objects: &[ObjectDecl]) -> Result<Vec<u32>, Memor
     let mut names = Vec::new(alloc);
     for object in objects {
         names.push(object.name.name)?;
+    }
+    Ok(names)
+}
+
+/// Places relations one after another, the first of them at this object.
+fn place_relations(
+    alloc: Global,
+    first: usize,
+    relations: &[RelationDecl],
+) -> Result<Vec<Placed>, Memory>
+    requires slots { All HasSlots relations.now }
+    requires few { object_count first (map declared_relation (map plain_relation relations.now)) ≤ 1024 }
+    ensures relations { IfOk result (λ ps. map placed_relation ps.items ≡
+        map declared_relation (map plain_relation relations.now)) }
+    ensures stand { IfOk result (λ ps. StandFrom first ps.items) }
+{
+    let mut places = Vec::new(alloc);
+    let mut next = first;
+    for relation in relations {
+        let slots = relation.slots.value as usize;
+        let fields = Vec::from_slice(alloc, relation.fields.as_slice())?;
+        let width = 1 + fields.len();
+        places.push(Placed {
+            name: relation.name.name,
+            first: next,
+            slots,
+            fields,
+        })?;
+        next += slots * width;
+    }
+    Ok(places)
+}
+
+fn relation_names(alloc: Global, relations: &[Placed]) -> Result<Vec<u32>, Memory>
+    ensures { IfOk result (λ names. names.items ≡ map (λ p. p.name) relations.now) }
+{
+    let mut names = Vec::new(alloc);
+    for relation in relations {
+        names.push(relation.name)?;
     }
     Ok(names)
 }

@@ -7,10 +7,9 @@ ghost use Rattle.homeo_meaning.specs.Bounds.{IsWithin};
 ghost use Rattle.homeo_meaning.specs.Calls.{CallExists, IsGroundCall, ground_outcome};
 ghost use Rattle.homeo_meaning.specs.Declarations.{declarations};
 ghost use Rattle.homeo_meaning.specs.Acceptance.{limit, IsLightBody};
-ghost use Rattle.homeo_meaning.specs.Built.{are_built, IsBuilt};
+ghost use Rattle.homeo_meaning.specs.CanRun.{can_run_all};
 ghost use Rattle.homeo_meaning.specs.Meaning.{does_all};
-ghost use Rattle.homeo_meaning.specs.Scenes.{objects_only, call_context, start};
-ghost use Rattle.homeo_meaning.specs.Weights.{first_weights, are_light};
+ghost use Rattle.homeo_meaning.specs.Scenes.{call_context, start};
 ghost use Rattle.homeo_meaning.specs.Serial.{database_like, call_of, call_outcome, serial};
 
 use crate::accepted::Accepted;
@@ -18,6 +17,7 @@ use crate::arguments::{Argument, argument_values, bind};
 use crate::call::CallId;
 use crate::commands::run_all;
 use crate::database::Database;
+use crate::frame::{Frame, Rows};
 use crate::numbering::Numbering;
 use crate::scene::Scene;
 use homeo_syntax::{Call, Command, List, Memory, Prints, Workload};
@@ -37,25 +37,30 @@ fn run_body(
     arguments: &[Argument],
     base: &mut Database,
 ) -> Result<Prints, Memory>
-    requires within { IsWithin (objects_only numbering.now.objects) base.old.items }
-    requires built { are_built (commands (map plain_command body.now)) ≡ true }
-    requires light { are_light limit (call_context numbering.now arguments.now)
-        (commands (map plain_command body.now))
-        (first_weights (objects_only numbering.now.objects)) ≡ true }
+    requires within { IsWithin numbering.now.schema base.old.items }
+    requires runs { can_run_all limit (call_context numbering.now arguments.now)
+        (commands (map plain_command body.now)) (start base.old.items) ≡ true }
+    requires after { IsWithin numbering.now.schema (database_like base.old.items (does_all
+        (call_context numbering.now arguments.now) (commands (map plain_command body.now))
+        (start base.old.items)).state.database) }
     ensures prints { IfOk result (λ p. p.items ≡ (does_all (call_context numbering.now arguments.now)
         (commands (map plain_command body.now)) (start base.old.items)).prints) }
     ensures database { OnOk result (base.new.items ≡ database_like base.old.items (does_all
         (call_context numbering.now arguments.now) (commands (map plain_command body.now))
         (start base.old.items)).state.database) }
-    ensures within { IsWithin (objects_only numbering.now.objects) base.new.items }
+    ensures within { IsWithin numbering.now.schema base.new.items }
     ensures unchanged { OnErr result (base.new ≡ base.old) }
 {
     let mut scene = Scene {
         database: copied(alloc, base.as_slice())?,
         temps: Vec::new(alloc),
     };
+    let rows = Rows::Outside {
+        objects: scene.database.len(),
+    };
+    let frame = Frame::new(alloc, numbering, arguments, &rows);
     let mut prints = List::new(alloc);
-    run_all(body, numbering, arguments, &mut scene, &mut prints)?;
+    run_all(body, &frame, &mut scene, &mut prints)?;
     *base = List::from_vec(scene.database);
     Ok(prints)
 }
@@ -70,7 +75,6 @@ fn run_at(
     args: &[i64],
     base: &mut Database,
 ) -> Result<Prints, Memory>
-    requires built { IsBuilt (plain_workload workload.now) }
     requires light { IsLightBody (plain_workload workload.now)
         (slice_get (plain_workload workload.now).transactions place) args.now }
     requires numbering { numbering.now ≡ declarations (plain_workload workload.now) }

@@ -1,13 +1,14 @@
 //! The values that a run reads and changes.
 
-ghost use Rattle.std.specs.Prelude.{◌≡◌, ◌&&◌, int_le, length, OnOk};
-ghost use Rattle.homeo_meaning.specs.Context.{spot};
-ghost use Rattle.homeo_meaning.specs.Meaning.{set_temp, write};
-ghost use Rattle.homeo_meaning.specs.Scenes.{state_of};
+ghost use Rattle.std.specs.Prelude.{◌≡◌, ◌≤◌, ◌+◌, pos, length, OnOk};
+ghost use Rattle.homeo_meaning.specs.Context.{cell, field_cell};
+ghost use Rattle.homeo_meaning.specs.Meaning.{is_used, is_free, set_temp, set_object, write};
+ghost use Rattle.homeo_meaning.specs.Scenes.{state_of, plain_spot, plain_slot, IsZeroPast};
 
-use crate::numbering::Numbering;
 use crate::padded::{item_or, put};
-use homeo_syntax::{Bounds, Memory};
+use crate::spot::{Spot, find_field};
+use crate::table::Slot;
+use homeo_syntax::Memory;
 
 /// The values of the objects, by number, and of the temporaries, by the numbers of their names.
 #[derive(Drop)]
@@ -31,6 +32,41 @@ impl Scene {
         item_or(self.database.as_slice(), place, 0)
     }
 
+    /// The object of a slot's field that has this place.
+    #[tactic(auto, unfolding(crate::specs::Key::words))]
+    pub(crate) fn cell(&self, slot: &Slot, place: usize) -> i64
+        ensures { result ≡ (state_of self.now).database (slot.now.used + 1 + place) }
+    {
+        let objects = self.database.as_slice();
+        if slot.used < objects.len() && place < objects.len() - slot.used - 1 {
+            objects[slot.used + 1 + place]
+        } else {
+            0
+        }
+    }
+
+    /// The field of a slot that has this name.
+    #[tactic(auto, unfolding(crate::specs::Key::words))]
+    pub(crate) fn field(&self, slot: &Slot, name: u32) -> i64
+        ensures { result ≡ (state_of self.now).database (field_cell (plain_slot slot.now) name) }
+    {
+        self.cell(slot, find_field(slot.fields, name).place)
+    }
+
+    #[tactic(auto, unfolding(crate::specs::Key::words))]
+    pub(crate) fn is_used(&self, slot: &Slot) -> bool
+        ensures { result ≡ is_used (state_of self.now) (plain_slot slot.now) }
+    {
+        self.object(slot.used) == 1
+    }
+
+    #[tactic(auto, unfolding(crate::specs::Key::words))]
+    pub(crate) fn is_free(&self, slot: &Slot) -> bool
+        ensures { result ≡ is_free (state_of self.now) (plain_slot slot.now) }
+    {
+        self.object(slot.used) == 0
+    }
+
     /// Sets a temporary.
     pub(crate) fn assign(&mut self, name: u32, v: i64) -> Result<(), Memory>
         ensures places { length self.new.database.items ≡ length self.old.database.items }
@@ -40,25 +76,49 @@ impl Scene {
         Ok(())
     }
 
-    /// Sets an object where the value is within its bounds.
-    pub(crate) fn write(&mut self, numbering: &Numbering, name: u32, v: i64)
-        requires { length self.old.database.items ≡ length numbering.now.objects }
+    /// Sets an object: where there is none of this number, to 0.
+    pub(crate) fn set(&mut self, place: usize, v: i64)
+        requires { length self.old.database.items ≤ place → v ≡ pos 0 }
         ensures places { length self.new.database.items ≡ length self.old.database.items }
-        ensures set { state_of self.new ≡ write (state_of self.old) (spot numbering.now.objects name)
-            (spot numbering.now.objects name).place v }
+        ensures set { state_of self.new ≡ set_object (state_of self.old) place v }
     {
-        if !is_within(numbering.bounds(name), v) {
-            return;
-        }
-        let place = numbering.object(name);
         if place < self.database.len() {
             self.database[place] = v;
         }
     }
-}
 
-fn is_within(bounds: Bounds, v: i64) -> bool
-    ensures { result ≡ (int_le bounds.lo v && int_le v bounds.hi) }
-{
-    bounds.lo <= v && v <= bounds.hi
+    /// Sets the object of a slot's field that has this place: where there is none, to 0.
+    pub(crate) fn set_cell(&mut self, slot: &Slot, place: usize, v: i64)
+        requires { length self.old.database.items ≤ slot.now.used + 1 + place → v ≡ pos 0 }
+        ensures places { length self.new.database.items ≡ length self.old.database.items }
+        ensures set { state_of self.new ≡ set_object (state_of self.old) (slot.now.used + 1 + place) v }
+    {
+        let count = self.database.len();
+        if slot.used < count && place < count - slot.used - 1 {
+            self.set(slot.used + 1 + place, v);
+        }
+    }
+
+    /// Sets an object where the value is within its bounds.
+    pub(crate) fn write(&mut self, object: Spot, v: i64)
+        requires { IsZeroPast (length self.old.database.items) (plain_spot object) object.place }
+        ensures places { length self.new.database.items ≡ length self.old.database.items }
+        ensures set { state_of self.new ≡ write (state_of self.old) (plain_spot object) object.place v }
+    {
+        if object.admits(v) {
+            self.set(object.place, v);
+        }
+    }
+
+    /// Sets a field of a slot where the value is within its bounds.
+    pub(crate) fn write_field(&mut self, slot: &Slot, field: Spot, v: i64)
+        requires { IsZeroPast (length self.old.database.items) (plain_spot field) (slot.now.used + 1 + field.place) }
+        ensures places { length self.new.database.items ≡ length self.old.database.items }
+        ensures set { state_of self.new ≡ write (state_of self.old) (plain_spot field)
+            (cell (plain_slot slot.now) (plain_spot field)) v }
+    {
+        if field.admits(v) {
+            self.set_cell(slot, field.place, v);
+        }
+    }
 }

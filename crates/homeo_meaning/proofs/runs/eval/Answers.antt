@@ -1,16 +1,11 @@
 use Rattle.std.proofs.Common.{◌≡◌, ap, sym, subst}
 use Rattle.std.specs.Prelude.{IfOk, OnOk, slice_get}
 use Rattle.homeo_syntax.specs.SourceView.{plain_workload}
-use Rattle.homeo_meaning.specs.Built.{IsBuilt}
 use Rattle.homeo_meaning.specs.Acceptance.{IsLightBody}
 use Rattle.homeo_meaning.specs.Serial.{outcome_at}
 use Rattle.homeo_meaning.proofs.Outcomes.{ground_call_light}
 use Rattle.homeo_meaning.proofs.Sound.{sound}
 use Rattle.homeo_meaning.proofs.runs.eval.Goals as goal
-
-pub run_at-requires-clause-built : goal.run_at-requires-clause-built
-run_at-requires-clause-built c =
-    subst (λ w. IsBuilt (plain_workload w)) (sym c.workload.ensures.value) (sound (plain_workload c.args.w.now) c.workload.ensures.accepted).built
 
 pub run_at-requires-clause-light : goal.run_at-requires-clause-light
 run_at-requires-clause-light c =

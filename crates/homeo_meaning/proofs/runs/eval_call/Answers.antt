@@ -2,16 +2,11 @@ use Rattle.std.proofs.Common.{◌≡◌, map, ap, sym, subst, ◌∙◌}
 use Rattle.std.specs.Prelude.{IfOk, OnOk, slice_get}
 use Rattle.homeo_syntax.specs.SourceView.{plain_call, plain_workload}
 use Rattle.homeo_syntax.specs.Key.{words as tree_words}
-use Rattle.homeo_meaning.specs.Built.{IsBuilt}
 use Rattle.homeo_meaning.specs.Acceptance.{IsLightBody}
 use Rattle.homeo_meaning.specs.Serial.{call_of, outcome_at}
 use Rattle.homeo_meaning.proofs.Outcomes.{placed_call}
 use Rattle.homeo_meaning.proofs.Sound.{sound}
 use Rattle.homeo_meaning.proofs.runs.eval_call.Goals as goal
-
-pub run_at-requires-clause-built : goal.run_at-requires-clause-built
-run_at-requires-clause-built c =
-    subst (λ w. IsBuilt (plain_workload w)) (sym c.workload-workload.ensures.value) (sound (plain_workload c.args.w.now) c.workload-workload.ensures.accepted).built
 
 pub run_at-requires-clause-light : goal.run_at-requires-clause-light
 unfolding tree_words

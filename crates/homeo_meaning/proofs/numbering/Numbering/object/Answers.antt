@@ -9,6 +9,6 @@ pub returns : goal.returns
 unfolding words
 returns c =
     c.get.ensures
-    ∙ ap (λ names. place_of names c.args.name) c.self.invariant
+    ∙ ap (λ names. place_of names c.args.name) c.self.invariant.objects_named
     ∙ object_place 0 c.args.name c.self.inside.objects.items
-    ∙ ap (λ d. (spot d.objects c.args.name).place) c.self.view_is
+    ∙ ap (λ d. (spot d.schema.objects c.args.name).place) c.self.view_is
