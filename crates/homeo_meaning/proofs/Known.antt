@@ -189,17 +189,19 @@ module _ (sc : Scope) (rs : List Relation) (declared : (n k : ℕ) → sc.item n
       let count : List Fault = fills_all sc (sc.item q.name) q (length (named fs)) in
       let two : a ++ d ≡ [] = none_first (a ++ d) count c.none in
       let full : fills_all sc (Some (I.Relation k.number)) q (length (named fs)) ≡ [] = sym (ap (λ o. fills_all sc o q (length (named fs))) k.is) ∙ none_second (a ++ d) count c.none in
-      let many : length (named fs) ≡ length (sc.fields k.number) = counted (length (named fs)) (length (sc.fields k.number)) q full in
-      (record {
-        there = relation_of q.name k;
-        distinct = subst (AllPairs (λ m n. m ≢ n)) (field_numbers fs) (all-distinct (named fs) (none_first a d two));
-        all =
-            length-map fs (λ (f : s.FieldValue). f.field.name)
-            ∙ sym (length-map fs (λ (f : s.FieldValue). f.field))
-            ∙ many
-            ∙ ap length (same_fields q.name k.number k.is)
-            ∙ length-map (find_fields rs q.name) (λ (d : Declared). d.name);
-      }, none_second a d two)
+      let many : length (named fs) ≡ length (sc.fields k.number) = counted (length (named fs)) (length (sc.fields k.number)) q full in (
+        record {
+          there = relation_of q.name k;
+          distinct = subst (AllPairs (λ m n. m ≢ n)) (field_numbers fs) (all-distinct (named fs) (none_first a d two));
+          all =
+              length-map fs (λ (f : s.FieldValue). f.field.name)
+              ∙ sym (length-map fs (λ (f : s.FieldValue). f.field))
+              ∙ many
+              ∙ ap length (same_fields q.name k.number k.is)
+              ∙ length-map (find_fields rs q.name) (λ (d : Declared). d.name);
+        },
+        none_second a d two,
+      )
 
   mutual
     unfolding words
