@@ -10,9 +10,12 @@ pub mod Lifts
 pub mod Light
 pub mod Looking
 pub mod Loops
+pub mod Makings
 pub mod Means
 pub mod Numbers
 pub mod Passing
+pub mod Rows
+pub mod SlotLists
 pub mod Runs
 pub mod Stays
 pub mod Values

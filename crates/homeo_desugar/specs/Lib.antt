@@ -3,7 +3,9 @@ pub mod Computed
 pub mod Found
 pub mod Key
 pub mod Laws
+pub mod Made
 pub mod LowComputed
 pub mod Settings
+pub mod Visits
 pub mod Small
 pub mod Whole
