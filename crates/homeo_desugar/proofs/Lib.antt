@@ -4,6 +4,7 @@ pub mod Commands
 pub mod Conveys
 pub mod Equations
 pub mod Few
+pub mod FieldNames
 pub mod Fields
 pub mod Fresh
 pub mod Lifts
@@ -15,6 +16,7 @@ pub mod Means
 pub mod Numbers
 pub mod Passing
 pub mod Rows
+pub mod Schemas
 pub mod SlotLists
 pub mod Runs
 pub mod Stays

@@ -1,16 +1,19 @@
 -- Commands and phrases that are made one after another.
-use Rattle.std.proofs.Common.{◌≡◌, ℕ, List, [], ◌∷◌, ◌++◌, ℤ, pos, Some, None, Option, refl, sym, ap, ◌∙◌, subst}
+use Rattle.std.proofs.Common.{◌≡◌, ◌≢◌, ℕ, List, [], ◌∷◌, ◌++◌, ℤ, pos, Some, None, Option, map, length, refl, sym, ap, ◌∙◌, subst, arith}
+use Rattle.std.proofs.lemmas.List.{map-append}
 use Rattle.homeo_syntax.specs.Key.{words as tree_words}
 use Rattle.homeo_syntax.specs.Low as L
+use Rattle.homeo_syntax.specs.declared.phrase.Compare.TheVariants as compare
 use Rattle.homeo_syntax.specs.Source as s
 use Rattle.homeo_syntax.specs.LowView.{low_exprs, low_tests, low_commands, plain_lexpr, plain_ltest, plain_lcommand}
 use Rattle.homeo_meaning.specs.Key.{words as meaning_words}
-use Rattle.homeo_meaning.specs.Context.{Spot, Slot, Context}
-use Rattle.homeo_meaning.specs.LForm.{Lifted, Made, AllMade, both, one, plain, mapped, joined, visits, equal, read, literal_of, indexed_by, indexed, lift, lift_all, lift_test, lift_cond}
+use Rattle.homeo_meaning.specs.Context.{Spot, Slot, Context, slots, fields, spot}
+use Rattle.homeo_meaning.specs.LForm.{Lifted, Made, AllMade, both, one, in_front, within, plain, mapped, joined, visits, equal, read, literal_of, indexed_by, indexed, lift, lift_all, lift_test, lift_cond}
 use Rattle.homeo_desugar.specs.Key.{words}
 use Rattle.homeo_desugar.specs.Made.{made, IsLifted, IsAdded, IsTested, both_tests}
 use Rattle.homeo_desugar.specs.Visits.{used_and}
 use Rattle.homeo_desugar.specs.declared.making.Making.{Making}
+use Rattle.homeo_syntax.specs.declared.low.LTest.{LTest}
 use Rattle.homeo_syntax.specs.declared.low.LCommand.{LCommand}
 
 -- ---- lists of L
@@ -44,6 +47,35 @@ unfolding words tree_words
 tests_more [] t = refl
 tests_more (u ∷ ts) t = ap (L.MoreTest u) (tests_more ts t)
 
+-- a command behind those that were there
+pub made_push : (cs : List LCommand) (c : LCommand) → low_commands (map plain_lcommand (cs ++ c ∷ [])) ≡ both (low_commands (map plain_lcommand cs)) (one (plain_lcommand c))
+made_push cs c = ap low_commands (map-append plain_lcommand cs (c ∷ [])) ∙ low_more (map plain_lcommand cs) (plain_lcommand c)
+
+pub tests_push : (ts : List LTest) (t : LTest) → low_tests (map plain_ltest (ts ++ t ∷ [])) ≡ both_tests (low_tests (map plain_ltest ts)) (L.MoreTest (plain_ltest t) L.NoTest)
+tests_push ts t = ap low_tests (map-append plain_ltest ts (t ∷ [])) ∙ tests_more (map plain_ltest ts) (plain_ltest t)
+
+-- a command behind no others
+pub front_alone : (cs : List LCommand) (c : L.Command) → length cs ≡ 0 → c ≡ in_front (low_commands (map plain_lcommand cs)) c
+unfolding meaning_words tree_words
+front_alone [] c h = refl
+front_alone (d ∷ cs) c h = absurd (omega arith)
+
+-- and behind some
+pub front_more : (cs : List LCommand) (c : LCommand) → length cs ≢ 0 → L.Seq (low_commands (map plain_lcommand (cs ++ c ∷ []))) ≡ in_front (low_commands (map plain_lcommand cs)) (plain_lcommand c)
+unfolding meaning_words tree_words
+front_more [] c h = absurd (h refl)
+front_more (d ∷ cs) c h = ap (λ u. L.Seq (L.MoreCommand (plain_lcommand d) u)) (made_push cs c)
+
+-- the two tests of whether a value is within bounds
+pub within_push : (ts : List LTest) (a b : LTest) (s : Spot) (e : L.Expr) → plain_ltest a ≡ L.Comparison compare.LessEqual (L.Literal s.lo) e → plain_ltest b ≡ L.Comparison compare.LessEqual e (L.Literal s.hi) →
+    low_tests (map plain_ltest ((ts ++ a ∷ []) ++ b ∷ [])) ≡ both_tests (low_tests (map plain_ltest ts)) (within s e L.NoTest)
+unfolding words meaning_words
+within_push ts a b s e h k =
+    tests_push (ts ++ a ∷ []) b
+    ∙ ap (λ c. both_tests c (L.MoreTest (plain_ltest b) L.NoTest)) (tests_push ts a)
+    ∙ tests_tests (low_tests (map plain_ltest ts)) (L.MoreTest (plain_ltest a) L.NoTest) (L.MoreTest (plain_ltest b) L.NoTest)
+    ∙ (λ i. both_tests (low_tests (map plain_ltest ts)) (L.MoreTest (h i) (L.MoreTest (k i) L.NoTest)))
+
 -- ---- liftings
 -- nothing is made
 pub lifted_plain : {A : Type 0} (m : Making) (a b : A) → b ≡ a → IsLifted m m (plain a m.next) b
@@ -66,7 +98,7 @@ lifted_joined {A} {B} {C} f old mid new x y a b c e h k =
     }
 
 -- ---- lists of phrases
-pub both_exprs : L.Exprs → L.Exprs → L.Exprs
+abbrev pub both_exprs : L.Exprs → L.Exprs → L.Exprs
 both_exprs L.NoExpr fs = fs
 both_exprs (L.MoreExpr e es) fs = L.MoreExpr e (both_exprs es fs)
 
@@ -133,6 +165,11 @@ unfolding meaning_words
 visits_end test body old now whole l = record { commands = sym (both_none (made now)) ∙ l.commands; next = l.next }
 
 -- ---- fields by an index
+indexed_alone : (o : Option ℤ) (all : List Slot) (f : Spot) (x : Lifted L.Expr) (v : ℤ) → literal_of (indexed_by o all f x).phrase ≡ Some v → (indexed_by o all f x).before ≡ L.NoCommand
+unfolding meaning_words
+indexed_alone (Some w) all f x v h = refl
+indexed_alone None all f x v h = let no : ⊥ = cc in absurd no
+
 -- what is lifted to a literal has no commands
 pub literal_alone : (x : Context) (e : s.Expr) (n : ℕ) (v : ℤ) → literal_of (lift x e n).phrase ≡ Some v → (lift x e n).before ≡ L.NoCommand
 unfolding meaning_words
@@ -142,7 +179,7 @@ literal_alone x (s.Read o) n v h = refl
 literal_alone x (s.Sum es) n v h = let no : ⊥ = cc in absurd no
 literal_alone x (s.Product es) n v h = let no : ⊥ = cc in absurd no
 literal_alone x (s.Neg e) n v h = let no : ⊥ = cc in absurd no
-literal_alone x (s.Field q e f) n v h = {! !}
+literal_alone x (s.Field q e f) n v h = indexed_alone (literal_of (lift x e n).phrase) (slots x q.name) (spot (fields x q.name) f.name) (lift x e n) v h
 literal_alone x (s.Row r f) n v h = refl
 literal_alone x (s.Count r q b) n v h = let no : ⊥ = cc in absurd no
 literal_alone x (s.Total r f q b) n v h = let no : ⊥ = cc in absurd no

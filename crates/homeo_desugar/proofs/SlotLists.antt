@@ -1,14 +1,17 @@
 -- The slots of a relation, one after another.
-use Rattle.std.proofs.Common.{◌≡◌, ◌≢◌, ◌⊎◌, inl, inr, ℕ, zero, suc, ◌+◌, ◌*◌, ◌-◌, ◌<◌, ◌≤◌, ◌^◌, ◌==◌, Bool, true, false, cond, List, [], ◌∷◌, ℤ, pos, negsuc, Some, None, map, length, refl, sym, ap, ◌∙◌, subst, arith}
+use Rattle.std.proofs.Common.{◌≡◌, ◌≢◌, ◌⊎◌, inl, inr, ℕ, zero, suc, ◌+◌, ◌*◌, ◌<◌, ◌≤◌, ◌^◌, ◌==◌, Bool, true, false, cond, List, [], ◌∷◌, ℤ, pos, negsuc, ◌≤ℤ◌, ◌<ℤ◌, SFits, w64, to_z, of_z, Option, Some, None, map, length, refl, sym, ap, ◌∙◌, subst, arith}
+use Rattle.std.specs.Prelude.{int_lt, int_le}
 use Rattle.std.specs.Ordering.{int_eq}
+use Rattle.std.specs.Int.RustNames.{unsigned_abs}
+use Rattle.std.proofs.lemmas.Int.{ints, to_z-of_z}
 use Rattle.std.proofs.lemmas.List.{length-map}
 use Rattle.std.proofs.lemmas.Bool.{eq-eqb}
 use Rattle.std.proofs.lemmas.Bool.Decides.{nat_tests}
 use Rattle.homeo_meaning.specs.Key.{words as meaning_words}
-use Rattle.homeo_meaning.specs.Schema.{Declared, Relation, declared_range}
-use Rattle.homeo_meaning.specs.Context.{Slot, Context, slots_from, slot_at, first_where, object_count, bind}
+use Rattle.homeo_meaning.specs.Schema.{Declared, declared_range}
+use Rattle.homeo_meaning.specs.Context.{Slot, slots_from, slot_at}
 use Rattle.homeo_desugar.specs.Key.{words}
-use Rattle.homeo_desugar.specs.Settings.{slots_after, plain_slots, slot_of, end_of, IsLow, Fits}
+use Rattle.homeo_desugar.specs.Settings.{slots_after, plain_slots, slot_of, end_of, IsLow}
 use Rattle.homeo_desugar.specs.declared.slots.Slots as all
 
 regroup : (first number w : ℕ) → first + number * w + w ≡ first + suc number * w
@@ -23,7 +26,7 @@ unfolding words meaning_words
 slots_next s number left =
     let fields : List Declared = map declared_range s.fields.now in
     let w : ℕ = 1 + length s.fields.now in
-    let width : 1 + length fields ≡ w = ap suc (length-map s.fields.now declared_range) in
+    let width : 1 + length fields ≡ w = ap (λ n. 1 + n) (length-map s.fields.now declared_range) in
     let begins : s.first + number * w + (1 + length fields) ≡ s.first + suc number * w = ap (λ n. s.first + number * w + n) width ∙ regroup s.first number w in
     ap (λ n. slot_of s number ∷ slots_from (suc number) n fields left) begins
 
@@ -48,48 +51,86 @@ slot_low s number h e =
     omega arith
 
 -- ---- the slot of a number
+same_number : (v n : ℕ) → int_eq (pos v) (pos n) ≡ true → n ≡ v
+same_number v n h = grind (arith, ints)
+
+other_number : (v n : ℕ) → int_eq (pos v) (pos n) ≡ false → v ≢ n
+other_number v n h = grind (arith, ints)
+
+found_step : (s : all.Slots) (number v : ℕ) (rest : Option Slot) (b : Bool) → int_eq (pos v) (pos number) ≡ b → (v ≢ number → rest ≡ Some (slot_of s v)) → cond b (Some (slot_of s number)) rest ≡ Some (slot_of s v)
+found_step s number v rest true e h = ap (λ n. Some (slot_of s n)) (same_number v number e)
+found_step s number v rest false e h = h (other_number v number e)
+
 found_at : (s : all.Slots) (number left v : ℕ) → number ≤ v → v < number + left → slot_at (pos v) (slots_after s number left) ≡ Some (slot_of s v)
-unfolding meaning_words
+unfolding meaning_words words
 found_at s number zero v h k = absurd (omega arith)
 found_at s number (suc left) v h k =
-    ap (slot_at (pos v)) (slots_next s number left) ∙ go (v == number) refl
-  where
-    go : (b : Bool) → (v == number) ≡ b → cond (v == number) (Some (slot_of s number)) (slot_at (pos v) (slots_after s (suc number) left)) ≡ Some (slot_of s v)
-    go true e =
-        ap (λ b. cond b (Some (slot_of s number)) (slot_at (pos v) (slots_after s (suc number) left))) e
-        ∙ ap (λ n. Some (slot_of s n)) (let same : number ≡ v = grind (arith, nat_tests) in same)
-    go false e =
-        let differs : v ≢ number = grind (arith, nat_tests) in
-        ap (λ b. cond b (Some (slot_of s number)) (slot_at (pos v) (slots_after s (suc number) left))) e
-        ∙ found_at s (suc number) left v (omega (arith, differs)) (omega arith)
+    ap (slot_at (pos v)) (slots_next s number left)
+    ∙ found_step s number v (slot_at (pos v) (slots_after s (suc number) left)) (int_eq (pos v) (pos number)) refl (λ d. found_at s (suc number) left v (omega arith) (omega arith))
 
--- a number below the first or behind the last
-outside_at : (s : all.Slots) (number left v : ℕ) → ((v < number) ⊎ (number + left ≤ v)) → slot_at (pos v) (slots_after s number left) ≡ None
-unfolding meaning_words
-outside_at s number zero v h = refl
-outside_at s number (suc left) v h =
-    ap (slot_at (pos v)) (slots_next s number left) ∙ go (v == number) refl
-  where
-    differs : ((v < number) ⊎ (number + suc left ≤ v)) → (v == number) ≡ true → ⊥
-    differs h e = elim h [ inl l ↦ (let same : v ≡ number = grind (arith, nat_tests) in absurd (omega (arith, same))) | inr r ↦ (let same : v ≡ number = grind (arith, nat_tests) in absurd (omega (arith, same))) ]
+-- a number behind the last
+past_step : (slot : Slot) (number v : ℕ) (rest : Option Slot) (b : Bool) → int_eq (pos v) (pos number) ≡ b → number < v → rest ≡ None → cond b (Some slot) rest ≡ None
+past_step slot number v rest true e d h = let same = same_number v number e in absurd (omega (arith, same))
+past_step slot number v rest false e d h = h
 
-    later : ((v < number) ⊎ (number + suc left ≤ v)) → ((v < suc number) ⊎ (suc number + left ≤ v))
-    later h = elim h [ inl l ↦ inl (omega (arith, l)) | inr r ↦ inr (omega (arith, r)) ]
-
-    go : (b : Bool) → (v == number) ≡ b → cond (v == number) (Some (slot_of s number)) (slot_at (pos v) (slots_after s (suc number) left)) ≡ None
-    go true e = absurd (differs h e)
-    go false e = ap (λ b. cond b (Some (slot_of s number)) (slot_at (pos v) (slots_after s (suc number) left))) e ∙ outside_at s (suc number) left v (later h)
+past_at : (s : all.Slots) (number left v : ℕ) → number + left ≤ v → slot_at (pos v) (slots_after s number left) ≡ None
+unfolding meaning_words words
+past_at s number zero v h = refl
+past_at s number (suc left) v h =
+    ap (slot_at (pos v)) (slots_next s number left)
+    ∙ past_step (slot_of s number) number v (slot_at (pos v) (slots_after s (suc number) left)) (int_eq (pos v) (pos number)) refl (omega arith) (past_at s (suc number) left v (omega arith))
 
 negative_at : (s : all.Slots) (number left v : ℕ) → slot_at (negsuc v) (slots_after s number left) ≡ None
-unfolding meaning_words
+unfolding meaning_words words
 negative_at s number zero v = refl
 negative_at s number (suc left) v = ap (slot_at (negsuc v)) (slots_next s number left) ∙ negative_at s (suc number) left v
 
-pub at_found : (s : all.Slots) (v : ℕ) → v < s.count → slot_at (pos v) (plain_slots s) ≡ Some (slot_of s v)
-at_found s v h = ap (slot_at (pos v)) (sym (slots_all s)) ∙ found_at s 0 s.count v (omega arith) h
+at_found : (s : all.Slots) (v : ℕ) → v < s.count → slot_at (pos v) (plain_slots s) ≡ Some (slot_of s v)
+at_found s v h = ap (slot_at (pos v)) (sym (slots_all s)) ∙ found_at s 0 s.count v (omega arith) (omega arith)
 
-pub at_past : (s : all.Slots) (v : ℕ) → s.count ≤ v → slot_at (pos v) (plain_slots s) ≡ None
-at_past s v h = ap (slot_at (pos v)) (sym (slots_all s)) ∙ outside_at s 0 s.count v (inr h)
+at_past : (s : all.Slots) (v : ℕ) → s.count ≤ v → slot_at (pos v) (plain_slots s) ≡ None
+at_past s v h = ap (slot_at (pos v)) (sym (slots_all s)) ∙ past_at s 0 s.count v (omega arith)
 
-pub at_negative : (s : all.Slots) (v : ℕ) → slot_at (negsuc v) (plain_slots s) ≡ None
+at_negative : (s : all.Slots) (v : ℕ) → slot_at (negsuc v) (plain_slots s) ≡ None
 at_negative s v = ap (slot_at (negsuc v)) (sym (slots_all s)) ∙ negative_at s 0 s.count v
+
+-- ---- the slot that an index of the code names
+below : (s : all.Slots) (v : ℤ) → v <ℤ pos 0 → None ≡ slot_at v (plain_slots s)
+below s (pos n) h = absurd (omega (arith, ints, h))
+below s (negsuc n) h = sym (at_negative s n)
+
+beyond : (s : all.Slots) (v : ℤ) → pos s.count ≤ℤ v → None ≡ slot_at v (plain_slots s)
+beyond s (pos n) h = sym (at_past s n (omega (arith, ints, h)))
+beyond s (negsuc n) h = sym (at_negative s n)
+
+inside : (s : all.Slots) (v : ℤ) (slot : Slot) → pos 0 ≤ℤ v → v <ℤ pos s.count → slot ≡ slot_of s (unsigned_abs v) → Some slot ≡ slot_at v (plain_slots s)
+inside s (pos n) slot h k e = ap Some e ∙ sym (at_found s n (omega (arith, ints, k)))
+inside s (negsuc n) slot h k e = absurd (omega (arith, ints, h))
+
+less : (a b : ℤ) → int_lt a b ≡ true → a <ℤ b
+less a b h = grind (arith, ints)
+
+not_less : (a b : ℤ) → int_lt a b ≡ false → b ≤ℤ a
+not_less a b h = grind (arith, ints)
+
+at_most : (a b : ℤ) → int_le a b ≡ true → a ≤ℤ b
+at_most a b h = grind (arith, ints)
+
+not_at_most : (a b : ℤ) → int_le a b ≡ false → b <ℤ a
+not_at_most a b h = grind (arith, ints)
+
+pub at_below : (s : all.Slots) (v : ℤ) → SFits w64 v → int_lt (to_z w64 (of_z w64 v)) (pos 0) ≡ true → None ≡ slot_at v (plain_slots s)
+at_below s v f h = below s v (less v (pos 0) (subst (λ z. int_lt z (pos 0) ≡ true) (to_z-of_z w64 v f) h))
+
+from_both : (v count : ℤ) (n : ℕ) (b : Bool) → SFits w64 v → SFits w64 count → count ≡ pos n → int_le (to_z w64 (of_z w64 count)) (to_z w64 (of_z w64 v)) ≡ b → int_le (pos n) v ≡ b
+from_both v count n b f g e h =
+    let by_index : int_le (to_z w64 (of_z w64 count)) v ≡ b = subst (λ z. int_le (to_z w64 (of_z w64 count)) z ≡ b) (to_z-of_z w64 v f) h in
+    subst (λ z. int_le z v ≡ b) (to_z-of_z w64 count g ∙ e) by_index
+
+pub at_beyond : (s : all.Slots) (v count : ℤ) → SFits w64 v → SFits w64 count → count ≡ pos s.count → int_le (to_z w64 (of_z w64 count)) (to_z w64 (of_z w64 v)) ≡ true → None ≡ slot_at v (plain_slots s)
+at_beyond s v count f g e h = beyond s v (at_most (pos s.count) v (from_both v count s.count true f g e h))
+
+pub at_inside : (s : all.Slots) (v count : ℤ) (slot : Slot) → SFits w64 v → SFits w64 count → count ≡ pos s.count → int_lt (to_z w64 (of_z w64 v)) (pos 0) ≡ false → int_le (to_z w64 (of_z w64 count)) (to_z w64 (of_z w64 v)) ≡ false → slot ≡ slot_of s (unsigned_abs (to_z w64 (of_z w64 v))) → Some slot ≡ slot_at v (plain_slots s)
+at_inside s v count slot f g e low high k =
+    let same : to_z w64 (of_z w64 v) ≡ v = to_z-of_z w64 v f in
+    inside s v slot (not_less v (pos 0) (subst (λ z. int_lt z (pos 0) ≡ false) same low)) (not_at_most (pos s.count) v (from_both v count s.count false f g e high)) (k ∙ ap (λ z. slot_of s (unsigned_abs z)) same)

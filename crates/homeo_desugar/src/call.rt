@@ -35,12 +35,10 @@ fn form_transaction<'a>(
     ensures { IfOk result (λ c. plain_lcommand c ≡ l_form (schema_with objects.now relations.now)
         (map (λ p. p.name.name) t.now.params.items) args.now (plain_transaction t.now).body) }
 {
-    let declared = objects.len();
     let frame = Frame {
         objects,
-        declared,
         relations,
-        past: objects_past(relations, declared),
+        past: objects_past(relations, objects.len()),
         params: t.params.as_slice(),
         args,
         rows: Rows::Outside,

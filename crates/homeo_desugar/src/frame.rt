@@ -16,8 +16,7 @@ use homeo_syntax::{LExpr, RangeDecl, RelationDecl, Temp};
 #[derive(Clone, Copy)]
 pub(crate) struct Frame<'a> {
     pub(crate) objects: &'a Objects,
-    /// The number of declared objects, behind which those of the relations stand.
-    pub(crate) declared: u32,
+    /// Their objects stand behind the declared ones.
     pub(crate) relations: &'a [RelationDecl],
     /// The number of all objects.
     pub(crate) past: u32,
@@ -108,7 +107,7 @@ impl<'a> Frame<'a> {
         ensures fields { map declared_range result.fields.now ≡ fields (setting self.now) name }
         ensures fits { SlotsFit result }
     {
-        find(self.relations, self.declared, name)
+        find(self.relations, self.objects.len(), name)
     }
 
     /// The slot of the row of a name: where no such row is in force, one past all objects.
