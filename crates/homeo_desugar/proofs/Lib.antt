@@ -17,6 +17,7 @@ pub mod Numbers
 pub mod Passing
 pub mod Rows
 pub mod Schemas
+pub mod SlotChains
 pub mod SlotLists
 pub mod Runs
 pub mod Stays

@@ -1,5 +1,5 @@
 -- The slots of a relation, one after another.
-use Rattle.std.proofs.Common.{◌≡◌, ◌≢◌, ◌⊎◌, inl, inr, ℕ, zero, suc, ◌+◌, ◌*◌, ◌<◌, ◌≤◌, ◌^◌, ◌==◌, Bool, true, false, cond, List, [], ◌∷◌, ℤ, pos, negsuc, ◌≤ℤ◌, ◌<ℤ◌, SFits, w64, to_z, of_z, Option, Some, None, map, length, refl, sym, ap, ◌∙◌, subst, arith}
+use Rattle.std.proofs.Common.{◌≡◌, ◌≢◌, ◌⊎◌, inl, inr, ℕ, zero, suc, ◌+◌, ◌-◌, ◌*◌, ◌<◌, ◌≤◌, ◌^◌, ◌==◌, Bool, true, false, cond, List, [], ◌∷◌, ℤ, pos, negsuc, ◌≤ℤ◌, ◌<ℤ◌, SFits, w64, to_z, of_z, Option, Some, None, map, length, refl, sym, ap, ◌∙◌, subst, arith}
 use Rattle.std.specs.Prelude.{int_lt, int_le}
 use Rattle.std.specs.Ordering.{int_eq}
 use Rattle.std.specs.Int.RustNames.{unsigned_abs}
@@ -11,7 +11,8 @@ use Rattle.homeo_meaning.specs.Key.{words as meaning_words}
 use Rattle.homeo_meaning.specs.Schema.{Declared, declared_range}
 use Rattle.homeo_meaning.specs.Context.{Slot, slots_from, slot_at}
 use Rattle.homeo_desugar.specs.Key.{words}
-use Rattle.homeo_desugar.specs.Settings.{slots_after, plain_slots, slot_of, end_of, IsLow}
+use Rattle.homeo_desugar.specs.Settings.{slots_after, plain_slot, plain_slots, slot_of, end_of, IsLow, SlotsFit}
+use Rattle.homeo_desugar.specs.declared.slots.Slot as code
 use Rattle.homeo_desugar.specs.declared.slots.Slots as all
 
 regroup : (first number w : ℕ) → first + number * w + w ≡ first + suc number * w
@@ -48,6 +49,44 @@ unfolding words
 slot_low s number h e =
     let k = slot_end s.first s.count number (length s.fields.now) h in
     let m : length (map declared_range s.fields.now) ≡ length s.fields.now = length-map s.fields.now declared_range in
+    omega arith
+
+-- ---- from the last slot backwards
+-- behind the last there is none
+pub none_after : (s : all.Slots) → slots_after s s.count (s.count - s.count) ≡ []
+unfolding words meaning_words
+none_after s = ap (slots_after s s.count) (let none : s.count - s.count ≡ 0 = omega arith in none)
+
+-- one slot more
+pub one_more : (s : all.Slots) (number : ℕ) → 0 < number → number ≤ s.count → slots_after s (number - 1) (s.count - (number - 1)) ≡ slot_of s (number - 1) ∷ slots_after s number (s.count - number)
+one_more s number h k =
+    let left : s.count - (number - 1) ≡ suc (s.count - number) = omega arith in
+    let next : suc (number - 1) ≡ number = omega arith in
+    ap (slots_after s (number - 1)) left ∙ slots_next s (number - 1) (s.count - number) ∙ ap (λ n. slot_of s (number - 1) ∷ slots_after s n (s.count - number)) next
+
+pub all_after : (s : all.Slots) (number : ℕ) → number ≤ 0 → slots_after s number (s.count - number) ≡ plain_slots s
+all_after s number h =
+    let first : number ≡ 0 = omega arith in
+    let left : s.count - number ≡ s.count = omega arith in
+    (λ i. slots_after s (first i) (left i)) ∙ slots_all s
+
+-- the objects of a slot fit
+pub cell_fits : (s : all.Slots) (number place : ℕ) (slot : code.Slot) → number < s.count → SlotsFit s → plain_slot slot ≡ slot_of s number → place ≤ length s.fields.now → slot.used + 1 + place < 2 ^ 32
+unfolding words
+cell_fits s number place slot h fits e k =
+    let low : IsLow (slot_of s number) = slot_low s number h fits.objects in
+    let used : slot.used ≡ s.first + number * (1 + length s.fields.now) = ap (λ (x : Slot). x.used) e in
+    let m : length (map declared_range s.fields.now) ≡ length s.fields.now = length-map s.fields.now declared_range in
+    omega arith
+
+-- the slot of a number is low
+pub slot_is_low : (s : all.Slots) (number : ℕ) (slot : code.Slot) → number < s.count → SlotsFit s → plain_slot slot ≡ slot_of s number → IsLow (plain_slot slot)
+slot_is_low s number slot h fits e = subst IsLow (sym e) (slot_low s number h fits.objects)
+
+pub low_used : (slot : code.Slot) → IsLow (plain_slot slot) → slot.used + 1 + length slot.fields.now < 2 ^ 32
+unfolding words
+low_used slot h =
+    let m : length (map declared_range slot.fields.now) ≡ length slot.fields.now = length-map slot.fields.now declared_range in
     omega arith
 
 -- ---- the slot of a number
