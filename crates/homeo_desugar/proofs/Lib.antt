@@ -6,6 +6,7 @@ pub mod Equations
 pub mod Few
 pub mod FieldNames
 pub mod Fields
+pub mod Forms
 pub mod Fresh
 pub mod Lifts
 pub mod Light

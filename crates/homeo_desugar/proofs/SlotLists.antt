@@ -1,6 +1,6 @@
 -- The slots of a relation, one after another.
 use Rattle.std.proofs.Common.{◌≡◌, ◌≢◌, ◌⊎◌, inl, inr, ℕ, zero, suc, ◌+◌, ◌-◌, ◌*◌, ◌<◌, ◌≤◌, ◌^◌, ◌==◌, Bool, true, false, cond, List, [], ◌∷◌, ℤ, pos, negsuc, ◌≤ℤ◌, ◌<ℤ◌, SFits, w64, to_z, of_z, Option, Some, None, map, length, refl, sym, ap, ◌∙◌, subst, arith}
-use Rattle.std.specs.Prelude.{int_lt, int_le}
+use Rattle.std.specs.Prelude.{int_lt, int_le, option_map}
 use Rattle.std.specs.Ordering.{int_eq}
 use Rattle.std.specs.Int.RustNames.{unsigned_abs}
 use Rattle.std.proofs.lemmas.Int.{ints, to_z-of_z}
@@ -50,6 +50,17 @@ slot_low s number h e =
     let k = slot_end s.first s.count number (length s.fields.now) h in
     let m : length (map declared_range s.fields.now) ≡ length s.fields.now = length-map s.fields.now declared_range in
     omega arith
+
+-- ---- from the first slot on
+pub one_on : (s : all.Slots) (number : ℕ) → number < s.count → slots_after s number (s.count - number) ≡ slot_of s number ∷ slots_after s (number + 1) (s.count - (number + 1))
+one_on s number h =
+    let left : s.count - number ≡ suc (s.count - (number + 1)) = omega arith in
+    let next : suc number ≡ number + 1 = omega arith in
+    ap (slots_after s number) left ∙ slots_next s number (s.count - (number + 1)) ∙ ap (λ n. slot_of s number ∷ slots_after s n (s.count - (number + 1))) next
+
+pub none_on : (s : all.Slots) (number : ℕ) → s.count ≤ number → slots_after s number (s.count - number) ≡ []
+unfolding words meaning_words
+none_on s number h = ap (slots_after s number) (let none : s.count - number ≡ 0 = omega arith in none)
 
 -- ---- from the last slot backwards
 -- behind the last there is none
@@ -173,3 +184,32 @@ pub at_inside : (s : all.Slots) (v count : ℤ) (slot : Slot) → SFits w64 v �
 at_inside s v count slot f g e low high k =
     let same : to_z w64 (of_z w64 v) ≡ v = to_z-of_z w64 v f in
     inside s v slot (not_less v (pos 0) (subst (λ z. int_lt z (pos 0) ≡ false) same low)) (not_at_most (pos s.count) v (from_both v count s.count false f g e high)) (k ∙ ap (λ z. slot_of s (unsigned_abs z)) same)
+
+-- ---- what an index names is one of the slots
+pub record IsNumbered (s : all.Slots) (slot : Slot) : Type 0 where
+  pub number : ℕ
+  pub within : number < s.count
+  pub is : slot ≡ slot_of s number
+
+no_slot : {A : Type 0} (x : A) → None ≡ Some x → ⊥
+no_slot x e = cc
+
+that_slot : (x y : Slot) → Some x ≡ Some y → y ≡ x
+that_slot x y e = cc
+
+numbered_step : (s : all.Slots) (number : ℕ) (b : Bool) (rest : Option Slot) (slot : Slot) → number < s.count → cond b (Some (slot_of s number)) rest ≡ Some slot → (rest ≡ Some slot → IsNumbered s slot) → IsNumbered s slot
+numbered_step s number true rest slot h e more = record { number = number; within = h; is = that_slot (slot_of s number) slot e }
+numbered_step s number false rest slot h e more = more e
+
+numbered : (s : all.Slots) (number left : ℕ) (v : ℤ) (slot : Slot) → number + left ≤ s.count → slot_at v (slots_after s number left) ≡ Some slot → IsNumbered s slot
+unfolding meaning_words words
+numbered s number zero v slot h e = absurd (no_slot slot e)
+numbered s number (suc left) v slot h e =
+    numbered_step s number (int_eq v (pos number)) (slot_at v (slots_after s (suc number) left)) slot (omega arith) (sym (ap (slot_at v) (slots_next s number left)) ∙ e) (λ more. numbered s (suc number) left v slot (omega arith) more)
+
+pub at_numbered : (s : all.Slots) (v : ℤ) (found : Option code.Slot) (slot : code.Slot) → option_map plain_slot found ≡ slot_at v (plain_slots s) → found ≡ Some slot → IsNumbered s (plain_slot slot)
+at_numbered s v found slot e is =
+    numbered s 0 s.count v (plain_slot slot) (omega arith) (ap (slot_at v) (slots_all s) ∙ sym e ∙ ap (option_map plain_slot) is)
+
+pub numbered_fits : (s : all.Slots) (place : ℕ) (slot : code.Slot) → SlotsFit s → IsNumbered s (plain_slot slot) → place ≤ length s.fields.now → slot.used + 1 + place < 2 ^ 32
+numbered_fits s place slot fits n h = cell_fits s n.number place slot n.within fits n.is h

@@ -14,7 +14,7 @@ ghost use Rattle.homeo_desugar.specs.Visits.{updating, running};
 use crate::chains::{all_within, fill_chain, write_chain};
 use crate::frame::Frame;
 use crate::lifting::{lift, lift_cond, lift_visit};
-use crate::making::{Making, Target, choice, guarded, within};
+use crate::making::{Making, Target, choice, guarded, literal_of, within};
 use crate::objects::Spot;
 use crate::slots::{Slot, Slots, field};
 use homeo_syntax::{
@@ -116,9 +116,9 @@ fn set_field(
     let mut out = Making::from(alloc, *next);
     let index = lift(alloc, index, frame, &mut out)?;
     let field = field(slots.fields, name);
-    if let LExpr::Literal(number) = &index {
+    if let Some(number) = literal_of(&index) {
         *next = out.next;
-        return match slots.at(*number) {
+        return match slots.at(number) {
             Some(slot) => write_to(alloc, field, slot.cell(field), value, frame, next),
             None => Ok(LCommand::Skip),
         };
@@ -253,7 +253,7 @@ fn update(
 
 /// The L form of a command.
 #[cycle(commands)]
-#[tactic(auto, using(homeo_syntax::proofs::Measures::command_parts, homeo_syntax::proofs::SourceViews::command_views, homeo_syntax::proofs::LowViews::low_command_views, crate::proofs::Equations::steps))]
+#[tactic(auto, using(homeo_syntax::proofs::Measures::command_parts))]
 fn form(
     alloc: Global,
     c: &Command,
@@ -338,7 +338,7 @@ fn form(
 
 /// Runs commands at each used slot where a condition holds.
 #[cycle(commands)]
-#[tactic(auto)]
+#[tactic(auto, using(homeo_syntax::proofs::Measures::command_parts))]
 fn foreach(
     alloc: Global,
     body: &[Command],
@@ -370,7 +370,7 @@ fn foreach(
 
 /// The L forms of commands one after another.
 #[cycle(commands)]
-#[tactic(auto)]
+#[tactic(auto, using(homeo_syntax::proofs::Measures::command_parts))]
 pub(crate) fn form_all(
     alloc: Global,
     cs: &[Command],

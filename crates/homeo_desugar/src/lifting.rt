@@ -12,7 +12,7 @@ ghost use Rattle.homeo_desugar.specs.Visits.{term_of, added, adding, used_and};
 
 use crate::chains::read_chain;
 use crate::frame::Frame;
-use crate::making::{Making, choice, equal, fresh, read};
+use crate::making::{Making, choice, equal, fresh, literal_of, read};
 use crate::slots::{Slot, Slots, field};
 use homeo_syntax::{Cond, Expr, LCommand, LCond, LExpr, LTest, List, Memory, Temp, Test};
 use std::alloc::Global;
@@ -30,8 +30,8 @@ fn indexed(
         (spot (map declared_range slots.entry.fields.now) name) (plain (plain_lexpr index) out.old.next)) (plain_lexpr r)) }
 {
     let field = field(slots.fields, name);
-    if let LExpr::Literal(number) = &index {
-        return Ok(match slots.at(*number) {
+    if let Some(number) = literal_of(&index) {
+        return Ok(match slots.at(number) {
             Some(slot) => read(slot.cell(field)),
             None => LExpr::Literal(0),
         });
@@ -68,7 +68,7 @@ fn add(alloc: Global, total: u32, term: LExpr) -> Result<LCommand, Memory>
 
 /// The L form of an expression. The commands that have to run before it stand behind the others.
 #[cycle(phrases)]
-#[tactic(auto, using(homeo_syntax::proofs::Measures::phrase_parts, homeo_syntax::proofs::SourceViews::phrase_views, homeo_syntax::proofs::LowViews::low_phrase_views, crate::proofs::Equations::phrases))]
+#[tactic(auto, using(homeo_syntax::proofs::Measures::phrase_parts))]
 pub(crate) fn lift(
     alloc: Global,
     e: &Expr,
@@ -125,7 +125,7 @@ pub(crate) fn lift(
 }
 
 #[cycle(phrases)]
-#[tactic(auto)]
+#[tactic(auto, using(homeo_syntax::proofs::Measures::phrase_parts))]
 fn lift_all(
     alloc: Global,
     es: &[Expr],
@@ -146,7 +146,7 @@ fn lift_all(
 }
 
 #[cycle(phrases)]
-#[tactic(auto, using(homeo_syntax::proofs::Measures::phrase_parts, homeo_syntax::proofs::SourceViews::phrase_views, homeo_syntax::proofs::LowViews::low_phrase_views, crate::proofs::Equations::phrases))]
+#[tactic(auto, using(homeo_syntax::proofs::Measures::phrase_parts))]
 fn lift_test(
     alloc: Global,
     t: &Test,
@@ -177,7 +177,7 @@ fn lift_test(
 
 /// The L form of a condition. The commands that have to run before it stand behind the others.
 #[cycle(phrases)]
-#[tactic(auto, using(homeo_syntax::proofs::Measures::phrase_parts, homeo_syntax::proofs::SourceViews::phrase_views, homeo_syntax::proofs::LowViews::low_phrase_views, crate::proofs::Equations::phrases))]
+#[tactic(auto, using(homeo_syntax::proofs::Measures::phrase_parts))]
 pub(crate) fn lift_cond(
     alloc: Global,
     c: &Cond,
@@ -195,7 +195,7 @@ pub(crate) fn lift_cond(
 
 /// The condition that a slot is used and that another holds of it.
 #[cycle(phrases)]
-#[tactic(auto, using(homeo_syntax::proofs::Measures::phrase_parts, homeo_syntax::proofs::SourceViews::phrase_views, homeo_syntax::proofs::LowViews::low_phrase_views, crate::proofs::Equations::phrases))]
+#[tactic(auto, using(homeo_syntax::proofs::Measures::phrase_parts))]
 pub(crate) fn lift_visit(
     alloc: Global,
     c: &Cond,
@@ -215,7 +215,7 @@ pub(crate) fn lift_visit(
 
 /// Puts the L forms of tests behind other tests.
 #[cycle(phrases)]
-#[tactic(auto)]
+#[tactic(auto, using(homeo_syntax::proofs::Measures::phrase_parts))]
 fn lift_tests(
     alloc: Global,
     ts: &[Test],
@@ -237,7 +237,7 @@ fn lift_tests(
 
 /// The number of used slots where a condition holds, or a field added over them, in a fresh temporary.
 #[cycle(phrases)]
-#[tactic(auto)]
+#[tactic(auto, using(homeo_syntax::proofs::Measures::phrase_parts))]
 fn counted(
     alloc: Global,
     test: &Cond,
@@ -264,7 +264,7 @@ fn counted(
 
 /// Adds the used slots where a condition holds to a fresh temporary.
 #[cycle(phrases)]
-#[tactic(auto)]
+#[tactic(auto, using(homeo_syntax::proofs::Measures::phrase_parts))]
 fn add_slots(
     alloc: Global,
     test: &Cond,

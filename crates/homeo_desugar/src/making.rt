@@ -3,7 +3,7 @@
 ghost use Rattle.std.specs.Prelude.{◌≡◌, suc, map, IfOk, OnOk};
 ghost use Rattle.homeo_syntax.specs.Low.{If, Comparison, NoCommand, NoTest};
 ghost use Rattle.homeo_syntax.specs.LowView.{low_tests, plain_lexpr, plain_ltest, plain_lcond, plain_lcommand};
-ghost use Rattle.homeo_meaning.specs.LForm.{both, one, in_front, read, fresh, equal, one_test, within, guarded};
+ghost use Rattle.homeo_meaning.specs.LForm.{both, one, in_front, read, fresh, literal_of, equal, one_test, within, guarded};
 ghost use Rattle.homeo_desugar.specs.Settings.{plain_spot};
 ghost use Rattle.homeo_desugar.specs.Made.{made, both_tests};
 
@@ -86,6 +86,17 @@ pub(crate) fn fresh(temp: u32) -> LExpr
     ensures { plain_lexpr result ≡ fresh temp }
 {
     LExpr::Temp(Temp::Fresh(temp))
+}
+
+/// The number that an expression is, if it is one.
+#[tactic(auto, using(homeo_syntax::proofs::LowViews::low_phrase_views), unfolding(homeo_meaning::specs::Key::words))]
+pub(crate) fn literal_of(e: &LExpr) -> Option<i64>
+    ensures { result ≡ literal_of (plain_lexpr e.now) }
+{
+    match e {
+        LExpr::Literal(number) => Some(*number),
+        LExpr::Temp(_) | LExpr::Read(_) | LExpr::Sum(_) | LExpr::Product(_) | LExpr::Neg(_) => None,
+    }
 }
 
 /// Tests whether an expression has a value.
