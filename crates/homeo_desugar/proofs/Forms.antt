@@ -1,7 +1,8 @@
 -- Commands that are made one after another.
-use Rattle.std.proofs.Common.{◌≡◌, ℕ, suc, ◌+◌, ◌<◌, ◌≤◌, List, [], ◌∷◌, ◌++◌, drop, get_or, map, length, ℤ, pos, Some, None, Option, refl, sym, ap, ◌∙◌, subst, append_assoc, append_nil, add-one}
+use Rattle.std.proofs.Common.{◌≡◌, ℕ, suc, ◌+◌, ◌<◌, ◌≤◌, List, [], ◌∷◌, ◌++◌, drop, get_or, map, length, All, ℤ, pos, Some, None, Option, refl, sym, ap, ◌∙◌, subst, append_assoc, append-nil, add-one}
 use Rattle.std.proofs.Math.Seq.{drop-cons}
 use Rattle.std.proofs.lemmas.List.{map-append, drop_all}
+use Rattle.std.proofs.lemmas.List.Elements.{All-nil, All-push}
 use Rattle.homeo_syntax.specs.Key.{words as tree_words}
 use Rattle.homeo_syntax.specs.Low as L
 use Rattle.homeo_syntax.specs.Source as s
@@ -11,12 +12,13 @@ use Rattle.homeo_syntax.specs.declared.low.Temp.TheVariants as temp
 use Rattle.homeo_syntax.specs.declared.low.LCommand.{LCommand}
 use Rattle.homeo_syntax.specs.declared.command.Command.{Command}
 use Rattle.homeo_syntax.specs.declared.command.FieldValue.{FieldValue}
+use Rattle.homeo_syntax.specs.declared.workload.RangeDecl.{RangeDecl}
 use Rattle.homeo_meaning.specs.Key.{words as meaning_words}
 use Rattle.homeo_meaning.specs.Schema.{Declared}
 use Rattle.homeo_meaning.specs.Context.{Spot, Slot, Context, slot_at, cell, spot}
-use Rattle.homeo_meaning.specs.LForm.{Lifted, Made, AllMade, Pair, Target, both, one, in_front, joined, literal_of, lift, placed, within, write_chain, pair, write_to, write_at, write_by, write_indexed, stored, lift_values, all_within, fill_chain, inserted, chosen, as_one, form, forms}
+use Rattle.homeo_meaning.specs.LForm.{Lifted, Made, AllMade, Pair, Target, both, one, in_front, joined, literal_of, lift, placed, within, write_chain, pair, write_to, write_field, write_at, write_by, write_indexed, stored, lift_values, all_within, fill_chain, inserted, chosen, as_one, form, forms}
 use Rattle.homeo_desugar.specs.Key.{words}
-use Rattle.homeo_desugar.specs.Made.{made, IsLifted, IsAdded, IsFormed, AreFormed, plain_target}
+use Rattle.homeo_desugar.specs.Made.{made, IsLifted, IsAdded, IsFormed, AreFormed, AreWithin, plain_target}
 use Rattle.homeo_desugar.specs.declared.making.Making.{Making}
 use Rattle.homeo_desugar.specs.declared.making.Target as code
 use Rattle.homeo_desugar.proofs.Makings.{Leaves, both_none, both_both, low_more, made_push, lifted_joined, leaves_step}
@@ -34,6 +36,21 @@ placed_formed {A} f start out n x a c r e first h is front =
       command = front ∙ (λ i. in_front (begun start out (x start.next).before e h.commands i) ((is ∙ ap f h.phrase) i));
       next = h.next;
     })
+
+pub formed_as : (after : ℕ) (x : Made) (r same : L.Command) → r ≡ same → IsFormed after x same → IsFormed after x r
+formed_as after x r same e h = record { command = e ∙ h.command; next = h.next }
+
+pub field_formed : (slot : Slot) (name place after : ℕ) (b : Spot) (x : Lifted L.Expr) (r : L.Command) → b ≡ spot slot.fields name → place ≡ cell slot b → IsFormed after (write_to b place x) r → IsFormed after (write_field slot name x) r
+unfolding meaning_words
+field_formed slot name place after b x r e f h =
+    subst (λ d. IsFormed after (write_to d (cell slot d) x) r) e (subst (λ n. IsFormed after (write_to b n x) r) f h)
+
+-- a value of another context, which is the same
+pub field_in : (x y : Context) (slot : Slot) (name after n : ℕ) (e : s.Expr) (r : L.Command) → y ≡ x → IsFormed after (write_field slot name (lift y e n)) r → IsFormed after (write_field slot name (lift x e n)) r
+field_in x y slot name after n e r same h = subst (λ z. IsFormed after (write_field slot name (lift z e n)) r) same h
+
+pub forms_in : (x y : Context) (cs : s.Commands) (after n : ℕ) (r : L.Commands) → y ≡ x → AreFormed after (forms y cs n) r → AreFormed after (forms x cs n) r
+forms_in x y cs after n r same h = subst (λ z. AreFormed after (forms z cs n) r) same h
 
 -- ---- a write by an index
 pub write_literal : (start out : Making) (n after : ℕ) (x : ℕ → Lifted L.Expr) (y : ℕ → Lifted L.Expr) (all : List Slot) (f : Spot) (i r : L.Expr) (c : L.Command) (v : ℤ) (found : Option Slot) → start.next ≡ n → IsLifted start out (x start.next) i → Some v ≡ literal_of i → slot_at v all ≡ found →
@@ -93,7 +110,7 @@ unfolding meaning_words
 values_end x ds vs i old now targets whole h left =
     let rest : lift_values x ds (map plain_field (drop i vs)) now.next ≡ record { before = L.NoCommand; phrase = []; next = now.next } = ap (λ l. lift_values x ds (map plain_field l) now.next) (drop_all i vs h) in
     let done : Leaves old now [] (map plain_target targets) ◌++◌ (record { before = L.NoCommand; phrase = []; next = now.next }) whole = subst (λ r. Leaves old now [] (map plain_target targets) ◌++◌ r whole) rest left in
-    record { phrase = sym (append_nil (map plain_target targets)) ∙ done.phrase; commands = sym (both_none (made now)) ∙ done.commands; next = done.next }
+    record { phrase = sym (append-nil (map plain_target targets)) ∙ done.phrase; commands = sym (both_none (made now)) ∙ done.commands; next = done.next }
 
 pub inserted_formed : (all : List Slot) (into n : ℕ) (x : ℕ → Lifted (List Target)) (start out new : Making) (xs : List Target) (test : L.Cond) (here none choice : L.Command) → made start ≡ L.NoCommand → start.next ≡ n → IsLifted start out (x start.next) xs → test ≡ all_within xs → here ≡ fill_chain xs into all →
     none ≡ L.Assign (temp.Named into) (L.Literal (pos 0)) → choice ≡ L.If test here none → made new ≡ both (made out) (one choice) → IsFormed out.next (inserted all into (x n)) (L.Seq (made new))
@@ -108,6 +125,15 @@ inserted_formed all into n x start out new xs test here none choice e first h a 
           );
       next = h.next;
     })
+
+-- targets of the fields
+pub within_none : (fields : List RangeDecl) (targets : List code.Target) → targets ≡ [] → AreWithin fields targets
+unfolding words
+within_none fields targets e = subst (All (λ (t : code.Target). t.field.place ≤ length fields)) (sym e) (All-nil (λ (t : code.Target). t.field.place ≤ length fields))
+
+pub within_push : (fields : List RangeDecl) (before after : List code.Target) (target : code.Target) → after ≡ before ++ target ∷ [] → AreWithin fields before → target.field.place ≤ length fields → AreWithin fields after
+unfolding words
+within_push fields before after target e h k = subst (All (λ (t : code.Target). t.field.place ≤ length fields)) (sym e) (All-push (λ (t : code.Target). t.field.place ≤ length fields) before target h k)
 
 -- ---- loops over slots
 pub loop_formed : (start out : Making) (n : ℕ) (x : ℕ → AllMade) (r : L.Command) → made start ≡ L.NoCommand → start.next ≡ n → IsAdded start out (x start.next) → r ≡ L.Seq (made out) → IsFormed out.next (as_one (x n)) r
