@@ -9,14 +9,15 @@ use Rattle.homeo_syntax.specs.Source as s
 use Rattle.homeo_syntax.specs.SourceView.{commands, plain_expr, plain_command, plain_field}
 use Rattle.homeo_syntax.specs.LowView.{low_commands, plain_lcommand}
 use Rattle.homeo_syntax.specs.declared.low.Temp.TheVariants as temp
-use Rattle.homeo_syntax.specs.declared.low.LCommand.{LCommand}
+use Rattle.homeo_syntax.specs.declared.low.LCommand.{LCommand, Skip}
+use Rattle.homeo_syntax.proofs.LowViews.{low_Skip}
 use Rattle.homeo_syntax.specs.declared.command.Command.{Command}
 use Rattle.homeo_syntax.specs.declared.command.FieldValue.{FieldValue}
 use Rattle.homeo_syntax.specs.declared.workload.RangeDecl.{RangeDecl}
 use Rattle.homeo_meaning.specs.Key.{words as meaning_words}
 use Rattle.homeo_meaning.specs.Schema.{Declared}
 use Rattle.homeo_meaning.specs.Context.{Spot, Slot, Context, slot_at, cell, spot}
-use Rattle.homeo_meaning.specs.LForm.{Lifted, Made, AllMade, Pair, Target, both, one, in_front, joined, literal_of, lift, placed, within, write_chain, pair, write_to, write_field, write_at, write_by, write_indexed, stored, lift_values, all_within, fill_chain, inserted, chosen, as_one, form, forms}
+use Rattle.homeo_meaning.specs.LForm.{Lifted, Made, AllMade, Pair, Target, both, one, in_front, joined, visits, literal_of, lift, placed, within, write_chain, pair, write_to, write_field, write_at, write_by, write_indexed, stored, lift_values, all_within, fill_chain, inserted, chosen, as_one, form, forms}
 use Rattle.homeo_desugar.specs.Key.{words}
 use Rattle.homeo_desugar.specs.Made.{made, IsLifted, IsAdded, IsFormed, AreFormed, AreWithin, plain_target}
 use Rattle.homeo_desugar.specs.declared.making.Making.{Making}
@@ -37,13 +38,19 @@ placed_formed {A} f start out n x a c r e first h is front =
       next = h.next;
     })
 
+-- the code's choice between a command and none
+pub or_skip : (test : L.Cond) (here choice : L.Command) → choice ≡ L.If test here (plain_lcommand Skip) → choice ≡ L.If test here L.Skip
+or_skip test here choice e = e ∙ ap (L.If test here) low_Skip
+
 pub formed_as : (after : ℕ) (x : Made) (r same : L.Command) → r ≡ same → IsFormed after x same → IsFormed after x r
 formed_as after x r same e h = record { command = e ∙ h.command; next = h.next }
 
+pub write_as : (slot : Slot) (f : Spot) (place after : ℕ) (b : Spot) (x : Lifted L.Expr) (r : L.Command) → b ≡ f → place ≡ cell slot b → IsFormed after (write_to b place x) r → IsFormed after (write_to f (cell slot f) x) r
+write_as slot f place after b x r e h k = subst (λ d. IsFormed after (write_to d (cell slot d) x) r) e (subst (λ n. IsFormed after (write_to b n x) r) h k)
+
 pub field_formed : (slot : Slot) (name place after : ℕ) (b : Spot) (x : Lifted L.Expr) (r : L.Command) → b ≡ spot slot.fields name → place ≡ cell slot b → IsFormed after (write_to b place x) r → IsFormed after (write_field slot name x) r
 unfolding meaning_words
-field_formed slot name place after b x r e f h =
-    subst (λ d. IsFormed after (write_to d (cell slot d) x) r) e (subst (λ n. IsFormed after (write_to b n x) r) f h)
+field_formed slot name place after b x r e f h = write_as slot (spot slot.fields name) place after b x r e f h
 
 -- a value of another context, which is the same
 pub field_in : (x y : Context) (slot : Slot) (name after n : ℕ) (e : s.Expr) (r : L.Command) → y ≡ x → IsFormed after (write_field slot name (lift y e n)) r → IsFormed after (write_field slot name (lift x e n)) r
@@ -53,10 +60,10 @@ pub forms_in : (x y : Context) (cs : s.Commands) (after n : ℕ) (r : L.Commands
 forms_in x y cs after n r same h = subst (λ z. AreFormed after (forms z cs n) r) same h
 
 -- ---- a write by an index
-pub write_literal : (start out : Making) (n after : ℕ) (x : ℕ → Lifted L.Expr) (y : ℕ → Lifted L.Expr) (all : List Slot) (f : Spot) (i r : L.Expr) (c : L.Command) (v : ℤ) (found : Option Slot) → start.next ≡ n → IsLifted start out (x start.next) i → Some v ≡ literal_of i → slot_at v all ≡ found →
+pub write_literal : (start out : Making) (n after : ℕ) (x : ℕ → Lifted L.Expr) (y : ℕ → Lifted L.Expr) (all : List Slot) (f : Spot) (i : L.Expr) (c : L.Command) (v : ℤ) (found : Option Slot) → start.next ≡ n → IsLifted start out (x start.next) i → Some v ≡ literal_of i → slot_at v all ≡ found →
     IsFormed after (write_at found f out.next y) c → IsFormed after (write_indexed all f (x n) y) c
 unfolding meaning_words
-write_literal start out n after x y all f i r c v found first h e is k =
+write_literal start out n after x y all f i c v found first h e is k =
     let literal : Some v ≡ literal_of (x start.next).phrase = e ∙ ap literal_of h.phrase in
     let by_slot : IsFormed after (write_at (slot_at v all) f out.next y) c = subst (λ o. IsFormed after (write_at o f out.next y) c) (sym is) k in
     let by_next : IsFormed after (write_by (Some v) all f (x start.next) y) c = subst (λ m. IsFormed after (write_at (slot_at v all) f m y) c) h.next by_slot in
@@ -189,6 +196,18 @@ unfolding meaning_words tree_words
 forms_end x cs i now here whole h left =
     let done : FormsLeft here (record { commands = L.NoCommand; next = now }) whole = subst (λ rest. FormsLeft here rest whole) (ap (λ l. forms x (commands (map plain_command l)) now) (drop_all i cs h)) left in
     record { commands = sym (both_none here) ∙ done.commands; next = done.next }
+
+-- ---- slots of the code
+pub indexed_as : (all wanted : List Slot) (ds declared : List Declared) (name after : ℕ) (x : Lifted L.Expr) (y : ℕ → Lifted L.Expr) (r : L.Command) → all ≡ wanted → ds ≡ declared → IsFormed after (write_indexed all (spot ds name) x y) r → IsFormed after (write_indexed wanted (spot declared name) x y) r
+indexed_as all wanted ds declared name after x y r e f h =
+    subst (λ l. IsFormed after (write_indexed l (spot declared name) x y) r) e (subst (λ d. IsFormed after (write_indexed all (spot d name) x y) r) f h)
+
+pub inserted_as : (x : Context) (all wanted : List Slot) (ds declared : List Declared) (into after n : ℕ) (vs : List s.FieldValue) (r : L.Command) → all ≡ wanted → ds ≡ declared → IsFormed after (inserted all into (lift_values x ds vs n)) r → IsFormed after (inserted wanted into (lift_values x declared vs n)) r
+inserted_as x all wanted ds declared into after n vs r e f h =
+    subst (λ l. IsFormed after (inserted l into (lift_values x declared vs n)) r) e (subst (λ d. IsFormed after (inserted all into (lift_values x d vs n)) r) f h)
+
+pub looped_as : (test : Slot → ℕ → Lifted L.Cond) (body : Slot → ℕ → Made) (all wanted : List Slot) (after n : ℕ) (r : L.Command) → all ≡ wanted → IsFormed after (as_one (visits test body all n)) r → IsFormed after (as_one (visits test body wanted n)) r
+looped_as test body all wanted after n r e h = subst (λ l. IsFormed after (as_one (visits test body l n)) r) e h
 
 -- ---- commands of the code
 pub command_formed : (x : Context) (after n : ℕ) (c : Command) (u : s.Command) (r : L.Command) → plain_command c ≡ u → IsFormed after (form x u n) r → IsFormed after (form x (plain_command c) n) r
