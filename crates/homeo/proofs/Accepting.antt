@@ -21,7 +21,7 @@ use Rattle.homeo_meaning.specs.GlobalNames.{GlobalName, SitedCall, global_names,
 use Rattle.homeo_meaning.specs.CallRules.{times, call_count, call_faults, client_faults, scheduled, is_short, end_fault, schedule_faults}
 use Rattle.homeo_meaning.specs.NumberRules.{object_faults, site_faults, site_count_faults, passes_limit, ground_calls, limit_faults}
 use Rattle.homeo_meaning.specs.Faults.{of_transaction, declared_faults, faults}
-use Rattle.homeo_meaning.proofs.FaultParts.{none_first, none_second, parts}
+use Rattle.homeo_meaning.proofs.FaultParts.{none_first, none_second, parts, declared_parts, limit_parts}
 use Rattle.homeo_meaning.specs.declared.call.Purpose.TheVariants.{Steps}
 use Rattle.homeo_meaning.specs.Declarations.{place_of, place_from}
 use Rattle.homeo_meaning.specs.declared.rules.Fault.{Fault}
@@ -323,19 +323,10 @@ record Few (w : s.Workload) : Type 0 where
 few : (w : s.Workload) → limit_faults w ≡ [] → Few w
 unfolding meanings
 few w none =
-    let sites : List Fault = site_count_faults w.sites in
-    let objects : List Fault = each (passes_limit 1024 (λ (d : ObjectDecl). d.name)) w.objects in
-    let transactions : List Fault = each (passes_limit 256 (λ (t : s.Transaction). t.name)) w.transactions in
-    let clients : List Fault = each (passes_limit 64 (λ (c : s.Client). c.name)) w.clients in
-    let calls : List Fault = each (passes_limit 20000 (λ (c : SitedCall). c.name)) (sited_calls w) in
-    let grounds : List Fault = each (passes_limit 1024 (λ (c : SitedCall). c.name)) (ground_calls w) in
-    let to_calls = none_first (sites ++ objects ++ transactions ++ clients ++ calls) grounds none in
-    let to_clients = none_first (sites ++ objects ++ transactions ++ clients) calls to_calls in
-    let to_transactions = none_first (sites ++ objects ++ transactions) clients to_clients in
-    let to_objects = none_first (sites ++ objects) transactions to_transactions in
+    let parts = limit_parts w none in
     record {
-      sites = none_first sites objects to_objects;
-      clients = let many = few_from 64 (λ (c : s.Client). c.name) [] w.clients (omega arith) (none_second (sites ++ objects ++ transactions) clients to_clients) in omega (arith, many);
+      sites = parts.sites;
+      clients = let many = few_from 64 (λ (c : s.Client). c.name) [] w.clients (omega arith) parts.clients in omega (arith, many);
     }
 
 pub whole_order : (w : s.Workload) → IsWellFormed w → faults Steps w ≡ [] → IsWholeOrder w
@@ -373,9 +364,7 @@ sited w (c ∷ cs) none formed =
     (formed.0, less_int w.sites.value c.site.value (when_none (int_le w.sites.value c.site.value) _ site)) (sited w cs rest formed.1)
 
 clients_in : (w : s.Workload) → declared_faults w ≡ [] → flat_map (client_faults w.sites (scope_of w) w.transactions) w.clients ≡ []
-unfolding meanings
-clients_in w none =
-    none_second (flat_map object_faults w.objects ++ flat_map (of_transaction (scope_of w)) w.transactions) (flat_map (client_faults w.sites (scope_of w) w.transactions) w.clients) none
+clients_in w none = (declared_parts w none).clients
 
 pub has_sites : (w : s.Workload) → IsWellFormed w → faults Steps w ≡ [] → HasSites w
 has_sites w formed none =

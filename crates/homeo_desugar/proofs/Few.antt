@@ -18,41 +18,9 @@ use Rattle.homeo_meaning.specs.TransactionRules.{each_from, each}
 use Rattle.homeo_meaning.specs.declared.call.Purpose.TheVariants.{Run}
 use Rattle.homeo_meaning.specs.declared.rules.Fault.{Fault}
 use Rattle.homeo_meaning.specs.declared.rules.Phase.TheVariants.{Limits}
-use Rattle.homeo_meaning.proofs.FaultParts.{none_first, none_second, parts}
+use Rattle.homeo_meaning.proofs.FaultParts.{parts}
+use Rattle.homeo_meaning.proofs.SoundRelations.{few_objects as objects_in_limit}
 use Rattle.homeo_desugar.specs.Found.{AreFound}
-
-not_full : (b : Bool) (x : Ident) → when b (fault Limits x) ≡ [] → b ≡ false
-not_full true x e = cc
-not_full false x e = refl
-
-not_equal : (m n : ℕ) → (m == n) ≡ false → m ≢ n
-not_equal m n h = grind (arith, nat_tests)
-
-within : {A : Type 0} (most : ℕ) (name : A → Ident) (before xs : List A) → each_from (passes_limit most name) before xs ≡ [] → length before ≤ most → length before + length xs ≤ most
-unfolding words
-within most name before [] e h = omega arith
-within most name before (x ∷ xs) e h =
-    let rest : List Fault = each_from (passes_limit most name) (before ++ x ∷ []) xs in
-    let room : length before ≢ most = not_equal (length before) most (not_full (length before == most) (name x) (none_first (when (length before == most) (fault Limits (name x))) rest e)) in
-    let longer : length (before ++ x ∷ []) ≡ length before + 1 = length-append before (x ∷ []) in
-    let more : length (before ++ x ∷ []) + length xs ≤ most = within most name (before ++ x ∷ []) xs (none_second (when (length before == most) (fault Limits (name x))) rest e) (omega arith) in
-    omega arith
-
-limited : (w : s.Workload) → limit_faults w ≡ [] → length w.objects ≤ 1024
-unfolding words
-limited w e5 =
-    let a : List Fault = site_count_faults w.sites in
-    let b : List Fault = each (passes_limit 1024 (λ (d : ObjectDecl). d.name)) w.objects in
-    let c : List Fault = each (passes_limit 256 (λ (t : s.Transaction). t.name)) w.transactions in
-    let d : List Fault = each (passes_limit 64 (λ (c : s.Client). c.name)) w.clients in
-    let f : List Fault = each (passes_limit 20000 (λ (c : SitedCall). c.name)) (sited_calls w) in
-    let g : List Fault = each (passes_limit 1024 (λ (c : SitedCall). c.name)) (ground_calls w) in
-    let e4 = none_first (a ++ b ++ c ++ d ++ f) g e5 in
-    let e3 = none_first (a ++ b ++ c ++ d) f e4 in
-    let e2 = none_first (a ++ b ++ c) d e3 in
-    let e1 = none_first (a ++ b) c e2 in
-    let m : 0 + length w.objects ≤ 1024 = within 1024 (λ (d : ObjectDecl). d.name) [] w.objects (none_second a b e1) (omega arith) in
-    omega arith
 
 small : (n : ℕ) → n ≤ 1024 → n < 2 ^ 32
 small n h = omega arith
@@ -60,7 +28,7 @@ small n h = omega arith
 pub few_objects : (w own : Workload) (os : List ObjectDecl) → own ≡ w → os ≡ own.objects.items → IsAccepted (plain_workload w) → length os < 2 ^ 32
 unfolding tree_words
 few_objects w own os e f accepted =
-    let h : length w.objects.items ≤ 1024 = limited (plain_workload w) (parts Run (plain_workload w) accepted.rules).text.limits in
+    let h : length w.objects.items ≤ 1024 = objects_in_limit (plain_workload w) (parts Run (plain_workload w) accepted.rules).text.limits in
     small (length os) (subst (λ l. length l ≤ 1024) (sym (f ∙ ap (λ w. w.objects.items) e)) h)
 
 -- ---- a name's place is not past the names

@@ -10,21 +10,19 @@ use Rattle.homeo_syntax.specs.Source as s
 use Rattle.homeo_syntax.specs.WellFormed.{Each}
 use Rattle.homeo_syntax.specs.declared.phrase.Ident.{Ident}
 use Rattle.homeo_syntax.specs.declared.phrase.Number.{Number}
-use Rattle.homeo_syntax.specs.declared.workload.ObjectDecl.{ObjectDecl}
 use Rattle.homeo_meaning.specs.Key.{words as meaning_words}
 use Rattle.homeo_meaning.specs.Acceptance.{IsAccepted}
 use Rattle.homeo_meaning.specs.Bindings.{Scope}
 use Rattle.homeo_meaning.specs.Declarations.{declarations, place_from, place_of}
 use Rattle.homeo_meaning.specs.GlobalNames.{SitedCall, scope_of, sited_calls_of, sited_calls}
 use Rattle.homeo_meaning.specs.NameRules.{when, fault}
-use Rattle.homeo_meaning.specs.NumberRules.{same_ground, distinct_after, ground_calls, object_faults, site_faults, site_count_faults, passes_limit, limit_faults}
+use Rattle.homeo_meaning.specs.NumberRules.{same_ground, distinct_after, ground_calls, site_faults, site_count_faults, passes_limit, limit_faults}
 use Rattle.homeo_meaning.specs.CallRules.{call_faults, client_faults}
-use Rattle.homeo_meaning.specs.TransactionRules.{each_from, each}
-use Rattle.homeo_meaning.specs.Faults.{of_transaction}
+use Rattle.homeo_meaning.specs.TransactionRules.{each_from}
 use Rattle.homeo_meaning.specs.declared.call.Purpose.TheVariants.{Run}
 use Rattle.homeo_meaning.specs.declared.rules.Fault.{Fault}
 use Rattle.homeo_meaning.specs.declared.rules.Phase.TheVariants.{Bounds, Limits}
-use Rattle.homeo_meaning.proofs.FaultParts.{none_first, none_second, NoFault, parts}
+use Rattle.homeo_meaning.proofs.FaultParts.{none_first, none_second, NoFault, parts, declared_parts, NoLimitFault, limit_parts}
 use Rattle.homeo_meaning.proofs.SoundRules.{all_none, all_more}
 use Rattle.homeo_ground.specs.Sited.{IsSite}
 
@@ -131,20 +129,11 @@ record AreFew (w : s.Workload) : Type 0 where
 
 few : (w : s.Workload) → limit_faults w ≡ [] → AreFew w
 unfolding meaning_words
-few w e5 =
-    let a : List Fault = site_count_faults w.sites in
-    let b : List Fault = each (passes_limit 1024 (λ (d : ObjectDecl). d.name)) w.objects in
-    let c : List Fault = each (passes_limit 256 (λ (t : s.Transaction). t.name)) w.transactions in
-    let d : List Fault = each (passes_limit 64 (λ (c : s.Client). c.name)) w.clients in
-    let f : List Fault = each (passes_limit 20000 (λ (c : SitedCall). c.name)) (sited_calls w) in
-    let g : List Fault = each (passes_limit 1024 (λ (c : SitedCall). c.name)) (ground_calls w) in
-    let e4 = none_first (a ++ b ++ c ++ d ++ f) g e5 in
-    let e3 = none_first (a ++ b ++ c ++ d) f e4 in
-    let e2 = none_first (a ++ b ++ c) d e3 in
-    let e1 = none_first (a ++ b) c e2 in
-    let m : 0 + length w.transactions ≤ 256 = within 256 (λ (t : s.Transaction). t.name) [] w.transactions (none_second (a ++ b) c e2) (omega arith) in
-    let n : 0 + length (ground_calls w) ≤ 1024 = within 1024 (λ (c : SitedCall). c.name) [] (ground_calls w) (none_second (a ++ b ++ c ++ d ++ f) g e5) (omega arith) in
-    record { sites = none_first a b e1; transactions = omega arith; grounds = omega arith }
+few w e =
+    let p : NoLimitFault w = limit_parts w e in
+    let m : 0 + length w.transactions ≤ 256 = within 256 (λ (t : s.Transaction). t.name) [] w.transactions p.transactions (omega arith) in
+    let n : 0 + length (ground_calls w) ≤ 1024 = within 1024 (λ (c : SitedCall). c.name) [] (ground_calls w) p.grounds (omega arith) in
+    record { sites = p.sites; transactions = omega arith; grounds = omega arith }
 
 no_call : Each StandsAtSite []
 unfolding tree_words
@@ -155,10 +144,7 @@ unfolding meaning_words
 limited w accepted =
     let p : NoFault Run w = parts Run w accepted.rules in
     let h : AreFew w = few w p.text.limits in
-    let objects : List Fault = flat_map object_faults w.objects in
-    let transactions : List Fault = flat_map (of_transaction (scope_of w)) w.transactions in
-    let clients : List Fault = flat_map (client_faults w.sites (scope_of w) w.transactions) w.clients in
-    let sited : Each StandsAtSite (sited_calls w) = clients_sited w.sites (scope_of w) w.transactions w.clients (none_second (objects ++ transactions) clients p.text.declared) h.sites accepted.well_formed.sites in
+    let sited : Each StandsAtSite (sited_calls w) = clients_sited w.sites (scope_of w) w.transactions w.clients (declared_parts w p.text.declared).clients h.sites accepted.well_formed.sites in
     let same : length (map (λ (t : s.Transaction). t.name.name) w.transactions) ≡ length w.transactions = length-map w.transactions (λ (t : s.Transaction). t.name.name) in
     let m : length w.transactions ≤ 256 = h.transactions in
     record {

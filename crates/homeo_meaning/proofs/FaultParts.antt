@@ -1,13 +1,15 @@
 -- A workload without a fault has none of any kind, for each purpose.
 use Rattle.std.proofs.Common.{◌≡◌, List, [], ◌∷◌, ◌++◌, map, Option, Some, None, refl}
+use Rattle.std.specs.List.{flat_map}
 use Rattle.homeo_syntax.specs.Source as s
 use Rattle.homeo_meaning.specs.Key.{words}
 use Rattle.homeo_meaning.specs.TransactionRules.{each}
 use Rattle.homeo_meaning.specs.GlobalNames.{global_names, duplicate, scope_of}
-use Rattle.homeo_meaning.specs.NumberRules.{limit_faults}
-use Rattle.homeo_meaning.specs.CallRules.{schedule_faults}
+use Rattle.homeo_meaning.specs.GlobalNames.{SitedCall, sited_calls}
+use Rattle.homeo_meaning.specs.NumberRules.{object_faults, site_count_faults, slot_faults, too_many_objects, makings, passes_limit, ground_calls, limit_faults}
+use Rattle.homeo_meaning.specs.CallRules.{client_faults, schedule_faults}
 use Rattle.homeo_meaning.specs.SizeRules.{unbuilt_faults, size_faults, print_faults, weight_faults, row_faults}
-use Rattle.homeo_meaning.specs.Faults.{declared_faults, text_faults, form_faults, faults}
+use Rattle.homeo_meaning.specs.Faults.{of_relation, of_transaction, declared_faults, text_faults, form_faults, faults}
 use Rattle.homeo_meaning.specs.declared.call.Purpose.{Purpose}
 use Rattle.homeo_meaning.specs.declared.call.Purpose.TheVariants.{Run}
 use Rattle.homeo_syntax.specs.declared.phrase.Ident.{Ident}
@@ -44,6 +46,57 @@ text_parts purpose w e4 =
       declared = none_second (a ++ b) c e2;
       limits = none_second (a ++ b ++ c) d e3;
       schedule = none_second (a ++ b ++ c ++ d) f e4;
+    }
+
+pub record NoDeclaredFault (w : s.Workload) : Type 0 where
+  pub objects : flat_map object_faults w.objects ≡ []
+  pub relations : flat_map of_relation w.relations ≡ []
+  pub transactions : flat_map (of_transaction (scope_of w)) w.transactions ≡ []
+  pub clients : flat_map (client_faults w.sites (scope_of w) w.transactions) w.clients ≡ []
+
+pub declared_parts : (w : s.Workload) → declared_faults w ≡ [] → NoDeclaredFault w
+unfolding words
+declared_parts w e3 =
+    let a = flat_map object_faults w.objects in
+    let b = flat_map of_relation w.relations in
+    let c = flat_map (of_transaction (scope_of w)) w.transactions in
+    let d = flat_map (client_faults w.sites (scope_of w) w.transactions) w.clients in
+    let e2 = none_first (a ++ b ++ c) d e3 in
+    let e1 = none_first (a ++ b) c e2 in
+    record { objects = none_first a b e1; relations = none_second a b e1; transactions = none_second (a ++ b) c e2; clients = none_second (a ++ b ++ c) d e3 }
+
+pub record NoLimitFault (w : s.Workload) : Type 0 where
+  pub sites : site_count_faults w.sites ≡ []
+  pub slots : flat_map slot_faults w.relations ≡ []
+  pub objects : each too_many_objects (makings w) ≡ []
+  pub transactions : each (passes_limit 256 (λ (t : s.Transaction). t.name)) w.transactions ≡ []
+  pub clients : each (passes_limit 64 (λ (c : s.Client). c.name)) w.clients ≡ []
+  pub calls : each (passes_limit 20000 (λ (c : SitedCall). c.name)) (sited_calls w) ≡ []
+  pub grounds : each (passes_limit 1024 (λ (c : SitedCall). c.name)) (ground_calls w) ≡ []
+
+pub limit_parts : (w : s.Workload) → limit_faults w ≡ [] → NoLimitFault w
+unfolding words
+limit_parts w e6 =
+    let a = site_count_faults w.sites in
+    let b = flat_map slot_faults w.relations in
+    let c = each too_many_objects (makings w) in
+    let d = each (passes_limit 256 (λ (t : s.Transaction). t.name)) w.transactions in
+    let f = each (passes_limit 64 (λ (c : s.Client). c.name)) w.clients in
+    let g = each (passes_limit 20000 (λ (c : SitedCall). c.name)) (sited_calls w) in
+    let h = each (passes_limit 1024 (λ (c : SitedCall). c.name)) (ground_calls w) in
+    let e5 = none_first (a ++ b ++ c ++ d ++ f ++ g) h e6 in
+    let e4 = none_first (a ++ b ++ c ++ d ++ f) g e5 in
+    let e3 = none_first (a ++ b ++ c ++ d) f e4 in
+    let e2 = none_first (a ++ b ++ c) d e3 in
+    let e1 = none_first (a ++ b) c e2 in
+    record {
+      sites = none_first a b e1;
+      slots = none_second a b e1;
+      objects = none_second (a ++ b) c e2;
+      transactions = none_second (a ++ b ++ c) d e3;
+      clients = none_second (a ++ b ++ c ++ d) f e4;
+      calls = none_second (a ++ b ++ c ++ d ++ f) g e5;
+      grounds = none_second (a ++ b ++ c ++ d ++ f ++ g) h e6;
     }
 
 pub record NoFormFault (w : s.Workload) : Type 0 where

@@ -1,3 +1,4 @@
+mod RelationTexts
 mod RuleTexts
 pub mod AbsentItems
 pub mod CommandSteps
@@ -5,6 +6,7 @@ pub mod Equations
 pub mod FaultParts
 pub mod FormRules
 pub mod Given
+pub mod Known
 pub mod Light
 pub mod LightForms
 pub mod LightRuns
@@ -15,6 +17,7 @@ pub mod Phases
 pub mod SimpleForms
 pub mod SomeValues
 pub mod Sound
+pub mod SoundRelations
 pub mod SoundRules
 pub mod Spots
 pub mod States

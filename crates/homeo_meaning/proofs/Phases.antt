@@ -1,6 +1,6 @@
 -- The faults of the text come in earlier phases than those of the L forms, so that one of the text's decides where there is one.
 use Rattle.std.proofs.Common.{◌≡◌, ℕ, ◌+◌, ◌<◌, ◌≤◌, pos, neg_ℤ, Bool, true, false, cond, ◌&&◌, ◌||◌, ◌==◌, List, [], ◌∷◌, ◌++◌, map, Option, Some, None, length, refl, ap, subst, ◌∙◌, arith}
-use Rattle.std.specs.Prelude.{nat_lt, slice_get, int_lt, int_le, is_some, not}
+use Rattle.std.specs.Prelude.{nat_le, nat_lt, slice_get, int_lt, int_le, is_some, not}
 use Rattle.std.specs.List.{flat_map, sum_by}
 use Rattle.std.proofs.lemmas.Bool.Decides.{nat_tests}
 use Rattle.homeo_syntax.specs.Source as s
@@ -10,11 +10,11 @@ use Rattle.homeo_syntax.specs.declared.workload.RangeDecl.{RangeDecl}
 use Rattle.homeo_syntax.specs.declared.workload.ObjectDecl.{ObjectDecl}
 use Rattle.homeo_meaning.specs.Key.{words}
 use Rattle.homeo_meaning.specs.Bindings.{Scope, binding}
-use Rattle.homeo_meaning.specs.Places.{Mark, Place, TakesObject, TakesValue, Assigns, in_commands}
-use Rattle.homeo_meaning.specs.NameRules.{when, fault, number_fault, takes_object, takes_value, assigns, judge_mark, judge}
+use Rattle.homeo_meaning.specs.Places.{Mark, Place, DeclaresRow, TakesObject, TakesRelation, TakesValue, TakesField, NamesField, FillsFields, Assigns, in_commands}
+use Rattle.homeo_meaning.specs.NameRules.{when, fault, number_fault, declares_row, takes_object, takes_relation, takes_value, field_of, takes_field, fills_all, fills_fields, assigns, judge_mark, judge}
 use Rattle.homeo_meaning.specs.TransactionRules.{is_in, each_from, each, local_of, temporaries, body_faults, parameter_fault, transaction_faults}
 use Rattle.homeo_meaning.specs.GlobalNames.{SitedCall, global_names, duplicate, scope_of, sited_calls}
-use Rattle.homeo_meaning.specs.NumberRules.{largest_bound, too_large, crossed, range_faults, outside, object_faults, parameter_bounds, argument_outside, arguments_outside, site_faults, site_count_faults, passes_limit, ground_calls, limit_faults}
+use Rattle.homeo_meaning.specs.NumberRules.{largest_bound, too_large, crossed, range_faults, outside, object_faults, range_bounds, argument_outside, arguments_outside, site_faults, site_count_faults, slot_faults, makings, made, too_many_objects, passes_limit, ground_calls, limit_faults}
 use Rattle.homeo_meaning.specs.CallRules.{times, call_count, params_of, call_faults, client_faults, scheduled, order_faults, is_short, end_fault, needs_order, has_calls, schedule_faults}
 use Rattle.homeo_meaning.specs.SizeRules.{too_large as too_large_call, size_faults, prints_too_much, print_faults, heavy_call, weight_faults, too_many_rows, row_faults, unbuilt_relation, unbuilt_transaction, unbuilt_faults}
 use Rattle.homeo_meaning.specs.SizeRules.{call_form, extent_of, heaviest, table_size}
@@ -22,7 +22,7 @@ use Rattle.homeo_meaning.specs.LowSizes.{Extent, rows, prints_in}
 use Rattle.homeo_meaning.specs.LowWeights.{first_weights, is_light}
 use Rattle.homeo_meaning.specs.Schema.{schema_of}
 use Rattle.homeo_meaning.specs.Built.{are_built}
-use Rattle.homeo_meaning.specs.Faults.{of_transaction, declared_faults, text_faults, rank, comes_before}
+use Rattle.homeo_meaning.specs.Faults.{of_relation, of_transaction, declared_faults, text_faults, rank, comes_before}
 use Rattle.homeo_meaning.specs.Deciding.{keep, keep_all}
 use Rattle.homeo_meaning.specs.declared.call.Purpose.{Purpose}
 use Rattle.homeo_meaning.specs.declared.rules.Fault.{Fault}
@@ -101,14 +101,71 @@ assigns_early x B.Parameter = (omega arith, omega arith, tt)
 assigns_early x (B.Row q) = (omega arith, omega arith, tt)
 assigns_early x B.Temporary = tt
 
-mark_early : (b : ℕ → Binding) (k : Mark) → Early (judge_mark b k)
-mark_early b (TakesObject x) = takes_object_early x (b x.name)
-mark_early b (TakesValue x) = takes_value_early x (b x.name)
-mark_early b (Assigns t) = assigns_early t (b t.name)
+declares_row_early : (x : Ident) (b : Binding) → Early (declares_row x b)
+unfolding words
+declares_row_early x B.Unbound = tt
+declares_row_early x (B.Item g) = (omega arith, omega arith, tt)
+declares_row_early x B.Parameter = (omega arith, omega arith, tt)
+declares_row_early x (B.Row q) = (omega arith, omega arith, tt)
+declares_row_early x B.Temporary = (omega arith, omega arith, tt)
+
+takes_relation_early : (x : Ident) (b : Binding) → Early (takes_relation x b)
+unfolding words
+takes_relation_early x B.Unbound = (omega arith, omega arith, tt)
+takes_relation_early x (B.Item (I.Object k)) = (omega arith, omega arith, tt)
+takes_relation_early x (B.Item (I.Relation k)) = tt
+takes_relation_early x (B.Item (I.Transaction k)) = (omega arith, omega arith, tt)
+takes_relation_early x (B.Item (I.Client k)) = (omega arith, omega arith, tt)
+takes_relation_early x B.Parameter = (omega arith, omega arith, tt)
+takes_relation_early x (B.Row q) = (omega arith, omega arith, tt)
+takes_relation_early x B.Temporary = (omega arith, omega arith, tt)
+
+field_early : (sc : Scope) (g : Option Item) (f : Ident) → Early (field_of sc g f)
+unfolding words
+field_early sc None f = tt
+field_early sc (Some (I.Object k)) f = tt
+field_early sc (Some (I.Relation k)) f = if_so 0 8 (not (is_in f.name (sc.fields k))) (fault F.Unknown f) (omega arith, omega arith, tt)
+field_early sc (Some (I.Transaction k)) f = tt
+field_early sc (Some (I.Client k)) f = tt
+
+takes_field_early : (sc : Scope) (r f : Ident) (b : Binding) → Early (takes_field sc r f b)
+unfolding words
+takes_field_early sc r f B.Unbound = (omega arith, omega arith, tt)
+takes_field_early sc r f (B.Item g) = (omega arith, omega arith, tt)
+takes_field_early sc r f B.Parameter = (omega arith, omega arith, tt)
+takes_field_early sc r f (B.Row q) = field_early sc (sc.item q) f
+takes_field_early sc r f B.Temporary = (omega arith, omega arith, tt)
+
+fills_all_early : (sc : Scope) (g : Option Item) (q : Ident) (n : ℕ) → Early (fills_all sc g q n)
+unfolding words
+fills_all_early sc None q n = tt
+fills_all_early sc (Some (I.Object k)) q n = tt
+fills_all_early sc (Some (I.Relation k)) q n = if_so 0 8 (not (n == length (sc.fields k))) (fault F.Arity q) (omega arith, omega arith, tt)
+fills_all_early sc (Some (I.Transaction k)) q n = tt
+fills_all_early sc (Some (I.Client k)) q n = tt
+
+duplicates_early : (xs : List Ident) → Early (each duplicate xs)
+unfolding words
+duplicates_early xs = each_of 0 8 duplicate (λ before x. if_so 0 8 (is_in x.name (map (λ (y : Ident). y.name) before)) (fault F.Duplicate x) (omega arith, omega arith, tt)) [] xs
+
+fills_fields_early : (sc : Scope) (g : Option Item) (q : Ident) (fs : List Ident) → Early (fills_fields sc g q fs)
+unfolding words
+fills_fields_early sc g q fs =
+    both 0 8 (each duplicate fs ++ flat_map (field_of sc g) fs) (fills_all sc g q (length fs)) (both 0 8 (each duplicate fs) (flat_map (field_of sc g) fs) (duplicates_early fs) (all_of 0 8 (field_of sc g) (field_early sc g) fs)) (fills_all_early sc g q (length fs))
+
+mark_early : (sc : Scope) (b : ℕ → Binding) (k : Mark) → Early (judge_mark sc b k)
+mark_early sc b (DeclaresRow x) = declares_row_early x (b x.name)
+mark_early sc b (TakesObject x) = takes_object_early x (b x.name)
+mark_early sc b (TakesRelation x) = takes_relation_early x (b x.name)
+mark_early sc b (TakesValue x) = takes_value_early x (b x.name)
+mark_early sc b (TakesField r f) = takes_field_early sc r f (b r.name)
+mark_early sc b (NamesField q f) = field_early sc (sc.item q.name) f
+mark_early sc b (FillsFields q fs) = fills_fields_early sc (sc.item q.name) q fs
+mark_early sc b (Assigns t) = assigns_early t (b t.name)
 
 judge_early : (sc : Scope) (local : ℕ → Local) (p : Place) → Early (judge sc local p)
 unfolding words
-judge_early sc local p = mark_early (binding sc local p.rows) p.mark
+judge_early sc local p = mark_early sc (binding sc local p.rows) p.mark
 
 bounds_early : (x : Number) → Early (number_fault F.Bounds x)
 unfolding words
@@ -136,7 +193,7 @@ unfolding words
 transaction_early sc t =
     let params : List Ident = map (λ (d : RangeDecl). d.name) t.params in
     let names : List ℕ = map (λ (x : Ident). x.name) params in
-    both 0 8 (flat_map parameter_bounds t.params) (transaction_faults sc t) (all_of 0 8 parameter_bounds (λ d. range_early d.lo d.hi) t.params) (both 0 8 (each (parameter_fault sc) params) (body_faults sc names (in_commands [] t.body)) (each_of 0 8 (parameter_fault sc) (λ before x. if_so 0 8 (is_some (sc.item x.name) || is_in x.name (map (λ (y : Ident). y.name) before)) (fault F.Duplicate x) (omega arith, omega arith, tt)) [] params) (each_of 0 8 (λ before p. judge sc (local_of names (temporaries sc names before)) p) (λ before p. judge_early sc (local_of names (temporaries sc names before)) p) [] (in_commands [] t.body)))
+    both 0 8 (flat_map range_bounds t.params) (transaction_faults sc t) (all_of 0 8 range_bounds (λ d. range_early d.lo d.hi) t.params) (both 0 8 (each (parameter_fault sc) params) (body_faults sc names (in_commands [] t.body)) (each_of 0 8 (parameter_fault sc) (λ before x. if_so 0 8 (is_some (sc.item x.name) || is_in x.name (map (λ (y : Ident). y.name) before)) (fault F.Duplicate x) (omega arith, omega arith, tt)) [] params) (each_of 0 8 (λ before p. judge sc (local_of names (temporaries sc names before)) p) (λ before p. judge_early sc (local_of names (temporaries sc names before)) p) [] (in_commands [] t.body)))
 
 argument_early : (d : RangeDecl) (o : Option Number) → Early (argument_outside d o)
 unfolding words
@@ -165,13 +222,20 @@ client_early sites sc ts c =
     let rule : s.Call → List Fault = λ call. call_faults ts (sc.item call.name.name) call in
     both 0 8 (flat_map rule c.calls) (site_faults sites c.site) (all_of 0 8 rule (λ call. call_early ts (sc.item call.name.name) call) c.calls) (if_so 0 8 (int_le sites.value c.site.value) (number_fault F.Bounds c.site) (bounds_early c.site))
 
+relation_early : (q : s.RelationDecl) → Early (of_relation q)
+unfolding words
+relation_early q =
+    let names : List Ident = map (λ (d : RangeDecl). d.name) q.fields in
+    both 0 8 (flat_map range_bounds q.fields) (each duplicate names) (all_of 0 8 range_bounds (λ d. range_early d.lo d.hi) q.fields) (duplicates_early names)
+
 declared_early : (w : s.Workload) → Early (declared_faults w)
 unfolding words
 declared_early w =
     let a : List Fault = flat_map object_faults w.objects in
-    let b : List Fault = flat_map (of_transaction (scope_of w)) w.transactions in
-    let c : List Fault = flat_map (client_faults w.sites (scope_of w) w.transactions) w.clients in
-    both 0 8 (a ++ b) c (both 0 8 a b (all_of 0 8 object_faults object_early w.objects) (all_of 0 8 (of_transaction (scope_of w)) (transaction_early (scope_of w)) w.transactions)) (all_of 0 8 (client_faults w.sites (scope_of w) w.transactions) (client_early w.sites (scope_of w) w.transactions) w.clients)
+    let b : List Fault = flat_map of_relation w.relations in
+    let c : List Fault = flat_map (of_transaction (scope_of w)) w.transactions in
+    let d : List Fault = flat_map (client_faults w.sites (scope_of w) w.transactions) w.clients in
+    both 0 8 (a ++ b ++ c) d (both 0 8 (a ++ b) c (both 0 8 a b (all_of 0 8 object_faults object_early w.objects) (all_of 0 8 of_relation relation_early w.relations)) (all_of 0 8 (of_transaction (scope_of w)) (transaction_early (scope_of w)) w.transactions)) (all_of 0 8 (client_faults w.sites (scope_of w) w.transactions) (client_early w.sites (scope_of w) w.transactions) w.clients)
 
 passing_early : {A : Type 0} (most : ℕ) (name : A → Ident) (xs : List A) → Early (each (passes_limit most name) xs)
 unfolding words
@@ -181,12 +245,17 @@ limits_early : (w : s.Workload) → Early (limit_faults w)
 unfolding words
 limits_early w =
     let a : List Fault = site_count_faults w.sites in
-    let b : List Fault = each (passes_limit 1024 (λ (d : ObjectDecl). d.name)) w.objects in
-    let c : List Fault = each (passes_limit 256 (λ (t : s.Transaction). t.name)) w.transactions in
-    let d : List Fault = each (passes_limit 64 (λ (c : s.Client). c.name)) w.clients in
-    let f : List Fault = each (passes_limit 20000 (λ (c : SitedCall). c.name)) (sited_calls w) in
-    let g : List Fault = each (passes_limit 1024 (λ (c : SitedCall). c.name)) (ground_calls w) in
-    both 0 8 (a ++ b ++ c ++ d ++ f) g (both 0 8 (a ++ b ++ c ++ d) f (both 0 8 (a ++ b ++ c) d (both 0 8 (a ++ b) c (both 0 8 a b (if_so 0 8 (int_lt w.sites.value (pos 1) || int_lt (pos 16) w.sites.value) (number_fault F.Limits w.sites) (omega arith, omega arith, tt)) (passing_early 1024 (λ (d : ObjectDecl). d.name) w.objects)) (passing_early 256 (λ (t : s.Transaction). t.name) w.transactions)) (passing_early 64 (λ (c : s.Client). c.name) w.clients)) (passing_early 20000 (λ (c : SitedCall). c.name) (sited_calls w))) (passing_early 1024 (λ (c : SitedCall). c.name) (ground_calls w))
+    let b : List Fault = flat_map slot_faults w.relations in
+    let c : List Fault = each too_many_objects (makings w) in
+    let d : List Fault = each (passes_limit 256 (λ (t : s.Transaction). t.name)) w.transactions in
+    let f : List Fault = each (passes_limit 64 (λ (c : s.Client). c.name)) w.clients in
+    let g : List Fault = each (passes_limit 20000 (λ (c : SitedCall). c.name)) (sited_calls w) in
+    let h : List Fault = each (passes_limit 1024 (λ (c : SitedCall). c.name)) (ground_calls w) in
+    let ae : Early a = if_so 0 8 (int_lt w.sites.value (pos 1) || int_lt (pos 16) w.sites.value) (number_fault F.Limits w.sites) (omega arith, omega arith, tt) in
+    let be : Early b = all_of 0 8 slot_faults (λ q. if_so 0 8 (int_lt q.slots.value (pos 1) || int_lt (pos 64) q.slots.value) (number_fault F.Limits q.slots) (omega arith, omega arith, tt)) w.relations in
+    let ce : Early c = each_of 0 8 too_many_objects (λ before m. if_so 0 8 (nat_le (made before) 1024 && nat_lt 1024 (made before + m.objects)) (fault F.Limits m.name) (omega arith, omega arith, tt)) [] (makings w) in
+    let abc : Early (a ++ b ++ c) = both 0 8 (a ++ b) c (both 0 8 a b ae be) ce in
+    both 0 8 (a ++ b ++ c ++ d ++ f ++ g) h (both 0 8 (a ++ b ++ c ++ d ++ f) g (both 0 8 (a ++ b ++ c ++ d) f (both 0 8 (a ++ b ++ c) d abc (passing_early 256 (λ (t : s.Transaction). t.name) w.transactions)) (passing_early 64 (λ (c : s.Client). c.name) w.clients)) (passing_early 20000 (λ (c : SitedCall). c.name) (sited_calls w))) (passing_early 1024 (λ (c : SitedCall). c.name) (ground_calls w))
 
 scheduled_early : (cs : List s.Client) (before : ℕ) (g : Option Item) (x : Ident) → Early (scheduled cs before g x)
 unfolding words
@@ -217,7 +286,7 @@ text_early purpose w =
     let c = declared_faults w in
     let d = limit_faults w in
     let f = schedule_faults purpose (scope_of w) w.clients w.end w.schedule in
-    both 0 8 (a ++ b ++ c ++ d) f (both 0 8 (a ++ b ++ c) d (both 0 8 (a ++ b) c (both 0 8 a b (unbuilt_early w) (each_of 0 8 duplicate (λ before x. if_so 0 8 (is_in x.name (map (λ (y : Ident). y.name) before)) (fault F.Duplicate x) (omega arith, omega arith, tt)) [] names)) (declared_early w)) (limits_early w)) (schedule_early purpose (scope_of w) w.clients w.end w.schedule)
+    both 0 8 (a ++ b ++ c ++ d) f (both 0 8 (a ++ b ++ c) d (both 0 8 (a ++ b) c (both 0 8 a b (unbuilt_early w) (duplicates_early names)) (declared_early w)) (limits_early w)) (schedule_early purpose (scope_of w) w.clients w.end w.schedule)
 
 -- ---- the L forms'
 pub sizes_in : (w : s.Workload) → Between 8 9 (size_faults w ++ print_faults w)

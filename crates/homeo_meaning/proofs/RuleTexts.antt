@@ -21,29 +21,29 @@ use Rattle.homeo_meaning.specs.declared.rules.Fault.{Fault}
 use Rattle.homeo_meaning.specs.declared.rules.Phase.{Phase}
 use Rattle.homeo_meaning.specs.declared.rules.Phase.TheVariants as F
 
-abbrev id : ℕ → ℕ → Ident
+abbrev pub id : ℕ → ℕ → Ident
 id n o = record { name = n; offset = o }
 
-abbrev num : ℤ → ℕ → Number
+abbrev pub num : ℤ → ℕ → Number
 num v o = record { value = v; offset = o }
 
-abbrev at : Phase → ℕ → Option Fault
+abbrev pub at : Phase → ℕ → Option Fault
 at p o = Some (record { phase = p; offset = o })
 
 -- names: 0 x, 1 y, 2 t, 3 a, 4 b, 5 p, 6 q, 7 R
-abbrev object : ℕ → ℕ → ℤ → ℤ → ℤ → ObjectDecl
+abbrev pub object : ℕ → ℕ → ℤ → ℤ → ℤ → ObjectDecl
 object n o lo hi start = record { name = id n o; lo = num lo (o + 1); hi = num hi (o + 2); start = num start (o + 3) }
 
-abbrev x : ObjectDecl
+abbrev pub x : ObjectDecl
 x = object 0 10 (pos 0) (pos 9) (pos 1)
 
-abbrev transaction : List s.Command → s.Transaction
+abbrev pub transaction : List s.Command → s.Transaction
 transaction cs = record { name = id 2 30; params = []; body = commands cs }
 
-abbrev call : ℕ → ℕ → s.Call
+abbrev pub call : ℕ → ℕ → s.Call
 call n o = record { name = id n o; args = [] }
 
-abbrev client : ℕ → ℕ → ℤ → List s.Call → s.Client
+abbrev pub client : ℕ → ℕ → ℤ → List s.Call → s.Client
 client n o site cs = record { name = id n o; site = num site (o + 1); calls = cs }
 
 abbrev workload : ℤ → List ObjectDecl → List s.Transaction → List s.Client → Option (List Ident) → s.Workload
@@ -57,10 +57,10 @@ body cs = workload (pos 2) (x ∷ []) (transaction cs ∷ []) (client 3 800 (pos
 abbrev ordered : Option (List Ident) → s.Workload
 ordered order = workload (pos 2) (x ∷ []) (transaction [] ∷ []) (client 3 800 (pos 0) (call 2 810 ∷ []) ∷ []) order
 
-abbrev decided : Purpose → s.Workload → Option Fault
+abbrev pub decided : Purpose → s.Workload → Option Fault
 decided purpose w = keep_all None (faults purpose w)
 
-abbrev one : s.Expr
+abbrev pub one : s.Expr
 one = s.Literal (pos 1)
 
 abbrev read_x : ℕ → s.Expr
@@ -236,13 +236,8 @@ not_called : decided Steps (workload (pos 2) [] (transaction (s.Print (s.Product
 unfolding words syntax_words
 not_called = refl
 
--- ---- what can't be run yet comes first
-over_relations : decided Steps (body (s.SetRow (id 6 40) (id 6 41) one ∷ s.Print (s.Name (id 6 42)) ∷ [])) ≡ at F.Unbuilt 30
-unfolding words syntax_words
-over_relations = refl
-
 -- ---- parameters and arguments
-abbrev parameter : ℕ → ℕ → ℤ → ℤ → RangeDecl
+abbrev pub parameter : ℕ → ℕ → ℤ → ℤ → RangeDecl
 parameter n o lo hi = record { name = id n o; lo = num lo (o + 1); hi = num hi (o + 2) }
 
 -- one object, and one call with these arguments of a transaction with these parameters and this body

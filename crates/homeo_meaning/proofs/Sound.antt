@@ -1,15 +1,9 @@
 -- What acceptance says that evaluation rests on.
-use Rattle.std.proofs.Common.{All, List, ◌++◌}
-use Rattle.std.specs.List.{flat_map}
+use Rattle.std.proofs.Common.{All}
 use Rattle.homeo_syntax.specs.Source as s
 use Rattle.homeo_meaning.specs.Key.{words}
 use Rattle.homeo_meaning.specs.declared.call.Purpose.TheVariants.{Run}
-use Rattle.homeo_meaning.specs.declared.rules.Fault.{Fault}
-use Rattle.homeo_meaning.specs.GlobalNames.{scope_of}
-use Rattle.homeo_meaning.specs.NumberRules.{object_faults}
-use Rattle.homeo_meaning.specs.CallRules.{client_faults}
-use Rattle.homeo_meaning.specs.Faults.{of_transaction}
-use Rattle.homeo_meaning.proofs.FaultParts.{none_first, NoTextFault, NoFault, parts}
+use Rattle.homeo_meaning.proofs.FaultParts.{NoTextFault, NoFault, parts, declared_parts}
 use Rattle.homeo_meaning.proofs.SoundRules.{is-built, starts-within, all-light}
 use Rattle.homeo_meaning.specs.Schema.{schema_of}
 use Rattle.homeo_meaning.specs.Bounds.{IsWithin}
@@ -28,11 +22,8 @@ sound w a =
     let p : NoFault Run w = parts Run w a.rules in
     let text : NoTextFault Run w = p.text in
     let built : IsBuilt w = is-built w text.unbuilt in
-    let objects : List Fault = flat_map object_faults w.objects in
-    let transactions : List Fault = flat_map (of_transaction (scope_of w)) w.transactions in
-    let clients : List Fault = flat_map (client_faults w.sites (scope_of w) w.transactions) w.clients in
     record {
       built = built;
       light = all-light w built text.declared p.form.weights;
-      starts = starts-within w built.relations (none_first objects transactions (none_first (objects ++ transactions) clients text.declared));
+      starts = starts-within w built.relations (declared_parts w text.declared).objects;
     }

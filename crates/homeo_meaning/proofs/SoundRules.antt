@@ -21,13 +21,13 @@ use Rattle.homeo_meaning.specs.CallRules.{call_faults, client_faults}
 use Rattle.homeo_meaning.specs.SizeRules.{unbuilt_relation, unbuilt_transaction, unbuilt_faults, call_form, heaviest, heavy_call, weight_faults}
 use Rattle.homeo_meaning.specs.LowWeights.{first_weights, is_light}
 use Rattle.homeo_meaning.specs.SourceSizes.{is_light_body}
-use Rattle.homeo_meaning.specs.Faults.{of_transaction, declared_faults}
+use Rattle.homeo_meaning.specs.Faults.{declared_faults}
 use Rattle.homeo_meaning.specs.declared.rules.Fault.{Fault}
 use Rattle.homeo_meaning.specs.declared.rules.Item.{Item}
 use Rattle.homeo_meaning.specs.declared.rules.Item.TheVariants as I
 use Rattle.homeo_meaning.specs.declared.rules.Phase.{Phase}
 use Rattle.homeo_meaning.specs.declared.rules.Phase.TheVariants as F
-use Rattle.homeo_meaning.proofs.FaultParts.{none_first, none_second}
+use Rattle.homeo_meaning.proofs.FaultParts.{none_first, none_second, NoDeclaredFault, declared_parts}
 use Rattle.homeo_meaning.proofs.FormRules.{light_are, Every, spread, SameCall, same_call}
 
 -- ---- small steps
@@ -247,9 +247,6 @@ none_heavy w (c ∷ cs) h = (λ i. when (not (h.0 i)) (fault F.Weight c.name) ++
 pub all-light : (w : s.Workload) → IsBuilt w → declared_faults w ≡ [] → weight_faults w ≡ [] → All (λ client. All (IsLightCall w) client.calls) w.clients
 unfolding words
 all-light w b e heavy =
-    let objects : List Fault = flat_map object_faults w.objects in
-    let transactions : List Fault = flat_map (of_transaction (scope_of w)) w.transactions in
-    let clients : List Fault = flat_map (client_faults w.sites (scope_of w) w.transactions) w.clients in
-    let bounded : objects ≡ [] = none_first objects transactions (none_first (objects ++ transactions) clients e) in
-    let light : Every (λ (c : SitedCall). is_light_body w (called w c.name) c.args ≡ true) (sited_calls w) = (spread (λ (c : SitedCall). is_light_body w (called w c.name) c.args ≡ true) (light_alike w) [] (sited_calls w) (light_ground w b bounded (ground_calls w) heavy)).all in
-    light_clients w w.clients (none_second (objects ++ transactions) clients e) (none_heavy w (sited_calls w) light)
+    let p : NoDeclaredFault w = declared_parts w e in
+    let light : Every (λ (c : SitedCall). is_light_body w (called w c.name) c.args ≡ true) (sited_calls w) = (spread (λ (c : SitedCall). is_light_body w (called w c.name) c.args ≡ true) (light_alike w) [] (sited_calls w) (light_ground w b p.objects (ground_calls w) heavy)).all in
+    light_clients w w.clients p.clients (none_heavy w (sited_calls w) light)

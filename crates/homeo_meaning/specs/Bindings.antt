@@ -12,9 +12,10 @@ pub record Row : Type 0 where
   pub row : ℕ
   pub relation : ℕ
 
--- what stands fixed in a transaction: the global names
+-- what stands fixed in a transaction: the global names, and the names of the fields of the relation of each number
 pub record Scope : Type 0 where
   pub item : ℕ → Option Item
+  pub fields : ℕ → List ℕ
 
 abbrev pub local_binding : Local → Binding
 local_binding L.Absent = B.Unbound

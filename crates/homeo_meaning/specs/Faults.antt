@@ -7,7 +7,7 @@ use Rattle.homeo_meaning.specs.Key.{words}
 use Rattle.homeo_meaning.specs.Bindings.{Scope}
 use Rattle.homeo_meaning.specs.TransactionRules.{each, transaction_faults}
 use Rattle.homeo_meaning.specs.GlobalNames.{global_names, duplicate, scope_of}
-use Rattle.homeo_meaning.specs.NumberRules.{object_faults, parameter_bounds, limit_faults}
+use Rattle.homeo_meaning.specs.NumberRules.{object_faults, range_bounds, limit_faults}
 use Rattle.homeo_meaning.specs.CallRules.{client_faults, schedule_faults}
 use Rattle.homeo_meaning.specs.SizeRules.{unbuilt_faults, size_faults, print_faults, weight_faults, row_faults}
 use Rattle.homeo_meaning.specs.declared.call.Purpose.{Purpose}
@@ -15,16 +15,22 @@ use Rattle.homeo_meaning.specs.declared.rules.Fault.{Fault}
 use Rattle.homeo_meaning.specs.declared.rules.Phase.{Phase}
 use Rattle.homeo_meaning.specs.declared.rules.Phase.TheVariants as P
 
+-- the bounds of its fields, and their names
+abbrev pub of_relation : s.RelationDecl → List Fault
+unfolding words
+of_relation q = flat_map range_bounds q.fields ++ each duplicate (map (λ d. d.name) q.fields)
+
 -- the bounds of its parameters, and its names
 abbrev pub of_transaction : Scope → s.Transaction → List Fault
 unfolding words
-of_transaction scope t = flat_map parameter_bounds t.params ++ transaction_faults scope t
+of_transaction scope t = flat_map range_bounds t.params ++ transaction_faults scope t
 
 -- bounds and names, of what is declared and called
 abbrev pub declared_faults : s.Workload → List Fault
 unfolding words
 declared_faults w =
     flat_map object_faults w.objects
+    ++ flat_map of_relation w.relations
     ++ flat_map (of_transaction (scope_of w)) w.transactions
     ++ flat_map (client_faults w.sites (scope_of w) w.transactions) w.clients
 
@@ -52,14 +58,14 @@ faults purpose w = text_faults purpose w ++ form_faults w
 -- the place of a phase in the order in which they are tried
 abbrev pub rank : Phase → ℕ
 unfolding words
-rank P.Unbuilt = 0
-rank P.Duplicate = 1
-rank P.Unknown = 2
-rank P.Kind = 3
-rank P.Arity = 4
-rank P.Bounds = 5
-rank P.Limits = 6
-rank P.Schedule = 7
+rank P.Duplicate = 0
+rank P.Unknown = 1
+rank P.Kind = 2
+rank P.Arity = 3
+rank P.Bounds = 4
+rank P.Limits = 5
+rank P.Schedule = 6
+rank P.Unbuilt = 7
 rank P.Size = 8
 rank P.Weight = 9
 rank P.Rows = 10

@@ -1,4 +1,5 @@
 -- The global names: objects, relations, transactions and clients.
+pub use Rattle.homeo_meaning.specs.ListRules.{duplicate}
 use Rattle.std.specs.Prelude.{ℕ, ℤ, ◌+◌, List, [], ◌∷◌, ◌++◌, map, Option, Some, None, ◌==◌, if◌then◌else◌, slice_get}
 use Rattle.std.specs.List.{flat_map}
 use Rattle.homeo_syntax.specs.Source as s
@@ -6,10 +7,6 @@ use Rattle.homeo_syntax.specs.declared.phrase.Ident.{Ident}
 use Rattle.homeo_meaning.specs.Key.{words}
 use Rattle.homeo_meaning.specs.Bindings.{Scope}
 use Rattle.homeo_meaning.specs.Serial.{arguments}
-use Rattle.homeo_meaning.specs.NameRules.{when, fault}
-use Rattle.homeo_meaning.specs.TransactionRules.{is_in}
-use Rattle.homeo_meaning.specs.declared.rules.Fault.{Fault}
-use Rattle.homeo_meaning.specs.declared.rules.Phase.TheVariants.{Duplicate}
 use Rattle.homeo_meaning.specs.declared.rules.Item.{Item}
 use Rattle.homeo_meaning.specs.declared.rules.Item.TheVariants as I
 
@@ -37,14 +34,13 @@ unfolding words
 first_named [] n = None
 first_named (d ∷ ds) n = if d.name.name == n then Some d.item else first_named ds n
 
+abbrev pub field_names : Option s.RelationDecl → List ℕ
+field_names None = []
+field_names (Some q) = map (λ d. d.name.name) q.fields
+
 abbrev pub scope_of : s.Workload → Scope
 unfolding words
-scope_of w = record { item = first_named (global_names w) }
-
--- a name that an earlier one has
-abbrev pub duplicate : List Ident → Ident → List Fault
-unfolding words
-duplicate before x = when (is_in x.name (map (λ y. y.name) before)) (fault Duplicate x)
+scope_of w = record { item = first_named (global_names w); fields = λ k. field_names (slice_get w.relations k) }
 
 -- the transaction that a name names
 abbrev pub transaction_at : s.Workload → Option Item → Option s.Transaction

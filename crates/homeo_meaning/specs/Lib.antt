@@ -13,7 +13,9 @@ pub mod GlobalNames
 pub mod Ground
 pub mod Initial
 pub mod Key
+pub mod KnownNames
 pub mod LForm
+pub mod ListRules
 pub mod LowMeaning
 pub mod LowSizes
 pub mod LowWeights

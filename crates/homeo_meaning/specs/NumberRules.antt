@@ -1,15 +1,15 @@
 -- The rules of bounds, and of how much may be declared.
-use Rattle.std.specs.Prelude.{ℕ, ◌+◌, slice_get, ℤ, int_lt, int_le, pos, neg_ℤ, Bool, true, false, ◌&&◌, ◌||◌, List, [], ◌∷◌, ◌++◌, length, Option, Some, None, ◌==◌, if◌then◌else◌}
+use Rattle.std.specs.Prelude.{ℕ, ◌+◌, ◌*◌, nat_le, nat_lt, map, slice_get, ℤ, int_lt, int_le, pos, neg_ℤ, Bool, true, false, ◌&&◌, ◌||◌, List, [], ◌∷◌, ◌++◌, length, Option, Some, None, ◌==◌, if◌then◌else◌}
 use Rattle.std.specs.Ordering.{int_eq}
-use Rattle.std.specs.List.{list_any}
+use Rattle.std.specs.List.{list_any, flat_map, sum_by}
 use Rattle.homeo_syntax.specs.Source as s
 use Rattle.homeo_syntax.specs.declared.phrase.Ident.{Ident}
 use Rattle.homeo_syntax.specs.declared.phrase.Number.{Number}
 use Rattle.homeo_syntax.specs.declared.workload.RangeDecl.{RangeDecl}
 use Rattle.homeo_syntax.specs.declared.workload.ObjectDecl.{ObjectDecl}
 use Rattle.homeo_meaning.specs.Key.{words}
-use Rattle.homeo_meaning.specs.NameRules.{when, fault, number_fault}
-use Rattle.homeo_meaning.specs.TransactionRules.{each}
+use Rattle.homeo_meaning.specs.ListRules.{when, fault, number_fault, each}
+use Rattle.homeo_meaning.specs.Schema.{nat_of}
 use Rattle.homeo_meaning.specs.GlobalNames.{SitedCall, sited_calls}
 use Rattle.homeo_meaning.specs.declared.rules.Fault.{Fault}
 use Rattle.homeo_meaning.specs.declared.rules.Phase.TheVariants.{Bounds, Limits}
@@ -39,9 +39,10 @@ abbrev pub object_faults : ObjectDecl → List Fault
 unfolding words
 object_faults d = range_faults d.lo d.hi ++ outside d.lo d.hi d.start
 
-abbrev pub parameter_bounds : RangeDecl → List Fault
+-- of a parameter or a field
+abbrev pub range_bounds : RangeDecl → List Fault
 unfolding words
-parameter_bounds d = range_faults d.lo d.hi
+range_bounds d = range_faults d.lo d.hi
 
 -- where there is an argument, it is within the bounds of its parameter
 abbrev pub argument_outside : RangeDecl → Option Number → List Fault
@@ -65,6 +66,37 @@ site_faults sites site = when (int_le sites.value site.value) (number_fault Boun
 abbrev pub site_count_faults : Number → List Fault
 unfolding words
 site_count_faults n = when (int_lt n.value (pos 1) || int_lt (pos 16) n.value) (number_fault Limits n)
+
+-- from 1 to 64 slots
+abbrev pub slot_faults : s.RelationDecl → List Fault
+unfolding words
+slot_faults q = when (int_lt q.slots.value (pos 1) || int_lt (pos 64) q.slots.value) (number_fault Limits q.slots)
+
+-- a declaration, and how many objects it makes
+pub record Making : Type 0 where
+  pub name : Ident
+  pub objects : ℕ
+
+abbrev pub object_making : ObjectDecl → Making
+object_making d = record { name = d.name; objects = 1 }
+
+-- in each slot one object more than fields
+abbrev pub relation_making : s.RelationDecl → Making
+unfolding words
+relation_making q = record { name = q.name; objects = nat_of q.slots.value * (1 + length q.fields) }
+
+abbrev pub makings : s.Workload → List Making
+unfolding words
+makings w = map object_making w.objects ++ map relation_making w.relations
+
+abbrev pub made : List Making → ℕ
+unfolding words
+made ms = sum_by (λ m. m.objects) ms
+
+-- the declaration with which there are more than 1,024 objects
+abbrev pub too_many_objects : List Making → Making → List Fault
+unfolding words
+too_many_objects before m = when (nat_le (made before) 1024 && nat_lt 1024 (made before + m.objects)) (fault Limits m.name)
 
 -- the one that comes after as many as there may be
 abbrev pub passes_limit : {A : Type 0} → ℕ → (A → Ident) → List A → A → List Fault
@@ -100,7 +132,8 @@ abbrev pub limit_faults : s.Workload → List Fault
 unfolding words
 limit_faults w =
     site_count_faults w.sites
-    ++ each (passes_limit 1024 (λ (d : ObjectDecl). d.name)) w.objects
+    ++ flat_map slot_faults w.relations
+    ++ each too_many_objects (makings w)
     ++ each (passes_limit 256 (λ (t : s.Transaction). t.name)) w.transactions
     ++ each (passes_limit 64 (λ (c : s.Client). c.name)) w.clients
     ++ each (passes_limit 20000 (λ (c : SitedCall). c.name)) (sited_calls w)

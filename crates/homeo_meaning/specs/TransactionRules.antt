@@ -1,6 +1,7 @@
 -- The faults of names in a transaction, place by place, each judged by the text before it.
-use Rattle.std.specs.Prelude.{ℕ, ◌||◌, Bool, List, [], ◌∷◌, ◌++◌, map, is_some, ◌==◌, if◌then◌else◌}
-use Rattle.std.specs.List.{flat_map, list_any}
+pub use Rattle.homeo_meaning.specs.ListRules.{each_from, each, is_in}
+use Rattle.std.specs.Prelude.{ℕ, ◌||◌, List, [], ◌∷◌, ◌++◌, map, is_some, if◌then◌else◌}
+use Rattle.std.specs.List.{flat_map}
 use Rattle.homeo_syntax.specs.Source as s
 use Rattle.homeo_syntax.specs.declared.phrase.Ident.{Ident}
 use Rattle.homeo_meaning.specs.Key.{words}
@@ -13,20 +14,6 @@ use Rattle.homeo_meaning.specs.declared.rules.Local.{Local}
 use Rattle.homeo_meaning.specs.declared.rules.Local.TheVariants as L
 use Rattle.homeo_meaning.specs.declared.rules.Binding.{Binding}
 use Rattle.homeo_meaning.specs.declared.rules.Binding.TheVariants as B
-
--- what a rule says of each item, given those before it
-abbrev pub each_from : {A : Type 0} → (List A → A → List Fault) → List A → List A → List Fault
-unfolding words
-each_from rule before [] = []
-each_from rule before (x ∷ xs) = rule before x ++ each_from rule (before ++ x ∷ []) xs
-
-abbrev pub each : {A : Type 0} → (List A → A → List Fault) → List A → List Fault
-unfolding words
-each rule xs = each_from rule [] xs
-
-abbrev pub is_in : ℕ → List ℕ → Bool
-unfolding words
-is_in n l = list_any (λ m. m == n) l
 
 abbrev pub local_of : List ℕ → List ℕ → ℕ → Local
 unfolding words

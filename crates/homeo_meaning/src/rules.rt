@@ -29,15 +29,13 @@ pub enum Binding {
 /// The phases of the rules, in the order in which they are tried.
 #[derive(Clone, Copy, Debug, PartialEq, Eq)]
 pub enum Phase {
-    /// E0: a form that can't be run yet.
-    Unbuilt,
     /// E5: a name that is declared twice.
     Duplicate,
     /// E6: a name that is not known.
     Unknown,
     /// E7: a name of another kind.
     Kind,
-    /// E8: a wrong number of arguments.
+    /// E8: a wrong number of arguments, or of an insert's fields.
     Arity,
     /// E9: a number out of its bounds.
     Bounds,
@@ -45,6 +43,8 @@ pub enum Phase {
     Limits,
     /// E14: a schedule that doesn't fit the calls.
     Schedule,
+    /// E0: a form that can't be run yet.
+    Unbuilt,
     /// E11: a call that is too large or too deep, or calls that are too large or print too much together.
     Size,
     /// E10: an expression whose values may get too large.

@@ -7,7 +7,7 @@ use Rattle.std.proofs.lemmas.Bool.Decides.{nat_tests}
 use Rattle.std.proofs.lemmas.List.Folds.{list_any-append}
 use Rattle.homeo_meaning.specs.Key.{words as meaning_words}
 use Rattle.homeo_meaning.specs.Bindings.{Row, Scope, binding, item_or, row_or, local_binding, row_relation}
-use Rattle.homeo_meaning.specs.Places.{Mark, Place, TakesObject, TakesValue, Assigns}
+use Rattle.homeo_meaning.specs.Places.{Mark, Place, DeclaresRow, TakesObject, TakesRelation, TakesValue, TakesField, NamesField, FillsFields, Assigns}
 use Rattle.homeo_meaning.specs.NameRules.{judge}
 use Rattle.homeo_meaning.specs.TransactionRules.{is_in, each_from, local_of, becomes, makes, temporaries}
 use Rattle.homeo_meaning.specs.Deciding.{keep_all}
@@ -121,6 +121,11 @@ module _ (s : Scope) (ps : List ℕ) where
   after_place l ts rows (Assigns t) lt e = as_path _ _ (after_assigns l ts rows t.name lt e)
   after_place l ts rows (TakesObject x) lt e = e ∙ ap (local_of ps) (sym (append-nil ts))
   after_place l ts rows (TakesValue x) lt e = e ∙ ap (local_of ps) (sym (append-nil ts))
+  after_place l ts rows (DeclaresRow x) lt e = e ∙ ap (local_of ps) (sym (append-nil ts))
+  after_place l ts rows (TakesRelation x) lt e = e ∙ ap (local_of ps) (sym (append-nil ts))
+  after_place l ts rows (TakesField r f) lt e = e ∙ ap (local_of ps) (sym (append-nil ts))
+  after_place l ts rows (NamesField q f) lt e = e ∙ ap (local_of ps) (sym (append-nil ts))
+  after_place l ts rows (FillsFields q fs) lt e = e ∙ ap (local_of ps) (sym (append-nil ts))
 
   same_length : (l : List Local) (m : ℕ → Binding) (k : Mark) → length (locals_after m l k) ≡ length l
   unfolding words meaning_words
@@ -134,6 +139,11 @@ module _ (s : Scope) (ps : List ℕ) where
       of_meaning B.Temporary = refl
   same_length l m (TakesObject x) = refl
   same_length l m (TakesValue x) = refl
+  same_length l m (DeclaresRow x) = refl
+  same_length l m (TakesRelation x) = refl
+  same_length l m (TakesField r f) = refl
+  same_length l m (NamesField q f) = refl
+  same_length l m (FillsFields q fs) = refl
 
   made_more : (before : List Place) (p : Place) → temporaries s ps (before ++ p ∷ []) ≡ temporaries s ps before ++ makes (binding s (local_of ps []) p.rows) p.mark
   unfolding words meaning_words

@@ -1,5 +1,5 @@
 -- What the code finds of a whole workload, rule by rule.
-use Rattle.std.proofs.Common.{◌≡◌, ℕ, ◌+◌, true, false, List, [], ◌∷◌, ◌++◌, map, replicate, length, Option, Some, None, refl, sym, ap, subst, ◌∙◌, arith, append_assoc}
+use Rattle.std.proofs.Common.{◌≡◌, ℕ, zero, suc, ◌+◌, true, false, List, [], ◌∷◌, ◌++◌, map, replicate, length, Option, Some, None, refl, sym, ap, subst, ◌∙◌, arith, append_assoc}
 use Rattle.std.specs.Prelude.{slice_get, is_some}
 use Rattle.std.specs.List.{flat_map}
 use Rattle.homeo_syntax.specs.Key.{words as syntax_words}
@@ -16,16 +16,16 @@ use Rattle.homeo_syntax.specs.declared.workload.Workload.{Workload}
 use Rattle.homeo_meaning.specs.Key.{words as meaning_words}
 use Rattle.homeo_meaning.specs.Bindings.{Scope}
 use Rattle.homeo_meaning.specs.TransactionRules.{each}
-use Rattle.homeo_meaning.specs.GlobalNames.{GlobalName, numbered_from, global_names, duplicate, scope_of, sited_calls, called}
-use Rattle.homeo_meaning.specs.NumberRules.{object_faults, site_count_faults, passes_limit, limit_faults, distinct_after, ground_calls}
+use Rattle.homeo_meaning.specs.GlobalNames.{GlobalName, numbered_from, global_names, duplicate, field_names, scope_of, sited_calls, called}
+use Rattle.homeo_meaning.specs.NumberRules.{object_faults, site_count_faults, slot_faults, object_making, relation_making, makings, too_many_objects, passes_limit, limit_faults, distinct_after, ground_calls}
 use Rattle.homeo_meaning.specs.CallRules.{client_faults, schedule_faults}
 use Rattle.homeo_meaning.specs.SizeRules.{unbuilt_relation, unbuilt_transaction, unbuilt_faults, call_form, extent_of, too_large, size_faults, prints_too_much, print_faults, weight_faults, too_many_rows, row_faults}
 use Rattle.homeo_meaning.specs.Schema.{nat_of}
 use Rattle.homeo_meaning.specs.SourceSizes.{prints_of}
 use Rattle.homeo_meaning.specs.LowSizes.{prints_in}
 use Rattle.homeo_meaning.specs.Built.{IsBuilt}
-use Rattle.homeo_meaning.specs.Faults.{of_transaction, declared_faults, text_faults, form_faults, faults}
-use Rattle.homeo_meaning.proofs.FaultParts.{none_first, none_second, NoTextFault, text_parts}
+use Rattle.homeo_meaning.specs.Faults.{of_relation, of_transaction, declared_faults, text_faults, form_faults, faults}
+use Rattle.homeo_meaning.proofs.FaultParts.{NoTextFault, text_parts, declared_parts, limit_parts}
 use Rattle.homeo_meaning.proofs.SoundRules.{is-built}
 use Rattle.homeo_meaning.proofs.FormRules.{prints_are}
 use Rattle.homeo_meaning.proofs.Phases.{text_early, sizes_in, later_in, both as both_lists, wider_below, wider_above, decides_first}
@@ -38,18 +38,21 @@ use Rattle.homeo_meaning.specs.GlobalNames as g
 use Rattle.homeo_meaning.specs.declared.rules.Item.{Item}
 use Rattle.homeo_meaning.specs.declared.rules.Item.TheVariants as I
 use Rattle.homeo_rules.specs.Key.{words}
-use Rattle.homeo_rules.specs.Scopes.{scope_with}
+use Rattle.homeo_rules.specs.Scopes.{item_at, fields_at, scope_with}
 use Rattle.homeo_rules.specs.Items.{Items, along_names}
 use Rattle.homeo_rules.specs.Listwise.{along_all}
 use Rattle.homeo_rules.specs.Within.{AreNamed}
 use Rattle.homeo_rules.specs.Callers.{client_faults_of, transaction_faults_of}
 use Rattle.homeo_rules.specs.Stages.{unbuilt_relation_of, unbuilt_transaction_of}
-use Rattle.homeo_rules.specs.Limited.{object_passing, transaction_passing, client_passing, call_passing, distinct_within}
+use Rattle.homeo_rules.specs.Counting.{count_all, making_of}
+use Rattle.homeo_rules.specs.Relations.{relation_faults_of, slot_faults_of}
+use Rattle.homeo_rules.specs.Limited.{transaction_passing, client_passing, call_passing, distinct_within}
 use Rattle.homeo_rules.specs.Printing.{capped_prints, print_all}
 use Rattle.homeo_rules.specs.Weighing.{call_fits, heavy_fault}
 use Rattle.homeo_rules.specs.Decided.{NamesGlobals, faults_with_names, IsFaultless}
 use Rattle.homeo_rules.proofs.Steps.{keep_all-append}
 use Rattle.homeo_rules.proofs.Listing.{all-along, all-mapped}
+use Rattle.homeo_rules.proofs.Counts.{objects-counted}
 use Rattle.homeo_rules.proofs.First.{along, along-append, along-numbered, Along, table_is, NamesWithin}
 use Rattle.homeo_rules.proofs.Limiting.{passing, limit-is, transaction-plain, client-plain, call-plain, ground-plain, ground-are, sited-plain}
 use Rattle.homeo_rules.proofs.Printings.{printed, counts-plain}
@@ -132,65 +135,88 @@ entered-all w best n t0 t1 t2 t3 t4 os rs ts cs formed en e0 eo er et ec e1 e2 e
     let whole : Along (length w.names.items) [] start (along start (global_names p)) (global_names p) = table_is (length w.names.items) best (global_names p) (all-named p formed) in
     let e : t4 ≡ along start (global_names p) = s4 ∙ joined in
     record {
-      scope = ap (λ (u : Items). scope_with u.items) e ∙ (λ i. record { item = λ m. whole.agree m i });
+      items = ap (λ (u : Items). item_at u.items) e ∙ (λ i m. whole.agree m i);
       kept = ap (λ (u : Items). u.best) e ∙ whole.best;
     }
 
 -- ---- what is declared and called
-pub declared-along : (w : Workload) (sc : Scope) (best : Option Fault) (os : List ObjectDecl) (ts us : List Transaction) (cs : List Client) → sc ≡ scope_of (plain_workload w) → os ≡ w.objects.items → ts ≡ w.transactions.items → us ≡ w.transactions.items → cs ≡ w.clients.items → along_all (client_faults_of w.sites sc us) (along_all (transaction_faults_of sc) (along_all object_faults best os) ts) cs ≡ keep_all best (declared_faults (plain_workload w))
+pub declared-along : (w : Workload) (sc : Scope) (best : Option Fault) (os : List ObjectDecl) (qs : List RelationDecl) (ts us : List Transaction) (cs : List Client) → sc ≡ scope_of (plain_workload w) → os ≡ w.objects.items → qs ≡ w.relations.items → ts ≡ w.transactions.items → us ≡ w.transactions.items → cs ≡ w.clients.items → along_all (client_faults_of w.sites sc us) (along_all (transaction_faults_of sc) (along_all relation_faults_of (along_all object_faults best os) qs) ts) cs ≡ keep_all best (declared_faults (plain_workload w))
 unfolding words meaning_words syntax_words
-declared-along w sc best os ts us cs es eo et eu ec =
+declared-along w sc best os qs ts us cs es eo eq et eu ec =
     let p : s.Workload = plain_workload w in
     let a : List Fault = flat_map object_faults w.objects.items in
-    let b : List Fault = flat_map (of_transaction (scope_of p)) p.transactions in
-    let c : List Fault = flat_map (client_faults w.sites (scope_of p) p.transactions) p.clients in
-    (λ i. along_all (client_faults_of w.sites (es i) (eu i)) (along_all (transaction_faults_of (es i)) (along_all object_faults best (eo i)) (et i)) (ec i))
+    let b : List Fault = flat_map of_relation p.relations in
+    let c : List Fault = flat_map (of_transaction (scope_of p)) p.transactions in
+    let d : List Fault = flat_map (client_faults w.sites (scope_of p) p.transactions) p.clients in
+    (λ i. along_all (client_faults_of w.sites (es i) (eu i)) (along_all (transaction_faults_of (es i)) (along_all relation_faults_of (along_all object_faults best (eo i)) (eq i)) (et i)) (ec i))
     ∙ sym (
-    keep_all-append best (a ++ b) c
-    ∙ all-mapped plain_client (client_faults w.sites (scope_of p) p.transactions) (keep_all best (a ++ b)) w.clients.items
+    keep_all-append best (a ++ b ++ c) d
+    ∙ all-mapped plain_client (client_faults w.sites (scope_of p) p.transactions) (keep_all best (a ++ b ++ c)) w.clients.items
     ∙ ap (λ o. along_all (client_faults_of w.sites (scope_of p) w.transactions.items) o w.clients.items) (
+    keep_all-append best (a ++ b) c
+    ∙ all-mapped plain_transaction (of_transaction (scope_of p)) (keep_all best (a ++ b)) w.transactions.items
+    ∙ ap (λ o. along_all (transaction_faults_of (scope_of p)) o w.transactions.items) (
     keep_all-append best a b
-    ∙ all-mapped plain_transaction (of_transaction (scope_of p)) (keep_all best a) w.transactions.items
-    ∙ ap (λ o. along_all (transaction_faults_of (scope_of p)) o w.transactions.items) (all-along object_faults best w.objects.items)))
+    ∙ all-mapped plain_relation of_relation (keep_all best a) w.relations.items
+    ∙ ap (λ o. along_all relation_faults_of o w.relations.items) (all-along object_faults best w.objects.items))))
 
 -- ---- limits
-object-plain : (o : Option ObjectDecl) → passing (λ (d : ObjectDecl). d.name) o ≡ object_passing o
-object-plain None = refl
-object-plain (Some d) = refl
+makings-plain : (qs : List RelationDecl) → map making_of qs ≡ map relation_making (map plain_relation qs)
+unfolding words
+makings-plain [] = refl
+makings-plain (q ∷ qs) = ap (λ l. making_of q ∷ l) (makings-plain qs)
 
-pub limits-along : (w : Workload) (best : Option Fault) (os : List ObjectDecl) (ts : List Transaction) (cs : List Client) (calls : List SitedCall) → os ≡ w.objects.items → ts ≡ w.transactions.items → cs ≡ w.clients.items → map sited calls ≡ sited_calls (plain_workload w) → keep_all (keep_all (keep_all (keep_all (keep_all (keep_all best (site_count_faults w.sites)) (object_passing (slice_get os 1024))) (transaction_passing (slice_get ts 256))) (client_passing (slice_get cs 64))) (call_passing (slice_get calls 20000))) (call_passing (slice_get (distinct_within 1024 [] calls) 1024)) ≡ keep_all best (limit_faults (plain_workload w))
+pub limits-along : (w : Workload) (best : Option Fault) (qs rs : List RelationDecl) (os : List ObjectDecl) (ts : List Transaction) (cs : List Client) (calls : List SitedCall) → qs ≡ w.relations.items → os ≡ w.objects.items → rs ≡ w.relations.items → ts ≡ w.transactions.items → cs ≡ w.clients.items → map sited calls ≡ sited_calls (plain_workload w)
+    → keep_all (keep_all (keep_all (keep_all (count_all making_of (count_all object_making (record { count = 0; best = along_all slot_faults_of (keep_all best (site_count_faults w.sites)) qs }) os) rs).best (transaction_passing (slice_get ts 256))) (client_passing (slice_get cs 64))) (call_passing (slice_get calls 20000))) (call_passing (slice_get (distinct_within 1024 [] calls) 1024)) ≡ keep_all best (limit_faults (plain_workload w))
 unfolding words meaning_words syntax_words
-limits-along w best os ts cs calls eo et ec el =
+limits-along w best qs rs os ts cs calls eq eo er et ec el =
     let p : s.Workload = plain_workload w in
     let a : List Fault = site_count_faults w.sites in
-    let b : List Fault = each (passes_limit 1024 (λ (d : ObjectDecl). d.name)) p.objects in
-    let c : List Fault = each (passes_limit 256 (λ (t : s.Transaction). t.name)) p.transactions in
-    let d : List Fault = each (passes_limit 64 (λ (c : s.Client). c.name)) p.clients in
-    let f : List Fault = each (passes_limit 20000 (λ (c : g.SitedCall). c.name)) (sited_calls p) in
+    let b : List Fault = flat_map slot_faults p.relations in
+    let c : List Fault = each too_many_objects (makings p) in
+    let d : List Fault = each (passes_limit 256 (λ (t : s.Transaction). t.name)) p.transactions in
+    let f : List Fault = each (passes_limit 64 (λ (c : s.Client). c.name)) p.clients in
+    let l : List Fault = each (passes_limit 20000 (λ (c : g.SitedCall). c.name)) (sited_calls p) in
     let h : List Fault = each (passes_limit 1024 (λ (c : g.SitedCall). c.name)) (distinct_after [] (sited_calls p)) in
-    let eb : object_passing (slice_get os 1024) ≡ b = ap (λ l. object_passing (slice_get l 1024)) eo ∙ sym (limit-is 1024 (λ (d : ObjectDecl). d.name) p.objects ∙ object-plain (slice_get p.objects 1024)) in
-    let ecc : transaction_passing (slice_get ts 256) ≡ c = ap (λ l. transaction_passing (slice_get l 256)) et ∙ sym (limit-is 256 (λ (t : s.Transaction). t.name) p.transactions ∙ transaction-plain w.transactions.items 256) in
-    let ed : client_passing (slice_get cs 64) ≡ d = ap (λ l. client_passing (slice_get l 64)) ec ∙ sym (limit-is 64 (λ (c : s.Client). c.name) p.clients ∙ client-plain w.clients.items 64) in
-    let ef : call_passing (slice_get calls 20000) ≡ f =
+    let slots : along_all slot_faults_of (keep_all best a) qs ≡ keep_all best (a ++ b) =
+    ap (along_all slot_faults_of (keep_all best a)) eq ∙ sym (keep_all-append best a b ∙ all-mapped plain_relation slot_faults (keep_all best a) w.relations.items) in
+    let objects : (count_all making_of (count_all object_making (record { count = 0; best = along_all slot_faults_of (keep_all best a) qs }) os) rs).best ≡ keep_all best (a ++ b ++ c) =
+    (λ i. (count_all making_of (count_all object_making (record { count = 0; best = slots i }) (eo i)) (er i)).best)
+    ∙ objects-counted (keep_all best (a ++ b)) w.objects.items w.relations.items
+    ∙ ap (λ l. keep_all (keep_all best (a ++ b)) (each too_many_objects (map object_making w.objects.items ++ l))) (makings-plain w.relations.items)
+    ∙ sym (keep_all-append best (a ++ b) c) in
+    let ed : transaction_passing (slice_get ts 256) ≡ d = ap (λ l. transaction_passing (slice_get l 256)) et ∙ sym (limit-is 256 (λ (t : s.Transaction). t.name) p.transactions ∙ transaction-plain w.transactions.items 256) in
+    let ef : client_passing (slice_get cs 64) ≡ f = ap (λ l. client_passing (slice_get l 64)) ec ∙ sym (limit-is 64 (λ (c : s.Client). c.name) p.clients ∙ client-plain w.clients.items 64) in
+    let eg : call_passing (slice_get calls 20000) ≡ l =
     sym (
     limit-is 20000 (λ (c : g.SitedCall). c.name) (sited_calls p)
-    ∙ ap (λ l. passing (λ (c : g.SitedCall). c.name) (slice_get l 20000)) (sym el)
+    ∙ ap (λ us. passing (λ (c : g.SitedCall). c.name) (slice_get us 20000)) (sym el)
     ∙ call-plain calls 20000) in
-    let eg : call_passing (slice_get (distinct_within 1024 [] calls) 1024) ≡ h =
+    let eh : call_passing (slice_get (distinct_within 1024 [] calls) 1024) ≡ h =
     sym (
     limit-is 1024 (λ (c : g.SitedCall). c.name) (distinct_after [] (sited_calls p))
-    ∙ ap (λ l. passing (λ (c : g.SitedCall). c.name) (slice_get (distinct_after [] l) 1024)) (sym el)
+    ∙ ap (λ us. passing (λ (c : g.SitedCall). c.name) (slice_get (distinct_after [] us) 1024)) (sym el)
     ∙ ground-plain 1024 calls) in
-    (λ i. keep_all (keep_all (keep_all (keep_all (keep_all (keep_all best a) (eb i)) (ecc i)) (ed i)) (ef i)) (eg i))
+    (λ i. keep_all (keep_all (keep_all (keep_all (objects i) (ed i)) (ef i)) (eg i)) (eh i))
     ∙ sym (
-    keep_all-append best (a ++ b ++ c ++ d ++ f) h
+    keep_all-append best (a ++ b ++ c ++ d ++ f ++ l) h
     ∙ ap (λ o. keep_all o h) (
+    keep_all-append best (a ++ b ++ c ++ d ++ f) l
+    ∙ ap (λ o. keep_all o l) (
     keep_all-append best (a ++ b ++ c ++ d) f
-    ∙ ap (λ o. keep_all o f) (
-    keep_all-append best (a ++ b ++ c) d
-    ∙ ap (λ o. keep_all o d) (
-    keep_all-append best (a ++ b) c
-    ∙ ap (λ o. keep_all o c) (keep_all-append best a b)))))
+    ∙ ap (λ o. keep_all o f) (keep_all-append best (a ++ b ++ c) d))))
+
+-- ---- the scope
+fields-plain : (qs : List RelationDecl) (k : ℕ) → fields_at qs k ≡ field_names (slice_get (map plain_relation qs) k)
+unfolding meaning_words syntax_words
+fields-plain [] k = refl
+fields-plain (q ∷ qs) zero = refl
+fields-plain (q ∷ qs) (suc k) = fields-plain qs k
+
+pub scope-is : (w : Workload) (best : Option Fault) (t : Items) (items : List (Option Item)) (qs : List RelationDecl) → NamesGlobals (plain_workload w) best t → items ≡ t.items → qs ≡ w.relations.items → scope_with items qs ≡ scope_of (plain_workload w)
+unfolding meaning_words syntax_words
+scope-is w best t items qs globals ei eq =
+    (λ i. scope_with (ei i) (eq i)) ∙ (λ i. record { item = globals.items i; fields = λ k. fields-plain w.relations.items k i })
 
 -- ---- what the L forms are like
 built-faultless : (w : s.Workload) → IsFaultless w → IsBuilt w
@@ -199,10 +225,7 @@ built-faultless w h = is-built w h.unbuilt
 bounded-faultless : (w : s.Workload) → IsFaultless w → flat_map object_faults w.objects ≡ []
 unfolding meaning_words
 bounded-faultless w h =
-    let a : List Fault = flat_map object_faults w.objects in
-    let b : List Fault = flat_map (of_transaction (scope_of w)) w.transactions in
-    let c : List Fault = flat_map (client_faults w.sites (scope_of w) w.transactions) w.clients in
-    none_first a b (none_first (a ++ b) c h.declared)
+    (declared_parts w h.declared).objects
 
 pub prints-along : (w : Workload) (sc : Scope) (best : Option Fault) (ts : List Transaction) (calls : List SitedCall) → sc ≡ scope_of (plain_workload w) → ts ≡ w.transactions.items → map sited calls ≡ sited_calls (plain_workload w) → IsFaultless (plain_workload w) → (print_all sc (map capped_prints ts) (record { total = 0; best = best }) calls).best ≡ keep_all best (print_faults (plain_workload w))
 unfolding meaning_words syntax_words
@@ -228,7 +251,7 @@ unfolding meaning_words
 grounds-are w calls el sound =
     let p : s.Workload = plain_workload w in
     let name : g.SitedCall → Ident = λ c. c.name in
-    let last : each (passes_limit 1024 name) (distinct_after [] (sited_calls p)) ≡ [] = none_second _ (each (passes_limit 1024 name) (distinct_after [] (sited_calls p))) sound.limits in
+    let last : each (passes_limit 1024 name) (distinct_after [] (sited_calls p)) ≡ [] = (limit_parts p sound.limits).grounds in
     ground-are calls (ap (λ l. each (passes_limit 1024 name) (distinct_after [] l)) el ∙ last) ∙ ap (distinct_after []) el
 
 -- ---- the names of what is read

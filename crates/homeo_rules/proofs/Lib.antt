@@ -18,3 +18,6 @@ pub mod Whole
 pub mod Siting
 pub mod Sizing
 pub mod Measured
+pub mod Counts
+pub mod Declaring
+pub mod Filling

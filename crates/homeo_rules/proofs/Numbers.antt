@@ -4,7 +4,7 @@ use Rattle.homeo_syntax.specs.declared.phrase.Number.{Number}
 use Rattle.homeo_syntax.specs.declared.workload.ObjectDecl.{ObjectDecl}
 use Rattle.homeo_syntax.specs.declared.workload.RangeDecl.{RangeDecl}
 use Rattle.homeo_meaning.specs.Key.{words as meaning_words}
-use Rattle.homeo_meaning.specs.NumberRules.{too_large, crossed, range_faults, outside, object_faults, parameter_bounds}
+use Rattle.homeo_meaning.specs.NumberRules.{too_large, crossed, range_faults, outside, object_faults, range_bounds}
 use Rattle.homeo_rules.proofs.Steps.{keep_all-append}
 
 pub range-is : (lo hi : Number) → range_faults lo hi ≡ too_large lo ++ too_large hi ++ crossed lo hi
@@ -15,8 +15,8 @@ pub object-is : (d : ObjectDecl) → object_faults d ≡ range_faults d.lo d.hi 
 unfolding meaning_words
 object-is d = refl
 
-pub parameter-is : (d : RangeDecl) → parameter_bounds d ≡ range_faults d.lo d.hi
+pub declared-is : (d : RangeDecl) → range_bounds d ≡ range_faults d.lo d.hi
 unfolding meaning_words
-parameter-is d = refl
+declared-is d = refl
 
-pub ruleset bounds = (range-is, object-is, parameter-is, keep_all-append)
+pub ruleset bounds = (range-is, object-is, declared-is, keep_all-append)

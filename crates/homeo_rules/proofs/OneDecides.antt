@@ -75,21 +75,20 @@ none_left (g ∷ fs) e = absurd (some_kept g fs e)
 
 -- ---- only one decides
 abbrev phase_at : ℕ → Phase
-phase_at zero = P.Unbuilt
-phase_at (suc zero) = P.Duplicate
-phase_at (suc (suc zero)) = P.Unknown
-phase_at (suc (suc (suc zero))) = P.Kind
-phase_at (suc (suc (suc (suc zero)))) = P.Arity
-phase_at (suc (suc (suc (suc (suc zero))))) = P.Bounds
-phase_at (suc (suc (suc (suc (suc (suc zero)))))) = P.Limits
-phase_at (suc (suc (suc (suc (suc (suc (suc zero))))))) = P.Schedule
+phase_at zero = P.Duplicate
+phase_at (suc zero) = P.Unknown
+phase_at (suc (suc zero)) = P.Kind
+phase_at (suc (suc (suc zero))) = P.Arity
+phase_at (suc (suc (suc (suc zero)))) = P.Bounds
+phase_at (suc (suc (suc (suc (suc zero))))) = P.Limits
+phase_at (suc (suc (suc (suc (suc (suc zero)))))) = P.Schedule
+phase_at (suc (suc (suc (suc (suc (suc (suc zero))))))) = P.Unbuilt
 phase_at (suc (suc (suc (suc (suc (suc (suc (suc zero)))))))) = P.Size
 phase_at (suc (suc (suc (suc (suc (suc (suc (suc (suc zero))))))))) = P.Weight
 phase_at (suc (suc (suc (suc (suc (suc (suc (suc (suc (suc n)))))))))) = P.Rows
 
 phase_of : (p : Phase) → phase_at (rank p) ≡ p
 unfolding words
-phase_of P.Unbuilt = refl
 phase_of P.Duplicate = refl
 phase_of P.Unknown = refl
 phase_of P.Kind = refl
@@ -97,6 +96,7 @@ phase_of P.Arity = refl
 phase_of P.Bounds = refl
 phase_of P.Limits = refl
 phase_of P.Schedule = refl
+phase_of P.Unbuilt = refl
 phase_of P.Size = refl
 phase_of P.Weight = refl
 phase_of P.Rows = refl

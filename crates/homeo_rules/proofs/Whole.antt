@@ -13,9 +13,9 @@ use Rattle.homeo_syntax.specs.declared.workload.Transaction.{Transaction}
 use Rattle.homeo_syntax.specs.declared.command.Command.{Command}
 use Rattle.homeo_meaning.specs.Key.{words as meaning_words}
 use Rattle.homeo_meaning.specs.Bindings as m
-use Rattle.homeo_meaning.specs.Places.{Place, in_expr, in_exprs, in_test, in_cond, in_command, in_commands}
+use Rattle.homeo_meaning.specs.Places.{Place, within, in_expr, in_exprs, in_test, in_cond, in_fields, in_command, in_commands}
 use Rattle.homeo_meaning.specs.NameRules.{when, fault}
-use Rattle.homeo_meaning.specs.NumberRules.{parameter_bounds}
+use Rattle.homeo_meaning.specs.NumberRules.{range_bounds}
 use Rattle.homeo_meaning.specs.TransactionRules.{is_in, each_from, each, local_of, body_faults, parameter_fault, transaction_faults}
 use Rattle.homeo_meaning.specs.Faults.{of_transaction}
 use Rattle.homeo_meaning.specs.Deciding.{keep_all}
@@ -48,17 +48,14 @@ mutual
   no_targets n rows (s.Sum es) = no_targets_in n rows es
   no_targets n rows (s.Product es) = no_targets_in n rows es
   no_targets n rows (s.Neg e) = no_targets n rows e
-  no_targets n rows (s.Field q e f) = tt
-  no_targets n rows (s.Row r f) = tt
-  no_targets n rows (s.Count r q c) = tt
-  no_targets n rows (s.Total r f q c) = tt
+  no_targets n rows (s.Field q e f) = (tt, (tt, no_targets n rows e))
+  no_targets n rows (s.Row r f) = (tt, tt)
+  no_targets n rows (s.Count r q c) = (tt, (tt, no_targets_cond n (within r q rows) c))
+  no_targets n rows (s.Total r f q c) = (tt, (tt, (tt, no_targets_cond n (within r q rows) c)))
 
   no_targets_in : (n : ℕ) (rows : List m.Row) (es : s.Exprs) → TargetsWithin n (in_exprs rows es)
   no_targets_in n rows s.NoExpr = tt
   no_targets_in n rows (s.MoreExpr e es) = both n (in_expr rows e) (in_exprs rows es) (no_targets n rows e) (no_targets_in n rows es)
-
-mutual
-  unfolding meaning_words
 
   no_targets_test : (n : ℕ) (rows : List m.Row) (t : s.Test) → TargetsWithin n (in_test rows t)
   no_targets_test n rows s.True = tt
@@ -68,6 +65,11 @@ mutual
   no_targets_cond : (n : ℕ) (rows : List m.Row) (c : s.Cond) → TargetsWithin n (in_cond rows c)
   no_targets_cond n rows s.NoTest = tt
   no_targets_cond n rows (s.MoreTest t c) = both n (in_test rows t) (in_cond rows c) (no_targets_test n rows t) (no_targets_cond n rows c)
+
+no_targets_values : (n : ℕ) (rows : List m.Row) (fs : List s.FieldValue) → TargetsWithin n (in_fields rows fs)
+unfolding meaning_words
+no_targets_values n rows [] = tt
+no_targets_values n rows (f ∷ fs) = both n (in_expr rows f.value) (in_fields rows fs) (no_targets n rows f.value) (no_targets_values n rows fs)
 
 mutual
   unfolding meaning_words syntax_words
@@ -80,12 +82,14 @@ mutual
   targets_of n rows (s.If t c d) h =
       both n (in_cond rows t ++ in_command rows c) (in_command rows d) (both n (in_cond rows t) (in_command rows c) (no_targets_cond n rows t) (targets_of n rows c h.1)) (targets_of n rows d h.2)
   targets_of n rows (s.Block cs) h = targets n rows cs h
-  targets_of n rows (s.SetField q i f e) h = tt
-  targets_of n rows (s.SetRow r f e) h = tt
-  targets_of n rows (s.Foreach r q t cs) h = tt
-  targets_of n rows (s.Insert q fs t) h = tt
-  targets_of n rows (s.Delete r q t) h = tt
-  targets_of n rows (s.Update r q t f e) h = tt
+  targets_of n rows (s.SetField q i f e) h = (tt, (tt, both n (in_expr rows i) (in_expr rows e) (no_targets n rows i) (no_targets n rows e)))
+  targets_of n rows (s.SetRow r f e) h = (tt, no_targets n rows e)
+  targets_of n rows (s.Foreach r q t cs) h =
+      (tt, (tt, both n (in_cond (within r q rows) t) (in_commands (within r q rows) cs) (no_targets_cond n (within r q rows) t) (targets n (within r q rows) cs h.3)))
+  targets_of n rows (s.Insert q fs t) h = (tt, (tt, both n (in_fields rows fs) _ (no_targets_values n rows fs) (h.2, tt)))
+  targets_of n rows (s.Delete r q t) h = (tt, (tt, no_targets_cond n (within r q rows) t))
+  targets_of n rows (s.Update r q t f e) h =
+      (tt, (tt, (tt, both n (in_cond (within r q rows) t) (in_expr (within r q rows) e) (no_targets_cond n (within r q rows) t) (no_targets n (within r q rows) e))))
 
   targets : (n : ℕ) (rows : List m.Row) (cs : s.Commands) → EachInCommands (IsBelow n) cs → TargetsWithin n (in_commands rows cs)
   targets n rows s.NoCommand h = tt
@@ -163,12 +167,12 @@ whole sc n best t within =
     ∙ sym (keep_all-append best (each (parameter_fault sc) params) (body_faults sc ps places))
 
 -- with the bounds of the parameters before
-pub in_all : (sc : m.Scope) (n : ℕ) (best bounds : Option Fault) (t : Transaction) (k0 k1 k2 : Standing) (ds es : List RangeDecl) (cs : List Command) → ds ≡ t.params.items → bounds ≡ along_all parameter_bounds best ds → es ≡ t.params.items → k0 ≡ record { locals = replicate n L.Absent; best = bounds } → k1 ≡ enter_params sc k0 es → cs ≡ t.body.items → k2 ≡ follow sc k1 (in_commands [] (plain_commands cs)) → IsNamed n (plain_transaction t) → k2.best ≡ keep_all best (of_transaction sc (plain_transaction t))
+pub in_all : (sc : m.Scope) (n : ℕ) (best bounds : Option Fault) (t : Transaction) (k0 k1 k2 : Standing) (ds es : List RangeDecl) (cs : List Command) → ds ≡ t.params.items → bounds ≡ along_all range_bounds best ds → es ≡ t.params.items → k0 ≡ record { locals = replicate n L.Absent; best = bounds } → k1 ≡ enter_params sc k0 es → cs ≡ t.body.items → k2 ≡ follow sc k1 (in_commands [] (plain_commands cs)) → IsNamed n (plain_transaction t) → k2.best ≡ keep_all best (of_transaction sc (plain_transaction t))
 unfolding words meaning_words syntax_words
 in_all sc n best bounds t k0 k1 k2 ds es cs params checked same at_start first body second within =
     let start : Option Fault → Standing = λ b. record { locals = replicate n L.Absent; best = b } in
     ap (λ k. k.best) (second ∙ (λ i. follow sc (first i) (in_commands [] (plain_commands (body i)))))
     ∙ (λ i. (follow sc (enter_params sc (at_start i) (same i)) (in_commands [] (plain_commands t.body.items))).best)
     ∙ whole sc n bounds (plain_transaction t) within
-    ∙ ap (λ b. keep_all b (transaction_faults sc (plain_transaction t))) (checked ∙ (λ i. along_all parameter_bounds best (params i)) ∙ sym (all-along parameter_bounds best t.params.items))
-    ∙ sym (keep_all-append best (flat_map parameter_bounds t.params.items) (transaction_faults sc (plain_transaction t)))
+    ∙ ap (λ b. keep_all b (transaction_faults sc (plain_transaction t))) (checked ∙ (λ i. along_all range_bounds best (params i)) ∙ sym (all-along range_bounds best t.params.items))
+    ∙ sym (keep_all-append best (flat_map range_bounds t.params.items) (transaction_faults sc (plain_transaction t)))

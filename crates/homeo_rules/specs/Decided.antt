@@ -11,12 +11,12 @@ use Rattle.homeo_meaning.specs.Deciding.{keep_all}
 use Rattle.homeo_meaning.specs.declared.call.Purpose.{Purpose}
 use Rattle.homeo_meaning.specs.declared.rules.Fault.{Fault}
 use Rattle.homeo_rules.specs.Key.{words}
-use Rattle.homeo_rules.specs.Scopes.{scope_with}
+use Rattle.homeo_rules.specs.Scopes.{item_at}
 use Rattle.homeo_rules.specs.Items.{Items}
 
 -- the table of a workload's global names, and the fault that decides with theirs
 pub record NamesGlobals (w : s.Workload) (best : Option Fault) (t : Items) : Type 0 where
-  pub scope : scope_with t.items ≡ scope_of w
+  pub items : item_at t.items ≡ (scope_of w).item
   pub kept : t.best ≡ keep_all best (each duplicate (map (λ d. d.name) (global_names w)))
 
 -- the faults of the text that need the global names

@@ -1,12 +1,15 @@
 pub mod Along
 pub mod Callers
+pub mod Counting
 pub mod Decided
 pub mod Follow
+pub mod InForce
 pub mod Items
 pub mod Key
 pub mod Limited
 pub mod Plain
 pub mod Printing
+pub mod Relations
 pub mod Scopes
 pub mod Stages
 pub mod Tally

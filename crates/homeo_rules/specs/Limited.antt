@@ -1,7 +1,6 @@
 -- What comes after as much as there may be.
 use Rattle.std.specs.Prelude.{ℕ, nat_le, not, ◌&&◌, List, [], ◌∷◌, ◌++◌, length, Option, Some, None, if◌then◌else◌}
 use Rattle.std.specs.List.{list_any}
-use Rattle.homeo_syntax.specs.declared.workload.ObjectDecl.{ObjectDecl}
 use Rattle.homeo_syntax.specs.declared.workload.Transaction.{Transaction}
 use Rattle.homeo_syntax.specs.declared.workload.Client.{Client}
 use Rattle.homeo_meaning.specs.NameRules.{fault}
@@ -9,10 +8,6 @@ use Rattle.homeo_meaning.specs.declared.rules.Fault.{Fault}
 use Rattle.homeo_meaning.specs.declared.rules.Phase.TheVariants.{Limits}
 use Rattle.homeo_rules.specs.Sited.{same_ground_of}
 use Rattle.homeo_rules.specs.declared.sited.SitedCall.{SitedCall}
-
-abbrev pub object_passing : Option ObjectDecl → List Fault
-object_passing None = []
-object_passing (Some d) = fault Limits d.name
 
 abbrev pub transaction_passing : Option Transaction → List Fault
 transaction_passing None = []

@@ -1,9 +1,11 @@
 -- Lists of phrases and of commands as plain data.
 use Rattle.std.specs.Prelude.{List, map}
 use Rattle.homeo_syntax.specs.Source as s
-use Rattle.homeo_syntax.specs.SourceView.{exprs, tests, commands, plain_expr, plain_test, plain_command}
+use Rattle.homeo_syntax.specs.SourceView.{exprs, tests, commands, plain_expr, plain_test, plain_field, plain_command}
 use Rattle.homeo_syntax.specs.declared.phrase.Expr.{Expr}
 use Rattle.homeo_syntax.specs.declared.phrase.Test.{Test}
+use Rattle.homeo_syntax.specs.declared.phrase.Ident.{Ident}
+use Rattle.homeo_syntax.specs.declared.command.FieldValue.{FieldValue}
 use Rattle.homeo_syntax.specs.declared.command.Command.{Command}
 use Rattle.homeo_rules.specs.Key.{words}
 
@@ -14,6 +16,15 @@ plain_exprs es = exprs (map plain_expr es)
 abbrev pub plain_tests : List Test → s.Cond
 unfolding words
 plain_tests ts = tests (map plain_test ts)
+
+abbrev pub plain_fields : List FieldValue → List s.FieldValue
+unfolding words
+plain_fields fs = map plain_field fs
+
+-- the fields that an insert names
+abbrev pub named_fields : List FieldValue → List Ident
+unfolding words
+named_fields fs = map (λ f. f.field) fs
 
 abbrev pub plain_commands : List Command → s.Commands
 unfolding words

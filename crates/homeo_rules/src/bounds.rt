@@ -1,7 +1,7 @@
 //! The rules of bounds.
 
 ghost use Rattle.std.specs.Prelude.{◌≡◌, slice_get};
-ghost use Rattle.homeo_meaning.specs.NumberRules.{argument_outside, too_large, crossed, range_faults, outside, object_faults, parameter_bounds, site_faults};
+ghost use Rattle.homeo_meaning.specs.NumberRules.{argument_outside, too_large, crossed, range_faults, outside, object_faults, range_bounds, site_faults};
 ghost use Rattle.homeo_meaning.specs.Deciding.{keep_all};
 ghost use Rattle.homeo_rules.specs.Listwise.{along_all, along_arguments};
 
@@ -63,8 +63,8 @@ fn check_object(d: ObjectDecl, best: Option<Fault>) -> Option<Fault>
 }
 
 #[tactic(auto, using(crate::proofs::Numbers::bounds))]
-fn check_parameter(d: RangeDecl, best: Option<Fault>) -> Option<Fault>
-    ensures { result ≡ keep_all best (parameter_bounds d) }
+fn check_declared(d: RangeDecl, best: Option<Fault>) -> Option<Fault>
+    ensures { result ≡ keep_all best (range_bounds d) }
 {
     check_range(d.lo, d.hi, best)
 }
@@ -79,12 +79,13 @@ pub fn check_objects(ds: &[ObjectDecl], best: Option<Fault>) -> Option<Fault>
     best
 }
 
-pub fn check_parameters(ds: &[RangeDecl], best: Option<Fault>) -> Option<Fault>
-    ensures { result ≡ along_all parameter_bounds best ds.now }
+/// The bounds of parameters or of fields.
+pub fn check_ranges(ds: &[RangeDecl], best: Option<Fault>) -> Option<Fault>
+    ensures { result ≡ along_all range_bounds best ds.now }
 {
     let mut best = best;
     for d in ds {
-        best = check_parameter(*d, best);
+        best = check_declared(*d, best);
     }
     best
 }

@@ -1,19 +1,23 @@
 //! What is known at a place of a transaction, and the rules of names there.
 
-ghost use Rattle.std.specs.Prelude.{◌≡◌, [], replicate, IfOk};
+ghost use Rattle.std.specs.Prelude.{◌≡◌, replicate, IfOk};
 ghost use Rattle.homeo_meaning.specs.Bindings.{binding};
-ghost use Rattle.homeo_meaning.specs.Places.{at, TakesObject, TakesValue, Assigns};
+ghost use Rattle.homeo_meaning.specs.Places.{at, DeclaresRow, TakesObject, TakesRelation, TakesValue, TakesField, NamesField, FillsFields, Assigns};
 ghost use Rattle.homeo_meaning.specs.Deciding.{keep_all};
 ghost use Rattle.homeo_meaning.specs.NameRules.{fault};
 ghost use Rattle.homeo_meaning.specs.declared.rules.Local.TheVariants.{Absent};
 ghost use Rattle.homeo_rules.specs.Follow.{local_at, step};
+ghost use Rattle.homeo_rules.specs.InForce.{rows_of};
 ghost use Rattle.homeo_rules.specs.Params.{enter_param};
+ghost use Rattle.homeo_rules.specs.Plain.{named_fields};
 ghost use Rattle.homeo_rules.specs.Scopes.{scope_in};
 
 use crate::deciding::at_name;
+use crate::fields::{check_field, check_insert};
+use crate::rows::Rows;
 use crate::scope::Scope;
 use homeo_meaning::{Binding, Fault, Item, Local, Phase};
-use homeo_syntax::{Ident, Memory};
+use homeo_syntax::{FieldValue, Ident, Memory};
 use std::alloc::Global;
 use std::marker::Model;
 
@@ -63,15 +67,18 @@ impl Checker {
     }
 
     #[tactic(auto, unfolding(homeo_meaning::specs::Key::words))]
-    fn binding(&self, scope: &Scope<'_>, name: u32) -> Binding
-        ensures { result ≡ binding (scope_in scope.now) (local_at self.now.locals) [] name }
+    fn binding(&self, scope: &Scope<'_>, rows: &Rows<'_>, name: u32) -> Binding
+        ensures { result ≡ binding (scope_in scope.now) (local_at self.now.locals) (rows_of rows.now) name }
     {
         match scope.item(name) {
             Some(item) => Binding::Item(item),
-            None => match self.local(name) {
-                Local::Absent => Binding::Unbound,
-                Local::Parameter => Binding::Parameter,
-                Local::Temporary => Binding::Temporary,
+            None => match rows.relation_of(name) {
+                Some(relation) => Binding::Row(relation),
+                None => match self.local(name) {
+                    Local::Absent => Binding::Unbound,
+                    Local::Parameter => Binding::Parameter,
+                    Local::Temporary => Binding::Temporary,
+                },
             },
         }
     }
@@ -89,10 +96,20 @@ impl Checker {
     }
 
     #[tactic(auto, using(crate::proofs::Steps::steps))]
-    pub fn takes_object(&mut self, scope: &Scope<'_>, x: Ident)
-        ensures { self.new ≡ step (scope_in scope.now) self.old (at [] (TakesObject x)) }
+    pub fn declares_row(&mut self, scope: &Scope<'_>, rows: &Rows<'_>, x: Ident)
+        ensures { self.new ≡ step (scope_in scope.now) self.old (at (rows_of rows.now) (DeclaresRow x)) }
     {
-        match self.binding(scope, x.name) {
+        match self.binding(scope, rows, x.name) {
+            Binding::Unbound => {}
+            _ => self.keep(Phase::Duplicate, x),
+        }
+    }
+
+    #[tactic(auto, using(crate::proofs::Steps::steps))]
+    pub fn takes_object(&mut self, scope: &Scope<'_>, rows: &Rows<'_>, x: Ident)
+        ensures { self.new ≡ step (scope_in scope.now) self.old (at (rows_of rows.now) (TakesObject x)) }
+    {
+        match self.binding(scope, rows, x.name) {
             Binding::Unbound => self.keep(Phase::Unknown, x),
             Binding::Item(Item::Object(_)) => {}
             _ => self.keep(Phase::Kind, x),
@@ -100,10 +117,54 @@ impl Checker {
     }
 
     #[tactic(auto, using(crate::proofs::Steps::steps))]
-    pub fn takes_value(&mut self, scope: &Scope<'_>, x: Ident)
-        ensures { self.new ≡ step (scope_in scope.now) self.old (at [] (TakesValue x)) }
+    pub fn takes_relation(&mut self, scope: &Scope<'_>, rows: &Rows<'_>, x: Ident)
+        ensures { self.new ≡ step (scope_in scope.now) self.old (at (rows_of rows.now) (TakesRelation x)) }
     {
-        match self.binding(scope, x.name) {
+        match self.binding(scope, rows, x.name) {
+            Binding::Unbound => self.keep(Phase::Unknown, x),
+            Binding::Item(Item::Relation(_)) => {}
+            _ => self.keep(Phase::Kind, x),
+        }
+    }
+
+    #[tactic(auto, using(crate::proofs::Steps::steps))]
+    pub fn takes_field(&mut self, scope: &Scope<'_>, rows: &Rows<'_>, row: Ident, field: Ident)
+        ensures { self.new ≡ step (scope_in scope.now) self.old (at (rows_of rows.now) (TakesField row field)) }
+    {
+        match self.binding(scope, rows, row.name) {
+            Binding::Unbound => self.keep(Phase::Unknown, row),
+            Binding::Row(relation) => {
+                self.best = check_field(scope, scope.item(relation), field, self.best);
+            }
+            _ => self.keep(Phase::Kind, row),
+        }
+    }
+
+    #[tactic(auto, using(crate::proofs::Steps::steps))]
+    pub fn names_field(&mut self, scope: &Scope<'_>, rows: &Rows<'_>, relation: Ident, field: Ident)
+        ensures { self.new ≡ step (scope_in scope.now) self.old (at (rows_of rows.now) (NamesField relation field)) }
+    {
+        self.best = check_field(scope, scope.item(relation.name), field, self.best);
+    }
+
+    #[tactic(auto, using(crate::proofs::Steps::steps))]
+    pub fn fills_fields(
+        &mut self,
+        scope: &Scope<'_>,
+        rows: &Rows<'_>,
+        relation: Ident,
+        fields: &[FieldValue],
+    )
+        ensures { self.new ≡ step (scope_in scope.now) self.old (at (rows_of rows.now) (FillsFields relation (named_fields fields.now))) }
+    {
+        self.best = check_insert(scope, relation, fields, self.best);
+    }
+
+    #[tactic(auto, using(crate::proofs::Steps::steps))]
+    pub fn takes_value(&mut self, scope: &Scope<'_>, rows: &Rows<'_>, x: Ident)
+        ensures { self.new ≡ step (scope_in scope.now) self.old (at (rows_of rows.now) (TakesValue x)) }
+    {
+        match self.binding(scope, rows, x.name) {
             Binding::Unbound => self.keep(Phase::Unknown, x),
             Binding::Parameter | Binding::Temporary => {}
             _ => self.keep(Phase::Kind, x),
@@ -111,10 +172,10 @@ impl Checker {
     }
 
     #[tactic(auto, using(crate::proofs::Steps::steps))]
-    pub fn assigns(&mut self, scope: &Scope<'_>, t: Ident)
-        ensures { self.new ≡ step (scope_in scope.now) self.old (at [] (Assigns t)) }
+    pub fn assigns(&mut self, scope: &Scope<'_>, rows: &Rows<'_>, t: Ident)
+        ensures { self.new ≡ step (scope_in scope.now) self.old (at (rows_of rows.now) (Assigns t)) }
     {
-        match self.binding(scope, t.name) {
+        match self.binding(scope, rows, t.name) {
             Binding::Unbound => {
                 if let Some(local) = self.locals.get_mut(t.name as usize) {
                     *local = Local::Temporary;

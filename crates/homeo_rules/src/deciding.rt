@@ -14,14 +14,14 @@ pub fn rank(phase: Phase) -> u8
     ensures { result ≡ rank phase }
 {
     match phase {
-        Phase::Unbuilt => 0,
-        Phase::Duplicate => 1,
-        Phase::Unknown => 2,
-        Phase::Kind => 3,
-        Phase::Arity => 4,
-        Phase::Bounds => 5,
-        Phase::Limits => 6,
-        Phase::Schedule => 7,
+        Phase::Duplicate => 0,
+        Phase::Unknown => 1,
+        Phase::Kind => 2,
+        Phase::Arity => 3,
+        Phase::Bounds => 4,
+        Phase::Limits => 5,
+        Phase::Schedule => 6,
+        Phase::Unbuilt => 7,
         Phase::Size => 8,
         Phase::Weight => 9,
         Phase::Rows => 10,

@@ -19,10 +19,12 @@ use crate::built::{check_built_transactions, check_no_relations};
 use crate::calls::check_clients;
 use crate::items::{self, Items};
 use crate::limits::{
-    check_call_count, check_client_count, check_ground_calls, check_object_count, check_site_count,
+    check_call_count, check_client_count, check_ground_calls, check_site_count,
     check_transaction_count, ground_calls,
 };
+use crate::objects::check_object_count;
 use crate::prints::check_prints;
+use crate::relations::{check_all_slots, check_relations};
 use crate::schedule::check_schedule;
 use crate::scope::Scope;
 use crate::sited::{SitedCall, sited_calls};
@@ -63,6 +65,7 @@ fn declared(
     ensures { IfOk result (λ b. b ≡ keep_all best (declared_faults (plain_workload w.now))) }
 {
     let best = check_objects(w.objects.as_slice(), best);
+    let best = check_relations(w.relations.as_slice(), best);
     let names = w.names.as_slice().len();
     let best = check_transactions(alloc, w.transactions.as_slice(), scope, names, best)?;
     Ok(check_clients(
@@ -84,7 +87,8 @@ fn limits(
     ensures { IfOk result (λ b. b ≡ keep_all best (limit_faults (plain_workload w.now))) }
 {
     let best = check_site_count(w.sites, best);
-    let best = check_object_count(w.objects.as_slice(), best);
+    let best = check_all_slots(w.relations.as_slice(), best);
+    let best = check_object_count(w.objects.as_slice(), w.relations.as_slice(), best);
     let best = check_transaction_count(w.transactions.as_slice(), best);
     let best = check_client_count(w.clients.as_slice(), best);
     let best = check_call_count(calls, best);
@@ -218,6 +222,7 @@ pub fn decide(alloc: Global, purpose: Purpose, w: &Workload) -> Result<Option<Fa
     let items = global_names(alloc, w, best)?;
     let scope = Scope {
         items: items.as_slice(),
+        relations: w.relations.as_slice(),
     };
     let calls = sited_calls(alloc, w.clients.as_slice())?;
     let best = text(alloc, purpose, w, &scope, calls.as_slice(), items.best())?;

@@ -1,21 +1,19 @@
-//! The limits on how much is declared and called.
+//! The limits on how many sites, transactions, clients and calls there are.
 
 ghost use Rattle.std.specs.Prelude.{◌≡◌, [], IfOk, OnOk, slice_get};
 ghost use Rattle.std.specs.List.{list_any};
 ghost use Rattle.homeo_meaning.specs.Deciding.{keep_all};
 ghost use Rattle.homeo_meaning.specs.NumberRules.{site_count_faults};
-ghost use Rattle.homeo_rules.specs.Limited.{object_passing, transaction_passing, client_passing, call_passing, kept_with, distinct_within};
+ghost use Rattle.homeo_rules.specs.Limited.{transaction_passing, client_passing, call_passing, kept_with, distinct_within};
 ghost use Rattle.homeo_rules.specs.Sited.{same_ground_of};
 
 use crate::deciding::{at_name, at_number};
 use crate::sited::{SitedCall, is_same_ground};
 use homeo_meaning::{Fault, Phase};
-use homeo_syntax::{Client, Memory, Number, ObjectDecl, Transaction};
+use homeo_syntax::{Client, Memory, Number, Transaction};
 use std::alloc::Global;
 
 const MOST_SITES: i64 = 16;
-
-const MOST_OBJECTS: usize = 1024;
 
 const MOST_TRANSACTIONS: usize = 256;
 
@@ -33,16 +31,6 @@ pub fn check_site_count(sites: Number, best: Option<Fault>) -> Option<Fault>
         at_number(best, Phase::Limits, sites)
     } else {
         best
-    }
-}
-
-#[tactic(auto, using(crate::proofs::Steps::keeping), unfolding(homeo_meaning::specs::Key::words))]
-pub fn check_object_count(ds: &[ObjectDecl], best: Option<Fault>) -> Option<Fault>
-    ensures { result ≡ keep_all best (object_passing (slice_get ds.now 1024)) }
-{
-    match ds.get(MOST_OBJECTS) {
-        Some(d) => at_name(best, Phase::Limits, d.name),
-        None => best,
     }
 }
 

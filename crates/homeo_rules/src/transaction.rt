@@ -10,8 +10,9 @@ ghost use Rattle.homeo_rules.specs.Within.{IsNamed, AreNamed};
 ghost use Rattle.homeo_rules.specs.Callers.{transaction_faults_of};
 ghost use Rattle.homeo_rules.specs.Listwise.{along_all};
 
-use crate::bounds::check_parameters;
+use crate::bounds::check_ranges;
 use crate::checker::Checker;
+use crate::rows::Rows;
 use crate::scope::Scope;
 use crate::walk::walk_commands;
 use homeo_meaning::Fault;
@@ -37,10 +38,10 @@ pub fn check_transaction(
     requires { IsNamed names (plain_transaction t.now) }
     ensures { IfOk result (λ b. b ≡ keep_all best (of_transaction (scope_in scope.now) (plain_transaction t.now))) }
 {
-    let best = check_parameters(t.params.as_slice(), best);
+    let best = check_ranges(t.params.as_slice(), best);
     let mut k = Checker::start(alloc, names, best)?;
     enter_params(t.params.as_slice(), scope, &mut k);
-    walk_commands(t.body.as_slice(), scope, &mut k);
+    walk_commands(t.body.as_slice(), scope, &Rows::Outside, &mut k);
     Ok(k.best())
 }
 

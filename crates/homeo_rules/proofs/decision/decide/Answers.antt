@@ -1,21 +1,20 @@
 use Rattle.std.proofs.Common.{◌≡◌, ◌∙◌, IfOk, subst, sym, ap, map}
 use Rattle.homeo_syntax.specs.SourceView.{plain_workload}
-use Rattle.homeo_rules.specs.Scopes.{scope_with}
 use Rattle.homeo_rules.specs.Sited.{sited}
-use Rattle.homeo_rules.proofs.Joining.{calls-are, text-found, text-decides, forms-decide, faultless}
+use Rattle.homeo_rules.proofs.Joining.{scope-is, calls-are, text-found, text-decides, forms-decide, faultless}
 use Rattle.homeo_rules.proofs.decision.decide.Goals as goal
 
 pub text-requires-clause-names : goal.text-requires-clause-names
-text-requires-clause-names c = ap scope_with c.as_slice.ensures ∙ c.in_ok-items.ensures.scope
+text-requires-clause-names c = scope-is c.args.w.now c.unbuilt-best.result c.in_ok-items.items c.as_slice.result.now c.as_slice-2.result.now c.in_ok-items.ensures c.as_slice.ensures c.as_slice-2.ensures
 
 pub text-requires-clause-sited : goal.text-requires-clause-sited
-text-requires-clause-sited c = ap (map sited) c.as_slice-3.ensures.value ∙ calls-are c.args.w.now c.in_ok-calls.calls.items c.as_slice-2.result.now c.in_ok-calls.ensures c.as_slice-2.ensures
+text-requires-clause-sited c = ap (map sited) c.as_slice-4.ensures.value ∙ calls-are c.args.w.now c.in_ok-calls.calls.items c.as_slice-3.result.now c.in_ok-calls.ensures c.as_slice-3.ensures
 
 pub forms-requires-clause-names : goal.forms-requires-clause-names
-forms-requires-clause-names c = ap scope_with c.as_slice.ensures ∙ c.in_ok-items.ensures.scope
+forms-requires-clause-names c = scope-is c.args.w.now c.unbuilt-best.result c.in_ok-items.items c.as_slice.result.now c.as_slice-2.result.now c.in_ok-items.ensures c.as_slice.ensures c.as_slice-2.ensures
 
 pub forms-requires-clause-sited : goal.forms-requires-clause-sited
-forms-requires-clause-sited c = ap (map sited) c.as_slice-in-None.ensures.value ∙ calls-are c.args.w.now c.in_ok-calls.calls.items c.as_slice-2.result.now c.in_ok-calls.ensures c.as_slice-2.ensures
+forms-requires-clause-sited c = ap (map sited) c.as_slice-in-None.ensures.value ∙ calls-are c.args.w.now c.in_ok-calls.calls.items c.as_slice-3.result.now c.in_ok-calls.ensures c.as_slice-3.ensures
 
 pub forms-requires-clause-faultless : goal.forms-requires-clause-faultless
 forms-requires-clause-faultless c =
