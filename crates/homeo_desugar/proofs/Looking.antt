@@ -1,5 +1,5 @@
 -- The L form of what is called.
-use Rattle.std.proofs.Common.{◌≡◌, ℕ, zero, suc, ◌<◌, ℤ, Some, List, [], ◌∷◌, map, length, refl, sym, ap, ◌∙◌, subst, arith}
+use Rattle.std.proofs.Common.{◌≡◌, ℕ, zero, suc, ◌+◌, ◌*◌, ◌<◌, ◌≤◌, ◌==◌, Bool, true, false, cond, All, ℤ, Some, List, [], ◌∷◌, map, length, refl, sym, ap, ◌∙◌, subst, arith}
 use Rattle.std.specs.Prelude.{slice_get, option_map, IsSome}
 use Rattle.std.proofs.lemmas.Bool.{false≢true}
 use Rattle.homeo_syntax.specs.Key.{words as tree_words}
@@ -13,14 +13,20 @@ use Rattle.homeo_syntax.specs.declared.workload.Transaction.{Transaction}
 use Rattle.homeo_syntax.specs.declared.workload.Workload.{Workload}
 use Rattle.homeo_meaning.specs.Key.{words}
 use Rattle.homeo_meaning.specs.Acceptance.{IsAccepted}
-use Rattle.homeo_meaning.specs.Context.{Slot, context, arguments_of, object_count}
+use Rattle.homeo_meaning.specs.Context.{Slot, context, arguments_of, object_count, find_fields}
 use Rattle.homeo_meaning.specs.Ground.{Ground}
 use Rattle.homeo_meaning.specs.LForm.{forms, l_form}
-use Rattle.homeo_meaning.specs.Schema.{Declared, Schema, declared_object, declared_relation, schema_of}
+use Rattle.homeo_meaning.specs.Schema.{Declared, Relation, Schema, declared_object, declared_relation, schema_of}
+use Rattle.homeo_meaning.specs.NumberRules.{limit_faults}
+use Rattle.homeo_meaning.specs.declared.call.Purpose.TheVariants.{Run}
+use Rattle.homeo_meaning.proofs.FaultParts.{parts}
+use Rattle.homeo_meaning.proofs.SoundRelations.{SlotsFit, slots-fit, objects-fit}
+use Rattle.homeo_meaning.proofs.SoundRules.{all_head, all_tail}
 use Rattle.homeo_desugar.specs.Key.{words as desugar_words}
 use Rattle.homeo_desugar.specs.Called.{form_of}
 use Rattle.homeo_desugar.specs.Made.{AreFormed}
-use Rattle.homeo_desugar.specs.Settings.{schemas, schema_with, absent, SchemaFits}
+use Rattle.homeo_desugar.specs.Settings.{schemas, objects_of, schema_with, absent, SchemaFits}
+use Rattle.homeo_desugar.proofs.Schemas.{count_least}
 
 -- ---- a transaction by its number
 in_list : (ts : List Transaction) (n : ℕ) → IsSome (slice_get (map plain_transaction ts) n) → n < length ts
@@ -45,9 +51,38 @@ schema_is w own os rs e o q =
     ∙ ap (λ (v : Workload). schema_with (map declared_object v.objects.items) v.relations.items) e
     ∙ ap (λ l. record { objects = map declared_object w.objects.items; relations = l }) (schemas_are w.relations.items)
 
+-- a relation has fewer fields than objects
+fewer : (k slots fields most : ℕ) → 1 ≤ slots → k + slots * (1 + fields) ≤ most → fields ≤ most
+fewer k slots fields most h e =
+    let wide : 1 * (1 + fields) ≤ slots * (1 + fields) = times 1 slots (1 + fields) h in
+    omega arith
+  where
+    times : (a b w : ℕ) → a ≤ b → a * w ≤ b * w
+    times a b w h = grind arith
+
+few_fields : (k : ℕ) (rs : List Relation) (n : ℕ) → All SlotsFit rs → object_count k rs ≤ 1024 → length (find_fields rs n) ≤ 1024
+unfolding words
+few_fields k [] n each few = omega arith
+few_fields k (r ∷ rs) n each few =
+    let first : SlotsFit r = all_head SlotsFit r rs each in
+    let room : k + objects_of r ≤ object_count (k + objects_of r) rs = count_least (k + objects_of r) rs in
+    by_name (r.name == n) (fewer k r.slots (length r.fields) 1024 first.least (omega arith)) (few_fields (k + objects_of r) rs n (all_tail SlotsFit r rs each) few)
+  where
+    by_name : (b : Bool) → length r.fields ≤ 1024 → length (find_fields rs n) ≤ 1024 → length (cond b r.fields (find_fields rs n)) ≤ 1024
+    by_name true h e = h
+    by_name false h e = e
+
 -- an accepted workload has few objects and fields
 pub schema_fits : (w own : Workload) (os : List Declared) (rs : List RelationDecl) → own ≡ w → os ≡ map declared_object own.objects.items → rs ≡ own.relations.items → IsAccepted (plain_workload w) → SchemaFits (schema_with os rs)
-schema_fits w own os rs e o q accepted = ?
+schema_fits w own os rs e o q accepted =
+    let limits : limit_faults (plain_workload w) ≡ [] = (parts Run (plain_workload w) accepted.rules).text.limits in
+    subst SchemaFits (sym (schema_is w own os rs e o q)) (fits (schema_of (plain_workload w)) (slots-fit (plain_workload w) limits) (objects-fit (plain_workload w) limits))
+  where
+    fits : (x : Schema) → All SlotsFit x.relations → object_count (length x.objects) x.relations ≤ 1024 → SchemaFits x
+    fits x each few = record {
+      objects = omega arith;
+      fields = λ n. (let h = few_fields (length x.objects) x.relations n each few in omega (arith, h));
+    }
 
 -- ---- its form
 -- the frame of a body is the context of its call
@@ -57,7 +92,7 @@ unfolding words tree_words desugar_words
 transaction_formed t os rs past params args body after made rows p b e r formed =
     ap L.Seq (
       formed.commands
-      ∙ ap (λ f. (forms (record { schema = schema_with os rs; arguments = arguments_of (map (λ p. p.name.name) params) args; rows = f }) (commands (map plain_command body)) 0).commands) (r ∙ ap (λ (k : ℕ) (n : ℕ). absent k) e)
+      ∙ ap (λ (f : ℕ → Slot). (forms (record { schema = schema_with os rs; arguments = arguments_of (map (λ p. p.name.name) params) args; rows = f }) (commands (map plain_command body)) 0).commands) (r ∙ (λ i n. absent (e i)))
       ∙ (λ i. (forms (context (schema_with os rs) (map (λ p. p.name.name) (p i)) args) (commands (map plain_command (b i))) 0).commands)
     )
 

@@ -63,7 +63,7 @@ schemas_next rs i r h e =
     ap schemas front ∙ ap (λ q. relation_of q ∷ schemas (drop (i + 1) rs)) (sym e)
 
 -- there are no fewer objects than stand before a relation
-count_least : (k : ℕ) (rs : List Relation) → k ≤ object_count k rs
+pub count_least : (k : ℕ) (rs : List Relation) → k ≤ object_count k rs
 unfolding meaning_words
 count_least k [] = omega arith
 count_least k (r ∷ rs) = let h : k + objects_of r ≤ object_count (k + objects_of r) rs = count_least (k + objects_of r) rs in omega arith
