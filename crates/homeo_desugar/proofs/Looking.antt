@@ -1,29 +1,32 @@
 -- The L form of what is called.
-use Rattle.std.proofs.Common.{◌≡◌, ℕ, zero, suc, ◌<◌, true, ℤ, Some, List, [], ◌∷◌, map, length, All, sym, ap, ◌∙◌, subst, arith}
+use Rattle.std.proofs.Common.{◌≡◌, ℕ, zero, suc, ◌+◌, ◌*◌, ◌<◌, ◌≤◌, ◌==◌, Bool, true, false, cond, All, ℤ, Some, List, [], ◌∷◌, map, length, refl, sym, ap, ◌∙◌, subst, arith}
 use Rattle.std.specs.Prelude.{slice_get, option_map, IsSome}
 use Rattle.std.proofs.lemmas.Bool.{false≢true}
 use Rattle.homeo_syntax.specs.Key.{words as tree_words}
 use Rattle.homeo_syntax.specs.Source as s
 use Rattle.homeo_syntax.specs.Low as L
-use Rattle.homeo_syntax.specs.SourceView.{commands, plain_command, plain_transaction, plain_workload}
+use Rattle.homeo_syntax.specs.SourceView.{commands, plain_command, plain_relation, plain_transaction, plain_workload}
 use Rattle.homeo_syntax.specs.declared.command.Command.{Command}
 use Rattle.homeo_syntax.specs.declared.workload.RangeDecl.{RangeDecl}
+use Rattle.homeo_syntax.specs.declared.workload.RelationDecl.{RelationDecl}
 use Rattle.homeo_syntax.specs.declared.workload.Transaction.{Transaction}
 use Rattle.homeo_syntax.specs.declared.workload.Workload.{Workload}
 use Rattle.homeo_meaning.specs.Key.{words}
 use Rattle.homeo_meaning.specs.Acceptance.{IsAccepted}
-use Rattle.homeo_meaning.specs.Built.{are_built, IsBuilt}
-use Rattle.homeo_meaning.specs.Context.{Context, context}
+use Rattle.homeo_meaning.specs.Context.{Slot, context, arguments_of, object_count, find_fields}
 use Rattle.homeo_meaning.specs.Ground.{Ground}
-use Rattle.homeo_meaning.specs.LForm.{l_form}
-use Rattle.homeo_meaning.specs.Scenes.{objects_only}
-use Rattle.homeo_meaning.specs.Schema.{Declared, Schema, declared_object, declared_relation, schema_of}
-use Rattle.homeo_meaning.proofs.SimpleForms.{simple_commands, forms_simple}
-use Rattle.homeo_meaning.proofs.SomeValues.{some_is, none_some}
-use Rattle.homeo_meaning.proofs.Sound.{sound}
+use Rattle.homeo_meaning.specs.LForm.{forms, l_form}
+use Rattle.homeo_meaning.specs.Schema.{Declared, Relation, Schema, declared_object, declared_relation, schema_of}
+use Rattle.homeo_meaning.specs.NumberRules.{limit_faults}
+use Rattle.homeo_meaning.specs.declared.call.Purpose.TheVariants.{Run}
+use Rattle.homeo_meaning.proofs.FaultParts.{parts}
+use Rattle.homeo_meaning.proofs.SoundRelations.{SlotsFit, slots-fit, objects-fit}
 use Rattle.homeo_meaning.proofs.SoundRules.{all_head, all_tail}
 use Rattle.homeo_desugar.specs.Key.{words as desugar_words}
 use Rattle.homeo_desugar.specs.Called.{form_of}
+use Rattle.homeo_desugar.specs.Made.{AreFormed}
+use Rattle.homeo_desugar.specs.Settings.{schemas, objects_of, schema_with, absent, SchemaFits}
+use Rattle.homeo_desugar.proofs.Schemas.{count_least}
 
 -- ---- a transaction by its number
 in_list : (ts : List Transaction) (n : ℕ) → IsSome (slice_get (map plain_transaction ts) n) → n < length ts
@@ -35,38 +38,70 @@ pub number_within : (w : Workload) (ts : List Transaction) (n : ℕ) → ts ≡ 
 unfolding tree_words
 number_within w ts n e h = in_list ts n (subst (λ l. IsSome (slice_get (map plain_transaction l) n)) (sym e) h)
 
-all_at : {A : Type 0} (P : A → Type 0) (xs : List A) (k : ℕ) (x : A) → All P xs → slice_get xs k ≡ Some x → P x
-all_at P [] k x all e = absurd (none_some e)
-all_at P (y ∷ ys) zero x all e = subst P (some_is y x e) (all_head P y ys all)
-all_at P (y ∷ ys) (suc k) x all e = all_at P ys k x (all_tail P y ys all) e
+-- ---- the schema of a workload
+schemas_are : (rs : List RelationDecl) → schemas rs ≡ map declared_relation (map plain_relation rs)
+unfolding desugar_words
+schemas_are [] = refl
+schemas_are (r ∷ rs) = ap (λ l. declared_relation (plain_relation r) ∷ l) (schemas_are rs)
 
-pub body_built : (w own : Workload) (n : ℕ) (t : Transaction) → own ≡ w → IsAccepted (plain_workload w) → slice_get (plain_workload own).transactions n ≡ Some (plain_transaction t) → are_built (plain_transaction t).body ≡ true
-body_built w own n t e accepted at =
-    let built : IsBuilt (plain_workload w) = (sound (plain_workload w) accepted).built in
-    let here : slice_get (plain_workload w).transactions n ≡ Some (plain_transaction t) = ap (λ w. slice_get (plain_workload w).transactions n) (sym e) ∙ at in
-    all_at (λ (t : s.Transaction). are_built t.body ≡ true) (plain_workload w).transactions n (plain_transaction t) built.bodies here
+schema_is : (w own : Workload) (os : List Declared) (rs : List RelationDecl) → own ≡ w → os ≡ map declared_object own.objects.items → rs ≡ own.relations.items → schema_with os rs ≡ schema_of (plain_workload w)
+unfolding words tree_words desugar_words
+schema_is w own os rs e o q =
+    (λ i. schema_with (o i) (q i))
+    ∙ ap (λ (v : Workload). schema_with (map declared_object v.objects.items) v.relations.items) e
+    ∙ ap (λ l. record { objects = map declared_object w.objects.items; relations = l }) (schemas_are w.relations.items)
+
+-- a relation has fewer fields than objects
+fewer : (k slots fields most : ℕ) → 1 ≤ slots → k + slots * (1 + fields) ≤ most → fields ≤ most
+fewer k slots fields most h e =
+    let wide : 1 * (1 + fields) ≤ slots * (1 + fields) = times 1 slots (1 + fields) h in
+    omega arith
+  where
+    times : (a b w : ℕ) → a ≤ b → a * w ≤ b * w
+    times a b w h = grind arith
+
+few_fields : (k : ℕ) (rs : List Relation) (n : ℕ) → All SlotsFit rs → object_count k rs ≤ 1024 → length (find_fields rs n) ≤ 1024
+unfolding words
+few_fields k [] n each few = omega arith
+few_fields k (r ∷ rs) n each few =
+    let first : SlotsFit r = all_head SlotsFit r rs each in
+    let room : k + objects_of r ≤ object_count (k + objects_of r) rs = count_least (k + objects_of r) rs in
+    by_name (r.name == n) (fewer k r.slots (length r.fields) 1024 first.least (omega arith)) (few_fields (k + objects_of r) rs n (all_tail SlotsFit r rs each) few)
+  where
+    by_name : (b : Bool) → length r.fields ≤ 1024 → length (find_fields rs n) ≤ 1024 → length (cond b r.fields (find_fields rs n)) ≤ 1024
+    by_name true h e = h
+    by_name false h e = e
+
+-- an accepted workload has few objects and fields
+pub schema_fits : (w own : Workload) (os : List Declared) (rs : List RelationDecl) → own ≡ w → os ≡ map declared_object own.objects.items → rs ≡ own.relations.items → IsAccepted (plain_workload w) → SchemaFits (schema_with os rs)
+schema_fits w own os rs e o q accepted =
+    let limits : limit_faults (plain_workload w) ≡ [] = (parts Run (plain_workload w) accepted.rules).text.limits in
+    subst SchemaFits (sym (schema_is w own os rs e o q)) (fits (schema_of (plain_workload w)) (slots-fit (plain_workload w) limits) (objects-fit (plain_workload w) limits))
+  where
+    fits : (x : Schema) → All SlotsFit x.relations → object_count (length x.objects) x.relations ≤ 1024 → SchemaFits x
+    fits x each few = record {
+      objects = omega arith;
+      fields = λ n. (let h = few_fields (length x.objects) x.relations n each few in omega (arith, h));
+    }
 
 -- ---- its form
-pub transaction_formed : (t : Transaction) (os : List Declared) (params : List RangeDecl) (args : List ℤ) (body : List Command) (made : L.Commands) → params ≡ t.params.items → body ≡ t.body.items → are_built (plain_transaction t).body ≡ true → made ≡ simple_commands (context (objects_only os) (map (λ p. p.name.name) params) args) (commands (map plain_command body)) → L.Seq made ≡ l_form (objects_only os) (map (λ p. p.name.name) t.params.items) args (plain_transaction t).body
-unfolding words tree_words
-transaction_formed t os params args body made p b built e =
-    let x : Context = context (objects_only os) (map (λ p. p.name.name) t.params.items) args in
-    ap L.Seq e
-    ∙ (λ i. L.Seq (simple_commands (context (objects_only os) (map (λ p. p.name.name) (p i)) args) (commands (map plain_command (b i)))))
-    ∙ sym (ap (λ u. L.Seq u.commands) (forms_simple x (plain_transaction t).body 0 built))
-
-schema_is : (w : Workload) → IsAccepted (plain_workload w) → objects_only (map declared_object w.objects.items) ≡ schema_of (plain_workload w)
-unfolding words tree_words
-schema_is w accepted =
-    let none = (sound (plain_workload w) accepted).built.relations in
-    λ i. record { objects = map declared_object w.objects.items; relations = map declared_relation (sym none i) }
+-- the frame of a body is the context of its call
+pub transaction_formed : (t : Transaction) (os : List Declared) (rs : List RelationDecl) (past : ℕ) (params : List RangeDecl) (args : List ℤ) (body : List Command) (after : ℕ) (made : L.Commands) (rows : ℕ → Slot) → params ≡ t.params.items → body ≡ t.body.items → past ≡ object_count (length os) (schemas rs) → rows ≡ (λ n. absent past) →
+    AreFormed after (forms (record { schema = schema_with os rs; arguments = arguments_of (map (λ p. p.name.name) params) args; rows = rows }) (commands (map plain_command body)) 0) made → L.Seq made ≡ l_form (schema_with os rs) (map (λ p. p.name.name) t.params.items) args (plain_transaction t).body
+unfolding words tree_words desugar_words
+transaction_formed t os rs past params args body after made rows p b e r formed =
+    ap L.Seq (
+      formed.commands
+      ∙ ap (λ (f : ℕ → Slot). (forms (record { schema = schema_with os rs; arguments = arguments_of (map (λ p. p.name.name) params) args; rows = f }) (commands (map plain_command body)) 0).commands) (r ∙ (λ i n. absent (e i)))
+      ∙ (λ i. (forms (context (schema_with os rs) (map (λ p. p.name.name) (p i)) args) (commands (map plain_command (b i))) 0).commands)
+    )
 
 -- what a ground call calls
-pub call_formed : (w own : Workload) (g : Ground) (t : Transaction) (os : List Declared) (args : List ℤ) (r : L.Command) → own ≡ w → IsAccepted (plain_workload w) → slice_get (plain_workload own).transactions g.transaction ≡ Some (plain_transaction t) → os ≡ map declared_object own.objects.items → args ≡ g.args → r ≡ l_form (objects_only os) (map (λ p. p.name.name) t.params.items) args (plain_transaction t).body → form_of (plain_workload w) g ≡ Some r
+pub call_formed : (w own : Workload) (g : Ground) (t : Transaction) (os : List Declared) (rs : List RelationDecl) (args : List ℤ) (r : L.Command) → own ≡ w → slice_get (plain_workload own).transactions g.transaction ≡ Some (plain_transaction t) → os ≡ map declared_object own.objects.items → rs ≡ own.relations.items → args ≡ g.args →
+    r ≡ l_form (schema_with os rs) (map (λ p. p.name.name) t.params.items) args (plain_transaction t).body → form_of (plain_workload w) g ≡ Some r
 unfolding desugar_words tree_words
-call_formed w own g t os args r e accepted at o a is =
+call_formed w own g t os rs args r e at o q a is =
     let here : slice_get (plain_workload w).transactions g.transaction ≡ Some (plain_transaction t) = ap (λ w. slice_get (plain_workload w).transactions g.transaction) (sym e) ∙ at in
-    let form : (x : Schema) → List ℤ → s.Transaction → L.Command = λ x args t. l_form x (map (λ p. p.name.name) t.params) args t.body in
-    let schema : objects_only os ≡ schema_of (plain_workload w) = ap objects_only (o ∙ ap (λ w. map declared_object w.objects.items) e) ∙ schema_is w accepted in
-    let same : r ≡ form (schema_of (plain_workload w)) g.args (plain_transaction t) = is ∙ (λ i. form (schema i) (a i) (plain_transaction t)) in
+    let form : Schema → List ℤ → s.Transaction → L.Command = λ x args t. l_form x (map (λ p. p.name.name) t.params) args t.body in
+    let same : r ≡ form (schema_of (plain_workload w)) g.args (plain_transaction t) = is ∙ (λ i. form (schema_is w own os rs e o q i) (a i) (plain_transaction t)) in
     ap (option_map (form (schema_of (plain_workload w)) g.args)) here ∙ ap Some (sym same)

@@ -1,16 +1,83 @@
--- What the code's frames stand for.
-use Rattle.std.specs.Prelude.{map}
-use Rattle.homeo_meaning.specs.Context.{Spot, Context, context}
-use Rattle.homeo_meaning.specs.Scenes.{objects_only}
+-- What the code's slots, rows and frames stand for.
+use Rattle.std.specs.Prelude.{ℕ, ◌+◌, ◌*◌, ◌^◌, ◌<◌, ◌==◌, cond, List, [], map, length}
+use Rattle.homeo_syntax.specs.SourceView.{plain_relation}
+use Rattle.homeo_syntax.specs.declared.workload.RelationDecl.{RelationDecl}
+use Rattle.homeo_meaning.specs.Schema.{Declared, Relation, Schema, declared_range, declared_relation}
+use Rattle.homeo_meaning.specs.Context.{Spot, Slot, Context, slots_from, find_fields, object_count, arguments_of}
 use Rattle.homeo_desugar.specs.Key.{words}
 use Rattle.homeo_desugar.specs.declared.frame.Frame.{Frame}
-use Rattle.homeo_desugar.specs.declared.objects.Spot as code
+use Rattle.homeo_desugar.specs.declared.objects.Spot as objects
+use Rattle.homeo_desugar.specs.declared.slots.Slot as one
+use Rattle.homeo_desugar.specs.declared.slots.Slots as all
+use Rattle.homeo_desugar.specs.declared.slots.Rows.{Rows, Outside, Within'}
 
-abbrev pub plain_spot : code.Spot → Spot
+abbrev pub plain_spot : objects.Spot → Spot
 unfolding words
 plain_spot s = record { place = s.place; lo = s.lo; hi = s.hi }
 
--- the context of a call with these objects, parameters and arguments
+abbrev pub plain_slot : one.Slot → Slot
+unfolding words
+plain_slot s = record { number = s.number; used = s.used; fields = map declared_range s.fields.now }
+
+-- the slots from a number on
+abbrev pub slots_after : all.Slots → ℕ → ℕ → List Slot
+unfolding words
+slots_after s number left = slots_from number (s.first + number * (1 + length s.fields.now)) (map declared_range s.fields.now) left
+
+abbrev pub plain_slots : all.Slots → List Slot
+unfolding words
+plain_slots s = slots_from 0 s.first (map declared_range s.fields.now) s.count
+
+abbrev pub slot_of : all.Slots → ℕ → Slot
+unfolding words
+slot_of s number = record { number = number; used = s.first + number * (1 + length s.fields.now); fields = map declared_range s.fields.now }
+
+-- the object behind the last slot
+abbrev pub end_of : all.Slots → ℕ
+end_of s = s.first + s.count * (1 + length s.fields.now)
+
+abbrev pub rows_of : Slot → Rows → ℕ → Slot
+unfolding words
+rows_of absent Outside n = absent
+rows_of absent (Within' name slot p outer) n = cond (name == n) (plain_slot slot) (rows_of absent outer n)
+
+-- no row in force: a slot past all objects
+abbrev pub absent : ℕ → Slot
+absent past = record { number = 0; used = past; fields = [] }
+
+abbrev pub schemas : List RelationDecl → List Relation
+unfolding words
+schemas rs = map (λ r. declared_relation (plain_relation r)) rs
+
+-- for each slot one object more than fields
+abbrev pub objects_of : Relation → ℕ
+objects_of r = r.slots * (1 + length r.fields)
+
+abbrev pub schema_with : List Declared → List RelationDecl → Schema
+unfolding words
+schema_with objects relations = record { objects = objects; relations = schemas relations }
+
+-- the context of a phrase
 abbrev pub setting : Frame → Context
 unfolding words
-setting f = context (objects_only f.objects.now) (map (λ p. p.name.name) f.params.now) f.args.now
+setting f =
+    record { schema = schema_with f.objects.now f.relations.now; arguments = arguments_of (map (λ p. p.name.name) f.params.now) f.args.now; rows = rows_of (absent f.past) f.rows }
+
+-- the objects of the slot and of its fields have numbers of the code, and one more
+abbrev pub IsLow : Slot → Type 0
+unfolding words
+IsLow slot = slot.used + 1 + length slot.fields < 2 ^ 32
+
+pub record SlotsFit (s : all.Slots) : Type 0 where
+  pub objects : end_of s < 2 ^ 32
+  pub fields : length s.fields.now < 2 ^ 32
+
+-- all objects have numbers of the code, and one more
+pub record SchemaFits (x : Schema) : Type 0 where
+  pub objects : object_count (length x.objects) x.relations + 1 < 2 ^ 32
+  pub fields : (q : ℕ) → length (find_fields x.relations q) < 2 ^ 32
+
+-- and those of the rows in force too
+pub record Fits (x : Context) : Type 0 where
+  pub schema : SchemaFits x.schema
+  pub rows : (n : ℕ) → IsLow (x.rows n)

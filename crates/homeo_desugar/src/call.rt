@@ -1,19 +1,19 @@
 //! The L form of a ground call.
 
-ghost use Rattle.std.specs.Prelude.{◌≡◌, true, map, Some, IsSome, slice_get, IfOk};
+ghost use Rattle.std.specs.Prelude.{◌≡◌, map, Some, IsSome, slice_get, IfOk};
 ghost use Rattle.homeo_syntax.specs.SourceView.{plain_transaction, plain_workload};
 ghost use Rattle.homeo_syntax.specs.LowView.{plain_lcommand};
-ghost use Rattle.homeo_meaning.specs.Built.{are_built};
 ghost use Rattle.homeo_meaning.specs.Ground.{plain_ground};
 ghost use Rattle.homeo_meaning.specs.LForm.{l_form};
-ghost use Rattle.homeo_meaning.specs.Scenes.{objects_only};
+ghost use Rattle.homeo_desugar.specs.Settings.{schema_with, SchemaFits};
 ghost use Rattle.homeo_desugar.specs.Called.{form_of, MeansCall};
 
 use crate::forming::form_all;
-use crate::frame::Frame;
+use crate::frame::{Frame, objects_past};
 use crate::objects::Objects;
+use crate::slots::Rows;
 use homeo_meaning::{Accepted, GroundCall};
-use homeo_syntax::{LCommand, Memory, Transaction, Workload};
+use homeo_syntax::{LCommand, Memory, RelationDecl, Transaction, Workload};
 use std::alloc::Global;
 
 fn find<'a>(workload: &'a Workload, number: u32) -> &'a Transaction
@@ -24,22 +24,27 @@ fn find<'a>(workload: &'a Workload, number: u32) -> &'a Transaction
 }
 
 /// The L form of a transaction with these arguments.
-fn form_transaction(
+fn form_transaction<'a>(
     alloc: Global,
-    objects: &Objects,
-    t: &Transaction,
-    args: &[i64],
+    objects: &'a Objects,
+    relations: &'a [RelationDecl],
+    t: &'a Transaction,
+    args: &'a [i64],
 ) -> Result<LCommand, Memory>
-    requires { are_built (plain_transaction t.now).body ≡ true }
-    ensures { IfOk result (λ c. plain_lcommand c ≡ l_form (objects_only objects.now)
+    requires { SchemaFits (schema_with objects.now relations.now) }
+    ensures { IfOk result (λ c. plain_lcommand c ≡ l_form (schema_with objects.now relations.now)
         (map (λ p. p.name.name) t.now.params.items) args.now (plain_transaction t.now).body) }
 {
     let frame = Frame {
         objects,
+        relations,
+        past: objects_past(relations, objects.len()),
         params: t.params.as_slice(),
         args,
+        rows: Rows::Outside,
     };
-    let commands = form_all(alloc, t.body.as_slice(), &frame)?;
+    let mut next = 0;
+    let commands = form_all(alloc, t.body.as_slice(), &frame, &mut next)?;
     Ok(LCommand::Seq { commands })
 }
 
@@ -56,5 +61,6 @@ pub fn desugar(alloc: Global, call: &GroundCall, w: &Accepted) -> Result<LComman
     let workload = w.workload();
     let transaction = find(workload, call.transaction);
     let objects = Objects::of(alloc, workload.objects.as_slice())?;
-    form_transaction(alloc, &objects, transaction, call.args.as_slice())
+    let relations = workload.relations.as_slice();
+    form_transaction(alloc, &objects, relations, transaction, call.args.as_slice())
 }

@@ -1,102 +1,389 @@
 //! The L forms of commands.
 
-ghost use Rattle.std.specs.Prelude.{◌≡◌, true, map, IfOk};
-ghost use Rattle.homeo_syntax.specs.SourceView.{commands, plain_expr, plain_command};
-ghost use Rattle.homeo_syntax.specs.Source.{Assign, Write, Print};
+ghost use Rattle.std.specs.Prelude.{◌≡◌, ◌<◌, ◌^◌, map, length, IfOk};
+ghost use Rattle.homeo_syntax.specs.SourceView.{commands, plain_expr, plain_cond, plain_command, plain_field};
+ghost use Rattle.homeo_syntax.specs.Source.{Assign, Print};
 ghost use Rattle.homeo_syntax.specs.LowView.{low_commands, plain_lcommand};
-ghost use Rattle.homeo_meaning.specs.Built.{is_built_expr, is_built, are_built};
-ghost use Rattle.homeo_meaning.proofs.SimpleForms.{simple_command, simple_commands};
-ghost use Rattle.homeo_desugar.specs.Settings.{setting};
+ghost use Rattle.homeo_meaning.specs.Schema.{declared_range};
+ghost use Rattle.homeo_meaning.specs.Context.{spot, bind};
+ghost use Rattle.homeo_meaning.specs.LForm.{lift, lift_cond, lift_values, visits, as_one, clear, write_to, write_field, write_indexed, inserted, form, forms};
+ghost use Rattle.homeo_desugar.specs.Settings.{plain_spot, plain_slot, plain_slots, SlotsFit, setting, IsLow, Fits};
+ghost use Rattle.homeo_desugar.specs.Made.{plain_target, IsLifted, IsFormed, AreFormed, AreWithin};
+ghost use Rattle.homeo_desugar.specs.Visits.{updating, running};
 
+use crate::chains::{all_within, fill_chain, write_chain};
 use crate::frame::Frame;
-use crate::lifting::{lift, lift_cond};
-use crate::making::guarded;
-use homeo_syntax::{Command, Expr, Ident, LCommand, List, Memory, Temp};
+use crate::lifting::{lift, lift_cond, lift_visit};
+use crate::making::{Making, Target, choice, guarded, literal_of, within};
+use crate::objects::Spot;
+use crate::slots::{Slot, Slots, field};
+use homeo_syntax::{
+    Command, Cond, Expr, FieldValue, Ident, LCommand, LExpr, List, Memory, RangeDecl, SplitName,
+    Temp,
+};
 use std::alloc::Global;
 
-#[tactic(auto, using(homeo_syntax::proofs::LowViews::low_command_views, crate::proofs::Equations::steps))]
-fn assign(alloc: Global, target: Ident, value: &Expr, frame: &Frame<'_>) -> Result<LCommand, Memory>
-    requires { is_built_expr (plain_expr value.now) ≡ true }
-    ensures { IfOk result (λ r. plain_lcommand r ≡
-        simple_command (setting frame.now) (Assign target (plain_expr value.now))) }
+fn assign(
+    alloc: Global,
+    target: Ident,
+    value: &Expr,
+    frame: &Frame<'_>,
+    next: &mut u32,
+) -> Result<LCommand, Memory>
+    requires fits { Fits (setting frame.now) }
+    ensures { IfOk result (λ r. IsFormed next.new
+        (form (setting frame.now) (Assign target (plain_expr value.now)) next.old) (plain_lcommand r)) }
 {
-    let value = lift(alloc, value, frame)?;
-    Ok(LCommand::Assign {
+    let mut out = Making::from(alloc, *next);
+    let value = lift(alloc, value, frame, &mut out)?;
+    *next = out.next;
+    out.in_front(LCommand::Assign {
         target: Temp::Named(target.name),
         value,
     })
 }
 
-#[tactic(auto, using(crate::proofs::Equations::steps))]
-fn write(alloc: Global, object: Ident, value: &Expr, frame: &Frame<'_>) -> Result<LCommand, Memory>
-    requires { is_built_expr (plain_expr value.now) ≡ true }
-    ensures { IfOk result (λ r. plain_lcommand r ≡
-        simple_command (setting frame.now) (Write object (plain_expr value.now))) }
+fn print(
+    alloc: Global,
+    value: &Expr,
+    frame: &Frame<'_>,
+    next: &mut u32,
+) -> Result<LCommand, Memory>
+    requires fits { Fits (setting frame.now) }
+    ensures { IfOk result (λ r. IsFormed next.new
+        (form (setting frame.now) (Print (plain_expr value.now)) next.old) (plain_lcommand r)) }
 {
-    let value = lift(alloc, value, frame)?;
-    guarded(alloc, frame.object(object.name), value)
+    let mut out = Making::from(alloc, *next);
+    let value = lift(alloc, value, frame, &mut out)?;
+    *next = out.next;
+    out.in_front(LCommand::Print { value })
 }
 
-#[tactic(auto, using(homeo_syntax::proofs::LowViews::low_command_views, crate::proofs::Equations::steps))]
-fn print(alloc: Global, value: &Expr, frame: &Frame<'_>) -> Result<LCommand, Memory>
-    requires { is_built_expr (plain_expr value.now) ≡ true }
-    ensures { IfOk result (λ r. plain_lcommand r ≡
-        simple_command (setting frame.now) (Print (plain_expr value.now))) }
+/// Writes a value that is within the bounds to an object.
+fn write_to(
+    alloc: Global,
+    bounds: Spot,
+    object: u32,
+    value: &Expr,
+    frame: &Frame<'_>,
+    next: &mut u32,
+) -> Result<LCommand, Memory>
+    requires fits { Fits (setting frame.now) }
+    ensures { IfOk result (λ r. IsFormed next.new
+        (write_to (plain_spot bounds) object (lift (setting frame.now) (plain_expr value.now) next.old)) (plain_lcommand r)) }
 {
-    let value = lift(alloc, value, frame)?;
-    Ok(LCommand::Print { value })
+    let mut out = Making::from(alloc, *next);
+    let value = lift(alloc, value, frame, &mut out)?;
+    *next = out.next;
+    let write = guarded(alloc, bounds, object, value)?;
+    out.in_front(write)
+}
+
+/// Writes a value to the field of a name of a slot.
+fn write_field(
+    alloc: Global,
+    slot: Slot<'_>,
+    name: u32,
+    value: &Expr,
+    frame: &Frame<'_>,
+    next: &mut u32,
+) -> Result<LCommand, Memory>
+    requires fits { Fits (setting frame.now) }
+    requires low { IsLow (plain_slot slot) }
+    ensures { IfOk result (λ r. IsFormed next.new
+        (write_field (plain_slot slot.entry) name (lift (setting frame.now) (plain_expr value.now) next.old)) (plain_lcommand r)) }
+{
+    let field = field(slot.fields, name);
+    write_to(alloc, field, slot.cell(field), value, frame, next)
+}
+
+/// Writes a value to the field of the slot that an index names.
+fn set_field(
+    alloc: Global,
+    slots: Slots<'_>,
+    index: &Expr,
+    name: u32,
+    value: &Expr,
+    frame: &Frame<'_>,
+    next: &mut u32,
+) -> Result<LCommand, Memory>
+    requires fits { Fits (setting frame.now) }
+    requires slots { SlotsFit slots }
+    ensures { IfOk result (λ r. IsFormed next.new
+        (write_indexed (plain_slots slots.entry) (spot (map declared_range slots.entry.fields.now) name)
+        (lift (setting frame.now) (plain_expr index.now) next.old) (lift (setting frame.now) (plain_expr value.now))) (plain_lcommand r)) }
+{
+    let mut out = Making::from(alloc, *next);
+    let index = lift(alloc, index, frame, &mut out)?;
+    let field = field(slots.fields, name);
+    if let Some(number) = literal_of(&index) {
+        *next = out.next;
+        return match slots.at(number) {
+            Some(slot) => write_to(alloc, field, slot.cell(field), value, frame, next),
+            None => Ok(LCommand::Skip),
+        };
+    }
+    let value = lift(alloc, value, frame, &mut out)?;
+    *next = out.next;
+    let test = within(alloc, field, &value)?;
+    let chain = write_chain(alloc, &index, slots, field, &value)?;
+    let write = choice(alloc, test, chain, LCommand::Skip)?;
+    out.in_front(write)
+}
+
+/// Puts the new values of fields into fresh temporaries.
+fn lift_values(
+    alloc: Global,
+    fields: &[RangeDecl],
+    values: &[FieldValue],
+    frame: &Frame<'_>,
+    out: &mut Making,
+) -> Result<Vec<Target>, Memory>
+    requires fits { Fits (setting frame.now) }
+    requires few { length fields.now < 2 ^ 32 }
+    ensures lifted { IfOk result (λ ts. IsLifted out.old out.new
+        (lift_values (setting frame.now) (map declared_range fields.now) (map plain_field values.now) out.old.next)
+        (map plain_target ts.items)) }
+    ensures within { IfOk result (λ ts. AreWithin fields.now ts.items) }
+{
+    let mut targets = Vec::new(alloc);
+    for value in values {
+        let lifted = lift(alloc, &value.value, frame, out)?;
+        let temp = out.fresh()?;
+        out.push(LCommand::Assign {
+            target: Temp::Fresh(temp),
+            value: lifted,
+        })?;
+        targets.push(Target {
+            field: field(fields, value.field.name),
+            temp,
+        })?;
+    }
+    Ok(targets)
+}
+
+fn insert(
+    alloc: Global,
+    slots: Slots<'_>,
+    values: &[FieldValue],
+    into: u32,
+    frame: &Frame<'_>,
+    next: &mut u32,
+) -> Result<LCommand, Memory>
+    requires fits { Fits (setting frame.now) }
+    requires slots { SlotsFit slots }
+    ensures { IfOk result (λ r. IsFormed next.new
+        (inserted (plain_slots slots.entry) into (lift_values (setting frame.now) (map declared_range slots.entry.fields.now) (map plain_field values.now) next.old)) (plain_lcommand r)) }
+{
+    let mut out = Making::from(alloc, *next);
+    let targets = lift_values(alloc, slots.fields, values, frame, &mut out)?;
+    *next = out.next;
+    let test = all_within(alloc, targets.as_slice())?;
+    let filled = fill_chain(alloc, slots, targets.as_slice(), into)?;
+    let none = LCommand::Assign {
+        target: Temp::Named(into),
+        value: LExpr::Literal(0),
+    };
+    out.push(choice(alloc, test, filled, none)?)?;
+    Ok(LCommand::Seq {
+        commands: out.commands,
+    })
+}
+
+/// Clears each used slot where a condition holds.
+fn delete(
+    alloc: Global,
+    test: &Cond,
+    row: u32,
+    slots: Slots<'_>,
+    frame: &Frame<'_>,
+    next: &mut u32,
+) -> Result<LCommand, Memory>
+    requires fits { Fits (setting frame.now) }
+    requires slots { SlotsFit slots }
+    ensures { IfOk result (λ r. IsFormed next.new
+        (as_one (visits (λ slot. lift_cond (bind (setting frame.now) row slot) (plain_cond test.now)) clear (plain_slots slots.entry) next.old)) (plain_lcommand r)) }
+{
+    let mut out = Making::from(alloc, *next);
+    for number in 0..slots.count {
+        let slot = slots.slot(number);
+        let test = lift_visit(alloc, test, slot, &frame.bind(row, slot), &mut out)?;
+        let clear = LCommand::Write {
+            target: SplitName::Whole(slot.used),
+            value: LExpr::Literal(0),
+        };
+        out.push(choice(alloc, test, clear, LCommand::Skip)?)?;
+    }
+    *next = out.next;
+    Ok(LCommand::Seq {
+        commands: out.commands,
+    })
+}
+
+/// Sets a field of each used slot where a condition holds.
+fn update(
+    alloc: Global,
+    test: &Cond,
+    row: u32,
+    slots: Slots<'_>,
+    name: u32,
+    value: &Expr,
+    frame: &Frame<'_>,
+    next: &mut u32,
+) -> Result<LCommand, Memory>
+    requires fits { Fits (setting frame.now) }
+    requires slots { SlotsFit slots }
+    ensures { IfOk result (λ r. IsFormed next.new
+        (as_one (visits (λ slot. lift_cond (bind (setting frame.now) row slot) (plain_cond test.now))
+        (updating (setting frame.now) row name (plain_expr value.now)) (plain_slots slots.entry) next.old)) (plain_lcommand r)) }
+{
+    let mut out = Making::from(alloc, *next);
+    for number in 0..slots.count {
+        let slot = slots.slot(number);
+        let inner = frame.bind(row, slot);
+        let test = lift_visit(alloc, test, slot, &inner, &mut out)?;
+        let write = write_field(alloc, slot, name, value, &inner, &mut out.next)?;
+        out.push(choice(alloc, test, write, LCommand::Skip)?)?;
+    }
+    *next = out.next;
+    Ok(LCommand::Seq {
+        commands: out.commands,
+    })
 }
 
 /// The L form of a command.
 #[cycle(commands)]
-#[tactic(auto, using(homeo_syntax::proofs::Measures::command_parts, homeo_syntax::proofs::SourceViews::command_views, homeo_syntax::proofs::LowViews::low_command_views, crate::proofs::Equations::steps))]
-fn form(alloc: Global, c: &Command, frame: &Frame<'_>) -> Result<LCommand, Memory>
-    requires { is_built (plain_command c.now) ≡ true }
-    ensures { IfOk result (λ r. plain_lcommand r ≡ simple_command (setting frame.now) (plain_command c.now)) }
+#[tactic(auto, using(homeo_syntax::proofs::Measures::command_parts))]
+fn form(
+    alloc: Global,
+    c: &Command,
+    frame: &Frame<'_>,
+    next: &mut u32,
+) -> Result<LCommand, Memory>
+    requires fits { Fits (setting frame.now) }
+    ensures { IfOk result (λ r. IsFormed next.new
+        (form (setting frame.now) (plain_command c.now) next.old) (plain_lcommand r)) }
 {
     match c {
         Command::Skip => Ok(LCommand::Skip),
-        Command::Assign { target, value } => assign(alloc, *target, value, frame),
-        Command::Write { object, value } => write(alloc, *object, value, frame),
-        Command::Print { value } => print(alloc, value, frame),
+        Command::Assign { target, value } => assign(alloc, *target, value, frame, next),
+        Command::Write { object, value } => {
+            let object = frame.object(object.name);
+            write_to(alloc, object, object.place, value, frame, next)
+        }
+        Command::Print { value } => print(alloc, value, frame, next),
         Command::If { test, yes, no } => {
-            let test = lift_cond(alloc, test, frame)?;
-            let yes = form(alloc, yes, frame)?;
-            let no = form(alloc, no, frame)?;
-            Ok(LCommand::If {
-                test,
-                yes: Box::new(alloc, yes)?,
-                no: Box::new(alloc, no)?,
-            })
+            let mut out = Making::from(alloc, *next);
+            let test = lift_cond(alloc, test, frame, &mut out)?;
+            *next = out.next;
+            let yes = form(alloc, yes, frame, next)?;
+            let no = form(alloc, no, frame, next)?;
+            let chosen = choice(alloc, test, yes, no)?;
+            out.in_front(chosen)
         }
         Command::Block { commands } => {
-            let commands = form_all(alloc, commands.as_slice(), frame)?;
+            let commands = form_all(alloc, commands.as_slice(), frame, next)?;
             Ok(LCommand::Seq { commands })
         }
-        Command::SetField { .. } => unreachable!(),
-        Command::SetRow { .. } => unreachable!(),
-        Command::Foreach { .. } => unreachable!(),
-        Command::Insert { .. } => unreachable!(),
-        Command::Delete { .. } => unreachable!(),
-        Command::Update { .. } => unreachable!(),
+        Command::SetField {
+            relation,
+            index,
+            field,
+            value,
+        } => {
+            let slots = frame.slots(relation.name);
+            set_field(alloc, slots, index, field.name, value, frame, next)
+        }
+        Command::SetRow { row, field, value } => {
+            let slot = frame.row(row.name);
+            write_field(alloc, slot, field.name, value, frame, next)
+        }
+        Command::Foreach {
+            row,
+            relation,
+            test,
+            body,
+        } => {
+            let slots = frame.slots(relation.name);
+            foreach(alloc, body.as_slice(), test, row.name, slots, frame, next)
+        }
+        Command::Insert {
+            relation,
+            fields,
+            into,
+        } => {
+            let slots = frame.slots(relation.name);
+            insert(alloc, slots, fields.as_slice(), into.name, frame, next)
+        }
+        Command::Delete {
+            row,
+            relation,
+            test,
+        } => {
+            let slots = frame.slots(relation.name);
+            delete(alloc, test, row.name, slots, frame, next)
+        }
+        Command::Update {
+            row,
+            relation,
+            test,
+            field,
+            value,
+        } => {
+            let slots = frame.slots(relation.name);
+            update(alloc, test, row.name, slots, field.name, value, frame, next)
+        }
     }
+}
+
+/// Runs commands at each used slot where a condition holds.
+#[cycle(commands)]
+#[tactic(auto, using(homeo_syntax::proofs::Measures::command_parts))]
+fn foreach(
+    alloc: Global,
+    body: &[Command],
+    test: &Cond,
+    row: u32,
+    slots: Slots<'_>,
+    frame: &Frame<'_>,
+    next: &mut u32,
+) -> Result<LCommand, Memory>
+    requires fits { Fits (setting frame.now) }
+    requires slots { SlotsFit slots }
+    ensures { IfOk result (λ r. IsFormed next.new
+        (as_one (visits (λ slot. lift_cond (bind (setting frame.now) row slot) (plain_cond test.now))
+        (running (setting frame.now) row (commands (map plain_command body.now))) (plain_slots slots.entry) next.old)) (plain_lcommand r)) }
+{
+    let mut out = Making::from(alloc, *next);
+    for number in 0..slots.count {
+        let slot = slots.slot(number);
+        let inner = frame.bind(row, slot);
+        let test = lift_visit(alloc, test, slot, &inner, &mut out)?;
+        let commands = form_all(alloc, body, &inner, &mut out.next)?;
+        out.push(choice(alloc, test, LCommand::Seq { commands }, LCommand::Skip)?)?;
+    }
+    *next = out.next;
+    Ok(LCommand::Seq {
+        commands: out.commands,
+    })
 }
 
 /// The L forms of commands one after another.
 #[cycle(commands)]
-#[tactic(auto)]
+#[tactic(auto, using(homeo_syntax::proofs::Measures::command_parts))]
 pub(crate) fn form_all(
     alloc: Global,
     cs: &[Command],
     frame: &Frame<'_>,
+    next: &mut u32,
 ) -> Result<List<LCommand>, Memory>
-    requires { are_built (commands (map plain_command cs.now)) ≡ true }
-    ensures { IfOk result (λ r. low_commands (map plain_lcommand r.items) ≡
-        simple_commands (setting frame.now) (commands (map plain_command cs.now))) }
+    requires fits { Fits (setting frame.now) }
+    ensures { IfOk result (λ r. AreFormed next.new
+        (forms (setting frame.now) (commands (map plain_command cs.now)) next.old) (low_commands (map plain_lcommand r.items))) }
 {
     let mut formed = List::new(alloc);
     for c in cs {
-        let one = form(alloc, c, frame)?;
+        let one = form(alloc, c, frame, next)?;
         formed.push(one)?;
     }
     Ok(formed)

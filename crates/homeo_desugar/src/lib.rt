@@ -3,11 +3,13 @@
 #![tactic(auto)]
 
 mod call;
+mod chains;
 mod forming;
 mod frame;
 pub mod laws;
 mod lifting;
 mod making;
 mod objects;
+mod slots;
 
 pub use call::desugar;

@@ -47,6 +47,13 @@ impl Objects {
         Ok(Objects { declared, places })
     }
 
+    /// The number of objects.
+    pub(crate) fn len(&self) -> u32
+        ensures { result ≡ length self.now }
+    {
+        self.declared.len() as u32
+    }
+
     /// The place of the object of a name, or the number of objects where there is none.
     fn find(&self, name: u32) -> usize
         ensures is { result ≡ (spot self.now name).place }

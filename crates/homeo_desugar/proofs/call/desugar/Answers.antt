@@ -1,4 +1,4 @@
--- An accepted workload's transactions have no relations in them.
+-- An accepted workload's schema fits, and the call's form is that of its transaction.
 use Rattle.std.proofs.Common.{sym, subst, map, ap, ◌∙◌}
 use Rattle.std.specs.Prelude.{IsSome, slice_get}
 use Rattle.std.proofs.lemmas.Result.{IfOk-weaker}
@@ -8,7 +8,7 @@ use Rattle.homeo_meaning.specs.Schema.{declared_object}
 use Rattle.homeo_meaning.specs.Ground.{plain_ground}
 use Rattle.homeo_desugar.proofs.Few.{few_objects}
 use Rattle.homeo_desugar.proofs.Means.{means}
-use Rattle.homeo_desugar.proofs.Looking.{body_built, call_formed}
+use Rattle.homeo_desugar.proofs.Looking.{schema_fits, call_formed}
 use Rattle.homeo_desugar.proofs.call.desugar.Goals as goal
 
 pub find-transaction-requires : goal.find-transaction-requires
@@ -21,12 +21,12 @@ of-requires c =
 
 pub form_transaction-requires : goal.form_transaction-requires
 form_transaction-requires c =
-    body_built c.args.w.now c.workload-workload.result.now c.args.call.now.transaction c.find-transaction.result.now c.workload-workload.ensures.value c.workload-workload.ensures.accepted c.find-transaction.ensures
+    schema_fits c.args.w.now c.workload-workload.result.now c.in_ok-objects.objects c.as_slice-relations.result.now c.workload-workload.ensures.value (c.in_ok-objects.ensures ∙ ap (map declared_object) c.as_slice.ensures) c.as_slice-relations.ensures c.workload-workload.ensures.accepted
 
 pub returns-clause-form : goal.returns-clause-form
 returns-clause-form c =
     IfOk-weaker c.form_transaction.result _ _
-    (λ r e. call_formed c.args.w.now c.workload-workload.result.now (plain_ground c.args.call.now) c.find-transaction.result.now c.in_ok-objects.objects c.as_slice-2.result.now (plain_lcommand r) c.workload-workload.ensures.value c.workload-workload.ensures.accepted c.find-transaction.ensures (c.in_ok-objects.ensures ∙ ap (map declared_object) c.as_slice.ensures) c.as_slice-2.ensures e)
+    (λ r e. call_formed c.args.w.now c.workload-workload.result.now (plain_ground c.args.call.now) c.find-transaction.result.now c.in_ok-objects.objects c.as_slice-relations.result.now c.as_slice-2.result.now (plain_lcommand r) c.workload-workload.ensures.value c.find-transaction.ensures (c.in_ok-objects.ensures ∙ ap (map declared_object) c.as_slice.ensures) c.as_slice-relations.ensures c.as_slice-2.ensures e)
     c.form_transaction.ensures
 
 pub returns-clause-means : goal.returns-clause-means

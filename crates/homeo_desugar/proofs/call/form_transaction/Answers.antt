@@ -1,20 +1,31 @@
--- A body without relations has the form that is made command by command.
-use Rattle.std.proofs.Common.{map, ap, ◌∙◌}
-use Rattle.homeo_syntax.specs.Key.{words as tree_words}
+-- The body's commands have their forms in the context of the call.
+use Rattle.std.proofs.Common.{◌≡◌, ◌+◌, ◌<◌, ◌^◌, ℕ, map, refl, sym, ap, ◌∙◌, subst, arith}
 use Rattle.homeo_syntax.specs.SourceView.{commands, plain_command}
 use Rattle.homeo_syntax.specs.LowView.{low_commands, plain_lcommand}
 use Rattle.homeo_syntax.proofs.LowViews.{low_Seq}
-use Rattle.homeo_meaning.specs.Built.{are_built}
+use Rattle.homeo_meaning.specs.Context.{object_count}
 use Rattle.homeo_desugar.specs.Key.{words}
+use Rattle.homeo_desugar.specs.Settings.{schemas}
 use Rattle.homeo_desugar.proofs.Looking.{transaction_formed}
 use Rattle.homeo_desugar.proofs.call.form_transaction.Goals as goal
 
+less : (n : ℕ) → n + 1 < 2 ^ 32 → n < 2 ^ 32
+less n h = omega arith
+
+pub objects_past-requires : goal.objects_past-requires
+unfolding words
+objects_past-requires c =
+    subst (λ n. object_count n (schemas c.args.relations.now) < 2 ^ 32) (sym c.len.ensures) (less _ c.requires.objects)
+
 pub form_all-requires : goal.form_all-requires
-unfolding tree_words
-form_all-requires c = ap (λ l. are_built (commands (map plain_command l))) c.as_slice-2.ensures ∙ c.requires
+unfolding words
+form_all-requires c =
+    let past = c.objects_past.ensures ∙ ap (λ n. object_count n (schemas c.args.relations.now)) c.len.ensures in
+    record { fits = record { schema = c.requires; rows = λ n. (let few = c.requires.objects in omega (arith, past, few)) } }
 
 pub returns : goal.returns
 unfolding words
 returns c =
+    let past = c.objects_past.ensures ∙ ap (λ n. object_count n (schemas c.args.relations.now)) c.len.ensures in
     low_Seq c.in_ok-commands.commands
-    ∙ transaction_formed c.args.t.now c.args.objects.now c.as_slice.result.now c.args.args.now c.as_slice-2.result.now (low_commands (map plain_lcommand c.in_ok-commands.commands.items)) c.as_slice.ensures c.as_slice-2.ensures c.requires c.in_ok-commands.ensures
+    ∙ transaction_formed c.args.t.now c.args.objects.now c.args.relations.now c.objects_past.result c.as_slice.result.now c.args.args.now c.as_slice-2.result.now _ (low_commands (map plain_lcommand c.in_ok-commands.commands.items)) _ c.as_slice.ensures c.as_slice-2.ensures past refl c.in_ok-commands.ensures

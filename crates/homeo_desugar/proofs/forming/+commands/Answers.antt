@@ -1,19 +1,206 @@
--- Each command of a list can be run, and its form is put after the others.
-use Rattle.std.proofs.Common.{rules, ap, ◌∙◌}
-use Rattle.homeo_syntax.specs.SourceView.{plain_command}
-use Rattle.homeo_syntax.specs.LowView.{low_commands, plain_lcommand}
+-- Each command has the form that the definition says, part by part.
+use Rattle.std.proofs.Common.{ℕ, map, refl, sym, ap, ◌∙◌, subst, rules}
+use Rattle.std.proofs.lemmas.Result.{IfOk-weaker}
+use Rattle.homeo_syntax.specs.Key.{words as tree_words}
+use Rattle.homeo_syntax.specs.Source as s
+use Rattle.homeo_syntax.specs.Low as L
+use Rattle.homeo_syntax.specs.SourceView.{commands, plain_expr, plain_cond, plain_command, plain_field}
+use Rattle.homeo_syntax.specs.LowView.{low_commands, plain_lcond, plain_lcommand}
 use Rattle.homeo_syntax.specs.declared.command.Command.TheViews.{the_lemmas}
-use Rattle.homeo_meaning.proofs.SimpleForms.{simple_command}
-use Rattle.homeo_desugar.specs.Settings.{setting}
-use Rattle.homeo_desugar.proofs.Building.{made_all, commands_are, command_built}
+use Rattle.homeo_syntax.proofs.SourceViews.{plain_Skip, plain_Assign, plain_Write, plain_Print, plain_If, plain_Block, plain_SetField, plain_SetRow, plain_Foreach, plain_Insert, plain_Delete, plain_Update}
+use Rattle.homeo_syntax.proofs.LowViews.{low_Seq, low_Skip}
+use Rattle.homeo_meaning.specs.Key.{words as meaning_words}
+use Rattle.homeo_meaning.specs.Schema.{declared_range}
+use Rattle.homeo_meaning.specs.Context.{Slot, spot, bind, slots, fields, object}
+use Rattle.homeo_meaning.specs.LForm.{Lifted, both, lift, lift_cond, lift_values, visits, as_one, clear, write_to, write_field, write_indexed, inserted, form, forms}
+use Rattle.homeo_desugar.specs.Key.{words}
+use Rattle.homeo_desugar.specs.Made.{IsFormed}
+use Rattle.homeo_desugar.specs.Settings.{setting, plain_slot, plain_slots, plain_spot, IsLow, Fits}
+use Rattle.homeo_desugar.specs.Visits.{updating, running}
+use Rattle.homeo_desugar.proofs.Forms.{loop_formed, or_skip, field_in, indexed_as, inserted_as, looped_as, chosen_formed, forms_step, forms_end, forms_in, command_formed}
+use Rattle.homeo_desugar.proofs.Makings.{visits_begin, visit_step, visits_done}
+use Rattle.homeo_desugar.proofs.Rows.{bind_fits}
+use Rattle.homeo_desugar.proofs.SlotLists.{slot_is_low}
 use Rattle.homeo_desugar.proofs.forming.+commands.Goals as goal
 
-pub form_all-form-requires : goal.form_all-form-requires
-form_all-form-requires t c =
-    (search (rules, the_lemmas), command_built c.args.cs.now c.loop-c.c-index c.c-item.result c.loop-c-test.true c.c-item.is c.requires)
+pub foreach-loop-number-init : goal.foreach-loop-number-init
+foreach-loop-number-init t c = visits_begin _ _ c.args.slots c.from-out.result
+
+pub foreach-lift_visit-requires : goal.foreach-lift_visit-requires
+foreach-lift_visit-requires t c =
+    let low = slot_is_low c.args.slots c.loop-number.number c.slot-slot.result c.loop-number-test.true c.requires.slots c.slot-slot.ensures in
+    record { fits = subst Fits (sym c.bind-inner.ensures) (bind_fits (setting c.args.frame.now) c.args.row (plain_slot c.slot-slot.result) c.requires.fits low) }
+
+pub foreach-form_all-requires : goal.foreach-form_all-requires
+foreach-form_all-requires t c =
+    let low = slot_is_low c.args.slots c.loop-number.number c.slot-slot.result c.loop-number-test.true c.requires.slots c.slot-slot.ensures in
+    (search (rules, the_lemmas), subst Fits (sym c.bind-inner.ensures) (bind_fits (setting c.args.frame.now) c.args.row (plain_slot c.slot-slot.result) c.requires.fits low))
+
+pub foreach-loop-number-preserved : goal.foreach-loop-number-preserved
+unfolding words meaning_words
+foreach-loop-number-preserved t c =
+    let x = setting c.args.frame.now in
+    let inner = setting c.bind-inner.result in
+    let slot = plain_slot c.slot-slot.result in
+    let body = commands (map plain_command c.args.body.now) in
+    let test = plain_lcond c.in_ok-test.test in
+    let mid = c.lift_visit.new.out in
+    let formed = forms_in (bind x c.args.row slot) inner body _ mid.next (low_commands (map plain_lcommand c.in_ok-commands.commands.items)) c.bind-inner.ensures c.in_ok-commands.ensures in
+    let choice = or_skip test _ _ c.in_ok-choice.ensures in
+    visit_step x inner c.args.row c.loop-number.number (plain_cond c.args.test.now) (running x c.args.row body) c.args.slots c.slot-slot.result c.from-out.result c.loop-number.out mid c.push.new.self test _ _ _ c.loop-number-test.true c.slot-slot.ensures c.bind-inner.ensures c.in_ok-test.ensures (low_Seq c.in_ok-commands.commands ∙ ap L.Seq formed.commands) (c.in_ok-push.ensures.next ∙ formed.next) choice c.in_ok-push.ensures.pushed c.loop-number.invariant
+
+pub foreach-returns : goal.foreach-returns
+unfolding words
+foreach-returns t c =
+    let x = setting c.args.frame.now in
+    let tests : Slot → ℕ → Lifted L.Cond = λ slot. lift_cond (bind x c.args.row slot) (plain_cond c.args.test.now) in
+    let body = running x c.args.row (commands (map plain_command c.args.body.now)) in
+    loop_formed c.from-out.result c.loop-number.out c.args.next.now (visits tests body (plain_slots c.args.slots)) _ c.from-out.ensures.empty c.from-out.ensures.next (visits_done _ _ c.args.slots c.loop-number.number c.from-out.result c.loop-number.out _ c.loop-number-test.false c.loop-number.invariant) (low_Seq c.loop-number.out.commands)
+
+pub form-returns-in-Skip : goal.form-returns-in-Skip
+unfolding meaning_words
+form-returns-in-Skip t c =
+    command_formed (setting c.args.frame.now) c.args.next.now c.args.next.now c.args.c.now s.Skip _ (ap plain_command c.in-Skip.is ∙ plain_Skip) (record { command = low_Skip; next = refl })
+
+pub form-returns-in-Assign : goal.form-returns-in-Assign
+form-returns-in-Assign t c =
+    IfOk-weaker c.assign.result _ _
+    (λ r h. command_formed (setting c.args.frame.now) _ c.args.next.now c.args.c.now _ (plain_lcommand r) (ap plain_command c.in-Assign.is ∙ plain_Assign c.in-Assign.target c.in-Assign.value) h)
+    c.assign.ensures
+
+pub form-returns-in-Print : goal.form-returns-in-Print
+form-returns-in-Print t c =
+    IfOk-weaker c.print.result _ _
+    (λ r h. command_formed (setting c.args.frame.now) _ c.args.next.now c.args.c.now _ (plain_lcommand r) (ap plain_command c.in-Print.is ∙ plain_Print c.in-Print.value) h)
+    c.print.ensures
+
+pub form-returns-in-Write : goal.form-returns-in-Write
+unfolding words meaning_words
+form-returns-in-Write t c =
+    let x = setting c.args.frame.now in
+    let n = c.args.next.now in
+    let o = c.in-Write.object in
+    let e = plain_expr c.in-Write.value in
+    let after = c.write_to.new.next in
+    IfOk-weaker c.write_to.result _ _
+    (λ r h. command_formed x after n c.args.c.now (s.Write o e) (plain_lcommand r) (ap plain_command c.in-Write.is ∙ plain_Write o c.in-Write.value) (subst (λ b. IsFormed after (write_to b b.place (lift x e n)) (plain_lcommand r)) c.object-object.ensures h))
+    c.write_to.ensures
+
+pub form-returns-in_ok-chosen-in-If : goal.form-returns-in_ok-chosen-in-If
+unfolding words meaning_words
+form-returns-in_ok-chosen-in-If t c =
+    let x = setting c.args.frame.now in
+    let n = c.args.next.now in
+    let b = plain_cond c.in-If.test in
+    let yes = plain_command c.deref.result.now in
+    let no = plain_command c.deref-in-If.result.now in
+    let after = c.form-in-If.new.next in
+    let seen = ap plain_command c.in-If.is ∙ plain_If c.in-If.test c.in-If.yes c.in-If.no ∙ sym (λ i. s.If b (plain_command (c.deref.ensures i)) (plain_command (c.deref-in-If.ensures i))) in
+    IfOk-weaker c.in_front.result _ _
+    (λ r h. command_formed x after n c.args.c.now (s.If b yes no) (plain_lcommand r) seen (chosen_formed c.from-out.result c.lift_cond.new.out n c.form.new.next after (lift_cond x b) (form x yes) (form x no) (plain_lcond c.in_ok-test-in-If.test) (plain_lcommand c.in_ok-yes-in-If.yes) (plain_lcommand c.in_ok-no-in-If.no) _ (plain_lcommand r) c.from-out.ensures.empty c.from-out.ensures.next c.in_ok-test-in-If.ensures c.in_ok-yes-in-If.ensures c.in_ok-no-in-If.ensures c.in_ok-chosen-in-If.ensures h))
+    c.in_front.ensures
+
+pub form-returns-in_ok-commands-in-Block : goal.form-returns-in_ok-commands-in-Block
+unfolding words meaning_words
+form-returns-in_ok-commands-in-Block t c =
+    let formed = c.in_ok-commands-in-Block.ensures in
+    let seen = ap plain_command c.in-Block.is ∙ plain_Block c.in-Block.commands ∙ sym (ap (λ l. s.Block (commands (map plain_command l))) c.as_slice.ensures) in
+    command_formed (setting c.args.frame.now) c.form_all.new.next c.args.next.now c.args.c.now _ _ seen (record { command = low_Seq c.in_ok-commands-in-Block.commands ∙ ap L.Seq formed.commands; next = formed.next })
+
+pub form-returns-in-SetField : goal.form-returns-in-SetField
+unfolding words meaning_words
+form-returns-in-SetField t c =
+    let x = setting c.args.frame.now in
+    let n = c.args.next.now in
+    let q = c.in-SetField.relation in
+    let f = c.in-SetField.field in
+    let i = plain_expr c.in-SetField.index in
+    let e = plain_expr c.in-SetField.value in
+    let after = c.set_field.new.next in
+    IfOk-weaker c.set_field.result _ _
+    (λ r h. command_formed x after n c.args.c.now (s.SetField q i f e) (plain_lcommand r) (ap plain_command c.in-SetField.is ∙ plain_SetField q c.in-SetField.index f c.in-SetField.value) (indexed_as _ _ _ _ f.name after (lift x i n) (lift x e) (plain_lcommand r) c.slots-slots.ensures.slots c.slots-slots.ensures.fields h))
+    c.set_field.ensures
+
+pub form-returns-in-SetRow : goal.form-returns-in-SetRow
+unfolding words meaning_words
+form-returns-in-SetRow t c =
+    let x = setting c.args.frame.now in
+    let n = c.args.next.now in
+    let row = c.in-SetRow.row in
+    let f = c.in-SetRow.field in
+    let e = plain_expr c.in-SetRow.value in
+    let after = c.write_field.new.next in
+    IfOk-weaker c.write_field.result _ _
+    (λ r h. command_formed x after n c.args.c.now (s.SetRow row f e) (plain_lcommand r) (ap plain_command c.in-SetRow.is ∙ plain_SetRow row f c.in-SetRow.value) (subst (λ slot. IsFormed after (write_field slot f.name (lift x e n)) (plain_lcommand r)) c.row-slot.ensures h))
+    c.write_field.ensures
+
+pub form-returns-in-Foreach : goal.form-returns-in-Foreach
+unfolding words meaning_words
+form-returns-in-Foreach t c =
+    let x = setting c.args.frame.now in
+    let n = c.args.next.now in
+    let row = c.in-Foreach.row in
+    let q = c.in-Foreach.relation in
+    let b = plain_cond c.in-Foreach.test in
+    let body = commands (map plain_command c.as_slice-in-Foreach.result.now) in
+    let after = c.foreach.new.next in
+    let seen = ap plain_command c.in-Foreach.is ∙ plain_Foreach row q c.in-Foreach.test c.in-Foreach.body ∙ sym (ap (λ l. s.Foreach row q b (commands (map plain_command l))) c.as_slice-in-Foreach.ensures) in
+    IfOk-weaker c.foreach.result _ _
+    (λ r h. command_formed x after n c.args.c.now (s.Foreach row q b body) (plain_lcommand r) seen (looped_as (λ slot. lift_cond (bind x row.name slot) b) (running x row.name body) _ _ after n (plain_lcommand r) c.slots-slots-in-Foreach.ensures.slots h))
+    c.foreach.ensures
+
+pub form-returns-in-Insert : goal.form-returns-in-Insert
+unfolding words meaning_words
+form-returns-in-Insert t c =
+    let x = setting c.args.frame.now in
+    let n = c.args.next.now in
+    let q = c.in-Insert.relation in
+    let into = c.in-Insert.into in
+    let vs = map plain_field c.as_slice-in-Insert.result.now in
+    let after = c.insert.new.next in
+    let seen = ap plain_command c.in-Insert.is ∙ plain_Insert q c.in-Insert.fields into ∙ sym (ap (λ l. s.Insert q (map plain_field l) into) c.as_slice-in-Insert.ensures) in
+    IfOk-weaker c.insert.result _ _
+    (λ r h. command_formed x after n c.args.c.now (s.Insert q vs into) (plain_lcommand r) seen (inserted_as x _ _ _ _ into.name after n vs (plain_lcommand r) c.slots-slots-in-Insert.ensures.slots c.slots-slots-in-Insert.ensures.fields h))
+    c.insert.ensures
+
+pub form-returns-in-Delete : goal.form-returns-in-Delete
+unfolding words meaning_words
+form-returns-in-Delete t c =
+    let x = setting c.args.frame.now in
+    let n = c.args.next.now in
+    let row = c.in-Delete.row in
+    let q = c.in-Delete.relation in
+    let b = plain_cond c.in-Delete.test in
+    let after = c.delete.new.next in
+    IfOk-weaker c.delete.result _ _
+    (λ r h. command_formed x after n c.args.c.now (s.Delete row q b) (plain_lcommand r) (ap plain_command c.in-Delete.is ∙ plain_Delete row q c.in-Delete.test) (looped_as (λ slot. lift_cond (bind x row.name slot) b) clear _ _ after n (plain_lcommand r) c.slots-slots-in-Delete.ensures.slots h))
+    c.delete.ensures
+
+pub form-returns-in-Update : goal.form-returns-in-Update
+unfolding words meaning_words
+form-returns-in-Update t c =
+    let x = setting c.args.frame.now in
+    let n = c.args.next.now in
+    let row = c.in-Update.row in
+    let q = c.in-Update.relation in
+    let f = c.in-Update.field in
+    let b = plain_cond c.in-Update.test in
+    let e = plain_expr c.in-Update.value in
+    let after = c.update.new.next in
+    IfOk-weaker c.update.result _ _
+    (λ r h. command_formed x after n c.args.c.now (s.Update row q b f e) (plain_lcommand r) (ap plain_command c.in-Update.is ∙ plain_Update row q c.in-Update.test f c.in-Update.value) (looped_as (λ slot. lift_cond (bind x row.name slot) b) (updating x row.name f.name e) _ _ after n (plain_lcommand r) c.slots-slots-in-Update.ensures.slots h))
+    c.update.ensures
+
+pub form_all-loop-c-init : goal.form_all-loop-c-init
+unfolding tree_words meaning_words
+form_all-loop-c-init t c =
+    let whole = forms (setting c.args.frame.now) (commands (map plain_command c.args.cs.now)) c.args.next.now in
+    record { commands = ap (λ l. both (low_commands (map plain_lcommand l.items)) whole.commands) c.new-formed.ensures; next = refl }
+
+pub form_all-loop-c-preserved : goal.form_all-loop-c-preserved
+form_all-loop-c-preserved t c =
+    forms_step (setting c.args.frame.now) c.args.cs.now c.loop-c.c-index c.loop-c.next _ c.c-item.result c.in_ok-one.one c.loop-c.formed.items c.push.new.self.items _ c.loop-c-test.true c.c-item.is c.in_ok-one.ensures (ap (λ l. l.items) c.in_ok-push.ensures.ok) c.loop-c.invariant
 
 pub form_all-returns : goal.form_all-returns
 form_all-returns t c =
-    let x = setting c.args.frame.now in
-    ap low_commands (made_all plain_lcommand (λ c. simple_command x (plain_command c)) c.loop-c.formed.items c.args.cs.now c.loop-c.c-index c.loop-c-test.false c.loop-c.invariant)
-    ∙ commands_are x c.args.cs.now
+    forms_end (setting c.args.frame.now) c.args.cs.now c.loop-c.c-index c.loop-c.next (low_commands (map plain_lcommand c.loop-c.formed.items)) _ c.loop-c-test.false c.loop-c.invariant

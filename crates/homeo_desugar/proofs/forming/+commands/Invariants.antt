@@ -1,10 +1,19 @@
--- The forms of the commands so far.
-use Rattle.std.proofs.Common.{◌≡◌, map, take}
-use Rattle.homeo_syntax.specs.SourceView.{plain_command}
-use Rattle.homeo_syntax.specs.LowView.{plain_lcommand}
-use Rattle.homeo_meaning.proofs.SimpleForms.{simple_command}
-use Rattle.homeo_desugar.specs.Settings.{setting}
+-- What is made so far and what is left are all that there is, and the slots so far and those that are left too.
+use Rattle.std.proofs.Common.{◌-◌, map, drop}
+use Rattle.homeo_syntax.specs.SourceView.{commands, plain_cond, plain_command}
+use Rattle.homeo_meaning.specs.Context.{bind}
+use Rattle.homeo_meaning.specs.LForm.{visits, lift_cond, forms}
+use Rattle.homeo_desugar.specs.Settings.{setting, slots_after, plain_slots}
+use Rattle.homeo_syntax.specs.LowView.{low_commands, plain_lcommand}
+use Rattle.homeo_desugar.specs.Visits.{running}
+use Rattle.homeo_desugar.proofs.Forms.{FormsLeft}
+use Rattle.homeo_desugar.proofs.Makings.{VisitsLeft}
 use Rattle.homeo_desugar.proofs.forming.+commands.Given as goal
 
 abbrev pub invariant-form_all-loop-c : goal.invariant-form_all-loop-c
-invariant-form_all-loop-c l = map plain_lcommand l.formed.items ≡ map (λ c. simple_command (setting l.frame) (plain_command c)) (take l.c-index l.cs)
+invariant-form_all-loop-c l =
+    FormsLeft (low_commands (map plain_lcommand l.formed.items)) (forms (setting l.frame) (commands (map plain_command (drop l.c-index l.cs))) l.next) (forms (setting l.frame) (commands (map plain_command l.cs)) l.initial.next)
+
+abbrev pub invariant-foreach-loop-number : goal.invariant-foreach-loop-number
+invariant-foreach-loop-number l =
+    VisitsLeft l.initial.out l.out (visits (λ slot. lift_cond (bind (setting l.frame) l.row slot) (plain_cond l.test)) (running (setting l.frame) l.row (commands (map plain_command l.body))) (slots_after l.slots l.number (l.slots.count - l.number)) l.out.next) (visits (λ slot. lift_cond (bind (setting l.frame) l.row slot) (plain_cond l.test)) (running (setting l.frame) l.row (commands (map plain_command l.body))) (plain_slots l.slots) l.initial.out.next)

@@ -1,0 +1,48 @@
+-- One slot more is put in front of the chain.
+use Rattle.std.proofs.Common.{◌≡◌, ◌-◌, pos, map, sym, ap, ◌∙◌, arith}
+use Rattle.homeo_syntax.specs.Low as L
+use Rattle.homeo_syntax.specs.LowView.{plain_lcond, plain_lcommand}
+use Rattle.homeo_syntax.specs.declared.low.Temp.TheVariants as temp
+use Rattle.homeo_syntax.proofs.LowViews.{low_Assign, low_Literal}
+use Rattle.homeo_meaning.specs.Key.{words as meaning_words}
+use Rattle.homeo_meaning.specs.Context.{Slot}
+use Rattle.homeo_meaning.specs.LForm.{read, equal, one_test, fill_chain}
+use Rattle.homeo_desugar.specs.Key.{words}
+use Rattle.homeo_desugar.specs.Made.{plain_target, filled}
+use Rattle.homeo_desugar.proofs.SlotChains.{fill_more, within_same}
+use Rattle.homeo_desugar.proofs.SlotLists.{none_after, all_after, slot_is_low}
+use Rattle.homeo_desugar.proofs.chains.fill_chain.Goals as goal
+
+pub loop-number-init : goal.loop-number-init
+unfolding meaning_words
+loop-number-init c = record {
+  within = omega arith;
+  chain =
+      low_Assign _ _ ∙ ap (L.Assign (temp.Named c.args.into)) (low_Literal (pos 0))
+      ∙ sym (ap (fill_chain (map plain_target c.args.targets.now) c.args.into) (none_after c.args.slots));
+}
+
+pub fill-requires-clause-low : goal.fill-requires-clause-low
+fill-requires-clause-low c =
+    slot_is_low c.args.slots (c.loop-number.number - 1) c.slot-slot.result (omega (arith, c.loop-number.invariant.within)) c.requires.slots c.slot-slot.ensures
+
+pub fill-requires-clause-within : goal.fill-requires-clause-within
+unfolding words
+fill-requires-clause-within c =
+    within_same c.slot-slot.result.fields.now c.args.slots.fields.now c.args.targets.now (ap (λ (x : Slot). x.fields) c.slot-slot.ensures) c.requires.within
+
+pub loop-number-preserved : goal.loop-number-preserved
+unfolding words
+loop-number-preserved c =
+    let used = ap (λ (x : Slot). x.used) c.slot-slot.ensures in
+    let test = c.in_ok-test.ensures ∙ ap one_test (c.equal.ensures ∙ ap (λ e. equal e (pos 0)) (c.read.ensures ∙ ap read used)) in
+    let here = c.in_ok-filled.ensures ∙ ap (λ s. filled s (map plain_target c.args.targets.now) c.args.into) c.slot-slot.ensures in
+    record {
+      within = omega (arith, c.loop-number.invariant.within);
+      chain =
+          fill_more c.args.slots c.loop-number.number (map plain_target c.args.targets.now) c.args.into (plain_lcond c.in_ok-test.test) (plain_lcommand c.in_ok-filled.filled) (plain_lcommand c.loop-number.chain) (plain_lcommand c.in_ok-chain.chain) c.loop-number-test.true c.loop-number.invariant.within c.in_ok-chain.ensures test here c.loop-number.invariant.chain;
+    }
+
+pub returns : goal.returns
+returns c =
+    c.loop-number.invariant.chain ∙ ap (fill_chain (map plain_target c.args.targets.now) c.args.into) (all_after c.args.slots c.loop-number.number c.loop-number-test.false)

@@ -1,0 +1,24 @@
+-- What is lifted so far and what the rest is lifted to are all that there is.
+use Rattle.std.proofs.Common.{◌≡◌, ◌-◌, map, drop}
+use Rattle.homeo_syntax.specs.Low.{NoExpr}
+use Rattle.homeo_syntax.specs.SourceView.{exprs, tests, plain_expr, plain_test, plain_cond}
+use Rattle.homeo_syntax.specs.LowView.{low_exprs, low_tests, plain_lexpr, plain_ltest}
+use Rattle.homeo_meaning.specs.Context.{bind}
+use Rattle.homeo_meaning.specs.LForm.{visits, lift_all, lift_cond}
+use Rattle.homeo_desugar.specs.Made.{both_tests}
+use Rattle.homeo_desugar.specs.Settings.{setting, slots_after, plain_slots}
+use Rattle.homeo_desugar.specs.Visits.{adding, term_of}
+use Rattle.homeo_desugar.proofs.Makings.{Leaves, VisitsLeft, both_exprs}
+use Rattle.homeo_desugar.proofs.lifting.+phrases.Given as goal
+
+abbrev pub invariant-lift_all-loop-e : goal.invariant-lift_all-loop-e
+invariant-lift_all-loop-e l =
+    Leaves l.initial.out l.out NoExpr (low_exprs (map plain_lexpr l.lifted.items)) both_exprs (lift_all (setting l.frame) (exprs (map plain_expr (drop l.e-index l.es))) l.out.next) (lift_all (setting l.frame) (exprs (map plain_expr l.es)) l.initial.out.next)
+
+abbrev pub invariant-lift_tests-loop-t : goal.invariant-lift_tests-loop-t
+invariant-lift_tests-loop-t l =
+    Leaves l.initial.out l.out (low_tests (map plain_ltest l.initial.lifted.items)) (low_tests (map plain_ltest l.lifted.items)) both_tests (lift_cond (setting l.frame) (tests (map plain_test (drop l.t-index l.ts))) l.out.next) (lift_cond (setting l.frame) (tests (map plain_test l.ts)) l.initial.out.next)
+
+abbrev pub invariant-add_slots-loop-number : goal.invariant-add_slots-loop-number
+invariant-add_slots-loop-number l =
+    VisitsLeft l.initial.out l.out (visits (λ slot. lift_cond (bind (setting l.frame) l.row slot) (plain_cond l.test)) (adding l.total (term_of l.field)) (slots_after l.slots l.number (l.slots.count - l.number)) l.out.next) (visits (λ slot. lift_cond (bind (setting l.frame) l.row slot) (plain_cond l.test)) (adding l.total (term_of l.field)) (plain_slots l.slots) l.initial.out.next)

@@ -1,0 +1,37 @@
+-- What a loop over slots makes at each of them.
+use Rattle.std.specs.Prelude.{ℕ, pos, Option, Some, None}
+use Rattle.homeo_syntax.specs.Low as L
+use Rattle.homeo_syntax.specs.declared.low.Temp.TheVariants as temp
+use Rattle.homeo_syntax.specs.Source.{Expr, Commands}
+use Rattle.homeo_meaning.specs.Context.{Slot, Context, field_cell, bind}
+use Rattle.homeo_meaning.specs.LForm.{Lifted, Made, mapped, equal, read, fresh, lift, write_field, as_one, forms}
+use Rattle.homeo_desugar.specs.Key.{words}
+
+-- what a used slot adds: 1, or a field
+abbrev pub term_of : Option ℕ → Slot → L.Expr
+unfolding words
+term_of None slot = L.Literal (pos 1)
+term_of (Some f) slot = read (field_cell slot f)
+
+abbrev pub added : ℕ → L.Expr → L.Command
+unfolding words
+added n e = L.Assign (temp.Fresh n) (L.Sum (L.MoreExpr (fresh n) (L.MoreExpr e L.NoExpr)))
+
+abbrev pub adding : ℕ → (Slot → L.Expr) → Slot → ℕ → Made
+unfolding words
+adding n term slot m = record { command = added n (term slot); next = m }
+
+-- the slot is used, and the condition holds
+abbrev pub used_and : Slot → Lifted L.Cond → Lifted L.Cond
+unfolding words
+used_and slot b = mapped (L.MoreTest (equal (read slot.used) (pos 1))) b
+
+-- what `update` makes of a slot: the field of a name is set
+abbrev pub updating : Context → ℕ → ℕ → Expr → Slot → ℕ → Made
+unfolding words
+updating x row f e slot n = write_field slot f (lift (bind x row slot) e n)
+
+-- what `foreach` makes of a slot: its body
+abbrev pub running : Context → ℕ → Commands → Slot → ℕ → Made
+unfolding words
+running x row body slot n = as_one (forms (bind x row slot) body n)
