@@ -20,7 +20,7 @@ use Rattle.homeo_meaning.specs.Scenes.{objects_only}
 use Rattle.homeo_meaning.specs.Schema.{Declared, Schema, declared_object, declared_relation, schema_of}
 use Rattle.homeo_meaning.proofs.SimpleForms.{simple_commands, forms_simple}
 use Rattle.homeo_meaning.proofs.SomeValues.{some_is, none_some}
-use Rattle.homeo_meaning.proofs.Sound.{sound}
+use Rattle.homeo_meaning.proofs.Sound.{accepted_built}
 use Rattle.homeo_meaning.proofs.SoundRules.{all_head, all_tail}
 use Rattle.homeo_desugar.specs.Key.{words as desugar_words}
 use Rattle.homeo_desugar.specs.Called.{form_of}
@@ -42,7 +42,7 @@ all_at P (y ∷ ys) (suc k) x all e = all_at P ys k x (all_tail P y ys all) e
 
 pub body_built : (w own : Workload) (n : ℕ) (t : Transaction) → own ≡ w → IsAccepted (plain_workload w) → slice_get (plain_workload own).transactions n ≡ Some (plain_transaction t) → are_built (plain_transaction t).body ≡ true
 body_built w own n t e accepted at =
-    let built : IsBuilt (plain_workload w) = (sound (plain_workload w) accepted).built in
+    let built : IsBuilt (plain_workload w) = accepted_built (plain_workload w) accepted in
     let here : slice_get (plain_workload w).transactions n ≡ Some (plain_transaction t) = ap (λ w. slice_get (plain_workload w).transactions n) (sym e) ∙ at in
     all_at (λ (t : s.Transaction). are_built t.body ≡ true) (plain_workload w).transactions n (plain_transaction t) built.bodies here
 
@@ -58,7 +58,7 @@ transaction_formed t os params args body made p b built e =
 schema_is : (w : Workload) → IsAccepted (plain_workload w) → objects_only (map declared_object w.objects.items) ≡ schema_of (plain_workload w)
 unfolding words tree_words
 schema_is w accepted =
-    let none = (sound (plain_workload w) accepted).built.relations in
+    let none = (accepted_built (plain_workload w) accepted).relations in
     λ i. record { objects = map declared_object w.objects.items; relations = map declared_relation (sym none i) }
 
 -- what a ground call calls
