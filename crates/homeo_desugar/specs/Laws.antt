@@ -1,11 +1,8 @@
 -- The words of the laws on L forms.
-use Rattle.std.specs.Prelude.{◌≡◌, ℕ, zero, suc, ◌<◌, ◌≤◌, List, [], ◌∷◌, ℤ, pos}
+use Rattle.std.specs.Prelude.{◌≡◌, ℕ, ◌<◌, ◌≤◌}
 use Rattle.homeo_syntax.specs.declared.low.Temp.TheVariants as temp
-use Rattle.homeo_meaning.specs.Schema.{Schema}
-use Rattle.homeo_meaning.specs.Bounds.{Bounds, all_bounds, IsIn}
 use Rattle.homeo_meaning.specs.LowMeaning as M
 use Rattle.homeo_meaning.specs.Meaning as p
-use Rattle.homeo_desugar.specs.Key.{words}
 
 -- both runs print the same, and leave each object with the same value
 pub record IsSameRun (low : M.Run) (run : p.Run) : Type 0 where
