@@ -1,23 +1,14 @@
 -- An accepted workload has few enough objects.
-use Rattle.std.proofs.Common.{◌≡◌, ◌≢◌, ℕ, suc, ◌+◌, ◌^◌, ◌<◌, ◌≤◌, ◌==◌, cond, Bool, true, false, List, [], ◌∷◌, ◌++◌, length, refl, ap, ◌∙◌, subst, sym, arith, length-append}
+use Rattle.std.proofs.Common.{◌≡◌, ℕ, suc, ◌+◌, ◌^◌, ◌<◌, ◌≤◌, ◌==◌, cond, Bool, true, false, List, [], ◌∷◌, length, ap, ◌∙◌, subst, sym, arith}
 use Rattle.std.proofs.lemmas.List.{length-map}
-use Rattle.std.proofs.lemmas.Bool.Decides.{nat_tests}
 use Rattle.homeo_syntax.specs.Key.{words as tree_words}
-use Rattle.homeo_syntax.specs.Source as s
 use Rattle.homeo_syntax.specs.SourceView.{plain_workload}
-use Rattle.homeo_syntax.specs.declared.phrase.Ident.{Ident}
 use Rattle.homeo_syntax.specs.declared.workload.ObjectDecl.{ObjectDecl}
 use Rattle.homeo_syntax.specs.declared.workload.Workload.{Workload}
 use Rattle.homeo_meaning.specs.Key.{words}
 use Rattle.homeo_meaning.specs.Acceptance.{IsAccepted}
 use Rattle.homeo_meaning.specs.Declarations.{place_from, place_of}
-use Rattle.homeo_meaning.specs.GlobalNames.{SitedCall, sited_calls}
-use Rattle.homeo_meaning.specs.NameRules.{when, fault}
-use Rattle.homeo_meaning.specs.NumberRules.{ground_calls, site_count_faults, passes_limit, limit_faults}
-use Rattle.homeo_meaning.specs.TransactionRules.{each_from, each}
 use Rattle.homeo_meaning.specs.declared.call.Purpose.TheVariants.{Run}
-use Rattle.homeo_meaning.specs.declared.rules.Fault.{Fault}
-use Rattle.homeo_meaning.specs.declared.rules.Phase.TheVariants.{Limits}
 use Rattle.homeo_meaning.proofs.FaultParts.{parts}
 use Rattle.homeo_meaning.proofs.SoundRelations.{few_objects as objects_in_limit}
 use Rattle.homeo_desugar.specs.Found.{AreFound}

@@ -1,5 +1,4 @@
 mod FormExample
-pub mod Building
 pub mod Commands
 pub mod Conveys
 pub mod Equations

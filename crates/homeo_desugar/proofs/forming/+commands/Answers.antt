@@ -10,14 +10,12 @@ use Rattle.homeo_syntax.specs.declared.command.Command.TheViews.{the_lemmas}
 use Rattle.homeo_syntax.proofs.SourceViews.{plain_Skip, plain_Assign, plain_Write, plain_Print, plain_If, plain_Block, plain_SetField, plain_SetRow, plain_Foreach, plain_Insert, plain_Delete, plain_Update}
 use Rattle.homeo_syntax.proofs.LowViews.{low_Seq, low_Skip}
 use Rattle.homeo_meaning.specs.Key.{words as meaning_words}
-use Rattle.homeo_meaning.specs.Schema.{declared_range}
-use Rattle.homeo_meaning.specs.Context.{Slot, spot, bind, slots, fields, object}
-use Rattle.homeo_meaning.specs.LForm.{Lifted, both, lift, lift_cond, lift_values, visits, as_one, clear, write_to, write_field, write_indexed, inserted, form, forms}
+use Rattle.homeo_meaning.specs.Context.{Slot, bind}
+use Rattle.homeo_meaning.specs.LForm.{Lifted, both, lift, lift_cond, visits, clear, form, forms}
 use Rattle.homeo_desugar.specs.Key.{words}
-use Rattle.homeo_desugar.specs.Made.{IsFormed}
-use Rattle.homeo_desugar.specs.Settings.{setting, plain_slot, plain_slots, plain_spot, IsLow, Fits}
+use Rattle.homeo_desugar.specs.Settings.{setting, plain_slot, plain_slots, Fits}
 use Rattle.homeo_desugar.specs.Visits.{updating, running}
-use Rattle.homeo_desugar.proofs.Forms.{loop_formed, or_skip, field_in, indexed_as, inserted_as, looped_as, chosen_formed, forms_step, forms_end, forms_in, command_formed}
+use Rattle.homeo_desugar.proofs.Forms.{loop_formed, or_skip, indexed_as, inserted_as, written_as, set_as, looped_as, chosen_formed, forms_step, forms_end, forms_in, command_formed}
 use Rattle.homeo_desugar.proofs.Makings.{visits_begin, visit_step, visits_done}
 use Rattle.homeo_desugar.proofs.Rows.{bind_fits}
 use Rattle.homeo_desugar.proofs.SlotLists.{slot_is_low}
@@ -83,7 +81,7 @@ form-returns-in-Write t c =
     let e = plain_expr c.in-Write.value in
     let after = c.write_to.new.next in
     IfOk-weaker c.write_to.result _ _
-    (λ r h. command_formed x after n c.args.c.now (s.Write o e) (plain_lcommand r) (ap plain_command c.in-Write.is ∙ plain_Write o c.in-Write.value) (subst (λ b. IsFormed after (write_to b b.place (lift x e n)) (plain_lcommand r)) c.object-object.ensures h))
+    (λ r h. command_formed x after n c.args.c.now (s.Write o e) (plain_lcommand r) (ap plain_command c.in-Write.is ∙ plain_Write o c.in-Write.value) (written_as _ _ c.object-object.result.place after (lift x e n) (plain_lcommand r) c.object-object.ensures (ap (λ b. b.place) c.object-object.ensures) h))
     c.write_to.ensures
 
 pub form-returns-in_ok-chosen-in-If : goal.form-returns-in_ok-chosen-in-If
@@ -131,7 +129,7 @@ form-returns-in-SetRow t c =
     let e = plain_expr c.in-SetRow.value in
     let after = c.write_field.new.next in
     IfOk-weaker c.write_field.result _ _
-    (λ r h. command_formed x after n c.args.c.now (s.SetRow row f e) (plain_lcommand r) (ap plain_command c.in-SetRow.is ∙ plain_SetRow row f c.in-SetRow.value) (subst (λ slot. IsFormed after (write_field slot f.name (lift x e n)) (plain_lcommand r)) c.row-slot.ensures h))
+    (λ r h. command_formed x after n c.args.c.now (s.SetRow row f e) (plain_lcommand r) (ap plain_command c.in-SetRow.is ∙ plain_SetRow row f c.in-SetRow.value) (set_as _ _ f.name after (lift x e n) (plain_lcommand r) c.row-slot.ensures h))
     c.write_field.ensures
 
 pub form-returns-in-Foreach : goal.form-returns-in-Foreach
