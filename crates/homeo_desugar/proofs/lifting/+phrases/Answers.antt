@@ -12,6 +12,7 @@ use Rattle.homeo_syntax.specs.declared.phrase.Expr.{the_lemmas}
 use Rattle.homeo_syntax.proofs.SourceViews.{plain_Literal, plain_Name, plain_Read, plain_Sum, plain_Product, plain_Neg, plain_Field, plain_Row, plain_Count, plain_Total, plain_True, plain_Not, plain_Compare, plain_conjunction}
 use Rattle.homeo_syntax.proofs.LowViews.{low_Literal, low_Sum, low_Product, low_Neg, low_True, low_Not, low_Compare, low_conjunction_of, low_Assign, low_Skip}
 use Rattle.homeo_meaning.specs.Key.{words as meaning_words}
+use Rattle.homeo_meaning.specs.Schema.{declared_range}
 use Rattle.homeo_meaning.specs.Context.{spot, field_cell, bind, slots, fields}
 use Rattle.homeo_meaning.specs.LForm.{read, equal, plain, lift, lift_all, lift_cond}
 use Rattle.homeo_desugar.specs.Key.{words}
@@ -102,7 +103,7 @@ lift-returns-in_ok-index-in-Field t c =
     let e = plain_expr c.deref-in-Field.result.now in
     let seen = ap plain_expr c.in-Field.is ∙ plain_Field q c.in-Field.index f ∙ sym (ap (λ e. s.Field q (plain_expr e) f) c.deref-in-Field.ensures) in
     IfOk-weaker c.indexed.result _ _
-    (λ r h. expr_lifted x old new c.args.e.now (s.Field q e f) (plain_lexpr r) seen (indexed_lifted x e (slots x q.name) (spot (fields x q.name) f.name) old mid new i (plain_lexpr r) c.in_ok-index-in-Field.ensures (indexed_as _ _ _ _ f.name mid new (plain i mid.next) (plain_lexpr r) c.slots.ensures.slots c.slots.ensures.fields h)))
+    (λ r h. expr_lifted x old new c.args.e.now (s.Field q e f) (plain_lexpr r) seen (indexed_lifted x e (slots x q.name) (spot (fields x q.name) f.name) old mid new i (plain_lexpr r) c.in_ok-index-in-Field.ensures (indexed_as (plain_slots c.slots.result) (slots x q.name) (map declared_range c.slots.result.fields.now) (fields x q.name) f.name mid new (plain i mid.next) (plain_lexpr r) c.slots.ensures.slots c.slots.ensures.fields h)))
     c.indexed.ensures
 
 pub lift-returns-in-Row : goal.lift-returns-in-Row
@@ -119,7 +120,7 @@ lift-returns-in-Count t c =
     let old = c.args.out.now in
     let new = c.counted.new.out in
     IfOk-weaker c.counted.result _ _
-    (λ r h. expr_lifted x old new c.args.e.now (s.Count row c.in-Count.relation b) (plain_lexpr r) (ap plain_expr c.in-Count.is ∙ plain_Count row c.in-Count.relation c.in-Count.test) (counted_as (λ slot. lift_cond (bind x row.name slot) b) (term_of None) _ _ old new (plain_lexpr r) c.slots-slots.ensures.slots h))
+    (λ r h. expr_lifted x old new c.args.e.now (s.Count row c.in-Count.relation b) (plain_lexpr r) (ap plain_expr c.in-Count.is ∙ plain_Count row c.in-Count.relation c.in-Count.test) (counted_as (λ slot. lift_cond (bind x row.name slot) b) (term_of None) (plain_slots c.slots-slots.result) (slots x c.in-Count.relation.name) old new (plain_lexpr r) c.slots-slots.ensures.slots h))
     c.counted.ensures
 
 pub lift-returns-in-Total : goal.lift-returns-in-Total
@@ -132,7 +133,7 @@ lift-returns-in-Total t c =
     let old = c.args.out.now in
     let new = c.counted-in-Total.new.out in
     IfOk-weaker c.counted-in-Total.result _ _
-    (λ r h. expr_lifted x old new c.args.e.now (s.Total row f c.in-Total.relation b) (plain_lexpr r) (ap plain_expr c.in-Total.is ∙ plain_Total row f c.in-Total.relation c.in-Total.test) (counted_as (λ slot. lift_cond (bind x row.name slot) b) (term_of (Some f.name)) _ _ old new (plain_lexpr r) c.slots-slots-in-Total.ensures.slots h))
+    (λ r h. expr_lifted x old new c.args.e.now (s.Total row f c.in-Total.relation b) (plain_lexpr r) (ap plain_expr c.in-Total.is ∙ plain_Total row f c.in-Total.relation c.in-Total.test) (counted_as (λ slot. lift_cond (bind x row.name slot) b) (term_of (Some f.name)) (plain_slots c.slots-slots-in-Total.result) (slots x c.in-Total.relation.name) old new (plain_lexpr r) c.slots-slots-in-Total.ensures.slots h))
     c.counted-in-Total.ensures
 
 pub lift_all-loop-e-init : goal.lift_all-loop-e-init
