@@ -8,7 +8,7 @@ use Rattle.homeo_syntax.specs.declared.low.Temp.TheVariants as temp
 use Rattle.homeo_syntax.specs.declared.low.SplitName.TheVariants as split
 use Rattle.homeo_meaning.specs.Key.{words}
 use Rattle.homeo_meaning.specs.Context.{Spot, arguments_of}
-use Rattle.homeo_meaning.specs.LForm.{name_of, one, one_test, within, guarded}
+use Rattle.homeo_meaning.specs.LForm.{name_of, one_test, within, guarded}
 use Rattle.homeo_desugar.specs.Key.{words as desugar_words}
 use Rattle.homeo_desugar.specs.Made.{made}
 use Rattle.homeo_desugar.specs.Settings.{plain_spot, setting}
@@ -42,10 +42,6 @@ low_none = refl
 pub made_is : (m : Making) → made m ≡ low_commands (map plain_lcommand m.commands.items)
 unfolding desugar_words
 made_is m = refl
-
-pub one_is : (c : L.Command) → one c ≡ L.MoreCommand c L.NoCommand
-unfolding words
-one_is c = refl
 
 pub one_test_is : (t : L.Test) → one_test t ≡ L.MoreTest t L.NoTest
 unfolding words

@@ -22,7 +22,7 @@ use Rattle.homeo_desugar.specs.Key.{words}
 use Rattle.homeo_desugar.specs.Made.{made, IsLifted, IsAdded, IsFormed, AreFormed, AreWithin, plain_target}
 use Rattle.homeo_desugar.specs.declared.making.Making.{Making}
 use Rattle.homeo_desugar.specs.declared.making.Target as code
-use Rattle.homeo_desugar.proofs.Makings.{Leaves, both_none, both_both, low_more, made_push, lifted_joined, leaves_step}
+use Rattle.homeo_desugar.proofs.Makings.{Leaves, both_none, both_both, made_push, lifted_joined, leaves_step}
 
 -- ---- a command behind a lifting
 -- what is made from nothing is the lifting's
@@ -126,9 +126,9 @@ inserted_formed all into n x start out new xs test here none choice e first h a 
     subst (λ m. IsFormed out.next (inserted all into (x m)) (L.Seq (made new))) first (record {
       command =
           ap L.Seq (
-            pushed
-            ∙ (λ i. both (begun start out (x start.next).before e h.commands i) (one ((is ∙ (λ j. L.If (a j) (b j) (c j))) i)))
-            ∙ ap (λ ys. both (x start.next).before (one (L.If (all_within ys) (fill_chain ys into all) (L.Assign (temp.Named into) (L.Literal (pos 0)))))) h.phrase
+          pushed
+          ∙ (λ i. both (begun start out (x start.next).before e h.commands i) (one ((is ∙ (λ j. L.If (a j) (b j) (c j))) i)))
+          ∙ ap (λ ys. both (x start.next).before (one (L.If (all_within ys) (fill_chain ys into all) (L.Assign (temp.Named into) (L.Literal (pos 0)))))) h.phrase
           );
       next = h.next;
     })
@@ -205,6 +205,12 @@ indexed_as all wanted ds declared name after x y r e f h =
 pub inserted_as : (x : Context) (all wanted : List Slot) (ds declared : List Declared) (into after n : ℕ) (vs : List s.FieldValue) (r : L.Command) → all ≡ wanted → ds ≡ declared → IsFormed after (inserted all into (lift_values x ds vs n)) r → IsFormed after (inserted wanted into (lift_values x declared vs n)) r
 inserted_as x all wanted ds declared into after n vs r e f h =
     subst (λ l. IsFormed after (inserted l into (lift_values x declared vs n)) r) e (subst (λ d. IsFormed after (inserted all into (lift_values x d vs n)) r) f h)
+
+pub written_as : (b object : Spot) (place after : ℕ) (x : Lifted L.Expr) (r : L.Command) → b ≡ object → place ≡ object.place → IsFormed after (write_to b place x) r → IsFormed after (write_to object object.place x) r
+written_as b object place after x r e h k = subst (λ d. IsFormed after (write_to d object.place x) r) e (subst (λ n. IsFormed after (write_to b n x) r) h k)
+
+pub set_as : (slot row : Slot) (name after : ℕ) (x : Lifted L.Expr) (r : L.Command) → slot ≡ row → IsFormed after (write_field slot name x) r → IsFormed after (write_field row name x) r
+set_as slot row name after x r e h = subst (λ s. IsFormed after (write_field s name x) r) e h
 
 pub looped_as : (test : Slot → ℕ → Lifted L.Cond) (body : Slot → ℕ → Made) (all wanted : List Slot) (after n : ℕ) (r : L.Command) → all ≡ wanted → IsFormed after (as_one (visits test body all n)) r → IsFormed after (as_one (visits test body wanted n)) r
 looped_as test body all wanted after n r e h = subst (λ l. IsFormed after (as_one (visits test body l n)) r) e h

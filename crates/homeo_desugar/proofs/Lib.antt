@@ -1,5 +1,4 @@
 mod FormExample
-pub mod Building
 pub mod Equations
 pub mod Few
 pub mod FieldNames

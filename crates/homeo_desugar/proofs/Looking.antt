@@ -91,9 +91,9 @@ pub transaction_formed : (t : Transaction) (os : List Declared) (rs : List Relat
 unfolding words tree_words desugar_words
 transaction_formed t os rs past params args body after made rows p b e r formed =
     ap L.Seq (
-      formed.commands
-      ∙ ap (λ (f : ℕ → Slot). (forms (record { schema = schema_with os rs; arguments = arguments_of (map (λ p. p.name.name) params) args; rows = f }) (commands (map plain_command body)) 0).commands) (r ∙ (λ i n. absent (e i)))
-      ∙ (λ i. (forms (context (schema_with os rs) (map (λ p. p.name.name) (p i)) args) (commands (map plain_command (b i))) 0).commands)
+    formed.commands
+    ∙ ap (λ (f : ℕ → Slot). (forms (record { schema = schema_with os rs; arguments = arguments_of (map (λ p. p.name.name) params) args; rows = f }) (commands (map plain_command body)) 0).commands) (r ∙ (λ i n. absent (e i)))
+    ∙ (λ i. (forms (context (schema_with os rs) (map (λ p. p.name.name) (p i)) args) (commands (map plain_command (b i))) 0).commands)
     )
 
 -- what a ground call calls

@@ -336,6 +336,10 @@ pub visits_done : (test : Slot → ℕ → Lifted L.Cond) (body : Slot → ℕ �
 visits_done test body all number old now whole h left =
     visits_end test body old now whole (subst (λ l. VisitsLeft old now (visits test body l now.next) whole) (none_on all number h) left)
 
+-- slots of the code
+pub counted_as : (test : Slot → ℕ → Lifted L.Cond) (term : Slot → L.Expr) (all wanted : List Slot) (old new : Making) (r : L.Expr) → all ≡ wanted → IsLifted old new (counted test term all old.next) r → IsLifted old new (counted test term wanted old.next) r
+counted_as test term all wanted old new r e h = subst (λ l. IsLifted old new (counted test term l old.next) r) e h
+
 -- a count or a sum
 pub counted_lifted : (test : Slot → ℕ → Lifted L.Cond) (term : Slot → L.Expr) (all : List Slot) (total : ℕ) (old mid end : Making) (first : L.Command) (r : L.Expr) → total ≡ old.next → mid.next ≡ suc old.next → made mid ≡ both (made old) (one first) →
     first ≡ L.Assign (temp.Fresh total) (L.Literal (pos 0)) → IsAdded mid end (visits test (adding total term) all mid.next) → r ≡ fresh total → IsLifted old end (counted test term all old.next) r

@@ -1,9 +1,8 @@
 -- The rows in force.
-use Rattle.std.proofs.Common.{◌≡◌, ℕ, ◌<◌, ◌==◌, Bool, true, false, cond, refl, ap}
+use Rattle.std.proofs.Common.{ℕ, ◌==◌, Bool, true, false, cond}
 use Rattle.homeo_meaning.specs.Key.{words as meaning_words}
 use Rattle.homeo_meaning.specs.Context.{Slot, Context, bind}
-use Rattle.homeo_desugar.specs.Key.{words}
-use Rattle.homeo_desugar.specs.Settings.{rows_of, plain_slot, IsLow, Fits}
+use Rattle.homeo_desugar.specs.Settings.{IsLow, Fits}
 
 low_row : (b : Bool) (slot row : Slot) → IsLow slot → IsLow row → IsLow (cond b slot row)
 low_row true slot row h k = h

@@ -38,6 +38,10 @@ slots_are r f h =
     let same : to_z w64 (of_z w64 r.slots.value) ≡ r.slots.value = to_z-of_z w64 r.slots.value f in
     ap unsigned_abs same ∙ its_number r.slots.value (subst (λ z. int_lt z (pos 0) ≡ false) same h)
 
+-- one more than the objects have numbers of the code
+pub one_less : (n : ℕ) → n + 1 < 2 ^ 32 → n < 2 ^ 32
+one_less n h = omega arith
+
 -- ---- the objects of a relation
 pub objects_are : (r : RelationDecl) (count : ℕ) (fields : List RangeDecl) → count ≡ (relation_of r).slots → fields ≡ r.fields.items → count * (length fields + 1) ≡ objects_of (relation_of r)
 unfolding meaning_words tree_words

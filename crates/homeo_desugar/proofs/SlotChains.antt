@@ -87,14 +87,14 @@ fill_end slot ts i into cs a b k m mid new h first second e f left =
     let made : L.Commands = low_commands (map plain_lcommand cs) in
     let last : L.Commands = L.MoreCommand (L.Write (split.Whole slot.used) (L.Literal (pos 1))) (one (L.Assign (temp.Named into) (L.Literal (pos (suc slot.number))))) in
     ap L.Seq (
-      ap (λ (l : Listed LCommand). low_commands (map plain_lcommand l.items)) second
-      ∙ ap (λ (l : Listed LCommand). low_commands (map plain_lcommand (l.items ++ b ∷ []))) first
-      ∙ made_push (cs ++ a ∷ []) b
-      ∙ ap (λ u. both u (one (plain_lcommand b))) (made_push cs a)
-      ∙ both_both made (one (plain_lcommand a)) (one (plain_lcommand b))
-      ∙ (λ i. both made (L.MoreCommand (e i) (one (f i))))
-      ∙ sym (ap (λ xs. both made (field_writes slot (map plain_target xs) last)) (drop_all i ts h))
-      ∙ left last
+    ap (λ (l : Listed LCommand). low_commands (map plain_lcommand l.items)) second
+    ∙ ap (λ (l : Listed LCommand). low_commands (map plain_lcommand (l.items ++ b ∷ []))) first
+    ∙ made_push (cs ++ a ∷ []) b
+    ∙ ap (λ u. both u (one (plain_lcommand b))) (made_push cs a)
+    ∙ both_both made (one (plain_lcommand a)) (one (plain_lcommand b))
+    ∙ (λ i. both made (L.MoreCommand (e i) (one (f i))))
+    ∙ sym (ap (λ xs. both made (field_writes slot (map plain_target xs) last)) (drop_all i ts h))
+    ∙ left last
     )
 
 -- fields that are declared alike

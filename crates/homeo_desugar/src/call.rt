@@ -62,5 +62,11 @@ pub fn desugar(alloc: Global, call: &GroundCall, w: &Accepted) -> Result<LComman
     let transaction = find(workload, call.transaction);
     let objects = Objects::of(alloc, workload.objects.as_slice())?;
     let relations = workload.relations.as_slice();
-    form_transaction(alloc, &objects, relations, transaction, call.args.as_slice())
+    form_transaction(
+        alloc,
+        &objects,
+        relations,
+        transaction,
+        call.args.as_slice(),
+    )
 }

@@ -77,12 +77,7 @@ pub(crate) fn all_within(alloc: Global, targets: &[Target]) -> Result<LCond, Mem
 }
 
 /// Fills a slot: sets its fields, says that it is used, and puts its number plus 1 into a temporary.
-fn fill(
-    alloc: Global,
-    slot: Slot<'_>,
-    targets: &[Target],
-    into: u32,
-) -> Result<LCommand, Memory>
+fn fill(alloc: Global, slot: Slot<'_>, targets: &[Target], into: u32) -> Result<LCommand, Memory>
     requires low { IsLow (plain_slot slot) }
     requires within { AreWithin slot.fields.now targets.now }
     ensures { IfOk result (λ c. plain_lcommand c ≡ filled (plain_slot slot.entry) (map plain_target targets.now) into) }

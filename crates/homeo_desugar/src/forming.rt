@@ -43,12 +43,7 @@ fn assign(
     })
 }
 
-fn print(
-    alloc: Global,
-    value: &Expr,
-    frame: &Frame<'_>,
-    next: &mut u32,
-) -> Result<LCommand, Memory>
+fn print(alloc: Global, value: &Expr, frame: &Frame<'_>, next: &mut u32) -> Result<LCommand, Memory>
     requires fits { Fits (setting frame.now) }
     ensures { IfOk result (λ r. IsFormed next.new
         (form (setting frame.now) (Print (plain_expr value.now)) next.old) (plain_lcommand r)) }
@@ -254,12 +249,7 @@ fn update(
 /// The L form of a command.
 #[cycle(commands)]
 #[tactic(auto, using(homeo_syntax::proofs::Measures::command_parts))]
-fn form(
-    alloc: Global,
-    c: &Command,
-    frame: &Frame<'_>,
-    next: &mut u32,
-) -> Result<LCommand, Memory>
+fn form(alloc: Global, c: &Command, frame: &Frame<'_>, next: &mut u32) -> Result<LCommand, Memory>
     requires fits { Fits (setting frame.now) }
     ensures { IfOk result (λ r. IsFormed next.new
         (form (setting frame.now) (plain_command c.now) next.old) (plain_lcommand r)) }

@@ -147,12 +147,7 @@ fn lift_all(
 
 #[cycle(phrases)]
 #[tactic(auto, using(homeo_syntax::proofs::Measures::phrase_parts))]
-fn lift_test(
-    alloc: Global,
-    t: &Test,
-    frame: &Frame<'_>,
-    out: &mut Making,
-) -> Result<LTest, Memory>
+fn lift_test(alloc: Global, t: &Test, frame: &Frame<'_>, out: &mut Making) -> Result<LTest, Memory>
     requires fits { Fits (setting frame.now) }
     ensures { IfOk result (λ r. IsLifted out.old out.new
         (lift_test (setting frame.now) (plain_test t.now) out.old.next) (plain_ltest r)) }

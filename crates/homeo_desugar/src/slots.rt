@@ -71,9 +71,7 @@ impl<'a> Slots<'a> {
             fields: self.fields,
         }
     }
-}
 
-impl<'a> Slots<'a> {
     /// The slot that an index names.
     pub(crate) fn at(self, index: i64) -> Option<Slot<'a>>
         requires fits { SlotsFit self }

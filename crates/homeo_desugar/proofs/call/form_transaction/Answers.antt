@@ -1,21 +1,18 @@
 -- The body's commands have their forms in the context of the call.
-use Rattle.std.proofs.Common.{◌≡◌, ◌+◌, ◌<◌, ◌^◌, ℕ, map, refl, sym, ap, ◌∙◌, subst, arith}
-use Rattle.homeo_syntax.specs.SourceView.{commands, plain_command}
+use Rattle.std.proofs.Common.{◌<◌, ◌^◌, map, refl, sym, ap, ◌∙◌, subst, arith}
 use Rattle.homeo_syntax.specs.LowView.{low_commands, plain_lcommand}
 use Rattle.homeo_syntax.proofs.LowViews.{low_Seq}
 use Rattle.homeo_meaning.specs.Context.{object_count}
 use Rattle.homeo_desugar.specs.Key.{words}
 use Rattle.homeo_desugar.specs.Settings.{schemas}
+use Rattle.homeo_desugar.proofs.Schemas.{one_less}
 use Rattle.homeo_desugar.proofs.Looking.{transaction_formed}
 use Rattle.homeo_desugar.proofs.call.form_transaction.Goals as goal
-
-less : (n : ℕ) → n + 1 < 2 ^ 32 → n < 2 ^ 32
-less n h = omega arith
 
 pub objects_past-requires : goal.objects_past-requires
 unfolding words
 objects_past-requires c =
-    subst (λ n. object_count n (schemas c.args.relations.now) < 2 ^ 32) (sym c.len.ensures) (less _ c.requires.objects)
+    subst (λ n. object_count n (schemas c.args.relations.now) < 2 ^ 32) (sym c.len.ensures) (one_less _ c.requires.objects)
 
 pub form_all-requires : goal.form_all-requires
 unfolding words

@@ -1,5 +1,5 @@
 -- One slot more is put in front of the chain.
-use Rattle.std.proofs.Common.{◌≡◌, ◌-◌, pos, map, sym, ap, ◌∙◌, arith}
+use Rattle.std.proofs.Common.{◌-◌, pos, map, sym, ap, ◌∙◌, arith}
 use Rattle.homeo_syntax.specs.Low as L
 use Rattle.homeo_syntax.specs.LowView.{plain_lcond, plain_lcommand}
 use Rattle.homeo_syntax.specs.declared.low.Temp.TheVariants as temp

@@ -11,13 +11,12 @@ use Rattle.homeo_syntax.proofs.SourceViews.{plain_Skip, plain_Assign, plain_Writ
 use Rattle.homeo_syntax.proofs.LowViews.{low_Seq, low_Skip}
 use Rattle.homeo_meaning.specs.Key.{words as meaning_words}
 use Rattle.homeo_meaning.specs.Schema.{declared_range}
-use Rattle.homeo_meaning.specs.Context.{Slot, spot, bind, slots, fields, object}
-use Rattle.homeo_meaning.specs.LForm.{Lifted, both, lift, lift_cond, lift_values, visits, as_one, clear, write_to, write_field, write_indexed, inserted, form, forms}
+use Rattle.homeo_meaning.specs.Context.{Slot, bind, slots, fields, object}
+use Rattle.homeo_meaning.specs.LForm.{Lifted, both, lift, lift_cond, visits, clear, form, forms}
 use Rattle.homeo_desugar.specs.Key.{words}
-use Rattle.homeo_desugar.specs.Made.{IsFormed}
-use Rattle.homeo_desugar.specs.Settings.{setting, plain_slot, plain_slots, plain_spot, IsLow, Fits}
+use Rattle.homeo_desugar.specs.Settings.{setting, plain_slot, plain_slots, plain_spot, Fits}
 use Rattle.homeo_desugar.specs.Visits.{updating, running}
-use Rattle.homeo_desugar.proofs.Forms.{loop_formed, or_skip, field_in, indexed_as, inserted_as, looped_as, chosen_formed, forms_step, forms_end, forms_in, command_formed}
+use Rattle.homeo_desugar.proofs.Forms.{loop_formed, or_skip, indexed_as, inserted_as, written_as, set_as, looped_as, chosen_formed, forms_step, forms_end, forms_in, command_formed}
 use Rattle.homeo_desugar.proofs.Makings.{visits_begin, visit_step, visits_done}
 use Rattle.homeo_desugar.proofs.Rows.{bind_fits}
 use Rattle.homeo_desugar.proofs.SlotLists.{slot_is_low}
@@ -83,7 +82,7 @@ form-returns-in-Write t c =
     let e = plain_expr c.in-Write.value in
     let after = c.write_to.new.next in
     IfOk-weaker c.write_to.result _ _
-    (λ r h. command_formed x after n c.args.c.now (s.Write o e) (plain_lcommand r) (ap plain_command c.in-Write.is ∙ plain_Write o c.in-Write.value) (subst (λ b. IsFormed after (write_to b b.place (lift x e n)) (plain_lcommand r)) c.object-object.ensures h))
+    (λ r h. command_formed x after n c.args.c.now (s.Write o e) (plain_lcommand r) (ap plain_command c.in-Write.is ∙ plain_Write o c.in-Write.value) (written_as (plain_spot c.object-object.result) (object x o.name) c.object-object.result.place after (lift x e n) (plain_lcommand r) c.object-object.ensures (ap (λ b. b.place) c.object-object.ensures) h))
     c.write_to.ensures
 
 pub form-returns-in_ok-chosen-in-If : goal.form-returns-in_ok-chosen-in-If
@@ -118,7 +117,7 @@ form-returns-in-SetField t c =
     let e = plain_expr c.in-SetField.value in
     let after = c.set_field.new.next in
     IfOk-weaker c.set_field.result _ _
-    (λ r h. command_formed x after n c.args.c.now (s.SetField q i f e) (plain_lcommand r) (ap plain_command c.in-SetField.is ∙ plain_SetField q c.in-SetField.index f c.in-SetField.value) (indexed_as _ _ _ _ f.name after (lift x i n) (lift x e) (plain_lcommand r) c.slots-slots.ensures.slots c.slots-slots.ensures.fields h))
+    (λ r h. command_formed x after n c.args.c.now (s.SetField q i f e) (plain_lcommand r) (ap plain_command c.in-SetField.is ∙ plain_SetField q c.in-SetField.index f c.in-SetField.value) (indexed_as (plain_slots c.slots-slots.result) (slots x q.name) (map declared_range c.slots-slots.result.fields.now) (fields x q.name) f.name after (lift x i n) (lift x e) (plain_lcommand r) c.slots-slots.ensures.slots c.slots-slots.ensures.fields h))
     c.set_field.ensures
 
 pub form-returns-in-SetRow : goal.form-returns-in-SetRow
@@ -131,7 +130,7 @@ form-returns-in-SetRow t c =
     let e = plain_expr c.in-SetRow.value in
     let after = c.write_field.new.next in
     IfOk-weaker c.write_field.result _ _
-    (λ r h. command_formed x after n c.args.c.now (s.SetRow row f e) (plain_lcommand r) (ap plain_command c.in-SetRow.is ∙ plain_SetRow row f c.in-SetRow.value) (subst (λ slot. IsFormed after (write_field slot f.name (lift x e n)) (plain_lcommand r)) c.row-slot.ensures h))
+    (λ r h. command_formed x after n c.args.c.now (s.SetRow row f e) (plain_lcommand r) (ap plain_command c.in-SetRow.is ∙ plain_SetRow row f c.in-SetRow.value) (set_as (plain_slot c.row-slot.result) (x.rows row.name) f.name after (lift x e n) (plain_lcommand r) c.row-slot.ensures h))
     c.write_field.ensures
 
 pub form-returns-in-Foreach : goal.form-returns-in-Foreach
@@ -146,7 +145,7 @@ form-returns-in-Foreach t c =
     let after = c.foreach.new.next in
     let seen = ap plain_command c.in-Foreach.is ∙ plain_Foreach row q c.in-Foreach.test c.in-Foreach.body ∙ sym (ap (λ l. s.Foreach row q b (commands (map plain_command l))) c.as_slice-in-Foreach.ensures) in
     IfOk-weaker c.foreach.result _ _
-    (λ r h. command_formed x after n c.args.c.now (s.Foreach row q b body) (plain_lcommand r) seen (looped_as (λ slot. lift_cond (bind x row.name slot) b) (running x row.name body) _ _ after n (plain_lcommand r) c.slots-slots-in-Foreach.ensures.slots h))
+    (λ r h. command_formed x after n c.args.c.now (s.Foreach row q b body) (plain_lcommand r) seen (looped_as (λ slot. lift_cond (bind x row.name slot) b) (running x row.name body) (plain_slots c.slots-slots-in-Foreach.result) (slots x q.name) after n (plain_lcommand r) c.slots-slots-in-Foreach.ensures.slots h))
     c.foreach.ensures
 
 pub form-returns-in-Insert : goal.form-returns-in-Insert
@@ -160,7 +159,7 @@ form-returns-in-Insert t c =
     let after = c.insert.new.next in
     let seen = ap plain_command c.in-Insert.is ∙ plain_Insert q c.in-Insert.fields into ∙ sym (ap (λ l. s.Insert q (map plain_field l) into) c.as_slice-in-Insert.ensures) in
     IfOk-weaker c.insert.result _ _
-    (λ r h. command_formed x after n c.args.c.now (s.Insert q vs into) (plain_lcommand r) seen (inserted_as x _ _ _ _ into.name after n vs (plain_lcommand r) c.slots-slots-in-Insert.ensures.slots c.slots-slots-in-Insert.ensures.fields h))
+    (λ r h. command_formed x after n c.args.c.now (s.Insert q vs into) (plain_lcommand r) seen (inserted_as x (plain_slots c.slots-slots-in-Insert.result) (slots x q.name) (map declared_range c.slots-slots-in-Insert.result.fields.now) (fields x q.name) into.name after n vs (plain_lcommand r) c.slots-slots-in-Insert.ensures.slots c.slots-slots-in-Insert.ensures.fields h))
     c.insert.ensures
 
 pub form-returns-in-Delete : goal.form-returns-in-Delete
@@ -173,7 +172,7 @@ form-returns-in-Delete t c =
     let b = plain_cond c.in-Delete.test in
     let after = c.delete.new.next in
     IfOk-weaker c.delete.result _ _
-    (λ r h. command_formed x after n c.args.c.now (s.Delete row q b) (plain_lcommand r) (ap plain_command c.in-Delete.is ∙ plain_Delete row q c.in-Delete.test) (looped_as (λ slot. lift_cond (bind x row.name slot) b) clear _ _ after n (plain_lcommand r) c.slots-slots-in-Delete.ensures.slots h))
+    (λ r h. command_formed x after n c.args.c.now (s.Delete row q b) (plain_lcommand r) (ap plain_command c.in-Delete.is ∙ plain_Delete row q c.in-Delete.test) (looped_as (λ slot. lift_cond (bind x row.name slot) b) clear (plain_slots c.slots-slots-in-Delete.result) (slots x q.name) after n (plain_lcommand r) c.slots-slots-in-Delete.ensures.slots h))
     c.delete.ensures
 
 pub form-returns-in-Update : goal.form-returns-in-Update
@@ -188,7 +187,7 @@ form-returns-in-Update t c =
     let e = plain_expr c.in-Update.value in
     let after = c.update.new.next in
     IfOk-weaker c.update.result _ _
-    (λ r h. command_formed x after n c.args.c.now (s.Update row q b f e) (plain_lcommand r) (ap plain_command c.in-Update.is ∙ plain_Update row q c.in-Update.test f c.in-Update.value) (looped_as (λ slot. lift_cond (bind x row.name slot) b) (updating x row.name f.name e) _ _ after n (plain_lcommand r) c.slots-slots-in-Update.ensures.slots h))
+    (λ r h. command_formed x after n c.args.c.now (s.Update row q b f e) (plain_lcommand r) (ap plain_command c.in-Update.is ∙ plain_Update row q c.in-Update.test f c.in-Update.value) (looped_as (λ slot. lift_cond (bind x row.name slot) b) (updating x row.name f.name e) (plain_slots c.slots-slots-in-Update.result) (slots x q.name) after n (plain_lcommand r) c.slots-slots-in-Update.ensures.slots h))
     c.update.ensures
 
 pub form_all-loop-c-init : goal.form_all-loop-c-init

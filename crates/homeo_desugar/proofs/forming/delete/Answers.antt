@@ -2,7 +2,7 @@
 use Rattle.std.proofs.Common.{ℕ, pos, sym, ap, ◌∙◌, subst}
 use Rattle.homeo_syntax.specs.Low as L
 use Rattle.homeo_syntax.specs.SourceView.{plain_cond}
-use Rattle.homeo_syntax.specs.LowView.{plain_lcond, plain_lcommand}
+use Rattle.homeo_syntax.specs.LowView.{plain_lcond}
 use Rattle.homeo_syntax.specs.declared.low.SplitName.TheVariants as split
 use Rattle.homeo_syntax.proofs.LowViews.{low_Literal, low_Seq, low_Write}
 use Rattle.homeo_meaning.specs.Key.{words as meaning_words}

@@ -1,5 +1,5 @@
 -- The choice stands behind the assignments of the new values.
-use Rattle.std.proofs.Common.{◌≡◌, pos, map, ap, ◌∙◌}
+use Rattle.std.proofs.Common.{pos, map, ap, ◌∙◌}
 use Rattle.homeo_syntax.specs.Low as L
 use Rattle.homeo_syntax.specs.SourceView.{plain_field}
 use Rattle.homeo_syntax.specs.LowView.{plain_lcond, plain_lcommand}

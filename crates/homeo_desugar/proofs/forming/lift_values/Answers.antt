@@ -1,13 +1,11 @@
 -- One value more is put into a fresh temporary.
-use Rattle.std.proofs.Common.{◌≡◌, ◌++◌, map, refl, ap, ◌∙◌}
-use Rattle.homeo_syntax.specs.Low as L
+use Rattle.std.proofs.Common.{◌++◌, map, refl, ap, ◌∙◌}
 use Rattle.homeo_syntax.specs.SourceView.{plain_expr, plain_field}
-use Rattle.homeo_syntax.specs.LowView.{plain_lexpr, plain_lcommand}
-use Rattle.homeo_syntax.specs.declared.low.Temp.TheVariants as temp
+use Rattle.homeo_syntax.specs.LowView.{plain_lexpr}
 use Rattle.homeo_syntax.proofs.LowViews.{low_Assign}
 use Rattle.homeo_meaning.specs.Schema.{declared_range}
 use Rattle.homeo_meaning.specs.Context.{Spot, spot}
-use Rattle.homeo_meaning.specs.LForm.{Target, lift, lift_values}
+use Rattle.homeo_meaning.specs.LForm.{lift, lift_values}
 use Rattle.homeo_desugar.specs.Key.{words}
 use Rattle.homeo_desugar.specs.Made.{plain_target}
 use Rattle.homeo_desugar.specs.Settings.{setting}

@@ -1,5 +1,5 @@
 -- One slot more is updated.
-use Rattle.std.proofs.Common.{ℕ, sym, ap, ◌∙◌, subst}
+use Rattle.std.proofs.Common.{ℕ, sym, ◌∙◌, subst}
 use Rattle.homeo_syntax.specs.Low as L
 use Rattle.homeo_syntax.specs.SourceView.{plain_expr, plain_cond}
 use Rattle.homeo_syntax.specs.LowView.{plain_lcond, plain_lcommand}

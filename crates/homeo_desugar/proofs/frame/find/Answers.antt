@@ -1,5 +1,5 @@
 -- The first relation of the name is found.
-use Rattle.std.proofs.Common.{◌≡◌, ◌+◌, ◌<◌, ◌^◌, length, map, drop, sym, ap, ◌∙◌, subst, arith, refl}
+use Rattle.std.proofs.Common.{◌≡◌, ◌+◌, ◌<◌, ◌^◌, length, map, drop, sym, ap, ◌∙◌, subst, arith}
 use Rattle.homeo_syntax.specs.Key.{words as tree_words}
 use Rattle.homeo_syntax.specs.SourceView.{plain_relation}
 use Rattle.homeo_meaning.specs.Key.{words as meaning_words}

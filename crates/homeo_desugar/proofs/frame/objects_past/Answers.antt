@@ -1,5 +1,5 @@
 -- The objects of the next relation are counted.
-use Rattle.std.proofs.Common.{◌≡◌, ◌+◌, drop, ap, ◌∙◌, arith}
+use Rattle.std.proofs.Common.{◌+◌, drop, ap, ◌∙◌, arith}
 use Rattle.homeo_meaning.specs.Context.{object_count}
 use Rattle.homeo_desugar.specs.Settings.{schemas}
 use Rattle.homeo_desugar.proofs.Schemas.{count_next, count_room, count_end}

@@ -1,5 +1,5 @@
 -- A number of slots is not below 0.
-use Rattle.std.proofs.Common.{◌≡◌, ℕ, ◌^◌, ◌<◌, rules, SFits, w64, arith}
+use Rattle.std.proofs.Common.{rules, SFits, w64, arith}
 use Rattle.std.proofs.lemmas.Int.{ints}
 use Rattle.homeo_desugar.proofs.Schemas.{slots_below, slots_are}
 use Rattle.homeo_desugar.proofs.frame.slot_count.Goals as goal

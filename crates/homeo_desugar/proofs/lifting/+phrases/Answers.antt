@@ -1,24 +1,25 @@
 -- Each phrase is lifted as the definition says, part by part.
-use Rattle.std.proofs.Common.{◌≡◌, ◌+◌, ◌∷◌, [], ◌++◌, drop, map, w64, pos, None, Some, rules, refl, sym, ap, ◌∙◌, subst}
+use Rattle.std.proofs.Common.{◌∷◌, [], ◌++◌, map, w64, pos, None, Some, rules, refl, sym, ap, ◌∙◌, subst}
 use Rattle.std.proofs.lemmas.Int.{to_z-of_z}
 use Rattle.std.proofs.lemmas.Result.{IfOk-weaker}
 use Rattle.homeo_syntax.specs.Key.{words as tree_words}
 use Rattle.homeo_syntax.specs.Source as s
 use Rattle.homeo_syntax.specs.Low as L
 use Rattle.homeo_syntax.specs.SourceView.{exprs, tests, plain_expr, plain_test, plain_cond}
-use Rattle.homeo_syntax.specs.LowView.{low_exprs, low_tests, low_commands, plain_lexpr, plain_ltest, plain_lcond, plain_lcommand}
+use Rattle.homeo_syntax.specs.LowView.{low_exprs, low_tests, plain_lexpr, plain_ltest, plain_lcond, plain_lcommand}
 use Rattle.homeo_syntax.specs.declared.low.Temp.TheVariants as temp
 use Rattle.homeo_syntax.specs.declared.phrase.Expr.{the_lemmas}
 use Rattle.homeo_syntax.proofs.SourceViews.{plain_Literal, plain_Name, plain_Read, plain_Sum, plain_Product, plain_Neg, plain_Field, plain_Row, plain_Count, plain_Total, plain_True, plain_Not, plain_Compare, plain_conjunction}
 use Rattle.homeo_syntax.proofs.LowViews.{low_Literal, low_Sum, low_Product, low_Neg, low_True, low_Not, low_Compare, low_conjunction_of, low_Assign, low_Skip}
 use Rattle.homeo_meaning.specs.Key.{words as meaning_words}
+use Rattle.homeo_meaning.specs.Schema.{declared_range}
 use Rattle.homeo_meaning.specs.Context.{spot, field_cell, bind, slots, fields}
-use Rattle.homeo_meaning.specs.LForm.{both, one, read, equal, plain, joined, indexed, counted, lift, lift_all, lift_test, lift_cond}
+use Rattle.homeo_meaning.specs.LForm.{read, equal, plain, lift, lift_all, lift_cond}
 use Rattle.homeo_desugar.specs.Key.{words}
-use Rattle.homeo_desugar.specs.Made.{IsLifted, both_tests}
+use Rattle.homeo_desugar.specs.Made.{both_tests}
 use Rattle.homeo_desugar.specs.Settings.{setting, plain_slot, plain_slots, IsLow, Fits}
 use Rattle.homeo_desugar.specs.Visits.{adding, added, term_of}
-use Rattle.homeo_desugar.proofs.Makings.{Leaves, both_exprs, lifted_plain, lifted_mapped, lifted_joined, expr_lifted, test_lifted, cond_lifted, visit_lifted, exprs_step, exprs_past, exprs_end, tests_step, tests_past, conds_end, pushed_after, visits_begin, visit_step, visits_done, counted_lifted, indexed_lifted, indexed_as}
+use Rattle.homeo_desugar.proofs.Makings.{Leaves, both_exprs, lifted_plain, lifted_mapped, lifted_joined, expr_lifted, test_lifted, cond_lifted, visit_lifted, exprs_step, exprs_past, exprs_end, tests_step, tests_past, conds_end, pushed_after, visits_begin, visit_step, visits_done, counted_lifted, counted_as, indexed_lifted, indexed_as}
 use Rattle.homeo_desugar.proofs.Rows.{bind_fits}
 use Rattle.homeo_desugar.proofs.SlotLists.{low_used, slot_is_low}
 use Rattle.homeo_desugar.proofs.lifting.+phrases.Goals as goal
@@ -102,7 +103,7 @@ lift-returns-in_ok-index-in-Field t c =
     let e = plain_expr c.deref-in-Field.result.now in
     let seen = ap plain_expr c.in-Field.is ∙ plain_Field q c.in-Field.index f ∙ sym (ap (λ e. s.Field q (plain_expr e) f) c.deref-in-Field.ensures) in
     IfOk-weaker c.indexed.result _ _
-    (λ r h. expr_lifted x old new c.args.e.now (s.Field q e f) (plain_lexpr r) seen (indexed_lifted x e (slots x q.name) (spot (fields x q.name) f.name) old mid new i (plain_lexpr r) c.in_ok-index-in-Field.ensures (indexed_as _ _ _ _ f.name mid new (plain i mid.next) (plain_lexpr r) c.slots.ensures.slots c.slots.ensures.fields h)))
+    (λ r h. expr_lifted x old new c.args.e.now (s.Field q e f) (plain_lexpr r) seen (indexed_lifted x e (slots x q.name) (spot (fields x q.name) f.name) old mid new i (plain_lexpr r) c.in_ok-index-in-Field.ensures (indexed_as (plain_slots c.slots.result) (slots x q.name) (map declared_range c.slots.result.fields.now) (fields x q.name) f.name mid new (plain i mid.next) (plain_lexpr r) c.slots.ensures.slots c.slots.ensures.fields h)))
     c.indexed.ensures
 
 pub lift-returns-in-Row : goal.lift-returns-in-Row
@@ -119,7 +120,7 @@ lift-returns-in-Count t c =
     let old = c.args.out.now in
     let new = c.counted.new.out in
     IfOk-weaker c.counted.result _ _
-    (λ r h. expr_lifted x old new c.args.e.now (s.Count row c.in-Count.relation b) (plain_lexpr r) (ap plain_expr c.in-Count.is ∙ plain_Count row c.in-Count.relation c.in-Count.test) (subst (λ all. IsLifted old new (counted (λ slot. lift_cond (bind x row.name slot) b) (term_of None) all old.next) (plain_lexpr r)) c.slots-slots.ensures.slots h))
+    (λ r h. expr_lifted x old new c.args.e.now (s.Count row c.in-Count.relation b) (plain_lexpr r) (ap plain_expr c.in-Count.is ∙ plain_Count row c.in-Count.relation c.in-Count.test) (counted_as (λ slot. lift_cond (bind x row.name slot) b) (term_of None) (plain_slots c.slots-slots.result) (slots x c.in-Count.relation.name) old new (plain_lexpr r) c.slots-slots.ensures.slots h))
     c.counted.ensures
 
 pub lift-returns-in-Total : goal.lift-returns-in-Total
@@ -132,7 +133,7 @@ lift-returns-in-Total t c =
     let old = c.args.out.now in
     let new = c.counted-in-Total.new.out in
     IfOk-weaker c.counted-in-Total.result _ _
-    (λ r h. expr_lifted x old new c.args.e.now (s.Total row f c.in-Total.relation b) (plain_lexpr r) (ap plain_expr c.in-Total.is ∙ plain_Total row f c.in-Total.relation c.in-Total.test) (subst (λ all. IsLifted old new (counted (λ slot. lift_cond (bind x row.name slot) b) (term_of (Some f.name)) all old.next) (plain_lexpr r)) c.slots-slots-in-Total.ensures.slots h))
+    (λ r h. expr_lifted x old new c.args.e.now (s.Total row f c.in-Total.relation b) (plain_lexpr r) (ap plain_expr c.in-Total.is ∙ plain_Total row f c.in-Total.relation c.in-Total.test) (counted_as (λ slot. lift_cond (bind x row.name slot) b) (term_of (Some f.name)) (plain_slots c.slots-slots-in-Total.result) (slots x c.in-Total.relation.name) old new (plain_lexpr r) c.slots-slots-in-Total.ensures.slots h))
     c.counted-in-Total.ensures
 
 pub lift_all-loop-e-init : goal.lift_all-loop-e-init

@@ -1,5 +1,5 @@
 -- What is lifted so far and what the rest is lifted to are all that there is.
-use Rattle.std.proofs.Common.{◌≡◌, ◌-◌, map, drop}
+use Rattle.std.proofs.Common.{◌-◌, map, drop}
 use Rattle.homeo_syntax.specs.Low.{NoExpr}
 use Rattle.homeo_syntax.specs.SourceView.{exprs, tests, plain_expr, plain_test, plain_cond}
 use Rattle.homeo_syntax.specs.LowView.{low_exprs, low_tests, plain_lexpr, plain_ltest}

@@ -1,15 +1,15 @@
 -- The slot that a literal names, or a chain.
-use Rattle.std.proofs.Common.{◌≡◌, w64, pos, Some, rules, map, sym, ap, ◌∙◌}
+use Rattle.std.proofs.Common.{w64, pos, rules, map, sym, ap, ◌∙◌}
 use Rattle.std.specs.Prelude.{option_map}
 use Rattle.std.proofs.lemmas.Int.{to_z-of_z}
-use Rattle.homeo_syntax.specs.LowView.{low_commands, plain_lexpr, plain_lcommand}
+use Rattle.homeo_syntax.specs.LowView.{plain_lexpr, plain_lcommand}
 use Rattle.homeo_syntax.proofs.LowViews.{low_Literal}
 use Rattle.homeo_meaning.specs.Key.{words as meaning_words}
 use Rattle.homeo_meaning.specs.Schema.{declared_range}
 use Rattle.homeo_meaning.specs.Context.{cell, slot_at, spot}
-use Rattle.homeo_meaning.specs.LForm.{both, one, read, fresh, read_slot, read_chain}
+use Rattle.homeo_meaning.specs.LForm.{read, fresh, read_slot, read_chain}
 use Rattle.homeo_desugar.specs.Key.{words}
-use Rattle.homeo_desugar.specs.Settings.{plain_slot, plain_slots, plain_spot}
+use Rattle.homeo_desugar.specs.Settings.{plain_slot, plain_slots}
 use Rattle.homeo_desugar.proofs.Makings.{indexed_literal, indexed_chain, pushed_after}
 use Rattle.homeo_desugar.proofs.SlotLists.{at_numbered, numbered_fits}
 use Rattle.homeo_desugar.proofs.lifting.indexed.Goals.{in-Some-at, in-None}

@@ -1,5 +1,5 @@
 -- The tests begin with none.
-use Rattle.std.proofs.Common.{◌≡◌, map, ap, ◌∙◌, [], refl}
+use Rattle.std.proofs.Common.{map, ap, ◌∙◌}
 use Rattle.homeo_syntax.specs.Key.{words as tree_words}
 use Rattle.homeo_syntax.specs.Low.{NoTest}
 use Rattle.homeo_syntax.specs.LowView.{low_tests, plain_ltest, plain_lexpr}

@@ -1,18 +1,16 @@
 -- The relations of the frame are those of its context.
-use Rattle.std.proofs.Common.{◌≡◌, ◌+◌, ◌<◌, ◌^◌, ℕ, length, sym, ap, ◌∙◌, subst, arith}
+use Rattle.std.proofs.Common.{◌<◌, ◌^◌, sym, ap, ◌∙◌, subst}
 use Rattle.homeo_meaning.specs.Key.{words as meaning_words}
 use Rattle.homeo_meaning.specs.Context.{object_count, find_slots}
 use Rattle.homeo_desugar.specs.Key.{words}
 use Rattle.homeo_desugar.specs.Settings.{schemas}
+use Rattle.homeo_desugar.proofs.Schemas.{one_less}
 use Rattle.homeo_desugar.proofs.frame.Frame.slots.Goals as goal
-
-less : (n : ℕ) → n + 1 < 2 ^ 32 → n < 2 ^ 32
-less n h = omega arith
 
 pub find-requires-clause-objects : goal.find-requires-clause-objects
 unfolding words
 find-requires-clause-objects c =
-    subst (λ n. object_count n (schemas c.args.self.now.relations.now) < 2 ^ 32) (sym c.len.ensures) (less _ c.requires.schema.objects)
+    subst (λ n. object_count n (schemas c.args.self.now.relations.now) < 2 ^ 32) (sym c.len.ensures) (one_less _ c.requires.schema.objects)
 
 pub find-requires-clause-fields : goal.find-requires-clause-fields
 unfolding words

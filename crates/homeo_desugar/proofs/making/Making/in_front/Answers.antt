@@ -1,5 +1,5 @@
 -- The command is alone only where there are no others.
-use Rattle.std.proofs.Common.{◌≡◌, ◌≢◌, map, length, ap, ◌∙◌, ◌==◌, true, false, arith, sym}
+use Rattle.std.proofs.Common.{◌≡◌, map, length, ap, ◌∙◌, ◌==◌, true, false, arith, sym}
 use Rattle.std.proofs.lemmas.Bool.Decides.{nat_tests}
 use Rattle.homeo_syntax.specs.LowView.{low_commands, plain_lcommand}
 use Rattle.homeo_syntax.specs.Low as L

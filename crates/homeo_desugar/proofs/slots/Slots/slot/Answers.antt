@@ -1,7 +1,6 @@
 -- The slots are one wider than their fields.
 use Rattle.std.proofs.Common.{◌≡◌, ◌+◌, ◌*◌, ℕ, length, map, ap, arith}
 use Rattle.homeo_meaning.specs.Schema.{declared_range}
-use Rattle.homeo_meaning.specs.Context.{Slot}
 use Rattle.homeo_desugar.specs.Key.{words}
 use Rattle.homeo_desugar.proofs.slots.Slots.slot.Goals as goal
 
