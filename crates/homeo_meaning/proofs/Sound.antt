@@ -7,10 +7,9 @@ use Rattle.homeo_meaning.specs.Schema.{schema_of}
 use Rattle.homeo_meaning.specs.Context.{object_count}
 use Rattle.homeo_meaning.specs.Bounds.{IsWithin}
 use Rattle.homeo_meaning.specs.Initial.{initial}
-use Rattle.homeo_meaning.specs.Built.{IsBuilt}
 use Rattle.homeo_meaning.specs.Acceptance.{IsLightCall, IsAccepted}
 use Rattle.homeo_meaning.proofs.FaultParts.{NoTextFault, NoFault, parts, declared_parts}
-use Rattle.homeo_meaning.proofs.SoundRules.{is-built, all-light}
+use Rattle.homeo_meaning.proofs.SoundRules.{all-light}
 use Rattle.homeo_meaning.proofs.SoundRelations.{SlotsFit, slots-fit, bounds-fit, objects-fit}
 use Rattle.homeo_meaning.proofs.Starts.{starts-within}
 
@@ -31,7 +30,3 @@ sound w a =
       slots = slots-fit w text.limits;
       few = objects-fit w text.limits;
     }
-
--- what can't be run yet is refused
-pub accepted_built : (w : s.Workload) → IsAccepted w → IsBuilt w
-accepted_built w a = is-built w (parts Run w a.rules).text.unbuilt
