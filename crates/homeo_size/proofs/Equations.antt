@@ -1,267 +1,488 @@
 -- The definitions form by form and along lists, as equations, which code rewrites by.
-use Rattle.std.proofs.Common.{◌≡◌, ℤ, List, [], ◌∷◌, ◌++◌, refl}
+use Rattle.std.proofs.Common.{◌≡◌, ℕ, suc, ℤ, pos, List, [], ◌∷◌, length, Option, Some, None, refl}
 use Rattle.homeo_syntax.specs.Key.{words as tree_words}
 use Rattle.homeo_syntax.specs.Source as s
 use Rattle.homeo_syntax.specs.SourceView.{exprs, tests, commands}
 use Rattle.homeo_syntax.specs.declared.phrase.Ident.{Ident}
 use Rattle.homeo_syntax.specs.declared.phrase.Compare.{Compare}
+use Rattle.homeo_meaning.specs.Context.{Spot, Slot, cell, field_cell, slot_at, spot}
+use Rattle.homeo_meaning.specs.Schema.{Declared}
 use Rattle.homeo_size.specs.Key.{words}
-use Rattle.homeo_size.specs.Keeping.{kept_in, kept_by, kept_by_all}
-use Rattle.homeo_size.specs.Parts.{single, nothing, beside, around, empty, valued, guarded, chosen, followed}
-use Rattle.homeo_size.specs.Sizing.{Sizes, Setting, with_temp, sizes_written, greater_sizes, name_sized, object_sized, sized, all_sized, test_sized, tests_sized, cond_sized, sizes_after, sizes_after_all, measured, all_measured}
+use Rattle.homeo_size.specs.Measuring.{Filled, chain_raised, field_raised, slot_raised, chain_writing, slot_writing, field_writing, values_lifted, fillings, slot_filling, chain_filling, into_sized, slot_filled, chain_filled, inserted, inserting, cleared, row_set, row_setting, field_set, field_setting, after, after_all, visits, measured, all_measured, each_after, each_measured}
+use Rattle.homeo_size.specs.Parts.{literal, nothing, no_factor, beside, plus, times, around, summed, compared, truth, greater, written, empty, valued, writing, chosen, none, with_one, placed, within_tests, is_equal, guarded}
+use Rattle.homeo_size.specs.Sizing.{Sizes, Setting, bound, name_sized, slot_sized, chain_sized, chain_measured, field_sized, field_lifted, missing_at, missing, literal_in, term_sized, added, total_sized, used_test, sized, sum_sized, product_sized, test_sized, tests_sized, lifted, all_lifted, test_lifted, tests_lifted, total_of, total_visits, total_lifted}
+use Rattle.homeo_size.specs.Store.{Store, set_entry, raise_entry, closed, since, reopened, joined, visited}
 use Rattle.homeo_size.specs.declared.extent.Extent.{Extent}
 use Rattle.homeo_size.specs.declared.extents.Entry.TheVariants as Entry
-use Rattle.homeo_size.specs.declared.keeping.Kept.{Kept}
+use Rattle.homeo_size.specs.declared.steps.Before.{Before}
 use Rattle.homeo_size.specs.declared.steps.Measure.{Measure}
 
-pub sized_Literal : (x : Setting) (z : Sizes) (n : ℤ) → sized x (s.Literal n) z ≡ single
+pub literal_Literal : (x : Setting) (n : ℤ) → literal_in x (s.Literal n) ≡ Some n
+unfolding words
+literal_Literal x n = refl
+
+pub literal_Name : (x : Setting) (t : Ident) → literal_in x (s.Name t) ≡ x.arguments t.name
+unfolding words
+literal_Name x t = refl
+
+pub literal_Read : (x : Setting) (o : Ident) → literal_in x (s.Read o) ≡ None
+unfolding words
+literal_Read x o = refl
+
+pub literal_Sum : (x : Setting) (es : s.Exprs) → literal_in x (s.Sum es) ≡ None
+unfolding words
+literal_Sum x es = refl
+
+pub literal_Product : (x : Setting) (es : s.Exprs) → literal_in x (s.Product es) ≡ None
+unfolding words
+literal_Product x es = refl
+
+pub literal_Neg : (x : Setting) (e : s.Expr) → literal_in x (s.Neg e) ≡ None
+unfolding words
+literal_Neg x e = refl
+
+pub literal_Field : (x : Setting) (q : Ident) (e : s.Expr) (f : Ident) → literal_in x (s.Field q e f) ≡ missing_at (literal_in x e) (x.slots q.name)
+unfolding words
+literal_Field x q e f = refl
+
+pub literal_Row : (x : Setting) (r f : Ident) → literal_in x (s.Row r f) ≡ None
+unfolding words
+literal_Row x r f = refl
+
+pub literal_Count : (x : Setting) (r q : Ident) (c : s.Cond) → literal_in x (s.Count r q c) ≡ None
+unfolding words
+literal_Count x r q c = refl
+
+pub literal_Total : (x : Setting) (r f q : Ident) (c : s.Cond) → literal_in x (s.Total r f q c) ≡ None
+unfolding words
+literal_Total x r f q c = refl
+
+pub sized_Literal : (x : Setting) (z : Sizes) (n : ℤ) → sized x (s.Literal n) z ≡ literal n
 unfolding words
 sized_Literal x z n = refl
 
-pub sized_Name : (x : Setting) (z : Sizes) (t : Ident) → sized x (s.Name t) z ≡ name_sized x z t.name
+pub lifted_Literal : (x : Setting) (z : Sizes) (b : Before) (n : ℤ) → lifted x (s.Literal n) z b ≡ b
+unfolding words
+lifted_Literal x z b n = refl
+
+pub sized_Name : (x : Setting) (z : Sizes) (t : Ident) → sized x (s.Name t) z ≡ name_sized (x.arguments t.name) (z.temps t.name)
 unfolding words
 sized_Name x z t = refl
 
-pub sized_Read : (x : Setting) (z : Sizes) (o : Ident) → sized x (s.Read o) z ≡ object_sized x z o.name
+pub lifted_Name : (x : Setting) (z : Sizes) (b : Before) (t : Ident) → lifted x (s.Name t) z b ≡ b
+unfolding words
+lifted_Name x z b t = refl
+
+pub sized_Read : (x : Setting) (z : Sizes) (o : Ident) → sized x (s.Read o) z ≡ z.objects (x.object o.name).place
 unfolding words
 sized_Read x z o = refl
 
-pub sized_Sum : (x : Setting) (z : Sizes) (es : s.Exprs) → sized x (s.Sum es) z ≡ around (all_sized x es z nothing)
+pub lifted_Read : (x : Setting) (z : Sizes) (b : Before) (o : Ident) → lifted x (s.Read o) z b ≡ b
+unfolding words
+lifted_Read x z b o = refl
+
+pub sized_Sum : (x : Setting) (z : Sizes) (es : s.Exprs) → sized x (s.Sum es) z ≡ summed (sum_sized x es z nothing)
 unfolding words
 sized_Sum x z es = refl
 
-pub sized_Product : (x : Setting) (z : Sizes) (es : s.Exprs) → sized x (s.Product es) z ≡ around (all_sized x es z nothing)
+pub lifted_Sum : (x : Setting) (z : Sizes) (b : Before) (es : s.Exprs) → lifted x (s.Sum es) z b ≡ all_lifted x es z b
+unfolding words
+lifted_Sum x z b es = refl
+
+pub sized_Product : (x : Setting) (z : Sizes) (es : s.Exprs) → sized x (s.Product es) z ≡ around (product_sized x es z no_factor)
 unfolding words
 sized_Product x z es = refl
+
+pub lifted_Product : (x : Setting) (z : Sizes) (b : Before) (es : s.Exprs) → lifted x (s.Product es) z b ≡ all_lifted x es z b
+unfolding words
+lifted_Product x z b es = refl
 
 pub sized_Neg : (x : Setting) (z : Sizes) (e : s.Expr) → sized x (s.Neg e) z ≡ around (sized x e z)
 unfolding words
 sized_Neg x z e = refl
 
-pub sized_Field : (x : Setting) (z : Sizes) (q : Ident) (e : s.Expr) (f : Ident) → sized x (s.Field q e f) z ≡ single
+pub lifted_Neg : (x : Setting) (z : Sizes) (b : Before) (e : s.Expr) → lifted x (s.Neg e) z b ≡ lifted x e z b
+unfolding words
+lifted_Neg x z b e = refl
+
+pub sized_Field : (x : Setting) (z : Sizes) (q : Ident) (e : s.Expr) (f : Ident) → sized x (s.Field q e f) z ≡ field_sized (literal_in x e) (x.slots q.name) (spot (x.fields q.name) f.name) z
 unfolding words
 sized_Field x z q e f = refl
 
-pub sized_Row : (x : Setting) (z : Sizes) (r f : Ident) → sized x (s.Row r f) z ≡ single
+pub lifted_Field : (x : Setting) (z : Sizes) (b : Before) (q : Ident) (e : s.Expr) (f : Ident) → lifted x (s.Field q e f) z b ≡ field_lifted (literal_in x e) (x.slots q.name) (spot (x.fields q.name) f.name) (sized x e z) z b (lifted x e z b)
+unfolding words
+lifted_Field x z b q e f = refl
+
+pub sized_Row : (x : Setting) (z : Sizes) (r f : Ident) → sized x (s.Row r f) z ≡ z.objects (field_cell (x.rows r.name) f.name)
 unfolding words
 sized_Row x z r f = refl
 
-pub sized_Count : (x : Setting) (z : Sizes) (r q : Ident) (c : s.Cond) → sized x (s.Count r q c) z ≡ single
+pub lifted_Row : (x : Setting) (z : Sizes) (b : Before) (r f : Ident) → lifted x (s.Row r f) z b ≡ b
+unfolding words
+lifted_Row x z b r f = refl
+
+pub sized_Count : (x : Setting) (z : Sizes) (r q : Ident) (c : s.Cond) → sized x (s.Count r q c) z ≡ total_of None (x.slots q.name) z
 unfolding words
 sized_Count x z r q c = refl
 
-pub sized_Total : (x : Setting) (z : Sizes) (r f q : Ident) (c : s.Cond) → sized x (s.Total r f q c) z ≡ single
+pub lifted_Count : (x : Setting) (z : Sizes) (b : Before) (r q : Ident) (c : s.Cond) → lifted x (s.Count r q c) z b ≡ total_lifted x r.name c None (x.slots q.name) z b
+unfolding words
+lifted_Count x z b r q c = refl
+
+pub sized_Total : (x : Setting) (z : Sizes) (r f q : Ident) (c : s.Cond) → sized x (s.Total r f q c) z ≡ total_of (Some f.name) (x.slots q.name) z
 unfolding words
 sized_Total x z r f q c = refl
 
-pub test_True : (x : Setting) (z : Sizes) → test_sized x s.True z ≡ single
+pub lifted_Total : (x : Setting) (z : Sizes) (b : Before) (r f q : Ident) (c : s.Cond) → lifted x (s.Total r f q c) z b ≡ total_lifted x r.name c (Some f.name) (x.slots q.name) z b
+unfolding words
+lifted_Total x z b r f q c = refl
+
+pub missing_found : (v : ℤ) (all : List Slot) → missing_at (Some v) all ≡ missing (slot_at v all)
+unfolding words
+missing_found v all = refl
+
+pub missing_none : (all : List Slot) → missing_at None all ≡ None
+unfolding words
+missing_none all = refl
+
+pub field_literal : (v : ℤ) (all : List Slot) (f : Spot) (z : Sizes) → field_sized (Some v) all f z ≡ slot_sized f (slot_at v all) z
+unfolding words
+field_literal v all f z = refl
+
+pub field_chain : (all : List Slot) (f : Spot) (z : Sizes) → field_sized None all f z ≡ chain_sized f all z
+unfolding words
+field_chain all f z = refl
+
+pub field_alone : (v : ℤ) (all : List Slot) (f : Spot) (z : Sizes) (i : Extent) (b c : Before) → field_lifted (Some v) all f i z b c ≡ b
+unfolding words
+field_alone v all f z i b c = refl
+
+pub field_placed : (all : List Slot) (f : Spot) (z : Sizes) (i : Extent) (b c : Before) → field_lifted None all f i z b c ≡ with_one c (chain_measured f i all z)
+unfolding words
+field_placed all f z i b c = refl
+
+pub test_True : (x : Setting) (z : Sizes) → test_sized x s.True z ≡ truth
 unfolding words
 test_True x z = refl
 
-pub test_Not : (x : Setting) (z : Sizes) (c : s.Cond) → test_sized x (s.Not c) z ≡ around (cond_sized x c z)
+pub test_lifted_True : (x : Setting) (z : Sizes) (b : Before) → test_lifted x s.True z b ≡ b
+unfolding words
+test_lifted_True x z b = refl
+
+pub test_Not : (x : Setting) (z : Sizes) (c : s.Cond) → test_sized x (s.Not c) z ≡ around (around (tests_sized x c z nothing))
 unfolding words
 test_Not x z c = refl
 
-pub test_Comparison : (x : Setting) (z : Sizes) (op : Compare) (a b : s.Expr) → test_sized x (s.Comparison op a b) z ≡ around (beside (sized x a z) (sized x b z))
+pub test_lifted_Not : (x : Setting) (z : Sizes) (b : Before) (c : s.Cond) → test_lifted x (s.Not c) z b ≡ tests_lifted x c z b
 unfolding words
-test_Comparison x z op a b = refl
+test_lifted_Not x z b c = refl
 
-pub cond_around : (x : Setting) (z : Sizes) (c : s.Cond) → cond_sized x c z ≡ around (tests_sized x c z nothing)
+pub test_Comparison : (x : Setting) (z : Sizes) (op : Compare) (d e : s.Expr) → test_sized x (s.Comparison op d e) z ≡ compared (sized x d z) (sized x e z)
 unfolding words
-cond_around x z c = refl
+test_Comparison x z op d e = refl
 
-pub after_Skip : (x : Setting) (z : Sizes) → sizes_after x s.Skip z ≡ z
+pub test_lifted_Comparison : (x : Setting) (z : Sizes) (b : Before) (op : Compare) (d e : s.Expr) → test_lifted x (s.Comparison op d e) z b ≡ lifted x e z (lifted x d z b)
 unfolding words
-after_Skip x z = refl
-
-pub measured_Skip : (x : Setting) (z : Sizes) → measured x s.Skip z ≡ empty
-unfolding words
-measured_Skip x z = refl
-
-pub after_Assign : (x : Setting) (z : Sizes) (t : Ident) (e : s.Expr) → sizes_after x (s.Assign t e) z ≡ with_temp z t.name (sized x e z)
-unfolding words
-after_Assign x z t e = refl
-
-pub measured_Assign : (x : Setting) (z : Sizes) (t : Ident) (e : s.Expr) → measured x (s.Assign t e) z ≡ valued (sized x e z)
-unfolding words
-measured_Assign x z t e = refl
-
-pub after_Write : (x : Setting) (z : Sizes) (o : Ident) (e : s.Expr) → sizes_after x (s.Write o e) z ≡ sizes_written x z o.name (sized x e z)
-unfolding words
-after_Write x z o e = refl
-
-pub measured_Write : (x : Setting) (z : Sizes) (o : Ident) (e : s.Expr) → measured x (s.Write o e) z ≡ guarded x.sites (sized x e z)
-unfolding words
-measured_Write x z o e = refl
-
-pub after_Print : (x : Setting) (z : Sizes) (e : s.Expr) → sizes_after x (s.Print e) z ≡ z
-unfolding words
-after_Print x z e = refl
-
-pub measured_Print : (x : Setting) (z : Sizes) (e : s.Expr) → measured x (s.Print e) z ≡ valued (sized x e z)
-unfolding words
-measured_Print x z e = refl
-
-pub after_If : (x : Setting) (z : Sizes) (b : s.Cond) (c d : s.Command) → sizes_after x (s.If b c d) z ≡ greater_sizes (sizes_after x c z) (sizes_after x d z)
-unfolding words
-after_If x z b c d = refl
-
-pub measured_If : (x : Setting) (z : Sizes) (b : s.Cond) (c d : s.Command) → measured x (s.If b c d) z ≡ chosen (cond_sized x b z) (measured x c z) (measured x d z)
-unfolding words
-measured_If x z b c d = refl
-
-pub after_Block : (x : Setting) (z : Sizes) (cs : s.Commands) → sizes_after x (s.Block cs) z ≡ sizes_after_all x cs z
-unfolding words
-after_Block x z cs = refl
-
-pub measured_Block : (x : Setting) (z : Sizes) (cs : s.Commands) → measured x (s.Block cs) z ≡ all_measured x cs z empty
-unfolding words
-measured_Block x z cs = refl
-
-pub after_SetField : (x : Setting) (z : Sizes) (q : Ident) (i : s.Expr) (f : Ident) (e : s.Expr) → sizes_after x (s.SetField q i f e) z ≡ z
-unfolding words
-after_SetField x z q i f e = refl
-
-pub measured_SetField : (x : Setting) (z : Sizes) (q : Ident) (i : s.Expr) (f : Ident) (e : s.Expr) → measured x (s.SetField q i f e) z ≡ empty
-unfolding words
-measured_SetField x z q i f e = refl
-
-pub after_SetRow : (x : Setting) (z : Sizes) (r f : Ident) (e : s.Expr) → sizes_after x (s.SetRow r f e) z ≡ z
-unfolding words
-after_SetRow x z r f e = refl
-
-pub measured_SetRow : (x : Setting) (z : Sizes) (r f : Ident) (e : s.Expr) → measured x (s.SetRow r f e) z ≡ empty
-unfolding words
-measured_SetRow x z r f e = refl
-
-pub after_Foreach : (x : Setting) (z : Sizes) (r q : Ident) (b : s.Cond) (cs : s.Commands) → sizes_after x (s.Foreach r q b cs) z ≡ z
-unfolding words
-after_Foreach x z r q b cs = refl
-
-pub measured_Foreach : (x : Setting) (z : Sizes) (r q : Ident) (b : s.Cond) (cs : s.Commands) → measured x (s.Foreach r q b cs) z ≡ empty
-unfolding words
-measured_Foreach x z r q b cs = refl
-
-pub after_Insert : (x : Setting) (z : Sizes) (q : Ident) (fs : List s.FieldValue) (t : Ident) → sizes_after x (s.Insert q fs t) z ≡ z
-unfolding words
-after_Insert x z q fs t = refl
-
-pub measured_Insert : (x : Setting) (z : Sizes) (q : Ident) (fs : List s.FieldValue) (t : Ident) → measured x (s.Insert q fs t) z ≡ empty
-unfolding words
-measured_Insert x z q fs t = refl
-
-pub after_Delete : (x : Setting) (z : Sizes) (r q : Ident) (b : s.Cond) → sizes_after x (s.Delete r q b) z ≡ z
-unfolding words
-after_Delete x z r q b = refl
-
-pub measured_Delete : (x : Setting) (z : Sizes) (r q : Ident) (b : s.Cond) → measured x (s.Delete r q b) z ≡ empty
-unfolding words
-measured_Delete x z r q b = refl
-
-pub after_Update : (x : Setting) (z : Sizes) (r q : Ident) (b : s.Cond) (f : Ident) (e : s.Expr) → sizes_after x (s.Update r q b f e) z ≡ z
-unfolding words
-after_Update x z r q b f e = refl
-
-pub measured_Update : (x : Setting) (z : Sizes) (r q : Ident) (b : s.Cond) (f : Ident) (e : s.Expr) → measured x (s.Update r q b f e) z ≡ empty
-unfolding words
-measured_Update x z r q b f e = refl
+test_lifted_Comparison x z b op d e = refl
 
 -- ---- along lists
 
-pub all_end : (x : Setting) (z : Sizes) (a : Extent) → all_sized x (exprs []) z a ≡ a
+pub sum_end : (x : Setting) (z : Sizes) (a : Extent) → sum_sized x (exprs []) z a ≡ a
 unfolding words tree_words
-all_end x z a = refl
+sum_end x z a = refl
 
-pub all_more : (x : Setting) (z : Sizes) (a : Extent) (e : s.Expr) (es : List s.Expr) → all_sized x (exprs (e ∷ es)) z a ≡ all_sized x (exprs es) z (beside a (sized x e z))
+pub sum_more : (x : Setting) (z : Sizes) (a : Extent) (e : s.Expr) (es : List s.Expr) → sum_sized x (exprs (e ∷ es)) z a ≡ sum_sized x (exprs es) z (plus a (sized x e z))
 unfolding words tree_words
-all_more x z a e es = refl
+sum_more x z a e es = refl
+
+pub product_end : (x : Setting) (z : Sizes) (a : Extent) → product_sized x (exprs []) z a ≡ a
+unfolding words tree_words
+product_end x z a = refl
+
+pub product_more : (x : Setting) (z : Sizes) (a : Extent) (e : s.Expr) (es : List s.Expr) → product_sized x (exprs (e ∷ es)) z a ≡ product_sized x (exprs es) z (times a (sized x e z))
+unfolding words tree_words
+product_more x z a e es = refl
 
 pub tests_end : (x : Setting) (z : Sizes) (a : Extent) → tests_sized x (tests []) z a ≡ a
 unfolding words tree_words
 tests_end x z a = refl
 
-pub tests_more : (x : Setting) (z : Sizes) (a : Extent) (t : s.Test) (ts : List s.Test) → tests_sized x (tests (t ∷ ts)) z a ≡ tests_sized x (tests ts) z (beside a (test_sized x t z))
+pub tests_more : (x : Setting) (z : Sizes) (a : Extent) (e : s.Test) (es : List s.Test) → tests_sized x (tests (e ∷ es)) z a ≡ tests_sized x (tests es) z (beside a (test_sized x e z))
 unfolding words tree_words
-tests_more x z a t ts = refl
+tests_more x z a e es = refl
 
-pub measured_end : (x : Setting) (z : Sizes) (m : Measure) → all_measured x (commands []) z m ≡ m
+pub all_lifted_end : (x : Setting) (z : Sizes) (b : Before) → all_lifted x (exprs []) z b ≡ b
 unfolding words tree_words
-measured_end x z m = refl
+all_lifted_end x z b = refl
 
-pub measured_more : (x : Setting) (z : Sizes) (m : Measure) (c : s.Command) (cs : List s.Command) → all_measured x (commands (c ∷ cs)) z m ≡ all_measured x (commands cs) (sizes_after x c z) (followed m (measured x c z))
+pub all_lifted_more : (x : Setting) (z : Sizes) (b : Before) (e : s.Expr) (es : List s.Expr) → all_lifted x (exprs (e ∷ es)) z b ≡ all_lifted x (exprs es) z (lifted x e z b)
 unfolding words tree_words
-measured_more x z m c cs = refl
+all_lifted_more x z b e es = refl
 
-pub after_end : (x : Setting) (z : Sizes) → sizes_after_all x (commands []) z ≡ z
+pub tests_lifted_end : (x : Setting) (z : Sizes) (b : Before) → tests_lifted x (tests []) z b ≡ b
 unfolding words tree_words
-after_end x z = refl
+tests_lifted_end x z b = refl
 
-pub after_more : (x : Setting) (z : Sizes) (c : s.Command) (cs : List s.Command) → sizes_after_all x (commands (c ∷ cs)) z ≡ sizes_after_all x (commands cs) (sizes_after x c z)
+pub tests_lifted_more : (x : Setting) (z : Sizes) (b : Before) (e : s.Test) (es : List s.Test) → tests_lifted x (tests (e ∷ es)) z b ≡ tests_lifted x (tests es) z (test_lifted x e z b)
 unfolding words tree_words
-after_more x z c cs = refl
+tests_lifted_more x z b e es = refl
 
-pub ruleset phrases = (sized_Literal, sized_Name, sized_Read, sized_Sum, sized_Product, sized_Neg, sized_Field, sized_Row, sized_Count, sized_Total, test_True, test_Not, test_Comparison, cond_around)
-
-pub ruleset steps = (after_Skip, measured_Skip, after_Assign, measured_Assign, after_Write, measured_Write, after_Print, measured_Print, after_If, measured_If, after_Block, measured_Block, after_SetField, measured_SetField, after_SetRow, measured_SetRow, after_Foreach, measured_Foreach, after_Insert, measured_Insert, after_Delete, measured_Delete, after_Update, measured_Update)
-
-pub ruleset lists = (all_end, all_more, tests_end, tests_more, measured_end, measured_more, after_end, after_more)
-
--- ---- what commands may change
-
-pub kept_Skip : (x : Setting) (z : Sizes) (l : List Kept) → kept_by x z s.Skip l ≡ l
-unfolding words
-kept_Skip x z l = refl
-
-pub kept_Assign : (x : Setting) (z : Sizes) (l : List Kept) (t : Ident) (e : s.Expr) → kept_by x z (s.Assign t e) l ≡ l ++ kept_in z (Entry.Temp t.name) ∷ []
-unfolding words
-kept_Assign x z l t e = refl
-
-pub kept_Write : (x : Setting) (z : Sizes) (l : List Kept) (o : Ident) (e : s.Expr) → kept_by x z (s.Write o e) l ≡ l ++ kept_in z (Entry.Object (x.place o.name)) ∷ []
-unfolding words
-kept_Write x z l o e = refl
-
-pub kept_Print : (x : Setting) (z : Sizes) (l : List Kept) (e : s.Expr) → kept_by x z (s.Print e) l ≡ l
-unfolding words
-kept_Print x z l e = refl
-
-pub kept_If : (x : Setting) (z : Sizes) (l : List Kept) (b : s.Cond) (c d : s.Command) → kept_by x z (s.If b c d) l ≡ kept_by x z d (kept_by x z c l)
-unfolding words
-kept_If x z l b c d = refl
-
-pub kept_Block : (x : Setting) (z : Sizes) (l : List Kept) (cs : s.Commands) → kept_by x z (s.Block cs) l ≡ kept_by_all x z cs l
-unfolding words
-kept_Block x z l cs = refl
-
-pub kept_SetField : (x : Setting) (z : Sizes) (l : List Kept) (q : Ident) (i : s.Expr) (f : Ident) (e : s.Expr) → kept_by x z (s.SetField q i f e) l ≡ l
-unfolding words
-kept_SetField x z l q i f e = refl
-
-pub kept_SetRow : (x : Setting) (z : Sizes) (l : List Kept) (r f : Ident) (e : s.Expr) → kept_by x z (s.SetRow r f e) l ≡ l
-unfolding words
-kept_SetRow x z l r f e = refl
-
-pub kept_Foreach : (x : Setting) (z : Sizes) (l : List Kept) (r q : Ident) (b : s.Cond) (cs : s.Commands) → kept_by x z (s.Foreach r q b cs) l ≡ l
-unfolding words
-kept_Foreach x z l r q b cs = refl
-
-pub kept_Insert : (x : Setting) (z : Sizes) (l : List Kept) (q : Ident) (fs : List s.FieldValue) (t : Ident) → kept_by x z (s.Insert q fs t) l ≡ l
-unfolding words
-kept_Insert x z l q fs t = refl
-
-pub kept_Delete : (x : Setting) (z : Sizes) (l : List Kept) (r q : Ident) (b : s.Cond) → kept_by x z (s.Delete r q b) l ≡ l
-unfolding words
-kept_Delete x z l r q b = refl
-
-pub kept_Update : (x : Setting) (z : Sizes) (l : List Kept) (r q : Ident) (b : s.Cond) (f : Ident) (e : s.Expr) → kept_by x z (s.Update r q b f e) l ≡ l
-unfolding words
-kept_Update x z l r q b f e = refl
-
-pub kept_end : (x : Setting) (z : Sizes) (l : List Kept) → kept_by_all x z (commands []) l ≡ l
+pub after_end : (x : Setting) (y : Store) → after_all x (commands []) y ≡ y
 unfolding words tree_words
-kept_end x z l = refl
+after_end x y = refl
 
-pub kept_more : (x : Setting) (z : Sizes) (l : List Kept) (c : s.Command) (cs : List s.Command) → kept_by_all x z (commands (c ∷ cs)) l ≡ kept_by_all x z (commands cs) (kept_by x z c l)
+pub after_more : (x : Setting) (y : Store) (c : s.Command) (cs : List s.Command) → after_all x (commands (c ∷ cs)) y ≡ after_all x (commands cs) (after x c y)
 unfolding words tree_words
-kept_more x z l c cs = refl
+after_more x y c cs = refl
 
-pub ruleset keeping = (kept_Skip, kept_Assign, kept_Write, kept_Print, kept_If, kept_Block, kept_SetField, kept_SetRow, kept_Foreach, kept_Insert, kept_Delete, kept_Update, kept_end, kept_more)
+pub measured_end : (x : Setting) (y : Store) (b : Before) → all_measured x (commands []) y b ≡ b
+unfolding words tree_words
+measured_end x y b = refl
+
+pub measured_more : (x : Setting) (y : Store) (b : Before) (c : s.Command) (cs : List s.Command) → all_measured x (commands (c ∷ cs)) y b ≡ all_measured x (commands cs) (after x c y) (with_one b (measured x c y))
+unfolding words tree_words
+measured_more x y b c cs = refl
+
+pub values_end : (x : Setting) (z : Sizes) (b : Before) → values_lifted x [] z b ≡ b
+unfolding words
+values_end x z b = refl
+
+pub values_more : (x : Setting) (z : Sizes) (b : Before) (f : s.FieldValue) (fs : List s.FieldValue) → values_lifted x (f ∷ fs) z b ≡ values_lifted x fs z (with_one (lifted x f.value z b) (valued (sized x f.value z)))
+unfolding words
+values_more x z b f fs = refl
+
+pub fillings_end : (x : Setting) (ds : List Declared) (z : Sizes) → fillings x ds [] z ≡ []
+unfolding words
+fillings_end x ds z = refl
+
+pub fillings_more : (x : Setting) (ds : List Declared) (z : Sizes) (f : s.FieldValue) (fs : List s.FieldValue) → fillings x ds (f ∷ fs) z ≡ record { field = spot ds f.field.name; extent = sized x f.value z } ∷ fillings x ds fs z
+unfolding words
+fillings_more x ds z f fs = refl
+
+-- ---- along slots
+
+pub chain_end : (f : Spot) (z : Sizes) → chain_sized f [] z ≡ literal (pos 0)
+unfolding words
+chain_end f z = refl
+
+pub chain_more : (f : Spot) (z : Sizes) (slot : Slot) (more : List Slot) → chain_sized f (slot ∷ more) z ≡ greater (z.objects (cell slot f)) (chain_sized f more z)
+unfolding words
+chain_more f z slot more = refl
+
+pub chain_measured_end : (f : Spot) (i : Extent) (z : Sizes) → chain_measured f i [] z ≡ valued (literal (pos 0))
+unfolding words
+chain_measured_end f i z = refl
+
+pub chain_measured_more : (f : Spot) (i : Extent) (z : Sizes) (slot : Slot) (more : List Slot) → chain_measured f i (slot ∷ more) z ≡ chosen (is_equal i (pos slot.number)) (valued (z.objects (cell slot f))) (chain_measured f i more z)
+unfolding words
+chain_measured_more f i z slot more = refl
+
+pub chain_raised_end : (f : Spot) (w : Extent) (y : Store) → chain_raised f w [] y ≡ y
+unfolding words
+chain_raised_end f w y = refl
+
+pub chain_raised_more : (f : Spot) (w : Extent) (y : Store) (slot : Slot) (more : List Slot) → chain_raised f w (slot ∷ more) y ≡ raise_entry (chain_raised f w more y) (Entry.Object (cell slot f)) w
+unfolding words
+chain_raised_more f w y slot more = refl
+
+pub chain_writing_end : (n : ℕ) (i e : Extent) → chain_writing n i e [] ≡ empty
+unfolding words
+chain_writing_end n i e = refl
+
+pub chain_writing_more : (n : ℕ) (i e : Extent) (slot : Slot) (more : List Slot) → chain_writing n i e (slot ∷ more) ≡ chosen (is_equal i (pos slot.number)) (writing n e) (chain_writing n i e more)
+unfolding words
+chain_writing_more n i e slot more = refl
+
+pub chain_filling_end : (n : ℕ) (fs : List Filled) (z : Sizes) → chain_filling n fs [] z ≡ valued (literal (pos 0))
+unfolding words
+chain_filling_end n fs z = refl
+
+pub chain_filling_more : (n : ℕ) (fs : List Filled) (z : Sizes) (slot : Slot) (more : List Slot) → chain_filling n fs (slot ∷ more) z ≡ chosen (is_equal (z.objects slot.used) (pos 0)) (slot_filling n fs slot) (chain_filling n fs more z)
+unfolding words
+chain_filling_more n fs z slot more = refl
+
+pub into_end : into_sized [] ≡ literal (pos 0)
+unfolding words
+into_end = refl
+
+pub into_more : (slot : Slot) (more : List Slot) → into_sized (slot ∷ more) ≡ greater (literal (pos (suc slot.number))) (into_sized more)
+unfolding words
+into_more slot more = refl
+
+pub chain_filled_end : (n : ℕ) (fs : List Filled) (y : Store) → chain_filled n fs [] y ≡ y
+unfolding words
+chain_filled_end n fs y = refl
+
+pub chain_filled_more : (n : ℕ) (fs : List Filled) (y : Store) (slot : Slot) (more : List Slot) → chain_filled n fs (slot ∷ more) y ≡ closed (length (chain_filled n fs more y).log) (slot_filled n fs slot (chain_filled n fs more y))
+unfolding words
+chain_filled_more n fs y slot more = refl
+
+-- ---- along loops
+
+pub total_end : (f : Option ℕ) (z : Sizes) (t : Extent) → total_sized f [] z t ≡ t
+unfolding words
+total_end f z t = refl
+
+pub total_more : (f : Option ℕ) (z : Sizes) (t : Extent) (slot : Slot) (more : List Slot) → total_sized f (slot ∷ more) z t ≡ total_sized f more z (greater (added t (term_sized f slot z)) t)
+unfolding words
+total_more f z t slot more = refl
+
+pub visits_of_end : (x : Setting) (r : ℕ) (c : s.Cond) (f : Option ℕ) (z : Sizes) (t : Extent) (b : Before) → total_visits x r c f [] z t b ≡ b
+unfolding words
+visits_of_end x r c f z t b = refl
+
+pub visits_of_more : (x : Setting) (r : ℕ) (c : s.Cond) (f : Option ℕ) (z : Sizes) (t : Extent) (b : Before) (slot : Slot) (more : List Slot) → total_visits x r c f (slot ∷ more) z t b ≡ total_visits x r c f more z (greater (added t (term_sized f slot z)) t) (with_one (tests_lifted (bound x r slot) c z b) (chosen (around (tests_sized (bound x r slot) c z (used_test slot z))) (valued (added t (term_sized f slot z))) empty))
+unfolding words
+visits_of_more x r c f z t b slot more = refl
+
+pub visits_first : (x : Setting) (r : ℕ) (c : s.Cond) (f : Option ℕ) (all : List Slot) (z : Sizes) (b : Before) → total_lifted x r c f all z b ≡ total_visits x r c f all z (literal (pos 0)) (with_one b (valued (literal (pos 0))))
+unfolding words
+visits_first x r c f all z b = refl
+
+pub total_first : (f : Option ℕ) (all : List Slot) (z : Sizes) → total_of f all z ≡ total_sized f all z (literal (pos 0))
+unfolding words
+total_first f all z = refl
+
+pub visited_end : (g : Slot → Store → Store) (y : Store) → visited g [] y ≡ y
+unfolding words
+visited_end g y = refl
+
+pub visited_more : (g : Slot → Store → Store) (y : Store) (slot : Slot) (more : List Slot) → visited g (slot ∷ more) y ≡ visited g more (closed (length y.log) (g slot y))
+unfolding words
+visited_more g y slot more = refl
+
+pub visits_end : (x : Setting) (r : ℕ) (c : s.Cond) (body : Slot → Store → Measure) (g : Slot → Store → Store) (y : Store) (b : Before) → visits x r c body g [] y b ≡ b
+unfolding words
+visits_end x r c body g y b = refl
+
+pub visits_more : (x : Setting) (r : ℕ) (c : s.Cond) (body : Slot → Store → Measure) (g : Slot → Store → Store) (y : Store) (b : Before) (slot : Slot) (more : List Slot) → visits x r c body g (slot ∷ more) y b ≡ visits x r c body g more (closed (length y.log) (g slot y)) (with_one (tests_lifted (bound x r slot) c y.sizes b) (chosen (around (tests_sized (bound x r slot) c y.sizes (used_test slot y.sizes))) (body slot y) empty))
+unfolding words
+visits_more x r c body g y b slot more = refl
+
+-- ---- commands
+
+pub after_Skip : (x : Setting) (y : Store) → after x s.Skip y ≡ y
+unfolding words
+after_Skip x y = refl
+
+pub measured_Skip : (x : Setting) (y : Store) → measured x s.Skip y ≡ empty
+unfolding words
+measured_Skip x y = refl
+
+pub after_Assign : (x : Setting) (y : Store) (t : Ident) (e : s.Expr) → after x (s.Assign t e) y ≡ set_entry y (Entry.Temp t.name) (sized x e y.sizes)
+unfolding words
+after_Assign x y t e = refl
+
+pub measured_Assign : (x : Setting) (y : Store) (t : Ident) (e : s.Expr) → measured x (s.Assign t e) y ≡ placed (lifted x e y.sizes none) (valued (sized x e y.sizes))
+unfolding words
+measured_Assign x y t e = refl
+
+pub after_Write : (x : Setting) (y : Store) (o : Ident) (e : s.Expr) → after x (s.Write o e) y ≡ raise_entry y (Entry.Object (x.object o.name).place) (written x.sites (sized x e y.sizes))
+unfolding words
+after_Write x y o e = refl
+
+pub measured_Write : (x : Setting) (y : Store) (o : Ident) (e : s.Expr) → measured x (s.Write o e) y ≡ placed (lifted x e y.sizes none) (guarded x.sites (x.object o.name) (sized x e y.sizes))
+unfolding words
+measured_Write x y o e = refl
+
+pub after_Print : (x : Setting) (y : Store) (e : s.Expr) → after x (s.Print e) y ≡ y
+unfolding words
+after_Print x y e = refl
+
+pub measured_Print : (x : Setting) (y : Store) (e : s.Expr) → measured x (s.Print e) y ≡ placed (lifted x e y.sizes none) (valued (sized x e y.sizes))
+unfolding words
+measured_Print x y e = refl
+
+pub after_If : (x : Setting) (y : Store) (q : s.Cond) (c d : s.Command) → after x (s.If q c d) y ≡ joined (length y.log) (since (length y.log) (after x c y)) (after x d (reopened (length y.log) (after x c y)))
+unfolding words
+after_If x y q c d = refl
+
+pub measured_If : (x : Setting) (y : Store) (q : s.Cond) (c d : s.Command) → measured x (s.If q c d) y ≡ placed (tests_lifted x q y.sizes none) (chosen (around (tests_sized x q y.sizes nothing)) (measured x c y) (measured x d (reopened (length y.log) (after x c y))))
+unfolding words
+measured_If x y q c d = refl
+
+pub after_Block : (x : Setting) (y : Store) (cs : s.Commands) → after x (s.Block cs) y ≡ after_all x cs y
+unfolding words
+after_Block x y cs = refl
+
+pub measured_Block : (x : Setting) (y : Store) (cs : s.Commands) → measured x (s.Block cs) y ≡ (all_measured x cs y none).all
+unfolding words
+measured_Block x y cs = refl
+
+pub after_SetField : (x : Setting) (y : Store) (q : Ident) (i : s.Expr) (f : Ident) (e : s.Expr) → after x (s.SetField q i f e) y ≡ field_raised (literal_in x i) (x.slots q.name) (spot (x.fields q.name) f.name) (written x.sites (sized x e y.sizes)) y
+unfolding words
+after_SetField x y q i f e = refl
+
+pub measured_SetField : (x : Setting) (y : Store) (q : Ident) (i : s.Expr) (f : Ident) (e : s.Expr) → measured x (s.SetField q i f e) y ≡ field_writing (literal_in x i) (x.slots q.name) x.sites (spot (x.fields q.name) f.name) (sized x i y.sizes) (sized x e y.sizes) (lifted x e y.sizes none) (lifted x e y.sizes (lifted x i y.sizes none))
+unfolding words
+measured_SetField x y q i f e = refl
+
+pub after_SetRow : (x : Setting) (y : Store) (r f : Ident) (e : s.Expr) → after x (s.SetRow r f e) y ≡ row_set x (x.rows r.name) f.name e y
+unfolding words
+after_SetRow x y r f e = refl
+
+pub measured_SetRow : (x : Setting) (y : Store) (r f : Ident) (e : s.Expr) → measured x (s.SetRow r f e) y ≡ row_setting x (x.rows r.name) f.name e y
+unfolding words
+measured_SetRow x y r f e = refl
+
+pub after_Foreach : (x : Setting) (y : Store) (r q : Ident) (c : s.Cond) (cs : s.Commands) → after x (s.Foreach r q c cs) y ≡ visited (each_after x r.name cs) (x.slots q.name) y
+unfolding words
+after_Foreach x y r q c cs = refl
+
+pub measured_Foreach : (x : Setting) (y : Store) (r q : Ident) (c : s.Cond) (cs : s.Commands) → measured x (s.Foreach r q c cs) y ≡ (visits x r.name c (each_measured x r.name cs) (each_after x r.name cs) (x.slots q.name) y none).all
+unfolding words
+measured_Foreach x y r q c cs = refl
+
+pub after_Insert : (x : Setting) (y : Store) (q : Ident) (fs : List s.FieldValue) (t : Ident) → after x (s.Insert q fs t) y ≡ inserted x.sites (fillings x (x.fields q.name) fs y.sizes) (x.slots q.name) t.name y
+unfolding words
+after_Insert x y q fs t = refl
+
+pub measured_Insert : (x : Setting) (y : Store) (q : Ident) (fs : List s.FieldValue) (t : Ident) → measured x (s.Insert q fs t) y ≡ inserting x.sites (fillings x (x.fields q.name) fs y.sizes) (x.slots q.name) y.sizes (values_lifted x fs y.sizes none)
+unfolding words
+measured_Insert x y q fs t = refl
+
+pub after_Delete : (x : Setting) (y : Store) (r q : Ident) (c : s.Cond) → after x (s.Delete r q c) y ≡ visited (cleared x.sites) (x.slots q.name) y
+unfolding words
+after_Delete x y r q c = refl
+
+pub measured_Delete : (x : Setting) (y : Store) (r q : Ident) (c : s.Cond) → measured x (s.Delete r q c) y ≡ (visits x r.name c (λ slot u. writing x.sites (literal (pos 0))) (cleared x.sites) (x.slots q.name) y none).all
+unfolding words
+measured_Delete x y r q c = refl
+
+pub after_Update : (x : Setting) (y : Store) (r q : Ident) (c : s.Cond) (f : Ident) (e : s.Expr) → after x (s.Update r q c f e) y ≡ visited (field_set x r.name f.name e) (x.slots q.name) y
+unfolding words
+after_Update x y r q c f e = refl
+
+pub measured_Update : (x : Setting) (y : Store) (r q : Ident) (c : s.Cond) (f : Ident) (e : s.Expr) → measured x (s.Update r q c f e) y ≡ (visits x r.name c (field_setting x r.name f.name e) (field_set x r.name f.name e) (x.slots q.name) y none).all
+unfolding words
+measured_Update x y r q c f e = refl
+
+pub raised_literal : (v : ℤ) (all : List Slot) (f : Spot) (w : Extent) (y : Store) → field_raised (Some v) all f w y ≡ slot_raised f w (slot_at v all) y
+unfolding words
+raised_literal v all f w y = refl
+
+pub raised_chain : (all : List Slot) (f : Spot) (w : Extent) (y : Store) → field_raised None all f w y ≡ chain_raised f w all y
+unfolding words
+raised_chain all f w y = refl
+
+pub writing_literal : (v : ℤ) (n : ℕ) (all : List Slot) (f : Spot) (i e : Extent) (b c : Before) → field_writing (Some v) all n f i e b c ≡ slot_writing n f e b (slot_at v all)
+unfolding words
+writing_literal v n all f i e b c = refl
+
+pub writing_chain : (n : ℕ) (all : List Slot) (f : Spot) (i e : Extent) (b c : Before) → field_writing None all n f i e b c ≡ placed c (chosen (around (within_tests f e nothing)) (chain_writing n i e all) empty)
+unfolding words
+writing_chain n all f i e b c = refl
+
+pub ruleset literals = (literal_Literal, literal_Name, literal_Read, literal_Sum, literal_Product, literal_Neg, literal_Field, literal_Row, literal_Count, literal_Total, missing_found, missing_none)
+
+pub ruleset phrases = (sized_Literal, lifted_Literal, sized_Name, lifted_Name, sized_Read, lifted_Read, sized_Sum, lifted_Sum, sized_Product, lifted_Product, sized_Neg, lifted_Neg, sized_Field, lifted_Field, sized_Row, lifted_Row, sized_Count, lifted_Count, sized_Total, lifted_Total, field_literal, field_chain, field_alone, field_placed, test_True, test_lifted_True, test_Not, test_lifted_Not, test_Comparison, test_lifted_Comparison)
+
+pub ruleset lists = (fillings_end, fillings_more, sum_end, sum_more, product_end, product_more, tests_end, tests_more, all_lifted_end, all_lifted_more, tests_lifted_end, tests_lifted_more, after_end, after_more, measured_end, measured_more, values_end, values_more)
+
+pub ruleset chains = (chain_end, chain_more, chain_measured_end, chain_measured_more, chain_raised_end, chain_raised_more, chain_writing_end, chain_writing_more, chain_filling_end, chain_filling_more, into_end, into_more, chain_filled_end, chain_filled_more)
+
+pub ruleset totals = (total_end, total_more, visits_of_end, visits_of_more, visits_first, total_first)
+
+pub ruleset loops = (visited_end, visited_more, visits_end, visits_more)
+
+pub ruleset steps = (after_Skip, measured_Skip, after_Assign, measured_Assign, after_Write, measured_Write, after_Print, measured_Print, after_If, measured_If, after_Block, measured_Block, after_SetField, measured_SetField, after_SetRow, measured_SetRow, after_Foreach, measured_Foreach, after_Insert, measured_Insert, after_Delete, measured_Delete, after_Update, measured_Update, raised_literal, raised_chain, writing_literal, writing_chain)

@@ -1,164 +1,219 @@
--- Extents and measures told up to the cap: telling first or last is the same.
-use Rattle.std.proofs.Common.{◌≡◌, ℕ, zero, suc, ◌+◌, ◌*◌, ◌≤◌, max, Bool, true, false, cond, refl, sym, ap, ◌∙◌, arith}
-use Rattle.std.specs.Prelude.{nat_le}
-use Rattle.std.proofs.Math.Nat.{min-eq_left, min-eq_right, mul_comm, mul-suc, mul-zero}
+-- The pass over an L form tells its extents, its weights and its rows.
+use Rattle.std.proofs.Common.{◌≡◌, ℕ, ◌+◌, ◌*◌, max, Bool, true, false, cond, refl, sym, ap, ap₂, ◌∙◌, arith}
+use Rattle.std.proofs.Math.Nat.{mul_assoc, one-mul, mul-one}
 use Rattle.std.proofs.lemmas.Int.{clamps}
-use Rattle.std.proofs.lemmas.Bool.Decides.{nat_tests}
+use Rattle.homeo_syntax.specs.Low.{Expr, Exprs, Literal, OfTemp, Read, Sum, Product, Neg, NoExpr, MoreExpr, Test, Cond, True, Not, Comparison, NoTest, MoreTest, Command, Commands, Skip, Assign, Write, Print, Seq, If, NoCommand, MoreCommand}
+use Rattle.homeo_meaning.specs.Key.{words as meaning_words}
+use Rattle.homeo_meaning.specs.LowMeaning.{Place, TempAt, place_of, put, same_place}
 use Rattle.homeo_meaning.specs.LowSizes as low
+use Rattle.homeo_meaning.specs.LowSizes.{extent, extent_all, test_extent, tests_extent, cond_extent, after, after_all, command_extent, commands_extent, rows, rows_all}
+use Rattle.homeo_meaning.specs.LowWeights as heavy
+use Rattle.homeo_meaning.specs.LowWeights.{weight, sum_weight, product_weight}
 use Rattle.homeo_size.specs.Key.{words}
-use Rattle.homeo_size.specs.Numbers.{cap}
-use Rattle.homeo_size.specs.Parts.{beside, around, greater, written, valued, guarded, chosen, followed}
+use Rattle.homeo_size.specs.Numbers.{cap, weight_cap}
+use Rattle.homeo_size.specs.Parts.{beside, plus, times, around, summed, greater, written, valued, writing, chosen, followed, none}
 use Rattle.homeo_size.specs.declared.extent.Extent.{Extent}
+use Rattle.homeo_size.specs.declared.steps.Before.{Before}
 use Rattle.homeo_size.specs.declared.steps.Measure.{Measure}
+use Rattle.homeo_size.proofs.Caps.{cap_sum, cap_max, cap_more, cap_plus, cap_product, max_zero, zero_max, plus_zero, zero_plus, plus_assoc, max_assoc}
+use Rattle.homeo_size.proofs.Heaviest.{heaviest_test, heaviest_tests, heaviest, heaviest_all}
+use Rattle.homeo_size.proofs.Low.{Extents, low_sized, low_sum, low_product, low_test, low_tests, low_cond, low_after, low_after_all, low_measured, low_measured_all}
 
-abbrev pub told : low.Extent → Extent
-told e = record { size = cap e.size; depth = cap e.depth }
+abbrev pub told : low.Extent → ℕ → Extent
+told e w = record { size = cap e.size; depth = cap e.depth; weight = weight_cap w }
 
-abbrev pub told_measure : low.Extent → ℕ → Measure
-told_measure e rows = record { size = cap e.size; depth = cap e.depth; rows = cap rows }
-
--- ---- numbers
-cap_sum : (n m : ℕ) → cap (cap n + cap m) ≡ cap (n + m)
-cap_sum n m = omega (arith, clamps)
-
-cap_max : (n m : ℕ) → max (cap n) (cap m) ≡ cap (max n m)
-cap_max n m = omega (arith, clamps)
-
-cap_more : (k n : ℕ) → cap (k + cap n) ≡ cap (k + n)
-cap_more k n = omega (arith, clamps)
-
-cap_plus : (n k : ℕ) → cap (cap n + k) ≡ cap (n + k)
-cap_plus n k = omega (arith, clamps)
-
-grows : (c j : ℕ) → c ≤ c * suc j
-grows c j = let e : c * suc j ≡ c * j + c = mul-suc c j in omega arith
-
-cap_large : (m v : ℕ) → 8000001 ≤ m → cap (8000001 * v) ≡ cap (m * v)
-cap_large m zero h = sym (ap cap (mul-zero m))
-cap_large m (suc j) h =
-    let one : 8000001 ≤ 8000001 * suc j = grows 8000001 j in
-    let two : m ≤ m * suc j = grows m j in
-    let large : 8000001 ≤ m * suc j = omega arith in
-    min-eq_left one ∙ sym (min-eq_left large)
-
-cap_factor : (m v : ℕ) → cap (cap m * v) ≡ cap (m * v)
-cap_factor m v = by_case (nat_le m 8000001) refl
-  where
-    by_case : (b : Bool) → nat_le m 8000001 ≡ b → cap (cap m * v) ≡ cap (m * v)
-    by_case true e =
-        let h : m ≤ 8000001 = grind (arith, nat_tests) in
-        ap (λ k. cap (k * v)) (min-eq_right h)
-    by_case false e =
-        let h : 8000001 ≤ m = grind (arith, nat_tests) in
-        ap (λ k. cap (k * v)) (min-eq_left h) ∙ cap_large m v h
-
-cap_product : (m v : ℕ) → cap (cap m * cap v) ≡ cap (m * v)
-cap_product m v = cap_factor m (cap v) ∙ ap cap (mul_comm m (cap v)) ∙ cap_factor v m ∙ ap cap (mul_comm v m)
+abbrev pub told_measure : low.Extent → ℕ → ℕ → Measure
+told_measure e w rows = record { size = cap e.size; depth = cap e.depth; weight = weight_cap w; rows = cap rows }
 
 -- ---- extents
-pub told_beside : (a b : low.Extent) → beside (told a) (told b) ≡ told (low.beside a b)
+told_beside : (a b : low.Extent) (m n : ℕ) → beside (told a m) (told b n) ≡ told (low.beside a b) (max m n)
 unfolding words
-told_beside a b = λ i. record { size = cap_sum a.size b.size i; depth = cap_max a.depth b.depth i }
+told_beside a b m n = λ i. record { size = cap_sum 8000001 a.size b.size i; depth = cap_max 8000001 a.depth b.depth i; weight = cap_max 1000000000000000001 m n i }
 
-pub told_around : (a : low.Extent) → around (told a) ≡ told (low.around a)
+told_plus : (a b : low.Extent) (m n : ℕ) → plus (told a m) (told b n) ≡ told (low.beside a b) (m + n)
 unfolding words
-told_around a = λ i. record { size = cap_more 1 a.size i; depth = cap_more 1 a.depth i }
+told_plus a b m n = λ i. record { size = cap_sum 8000001 a.size b.size i; depth = cap_max 8000001 a.depth b.depth i; weight = cap_sum 1000000000000000001 m n i }
 
-pub told_greater : (a b : low.Extent) → greater (told a) (told b) ≡ told (low.greater a b)
+told_times : (a b : low.Extent) (m n : ℕ) → times (told a m) (told b n) ≡ told (low.beside a b) (m * n)
 unfolding words
-told_greater a b = λ i. record { size = cap_max a.size b.size i; depth = cap_max a.depth b.depth i }
+told_times a b m n = λ i. record { size = cap_sum 8000001 a.size b.size i; depth = cap_max 8000001 a.depth b.depth i; weight = cap_product 1000000000000000001 m n i }
 
-pub told_written : (sites : ℕ) (e : low.Extent) → written sites (told e) ≡ told (low.written sites e)
+told_around : (a : low.Extent) (m : ℕ) → around (told a m) ≡ told (low.around a) m
 unfolding words
-told_written sites e = λ i. record { size = cap_plus e.size (3 * sites + 2) i; depth = cap_plus e.depth 3 i }
+told_around a m = λ i. record { size = cap_more 8000001 1 a.size i; depth = cap_more 8000001 1 a.depth i; weight = weight_cap m }
 
-pub told_cond : (b : Bool) (a c : low.Extent) → cond b (told a) (told c) ≡ told (cond b a c)
-told_cond true a c = refl
-told_cond false a c = refl
+one_weight : (m : ℕ) → max 1 (weight_cap m) ≡ weight_cap (max 1 m)
+one_weight m = omega (arith, clamps)
 
--- ---- one beside another
-max_zero : (n : ℕ) → max n 0 ≡ n
-max_zero n = omega (arith, clamps)
+told_summed : (a : low.Extent) (m : ℕ) → summed (told a m) ≡ told (low.around a) (max 1 m)
+unfolding words
+told_summed a m = λ i. record { size = cap_more 8000001 1 a.size i; depth = cap_more 8000001 1 a.depth i; weight = one_weight m i }
 
-zero_max : (n : ℕ) → max 0 n ≡ n
-zero_max n = omega (arith, clamps)
+told_greater : (a b : low.Extent) (m n : ℕ) → greater (told a m) (told b n) ≡ told (low.greater a b) (max m n)
+unfolding words
+told_greater a b m n = λ i. record { size = cap_max 8000001 a.size b.size i; depth = cap_max 8000001 a.depth b.depth i; weight = cap_max 1000000000000000001 m n i }
 
-plus_zero : (n : ℕ) → n + 0 ≡ n
-plus_zero n = omega arith
+told_written : (sites : ℕ) (e : low.Extent) (m : ℕ) → written sites (told e m) ≡ told (low.written sites e) m
+unfolding words
+told_written sites e m = λ i. record { size = cap_plus 8000001 e.size (3 * sites + 2) i; depth = cap_plus 8000001 e.depth 3 i; weight = weight_cap m }
 
-zero_plus : (n : ℕ) → 0 + n ≡ n
-zero_plus n = omega arith
+told_same : (a b : low.Extent) (m n : ℕ) → a ≡ b → m ≡ n → told a m ≡ told b n
+told_same a b m n p q = λ i. told (p i) (q i)
 
-plus_assoc : (a b c : ℕ) → (a + b) + c ≡ a + (b + c)
-plus_assoc a b c = omega arith
-
-max_assoc : (a b c : ℕ) → max (max a b) c ≡ max a (max b c)
-max_assoc a b c = omega (arith, clamps)
-
-pub max_same : (n : ℕ) → max n n ≡ n
-max_same n = omega (arith, clamps)
-
-pub beside_nothing : (a : low.Extent) → low.beside a (low.flat 0) ≡ a
+beside_nothing : (a : low.Extent) → low.beside a (low.flat 0) ≡ a
 beside_nothing a = λ i. record { size = plus_zero a.size i; depth = max_zero a.depth i }
 
-pub nothing_beside : (a : low.Extent) → low.beside (low.flat 0) a ≡ a
+nothing_beside : (a : low.Extent) → low.beside (low.flat 0) a ≡ a
 nothing_beside a = λ i. record { size = zero_plus a.size i; depth = zero_max a.depth i }
 
-pub beside_assoc : (a b c : low.Extent) → low.beside (low.beside a b) c ≡ low.beside a (low.beside b c)
+beside_assoc : (a b c : low.Extent) → low.beside (low.beside a b) c ≡ low.beside a (low.beside b c)
 beside_assoc a b c = λ i. record { size = plus_assoc a.size b.size c.size i; depth = max_assoc a.depth b.depth c.depth i }
 
-pub greater_same : (a : low.Extent) → low.greater a a ≡ a
-greater_same a = λ i. record { size = max_same a.size i; depth = max_same a.depth i }
-
 -- ---- measures
-pub told_valued : (e : low.Extent) → valued (told e) ≡ told_measure (low.beside (low.flat 1) e) 1
+told_valued : (e : low.Extent) (m : ℕ) → valued (told e m) ≡ told_measure (low.beside (low.flat 1) e) m 1
 unfolding words
-told_valued e = λ i. record { size = cap_more 1 e.size i; depth = ap cap (sym (zero_max e.depth)) i; rows = 1 }
+told_valued e m = λ i. record { size = cap_more 8000001 1 e.size i; depth = ap cap (sym (zero_max e.depth)) i; weight = weight_cap m; rows = 1 }
 
--- a write where the value is within the bounds
-abbrev within : low.Extent → low.Extent
-within e = low.around (low.beside (low.around (low.beside low.single e)) (low.beside (low.around (low.beside e low.single)) (low.flat 0)))
-
-abbrev guarded_low : ℕ → low.Extent → low.Extent
-guarded_low sites e = low.beside (low.flat 2) (low.beside (within e) (low.beside (low.beside (low.flat (3 * sites + 3)) e) (low.flat 1)))
-
-guarded_size : (sites n : ℕ) → cap (11 + (3 * sites + 3 * cap n)) ≡ cap (2 + ((1 + ((1 + (1 + n)) + ((1 + (n + 1)) + 0))) + (((3 * sites + 3) + n) + 1)))
-guarded_size sites n = omega (arith, clamps)
-
-max_one : (n : ℕ) → max n 1 ≡ max 1 n
-max_one n = omega (arith, clamps)
-
-guarded_inner : (n : ℕ) → max 0 (max (1 + max (1 + max 1 n) (max (1 + max 1 n) 0)) (max (max 0 n) 0)) ≡ 2 + max 1 n
-guarded_inner n = omega (arith, clamps)
-
-guarded_depth : (n : ℕ) → cap (2 + max 1 (cap n)) ≡ cap (2 + max 1 n)
-guarded_depth n = omega (arith, clamps)
-
-pub told_guarded : (sites : ℕ) (e : low.Extent) → guarded sites (told e) ≡ told_measure (guarded_low sites e) 2
+told_writing : (sites : ℕ) (e : low.Extent) (m : ℕ) → writing sites (told e m) ≡ told_measure (low.beside (low.flat (3 * sites + 3)) e) m 1
 unfolding words
-told_guarded sites e =
-    λ i. record {
-      size = guarded_size sites e.size i;
-      depth = (guarded_depth e.depth ∙ ap cap (sym (guarded_inner e.depth)) ∙ ap (λ k. cap (max 0 (max (1 + max (1 + max 1 e.depth) (max (1 + k) 0)) (max (max 0 e.depth) 0)))) (sym (max_one e.depth))) i;
-      rows = 2;
-    }
+told_writing sites e m = λ i. record { size = cap_more 8000001 (3 * sites + 3) e.size i; depth = ap cap (sym (zero_max e.depth)) i; weight = weight_cap m; rows = 1 }
 
-chosen_size : (t m n : ℕ) → cap (2 + (cap t + (cap m + cap n))) ≡ cap (2 + (t + (m + n)))
-chosen_size t m n = omega (arith, clamps)
+three_sum : (c a b d : ℕ) → c ≡ 8000001 → cap (2 + (cap a + (cap b + cap d))) ≡ cap (2 + (a + (b + d)))
+three_sum c a b d e = omega (arith, clamps)
 
-chosen_depth : (t m n : ℕ) → max (cap t) (max (cap m) (cap n)) ≡ cap (max 0 (max t (max m n)))
-chosen_depth t m n =
-    ap (max (cap t)) (cap_max m n) ∙ cap_max t (max m n) ∙ ap cap (sym (zero_max (max t (max m n))))
+chosen_max : (c a b d : ℕ) → max (cap a) (max (cap b) (cap d)) ≡ cap (max 0 (max a (max b d)))
+chosen_max c a b d = omega (arith, clamps)
 
-pub told_chosen : (t c d : low.Extent) (m n : ℕ) → chosen (told t) (told_measure c m) (told_measure d n) ≡ told_measure (low.beside (low.flat 2) (low.beside t (low.beside c d))) (m + n)
+chosen_weight : (a b d : ℕ) → max (weight_cap a) (max (weight_cap b) (weight_cap d)) ≡ weight_cap (max a (max b d))
+chosen_weight a b d = omega (arith, clamps)
+
+told_chosen : (t c d : low.Extent) (k m n p q : ℕ) → chosen (told t k) (told_measure c m p) (told_measure d n q) ≡ told_measure (low.beside (low.flat 2) (low.beside t (low.beside c d))) (max k (max m n)) (p + q)
 unfolding words
-told_chosen t c d m n =
-    λ i. record { size = chosen_size t.size c.size d.size i; depth = chosen_depth t.depth c.depth d.depth i; rows = cap_sum m n i }
+told_chosen t c d k m n p q = λ i. record {
+  size = three_sum 8000001 t.size c.size d.size refl i;
+  depth = chosen_max 0 t.depth c.depth d.depth i;
+  weight = chosen_weight k m n i;
+  rows = cap_sum 8000001 p q i;
+}
 
-pub told_followed : (a c : low.Extent) (m n : ℕ) → followed (told_measure a m) (told_measure c n) ≡ told_measure (low.beside a c) (m * n)
+told_followed : (a c : low.Extent) (k l m n : ℕ) → followed (told_measure a k m) (told_measure c l n) ≡ told_measure (low.beside a c) (max k l) (m * n)
 unfolding words
-told_followed a c m n =
-    λ i. record { size = cap_sum a.size c.size i; depth = cap_max a.depth c.depth i; rows = cap_product m n i }
+told_followed a c k l m n = λ i. record {
+  size = cap_sum 8000001 a.size c.size i;
+  depth = cap_max 8000001 a.depth c.depth i;
+  weight = cap_max 1000000000000000001 k l i;
+  rows = cap_product 8000001 m n i;
+}
 
-pub told_same : (a b : low.Extent) (m n : ℕ) → a ≡ b → m ≡ n → told_measure a m ≡ told_measure b n
-told_same a b m n p q = λ i. told_measure (p i) (q i)
+told_measure_same : (a b : low.Extent) (k l m n : ℕ) → a ≡ b → k ≡ l → m ≡ n → told_measure a k m ≡ told_measure b l n
+told_measure_same a b k l m n p q r = λ i. told_measure (p i) (q i) (r i)
+
+-- ---- the extents v are those of e and w
+abbrev pub Tells : Extents → (Place → low.Extent) → (Place → ℕ) → Type 0
+Tells v e w = (p : Place) → v p ≡ told (e p) (w p)
+
+put_told : (v : Extents) (e : Place → low.Extent) (w : Place → ℕ) (p : Place) (x : Extent) (a : low.Extent) (m : ℕ) → Tells v e w → x ≡ told a m → Tells (put v p x) (put e p a) (put w p m)
+unfolding meaning_words
+put_told v e w p x a m h k q = go (same_place p q)
+  where
+    go : (b : Bool) → cond b x (v q) ≡ told (cond b a (e q)) (cond b m (w q))
+    go true = k
+    go false = h q
+
+mutual
+  unfolding words meaning_words
+
+  pub expr_told : (x : Expr) (v : Extents) (e : Place → low.Extent) (w : Place → ℕ) → Tells v e w → low_sized x v ≡ told (extent x e) (weight x w)
+  expr_told (Literal n) v e w h = refl
+  expr_told (OfTemp t) v e w h = h (TempAt t)
+  expr_told (Read o) v e w h = h (place_of o)
+  expr_told (Sum es) v e w h =
+      ap summed (sum_told es v e w h (low.flat 0) 0 ∙ told_same (low.beside (low.flat 0) (extent_all es e)) (extent_all es e) (0 + sum_weight es w) (sum_weight es w) (nothing_beside (extent_all es e)) (zero_plus (sum_weight es w)))
+      ∙ told_summed (extent_all es e) (sum_weight es w)
+  expr_told (Product es) v e w h =
+      ap around (product_told es v e w h (low.flat 0) 1 ∙ told_same (low.beside (low.flat 0) (extent_all es e)) (extent_all es e) (1 * product_weight es w) (product_weight es w) (nothing_beside (extent_all es e)) (one-mul (product_weight es w)))
+      ∙ told_around (extent_all es e) (product_weight es w)
+  expr_told (Neg x) v e w h = ap around (expr_told x v e w h) ∙ told_around (extent x e) (weight x w)
+
+  sum_told : (es : Exprs) (v : Extents) (e : Place → low.Extent) (w : Place → ℕ) → Tells v e w → (a : low.Extent) (m : ℕ) → low_sum es v (told a m) ≡ told (low.beside a (extent_all es e)) (m + sum_weight es w)
+  sum_told NoExpr v e w h a m = told_same a (low.beside a (low.flat 0)) m (m + 0) (sym (beside_nothing a)) (sym (plus_zero m))
+  sum_told (MoreExpr x es) v e w h a m =
+      ap (low_sum es v) (ap (plus (told a m)) (expr_told x v e w h) ∙ told_plus a (extent x e) m (weight x w))
+      ∙ sum_told es v e w h (low.beside a (extent x e)) (m + weight x w)
+      ∙ told_same (low.beside (low.beside a (extent x e)) (extent_all es e)) (low.beside a (low.beside (extent x e) (extent_all es e))) ((m + weight x w) + sum_weight es w) (m + (weight x w + sum_weight es w)) (beside_assoc a (extent x e) (extent_all es e)) (plus_assoc m (weight x w) (sum_weight es w))
+
+  product_told : (es : Exprs) (v : Extents) (e : Place → low.Extent) (w : Place → ℕ) → Tells v e w → (a : low.Extent) (m : ℕ) → low_product es v (told a m) ≡ told (low.beside a (extent_all es e)) (m * product_weight es w)
+  product_told NoExpr v e w h a m = told_same a (low.beside a (low.flat 0)) m (m * 1) (sym (beside_nothing a)) (sym (mul-one m))
+  product_told (MoreExpr x es) v e w h a m =
+      ap (low_product es v) (ap (times (told a m)) (expr_told x v e w h) ∙ told_times a (extent x e) m (weight x w))
+      ∙ product_told es v e w h (low.beside a (extent x e)) (m * weight x w)
+      ∙ told_same (low.beside (low.beside a (extent x e)) (extent_all es e)) (low.beside a (low.beside (extent x e) (extent_all es e))) ((m * weight x w) * product_weight es w) (m * (weight x w * product_weight es w)) (beside_assoc a (extent x e) (extent_all es e)) (mul_assoc m (weight x w) (product_weight es w))
+
+mutual
+  unfolding words meaning_words
+
+  test_told : (t : Test) (v : Extents) (e : Place → low.Extent) (w : Place → ℕ) → Tells v e w → low_test t v ≡ told (test_extent t e) (heaviest_test t w)
+  test_told True v e w h = refl
+  test_told (Not c) v e w h =
+      ap around (ap around (tests_told c v e w h (low.flat 0) 0 ∙ told_same (low.beside (low.flat 0) (tests_extent c e)) (tests_extent c e) (max 0 (heaviest_tests c w)) (heaviest_tests c w) (nothing_beside (tests_extent c e)) (zero_max (heaviest_tests c w))) ∙ told_around (tests_extent c e) (heaviest_tests c w))
+      ∙ told_around (low.around (tests_extent c e)) (heaviest_tests c w)
+  test_told (Comparison op a b) v e w h =
+      ap around (ap₂ beside (expr_told a v e w h) (expr_told b v e w h) ∙ told_beside (extent a e) (extent b e) (weight a w) (weight b w))
+      ∙ told_around (low.beside (extent a e) (extent b e)) (max (weight a w) (weight b w))
+
+  tests_told : (c : Cond) (v : Extents) (e : Place → low.Extent) (w : Place → ℕ) → Tells v e w → (a : low.Extent) (m : ℕ) → low_tests c v (told a m) ≡ told (low.beside a (tests_extent c e)) (max m (heaviest_tests c w))
+  tests_told NoTest v e w h a m = told_same a (low.beside a (low.flat 0)) m (max m 0) (sym (beside_nothing a)) (sym (max_zero m))
+  tests_told (MoreTest t c) v e w h a m =
+      ap (low_tests c v) (ap (beside (told a m)) (test_told t v e w h) ∙ told_beside a (test_extent t e) m (heaviest_test t w))
+      ∙ tests_told c v e w h (low.beside a (test_extent t e)) (max m (heaviest_test t w))
+      ∙ told_same (low.beside (low.beside a (test_extent t e)) (tests_extent c e)) (low.beside a (low.beside (test_extent t e) (tests_extent c e))) (max (max m (heaviest_test t w)) (heaviest_tests c w)) (max m (max (heaviest_test t w) (heaviest_tests c w))) (beside_assoc a (test_extent t e) (tests_extent c e)) (max_assoc m (heaviest_test t w) (heaviest_tests c w))
+
+cond_told : (c : Cond) (v : Extents) (e : Place → low.Extent) (w : Place → ℕ) → Tells v e w → low_cond c v ≡ told (cond_extent c e) (heaviest_tests c w)
+unfolding words meaning_words
+cond_told c v e w h =
+    ap around (tests_told c v e w h (low.flat 0) 0 ∙ told_same (low.beside (low.flat 0) (tests_extent c e)) (tests_extent c e) (max 0 (heaviest_tests c w)) (heaviest_tests c w) (nothing_beside (tests_extent c e)) (zero_max (heaviest_tests c w)))
+    ∙ told_around (tests_extent c e) (heaviest_tests c w)
+
+module _ (sites : ℕ) where
+  mutual
+    unfolding words meaning_words
+
+    after_told : (c : Command) (v : Extents) (e : Place → low.Extent) (w : Place → ℕ) → Tells v e w → Tells (low_after sites c v) (after sites c e) (heavy.after c w)
+    after_told Skip v e w h = h
+    after_told (Assign t x) v e w h = put_told v e w (TempAt t) (low_sized x v) (extent x e) (weight x w) h (expr_told x v e w h)
+    after_told (Write o x) v e w h =
+        put_told v e w (place_of o) (written sites (low_sized x v)) (low.written sites (extent x e)) (weight x w) h (ap (written sites) (expr_told x v e w h) ∙ told_written sites (extent x e) (weight x w))
+    after_told (Print x) v e w h = h
+    after_told (Seq cs) v e w h = all_after_told cs v e w h
+    after_told (If b c d) v e w h =
+        λ p. ap₂ greater (after_told c v e w h p) (after_told d v e w h p) ∙ told_greater (after sites c e p) (after sites d e p) (heavy.after c w p) (heavy.after d w p)
+
+    all_after_told : (cs : Commands) (v : Extents) (e : Place → low.Extent) (w : Place → ℕ) → Tells v e w → Tells (low_after_all sites cs v) (after_all sites cs e) (heavy.after_all cs w)
+    all_after_told NoCommand v e w h = h
+    all_after_told (MoreCommand c cs) v e w h =
+        all_after_told cs (low_after sites c v) (after sites c e) (heavy.after c w) (after_told c v e w h)
+
+  mutual
+    unfolding words meaning_words
+
+    pub measured_told : (c : Command) (v : Extents) (e : Place → low.Extent) (w : Place → ℕ) → Tells v e w → low_measured sites c v ≡ told_measure (command_extent sites c e) (heaviest c w) (rows c)
+    measured_told Skip v e w h = refl
+    measured_told (Assign t x) v e w h = ap valued (expr_told x v e w h) ∙ told_valued (extent x e) (weight x w)
+    measured_told (Write o x) v e w h = ap (writing sites) (expr_told x v e w h) ∙ told_writing sites (extent x e) (weight x w)
+    measured_told (Print x) v e w h = ap valued (expr_told x v e w h) ∙ told_valued (extent x e) (weight x w)
+    measured_told (Seq cs) v e w h =
+        all_measured_told cs v e w h none (low.flat 1) 0 1 refl
+        ∙ told_measure_same (low.beside (low.flat 1) (commands_extent sites cs e)) (low.beside (low.flat 1) (commands_extent sites cs e)) (max 0 (heaviest_all cs w)) (heaviest_all cs w) (1 * rows_all cs) (rows_all cs) refl (zero_max (heaviest_all cs w)) (one-mul (rows_all cs))
+    measured_told (If b c d) v e w h =
+        (λ i. chosen (cond_told b v e w h i) (measured_told c v e w h i) (measured_told d v e w h i))
+        ∙ told_chosen (cond_extent b e) (command_extent sites c e) (command_extent sites d e) (heaviest_tests b w) (heaviest c w) (heaviest d w) (rows c) (rows d)
+
+    all_measured_told : (cs : Commands) (v : Extents) (e : Place → low.Extent) (w : Place → ℕ) → Tells v e w → (b : Before) (a : low.Extent) (m n : ℕ) → b.all ≡ told_measure a m n → (low_measured_all sites cs v b).all ≡ told_measure (low.beside a (commands_extent sites cs e)) (max m (heaviest_all cs w)) (n * rows_all cs)
+    all_measured_told NoCommand v e w h b a m n k =
+        k ∙ told_measure_same a (low.beside a (low.flat 0)) m (max m 0) n (n * 1) (sym (beside_nothing a)) (sym (max_zero m)) (sym (mul-one n))
+    all_measured_told (MoreCommand c cs) v e w h b a m n k =
+        let x : low.Extent = command_extent sites c e in
+        let rest : low.Extent = commands_extent sites cs (after sites c e) in
+        let more : ℕ = heaviest_all cs (heavy.after c w) in
+        all_measured_told cs (low_after sites c v) (after sites c e) (heavy.after c w) (after_told c v e w h) _ (low.beside a x) (max m (heaviest c w)) (n * rows c) (ap₂ followed k (measured_told c v e w h) ∙ told_followed a x m (heaviest c w) n (rows c))
+        ∙ told_measure_same (low.beside (low.beside a x) rest) (low.beside a (low.beside x rest)) (max (max m (heaviest c w)) more) (max m (max (heaviest c w) more)) ((n * rows c) * rows_all cs) (n * (rows c * rows_all cs)) (beside_assoc a x rest) (max_assoc m (heaviest c w) more) (mul_assoc n (rows c) (rows_all cs))

@@ -1,8 +1,11 @@
-pub mod Given
-pub mod Keeping
 pub mod Key
+pub mod Layout
 pub mod Measured
+pub mod Measuring
+pub mod Nodes
 pub mod Numbers
 pub mod Parts
+pub mod Prints
 pub mod Sizing
+pub mod Store
 pub mod Tables

@@ -1,62 +1,128 @@
--- The extents of phrases and the measures of commands by those of their parts, each number told up to the cap.
-use Rattle.std.specs.Prelude.{ℕ, ◌+◌, ◌*◌, max}
+-- The extents of phrases and the measures of commands by those of their parts, each number told up to its cap.
+use Rattle.std.specs.Prelude.{ℕ, ◌+◌, ◌*◌, max, true, false, cond, ℤ}
+use Rattle.homeo_meaning.specs.Context.{Spot}
+use Rattle.homeo_meaning.specs.Weights.{number_weight}
 use Rattle.homeo_size.specs.Key.{words}
-use Rattle.homeo_size.specs.Numbers.{cap}
+use Rattle.homeo_size.specs.Numbers.{cap, weight_cap}
 use Rattle.homeo_size.specs.declared.extent.Extent.{Extent}
+use Rattle.homeo_size.specs.declared.steps.Before.{Before}
 use Rattle.homeo_size.specs.declared.steps.Measure.{Measure}
 
--- a phrase without parts
+abbrev pub literal : ℤ → Extent
+unfolding words
+literal n = record { size = 1; depth = 1; weight = weight_cap (number_weight n) }
+
+-- a temporary that nothing is assigned to
 abbrev pub single : Extent
-single = record { size = 1; depth = 1 }
+single = record { size = 1; depth = 1; weight = 1 }
 
+-- the test that always passes
+abbrev pub truth : Extent
+truth = record { size = 1; depth = 1; weight = 0 }
+
+-- what a sum, a list of tests or a product begins with
 abbrev pub nothing : Extent
-nothing = record { size = 0; depth = 0 }
+nothing = record { size = 0; depth = 0; weight = 0 }
 
--- one next to the other
+abbrev pub no_factor : Extent
+no_factor = record { size = 0; depth = 0; weight = 1 }
+
+-- one next to the other: as tests, as terms, as factors
 abbrev pub beside : Extent → Extent → Extent
 unfolding words
-beside a b = record { size = cap (a.size + b.size); depth = max a.depth b.depth }
+beside a b = record { size = cap (a.size + b.size); depth = max a.depth b.depth; weight = max a.weight b.weight }
+
+abbrev pub plus : Extent → Extent → Extent
+unfolding words
+plus a b = record { size = cap (a.size + b.size); depth = max a.depth b.depth; weight = weight_cap (a.weight + b.weight) }
+
+abbrev pub times : Extent → Extent → Extent
+unfolding words
+times a b = record { size = cap (a.size + b.size); depth = max a.depth b.depth; weight = weight_cap (a.weight * b.weight) }
 
 -- with one more round it
 abbrev pub around : Extent → Extent
 unfolding words
-around a = record { size = cap (1 + a.size); depth = cap (1 + a.depth) }
+around a = record { size = cap (1 + a.size); depth = cap (1 + a.depth); weight = a.weight }
+
+-- a sum of such terms
+abbrev pub summed : Extent → Extent
+unfolding words
+summed a = record { size = cap (1 + a.size); depth = cap (1 + a.depth); weight = max 1 a.weight }
+
+abbrev pub compared : Extent → Extent → Extent
+unfolding words
+compared a b = around (beside a b)
 
 -- of each, the greater
 abbrev pub greater : Extent → Extent → Extent
 unfolding words
-greater a b = record { size = max a.size b.size; depth = max a.depth b.depth }
+greater a b = record { size = max a.size b.size; depth = max a.depth b.depth; weight = max a.weight b.weight }
 
--- an object that nothing is written to
-abbrev pub unwritten : ℕ → Extent
+-- an object that nothing is written to, which weighs so much
+abbrev pub unwritten : ℕ → ℕ → Extent
 unfolding words
-unwritten sites = record { size = cap (sites + 2); depth = 2 }
+unwritten sites weight = record { size = cap (sites + 2); depth = 2; weight = weight }
 
 -- an object that a value of this extent is written to
 abbrev pub written : ℕ → Extent → Extent
 unfolding words
-written sites e = record { size = cap (e.size + (3 * sites + 2)); depth = cap (e.depth + 3) }
+written sites e = record { size = cap (e.size + (3 * sites + 2)); depth = cap (e.depth + 3); weight = e.weight }
 
 -- ---- commands
 -- a command without parts, and a sequence without commands
 abbrev pub empty : Measure
-empty = record { size = 1; depth = 0; rows = 1 }
+empty = record { size = 1; depth = 0; weight = 0; rows = 1 }
 
 -- an assignment or a print of a value of this extent
 abbrev pub valued : Extent → Measure
 unfolding words
-valued e = record { size = cap (1 + e.size); depth = e.depth; rows = 1 }
+valued e = record { size = cap (1 + e.size); depth = e.depth; weight = e.weight; rows = 1 }
 
--- a write of a value of this extent, where it is within the bounds
-abbrev pub guarded : ℕ → Extent → Measure
+-- a write of a value of this extent
+abbrev pub writing : ℕ → Extent → Measure
 unfolding words
-guarded sites e = record { size = cap (11 + (3 * sites + 3 * e.size)); depth = cap (2 + max 1 e.depth); rows = 2 }
+writing sites e = record { size = cap ((3 * sites + 3) + e.size); depth = e.depth; weight = e.weight; rows = 1 }
 
 abbrev pub chosen : Extent → Measure → Measure → Measure
 unfolding words
-chosen t m n = record { size = cap (2 + (t.size + (m.size + n.size))); depth = max t.depth (max m.depth n.depth); rows = cap (m.rows + n.rows) }
+chosen t m n = record {
+  size = cap (2 + (t.size + (m.size + n.size)));
+  depth = max t.depth (max m.depth n.depth);
+  weight = max t.weight (max m.weight n.weight);
+  rows = cap (m.rows + n.rows);
+}
 
 -- a sequence with one more command
 abbrev pub followed : Measure → Measure → Measure
 unfolding words
-followed m n = record { size = cap (m.size + n.size); depth = max m.depth n.depth; rows = cap (m.rows * n.rows) }
+followed m n = record { size = cap (m.size + n.size); depth = max m.depth n.depth; weight = max m.weight n.weight; rows = cap (m.rows * n.rows) }
+
+-- ---- the commands of liftings
+abbrev pub none : Before
+none = record { all = empty; any = false }
+
+abbrev pub with_one : Before → Measure → Before
+unfolding words
+with_one b m = record { all = followed b.all m; any = true }
+
+-- a command after those before it, alone where there are none
+abbrev pub placed : Before → Measure → Measure
+unfolding words
+placed b m = cond b.any (followed b.all m) m
+
+-- ---- tests
+-- more tests: that a value is within the bounds
+abbrev pub within_tests : Spot → Extent → Extent → Extent
+unfolding words
+within_tests b e a = beside (beside a (compared (literal b.lo) e)) (compared e (literal b.hi))
+
+-- the condition that a value is a number
+abbrev pub is_equal : Extent → ℤ → Extent
+unfolding words
+is_equal e v = around (beside nothing (compared e (literal v)))
+
+-- a write of a value where it is within the bounds
+abbrev pub guarded : ℕ → Spot → Extent → Measure
+unfolding words
+guarded sites b e = chosen (around (within_tests b e nothing)) (writing sites e) empty

@@ -1,33 +1,33 @@
-//! Which names are given as arguments.
+//! The arguments of a call, by the names of their parameters.
 
-ghost use Rattle.std.specs.Prelude.{◌≡◌, ℕ, false, map, is_some, slice_index_or, IfOk};
+ghost use Rattle.std.specs.Prelude.{◌≡◌, ℕ, None, Some, map, slice_index_or, IfOk};
 ghost use Rattle.homeo_meaning.specs.Context.{arguments_of};
-ghost use Rattle.homeo_size.specs.Given.{is_named};
 
-use crate::padded::put;
+use homeo_meaning::padded::put;
 use homeo_syntax::{Memory, Number, RangeDecl};
 use std::alloc::Global;
 
-/// Which names these declarations have, by the names' numbers.
-fn named(alloc: Global, ds: &[RangeDecl]) -> Result<Vec<bool>, Memory>
-    ensures { IfOk result (λ named. (n : ℕ) → slice_index_or named.items n false ≡ is_named n ds.now) }
+fn given(number: Number) -> Option<i64>
+    ensures { result ≡ Some number.value }
 {
-    let mut named = Vec::new(alloc);
-    for d in ds {
-        put(&mut named, d.name.name as usize, true, false)?;
-    }
-    Ok(named)
+    Some(number.value)
 }
 
-/// Which names are those of parameters with an argument, by the names' numbers.
-pub(crate) fn given(
+/// The arguments, by the numbers of their parameters' names: of two parameters of one name the first counts.
+pub(crate) fn arguments(
     alloc: Global,
     params: &[RangeDecl],
     args: &[Number],
-) -> Result<Vec<bool>, Memory>
-    ensures { IfOk result (λ given. (n : ℕ) → slice_index_or given.items n false ≡
-        is_some (arguments_of (map (λ p. p.name.name) params.now) (map (λ a. a.value) args.now) n)) }
+) -> Result<Vec<Option<i64>>, Memory>
+    ensures { IfOk result (λ arguments. (n : ℕ) → slice_index_or arguments.items n None ≡
+        arguments_of (map (λ p. p.name.name) params.now) (map (λ a. a.value) args.now) n) }
 {
-    let count = params.len().min(args.len());
-    named(alloc, &params[..count])
+    let mut arguments = Vec::new(alloc);
+    let mut index = params.len().min(args.len());
+    while index > 0 {
+        index -= 1;
+        let name = params[index].name.name as usize;
+        put(&mut arguments, name, given(args[index]), None)?;
+    }
+    Ok(arguments)
 }

@@ -1,21 +1,37 @@
 //! How large the L form of a call is.
 
-ghost use Rattle.std.specs.Prelude.{◌≡◌, true, map, IfOk};
+ghost use Rattle.std.specs.Prelude.{◌≡◌, map, IfOk};
 ghost use Rattle.homeo_syntax.specs.SourceView.{plain_transaction};
-ghost use Rattle.homeo_meaning.specs.Built.{are_built};
 ghost use Rattle.homeo_meaning.specs.LForm.{l_form};
 ghost use Rattle.homeo_meaning.specs.Schema.{Schema};
-ghost use Rattle.homeo_size.specs.Measured.{IsMeasure};
+ghost use Rattle.homeo_size.specs.Layout.{IsLayout};
+ghost use Rattle.homeo_size.specs.Measured.{IsMeasured};
+ghost use Rattle.homeo_size.specs.Parts.{unwritten};
 
-use crate::arguments::given;
+use crate::arguments::arguments;
+use crate::extent::{Extent, unwritten};
 use crate::extents::Extents;
 use crate::frame::Frame;
+use crate::layout::Layout;
+use crate::nodes::TOO_MANY;
 use crate::steps::Measure;
-use homeo_meaning::Places;
 use homeo_syntax::{Memory, Number, Transaction};
 use std::alloc::Global;
 
-/// Measures the L form of a call on so many sites, where the objects have these names.
+/// The extents of the objects where a call begins.
+fn first_extents(alloc: Global, weights: &[u64], sites: u64) -> Result<Vec<Extent>, Memory>
+    ensures { IfOk result (λ objects. objects.items ≡ map (unwritten sites) weights.now) }
+{
+    let mut objects = Vec::new(alloc);
+    for weight in weights {
+        objects.push(unwritten(sites, *weight))?;
+    }
+    Ok(objects)
+}
+
+/// Measures the L form of a call on so many sites, without building it: of a transaction of the workload that is laid
+/// out, with the arguments in the order of its parameters. `None` where it is larger than all calls may be together,
+/// which its nodes tell before a loop is followed.
 ///
 /// # Errors
 ///
@@ -24,23 +40,28 @@ pub fn measure(
     alloc: Global,
     t: &Transaction,
     args: &[Number],
-    objects: &Places,
+    layout: &Layout<'_>,
     sites: u64,
-) -> Result<Measure, Memory>
-    requires built { are_built (plain_transaction t.now).body ≡ true }
-    ensures { IfOk result (λ m. (x : Schema) → map (λ d. d.name) x.objects ≡ objects.now →
-        IsMeasure sites (l_form x (map (λ p. p.name.name) t.now.params.items) (map (λ a. a.value) args.now)
-        (plain_transaction t.now).body) m) }
+) -> Result<Option<Measure>, Memory>
+    ensures { IfOk result (λ m. (x : Schema) → IsLayout x layout.now → IsMeasured x sites
+        (l_form x (map (λ p. p.name.name) t.now.params.items) (map (λ a. a.value) args.now) (plain_transaction t.now).body) m) }
 {
-    let given = given(alloc, t.params.as_slice(), args)?;
+    let arguments = arguments(alloc, t.params.as_slice(), args)?;
     let frame = Frame {
-        objects,
-        given: given.as_slice(),
+        layout,
+        arguments: arguments.as_slice(),
+        rows: &[],
         sites,
     };
+    if frame.commands_nodes(t.body.as_slice(), 1) >= TOO_MANY {
+        return Ok(None);
+    }
     let mut extents = Extents {
-        objects: Vec::new(alloc),
+        objects: first_extents(alloc, layout.weights.as_slice(), sites)?,
         temps: Vec::new(alloc),
+        log: Vec::new(alloc),
+        sites,
     };
-    extents.measure_commands(alloc, t.body.as_slice(), &frame)
+    let all = extents.measure_commands(alloc, t.body.as_slice(), &frame)?;
+    Ok(Some(all.all))
 }

@@ -1,62 +1,184 @@
 //! How large commands are, and the names' extents after them.
 
 ghost use Rattle.std.specs.Prelude.{◌≡◌, map, IfOk, OnOk};
-ghost use Rattle.homeo_syntax.specs.SourceView.{commands, plain_command};
-ghost use Rattle.homeo_size.specs.Parts.{empty};
-ghost use Rattle.homeo_size.specs.Sizing.{sizes_after, sizes_after_all, measured, all_measured};
-ghost use Rattle.homeo_size.specs.Tables.{sizes_in, setting};
+ghost use Rattle.homeo_syntax.specs.SourceView.{commands, plain_field, plain_command};
+ghost use Rattle.homeo_size.specs.Parts.{none};
+ghost use Rattle.homeo_size.specs.Measuring.{after, after_all, measured, all_measured, values_lifted, fillings};
+ghost use Rattle.homeo_size.specs.Tables.{plain_filled, sizes_in, store_in, setting};
 
-use crate::extents::Extents;
+use crate::chains::{Filled, chain_writing, slot_writing};
+use crate::extent::{NOTHING, around, within_tests, written};
+use crate::extents::{Entry, Extents};
 use crate::frame::Frame;
-use crate::steps::{EMPTY, Measure, chosen, followed, guarded, valued};
-use homeo_syntax::{Command, Memory};
+use crate::rows::with_row;
+use crate::slot::slot_at;
+use crate::steps::{Before, EMPTY, Measure, NONE, chosen, guarded, placed, valued, with_one};
+use homeo_syntax::{Command, FieldValue, Memory};
 use std::alloc::Global;
 
 impl Extents {
+    /// The values of an insert: each is assigned to a temporary behind its lifting.
+    #[tactic(auto, using(crate::proofs::Along::items, crate::proofs::Along::values, crate::proofs::Equations::lists))]
+    fn fillings(
+        &self,
+        alloc: Global,
+        relation: u32,
+        fields: &[FieldValue],
+        frame: &Frame<'_>,
+        before: &mut Before,
+    ) -> Result<Vec<Filled>, Memory>
+        ensures filled { IfOk result (λ filled. map plain_filled filled.items ≡ fillings (setting frame.now)
+            ((setting frame.now).fields relation) (map plain_field fields.now) (sizes_in self.now)) }
+        ensures before { OnOk result (before.new ≡
+            values_lifted (setting frame.now) (map plain_field fields.now) (sizes_in self.now) before.old) }
+    {
+        let mut all = Vec::new(alloc);
+        for field in fields {
+            let extent = self.expr(alloc, &field.value, frame, before)?;
+            *before = with_one(*before, valued(extent));
+            all.push(Filled {
+                field: frame.field(relation, field.field.name),
+                extent,
+            })?;
+        }
+        Ok(all)
+    }
+
     /// Measures a command, and leaves the extents after it.
     #[cycle(commands)]
-    #[tactic(auto, using(homeo_syntax::proofs::SourceViews::command_views, crate::proofs::Equations::steps, crate::proofs::Tables::settings))]
+    #[tactic(auto, using(homeo_syntax::proofs::SourceViews::command_views, homeo_syntax::proofs::SourceViews::phrase_views, crate::proofs::Along::items, crate::proofs::Along::stores, crate::proofs::Along::plain_place, crate::proofs::Equations::loops, crate::proofs::Equations::steps))]
     fn measure_command(
         &mut self,
         alloc: Global,
         c: &Command,
         frame: &Frame<'_>,
     ) -> Result<Measure, Memory>
-        ensures measure { IfOk result (λ m. m ≡
-            measured (setting frame.now) (plain_command c.now) (sizes_in frame.now.sites self.old)) }
-        ensures sizes { OnOk result (sizes_in frame.now.sites self.new ≡
-            sizes_after (setting frame.now) (plain_command c.now) (sizes_in frame.now.sites self.old)) }
+        ensures measure { IfOk result (λ m. m ≡ measured (setting frame.now) (plain_command c.now) (store_in self.old)) }
+        ensures store { OnOk result (store_in self.new ≡
+            after (setting frame.now) (plain_command c.now) (store_in self.old)) }
     {
         match c {
+            Command::Skip => Ok(EMPTY),
             Command::Assign { target, value } => {
-                let value = self.expr(value, frame);
-                self.assign(target.name, value, frame)?;
-                Ok(valued(value))
+                let mut before = NONE;
+                let value = self.expr(alloc, value, frame, &mut before)?;
+                self.set(Entry::Temp(target.name), value)?;
+                Ok(placed(before, valued(value)))
             }
             Command::Write { object, value } => {
-                let value = self.expr(value, frame);
-                self.write(object.name, value, frame)?;
-                Ok(guarded(frame.sites, value))
+                let mut before = NONE;
+                let value = self.expr(alloc, value, frame, &mut before)?;
+                let bounds = frame.object(object.name);
+                self.raise(
+                    Entry::Object(bounds.place as u128),
+                    written(frame.sites, value),
+                )?;
+                Ok(placed(before, guarded(frame.sites, bounds, value)))
             }
-            Command::Print { value } => Ok(valued(self.expr(value, frame))),
+            Command::Print { value } => {
+                let mut before = NONE;
+                let value = self.expr(alloc, value, frame, &mut before)?;
+                Ok(placed(before, valued(value)))
+            }
             Command::If { test, yes, no } => {
-                let test = self.cond(test, frame);
-                let before = self.keep_branches(alloc, yes, no, frame)?;
+                let mut before = NONE;
+                let test = self.tests(alloc, test.tests.as_slice(), NOTHING, frame, &mut before)?;
+                let start = self.log.len();
                 let yes = self.measure_command(alloc, yes, frame)?;
-                let after = self.keep_again(alloc, before.as_slice(), frame)?;
-                self.take_back(before.as_slice(), frame)?;
+                let first = self.reopen(alloc, start)?;
                 let no = self.measure_command(alloc, no, frame)?;
-                self.raise(after.as_slice(), frame)?;
-                Ok(chosen(test, yes, no))
+                self.join(alloc, start, first.as_slice())?;
+                Ok(placed(before, chosen(around(test), yes, no)))
             }
-            Command::Block { commands } => self.measure_commands(alloc, commands.as_slice(), frame),
-            Command::Skip
-            | Command::SetField { .. }
-            | Command::SetRow { .. }
-            | Command::Foreach { .. }
-            | Command::Insert { .. }
-            | Command::Delete { .. }
-            | Command::Update { .. } => Ok(EMPTY),
+            Command::Block { commands } => {
+                let all = self.measure_commands(alloc, commands.as_slice(), frame)?;
+                Ok(all.all)
+            }
+            Command::SetField {
+                relation,
+                index,
+                field,
+                value,
+            } => {
+                let field = frame.field(relation.name, field.name);
+                let slots = frame.slots(relation.name);
+                let mut before = NONE;
+                match frame.literal(index) {
+                    Some(number) => {
+                        let slot = slot_at(number, slots);
+                        let value = self.expr(alloc, value, frame, &mut before)?;
+                        self.raise_slot(field, written(frame.sites, value), slot)?;
+                        Ok(slot_writing(frame.sites, field, value, before, slot))
+                    }
+                    None => {
+                        let index = self.expr(alloc, index, frame, &mut before)?;
+                        let value = self.expr(alloc, value, frame, &mut before)?;
+                        self.raise_chain(field, written(frame.sites, value), slots)?;
+                        let test = around(within_tests(field, value, NOTHING));
+                        let chain = chain_writing(frame.sites, index, value, slots);
+                        Ok(placed(before, chosen(test, chain, EMPTY)))
+                    }
+                }
+            }
+            Command::SetRow { row, field, value } => {
+                self.set_row(alloc, frame.row(row.name), field.name, value, frame)
+            }
+            Command::Foreach {
+                row,
+                relation,
+                test,
+                body,
+            } => {
+                let mut all = NONE;
+                for slot in frame.slots(relation.name) {
+                    let rows = with_row(alloc, frame.rows, row.name, *slot)?;
+                    let inner = frame.bound(rows.as_slice(), row.name, *slot);
+                    let test = self.visit(alloc, test, *slot, &inner, &mut all)?;
+                    let start = self.log.len();
+                    let body = self.measure_commands(alloc, body.as_slice(), &inner)?;
+                    self.close(alloc, start)?;
+                    all = with_one(all, chosen(around(test), body.all, EMPTY));
+                }
+                Ok(all.all)
+            }
+            Command::Insert {
+                relation,
+                fields,
+                into,
+            } => {
+                let slots = frame.slots(relation.name);
+                let mut before = NONE;
+                let filled = self.fillings(
+                    alloc,
+                    relation.name,
+                    fields.as_slice(),
+                    frame,
+                    &mut before,
+                )?;
+                let measure = self.inserting(frame.sites, filled.as_slice(), slots, before);
+                self.insert(alloc, frame.sites, filled.as_slice(), slots, into.name)?;
+                Ok(measure)
+            }
+            Command::Delete {
+                row,
+                relation,
+                test,
+            } => self.delete(alloc, row.name, test, frame.slots(relation.name), frame),
+            Command::Update {
+                row,
+                relation,
+                test,
+                field,
+                value,
+            } => self.update(
+                alloc,
+                row.name,
+                test,
+                field.name,
+                value,
+                frame.slots(relation.name),
+                frame,
+            ),
         }
     }
 
@@ -68,16 +190,16 @@ impl Extents {
         alloc: Global,
         cs: &[Command],
         frame: &Frame<'_>,
-    ) -> Result<Measure, Memory>
-        ensures measure { IfOk result (λ m. m ≡ all_measured (setting frame.now)
-            (commands (map plain_command cs.now)) (sizes_in frame.now.sites self.old) empty) }
-        ensures sizes { OnOk result (sizes_in frame.now.sites self.new ≡ sizes_after_all (setting frame.now)
-            (commands (map plain_command cs.now)) (sizes_in frame.now.sites self.old)) }
+    ) -> Result<Before, Memory>
+        ensures measure { IfOk result (λ b. b ≡ all_measured (setting frame.now)
+            (commands (map plain_command cs.now)) (store_in self.old) none) }
+        ensures store { OnOk result (store_in self.new ≡ after_all (setting frame.now)
+            (commands (map plain_command cs.now)) (store_in self.old)) }
     {
-        let mut all = EMPTY;
+        let mut all = NONE;
         for c in cs {
             let one = self.measure_command(alloc, c, frame)?;
-            all = followed(all, one);
+            all = with_one(all, one);
         }
         Ok(all)
     }

@@ -1,23 +1,95 @@
-//! Sizes and depths of phrases.
+//! Sizes, depths and weights of phrases.
 
-ghost use Rattle.std.specs.Prelude.{◌≡◌};
-ghost use Rattle.homeo_size.specs.Parts.{beside, around, greater, unwritten, written};
+ghost use Rattle.std.specs.Prelude.{◌≡◌, suc, pos};
+ghost use Rattle.homeo_meaning.specs.Weights.{number_weight};
+ghost use Rattle.homeo_size.specs.Numbers.{weight_cap};
+ghost use Rattle.homeo_size.specs.Parts.{literal, beside, plus, times, around, summed, compared, greater, unwritten, written, within_tests, is_equal};
+ghost use Rattle.homeo_meaning.specs.Scenes.{plain_spot};
 
-use crate::numbers::capped;
+use crate::numbers::{capped, weight_capped};
+use homeo_meaning::Spot;
 
-/// The size and the depth of a phrase, each told up to BEYOND.
+/// The size, the depth and the weight of a phrase, each told up to its cap. A test or a condition has the greatest
+/// weight of its expressions.
 #[derive(Clone, Copy, Debug, PartialEq, Eq)]
 pub(crate) struct Extent {
     pub(crate) size: u64,
     pub(crate) depth: u64,
+    pub(crate) weight: u64,
 }
 
-/// The extent of a phrase without parts.
-pub(crate) const SINGLE: Extent = Extent { size: 1, depth: 1 };
+/// The extent of a temporary that nothing is assigned to.
+pub(crate) const SINGLE: Extent = Extent {
+    size: 1,
+    depth: 1,
+    weight: 1,
+};
+
+/// The extent of the test that always passes.
+pub(crate) const TRUTH: Extent = Extent {
+    size: 1,
+    depth: 1,
+    weight: 0,
+};
 
 /// The extent of no phrase at all.
-pub(crate) const NOTHING: Extent = Extent { size: 0, depth: 0 };
+pub(crate) const NOTHING: Extent = Extent {
+    size: 0,
+    depth: 0,
+    weight: 0,
+};
 
+/// The extent of no factor.
+pub(crate) const NO_FACTOR: Extent = Extent {
+    size: 0,
+    depth: 0,
+    weight: 1,
+};
+
+/// The weight of a number: its size, and at least 1.
+#[tactic(auto, unfolding(crate::specs::Key::words, homeo_meaning::specs::Key::words))]
+pub(crate) fn number_weight(n: i64) -> u64
+    ensures { result ≡ weight_cap (number_weight n) }
+{
+    weight_capped(n.unsigned_abs().max(1))
+}
+
+#[tactic(auto, unfolding(crate::specs::Key::words))]
+pub(crate) fn literal(n: i64) -> Extent
+    ensures { result ≡ literal n }
+{
+    Extent {
+        size: 1,
+        depth: 1,
+        weight: number_weight(n),
+    }
+}
+
+/// The extent of a literal that is not negative.
+#[tactic(auto, unfolding(crate::specs::Key::words, homeo_meaning::specs::Key::words))]
+pub(crate) fn natural(n: u64) -> Extent
+    ensures { result ≡ literal (pos n) }
+{
+    Extent {
+        size: 1,
+        depth: 1,
+        weight: weight_capped(n.max(1)),
+    }
+}
+
+/// The extent of the literal after a number that is not negative.
+#[tactic(auto, unfolding(crate::specs::Key::words, homeo_meaning::specs::Key::words))]
+pub(crate) fn successor(n: u64) -> Extent
+    ensures { result ≡ literal (pos (suc n)) }
+{
+    Extent {
+        size: 1,
+        depth: 1,
+        weight: weight_capped(n.saturating_add(1)),
+    }
+}
+
+/// The extent of tests, or of one beside another.
 #[tactic(auto, unfolding(crate::specs::Key::words))]
 pub(crate) fn beside(a: Extent, b: Extent) -> Extent
     ensures { result ≡ beside a b }
@@ -25,6 +97,31 @@ pub(crate) fn beside(a: Extent, b: Extent) -> Extent
     Extent {
         size: capped(a.size.saturating_add(b.size)),
         depth: a.depth.max(b.depth),
+        weight: a.weight.max(b.weight),
+    }
+}
+
+/// The extent of terms, with one more.
+#[tactic(auto, unfolding(crate::specs::Key::words))]
+pub(crate) fn plus(a: Extent, b: Extent) -> Extent
+    ensures { result ≡ plus a b }
+{
+    Extent {
+        size: capped(a.size.saturating_add(b.size)),
+        depth: a.depth.max(b.depth),
+        weight: weight_capped(a.weight.saturating_add(b.weight)),
+    }
+}
+
+/// The extent of factors, with one more.
+#[tactic(auto, unfolding(crate::specs::Key::words))]
+pub(crate) fn times(a: Extent, b: Extent) -> Extent
+    ensures { result ≡ times a b }
+{
+    Extent {
+        size: capped(a.size.saturating_add(b.size)),
+        depth: a.depth.max(b.depth),
+        weight: weight_capped(a.weight.saturating_mul(b.weight)),
     }
 }
 
@@ -36,7 +133,27 @@ pub(crate) fn around(parts: Extent) -> Extent
     Extent {
         size: capped(parts.size.saturating_add(1)),
         depth: capped(parts.depth.saturating_add(1)),
+        weight: parts.weight,
     }
+}
+
+/// The extent of a sum whose terms have this extent.
+#[tactic(auto, unfolding(crate::specs::Key::words))]
+pub(crate) fn summed(terms: Extent) -> Extent
+    ensures { result ≡ summed terms }
+{
+    Extent {
+        size: capped(terms.size.saturating_add(1)),
+        depth: capped(terms.depth.saturating_add(1)),
+        weight: terms.weight.max(1),
+    }
+}
+
+#[tactic(auto, unfolding(crate::specs::Key::words))]
+pub(crate) fn compared(a: Extent, b: Extent) -> Extent
+    ensures { result ≡ compared a b }
+{
+    around(beside(a, b))
 }
 
 #[tactic(auto, unfolding(crate::specs::Key::words))]
@@ -46,17 +163,19 @@ pub(crate) fn greater(a: Extent, b: Extent) -> Extent
     Extent {
         size: a.size.max(b.size),
         depth: a.depth.max(b.depth),
+        weight: a.weight.max(b.weight),
     }
 }
 
 /// The extent of an object that nothing is written to: the sum of its base and its sites' deltas.
 #[tactic(auto, unfolding(crate::specs::Key::words))]
-pub(crate) fn unwritten(sites: u64) -> Extent
-    ensures { result ≡ unwritten sites }
+pub(crate) fn unwritten(sites: u64, weight: u64) -> Extent
+    ensures { result ≡ unwritten sites weight }
 {
     Extent {
         size: capped(sites.saturating_add(2)),
         depth: 2,
+        weight,
     }
 }
 
@@ -69,5 +188,24 @@ pub(crate) fn written(sites: u64, value: Extent) -> Extent
     Extent {
         size: capped(value.size.saturating_add(deltas)),
         depth: capped(value.depth.saturating_add(3)),
+        weight: value.weight,
     }
+}
+
+/// The extent of tests, with those that a value is within the bounds.
+#[tactic(auto, unfolding(crate::specs::Key::words, homeo_meaning::specs::Key::words))]
+pub(crate) fn within_tests(bounds: Spot, value: Extent, tests: Extent) -> Extent
+    ensures { result ≡ within_tests (plain_spot bounds) value tests }
+{
+    let above = compared(literal(bounds.lo), value);
+    let below = compared(value, literal(bounds.hi));
+    beside(beside(tests, above), below)
+}
+
+/// The extent of the condition that a value is this number.
+#[tactic(auto, unfolding(crate::specs::Key::words))]
+pub(crate) fn is_equal(value: Extent, number: u64) -> Extent
+    ensures { result ≡ is_equal value (pos number) }
+{
+    around(beside(NOTHING, compared(value, natural(number))))
 }

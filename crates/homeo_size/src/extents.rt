@@ -1,56 +1,87 @@
-//! The extents of names in tables.
+//! The extents of names in tables, with a log of their changes.
 
-ghost use Rattle.std.specs.Prelude.{◌≡◌, OnOk};
-ghost use Rattle.homeo_size.specs.Sizing.{with_temp, sizes_written, name_sized, object_sized, entry_sized, with_entry};
-ghost use Rattle.homeo_size.specs.Tables.{sizes_in, setting};
+ghost use Rattle.std.specs.Prelude.{◌≡◌, ◌≤◌, length, map, IfOk, OnOk};
+ghost use Rattle.homeo_size.specs.Sizing.{name_sized, slot_sized};
+ghost use Rattle.homeo_size.specs.Store.{entry_sized, with_entry, kept_in, set_entry, raise_entry, back_to, since, restored, raised, touched, closed, reopened, higher, joined};
+ghost use Rattle.homeo_size.specs.Tables.{sizes_in, store_in};
 
-use crate::extent::{Extent, SINGLE, greater, unwritten, written};
-use crate::frame::Frame;
-use crate::padded::{item_or, put};
+use crate::extent::{Extent, SINGLE, greater, unwritten};
+use homeo_meaning::padded::put;
 use homeo_syntax::Memory;
-
-/// The extents of the objects, by number, and of the temporaries, by the numbers of their names: past the ends stands
-/// what nothing changed.
-#[derive(Drop)]
-pub(crate) struct Extents {
-    pub(crate) objects: Vec<Extent>,
-    pub(crate) temps: Vec<Extent>,
-}
+use std::alloc::Global;
 
 /// An entry of the tables.
 #[derive(Clone, Copy)]
 pub(crate) enum Entry {
     /// An object, by its number.
-    Object(usize),
+    Object(u128),
     /// A temporary, by the number of its name.
     Temp(u32),
 }
 
+/// An entry of the tables, and its extent at some time.
+#[derive(Clone, Copy)]
+pub(crate) struct Kept {
+    pub(crate) entry: Entry,
+    pub(crate) extent: Extent,
+}
+
+/// The extents of the objects, by number, and of the temporaries, by the numbers of their names: past the ends stands
+/// what nothing changed. The log has what each changed entry was before, in the order of the changes.
+#[derive(Drop)]
+pub(crate) struct Extents {
+    pub(crate) objects: Vec<Extent>,
+    pub(crate) temps: Vec<Extent>,
+    pub(crate) log: Vec<Kept>,
+    pub(crate) sites: u64,
+}
+
 impl Extents {
     #[tactic(auto, unfolding(crate::specs::Key::words))]
-    pub(crate) fn entry(&self, entry: Entry, frame: &Frame<'_>) -> Extent
-        ensures { result ≡ entry_sized (sizes_in frame.now.sites self.now) entry }
+    pub(crate) fn entry(&self, entry: Entry) -> Extent
+        ensures { result ≡ entry_sized (sizes_in self.now) entry }
     {
         match entry {
-            Entry::Object(place) => {
-                item_or(self.objects.as_slice(), place, unwritten(frame.sites))
-            }
-            Entry::Temp(name) => item_or(self.temps.as_slice(), name as usize, SINGLE),
+            Entry::Object(place) => self.object(place),
+            Entry::Temp(name) => self.temp(name),
         }
     }
 
-    pub(crate) fn set(
-        &mut self,
-        entry: Entry,
-        extent: Extent,
-        frame: &Frame<'_>,
-    ) -> Result<(), Memory>
-        ensures { OnOk result (sizes_in frame.now.sites self.new ≡
-            with_entry (sizes_in frame.now.sites self.old) entry extent) }
+    #[tactic(auto, unfolding(crate::specs::Key::words))]
+    pub(crate) fn object(&self, place: u128) -> Extent
+        ensures { result ≡ (sizes_in self.now).objects place }
+    {
+        if place < self.objects.len() as u128 {
+            self.objects[place as usize]
+        } else {
+            unwritten(self.sites, 1)
+        }
+    }
+
+    #[tactic(auto, unfolding(crate::specs::Key::words))]
+    pub(crate) fn temp(&self, name: u32) -> Extent
+        ensures { result ≡ (sizes_in self.now).temps name }
+    {
+        homeo_meaning::padded::item_or(self.temps.as_slice(), name as usize, SINGLE)
+    }
+
+    /// Changes an entry, and leaves the log as it is.
+    fn put(&mut self, entry: Entry, extent: Extent) -> Result<(), Memory>
+        ensures sizes { OnOk result (sizes_in self.new ≡ with_entry (sizes_in self.old) entry extent) }
+        ensures log { self.new.log.items ≡ self.old.log.items }
     {
         match entry {
             Entry::Object(place) => {
-                put(&mut self.objects, place, extent, unwritten(frame.sites))?;
+                // No memory has a table of more places than this.
+                if place > u64::MAX as u128 {
+                    return Err(Memory);
+                }
+                put(
+                    &mut self.objects,
+                    place as usize,
+                    extent,
+                    unwritten(self.sites, 1),
+                )?;
                 Ok(())
             }
             Entry::Temp(name) => {
@@ -60,50 +91,144 @@ impl Extents {
         }
     }
 
-    /// The extent of a parameter's argument, or else of the temporary.
     #[tactic(auto, unfolding(crate::specs::Key::words))]
-    pub(crate) fn name(&self, name: u32, frame: &Frame<'_>) -> Extent
-        ensures { result ≡ name_sized (setting frame.now) (sizes_in frame.now.sites self.now) name }
+    fn kept(&self, entry: Entry) -> Kept
+        ensures { result ≡ kept_in (sizes_in self.now) entry }
     {
-        if frame.is_given(name) {
-            SINGLE
-        } else {
-            self.entry(Entry::Temp(name), frame)
+        Kept {
+            entry,
+            extent: self.entry(entry),
         }
     }
 
-    #[tactic(auto, unfolding(crate::specs::Key::words))]
-    pub(crate) fn object(&self, name: u32, frame: &Frame<'_>) -> Extent
-        ensures { result ≡ object_sized (setting frame.now) (sizes_in frame.now.sites self.now) name }
+    pub(crate) fn set(&mut self, entry: Entry, extent: Extent) -> Result<(), Memory>
+        ensures { OnOk result (store_in self.new ≡ set_entry (store_in self.old) entry extent) }
     {
-        self.entry(Entry::Object(frame.place(name)), frame)
+        let kept = self.kept(entry);
+        self.log.push(kept)?;
+        self.put(entry, extent)
+    }
+
+    /// Makes an entry the greater of what it is and of this: what comes of it where a write may be refused.
+    #[tactic(auto, unfolding(crate::specs::Key::words))]
+    pub(crate) fn raise(&mut self, entry: Entry, extent: Extent) -> Result<(), Memory>
+        ensures { OnOk result (store_in self.new ≡ raise_entry (store_in self.old) entry extent) }
+    {
+        let higher = greater(extent, self.entry(entry));
+        self.set(entry, higher)
+    }
+
+    /// Takes all changes back that came after so many.
+    fn take_back(&mut self, start: usize) -> Result<(), Memory>
+        ensures { OnOk result (store_in self.new ≡ back_to start (store_in self.old)) }
+    {
+        while self.log.len() > start {
+            match self.log.pop() {
+                Some(kept) => self.put(kept.entry, kept.extent)?,
+                None => {}
+            }
+        }
+        Ok(())
+    }
+
+    /// The entries that changed after so many changes, as they are now.
+    fn since(&self, alloc: Global, start: usize) -> Result<Vec<Kept>, Memory>
+        ensures { IfOk result (λ changed. changed.items ≡ since start (store_in self.now)) }
+    {
+        let mut changed = Vec::new(alloc);
+        for index in start..self.log.len() {
+            let kept = self.kept(self.log[index].entry);
+            changed.push(kept)?;
+        }
+        Ok(changed)
+    }
+
+    #[tactic(auto, using(crate::proofs::Along::changes))]
+    fn restore(&mut self, kept: &[Kept]) -> Result<(), Memory>
+        ensures { OnOk result (store_in self.new ≡ restored kept.now (store_in self.old)) }
+    {
+        for k in kept {
+            self.set(k.entry, k.extent)?;
+        }
+        Ok(())
+    }
+
+    #[tactic(auto, using(crate::proofs::Along::changes))]
+    fn raise_all(&mut self, kept: &[Kept]) -> Result<(), Memory>
+        ensures { OnOk result (store_in self.new ≡ raised kept.now (store_in self.old)) }
+    {
+        for k in kept {
+            self.raise(k.entry, k.extent)?;
+        }
+        Ok(())
+    }
+
+    /// Logs entries, and leaves them as they are.
+    #[tactic(auto, using(crate::proofs::Along::changes, crate::proofs::Along::store_sizes))]
+    fn touch(&mut self, kept: &[Kept]) -> Result<(), Memory>
+        ensures { OnOk result (store_in self.new ≡ touched kept.now (store_in self.old)) }
+    {
+        for k in kept {
+            let now = self.entry(k.entry);
+            self.set(k.entry, now)?;
+        }
+        Ok(())
+    }
+
+    /// Ends a branch beside one that changes nothing: of each entry the greater stays.
+    #[tactic(auto, unfolding(crate::specs::Key::words))]
+    pub(crate) fn close(&mut self, alloc: Global, start: usize) -> Result<(), Memory>
+        ensures { OnOk result (store_in self.new ≡ closed start (store_in self.old)) }
+    {
+        let changed = self.since(alloc, start)?;
+        self.take_back(start)?;
+        self.raise_all(changed.as_slice())
+    }
+
+    /// Ends a first branch, and begins the second where the first began. Gives what the first changed.
+    #[tactic(auto, unfolding(crate::specs::Key::words))]
+    pub(crate) fn reopen(&mut self, alloc: Global, start: usize) -> Result<Vec<Kept>, Memory>
+        ensures changed { IfOk result (λ changed. changed.items ≡ since start (store_in self.old)) }
+        ensures store { OnOk result (store_in self.new ≡ reopened start (store_in self.old)) }
+    {
+        let changed = self.since(alloc, start)?;
+        self.take_back(start)?;
+        self.touch(changed.as_slice())?;
+        Ok(changed)
     }
 
     #[tactic(auto, unfolding(crate::specs::Key::words))]
-    pub(crate) fn assign(
-        &mut self,
-        name: u32,
-        value: Extent,
-        frame: &Frame<'_>,
-    ) -> Result<(), Memory>
-        ensures { OnOk result (sizes_in frame.now.sites self.new ≡
-            with_temp (sizes_in frame.now.sites self.old) name value) }
+    fn higher(&self, kept: Kept) -> Kept
+        ensures { result ≡ higher (sizes_in self.now) kept }
     {
-        self.set(Entry::Temp(name), value, frame)
+        Kept {
+            entry: kept.entry,
+            extent: greater(kept.extent, self.entry(kept.entry)),
+        }
     }
 
-    /// A write that is refused leaves the old extent: the greater of both stays.
-    #[tactic(auto, unfolding(crate::specs::Key::words))]
-    pub(crate) fn write(
-        &mut self,
-        name: u32,
-        value: Extent,
-        frame: &Frame<'_>,
-    ) -> Result<(), Memory>
-        ensures { OnOk result (sizes_in frame.now.sites self.new ≡
-            sizes_written (setting frame.now) (sizes_in frame.now.sites self.old) name value) }
+    /// The entries, each as it was kept or as it is now, whichever is more.
+    fn highest(&self, alloc: Global, kept: &[Kept]) -> Result<Vec<Kept>, Memory>
+        ensures { IfOk result (λ all. all.items ≡ map (higher (sizes_in self.now)) kept.now) }
     {
-        let raised = greater(written(frame.sites, value), self.object(name, frame));
-        self.set(Entry::Object(frame.place(name)), raised, frame)
+        let mut all = Vec::new(alloc);
+        for k in kept {
+            all.push(self.higher(*k))?;
+        }
+        Ok(all)
+    }
+
+    /// Ends a second branch: of each entry the greater of both branches stays. The log grows by no more than the changes
+    /// of both, so that branches within branches do not double it.
+    #[tactic(auto, unfolding(crate::specs::Key::words))]
+    pub(crate) fn join(&mut self, alloc: Global, start: usize, first: &[Kept]) -> Result<(), Memory>
+        ensures { OnOk result (store_in self.new ≡ joined start first.now (store_in self.old)) }
+    {
+        let second = self.since(alloc, start)?;
+        self.take_back(start)?;
+        self.restore(first)?;
+        let both = self.highest(alloc, second.as_slice())?;
+        self.take_back(start)?;
+        self.restore(both.as_slice())
     }
 }

@@ -1,32 +1,149 @@
-//! What stands fixed while a body is measured.
+//! What stands fixed while a phrase is measured.
 
-ghost use Rattle.std.specs.Prelude.{◌≡◌};
-ghost use Rattle.homeo_size.specs.Tables.{setting};
+ghost use Rattle.std.specs.Prelude.{◌≡◌, ◌∷◌, ◌++◌, [], map, option_map};
+ghost use Rattle.homeo_syntax.specs.SourceView.{plain_expr};
+ghost use Rattle.homeo_meaning.specs.Context.{spot};
+ghost use Rattle.homeo_size.specs.Sizing.{bound, missing, literal_in};
+ghost use Rattle.homeo_meaning.specs.Scenes.{plain_spot};
+ghost use Rattle.homeo_size.specs.Tables.{plain_slot, setting};
 
-use crate::padded::item_or;
-use homeo_meaning::Places;
+use crate::layout::Layout;
+use crate::slot::{Row, Slot, slot_at};
+use homeo_meaning::padded::item_or;
+use homeo_meaning::{Spot, find_field};
+use homeo_syntax::Expr;
 
-/// What a body is measured in: the objects' places, which names are given as arguments, by their numbers, and the
-/// number of sites.
+/// What names stand for: the declarations, the arguments by their parameters' names, and the rows in force, of which a
+/// later one hides an earlier one of its name.
 #[derive(Clone, Copy)]
 pub(crate) struct Frame<'a> {
-    pub(crate) objects: &'a Places,
-    pub(crate) given: &'a [bool],
+    pub(crate) layout: &'a Layout<'a>,
+    pub(crate) arguments: &'a [Option<i64>],
+    pub(crate) rows: &'a [Row<'a>],
     pub(crate) sites: u64,
 }
 
-impl Frame<'_> {
-    #[tactic(auto, unfolding(crate::specs::Key::words))]
-    pub(crate) fn place(&self, name: u32) -> usize
-        ensures { result ≡ (setting self.now).place name }
+/// The literal that stands for a field of a slot that isn't there.
+#[tactic(auto, unfolding(crate::specs::Key::words))]
+fn missing(slot: Option<Slot<'_>>) -> Option<i64>
+    ensures { result ≡ missing (option_map plain_slot slot.entry) }
+{
+    match slot {
+        Some(_) => None,
+        None => Some(0),
+    }
+}
+
+impl<'a> Frame<'a> {
+    #[tactic(auto, unfolding(crate::specs::Key::words, homeo_meaning::specs::Key::words))]
+    pub(crate) fn object(&self, name: u32) -> Spot
+        ensures { plain_spot result ≡ (setting self.now).object name }
     {
-        self.objects.get(name)
+        let place = self.layout.object_places.get(name);
+        match self.layout.objects.get(place) {
+            Some(object) => Spot {
+                place,
+                lo: object.lo.value,
+                hi: object.hi.value,
+            },
+            None => Spot {
+                place,
+                lo: 0,
+                hi: 0,
+            },
+        }
     }
 
     #[tactic(auto, unfolding(crate::specs::Key::words))]
-    pub(crate) fn is_given(&self, name: u32) -> bool
-        ensures { result ≡ (setting self.now).given name }
+    pub(crate) fn slots(&self, relation: u32) -> &[Slot<'a>]
+        ensures { map plain_slot result.now ≡ (setting self.now).slots relation }
     {
-        item_or(self.given, name as usize, false)
+        match self
+            .layout
+            .relations
+            .as_slice()
+            .get(self.layout.relation_places.get(relation))
+        {
+            Some(laid) => laid.slots.as_slice(),
+            None => &[],
+        }
+    }
+
+    /// The field of a relation.
+    #[tactic(auto, unfolding(crate::specs::Key::words, homeo_meaning::specs::Key::words))]
+    pub(crate) fn field(&self, relation: u32, field: u32) -> Spot
+        ensures { plain_spot result ≡ spot ((setting self.now).fields relation) field }
+    {
+        match self
+            .layout
+            .relations
+            .as_slice()
+            .get(self.layout.relation_places.get(relation))
+        {
+            Some(laid) => find_field(laid.fields, field),
+            None => find_field(&[], field),
+        }
+    }
+
+    #[tactic(auto, unfolding(crate::specs::Key::words))]
+    pub(crate) fn argument(&self, name: u32) -> Option<i64>
+        ensures { result ≡ (setting self.now).arguments name }
+    {
+        item_or(self.arguments, name as usize, None)
+    }
+
+    /// The slot that a row stands for.
+    #[tactic(auto, using(crate::proofs::Along::lookups), unfolding(crate::specs::Key::words))]
+    pub(crate) fn row(&self, name: u32) -> Slot<'a>
+        ensures { plain_slot result ≡ (setting self.now).rows name }
+    {
+        let mut slot = self.layout.outside;
+        for row in self.rows {
+            if row.name == name {
+                slot = row.slot;
+            }
+        }
+        slot
+    }
+
+    /// With one more row in force.
+    pub(crate) fn bound<'b>(&self, rows: &'b [Row<'b>], name: u32, slot: Slot<'b>) -> Frame<'b>
+    where
+        'a: 'b,
+        requires { rows.now ≡ self.now.rows.now ++ record { name = name; slot = slot } ∷ [] }
+        ensures { setting result ≡ bound (setting self.now) name (plain_slot slot.entry) }
+    {
+        Frame {
+            layout: self.layout,
+            arguments: self.arguments,
+            rows,
+            sites: self.sites,
+        }
+    }
+
+    /// The number that an expression is as a literal.
+    #[tactic(auto, using(homeo_syntax::proofs::SourceViews::phrase_views, crate::proofs::Equations::literals))]
+    pub(crate) fn literal(&self, e: &Expr) -> Option<i64>
+        ensures { result ≡ literal_in (setting self.now) (plain_expr e.now) }
+    {
+        match e {
+            Expr::Literal(n) => Some(*n),
+            Expr::Name(x) => self.argument(x.name),
+            Expr::Field {
+                relation,
+                index,
+                ..
+            } => match self.literal(index) {
+                Some(value) => missing(slot_at(value, self.slots(relation.name))),
+                None => None,
+            },
+            Expr::Read(_)
+            | Expr::Sum(_)
+            | Expr::Product(_)
+            | Expr::Neg(_)
+            | Expr::Row { .. }
+            | Expr::Count { .. }
+            | Expr::Total { .. } => None,
+        }
     }
 }

@@ -3,18 +3,25 @@
 
 mod arguments;
 mod call;
+mod chains;
 mod commands;
 mod extent;
 mod extents;
 mod frame;
-mod keeping;
+mod layout;
+mod loops;
+mod nodes;
 mod numbers;
-mod padded;
 mod phrases;
+mod prints;
+mod rows;
+mod slot;
 mod steps;
 #[cfg(test)]
 mod tests;
 
 pub use call::measure;
-pub use numbers::BEYOND;
+pub use layout::Layout;
+pub use numbers::{BEYOND, TOO_HEAVY};
+pub use prints::{TOO_MANY_PRINTS, count_prints};
 pub use steps::Measure;

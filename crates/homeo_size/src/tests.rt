@@ -1,16 +1,20 @@
-//! A call that is measured, told by hand from the sizes of its L form.
+//! Calls that are measured, told by hand from the sizes of their L forms.
 
-ghost use Rattle.std.specs.Prelude.{◌≡◌, true, map, IfOk, OnOk};
-ghost use Rattle.homeo_syntax.specs.SourceView.{commands, plain_expr, plain_cond, plain_command, plain_transaction};
-ghost use Rattle.homeo_meaning.specs.Built.{is_built_expr, is_built_cond, is_built, are_built};
+ghost use Rattle.std.specs.Prelude.{◌≡◌, ◌≤◌, [], ◌∷◌, pos, length, IfOk};
 
-use crate::call::measure;
-use homeo_meaning::Places;
+use crate::{Layout, Measure, TOO_MANY_PRINTS, count_prints, measure};
 use homeo_syntax::{
-    Command, Compare, Cond, Expr, Ident, List, Memory, Number, RangeDecl, Test, Transaction,
+    Command, Compare, Cond, Expr, FieldValue, Ident, List, Memory, Number, ObjectDecl, RangeDecl,
+    RelationDecl, Test, Transaction,
 };
 use std::alloc::Global;
 use std::test::Fail;
+
+fn number(value: i64) -> Number
+    ensures { result.value ≡ value }
+{
+    Number { value, offset: 0 }
+}
 
 const ARGUMENT: Ident = Ident { name: 0, offset: 0 };
 
@@ -18,45 +22,72 @@ const TEMP: Ident = Ident { name: 1, offset: 0 };
 
 const OBJECT: Ident = Ident { name: 2, offset: 0 };
 
-#[tactic(auto, using(homeo_syntax::proofs::SourceViews::phrase_views), unfolding(homeo_meaning::specs::Key::words, homeo_syntax::specs::Key::words))]
-fn name(x: Ident) -> Expr
-    ensures { is_built_expr (plain_expr result) ≡ true }
-{
-    Expr::Name(x)
+const RELATION: Ident = Ident { name: 3, offset: 0 };
+
+const FIELD: Ident = Ident { name: 4, offset: 0 };
+
+const ROW: Ident = Ident { name: 5, offset: 0 };
+
+const COUNTED: Ident = Ident { name: 6, offset: 0 };
+
+const SITES: u64 = 2;
+
+const DEEP: u64 = 30;
+
+/// A declaration within 0..9.
+fn digit(name: Ident) -> RangeDecl {
+    RangeDecl {
+        name,
+        lo: number(0),
+        hi: number(9),
+    }
 }
 
-#[tactic(auto, using(homeo_syntax::proofs::SourceViews::phrase_views), unfolding(homeo_meaning::specs::Key::words, homeo_syntax::specs::Key::words))]
-fn read(x: Ident) -> Expr
-    ensures { is_built_expr (plain_expr result) ≡ true }
-{
-    Expr::Read(x)
+fn object() -> ObjectDecl {
+    ObjectDecl {
+        name: OBJECT,
+        lo: number(0),
+        hi: number(9),
+        start: number(0),
+    }
 }
 
-#[tactic(auto, using(homeo_syntax::proofs::SourceViews::phrase_views), unfolding(homeo_meaning::specs::Key::words, homeo_syntax::specs::Key::words))]
-fn literal(n: i64) -> Expr
-    ensures { is_built_expr (plain_expr result) ≡ true }
+/// A relation of so many slots with one field.
+fn relation(alloc: Global, slots: u8) -> Result<RelationDecl, Memory>
+    ensures slots { IfOk result (λ r. r.slots.value ≡ pos slots) }
+    ensures fields { IfOk result (λ r. length r.fields.items ≡ 1) }
 {
-    Expr::Literal(n)
+    let mut fields = List::new(alloc);
+    fields.push(digit(FIELD))?;
+    Ok(RelationDecl {
+        name: RELATION,
+        slots: number(slots as i64),
+        fields,
+    })
 }
 
-#[tactic(auto, using(homeo_syntax::proofs::SourceViews::phrase_views), unfolding(homeo_meaning::specs::Key::words, homeo_syntax::specs::Key::words))]
-fn sum(alloc: Global, a: Expr, b: Expr) -> Result<Expr, Memory>
-    requires first { is_built_expr (plain_expr a) ≡ true }
-    requires second { is_built_expr (plain_expr b) ≡ true }
-    ensures { IfOk result (λ e. is_built_expr (plain_expr e) ≡ true) }
+fn only(alloc: Global, relation: RelationDecl) -> Result<List<RelationDecl>, Memory>
+    ensures { IfOk result (λ l. l.items ≡ relation ∷ []) }
 {
+    let mut relations = List::new(alloc);
+    relations.push(relation)?;
+    Ok(relations)
+}
+
+fn sum(alloc: Global, a: Expr, b: Expr) -> Result<Expr, Memory> {
     let mut terms = List::new(alloc);
     terms.push(a)?;
     terms.push(b)?;
     Ok(Expr::Sum(terms))
 }
 
-#[tactic(auto, using(homeo_syntax::proofs::SourceViews::phrase_views), unfolding(homeo_meaning::specs::Key::words, homeo_syntax::specs::Key::words))]
-fn less(alloc: Global, left: Expr, right: Expr) -> Result<Cond, Memory>
-    requires left { is_built_expr (plain_expr left) ≡ true }
-    requires right { is_built_expr (plain_expr right) ≡ true }
-    ensures { IfOk result (λ c. is_built_cond (plain_cond c) ≡ true) }
-{
+fn always(alloc: Global) -> Cond {
+    Cond {
+        tests: List::new(alloc),
+    }
+}
+
+fn less(alloc: Global, left: Expr, right: Expr) -> Result<Cond, Memory> {
     let mut tests = List::new(alloc);
     tests.push(Test::Compare {
         op: Compare::Less,
@@ -66,75 +97,35 @@ fn less(alloc: Global, left: Expr, right: Expr) -> Result<Cond, Memory>
     Ok(Cond { tests })
 }
 
-#[tactic(auto, using(homeo_syntax::proofs::SourceViews::command_views), unfolding(homeo_meaning::specs::Key::words, homeo_syntax::specs::Key::words))]
-fn assign(value: Expr) -> Command
-    requires { is_built_expr (plain_expr value) ≡ true }
-    ensures { is_built (plain_command result) ≡ true }
-{
+fn assign(value: Expr) -> Command {
     Command::Assign {
         target: TEMP,
         value,
     }
 }
 
-#[tactic(auto, using(homeo_syntax::proofs::SourceViews::command_views), unfolding(homeo_meaning::specs::Key::words, homeo_syntax::specs::Key::words))]
-fn print(value: Expr) -> Command
-    requires { is_built_expr (plain_expr value) ≡ true }
-    ensures { is_built (plain_command result) ≡ true }
-{
-    Command::Print { value }
-}
-
-/// A write of the object, where the test holds.
-#[tactic(auto, using(homeo_syntax::proofs::SourceViews::command_views), unfolding(homeo_meaning::specs::Key::words, homeo_syntax::specs::Key::words))]
-fn write_where(alloc: Global, test: Cond, value: Expr) -> Result<Command, Memory>
-    requires test { is_built_cond (plain_cond test) ≡ true }
-    requires value { is_built_expr (plain_expr value) ≡ true }
-    ensures { IfOk result (λ c. is_built (plain_command c) ≡ true) }
-{
-    let write = Command::Write {
-        object: OBJECT,
-        value,
-    };
+fn choose(alloc: Global, test: Cond, yes: Command) -> Result<Command, Memory> {
     Ok(Command::If {
         test,
-        yes: Box::new(alloc, write)?,
+        yes: Box::new(alloc, yes)?,
         no: Box::new(alloc, Command::Skip)?,
     })
 }
 
-#[tactic(auto, using(crate::proofs::BuiltBodies::built_more))]
-fn add(body: &mut List<Command>, c: Command) -> Result<(), Memory>
-    requires so_far { are_built (commands (map plain_command body.old.items)) ≡ true }
-    requires next { is_built (plain_command c) ≡ true }
-    ensures { OnOk result (are_built (commands (map plain_command body.new.items)) ≡ true) }
-{
-    body.push(c)
+fn foreach(alloc: Global, command: Command) -> Result<Command, Memory> {
+    let mut body = List::new(alloc);
+    body.push(command)?;
+    Ok(Command::Foreach {
+        row: ROW,
+        relation: RELATION,
+        test: always(alloc),
+        body,
+    })
 }
 
-/// Doubles a temporary twice, and writes an object where it is below the argument.
-#[tactic(auto, using(crate::proofs::BuiltBodies::built_none, homeo_syntax::proofs::SourceViews::workload_views))]
-fn transaction(alloc: Global) -> Result<Transaction, Memory>
-    ensures { IfOk result (λ t. are_built (plain_transaction t).body ≡ true) }
-{
-    let mut body = List::new(alloc);
-    add(&mut body, assign(literal(1)))?;
-    add(&mut body, assign(sum(alloc, name(TEMP), name(TEMP))?))?;
-    add(&mut body, assign(sum(alloc, name(TEMP), name(TEMP))?))?;
-    let test = less(alloc, read(OBJECT), name(ARGUMENT))?;
-    let value = sum(alloc, read(OBJECT), literal(1))?;
-    add(&mut body, write_where(alloc, test, value)?)?;
-    add(&mut body, print(read(OBJECT)))?;
+fn transaction(alloc: Global, body: List<Command>) -> Result<Transaction, Memory> {
     let mut params = List::new(alloc);
-    let bound = Number {
-        value: 9,
-        offset: 0,
-    };
-    params.push(RangeDecl {
-        name: ARGUMENT,
-        lo: bound,
-        hi: bound,
-    })?;
+    params.push(digit(ARGUMENT))?;
     Ok(Transaction {
         name: ARGUMENT,
         params,
@@ -142,19 +133,136 @@ fn transaction(alloc: Global) -> Result<Transaction, Memory>
     })
 }
 
+/// What is measured of such commands where the argument is 9, and how many print commands there are.
+fn measured(alloc: Global, slots: u8, body: List<Command>) -> Result<(Option<Measure>, u64), Memory>
+    requires { slots ≤ 64 }
+{
+    let relation = relation(alloc, slots)?;
+    let relations = only(alloc, relation)?;
+    let objects = [object()];
+    let layout = Layout::of(alloc, &objects, relations.as_slice())?;
+    let transaction = transaction(alloc, body)?;
+    let measure = measure(alloc, &transaction, &[number(9)], &layout, SITES)?;
+    Ok((measure, count_prints(&transaction, &layout)))
+}
+
+/// Doubles a temporary twice, and writes an object where it is below the argument.
 #[test]
-fn a_call_is_measured(rt: HostRuntime) -> Result<(), Fail> {
+fn a_call_without_relations(rt: HostRuntime) -> Result<(), Fail> {
     let alloc = rt.alloc();
-    let mut names = Vec::new(alloc);
-    names.push(OBJECT.name)?;
-    let objects = Places::of(alloc, names)?;
-    let args = [Number {
-        value: 9,
-        offset: 0,
-    }];
-    let transaction = transaction(alloc)?;
-    let measure = measure(alloc, &transaction, &args, &objects, 2)?;
-    assert_eq!(rt; measure.size, 1 + 2 + 4 + 8 + (2 + 7 + 35 + 1) + (1 + 14));
-    assert_eq!(rt; (measure.depth, measure.rows), (6, 3));
+    let mut body = List::new(alloc);
+    body.push(assign(Expr::Literal(1)))?;
+    body.push(assign(sum(alloc, Expr::Name(TEMP), Expr::Name(TEMP))?))?;
+    body.push(assign(sum(alloc, Expr::Name(TEMP), Expr::Name(TEMP))?))?;
+    let test = less(alloc, Expr::Read(OBJECT), Expr::Name(ARGUMENT))?;
+    let value = sum(alloc, Expr::Read(OBJECT), Expr::Literal(1))?;
+    let write = Command::Write {
+        object: OBJECT,
+        value,
+    };
+    body.push(choose(alloc, test, write)?)?;
+    body.push(Command::Print {
+        value: Expr::Read(OBJECT),
+    })?;
+    let measure = Measure {
+        size: 1 + 2 + 4 + 8 + (2 + 7 + 35 + 1) + (1 + 14),
+        depth: 6,
+        weight: 9 + 1,
+        rows: 3,
+    };
+    assert_eq!(rt; measured(alloc, 3, body)?, (Some(measure), 1));
+    Ok(())
+}
+
+/// Prints, for each slot, how many slots have a field below 5.
+#[test]
+fn a_count_in_a_loop(rt: HostRuntime) -> Result<(), Fail> {
+    let alloc = rt.alloc();
+    let field = Expr::Row {
+        row: COUNTED,
+        field: FIELD,
+    };
+    let value = Expr::Count {
+        row: COUNTED,
+        relation: RELATION,
+        test: less(alloc, field, Expr::Literal(5))?,
+    };
+    let mut body = List::new(alloc);
+    body.push(foreach(alloc, Command::Print { value })?)?;
+    let printed = 1 + 2 + (2 + 13 + 4 + 1) + (2 + 13 + 6 + 1) + (2 + 13 + 8 + 1) + 8;
+    let visit = 2 + 7 + (1 + printed) + 1;
+    let measure = Measure {
+        size: 1 + (1 + 3 * visit),
+        depth: 4,
+        weight: 9,
+        rows: 9 * 9 * 9,
+    };
+    assert_eq!(rt; measured(alloc, 3, body)?, (Some(measure), 3));
+    Ok(())
+}
+
+/// Inserts a row, and prints which slot it fills.
+#[test]
+fn an_insert(rt: HostRuntime) -> Result<(), Fail> {
+    let alloc = rt.alloc();
+    let mut fields = List::new(alloc);
+    fields.push(FieldValue {
+        field: FIELD,
+        value: Expr::Literal(7),
+    })?;
+    let mut body = List::new(alloc);
+    body.push(Command::Insert {
+        relation: RELATION,
+        fields,
+        into: TEMP,
+    })?;
+    body.push(Command::Print {
+        value: Expr::Name(TEMP),
+    })?;
+    let slot = 2 + 7 + (1 + 10 + 10 + 2);
+    let insert = 1 + 2 + (2 + 7 + (3 * slot + 2) + 2);
+    let measure = Measure {
+        size: 1 + insert + 2,
+        depth: 4,
+        weight: 9,
+        rows: 5,
+    };
+    assert_eq!(rt; measured(alloc, 3, body)?, (Some(measure), 1));
+    Ok(())
+}
+
+/// Four loops within one another over 64 slots.
+#[test]
+fn far_too_many_nodes(rt: HostRuntime) -> Result<(), Fail> {
+    let alloc = rt.alloc();
+    let mut command = Command::Print {
+        value: Expr::Literal(1),
+    };
+    for _ in 0..4 {
+        command = foreach(alloc, command)?;
+    }
+    let mut body = List::new(alloc);
+    body.push(command)?;
+    assert_eq!(rt; measured(alloc, 64, body)?, (None, TOO_MANY_PRINTS));
+    Ok(())
+}
+
+/// Branches as deep within one another as a text may have them are measured without delay.
+#[test]
+fn deep_branches(rt: HostRuntime) -> Result<(), Fail> {
+    let alloc = rt.alloc();
+    let mut command = assign(Expr::Literal(1));
+    for _ in 0..DEEP {
+        command = choose(alloc, always(alloc), command)?;
+    }
+    let mut body = List::new(alloc);
+    body.push(command)?;
+    let measure = Measure {
+        size: 1 + DEEP * (2 + 1 + 1) + 2,
+        depth: 1,
+        weight: 1,
+        rows: DEEP + 1,
+    };
+    assert_eq!(rt; measured(alloc, 3, body)?, (Some(measure), 0));
     Ok(())
 }

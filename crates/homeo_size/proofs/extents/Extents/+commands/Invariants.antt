@@ -1,19 +1,29 @@
 -- What is left, after what has been measured, is as large as the whole.
 use Rattle.std.proofs.Common.{◌≡◌, map, drop}
-use Rattle.homeo_syntax.specs.SourceView.{commands, plain_command}
-use Rattle.homeo_size.specs.Parts.{empty}
-use Rattle.homeo_size.specs.Sizing.{sizes_after_all, all_measured}
-use Rattle.homeo_size.specs.Tables.{sizes_in, setting}
+use Rattle.homeo_syntax.specs.SourceView.{commands, plain_command, plain_cond}
+use Rattle.homeo_size.specs.Measuring.{after_all, all_measured, visits, each_after, each_measured}
+use Rattle.homeo_size.specs.Parts.{none}
+use Rattle.homeo_size.specs.Store.{visited}
+use Rattle.homeo_size.specs.Tables.{plain_slot, store_in, setting}
 use Rattle.homeo_size.proofs.extents.Extents.+commands.Given as goal
 
 abbrev pub invariant-measure_commands-loop-c : goal.invariant-measure_commands-loop-c
 invariant-measure_commands-loop-c l =
     let x = setting l.frame in
-    let s = sizes_in l.frame.sites l.self in
-    let start = sizes_in l.frame.sites l.initial.self in
     let rest = commands (map plain_command (drop l.c-index l.cs)) in
-    let all = commands (map plain_command l.cs) in
+    let whole = commands (map plain_command l.cs) in
     record {
-      measure : all_measured x rest s l.all ≡ all_measured x all start empty;
-      sizes : sizes_after_all x rest s ≡ sizes_after_all x all start;
+      measure : all_measured x rest (store_in l.self) l.all ≡ all_measured x whole (store_in l.initial.self) none;
+      store : after_all x rest (store_in l.self) ≡ after_all x whole (store_in l.initial.self);
+    }
+
+abbrev pub invariant-measure_command-loop-slot : goal.invariant-measure_command-loop-slot
+invariant-measure_command-loop-slot l =
+    let x = setting l.frame in
+    let rest = map plain_slot (drop l.slot-index l.slot-items) in
+    let whole = map plain_slot l.slot-items in
+    let cs = commands (map plain_command l.body.items) in
+    record {
+      measure : visits x l.row.name (plain_cond l.test) (each_measured x l.row.name cs) (each_after x l.row.name cs) rest (store_in l.self) l.all ≡ visits x l.row.name (plain_cond l.test) (each_measured x l.row.name cs) (each_after x l.row.name cs) whole (store_in l.initial.self) none;
+      store : visited (each_after x l.row.name cs) rest (store_in l.self) ≡ visited (each_after x l.row.name cs) whole (store_in l.initial.self);
     }

@@ -1,8 +1,11 @@
--- What is left makes of the tables now what all makes of the tables at first.
-use Rattle.std.proofs.Common.{◌≡◌, drop}
-use Rattle.homeo_size.specs.Keeping.{taken_back}
-use Rattle.homeo_size.specs.Tables.{sizes_in}
+-- What is left to take back leaves what all leaves.
+use Rattle.std.proofs.Common.{◌≡◌, length}
+use Rattle.homeo_size.specs.Store.{back_to}
+use Rattle.homeo_size.specs.Tables.{store_in}
 use Rattle.homeo_size.proofs.extents.Extents.take_back.Given as goal
 
-abbrev pub invariant-loop-k : goal.invariant-loop-k
-invariant-loop-k l = taken_back (drop l.k-index l.kept) (sizes_in l.frame.sites l.self) ≡ taken_back l.kept (sizes_in l.frame.sites l.initial.self)
+abbrev pub invariant-loop-self : goal.invariant-loop-self
+invariant-loop-self l = back_to l.start (store_in l.self) ≡ back_to l.start (store_in l.initial.self)
+
+abbrev pub decreases-loop-self : goal.decreases-loop-self
+decreases-loop-self l = length l.self.log.items

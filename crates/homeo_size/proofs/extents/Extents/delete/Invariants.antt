@@ -1,0 +1,21 @@
+-- The visits so far, and those that are left, are all visits.
+use Rattle.std.proofs.Common.{◌≡◌, pos, map, drop}
+use Rattle.homeo_syntax.specs.SourceView.{plain_cond}
+use Rattle.homeo_size.specs.Measuring.{cleared, visits}
+use Rattle.homeo_size.specs.Parts.{literal, writing, none}
+use Rattle.homeo_meaning.specs.Context.{Slot}
+use Rattle.homeo_size.specs.Store.{Store, visited}
+use Rattle.homeo_size.specs.declared.steps.Measure.{Measure}
+use Rattle.homeo_size.specs.Tables.{plain_slot, store_in, setting}
+use Rattle.homeo_size.proofs.extents.Extents.delete.Given as goal
+
+abbrev pub invariant-loop-slot : goal.invariant-loop-slot
+invariant-loop-slot l =
+    let x = setting l.frame in
+    let rest = map plain_slot (drop l.slot-index l.slots) in
+    let whole = map plain_slot l.slots in
+    let body : Slot → Store → Measure = λ slot y. writing l.frame.sites (literal (pos 0)) in
+    record {
+      measure : visits x l.row (plain_cond l.test) body (cleared l.frame.sites) rest (store_in l.self) l.all ≡ visits x l.row (plain_cond l.test) body (cleared l.frame.sites) whole (store_in l.initial.self) none;
+      store : visited (cleared l.frame.sites) rest (store_in l.self) ≡ visited (cleared l.frame.sites) whole (store_in l.initial.self);
+    }

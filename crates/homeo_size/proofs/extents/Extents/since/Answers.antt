@@ -1,0 +1,12 @@
+-- Nothing is left.
+use Rattle.std.proofs.Common.{arith}
+use Rattle.homeo_size.specs.Key.{words}
+use Rattle.homeo_size.specs.Store.{kept_in}
+use Rattle.homeo_size.specs.Tables.{sizes_in}
+use Rattle.homeo_size.proofs.Tables.{all_kept}
+use Rattle.homeo_size.proofs.extents.Extents.since.Goals as goal
+
+pub returns : goal.returns
+unfolding words
+returns c =
+    all_kept (λ k. kept_in (sizes_in c.args.self.now) k.entry) c.loop-index.changed.items c.args.self.now.log.items c.loop-index.index c.args.start (omega arith) c.loop-index.invariant

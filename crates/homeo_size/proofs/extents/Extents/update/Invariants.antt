@@ -1,0 +1,20 @@
+-- The visits so far, and those that are left, are all visits.
+use Rattle.std.proofs.Common.{◌≡◌, map, drop}
+use Rattle.homeo_syntax.specs.SourceView.{plain_cond, plain_expr}
+use Rattle.homeo_size.specs.Measuring.{field_set, field_setting, visits}
+use Rattle.homeo_size.specs.Parts.{none}
+use Rattle.homeo_size.specs.Store.{visited}
+use Rattle.homeo_size.specs.Tables.{plain_slot, store_in, setting}
+use Rattle.homeo_size.proofs.extents.Extents.update.Given as goal
+
+abbrev pub invariant-loop-slot : goal.invariant-loop-slot
+invariant-loop-slot l =
+    let x = setting l.frame in
+    let rest = map plain_slot (drop l.slot-index l.slots) in
+    let whole = map plain_slot l.slots in
+    let body = field_setting x l.row l.field (plain_expr l.value) in
+    let sets = field_set x l.row l.field (plain_expr l.value) in
+    record {
+      measure : visits x l.row (plain_cond l.test) body sets rest (store_in l.self) l.all ≡ visits x l.row (plain_cond l.test) body sets whole (store_in l.initial.self) none;
+      store : visited sets rest (store_in l.self) ≡ visited sets whole (store_in l.initial.self);
+    }

@@ -1,0 +1,10 @@
+-- What is left, with what has been counted, is as much as the whole.
+use Rattle.std.proofs.Common.{◌≡◌, map, drop}
+use Rattle.homeo_syntax.specs.SourceView.{commands, plain_command}
+use Rattle.homeo_size.specs.Prints.{all_prints}
+use Rattle.homeo_size.specs.Tables.{setting}
+use Rattle.homeo_size.proofs.frame.Frame.+prints.Given as goal
+
+abbrev pub invariant-all_prints-loop-c : goal.invariant-all_prints-loop-c
+invariant-all_prints-loop-c l =
+    all_prints (setting l.self) (commands (map plain_command (drop l.c-index l.cs))) l.all ≡ all_prints (setting l.self) (commands (map plain_command l.cs)) 0

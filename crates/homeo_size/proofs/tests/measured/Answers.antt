@@ -1,0 +1,21 @@
+-- So few slots of one field each, beside one object, are few objects.
+use Rattle.std.proofs.Common.{◌≡◌, ◌≤◌, ◌+◌, ◌*◌, ℕ, List, [], ◌∷◌, pos, length, sym, ap₂, ◌∙◌, subst, arith}
+use Rattle.std.proofs.lemmas.List.{length-map}
+use Rattle.homeo_syntax.specs.Key.{words as tree_words}
+use Rattle.homeo_syntax.specs.declared.workload.ObjectDecl.{ObjectDecl}
+use Rattle.homeo_syntax.specs.declared.workload.RelationDecl.{RelationDecl}
+use Rattle.homeo_meaning.specs.Key.{words as meaning_words}
+use Rattle.homeo_meaning.specs.Schema.{declared_range, nat_of}
+use Rattle.homeo_size.specs.Layout.{relation_of, relation_size, HasFewObjects, schema_with}
+use Rattle.homeo_size.proofs.tests.measured.Goals as goal
+
+few : (d : ObjectDecl) (r : RelationDecl) (rs : List RelationDecl) (slots : ℕ) → rs ≡ r ∷ [] → r.slots.value ≡ pos slots → length r.fields.items ≡ 1 → slots ≤ 64 → HasFewObjects (schema_with (d ∷ []) rs)
+unfolding tree_words meaning_words
+few d r rs slots is s f h =
+    let size : relation_size (relation_of r) ≡ slots * 2 = ap₂ (λ v n. nat_of v * (1 + n)) s (length-map r.fields.items declared_range ∙ f) in
+    let all : 1 + relation_size (relation_of r) ≤ 1024 = omega (arith, size, h) in
+    subst (λ l. HasFewObjects (schema_with (d ∷ []) l)) (sym is) all
+
+pub of-requires : goal.of-requires
+of-requires c =
+    few c.object.result c.in_ok-relation.relation c.as_slice.result.now c.args.slots (c.as_slice.ensures ∙ c.in_ok-relations.ensures) c.in_ok-relation.ensures.slots c.in_ok-relation.ensures.fields c.requires

@@ -1,0 +1,127 @@
+//! Loops over the slots of a relation whose bodies are no commands of the text.
+
+ghost use Rattle.std.specs.Prelude.{◌≡◌, pos, map, IfOk, OnOk};
+ghost use Rattle.homeo_syntax.specs.SourceView.{plain_cond, plain_expr};
+ghost use Rattle.homeo_size.specs.Parts.{literal, writing, none};
+ghost use Rattle.homeo_size.specs.Measuring.{cleared, row_set, row_setting, field_set, field_setting, visits};
+ghost use Rattle.homeo_size.specs.Sizing.{tests_sized, tests_lifted, used_test};
+ghost use Rattle.homeo_size.specs.Store.{visited};
+ghost use Rattle.homeo_size.specs.Tables.{plain_slot, sizes_in, store_in, setting};
+
+use crate::extent::{Extent, around, literal, written};
+use crate::extents::{Entry, Extents};
+use crate::frame::Frame;
+use crate::rows::with_row;
+use crate::slot::{Slot, field_cell};
+use crate::steps::{Before, EMPTY, Measure, NONE, chosen, guarded, placed, with_one, writing};
+use homeo_meaning::find_field;
+use homeo_syntax::{Cond, Expr, Memory};
+use std::alloc::Global;
+
+impl Extents {
+    /// The condition of the visit of a slot, where its row is in force.
+    #[tactic(auto, using(homeo_syntax::proofs::SourceViews::phrase_views))]
+    pub(crate) fn visit(
+        &self,
+        alloc: Global,
+        test: &Cond,
+        slot: Slot<'_>,
+        frame: &Frame<'_>,
+        before: &mut Before,
+    ) -> Result<Extent, Memory>
+        ensures extent { IfOk result (λ e. e ≡ tests_sized (setting frame.now) (plain_cond test.now)
+            (sizes_in self.now) (used_test (plain_slot slot.entry) (sizes_in self.now))) }
+        ensures before { OnOk result (before.new ≡
+            tests_lifted (setting frame.now) (plain_cond test.now) (sizes_in self.now) before.old) }
+    {
+        let used = self.used_test(slot);
+        self.tests(alloc, test.tests.as_slice(), used, frame, before)
+    }
+
+    /// Measures a delete, and leaves the extents after it.
+    #[tactic(auto, using(crate::proofs::Along::items, crate::proofs::Along::stores, crate::proofs::Equations::loops))]
+    pub(crate) fn delete(
+        &mut self,
+        alloc: Global,
+        row: u32,
+        test: &Cond,
+        slots: &[Slot<'_>],
+        frame: &Frame<'_>,
+    ) -> Result<Measure, Memory>
+        ensures measure { IfOk result (λ m. m ≡ (visits (setting frame.now) row (plain_cond test.now)
+            (λ slot y. writing frame.now.sites (literal (pos 0))) (cleared frame.now.sites) (map plain_slot slots.now) (store_in self.old) none).all) }
+        ensures store { OnOk result (store_in self.new ≡
+            visited (cleared frame.now.sites) (map plain_slot slots.now) (store_in self.old)) }
+    {
+        let mut all = NONE;
+        for slot in slots {
+            let rows = with_row(alloc, frame.rows, row, *slot)?;
+            let inner = frame.bound(rows.as_slice(), row, *slot);
+            let test = self.visit(alloc, test, *slot, &inner, &mut all)?;
+            let start = self.log.len();
+            self.set(
+                Entry::Object(slot.used as u128),
+                written(frame.sites, literal(0)),
+            )?;
+            self.close(alloc, start)?;
+            let clears = writing(frame.sites, literal(0));
+            all = with_one(all, chosen(around(test), clears, EMPTY));
+        }
+        Ok(all.all)
+    }
+
+    /// Measures the write of an expression to a field of a slot, and leaves the extents after it.
+    #[tactic(auto, unfolding(crate::specs::Key::words))]
+    pub(crate) fn set_row(
+        &mut self,
+        alloc: Global,
+        slot: Slot<'_>,
+        field: u32,
+        value: &Expr,
+        frame: &Frame<'_>,
+    ) -> Result<Measure, Memory>
+        ensures measure { IfOk result (λ m. m ≡
+            row_setting (setting frame.now) (plain_slot slot.entry) field (plain_expr value.now) (store_in self.old)) }
+        ensures store { OnOk result (store_in self.new ≡
+            row_set (setting frame.now) (plain_slot slot.entry) field (plain_expr value.now) (store_in self.old)) }
+    {
+        let mut before = NONE;
+        let value = self.expr(alloc, value, frame, &mut before)?;
+        self.raise(
+            Entry::Object(field_cell(slot, field)),
+            written(frame.sites, value),
+        )?;
+        let bounds = find_field(slot.fields, field);
+        Ok(placed(before, guarded(frame.sites, bounds, value)))
+    }
+
+    /// Measures an update, and leaves the extents after it.
+    #[tactic(auto, using(crate::proofs::Along::items, crate::proofs::Along::stores, crate::proofs::Equations::loops))]
+    pub(crate) fn update(
+        &mut self,
+        alloc: Global,
+        row: u32,
+        test: &Cond,
+        field: u32,
+        value: &Expr,
+        slots: &[Slot<'_>],
+        frame: &Frame<'_>,
+    ) -> Result<Measure, Memory>
+        ensures measure { IfOk result (λ m. m ≡ (visits (setting frame.now) row (plain_cond test.now)
+            (field_setting (setting frame.now) row field (plain_expr value.now)) (field_set (setting frame.now) row field (plain_expr value.now)) (map plain_slot slots.now) (store_in self.old) none).all) }
+        ensures store { OnOk result (store_in self.new ≡
+            visited (field_set (setting frame.now) row field (plain_expr value.now)) (map plain_slot slots.now) (store_in self.old)) }
+    {
+        let mut all = NONE;
+        for slot in slots {
+            let rows = with_row(alloc, frame.rows, row, *slot)?;
+            let inner = frame.bound(rows.as_slice(), row, *slot);
+            let test = self.visit(alloc, test, *slot, &inner, &mut all)?;
+            let start = self.log.len();
+            let sets = self.set_row(alloc, *slot, field, value, &inner)?;
+            self.close(alloc, start)?;
+            all = with_one(all, chosen(around(test), sets, EMPTY));
+        }
+        Ok(all.all)
+    }
+}

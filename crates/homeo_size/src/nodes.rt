@@ -1,0 +1,233 @@
+//! How many nodes an L form has at least, told without visiting a slot: so a form that is far too large is known at once.
+
+ghost use Rattle.std.specs.Prelude.{◌≡◌, ◌+◌, ◌*◌, map, option_map};
+ghost use Rattle.homeo_syntax.specs.SourceView.{exprs, tests, commands, plain_expr, plain_test, plain_cond, plain_field, plain_command};
+ghost use Rattle.homeo_size.specs.Nodes.{few, index_nodes, visit_nodes, nodes, all_nodes, test_nodes, tests_nodes, slot_nodes, write_nodes, values_nodes, command_nodes, commands_nodes};
+ghost use Rattle.homeo_size.specs.Tables.{plain_slot, setting};
+
+use crate::frame::Frame;
+use crate::slot::{Slot, slot_at};
+use homeo_syntax::{Command, Cond, Expr, FieldValue, Test};
+
+/// One more node than a call may have size: none is counted beyond.
+pub(crate) const TOO_MANY: u64 = 2_000_001;
+
+#[tactic(auto, unfolding(crate::specs::Key::words))]
+fn few_together(a: u64, b: u64) -> u64
+    ensures { result ≡ few (a + b) }
+{
+    TOO_MANY.min(a.saturating_add(b))
+}
+
+/// The nodes of an index into slots, and of the chain of tests that finds its slot.
+#[tactic(auto, using(crate::proofs::Along::lengths))]
+fn index_nodes(index: Option<i64>, slots: &[Slot<'_>], nodes: u64) -> u64
+    ensures { result ≡ index_nodes index (map plain_slot slots.now) nodes }
+{
+    match index {
+        Some(_) => 1,
+        None => {
+            if slots.len() == 0 {
+                1
+            } else {
+                few_together(slots.len() as u64, nodes)
+            }
+        }
+    }
+}
+
+/// The nodes of the visits of slots.
+#[tactic(auto, using(crate::proofs::Along::lengths))]
+fn visit_nodes(slots: &[Slot<'_>], nodes: u64) -> u64
+    ensures { result ≡ visit_nodes (map plain_slot slots.now) nodes }
+{
+    let one = few_together(1, nodes);
+    let all = (slots.len() as u64).saturating_mul(one);
+    few_together(1, all)
+}
+
+#[tactic(auto, unfolding(crate::specs::Key::words))]
+fn slot_nodes(slot: Option<Slot<'_>>, nodes: u64) -> u64
+    ensures { result ≡ slot_nodes (option_map plain_slot slot.entry) nodes }
+{
+    match slot {
+        Some(_) => few_together(1, nodes),
+        None => 1,
+    }
+}
+
+/// The nodes of a write to a field of the slot that an index names.
+#[tactic(auto, using(crate::proofs::Along::lengths), unfolding(crate::specs::Key::words))]
+fn write_nodes(index: Option<i64>, slots: &[Slot<'_>], index_nodes: u64, nodes: u64) -> u64
+    ensures { result ≡ write_nodes index (map plain_slot slots.now) index_nodes nodes }
+{
+    match index {
+        Some(value) => slot_nodes(slot_at(value, slots), nodes),
+        None => {
+            if slots.len() == 0 {
+                few_together(1, nodes)
+            } else {
+                few_together(slots.len() as u64, few_together(index_nodes, nodes))
+            }
+        }
+    }
+}
+
+impl Frame<'_> {
+    #[cycle(phrase_nodes)]
+    #[tactic(auto, using(homeo_syntax::proofs::SourceViews::phrase_views, crate::proofs::NodeEquations::phrases))]
+    fn nodes(&self, e: &Expr) -> u64
+        ensures { result ≡ nodes (setting self.now) (plain_expr e.now) }
+    {
+        match e {
+            Expr::Literal(_) | Expr::Name(_) | Expr::Read(_) | Expr::Row { .. } => 1,
+            Expr::Sum(es) | Expr::Product(es) => few_together(1, self.all_nodes(es.as_slice())),
+            Expr::Neg(inner) => few_together(1, self.nodes(inner)),
+            Expr::Field {
+                relation,
+                index,
+                ..
+            } => index_nodes(
+                self.literal(index),
+                self.slots(relation.name),
+                self.nodes(index),
+            ),
+            Expr::Count { relation, test, .. } | Expr::Total { relation, test, .. } => visit_nodes(
+                self.slots(relation.name),
+                self.tests_nodes(test.tests.as_slice()),
+            ),
+        }
+    }
+
+    #[cycle(phrase_nodes)]
+    #[tactic(auto, using(crate::proofs::NodeEquations::lists, homeo_meaning::proofs::Steps::steps))]
+    fn all_nodes(&self, es: &[Expr]) -> u64
+        ensures { result ≡ all_nodes (setting self.now) (exprs (map plain_expr es.now)) 0 }
+    {
+        let mut all = 0;
+        for e in es {
+            all = few_together(all, self.nodes(e));
+        }
+        all
+    }
+
+    #[cycle(phrase_nodes)]
+    #[tactic(auto, using(homeo_syntax::proofs::SourceViews::phrase_views, crate::proofs::NodeEquations::phrases))]
+    fn test_nodes(&self, t: &Test) -> u64
+        ensures { result ≡ test_nodes (setting self.now) (plain_test t.now) }
+    {
+        match t {
+            Test::True => 1,
+            Test::Not(c) => few_together(1, self.tests_nodes(c.tests.as_slice())),
+            Test::Compare { op: _, left, right } => {
+                few_together(self.nodes(left), self.nodes(right))
+            }
+        }
+    }
+
+    #[cycle(phrase_nodes)]
+    #[tactic(auto, using(crate::proofs::NodeEquations::lists, homeo_meaning::proofs::Steps::steps))]
+    fn tests_nodes(&self, ts: &[Test]) -> u64
+        ensures { result ≡ tests_nodes (setting self.now) (tests (map plain_test ts.now)) 0 }
+    {
+        let mut all = 0;
+        for t in ts {
+            all = few_together(all, self.test_nodes(t));
+        }
+        all
+    }
+
+    #[tactic(auto, using(homeo_syntax::proofs::SourceViews::phrase_views))]
+    fn cond_nodes(&self, c: &Cond) -> u64
+        ensures { result ≡ tests_nodes (setting self.now) (plain_cond c.now) 0 }
+    {
+        self.tests_nodes(c.tests.as_slice())
+    }
+
+    #[tactic(auto, using(crate::proofs::Along::items, crate::proofs::Along::values, crate::proofs::NodeEquations::lists))]
+    fn values_nodes(&self, fields: &[FieldValue], first: u64) -> u64
+        ensures { result ≡ values_nodes (setting self.now) (map plain_field fields.now) first }
+    {
+        let mut all = first;
+        for field in fields {
+            all = few_together(all, self.nodes(&field.value));
+        }
+        all
+    }
+
+    #[cycle(command_nodes)]
+    #[tactic(auto, using(homeo_syntax::proofs::SourceViews::command_views, crate::proofs::Along::lengths, crate::proofs::NodeEquations::steps))]
+    fn command_nodes(&self, c: &Command) -> u64
+        ensures { result ≡ command_nodes (setting self.now) (plain_command c.now) }
+    {
+        match c {
+            Command::Skip => 1,
+            Command::Assign { value, .. }
+            | Command::Write { value, .. }
+            | Command::Print { value }
+            | Command::SetRow { value, .. } => few_together(1, self.nodes(value)),
+            Command::If { test, yes, no } => {
+                let branches = few_together(self.command_nodes(yes), self.command_nodes(no));
+                few_together(self.cond_nodes(test), branches)
+            }
+            Command::Block { commands } => self.commands_nodes(commands.as_slice(), 1),
+            Command::SetField {
+                relation,
+                index,
+                value,
+                ..
+            } => write_nodes(
+                self.literal(index),
+                self.slots(relation.name),
+                self.nodes(index),
+                self.nodes(value),
+            ),
+            Command::Foreach {
+                relation,
+                test,
+                body,
+                ..
+            } => {
+                let body = self.commands_nodes(body.as_slice(), 0);
+                let one = few_together(self.cond_nodes(test), body);
+                visit_nodes(self.slots(relation.name), one)
+            }
+            Command::Insert {
+                relation,
+                fields,
+                ..
+            } => {
+                let fields = fields.as_slice();
+                let one = few_together(1, fields.len() as u64);
+                let slots = self.slots(relation.name).len() as u64;
+                let fills = few_together(1, slots.saturating_mul(one));
+                self.values_nodes(fields, fills)
+            }
+            Command::Delete { relation, test, .. } => {
+                visit_nodes(self.slots(relation.name), self.cond_nodes(test))
+            }
+            Command::Update {
+                relation,
+                test,
+                value,
+                ..
+            } => {
+                let one = few_together(self.cond_nodes(test), self.nodes(value));
+                visit_nodes(self.slots(relation.name), one)
+            }
+        }
+    }
+
+    /// How many nodes the L forms of commands have at least, with those before.
+    #[cycle(command_nodes)]
+    #[tactic(auto, using(crate::proofs::NodeEquations::lists, homeo_meaning::proofs::Steps::steps))]
+    pub(crate) fn commands_nodes(&self, cs: &[Command], first: u64) -> u64
+        ensures { result ≡ commands_nodes (setting self.now) (commands (map plain_command cs.now)) first }
+    {
+        let mut all = first;
+        for c in cs {
+            all = few_together(all, self.command_nodes(c));
+        }
+        all
+    }
+}
