@@ -8,7 +8,7 @@ use Rattle.homeo_meaning.specs.GlobalNames.{global_names, duplicate, scope_of}
 use Rattle.homeo_meaning.specs.GlobalNames.{SitedCall, sited_calls}
 use Rattle.homeo_meaning.specs.NumberRules.{object_faults, site_count_faults, slot_faults, too_many_objects, makings, passes_limit, ground_calls, limit_faults}
 use Rattle.homeo_meaning.specs.CallRules.{client_faults, schedule_faults}
-use Rattle.homeo_meaning.specs.SizeRules.{unbuilt_faults, size_faults, print_faults, weight_faults, row_faults}
+use Rattle.homeo_meaning.specs.SizeRules.{size_faults, print_faults, weight_faults, row_faults}
 use Rattle.homeo_meaning.specs.Faults.{of_relation, of_transaction, declared_faults, text_faults, form_faults, faults}
 use Rattle.homeo_meaning.specs.declared.call.Purpose.{Purpose}
 use Rattle.homeo_meaning.specs.declared.call.Purpose.TheVariants.{Run}
@@ -23,7 +23,6 @@ none_second [] ys e = e
 none_second (x ∷ xs) ys e = cc
 
 pub record NoTextFault (purpose : Purpose) (w : s.Workload) : Type 0 where
-  pub unbuilt : unbuilt_faults w ≡ []
   pub names : each duplicate (map (λ d. d.name) (global_names w)) ≡ []
   pub declared : declared_faults w ≡ []
   pub limits : limit_faults w ≡ []
@@ -31,21 +30,18 @@ pub record NoTextFault (purpose : Purpose) (w : s.Workload) : Type 0 where
 
 pub text_parts : (purpose : Purpose) (w : s.Workload) → text_faults purpose w ≡ [] → NoTextFault purpose w
 unfolding words
-text_parts purpose w e4 =
-    let a = unbuilt_faults w in
-    let b = each duplicate (map (λ d. d.name) (global_names w)) in
-    let c = declared_faults w in
-    let d = limit_faults w in
-    let f = schedule_faults purpose (scope_of w) w.clients w.end w.schedule in
-    let e3 = none_first (a ++ b ++ c ++ d) f e4 in
+text_parts purpose w e3 =
+    let a = each duplicate (map (λ d. d.name) (global_names w)) in
+    let b = declared_faults w in
+    let c = limit_faults w in
+    let d = schedule_faults purpose (scope_of w) w.clients w.end w.schedule in
     let e2 = none_first (a ++ b ++ c) d e3 in
     let e1 = none_first (a ++ b) c e2 in
     record {
-      unbuilt = none_first a b e1;
-      names = none_second a b e1;
-      declared = none_second (a ++ b) c e2;
-      limits = none_second (a ++ b ++ c) d e3;
-      schedule = none_second (a ++ b ++ c ++ d) f e4;
+      names = none_first a b e1;
+      declared = none_second a b e1;
+      limits = none_second (a ++ b) c e2;
+      schedule = none_second (a ++ b ++ c) d e3;
     }
 
 pub record NoDeclaredFault (w : s.Workload) : Type 0 where
@@ -139,4 +135,4 @@ unfolding words
 for_run purpose w e =
     let p : NoTextFault purpose w = (parts purpose w e).text in
     let none : form_faults w ≡ [] = none_second (text_faults purpose w) (form_faults w) e in
-    λ i. (p.unbuilt i ++ p.names i ++ p.declared i ++ p.limits i ++ order_for_run purpose w w.schedule p.schedule i) ++ none i
+    λ i. (p.names i ++ p.declared i ++ p.limits i ++ order_for_run purpose w w.schedule p.schedule i) ++ none i

@@ -9,15 +9,14 @@ pub mod FieldSteps
 pub mod FieldWrites
 pub mod Fields
 pub mod Fits
-pub mod FormRules
 pub mod Forms
 pub mod Given
+pub mod GroundCalls
 pub mod InForce
 pub mod InsertSteps
 pub mod Known
 pub mod Lifts
 pub mod Light
-pub mod LightForms
 pub mod Lookups
 pub mod Loops
 pub mod Numbers
@@ -27,7 +26,6 @@ pub mod PastObjects
 pub mod Phases
 pub mod Placing
 pub mod Relations
-pub mod SimpleForms
 pub mod Slots
 pub mod SomeValues
 pub mod Sound

@@ -16,12 +16,11 @@ use Rattle.homeo_meaning.specs.TransactionRules.{is_in, each_from, each, local_o
 use Rattle.homeo_meaning.specs.GlobalNames.{SitedCall, global_names, duplicate, scope_of, sited_calls}
 use Rattle.homeo_meaning.specs.NumberRules.{largest_bound, too_large, crossed, range_faults, outside, object_faults, range_bounds, argument_outside, arguments_outside, site_faults, site_count_faults, slot_faults, makings, made, too_many_objects, passes_limit, ground_calls, limit_faults}
 use Rattle.homeo_meaning.specs.CallRules.{times, call_count, params_of, call_faults, client_faults, scheduled, order_faults, is_short, end_fault, needs_order, has_calls, schedule_faults}
-use Rattle.homeo_meaning.specs.SizeRules.{too_large as too_large_call, size_faults, prints_too_much, print_faults, heavy_call, weight_faults, too_many_rows, row_faults, unbuilt_relation, unbuilt_transaction, unbuilt_faults}
+use Rattle.homeo_meaning.specs.SizeRules.{too_large as too_large_call, size_faults, prints_too_much, print_faults, heavy_call, weight_faults, too_many_rows, row_faults}
 use Rattle.homeo_meaning.specs.SizeRules.{call_form, extent_of, heaviest, table_size}
 use Rattle.homeo_meaning.specs.LowSizes.{Extent, rows, prints_in}
 use Rattle.homeo_meaning.specs.LowWeights.{first_weights, is_light}
 use Rattle.homeo_meaning.specs.Schema.{schema_of}
-use Rattle.homeo_meaning.specs.Built.{are_built}
 use Rattle.homeo_meaning.specs.Faults.{of_relation, of_transaction, declared_faults, text_faults, rank, comes_before}
 use Rattle.homeo_meaning.specs.Deciding.{keep, keep_all}
 use Rattle.homeo_meaning.specs.declared.call.Purpose.{Purpose}
@@ -72,7 +71,7 @@ wider_above l m n (f ∷ fs) le h = (omega (arith, h.0), h.1, wider_above l m n 
 
 -- ---- the text's
 abbrev Early : List Fault → Type 0
-Early fs = Between 0 8 fs
+Early fs = Between 0 7 fs
 
 takes_object_early : (x : Ident) (b : Binding) → Early (takes_object x b)
 unfolding words
@@ -124,7 +123,7 @@ field_early : (sc : Scope) (g : Option Item) (f : Ident) → Early (field_of sc 
 unfolding words
 field_early sc None f = tt
 field_early sc (Some (I.Object k)) f = tt
-field_early sc (Some (I.Relation k)) f = if_so 0 8 (not (is_in f.name (sc.fields k))) (fault F.Unknown f) (omega arith, omega arith, tt)
+field_early sc (Some (I.Relation k)) f = if_so 0 7 (not (is_in f.name (sc.fields k))) (fault F.Unknown f) (omega arith, omega arith, tt)
 field_early sc (Some (I.Transaction k)) f = tt
 field_early sc (Some (I.Client k)) f = tt
 
@@ -140,18 +139,18 @@ fills_all_early : (sc : Scope) (g : Option Item) (q : Ident) (n : ℕ) → Early
 unfolding words
 fills_all_early sc None q n = tt
 fills_all_early sc (Some (I.Object k)) q n = tt
-fills_all_early sc (Some (I.Relation k)) q n = if_so 0 8 (not (n == length (sc.fields k))) (fault F.Arity q) (omega arith, omega arith, tt)
+fills_all_early sc (Some (I.Relation k)) q n = if_so 0 7 (not (n == length (sc.fields k))) (fault F.Arity q) (omega arith, omega arith, tt)
 fills_all_early sc (Some (I.Transaction k)) q n = tt
 fills_all_early sc (Some (I.Client k)) q n = tt
 
 duplicates_early : (xs : List Ident) → Early (each duplicate xs)
 unfolding words
-duplicates_early xs = each_of 0 8 duplicate (λ before x. if_so 0 8 (is_in x.name (map (λ (y : Ident). y.name) before)) (fault F.Duplicate x) (omega arith, omega arith, tt)) [] xs
+duplicates_early xs = each_of 0 7 duplicate (λ before x. if_so 0 7 (is_in x.name (map (λ (y : Ident). y.name) before)) (fault F.Duplicate x) (omega arith, omega arith, tt)) [] xs
 
 fills_fields_early : (sc : Scope) (g : Option Item) (q : Ident) (fs : List Ident) → Early (fills_fields sc g q fs)
 unfolding words
 fills_fields_early sc g q fs =
-    both 0 8 (each duplicate fs ++ flat_map (field_of sc g) fs) (fills_all sc g q (length fs)) (both 0 8 (each duplicate fs) (flat_map (field_of sc g) fs) (duplicates_early fs) (all_of 0 8 (field_of sc g) (field_early sc g) fs)) (fills_all_early sc g q (length fs))
+    both 0 7 (each duplicate fs ++ flat_map (field_of sc g) fs) (fills_all sc g q (length fs)) (both 0 7 (each duplicate fs) (flat_map (field_of sc g) fs) (duplicates_early fs) (all_of 0 7 (field_of sc g) (field_early sc g) fs)) (fills_all_early sc g q (length fs))
 
 mark_early : (sc : Scope) (b : ℕ → Binding) (k : Mark) → Early (judge_mark sc b k)
 mark_early sc b (DeclaresRow x) = declares_row_early x (b x.name)
@@ -173,27 +172,27 @@ bounds_early x = (omega arith, omega arith, tt)
 
 size_early : (x : Number) → Early (too_large x)
 unfolding words
-size_early x = if_so 0 8 (int_lt x.value (neg_ℤ largest_bound) || int_lt largest_bound x.value) (number_fault F.Bounds x) (bounds_early x)
+size_early x = if_so 0 7 (int_lt x.value (neg_ℤ largest_bound) || int_lt largest_bound x.value) (number_fault F.Bounds x) (bounds_early x)
 
 range_early : (lo hi : Number) → Early (range_faults lo hi)
 unfolding words
 range_early lo hi =
-    both 0 8 (too_large lo ++ too_large hi) (crossed lo hi) (both 0 8 (too_large lo) (too_large hi) (size_early lo) (size_early hi)) (if_so 0 8 (int_lt hi.value lo.value) (number_fault F.Bounds lo) (bounds_early lo))
+    both 0 7 (too_large lo ++ too_large hi) (crossed lo hi) (both 0 7 (too_large lo) (too_large hi) (size_early lo) (size_early hi)) (if_so 0 7 (int_lt hi.value lo.value) (number_fault F.Bounds lo) (bounds_early lo))
 
 outside_early : (lo hi x : Number) → Early (outside lo hi x)
 unfolding words
-outside_early lo hi x = if_so 0 8 (int_lt x.value lo.value || int_lt hi.value x.value) (number_fault F.Bounds x) (bounds_early x)
+outside_early lo hi x = if_so 0 7 (int_lt x.value lo.value || int_lt hi.value x.value) (number_fault F.Bounds x) (bounds_early x)
 
 object_early : (d : ObjectDecl) → Early (object_faults d)
 unfolding words
-object_early d = both 0 8 (range_faults d.lo d.hi) (outside d.lo d.hi d.start) (range_early d.lo d.hi) (outside_early d.lo d.hi d.start)
+object_early d = both 0 7 (range_faults d.lo d.hi) (outside d.lo d.hi d.start) (range_early d.lo d.hi) (outside_early d.lo d.hi d.start)
 
 transaction_early : (sc : Scope) (t : s.Transaction) → Early (of_transaction sc t)
 unfolding words
 transaction_early sc t =
     let params : List Ident = map (λ (d : RangeDecl). d.name) t.params in
     let names : List ℕ = map (λ (x : Ident). x.name) params in
-    both 0 8 (flat_map range_bounds t.params) (transaction_faults sc t) (all_of 0 8 range_bounds (λ d. range_early d.lo d.hi) t.params) (both 0 8 (each (parameter_fault sc) params) (body_faults sc names (in_commands [] t.body)) (each_of 0 8 (parameter_fault sc) (λ before x. if_so 0 8 (is_some (sc.item x.name) || is_in x.name (map (λ (y : Ident). y.name) before)) (fault F.Duplicate x) (omega arith, omega arith, tt)) [] params) (each_of 0 8 (λ before p. judge sc (local_of names (temporaries sc names before)) p) (λ before p. judge_early sc (local_of names (temporaries sc names before)) p) [] (in_commands [] t.body)))
+    both 0 7 (flat_map range_bounds t.params) (transaction_faults sc t) (all_of 0 7 range_bounds (λ d. range_early d.lo d.hi) t.params) (both 0 7 (each (parameter_fault sc) params) (body_faults sc names (in_commands [] t.body)) (each_of 0 7 (parameter_fault sc) (λ before x. if_so 0 7 (is_some (sc.item x.name) || is_in x.name (map (λ (y : Ident). y.name) before)) (fault F.Duplicate x) (omega arith, omega arith, tt)) [] params) (each_of 0 7 (λ before p. judge sc (local_of names (temporaries sc names before)) p) (λ before p. judge_early sc (local_of names (temporaries sc names before)) p) [] (in_commands [] t.body)))
 
 argument_early : (d : RangeDecl) (o : Option Number) → Early (argument_outside d o)
 unfolding words
@@ -204,14 +203,14 @@ arguments_early : (i : ℕ) (ds : List RangeDecl) (args : List Number) → Early
 unfolding words
 arguments_early i [] args = tt
 arguments_early i (d ∷ ds) args =
-    both 0 8 (argument_outside d (slice_get args i)) (arguments_outside (i + 1) ds args) (argument_early d (slice_get args i)) (arguments_early (i + 1) ds args)
+    both 0 7 (argument_outside d (slice_get args i)) (arguments_outside (i + 1) ds args) (argument_early d (slice_get args i)) (arguments_early (i + 1) ds args)
 
 call_early : (ts : List s.Transaction) (g : Option Item) (c : s.Call) → Early (call_faults ts g c)
 unfolding words
 call_early ts None c = (omega arith, omega arith, tt)
 call_early ts (Some (I.Transaction k)) c =
     let params : List RangeDecl = params_of (slice_get ts k) in
-    both 0 8 (when (not (length c.args == length params)) (fault F.Arity c.name)) (arguments_outside 0 params c.args) (if_so 0 8 (not (length c.args == length params)) (fault F.Arity c.name) (omega arith, omega arith, tt)) (arguments_early 0 params c.args)
+    both 0 7 (when (not (length c.args == length params)) (fault F.Arity c.name)) (arguments_outside 0 params c.args) (if_so 0 7 (not (length c.args == length params)) (fault F.Arity c.name) (omega arith, omega arith, tt)) (arguments_early 0 params c.args)
 call_early ts (Some (I.Object k)) c = (omega arith, omega arith, tt)
 call_early ts (Some (I.Relation k)) c = (omega arith, omega arith, tt)
 call_early ts (Some (I.Client k)) c = (omega arith, omega arith, tt)
@@ -220,13 +219,13 @@ client_early : (sites : Number) (sc : Scope) (ts : List s.Transaction) (c : s.Cl
 unfolding words
 client_early sites sc ts c =
     let rule : s.Call → List Fault = λ call. call_faults ts (sc.item call.name.name) call in
-    both 0 8 (flat_map rule c.calls) (site_faults sites c.site) (all_of 0 8 rule (λ call. call_early ts (sc.item call.name.name) call) c.calls) (if_so 0 8 (int_le sites.value c.site.value) (number_fault F.Bounds c.site) (bounds_early c.site))
+    both 0 7 (flat_map rule c.calls) (site_faults sites c.site) (all_of 0 7 rule (λ call. call_early ts (sc.item call.name.name) call) c.calls) (if_so 0 7 (int_le sites.value c.site.value) (number_fault F.Bounds c.site) (bounds_early c.site))
 
 relation_early : (q : s.RelationDecl) → Early (of_relation q)
 unfolding words
 relation_early q =
     let names : List Ident = map (λ (d : RangeDecl). d.name) q.fields in
-    both 0 8 (flat_map range_bounds q.fields) (each duplicate names) (all_of 0 8 range_bounds (λ d. range_early d.lo d.hi) q.fields) (duplicates_early names)
+    both 0 7 (flat_map range_bounds q.fields) (each duplicate names) (all_of 0 7 range_bounds (λ d. range_early d.lo d.hi) q.fields) (duplicates_early names)
 
 declared_early : (w : s.Workload) → Early (declared_faults w)
 unfolding words
@@ -235,11 +234,11 @@ declared_early w =
     let b : List Fault = flat_map of_relation w.relations in
     let c : List Fault = flat_map (of_transaction (scope_of w)) w.transactions in
     let d : List Fault = flat_map (client_faults w.sites (scope_of w) w.transactions) w.clients in
-    both 0 8 (a ++ b ++ c) d (both 0 8 (a ++ b) c (both 0 8 a b (all_of 0 8 object_faults object_early w.objects) (all_of 0 8 of_relation relation_early w.relations)) (all_of 0 8 (of_transaction (scope_of w)) (transaction_early (scope_of w)) w.transactions)) (all_of 0 8 (client_faults w.sites (scope_of w) w.transactions) (client_early w.sites (scope_of w) w.transactions) w.clients)
+    both 0 7 (a ++ b ++ c) d (both 0 7 (a ++ b) c (both 0 7 a b (all_of 0 7 object_faults object_early w.objects) (all_of 0 7 of_relation relation_early w.relations)) (all_of 0 7 (of_transaction (scope_of w)) (transaction_early (scope_of w)) w.transactions)) (all_of 0 7 (client_faults w.sites (scope_of w) w.transactions) (client_early w.sites (scope_of w) w.transactions) w.clients)
 
 passing_early : {A : Type 0} (most : ℕ) (name : A → Ident) (xs : List A) → Early (each (passes_limit most name) xs)
 unfolding words
-passing_early most name xs = each_of 0 8 (passes_limit most name) (λ before x. if_so 0 8 (length before == most) (fault F.Limits (name x)) (omega arith, omega arith, tt)) [] xs
+passing_early most name xs = each_of 0 7 (passes_limit most name) (λ before x. if_so 0 7 (length before == most) (fault F.Limits (name x)) (omega arith, omega arith, tt)) [] xs
 
 limits_early : (w : s.Workload) → Early (limit_faults w)
 unfolding words
@@ -251,55 +250,49 @@ limits_early w =
     let f : List Fault = each (passes_limit 64 (λ (c : s.Client). c.name)) w.clients in
     let g : List Fault = each (passes_limit 20000 (λ (c : SitedCall). c.name)) (sited_calls w) in
     let h : List Fault = each (passes_limit 1024 (λ (c : SitedCall). c.name)) (ground_calls w) in
-    let ae : Early a = if_so 0 8 (int_lt w.sites.value (pos 1) || int_lt (pos 16) w.sites.value) (number_fault F.Limits w.sites) (omega arith, omega arith, tt) in
-    let be : Early b = all_of 0 8 slot_faults (λ q. if_so 0 8 (int_lt q.slots.value (pos 1) || int_lt (pos 64) q.slots.value) (number_fault F.Limits q.slots) (omega arith, omega arith, tt)) w.relations in
-    let ce : Early c = each_of 0 8 too_many_objects (λ before m. if_so 0 8 (nat_le (made before) 1024 && nat_lt 1024 (made before + m.objects)) (fault F.Limits m.name) (omega arith, omega arith, tt)) [] (makings w) in
-    let abc : Early (a ++ b ++ c) = both 0 8 (a ++ b) c (both 0 8 a b ae be) ce in
-    both 0 8 (a ++ b ++ c ++ d ++ f ++ g) h (both 0 8 (a ++ b ++ c ++ d ++ f) g (both 0 8 (a ++ b ++ c ++ d) f (both 0 8 (a ++ b ++ c) d abc (passing_early 256 (λ (t : s.Transaction). t.name) w.transactions)) (passing_early 64 (λ (c : s.Client). c.name) w.clients)) (passing_early 20000 (λ (c : SitedCall). c.name) (sited_calls w))) (passing_early 1024 (λ (c : SitedCall). c.name) (ground_calls w))
+    let ae : Early a = if_so 0 7 (int_lt w.sites.value (pos 1) || int_lt (pos 16) w.sites.value) (number_fault F.Limits w.sites) (omega arith, omega arith, tt) in
+    let be : Early b = all_of 0 7 slot_faults (λ q. if_so 0 7 (int_lt q.slots.value (pos 1) || int_lt (pos 64) q.slots.value) (number_fault F.Limits q.slots) (omega arith, omega arith, tt)) w.relations in
+    let ce : Early c = each_of 0 7 too_many_objects (λ before m. if_so 0 7 (nat_le (made before) 1024 && nat_lt 1024 (made before + m.objects)) (fault F.Limits m.name) (omega arith, omega arith, tt)) [] (makings w) in
+    let abc : Early (a ++ b ++ c) = both 0 7 (a ++ b) c (both 0 7 a b ae be) ce in
+    both 0 7 (a ++ b ++ c ++ d ++ f ++ g) h (both 0 7 (a ++ b ++ c ++ d ++ f) g (both 0 7 (a ++ b ++ c ++ d) f (both 0 7 (a ++ b ++ c) d abc (passing_early 256 (λ (t : s.Transaction). t.name) w.transactions)) (passing_early 64 (λ (c : s.Client). c.name) w.clients)) (passing_early 20000 (λ (c : SitedCall). c.name) (sited_calls w))) (passing_early 1024 (λ (c : SitedCall). c.name) (ground_calls w))
 
 scheduled_early : (cs : List s.Client) (before : ℕ) (g : Option Item) (x : Ident) → Early (scheduled cs before g x)
 unfolding words
 scheduled_early cs before None x = (omega arith, omega arith, tt)
-scheduled_early cs before (Some (I.Client k)) x = if_so 0 8 (before == call_count (slice_get cs k)) (fault F.Schedule x) (omega arith, omega arith, tt)
+scheduled_early cs before (Some (I.Client k)) x = if_so 0 7 (before == call_count (slice_get cs k)) (fault F.Schedule x) (omega arith, omega arith, tt)
 scheduled_early cs before (Some (I.Object k)) x = (omega arith, omega arith, tt)
 scheduled_early cs before (Some (I.Relation k)) x = (omega arith, omega arith, tt)
 scheduled_early cs before (Some (I.Transaction k)) x = (omega arith, omega arith, tt)
 
 schedule_early : (purpose : Purpose) (sc : Scope) (cs : List s.Client) (end : ℕ) (o : Option (List Ident)) → Early (schedule_faults purpose sc cs end o)
 unfolding words
-schedule_early purpose sc cs end None = if_so 0 8 (needs_order purpose && has_calls cs) (end_fault end) (omega arith, omega arith, tt)
+schedule_early purpose sc cs end None = if_so 0 7 (needs_order purpose && has_calls cs) (end_fault end) (omega arith, omega arith, tt)
 schedule_early purpose sc cs end (Some xs) =
-    both 0 8 (order_faults sc cs xs) (when (is_short cs xs) (end_fault end)) (each_of 0 8 (λ before x. scheduled cs (times x.name before) (sc.item x.name) x) (λ before x. scheduled_early cs (times x.name before) (sc.item x.name) x) [] xs) (if_so 0 8 (is_short cs xs) (end_fault end) (omega arith, omega arith, tt))
-
-unbuilt_early : (w : s.Workload) → Early (unbuilt_faults w)
-unfolding words
-unbuilt_early w =
-    both 0 8 (flat_map unbuilt_relation w.relations) (flat_map unbuilt_transaction w.transactions) (all_of 0 8 unbuilt_relation (λ q. (omega arith, omega arith, tt)) w.relations) (all_of 0 8 unbuilt_transaction (λ t. if_so 0 8 (not (are_built t.body)) (fault F.Unbuilt t.name) (omega arith, omega arith, tt)) w.transactions)
+    both 0 7 (order_faults sc cs xs) (when (is_short cs xs) (end_fault end)) (each_of 0 7 (λ before x. scheduled cs (times x.name before) (sc.item x.name) x) (λ before x. scheduled_early cs (times x.name before) (sc.item x.name) x) [] xs) (if_so 0 7 (is_short cs xs) (end_fault end) (omega arith, omega arith, tt))
 
 -- each fault of the text is of a phase before that of sizes
-pub text_early : (purpose : Purpose) (w : s.Workload) → Between 0 8 (text_faults purpose w)
+pub text_early : (purpose : Purpose) (w : s.Workload) → Between 0 7 (text_faults purpose w)
 unfolding words
 text_early purpose w =
-    let a = unbuilt_faults w in
     let names : List Ident = map (λ d. d.name) (global_names w) in
-    let b = each duplicate names in
-    let c = declared_faults w in
-    let d = limit_faults w in
-    let f = schedule_faults purpose (scope_of w) w.clients w.end w.schedule in
-    both 0 8 (a ++ b ++ c ++ d) f (both 0 8 (a ++ b ++ c) d (both 0 8 (a ++ b) c (both 0 8 a b (unbuilt_early w) (duplicates_early names)) (declared_early w)) (limits_early w)) (schedule_early purpose (scope_of w) w.clients w.end w.schedule)
+    let a = each duplicate names in
+    let b = declared_faults w in
+    let c = limit_faults w in
+    let d = schedule_faults purpose (scope_of w) w.clients w.end w.schedule in
+    both 0 7 (a ++ b ++ c) d (both 0 7 (a ++ b) c (both 0 7 a b (duplicates_early names) (declared_early w)) (limits_early w)) (schedule_early purpose (scope_of w) w.clients w.end w.schedule)
 
 -- ---- the L forms'
-pub sizes_in : (w : s.Workload) → Between 8 9 (size_faults w ++ print_faults w)
+pub sizes_in : (w : s.Workload) → Between 7 8 (size_faults w ++ print_faults w)
 unfolding words
 sizes_in w =
     let e : SitedCall → Extent = extent_of w in
     let prints : SitedCall → ℕ = λ c. prints_in (call_form w c) in
-    both 8 9 (size_faults w) (print_faults w) (each_of 8 9 (too_large_call e) (λ before c. if_so 8 9 (nat_lt 200000 (e c).size || nat_lt 1000 (e c).depth || nat_lt 2000000 (sum_by (λ d. (e d).size) before + (e c).size)) (fault F.Size c.name) (omega arith, omega arith, tt)) [] (ground_calls w)) (each_of 8 9 (prints_too_much prints) (λ before c. if_so 8 9 (nat_lt 1000000 (sum_by prints before + prints c)) (fault F.Size c.name) (omega arith, omega arith, tt)) [] (sited_calls w))
+    both 7 8 (size_faults w) (print_faults w) (each_of 7 8 (too_large_call e) (λ before c. if_so 7 8 (nat_lt 200000 (e c).size || nat_lt 1000 (e c).depth || nat_lt 2000000 (sum_by (λ d. (e d).size) before + (e c).size)) (fault F.Size c.name) (omega arith, omega arith, tt)) [] (ground_calls w)) (each_of 7 8 (prints_too_much prints) (λ before c. if_so 7 8 (nat_lt 1000000 (sum_by prints before + prints c)) (fault F.Size c.name) (omega arith, omega arith, tt)) [] (sited_calls w))
 
-pub later_in : (w : s.Workload) → Between 9 11 (weight_faults w ++ row_faults w)
+pub later_in : (w : s.Workload) → Between 8 10 (weight_faults w ++ row_faults w)
 unfolding words
 later_in w =
-    both 9 11 (weight_faults w) (row_faults w) (all_of 9 11 (heavy_call w) (λ c. if_so 9 11 (not (is_light heaviest (call_form w c) (first_weights (schema_of w)))) (fault F.Weight c.name) (omega arith, omega arith, tt)) (ground_calls w)) (each_of 9 11 (too_many_rows w) (λ before c. if_so 9 11 (nat_lt 4096 (rows (call_form w c)) || nat_lt 8000000 (sum_by (table_size w) before + table_size w c)) (fault F.Rows c.name) (omega arith, omega arith, tt)) [] (ground_calls w))
+    both 8 10 (weight_faults w) (row_faults w) (all_of 8 10 (heavy_call w) (λ c. if_so 8 10 (not (is_light heaviest (call_form w c) (first_weights (schema_of w)))) (fault F.Weight c.name) (omega arith, omega arith, tt)) (ground_calls w)) (each_of 8 10 (too_many_rows w) (λ before c. if_so 8 10 (nat_lt 4096 (rows (call_form w c)) || nat_lt 8000000 (sum_by (table_size w) before + table_size w c)) (fault F.Rows c.name) (omega arith, omega arith, tt)) [] (ground_calls w))
 
 -- ---- which one is kept
 abbrev RankedBelow : ℕ → Option Fault → Type 0

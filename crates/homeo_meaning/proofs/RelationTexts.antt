@@ -7,6 +7,9 @@ use Rattle.homeo_syntax.specs.declared.phrase.Compare.TheVariants.{Less}
 use Rattle.homeo_syntax.specs.declared.workload.ObjectDecl.{ObjectDecl}
 use Rattle.homeo_syntax.specs.declared.workload.RangeDecl.{RangeDecl}
 use Rattle.homeo_meaning.specs.Key.{words}
+use Rattle.homeo_meaning.specs.LForm.{l_form}
+use Rattle.homeo_meaning.specs.LowSizes.{prints_in}
+use Rattle.homeo_meaning.specs.Schema.{schema_of}
 use Rattle.homeo_meaning.specs.declared.call.Purpose.TheVariants.{Steps}
 use Rattle.homeo_meaning.specs.declared.rules.Fault.{Fault}
 use Rattle.homeo_meaning.specs.declared.rules.Phase.TheVariants as F
@@ -26,9 +29,9 @@ workload objects relations ts cs = record { version = 1; names = []; sites = num
 abbrev body : List s.Command → s.Workload
 body cs = workload (x ∷ []) (relation 7 15 (pos 2) (field 8 17 ∷ field 9 20 ∷ []) ∷ relation 11 24 (pos 3) (field 12 26 ∷ []) ∷ []) (record { name = id 2 30; params = field 5 31 ∷ []; body = commands cs } ∷ []) (client 3 800 (pos 0) [] ∷ [])
 
--- no fault of the text, but relations can't be run yet
+-- no fault
 abbrev fine : Option Fault
-fine = at F.Unbuilt 15
+fine = None
 
 abbrev always : s.Cond
 always = tests (s.True ∷ [])
@@ -434,3 +437,9 @@ slots_make_objects = refl
 eighteen_digits : decided Steps (workload [] (relation 7 15 (pos 999999999999999999) (field 8 17 ∷ []) ∷ []) [] []) ≡ at F.Limits 15
 unfolding words syntax_words
 eighteen_digits = refl
+
+-- ---- sizes
+-- a loop over two slots prints for each of them
+prints_of_each : prints_in (l_form (schema_of (body [])) [] [] (commands (s.Print one ∷ loop (s.Print one ∷ s.Print one ∷ []) ∷ []))) ≡ 5
+unfolding words syntax_words
+prints_of_each = refl

@@ -11,7 +11,9 @@ use Rattle.homeo_syntax.specs.declared.workload.RangeDecl.{RangeDecl}
 use Rattle.homeo_meaning.specs.Key.{words}
 use Rattle.homeo_meaning.specs.NumberRules.{passes_limit, distinct_after}
 use Rattle.homeo_meaning.specs.TransactionRules.{each}
-use Rattle.homeo_meaning.specs.SourceSizes.{prints_in}
+use Rattle.homeo_meaning.specs.LForm.{l_form}
+use Rattle.homeo_meaning.specs.LowSizes.{prints_in}
+use Rattle.homeo_meaning.specs.Schema.{schema_of}
 use Rattle.homeo_meaning.specs.Faults.{faults}
 use Rattle.homeo_meaning.specs.Deciding.{keep_all}
 use Rattle.homeo_meaning.specs.declared.call.Purpose.{Purpose}
@@ -211,7 +213,7 @@ unfolding words syntax_words
 order_names_nothing = refl
 
 -- ---- sizes and weights
-prints_of_both : prints_in (s.Block (commands (s.Print one ∷ s.If (tests []) (s.Print one) (s.Block (commands (s.Print one ∷ s.Skip ∷ s.Print one ∷ []))) ∷ []))) ≡ 4
+prints_of_both : prints_in (l_form (schema_of (body [])) [] [] (commands (s.Print one ∷ s.If (tests []) (s.Print one) (s.Block (commands (s.Print one ∷ s.Skip ∷ s.Print one ∷ []))) ∷ []))) ≡ 4
 unfolding words syntax_words
 prints_of_both = refl
 

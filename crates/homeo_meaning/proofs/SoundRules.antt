@@ -10,14 +10,13 @@ use Rattle.homeo_syntax.specs.declared.workload.ObjectDecl.{ObjectDecl}
 use Rattle.homeo_meaning.specs.Key.{words}
 use Rattle.homeo_meaning.specs.Schema.{declared_object, schema_of}
 use Rattle.homeo_meaning.specs.Bounds.{bounds_of, AreIn}
-use Rattle.homeo_meaning.specs.Built.{are_built, IsBuilt}
 use Rattle.homeo_meaning.specs.Serial.{transaction_named, arguments}
 use Rattle.homeo_meaning.specs.Acceptance.{IsLightBody, IsLightCall}
 use Rattle.homeo_meaning.specs.NameRules.{when, fault}
 use Rattle.homeo_meaning.specs.GlobalNames.{GlobalName, SitedCall, numbered_from, first_named, scope_of, transaction_at, called, sited_calls_of, sited_calls}
 use Rattle.homeo_meaning.specs.NumberRules.{range_faults, outside, object_faults, site_faults, same_ground, ground_calls}
 use Rattle.homeo_meaning.specs.CallRules.{call_faults, client_faults}
-use Rattle.homeo_meaning.specs.SizeRules.{unbuilt_relation, unbuilt_transaction, unbuilt_faults, body_form, call_form, heaviest, heavy_call, weight_faults}
+use Rattle.homeo_meaning.specs.SizeRules.{body_form, call_form, heaviest, heavy_call, weight_faults}
 use Rattle.homeo_meaning.specs.LowWeights.{first_weights, is_light}
 use Rattle.homeo_meaning.specs.Faults.{declared_faults}
 use Rattle.homeo_meaning.specs.declared.rules.Fault.{Fault}
@@ -26,7 +25,7 @@ use Rattle.homeo_meaning.specs.declared.rules.Item.TheVariants as I
 use Rattle.homeo_meaning.specs.declared.rules.Phase.{Phase}
 use Rattle.homeo_meaning.specs.declared.rules.Phase.TheVariants as F
 use Rattle.homeo_meaning.proofs.FaultParts.{none_first, none_second, NoDeclaredFault, declared_parts}
-use Rattle.homeo_meaning.proofs.FormRules.{Every, spread, SameCall, same_call}
+use Rattle.homeo_meaning.proofs.GroundCalls.{Every, spread, SameCall, same_call}
 
 -- ---- small steps
 no_fault : (p : Phase) (x : Ident) (b : Bool) → when (not b) (fault p x) ≡ [] → b ≡ true
@@ -50,26 +49,6 @@ all_tail P x xs h k d lt = h (suc k) d (omega arith)
 pub each-none : {A : Type 0} (rule : A → List Fault) (P : A → Type 0) → ((x : A) → rule x ≡ [] → P x) → (xs : List A) → flat_map rule xs ≡ [] → All P xs
 each-none rule P h [] e = all_none P
 each-none rule P h (x ∷ xs) e = all_more P x xs (h x (none_first (rule x) (flat_map rule xs) e)) (each-none rule P h xs (none_second (rule x) (flat_map rule xs) e))
-
--- ---- what can be run
-no_relations : (qs : List s.RelationDecl) → flat_map unbuilt_relation qs ≡ [] → qs ≡ []
-unfolding words
-no_relations [] e = refl
-no_relations (q ∷ qs) e = cc
-
-built_transaction : (t : s.Transaction) → unbuilt_transaction t ≡ [] → are_built t.body ≡ true
-unfolding words
-built_transaction t e = no_fault F.Unbuilt t.name (are_built t.body) e
-
-pub is-built : (w : s.Workload) → unbuilt_faults w ≡ [] → IsBuilt w
-unfolding words
-is-built w e =
-    let a : List Fault = flat_map unbuilt_relation w.relations in
-    let b : List Fault = flat_map unbuilt_transaction w.transactions in
-    record {
-      relations = no_relations w.relations (none_first a b e);
-      bodies = each-none unbuilt_transaction (λ t. are_built t.body ≡ true) built_transaction w.transactions (none_second a b e);
-    }
 
 -- ---- the initial database
 pub not_less : (a b : ℤ) → int_lt a b ≡ false → b ≤ℤ a

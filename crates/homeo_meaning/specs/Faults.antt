@@ -9,7 +9,7 @@ use Rattle.homeo_meaning.specs.TransactionRules.{each, transaction_faults}
 use Rattle.homeo_meaning.specs.GlobalNames.{global_names, duplicate, scope_of}
 use Rattle.homeo_meaning.specs.NumberRules.{object_faults, range_bounds, limit_faults}
 use Rattle.homeo_meaning.specs.CallRules.{client_faults, schedule_faults}
-use Rattle.homeo_meaning.specs.SizeRules.{unbuilt_faults, size_faults, print_faults, weight_faults, row_faults}
+use Rattle.homeo_meaning.specs.SizeRules.{size_faults, print_faults, weight_faults, row_faults}
 use Rattle.homeo_meaning.specs.declared.call.Purpose.{Purpose}
 use Rattle.homeo_meaning.specs.declared.rules.Fault.{Fault}
 use Rattle.homeo_meaning.specs.declared.rules.Phase.{Phase}
@@ -38,8 +38,7 @@ declared_faults w =
 abbrev pub text_faults : Purpose → s.Workload → List Fault
 unfolding words
 text_faults purpose w =
-    unbuilt_faults w
-    ++ each duplicate (map (λ d. d.name) (global_names w))
+    each duplicate (map (λ d. d.name) (global_names w))
     ++ declared_faults w
     ++ limit_faults w
     ++ schedule_faults purpose (scope_of w) w.clients w.end w.schedule
@@ -65,15 +64,13 @@ rank P.Arity = 3
 rank P.Bounds = 4
 rank P.Limits = 5
 rank P.Schedule = 6
-rank P.Unbuilt = 7
-rank P.Size = 8
-rank P.Weight = 9
-rank P.Rows = 10
+rank P.Size = 7
+rank P.Weight = 8
+rank P.Rows = 9
 
 -- the number of a phase's refusals
 abbrev pub code : Phase → ℕ
 unfolding words
-code P.Unbuilt = 0
 code P.Duplicate = 5
 code P.Unknown = 6
 code P.Kind = 7

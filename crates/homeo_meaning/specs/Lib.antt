@@ -1,7 +1,6 @@
 pub mod Acceptance
 pub mod Bindings
 pub mod Bounds
-pub mod Built
 pub mod CallRules
 pub mod Calls
 pub mod CanRun
@@ -33,7 +32,6 @@ pub mod Serial
 pub mod Settings
 pub mod SizeRules
 pub mod Small
-pub mod SourceSizes
 pub mod Table
 pub mod Terms
 pub mod TransactionRules

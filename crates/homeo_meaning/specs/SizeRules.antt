@@ -1,5 +1,5 @@
--- The rules of how large calls are, how much they print, how large their values may get, and of what can be run at this stage.
-use Rattle.std.specs.Prelude.{ℕ, ℤ, ◌+◌, ◌*◌, ◌||◌, not, nat_lt, List, ◌++◌, map, Option, Some, None}
+-- The rules of how large calls are, how much they print, and how large their values may get.
+use Rattle.std.specs.Prelude.{ℕ, ℤ, ◌+◌, ◌*◌, ◌||◌, not, nat_lt, List, map, Option, Some, None}
 use Rattle.std.specs.List.{flat_map, sum_by}
 use Rattle.homeo_syntax.specs.Source as s
 use Rattle.homeo_syntax.specs.Low.{Command, Skip}
@@ -8,13 +8,12 @@ use Rattle.homeo_meaning.specs.Schema.{nat_of, schema_of}
 use Rattle.homeo_meaning.specs.LForm.{l_form}
 use Rattle.homeo_meaning.specs.LowSizes.{Extent, call_extent, rows, prints_in}
 use Rattle.homeo_meaning.specs.LowWeights.{first_weights, is_light}
-use Rattle.homeo_meaning.specs.Built.{are_built}
 use Rattle.homeo_meaning.specs.NameRules.{when, fault}
 use Rattle.homeo_meaning.specs.TransactionRules.{each}
 use Rattle.homeo_meaning.specs.GlobalNames.{SitedCall, called, sited_calls}
 use Rattle.homeo_meaning.specs.NumberRules.{ground_calls}
 use Rattle.homeo_meaning.specs.declared.rules.Fault.{Fault}
-use Rattle.homeo_meaning.specs.declared.rules.Phase.TheVariants.{Unbuilt, Size, Weight, Rows}
+use Rattle.homeo_meaning.specs.declared.rules.Phase.TheVariants.{Size, Weight, Rows}
 
 -- ---- the L forms of calls
 abbrev pub body_form : s.Workload → Option s.Transaction → List ℤ → Command
@@ -81,16 +80,3 @@ too_many_rows w before c =
 abbrev pub row_faults : s.Workload → List Fault
 unfolding words
 row_faults w = each (too_many_rows w) (ground_calls w)
-
--- ---- what can be run
-abbrev pub unbuilt_relation : s.RelationDecl → List Fault
-unbuilt_relation q = fault Unbuilt q.name
-
-abbrev pub unbuilt_transaction : s.Transaction → List Fault
-unfolding words
-unbuilt_transaction t = when (not (are_built t.body)) (fault Unbuilt t.name)
-
--- relations and forms over relations can't be run yet
-abbrev pub unbuilt_faults : s.Workload → List Fault
-unfolding words
-unbuilt_faults w = flat_map unbuilt_relation w.relations ++ flat_map unbuilt_transaction w.transactions

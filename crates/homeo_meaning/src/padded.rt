@@ -4,7 +4,8 @@ ghost use Rattle.std.specs.Prelude.{◌≡◌, ℕ, ◌==◌, if◌then◌else�
 
 use homeo_syntax::Memory;
 
-pub(crate) fn item_or<T: Copy>(items: &[T], n: usize, absent: T) -> T
+/// The item at a place.
+pub fn item_or<T: Copy>(items: &[T], n: usize, absent: T) -> T
     ensures { result ≡ slice_index_or items.now n absent }
 {
     if n < items.len() { items[n] } else { absent }
@@ -12,12 +13,7 @@ pub(crate) fn item_or<T: Copy>(items: &[T], n: usize, absent: T) -> T
 
 /// Puts an item at a place, with absent ones below it where the table was shorter.
 #[tactic(auto, using(crate::proofs::AbsentItems::padded))]
-pub(crate) fn put<T: Copy + Drop>(
-    items: &mut Vec<T>,
-    n: usize,
-    item: T,
-    absent: T,
-) -> Result<(), Memory>
+pub fn put<T: Copy + Drop>(items: &mut Vec<T>, n: usize, item: T, absent: T) -> Result<(), Memory>
     ensures { OnOk result ((m : ℕ) → slice_index_or items.new.items m absent ≡
         if n == m then item else slice_index_or items.old.items m absent) }
 {

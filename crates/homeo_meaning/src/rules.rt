@@ -43,8 +43,6 @@ pub enum Phase {
     Limits,
     /// E14: a schedule that doesn't fit the calls.
     Schedule,
-    /// E0: a form that can't be run yet.
-    Unbuilt,
     /// E11: a call that is too large or too deep, or calls that are too large or print too much together.
     Size,
     /// E10: an expression whose values may get too large.

@@ -10,10 +10,13 @@ use homeo_syntax::RangeDecl;
 
 /// The place of a declaration in its list, and its bounds.
 #[derive(Clone, Copy)]
-pub(crate) struct Spot {
-    pub(crate) place: usize,
-    pub(crate) lo: i64,
-    pub(crate) hi: i64,
+pub struct Spot {
+    /// The number of declarations where there is none of the name.
+    pub place: usize,
+    /// 0 where there is none.
+    pub lo: i64,
+    /// 0 where there is none.
+    pub hi: i64,
 }
 
 impl Spot {
@@ -27,7 +30,7 @@ impl Spot {
 }
 
 /// The field of a name: where there is none, the number of fields, and the bounds 0 and 0.
-pub(crate) fn find_field(fields: &[RangeDecl], name: u32) -> Spot
+pub fn find_field(fields: &[RangeDecl], name: u32) -> Spot
     ensures { plain_spot result ≡ spot (map declared_range fields.now) name }
 {
     for place in 0..fields.len() {

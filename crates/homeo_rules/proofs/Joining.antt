@@ -1,6 +1,6 @@
 -- What the code finds of a whole workload, rule by rule.
-use Rattle.std.proofs.Common.{◌≡◌, ℕ, zero, suc, ◌+◌, true, false, List, [], ◌∷◌, ◌++◌, map, replicate, length, Option, Some, None, refl, sym, ap, subst, ◌∙◌, arith, append_assoc}
-use Rattle.std.specs.Prelude.{slice_get, is_some}
+use Rattle.std.proofs.Common.{◌≡◌, ℕ, zero, suc, ◌+◌, List, [], ◌∷◌, ◌++◌, map, replicate, length, Option, Some, None, refl, sym, ap, subst, ◌∙◌, arith, append_assoc}
+use Rattle.std.specs.Prelude.{slice_get}
 use Rattle.std.specs.List.{flat_map}
 use Rattle.homeo_syntax.specs.Key.{words as syntax_words}
 use Rattle.homeo_syntax.specs.Source as s
@@ -19,15 +19,9 @@ use Rattle.homeo_meaning.specs.TransactionRules.{each}
 use Rattle.homeo_meaning.specs.GlobalNames.{GlobalName, numbered_from, global_names, duplicate, field_names, scope_of, sited_calls, called}
 use Rattle.homeo_meaning.specs.NumberRules.{object_faults, site_count_faults, slot_faults, object_making, relation_making, makings, too_many_objects, passes_limit, limit_faults, distinct_after, ground_calls}
 use Rattle.homeo_meaning.specs.CallRules.{client_faults, schedule_faults}
-use Rattle.homeo_meaning.specs.SizeRules.{unbuilt_relation, unbuilt_transaction, unbuilt_faults, call_form, extent_of, too_large, size_faults, prints_too_much, print_faults, weight_faults, too_many_rows, row_faults}
-use Rattle.homeo_meaning.specs.Schema.{nat_of}
-use Rattle.homeo_meaning.specs.SourceSizes.{prints_of}
-use Rattle.homeo_meaning.specs.LowSizes.{prints_in}
-use Rattle.homeo_meaning.specs.Built.{IsBuilt}
+use Rattle.homeo_meaning.specs.SizeRules.{size_faults, print_faults, weight_faults, row_faults}
 use Rattle.homeo_meaning.specs.Faults.{of_relation, of_transaction, declared_faults, text_faults, form_faults, faults}
-use Rattle.homeo_meaning.proofs.FaultParts.{NoTextFault, text_parts, declared_parts, limit_parts}
-use Rattle.homeo_meaning.proofs.SoundRules.{is-built}
-use Rattle.homeo_meaning.proofs.FormRules.{prints_are}
+use Rattle.homeo_meaning.proofs.FaultParts.{NoTextFault, text_parts, limit_parts}
 use Rattle.homeo_meaning.proofs.Phases.{text_early, sizes_in, later_in, both as both_lists, wider_below, wider_above, decides_first}
 use Rattle.homeo_meaning.specs.Deciding.{keep_all}
 use Rattle.homeo_meaning.specs.declared.call.Purpose.{Purpose}
@@ -43,33 +37,16 @@ use Rattle.homeo_rules.specs.Items.{Items, along_names}
 use Rattle.homeo_rules.specs.Listwise.{along_all}
 use Rattle.homeo_rules.specs.Within.{AreNamed}
 use Rattle.homeo_rules.specs.Callers.{client_faults_of, transaction_faults_of}
-use Rattle.homeo_rules.specs.Stages.{unbuilt_relation_of, unbuilt_transaction_of}
 use Rattle.homeo_rules.specs.Counting.{count_all, making_of}
 use Rattle.homeo_rules.specs.Relations.{relation_faults_of, slot_faults_of}
 use Rattle.homeo_rules.specs.Limited.{transaction_passing, client_passing, call_passing, distinct_within}
-use Rattle.homeo_rules.specs.Printing.{capped_prints, print_all}
-use Rattle.homeo_rules.specs.Weighing.{call_fits, heavy_fault}
 use Rattle.homeo_rules.specs.Decided.{NamesGlobals, faults_with_names, IsFaultless}
 use Rattle.homeo_rules.proofs.Steps.{keep_all-append}
 use Rattle.homeo_rules.proofs.Listing.{all-along, all-mapped}
 use Rattle.homeo_rules.proofs.Counts.{objects-counted}
 use Rattle.homeo_rules.proofs.First.{along, along-append, along-numbered, Along, table_is, NamesWithin}
 use Rattle.homeo_rules.proofs.Limiting.{passing, limit-is, transaction-plain, client-plain, call-plain, ground-plain, ground-are, sited-plain}
-use Rattle.homeo_rules.proofs.Printings.{printed, counts-plain}
-use Rattle.homeo_rules.proofs.HeavyCalls.{heavy-calls}
 use Rattle.homeo_rules.proofs.OneDecides.{none_left}
-
--- ---- what can be run
-pub unbuilt-along : (w : Workload) (rs : List RelationDecl) (ts : List Transaction) → rs ≡ w.relations.items → ts ≡ w.transactions.items → along_all unbuilt_transaction_of (along_all unbuilt_relation_of None rs) ts ≡ keep_all None (unbuilt_faults (plain_workload w))
-unfolding words meaning_words syntax_words
-unbuilt-along w rs ts er et =
-    let a : List Fault = flat_map unbuilt_relation (map plain_relation w.relations.items) in
-    let b : List Fault = flat_map unbuilt_transaction (map plain_transaction w.transactions.items) in
-    (λ i. along_all unbuilt_transaction_of (along_all unbuilt_relation_of None (er i)) (et i))
-    ∙ sym (
-    keep_all-append None a b
-    ∙ all-mapped plain_transaction unbuilt_transaction (keep_all None a) w.transactions.items
-    ∙ ap (λ o. along_all unbuilt_transaction_of o w.transactions.items) (all-mapped plain_relation unbuilt_relation None w.relations.items))
 
 -- ---- global names
 names-map : {A : Type 0} (n : ℕ) (name : A → Ident) (kind : ℕ → Item) (i : ℕ) (xs : List A) → Each (λ x. IsBelow n (name x)) xs → NamesWithin n (numbered_from kind i (map name xs))
@@ -110,16 +87,16 @@ names-plain : {A B : Type 0} (view : A → B) (f : A → Ident) (g : B → Ident
 names-plain view f g e [] = refl
 names-plain view f g e (x ∷ xs) = λ i. sym (e x) i ∷ names-plain view f g e xs i
 
-pub entered-all : (w : Workload) (best : Option Fault) (n : ℕ) (t0 t1 t2 t3 t4 : Items) (os : List ObjectDecl) (rs : List RelationDecl) (ts : List Transaction) (cs : List Client) → IsWellFormed (plain_workload w) → n ≡ length w.names.items → t0 ≡ record { items = replicate n None; best = best } → os ≡ w.objects.items → rs ≡ w.relations.items → ts ≡ w.transactions.items → cs ≡ w.clients.items → t1 ≡ along_names (λ d. d.name) I.Object 0 t0 os → t2 ≡ along_names (λ d. d.name) I.Relation 0 t1 rs → t3 ≡ along_names (λ d. d.name) I.Transaction 0 t2 ts → t4 ≡ along_names (λ d. d.name) I.Client 0 t3 cs → NamesGlobals (plain_workload w) best t4
+pub entered-all : (w : Workload) (n : ℕ) (t0 t1 t2 t3 t4 : Items) (os : List ObjectDecl) (rs : List RelationDecl) (ts : List Transaction) (cs : List Client) → IsWellFormed (plain_workload w) → n ≡ length w.names.items → t0 ≡ record { items = replicate n None; best = None } → os ≡ w.objects.items → rs ≡ w.relations.items → ts ≡ w.transactions.items → cs ≡ w.clients.items → t1 ≡ along_names (λ d. d.name) I.Object 0 t0 os → t2 ≡ along_names (λ d. d.name) I.Relation 0 t1 rs → t3 ≡ along_names (λ d. d.name) I.Transaction 0 t2 ts → t4 ≡ along_names (λ d. d.name) I.Client 0 t3 cs → NamesGlobals (plain_workload w) t4
 unfolding words meaning_words syntax_words
-entered-all w best n t0 t1 t2 t3 t4 os rs ts cs formed en e0 eo er et ec e1 e2 e3 e4 =
+entered-all w n t0 t1 t2 t3 t4 os rs ts cs formed en e0 eo er et ec e1 e2 e3 e4 =
     let p : s.Workload = plain_workload w in
-    let start : Items = record { items = replicate (length w.names.items) None; best = best } in
+    let start : Items = record { items = replicate (length w.names.items) None; best = None } in
     let o : List GlobalName = numbered_from I.Object 0 (map (λ d. d.name) p.objects) in
     let r : List GlobalName = numbered_from I.Relation 0 (map (λ d. d.name) p.relations) in
     let t : List GlobalName = numbered_from I.Transaction 0 (map (λ d. d.name) p.transactions) in
     let c : List GlobalName = numbered_from I.Client 0 (map (λ d. d.name) p.clients) in
-    let s0 : t0 ≡ start = e0 ∙ ap (λ k. record { items = replicate k None; best = best }) en in
+    let s0 : t0 ≡ start = e0 ∙ ap (λ k. record { items = replicate k None; best = None }) en in
     let s1 : t1 ≡ along start o = e1 ∙ (λ i. along_names (λ d. d.name) I.Object 0 (s0 i) (eo i)) ∙ along-numbered (λ (d : ObjectDecl). d.name) I.Object 0 start w.objects.items in
     let s2 : t2 ≡ along (along start o) r =
     e2 ∙ (λ i. along_names (λ d. d.name) I.Relation 0 (s1 i) (er i)) ∙ along-numbered (λ (d : RelationDecl). d.name) I.Relation 0 (along start o) w.relations.items
@@ -132,7 +109,7 @@ entered-all w best n t0 t1 t2 t3 t4 os rs ts cs formed en e0 eo er et ec e1 e2 e
     ∙ ap (λ l. along (along (along (along start o) r) t) (numbered_from I.Client 0 l)) (names-plain plain_client (λ d. d.name) (λ d. d.name) (λ x. refl) w.clients.items) in
     let joined : along (along (along (along start o) r) t) c ≡ along start (global_names p) =
     sym (along-append start ((o ++ r) ++ t) c ∙ ap (λ z. along z c) (along-append start (o ++ r) t ∙ ap (λ z. along z t) (along-append start o r))) in
-    let whole : Along (length w.names.items) [] start (along start (global_names p)) (global_names p) = table_is (length w.names.items) best (global_names p) (all-named p formed) in
+    let whole : Along (length w.names.items) [] start (along start (global_names p)) (global_names p) = table_is (length w.names.items) None (global_names p) (all-named p formed) in
     let e : t4 ≡ along start (global_names p) = s4 ∙ joined in
     record {
       items = ap (λ (u : Items). item_at u.items) e ∙ (λ i m. whole.agree m i);
@@ -213,38 +190,12 @@ fields-plain [] k = refl
 fields-plain (q ∷ qs) zero = refl
 fields-plain (q ∷ qs) (suc k) = fields-plain qs k
 
-pub scope-is : (w : Workload) (best : Option Fault) (t : Items) (items : List (Option Item)) (qs : List RelationDecl) → NamesGlobals (plain_workload w) best t → items ≡ t.items → qs ≡ w.relations.items → scope_with items qs ≡ scope_of (plain_workload w)
+pub scope-is : (w : Workload) (t : Items) (items : List (Option Item)) (qs : List RelationDecl) → NamesGlobals (plain_workload w) t → items ≡ t.items → qs ≡ w.relations.items → scope_with items qs ≡ scope_of (plain_workload w)
 unfolding meaning_words syntax_words
-scope-is w best t items qs globals ei eq =
+scope-is w t items qs globals ei eq =
     (λ i. scope_with (ei i) (eq i)) ∙ (λ i. record { item = globals.items i; fields = λ k. fields-plain w.relations.items k i })
 
--- ---- what the L forms are like
-built-faultless : (w : s.Workload) → IsFaultless w → IsBuilt w
-built-faultless w h = is-built w h.unbuilt
-
-bounded-faultless : (w : s.Workload) → IsFaultless w → flat_map object_faults w.objects ≡ []
-unfolding meaning_words
-bounded-faultless w h =
-    (declared_parts w h.declared).objects
-
-pub prints-along : (w : Workload) (sc : Scope) (best : Option Fault) (ts : List Transaction) (calls : List SitedCall) → sc ≡ scope_of (plain_workload w) → ts ≡ w.transactions.items → map sited calls ≡ sited_calls (plain_workload w) → IsFaultless (plain_workload w) → (print_all sc (map capped_prints ts) (record { total = 0; best = best }) calls).best ≡ keep_all best (print_faults (plain_workload w))
-unfolding meaning_words syntax_words
-prints-along w sc best ts calls es et el sound =
-    let p : s.Workload = plain_workload w in
-    let source : g.SitedCall → ℕ = λ c. prints_of (called p c.name) in
-    let form : g.SitedCall → ℕ = λ c. prints_in (call_form p c) in
-    let same : source ≡ form = λ i c. sym (prints_are p (built-faultless p sound) c) i in
-    (λ i. (print_all (es i) (map capped_prints (et i)) (record { total = 0; best = best }) calls).best)
-    ∙ printed (scope_of p) (map capped_prints w.transactions.items) source (λ c. counts-plain p w.transactions.items refl ((scope_of p).item c.name.name)) best calls
-    ∙ (λ i. keep_all best (each (prints_too_much (same i)) (el i)))
-
-pub weights-along : (w : Workload) (sc : Scope) (n : ℕ) (best : Option Fault) (os : List ObjectDecl) (ts : List Transaction) (calls : List SitedCall) → IsWellFormed (plain_workload w) → n ≡ length w.names.items → sc ≡ scope_of (plain_workload w) → os ≡ w.objects.items → ts ≡ w.transactions.items → map sited calls ≡ ground_calls (plain_workload w) → IsFaultless (plain_workload w) → along_all (heavy_fault (call_fits sc os n ts)) best calls ≡ keep_all best (weight_faults (plain_workload w))
-unfolding syntax_words
-weights-along w sc n best os ts calls formed en es eo et el sound =
-    let p : s.Workload = plain_workload w in
-    (λ i. along_all (heavy_fault (call_fits (es i) (eo i) (en i) (et i))) best calls)
-    ∙ heavy-calls p (length w.names.items) w.transactions.items best calls (built-faultless p sound) (bounded-faultless p sound) refl (are-named (length w.names.items) w.transactions.items formed.named.transactions) el
-
+-- ---- calls
 -- without a fault of limits, the ground calls that are kept are all
 pub grounds-are : (w : Workload) (calls : List SitedCall) → map sited calls ≡ sited_calls (plain_workload w) → IsFaultless (plain_workload w) → map sited (distinct_within 1024 [] calls) ≡ ground_calls (plain_workload w)
 unfolding meaning_words
@@ -280,32 +231,29 @@ with-names purpose w best =
     let c = schedule_faults purpose (scope_of w) w.clients w.end w.schedule in
     sym (keep_all-append best (a ++ b) c ∙ ap (λ o. keep_all o c) (keep_all-append best a b))
 
-pub of-text : (purpose : Purpose) (w : s.Workload) → keep_all (keep_all (keep_all None (unbuilt_faults w)) (each duplicate (map (λ d. d.name) (global_names w)))) (faults_with_names purpose w) ≡ keep_all None (text_faults purpose w)
+pub of-text : (purpose : Purpose) (w : s.Workload) → keep_all (keep_all None (each duplicate (map (λ d. d.name) (global_names w)))) (faults_with_names purpose w) ≡ keep_all None (text_faults purpose w)
 unfolding words meaning_words
 of-text purpose w =
-    let u = unbuilt_faults w in
     let n = each duplicate (map (λ (d : GlobalName). d.name) (global_names w)) in
     let a = declared_faults w in
     let b = limit_faults w in
     let c = schedule_faults purpose (scope_of w) w.clients w.end w.schedule in
-    sym (with-names purpose w (keep_all (keep_all None u) n))
+    sym (with-names purpose w (keep_all None n))
     ∙ sym (
-    keep_all-append None (u ++ n ++ a ++ b) c
+    keep_all-append None (n ++ a ++ b) c
     ∙ ap (λ o. keep_all o c) (
-    keep_all-append None (u ++ n ++ a) b
-    ∙ ap (λ o. keep_all o b) (
-    keep_all-append None (u ++ n) a
-    ∙ ap (λ o. keep_all o a) (keep_all-append None u n))))
+    keep_all-append None (n ++ a) b
+    ∙ ap (λ o. keep_all o b) (keep_all-append None n a)))
 
 -- a fault of the text decides
 pub text-decides : (purpose : Purpose) (w : s.Workload) (f : Fault) → keep_all None (text_faults purpose w) ≡ Some f → Some f ≡ keep_all None (faults purpose w)
 unfolding meaning_words
 text-decides purpose w f e =
-    let late = both_lists 8 11 (size_faults w ++ print_faults w) (weight_faults w ++ row_faults w) (wider_below 8 9 11 (size_faults w ++ print_faults w) (omega arith) (sizes_in w)) (wider_above 8 9 11 (weight_faults w ++ row_faults w) (omega arith) (later_in w)) in
+    let late = both_lists 7 10 (size_faults w ++ print_faults w) (weight_faults w ++ row_faults w) (wider_below 7 8 10 (size_faults w ++ print_faults w) (omega arith) (sizes_in w)) (wider_above 7 8 10 (weight_faults w ++ row_faults w) (omega arith) (later_in w)) in
     sym (
     keep_all-append None (text_faults purpose w) (form_faults w)
     ∙ ap (keep_all (keep_all None (text_faults purpose w))) (append_assoc (size_faults w ++ print_faults w) (weight_faults w) (row_faults w))
-    ∙ decides_first 0 8 11 (text_faults purpose w) ((size_faults w ++ print_faults w) ++ (weight_faults w ++ row_faults w)) f (text_early purpose w) late e)
+    ∙ decides_first 0 7 10 (text_faults purpose w) ((size_faults w ++ print_faults w) ++ (weight_faults w ++ row_faults w)) f (text_early purpose w) late e)
 
 -- without one, those of the L forms do
 pub forms-decide : (purpose : Purpose) (w : s.Workload) → keep_all None (text_faults purpose w) ≡ None → keep_all None (form_faults w) ≡ keep_all None (faults purpose w)
@@ -315,60 +263,7 @@ forms-decide purpose w e = sym (keep_all-append None (text_faults purpose w) (fo
 pub faultless : (purpose : Purpose) (w : s.Workload) → keep_all None (text_faults purpose w) ≡ None → IsFaultless w
 faultless purpose w e =
     let p : NoTextFault purpose w = text_parts purpose w (none_left (text_faults purpose w) e) in
-    record { unbuilt = p.unbuilt; declared = p.declared; limits = p.limits }
+    record { declared = p.declared; limits = p.limits }
 
--- a fault of sizes decides before those of weights and rows
-pub sizes-decide : (w : s.Workload) (f : Fault) → keep_all (keep_all None (size_faults w)) (print_faults w) ≡ Some f → Some f ≡ keep_all None (form_faults w)
-unfolding meaning_words
-sizes-decide w f e =
-    sym (
-    ap (keep_all None) (append_assoc (size_faults w ++ print_faults w) (weight_faults w) (row_faults w))
-    ∙ keep_all-append None (size_faults w ++ print_faults w) (weight_faults w ++ row_faults w)
-    ∙ decides_first 8 9 11 (size_faults w ++ print_faults w) (weight_faults w ++ row_faults w) f (sizes_in w) (later_in w) (keep_all-append None (size_faults w) (print_faults w) ∙ e))
-
-pub after-sizes : (w : s.Workload) → keep_all (keep_all None (size_faults w)) (print_faults w) ≡ None → keep_all (keep_all None (weight_faults w)) (row_faults w) ≡ keep_all None (form_faults w)
-unfolding meaning_words
-after-sizes w e =
-    sym (
-    keep_all-append None (size_faults w ++ print_faults w ++ weight_faults w) (row_faults w)
-    ∙ ap (λ o. keep_all o (row_faults w)) (
-    keep_all-append None (size_faults w ++ print_faults w) (weight_faults w)
-    ∙ ap (λ o. keep_all o (weight_faults w)) (keep_all-append None (size_faults w) (print_faults w) ∙ e)))
-
--- ---- the same, of what the code has found
-pub sites-plain : (w : Workload) (n : ℕ) → n ≡ nat_of w.sites.value → n ≡ nat_of (plain_workload w).sites.value
-unfolding syntax_words
-sites-plain w n e = e
-
-pub built-plain : (w : Workload) → IsFaultless (plain_workload w) → IsBuilt (plain_workload w)
-built-plain w sound = built-faultless (plain_workload w) sound
-
-pub grounds-plain : (w : Workload) (calls kept : List SitedCall) → map sited calls ≡ sited_calls (plain_workload w) → IsFaultless (plain_workload w) → kept ≡ distinct_within 1024 [] calls → map sited kept ≡ ground_calls (plain_workload w)
-grounds-plain w calls kept el sound e = ap (map sited) e ∙ grounds-are w calls el sound
-
-sizes-plain : (w : Workload) (kept : List SitedCall) → map sited kept ≡ ground_calls (plain_workload w) → keep_all None (each (too_large (extent_of (plain_workload w))) (map sited kept)) ≡ keep_all None (size_faults (plain_workload w))
-unfolding meaning_words
-sizes-plain w kept e = ap (λ l. keep_all None (each (too_large (extent_of (plain_workload w))) l)) e
-
-rows-plain : (w : Workload) (kept : List SitedCall) (best : Option Fault) → map sited kept ≡ ground_calls (plain_workload w) → keep_all best (each (too_many_rows (plain_workload w)) (map sited kept)) ≡ keep_all best (row_faults (plain_workload w))
-unfolding meaning_words
-rows-plain w kept best e = ap (λ l. keep_all best (each (too_many_rows (plain_workload w)) l)) e
-
-pub first-found : (w : Workload) (kept : List SitedCall) (one two : Option Fault) → map sited kept ≡ ground_calls (plain_workload w) → one ≡ keep_all None (each (too_large (extent_of (plain_workload w))) (map sited kept)) → two ≡ keep_all one (print_faults (plain_workload w)) → two ≡ keep_all (keep_all None (size_faults (plain_workload w))) (print_faults (plain_workload w))
-first-found w kept one two e h k = k ∙ ap (λ o. keep_all o (print_faults (plain_workload w))) (h ∙ sizes-plain w kept e)
-
-pub some-found : (w : s.Workload) (two : Option Fault) → two ≡ keep_all (keep_all None (size_faults w)) (print_faults w) → is_some two ≡ true → two ≡ keep_all None (form_faults w)
-some-found w None e h = cc
-some-found w (Some f) e h = sizes-decide w f (sym e)
-
-none_is : (o : Option Fault) → is_some o ≡ false → o ≡ None
-none_is None h = refl
-none_is (Some f) h = cc
-
-pub none-found : (w : Workload) (kept : List SitedCall) (two three : Option Fault) → map sited kept ≡ ground_calls (plain_workload w) → two ≡ keep_all (keep_all None (size_faults (plain_workload w))) (print_faults (plain_workload w)) → is_some two ≡ false → three ≡ keep_all None (weight_faults (plain_workload w)) → keep_all three (each (too_many_rows (plain_workload w)) (map sited kept)) ≡ keep_all None (form_faults (plain_workload w))
-none-found w kept two three el e h k =
-    rows-plain w kept three el ∙ ap (λ o. keep_all o (row_faults (plain_workload w))) k ∙ after-sizes (plain_workload w) (sym e ∙ none_is two h)
-
-pub text-found : (purpose : Purpose) (w : s.Workload) (start one two : Option Fault) → one ≡ keep_all start (each duplicate (map (λ d. d.name) (global_names w))) → start ≡ keep_all None (unbuilt_faults w) → two ≡ keep_all one (faults_with_names purpose w) → two ≡ keep_all None (text_faults purpose w)
-text-found purpose w start one two h k e =
-    e ∙ ap (λ o. keep_all o (faults_with_names purpose w)) (h ∙ ap (λ o. keep_all o (each duplicate (map (λ d. d.name) (global_names w)))) k) ∙ of-text purpose w
+pub text-found : (purpose : Purpose) (w : s.Workload) (one two : Option Fault) → one ≡ keep_all None (each duplicate (map (λ d. d.name) (global_names w))) → two ≡ keep_all one (faults_with_names purpose w) → two ≡ keep_all None (text_faults purpose w)
+text-found purpose w one two h e = e ∙ ap (λ o. keep_all o (faults_with_names purpose w)) h ∙ of-text purpose w

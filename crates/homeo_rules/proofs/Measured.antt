@@ -1,29 +1,28 @@
 -- What is measured of a call is its L form.
-use Rattle.std.proofs.Common.{◌≡◌, ℕ, zero, suc, ◌<◌, ◌≤◌, true, List, [], ◌∷◌, map, Option, Some, None, IfOk, Ok, Err, Result, length, refl, sym, ap, subst, ◌∙◌, arith}
+use Rattle.std.proofs.Common.{◌≡◌, ℕ, zero, suc, ◌<◌, ◌≤◌, List, [], ◌∷◌, map, Option, Some, None, IfOk, Ok, Err, Result, length, refl, sym, ap, subst, ◌∙◌, arith}
 use Rattle.std.specs.Prelude.{slice_get, slice_index_or}
+use Rattle.std.proofs.lemmas.Int.{clamps}
 use Rattle.homeo_syntax.specs.Key.{words as syntax_words}
 use Rattle.homeo_syntax.specs.Source as s
 use Rattle.homeo_syntax.specs.SourceView.{plain_transaction}
 use Rattle.homeo_syntax.specs.declared.list.Memory.{Memory}
 use Rattle.homeo_syntax.specs.declared.phrase.Number.{Number}
-use Rattle.homeo_syntax.specs.declared.workload.ObjectDecl.{ObjectDecl}
 use Rattle.homeo_syntax.specs.declared.workload.Transaction.{Transaction}
 use Rattle.homeo_meaning.specs.Key.{words as meaning_words}
 use Rattle.homeo_meaning.specs.Bindings.{Scope}
-use Rattle.homeo_meaning.specs.Built.{are_built}
 use Rattle.homeo_meaning.specs.LForm.{l_form}
-use Rattle.homeo_meaning.specs.Schema.{Schema, declared_object, schema_of, nat_of}
+use Rattle.homeo_meaning.specs.Schema.{Schema, schema_of, nat_of}
 use Rattle.homeo_meaning.specs.GlobalNames.{transaction_at}
 use Rattle.homeo_meaning.specs.GlobalNames as g
-use Rattle.homeo_meaning.specs.SizeRules.{body_form, call_form}
+use Rattle.homeo_meaning.specs.SizeRules.{body_form}
 use Rattle.homeo_meaning.specs.declared.rules.Item.{Item}
 use Rattle.homeo_meaning.specs.declared.rules.Item.TheVariants as I
-use Rattle.homeo_meaning.proofs.FormRules.{built_at}
-use Rattle.homeo_size.specs.Measured.{IsMeasure}
+use Rattle.homeo_size.specs.Layout.{IsLayout}
+use Rattle.homeo_size.specs.Measured.{IsMeasured}
 use Rattle.homeo_size.specs.declared.steps.Measure.{Measure}
 use Rattle.homeo_rules.specs.Scopes.{scope_in}
 use Rattle.homeo_rules.specs.Sited.{values, sited}
-use Rattle.homeo_rules.specs.Sizes.{IsSetUp, workload_of, transaction_place, IsMeasureAfter}
+use Rattle.homeo_rules.specs.Sizes.{IsSetUp, workload_of, transaction_place, told_size, IsMeasuredBody, IsMeasuredAs, IsTold}
 use Rattle.homeo_rules.specs.declared.sited.SitedCall.{SitedCall}
 use Rattle.homeo_rules.specs.declared.sizes.Measuring.{Measuring}
 
@@ -46,32 +45,23 @@ pub not-there : (m : Measuring) (ts : List Transaction) (k : ℕ) → ts ≡ m.w
 unfolding syntax_words
 not-there m ts k e h = ap (λ l. slice_get (map plain_transaction l) k) (sym e) ∙ none-plain ts k h
 
-pub can-run : (m : Measuring) (k : ℕ) (t : Transaction) → IsSetUp m → slice_get (workload_of m).transactions k ≡ Some (plain_transaction t) → are_built (plain_transaction t).body ≡ true
-can-run m k t up e = built_at (workload_of m) up.built k (Some (plain_transaction t)) e
-
-names-are : (os : List ObjectDecl) → map (λ d. d.name) (map declared_object os) ≡ map (λ (d : ObjectDecl). d.name.name) os
-unfolding meaning_words
-names-are [] = refl
-names-are (d ∷ os) = ap (λ l. d.name.name ∷ l) (names-are os)
-
-if_ok : {A E : Type 0} (P Q : A → Type 0) → ((a : A) → P a → Q a) → (r : Result A E) → IfOk r P → IfOk r Q
+pub if_ok : {A E : Type 0} (P Q : A → Type 0) → ((a : A) → P a → Q a) → (r : Result A E) → IfOk r P → IfOk r Q
 if_ok P Q f (Ok a) h = f a h
 if_ok P Q f (Err e) h = h
 
-pub body-measured : (m : Measuring) (k : ℕ) (t : Transaction) (args : List Number) (r : Result Measure Memory) → IsSetUp m → slice_get (workload_of m).transactions k ≡ Some (plain_transaction t) → IfOk r (λ me. (x : Schema) → map (λ d. d.name) x.objects ≡ m.objects.now → IsMeasure m.sites (l_form x (map (λ p. p.name.name) t.params.items) (map (λ a. a.value) args) (plain_transaction t).body) me) → IfOk r (IsMeasure (nat_of (workload_of m).sites.value) (body_form (workload_of m) (slice_get (workload_of m).transactions k) (values args)))
+pub body-measured : (m : Measuring) (k : ℕ) (t : Transaction) (args : List Number) (r : Result (Option Measure) Memory) → IsSetUp m → slice_get (workload_of m).transactions k ≡ Some (plain_transaction t) → IfOk r (λ o. (x : Schema) → IsLayout x m.layout.now → IsMeasured x m.sites (l_form x (map (λ p. p.name.name) t.params.items) (map (λ a. a.value) args) (plain_transaction t).body) o) → IfOk r (IsMeasuredBody (workload_of m) (slice_get (workload_of m).transactions k) (values args))
 unfolding meaning_words syntax_words
 body-measured m k t args r up e h =
     let w : s.Workload = workload_of m in
-    let names : map (λ d. d.name) (schema_of w).objects ≡ m.objects.now = names-are m.workload.now.objects.items ∙ sym up.objects in
-    if_ok _ _ (λ me g. subst (λ o. IsMeasure (nat_of (workload_of m).sites.value) (body_form w o (values args)) me) (sym e) (subst (λ n. IsMeasure n (body_form w (Some (plain_transaction t)) (values args)) me) up.sites (g (schema_of w) names))) r h
+    if_ok _ _ (λ o g. subst (λ b. IsMeasured (schema_of w) (nat_of w.sites.value) (body_form w b (values args)) o) (sym e) (subst (λ n. IsMeasured (schema_of w) n (body_form w (Some (plain_transaction t)) (values args)) o) up.sites (g (schema_of w) up.layout))) r h
 
-nothing : (sites : ℕ) (w : s.Workload) (args : List Number) → IsMeasure sites (body_form w None (values args)) (record { size = 1; depth = 0; rows = 1 })
+nothing : (w : s.Workload) (args : List Number) → IsMeasuredBody w None (values args) (Some (record { size = 1; depth = 0; weight = 0; rows = 1 }))
 unfolding meaning_words
-nothing sites w args = record { size = refl; depth = refl; rows = refl }
+nothing w args = record { size = refl; depth = refl; light = refl; rows = refl }
 
-pub no-body-measured : (m : Measuring) (k : ℕ) (args : List Number) → slice_get (workload_of m).transactions k ≡ None → IsMeasure (nat_of (workload_of m).sites.value) (body_form (workload_of m) (slice_get (workload_of m).transactions k) (values args)) (record { size = 1; depth = 0; rows = 1 })
+pub no-body-measured : (m : Measuring) (k : ℕ) (args : List Number) → slice_get (workload_of m).transactions k ≡ None → IsMeasuredBody (workload_of m) (slice_get (workload_of m).transactions k) (values args) (Some (record { size = 1; depth = 0; weight = 0; rows = 1 }))
 no-body-measured m k args e =
-    subst (λ o. IsMeasure (nat_of (workload_of m).sites.value) (body_form (workload_of m) o (values args)) (record { size = 1; depth = 0; rows = 1 })) (sym e) (nothing (nat_of (workload_of m).sites.value) (workload_of m) args)
+    subst (λ o. IsMeasuredBody (workload_of m) o (values args) (Some (record { size = 1; depth = 0; weight = 0; rows = 1 }))) (sym e) (nothing (workload_of m) args)
 
 by-place : (w : s.Workload) (g : Option Item) (k : ℕ) → transaction_place g ≡ Some k → transaction_at w g ≡ slice_get w.transactions k
 by-place w (Some (I.Transaction j)) k e = let same : j ≡ k = cc in ap (slice_get w.transactions) same
@@ -80,12 +70,12 @@ by-place w (Some (I.Relation j)) k e = cc
 by-place w (Some (I.Client j)) k e = cc
 by-place w None k e = cc
 
-pub call-measured : (m : Measuring) (c : SitedCall) (k : ℕ) (r : Result Measure Memory) → IsSetUp m → transaction_place ((scope_in m.scope).item c.name.name) ≡ Some k → IfOk r (IsMeasure (nat_of (workload_of m).sites.value) (body_form (workload_of m) (slice_get (workload_of m).transactions k) (values c.args.now))) → IfOk r (IsMeasure (nat_of (workload_of m).sites.value) (call_form (workload_of m) (sited c)))
+pub call-measured : (m : Measuring) (c : SitedCall) (k : ℕ) (r : Result (Option Measure) Memory) → IsSetUp m → transaction_place ((scope_in m.scope).item c.name.name) ≡ Some k → IfOk r (IsMeasuredBody (workload_of m) (slice_get (workload_of m).transactions k) (values c.args.now)) → IfOk r (IsMeasuredAs (workload_of m) (sited c))
 unfolding meaning_words
 call-measured m c k r up e h =
     let w : s.Workload = workload_of m in
     let is = ap (λ (sc : Scope). transaction_at w (sc.item c.name.name)) (sym up.scope) ∙ by-place w ((scope_in m.scope).item c.name.name) k e in
-    subst (λ o. IfOk r (IsMeasure (nat_of (workload_of m).sites.value) (body_form w o (values c.args.now)))) (sym is) h
+    subst (λ o. IfOk r (IsMeasuredBody w o (values c.args.now))) (sym is) h
 
 no-place : (w : s.Workload) (g : Option Item) → transaction_place g ≡ None → transaction_at w g ≡ None
 no-place w (Some (I.Transaction j)) e = cc
@@ -94,12 +84,20 @@ no-place w (Some (I.Relation j)) e = refl
 no-place w (Some (I.Client j)) e = refl
 no-place w None e = refl
 
-pub no-call-measured : (m : Measuring) (c : SitedCall) → IsSetUp m → transaction_place ((scope_in m.scope).item c.name.name) ≡ None → IsMeasure (nat_of (workload_of m).sites.value) (call_form (workload_of m) (sited c)) (record { size = 1; depth = 0; rows = 1 })
+pub no-call-measured : (m : Measuring) (c : SitedCall) → IsSetUp m → transaction_place ((scope_in m.scope).item c.name.name) ≡ None → IsMeasuredAs (workload_of m) (sited c) (Some (record { size = 1; depth = 0; weight = 0; rows = 1 }))
 unfolding meaning_words
 no-call-measured m c up e =
     let w : s.Workload = workload_of m in
     let is = ap (λ (sc : Scope). transaction_at w (sc.item c.name.name)) (sym up.scope) ∙ no-place w ((scope_in m.scope).item c.name.name) e in
-    subst (λ o. IsMeasure (nat_of (workload_of m).sites.value) (body_form w o (values c.args.now)) (record { size = 1; depth = 0; rows = 1 })) (sym is) (nothing (nat_of (workload_of m).sites.value) w c.args.now)
+    subst (λ o. IsMeasuredBody w o (values c.args.now) (Some (record { size = 1; depth = 0; weight = 0; rows = 1 }))) (sym is) (nothing w c.args.now)
 
-pub measured-after : (w : s.Workload) (total : ℕ) (c : g.SitedCall) (r : Result Measure Memory) → IfOk r (IsMeasure (nat_of w.sites.value) (call_form w c)) → IfOk r (IsMeasureAfter w total c)
-measured-after w total c r h = if_ok _ _ (λ m k le. k) r h
+told_of : (w : s.Workload) (total : ℕ) (c : g.SitedCall) (o : Option Measure) → IsMeasuredAs w c o → IsTold w total c o
+unfolding meaning_words
+told_of w total c (Some m) h = λ before agree. h
+told_of w total c None h = λ before agree. let far : 2000000 < told_size w c = h in omega (arith, far)
+
+pub measured-after : (w : s.Workload) (total : ℕ) (c : g.SitedCall) (r : Result (Option Measure) Memory) → IfOk r (IsMeasuredAs w c) → IfOk r (IsTold w total c)
+measured-after w total c r h = if_ok _ _ (told_of w total c) r h
+
+pub past-all : (w : s.Workload) (total : ℕ) (c : g.SitedCall) → 2000000 < total → IsTold w total c None
+past-all w total c h = λ before agree. omega (arith, clamps, h, agree)

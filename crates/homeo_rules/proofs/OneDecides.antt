@@ -82,10 +82,9 @@ phase_at (suc (suc (suc zero))) = P.Arity
 phase_at (suc (suc (suc (suc zero)))) = P.Bounds
 phase_at (suc (suc (suc (suc (suc zero))))) = P.Limits
 phase_at (suc (suc (suc (suc (suc (suc zero)))))) = P.Schedule
-phase_at (suc (suc (suc (suc (suc (suc (suc zero))))))) = P.Unbuilt
-phase_at (suc (suc (suc (suc (suc (suc (suc (suc zero)))))))) = P.Size
-phase_at (suc (suc (suc (suc (suc (suc (suc (suc (suc zero))))))))) = P.Weight
-phase_at (suc (suc (suc (suc (suc (suc (suc (suc (suc (suc n)))))))))) = P.Rows
+phase_at (suc (suc (suc (suc (suc (suc (suc zero))))))) = P.Size
+phase_at (suc (suc (suc (suc (suc (suc (suc (suc zero)))))))) = P.Weight
+phase_at (suc (suc (suc (suc (suc (suc (suc (suc (suc n))))))))) = P.Rows
 
 phase_of : (p : Phase) → phase_at (rank p) ≡ p
 unfolding words
@@ -96,7 +95,6 @@ phase_of P.Arity = refl
 phase_of P.Bounds = refl
 phase_of P.Limits = refl
 phase_of P.Schedule = refl
-phase_of P.Unbuilt = refl
 phase_of P.Size = refl
 phase_of P.Weight = refl
 phase_of P.Rows = refl

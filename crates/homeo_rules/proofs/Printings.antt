@@ -1,7 +1,6 @@
--- Counting print commands, form by form.
-use Rattle.std.proofs.Common.{◌≡◌, ℕ, zero, suc, ◌+◌, ◌≤◌, Bool, true, false, List, [], ◌∷◌, ◌++◌, map, Option, Some, None, drop, length, refl, sym, ap, ◌∙◌, arith, min, zero-add}
-use Rattle.std.proofs.Math.Nat.{min-eq_left, min-eq_right, min-le_left}
-use Rattle.std.proofs.lemmas.List.{drop_all}
+-- The prints of calls, counted along them.
+use Rattle.std.proofs.Common.{◌≡◌, ℕ, zero, suc, ℤ, ◌+◌, ◌≤◌, Bool, true, false, List, [], ◌∷◌, ◌++◌, map, Option, Some, None, refl, sym, ap, ◌∙◌, arith, min, zero-add}
+use Rattle.std.proofs.Math.Nat.{min-eq_left, min-eq_right}
 use Rattle.std.proofs.lemmas.Int.{clamps}
 use Rattle.std.proofs.lemmas.List.Sums.{sum_by-append}
 use Rattle.std.proofs.lemmas.Bool.Decides.{nat_tests}
@@ -9,106 +8,31 @@ use Rattle.std.specs.Prelude.{slice_get, slice_index, nat_lt}
 use Rattle.std.specs.List.{sum_by}
 use Rattle.homeo_syntax.specs.Key.{words as syntax_words}
 use Rattle.homeo_syntax.specs.Source as s
-use Rattle.homeo_syntax.specs.SourceView.{plain_command, plain_transaction}
-use Rattle.homeo_syntax.specs.declared.phrase.Ident.{Ident}
-use Rattle.homeo_syntax.specs.declared.command.Command.{Command}
+use Rattle.homeo_syntax.specs.SourceView.{plain_transaction}
 use Rattle.homeo_syntax.specs.declared.workload.Transaction.{Transaction}
 use Rattle.homeo_meaning.specs.Key.{words as meaning_words}
 use Rattle.homeo_meaning.specs.Bindings.{Scope}
 use Rattle.homeo_meaning.specs.NameRules.{when, fault}
 use Rattle.homeo_meaning.specs.TransactionRules.{each, each_from}
+use Rattle.homeo_meaning.specs.GlobalNames as g
 use Rattle.homeo_meaning.specs.GlobalNames.{transaction_at}
-use Rattle.homeo_meaning.specs.SourceSizes.{prints_in, prints_in_all, prints_of}
-use Rattle.homeo_meaning.specs.SizeRules.{prints_too_much}
+use Rattle.homeo_meaning.specs.LForm.{l_form}
+use Rattle.homeo_meaning.specs.LowSizes.{prints_in}
+use Rattle.homeo_meaning.specs.Schema.{Schema, schema_of}
+use Rattle.homeo_meaning.specs.SizeRules.{body_form, call_form, prints_too_much}
 use Rattle.homeo_meaning.specs.Deciding.{keep_all}
 use Rattle.homeo_meaning.specs.declared.rules.Fault.{Fault}
 use Rattle.homeo_meaning.specs.declared.rules.Item.{Item}
 use Rattle.homeo_meaning.specs.declared.rules.Item.TheVariants as I
-use Rattle.homeo_rules.specs.declared.sited.SitedCall.{SitedCall}
-use Rattle.homeo_rules.specs.Sited.{sited}
-use Rattle.homeo_meaning.specs.GlobalNames as g
 use Rattle.homeo_meaning.specs.declared.rules.Phase.TheVariants.{Size}
-use Rattle.homeo_rules.specs.Key.{words}
-use Rattle.homeo_rules.specs.Plain.{plain_commands}
-use Rattle.homeo_rules.specs.Printing.{along_prints, capped_prints, counted_prints, Printed, print_one, print_all}
+use Rattle.homeo_size.specs.Layout.{IsLayout}
+use Rattle.homeo_rules.specs.declared.sited.SitedCall.{SitedCall}
+use Rattle.homeo_rules.specs.declared.sizes.Measuring.{Measuring}
+use Rattle.homeo_rules.specs.Printing.{capped_prints, prints_too_much_in, counted_prints, Printed, print_one, print_all}
+use Rattle.homeo_rules.specs.Scopes.{scope_in}
+use Rattle.homeo_rules.specs.Sited.{sited}
+use Rattle.homeo_rules.specs.Sizes.{IsSetUp, workload_of}
 use Rattle.homeo_rules.proofs.Steps.{keep_all-append}
-use Rattle.homeo_rules.proofs.Walks.{views}
-
-pub prints-Skip : prints_in s.Skip ≡ 0
-unfolding meaning_words
-prints-Skip = refl
-
-pub prints-Assign : (t : Ident) (e : s.Expr) → prints_in (s.Assign t e) ≡ 0
-unfolding meaning_words
-prints-Assign t e = refl
-
-pub prints-Write : (x : Ident) (e : s.Expr) → prints_in (s.Write x e) ≡ 0
-unfolding meaning_words
-prints-Write x e = refl
-
-pub prints-Print : (e : s.Expr) → prints_in (s.Print e) ≡ 1
-unfolding meaning_words
-prints-Print e = refl
-
-pub prints-If : (t : s.Cond) (c d : s.Command) → prints_in (s.If t c d) ≡ prints_in c + prints_in d
-unfolding meaning_words
-prints-If t c d = refl
-
-pub prints-Block : (cs : s.Commands) → prints_in (s.Block cs) ≡ prints_in_all cs
-unfolding meaning_words
-prints-Block cs = refl
-
-pub prints-SetField : (q : Ident) (i : s.Expr) (f : Ident) (e : s.Expr) → prints_in (s.SetField q i f e) ≡ 0
-unfolding meaning_words
-prints-SetField q i f e = refl
-
-pub prints-SetRow : (r f : Ident) (e : s.Expr) → prints_in (s.SetRow r f e) ≡ 0
-unfolding meaning_words
-prints-SetRow r f e = refl
-
-pub prints-Foreach : (r q : Ident) (t : s.Cond) (cs : s.Commands) → prints_in (s.Foreach r q t cs) ≡ 0
-unfolding meaning_words
-prints-Foreach r q t cs = refl
-
-pub prints-Insert : (q : Ident) (fs : List s.FieldValue) (t : Ident) → prints_in (s.Insert q fs t) ≡ 0
-unfolding meaning_words
-prints-Insert q fs t = refl
-
-pub prints-Delete : (r q : Ident) (t : s.Cond) → prints_in (s.Delete r q t) ≡ 0
-unfolding meaning_words
-prints-Delete r q t = refl
-
-pub prints-Update : (r q : Ident) (t : s.Cond) (f : Ident) (e : s.Expr) → prints_in (s.Update r q t f e) ≡ 0
-unfolding meaning_words
-prints-Update r q t f e = refl
-
--- a sum that stops at a cap
-pub capped-more : (n a b : ℕ) → min 1000001 (min 1000001 (n + a) + b) ≡ min 1000001 (n + (a + b))
-capped-more n a b = omega (arith, clamps)
-
-pub capped-none : (n : ℕ) → n ≤ 1000001 → min 1000001 (n + 0) ≡ n
-capped-none n h = omega (arith, clamps)
-
-pub capped-least : (n : ℕ) → min 1000001 n ≤ 1000001
-capped-least n = min-le_left 1000001 n
-
-pub along-prints : (n : ℕ) (cs : List Command) → n ≤ 1000001 → along_prints n cs ≡ min 1000001 (n + prints_in_all (plain_commands cs))
-unfolding words syntax_words meaning_words
-along-prints n [] h = sym (capped-none n h)
-along-prints n (c ∷ cs) h =
-    along-prints (min 1000001 (n + prints_in (plain_command c))) cs (capped-least (n + prints_in (plain_command c)))
-    ∙ capped-more n (prints_in (plain_command c)) (prints_in_all (plain_commands cs))
-
-pub end-prints : (n start : ℕ) (cs : List Command) (i : ℕ) → start ≤ 1000001 → length cs ≤ i → along_prints n (drop i cs) ≡ along_prints start cs → n ≡ min 1000001 (start + prints_in_all (plain_commands cs))
-end-prints n start cs i low h e = ap (along_prints n) (sym (drop_all i cs h)) ∙ e ∙ along-prints start cs low
-
-pub capped_prints-is : (t : Transaction) → capped_prints t ≡ min 1000001 (0 + prints_in_all (plain_commands t.body.items))
-unfolding words
-capped_prints-is t = ap (min 1000001) (sym (zero-add (prints_in_all (plain_commands t.body.items))))
-
-pub ruleset totals = (capped_prints-is)
-
-pub ruleset printings = (views, capped-more, capped-none, capped-least, prints-Skip, prints-Assign, prints-Write, prints-Print, prints-If, prints-Block, prints-SetField, prints-SetRow, prints-Foreach, prints-Insert, prints-Delete, prints-Update)
 
 -- ---- the calls so far
 capped-test : (n : ℕ) → nat_lt 1000000 (min 1000001 n) ≡ nat_lt 1000000 n
@@ -141,16 +65,31 @@ module _ (s : Scope) (counts : List ℕ) (prints : g.SitedCall → ℕ) (agree :
   unfolding meaning_words
   printed best calls = print-all [] (record { total = 0; best = best }) calls refl
 
-count-plain : (ts : List Transaction) (k : ℕ) → slice_index (map capped_prints ts) k ≡ min 1000001 (prints_of (slice_get (map plain_transaction ts) k))
-unfolding words meaning_words syntax_words
-count-plain [] k = refl
-count-plain (t ∷ ts) zero = refl
-count-plain (t ∷ ts) (suc k) = count-plain ts k
+-- ---- by the counts of the transactions
+pub counted : (m : Measuring) (t : Transaction) (n : ℕ) → IsSetUp m → ((x : Schema) → IsLayout x m.layout.now → (args : List ℤ) → n ≡ min 1000001 (prints_in (l_form x (map (λ p. p.name.name) t.params.items) args (plain_transaction t).body))) → (args : List ℤ) → n ≡ capped_prints (workload_of m) args t
+unfolding meaning_words syntax_words
+counted m t n up h args = h (schema_of (workload_of m)) up.layout args
 
-pub counts-plain : (w : s.Workload) (ts : List Transaction) → w.transactions ≡ map plain_transaction ts → (g : Option Item) → counted_prints (map capped_prints ts) g ≡ min 1000001 (prints_of (transaction_at w g))
+count-plain : (w : s.Workload) (args : List ℤ) (ts : List Transaction) (k : ℕ) → slice_index (map (capped_prints w args) ts) k ≡ min 1000001 (prints_in (body_form w (slice_get (map plain_transaction ts) k) args))
 unfolding meaning_words
-counts-plain w ts e None = refl
-counts-plain w ts e (Some (I.Transaction k)) = count-plain ts k ∙ ap (λ l. min 1000001 (prints_of (slice_get l k))) (sym e)
-counts-plain w ts e (Some (I.Object k)) = refl
-counts-plain w ts e (Some (I.Relation k)) = refl
-counts-plain w ts e (Some (I.Client k)) = refl
+count-plain w args [] k = refl
+count-plain w args (t ∷ ts) zero = refl
+count-plain w args (t ∷ ts) (suc k) = count-plain w args ts k
+
+counts-plain : (w : s.Workload) (args : List ℤ) (ts : List Transaction) → w.transactions ≡ map plain_transaction ts → (g : Option Item) → counted_prints (map (capped_prints w args) ts) g ≡ min 1000001 (prints_in (body_form w (transaction_at w g) args))
+unfolding meaning_words
+counts-plain w args ts e None = refl
+counts-plain w args ts e (Some (I.Transaction k)) = count-plain w args ts k ∙ ap (λ l. min 1000001 (prints_in (body_form w (slice_get l k) args))) (sym e)
+counts-plain w args ts e (Some (I.Object k)) = refl
+counts-plain w args ts e (Some (I.Relation k)) = refl
+counts-plain w args ts e (Some (I.Client k)) = refl
+
+pub prints-along : (m : Measuring) (best : Option Fault) (counts : List ℕ) (ts : List Transaction) (calls : List SitedCall) → IsSetUp m → ts ≡ m.workload.now.transactions.items → ((args : List ℤ) → counts ≡ map (capped_prints (workload_of m) args) ts) → (print_all (scope_in m.scope) counts (record { total = 0; best = best }) calls).best ≡ keep_all best (each (prints_too_much_in (workload_of m)) (map sited calls))
+unfolding meaning_words syntax_words
+prints-along m best counts ts calls up et counted =
+    let w : s.Workload = workload_of m in
+    let agree : (c : g.SitedCall) → counted_prints counts ((scope_in m.scope).item c.name.name) ≡ min 1000001 (prints_in (call_form w c)) =
+    λ c. ap (λ l. counted_prints l ((scope_in m.scope).item c.name.name)) (counted c.args)
+    ∙ counts-plain w c.args ts (sym (ap (map plain_transaction) et)) ((scope_in m.scope).item c.name.name)
+    ∙ ap (λ (sc : Scope). min 1000001 (prints_in (body_form w (transaction_at w (sc.item c.name.name)) c.args))) up.scope in
+    printed (scope_in m.scope) counts (λ c. prints_in (call_form w c)) agree best calls

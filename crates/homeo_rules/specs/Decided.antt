@@ -1,11 +1,10 @@
 -- The steps in which the fault that decides is found.
-use Rattle.std.specs.Prelude.{◌≡◌, List, [], ◌++◌, map, Option}
+use Rattle.std.specs.Prelude.{◌≡◌, List, [], ◌++◌, map, None}
 use Rattle.homeo_syntax.specs.Source as s
 use Rattle.homeo_meaning.specs.GlobalNames.{global_names, duplicate, scope_of}
 use Rattle.homeo_meaning.specs.TransactionRules.{each}
 use Rattle.homeo_meaning.specs.NumberRules.{limit_faults}
 use Rattle.homeo_meaning.specs.CallRules.{schedule_faults}
-use Rattle.homeo_meaning.specs.SizeRules.{unbuilt_faults}
 use Rattle.homeo_meaning.specs.Faults.{declared_faults}
 use Rattle.homeo_meaning.specs.Deciding.{keep_all}
 use Rattle.homeo_meaning.specs.declared.call.Purpose.{Purpose}
@@ -15,9 +14,9 @@ use Rattle.homeo_rules.specs.Scopes.{item_at}
 use Rattle.homeo_rules.specs.Items.{Items}
 
 -- the table of a workload's global names, and the fault that decides with theirs
-pub record NamesGlobals (w : s.Workload) (best : Option Fault) (t : Items) : Type 0 where
+pub record NamesGlobals (w : s.Workload) (t : Items) : Type 0 where
   pub items : item_at t.items ≡ (scope_of w).item
-  pub kept : t.best ≡ keep_all best (each duplicate (map (λ d. d.name) (global_names w)))
+  pub kept : t.best ≡ keep_all None (each duplicate (map (λ d. d.name) (global_names w)))
 
 -- the faults of the text that need the global names
 abbrev pub faults_with_names : Purpose → s.Workload → List Fault
@@ -27,6 +26,5 @@ faults_with_names purpose w =
 
 -- no fault that speaks of the text comes before those of the L forms
 pub record IsFaultless (w : s.Workload) : Type 0 where
-  pub unbuilt : unbuilt_faults w ≡ []
   pub declared : declared_faults w ≡ []
   pub limits : limit_faults w ≡ []

@@ -1,27 +1,27 @@
 -- Counting print commands, up to a cap.
-use Rattle.std.specs.Prelude.{ℕ, ◌+◌, nat_lt, min, List, [], ◌∷◌, Option, Some, slice_index}
-use Rattle.homeo_syntax.specs.SourceView.{plain_command}
-use Rattle.homeo_syntax.specs.declared.command.Command.{Command}
+use Rattle.std.specs.Prelude.{ℕ, ℤ, ◌+◌, nat_lt, min, List, [], ◌∷◌, Option, Some, slice_index}
+use Rattle.homeo_syntax.specs.Source as s
+use Rattle.homeo_syntax.specs.SourceView.{plain_transaction}
 use Rattle.homeo_syntax.specs.declared.workload.Transaction.{Transaction}
 use Rattle.homeo_meaning.specs.Bindings.{Scope}
+use Rattle.homeo_meaning.specs.GlobalNames as g
+use Rattle.homeo_meaning.specs.LowSizes.{prints_in}
 use Rattle.homeo_meaning.specs.NameRules.{when, fault}
-use Rattle.homeo_meaning.specs.SourceSizes.{prints_in, prints_in_all}
+use Rattle.homeo_meaning.specs.SizeRules.{body_form, call_form, prints_too_much}
 use Rattle.homeo_meaning.specs.Deciding.{keep_all}
 use Rattle.homeo_meaning.specs.declared.rules.Fault.{Fault}
 use Rattle.homeo_meaning.specs.declared.rules.Item.{Item}
 use Rattle.homeo_meaning.specs.declared.rules.Item.TheVariants as I
 use Rattle.homeo_meaning.specs.declared.rules.Phase.TheVariants.{Size}
-use Rattle.homeo_rules.specs.Key.{words}
 use Rattle.homeo_rules.specs.declared.sited.SitedCall.{SitedCall}
-use Rattle.homeo_rules.specs.Plain.{plain_commands}
 
-abbrev pub along_prints : ℕ → List Command → ℕ
-along_prints n [] = n
-along_prints n (c ∷ cs) = along_prints (min 1000001 (n + prints_in (plain_command c))) cs
+-- of a transaction of the workload, with these arguments
+abbrev pub capped_prints : s.Workload → List ℤ → Transaction → ℕ
+capped_prints w args t = min 1000001 (prints_in (body_form w (Some (plain_transaction t)) args))
 
-abbrev pub capped_prints : Transaction → ℕ
-unfolding words
-capped_prints t = min 1000001 (prints_in_all (plain_commands t.body.items))
+-- the rule of prints, of the workload's calls
+abbrev pub prints_too_much_in : s.Workload → List g.SitedCall → g.SitedCall → List Fault
+prints_too_much_in w = prints_too_much (λ c. prints_in (call_form w c))
 
 -- of what a name stands for, by the counts of the transactions
 abbrev pub counted_prints : List ℕ → Option Item → ℕ

@@ -1,36 +1,72 @@
--- What calls are measured in.
-use Rattle.std.specs.Prelude.{◌≡◌, ◌≤◌, ℕ, nat_lt, Bool, ◌||◌, map, Option, Some, None}
+-- What calls are measured in, and what is told of them.
+use Rattle.std.specs.Prelude.{◌≡◌, ◌<◌, ℕ, ◌+◌, min, nat_lt, Bool, ◌||◌, List, [], ◌∷◌, ℤ, Option, Some, None}
 use Rattle.homeo_syntax.specs.Source as s
 use Rattle.homeo_syntax.specs.SourceView.{plain_workload}
-use Rattle.homeo_meaning.specs.Built.{IsBuilt}
-use Rattle.homeo_meaning.specs.Schema.{nat_of}
-use Rattle.homeo_meaning.specs.GlobalNames.{SitedCall, scope_of}
-use Rattle.homeo_meaning.specs.SizeRules.{call_form}
+use Rattle.homeo_meaning.specs.Schema.{nat_of, schema_of}
+use Rattle.homeo_meaning.specs.GlobalNames as g
+use Rattle.homeo_meaning.specs.GlobalNames.{scope_of}
+use Rattle.homeo_meaning.specs.SizeRules.{body_form, call_form, extent_of}
 use Rattle.homeo_meaning.specs.declared.rules.Item.{Item}
 use Rattle.homeo_meaning.specs.declared.rules.Item.TheVariants as I
-use Rattle.homeo_size.specs.Measured.{IsMeasure}
+use Rattle.homeo_size.specs.Layout.{IsLayout}
+use Rattle.homeo_size.specs.Measured.{IsMeasure, IsMeasured}
 use Rattle.homeo_size.specs.declared.steps.Measure.{Measure}
 use Rattle.homeo_rules.specs.Scopes.{scope_in}
+use Rattle.homeo_rules.specs.Sited.{sited}
+use Rattle.homeo_rules.specs.declared.sizes.MeasuredCall.{MeasuredCall}
 use Rattle.homeo_rules.specs.declared.sizes.Measuring.{Measuring}
 
 abbrev pub workload_of : Measuring → s.Workload
 workload_of m = plain_workload m.workload.now
 
--- the global names, the objects' names and the number of sites are the workload's, and its bodies can be run
+-- the global names, the layout and the number of sites are the workload's
 pub record IsSetUp (m : Measuring) : Type 0 where
   pub scope : scope_in m.scope ≡ scope_of (workload_of m)
-  pub objects : m.objects.now ≡ map (λ d. d.name.name) m.workload.now.objects.items
+  pub layout : IsLayout (schema_of (workload_of m)) m.layout.now
   pub sites : m.sites ≡ nat_of (workload_of m).sites.value
-  pub built : IsBuilt (workload_of m)
 
 -- the number of a transaction
 abbrev pub transaction_place : Option Item → Option ℕ
 transaction_place (Some (I.Transaction k)) = Some k
 transaction_place _ = None
 
--- the measure of a call, where those before it are not too large together
-abbrev pub IsMeasureAfter : s.Workload → ℕ → SitedCall → Measure → Type 0
-IsMeasureAfter w total c m = total ≤ 2000000 → IsMeasure (nat_of w.sites.value) (call_form w c) m
+abbrev pub call_of : MeasuredCall → g.SitedCall
+call_of m = sited m.call
+
+-- the size of a call
+abbrev pub told_size : s.Workload → g.SitedCall → ℕ
+told_size w c = (extent_of w c).size
+
+-- measured, or larger than all calls may be together
+abbrev pub IsMeasuredBody : s.Workload → Option s.Transaction → List ℤ → Option Measure → Type 0
+IsMeasuredBody w t args o = IsMeasured (schema_of w) (nat_of w.sites.value) (body_form w t args) o
+
+abbrev pub IsMeasuredAs : s.Workload → g.SitedCall → Option Measure → Type 0
+IsMeasuredAs w c o = IsMeasured (schema_of w) (nat_of w.sites.value) (call_form w c) o
+
+-- measured, or too large with those before it, whose sizes are so large together
+abbrev pub IsToldAfter : s.Workload → ℕ → g.SitedCall → Option Measure → Type 0
+IsToldAfter w before c (Some m) = IsMeasure (schema_of w) (nat_of w.sites.value) (call_form w c) m
+IsToldAfter w before c None = 2000000 < before + told_size w c
+
+-- the same, where those before it are only told as large as calls may be together
+abbrev pub IsTold : s.Workload → ℕ → g.SitedCall → Option Measure → Type 0
+IsTold w total c o = (before : ℕ) → min 2000001 total ≡ min 2000001 before → IsToldAfter w before c o
+
+-- each call is told after those before it
+abbrev pub AreTold : s.Workload → ℕ → List MeasuredCall → Type 0
+AreTold w before [] = Unit {0}
+AreTold w before (m ∷ ms) = IsToldAfter w before (call_of m) m.measure × AreTold w (before + told_size w (call_of m)) ms
+
+-- where no measure is
+abbrev pub known : Option Measure → Measure
+known (Some m) = m
+known None = record { size = 8000001; depth = 8000001; weight = 1000000000000000001; rows = 8000001 }
+
+-- each call is measured
+abbrev pub AreMeasured : s.Workload → List MeasuredCall → Type 0
+AreMeasured w [] = Unit {0}
+AreMeasured w (m ∷ ms) = IsMeasure (schema_of w) (nat_of w.sites.value) (call_form w (call_of m)) (known m.measure) × AreMeasured w ms
 
 -- too large or too deep, or too large with those so far
 abbrev pub is_too_large : Measure → ℕ → Bool

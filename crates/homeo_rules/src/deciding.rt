@@ -21,10 +21,9 @@ pub fn rank(phase: Phase) -> u8
         Phase::Bounds => 4,
         Phase::Limits => 5,
         Phase::Schedule => 6,
-        Phase::Unbuilt => 7,
-        Phase::Size => 8,
-        Phase::Weight => 9,
-        Phase::Rows => 10,
+        Phase::Size => 7,
+        Phase::Weight => 8,
+        Phase::Rows => 9,
     }
 }
 
@@ -33,7 +32,6 @@ pub fn code(phase: Phase) -> u8
     ensures { result ≡ code phase }
 {
     match phase {
-        Phase::Unbuilt => 0,
         Phase::Duplicate => 5,
         Phase::Unknown => 6,
         Phase::Kind => 7,

@@ -3,12 +3,12 @@
 
 mod acceptance;
 mod bounds;
-mod built;
 mod calls;
 mod checker;
 mod deciding;
 mod decision;
 mod fields;
+mod forms;
 mod items;
 mod limits;
 mod objects;
@@ -21,6 +21,5 @@ mod sited;
 mod sizes;
 mod transaction;
 mod walk;
-mod weights;
 
 pub use acceptance::{RuleRefusal, accept};

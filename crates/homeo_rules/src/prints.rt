@@ -1,79 +1,50 @@
 //! How many print commands the calls have.
 
-ghost use Rattle.std.specs.Prelude.{◌≡◌, ◌+◌, ◌≤◌, min, map, nat_lt, IfOk, slice_index};
-ghost use Rattle.homeo_syntax.specs.SourceView.{plain_command};
-ghost use Rattle.homeo_meaning.specs.SourceSizes.{prints_in, prints_in_all};
+ghost use Rattle.std.specs.Prelude.{◌≡◌, ℤ, List, ◌+◌, map, min, nat_lt, IfOk, slice_index};
 ghost use Rattle.homeo_meaning.specs.NameRules.{when, fault};
+ghost use Rattle.homeo_meaning.specs.TransactionRules.{each};
 ghost use Rattle.homeo_meaning.specs.Deciding.{keep_all};
 ghost use Rattle.homeo_meaning.specs.declared.rules.Phase.TheVariants.{Size};
-ghost use Rattle.homeo_rules.specs.Plain.{plain_commands};
-ghost use Rattle.homeo_rules.specs.Printing.{capped_prints, counted_prints, print_all};
+ghost use Rattle.homeo_rules.specs.Printing.{capped_prints, counted_prints, print_all, prints_too_much_in};
 ghost use Rattle.homeo_rules.specs.Scopes.{scope_in};
+ghost use Rattle.homeo_rules.specs.Sited.{sited};
+ghost use Rattle.homeo_rules.specs.Sizes.{IsSetUp, workload_of};
 
 use crate::deciding::at_name;
 use crate::scope::Scope;
 use crate::sited::SitedCall;
+use crate::sizes::Measuring;
 use homeo_meaning::{Fault, Item, Phase};
-use homeo_syntax::{Command, Ident, Memory, Transaction};
+use homeo_size::{TOO_MANY_PRINTS, count_prints};
+use homeo_syntax::{Ident, Memory, Transaction};
 use std::alloc::Global;
-
-/// One more print command than the calls may have together: no count goes beyond it.
-const TOO_MANY: u64 = 1_000_001;
 
 fn capped_sum(a: u64, b: u64) -> u64
     ensures { result ≡ min 1000001 (a + b) }
 {
-    TOO_MANY.min(a.saturating_add(b))
+    TOO_MANY_PRINTS.min(a.saturating_add(b))
 }
 
-#[cycle(commands)]
-#[tactic(auto, using(crate::proofs::Printings::printings))]
-fn add_prints_in(so_far: u64, c: &Command) -> u64
-    requires { so_far ≤ 1000001 }
-    ensures { result ≡ min 1000001 (so_far + prints_in (plain_command c.now)) }
+/// The print commands of a transaction, which are as many whatever the arguments.
+fn count_in(t: &Transaction, measuring: &Measuring<'_, '_>) -> u64
+    requires { IsSetUp measuring.now }
+    ensures { (args : List ℤ) → result ≡ capped_prints (workload_of measuring.now) args t.now }
 {
-    match c {
-        Command::Print { .. } => capped_sum(so_far, 1),
-        Command::If { test: _, yes, no } => add_prints_in(add_prints_in(so_far, yes), no),
-        Command::Block { commands } => add_prints_in_all(so_far, commands.as_slice()),
-        Command::Skip
-        | Command::Assign { .. }
-        | Command::Write { .. }
-        | Command::SetField { .. }
-        | Command::SetRow { .. }
-        | Command::Foreach { .. }
-        | Command::Insert { .. }
-        | Command::Delete { .. }
-        | Command::Update { .. } => so_far,
-    }
+    count_prints(t, measuring.layout)
 }
 
-#[cycle(commands)]
-#[tactic(auto, using(crate::proofs::Printings::printings))]
-fn add_prints_in_all(so_far: u64, cs: &[Command]) -> u64
-    requires { so_far ≤ 1000001 }
-    ensures { result ≡ min 1000001 (so_far + prints_in_all (plain_commands cs.now)) }
-{
-    let mut total = so_far;
-    for c in cs {
-        total = add_prints_in(total, c);
-    }
-    total
-}
-
-#[tactic(auto, using(crate::proofs::Printings::totals))]
-fn count_prints(t: &Transaction) -> u64
-    ensures { result ≡ capped_prints t.now }
-{
-    add_prints_in_all(0, t.body.as_slice())
-}
-
-fn count_all_prints(alloc: Global, ts: &[Transaction]) -> Result<Vec<u64>, Memory>
-    ensures { IfOk result (λ counts. counts.items ≡ map capped_prints ts.now) }
+fn count_all_prints(
+    alloc: Global,
+    ts: &[Transaction],
+    measuring: &Measuring<'_, '_>,
+) -> Result<Vec<u64>, Memory>
+    requires { IsSetUp measuring.now }
+    ensures { IfOk result (λ counts. (args : List ℤ) →
+        counts.items ≡ map (capped_prints (workload_of measuring.now) args) ts.now) }
 {
     let mut counts = Vec::new(alloc);
     for t in ts {
-        counts.push(count_prints(t))?;
+        counts.push(count_in(t, measuring))?;
     }
     Ok(counts)
 }
@@ -100,7 +71,7 @@ fn count_at(counts: &[u64], place: usize) -> u64
 fn check_total(total: u64, x: Ident, best: Option<Fault>) -> Option<Fault>
     ensures { result ≡ keep_all best (when (nat_lt 1000000 total) (fault Size x)) }
 {
-    if total >= TOO_MANY {
+    if total >= TOO_MANY_PRINTS {
         at_name(best, Phase::Size, x)
     } else {
         best
@@ -127,13 +98,15 @@ fn check_totals(
 /// The fault that decides, of those of too many print commands and of one so far.
 pub fn check_prints(
     alloc: Global,
-    ts: &[Transaction],
-    scope: &Scope<'_>,
     calls: &[SitedCall<'_>],
+    measuring: &Measuring<'_, '_>,
     best: Option<Fault>,
 ) -> Result<Option<Fault>, Memory>
-    ensures { IfOk result (λ b. b ≡ (print_all (scope_in scope.now) (map capped_prints ts.now) (record { total = 0; best = best }) calls.now).best) }
+    requires { IsSetUp measuring.now }
+    ensures { IfOk result (λ b. b ≡
+        keep_all best (each (prints_too_much_in (workload_of measuring.now)) (map sited calls.now))) }
 {
-    let counts = count_all_prints(alloc, ts)?;
-    Ok(check_totals(counts.as_slice(), scope, calls, best))
+    let transactions = measuring.workload.transactions.as_slice();
+    let counts = count_all_prints(alloc, transactions, measuring)?;
+    Ok(check_totals(counts.as_slice(), &measuring.scope, calls, best))
 }

@@ -1,23 +1,21 @@
-//! How large the L forms of the ground calls are, and their tables.
+//! How large the L forms of the ground calls are, how heavy, and their tables.
 
-ghost use Rattle.std.specs.Prelude.{◌≡◌, ◌+◌, ◌*◌, ◌||◌, map, min, nat_lt, slice_get, IfOk};
-ghost use Rattle.homeo_syntax.specs.SourceView.{plain_workload};
+ghost use Rattle.std.specs.Prelude.{◌≡◌, ◌+◌, ◌*◌, ◌||◌, [], not, map, min, nat_le, nat_lt, slice_get, IfOk};
+ghost use Rattle.std.specs.List.{flat_map};
 ghost use Rattle.homeo_meaning.specs.Deciding.{keep_all};
 ghost use Rattle.homeo_meaning.specs.NameRules.{when, fault};
-ghost use Rattle.homeo_meaning.specs.Schema.{nat_of};
 ghost use Rattle.homeo_meaning.specs.TransactionRules.{each};
-ghost use Rattle.homeo_meaning.specs.SizeRules.{body_form, call_form, extent_of, too_large, too_many_rows};
-ghost use Rattle.homeo_meaning.specs.declared.rules.Phase.TheVariants.{Size, Rows};
-ghost use Rattle.homeo_size.specs.Measured.{IsMeasure};
+ghost use Rattle.homeo_meaning.specs.SizeRules.{body_form, extent_of, too_large, heavy_call, too_many_rows};
+ghost use Rattle.homeo_meaning.specs.declared.rules.Phase.TheVariants.{Size, Weight, Rows};
 ghost use Rattle.homeo_rules.specs.Sited.{values, sited};
 ghost use Rattle.homeo_rules.specs.Scopes.{scope_in};
-ghost use Rattle.homeo_rules.specs.Sizes.{IsSetUp, workload_of, transaction_place, IsMeasureAfter, is_too_large};
+ghost use Rattle.homeo_rules.specs.Sizes.{IsSetUp, workload_of, transaction_place, call_of, told_size, IsMeasuredBody, IsMeasuredAs, IsTold, AreTold, AreMeasured, is_too_large, known};
 
 use crate::deciding::at_name;
 use crate::scope::Scope;
 use crate::sited::SitedCall;
-use homeo_meaning::{Fault, Item, Phase, Places};
-use homeo_size::{BEYOND, Measure, measure};
+use homeo_meaning::{Fault, Item, Phase};
+use homeo_size::{BEYOND, Layout, Measure, TOO_HEAVY, measure};
 use homeo_syntax::{Ident, Memory, Number, Workload};
 use std::alloc::Global;
 
@@ -40,23 +38,32 @@ const MOST_ROWS_TOGETHER: u64 = 8_000_000;
 const NOTHING: Measure = Measure {
     size: 1,
     depth: 0,
+    weight: 0,
     rows: 1,
 };
 
-/// What is told of a call where those before it are too large together already.
+/// What is told of a call that is too large, or that comes after calls that are too large together.
 const UNMEASURED: Measure = Measure {
     size: BEYOND,
     depth: BEYOND,
+    weight: TOO_HEAVY,
     rows: BEYOND,
 };
 
 /// What calls are measured in, the same for each call.
 #[derive(Clone, Copy)]
-pub struct Measuring<'a> {
+pub struct Measuring<'a, 'b> {
     pub scope: Scope<'a>,
     pub workload: &'a Workload,
-    pub objects: &'a Places,
+    pub layout: &'b Layout<'a>,
     pub sites: u64,
+}
+
+/// A ground call with its measure. There is none where it is larger than all calls may be together, with those before it.
+#[derive(Clone, Copy)]
+pub struct MeasuredCall<'a> {
+    pub call: SitedCall<'a>,
+    pub measure: Option<Measure>,
 }
 
 fn capped_sum(a: u64, b: u64) -> u64
@@ -75,15 +82,15 @@ fn measure_at(
     alloc: Global,
     place: usize,
     args: &[Number],
-    measuring: &Measuring<'_>,
-) -> Result<Measure, Memory>
+    measuring: &Measuring<'_, '_>,
+) -> Result<Option<Measure>, Memory>
     requires { IsSetUp measuring.now }
-    ensures { IfOk result (IsMeasure (nat_of (workload_of measuring.now).sites.value)
-        (body_form (workload_of measuring.now) (slice_get (workload_of measuring.now).transactions place) (values args.now))) }
+    ensures { IfOk result (IsMeasuredBody (workload_of measuring.now)
+        (slice_get (workload_of measuring.now).transactions place) (values args.now)) }
 {
     match measuring.workload.transactions.as_slice().get(place) {
-        Some(t) => measure(alloc, t, args, measuring.objects, measuring.sites),
-        None => Ok(NOTHING),
+        Some(t) => measure(alloc, t, args, measuring.layout, measuring.sites),
+        None => Ok(Some(NOTHING)),
     }
 }
 
@@ -100,15 +107,14 @@ fn transaction_place(scope: Scope<'_>, name: u32) -> Option<usize>
 fn measure_call(
     alloc: Global,
     call: SitedCall<'_>,
-    measuring: &Measuring<'_>,
-) -> Result<Measure, Memory>
+    measuring: &Measuring<'_, '_>,
+) -> Result<Option<Measure>, Memory>
     requires { IsSetUp measuring.now }
-    ensures { IfOk result (IsMeasure (nat_of (workload_of measuring.now).sites.value)
-        (call_form (workload_of measuring.now) (sited call.entry))) }
+    ensures { IfOk result (IsMeasuredAs (workload_of measuring.now) (sited call.entry)) }
 {
     match transaction_place(measuring.scope, call.name.name) {
         Some(place) => measure_at(alloc, place, call.args, measuring),
-        None => Ok(NOTHING),
+        None => Ok(Some(NOTHING)),
     }
 }
 
@@ -117,15 +123,47 @@ fn measure_after(
     alloc: Global,
     total: u64,
     call: SitedCall<'_>,
-    measuring: &Measuring<'_>,
-) -> Result<Measure, Memory>
+    measuring: &Measuring<'_, '_>,
+) -> Result<Option<Measure>, Memory>
     requires { IsSetUp measuring.now }
-    ensures { IfOk result (IsMeasureAfter (workload_of measuring.now) total (sited call.entry)) }
+    ensures { IfOk result (IsTold (workload_of measuring.now) total (sited call.entry)) }
 {
     if total > LARGEST_TOGETHER {
-        return Ok(UNMEASURED);
+        return Ok(None);
     }
     measure_call(alloc, call, measuring)
+}
+
+fn known(measure: Option<Measure>) -> Measure
+    ensures { result ≡ known measure }
+{
+    match measure {
+        Some(measure) => measure,
+        None => UNMEASURED,
+    }
+}
+
+/// Measures each call once.
+pub fn measure_calls<'a>(
+    alloc: Global,
+    calls: &[SitedCall<'a>],
+    measuring: &Measuring<'_, '_>,
+) -> Result<Vec<MeasuredCall<'a>>, Memory>
+    requires { IsSetUp measuring.now }
+    ensures calls { IfOk result (λ all. map call_of all.items ≡ map sited calls.now) }
+    ensures told { IfOk result (λ all. AreTold (workload_of measuring.now) 0 all.items) }
+{
+    let mut total = 0;
+    let mut all = Vec::new(alloc);
+    for call in calls {
+        let measure = measure_after(alloc, total, *call, measuring)?;
+        total = capped_sum(total, known(measure).size);
+        all.push(MeasuredCall {
+            call: *call,
+            measure,
+        })?;
+    }
+    Ok(all)
 }
 
 #[tactic(auto, using(crate::proofs::Steps::keeping))]
@@ -141,22 +179,49 @@ fn check_size(measure: Measure, total: u64, x: Ident, best: Option<Fault>) -> Op
 
 /// The fault that decides, of those of sizes and of one so far.
 pub fn check_sizes(
-    alloc: Global,
-    calls: &[SitedCall<'_>],
-    measuring: &Measuring<'_>,
+    calls: &[MeasuredCall<'_>],
+    measuring: &Measuring<'_, '_>,
     best: Option<Fault>,
-) -> Result<Option<Fault>, Memory>
-    requires { IsSetUp measuring.now }
-    ensures { IfOk result (λ b. b ≡ keep_all best (each (too_large (extent_of (workload_of measuring.now))) (map sited calls.now))) }
+) -> Option<Fault>
+    requires { AreTold (workload_of measuring.now) 0 calls.now }
+    ensures { result ≡ keep_all best (each (too_large (extent_of (workload_of measuring.now))) (map call_of calls.now)) }
 {
     let mut total = 0;
     let mut best = best;
-    for call in calls {
-        let measured = measure_after(alloc, total, *call, measuring)?;
-        total = capped_sum(total, measured.size);
-        best = check_size(measured, total, call.name, best);
+    for measured in calls {
+        let measure = known(measured.measure);
+        total = capped_sum(total, measure.size);
+        best = check_size(measure, total, measured.call.name, best);
     }
-    Ok(best)
+    best
+}
+
+#[tactic(auto, using(crate::proofs::Steps::keeping))]
+fn check_weight(weight: u64, x: Ident, best: Option<Fault>) -> Option<Fault>
+    ensures { result ≡ keep_all best (when (not (nat_le weight 1000000000000000000)) (fault Weight x)) }
+{
+    if weight < TOO_HEAVY {
+        best
+    } else {
+        at_name(best, Phase::Weight, x)
+    }
+}
+
+/// The fault that decides, of those of weights and of one so far.
+pub fn check_weights(
+    calls: &[MeasuredCall<'_>],
+    measuring: &Measuring<'_, '_>,
+    best: Option<Fault>,
+) -> Option<Fault>
+    requires { AreMeasured (workload_of measuring.now) calls.now }
+    ensures { result ≡ keep_all best (flat_map (heavy_call (workload_of measuring.now)) (map call_of calls.now)) }
+{
+    let mut best = best;
+    for measured in calls {
+        let measure = known(measured.measure);
+        best = check_weight(measure.weight, measured.call.name, best);
+    }
+    best
 }
 
 #[tactic(auto, using(crate::proofs::Steps::keeping))]
@@ -172,20 +237,19 @@ fn check_row_count(rows: u64, total: u64, x: Ident, best: Option<Fault>) -> Opti
 
 /// The fault that decides, of those of rows and of one so far.
 pub fn check_rows(
-    alloc: Global,
-    calls: &[SitedCall<'_>],
-    measuring: &Measuring<'_>,
+    calls: &[MeasuredCall<'_>],
+    measuring: &Measuring<'_, '_>,
     best: Option<Fault>,
-) -> Result<Option<Fault>, Memory>
-    requires { IsSetUp measuring.now }
-    ensures { IfOk result (λ b. b ≡ keep_all best (each (too_many_rows (workload_of measuring.now)) (map sited calls.now))) }
+) -> Option<Fault>
+    requires { AreMeasured (workload_of measuring.now) calls.now }
+    ensures { result ≡ keep_all best (each (too_many_rows (workload_of measuring.now)) (map call_of calls.now)) }
 {
     let mut total = 0;
     let mut best = best;
-    for call in calls {
-        let measured = measure_call(alloc, *call, measuring)?;
-        total = capped_sum(total, capped_product(measured.rows, measured.size));
-        best = check_row_count(measured.rows, total, call.name, best);
+    for measured in calls {
+        let measure = known(measured.measure);
+        total = capped_sum(total, capped_product(measure.rows, measure.size));
+        best = check_row_count(measure.rows, total, measured.call.name, best);
     }
-    Ok(best)
+    best
 }

@@ -5,31 +5,31 @@ use Rattle.homeo_rules.proofs.Joining.{scope-is, calls-are, text-found, text-dec
 use Rattle.homeo_rules.proofs.decision.decide.Goals as goal
 
 pub text-requires-clause-names : goal.text-requires-clause-names
-text-requires-clause-names c = scope-is c.args.w.now c.unbuilt-best.result c.in_ok-items.items c.as_slice.result.now c.as_slice-2.result.now c.in_ok-items.ensures c.as_slice.ensures c.as_slice-2.ensures
+text-requires-clause-names c = scope-is c.args.w.now c.in_ok-items.items c.as_slice.result.now c.as_slice-2.result.now c.in_ok-items.ensures c.as_slice.ensures c.as_slice-2.ensures
 
 pub text-requires-clause-sited : goal.text-requires-clause-sited
 text-requires-clause-sited c = ap (map sited) c.as_slice-4.ensures.value ∙ calls-are c.args.w.now c.in_ok-calls.calls.items c.as_slice-3.result.now c.in_ok-calls.ensures c.as_slice-3.ensures
 
-pub forms-requires-clause-names : goal.forms-requires-clause-names
-forms-requires-clause-names c = scope-is c.args.w.now c.unbuilt-best.result c.in_ok-items.items c.as_slice.result.now c.as_slice-2.result.now c.in_ok-items.ensures c.as_slice.ensures c.as_slice-2.ensures
+pub check_forms-requires-clause-names : goal.check_forms-requires-clause-names
+check_forms-requires-clause-names c = scope-is c.args.w.now c.in_ok-items.items c.as_slice.result.now c.as_slice-2.result.now c.in_ok-items.ensures c.as_slice.ensures c.as_slice-2.ensures
 
-pub forms-requires-clause-sited : goal.forms-requires-clause-sited
-forms-requires-clause-sited c = ap (map sited) c.as_slice-in-None.ensures.value ∙ calls-are c.args.w.now c.in_ok-calls.calls.items c.as_slice-3.result.now c.in_ok-calls.ensures c.as_slice-3.ensures
+pub check_forms-requires-clause-sited : goal.check_forms-requires-clause-sited
+check_forms-requires-clause-sited c = ap (map sited) c.as_slice-in-None.ensures.value ∙ calls-are c.args.w.now c.in_ok-calls.calls.items c.as_slice-3.result.now c.in_ok-calls.ensures c.as_slice-3.ensures
 
-pub forms-requires-clause-faultless : goal.forms-requires-clause-faultless
-forms-requires-clause-faultless c =
+pub check_forms-requires-clause-faultless : goal.check_forms-requires-clause-faultless
+check_forms-requires-clause-faultless c =
     let w = plain_workload c.args.w.now in
-    let found = text-found c.args.purpose w c.unbuilt-best.result c.best.result c.in_ok-best.best (c.best.ensures ∙ c.in_ok-items.ensures.kept) c.unbuilt-best.ensures c.in_ok-best.ensures in
+    let found = text-found c.args.purpose w c.best.result c.in_ok-best.best (c.best.ensures ∙ c.in_ok-items.ensures.kept) c.in_ok-best.ensures in
     faultless c.args.purpose w (sym found ∙ c.in-None.is)
 
 pub returns-in-Some : goal.returns-in-Some
 returns-in-Some c =
     let w = plain_workload c.args.w.now in
-    let found = text-found c.args.purpose w c.unbuilt-best.result c.best.result c.in_ok-best.best (c.best.ensures ∙ c.in_ok-items.ensures.kept) c.unbuilt-best.ensures c.in_ok-best.ensures in
+    let found = text-found c.args.purpose w c.best.result c.in_ok-best.best (c.best.ensures ∙ c.in_ok-items.ensures.kept) c.in_ok-best.ensures in
     c.in-Some.is ∙ text-decides c.args.purpose w _ (sym found ∙ c.in-Some.is)
 
 pub returns : goal.returns
 returns c =
     let w = plain_workload c.args.w.now in
-    let found = text-found c.args.purpose w c.unbuilt-best.result c.best.result c.in_ok-best.best (c.best.ensures ∙ c.in_ok-items.ensures.kept) c.unbuilt-best.ensures c.in_ok-best.ensures in
-    subst (λ v. IfOk c.forms.result (λ b. b ≡ v)) (forms-decide c.args.purpose w (sym found ∙ c.in-None.is)) c.forms.ensures
+    let found = text-found c.args.purpose w c.best.result c.in_ok-best.best (c.best.ensures ∙ c.in_ok-items.ensures.kept) c.in_ok-best.ensures in
+    subst (λ v. IfOk c.check_forms.result (λ b. b ≡ v)) (forms-decide c.args.purpose w (sym found ∙ c.in-None.is)) c.check_forms.ensures

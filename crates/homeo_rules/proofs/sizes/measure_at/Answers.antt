@@ -1,10 +1,5 @@
-use Rattle.homeo_rules.proofs.Measured.{there, not-there, can-run, body-measured, no-body-measured}
+use Rattle.homeo_rules.proofs.Measured.{there, not-there, body-measured, no-body-measured}
 use Rattle.homeo_rules.proofs.sizes.measure_at.Goals as goal
-
-pub measure-requires : goal.measure-requires
-measure-requires c =
-    let l = c.in-Some.ensures.lookup in
-    record { built = can-run c.args.measuring.now c.args.place c.in-Some.t.now c.requires (there c.args.measuring.now c.as_slice.result.now c.args.place c.in-Some.t.now c.in-Some.t.now c.as_slice.ensures l.3.0 (l.3.1 c.in-Some.t.now)) }
 
 pub returns-in-Some : goal.returns-in-Some
 returns-in-Some c =

@@ -1,0 +1,95 @@
+-- Which of the faults of L forms decides, by those of sizes and prints, and then of weights and rows.
+use Rattle.std.proofs.Common.{◌≡◌, List, [], ◌∷◌, ◌++◌, map, Option, Some, None, refl, sym, ap, subst, ◌∙◌, append_assoc}
+use Rattle.std.specs.List.{flat_map}
+use Rattle.homeo_syntax.specs.Key.{words as syntax_words}
+use Rattle.homeo_syntax.specs.Source as s
+use Rattle.homeo_syntax.specs.SourceView.{plain_relation, plain_workload}
+use Rattle.homeo_syntax.specs.declared.workload.ObjectDecl.{ObjectDecl}
+use Rattle.homeo_syntax.specs.declared.workload.RelationDecl.{RelationDecl}
+use Rattle.homeo_syntax.specs.declared.workload.Workload.{Workload}
+use Rattle.homeo_meaning.specs.Key.{words as meaning_words}
+use Rattle.homeo_meaning.specs.Deciding.{keep_all}
+use Rattle.homeo_meaning.specs.Faults.{form_faults}
+use Rattle.homeo_meaning.specs.GlobalNames.{sited_calls}
+use Rattle.homeo_meaning.specs.NumberRules.{ground_calls}
+use Rattle.homeo_meaning.specs.Schema.{schema_of, declared_object, declared_relation}
+use Rattle.homeo_meaning.specs.SizeRules.{extent_of, too_large, size_faults, print_faults, heavy_call, weight_faults, too_many_rows, row_faults}
+use Rattle.homeo_meaning.specs.TransactionRules.{each}
+use Rattle.homeo_meaning.specs.declared.rules.Fault.{Fault}
+use Rattle.homeo_meaning.proofs.FaultParts.{none_first}
+use Rattle.homeo_meaning.proofs.Phases.{sizes_in, later_in, decides_first}
+use Rattle.homeo_meaning.proofs.SoundRelations.{objects-fit}
+use Rattle.homeo_size.specs.Layout.{HasFewObjects, relation_of, schema_with}
+use Rattle.homeo_rules.specs.Decided.{IsFaultless}
+use Rattle.homeo_rules.specs.Limited.{distinct_within}
+use Rattle.homeo_rules.specs.Printing.{prints_too_much_in}
+use Rattle.homeo_rules.specs.Sited.{sited}
+use Rattle.homeo_rules.specs.Sizes.{AreTold, AreMeasured, call_of}
+use Rattle.homeo_rules.specs.declared.sited.SitedCall.{SitedCall}
+use Rattle.homeo_rules.specs.declared.sizes.MeasuredCall.{MeasuredCall}
+use Rattle.homeo_rules.proofs.Joining.{grounds-are}
+use Rattle.homeo_rules.proofs.OneDecides.{none_left}
+use Rattle.homeo_rules.proofs.CallsMeasured.{are_measured}
+use Rattle.homeo_rules.proofs.Steps.{keep_all-append}
+
+-- ---- what is laid out
+relations-plain : (rs : List RelationDecl) → map relation_of rs ≡ map declared_relation (map plain_relation rs)
+unfolding meaning_words syntax_words
+relations-plain [] = refl
+relations-plain (r ∷ rs) = ap (λ l. relation_of r ∷ l) (relations-plain rs)
+
+pub schema-plain : (w : Workload) (os : List ObjectDecl) (rs : List RelationDecl) → os ≡ w.objects.items → rs ≡ w.relations.items → schema_with os rs ≡ schema_of (plain_workload w)
+unfolding meaning_words syntax_words
+schema-plain w os rs eo er =
+    (λ i. schema_with (eo i) (er i)) ∙ ap (λ l. record { objects = map declared_object w.objects.items; relations = l }) (relations-plain w.relations.items)
+
+pub few-objects : (w : Workload) (os : List ObjectDecl) (rs : List RelationDecl) → os ≡ w.objects.items → rs ≡ w.relations.items → IsFaultless (plain_workload w) → HasFewObjects (schema_with os rs)
+few-objects w os rs eo er sound = subst HasFewObjects (sym (schema-plain w os rs eo er)) (objects-fit (plain_workload w) sound.limits)
+
+-- ---- which decides
+-- a fault of sizes or prints comes before those of weights and rows
+pub sizes-decide : (w : s.Workload) (b : Option Fault) (f : Fault) → b ≡ keep_all None (size_faults w ++ print_faults w) → b ≡ Some f → b ≡ keep_all None (form_faults w)
+unfolding meaning_words
+sizes-decide w b f e is =
+    is
+    ∙ sym (
+    ap (keep_all None) (append_assoc (size_faults w ++ print_faults w) (weight_faults w) (row_faults w))
+    ∙ keep_all-append None (size_faults w ++ print_faults w) (weight_faults w ++ row_faults w)
+    ∙ decides_first 7 8 10 (size_faults w ++ print_faults w) (weight_faults w ++ row_faults w) f (sizes_in w) (later_in w) (sym e ∙ is))
+
+pub after-sizes : (w : s.Workload) (b : Option Fault) → b ≡ keep_all None (size_faults w ++ print_faults w) → b ≡ None → keep_all None (weight_faults w ++ row_faults w) ≡ keep_all None (form_faults w)
+unfolding meaning_words
+after-sizes w b e none =
+    sym (
+    ap (keep_all None) (append_assoc (size_faults w ++ print_faults w) (weight_faults w) (row_faults w))
+    ∙ keep_all-append None (size_faults w ++ print_faults w) (weight_faults w ++ row_faults w)
+    ∙ ap (λ o. keep_all o (weight_faults w ++ row_faults w)) (sym e ∙ none))
+
+-- ---- of the lists that the code goes along
+-- the ground calls are measured, one for one
+pub grounds-plain : (w : Workload) (calls kept held : List SitedCall) (measured found : List MeasuredCall) → map sited calls ≡ sited_calls (plain_workload w) → IsFaultless (plain_workload w) → kept ≡ distinct_within 1024 [] calls → held ≡ kept → map call_of measured ≡ map sited held → found ≡ measured → map call_of found ≡ ground_calls (plain_workload w)
+grounds-plain w calls kept held measured found el sound e h m f =
+    ap (map call_of) f ∙ m ∙ ap (map sited) (h ∙ e) ∙ grounds-are w calls el sound
+
+-- where there is no fault of sizes, each ground call is measured
+pub all-measured : (w : s.Workload) (b : Option Fault) (ms : List MeasuredCall) → map call_of ms ≡ ground_calls w → AreTold w 0 ms → b ≡ keep_all None (size_faults w ++ print_faults w) → b ≡ None → AreMeasured w ms
+unfolding meaning_words
+all-measured w b ms grounds told e none =
+    let no_size : size_faults w ≡ [] = none_first (size_faults w) (print_faults w) (none_left (size_faults w ++ print_faults w) (sym e ∙ none)) in
+    are_measured w ms told (ap (each (too_large (extent_of w))) grounds ∙ no_size)
+
+pub sizes-and-prints : (w : s.Workload) (ms : List MeasuredCall) (calls : List SitedCall) (one two : Option Fault) → map call_of ms ≡ ground_calls w → map sited calls ≡ sited_calls w → one ≡ keep_all None (each (too_large (extent_of w)) (map call_of ms)) → two ≡ keep_all one (each (prints_too_much_in w) (map sited calls)) → two ≡ keep_all None (size_faults w ++ print_faults w)
+unfolding meaning_words
+sizes-and-prints w ms calls one two grounds all e f =
+    f
+    ∙ (λ i. keep_all (e i) (each (prints_too_much_in w) (all i)))
+    ∙ ap (λ l. keep_all (keep_all None (each (too_large (extent_of w)) l)) (print_faults w)) grounds
+    ∙ sym (keep_all-append None (size_faults w) (print_faults w))
+
+pub weights-and-rows : (w : s.Workload) (ms : List MeasuredCall) (one two : Option Fault) → map call_of ms ≡ ground_calls w → one ≡ keep_all None (flat_map (heavy_call w) (map call_of ms)) → two ≡ keep_all one (each (too_many_rows w) (map call_of ms)) → two ≡ keep_all None (weight_faults w ++ row_faults w)
+unfolding meaning_words
+weights-and-rows w ms one two grounds e f =
+    f
+    ∙ (λ i. keep_all (e i) (each (too_many_rows w) (map call_of ms)))
+    ∙ ap (λ l. keep_all (keep_all None (flat_map (heavy_call w) l)) (each (too_many_rows w) l)) grounds
+    ∙ sym (keep_all-append None (weight_faults w) (row_faults w))

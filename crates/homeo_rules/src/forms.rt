@@ -1,0 +1,102 @@
+//! The fault of the L forms of calls that decides.
+
+ghost use Rattle.std.specs.Prelude.{◌≡◌, ◌++◌, None, map, IfOk};
+ghost use Rattle.homeo_syntax.specs.SourceView.{plain_workload};
+ghost use Rattle.homeo_meaning.specs.Deciding.{keep_all};
+ghost use Rattle.homeo_meaning.specs.Faults.{form_faults};
+ghost use Rattle.homeo_meaning.specs.GlobalNames.{scope_of, sited_calls};
+ghost use Rattle.homeo_meaning.specs.NumberRules.{ground_calls};
+ghost use Rattle.homeo_meaning.specs.Schema.{nat_of, schema_of};
+ghost use Rattle.homeo_meaning.specs.SizeRules.{size_faults, print_faults, weight_faults, row_faults};
+ghost use Rattle.homeo_size.specs.Layout.{IsLayout};
+ghost use Rattle.homeo_rules.specs.Decided.{IsFaultless};
+ghost use Rattle.homeo_rules.specs.Scopes.{scope_in};
+ghost use Rattle.homeo_rules.specs.Sited.{sited};
+ghost use Rattle.homeo_rules.specs.Sizes.{IsSetUp, workload_of, call_of, AreTold, AreMeasured};
+
+use crate::limits::ground_calls;
+use crate::prints::check_prints;
+use crate::scope::Scope;
+use crate::sited::SitedCall;
+use crate::sizes::{
+    MeasuredCall, Measuring, check_rows, check_sizes, check_weights, measure_calls,
+};
+use homeo_meaning::Fault;
+use homeo_size::Layout;
+use homeo_syntax::{Memory, Workload};
+use std::alloc::Global;
+
+/// The number of sites, which is not negative where no limit is passed.
+#[tactic(auto, unfolding(homeo_meaning::specs::Key::words, homeo_syntax::specs::Key::words))]
+fn site_count(w: &Workload) -> u64
+    ensures { result ≡ nat_of (plain_workload w.now).sites.value }
+{
+    w.sites.value.max(0) as u64
+}
+
+fn lay_out<'a>(alloc: Global, w: &'a Workload) -> Result<Layout<'a>, Memory>
+    requires { IsFaultless (plain_workload w.now) }
+    ensures { IfOk result (IsLayout (schema_of (plain_workload w.now))) }
+{
+    Layout::of(alloc, w.objects.as_slice(), w.relations.as_slice())
+}
+
+/// The fault that decides, of those of sizes and of prints.
+fn check_sizes_and_prints(
+    alloc: Global,
+    measured: &[MeasuredCall<'_>],
+    calls: &[SitedCall<'_>],
+    measuring: &Measuring<'_, '_>,
+) -> Result<Option<Fault>, Memory>
+    requires set_up { IsSetUp measuring.now }
+    requires told { AreTold (workload_of measuring.now) 0 measured.now }
+    requires grounds { map call_of measured.now ≡ ground_calls (workload_of measuring.now) }
+    requires sited { map sited calls.now ≡ sited_calls (workload_of measuring.now) }
+    ensures { IfOk result (λ b. b ≡
+        keep_all None (size_faults (workload_of measuring.now) ++ print_faults (workload_of measuring.now))) }
+{
+    let best = check_sizes(measured, measuring, None);
+    check_prints(alloc, calls, measuring, best)
+}
+
+/// The fault that decides, of those of weights and of rows.
+fn check_weights_and_rows(
+    measured: &[MeasuredCall<'_>],
+    measuring: &Measuring<'_, '_>,
+) -> Option<Fault>
+    requires measured { AreMeasured (workload_of measuring.now) measured.now }
+    requires grounds { map call_of measured.now ≡ ground_calls (workload_of measuring.now) }
+    ensures { result ≡
+        keep_all None (weight_faults (workload_of measuring.now) ++ row_faults (workload_of measuring.now)) }
+{
+    let best = check_weights(measured, measuring, None);
+    check_rows(measured, measuring, best)
+}
+
+/// The fault that decides, of those of the L forms, where the text has none.
+pub fn check_forms<'a>(
+    alloc: Global,
+    w: &'a Workload,
+    scope: &Scope<'a>,
+    calls: &[SitedCall<'_>],
+) -> Result<Option<Fault>, Memory>
+    requires names { scope_in scope.now ≡ scope_of (plain_workload w.now) }
+    requires sited { map sited calls.now ≡ sited_calls (plain_workload w.now) }
+    requires faultless { IsFaultless (plain_workload w.now) }
+    ensures { IfOk result (λ b. b ≡ keep_all None (form_faults (plain_workload w.now))) }
+{
+    let grounds = ground_calls(alloc, calls)?;
+    let layout = lay_out(alloc, w)?;
+    let measuring = Measuring {
+        scope: *scope,
+        workload: w,
+        layout: &layout,
+        sites: site_count(w),
+    };
+    let measured = measure_calls(alloc, grounds.as_slice(), &measuring)?;
+    let best = check_sizes_and_prints(alloc, measured.as_slice(), calls, &measuring)?;
+    match best {
+        Some(_) => Ok(best),
+        None => Ok(check_weights_and_rows(measured.as_slice(), &measuring)),
+    }
+}
