@@ -76,12 +76,12 @@ unfolding meaning_words
 place-within names n = let h : place_from 0 names n ≤ 0 + length names = place-fits 0 names n in omega arith
 
 -- ---- facts of each item
-each-append : {A : Type 0} (P : A → Type 0) (xs ys : List A) → Each P xs → Each P ys → Each P (xs ++ ys)
+pub each-append : {A : Type 0} (P : A → Type 0) (xs ys : List A) → Each P xs → Each P ys → Each P (xs ++ ys)
 unfolding tree_words
 each-append P [] ys h k = k
 each-append P (x ∷ xs) ys h k = (h.0, each-append P xs ys h.1 k)
 
-all-each : {A : Type 0} (P : A → Type 0) (xs : List A) → Each P xs → All P xs
+pub all-each : {A : Type 0} (P : A → Type 0) (xs : List A) → Each P xs → All P xs
 unfolding tree_words
 all-each P [] h = all_none P
 all-each P (x ∷ xs) h = all_more P x xs h.0 (all-each P xs h.1)
@@ -107,7 +107,7 @@ clients_sited sites scope ts (c ∷ cs) e f z =
     let one : IsSite c.site.value = site_here sites c.site (none_second called here (none_first (called ++ here) more e)) f z.0 in
     each-append StandsAtSite (sited_calls_of c) (flat_map sited_calls_of cs) (calls_sited c one) (clients_sited sites scope ts cs (none_second (called ++ here) more e) f z.1)
 
-distinct-each : (P : SitedCall → Type 0) (us kept : List SitedCall) → Each P us → Each P kept → Each P (distinct_after kept us)
+pub distinct-each : (P : SitedCall → Type 0) (us kept : List SitedCall) → Each P us → Each P kept → Each P (distinct_after kept us)
 unfolding meaning_words tree_words
 distinct-each P [] kept h k = k
 distinct-each P (u ∷ us) kept h k = go (list_any (same_ground u) kept) (λ l m. distinct-each P us l h.1 m)

@@ -4,7 +4,7 @@ ghost use Rattle.std.specs.Prelude.{◌≡◌, ◌<◌, ◌^◌, All, length, ma
 ghost use Rattle.homeo_syntax.specs.Source as s;
 ghost use Rattle.homeo_syntax.specs.SourceView.{plain_workload};
 ghost use Rattle.homeo_meaning.specs.Ground.{plain_ground, grounds, ground_of};
-ghost use Rattle.homeo_ground.specs.Grounding.{grounding, IsCallIn};
+ghost use Rattle.homeo_ground.specs.Grounding.{grounding, IsCallIn, IsCalled};
 ghost use Rattle.homeo_ground.specs.Sited.{sited, ground_by, IsSite};
 
 use crate::numbering::number_clients;
@@ -64,6 +64,7 @@ impl Grounding {
     pub fn of(alloc: Global, w: &Accepted) -> Result<Grounding, Memory>
         ensures table { IfOk result (λ g. g ≡ grounding (plain_workload w.now)) }
         ensures calls { IfOk result (λ g. g.calls ≡ grounds (plain_workload w.now)) }
+        ensures called { IfOk result (λ g. All (IsCalled (plain_workload w.now)) g.calls) }
     {
         let numbering = Numbering::of(alloc, w)?;
         let numbered = number_clients(alloc, w.workload().clients.as_slice())?;

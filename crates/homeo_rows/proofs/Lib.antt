@@ -1,2 +1,3 @@
 -- The lemmas of the tests.
+pub mod CallForms
 pub mod Example

@@ -1,8 +1,11 @@
-//! Whole runs of the top call, over sources and sinks in memory, and the calls of a small workload one by one.
+//! Whole runs of the top call, over sources and sinks in memory, and the calls of small workloads one by one, also by
+//! their L forms.
 #![tactic(auto)]
 
 #[cfg(test)]
 mod evaluation;
+#[cfg(test)]
+mod forms;
 #[cfg(test)]
 mod printing;
 

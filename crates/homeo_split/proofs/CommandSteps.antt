@@ -1,5 +1,5 @@
 -- What commands do behind the prints before them, as equations, which code rewrites by.
-use Rattle.std.proofs.Common.{◌≡◌, ℕ, ◌+◌, ◌<◌, ℤ, true, false, cond, Bool, ◌&&◌, Box, Global, List, [], ◌∷◌, ◌++◌, map, drop, get_or, length, refl, sym, ap, ◌∙◌, append_assoc}
+use Rattle.std.proofs.Common.{◌≡◌, ℕ, ◌+◌, ◌<◌, ◌≤◌, ℤ, true, false, cond, Bool, ◌&&◌, Box, Global, List, [], ◌∷◌, ◌++◌, map, drop, get_or, length, refl, sym, ap, ◌∙◌, append_assoc}
 use Rattle.std.proofs.lemmas.List.{append-nil}
 use Rattle.std.proofs.lemmas.Bool.{and_parts}
 use Rattle.homeo_syntax.specs.Key.{words as tree_words}
@@ -12,7 +12,7 @@ use Rattle.homeo_syntax.specs.Low.{Expr, Cond, Command, Commands, Skip, Assign, 
 use Rattle.homeo_syntax.proofs.LowViews.{low_If}
 use Rattle.homeo_meaning.specs.Key.{words as meaning_words}
 use Rattle.homeo_meaning.specs.LowMeaning.{State, Run, TempAt, place_of, put, value, holds, after_prints, exec, exec_all}
-use Rattle.homeo_meaning.proofs.Steps.{drop_next}
+use Rattle.homeo_meaning.proofs.Steps.{drop_next, drop_none}
 use Rattle.homeo_split.specs.Key.{words}
 use Rattle.homeo_split.specs.CanExec.{expr_fits, cond_fits, can_exec, can_exec_all}
 use Rattle.homeo_split.specs.Scenes.{run_of}
@@ -70,6 +70,18 @@ pub can_Seq : (b : ℕ) (s : State) (cs : Commands) → can_exec b (Seq cs) s �
 unfolding words
 can_Seq b s cs = refl
 
+pub has_Skip : (h : Shape) → has_places h Skip ≡ true
+unfolding words
+has_Skip h = refl
+
+pub has_Assign : (h : Shape) (t : Temp) (e : Expr) → has_places h (Assign t e) ≡ true
+unfolding words
+has_Assign h t e = refl
+
+pub has_Print : (h : Shape) (e : Expr) → has_places h (Print e) ≡ true
+unfolding words
+has_Print h e = refl
+
 pub has_Write : (h : Shape) (x : SplitName) (e : Expr) → has_places h (Write x e) ≡ has_place h x
 unfolding words
 has_Write h x e = refl
@@ -83,6 +95,12 @@ unfolding words
 has_Seq h cs = refl
 
 pub ruleset runs = (run_Skip, run_Assign, run_Write, run_Print, run_If, run_Seq, can_Assign, can_Write, can_Print, can_If, can_Seq, has_Write, has_If, has_Seq)
+
+pub ruleset places = (has_Skip, has_Assign, has_Write, has_Print, has_If, has_Seq)
+
+has_end : (h : Shape) → has_places_all h (low_commands []) ≡ true
+unfolding words tree_words
+has_end h = refl
 
 pub run_end : (s : State) (ps : List ℤ) → after_prints ps (exec_all (low_commands []) s) ≡ run_of s ps
 unfolding words meaning_words tree_words
@@ -127,11 +145,16 @@ parts b s cs i c h p can =
 pub can_first : (b : ℕ) (s : State) (cs : List tree.LCommand) (i : ℕ) (c : tree.LCommand) → i < length cs → c ≡ get_or cs i c → can_exec_all b (low_commands (map plain_lcommand (drop i cs))) s ≡ true → can_exec b (plain_lcommand c) s ≡ true
 can_first b s cs i c h p can = (parts b s cs i c h p can).0
 
+-- the first of the commands that are left, and the rest
+pub has_step : (h : Shape) (cs : List tree.LCommand) (i : ℕ) (c : tree.LCommand) → i < length cs → c ≡ get_or cs i c → has_places_all h (low_commands (map plain_lcommand (drop i cs))) ≡ has_places h (plain_lcommand c) && has_places_all h (low_commands (map plain_lcommand (drop (i + 1) cs)))
+has_step h cs i c l p = ap (λ l. has_places_all h (low_commands l)) (drop_next plain_lcommand cs i c l p) ∙ has_more h (plain_lcommand c) (map plain_lcommand (drop (i + 1) cs))
+
 -- the places of the first of the commands that are left, and of the rest
 pub has_parts : (h : Shape) (cs : List tree.LCommand) (i : ℕ) (c : tree.LCommand) → i < length cs → c ≡ get_or cs i c → has_places_all h (low_commands (map plain_lcommand (drop i cs))) ≡ true → (has_places h (plain_lcommand c) ≡ true) × (has_places_all h (low_commands (map plain_lcommand (drop (i + 1) cs))) ≡ true)
-has_parts h cs i c l p has =
-    let next = drop_next plain_lcommand cs i c l p in
-    and_parts _ _ (sym (has_more h (plain_lcommand c) (map plain_lcommand (drop (i + 1) cs))) ∙ ap (λ l. has_places_all h (low_commands l)) (sym next) ∙ has)
+has_parts h cs i c l p has = and_parts _ _ (sym (has_step h cs i c l p) ∙ has)
+
+pub has_stop : (h : Shape) (cs : List tree.LCommand) (i : ℕ) → length cs ≤ i → has_places_all h (low_commands (map plain_lcommand (drop i cs))) ≡ true
+has_stop h cs i l = ap (λ l. has_places_all h (low_commands l)) (drop_none plain_lcommand cs i l) ∙ has_end h
 
 pub run_step : (b : ℕ) (s u : State) (ps qs : List ℤ) (cs : List tree.LCommand) (i : ℕ) (c : tree.LCommand) → i < length cs → c ≡ get_or cs i c → can_exec_all b (low_commands (map plain_lcommand (drop i cs))) s ≡ true → run_of u qs ≡ after_prints ps (exec (plain_lcommand c) s) → RunStep b s u ps qs cs i
 run_step b s u ps qs cs i c h p can ran =

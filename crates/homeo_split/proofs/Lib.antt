@@ -3,5 +3,6 @@ pub mod Copies
 pub mod Equations
 pub mod Example
 pub mod Numbers
+pub mod SmallCommands
 pub mod States
 pub mod Steps

@@ -1,9 +1,10 @@
-//! Commands over split names, run on a database that is split over sites.
+//! Commands over split names, run on a database that is split over sites; and what is true of such commands.
 #![tactic(auto)]
 
 mod commands;
-mod padded;
+pub mod laws;
 mod phrases;
+mod places;
 mod runs;
 mod scene;
 mod split;

@@ -5,7 +5,7 @@ ghost use Rattle.homeo_meaning.specs.LowMeaning.{TempAt, DeltaAt, place_of, put}
 ghost use Rattle.homeo_split.specs.Scenes.{scene_state, scene_shape};
 ghost use Rattle.homeo_split.specs.Shape.{has_place};
 
-use crate::padded::{item_or, put};
+use homeo_meaning::padded::{item_or, put};
 use homeo_syntax::{Memory, SplitName, Temp};
 
 /// The values of the base, of the deltas by site, and of the temporaries, named and fresh.

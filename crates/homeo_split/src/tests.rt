@@ -71,6 +71,7 @@ fn database(alloc: Global) -> Result<Split, Memory>
 fn a_site_writes_its_own_delta(rt: HostRuntime) -> Result<(), Fail> {
     let command = raise(rt.alloc())?;
     let mut state = database(rt.alloc())?;
+    assert!(rt; state.has_places(&command));
     let prints = eval_l(rt.alloc(), &command, &mut state)?;
     assert_eq!(rt; prints.as_slice(), [16].as_slice());
     assert_eq!(rt; state.base.as_slice(), [5, 7].as_slice());

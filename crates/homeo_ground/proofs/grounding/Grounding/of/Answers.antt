@@ -1,8 +1,9 @@
 -- The ground calls are those of the workload.
-use Rattle.std.proofs.Common.{ap, ◌∙◌, sym, map}
-use Rattle.homeo_syntax.specs.SourceView.{plain_client}
-use Rattle.homeo_ground.specs.Grounding.{places_among}
+use Rattle.std.proofs.Common.{All, ap, ◌∙◌, sym, map, subst}
+use Rattle.homeo_syntax.specs.SourceView.{plain_client, plain_workload}
+use Rattle.homeo_ground.specs.Grounding.{places_among, IsCalled}
 use Rattle.homeo_ground.specs.Sited.{sited}
+use Rattle.homeo_ground.proofs.Called.{are_called}
 use Rattle.homeo_ground.proofs.Whole.{have_sites, are_few, are_grounds, is_grounding, calls_fit}
 use Rattle.homeo_ground.proofs.grounding.Grounding.of.Goals as goal
 
@@ -25,3 +26,6 @@ returns-clause-table c =
 pub returns-clause-calls : goal.returns-clause-calls
 returns-clause-calls c =
     are_grounds c.args.w.now c.workload.ensures.accepted c.as_slice.result.now (c.as_slice.ensures ∙ ap (λ w. w.clients.items) c.workload.ensures.value) c.in_ok-numbering.numbering c.in_ok-numbering.ensures c.as_slice-2.result.now (ap (map sited) c.as_slice-2.ensures.keys ∙ c.in_ok-numbered.ensures.calls) _ c.in_ok-ground_calls.ensures
+
+pub returns-clause-called : goal.returns-clause-called
+returns-clause-called c = subst (All (IsCalled (plain_workload c.args.w.now))) (sym (returns-clause-calls c)) (are_called (plain_workload c.args.w.now) c.workload.ensures.accepted)
