@@ -32,7 +32,8 @@ use Rattle.homeo_meaning.specs.GlobalNames as g
 use Rattle.homeo_meaning.specs.declared.rules.Item.{Item}
 use Rattle.homeo_meaning.specs.declared.rules.Item.TheVariants as I
 use Rattle.homeo_rules.specs.Key.{words}
-use Rattle.homeo_rules.specs.Scopes.{item_at, fields_at, scope_with}
+use Rattle.homeo_rules.specs.Scopes.{item_at, scope_with}
+use Rattle.homeo_rules.specs.Tabled.{fields_at}
 use Rattle.homeo_rules.specs.Items.{Items, along_names}
 use Rattle.homeo_rules.specs.Listwise.{along_all}
 use Rattle.homeo_rules.specs.Within.{AreNamed}

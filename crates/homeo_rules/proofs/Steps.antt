@@ -15,7 +15,7 @@ use Rattle.homeo_meaning.specs.Deciding.{keep, keep_all}
 use Rattle.homeo_meaning.specs.declared.rules.Fault.{Fault}
 use Rattle.homeo_rules.specs.Key.{words}
 use Rattle.homeo_rules.specs.Follow.{Standing, local_at, step, assigned}
-use Rattle.homeo_rules.specs.Scopes.{fields_of, has_name}
+use Rattle.homeo_rules.specs.Tabled.{fields_of, has_name}
 
 pub step-TakesObject : (s : Scope) (k : Standing) (rows : List Row) (x : Ident) → step s k (at rows (TakesObject x)) ≡ record { locals = k.locals; best = keep_all k.best (takes_object x (binding s (local_at k.locals) rows x.name)) }
 unfolding words meaning_words

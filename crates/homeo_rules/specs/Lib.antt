@@ -16,5 +16,6 @@ pub mod Scopes
 pub mod Sited
 pub mod Sizes
 pub mod Stages
+pub mod Tabled
 pub mod Tally
 pub mod Within

@@ -1,6 +1,6 @@
 //! What is known at a place of a transaction, and the rules of names there.
 
-ghost use Rattle.std.specs.Prelude.{◌≡◌, replicate, IfOk};
+ghost use Rattle.std.specs.Prelude.{◌≡◌, replicate, IfOk, OnOk};
 ghost use Rattle.homeo_meaning.specs.Bindings.{binding};
 ghost use Rattle.homeo_meaning.specs.Places.{at, DeclaresRow, TakesObject, TakesRelation, TakesValue, TakesField, NamesField, FillsFields, Assigns};
 ghost use Rattle.homeo_meaning.specs.Deciding.{keep_all};
@@ -24,6 +24,7 @@ use std::marker::Model;
 /// What each name is within the transaction so far, and the fault that decides so far.
 #[derive(Drop)]
 pub struct Checker {
+    alloc: Global,
     locals: Vec<Local>,
     best: Option<Fault>,
 }
@@ -42,7 +43,11 @@ impl Checker {
         ensures { IfOk result (λ k. k ≡ record { locals = replicate names Absent; best = best }) }
     {
         let locals = vec![in alloc; Local::Absent; names]?;
-        Ok(Checker { locals, best })
+        Ok(Checker {
+            alloc,
+            locals,
+            best,
+        })
     }
 
     pub fn best(&self) -> Option<Fault>
@@ -154,10 +159,11 @@ impl Checker {
         rows: &Rows<'_>,
         relation: Ident,
         fields: &[FieldValue],
-    )
-        ensures { self.new ≡ step (scope_in scope.now) self.old (at (rows_of rows.now) (FillsFields relation (named_fields fields.now))) }
+    ) -> Result<(), Memory>
+        ensures { OnOk result (self.new ≡ step (scope_in scope.now) self.old (at (rows_of rows.now) (FillsFields relation (named_fields fields.now)))) }
     {
-        self.best = check_insert(scope, relation, fields, self.best);
+        self.best = check_insert(self.alloc, scope, relation, fields, self.best)?;
+        Ok(())
     }
 
     #[tactic(auto, using(crate::proofs::Steps::steps))]

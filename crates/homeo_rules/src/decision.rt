@@ -14,6 +14,7 @@ ghost use Rattle.homeo_rules.specs.Decided.{NamesGlobals, faults_with_names};
 
 use crate::bounds::check_objects;
 use crate::calls::check_clients;
+use crate::field_table::FieldTable;
 use crate::forms::check_forms;
 use crate::items::{self, Items};
 use crate::limits::{
@@ -53,7 +54,7 @@ fn declared(
     ensures { IfOk result (λ b. b ≡ keep_all best (declared_faults (plain_workload w.now))) }
 {
     let best = check_objects(w.objects.as_slice(), best);
-    let best = check_relations(w.relations.as_slice(), best);
+    let best = check_relations(alloc, w.relations.as_slice(), best)?;
     let names = w.names.as_slice().len();
     let best = check_transactions(alloc, w.transactions.as_slice(), scope, names, best)?;
     Ok(check_clients(
@@ -132,9 +133,10 @@ pub fn decide(alloc: Global, purpose: Purpose, w: &Workload) -> Result<Option<Fa
     ensures { IfOk result (λ b. b ≡ keep_all None (faults purpose (plain_workload w.now))) }
 {
     let items = global_names(alloc, w)?;
+    let fields = FieldTable::of(alloc, w.relations.as_slice())?;
     let scope = Scope {
         items: items.as_slice(),
-        relations: w.relations.as_slice(),
+        relations: &fields,
     };
     let calls = sited_calls(alloc, w.clients.as_slice())?;
     let best = text(alloc, purpose, w, &scope, calls.as_slice(), items.best())?;

@@ -1,7 +1,6 @@
 //! The rules of fields that are named in a transaction.
 
-ghost use Rattle.std.specs.Prelude.{◌≡◌, ◌==◌, [], Some};
-ghost use Rattle.std.specs.List.{list_any};
+ghost use Rattle.std.specs.Prelude.{◌≡◌, [], Some, IfOk};
 ghost use Rattle.homeo_meaning.specs.NameRules.{field_of, fills_all, fills_fields};
 ghost use Rattle.homeo_meaning.specs.Deciding.{keep_all};
 ghost use Rattle.homeo_rules.specs.Listwise.{along_all, along_each};
@@ -11,9 +10,12 @@ ghost use Rattle.homeo_meaning.specs.declared.rules.Item.TheVariants.{Relation};
 ghost use Rattle.homeo_rules.specs.Scopes.{scope_in};
 
 use crate::deciding::at_name;
+use crate::distinct::check_new;
 use crate::scope::Scope;
 use homeo_meaning::{Fault, Item, Phase};
-use homeo_syntax::{FieldValue, Ident};
+use homeo_syntax::{FieldValue, Ident, Memory};
+use indexmap::IndexSet;
+use std::alloc::Global;
 
 #[tactic(auto, using(crate::proofs::Steps::lookups))]
 fn check_field_at(
@@ -62,32 +64,20 @@ fn check_fields(
     best
 }
 
-fn is_named(before: &[FieldValue], name: u32) -> bool
-    ensures { result ≡ list_any (λ f. f.field.name == name) before.now }
-{
-    before.iter().any(|f| f.field.name == name)
-}
-
-#[tactic(auto, using(crate::proofs::Steps::keeping))]
-fn check_new(before: &[FieldValue], f: &FieldValue, best: Option<Fault>) -> Option<Fault>
-    ensures { result ≡ keep_all best (named_twice before.now f.now) }
-{
-    if is_named(before, f.field.name) {
-        at_name(best, Phase::Duplicate, f.field)
-    } else {
-        best
-    }
-}
-
 /// No field is named twice.
-fn check_distinct(fields: &[FieldValue], best: Option<Fault>) -> Option<Fault>
-    ensures { result ≡ along_each named_twice [] best fields.now }
+fn check_distinct(
+    alloc: Global,
+    fields: &[FieldValue],
+    best: Option<Fault>,
+) -> Result<Option<Fault>, Memory>
+    ensures { IfOk result (λ b. b ≡ along_each named_twice [] best fields.now) }
 {
+    let mut names = IndexSet::new(alloc);
     let mut best = best;
-    for (i, f) in fields.iter().enumerate() {
-        best = check_new(&fields[..i], f, best);
+    for f in fields {
+        best = check_new(&mut names, f.field, best)?;
     }
-    best
+    Ok(best)
 }
 
 #[tactic(auto, using(crate::proofs::Steps::keeping))]
@@ -115,15 +105,16 @@ fn check_count(
 /// An insert names each field of its relation once.
 #[tactic(auto, using(crate::proofs::Filling::filling))]
 pub fn check_insert(
+    alloc: Global,
     scope: &Scope<'_>,
     relation: Ident,
     fields: &[FieldValue],
     best: Option<Fault>,
-) -> Option<Fault>
-    ensures { result ≡ keep_all best (fills_fields (scope_in scope.now) ((scope_in scope.now).item relation.name) relation (named_fields fields.now)) }
+) -> Result<Option<Fault>, Memory>
+    ensures { IfOk result (λ b. b ≡ keep_all best (fills_fields (scope_in scope.now) ((scope_in scope.now).item relation.name) relation (named_fields fields.now))) }
 {
     let item = scope.item(relation.name);
-    let best = check_distinct(fields, best);
+    let best = check_distinct(alloc, fields, best)?;
     let best = check_fields(scope, item, fields, best);
-    check_count(scope, item, relation, fields.len(), best)
+    Ok(check_count(scope, item, relation, fields.len(), best))
 }

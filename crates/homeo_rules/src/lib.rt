@@ -7,6 +7,8 @@ mod calls;
 mod checker;
 mod deciding;
 mod decision;
+mod distinct;
+mod field_table;
 mod fields;
 mod forms;
 mod items;

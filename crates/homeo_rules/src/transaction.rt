@@ -41,7 +41,7 @@ pub fn check_transaction(
     let best = check_ranges(t.params.as_slice(), best);
     let mut k = Checker::start(alloc, names, best)?;
     enter_params(t.params.as_slice(), scope, &mut k);
-    walk_commands(t.body.as_slice(), scope, &Rows::Outside, &mut k);
+    walk_commands(t.body.as_slice(), scope, &Rows::Outside, &mut k)?;
     Ok(k.best())
 }
 

@@ -1,6 +1,6 @@
 //! The walk over a transaction's text, from name to name.
 
-ghost use Rattle.std.specs.Prelude.{◌≡◌};
+ghost use Rattle.std.specs.Prelude.{◌≡◌, OnOk};
 ghost use Rattle.homeo_syntax.specs.SourceView.{plain_expr, plain_test, plain_cond, plain_command};
 ghost use Rattle.homeo_meaning.specs.Places.{in_expr, in_exprs, in_test, in_cond, in_fields, in_command, in_commands};
 ghost use Rattle.homeo_rules.specs.Follow.{follow};
@@ -11,7 +11,7 @@ ghost use Rattle.homeo_rules.specs.Scopes.{scope_in};
 use crate::checker::Checker;
 use crate::rows::Rows;
 use crate::scope::Scope;
-use homeo_syntax::{Command, Cond, Expr, FieldValue, Test};
+use homeo_syntax::{Command, Cond, Expr, FieldValue, Memory, Test};
 
 #[cycle(phrases)]
 #[tactic(auto, using(crate::proofs::Walks::walks))]
@@ -121,8 +121,13 @@ fn walk_values(fs: &[FieldValue], scope: &Scope<'_>, rows: &Rows<'_>, k: &mut Ch
 
 #[cycle(commands)]
 #[tactic(auto, using(crate::proofs::Walks::walks))]
-fn walk_command(c: &Command, scope: &Scope<'_>, rows: &Rows<'_>, k: &mut Checker)
-    ensures { k.new ≡ follow (scope_in scope.now) k.old (in_command (rows_of rows.now) (plain_command c.now)) }
+fn walk_command(
+    c: &Command,
+    scope: &Scope<'_>,
+    rows: &Rows<'_>,
+    k: &mut Checker,
+) -> Result<(), Memory>
+    ensures { OnOk result (k.new ≡ follow (scope_in scope.now) k.old (in_command (rows_of rows.now) (plain_command c.now))) }
 {
     match c {
         Command::Skip => {}
@@ -137,10 +142,10 @@ fn walk_command(c: &Command, scope: &Scope<'_>, rows: &Rows<'_>, k: &mut Checker
         Command::Print { value } => walk_expr(value, scope, rows, k),
         Command::If { test, yes, no } => {
             walk_cond(test, scope, rows, k);
-            walk_command(yes, scope, rows, k);
-            walk_command(no, scope, rows, k);
+            walk_command(yes, scope, rows, k)?;
+            walk_command(no, scope, rows, k)?;
         }
-        Command::Block { commands } => walk_commands(commands.as_slice(), scope, rows, k),
+        Command::Block { commands } => walk_commands(commands.as_slice(), scope, rows, k)?,
         Command::SetField {
             relation,
             index,
@@ -170,7 +175,7 @@ fn walk_command(c: &Command, scope: &Scope<'_>, rows: &Rows<'_>, k: &mut Checker
                 outer: &*rows,
             };
             walk_cond(test, scope, &inner, k);
-            walk_commands(body.as_slice(), scope, &inner, k);
+            walk_commands(body.as_slice(), scope, &inner, k)?;
         }
         Command::Insert {
             relation,
@@ -178,7 +183,7 @@ fn walk_command(c: &Command, scope: &Scope<'_>, rows: &Rows<'_>, k: &mut Checker
             into,
         } => {
             k.takes_relation(scope, rows, *relation);
-            k.fills_fields(scope, rows, *relation, fields.as_slice());
+            k.fills_fields(scope, rows, *relation, fields.as_slice())?;
             walk_values(fields.as_slice(), scope, rows, k);
             k.assigns(scope, rows, *into);
         }
@@ -215,15 +220,22 @@ fn walk_command(c: &Command, scope: &Scope<'_>, rows: &Rows<'_>, k: &mut Checker
             walk_expr(value, scope, &inner, k);
         }
     }
+    Ok(())
 }
 
 /// Follows the names of commands one after another.
 #[cycle(commands)]
 #[tactic(auto, using(crate::proofs::Walks::walks))]
-pub fn walk_commands(cs: &[Command], scope: &Scope<'_>, rows: &Rows<'_>, k: &mut Checker)
-    ensures { k.new ≡ follow (scope_in scope.now) k.old (in_commands (rows_of rows.now) (plain_commands cs.now)) }
+pub fn walk_commands(
+    cs: &[Command],
+    scope: &Scope<'_>,
+    rows: &Rows<'_>,
+    k: &mut Checker,
+) -> Result<(), Memory>
+    ensures { OnOk result (k.new ≡ follow (scope_in scope.now) k.old (in_commands (rows_of rows.now) (plain_commands cs.now))) }
 {
     for c in cs {
-        walk_command(c, scope, rows, k);
+        walk_command(c, scope, rows, k)?;
     }
+    Ok(())
 }

@@ -5,13 +5,13 @@ use Rattle.homeo_rules.proofs.Joining.{scope-is, calls-are, text-found, text-dec
 use Rattle.homeo_rules.proofs.decision.decide.Goals as goal
 
 pub text-requires-clause-names : goal.text-requires-clause-names
-text-requires-clause-names c = scope-is c.args.w.now c.in_ok-items.items c.as_slice.result.now c.as_slice-2.result.now c.in_ok-items.ensures c.as_slice.ensures c.as_slice-2.ensures
+text-requires-clause-names c = scope-is c.args.w.now c.in_ok-items.items c.as_slice-2.result.now c.in_ok-fields.fields c.in_ok-items.ensures c.as_slice-2.ensures (c.in_ok-fields.ensures ∙ c.as_slice.ensures)
 
 pub text-requires-clause-sited : goal.text-requires-clause-sited
 text-requires-clause-sited c = ap (map sited) c.as_slice-4.ensures.value ∙ calls-are c.args.w.now c.in_ok-calls.calls.items c.as_slice-3.result.now c.in_ok-calls.ensures c.as_slice-3.ensures
 
 pub check_forms-requires-clause-names : goal.check_forms-requires-clause-names
-check_forms-requires-clause-names c = scope-is c.args.w.now c.in_ok-items.items c.as_slice.result.now c.as_slice-2.result.now c.in_ok-items.ensures c.as_slice.ensures c.as_slice-2.ensures
+check_forms-requires-clause-names c = scope-is c.args.w.now c.in_ok-items.items c.as_slice-2.result.now c.in_ok-fields.fields c.in_ok-items.ensures c.as_slice-2.ensures (c.in_ok-fields.ensures ∙ c.as_slice.ensures)
 
 pub check_forms-requires-clause-sited : goal.check_forms-requires-clause-sited
 check_forms-requires-clause-sited c = ap (map sited) c.as_slice-in-None.ensures.value ∙ calls-are c.args.w.now c.in_ok-calls.calls.items c.as_slice-3.result.now c.in_ok-calls.ensures c.as_slice-3.ensures

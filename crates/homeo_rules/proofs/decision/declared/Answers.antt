@@ -12,5 +12,5 @@ check_transactions-requires c = transactions-named c.args.w.now (length c.as_sli
 pub returns : goal.returns
 returns c =
     c.check_clients.ensures
-    ∙ ap (λ b. along_all (client_faults_of c.args.w.now.sites (scope_in c.args.scope.now) c.as_slice-5.result.now) b c.as_slice-4.result.now) (c.in_ok-best.ensures ∙ ap (λ b. along_all (transaction_faults_of (scope_in c.args.scope.now)) b c.as_slice-3.result.now) (c.check_relations-best.ensures ∙ ap (λ b. along_all relation_faults_of b c.as_slice-2.result.now) c.check_objects-best.ensures))
+    ∙ ap (λ b. along_all (client_faults_of c.args.w.now.sites (scope_in c.args.scope.now) c.as_slice-5.result.now) b c.as_slice-4.result.now) (c.in_ok-best-2.ensures ∙ ap (λ b. along_all (transaction_faults_of (scope_in c.args.scope.now)) b c.as_slice-3.result.now) (c.in_ok-best.ensures ∙ ap (λ b. along_all relation_faults_of b c.as_slice-2.result.now) c.check_objects-best.ensures))
     ∙ declared-along c.args.w.now (scope_in c.args.scope.now) c.args.best c.as_slice.result.now c.as_slice-2.result.now c.as_slice-3.result.now c.as_slice-5.result.now c.as_slice-4.result.now c.requires.names c.as_slice.ensures c.as_slice-2.ensures c.as_slice-3.ensures c.as_slice-5.ensures c.as_slice-4.ensures
