@@ -6,7 +6,8 @@ ghost use Rattle.homeo_meaning.specs.Declarations.{place_of};
 ghost use Rattle.homeo.specs.Order.{calls_from, order_of, scheduled_calls};
 ghost use Rattle.homeo.specs.Scheduled.{IsWholeOrder};
 
-use homeo_meaning::{CallId, Places};
+use homeo_context::Places;
+use homeo_meaning::CallId;
 use homeo_syntax::{Client, Ident, Memory, Workload};
 use std::alloc::Global;
 

@@ -17,7 +17,9 @@ ghost use Rattle.homeo.specs.Scheduled.{IsWholeOrder, HasSites};
 
 use crate::order::scheduled_calls;
 use homeo_history::{Closing, Entry, History, Round};
-use homeo_meaning::{Accepted, CallId, Database, Numbering, eval_call, initial};
+use homeo_context::Declarations;
+use homeo_eval::{eval_call, initial};
+use homeo_meaning::{Accepted, CallId, Database};
 use homeo_syntax::{Client, List, Memory, Workload};
 use std::alloc::Global;
 
@@ -30,7 +32,7 @@ pub(crate) fn steps(alloc: Global, w: &Accepted) -> Result<History, Memory>
     ensures reportable { IfOk result (λ h. CanReport (plain_workload w.now) (plain_history h)) }
 {
     let calls = scheduled_calls(alloc, w.workload())?;
-    let numbering = Numbering::of(alloc, w)?;
+    let numbering = Declarations::of(alloc, w)?;
     let database = initial(alloc, w)?;
     run_calls(alloc, w, &numbering, calls.as_slice(), database)
 }
@@ -39,7 +41,7 @@ pub(crate) fn steps(alloc: Global, w: &Accepted) -> Result<History, Memory>
 fn run_calls(
     alloc: Global,
     w: &Accepted,
-    numbering: &Numbering,
+    numbering: &Declarations,
     calls: &[CallId],
     database: Database,
 ) -> Result<History, Memory>
@@ -83,7 +85,7 @@ fn open_round(
 fn closed_round(
     alloc: Global,
     w: &Accepted,
-    numbering: &Numbering,
+    numbering: &Declarations,
     sites: usize,
     call: CallId,
     database: &mut Database,

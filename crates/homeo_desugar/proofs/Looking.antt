@@ -23,7 +23,7 @@ use Rattle.homeo_meaning.proofs.FaultParts.{parts}
 use Rattle.homeo_meaning.proofs.SoundRelations.{SlotsFit, slots-fit, objects-fit}
 use Rattle.homeo_meaning.proofs.SoundRules.{all_head, all_tail}
 use Rattle.homeo_desugar.specs.Key.{words as desugar_words}
-use Rattle.homeo_desugar.specs.Called.{form_of}
+use Rattle.homeo_meaning.specs.CallForm.{form_of}
 use Rattle.homeo_desugar.specs.Made.{AreFormed}
 use Rattle.homeo_desugar.specs.Settings.{schemas, objects_of, schema_with, absent, SchemaFits}
 use Rattle.homeo_desugar.proofs.Schemas.{count_least}

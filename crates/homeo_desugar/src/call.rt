@@ -6,7 +6,8 @@ ghost use Rattle.homeo_syntax.specs.LowView.{plain_lcommand};
 ghost use Rattle.homeo_meaning.specs.Ground.{plain_ground};
 ghost use Rattle.homeo_meaning.specs.LForm.{l_form};
 ghost use Rattle.homeo_desugar.specs.Settings.{schema_with, SchemaFits};
-ghost use Rattle.homeo_desugar.specs.Called.{form_of, MeansCall};
+ghost use Rattle.homeo_meaning.specs.CallForm.{form_of};
+ghost use Rattle.homeo_meaning.specs.SameRun.{MeansCall};
 
 use crate::forming::form_all;
 use crate::frame::{Frame, objects_past};

@@ -1,12 +1,11 @@
 //! The L form of a call: its commands over whole objects, with the arguments put in and each write tested against its
-//! bounds; and what is true of L forms.
+//! bounds.
 #![tactic(auto)]
 
 mod call;
 mod chains;
 mod forming;
 mod frame;
-pub mod laws;
 mod lifting;
 mod making;
 mod objects;

@@ -4,7 +4,7 @@ ghost use Rattle.std.specs.Prelude.{◌≡◌, ◌^◌, ◌<◌, map, length, If
 ghost use Rattle.homeo_meaning.specs.Schema.{declared_object};
 ghost use Rattle.homeo_meaning.specs.Context.{spot};
 
-use homeo_meaning::Places;
+use homeo_context::Places;
 use homeo_syntax::{Memory, ObjectDecl};
 use std::alloc::Global;
 use std::marker::Model;

@@ -18,7 +18,8 @@ use Rattle.homeo_meaning.specs.Serial.{arguments, numbered}
 use Rattle.homeo_meaning.specs.declared.call.Purpose.TheVariants.{Run}
 use Rattle.homeo_meaning.specs.declared.rules.Fault.{Fault}
 use Rattle.homeo_meaning.proofs.FaultParts.{none_first, none_second, parts, declared_parts}
-use Rattle.homeo_meaning.proofs.Outcomes.{ground_call_light, transaction_place}
+use Rattle.homeo_meaning.proofs.LightCalls.{ground_call_light}
+use Rattle.homeo_meaning.proofs.TransactionPlaces.{transaction_place}
 use Rattle.homeo_meaning.proofs.Sound.{sound}
 use Rattle.homeo_meaning.proofs.SoundRules.{names_one, names_of}
 use Rattle.homeo_ground.specs.Grounding.{IsCalled}

@@ -9,7 +9,8 @@ ghost use Rattle.homeo_ground.specs.Sited.{sited, ground_by, IsSite};
 
 use crate::numbering::number_clients;
 use crate::sited::SitedCall;
-use homeo_meaning::{Accepted, CallId, GroundCall, Numbering};
+use homeo_context::Declarations;
+use homeo_meaning::{Accepted, CallId, GroundCall};
 use homeo_syntax::Memory;
 use std::alloc::Global;
 use std::marker::Model;
@@ -39,7 +40,7 @@ impl Model for Grounding {
 /// The ground calls of calls, each with its transaction by its number.
 fn ground_calls(
     alloc: Global,
-    numbering: &Numbering,
+    numbering: &Declarations,
     calls: &[SitedCall],
 ) -> Result<Vec<GroundCall>, Memory>
     requires sites { All (λ c. IsSite c.site) calls.now }
@@ -66,7 +67,7 @@ impl Grounding {
         ensures calls { IfOk result (λ g. g.calls ≡ grounds (plain_workload w.now)) }
         ensures called { IfOk result (λ g. All (IsCalled (plain_workload w.now)) g.calls) }
     {
-        let numbering = Numbering::of(alloc, w)?;
+        let numbering = Declarations::of(alloc, w)?;
         let numbered = number_clients(alloc, w.workload().clients.as_slice())?;
         Ok(Grounding {
             calls: ground_calls(alloc, &numbering, numbered.calls.as_slice())?,

@@ -5,7 +5,8 @@ ghost use Rattle.homeo_syntax.specs.SourceView.{plain_call, plain_client};
 ghost use Rattle.homeo_meaning.specs.Ground.{plain_ground, sited_call};
 ghost use Rattle.homeo_ground.specs.Sited.{sited, ground_by, IsSite};
 
-use homeo_meaning::{GroundCall, Numbering};
+use homeo_context::Declarations;
+use homeo_meaning::GroundCall;
 use homeo_syntax::{Call, Client, List, Memory, Number};
 use std::alloc::Global;
 
@@ -45,7 +46,7 @@ impl SitedCall {
     }
 
     /// The call with its transaction by its number.
-    pub fn to_ground(&self, alloc: Global, numbering: &Numbering) -> Result<GroundCall, Memory>
+    pub fn to_ground(&self, alloc: Global, numbering: &Declarations) -> Result<GroundCall, Memory>
         requires site { IsSite self.now.site }
         requires few { length numbering.now.transactions < 2 ^ 32 }
         ensures { IfOk result (λ c. plain_ground c ≡ ground_by numbering.now.transactions (sited self.now)) }

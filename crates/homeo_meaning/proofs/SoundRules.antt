@@ -16,7 +16,8 @@ use Rattle.homeo_meaning.specs.NameRules.{when, fault}
 use Rattle.homeo_meaning.specs.GlobalNames.{GlobalName, SitedCall, numbered_from, first_named, scope_of, transaction_at, called, sited_calls_of, sited_calls}
 use Rattle.homeo_meaning.specs.NumberRules.{range_faults, outside, object_faults, site_faults, same_ground, ground_calls}
 use Rattle.homeo_meaning.specs.CallRules.{call_faults, client_faults}
-use Rattle.homeo_meaning.specs.SizeRules.{body_form, call_form, heaviest, heavy_call, weight_faults}
+use Rattle.homeo_meaning.specs.CallForm.{body_form, call_form}
+use Rattle.homeo_meaning.specs.SizeRules.{heaviest, heavy_call, weight_faults}
 use Rattle.homeo_meaning.specs.LowWeights.{first_weights, is_light}
 use Rattle.homeo_meaning.specs.Faults.{declared_faults}
 use Rattle.homeo_meaning.specs.declared.rules.Fault.{Fault}

@@ -6,7 +6,7 @@ use Rattle.homeo_meaning.specs.declared.call.Purpose.TheVariants.{Run}
 use Rattle.homeo_meaning.specs.Key.{words}
 use Rattle.homeo_meaning.specs.Schema.{schema_of}
 use Rattle.homeo_meaning.specs.LowWeights.{first_weights, is_light}
-use Rattle.homeo_meaning.specs.SizeRules.{body_form}
+use Rattle.homeo_meaning.specs.CallForm.{body_form}
 use Rattle.homeo_meaning.specs.Serial.{transaction_named, arguments}
 use Rattle.homeo_meaning.specs.Faults.{faults}
 

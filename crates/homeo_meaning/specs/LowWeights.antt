@@ -1,11 +1,27 @@
 -- Weights: how large the values of an L form can get, by its text alone, whatever the database within its bounds.
-use Rattle.std.specs.Prelude.{ℕ, ◌+◌, ◌*◌, Bool, true, ◌&&◌, nat_le, max}
+use Rattle.std.specs.Prelude.{ℕ, zero, suc, ◌+◌, ◌*◌, ℤ, Bool, true, ◌&&◌, nat_le, max, List, [], ◌∷◌}
+use Rattle.std.specs.Int.RustNames.{unsigned_abs}
 use Rattle.homeo_syntax.specs.Low.{Expr, Exprs, Literal, OfTemp, Read, Sum, Product, Neg, NoExpr, MoreExpr, Test, Cond, True, Not, Comparison, NoTest, MoreTest, Command, Commands, Skip, Assign, Write, Print, Seq, If, NoCommand, MoreCommand}
 use Rattle.homeo_meaning.specs.Key.{words}
 use Rattle.homeo_meaning.specs.Schema.{Schema}
-use Rattle.homeo_meaning.specs.Bounds.{all_bounds}
+use Rattle.homeo_meaning.specs.Bounds.{Bounds, all_bounds}
 use Rattle.homeo_meaning.specs.LowMeaning.{Place, TempAt, BaseAt, DeltaAt, place_of, put}
-use Rattle.homeo_meaning.specs.Weights.{number_weight, weight_at}
+
+-- a number's weight: its size, and at least 1
+abbrev pub number_weight : ℤ → ℕ
+unfolding words
+number_weight v = max 1 (unsigned_abs v)
+
+abbrev pub bounds_weight : Bounds → ℕ
+unfolding words
+bounds_weight b = max (number_weight b.lo) (number_weight b.hi)
+
+-- of the object of a number: 1 past the last
+abbrev pub weight_at : List Bounds → ℕ → ℕ
+unfolding words
+weight_at [] k = 1
+weight_at (b ∷ bs) zero = bounds_weight b
+weight_at (b ∷ bs) (suc k) = weight_at bs k
 
 -- where a call begins: an object weighs as much as its larger bound
 abbrev pub first_weights : Schema → Place → ℕ

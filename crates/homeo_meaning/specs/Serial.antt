@@ -5,7 +5,7 @@ use Rattle.homeo_syntax.specs.Source as s
 use Rattle.homeo_meaning.specs.declared.call.CallId.{CallId}
 use Rattle.homeo_meaning.specs.Key.{words}
 use Rattle.homeo_meaning.specs.Schema.{schema_of}
-use Rattle.homeo_meaning.specs.Meaning.{Run, run}
+use Rattle.homeo_meaning.specs.Meaning.{State, Run, run}
 
 -- a database's values by the numbers of its objects: 0 past its end
 abbrev pub values_of : List ℤ → ℕ → ℤ
@@ -20,6 +20,11 @@ values_from k (suc n) values = values k ∷ values_from (suc k) n values
 abbrev pub database_like : List ℤ → (ℕ → ℤ) → List ℤ
 unfolding words
 database_like database values = values_from 0 (length database) values
+
+-- where a call begins: temporaries 0
+abbrev pub start : List ℤ → State
+unfolding words
+start database = record { database = values_of database; temps = λ t. pos 0 }
 
 -- what a call prints, and the database after it
 pub record Outcome : Type 0 where

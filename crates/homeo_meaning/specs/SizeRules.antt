@@ -2,28 +2,17 @@
 use Rattle.std.specs.Prelude.{ℕ, ℤ, ◌+◌, ◌*◌, ◌||◌, not, nat_lt, List, map, Option, Some, None}
 use Rattle.std.specs.List.{flat_map, sum_by}
 use Rattle.homeo_syntax.specs.Source as s
-use Rattle.homeo_syntax.specs.Low.{Command, Skip}
 use Rattle.homeo_meaning.specs.Key.{words}
 use Rattle.homeo_meaning.specs.Schema.{nat_of, schema_of}
-use Rattle.homeo_meaning.specs.LForm.{l_form}
+use Rattle.homeo_meaning.specs.CallForm.{call_form}
 use Rattle.homeo_meaning.specs.LowSizes.{Extent, call_extent, rows, prints_in}
 use Rattle.homeo_meaning.specs.LowWeights.{first_weights, is_light}
 use Rattle.homeo_meaning.specs.NameRules.{when, fault}
 use Rattle.homeo_meaning.specs.TransactionRules.{each}
-use Rattle.homeo_meaning.specs.GlobalNames.{SitedCall, called, sited_calls}
+use Rattle.homeo_meaning.specs.GlobalNames.{SitedCall, sited_calls}
 use Rattle.homeo_meaning.specs.NumberRules.{ground_calls}
 use Rattle.homeo_meaning.specs.declared.rules.Fault.{Fault}
 use Rattle.homeo_meaning.specs.declared.rules.Phase.TheVariants.{Size, Weight, Rows}
-
--- ---- the L forms of calls
-abbrev pub body_form : s.Workload → Option s.Transaction → List ℤ → Command
-unfolding words
-body_form w None args = Skip
-body_form w (Some t) args = l_form (schema_of w) (map (λ p. p.name.name) t.params) args t.body
-
-abbrev pub call_form : s.Workload → SitedCall → Command
-unfolding words
-call_form w c = body_form w (called w c.name) c.args
 
 -- the size and the depth of a call
 abbrev pub extent_of : s.Workload → SitedCall → Extent

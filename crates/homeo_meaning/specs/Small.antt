@@ -1,5 +1,5 @@
 -- That each number of a call is small, whether it stands there, is read or is computed: of its L form, and of the program.
-use Rattle.std.specs.Prelude.{ℕ, ◌≤◌, List, ℤ, pos}
+use Rattle.std.specs.Prelude.{ℕ, ◌≤◌, nat_le, Bool, List, ℤ, pos}
 use Rattle.std.specs.Int.RustNames.{unsigned_abs}
 use Rattle.homeo_syntax.specs.Source.{Commands}
 use Rattle.homeo_meaning.specs.Key.{words}
@@ -13,6 +13,11 @@ use Rattle.homeo_meaning.specs.Computed.{CanRunAll}
 abbrev pub IsSmall : ℕ → ℤ → Type 0
 unfolding words
 IsSmall b v = unsigned_abs v ≤ b
+
+-- the same as a test
+abbrev pub is_small : ℕ → ℤ → Bool
+unfolding words
+is_small b v = nat_le (unsigned_abs v) b
 
 -- no property
 abbrev pub Anything : ℤ → Type 0

@@ -10,7 +10,7 @@ use Rattle.homeo_meaning.specs.Bindings.{Row, Scope, binding, item_or, row_or, l
 use Rattle.homeo_meaning.specs.Places.{Mark, Place, DeclaresRow, TakesObject, TakesRelation, TakesValue, TakesField, NamesField, FillsFields, Assigns}
 use Rattle.homeo_meaning.specs.NameRules.{judge}
 use Rattle.homeo_meaning.specs.TransactionRules.{is_in, each_from, local_of, becomes, makes, temporaries}
-use Rattle.homeo_meaning.specs.Deciding.{keep_all}
+use Rattle.homeo_rules.specs.inner.Deciding.{keep_all}
 use Rattle.homeo_meaning.specs.declared.rules.Fault.{Fault}
 use Rattle.homeo_meaning.specs.declared.rules.Item.{Item}
 use Rattle.homeo_meaning.specs.declared.rules.Local.{Local}

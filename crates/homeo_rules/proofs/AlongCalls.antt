@@ -11,8 +11,8 @@ use Rattle.homeo_meaning.specs.Key.{words as meaning_words}
 use Rattle.homeo_meaning.specs.TransactionRules.{each_from}
 use Rattle.homeo_meaning.specs.GlobalNames as g
 use Rattle.homeo_meaning.specs.Schema.{nat_of, schema_of}
-use Rattle.homeo_meaning.specs.SizeRules.{call_form}
-use Rattle.homeo_meaning.specs.Deciding.{keep_all}
+use Rattle.homeo_meaning.specs.CallForm.{call_form}
+use Rattle.homeo_rules.specs.inner.Deciding.{keep_all}
 use Rattle.homeo_meaning.specs.declared.rules.Fault.{Fault}
 use Rattle.homeo_size.specs.Measured.{IsMeasure}
 use Rattle.homeo_rules.specs.Sizes.{call_of, AreMeasured, known}

@@ -11,7 +11,8 @@ use Rattle.homeo_meaning.specs.NameRules.{when, fault}
 use Rattle.homeo_meaning.specs.TransactionRules.{each, each_from}
 use Rattle.homeo_meaning.specs.GlobalNames as g
 use Rattle.homeo_meaning.specs.Schema.{nat_of, schema_of}
-use Rattle.homeo_meaning.specs.SizeRules.{call_form, extent_of, too_large}
+use Rattle.homeo_meaning.specs.CallForm.{call_form}
+use Rattle.homeo_meaning.specs.SizeRules.{extent_of, too_large}
 use Rattle.homeo_meaning.proofs.FaultParts.{none_first, none_second}
 use Rattle.homeo_meaning.specs.declared.rules.Fault.{Fault}
 use Rattle.homeo_meaning.specs.declared.rules.Phase.TheVariants.{Size}

@@ -11,7 +11,7 @@ use Rattle.homeo_meaning.specs.Key.{words as meaning_words}
 use Rattle.homeo_meaning.specs.Schema.{nat_of}
 use Rattle.homeo_meaning.specs.ListRules.{when, fault, each_from, each}
 use Rattle.homeo_meaning.specs.NumberRules.{Making, object_making, made, too_many_objects}
-use Rattle.homeo_meaning.specs.Deciding.{keep_all}
+use Rattle.homeo_rules.specs.inner.Deciding.{keep_all}
 use Rattle.homeo_meaning.specs.declared.rules.Phase.TheVariants.{Limits}
 use Rattle.homeo_rules.specs.Key.{words}
 use Rattle.homeo_rules.specs.Counting.{Counted, counted, count_all, making_of}

@@ -8,7 +8,7 @@ use Rattle.homeo_syntax.specs.declared.workload.RelationDecl.{RelationDecl}
 use Rattle.homeo_meaning.specs.Key.{words as meaning_words}
 use Rattle.homeo_meaning.specs.ListRules.{when, number_fault, each, duplicate}
 use Rattle.homeo_meaning.specs.NumberRules.{range_bounds}
-use Rattle.homeo_meaning.specs.Deciding.{keep_all}
+use Rattle.homeo_rules.specs.inner.Deciding.{keep_all}
 use Rattle.homeo_meaning.specs.declared.rules.Fault.{Fault}
 use Rattle.homeo_meaning.specs.declared.rules.Phase.TheVariants.{Limits}
 use Rattle.homeo_rules.specs.Key.{words}

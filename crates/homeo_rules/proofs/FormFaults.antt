@@ -8,7 +8,7 @@ use Rattle.homeo_syntax.specs.declared.workload.ObjectDecl.{ObjectDecl}
 use Rattle.homeo_syntax.specs.declared.workload.RelationDecl.{RelationDecl}
 use Rattle.homeo_syntax.specs.declared.workload.Workload.{Workload}
 use Rattle.homeo_meaning.specs.Key.{words as meaning_words}
-use Rattle.homeo_meaning.specs.Deciding.{keep_all}
+use Rattle.homeo_rules.specs.inner.Deciding.{keep_all}
 use Rattle.homeo_meaning.specs.Faults.{form_faults}
 use Rattle.homeo_meaning.specs.GlobalNames.{sited_calls}
 use Rattle.homeo_meaning.specs.NumberRules.{ground_calls}
@@ -17,7 +17,7 @@ use Rattle.homeo_meaning.specs.SizeRules.{extent_of, too_large, size_faults, pri
 use Rattle.homeo_meaning.specs.TransactionRules.{each}
 use Rattle.homeo_meaning.specs.declared.rules.Fault.{Fault}
 use Rattle.homeo_meaning.proofs.FaultParts.{none_first}
-use Rattle.homeo_meaning.proofs.Phases.{sizes_in, later_in, decides_first}
+use Rattle.homeo_rules.proofs.Phases.{sizes_in, later_in, decides_first}
 use Rattle.homeo_meaning.proofs.SoundRelations.{objects-fit}
 use Rattle.homeo_size.specs.Layout.{HasFewObjects, relation_of, schema_with}
 use Rattle.homeo_rules.specs.Decided.{IsFaultless}

@@ -22,8 +22,8 @@ use Rattle.homeo_meaning.specs.CallRules.{client_faults, schedule_faults}
 use Rattle.homeo_meaning.specs.SizeRules.{size_faults, print_faults, weight_faults, row_faults}
 use Rattle.homeo_meaning.specs.Faults.{of_relation, of_transaction, declared_faults, text_faults, form_faults, faults}
 use Rattle.homeo_meaning.proofs.FaultParts.{NoTextFault, text_parts, limit_parts}
-use Rattle.homeo_meaning.proofs.Phases.{text_early, sizes_in, later_in, both as both_lists, wider_below, wider_above, decides_first}
-use Rattle.homeo_meaning.specs.Deciding.{keep_all}
+use Rattle.homeo_rules.proofs.Phases.{text_early, sizes_in, later_in, both as both_lists, wider_below, wider_above, decides_first}
+use Rattle.homeo_rules.specs.inner.Deciding.{keep_all}
 use Rattle.homeo_meaning.specs.declared.call.Purpose.{Purpose}
 use Rattle.homeo_meaning.specs.declared.rules.Fault.{Fault}
 use Rattle.homeo_rules.specs.declared.sited.SitedCall.{SitedCall}

@@ -13,6 +13,7 @@ pub mod Listing
 pub mod Measured
 pub mod Numbers
 pub mod OneDecides
+pub mod Phases
 pub mod Printings
 pub mod RowsAlong
 pub mod Siting

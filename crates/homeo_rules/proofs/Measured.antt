@@ -14,7 +14,7 @@ use Rattle.homeo_meaning.specs.LForm.{l_form}
 use Rattle.homeo_meaning.specs.Schema.{Schema, schema_of, nat_of}
 use Rattle.homeo_meaning.specs.GlobalNames.{transaction_at}
 use Rattle.homeo_meaning.specs.GlobalNames as g
-use Rattle.homeo_meaning.specs.SizeRules.{body_form}
+use Rattle.homeo_meaning.specs.CallForm.{body_form}
 use Rattle.homeo_meaning.specs.declared.rules.Item.{Item}
 use Rattle.homeo_meaning.specs.declared.rules.Item.TheVariants as I
 use Rattle.homeo_size.specs.Layout.{IsLayout}

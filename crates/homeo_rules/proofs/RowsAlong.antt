@@ -13,8 +13,9 @@ use Rattle.homeo_meaning.specs.GlobalNames as g
 use Rattle.homeo_meaning.specs.LowMeaning.{Place}
 use Rattle.homeo_meaning.specs.LowSizes.{Extent, command_extent, rows, rows_all}
 use Rattle.homeo_meaning.specs.Schema.{nat_of, schema_of}
-use Rattle.homeo_meaning.specs.SizeRules.{call_form, extent_of, table_size, too_many_rows}
-use Rattle.homeo_meaning.specs.Deciding.{keep_all}
+use Rattle.homeo_meaning.specs.CallForm.{call_form}
+use Rattle.homeo_meaning.specs.SizeRules.{extent_of, table_size, too_many_rows}
+use Rattle.homeo_rules.specs.inner.Deciding.{keep_all}
 use Rattle.homeo_meaning.specs.declared.rules.Fault.{Fault}
 use Rattle.homeo_meaning.specs.declared.rules.Phase.TheVariants.{Rows}
 use Rattle.homeo_size.specs.Measured.{IsMeasure}

@@ -10,7 +10,7 @@ use Rattle.homeo_meaning.specs.TransactionRules.{each}
 use Rattle.homeo_meaning.specs.GlobalNames as g
 use Rattle.homeo_meaning.specs.LowSizes.{Extent}
 use Rattle.homeo_meaning.specs.SizeRules.{extent_of, too_large}
-use Rattle.homeo_meaning.specs.Deciding.{keep_all}
+use Rattle.homeo_rules.specs.inner.Deciding.{keep_all}
 use Rattle.homeo_meaning.specs.declared.rules.Fault.{Fault}
 use Rattle.homeo_meaning.specs.declared.rules.Phase.TheVariants.{Size}
 use Rattle.homeo_size.specs.declared.steps.Measure.{Measure}

@@ -7,9 +7,10 @@ use Rattle.homeo_syntax.specs.Source as s
 use Rattle.homeo_meaning.specs.Key.{words as meaning_words}
 use Rattle.homeo_meaning.specs.NameRules.{when, fault}
 use Rattle.homeo_meaning.specs.Schema.{schema_of}
-use Rattle.homeo_meaning.specs.SizeRules.{call_form, heaviest, heavy_call}
+use Rattle.homeo_meaning.specs.CallForm.{call_form}
+use Rattle.homeo_meaning.specs.SizeRules.{heaviest, heavy_call}
 use Rattle.homeo_meaning.specs.LowWeights.{first_weights, is_light}
-use Rattle.homeo_meaning.specs.Deciding.{keep_all}
+use Rattle.homeo_rules.specs.inner.Deciding.{keep_all}
 use Rattle.homeo_meaning.specs.declared.rules.Fault.{Fault}
 use Rattle.homeo_meaning.specs.declared.rules.Phase.TheVariants.{Weight}
 use Rattle.homeo_size.specs.declared.steps.Measure.{Measure}

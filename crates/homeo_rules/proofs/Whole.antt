@@ -18,7 +18,7 @@ use Rattle.homeo_meaning.specs.NameRules.{when, fault}
 use Rattle.homeo_meaning.specs.NumberRules.{range_bounds}
 use Rattle.homeo_meaning.specs.TransactionRules.{is_in, each_from, each, local_of, body_faults, parameter_fault, transaction_faults}
 use Rattle.homeo_meaning.specs.Faults.{of_transaction}
-use Rattle.homeo_meaning.specs.Deciding.{keep_all}
+use Rattle.homeo_rules.specs.inner.Deciding.{keep_all}
 use Rattle.homeo_meaning.specs.declared.rules.Fault.{Fault}
 use Rattle.homeo_meaning.specs.declared.rules.Phase.TheVariants.{Duplicate}
 use Rattle.homeo_meaning.specs.declared.rules.Local.{Local}

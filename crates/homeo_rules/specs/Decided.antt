@@ -6,7 +6,7 @@ use Rattle.homeo_meaning.specs.TransactionRules.{each}
 use Rattle.homeo_meaning.specs.NumberRules.{limit_faults}
 use Rattle.homeo_meaning.specs.CallRules.{schedule_faults}
 use Rattle.homeo_meaning.specs.Faults.{declared_faults}
-use Rattle.homeo_meaning.specs.Deciding.{keep_all}
+use Rattle.homeo_rules.specs.inner.Deciding.{keep_all}
 use Rattle.homeo_meaning.specs.declared.call.Purpose.{Purpose}
 use Rattle.homeo_meaning.specs.declared.rules.Fault.{Fault}
 use Rattle.homeo_rules.specs.Key.{words}

@@ -3,7 +3,7 @@ use Rattle.std.specs.Prelude.{ℕ, List, [], ◌∷◌, Option, slice_index_or, 
 use Rattle.homeo_meaning.specs.Bindings.{Scope, binding}
 use Rattle.homeo_meaning.specs.Places.{Mark, Place, Assigns}
 use Rattle.homeo_meaning.specs.NameRules.{judge}
-use Rattle.homeo_meaning.specs.Deciding.{keep_all}
+use Rattle.homeo_rules.specs.inner.Deciding.{keep_all}
 use Rattle.homeo_meaning.specs.declared.rules.Fault.{Fault}
 use Rattle.homeo_meaning.specs.declared.rules.Local.{Local}
 use Rattle.homeo_meaning.specs.declared.rules.Local.TheVariants as L

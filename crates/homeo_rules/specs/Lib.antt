@@ -19,3 +19,4 @@ pub mod Stages
 pub mod Tabled
 pub mod Tally
 pub mod Within
+pub mod inner

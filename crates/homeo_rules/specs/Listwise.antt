@@ -2,7 +2,7 @@
 use Rattle.std.specs.Prelude.{ℕ, ◌+◌, slice_get, List, [], ◌∷◌, ◌++◌, Option}
 use Rattle.homeo_syntax.specs.declared.phrase.Number.{Number}
 use Rattle.homeo_syntax.specs.declared.workload.RangeDecl.{RangeDecl}
-use Rattle.homeo_meaning.specs.Deciding.{keep_all}
+use Rattle.homeo_rules.specs.inner.Deciding.{keep_all}
 use Rattle.homeo_meaning.specs.NumberRules.{argument_outside}
 use Rattle.homeo_meaning.specs.declared.rules.Fault.{Fault}
 

@@ -7,8 +7,9 @@ use Rattle.homeo_meaning.specs.Bindings.{Scope}
 use Rattle.homeo_meaning.specs.GlobalNames as g
 use Rattle.homeo_meaning.specs.LowSizes.{prints_in}
 use Rattle.homeo_meaning.specs.NameRules.{when, fault}
-use Rattle.homeo_meaning.specs.SizeRules.{body_form, call_form, prints_too_much}
-use Rattle.homeo_meaning.specs.Deciding.{keep_all}
+use Rattle.homeo_meaning.specs.CallForm.{body_form, call_form}
+use Rattle.homeo_meaning.specs.SizeRules.{prints_too_much}
+use Rattle.homeo_rules.specs.inner.Deciding.{keep_all}
 use Rattle.homeo_meaning.specs.declared.rules.Fault.{Fault}
 use Rattle.homeo_meaning.specs.declared.rules.Item.{Item}
 use Rattle.homeo_meaning.specs.declared.rules.Item.TheVariants as I

@@ -5,7 +5,8 @@ use Rattle.homeo_syntax.specs.SourceView.{plain_workload}
 use Rattle.homeo_meaning.specs.Schema.{nat_of, schema_of}
 use Rattle.homeo_meaning.specs.GlobalNames as g
 use Rattle.homeo_meaning.specs.GlobalNames.{scope_of}
-use Rattle.homeo_meaning.specs.SizeRules.{body_form, call_form, extent_of}
+use Rattle.homeo_meaning.specs.CallForm.{body_form, call_form}
+use Rattle.homeo_meaning.specs.SizeRules.{extent_of}
 use Rattle.homeo_meaning.specs.declared.rules.Item.{Item}
 use Rattle.homeo_meaning.specs.declared.rules.Item.TheVariants as I
 use Rattle.homeo_size.specs.Layout.{IsLayout}

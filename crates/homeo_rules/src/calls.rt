@@ -3,7 +3,7 @@
 ghost use Rattle.std.specs.Prelude.{◌≡◌, map, length, ◌==◌, not};
 ghost use Rattle.homeo_syntax.specs.SourceView.{plain_transaction, plain_call, plain_client};
 ghost use Rattle.homeo_meaning.specs.CallRules.{argument_faults, call_faults, client_faults};
-ghost use Rattle.homeo_meaning.specs.Deciding.{keep_all};
+ghost use Rattle.homeo_rules.specs.inner.Deciding.{keep_all};
 ghost use Rattle.homeo_meaning.specs.NameRules.{when, fault};
 ghost use Rattle.homeo_meaning.specs.declared.rules.Phase.TheVariants.{Arity};
 ghost use Rattle.homeo_rules.specs.Callers.{params_at, call_faults_of, client_faults_of};

@@ -2,9 +2,9 @@
 
 ghost use Rattle.std.specs.Prelude.{◌≡◌};
 ghost use Rattle.homeo_meaning.specs.Faults.{rank, code, comes_before};
-ghost use Rattle.homeo_meaning.specs.Deciding.{keep};
+ghost use Rattle.homeo_rules.specs.inner.Deciding.{keep};
 ghost use Rattle.homeo_meaning.specs.NameRules.{fault, number_fault};
-ghost use Rattle.homeo_meaning.specs.Deciding.{keep_all};
+ghost use Rattle.homeo_rules.specs.inner.Deciding.{keep_all};
 
 use homeo_meaning::{Fault, Phase};
 use homeo_syntax::{Ident, Number};

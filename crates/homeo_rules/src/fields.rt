@@ -2,7 +2,7 @@
 
 ghost use Rattle.std.specs.Prelude.{◌≡◌, [], Some, IfOk};
 ghost use Rattle.homeo_meaning.specs.NameRules.{field_of, fills_all, fills_fields};
-ghost use Rattle.homeo_meaning.specs.Deciding.{keep_all};
+ghost use Rattle.homeo_rules.specs.inner.Deciding.{keep_all};
 ghost use Rattle.homeo_rules.specs.Listwise.{along_all, along_each};
 ghost use Rattle.homeo_rules.specs.Plain.{named_fields};
 ghost use Rattle.homeo_rules.specs.Relations.{named_twice, value_field};

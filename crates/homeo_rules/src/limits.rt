@@ -2,7 +2,7 @@
 
 ghost use Rattle.std.specs.Prelude.{◌≡◌, [], IfOk, OnOk, slice_get};
 ghost use Rattle.std.specs.List.{list_any};
-ghost use Rattle.homeo_meaning.specs.Deciding.{keep_all};
+ghost use Rattle.homeo_rules.specs.inner.Deciding.{keep_all};
 ghost use Rattle.homeo_meaning.specs.NumberRules.{site_count_faults};
 ghost use Rattle.homeo_rules.specs.Limited.{transaction_passing, client_passing, call_passing, kept_with, distinct_within};
 ghost use Rattle.homeo_rules.specs.Sited.{same_ground_of};

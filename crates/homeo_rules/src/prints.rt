@@ -3,7 +3,7 @@
 ghost use Rattle.std.specs.Prelude.{◌≡◌, ℤ, List, ◌+◌, map, min, nat_lt, IfOk, slice_index};
 ghost use Rattle.homeo_meaning.specs.NameRules.{when, fault};
 ghost use Rattle.homeo_meaning.specs.TransactionRules.{each};
-ghost use Rattle.homeo_meaning.specs.Deciding.{keep_all};
+ghost use Rattle.homeo_rules.specs.inner.Deciding.{keep_all};
 ghost use Rattle.homeo_meaning.specs.declared.rules.Phase.TheVariants.{Size};
 ghost use Rattle.homeo_rules.specs.Printing.{capped_prints, counted_prints, print_all, prints_too_much_in};
 ghost use Rattle.homeo_rules.specs.Scopes.{scope_in};

@@ -1,7 +1,7 @@
 //! The rules of the declarations of relations.
 
 ghost use Rattle.std.specs.Prelude.{◌≡◌, [], IfOk};
-ghost use Rattle.homeo_meaning.specs.Deciding.{keep_all};
+ghost use Rattle.homeo_rules.specs.inner.Deciding.{keep_all};
 ghost use Rattle.homeo_rules.specs.Listwise.{along_all, along_each};
 ghost use Rattle.homeo_rules.specs.Relations.{declared_twice, relation_faults_of, slot_faults_of};
 

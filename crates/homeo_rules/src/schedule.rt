@@ -5,7 +5,7 @@ ghost use Rattle.homeo_syntax.specs.WellFormed.{InSchedule, IsBelow};
 ghost use Rattle.homeo_syntax.specs.SourceView.{plain_client, plain_schedule};
 ghost use Rattle.homeo_meaning.specs.CallRules.{end_fault, needs_order, schedule_faults};
 ghost use Rattle.homeo_meaning.specs.NameRules.{when};
-ghost use Rattle.homeo_meaning.specs.Deciding.{keep_all};
+ghost use Rattle.homeo_rules.specs.inner.Deciding.{keep_all};
 ghost use Rattle.homeo_rules.specs.Scopes.{scope_in};
 ghost use Rattle.homeo_rules.specs.Tally.{scheduled_of, tally, tally_all, call_count_at, is_short_of, has_calls_of};
 

@@ -2,10 +2,11 @@
 
 ghost use Rattle.std.specs.Prelude.{◌≡◌, ◌+◌, ◌*◌, ◌||◌, [], not, map, min, nat_le, nat_lt, slice_get, IfOk};
 ghost use Rattle.std.specs.List.{flat_map};
-ghost use Rattle.homeo_meaning.specs.Deciding.{keep_all};
+ghost use Rattle.homeo_rules.specs.inner.Deciding.{keep_all};
 ghost use Rattle.homeo_meaning.specs.NameRules.{when, fault};
 ghost use Rattle.homeo_meaning.specs.TransactionRules.{each};
-ghost use Rattle.homeo_meaning.specs.SizeRules.{body_form, extent_of, too_large, heavy_call, too_many_rows};
+ghost use Rattle.homeo_meaning.specs.CallForm.{body_form};
+ghost use Rattle.homeo_meaning.specs.SizeRules.{extent_of, too_large, heavy_call, too_many_rows};
 ghost use Rattle.homeo_meaning.specs.declared.rules.Phase.TheVariants.{Size, Weight, Rows};
 ghost use Rattle.homeo_rules.specs.Sited.{values, sited};
 ghost use Rattle.homeo_rules.specs.Scopes.{scope_in};

@@ -2,7 +2,7 @@
 
 ghost use Rattle.std.specs.Prelude.{◌≡◌, IfOk};
 ghost use Rattle.homeo_syntax.specs.SourceView.{plain_transaction};
-ghost use Rattle.homeo_meaning.specs.Deciding.{keep_all};
+ghost use Rattle.homeo_rules.specs.inner.Deciding.{keep_all};
 ghost use Rattle.homeo_meaning.specs.Faults.{of_transaction};
 ghost use Rattle.homeo_rules.specs.Params.{enter_params};
 ghost use Rattle.homeo_rules.specs.Scopes.{scope_in};

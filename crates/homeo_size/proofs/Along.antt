@@ -17,7 +17,7 @@ use Rattle.homeo_size.specs.Measuring.{Filled, filled_tests, fields_writing, fie
 use Rattle.homeo_size.specs.Parts.{literal, none, with_one, writing, within_tests, written}
 use Rattle.homeo_size.specs.Sizing.{Setting, bound}
 use Rattle.homeo_size.specs.Store.{Store, set_entry, raise_entry, entry_sized, restored, raised, touched}
-use Rattle.homeo_meaning.specs.Scenes.{plain_spot}
+use Rattle.homeo_context.specs.Slots.{plain_spot}
 use Rattle.homeo_size.specs.Tables.{plain_slot, plain_filled, row_in, sizes_in, store_in, setting}
 use Rattle.homeo_size.specs.declared.chains.Filled.{Filled as Filled'}
 use Rattle.homeo_size.specs.declared.extent.Extent.{Extent}
@@ -27,7 +27,7 @@ use Rattle.homeo_size.specs.declared.extents.Kept.{Kept}
 use Rattle.homeo_size.specs.declared.frame.Frame.{Frame}
 use Rattle.homeo_size.specs.declared.slot.Row.{Row}
 use Rattle.homeo_size.specs.declared.slot.Slot.{Slot as Slot'}
-use Rattle.homeo_meaning.specs.declared.spot.Spot.{Spot as Spot'}
+use Rattle.homeo_context.specs.declared.spot.Spot.{Spot as Spot'}
 use Rattle.homeo_size.specs.declared.steps.Before.{Before}
 
 -- the list that is left begins with the item that is next

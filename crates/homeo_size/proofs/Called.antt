@@ -22,7 +22,7 @@ use Rattle.homeo_meaning.specs.Declarations.{place_from, place_of}
 use Rattle.homeo_meaning.specs.LForm.{forms, l_form}
 use Rattle.homeo_meaning.specs.LowSizes.{first_extents, call_extent, command_extent, rows, prints_in}
 use Rattle.homeo_meaning.specs.LowWeights.{first_weights}
-use Rattle.homeo_meaning.specs.Weights.{weight_at}
+use Rattle.homeo_meaning.specs.LowWeights.{weight_at}
 use Rattle.homeo_size.specs.Key.{words}
 use Rattle.homeo_size.specs.Layout.{Table, tables_from, plain_laid, capped_weight, IsLayout}
 use Rattle.homeo_size.specs.Measured.{IsMeasure}

@@ -10,7 +10,7 @@ use Rattle.homeo_meaning.specs.Key.{words as meaning_words}
 use Rattle.homeo_meaning.specs.Bounds.{Bounds, slot_bounds, relation_bounds, bounds_of}
 use Rattle.homeo_meaning.specs.Context.{Slot, slots_from, object_count}
 use Rattle.homeo_meaning.specs.Schema.{Declared, Relation, declared_object, declared_range}
-use Rattle.homeo_meaning.specs.Weights.{number_weight}
+use Rattle.homeo_meaning.specs.LowWeights.{number_weight}
 use Rattle.homeo_size.specs.Key.{words}
 use Rattle.homeo_size.specs.Layout.{Table, relation_of, schema_with, tables_from, plain_laid, capped_weight, range_weight, object_weight, relation_size, HasFewObjects, IsLayout}
 use Rattle.homeo_size.specs.Numbers.{weight_cap}

@@ -7,7 +7,7 @@ use Rattle.homeo_syntax.specs.declared.workload.RelationDecl.{RelationDecl}
 use Rattle.homeo_meaning.specs.Bounds.{Bounds, bounds_of, all_bounds}
 use Rattle.homeo_meaning.specs.Context.{Slot, object_count, slots_from}
 use Rattle.homeo_meaning.specs.Schema.{Declared, Relation, Schema, declared_object, declared_range, declared_relation}
-use Rattle.homeo_meaning.specs.Weights.{bounds_weight}
+use Rattle.homeo_meaning.specs.LowWeights.{bounds_weight}
 use Rattle.homeo_size.specs.Key.{words}
 use Rattle.homeo_size.specs.Numbers.{weight_cap}
 use Rattle.homeo_size.specs.Tables.{plain_slot}

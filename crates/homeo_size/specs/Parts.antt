@@ -1,7 +1,7 @@
 -- The extents of phrases and the measures of commands by those of their parts, each number told up to its cap.
 use Rattle.std.specs.Prelude.{ℕ, ◌+◌, ◌*◌, max, true, false, cond, ℤ}
 use Rattle.homeo_meaning.specs.Context.{Spot}
-use Rattle.homeo_meaning.specs.Weights.{number_weight}
+use Rattle.homeo_meaning.specs.LowWeights.{number_weight}
 use Rattle.homeo_size.specs.Key.{words}
 use Rattle.homeo_size.specs.Numbers.{cap, weight_cap}
 use Rattle.homeo_size.specs.declared.extent.Extent.{Extent}

@@ -4,7 +4,7 @@ use Rattle.homeo_syntax.specs.declared.workload.ObjectDecl.{ObjectDecl}
 use Rattle.homeo_meaning.specs.Context as context
 use Rattle.homeo_meaning.specs.Declarations.{place_of}
 use Rattle.homeo_meaning.specs.Schema.{Declared, declared_range}
-use Rattle.homeo_meaning.specs.Scenes.{plain_spot}
+use Rattle.homeo_context.specs.Slots.{plain_spot}
 use Rattle.homeo_size.specs.Key.{words}
 use Rattle.homeo_size.specs.Measuring as measuring
 use Rattle.homeo_size.specs.Parts.{single, unwritten}

@@ -3,7 +3,7 @@
 ghost use Rattle.std.specs.Prelude.{◌≡◌, map, option_map, OnOk};
 ghost use Rattle.homeo_size.specs.Parts.{nothing, none};
 ghost use Rattle.homeo_size.specs.Measuring.{chain_raised, slot_raised, chain_writing, slot_writing, filled_tests, fields_writing, slot_filling, chain_filling, into_sized, fields_filled, slot_filled, chain_filled, inserted, inserting};
-ghost use Rattle.homeo_meaning.specs.Scenes.{plain_spot};
+ghost use Rattle.homeo_context.specs.Slots.{plain_spot};
 ghost use Rattle.homeo_size.specs.Tables.{plain_slot, plain_filled, sizes_in, store_in};
 
 use crate::extent::{
@@ -14,7 +14,7 @@ use crate::slot::{Slot, cell};
 use crate::steps::{
     Before, EMPTY, Measure, NONE, chosen, guarded, placed, valued, with_one, writing,
 };
-use homeo_meaning::Spot;
+use homeo_context::Spot;
 use homeo_syntax::Memory;
 use std::alloc::Global;
 

@@ -1,13 +1,13 @@
 //! Sizes, depths and weights of phrases.
 
 ghost use Rattle.std.specs.Prelude.{◌≡◌, suc, pos};
-ghost use Rattle.homeo_meaning.specs.Weights.{number_weight};
+ghost use Rattle.homeo_meaning.specs.LowWeights.{number_weight};
 ghost use Rattle.homeo_size.specs.Numbers.{weight_cap};
 ghost use Rattle.homeo_size.specs.Parts.{literal, beside, plus, times, around, summed, compared, greater, unwritten, written, within_tests, is_equal};
-ghost use Rattle.homeo_meaning.specs.Scenes.{plain_spot};
+ghost use Rattle.homeo_context.specs.Slots.{plain_spot};
 
 use crate::numbers::{capped, weight_capped};
-use homeo_meaning::Spot;
+use homeo_context::Spot;
 
 /// The size, the depth and the weight of a phrase, each told up to its cap. A test or a condition has the greatest
 /// weight of its expressions.

@@ -4,13 +4,13 @@ ghost use Rattle.std.specs.Prelude.{◌≡◌, ◌∷◌, ◌++◌, [], map, opt
 ghost use Rattle.homeo_syntax.specs.SourceView.{plain_expr};
 ghost use Rattle.homeo_meaning.specs.Context.{spot};
 ghost use Rattle.homeo_size.specs.Sizing.{bound, missing, literal_in};
-ghost use Rattle.homeo_meaning.specs.Scenes.{plain_spot};
+ghost use Rattle.homeo_context.specs.Slots.{plain_spot};
 ghost use Rattle.homeo_size.specs.Tables.{plain_slot, setting};
 
 use crate::layout::Layout;
 use crate::slot::{Row, Slot, slot_at};
 use homeo_meaning::padded::item_or;
-use homeo_meaning::{Spot, find_field};
+use homeo_context::{Spot, find_field};
 use homeo_syntax::Expr;
 
 /// What names stand for: the declarations, the arguments by their parameters' names, and the rows in force, of which a

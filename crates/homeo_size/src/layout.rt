@@ -5,13 +5,13 @@ ghost use Rattle.homeo_syntax.specs.SourceView.{plain_relation};
 ghost use Rattle.homeo_meaning.specs.Bounds.{bounds_of, slot_bounds, relation_bounds};
 ghost use Rattle.homeo_meaning.specs.Context.{slots_from, object_count};
 ghost use Rattle.homeo_meaning.specs.Schema.{declared_object, declared_range, declared_relation};
-ghost use Rattle.homeo_meaning.specs.Weights.{number_weight};
+ghost use Rattle.homeo_meaning.specs.LowWeights.{number_weight};
 ghost use Rattle.homeo_size.specs.Layout.{HasFewObjects, relation_of, schema_with, tables_from, plain_laid, capped_weight, range_weight, object_weight, relation_size, IsLayout};
 ghost use Rattle.homeo_size.specs.Tables.{plain_slot};
 
 use crate::extent::number_weight;
 use crate::slot::Slot;
-use homeo_meaning::Places;
+use homeo_context::Places;
 use homeo_syntax::{Memory, Number, ObjectDecl, RangeDecl, RelationDecl};
 use std::alloc::Global;
 

@@ -14,7 +14,7 @@ use crate::frame::Frame;
 use crate::rows::with_row;
 use crate::slot::{Slot, field_cell};
 use crate::steps::{Before, EMPTY, Measure, NONE, chosen, guarded, placed, with_one, writing};
-use homeo_meaning::find_field;
+use homeo_context::find_field;
 use homeo_syntax::{Cond, Expr, Memory};
 use std::alloc::Global;
 

@@ -4,7 +4,7 @@ ghost use Rattle.std.specs.Prelude.{◌≡◌, map, option_map, IfOk, OnOk};
 ghost use Rattle.homeo_syntax.specs.SourceView.{exprs, tests, plain_expr, plain_test, plain_cond};
 ghost use Rattle.homeo_size.specs.Parts.{nothing, no_factor};
 ghost use Rattle.homeo_size.specs.Sizing.{name_sized, slot_sized, chain_sized, chain_measured, term_sized, used_test, sized, sum_sized, product_sized, test_sized, tests_sized, lifted, all_lifted, test_lifted, tests_lifted, added, total_of, total_lifted};
-ghost use Rattle.homeo_meaning.specs.Scenes.{plain_spot};
+ghost use Rattle.homeo_context.specs.Slots.{plain_spot};
 ghost use Rattle.homeo_size.specs.Tables.{plain_slot, sizes_in, setting};
 
 use crate::extent::{
@@ -16,7 +16,7 @@ use crate::frame::Frame;
 use crate::rows::with_row;
 use crate::slot::{Slot, cell, field_cell, slot_at};
 use crate::steps::{Before, EMPTY, Measure, chosen, valued, with_one};
-use homeo_meaning::Spot;
+use homeo_context::Spot;
 use homeo_syntax::{Cond, Expr, Memory, Test};
 use std::alloc::Global;
 

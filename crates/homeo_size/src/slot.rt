@@ -4,10 +4,10 @@ ghost use Rattle.std.specs.Prelude.{◌≡◌, pos, map, option_map};
 ghost use Rattle.std.specs.Ordering.{int_eq};
 ghost use Rattle.homeo_meaning.specs.Schema.{declared_range};
 ghost use Rattle.homeo_meaning.specs.Context.{cell, field_cell, slot_at};
-ghost use Rattle.homeo_meaning.specs.Scenes.{plain_spot};
+ghost use Rattle.homeo_context.specs.Slots.{plain_spot};
 ghost use Rattle.homeo_size.specs.Tables.{plain_slot};
 
-use homeo_meaning::{Spot, find_field};
+use homeo_context::{Spot, find_field};
 use homeo_syntax::RangeDecl;
 
 /// A slot: its number, the object that says whether it is used, and the fields, whose objects follow that one.

@@ -2,11 +2,11 @@
 
 ghost use Rattle.std.specs.Prelude.{◌≡◌};
 ghost use Rattle.homeo_size.specs.Parts.{valued, writing, guarded, chosen, followed, with_one, placed};
-ghost use Rattle.homeo_meaning.specs.Scenes.{plain_spot};
+ghost use Rattle.homeo_context.specs.Slots.{plain_spot};
 
 use crate::extent::{Extent, NOTHING, around, within_tests};
 use crate::numbers::capped;
-use homeo_meaning::Spot;
+use homeo_context::Spot;
 
 /// How large the L form of a call is, each number told up to its cap: BEYOND, and TOO_HEAVY for weights.
 #[derive(Clone, Copy, Debug, PartialEq, Eq)]

@@ -7,7 +7,7 @@ use Rattle.homeo_syntax.specs.declared.phrase.Compare.{Compare}
 use Rattle.homeo_meaning.specs.Key.{words as meaning_words}
 use Rattle.homeo_meaning.specs.Meaning.{compared}
 use Rattle.homeo_meaning.specs.LowMeaning.{State, value, sum_value, product_value, passes, holds}
-use Rattle.homeo_meaning.specs.CanRun.{is_small}
+use Rattle.homeo_meaning.specs.Small.{is_small}
 use Rattle.homeo_split.specs.Key.{words}
 use Rattle.homeo_split.specs.CanExec.{expr_fits, sum_fits, product_fits, test_fits, cond_fits}
 

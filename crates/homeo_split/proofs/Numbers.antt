@@ -2,7 +2,7 @@
 use Rattle.std.proofs.Common.{◌≡◌, ℤ, pos, ◌+ℤ◌, ◌*ℤ◌, ◌-ℤ◌, neg_ℤ, true, FitsSigned, SFits, w64, to_z, of_z, arith}
 use Rattle.std.proofs.Math.IntN.{+ℤ_idl}
 use Rattle.std.proofs.lemmas.Int.{to_z-of_z, fits_signed_from_abs}
-use Rattle.homeo_meaning.specs.CanRun.{is_small}
+use Rattle.homeo_meaning.specs.Small.{is_small}
 use Rattle.homeo_meaning.proofs.Numbers.{small_is}
 use Rattle.homeo_split.specs.CanExec.{limit}
 

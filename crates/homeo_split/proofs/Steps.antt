@@ -6,7 +6,7 @@ use Rattle.homeo_syntax.specs.LowView.{low_exprs, low_tests, plain_lexpr, plain_
 use Rattle.homeo_syntax.specs.declared.low.LExpr.{LExpr}
 use Rattle.homeo_syntax.specs.declared.low.LTest.{LTest}
 use Rattle.homeo_meaning.specs.LowMeaning.{State, value, sum_value, product_value, passes, holds}
-use Rattle.homeo_meaning.specs.CanRun.{is_small}
+use Rattle.homeo_meaning.specs.Small.{is_small}
 use Rattle.homeo_meaning.proofs.Steps.{drop_next, drop_none}
 use Rattle.homeo_split.specs.Key.{words}
 use Rattle.homeo_split.specs.CanExec.{expr_fits, sum_fits, product_fits, test_fits, cond_fits}

@@ -1,7 +1,7 @@
 -- Whether each value that a run over split names meets is at most b in size, with the partial sums and products from left to right.
 use Rattle.std.specs.Prelude.{ℕ, ◌*◌, ◌^◌, ℤ, pos, ◌+ℤ◌, ◌*ℤ◌, neg_ℤ, Bool, true, cond, ◌&&◌}
 use Rattle.homeo_syntax.specs.Low.{Expr, Exprs, Literal, OfTemp, Read, Sum, Product, Neg, NoExpr, MoreExpr, Test, Cond, True, Not, Comparison, NoTest, MoreTest, Command, Commands, Skip, Assign, Write, Print, Seq, If, NoCommand, MoreCommand}
-use Rattle.homeo_meaning.specs.CanRun.{is_small}
+use Rattle.homeo_meaning.specs.Small.{is_small}
 use Rattle.homeo_meaning.specs.LowMeaning.{State, TempAt, place_of, value, holds, exec}
 use Rattle.homeo_split.specs.Key.{words}
 

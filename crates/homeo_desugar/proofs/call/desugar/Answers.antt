@@ -7,7 +7,7 @@ use Rattle.homeo_syntax.specs.LowView.{plain_lcommand}
 use Rattle.homeo_meaning.specs.Schema.{declared_object}
 use Rattle.homeo_meaning.specs.Ground.{plain_ground}
 use Rattle.homeo_desugar.proofs.Few.{few_objects}
-use Rattle.homeo_desugar.proofs.Means.{means}
+use Rattle.homeo_lform.proofs.Means.{means}
 use Rattle.homeo_desugar.proofs.Looking.{schema_fits, call_formed}
 use Rattle.homeo_desugar.proofs.call.desugar.Goals as goal
 

@@ -1,5 +1,5 @@
 -- The transaction of the number is there.
-use Rattle.homeo_meaning.proofs.Lookups.{transaction_here}
+use Rattle.homeo_meaning.proofs.TransactionPlaces.{transaction_here}
 use Rattle.homeo_desugar.proofs.Looking.{number_within}
 use Rattle.homeo_desugar.proofs.call.find.Goals as goal
 

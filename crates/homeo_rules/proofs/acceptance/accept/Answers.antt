@@ -2,7 +2,7 @@ use Rattle.std.proofs.Common.{◌≡◌, ◌∙◌, Some, None, sym, ap, rules}
 use Rattle.homeo_syntax.specs.SourceView.{plain_workload}
 use Rattle.homeo_syntax.specs.declared.workload.Refusal.{Refusal}
 use Rattle.homeo_meaning.specs.Faults.{faults}
-use Rattle.homeo_meaning.specs.Deciding.{keep_all}
+use Rattle.homeo_rules.specs.inner.Deciding.{keep_all}
 use Rattle.homeo_meaning.proofs.FaultParts.{for_run}
 use Rattle.homeo_rules.proofs.OneDecides.{none_left, refused-by}
 use Rattle.homeo_rules.proofs.acceptance.accept.Goals as goal

@@ -1,6 +1,6 @@
 use Rattle.std.proofs.Common.{◌≡◌, ◌∙◌, IfOk, subst, ap, []}
 use Rattle.std.specs.Prelude.{slice_get}
-use Rattle.homeo_meaning.specs.Deciding.{keep_all}
+use Rattle.homeo_rules.specs.inner.Deciding.{keep_all}
 use Rattle.homeo_meaning.specs.NumberRules.{object_making}
 use Rattle.homeo_rules.specs.Counting.{count_all, making_of}
 use Rattle.homeo_rules.specs.Limited.{transaction_passing, client_passing, call_passing, distinct_within}

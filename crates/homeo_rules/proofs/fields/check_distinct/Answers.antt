@@ -4,7 +4,7 @@ use Rattle.std.proofs.lemmas.List.{take_more, drop_more}
 use Rattle.std.proofs.lemmas.List.Folds.{list_any_more}
 use Rattle.std.specs.List.{list_any}
 use Rattle.homeo_syntax.specs.declared.command.FieldValue.{FieldValue}
-use Rattle.homeo_meaning.specs.Deciding.{keep_all}
+use Rattle.homeo_rules.specs.inner.Deciding.{keep_all}
 use Rattle.homeo_meaning.specs.NameRules.{when, fault}
 use Rattle.homeo_meaning.specs.declared.rules.Phase.TheVariants.{Duplicate}
 use Rattle.homeo_rules.specs.Listwise.{along_each}

@@ -5,7 +5,7 @@ use Rattle.homeo_syntax.specs.declared.low.LExpr.{the_lemmas}
 use Rattle.homeo_syntax.proofs.LowViews.{low_Neg}
 use Rattle.homeo_split.specs.CanExec.{limit, sum_fits, product_fits}
 use Rattle.homeo_meaning.specs.LowMeaning.{value, sum_value, product_value}
-use Rattle.homeo_meaning.specs.CanRun.{is_small}
+use Rattle.homeo_meaning.specs.Small.{is_small}
 use Rattle.homeo_split.specs.Scenes.{scene_state}
 use Rattle.homeo_split.proofs.Equations.{value_Neg}
 use Rattle.homeo_meaning.proofs.Numbers.{kept_is}

@@ -3,7 +3,7 @@ use Rattle.std.proofs.Common.{◌<◌, ◌^◌, ap, sym, ◌∙◌, subst}
 use Rattle.homeo_meaning.specs.Key.{words}
 use Rattle.homeo_meaning.specs.Context.{spot}
 use Rattle.homeo_meaning.specs.Declarations.{place_of}
-use Rattle.homeo_meaning.proofs.Spots.{object_place}
+use Rattle.homeo_context.proofs.Spots.{object_place}
 use Rattle.homeo_desugar.proofs.Few.{place_fits}
 use Rattle.homeo_desugar.proofs.objects.Objects.find.Goals as goal
 

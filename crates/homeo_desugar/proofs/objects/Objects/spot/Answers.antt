@@ -3,7 +3,7 @@ use Rattle.std.proofs.Common.{rules, map, ap, sym, ◌∙◌}
 use Rattle.homeo_meaning.specs.Key.{words}
 use Rattle.homeo_meaning.specs.Schema.{declared_object}
 use Rattle.homeo_meaning.proofs.Numbers.{kept_is}
-use Rattle.homeo_meaning.proofs.Spots.{object_some, object_none}
+use Rattle.homeo_context.proofs.Spots.{object_some, object_none}
 use Rattle.homeo_desugar.proofs.objects.Objects.spot.Goals as goal
 
 pub returns-in-Some-clause-lo : goal.returns-in-Some-clause-lo

@@ -1,5 +1,0 @@
-use Rattle.homeo_desugar.proofs.Wholes.{whole_law}
-use Rattle.homeo_desugar.proofs.laws.form_names_whole_objects.Goals as goal
-
-pub returns : goal.returns
-returns c = whole_law

@@ -1,5 +1,0 @@
-use Rattle.homeo_desugar.proofs.Fresh.{form_takes}
-use Rattle.homeo_desugar.proofs.laws.fresh_temporaries_rise.Goals as goal
-
-pub returns : goal.returns
-returns c = form_takes

@@ -1,0 +1,14 @@
+pub mod CommandSteps
+pub mod Equations
+pub mod FieldWrites
+pub mod Fits
+pub mod InForce
+pub mod InsertSteps
+pub mod Lookups
+pub mod Outcomes
+pub mod PastObjects
+pub mod PhraseSteps
+pub mod SlotSteps
+pub mod StartLists
+pub mod States
+pub mod ValuesFit

@@ -1,0 +1,69 @@
+use Rattle.std.proofs.Common.{rules, ◌≡◌, length, Some, sym, ap, ◌∙◌}
+use Rattle.homeo_syntax.specs.SourceView.{plain_expr}
+use Rattle.homeo_meaning.specs.Key.{words}
+use Rattle.homeo_meaning.specs.Acceptance.{limit}
+use Rattle.homeo_meaning.specs.Context.{spot, slots, fields, slot_at}
+use Rattle.homeo_meaning.specs.Meaning.{value}
+use Rattle.homeo_eval.specs.inner.CanRun.{expr_fits}
+use Rattle.homeo_context.specs.Contexts.{plain_context}
+use Rattle.homeo_eval.specs.inner.States.{state_of}
+use Rattle.homeo_context.specs.Slots.{plain_slot, plain_spot}
+use Rattle.homeo_eval.proofs.FieldWrites.{none_here, some_here, slot_fits_value, at_fits, at_zero, slot_written, slot_kept}
+use Rattle.homeo_meaning.proofs.Numbers.{kept_is}
+use Rattle.homeo_eval.proofs.changes.set_field.Goals as goal
+
+pub returns-then-slots-eq0-clause-set : goal.returns-then-slots-eq0-clause-set
+unfolding words
+returns-then-slots-eq0-clause-set c =
+    let x = plain_context c.args.context.now in
+    let s = state_of c.args.state.now in
+    let all = slots x c.args.relation in
+    let i = value x (plain_expr c.args.index.now) s in
+    slot_kept s (spot (fields x c.args.relation) c.args.field) (slot_at i all) (value x (plain_expr c.args.e.now) s) (ap (slot_at i) (none_here c.relation-slots.result all c.relation-slots.ensures.slots c.if-slots-eq0.true))
+
+pub value-requires : goal.value-requires
+value-requires c =
+    some_here c.relation-slots.result _ (expr_fits limit (plain_context c.args.context.now) (plain_expr c.args.index.now) (state_of c.args.state.now)) c.relation-slots.ensures.slots c.if-slots-eq0.false c.requires.index
+
+pub value-v-requires : goal.value-v-requires
+value-v-requires c =
+    let x = plain_context c.args.context.now in
+    let s = state_of c.args.state.now in
+    let all = slots x c.args.relation in
+    let i = value x (plain_expr c.args.index.now) s in
+    let index = kept_is c.value.result _ (search rules) c.value.ensures in
+    let found : slot_at i all ≡ Some (plain_slot c.in-Some.slot) = sym (c.in-Some.ensures ∙ (λ j. slot_at (index j) (c.relation-slots.ensures.slots j))) in
+    slot_fits_value i all (plain_slot c.in-Some.slot) (expr_fits limit x (plain_expr c.args.e.now) s) found c.requires.value
+
+pub write_field-requires : goal.write_field-requires
+unfolding words
+write_field-requires c =
+    let x = plain_context c.args.context.now in
+    let s = state_of c.args.state.now in
+    let all = slots x c.args.relation in
+    let i = value x (plain_expr c.args.index.now) s in
+    let index = kept_is c.value.result _ (search rules) c.value.ensures in
+    let found : slot_at i all ≡ Some (plain_slot c.in-Some.slot) = sym (c.in-Some.ensures ∙ (λ j. slot_at (index j) (c.relation-slots.ensures.slots j))) in
+    at_zero x c.args.relation c.in-Some.slot c.field.result c.args.field (length c.args.state.now.database.items) (c.field.ensures ∙ ap (λ ds. spot ds c.args.field) c.relation-slots.ensures.fields) (at_fits x c.args.relation i (plain_slot c.in-Some.slot) found) c.requires.serves.places
+
+pub returns-in-Some-clause-set : goal.returns-in-Some-clause-set
+unfolding words
+returns-in-Some-clause-set c =
+    let x = plain_context c.args.context.now in
+    let s = state_of c.args.state.now in
+    let all = slots x c.args.relation in
+    let i = value x (plain_expr c.args.index.now) s in
+    let index = kept_is c.value.result _ (search rules) c.value.ensures in
+    let found : slot_at i all ≡ Some (plain_slot c.in-Some.slot) = sym (c.in-Some.ensures ∙ (λ j. slot_at (index j) (c.relation-slots.ensures.slots j))) in
+    c.write_field.ensures.set
+    ∙ slot_written s (plain_spot c.field.result) (spot (fields x c.args.relation) c.args.field) (plain_slot c.in-Some.slot) (slot_at i all) (value x (plain_expr c.args.e.now) s) _ (c.field.ensures ∙ ap (λ ds. spot ds c.args.field) c.relation-slots.ensures.fields) found (kept_is c.value-v.result _ (search rules) c.value-v.ensures)
+
+pub returns-in_default-clause-set : goal.returns-in_default-clause-set
+unfolding words
+returns-in_default-clause-set c =
+    let x = plain_context c.args.context.now in
+    let s = state_of c.args.state.now in
+    let all = slots x c.args.relation in
+    let i = value x (plain_expr c.args.index.now) s in
+    let index = kept_is c.value.result _ (search rules) c.value.ensures in
+    slot_kept s (spot (fields x c.args.relation) c.args.field) (slot_at i all) (value x (plain_expr c.args.e.now) s) (sym (c.in_default.ensures ∙ (λ j. slot_at (index j) (c.relation-slots.ensures.slots j))))

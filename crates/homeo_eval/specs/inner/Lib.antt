@@ -1,0 +1,5 @@
+pub mod CanRun
+pub mod Settings
+pub mod States
+pub mod Terms
+pub mod Visits

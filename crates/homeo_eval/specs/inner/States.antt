@@ -1,0 +1,29 @@
+-- The states and runs that the code's values stand for.
+use Rattle.std.specs.Prelude.{◌≡◌, ◌≤◌, ℕ, ℤ, pos, true, List, length}
+use Rattle.homeo_context.specs.declared.context.Context as code_context
+use Rattle.homeo_context.specs.Contexts.{plain_context}
+use Rattle.homeo_eval.specs.declared.state.State as code
+use Rattle.homeo_meaning.specs.Key.{words}
+use Rattle.homeo_meaning.specs.Bounds.{all_bounds}
+use Rattle.homeo_meaning.specs.Context.{Spot}
+use Rattle.homeo_meaning.specs.Meaning.{State, Run, is_within}
+use Rattle.homeo_meaning.specs.Serial.{values_of}
+use Rattle.homeo_lform.specs.inner.RowsFit.{RowsFit}
+
+abbrev pub state_of : code.State → State
+unfolding words
+state_of s = record { database = values_of s.database.items; temps = values_of s.temps.items }
+
+abbrev pub run_of : State → List ℤ → Run
+unfolding words
+run_of s prints = record { state = s; prints = prints }
+
+-- a state has a value for each object, and the rows in force are slots, or past all objects
+pub record Serves (x : code_context.Context) (s : code.State) : Type 0 where
+  pub places : length s.database.items ≡ length (all_bounds x.declarations.now.schema)
+  pub rows : RowsFit (plain_context x)
+
+-- past so many objects, nothing but 0 is admitted
+abbrev pub IsZeroPast : ℕ → Spot → ℕ → Type 0
+unfolding words
+IsZeroPast count b n = count ≤ n → (v : ℤ) → is_within b v ≡ true → v ≡ pos 0

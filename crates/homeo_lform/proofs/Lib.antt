@@ -1,0 +1,17 @@
+pub mod Conveys
+pub mod Fields
+pub mod FormExample
+pub mod FormLaw
+pub mod Forms
+pub mod Fresh
+pub mod Known
+pub mod Lifts
+pub mod Light
+pub mod Loops
+pub mod Means
+pub mod ObjectBounds
+pub mod SourceNumbers
+pub mod Stays
+pub mod Values
+pub mod Wholes
+pub mod Writes

@@ -1,0 +1,62 @@
+//! What is true of the L forms of all calls, and of the calls themselves.
+
+ghost use Rattle.std.specs.Prelude.{◌≡◌, ℕ, ℤ, List, pos, true};
+ghost use Rattle.homeo_syntax.specs.Source.{Command, Commands};
+ghost use Rattle.homeo_meaning.specs.Schema.{Schema};
+ghost use Rattle.homeo_meaning.specs.Bounds.{AllWithin};
+ghost use Rattle.homeo_meaning.specs.Context.{Context, context};
+ghost use Rattle.homeo_meaning.specs.Meaning.{run};
+ghost use Rattle.homeo_meaning.specs.LForm.{form, l_form};
+ghost use Rattle.homeo_meaning.specs.LowMeaning.{State, exec, whole};
+ghost use Rattle.homeo_meaning.specs.LowWeights.{first_weights, is_light};
+ghost use Rattle.homeo_meaning.specs.SameRun.{IsSameRun};
+ghost use Rattle.homeo_lform.specs.Fresh.{TakesFrom};
+ghost use Rattle.homeo_meaning.specs.Whole.{IsWhole};
+ghost use Rattle.homeo_meaning.specs.LowComputed as low;
+ghost use Rattle.homeo_meaning.specs.Computed.{CanRunAll};
+ghost use Rattle.homeo_meaning.specs.Small.{IsSmall, Anything, ComputesSmall};
+
+/// The L form of a call prints what the program's own call prints, and leaves every object with the value that the call
+/// leaves it with, whatever the declarations, the arguments and the database.
+pub fn form_means_the_program()
+    ensures { (x : Schema) (params : List ℕ) (args : List ℤ) (body : Commands) (database : ℕ → ℤ) →
+        IsSameRun (exec (l_form x params args body) (whole database)) (run x params args body database) }
+{}
+
+/// The L form of a call names whole objects only: no base and no delta.
+pub fn form_names_whole_objects()
+    ensures { (x : Schema) (params : List ℕ) (args : List ℤ) (body : Commands) → IsWhole (l_form x params args body) }
+{}
+
+/// The L form of a command takes its fresh temporaries from the number that it is given on. Those below keep their
+/// values, and the next number is not below that one.
+pub fn fresh_temporaries_rise()
+    ensures { (x : Context) (c : Command) (n : ℕ) (s : State) →
+        TakesFrom n (form x c n).next s (exec (form x c n).command s).state }
+{}
+
+/// A call keeps every object within its bounds, whatever its arguments and whatever names it uses.
+pub fn program_stays_within_bounds()
+    ensures { (x : Schema) (params : List ℕ) (args : List ℤ) (body : Commands) (database : ℕ → ℤ) →
+        AllWithin x database → AllWithin x (run x params args body database).state.database }
+{}
+
+/// Where each number that the L form of a call computes is at most b in size, so is each that the program's own call
+/// computes, with the partial sums and products from left to right; and likewise of the numbers that stand there or are
+/// read.
+pub fn small_forms_have_small_programs()
+    ensures computed { (b : ℕ) (x : Schema) (params : List ℕ) (args : List ℤ) (body : Commands) (database : ℕ → ℤ) →
+        low.CanRun Anything (IsSmall b) (l_form x params args body) (whole database) →
+        CanRunAll Anything (IsSmall b) (context x params args) body (record { database = database; temps = λ t. pos 0 }) }
+    ensures each { (b : ℕ) (x : Schema) (params : List ℕ) (args : List ℤ) (body : Commands) (database : ℕ → ℤ) →
+        low.CanRun (IsSmall b) (IsSmall b) (l_form x params args body) (whole database) →
+        CanRunAll (IsSmall b) (IsSmall b) (context x params args) body (record { database = database; temps = λ t. pos 0 }) }
+{}
+
+/// Where no expression of the L form of a call weighs more than b, each number of it and of the program's own call is
+/// at most b in size, whatever the database within its bounds.
+pub fn light_forms_compute_small_numbers()
+    ensures { (b : ℕ) (x : Schema) (params : List ℕ) (args : List ℤ) (body : Commands) (database : ℕ → ℤ) →
+        AllWithin x database → is_light b (l_form x params args body) (first_weights x) ≡ true →
+        ComputesSmall b x params args body database }
+{}

@@ -1,9 +1,0 @@
-use Rattle.std.proofs.Common.{◌≡◌}
-use Rattle.homeo_meaning.specs.Context.{first_where}
-use Rattle.homeo_meaning.specs.Meaning.{is_free}
-use Rattle.homeo_meaning.specs.Scenes.{state_of}
-use Rattle.homeo_meaning.proofs.Slots.{left}
-use Rattle.homeo_meaning.proofs.inserts.first_free.Given as goal
-
-abbrev pub invariant-loop-number : goal.invariant-loop-number
-invariant-loop-number l = first_where (is_free (state_of l.scene)) (left l.table l.number) ≡ first_where (is_free (state_of l.scene)) (left l.table 0)

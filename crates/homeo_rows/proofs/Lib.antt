@@ -1,3 +1,0 @@
--- The lemmas of the tests.
-pub mod CallForms
-pub mod Example

@@ -1,2 +1,0 @@
--- The definitions of the tests.
-pub mod Example

@@ -1,0 +1,4 @@
+pub mod CallForms
+pub mod Example
+pub mod RelationTexts
+pub mod RuleTexts

@@ -1,0 +1,15 @@
+-- The client has its two calls.
+use Rattle.std.proofs.Common.{[], ◌∷◌, pos, map, ap, ◌∙◌}
+use Rattle.homeo_syntax.specs.Key.{words as tree_words}
+use Rattle.homeo_syntax.specs.SourceView.{plain_call}
+use Rattle.homeo_tests.specs.Example.{name, number}
+use Rattle.homeo_tests.proofs.Example.{pushed}
+use Rattle.homeo_tests.proofs.evaluation.two_sales.Goals as goal
+
+pub returns : goal.returns
+unfolding tree_words
+returns c =
+    let one = pushed c.new-calls.result c.push.new.self [] c.in_ok-sale_of_3.field-0 (ap (λ l. l.items) c.new-calls.ensures) c.in_ok-push.ensures.ok in
+    let two = pushed c.push.new.self c.push-2.new.self _ c.in_ok-sale_of_3-2.field-0 one c.in_ok-push-2.ensures.ok in
+    let calls = ap (map plain_call) two ∙ (λ i. c.in_ok-sale_of_3.ensures i ∷ c.in_ok-sale_of_3-2.ensures i ∷ []) in
+    λ i. record { name = name 3; site = number (pos 0); calls = calls i }

@@ -1,0 +1,160 @@
+//! The calls of workloads with relations, each run by itself and by its L form.
+
+ghost use Rattle.std.specs.Prelude.{◌≡◌, [], All, map, IfOk};
+ghost use Rattle.homeo_syntax.specs.SourceView.{plain_workload};
+ghost use Rattle.homeo_meaning.specs.Bounds.{IsWithin};
+ghost use Rattle.homeo_meaning.specs.Ground.{plain_ground};
+ghost use Rattle.homeo_meaning.specs.Schema.{schema_of};
+ghost use Rattle.homeo_ground.specs.Grounding.{IsCalled};
+
+use homeo_desugar::desugar;
+use homeo_ground::Grounding;
+use homeo_eval::{eval, initial};
+use homeo_meaning::{Accepted, Database, GroundCall, Purpose};
+use homeo_reader::{ReadRefusal, read};
+use homeo_rules::{RuleRefusal, accept};
+use homeo_split::{Split, eval_l};
+use homeo_syntax::{List, Memory};
+use std::alloc::{AllocError, Global};
+use std::process::Abort;
+use std::test::Fail;
+
+/// Each call looks for a slot past the last one and fills one of the four, until none is left.
+const LIMITED_SLOTS: &str = "workload 1
+sites 1
+relation R[4] (f in 0..9)
+transaction p() { print(R[4].f); R[4].f := 3; insert R (f = 7) into s; print(s) }
+client a at 0 { p(); p(); p(); p(); p() }
+schedule a a a a a
+end
+";
+
+/// Orders are taken while a slot is free, paid for, shipped and counted: by each command and each expression over rows.
+const ORDERS: &str = "workload 1
+sites 2
+object stock in 0..20 = 12
+object latest in 0..2 = 0
+relation orders[2] (amount in 0..5, paid in 0..1)
+transaction order(n in 1..5) {
+  insert orders (paid = 0, amount = n) into place;
+  if 0 < place then { write(stock = read(stock) - n); write(latest = place - 1) } else skip;
+  print(place)
+}
+transaction pay() {
+  orders[read(latest)].paid := 1;
+  print(orders[read(latest)].amount)
+}
+transaction ship() {
+  foreach o of orders when o.paid = 1 { print(o.amount); o.amount := 5 };
+  delete o of orders when o.paid = 1
+}
+transaction age() {
+  update o of orders when not (o.paid = 1) set amount = o.amount - 1;
+  print(count(o of orders when true));
+  print(sum(o.amount of orders when o.amount < 5))
+}
+client shop at 0 { order(2); pay(); ship(); age() }
+client web at 1 { order(4) }
+schedule shop shop web shop shop
+end
+";
+
+/// Reads a text that is accepted.
+fn accepted(rt: &impl Abort, alloc: Global, text: &str) -> Result<Accepted, Fail> {
+    assert!(rt; text.len() <= 1_048_576);
+    let workload = match read(alloc, text.as_bytes()) {
+        Ok(workload) => workload,
+        Err(ReadRefusal::Memory) => return Err(Fail::from(AllocError)),
+        Err(ReadRefusal::Refused(refusal)) => panic!(rt; "refused {refusal:?}"),
+    };
+    match accept(alloc, workload, Purpose::Steps) {
+        Ok(w) => Ok(w),
+        Err(RuleRefusal::Memory) => Err(Fail::from(AllocError)),
+        Err(RuleRefusal::Refused(refusal)) => panic!(rt; "refused {refusal:?}"),
+    }
+}
+
+/// The database at one place: it is not split yet.
+fn whole(alloc: Global, database: &Database) -> Result<Split, Memory>
+    ensures base { IfOk result (λ s. s.base.items ≡ database.now.items) }
+    ensures deltas { IfOk result (λ s. s.deltas.items ≡ []) }
+{
+    let base = Vec::from_slice(alloc, database.as_slice())?;
+    Ok(Split {
+        base: List::from_vec(base),
+        deltas: List::new(alloc),
+    })
+}
+
+/// Runs a ground call on a database, by itself and by its L form, and compares what they print and leave.
+fn run_both(
+    rt: &impl Abort,
+    alloc: Global,
+    w: &Accepted,
+    call: &GroundCall,
+    database: &mut Database,
+) -> Result<(), Fail>
+    requires called { IsCalled (plain_workload w.now) (plain_ground call.now) }
+    requires within { IsWithin (schema_of (plain_workload w.now)) database.old.items }
+    ensures within { IsWithin (schema_of (plain_workload w.now)) database.new.items }
+{
+    let form = desugar(alloc, call, w)?;
+    let mut split = whole(alloc, database)?;
+    assert!(rt; split.has_places(&form));
+    let printed = eval_l(alloc, &form, &mut split)?;
+    let prints = eval(alloc, w, call.transaction, call.args.as_slice(), database)?;
+    assert_eq!(rt; printed.as_slice(), prints.as_slice());
+    assert_eq!(rt; split.base.as_slice(), database.as_slice());
+    Ok(())
+}
+
+/// Runs the ground calls one after another.
+fn run_round(
+    rt: &impl Abort,
+    alloc: Global,
+    w: &Accepted,
+    calls: &[GroundCall],
+    database: &mut Database,
+) -> Result<(), Fail>
+    requires called { All (IsCalled (plain_workload w.now)) (map plain_ground calls.now) }
+    requires within { IsWithin (schema_of (plain_workload w.now)) database.old.items }
+    ensures within { IsWithin (schema_of (plain_workload w.now)) database.new.items }
+{
+    for call in calls {
+        run_both(rt, alloc, w, call, database)?;
+    }
+    Ok(())
+}
+
+/// Runs a workload's ground calls from its first database on, the given number of times, and gives the last database.
+fn run_rounds(
+    rt: &impl Abort,
+    alloc: Global,
+    w: &Accepted,
+    rounds: usize,
+) -> Result<Database, Fail> {
+    let grounding = Grounding::of(alloc, w)?;
+    let mut database = initial(alloc, w)?;
+    for _ in 0..rounds {
+        run_round(rt, alloc, w, grounding.calls(), &mut database)?;
+    }
+    Ok(database)
+}
+
+#[test]
+fn slots_are_filled_until_none_is_left(rt: HostRuntime) -> Result<(), Fail> {
+    let alloc = rt.alloc();
+    let w = accepted(&rt, alloc, LIMITED_SLOTS)?;
+    let database = run_rounds(&rt, alloc, &w, 5)?;
+    assert_eq!(rt; database.as_slice(), [1, 7, 1, 7, 1, 7, 1, 7].as_slice());
+    Ok(())
+}
+
+#[test]
+fn orders_are_taken_paid_and_shipped(rt: HostRuntime) -> Result<(), Fail> {
+    let alloc = rt.alloc();
+    let w = accepted(&rt, alloc, ORDERS)?;
+    let database = run_rounds(&rt, alloc, &w, 3)?;
+    assert_eq!(rt; database.as_slice(), [0, 1, 1, 2, 0, 1, 4, 0].as_slice());
+    Ok(())
+}
