@@ -9,14 +9,7 @@ use Rattle.homeo_context.specs.declared.slots.Slots.{Slots}
 use Rattle.homeo_meaning.specs.Key.{words}
 use Rattle.homeo_meaning.specs.Schema.{Declared, declared_range}
 use Rattle.homeo_meaning.specs.Context.{Slot, spot, field_cell, slots_from, first_where, slot_at}
-use Rattle.homeo_meaning.specs.Meaning.{State, Run, done, after_prints, is_used, added, visit}
-use Rattle.homeo_meaning.specs.Small.{is_small}
-use Rattle.homeo_eval.specs.inner.CanRun.{adding_fits, visits_fit}
-use Rattle.homeo_eval.specs.inner.States.{run_of}
 use Rattle.homeo_context.specs.Slots.{plain_slot, slots_of}
-use Rattle.homeo_lform.proofs.ObjectBounds.{Each}
-use Rattle.homeo_eval.specs.inner.Terms.{term_of}
-use Rattle.homeo_eval.specs.declared.phrases.Term.TheVariants.{Field}
 
 -- the slot of a number
 abbrev pub slot_of : Slots → ℕ → Slot

@@ -27,4 +27,4 @@ rows_of = fold-BoundRows (ℕ → Slot) rows_step
 abbrev pub plain_context : code.Context → Context
 unfolding words
 plain_context x =
-    record { schema = x.declarations.now.schema; arguments = (call_context x.declarations.now x.arguments.now).arguments; rows = rows_of x.rows.now }
+    record { schema = x.declared.now.schema; arguments = (call_context x.declared.now x.arguments.now).arguments; rows = rows_of x.rows.now }

@@ -23,7 +23,7 @@ use Rattle.homeo_meaning.proofs.FaultParts.{parts}
 use Rattle.homeo_meaning.proofs.SoundRelations.{SlotsFit, slots-fit, objects-fit}
 use Rattle.homeo_meaning.proofs.SoundRules.{all_head, all_tail}
 use Rattle.homeo_desugar.specs.Key.{words as desugar_words}
-use Rattle.homeo_meaning.specs.CallForm.{form_of}
+use Rattle.homeo_meaning.specs.CallForm.{body_form, ground_form}
 use Rattle.homeo_desugar.specs.Made.{AreFormed}
 use Rattle.homeo_desugar.specs.Settings.{schemas, objects_of, schema_with, absent, SchemaFits}
 use Rattle.homeo_desugar.proofs.Schemas.{count_least}
@@ -98,10 +98,10 @@ transaction_formed t os rs past params args body after made rows p b e r formed 
 
 -- what a ground call calls
 pub call_formed : (w own : Workload) (g : Ground) (t : Transaction) (os : List Declared) (rs : List RelationDecl) (args : List ℤ) (r : L.Command) → own ≡ w → slice_get (plain_workload own).transactions g.transaction ≡ Some (plain_transaction t) → os ≡ map declared_object own.objects.items → rs ≡ own.relations.items → args ≡ g.args →
-    r ≡ l_form (schema_with os rs) (map (λ p. p.name.name) t.params.items) args (plain_transaction t).body → form_of (plain_workload w) g ≡ Some r
+    r ≡ l_form (schema_with os rs) (map (λ p. p.name.name) t.params.items) args (plain_transaction t).body → r ≡ ground_form (plain_workload w) g
 unfolding desugar_words tree_words
 call_formed w own g t os rs args r e at o q a is =
     let here : slice_get (plain_workload w).transactions g.transaction ≡ Some (plain_transaction t) = ap (λ w. slice_get (plain_workload w).transactions g.transaction) (sym e) ∙ at in
     let form : Schema → List ℤ → s.Transaction → L.Command = λ x args t. l_form x (map (λ p. p.name.name) t.params) args t.body in
     let same : r ≡ form (schema_of (plain_workload w)) g.args (plain_transaction t) = is ∙ (λ i. form (schema_is w own os rs e o q i) (a i) (plain_transaction t)) in
-    ap (option_map (form (schema_of (plain_workload w)) g.args)) here ∙ ap Some (sym same)
+    same ∙ sym (ap (λ o. body_form (plain_workload w) o g.args) here)

@@ -6,7 +6,7 @@ ghost use Rattle.homeo_syntax.specs.LowView.{plain_lcommand};
 ghost use Rattle.homeo_meaning.specs.Ground.{plain_ground};
 ghost use Rattle.homeo_meaning.specs.LForm.{l_form};
 ghost use Rattle.homeo_desugar.specs.Settings.{schema_with, SchemaFits};
-ghost use Rattle.homeo_meaning.specs.CallForm.{form_of};
+ghost use Rattle.homeo_meaning.specs.CallForm.{ground_form};
 ghost use Rattle.homeo_meaning.specs.SameRun.{MeansCall};
 
 use crate::forming::form_all;
@@ -56,7 +56,7 @@ fn form_transaction<'a>(
 /// `Memory` where memory is wanting.
 pub fn desugar(alloc: Global, call: &GroundCall, w: &Accepted) -> Result<LCommand, Memory>
     requires { IsSome (slice_get (plain_workload w.now).transactions call.now.transaction) }
-    ensures form { IfOk result (λ c. form_of (plain_workload w.now) (plain_ground call.now) ≡ Some (plain_lcommand c)) }
+    ensures form { IfOk result (λ c. plain_lcommand c ≡ ground_form (plain_workload w.now) (plain_ground call.now)) }
     ensures means { IfOk result (λ c. MeansCall (plain_workload w.now) (plain_ground call.now) (plain_lcommand c)) }
 {
     let workload = w.workload();

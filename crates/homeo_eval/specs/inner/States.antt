@@ -20,7 +20,7 @@ run_of s prints = record { state = s; prints = prints }
 
 -- a state has a value for each object, and the rows in force are slots, or past all objects
 pub record Serves (x : code_context.Context) (s : code.State) : Type 0 where
-  pub places : length s.database.items ≡ length (all_bounds x.declarations.now.schema)
+  pub places : length s.database.items ≡ length (all_bounds x.declared.now.schema)
   pub rows : RowsFit (plain_context x)
 
 -- past so many objects, nothing but 0 is admitted

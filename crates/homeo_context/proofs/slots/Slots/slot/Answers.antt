@@ -7,12 +7,12 @@ pub overflow_mul-result : goal.overflow_mul-result
 unfolding words
 overflow_mul-result c =
     let width = 1 + length c.args.self.now.fields.now in
-    let le : c.args.number * width ≤ c.args.self.now.slots * width = mul-le c.args.number width c.args.self.now.slots width (omega (arith, c.requires.there)) (omega arith) in
+    let le : c.args.number * width ≤ c.args.self.now.count * width = mul-le c.args.number width c.args.self.now.count width (omega (arith, c.requires.there)) (omega arith) in
     omega (arith, le, c.requires.counted)
 
 pub overflow_add-result : goal.overflow_add-result
 unfolding words
 overflow_add-result c =
     let width = 1 + length c.args.self.now.fields.now in
-    let le : c.args.number * width ≤ c.args.self.now.slots * width = mul-le c.args.number width c.args.self.now.slots width (omega (arith, c.requires.there)) (omega arith) in
+    let le : c.args.number * width ≤ c.args.self.now.count * width = mul-le c.args.number width c.args.self.now.count width (omega (arith, c.requires.there)) (omega arith) in
     omega (arith, le, c.requires.counted)
