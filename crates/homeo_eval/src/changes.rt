@@ -11,11 +11,9 @@ ghost use Rattle.homeo_context.specs.Slots.{plain_slot};
 ghost use Rattle.homeo_context.specs.Contexts.{plain_context};
 ghost use Rattle.homeo_eval.specs.inner.Visits.{holds_at, cond_fits_at, clears, can_clear, writes_at, value_fits_at};
 
-use homeo_context::{Context, BoundRows};
+use homeo_context::{BoundRows, Context, Slot, find_field};
 use crate::phrases::{holds, value};
 use crate::state::State;
-use homeo_context::find_field;
-use homeo_context::Slot;
 use homeo_syntax::{Cond, Expr};
 
 /// Whether a slot is used and a condition holds of the row.
