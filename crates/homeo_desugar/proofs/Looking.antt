@@ -99,7 +99,7 @@ transaction_formed t os rs past params args body after made rows p b e r formed 
 -- what a ground call calls
 pub call_formed : (w own : Workload) (g : Ground) (t : Transaction) (os : List Declared) (rs : List RelationDecl) (args : List ℤ) (r : L.Command) → own ≡ w → slice_get (plain_workload own).transactions g.transaction ≡ Some (plain_transaction t) → os ≡ map declared_object own.objects.items → rs ≡ own.relations.items → args ≡ g.args →
     r ≡ l_form (schema_with os rs) (map (λ p. p.name.name) t.params.items) args (plain_transaction t).body → r ≡ ground_form (plain_workload w) g
-unfolding desugar_words tree_words
+unfolding words desugar_words tree_words
 call_formed w own g t os rs args r e at o q a is =
     let here : slice_get (plain_workload w).transactions g.transaction ≡ Some (plain_transaction t) = ap (λ w. slice_get (plain_workload w).transactions g.transaction) (sym e) ∙ at in
     let form : Schema → List ℤ → s.Transaction → L.Command = λ x args t. l_form x (map (λ p. p.name.name) t.params) args t.body in
