@@ -42,11 +42,6 @@ not_less : (m n : ℕ) → nat_lt m n ≡ false → n ≤ m
 not_less m n e = grind (arith, nat_tests)
 
 -- ---- names of one kind among others
-found_step : (b : Bool) (item v : Item) (rest behind : Option Item) → (if b then Some item else rest) ≡ Some v → (rest ≡ Some v → (behind ≡ Some v))
-    → (if b then Some item else behind) ≡ Some v
-found_step true item v rest behind e later = e
-found_step false item v rest behind e later = later e
-
 either_step : (b : Bool) (item v : Item) (rest here there : Option Item) → (if b then Some item else rest) ≡ Some v → (rest ≡ Some v → (here ≡ Some v) ⊎ (there ≡ Some v))
     → ((if b then Some item else here) ≡ Some v) ⊎ (there ≡ Some v)
 either_step true item v rest here there e later = inl e

@@ -1,4 +1,5 @@
 pub mod Accepting
 pub mod Decided
+pub mod Reading
 pub mod Scheduling
 pub mod Stepping

@@ -91,7 +91,7 @@ unfolding words
 all_exist w order = exist_from w [] (order_of w.schedule) order refl order.named
 
 -- ---- the history
-stepwise_made : (w : s.Workload) (h : History) (base : List ℤ) (calls : List CallId) → h.rounds ≡ stepwise w base calls → h.last ≡ (serial w base calls).database
+pub stepwise_made : (w : s.Workload) (h : History) (base : List ℤ) (calls : List CallId) → h.rounds ≡ stepwise w base calls → h.last ≡ (serial w base calls).database
     → base ≡ initial w → calls ≡ scheduled_calls w → h ≡ stepwise_history w (scheduled_calls w)
 unfolding histories
 stepwise_made w h base calls rounds last start order =
@@ -102,7 +102,7 @@ stepwise_made w h base calls rounds last start order =
 pub steps_full : (w : s.Workload) (h : History) (base : List ℤ) (calls : List CallId) → IsWholeOrder w → h.rounds ≡ stepwise w base calls → h.last ≡ (serial w base calls).database
     → base ≡ initial w → calls ≡ scheduled_calls w → IsFull w h
 steps_full w h base calls whole rounds last start order =
-    subst (IsFull w) (sym (stepwise_made w h base calls rounds last start order)) (stepwise_is_full w (scheduled_calls w) (all_calls w whole))
+    subst (IsFull w) (sym (stepwise_made w h base calls rounds last start order)) (stepwise_is_full w (scheduled_calls w) (all_calls w whole) (all_exist w whole))
 
 pub steps_follow : (w : s.Workload) (h : History) (base : List ℤ) (calls : List CallId) → h.rounds ≡ stepwise w base calls → h.last ≡ (serial w base calls).database
     → base ≡ initial w → calls ≡ scheduled_calls w → Follows w h (scheduled_calls w)

@@ -10,6 +10,7 @@ use Rattle.homeo_meaning.specs.Verdict.{Accepts, IsRefused}
 use Rattle.homeo_history.specs.History.{History}
 use Rattle.homeo_history.specs.Legal.{IsFull}
 use Rattle.homeo_history.specs.Follows.{Follows}
+use Rattle.homeo_history.specs.Stepwise.{stepwise_history}
 use Rattle.homeo_report.specs.Report.{report}
 use Rattle.homeo.specs.Command.{refusal_line}
 use Rattle.homeo.specs.Order.{scheduled_calls}
@@ -19,13 +20,14 @@ abbrev pub TookLine : (old new : Option (List ℕ)) → (before now : ℕ) → L
 TookLine old new before now line = TookExactly old new line ⊎ (TookPrefix old new line × Rose before now)
 
 -- The text is accepted as a workload, and the output is the report of a history that is legal for it, has all calls
--- of each client, and follows the schedule.
+-- of each client, and follows the schedule. Today each call closes a round of its own, so the text determines the history.
 pub record IsReportOf (text output : List ℕ) : Type 0 where
   pub workload : s.Workload
   pub history : History
   pub accepted : Accepts text Steps workload
   pub full : IsFull workload history
   pub follows : Follows workload history (scheduled_calls workload)
+  pub stepwise : history ≡ stepwise_history workload (scheduled_calls workload)
   pub reported : output ≡ report workload history
 
 -- the source was read to its end, and this is the output of the text that it gave

@@ -1,3 +1,5 @@
+//! How a run ends: the statuses, and the lines that complaints get.
+
 ghost use Rattle.std.specs.Prelude.{◌≡◌};
 ghost use Rattle.homeo.specs.Command.{number_of};
 

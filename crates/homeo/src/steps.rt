@@ -10,7 +10,7 @@ ghost use Rattle.homeo_meaning.specs.Serial.{call_outcome, serial};
 ghost use Rattle.homeo_history.specs.HistoryView.{plain_round, plain_history};
 ghost use Rattle.homeo_history.specs.Legal.{IsFull, site_count};
 ghost use Rattle.homeo_history.specs.Follows.{Follows, site_or_zero};
-ghost use Rattle.homeo_history.specs.Stepwise.{open_round, closed_round, stepwise};
+ghost use Rattle.homeo_history.specs.Stepwise.{open_round, closed_round, stepwise, stepwise_history};
 ghost use Rattle.homeo_report.specs.Report.{CanReport};
 ghost use Rattle.homeo.specs.Order.{scheduled_calls};
 ghost use Rattle.homeo.specs.Scheduled.{IsWholeOrder, HasSites};
@@ -29,6 +29,8 @@ pub(crate) fn steps(alloc: Global, w: &Accepted) -> Result<History, Memory>
     requires sites { HasSites (plain_workload w.now) }
     ensures full { IfOk result (λ h. IsFull (plain_workload w.now) (plain_history h)) }
     ensures follows { IfOk result (λ h. Follows (plain_workload w.now) (plain_history h) (scheduled_calls (plain_workload w.now))) }
+    ensures stepwise { IfOk result (λ h. plain_history h ≡
+        stepwise_history (plain_workload w.now) (scheduled_calls (plain_workload w.now))) }
     ensures reportable { IfOk result (λ h. CanReport (plain_workload w.now) (plain_history h)) }
 {
     let calls = scheduled_calls(alloc, w.workload())?;

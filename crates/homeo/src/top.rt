@@ -1,6 +1,8 @@
-ghost use Rattle.std.specs.Prelude.{◌≡◌, ◌≢◌, ◌⊎◌, ◌≤◌, ◌<◌, ◌↔◌, ℕ, length, IsTrue, IfOk, OnOk, OnErr, IsErrOf};
+//! The top call, with its promise: words, a source, an output and complaints.
+
+ghost use Rattle.std.specs.Prelude.{◌≡◌, ◌≢◌, ◌⊎◌, ◌≤◌, ◌<◌, ◌+◌, ◌↔◌, ℕ, length, IsTrue, IfOk, OnOk, OnErr, IsErrOf};
 ghost use Rattle.homeo_io.specs.Faults.{Rose};
-ghost use Rattle.homeo_io.specs.Moved.{TookExactly, TookPrefix};
+ghost use Rattle.homeo_io.specs.Moved.{GaveAtMost, TookExactly, TookPrefix};
 ghost use Rattle.homeo_syntax.specs.declared.workload.Refusal.{Refusal};
 ghost use Rattle.homeo_meaning.specs.declared.call.Purpose.TheVariants.{Steps};
 ghost use Rattle.homeo_meaning.specs.Verdict.{IsRefused, text_limit};
@@ -71,6 +73,9 @@ pub fn run<S: Source, O: Sink, E: Sink>(
         → ¬ Rose (S.faults source.old) (S.faults source.new)
         → (result ≡ Status.Refused) ⊎ (result ≡ Status.Memory) }
 
+    // What was read, at every status: at most the limit and one byte, and what is left is a suffix of what was left.
+    ensures gave { GaveAtMost (S.left source.old) (S.left source.new) (text_limit + 1) }
+
     // Statuses 4 and 5, only where the count of faults rose in this call.
     ensures read_fault { result ≡ Status.ReadFault → Rose (S.faults source.old) (S.faults source.new) }
     ensures write_fault { result ≡ Status.WriteFault → Rose (O.faults out.old) (O.faults out.new) }
@@ -114,6 +119,7 @@ fn make_output<S: Source>(
     ensures usage_exactly { ¬ IsCommand words.now.items → IsErrOf result Stop.Usage }
     ensures refused { (r : Refusal) → IsErrOf result (Stop.Refused r) → IsRefusedAt (S.left source.old) r }
     ensures fault { IsErrOf result Stop.ReadFault → Rose (S.faults source.old) (S.faults source.new) }
+    ensures gave { GaveAtMost (S.left source.old) (S.left source.new) (text_limit + 1) }
 {
     if !is_command(words) {
         return Err(Stop::Usage);

@@ -4,6 +4,7 @@ use Rattle.std.specs.List.{flat_map, range_with_len}
 use Rattle.std.specs.Option.{option_map_or, option_to_list}
 use Rattle.homeo_syntax.specs.Source as s
 use Rattle.homeo_meaning.specs.declared.call.CallId.{CallId}
+use Rattle.homeo_meaning.specs.Calls.{CallExists}
 use Rattle.homeo_meaning.specs.Schema.{nat_of}
 use Rattle.homeo_meaning.specs.Initial.{initial}
 use Rattle.homeo_meaning.specs.Serial.{call_outcome, serial}
@@ -44,9 +45,14 @@ pub record IsFramed (w : s.Workload) (rounds : List Round) : Type 0 where
   pub closed : OnlyLastIsOpen rounds
 
 -- ---- each call at its client's site
+-- a client at the site has the call
+pub record IsCallAt (w : s.Workload) (site : ℕ) (call : CallId) : Type 0 where
+  pub exists : CallExists w call
+  pub at_site : site_of w call ≡ Some site
+
 pub record IsAtSites (w : s.Workload) (r : Round) : Type 0 where
-  pub segments : (site : ℕ) → All (λ e. site_of w e.call ≡ Some site) (segment_of r.segments site)
-  pub closing : IfSome r.closing (λ c. site_of w c.entry.call ≡ Some c.site)
+  pub segments : (site : ℕ) → All (λ e. IsCallAt w site e.call) (segment_of r.segments site)
+  pub closing : IfSome r.closing (λ c. IsCallAt w c.site c.entry.call)
 
 -- ---- each client's calls in order
 abbrev pub entries_of : Round → List Entry

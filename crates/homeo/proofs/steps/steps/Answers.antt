@@ -12,7 +12,7 @@ use Rattle.homeo_history.specs.declared.history.History.{History}
 use Rattle.homeo_history.specs.HistoryView.{plain_history}
 use Rattle.homeo_history.specs.Legal.{IsFull}
 use Rattle.homeo_history.specs.Follows.{Follows}
-use Rattle.homeo_history.specs.Stepwise.{stepwise}
+use Rattle.homeo_history.specs.Stepwise.{stepwise, stepwise_history}
 use Rattle.homeo.specs.Order.{scheduled_calls}
 use Rattle.homeo.specs.Scheduled.{IsWholeOrder}
 use Rattle.std.proofs.lemmas.Result.{IfOk-weaker}
@@ -20,7 +20,7 @@ use Rattle.homeo_meaning.specs.Schema.{schema_of}
 use Rattle.homeo_meaning.specs.Bounds.{IsWithin}
 use Rattle.homeo_report.specs.Report.{CanReport}
 use Rattle.homeo_report.proofs.CanReport.{can_report}
-use Rattle.homeo.proofs.Stepping.{all_exist, steps_full, steps_follow}
+use Rattle.homeo.proofs.Stepping.{all_exist, stepwise_made, steps_full, steps_follow}
 use Rattle.homeo.proofs.steps.steps.Goals as goal
 
 is_full : (w : s.Workload) (base : List ℤ) (calls : List CallId) (result : Result History Memory) → IsWholeOrder w → base ≡ initial w → calls ≡ scheduled_calls w
@@ -56,3 +56,14 @@ returns-clause-reportable c =
     let w = plain_workload c.args.w.now in
     IfOk-weaker c.run_calls.result (λ (h : History). IsWithin (schema_of w) (plain_history h).last) (λ (h : History). CanReport w (plain_history h))
     (λ h within. can_report w (plain_history h) within) c.run_calls.ensures.within
+
+is_stepwise : (w : s.Workload) (base : List ℤ) (calls : List CallId) (result : Result History Memory) → base ≡ initial w → calls ≡ scheduled_calls w
+    → IfOk result (λ h. (plain_history h).rounds ≡ stepwise w base calls) → IfOk result (λ h. (plain_history h).last ≡ (serial w base calls).database)
+    → IfOk result (λ h. plain_history h ≡ stepwise_history w (scheduled_calls w))
+is_stepwise w base calls (Ok h) start order rounds last = stepwise_made w (plain_history h) base calls rounds last start order
+is_stepwise w base calls (Err e) start order rounds last = tt
+
+pub returns-clause-stepwise : goal.returns-clause-stepwise
+returns-clause-stepwise c =
+    let order : c.as_slice.result.now ≡ scheduled_calls (plain_workload c.args.w.now) = c.as_slice.ensures.value ∙ c.in_ok-calls.ensures ∙ ap (λ (w : Workload). scheduled_calls (plain_workload w)) c.workload.ensures.value in
+    is_stepwise (plain_workload c.args.w.now) _ _ c.run_calls.result c.in_ok-database.ensures.value order c.run_calls.ensures.rounds c.run_calls.ensures.last
