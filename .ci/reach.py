@@ -1,8 +1,9 @@
 #!/usr/bin/env python3
 """How much of the definitions in specs/ the public contracts reach: what a reader has to believe.
 
-.ci/reach.py            prints the figures, and the files of specs/ that no public contract reaches
-.ci/reach.py DEFINITION prints by which chain of names a definition, as homeo_split.specs.Places.places, is reached
+.ci/reach.py              prints the figures, and the files of specs/ that no public contract reaches
+.ci/reach.py --misplaced  prints each definition of specs/ that no public contract reaches, and each of specs/inner/ that one does
+.ci/reach.py DEFINITION   prints by which names a definition, as homeo_meaning.specs.Weights.number_weight, is reached
 
 A line counts if it is no comment, no import, no `mod` line and not blank. Lines are counted by definition: a `data` or `record`
 is one, with its constructors and fields, and so is a function with its equations.
@@ -16,7 +17,8 @@ Reached are the definitions that are named in
 What stands in specs/formers belongs to the type of its name. `.inner` in a path is nothing special: a definition there can be reached.
 
 It is read by names, and not by the prover, so it is right to a few lines in a hundred: a variable that is spelled as an imported
-name counts as that name, and of a name behind a dot only the front counts, unless that is a module.
+name counts as that name, of a name behind a dot only the front counts, unless that is a module, and an operator of this project's
+own that is written between its arguments isn't seen.
 """
 import collections
 import pathlib
@@ -333,8 +335,17 @@ def chain(reach, word):
     return [*said, f"{thing.crate}: {thing.owner or ''} {thing.name.strip()}" if thing else "by its place"]
 
 
+def misplaced(reach):
+    found = reach.of_all()
+    every = [it for module in reach.modules.values() for it in module.own]
+    return [f"{'unreached' if it not in found else 'reached'}: {it.module}.{it.name}" for it in every if (it in found) == (".specs.inner." in it.module)]
+
+
 def main():
     reach = Reach(ROOT)
+    if sys.argv[1:] == ["--misplaced"]:
+        print("\n".join(misplaced(reach)))
+        return
     if len(sys.argv) > 1:
         print("\n".join(chain(reach, sys.argv[1])))
         return
