@@ -1,0 +1,28 @@
+"""Parts of a document that a script writes, between two marker lines."""
+
+
+def begin_of(name):
+    return f"<!-- {name}: from here a script of bench/ writes -->"
+
+
+def end_of(name):
+    return f"<!-- {name}: to here -->"
+
+
+def put(document, name, lines):
+    """Writes the lines between the markers of that name, in the place of what stood there. Returns None, or what is wanting."""
+    text = document.read_text()
+    front, begin, rest = text.partition(begin_of(name) + "\n")
+    _, end, back = rest.partition(end_of(name) + "\n")
+    if not begin or not end:
+        return f"{document.name} has no lines {begin_of(name)} and {end_of(name)}, between which this goes"
+    made = front + begin + "\n".join(["", *lines, "", ""]) + end + back
+    if made != text:
+        document.write_text(made)
+    return None
+
+
+def table(heads, rows):
+    """A table in Markdown, its first column words and the others numbers."""
+    said = [heads, ["---", *["---:"] * (len(heads) - 1)], *rows]
+    return [f"| {' | '.join(str(cell) for cell in row)} |" for row in said]
