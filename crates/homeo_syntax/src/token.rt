@@ -1,4 +1,4 @@
-//! Tokens: what the grammar is made of.
+//! Tokens: what the grammar is made of (this project's rule).
 
 ghost use Rattle.std.specs.Prelude.{◌≡◌};
 ghost use Rattle.homeo_syntax.specs.Marks.{mark_text};
@@ -131,7 +131,7 @@ impl Mark {
     }
 }
 
-/// What a token is: a name by its place among the names of the text, a number, or a mark.
+/// What a token is: a name by its index among the distinct names of the text, a number without a sign, or a mark.
 #[derive(Clone, Copy, Debug, PartialEq, Eq)]
 pub enum Kind {
     Name(u32),
@@ -139,7 +139,7 @@ pub enum Kind {
     Fixed(Mark),
 }
 
-/// A token, and the offset of its first byte.
+/// A token, and the offset of its first byte in the text, in bytes from 0.
 #[derive(Clone, Copy, Debug, PartialEq, Eq)]
 pub struct Token {
     pub kind: Kind,
