@@ -130,7 +130,7 @@ scan_spelled (suc skip) at [] = tt
 scan_spelled (suc skip) at (b ∷ bytes) = scan_spelled skip (at + 1) bytes
 scan_spelled zero at (b ∷ bytes) =
     found_spelled at (is_space b) (lexeme_of (b ∷ bytes)) (λ more. scanned_from more (at + 1) bytes)
-      (lexeme_spelled (b ∷ bytes)) (λ k. scan_spelled k (at + 1) bytes)
+    (lexeme_spelled (b ∷ bytes)) (λ k. scan_spelled k (at + 1) bytes)
 
 pub scanned_spelled : (text : List ℕ) (scanned : List Scanned) → scanned_of text ≡ Ok scanned → AllSpelled scanned
 scanned_spelled text scanned e = subst ResultSpelled e (scan_spelled 0 0 text)
