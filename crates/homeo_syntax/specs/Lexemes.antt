@@ -1,9 +1,10 @@
 -- The token that a text begins with.
-use Rattle.std.specs.Prelude.{ℕ, ℤ, pos, ◌+◌, ◌-◌, ◌*◌, Bool, ◌||◌, ◌&&◌, ◌==◌, nat_le, nat_lt, List, [], ◌∷◌, length, codes, Option, Some, None, option_map, if◌then◌else◌}
-use Rattle.std.specs.List.{take_while}
+use Rattle.std.specs.Prelude.{ℕ, ℤ, pos, ◌+◌, ◌-◌, ◌*◌, Bool, ◌||◌, ◌&&◌, ◌==◌, nat_le, nat_lt, List, [], ◌∷◌, length, Option, Some, None, option_map, if◌then◌else◌}
+use Rattle.std.specs.List.{find, take_while}
 use Rattle.std.specs.Str.{bytes_eq}
 use Rattle.homeo_syntax.specs.declared.token.Mark.{Mark}
 use Rattle.homeo_syntax.specs.declared.token.Mark.TheVariants as mark
+use Rattle.homeo_syntax.specs.Marks.{mark_text}
 
 -- ---- bytes
 -- space, tab, carriage return and newline
@@ -22,68 +23,26 @@ is_word b = is_letter b || is_digit b || b == 95
 
 -- ---- what stands for itself
 -- the words that are no names
-abbrev pub reserved : List (List ℕ × Mark)
+abbrev pub reserved : List Mark
 reserved =
-    (codes "workload", mark.Workload) ∷
-    (codes "sites", mark.Sites) ∷
-    (codes "object", mark.Object) ∷
-    (codes "in", mark.In) ∷
-    (codes "relation", mark.Relation) ∷
-    (codes "transaction", mark.Transaction) ∷
-    (codes "client", mark.Client) ∷
-    (codes "at", mark.At) ∷
-    (codes "schedule", mark.Schedule) ∷
-    (codes "end", mark.End) ∷
-    (codes "if", mark.If) ∷
-    (codes "then", mark.Then) ∷
-    (codes "else", mark.Else) ∷
-    (codes "skip", mark.Skip) ∷
-    (codes "write", mark.Write) ∷
-    (codes "read", mark.Read) ∷
-    (codes "print", mark.Print) ∷
-    (codes "foreach", mark.Foreach) ∷
-    (codes "of", mark.Of) ∷
-    (codes "when", mark.When) ∷
-    (codes "insert", mark.Insert) ∷
-    (codes "into", mark.Into) ∷
-    (codes "delete", mark.Delete) ∷
-    (codes "update", mark.Update) ∷
-    (codes "set", mark.Set) ∷
-    (codes "count", mark.Count) ∷
-    (codes "sum", mark.Sum) ∷
-    (codes "used", mark.Used) ∷
-    (codes "and", mark.And) ∷
-    (codes "not", mark.Not) ∷
-    (codes "true", mark.True) ∷
-    []
+    mark.Workload ∷ mark.Sites ∷ mark.Object ∷ mark.In ∷ mark.Relation ∷ mark.Transaction ∷ mark.Client ∷ mark.At ∷
+    mark.Schedule ∷ mark.End ∷ mark.If ∷ mark.Then ∷ mark.Else ∷ mark.Skip ∷ mark.Write ∷ mark.Read ∷ mark.Print ∷
+    mark.Foreach ∷ mark.Of ∷ mark.When ∷ mark.Insert ∷ mark.Into ∷ mark.Delete ∷ mark.Update ∷ mark.Set ∷
+    mark.Count ∷ mark.Sum ∷ mark.Used ∷ mark.And ∷ mark.Not ∷ mark.True ∷ []
 
 -- the symbols of two bytes
-abbrev pub double_symbols : List (List ℕ × Mark)
-double_symbols = (codes ":=", mark.Assign) ∷ (codes "..", mark.Dots) ∷ (codes "<=", mark.LessEqual) ∷ []
+abbrev pub double_symbols : List Mark
+double_symbols = mark.Assign ∷ mark.Dots ∷ mark.LessEqual ∷ []
 
 -- the symbols of one byte
-abbrev pub single_symbols : List (List ℕ × Mark)
+abbrev pub single_symbols : List Mark
 single_symbols =
-    (codes "<", mark.Less) ∷
-    (codes "=", mark.Equal) ∷
-    (codes "+", mark.Plus) ∷
-    (codes "-", mark.Minus) ∷
-    (codes "*", mark.Star) ∷
-    (codes "(", mark.Open) ∷
-    (codes ")", mark.Close) ∷
-    (codes "[", mark.OpenBracket) ∷
-    (codes "]", mark.CloseBracket) ∷
-    (codes "{", mark.OpenBrace) ∷
-    (codes "}", mark.CloseBrace) ∷
-    (codes ",", mark.Comma) ∷
-    (codes ";", mark.Semicolon) ∷
-    (codes ".", mark.Dot) ∷
-    []
+    mark.Less ∷ mark.Equal ∷ mark.Plus ∷ mark.Minus ∷ mark.Star ∷ mark.Open ∷ mark.Close ∷ mark.OpenBracket ∷
+    mark.CloseBracket ∷ mark.OpenBrace ∷ mark.CloseBrace ∷ mark.Comma ∷ mark.Semicolon ∷ mark.Dot ∷ []
 
--- what stands beside these bytes in a table
-abbrev pub look_up : List (List ℕ × Mark) → List ℕ → Option Mark
-look_up [] w = None
-look_up (row ∷ rows) w = if bytes_eq w row.0 then Some row.1 else look_up rows w
+-- the mark among these that is spelled so
+abbrev pub look_up : List Mark → List ℕ → Option Mark
+look_up marks w = find (λ m. bytes_eq w (mark_text m)) marks
 
 -- ---- lexemes
 -- A token before names have numbers: a name with its bytes, a number, or a mark.

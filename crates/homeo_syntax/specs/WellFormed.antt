@@ -1,5 +1,5 @@
 -- What is true of each workload that a text reads as.
-use Rattle.std.specs.Prelude.{◌≡◌, ◌≢◌, ◌<◌, ◌≤◌, ℕ, pos, ◌≤ℤ◌, ⊤, IsTrue, List, [], ◌∷◌, length, AllPairs, Option, Some, None}
+use Rattle.std.specs.Prelude.{◌≡◌, ◌≢◌, ◌<◌, ◌≤◌, ◌^◌, ℕ, ℤ, pos, ◌≤ℤ◌, ⊤, IsTrue, List, [], ◌∷◌, length, AllPairs, Option, Some, None}
 use Rattle.std.specs.List.{list_all}
 use Rattle.homeo_syntax.specs.declared.phrase.Ident.{Ident}
 use Rattle.homeo_syntax.specs.declared.workload.ObjectDecl.{ObjectDecl}
@@ -18,6 +18,12 @@ pub record IsName (w : List ℕ) : Type 0 where
   pub all : IsTrue (list_all is_word w)
   pub short : length w ≤ 32
   pub free : look_up reserved w ≡ None
+
+-- a number of at most 18 digits, without a sign
+pub record IsShort (n : ℤ) : Type 0 where
+  pub size : ℕ
+  pub value : n ≡ pos size
+  pub short : size < 10 ^ 18
 
 -- ---- a fact of each identifier
 abbrev pub Each : {A : Type 0} → (A → Type 0) → List A → Type 0

@@ -1,4 +1,7 @@
-//! Tokens: what the grammar is made of.
+//! Tokens: what the grammar is made of (this project's rule).
+
+ghost use Rattle.std.specs.Prelude.{◌≡◌};
+ghost use Rattle.homeo_syntax.specs.Marks.{mark_text};
 
 /// A symbol or a reserved word.
 #[derive(Clone, Copy, Debug, PartialEq, Eq)]
@@ -70,7 +73,65 @@ pub enum Mark {
     True,
 }
 
-/// What a token is: a name by its place among the names of the text, a number, or a mark.
+impl Mark {
+    /// How the mark is spelled: one to eleven bytes of ASCII.
+    pub fn text(self) -> &'static [u8]
+        ensures { result.now ≡ mark_text self }
+    {
+        match self {
+            Mark::Assign => b":=",
+            Mark::Dots => b"..",
+            Mark::LessEqual => b"<=",
+            Mark::Less => b"<",
+            Mark::Equal => b"=",
+            Mark::Plus => b"+",
+            Mark::Minus => b"-",
+            Mark::Star => b"*",
+            Mark::Open => b"(",
+            Mark::Close => b")",
+            Mark::OpenBracket => b"[",
+            Mark::CloseBracket => b"]",
+            Mark::OpenBrace => b"{",
+            Mark::CloseBrace => b"}",
+            Mark::Comma => b",",
+            Mark::Semicolon => b";",
+            Mark::Dot => b".",
+            Mark::Workload => b"workload",
+            Mark::Sites => b"sites",
+            Mark::Object => b"object",
+            Mark::In => b"in",
+            Mark::Relation => b"relation",
+            Mark::Transaction => b"transaction",
+            Mark::Client => b"client",
+            Mark::At => b"at",
+            Mark::Schedule => b"schedule",
+            Mark::End => b"end",
+            Mark::If => b"if",
+            Mark::Then => b"then",
+            Mark::Else => b"else",
+            Mark::Skip => b"skip",
+            Mark::Write => b"write",
+            Mark::Read => b"read",
+            Mark::Print => b"print",
+            Mark::Foreach => b"foreach",
+            Mark::Of => b"of",
+            Mark::When => b"when",
+            Mark::Insert => b"insert",
+            Mark::Into => b"into",
+            Mark::Delete => b"delete",
+            Mark::Update => b"update",
+            Mark::Set => b"set",
+            Mark::Count => b"count",
+            Mark::Sum => b"sum",
+            Mark::Used => b"used",
+            Mark::And => b"and",
+            Mark::Not => b"not",
+            Mark::True => b"true",
+        }
+    }
+}
+
+/// What a token is: a name by its index among the distinct names of the text, a number without a sign, or a mark.
 #[derive(Clone, Copy, Debug, PartialEq, Eq)]
 pub enum Kind {
     Name(u32),
@@ -78,7 +139,7 @@ pub enum Kind {
     Fixed(Mark),
 }
 
-/// A token, and the offset of its first byte.
+/// A token, and the offset of its first byte in the text, in bytes from 0.
 #[derive(Clone, Copy, Debug, PartialEq, Eq)]
 pub struct Token {
     pub kind: Kind,

@@ -1,5 +1,5 @@
 -- The place of a name among names to which others are put.
-use Rattle.std.proofs.Common.{◌≡◌, ℕ, ◌+◌, Bool, true, false, List, [], ◌∷◌, ◌++◌, length, get_or, map, drop, append_assoc, add-one, drop-cons, ◌<◌, refl, sym, ap, ◌∙◌, arith}
+use Rattle.std.proofs.Common.{◌≡◌, ℕ, ◌+◌, Bool, true, false, List, [], ◌∷◌, ◌++◌, length, get_or, map, drop, append_assoc, add-one, drop-cons, ◌<◌, refl, sym, ap, ◌∙◌}
 use Rattle.std.specs.Prelude.{◌||◌, not, if◌then◌else◌}
 use Rattle.std.specs.Borrow.{Bor}
 use Rattle.std.specs.List.{list_any, position_or_len}
@@ -10,6 +10,7 @@ use Rattle.homeo_syntax.specs.declared.token.Kind.{Kind}
 use Rattle.homeo_syntax.specs.declared.token.Kind.TheVariants as kind
 use Rattle.homeo_syntax.specs.declared.token.Token.{Token}
 use Rattle.homeo_syntax.specs.Tokens.{Scanned, with_name, with_lexeme, names_after, place_of, kind_in, tokens_in}
+use Rattle.homeo_syntax.proofs.Names.{bytes_same, any_put, any_lexeme}
 use Rattle.homeo_tokens.specs.declared.scanner.Scanned.{Scanned as Written}
 use Rattle.homeo_tokens.specs.Views.{plain_lexeme, plain_scanned}
 
@@ -57,26 +58,6 @@ place_new : (w : List ℕ) (names : List (List ℕ)) → bytes_eq w w ≡ true �
 place_new w [] r h = ap (λ (b : Bool). if not b then 1 + 0 else 0) r
 place_new w (n ∷ names) r h = last_place (bytes_eq w n) (list_any (bytes_eq w) names) _ _ h (λ e. place_new w names r e)
 
-or_later : (b c : Bool) → c ≡ true → (b || c) ≡ true
-or_later true c h = refl
-or_later false c h = h
-
-any_last : (w : List ℕ) (names : List (List ℕ)) → bytes_eq w w ≡ true → list_any (bytes_eq w) (names ++ w ∷ []) ≡ true
-any_last w [] r = ap (λ (b : Bool). b || false) r
-any_last w (n ∷ names) r = or_later (bytes_eq w n) _ (any_last w names r)
-
-or_more : (b c d : Bool) → (b || c) ≡ true → (c ≡ true → d ≡ true) → (b || d) ≡ true
-or_more true c d h k = refl
-or_more false c d h k = k h
-
-any_more : (w : List ℕ) (names more : List (List ℕ)) → list_any (bytes_eq w) names ≡ true → list_any (bytes_eq w) (names ++ more) ≡ true
-any_more w [] more h = let no : ⊥ = cc in absurd no
-any_more w (n ∷ names) more h = or_more (bytes_eq w n) (list_any (bytes_eq w) names) _ h (λ e. any_more w names more e)
-
-pub bytes_same : (w : List ℕ) → bytes_eq w w ≡ true
-bytes_same [] = refl
-bytes_same (b ∷ w) = grind (arith, bytes_same w)
-
 -- the place of a name after it is put to the names
 pub place_put : (names : List (List ℕ)) (w : List ℕ) → place_of (with_name names w) w ≡ place_of names w
 place_put names w = go (list_any (bytes_eq w) names) refl
@@ -85,31 +66,23 @@ place_put names w = go (list_any (bytes_eq w) names) refl
     go true e = refl
     go false e = place_new w names (bytes_same w) e
 
-pub any_put : (names : List (List ℕ)) (w : List ℕ) → list_any (bytes_eq w) (with_name names w) ≡ true
-any_put names w = go (list_any (bytes_eq w) names) refl
-  where
-    go : (b : Bool) → list_any (bytes_eq w) names ≡ b → list_any (bytes_eq w) (if b then names else names ++ w ∷ []) ≡ true
-    go true e = e
-    go false e = any_last w names (bytes_same w)
-
 -- and after further lexemes
-after_name : (w v : List ℕ) (names : List (List ℕ)) → list_any (bytes_eq w) names ≡ true → (place_of (with_name names v) w ≡ place_of names w) × (list_any (bytes_eq w) (with_name names v) ≡ true)
+after_name : (w v : List ℕ) (names : List (List ℕ)) → list_any (bytes_eq w) names ≡ true → place_of (with_name names v) w ≡ place_of names w
 after_name w v names h = go (list_any (bytes_eq v) names)
   where
-    go : (b : Bool) → (place_of (if b then names else names ++ v ∷ []) w ≡ place_of names w) × (list_any (bytes_eq w) (if b then names else names ++ v ∷ []) ≡ true)
-    go true = (refl, h)
-    go false = (place_stays w names (v ∷ []) h, any_more w names (v ∷ []) h)
+    go : (b : Bool) → place_of (if b then names else names ++ v ∷ []) w ≡ place_of names w
+    go true = refl
+    go false = place_stays w names (v ∷ []) h
 
-pub after_lexeme : (w : List ℕ) (l : Lexeme) (names : List (List ℕ)) → list_any (bytes_eq w) names ≡ true → (place_of (with_lexeme names l) w ≡ place_of names w) × (list_any (bytes_eq w) (with_lexeme names l) ≡ true)
+after_lexeme : (w : List ℕ) (l : Lexeme) (names : List (List ℕ)) → list_any (bytes_eq w) names ≡ true → place_of (with_lexeme names l) w ≡ place_of names w
 after_lexeme w (Name v) names h = after_name w v names h
-after_lexeme w (Number n) names h = (refl, h)
-after_lexeme w (Fixed m) names h = (refl, h)
+after_lexeme w (Number n) names h = refl
+after_lexeme w (Fixed m) names h = refl
 
 pub place_after : (w : List ℕ) (ts : List Scanned) (names : List (List ℕ)) → list_any (bytes_eq w) names ≡ true → place_of (names_after names ts) w ≡ place_of names w
 place_after w [] names h = refl
 place_after w (t ∷ ts) names h =
-    let s = after_lexeme w t.lexeme names h in
-    place_after w ts (with_lexeme names t.lexeme) s.1 ∙ s.0
+    place_after w ts (with_lexeme names t.lexeme) (any_lexeme w t.lexeme names h) ∙ after_lexeme w t.lexeme names h
 
 kind_after : (names : List (List ℕ)) (l : Lexeme) (ts : List Scanned) → kind_in (names_after (with_lexeme names l) ts) l ≡ kind_in (with_lexeme names l) l
 kind_after names (Name w) ts = ap (λ (n : ℕ). kind.Name n) (place_after w ts (with_name names w) (any_put names w))

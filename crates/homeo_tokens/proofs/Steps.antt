@@ -5,7 +5,7 @@ use Rattle.std.proofs.Math.ListN.{drop_of_length-le, get_or-eq_default}
 use Rattle.std.proofs.lemmas.List.Folds.{length-prefix_len}
 use Rattle.std.proofs.lemmas.List.Sums.{prefix_len-le-length, prefix_len_passes}
 use Rattle.std.proofs.Math.Nat.{pow-le-pow_right}
-use Rattle.std.specs.Prelude.{Option, Some, None, Result, Ok, Err, nat_lt, if◌then◌else◌, ◌||◌, ◌==◌, IsUtf8, pos, FitsSigned}
+use Rattle.std.specs.Prelude.{Option, Some, None, Result, Ok, Err, nat_lt, if◌then◌else◌, IsUtf8, pos, FitsSigned}
 use Rattle.std.specs.List.{prefix_len, take_while}
 use Rattle.std.proofs.lemmas.Bool.{cases_lt}
 use Rattle.std.proofs.lemmas.Int.{fits_signed_from_abs, to_z_pos}
@@ -13,6 +13,7 @@ use Rattle.std.proofs.lemmas.Str.{IsUtf8-from_ascii}
 use Rattle.homeo_syntax.specs.declared.token.Mark.{Mark}
 use Rattle.homeo_syntax.specs.Lexemes.{Lexeme, Number, is_space, is_letter, is_digit, is_word, value_after, number_value, look_up, reserved, double_symbols, single_symbols, longest, symbol_lexeme, word_as, word_lexeme, number_lexeme, lexeme_of}
 use Rattle.homeo_syntax.specs.Tokens.{Scanned, scanned_from, found, in_front}
+use Rattle.homeo_syntax.proofs.Spelling.{letter_word}
 use Rattle.homeo_tokens.specs.declared.scanner.Scanned.{Scanned as Written}
 use Rattle.homeo_tokens.specs.Views.{plain_scanned}
 use Rattle.homeo_tokens.proofs.Front.{in_front_all}
@@ -88,9 +89,6 @@ run_sized p b bytes n h e =
     let w = prefix_len-le-length p (b ∷ bytes) in
     let one : prefix_len p (b ∷ bytes) ≡ 1 + prefix_len p bytes = ap (λ (t : Bool). if t then 1 + prefix_len p bytes else 0) h in
     (omega arith, omega arith)
-
-pub letter_word : (b : ℕ) → is_letter b ≡ true → is_word b ≡ true
-letter_word b h = ap (λ (t : Bool). t || is_digit b || (b == 95)) h
 
 abbrev lexeme_len : Option (Lexeme × ℕ) → ℕ
 lexeme_len None = 0

@@ -1,9 +1,10 @@
-//! The token that a text begins with.
+//! The token that a text begins with (this project's rule).
 
-ghost use Rattle.std.specs.Prelude.{◌≡◌, ◌<◌, ◌≤◌, ◌^◌, ℕ, length, option_map, map, EachIndex, IsTrue, slice_index, pos};
+ghost use Rattle.std.specs.Prelude.{◌≡◌, ◌<◌, ◌≤◌, ◌^◌, ℕ, length, option_map, EachIndex, IsTrue, slice_index, pos};
 ghost use Rattle.std.specs.List.{prefix_len};
 ghost use Rattle.homeo_syntax.specs.Lexemes as spec;
-ghost use Rattle.homeo_tokens.specs.Views.{plain_lexeme, plain_found, row, fixed, symbol_lexeme};
+ghost use Rattle.homeo_tokens.specs.Views.{plain_lexeme};
+ghost use Rattle.homeo_tokens.specs.inner.Lexemes.{plain_found, fixed, symbol_lexeme};
 
 use homeo_syntax::Mark;
 
@@ -16,71 +17,68 @@ pub enum Lexeme<'a> {
 }
 
 /// The words that are no names.
-const RESERVED: [(&[u8], Mark); 31] = [
-    (b"workload", Mark::Workload),
-    (b"sites", Mark::Sites),
-    (b"object", Mark::Object),
-    (b"in", Mark::In),
-    (b"relation", Mark::Relation),
-    (b"transaction", Mark::Transaction),
-    (b"client", Mark::Client),
-    (b"at", Mark::At),
-    (b"schedule", Mark::Schedule),
-    (b"end", Mark::End),
-    (b"if", Mark::If),
-    (b"then", Mark::Then),
-    (b"else", Mark::Else),
-    (b"skip", Mark::Skip),
-    (b"write", Mark::Write),
-    (b"read", Mark::Read),
-    (b"print", Mark::Print),
-    (b"foreach", Mark::Foreach),
-    (b"of", Mark::Of),
-    (b"when", Mark::When),
-    (b"insert", Mark::Insert),
-    (b"into", Mark::Into),
-    (b"delete", Mark::Delete),
-    (b"update", Mark::Update),
-    (b"set", Mark::Set),
-    (b"count", Mark::Count),
-    (b"sum", Mark::Sum),
-    (b"used", Mark::Used),
-    (b"and", Mark::And),
-    (b"not", Mark::Not),
-    (b"true", Mark::True),
+const RESERVED: [Mark; 31] = [
+    Mark::Workload,
+    Mark::Sites,
+    Mark::Object,
+    Mark::In,
+    Mark::Relation,
+    Mark::Transaction,
+    Mark::Client,
+    Mark::At,
+    Mark::Schedule,
+    Mark::End,
+    Mark::If,
+    Mark::Then,
+    Mark::Else,
+    Mark::Skip,
+    Mark::Write,
+    Mark::Read,
+    Mark::Print,
+    Mark::Foreach,
+    Mark::Of,
+    Mark::When,
+    Mark::Insert,
+    Mark::Into,
+    Mark::Delete,
+    Mark::Update,
+    Mark::Set,
+    Mark::Count,
+    Mark::Sum,
+    Mark::Used,
+    Mark::And,
+    Mark::Not,
+    Mark::True,
 ];
 
 /// The symbols of two bytes.
-const DOUBLE_SYMBOLS: [(&[u8], Mark); 3] = [
-    (b":=", Mark::Assign),
-    (b"..", Mark::Dots),
-    (b"<=", Mark::LessEqual),
-];
+const DOUBLE_SYMBOLS: [Mark; 3] = [Mark::Assign, Mark::Dots, Mark::LessEqual];
 
 /// The symbols of one byte.
-const SINGLE_SYMBOLS: [(&[u8], Mark); 14] = [
-    (b"<", Mark::Less),
-    (b"=", Mark::Equal),
-    (b"+", Mark::Plus),
-    (b"-", Mark::Minus),
-    (b"*", Mark::Star),
-    (b"(", Mark::Open),
-    (b")", Mark::Close),
-    (b"[", Mark::OpenBracket),
-    (b"]", Mark::CloseBracket),
-    (b"{", Mark::OpenBrace),
-    (b"}", Mark::CloseBrace),
-    (b",", Mark::Comma),
-    (b";", Mark::Semicolon),
-    (b".", Mark::Dot),
+const SINGLE_SYMBOLS: [Mark; 14] = [
+    Mark::Less,
+    Mark::Equal,
+    Mark::Plus,
+    Mark::Minus,
+    Mark::Star,
+    Mark::Open,
+    Mark::Close,
+    Mark::OpenBracket,
+    Mark::CloseBracket,
+    Mark::OpenBrace,
+    Mark::CloseBrace,
+    Mark::Comma,
+    Mark::Semicolon,
+    Mark::Dot,
 ];
 
-/// The longest name.
+/// The most bytes of a name.
 const LONGEST_NAME: usize = 32;
 
 /// The most digits of a number.
 const MOST_DIGITS: usize = 18;
 
+/// A space, a tab, a carriage return or a newline.
 pub fn is_space(b: u8) -> bool
     ensures { result ≡ spec.is_space b }
 {
@@ -105,16 +103,11 @@ fn is_word(b: u8) -> bool
     is_letter(b) || is_digit(b) || b == b'_'
 }
 
-/// The mark that stands beside these bytes in a table.
-fn look_up(table: &[(&[u8], Mark)], text: &[u8]) -> Option<Mark>
-    ensures { result ≡ spec.look_up (map row table.now) text.now }
+/// The mark among these that is spelled so.
+fn look_up(marks: &[Mark], text: &[u8]) -> Option<Mark>
+    ensures { result ≡ spec.look_up marks.now text.now }
 {
-    for (bytes, mark) in table {
-        if text == *bytes {
-            return Some(*mark);
-        }
-    }
-    None
+    marks.iter().copied().find(|mark| text == mark.text())
 }
 
 /// The mark of a reserved word.
@@ -136,7 +129,7 @@ fn single_symbol(text: &[u8]) -> Option<Mark>
     look_up(&SINGLE_SYMBOLS, text)
 }
 
-/// The symbol that the text begins with, the longest that fits, and its length.
+/// The symbol that the text begins with, the longest that fits, and its length in bytes.
 fn symbol(text: &[u8]) -> Option<(Mark, usize)>
     requires { 0 < length text.now }
     ensures { option_map fixed result ≡ symbol_lexeme text.now }
@@ -191,7 +184,7 @@ fn number(digits: &[u8]) -> i64
     value as i64
 }
 
-/// The token that the text begins with, the longest that fits, and its length.
+/// The token that the text begins with, the longest that fits, and its length in bytes.
 pub fn first_lexeme(text: &[u8]) -> Option<(Lexeme<'_>, usize)>
     ensures { plain_found result ≡ spec.lexeme_of text.now }
 {

@@ -1,4 +1,4 @@
-//! From a text to its tokens, with each name as its place among the distinct names.
+//! From a text to its tokens, with each name as its index among the distinct names.
 #![tactic(auto)]
 
 mod lexeme;

@@ -1,9 +1,10 @@
-//! The names of a text as numbers.
+//! The names of a text as numbers (this project's rule).
 
 ghost use Rattle.std.specs.Prelude.{◌≡◌, ◌+◌, ◌<◌, ◌≤◌, ◌^◌, length, map, IfOk, OnOk};
 ghost use Rattle.indexmap.specs.IndexSet.{index_set_len};
 ghost use Rattle.homeo_syntax.specs.Tokens.{kind_in, names_of, tokens_in, with_lexeme};
-ghost use Rattle.homeo_tokens.specs.Views.{plain_lexeme, plain_scanned, plain_names};
+ghost use Rattle.homeo_tokens.specs.Views.{plain_lexeme, plain_scanned};
+ghost use Rattle.homeo_tokens.specs.inner.Names.{plain_names};
 
 use crate::lexeme::Lexeme;
 use crate::scanner::Scanned;
@@ -11,7 +12,7 @@ use homeo_syntax::{Kind, List, Memory, Text, Token};
 use indexmap::IndexSet;
 use std::alloc::Global;
 
-/// The tokens of a text, and the distinct names that they number.
+/// The tokens of a text, and the distinct names that they number: a name token has its name's index, from 0.
 #[derive(Drop)]
 pub struct Numbered {
     pub tokens: Vec<Token>,
@@ -27,7 +28,7 @@ fn number_lexeme<'a>(names: &mut IndexSet<&'a str>, lexeme: Lexeme<'a>) -> Resul
 {
     match lexeme {
         Lexeme::Name(name) => match names.insert_full(name) {
-            Ok((place, _)) => Ok(Kind::Name(place as u32)),
+            Ok((index, _)) => Ok(Kind::Name(index as u32)),
             Err(_) => Err(Memory),
         },
         Lexeme::Number(value) => Ok(Kind::Number(value)),
@@ -46,8 +47,12 @@ fn copy_names(alloc: Global, names: &IndexSet<&str>) -> Result<List<Text>, Memor
     Ok(texts)
 }
 
-/// The tokens with each name as its place among the distinct names, in first-seen order, in the time that their
-/// number takes. The only error is want of memory.
+/// The tokens with each name as its index among the distinct names, which are in first-seen order. It takes time in
+/// proportion to their number.
+///
+/// # Errors
+///
+/// `Memory` when out of memory.
 pub fn number_names(alloc: Global, scanned: &[Scanned<'_>]) -> Result<Numbered, Memory>
     requires { length scanned.now < 2 ^ 32 }
     ensures names { IfOk result (λ n. n.names.items ≡ names_of (map plain_scanned scanned.now)) }

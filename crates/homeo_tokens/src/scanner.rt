@@ -1,4 +1,4 @@
-//! The tokens of a text, before names have numbers.
+//! The tokens of a text, before names have numbers (this project's rule).
 
 ghost use Rattle.std.specs.Prelude.{◌≡◌, ◌≤◌, length, map, not, position, Ok, Err, IfOk, IfErr};
 ghost use Rattle.homeo_syntax.specs.Tokens.{is_good, scanned_of};
@@ -8,17 +8,19 @@ ghost use Rattle.homeo_tokens.specs.Scans.{Stops};
 use crate::lexeme::{Lexeme, first_lexeme, is_space};
 use std::alloc::{AllocError, AllocFailed, Global};
 
-/// A token before names have numbers, and the offset of its first byte.
+/// A token before names have numbers, and the offset of its first byte in the text, in bytes from 0.
 #[derive(Clone, Copy, Debug)]
 pub struct Scanned<'a> {
     pub lexeme: Lexeme<'a>,
     pub offset: usize,
 }
 
-/// Why a text has no tokens: want of memory, or no token begins at this offset.
+/// Why a text has no tokens.
 #[derive(Clone, Copy, Debug, PartialEq, Eq)]
 pub enum ScanError {
+    /// An allocation failed.
     Memory,
+    /// No token begins at this offset, in bytes from 0.
     At(usize),
 }
 
@@ -51,15 +53,19 @@ fn is_good(b: u8) -> bool
     (b >= b' ' && b <= b'~') || is_space(b)
 }
 
-/// The offset of the first byte that is no printing ASCII, space, tab or end of line.
+/// The offset of the first byte that is no printing ASCII, space, tab or end of line, in bytes from 0.
 pub fn first_bad_byte(text: &[u8]) -> Option<usize>
     ensures { result ≡ position (λ b. not (is_good b)) text.now }
 {
     text.iter().position(|b| !is_good(*b))
 }
 
-/// The tokens of a text, in the time that its length takes; or the offset of the first byte at which a token
-/// should begin and none does. The other error is want of memory.
+/// The tokens of a text, in time in proportion to its length.
+///
+/// # Errors
+///
+/// `At` with the offset of the first byte at which a token should begin and none does, in bytes from 0, and `Memory`
+/// when out of memory.
 pub fn scan(alloc: Global, text: &[u8]) -> Result<Vec<Scanned<'_>>, ScanError>
     ensures tokens { IfOk result (λ v. scanned_of text.now ≡ Ok (map plain_scanned v.items)) }
     ensures few { IfOk result (λ v. length v.items ≤ length text.now) }

@@ -2,7 +2,8 @@ use Rattle.std.proofs.Common.{ℕ, List, sym, ap, ◌∙◌}
 use Rattle.homeo_syntax.specs.declared.token.Kind.TheVariants as kind
 use Rattle.homeo_syntax.specs.Tokens.{kind_in, with_lexeme, place_of}
 use Rattle.homeo_tokens.specs.declared.lexeme.Lexeme.{Lexeme}
-use Rattle.homeo_tokens.specs.Views.{plain_lexeme, plain_names}
+use Rattle.homeo_tokens.specs.Views.{plain_lexeme}
+use Rattle.homeo_tokens.specs.inner.Names.{plain_names}
 use Rattle.homeo_tokens.proofs.Names.{seen_all, put_seen, place_seen, place_put}
 use Rattle.homeo_tokens.proofs.numbering.number_lexeme.Goals as goal
 

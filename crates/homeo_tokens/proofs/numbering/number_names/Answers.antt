@@ -1,6 +1,7 @@
 use Rattle.std.proofs.Common.{map, arith}
 use Rattle.homeo_syntax.specs.Tokens.{names_of}
-use Rattle.homeo_tokens.specs.Views.{plain_names, plain_scanned}
+use Rattle.homeo_tokens.specs.Views.{plain_scanned}
+use Rattle.homeo_tokens.specs.inner.Names.{plain_names}
 use Rattle.homeo_tokens.proofs.Names.{names_step, tokens_step}
 use Rattle.homeo_tokens.proofs.numbering.number_names.Goals as goal
 

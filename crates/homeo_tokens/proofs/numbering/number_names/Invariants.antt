@@ -1,7 +1,8 @@
 use Rattle.std.proofs.Common.{◌≡◌, ◌≤◌, ◌++◌, map, drop}
 use Rattle.indexmap.specs.IndexSet.{index_set_len}
 use Rattle.homeo_syntax.specs.Tokens.{names_of, names_after, tokens_in}
-use Rattle.homeo_tokens.specs.Views.{plain_scanned, plain_names}
+use Rattle.homeo_tokens.specs.Views.{plain_scanned}
+use Rattle.homeo_tokens.specs.inner.Names.{plain_names}
 use Rattle.homeo_tokens.proofs.numbering.number_names.Given as goal
 
 abbrev pub invariant-token : goal.invariant-token
