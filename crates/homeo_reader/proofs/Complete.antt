@@ -4,7 +4,7 @@ use Rattle.std.specs.Prelude.{Ok, Err, if◌then◌else◌}
 use Rattle.homeo_syntax.specs.declared.token.Token.{Token}
 use Rattle.homeo_syntax.specs.Classes.{class_of}
 use Rattle.homeo_syntax.specs.Grammar.{Grammar, token, nothing, call, seq, alt, many, part, as_value, Repeats, Spells, Means}
-use Rattle.homeo_reader.specs.Engine.{◌>>=◌, Calls, calls_at, empty, exists, begins, first_is, read_token, repeat, read, Classes, apart, within, starts, goes_on, decides, decides_call, where_empty}
+use Rattle.homeo_reader.specs.inner.Engine.{◌>>=◌, Calls, calls_at, empty, exists, begins, first_is, read_token, repeat, read, Classes, apart, within, starts, goes_on, decides, decides_call, where_empty}
 use Rattle.homeo_reader.proofs.Bools.{and_split, if_true, if_false, not_false, not_true, has_left, has_right, has_where, has_apart, has_within}
 use Rattle.homeo_reader.proofs.Words.{Clear, Known, some_word, word_exists, empty_word, begun_exists, begun_starts, word_begins}
 use Rattle.homeo_reader.proofs.Outcomes.{read_outcome, repeat_ends, repeat_more, then_more, longer}

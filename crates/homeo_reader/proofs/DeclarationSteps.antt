@@ -13,10 +13,10 @@ use Rattle.homeo_syntax.specs.declared.workload.RangeDecl.{RangeDecl}
 use Rattle.homeo_syntax.specs.Source as s
 use Rattle.homeo_syntax.specs.Grammar.{seq, many, part, as_value}
 use Rattle.homeo_syntax.specs.Rules.{Command, Rule, Deep, Tree, rule, lead, closed, limit, ident, number, signed, range, separated, decl, fields, relation, parameters, block, invocation, calls, workload}
-use Rattle.homeo_reader.specs.Engine.{Calls, Reading, ◌>>=◌, read, calls_at, empty, exists, begins, first_is}
-use Rattle.homeo_reader.specs.Reading.{mark_read, if_marked, on_marked, opt_of, opt_read}
-use Rattle.homeo_reader.specs.Commands.{block_read}
-use Rattle.homeo_reader.specs.Declarations.{top, signed_read, signed_by, signed_do, range_read, range_do, object_rest, next_object_read, next_object_do, objects_read, after_first, decl_read, decl_do, first_decl_read, first_decl_by, first_decl_do, next_decl_read, next_decl_do, other_decls_read, fields_read, fields_do, relation_rest, next_relation_read, next_relation_do, relations_read, parameters_read, parameters_do, transaction_rest, next_transaction_read, next_transaction_do, transactions_read, first_argument_read, first_argument_by, first_argument_do, next_argument_read, next_argument_do, other_arguments_read, arguments_read, arguments_do, invocation_read, invocation_do, first_invocation_read, first_invocation_by, first_invocation_do, next_invocation_read, next_invocation_do, other_invocations_read, invocations_read, invocations_do, calls_read, calls_do, client_rest, next_client_read, next_client_do, clients_read, next_name_read, next_name_by, next_name_do, names_read, schedule_read, schedule_do, head_read, head_do, workload_read, workload_do}
+use Rattle.homeo_reader.specs.inner.Engine.{Calls, Reading, ◌>>=◌, read, calls_at, empty, exists, begins, first_is}
+use Rattle.homeo_reader.specs.inner.Reading.{mark_read, if_marked, on_marked, opt_of, opt_read}
+use Rattle.homeo_reader.specs.inner.Commands.{block_read}
+use Rattle.homeo_reader.specs.inner.Declarations.{top, signed_read, signed_by, signed_do, range_read, range_do, object_rest, next_object_read, next_object_do, objects_read, after_first, decl_read, decl_do, first_decl_read, first_decl_by, first_decl_do, next_decl_read, next_decl_do, other_decls_read, fields_read, fields_do, relation_rest, next_relation_read, next_relation_do, relations_read, parameters_read, parameters_do, transaction_rest, next_transaction_read, next_transaction_do, transactions_read, first_argument_read, first_argument_by, first_argument_do, next_argument_read, next_argument_do, other_arguments_read, arguments_read, arguments_do, invocation_read, invocation_do, first_invocation_read, first_invocation_by, first_invocation_do, next_invocation_read, next_invocation_do, other_invocations_read, invocations_read, invocations_do, calls_read, calls_do, client_rest, next_client_read, next_client_do, clients_read, next_name_read, next_name_by, next_name_do, names_read, schedule_read, schedule_do, head_read, head_do, workload_read, workload_do}
 use Rattle.homeo_reader.proofs.Flat.{read_then, reads, reads_part, flat, bind_assoc}
 use Rattle.homeo_reader.proofs.Lists.{opt_lead, opt_as, mapped}
 use Rattle.homeo_reader.proofs.CommandSteps.{begins_same}

@@ -5,12 +5,12 @@ use Rattle.homeo_syntax.specs.declared.token.Mark.TheVariants as mark
 use Rattle.homeo_syntax.specs.declared.token.Kind.{Kind}
 use Rattle.homeo_syntax.specs.declared.token.Kind.TheVariants as kind
 use Rattle.homeo_syntax.specs.declared.token.Token.{Token}
-use Rattle.homeo_reader.specs.Engine.{Reading, ◌>>=◌, read, calls_at}
+use Rattle.homeo_reader.specs.inner.Engine.{Reading, ◌>>=◌, read, calls_at}
 use Rattle.homeo_syntax.specs.Rules.{rule, factor, test}
 use Rattle.homeo_syntax.specs.declared.phrase.Ident.{Ident}
-use Rattle.homeo_reader.specs.Reading.{factor_read, factors_read, term_read, terms_read, expr_read, visit_read, visit_do, field_rest, after_name_read, after_name_by, after_name_do, count_rest, total_rest, factor_by, factor_do, term_do, expr_do}
+use Rattle.homeo_reader.specs.inner.Reading.{factor_read, factors_read, term_read, terms_read, expr_read, visit_read, visit_do, field_rest, after_name_read, after_name_by, after_name_do, count_rest, total_rest, factor_by, factor_do, term_do, expr_do}
 use Rattle.homeo_syntax.specs.Source as s
-use Rattle.homeo_reader.specs.Reading.{ident_read, mark_read, cond_read, cond_do, test_read, tests_read, test_do, comparison_read, comparison_do}
+use Rattle.homeo_reader.specs.inner.Reading.{ident_read, mark_read, cond_read, cond_do, test_read, tests_read, test_do, comparison_read, comparison_do}
 use Rattle.std.proofs.lemmas.Bool.{lt-ltb}
 use Rattle.homeo_syntax.specs.declared.phrase.Compare.{Compare}
 use Rattle.homeo_reader.proofs.Bools.{if_true}

@@ -3,7 +3,7 @@ use Rattle.std.proofs.Common.{◌≡◌, Bool, true, false, List, refl, ◌∙�
 use Rattle.std.specs.Prelude.{Ok, Err, if◌then◌else◌}
 use Rattle.homeo_syntax.specs.declared.token.Token.{Token}
 use Rattle.homeo_syntax.specs.Grammar.{Grammar, token, nothing, call, seq, alt, many, part, as_value}
-use Rattle.homeo_reader.specs.Engine.{Reading, ◌>>=◌, Calls, exists, begins, first_is, read_token, read}
+use Rattle.homeo_reader.specs.inner.Engine.{Reading, ◌>>=◌, Calls, exists, begins, first_is, read_token, read}
 
 unfoldable pub read_then : {Call : Type 0} {Value : Call → Type 0} {X Y : Type 0} → Calls Call Value → Grammar Call Value X → List Token → (X × List Token → Reading Y) → Reading Y
 read_then calls (token classes test value sample) ts k = read_token classes test value ts >>= k

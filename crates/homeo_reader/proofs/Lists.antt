@@ -7,9 +7,9 @@ use Rattle.homeo_syntax.specs.declared.token.Kind.TheVariants as kind
 use Rattle.homeo_syntax.specs.declared.token.Token.{Token}
 use Rattle.homeo_syntax.specs.Classes.{number_of}
 use Rattle.homeo_syntax.specs.Grammar.{many, alt, call, as_value, takes, Spells, Means}
-use Rattle.homeo_reader.specs.Engine.{Reading, ◌>>=◌, Calls, calls_at, empty, exists, begins, first_is, read, decides}
+use Rattle.homeo_reader.specs.inner.Engine.{Reading, ◌>>=◌, Calls, calls_at, empty, exists, begins, first_is, read, decides}
 use Rattle.homeo_syntax.specs.Rules.{Deep, Factor, Test, Tree, Rule, rule, lead, term, product_of, sum_of}
-use Rattle.homeo_reader.specs.FirstTokens.{classes}
+use Rattle.homeo_reader.specs.inner.FirstTokens.{classes}
 use Rattle.homeo_syntax.specs.declared.token.Mark.TheVariants as mark
 use Rattle.homeo_syntax.specs.Listed.{Listed}
 use Rattle.homeo_syntax.specs.Source as s
@@ -18,9 +18,9 @@ use Rattle.homeo_reader.specs.declared.parser.Fault.{Fault}
 use Rattle.homeo_reader.specs.declared.parser.Fault.TheVariants as fault
 use Rattle.homeo_syntax.specs.declared.phrase.Expr.{Expr}
 use Rattle.homeo_syntax.specs.declared.phrase.Test.{Test as Test_}
-use Rattle.homeo_reader.specs.Reading.{expr_views, test_views}
+use Rattle.homeo_reader.specs.inner.Reading.{expr_views, test_views}
 use Rattle.std.proofs.lemmas.List.{map-append}
-use Rattle.homeo_reader.specs.Reading.{opt_of, opt_read, on_marked, if_marked, next_factor_read, next_factor_do, next_term_read, next_term_do, test_read, next_test_read, next_test_do, Gives, mark_read, offset_read, with_front, factor_read, term_read}
+use Rattle.homeo_reader.specs.inner.Reading.{opt_of, opt_read, on_marked, if_marked, next_factor_read, next_factor_do, next_term_read, next_term_do, test_read, next_test_read, next_test_do, Gives, mark_read, offset_read, with_front, factor_read, term_read}
 use Rattle.homeo_reader.proofs.Bools.{and_split, not_true, if_true, if_false, or_left, and_join, not_both}
 use Rattle.homeo_reader.proofs.Words.{Outcome, Takes, begun_exists, empty_word}
 use Rattle.homeo_reader.proofs.Outcomes.{read_outcome, first_begins, longer}
@@ -112,12 +112,6 @@ pub exists_factor : (n : ℕ) → 0 < n → (calls_at rule n).exists Factor ≡ 
 unfolding calls_at
 exists_factor zero h = absurd (omega arith)
 exists_factor (suc n) h = refl
-
--- a phrase leaves no more than there was
-pub factor_leaves : (n : ℕ) (ts : List Token) (a : s.Expr) (r : List Token) → 0 < n → factor_read n ts ≡ Ok (a, r) → length r ≤ length ts
-unfolding factor_read
-factor_leaves n ts a r h e =
-    no_longer (Means rule n Factor) ((calls_at rule n).reads Factor) ts a r ((known_at classes rule decided n).outcome Factor ts (exists_factor n h)) e
 
 -- a fault of a part is a fault of the whole
 pub gives_err : {X Y X' Y' : Type 0} → (view : X → Y) (view' : X' → Y') (e : Fault) (rest : List Token) (part : Reading Y) (whole : Reading Y') →

@@ -5,7 +5,7 @@ use Rattle.std.specs.Prelude.{Ok, Err, if◌then◌else◌}
 use Rattle.homeo_syntax.specs.declared.token.Kind.{Kind}
 use Rattle.homeo_syntax.specs.declared.token.Token.{Token}
 use Rattle.homeo_syntax.specs.Grammar.{Grammar, token, nothing, call, seq, alt, many, part, as_value, takes, Repeats, Spells, SameHead}
-use Rattle.homeo_reader.specs.Engine.{Reading, ◌>>=◌, Calls, empty, exists, begins, first_is, read_token, repeat, read, Classes, decides}
+use Rattle.homeo_reader.specs.inner.Engine.{Reading, ◌>>=◌, Calls, empty, exists, begins, first_is, read_token, repeat, read, Classes, decides}
 use Rattle.homeo_reader.proofs.Bools.{and_split, or_split, if_true, if_false, not_true}
 use Rattle.homeo_reader.proofs.Words.{Takes, Outcome, Known, some_word, empty_word, begun_exists}
 

@@ -5,9 +5,9 @@ use Rattle.homeo_syntax.specs.declared.token.Token.{Token}
 use Rattle.homeo_syntax.specs.Source as s
 use Rattle.homeo_syntax.specs.Grammar.{Means, IsFault}
 use Rattle.homeo_syntax.specs.Rules.{rule, workload, limit, IsWorkload}
-use Rattle.homeo_reader.specs.Engine.{calls_at, all_of}
-use Rattle.homeo_reader.specs.FirstTokens.{classes}
-use Rattle.homeo_reader.specs.Declarations.{workload_read}
+use Rattle.homeo_reader.specs.inner.Engine.{calls_at, all_of}
+use Rattle.homeo_reader.specs.inner.FirstTokens.{classes}
+use Rattle.homeo_reader.specs.inner.Declarations.{workload_read}
 use Rattle.homeo_reader.proofs.Complete.{known_at}
 use Rattle.homeo_reader.proofs.Decided.{decided}
 use Rattle.homeo_reader.proofs.Whole.{Exact, all_exact, one_value}

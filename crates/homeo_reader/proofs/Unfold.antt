@@ -4,7 +4,7 @@ use Rattle.std.specs.Prelude.{Ok, Err}
 use Rattle.homeo_syntax.specs.declared.token.Kind.{Kind}
 use Rattle.homeo_syntax.specs.declared.token.Token.{Token}
 use Rattle.homeo_syntax.specs.Grammar.{Grammar, many, Spells, Repeats}
-use Rattle.homeo_reader.specs.Engine.{Reading, ◌>>=◌, Calls, empty, begins, first_is, read, repeat, Classes, decides}
+use Rattle.homeo_reader.specs.inner.Engine.{Reading, ◌>>=◌, Calls, empty, begins, first_is, read, repeat, Classes, decides}
 use Rattle.homeo_reader.proofs.Bools.{and_split, not_true}
 use Rattle.homeo_reader.proofs.Words.{Known, Outcome, Takes, begun_exists, empty_word}
 use Rattle.homeo_reader.proofs.Outcomes.{same_refl, first_begins, repeat_outcome, repeat_more, repeat_ends, then_more, OutcomeAll, read_outcome, longer}

@@ -1,6 +1,6 @@
 -- A text at fault reads as no workload, and a text reads as one at most.
 use Rattle.std.proofs.Common.{◌≡◌, ℕ, Bool, true, false, List, [], ◌∷◌, refl, subst, ap, ◌∙◌, sym, inl, inr, not, ◌+◌, length, map, cond}
-use Rattle.std.specs.Prelude.{Option, Some, None, Result, Ok, Err, position, ◌&&◌}
+use Rattle.std.specs.Prelude.{Option, Some, None, Result, Ok, Err, IfOk, position, ◌&&◌}
 use Rattle.std.specs.List.{list_all, position_from}
 use Rattle.std.proofs.lemmas.Iterator.Adapters.{position_from-zero}
 use Rattle.homeo_syntax.specs.declared.token.Token.{Token}
@@ -9,6 +9,7 @@ use Rattle.homeo_syntax.specs.Source as s
 use Rattle.homeo_syntax.specs.Tokens.{is_good, IsClean, Scanned, scanned_of, names_of, tokens_in}
 use Rattle.homeo_syntax.specs.Rules.{IsWorkload}
 use Rattle.homeo_syntax.specs.Reads.{Reads, IsUnread, offset_at}
+use Rattle.homeo_syntax.specs.WellFormed.{IsWellFormed}
 use Rattle.homeo_syntax.specs.declared.workload.Workload.{Workload}
 use Rattle.homeo_syntax.specs.SourceView.{plain_workload}
 use Rattle.homeo_syntax.specs.Grammar.{IsFault}
@@ -21,10 +22,11 @@ use Rattle.homeo_reader.specs.declared.parser.Fault.{Fault}
 use Rattle.homeo_reader.specs.declared.parser.Fault.TheVariants as fault
 use Rattle.homeo_reader.specs.declared.reader.ReadRefusal.{ReadRefusal}
 use Rattle.homeo_reader.specs.declared.reader.ReadRefusal.TheVariants.{Refused, Memory}
-use Rattle.homeo_reader.specs.Reading.{Gives}
-use Rattle.homeo_reader.specs.Exact.{ReadsExactly, ParsesExactly}
+use Rattle.homeo_reader.specs.inner.Reading.{Gives}
+use Rattle.homeo_reader.specs.inner.Exact.{ReadsExactly, ParsesExactly}
 use Rattle.homeo_reader.proofs.Faults.{one_fault, no_phrase}
-use Rattle.homeo_reader.specs.Declarations.{workload_read}
+use Rattle.homeo_reader.specs.inner.Declarations.{workload_read}
+use Rattle.homeo_reader.proofs.SpelledNames.{well_formed}
 use Rattle.homeo_reader.proofs.Top.{one_workload, at_fault}
 
 same_scan : (a b : List Scanned) (x : Result (List Scanned) ℕ) → x ≡ Ok a → x ≡ Ok b → a ≡ b
@@ -74,8 +76,8 @@ same_parts : (r q : Refusal) → r.code ≡ q.code → r.offset ≡ q.offset →
 same_parts r q c o =
     ap (λ (n : ℕ). record { code = n; offset = r.offset }) c ∙ ap (λ (n : ℕ). record { code = q.code; offset = n }) o
 
-same_place : (x : Option ℕ) (a b : ℕ) → x ≡ Some a → x ≡ Some b → a ≡ b
-same_place x a b p q = cc
+same_offset : (x : Option ℕ) (a b : ℕ) → x ≡ Some a → x ≡ Some b → a ≡ b
+same_offset x a b p q = cc
 
 same_stop : (x : Result (List Scanned) ℕ) (a b : ℕ) → x ≡ Err a → x ≡ Err b → a ≡ b
 same_stop x a b p q = cc
@@ -83,7 +85,7 @@ same_stop x a b p q = cc
 -- a text has one refusal
 pub one_refusal : (text : List ℕ) (r q : Refusal) → IsUnread text r → IsUnread text q → r ≡ q
 one_refusal text r q (inl f) (inl g) =
-    same_parts r q (f.code ∙ sym g.code) (same_place (position (λ b. not (is_good b)) text) r.offset q.offset f.at g.at)
+    same_parts r q (f.code ∙ sym g.code) (same_offset (position (λ b. not (is_good b)) text) r.offset q.offset f.at g.at)
 one_refusal text r q (inl f) (inr (inl g)) = absurd (bad_text text r.offset f.at g.clean)
 one_refusal text r q (inl f) (inr (inr g)) = absurd (bad_text text r.offset f.at g.clean)
 one_refusal text r q (inr (inl f)) (inl g) = absurd (bad_text text q.offset g.at f.clean)
@@ -99,6 +101,10 @@ one_refusal text r q (inr (inr f)) (inr (inr g)) =
     same_parts r q (f.code ∙ sym g.code) (f.at ∙ ap (offset_at (length text)) k ∙ sym g.at)
 
 -- ---- what the functions of the reader return
+pub read_well_formed : (text : List ℕ) (x : Result Workload ReadRefusal) → ReadsExactly text x → IfOk x (λ w. IsWellFormed (plain_workload w))
+read_well_formed text (Ok w) p = well_formed text (plain_workload w) p
+read_well_formed text (Err e) p = tt
+
 pub refused_at : (names : List (List ℕ)) (ts rest : List Token) (end offset : ℕ) (x : ReadRefusal) → x ≡ Refused (record { code = 4; offset = offset }) → offset ≡ offset_at end rest → IsFault (IsWorkload names) ts rest → ParsesExactly names ts end (Err x)
 refused_at names ts rest end offset x e o f =
     subst (λ (x : ReadRefusal). ParsesExactly names ts end (Err x)) (sym e) (rest, f, ap (λ (n : ℕ). record { code = 4; offset = n }) o)

@@ -4,7 +4,7 @@ use Rattle.std.proofs.lemmas.List.{append-nil}
 use Rattle.std.specs.Prelude.{Result, Ok, Err}
 use Rattle.homeo_syntax.specs.declared.token.Token.{Token}
 use Rattle.homeo_syntax.specs.Grammar.{Grammar, Spells, IsFault}
-use Rattle.homeo_reader.specs.Engine.{Reading, Calls, exists, read, Classes, decides, all_of}
+use Rattle.homeo_reader.specs.inner.Engine.{Reading, Calls, exists, read, Classes, decides, all_of}
 use Rattle.homeo_reader.proofs.Words.{Outcome, Known}
 use Rattle.homeo_reader.proofs.Outcomes.{read_outcome}
 use Rattle.homeo_reader.proofs.Complete.{read_complete}

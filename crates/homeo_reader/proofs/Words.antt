@@ -5,7 +5,7 @@ use Rattle.homeo_syntax.specs.declared.token.Kind.{Kind}
 use Rattle.homeo_syntax.specs.declared.token.Token.{Token}
 use Rattle.homeo_syntax.specs.Classes.{class_of}
 use Rattle.homeo_syntax.specs.Grammar.{Grammar, token, nothing, call, seq, alt, many, part, as_value, takes, Repeats, Spells, has, SameHead}
-use Rattle.homeo_reader.specs.Engine.{Reading, Calls, empty, exists, begins, Classes, starts, decides, where_empty}
+use Rattle.homeo_reader.specs.inner.Engine.{Reading, Calls, empty, exists, begins, Classes, starts, decides, where_empty}
 use Rattle.homeo_reader.proofs.Bools.{and_split, and_join, or_split, or_left, or_right, has_left, has_right, has_where}
 
 -- no token of these classes comes first

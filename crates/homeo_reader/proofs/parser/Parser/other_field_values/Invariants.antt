@@ -1,6 +1,6 @@
 use Rattle.std.proofs.Common.{◌≡◌, length}
-use Rattle.homeo_reader.specs.Reading.{with_front}
-use Rattle.homeo_reader.specs.Commands.{field_views, other_field_values_read}
+use Rattle.homeo_reader.specs.inner.Reading.{with_front}
+use Rattle.homeo_reader.specs.inner.Commands.{field_views, other_field_values_read}
 use Rattle.homeo_reader.proofs.parser.Parser.other_field_values.Given as goal
 
 abbrev pub invariant-more : goal.invariant-more

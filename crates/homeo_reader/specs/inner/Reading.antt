@@ -20,7 +20,7 @@ use Rattle.homeo_syntax.specs.Rules.{Deep, Factor, Test, Tree, Rule, rule, lead,
 use Rattle.homeo_reader.specs.declared.conditions.Visit.{Visit}
 use Rattle.homeo_reader.specs.declared.parser.Fault.{Fault}
 use Rattle.homeo_reader.specs.declared.parser.Fault.TheVariants.{Memory, Stuck}
-use Rattle.homeo_reader.specs.Engine.{Calls, begins, first_is, Reading, ◌>>=◌, read_token, read, calls_at}
+use Rattle.homeo_reader.specs.inner.Engine.{Calls, begins, first_is, Reading, ◌>>=◌, read_token, read, calls_at}
 
 -- What was returned, seen by a view, and the tokens that are left are what the reading gives, unless memory was
 -- wanting.

@@ -13,8 +13,8 @@ use Rattle.homeo_syntax.specs.SourceView.{commands, plain_command, plain_field}
 use Rattle.homeo_syntax.specs.Grammar.{call, many}
 use Rattle.homeo_syntax.specs.Rules as rules
 use Rattle.homeo_syntax.specs.Rules.{Command, rule, lead}
-use Rattle.homeo_reader.specs.Engine.{Reading, ◌>>=◌, read, calls_at}
-use Rattle.homeo_reader.specs.Reading.{mark_read, ident_read, if_marked, opt_read, expr_read, cond_read, visit_read}
+use Rattle.homeo_reader.specs.inner.Engine.{Reading, ◌>>=◌, read, calls_at}
+use Rattle.homeo_reader.specs.inner.Reading.{mark_read, ident_read, if_marked, opt_read, expr_read, cond_read, visit_read}
 
 abbrev pub command_views : List Command_ → List s.Command
 command_views cs = map plain_command cs

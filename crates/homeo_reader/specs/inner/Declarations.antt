@@ -17,9 +17,9 @@ use Rattle.homeo_syntax.specs.SourceView.{plain_call, plain_relation, plain_tran
 use Rattle.homeo_syntax.specs.Grammar.{many}
 use Rattle.homeo_syntax.specs.Rules as rules
 use Rattle.homeo_syntax.specs.Rules.{Deep, Tree, rule, lead, minus_number, limit}
-use Rattle.homeo_reader.specs.Engine.{Calls, Reading, ◌>>=◌, read, calls_at}
-use Rattle.homeo_reader.specs.Commands.{block_read}
-use Rattle.homeo_reader.specs.Reading.{mark_read, ident_read, number_read, number_is_read, offset_read, if_marked, opt_read}
+use Rattle.homeo_reader.specs.inner.Engine.{Calls, Reading, ◌>>=◌, read, calls_at}
+use Rattle.homeo_reader.specs.inner.Commands.{block_read}
+use Rattle.homeo_reader.specs.inner.Reading.{mark_read, ident_read, number_read, number_is_read, offset_read, if_marked, opt_read}
 
 abbrev pub call_views : List Call → List s.Call
 call_views cs = map plain_call cs
