@@ -38,7 +38,8 @@ abbrev pub plain : {X : Type 0} → View X X
 plain = record { one = same; maybe = same; all = same; is_some = λ x. refl; is_none = refl; added = λ xs x. refl }
 
 -- the items of a list after a push
-pub pushed : {X : Type 0} → (new : Listed X) (items : List X) (item : X) (n : ℕ) → new ≡ record { items = items ++ item ∷ []; spare = n } → new.items ≡ items ++ item ∷ []
+pub pushed : {X : Type 0} → (new : Listed X) (items : List X) (item : X) (n : ℕ) → new ≡ record { items = items ++ item ∷ []; spare = n } →
+    new.items ≡ items ++ item ∷ []
 pushed new items item n h = ap (λ (l : Listed _). l.items) h
 
 module _ (n : ℕ) {X Y : Type 0} (v : View X Y) (g : Rule Y) (d : decides classes (many g) ≡ true) where
@@ -52,8 +53,8 @@ module _ (n : ℕ) {X Y : Type 0} (v : View X Y) (g : Rule Y) (d : decides class
   is_read o item was is h e = h ∙ ap (λ (o : Option X). Ok (v.maybe o, is)) e ∙ ap (λ (y : Option Y). Ok (y, is)) (v.is_some item)
 
   -- an item was read, and stands behind the others
-  pub goes_on : (old new : List X) (o : Option X) (item : X) (was is : List Token) (whole : Reading (List Y)) → one_read was ≡ Ok (v.maybe o, is) → o ≡ Some item →
-      new ≡ old ++ item ∷ [] → with_front (v.all old) (all_read was) ≡ whole → with_front (v.all new) (all_read is) ≡ whole
+  pub goes_on : (old new : List X) (o : Option X) (item : X) (was is : List Token) (whole : Reading (List Y)) → one_read was ≡ Ok (v.maybe o, is) →
+      o ≡ Some item → new ≡ old ++ item ∷ [] → with_front (v.all old) (all_read was) ≡ whole → with_front (v.all new) (all_read is) ≡ whole
   goes_on old new o item was is whole h e p so_far =
       ap (λ (l : List Y). with_front l (all_read is)) (ap v.all p ∙ v.added old item)
       ∙ sym (step_some n g d (v.all old) was is (v.one item) (is_read o item was is h e))
@@ -70,8 +71,8 @@ module _ (n : ℕ) {X Y : Type 0} (v : View X Y) (g : Rule Y) (d : decides class
       sym so_far ∙ step_none n g d (v.all items) was is (h ∙ ap (λ (o : Option X). Ok (v.maybe o, is)) e ∙ ap (λ (y : Option Y). Ok (y, is)) v.is_none)
 
   -- an item is at fault, or memory is wanting
-  pub fails : {L : Type 0} → (view : L → List Y) (items : List X) (r : Result L Fault) (f : Fault) (was is : List Token) (whole : Reading (List Y)) → Gives v.maybe (Err f) is (one_read was) →
-      IsErrAnd r (λ e. e ≡ f) → with_front (v.all items) (all_read was) ≡ whole → Gives view r is whole
+  pub fails : {L : Type 0} → (view : L → List Y) (items : List X) (r : Result L Fault) (f : Fault) (was is : List Token) (whole : Reading (List Y)) →
+      Gives v.maybe (Err f) is (one_read was) → IsErrAnd r (λ e. e ≡ f) → with_front (v.all items) (all_read was) ≡ whole → Gives view r is whole
   fails view items r f was is whole h e so_far =
       let p = err_from_is_err_and r e in
       rw (p.1, p.2) (gives_err v.maybe view f is (one_read was) whole h (λ k. sym so_far ∙ step_err n g d (v.all items) was is k))

@@ -45,7 +45,8 @@ no_bad : (g : Bool) (i : ℕ) (later : Option ℕ) (all : Bool) → cond (not g)
 no_bad true i later all h k = k h
 no_bad false i later all h k = let no : ⊥ = cc in absurd no
 
-some_bad : (g : Bool) (i at : ℕ) (later : Option ℕ) (all : Bool) → cond (not g) (Some i) later ≡ Some at → (g && all) ≡ true → (later ≡ Some at → all ≡ true → ⊥) → ⊥
+some_bad : (g : Bool) (i at : ℕ) (later : Option ℕ) (all : Bool) → cond (not g) (Some i) later ≡ Some at → (g && all) ≡ true →
+    (later ≡ Some at → all ≡ true → ⊥) → ⊥
 some_bad true i at later all h c k = k h c
 some_bad false i at later all h c k = cc
 
@@ -105,29 +106,47 @@ pub read_well_formed : (text : List ℕ) (x : Result Workload ReadRefusal) → R
 read_well_formed text (Ok w) p = well_formed text (plain_workload w) p
 read_well_formed text (Err e) p = tt
 
-pub refused_at : (names : List (List ℕ)) (ts rest : List Token) (end offset : ℕ) (x : ReadRefusal) → x ≡ Refused (record { code = 4; offset = offset }) → offset ≡ offset_at end rest → IsFault (IsWorkload names) ts rest → ParsesExactly names ts end (Err x)
+pub refused_at : (names : List (List ℕ)) (ts rest : List Token) (end offset : ℕ) (x : ReadRefusal) → x ≡ Refused (record { code = 4; offset = offset }) →
+    offset ≡ offset_at end rest → IsFault (IsWorkload names) ts rest → ParsesExactly names ts end (Err x)
 refused_at names ts rest end offset x e o f =
     subst (λ (x : ReadRefusal). ParsesExactly names ts end (Err x)) (sym e) (rest, f, ap (λ (n : ℕ). record { code = 4; offset = n }) o)
 
-pub fault_refused : (names : List (List ℕ)) (ts rest : List Token) (end offset : ℕ) (f : Fault) (x : ReadRefusal) → Gives plain_workload (Err f) rest (workload_read names ts) → (f ≡ fault.Memory → x ≡ Memory) → (f ≡ fault.Stuck → x ≡ Refused (record { code = 4; offset = offset })) → offset ≡ offset_at end rest → ParsesExactly names ts end (Err x)
+pub fault_refused : (names : List (List ℕ)) (ts rest : List Token) (end offset : ℕ) (f : Fault) (x : ReadRefusal) →
+    Gives plain_workload (Err f) rest (workload_read names ts) → (f ≡ fault.Memory → x ≡ Memory) →
+    (f ≡ fault.Stuck → x ≡ Refused (record { code = 4; offset = offset })) → offset ≡ offset_at end rest → ParsesExactly names ts end (Err x)
 fault_refused names ts rest end offset fault.Memory x g m k o = subst (λ (x : ReadRefusal). ParsesExactly names ts end (Err x)) (sym (m refl)) tt
 fault_refused names ts rest end offset fault.Stuck x g m k o = refused_at names ts rest end offset x (k refl) o (at_fault names ts rest g)
 
-pub no_token : (text : List ℕ) (offset : ℕ) (x : ReadRefusal) (e : ScanError) → x ≡ Refused (record { code = 3; offset = offset }) → Stops text e → e ≡ scan.At offset → position (λ b. not (is_good b)) text ≡ None → ReadsExactly text (Err x)
+pub no_token : (text : List ℕ) (offset : ℕ) (x : ReadRefusal) (e : ScanError) → x ≡ Refused (record { code = 3; offset = offset }) → Stops text e →
+    e ≡ scan.At offset → position (λ b. not (is_good b)) text ≡ None → ReadsExactly text (Err x)
 no_token text offset x e h stops is clean =
     subst (λ (x : ReadRefusal). ReadsExactly text (Err x)) (sym h)
     (inr (inl (record { code = refl; clean = clean_text text clean; at = subst (Stops text) is stops })))
 
-parsed_with : (text : List ℕ) (scanned : List Scanned) (x : Result Workload ReadRefusal) → IsClean text → scanned_of text ≡ Ok scanned → ParsesExactly (names_of scanned) (tokens_in (names_of scanned) scanned) (length text) x → ReadsExactly text x
+parsed_with : (text : List ℕ) (scanned : List Scanned) (x : Result Workload ReadRefusal) → IsClean text → scanned_of text ≡ Ok scanned →
+    ParsesExactly (names_of scanned) (tokens_in (names_of scanned) scanned) (length text) x → ReadsExactly text x
 parsed_with text scanned (Ok w) clean e p = record { clean = clean; scanned = scanned; lexemes = e; spells = p }
 parsed_with text scanned (Err Memory) clean e p = tt
 parsed_with text scanned (Err (Refused r)) clean e p =
-    inr (inr (record { code = ap (λ (r : Refusal). r.code) p.2; clean = clean; scanned = scanned; lexemes = e; fault = p.0; stuck = p.1; at = ap (λ (r : Refusal). r.offset) p.2 }))
+    inr (inr (record {
+      code = ap (λ (r : Refusal). r.code) p.2;
+      clean = clean;
+      scanned = scanned;
+      lexemes = e;
+      fault = p.0;
+      stuck = p.1;
+      at = ap (λ (r : Refusal). r.offset) p.2;
+    }))
 
-pub parsed : (text : List ℕ) (items written : List Written) (names : List (List ℕ)) (numbered tokens : List Token) (x : Result Workload ReadRefusal) → position (λ b. not (is_good b)) text ≡ None →
-    scanned_of text ≡ Ok (map plain_scanned items) → written ≡ items → names ≡ names_of (map plain_scanned written) → numbered ≡ tokens_in (names_of (map plain_scanned written)) (map plain_scanned written) → tokens ≡ numbered → ParsesExactly names tokens (length text) x → ReadsExactly text x
+pub parsed : (text : List ℕ) (items written : List Written) (names : List (List ℕ)) (numbered tokens : List Token) (x : Result Workload ReadRefusal) →
+    position (λ b. not (is_good b)) text ≡ None →
+    scanned_of text ≡ Ok (map plain_scanned items) → written ≡ items → names ≡ names_of (map plain_scanned written) →
+    numbered ≡ tokens_in (names_of (map plain_scanned written)) (map plain_scanned written) → tokens ≡ numbered → ParsesExactly names tokens (length text) x →
+    ReadsExactly text x
 parsed text items written names numbered tokens x clean e w n t u p =
     let all : names ≡ names_of (map plain_scanned items) = n ∙ ap (λ (l : List Written). names_of (map plain_scanned l)) w in
-    let each : tokens ≡ tokens_in (names_of (map plain_scanned items)) (map plain_scanned items) = u ∙ t ∙ ap (λ (l : List Written). tokens_in (names_of (map plain_scanned l)) (map plain_scanned l)) w in
+    let each : tokens ≡ tokens_in (names_of (map plain_scanned items)) (map plain_scanned items) = u ∙ t
+    ∙ ap (λ (l : List Written). tokens_in (names_of (map plain_scanned l)) (map plain_scanned l)) w in
     parsed_with text (map plain_scanned items) x (clean_text text clean) e
-    (subst (λ (ts : List Token). ParsesExactly (names_of (map plain_scanned items)) ts (length text) x) each (subst (λ (l : List (List ℕ)). ParsesExactly l tokens (length text) x) all p))
+    (subst (λ (ts : List Token). ParsesExactly (names_of (map plain_scanned items)) ts (length text) x) each
+    (subst (λ (l : List (List ℕ)). ParsesExactly l tokens (length text) x) all p))

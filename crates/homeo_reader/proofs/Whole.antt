@@ -24,7 +24,8 @@ nothing_left e = cc
 same_ok : {A : Type 0} → (a b : A) (x : Result A (List Token)) → x ≡ Ok a → x ≡ Ok b → a ≡ b
 same_ok a b x p q = cc
 
-module _ {Call : Type 0} {Value : Call → Type 0} (cl : Classes Call) (cs : Calls Call Value) (M : (c : Call) → Value c → List Token → Type 0) (known : Known cl cs M) {X : Type 0} (g : Grammar Call Value X) (d : decides cl g ≡ true) where
+module _ {Call : Type 0} {Value : Call → Type 0} (cl : Classes Call) (cs : Calls Call Value) (M : (c : Call) → Value c → List Token → Type 0)
+    (known : Known cl cs M) {X : Type 0} (g : Grammar Call Value X) (d : decides cl g ≡ true) where
   whole : (a : X) (w : List Token) → Spells M g a w → read cs g w ≡ Ok (a, [])
   whole a w s = ap (read cs g) (sym (append-nil w)) ∙ read_complete cl cs M known g d a w [] s tt
 

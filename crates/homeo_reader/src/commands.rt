@@ -12,6 +12,7 @@ use homeo_syntax::{Command, Cond, Kind, List, Mark};
 use std::alloc::Global;
 
 impl<'a> Parser<'a> {
+    /// Takes a command. Neither it nor what is in it goes deeper than the room.
     #[cycle(command)]
     #[tactic(auto, using(crate::proofs::CommandSteps::command_reads, homeo_syntax::proofs::SourceViews::command_views), unfolding(crate::specs::inner::Commands::command_do, crate::specs::inner::Commands::command_by))]
     fn command(&mut self, alloc: Global, room: u32) -> Result<Command, Fault>

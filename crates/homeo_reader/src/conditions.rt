@@ -34,6 +34,7 @@ impl<'a> Parser<'a> {
         }
     }
 
+    /// Takes a test.
     #[cycle(expr)]
     #[tactic(auto, using(crate::proofs::ExprSteps::test_reads, homeo_syntax::proofs::SourceViews::phrase_views), unfolding(crate::specs::inner::Reading::test_do))]
     fn test(&mut self, alloc: Global, room: u32) -> Result<Test, Fault>
@@ -86,6 +87,7 @@ impl<'a> Parser<'a> {
         Ok(items)
     }
 
+    /// Takes a condition, of one test or more.
     #[cycle(expr)]
     #[tactic(auto, using(crate::proofs::ExprSteps::cond_reads), unfolding(crate::specs::inner::Reading::cond_do))]
     pub fn cond(&mut self, alloc: Global, room: u32) -> Result<Cond, Fault>

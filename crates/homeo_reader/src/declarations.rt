@@ -44,6 +44,7 @@ impl<'a> Parser<'a> {
         }
     }
 
+    /// The objects, as many as come.
     pub fn objects(&mut self, alloc: Global) -> Result<List<ObjectDecl>, Fault>
         ensures { Gives (λ l. l.items) result self.new.rest.now (objects_read self.old.rest.now) }
     {
@@ -148,6 +149,7 @@ impl<'a> Parser<'a> {
         }
     }
 
+    /// The relations, as many as come.
     pub fn relations(&mut self, alloc: Global) -> Result<List<RelationDecl>, Fault>
         ensures { Gives (λ l. relation_views l.items) result self.new.rest.now (relations_read self.old.rest.now) }
     {
@@ -198,6 +200,7 @@ impl<'a> Parser<'a> {
         }
     }
 
+    /// The transactions, as many as come.
     pub fn transactions(&mut self, alloc: Global) -> Result<List<Transaction>, Fault>
         ensures { Gives (λ l. transaction_views l.items) result self.new.rest.now (transactions_read self.old.rest.now) }
     {

@@ -12,6 +12,7 @@ use homeo_syntax::{Expr, Ident, Kind, Mark};
 use std::alloc::Global;
 
 impl<'a> Parser<'a> {
+    /// Takes a factor.
     #[cycle(expr)]
     #[tactic(auto, using(crate::proofs::ExprSteps::factor_reads, homeo_syntax::proofs::SourceViews::phrase_views), unfolding(crate::specs::inner::Reading::factor_do, crate::specs::inner::Reading::factor_by))]
     fn factor(&mut self, alloc: Global, room: u32) -> Result<Expr, Fault>
@@ -175,6 +176,7 @@ impl<'a> Parser<'a> {
         Ok(items)
     }
 
+    /// Takes a product of one factor or more.
     #[cycle(expr)]
     #[tactic(auto, using(crate::proofs::ExprSteps::term_reads), unfolding(crate::specs::inner::Reading::term_do))]
     fn term(&mut self, alloc: Global, room: u32) -> Result<Expr, Fault>
@@ -217,6 +219,7 @@ impl<'a> Parser<'a> {
         Ok(items)
     }
 
+    /// Takes an expression, which is a sum of one term or more.
     #[cycle(expr)]
     #[tactic(auto, using(crate::proofs::ExprSteps::expr_reads), unfolding(crate::specs::inner::Reading::expr_do))]
     pub fn expr(&mut self, alloc: Global, room: u32) -> Result<Expr, Fault>

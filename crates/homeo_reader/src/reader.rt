@@ -75,6 +75,7 @@ fn parse(
     }
 }
 
+/// The refusal with this code at this offset.
 fn refused(code: u8, offset: u64) -> ReadRefusal
     ensures { result ≡ ReadRefusal.Refused (record { code = code; offset = offset }) }
 {

@@ -47,6 +47,7 @@ impl<'a> Parser<'a> {
         }
     }
 
+    /// The names, as many as come.
     fn names(&mut self, alloc: Global) -> Result<List<Ident>, Fault>
         ensures { Gives (λ l. l.items) result self.new.rest.now (names_read self.old.rest.now) }
     {

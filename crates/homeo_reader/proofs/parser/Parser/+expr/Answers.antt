@@ -9,7 +9,8 @@ use Rattle.homeo_reader.proofs.parser.Parser.+expr.Goals as goal
 
 pub factors-more-preserved : goal.factors-more-preserved
 unfolding factors_read next_factor_read
-factors-more-preserved t c = goes_on c.args.room (each plain_expr) star_factor refl _ _ _ _ _ _ _ c.in_ok-item.ensures c.in-Some.is c.in_ok-push.ensures.items c.more.invariant
+factors-more-preserved t c =
+    goes_on c.args.room (each plain_expr) star_factor refl _ _ _ _ _ _ _ c.in_ok-item.ensures c.in-Some.is c.in_ok-push.ensures.items c.more.invariant
 
 pub factors-more-smaller : goal.factors-more-smaller
 unfolding next_factor_read
@@ -21,11 +22,14 @@ factors-returns t c = ends c.args.room (each plain_expr) star_factor refl _ _ _ 
 
 pub factors-returns-in_err-item : goal.factors-returns-in_err-item
 unfolding factors_read next_factor_read
-factors-returns-in_err-item t c = fails c.args.room (each plain_expr) star_factor refl _ _ _ _ _ _ _ c.in_err-item.ensures c.from_residual.ensures.1 c.more.invariant
+factors-returns-in_err-item t c =
+    fails c.args.room (each plain_expr) star_factor refl _ _ _ _ _ _ _ c.in_err-item.ensures c.from_residual.ensures.1 c.more.invariant
 
 pub terms-more-preserved : goal.terms-more-preserved
 unfolding terms_read next_term_read
-terms-more-preserved t c = goes_on c.args.room (each plain_expr) (alt plus_term minus_term) refl _ _ _ _ _ _ _ c.in_ok-item.ensures c.in-Some.is c.in_ok-push.ensures.items c.more.invariant
+terms-more-preserved t c =
+    goes_on c.args.room (each plain_expr) (alt plus_term minus_term) refl _ _ _ _ _ _ _ c.in_ok-item.ensures c.in-Some.is c.in_ok-push.ensures.items
+    c.more.invariant
 
 pub terms-more-smaller : goal.terms-more-smaller
 unfolding next_term_read
@@ -37,11 +41,13 @@ terms-returns t c = ends c.args.room (each plain_expr) (alt plus_term minus_term
 
 pub terms-returns-in_err-item : goal.terms-returns-in_err-item
 unfolding terms_read next_term_read
-terms-returns-in_err-item t c = fails c.args.room (each plain_expr) (alt plus_term minus_term) refl _ _ _ _ _ _ _ c.in_err-item.ensures c.from_residual.ensures.1 c.more.invariant
+terms-returns-in_err-item t c =
+    fails c.args.room (each plain_expr) (alt plus_term minus_term) refl _ _ _ _ _ _ _ c.in_err-item.ensures c.from_residual.ensures.1 c.more.invariant
 
 pub tests-more-preserved : goal.tests-more-preserved
 unfolding tests_read next_test_read
-tests-more-preserved t c = goes_on c.args.room (each plain_test) and_test refl _ _ _ _ _ _ _ c.in_ok-item.ensures c.in-Some.is c.in_ok-push.ensures.items c.more.invariant
+tests-more-preserved t c =
+    goes_on c.args.room (each plain_test) and_test refl _ _ _ _ _ _ _ c.in_ok-item.ensures c.in-Some.is c.in_ok-push.ensures.items c.more.invariant
 
 pub tests-more-smaller : goal.tests-more-smaller
 unfolding next_test_read
@@ -53,4 +59,5 @@ tests-returns t c = ends c.args.room (each plain_test) and_test refl _ _ _ _ _ c
 
 pub tests-returns-in_err-item : goal.tests-returns-in_err-item
 unfolding tests_read next_test_read
-tests-returns-in_err-item t c = fails c.args.room (each plain_test) and_test refl _ _ _ _ _ _ _ c.in_err-item.ensures c.from_residual.ensures.1 c.more.invariant
+tests-returns-in_err-item t c =
+    fails c.args.room (each plain_test) and_test refl _ _ _ _ _ _ _ c.in_err-item.ensures c.from_residual.ensures.1 c.more.invariant

@@ -8,7 +8,8 @@ use Rattle.homeo_reader.proofs.parser.Parser.clients.Goals as goal
 
 pub more-preserved : goal.more-preserved
 unfolding clients_read next_client_read
-more-preserved c = goes_on limit (each plain_client) client refl _ _ _ _ _ _ _ c.in_ok-item.ensures c.in-Some.is (pushed _ _ _ _ c.in_ok-push.ensures.ok) c.more.invariant
+more-preserved c =
+    goes_on limit (each plain_client) client refl _ _ _ _ _ _ _ c.in_ok-item.ensures c.in-Some.is (pushed _ _ _ _ c.in_ok-push.ensures.ok) c.more.invariant
 
 pub more-smaller : goal.more-smaller
 unfolding next_client_read

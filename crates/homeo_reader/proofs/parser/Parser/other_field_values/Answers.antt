@@ -8,7 +8,8 @@ use Rattle.homeo_reader.proofs.parser.Parser.other_field_values.Goals as goal
 
 pub more-preserved : goal.more-preserved
 unfolding other_field_values_read next_field_value_read
-more-preserved c = goes_on c.args.room (each plain_field) comma_field_value refl _ _ _ _ _ _ _ c.in_ok-item.ensures c.in-Some.is c.in_ok-push.ensures.items c.more.invariant
+more-preserved c =
+    goes_on c.args.room (each plain_field) comma_field_value refl _ _ _ _ _ _ _ c.in_ok-item.ensures c.in-Some.is c.in_ok-push.ensures.items c.more.invariant
 
 pub more-smaller : goal.more-smaller
 unfolding next_field_value_read
@@ -20,4 +21,5 @@ returns c = ends c.args.room (each plain_field) comma_field_value refl _ _ _ _ _
 
 pub returns-in_err-item : goal.returns-in_err-item
 unfolding other_field_values_read next_field_value_read
-returns-in_err-item c = fails c.args.room (each plain_field) comma_field_value refl _ _ _ _ _ _ _ c.in_err-item.ensures c.from_residual.ensures.1 c.more.invariant
+returns-in_err-item c =
+    fails c.args.room (each plain_field) comma_field_value refl _ _ _ _ _ _ _ c.in_err-item.ensures c.from_residual.ensures.1 c.more.invariant

@@ -9,7 +9,8 @@ use Rattle.homeo_reader.proofs.parser.Parser.other_invocations.Goals as goal
 
 pub more-preserved : goal.more-preserved
 unfolding other_invocations_read next_invocation_read
-more-preserved c = goes_on limit (each plain_call) semi_invocation refl _ _ _ _ _ _ _ c.in_ok-item.ensures c.in-Some.is c.in_ok-push.ensures.items c.more.invariant
+more-preserved c =
+    goes_on limit (each plain_call) semi_invocation refl _ _ _ _ _ _ _ c.in_ok-item.ensures c.in-Some.is c.in_ok-push.ensures.items c.more.invariant
 
 pub more-smaller : goal.more-smaller
 unfolding next_invocation_read
