@@ -3,7 +3,7 @@ use Rattle.std.proofs.Common.{◌≡◌, ℕ, Bool, true, false, ◌||◌, ◌&&
 use Rattle.std.proofs.lemmas.Bool.{eqb-true}
 use Rattle.std.specs.Prelude.{◌==◌, if◌then◌else◌}
 use Rattle.homeo_syntax.specs.Grammar.{has}
-use Rattle.homeo_reader.specs.Engine.{apart, within, where_empty}
+use Rattle.homeo_reader.specs.inner.Engine.{apart, within, where_empty}
 
 pub and_split : (a b : Bool) → (a && b) ≡ true → (a ≡ true) × (b ≡ true)
 and_split true true h = (refl, refl)

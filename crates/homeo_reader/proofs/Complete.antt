@@ -4,7 +4,7 @@ use Rattle.std.specs.Prelude.{Ok, Err, if◌then◌else◌}
 use Rattle.homeo_syntax.specs.declared.token.Token.{Token}
 use Rattle.homeo_syntax.specs.Classes.{class_of}
 use Rattle.homeo_syntax.specs.Grammar.{Grammar, token, nothing, call, seq, alt, many, part, as_value, Repeats, Spells, Means}
-use Rattle.homeo_reader.specs.Engine.{◌>>=◌, Calls, calls_at, empty, exists, begins, first_is, read_token, repeat, read, Classes, apart, within, starts, goes_on, decides, decides_call, where_empty}
+use Rattle.homeo_reader.specs.inner.Engine.{◌>>=◌, Calls, calls_at, empty, exists, begins, first_is, read_token, repeat, read, Classes, apart, within, starts, goes_on, decides, decides_call, where_empty}
 use Rattle.homeo_reader.proofs.Bools.{and_split, if_true, if_false, not_false, not_true, has_left, has_right, has_where, has_apart, has_within}
 use Rattle.homeo_reader.proofs.Words.{Clear, Known, some_word, word_exists, empty_word, begun_exists, begun_starts, word_begins}
 use Rattle.homeo_reader.proofs.Outcomes.{read_outcome, repeat_ends, repeat_more, then_more, longer}
@@ -25,9 +25,11 @@ pub clear_within : (xs ys : List ℕ) (z : List Token) → within xs ys ≡ true
 clear_within xs ys [] w c = tt
 clear_within xs ys (t ∷ z) w c = λ h. c (has_within xs ys (class_of t.kind) w h)
 
-module _ {Call : Type 0} {Value : Call → Type 0} (cl : Classes Call) (cs : Calls Call Value) (M : (c : Call) → Value c → List Token → Type 0) (known : Known cl cs M) where
+module _ {Call : Type 0} {Value : Call → Type 0} (cl : Classes Call) (cs : Calls Call Value) (M : (c : Call) → Value c → List Token → Type 0)
+    (known : Known cl cs M) where
   -- what a phrase begins with is clear of what is apart from it
-  word_clear : {X : Type 0} → (g : Grammar Call Value X) (xs : List ℕ) (a : X) (w z : List Token) → Spells M g a w → apart xs (starts cl g) ≡ true → (empty g ≡ true → Clear xs z) → Clear xs (w ++ z)
+  word_clear : {X : Type 0} → (g : Grammar Call Value X) (xs : List ℕ) (a : X) (w z : List Token) → Spells M g a w → apart xs (starts cl g) ≡ true →
+      (empty g ≡ true → Clear xs z) → Clear xs (w ++ z)
   word_clear g xs a [] z s d c = c (empty_word cl cs M known g a s)
   word_clear g xs a (t ∷ w) z s d c =
       λ h. has_apart xs (starts cl g) (class_of t.kind) d h (begun_starts cl cs M known g t.kind (word_begins cl cs M known g a t w s))
@@ -37,12 +39,14 @@ module _ {Call : Type 0} {Value : Call → Type 0} (cl : Classes Call) (cs : Cal
   not_begun g [] c = refl
   not_begun g (t ∷ z) c = not_false (begins cs g t.kind) (λ h. c (begun_starts cl cs M known g t.kind h))
 
-  begun_word : {X : Type 0} → (g : Grammar Call Value X) (a : X) (w z : List Token) → Spells M g a w → not (empty g) ≡ true → first_is (begins cs g) (w ++ z) ≡ true
+  begun_word : {X : Type 0} → (g : Grammar Call Value X) (a : X) (w z : List Token) → Spells M g a w → not (empty g) ≡ true →
+      first_is (begins cs g) (w ++ z) ≡ true
   begun_word g a [] z s ne = absurd (not_true (empty g) ne (empty_word cl cs M known g a s))
   begun_word g a (t ∷ w) z s ne = word_begins cl cs M known g a t w s
 
   -- a word of the second doesn't begin the first
-  other_word : {X Y : Type 0} → (g : Grammar Call Value X) (h : Grammar Call Value Y) (a : Y) (w z : List Token) → Spells M h a w → apart (starts cl g) (starts cl h) ≡ true → (empty h ≡ true → Clear (starts cl g) z) → first_is (begins cs g) (w ++ z) ≡ false
+  other_word : {X Y : Type 0} → (g : Grammar Call Value X) (h : Grammar Call Value Y) (a : Y) (w z : List Token) → Spells M h a w →
+      apart (starts cl g) (starts cl h) ≡ true → (empty h ≡ true → Clear (starts cl g) z) → first_is (begins cs g) (w ++ z) ≡ false
   other_word g h a w z s d c = not_begun g (w ++ z) (word_clear h (starts cl g) a w z s d c)
 
   not_empty_word : {X : Type 0} → (g : Grammar Call Value X) (a : X) (w : List Token) → Spells M g a w → not (empty g) ≡ true → w ≡ [] → ⊥
@@ -50,9 +54,11 @@ module _ {Call : Type 0} {Value : Call → Type 0} (cl : Classes Call) (cs : Cal
 
   many_complete : {X : Type 0} → (g : Grammar Call Value X) → not (empty g) ≡ true → apart (goes_on cl g) (starts cl g) ≡ true →
       ((a : X) (w z : List Token) → Spells M g a w → Clear (goes_on cl g) z → read cs g (w ++ z) ≡ Ok (a, z)) →
-      (all : List X) (w z : List Token) → Repeats (Spells M g) all w → Clear (goes_on cl g ++ starts cl g) z → (m : ℕ) → length (w ++ z) ≤ m → repeat (begins cs g) (read cs g) m (w ++ z) ≡ Ok (all, z)
+      (all : List X) (w z : List Token) → Repeats (Spells M g) all w → Clear (goes_on cl g ++ starts cl g) z → (m : ℕ) → length (w ++ z) ≤ m →
+      repeat (begins cs g) (read cs g) m (w ++ z) ≡ Ok (all, z)
   many_complete g ne d one [] w z s c m l =
-      ap (λ (x : List Token). repeat (begins cs g) (read cs g) m (x ++ z)) s ∙ repeat_ends (begins cs g) (read cs g) m z (not_begun g z (clear_right (goes_on cl g) (starts cl g) z c))
+      ap (λ (x : List Token). repeat (begins cs g) (read cs g) m (x ++ z)) s
+      ∙ repeat_ends (begins cs g) (read cs g) m z (not_begun g z (clear_right (goes_on cl g) (starts cl g) z c))
   many_complete g ne d one (a ∷ rest) w z s c m l =
       let u = s.0 in
       let v = s.1 in
@@ -70,7 +76,8 @@ module _ {Call : Type 0} {Value : Call → Type 0} (cl : Classes Call) (cs : Cal
           (word_clear g (goes_on cl g) b r.0 (r.1 ++ z) r.3 d (λ e. absurd (not_true (empty g) ne e)))
 
   -- each phrase is read whole
-  pub read_complete : {X : Type 0} → (g : Grammar Call Value X) → decides cl g ≡ true → (a : X) (w z : List Token) → Spells M g a w → Clear (goes_on cl g) z → read cs g (w ++ z) ≡ Ok (a, z)
+  pub read_complete : {X : Type 0} → (g : Grammar Call Value X) → decides cl g ≡ true → (a : X) (w z : List Token) → Spells M g a w → Clear (goes_on cl g) z →
+      read cs g (w ++ z) ≡ Ok (a, z)
   unfolding read
   read_complete (token classes test value sample) d a w z s c =
       ap (λ (x : List Token). read_token classes test value (x ++ z)) s.1 ∙ if_true _ (Ok (value s.0, z)) (Err (s.0 ∷ z)) s.2 ∙ ap (λ x. Ok (x, z)) (sym s.3)
@@ -79,7 +86,8 @@ module _ {Call : Type 0} {Value : Call → Type 0} (cl : Classes Call) (cs : Cal
   read_complete (seq g h) d a w z s c =
       let ds = and_split (decides cl g && decides cl h) _ d in
       let dd = and_split (decides cl g) (decides cl h) ds.0 in
-      let after : Clear (goes_on cl g) (s.1 ++ z) = word_clear h (goes_on cl g) a.1 s.1 z s.4 ds.1 (λ e. clear_where (empty h) (goes_on cl g) z (clear_right (goes_on cl h) (where_empty (empty h) (goes_on cl g)) z c) e) in
+      let after : Clear (goes_on cl g) (s.1 ++ z) = word_clear h (goes_on cl g) a.1 s.1 z s.4 ds.1
+      (λ e. clear_where (empty h) (goes_on cl g) z (clear_right (goes_on cl h) (where_empty (empty h) (goes_on cl g)) z c) e) in
       ap (read cs (seq g h)) (ap (λ (x : List Token). x ++ z) s.2 ∙ append_assoc s.0 s.1 z)
       ∙ ap (λ x. x >>= λ x. read cs h x.1 >>= λ y. Ok ((x.0, y.0), y.1)) (read_complete g dd.0 a.0 s.0 (s.1 ++ z) s.3 after)
       ∙ ap (λ x. x >>= λ y. Ok ((a.0, y.0), y.1)) (read_complete h dd.1 a.1 s.1 z s.4 (clear_left (goes_on cl h) (where_empty (empty h) (goes_on cl g)) z c))
@@ -90,8 +98,11 @@ module _ {Call : Type 0} {Value : Call → Type 0} (cl : Classes Call) (cs : Cal
       let cc' = clear_left (goes_on cl g ++ goes_on cl h) (where_empty (empty h) (starts cl g)) z c in
       elim s [
         | inl x ↦ if_true _ (read cs g (w ++ z)) _ (begun_word g a w z x dn.0) ∙ read_complete g dd.0 a w z x (clear_left (goes_on cl g) (goes_on cl h) z cc')
-        | inr x ↦ if_false _ (read cs g (w ++ z)) (if exists cs h then read cs h (w ++ z) else Err (w ++ z)) (other_word g h a w z x dn.1 (λ e. clear_where (empty h) (starts cl g) z (clear_right (goes_on cl g ++ goes_on cl h) (where_empty (empty h) (starts cl g)) z c) e))
-            ∙ if_true (exists cs h) (read cs h (w ++ z)) (Err (w ++ z)) (word_exists cl cs M known h a w x) ∙ read_complete h dd.1 a w z x (clear_right (goes_on cl g) (goes_on cl h) z cc')
+        | inr x ↦ if_false _ (read cs g (w ++ z)) (if exists cs h then read cs h (w ++ z) else Err (w ++ z))
+            (other_word g h a w z x dn.1
+            (λ e. clear_where (empty h) (starts cl g) z (clear_right (goes_on cl g ++ goes_on cl h) (where_empty (empty h) (starts cl g)) z c) e))
+            ∙ if_true (exists cs h) (read cs h (w ++ z)) (Err (w ++ z)) (word_exists cl cs M known h a w x)
+            ∙ read_complete h dd.1 a w z x (clear_right (goes_on cl g) (goes_on cl h) z cc')
       ]
   read_complete (many g) d a w z s c =
       let ds = and_split (decides cl g) _ d in
@@ -101,7 +112,8 @@ module _ {Call : Type 0} {Value : Call → Type 0} (cl : Classes Call) (cs : Cal
   read_complete (as_value f g) d a w z s c =
       ap (λ x. x >>= λ x. Ok (f x.0, x.1)) (read_complete g d s.0 w z s.1 c) ∙ ap (λ x. Ok (x, z)) (sym s.2)
 
-module _ {Call : Type 0} {Value : Call → Type 0} (cl : Classes Call) (rule : (c : Call) → Grammar Call Value (Value c)) (decided : (c : Call) → decides_call cl c (rule c) ≡ true) where
+module _ {Call : Type 0} {Value : Call → Type 0} (cl : Classes Call) (rule : (c : Call) → Grammar Call Value (Value c))
+    (decided : (c : Call) → decides_call cl c (rule c) ≡ true) where
   rule_decides : (c : Call) → decides cl (rule c) ≡ true
   rule_decides c = (and_split (decides cl (rule c)) _ (and_split (decides cl (rule c) && not (empty (rule c))) _ (decided c)).0).0
 
@@ -133,7 +145,11 @@ module _ {Call : Type 0} {Value : Call → Type 0} (cl : Classes Call) (rule : (
     full = λ c a m. not_true (empty (rule c)) (rule_full c) (empty_word cl (calls_at rule n) (Means rule n) (known_at n) (rule c) a m);
     begins = λ c a t w m. word_begins cl (calls_at rule n) (Means rule n) (known_at n) (rule c) a t w m;
     begun = λ c k b. begun_exists cl (calls_at rule n) (Means rule n) (known_at n) (rule c) k b;
-    starts = λ c k b. has_within (starts cl (rule c)) (cl.starts c) (class_of k) (rule_starts c) (begun_starts cl (calls_at rule n) (Means rule n) (known_at n) (rule c) k b);
+    starts =
+        λ c k b. has_within (starts cl (rule c)) (cl.starts c) (class_of k) (rule_starts c)
+        (begun_starts cl (calls_at rule n) (Means rule n) (known_at n) (rule c) k b);
     outcome = λ c ts e. read_outcome cl (calls_at rule n) (Means rule n) (known_at n) (rule c) (rule_decides c) e ts;
-    complete = λ c a w z m l. read_complete cl (calls_at rule n) (Means rule n) (known_at n) (rule c) (rule_decides c) a w z m (clear_within (goes_on cl (rule c)) (cl.goes_on c) z (rule_goes_on c) l);
+    complete =
+        λ c a w z m l. read_complete cl (calls_at rule n) (Means rule n) (known_at n) (rule c) (rule_decides c) a w z m
+        (clear_within (goes_on cl (rule c)) (cl.goes_on c) z (rule_goes_on c) l);
   }

@@ -13,10 +13,10 @@ use Rattle.homeo_syntax.specs.declared.workload.RangeDecl.{RangeDecl}
 use Rattle.homeo_syntax.specs.Source as s
 use Rattle.homeo_syntax.specs.Grammar.{seq, many, part, as_value}
 use Rattle.homeo_syntax.specs.Rules.{Command, Rule, Deep, Tree, rule, lead, closed, limit, ident, number, signed, range, separated, decl, fields, relation, parameters, block, invocation, calls, workload}
-use Rattle.homeo_reader.specs.Engine.{Calls, Reading, ◌>>=◌, read, calls_at, empty, exists, begins, first_is}
-use Rattle.homeo_reader.specs.Reading.{mark_read, if_marked, on_marked, opt_of, opt_read}
-use Rattle.homeo_reader.specs.Commands.{block_read}
-use Rattle.homeo_reader.specs.Declarations.{top, signed_read, signed_by, signed_do, range_read, range_do, object_rest, next_object_read, next_object_do, objects_read, after_first, decl_read, decl_do, first_decl_read, first_decl_by, first_decl_do, next_decl_read, next_decl_do, other_decls_read, fields_read, fields_do, relation_rest, next_relation_read, next_relation_do, relations_read, parameters_read, parameters_do, transaction_rest, next_transaction_read, next_transaction_do, transactions_read, first_argument_read, first_argument_by, first_argument_do, next_argument_read, next_argument_do, other_arguments_read, arguments_read, arguments_do, invocation_read, invocation_do, first_invocation_read, first_invocation_by, first_invocation_do, next_invocation_read, next_invocation_do, other_invocations_read, invocations_read, invocations_do, calls_read, calls_do, client_rest, next_client_read, next_client_do, clients_read, next_name_read, next_name_by, next_name_do, names_read, schedule_read, schedule_do, head_read, head_do, workload_read, workload_do}
+use Rattle.homeo_reader.specs.inner.Engine.{Calls, Reading, ◌>>=◌, read, calls_at, empty, exists, begins, first_is}
+use Rattle.homeo_reader.specs.inner.Reading.{mark_read, if_marked, on_marked, opt_of, opt_read}
+use Rattle.homeo_reader.specs.inner.Commands.{block_read}
+use Rattle.homeo_reader.specs.inner.Declarations.{top, signed_read, signed_by, signed_do, range_read, range_do, object_rest, next_object_read, next_object_do, objects_read, after_first, decl_read, decl_do, first_decl_read, first_decl_by, first_decl_do, next_decl_read, next_decl_do, other_decls_read, fields_read, fields_do, relation_rest, next_relation_read, next_relation_do, relations_read, parameters_read, parameters_do, transaction_rest, next_transaction_read, next_transaction_do, transactions_read, first_argument_read, first_argument_by, first_argument_do, next_argument_read, next_argument_do, other_arguments_read, arguments_read, arguments_do, invocation_read, invocation_do, first_invocation_read, first_invocation_by, first_invocation_do, next_invocation_read, next_invocation_do, other_invocations_read, invocations_read, invocations_do, calls_read, calls_do, client_rest, next_client_read, next_client_do, clients_read, next_name_read, next_name_by, next_name_do, names_read, schedule_read, schedule_do, head_read, head_do, workload_read, workload_do}
 use Rattle.homeo_reader.proofs.Flat.{read_then, reads, reads_part, flat, bind_assoc}
 use Rattle.homeo_reader.proofs.Lists.{opt_lead, opt_as, mapped}
 use Rattle.homeo_reader.proofs.CommandSteps.{begins_same}
@@ -42,7 +42,8 @@ unfolding range_read range_do signed_read read_then
 range_reads ts = reads_part top _ ts
 
 -- A phrase of a mark and a rest, if it comes next.
-lead_rest : {A B : Type 0} → (cs : Calls Deep Tree) (f : A → B) (m : Mark) (h : Rule A) (rest : List Token → Reading B) → exists cs h ≡ true → ((r : List Token) → (read cs h r >>= λ x. Ok (f x.0, x.1)) ≡ rest r) → (ts : List Token) →
+lead_rest : {A B : Type 0} → (cs : Calls Deep Tree) (f : A → B) (m : Mark) (h : Rule A) (rest : List Token → Reading B) → exists cs h ≡ true →
+    ((r : List Token) → (read cs h r >>= λ x. Ok (f x.0, x.1)) ≡ rest r) → (ts : List Token) →
     opt_read cs (part (as_value f (lead m h))) ts ≡ if_marked m ts (λ r. rest r >>= λ x. Ok (Some x.0, x.1)) (Ok (None, ts))
 unfolding read
 lead_rest cs f m h rest there same ts =
@@ -51,7 +52,8 @@ lead_rest cs f m h rest there same ts =
     ∙ mapped f (mark_read m ts) (read cs h) ts
     ∙ go (mark_read m ts)
   where
-    go : (x : Reading (Unit {0})) → on_marked x (λ r. read cs h r >>= λ x. Ok (Some (f x.0), x.1)) (Ok (None, ts)) ≡ on_marked x (λ r. rest r >>= λ x. Ok (Some x.0, x.1)) (Ok (None, ts))
+    go : (x : Reading (Unit {0})) → on_marked x (λ r. read cs h r >>= λ x. Ok (Some (f x.0), x.1)) (Ok (None, ts))
+        ≡ on_marked x (λ r. rest r >>= λ x. Ok (Some x.0, x.1)) (Ok (None, ts))
     go (Ok x) = sym (bind_assoc (read cs h x.1) (λ x. Ok (f x.0, x.1)) (λ x. Ok (Some x.0, x.1))) ∙ ap (λ r. r >>= λ x. Ok (Some x.0, x.1)) (same x.1)
     go (Err e) = refl
 
@@ -81,7 +83,8 @@ pub next_object_reads : (ts : List Token) → next_object_read ts ≡ next_objec
 unfolding next_object_read next_object_do object_rest range_read signed_read read_then
 next_object_reads ts = lead_rest top object_of mark.Object object_body object_rest refl (λ r. flat top object_body r (λ x. Ok (object_of x.0, x.1))) ts
 
-first_and : {X : Type 0} → (b : Bool) (x : Reading X) (others : List Token → Reading (List X)) (ts : List Token) → (if b then (x >>= λ x. others x.1 >>= λ y. Ok (x.0 ∷ y.0, y.1)) else Ok ([], ts)) ≡ (opt_of b x ts >>= λ x. after_first others x.0 x.1)
+first_and : {X : Type 0} → (b : Bool) (x : Reading X) (others : List Token → Reading (List X)) (ts : List Token) →
+    (if b then (x >>= λ x. others x.1 >>= λ y. Ok (x.0 ∷ y.0, y.1)) else Ok ([], ts)) ≡ (opt_of b x ts >>= λ x. after_first others x.0 x.1)
 unfolding after_first
 first_and true (Ok x) others ts = refl
 first_and true (Err e) others ts = refl
@@ -93,15 +96,18 @@ separated_reads : {X : Type 0} → (m : Mark) (g : Rule X) (full : empty g ≡ f
 unfolding read_then
 separated_reads m g full ts =
     reads_part top (separated m (part g)) ts
-    ∙ ap (λ (b : Bool). if first_is (λ k. (begins top (part g) k && true) || (b && begins top (many (lead m (part g))) k)) ts then (read top (part g) ts >>= λ x. read top (many (lead m (part g))) x.1 >>= λ y. Ok (x.0 ∷ y.0, y.1)) else Ok ([], ts)) full
-    ∙ ap (λ (b : Bool). if b then (read top (part g) ts >>= λ x. read top (many (lead m (part g))) x.1 >>= λ y. Ok (x.0 ∷ y.0, y.1)) else Ok ([], ts)) (begins_same (begins top (part g)) (λ k. begins top (many (lead m (part g))) k) ts)
+    ∙ ap (λ (b : Bool). if first_is (λ k. (begins top (part g) k && true) || (b && begins top (many (lead m (part g))) k)) ts then
+    (read top (part g) ts >>= λ x. read top (many (lead m (part g))) x.1 >>= λ y. Ok (x.0 ∷ y.0, y.1)) else Ok ([], ts)) full
+    ∙ ap (λ (b : Bool). if b then (read top (part g) ts >>= λ x. read top (many (lead m (part g))) x.1 >>= λ y. Ok (x.0 ∷ y.0, y.1)) else Ok ([], ts))
+    (begins_same (begins top (part g)) (λ k. begins top (many (lead m (part g))) k) ts)
     ∙ first_and (first_is (begins top (part g)) ts) (read top (part g) ts) (λ r. read top (many (lead m (part g))) r) ts
 
 pub decl_reads : (ts : List Token) → decl_read ts ≡ decl_do ts
 unfolding decl_read decl_do range_read read_then
 decl_reads ts = reads_part top _ ts
 
-first_decl_kind : (k : Kind) (o : ℕ) (ts : List Token) → first_decl_read (record { kind = k; offset = o } ∷ ts) ≡ first_decl_by k (record { kind = k; offset = o }) ts
+first_decl_kind : (k : Kind) (o : ℕ) (ts : List Token) →
+    first_decl_read (record { kind = k; offset = o } ∷ ts) ≡ first_decl_by k (record { kind = k; offset = o }) ts
 unfolding first_decl_read first_decl_by decl_read
 first_decl_kind (kind.Name n) o ts = refl
 first_decl_kind (kind.Fixed mark.Assign) o ts = refl
@@ -128,7 +134,8 @@ relation_of p = record { name = p.0; slots = p.1.0; fields = p.1.1 }
 
 pub next_relation_reads : (ts : List Token) → next_relation_read ts ≡ next_relation_do ts
 unfolding next_relation_read next_relation_do relation_rest fields_read read_then
-next_relation_reads ts = lead_rest top relation_of mark.Relation relation_body relation_rest refl (λ r. flat top relation_body r (λ x. Ok (relation_of x.0, x.1))) ts
+next_relation_reads ts =
+    lead_rest top relation_of mark.Relation relation_body relation_rest refl (λ r. flat top relation_body r (λ x. Ok (relation_of x.0, x.1))) ts
 
 pub parameters_reads : (ts : List Token) → parameters_read ts ≡ parameters_do ts
 unfolding parameters_read parameters_do first_decl_read other_decls_read
@@ -136,13 +143,16 @@ parameters_reads ts = separated_reads mark.Comma _ refl ts
 
 pub next_transaction_reads : (ts : List Token) → next_transaction_read ts ≡ next_transaction_do ts
 unfolding next_transaction_read next_transaction_do transaction_rest parameters_read block_read read_then
-next_transaction_reads ts = lead_rest top transaction_of mark.Transaction transaction_body transaction_rest (some_block ((calls_at rule limit).exists Command)) (λ r. flat top transaction_body r (λ x. Ok (transaction_of x.0, x.1))) ts
+next_transaction_reads ts =
+    lead_rest top transaction_of mark.Transaction transaction_body transaction_rest (some_block ((calls_at rule limit).exists Command))
+    (λ r. flat top transaction_body r (λ x. Ok (transaction_of x.0, x.1))) ts
 
 pub next_client_reads : (ts : List Token) → next_client_read ts ≡ next_client_do ts
 unfolding next_client_read next_client_do client_rest calls_read read_then
 next_client_reads ts = lead_rest top client_of mark.Client client_body client_rest refl (λ r. flat top client_body r (λ x. Ok (client_of x.0, x.1))) ts
 
-first_argument_kind : (k : Kind) (o : ℕ) (ts : List Token) → first_argument_read (record { kind = k; offset = o } ∷ ts) ≡ first_argument_by k (record { kind = k; offset = o }) ts
+first_argument_kind : (k : Kind) (o : ℕ) (ts : List Token) →
+    first_argument_read (record { kind = k; offset = o } ∷ ts) ≡ first_argument_by k (record { kind = k; offset = o }) ts
 unfolding first_argument_read first_argument_by signed_read
 first_argument_kind (kind.Fixed mark.Minus) o ts = refl
 first_argument_kind (kind.Number (pos n)) o ts = refl
@@ -166,7 +176,8 @@ pub invocation_reads : (ts : List Token) → invocation_read ts ≡ invocation_d
 unfolding invocation_read invocation_do arguments_read read_then
 invocation_reads ts = reads_part top _ ts
 
-first_invocation_kind : (k : Kind) (o : ℕ) (ts : List Token) → first_invocation_read (record { kind = k; offset = o } ∷ ts) ≡ first_invocation_by k (record { kind = k; offset = o }) ts
+first_invocation_kind : (k : Kind) (o : ℕ) (ts : List Token) →
+    first_invocation_read (record { kind = k; offset = o } ∷ ts) ≡ first_invocation_by k (record { kind = k; offset = o }) ts
 unfolding first_invocation_read first_invocation_by invocation_read
 first_invocation_kind (kind.Name n) o ts = refl
 first_invocation_kind (kind.Fixed mark.Assign) o ts = refl
@@ -189,7 +200,8 @@ pub calls_reads : (ts : List Token) → calls_read ts ≡ calls_do ts
 unfolding calls_read calls_do invocations_read read_then
 calls_reads ts = reads_part top _ ts
 
-next_name_kind : (k : Kind) (o : ℕ) (ts : List Token) → next_name_read (record { kind = k; offset = o } ∷ ts) ≡ next_name_by k (record { kind = k; offset = o }) ts
+next_name_kind : (k : Kind) (o : ℕ) (ts : List Token) →
+    next_name_read (record { kind = k; offset = o } ∷ ts) ≡ next_name_by k (record { kind = k; offset = o }) ts
 unfolding next_name_read next_name_by read
 next_name_kind (kind.Name n) o ts = refl
 next_name_kind (kind.Fixed mark.Assign) o ts = refl

@@ -5,12 +5,12 @@ use Rattle.homeo_syntax.specs.declared.token.Mark.TheVariants as mark
 use Rattle.homeo_syntax.specs.declared.token.Kind.{Kind}
 use Rattle.homeo_syntax.specs.declared.token.Kind.TheVariants as kind
 use Rattle.homeo_syntax.specs.declared.token.Token.{Token}
-use Rattle.homeo_reader.specs.Engine.{Reading, ◌>>=◌, read, calls_at}
+use Rattle.homeo_reader.specs.inner.Engine.{Reading, ◌>>=◌, read, calls_at}
 use Rattle.homeo_syntax.specs.Rules.{rule, factor, test}
 use Rattle.homeo_syntax.specs.declared.phrase.Ident.{Ident}
-use Rattle.homeo_reader.specs.Reading.{factor_read, factors_read, term_read, terms_read, expr_read, visit_read, visit_do, field_rest, after_name_read, after_name_by, after_name_do, count_rest, total_rest, factor_by, factor_do, term_do, expr_do}
+use Rattle.homeo_reader.specs.inner.Reading.{factor_read, factors_read, term_read, terms_read, expr_read, visit_read, visit_do, field_rest, after_name_read, after_name_by, after_name_do, count_rest, total_rest, factor_by, factor_do, term_do, expr_do}
 use Rattle.homeo_syntax.specs.Source as s
-use Rattle.homeo_reader.specs.Reading.{ident_read, mark_read, cond_read, cond_do, test_read, tests_read, test_do, comparison_read, comparison_do}
+use Rattle.homeo_reader.specs.inner.Reading.{ident_read, mark_read, cond_read, cond_do, test_read, tests_read, test_do, comparison_read, comparison_do}
 use Rattle.std.proofs.lemmas.Bool.{lt-ltb}
 use Rattle.homeo_syntax.specs.declared.phrase.Compare.{Compare}
 use Rattle.homeo_reader.proofs.Bools.{if_true}
@@ -28,16 +28,20 @@ pub visit_reads : (room : ℕ) (ts : List Token) → visit_read room ts ≡ visi
 unfolding visit_read visit_do cond_read read_then
 visit_reads room ts = reads_part (calls_at rule room) _ ts
 
-after_name_kind_0 : (x : Ident) (k : Kind) (o : ℕ) (ts : List Token) → after_name_read 0 x (record { kind = k; offset = o } ∷ ts) ≡ after_name_by 0 x k (record { kind = k; offset = o }) ts
+after_name_kind_0 : (x : Ident) (k : Kind) (o : ℕ) (ts : List Token) →
+    after_name_read 0 x (record { kind = k; offset = o } ∷ ts) ≡ after_name_by 0 x k (record { kind = k; offset = o }) ts
 unfolding after_name_read after_name_by read_then calls_at
-after_name_kind_0 x (kind.Fixed mark.OpenBracket) o ts = flat_part (calls_at rule 0) _ (record { kind = kind.Fixed mark.OpenBracket; offset = o } ∷ ts) (λ y. Ok (y.0 x, y.1))
+after_name_kind_0 x (kind.Fixed mark.OpenBracket) o ts =
+    flat_part (calls_at rule 0) _ (record { kind = kind.Fixed mark.OpenBracket; offset = o } ∷ ts) (λ y. Ok (y.0 x, y.1))
 after_name_kind_0 x k o ts = flat_part (calls_at rule 0) _ (record { kind = k; offset = o } ∷ ts) (λ y. Ok (y.0 x, y.1))
 
-after_name_kind_1 : (n : ℕ) (x : Ident) (k : Kind) (o : ℕ) (ts : List Token) → after_name_read (suc n) x (record { kind = k; offset = o } ∷ ts) ≡ after_name_by (suc n) x k (record { kind = k; offset = o }) ts
+after_name_kind_1 : (n : ℕ) (x : Ident) (k : Kind) (o : ℕ) (ts : List Token) →
+    after_name_read (suc n) x (record { kind = k; offset = o } ∷ ts) ≡ after_name_by (suc n) x k (record { kind = k; offset = o }) ts
 unfolding after_name_read after_name_by field_rest expr_read read_then calls_at
 after_name_kind_1 n x (kind.Fixed mark.OpenBracket) o ts =
     flat_part (calls_at rule (suc n)) _ (record { kind = kind.Fixed mark.OpenBracket; offset = o } ∷ ts) (λ y. Ok (y.0 x, y.1))
-    ∙ sym (if_true (nat_lt 0 (suc n)) (field_rest (suc n) x ts) (Ok (s.Name x, record { kind = kind.Fixed mark.OpenBracket; offset = o } ∷ ts)) (lt-ltb 0 (suc n) (omega arith)))
+    ∙ sym (if_true (nat_lt 0 (suc n)) (field_rest (suc n) x ts) (Ok (s.Name x, record { kind = kind.Fixed mark.OpenBracket; offset = o } ∷ ts))
+    (lt-ltb 0 (suc n) (omega arith)))
 after_name_kind_1 n x k o ts = flat_part (calls_at rule (suc n)) _ (record { kind = k; offset = o } ∷ ts) (λ y. Ok (y.0 x, y.1))
 
 after_name_nil : (room : ℕ) (x : Ident) → after_name_read room x [] ≡ Ok (s.Name x, [])
@@ -50,7 +54,8 @@ after_name_reads room x [] = after_name_nil room x
 after_name_reads zero x (t ∷ ts) = after_name_kind_0 x t.kind t.offset ts
 after_name_reads (suc n) x (t ∷ ts) = after_name_kind_1 n x t.kind t.offset ts
 
-factor_kind_1 : (k : Kind) (o : ℕ) (ts : List Token) → factor_read 1 (record { kind = k; offset = o } ∷ ts) ≡ factor_by 1 k (record { kind = k; offset = o }) ts
+factor_kind_1 : (k : Kind) (o : ℕ) (ts : List Token) →
+    factor_read 1 (record { kind = k; offset = o } ∷ ts) ≡ factor_by 1 k (record { kind = k; offset = o }) ts
 unfolding factor_read factor_by after_name_read read_then calls_at
 factor_kind_1 (kind.Fixed mark.Read) o ts = reads (calls_at rule 0) factor (record { kind = kind.Fixed mark.Read; offset = o } ∷ ts)
 factor_kind_1 k o ts = reads (calls_at rule 0) factor (record { kind = k; offset = o } ∷ ts)
@@ -58,11 +63,13 @@ factor_kind_1 k o ts = reads (calls_at rule 0) factor (record { kind = k; offset
 pub room_minus : {A : Type 0} → (n : ℕ) (f : ℕ → A) (e : A) → f (suc n) ≡ (if nat_lt 1 (suc (suc n)) then f (suc (suc n) - 1) else e)
 room_minus n f e = sym (if_true (nat_lt 1 (suc (suc n))) (f (suc (suc n) - 1)) e (lt-ltb _ _ (omega arith)) ∙ ap f (omega arith))
 
-factor_kind_2 : (n : ℕ) (k : Kind) (o : ℕ) (ts : List Token) → factor_read (suc (suc n)) (record { kind = k; offset = o } ∷ ts) ≡ factor_by (suc (suc n)) k (record { kind = k; offset = o }) ts
+factor_kind_2 : (n : ℕ) (k : Kind) (o : ℕ) (ts : List Token) →
+    factor_read (suc (suc n)) (record { kind = k; offset = o } ∷ ts) ≡ factor_by (suc (suc n)) k (record { kind = k; offset = o }) ts
 unfolding factor_read factor_by after_name_read count_rest total_rest read_then calls_at expr_read visit_read
 factor_kind_2 n (kind.Name v) o ts =
     reads (calls_at rule (suc n)) factor (record { kind = kind.Name v; offset = o } ∷ ts)
-    ∙ (let less : suc n ≡ suc (suc n) - 1 = omega arith in ap (λ (m : ℕ). ident_read (record { kind = kind.Name v; offset = o } ∷ ts) >>= λ x. after_name_read m x.0 x.1) less)
+    ∙ (let less : suc n ≡ suc (suc n) - 1 = omega arith in
+    ap (λ (m : ℕ). ident_read (record { kind = kind.Name v; offset = o } ∷ ts) >>= λ x. after_name_read m x.0 x.1) less)
 factor_kind_2 n (kind.Fixed mark.Count) o ts =
     reads (calls_at rule (suc n)) factor (record { kind = kind.Fixed mark.Count; offset = o } ∷ ts)
     ∙ room_minus n (λ m. count_rest m ts) (Err (record { kind = kind.Fixed mark.Count; offset = o } ∷ ts))
@@ -74,7 +81,8 @@ factor_kind_2 n (kind.Fixed mark.Minus) o ts =
     ∙ room_minus n (λ m. factor_read m ts >>= λ x. Ok (s.Neg x.0, x.1)) (Err (record { kind = kind.Fixed mark.Minus; offset = o } ∷ ts))
 factor_kind_2 n (kind.Fixed mark.Open) o ts =
     reads (calls_at rule (suc n)) factor (record { kind = kind.Fixed mark.Open; offset = o } ∷ ts)
-    ∙ room_minus n (λ m. expr_read m ts >>= λ x. mark_read mark.Close x.1 >>= λ y. Ok (x.0, y.1)) (Err (record { kind = kind.Fixed mark.Open; offset = o } ∷ ts))
+    ∙ room_minus n (λ m. expr_read m ts >>= λ x. mark_read mark.Close x.1 >>= λ y. Ok (x.0, y.1))
+    (Err (record { kind = kind.Fixed mark.Open; offset = o } ∷ ts))
 factor_kind_2 n k o ts = reads (calls_at rule (suc n)) factor (record { kind = k; offset = o } ∷ ts)
 
 pub factor_reads : (room : ℕ) (ts : List Token) → 0 < room → factor_read room ts ≡ factor_do room ts
@@ -89,7 +97,8 @@ pub cond_reads : (room : ℕ) (ts : List Token) → cond_read room ts ≡ cond_d
 unfolding cond_read cond_do test_read tests_read read_then
 cond_reads room ts = reads_part (calls_at rule room) _ ts
 
-comparison_kind : (room : ℕ) (k : Kind) (o : ℕ) (ts : List Token) → comparison_read room (record { kind = k; offset = o } ∷ ts) ≡ comparison_do (record { kind = k; offset = o } ∷ ts)
+comparison_kind : (room : ℕ) (k : Kind) (o : ℕ) (ts : List Token) →
+    comparison_read room (record { kind = k; offset = o } ∷ ts) ≡ comparison_do (record { kind = k; offset = o } ∷ ts)
 unfolding comparison_read comparison_do read
 comparison_kind room (kind.Fixed mark.Less) o ts = refl
 comparison_kind room k o ts = refl
@@ -102,7 +111,8 @@ comparison_reads room (t ∷ ts) = comparison_kind room t.kind t.offset ts
 abbrev compare_do : ℕ → List Token → Reading s.Test
 compare_do m ts = expr_read m ts >>= λ a. comparison_do a.1 >>= λ b. expr_read m b.1 >>= λ c. Ok (s.Comparison b.0 a.0 c.0, c.1)
 
-compared : (m : ℕ) (ts : List Token) → (expr_read m ts >>= λ a. comparison_read m a.1 >>= λ b. expr_read m b.1 >>= λ c. Ok (s.Comparison b.0 a.0 c.0, c.1)) ≡ compare_do m ts
+compared : (m : ℕ) (ts : List Token) → (expr_read m ts >>= λ a. comparison_read m a.1 >>= λ b. expr_read m b.1 >>= λ c. Ok (s.Comparison b.0 a.0 c.0, c.1))
+    ≡ compare_do m ts
 compared m ts = bind_same (expr_read m ts) _ _ (λ a. ap (then_right m a.0) (comparison_reads m a.1))
   where
     then_right : ℕ → s.Expr → Reading Compare → Reading s.Test
@@ -113,12 +123,14 @@ unfolding test_read test_do read calls_at
 test_kind_1 (kind.Fixed mark.True) o ts = refl
 test_kind_1 k o ts = refl
 
-test_kind_2 : (n : ℕ) (k : Kind) (o : ℕ) (ts : List Token) → test_read (suc (suc n)) (record { kind = k; offset = o } ∷ ts) ≡ test_do (suc (suc n)) (record { kind = k; offset = o } ∷ ts)
+test_kind_2 : (n : ℕ) (k : Kind) (o : ℕ) (ts : List Token) →
+    test_read (suc (suc n)) (record { kind = k; offset = o } ∷ ts) ≡ test_do (suc (suc n)) (record { kind = k; offset = o } ∷ ts)
 unfolding test_read test_do read_then calls_at expr_read cond_read comparison_read
 test_kind_2 n (kind.Fixed mark.True) o ts = reads (calls_at rule (suc n)) test (record { kind = kind.Fixed mark.True; offset = o } ∷ ts)
 test_kind_2 n (kind.Fixed mark.Not) o ts =
     reads (calls_at rule (suc n)) test (record { kind = kind.Fixed mark.Not; offset = o } ∷ ts)
-    ∙ room_minus n (λ m. mark_read mark.Open ts >>= λ a. cond_read m a.1 >>= λ b. mark_read mark.Close b.1 >>= λ c. Ok (s.Not b.0, c.1)) (Err (record { kind = kind.Fixed mark.Not; offset = o } ∷ ts))
+    ∙ room_minus n (λ m. mark_read mark.Open ts >>= λ a. cond_read m a.1 >>= λ b. mark_read mark.Close b.1 >>= λ c. Ok (s.Not b.0, c.1))
+    (Err (record { kind = kind.Fixed mark.Not; offset = o } ∷ ts))
 test_kind_2 n k o ts =
     reads (calls_at rule (suc n)) test (record { kind = k; offset = o } ∷ ts)
     ∙ compared (suc n) (record { kind = k; offset = o } ∷ ts)

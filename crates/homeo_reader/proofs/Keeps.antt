@@ -28,7 +28,8 @@ Every P [] = Unit {0}
 Every P (a ∷ all) = P a × Every P all
 
 module _ (M : Meaning) (F : Token → Type 0) where
-  pub sound_token : {A : Type 0} → (classes : List ℕ) (test : Kind → Bool) (value : Token → A) (sample : Token) (Q : A → Type 0) → ((t : Token) → takes classes test t.kind ≡ true → F t → Q (value t)) → Sound M F (token classes test value sample) Q
+  pub sound_token : {A : Type 0} → (classes : List ℕ) (test : Kind → Bool) (value : Token → A) (sample : Token) (Q : A → Type 0) →
+      ((t : Token) → takes classes test t.kind ≡ true → F t → Q (value t)) → Sound M F (token classes test value sample) Q
   sound_token classes test value sample Q h = record {
     of = λ a ts s f. subst Q (sym s.3) (h s.0 s.2 (let g : Fine F (s.0 ∷ []) = subst (Fine F) s.1 f in g.0));
   }
@@ -36,7 +37,8 @@ module _ (M : Meaning) (F : Token → Type 0) where
   pub sound_nothing : {A : Type 0} → (b : A) (Q : A → Type 0) → Q b → Sound M F (nothing b) Q
   sound_nothing b Q h = record { of = λ a ts s f. subst Q (sym s.1) h }
 
-  pub sound_seq : {A B : Type 0} → (g : Rule A) (h : Rule B) (P : A → Type 0) (R : B → Type 0) → Sound M F g P → Sound M F h R → Sound M F (seq g h) (λ p. P p.0 × R p.1)
+  pub sound_seq : {A B : Type 0} → (g : Rule A) (h : Rule B) (P : A → Type 0) (R : B → Type 0) → Sound M F g P → Sound M F h R →
+      Sound M F (seq g h) (λ p. P p.0 × R p.1)
   sound_seq g h P R p r = record {
     of = λ a ts s f. let w = fine_split F s.0 s.1 (subst (Fine F) s.2 f) in (p.of a.0 s.0 s.3 w.0, r.of a.1 s.1 s.4 w.1);
   }
@@ -47,10 +49,12 @@ module _ (M : Meaning) (F : Token → Type 0) where
   pub sound_part : {A : Type 0} → (g : Rule A) (Q : A → Type 0) → Sound M F g Q → Sound M F (part g) Q
   sound_part g Q p = record { of = λ a ts s f. p.of a ts s f }
 
-  pub sound_as : {A B : Type 0} → (f : A → B) (g : Rule A) (P : A → Type 0) (Q : B → Type 0) → Sound M F g P → ((a : A) → P a → Q (f a)) → Sound M F (as_value f g) Q
+  pub sound_as : {A B : Type 0} → (f : A → B) (g : Rule A) (P : A → Type 0) (Q : B → Type 0) → Sound M F g P → ((a : A) → P a → Q (f a)) →
+      Sound M F (as_value f g) Q
   sound_as f g P Q p h = record { of = λ b ts s w. subst Q (sym s.2) (h s.0 (p.of s.0 ts s.1 w)) }
 
-  every : {A : Type 0} → (g : Rule A) (P : A → Type 0) → Sound M F g P → (all : List A) (ts : List Token) → Repeats (Spells M g) all ts → Fine F ts → Every P all
+  every : {A : Type 0} → (g : Rule A) (P : A → Type 0) → Sound M F g P → (all : List A) (ts : List Token) → Repeats (Spells M g) all ts → Fine F ts →
+      Every P all
   every g P p [] ts s f = tt
   every g P p (a ∷ all) ts s f =
       let w = fine_split F s.0 s.1 (subst (Fine F) s.2 f) in

@@ -108,19 +108,24 @@ module _ (n : ℕ) (M : Meaning) (hyp : (c : Deep) → Sound M (λ t. Named n t.
   ident_kept = sound_token M F _ _ _ _ B (λ t h f. is_name n t.kind h f)
 
   term_kept : Sound M F rules.term E
-  term_kept = sound_part M F _ E (sound_as M F _ _ _ E (sound_seq M F _ _ E (Every E) (hyp Factor) (sound_many M F _ E (sound_lead M F mark.Star _ E (hyp Factor)))) (λ p h. product_kept B p.0 p.1 h.0 h.1))
+  term_kept =
+      sound_part M F _ E (sound_as M F _ _ _ E (sound_seq M F _ _ E (Every E) (hyp Factor) (sound_many M F _ E (sound_lead M F mark.Star _ E (hyp Factor))))
+      (λ p h. product_kept B p.0 p.1 h.0 h.1))
 
   expr_kept : Sound M F rules.expr E
   unfolding words
   expr_kept =
       sound_part M F _ E (sound_as M F _ _ _ E
-      (sound_seq M F _ _ E (Every E) term_kept (sound_many M F _ E (sound_alt M F _ _ E (sound_lead M F mark.Plus _ E term_kept) (sound_as M F s.Neg _ E E (sound_lead M F mark.Minus _ E term_kept) (λ a h. h)))))
+      (sound_seq M F _ _ E (Every E) term_kept
+      (sound_many M F _ E (sound_alt M F _ _ E (sound_lead M F mark.Plus _ E term_kept)
+      (sound_as M F s.Neg _ E E (sound_lead M F mark.Minus _ E term_kept) (λ a h. h)))))
       (λ p h. sum_kept B p.0 p.1 h.0 h.1))
 
   cond_kept : Sound M F rules.cond (EachInCond B)
   cond_kept =
       sound_part M F _ (EachInCond B) (sound_as M F _ _ _ (EachInCond B)
-      (sound_seq M F _ _ (EachInTest B) (Every (EachInTest B)) (hyp Test) (sound_many M F _ (EachInTest B) (sound_lead M F mark.And _ (EachInTest B) (hyp Test))))
+      (sound_seq M F _ _ (EachInTest B) (Every (EachInTest B)) (hyp Test)
+      (sound_many M F _ (EachInTest B) (sound_lead M F mark.And _ (EachInTest B) (hyp Test))))
       (λ p h. each_tests B (p.0 ∷ p.1) h))
 
   visit_kept : Sound M F rules.visit (λ p. B p.0 × (B p.1.0 × EachInCond B p.1.1))
@@ -145,24 +150,35 @@ module _ (n : ℕ) (M : Meaning) (hyp : (c : Deep) → Sound M (λ t. Named n t.
       sound_alt M F _ _ E (sound_token M F _ _ _ _ E (λ t h f. tt))
       (sound_alt M F _ _ E (sound_as M F s.Neg _ E E (sound_lead M F mark.Minus _ E (hyp Factor)) (λ a h. h))
       (sound_alt M F _ _ E (sound_lead M F mark.Open _ E (sound_closed M F mark.Close _ E expr_kept))
-      (sound_alt M F _ _ E (sound_as M F s.Read _ B E (sound_lead M F mark.Read _ B (sound_lead M F mark.Open _ B (sound_closed M F mark.Close _ B ident_kept))) (λ a h. h))
-      (sound_alt M F _ _ E (sound_as M F _ _ _ E (sound_lead M F mark.Count _ _ (sound_lead M F mark.Open _ _ (sound_closed M F mark.Close _ _ visit_kept))) (λ p h. (h.0, h.1.0, h.1.1)))
-      (sound_alt M F _ _ E (sound_as M F _ _ _ E (sound_lead M F mark.Sum _ _ (sound_lead M F mark.Open _ _ (sound_seq M F _ _ B _ ident_kept (sound_lead M F mark.Dot _ _ (sound_closed M F mark.Close _ _ visit_kept))))) (λ p h. (h.0, h.1.0, h.1.1.0, h.1.1.1)))
+      (sound_alt M F _ _ E (sound_as M F s.Read _ B E
+      (sound_lead M F mark.Read _ B (sound_lead M F mark.Open _ B (sound_closed M F mark.Close _ B ident_kept))) (λ a h. h))
+      (sound_alt M F _ _ E (sound_as M F _ _ _ E (sound_lead M F mark.Count _ _ (sound_lead M F mark.Open _ _ (sound_closed M F mark.Close _ _ visit_kept)))
+      (λ p h. (h.0, h.1.0, h.1.1)))
+      (sound_alt M F _ _ E (sound_as M F _ _ _ E
+      (sound_lead M F mark.Sum _ _
+      (sound_lead M F mark.Open _ _ (sound_seq M F _ _ B _ ident_kept (sound_lead M F mark.Dot _ _ (sound_closed M F mark.Close _ _ visit_kept)))))
+      (λ p h. (h.0, h.1.0, h.1.1.0, h.1.1.1)))
       (sound_as M F _ _ _ E (sound_seq M F _ _ B (λ f. (x : Ident) → B x → E (f x)) ident_kept after_name_kept) (λ p h. h.1 p.0 h.0)))))))
 
   test_kept : Sound M F rules.test (EachInTest B)
   unfolding words
   test_kept =
       sound_alt M F _ _ (EachInTest B) (sound_as M F _ _ (λ u. Unit {0}) (EachInTest B) (anything _) (λ a h. tt))
-      (sound_alt M F _ _ (EachInTest B) (sound_as M F s.Not _ (EachInCond B) (EachInTest B) (sound_lead M F mark.Not _ (EachInCond B) (sound_lead M F mark.Open _ (EachInCond B) (sound_closed M F mark.Close _ (EachInCond B) cond_kept))) (λ a h. h))
-      (sound_as M F _ _ _ (EachInTest B) (sound_seq M F _ _ E _ expr_kept (sound_seq M F _ _ (λ u. Unit {0}) E (anything _) expr_kept)) (λ p h. (h.0, h.1.1))))
+      (sound_alt M F _ _ (EachInTest B)
+      (sound_as M F s.Not _ (EachInCond B) (EachInTest B)
+      (sound_lead M F mark.Not _ (EachInCond B) (sound_lead M F mark.Open _ (EachInCond B) (sound_closed M F mark.Close _ (EachInCond B) cond_kept)))
+      (λ a h. h))
+      (sound_as M F _ _ _ (EachInTest B) (sound_seq M F _ _ E _ expr_kept (sound_seq M F _ _ (λ u. Unit {0}) E (anything _) expr_kept))
+      (λ p h. (h.0, h.1.1))))
 
   block_kept : Sound M F rules.block (EachInCommands B)
   unfolding words
   block_kept =
       sound_part M F _ (EachInCommands B) (sound_lead M F mark.OpenBrace _ (EachInCommands B) (sound_closed M F mark.CloseBrace _ (EachInCommands B)
       (sound_alt M F _ _ (EachInCommands B)
-      (sound_as M F _ _ _ (EachInCommands B) (sound_seq M F _ _ (EachInCommand B) (Every (EachInCommand B)) (hyp Command) (sound_many M F _ (EachInCommand B) (sound_lead M F mark.Semicolon _ (EachInCommand B) (hyp Command)))) (λ p h. each_commands B (p.0 ∷ p.1) h))
+      (sound_as M F _ _ _ (EachInCommands B)
+      (sound_seq M F _ _ (EachInCommand B) (Every (EachInCommand B)) (hyp Command)
+      (sound_many M F _ (EachInCommand B) (sound_lead M F mark.Semicolon _ (EachInCommand B) (hyp Command)))) (λ p h. each_commands B (p.0 ∷ p.1) h))
       (sound_nothing M F s.NoCommand (EachInCommands B) tt))))
 
   -- with each name before it
@@ -170,15 +186,20 @@ module _ (n : ℕ) (M : Meaning) (hyp : (c : Deep) → Sound M (λ t. Named n t.
   unfolding words
   setting_kept =
       sound_part M F _ _
-      (sound_alt M F _ _ _ (sound_as M F _ _ E (λ f. (x : Ident) → B x → EachInCommand B (f x)) (sound_lead M F mark.Assign _ E expr_kept) (λ p h x b. (b, h)))
+      (sound_alt M F _ _ _ (sound_as M F _ _ E (λ f. (x : Ident) → B x → EachInCommand B (f x)) (sound_lead M F mark.Assign _ E expr_kept)
+      (λ p h x b. (b, h)))
       (sound_alt M F _ _ _ (sound_as M F _ _ (λ p. E p.0 × (B p.1.0 × E p.1.1)) (λ f. (x : Ident) → B x → EachInCommand B (f x))
-      (sound_lead M F mark.OpenBracket _ _ (sound_seq M F _ _ E (λ p. B p.0 × E p.1) expr_kept (sound_lead M F mark.CloseBracket _ _ (sound_lead M F mark.Dot _ _ (sound_seq M F _ _ B E ident_kept (sound_lead M F mark.Assign _ E expr_kept))))))
+      (sound_lead M F mark.OpenBracket _ _
+      (sound_seq M F _ _ E (λ p. B p.0 × E p.1) expr_kept
+      (sound_lead M F mark.CloseBracket _ _ (sound_lead M F mark.Dot _ _ (sound_seq M F _ _ B E ident_kept (sound_lead M F mark.Assign _ E expr_kept))))))
       (λ p h x b. (b, h.0, h.1.0, h.1.1)))
       (sound_as M F _ _ (λ p. B p.0 × E p.1) (λ f. (x : Ident) → B x → EachInCommand B (f x))
       (sound_lead M F mark.Dot _ _ (sound_seq M F _ _ B E ident_kept (sound_lead M F mark.Assign _ E expr_kept))) (λ p h x b. (b, h.0, h.1)))))
 
   field_value_kept : Sound M F rules.field_value (λ f. B f.field × E f.value)
-  field_value_kept = sound_part M F _ _ (sound_as M F _ _ _ (λ f. B f.field × E f.value) (sound_seq M F _ _ B E ident_kept (sound_lead M F mark.Equal _ E expr_kept)) (λ p h. h))
+  field_value_kept =
+      sound_part M F _ _ (sound_as M F _ _ _ (λ f. B f.field × E f.value) (sound_seq M F _ _ B E ident_kept (sound_lead M F mark.Equal _ E expr_kept))
+      (λ p h. h))
 
   listed_kept : {X : Type 0} → (m : Mark) (g : Rule X) (P : X → Type 0) → Sound M F g P → Sound M F (rules.listed m g) (Every P)
   listed_kept m g P p = sound_as M F _ _ _ (Every P) (sound_seq M F _ _ P (Every P) p (sound_many M F _ _ (sound_lead M F m _ P p))) (λ p h. (h.0, h.1))
@@ -191,15 +212,32 @@ module _ (n : ℕ) (M : Meaning) (hyp : (c : Deep) → Sound M (λ t. Named n t.
   command_kept =
       sound_alt M F _ _ (EachInCommand B) (sound_as M F _ _ (λ u. Unit {0}) (EachInCommand B) (anything _) (λ a h. tt))
       (sound_alt M F _ _ (EachInCommand B) (sound_as M F s.Block _ (EachInCommands B) (EachInCommand B) block_kept (λ a h. h))
-      (sound_alt M F _ _ (EachInCommand B) (sound_as M F _ _ _ (EachInCommand B) (sound_seq M F _ _ B (λ f. (x : Ident) → B x → EachInCommand B (f x)) ident_kept setting_kept) (λ p h. h.1 p.0 h.0))
-      (sound_alt M F _ _ (EachInCommand B) (sound_as M F _ _ _ (EachInCommand B) (sound_lead M F mark.Write _ _ (sound_lead M F mark.Open _ _ (sound_seq M F _ _ B E ident_kept (sound_lead M F mark.Equal _ E (sound_closed M F mark.Close _ E expr_kept))))) (λ p h. (h.0, h.1)))
-      (sound_alt M F _ _ (EachInCommand B) (sound_as M F s.Print _ E (EachInCommand B) (sound_lead M F mark.Print _ E (sound_lead M F mark.Open _ E (sound_closed M F mark.Close _ E expr_kept))) (λ a h. h))
+      (sound_alt M F _ _ (EachInCommand B)
+      (sound_as M F _ _ _ (EachInCommand B) (sound_seq M F _ _ B (λ f. (x : Ident) → B x → EachInCommand B (f x)) ident_kept setting_kept)
+      (λ p h. h.1 p.0 h.0))
+      (sound_alt M F _ _ (EachInCommand B)
+      (sound_as M F _ _ _ (EachInCommand B)
+      (sound_lead M F mark.Write _ _
+      (sound_lead M F mark.Open _ _ (sound_seq M F _ _ B E ident_kept (sound_lead M F mark.Equal _ E (sound_closed M F mark.Close _ E expr_kept)))))
+      (λ p h. (h.0, h.1)))
+      (sound_alt M F _ _ (EachInCommand B)
+      (sound_as M F s.Print _ E (EachInCommand B) (sound_lead M F mark.Print _ E (sound_lead M F mark.Open _ E (sound_closed M F mark.Close _ E expr_kept)))
+      (λ a h. h))
       (sound_alt M F _ _ (EachInCommand B) (sound_as M F _ _ _ (EachInCommand B)
-      (sound_lead M F mark.If _ _ (sound_seq M F _ _ (EachInCond B) _ cond_kept (sound_lead M F mark.Then _ _ (sound_seq M F _ _ (EachInCommand B) (EachInCommand B) (hyp Command) (sound_lead M F mark.Else _ (EachInCommand B) (hyp Command))))))
+      (sound_lead M F mark.If _ _
+      (sound_seq M F _ _ (EachInCond B) _ cond_kept
+      (sound_lead M F mark.Then _ _
+      (sound_seq M F _ _ (EachInCommand B) (EachInCommand B) (hyp Command) (sound_lead M F mark.Else _ (EachInCommand B) (hyp Command))))))
       (λ p h. (h.0, h.1.0, h.1.1)))
-      (sound_alt M F _ _ (EachInCommand B) (sound_as M F _ _ _ (EachInCommand B) (sound_lead M F mark.Foreach _ _ (sound_seq M F _ _ _ (EachInCommands B) visit_kept block_kept)) (λ p h. (h.0.0, h.0.1.0, h.0.1.1, h.1)))
+      (sound_alt M F _ _ (EachInCommand B)
+      (sound_as M F _ _ _ (EachInCommand B) (sound_lead M F mark.Foreach _ _ (sound_seq M F _ _ _ (EachInCommands B) visit_kept block_kept))
+      (λ p h. (h.0.0, h.0.1.0, h.0.1.1, h.1)))
       (sound_alt M F _ _ (EachInCommand B) (sound_as M F _ _ _ (EachInCommand B)
-      (sound_lead M F mark.Insert _ _ (sound_seq M F _ _ B _ ident_kept (sound_lead M F mark.Open _ _ (sound_seq M F _ _ (Every (λ f. B f.field × E f.value)) B field_values_kept (sound_lead M F mark.Close _ _ (sound_lead M F mark.Into _ B ident_kept))))))
+      (sound_lead M F mark.Insert _ _
+      (sound_seq M F _ _ B _ ident_kept
+      (sound_lead M F mark.Open _ _
+      (sound_seq M F _ _ (Every (λ f. B f.field × E f.value)) B field_values_kept
+      (sound_lead M F mark.Close _ _ (sound_lead M F mark.Into _ B ident_kept))))))
       (λ p h. (h.0, each_fields B p.1.0 h.1.0, h.1.1)))
       (sound_alt M F _ _ (EachInCommand B) (sound_as M F _ _ _ (EachInCommand B) (sound_lead M F mark.Delete _ _ visit_kept) (λ p h. (h.0, h.1.0, h.1.1)))
       (sound_as M F _ _ _ (EachInCommand B)
@@ -212,7 +250,9 @@ module _ (n : ℕ) (M : Meaning) (hyp : (c : Deep) → Sound M (λ t. Named n t.
   rule_kept Command = command_kept
 
   object_kept : Sound M F rules.object (λ o. B o.name)
-  object_kept = sound_part M F _ _ (sound_as M F _ _ _ (λ o. B o.name) (sound_lead M F mark.Object _ _ (sound_seq M F _ _ B (λ u. Unit {0}) ident_kept (anything _))) (λ p h. h.0))
+  object_kept =
+      sound_part M F _ _ (sound_as M F _ _ _ (λ o. B o.name) (sound_lead M F mark.Object _ _ (sound_seq M F _ _ B (λ u. Unit {0}) ident_kept (anything _)))
+      (λ p h. h.0))
 
   separated_kept : {X : Type 0} → (m : Mark) (g : Rule X) (P : X → Type 0) → Sound M F g P → Sound M F (rules.separated m g) (Every P)
   separated_kept m g P p = sound_alt M F _ _ (Every P) (listed_kept m g P p) (sound_nothing M F [] _ tt)
@@ -226,8 +266,10 @@ module _ (n : ℕ) (M : Meaning) (hyp : (c : Deep) → Sound M (λ t. Named n t.
   relation_kept : Sound M F rules.relation (IsRelation B)
   relation_kept =
       sound_part M F _ _ (sound_as M F _ _ _ (IsRelation B)
-      (sound_lead M F mark.Relation _ _ (sound_seq M F _ _ B _ ident_kept (sound_lead M F mark.OpenBracket _ _ (sound_seq M F _ _ (λ x. pos 0 ≤ℤ x.value) _ number_kept
-      (sound_lead M F mark.CloseBracket _ _ (sound_lead M F mark.Open _ _ (sound_closed M F mark.Close _ _ (sound_part M F _ _ (listed_kept mark.Comma rules.decl (λ p. B p.name) decl_kept)))))))))
+      (sound_lead M F mark.Relation _ _
+      (sound_seq M F _ _ B _ ident_kept (sound_lead M F mark.OpenBracket _ _ (sound_seq M F _ _ (λ x. pos 0 ≤ℤ x.value) _ number_kept
+      (sound_lead M F mark.CloseBracket _ _
+      (sound_lead M F mark.Open _ _ (sound_closed M F mark.Close _ _ (sound_part M F _ _ (listed_kept mark.Comma rules.decl (λ p. B p.name) decl_kept)))))))))
       (λ p h. (h.0, each_of (λ p. B p.name) (λ p. B p.name) (λ a x. x) p.1.1 h.1.1)))
 
   parameters_kept : Sound M F rules.parameters (Every (λ p. B p.name))
@@ -236,7 +278,10 @@ module _ (n : ℕ) (M : Meaning) (hyp : (c : Deep) → Sound M (λ t. Named n t.
   transaction_kept : Sound M F rules.transaction (IsTransaction B)
   transaction_kept =
       sound_part M F _ _ (sound_as M F _ _ _ (IsTransaction B)
-      (sound_lead M F mark.Transaction _ _ (sound_seq M F _ _ B _ ident_kept (sound_lead M F mark.Open _ _ (sound_seq M F _ _ (Every (λ p. B p.name)) (EachInCommands B) (sound_closed M F mark.Close _ _ parameters_kept) block_kept))))
+      (sound_lead M F mark.Transaction _ _
+      (sound_seq M F _ _ B _ ident_kept
+      (sound_lead M F mark.Open _ _
+      (sound_seq M F _ _ (Every (λ p. B p.name)) (EachInCommands B) (sound_closed M F mark.Close _ _ parameters_kept) block_kept))))
       (λ p h. (h.0, each_of (λ p. B p.name) (λ p. B p.name) (λ a x. x) p.1.0 h.1.0, h.1.1)))
 
   invocation_kept : Sound M F rules.invocation (λ k. B k.name)
@@ -244,11 +289,15 @@ module _ (n : ℕ) (M : Meaning) (hyp : (c : Deep) → Sound M (λ t. Named n t.
 
   calls_kept : Sound M F rules.calls (Every (λ k. B k.name))
   calls_kept =
-      sound_part M F _ _ (sound_lead M F mark.OpenBrace _ _ (sound_closed M F mark.CloseBrace _ _ (sound_part M F _ _ (separated_kept mark.Semicolon rules.invocation (λ k. B k.name) invocation_kept))))
+      sound_part M F _ _ (sound_lead M F mark.OpenBrace _ _
+      (sound_closed M F mark.CloseBrace _ _ (sound_part M F _ _ (separated_kept mark.Semicolon rules.invocation (λ k. B k.name) invocation_kept))))
 
   client_kept : Sound M F rules.client (λ c. IsClient B c × IsSite c)
   client_kept =
-      sound_part M F _ _ (sound_as M F _ _ _ (λ c. IsClient B c × IsSite c) (sound_lead M F mark.Client _ _ (sound_seq M F _ _ B _ ident_kept (sound_lead M F mark.At _ _ (sound_seq M F _ _ (λ x. pos 0 ≤ℤ x.value) (Every (λ k. B k.name)) number_kept calls_kept))))
+      sound_part M F _ _ (sound_as M F _ _ _ (λ c. IsClient B c × IsSite c)
+      (sound_lead M F mark.Client _ _
+      (sound_seq M F _ _ B _ ident_kept
+      (sound_lead M F mark.At _ _ (sound_seq M F _ _ (λ x. pos 0 ≤ℤ x.value) (Every (λ k. B k.name)) number_kept calls_kept))))
       (λ p h. ((h.0, each_of (λ k. B k.name) (λ k. B k.name) (λ a x. x) p.1.1 h.1.1), h.1.0)))
 
   schedule_kept : Sound M F rules.schedule (InSchedule B)

@@ -10,6 +10,7 @@ pub mod Keeps
 pub mod Kept
 pub mod Lists
 pub mod Outcomes
+pub mod Repeated
 pub mod Unfold
 pub mod Whole
 pub mod Words

@@ -5,7 +5,7 @@ use Rattle.std.specs.Prelude.{Ok, Err, if◌then◌else◌}
 use Rattle.homeo_syntax.specs.declared.token.Kind.{Kind}
 use Rattle.homeo_syntax.specs.declared.token.Token.{Token}
 use Rattle.homeo_syntax.specs.Grammar.{Grammar, token, nothing, call, seq, alt, many, part, as_value, takes, Repeats, Spells, SameHead}
-use Rattle.homeo_reader.specs.Engine.{Reading, ◌>>=◌, Calls, empty, exists, begins, first_is, read_token, repeat, read, Classes, decides}
+use Rattle.homeo_reader.specs.inner.Engine.{Reading, ◌>>=◌, Calls, empty, exists, begins, first_is, read_token, repeat, read, Classes, decides}
 use Rattle.homeo_reader.proofs.Bools.{and_split, or_split, if_true, if_false, not_true}
 use Rattle.homeo_reader.proofs.Words.{Takes, Outcome, Known, some_word, empty_word, begun_exists}
 
@@ -25,7 +25,8 @@ same_append (t ∷ w) r z s = (w ++ z, refl)
 pub head_subst : (r r' z : List Token) → r ≡ r' → SameHead r' z → SameHead r z
 head_subst r r' z e s = subst (λ (x : List Token). SameHead x z) (sym e) s
 
-pub first_begins : (test : Kind → Bool) (ts : List Token) → first_is test ts ≡ true → (t : Token) × (rest : List Token) × (ts ≡ t ∷ rest) × (test t.kind ≡ true)
+pub first_begins : (test : Kind → Bool) (ts : List Token) → first_is test ts ≡ true →
+    (t : Token) × (rest : List Token) × (ts ≡ t ∷ rest) × (test t.kind ≡ true)
 first_begins test [] h = cc
 first_begins test (t ∷ ts) h = (t, ts, refl, h)
 
@@ -34,7 +35,14 @@ pub token_outcome : {A : Type 0} → (classes : List ℕ) (test : Kind → Bool)
     (P : A → List Token → Type 0) → ((t : Token) → takes classes test t.kind ≡ true → P (value t) (t ∷ [])) →
     (ts : List Token) → Outcome P (read_token classes test value) ts (read_token classes test value ts)
 token_outcome classes test value sample d P is [] =
-    record { word = []; cut = refl; more = sample ∷ []; value = value sample; is = is sample d; steady = λ z s. ap (read_token classes test value) s ∙ ap Err (sym s) }
+    record {
+      word = [];
+      cut = refl;
+      more = sample ∷ [];
+      value = value sample;
+      is = is sample d;
+      steady = λ z s. ap (read_token classes test value) s ∙ ap Err (sym s);
+    }
 token_outcome classes test value sample d P is (t ∷ ts) = go (takes classes test t.kind) refl
   where
     go : (b : Bool) → takes classes test t.kind ≡ b → Outcome P (read_token classes test value) (t ∷ ts) (if b then Ok (value t, ts) else Err (t ∷ ts))
@@ -110,19 +118,23 @@ map_outcome P R f is one ts (Err rest) o = record {
 pub part_outcome : {A : Type 0} → (P R : A → List Token → Type 0) → ((a : A) (u : List Token) → P a u → R a u) →
     (one : List Token → Reading A) (ts : List Token) (x : Reading A) → Outcome P one ts x → Outcome R one ts x
 part_outcome P R is one ts (Ok x) o = record { word = o.word; cut = o.cut; is = is x.0 o.word o.is; steady = o.steady }
-part_outcome P R is one ts (Err rest) o = record { word = o.word; cut = o.cut; more = o.more; value = o.value; is = is o.value (o.word ++ o.more) o.is; steady = o.steady }
+part_outcome P R is one ts (Err rest) o =
+    record { word = o.word; cut = o.cut; more = o.more; value = o.value; is = is o.value (o.word ++ o.more) o.is; steady = o.steady }
 
 -- One or the other.
 pub alt_outcome : {A : Type 0} → (P Q R : A → List Token → Type 0) → ((a : A) (u : List Token) → P a u → R a u) → ((a : A) (u : List Token) → Q a u → R a u) →
     (test : Kind → Bool) (there : Bool) (one two : List Token → Reading A) (ts : List Token) →
-    (first_is test ts ≡ true → Outcome P one ts (one ts)) → (there ≡ true → Outcome Q two ts (two ts)) → (there ≡ false → (a : A) × (w : List Token) × P a w) →
-    Outcome R (λ ts. if first_is test ts then one ts else (if there then two ts else Err ts)) ts (if first_is test ts then one ts else (if there then two ts else Err ts))
+    (first_is test ts ≡ true → Outcome P one ts (one ts)) → (there ≡ true → Outcome Q two ts (two ts)) →
+    (there ≡ false → (a : A) × (w : List Token) × P a w) →
+    Outcome R (λ ts. if first_is test ts then one ts else (if there then two ts else Err ts)) ts
+    (if first_is test ts then one ts else (if there then two ts else Err ts))
 alt_outcome {A = A} P Q R left right test there one two ts l r some = go (first_is test ts) there refl refl
   where
     reads : List Token → Reading A
     reads ts = if first_is test ts then one ts else (if there then two ts else Err ts)
 
-    first : (x : Reading A) → first_is test ts ≡ true → Outcome P one ts x → Outcome R (λ ts. if first_is test ts then one ts else (if there then two ts else Err ts)) ts x
+    first : (x : Reading A) → first_is test ts ≡ true → Outcome P one ts x →
+        Outcome R (λ ts. if first_is test ts then one ts else (if there then two ts else Err ts)) ts x
     first (Ok x) e o = record {
       word = o.word;
       cut = o.cut;
@@ -138,12 +150,15 @@ alt_outcome {A = A} P Q R left right test there one two ts l r some = go (first_
       steady = λ z s. if_true _ (one (o.word ++ z)) _ (first_same test o.word rest z s ∙ ap (first_is test) (sym o.cut) ∙ e) ∙ o.steady z s;
     }
 
-    second : (x : Reading A) → first_is test ts ≡ false → there ≡ true → Outcome Q two ts x → Outcome R (λ ts. if first_is test ts then one ts else (if there then two ts else Err ts)) ts x
+    second : (x : Reading A) → first_is test ts ≡ false → there ≡ true → Outcome Q two ts x →
+        Outcome R (λ ts. if first_is test ts then one ts else (if there then two ts else Err ts)) ts x
     second (Ok x) e h o = record {
       word = o.word;
       cut = o.cut;
       is = right x.0 o.word o.is;
-      steady = λ z s. if_false _ (one (o.word ++ z)) (if there then two (o.word ++ z) else Err (o.word ++ z)) (first_same test o.word x.1 z s ∙ ap (first_is test) (sym o.cut) ∙ e) ∙ if_true there (two (o.word ++ z)) (Err (o.word ++ z)) h ∙ o.steady z s;
+      steady =
+          λ z s. if_false _ (one (o.word ++ z)) (if there then two (o.word ++ z) else Err (o.word ++ z))
+          (first_same test o.word x.1 z s ∙ ap (first_is test) (sym o.cut) ∙ e) ∙ if_true there (two (o.word ++ z)) (Err (o.word ++ z)) h ∙ o.steady z s;
     }
     second (Err rest) e h o = record {
       word = o.word;
@@ -151,10 +166,13 @@ alt_outcome {A = A} P Q R left right test there one two ts l r some = go (first_
       more = o.more;
       value = o.value;
       is = right o.value (o.word ++ o.more) o.is;
-      steady = λ z s. if_false _ (one (o.word ++ z)) (if there then two (o.word ++ z) else Err (o.word ++ z)) (first_same test o.word rest z s ∙ ap (first_is test) (sym o.cut) ∙ e) ∙ if_true there (two (o.word ++ z)) (Err (o.word ++ z)) h ∙ o.steady z s;
+      steady =
+          λ z s. if_false _ (one (o.word ++ z)) (if there then two (o.word ++ z) else Err (o.word ++ z))
+          (first_same test o.word rest z s ∙ ap (first_is test) (sym o.cut) ∙ e) ∙ if_true there (two (o.word ++ z)) (Err (o.word ++ z)) h ∙ o.steady z s;
     }
 
-    go : (b c : Bool) → first_is test ts ≡ b → there ≡ c → Outcome R (λ ts. if first_is test ts then one ts else (if there then two ts else Err ts)) ts (if b then one ts else (if c then two ts else Err ts))
+    go : (b c : Bool) → first_is test ts ≡ b → there ≡ c →
+        Outcome R (λ ts. if first_is test ts then one ts else (if there then two ts else Err ts)) ts (if b then one ts else (if c then two ts else Err ts))
     go true c e h = first (one ts) e (l e)
     go false true e h = second (two ts) e h (r h)
     go false false e h =
@@ -169,13 +187,15 @@ alt_outcome {A = A} P Q R left right test there one two ts l r some = go (first_
         }
 
 -- What a repetition reads, whatever the number of turns that it has left, if that is enough.
-pub record TakesAll {A : Type 0} (P : List A → List Token → Type 0) (test : Kind → Bool) (one : List Token → Reading A) (ts : List Token) (a : List A) (rest : List Token) : Type 0 where
+pub record TakesAll {A : Type 0} (P : List A → List Token → Type 0) (test : Kind → Bool) (one : List Token → Reading A) (ts : List Token) (a : List A)
+    (rest : List Token) : Type 0 where
   pub word : List Token
   pub cut : ts ≡ word ++ rest
   pub is : P a word
   pub steady : (m : ℕ) (z : List Token) → length (word ++ z) ≤ m → SameHead rest z → repeat test one m (word ++ z) ≡ Ok (a, z)
 
-pub record StopsAll {A : Type 0} (P : List A → List Token → Type 0) (test : Kind → Bool) (one : List Token → Reading A) (ts : List Token) (rest : List Token) : Type 0 where
+pub record StopsAll {A : Type 0} (P : List A → List Token → Type 0) (test : Kind → Bool) (one : List Token → Reading A) (ts : List Token)
+    (rest : List Token) : Type 0 where
   pub word : List Token
   pub cut : ts ≡ word ++ rest
   pub more : List Token
@@ -188,7 +208,8 @@ OutcomeAll P test one ts (Ok x) = TakesAll P test one ts x.0 x.1
 OutcomeAll P test one ts (Err rest) = StopsAll P test one ts rest
 
 -- no more of them
-pub repeat_ends : {A : Type 0} → (test : Kind → Bool) (one : List Token → Reading A) (m : ℕ) (ts : List Token) → first_is test ts ≡ false → repeat test one m ts ≡ Ok ([], ts)
+pub repeat_ends : {A : Type 0} → (test : Kind → Bool) (one : List Token → Reading A) (m : ℕ) (ts : List Token) → first_is test ts ≡ false →
+    repeat test one m ts ≡ Ok ([], ts)
 repeat_ends test one zero ts e = refl
 repeat_ends test one (suc m) ts e = if_false _ (one ts >>= λ x. repeat test one m x.1 >>= λ y. Ok (x.0 ∷ y.0, y.1)) _ e
 
@@ -206,16 +227,19 @@ longer (t ∷ w) r ts ne e = omega (arith, ap length e, length-append w r)
 abbrev pub then_more : {A : Type 0} → (Kind → Bool) → (List Token → Reading A) → ℕ → Reading A → Reading (List A)
 then_more test one n x = x >>= λ x. repeat test one n x.1 >>= λ y. Ok (x.0 ∷ y.0, y.1)
 
-repeat_again : {A : Type 0} → (P : A → List Token → Type 0) → (test : Kind → Bool) (one : List Token → Reading A) (n : ℕ) (ts : List Token) → first_is test ts ≡ true → (a : A) (r : List Token) → (t : Takes P one ts a r) → (t.word ≡ [] → ⊥) →
+repeat_again : {A : Type 0} → (P : A → List Token → Type 0) → (test : Kind → Bool) (one : List Token → Reading A) (n : ℕ) (ts : List Token) →
+    first_is test ts ≡ true → (a : A) (r : List Token) → (t : Takes P one ts a r) → (t.word ≡ [] → ⊥) →
     (y : Reading (List A)) → OutcomeAll (Repeats P) test one r y → OutcomeAll (Repeats P) test one ts (y >>= λ y. Ok (a ∷ y.0, y.1))
 repeat_again {A = A} P test one n ts e a r t ne (Ok y) o = record {
   word = t.word ++ o.word;
   cut = t.cut ∙ ap (λ (x : List Token). t.word ++ x) o.cut ∙ sym (append_assoc t.word o.word y.1);
   is = (t.word, o.word, refl, t.is, o.is);
   steady = λ m z l s.
-      let first : first_is test ((t.word ++ o.word) ++ z) ≡ true = first_same test (t.word ++ o.word) y.1 z s ∙ ap (first_is test) (append_assoc t.word o.word y.1 ∙ ap (λ (x : List Token). t.word ++ x) (sym o.cut) ∙ sym t.cut) ∙ e in
+      let first : first_is test ((t.word ++ o.word) ++ z) ≡ true = first_same test (t.word ++ o.word) y.1 z s
+      ∙ ap (first_is test) (append_assoc t.word o.word y.1 ∙ ap (λ (x : List Token). t.word ++ x) (sym o.cut) ∙ sym t.cut) ∙ e in
       let k = repeat_more test one m ((t.word ++ o.word) ++ z) first l in
-      let room : length (o.word ++ z) ≤ k.0 = omega (arith, longer t.word (o.word ++ z) (t.word ++ (o.word ++ z)) ne refl, ap length (append_assoc t.word o.word z), k.1) in
+      let room : length (o.word ++ z) ≤ k.0 =
+      omega (arith, longer t.word (o.word ++ z) (t.word ++ (o.word ++ z)) ne refl, ap length (append_assoc t.word o.word z), k.1) in
       k.2 ∙ ap (λ (x : List Token). then_more test one k.0 (one x)) (append_assoc t.word o.word z)
       ∙ ap (then_more test one k.0) (t.steady (o.word ++ z) (head_subst _ _ _ o.cut (same_append o.word y.1 z s)))
       ∙ ap (λ x. x >>= λ y. Ok (a ∷ y.0, y.1)) (o.steady k.0 z room s);
@@ -227,9 +251,11 @@ repeat_again {A = A} P test one n ts e a r t ne (Err rest) o = record {
   value = a ∷ o.value;
   is = (t.word, o.word ++ o.more, append_assoc t.word o.word o.more, t.is, o.is);
   steady = λ m z l s.
-      let first : first_is test ((t.word ++ o.word) ++ z) ≡ true = first_same test (t.word ++ o.word) rest z s ∙ ap (first_is test) (append_assoc t.word o.word rest ∙ ap (λ (x : List Token). t.word ++ x) (sym o.cut) ∙ sym t.cut) ∙ e in
+      let first : first_is test ((t.word ++ o.word) ++ z) ≡ true = first_same test (t.word ++ o.word) rest z s
+      ∙ ap (first_is test) (append_assoc t.word o.word rest ∙ ap (λ (x : List Token). t.word ++ x) (sym o.cut) ∙ sym t.cut) ∙ e in
       let k = repeat_more test one m ((t.word ++ o.word) ++ z) first l in
-      let room : length (o.word ++ z) ≤ k.0 = omega (arith, longer t.word (o.word ++ z) (t.word ++ (o.word ++ z)) ne refl, ap length (append_assoc t.word o.word z), k.1) in
+      let room : length (o.word ++ z) ≤ k.0 =
+      omega (arith, longer t.word (o.word ++ z) (t.word ++ (o.word ++ z)) ne refl, ap length (append_assoc t.word o.word z), k.1) in
       k.2 ∙ ap (λ (x : List Token). then_more test one k.0 (one x)) (append_assoc t.word o.word z)
       ∙ ap (then_more test one k.0) (t.steady (o.word ++ z) (head_subst _ _ _ o.cut (same_append o.word rest z s)))
       ∙ ap (λ x. x >>= λ y. Ok (a ∷ y.0, y.1)) (o.steady k.0 z room s);
@@ -239,12 +265,16 @@ not_empty_word : {A : Type 0} → (P : A → List Token → Type 0) → ((a : A)
 not_empty_word P full a w p e = full a (subst (P a) e p)
 
 pub repeat_outcome : {A : Type 0} → (P : A → List Token → Type 0) → ((a : A) → P a [] → ⊥) → (test : Kind → Bool) (one : List Token → Reading A) →
-    ((ts : List Token) → first_is test ts ≡ true → Outcome P one ts (one ts)) → (n : ℕ) (ts : List Token) → length ts ≤ n → OutcomeAll (Repeats P) test one ts (repeat test one n ts)
-repeat_outcome P full test one each zero [] l = record { word = []; cut = refl; is = refl; steady = λ m z l s. repeat_ends test one m z (ap (first_is test) s) }
+    ((ts : List Token) → first_is test ts ≡ true → Outcome P one ts (one ts)) → (n : ℕ) (ts : List Token) → length ts ≤ n →
+    OutcomeAll (Repeats P) test one ts (repeat test one n ts)
+repeat_outcome P full test one each zero [] l =
+    record { word = []; cut = refl; is = refl; steady = λ m z l s. repeat_ends test one m z (ap (first_is test) s) }
 repeat_outcome P full test one each zero (t ∷ ts) l = absurd (omega arith)
 repeat_outcome {A = A} P full test one each (suc n) ts l = go (first_is test ts) refl (repeat_outcome P full test one each n)
   where
-    turn : (x : Reading A) → first_is test ts ≡ true → Outcome P one ts x → ((r : List Token) → length r ≤ n → OutcomeAll (Repeats P) test one r (repeat test one n r)) → OutcomeAll (Repeats P) test one ts (then_more test one n x)
+    turn : (x : Reading A) → first_is test ts ≡ true → Outcome P one ts x →
+        ((r : List Token) → length r ≤ n → OutcomeAll (Repeats P) test one r (repeat test one n r)) →
+        OutcomeAll (Repeats P) test one ts (then_more test one n x)
     turn (Ok x) e o ih =
         let ne = not_empty_word P full x.0 o.word o.is in
         repeat_again P test one n ts e x.0 x.1 o ne (repeat test one n x.1) (ih x.1 (omega (arith, longer o.word x.1 ts ne o.cut)))
@@ -259,19 +289,25 @@ repeat_outcome {A = A} P full test one each (suc n) ts l = go (first_is test ts)
           k.2 ∙ ap (then_more test one k.0) (o.steady z s);
     }
 
-    go : (b : Bool) → first_is test ts ≡ b → ((r : List Token) → length r ≤ n → OutcomeAll (Repeats P) test one r (repeat test one n r)) → OutcomeAll (Repeats P) test one ts (if b then then_more test one n (one ts) else Ok ([], ts))
+    go : (b : Bool) → first_is test ts ≡ b → ((r : List Token) → length r ≤ n → OutcomeAll (Repeats P) test one r (repeat test one n r)) →
+        OutcomeAll (Repeats P) test one ts (if b then then_more test one n (one ts) else Ok ([], ts))
     go true e ih = turn (one ts) e (each ts e) ih
     go false e ih = record { word = []; cut = refl; is = refl; steady = λ m z l s. repeat_ends test one m z (first_same test [] ts z s ∙ e) }
 
-pub outcome_from_all : {A : Type 0} → (P : List A → List Token → Type 0) (test : Kind → Bool) (one : List Token → Reading A) (ts : List Token) (x : Reading (List A)) → OutcomeAll P test one ts x → Outcome P (λ ts. repeat test one (length ts) ts) ts x
+pub outcome_from_all : {A : Type 0} → (P : List A → List Token → Type 0) (test : Kind → Bool) (one : List Token → Reading A) (ts : List Token)
+    (x : Reading (List A)) → OutcomeAll P test one ts x → Outcome P (λ ts. repeat test one (length ts) ts) ts x
 outcome_from_all P test one ts (Ok x) o = record { word = o.word; cut = o.cut; is = o.is; steady = λ z s. o.steady (length (o.word ++ z)) z (omega arith) s }
-outcome_from_all P test one ts (Err rest) o = record { word = o.word; cut = o.cut; more = o.more; value = o.value; is = o.is; steady = λ z s. o.steady (length (o.word ++ z)) z (omega arith) s }
+outcome_from_all P test one ts (Err rest) o =
+    record { word = o.word; cut = o.cut; more = o.more; value = o.value; is = o.is; steady = λ z s. o.steady (length (o.word ++ z)) z (omega arith) s }
 
-module _ {Call : Type 0} {Value : Call → Type 0} (cl : Classes Call) (cs : Calls Call Value) (M : (c : Call) → Value c → List Token → Type 0) (known : Known cl cs M) where
+module _ {Call : Type 0} {Value : Call → Type 0} (cl : Classes Call) (cs : Calls Call Value) (M : (c : Call) → Value c → List Token → Type 0)
+    (known : Known cl cs M) where
   -- each reading takes a phrase, or stops where no phrase goes on
-  pub read_outcome : {X : Type 0} → (g : Grammar Call Value X) → decides cl g ≡ true → exists cs g ≡ true → (ts : List Token) → Outcome (Spells M g) (read cs g) ts (read cs g ts)
+  pub read_outcome : {X : Type 0} → (g : Grammar Call Value X) → decides cl g ≡ true → exists cs g ≡ true → (ts : List Token) →
+      Outcome (Spells M g) (read cs g) ts (read cs g ts)
   unfolding read
-  read_outcome (token classes test value sample) d e ts = token_outcome classes test value sample d (Spells M (token classes test value sample)) (λ t h. (t, refl, h, refl)) ts
+  read_outcome (token classes test value sample) d e ts =
+      token_outcome classes test value sample d (Spells M (token classes test value sample)) (λ t h. (t, refl, h, refl)) ts
   read_outcome (nothing a) d e ts = record { word = []; cut = refl; is = (refl, refl); steady = λ z s. refl }
   read_outcome (call c) d e ts = known.outcome c ts e
   read_outcome (seq g h) d e ts =

@@ -1,6 +1,6 @@
 -- A text at fault reads as no workload, and a text reads as one at most.
 use Rattle.std.proofs.Common.{◌≡◌, ℕ, Bool, true, false, List, [], ◌∷◌, refl, subst, ap, ◌∙◌, sym, inl, inr, not, ◌+◌, length, map, cond}
-use Rattle.std.specs.Prelude.{Option, Some, None, Result, Ok, Err, position, ◌&&◌}
+use Rattle.std.specs.Prelude.{Option, Some, None, Result, Ok, Err, IfOk, position, ◌&&◌}
 use Rattle.std.specs.List.{list_all, position_from}
 use Rattle.std.proofs.lemmas.Iterator.Adapters.{position_from-zero}
 use Rattle.homeo_syntax.specs.declared.token.Token.{Token}
@@ -9,6 +9,7 @@ use Rattle.homeo_syntax.specs.Source as s
 use Rattle.homeo_syntax.specs.Tokens.{is_good, IsClean, Scanned, scanned_of, names_of, tokens_in}
 use Rattle.homeo_syntax.specs.Rules.{IsWorkload}
 use Rattle.homeo_syntax.specs.Reads.{Reads, IsUnread, offset_at}
+use Rattle.homeo_syntax.specs.WellFormed.{IsWellFormed}
 use Rattle.homeo_syntax.specs.declared.workload.Workload.{Workload}
 use Rattle.homeo_syntax.specs.SourceView.{plain_workload}
 use Rattle.homeo_syntax.specs.Grammar.{IsFault}
@@ -21,10 +22,11 @@ use Rattle.homeo_reader.specs.declared.parser.Fault.{Fault}
 use Rattle.homeo_reader.specs.declared.parser.Fault.TheVariants as fault
 use Rattle.homeo_reader.specs.declared.reader.ReadRefusal.{ReadRefusal}
 use Rattle.homeo_reader.specs.declared.reader.ReadRefusal.TheVariants.{Refused, Memory}
-use Rattle.homeo_reader.specs.Reading.{Gives}
-use Rattle.homeo_reader.specs.Exact.{ReadsExactly, ParsesExactly}
+use Rattle.homeo_reader.specs.inner.Reading.{Gives}
+use Rattle.homeo_reader.specs.inner.Exact.{ReadsExactly, ParsesExactly}
 use Rattle.homeo_reader.proofs.Faults.{one_fault, no_phrase}
-use Rattle.homeo_reader.specs.Declarations.{workload_read}
+use Rattle.homeo_reader.specs.inner.Declarations.{workload_read}
+use Rattle.homeo_reader.proofs.SpelledNames.{well_formed}
 use Rattle.homeo_reader.proofs.Top.{one_workload, at_fault}
 
 same_scan : (a b : List Scanned) (x : Result (List Scanned) ℕ) → x ≡ Ok a → x ≡ Ok b → a ≡ b
@@ -43,7 +45,8 @@ no_bad : (g : Bool) (i : ℕ) (later : Option ℕ) (all : Bool) → cond (not g)
 no_bad true i later all h k = k h
 no_bad false i later all h k = let no : ⊥ = cc in absurd no
 
-some_bad : (g : Bool) (i at : ℕ) (later : Option ℕ) (all : Bool) → cond (not g) (Some i) later ≡ Some at → (g && all) ≡ true → (later ≡ Some at → all ≡ true → ⊥) → ⊥
+some_bad : (g : Bool) (i at : ℕ) (later : Option ℕ) (all : Bool) → cond (not g) (Some i) later ≡ Some at → (g && all) ≡ true →
+    (later ≡ Some at → all ≡ true → ⊥) → ⊥
 some_bad true i at later all h c k = k h c
 some_bad false i at later all h c k = cc
 
@@ -74,8 +77,8 @@ same_parts : (r q : Refusal) → r.code ≡ q.code → r.offset ≡ q.offset →
 same_parts r q c o =
     ap (λ (n : ℕ). record { code = n; offset = r.offset }) c ∙ ap (λ (n : ℕ). record { code = q.code; offset = n }) o
 
-same_place : (x : Option ℕ) (a b : ℕ) → x ≡ Some a → x ≡ Some b → a ≡ b
-same_place x a b p q = cc
+same_offset : (x : Option ℕ) (a b : ℕ) → x ≡ Some a → x ≡ Some b → a ≡ b
+same_offset x a b p q = cc
 
 same_stop : (x : Result (List Scanned) ℕ) (a b : ℕ) → x ≡ Err a → x ≡ Err b → a ≡ b
 same_stop x a b p q = cc
@@ -83,7 +86,7 @@ same_stop x a b p q = cc
 -- a text has one refusal
 pub one_refusal : (text : List ℕ) (r q : Refusal) → IsUnread text r → IsUnread text q → r ≡ q
 one_refusal text r q (inl f) (inl g) =
-    same_parts r q (f.code ∙ sym g.code) (same_place (position (λ b. not (is_good b)) text) r.offset q.offset f.at g.at)
+    same_parts r q (f.code ∙ sym g.code) (same_offset (position (λ b. not (is_good b)) text) r.offset q.offset f.at g.at)
 one_refusal text r q (inl f) (inr (inl g)) = absurd (bad_text text r.offset f.at g.clean)
 one_refusal text r q (inl f) (inr (inr g)) = absurd (bad_text text r.offset f.at g.clean)
 one_refusal text r q (inr (inl f)) (inl g) = absurd (bad_text text q.offset g.at f.clean)
@@ -99,29 +102,51 @@ one_refusal text r q (inr (inr f)) (inr (inr g)) =
     same_parts r q (f.code ∙ sym g.code) (f.at ∙ ap (offset_at (length text)) k ∙ sym g.at)
 
 -- ---- what the functions of the reader return
-pub refused_at : (names : List (List ℕ)) (ts rest : List Token) (end offset : ℕ) (x : ReadRefusal) → x ≡ Refused (record { code = 4; offset = offset }) → offset ≡ offset_at end rest → IsFault (IsWorkload names) ts rest → ParsesExactly names ts end (Err x)
+pub read_well_formed : (text : List ℕ) (x : Result Workload ReadRefusal) → ReadsExactly text x → IfOk x (λ w. IsWellFormed (plain_workload w))
+read_well_formed text (Ok w) p = well_formed text (plain_workload w) p
+read_well_formed text (Err e) p = tt
+
+pub refused_at : (names : List (List ℕ)) (ts rest : List Token) (end offset : ℕ) (x : ReadRefusal) → x ≡ Refused (record { code = 4; offset = offset }) →
+    offset ≡ offset_at end rest → IsFault (IsWorkload names) ts rest → ParsesExactly names ts end (Err x)
 refused_at names ts rest end offset x e o f =
     subst (λ (x : ReadRefusal). ParsesExactly names ts end (Err x)) (sym e) (rest, f, ap (λ (n : ℕ). record { code = 4; offset = n }) o)
 
-pub fault_refused : (names : List (List ℕ)) (ts rest : List Token) (end offset : ℕ) (f : Fault) (x : ReadRefusal) → Gives plain_workload (Err f) rest (workload_read names ts) → (f ≡ fault.Memory → x ≡ Memory) → (f ≡ fault.Stuck → x ≡ Refused (record { code = 4; offset = offset })) → offset ≡ offset_at end rest → ParsesExactly names ts end (Err x)
+pub fault_refused : (names : List (List ℕ)) (ts rest : List Token) (end offset : ℕ) (f : Fault) (x : ReadRefusal) →
+    Gives plain_workload (Err f) rest (workload_read names ts) → (f ≡ fault.Memory → x ≡ Memory) →
+    (f ≡ fault.Stuck → x ≡ Refused (record { code = 4; offset = offset })) → offset ≡ offset_at end rest → ParsesExactly names ts end (Err x)
 fault_refused names ts rest end offset fault.Memory x g m k o = subst (λ (x : ReadRefusal). ParsesExactly names ts end (Err x)) (sym (m refl)) tt
 fault_refused names ts rest end offset fault.Stuck x g m k o = refused_at names ts rest end offset x (k refl) o (at_fault names ts rest g)
 
-pub no_token : (text : List ℕ) (offset : ℕ) (x : ReadRefusal) (e : ScanError) → x ≡ Refused (record { code = 3; offset = offset }) → Stops text e → e ≡ scan.At offset → position (λ b. not (is_good b)) text ≡ None → ReadsExactly text (Err x)
+pub no_token : (text : List ℕ) (offset : ℕ) (x : ReadRefusal) (e : ScanError) → x ≡ Refused (record { code = 3; offset = offset }) → Stops text e →
+    e ≡ scan.At offset → position (λ b. not (is_good b)) text ≡ None → ReadsExactly text (Err x)
 no_token text offset x e h stops is clean =
     subst (λ (x : ReadRefusal). ReadsExactly text (Err x)) (sym h)
     (inr (inl (record { code = refl; clean = clean_text text clean; at = subst (Stops text) is stops })))
 
-parsed_with : (text : List ℕ) (scanned : List Scanned) (x : Result Workload ReadRefusal) → IsClean text → scanned_of text ≡ Ok scanned → ParsesExactly (names_of scanned) (tokens_in (names_of scanned) scanned) (length text) x → ReadsExactly text x
+parsed_with : (text : List ℕ) (scanned : List Scanned) (x : Result Workload ReadRefusal) → IsClean text → scanned_of text ≡ Ok scanned →
+    ParsesExactly (names_of scanned) (tokens_in (names_of scanned) scanned) (length text) x → ReadsExactly text x
 parsed_with text scanned (Ok w) clean e p = record { clean = clean; scanned = scanned; lexemes = e; spells = p }
 parsed_with text scanned (Err Memory) clean e p = tt
 parsed_with text scanned (Err (Refused r)) clean e p =
-    inr (inr (record { code = ap (λ (r : Refusal). r.code) p.2; clean = clean; scanned = scanned; lexemes = e; fault = p.0; stuck = p.1; at = ap (λ (r : Refusal). r.offset) p.2 }))
+    inr (inr (record {
+      code = ap (λ (r : Refusal). r.code) p.2;
+      clean = clean;
+      scanned = scanned;
+      lexemes = e;
+      fault = p.0;
+      stuck = p.1;
+      at = ap (λ (r : Refusal). r.offset) p.2;
+    }))
 
-pub parsed : (text : List ℕ) (items written : List Written) (names : List (List ℕ)) (numbered tokens : List Token) (x : Result Workload ReadRefusal) → position (λ b. not (is_good b)) text ≡ None →
-    scanned_of text ≡ Ok (map plain_scanned items) → written ≡ items → names ≡ names_of (map plain_scanned written) → numbered ≡ tokens_in (names_of (map plain_scanned written)) (map plain_scanned written) → tokens ≡ numbered → ParsesExactly names tokens (length text) x → ReadsExactly text x
+pub parsed : (text : List ℕ) (items written : List Written) (names : List (List ℕ)) (numbered tokens : List Token) (x : Result Workload ReadRefusal) →
+    position (λ b. not (is_good b)) text ≡ None →
+    scanned_of text ≡ Ok (map plain_scanned items) → written ≡ items → names ≡ names_of (map plain_scanned written) →
+    numbered ≡ tokens_in (names_of (map plain_scanned written)) (map plain_scanned written) → tokens ≡ numbered → ParsesExactly names tokens (length text) x →
+    ReadsExactly text x
 parsed text items written names numbered tokens x clean e w n t u p =
     let all : names ≡ names_of (map plain_scanned items) = n ∙ ap (λ (l : List Written). names_of (map plain_scanned l)) w in
-    let each : tokens ≡ tokens_in (names_of (map plain_scanned items)) (map plain_scanned items) = u ∙ t ∙ ap (λ (l : List Written). tokens_in (names_of (map plain_scanned l)) (map plain_scanned l)) w in
+    let each : tokens ≡ tokens_in (names_of (map plain_scanned items)) (map plain_scanned items) = u ∙ t
+    ∙ ap (λ (l : List Written). tokens_in (names_of (map plain_scanned l)) (map plain_scanned l)) w in
     parsed_with text (map plain_scanned items) x (clean_text text clean) e
-    (subst (λ (ts : List Token). ParsesExactly (names_of (map plain_scanned items)) ts (length text) x) each (subst (λ (l : List (List ℕ)). ParsesExactly l tokens (length text) x) all p))
+    (subst (λ (ts : List Token). ParsesExactly (names_of (map plain_scanned items)) ts (length text) x) each
+    (subst (λ (l : List (List ℕ)). ParsesExactly l tokens (length text) x) all p))

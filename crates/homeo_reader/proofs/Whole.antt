@@ -4,7 +4,7 @@ use Rattle.std.proofs.lemmas.List.{append-nil}
 use Rattle.std.specs.Prelude.{Result, Ok, Err}
 use Rattle.homeo_syntax.specs.declared.token.Token.{Token}
 use Rattle.homeo_syntax.specs.Grammar.{Grammar, Spells, IsFault}
-use Rattle.homeo_reader.specs.Engine.{Reading, Calls, exists, read, Classes, decides, all_of}
+use Rattle.homeo_reader.specs.inner.Engine.{Reading, Calls, exists, read, Classes, decides, all_of}
 use Rattle.homeo_reader.proofs.Words.{Outcome, Known}
 use Rattle.homeo_reader.proofs.Outcomes.{read_outcome}
 use Rattle.homeo_reader.proofs.Complete.{read_complete}
@@ -24,7 +24,8 @@ nothing_left e = cc
 same_ok : {A : Type 0} → (a b : A) (x : Result A (List Token)) → x ≡ Ok a → x ≡ Ok b → a ≡ b
 same_ok a b x p q = cc
 
-module _ {Call : Type 0} {Value : Call → Type 0} (cl : Classes Call) (cs : Calls Call Value) (M : (c : Call) → Value c → List Token → Type 0) (known : Known cl cs M) {X : Type 0} (g : Grammar Call Value X) (d : decides cl g ≡ true) where
+module _ {Call : Type 0} {Value : Call → Type 0} (cl : Classes Call) (cs : Calls Call Value) (M : (c : Call) → Value c → List Token → Type 0)
+    (known : Known cl cs M) {X : Type 0} (g : Grammar Call Value X) (d : decides cl g ≡ true) where
   whole : (a : X) (w : List Token) → Spells M g a w → read cs g w ≡ Ok (a, [])
   whole a w s = ap (read cs g) (sym (append-nil w)) ∙ read_complete cl cs M known g d a w [] s tt
 

@@ -5,7 +5,7 @@ use Rattle.homeo_syntax.specs.declared.token.Kind.{Kind}
 use Rattle.homeo_syntax.specs.declared.token.Token.{Token}
 use Rattle.homeo_syntax.specs.Classes.{class_of}
 use Rattle.homeo_syntax.specs.Grammar.{Grammar, token, nothing, call, seq, alt, many, part, as_value, takes, Repeats, Spells, has, SameHead}
-use Rattle.homeo_reader.specs.Engine.{Reading, Calls, empty, exists, begins, Classes, starts, decides, where_empty}
+use Rattle.homeo_reader.specs.inner.Engine.{Reading, Calls, empty, exists, begins, Classes, starts, decides, where_empty}
 use Rattle.homeo_reader.proofs.Bools.{and_split, and_join, or_split, or_left, or_right, has_left, has_right, has_where}
 
 -- no token of these classes comes first
@@ -34,7 +34,8 @@ Outcome P reads ts (Ok x) = Takes P reads ts x.0 x.1
 Outcome P reads ts (Err rest) = Stops P reads ts rest
 
 -- What has to be known of the calls.
-pub record Known {Call : Type 0} {Value : Call → Type 0} (cl : Classes Call) (cs : Calls Call Value) (M : (c : Call) → Value c → List Token → Type 0) : Type 0 where
+pub record Known {Call : Type 0} {Value : Call → Type 0} (cl : Classes Call) (cs : Calls Call Value)
+    (M : (c : Call) → Value c → List Token → Type 0) : Type 0 where
   pub some : (c : Call) → cs.exists c ≡ true → (a : Value c) × (w : List Token) × M c a w
   pub exists : (c : Call) (a : Value c) (w : List Token) → M c a w → cs.exists c ≡ true
   pub full : (c : Call) (a : Value c) → M c a [] → ⊥
@@ -67,7 +68,8 @@ begin_many P b t h (a ∷ rest) w r = go r.0 r.1 r.2 r.3 r.4 (λ v e q. begin_ma
         let same : x ≡ t = cc in
         h a u (subst (λ (y : Token). P a (y ∷ u)) same p)
 
-module _ {Call : Type 0} {Value : Call → Type 0} (cl : Classes Call) (cs : Calls Call Value) (M : (c : Call) → Value c → List Token → Type 0) (known : Known cl cs M) where
+module _ {Call : Type 0} {Value : Call → Type 0} (cl : Classes Call) (cs : Calls Call Value) (M : (c : Call) → Value c → List Token → Type 0)
+    (known : Known cl cs M) where
   pub some_word : {X : Type 0} → (g : Grammar Call Value X) → decides cl g ≡ true → exists cs g ≡ true → (a : X) × (w : List Token) × Spells M g a w
   some_word (token classes test value sample) d e = (value sample, sample ∷ [], (sample, refl, d, refl))
   some_word (nothing a) d e = (a, [], (refl, refl))
@@ -117,7 +119,8 @@ module _ {Call : Type 0} {Value : Call → Type 0} (cl : Classes Call) (cs : Cal
   empty_exists (nothing a) e = refl
   empty_exists (call c) e = cc
   empty_exists (seq g h) e = let ee = and_split (empty g) (empty h) e in and_join _ _ (empty_exists g ee.0) (empty_exists h ee.1)
-  empty_exists (alt g h) e = elim (or_split (empty g) (empty h) e) [ inl x ↦ or_left _ _ (empty_exists g x) | inr x ↦ or_right (exists cs g) _ (empty_exists h x) ]
+  empty_exists (alt g h) e =
+      elim (or_split (empty g) (empty h) e) [ inl x ↦ or_left _ _ (empty_exists g x) | inr x ↦ or_right (exists cs g) _ (empty_exists h x) ]
   empty_exists (many g) e = refl
   empty_exists (part g) e = empty_exists g e
   empty_exists (as_value f g) e = empty_exists g e
@@ -131,7 +134,8 @@ module _ {Call : Type 0} {Value : Call → Type 0} (cl : Classes Call) (cs : Cal
         | inl x ↦ (let s = and_split (begins cs g k) (exists cs h) x in and_join _ _ (begun_exists g k s.0) s.1)
         | inr x ↦ (let s = and_split (empty g) (begins cs h k) x in and_join _ _ (empty_exists g s.0) (begun_exists h k s.1))
       ]
-  begun_exists (alt g h) k b = elim (or_split (begins cs g k) (begins cs h k) b) [ inl x ↦ or_left _ _ (begun_exists g k x) | inr x ↦ or_right (exists cs g) _ (begun_exists h k x) ]
+  begun_exists (alt g h) k b =
+      elim (or_split (begins cs g k) (begins cs h k) b) [ inl x ↦ or_left _ _ (begun_exists g k x) | inr x ↦ or_right (exists cs g) _ (begun_exists h k x) ]
   begun_exists (many g) k b = refl
   begun_exists (part g) k b = begun_exists g k b
   begun_exists (as_value f g) k b = begun_exists g k b
@@ -142,10 +146,17 @@ module _ {Call : Type 0} {Value : Call → Type 0} (cl : Classes Call) (cs : Cal
   begun_starts (call c) k b = known.starts c k b
   begun_starts (seq g h) k b =
       elim (or_split (begins cs g k && exists cs h) (empty g && begins cs h k) b) [
-        | inl x ↦ (let s = and_split (begins cs g k) (exists cs h) x in has_left (starts cl g) (where_empty (empty g) (starts cl h)) (class_of k) (begun_starts g k s.0))
-        | inr x ↦ (let s = and_split (empty g) (begins cs h k) x in has_right (starts cl g) (where_empty (empty g) (starts cl h)) (class_of k) (has_where (empty g) (starts cl h) (class_of k) s.0 (begun_starts h k s.1)))
+        | inl x ↦ (let s = and_split (begins cs g k) (exists cs h) x in has_left (starts cl g) (where_empty (empty g) (starts cl h)) (class_of k)
+            (begun_starts g k s.0))
+        | inr x ↦ (let s = and_split (empty g) (begins cs h k) x in has_right (starts cl g) (where_empty (empty g) (starts cl h)) (class_of k)
+            (has_where (empty g) (starts cl h) (class_of k) s.0 (begun_starts h k s.1)))
       ]
-  begun_starts (alt g h) k b = elim (or_split (begins cs g k) (begins cs h k) b) [ inl x ↦ has_left (starts cl g) (starts cl h) (class_of k) (begun_starts g k x) | inr x ↦ has_right (starts cl g) (starts cl h) (class_of k) (begun_starts h k x) ]
+  begun_starts (alt g h) k b =
+      elim (or_split (begins cs g k) (begins cs h k) b) [
+        | inl x ↦ has_left (starts cl g) (starts cl h) (class_of k) (begun_starts g k x)
+        | inr x ↦ has_right
+            (starts cl g) (starts cl h) (class_of k) (begun_starts h k x)
+      ]
   begun_starts (many g) k b = begun_starts g k b
   begun_starts (part g) k b = begun_starts g k b
   begun_starts (as_value f g) k b = begun_starts g k b

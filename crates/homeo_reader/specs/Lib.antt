@@ -1,6 +1,2 @@
-pub mod Commands
-pub mod Declarations
-pub mod Engine
-pub mod Exact
-pub mod FirstTokens
-pub mod Reading
+pub mod inner
+pub use Rattle.homeo_reader.specs.inner.Exact

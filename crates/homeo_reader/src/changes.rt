@@ -2,8 +2,8 @@
 
 ghost use Rattle.std.specs.Prelude.{◌<◌, option_map};
 ghost use Rattle.homeo_syntax.specs.SourceView.{plain_field, plain_command};
-ghost use Rattle.homeo_reader.specs.Reading.{Gives};
-ghost use Rattle.homeo_reader.specs.Commands.{field_views, setting_read, field_setting_rest, row_setting_rest, field_value_read, next_field_value_read, other_field_values_read, field_values_read, insert_read, delete_read, update_read};
+ghost use Rattle.homeo_reader.specs.inner.Reading.{Gives};
+ghost use Rattle.homeo_reader.specs.inner.Commands.{field_views, setting_read, field_setting_rest, row_setting_rest, field_value_read, next_field_value_read, other_field_values_read, field_values_read, insert_read, delete_read, update_read};
 
 use crate::conditions::Visit;
 use crate::parser::{Fault, Parser, list_of};
@@ -12,7 +12,7 @@ use std::alloc::Global;
 
 impl<'a> Parser<'a> {
     /// The command that sets what begins with this name.
-    #[tactic(auto, using(crate::proofs::CommandSteps::setting_reads, homeo_syntax::proofs::SourceViews::command_views), unfolding(crate::specs::Commands::setting_do, crate::specs::Commands::setting_by))]
+    #[tactic(auto, using(crate::proofs::CommandSteps::setting_reads, homeo_syntax::proofs::SourceViews::command_views), unfolding(crate::specs::inner::Commands::setting_do, crate::specs::inner::Commands::setting_by))]
     pub fn setting(&mut self, alloc: Global, name: Ident, room: u32) -> Result<Command, Fault>
         requires { 0 < room }
         ensures { Gives plain_command result self.new.rest.now (setting_read room name self.old.rest.now) }
@@ -42,7 +42,7 @@ impl<'a> Parser<'a> {
     }
 
     /// What follows a relation that is set and `[`.
-    #[tactic(auto, using(homeo_syntax::proofs::SourceViews::command_views), unfolding(crate::specs::Commands::field_setting_rest))]
+    #[tactic(auto, using(homeo_syntax::proofs::SourceViews::command_views), unfolding(crate::specs::inner::Commands::field_setting_rest))]
     fn field_setting_after_bracket(
         &mut self,
         alloc: Global,
@@ -67,7 +67,7 @@ impl<'a> Parser<'a> {
     }
 
     /// What follows a row that is set and `.`.
-    #[tactic(auto, using(homeo_syntax::proofs::SourceViews::command_views), unfolding(crate::specs::Commands::row_setting_rest))]
+    #[tactic(auto, using(homeo_syntax::proofs::SourceViews::command_views), unfolding(crate::specs::inner::Commands::row_setting_rest))]
     fn row_setting_after_dot(
         &mut self,
         alloc: Global,
@@ -84,7 +84,7 @@ impl<'a> Parser<'a> {
     }
 
     /// A field with its value.
-    #[tactic(auto, using(crate::proofs::CommandSteps::field_value_reads, homeo_syntax::proofs::SourceViews::command_views), unfolding(crate::specs::Commands::field_value_do))]
+    #[tactic(auto, using(crate::proofs::CommandSteps::field_value_reads, homeo_syntax::proofs::SourceViews::command_views), unfolding(crate::specs::inner::Commands::field_value_do))]
     fn field_value(&mut self, alloc: Global, room: u32) -> Result<FieldValue, Fault>
         requires { 0 < room }
         ensures { Gives plain_field result self.new.rest.now (field_value_read room self.old.rest.now) }
@@ -96,7 +96,7 @@ impl<'a> Parser<'a> {
     }
 
     /// A field after a comma, if one comes next.
-    #[tactic(auto, using(crate::proofs::CommandSteps::next_field_value_reads), unfolding(crate::specs::Commands::next_field_value_do))]
+    #[tactic(auto, using(crate::proofs::CommandSteps::next_field_value_reads), unfolding(crate::specs::inner::Commands::next_field_value_do))]
     fn next_field_value(&mut self, alloc: Global, room: u32) -> Result<Option<FieldValue>, Fault>
         requires { 0 < room }
         ensures { Gives (option_map plain_field) result self.new.rest.now (next_field_value_read room self.old.rest.now) }
@@ -122,7 +122,7 @@ impl<'a> Parser<'a> {
     }
 
     /// The fields of a slot with their values.
-    #[tactic(auto, using(crate::proofs::CommandSteps::field_values_reads), unfolding(crate::specs::Commands::field_values_do))]
+    #[tactic(auto, using(crate::proofs::CommandSteps::field_values_reads), unfolding(crate::specs::inner::Commands::field_values_do))]
     fn field_values(&mut self, alloc: Global, room: u32) -> Result<List<FieldValue>, Fault>
         requires { 0 < room }
         ensures { Gives (λ l. field_views l.items) result self.new.rest.now (field_values_read room self.old.rest.now) }
@@ -133,7 +133,7 @@ impl<'a> Parser<'a> {
     }
 
     /// What follows `insert`.
-    #[tactic(auto, using(homeo_syntax::proofs::SourceViews::command_views), unfolding(crate::specs::Commands::insert_read))]
+    #[tactic(auto, using(homeo_syntax::proofs::SourceViews::command_views), unfolding(crate::specs::inner::Commands::insert_read))]
     pub fn insert_after_word(&mut self, alloc: Global, room: u32) -> Result<Command, Fault>
         requires { 0 < room }
         ensures { Gives plain_command result self.new.rest.now (insert_read room self.old.rest.now) }
@@ -152,7 +152,7 @@ impl<'a> Parser<'a> {
     }
 
     /// What follows `delete`.
-    #[tactic(auto, using(homeo_syntax::proofs::SourceViews::command_views), unfolding(crate::specs::Commands::delete_read))]
+    #[tactic(auto, using(homeo_syntax::proofs::SourceViews::command_views), unfolding(crate::specs::inner::Commands::delete_read))]
     pub fn delete_after_word(&mut self, alloc: Global, room: u32) -> Result<Command, Fault>
         requires { 0 < room }
         ensures { Gives plain_command result self.new.rest.now (delete_read room self.old.rest.now) }
@@ -170,7 +170,7 @@ impl<'a> Parser<'a> {
     }
 
     /// What follows `update`.
-    #[tactic(auto, using(crate::proofs::CommandSteps::field_of_view, crate::proofs::CommandSteps::value_of_view, homeo_syntax::proofs::SourceViews::command_views), unfolding(crate::specs::Commands::update_read))]
+    #[tactic(auto, using(crate::proofs::CommandSteps::field_of_view, crate::proofs::CommandSteps::value_of_view, homeo_syntax::proofs::SourceViews::command_views), unfolding(crate::specs::inner::Commands::update_read))]
     pub fn update_after_word(&mut self, alloc: Global, room: u32) -> Result<Command, Fault>
         requires { 0 < room }
         ensures { Gives plain_command result self.new.rest.now (update_read room self.old.rest.now) }

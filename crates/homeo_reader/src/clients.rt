@@ -2,8 +2,8 @@
 
 ghost use Rattle.std.specs.Prelude.{option_map};
 ghost use Rattle.homeo_syntax.specs.SourceView.{plain_call, plain_client};
-ghost use Rattle.homeo_reader.specs.Reading.{Gives, same};
-ghost use Rattle.homeo_reader.specs.Declarations.{call_views, client_views, first_argument_read, next_argument_read, other_arguments_read, arguments_read, invocation_read, first_invocation_read, next_invocation_read, other_invocations_read, invocations_read, calls_read, client_rest, next_client_read, clients_read};
+ghost use Rattle.homeo_reader.specs.inner.Reading.{Gives, same};
+ghost use Rattle.homeo_reader.specs.inner.Declarations.{call_views, client_views, first_argument_read, next_argument_read, other_arguments_read, arguments_read, invocation_read, first_invocation_read, next_invocation_read, other_invocations_read, invocations_read, calls_read, client_rest, next_client_read, clients_read};
 
 use crate::parser::{Fault, Parser, list_of};
 use homeo_syntax::{Call, Client, Kind, List, Mark, Number};
@@ -11,7 +11,7 @@ use std::alloc::Global;
 
 impl<'a> Parser<'a> {
     /// An argument, if one comes next.
-    #[tactic(auto, using(crate::proofs::DeclarationSteps::first_argument_reads), unfolding(crate::specs::Declarations::first_argument_do, crate::specs::Declarations::first_argument_by))]
+    #[tactic(auto, using(crate::proofs::DeclarationSteps::first_argument_reads), unfolding(crate::specs::inner::Declarations::first_argument_do, crate::specs::inner::Declarations::first_argument_by))]
     fn first_argument(&mut self) -> Result<Option<Number>, Fault>
         ensures { Gives same result self.new.rest.now (first_argument_read self.old.rest.now) }
     {
@@ -32,7 +32,7 @@ impl<'a> Parser<'a> {
     }
 
     /// An argument after a comma, if one comes next.
-    #[tactic(auto, using(crate::proofs::DeclarationSteps::next_argument_reads), unfolding(crate::specs::Declarations::next_argument_do))]
+    #[tactic(auto, using(crate::proofs::DeclarationSteps::next_argument_reads), unfolding(crate::specs::inner::Declarations::next_argument_do))]
     fn next_argument(&mut self) -> Result<Option<Number>, Fault>
         ensures { Gives same result self.new.rest.now (next_argument_read self.old.rest.now) }
     {
@@ -56,7 +56,7 @@ impl<'a> Parser<'a> {
     }
 
     /// The arguments of a call, which may be none.
-    #[tactic(auto, using(crate::proofs::DeclarationSteps::arguments_reads), unfolding(crate::specs::Declarations::arguments_do, crate::specs::Declarations::after_first))]
+    #[tactic(auto, using(crate::proofs::DeclarationSteps::arguments_reads), unfolding(crate::specs::inner::Declarations::arguments_do, crate::specs::inner::Declarations::after_first))]
     fn arguments(&mut self, alloc: Global) -> Result<List<Number>, Fault>
         ensures { Gives (λ l. l.items) result self.new.rest.now (arguments_read self.old.rest.now) }
     {
@@ -70,7 +70,7 @@ impl<'a> Parser<'a> {
     }
 
     /// Takes a call.
-    #[tactic(auto, using(crate::proofs::DeclarationSteps::invocation_reads, homeo_syntax::proofs::SourceViews::workload_views), unfolding(crate::specs::Declarations::invocation_do))]
+    #[tactic(auto, using(crate::proofs::DeclarationSteps::invocation_reads, homeo_syntax::proofs::SourceViews::workload_views), unfolding(crate::specs::inner::Declarations::invocation_do))]
     fn invocation(&mut self, alloc: Global) -> Result<Call, Fault>
         ensures { Gives plain_call result self.new.rest.now (invocation_read self.old.rest.now) }
     {
@@ -82,7 +82,7 @@ impl<'a> Parser<'a> {
     }
 
     /// A call, if one comes next.
-    #[tactic(auto, using(crate::proofs::DeclarationSteps::first_invocation_reads), unfolding(crate::specs::Declarations::first_invocation_do, crate::specs::Declarations::first_invocation_by))]
+    #[tactic(auto, using(crate::proofs::DeclarationSteps::first_invocation_reads), unfolding(crate::specs::inner::Declarations::first_invocation_do, crate::specs::inner::Declarations::first_invocation_by))]
     fn first_invocation(&mut self, alloc: Global) -> Result<Option<Call>, Fault>
         ensures { Gives (option_map plain_call) result self.new.rest.now (first_invocation_read self.old.rest.now) }
     {
@@ -99,7 +99,7 @@ impl<'a> Parser<'a> {
     }
 
     /// A call after a semicolon, if one comes next.
-    #[tactic(auto, using(crate::proofs::DeclarationSteps::next_invocation_reads), unfolding(crate::specs::Declarations::next_invocation_do))]
+    #[tactic(auto, using(crate::proofs::DeclarationSteps::next_invocation_reads), unfolding(crate::specs::inner::Declarations::next_invocation_do))]
     fn next_invocation(&mut self, alloc: Global) -> Result<Option<Call>, Fault>
         ensures { Gives (option_map plain_call) result self.new.rest.now (next_invocation_read self.old.rest.now) }
     {
@@ -123,7 +123,7 @@ impl<'a> Parser<'a> {
     }
 
     /// A list of calls, which may be empty.
-    #[tactic(auto, using(crate::proofs::DeclarationSteps::invocations_reads), unfolding(crate::specs::Declarations::invocations_do, crate::specs::Declarations::after_first))]
+    #[tactic(auto, using(crate::proofs::DeclarationSteps::invocations_reads), unfolding(crate::specs::inner::Declarations::invocations_do, crate::specs::inner::Declarations::after_first))]
     fn invocations(&mut self, alloc: Global) -> Result<List<Call>, Fault>
         ensures { Gives (λ l. call_views l.items) result self.new.rest.now (invocations_read self.old.rest.now) }
     {
@@ -137,7 +137,7 @@ impl<'a> Parser<'a> {
     }
 
     /// The calls of a client.
-    #[tactic(auto, using(crate::proofs::DeclarationSteps::calls_reads), unfolding(crate::specs::Declarations::calls_do))]
+    #[tactic(auto, using(crate::proofs::DeclarationSteps::calls_reads), unfolding(crate::specs::inner::Declarations::calls_do))]
     fn calls(&mut self, alloc: Global) -> Result<List<Call>, Fault>
         ensures { Gives (λ l. call_views l.items) result self.new.rest.now (calls_read self.old.rest.now) }
     {
@@ -148,7 +148,7 @@ impl<'a> Parser<'a> {
     }
 
     /// What follows `client`.
-    #[tactic(auto, using(homeo_syntax::proofs::SourceViews::workload_views), unfolding(crate::specs::Declarations::client_rest))]
+    #[tactic(auto, using(homeo_syntax::proofs::SourceViews::workload_views), unfolding(crate::specs::inner::Declarations::client_rest))]
     fn client_after_word(&mut self, alloc: Global) -> Result<Client, Fault>
         ensures { Gives plain_client result self.new.rest.now (client_rest self.old.rest.now) }
     {
@@ -160,7 +160,7 @@ impl<'a> Parser<'a> {
     }
 
     /// A client, if one comes next.
-    #[tactic(auto, using(crate::proofs::DeclarationSteps::next_client_reads), unfolding(crate::specs::Declarations::next_client_do))]
+    #[tactic(auto, using(crate::proofs::DeclarationSteps::next_client_reads), unfolding(crate::specs::inner::Declarations::next_client_do))]
     fn next_client(&mut self, alloc: Global) -> Result<Option<Client>, Fault>
         ensures { Gives (option_map plain_client) result self.new.rest.now (next_client_read self.old.rest.now) }
     {
@@ -172,6 +172,7 @@ impl<'a> Parser<'a> {
         }
     }
 
+    /// The clients, as many as come.
     pub fn clients(&mut self, alloc: Global) -> Result<List<Client>, Fault>
         ensures { Gives (λ l. client_views l.items) result self.new.rest.now (clients_read self.old.rest.now) }
     {

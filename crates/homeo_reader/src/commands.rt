@@ -3,8 +3,8 @@
 ghost use Rattle.std.specs.Prelude.{◌≡◌, ◌<◌, option_map, IfOk, IfErr};
 ghost use Rattle.homeo_syntax.specs.Source as s;
 ghost use Rattle.homeo_syntax.specs.SourceView.{plain_cond, plain_command};
-ghost use Rattle.homeo_reader.specs.Reading.{Gives};
-ghost use Rattle.homeo_reader.specs.Commands.{command_views, block_view, command_read, if_read, foreach_read, next_command_read, commands_read, block_read};
+ghost use Rattle.homeo_reader.specs.inner.Reading.{Gives};
+ghost use Rattle.homeo_reader.specs.inner.Commands.{command_views, block_view, command_read, if_read, foreach_read, next_command_read, commands_read, block_read};
 
 use crate::conditions::Visit;
 use crate::parser::{Fault, Parser, list_of};
@@ -12,8 +12,9 @@ use homeo_syntax::{Command, Cond, Kind, List, Mark};
 use std::alloc::Global;
 
 impl<'a> Parser<'a> {
+    /// Takes a command. Neither it nor what is in it goes deeper than the room.
     #[cycle(command)]
-    #[tactic(auto, using(crate::proofs::CommandSteps::command_reads, homeo_syntax::proofs::SourceViews::command_views), unfolding(crate::specs::Commands::command_do, crate::specs::Commands::command_by))]
+    #[tactic(auto, using(crate::proofs::CommandSteps::command_reads, homeo_syntax::proofs::SourceViews::command_views), unfolding(crate::specs::inner::Commands::command_do, crate::specs::inner::Commands::command_by))]
     fn command(&mut self, alloc: Global, room: u32) -> Result<Command, Fault>
         requires { 0 < room }
         ensures { Gives plain_command result self.new.rest.now (command_read room self.old.rest.now) }
@@ -76,7 +77,7 @@ impl<'a> Parser<'a> {
 
     /// What follows `if`.
     #[cycle(command)]
-    #[tactic(auto, unfolding(crate::specs::Commands::if_read))]
+    #[tactic(auto, unfolding(crate::specs::inner::Commands::if_read))]
     fn choice_after_if(&mut self, alloc: Global, room: u32) -> Result<Command, Fault>
         requires { 0 < room }
         ensures { Gives plain_command result self.new.rest.now (if_read room self.old.rest.now) }
@@ -91,7 +92,7 @@ impl<'a> Parser<'a> {
 
     /// What follows `foreach`.
     #[cycle(command)]
-    #[tactic(auto, using(homeo_syntax::proofs::SourceViews::command_views), unfolding(crate::specs::Commands::foreach_read))]
+    #[tactic(auto, using(homeo_syntax::proofs::SourceViews::command_views), unfolding(crate::specs::inner::Commands::foreach_read))]
     fn body_after_foreach(&mut self, alloc: Global, room: u32) -> Result<Command, Fault>
         requires { 0 < room }
         ensures { Gives plain_command result self.new.rest.now (foreach_read room self.old.rest.now) }
@@ -112,7 +113,7 @@ impl<'a> Parser<'a> {
 
     /// A command after a semicolon, if one comes next.
     #[cycle(command)]
-    #[tactic(auto, using(crate::proofs::CommandSteps::next_command_reads), unfolding(crate::specs::Commands::next_command_do))]
+    #[tactic(auto, using(crate::proofs::CommandSteps::next_command_reads), unfolding(crate::specs::inner::Commands::next_command_do))]
     fn next_command(&mut self, alloc: Global, room: u32) -> Result<Option<Command>, Fault>
         requires { 0 < room }
         ensures { Gives (option_map plain_command) result self.new.rest.now (next_command_read room self.old.rest.now) }
@@ -140,7 +141,7 @@ impl<'a> Parser<'a> {
 
     /// A block, which is empty where no phrase may go deeper.
     #[cycle(command)]
-    #[tactic(auto, using(crate::proofs::CommandSteps::block_reads), unfolding(crate::specs::Commands::block_do, homeo_syntax::specs::Key::words))]
+    #[tactic(auto, using(crate::proofs::CommandSteps::block_reads), unfolding(crate::specs::inner::Commands::block_do, homeo_syntax::specs::Key::words))]
     pub fn block(&mut self, alloc: Global, room: u32) -> Result<List<Command>, Fault>
         ensures { Gives block_view result self.new.rest.now (block_read room self.old.rest.now) }
     {

@@ -2,7 +2,7 @@
 
 ghost use Rattle.std.specs.Prelude.{◌≡◌, ◌<◌, ◌∷◌, option_map, IfOk, IfErr};
 ghost use Rattle.homeo_syntax.specs.SourceView.{plain_test, plain_cond, tests};
-ghost use Rattle.homeo_reader.specs.Reading.{Gives, same, test_views, visit_view, comparison_do, test_read, next_test_read, tests_read, cond_read, visit_read};
+ghost use Rattle.homeo_reader.specs.inner.Reading.{Gives, same, test_views, visit_view, comparison_do, test_read, next_test_read, tests_read, cond_read, visit_read};
 
 use crate::parser::{Fault, Parser, list_of};
 use homeo_syntax::{Compare, Cond, Ident, Mark, Test};
@@ -19,7 +19,7 @@ pub struct Visit {
 
 impl<'a> Parser<'a> {
     /// Takes a comparison.
-    #[tactic(auto, unfolding(crate::specs::Reading::comparison_do))]
+    #[tactic(auto, unfolding(crate::specs::inner::Reading::comparison_do))]
     fn comparison(&mut self) -> Result<Compare, Fault>
         ensures { Gives same result self.new.rest.now (comparison_do self.old.rest.now) }
     {
@@ -34,8 +34,9 @@ impl<'a> Parser<'a> {
         }
     }
 
+    /// Takes a test.
     #[cycle(expr)]
-    #[tactic(auto, using(crate::proofs::ExprSteps::test_reads, homeo_syntax::proofs::SourceViews::phrase_views), unfolding(crate::specs::Reading::test_do))]
+    #[tactic(auto, using(crate::proofs::ExprSteps::test_reads, homeo_syntax::proofs::SourceViews::phrase_views), unfolding(crate::specs::inner::Reading::test_do))]
     fn test(&mut self, alloc: Global, room: u32) -> Result<Test, Fault>
         requires { 0 < room }
         ensures { Gives plain_test result self.new.rest.now (test_read room self.old.rest.now) }
@@ -60,7 +61,7 @@ impl<'a> Parser<'a> {
 
     /// A test after `and`, if one comes next.
     #[cycle(expr)]
-    #[tactic(auto, using(crate::proofs::Lists::next_test_reads), unfolding(crate::specs::Reading::next_test_do))]
+    #[tactic(auto, using(crate::proofs::Lists::next_test_reads), unfolding(crate::specs::inner::Reading::next_test_do))]
     fn next_test(&mut self, alloc: Global, room: u32) -> Result<Option<Test>, Fault>
         requires { 0 < room }
         ensures { Gives (option_map plain_test) result self.new.rest.now (next_test_read room self.old.rest.now) }
@@ -86,8 +87,9 @@ impl<'a> Parser<'a> {
         Ok(items)
     }
 
+    /// Takes a condition, of one test or more.
     #[cycle(expr)]
-    #[tactic(auto, using(crate::proofs::ExprSteps::cond_reads), unfolding(crate::specs::Reading::cond_do))]
+    #[tactic(auto, using(crate::proofs::ExprSteps::cond_reads), unfolding(crate::specs::inner::Reading::cond_do))]
     pub fn cond(&mut self, alloc: Global, room: u32) -> Result<Cond, Fault>
         requires { 0 < room }
         ensures { Gives plain_cond result self.new.rest.now (cond_read room self.old.rest.now) }
@@ -99,7 +101,7 @@ impl<'a> Parser<'a> {
 
     /// Which slots are visited.
     #[cycle(expr)]
-    #[tactic(auto, using(crate::proofs::ExprSteps::visit_reads), unfolding(crate::specs::Reading::visit_do))]
+    #[tactic(auto, using(crate::proofs::ExprSteps::visit_reads), unfolding(crate::specs::inner::Reading::visit_do))]
     pub fn visit(&mut self, alloc: Global, room: u32) -> Result<Visit, Fault>
         requires { 0 < room }
         ensures { Gives visit_view result self.new.rest.now (visit_read room self.old.rest.now) }

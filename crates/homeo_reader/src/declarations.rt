@@ -2,8 +2,8 @@
 
 ghost use Rattle.std.specs.Prelude.{option_map};
 ghost use Rattle.homeo_syntax.specs.SourceView.{plain_relation, plain_transaction};
-ghost use Rattle.homeo_reader.specs.Reading.{Gives, same};
-ghost use Rattle.homeo_reader.specs.Declarations.{relation_views, transaction_views, object_rest, next_object_read, objects_read, decl_read, first_decl_read, next_decl_read, other_decls_read, fields_read, relation_rest, next_relation_read, relations_read, parameters_read, transaction_rest, next_transaction_read, transactions_read};
+ghost use Rattle.homeo_reader.specs.inner.Reading.{Gives, same};
+ghost use Rattle.homeo_reader.specs.inner.Declarations.{relation_views, transaction_views, object_rest, next_object_read, objects_read, decl_read, first_decl_read, next_decl_read, other_decls_read, fields_read, relation_rest, next_relation_read, relations_read, parameters_read, transaction_rest, next_transaction_read, transactions_read};
 
 use crate::parser::{Fault, Parser, list_of};
 use homeo_syntax::{Kind, List, Mark, ObjectDecl, RangeDecl, RelationDecl, Transaction};
@@ -14,7 +14,7 @@ const LIMIT: u32 = 32;
 
 impl<'a> Parser<'a> {
     /// What follows `object`.
-    #[tactic(auto, unfolding(crate::specs::Declarations::object_rest))]
+    #[tactic(auto, unfolding(crate::specs::inner::Declarations::object_rest))]
     fn object_after_word(&mut self) -> Result<ObjectDecl, Fault>
         ensures { Gives same result self.new.rest.now (object_rest self.old.rest.now) }
     {
@@ -32,7 +32,7 @@ impl<'a> Parser<'a> {
     }
 
     /// An object, if one comes next.
-    #[tactic(auto, using(crate::proofs::DeclarationSteps::next_object_reads), unfolding(crate::specs::Declarations::next_object_do))]
+    #[tactic(auto, using(crate::proofs::DeclarationSteps::next_object_reads), unfolding(crate::specs::inner::Declarations::next_object_do))]
     fn next_object(&mut self) -> Result<Option<ObjectDecl>, Fault>
         ensures { Gives same result self.new.rest.now (next_object_read self.old.rest.now) }
     {
@@ -44,6 +44,7 @@ impl<'a> Parser<'a> {
         }
     }
 
+    /// The objects, as many as come.
     pub fn objects(&mut self, alloc: Global) -> Result<List<ObjectDecl>, Fault>
         ensures { Gives (λ l. l.items) result self.new.rest.now (objects_read self.old.rest.now) }
     {
@@ -55,7 +56,7 @@ impl<'a> Parser<'a> {
     }
 
     /// Takes a name with its range.
-    #[tactic(auto, using(crate::proofs::DeclarationSteps::decl_reads), unfolding(crate::specs::Declarations::decl_do))]
+    #[tactic(auto, using(crate::proofs::DeclarationSteps::decl_reads), unfolding(crate::specs::inner::Declarations::decl_do))]
     fn decl(&mut self) -> Result<RangeDecl, Fault>
         ensures { Gives same result self.new.rest.now (decl_read self.old.rest.now) }
     {
@@ -66,7 +67,7 @@ impl<'a> Parser<'a> {
     }
 
     /// A parameter, if one comes next.
-    #[tactic(auto, using(crate::proofs::DeclarationSteps::first_decl_reads), unfolding(crate::specs::Declarations::first_decl_do, crate::specs::Declarations::first_decl_by))]
+    #[tactic(auto, using(crate::proofs::DeclarationSteps::first_decl_reads), unfolding(crate::specs::inner::Declarations::first_decl_do, crate::specs::inner::Declarations::first_decl_by))]
     fn first_decl(&mut self) -> Result<Option<RangeDecl>, Fault>
         ensures { Gives same result self.new.rest.now (first_decl_read self.old.rest.now) }
     {
@@ -83,7 +84,7 @@ impl<'a> Parser<'a> {
     }
 
     /// A parameter after a comma, if one comes next.
-    #[tactic(auto, using(crate::proofs::DeclarationSteps::next_decl_reads), unfolding(crate::specs::Declarations::next_decl_do))]
+    #[tactic(auto, using(crate::proofs::DeclarationSteps::next_decl_reads), unfolding(crate::specs::inner::Declarations::next_decl_do))]
     fn next_decl(&mut self) -> Result<Option<RangeDecl>, Fault>
         ensures { Gives same result self.new.rest.now (next_decl_read self.old.rest.now) }
     {
@@ -107,7 +108,7 @@ impl<'a> Parser<'a> {
     }
 
     /// The fields of a relation.
-    #[tactic(auto, using(crate::proofs::DeclarationSteps::fields_reads), unfolding(crate::specs::Declarations::fields_do))]
+    #[tactic(auto, using(crate::proofs::DeclarationSteps::fields_reads), unfolding(crate::specs::inner::Declarations::fields_do))]
     fn fields(&mut self, alloc: Global) -> Result<List<RangeDecl>, Fault>
         ensures { Gives (λ l. l.items) result self.new.rest.now (fields_read self.old.rest.now) }
     {
@@ -117,7 +118,7 @@ impl<'a> Parser<'a> {
     }
 
     /// What follows `relation`.
-    #[tactic(auto, using(homeo_syntax::proofs::SourceViews::workload_views), unfolding(crate::specs::Declarations::relation_rest))]
+    #[tactic(auto, using(homeo_syntax::proofs::SourceViews::workload_views), unfolding(crate::specs::inner::Declarations::relation_rest))]
     fn relation_after_word(&mut self, alloc: Global) -> Result<RelationDecl, Fault>
         ensures { Gives plain_relation result self.new.rest.now (relation_rest self.old.rest.now) }
     {
@@ -136,7 +137,7 @@ impl<'a> Parser<'a> {
     }
 
     /// A relation, if one comes next.
-    #[tactic(auto, using(crate::proofs::DeclarationSteps::next_relation_reads), unfolding(crate::specs::Declarations::next_relation_do))]
+    #[tactic(auto, using(crate::proofs::DeclarationSteps::next_relation_reads), unfolding(crate::specs::inner::Declarations::next_relation_do))]
     fn next_relation(&mut self, alloc: Global) -> Result<Option<RelationDecl>, Fault>
         ensures { Gives (option_map plain_relation) result self.new.rest.now (next_relation_read self.old.rest.now) }
     {
@@ -148,6 +149,7 @@ impl<'a> Parser<'a> {
         }
     }
 
+    /// The relations, as many as come.
     pub fn relations(&mut self, alloc: Global) -> Result<List<RelationDecl>, Fault>
         ensures { Gives (λ l. relation_views l.items) result self.new.rest.now (relations_read self.old.rest.now) }
     {
@@ -159,7 +161,7 @@ impl<'a> Parser<'a> {
     }
 
     /// The parameters of a transaction, which may be none.
-    #[tactic(auto, using(crate::proofs::DeclarationSteps::parameters_reads), unfolding(crate::specs::Declarations::parameters_do, crate::specs::Declarations::after_first))]
+    #[tactic(auto, using(crate::proofs::DeclarationSteps::parameters_reads), unfolding(crate::specs::inner::Declarations::parameters_do, crate::specs::inner::Declarations::after_first))]
     fn parameters(&mut self, alloc: Global) -> Result<List<RangeDecl>, Fault>
         ensures { Gives (λ l. l.items) result self.new.rest.now (parameters_read self.old.rest.now) }
     {
@@ -173,7 +175,7 @@ impl<'a> Parser<'a> {
     }
 
     /// What follows `transaction`.
-    #[tactic(auto, using(homeo_syntax::proofs::SourceViews::workload_views), unfolding(crate::specs::Declarations::transaction_rest, homeo_syntax::specs::Rules::limit))]
+    #[tactic(auto, using(homeo_syntax::proofs::SourceViews::workload_views), unfolding(crate::specs::inner::Declarations::transaction_rest, homeo_syntax::specs::Rules::limit))]
     fn transaction_after_word(&mut self, alloc: Global) -> Result<Transaction, Fault>
         ensures { Gives plain_transaction result self.new.rest.now (transaction_rest self.old.rest.now) }
     {
@@ -186,7 +188,7 @@ impl<'a> Parser<'a> {
     }
 
     /// A transaction, if one comes next.
-    #[tactic(auto, using(crate::proofs::DeclarationSteps::next_transaction_reads), unfolding(crate::specs::Declarations::next_transaction_do))]
+    #[tactic(auto, using(crate::proofs::DeclarationSteps::next_transaction_reads), unfolding(crate::specs::inner::Declarations::next_transaction_do))]
     fn next_transaction(&mut self, alloc: Global) -> Result<Option<Transaction>, Fault>
         ensures { Gives (option_map plain_transaction) result self.new.rest.now (next_transaction_read self.old.rest.now) }
     {
@@ -198,6 +200,7 @@ impl<'a> Parser<'a> {
         }
     }
 
+    /// The transactions, as many as come.
     pub fn transactions(&mut self, alloc: Global) -> Result<List<Transaction>, Fault>
         ensures { Gives (λ l. transaction_views l.items) result self.new.rest.now (transactions_read self.old.rest.now) }
     {

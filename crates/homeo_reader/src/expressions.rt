@@ -4,7 +4,7 @@ ghost use Rattle.std.specs.Prelude.{◌≡◌, ◌<◌, option_map, IfOk, IfErr}
 ghost use Rattle.homeo_syntax.specs.Source as s;
 ghost use Rattle.homeo_syntax.specs.SourceView.{plain_expr};
 ghost use Rattle.homeo_syntax.specs.Rules.{product_of, sum_of};
-ghost use Rattle.homeo_reader.specs.Reading.{Gives, expr_views, field_rest, after_name_read, count_rest, total_rest, factor_read, next_factor_read, factors_read, term_read, next_term_read, terms_read, expr_read};
+ghost use Rattle.homeo_reader.specs.inner.Reading.{Gives, expr_views, field_rest, after_name_read, count_rest, total_rest, factor_read, next_factor_read, factors_read, term_read, next_term_read, terms_read, expr_read};
 
 use crate::conditions::Visit;
 use crate::parser::{Fault, Parser, list_of};
@@ -12,8 +12,9 @@ use homeo_syntax::{Expr, Ident, Kind, Mark};
 use std::alloc::Global;
 
 impl<'a> Parser<'a> {
+    /// Takes a factor.
     #[cycle(expr)]
-    #[tactic(auto, using(crate::proofs::ExprSteps::factor_reads, homeo_syntax::proofs::SourceViews::phrase_views), unfolding(crate::specs::Reading::factor_do, crate::specs::Reading::factor_by))]
+    #[tactic(auto, using(crate::proofs::ExprSteps::factor_reads, homeo_syntax::proofs::SourceViews::phrase_views), unfolding(crate::specs::inner::Reading::factor_do, crate::specs::inner::Reading::factor_by))]
     fn factor(&mut self, alloc: Global, room: u32) -> Result<Expr, Fault>
         requires { 0 < room }
         ensures { Gives plain_expr result self.new.rest.now (factor_read room self.old.rest.now) }
@@ -62,7 +63,7 @@ impl<'a> Parser<'a> {
 
     /// The expression of a name, with what stands behind it. No index stands where no phrase may go deeper.
     #[cycle(expr)]
-    #[tactic(auto, using(crate::proofs::ExprSteps::after_name_reads, homeo_syntax::proofs::SourceViews::phrase_views), unfolding(crate::specs::Reading::after_name_do, crate::specs::Reading::after_name_by))]
+    #[tactic(auto, using(crate::proofs::ExprSteps::after_name_reads, homeo_syntax::proofs::SourceViews::phrase_views), unfolding(crate::specs::inner::Reading::after_name_do, crate::specs::inner::Reading::after_name_by))]
     fn after_name(&mut self, alloc: Global, name: Ident, room: u32) -> Result<Expr, Fault>
         ensures { Gives plain_expr result self.new.rest.now (after_name_read room name self.old.rest.now) }
     {
@@ -85,7 +86,7 @@ impl<'a> Parser<'a> {
 
     /// What follows a relation and `[`.
     #[cycle(expr)]
-    #[tactic(auto, unfolding(crate::specs::Reading::field_rest))]
+    #[tactic(auto, unfolding(crate::specs::inner::Reading::field_rest))]
     fn field_after_bracket(
         &mut self,
         alloc: Global,
@@ -104,7 +105,7 @@ impl<'a> Parser<'a> {
 
     /// What follows `count`.
     #[cycle(expr)]
-    #[tactic(auto, using(homeo_syntax::proofs::SourceViews::phrase_views), unfolding(crate::specs::Reading::count_rest))]
+    #[tactic(auto, using(homeo_syntax::proofs::SourceViews::phrase_views), unfolding(crate::specs::inner::Reading::count_rest))]
     fn count_after_word(&mut self, alloc: Global, room: u32) -> Result<Expr, Fault>
         requires { 0 < room }
         ensures { Gives plain_expr result self.new.rest.now (count_rest room self.old.rest.now) }
@@ -125,7 +126,7 @@ impl<'a> Parser<'a> {
 
     /// What follows `sum`.
     #[cycle(expr)]
-    #[tactic(auto, using(homeo_syntax::proofs::SourceViews::phrase_views), unfolding(crate::specs::Reading::total_rest))]
+    #[tactic(auto, using(homeo_syntax::proofs::SourceViews::phrase_views), unfolding(crate::specs::inner::Reading::total_rest))]
     fn total_after_word(&mut self, alloc: Global, room: u32) -> Result<Expr, Fault>
         requires { 0 < room }
         ensures { Gives plain_expr result self.new.rest.now (total_rest room self.old.rest.now) }
@@ -149,7 +150,7 @@ impl<'a> Parser<'a> {
 
     /// A factor after a star, if one comes next.
     #[cycle(expr)]
-    #[tactic(auto, using(crate::proofs::Lists::next_factor_reads), unfolding(crate::specs::Reading::next_factor_do))]
+    #[tactic(auto, using(crate::proofs::Lists::next_factor_reads), unfolding(crate::specs::inner::Reading::next_factor_do))]
     fn next_factor(&mut self, alloc: Global, room: u32) -> Result<Option<Expr>, Fault>
         requires { 0 < room }
         ensures { Gives (option_map plain_expr) result self.new.rest.now (next_factor_read room self.old.rest.now) }
@@ -175,8 +176,9 @@ impl<'a> Parser<'a> {
         Ok(items)
     }
 
+    /// Takes a product of one factor or more.
     #[cycle(expr)]
-    #[tactic(auto, using(crate::proofs::ExprSteps::term_reads), unfolding(crate::specs::Reading::term_do))]
+    #[tactic(auto, using(crate::proofs::ExprSteps::term_reads), unfolding(crate::specs::inner::Reading::term_do))]
     fn term(&mut self, alloc: Global, room: u32) -> Result<Expr, Fault>
         requires { 0 < room }
         ensures { Gives plain_expr result self.new.rest.now (term_read room self.old.rest.now) }
@@ -188,7 +190,7 @@ impl<'a> Parser<'a> {
 
     /// A term after a sign, if one comes next.
     #[cycle(expr)]
-    #[tactic(auto, using(crate::proofs::Lists::next_term_reads), unfolding(crate::specs::Reading::next_term_do))]
+    #[tactic(auto, using(crate::proofs::Lists::next_term_reads), unfolding(crate::specs::inner::Reading::next_term_do))]
     fn next_term(&mut self, alloc: Global, room: u32) -> Result<Option<Expr>, Fault>
         requires { 0 < room }
         ensures { Gives (option_map plain_expr) result self.new.rest.now (next_term_read room self.old.rest.now) }
@@ -217,8 +219,9 @@ impl<'a> Parser<'a> {
         Ok(items)
     }
 
+    /// Takes an expression, which is a sum of one term or more.
     #[cycle(expr)]
-    #[tactic(auto, using(crate::proofs::ExprSteps::expr_reads), unfolding(crate::specs::Reading::expr_do))]
+    #[tactic(auto, using(crate::proofs::ExprSteps::expr_reads), unfolding(crate::specs::inner::Reading::expr_do))]
     pub fn expr(&mut self, alloc: Global, room: u32) -> Result<Expr, Fault>
         requires { 0 < room }
         ensures { Gives plain_expr result self.new.rest.now (expr_read room self.old.rest.now) }

@@ -1,13 +1,20 @@
-//! What is true of the texts of all workloads.
+//! What is true of the texts of all workloads, whatever reads them. The definitions are this project's own.
 
 ghost use Rattle.std.specs.Prelude.{◌≡◌, ℕ, List};
 ghost use Rattle.homeo_syntax.specs.Source as s;
 ghost use Rattle.homeo_syntax.specs.Reads.{Reads, IsUnread};
+ghost use Rattle.homeo_syntax.specs.WellFormed.{IsWellFormed};
 ghost use Rattle.homeo_syntax.specs.declared.workload.Refusal.{Refusal};
 
 /// No text reads as two workloads.
 pub fn one_reading()
     ensures { (text : List ℕ) (v w : s.Workload) → Reads text v → Reads text w → v ≡ w }
+{}
+
+/// What a text reads as is well formed: no name stands twice, each is spelled as a name, and each identifier is one of
+/// them.
+pub fn well_formed()
+    ensures { (text : List ℕ) (w : s.Workload) → Reads text w → IsWellFormed w }
 {}
 
 /// A text that is refused reads as no workload.

@@ -1,8 +1,8 @@
 //! Numbers and ranges of them.
 
 ghost use Rattle.std.specs.Prelude.{◌≤ℤ◌, pos, IfOk};
-ghost use Rattle.homeo_reader.specs.Reading.{Gives, same, number_read};
-ghost use Rattle.homeo_reader.specs.Declarations.{signed_read, range_read};
+ghost use Rattle.homeo_reader.specs.inner.Reading.{Gives, same, number_read};
+ghost use Rattle.homeo_reader.specs.inner.Declarations.{signed_read, range_read};
 
 use crate::parser::{Fault, Parser};
 use homeo_syntax::{Kind, Mark, Number};
@@ -29,7 +29,7 @@ impl<'a> Parser<'a> {
     }
 
     /// Takes a number with or without a sign.
-    #[tactic(auto, using(crate::proofs::DeclarationSteps::signed_reads), unfolding(crate::specs::Declarations::signed_do, crate::specs::Declarations::signed_by))]
+    #[tactic(auto, using(crate::proofs::DeclarationSteps::signed_reads), unfolding(crate::specs::inner::Declarations::signed_do, crate::specs::inner::Declarations::signed_by))]
     pub fn signed(&mut self) -> Result<Number, Fault>
         ensures { Gives same result self.new.rest.now (signed_read self.old.rest.now) }
     {
@@ -50,7 +50,7 @@ impl<'a> Parser<'a> {
     }
 
     /// Takes a range, as its lower and its upper bound.
-    #[tactic(auto, using(crate::proofs::DeclarationSteps::range_reads), unfolding(crate::specs::Declarations::range_do))]
+    #[tactic(auto, using(crate::proofs::DeclarationSteps::range_reads), unfolding(crate::specs::inner::Declarations::range_do))]
     pub fn range(&mut self) -> Result<(Number, Number), Fault>
         ensures { Gives same result self.new.rest.now (range_read self.old.rest.now) }
     {

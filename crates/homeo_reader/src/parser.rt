@@ -1,7 +1,7 @@
 //! The tokens that are left, and what takes one of them.
 
 ghost use Rattle.std.specs.Prelude.{◌≡◌, ◌∷◌, IfOk, IfErr};
-ghost use Rattle.homeo_reader.specs.Reading.{Gives, TakesMark, ident_read, mark_read, same};
+ghost use Rattle.homeo_reader.specs.inner.Reading.{Gives, TakesMark, ident_read, mark_read, same};
 
 use homeo_syntax::{Ident, Kind, List, Mark, Memory, Token};
 use std::alloc::{AllocError, AllocFailed};

@@ -5,17 +5,19 @@ ghost use Rattle.homeo_syntax.specs.declared.workload.Refusal.{Refusal};
 ghost use Rattle.homeo_syntax.specs.SourceView.{plain_workload};
 ghost use Rattle.homeo_syntax.specs.Reads.{Reads, IsUnread, offset_at};
 ghost use Rattle.homeo_syntax.specs.WellFormed.{IsWellFormed};
-ghost use Rattle.homeo_reader.specs.Exact.{ReadsExactly, ParsesExactly};
+ghost use Rattle.homeo_reader.specs.inner.Exact.{ReadsExactly, ParsesExactly};
 
 use crate::parser::{Fault, Parser};
 use homeo_syntax::{List, Refusal, Text, Token, Workload};
 use homeo_tokens::{Numbered, ScanError, first_bad_byte, number_names, scan};
 use std::alloc::Global;
 
-/// Why no workload was read: the text is refused, or want of memory.
+/// Why no workload was read.
 #[derive(Clone, Copy, Debug, PartialEq, Eq)]
 pub enum ReadRefusal {
+    /// The text is no workload: the code, 1, 3 or 4, and the offset of its first fault.
     Refused(Refusal),
+    /// There was not enough memory.
     Memory,
 }
 
@@ -28,8 +30,8 @@ const NO_TOKEN: u8 = 3;
 /// No workload goes on with the token there.
 const NO_PHRASE: u8 = 4;
 
-/// Where the first of these tokens begins, or the end of the text.
-fn place(tokens: &[Token], end: u64) -> u64
+/// The offset of the first of these tokens, or of the end of the text.
+fn first_offset(tokens: &[Token], end: u64) -> u64
     ensures { result ≡ offset_at end tokens.now }
 {
     match tokens.split_first() {
@@ -66,20 +68,21 @@ fn parse(
             if rest.is_empty() {
                 Ok(workload)
             } else {
-                Err(refused(NO_PHRASE, place(rest, end)))
+                Err(refused(NO_PHRASE, first_offset(rest, end)))
             }
         }
-        Err(fault) => Err(refusal_after(fault, place(rest, end))),
+        Err(fault) => Err(refusal_after(fault, first_offset(rest, end))),
     }
 }
 
+/// The refusal with this code at this offset.
 fn refused(code: u8, offset: u64) -> ReadRefusal
     ensures { result ≡ ReadRefusal.Refused (record { code = code; offset = offset }) }
 {
     ReadRefusal::Refused(Refusal { code, offset })
 }
 
-/// Reads a workload, or says where its first fault stands.
+/// Reads a workload, or gives the code and the offset of the first fault.
 fn read_exactly(alloc: Global, bytes: &[u8]) -> Result<Workload, ReadRefusal>
     requires { length bytes.now ≤ 1048576 }
     ensures { ReadsExactly bytes.now result }
@@ -101,11 +104,17 @@ fn read_exactly(alloc: Global, bytes: &[u8]) -> Result<Workload, ReadRefusal>
     }
 }
 
-/// Reads a workload from its text, in the time that the text's length takes.
+/// Reads the workload of a text, given as its bytes, of which there are at most 1,048,576. It takes time linear in
+/// their number.
 ///
-/// `Refused` comes exactly for a text that is no workload, with the code and the offset of its first fault: 1 at the
-/// first byte that no text may have; else 3 at the first place where a token should begin and none does; else 4 at
-/// the first token with which no workload goes on, or at the text's length. `Memory` is want of memory.
+/// The language of the texts and the codes of their refusals are this project's own (docs/LANGUAGE.md).
+///
+/// # Errors
+///
+/// `Refused` comes only for a text that is no workload, with the code and the offset, in bytes from the text's start,
+/// of its first fault: 1 at the first byte that no text may have; else 3 at the first offset where a token should
+/// begin and none does; else 4 at the first token with which no workload goes on, or at the end of the text.
+/// `Memory` says that there was not enough memory, and nothing of the text.
 pub fn read(alloc: Global, bytes: &[u8]) -> Result<Workload, ReadRefusal>
     requires { length bytes.now ≤ 1048576 }
     ensures reads { IfOk result (λ w. Reads bytes.now (plain_workload w)) }

@@ -2,8 +2,8 @@
 
 ghost use Rattle.std.specs.Prelude.{◌≡◌, Ok};
 ghost use Rattle.homeo_syntax.specs.SourceView.{plain_schedule, plain_workload};
-ghost use Rattle.homeo_reader.specs.Reading.{Gives, same, number_is_read, offset_read};
-ghost use Rattle.homeo_reader.specs.Declarations.{next_name_read, names_read, schedule_read, head_read, workload_read};
+ghost use Rattle.homeo_reader.specs.inner.Reading.{Gives, same, number_is_read, offset_read};
+ghost use Rattle.homeo_reader.specs.inner.Declarations.{next_name_read, names_read, schedule_read, head_read, workload_read};
 
 use crate::parser::{Fault, Parser};
 use homeo_syntax::{Ident, Kind, List, Mark, Number, Text, Workload};
@@ -28,7 +28,7 @@ impl<'a> Parser<'a> {
     }
 
     /// A name, if one comes next.
-    #[tactic(auto, using(crate::proofs::DeclarationSteps::next_name_reads), unfolding(crate::specs::Declarations::next_name_do, crate::specs::Declarations::next_name_by))]
+    #[tactic(auto, using(crate::proofs::DeclarationSteps::next_name_reads), unfolding(crate::specs::inner::Declarations::next_name_do, crate::specs::inner::Declarations::next_name_by))]
     fn next_name(&mut self) -> Option<Ident>
         ensures { next_name_read self.old.rest.now ≡ Ok (result, self.new.rest.now) }
     {
@@ -47,6 +47,7 @@ impl<'a> Parser<'a> {
         }
     }
 
+    /// The names, as many as come.
     fn names(&mut self, alloc: Global) -> Result<List<Ident>, Fault>
         ensures { Gives (λ l. l.items) result self.new.rest.now (names_read self.old.rest.now) }
     {
@@ -58,7 +59,7 @@ impl<'a> Parser<'a> {
     }
 
     /// The schedule, if there is one.
-    #[tactic(auto, using(crate::proofs::DeclarationSteps::schedule_reads, homeo_syntax::proofs::SourceViews::workload_views), unfolding(crate::specs::Declarations::schedule_do))]
+    #[tactic(auto, using(crate::proofs::DeclarationSteps::schedule_reads, homeo_syntax::proofs::SourceViews::workload_views), unfolding(crate::specs::inner::Declarations::schedule_do))]
     fn schedule(&mut self, alloc: Global) -> Result<Option<List<Ident>>, Fault>
         ensures { Gives plain_schedule result self.new.rest.now (schedule_read self.old.rest.now) }
     {
@@ -87,7 +88,7 @@ impl<'a> Parser<'a> {
     }
 
     /// The number of sites, with what stands before it.
-    #[tactic(auto, using(crate::proofs::DeclarationSteps::head_reads), unfolding(crate::specs::Declarations::head_do))]
+    #[tactic(auto, using(crate::proofs::DeclarationSteps::head_reads), unfolding(crate::specs::inner::Declarations::head_do))]
     fn head(&mut self) -> Result<Number, Fault>
         ensures { Gives same result self.new.rest.now (head_read self.old.rest.now) }
     {
@@ -99,7 +100,7 @@ impl<'a> Parser<'a> {
     }
 
     /// A workload with these names.
-    #[tactic(auto, using(crate::proofs::DeclarationSteps::workload_reads, homeo_syntax::proofs::SourceViews::workload_views), unfolding(crate::specs::Declarations::workload_do))]
+    #[tactic(auto, using(crate::proofs::DeclarationSteps::workload_reads, homeo_syntax::proofs::SourceViews::workload_views), unfolding(crate::specs::inner::Declarations::workload_do))]
     pub fn workload(&mut self, alloc: Global, names: List<Text>) -> Result<Workload, Fault>
         ensures { Gives plain_workload result self.new.rest.now (workload_read names.items self.old.rest.now) }
     {

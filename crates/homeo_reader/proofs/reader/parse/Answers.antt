@@ -11,10 +11,12 @@ returns-then-is_empty c =
 
 pub returns-else-is_empty : goal.returns-else-is_empty
 returns-else-is_empty c =
-    refused_at c.args.names.items c.args.tokens.now c.workload-parsed.new.self.rest.now c.args.end c.place.result c.refused.result c.refused.ensures c.place.ensures
+    refused_at c.args.names.items c.args.tokens.now c.workload-parsed.new.self.rest.now c.args.end c.first_offset.result c.refused.result c.refused.ensures
+    c.first_offset.ensures
     (left_over c.args.names.items c.args.tokens.now c.workload-parsed.new.self.rest.now (plain_workload c.in-Ok.workload) c.in-Ok.ensures
     (λ z. first_of (omega arith, grind arith)))
 
 pub returns-in-Err : goal.returns-in-Err
 returns-in-Err c =
-    fault_refused c.args.names.items c.args.tokens.now c.workload-parsed.new.self.rest.now c.args.end c.place-in-Err.result c.in-Err.fault c.refusal_after.result c.in-Err.ensures c.refusal_after.ensures.memory c.refusal_after.ensures.stuck c.place-in-Err.ensures
+    fault_refused c.args.names.items c.args.tokens.now c.workload-parsed.new.self.rest.now c.args.end c.first_offset-in-Err.result c.in-Err.fault
+    c.refusal_after.result c.in-Err.ensures c.refusal_after.ensures.memory c.refusal_after.ensures.stuck c.first_offset-in-Err.ensures

@@ -5,9 +5,13 @@ use Rattle.homeo_reader.proofs.reader.read_exactly.Goals as goal
 
 pub returns-in-Err-At : goal.returns-in-Err-At
 returns-in-Err-At c =
-    no_token c.args.bytes.now c.in-Err-At.offset c.refused-in-Err-At.result c.in-Err-At.field-0 (c.refused-in-Err-At.ensures ∙ ap (λ (n : ℕ). Refused (record { code = 3; offset = n })) c.in-Err-At.offset-is) c.in-Err-At.ensures.stops c.in-Err-At.field-0-is (sym c.in_default.ensures)
+    no_token c.args.bytes.now c.in-Err-At.offset c.refused-in-Err-At.result c.in-Err-At.field-0
+    (c.refused-in-Err-At.ensures ∙ ap (λ (n : ℕ). Refused (record { code = 3; offset = n })) c.in-Err-At.offset-is) c.in-Err-At.ensures.stops
+    c.in-Err-At.field-0-is (sym c.in_default.ensures)
 
 pub returns-in-Ok-number_names : goal.returns-in-Ok-number_names
 returns-in-Ok-number_names c =
-    parsed c.args.bytes.now c.in-Ok.scanned.items c.as_slice.result.now c.in-Ok-number_names.numbered.names.items c.in-Ok-number_names.numbered.tokens.items c.as_slice-in-Ok-number_names.result.now c.parse.result
-    (sym c.in_default.ensures) c.in-Ok.ensures.tokens c.as_slice.ensures.value c.in-Ok-number_names.ensures.names c.in-Ok-number_names.ensures.tokens c.as_slice-in-Ok-number_names.ensures.value c.parse.ensures
+    parsed c.args.bytes.now c.in-Ok.scanned.items c.as_slice.result.now c.in-Ok-number_names.numbered.names.items c.in-Ok-number_names.numbered.tokens.items
+    c.as_slice-in-Ok-number_names.result.now c.parse.result
+    (sym c.in_default.ensures) c.in-Ok.ensures.tokens c.as_slice.ensures.value c.in-Ok-number_names.ensures.names c.in-Ok-number_names.ensures.tokens
+    c.as_slice-in-Ok-number_names.ensures.value c.parse.ensures

@@ -1,6 +1,6 @@
 use Rattle.std.proofs.Common.{◌≡◌, ◌+◌, ◌*◌, length}
-use Rattle.homeo_reader.specs.Reading.{with_front}
-use Rattle.homeo_reader.specs.Commands.{command_views, commands_read}
+use Rattle.homeo_reader.specs.inner.Reading.{with_front}
+use Rattle.homeo_reader.specs.inner.Commands.{command_views, commands_read}
 use Rattle.homeo_reader.proofs.parser.Parser.+command.Given as goal
 
 abbrev pub decreases-command : goal.decreases-command

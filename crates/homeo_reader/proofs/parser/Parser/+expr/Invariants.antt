@@ -1,5 +1,5 @@
 use Rattle.std.proofs.Common.{◌≡◌, ◌+◌, ◌*◌, length}
-use Rattle.homeo_reader.specs.Reading.{with_front, expr_views, test_views, factors_read, terms_read, tests_read}
+use Rattle.homeo_reader.specs.inner.Reading.{with_front, expr_views, test_views, factors_read, terms_read, tests_read}
 use Rattle.homeo_reader.proofs.parser.Parser.+expr.Given as goal
 
 abbrev pub decreases-factor : goal.decreases-factor

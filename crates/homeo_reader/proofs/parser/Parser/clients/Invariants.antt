@@ -1,6 +1,6 @@
 use Rattle.std.proofs.Common.{◌≡◌, length}
-use Rattle.homeo_reader.specs.Reading.{with_front}
-use Rattle.homeo_reader.specs.Declarations.{clients_read, client_views}
+use Rattle.homeo_reader.specs.inner.Reading.{with_front}
+use Rattle.homeo_reader.specs.inner.Declarations.{clients_read, client_views}
 use Rattle.homeo_reader.proofs.parser.Parser.clients.Given as goal
 
 abbrev pub invariant-more : goal.invariant-more

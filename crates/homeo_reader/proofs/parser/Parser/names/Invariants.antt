@@ -1,6 +1,6 @@
 use Rattle.std.proofs.Common.{◌≡◌, length}
-use Rattle.homeo_reader.specs.Reading.{with_front}
-use Rattle.homeo_reader.specs.Declarations.{names_read}
+use Rattle.homeo_reader.specs.inner.Reading.{with_front}
+use Rattle.homeo_reader.specs.inner.Declarations.{names_read}
 use Rattle.homeo_reader.proofs.parser.Parser.names.Given as goal
 
 abbrev pub invariant-more : goal.invariant-more

@@ -1,6 +1,6 @@
 use Rattle.std.proofs.Common.{◌≡◌, length}
-use Rattle.homeo_reader.specs.Reading.{with_front}
-use Rattle.homeo_reader.specs.Declarations.{objects_read}
+use Rattle.homeo_reader.specs.inner.Reading.{with_front}
+use Rattle.homeo_reader.specs.inner.Declarations.{objects_read}
 use Rattle.homeo_reader.proofs.parser.Parser.objects.Given as goal
 
 abbrev pub invariant-more : goal.invariant-more

@@ -1,6 +1,6 @@
 use Rattle.std.proofs.Common.{◌≡◌, length}
-use Rattle.homeo_reader.specs.Reading.{with_front}
-use Rattle.homeo_reader.specs.Declarations.{other_invocations_read, call_views}
+use Rattle.homeo_reader.specs.inner.Reading.{with_front}
+use Rattle.homeo_reader.specs.inner.Declarations.{other_invocations_read, call_views}
 use Rattle.homeo_reader.proofs.parser.Parser.other_invocations.Given as goal
 
 abbrev pub invariant-more : goal.invariant-more

@@ -3,7 +3,7 @@ use Rattle.std.specs.Prelude.{ℕ, List, [], ◌∷◌}
 use Rattle.homeo_syntax.specs.declared.token.Mark.TheVariants as mark
 use Rattle.homeo_syntax.specs.Classes.{number_of, name_class, number_class}
 use Rattle.homeo_syntax.specs.Rules.{Deep, Factor, Test, Command}
-use Rattle.homeo_reader.specs.Engine.{Classes}
+use Rattle.homeo_reader.specs.inner.Engine.{Classes}
 
 abbrev pub factor_starts : List ℕ
 factor_starts =

@@ -17,9 +17,9 @@ use Rattle.homeo_syntax.specs.SourceView.{plain_call, plain_relation, plain_tran
 use Rattle.homeo_syntax.specs.Grammar.{many}
 use Rattle.homeo_syntax.specs.Rules as rules
 use Rattle.homeo_syntax.specs.Rules.{Deep, Tree, rule, lead, minus_number, limit}
-use Rattle.homeo_reader.specs.Engine.{Calls, Reading, ◌>>=◌, read, calls_at}
-use Rattle.homeo_reader.specs.Commands.{block_read}
-use Rattle.homeo_reader.specs.Reading.{mark_read, ident_read, number_read, number_is_read, offset_read, if_marked, opt_read}
+use Rattle.homeo_reader.specs.inner.Engine.{Calls, Reading, ◌>>=◌, read, calls_at}
+use Rattle.homeo_reader.specs.inner.Commands.{block_read}
+use Rattle.homeo_reader.specs.inner.Reading.{mark_read, ident_read, number_read, number_is_read, offset_read, if_marked, opt_read}
 
 abbrev pub call_views : List Call → List s.Call
 call_views cs = map plain_call cs
@@ -145,7 +145,8 @@ range_do ts = signed_read ts >>= λ a. mark_read mark.Dots a.1 >>= λ b. signed_
 -- what follows `object`
 unfoldable pub object_rest : List Token → Reading ObjectDecl
 object_rest ts =
-    ident_read ts >>= λ a. mark_read mark.In a.1 >>= λ b. range_read b.1 >>= λ c. mark_read mark.Equal c.1 >>= λ d. signed_read d.1 >>= λ e. Ok (record { name = a.0; lo = c.0.0; hi = c.0.1; start = e.0 }, e.1)
+    ident_read ts >>= λ a. mark_read mark.In a.1 >>= λ b. range_read b.1 >>= λ c. mark_read mark.Equal c.1 >>= λ d. signed_read d.1 >>= λ e.
+    Ok (record { name = a.0; lo = c.0.0; hi = c.0.1; start = e.0 }, e.1)
 
 unfoldable pub next_object_do : List Token → Reading (Option ObjectDecl)
 next_object_do ts = if_marked mark.Object ts (λ r. object_rest r >>= λ x. Ok (Some x.0, x.1)) (Ok (None, ts))
@@ -176,7 +177,8 @@ fields_do ts = decl_read ts >>= λ x. other_decls_read x.1 >>= λ y. Ok (x.0 ∷
 -- what follows `relation`
 unfoldable pub relation_rest : List Token → Reading s.RelationDecl
 relation_rest ts =
-    ident_read ts >>= λ a. mark_read mark.OpenBracket a.1 >>= λ b. number_read b.1 >>= λ c. mark_read mark.CloseBracket c.1 >>= λ d. mark_read mark.Open d.1 >>= λ e. fields_read e.1 >>= λ f. mark_read mark.Close f.1 >>= λ g. Ok (record { name = a.0; slots = c.0; fields = f.0 }, g.1)
+    ident_read ts >>= λ a. mark_read mark.OpenBracket a.1 >>= λ b. number_read b.1 >>= λ c. mark_read mark.CloseBracket c.1 >>= λ d.
+    mark_read mark.Open d.1 >>= λ e. fields_read e.1 >>= λ f. mark_read mark.Close f.1 >>= λ g. Ok (record { name = a.0; slots = c.0; fields = f.0 }, g.1)
 
 unfoldable pub next_relation_do : List Token → Reading (Option s.RelationDecl)
 next_relation_do ts = if_marked mark.Relation ts (λ r. relation_rest r >>= λ x. Ok (Some x.0, x.1)) (Ok (None, ts))
@@ -187,7 +189,8 @@ parameters_do ts = first_decl_read ts >>= λ x. after_first other_decls_read x.0
 -- what follows `transaction`
 unfoldable pub transaction_rest : List Token → Reading s.Transaction
 transaction_rest ts =
-    ident_read ts >>= λ a. mark_read mark.Open a.1 >>= λ b. parameters_read b.1 >>= λ c. mark_read mark.Close c.1 >>= λ d. block_read limit d.1 >>= λ e. Ok (record { name = a.0; params = c.0; body = e.0 }, e.1)
+    ident_read ts >>= λ a. mark_read mark.Open a.1 >>= λ b. parameters_read b.1 >>= λ c. mark_read mark.Close c.1 >>= λ d. block_read limit d.1 >>= λ e.
+    Ok (record { name = a.0; params = c.0; body = e.0 }, e.1)
 
 unfoldable pub next_transaction_do : List Token → Reading (Option s.Transaction)
 next_transaction_do ts = if_marked mark.Transaction ts (λ r. transaction_rest r >>= λ x. Ok (Some x.0, x.1)) (Ok (None, ts))
@@ -209,7 +212,8 @@ arguments_do ts = first_argument_read ts >>= λ x. after_first other_arguments_r
 
 unfoldable pub invocation_do : List Token → Reading s.Call
 invocation_do ts =
-    ident_read ts >>= λ a. mark_read mark.Open a.1 >>= λ b. arguments_read b.1 >>= λ c. mark_read mark.Close c.1 >>= λ d. Ok (record { name = a.0; args = c.0 }, d.1)
+    ident_read ts >>= λ a. mark_read mark.Open a.1 >>= λ b. arguments_read b.1 >>= λ c. mark_read mark.Close c.1 >>= λ d.
+    Ok (record { name = a.0; args = c.0 }, d.1)
 
 unfoldable pub first_invocation_by : Kind → Token → List Token → Reading (Option s.Call)
 first_invocation_by (kind.Name n) t ts = invocation_read (t ∷ ts) >>= λ x. Ok (Some x.0, x.1)
@@ -231,7 +235,8 @@ calls_do ts = mark_read mark.OpenBrace ts >>= λ a. invocations_read a.1 >>= λ 
 -- what follows `client`
 unfoldable pub client_rest : List Token → Reading s.Client
 client_rest ts =
-    ident_read ts >>= λ a. mark_read mark.At a.1 >>= λ b. number_read b.1 >>= λ c. calls_read c.1 >>= λ d. Ok (record { name = a.0; site = c.0; calls = d.0 }, d.1)
+    ident_read ts >>= λ a. mark_read mark.At a.1 >>= λ b. number_read b.1 >>= λ c. calls_read c.1 >>= λ d.
+    Ok (record { name = a.0; site = c.0; calls = d.0 }, d.1)
 
 unfoldable pub next_client_do : List Token → Reading (Option s.Client)
 next_client_do ts = if_marked mark.Client ts (λ r. client_rest r >>= λ x. Ok (Some x.0, x.1)) (Ok (None, ts))
@@ -252,5 +257,6 @@ head_do ts = mark_read mark.Workload ts >>= λ a. number_is_read 1 a.1 >>= λ b.
 
 unfoldable pub workload_do : List (List ℕ) → List Token → Reading s.Workload
 workload_do names ts =
-    head_read ts >>= λ a. objects_read a.1 >>= λ b. relations_read b.1 >>= λ c. transactions_read c.1 >>= λ d. clients_read d.1 >>= λ e. schedule_read e.1 >>= λ f. offset_read mark.End f.1 >>= λ g.
+    head_read ts >>= λ a. objects_read a.1 >>= λ b. relations_read b.1 >>= λ c. transactions_read c.1 >>= λ d. clients_read d.1 >>= λ e.
+    schedule_read e.1 >>= λ f. offset_read mark.End f.1 >>= λ g.
     Ok (record { version = 1; names = names; sites = a.0; objects = b.0; relations = c.0; transactions = d.0; clients = e.0; schedule = f.0; end = g.0 }, g.1)

@@ -20,7 +20,7 @@ use Rattle.homeo_syntax.specs.Rules.{Deep, Factor, Test, Tree, Rule, rule, lead,
 use Rattle.homeo_reader.specs.declared.conditions.Visit.{Visit}
 use Rattle.homeo_reader.specs.declared.parser.Fault.{Fault}
 use Rattle.homeo_reader.specs.declared.parser.Fault.TheVariants.{Memory, Stuck}
-use Rattle.homeo_reader.specs.Engine.{Calls, begins, first_is, Reading, ◌>>=◌, read_token, read, calls_at}
+use Rattle.homeo_reader.specs.inner.Engine.{Calls, begins, first_is, Reading, ◌>>=◌, read_token, read, calls_at}
 
 -- What was returned, seen by a view, and the tokens that are left are what the reading gives, unless memory was
 -- wanting.
@@ -130,7 +130,8 @@ after_name_read room x ts = read (calls_at rule room) rules.after_name ts >>= λ
 -- ---- the same, step by step
 -- what follows a name and `[`
 unfoldable pub field_rest : ℕ → Ident → List Token → Reading s.Expr
-field_rest room x ts = expr_read room ts >>= λ a. mark_read mark.CloseBracket a.1 >>= λ b. mark_read mark.Dot b.1 >>= λ c. ident_read c.1 >>= λ d. Ok (s.Field x a.0 d.0, d.1)
+field_rest room x ts =
+    expr_read room ts >>= λ a. mark_read mark.CloseBracket a.1 >>= λ b. mark_read mark.Dot b.1 >>= λ c. ident_read c.1 >>= λ d. Ok (s.Field x a.0 d.0, d.1)
 
 unfoldable pub after_name_by : ℕ → Ident → Kind → Token → List Token → Reading s.Expr
 after_name_by room x (kind.Fixed mark.OpenBracket) t ts = if nat_lt 0 room then field_rest room x ts else Ok (s.Name x, t ∷ ts)
@@ -148,14 +149,16 @@ count_rest room ts = mark_read mark.Open ts >>= λ a. visit_read room a.1 >>= λ
 -- what follows `sum`
 unfoldable pub total_rest : ℕ → List Token → Reading s.Expr
 total_rest room ts =
-    mark_read mark.Open ts >>= λ a. ident_read a.1 >>= λ b. mark_read mark.Dot b.1 >>= λ c. visit_read room c.1 >>= λ d. mark_read mark.Close d.1 >>= λ e. Ok (s.Total b.0 d.0.0 d.0.1.0 d.0.1.1, e.1)
+    mark_read mark.Open ts >>= λ a. ident_read a.1 >>= λ b. mark_read mark.Dot b.1 >>= λ c. visit_read room c.1 >>= λ d. mark_read mark.Close d.1 >>= λ e.
+    Ok (s.Total b.0 d.0.0 d.0.1.0 d.0.1.1, e.1)
 
 unfoldable pub factor_by : ℕ → Kind → Token → List Token → Reading s.Expr
 factor_by room (kind.Number n) t ts = Ok (s.Literal n, ts)
 factor_by room (kind.Name n) t ts = ident_read (t ∷ ts) >>= λ x. after_name_read (room - 1) x.0 x.1
 factor_by room (kind.Fixed mark.Read) t ts = mark_read mark.Open ts >>= λ x. ident_read x.1 >>= λ y. mark_read mark.Close y.1 >>= λ z. Ok (s.Read y.0, z.1)
 factor_by room (kind.Fixed mark.Minus) t ts = if nat_lt 1 room then (factor_read (room - 1) ts >>= λ x. Ok (s.Neg x.0, x.1)) else Err (t ∷ ts)
-factor_by room (kind.Fixed mark.Open) t ts = if nat_lt 1 room then (expr_read (room - 1) ts >>= λ x. mark_read mark.Close x.1 >>= λ y. Ok (x.0, y.1)) else Err (t ∷ ts)
+factor_by room (kind.Fixed mark.Open) t ts =
+    if nat_lt 1 room then (expr_read (room - 1) ts >>= λ x. mark_read mark.Close x.1 >>= λ y. Ok (x.0, y.1)) else Err (t ∷ ts)
 factor_by room (kind.Fixed mark.Count) t ts = if nat_lt 1 room then count_rest (room - 1) ts else Err (t ∷ ts)
 factor_by room (kind.Fixed mark.Sum) t ts = if nat_lt 1 room then total_rest (room - 1) ts else Err (t ∷ ts)
 factor_by room _ t ts = Err (t ∷ ts)
@@ -192,7 +195,8 @@ cond_do room ts = test_read room ts >>= λ x. tests_read room x.1 >>= λ y. Ok (
 
 unfoldable pub visit_do : ℕ → List Token → Reading (Ident × (Ident × s.Cond))
 visit_do room ts =
-    ident_read ts >>= λ a. mark_read mark.Of a.1 >>= λ b. ident_read b.1 >>= λ c. mark_read mark.When c.1 >>= λ d. cond_read room d.1 >>= λ e. Ok ((a.0, (c.0, e.0)), e.1)
+    ident_read ts >>= λ a. mark_read mark.Of a.1 >>= λ b. ident_read b.1 >>= λ c. mark_read mark.When c.1 >>= λ d. cond_read room d.1 >>= λ e.
+    Ok ((a.0, (c.0, e.0)), e.1)
 
 unfoldable pub test_do : ℕ → List Token → Reading s.Test
 test_do room ts =

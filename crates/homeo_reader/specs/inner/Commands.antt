@@ -13,8 +13,8 @@ use Rattle.homeo_syntax.specs.SourceView.{commands, plain_command, plain_field}
 use Rattle.homeo_syntax.specs.Grammar.{call, many}
 use Rattle.homeo_syntax.specs.Rules as rules
 use Rattle.homeo_syntax.specs.Rules.{Command, rule, lead}
-use Rattle.homeo_reader.specs.Engine.{Reading, ◌>>=◌, read, calls_at}
-use Rattle.homeo_reader.specs.Reading.{mark_read, ident_read, if_marked, opt_read, expr_read, cond_read, visit_read}
+use Rattle.homeo_reader.specs.inner.Engine.{Reading, ◌>>=◌, read, calls_at}
+use Rattle.homeo_reader.specs.inner.Reading.{mark_read, ident_read, if_marked, opt_read, expr_read, cond_read, visit_read}
 
 abbrev pub command_views : List Command_ → List s.Command
 command_views cs = map plain_command cs
@@ -58,7 +58,8 @@ field_values_read room ts = read (calls_at rule room) rules.field_values ts
 -- what follows a name and `[`
 unfoldable pub field_setting_rest : ℕ → Ident → List Token → Reading s.Command
 field_setting_rest room x ts =
-    expr_read room ts >>= λ a. mark_read mark.CloseBracket a.1 >>= λ b. mark_read mark.Dot b.1 >>= λ c. ident_read c.1 >>= λ d. mark_read mark.Assign d.1 >>= λ e. expr_read room e.1 >>= λ f. Ok (s.SetField x a.0 d.0 f.0, f.1)
+    expr_read room ts >>= λ a. mark_read mark.CloseBracket a.1 >>= λ b. mark_read mark.Dot b.1 >>= λ c. ident_read c.1 >>= λ d.
+    mark_read mark.Assign d.1 >>= λ e. expr_read room e.1 >>= λ f. Ok (s.SetField x a.0 d.0 f.0, f.1)
 
 -- what follows a name and `.`
 unfoldable pub row_setting_rest : ℕ → Ident → List Token → Reading s.Command
@@ -90,11 +91,14 @@ unfoldable pub block_do : ℕ → List Token → Reading s.Commands
 block_do room ts =
     mark_read mark.OpenBrace ts >>= λ a.
     if_marked mark.CloseBrace a.1 (λ r. Ok (s.NoCommand, r))
-    (if nat_lt 0 room then (command_read room a.1 >>= λ b. commands_read room b.1 >>= λ c. mark_read mark.CloseBrace c.1 >>= λ d. Ok (commands (b.0 ∷ c.0), d.1)) else Err a.1)
+    (if nat_lt 0 room then
+    (command_read room a.1 >>= λ b. commands_read room b.1 >>= λ c. mark_read mark.CloseBrace c.1 >>= λ d. Ok (commands (b.0 ∷ c.0), d.1)) else Err a.1)
 
 -- what follows `if`
 unfoldable pub if_read : ℕ → List Token → Reading s.Command
-if_read room ts = cond_read room ts >>= λ a. mark_read mark.Then a.1 >>= λ b. command_read room b.1 >>= λ c. mark_read mark.Else c.1 >>= λ d. command_read room d.1 >>= λ e. Ok (s.If a.0 c.0 e.0, e.1)
+if_read room ts =
+    cond_read room ts >>= λ a. mark_read mark.Then a.1 >>= λ b. command_read room b.1 >>= λ c. mark_read mark.Else c.1 >>= λ d. command_read room d.1 >>= λ e.
+    Ok (s.If a.0 c.0 e.0, e.1)
 
 -- what follows `foreach`
 unfoldable pub foreach_read : ℕ → List Token → Reading s.Command
@@ -103,7 +107,8 @@ foreach_read room ts = visit_read room ts >>= λ a. block_read room a.1 >>= λ b
 -- what follows `insert`
 unfoldable pub insert_read : ℕ → List Token → Reading s.Command
 insert_read room ts =
-    ident_read ts >>= λ a. mark_read mark.Open a.1 >>= λ b. field_values_read room b.1 >>= λ c. mark_read mark.Close c.1 >>= λ d. mark_read mark.Into d.1 >>= λ e. ident_read e.1 >>= λ f. Ok (s.Insert a.0 c.0 f.0, f.1)
+    ident_read ts >>= λ a. mark_read mark.Open a.1 >>= λ b. field_values_read room b.1 >>= λ c. mark_read mark.Close c.1 >>= λ d.
+    mark_read mark.Into d.1 >>= λ e. ident_read e.1 >>= λ f. Ok (s.Insert a.0 c.0 f.0, f.1)
 
 -- what follows `delete`
 unfoldable pub delete_read : ℕ → List Token → Reading s.Command
@@ -112,7 +117,8 @@ delete_read room ts = visit_read room ts >>= λ a. Ok (s.Delete a.0.0 a.0.1.0 a.
 -- what follows `update`
 unfoldable pub update_read : ℕ → List Token → Reading s.Command
 update_read room ts =
-    visit_read room ts >>= λ a. mark_read mark.Set a.1 >>= λ b. field_value_read room b.1 >>= λ c. Ok (s.Update a.0.0 a.0.1.0 a.0.1.1 c.0.field c.0.value, c.1)
+    visit_read room ts >>= λ a. mark_read mark.Set a.1 >>= λ b. field_value_read room b.1 >>= λ c.
+    Ok (s.Update a.0.0 a.0.1.0 a.0.1.1 c.0.field c.0.value, c.1)
 
 unfoldable pub command_by : ℕ → Kind → Token → List Token → Reading s.Command
 command_by room (kind.Name n) t ts =
@@ -120,9 +126,12 @@ command_by room (kind.Name n) t ts =
 command_by room (kind.Fixed mark.Skip) t ts = Ok (s.Skip, ts)
 command_by room (kind.Fixed mark.OpenBrace) t ts = block_read (room - 1) (t ∷ ts) >>= λ a. Ok (s.Block a.0, a.1)
 command_by room (kind.Fixed mark.Write) t ts =
-    if nat_lt 1 room then (mark_read mark.Open ts >>= λ a. ident_read a.1 >>= λ b. mark_read mark.Equal b.1 >>= λ c. expr_read (room - 1) c.1 >>= λ d. mark_read mark.Close d.1 >>= λ e. Ok (s.Write b.0 d.0, e.1)) else Err (t ∷ ts)
+    if nat_lt 1 room then
+    (mark_read mark.Open ts >>= λ a. ident_read a.1 >>= λ b. mark_read mark.Equal b.1 >>= λ c.
+    expr_read (room - 1) c.1 >>= λ d. mark_read mark.Close d.1 >>= λ e. Ok (s.Write b.0 d.0, e.1)) else Err (t ∷ ts)
 command_by room (kind.Fixed mark.Print) t ts =
-    if nat_lt 1 room then (mark_read mark.Open ts >>= λ a. expr_read (room - 1) a.1 >>= λ b. mark_read mark.Close b.1 >>= λ c. Ok (s.Print b.0, c.1)) else Err (t ∷ ts)
+    if nat_lt 1 room then (mark_read mark.Open ts >>= λ a. expr_read (room - 1) a.1 >>= λ b. mark_read mark.Close b.1 >>= λ c. Ok (s.Print b.0, c.1))
+    else Err (t ∷ ts)
 command_by room (kind.Fixed mark.If) t ts = if nat_lt 1 room then if_read (room - 1) ts else Err (t ∷ ts)
 command_by room (kind.Fixed mark.Foreach) t ts = if nat_lt 1 room then foreach_read (room - 1) ts else Err (t ∷ ts)
 command_by room (kind.Fixed mark.Insert) t ts = if nat_lt 1 room then insert_read (room - 1) ts else Err (t ∷ ts)

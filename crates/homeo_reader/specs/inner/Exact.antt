@@ -19,4 +19,5 @@ ReadsExactly text (Err (Refused r)) = IsUnread text r
 abbrev pub ParsesExactly : List (List ℕ) → List Token → ℕ → Result Workload ReadRefusal → Type 0
 ParsesExactly names ts end (Ok w) = IsWorkload names (plain_workload w) ts
 ParsesExactly names ts end (Err Memory) = Unit {0}
-ParsesExactly names ts end (Err (Refused r)) = (fault : List Token) × IsFault (IsWorkload names) ts fault × (r ≡ record { code = 4; offset = offset_at end fault })
+ParsesExactly names ts end (Err (Refused r)) =
+    (fault : List Token) × IsFault (IsWorkload names) ts fault × (r ≡ record { code = 4; offset = offset_at end fault })
