@@ -1,9 +1,9 @@
 //! What is true of the L forms of all calls, and of the calls themselves.
 
-ghost use Rattle.std.specs.Prelude.{◌≡◌, ℕ, ℤ, List, pos, true};
-ghost use Rattle.homeo_syntax.specs.Source.{Command, Commands};
-ghost use Rattle.homeo_meaning.specs.Schema.{Schema};
-ghost use Rattle.homeo_meaning.specs.Bounds.{AllWithin};
+ghost use Rattle.std.specs.Prelude.{◌≡◌, ℕ, ℤ, List, length, pos, true};
+ghost use Rattle.homeo_syntax.specs.Source.{Command, Commands, Workload};
+ghost use Rattle.homeo_meaning.specs.Schema.{Schema, schema_of};
+ghost use Rattle.homeo_meaning.specs.Bounds.{AllWithin, all_bounds};
 ghost use Rattle.homeo_meaning.specs.Context.{Context, context};
 ghost use Rattle.homeo_meaning.specs.Meaning.{run};
 ghost use Rattle.homeo_meaning.specs.LForm.{form, l_form};
@@ -12,6 +12,10 @@ ghost use Rattle.homeo_meaning.specs.LowWeights.{first_weights, is_light};
 ghost use Rattle.homeo_meaning.specs.SameRun.{IsSameRun};
 ghost use Rattle.homeo_lform.specs.Fresh.{TakesFrom};
 ghost use Rattle.homeo_meaning.specs.Whole.{IsWhole};
+ghost use Rattle.homeo_meaning.specs.NamesWithin.{NamesWithin};
+ghost use Rattle.homeo_meaning.specs.Ground.{Ground};
+ghost use Rattle.homeo_meaning.specs.CallForm.{ground_form};
+ghost use Rattle.homeo_meaning.specs.Acceptance.{IsAccepted};
 ghost use Rattle.homeo_meaning.specs.LowComputed as low;
 ghost use Rattle.homeo_meaning.specs.Computed.{CanRunAll};
 ghost use Rattle.homeo_meaning.specs.Small.{IsSmall, Anything, ComputesSmall};
@@ -26,6 +30,13 @@ pub fn form_means_the_program()
 /// The L form of a call names whole objects only: no base and no delta.
 pub fn form_names_whole_objects()
     ensures { (x : Schema) (params : List ℕ) (args : List ℤ) (body : Commands) → IsWhole (l_form x params args body) }
+{}
+
+/// The L form of each call of an accepted workload, whatever its arguments, names only objects that the workload has, and
+/// temporaries only by names that it has.
+pub fn form_names_what_there_is()
+    ensures { (w : Workload) (g : Ground) → IsAccepted w →
+        NamesWithin (length (all_bounds (schema_of w))) (length w.names) (ground_form w g) }
 {}
 
 /// The L form of a command takes its fresh temporaries from the number that it is given on. Those below keep their
