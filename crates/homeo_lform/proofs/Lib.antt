@@ -9,6 +9,7 @@ pub mod Lifts
 pub mod Light
 pub mod Loops
 pub mod Means
+pub mod NamedWithin
 pub mod ObjectBounds
 pub mod SourceNumbers
 pub mod Stays

@@ -16,6 +16,7 @@ use Rattle.homeo_meaning.specs.LowWeights.{weight_at, bounds_weight}
 use Rattle.homeo_meaning.specs.LowWeights.{weight, sum_weight, product_weight, after, after_all, is_light_expr, is_light_test, is_light_cond, is_light, are_light, first_weights}
 use Rattle.homeo_meaning.specs.LowComputed.{CanValue, CanSum, CanProduct, CanPass, CanHold, CanRun, CanRunAll}
 use Rattle.homeo_meaning.specs.Small.{IsSmall, ComputesSmall}
+use Rattle.homeo_lform.specs.Covers.{Covers}
 use Rattle.homeo_lform.proofs.SourceNumbers.{values_law}
 
 abs_neg : (v : ℤ) → unsigned_abs (neg_ℤ v) ≡ unsigned_abs v
@@ -23,11 +24,6 @@ abs_neg v = grind (arith, ints)
 
 abs_add : (a b : ℤ) → unsigned_abs (a +ℤ b) ≤ unsigned_abs a + unsigned_abs b
 abs_add a b = grind (arith, ints)
-
--- the weights bound the state
-record Covers (w : Place → ℕ) (s : State) : Type 0 where
-  size : (p : Place) → unsigned_abs (s p) ≤ w p
-  one : (p : Place) → 1 ≤ w p
 
 one_mul : (m n : ℕ) → 1 ≤ m → 1 ≤ n → 1 ≤ m * n
 one_mul m n p q = omega (arith, mul-le 1 1 m n p q)
@@ -132,39 +128,51 @@ unfolding words
 covers_if w w' true r r' c c' = record { size = λ p. omega (arith, c.size p); one = λ p. omega (arith, c.one p) }
 covers_if w w' false r r' c c' = record { size = λ p. omega (arith, c'.size p); one = λ p. omega (arith, c'.one p) }
 
-record Runs (b : ℕ) (Can : Type 0) (w : Place → ℕ) (s : State) : Type 0 where
-  can : Can
-  covers : Covers w s
+pub value_covered : (e : Expr) (w : Place → ℕ) (s : State) → Covers w s → unsigned_abs (value e s) ≤ weight e w
+value_covered e w s c = (light (weight e w) w s c e (omega arith)).size
+
+put_covered : (p : Place) (e : Expr) (w : Place → ℕ) (s : State) → Covers w s → Covers (put w p (weight e w)) (put s p (value e s))
+put_covered p e w s c = covers_put w s p (value e s) (weight e w) c (value_covered e w s c) (one_weight w c.one e)
+
+mutual
+  unfolding words
+
+  pub run_covered : (c : Command) (w : Place → ℕ) (s : State) → Covers w s → Covers (after c w) (exec c s).state
+  run_covered Skip w s k = k
+  run_covered (Assign t e) w s k = put_covered (TempAt t) e w s k
+  run_covered (Write x e) w s k = put_covered (place_of x) e w s k
+  run_covered (Print e) w s k = k
+  run_covered (Seq cs) w s k = all_covered cs w s k
+  run_covered (If t c d) w s k =
+      covers_if (after c w) (after d w) (holds t s) (exec c s) (exec d s) (run_covered c w s k) (run_covered d w s k)
+
+  all_covered : (cs : Commands) (w : Place → ℕ) (s : State) → Covers w s → Covers (after_all cs w) (exec_all cs s).state
+  all_covered NoCommand w s k = k
+  all_covered (MoreCommand c cs) w s k = all_covered cs (after c w) (exec c s).state (run_covered c w s k)
 
 module _ (b : ℕ) where
-  set_light : (w : Place → ℕ) (s : State) (p : Place) (e : Expr) → Covers w s → is_light_expr b e w ≡ true → Runs b (CanValue (IsSmall b) (IsSmall b) e s) (put w p (weight e w)) (put s p (value e s))
-  set_light w s p e c h =
-      let l = light b w s c e (weight_small b w e h) in
-      record { can = l.can; covers = covers_put w s p (value e s) (weight e w) c l.size (one_weight w c.one e) }
+  value_light : (e : Expr) (w : Place → ℕ) (s : State) → Covers w s → is_light_expr b e w ≡ true → CanValue (IsSmall b) (IsSmall b) e s
+  value_light e w s k h = (light b w s k e (weight_small b w e h)).can
 
   mutual
     unfolding words
 
-    run_light : (c : Command) (w : Place → ℕ) (s : State) → Covers w s → is_light b c w ≡ true → Runs b (CanRun (IsSmall b) (IsSmall b) c s) (after c w) (exec c s).state
-    run_light Skip w s k h = record { can = tt; covers = k }
-    run_light (Assign t e) w s k h = let r = set_light w s (TempAt t) e k h in record { can = r.can; covers = r.covers }
-    run_light (Write x e) w s k h = let r = set_light w s (place_of x) e k h in record { can = r.can; covers = r.covers }
-    run_light (Print e) w s k h = record { can = (light b w s k e (weight_small b w e h)).can; covers = k }
-    run_light (Seq cs) w s k h = let r = all_light cs w s k h in record { can = r.can; covers = r.covers }
+    run_light : (c : Command) (w : Place → ℕ) (s : State) → Covers w s → is_light b c w ≡ true → CanRun (IsSmall b) (IsSmall b) c s
+    run_light Skip w s k h = tt
+    run_light (Assign t e) w s k h = value_light e w s k h
+    run_light (Write x e) w s k h = value_light e w s k h
+    run_light (Print e) w s k h = value_light e w s k h
+    run_light (Seq cs) w s k h = all_light cs w s k h
     run_light (If t c d) w s k h =
         let parts = and_parts (is_light_cond b t w) _ h in
         let branches = and_parts (is_light b c w) _ parts.1 in
-        let x = run_light c w s k branches.0 in
-        let y = run_light d w s k branches.1 in
-        record { can = (light_cond b w s k t parts.0, x.can, y.can); covers = covers_if (after c w) (after d w) (holds t s) (exec c s) (exec d s) x.covers y.covers }
+        (light_cond b w s k t parts.0, run_light c w s k branches.0, run_light d w s k branches.1)
 
-    all_light : (cs : Commands) (w : Place → ℕ) (s : State) → Covers w s → are_light b cs w ≡ true → Runs b (CanRunAll (IsSmall b) (IsSmall b) cs s) (after_all cs w) (exec_all cs s).state
-    all_light NoCommand w s k h = record { can = tt; covers = k }
+    all_light : (cs : Commands) (w : Place → ℕ) (s : State) → Covers w s → are_light b cs w ≡ true → CanRunAll (IsSmall b) (IsSmall b) cs s
+    all_light NoCommand w s k h = tt
     all_light (MoreCommand c cs) w s k h =
         let parts = and_parts (is_light b c w) _ h in
-        let x = run_light c w s k parts.0 in
-        let y = all_light cs (after c w) (exec c s).state x.covers parts.1 in
-        record { can = (x.can, y.can); covers = y.covers }
+        (run_light c w s k parts.0, all_light cs (after c w) (exec c s).state (run_covered c w s k) parts.1)
 
 in_size : (x : Bounds) (v : ℤ) → IsIn x v → unsigned_abs v ≤ bounds_weight x
 unfolding words
@@ -182,7 +190,7 @@ one_at [] n = omega arith
 one_at (b ∷ bs) zero = omega arith
 one_at (b ∷ bs) (suc n) = one_at bs n
 
-covers_start : (x : Schema) (database : ℕ → ℤ) → AllWithin x database → Covers (first_weights x) (whole database)
+pub covers_start : (x : Schema) (database : ℕ → ℤ) → AllWithin x database → Covers (first_weights x) (whole database)
 unfolding words
 covers_start x database h = record { size = size; one = one }
   where
@@ -199,5 +207,5 @@ covers_start x database h = record { size = size; one = one }
 pub light_law : (b : ℕ) (x : Schema) (params : List ℕ) (args : List ℤ) (body : s.Commands) (database : ℕ → ℤ) → AllWithin x database → is_light b (l_form x params args body) (first_weights x) ≡ true → ComputesSmall b x params args body database
 unfolding words
 light_law b x params args body database h l =
-    let form = (run_light b (l_form x params args body) (first_weights x) (whole database) (covers_start x database h) l).can in
+    let form = run_light b (l_form x params args body) (first_weights x) (whole database) (covers_start x database h) l in
     record { form = form; program = values_law (IsSmall b) (IsSmall b) x params args body database form }

@@ -1,5 +1,5 @@
 -- The L form of a ground call means the call.
-use Rattle.std.proofs.Common.{◌≡◌, map, Some, sym, ap, subst, ◌∙◌}
+use Rattle.std.proofs.Common.{◌≡◌, map, sym, ap, subst, ◌∙◌}
 use Rattle.homeo_syntax.specs.Source as s
 use Rattle.homeo_syntax.specs.Low as L
 use Rattle.homeo_meaning.specs.Schema.{schema_of}

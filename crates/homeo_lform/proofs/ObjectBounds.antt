@@ -169,7 +169,7 @@ no_row_fits w x =
     let h = count_end (all_at w) (length w.objects) w.relations (relations_begin w) in
     spot_admits (λ i. all_at w (last + 1 + i)) 0 [] [] x (λ i. let e : last + 1 + (0 + i) ≡ last + suc i = omega arith in ap (all_at w) e ∙ h (suc i)) (omega (arith, ints), omega (arith, ints))
 
-relations_count : (k : ℕ) (rs : List Relation) → k + length (relation_bounds rs) ≡ object_count k rs
+pub relations_count : (k : ℕ) (rs : List Relation) → k + length (relation_bounds rs) ≡ object_count k rs
 unfolding words
 relations_count k [] = omega arith
 relations_count k (r ∷ rs) =

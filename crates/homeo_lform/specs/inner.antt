@@ -1,2 +1,1 @@
-pub mod KnownNames
 pub mod RowsFit

@@ -1,17 +1,25 @@
 //! What is true of the L forms of all calls, and of the calls themselves.
 
-ghost use Rattle.std.specs.Prelude.{◌≡◌, ℕ, ℤ, List, pos, true};
-ghost use Rattle.homeo_syntax.specs.Source.{Command, Commands};
-ghost use Rattle.homeo_meaning.specs.Schema.{Schema};
-ghost use Rattle.homeo_meaning.specs.Bounds.{AllWithin};
+ghost use Rattle.std.specs.Prelude.{◌≡◌, ◌≤◌, ℕ, ℤ, List, length, pos, true};
+ghost use Rattle.std.specs.Int.RustNames.{unsigned_abs};
+ghost use Rattle.homeo_syntax.specs.Low as low_syntax;
+ghost use Rattle.homeo_syntax.specs.Low.{Expr};
+ghost use Rattle.homeo_syntax.specs.Source.{Command, Commands, Workload};
+ghost use Rattle.homeo_meaning.specs.Schema.{Schema, schema_of};
+ghost use Rattle.homeo_meaning.specs.Bounds.{AllWithin, all_bounds};
 ghost use Rattle.homeo_meaning.specs.Context.{Context, context};
 ghost use Rattle.homeo_meaning.specs.Meaning.{run};
 ghost use Rattle.homeo_meaning.specs.LForm.{form, l_form};
-ghost use Rattle.homeo_meaning.specs.LowMeaning.{State, exec, whole};
-ghost use Rattle.homeo_meaning.specs.LowWeights.{first_weights, is_light};
+ghost use Rattle.homeo_meaning.specs.LowMeaning.{Place, State, value, exec, whole};
+ghost use Rattle.homeo_meaning.specs.LowWeights.{weight, after, first_weights, is_light};
 ghost use Rattle.homeo_meaning.specs.SameRun.{IsSameRun};
+ghost use Rattle.homeo_lform.specs.Covers.{Covers};
 ghost use Rattle.homeo_lform.specs.Fresh.{TakesFrom};
 ghost use Rattle.homeo_meaning.specs.Whole.{IsWhole};
+ghost use Rattle.homeo_meaning.specs.NamesWithin.{NamesWithin};
+ghost use Rattle.homeo_meaning.specs.Ground.{Ground};
+ghost use Rattle.homeo_meaning.specs.CallForm.{ground_form};
+ghost use Rattle.homeo_meaning.specs.Acceptance.{IsAccepted};
 ghost use Rattle.homeo_meaning.specs.LowComputed as low;
 ghost use Rattle.homeo_meaning.specs.Computed.{CanRunAll};
 ghost use Rattle.homeo_meaning.specs.Small.{IsSmall, Anything, ComputesSmall};
@@ -26,6 +34,13 @@ pub fn form_means_the_program()
 /// The L form of a call names whole objects only: no base and no delta.
 pub fn form_names_whole_objects()
     ensures { (x : Schema) (params : List ℕ) (args : List ℤ) (body : Commands) → IsWhole (l_form x params args body) }
+{}
+
+/// The L form of each call of an accepted workload, whatever its arguments, names only objects that the workload has, and
+/// temporaries only by names that it has.
+pub fn form_names_what_there_is()
+    ensures { (w : Workload) (g : Ground) → IsAccepted w →
+        NamesWithin (length (all_bounds (schema_of w))) (length w.names) (ground_form w g) }
 {}
 
 /// The L form of a command takes its fresh temporaries from the number that it is given on. Those below keep their
@@ -59,4 +74,13 @@ pub fn light_forms_compute_small_numbers()
     ensures { (b : ℕ) (x : Schema) (params : List ℕ) (args : List ℤ) (body : Commands) (database : ℕ → ℤ) →
         AllWithin x database → is_light b (l_form x params args body) (first_weights x) ≡ true →
         ComputesSmall b x params args body database }
+{}
+
+/// Along a run of commands no value outgrows its weight. Where each place's value is at most its weight in size, so is
+/// the value of each expression, and so is each place's value after a command. Where the database is within its bounds,
+/// a call begins so.
+pub fn values_stay_below_their_weights()
+    ensures expressions { (e : Expr) (weights : Place → ℕ) (s : State) → Covers weights s → unsigned_abs (value e s) ≤ weight e weights }
+    ensures commands { (c : low_syntax.Command) (weights : Place → ℕ) (s : State) → Covers weights s → Covers (after c weights) (exec c s).state }
+    ensures calls { (x : Schema) (database : ℕ → ℤ) → AllWithin x database → Covers (first_weights x) (whole database) }
 {}

@@ -20,6 +20,7 @@ pub mod LowSizes
 pub mod LowWeights
 pub mod Meaning
 pub mod NameRules
+pub mod NamesWithin
 pub mod NumberRules
 pub mod Places
 pub mod SameRun

@@ -1,5 +1,5 @@
 -- The definitions over lists of phrases as equations, which code rewrites by.
-use Rattle.std.proofs.Common.{◌≡◌, ℕ, ℤ, ◌+ℤ◌, ◌*ℤ◌, neg_ℤ, true, ◌&&◌, List, [], ◌∷◌, refl}
+use Rattle.std.proofs.Common.{◌≡◌, ℕ, ℤ, ◌+ℤ◌, ◌*ℤ◌, neg_ℤ, true, cond, ◌&&◌, List, [], ◌∷◌, refl}
 use Rattle.homeo_syntax.specs.Key.{words as tree_words}
 use Rattle.homeo_syntax.specs.LowView.{low_exprs, low_tests}
 use Rattle.homeo_syntax.specs.Low.{Expr, Neg, Test, Comparison}
@@ -51,7 +51,7 @@ pub holds_more : (s : State) (t : Test) (ts : List Test) → holds (low_tests (t
 unfolding words meaning_words tree_words
 holds_more s t ts = refl
 
-pub cond_fits_more : (b : ℕ) (s : State) (t : Test) (ts : List Test) → cond_fits b (low_tests (t ∷ ts)) s ≡ test_fits b t s && cond_fits b (low_tests ts) s
+pub cond_fits_more : (b : ℕ) (s : State) (t : Test) (ts : List Test) → cond_fits b (low_tests (t ∷ ts)) s ≡ test_fits b t s && cond (passes t s) (cond_fits b (low_tests ts) s) true
 unfolding words meaning_words tree_words
 cond_fits_more b s t ts = refl
 

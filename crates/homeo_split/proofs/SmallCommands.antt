@@ -4,7 +4,7 @@ use Rattle.std.proofs.lemmas.Bool.Decides.{nat_tests}
 use Rattle.homeo_syntax.specs.Low.{Expr, Exprs, Literal, OfTemp, Read, Sum, Product, Neg, NoExpr, MoreExpr, Test, Cond, True, Not, Comparison, NoTest, MoreTest, Command, Commands, Skip, Assign, Write, Print, Seq, If, NoCommand, MoreCommand}
 use Rattle.homeo_meaning.specs.Key.{words as meaning_words}
 use Rattle.homeo_meaning.specs.Small.{is_small}
-use Rattle.homeo_meaning.specs.LowMeaning.{State, TempAt, place_of, value, holds, exec}
+use Rattle.homeo_meaning.specs.LowMeaning.{State, TempAt, place_of, value, passes, holds, exec}
 use Rattle.homeo_meaning.specs.LowComputed.{CanValue, CanSum, CanProduct, CanPass, CanHold, CanRun, CanRunAll}
 use Rattle.homeo_meaning.specs.Small.{IsSmall}
 use Rattle.homeo_split.specs.Key.{words}
@@ -61,7 +61,7 @@ module _ (b : ℕ) (h : b ≤ limit) where
 
     hold_fits : (d : Cond) (s : State) → CanHold (IsSmall b) (IsSmall b) d s → cond_fits limit d s ≡ true
     hold_fits NoTest s c = refl
-    hold_fits (MoreTest t d) s c = both (pass_fits t s c.0) (hold_fits d s c.1)
+    hold_fits (MoreTest t d) s c = both (pass_fits t s c.0) (either (passes t s) _ _ (hold_fits d s c.1) refl)
 
   mutual
     unfolding words meaning_words

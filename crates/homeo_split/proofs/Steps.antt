@@ -1,5 +1,5 @@
 -- The first of the phrases that are left.
-use Rattle.std.proofs.Common.{◌≡◌, ℕ, ◌+◌, ◌<◌, ◌≤◌, ℤ, ◌+ℤ◌, ◌*ℤ◌, true, ◌&&◌, List, map, drop, get_or, length, sym, ap, ◌∙◌}
+use Rattle.std.proofs.Common.{◌≡◌, ℕ, ◌+◌, ◌<◌, ◌≤◌, ℤ, ◌+ℤ◌, ◌*ℤ◌, true, cond, ◌&&◌, List, map, drop, get_or, length, sym, ap, ◌∙◌}
 use Rattle.std.proofs.lemmas.Bool.{and_parts}
 use Rattle.homeo_syntax.specs.Low as l
 use Rattle.homeo_syntax.specs.LowView.{low_exprs, low_tests, plain_lexpr, plain_ltest}
@@ -60,11 +60,11 @@ product_stop s n es i h = sym (ap (λ l. product_value n (low_exprs l) s) (drop_
 -- one more test of a condition
 pub record TestStep (b : ℕ) (s : State) (ts : List LTest) (i : ℕ) (t : LTest) : Type 0 where
   pub first : test_fits b (plain_ltest t) s ≡ true
-  pub rest : cond_fits b (low_tests (map plain_ltest (drop (i + 1) ts))) s ≡ true
+  pub rest : passes (plain_ltest t) s ≡ true → cond_fits b (low_tests (map plain_ltest (drop (i + 1) ts))) s ≡ true
   pub same : holds (low_tests (map plain_ltest (drop i ts))) s ≡ (passes (plain_ltest t) s && holds (low_tests (map plain_ltest (drop (i + 1) ts))) s)
 
 pub test_step : {b : ℕ} {s : State} (ts : List LTest) (i : ℕ) (t : LTest) → i < length ts → t ≡ get_or ts i t → cond_fits b (low_tests (map plain_ltest (drop i ts))) s ≡ true → TestStep b s ts i t
 test_step {b} {s} ts i t h p fits =
     let next = drop_next plain_ltest ts i t h p in
     let k = and_parts _ _ (sym (cond_fits_more b s (plain_ltest t) (map plain_ltest (drop (i + 1) ts))) ∙ ap (λ l. cond_fits b (low_tests l) s) (sym next) ∙ fits) in
-    record { first = k.0; rest = k.1; same = ap (λ l. holds (low_tests l) s) next ∙ holds_more s (plain_ltest t) (map plain_ltest (drop (i + 1) ts)) }
+    record { first = k.0; rest = λ q. sym (ap (λ v. cond v (cond_fits b (low_tests (map plain_ltest (drop (i + 1) ts))) s) true) q) ∙ k.1; same = ap (λ l. holds (low_tests l) s) next ∙ holds_more s (plain_ltest t) (map plain_ltest (drop (i + 1) ts)) }

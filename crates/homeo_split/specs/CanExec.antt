@@ -1,8 +1,9 @@
--- Whether each value that a run over split names meets is at most b in size, with the partial sums and products from left to right.
+-- Whether each number that a run over split names meets is at most b in size, with the partial sums and products from left to right: of a
+-- choice only the branch that is taken, and of a condition only the tests up to the first that fails.
 use Rattle.std.specs.Prelude.{ℕ, ◌*◌, ◌^◌, ℤ, pos, ◌+ℤ◌, ◌*ℤ◌, neg_ℤ, Bool, true, cond, ◌&&◌}
 use Rattle.homeo_syntax.specs.Low.{Expr, Exprs, Literal, OfTemp, Read, Sum, Product, Neg, NoExpr, MoreExpr, Test, Cond, True, Not, Comparison, NoTest, MoreTest, Command, Commands, Skip, Assign, Write, Print, Seq, If, NoCommand, MoreCommand}
 use Rattle.homeo_meaning.specs.Small.{is_small}
-use Rattle.homeo_meaning.specs.LowMeaning.{State, TempAt, place_of, value, holds, exec}
+use Rattle.homeo_meaning.specs.LowMeaning.{State, TempAt, place_of, value, passes, holds, exec}
 use Rattle.homeo_split.specs.Key.{words}
 
 -- the most that a value of a run may be in size
@@ -40,7 +41,7 @@ abbrev mutual
 
   pub cond_fits : ℕ → Cond → State → Bool
   cond_fits b NoTest s = true
-  cond_fits b (MoreTest t c) s = test_fits b t s && cond_fits b c s
+  cond_fits b (MoreTest t c) s = test_fits b t s && cond (passes t s) (cond_fits b c s) true
 
 abbrev mutual
   unfolding words
