@@ -81,7 +81,3 @@ module _ (clients : List Client) (k : ℕ) (item : Client) (within : k < length 
       ap (map (λ (p : Vec ℕ Global). p.items)) a ∙ map-append (λ (p : Vec ℕ Global). p.items) tables (places ∷ [])
       ∙ tables-step (map plain_client (take k clients)) (plain_client item) old new o n (map (λ (p : Vec ℕ Global). p.items) tables) places.items t p
       ∙ ap (places_among new) (sym clients_taken)
-
--- all clients are numbered
-pub all_calls-whole : (clients : List Client) (k : ℕ) (new : List SitedCall) → length clients ≤ k → new ≡ distinct_after [] (flat_map sited_calls_of (map plain_client (take k clients))) → new ≡ distinct_after [] (flat_map sited_calls_of (map plain_client clients))
-all_calls-whole clients k new h n = n ∙ ap (λ (l : List Client). distinct_after [] (flat_map sited_calls_of (map plain_client l))) (take_all k clients h)

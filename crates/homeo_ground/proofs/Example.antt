@@ -11,7 +11,7 @@ use Rattle.homeo_meaning.specs.Calls.{CallExists}
 use Rattle.homeo_meaning.specs.Faults.{faults}
 use Rattle.homeo_meaning.specs.declared.call.Purpose.TheVariants.{Run}
 use Rattle.homeo_meaning.proofs.SoundRules.{all_none, all_more}
-use Rattle.homeo_ground.specs.Example.{example}
+use Rattle.homeo_ground.specs.inner.Example.{example}
 
 no_faults : faults Run example ≡ []
 unfolding meaning_words tree_words

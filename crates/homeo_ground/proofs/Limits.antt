@@ -24,7 +24,7 @@ use Rattle.homeo_meaning.specs.declared.rules.Fault.{Fault}
 use Rattle.homeo_meaning.specs.declared.rules.Phase.TheVariants.{Bounds, Limits}
 use Rattle.homeo_meaning.proofs.FaultParts.{none_first, none_second, NoFault, parts, declared_parts, NoLimitFault, limit_parts}
 use Rattle.homeo_meaning.proofs.SoundRules.{all_none, all_more}
-use Rattle.homeo_ground.specs.Sited.{IsSite}
+use Rattle.homeo_ground.specs.inner.Grounds.{IsSite}
 
 -- ---- as many as there may be
 not_full : (b : Bool) (x : Ident) → when b (fault Limits x) ≡ [] → b ≡ false

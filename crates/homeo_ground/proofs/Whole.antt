@@ -15,7 +15,8 @@ use Rattle.homeo_meaning.specs.GlobalNames.{SitedCall, sited_calls_of}
 use Rattle.homeo_meaning.specs.NumberRules.{distinct_after, ground_calls}
 use Rattle.homeo_meaning.proofs.SoundRules.{all_none, all_more, all_head, all_tail}
 use Rattle.homeo_ground.specs.Key.{words}
-use Rattle.homeo_ground.specs.Sited.{sited, ground_by, IsSite}
+use Rattle.homeo_ground.specs.Sited.{sited}
+use Rattle.homeo_ground.specs.inner.Grounds.{ground_by, IsSite}
 use Rattle.homeo_ground.specs.Grounding.{places_among, grounding}
 use Rattle.homeo_ground.specs.declared.sited.SitedCall.{SitedCall as Held}
 use Rattle.homeo_ground.proofs.Limits.{limited}

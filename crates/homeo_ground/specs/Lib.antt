@@ -1,5 +1,5 @@
-pub mod Example
 pub mod Grounding
 pub mod Key
 pub mod Sited
 pub mod Table
+pub mod inner

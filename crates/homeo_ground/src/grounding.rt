@@ -5,7 +5,8 @@ ghost use Rattle.homeo_syntax.specs.Source as s;
 ghost use Rattle.homeo_syntax.specs.SourceView.{plain_workload};
 ghost use Rattle.homeo_meaning.specs.Ground.{plain_ground, grounds, ground_of};
 ghost use Rattle.homeo_ground.specs.Grounding.{grounding, IsCallIn, IsCalled};
-ghost use Rattle.homeo_ground.specs.Sited.{sited, ground_by, IsSite};
+ghost use Rattle.homeo_ground.specs.Sited.{sited};
+ghost use Rattle.homeo_ground.specs.inner.Grounds.{ground_by, IsSite};
 
 use crate::numbering::number_clients;
 use crate::sited::SitedCall;

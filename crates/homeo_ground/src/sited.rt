@@ -3,7 +3,8 @@
 ghost use Rattle.std.specs.Prelude.{◌≡◌, ◌<◌, ◌^◌, length, map, IfOk};
 ghost use Rattle.homeo_syntax.specs.SourceView.{plain_call, plain_client};
 ghost use Rattle.homeo_meaning.specs.Ground.{plain_ground, sited_call};
-ghost use Rattle.homeo_ground.specs.Sited.{sited, ground_by, IsSite};
+ghost use Rattle.homeo_ground.specs.Sited.{sited};
+ghost use Rattle.homeo_ground.specs.inner.Grounds.{ground_by, IsSite};
 
 use homeo_context::Declarations;
 use homeo_meaning::GroundCall;

@@ -2,7 +2,7 @@
 
 ghost use Rattle.std.specs.Prelude.{◌≡◌, IfOk};
 ghost use Rattle.homeo_syntax.specs.SourceView.{plain_call, plain_client, plain_transaction, plain_workload};
-ghost use Rattle.homeo_ground.specs.Example.{client, example, sale, transaction};
+ghost use Rattle.homeo_ground.specs.inner.Example.{client, example, sale, transaction};
 
 use crate::Grounding;
 use homeo_meaning::{Accepted, CallId};

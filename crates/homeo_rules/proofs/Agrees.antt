@@ -17,8 +17,8 @@ use Rattle.homeo_meaning.specs.declared.rules.Local.{Local}
 use Rattle.homeo_meaning.specs.declared.rules.Local.TheVariants as L
 use Rattle.homeo_meaning.specs.declared.rules.Binding.{Binding}
 use Rattle.homeo_meaning.specs.declared.rules.Binding.TheVariants as B
-use Rattle.homeo_rules.specs.Key.{words}
-use Rattle.homeo_rules.specs.Follow.{Standing, local_at, assigned, locals_after, step, follow}
+use Rattle.homeo_rules.specs.inner.Key.{words}
+use Rattle.homeo_rules.specs.inner.Follow.{Standing, local_at, assigned, locals_after, step, follow}
 use Rattle.homeo_rules.proofs.Steps.{keep_all-append}
 
 -- a target is one of the n names

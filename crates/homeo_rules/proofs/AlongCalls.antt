@@ -15,7 +15,7 @@ use Rattle.homeo_meaning.specs.CallForm.{call_form}
 use Rattle.homeo_rules.specs.inner.Deciding.{keep_all}
 use Rattle.homeo_meaning.specs.declared.rules.Fault.{Fault}
 use Rattle.homeo_size.specs.Measured.{IsMeasure}
-use Rattle.homeo_rules.specs.Sizes.{call_of, AreMeasured, known}
+use Rattle.homeo_rules.specs.inner.Sizes.{call_of, AreMeasured, known}
 use Rattle.homeo_rules.specs.declared.sizes.MeasuredCall.{MeasuredCall}
 use Rattle.homeo_rules.proofs.Steps.{keep_all-append}
 

@@ -20,9 +20,9 @@ use Rattle.homeo_rules.specs.inner.Deciding.{keep_all}
 use Rattle.homeo_meaning.specs.declared.rules.Fault.{Fault}
 use Rattle.homeo_meaning.specs.declared.rules.Item.TheVariants as I
 use Rattle.homeo_meaning.specs.declared.rules.Phase.TheVariants.{Unknown, Kind, Arity}
-use Rattle.homeo_rules.specs.Key.{words}
-use Rattle.homeo_rules.specs.Listwise.{along_all, along_arguments}
-use Rattle.homeo_rules.specs.Callers.{params_at, call_faults_of, client_faults_of}
+use Rattle.homeo_rules.specs.inner.Key.{words}
+use Rattle.homeo_rules.specs.inner.Listwise.{along_all, along_arguments}
+use Rattle.homeo_rules.specs.inner.Callers.{params_at, call_faults_of, client_faults_of}
 use Rattle.homeo_rules.proofs.Steps.{keep-none, keep_all-append}
 use Rattle.homeo_rules.proofs.Listing.{all-mapped, arguments-along}
 

@@ -18,8 +18,8 @@ use Rattle.homeo_meaning.specs.declared.rules.Fault.{Fault}
 use Rattle.homeo_meaning.specs.declared.rules.Phase.TheVariants.{Size}
 use Rattle.homeo_size.specs.Measured.{IsMeasure}
 use Rattle.homeo_size.specs.declared.steps.Measure.{Measure}
-use Rattle.homeo_rules.specs.Sited.{sited}
-use Rattle.homeo_rules.specs.Sizes.{call_of, told_size, IsToldAfter, IsTold, AreTold, AreMeasured, known}
+use Rattle.homeo_rules.specs.inner.Sited.{sited}
+use Rattle.homeo_rules.specs.inner.Sizes.{call_of, told_size, IsToldAfter, IsTold, AreTold, AreMeasured, known}
 use Rattle.homeo_rules.specs.declared.sited.SitedCall.{SitedCall}
 use Rattle.homeo_rules.specs.declared.sizes.MeasuredCall.{MeasuredCall}
 use Rattle.homeo_rules.proofs.AlongCalls.{or_true, AgreeUpTo, total_known, total_unknown}
@@ -69,9 +69,6 @@ pub record MeasuringSo (w : s.Workload) (total : ℕ) (all : List MeasuredCall) 
   pub same : map call_of all ≡ map sited (take i calls)
   pub told : AreTold w 0 all
   pub sum : AgreeUpTo 2000001 total (sum_by (λ (k : MeasuredCall). told_size w (call_of k)) all)
-
-pub measuring_begin : (w : s.Workload) (calls : List SitedCall) → MeasuringSo w 0 [] calls 0
-measuring_begin w calls = record { same = refl; told = tt; sum = refl }
 
 next_total : (w : s.Workload) (total next before : ℕ) (c : g.SitedCall) (o : Option Measure) → AgreeUpTo 2000001 total before → IsToldAfter w before c o → next ≡ min 8000001 (total + (known o).size) → AgreeUpTo 2000001 next (before + told_size w c)
 unfolding meaning_words

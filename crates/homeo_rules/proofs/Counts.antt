@@ -13,8 +13,8 @@ use Rattle.homeo_meaning.specs.ListRules.{when, fault, each_from, each}
 use Rattle.homeo_meaning.specs.NumberRules.{Making, object_making, made, too_many_objects}
 use Rattle.homeo_rules.specs.inner.Deciding.{keep_all}
 use Rattle.homeo_meaning.specs.declared.rules.Phase.TheVariants.{Limits}
-use Rattle.homeo_rules.specs.Key.{words}
-use Rattle.homeo_rules.specs.Counting.{Counted, counted, count_all, making_of}
+use Rattle.homeo_rules.specs.inner.Key.{words}
+use Rattle.homeo_rules.specs.inner.Counting.{Counted, counted, count_all, making_of}
 use Rattle.homeo_rules.proofs.Steps.{keep-none, keep-one, keep_all-append}
 
 -- the count is the sum, or both are past the limit

@@ -11,9 +11,9 @@ use Rattle.homeo_meaning.specs.NumberRules.{range_bounds}
 use Rattle.homeo_rules.specs.inner.Deciding.{keep_all}
 use Rattle.homeo_meaning.specs.declared.rules.Fault.{Fault}
 use Rattle.homeo_meaning.specs.declared.rules.Phase.TheVariants.{Limits}
-use Rattle.homeo_rules.specs.Key.{words}
-use Rattle.homeo_rules.specs.Listwise.{along_all, along_each}
-use Rattle.homeo_rules.specs.Relations.{declared_twice, relation_faults_of, slot_faults_of}
+use Rattle.homeo_rules.specs.inner.Key.{words}
+use Rattle.homeo_rules.specs.inner.Listwise.{along_all, along_each}
+use Rattle.homeo_rules.specs.inner.Relations.{declared_twice, relation_faults_of, slot_faults_of}
 use Rattle.homeo_rules.proofs.Steps.{keep-none, keep-one, keep_all-append}
 use Rattle.homeo_rules.proofs.Listing.{all-along}
 use Rattle.homeo_rules.proofs.Filling.{twice-along}

@@ -12,10 +12,10 @@ use Rattle.homeo_rules.specs.inner.Deciding.{keep_all}
 use Rattle.homeo_meaning.specs.declared.rules.Fault.{Fault}
 use Rattle.homeo_meaning.specs.declared.rules.Item.{Item}
 use Rattle.homeo_meaning.specs.declared.rules.Phase.TheVariants.{Duplicate}
-use Rattle.homeo_rules.specs.Key.{words}
-use Rattle.homeo_rules.specs.Listwise.{along_all, along_each}
-use Rattle.homeo_rules.specs.Plain.{named_fields}
-use Rattle.homeo_rules.specs.Relations.{named_twice, value_field}
+use Rattle.homeo_rules.specs.inner.Key.{words}
+use Rattle.homeo_rules.specs.inner.Listwise.{along_all, along_each}
+use Rattle.homeo_rules.specs.inner.Plain.{named_fields}
+use Rattle.homeo_rules.specs.inner.Relations.{named_twice, value_field}
 use Rattle.homeo_rules.proofs.Steps.{keep_all-append}
 use Rattle.homeo_rules.proofs.Listing.{all-mapped}
 

@@ -11,9 +11,9 @@ use Rattle.homeo_rules.specs.inner.Deciding.{keep_all}
 use Rattle.homeo_meaning.specs.declared.rules.Phase.TheVariants.{Duplicate}
 use Rattle.homeo_meaning.specs.declared.rules.Fault.{Fault}
 use Rattle.homeo_meaning.specs.declared.rules.Item.{Item}
-use Rattle.homeo_rules.specs.Key.{words}
-use Rattle.homeo_rules.specs.Scopes.{item_at}
-use Rattle.homeo_rules.specs.Items.{Items, entered, enter, along_names}
+use Rattle.homeo_rules.specs.inner.Key.{words}
+use Rattle.homeo_rules.specs.inner.Scopes.{item_at}
+use Rattle.homeo_rules.specs.inner.Items.{Items, entered, enter, along_names}
 use Rattle.homeo_rules.proofs.Steps.{keep_all-append}
 use Rattle.homeo_rules.proofs.Whole.{names}
 

@@ -20,11 +20,11 @@ use Rattle.homeo_meaning.proofs.FaultParts.{none_first}
 use Rattle.homeo_rules.proofs.Phases.{sizes_in, later_in, decides_first}
 use Rattle.homeo_meaning.proofs.SoundRelations.{objects-fit}
 use Rattle.homeo_size.specs.Layout.{HasFewObjects, relation_of, schema_with}
-use Rattle.homeo_rules.specs.Decided.{IsFaultless}
-use Rattle.homeo_rules.specs.Limited.{distinct_within}
-use Rattle.homeo_rules.specs.Printing.{prints_too_much_in}
-use Rattle.homeo_rules.specs.Sited.{sited}
-use Rattle.homeo_rules.specs.Sizes.{AreTold, AreMeasured, call_of}
+use Rattle.homeo_rules.specs.inner.Decided.{IsFaultless}
+use Rattle.homeo_rules.specs.inner.Limited.{distinct_within}
+use Rattle.homeo_rules.specs.inner.Printing.{prints_too_much_in}
+use Rattle.homeo_rules.specs.inner.Sited.{sited}
+use Rattle.homeo_rules.specs.inner.Sizes.{AreTold, AreMeasured, call_of}
 use Rattle.homeo_rules.specs.declared.sited.SitedCall.{SitedCall}
 use Rattle.homeo_rules.specs.declared.sizes.MeasuredCall.{MeasuredCall}
 use Rattle.homeo_rules.proofs.Joining.{grounds-are}

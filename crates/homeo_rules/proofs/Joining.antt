@@ -27,21 +27,21 @@ use Rattle.homeo_rules.specs.inner.Deciding.{keep_all}
 use Rattle.homeo_meaning.specs.declared.call.Purpose.{Purpose}
 use Rattle.homeo_meaning.specs.declared.rules.Fault.{Fault}
 use Rattle.homeo_rules.specs.declared.sited.SitedCall.{SitedCall}
-use Rattle.homeo_rules.specs.Sited.{sited, sited_of}
+use Rattle.homeo_rules.specs.inner.Sited.{sited, sited_of}
 use Rattle.homeo_meaning.specs.GlobalNames as g
 use Rattle.homeo_meaning.specs.declared.rules.Item.{Item}
 use Rattle.homeo_meaning.specs.declared.rules.Item.TheVariants as I
-use Rattle.homeo_rules.specs.Key.{words}
-use Rattle.homeo_rules.specs.Scopes.{item_at, scope_with}
-use Rattle.homeo_rules.specs.Tabled.{fields_at}
-use Rattle.homeo_rules.specs.Items.{Items, along_names}
-use Rattle.homeo_rules.specs.Listwise.{along_all}
-use Rattle.homeo_rules.specs.Within.{AreNamed}
-use Rattle.homeo_rules.specs.Callers.{client_faults_of, transaction_faults_of}
-use Rattle.homeo_rules.specs.Counting.{count_all, making_of}
-use Rattle.homeo_rules.specs.Relations.{relation_faults_of, slot_faults_of}
-use Rattle.homeo_rules.specs.Limited.{transaction_passing, client_passing, call_passing, distinct_within}
-use Rattle.homeo_rules.specs.Decided.{NamesGlobals, faults_with_names, IsFaultless}
+use Rattle.homeo_rules.specs.inner.Key.{words}
+use Rattle.homeo_rules.specs.inner.Scopes.{item_at, scope_with}
+use Rattle.homeo_rules.specs.inner.Tabled.{fields_at}
+use Rattle.homeo_rules.specs.inner.Items.{Items, along_names}
+use Rattle.homeo_rules.specs.inner.Listwise.{along_all}
+use Rattle.homeo_rules.specs.inner.Within.{AreNamed}
+use Rattle.homeo_rules.specs.inner.Callers.{client_faults_of, transaction_faults_of}
+use Rattle.homeo_rules.specs.inner.Counting.{count_all, making_of}
+use Rattle.homeo_rules.specs.inner.Relations.{relation_faults_of, slot_faults_of}
+use Rattle.homeo_rules.specs.inner.Limited.{transaction_passing, client_passing, call_passing, distinct_within}
+use Rattle.homeo_rules.specs.inner.Decided.{NamesGlobals, faults_with_names, IsFaultless}
 use Rattle.homeo_rules.proofs.Steps.{keep_all-append}
 use Rattle.homeo_rules.proofs.Listing.{all-along, all-mapped}
 use Rattle.homeo_rules.proofs.Counts.{objects-counted}

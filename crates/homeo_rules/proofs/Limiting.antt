@@ -21,8 +21,8 @@ use Rattle.homeo_meaning.specs.Serial.{arguments}
 use Rattle.homeo_meaning.specs.NumberRules.{passes_limit, same_ground, distinct_after}
 use Rattle.homeo_meaning.specs.declared.rules.Fault.{Fault}
 use Rattle.homeo_meaning.specs.declared.rules.Phase.TheVariants.{Limits}
-use Rattle.homeo_rules.specs.Limited.{transaction_passing, client_passing, call_passing, distinct_within}
-use Rattle.homeo_rules.specs.Sited.{sited, same_ground_of, sited_at, sited_of}
+use Rattle.homeo_rules.specs.inner.Limited.{transaction_passing, client_passing, call_passing, distinct_within}
+use Rattle.homeo_rules.specs.inner.Sited.{sited, same_ground_of, sited_at, sited_of}
 use Rattle.homeo_rules.specs.declared.sited.SitedCall.{SitedCall}
 use Rattle.homeo_rules.proofs.Siting.{same-ground}
 

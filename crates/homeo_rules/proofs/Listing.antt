@@ -8,7 +8,7 @@ use Rattle.homeo_meaning.specs.Key.{words as meaning_words}
 use Rattle.homeo_meaning.specs.NumberRules.{argument_outside, arguments_outside}
 use Rattle.homeo_rules.specs.inner.Deciding.{keep_all}
 use Rattle.homeo_meaning.specs.declared.rules.Fault.{Fault}
-use Rattle.homeo_rules.specs.Listwise.{along_all, along_arguments}
+use Rattle.homeo_rules.specs.inner.Listwise.{along_all, along_arguments}
 use Rattle.homeo_rules.proofs.Steps.{keep_all-append}
 
 pub all-along : {A : Type 0} (rule : A → List Fault) (b : Option Fault) (xs : List A) → keep_all b (flat_map rule xs) ≡ along_all rule b xs

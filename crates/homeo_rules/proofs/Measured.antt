@@ -20,9 +20,9 @@ use Rattle.homeo_meaning.specs.declared.rules.Item.TheVariants as I
 use Rattle.homeo_size.specs.Layout.{IsLayout}
 use Rattle.homeo_size.specs.Measured.{IsMeasured}
 use Rattle.homeo_size.specs.declared.steps.Measure.{Measure}
-use Rattle.homeo_rules.specs.Scopes.{scope_in}
-use Rattle.homeo_rules.specs.Sited.{values, sited}
-use Rattle.homeo_rules.specs.Sizes.{IsSetUp, workload_of, transaction_place, told_size, IsMeasuredBody, IsMeasuredAs, IsTold}
+use Rattle.homeo_rules.specs.inner.Scopes.{scope_in}
+use Rattle.homeo_rules.specs.inner.Sited.{values, sited}
+use Rattle.homeo_rules.specs.inner.Sizes.{IsSetUp, workload_of, transaction_place, told_size, IsMeasuredBody, IsMeasuredAs, IsTold}
 use Rattle.homeo_rules.specs.declared.sited.SitedCall.{SitedCall}
 use Rattle.homeo_rules.specs.declared.sizes.Measuring.{Measuring}
 

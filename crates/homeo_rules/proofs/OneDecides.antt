@@ -121,16 +121,30 @@ not_before (h ∷ fs) f g (x, rest) (inr there) = not_before fs f g rest there
 pub one_decides : (fs : List Fault) (f g : Fault) → Decides fs f → Decides fs g → f ≡ g
 one_decides fs f g d e = same_fault f g (not_before fs g f e.first d.there) (not_before fs f g d.first e.there)
 
--- the other way: the fault that decides is the one that is kept
-pub kept_is : (fs : List Fault) (f : Fault) → Decides fs f → keep_all None fs ≡ Some f
-kept_is fs f d = by_kept (keep_all None fs) refl
-  where
-    by_kept : (o : Option Fault) → keep_all None fs ≡ o → o ≡ Some f
-    by_kept None e = let there : IsFaultIn f [] = subst (IsFaultIn f) (none_left fs e) d.there in elim there [ ]
-    by_kept (Some g) e = ap Some (one_decides fs g f (decides fs g e) d)
-
 -- a refusal by the fault that is kept
 pub refused-by : (purpose : Purpose) (w : s.Workload) (f : Fault) (r : Refusal) → keep_all None (faults purpose w) ≡ Some f → r.code ≡ code f.phase → r.offset ≡ f.offset → IsRefusedBy purpose w r
 refused-by purpose w f r e c o = record { fault = f; decides = decides (faults purpose w) f e; same_code = c; same_offset = o }
+
+-- ---- verdicts
+pub one_refusal : (purpose : Purpose) (w : s.Workload) (r q : Refusal) → IsRefusedBy purpose w r → IsRefusedBy purpose w q → r ≡ q
+one_refusal purpose w r q x y =
+    let same : x.fault ≡ y.fault = one_decides (faults purpose w) x.fault y.fault x.decides y.decides in
+    let codes : r.code ≡ q.code = x.same_code ∙ ap (λ (f : Fault). code f.phase) same ∙ sym y.same_code in
+    let offsets : r.offset ≡ q.offset = x.same_offset ∙ ap (λ (f : Fault). f.offset) same ∙ sym y.same_offset in
+    λ i. record { code = codes i; offset = offsets i }
+
+pub accepted_or_refused : (purpose : Purpose) (w : s.Workload) → (faults purpose w ≡ []) ⊎ ((r : Refusal) × IsRefusedBy purpose w r)
+accepted_or_refused purpose w = by_kept (keep_all None (faults purpose w)) refl
+  where
+    by_kept : (o : Option Fault) → keep_all None (faults purpose w) ≡ o → (faults purpose w ≡ []) ⊎ ((r : Refusal) × IsRefusedBy purpose w r)
+    by_kept None e = inl (none_left (faults purpose w) e)
+    by_kept (Some f) e =
+        let r : Refusal = record { code = code f.phase; offset = f.offset } in
+        inr (r, refused-by purpose w f r e refl refl)
+
+pub not_both : (purpose : Purpose) (w : s.Workload) (r : Refusal) → faults purpose w ≡ [] → IsRefusedBy purpose w r → ⊥
+not_both purpose w r none refused =
+    let there : IsFaultIn refused.fault [] = subst (IsFaultIn refused.fault) none refused.decides.there in
+    elim there [ ]
 
 pub ruleset deciding = (decides, none_left)

@@ -9,7 +9,7 @@ use Rattle.homeo_syntax.specs.declared.phrase.Number.{Number}
 use Rattle.homeo_meaning.specs.Key.{words as meaning_words}
 use Rattle.homeo_meaning.specs.NumberRules.{same_numbers, same_body, same_ground}
 use Rattle.homeo_rules.specs.declared.sited.SitedCall.{SitedCall}
-use Rattle.homeo_rules.specs.Sited.{values, sited, has_value, along_same, same_arguments, same_body_of, same_ground_of}
+use Rattle.homeo_rules.specs.inner.Sited.{values, sited, has_value, along_same, same_arguments, same_body_of, same_ground_of}
 
 abbrev pub opt_cons : {A : Type 0} → Option A → List A → List A
 opt_cons None l = []

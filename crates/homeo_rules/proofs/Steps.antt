@@ -13,9 +13,9 @@ use Rattle.homeo_meaning.specs.Places.{at, DeclaresRow, TakesObject, TakesRelati
 use Rattle.homeo_meaning.specs.NameRules.{declares_row, takes_object, takes_relation, takes_value, field_of, takes_field, fills_fields, assigns}
 use Rattle.homeo_rules.specs.inner.Deciding.{keep, keep_all}
 use Rattle.homeo_meaning.specs.declared.rules.Fault.{Fault}
-use Rattle.homeo_rules.specs.Key.{words}
-use Rattle.homeo_rules.specs.Follow.{Standing, local_at, step, assigned}
-use Rattle.homeo_rules.specs.Tabled.{fields_of, has_name}
+use Rattle.homeo_rules.specs.inner.Key.{words}
+use Rattle.homeo_rules.specs.inner.Follow.{Standing, local_at, step, assigned}
+use Rattle.homeo_rules.specs.inner.Tabled.{fields_of, has_name}
 
 pub step-TakesObject : (s : Scope) (k : Standing) (rows : List Row) (x : Ident) → step s k (at rows (TakesObject x)) ≡ record { locals = k.locals; best = keep_all k.best (takes_object x (binding s (local_at k.locals) rows x.name)) }
 unfolding words meaning_words

@@ -22,8 +22,8 @@ use Rattle.homeo_meaning.specs.declared.call.Purpose.{Purpose}
 use Rattle.homeo_meaning.specs.declared.rules.Fault.{Fault}
 use Rattle.homeo_meaning.specs.declared.rules.Item.TheVariants as I
 use Rattle.homeo_meaning.specs.declared.rules.Phase.TheVariants.{Unknown, Kind, Schedule}
-use Rattle.homeo_rules.specs.Key.{words}
-use Rattle.homeo_rules.specs.Tally.{Tally, scheduled_of, tally, tally_all, call_count_at, is_short_of, has_calls_of}
+use Rattle.homeo_rules.specs.inner.Key.{words}
+use Rattle.homeo_rules.specs.inner.Tally.{Tally, scheduled_of, tally, tally_all, call_count_at, is_short_of, has_calls_of}
 use Rattle.homeo_rules.proofs.Steps.{keep-none, keep-one, keep_all-append}
 
 count-plain : (cs : List Client) (k : ℕ) → call_count (slice_get (map plain_client cs) k) ≡ call_count_at cs k
@@ -123,13 +123,6 @@ none_yet : (n m : ℕ) → slice_index (replicate n 0) m ≡ 0
 none_yet zero m = refl
 none_yet (suc n) zero = refl
 none_yet (suc n) (suc m) = none_yet n m
-
--- the faults of a schedule, and the counts
-pub tallied_is : (s : Scope) (cs : List Client) (n : ℕ) (best : Option Fault) (xs : List Ident) → Each (IsBelow n) xs → (tally_all s cs (record { counts = replicate n 0; best = best }) xs).best ≡ keep_all best (order_faults s (map plain_client cs) xs)
-unfolding words meaning_words syntax_words
-tallied_is s cs n best xs within =
-    let t : Tallied s cs [] (record { counts = replicate n 0; best = best }) (tally_all s cs (record { counts = replicate n 0; best = best }) xs) xs = tallies s cs n [] (record { counts = replicate n 0; best = best }) xs (length-replicate n 0) (none_yet n) within in
-    t.best
 
 -- ---- with the word `end`
 short-plain : (counts : List ℕ) (n : ℕ → ℕ) → ((m : ℕ) → slice_index counts m ≡ n m) → (cs : List Client) → is_short_of counts cs ≡ list_any (λ (c : p.Client). nat_lt (n c.name.name) (length c.calls)) (map plain_client cs)

@@ -19,10 +19,10 @@ use Rattle.homeo_syntax.proofs.SourceViews.{phrase_views, command_views}
 use Rattle.homeo_meaning.specs.Key.{words as meaning_words}
 use Rattle.homeo_meaning.specs.Bindings.{Row, Scope}
 use Rattle.homeo_meaning.specs.Places.{Place, at, within, in_expr, in_exprs, in_test, in_cond, in_fields, in_command, in_commands, DeclaresRow, TakesObject, TakesRelation, TakesValue, TakesField, NamesField, FillsFields, Assigns}
-use Rattle.homeo_rules.specs.Key.{words}
-use Rattle.homeo_rules.specs.Follow.{Standing, step, follow}
-use Rattle.homeo_rules.specs.Plain.{plain_exprs, plain_tests, plain_fields, named_fields, plain_commands}
-use Rattle.homeo_rules.specs.Along.{along_exprs, along_tests, along_values, along_commands}
+use Rattle.homeo_rules.specs.inner.Key.{words}
+use Rattle.homeo_rules.specs.inner.Follow.{Standing, step, follow}
+use Rattle.homeo_rules.specs.inner.Plain.{plain_exprs, plain_tests, plain_fields, named_fields, plain_commands}
+use Rattle.homeo_rules.specs.inner.Along.{along_exprs, along_tests, along_values, along_commands}
 
 -- ---- the views, with lists of phrases as one word each
 pub plain-Sum : (es : Listed Expr) → plain_expr (E.Sum es) ≡ s.Sum (plain_exprs es.items)

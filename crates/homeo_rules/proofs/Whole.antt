@@ -23,12 +23,12 @@ use Rattle.homeo_meaning.specs.declared.rules.Fault.{Fault}
 use Rattle.homeo_meaning.specs.declared.rules.Phase.TheVariants.{Duplicate}
 use Rattle.homeo_meaning.specs.declared.rules.Local.{Local}
 use Rattle.homeo_meaning.specs.declared.rules.Local.TheVariants as L
-use Rattle.homeo_rules.specs.Key.{words}
-use Rattle.homeo_rules.specs.Follow.{Standing, local_at, follow}
-use Rattle.homeo_rules.specs.Params.{is_parameter, enter_param, enter_params}
-use Rattle.homeo_rules.specs.Plain.{plain_commands}
-use Rattle.homeo_rules.specs.Listwise.{along_all}
-use Rattle.homeo_rules.specs.Within.{IsNamed}
+use Rattle.homeo_rules.specs.inner.Key.{words}
+use Rattle.homeo_rules.specs.inner.Follow.{Standing, local_at, follow}
+use Rattle.homeo_rules.specs.inner.Params.{is_parameter, enter_param, enter_params}
+use Rattle.homeo_rules.specs.inner.Plain.{plain_commands}
+use Rattle.homeo_rules.specs.inner.Listwise.{along_all}
+use Rattle.homeo_rules.specs.inner.Within.{IsNamed}
 use Rattle.homeo_rules.proofs.Steps.{keep_all-append}
 use Rattle.homeo_rules.proofs.Listing.{all-along}
 use Rattle.homeo_rules.proofs.Agrees.{TargetsWithin, in_more, or-nothing, or_true, follows}

@@ -3,7 +3,7 @@
 ghost use Rattle.std.specs.Prelude.{◌≡◌, slice_get};
 ghost use Rattle.homeo_meaning.specs.NumberRules.{argument_outside, too_large, crossed, range_faults, outside, object_faults, range_bounds, site_faults};
 ghost use Rattle.homeo_rules.specs.inner.Deciding.{keep_all};
-ghost use Rattle.homeo_rules.specs.Listwise.{along_all, along_arguments};
+ghost use Rattle.homeo_rules.specs.inner.Listwise.{along_all, along_arguments};
 
 use crate::deciding::at_number;
 use homeo_meaning::{Fault, Phase};

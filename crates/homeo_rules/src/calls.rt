@@ -6,9 +6,9 @@ ghost use Rattle.homeo_meaning.specs.CallRules.{argument_faults, call_faults, cl
 ghost use Rattle.homeo_rules.specs.inner.Deciding.{keep_all};
 ghost use Rattle.homeo_meaning.specs.NameRules.{when, fault};
 ghost use Rattle.homeo_meaning.specs.declared.rules.Phase.TheVariants.{Arity};
-ghost use Rattle.homeo_rules.specs.Callers.{params_at, call_faults_of, client_faults_of};
-ghost use Rattle.homeo_rules.specs.Listwise.{along_all, along_arguments};
-ghost use Rattle.homeo_rules.specs.Scopes.{scope_in};
+ghost use Rattle.homeo_rules.specs.inner.Callers.{params_at, call_faults_of, client_faults_of};
+ghost use Rattle.homeo_rules.specs.inner.Listwise.{along_all, along_arguments};
+ghost use Rattle.homeo_rules.specs.inner.Scopes.{scope_in};
 
 use crate::bounds::{check_arguments, check_site};
 use crate::deciding::at_name;

@@ -6,11 +6,11 @@ ghost use Rattle.homeo_meaning.specs.Places.{at, DeclaresRow, TakesObject, Takes
 ghost use Rattle.homeo_rules.specs.inner.Deciding.{keep_all};
 ghost use Rattle.homeo_meaning.specs.NameRules.{fault};
 ghost use Rattle.homeo_meaning.specs.declared.rules.Local.TheVariants.{Absent};
-ghost use Rattle.homeo_rules.specs.Follow.{local_at, step};
-ghost use Rattle.homeo_rules.specs.InForce.{rows_of};
-ghost use Rattle.homeo_rules.specs.Params.{enter_param};
-ghost use Rattle.homeo_rules.specs.Plain.{named_fields};
-ghost use Rattle.homeo_rules.specs.Scopes.{scope_in};
+ghost use Rattle.homeo_rules.specs.inner.Follow.{local_at, step};
+ghost use Rattle.homeo_rules.specs.inner.InForce.{rows_of};
+ghost use Rattle.homeo_rules.specs.inner.Params.{enter_param};
+ghost use Rattle.homeo_rules.specs.inner.Plain.{named_fields};
+ghost use Rattle.homeo_rules.specs.inner.Scopes.{scope_in};
 
 use crate::deciding::at_name;
 use crate::fields::{check_field, check_insert};
@@ -30,7 +30,7 @@ pub struct Checker {
 }
 
 impl Model for Checker {
-    ghost use Rattle.homeo_rules.specs.Follow.{Standing};
+    ghost use Rattle.homeo_rules.specs.inner.Follow.{Standing};
 
     ghost Value = { Standing };
 

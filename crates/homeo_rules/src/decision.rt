@@ -8,9 +8,9 @@ ghost use Rattle.homeo_meaning.specs.GlobalNames.{scope_of, sited_calls};
 ghost use Rattle.homeo_meaning.specs.NumberRules.{limit_faults};
 ghost use Rattle.homeo_meaning.specs.CallRules.{schedule_faults};
 ghost use Rattle.homeo_meaning.specs.Faults.{declared_faults, faults};
-ghost use Rattle.homeo_rules.specs.Scopes.{scope_in};
-ghost use Rattle.homeo_rules.specs.Sited.{sited};
-ghost use Rattle.homeo_rules.specs.Decided.{NamesGlobals, faults_with_names};
+ghost use Rattle.homeo_rules.specs.inner.Scopes.{scope_in};
+ghost use Rattle.homeo_rules.specs.inner.Sited.{sited};
+ghost use Rattle.homeo_rules.specs.inner.Decided.{NamesGlobals, faults_with_names};
 
 use crate::bounds::check_objects;
 use crate::calls::check_clients;

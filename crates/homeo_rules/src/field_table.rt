@@ -2,7 +2,7 @@
 
 ghost use Rattle.std.specs.Prelude.{◌≡◌, ℕ, ◌==◌, ◌&&◌, ◌||◌, slice_get, length, IfOk, OnOk};
 ghost use Rattle.std.specs.List.{list_any};
-ghost use Rattle.homeo_rules.specs.Tabled.{fields_at, has_name, is_tabled, AreTabled};
+ghost use Rattle.homeo_rules.specs.inner.Tabled.{fields_at, has_name, is_tabled, AreTabled};
 
 use homeo_syntax::{Memory, RangeDecl, RelationDecl};
 use indexmap::IndexSet;
@@ -26,7 +26,7 @@ pub struct FieldTable<'a> {
 impl<'a> Model for FieldTable<'a> {
     ghost use Rattle.std.specs.Prelude.{List};
     ghost use Rattle.homeo_syntax.specs.declared.workload.RelationDecl.{RelationDecl};
-    ghost use Rattle.homeo_rules.specs.Tabled.{AreTabled};
+    ghost use Rattle.homeo_rules.specs.inner.Tabled.{AreTabled};
 
     ghost Value = { List RelationDecl };
 

@@ -3,11 +3,11 @@
 ghost use Rattle.std.specs.Prelude.{◌≡◌, [], Some, IfOk};
 ghost use Rattle.homeo_meaning.specs.NameRules.{field_of, fills_all, fills_fields};
 ghost use Rattle.homeo_rules.specs.inner.Deciding.{keep_all};
-ghost use Rattle.homeo_rules.specs.Listwise.{along_all, along_each};
-ghost use Rattle.homeo_rules.specs.Plain.{named_fields};
-ghost use Rattle.homeo_rules.specs.Relations.{named_twice, value_field};
+ghost use Rattle.homeo_rules.specs.inner.Listwise.{along_all, along_each};
+ghost use Rattle.homeo_rules.specs.inner.Plain.{named_fields};
+ghost use Rattle.homeo_rules.specs.inner.Relations.{named_twice, value_field};
 ghost use Rattle.homeo_meaning.specs.declared.rules.Item.TheVariants.{Relation};
-ghost use Rattle.homeo_rules.specs.Scopes.{scope_in};
+ghost use Rattle.homeo_rules.specs.inner.Scopes.{scope_in};
 
 use crate::deciding::at_name;
 use crate::distinct::check_new;

@@ -9,10 +9,10 @@ ghost use Rattle.homeo_meaning.specs.NumberRules.{ground_calls};
 ghost use Rattle.homeo_meaning.specs.Schema.{nat_of, schema_of};
 ghost use Rattle.homeo_meaning.specs.SizeRules.{size_faults, print_faults, weight_faults, row_faults};
 ghost use Rattle.homeo_size.specs.Layout.{IsLayout};
-ghost use Rattle.homeo_rules.specs.Decided.{IsFaultless};
-ghost use Rattle.homeo_rules.specs.Scopes.{scope_in};
-ghost use Rattle.homeo_rules.specs.Sited.{sited};
-ghost use Rattle.homeo_rules.specs.Sizes.{IsSetUp, workload_of, call_of, AreTold, AreMeasured};
+ghost use Rattle.homeo_rules.specs.inner.Decided.{IsFaultless};
+ghost use Rattle.homeo_rules.specs.inner.Scopes.{scope_in};
+ghost use Rattle.homeo_rules.specs.inner.Sited.{sited};
+ghost use Rattle.homeo_rules.specs.inner.Sizes.{IsSetUp, workload_of, call_of, AreTold, AreMeasured};
 
 use crate::limits::ground_calls;
 use crate::prints::check_prints;

@@ -2,8 +2,8 @@
 
 ghost use Rattle.std.specs.Prelude.{◌≡◌, replicate, is_some, None, IfOk};
 ghost use Rattle.homeo_meaning.specs.declared.rules.Item.TheVariants as I;
-ghost use Rattle.homeo_rules.specs.Scopes.{item_at};
-ghost use Rattle.homeo_rules.specs.Items.{enter, along_names};
+ghost use Rattle.homeo_rules.specs.inner.Scopes.{item_at};
+ghost use Rattle.homeo_rules.specs.inner.Items.{enter, along_names};
 
 use crate::deciding::at_name;
 use homeo_meaning::{Fault, Item, Phase};
@@ -19,7 +19,7 @@ pub struct Items {
 }
 
 impl Model for Items {
-    ghost use Rattle.homeo_rules.specs.Items.{Items as Plain};
+    ghost use Rattle.homeo_rules.specs.inner.Items.{Items as Plain};
 
     ghost Value = { Plain };
 

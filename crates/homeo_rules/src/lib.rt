@@ -12,6 +12,7 @@ mod field_table;
 mod fields;
 mod forms;
 mod items;
+pub mod laws;
 mod limits;
 mod objects;
 mod prints;

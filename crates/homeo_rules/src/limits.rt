@@ -4,8 +4,8 @@ ghost use Rattle.std.specs.Prelude.{◌≡◌, [], IfOk, OnOk, slice_get};
 ghost use Rattle.std.specs.List.{list_any};
 ghost use Rattle.homeo_rules.specs.inner.Deciding.{keep_all};
 ghost use Rattle.homeo_meaning.specs.NumberRules.{site_count_faults};
-ghost use Rattle.homeo_rules.specs.Limited.{transaction_passing, client_passing, call_passing, kept_with, distinct_within};
-ghost use Rattle.homeo_rules.specs.Sited.{same_ground_of};
+ghost use Rattle.homeo_rules.specs.inner.Limited.{transaction_passing, client_passing, call_passing, kept_with, distinct_within};
+ghost use Rattle.homeo_rules.specs.inner.Sited.{same_ground_of};
 
 use crate::deciding::{at_name, at_number};
 use crate::sited::{SitedCall, is_same_ground};

@@ -5,10 +5,10 @@ ghost use Rattle.homeo_meaning.specs.NameRules.{when, fault};
 ghost use Rattle.homeo_meaning.specs.TransactionRules.{each};
 ghost use Rattle.homeo_rules.specs.inner.Deciding.{keep_all};
 ghost use Rattle.homeo_meaning.specs.declared.rules.Phase.TheVariants.{Size};
-ghost use Rattle.homeo_rules.specs.Printing.{capped_prints, counted_prints, print_all, prints_too_much_in};
-ghost use Rattle.homeo_rules.specs.Scopes.{scope_in};
-ghost use Rattle.homeo_rules.specs.Sited.{sited};
-ghost use Rattle.homeo_rules.specs.Sizes.{IsSetUp, workload_of};
+ghost use Rattle.homeo_rules.specs.inner.Printing.{capped_prints, counted_prints, print_all, prints_too_much_in};
+ghost use Rattle.homeo_rules.specs.inner.Scopes.{scope_in};
+ghost use Rattle.homeo_rules.specs.inner.Sited.{sited};
+ghost use Rattle.homeo_rules.specs.inner.Sizes.{IsSetUp, workload_of};
 
 use crate::deciding::at_name;
 use crate::scope::Scope;

@@ -2,8 +2,8 @@
 
 ghost use Rattle.std.specs.Prelude.{◌≡◌, [], IfOk};
 ghost use Rattle.homeo_rules.specs.inner.Deciding.{keep_all};
-ghost use Rattle.homeo_rules.specs.Listwise.{along_all, along_each};
-ghost use Rattle.homeo_rules.specs.Relations.{declared_twice, relation_faults_of, slot_faults_of};
+ghost use Rattle.homeo_rules.specs.inner.Listwise.{along_all, along_each};
+ghost use Rattle.homeo_rules.specs.inner.Relations.{declared_twice, relation_faults_of, slot_faults_of};
 
 use crate::bounds::check_ranges;
 use crate::deciding::at_number;

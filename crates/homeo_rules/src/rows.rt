@@ -2,7 +2,7 @@
 
 ghost use Rattle.std.specs.Prelude.{◌≡◌};
 ghost use Rattle.homeo_meaning.specs.Bindings.{row_relation};
-ghost use Rattle.homeo_rules.specs.InForce.{rows_of};
+ghost use Rattle.homeo_rules.specs.inner.InForce.{rows_of};
 
 /// The row variables that hold a place, the innermost first, each with the name of the relation that it goes over.
 #[derive(Clone, Copy)]

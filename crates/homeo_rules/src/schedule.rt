@@ -6,8 +6,8 @@ ghost use Rattle.homeo_syntax.specs.SourceView.{plain_client, plain_schedule};
 ghost use Rattle.homeo_meaning.specs.CallRules.{end_fault, needs_order, schedule_faults};
 ghost use Rattle.homeo_meaning.specs.NameRules.{when};
 ghost use Rattle.homeo_rules.specs.inner.Deciding.{keep_all};
-ghost use Rattle.homeo_rules.specs.Scopes.{scope_in};
-ghost use Rattle.homeo_rules.specs.Tally.{scheduled_of, tally, tally_all, call_count_at, is_short_of, has_calls_of};
+ghost use Rattle.homeo_rules.specs.inner.Scopes.{scope_in};
+ghost use Rattle.homeo_rules.specs.inner.Tally.{scheduled_of, tally, tally_all, call_count_at, is_short_of, has_calls_of};
 
 use crate::deciding::{at_name, keep};
 use crate::scope::Scope;
@@ -24,7 +24,7 @@ pub struct Tally {
 }
 
 impl Model for Tally {
-    ghost use Rattle.homeo_rules.specs.Tally.{Tally as Plain};
+    ghost use Rattle.homeo_rules.specs.inner.Tally.{Tally as Plain};
 
     ghost Value = { Plain };
 

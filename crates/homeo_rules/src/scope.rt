@@ -1,8 +1,8 @@
 //! The global names and the fields of relations, as the code knows them.
 
 ghost use Rattle.std.specs.Prelude.{◌≡◌, length, slice_get};
-ghost use Rattle.homeo_rules.specs.Scopes.{scope_in};
-ghost use Rattle.homeo_rules.specs.Tabled.{has_name};
+ghost use Rattle.homeo_rules.specs.inner.Scopes.{scope_in};
+ghost use Rattle.homeo_rules.specs.inner.Tabled.{has_name};
 
 use crate::field_table::FieldTable;
 use homeo_meaning::Item;

@@ -2,7 +2,7 @@
 
 ghost use Rattle.std.specs.Prelude.{◌≡◌, ◌++◌, map, IfOk, OnOk};
 ghost use Rattle.std.specs.Prelude.{slice_get};
-ghost use Rattle.homeo_rules.specs.Sited.{sited, has_value, same_arguments, same_body_of, same_ground_of, sited_at, sited_of};
+ghost use Rattle.homeo_rules.specs.inner.Sited.{sited, has_value, same_arguments, same_body_of, same_ground_of, sited_at, sited_of};
 
 use homeo_syntax::{Call, Client, Ident, Memory, Number};
 use std::alloc::Global;

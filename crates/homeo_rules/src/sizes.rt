@@ -8,9 +8,9 @@ ghost use Rattle.homeo_meaning.specs.TransactionRules.{each};
 ghost use Rattle.homeo_meaning.specs.CallForm.{body_form};
 ghost use Rattle.homeo_meaning.specs.SizeRules.{extent_of, too_large, heavy_call, too_many_rows};
 ghost use Rattle.homeo_meaning.specs.declared.rules.Phase.TheVariants.{Size, Weight, Rows};
-ghost use Rattle.homeo_rules.specs.Sited.{values, sited};
-ghost use Rattle.homeo_rules.specs.Scopes.{scope_in};
-ghost use Rattle.homeo_rules.specs.Sizes.{IsSetUp, workload_of, transaction_place, call_of, told_size, IsMeasuredBody, IsMeasuredAs, IsTold, AreTold, AreMeasured, is_too_large, known};
+ghost use Rattle.homeo_rules.specs.inner.Sited.{values, sited};
+ghost use Rattle.homeo_rules.specs.inner.Scopes.{scope_in};
+ghost use Rattle.homeo_rules.specs.inner.Sizes.{IsSetUp, workload_of, transaction_place, call_of, told_size, IsMeasuredBody, IsMeasuredAs, IsTold, AreTold, AreMeasured, is_too_large, known};
 
 use crate::deciding::at_name;
 use crate::scope::Scope;

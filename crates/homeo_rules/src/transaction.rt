@@ -4,11 +4,11 @@ ghost use Rattle.std.specs.Prelude.{◌≡◌, IfOk};
 ghost use Rattle.homeo_syntax.specs.SourceView.{plain_transaction};
 ghost use Rattle.homeo_rules.specs.inner.Deciding.{keep_all};
 ghost use Rattle.homeo_meaning.specs.Faults.{of_transaction};
-ghost use Rattle.homeo_rules.specs.Params.{enter_params};
-ghost use Rattle.homeo_rules.specs.Scopes.{scope_in};
-ghost use Rattle.homeo_rules.specs.Within.{IsNamed, AreNamed};
-ghost use Rattle.homeo_rules.specs.Callers.{transaction_faults_of};
-ghost use Rattle.homeo_rules.specs.Listwise.{along_all};
+ghost use Rattle.homeo_rules.specs.inner.Params.{enter_params};
+ghost use Rattle.homeo_rules.specs.inner.Scopes.{scope_in};
+ghost use Rattle.homeo_rules.specs.inner.Within.{IsNamed, AreNamed};
+ghost use Rattle.homeo_rules.specs.inner.Callers.{transaction_faults_of};
+ghost use Rattle.homeo_rules.specs.inner.Listwise.{along_all};
 
 use crate::bounds::check_ranges;
 use crate::checker::Checker;
@@ -62,7 +62,7 @@ pub fn check_transactions(
     Ok(best)
 }
 
-#[tactic(auto, unfolding(crate::specs::Key::words))]
+#[tactic(auto, unfolding(crate::specs::inner::Key::words))]
 fn check_one(
     alloc: Global,
     t: &Transaction,

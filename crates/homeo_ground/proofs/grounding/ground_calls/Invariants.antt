@@ -1,7 +1,8 @@
 -- The loop of `ground_calls`.
 use Rattle.std.proofs.Common.{◌≡◌, map, take}
 use Rattle.homeo_meaning.specs.Ground.{plain_ground}
-use Rattle.homeo_ground.specs.Sited.{sited, ground_by}
+use Rattle.homeo_ground.specs.Sited.{sited}
+use Rattle.homeo_ground.specs.inner.Grounds.{ground_by}
 use Rattle.homeo_ground.proofs.grounding.ground_calls.Given as goal
 
 abbrev pub invariant-loop-call : goal.invariant-loop-call

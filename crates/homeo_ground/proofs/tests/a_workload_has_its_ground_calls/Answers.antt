@@ -1,6 +1,6 @@
 -- The workload has the calls whose places are taken.
 use Rattle.std.proofs.Common.{ap, ◌∙◌}
-use Rattle.homeo_ground.specs.Example.{example}
+use Rattle.homeo_ground.specs.inner.Example.{example}
 use Rattle.homeo_ground.specs.Grounding.{grounding}
 use Rattle.homeo_ground.proofs.Example.{second-exists, third-exists}
 use Rattle.homeo_ground.proofs.tests.a_workload_has_its_ground_calls.Goals as goal

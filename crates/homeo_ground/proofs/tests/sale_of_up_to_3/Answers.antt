@@ -2,7 +2,7 @@
 use Rattle.std.proofs.Common.{[], map, ap}
 use Rattle.homeo_syntax.specs.Key.{words as tree_words}
 use Rattle.homeo_syntax.specs.SourceView.{commands, plain_command}
-use Rattle.homeo_ground.specs.Example.{name}
+use Rattle.homeo_ground.specs.inner.Example.{name}
 use Rattle.homeo_ground.proofs.Example.{pushed}
 use Rattle.homeo_ground.proofs.tests.sale_of_up_to_3.Goals as goal
 

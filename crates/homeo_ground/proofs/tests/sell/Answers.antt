@@ -1,7 +1,7 @@
 -- A sale is made of its amount.
 use Rattle.std.proofs.Common.{[], ap}
 use Rattle.homeo_syntax.specs.Key.{words as tree_words}
-use Rattle.homeo_ground.specs.Example.{name}
+use Rattle.homeo_ground.specs.inner.Example.{name}
 use Rattle.homeo_ground.proofs.Example.{pushed}
 use Rattle.homeo_ground.proofs.tests.sell.Goals as goal
 

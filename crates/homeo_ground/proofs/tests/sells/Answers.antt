@@ -2,7 +2,7 @@
 use Rattle.std.proofs.Common.{[], ◌∷◌, pos, map, ap, ◌∙◌}
 use Rattle.homeo_syntax.specs.Key.{words as tree_words}
 use Rattle.homeo_syntax.specs.SourceView.{plain_call}
-use Rattle.homeo_ground.specs.Example.{name, number}
+use Rattle.homeo_ground.specs.inner.Example.{name, number}
 use Rattle.homeo_ground.proofs.Example.{pushed}
 use Rattle.homeo_ground.proofs.tests.sells.Goals as goal
 

@@ -1,5 +1,5 @@
 use Rattle.std.proofs.Common.{◌≡◌, drop}
-use Rattle.homeo_rules.specs.Listwise.{along_arguments}
+use Rattle.homeo_rules.specs.inner.Listwise.{along_arguments}
 use Rattle.homeo_rules.proofs.bounds.check_arguments.Given as goal
 
 abbrev pub invariant-loop-i : goal.invariant-loop-i

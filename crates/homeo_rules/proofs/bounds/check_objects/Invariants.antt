@@ -1,6 +1,6 @@
 use Rattle.std.proofs.Common.{◌≡◌, drop}
 use Rattle.homeo_meaning.specs.NumberRules.{object_faults}
-use Rattle.homeo_rules.specs.Listwise.{along_all}
+use Rattle.homeo_rules.specs.inner.Listwise.{along_all}
 use Rattle.homeo_rules.proofs.bounds.check_objects.Given as goal
 
 abbrev pub invariant-loop-d : goal.invariant-loop-d

@@ -1,6 +1,6 @@
 use Rattle.std.proofs.Common.{◌≡◌, drop}
 use Rattle.homeo_meaning.specs.NumberRules.{range_bounds}
-use Rattle.homeo_rules.specs.Listwise.{along_all}
+use Rattle.homeo_rules.specs.inner.Listwise.{along_all}
 use Rattle.homeo_rules.proofs.bounds.check_ranges.Given as goal
 
 abbrev pub invariant-loop-d : goal.invariant-loop-d

@@ -1,7 +1,7 @@
 use Rattle.std.proofs.Common.{◌≡◌, drop}
-use Rattle.homeo_rules.specs.Callers.{client_faults_of}
-use Rattle.homeo_rules.specs.Listwise.{along_all}
-use Rattle.homeo_rules.specs.Scopes.{scope_in}
+use Rattle.homeo_rules.specs.inner.Callers.{client_faults_of}
+use Rattle.homeo_rules.specs.inner.Listwise.{along_all}
+use Rattle.homeo_rules.specs.inner.Scopes.{scope_in}
 use Rattle.homeo_rules.proofs.calls.check_clients.Given as goal
 
 abbrev pub invariant-loop-c : goal.invariant-loop-c

@@ -1,6 +1,6 @@
 use Rattle.std.proofs.Common.{◌≡◌, ◌∙◌, IfOk, subst, sym, ap, map}
 use Rattle.homeo_syntax.specs.SourceView.{plain_workload}
-use Rattle.homeo_rules.specs.Sited.{sited}
+use Rattle.homeo_rules.specs.inner.Sited.{sited}
 use Rattle.homeo_rules.proofs.Joining.{scope-is, calls-are, text-found, text-decides, forms-decide, faultless}
 use Rattle.homeo_rules.proofs.decision.decide.Goals as goal
 

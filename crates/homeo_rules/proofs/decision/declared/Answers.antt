@@ -1,8 +1,8 @@
 use Rattle.std.proofs.Common.{◌∙◌, ap, length}
-use Rattle.homeo_rules.specs.Callers.{client_faults_of, transaction_faults_of}
-use Rattle.homeo_rules.specs.Listwise.{along_all}
-use Rattle.homeo_rules.specs.Relations.{relation_faults_of}
-use Rattle.homeo_rules.specs.Scopes.{scope_in}
+use Rattle.homeo_rules.specs.inner.Callers.{client_faults_of, transaction_faults_of}
+use Rattle.homeo_rules.specs.inner.Listwise.{along_all}
+use Rattle.homeo_rules.specs.inner.Relations.{relation_faults_of}
+use Rattle.homeo_rules.specs.inner.Scopes.{scope_in}
 use Rattle.homeo_rules.proofs.Joining.{transactions-named, declared-along}
 use Rattle.homeo_rules.proofs.decision.declared.Goals as goal
 

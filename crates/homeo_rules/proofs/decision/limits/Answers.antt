@@ -2,10 +2,10 @@ use Rattle.std.proofs.Common.{◌≡◌, ◌∙◌, IfOk, subst, ap, []}
 use Rattle.std.specs.Prelude.{slice_get}
 use Rattle.homeo_rules.specs.inner.Deciding.{keep_all}
 use Rattle.homeo_meaning.specs.NumberRules.{object_making}
-use Rattle.homeo_rules.specs.Counting.{count_all, making_of}
-use Rattle.homeo_rules.specs.Limited.{transaction_passing, client_passing, call_passing, distinct_within}
-use Rattle.homeo_rules.specs.Listwise.{along_all}
-use Rattle.homeo_rules.specs.Relations.{slot_faults_of}
+use Rattle.homeo_rules.specs.inner.Counting.{count_all, making_of}
+use Rattle.homeo_rules.specs.inner.Limited.{transaction_passing, client_passing, call_passing, distinct_within}
+use Rattle.homeo_rules.specs.inner.Listwise.{along_all}
+use Rattle.homeo_rules.specs.inner.Relations.{slot_faults_of}
 use Rattle.homeo_rules.proofs.Joining.{limits-along}
 use Rattle.homeo_rules.proofs.decision.limits.Goals as goal
 

@@ -1,5 +1,5 @@
 use Rattle.std.proofs.Common.{◌≡◌, IfOk, subst, ap, length}
-use Rattle.homeo_rules.specs.Scopes.{scope_in}
+use Rattle.homeo_rules.specs.inner.Scopes.{scope_in}
 use Rattle.homeo_rules.proofs.Joining.{order-named, schedule-along}
 use Rattle.homeo_rules.proofs.decision.schedule.Goals as goal
 

@@ -1,7 +1,7 @@
 -- The table has the fields so far.
 use Rattle.std.proofs.Common.{◌≡◌, ℕ, ◌==◌, ◌&&◌, ◌||◌, take}
 use Rattle.std.specs.List.{list_any}
-use Rattle.homeo_rules.specs.Tabled.{is_tabled}
+use Rattle.homeo_rules.specs.inner.Tabled.{is_tabled}
 use Rattle.homeo_rules.proofs.field_table.enter_fields.Given as goal
 
 abbrev pub invariant-loop-d : goal.invariant-loop-d

@@ -7,8 +7,8 @@ use Rattle.homeo_syntax.specs.declared.command.FieldValue.{FieldValue}
 use Rattle.homeo_rules.specs.inner.Deciding.{keep_all}
 use Rattle.homeo_meaning.specs.NameRules.{when, fault}
 use Rattle.homeo_meaning.specs.declared.rules.Phase.TheVariants.{Duplicate}
-use Rattle.homeo_rules.specs.Listwise.{along_each}
-use Rattle.homeo_rules.specs.Relations.{named_twice}
+use Rattle.homeo_rules.specs.inner.Listwise.{along_each}
+use Rattle.homeo_rules.specs.inner.Relations.{named_twice}
 use Rattle.homeo_rules.proofs.fields.check_distinct.Goals as goal
 
 pub loop-f-preserved : goal.loop-f-preserved

@@ -1,6 +1,6 @@
 use Rattle.std.proofs.Common.{◌∙◌, sym, subst}
 use Rattle.homeo_syntax.specs.SourceView.{plain_workload}
-use Rattle.homeo_rules.specs.Sizes.{AreTold}
+use Rattle.homeo_rules.specs.inner.Sizes.{AreTold}
 use Rattle.homeo_rules.proofs.FormFaults.{grounds-plain, all-measured, sizes-decide, after-sizes}
 use Rattle.homeo_rules.proofs.forms.check_forms.Goals as goal
 

@@ -1,4 +1,4 @@
-use Rattle.homeo_rules.specs.Sizes.{workload_of}
+use Rattle.homeo_rules.specs.inner.Sizes.{workload_of}
 use Rattle.homeo_rules.proofs.FormFaults.{sizes-and-prints}
 use Rattle.homeo_rules.proofs.Measured.{if_ok}
 use Rattle.homeo_rules.proofs.forms.check_sizes_and_prints.Goals as goal

@@ -1,4 +1,4 @@
-use Rattle.homeo_rules.specs.Sizes.{workload_of}
+use Rattle.homeo_rules.specs.inner.Sizes.{workload_of}
 use Rattle.homeo_rules.proofs.FormFaults.{weights-and-rows}
 use Rattle.homeo_rules.proofs.forms.check_weights_and_rows.Goals as goal
 

@@ -1,6 +1,6 @@
 use Rattle.std.proofs.Common.{◌≡◌, drop}
 use Rattle.homeo_meaning.specs.declared.rules.Item.TheVariants as I
-use Rattle.homeo_rules.specs.Items.{along_names}
+use Rattle.homeo_rules.specs.inner.Items.{along_names}
 use Rattle.homeo_rules.proofs.items.enter_objects.Given as goal
 
 abbrev pub invariant-loop-i : goal.invariant-loop-i

@@ -1,5 +1,5 @@
 use Rattle.std.proofs.Common.{◌≡◌, [], drop}
-use Rattle.homeo_rules.specs.Limited.{distinct_within}
+use Rattle.homeo_rules.specs.inner.Limited.{distinct_within}
 use Rattle.homeo_rules.proofs.limits.ground_calls.Given as goal
 
 abbrev pub invariant-loop-call : goal.invariant-loop-call

@@ -1,6 +1,6 @@
 use Rattle.std.proofs.Common.{◌≡◌, drop}
 use Rattle.homeo_meaning.specs.NumberRules.{object_making}
-use Rattle.homeo_rules.specs.Counting.{count_all}
+use Rattle.homeo_rules.specs.inner.Counting.{count_all}
 use Rattle.homeo_rules.proofs.objects.count_objects.Given as goal
 
 abbrev pub invariant-loop-d : goal.invariant-loop-d

@@ -1,5 +1,5 @@
 use Rattle.std.proofs.Common.{◌≡◌, drop}
-use Rattle.homeo_rules.specs.Counting.{count_all, making_of}
+use Rattle.homeo_rules.specs.inner.Counting.{count_all, making_of}
 use Rattle.homeo_rules.proofs.objects.count_relations.Given as goal
 
 abbrev pub invariant-loop-q : goal.invariant-loop-q

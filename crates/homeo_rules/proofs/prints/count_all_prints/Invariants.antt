@@ -1,6 +1,6 @@
 use Rattle.std.proofs.Common.{◌≡◌, ℤ, List, map, take}
-use Rattle.homeo_rules.specs.Printing.{capped_prints}
-use Rattle.homeo_rules.specs.Sizes.{workload_of}
+use Rattle.homeo_rules.specs.inner.Printing.{capped_prints}
+use Rattle.homeo_rules.specs.inner.Sizes.{workload_of}
 use Rattle.homeo_rules.proofs.prints.count_all_prints.Given as goal
 
 abbrev pub invariant-loop-t : goal.invariant-loop-t

@@ -1,6 +1,6 @@
 use Rattle.std.proofs.Common.{◌≡◌, drop}
-use Rattle.homeo_rules.specs.Listwise.{along_all}
-use Rattle.homeo_rules.specs.Relations.{slot_faults_of}
+use Rattle.homeo_rules.specs.inner.Listwise.{along_all}
+use Rattle.homeo_rules.specs.inner.Relations.{slot_faults_of}
 use Rattle.homeo_rules.proofs.relations.check_all_slots.Given as goal
 
 abbrev pub invariant-loop-q : goal.invariant-loop-q

@@ -3,8 +3,8 @@ use Rattle.std.proofs.Common.{◌≡◌, ℕ, ◌==◌, [], drop, take}
 use Rattle.std.specs.Prelude.{nat_eq}
 use Rattle.std.specs.List.{list_any}
 use Rattle.indexmap.specs.IndexSet.{contains}
-use Rattle.homeo_rules.specs.Listwise.{along_each}
-use Rattle.homeo_rules.specs.Relations.{declared_twice}
+use Rattle.homeo_rules.specs.inner.Listwise.{along_each}
+use Rattle.homeo_rules.specs.inner.Relations.{declared_twice}
 use Rattle.homeo_rules.proofs.relations.check_distinct.Given as goal
 
 abbrev pub invariant-loop-d : goal.invariant-loop-d

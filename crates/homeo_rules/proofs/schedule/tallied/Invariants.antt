@@ -1,7 +1,7 @@
 use Rattle.std.proofs.Common.{◌≡◌, ℕ, ◌≤◌, drop}
 use Rattle.std.specs.Prelude.{slice_index}
-use Rattle.homeo_rules.specs.Scopes.{scope_in}
-use Rattle.homeo_rules.specs.Tally.{tally_all}
+use Rattle.homeo_rules.specs.inner.Scopes.{scope_in}
+use Rattle.homeo_rules.specs.inner.Tally.{tally_all}
 use Rattle.homeo_rules.proofs.schedule.tallied.Given as goal
 
 abbrev pub invariant-loop-x : goal.invariant-loop-x

@@ -1,5 +1,5 @@
 use Rattle.std.proofs.Common.{◌≡◌, drop}
-use Rattle.homeo_rules.specs.Sited.{along_same, same_arguments}
+use Rattle.homeo_rules.specs.inner.Sited.{along_same, same_arguments}
 use Rattle.homeo_rules.proofs.sited.are_same_arguments.Given as goal
 
 abbrev pub invariant-loop-i : goal.invariant-loop-i

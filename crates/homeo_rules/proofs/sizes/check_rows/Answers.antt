@@ -1,4 +1,4 @@
-use Rattle.homeo_rules.specs.Sizes.{workload_of}
+use Rattle.homeo_rules.specs.inner.Sizes.{workload_of}
 use Rattle.homeo_rules.proofs.RowsAlong.{rows_begin, rows_step, rows_end}
 use Rattle.homeo_rules.proofs.sizes.check_rows.Goals as goal
 

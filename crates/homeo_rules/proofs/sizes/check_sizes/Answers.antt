@@ -1,4 +1,4 @@
-use Rattle.homeo_rules.specs.Sizes.{workload_of}
+use Rattle.homeo_rules.specs.inner.Sizes.{workload_of}
 use Rattle.homeo_rules.proofs.SizesAlong.{sizes_begin, sizes_step, sizes_end}
 use Rattle.homeo_rules.proofs.sizes.check_sizes.Goals as goal
 

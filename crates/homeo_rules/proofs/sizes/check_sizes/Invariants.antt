@@ -1,4 +1,4 @@
-use Rattle.homeo_rules.specs.Sizes.{workload_of}
+use Rattle.homeo_rules.specs.inner.Sizes.{workload_of}
 use Rattle.homeo_rules.proofs.SizesAlong.{SizesSo}
 use Rattle.homeo_rules.proofs.sizes.check_sizes.Given as goal
 

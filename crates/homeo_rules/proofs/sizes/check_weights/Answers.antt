@@ -1,4 +1,4 @@
-use Rattle.homeo_rules.specs.Sizes.{workload_of}
+use Rattle.homeo_rules.specs.inner.Sizes.{workload_of}
 use Rattle.homeo_rules.proofs.WeightsAlong.{weights_begin, weights_step, weights_end}
 use Rattle.homeo_rules.proofs.sizes.check_weights.Goals as goal
 

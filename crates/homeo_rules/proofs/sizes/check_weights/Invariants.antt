@@ -1,4 +1,4 @@
-use Rattle.homeo_rules.specs.Sizes.{workload_of}
+use Rattle.homeo_rules.specs.inner.Sizes.{workload_of}
 use Rattle.homeo_rules.proofs.WeightsAlong.{WeightsSo}
 use Rattle.homeo_rules.proofs.sizes.check_weights.Given as goal
 

@@ -1,5 +1,5 @@
-use Rattle.homeo_rules.specs.Sited.{sited}
-use Rattle.homeo_rules.specs.Sizes.{workload_of}
+use Rattle.homeo_rules.specs.inner.Sited.{sited}
+use Rattle.homeo_rules.specs.inner.Sizes.{workload_of}
 use Rattle.homeo_rules.proofs.Measured.{measured-after, past-all}
 use Rattle.homeo_rules.proofs.sizes.measure_after.Goals as goal
 

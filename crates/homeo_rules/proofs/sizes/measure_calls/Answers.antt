@@ -1,6 +1,6 @@
 use Rattle.std.proofs.Common.{◌∙◌, ◌+◌, ap, min}
 use Rattle.homeo_size.specs.declared.steps.Measure.{Measure}
-use Rattle.homeo_rules.specs.Sizes.{workload_of}
+use Rattle.homeo_rules.specs.inner.Sizes.{workload_of}
 use Rattle.homeo_rules.proofs.CallsMeasured.{measuring_step}
 use Rattle.homeo_rules.proofs.sizes.measure_calls.Goals as goal
 

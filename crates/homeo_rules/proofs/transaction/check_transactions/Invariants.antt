@@ -1,8 +1,8 @@
 use Rattle.std.proofs.Common.{◌≡◌, drop}
-use Rattle.homeo_rules.specs.Callers.{transaction_faults_of}
-use Rattle.homeo_rules.specs.Listwise.{along_all}
-use Rattle.homeo_rules.specs.Scopes.{scope_in}
-use Rattle.homeo_rules.specs.Within.{AreNamed}
+use Rattle.homeo_rules.specs.inner.Callers.{transaction_faults_of}
+use Rattle.homeo_rules.specs.inner.Listwise.{along_all}
+use Rattle.homeo_rules.specs.inner.Scopes.{scope_in}
+use Rattle.homeo_rules.specs.inner.Within.{AreNamed}
 use Rattle.homeo_rules.proofs.transaction.check_transactions.Given as goal
 
 abbrev pub invariant-loop-t : goal.invariant-loop-t

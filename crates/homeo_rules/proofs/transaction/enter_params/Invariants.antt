@@ -1,6 +1,6 @@
 use Rattle.std.proofs.Common.{◌≡◌, drop}
-use Rattle.homeo_rules.specs.Params.{enter_params}
-use Rattle.homeo_rules.specs.Scopes.{scope_in}
+use Rattle.homeo_rules.specs.inner.Params.{enter_params}
+use Rattle.homeo_rules.specs.inner.Scopes.{scope_in}
 use Rattle.homeo_rules.proofs.transaction.enter_params.Given as goal
 
 abbrev pub invariant-loop-d : goal.invariant-loop-d

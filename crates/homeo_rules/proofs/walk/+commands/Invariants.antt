@@ -1,7 +1,7 @@
 use Rattle.std.proofs.Common.{◌≡◌, drop}
-use Rattle.homeo_rules.specs.Along.{along_commands}
-use Rattle.homeo_rules.specs.InForce.{rows_of}
-use Rattle.homeo_rules.specs.Scopes.{scope_in}
+use Rattle.homeo_rules.specs.inner.Along.{along_commands}
+use Rattle.homeo_rules.specs.inner.InForce.{rows_of}
+use Rattle.homeo_rules.specs.inner.Scopes.{scope_in}
 use Rattle.homeo_rules.proofs.walk.+commands.Given as goal
 
 abbrev pub invariant-walk_commands-loop-c : goal.invariant-walk_commands-loop-c

@@ -1,7 +1,7 @@
 use Rattle.std.proofs.Common.{◌≡◌, drop}
-use Rattle.homeo_rules.specs.Along.{along_exprs, along_tests}
-use Rattle.homeo_rules.specs.InForce.{rows_of}
-use Rattle.homeo_rules.specs.Scopes.{scope_in}
+use Rattle.homeo_rules.specs.inner.Along.{along_exprs, along_tests}
+use Rattle.homeo_rules.specs.inner.InForce.{rows_of}
+use Rattle.homeo_rules.specs.inner.Scopes.{scope_in}
 use Rattle.homeo_rules.proofs.walk.+phrases.Given as goal
 
 abbrev pub invariant-walk_exprs-loop-e : goal.invariant-walk_exprs-loop-e

@@ -1,5 +1,5 @@
-use Rattle.homeo_rules.specs.InForce.{rows_of}
-use Rattle.homeo_rules.specs.Scopes.{scope_in}
+use Rattle.homeo_rules.specs.inner.InForce.{rows_of}
+use Rattle.homeo_rules.specs.inner.Scopes.{scope_in}
 use Rattle.homeo_rules.proofs.Walks.{end-values}
 use Rattle.homeo_rules.proofs.walk.walk_values.Goals as goal
 

@@ -7,7 +7,7 @@ use Rattle.homeo_syntax.specs.declared.phrase.Test.{Test}
 use Rattle.homeo_syntax.specs.declared.phrase.Ident.{Ident}
 use Rattle.homeo_syntax.specs.declared.command.FieldValue.{FieldValue}
 use Rattle.homeo_syntax.specs.declared.command.Command.{Command}
-use Rattle.homeo_rules.specs.Key.{words}
+use Rattle.homeo_rules.specs.inner.Key.{words}
 
 abbrev pub plain_exprs : List Expr → s.Exprs
 unfolding words

@@ -5,7 +5,7 @@ use Rattle.homeo_syntax.specs.SourceView.{plain_transaction}
 use Rattle.homeo_syntax.specs.WellFormed.{Each, IsBelow, EachInCommands}
 use Rattle.homeo_syntax.specs.declared.workload.RangeDecl.{RangeDecl}
 use Rattle.homeo_syntax.specs.declared.workload.Transaction.{Transaction}
-use Rattle.homeo_rules.specs.Key.{words}
+use Rattle.homeo_rules.specs.inner.Key.{words}
 
 abbrev pub IsNamed : ℕ → s.Transaction → Type 0
 unfolding words

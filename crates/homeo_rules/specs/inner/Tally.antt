@@ -9,7 +9,7 @@ use Rattle.homeo_meaning.specs.CallRules.{scheduled}
 use Rattle.homeo_rules.specs.inner.Deciding.{keep_all}
 use Rattle.homeo_meaning.specs.declared.rules.Fault.{Fault}
 use Rattle.homeo_meaning.specs.declared.rules.Item.{Item}
-use Rattle.homeo_rules.specs.Key.{words}
+use Rattle.homeo_rules.specs.inner.Key.{words}
 
 pub record Tally : Type 0 where
   pub counts : List ℕ

@@ -4,7 +4,7 @@ use Rattle.homeo_syntax.specs.declared.workload.RelationDecl.{RelationDecl}
 use Rattle.homeo_meaning.specs.Bindings as b
 use Rattle.homeo_meaning.specs.declared.rules.Item.{Item}
 use Rattle.homeo_rules.specs.declared.scope.Scope.{Scope}
-use Rattle.homeo_rules.specs.Tabled.{fields_at}
+use Rattle.homeo_rules.specs.inner.Tabled.{fields_at}
 
 abbrev pub item_at : List (Option Item) → ℕ → Option Item
 item_at items n = slice_index_or items n None

@@ -6,7 +6,7 @@ use Rattle.homeo_rules.specs.inner.Deciding.{keep_all}
 use Rattle.homeo_meaning.specs.declared.rules.Fault.{Fault}
 use Rattle.homeo_meaning.specs.declared.rules.Phase.TheVariants.{Duplicate}
 use Rattle.homeo_meaning.specs.declared.rules.Item.{Item}
-use Rattle.homeo_rules.specs.Scopes.{item_at}
+use Rattle.homeo_rules.specs.inner.Scopes.{item_at}
 
 pub record Items : Type 0 where
   pub items : List (Option Item)

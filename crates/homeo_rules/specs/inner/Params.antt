@@ -8,7 +8,7 @@ use Rattle.homeo_rules.specs.inner.Deciding.{keep_all}
 use Rattle.homeo_meaning.specs.declared.rules.Phase.TheVariants.{Duplicate}
 use Rattle.homeo_meaning.specs.declared.rules.Local.{Local}
 use Rattle.homeo_meaning.specs.declared.rules.Local.TheVariants as L
-use Rattle.homeo_rules.specs.Follow.{Standing, local_at}
+use Rattle.homeo_rules.specs.inner.Follow.{Standing, local_at}
 
 abbrev pub is_parameter : Local → Bool
 is_parameter L.Parameter = true

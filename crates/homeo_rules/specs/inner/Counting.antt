@@ -7,7 +7,7 @@ use Rattle.homeo_meaning.specs.NumberRules.{Making, relation_making}
 use Rattle.homeo_rules.specs.inner.Deciding.{keep_all}
 use Rattle.homeo_meaning.specs.declared.rules.Fault.{Fault}
 use Rattle.homeo_meaning.specs.declared.rules.Phase.TheVariants.{Limits}
-use Rattle.homeo_rules.specs.Key.{words}
+use Rattle.homeo_rules.specs.inner.Key.{words}
 
 pub record Counted : Type 0 where
   pub count : ℕ

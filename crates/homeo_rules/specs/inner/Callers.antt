@@ -10,7 +10,7 @@ use Rattle.homeo_meaning.specs.Bindings.{Scope}
 use Rattle.homeo_meaning.specs.CallRules.{call_faults, client_faults}
 use Rattle.homeo_meaning.specs.Faults.{of_transaction}
 use Rattle.homeo_meaning.specs.declared.rules.Fault.{Fault}
-use Rattle.homeo_rules.specs.Key.{words}
+use Rattle.homeo_rules.specs.inner.Key.{words}
 
 abbrev pub params_of : Option Transaction → List RangeDecl
 params_of None = []

@@ -12,7 +12,7 @@ use Rattle.homeo_meaning.specs.Faults.{of_relation}
 use Rattle.homeo_meaning.specs.declared.rules.Fault.{Fault}
 use Rattle.homeo_meaning.specs.declared.rules.Item.{Item}
 use Rattle.homeo_meaning.specs.declared.rules.Phase.TheVariants.{Duplicate}
-use Rattle.homeo_rules.specs.Key.{words}
+use Rattle.homeo_rules.specs.inner.Key.{words}
 
 -- a field that an earlier one has the name of
 abbrev pub declared_twice : List RangeDecl → RangeDecl → List Fault

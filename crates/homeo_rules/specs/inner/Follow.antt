@@ -9,7 +9,7 @@ use Rattle.homeo_meaning.specs.declared.rules.Local.{Local}
 use Rattle.homeo_meaning.specs.declared.rules.Local.TheVariants as L
 use Rattle.homeo_meaning.specs.declared.rules.Binding.{Binding}
 use Rattle.homeo_meaning.specs.declared.rules.Binding.TheVariants as B
-use Rattle.homeo_rules.specs.Key.{words}
+use Rattle.homeo_rules.specs.inner.Key.{words}
 
 abbrev pub local_at : List Local → ℕ → Local
 local_at l n = slice_index_or l n L.Absent

@@ -9,9 +9,9 @@ use Rattle.homeo_meaning.specs.Faults.{declared_faults}
 use Rattle.homeo_rules.specs.inner.Deciding.{keep_all}
 use Rattle.homeo_meaning.specs.declared.call.Purpose.{Purpose}
 use Rattle.homeo_meaning.specs.declared.rules.Fault.{Fault}
-use Rattle.homeo_rules.specs.Key.{words}
-use Rattle.homeo_rules.specs.Scopes.{item_at}
-use Rattle.homeo_rules.specs.Items.{Items}
+use Rattle.homeo_rules.specs.inner.Key.{words}
+use Rattle.homeo_rules.specs.inner.Scopes.{item_at}
+use Rattle.homeo_rules.specs.inner.Items.{Items}
 
 -- the table of a workload's global names, and the fault that decides with theirs
 pub record NamesGlobals (w : s.Workload) (t : Items) : Type 0 where
