@@ -131,23 +131,8 @@ second_exists : CallExists example second
 unfolding meaning_words
 second_exists = refl
 
-sale_called : IsGroundCall example 0 (pos 3 ∷ [])
-unfolding meaning_words
-sale_called = record { id = record { client = 0; seq = 1 }; call = sale; made = refl; named = refl; given = refl }
 
--- ---- of each workload that is the example
-pub called : (w : s.Workload) → w ≡ example → IsGroundCall w 0 (pos 3 ∷ [])
-called w e = subst (λ v. IsGroundCall v 0 (pos 3 ∷ [])) (sym e) sale_called
 
-pub exists : (w : s.Workload) → w ≡ example → CallExists w (record { client = 0; seq = 1 })
-exists w e = subst (λ v. CallExists v first) (sym e) first_exists
 
 pub exist : (w : s.Workload) → w ≡ example → All (CallExists w) (record { client = 0; seq = 1 } ∷ record { client = 0; seq = 2 } ∷ [])
 exist w e = subst (λ v. All (CallExists v) (first ∷ second ∷ [])) (sym e) (all_more (CallExists example) first (second ∷ []) first_exists (all_more (CallExists example) second [] second_exists (all_none (CallExists example))))
-
-sells : IsSome (slice_get example.transactions 0)
-sells = refl
-
--- the transaction is there
-pub there : (w : s.Workload) → w ≡ example → IsSome (slice_get w.transactions 0)
-there w e = subst (λ v. IsSome (slice_get v.transactions 0)) (sym e) sells

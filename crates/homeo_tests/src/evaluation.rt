@@ -4,13 +4,11 @@ ghost use Rattle.std.specs.Prelude.{◌≡◌, IfOk};
 ghost use Rattle.homeo_syntax.specs.SourceView.{plain_call, plain_client, plain_expr, plain_transaction, plain_workload};
 ghost use Rattle.homeo_tests.specs.Example.{example, less, sale, cashier, transaction};
 
-use homeo_desugar::desugar;
-use homeo_context::Declarations;
-use homeo_eval::{eval, eval_call, initial, serial};
+use homeo_eval::{initial, serial};
 use homeo_meaning::{Accepted, CallId, GroundCall};
 use homeo_syntax::{
-    Call, Client, Command, Expr, Ident, LCommand, LExpr, List, Memory, Number, ObjectDecl,
-    RangeDecl, SplitName, Text, Transaction, Workload,
+    Call, Client, Command, Expr, Ident, List, Memory, Number, ObjectDecl, RangeDecl, Text,
+    Transaction, Workload,
 };
 use std::alloc::Global;
 use std::test::Fail;
@@ -143,34 +141,6 @@ fn accepted(alloc: Global) -> Result<Accepted, Memory>
 
 // The first sale leaves 2, and the second would leave -1, so it writes nothing.
 #[test]
-fn a_write_outside_the_bounds_changes_nothing(rt: HostRuntime) -> Result<(), Fail> {
-    let alloc = rt.alloc();
-    let w = accepted(alloc)?;
-    let mut database = initial(alloc, &w)?;
-    assert_eq!(rt; database.as_slice(), [5].as_slice());
-    let first = eval(alloc, &w, 0, &[3], &mut database)?;
-    assert_eq!(rt; first.as_slice(), [2].as_slice());
-    assert_eq!(rt; database.as_slice(), [2].as_slice());
-    let second = eval(alloc, &w, 0, &[3], &mut database)?;
-    assert_eq!(rt; second.as_slice(), [2].as_slice());
-    assert_eq!(rt; database.as_slice(), [2].as_slice());
-    Ok(())
-}
-
-#[test]
-fn a_call_is_run_by_its_number(rt: HostRuntime) -> Result<(), Fail> {
-    let alloc = rt.alloc();
-    let w = accepted(alloc)?;
-    let mut database = initial(alloc, &w)?;
-    let numbering = Declarations::of(alloc, &w)?;
-    let call = CallId { client: 0, seq: 1 };
-    let prints = eval_call(alloc, &w, &numbering, call, &mut database)?;
-    assert_eq!(rt; prints.as_slice(), [2].as_slice());
-    assert_eq!(rt; database.as_slice(), [2].as_slice());
-    Ok(())
-}
-
-#[test]
 fn calls_are_run_one_after_another(rt: HostRuntime) -> Result<(), Fail> {
     let alloc = rt.alloc();
     let w = accepted(alloc)?;
@@ -204,37 +174,3 @@ fn a_ground_call_is_copied(rt: HostRuntime) -> Result<(), Fail> {
     Ok(())
 }
 
-// if 0 <= stock - 3 and stock - 3 <= 10 then write(stock = stock - 3) else skip; print(stock)
-#[test]
-fn a_sale_has_its_form(rt: HostRuntime) -> Result<(), Fail> {
-    let alloc = rt.alloc();
-    let w = accepted(alloc)?;
-    let mut args = List::new(alloc);
-    args.push(3)?;
-    let call = GroundCall {
-        transaction: 0,
-        args,
-        site: 0,
-    };
-    let form = desugar(alloc, &call, &w)?;
-    match &form {
-        LCommand::Seq { commands } => match commands.as_slice() {
-            [LCommand::If { test, yes, .. }, LCommand::Print { value }] => {
-                assert!(rt; test.tests.as_slice().len() == 2);
-                assert!(rt;
-                    matches!(
-                        **yes,
-                        LCommand::Write {
-                            target: SplitName::Whole(0),
-                            ..
-                        }
-                    )
-                );
-                assert!(rt; matches!(value, LExpr::Read(SplitName::Whole(0))));
-            }
-            _ => panic!(rt; "two commands"),
-        },
-        _ => panic!(rt; "a sequence"),
-    }
-    Ok(())
-}

@@ -1,4 +1,4 @@
-//! A text that is read, printed, and read again.
+//! A text that is read, copied, printed, and read again.
 
 use homeo_print::print;
 use homeo_reader::read;
@@ -7,11 +7,12 @@ use std::alloc::Global;
 use std::process::Abort;
 use std::test::Fail;
 
+/// Every command and every expression, laid out as no one would.
 const CROWDED: &str =
-    "workload 01 sites 2 object stock in - 0..010=5\ntransaction sell(n in 1..3){left:=((read(stock)));if not(n<=left+-(1+1))and true then{write(stock=left-(n)*2);print(-1)}else skip}\nclient shop at 0{sell(2);sell(1)}schedule shop shop end";
+    "workload 01 sites 2 object stock in - 0..010=5 relation orders[2](amount in 0..5,paid in 0..1)\ntransaction sell(n in 1..3){left:=((read(stock)));if not(n<=left+-(1+1))and true then{write(stock=left-(n)*2);print(-1)}else skip}\ntransaction all(n in 1..3){insert orders(paid=0,amount=n)into p;orders[p-1].paid:=1;print(orders[(p-1)].amount);foreach o of orders when o.paid=1{o.amount:=5;print(count(q of orders when q.amount=o.amount))};update o of orders when not(o.paid=1)set amount=o.amount-1;print(sum(o.amount of orders when true));delete o of orders when o.paid=1}\nclient shop at 0{sell(2);sell(1);all(3)}schedule shop shop shop end";
 
 const PRINTED: &str =
-    "workload 1\nsites 2\nobject stock in 0..10 = 5\ntransaction sell(n in 1..3) { left := read(stock); if not (n <= left - (1 + 1)) and true then { write(stock = left - n * 2); print(-1) } else skip }\nclient shop at 0 { sell(2); sell(1) }\nschedule shop shop\nend\n";
+    "workload 1\nsites 2\nobject stock in 0..10 = 5\nrelation orders[2] (amount in 0..5, paid in 0..1)\ntransaction sell(n in 1..3) { left := read(stock); if not (n <= left - (1 + 1)) and true then { write(stock = left - n * 2); print(-1) } else skip }\ntransaction all(n in 1..3) { insert orders(paid = 0, amount = n) into p; orders[p - 1].paid := 1; print(orders[p - 1].amount); foreach o of orders when o.paid = 1 { o.amount := 5; print(count(q of orders when q.amount = o.amount)) }; update o of orders when not (o.paid = 1) set amount = o.amount - 1; print(sum(o.amount of orders when true)); delete o of orders when o.paid = 1 }\nclient shop at 0 { sell(2); sell(1); all(3) }\nschedule shop shop shop\nend\n";
 
 fn read_back(rt: &impl Abort, alloc: Global, text: &[u8]) -> Workload {
     assert!(rt; text.len() <= 1_048_576);
@@ -22,12 +23,13 @@ fn read_back(rt: &impl Abort, alloc: Global, text: &[u8]) -> Workload {
 }
 
 #[test]
-fn what_is_printed_reads_back(rt: HostRuntime) -> Result<(), Fail> {
+fn what_is_copied_and_printed_reads_back(rt: HostRuntime) -> Result<(), Fail> {
     let alloc = rt.alloc();
-    let first = print(alloc, &read_back(&rt, alloc, CROWDED.as_bytes()))?;
+    let workload = read_back(&rt, alloc, CROWDED.as_bytes());
+    let first = print(alloc, &workload.copy(alloc)?)?;
     assert_eq!(rt; first.as_slice(), PRINTED.as_bytes());
     let workload = read_back(&rt, alloc, first.as_slice());
-    let second = print(alloc, &workload.copy(alloc)?)?;
+    let second = print(alloc, &workload)?;
     assert_eq!(rt; second.as_slice(), PRINTED.as_bytes());
     Ok(())
 }
