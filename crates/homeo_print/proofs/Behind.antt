@@ -13,17 +13,17 @@ use Rattle.homeo_syntax.specs.declared.workload.RangeDecl.{RangeDecl}
 use Rattle.homeo_syntax.specs.declared.workload.Call.{Call}
 use Rattle.homeo_syntax.specs.Source as s
 use Rattle.homeo_syntax.specs.SourceView.{plain_expr, plain_test, plain_field, plain_command, plain_call}
-use Rattle.homeo_print.specs.declared.phrases.Place.TheVariants as place
+use Rattle.homeo_print.specs.declared.phrases.Position.TheVariants as position
 use Rattle.homeo_print.specs.Key.{words}
 use Rattle.homeo_print.specs.TokensOf.{Kinds, AsFactor, expr_at, test_kinds, setting_kinds, command_kinds, decl_kinds, number_of, call_kinds}
-use Rattle.homeo_print.specs.Walk.{expr_in, sign_of}
+use Rattle.homeo_print.specs.inner.Walk.{expr_in, sign_of}
 
 -- each item behind a mark
 abbrev pub led_items : {X : Type 0} → Mark → (X → Kinds) → List X → Kinds
 led_items m f xs = flat_map (λ x. kind.Fixed m ∷ f x) xs
 
 abbrev pub later_term : s.Expr → Kinds
-later_term e = kind.Fixed (sign_of e) ∷ expr_in place.Signed e
+later_term e = kind.Fixed (sign_of e) ∷ expr_in position.Signed e
 
 abbrev pub terms_behind : List Expr → Kinds
 unfolding words

@@ -12,16 +12,16 @@ use Rattle.homeo_syntax.specs.declared.phrase.Cond.{Cond}
 use Rattle.homeo_syntax.specs.declared.command.FieldValue.{FieldValue}
 use Rattle.homeo_syntax.specs.declared.command.Command.{Command, Skip, Assign, Write, Print, If, Block, SetField, SetRow, Foreach, Insert, Delete, Update}
 use Rattle.homeo_syntax.proofs.SourceViews as v
-use Rattle.homeo_print.specs.declared.phrases.Place.TheVariants as place
+use Rattle.homeo_print.specs.declared.phrases.Position.TheVariants as position
 use Rattle.homeo_print.specs.Key.{words}
 use Rattle.homeo_print.specs.TokensOf.{Kinds, mark_of, led, separated, cond_kinds, setting_kinds, rows_kinds, command_kinds, commands_kinds, later_commands}
-use Rattle.homeo_print.specs.Walk.{expr_in, row_field, chosen_of}
+use Rattle.homeo_print.specs.inner.Walk.{expr_in, row_field, chosen_of}
 use Rattle.homeo_print.proofs.Behind.{led_items, settings_behind, commands_behind}
 use Rattle.homeo_print.proofs.Listed.{flat_more}
 
 -- an expression by itself
 abbrev pub whole : Expr → Kinds
-whole e = expr_in place.Alone (plain_expr e)
+whole e = expr_in position.Alone (plain_expr e)
 
 -- ---- what stands behind a name that is set
 pub setting_is : (f : FieldValue) → setting_kinds (plain_field f) ≡ kind.Name f.field.name ∷ kind.Fixed mark.Equal ∷ whole f.value

@@ -13,7 +13,7 @@ use Rattle.homeo_syntax.specs.declared.workload.Workload.{Workload}
 use Rattle.homeo_print.specs.Print.{print}
 use Rattle.homeo_print.specs.TokensOf.{workload_kinds}
 use Rattle.homeo_print.specs.Key.{words}
-use Rattle.homeo_print.specs.Pieces.{kind_of}
+use Rattle.homeo_print.specs.inner.Pieces.{kind_of}
 use Rattle.homeo_print.specs.Layout.{token_text, sort_of, gap, after, laid, printed}
 
 pub laid_first : (names : List (List ℕ)) (ks : List Kind) → printed names ks ≡ laid names before.Tight ks

@@ -12,11 +12,12 @@ use Rattle.homeo_syntax.specs.declared.token.Kind.{Kind}
 use Rattle.homeo_syntax.specs.declared.token.Kind.TheVariants as kind
 use Rattle.homeo_syntax.specs.Lexemes.{Name, Number, Fixed, is_letter, is_digit, is_word, value_after, number_value, look_up, reserved, double_symbols, single_symbols, longest, symbol_lexeme, word_as, word_lexeme, number_lexeme, lexeme_of}
 use Rattle.homeo_syntax.specs.WellFormed.{IsName, BeginsWithLetter}
+use Rattle.homeo_syntax.specs.Marks.{mark_text}
 use Rattle.homeo_print.specs.declared.layout.Before.{Before}
 use Rattle.homeo_print.specs.declared.layout.Before.TheVariants as before
 use Rattle.homeo_print.specs.Key.{words}
 use Rattle.homeo_print.specs.Printed.{lexeme_in, CanStand}
-use Rattle.homeo_print.specs.Layout.{mark_text, token_text, mark_sort, sort_of, after}
+use Rattle.homeo_print.specs.Layout.{token_text, mark_sort, sort_of, after}
 
 -- ---- bytes that would go on with what stands before
 abbrev pub in_word : ℕ → Bool

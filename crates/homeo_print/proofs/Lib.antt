@@ -15,5 +15,4 @@ pub mod PhraseSteps
 pub mod PhrasesBack
 pub mod ReadingBack
 pub mod Scanning
-pub mod Spelled
 pub mod TestsBack

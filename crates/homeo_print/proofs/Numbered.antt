@@ -13,91 +13,10 @@ use Rattle.homeo_syntax.specs.Lexemes.{Lexeme, Name, Number, Fixed}
 use Rattle.homeo_syntax.specs.Tokens.{Scanned, with_name, with_lexeme, names_after, names_of, place_of, kind_in, tokens_in}
 use Rattle.homeo_syntax.specs.Rules.{is_natural_value}
 use Rattle.homeo_syntax.specs.WellFormed.{IsName, Each}
+use Rattle.homeo_syntax.proofs.Spelling.{IsSpelled, AllSpelled}
+use Rattle.homeo_syntax.proofs.Names.{InAll, AllIn, all_among, place_below, at_place}
 use Rattle.homeo_print.specs.Printed.{lexeme_in, CanStand}
 use Rattle.homeo_print.proofs.Atoms.{kinds_of, with_atom, atoms, Natural, Fine}
-use Rattle.homeo_print.proofs.Spelled.{LexemeOk, ScannedOk}
-
--- ---- each name of a text is among its names
-differ : true ≡ false → ⊥
-differ e = cc
-
-bytes_same : (w : List ℕ) → bytes_eq w w ≡ true
-bytes_same w = (bytes_eq-Decides w w).1 refl
-
-or_later : (b c : Bool) → c ≡ true → (b || c) ≡ true
-or_later true c h = refl
-or_later false c h = h
-
-any_last : (w : List ℕ) (names : List (List ℕ)) → list_any (bytes_eq w) (names ++ w ∷ []) ≡ true
-any_last w [] = ap (λ (b : Bool). b || false) (bytes_same w)
-any_last w (n ∷ names) = or_later (bytes_eq w n) _ (any_last w names)
-
-or_more : (b c d : Bool) → (b || c) ≡ true → (c ≡ true → d ≡ true) → (b || d) ≡ true
-or_more true c d h k = refl
-or_more false c d h k = k h
-
-any_more : (w : List ℕ) (names more : List (List ℕ)) → list_any (bytes_eq w) names ≡ true → list_any (bytes_eq w) (names ++ more) ≡ true
-any_more w [] more h = absurd (differ (sym h))
-any_more w (n ∷ names) more h = or_more (bytes_eq w n) (list_any (bytes_eq w) names) _ h (λ e. any_more w names more e)
-
-any_put : (names : List (List ℕ)) (w : List ℕ) → list_any (bytes_eq w) (with_name names w) ≡ true
-any_put names w = go (list_any (bytes_eq w) names) refl
-  where
-    go : (b : Bool) → list_any (bytes_eq w) names ≡ b → list_any (bytes_eq w) (if b then names else names ++ w ∷ []) ≡ true
-    go true e = e
-    go false e = any_last w names
-
-any_name : (w v : List ℕ) (names : List (List ℕ)) → list_any (bytes_eq w) names ≡ true → list_any (bytes_eq w) (with_name names v) ≡ true
-any_name w v names h = go (list_any (bytes_eq v) names)
-  where
-    go : (b : Bool) → list_any (bytes_eq w) (if b then names else names ++ v ∷ []) ≡ true
-    go true = h
-    go false = any_more w names (v ∷ []) h
-
-any_lexeme : (w : List ℕ) (l : Lexeme) (names : List (List ℕ)) → list_any (bytes_eq w) names ≡ true → list_any (bytes_eq w) (with_lexeme names l) ≡ true
-any_lexeme w (Name v) names h = any_name w v names h
-any_lexeme w (Number n) names h = h
-any_lexeme w (Fixed m) names h = h
-
-any_after : (w : List ℕ) (ts : List Scanned) (names : List (List ℕ)) → list_any (bytes_eq w) names ≡ true → list_any (bytes_eq w) (names_after names ts) ≡ true
-any_after w [] names h = h
-any_after w (t ∷ ts) names h = any_after w ts (with_lexeme names t.lexeme) (any_lexeme w t.lexeme names h)
-
-abbrev InAll : List (List ℕ) → Lexeme → Type 0
-InAll all (Name w) = list_any (bytes_eq w) all ≡ true
-InAll all (Number n) = Unit {0}
-InAll all (Fixed m) = Unit {0}
-
-abbrev AllIn : List (List ℕ) → List Scanned → Type 0
-AllIn all [] = Unit {0}
-AllIn all (t ∷ ts) = InAll all t.lexeme × AllIn all ts
-
-among : (l : Lexeme) (ts : List Scanned) (names : List (List ℕ)) → InAll (names_after (with_lexeme names l) ts) l
-among (Name w) ts names = any_after w ts (with_name names w) (any_put names w)
-among (Number n) ts names = tt
-among (Fixed m) ts names = tt
-
-all_among : (ts : List Scanned) (names : List (List ℕ)) → AllIn (names_after names ts) ts
-all_among [] names = tt
-all_among (t ∷ ts) names = (among t.lexeme ts names, all_among ts (with_lexeme names t.lexeme))
-
--- ---- places
-below_more : (b c : Bool) (m n : ℕ) → (b || c) ≡ true → (c ≡ true → m < n) → cond (not b) (1 + m) 0 < suc n
-below_more true c m n h k = omega arith
-below_more false c m n h k = let less = k h in omega arith
-
-place_below : (w : List ℕ) (names : List (List ℕ)) → list_any (bytes_eq w) names ≡ true → place_of names w < length names
-place_below w [] h = absurd (differ (sym h))
-place_below w (n ∷ names) h = below_more (bytes_eq w n) (list_any (bytes_eq w) names) (place_of names w) (length names) h (λ e. place_below w names e)
-
-found_there : (w n : List ℕ) (names : List (List ℕ)) (b c : Bool) (m : ℕ) → bytes_eq w n ≡ b → (b || c) ≡ true → (c ≡ true → get_or names m [] ≡ w) → get_or (n ∷ names) (cond (not b) (1 + m) 0) [] ≡ w
-found_there w n names true c m e h k = sym ((bytes_eq-Decides w n).0 e)
-found_there w n names false c m e h k = let more : 1 + m ≡ suc m = omega arith in ap (λ (i : ℕ). get_or (n ∷ names) i []) more ∙ k h
-
--- what stands at the place of a name is the name
-at_place : (w : List ℕ) (names : List (List ℕ)) → list_any (bytes_eq w) names ≡ true → get_or names (place_of names w) [] ≡ w
-at_place w [] h = absurd (differ (sym h))
-at_place w (n ∷ names) h = found_there w n names (bytes_eq w n) (list_any (bytes_eq w) names) (place_of names w) refl h (λ e. at_place w names e)
 
 -- ---- lexemes and kinds
 pub lexeme_again : (names : List (List ℕ)) (l : Lexeme) → InAll names l → lexeme_in names (kind_in names l) ≡ l
@@ -110,7 +29,7 @@ pub record Stands (names : List (List ℕ)) (k : Kind) : Type 0 where
   pub again : kind_in names (lexeme_in names k) ≡ k
   pub can : CanStand names k
 
-lexeme_stands : (names : List (List ℕ)) (l : Lexeme) → InAll names l → LexemeOk l → CanStand names (kind_in names l)
+lexeme_stands : (names : List (List ℕ)) (l : Lexeme) → InAll names l → IsSpelled l → CanStand names (kind_in names l)
 lexeme_stands names (Name w) h k = (place_below w names h, subst IsName (sym (at_place w names h)) k)
 lexeme_stands names (Number n) h k = k
 lexeme_stands names (Fixed m) h k = tt
@@ -118,14 +37,14 @@ lexeme_stands names (Fixed m) h k = tt
 pub mark_stands : (names : List (List ℕ)) (m : Mark) → Stands names (kind.Fixed m)
 mark_stands names m = record { again = refl; can = tt }
 
-each_stands : (names : List (List ℕ)) (ts : List Scanned) → AllIn names ts → ScannedOk ts → Each (Stands names) (kinds_of (tokens_in names ts))
+each_stands : (names : List (List ℕ)) (ts : List Scanned) → AllIn names ts → AllSpelled ts → Each (Stands names) (kinds_of (tokens_in names ts))
 unfolding syntax_words
 each_stands names [] h k = tt
 each_stands names (t ∷ ts) h k =
     (record { again = ap (kind_in names) (lexeme_again names t.lexeme h.0); can = lexeme_stands names t.lexeme h.0 k.0 }, each_stands names ts h.1 k.1)
 
 -- the tokens of a text
-pub text_stands : (ts : List Scanned) → ScannedOk ts → Each (Stands (names_of ts)) (kinds_of (tokens_in (names_of ts) ts))
+pub text_stands : (ts : List Scanned) → AllSpelled ts → Each (Stands (names_of ts)) (kinds_of (tokens_in (names_of ts) ts))
 text_stands ts k = each_stands (names_of ts) ts (all_among ts []) k
 
 natural : (names : List (List ℕ)) (k : Kind) → CanStand names k → Natural k

@@ -12,12 +12,12 @@ use Rattle.homeo_syntax.specs.declared.phrase.Expr.{Expr, Literal, Name, Read, S
 use Rattle.homeo_syntax.specs.declared.phrase.Test.{Test, True, Not, Compare}
 use Rattle.homeo_syntax.specs.declared.phrase.Cond.{Cond, out-Cond}
 use Rattle.homeo_syntax.proofs.SourceViews as v
-use Rattle.homeo_print.specs.declared.phrases.Place.{Place}
-use Rattle.homeo_print.specs.declared.phrases.Place.TheVariants as place
+use Rattle.homeo_print.specs.declared.phrases.Position.{Position}
+use Rattle.homeo_print.specs.declared.phrases.Position.TheVariants as position
 use Rattle.homeo_print.specs.Key.{words}
 use Rattle.homeo_print.specs.TokensOf.{Alone, AsTerm, AsFactor, name_of, mark_of, value_of, comparison_mark, expr_at, sum_kinds, later_terms, product_kinds, later_factors, test_kinds, cond_kinds, later_tests}
 use Rattle.homeo_print.proofs.Listed.{flat_more}
-use Rattle.homeo_print.specs.Walk.{expr_in, sign_of, row_field, chosen_of}
+use Rattle.homeo_print.specs.inner.Walk.{expr_in, sign_of, row_field, chosen_of}
 use Rattle.homeo_print.proofs.Behind.{later_term, terms_behind, factors_behind, tests_behind}
 
 -- ---- signs
@@ -61,116 +61,116 @@ pub sign_Total : (row field relation : Ident) (test : Cond) → sign_of (plain_e
 unfolding words
 sign_Total row field relation test = ap sign_of (v.plain_Total row field relation test)
 
--- ---- expressions at a place
--- a place with a level of its own is that level
-pub alone : (e : s.Expr) → expr_at Alone e ≡ expr_in place.Alone e
+-- ---- expressions at a position
+-- a position with a level of its own is that level
+pub alone : (e : s.Expr) → expr_at Alone e ≡ expr_in position.Alone e
 unfolding words
 alone e = refl
 
-pub as_term : (e : s.Expr) → expr_at AsTerm e ≡ expr_in place.AsTerm e
+pub as_term : (e : s.Expr) → expr_at AsTerm e ≡ expr_in position.AsTerm e
 unfolding words
 as_term e = refl
 
-pub as_factor : (e : s.Expr) → expr_at AsFactor e ≡ expr_in place.AsFactor e
+pub as_factor : (e : s.Expr) → expr_at AsFactor e ≡ expr_in position.AsFactor e
 unfolding words
 as_factor e = refl
 
-pub in_Literal : (p : Place) (n : ℤ) → expr_in p (plain_expr (Literal n)) ≡ value_of n
+pub in_Literal : (p : Position) (n : ℤ) → expr_in p (plain_expr (Literal n)) ≡ value_of n
 unfolding words
-in_Literal place.Alone n = ap (expr_in place.Alone) (v.plain_Literal n)
-in_Literal place.AsTerm n = ap (expr_in place.AsTerm) (v.plain_Literal n)
-in_Literal place.AsFactor n = ap (expr_in place.AsFactor) (v.plain_Literal n)
-in_Literal place.Signed n = ap (expr_in place.Signed) (v.plain_Literal n)
+in_Literal position.Alone n = ap (expr_in position.Alone) (v.plain_Literal n)
+in_Literal position.AsTerm n = ap (expr_in position.AsTerm) (v.plain_Literal n)
+in_Literal position.AsFactor n = ap (expr_in position.AsFactor) (v.plain_Literal n)
+in_Literal position.Signed n = ap (expr_in position.Signed) (v.plain_Literal n)
 
-pub in_Name : (p : Place) (x : Ident) → expr_in p (plain_expr (Name x)) ≡ name_of x
+pub in_Name : (p : Position) (x : Ident) → expr_in p (plain_expr (Name x)) ≡ name_of x
 unfolding words
-in_Name place.Alone x = ap (expr_in place.Alone) (v.plain_Name x)
-in_Name place.AsTerm x = ap (expr_in place.AsTerm) (v.plain_Name x)
-in_Name place.AsFactor x = ap (expr_in place.AsFactor) (v.plain_Name x)
-in_Name place.Signed x = ap (expr_in place.Signed) (v.plain_Name x)
+in_Name position.Alone x = ap (expr_in position.Alone) (v.plain_Name x)
+in_Name position.AsTerm x = ap (expr_in position.AsTerm) (v.plain_Name x)
+in_Name position.AsFactor x = ap (expr_in position.AsFactor) (v.plain_Name x)
+in_Name position.Signed x = ap (expr_in position.Signed) (v.plain_Name x)
 
-pub in_Read : (p : Place) (x : Ident) → expr_in p (plain_expr (Read x)) ≡ kind.Fixed mark.Read ∷ kind.Fixed mark.Open ∷ kind.Name x.name ∷ kind.Fixed mark.Close ∷ []
+pub in_Read : (p : Position) (x : Ident) → expr_in p (plain_expr (Read x)) ≡ kind.Fixed mark.Read ∷ kind.Fixed mark.Open ∷ kind.Name x.name ∷ kind.Fixed mark.Close ∷ []
 unfolding words
-in_Read place.Alone x = ap (expr_in place.Alone) (v.plain_Read x)
-in_Read place.AsTerm x = ap (expr_in place.AsTerm) (v.plain_Read x)
-in_Read place.AsFactor x = ap (expr_in place.AsFactor) (v.plain_Read x)
-in_Read place.Signed x = ap (expr_in place.Signed) (v.plain_Read x)
+in_Read position.Alone x = ap (expr_in position.Alone) (v.plain_Read x)
+in_Read position.AsTerm x = ap (expr_in position.AsTerm) (v.plain_Read x)
+in_Read position.AsFactor x = ap (expr_in position.AsFactor) (v.plain_Read x)
+in_Read position.Signed x = ap (expr_in position.Signed) (v.plain_Read x)
 
-pub in_Sum_Alone : (es : Listed Expr) → expr_in place.Alone (plain_expr (Sum es)) ≡ sum_kinds (exprs (map plain_expr es.items))
+pub in_Sum_Alone : (es : Listed Expr) → expr_in position.Alone (plain_expr (Sum es)) ≡ sum_kinds (exprs (map plain_expr es.items))
 unfolding words
-in_Sum_Alone es = ap (expr_in place.Alone) (v.plain_Sum es)
+in_Sum_Alone es = ap (expr_in position.Alone) (v.plain_Sum es)
 
-pub in_Sum_AsTerm : (es : Listed Expr) → expr_in place.AsTerm (plain_expr (Sum es)) ≡ kind.Fixed mark.Open ∷ (sum_kinds (exprs (map plain_expr es.items)) ++ kind.Fixed mark.Close ∷ [])
+pub in_Sum_AsTerm : (es : Listed Expr) → expr_in position.AsTerm (plain_expr (Sum es)) ≡ kind.Fixed mark.Open ∷ (sum_kinds (exprs (map plain_expr es.items)) ++ kind.Fixed mark.Close ∷ [])
 unfolding words
-in_Sum_AsTerm es = ap (expr_in place.AsTerm) (v.plain_Sum es)
+in_Sum_AsTerm es = ap (expr_in position.AsTerm) (v.plain_Sum es)
 
-pub in_Sum_AsFactor : (es : Listed Expr) → expr_in place.AsFactor (plain_expr (Sum es)) ≡ kind.Fixed mark.Open ∷ (sum_kinds (exprs (map plain_expr es.items)) ++ kind.Fixed mark.Close ∷ [])
+pub in_Sum_AsFactor : (es : Listed Expr) → expr_in position.AsFactor (plain_expr (Sum es)) ≡ kind.Fixed mark.Open ∷ (sum_kinds (exprs (map plain_expr es.items)) ++ kind.Fixed mark.Close ∷ [])
 unfolding words
-in_Sum_AsFactor es = ap (expr_in place.AsFactor) (v.plain_Sum es)
+in_Sum_AsFactor es = ap (expr_in position.AsFactor) (v.plain_Sum es)
 
-pub in_Sum_Signed : (es : Listed Expr) → expr_in place.Signed (plain_expr (Sum es)) ≡ kind.Fixed mark.Open ∷ (sum_kinds (exprs (map plain_expr es.items)) ++ kind.Fixed mark.Close ∷ [])
+pub in_Sum_Signed : (es : Listed Expr) → expr_in position.Signed (plain_expr (Sum es)) ≡ kind.Fixed mark.Open ∷ (sum_kinds (exprs (map plain_expr es.items)) ++ kind.Fixed mark.Close ∷ [])
 unfolding words
-in_Sum_Signed es = ap (expr_in place.Signed) (v.plain_Sum es)
+in_Sum_Signed es = ap (expr_in position.Signed) (v.plain_Sum es)
 
-pub in_Product_Alone : (es : Listed Expr) → expr_in place.Alone (plain_expr (Product es)) ≡ product_kinds (exprs (map plain_expr es.items))
+pub in_Product_Alone : (es : Listed Expr) → expr_in position.Alone (plain_expr (Product es)) ≡ product_kinds (exprs (map plain_expr es.items))
 unfolding words
-in_Product_Alone es = ap (expr_in place.Alone) (v.plain_Product es)
+in_Product_Alone es = ap (expr_in position.Alone) (v.plain_Product es)
 
-pub in_Product_AsTerm : (es : Listed Expr) → expr_in place.AsTerm (plain_expr (Product es)) ≡ product_kinds (exprs (map plain_expr es.items))
+pub in_Product_AsTerm : (es : Listed Expr) → expr_in position.AsTerm (plain_expr (Product es)) ≡ product_kinds (exprs (map plain_expr es.items))
 unfolding words
-in_Product_AsTerm es = ap (expr_in place.AsTerm) (v.plain_Product es)
+in_Product_AsTerm es = ap (expr_in position.AsTerm) (v.plain_Product es)
 
-pub in_Product_AsFactor : (es : Listed Expr) → expr_in place.AsFactor (plain_expr (Product es)) ≡ kind.Fixed mark.Open ∷ (product_kinds (exprs (map plain_expr es.items)) ++ kind.Fixed mark.Close ∷ [])
+pub in_Product_AsFactor : (es : Listed Expr) → expr_in position.AsFactor (plain_expr (Product es)) ≡ kind.Fixed mark.Open ∷ (product_kinds (exprs (map plain_expr es.items)) ++ kind.Fixed mark.Close ∷ [])
 unfolding words
-in_Product_AsFactor es = ap (expr_in place.AsFactor) (v.plain_Product es)
+in_Product_AsFactor es = ap (expr_in position.AsFactor) (v.plain_Product es)
 
-pub in_Product_Signed : (es : Listed Expr) → expr_in place.Signed (plain_expr (Product es)) ≡ product_kinds (exprs (map plain_expr es.items))
+pub in_Product_Signed : (es : Listed Expr) → expr_in position.Signed (plain_expr (Product es)) ≡ product_kinds (exprs (map plain_expr es.items))
 unfolding words
-in_Product_Signed es = ap (expr_in place.Signed) (v.plain_Product es)
+in_Product_Signed es = ap (expr_in position.Signed) (v.plain_Product es)
 
-pub in_Neg_Alone : (e : Box Expr Global) → expr_in place.Alone (plain_expr (Neg e)) ≡ kind.Fixed mark.Minus ∷ expr_in place.AsFactor (plain_expr e.value)
+pub in_Neg_Alone : (e : Box Expr Global) → expr_in position.Alone (plain_expr (Neg e)) ≡ kind.Fixed mark.Minus ∷ expr_in position.AsFactor (plain_expr e.value)
 unfolding words
-in_Neg_Alone e = ap (expr_in place.Alone) (v.plain_Neg e) ∙ ap (λ ks. kind.Fixed mark.Minus ∷ ks) (as_factor (plain_expr e.value))
+in_Neg_Alone e = ap (expr_in position.Alone) (v.plain_Neg e) ∙ ap (λ ks. kind.Fixed mark.Minus ∷ ks) (as_factor (plain_expr e.value))
 
-pub in_Neg_AsTerm : (e : Box Expr Global) → expr_in place.AsTerm (plain_expr (Neg e)) ≡ kind.Fixed mark.Minus ∷ expr_in place.AsFactor (plain_expr e.value)
+pub in_Neg_AsTerm : (e : Box Expr Global) → expr_in position.AsTerm (plain_expr (Neg e)) ≡ kind.Fixed mark.Minus ∷ expr_in position.AsFactor (plain_expr e.value)
 unfolding words
-in_Neg_AsTerm e = ap (expr_in place.AsTerm) (v.plain_Neg e) ∙ ap (λ ks. kind.Fixed mark.Minus ∷ ks) (as_factor (plain_expr e.value))
+in_Neg_AsTerm e = ap (expr_in position.AsTerm) (v.plain_Neg e) ∙ ap (λ ks. kind.Fixed mark.Minus ∷ ks) (as_factor (plain_expr e.value))
 
-pub in_Neg_AsFactor : (e : Box Expr Global) → expr_in place.AsFactor (plain_expr (Neg e)) ≡ kind.Fixed mark.Minus ∷ expr_in place.AsFactor (plain_expr e.value)
+pub in_Neg_AsFactor : (e : Box Expr Global) → expr_in position.AsFactor (plain_expr (Neg e)) ≡ kind.Fixed mark.Minus ∷ expr_in position.AsFactor (plain_expr e.value)
 unfolding words
-in_Neg_AsFactor e = ap (expr_in place.AsFactor) (v.plain_Neg e) ∙ ap (λ ks. kind.Fixed mark.Minus ∷ ks) (as_factor (plain_expr e.value))
+in_Neg_AsFactor e = ap (expr_in position.AsFactor) (v.plain_Neg e) ∙ ap (λ ks. kind.Fixed mark.Minus ∷ ks) (as_factor (plain_expr e.value))
 
-pub in_Neg_Signed : (e : Box Expr Global) → expr_in place.Signed (plain_expr (Neg e)) ≡ expr_in place.AsTerm (plain_expr e.value)
+pub in_Neg_Signed : (e : Box Expr Global) → expr_in position.Signed (plain_expr (Neg e)) ≡ expr_in position.AsTerm (plain_expr e.value)
 unfolding words
-in_Neg_Signed e = ap (expr_in place.Signed) (v.plain_Neg e) ∙ as_term (plain_expr e.value)
+in_Neg_Signed e = ap (expr_in position.Signed) (v.plain_Neg e) ∙ as_term (plain_expr e.value)
 
-pub in_Field : (p : Place) (relation : Ident) (index : Box Expr Global) (field : Ident) → expr_in p (plain_expr (Field relation index field)) ≡ kind.Name relation.name ∷ kind.Fixed mark.OpenBracket ∷ (expr_in place.Alone (plain_expr index.value) ++ kind.Fixed mark.CloseBracket ∷ kind.Fixed mark.Dot ∷ kind.Name field.name ∷ [])
+pub in_Field : (p : Position) (relation : Ident) (index : Box Expr Global) (field : Ident) → expr_in p (plain_expr (Field relation index field)) ≡ kind.Name relation.name ∷ kind.Fixed mark.OpenBracket ∷ (expr_in position.Alone (plain_expr index.value) ++ kind.Fixed mark.CloseBracket ∷ kind.Fixed mark.Dot ∷ kind.Name field.name ∷ [])
 unfolding words
-in_Field place.Alone relation index field = ap (expr_in place.Alone) (v.plain_Field relation index field) ∙ ap (λ ks. kind.Name relation.name ∷ kind.Fixed mark.OpenBracket ∷ (ks ++ kind.Fixed mark.CloseBracket ∷ kind.Fixed mark.Dot ∷ kind.Name field.name ∷ [])) (alone (plain_expr index.value))
-in_Field place.AsTerm relation index field = ap (expr_in place.AsTerm) (v.plain_Field relation index field) ∙ ap (λ ks. kind.Name relation.name ∷ kind.Fixed mark.OpenBracket ∷ (ks ++ kind.Fixed mark.CloseBracket ∷ kind.Fixed mark.Dot ∷ kind.Name field.name ∷ [])) (alone (plain_expr index.value))
-in_Field place.AsFactor relation index field = ap (expr_in place.AsFactor) (v.plain_Field relation index field) ∙ ap (λ ks. kind.Name relation.name ∷ kind.Fixed mark.OpenBracket ∷ (ks ++ kind.Fixed mark.CloseBracket ∷ kind.Fixed mark.Dot ∷ kind.Name field.name ∷ [])) (alone (plain_expr index.value))
-in_Field place.Signed relation index field = ap (expr_in place.Signed) (v.plain_Field relation index field) ∙ ap (λ ks. kind.Name relation.name ∷ kind.Fixed mark.OpenBracket ∷ (ks ++ kind.Fixed mark.CloseBracket ∷ kind.Fixed mark.Dot ∷ kind.Name field.name ∷ [])) (alone (plain_expr index.value))
+in_Field position.Alone relation index field = ap (expr_in position.Alone) (v.plain_Field relation index field) ∙ ap (λ ks. kind.Name relation.name ∷ kind.Fixed mark.OpenBracket ∷ (ks ++ kind.Fixed mark.CloseBracket ∷ kind.Fixed mark.Dot ∷ kind.Name field.name ∷ [])) (alone (plain_expr index.value))
+in_Field position.AsTerm relation index field = ap (expr_in position.AsTerm) (v.plain_Field relation index field) ∙ ap (λ ks. kind.Name relation.name ∷ kind.Fixed mark.OpenBracket ∷ (ks ++ kind.Fixed mark.CloseBracket ∷ kind.Fixed mark.Dot ∷ kind.Name field.name ∷ [])) (alone (plain_expr index.value))
+in_Field position.AsFactor relation index field = ap (expr_in position.AsFactor) (v.plain_Field relation index field) ∙ ap (λ ks. kind.Name relation.name ∷ kind.Fixed mark.OpenBracket ∷ (ks ++ kind.Fixed mark.CloseBracket ∷ kind.Fixed mark.Dot ∷ kind.Name field.name ∷ [])) (alone (plain_expr index.value))
+in_Field position.Signed relation index field = ap (expr_in position.Signed) (v.plain_Field relation index field) ∙ ap (λ ks. kind.Name relation.name ∷ kind.Fixed mark.OpenBracket ∷ (ks ++ kind.Fixed mark.CloseBracket ∷ kind.Fixed mark.Dot ∷ kind.Name field.name ∷ [])) (alone (plain_expr index.value))
 
-pub in_Row : (p : Place) (row field : Ident) → expr_in p (plain_expr (Row row field)) ≡ row_field row field
+pub in_Row : (p : Position) (row field : Ident) → expr_in p (plain_expr (Row row field)) ≡ row_field row field
 unfolding words
-in_Row place.Alone row field = ap (expr_in place.Alone) (v.plain_Row row field)
-in_Row place.AsTerm row field = ap (expr_in place.AsTerm) (v.plain_Row row field)
-in_Row place.AsFactor row field = ap (expr_in place.AsFactor) (v.plain_Row row field)
-in_Row place.Signed row field = ap (expr_in place.Signed) (v.plain_Row row field)
+in_Row position.Alone row field = ap (expr_in position.Alone) (v.plain_Row row field)
+in_Row position.AsTerm row field = ap (expr_in position.AsTerm) (v.plain_Row row field)
+in_Row position.AsFactor row field = ap (expr_in position.AsFactor) (v.plain_Row row field)
+in_Row position.Signed row field = ap (expr_in position.Signed) (v.plain_Row row field)
 
-pub in_Count : (p : Place) (row relation : Ident) (test : Cond) → expr_in p (plain_expr (Count row relation test)) ≡ kind.Fixed mark.Count ∷ kind.Fixed mark.Open ∷ kind.Name row.name ∷ (chosen_of relation ++ (cond_kinds (plain_cond test) ++ kind.Fixed mark.Close ∷ []))
+pub in_Count : (p : Position) (row relation : Ident) (test : Cond) → expr_in p (plain_expr (Count row relation test)) ≡ kind.Fixed mark.Count ∷ kind.Fixed mark.Open ∷ kind.Name row.name ∷ (chosen_of relation ++ (cond_kinds (plain_cond test) ++ kind.Fixed mark.Close ∷ []))
 unfolding words
-in_Count place.Alone row relation test = ap (expr_in place.Alone) (v.plain_Count row relation test)
-in_Count place.AsTerm row relation test = ap (expr_in place.AsTerm) (v.plain_Count row relation test)
-in_Count place.AsFactor row relation test = ap (expr_in place.AsFactor) (v.plain_Count row relation test)
-in_Count place.Signed row relation test = ap (expr_in place.Signed) (v.plain_Count row relation test)
+in_Count position.Alone row relation test = ap (expr_in position.Alone) (v.plain_Count row relation test)
+in_Count position.AsTerm row relation test = ap (expr_in position.AsTerm) (v.plain_Count row relation test)
+in_Count position.AsFactor row relation test = ap (expr_in position.AsFactor) (v.plain_Count row relation test)
+in_Count position.Signed row relation test = ap (expr_in position.Signed) (v.plain_Count row relation test)
 
-pub in_Total : (p : Place) (row field relation : Ident) (test : Cond) → expr_in p (plain_expr (Total row field relation test)) ≡ kind.Fixed mark.Sum ∷ kind.Fixed mark.Open ∷ (row_field row field ++ (chosen_of relation ++ (cond_kinds (plain_cond test) ++ kind.Fixed mark.Close ∷ [])))
+pub in_Total : (p : Position) (row field relation : Ident) (test : Cond) → expr_in p (plain_expr (Total row field relation test)) ≡ kind.Fixed mark.Sum ∷ kind.Fixed mark.Open ∷ (row_field row field ++ (chosen_of relation ++ (cond_kinds (plain_cond test) ++ kind.Fixed mark.Close ∷ [])))
 unfolding words
-in_Total place.Alone row field relation test = ap (expr_in place.Alone) (v.plain_Total row field relation test)
-in_Total place.AsTerm row field relation test = ap (expr_in place.AsTerm) (v.plain_Total row field relation test)
-in_Total place.AsFactor row field relation test = ap (expr_in place.AsFactor) (v.plain_Total row field relation test)
-in_Total place.Signed row field relation test = ap (expr_in place.Signed) (v.plain_Total row field relation test)
+in_Total position.Alone row field relation test = ap (expr_in position.Alone) (v.plain_Total row field relation test)
+in_Total position.AsTerm row field relation test = ap (expr_in position.AsTerm) (v.plain_Total row field relation test)
+in_Total position.AsFactor row field relation test = ap (expr_in position.AsFactor) (v.plain_Total row field relation test)
+in_Total position.Signed row field relation test = ap (expr_in position.Signed) (v.plain_Total row field relation test)
 
 -- ---- sums and products
 pub no_terms : terms_behind [] ≡ []
@@ -211,7 +211,7 @@ unfolding words syntax
 later_all [] = refl
 later_all (e ∷ es) = later_first (plain_expr e) (exprs (map plain_expr es)) ∙ ap (λ l. later_term (plain_expr e) ++ l) (later_all es)
 
-pub sum_is : (e : Expr) (es : List Expr) → sum_kinds (exprs (map plain_expr (e ∷ es))) ≡ expr_in place.AsTerm (plain_expr e) ++ terms_behind es
+pub sum_is : (e : Expr) (es : List Expr) → sum_kinds (exprs (map plain_expr (e ∷ es))) ≡ expr_in position.AsTerm (plain_expr e) ++ terms_behind es
 unfolding words syntax
 sum_is e es = ap (λ l. expr_at AsTerm (plain_expr e) ++ l) (later_all es)
 
@@ -220,15 +220,15 @@ unfolding words syntax
 factors_all [] = refl
 factors_all (e ∷ es) = ap (λ l. kind.Fixed mark.Star ∷ (expr_at AsFactor (plain_expr e) ++ l)) (factors_all es)
 
-pub product_is : (e : Expr) (es : List Expr) → product_kinds (exprs (map plain_expr (e ∷ es))) ≡ expr_in place.AsFactor (plain_expr e) ++ factors_behind es
+pub product_is : (e : Expr) (es : List Expr) → product_kinds (exprs (map plain_expr (e ∷ es))) ≡ expr_in position.AsFactor (plain_expr e) ++ factors_behind es
 unfolding words syntax
 product_is e es = ap (λ l. expr_at AsFactor (plain_expr e) ++ l) (factors_all es)
 
-pub terms_more : (es : List Expr) (i : ℕ) (e : Expr) → i < length es → e ≡ get_or es i e → terms_behind (take (i + 1) es) ≡ terms_behind (take i es) ++ kind.Fixed (sign_of (plain_expr e)) ∷ expr_in place.Signed (plain_expr e)
+pub terms_more : (es : List Expr) (i : ℕ) (e : Expr) → i < length es → e ≡ get_or es i e → terms_behind (take (i + 1) es) ≡ terms_behind (take i es) ++ kind.Fixed (sign_of (plain_expr e)) ∷ expr_in position.Signed (plain_expr e)
 unfolding words
 terms_more es i e within is = flat_more (λ (e : Expr). later_term (plain_expr e)) es i e within is
 
-pub factors_more : (es : List Expr) (i : ℕ) (e : Expr) → i < length es → e ≡ get_or es i e → factors_behind (take (i + 1) es) ≡ factors_behind (take i es) ++ kind.Fixed mark.Star ∷ expr_in place.AsFactor (plain_expr e)
+pub factors_more : (es : List Expr) (i : ℕ) (e : Expr) → i < length es → e ≡ get_or es i e → factors_behind (take (i + 1) es) ≡ factors_behind (take i es) ++ kind.Fixed mark.Star ∷ expr_in position.AsFactor (plain_expr e)
 unfolding words
 factors_more es i e within is = flat_more (λ (e : Expr). kind.Fixed mark.Star ∷ expr_at AsFactor (plain_expr e)) es i e within is
 
@@ -241,7 +241,7 @@ pub of_Not : (c : Cond) → test_kinds (plain_test (Not c)) ≡ kind.Fixed mark.
 unfolding words
 of_Not c = ap test_kinds (v.plain_Not c)
 
-pub of_Compare : (op : Comparison) (a b : Expr) → test_kinds (plain_test (Compare op a b)) ≡ expr_in place.Alone (plain_expr a) ++ kind.Fixed (comparison_mark op) ∷ expr_in place.Alone (plain_expr b)
+pub of_Compare : (op : Comparison) (a b : Expr) → test_kinds (plain_test (Compare op a b)) ≡ expr_in position.Alone (plain_expr a) ++ kind.Fixed (comparison_mark op) ∷ expr_in position.Alone (plain_expr b)
 unfolding words
 of_Compare op a b = ap test_kinds (v.plain_Compare op a b)
 

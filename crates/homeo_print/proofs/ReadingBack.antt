@@ -15,7 +15,7 @@ use Rattle.homeo_print.specs.ReadingBack.{ReadsBack}
 use Rattle.homeo_print.proofs.Atoms.{kinds_of}
 use Rattle.homeo_print.proofs.Claims.{Claim}
 use Rattle.homeo_print.proofs.DeclarationsBack.{back_workload}
-use Rattle.homeo_print.proofs.Spelled.{scanned_ok}
+use Rattle.homeo_syntax.proofs.Spelling.{scanned_spelled}
 use Rattle.homeo_print.proofs.Numbered.{Stands, mark_stands, text_stands, each_natural, each_atom, each_of_atoms, each_can, kinds_again, kinds_are, names_again}
 
 -- What is known of a workload of a text.
@@ -29,7 +29,7 @@ unfolding IsWorkload
 known text w r =
     let names = names_of r.scanned in
     let ts = tokens_in names r.scanned in
-    let all = text_stands r.scanned (scanned_ok text r.scanned r.lexemes) in
+    let all = text_stands r.scanned (scanned_spelled text r.scanned r.lexemes) in
     let c = (back_workload limit names).of w ts r.spells (each_natural names ts all) in
     record {
       names_are = ap (λ (v : s.Workload). v.names) r.spells.2;

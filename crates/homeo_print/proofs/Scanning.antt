@@ -13,6 +13,7 @@ use Rattle.homeo_syntax.specs.Source as s
 use Rattle.homeo_syntax.specs.Lexemes.{is_space, is_letter, is_digit, is_word, lexeme_of}
 use Rattle.homeo_syntax.specs.Tokens.{is_good, Scanned, in_front, found, scanned_from}
 use Rattle.homeo_syntax.specs.WellFormed.{IsName, Each}
+use Rattle.homeo_syntax.specs.Marks.{mark_text}
 use Rattle.homeo_print.specs.declared.layout.Sort.{Sort}
 use Rattle.homeo_print.specs.declared.layout.Sort.TheVariants as sort
 use Rattle.homeo_print.specs.declared.layout.Before.{Before}
@@ -20,7 +21,7 @@ use Rattle.homeo_print.specs.declared.layout.Before.TheVariants as before
 use Rattle.homeo_print.specs.Key.{words}
 use Rattle.homeo_print.specs.TokensOf.{workload_kinds}
 use Rattle.homeo_print.specs.Printed.{lexeme_in, CanStand, IsPrintable, ScansAs}
-use Rattle.homeo_print.specs.Layout.{mark_text, token_text, mark_sort, sort_of, gap, after, laid}
+use Rattle.homeo_print.specs.Layout.{token_text, mark_sort, sort_of, gap, after, laid}
 use Rattle.homeo_print.specs.Print.{print}
 use Rattle.homeo_print.proofs.Lexing.{glues, BeginsWithout, BeginsWithDigit, Spells, and_first, and_second, digits_spell, token_lexes}
 

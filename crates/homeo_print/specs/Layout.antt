@@ -4,6 +4,7 @@ use Rattle.homeo_syntax.specs.declared.token.Mark.{Mark}
 use Rattle.homeo_syntax.specs.declared.token.Mark.TheVariants as mark
 use Rattle.homeo_syntax.specs.declared.token.Kind.{Kind}
 use Rattle.homeo_syntax.specs.declared.token.Kind.TheVariants as kind
+use Rattle.homeo_syntax.specs.Marks.{mark_text}
 use Rattle.homeo_print.specs.declared.layout.Sort.{Sort}
 use Rattle.homeo_print.specs.declared.layout.Sort.TheVariants as sort
 use Rattle.homeo_print.specs.declared.layout.Before.{Before}
@@ -11,57 +12,6 @@ use Rattle.homeo_print.specs.declared.layout.Before.TheVariants as before
 use Rattle.homeo_print.specs.Key.{words}
 
 -- ---- one token
-abbrev pub mark_text : Mark → List ℕ
-unfolding words
-mark_text mark.Assign = codes ":="
-mark_text mark.Dots = codes ".."
-mark_text mark.LessEqual = codes "<="
-mark_text mark.Less = codes "<"
-mark_text mark.Equal = codes "="
-mark_text mark.Plus = codes "+"
-mark_text mark.Minus = codes "-"
-mark_text mark.Star = codes "*"
-mark_text mark.Open = codes "("
-mark_text mark.Close = codes ")"
-mark_text mark.OpenBracket = codes "["
-mark_text mark.CloseBracket = codes "]"
-mark_text mark.OpenBrace = codes "{"
-mark_text mark.CloseBrace = codes "}"
-mark_text mark.Comma = codes ","
-mark_text mark.Semicolon = codes ";"
-mark_text mark.Dot = codes "."
-mark_text mark.Workload = codes "workload"
-mark_text mark.Sites = codes "sites"
-mark_text mark.Object = codes "object"
-mark_text mark.In = codes "in"
-mark_text mark.Relation = codes "relation"
-mark_text mark.Transaction = codes "transaction"
-mark_text mark.Client = codes "client"
-mark_text mark.At = codes "at"
-mark_text mark.Schedule = codes "schedule"
-mark_text mark.End = codes "end"
-mark_text mark.If = codes "if"
-mark_text mark.Then = codes "then"
-mark_text mark.Else = codes "else"
-mark_text mark.Skip = codes "skip"
-mark_text mark.Write = codes "write"
-mark_text mark.Read = codes "read"
-mark_text mark.Print = codes "print"
-mark_text mark.Foreach = codes "foreach"
-mark_text mark.Of = codes "of"
-mark_text mark.When = codes "when"
-mark_text mark.Insert = codes "insert"
-mark_text mark.Into = codes "into"
-mark_text mark.Delete = codes "delete"
-mark_text mark.Update = codes "update"
-mark_text mark.Set = codes "set"
-mark_text mark.Count = codes "count"
-mark_text mark.Sum = codes "sum"
-mark_text mark.Used = codes "used"
-mark_text mark.And = codes "and"
-mark_text mark.Not = codes "not"
-mark_text mark.True = codes "true"
-
 -- the bytes of a name, the digits of a number, or the text of a mark
 abbrev pub token_text : List (List ℕ) → Kind → List ℕ
 unfolding words

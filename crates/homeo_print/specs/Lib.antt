@@ -1,9 +1,8 @@
+pub mod inner
 pub mod Key
 pub mod Layout
 pub mod Offsets
-pub mod Pieces
 pub mod Print
 pub mod Printed
 pub mod ReadingBack
 pub mod TokensOf
-pub mod Walk

@@ -5,7 +5,7 @@ use Rattle.homeo_syntax.specs.declared.token.Kind.TheVariants as kind
 use Rattle.homeo_syntax.specs.Source as s
 use Rattle.homeo_syntax.specs.Lexemes.{Lexeme, Name, Number, Fixed}
 use Rattle.homeo_syntax.specs.Tokens.{Scanned, IsClean, scanned_of}
-use Rattle.homeo_syntax.specs.WellFormed.{IsName, Each}
+use Rattle.homeo_syntax.specs.WellFormed.{IsName, IsShort, Each}
 use Rattle.homeo_print.specs.Key.{words}
 use Rattle.homeo_print.specs.TokensOf.{workload_kinds}
 
@@ -21,12 +21,6 @@ pub record ScansAs (names : List (List ℕ)) (ks : List Kind) (text : List ℕ) 
   pub scanned : List Scanned
   pub lexemes : scanned_of text ≡ Ok scanned
   pub same : map (λ t. t.lexeme) scanned ≡ map (lexeme_in names) ks
-
--- a number of at most 18 digits, without a sign
-pub record IsShort (n : ℤ) : Type 0 where
-  pub size : ℕ
-  pub value : n ≡ pos size
-  pub short : size < 10 ^ 18
 
 -- a name among the names, that a text can have, and a number that a text can have
 abbrev pub CanStand : List (List ℕ) → Kind → Type 0

@@ -6,7 +6,7 @@ ghost use Rattle.homeo_syntax.specs.SourceView.{commands, plain_cond, plain_fiel
 ghost use Rattle.homeo_syntax.specs.declared.token.Mark.TheVariants.{Comma};
 ghost use Rattle.homeo_print.specs.TokensOf.{separated, setting_kinds, rows_kinds, command_kinds, commands_kinds};
 
-use crate::phrases::{Place, push_chosen_of, push_cond, push_expr, push_row_field};
+use crate::phrases::{Position, push_chosen_of, push_cond, push_expr, push_row_field};
 use crate::pieces::Pieces;
 use homeo_syntax::{Command, Cond, FieldValue, Ident, Mark, Memory};
 
@@ -15,7 +15,7 @@ fn push_setting(out: &mut Pieces, setting: &FieldValue) -> Result<(), Memory>
 {
     out.name(setting.field)?;
     out.mark(Mark::Equal)?;
-    push_expr(out, &setting.value, Place::Alone)?;
+    push_expr(out, &setting.value, Position::Alone)?;
     Ok(())
 }
 
@@ -58,7 +58,7 @@ fn push_command(out: &mut Pieces, c: &Command) -> Result<(), Memory>
         Command::Assign { target, value } => {
             out.name(*target)?;
             out.mark(Mark::Assign)?;
-            push_expr(out, value, Place::Alone)?;
+            push_expr(out, value, Position::Alone)?;
             Ok(())
         }
         Command::Write { object, value } => {
@@ -66,14 +66,14 @@ fn push_command(out: &mut Pieces, c: &Command) -> Result<(), Memory>
             out.mark(Mark::Open)?;
             out.name(*object)?;
             out.mark(Mark::Equal)?;
-            push_expr(out, value, Place::Alone)?;
+            push_expr(out, value, Position::Alone)?;
             out.mark(Mark::Close)?;
             Ok(())
         }
         Command::Print { value } => {
             out.mark(Mark::Print)?;
             out.mark(Mark::Open)?;
-            push_expr(out, value, Place::Alone)?;
+            push_expr(out, value, Position::Alone)?;
             out.mark(Mark::Close)?;
             Ok(())
         }
@@ -100,18 +100,18 @@ fn push_command(out: &mut Pieces, c: &Command) -> Result<(), Memory>
         } => {
             out.name(*relation)?;
             out.mark(Mark::OpenBracket)?;
-            push_expr(out, index, Place::Alone)?;
+            push_expr(out, index, Position::Alone)?;
             out.mark(Mark::CloseBracket)?;
             out.mark(Mark::Dot)?;
             out.name(*field)?;
             out.mark(Mark::Assign)?;
-            push_expr(out, value, Place::Alone)?;
+            push_expr(out, value, Position::Alone)?;
             Ok(())
         }
         Command::SetRow { row, field, value } => {
             push_row_field(out, *row, *field)?;
             out.mark(Mark::Assign)?;
-            push_expr(out, value, Place::Alone)?;
+            push_expr(out, value, Position::Alone)?;
             Ok(())
         }
         Command::Foreach {
@@ -162,7 +162,7 @@ fn push_command(out: &mut Pieces, c: &Command) -> Result<(), Memory>
             out.mark(Mark::Set)?;
             out.name(*field)?;
             out.mark(Mark::Equal)?;
-            push_expr(out, value, Place::Alone)?;
+            push_expr(out, value, Position::Alone)?;
             Ok(())
         }
     }

@@ -1,8 +1,8 @@
 //! Tokens as text.
 
 ghost use Rattle.std.specs.Prelude.{◌≡◌, [], ◌++◌, map, get_or, IfOk, OnOk};
-ghost use Rattle.homeo_print.specs.Pieces.{kind_of};
-ghost use Rattle.homeo_print.specs.Layout.{mark_text, token_text, mark_sort, sort_of, loose_gap, name_gap, opening_gap, dot_gap, gap, after_minus, after, printed};
+ghost use Rattle.homeo_print.specs.inner.Pieces.{kind_of};
+ghost use Rattle.homeo_print.specs.Layout.{token_text, mark_sort, sort_of, loose_gap, name_gap, opening_gap, dot_gap, gap, after_minus, after, printed};
 
 use crate::pieces::Piece;
 use homeo_syntax::{Mark, Memory, Text};
@@ -46,62 +46,6 @@ pub enum Before {
     End,
     /// Anything else.
     Apart,
-}
-
-#[tactic(auto, unfolding(crate::specs::Key::words))]
-fn mark_text(mark: Mark) -> &'static [u8]
-    ensures text { result.now ≡ mark_text mark }
-{
-    match mark {
-        Mark::Assign => b":=",
-        Mark::Dots => b"..",
-        Mark::LessEqual => b"<=",
-        Mark::Less => b"<",
-        Mark::Equal => b"=",
-        Mark::Plus => b"+",
-        Mark::Minus => b"-",
-        Mark::Star => b"*",
-        Mark::Open => b"(",
-        Mark::Close => b")",
-        Mark::OpenBracket => b"[",
-        Mark::CloseBracket => b"]",
-        Mark::OpenBrace => b"{",
-        Mark::CloseBrace => b"}",
-        Mark::Comma => b",",
-        Mark::Semicolon => b";",
-        Mark::Dot => b".",
-        Mark::Workload => b"workload",
-        Mark::Sites => b"sites",
-        Mark::Object => b"object",
-        Mark::In => b"in",
-        Mark::Relation => b"relation",
-        Mark::Transaction => b"transaction",
-        Mark::Client => b"client",
-        Mark::At => b"at",
-        Mark::Schedule => b"schedule",
-        Mark::End => b"end",
-        Mark::If => b"if",
-        Mark::Then => b"then",
-        Mark::Else => b"else",
-        Mark::Skip => b"skip",
-        Mark::Write => b"write",
-        Mark::Read => b"read",
-        Mark::Print => b"print",
-        Mark::Foreach => b"foreach",
-        Mark::Of => b"of",
-        Mark::When => b"when",
-        Mark::Insert => b"insert",
-        Mark::Into => b"into",
-        Mark::Delete => b"delete",
-        Mark::Update => b"update",
-        Mark::Set => b"set",
-        Mark::Count => b"count",
-        Mark::Sum => b"sum",
-        Mark::Used => b"used",
-        Mark::And => b"and",
-        Mark::Not => b"not",
-        Mark::True => b"true",
-    }
 }
 
 #[tactic(auto, unfolding(crate::specs::Key::words))]
@@ -251,10 +195,10 @@ fn push_bytes(text: &mut Vec<u8>, bytes: &[u8]) -> Result<(), Memory>
     Ok(())
 }
 
-fn name_text(names: &[Text], place: u32) -> &[u8]
-    ensures text { result.now ≡ get_or names.now place [] }
+fn name_text(names: &[Text], index: u32) -> &[u8]
+    ensures text { result.now ≡ get_or names.now index [] }
 {
-    match names.get(place as usize) {
+    match names.get(index as usize) {
         Some(name) => name.as_str().as_bytes(),
         None => b"",
     }
@@ -266,12 +210,12 @@ fn push_token(text: &mut Vec<u8>, names: &[Text], piece: Piece) -> Result<(), Me
     ensures pushed { OnOk result (text.new.items ≡ text.old.items ++ token_text names.now (kind_of piece)) }
 {
     match piece {
-        Piece::Name(place) => push_bytes(text, name_text(names, place)),
+        Piece::Name(index) => push_bytes(text, name_text(names, index)),
         Piece::Number(value) => {
             let mut digits = Buffer::new();
             push_bytes(text, digits.format(value).as_bytes())
         }
-        Piece::Fixed(mark) => push_bytes(text, mark_text(mark)),
+        Piece::Fixed(mark) => push_bytes(text, mark.text()),
     }
 }
 

@@ -4,7 +4,7 @@
 ghost use Rattle.std.specs.Prelude.{◌≡◌, ◌++◌, map, OnOk};
 ghost use Rattle.homeo_syntax.specs.SourceView.{exprs, plain_expr, plain_test, plain_cond};
 ghost use Rattle.homeo_print.specs.TokensOf.{comparison_mark, sum_kinds, product_kinds, test_kinds, cond_kinds};
-ghost use Rattle.homeo_print.specs.Walk.{expr_in, sign_of, row_field, chosen_of};
+ghost use Rattle.homeo_print.specs.inner.Walk.{expr_in, sign_of, row_field, chosen_of};
 
 use crate::pieces::Pieces;
 use homeo_syntax::{Compare, Cond, Expr, Ident, Mark, Memory, Test};
@@ -12,7 +12,7 @@ use homeo_syntax::{Compare, Cond, Expr, Ident, Mark, Memory, Test};
 /// Where an expression stands: by itself, as a term of a sum, as a factor of a product or behind a minus, or as a term
 /// of a sum whose sign is put already.
 #[derive(Clone, Copy, Debug, PartialEq, Eq)]
-pub enum Place {
+pub enum Position {
     Alone,
     AsTerm,
     AsFactor,
@@ -70,10 +70,10 @@ pub fn push_chosen_of(out: &mut Pieces, relation: Ident) -> Result<(), Memory>
     Ok(())
 }
 
-/// Puts an expression that stands at a place behind the tokens.
+/// Puts an expression that stands at a position behind the tokens.
 #[cycle(phrases)]
-pub fn push_expr(out: &mut Pieces, e: &Expr, place: Place) -> Result<(), Memory>
-    ensures pushed { OnOk result (out.new ≡ out.old ++ expr_in place (plain_expr e.now)) }
+pub fn push_expr(out: &mut Pieces, e: &Expr, position: Position) -> Result<(), Memory>
+    ensures pushed { OnOk result (out.new ≡ out.old ++ expr_in position (plain_expr e.now)) }
 {
     match e {
         Expr::Literal(n) => {
@@ -91,38 +91,38 @@ pub fn push_expr(out: &mut Pieces, e: &Expr, place: Place) -> Result<(), Memory>
             out.mark(Mark::Close)?;
             Ok(())
         }
-        Expr::Sum(es) => match place {
-            Place::Alone => {
+        Expr::Sum(es) => match position {
+            Position::Alone => {
                 push_sum(out, es.as_slice())?;
                 Ok(())
             }
-            Place::AsTerm | Place::AsFactor | Place::Signed => {
+            Position::AsTerm | Position::AsFactor | Position::Signed => {
                 out.mark(Mark::Open)?;
                 push_sum(out, es.as_slice())?;
                 out.mark(Mark::Close)?;
                 Ok(())
             }
         },
-        Expr::Product(es) => match place {
-            Place::Alone | Place::AsTerm | Place::Signed => {
+        Expr::Product(es) => match position {
+            Position::Alone | Position::AsTerm | Position::Signed => {
                 push_product(out, es.as_slice())?;
                 Ok(())
             }
-            Place::AsFactor => {
+            Position::AsFactor => {
                 out.mark(Mark::Open)?;
                 push_product(out, es.as_slice())?;
                 out.mark(Mark::Close)?;
                 Ok(())
             }
         },
-        Expr::Neg(inner) => match place {
-            Place::Alone | Place::AsTerm | Place::AsFactor => {
+        Expr::Neg(inner) => match position {
+            Position::Alone | Position::AsTerm | Position::AsFactor => {
                 out.mark(Mark::Minus)?;
-                push_expr(out, inner, Place::AsFactor)?;
+                push_expr(out, inner, Position::AsFactor)?;
                 Ok(())
             }
-            Place::Signed => {
-                push_expr(out, inner, Place::AsTerm)?;
+            Position::Signed => {
+                push_expr(out, inner, Position::AsTerm)?;
                 Ok(())
             }
         },
@@ -133,7 +133,7 @@ pub fn push_expr(out: &mut Pieces, e: &Expr, place: Place) -> Result<(), Memory>
         } => {
             out.name(*relation)?;
             out.mark(Mark::OpenBracket)?;
-            push_expr(out, index, Place::Alone)?;
+            push_expr(out, index, Position::Alone)?;
             out.mark(Mark::CloseBracket)?;
             out.mark(Mark::Dot)?;
             out.name(*field)?;
@@ -180,10 +180,10 @@ fn push_sum(out: &mut Pieces, es: &[Expr]) -> Result<(), Memory>
     match es {
         [] => Ok(()),
         [first, more @ ..] => {
-            push_expr(out, first, Place::AsTerm)?;
+            push_expr(out, first, Position::AsTerm)?;
             for e in more {
                 out.mark(sign_of(e))?;
-                push_expr(out, e, Place::Signed)?;
+                push_expr(out, e, Position::Signed)?;
             }
             Ok(())
         }
@@ -197,10 +197,10 @@ fn push_product(out: &mut Pieces, es: &[Expr]) -> Result<(), Memory>
     match es {
         [] => Ok(()),
         [first, more @ ..] => {
-            push_expr(out, first, Place::AsFactor)?;
+            push_expr(out, first, Position::AsFactor)?;
             for e in more {
                 out.mark(Mark::Star)?;
-                push_expr(out, e, Place::AsFactor)?;
+                push_expr(out, e, Position::AsFactor)?;
             }
             Ok(())
         }
@@ -224,9 +224,9 @@ fn push_test(out: &mut Pieces, t: &Test) -> Result<(), Memory>
             Ok(())
         }
         Test::Compare { op, left, right } => {
-            push_expr(out, left, Place::Alone)?;
+            push_expr(out, left, Position::Alone)?;
             out.mark(comparison_mark(*op))?;
-            push_expr(out, right, Place::Alone)?;
+            push_expr(out, right, Position::Alone)?;
             Ok(())
         }
     }

@@ -2,13 +2,13 @@
 
 ghost use Rattle.std.specs.Prelude.{◌≡◌, [], ◌∷◌, ◌++◌, map, OnOk};
 ghost use Rattle.homeo_print.specs.TokensOf.{name_of, mark_of, value_of};
-ghost use Rattle.homeo_print.specs.Pieces.{kind_of};
+ghost use Rattle.homeo_print.specs.inner.Pieces.{kind_of};
 
 use homeo_syntax::{Ident, Mark, Memory};
 use std::alloc::Global;
 use std::marker::Model;
 
-/// A token to be printed: a name by its place among the names, a number without a sign, or a mark.
+/// A token to be printed: a name by its index among the names, a number without a sign, or a mark.
 #[derive(Clone, Copy, Debug, PartialEq, Eq)]
 pub enum Piece {
     Name(u32),
@@ -25,7 +25,7 @@ pub struct Pieces {
 impl Model for Pieces {
     ghost use Rattle.std.specs.Prelude.{List, map};
     ghost use Rattle.homeo_syntax.specs.declared.token.Kind.{Kind};
-    ghost use Rattle.homeo_print.specs.Pieces.{kind_of};
+    ghost use Rattle.homeo_print.specs.inner.Pieces.{kind_of};
 
     ghost Value = { List Kind };
 

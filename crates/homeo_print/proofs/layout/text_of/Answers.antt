@@ -1,7 +1,7 @@
 use Rattle.std.proofs.Common.{◌++◌, map, sym, ap, ◌∙◌}
 use Rattle.homeo_print.specs.declared.layout.Before.TheVariants as before
 use Rattle.homeo_print.specs.declared.pieces.Piece.TheVariants as piece
-use Rattle.homeo_print.specs.Pieces.{kind_of}
+use Rattle.homeo_print.specs.inner.Pieces.{kind_of}
 use Rattle.homeo_print.specs.Layout.{laid}
 use Rattle.homeo_print.proofs.Laying.{laid_first, laid_more, laid_end}
 use Rattle.homeo_print.proofs.layout.text_of.Goals as goal

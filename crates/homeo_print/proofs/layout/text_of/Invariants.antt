@@ -1,5 +1,5 @@
 use Rattle.std.proofs.Common.{◌≡◌, ◌++◌, map, drop}
-use Rattle.homeo_print.specs.Pieces.{kind_of}
+use Rattle.homeo_print.specs.inner.Pieces.{kind_of}
 use Rattle.homeo_print.specs.Layout.{laid, printed}
 use Rattle.homeo_print.proofs.layout.text_of.Given as goal
 

@@ -2,19 +2,19 @@ use Rattle.std.proofs.Common.{List, ◌++◌, map, sym, ap, ◌∙◌, arith}
 use Rattle.homeo_syntax.specs.SourceView.{exprs, tests, plain_expr, plain_test}
 use Rattle.homeo_syntax.specs.declared.phrase.Expr.{Expr}
 use Rattle.homeo_syntax.specs.declared.phrase.Test.{Test}
-use Rattle.homeo_print.specs.declared.phrases.Place.TheVariants as place
+use Rattle.homeo_print.specs.declared.phrases.Position.TheVariants as position
 use Rattle.homeo_print.specs.TokensOf.{Kinds, sum_kinds, product_kinds, test_kinds, cond_kinds}
-use Rattle.homeo_print.specs.Walk.{expr_in}
+use Rattle.homeo_print.specs.inner.Walk.{expr_in}
 use Rattle.homeo_print.proofs.Behind.{terms_behind, factors_behind, tests_behind}
 use Rattle.homeo_print.proofs.Listed.{list_end, list_none, list_start}
 use Rattle.homeo_print.proofs.PhraseSteps.{no_terms, no_factors, no_tests, no_sum, no_product, no_test, sum_is, product_is, cond_is, tests_are}
 use Rattle.homeo_print.proofs.phrases.+phrases.Goals as goal
 
 abbrev term : Expr → Kinds
-term e = expr_in place.AsTerm (plain_expr e)
+term e = expr_in position.AsTerm (plain_expr e)
 
 abbrev factor : Expr → Kinds
-factor e = expr_in place.AsFactor (plain_expr e)
+factor e = expr_in position.AsFactor (plain_expr e)
 
 abbrev test : Test → Kinds
 test t = test_kinds (plain_test t)

@@ -5,22 +5,22 @@ use Rattle.homeo_syntax.specs.declared.token.Mark.TheVariants as mark
 use Rattle.homeo_syntax.specs.declared.token.Kind.TheVariants as kind
 use Rattle.homeo_syntax.specs.declared.phrase.Ident.{Ident}
 use Rattle.homeo_syntax.specs.Source as s
-use Rattle.homeo_print.specs.declared.phrases.Place.{Place}
-use Rattle.homeo_print.specs.declared.phrases.Place.TheVariants as place
+use Rattle.homeo_print.specs.declared.phrases.Position.{Position}
+use Rattle.homeo_print.specs.declared.phrases.Position.TheVariants as position
 use Rattle.homeo_print.specs.Key.{words}
 use Rattle.homeo_print.specs.TokensOf.{Kinds, Level, Alone, AsTerm, AsFactor, expr_at}
 
-abbrev pub level_of : Place → Level
+abbrev pub level_of : Position → Level
 unfolding words
-level_of place.Alone = Alone
-level_of place.AsTerm = AsTerm
-level_of place.AsFactor = AsFactor
-level_of place.Signed = AsTerm
+level_of position.Alone = Alone
+level_of position.AsTerm = AsTerm
+level_of position.AsFactor = AsFactor
+level_of position.Signed = AsTerm
 
--- An expression at a place. Where its sign is put already, a negation is what it negates.
-abbrev pub expr_in : Place → s.Expr → Kinds
+-- An expression at a position. Where its sign is put already, a negation is what it negates.
+abbrev pub expr_in : Position → s.Expr → Kinds
 unfolding words
-expr_in place.Signed (s.Neg e) = expr_at AsTerm e
+expr_in position.Signed (s.Neg e) = expr_at AsTerm e
 expr_in p e = expr_at (level_of p) e
 
 -- the sign of a term behind another
