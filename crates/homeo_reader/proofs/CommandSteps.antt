@@ -3,11 +3,8 @@ use Rattle.std.proofs.Common.{◌≡◌, ℕ, zero, suc, ◌-◌, ◌<◌, Bool,
 use Rattle.std.specs.Prelude.{Ok, Err, nat_lt, if◌then◌else◌, ◌==◌}
 use Rattle.std.proofs.lemmas.Bool.{lt-ltb, eqb-true}
 use Rattle.homeo_syntax.specs.Classes.{number_of, class_of}
-use Rattle.homeo_syntax.specs.declared.command.Command.{Command as Command_}
-use Rattle.homeo_reader.specs.inner.Commands.{command_views, field_views}
 use Rattle.homeo_syntax.specs.declared.command.FieldValue.{FieldValue}
 use Rattle.homeo_syntax.specs.declared.phrase.Ident.{Ident}
-use Rattle.std.proofs.lemmas.List.{map-append}
 use Rattle.homeo_syntax.specs.declared.token.Mark.{Mark}
 use Rattle.homeo_syntax.specs.declared.token.Mark.TheVariants as mark
 use Rattle.homeo_syntax.specs.declared.token.Kind.{Kind}
@@ -18,7 +15,7 @@ use Rattle.homeo_reader.specs.inner.Engine.{Reading, ◌>>=◌, read, calls_at, 
 use Rattle.homeo_syntax.specs.Rules.{Rule, Command, rule, command, field_value, lead}
 use Rattle.homeo_reader.specs.inner.FirstTokens.{classes}
 use Rattle.homeo_syntax.specs.Source as s
-use Rattle.homeo_syntax.specs.SourceView.{commands, plain_expr, plain_command, plain_field}
+use Rattle.homeo_syntax.specs.SourceView.{commands, plain_expr, plain_field}
 use Rattle.homeo_syntax.specs.Key.{words}
 use Rattle.homeo_reader.specs.inner.Commands.{if_read, foreach_read, insert_read, delete_read, update_read, command_read, commands_read, next_command_read, next_command_do, block_read, block_do, setting_read, field_setting_rest, row_setting_rest, setting_by, setting_do, field_value_read, field_value_do, next_field_value_read, next_field_value_do, other_field_values_read, field_values_read, field_values_do, command_by, command_do}
 use Rattle.homeo_reader.specs.inner.Reading.{expr_read, cond_read, visit_read, mark_read, ident_read, on_marked}

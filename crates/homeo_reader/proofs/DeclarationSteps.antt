@@ -12,7 +12,7 @@ use Rattle.homeo_syntax.specs.declared.workload.ObjectDecl.{ObjectDecl}
 use Rattle.homeo_syntax.specs.declared.workload.RangeDecl.{RangeDecl}
 use Rattle.homeo_syntax.specs.Source as s
 use Rattle.homeo_syntax.specs.Grammar.{seq, many, part, as_value}
-use Rattle.homeo_syntax.specs.Rules.{Command, Rule, Deep, Tree, rule, lead, closed, limit, ident, number, signed, range, separated, decl, fields, relation, parameters, block, invocation, calls, workload}
+use Rattle.homeo_syntax.specs.Rules.{Command, Rule, Deep, Tree, rule, lead, closed, limit, ident, number, signed, range, separated, decl, fields, parameters, block, invocation, calls, workload}
 use Rattle.homeo_reader.specs.inner.Engine.{Calls, Reading, ◌>>=◌, read, calls_at, empty, exists, begins, first_is}
 use Rattle.homeo_reader.specs.inner.Reading.{mark_read, if_marked, on_marked, opt_of, opt_read}
 use Rattle.homeo_reader.specs.inner.Commands.{block_read}

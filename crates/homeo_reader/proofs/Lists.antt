@@ -1,5 +1,5 @@
 -- Phrases after a mark, any number of times.
-use Rattle.std.proofs.Common.{◌≡◌, ℕ, zero, suc, ◌<◌, ◌≤◌, Bool, true, false, ◌||◌, ◌&&◌, List, [], ◌∷◌, ◌++◌, length, map, refl, ap, ◌∙◌, sym, subst, arith, append_assoc, not}
+use Rattle.std.proofs.Common.{◌≡◌, ℕ, zero, suc, ◌<◌, ◌≤◌, Bool, true, false, ◌||◌, ◌&&◌, List, [], ◌∷◌, ◌++◌, length, refl, ap, ◌∙◌, sym, subst, arith, append_assoc, not}
 use Rattle.std.specs.Prelude.{Option, Some, None, option_map, Ok, Err, if◌then◌else◌, ◌==◌}
 use Rattle.homeo_syntax.specs.declared.token.Mark.{Mark}
 use Rattle.homeo_syntax.specs.declared.token.Kind.{Kind}
@@ -11,15 +11,12 @@ use Rattle.homeo_reader.specs.inner.Engine.{Reading, ◌>>=◌, Calls, calls_at,
 use Rattle.homeo_syntax.specs.Rules.{Deep, Factor, Test, Tree, Rule, rule, lead, term, product_of, sum_of}
 use Rattle.homeo_reader.specs.inner.FirstTokens.{classes}
 use Rattle.homeo_syntax.specs.declared.token.Mark.TheVariants as mark
-use Rattle.homeo_syntax.specs.Listed.{Listed}
 use Rattle.homeo_syntax.specs.Source as s
-use Rattle.homeo_syntax.specs.SourceView.{exprs, plain_expr, plain_test}
+use Rattle.homeo_syntax.specs.SourceView.{exprs}
 use Rattle.homeo_reader.specs.declared.parser.Fault.{Fault}
 use Rattle.homeo_reader.specs.declared.parser.Fault.TheVariants as fault
 use Rattle.homeo_syntax.specs.declared.phrase.Expr.{Expr}
-use Rattle.homeo_syntax.specs.declared.phrase.Test.{Test as Test_}
-use Rattle.homeo_reader.specs.inner.Reading.{expr_views, test_views}
-use Rattle.std.proofs.lemmas.List.{map-append}
+use Rattle.homeo_reader.specs.inner.Reading.{expr_views}
 use Rattle.homeo_reader.specs.inner.Reading.{opt_of, opt_read, on_marked, if_marked, next_factor_read, next_factor_do, next_term_read, next_term_do, test_read, next_test_read, next_test_do, Gives, mark_read, offset_read, with_front, factor_read, term_read}
 use Rattle.homeo_reader.proofs.Bools.{and_split, not_true, if_true, if_false, or_left, and_join, not_both}
 use Rattle.homeo_reader.proofs.Words.{Outcome, Takes, begun_exists, empty_word}

@@ -70,7 +70,7 @@ module _ (n : ℕ) {X Y : Type 0} (v : View X Y) (g : Rule Y) (d : decides class
   ends items o was is whole h e so_far =
       sym so_far ∙ step_none n g d (v.all items) was is (h ∙ ap (λ (o : Option X). Ok (v.maybe o, is)) e ∙ ap (λ (y : Option Y). Ok (y, is)) v.is_none)
 
-  -- an item is at fault, or memory is wanting
+  -- an item is at fault, or there was not enough memory
   pub fails : {L : Type 0} → (view : L → List Y) (items : List X) (r : Result L Fault) (f : Fault) (was is : List Token) (whole : Reading (List Y)) →
       Gives v.maybe (Err f) is (one_read was) → IsErrAnd r (λ e. e ≡ f) → with_front (v.all items) (all_read was) ≡ whole → Gives view r is whole
   fails view items r f was is whole h e so_far =

@@ -6,10 +6,12 @@ ghost use Rattle.homeo_reader.specs.inner.Reading.{Gives, TakesMark, ident_read,
 use homeo_syntax::{Ident, Kind, List, Mark, Memory, Token};
 use std::alloc::{AllocError, AllocFailed};
 
-/// Why nothing was read: want of memory, or no phrase goes on with the next token.
+/// Why nothing was read.
 #[derive(Clone, Copy, Debug, PartialEq, Eq)]
 pub enum Fault {
+    /// There was not enough memory.
     Memory,
+    /// No phrase goes on with the next token, which is then still there, or there is none.
     Stuck,
 }
 
@@ -107,7 +109,7 @@ impl<'a> Parser<'a> {
     }
 }
 
-/// One item and others as a list.
+/// One item and then others, as a list.
 pub fn list_of<T: Drop>(first: T, mut others: Vec<T>) -> Result<List<T>, Fault>
     ensures ok { IfOk result (λ l. l.items ≡ first ∷ others.items) }
     ensures memory { IfErr result (λ e. e ≡ Fault.Memory) }

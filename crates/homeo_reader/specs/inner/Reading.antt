@@ -22,8 +22,8 @@ use Rattle.homeo_reader.specs.declared.parser.Fault.{Fault}
 use Rattle.homeo_reader.specs.declared.parser.Fault.TheVariants.{Memory, Stuck}
 use Rattle.homeo_reader.specs.inner.Engine.{Calls, begins, first_is, Reading, ◌>>=◌, read_token, read, calls_at}
 
--- What was returned, seen by a view, and the tokens that are left are what the reading gives, unless memory was
--- wanting.
+-- What was returned, seen by a view, and the tokens that are left are what the reading gives, unless there was not
+-- enough memory.
 abbrev pub Gives : {X Y : Type 0} → (X → Y) → Result X Fault → List Token → Reading Y → Type 0
 Gives view (Ok x) rest reading = reading ≡ Ok (view x, rest)
 Gives view (Err Memory) rest reading = Unit {0}
