@@ -4,7 +4,7 @@ use Rattle.homeo_syntax.specs.declared.low.SplitName.{SplitName}
 use Rattle.homeo_syntax.specs.declared.low.SplitName.TheVariants.{Whole, Base, Delta}
 use Rattle.homeo_meaning.specs.Key.{words}
 use Rattle.homeo_meaning.specs.LowMeaning.{place_of}
-use Rattle.homeo_split.specs.Scenes.{state_with}
+use Rattle.homeo_split.specs.States.{state_with}
 
 pub lengths : {A : Type 0} (f : A → List ℤ) (l : List A) → map (λ d. length (f d)) l ≡ map length (map f l)
 lengths f [] = refl

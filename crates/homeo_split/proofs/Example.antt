@@ -6,8 +6,8 @@ use Rattle.homeo_meaning.specs.Key.{words as meaning_words}
 use Rattle.homeo_split.specs.declared.split.Split.{Split}
 use Rattle.homeo_split.specs.Key.{words}
 use Rattle.homeo_split.specs.CanExec.{limit, can_exec}
-use Rattle.homeo_split.specs.Example.{example, IsExample}
-use Rattle.homeo_split.specs.Scenes.{state_with, state_of}
+use Rattle.homeo_split.specs.inner.Example.{example, IsExample}
+use Rattle.homeo_split.specs.States.{state_with, state_of}
 use Rattle.homeo_split.specs.Shape.{shape_of, has_places}
 use Rattle.homeo_split.proofs.Copies.{lengths}
 

@@ -9,7 +9,7 @@ use Rattle.homeo_meaning.specs.Key.{words}
 use Rattle.homeo_meaning.specs.LowMeaning.{Place, TempAt, BaseAt, DeltaAt, put}
 use Rattle.homeo_meaning.proofs.AbsentItems.{padded_set}
 use Rattle.homeo_split.specs.Key.{words as split_words}
-use Rattle.homeo_split.specs.Scenes.{state_with}
+use Rattle.homeo_split.specs.States.{state_with}
 use Rattle.homeo_split.specs.Shape.{Shape, has_place}
 
 module _ (base : List ℤ) (deltas : List (List ℤ)) (named fresh new : List ℤ) (n : ℕ) (v : ℤ) where

@@ -1,5 +1,5 @@
 pub mod CanExec
-pub mod Example
+pub mod inner
 pub mod Key
-pub mod Scenes
 pub mod Shape
+pub mod States

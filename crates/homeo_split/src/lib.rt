@@ -6,8 +6,8 @@ pub mod laws;
 mod phrases;
 mod places;
 mod runs;
-mod scene;
 mod split;
+mod state;
 
 pub use runs::eval_l;
 pub use split::Split;

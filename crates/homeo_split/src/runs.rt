@@ -4,12 +4,12 @@ ghost use Rattle.std.specs.Prelude.{◌≡◌, true, map, IfOk, OnOk, OnErr};
 ghost use Rattle.homeo_syntax.specs.LowView.{plain_lcommand};
 ghost use Rattle.homeo_meaning.specs.LowMeaning.{exec};
 ghost use Rattle.homeo_split.specs.CanExec.{limit, can_exec};
-ghost use Rattle.homeo_split.specs.Scenes.{state_of, AgreeOnNames};
+ghost use Rattle.homeo_split.specs.States.{state_of, AgreeOnNames};
 ghost use Rattle.homeo_split.specs.Shape.{shape_of, has_places};
 
 use crate::commands::run;
-use crate::scene::Scene;
 use crate::split::Split;
+use crate::state::State;
 use homeo_meaning::Database;
 use homeo_syntax::{LCommand, List, Memory, Prints};
 use std::alloc::Global;
@@ -45,26 +45,26 @@ fn listed_all(alloc: Global, vectors: Vec<Vec<i64>>) -> Result<List<Database>, M
 /// # Errors
 ///
 /// `Memory` where memory is wanting: the database is then unchanged.
-pub fn eval_l(alloc: Global, c: &LCommand, state: &mut Split) -> Result<Prints, Memory>
-    requires places { has_places (shape_of state.old) (plain_lcommand c.now) ≡ true }
-    requires small { can_exec limit (plain_lcommand c.now) (state_of state.old) ≡ true }
+pub fn eval_l(alloc: Global, c: &LCommand, database: &mut Split) -> Result<Prints, Memory>
+    requires places { has_places (shape_of database.old) (plain_lcommand c.now) ≡ true }
+    requires small { can_exec limit (plain_lcommand c.now) (state_of database.old) ≡ true }
     ensures prints { IfOk result (λ p. p.items ≡
-        (exec (plain_lcommand c.now) (state_of state.old)).prints) }
-    ensures database { OnOk result (AgreeOnNames (state_of state.new)
-        (exec (plain_lcommand c.now) (state_of state.old)).state) }
-    ensures shape { shape_of state.new ≡ shape_of state.old }
-    ensures unchanged { OnErr result (state.new ≡ state.old) }
+        (exec (plain_lcommand c.now) (state_of database.old)).prints) }
+    ensures database { OnOk result (AgreeOnNames (state_of database.new)
+        (exec (plain_lcommand c.now) (state_of database.old)).state) }
+    ensures shape { shape_of database.new ≡ shape_of database.old }
+    ensures unchanged { OnErr result (database.new ≡ database.old) }
 {
-    let mut scene = Scene {
-        base: copied(alloc, state.base.as_slice())?,
-        deltas: copied_all(alloc, state.deltas.as_slice())?,
+    let mut state = State {
+        base: copied(alloc, database.base.as_slice())?,
+        deltas: copied_all(alloc, database.deltas.as_slice())?,
         named: Vec::new(alloc),
         fresh: Vec::new(alloc),
     };
     let mut prints = List::new(alloc);
-    run(c, &mut scene, &mut prints)?;
-    let deltas = listed_all(alloc, scene.deltas)?;
-    state.base = List::from_vec(scene.base);
-    state.deltas = deltas;
+    run(c, &mut state, &mut prints)?;
+    let deltas = listed_all(alloc, state.deltas)?;
+    database.base = List::from_vec(state.base);
+    database.deltas = deltas;
     Ok(prints)
 }

@@ -2,7 +2,7 @@
 
 ghost use Rattle.std.specs.Prelude.{◌≡◌, [], ◌∷◌, IfOk};
 ghost use Rattle.homeo_syntax.specs.LowView.{plain_lexpr, plain_lcommand};
-ghost use Rattle.homeo_split.specs.Example.{example, sum_of, IsExample};
+ghost use Rattle.homeo_split.specs.inner.Example.{example, sum_of, IsExample};
 
 use crate::{Split, eval_l};
 use homeo_syntax::{LCommand, LExpr, List, Memory, SplitName};

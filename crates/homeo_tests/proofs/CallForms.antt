@@ -18,7 +18,7 @@ use Rattle.homeo_meaning.specs.CallForm.{body_form, ground_form}
 use Rattle.homeo_ground.specs.Grounding.{IsCalled}
 use Rattle.homeo_split.specs.Key.{words as split_words}
 use Rattle.homeo_split.specs.CanExec.{limit, can_exec}
-use Rattle.homeo_split.specs.Scenes.{state_with}
+use Rattle.homeo_split.specs.States.{state_with}
 use Rattle.homeo_split.proofs.SmallCommands.{small_law}
 
 -- a split database without deltas is the whole one

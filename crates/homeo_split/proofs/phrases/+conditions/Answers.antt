@@ -5,7 +5,7 @@ use Rattle.homeo_syntax.specs.LowView.{plain_lexpr, plain_ltest}
 use Rattle.homeo_syntax.proofs.LowViews.{low_Compare}
 use Rattle.homeo_meaning.specs.Meaning.{compared}
 use Rattle.homeo_meaning.specs.LowMeaning.{passes}
-use Rattle.homeo_split.specs.Scenes.{scene_state}
+use Rattle.homeo_split.specs.inner.States.{plain_state}
 use Rattle.homeo_split.proofs.Equations.{passes_Comparison}
 use Rattle.homeo_meaning.proofs.Numbers.{kept_is}
 use Rattle.homeo_split.proofs.Steps.{test_step}
@@ -13,7 +13,7 @@ use Rattle.homeo_split.proofs.phrases.+conditions.Goals as goal
 
 pub passes-returns-in-Compare : goal.passes-returns-in-Compare
 passes-returns-in-Compare t c =
-    let s = scene_state c.args.scene.now in
+    let s = plain_state c.args.state.now in
     let op = c.in-Compare.op in
     let a = c.in-Compare.left in
     let b = c.in-Compare.right in

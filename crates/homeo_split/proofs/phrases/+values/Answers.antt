@@ -6,7 +6,7 @@ use Rattle.homeo_syntax.proofs.LowViews.{low_Neg}
 use Rattle.homeo_split.specs.CanExec.{limit, sum_fits, product_fits}
 use Rattle.homeo_meaning.specs.LowMeaning.{value, sum_value, product_value}
 use Rattle.homeo_meaning.specs.Small.{is_small}
-use Rattle.homeo_split.specs.Scenes.{scene_state}
+use Rattle.homeo_split.specs.inner.States.{plain_state}
 use Rattle.homeo_split.proofs.Equations.{value_Neg}
 use Rattle.homeo_meaning.proofs.Numbers.{kept_is}
 use Rattle.homeo_split.proofs.Steps.{sum_step, sum_stop, product_step, product_stop}
@@ -14,7 +14,7 @@ use Rattle.homeo_split.proofs.phrases.+values.Goals as goal
 
 pub value-returns-in-Neg : goal.value-returns-in-Neg
 value-returns-in-Neg t c =
-    let s = scene_state c.args.scene.now in
+    let s = plain_state c.args.state.now in
     let part = kept_is c.value.result _ (search rules) c.value.ensures ∙ ap (λ e. value (plain_lexpr e) s) c.deref.ensures in
     kept_is c.negated.result _ (search rules) (c.negated.ensures ∙ ap neg_ℤ part)
     ∙ sym (ap (λ e. value (plain_lexpr e) s) c.in-Neg.is ∙ ap (λ e. value e s) (low_Neg c.in-Neg.e) ∙ value_Neg s (plain_lexpr c.in-Neg.e.value))
@@ -34,7 +34,7 @@ sum-loop-e-preserved t c =
     let k = sum_step c.args.es.now c.loop-e.e-index c.e-item.result c.loop-e-test.true c.e-item.is c.loop-e.invariant.fits in
     let e = kept_is c.value.result _ (search rules) c.value.ensures in
     let n = kept_is c.added-total.result _ (search rules) (c.added-total.ensures ∙ ap (λ v. to_z w64 c.loop-e.total-bits +ℤ v) e) in
-    let s = scene_state c.args.scene.now in
+    let s = plain_state c.args.state.now in
     let rest = low_exprs (map plain_lexpr (drop (c.loop-e.e-index + 1) c.args.es.now)) in
     record {
       fits = subst (λ n. sum_fits limit n rest s ≡ true) (sym n) k.rest;
@@ -59,7 +59,7 @@ product-loop-e-preserved t c =
     let k = product_step c.args.es.now c.loop-e.e-index c.e-item.result c.loop-e-test.true c.e-item.is c.loop-e.invariant.fits in
     let e = kept_is c.value.result _ (search rules) c.value.ensures in
     let n = kept_is c.multiplied-total.result _ (search rules) (c.multiplied-total.ensures ∙ ap (λ v. to_z w64 c.loop-e.total-bits *ℤ v) e) in
-    let s = scene_state c.args.scene.now in
+    let s = plain_state c.args.state.now in
     let rest = low_exprs (map plain_lexpr (drop (c.loop-e.e-index + 1) c.args.es.now)) in
     record {
       fits = subst (λ n. product_fits limit n rest s ≡ true) (sym n) k.rest;

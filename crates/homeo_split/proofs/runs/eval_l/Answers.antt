@@ -4,7 +4,7 @@ use Rattle.homeo_syntax.specs.LowView.{plain_lcommand}
 use Rattle.homeo_meaning.specs.LowMeaning.{place_of, exec}
 use Rattle.homeo_split.specs.Key.{words}
 use Rattle.homeo_split.specs.CanExec.{limit, can_exec}
-use Rattle.homeo_split.specs.Scenes.{state_with}
+use Rattle.homeo_split.specs.States.{state_with}
 use Rattle.homeo_split.specs.Shape.{has_places}
 use Rattle.homeo_split.proofs.CommandSteps.{left_state, left_prints}
 use Rattle.homeo_split.proofs.Copies.{same_lengths, without_temporaries}
@@ -15,7 +15,7 @@ unfolding words
 run-requires-clause-places c =
     let base = c.in_ok-copied.ensures ∙ c.as_slice.ensures in
     let deltas = c.in_ok-copied_all.ensures ∙ ap (map (λ d. d.items)) c.as_slice-2.ensures in
-    let counts = same_lengths (λ v. v.items) (λ d. d.items) c.in_ok-copied_all.field-0.items c.args.state.now.deltas.items deltas in
+    let counts = same_lengths (λ v. v.items) (λ d. d.items) c.in_ok-copied_all.field-0.items c.args.database.now.deltas.items deltas in
     (λ i. has_places (record { base = length (base i); deltas = counts i }) (plain_lcommand c.args.c.now)) ∙ c.requires.places
 
 pub run-requires-clause-runs : goal.run-requires-clause-runs
@@ -38,10 +38,10 @@ unfolding words
 returns-clause-database c x =
     let base = c.in_ok-copied.ensures ∙ c.as_slice.ensures in
     let deltas = c.in_ok-copied_all.ensures ∙ ap (map (λ d. d.items)) c.as_slice-2.ensures in
-    let scene = c.run.new.scene in
+    let state = c.run.new.state in
     let ran = left_state _ _ _ _ c.in_ok-run.ensures.run in
-    without_temporaries _ _ scene.named.items scene.fresh.items x
-    ∙ (λ i. state_with (c.from_vec.ensures i).items (c.in_ok-deltas.ensures i) scene.named.items scene.fresh.items (place_of x))
+    without_temporaries _ _ state.named.items state.fresh.items x
+    ∙ (λ i. state_with (c.from_vec.ensures i).items (c.in_ok-deltas.ensures i) state.named.items state.fresh.items (place_of x))
     ∙ ap (λ s. s (place_of x)) ran
     ∙ (λ i. (exec (plain_lcommand c.args.c.now) (state_with (base i) (deltas i) (c.new.ensures.items i) (c.new-2.ensures.items i))).state (place_of x))
 
@@ -50,8 +50,8 @@ unfolding words
 returns-clause-shape c =
     let base = c.in_ok-copied.ensures ∙ c.as_slice.ensures in
     let deltas = c.in_ok-copied_all.ensures ∙ ap (map (λ d. d.items)) c.as_slice-2.ensures in
-    let before = same_lengths (λ v. v.items) (λ d. d.items) c.in_ok-copied_all.field-0.items c.args.state.now.deltas.items deltas in
-    let after = same_lengths (λ d. d.items) (λ v. v.items) c.in_ok-deltas.deltas.items c.run.new.scene.deltas.items c.in_ok-deltas.ensures in
+    let before = same_lengths (λ v. v.items) (λ d. d.items) c.in_ok-copied_all.field-0.items c.args.database.now.deltas.items deltas in
+    let after = same_lengths (λ d. d.items) (λ v. v.items) c.in_ok-deltas.deltas.items c.run.new.state.deltas.items c.in_ok-deltas.ensures in
     (λ i. record { base = length (c.from_vec.ensures i).items; deltas = after i })
     ∙ c.in_ok-run.ensures.shape
     ∙ (λ i. record { base = length (base i); deltas = before i })

@@ -5,7 +5,7 @@ use Rattle.homeo_syntax.specs.Low as l
 use Rattle.homeo_syntax.specs.LowView.{low_commands, plain_lcommand}
 use Rattle.homeo_syntax.specs.declared.low.SplitName.TheVariants.{Base, Delta}
 use Rattle.homeo_syntax.proofs.LowViews.{low_Literal, low_Read, low_Write, low_Print, low_Seq}
-use Rattle.homeo_split.specs.Example.{sum_of}
+use Rattle.homeo_split.specs.inner.Example.{sum_of}
 use Rattle.homeo_split.proofs.Example.{pushed}
 use Rattle.homeo_split.proofs.tests.raise.Goals as goal
 

@@ -5,7 +5,7 @@ use Rattle.homeo_syntax.specs.SourceView.{plain_workload}
 use Rattle.homeo_meaning.specs.Ground.{plain_ground}
 use Rattle.homeo_split.specs.CanExec.{limit, can_exec}
 use Rattle.homeo_split.specs.Key.{words}
-use Rattle.homeo_split.specs.Scenes.{state_with}
+use Rattle.homeo_split.specs.States.{state_with}
 use Rattle.homeo_tests.proofs.CallForms.{form_can_run}
 use Rattle.homeo_tests.proofs.forms.run_both.Goals as goal
 

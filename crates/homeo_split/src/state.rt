@@ -2,7 +2,7 @@
 
 ghost use Rattle.std.specs.Prelude.{◌≡◌, true, OnOk};
 ghost use Rattle.homeo_meaning.specs.LowMeaning.{TempAt, DeltaAt, place_of, put};
-ghost use Rattle.homeo_split.specs.Scenes.{scene_state, scene_shape};
+ghost use Rattle.homeo_split.specs.inner.States.{plain_state, state_shape};
 ghost use Rattle.homeo_split.specs.Shape.{has_place};
 
 use homeo_meaning::padded::{item_or, put};
@@ -10,17 +10,17 @@ use homeo_syntax::{Memory, SplitName, Temp};
 
 /// The values of the base, of the deltas by site, and of the temporaries, named and fresh.
 #[derive(Drop)]
-pub(crate) struct Scene {
+pub(crate) struct State {
     pub(crate) base: Vec<i64>,
     pub(crate) deltas: Vec<Vec<i64>>,
     pub(crate) named: Vec<i64>,
     pub(crate) fresh: Vec<i64>,
 }
 
-impl Scene {
+impl State {
     #[tactic(auto, unfolding(crate::specs::Key::words))]
     pub(crate) fn temp(&self, t: Temp) -> i64
-        ensures { result ≡ scene_state self.now (TempAt t) }
+        ensures { result ≡ plain_state self.now (TempAt t) }
     {
         match t {
             Temp::Named(n) => item_or(self.named.as_slice(), n as usize, 0),
@@ -30,7 +30,7 @@ impl Scene {
 
     #[tactic(auto, unfolding(crate::specs::Key::words, homeo_meaning::specs::Key::words))]
     pub(crate) fn read(&self, x: SplitName) -> i64
-        ensures { result ≡ scene_state self.now (place_of x) }
+        ensures { result ≡ plain_state self.now (place_of x) }
     {
         match x {
             SplitName::Whole(object) => item_or(self.base.as_slice(), object as usize, 0),
@@ -41,8 +41,8 @@ impl Scene {
 
     /// Sets a temporary.
     pub(crate) fn assign(&mut self, t: Temp, v: i64) -> Result<(), Memory>
-        ensures shape { scene_shape self.new ≡ scene_shape self.old }
-        ensures set { OnOk result (scene_state self.new ≡ put (scene_state self.old) (TempAt t) v) }
+        ensures shape { state_shape self.new ≡ state_shape self.old }
+        ensures set { OnOk result (plain_state self.new ≡ put (plain_state self.old) (TempAt t) v) }
     {
         match t {
             Temp::Named(n) => put(&mut self.named, n as usize, v, 0),
@@ -52,9 +52,9 @@ impl Scene {
 
     /// Sets a name that is there.
     pub(crate) fn write(&mut self, x: SplitName, v: i64)
-        requires { has_place (scene_shape self.old) x ≡ true }
-        ensures shape { scene_shape self.new ≡ scene_shape self.old }
-        ensures set { scene_state self.new ≡ put (scene_state self.old) (place_of x) v }
+        requires { has_place (state_shape self.old) x ≡ true }
+        ensures shape { state_shape self.new ≡ state_shape self.old }
+        ensures set { plain_state self.new ≡ put (plain_state self.old) (place_of x) v }
     {
         match x {
             SplitName::Whole(object) => self.base[object as usize] = v,
@@ -65,7 +65,7 @@ impl Scene {
 
     #[tactic(auto, unfolding(crate::specs::Key::words))]
     fn delta(&self, object: usize, site: usize) -> i64
-        ensures { result ≡ scene_state self.now (DeltaAt object site) }
+        ensures { result ≡ plain_state self.now (DeltaAt object site) }
     {
         match self.deltas.get(site) {
             Some(deltas) => item_or(deltas.as_slice(), object, 0),

@@ -6,22 +6,23 @@ use Rattle.std.specs.Vec.{with_item}
 use Rattle.homeo_meaning.specs.Key.{words as meaning_words}
 use Rattle.homeo_meaning.specs.LowMeaning.{place_of, put}
 use Rattle.homeo_split.specs.Key.{words}
-use Rattle.homeo_split.specs.Scenes.{scene_state, scene_shape, state_with}
+use Rattle.homeo_split.specs.States.{state_with}
+use Rattle.homeo_split.specs.inner.States.{plain_state, state_shape}
 use Rattle.homeo_split.specs.Shape.{has_place}
 use Rattle.homeo_split.proofs.States.{has_base, set_base, site_is, object_is, same_lengths, set_site}
-use Rattle.homeo_split.proofs.scene.Scene.write.Goals as goal
+use Rattle.homeo_split.proofs.state.State.write.Goals as goal
 
 pub index_mut-requires : goal.index_mut-requires
 unfolding words
 index_mut-requires c =
-    let has = subst (λ x. has_place (scene_shape c.args.self.now) x ≡ true) c.in-Whole.is c.requires in
-    subst (λ n. c.in-Whole.object < n) (sym c.args.self.now.base.ok.0) (has_base (scene_shape c.args.self.now) c.in-Whole.object has)
+    let has = subst (λ x. has_place (state_shape c.args.self.now) x ≡ true) c.in-Whole.is c.requires in
+    subst (λ n. c.in-Whole.object < n) (sym c.args.self.now.base.ok.0) (has_base (state_shape c.args.self.now) c.in-Whole.object has)
 
 pub index_mut-requires-in-Base : goal.index_mut-requires-in-Base
 unfolding words
 index_mut-requires-in-Base c =
-    let has = subst (λ x. has_place (scene_shape c.args.self.now) x ≡ true) c.in-Base.is c.requires in
-    subst (λ n. c.in-Base.object < n) (sym c.args.self.now.base.ok.0) (has_base (scene_shape c.args.self.now) c.in-Base.object has)
+    let has = subst (λ x. has_place (state_shape c.args.self.now) x ≡ true) c.in-Base.is c.requires in
+    subst (λ n. c.in-Base.object < n) (sym c.args.self.now.base.ok.0) (has_base (state_shape c.args.self.now) c.in-Base.object has)
 
 pub returns-in-Whole-clause-shape : goal.returns-in-Whole-clause-shape
 unfolding words
@@ -41,10 +42,10 @@ returns-in-Whole-clause-set c =
     let s = c.args.self.now in
     let x = c.in-Whole.object in
     let ds = map (λ d. d.items) s.deltas.items in
-    let has = subst (λ x. has_place (scene_shape s) x ≡ true) c.in-Whole.is c.requires in
+    let has = subst (λ x. has_place (state_shape s) x ≡ true) c.in-Whole.is c.requires in
     ap (λ v. state_with (set s.base.items x v) ds s.named.items s.fresh.items) (to_z-of_z w64 c.args.v c.ranges.v)
-    ∙ set_base s.base.items ds s.named.items s.fresh.items x c.args.v (has_base (scene_shape s) x has)
-    ∙ ap (λ x. put (scene_state s) (place_of x) c.args.v) (sym c.in-Whole.is)
+    ∙ set_base s.base.items ds s.named.items s.fresh.items x c.args.v (has_base (state_shape s) x has)
+    ∙ ap (λ x. put (plain_state s) (place_of x) c.args.v) (sym c.in-Whole.is)
 
 pub returns-in-Base-clause-set : goal.returns-in-Base-clause-set
 unfolding words meaning_words
@@ -52,16 +53,16 @@ returns-in-Base-clause-set c =
     let s = c.args.self.now in
     let x = c.in-Base.object in
     let ds = map (λ d. d.items) s.deltas.items in
-    let has = subst (λ x. has_place (scene_shape s) x ≡ true) c.in-Base.is c.requires in
+    let has = subst (λ x. has_place (state_shape s) x ≡ true) c.in-Base.is c.requires in
     ap (λ v. state_with (set s.base.items x v) ds s.named.items s.fresh.items) (to_z-of_z w64 c.args.v c.ranges.v)
-    ∙ set_base s.base.items ds s.named.items s.fresh.items x c.args.v (has_base (scene_shape s) x has)
-    ∙ ap (λ x. put (scene_state s) (place_of x) c.args.v) (sym c.in-Base.is)
+    ∙ set_base s.base.items ds s.named.items s.fresh.items x c.args.v (has_base (state_shape s) x has)
+    ∙ ap (λ x. put (plain_state s) (place_of x) c.args.v) (sym c.in-Base.is)
 
 pub index_mut-requires-in-Delta : goal.index_mut-requires-in-Delta
 unfolding words
 index_mut-requires-in-Delta c =
     let s = c.args.self.now in
-    let has = subst (λ x. has_place (scene_shape s) x ≡ true) c.in-Delta.is c.requires in
+    let has = subst (λ x. has_place (state_shape s) x ≡ true) c.in-Delta.is c.requires in
     subst (λ n. c.in-Delta.site < n) (sym s.deltas.ok.0) (site_is (λ d. d.items) s.deltas.items c.in-Delta.object c.in-Delta.site (length s.base.items) has)
 
 pub index_mut-requires-in-Delta-2 : goal.index_mut-requires-in-Delta-2
@@ -69,7 +70,7 @@ unfolding words
 index_mut-requires-in-Delta-2 c =
     let s = c.args.self.now in
     let here = c.index_mut-in-Delta.result.now in
-    let has = subst (λ x. has_place (scene_shape s) x ≡ true) c.in-Delta.is c.requires in
+    let has = subst (λ x. has_place (state_shape s) x ≡ true) c.in-Delta.is c.requires in
     subst (λ n. c.in-Delta.object < n) (sym here.ok.0) (object_is (λ d. d.items) s.deltas.items c.in-Delta.object c.in-Delta.site (length s.base.items) has here c.index_mut-in-Delta.ensures.value)
 
 pub returns-in-Delta-clause-shape : goal.returns-in-Delta-clause-shape
@@ -87,6 +88,6 @@ returns-in-Delta-clause-set c =
     let here = c.index_mut-in-Delta.result.now in
     let v = to_z-of_z w64 c.args.v c.ranges.v in
     let new = with_item here c.in-Delta.object (to_z w64 (of_z w64 c.args.v)) in
-    let has = subst (λ x. has_place (scene_shape s) x ≡ true) c.in-Delta.is c.requires in
+    let has = subst (λ x. has_place (state_shape s) x ≡ true) c.in-Delta.is c.requires in
     set_site (λ d. d.items) s.deltas.items c.in-Delta.object c.in-Delta.site (length s.base.items) has here c.index_mut-in-Delta.ensures.value new c.args.v (ap (set here.items c.in-Delta.object) v) s.base.items s.named.items s.fresh.items
-    ∙ ap (λ x. put (scene_state s) (place_of x) c.args.v) (sym c.in-Delta.is)
+    ∙ ap (λ x. put (plain_state s) (place_of x) c.args.v) (sym c.in-Delta.is)

@@ -1,11 +1,9 @@
--- The states that split databases and the lists of a run stand for.
-use Rattle.std.specs.Prelude.{◌≡◌, ℕ, ℤ, pos, List, [], map, length, slice_index_or}
+-- The states that split databases stand for.
+use Rattle.std.specs.Prelude.{◌≡◌, ℕ, ℤ, pos, List, [], map, slice_index_or}
 use Rattle.homeo_syntax.specs.declared.low.Temp.TheVariants.{Named, Fresh}
 use Rattle.homeo_syntax.specs.declared.low.SplitName.{SplitName}
-use Rattle.homeo_meaning.specs.LowMeaning.{State, Run, TempAt, BaseAt, DeltaAt, place_of}
+use Rattle.homeo_meaning.specs.LowMeaning.{State, TempAt, BaseAt, DeltaAt, place_of}
 use Rattle.homeo_split.specs.Key.{words}
-use Rattle.homeo_split.specs.Shape.{Shape}
-use Rattle.homeo_split.specs.declared.scene.Scene.{Scene}
 use Rattle.homeo_split.specs.declared.split.Split.{Split}
 
 -- the n-th value: 0 past the end
@@ -23,18 +21,6 @@ state_with base deltas named fresh (DeltaAt x j) = at (slice_index_or deltas j [
 abbrev pub state_of : Split → State
 unfolding words
 state_of s = state_with s.base.items (map (λ d. d.items) s.deltas.items) [] []
-
-abbrev pub scene_state : Scene → State
-unfolding words
-scene_state s = state_with s.base.items (map (λ d. d.items) s.deltas.items) s.named.items s.fresh.items
-
-abbrev pub scene_shape : Scene → Shape
-unfolding words
-scene_shape s = record { base = length s.base.items; deltas = map (λ d. length d.items) s.deltas.items }
-
-abbrev pub run_of : State → List ℤ → Run
-unfolding words
-run_of s prints = record { state = s; prints = prints }
 
 -- two states have the same values at the base and the deltas
 abbrev pub AgreeOnNames : State → State → Type 0
