@@ -13,6 +13,7 @@ use Rattle.homeo_meaning.specs.Ground.{sited_call}
 use Rattle.homeo_meaning.specs.GlobalNames.{SitedCall, sited_calls_of}
 use Rattle.homeo_meaning.specs.NumberRules.{distinct_after}
 use Rattle.homeo_ground.specs.Key.{words}
+use Rattle.homeo_ground.specs.Sited.{values}
 use Rattle.homeo_ground.specs.Grounding.{place_among, places_among}
 use Rattle.homeo_ground.proofs.Distinct.{calls-step, places-step, clients-step, tables-step}
 
@@ -20,9 +21,9 @@ use Rattle.homeo_ground.proofs.Distinct.{calls-step, places-step, clients-step, 
 abbrev pub sited_at : Client → Call → SitedCall
 sited_at client call = sited_call (plain_client client) (plain_call call)
 
-pub sited-is : (client : Client) (call : Call) (args : List ℤ) (site : ℤ) → args ≡ map (λ (n : Number). n.value) call.args.items → site ≡ client.site.value → record { name = record { name = call.name.name; offset = call.name.offset }; args = args; site = site } ≡ sited_at client call
+pub sited-is : (client : Client) (call : Call) (args : List Number) (site : ℤ) → args ≡ call.args.items → site ≡ client.site.value → record { name = call.name; args = values args; site = site } ≡ sited_at client call
 unfolding meaning_words tree_words
-sited-is client call args site a s = λ i. record { name = call.name; args = a i; site = s i }
+sited-is client call args site a s = λ i. record { name = call.name; args = values (a i); site = s i }
 
 pub all-sited : (client : Client) → map (sited_at client) client.calls.items ≡ sited_calls_of (plain_client client)
 unfolding meaning_words tree_words

@@ -1,52 +1,94 @@
--- The calls of a set, in the order in which they were put to it.
-use Rattle.std.proofs.Common.{◌≡◌, ◌+◌, ℤ, Bool, true, false, ◌&&◌, ◌==◌, List, [], ◌∷◌, ◌++◌, map, refl, ap, ◌∙◌}
+-- Keys tell calls apart as the definition does, and the set of them stays beside the calls.
+use Rattle.std.proofs.Common.{◌≡◌, ℕ, ◌+◌, ℤ, Bool, true, false, ◌&&◌, ◌==◌, List, [], ◌∷◌, ◌++◌, map, refl, sym, ap, ◌∙◌}
 use Rattle.std.specs.Prelude.{◌||◌, not, if◌then◌else◌}
 use Rattle.std.specs.Ordering.{int_eq}
 use Rattle.std.specs.List.{list_any, position_or_len}
 use Rattle.std.specs.Cmp.Lexicographic.{pointwise}
 use Rattle.std.proofs.lemmas.List.{map-append}
 use Rattle.homeo_meaning.specs.Key.{words as meaning_words}
+use Rattle.homeo_meaning.specs.GlobalNames as g
 use Rattle.homeo_meaning.specs.NumberRules.{same_numbers, same_ground, distinct_after}
 use Rattle.homeo_ground.specs.Key.{words}
 use Rattle.homeo_ground.specs.Sited.{sited}
+use Rattle.homeo_ground.specs.inner.Keys.{unplaced, call_of}
 use Rattle.homeo_ground.specs.Grounding.{place_among}
+use Rattle.homeo_ground.specs.declared.key.Key.{Key}
 use Rattle.homeo_ground.specs.declared.sited.SitedCall.{SitedCall}
 
-pub same-numbers : (xs ys : List ℤ) → pointwise int_eq xs ys ≡ same_numbers xs ys
+same-numbers : (xs ys : List ℤ) → pointwise int_eq xs ys ≡ same_numbers xs ys
 same-numbers [] [] = refl
 same-numbers [] (y ∷ ys) = refl
 same-numbers (x ∷ xs) [] = refl
 same-numbers (x ∷ xs) (y ∷ ys) = ap (λ (b : Bool). int_eq x y && b) (same-numbers xs ys)
 
--- the test of two calls in the code
-abbrev pub same_call : SitedCall → SitedCall → Bool
-same_call a b = (a.name == b.name) && (pointwise int_eq a.args.items b.args.items && int_eq a.site b.site)
+-- the test of two keys in the code
+abbrev pub same_key : Key → Key → Bool
+same_key a b = (a.name == b.name) && (pointwise int_eq a.args.items b.args.items && int_eq a.site b.site)
 
 and-assoc : (a b c : Bool) → (a && (b && c)) ≡ ((a && b) && c)
 and-assoc true b c = refl
 and-assoc false b c = refl
 
-pub same-call : (a b : SitedCall) → same_call a b ≡ same_ground (sited a) (sited b)
+same-key : (a b : Key) → same_key a b ≡ same_ground (call_of a) (call_of b)
 unfolding meaning_words
-same-call a b =
+same-key a b =
     ap (λ (c : Bool). (a.name == b.name) && (c && int_eq a.site b.site)) (same-numbers a.args.items b.args.items)
     ∙ and-assoc (a.name == b.name) (same_numbers a.args.items b.args.items) (int_eq a.site b.site)
 
--- a test that tells calls apart as ground calls
-module _ (same : SitedCall → SitedCall → Bool) (is : (a b : SitedCall) → same a b ≡ same_ground (sited a) (sited b)) where
-  any-same : (c : SitedCall) (ks : List SitedCall) → list_any (same c) ks ≡ list_any (same_ground (sited c)) (map sited ks)
-  any-same c [] = refl
-  any-same c (k ∷ ks) = λ i. is c k i || any-same c ks i
+any-keys : (k : Key) (ks : List Key) → list_any (same_key k) ks ≡ list_any (same_ground (call_of k)) (map call_of ks)
+any-keys k [] = refl
+any-keys k (j ∷ ks) = λ i. same-key k j i || any-keys k ks i
 
-  pub place-same : (c : SitedCall) (ks : List SitedCall) → position_or_len (same c) ks ≡ place_among (map sited ks) (sited c)
+place-keys : (k : Key) (ks : List Key) → position_or_len (same_key k) ks ≡ position_or_len (same_ground (call_of k)) (map call_of ks)
+place-keys k [] = refl
+place-keys k (j ∷ ks) = λ i. if not (same-key k j i) then 1 + place-keys k ks i else 0
+
+-- where calls stand in the text does not count
+any-unplaced : (u : g.SitedCall) (us : List g.SitedCall) → list_any (same_ground (unplaced u)) (map unplaced us) ≡ list_any (same_ground u) us
+unfolding meaning_words
+any-unplaced u [] = refl
+any-unplaced u (v ∷ us) = ap (λ (b : Bool). same_ground u v || b) (any-unplaced u us)
+
+place-unplaced : (u : g.SitedCall) (us : List g.SitedCall) → position_or_len (same_ground (unplaced u)) (map unplaced us) ≡ position_or_len (same_ground u) us
+unfolding meaning_words
+place-unplaced u [] = refl
+place-unplaced u (v ∷ us) = ap (λ (n : ℕ). if not (same_ground u v) then 1 + n else 0) (place-unplaced u us)
+
+-- a key and a call that are put to those before them
+module _ (ks : List Key) (cs : List SitedCall) (k : Key) (c : SitedCall) (keys : map call_of ks ≡ map unplaced (map sited cs)) (key : call_of k ≡ unplaced (sited c)) where
+  there : list_any (same_key k) ks ≡ list_any (same_ground (sited c)) (map sited cs)
+  there = any-keys k ks ∙ (λ i. list_any (same_ground (key i)) (keys i)) ∙ any-unplaced (sited c) (map sited cs)
+
+  pub place-is : position_or_len (same_key k) ks ≡ place_among (map sited cs) (sited c)
   unfolding words
-  place-same c [] = refl
-  place-same c (k ∷ ks) = λ i. if not (is c k i) then 1 + place-same c ks i else 0
+  place-is = place-keys k ks ∙ (λ i. position_or_len (same_ground (key i)) (keys i)) ∙ place-unplaced (sited c) (map sited cs)
 
-  pub put-same : (c : SitedCall) (ks : List SitedCall) → map sited (if list_any (same c) ks then ks else ks ++ c ∷ []) ≡ distinct_after (map sited ks) (sited c ∷ [])
-  unfolding meaning_words
-  put-same c ks = go (list_any (same c) ks) ∙ ap (λ (b : Bool). if b then map sited ks else map sited ks ++ sited c ∷ []) (any-same c ks)
-    where
-      go : (b : Bool) → map sited (if b then ks else ks ++ c ∷ []) ≡ (if b then map sited ks else map sited ks ++ sited c ∷ [])
-      go true = refl
-      go false = map-append sited ks (c ∷ [])
+  abbrev keys_after : Bool → List Key
+  keys_after b = if b then ks else ks ++ k ∷ []
+
+  abbrev calls_after : Bool → List SitedCall
+  calls_after b = if b then cs ++ c ∷ [] else cs
+
+  stand : (b : Bool) → map call_of (keys_after b) ≡ map unplaced (map sited (calls_after (not b)))
+  stand true = keys
+  stand false =
+      map-append call_of ks (k ∷ [])
+      ∙ (λ i. keys i ++ key i ∷ [])
+      ∙ sym (ap (map unplaced) (map-append sited cs (c ∷ [])) ∙ map-append unplaced (map sited cs) (sited c ∷ []))
+
+  after : (b : Bool) → map sited (calls_after (not b)) ≡ (if b then map sited cs else map sited cs ++ sited c ∷ [])
+  after true = refl
+  after false = map-append sited cs (c ∷ [])
+
+  module _ (found : List Key) (made : List SitedCall) (is_new : Bool) (f : found ≡ keys_after (list_any (same_key k) ks)) (n : is_new ≡ not (list_any (same_key k) ks)) (m : made ≡ calls_after is_new) where
+    made_is : made ≡ calls_after (not (list_any (same_key k) ks))
+    made_is = m ∙ ap calls_after n
+
+    pub keys-stand : map call_of found ≡ map unplaced (map sited made)
+    keys-stand = ap (map call_of) f ∙ stand (list_any (same_key k) ks) ∙ sym (ap (λ (l : List SitedCall). map unplaced (map sited l)) made_is)
+
+    pub calls-put : map sited made ≡ distinct_after (map sited cs) (sited c ∷ [])
+    unfolding meaning_words
+    calls-put =
+        ap (map sited) made_is ∙ after (list_any (same_key k) ks)
+        ∙ ap (λ (b : Bool). if b then map sited cs else map sited cs ++ sited c ∷ []) there

@@ -9,7 +9,7 @@ ghost use Rattle.homeo_ground.specs.Sited.{sited};
 ghost use Rattle.homeo_ground.specs.inner.Grounds.{ground_by, IsSite};
 
 use crate::numbering::number_clients;
-use crate::sited::SitedCall;
+use crate::sited::{SitedCall, ground_call};
 use homeo_context::Declarations;
 use homeo_meaning::{Accepted, CallId, GroundCall};
 use homeo_syntax::Memory;
@@ -42,7 +42,7 @@ impl Model for Grounding {
 fn ground_calls(
     alloc: Global,
     numbering: &Declarations,
-    calls: &[SitedCall],
+    calls: &[SitedCall<'_>],
 ) -> Result<Vec<GroundCall>, Memory>
     requires sites { All (λ c. IsSite c.site) calls.now }
     requires few { length numbering.now.transactions < 2 ^ 32 }
@@ -51,7 +51,7 @@ fn ground_calls(
 {
     let mut made = Vec::new(alloc);
     for call in calls {
-        made.push(call.to_ground(alloc, numbering)?)?;
+        made.push(ground_call(alloc, *call, numbering)?)?;
     }
     Ok(made)
 }

@@ -1,84 +1,76 @@
-//! The distinct ground calls among calls, each with the places of the calls that are the same.
+//! The distinct ground calls of clients, and which of them each call is.
 
-ghost use Rattle.std.specs.Prelude.{◌≡◌, [], ◌∷◌, map, IfOk, OnOk};
+ghost use Rattle.std.specs.Prelude.{◌≡◌, [], map, IfOk, OnOk};
 ghost use Rattle.std.specs.List.{flat_map};
 ghost use Rattle.homeo_syntax.specs.SourceView.{plain_client};
 ghost use Rattle.homeo_meaning.specs.GlobalNames.{sited_calls_of};
 ghost use Rattle.homeo_meaning.specs.NumberRules.{distinct_after};
 ghost use Rattle.homeo_ground.specs.Grounding.{place_among, places_among};
-ghost use Rattle.homeo_ground.specs.Sited.{sited, sited_all};
+ghost use Rattle.homeo_ground.specs.Sited.{sited};
+ghost use Rattle.homeo_ground.specs.inner.Keys.{sited_all, AreKeys};
 
+use crate::distinct_calls::DistinctCalls;
 use crate::sited::SitedCall;
 use homeo_syntax::{Client, Memory};
-use indexmap::IndexSet;
 use std::alloc::Global;
 
-/// The distinct ground calls in first-seen order, and by client the place of each of its calls
-/// among them.
+/// The distinct ground calls of clients, and which of them each call is.
 #[derive(Drop)]
-pub struct Numbered {
-    pub calls: IndexSet<SitedCall>,
+pub struct Numbered<'a> {
+    /// The first call of each ground call: clients in order, and the calls of each in order.
+    pub calls: Vec<SitedCall<'a>>,
+    /// By client, and in it by call, the place of the call's ground call among `calls`.
     pub places: Vec<Vec<usize>>,
 }
 
-/// The place of a call, after it is put behind the calls if none of them is the same ground call.
-fn number_call(calls: &mut IndexSet<SitedCall>, call: SitedCall) -> Result<usize, Memory>
-    ensures calls { OnOk result (sited_all calls.new ≡ distinct_after (sited_all calls.old) (sited call ∷ [])) }
-    ensures place { IfOk result (λ place. place ≡ place_among (sited_all calls.new) (sited call)) }
-{
-    let (place, _) = calls.insert_full(call)?;
-    Ok(place)
-}
-
 /// The places of a client's calls, after those are put behind the calls that are new.
-fn number_client(
+fn number_client<'a>(
     alloc: Global,
-    client: &Client,
-    calls: &mut IndexSet<SitedCall>,
+    client: &'a Client,
+    distinct: &mut DistinctCalls<'a>,
 ) -> Result<Vec<usize>, Memory>
-    ensures calls { OnOk result (sited_all calls.new ≡
-        distinct_after (sited_all calls.old) (sited_calls_of (plain_client client.now))) }
+    requires { AreKeys distinct.old }
+    ensures keys { OnOk result (AreKeys distinct.new) }
+    ensures calls { OnOk result (sited_all distinct.new ≡
+        distinct_after (sited_all distinct.old) (sited_calls_of (plain_client client.now))) }
     ensures places { IfOk result (λ places. places.items ≡
-        map (place_among (sited_all calls.new)) (sited_calls_of (plain_client client.now))) }
+        map (place_among (sited_all distinct.new)) (sited_calls_of (plain_client client.now))) }
 {
     let mut places = Vec::new(alloc);
     for call in client.calls.as_slice() {
-        let call = SitedCall::of(alloc, client, call)?;
-        let place = number_call(calls, call)?;
+        let call = SitedCall {
+            name: call.name,
+            args: call.args.as_slice(),
+            site: client.site.value,
+        };
+        let place = distinct.put(alloc, call)?;
         places.push(place)?;
     }
     Ok(places)
 }
 
-/// The distinct ground calls of clients.
-pub fn number_clients(alloc: Global, clients: &[Client]) -> Result<Numbered, Memory>
-    ensures calls { IfOk result (λ n. sited_all n.calls ≡
-        distinct_after [] (flat_map sited_calls_of (map plain_client clients.now))) }
-    ensures places { IfOk result (λ n. map (λ places. places.items) n.places.items ≡
-        places_among (sited_all n.calls) (map plain_client clients.now)) }
-{
-    let mut calls = IndexSet::new(alloc);
-    let mut places = Vec::new(alloc);
-    for client in clients {
-        let numbers = number_client(alloc, client, &mut calls)?;
-        places.push(numbers)?;
-    }
-    Ok(Numbered { calls, places })
-}
-
-/// By client the place of each of its calls among the distinct ground calls, which are in
-/// first-seen order.
+/// Finds the distinct ground calls of clients, in about the time that their calls and arguments take.
+/// Nothing is asked of the clients: they may be those of a workload that breaks rules.
 ///
 /// # Errors
 ///
-/// `Memory` where memory is wanting.
-pub fn ground_places(alloc: Global, clients: &[Client]) -> Result<Vec<Vec<usize>>, Memory>
-    ensures { IfOk result (λ places. map (λ places. places.items) places.items ≡
-        places_among (distinct_after [] (flat_map sited_calls_of (map plain_client clients.now)))
-        (map plain_client clients.now)) }
+/// `Memory` when out of memory.
+pub fn number_clients(alloc: Global, clients: &[Client]) -> Result<Numbered<'_>, Memory>
+    ensures calls { IfOk result (λ n. map sited n.calls.items ≡
+        distinct_after [] (flat_map sited_calls_of (map plain_client clients.now))) }
+    ensures places { IfOk result (λ n. map (λ places. places.items) n.places.items ≡
+        places_among (map sited n.calls.items) (map plain_client clients.now)) }
 {
-    let numbered = number_clients(alloc, clients)?;
-    Ok(numbered.places)
+    let mut distinct = DistinctCalls::new(alloc);
+    let mut places = Vec::new(alloc);
+    for client in clients {
+        let numbers = number_client(alloc, client, &mut distinct)?;
+        places.push(numbers)?;
+    }
+    Ok(Numbered {
+        calls: distinct.calls,
+        places,
+    })
 }
 
 #[cfg(test)]
@@ -139,8 +131,8 @@ mod tests {
     #[test]
     fn calls_have_places_in_first_seen_order(rt: HostRuntime) -> Result<(), Fail> {
         let clients = clients(rt.alloc())?;
-        let places = ground_places(rt.alloc(), clients.as_slice())?;
-        match places.as_slice() {
+        let numbered = number_clients(rt.alloc(), clients.as_slice())?;
+        match numbered.places.as_slice() {
             [first, second, third] => {
                 assert_eq!(rt; first.as_slice(), [0, 1, 0, 2].as_slice());
                 assert_eq!(rt; second.as_slice(), [3].as_slice());
@@ -148,16 +140,9 @@ mod tests {
             }
             _ => panic!(rt; "three clients"),
         }
-        Ok(())
-    }
-
-    #[test]
-    fn each_ground_call_is_kept_where_it_is_first_called(rt: HostRuntime) -> Result<(), Fail> {
-        let clients = clients(rt.alloc())?;
-        let numbered = number_clients(rt.alloc(), clients.as_slice())?;
         let mut offsets = Vec::new(rt.alloc());
         for call in numbered.calls.as_slice() {
-            offsets.push(call.offset)?;
+            offsets.push(call.name.offset)?;
         }
         assert_eq!(rt; offsets.as_slice(), [10, 20, 40, 50, 70].as_slice());
         Ok(())

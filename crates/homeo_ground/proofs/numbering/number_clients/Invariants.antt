@@ -5,11 +5,12 @@ use Rattle.homeo_syntax.specs.SourceView.{plain_client}
 use Rattle.homeo_meaning.specs.GlobalNames.{sited_calls_of}
 use Rattle.homeo_meaning.specs.NumberRules.{distinct_after}
 use Rattle.homeo_ground.specs.Grounding.{places_among}
-use Rattle.homeo_ground.specs.Sited.{sited_all}
+use Rattle.homeo_ground.specs.inner.Keys.{sited_all, AreKeys}
 use Rattle.homeo_ground.proofs.numbering.number_clients.Given as goal
 
 abbrev pub invariant-loop-client : goal.invariant-loop-client
 invariant-loop-client l = record {
-  calls : sited_all l.calls ≡ distinct_after [] (flat_map sited_calls_of (map plain_client (take l.client-index l.clients)));
-  places : map (λ places. places.items) l.places.items ≡ places_among (sited_all l.calls) (map plain_client (take l.client-index l.clients));
+  keys : AreKeys l.distinct;
+  calls : sited_all l.distinct ≡ distinct_after [] (flat_map sited_calls_of (map plain_client (take l.client-index l.clients)));
+  places : map (λ places. places.items) l.places.items ≡ places_among (sited_all l.distinct) (map plain_client (take l.client-index l.clients));
 }

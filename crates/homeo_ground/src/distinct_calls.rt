@@ -1,0 +1,59 @@
+//! The distinct ground calls among calls that are put one after another.
+
+ghost use Rattle.std.specs.Prelude.{◌≡◌, [], ◌∷◌, ◌++◌, map, if◌then◌else◌, IfOk, OnOk};
+ghost use Rattle.homeo_meaning.specs.NumberRules.{distinct_after};
+ghost use Rattle.homeo_ground.specs.Grounding.{place_among};
+ghost use Rattle.homeo_ground.specs.Sited.{sited};
+ghost use Rattle.homeo_ground.specs.inner.Keys.{sited_all, AreKeys};
+
+use crate::key::{Key, key_of};
+use crate::sited::SitedCall;
+use homeo_syntax::Memory;
+use indexmap::IndexSet;
+use std::alloc::Global;
+
+/// The first call of each ground call, in the order in which they were put, and their keys.
+#[derive(Drop)]
+pub(crate) struct DistinctCalls<'a> {
+    pub keys: IndexSet<Key>,
+    pub calls: Vec<SitedCall<'a>>,
+}
+
+fn push_new<'a>(
+    calls: &mut Vec<SitedCall<'a>>,
+    is_new: bool,
+    call: SitedCall<'a>,
+) -> Result<(), Memory>
+    ensures { OnOk result (calls.new.items ≡ (if is_new then calls.old.items ++ call.entry ∷ [] else calls.old.items)) }
+{
+    if is_new {
+        calls.push(call)?;
+    }
+    Ok(())
+}
+
+impl<'a> DistinctCalls<'a> {
+    /// None yet.
+    pub fn new(alloc: Global) -> DistinctCalls<'a>
+        ensures keys { AreKeys result }
+        ensures calls { sited_all result ≡ [] }
+    {
+        DistinctCalls {
+            keys: IndexSet::new(alloc),
+            calls: Vec::new(alloc),
+        }
+    }
+
+    /// The place of a call, after it is put behind the calls if none of them is the same ground call.
+    pub fn put(&mut self, alloc: Global, call: SitedCall<'a>) -> Result<usize, Memory>
+        requires { AreKeys self.old }
+        ensures keys { OnOk result (AreKeys self.new) }
+        ensures calls { OnOk result (sited_all self.new ≡ distinct_after (sited_all self.old) (sited call.entry ∷ [])) }
+        ensures place { IfOk result (λ place. place ≡ place_among (sited_all self.new) (sited call.entry)) }
+    {
+        let key = key_of(alloc, call)?;
+        let (place, is_new) = self.keys.insert_full(key)?;
+        push_new(&mut self.calls, is_new, call)?;
+        Ok(place)
+    }
+}
