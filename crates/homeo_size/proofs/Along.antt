@@ -12,13 +12,14 @@ use Rattle.homeo_meaning.specs.Key.{words as meaning_words}
 use Rattle.homeo_meaning.specs.Schema.{Declared, declared_range}
 use Rattle.homeo_meaning.specs.Context as context
 use Rattle.homeo_meaning.specs.Context.{spot_from, spot, slot_at}
-use Rattle.homeo_size.specs.Key.{words}
-use Rattle.homeo_size.specs.Measuring.{Filled, filled_tests, fields_writing, fields_filled, cleared, row_set, row_setting, field_set, field_setting, after_all, all_measured, each_after, each_measured}
-use Rattle.homeo_size.specs.Parts.{literal, none, with_one, writing, within_tests, written}
-use Rattle.homeo_size.specs.Sizing.{Setting, bound}
-use Rattle.homeo_size.specs.Store.{Store, set_entry, raise_entry, entry_sized, restored, raised, touched}
+use Rattle.homeo_size.specs.inner.Key.{words}
+use Rattle.homeo_size.specs.inner.Measuring.{Filled, filled_tests, fields_writing, fields_filled, cleared, row_set, row_setting, field_set, field_setting, after_all, all_measured, each_after, each_measured}
+use Rattle.homeo_size.specs.inner.Parts.{literal, none, with_one, writing, within_tests, written}
+use Rattle.homeo_size.specs.inner.Sizing.{Setting, bound}
+use Rattle.homeo_size.specs.inner.Store.{Store, set_entry, raise_entry, entry_sized, restored, raised, touched}
 use Rattle.homeo_context.specs.Slots.{plain_spot}
-use Rattle.homeo_size.specs.Tables.{plain_slot, plain_filled, row_in, sizes_in, store_in, setting}
+use Rattle.homeo_size.specs.inner.Slots.{plain_slot}
+use Rattle.homeo_size.specs.inner.Tables.{plain_filled, row_in, sizes_in, store_in, setting}
 use Rattle.homeo_size.specs.declared.chains.Filled.{Filled as Filled'}
 use Rattle.homeo_size.specs.declared.extent.Extent.{Extent}
 use Rattle.homeo_size.specs.declared.extents.Entry.{Entry}
@@ -28,7 +29,7 @@ use Rattle.homeo_size.specs.declared.frame.Frame.{Frame}
 use Rattle.homeo_size.specs.declared.slot.Row.{Row}
 use Rattle.homeo_size.specs.declared.slot.Slot.{Slot as Slot'}
 use Rattle.homeo_context.specs.declared.spot.Spot.{Spot as Spot'}
-use Rattle.homeo_size.specs.declared.steps.Before.{Before}
+use Rattle.homeo_size.specs.declared.measures.Before.{Before}
 
 -- the list that is left begins with the item that is next
 pub item_next : {A : Type 0} (xs : List A) (i : ℕ) (d : A) → i < length xs → drop i xs ≡ get_or xs i d ∷ drop (i + 1) xs

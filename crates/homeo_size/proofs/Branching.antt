@@ -4,10 +4,10 @@ use Rattle.std.proofs.Math.Seq.{take-append_seam, drop-append_seam}
 use Rattle.std.proofs.lemmas.Bool.Decides.{nat_tests}
 use Rattle.std.proofs.lemmas.Bool.{false≢true}
 use Rattle.std.proofs.lemmas.Int.{clamps}
-use Rattle.homeo_size.specs.Key.{words}
-use Rattle.homeo_size.specs.Parts.{greater}
-use Rattle.homeo_size.specs.Sizing.{Sizes}
-use Rattle.homeo_size.specs.Store.{Store, entry_sized, with_entry, kept_in, set_entry, raise_entry, taken_back, back_to, since, restored, raised, touched, closed, reopened, higher, joined}
+use Rattle.homeo_size.specs.inner.Key.{words}
+use Rattle.homeo_size.specs.inner.Parts.{greater}
+use Rattle.homeo_size.specs.inner.Sizing.{Sizes}
+use Rattle.homeo_size.specs.inner.Store.{Store, entry_sized, with_entry, kept_in, set_entry, raise_entry, taken_back, back_to, since, restored, raised, touched, closed, reopened, higher, joined}
 use Rattle.homeo_size.specs.declared.extent.Extent.{Extent}
 use Rattle.homeo_size.specs.declared.extents.Entry.{Entry}
 use Rattle.homeo_size.specs.declared.extents.Entry.TheVariants.{Object, Temp}

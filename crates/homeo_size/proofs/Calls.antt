@@ -7,9 +7,11 @@ use Rattle.homeo_syntax.specs.declared.workload.RangeDecl.{RangeDecl}
 use Rattle.homeo_meaning.specs.Key.{words as meaning_words}
 use Rattle.homeo_meaning.specs.Context as context
 use Rattle.homeo_meaning.specs.Context.{arguments_of}
-use Rattle.homeo_size.specs.Key.{words}
-use Rattle.homeo_size.specs.Sizing.{bound}
-use Rattle.homeo_size.specs.Tables.{plain_slot, row_in, setting_of, setting}
+use Rattle.homeo_size.specs.inner.Key.{words}
+use Rattle.homeo_size.specs.inner.Laid.{outside}
+use Rattle.homeo_size.specs.inner.Sizing.{bound}
+use Rattle.homeo_size.specs.inner.Slots.{plain_slot}
+use Rattle.homeo_size.specs.inner.Tables.{row_in, setting_of, setting}
 use Rattle.homeo_size.specs.declared.frame.Frame.{Frame}
 use Rattle.homeo_size.specs.declared.slot.Row.{Row}
 use Rattle.homeo_size.specs.declared.slot.Slot.{Slot}
@@ -57,6 +59,6 @@ bound_is f g name slot l a s r =
       slots = (setting f).slots;
       fields = (setting f).fields;
       arguments = (setting f).arguments;
-      rows = λ n. row_last (plain_slot f.layout.now.outside) f.rows.now (row_of name slot) n i;
+      rows = λ n. row_last (outside f.layout.now) f.rows.now (row_of name slot) n i;
       sites = f.sites;
     })

@@ -5,11 +5,11 @@ use Rattle.homeo_syntax.specs.SourceView.{plain_expr, plain_field}
 use Rattle.homeo_syntax.specs.declared.command.FieldValue.{FieldValue}
 use Rattle.homeo_meaning.specs.Context.{spot}
 use Rattle.homeo_meaning.specs.Schema.{Declared}
-use Rattle.homeo_size.specs.Key.{words}
-use Rattle.homeo_size.specs.Measuring.{Filled, fillings}
-use Rattle.homeo_size.specs.Sizing.{Sizes, Setting, sized}
+use Rattle.homeo_size.specs.inner.Key.{words}
+use Rattle.homeo_size.specs.inner.Measuring.{Filled, fillings}
+use Rattle.homeo_size.specs.inner.Sizing.{Sizes, Setting, sized}
 use Rattle.homeo_context.specs.Slots.{plain_spot}
-use Rattle.homeo_size.specs.Tables.{plain_filled}
+use Rattle.homeo_size.specs.inner.Tables.{plain_filled}
 use Rattle.homeo_size.specs.declared.chains.Filled.{Filled as Filled'}
 use Rattle.homeo_size.proofs.Along.{item_next, item_none}
 

@@ -11,12 +11,12 @@ use Rattle.homeo_meaning.specs.Bounds.{Bounds, slot_bounds, relation_bounds, bou
 use Rattle.homeo_meaning.specs.Context.{Slot, slots_from, object_count}
 use Rattle.homeo_meaning.specs.Schema.{Declared, Relation, declared_object, declared_range}
 use Rattle.homeo_meaning.specs.LowWeights.{number_weight}
-use Rattle.homeo_size.specs.Key.{words}
-use Rattle.homeo_size.specs.Layout.{Table, relation_of, schema_with, tables_from, plain_laid, capped_weight, range_weight, object_weight, relation_size, HasFewObjects, IsLayout}
-use Rattle.homeo_size.specs.Numbers.{weight_cap}
-use Rattle.homeo_size.specs.Tables.{plain_slot}
+use Rattle.homeo_size.specs.inner.Key.{words}
+use Rattle.homeo_size.specs.Layout.{relation_of, schema_with, HasFewObjects}
+use Rattle.homeo_size.specs.inner.Laid.{Table, tables_from, plain_laid, capped_weight, range_weight, object_weight, relation_size, IsLaid}
+use Rattle.homeo_size.specs.inner.Numbers.{weight_cap}
+use Rattle.homeo_size.specs.inner.Slots.{plain_slot}
 use Rattle.homeo_size.specs.declared.layout.Laid.{Laid}
-use Rattle.homeo_size.specs.declared.layout.Layout.{Layout}
 use Rattle.homeo_size.specs.declared.slot.Slot.{Slot as Slot'}
 use Rattle.homeo_size.proofs.Along.{map_next, map_none}
 
@@ -195,17 +195,16 @@ unfolding words
 objects_weighed [] more = refl
 objects_weighed (d ∷ ds) more = ap (λ l. object_weight d ∷ l) (objects_weighed ds more)
 
-pub layout_is : (objects : List ObjectDecl) (rs : List RelationDecl) (l : Layout) (first : ℕ) (names : List ℕ) (begun : List ℕ) → first ≡ length objects → l.objects.now ≡ objects → l.object_places ≡ map (λ d. d.name.name) objects → map plain_laid l.relations.items ≡ tables_from first (map relation_of rs) → l.relation_places ≡ names → names ≡ map (λ r. r.name.name) rs → plain_slot l.outside ≡ record { number = 0; used = object_count first (map relation_of rs); fields = [] } → begun ≡ map object_weight objects → l.weights.items ≡ begun ++ map capped_weight (relation_bounds (map relation_of rs)) → IsLayout (schema_with objects rs) l
-unfolding meaning_words
-layout_is objects rs l first names begun f o on rl rn n out b w =
-    let same : first ≡ length (map declared_object objects) = f ∙ sym (length-map objects declared_object) in
+pub layout_is : (objects : List ObjectDecl) (rs : List RelationDecl) (tables : List Laid) (object_names relation_names names : List ℕ) (absent : Slot') (begun weights : List ℕ) → object_names ≡ map (λ d. d.name.name) objects → map plain_laid tables ≡ tables_from (length objects) (map relation_of rs) → relation_names ≡ names → names ≡ map (λ r. r.name.name) rs → plain_slot absent ≡ record { number = 0; used = object_count (length objects) (map relation_of rs); fields = [] } → begun ≡ map object_weight objects → weights ≡ begun ++ map capped_weight (relation_bounds (map relation_of rs)) → IsLaid (schema_with objects rs) tables object_names relation_names absent weights
+unfolding words meaning_words
+layout_is objects rs tables object_names relation_names names absent begun weights on t rn n out b w =
+    let same : length objects ≡ length (map declared_object objects) = sym (length-map objects declared_object) in
     record {
-      objects = ap (map declared_object) o;
-      object_names = on ∙ object_named objects;
-      relations = rl ∙ ap (λ k. tables_from k (map relation_of rs)) same;
-      relation_names = rn ∙ n ∙ relation_named rs;
-      outside = out ∙ (λ i. record { number = 0; used = object_count (same i) (map relation_of rs); fields = [] });
-      weights = w ∙ ap (λ l. l ++ map capped_weight (relation_bounds (map relation_of rs))) b ∙ objects_weighed objects (relation_bounds (map relation_of rs));
+      objects_named = on ∙ object_named objects;
+      tabled = t ∙ ap (λ k. tables_from k (map relation_of rs)) same;
+      relations_named = rn ∙ n ∙ relation_named rs;
+      past = out ∙ (λ i. record { number = 0; used = object_count (same i) (map relation_of rs); fields = [] });
+      weighed = w ∙ ap (λ l. l ++ map capped_weight (relation_bounds (map relation_of rs))) b ∙ objects_weighed objects (relation_bounds (map relation_of rs));
     }
 
 pub room_same : (rs : List RelationDecl) (i : ℕ) (d r : RelationDecl) (k first : ℕ) → i < length rs → r ≡ get_or rs i d → object_count k (map relation_of (drop i rs)) ≡ object_count first (map relation_of rs) → object_count first (map relation_of rs) ≤ 1024 → k + relation_size (relation_of r) ≤ 1024

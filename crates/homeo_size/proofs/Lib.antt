@@ -13,6 +13,7 @@ pub mod LiftedPhrases
 pub mod Writes
 pub mod LiftedCommands
 pub mod Layouts
+pub mod LayoutNames
 pub mod NodeEquations
 pub mod NodeLaw
 pub mod NodeSizes

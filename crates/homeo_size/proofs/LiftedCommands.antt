@@ -7,16 +7,16 @@ use Rattle.homeo_meaning.specs.Key.{words as meaning_words}
 use Rattle.homeo_meaning.specs.Context.{Slot, Context, spot, field_cell, object, slots, fields, bind}
 use Rattle.homeo_meaning.specs.LForm as form
 use Rattle.homeo_meaning.specs.LForm.{Lifted, Made, AllMade, equal, read, literal_of, visits, lift, lift_cond, as_one}
-use Rattle.homeo_size.specs.Key.{words}
-use Rattle.homeo_size.specs.Measuring as told
-use Rattle.homeo_size.specs.Measuring.{after, after_all, measured, all_measured, each_after, each_measured, row_set, row_setting, cleared, field_set, field_setting}
-use Rattle.homeo_size.specs.Parts.{literal, nothing, around, written, empty, valued, writing, chosen, none, with_one, placed}
-use Rattle.homeo_size.specs.Sizing.{Setting, literal_in, used_test, sized, tests_sized, visit_sized, lifted, tests_lifted}
-use Rattle.homeo_size.specs.Store.{Store, set_entry, closed, reopened, visited}
+use Rattle.homeo_size.specs.inner.Key.{words}
+use Rattle.homeo_size.specs.inner.Measuring as told
+use Rattle.homeo_size.specs.inner.Measuring.{after, after_all, measured, all_measured, each_after, each_measured, row_set, row_setting, cleared, field_set, field_setting}
+use Rattle.homeo_size.specs.inner.Parts.{literal, nothing, around, written, empty, valued, writing, chosen, none, with_one, placed}
+use Rattle.homeo_size.specs.inner.Sizing.{Setting, literal_in, used_test, sized, tests_sized, visit_sized, lifted, tests_lifted}
+use Rattle.homeo_size.specs.inner.Store.{Store, set_entry, closed, reopened, visited}
 use Rattle.homeo_size.specs.declared.extent.Extent.{Extent}
 use Rattle.homeo_size.specs.declared.extents.Entry.TheVariants.{Object, Temp}
-use Rattle.homeo_size.specs.declared.steps.Before.{Before}
-use Rattle.homeo_size.specs.declared.steps.Measure.{Measure}
+use Rattle.homeo_size.specs.declared.measures.Before.{Before}
+use Rattle.homeo_size.specs.declared.measures.Measure.{Measure}
 use Rattle.homeo_size.proofs.Branching.{greater_sizes, Keeps, keeps_self, keeps_then, set_keeps, closes, reopens, joins}
 use Rattle.homeo_size.proofs.Lifting.{seen, after_both, measured_both, after_front, measured_front, alike_self}
 use Rattle.homeo_size.proofs.LiftedPhrases.{setting_for, literal_is, lifts, lifts_cond}

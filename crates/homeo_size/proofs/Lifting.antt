@@ -6,12 +6,12 @@ use Rattle.homeo_syntax.specs.Low as L
 use Rattle.homeo_meaning.specs.Key.{words as meaning_words}
 use Rattle.homeo_meaning.specs.LowMeaning.{TempAt, BaseAt, put}
 use Rattle.homeo_meaning.specs.LForm.{Lifted, both, one, in_front, plain, mapped, joined}
-use Rattle.homeo_size.specs.Key.{words}
-use Rattle.homeo_size.specs.Parts.{none, with_one, placed}
-use Rattle.homeo_size.specs.Sizing.{Sizes}
+use Rattle.homeo_size.specs.inner.Key.{words}
+use Rattle.homeo_size.specs.inner.Parts.{none, with_one, placed}
+use Rattle.homeo_size.specs.inner.Sizing.{Sizes}
 use Rattle.homeo_size.specs.declared.extent.Extent.{Extent}
-use Rattle.homeo_size.specs.declared.steps.Before.{Before}
-use Rattle.homeo_size.specs.declared.steps.Measure.{Measure}
+use Rattle.homeo_size.specs.declared.measures.Before.{Before}
+use Rattle.homeo_size.specs.declared.measures.Measure.{Measure}
 use Rattle.homeo_size.proofs.Low.{Extents, low_after, low_after_all, low_measured, low_measured_all}
 
 -- the extents of what the text names

@@ -5,9 +5,9 @@ use Rattle.homeo_syntax.specs.Source as s
 use Rattle.homeo_syntax.specs.SourceView.{exprs, tests, commands}
 use Rattle.homeo_syntax.specs.declared.phrase.Ident.{Ident}
 use Rattle.homeo_syntax.specs.declared.phrase.Compare.{Compare}
-use Rattle.homeo_size.specs.Key.{words}
-use Rattle.homeo_size.specs.Nodes.{few, index_nodes, visit_nodes, nodes, all_nodes, test_nodes, tests_nodes, write_nodes, values_nodes, command_nodes, commands_nodes}
-use Rattle.homeo_size.specs.Sizing.{Setting, literal_in}
+use Rattle.homeo_size.specs.inner.Key.{words}
+use Rattle.homeo_size.specs.inner.Nodes.{few, index_nodes, visit_nodes, nodes, all_nodes, test_nodes, tests_nodes, write_nodes, values_nodes, command_nodes, commands_nodes}
+use Rattle.homeo_size.specs.inner.Sizing.{Setting, literal_in}
 
 pub nodes_Literal : (x : Setting) (n : ℤ) → nodes x (s.Literal n) ≡ 1
 unfolding words

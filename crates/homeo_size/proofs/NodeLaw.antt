@@ -11,9 +11,9 @@ use Rattle.homeo_meaning.specs.Schema.{Declared}
 use Rattle.homeo_meaning.specs.Context.{Spot, Slot, Context, spot, cell, field_cell, object, slots, fields, bind, slot_at}
 use Rattle.homeo_meaning.specs.LForm as form
 use Rattle.homeo_meaning.specs.LForm.{Lifted, Made, AllMade, both, one, in_front, equal, read, fresh, name_of, read_chain, read_slot, literal_of, indexed_by, write_chain, write_at, write_by, visits, counted, pair, Pair, Target, stored, all_within, field_writes, fill_chain, lift, lift_all, lift_test, lift_cond, lift_values}
-use Rattle.homeo_size.specs.Key.{words}
-use Rattle.homeo_size.specs.Nodes.{few, index_nodes, visit_nodes, nodes, all_nodes, test_nodes, tests_nodes, slot_nodes, write_nodes, values_nodes, command_nodes, commands_nodes}
-use Rattle.homeo_size.specs.Sizing.{Setting, missing_at, literal_in}
+use Rattle.homeo_size.specs.inner.Key.{words}
+use Rattle.homeo_size.specs.inner.Nodes.{few, index_nodes, visit_nodes, nodes, all_nodes, test_nodes, tests_nodes, slot_nodes, write_nodes, values_nodes, command_nodes, commands_nodes}
+use Rattle.homeo_size.specs.inner.Sizing.{Setting, missing_at, literal_in}
 use Rattle.homeo_size.proofs.LiftedPhrases.{setting_for, literal_is}
 
 -- ---- the nodes of an L form
@@ -57,9 +57,6 @@ abbrev mutual
 few_le : (m n : ℕ) → m ≤ n → few m ≤ n
 few_le m n h = omega (arith, clamps, h)
 
-few_sum : (a b m n : ℕ) → a ≤ m → b ≤ n → few (a + b) ≤ m + n
-few_sum a b m n h k = omega (arith, clamps, h, k)
-
 of_both : (cs ds : L.Commands) → of_commands (both cs ds) ≡ of_commands cs + of_commands ds
 unfolding meaning_words
 of_both L.NoCommand ds = zero_plus (of_commands ds)
@@ -81,13 +78,6 @@ of_front (L.MoreCommand b bs) c = let e = of_both bs (one c) in omega (arith, e)
 abbrev pub Has : {A : Type 0} → Lifted A → (A → ℕ) → ℕ → Type 0
 Has x of n = n ≤ of_commands x.before + of x.phrase
 
-joined_has : {A B C : Type 0} (f : A → B → C) (of : A → ℕ) (of' : B → ℕ) (of'' : C → ℕ) → ((a : A) (b : B) → of a + of' b ≤ of'' (f a b)) → (x : Lifted A) (y : ℕ → Lifted B) (m n : ℕ) → Has x of m → Has (y x.next) of' n → Has (form.joined f x y) of'' (m + n)
-unfolding meaning_words
-joined_has f of of' of'' h x y m n p q =
-    let e = of_both x.before (y x.next).before in
-    let k = h x.phrase (y x.next).phrase in
-    omega (arith, e, k, p, q)
-
 from_none : {m n : ℕ} → m ≤ 0 + n → m ≤ n
 from_none h = omega (arith, h)
 
@@ -96,14 +86,6 @@ read_chain_has : (f : Spot) (e : L.Expr) (t : ℕ) (slot : Slot) (more : List Sl
 unfolding meaning_words
 read_chain_has f e t slot [] = omega arith
 read_chain_has f e t slot (next ∷ more) = let h = read_chain_has f e t next more in omega (arith, h)
-
-some_command : (c : L.Command) → 1 ≤ of_command c
-some_command L.Skip = omega arith
-some_command (L.Assign t e) = omega arith
-some_command (L.Write x e) = omega arith
-some_command (L.Print e) = omega arith
-some_command (L.Seq cs) = omega arith
-some_command (L.If b c d) = omega arith
 
 slot_has : (f : Spot) (o : Option Slot) → 1 ≤ of_expr (read_slot f o)
 unfolding meaning_words

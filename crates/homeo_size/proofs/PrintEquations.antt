@@ -4,9 +4,9 @@ use Rattle.homeo_syntax.specs.Key.{words as tree_words}
 use Rattle.homeo_syntax.specs.Source as s
 use Rattle.homeo_syntax.specs.SourceView.{commands}
 use Rattle.homeo_syntax.specs.declared.phrase.Ident.{Ident}
-use Rattle.homeo_size.specs.Key.{words}
-use Rattle.homeo_size.specs.Prints.{print_cap, prints, all_prints}
-use Rattle.homeo_size.specs.Sizing.{Setting}
+use Rattle.homeo_size.specs.inner.Key.{words}
+use Rattle.homeo_size.specs.inner.Prints.{print_cap, prints, all_prints}
+use Rattle.homeo_size.specs.inner.Sizing.{Setting}
 
 pub prints_Skip : (x : Setting) → prints x s.Skip ≡ 0
 unfolding words

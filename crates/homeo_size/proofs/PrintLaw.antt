@@ -11,9 +11,9 @@ use Rattle.homeo_meaning.specs.Context.{Spot, Slot, Context, spot, field_cell, o
 use Rattle.homeo_meaning.specs.LForm as form
 use Rattle.homeo_meaning.specs.LForm.{Lifted, Made, both, one, in_front, equal, read, fresh, read_chain, literal_of, indexed_by, write_chain, write_at, write_by, visits, counted, pair, Target, all_within, field_writes, fill_chain, lift, lift_all, lift_test, lift_cond, lift_values}
 use Rattle.homeo_meaning.specs.LowSizes.{prints_in, prints_in_all}
-use Rattle.homeo_size.specs.Key.{words}
-use Rattle.homeo_size.specs.Prints.{print_cap, prints, all_prints}
-use Rattle.homeo_size.specs.Sizing.{Setting}
+use Rattle.homeo_size.specs.inner.Key.{words}
+use Rattle.homeo_size.specs.inner.Prints.{print_cap, prints, all_prints}
+use Rattle.homeo_size.specs.inner.Sizing.{Setting}
 use Rattle.homeo_size.proofs.Caps.{cap_sum, cap_product}
 
 zero_plus : (n : ℕ) → 0 + n ≡ n

@@ -1,9 +1,9 @@
 -- What a change of the code's tables is as a change of the names' extents.
 use Rattle.std.proofs.Common.{◌≡◌, ℕ, zero, suc, ◌<◌, ◌≤◌, ◌==◌, cond, List, [], ◌∷◌, ◌++◌, map, take, drop, length, get_or, refl, sym, ap, ◌∙◌, arith, append-nil, take_all, drop_of_length-le}
-use Rattle.homeo_size.specs.Key.{words}
-use Rattle.homeo_size.specs.Parts.{single, unwritten}
-use Rattle.homeo_size.specs.Sizing.{Sizes}
-use Rattle.homeo_size.specs.Store.{Store, with_temp, with_object, with_entry, kept_in, set_entry, taken_back, back_to}
+use Rattle.homeo_size.specs.inner.Key.{words}
+use Rattle.homeo_size.specs.inner.Parts.{single, unwritten}
+use Rattle.homeo_size.specs.inner.Sizing.{Sizes}
+use Rattle.homeo_size.specs.inner.Store.{Store, with_temp, with_object, with_entry, kept_in, set_entry, taken_back, back_to}
 use Rattle.homeo_size.specs.declared.extent.Extent.{Extent}
 use Rattle.homeo_size.specs.declared.extents.Entry.{Entry}
 use Rattle.homeo_size.specs.declared.extents.Kept.{Kept}

@@ -9,12 +9,12 @@ use Rattle.homeo_meaning.specs.LowSizes as low
 use Rattle.homeo_meaning.specs.LowSizes.{extent, extent_all, test_extent, tests_extent, cond_extent, after, after_all, command_extent, commands_extent, rows, rows_all}
 use Rattle.homeo_meaning.specs.LowWeights as heavy
 use Rattle.homeo_meaning.specs.LowWeights.{weight, sum_weight, product_weight}
-use Rattle.homeo_size.specs.Key.{words}
-use Rattle.homeo_size.specs.Numbers.{cap, weight_cap}
-use Rattle.homeo_size.specs.Parts.{beside, plus, times, around, summed, greater, written, valued, writing, chosen, followed, none}
+use Rattle.homeo_size.specs.inner.Key.{words}
+use Rattle.homeo_size.specs.inner.Numbers.{cap, weight_cap}
+use Rattle.homeo_size.specs.inner.Parts.{beside, plus, times, around, summed, greater, written, valued, writing, chosen, followed, none}
 use Rattle.homeo_size.specs.declared.extent.Extent.{Extent}
-use Rattle.homeo_size.specs.declared.steps.Before.{Before}
-use Rattle.homeo_size.specs.declared.steps.Measure.{Measure}
+use Rattle.homeo_size.specs.declared.measures.Before.{Before}
+use Rattle.homeo_size.specs.declared.measures.Measure.{Measure}
 use Rattle.homeo_size.proofs.Caps.{cap_sum, cap_max, cap_more, cap_plus, cap_product, max_zero, zero_max, plus_zero, zero_plus, plus_assoc, max_assoc}
 use Rattle.homeo_size.proofs.Heaviest.{heaviest_test, heaviest_tests, heaviest, heaviest_all}
 use Rattle.homeo_size.proofs.Low.{Extents, low_sized, low_sum, low_product, low_test, low_tests, low_cond, low_after, low_after_all, low_measured, low_measured_all}

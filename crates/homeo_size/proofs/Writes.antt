@@ -11,16 +11,16 @@ use Rattle.homeo_meaning.specs.Context.{Spot, Slot, Context, spot, cell, slot_at
 use Rattle.homeo_meaning.specs.LowMeaning.{BaseAt, put}
 use Rattle.homeo_meaning.specs.LForm as form
 use Rattle.homeo_meaning.specs.LForm.{Lifted, Pair, pair, one, fresh, read, equal, within, write_to, write_chain, write_at, write_by, Target, stored, lift, lift_values, all_within, field_writes, fill_chain}
-use Rattle.homeo_size.specs.Key.{words}
-use Rattle.homeo_size.specs.Measuring.{Filled, chain_raised, slot_raised, field_raised, chain_writing, slot_writing, field_writing, values_lifted, fillings, filled_tests, fields_writing, chain_filling, into_sized, fields_filled, slot_filled, chain_filled, inserted, inserting}
-use Rattle.homeo_size.specs.Parts.{literal, nothing, around, greater, written, empty, valued, writing, chosen, none, with_one, placed, within_tests, is_equal, guarded}
-use Rattle.homeo_size.specs.Sizing.{Sizes, sized, lifted}
-use Rattle.homeo_size.specs.Store.{Store, entry_sized, with_entry, set_entry, raise_entry, closed}
+use Rattle.homeo_size.specs.inner.Key.{words}
+use Rattle.homeo_size.specs.inner.Measuring.{Filled, chain_raised, slot_raised, field_raised, chain_writing, slot_writing, field_writing, values_lifted, fillings, filled_tests, fields_writing, chain_filling, into_sized, fields_filled, slot_filled, chain_filled, inserted, inserting}
+use Rattle.homeo_size.specs.inner.Parts.{literal, nothing, around, greater, written, empty, valued, writing, chosen, none, with_one, placed, within_tests, is_equal, guarded}
+use Rattle.homeo_size.specs.inner.Sizing.{Sizes, sized, lifted}
+use Rattle.homeo_size.specs.inner.Store.{Store, entry_sized, with_entry, set_entry, raise_entry, closed}
 use Rattle.homeo_size.specs.declared.extent.Extent.{Extent}
 use Rattle.homeo_size.specs.declared.extents.Entry.{Entry}
 use Rattle.homeo_size.specs.declared.extents.Entry.TheVariants.{Object, Temp}
-use Rattle.homeo_size.specs.declared.steps.Before.{Before}
-use Rattle.homeo_size.specs.declared.steps.Measure.{Measure}
+use Rattle.homeo_size.specs.declared.measures.Before.{Before}
+use Rattle.homeo_size.specs.declared.measures.Measure.{Measure}
 use Rattle.homeo_size.proofs.Branching.{greater_same, greater_turned, greater_moved, greater_sizes, same_entry, same_is, entry_changed, each_entry, entry_greater, Keeps, keeps_self, keeps_then, set_keeps, closes}
 use Rattle.homeo_size.proofs.Lifting.{seen, at_fresh, Lifts, after_both, measured_both, after_front, measured_front, alike_self, plain_lifts, joined_lifts, stored_lifts}
 use Rattle.homeo_size.proofs.LiftedPhrases.{setting_for, lifts}

@@ -1,11 +1,3 @@
-pub mod Key
 pub mod Layout
 pub mod Measured
-pub mod Measuring
-pub mod Nodes
-pub mod Numbers
-pub mod Parts
-pub mod Prints
-pub mod Sizing
-pub mod Store
-pub mod Tables
+pub mod inner

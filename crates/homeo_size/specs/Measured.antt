@@ -4,7 +4,7 @@ use Rattle.homeo_syntax.specs.Low as L
 use Rattle.homeo_meaning.specs.LowSizes.{call_extent, rows}
 use Rattle.homeo_meaning.specs.LowWeights.{first_weights, is_light}
 use Rattle.homeo_meaning.specs.Schema.{Schema}
-use Rattle.homeo_size.specs.declared.steps.Measure.{Measure}
+use Rattle.homeo_size.specs.declared.measures.Measure.{Measure}
 
 -- the size, the depth and the rows, and whether each expression has a weight of at most 10^18
 pub record IsMeasure (x : Schema) (sites : ℕ) (form : L.Command) (m : Measure) : Type 0 where

@@ -3,10 +3,8 @@
 ghost use Rattle.std.specs.Prelude.{◌≡◌, map, IfOk};
 ghost use Rattle.homeo_syntax.specs.SourceView.{plain_transaction};
 ghost use Rattle.homeo_meaning.specs.LForm.{l_form};
-ghost use Rattle.homeo_meaning.specs.Schema.{Schema};
-ghost use Rattle.homeo_size.specs.Layout.{IsLayout};
 ghost use Rattle.homeo_size.specs.Measured.{IsMeasured};
-ghost use Rattle.homeo_size.specs.Parts.{unwritten};
+ghost use Rattle.homeo_size.specs.inner.Parts.{unwritten};
 
 use crate::arguments::arguments;
 use crate::extent::{Extent, unwritten};
@@ -14,7 +12,7 @@ use crate::extents::Extents;
 use crate::frame::Frame;
 use crate::layout::Layout;
 use crate::nodes::TOO_MANY;
-use crate::steps::Measure;
+use crate::measures::Measure;
 use homeo_syntax::{Memory, Number, Transaction};
 use std::alloc::Global;
 
@@ -43,8 +41,8 @@ pub fn measure(
     layout: &Layout<'_>,
     sites: u64,
 ) -> Result<Option<Measure>, Memory>
-    ensures { IfOk result (λ m. (x : Schema) → IsLayout x layout.now → IsMeasured x sites
-        (l_form x (map (λ p. p.name.name) t.now.params.items) (map (λ a. a.value) args.now) (plain_transaction t.now).body) m) }
+    ensures { IfOk result (IsMeasured layout.now sites
+        (l_form layout.now (map (λ p. p.name.name) t.now.params.items) (map (λ a. a.value) args.now) (plain_transaction t.now).body)) }
 {
     let arguments = arguments(alloc, t.params.as_slice(), args)?;
     let frame = Frame {
@@ -57,7 +55,7 @@ pub fn measure(
         return Ok(None);
     }
     let mut extents = Extents {
-        objects: first_extents(alloc, layout.weights.as_slice(), sites)?,
+        objects: first_extents(alloc, layout.weights(), sites)?,
         temps: Vec::new(alloc),
         log: Vec::new(alloc),
         sites,

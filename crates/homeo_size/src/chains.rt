@@ -1,17 +1,18 @@
 //! Writes to a slot that an index names, and inserts into the first free slot.
 
 ghost use Rattle.std.specs.Prelude.{◌≡◌, map, option_map, OnOk};
-ghost use Rattle.homeo_size.specs.Parts.{nothing, none};
-ghost use Rattle.homeo_size.specs.Measuring.{chain_raised, slot_raised, chain_writing, slot_writing, filled_tests, fields_writing, slot_filling, chain_filling, into_sized, fields_filled, slot_filled, chain_filled, inserted, inserting};
+ghost use Rattle.homeo_size.specs.inner.Parts.{nothing, none};
+ghost use Rattle.homeo_size.specs.inner.Measuring.{chain_raised, slot_raised, chain_writing, slot_writing, filled_tests, fields_writing, slot_filling, chain_filling, into_sized, fields_filled, slot_filled, chain_filled, inserted, inserting};
 ghost use Rattle.homeo_context.specs.Slots.{plain_spot};
-ghost use Rattle.homeo_size.specs.Tables.{plain_slot, plain_filled, sizes_in, store_in};
+ghost use Rattle.homeo_size.specs.inner.Slots.{plain_slot};
+ghost use Rattle.homeo_size.specs.inner.Tables.{plain_filled, sizes_in, store_in};
 
 use crate::extent::{
     Extent, NOTHING, around, greater, is_equal, literal, natural, successor, within_tests, written,
 };
 use crate::extents::{Entry, Extents};
 use crate::slot::{Slot, cell};
-use crate::steps::{
+use crate::measures::{
     Before, EMPTY, Measure, NONE, chosen, guarded, placed, valued, with_one, writing,
 };
 use homeo_context::Spot;
@@ -41,7 +42,7 @@ pub(crate) fn chain_writing(sites: u64, index: Extent, value: Extent, slots: &[S
 }
 
 /// The write of a value to a field of a slot, and nothing where there is no slot.
-#[tactic(auto, unfolding(crate::specs::Key::words))]
+#[tactic(auto, unfolding(crate::specs::inner::Key::words))]
 pub(crate) fn slot_writing(
     sites: u64,
     field: Spot,
@@ -81,7 +82,7 @@ fn fields_writing(sites: u64, fields: &[Filled]) -> Before
 }
 
 /// The sequence that fills a slot.
-#[tactic(auto, unfolding(crate::specs::Key::words))]
+#[tactic(auto, unfolding(crate::specs::inner::Key::words))]
 fn slot_filling(sites: u64, fields: &[Filled], slot: Slot<'_>) -> Measure
     ensures { result ≡ slot_filling sites (map plain_filled fields.now) (plain_slot slot.entry) }
 {
@@ -122,7 +123,7 @@ impl Extents {
     }
 
     /// Raises the field of a slot, where there is one.
-    #[tactic(auto, unfolding(crate::specs::Key::words))]
+    #[tactic(auto, unfolding(crate::specs::inner::Key::words))]
     pub(crate) fn raise_slot(
         &mut self,
         field: Spot,
@@ -163,7 +164,7 @@ impl Extents {
         Ok(())
     }
 
-    #[tactic(auto, unfolding(crate::specs::Key::words))]
+    #[tactic(auto, unfolding(crate::specs::inner::Key::words))]
     fn fill_slot(&mut self, sites: u64, fields: &[Filled], slot: Slot<'_>) -> Result<(), Memory>
         ensures { OnOk result (store_in self.new ≡ slot_filled sites (map plain_filled fields.now) (plain_slot slot.entry) (store_in self.old)) }
     {
@@ -194,7 +195,7 @@ impl Extents {
     }
 
     /// Measures the insert of such values behind their liftings.
-    #[tactic(auto, unfolding(crate::specs::Key::words))]
+    #[tactic(auto, unfolding(crate::specs::inner::Key::words))]
     pub(crate) fn inserting(
         &self,
         sites: u64,
@@ -210,7 +211,7 @@ impl Extents {
     }
 
     /// Leaves the tables after an insert.
-    #[tactic(auto, unfolding(crate::specs::Key::words))]
+    #[tactic(auto, unfolding(crate::specs::inner::Key::words))]
     pub(crate) fn insert(
         &mut self,
         alloc: Global,

@@ -2,9 +2,9 @@
 
 ghost use Rattle.std.specs.Prelude.{◌≡◌, map, IfOk, OnOk};
 ghost use Rattle.homeo_syntax.specs.SourceView.{commands, plain_field, plain_command};
-ghost use Rattle.homeo_size.specs.Parts.{none};
-ghost use Rattle.homeo_size.specs.Measuring.{after, after_all, measured, all_measured, values_lifted, fillings};
-ghost use Rattle.homeo_size.specs.Tables.{plain_filled, sizes_in, store_in, setting};
+ghost use Rattle.homeo_size.specs.inner.Parts.{none};
+ghost use Rattle.homeo_size.specs.inner.Measuring.{after, after_all, measured, all_measured, values_lifted, fillings};
+ghost use Rattle.homeo_size.specs.inner.Tables.{plain_filled, sizes_in, store_in, setting};
 
 use crate::chains::{Filled, chain_writing, slot_writing};
 use crate::extent::{NOTHING, around, within_tests, written};
@@ -12,7 +12,7 @@ use crate::extents::{Entry, Extents};
 use crate::frame::Frame;
 use crate::rows::with_row;
 use crate::slot::slot_at;
-use crate::steps::{Before, EMPTY, Measure, NONE, chosen, guarded, placed, valued, with_one};
+use crate::measures::{Before, EMPTY, Measure, NONE, chosen, guarded, placed, valued, with_one};
 use homeo_syntax::{Command, FieldValue, Memory};
 use std::alloc::Global;
 

@@ -1,9 +1,9 @@
 //! The extents of names in tables, with a log of their changes.
 
 ghost use Rattle.std.specs.Prelude.{◌≡◌, ◌≤◌, length, map, IfOk, OnOk};
-ghost use Rattle.homeo_size.specs.Sizing.{name_sized, slot_sized};
-ghost use Rattle.homeo_size.specs.Store.{entry_sized, with_entry, kept_in, set_entry, raise_entry, back_to, since, restored, raised, touched, closed, reopened, higher, joined};
-ghost use Rattle.homeo_size.specs.Tables.{sizes_in, store_in};
+ghost use Rattle.homeo_size.specs.inner.Sizing.{name_sized, slot_sized};
+ghost use Rattle.homeo_size.specs.inner.Store.{entry_sized, with_entry, kept_in, set_entry, raise_entry, back_to, since, restored, raised, touched, closed, reopened, higher, joined};
+ghost use Rattle.homeo_size.specs.inner.Tables.{sizes_in, store_in};
 
 use crate::extent::{Extent, SINGLE, greater, unwritten};
 use homeo_meaning::padded::put;
@@ -37,7 +37,7 @@ pub(crate) struct Extents {
 }
 
 impl Extents {
-    #[tactic(auto, unfolding(crate::specs::Key::words))]
+    #[tactic(auto, unfolding(crate::specs::inner::Key::words))]
     pub(crate) fn entry(&self, entry: Entry) -> Extent
         ensures { result ≡ entry_sized (sizes_in self.now) entry }
     {
@@ -47,7 +47,7 @@ impl Extents {
         }
     }
 
-    #[tactic(auto, unfolding(crate::specs::Key::words))]
+    #[tactic(auto, unfolding(crate::specs::inner::Key::words))]
     pub(crate) fn object(&self, place: u128) -> Extent
         ensures { result ≡ (sizes_in self.now).objects place }
     {
@@ -58,7 +58,7 @@ impl Extents {
         }
     }
 
-    #[tactic(auto, unfolding(crate::specs::Key::words))]
+    #[tactic(auto, unfolding(crate::specs::inner::Key::words))]
     pub(crate) fn temp(&self, name: u32) -> Extent
         ensures { result ≡ (sizes_in self.now).temps name }
     {
@@ -91,7 +91,7 @@ impl Extents {
         }
     }
 
-    #[tactic(auto, unfolding(crate::specs::Key::words))]
+    #[tactic(auto, unfolding(crate::specs::inner::Key::words))]
     fn kept(&self, entry: Entry) -> Kept
         ensures { result ≡ kept_in (sizes_in self.now) entry }
     {
@@ -110,7 +110,7 @@ impl Extents {
     }
 
     /// Makes an entry the greater of what it is and of this: what comes of it where a write may be refused.
-    #[tactic(auto, unfolding(crate::specs::Key::words))]
+    #[tactic(auto, unfolding(crate::specs::inner::Key::words))]
     pub(crate) fn raise(&mut self, entry: Entry, extent: Extent) -> Result<(), Memory>
         ensures { OnOk result (store_in self.new ≡ raise_entry (store_in self.old) entry extent) }
     {
@@ -176,7 +176,7 @@ impl Extents {
     }
 
     /// Ends a branch beside one that changes nothing: of each entry the greater stays.
-    #[tactic(auto, unfolding(crate::specs::Key::words))]
+    #[tactic(auto, unfolding(crate::specs::inner::Key::words))]
     pub(crate) fn close(&mut self, alloc: Global, start: usize) -> Result<(), Memory>
         ensures { OnOk result (store_in self.new ≡ closed start (store_in self.old)) }
     {
@@ -186,7 +186,7 @@ impl Extents {
     }
 
     /// Ends a first branch, and begins the second where the first began. Gives what the first changed.
-    #[tactic(auto, unfolding(crate::specs::Key::words))]
+    #[tactic(auto, unfolding(crate::specs::inner::Key::words))]
     pub(crate) fn reopen(&mut self, alloc: Global, start: usize) -> Result<Vec<Kept>, Memory>
         ensures changed { IfOk result (λ changed. changed.items ≡ since start (store_in self.old)) }
         ensures store { OnOk result (store_in self.new ≡ reopened start (store_in self.old)) }
@@ -197,7 +197,7 @@ impl Extents {
         Ok(changed)
     }
 
-    #[tactic(auto, unfolding(crate::specs::Key::words))]
+    #[tactic(auto, unfolding(crate::specs::inner::Key::words))]
     fn higher(&self, kept: Kept) -> Kept
         ensures { result ≡ higher (sizes_in self.now) kept }
     {
@@ -220,7 +220,7 @@ impl Extents {
 
     /// Ends a second branch: of each entry the greater of both branches stays. The log grows by no more than the changes
     /// of both, so that branches within branches do not double it.
-    #[tactic(auto, unfolding(crate::specs::Key::words))]
+    #[tactic(auto, unfolding(crate::specs::inner::Key::words))]
     pub(crate) fn join(&mut self, alloc: Global, start: usize, first: &[Kept]) -> Result<(), Memory>
         ensures { OnOk result (store_in self.new ≡ joined start first.now (store_in self.old)) }
     {

@@ -3,14 +3,15 @@
 ghost use Rattle.std.specs.Prelude.{◌≡◌, ◌∷◌, ◌++◌, [], map, option_map};
 ghost use Rattle.homeo_syntax.specs.SourceView.{plain_expr};
 ghost use Rattle.homeo_meaning.specs.Context.{spot};
-ghost use Rattle.homeo_size.specs.Sizing.{bound, missing, literal_in};
+ghost use Rattle.homeo_size.specs.inner.Sizing.{bound, missing, literal_in};
 ghost use Rattle.homeo_context.specs.Slots.{plain_spot};
-ghost use Rattle.homeo_size.specs.Tables.{plain_slot, setting};
+ghost use Rattle.homeo_size.specs.inner.Slots.{plain_slot};
+ghost use Rattle.homeo_size.specs.inner.Tables.{setting};
 
 use crate::layout::Layout;
 use crate::slot::{Row, Slot, slot_at};
 use homeo_meaning::padded::item_or;
-use homeo_context::{Spot, find_field};
+use homeo_context::Spot;
 use homeo_syntax::Expr;
 
 /// What names stand for: the declarations, the arguments by their parameters' names, and the rows in force, of which a
@@ -24,7 +25,7 @@ pub(crate) struct Frame<'a> {
 }
 
 /// The literal that stands for a field of a slot that isn't there.
-#[tactic(auto, unfolding(crate::specs::Key::words))]
+#[tactic(auto, unfolding(crate::specs::inner::Key::words))]
 fn missing(slot: Option<Slot<'_>>) -> Option<i64>
     ensures { result ≡ missing (option_map plain_slot slot.entry) }
 {
@@ -35,57 +36,31 @@ fn missing(slot: Option<Slot<'_>>) -> Option<i64>
 }
 
 impl<'a> Frame<'a> {
-    #[tactic(auto, unfolding(crate::specs::Key::words, homeo_meaning::specs::Key::words))]
+    /// The object of a name.
+    #[tactic(auto, unfolding(crate::specs::inner::Key::words))]
     pub(crate) fn object(&self, name: u32) -> Spot
         ensures { plain_spot result ≡ (setting self.now).object name }
     {
-        let place = self.layout.object_places.get(name);
-        match self.layout.objects.get(place) {
-            Some(object) => Spot {
-                place,
-                lo: object.lo.value,
-                hi: object.hi.value,
-            },
-            None => Spot {
-                place,
-                lo: 0,
-                hi: 0,
-            },
-        }
+        self.layout.object(name)
     }
 
-    #[tactic(auto, unfolding(crate::specs::Key::words))]
+    /// The slots of the relation of a name.
+    #[tactic(auto, unfolding(crate::specs::inner::Key::words))]
     pub(crate) fn slots(&self, relation: u32) -> &[Slot<'a>]
         ensures { map plain_slot result.now ≡ (setting self.now).slots relation }
     {
-        match self
-            .layout
-            .relations
-            .as_slice()
-            .get(self.layout.relation_places.get(relation))
-        {
-            Some(laid) => laid.slots.as_slice(),
-            None => &[],
-        }
+        self.layout.slots(relation)
     }
 
     /// The field of a relation.
-    #[tactic(auto, unfolding(crate::specs::Key::words, homeo_meaning::specs::Key::words))]
+    #[tactic(auto, unfolding(crate::specs::inner::Key::words))]
     pub(crate) fn field(&self, relation: u32, field: u32) -> Spot
         ensures { plain_spot result ≡ spot ((setting self.now).fields relation) field }
     {
-        match self
-            .layout
-            .relations
-            .as_slice()
-            .get(self.layout.relation_places.get(relation))
-        {
-            Some(laid) => find_field(laid.fields, field),
-            None => find_field(&[], field),
-        }
+        self.layout.field(relation, field)
     }
 
-    #[tactic(auto, unfolding(crate::specs::Key::words))]
+    #[tactic(auto, unfolding(crate::specs::inner::Key::words))]
     pub(crate) fn argument(&self, name: u32) -> Option<i64>
         ensures { result ≡ (setting self.now).arguments name }
     {
@@ -93,11 +68,11 @@ impl<'a> Frame<'a> {
     }
 
     /// The slot that a row stands for.
-    #[tactic(auto, using(crate::proofs::Along::lookups), unfolding(crate::specs::Key::words))]
+    #[tactic(auto, using(crate::proofs::Along::lookups), unfolding(crate::specs::inner::Key::words))]
     pub(crate) fn row(&self, name: u32) -> Slot<'a>
         ensures { plain_slot result ≡ (setting self.now).rows name }
     {
-        let mut slot = self.layout.outside;
+        let mut slot = self.layout.outside();
         for row in self.rows {
             if row.name == name {
                 slot = row.slot;

@@ -1,19 +1,22 @@
 //! What a workload declares, laid out for measuring.
 
-ghost use Rattle.std.specs.Prelude.{◌≡◌, ◌≤◌, ◌+◌, ◌*◌, ◌∷◌, ◌++◌, pos, map, length, IfOk, OnOk};
+ghost use Rattle.std.specs.Prelude.{◌≡◌, ◌≤◌, ◌+◌, ◌*◌, ◌∷◌, ◌++◌, pos, map, length, slice_get, IfOk, OnOk};
 ghost use Rattle.homeo_syntax.specs.SourceView.{plain_relation};
-ghost use Rattle.homeo_meaning.specs.Bounds.{bounds_of, slot_bounds, relation_bounds};
-ghost use Rattle.homeo_meaning.specs.Context.{slots_from, object_count};
+ghost use Rattle.homeo_meaning.specs.Bounds.{bounds_of, slot_bounds, relation_bounds, all_bounds};
+ghost use Rattle.homeo_meaning.specs.Context.{slots_from, object_count, spot, find_slots, find_fields};
 ghost use Rattle.homeo_meaning.specs.Schema.{declared_object, declared_range, declared_relation};
 ghost use Rattle.homeo_meaning.specs.LowWeights.{number_weight};
-ghost use Rattle.homeo_size.specs.Layout.{HasFewObjects, relation_of, schema_with, tables_from, plain_laid, capped_weight, range_weight, object_weight, relation_size, IsLayout};
-ghost use Rattle.homeo_size.specs.Tables.{plain_slot};
+ghost use Rattle.homeo_context.specs.Slots.{plain_spot};
+ghost use Rattle.homeo_size.specs.Layout.{HasFewObjects, relation_of, schema_with};
+ghost use Rattle.homeo_size.specs.inner.Laid.{tables_from, plain_laid, capped_weight, range_weight, object_weight, relation_size, outside, object_spot, laid_slots, laid_fields};
+ghost use Rattle.homeo_size.specs.inner.Slots.{plain_slot};
 
 use crate::extent::number_weight;
 use crate::slot::Slot;
-use homeo_context::Places;
+use homeo_context::{Places, Spot, find_field};
 use homeo_syntax::{Memory, Number, ObjectDecl, RangeDecl, RelationDecl};
 use std::alloc::Global;
+use std::marker::Model;
 
 /// A relation's slots and its fields.
 #[derive(Drop)]
@@ -27,13 +30,27 @@ pub(crate) struct Laid<'a> {
 /// whether it is used, and its fields.
 #[derive(Drop)]
 pub struct Layout<'a> {
-    pub(crate) objects: &'a [ObjectDecl],
-    pub(crate) object_places: Places,
-    pub(crate) relations: Vec<Laid<'a>>,
-    pub(crate) relation_places: Places,
+    objects: &'a [ObjectDecl],
+    relations: &'a [RelationDecl],
+    object_places: Places,
+    relation_places: Places,
+    tables: Vec<Laid<'a>>,
     /// What a row stands for that is not in force.
-    pub(crate) outside: Slot<'a>,
-    pub(crate) weights: Vec<u64>,
+    outside: Slot<'a>,
+    weights: Vec<u64>,
+}
+
+impl<'a> Model for Layout<'a> {
+    ghost use Rattle.homeo_meaning.specs.Schema.{Schema};
+    ghost use Rattle.homeo_size.specs.Layout.{schema_with};
+    ghost use Rattle.homeo_size.specs.inner.Laid.{IsLaid};
+
+    ghost Value = { Schema };
+
+    ghost view = { λ l. schema_with l.objects.now l.relations.now };
+
+    ghost invariant = { λ l. IsLaid (schema_with l.objects.now l.relations.now)
+        l.tables.items l.object_places l.relation_places l.outside l.weights.items };
 }
 
 /// The number of a relation's slots, which no text has below 0.
@@ -76,14 +93,14 @@ fn larger_weight(lo: Number, hi: Number) -> u64
     number_weight(lo.value).max(number_weight(hi.value))
 }
 
-#[tactic(auto, unfolding(crate::specs::Key::words, homeo_meaning::specs::Key::words))]
+#[tactic(auto, unfolding(crate::specs::inner::Key::words, homeo_meaning::specs::Key::words))]
 fn range_weight(field: RangeDecl) -> u64
     ensures { result ≡ range_weight field }
 {
     larger_weight(field.lo, field.hi)
 }
 
-#[tactic(auto, unfolding(crate::specs::Key::words, homeo_meaning::specs::Key::words))]
+#[tactic(auto, unfolding(crate::specs::inner::Key::words, homeo_meaning::specs::Key::words))]
 fn object_weight(object: ObjectDecl) -> u64
     ensures { result ≡ object_weight object }
 {
@@ -185,6 +202,47 @@ fn count_objects(first: u32, relations: &[RelationDecl]) -> u32
     count
 }
 
+/// The object at a place: where there is none, the bounds are 0 and 0.
+#[tactic(auto, unfolding(crate::specs::inner::Key::words, homeo_meaning::specs::Key::words))]
+fn object_at(objects: &[ObjectDecl], place: usize) -> Spot
+    ensures { plain_spot result ≡ object_spot place (slice_get objects.now place) }
+{
+    match objects.get(place) {
+        Some(object) => Spot {
+            place,
+            lo: object.lo.value,
+            hi: object.hi.value,
+        },
+        None => Spot {
+            place,
+            lo: 0,
+            hi: 0,
+        },
+    }
+}
+
+/// The slots of the relation at a place: none where there is none.
+#[tactic(auto, unfolding(crate::specs::inner::Key::words))]
+fn slots_at<'a>(tables: &'a [Laid<'a>], place: usize) -> &'a [Slot<'a>]
+    ensures { map plain_slot result.now ≡ laid_slots (slice_get tables.now place) }
+{
+    match tables.get(place) {
+        Some(laid) => laid.slots.as_slice(),
+        None => &[],
+    }
+}
+
+/// The field of a name of the relation at a place.
+#[tactic(auto, unfolding(crate::specs::inner::Key::words, homeo_meaning::specs::Key::words))]
+fn field_at(tables: &[Laid<'_>], place: usize, name: u32) -> Spot
+    ensures { plain_spot result ≡ spot (laid_fields (slice_get tables.now place)) name }
+{
+    match tables.get(place) {
+        Some(laid) => find_field(laid.fields, name),
+        None => find_field(&[], name),
+    }
+}
+
 impl<'a> Layout<'a> {
     /// Lays out what a workload declares, once for many calls. The objects, with those of the relations, are no more than
     /// a workload may have.
@@ -198,7 +256,7 @@ impl<'a> Layout<'a> {
         relations: &'a [RelationDecl],
     ) -> Result<Layout<'a>, Memory>
         requires { HasFewObjects (schema_with objects.now relations.now) }
-        ensures { IfOk result (IsLayout (schema_with objects.now relations.now)) }
+        ensures { IfOk result (λ layout. layout ≡ schema_with objects.now relations.now) }
     {
         let first = objects.len() as u32;
         let mut weights = weigh_objects(alloc, objects)?;
@@ -206,9 +264,10 @@ impl<'a> Layout<'a> {
         let names = relation_names(alloc, relations)?;
         Ok(Layout {
             objects,
+            relations,
             object_places: Places::of_objects(alloc, objects)?,
-            relations: lay_relations(alloc, first, relations)?,
             relation_places: Places::of(alloc, names)?,
+            tables: lay_relations(alloc, first, relations)?,
             outside: Slot {
                 number: 0,
                 used: count_objects(first, relations),
@@ -216,5 +275,44 @@ impl<'a> Layout<'a> {
             },
             weights,
         })
+    }
+
+    /// The object of a name.
+    pub(crate) fn object(&self, name: u32) -> Spot
+        ensures { plain_spot result ≡ spot self.now.objects name }
+    {
+        object_at(self.objects, self.object_places.get(name))
+    }
+
+    /// The slots of the relation of a name.
+    pub(crate) fn slots(&'a self, relation: u32) -> &'a [Slot<'a>]
+        ensures { map plain_slot result.now ≡ find_slots (length self.now.objects) self.now.relations relation }
+    {
+        slots_at(self.tables.as_slice(), self.relation_places.get(relation))
+    }
+
+    /// The field of a relation.
+    pub(crate) fn field(&self, relation: u32, field: u32) -> Spot
+        ensures { plain_spot result ≡ spot (find_fields self.now.relations relation) field }
+    {
+        field_at(
+            self.tables.as_slice(),
+            self.relation_places.get(relation),
+            field,
+        )
+    }
+
+    /// What a row stands for that is not in force.
+    pub(crate) fn outside(&self) -> Slot<'a>
+        ensures { plain_slot result ≡ outside self.now }
+    {
+        self.outside
+    }
+
+    /// The weights of all objects where a call begins.
+    pub(crate) fn weights(&self) -> &[u64]
+        ensures { result.now ≡ map capped_weight (all_bounds self.now) }
+    {
+        self.weights.as_slice()
     }
 }

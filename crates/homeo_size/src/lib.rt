@@ -16,7 +16,7 @@ mod phrases;
 mod prints;
 mod rows;
 mod slot;
-mod steps;
+mod measures;
 #[cfg(test)]
 mod tests;
 
@@ -24,4 +24,4 @@ pub use call::measure;
 pub use layout::Layout;
 pub use numbers::{BEYOND, TOO_HEAVY};
 pub use prints::{TOO_MANY_PRINTS, count_prints};
-pub use steps::Measure;
+pub use measures::Measure;

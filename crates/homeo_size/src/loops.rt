@@ -2,18 +2,19 @@
 
 ghost use Rattle.std.specs.Prelude.{◌≡◌, pos, map, IfOk, OnOk};
 ghost use Rattle.homeo_syntax.specs.SourceView.{plain_cond, plain_expr};
-ghost use Rattle.homeo_size.specs.Parts.{literal, writing, none};
-ghost use Rattle.homeo_size.specs.Measuring.{cleared, row_set, row_setting, field_set, field_setting, visits};
-ghost use Rattle.homeo_size.specs.Sizing.{tests_sized, tests_lifted, used_test};
-ghost use Rattle.homeo_size.specs.Store.{visited};
-ghost use Rattle.homeo_size.specs.Tables.{plain_slot, sizes_in, store_in, setting};
+ghost use Rattle.homeo_size.specs.inner.Parts.{literal, writing, none};
+ghost use Rattle.homeo_size.specs.inner.Measuring.{cleared, row_set, row_setting, field_set, field_setting, visits};
+ghost use Rattle.homeo_size.specs.inner.Sizing.{tests_sized, tests_lifted, used_test};
+ghost use Rattle.homeo_size.specs.inner.Store.{visited};
+ghost use Rattle.homeo_size.specs.inner.Slots.{plain_slot};
+ghost use Rattle.homeo_size.specs.inner.Tables.{sizes_in, store_in, setting};
 
 use crate::extent::{Extent, around, literal, written};
 use crate::extents::{Entry, Extents};
 use crate::frame::Frame;
 use crate::rows::with_row;
 use crate::slot::{Slot, field_cell};
-use crate::steps::{Before, EMPTY, Measure, NONE, chosen, guarded, placed, with_one, writing};
+use crate::measures::{Before, EMPTY, Measure, NONE, chosen, guarded, placed, with_one, writing};
 use homeo_context::find_field;
 use homeo_syntax::{Cond, Expr, Memory};
 use std::alloc::Global;
@@ -71,7 +72,7 @@ impl Extents {
     }
 
     /// Measures the write of an expression to a field of a slot, and leaves the extents after it.
-    #[tactic(auto, unfolding(crate::specs::Key::words))]
+    #[tactic(auto, unfolding(crate::specs::inner::Key::words))]
     pub(crate) fn set_row(
         &mut self,
         alloc: Global,

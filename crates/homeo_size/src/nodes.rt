@@ -2,8 +2,9 @@
 
 ghost use Rattle.std.specs.Prelude.{◌≡◌, ◌+◌, ◌*◌, map, option_map};
 ghost use Rattle.homeo_syntax.specs.SourceView.{exprs, tests, commands, plain_expr, plain_test, plain_cond, plain_field, plain_command};
-ghost use Rattle.homeo_size.specs.Nodes.{few, index_nodes, visit_nodes, nodes, all_nodes, test_nodes, tests_nodes, slot_nodes, write_nodes, values_nodes, command_nodes, commands_nodes};
-ghost use Rattle.homeo_size.specs.Tables.{plain_slot, setting};
+ghost use Rattle.homeo_size.specs.inner.Nodes.{few, index_nodes, visit_nodes, nodes, all_nodes, test_nodes, tests_nodes, slot_nodes, write_nodes, values_nodes, command_nodes, commands_nodes};
+ghost use Rattle.homeo_size.specs.inner.Slots.{plain_slot};
+ghost use Rattle.homeo_size.specs.inner.Tables.{setting};
 
 use crate::frame::Frame;
 use crate::slot::{Slot, slot_at};
@@ -12,7 +13,7 @@ use homeo_syntax::{Command, Cond, Expr, FieldValue, Test};
 /// One more node than a call may have size: none is counted beyond.
 pub(crate) const TOO_MANY: u64 = 2_000_001;
 
-#[tactic(auto, unfolding(crate::specs::Key::words))]
+#[tactic(auto, unfolding(crate::specs::inner::Key::words))]
 fn few_together(a: u64, b: u64) -> u64
     ensures { result ≡ few (a + b) }
 {
@@ -46,7 +47,7 @@ fn visit_nodes(slots: &[Slot<'_>], nodes: u64) -> u64
     few_together(1, all)
 }
 
-#[tactic(auto, unfolding(crate::specs::Key::words))]
+#[tactic(auto, unfolding(crate::specs::inner::Key::words))]
 fn slot_nodes(slot: Option<Slot<'_>>, nodes: u64) -> u64
     ensures { result ≡ slot_nodes (option_map plain_slot slot.entry) nodes }
 {
@@ -57,7 +58,7 @@ fn slot_nodes(slot: Option<Slot<'_>>, nodes: u64) -> u64
 }
 
 /// The nodes of a write to a field of the slot that an index names.
-#[tactic(auto, using(crate::proofs::Along::lengths), unfolding(crate::specs::Key::words))]
+#[tactic(auto, using(crate::proofs::Along::lengths), unfolding(crate::specs::inner::Key::words))]
 fn write_nodes(index: Option<i64>, slots: &[Slot<'_>], index_nodes: u64, nodes: u64) -> u64
     ensures { result ≡ write_nodes index (map plain_slot slots.now) index_nodes nodes }
 {

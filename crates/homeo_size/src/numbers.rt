@@ -1,7 +1,7 @@
 //! Numbers told up to a cap.
 
 ghost use Rattle.std.specs.Prelude.{◌≡◌};
-ghost use Rattle.homeo_size.specs.Numbers.{cap, weight_cap};
+ghost use Rattle.homeo_size.specs.inner.Numbers.{cap, weight_cap};
 
 /// No size, depth or number of rows is counted beyond this: one more than rows times sizes may be together.
 pub const BEYOND: u64 = 8_000_001;

@@ -2,10 +2,11 @@
 
 ghost use Rattle.std.specs.Prelude.{◌≡◌, map, option_map, IfOk, OnOk};
 ghost use Rattle.homeo_syntax.specs.SourceView.{exprs, tests, plain_expr, plain_test, plain_cond};
-ghost use Rattle.homeo_size.specs.Parts.{nothing, no_factor};
-ghost use Rattle.homeo_size.specs.Sizing.{name_sized, slot_sized, chain_sized, chain_measured, term_sized, used_test, sized, sum_sized, product_sized, test_sized, tests_sized, lifted, all_lifted, test_lifted, tests_lifted, added, total_of, total_lifted};
+ghost use Rattle.homeo_size.specs.inner.Parts.{nothing, no_factor};
+ghost use Rattle.homeo_size.specs.inner.Sizing.{name_sized, slot_sized, chain_sized, chain_measured, term_sized, used_test, sized, sum_sized, product_sized, test_sized, tests_sized, lifted, all_lifted, test_lifted, tests_lifted, added, total_of, total_lifted};
 ghost use Rattle.homeo_context.specs.Slots.{plain_spot};
-ghost use Rattle.homeo_size.specs.Tables.{plain_slot, sizes_in, setting};
+ghost use Rattle.homeo_size.specs.inner.Slots.{plain_slot};
+ghost use Rattle.homeo_size.specs.inner.Tables.{sizes_in, setting};
 
 use crate::extent::{
     Extent, NO_FACTOR, NOTHING, TRUTH, around, beside, compared, greater, is_equal, literal,
@@ -15,14 +16,14 @@ use crate::extents::Extents;
 use crate::frame::Frame;
 use crate::rows::with_row;
 use crate::slot::{Slot, cell, field_cell, slot_at};
-use crate::steps::{Before, EMPTY, Measure, chosen, valued, with_one};
+use crate::measures::{Before, EMPTY, Measure, chosen, valued, with_one};
 use homeo_context::Spot;
 use homeo_syntax::{Cond, Expr, Memory, Test};
 use std::alloc::Global;
 
 impl Extents {
     /// The extent of a parameter's argument, or else of the temporary.
-    #[tactic(auto, unfolding(crate::specs::Key::words))]
+    #[tactic(auto, unfolding(crate::specs::inner::Key::words))]
     fn name(&self, name: u32, frame: &Frame<'_>) -> Extent
         ensures { result ≡ name_sized ((setting frame.now).arguments name) ((sizes_in self.now).temps name) }
     {
@@ -40,7 +41,7 @@ impl Extents {
     }
 
     /// The field of a slot, or 0 where there is none.
-    #[tactic(auto, unfolding(crate::specs::Key::words))]
+    #[tactic(auto, unfolding(crate::specs::inner::Key::words))]
     fn slot_field(&self, field: Spot, slot: Option<Slot<'_>>) -> Extent
         ensures { result ≡ slot_sized (plain_spot field) (option_map plain_slot slot.entry) (sizes_in self.now) }
     {
@@ -79,7 +80,7 @@ impl Extents {
     }
 
     /// What a slot adds to a count, or to a sum of fields.
-    #[tactic(auto, unfolding(crate::specs::Key::words))]
+    #[tactic(auto, unfolding(crate::specs::inner::Key::words))]
     fn term(&self, field: Option<u32>, slot: Slot<'_>) -> Extent
         ensures { result ≡ term_sized field (plain_slot slot.entry) (sizes_in self.now) }
     {
@@ -90,7 +91,7 @@ impl Extents {
     }
 
     /// The test that a slot is used.
-    #[tactic(auto, unfolding(crate::specs::Key::words))]
+    #[tactic(auto, unfolding(crate::specs::inner::Key::words))]
     pub(crate) fn used_test(&self, slot: Slot<'_>) -> Extent
         ensures { result ≡ used_test (plain_slot slot.entry) (sizes_in self.now) }
     {
@@ -312,7 +313,7 @@ impl Extents {
 }
 
 /// The extent of the sum of a temporary and what a slot adds.
-#[tactic(auto, unfolding(crate::specs::Key::words))]
+#[tactic(auto, unfolding(crate::specs::inner::Key::words))]
 fn added(total: Extent, term: Extent) -> Extent
     ensures { result ≡ added total term }
 {

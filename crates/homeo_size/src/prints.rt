@@ -4,10 +4,8 @@ ghost use Rattle.std.specs.Prelude.{◌≡◌, ℕ, ℤ, ◌+◌, ◌*◌, List,
 ghost use Rattle.homeo_syntax.specs.SourceView.{commands, plain_command, plain_transaction};
 ghost use Rattle.homeo_meaning.specs.LForm.{l_form};
 ghost use Rattle.homeo_meaning.specs.LowSizes.{prints_in};
-ghost use Rattle.homeo_meaning.specs.Schema.{Schema};
-ghost use Rattle.homeo_size.specs.Layout.{IsLayout};
-ghost use Rattle.homeo_size.specs.Prints.{print_cap, prints, all_prints};
-ghost use Rattle.homeo_size.specs.Tables.{setting};
+ghost use Rattle.homeo_size.specs.inner.Prints.{print_cap, prints, all_prints};
+ghost use Rattle.homeo_size.specs.inner.Tables.{setting};
 
 use crate::frame::Frame;
 use crate::layout::Layout;
@@ -16,14 +14,14 @@ use homeo_syntax::{Command, Transaction};
 /// One more print command than calls may have together: none is counted beyond.
 pub const TOO_MANY_PRINTS: u64 = 1_000_001;
 
-#[tactic(auto, unfolding(crate::specs::Key::words))]
+#[tactic(auto, unfolding(crate::specs::inner::Key::words))]
 fn prints_together(a: u64, b: u64) -> u64
     ensures { result ≡ print_cap (a + b) }
 {
     TOO_MANY_PRINTS.min(a.saturating_add(b))
 }
 
-#[tactic(auto, unfolding(crate::specs::Key::words))]
+#[tactic(auto, unfolding(crate::specs::inner::Key::words))]
 fn prints_of_each(count: u64, prints: u64) -> u64
     ensures { result ≡ print_cap (count * prints) }
 {
@@ -71,8 +69,8 @@ impl Frame<'_> {
 /// How many print commands the L form of a call has, in both branches of each `if`: the same whatever the arguments.
 /// It is told up to TOO_MANY_PRINTS.
 pub fn count_prints(t: &Transaction, layout: &Layout<'_>) -> u64
-    ensures { (x : Schema) → IsLayout x layout.now → (args : List ℤ) → result ≡ min 1000001
-        (prints_in (l_form x (map (λ p. p.name.name) t.now.params.items) args (plain_transaction t.now).body)) }
+    ensures { (args : List ℤ) → result ≡ min 1000001
+        (prints_in (l_form layout.now (map (λ p. p.name.name) t.now.params.items) args (plain_transaction t.now).body)) }
 {
     let frame = Frame {
         layout,

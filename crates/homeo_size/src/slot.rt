@@ -5,7 +5,7 @@ ghost use Rattle.std.specs.Ordering.{int_eq};
 ghost use Rattle.homeo_meaning.specs.Schema.{declared_range};
 ghost use Rattle.homeo_meaning.specs.Context.{cell, field_cell, slot_at};
 ghost use Rattle.homeo_context.specs.Slots.{plain_spot};
-ghost use Rattle.homeo_size.specs.Tables.{plain_slot};
+ghost use Rattle.homeo_size.specs.inner.Slots.{plain_slot};
 
 use homeo_context::{Spot, find_field};
 use homeo_syntax::RangeDecl;
@@ -26,7 +26,7 @@ pub(crate) struct Row<'a> {
 }
 
 /// The object that holds a field of a slot. No sum of these is too large for the type.
-#[tactic(auto, unfolding(crate::specs::Key::words, homeo_meaning::specs::Key::words))]
+#[tactic(auto, unfolding(crate::specs::inner::Key::words, homeo_meaning::specs::Key::words))]
 pub(crate) fn cell(slot: Slot<'_>, field: Spot) -> u128
     ensures { result ≡ cell (plain_slot slot.entry) (plain_spot field) }
 {
@@ -34,14 +34,14 @@ pub(crate) fn cell(slot: Slot<'_>, field: Spot) -> u128
 }
 
 /// The object that holds the field of a name.
-#[tactic(auto, unfolding(crate::specs::Key::words, homeo_meaning::specs::Key::words))]
+#[tactic(auto, unfolding(crate::specs::inner::Key::words, homeo_meaning::specs::Key::words))]
 pub(crate) fn field_cell(slot: Slot<'_>, name: u32) -> u128
     ensures { result ≡ field_cell (plain_slot slot.entry) name }
 {
     cell(slot, find_field(slot.fields, name))
 }
 
-#[tactic(auto, unfolding(crate::specs::Key::words))]
+#[tactic(auto, unfolding(crate::specs::inner::Key::words))]
 fn is_number(value: i64, number: u64) -> bool
     ensures { result ≡ int_eq value (pos number) }
 {

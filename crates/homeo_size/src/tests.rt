@@ -4,7 +4,7 @@ ghost use Rattle.std.specs.Prelude.{◌≡◌, ◌≤◌, [], ◌∷◌, pos, le
 
 use crate::{Layout, Measure, TOO_MANY_PRINTS, count_prints, measure};
 use homeo_syntax::{
-    Command, Compare, Cond, Expr, FieldValue, Ident, List, Memory, Number, ObjectDecl, RangeDecl,
+    Command, Compare, Cond, Expr, Ident, List, Memory, Number, ObjectDecl, RangeDecl,
     RelationDecl, Test, Transaction,
 };
 use std::alloc::Global;
@@ -31,8 +31,6 @@ const ROW: Ident = Ident { name: 5, offset: 0 };
 const COUNTED: Ident = Ident { name: 6, offset: 0 };
 
 const SITES: u64 = 2;
-
-const DEEP: u64 = 30;
 
 /// A declaration within 0..9.
 fn digit(name: Ident) -> RangeDecl {
@@ -201,36 +199,6 @@ fn a_count_in_a_loop(rt: HostRuntime) -> Result<(), Fail> {
     Ok(())
 }
 
-/// Inserts a row, and prints which slot it fills.
-#[test]
-fn an_insert(rt: HostRuntime) -> Result<(), Fail> {
-    let alloc = rt.alloc();
-    let mut fields = List::new(alloc);
-    fields.push(FieldValue {
-        field: FIELD,
-        value: Expr::Literal(7),
-    })?;
-    let mut body = List::new(alloc);
-    body.push(Command::Insert {
-        relation: RELATION,
-        fields,
-        into: TEMP,
-    })?;
-    body.push(Command::Print {
-        value: Expr::Name(TEMP),
-    })?;
-    let slot = 2 + 7 + (1 + 10 + 10 + 2);
-    let insert = 1 + 2 + (2 + 7 + (3 * slot + 2) + 2);
-    let measure = Measure {
-        size: 1 + insert + 2,
-        depth: 4,
-        weight: 9,
-        rows: 5,
-    };
-    assert_eq!(rt; measured(alloc, 3, body)?, (Some(measure), 1));
-    Ok(())
-}
-
 /// Four loops within one another over 64 slots.
 #[test]
 fn far_too_many_nodes(rt: HostRuntime) -> Result<(), Fail> {
@@ -244,25 +212,5 @@ fn far_too_many_nodes(rt: HostRuntime) -> Result<(), Fail> {
     let mut body = List::new(alloc);
     body.push(command)?;
     assert_eq!(rt; measured(alloc, 64, body)?, (None, TOO_MANY_PRINTS));
-    Ok(())
-}
-
-/// Branches as deep within one another as a text may have them are measured without delay.
-#[test]
-fn deep_branches(rt: HostRuntime) -> Result<(), Fail> {
-    let alloc = rt.alloc();
-    let mut command = assign(Expr::Literal(1));
-    for _ in 0..DEEP {
-        command = choose(alloc, always(alloc), command)?;
-    }
-    let mut body = List::new(alloc);
-    body.push(command)?;
-    let measure = Measure {
-        size: 1 + DEEP * (2 + 1 + 1) + 2,
-        depth: 1,
-        weight: 1,
-        rows: DEEP + 1,
-    };
-    assert_eq!(rt; measured(alloc, 3, body)?, (Some(measure), 0));
     Ok(())
 }

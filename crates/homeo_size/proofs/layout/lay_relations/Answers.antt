@@ -1,6 +1,6 @@
 -- One more relation is laid out.
 use Rattle.std.proofs.Common.{arith, ◌+◌, ◌≤◌, refl, subst}
-use Rattle.homeo_size.specs.Key.{words}
+use Rattle.homeo_size.specs.inner.Key.{words}
 use Rattle.homeo_size.proofs.Layouts.{of_slots, room_here, count_next, relation_laid, relations_laid}
 use Rattle.homeo_size.proofs.layout.lay_relations.Goals as goal
 

@@ -1,7 +1,7 @@
 -- One more slot behind those so far.
 use Rattle.std.proofs.Common.{◌+◌, refl, map, length}
 use Rattle.homeo_meaning.specs.Schema.{declared_range}
-use Rattle.homeo_size.specs.Key.{words}
+use Rattle.homeo_size.specs.inner.Key.{words}
 use Rattle.homeo_size.proofs.Layouts.{slot_laid, slots_laid, room_left}
 use Rattle.homeo_size.proofs.layout.lay_slots.Goals as goal
 

@@ -2,7 +2,7 @@
 use Rattle.std.proofs.Common.{◌≡◌, ◌≤◌, ◌+◌, ◌-◌, ◌*◌, ◌++◌, map, length}
 use Rattle.homeo_meaning.specs.Context.{slots_from}
 use Rattle.homeo_meaning.specs.Schema.{declared_range}
-use Rattle.homeo_size.specs.Tables.{plain_slot}
+use Rattle.homeo_size.specs.inner.Slots.{plain_slot}
 use Rattle.homeo_size.proofs.layout.lay_slots.Given as goal
 
 abbrev pub invariant-loop-number : goal.invariant-loop-number

@@ -1,6 +1,6 @@
 -- The objects so far are weighed.
 use Rattle.std.proofs.Common.{◌≡◌, map, take}
-use Rattle.homeo_size.specs.Layout.{object_weight}
+use Rattle.homeo_size.specs.inner.Laid.{object_weight}
 use Rattle.homeo_size.proofs.layout.weigh_objects.Given as goal
 
 abbrev pub invariant-loop-object : goal.invariant-loop-object

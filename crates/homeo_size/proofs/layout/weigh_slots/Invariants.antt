@@ -2,7 +2,7 @@
 use Rattle.std.proofs.Common.{◌≡◌, ◌++◌, map}
 use Rattle.homeo_meaning.specs.Bounds.{slot_bounds}
 use Rattle.homeo_meaning.specs.Schema.{declared_range}
-use Rattle.homeo_size.specs.Layout.{capped_weight}
+use Rattle.homeo_size.specs.inner.Laid.{capped_weight}
 use Rattle.homeo_size.proofs.layout.weigh_slots.Given as goal
 
 abbrev pub invariant-loop-left : goal.invariant-loop-left

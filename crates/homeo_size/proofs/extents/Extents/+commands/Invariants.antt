@@ -1,10 +1,11 @@
 -- What is left, after what has been measured, is as large as the whole.
 use Rattle.std.proofs.Common.{◌≡◌, map, drop}
 use Rattle.homeo_syntax.specs.SourceView.{commands, plain_command, plain_cond}
-use Rattle.homeo_size.specs.Measuring.{after_all, all_measured, visits, each_after, each_measured}
-use Rattle.homeo_size.specs.Parts.{none}
-use Rattle.homeo_size.specs.Store.{visited}
-use Rattle.homeo_size.specs.Tables.{plain_slot, store_in, setting}
+use Rattle.homeo_size.specs.inner.Measuring.{after_all, all_measured, visits, each_after, each_measured}
+use Rattle.homeo_size.specs.inner.Parts.{none}
+use Rattle.homeo_size.specs.inner.Store.{visited}
+use Rattle.homeo_size.specs.inner.Slots.{plain_slot}
+use Rattle.homeo_size.specs.inner.Tables.{store_in, setting}
 use Rattle.homeo_size.proofs.extents.Extents.+commands.Given as goal
 
 abbrev pub invariant-measure_commands-loop-c : goal.invariant-measure_commands-loop-c

@@ -1,9 +1,10 @@
 -- What is left, after what has been measured, is as large as the whole.
 use Rattle.std.proofs.Common.{◌≡◌, map, drop}
 use Rattle.homeo_syntax.specs.SourceView.{exprs, tests, plain_expr, plain_test, plain_cond}
-use Rattle.homeo_size.specs.Parts.{nothing, no_factor}
-use Rattle.homeo_size.specs.Sizing.{sum_sized, product_sized, tests_sized, all_lifted, tests_lifted, total_sized, total_of, total_visits, total_lifted}
-use Rattle.homeo_size.specs.Tables.{plain_slot, sizes_in, setting}
+use Rattle.homeo_size.specs.inner.Parts.{nothing, no_factor}
+use Rattle.homeo_size.specs.inner.Sizing.{sum_sized, product_sized, tests_sized, all_lifted, tests_lifted, total_sized, total_of, total_visits, total_lifted}
+use Rattle.homeo_size.specs.inner.Slots.{plain_slot}
+use Rattle.homeo_size.specs.inner.Tables.{sizes_in, setting}
 use Rattle.homeo_size.proofs.extents.Extents.+phrases.Given as goal
 
 abbrev pub invariant-sum-loop-e : goal.invariant-sum-loop-e

@@ -1,12 +1,13 @@
 -- The visits so far, and those that are left, are all visits.
 use Rattle.std.proofs.Common.{◌≡◌, pos, map, drop}
 use Rattle.homeo_syntax.specs.SourceView.{plain_cond}
-use Rattle.homeo_size.specs.Measuring.{cleared, visits}
-use Rattle.homeo_size.specs.Parts.{literal, writing, none}
+use Rattle.homeo_size.specs.inner.Measuring.{cleared, visits}
+use Rattle.homeo_size.specs.inner.Parts.{literal, writing, none}
 use Rattle.homeo_meaning.specs.Context.{Slot}
-use Rattle.homeo_size.specs.Store.{Store, visited}
-use Rattle.homeo_size.specs.declared.steps.Measure.{Measure}
-use Rattle.homeo_size.specs.Tables.{plain_slot, store_in, setting}
+use Rattle.homeo_size.specs.inner.Store.{Store, visited}
+use Rattle.homeo_size.specs.declared.measures.Measure.{Measure}
+use Rattle.homeo_size.specs.inner.Slots.{plain_slot}
+use Rattle.homeo_size.specs.inner.Tables.{store_in, setting}
 use Rattle.homeo_size.proofs.extents.Extents.delete.Given as goal
 
 abbrev pub invariant-loop-slot : goal.invariant-loop-slot

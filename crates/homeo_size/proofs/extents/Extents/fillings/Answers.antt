@@ -1,7 +1,7 @@
 -- One more value behind its lifting.
 use Rattle.std.proofs.Common.{arith}
 use Rattle.std.proofs.lemmas.Grind.{common_steps}
-use Rattle.homeo_size.specs.Tables.{sizes_in, setting}
+use Rattle.homeo_size.specs.inner.Tables.{sizes_in, setting}
 use Rattle.homeo_size.proofs.Along.{items, values}
 use Rattle.homeo_size.proofs.Equations.{lists}
 use Rattle.homeo_size.proofs.Filling.{one_filled, all_filled}

@@ -1,8 +1,8 @@
 -- The values so far, and those that are left, are all values.
 use Rattle.std.proofs.Common.{◌≡◌, ◌++◌, map, drop}
 use Rattle.homeo_syntax.specs.SourceView.{plain_field}
-use Rattle.homeo_size.specs.Measuring.{values_lifted, fillings}
-use Rattle.homeo_size.specs.Tables.{plain_filled, sizes_in, setting}
+use Rattle.homeo_size.specs.inner.Measuring.{values_lifted, fillings}
+use Rattle.homeo_size.specs.inner.Tables.{plain_filled, sizes_in, setting}
 use Rattle.homeo_size.proofs.extents.Extents.fillings.Given as goal
 
 abbrev pub invariant-loop-field : goal.invariant-loop-field

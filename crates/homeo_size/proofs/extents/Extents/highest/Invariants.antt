@@ -1,7 +1,7 @@
 -- The entries so far are there.
 use Rattle.std.proofs.Common.{◌≡◌, map, take}
-use Rattle.homeo_size.specs.Store.{higher}
-use Rattle.homeo_size.specs.Tables.{sizes_in}
+use Rattle.homeo_size.specs.inner.Store.{higher}
+use Rattle.homeo_size.specs.inner.Tables.{sizes_in}
 use Rattle.homeo_size.proofs.extents.Extents.highest.Given as goal
 
 abbrev pub invariant-loop-k : goal.invariant-loop-k

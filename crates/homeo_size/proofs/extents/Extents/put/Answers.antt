@@ -1,8 +1,8 @@
 -- A change of a table is a change of its entry.
 use Rattle.std.proofs.Common.{ap, sym, ◌∙◌}
-use Rattle.homeo_size.specs.Key.{words}
-use Rattle.homeo_size.specs.Store.{with_entry}
-use Rattle.homeo_size.specs.Tables.{sizes_in}
+use Rattle.homeo_size.specs.inner.Key.{words}
+use Rattle.homeo_size.specs.inner.Store.{with_entry}
+use Rattle.homeo_size.specs.inner.Tables.{sizes_in}
 use Rattle.homeo_size.proofs.Tables.{sizes_temp, sizes_object}
 use Rattle.homeo_size.proofs.extents.Extents.put.Goals as goal
 

@@ -1,7 +1,7 @@
 -- What is left makes of the tables now what all makes of the tables at first.
 use Rattle.std.proofs.Common.{◌≡◌, drop}
-use Rattle.homeo_size.specs.Store.{restored}
-use Rattle.homeo_size.specs.Tables.{store_in}
+use Rattle.homeo_size.specs.inner.Store.{restored}
+use Rattle.homeo_size.specs.inner.Tables.{store_in}
 use Rattle.homeo_size.proofs.extents.Extents.restore.Given as goal
 
 abbrev pub invariant-loop-k : goal.invariant-loop-k

@@ -1,7 +1,7 @@
 -- The entry is logged and then changed.
 use Rattle.std.proofs.lemmas.Result.{on_ok_weaker}
-use Rattle.homeo_size.specs.Key.{words}
-use Rattle.homeo_size.specs.Tables.{sizes_in}
+use Rattle.homeo_size.specs.inner.Key.{words}
+use Rattle.homeo_size.specs.inner.Tables.{sizes_in}
 use Rattle.homeo_size.proofs.Tables.{set_is}
 use Rattle.std.proofs.Common.{◌∙◌}
 use Rattle.homeo_size.proofs.extents.Extents.set.Goals as goal

@@ -1,8 +1,8 @@
 -- Nothing is left.
 use Rattle.std.proofs.Common.{arith}
-use Rattle.homeo_size.specs.Key.{words}
-use Rattle.homeo_size.specs.Store.{kept_in}
-use Rattle.homeo_size.specs.Tables.{sizes_in}
+use Rattle.homeo_size.specs.inner.Key.{words}
+use Rattle.homeo_size.specs.inner.Store.{kept_in}
+use Rattle.homeo_size.specs.inner.Tables.{sizes_in}
 use Rattle.homeo_size.proofs.Tables.{all_kept}
 use Rattle.homeo_size.proofs.extents.Extents.since.Goals as goal
 

@@ -1,7 +1,7 @@
 -- What is kept so far and what is left is all.
 use Rattle.std.proofs.Common.{◌≡◌, ◌++◌, map, drop}
-use Rattle.homeo_size.specs.Store.{kept_in}
-use Rattle.homeo_size.specs.Tables.{sizes_in}
+use Rattle.homeo_size.specs.inner.Store.{kept_in}
+use Rattle.homeo_size.specs.inner.Tables.{sizes_in}
 use Rattle.homeo_size.proofs.extents.Extents.since.Given as goal
 
 abbrev pub invariant-loop-index : goal.invariant-loop-index

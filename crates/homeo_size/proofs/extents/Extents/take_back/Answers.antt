@@ -1,7 +1,7 @@
 -- Each change is taken back, the last one first.
 use Rattle.std.proofs.Common.{arith, ap, sym, ◌∙◌, [], ◌∷◌, ◌++◌}
-use Rattle.homeo_size.specs.Key.{words}
-use Rattle.homeo_size.specs.Tables.{sizes_in}
+use Rattle.homeo_size.specs.inner.Key.{words}
+use Rattle.homeo_size.specs.inner.Tables.{sizes_in}
 use Rattle.homeo_size.proofs.Tables.{back_pop, nothing_back}
 use Rattle.homeo_size.proofs.extents.Extents.take_back.Goals as goal
 

@@ -1,7 +1,7 @@
 -- What is left to take back leaves what all leaves.
 use Rattle.std.proofs.Common.{◌≡◌, length}
-use Rattle.homeo_size.specs.Store.{back_to}
-use Rattle.homeo_size.specs.Tables.{store_in}
+use Rattle.homeo_size.specs.inner.Store.{back_to}
+use Rattle.homeo_size.specs.inner.Tables.{store_in}
 use Rattle.homeo_size.proofs.extents.Extents.take_back.Given as goal
 
 abbrev pub invariant-loop-self : goal.invariant-loop-self

@@ -1,10 +1,11 @@
 -- The visits so far, and those that are left, are all visits.
 use Rattle.std.proofs.Common.{◌≡◌, map, drop}
 use Rattle.homeo_syntax.specs.SourceView.{plain_cond, plain_expr}
-use Rattle.homeo_size.specs.Measuring.{field_set, field_setting, visits}
-use Rattle.homeo_size.specs.Parts.{none}
-use Rattle.homeo_size.specs.Store.{visited}
-use Rattle.homeo_size.specs.Tables.{plain_slot, store_in, setting}
+use Rattle.homeo_size.specs.inner.Measuring.{field_set, field_setting, visits}
+use Rattle.homeo_size.specs.inner.Parts.{none}
+use Rattle.homeo_size.specs.inner.Store.{visited}
+use Rattle.homeo_size.specs.inner.Slots.{plain_slot}
+use Rattle.homeo_size.specs.inner.Tables.{store_in, setting}
 use Rattle.homeo_size.proofs.extents.Extents.update.Given as goal
 
 abbrev pub invariant-loop-slot : goal.invariant-loop-slot

@@ -1,8 +1,8 @@
 -- What is left, with what has been counted, is as much as the whole.
 use Rattle.std.proofs.Common.{◌≡◌, map, drop}
 use Rattle.homeo_syntax.specs.SourceView.{exprs, tests, plain_expr, plain_test}
-use Rattle.homeo_size.specs.Nodes.{all_nodes, tests_nodes}
-use Rattle.homeo_size.specs.Tables.{setting}
+use Rattle.homeo_size.specs.inner.Nodes.{all_nodes, tests_nodes}
+use Rattle.homeo_size.specs.inner.Tables.{setting}
 use Rattle.homeo_size.proofs.frame.Frame.+phrase_nodes.Given as goal
 
 abbrev pub invariant-all_nodes-loop-e : goal.invariant-all_nodes-loop-e

@@ -1,8 +1,8 @@
 -- What is left, with what has been counted, is as much as the whole.
 use Rattle.std.proofs.Common.{◌≡◌, map, drop}
 use Rattle.homeo_syntax.specs.SourceView.{commands, plain_command}
-use Rattle.homeo_size.specs.Prints.{all_prints}
-use Rattle.homeo_size.specs.Tables.{setting}
+use Rattle.homeo_size.specs.inner.Prints.{all_prints}
+use Rattle.homeo_size.specs.inner.Tables.{setting}
 use Rattle.homeo_size.proofs.frame.Frame.+prints.Given as goal
 
 abbrev pub invariant-all_prints-loop-c : goal.invariant-all_prints-loop-c

@@ -1,8 +1,8 @@
 -- What is left, with what has been counted, is as much as the whole.
 use Rattle.std.proofs.Common.{◌≡◌, map, drop}
 use Rattle.homeo_syntax.specs.SourceView.{plain_field}
-use Rattle.homeo_size.specs.Nodes.{values_nodes}
-use Rattle.homeo_size.specs.Tables.{setting}
+use Rattle.homeo_size.specs.inner.Nodes.{values_nodes}
+use Rattle.homeo_size.specs.inner.Tables.{setting}
 use Rattle.homeo_size.proofs.frame.Frame.values_nodes.Given as goal
 
 abbrev pub invariant-loop-field : goal.invariant-loop-field

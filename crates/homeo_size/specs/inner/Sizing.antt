@@ -3,11 +3,11 @@ use Rattle.std.specs.Prelude.{ℕ, ◌==◌, cond, List, [], ◌∷◌, ℤ, pos
 use Rattle.homeo_syntax.specs.Source.{Expr, Exprs, Literal, Name, Read, Sum, Product, Neg, Field, Row, Count, Total, NoExpr, MoreExpr, Test, Cond, True, Not, Comparison, NoTest, MoreTest}
 use Rattle.homeo_meaning.specs.Context.{Spot, Slot, cell, field_cell, slot_at, spot}
 use Rattle.homeo_meaning.specs.Schema.{Declared}
-use Rattle.homeo_size.specs.Key.{words}
-use Rattle.homeo_size.specs.Parts.{literal, nothing, no_factor, beside, plus, times, around, summed, compared, truth, greater, empty, valued, chosen, with_one, is_equal}
+use Rattle.homeo_size.specs.inner.Key.{words}
+use Rattle.homeo_size.specs.inner.Parts.{literal, nothing, no_factor, beside, plus, times, around, summed, compared, truth, greater, empty, valued, chosen, with_one, is_equal}
 use Rattle.homeo_size.specs.declared.extent.Extent.{Extent}
-use Rattle.homeo_size.specs.declared.steps.Before.{Before}
-use Rattle.homeo_size.specs.declared.steps.Measure.{Measure}
+use Rattle.homeo_size.specs.declared.measures.Before.{Before}
+use Rattle.homeo_size.specs.declared.measures.Measure.{Measure}
 
 -- the extents of the objects, by number, and of the temporaries, by name
 pub record Sizes : Type 0 where

@@ -2,11 +2,11 @@
 use Rattle.std.specs.Prelude.{ℕ, ◌+◌, ◌*◌, max, true, false, cond, ℤ}
 use Rattle.homeo_meaning.specs.Context.{Spot}
 use Rattle.homeo_meaning.specs.LowWeights.{number_weight}
-use Rattle.homeo_size.specs.Key.{words}
-use Rattle.homeo_size.specs.Numbers.{cap, weight_cap}
+use Rattle.homeo_size.specs.inner.Key.{words}
+use Rattle.homeo_size.specs.inner.Numbers.{cap, weight_cap}
 use Rattle.homeo_size.specs.declared.extent.Extent.{Extent}
-use Rattle.homeo_size.specs.declared.steps.Before.{Before}
-use Rattle.homeo_size.specs.declared.steps.Measure.{Measure}
+use Rattle.homeo_size.specs.declared.measures.Before.{Before}
+use Rattle.homeo_size.specs.declared.measures.Measure.{Measure}
 
 abbrev pub literal : ℤ → Extent
 unfolding words

@@ -3,14 +3,14 @@ use Rattle.std.specs.Prelude.{ℕ, suc, List, [], ◌∷◌, length, ℤ, pos, O
 use Rattle.homeo_syntax.specs.Source.{Expr, Cond, FieldValue, Command, Commands, Skip, Assign, Write, Print, If, Block, SetField, SetRow, Foreach, Insert, Delete, Update, NoCommand, MoreCommand}
 use Rattle.homeo_meaning.specs.Context.{Spot, Slot, spot, cell, field_cell, slot_at}
 use Rattle.homeo_meaning.specs.Schema.{Declared}
-use Rattle.homeo_size.specs.Key.{words}
-use Rattle.homeo_size.specs.Parts.{literal, nothing, around, greater, written, empty, valued, writing, chosen, none, with_one, placed, within_tests, is_equal, guarded}
-use Rattle.homeo_size.specs.Sizing.{Sizes, Setting, bound, literal_in, sized, tests_sized, visit_sized, lifted, tests_lifted}
-use Rattle.homeo_size.specs.Store.{Store, set_entry, raise_entry, closed, reopened, branched, visited}
+use Rattle.homeo_size.specs.inner.Key.{words}
+use Rattle.homeo_size.specs.inner.Parts.{literal, nothing, around, greater, written, empty, valued, writing, chosen, none, with_one, placed, within_tests, is_equal, guarded}
+use Rattle.homeo_size.specs.inner.Sizing.{Sizes, Setting, bound, literal_in, sized, tests_sized, visit_sized, lifted, tests_lifted}
+use Rattle.homeo_size.specs.inner.Store.{Store, set_entry, raise_entry, closed, reopened, branched, visited}
 use Rattle.homeo_size.specs.declared.extent.Extent.{Extent}
 use Rattle.homeo_size.specs.declared.extents.Entry.{Entry}
-use Rattle.homeo_size.specs.declared.steps.Before.{Before}
-use Rattle.homeo_size.specs.declared.steps.Measure.{Measure}
+use Rattle.homeo_size.specs.declared.measures.Before.{Before}
+use Rattle.homeo_size.specs.declared.measures.Measure.{Measure}
 
 -- a field of an insert, and the extent of its value
 pub record Filled : Type 0 where

@@ -1,7 +1,7 @@
-//! How large commands are, by their parts.
+//! Measures of commands, made of those of their parts.
 
 ghost use Rattle.std.specs.Prelude.{◌≡◌};
-ghost use Rattle.homeo_size.specs.Parts.{valued, writing, guarded, chosen, followed, with_one, placed};
+ghost use Rattle.homeo_size.specs.inner.Parts.{valued, writing, guarded, chosen, followed, with_one, placed};
 ghost use Rattle.homeo_context.specs.Slots.{plain_spot};
 
 use crate::extent::{Extent, NOTHING, around, within_tests};
@@ -42,7 +42,7 @@ pub(crate) const NONE: Before = Before {
 };
 
 /// The measure of an assignment or a print.
-#[tactic(auto, unfolding(crate::specs::Key::words))]
+#[tactic(auto, unfolding(crate::specs::inner::Key::words))]
 pub(crate) fn valued(value: Extent) -> Measure
     ensures { result ≡ valued value }
 {
@@ -55,7 +55,7 @@ pub(crate) fn valued(value: Extent) -> Measure
 }
 
 /// The measure of a write.
-#[tactic(auto, unfolding(crate::specs::Key::words))]
+#[tactic(auto, unfolding(crate::specs::inner::Key::words))]
 pub(crate) fn writing(sites: u64, value: Extent) -> Measure
     ensures { result ≡ writing sites value }
 {
@@ -69,7 +69,7 @@ pub(crate) fn writing(sites: u64, value: Extent) -> Measure
 }
 
 /// The measure of a write and the test that its value is within the bounds.
-#[tactic(auto, unfolding(crate::specs::Key::words))]
+#[tactic(auto, unfolding(crate::specs::inner::Key::words))]
 pub(crate) fn guarded(sites: u64, bounds: Spot, value: Extent) -> Measure
     ensures { result ≡ guarded sites (plain_spot bounds) value }
 {
@@ -78,7 +78,7 @@ pub(crate) fn guarded(sites: u64, bounds: Spot, value: Extent) -> Measure
 }
 
 /// The measure of an `if`.
-#[tactic(auto, unfolding(crate::specs::Key::words))]
+#[tactic(auto, unfolding(crate::specs::inner::Key::words))]
 pub(crate) fn chosen(test: Extent, yes: Measure, no: Measure) -> Measure
     ensures { result ≡ chosen test yes no }
 {
@@ -92,7 +92,7 @@ pub(crate) fn chosen(test: Extent, yes: Measure, no: Measure) -> Measure
 }
 
 /// The measure of a sequence with one more command.
-#[tactic(auto, unfolding(crate::specs::Key::words))]
+#[tactic(auto, unfolding(crate::specs::inner::Key::words))]
 pub(crate) fn followed(so_far: Measure, next: Measure) -> Measure
     ensures { result ≡ followed so_far next }
 {
@@ -105,7 +105,7 @@ pub(crate) fn followed(so_far: Measure, next: Measure) -> Measure
 }
 
 /// With one more command.
-#[tactic(auto, unfolding(crate::specs::Key::words))]
+#[tactic(auto, unfolding(crate::specs::inner::Key::words))]
 pub(crate) fn with_one(before: Before, next: Measure) -> Before
     ensures { result ≡ with_one before next }
 {
@@ -116,7 +116,7 @@ pub(crate) fn with_one(before: Before, next: Measure) -> Before
 }
 
 /// The measure of a command behind those before it, which stands alone where there are none.
-#[tactic(auto, unfolding(crate::specs::Key::words))]
+#[tactic(auto, unfolding(crate::specs::inner::Key::words))]
 pub(crate) fn placed(before: Before, command: Measure) -> Measure
     ensures { result ≡ placed before command }
 {

@@ -1,8 +1,8 @@
 -- How many print commands an L form has, told without visiting a slot, each number up to a cap.
 use Rattle.std.specs.Prelude.{ℕ, ◌+◌, ◌*◌, min, length}
 use Rattle.homeo_syntax.specs.Source.{Command, Commands, Skip, Assign, Write, Print, If, Block, SetField, SetRow, Foreach, Insert, Delete, Update, NoCommand, MoreCommand}
-use Rattle.homeo_size.specs.Key.{words}
-use Rattle.homeo_size.specs.Sizing.{Setting}
+use Rattle.homeo_size.specs.inner.Key.{words}
+use Rattle.homeo_size.specs.inner.Sizing.{Setting}
 
 abbrev pub print_cap : ℕ → ℕ
 print_cap n = min 1000001 n

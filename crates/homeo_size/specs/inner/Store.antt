@@ -1,9 +1,9 @@
 -- The tables of names' extents with a log of what they held before each change, by which a branch is taken back.
 use Rattle.std.specs.Prelude.{ℕ, ◌==◌, cond, List, [], ◌∷◌, ◌++◌, map, length, take, drop}
 use Rattle.homeo_meaning.specs.Context.{Slot}
-use Rattle.homeo_size.specs.Key.{words}
-use Rattle.homeo_size.specs.Parts.{greater}
-use Rattle.homeo_size.specs.Sizing.{Sizes}
+use Rattle.homeo_size.specs.inner.Key.{words}
+use Rattle.homeo_size.specs.inner.Parts.{greater}
+use Rattle.homeo_size.specs.inner.Sizing.{Sizes}
 use Rattle.homeo_size.specs.declared.extent.Extent.{Extent}
 use Rattle.homeo_size.specs.declared.extents.Entry.{Entry}
 use Rattle.homeo_size.specs.declared.extents.Kept.{Kept}

@@ -2,8 +2,8 @@
 use Rattle.std.specs.Prelude.{ℕ, ◌+◌, ◌*◌, min, List, [], ◌∷◌, length, ℤ, Option, Some, None}
 use Rattle.homeo_syntax.specs.Source.{Expr, Exprs, Literal, Name, Read, Sum, Product, Neg, Field, Row, Count, Total, NoExpr, MoreExpr, Test, Cond, True, Not, Comparison, NoTest, MoreTest, FieldValue, Command, Commands, Skip, Assign, Write, Print, If, Block, SetField, SetRow, Foreach, Insert, Delete, Update, NoCommand, MoreCommand}
 use Rattle.homeo_meaning.specs.Context.{Slot, slot_at}
-use Rattle.homeo_size.specs.Key.{words}
-use Rattle.homeo_size.specs.Sizing.{Setting, literal_in}
+use Rattle.homeo_size.specs.inner.Key.{words}
+use Rattle.homeo_size.specs.inner.Sizing.{Setting, literal_in}
 
 abbrev pub few : ℕ → ℕ
 few n = min 2000001 n

@@ -1,0 +1,11 @@
+pub mod Key
+pub mod Laid
+pub mod Measuring
+pub mod Nodes
+pub mod Numbers
+pub mod Parts
+pub mod Prints
+pub mod Sizing
+pub mod Slots
+pub mod Store
+pub mod Tables
