@@ -29,7 +29,7 @@ use Rattle.homeo_meaning.specs.declared.rules.Item.{Item}
 use Rattle.homeo_meaning.specs.declared.rules.Item.TheVariants as I
 use Rattle.homeo.specs.Key.{words}
 use Rattle.homeo.specs.Order.{client_names, order_of}
-use Rattle.homeo.specs.Scheduled.{IsWholeOrder, HasSites}
+use Rattle.homeo.specs.inner.Scheduled.{IsWholeOrder, HasSites}
 use Rattle.homeo.proofs.Scheduling.{times-snoc}
 
 -- ---- lists of faults that are empty

@@ -20,7 +20,7 @@ use Rattle.homeo_history.specs.Legal.{numbers_of}
 use Rattle.homeo_history.specs.Stepwise.{AreAllCalls}
 use Rattle.homeo_history.specs.Key.{words as histories}
 use Rattle.homeo.specs.Key.{words}
-use Rattle.homeo.specs.Scheduled.{IsWholeOrder}
+use Rattle.homeo.specs.inner.Scheduled.{IsWholeOrder}
 use Rattle.homeo.specs.Order.{calls_from, client_names, order_of, scheduled_calls}
 
 -- ---- numbers

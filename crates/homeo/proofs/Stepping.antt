@@ -33,7 +33,7 @@ use Rattle.homeo_history.specs.Key.{words as histories}
 use Rattle.homeo_history.proofs.StepwiseLaws.{stepwise_is_full, stepwise_follows, stepwise_at, stepwise_all, serial_at, serial_all}
 use Rattle.homeo.specs.Key.{words}
 use Rattle.homeo.specs.Order.{calls_from, client_names, order_of, scheduled_calls}
-use Rattle.homeo.specs.Scheduled.{IsWholeOrder, HasSites}
+use Rattle.homeo.specs.inner.Scheduled.{IsWholeOrder, HasSites}
 use Rattle.homeo.proofs.Scheduling.{all_calls, named_there, times-cons}
 
 -- ---- each call of the schedule exists

@@ -2,4 +2,4 @@ pub mod Command
 pub mod Key
 pub mod Order
 pub mod Outcome
-pub mod Scheduled
+pub mod inner

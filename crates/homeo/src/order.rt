@@ -4,7 +4,7 @@ ghost use Rattle.std.specs.Prelude.{◌≡◌, ◌<◌, ◌^◌, [], map, length
 ghost use Rattle.homeo_syntax.specs.SourceView.{plain_client, plain_workload};
 ghost use Rattle.homeo_meaning.specs.Declarations.{place_of};
 ghost use Rattle.homeo.specs.Order.{calls_from, order_of, scheduled_calls};
-ghost use Rattle.homeo.specs.Scheduled.{IsWholeOrder};
+ghost use Rattle.homeo.specs.inner.Scheduled.{IsWholeOrder};
 
 use homeo_context::Places;
 use homeo_meaning::CallId;

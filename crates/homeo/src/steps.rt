@@ -13,7 +13,7 @@ ghost use Rattle.homeo_history.specs.Follows.{Follows, site_or_zero};
 ghost use Rattle.homeo_history.specs.Stepwise.{open_round, closed_round, stepwise, stepwise_history};
 ghost use Rattle.homeo_report.specs.Report.{CanReport};
 ghost use Rattle.homeo.specs.Order.{scheduled_calls};
-ghost use Rattle.homeo.specs.Scheduled.{IsWholeOrder, HasSites};
+ghost use Rattle.homeo.specs.inner.Scheduled.{IsWholeOrder, HasSites};
 
 use crate::order::scheduled_calls;
 use homeo_history::{Closing, Entry, History, Round};

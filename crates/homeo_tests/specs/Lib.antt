@@ -1,1 +1,1 @@
-pub mod Example
+pub mod inner

@@ -2,7 +2,7 @@
 
 ghost use Rattle.std.specs.Prelude.{◌≡◌, IfOk};
 ghost use Rattle.homeo_syntax.specs.SourceView.{plain_call, plain_client, plain_expr, plain_transaction, plain_workload};
-ghost use Rattle.homeo_tests.specs.Example.{example, less, sale, cashier, transaction};
+ghost use Rattle.homeo_tests.specs.inner.Example.{example, less, sale, cashier, transaction};
 
 use homeo_eval::{initial, serial};
 use homeo_meaning::{Accepted, CallId, GroundCall};

@@ -14,7 +14,7 @@ use Rattle.homeo_history.specs.Legal.{IsFull}
 use Rattle.homeo_history.specs.Follows.{Follows}
 use Rattle.homeo_history.specs.Stepwise.{stepwise, stepwise_history}
 use Rattle.homeo.specs.Order.{scheduled_calls}
-use Rattle.homeo.specs.Scheduled.{IsWholeOrder}
+use Rattle.homeo.specs.inner.Scheduled.{IsWholeOrder}
 use Rattle.std.proofs.lemmas.Result.{IfOk-weaker}
 use Rattle.homeo_meaning.specs.Schema.{schema_of}
 use Rattle.homeo_meaning.specs.Bounds.{IsWithin}

@@ -5,7 +5,7 @@ use Rattle.homeo_meaning.specs.declared.call.Purpose.TheVariants.{Steps}
 use Rattle.homeo_meaning.specs.Faults.{IsRefusedBy}
 use Rattle.homeo.specs.declared.top.Stop.TheVariants as Stop
 use Rattle.homeo_syntax.specs.SourceView.{plain_workload}
-use Rattle.homeo.specs.Scheduled.{IsWholeOrder, HasSites}
+use Rattle.homeo.specs.inner.Scheduled.{IsWholeOrder, HasSites}
 use Rattle.homeo.proofs.Accepting.{whole_order, has_sites}
 use Rattle.homeo.proofs.Decided.{refuses_unread, refuses_broken}
 use Rattle.homeo.proofs.top.report_of.Goals as goal

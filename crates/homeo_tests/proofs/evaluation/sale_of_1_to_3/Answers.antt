@@ -6,7 +6,7 @@ use Rattle.homeo_syntax.specs.SourceView.{commands, plain_command}
 use Rattle.homeo_syntax.specs.declared.phrase.Expr.{Read}
 use Rattle.homeo_syntax.specs.declared.command.Command.{Write, Print}
 use Rattle.homeo_syntax.proofs.SourceViews.{plain_Read, plain_Write, plain_Print}
-use Rattle.homeo_tests.specs.Example.{name}
+use Rattle.homeo_tests.specs.inner.Example.{name}
 use Rattle.homeo_tests.proofs.Example.{pushed}
 use Rattle.homeo_tests.proofs.evaluation.sale_of_1_to_3.Goals as goal
 

@@ -1,7 +1,7 @@
 -- The call has its argument.
 use Rattle.std.proofs.Common.{[], pos, ap}
 use Rattle.homeo_syntax.specs.Key.{words as tree_words}
-use Rattle.homeo_tests.specs.Example.{name, number}
+use Rattle.homeo_tests.specs.inner.Example.{name, number}
 use Rattle.homeo_tests.proofs.Example.{pushed}
 use Rattle.homeo_tests.proofs.evaluation.sale_of_3.Goals as goal
 

@@ -5,7 +5,7 @@ use Rattle.homeo_syntax.specs.Source as s
 use Rattle.homeo_syntax.specs.SourceView.{exprs, plain_expr}
 use Rattle.homeo_syntax.specs.declared.phrase.Expr.{Read, Neg}
 use Rattle.homeo_syntax.proofs.SourceViews.{plain_Name, plain_Read, plain_Sum, plain_Neg}
-use Rattle.homeo_tests.specs.Example.{name}
+use Rattle.homeo_tests.specs.inner.Example.{name}
 use Rattle.homeo_tests.proofs.Example.{pushed}
 use Rattle.homeo_tests.proofs.evaluation.stock_less_amount.Goals as goal
 

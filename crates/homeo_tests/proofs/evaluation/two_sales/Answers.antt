@@ -2,7 +2,7 @@
 use Rattle.std.proofs.Common.{[], ◌∷◌, pos, map, ap, ◌∙◌}
 use Rattle.homeo_syntax.specs.Key.{words as tree_words}
 use Rattle.homeo_syntax.specs.SourceView.{plain_call}
-use Rattle.homeo_tests.specs.Example.{name, number}
+use Rattle.homeo_tests.specs.inner.Example.{name, number}
 use Rattle.homeo_tests.proofs.Example.{pushed}
 use Rattle.homeo_tests.proofs.evaluation.two_sales.Goals as goal
 

@@ -2,7 +2,7 @@
 use Rattle.std.proofs.Common.{[], ◌∷◌, None, pos, map, ap, ◌∙◌}
 use Rattle.homeo_syntax.specs.Key.{words as tree_words}
 use Rattle.homeo_syntax.specs.SourceView.{plain_relation, plain_transaction, plain_client}
-use Rattle.homeo_tests.specs.Example.{number}
+use Rattle.homeo_tests.specs.inner.Example.{number}
 use Rattle.homeo_tests.proofs.Example.{pushed}
 use Rattle.homeo_tests.proofs.evaluation.workload.Goals as goal
 
