@@ -15,9 +15,6 @@ use Rattle.homeo_syntax.specs.Rules.{IsWorkload}
 use Rattle.homeo_syntax.specs.Reads.{Reads}
 use Rattle.homeo_syntax.specs.WellFormed.{IsName, BeginsWithLetter, Each, EachIdent, IsBelow, IsWellFormed}
 use Rattle.homeo_syntax.specs.declared.workload.Workload.{Workload}
-use Rattle.homeo_syntax.specs.SourceView.{plain_workload}
-use Rattle.homeo_reader.specs.declared.reader.ReadRefusal.{ReadRefusal}
-use Rattle.homeo_reader.specs.Exact.{ReadsExactly}
 use Rattle.homeo_syntax.proofs.Spelling.{IsSpelled, AllSpelled, scanned_spelled}
 use Rattle.homeo_syntax.proofs.Names.{bytes_same, InAll, AllIn, all_among, place_below}
 use Rattle.homeo_reader.proofs.Keeps.{Fine}
@@ -116,6 +113,3 @@ well_formed text w r =
       sites = k.sites;
     }
 
-pub formed : (text : List ℕ) (x : Result Workload ReadRefusal) → ReadsExactly text x → IfOk x (λ w. IsWellFormed (plain_workload w))
-formed text (Ok w) p = well_formed text (plain_workload w) p
-formed text (Err e) p = tt

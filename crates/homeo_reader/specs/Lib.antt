@@ -1,2 +1,1 @@
 pub mod inner
-pub use Rattle.homeo_reader.specs.inner.Exact
