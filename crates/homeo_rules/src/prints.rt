@@ -7,12 +7,12 @@ ghost use Rattle.homeo_rules.specs.inner.Deciding.{keep_all};
 ghost use Rattle.homeo_meaning.specs.declared.rules.Phase.TheVariants.{Size};
 ghost use Rattle.homeo_rules.specs.inner.Printing.{capped_prints, counted_prints, print_all, prints_too_much_in};
 ghost use Rattle.homeo_rules.specs.inner.Scopes.{scope_in};
-ghost use Rattle.homeo_rules.specs.inner.Sited.{sited};
+ghost use Rattle.homeo_ground.specs.Sited.{sited};
 ghost use Rattle.homeo_rules.specs.inner.Sizes.{IsSetUp, workload_of};
 
 use crate::deciding::at_name;
 use crate::scope::Scope;
-use crate::sited::SitedCall;
+use homeo_ground::SitedCall;
 use crate::sizes::Measuring;
 use homeo_meaning::{Fault, Item, Phase};
 use homeo_size::{TOO_MANY_PRINTS, count_prints};

@@ -8,13 +8,13 @@ ghost use Rattle.homeo_meaning.specs.TransactionRules.{each};
 ghost use Rattle.homeo_meaning.specs.CallForm.{body_form};
 ghost use Rattle.homeo_meaning.specs.SizeRules.{extent_of, too_large, heavy_call, too_many_rows};
 ghost use Rattle.homeo_meaning.specs.declared.rules.Phase.TheVariants.{Size, Weight, Rows};
-ghost use Rattle.homeo_rules.specs.inner.Sited.{values, sited};
+ghost use Rattle.homeo_ground.specs.Sited.{values, sited};
 ghost use Rattle.homeo_rules.specs.inner.Scopes.{scope_in};
 ghost use Rattle.homeo_rules.specs.inner.Sizes.{IsSetUp, workload_of, transaction_place, call_of, told_size, IsMeasuredBody, IsMeasuredAs, IsTold, AreTold, AreMeasured, is_too_large, known};
 
 use crate::deciding::at_name;
 use crate::scope::Scope;
-use crate::sited::SitedCall;
+use homeo_ground::SitedCall;
 use homeo_meaning::{Fault, Item, Phase};
 use homeo_size::{BEYOND, Layout, Measure, TOO_HEAVY, measure};
 use homeo_syntax::{Ident, Memory, Number, Workload};
