@@ -22,11 +22,7 @@ pub struct SitedCall<'a> {
 pub(crate) fn values(alloc: Global, numbers: &[Number]) -> Result<Vec<i64>, Memory>
     ensures { IfOk result (λ made. made.items ≡ values numbers.now) }
 {
-    let mut values = Vec::new(alloc);
-    for number in numbers {
-        values.push(number.value)?;
-    }
-    Ok(values)
+    Ok(numbers.iter().map(|number| number.value).collect(alloc)?)
 }
 
 /// The ground call of a call, with its transaction by its number.
