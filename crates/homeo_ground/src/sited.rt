@@ -13,8 +13,11 @@ use std::alloc::Global;
 /// A call's name, its arguments, and the site of its client.
 #[derive(Clone, Copy)]
 pub struct SitedCall<'a> {
+    /// The name of the transaction, where the call has it.
     pub name: Ident,
+    /// The arguments, in the order of the parameters.
     pub args: &'a [Number],
+    /// The number of the site, from 0.
     pub site: i64,
 }
 

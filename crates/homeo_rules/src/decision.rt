@@ -32,6 +32,7 @@ use homeo_meaning::{Fault, Purpose};
 use homeo_syntax::{Memory, Workload};
 use std::alloc::Global;
 
+/// The table of the global names, and the fault that decides among theirs.
 fn global_names(alloc: Global, w: &Workload) -> Result<Items, Memory>
     requires { IsWellFormed (plain_workload w.now) }
     ensures { IfOk result (NamesGlobals (plain_workload w.now)) }
@@ -44,6 +45,7 @@ fn global_names(alloc: Global, w: &Workload) -> Result<Items, Memory>
     Ok(items)
 }
 
+/// With the faults of declarations, transactions and clients.
 fn declared(
     alloc: Global,
     w: &Workload,
@@ -67,6 +69,7 @@ fn declared(
     ))
 }
 
+/// With the faults of how many there are of each.
 fn limits(
     w: &Workload,
     calls: &[SitedCall<'_>],
@@ -86,6 +89,7 @@ fn limits(
     check_ground_count(grounds, best)
 }
 
+/// With the faults of the schedule.
 fn schedule(
     alloc: Global,
     purpose: Purpose,
@@ -145,7 +149,15 @@ pub fn decide(alloc: Global, purpose: Purpose, w: &Workload) -> Result<Option<Fa
     let calls = sited_calls(alloc, w.clients.as_slice())?;
     let numbered = number_clients(alloc, w.clients.as_slice())?;
     let grounds = numbered.calls.as_slice();
-    let best = text(alloc, purpose, w, &scope, calls.as_slice(), grounds, items.best())?;
+    let best = text(
+        alloc,
+        purpose,
+        w,
+        &scope,
+        calls.as_slice(),
+        grounds,
+        items.best(),
+    )?;
     match best {
         Some(_) => Ok(best),
         None => check_forms(alloc, w, &scope, calls.as_slice(), grounds),

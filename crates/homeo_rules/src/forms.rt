@@ -16,10 +16,10 @@ ghost use Rattle.homeo_rules.specs.inner.Sizes.{IsSetUp, workload_of, call_of, A
 
 use crate::prints::check_prints;
 use crate::scope::Scope;
-use homeo_ground::SitedCall;
 use crate::sizes::{
     MeasuredCall, Measuring, check_rows, check_sizes, check_weights, measure_calls,
 };
+use homeo_ground::SitedCall;
 use homeo_meaning::Fault;
 use homeo_size::Layout;
 use homeo_syntax::{Memory, Workload};
@@ -33,6 +33,7 @@ fn site_count(w: &Workload) -> u64
     w.sites.value.max(0) as u64
 }
 
+/// Where the objects and the fields of slots stand.
 fn lay_out<'a>(alloc: Global, w: &'a Workload) -> Result<Layout<'a>, Memory>
     requires { IsFaultless (plain_workload w.now) }
     ensures { IfOk result (IsLayout (schema_of (plain_workload w.now))) }

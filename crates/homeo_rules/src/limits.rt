@@ -5,7 +5,6 @@ ghost use Rattle.homeo_rules.specs.inner.Deciding.{keep_all};
 ghost use Rattle.homeo_meaning.specs.NumberRules.{site_count_faults};
 ghost use Rattle.homeo_rules.specs.inner.Limited.{transaction_passing, client_passing, call_passing};
 
-
 use crate::deciding::{at_name, at_number};
 use homeo_ground::SitedCall;
 use homeo_meaning::{Fault, Phase};
@@ -21,6 +20,7 @@ const MOST_CALLS: usize = 20_000;
 
 const MOST_GROUND_CALLS: usize = 1024;
 
+/// From 1 to 16 sites.
 #[tactic(auto, using(crate::proofs::Steps::keeping), unfolding(homeo_meaning::specs::Key::words))]
 pub fn check_site_count(sites: Number, best: Option<Fault>) -> Option<Fault>
     ensures { result ≡ keep_all best (site_count_faults sites) }
@@ -32,6 +32,7 @@ pub fn check_site_count(sites: Number, best: Option<Fault>) -> Option<Fault>
     }
 }
 
+/// At most 256 transactions.
 #[tactic(auto, using(crate::proofs::Steps::keeping), unfolding(homeo_meaning::specs::Key::words))]
 pub fn check_transaction_count(ts: &[Transaction], best: Option<Fault>) -> Option<Fault>
     ensures { result ≡ keep_all best (transaction_passing (slice_get ts.now 256)) }
@@ -42,6 +43,7 @@ pub fn check_transaction_count(ts: &[Transaction], best: Option<Fault>) -> Optio
     }
 }
 
+/// At most 64 clients.
 #[tactic(auto, using(crate::proofs::Steps::keeping), unfolding(homeo_meaning::specs::Key::words))]
 pub fn check_client_count(cs: &[Client], best: Option<Fault>) -> Option<Fault>
     ensures { result ≡ keep_all best (client_passing (slice_get cs.now 64)) }
@@ -52,6 +54,7 @@ pub fn check_client_count(cs: &[Client], best: Option<Fault>) -> Option<Fault>
     }
 }
 
+/// At most 20,000 calls.
 #[tactic(auto, using(crate::proofs::Steps::keeping), unfolding(homeo_meaning::specs::Key::words))]
 pub fn check_call_count(calls: &[SitedCall<'_>], best: Option<Fault>) -> Option<Fault>
     ensures { result ≡ keep_all best (call_passing (slice_get calls.now 20000)) }
@@ -62,6 +65,7 @@ pub fn check_call_count(calls: &[SitedCall<'_>], best: Option<Fault>) -> Option<
     }
 }
 
+/// At most 1,024 distinct ground calls.
 #[tactic(auto, using(crate::proofs::Steps::keeping), unfolding(homeo_meaning::specs::Key::words))]
 pub fn check_ground_count(calls: &[SitedCall<'_>], best: Option<Fault>) -> Option<Fault>
     ensures { result ≡ keep_all best (call_passing (slice_get calls.now 1024)) }

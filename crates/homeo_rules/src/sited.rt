@@ -8,6 +8,7 @@ use homeo_ground::SitedCall;
 use homeo_syntax::{Call, Client, Memory};
 use std::alloc::Global;
 
+/// Puts calls with their site behind those before.
 #[tactic(auto, using(crate::proofs::Limiting::siting))]
 fn push_calls<'a>(cs: &'a [Call], site: i64, calls: &mut Vec<SitedCall<'a>>) -> Result<(), Memory>
     ensures { OnOk result (map sited calls.new.items ≡ map sited calls.old.items ++ sited_at site cs.now) }

@@ -5,7 +5,6 @@ use Rattle.homeo_syntax.specs.declared.workload.Client.{Client}
 use Rattle.homeo_meaning.specs.NameRules.{fault}
 use Rattle.homeo_meaning.specs.declared.rules.Fault.{Fault}
 use Rattle.homeo_meaning.specs.declared.rules.Phase.TheVariants.{Limits}
-
 use Rattle.homeo_ground.specs.declared.sited.SitedCall.{SitedCall}
 
 abbrev pub transaction_passing : Option Transaction → List Fault
