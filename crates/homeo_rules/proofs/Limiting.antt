@@ -1,7 +1,7 @@
 -- What comes after as much as there may be is the one that the rule finds.
 use Rattle.std.proofs.Common.{◌≡◌, ℕ, ℤ, zero, suc, ◌+◌, ◌<◌, ◌≤◌, Bool, true, false, cond, not, ◌&&◌, ◌||◌, ◌==◌, List, [], ◌∷◌, ◌++◌, map, Option, Some, None, length, refl, sym, ap, ◌∙◌, arith, append_assoc}
-use Rattle.std.specs.Prelude.{slice_get, nat_le}
-use Rattle.std.specs.List.{list_any, flat_map}
+use Rattle.std.specs.Prelude.{slice_get}
+use Rattle.std.specs.List.{flat_map}
 use Rattle.std.proofs.lemmas.Bool.Decides.{nat_tests}
 use Rattle.std.proofs.lemmas.List.{length-append, length-map, map-append}
 use Rattle.homeo_syntax.specs.Key.{words as syntax_words}
@@ -18,7 +18,7 @@ use Rattle.homeo_meaning.specs.TransactionRules.{each, each_from}
 use Rattle.homeo_meaning.specs.GlobalNames as g
 use Rattle.homeo_meaning.specs.GlobalNames.{sited_calls_of}
 use Rattle.homeo_meaning.specs.Serial.{arguments}
-use Rattle.homeo_meaning.specs.NumberRules.{passes_limit, same_ground, distinct_after}
+use Rattle.homeo_meaning.specs.NumberRules.{passes_limit}
 use Rattle.homeo_meaning.specs.declared.rules.Fault.{Fault}
 use Rattle.homeo_meaning.specs.declared.rules.Phase.TheVariants.{Limits}
 use Rattle.homeo_rules.specs.inner.Limited.{transaction_passing, client_passing, call_passing}
