@@ -1,7 +1,6 @@
 pub mod Called
 pub mod Calls
 pub mod Distinct
-pub mod Example
 pub mod Keys
 pub mod Limits
 pub mod Places

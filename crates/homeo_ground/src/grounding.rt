@@ -62,7 +62,7 @@ impl Grounding {
     ///
     /// # Errors
     ///
-    /// `Memory` where memory is wanting.
+    /// `Memory` when out of memory.
     pub fn of(alloc: Global, w: &Accepted) -> Result<Grounding, Memory>
         ensures table { IfOk result (λ g. g ≡ grounding (plain_workload w.now)) }
         ensures calls { IfOk result (λ g. g.calls ≡ grounds (plain_workload w.now)) }

@@ -10,6 +10,3 @@ mod sited;
 pub use grounding::Grounding;
 pub use numbering::{Numbered, number_clients};
 pub use sited::SitedCall;
-
-#[cfg(test)]
-mod tests;

@@ -140,10 +140,11 @@ mod tests {
             }
             _ => panic!(rt; "three clients"),
         }
-        let mut offsets = Vec::new(rt.alloc());
-        for call in numbered.calls.as_slice() {
-            offsets.push(call.name.offset)?;
-        }
+        let offsets: Vec<u64> = numbered
+            .calls
+            .iter()
+            .map(|call| call.name.offset)
+            .collect(rt.alloc())?;
         assert_eq!(rt; offsets.as_slice(), [10, 20, 40, 50, 70].as_slice());
         Ok(())
     }

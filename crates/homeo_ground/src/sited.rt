@@ -13,8 +13,11 @@ use std::alloc::Global;
 /// A call's name, its arguments, and the site of its client.
 #[derive(Clone, Copy)]
 pub struct SitedCall<'a> {
+    /// The name of the transaction, where the call has it.
     pub name: Ident,
+    /// The arguments, in the order of the parameters.
     pub args: &'a [Number],
+    /// The number of the site, from 0.
     pub site: i64,
 }
 
@@ -22,11 +25,7 @@ pub struct SitedCall<'a> {
 pub(crate) fn values(alloc: Global, numbers: &[Number]) -> Result<Vec<i64>, Memory>
     ensures { IfOk result (λ made. made.items ≡ values numbers.now) }
 {
-    let mut values = Vec::new(alloc);
-    for number in numbers {
-        values.push(number.value)?;
-    }
-    Ok(values)
+    Ok(numbers.iter().map(|number| number.value).collect(alloc)?)
 }
 
 /// The ground call of a call, with its transaction by its number.

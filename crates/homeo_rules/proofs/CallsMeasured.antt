@@ -18,9 +18,9 @@ use Rattle.homeo_meaning.specs.declared.rules.Fault.{Fault}
 use Rattle.homeo_meaning.specs.declared.rules.Phase.TheVariants.{Size}
 use Rattle.homeo_size.specs.Measured.{IsMeasure}
 use Rattle.homeo_size.specs.declared.steps.Measure.{Measure}
-use Rattle.homeo_rules.specs.inner.Sited.{sited}
+use Rattle.homeo_ground.specs.Sited.{sited}
 use Rattle.homeo_rules.specs.inner.Sizes.{call_of, told_size, IsToldAfter, IsTold, AreTold, AreMeasured, known}
-use Rattle.homeo_rules.specs.declared.sited.SitedCall.{SitedCall}
+use Rattle.homeo_ground.specs.declared.sited.SitedCall.{SitedCall}
 use Rattle.homeo_rules.specs.declared.sizes.MeasuredCall.{MeasuredCall}
 use Rattle.homeo_rules.proofs.AlongCalls.{or_true, AgreeUpTo, total_known, total_unknown}
 

@@ -21,13 +21,11 @@ use Rattle.homeo_rules.proofs.Phases.{sizes_in, later_in, decides_first}
 use Rattle.homeo_meaning.proofs.SoundRelations.{objects-fit}
 use Rattle.homeo_size.specs.Layout.{HasFewObjects, relation_of, schema_with}
 use Rattle.homeo_rules.specs.inner.Decided.{IsFaultless}
-use Rattle.homeo_rules.specs.inner.Limited.{distinct_within}
 use Rattle.homeo_rules.specs.inner.Printing.{prints_too_much_in}
-use Rattle.homeo_rules.specs.inner.Sited.{sited}
+use Rattle.homeo_ground.specs.Sited.{sited}
 use Rattle.homeo_rules.specs.inner.Sizes.{AreTold, AreMeasured, call_of}
-use Rattle.homeo_rules.specs.declared.sited.SitedCall.{SitedCall}
+use Rattle.homeo_ground.specs.declared.sited.SitedCall.{SitedCall}
 use Rattle.homeo_rules.specs.declared.sizes.MeasuredCall.{MeasuredCall}
-use Rattle.homeo_rules.proofs.Joining.{grounds-are}
 use Rattle.homeo_rules.proofs.OneDecides.{none_left}
 use Rattle.homeo_rules.proofs.CallsMeasured.{are_measured}
 use Rattle.homeo_rules.proofs.Steps.{keep_all-append}
@@ -67,9 +65,8 @@ after-sizes w b e none =
 
 -- ---- of the lists that the code goes along
 -- the ground calls are measured, one for one
-pub grounds-plain : (w : Workload) (calls kept held : List SitedCall) (measured found : List MeasuredCall) → map sited calls ≡ sited_calls (plain_workload w) → IsFaultless (plain_workload w) → kept ≡ distinct_within 1024 [] calls → held ≡ kept → map call_of measured ≡ map sited held → found ≡ measured → map call_of found ≡ ground_calls (plain_workload w)
-grounds-plain w calls kept held measured found el sound e h m f =
-    ap (map call_of) f ∙ m ∙ ap (map sited) (h ∙ e) ∙ grounds-are w calls el sound
+pub grounds-plain : (w : s.Workload) (grounds : List SitedCall) (measured found : List MeasuredCall) → map sited grounds ≡ ground_calls w → map call_of measured ≡ map sited grounds → found ≡ measured → map call_of found ≡ ground_calls w
+grounds-plain w grounds measured found e m f = ap (map call_of) f ∙ m ∙ e
 
 -- where there is no fault of sizes, each ground call is measured
 pub all-measured : (w : s.Workload) (b : Option Fault) (ms : List MeasuredCall) → map call_of ms ≡ ground_calls w → AreTold w 0 ms → b ≡ keep_all None (size_faults w ++ print_faults w) → b ≡ None → AreMeasured w ms

@@ -16,18 +16,19 @@ use Rattle.homeo_syntax.specs.declared.workload.Workload.{Workload}
 use Rattle.homeo_meaning.specs.Key.{words as meaning_words}
 use Rattle.homeo_meaning.specs.Bindings.{Scope}
 use Rattle.homeo_meaning.specs.TransactionRules.{each}
-use Rattle.homeo_meaning.specs.GlobalNames.{GlobalName, numbered_from, global_names, duplicate, field_names, scope_of, sited_calls, called}
+use Rattle.homeo_meaning.specs.GlobalNames.{GlobalName, numbered_from, global_names, duplicate, field_names, scope_of, sited_calls, sited_calls_of, called}
 use Rattle.homeo_meaning.specs.NumberRules.{object_faults, site_count_faults, slot_faults, object_making, relation_making, makings, too_many_objects, passes_limit, limit_faults, distinct_after, ground_calls}
 use Rattle.homeo_meaning.specs.CallRules.{client_faults, schedule_faults}
 use Rattle.homeo_meaning.specs.SizeRules.{size_faults, print_faults, weight_faults, row_faults}
 use Rattle.homeo_meaning.specs.Faults.{of_relation, of_transaction, declared_faults, text_faults, form_faults, faults}
-use Rattle.homeo_meaning.proofs.FaultParts.{NoTextFault, text_parts, limit_parts}
+use Rattle.homeo_meaning.proofs.FaultParts.{NoTextFault, text_parts}
 use Rattle.homeo_rules.proofs.Phases.{text_early, sizes_in, later_in, both as both_lists, wider_below, wider_above, decides_first}
 use Rattle.homeo_rules.specs.inner.Deciding.{keep_all}
 use Rattle.homeo_meaning.specs.declared.call.Purpose.{Purpose}
 use Rattle.homeo_meaning.specs.declared.rules.Fault.{Fault}
-use Rattle.homeo_rules.specs.declared.sited.SitedCall.{SitedCall}
-use Rattle.homeo_rules.specs.inner.Sited.{sited, sited_of}
+use Rattle.homeo_ground.specs.declared.sited.SitedCall.{SitedCall}
+use Rattle.homeo_ground.specs.Sited.{sited}
+use Rattle.homeo_rules.specs.inner.Sited.{sited_of}
 use Rattle.homeo_meaning.specs.GlobalNames as g
 use Rattle.homeo_meaning.specs.declared.rules.Item.{Item}
 use Rattle.homeo_meaning.specs.declared.rules.Item.TheVariants as I
@@ -40,13 +41,13 @@ use Rattle.homeo_rules.specs.inner.Within.{AreNamed}
 use Rattle.homeo_rules.specs.inner.Callers.{client_faults_of, transaction_faults_of}
 use Rattle.homeo_rules.specs.inner.Counting.{count_all, making_of}
 use Rattle.homeo_rules.specs.inner.Relations.{relation_faults_of, slot_faults_of}
-use Rattle.homeo_rules.specs.inner.Limited.{transaction_passing, client_passing, call_passing, distinct_within}
+use Rattle.homeo_rules.specs.inner.Limited.{transaction_passing, client_passing, call_passing}
 use Rattle.homeo_rules.specs.inner.Decided.{NamesGlobals, faults_with_names, IsFaultless}
 use Rattle.homeo_rules.proofs.Steps.{keep_all-append}
 use Rattle.homeo_rules.proofs.Listing.{all-along, all-mapped}
 use Rattle.homeo_rules.proofs.Counts.{objects-counted}
 use Rattle.homeo_rules.proofs.First.{along, along-append, along-numbered, Along, table_is, NamesWithin}
-use Rattle.homeo_rules.proofs.Limiting.{passing, limit-is, transaction-plain, client-plain, call-plain, ground-plain, ground-are, sited-plain}
+use Rattle.homeo_rules.proofs.Limiting.{passing, limit-is, transaction-plain, client-plain, call-plain, sited-plain}
 use Rattle.homeo_rules.proofs.OneDecides.{none_left}
 
 -- ---- global names
@@ -144,10 +145,10 @@ unfolding words
 makings-plain [] = refl
 makings-plain (q ∷ qs) = ap (λ l. making_of q ∷ l) (makings-plain qs)
 
-pub limits-along : (w : Workload) (best : Option Fault) (qs rs : List RelationDecl) (os : List ObjectDecl) (ts : List Transaction) (cs : List Client) (calls : List SitedCall) → qs ≡ w.relations.items → os ≡ w.objects.items → rs ≡ w.relations.items → ts ≡ w.transactions.items → cs ≡ w.clients.items → map sited calls ≡ sited_calls (plain_workload w)
-    → keep_all (keep_all (keep_all (keep_all (count_all making_of (count_all object_making (record { count = 0; best = along_all slot_faults_of (keep_all best (site_count_faults w.sites)) qs }) os) rs).best (transaction_passing (slice_get ts 256))) (client_passing (slice_get cs 64))) (call_passing (slice_get calls 20000))) (call_passing (slice_get (distinct_within 1024 [] calls) 1024)) ≡ keep_all best (limit_faults (plain_workload w))
+pub limits-along : (w : Workload) (best : Option Fault) (qs rs : List RelationDecl) (os : List ObjectDecl) (ts : List Transaction) (cs : List Client) (calls grounds : List SitedCall) → qs ≡ w.relations.items → os ≡ w.objects.items → rs ≡ w.relations.items → ts ≡ w.transactions.items → cs ≡ w.clients.items → map sited calls ≡ sited_calls (plain_workload w) → map sited grounds ≡ ground_calls (plain_workload w)
+    → keep_all (keep_all (keep_all (keep_all (count_all making_of (count_all object_making (record { count = 0; best = along_all slot_faults_of (keep_all best (site_count_faults w.sites)) qs }) os) rs).best (transaction_passing (slice_get ts 256))) (client_passing (slice_get cs 64))) (call_passing (slice_get calls 20000))) (call_passing (slice_get grounds 1024)) ≡ keep_all best (limit_faults (plain_workload w))
 unfolding words meaning_words syntax_words
-limits-along w best qs rs os ts cs calls eq eo er et ec el =
+limits-along w best qs rs os ts cs calls grounds eq eo er et ec el ek =
     let p : s.Workload = plain_workload w in
     let a : List Fault = site_count_faults w.sites in
     let b : List Fault = flat_map slot_faults p.relations in
@@ -170,11 +171,11 @@ limits-along w best qs rs os ts cs calls eq eo er et ec el =
     limit-is 20000 (λ (c : g.SitedCall). c.name) (sited_calls p)
     ∙ ap (λ us. passing (λ (c : g.SitedCall). c.name) (slice_get us 20000)) (sym el)
     ∙ call-plain calls 20000) in
-    let eh : call_passing (slice_get (distinct_within 1024 [] calls) 1024) ≡ h =
+    let eh : call_passing (slice_get grounds 1024) ≡ h =
     sym (
-    limit-is 1024 (λ (c : g.SitedCall). c.name) (distinct_after [] (sited_calls p))
-    ∙ ap (λ us. passing (λ (c : g.SitedCall). c.name) (slice_get (distinct_after [] us) 1024)) (sym el)
-    ∙ ground-plain 1024 calls) in
+    limit-is 1024 (λ (c : g.SitedCall). c.name) (ground_calls p)
+    ∙ ap (λ us. passing (λ (c : g.SitedCall). c.name) (slice_get us 1024)) (sym ek)
+    ∙ call-plain grounds 1024) in
     (λ i. keep_all (keep_all (keep_all (keep_all (objects i) (ed i)) (ef i)) (eg i)) (eh i))
     ∙ sym (
     keep_all-append best (a ++ b ++ c ++ d ++ f ++ l) h
@@ -197,14 +198,11 @@ scope-is w t items qs globals ei eq =
     (λ i. scope_with (ei i) (eq i)) ∙ (λ i. record { item = globals.items i; fields = λ k. fields-plain w.relations.items k i })
 
 -- ---- calls
--- without a fault of limits, the ground calls that are kept are all
-pub grounds-are : (w : Workload) (calls : List SitedCall) → map sited calls ≡ sited_calls (plain_workload w) → IsFaultless (plain_workload w) → map sited (distinct_within 1024 [] calls) ≡ ground_calls (plain_workload w)
-unfolding meaning_words
-grounds-are w calls el sound =
-    let p : s.Workload = plain_workload w in
-    let name : g.SitedCall → Ident = λ c. c.name in
-    let last : each (passes_limit 1024 name) (distinct_after [] (sited_calls p)) ≡ [] = (limit_parts p sound.limits).grounds in
-    ground-are calls (ap (λ l. each (passes_limit 1024 name) (distinct_after [] l)) el ∙ last) ∙ ap (distinct_after []) el
+-- the distinct calls of the clients are the ground calls
+pub grounds-are : (w : Workload) (grounds : List SitedCall) (cs : List Client) → map sited grounds ≡ distinct_after [] (flat_map sited_calls_of (map plain_client cs)) → cs ≡ w.clients.items
+    → map sited grounds ≡ ground_calls (plain_workload w)
+unfolding meaning_words syntax_words
+grounds-are w grounds cs e ec = e ∙ ap (λ l. distinct_after [] (flat_map sited_calls_of (map plain_client l))) ec
 
 -- ---- the names of what is read
 pub order-named : (w : Workload) (n : ℕ) → IsWellFormed (plain_workload w) → n ≡ length w.names.items → InSchedule (IsBelow n) (plain_schedule w.schedule)

@@ -16,7 +16,6 @@ pub mod OneDecides
 pub mod Phases
 pub mod Printings
 pub mod RowsAlong
-pub mod Siting
 pub mod SizesAlong
 pub mod Steps
 pub mod Tallied

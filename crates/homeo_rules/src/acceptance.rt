@@ -17,12 +17,16 @@ use std::alloc::Global;
 pub enum RuleRefusal {
     /// The rule that decides is broken, with its number and the place in the text.
     Refused(Refusal),
-    /// Want of memory.
+    /// Out of memory.
     Memory,
 }
 
-/// Accepts a workload without a fault. Of another's faults the one that decides is told: one of the first phase that
-/// has one, and in it the one with the least offset. Want of memory says nothing of the workload.
+/// Accepts a workload that breaks no rule for the purpose, and gives it back as it was. The rules are this project's.
+///
+/// # Errors
+///
+/// `Refused`, by the fault that decides: one of the first phase that has one, and in it the one with the least offset.
+/// `Memory` when out of memory, which says nothing of the workload.
 pub fn accept(alloc: Global, w: Workload, purpose: Purpose) -> Result<Accepted, RuleRefusal>
     requires { IsWellFormed (plain_workload w) }
     ensures same { IfOk result (λ a. plain_workload a ≡ plain_workload w) }

@@ -12,6 +12,7 @@ use homeo_syntax::{Number, ObjectDecl, RangeDecl};
 /// No bound is larger than this, with or without sign.
 const LARGEST_BOUND: i64 = 1_000_000_000_000;
 
+/// A number of a declaration is not larger than bounds may be.
 #[tactic(auto, using(crate::proofs::Steps::keeping), unfolding(homeo_meaning::specs::Key::words))]
 fn check_size(n: Number, best: Option<Fault>) -> Option<Fault>
     ensures { result ≡ keep_all best (too_large n) }
@@ -23,6 +24,7 @@ fn check_size(n: Number, best: Option<Fault>) -> Option<Fault>
     }
 }
 
+/// The lower bound is not above the upper one.
 #[tactic(auto, using(crate::proofs::Steps::keeping), unfolding(homeo_meaning::specs::Key::words))]
 fn check_order(lo: Number, hi: Number, best: Option<Fault>) -> Option<Fault>
     ensures { result ≡ keep_all best (crossed lo hi) }
@@ -34,6 +36,7 @@ fn check_order(lo: Number, hi: Number, best: Option<Fault>) -> Option<Fault>
     }
 }
 
+/// A number stands between two bounds.
 #[tactic(auto, using(crate::proofs::Steps::keeping), unfolding(homeo_meaning::specs::Key::words))]
 fn check_within(lo: Number, hi: Number, n: Number, best: Option<Fault>) -> Option<Fault>
     ensures { result ≡ keep_all best (outside lo hi n) }
@@ -45,6 +48,7 @@ fn check_within(lo: Number, hi: Number, n: Number, best: Option<Fault>) -> Optio
     }
 }
 
+/// Two bounds.
 #[tactic(auto, using(crate::proofs::Numbers::bounds))]
 fn check_range(lo: Number, hi: Number, best: Option<Fault>) -> Option<Fault>
     ensures { result ≡ keep_all best (range_faults lo hi) }
@@ -54,6 +58,7 @@ fn check_range(lo: Number, hi: Number, best: Option<Fault>) -> Option<Fault>
     check_order(lo, hi, best)
 }
 
+/// An object's bounds, and its first value between them.
 #[tactic(auto, using(crate::proofs::Numbers::bounds))]
 fn check_object(d: ObjectDecl, best: Option<Fault>) -> Option<Fault>
     ensures { result ≡ keep_all best (object_faults d) }
@@ -69,6 +74,7 @@ fn check_declared(d: RangeDecl, best: Option<Fault>) -> Option<Fault>
     check_range(d.lo, d.hi, best)
 }
 
+/// The bounds and first values of objects.
 pub fn check_objects(ds: &[ObjectDecl], best: Option<Fault>) -> Option<Fault>
     ensures { result ≡ along_all object_faults best ds.now }
 {
@@ -90,6 +96,7 @@ pub fn check_ranges(ds: &[RangeDecl], best: Option<Fault>) -> Option<Fault>
     best
 }
 
+/// The argument at the place of a parameter, where there is one.
 #[tactic(auto, using(crate::proofs::Steps::keeping), unfolding(homeo_meaning::specs::Key::words))]
 fn check_argument(d: RangeDecl, args: &[Number], place: usize, best: Option<Fault>) -> Option<Fault>
     ensures { result ≡ keep_all best (argument_outside d (slice_get args.now place)) }
@@ -100,6 +107,7 @@ fn check_argument(d: RangeDecl, args: &[Number], place: usize, best: Option<Faul
     }
 }
 
+/// Each argument within the bounds of its parameter.
 pub fn check_arguments(ds: &[RangeDecl], args: &[Number], best: Option<Fault>) -> Option<Fault>
     ensures { result ≡ along_arguments best 0 ds.now args.now }
 {
@@ -110,6 +118,7 @@ pub fn check_arguments(ds: &[RangeDecl], args: &[Number], best: Option<Fault>) -
     best
 }
 
+/// The site of a client is one that there is.
 #[tactic(auto, using(crate::proofs::Steps::keeping), unfolding(homeo_meaning::specs::Key::words))]
 pub fn check_site(sites: Number, site: Number, best: Option<Fault>) -> Option<Fault>
     ensures { result ≡ keep_all best (site_faults sites site) }

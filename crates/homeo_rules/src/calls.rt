@@ -16,6 +16,7 @@ use crate::scope::Scope;
 use homeo_meaning::{Fault, Item, Phase};
 use homeo_syntax::{Call, Client, Number, RangeDecl, Transaction};
 
+/// A call has as many arguments as there are parameters.
 #[tactic(auto, using(crate::proofs::Steps::keeping), unfolding(homeo_meaning::specs::Key::words))]
 fn check_arity(params: &[RangeDecl], c: &Call, best: Option<Fault>) -> Option<Fault>
     ensures { result ≡ keep_all best (when (not (length c.now.args.items == length params.now)) (fault Arity c.now.name)) }
@@ -27,6 +28,7 @@ fn check_arity(params: &[RangeDecl], c: &Call, best: Option<Fault>) -> Option<Fa
     }
 }
 
+/// The arguments of a call, against the parameters.
 #[tactic(auto, using(crate::proofs::Callings::callings))]
 fn check_call_of(params: &[RangeDecl], c: &Call, best: Option<Fault>) -> Option<Fault>
     ensures { result ≡ keep_all best (argument_faults params.now (plain_call c.now)) }
@@ -35,6 +37,7 @@ fn check_call_of(params: &[RangeDecl], c: &Call, best: Option<Fault>) -> Option<
     check_arguments(params, c.args.as_slice(), best)
 }
 
+/// The arguments of a call, against the parameters of the transaction of a number.
 fn check_call_at(place: usize, c: &Call, ts: &[Transaction], best: Option<Fault>) -> Option<Fault>
     ensures { result ≡ keep_all best (argument_faults (params_at ts.now place) (plain_call c.now)) }
 {
@@ -44,6 +47,7 @@ fn check_call_at(place: usize, c: &Call, ts: &[Transaction], best: Option<Fault>
     }
 }
 
+/// A call names a transaction, and has arguments that fit.
 #[tactic(auto, using(crate::proofs::Callings::callings))]
 fn check_call(c: &Call, scope: &Scope<'_>, ts: &[Transaction], best: Option<Fault>) -> Option<Fault>
     ensures { result ≡ keep_all best (call_faults_of (scope_in scope.now) ts.now c.now) }
@@ -70,6 +74,7 @@ fn check_calls(
     best
 }
 
+/// The calls of a client, and its site.
 #[tactic(auto, using(crate::proofs::Callings::callings))]
 fn check_client(
     c: &Client,
@@ -84,6 +89,7 @@ fn check_client(
     check_site(sites, c.site, best)
 }
 
+/// All clients.
 pub fn check_clients(
     cs: &[Client],
     sites: Number,

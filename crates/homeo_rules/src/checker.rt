@@ -65,12 +65,14 @@ impl Checker {
         }
     }
 
+    /// With a fault at a name.
     fn keep(&mut self, phase: Phase, x: Ident)
         ensures { self.new ≡ record { locals = self.old.locals; best = keep_all self.old.best (fault phase x) } }
     {
         self.best = at_name(self.best, phase, x);
     }
 
+    /// What a name stands for here: a global name, or else a row variable, or else a local.
     #[tactic(auto, unfolding(homeo_meaning::specs::Key::words))]
     fn binding(&self, scope: &Scope<'_>, rows: &Rows<'_>, name: u32) -> Binding
         ensures { result ≡ binding (scope_in scope.now) (local_at self.now.locals) (rows_of rows.now) name }

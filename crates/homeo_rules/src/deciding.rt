@@ -9,6 +9,7 @@ ghost use Rattle.homeo_rules.specs.inner.Deciding.{keep_all};
 use homeo_meaning::{Fault, Phase};
 use homeo_syntax::{Ident, Number};
 
+/// The place of a phase in the order in which phases are tried, from 0.
 #[tactic(auto, unfolding(homeo_meaning::specs::Key::words))]
 pub fn rank(phase: Phase) -> u8
     ensures { result ≡ rank phase }
@@ -27,6 +28,7 @@ pub fn rank(phase: Phase) -> u8
     }
 }
 
+/// The number of a phase's refusals, as 5 of `E5`.
 #[tactic(auto, unfolding(homeo_meaning::specs::Key::words))]
 pub fn code(phase: Phase) -> u8
     ensures { result ≡ code phase }
@@ -45,6 +47,7 @@ pub fn code(phase: Phase) -> u8
     }
 }
 
+/// Whether a fault is of an earlier phase, or of the same phase at a lesser offset.
 #[tactic(auto, unfolding(homeo_meaning::specs::Key::words))]
 fn comes_before(f: Fault, g: Fault) -> bool
     ensures { result ≡ comes_before f g }

@@ -5,11 +5,11 @@ ghost use Rattle.homeo_syntax.specs.SourceView.{plain_workload};
 ghost use Rattle.homeo_syntax.specs.WellFormed.{IsWellFormed};
 ghost use Rattle.homeo_rules.specs.inner.Deciding.{keep_all};
 ghost use Rattle.homeo_meaning.specs.GlobalNames.{scope_of, sited_calls};
-ghost use Rattle.homeo_meaning.specs.NumberRules.{limit_faults};
+ghost use Rattle.homeo_meaning.specs.NumberRules.{ground_calls, limit_faults};
 ghost use Rattle.homeo_meaning.specs.CallRules.{schedule_faults};
 ghost use Rattle.homeo_meaning.specs.Faults.{declared_faults, faults};
 ghost use Rattle.homeo_rules.specs.inner.Scopes.{scope_in};
-ghost use Rattle.homeo_rules.specs.inner.Sited.{sited};
+ghost use Rattle.homeo_ground.specs.Sited.{sited};
 ghost use Rattle.homeo_rules.specs.inner.Decided.{NamesGlobals, faults_with_names};
 
 use crate::bounds::check_objects;
@@ -18,19 +18,21 @@ use crate::field_table::FieldTable;
 use crate::forms::check_forms;
 use crate::items::{self, Items};
 use crate::limits::{
-    check_call_count, check_client_count, check_ground_calls, check_site_count,
+    check_call_count, check_client_count, check_ground_count, check_site_count,
     check_transaction_count,
 };
 use crate::objects::check_object_count;
 use crate::relations::{check_all_slots, check_relations};
 use crate::schedule::check_schedule;
 use crate::scope::Scope;
-use crate::sited::{SitedCall, sited_calls};
+use crate::sited::sited_calls;
 use crate::transaction::check_transactions;
+use homeo_ground::{SitedCall, number_clients};
 use homeo_meaning::{Fault, Purpose};
 use homeo_syntax::{Memory, Workload};
 use std::alloc::Global;
 
+/// The table of the global names, and the fault that decides among theirs.
 fn global_names(alloc: Global, w: &Workload) -> Result<Items, Memory>
     requires { IsWellFormed (plain_workload w.now) }
     ensures { IfOk result (NamesGlobals (plain_workload w.now)) }
@@ -43,6 +45,7 @@ fn global_names(alloc: Global, w: &Workload) -> Result<Items, Memory>
     Ok(items)
 }
 
+/// With the faults of declarations, transactions and clients.
 fn declared(
     alloc: Global,
     w: &Workload,
@@ -66,14 +69,16 @@ fn declared(
     ))
 }
 
+/// With the faults of how many there are of each.
 fn limits(
-    alloc: Global,
     w: &Workload,
     calls: &[SitedCall<'_>],
+    grounds: &[SitedCall<'_>],
     best: Option<Fault>,
-) -> Result<Option<Fault>, Memory>
-    requires { map sited calls.now ≡ sited_calls (plain_workload w.now) }
-    ensures { IfOk result (λ b. b ≡ keep_all best (limit_faults (plain_workload w.now))) }
+) -> Option<Fault>
+    requires sited { map sited calls.now ≡ sited_calls (plain_workload w.now) }
+    requires grounds { map sited grounds.now ≡ ground_calls (plain_workload w.now) }
+    ensures { result ≡ keep_all best (limit_faults (plain_workload w.now)) }
 {
     let best = check_site_count(w.sites, best);
     let best = check_all_slots(w.relations.as_slice(), best);
@@ -81,9 +86,10 @@ fn limits(
     let best = check_transaction_count(w.transactions.as_slice(), best);
     let best = check_client_count(w.clients.as_slice(), best);
     let best = check_call_count(calls, best);
-    check_ground_calls(alloc, calls, best)
+    check_ground_count(grounds, best)
 }
 
+/// With the faults of the schedule.
 fn schedule(
     alloc: Global,
     purpose: Purpose,
@@ -115,15 +121,17 @@ fn text(
     w: &Workload,
     scope: &Scope<'_>,
     calls: &[SitedCall<'_>],
+    grounds: &[SitedCall<'_>],
     best: Option<Fault>,
 ) -> Result<Option<Fault>, Memory>
     requires formed { IsWellFormed (plain_workload w.now) }
     requires names { scope_in scope.now ≡ scope_of (plain_workload w.now) }
     requires sited { map sited calls.now ≡ sited_calls (plain_workload w.now) }
+    requires grounds { map sited grounds.now ≡ ground_calls (plain_workload w.now) }
     ensures { IfOk result (λ b. b ≡ keep_all best (faults_with_names purpose (plain_workload w.now))) }
 {
     let best = declared(alloc, w, scope, best)?;
-    let best = limits(alloc, w, calls, best)?;
+    let best = limits(w, calls, grounds, best);
     schedule(alloc, purpose, w, scope, best)
 }
 
@@ -139,9 +147,19 @@ pub fn decide(alloc: Global, purpose: Purpose, w: &Workload) -> Result<Option<Fa
         relations: &fields,
     };
     let calls = sited_calls(alloc, w.clients.as_slice())?;
-    let best = text(alloc, purpose, w, &scope, calls.as_slice(), items.best())?;
+    let numbered = number_clients(alloc, w.clients.as_slice())?;
+    let grounds = numbered.calls.as_slice();
+    let best = text(
+        alloc,
+        purpose,
+        w,
+        &scope,
+        calls.as_slice(),
+        grounds,
+        items.best(),
+    )?;
     match best {
         Some(_) => Ok(best),
-        None => check_forms(alloc, w, &scope, calls.as_slice()),
+        None => check_forms(alloc, w, &scope, calls.as_slice(), grounds),
     }
 }

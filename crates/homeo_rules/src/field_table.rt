@@ -53,6 +53,7 @@ fn enter_fields(
     Ok(())
 }
 
+/// The names of the fields of each relation, with the number of the relation.
 fn tabled(alloc: Global, relations: &[RelationDecl]) -> Result<IndexSet<FieldKey>, Memory>
     ensures { IfOk result (AreTabled relations.now) }
 {

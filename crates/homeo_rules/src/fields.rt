@@ -17,6 +17,7 @@ use homeo_syntax::{FieldValue, Ident, Memory};
 use indexmap::IndexSet;
 use std::alloc::Global;
 
+/// The relation of a number has the field.
 #[tactic(auto, using(crate::proofs::Steps::lookups))]
 fn check_field_at(
     scope: &Scope<'_>,
@@ -49,6 +50,7 @@ pub fn check_field(
     }
 }
 
+/// The relation has each field that an insert names.
 fn check_fields(
     scope: &Scope<'_>,
     relation: Option<Item>,

@@ -11,16 +11,15 @@ ghost use Rattle.homeo_meaning.specs.SizeRules.{size_faults, print_faults, weigh
 ghost use Rattle.homeo_size.specs.Layout.{IsLayout};
 ghost use Rattle.homeo_rules.specs.inner.Decided.{IsFaultless};
 ghost use Rattle.homeo_rules.specs.inner.Scopes.{scope_in};
-ghost use Rattle.homeo_rules.specs.inner.Sited.{sited};
+ghost use Rattle.homeo_ground.specs.Sited.{sited};
 ghost use Rattle.homeo_rules.specs.inner.Sizes.{IsSetUp, workload_of, call_of, AreTold, AreMeasured};
 
-use crate::limits::ground_calls;
 use crate::prints::check_prints;
 use crate::scope::Scope;
-use crate::sited::SitedCall;
 use crate::sizes::{
     MeasuredCall, Measuring, check_rows, check_sizes, check_weights, measure_calls,
 };
+use homeo_ground::SitedCall;
 use homeo_meaning::Fault;
 use homeo_size::Layout;
 use homeo_syntax::{Memory, Workload};
@@ -34,6 +33,7 @@ fn site_count(w: &Workload) -> u64
     w.sites.value.max(0) as u64
 }
 
+/// Where the objects and the fields of slots stand.
 fn lay_out<'a>(alloc: Global, w: &'a Workload) -> Result<Layout<'a>, Memory>
     requires { IsFaultless (plain_workload w.now) }
     ensures { IfOk result (IsLayout (schema_of (plain_workload w.now))) }
@@ -79,13 +79,14 @@ pub fn check_forms<'a>(
     w: &'a Workload,
     scope: &Scope<'a>,
     calls: &[SitedCall<'_>],
+    grounds: &[SitedCall<'_>],
 ) -> Result<Option<Fault>, Memory>
     requires names { scope_in scope.now ≡ scope_of (plain_workload w.now) }
     requires sited { map sited calls.now ≡ sited_calls (plain_workload w.now) }
+    requires grounds { map sited grounds.now ≡ ground_calls (plain_workload w.now) }
     requires faultless { IsFaultless (plain_workload w.now) }
     ensures { IfOk result (λ b. b ≡ keep_all None (form_faults (plain_workload w.now))) }
 {
-    let grounds = ground_calls(alloc, calls)?;
     let layout = lay_out(alloc, w)?;
     let measuring = Measuring {
         scope: *scope,
@@ -93,7 +94,7 @@ pub fn check_forms<'a>(
         layout: &layout,
         sites: site_count(w),
     };
-    let measured = measure_calls(alloc, grounds.as_slice(), &measuring)?;
+    let measured = measure_calls(alloc, grounds, &measuring)?;
     let best = check_sizes_and_prints(alloc, measured.as_slice(), calls, &measuring)?;
     match best {
         Some(_) => Ok(best),

@@ -55,6 +55,7 @@ impl Items {
         }
     }
 
+    /// Enters a name, unless it is there: then that is a fault.
     #[tactic(auto, using(crate::proofs::Steps::steps))]
     fn enter(&mut self, x: Ident, item: Item)
         ensures { self.new ≡ enter self.old x item }

@@ -17,6 +17,7 @@ pub struct Counted {
     pub best: Option<Fault>,
 }
 
+/// With so many objects more; the name by which a limit is passed is a fault.
 #[tactic(auto, using(crate::proofs::Counts::counting))]
 fn add(k: Counted, name: Ident, objects: u128) -> Counted
     requires { objects < 2 ^ 127 }

@@ -7,18 +7,19 @@ ghost use Rattle.homeo_rules.specs.inner.Deciding.{keep_all};
 ghost use Rattle.homeo_meaning.specs.declared.rules.Phase.TheVariants.{Size};
 ghost use Rattle.homeo_rules.specs.inner.Printing.{capped_prints, counted_prints, print_all, prints_too_much_in};
 ghost use Rattle.homeo_rules.specs.inner.Scopes.{scope_in};
-ghost use Rattle.homeo_rules.specs.inner.Sited.{sited};
+ghost use Rattle.homeo_ground.specs.Sited.{sited};
 ghost use Rattle.homeo_rules.specs.inner.Sizes.{IsSetUp, workload_of};
 
 use crate::deciding::at_name;
 use crate::scope::Scope;
-use crate::sited::SitedCall;
 use crate::sizes::Measuring;
+use homeo_ground::SitedCall;
 use homeo_meaning::{Fault, Item, Phase};
 use homeo_size::{TOO_MANY_PRINTS, count_prints};
 use homeo_syntax::{Ident, Memory, Transaction};
 use std::alloc::Global;
 
+/// A sum, up to one more than there may be.
 fn capped_sum(a: u64, b: u64) -> u64
     ensures { result ≡ min 1000001 (a + b) }
 {
@@ -33,6 +34,7 @@ fn count_in(t: &Transaction, measuring: &Measuring<'_, '_>) -> u64
     count_prints(t, measuring.layout)
 }
 
+/// The print commands of each transaction.
 fn count_all_prints(
     alloc: Global,
     ts: &[Transaction],
@@ -49,6 +51,7 @@ fn count_all_prints(
     Ok(counts)
 }
 
+/// The print commands of the transaction that a name stands for.
 fn prints_of(scope: &Scope<'_>, counts: &[u64], x: Ident) -> u64
     ensures { result ≡ counted_prints counts.now ((scope_in scope.now).item x.name) }
 {
@@ -67,6 +70,7 @@ fn count_at(counts: &[u64], place: usize) -> u64
     }
 }
 
+/// So many print commands together are not too many.
 #[tactic(auto, using(crate::proofs::Steps::keeping))]
 fn check_total(total: u64, x: Ident, best: Option<Fault>) -> Option<Fault>
     ensures { result ≡ keep_all best (when (nat_lt 1000000 total) (fault Size x)) }
@@ -78,6 +82,7 @@ fn check_total(total: u64, x: Ident, best: Option<Fault>) -> Option<Fault>
     }
 }
 
+/// The print commands of the calls, added up along them.
 fn check_totals(
     counts: &[u64],
     scope: &Scope<'_>,

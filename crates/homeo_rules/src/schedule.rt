@@ -40,6 +40,7 @@ fn call_count(cs: &[Client], place: usize) -> usize
     }
 }
 
+/// A name of the schedule stands for a client, which is not named more often than it has calls.
 #[tactic(auto, using(crate::proofs::Tallied::scheduling))]
 fn check_scheduled(
     cs: &[Client],
@@ -92,6 +93,7 @@ impl Tally {
         }
     }
 
+    /// Whether some client is named less often than it has calls.
     fn is_short(&self, cs: &[Client]) -> bool
         ensures { result ≡ is_short_of self.now.counts cs.now }
     {
@@ -99,6 +101,7 @@ impl Tally {
     }
 }
 
+/// The names of a schedule, counted along it.
 fn tallied(
     alloc: Global,
     xs: &[Ident],
@@ -116,6 +119,7 @@ fn tallied(
     Ok(t)
 }
 
+/// With a fault of the schedule at the end of the text.
 #[tactic(auto, using(crate::proofs::Steps::keeping), unfolding(homeo_meaning::specs::Key::words))]
 fn at_end(end: u64, best: Option<Fault>) -> Option<Fault>
     ensures { result ≡ keep_all best (end_fault end) }
@@ -140,6 +144,7 @@ fn check_end(t: &Tally, cs: &[Client], end: u64) -> Option<Fault>
     }
 }
 
+/// Whether what is read for this purpose needs a schedule.
 fn needs_order(purpose: Purpose) -> bool
     ensures { result ≡ needs_order purpose }
 {
@@ -155,6 +160,7 @@ fn has_calls(cs: &[Client]) -> bool
     cs.iter().any(|c| c.calls.as_slice().len() > 0)
 }
 
+/// A workload without a schedule has no call, where the purpose needs a schedule.
 #[tactic(auto, using(crate::proofs::Steps::keeping))]
 fn check_no_order(purpose: Purpose, cs: &[Client], end: u64, best: Option<Fault>) -> Option<Fault>
     ensures { result ≡ keep_all best (when (needs_order purpose && has_calls_of cs.now) (end_fault end)) }

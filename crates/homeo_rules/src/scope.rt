@@ -15,6 +15,7 @@ pub struct Scope<'a> {
 }
 
 impl Scope<'_> {
+    /// What a global name stands for.
     pub fn item(&self, name: u32) -> Option<Item>
         ensures { result ≡ (scope_in self.now).item name }
     {
@@ -24,12 +25,14 @@ impl Scope<'_> {
         }
     }
 
+    /// The number of fields of the relation of a number.
     pub fn field_count(&self, relation: usize) -> usize
         ensures { result ≡ length ((scope_in self.now).fields relation) }
     {
         self.relations.count(relation)
     }
 
+    /// Whether the relation of a number has a field of the name.
     pub fn has_field(&self, relation: usize, name: u32) -> bool
         ensures { result ≡ has_name (slice_get self.now.relations.now relation) name }
     {

@@ -8,13 +8,13 @@ ghost use Rattle.homeo_meaning.specs.TransactionRules.{each};
 ghost use Rattle.homeo_meaning.specs.CallForm.{body_form};
 ghost use Rattle.homeo_meaning.specs.SizeRules.{extent_of, too_large, heavy_call, too_many_rows};
 ghost use Rattle.homeo_meaning.specs.declared.rules.Phase.TheVariants.{Size, Weight, Rows};
-ghost use Rattle.homeo_rules.specs.inner.Sited.{values, sited};
+ghost use Rattle.homeo_ground.specs.Sited.{values, sited};
 ghost use Rattle.homeo_rules.specs.inner.Scopes.{scope_in};
 ghost use Rattle.homeo_rules.specs.inner.Sizes.{IsSetUp, workload_of, transaction_place, call_of, told_size, IsMeasuredBody, IsMeasuredAs, IsTold, AreTold, AreMeasured, is_too_large, known};
 
 use crate::deciding::at_name;
 use crate::scope::Scope;
-use crate::sited::SitedCall;
+use homeo_ground::SitedCall;
 use homeo_meaning::{Fault, Item, Phase};
 use homeo_size::{BEYOND, Layout, Measure, TOO_HEAVY, measure};
 use homeo_syntax::{Ident, Memory, Number, Workload};
@@ -67,18 +67,21 @@ pub struct MeasuredCall<'a> {
     pub measure: Option<Measure>,
 }
 
+/// A sum, up to the number that stands for all that are larger.
 fn capped_sum(a: u64, b: u64) -> u64
     ensures { result ≡ min 8000001 (a + b) }
 {
     BEYOND.min(a.saturating_add(b))
 }
 
+/// A product, up to the same number.
 fn capped_product(a: u64, b: u64) -> u64
     ensures { result ≡ min 8000001 (a * b) }
 {
     BEYOND.min(a.saturating_mul(b))
 }
 
+/// The measure of the transaction of a number, with these arguments.
 fn measure_at(
     alloc: Global,
     place: usize,
@@ -105,6 +108,7 @@ fn transaction_place(scope: Scope<'_>, name: u32) -> Option<usize>
     }
 }
 
+/// The measure of a call.
 fn measure_call(
     alloc: Global,
     call: SitedCall<'_>,
@@ -135,6 +139,7 @@ fn measure_after(
     measure_call(alloc, call, measuring)
 }
 
+/// The measure, or what stands for that of a call that is not measured.
 fn known(measure: Option<Measure>) -> Measure
     ensures { result ≡ known measure }
 {

@@ -45,6 +45,7 @@ pub fn check_transaction(
     Ok(k.best())
 }
 
+/// All transactions.
 pub fn check_transactions(
     alloc: Global,
     ts: &[Transaction],

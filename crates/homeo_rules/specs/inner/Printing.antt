@@ -14,7 +14,7 @@ use Rattle.homeo_meaning.specs.declared.rules.Fault.{Fault}
 use Rattle.homeo_meaning.specs.declared.rules.Item.{Item}
 use Rattle.homeo_meaning.specs.declared.rules.Item.TheVariants as I
 use Rattle.homeo_meaning.specs.declared.rules.Phase.TheVariants.{Size}
-use Rattle.homeo_rules.specs.declared.sited.SitedCall.{SitedCall}
+use Rattle.homeo_ground.specs.declared.sited.SitedCall.{SitedCall}
 
 -- of a transaction of the workload, with these arguments
 abbrev pub capped_prints : s.Workload → List ℤ → Transaction → ℕ

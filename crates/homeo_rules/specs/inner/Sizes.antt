@@ -13,7 +13,7 @@ use Rattle.homeo_size.specs.Layout.{IsLayout}
 use Rattle.homeo_size.specs.Measured.{IsMeasure, IsMeasured}
 use Rattle.homeo_size.specs.declared.steps.Measure.{Measure}
 use Rattle.homeo_rules.specs.inner.Scopes.{scope_in}
-use Rattle.homeo_rules.specs.inner.Sited.{sited}
+use Rattle.homeo_ground.specs.Sited.{sited}
 use Rattle.homeo_rules.specs.declared.sizes.MeasuredCall.{MeasuredCall}
 use Rattle.homeo_rules.specs.declared.sizes.Measuring.{Measuring}
 

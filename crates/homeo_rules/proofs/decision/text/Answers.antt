@@ -10,6 +10,6 @@ use Rattle.homeo_rules.proofs.decision.text.Goals as goal
 pub returns : goal.returns
 returns c =
     let w = plain_workload c.args.w.now in
-    let two = c.in_ok-best-2.ensures ∙ ap (λ b. keep_all b (limit_faults w)) c.in_ok-best.ensures in
+    let two = c.limits-best.ensures ∙ ap (λ b. keep_all b (limit_faults w)) c.in_ok-best.ensures in
     let e = ap (λ b. keep_all b (schedule_faults c.args.purpose (scope_of w) w.clients w.end w.schedule)) two ∙ with-names c.args.purpose w c.args.best in
     subst (λ v. IfOk c.schedule.result (λ b. b ≡ v)) e c.schedule.ensures

@@ -1,5 +1,6 @@
 use Rattle.std.proofs.Common.{◌≡◌, ◌++◌, drop, map}
-use Rattle.homeo_rules.specs.inner.Sited.{sited, sited_at}
+use Rattle.homeo_ground.specs.Sited.{sited}
+use Rattle.homeo_rules.specs.inner.Sited.{sited_at}
 use Rattle.homeo_rules.proofs.sited.push_calls.Given as goal
 
 abbrev pub invariant-loop-c : goal.invariant-loop-c

@@ -1,4 +1,4 @@
-use Rattle.homeo_rules.specs.inner.Sited.{sited}
+use Rattle.homeo_ground.specs.Sited.{sited}
 use Rattle.homeo_rules.specs.inner.Sizes.{workload_of}
 use Rattle.homeo_rules.proofs.Measured.{measured-after, past-all}
 use Rattle.homeo_rules.proofs.sizes.measure_after.Goals as goal
