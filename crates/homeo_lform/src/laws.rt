@@ -33,7 +33,8 @@ pub fn form_means_the_program()
 
 /// The L form of a call names whole objects only: no base and no delta.
 pub fn form_names_whole_objects()
-    ensures { (x : Schema) (params : List ℕ) (args : List ℤ) (body : Commands) → IsWhole (l_form x params args body) }
+    ensures calls { (x : Schema) (params : List ℕ) (args : List ℤ) (body : Commands) → IsWhole (l_form x params args body) }
+    ensures ground_calls { (w : Workload) (g : Ground) → IsWhole (ground_form w g) }
 {}
 
 /// The L form of each call of an accepted workload, whatever its arguments, names only objects that the workload has, and
