@@ -162,7 +162,7 @@ module _ (R P : ℤ → Type 0) where
     test_can slot m s c d run h =
         cans slot m s run (after (test slot m).before s) (alike_self (test slot m).next (after (test slot m).before s)) h.0.1
 
-    pub tested_after : (slot : Slot) (m : ℕ) (s : M.State) → M.holds (loop_test slot (test slot m).phrase) (after (test slot m).before s) ≡ is_used (seen s) slot && p slot (seen s)
+    tested_after : (slot : Slot) (m : ℕ) (s : M.State) → M.holds (loop_test slot (test slot m).phrase) (after (test slot m).before s) ≡ is_used (seen s) slot && p slot (seen s)
     unfolding words
     tested_after slot m s =
         let k = tests slot m s in
@@ -200,7 +200,7 @@ module _ (R P : ℤ → Type 0) where
             subst (λ z. z) (ap₂ (λ t z. Adding t more z) (next.alike.sees ∙ k.sees) (next.counts ∙ ap (λ z. cond passes_now (z +ℤ q slot (seen s)) z) (k.keeps n lt))) rest,
           )
 
-      pub counted_can : (all : List Slot) (n : ℕ) (s : M.State) → low.CanRunAll R P (counted test term all n).before s → Adding (seen s) all (pos 0)
+      counted_can : (all : List Slot) (n : ℕ) (s : M.State) → low.CanRunAll R P (counted test term all n).before s → Adding (seen s) all (pos 0)
       unfolding words
       counted_can all n s h =
           let a = M.put s (M.TempAt (temp.Fresh n)) (pos 0) in

@@ -148,7 +148,7 @@ mutual
       (λ slot m a. front_takes M.value (value (bind w r.name slot) e) m a (lift (bind w r.name slot) e m) (guarded (spot slot.fields f.name) (field_cell slot f.name) (lift (bind w r.name slot) e m).phrase) (lifts (bind w r.name slot) e m a) (guarded_none (spot slot.fields f.name) (field_cell slot f.name) (lift (bind w r.name slot) e m).phrase))
       (slots w q.name) n s
 
-  pub forms_take : (w : Context) (cs : Commands) (n : ℕ) (s : M.State) → TakesFrom n (forms w cs n).next s (M.exec_all (forms w cs n).commands s).state
+  forms_take : (w : Context) (cs : Commands) (n : ℕ) (s : M.State) → TakesFrom n (forms w cs n).next s (M.exec_all (forms w cs n).commands s).state
   forms_take w NoCommand n s = record { grows = omega arith; keeps = λ j lt. refl }
   forms_take w (MoreCommand c cs) n s =
       let x = form_takes w c n s in

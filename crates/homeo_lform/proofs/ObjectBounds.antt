@@ -56,7 +56,7 @@ begins_here : (g : ℕ → Bounds) (n : ℕ) (bs : List Bounds) → Begins g n b
 unfolding words
 begins_here g n bs h = let e : n ≡ n + 0 = omega arith in ap g e ∙ h 0
 
-pub spot_admits : (g : ℕ → Bounds) (n : ℕ) (ds : List Declared) (rest : List Bounds) (x : ℕ) → Begins g n (map bounds_of ds ++ rest) → HoldsZero rest → Admits (g (spot_from n ds x).place) (spot_from n ds x)
+spot_admits : (g : ℕ → Bounds) (n : ℕ) (ds : List Declared) (rest : List Bounds) (x : ℕ) → Begins g n (map bounds_of ds ++ rest) → HoldsZero rest → Admits (g (spot_from n ds x).place) (spot_from n ds x)
 unfolding words
 spot_admits g n [] rest x h z = λ v e.
     let k = within_lo (record { place = n; lo = pos 0; hi = pos 0 }) v e in
@@ -78,7 +78,7 @@ pub record SlotFits (g : ℕ → Bounds) (ds : List Declared) (slot : Slot) : Ty
   pub field : (x : ℕ) → Admits (g (cell slot (spot ds x))) (spot ds x)
   pub own : (x : ℕ) → Admits (g (field_cell slot x)) (spot slot.fields x)
 
-pub slot_fits : (g : ℕ → Bounds) (k first : ℕ) (ds : List Declared) (rest : List Bounds) → Begins g first (record { lo = pos 0; hi = pos 1 } ∷ (map bounds_of ds ++ rest)) → HoldsZero rest → SlotFits g ds (record { number = k; used = first; fields = ds })
+slot_fits : (g : ℕ → Bounds) (k first : ℕ) (ds : List Declared) (rest : List Bounds) → Begins g first (record { lo = pos 0; hi = pos 1 } ∷ (map bounds_of ds ++ rest)) → HoldsZero rest → SlotFits g ds (record { number = k; used = first; fields = ds })
 unfolding words
 slot_fits g k first ds rest h z =
     let own : (x : ℕ) → Admits (g (first + 1 + (spot ds x).place)) (spot ds x) = λ x.
@@ -110,7 +110,7 @@ all_fit g k first ds (suc n) rest h z =
           (begins_after g (suc first) (first + (1 + length ds)) (map bounds_of ds) more (omega (arith, length-map ds bounds_of)) (begins_next g first (record { lo = pos 0; hi = pos 1 }) (map bounds_of ds ++ more) split)) z,
     )
 
-pub slots_length : (n : ℕ) (ds : List Declared) → length (slot_bounds n ds) ≡ n * (1 + length ds)
+slots_length : (n : ℕ) (ds : List Declared) → length (slot_bounds n ds) ≡ n * (1 + length ds)
 unfolding words
 slots_length zero ds = omega arith
 slots_length (suc n) ds =

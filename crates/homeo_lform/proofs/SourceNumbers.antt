@@ -98,7 +98,7 @@ module _ (R P : ℤ → Type 0) where
   mutual
     unfolding words
 
-    pub run_can : (w : Context) (c : Command) (n : ℕ) (s : M.State) → low.CanRun R P (form w c n).command s → CanRun R P w c (seen s)
+    run_can : (w : Context) (c : Command) (n : ℕ) (s : M.State) → low.CanRun R P (form w c n).command s → CanRun R P w c (seen s)
     run_can w Skip n s h = tt
     run_can w (Assign t e) n s h = value_can w e n s (L.Assign (temp.Named t.name) (lift w e n).phrase) (λ k. k) h
     run_can w (Write x e) n s h = write_can w e n s (object w x.name) (object w x.name).place h
@@ -130,7 +130,7 @@ module _ (R P : ℤ → Type 0) where
         (λ slot m a. row_does slot f.name (value (bind w r.name slot) e) m a (lift (bind w r.name slot) e m) (lifts (bind w r.name slot) e m a))
         (λ slot m a k. write_can (bind w r.name slot) e m a (spot slot.fields f.name) (field_cell slot f.name) k) n s h
 
-    pub runs_can : (w : Context) (cs : Commands) (n : ℕ) (s : M.State) → low.CanRunAll R P (forms w cs n).commands s → CanRunAll R P w cs (seen s)
+    runs_can : (w : Context) (cs : Commands) (n : ℕ) (s : M.State) → low.CanRunAll R P (forms w cs n).commands s → CanRunAll R P w cs (seen s)
     runs_can w NoCommand n s h = tt
     runs_can w (MoreCommand c cs) n s h = (
       run_can w c n s h.0,

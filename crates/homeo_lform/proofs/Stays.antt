@@ -6,7 +6,7 @@ use Rattle.homeo_syntax.specs.Source.{FieldValue, Command, Commands, Skip, Assig
 use Rattle.homeo_meaning.specs.Key.{words}
 use Rattle.homeo_meaning.specs.Schema.{Declared, Schema}
 use Rattle.homeo_meaning.specs.Context.{Spot, Slot, Context, spot, cell, field_cell, object, slots, fields, bind, first_where, slot_at, context}
-use Rattle.homeo_meaning.specs.Bounds.{Bounds, all_bounds, IsIn, bounds_at, AllWithin}
+use Rattle.homeo_meaning.specs.Bounds.{Bounds, IsIn, bounds_at, AllWithin}
 use Rattle.homeo_meaning.specs.Meaning.{State, Run, done, is_used, is_free, is_within, set_temp, set_object, write, write_field, write_slot, visit, Setting, settings, are_within, set_fields, fill, insert, value, holds, does, does_all, run}
 use Rattle.homeo_lform.specs.inner.RowsFit.{Admits, RowsFit}
 use Rattle.homeo_lform.proofs.ObjectBounds.{Each, ForSome, each_first, SlotFits, all_at, slots_fit, object_admits, no_row_fits}
@@ -117,7 +117,7 @@ mutual
       visit_stays w.schema (SlotFits (all_at w.schema) (fields w q.name)) _ (λ slot a. done (write_field a slot f.name (value (bind w r.name slot) e a)))
       (λ slot a p i. write_stays w.schema a (spot slot.fields f.name) (field_cell slot f.name) (value (bind w r.name slot) e a) i (p.own f.name)) (slots w q.name) s (slots_fit w q.name) h
 
-  pub all_stay : (w : Context) (cs : Commands) (s : State) → RowsFit w → AllWithin w.schema s.database → AllWithin w.schema (does_all w cs s).state.database
+  all_stay : (w : Context) (cs : Commands) (s : State) → RowsFit w → AllWithin w.schema s.database → AllWithin w.schema (does_all w cs s).state.database
   all_stay w NoCommand s k h = h
   all_stay w (MoreCommand c cs) s k h = all_stay w cs (does w c s).state k (stays w c s k h)
 
@@ -131,9 +131,3 @@ unfolding words
 past_end [] x h = refl
 past_end (b ∷ bs) zero h = absurd (omega (arith, h))
 past_end (b ∷ bs) (suc x) h = past_end bs x (omega (arith, h))
-
--- a number that is no object has the value 0
-pub zero_past_end : (w : Schema) (d : ℕ → ℤ) (x : ℕ) → AllWithin w d → length (all_bounds w) ≤ x → d x ≡ pos 0
-unfolding words
-zero_past_end w d x h le =
-    let k = subst (λ b. IsIn b (d x)) (past_end (all_bounds w) x le) (h x) in omega (arith, ints, k.0, k.1)

@@ -1,11 +1,14 @@
 -- The L form names whole objects only.
-use Rattle.std.proofs.Common.{ℕ, suc, List, [], ◌∷◌, ℤ, Option, Some, None}
+use Rattle.std.proofs.Common.{ℕ, suc, List, [], ◌∷◌, map, ℤ, Option, Some, None}
+use Rattle.std.specs.Prelude.{slice_get}
 use Rattle.homeo_syntax.specs.declared.low.Temp.TheVariants as temp
 use Rattle.homeo_syntax.specs.Low as L
-use Rattle.homeo_syntax.specs.Source.{Expr, Exprs, Literal, Name, Read, Sum, Product, Neg, Field, Row, Count, Total, NoExpr, MoreExpr, Test, Cond, True, Not, Comparison, NoTest, MoreTest, FieldValue, Command, Commands, Skip, Assign, Write, Print, If, Block, SetField, SetRow, Foreach, Insert, Delete, Update, NoCommand, MoreCommand}
-use Rattle.homeo_meaning.specs.Schema.{Declared, Schema}
+use Rattle.homeo_syntax.specs.Source.{Expr, Exprs, Literal, Name, Read, Sum, Product, Neg, Field, Row, Count, Total, NoExpr, MoreExpr, Test, Cond, True, Not, Comparison, NoTest, MoreTest, FieldValue, Command, Commands, Skip, Assign, Write, Print, If, Block, SetField, SetRow, Foreach, Insert, Delete, Update, NoCommand, MoreCommand, Transaction, Workload}
+use Rattle.homeo_meaning.specs.Schema.{Declared, Schema, schema_of}
 use Rattle.homeo_meaning.specs.Context.{Spot, Slot, Context, spot, cell, field_cell, object, slots, fields, bind, slot_at, context}
 use Rattle.homeo_meaning.specs.LForm.{Lifted, Made, both, one, in_front, joined, visits, counted, read_chain, read_slot, literal_of, indexed_by, name_of, lift, lift_all, lift_test, lift_cond, write_to, write_field, write_chain, write_at, write_by, Target, stored, lift_values, all_within, field_writes, fill_chain, as_one, clear, form, forms, l_form}
+use Rattle.homeo_meaning.specs.Ground.{Ground}
+use Rattle.homeo_meaning.specs.CallForm.{body_form, ground_form}
 use Rattle.homeo_meaning.specs.Key.{words}
 use Rattle.homeo_meaning.specs.Whole.{IsWholeExpr, AreWholeExprs, IsWholeTest, IsWholeCond, IsWhole, AreWhole}
 
@@ -177,3 +180,11 @@ mutual
 pub whole_law : (x : Schema) (params : List ℕ) (args : List ℤ) (body : Commands) → IsWhole (l_form x params args body)
 unfolding words
 whole_law x params args body = forms_whole (context x params args) body 0
+
+pub ground_whole : (w : Workload) (g : Ground) → IsWhole (ground_form w g)
+unfolding words
+ground_whole w g = by_case (slice_get w.transactions g.transaction)
+  where
+    by_case : (o : Option Transaction) → IsWhole (body_form w o g.args)
+    by_case None = tt
+    by_case (Some t) = whole_law (schema_of w) (map (λ p. p.name.name) t.params) g.args t.body

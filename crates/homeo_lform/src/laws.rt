@@ -33,12 +33,13 @@ pub fn form_means_the_program()
 
 /// The L form of a call names whole objects only: no base and no delta.
 pub fn form_names_whole_objects()
-    ensures { (x : Schema) (params : List ℕ) (args : List ℤ) (body : Commands) → IsWhole (l_form x params args body) }
+    ensures calls { (x : Schema) (params : List ℕ) (args : List ℤ) (body : Commands) → IsWhole (l_form x params args body) }
+    ensures ground_calls { (w : Workload) (g : Ground) → IsWhole (ground_form w g) }
 {}
 
 /// The L form of each call of an accepted workload, whatever its arguments, names only objects that the workload has, and
 /// temporaries only by names that it has.
-pub fn form_names_what_there_is()
+pub fn form_names_only_what_exists()
     ensures { (w : Workload) (g : Ground) → IsAccepted w →
         NamesWithin (length (all_bounds (schema_of w))) (length w.names) (ground_form w g) }
 {}
@@ -79,8 +80,10 @@ pub fn light_forms_compute_small_numbers()
 /// Along a run of commands no value outgrows its weight. Where each place's value is at most its weight in size, so is
 /// the value of each expression, and so is each place's value after a command. Where the database is within its bounds,
 /// a call begins so.
-pub fn values_stay_below_their_weights()
-    ensures expressions { (e : Expr) (weights : Place → ℕ) (s : State) → Covers weights s → unsigned_abs (value e s) ≤ weight e weights }
-    ensures commands { (c : low_syntax.Command) (weights : Place → ℕ) (s : State) → Covers weights s → Covers (after c weights) (exec c s).state }
+pub fn no_value_outgrows_its_weight()
+    ensures expressions { (e : Expr) (weights : Place → ℕ) (s : State) →
+        Covers weights s → unsigned_abs (value e s) ≤ weight e weights }
+    ensures commands { (c : low_syntax.Command) (weights : Place → ℕ) (s : State) →
+        Covers weights s → Covers (after c weights) (exec c s).state }
     ensures calls { (x : Schema) (database : ℕ → ℤ) → AllWithin x database → Covers (first_weights x) (whole database) }
 {}

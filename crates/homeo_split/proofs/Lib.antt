@@ -6,3 +6,4 @@ pub mod Numbers
 pub mod SmallCommands
 pub mod States
 pub mod Steps
+pub mod WholePlaces

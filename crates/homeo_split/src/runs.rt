@@ -40,7 +40,10 @@ fn listed_all(alloc: Global, vectors: Vec<Vec<i64>>) -> Result<List<Database>, M
     Ok(lists)
 }
 
-/// Runs a command over split names on a split database, from temporaries 0, and gives its prints.
+/// Runs a command over split names on a split database, from temporaries 0, and gives its prints in their order.
+///
+/// The database must have each place that the command writes (`Split::has_places` tells), and no number that the run
+/// meets may be above 2 * 10^18 in size.
 ///
 /// # Errors
 ///

@@ -1,5 +1,5 @@
 use Rattle.homeo_lform.proofs.Light.{value_covered, run_covered, covers_start}
-use Rattle.homeo_lform.proofs.laws.values_stay_below_their_weights.Goals as goal
+use Rattle.homeo_lform.proofs.laws.no_value_outgrows_its_weight.Goals as goal
 
 pub returns-clause-expressions : goal.returns-clause-expressions
 returns-clause-expressions c = value_covered
