@@ -1,16 +1,12 @@
 -- Lexemes and the tokens with their names as places: each way, and the names that they have.
-use Rattle.std.proofs.Common.{◌≡◌, ◌<◌, ℕ, suc, ◌+◌, Bool, true, false, cond, List, [], ◌∷◌, ◌++◌, length, get_or, map, refl, sym, ap, subst, ◌∙◌, arith}
-use Rattle.std.specs.Prelude.{◌||◌, not, if◌then◌else◌}
-use Rattle.std.specs.List.{list_any}
-use Rattle.std.specs.Str.{bytes_eq}
-use Rattle.std.proofs.lemmas.Slice.Eq.{bytes_eq-Decides}
+use Rattle.std.proofs.Common.{◌≡◌, ℕ, List, [], ◌∷◌, map, refl, sym, ap, subst, ◌∙◌}
 use Rattle.homeo_syntax.specs.Key.{words as syntax_words}
 use Rattle.homeo_syntax.specs.declared.token.Mark.{Mark}
 use Rattle.homeo_syntax.specs.declared.token.Kind.{Kind}
 use Rattle.homeo_syntax.specs.declared.token.Kind.TheVariants as kind
 use Rattle.homeo_syntax.specs.declared.token.Token.{Token}
 use Rattle.homeo_syntax.specs.Lexemes.{Lexeme, Name, Number, Fixed}
-use Rattle.homeo_syntax.specs.Tokens.{Scanned, with_name, with_lexeme, names_after, names_of, place_of, kind_in, tokens_in}
+use Rattle.homeo_syntax.specs.Tokens.{Scanned, with_lexeme, names_after, names_of, kind_in, tokens_in}
 use Rattle.homeo_syntax.specs.Rules.{is_natural_value}
 use Rattle.homeo_syntax.specs.WellFormed.{IsName, Each}
 use Rattle.homeo_syntax.proofs.Spelling.{IsSpelled, AllSpelled}

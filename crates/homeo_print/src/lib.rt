@@ -1,4 +1,5 @@
-//! The text of a workload, which reads as the same workload where each of its names and numbers can stand in a text.
+//! The text of a workload, which reads as the same workload where each of its names and numbers can stand in a text
+//! (this project's rule: the layout, and where parentheses stand).
 #![tactic(auto)]
 
 ghost use Rattle.std.specs.Prelude.{◌≡◌, ℕ, List, IfOk};
@@ -26,7 +27,7 @@ use std::alloc::Global;
 ///
 /// # Errors
 ///
-/// `Memory` where memory is wanting.
+/// `Memory` when out of memory.
 #[tactic(auto, using(crate::proofs::Laying::print_is))]
 pub fn print(alloc: Global, w: &Workload) -> Result<Vec<u8>, Memory>
     ensures text { IfOk result (λ out. out.items ≡ print (plain_workload w.now)) }
