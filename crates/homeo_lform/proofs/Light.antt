@@ -73,7 +73,8 @@ module _ (b : ℕ) (w : Place → ℕ) (s : State) (c : Covers w s) where
         let size : unsigned_abs (neg_ℤ (value e s)) ≤ weight e w = omega (arith, l.size, abs_neg (value e s)) in
         record { can = (l.can, omega (arith, size)); size = size }
 
-    sum_light : (es : Exprs) (n : ℤ) (m : ℕ) → unsigned_abs n ≤ m → m + sum_weight es w ≤ b → Light b (CanSum (IsSmall b) (IsSmall b) n es s) (sum_value n es s) (m + sum_weight es w)
+    sum_light : (es : Exprs) (n : ℤ) (m : ℕ) → unsigned_abs n ≤ m → m + sum_weight es w ≤ b
+        → Light b (CanSum (IsSmall b) (IsSmall b) n es s) (sum_value n es s) (m + sum_weight es w)
     sum_light NoExpr n m k h = record { can = tt; size = omega (arith, k) }
     sum_light (MoreExpr e es) n m k h =
         let l = light e (omega (arith, h)) in
@@ -81,7 +82,8 @@ module _ (b : ℕ) (w : Place → ℕ) (s : State) (c : Covers w s) where
         let r = sum_light es (n +ℤ value e s) (m + weight e w) here (omega (arith, h)) in
         record { can = (l.can, omega (arith, here, h), r.can); size = omega (arith, r.size) }
 
-    product_light : (es : Exprs) (n : ℤ) (m : ℕ) → unsigned_abs n ≤ m → 1 ≤ m → m * product_weight es w ≤ b → Light b (CanProduct (IsSmall b) (IsSmall b) n es s) (product_value n es s) (m * product_weight es w)
+    product_light : (es : Exprs) (n : ℤ) (m : ℕ) → unsigned_abs n ≤ m → 1 ≤ m → m * product_weight es w ≤ b
+        → Light b (CanProduct (IsSmall b) (IsSmall b) n es s) (product_value n es s) (m * product_weight es w)
     product_light NoExpr n m k one h = record { can = tt; size = omega (arith, k) }
     product_light (MoreExpr e es) n m k one h =
         let we = weight e w in
@@ -90,7 +92,8 @@ module _ (b : ℕ) (w : Place → ℕ) (s : State) (c : Covers w s) where
         let one_e = one_weight w c.one e in
         let whole_le : we ≤ we * (m * rest) = factor_le we (m * rest) (one_mul m rest one one_rest) in
         let l = light e (omega (arith, h, whole_le)) in
-        let here : unsigned_abs (n *ℤ value e s) ≤ m * we = omega (arith, unsigned_abs-mul n (value e s), mul-le (unsigned_abs n) (unsigned_abs (value e s)) m we k l.size) in
+        let here : unsigned_abs (n *ℤ value e s) ≤ m * we = omega
+        (arith, unsigned_abs-mul n (value e s), mul-le (unsigned_abs n) (unsigned_abs (value e s)) m we k l.size) in
         let part : m * we ≤ (m * we) * rest = factor_le (m * we) rest one_rest in
         let r = product_light es (n *ℤ value e s) (m * we) here (one_mul m we one one_e) (omega (arith, h)) in
         record { can = (l.can, omega (arith, here, part, h), r.can); size = omega (arith, r.size) }
@@ -204,7 +207,8 @@ covers_start x database h = record { size = size; one = one }
     one (BaseAt n) = one_at (all_bounds x) n
     one (DeltaAt n j) = omega arith
 
-pub light_law : (b : ℕ) (x : Schema) (params : List ℕ) (args : List ℤ) (body : s.Commands) (database : ℕ → ℤ) → AllWithin x database → is_light b (l_form x params args body) (first_weights x) ≡ true → ComputesSmall b x params args body database
+pub light_law : (b : ℕ) (x : Schema) (params : List ℕ) (args : List ℤ) (body : s.Commands) (database : ℕ → ℤ) → AllWithin x database
+    → is_light b (l_form x params args body) (first_weights x) ≡ true → ComputesSmall b x params args body database
 unfolding words
 light_law b x params args body database h l =
     let form = run_light b (l_form x params args body) (first_weights x) (whole database) (covers_start x database h) l in

@@ -27,7 +27,8 @@ pub sum_more : (s : State) (n : ℤ) (e : Expr) (es : List Expr) → sum_value n
 unfolding words meaning_words tree_words
 sum_more s n e es = refl
 
-pub sum_fits_more : (b : ℕ) (s : State) (n : ℤ) (e : Expr) (es : List Expr) → sum_fits b n (low_exprs (e ∷ es)) s ≡ is_small b n && (expr_fits b e s && sum_fits b (n +ℤ value e s) (low_exprs es) s)
+pub sum_fits_more : (b : ℕ) (s : State) (n : ℤ) (e : Expr) (es : List Expr)
+    → sum_fits b n (low_exprs (e ∷ es)) s ≡ is_small b n && (expr_fits b e s && sum_fits b (n +ℤ value e s) (low_exprs es) s)
 unfolding words meaning_words tree_words
 sum_fits_more b s n e es = refl
 
@@ -39,7 +40,8 @@ pub product_more : (s : State) (n : ℤ) (e : Expr) (es : List Expr) → product
 unfolding words meaning_words tree_words
 product_more s n e es = refl
 
-pub product_fits_more : (b : ℕ) (s : State) (n : ℤ) (e : Expr) (es : List Expr) → product_fits b n (low_exprs (e ∷ es)) s ≡ is_small b n && (expr_fits b e s && product_fits b (n *ℤ value e s) (low_exprs es) s)
+pub product_fits_more : (b : ℕ) (s : State) (n : ℤ) (e : Expr) (es : List Expr)
+    → product_fits b n (low_exprs (e ∷ es)) s ≡ is_small b n && (expr_fits b e s && product_fits b (n *ℤ value e s) (low_exprs es) s)
 unfolding words meaning_words tree_words
 product_fits_more b s n e es = refl
 
@@ -51,7 +53,8 @@ pub holds_more : (s : State) (t : Test) (ts : List Test) → holds (low_tests (t
 unfolding words meaning_words tree_words
 holds_more s t ts = refl
 
-pub cond_fits_more : (b : ℕ) (s : State) (t : Test) (ts : List Test) → cond_fits b (low_tests (t ∷ ts)) s ≡ test_fits b t s && cond (passes t s) (cond_fits b (low_tests ts) s) true
+pub cond_fits_more : (b : ℕ) (s : State) (t : Test) (ts : List Test)
+    → cond_fits b (low_tests (t ∷ ts)) s ≡ test_fits b t s && cond (passes t s) (cond_fits b (low_tests ts) s) true
 unfolding words meaning_words tree_words
 cond_fits_more b s t ts = refl
 

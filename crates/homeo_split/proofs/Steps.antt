@@ -28,14 +28,22 @@ pub record SumStep (b : ℕ) (s : State) (n : ℤ) (es : List LExpr) (i : ℕ) (
   pub first : expr_fits b (plain_lexpr e) s ≡ true
   pub small : is_small b (n +ℤ value (plain_lexpr e) s) ≡ true
   pub rest : sum_fits b (n +ℤ value (plain_lexpr e) s) (low_exprs (map plain_lexpr (drop (i + 1) es))) s ≡ true
-  pub same : sum_value (n +ℤ value (plain_lexpr e) s) (low_exprs (map plain_lexpr (drop (i + 1) es))) s ≡ sum_value n (low_exprs (map plain_lexpr (drop i es))) s
+  pub same : sum_value (n +ℤ value (plain_lexpr e) s) (low_exprs (map plain_lexpr (drop (i + 1) es))) s
+      ≡ sum_value n (low_exprs (map plain_lexpr (drop i es))) s
 
-pub sum_step : {b : ℕ} {s : State} {n : ℤ} (es : List LExpr) (i : ℕ) (e : LExpr) → i < length es → e ≡ get_or es i e → sum_fits b n (low_exprs (map plain_lexpr (drop i es))) s ≡ true → SumStep b s n es i e
+pub sum_step : {b : ℕ} {s : State} {n : ℤ} (es : List LExpr) (i : ℕ) (e : LExpr) → i < length es → e ≡ get_or es i e
+    → sum_fits b n (low_exprs (map plain_lexpr (drop i es))) s ≡ true → SumStep b s n es i e
 sum_step {b} {s} {n} es i e h p fits =
     let next = drop_next plain_lexpr es i e h p in
-    let k = and_parts _ _ (sym (sum_fits_more b s n (plain_lexpr e) (map plain_lexpr (drop (i + 1) es))) ∙ ap (λ l. sum_fits b n (low_exprs l) s) (sym next) ∙ fits) in
+    let k = and_parts _ _ (sym (sum_fits_more b s n (plain_lexpr e) (map plain_lexpr (drop (i + 1) es)))
+    ∙ ap (λ l. sum_fits b n (low_exprs l) s) (sym next) ∙ fits) in
     let m = and_parts _ _ k.1 in
-    record { first = m.0; small = sum_small b _ s _ m.1; rest = m.1; same = sym (sum_more s n (plain_lexpr e) (map plain_lexpr (drop (i + 1) es))) ∙ ap (λ l. sum_value n (low_exprs l) s) (sym next) }
+    record {
+      first = m.0;
+      small = sum_small b _ s _ m.1;
+      rest = m.1;
+      same = sym (sum_more s n (plain_lexpr e) (map plain_lexpr (drop (i + 1) es))) ∙ ap (λ l. sum_value n (low_exprs l) s) (sym next);
+    }
 
 pub sum_stop : (s : State) (n : ℤ) (es : List LExpr) (i : ℕ) → length es ≤ i → n ≡ sum_value n (low_exprs (map plain_lexpr (drop i es))) s
 sum_stop s n es i h = sym (ap (λ l. sum_value n (low_exprs l) s) (drop_none plain_lexpr es i h) ∙ sum_end s n)
@@ -45,14 +53,22 @@ pub record ProductStep (b : ℕ) (s : State) (n : ℤ) (es : List LExpr) (i : �
   pub first : expr_fits b (plain_lexpr e) s ≡ true
   pub small : is_small b (n *ℤ value (plain_lexpr e) s) ≡ true
   pub rest : product_fits b (n *ℤ value (plain_lexpr e) s) (low_exprs (map plain_lexpr (drop (i + 1) es))) s ≡ true
-  pub same : product_value (n *ℤ value (plain_lexpr e) s) (low_exprs (map plain_lexpr (drop (i + 1) es))) s ≡ product_value n (low_exprs (map plain_lexpr (drop i es))) s
+  pub same : product_value (n *ℤ value (plain_lexpr e) s) (low_exprs (map plain_lexpr (drop (i + 1) es))) s
+      ≡ product_value n (low_exprs (map plain_lexpr (drop i es))) s
 
-pub product_step : {b : ℕ} {s : State} {n : ℤ} (es : List LExpr) (i : ℕ) (e : LExpr) → i < length es → e ≡ get_or es i e → product_fits b n (low_exprs (map plain_lexpr (drop i es))) s ≡ true → ProductStep b s n es i e
+pub product_step : {b : ℕ} {s : State} {n : ℤ} (es : List LExpr) (i : ℕ) (e : LExpr) → i < length es → e ≡ get_or es i e
+    → product_fits b n (low_exprs (map plain_lexpr (drop i es))) s ≡ true → ProductStep b s n es i e
 product_step {b} {s} {n} es i e h p fits =
     let next = drop_next plain_lexpr es i e h p in
-    let k = and_parts _ _ (sym (product_fits_more b s n (plain_lexpr e) (map plain_lexpr (drop (i + 1) es))) ∙ ap (λ l. product_fits b n (low_exprs l) s) (sym next) ∙ fits) in
+    let k = and_parts _ _ (sym (product_fits_more b s n (plain_lexpr e) (map plain_lexpr (drop (i + 1) es)))
+    ∙ ap (λ l. product_fits b n (low_exprs l) s) (sym next) ∙ fits) in
     let m = and_parts _ _ k.1 in
-    record { first = m.0; small = product_small b _ s _ m.1; rest = m.1; same = sym (product_more s n (plain_lexpr e) (map plain_lexpr (drop (i + 1) es))) ∙ ap (λ l. product_value n (low_exprs l) s) (sym next) }
+    record {
+      first = m.0;
+      small = product_small b _ s _ m.1;
+      rest = m.1;
+      same = sym (product_more s n (plain_lexpr e) (map plain_lexpr (drop (i + 1) es))) ∙ ap (λ l. product_value n (low_exprs l) s) (sym next);
+    }
 
 pub product_stop : (s : State) (n : ℤ) (es : List LExpr) (i : ℕ) → length es ≤ i → n ≡ product_value n (low_exprs (map plain_lexpr (drop i es))) s
 product_stop s n es i h = sym (ap (λ l. product_value n (low_exprs l) s) (drop_none plain_lexpr es i h) ∙ product_end s n)
@@ -63,8 +79,14 @@ pub record TestStep (b : ℕ) (s : State) (ts : List LTest) (i : ℕ) (t : LTest
   pub rest : passes (plain_ltest t) s ≡ true → cond_fits b (low_tests (map plain_ltest (drop (i + 1) ts))) s ≡ true
   pub same : holds (low_tests (map plain_ltest (drop i ts))) s ≡ (passes (plain_ltest t) s && holds (low_tests (map plain_ltest (drop (i + 1) ts))) s)
 
-pub test_step : {b : ℕ} {s : State} (ts : List LTest) (i : ℕ) (t : LTest) → i < length ts → t ≡ get_or ts i t → cond_fits b (low_tests (map plain_ltest (drop i ts))) s ≡ true → TestStep b s ts i t
+pub test_step : {b : ℕ} {s : State} (ts : List LTest) (i : ℕ) (t : LTest) → i < length ts → t ≡ get_or ts i t
+    → cond_fits b (low_tests (map plain_ltest (drop i ts))) s ≡ true → TestStep b s ts i t
 test_step {b} {s} ts i t h p fits =
     let next = drop_next plain_ltest ts i t h p in
-    let k = and_parts _ _ (sym (cond_fits_more b s (plain_ltest t) (map plain_ltest (drop (i + 1) ts))) ∙ ap (λ l. cond_fits b (low_tests l) s) (sym next) ∙ fits) in
-    record { first = k.0; rest = λ q. sym (ap (λ v. cond v (cond_fits b (low_tests (map plain_ltest (drop (i + 1) ts))) s) true) q) ∙ k.1; same = ap (λ l. holds (low_tests l) s) next ∙ holds_more s (plain_ltest t) (map plain_ltest (drop (i + 1) ts)) }
+    let k = and_parts _ _ (sym (cond_fits_more b s (plain_ltest t) (map plain_ltest (drop (i + 1) ts)))
+    ∙ ap (λ l. cond_fits b (low_tests l) s) (sym next) ∙ fits) in
+    record {
+      first = k.0;
+      rest = λ q. sym (ap (λ v. cond v (cond_fits b (low_tests (map plain_ltest (drop (i + 1) ts))) s) true) q) ∙ k.1;
+      same = ap (λ l. holds (low_tests l) s) next ∙ holds_more s (plain_ltest t) (map plain_ltest (drop (i + 1) ts));
+    }
