@@ -11,7 +11,7 @@ use Rattle.homeo_meaning.specs.Schema.{Declared, declared_object, declared_range
 use Rattle.homeo_meaning.specs.Context.{find_fields}
 use Rattle.homeo_meaning.specs.Bindings as b
 use Rattle.homeo_meaning.specs.Bindings.{Scope, item_or, row_or, row_relation}
-use Rattle.homeo_meaning.specs.Places.{Place, at, TakesObject, TakesRelation, TakesField, NamesField, FillsFields, in_commands}
+use Rattle.homeo_meaning.specs.Occurrences.{Occurrence, at, TakesObject, TakesRelation, TakesField, NamesField, FillsFields, in_commands}
 use Rattle.homeo_meaning.specs.ListRules.{when, fault, each_from, each, is_in, duplicate}
 use Rattle.homeo_meaning.specs.NameRules.{takes_object, takes_relation, takes_field, field_of, fills_all, judge}
 use Rattle.homeo_meaning.specs.TransactionRules.{local_of, temporaries, body_faults, parameter_fault, transaction_faults}
@@ -25,23 +25,23 @@ use Rattle.homeo_meaning.specs.declared.rules.Phase.TheVariants as F
 use Rattle.homeo_meaning.proofs.FaultParts.{none_first, none_second}
 
 -- ---- places without a fault
-pub record Clean (sc : Scope) (p : Place) : Type 0 where
+pub record Clean (sc : Scope) (p : Occurrence) : Type 0 where
   pub local : ℕ → Local
   pub none : judge sc local p ≡ []
 
-abbrev pub AllClean : Scope → List Place → Type 0
+abbrev pub AllClean : Scope → List Occurrence → Type 0
 AllClean sc [] = Unit {0}
 AllClean sc (p ∷ ps) = Clean sc p × AllClean sc ps
 
-pub clean_first : (sc : Scope) (ps qs : List Place) → AllClean sc (ps ++ qs) → AllClean sc ps
+pub clean_first : (sc : Scope) (ps qs : List Occurrence) → AllClean sc (ps ++ qs) → AllClean sc ps
 clean_first sc [] qs h = tt
 clean_first sc (p ∷ ps) qs h = (h.0, clean_first sc ps qs h.1)
 
-pub clean_second : (sc : Scope) (ps qs : List Place) → AllClean sc (ps ++ qs) → AllClean sc qs
+pub clean_second : (sc : Scope) (ps qs : List Occurrence) → AllClean sc (ps ++ qs) → AllClean sc qs
 clean_second sc [] qs h = h
 clean_second sc (p ∷ ps) qs h = clean_second sc ps qs h.1
 
-all_clean : (sc : Scope) (local : List Place → ℕ → Local) (before ps : List Place) → each_from (λ before p. judge sc (local before) p) before ps ≡ []
+all_clean : (sc : Scope) (local : List Occurrence → ℕ → Local) (before ps : List Occurrence) → each_from (λ before p. judge sc (local before) p) before ps ≡ []
     → AllClean sc ps
 unfolding words
 all_clean sc local before [] e = tt

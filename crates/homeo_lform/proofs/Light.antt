@@ -9,7 +9,7 @@ use Rattle.homeo_syntax.specs.Low.{Expr, Exprs, Literal, OfTemp, Read, Sum, Prod
 use Rattle.homeo_syntax.specs.Source as s
 use Rattle.homeo_meaning.specs.Key.{words}
 use Rattle.homeo_meaning.specs.LForm.{l_form}
-use Rattle.homeo_meaning.specs.LowMeaning.{Place, TempAt, BaseAt, DeltaAt, place_of, same_place, State, Run, put, value, sum_value, product_value, holds, exec, exec_all, whole}
+use Rattle.homeo_meaning.specs.LowMeaning.{Location, TempAt, BaseAt, DeltaAt, location_of, same_location, State, Run, put, value, sum_value, product_value, holds, exec, exec_all, whole}
 use Rattle.homeo_meaning.specs.Schema.{Schema}
 use Rattle.homeo_meaning.specs.Bounds.{Bounds, IsIn, all_bounds, bounds_at, AllWithin}
 use Rattle.homeo_meaning.specs.LowWeights.{weight_at, bounds_weight}
@@ -32,14 +32,14 @@ one_mul m n p q = omega (arith, mul-le 1 1 m n p q)
 factor_le : (a k : ℕ) → 1 ≤ k → a ≤ a * k
 factor_le a k p = omega (arith, mul-le a 1 a k (omega arith) p)
 
-module _ (w : Place → ℕ) (ones : (p : Place) → 1 ≤ w p) where
+module _ (w : Location → ℕ) (ones : (p : Location) → 1 ≤ w p) where
   mutual
     unfolding words
 
     one_weight : (e : Expr) → 1 ≤ weight e w
     one_weight (Literal n) = omega arith
     one_weight (OfTemp t) = ones (TempAt t)
-    one_weight (Read x) = ones (place_of x)
+    one_weight (Read x) = ones (location_of x)
     one_weight (Sum es) = omega arith
     one_weight (Product es) = one_product es
     one_weight (Neg e) = one_weight e
@@ -48,7 +48,7 @@ module _ (w : Place → ℕ) (ones : (p : Place) → 1 ≤ w p) where
     one_product NoExpr = omega arith
     one_product (MoreExpr e es) = one_mul (weight e w) (product_weight es w) (one_weight e) (one_product es)
 
-weight_small : (b : ℕ) (w : Place → ℕ) (e : Expr) → is_light_expr b e w ≡ true → weight e w ≤ b
+weight_small : (b : ℕ) (w : Location → ℕ) (e : Expr) → is_light_expr b e w ≡ true → weight e w ≤ b
 unfolding words
 weight_small b w e h = grind (arith, nat_tests)
 
@@ -56,14 +56,14 @@ record Light (b : ℕ) (Can : Type 0) (v : ℤ) (n : ℕ) : Type 0 where
   can : Can
   size : unsigned_abs v ≤ n
 
-module _ (b : ℕ) (w : Place → ℕ) (s : State) (c : Covers w s) where
+module _ (b : ℕ) (w : Location → ℕ) (s : State) (c : Covers w s) where
   mutual
     unfolding words
 
     light : (e : Expr) → weight e w ≤ b → Light b (CanValue (IsSmall b) (IsSmall b) e s) (value e s) (weight e w)
     light (Literal n) h = record { can = omega (arith, h); size = omega arith }
     light (OfTemp t) h = record { can = omega (arith, h, c.size (TempAt t)); size = c.size (TempAt t) }
-    light (Read x) h = record { can = omega (arith, h, c.size (place_of x)); size = c.size (place_of x) }
+    light (Read x) h = record { can = omega (arith, h, c.size (location_of x)); size = c.size (location_of x) }
     light (Sum es) h =
         let l = sum_light es (pos 0) 0 (omega arith) (omega arith) in record { can = l.can; size = omega (arith, l.size) }
     light (Product es) h =
@@ -114,53 +114,53 @@ module _ (b : ℕ) (w : Place → ℕ) (s : State) (c : Covers w s) where
         let parts = and_parts (is_light_test b t w) _ h in
         (light_test t parts.0, light_cond d parts.1)
 
-covers_put : (w : Place → ℕ) (s : State) (p : Place) (v : ℤ) (n : ℕ) → Covers w s → unsigned_abs v ≤ n → 1 ≤ n → Covers (put w p n) (put s p v)
+covers_put : (w : Location → ℕ) (s : State) (p : Location) (v : ℤ) (n : ℕ) → Covers w s → unsigned_abs v ≤ n → 1 ≤ n → Covers (put w p n) (put s p v)
 unfolding words
-covers_put w s p v n c h one = record { size = λ q. size q (same_place p q); one = λ q. one_at q (same_place p q) }
+covers_put w s p v n c h one = record { size = λ q. size q (same_location p q); one = λ q. one_at q (same_location p q) }
   where
-    size : (q : Place) (b : Bool) → unsigned_abs (cond b v (s q)) ≤ cond b n (w q)
+    size : (q : Location) (b : Bool) → unsigned_abs (cond b v (s q)) ≤ cond b n (w q)
     size q true = h
     size q false = c.size q
 
-    one_at : (q : Place) (b : Bool) → 1 ≤ cond b n (w q)
+    one_at : (q : Location) (b : Bool) → 1 ≤ cond b n (w q)
     one_at q true = one
     one_at q false = c.one q
 
-covers_if : (w w' : Place → ℕ) (v : Bool) (r r' : Run) → Covers w r.state → Covers w' r'.state → Covers (λ p. max (w p) (w' p)) (cond v r r').state
+covers_if : (w w' : Location → ℕ) (v : Bool) (r r' : Run) → Covers w r.state → Covers w' r'.state → Covers (λ p. max (w p) (w' p)) (cond v r r').state
 unfolding words
 covers_if w w' true r r' c c' = record { size = λ p. omega (arith, c.size p); one = λ p. omega (arith, c.one p) }
 covers_if w w' false r r' c c' = record { size = λ p. omega (arith, c'.size p); one = λ p. omega (arith, c'.one p) }
 
-pub value_covered : (e : Expr) (w : Place → ℕ) (s : State) → Covers w s → unsigned_abs (value e s) ≤ weight e w
+pub value_covered : (e : Expr) (w : Location → ℕ) (s : State) → Covers w s → unsigned_abs (value e s) ≤ weight e w
 value_covered e w s c = (light (weight e w) w s c e (omega arith)).size
 
-put_covered : (p : Place) (e : Expr) (w : Place → ℕ) (s : State) → Covers w s → Covers (put w p (weight e w)) (put s p (value e s))
+put_covered : (p : Location) (e : Expr) (w : Location → ℕ) (s : State) → Covers w s → Covers (put w p (weight e w)) (put s p (value e s))
 put_covered p e w s c = covers_put w s p (value e s) (weight e w) c (value_covered e w s c) (one_weight w c.one e)
 
 mutual
   unfolding words
 
-  pub run_covered : (c : Command) (w : Place → ℕ) (s : State) → Covers w s → Covers (after c w) (exec c s).state
+  pub run_covered : (c : Command) (w : Location → ℕ) (s : State) → Covers w s → Covers (after c w) (exec c s).state
   run_covered Skip w s k = k
   run_covered (Assign t e) w s k = put_covered (TempAt t) e w s k
-  run_covered (Write x e) w s k = put_covered (place_of x) e w s k
+  run_covered (Write x e) w s k = put_covered (location_of x) e w s k
   run_covered (Print e) w s k = k
   run_covered (Seq cs) w s k = all_covered cs w s k
   run_covered (If t c d) w s k =
       covers_if (after c w) (after d w) (holds t s) (exec c s) (exec d s) (run_covered c w s k) (run_covered d w s k)
 
-  all_covered : (cs : Commands) (w : Place → ℕ) (s : State) → Covers w s → Covers (after_all cs w) (exec_all cs s).state
+  all_covered : (cs : Commands) (w : Location → ℕ) (s : State) → Covers w s → Covers (after_all cs w) (exec_all cs s).state
   all_covered NoCommand w s k = k
   all_covered (MoreCommand c cs) w s k = all_covered cs (after c w) (exec c s).state (run_covered c w s k)
 
 module _ (b : ℕ) where
-  value_light : (e : Expr) (w : Place → ℕ) (s : State) → Covers w s → is_light_expr b e w ≡ true → CanValue (IsSmall b) (IsSmall b) e s
+  value_light : (e : Expr) (w : Location → ℕ) (s : State) → Covers w s → is_light_expr b e w ≡ true → CanValue (IsSmall b) (IsSmall b) e s
   value_light e w s k h = (light b w s k e (weight_small b w e h)).can
 
   mutual
     unfolding words
 
-    run_light : (c : Command) (w : Place → ℕ) (s : State) → Covers w s → is_light b c w ≡ true → CanRun (IsSmall b) (IsSmall b) c s
+    run_light : (c : Command) (w : Location → ℕ) (s : State) → Covers w s → is_light b c w ≡ true → CanRun (IsSmall b) (IsSmall b) c s
     run_light Skip w s k h = tt
     run_light (Assign t e) w s k h = value_light e w s k h
     run_light (Write x e) w s k h = value_light e w s k h
@@ -171,7 +171,7 @@ module _ (b : ℕ) where
         let branches = and_parts (is_light b c w) _ parts.1 in
         (light_cond b w s k t parts.0, run_light c w s k branches.0, run_light d w s k branches.1)
 
-    all_light : (cs : Commands) (w : Place → ℕ) (s : State) → Covers w s → are_light b cs w ≡ true → CanRunAll (IsSmall b) (IsSmall b) cs s
+    all_light : (cs : Commands) (w : Location → ℕ) (s : State) → Covers w s → are_light b cs w ≡ true → CanRunAll (IsSmall b) (IsSmall b) cs s
     all_light NoCommand w s k h = tt
     all_light (MoreCommand c cs) w s k h =
         let parts = and_parts (is_light b c w) _ h in
@@ -197,12 +197,12 @@ pub covers_start : (x : Schema) (database : ℕ → ℤ) → AllWithin x databas
 unfolding words
 covers_start x database h = record { size = size; one = one }
   where
-    size : (p : Place) → unsigned_abs (whole database p) ≤ first_weights x p
+    size : (p : Location) → unsigned_abs (whole database p) ≤ first_weights x p
     size (TempAt t) = omega arith
     size (BaseAt n) = size_at (all_bounds x) n (database n) (h n)
     size (DeltaAt n j) = omega arith
 
-    one : (p : Place) → 1 ≤ first_weights x p
+    one : (p : Location) → 1 ≤ first_weights x p
     one (TempAt t) = omega arith
     one (BaseAt n) = one_at (all_bounds x) n
     one (DeltaAt n j) = omega arith

@@ -18,7 +18,7 @@ use Rattle.homeo_meaning.specs.Context.{Spot, Slot, Context, spot_from, spot, ce
 use Rattle.homeo_meaning.specs.Bounds.{all_bounds}
 use Rattle.homeo_meaning.specs.Bindings as b
 use Rattle.homeo_meaning.specs.Bindings.{Scope, row_relation}
-use Rattle.homeo_meaning.specs.Places.{at, within, TakesField, Assigns, in_expr, in_exprs, in_test, in_cond, in_fields, in_command, in_commands}
+use Rattle.homeo_meaning.specs.Occurrences.{at, within, TakesField, Assigns, in_expr, in_exprs, in_test, in_cond, in_fields, in_command, in_commands}
 use Rattle.homeo_meaning.specs.ListRules.{is_in}
 use Rattle.homeo_meaning.specs.LForm.{Lifted, Made, both, one, in_front, joined, visits, counted, read_chain, read_slot, literal_of, indexed_by, name_of, lift, lift_all, lift_test, lift_cond, write_to, write_field, write_chain, write_at, write_by, Target, stored, lift_values, all_within, field_writes, fill_chain, as_one, clear, form, forms}
 use Rattle.homeo_meaning.specs.NumberRules.{range_bounds}

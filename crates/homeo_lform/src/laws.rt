@@ -10,7 +10,7 @@ ghost use Rattle.homeo_meaning.specs.Bounds.{AllWithin, all_bounds};
 ghost use Rattle.homeo_meaning.specs.Context.{Context, context};
 ghost use Rattle.homeo_meaning.specs.Meaning.{run};
 ghost use Rattle.homeo_meaning.specs.LForm.{form, l_form};
-ghost use Rattle.homeo_meaning.specs.LowMeaning.{Place, State, value, exec, whole};
+ghost use Rattle.homeo_meaning.specs.LowMeaning.{Location, State, value, exec, whole};
 ghost use Rattle.homeo_meaning.specs.LowWeights.{weight, after, first_weights, is_light};
 ghost use Rattle.homeo_meaning.specs.SameRun.{IsSameRun};
 ghost use Rattle.homeo_lform.specs.Covers.{Covers};
@@ -81,9 +81,9 @@ pub fn light_forms_compute_small_numbers()
 /// the value of each expression, and so is each place's value after a command. Where the database is within its bounds,
 /// a call begins so.
 pub fn no_value_outgrows_its_weight()
-    ensures expressions { (e : Expr) (weights : Place → ℕ) (s : State) →
+    ensures expressions { (e : Expr) (weights : Location → ℕ) (s : State) →
         Covers weights s → unsigned_abs (value e s) ≤ weight e weights }
-    ensures commands { (c : low_syntax.Command) (weights : Place → ℕ) (s : State) →
+    ensures commands { (c : low_syntax.Command) (weights : Location → ℕ) (s : State) →
         Covers weights s → Covers (after c weights) (exec c s).state }
     ensures calls { (x : Schema) (database : ℕ → ℤ) → AllWithin x database → Covers (first_weights x) (whole database) }
 {}

@@ -22,7 +22,7 @@ pub mod Meaning
 pub mod NameRules
 pub mod NamesWithin
 pub mod NumberRules
-pub mod Places
+pub mod Occurrences
 pub mod SameRun
 pub mod Schema
 pub mod Serial

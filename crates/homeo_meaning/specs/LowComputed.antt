@@ -3,7 +3,7 @@
 use Rattle.std.specs.Prelude.{ℤ, pos, ◌+ℤ◌, ◌*ℤ◌, neg_ℤ}
 use Rattle.homeo_syntax.specs.Low.{Expr, Exprs, Literal, OfTemp, Read, Sum, Product, Neg, NoExpr, MoreExpr, Test, Cond, True, Not, Comparison, NoTest, MoreTest, Command, Commands, Skip, Assign, Write, Print, Seq, If, NoCommand, MoreCommand}
 use Rattle.homeo_meaning.specs.Key.{words}
-use Rattle.homeo_meaning.specs.LowMeaning.{TempAt, place_of, State, value, exec}
+use Rattle.homeo_meaning.specs.LowMeaning.{TempAt, location_of, State, value, exec}
 
 module _ (R P : ℤ → Type 0) where
   abbrev mutual
@@ -12,7 +12,7 @@ module _ (R P : ℤ → Type 0) where
     pub CanValue : Expr → State → Type 0
     CanValue (Literal n) s = R n
     CanValue (OfTemp t) s = R (s (TempAt t))
-    CanValue (Read x) s = R (s (place_of x))
+    CanValue (Read x) s = R (s (location_of x))
     CanValue (Sum es) s = CanSum (pos 0) es s
     CanValue (Product es) s = CanProduct (pos 1) es s
     CanValue (Neg e) s = CanValue e s × P (neg_ℤ (value e s))

@@ -9,21 +9,21 @@ use Rattle.homeo_meaning.specs.Key.{words}
 use Rattle.homeo_meaning.specs.Meaning.{compared}
 
 -- what a state has values at: temporaries, bases, and the deltas of the sites
-pub data Place : Type 0 where
-  TempAt : (t : Temp) → Place
-  BaseAt : (object : ℕ) → Place
-  DeltaAt : (object site : ℕ) → Place
+pub data Location : Type 0 where
+  TempAt : (t : Temp) → Location
+  BaseAt : (object : ℕ) → Location
+  DeltaAt : (object site : ℕ) → Location
 
--- the values of all places
+-- the values of all locations
 abbrev pub State : Type 0
-State = Place → ℤ
+State = Location → ℤ
 
 -- a whole object is its base
-abbrev pub place_of : SplitName → Place
+abbrev pub location_of : SplitName → Location
 unfolding words
-place_of (Whole x) = BaseAt x
-place_of (Base x) = BaseAt x
-place_of (Delta x j) = DeltaAt x j
+location_of (Whole x) = BaseAt x
+location_of (Base x) = BaseAt x
+location_of (Delta x j) = DeltaAt x j
 
 abbrev pub same_temp : Temp → Temp → Bool
 unfolding words
@@ -32,22 +32,22 @@ same_temp (Fresh m) (Fresh n) = m == n
 same_temp (Named m) (Fresh n) = false
 same_temp (Fresh m) (Named n) = false
 
-abbrev pub same_place : Place → Place → Bool
+abbrev pub same_location : Location → Location → Bool
 unfolding words
-same_place (TempAt t) (TempAt u) = same_temp t u
-same_place (TempAt t) (BaseAt y) = false
-same_place (TempAt t) (DeltaAt y k) = false
-same_place (BaseAt x) (TempAt t) = false
-same_place (BaseAt x) (BaseAt y) = x == y
-same_place (BaseAt x) (DeltaAt y k) = false
-same_place (DeltaAt x j) (TempAt t) = false
-same_place (DeltaAt x j) (BaseAt y) = false
-same_place (DeltaAt x j) (DeltaAt y k) = (x == y) && (j == k)
+same_location (TempAt t) (TempAt u) = same_temp t u
+same_location (TempAt t) (BaseAt y) = false
+same_location (TempAt t) (DeltaAt y k) = false
+same_location (BaseAt x) (TempAt t) = false
+same_location (BaseAt x) (BaseAt y) = x == y
+same_location (BaseAt x) (DeltaAt y k) = false
+same_location (DeltaAt x j) (TempAt t) = false
+same_location (DeltaAt x j) (BaseAt y) = false
+same_location (DeltaAt x j) (DeltaAt y k) = (x == y) && (j == k)
 
 -- the function with its value at one place changed
-abbrev pub put : {A : Type 0} → (Place → A) → Place → A → Place → A
+abbrev pub put : {A : Type 0} → (Location → A) → Location → A → Location → A
 unfolding words
-put s p v q = cond (same_place p q) v (s q)
+put s p v q = cond (same_location p q) v (s q)
 
 abbrev mutual
   unfolding words
@@ -55,7 +55,7 @@ abbrev mutual
   pub value : Expr → State → ℤ
   value (Literal n) s = n
   value (OfTemp t) s = s (TempAt t)
-  value (Read x) s = s (place_of x)
+  value (Read x) s = s (location_of x)
   value (Sum es) s = sum_value (pos 0) es s
   value (Product es) s = product_value (pos 1) es s
   value (Neg e) s = neg_ℤ (value e s)
@@ -100,7 +100,7 @@ abbrev mutual
   pub exec : Command → State → Run
   exec Skip s = record { state = s; prints = [] }
   exec (Assign t e) s = record { state = put s (TempAt t) (value e s); prints = [] }
-  exec (Write x e) s = record { state = put s (place_of x) (value e s); prints = [] }
+  exec (Write x e) s = record { state = put s (location_of x) (value e s); prints = [] }
   exec (Print e) s = record { state = s; prints = value e s ∷ [] }
   exec (Seq cs) s = exec_all cs s
   exec (If b c d) s = cond (holds b s) (exec c s) (exec d s)

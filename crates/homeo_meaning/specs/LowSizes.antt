@@ -2,7 +2,7 @@
 use Rattle.std.specs.Prelude.{ℕ, ◌+◌, ◌*◌, max}
 use Rattle.homeo_syntax.specs.Low.{Expr, Exprs, Literal, OfTemp, Read, Sum, Product, Neg, NoExpr, MoreExpr, Test, Cond, True, Not, Comparison, NoTest, MoreTest, Command, Commands, Skip, Assign, Write, Print, Seq, If, NoCommand, MoreCommand}
 use Rattle.homeo_meaning.specs.Key.{words}
-use Rattle.homeo_meaning.specs.LowMeaning.{Place, TempAt, BaseAt, DeltaAt, place_of, put}
+use Rattle.homeo_meaning.specs.LowMeaning.{Location, TempAt, BaseAt, DeltaAt, location_of, put}
 
 pub record Extent : Type 0 where
   pub size : ℕ
@@ -34,7 +34,7 @@ abbrev pub written : ℕ → Extent → Extent
 written sites e = record { size = e.size + (3 * sites + 2); depth = e.depth + 3 }
 
 -- where a call begins: a temporary is a phrase without parts, an object the sum of its base and its deltas
-abbrev pub first_extents : ℕ → Place → Extent
+abbrev pub first_extents : ℕ → Location → Extent
 first_extents sites (TempAt t) = single
 first_extents sites (BaseAt x) = record { size = sites + 2; depth = 2 }
 first_extents sites (DeltaAt x j) = single
@@ -43,15 +43,15 @@ first_extents sites (DeltaAt x j) = single
 abbrev mutual
   unfolding words
 
-  pub extent : Expr → (Place → Extent) → Extent
+  pub extent : Expr → (Location → Extent) → Extent
   extent (Literal n) v = single
   extent (OfTemp t) v = v (TempAt t)
-  extent (Read x) v = v (place_of x)
+  extent (Read x) v = v (location_of x)
   extent (Sum es) v = around (extent_all es v)
   extent (Product es) v = around (extent_all es v)
   extent (Neg e) v = around (extent e v)
 
-  pub extent_all : Exprs → (Place → Extent) → Extent
+  pub extent_all : Exprs → (Location → Extent) → Extent
   extent_all NoExpr v = flat 0
   extent_all (MoreExpr e es) v = beside (extent e v) (extent_all es v)
 
@@ -59,16 +59,16 @@ abbrev mutual
   unfolding words
 
   -- a `not` is one round its condition, which is one round its tests
-  pub test_extent : Test → (Place → Extent) → Extent
+  pub test_extent : Test → (Location → Extent) → Extent
   test_extent True v = single
   test_extent (Not c) v = around (around (tests_extent c v))
   test_extent (Comparison op a b) v = around (beside (extent a v) (extent b v))
 
-  pub tests_extent : Cond → (Place → Extent) → Extent
+  pub tests_extent : Cond → (Location → Extent) → Extent
   tests_extent NoTest v = flat 0
   tests_extent (MoreTest t c) v = beside (test_extent t v) (tests_extent c v)
 
-abbrev pub cond_extent : Cond → (Place → Extent) → Extent
+abbrev pub cond_extent : Cond → (Location → Extent) → Extent
 unfolding words
 cond_extent c v = around (tests_extent c v)
 
@@ -77,15 +77,15 @@ abbrev mutual
   unfolding words
 
   -- the extents of the names after a command: after an `if` of each name the greater
-  pub after : ℕ → Command → (Place → Extent) → Place → Extent
+  pub after : ℕ → Command → (Location → Extent) → Location → Extent
   after sites Skip v = v
   after sites (Assign t e) v = put v (TempAt t) (extent e v)
-  after sites (Write x e) v = put v (place_of x) (written sites (extent e v))
+  after sites (Write x e) v = put v (location_of x) (written sites (extent e v))
   after sites (Print e) v = v
   after sites (Seq cs) v = after_all sites cs v
   after sites (If b c d) v = λ p. greater (after sites c v p) (after sites d v p)
 
-  pub after_all : ℕ → Commands → (Place → Extent) → Place → Extent
+  pub after_all : ℕ → Commands → (Location → Extent) → Location → Extent
   after_all sites NoCommand v = v
   after_all sites (MoreCommand c cs) v = after_all sites cs (after sites c v)
 
@@ -93,7 +93,7 @@ abbrev mutual
   unfolding words
 
   -- the size of a command, and the greatest depth of an expression or condition in it
-  pub command_extent : ℕ → Command → (Place → Extent) → Extent
+  pub command_extent : ℕ → Command → (Location → Extent) → Extent
   command_extent sites Skip v = flat 1
   command_extent sites (Assign t e) v = beside (flat 1) (extent e v)
   command_extent sites (Write x e) v = beside (flat (3 * sites + 3)) (extent e v)
@@ -102,7 +102,7 @@ abbrev mutual
   command_extent sites (If b c d) v =
       beside (flat 2) (beside (cond_extent b v) (beside (command_extent sites c v) (command_extent sites d v)))
 
-  pub commands_extent : ℕ → Commands → (Place → Extent) → Extent
+  pub commands_extent : ℕ → Commands → (Location → Extent) → Extent
   commands_extent sites NoCommand v = flat 0
   commands_extent sites (MoreCommand c cs) v = beside (command_extent sites c v) (commands_extent sites cs (after sites c v))
 

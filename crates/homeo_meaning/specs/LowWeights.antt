@@ -5,7 +5,7 @@ use Rattle.homeo_syntax.specs.Low.{Expr, Exprs, Literal, OfTemp, Read, Sum, Prod
 use Rattle.homeo_meaning.specs.Key.{words}
 use Rattle.homeo_meaning.specs.Schema.{Schema}
 use Rattle.homeo_meaning.specs.Bounds.{Bounds, all_bounds}
-use Rattle.homeo_meaning.specs.LowMeaning.{Place, TempAt, BaseAt, DeltaAt, place_of, put}
+use Rattle.homeo_meaning.specs.LowMeaning.{Location, TempAt, BaseAt, DeltaAt, location_of, put}
 
 -- a number's weight: its size, and at least 1
 abbrev pub number_weight : ℤ → ℕ
@@ -24,7 +24,7 @@ weight_at (b ∷ bs) zero = bounds_weight b
 weight_at (b ∷ bs) (suc k) = weight_at bs k
 
 -- where a call begins: an object weighs as much as its larger bound
-abbrev pub first_weights : Schema → Place → ℕ
+abbrev pub first_weights : Schema → Location → ℕ
 unfolding words
 first_weights x (TempAt t) = 1
 first_weights x (BaseAt k) = weight_at (all_bounds x) k
@@ -33,19 +33,19 @@ first_weights x (DeltaAt k j) = 1
 abbrev mutual
   unfolding words
 
-  pub weight : Expr → (Place → ℕ) → ℕ
+  pub weight : Expr → (Location → ℕ) → ℕ
   weight (Literal n) v = number_weight n
   weight (OfTemp t) v = v (TempAt t)
-  weight (Read x) v = v (place_of x)
+  weight (Read x) v = v (location_of x)
   weight (Sum es) v = max 1 (sum_weight es v)
   weight (Product es) v = product_weight es v
   weight (Neg e) v = weight e v
 
-  pub sum_weight : Exprs → (Place → ℕ) → ℕ
+  pub sum_weight : Exprs → (Location → ℕ) → ℕ
   sum_weight NoExpr v = 0
   sum_weight (MoreExpr e es) v = weight e v + sum_weight es v
 
-  pub product_weight : Exprs → (Place → ℕ) → ℕ
+  pub product_weight : Exprs → (Location → ℕ) → ℕ
   product_weight NoExpr v = 1
   product_weight (MoreExpr e es) v = weight e v * product_weight es v
 
@@ -53,32 +53,32 @@ abbrev mutual
   unfolding words
 
   -- the weights of the names after a command: after an `if` of each name the greater
-  pub after : Command → (Place → ℕ) → Place → ℕ
+  pub after : Command → (Location → ℕ) → Location → ℕ
   after Skip v = v
   after (Assign t e) v = put v (TempAt t) (weight e v)
-  after (Write x e) v = put v (place_of x) (weight e v)
+  after (Write x e) v = put v (location_of x) (weight e v)
   after (Print e) v = v
   after (Seq cs) v = after_all cs v
   after (If b c d) v = λ p. max (after c v p) (after d v p)
 
-  pub after_all : Commands → (Place → ℕ) → Place → ℕ
+  pub after_all : Commands → (Location → ℕ) → Location → ℕ
   after_all NoCommand v = v
   after_all (MoreCommand c cs) v = after_all cs (after c v)
 
 -- an expression's weight is at most b
-abbrev pub is_light_expr : ℕ → Expr → (Place → ℕ) → Bool
+abbrev pub is_light_expr : ℕ → Expr → (Location → ℕ) → Bool
 unfolding words
 is_light_expr b e v = nat_le (weight e v) b
 
 abbrev mutual
   unfolding words
 
-  pub is_light_test : ℕ → Test → (Place → ℕ) → Bool
+  pub is_light_test : ℕ → Test → (Location → ℕ) → Bool
   is_light_test b True v = true
   is_light_test b (Not c) v = is_light_cond b c v
   is_light_test b (Comparison op d e) v = is_light_expr b d v && is_light_expr b e v
 
-  pub is_light_cond : ℕ → Cond → (Place → ℕ) → Bool
+  pub is_light_cond : ℕ → Cond → (Location → ℕ) → Bool
   is_light_cond b NoTest v = true
   is_light_cond b (MoreTest t c) v = is_light_test b t v && is_light_cond b c v
 
@@ -86,7 +86,7 @@ abbrev mutual
   unfolding words
 
   -- each expression of a command, in conditions and in both branches too, has a weight of at most b
-  pub is_light : ℕ → Command → (Place → ℕ) → Bool
+  pub is_light : ℕ → Command → (Location → ℕ) → Bool
   is_light b Skip v = true
   is_light b (Assign t e) v = is_light_expr b e v
   is_light b (Write x e) v = is_light_expr b e v
@@ -94,6 +94,6 @@ abbrev mutual
   is_light b (Seq cs) v = are_light b cs v
   is_light b (If t c d) v = is_light_cond b t v && (is_light b c v && is_light b d v)
 
-  pub are_light : ℕ → Commands → (Place → ℕ) → Bool
+  pub are_light : ℕ → Commands → (Location → ℕ) → Bool
   are_light b NoCommand v = true
   are_light b (MoreCommand c cs) v = is_light b c v && are_light b cs (after c v)

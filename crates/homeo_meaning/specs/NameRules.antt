@@ -6,7 +6,7 @@ use Rattle.homeo_syntax.specs.declared.phrase.Ident.{Ident}
 use Rattle.homeo_meaning.specs.Key.{words}
 use Rattle.homeo_meaning.specs.ListRules.{each, is_in, duplicate}
 use Rattle.homeo_meaning.specs.Bindings.{Scope, binding}
-use Rattle.homeo_meaning.specs.Places.{Mark, Place, DeclaresRow, TakesObject, TakesRelation, TakesValue, TakesField, NamesField, FillsFields, Assigns}
+use Rattle.homeo_meaning.specs.Occurrences.{Mark, Occurrence, DeclaresRow, TakesObject, TakesRelation, TakesValue, TakesField, NamesField, FillsFields, Assigns}
 use Rattle.homeo_meaning.specs.declared.rules.Fault.{Fault}
 use Rattle.homeo_meaning.specs.declared.rules.Phase.TheVariants.{Duplicate, Unknown, Kind, Arity}
 use Rattle.homeo_meaning.specs.declared.rules.Item.{Item}
@@ -74,6 +74,6 @@ judge_mark s b (FillsFields q fs) = fills_fields s (s.item q.name) q fs
 judge_mark s b (Assigns t) = assigns t (b t.name)
 
 -- the faults of names at a place
-abbrev pub judge : Scope → (ℕ → Local) → Place → List Fault
+abbrev pub judge : Scope → (ℕ → Local) → Occurrence → List Fault
 unfolding words
 judge s local p = judge_mark s (binding s local p.rows) p.mark

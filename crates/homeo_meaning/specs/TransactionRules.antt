@@ -6,7 +6,7 @@ use Rattle.homeo_syntax.specs.Source as s
 use Rattle.homeo_syntax.specs.declared.phrase.Ident.{Ident}
 use Rattle.homeo_meaning.specs.Key.{words}
 use Rattle.homeo_meaning.specs.Bindings.{Scope, binding}
-use Rattle.homeo_meaning.specs.Places.{Mark, Place, Assigns, in_commands}
+use Rattle.homeo_meaning.specs.Occurrences.{Mark, Occurrence, Assigns, in_commands}
 use Rattle.homeo_meaning.specs.NameRules.{judge, when, fault}
 use Rattle.homeo_meaning.specs.declared.rules.Fault.{Fault}
 use Rattle.homeo_meaning.specs.declared.rules.Phase.TheVariants.{Duplicate}
@@ -29,11 +29,11 @@ makes b (Assigns t) = becomes (b t.name) t.name
 makes b _ = []
 
 -- the temporaries of the text before a place
-abbrev pub temporaries : Scope → List ℕ → List Place → List ℕ
+abbrev pub temporaries : Scope → List ℕ → List Occurrence → List ℕ
 unfolding words
 temporaries s params before = flat_map (λ p. makes (binding s (local_of params []) p.rows) p.mark) before
 
-abbrev pub body_faults : Scope → List ℕ → List Place → List Fault
+abbrev pub body_faults : Scope → List ℕ → List Occurrence → List Fault
 unfolding words
 body_faults s params places = each (λ before p. judge s (local_of params (temporaries s params before)) p) places
 

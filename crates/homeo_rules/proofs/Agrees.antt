@@ -7,7 +7,7 @@ use Rattle.std.proofs.lemmas.Bool.Decides.{nat_tests}
 use Rattle.std.proofs.lemmas.List.Folds.{list_any-append}
 use Rattle.homeo_meaning.specs.Key.{words as meaning_words}
 use Rattle.homeo_meaning.specs.Bindings.{Row, Scope, binding, item_or, row_or, local_binding, row_relation}
-use Rattle.homeo_meaning.specs.Places.{Mark, Place, DeclaresRow, TakesObject, TakesRelation, TakesValue, TakesField, NamesField, FillsFields, Assigns}
+use Rattle.homeo_meaning.specs.Occurrences.{Mark, Occurrence, DeclaresRow, TakesObject, TakesRelation, TakesValue, TakesField, NamesField, FillsFields, Assigns}
 use Rattle.homeo_meaning.specs.NameRules.{judge}
 use Rattle.homeo_meaning.specs.TransactionRules.{is_in, each_from, local_of, becomes, makes, temporaries}
 use Rattle.homeo_rules.specs.inner.Deciding.{keep_all}
@@ -26,7 +26,7 @@ abbrev pub TargetWithin : ℕ → Mark → Type 0
 TargetWithin n (Assigns t) = t.name < n
 TargetWithin n _ = Unit {0}
 
-abbrev pub TargetsWithin : ℕ → List Place → Type 0
+abbrev pub TargetsWithin : ℕ → List Occurrence → Type 0
 TargetsWithin n [] = Unit {0}
 TargetsWithin n (p ∷ ps) = TargetWithin n p.mark × TargetsWithin n ps
 
@@ -106,7 +106,7 @@ module _ (s : Scope) (ps : List ℕ) where
   as_path : (l : List Local) (ts : List ℕ) → ((m : ℕ) → local_at l m ≡ local_of ps ts m) → Agree l ts
   as_path l ts h = λ i m. h m i
 
-  made : Place → List ℕ
+  made : Occurrence → List ℕ
   made p = makes (binding s (local_of ps []) p.rows) p.mark
 
   after_assigns : (l : List Local) (ts : List ℕ) (rows : List Row) (n : ℕ) → n < length l → Agree l ts → (m : ℕ) → local_at (assigned (binding s (local_at l) rows n) l n) m ≡ local_of ps (ts ++ becomes (binding s (local_of ps []) rows n) n) m
@@ -145,17 +145,17 @@ module _ (s : Scope) (ps : List ℕ) where
   same_length l m (NamesField q f) = refl
   same_length l m (FillsFields q fs) = refl
 
-  made_more : (before : List Place) (p : Place) → temporaries s ps (before ++ p ∷ []) ≡ temporaries s ps before ++ makes (binding s (local_of ps []) p.rows) p.mark
+  made_more : (before : List Occurrence) (p : Occurrence) → temporaries s ps (before ++ p ∷ []) ≡ temporaries s ps before ++ makes (binding s (local_of ps []) p.rows) p.mark
   unfolding words meaning_words
   made_more before p =
-      flat_map-append (λ (q : Place). makes (binding s (local_of ps []) q.rows) q.mark) before (p ∷ [])
+      flat_map-append (λ (q : Occurrence). makes (binding s (local_of ps []) q.rows) q.mark) before (p ∷ [])
       ∙ ap (λ xs. temporaries s ps before ++ xs) (append-nil (makes (binding s (local_of ps []) p.rows) p.mark))
 
-  abbrev rule : List Place → Place → List Fault
+  abbrev rule : List Occurrence → Occurrence → List Fault
   rule before p = judge s (local_of ps (temporaries s ps before)) p
 
   -- following the places keeps the fault that decides among theirs
-  pub follows : (n : ℕ) (k : Standing) (before places : List Place) → length k.locals ≡ n → Agree k.locals (temporaries s ps before) → TargetsWithin n places → (follow s k places).best ≡ keep_all k.best (each_from rule before places)
+  pub follows : (n : ℕ) (k : Standing) (before places : List Occurrence) → length k.locals ≡ n → Agree k.locals (temporaries s ps before) → TargetsWithin n places → (follow s k places).best ≡ keep_all k.best (each_from rule before places)
   unfolding words meaning_words
   follows n k before [] len agree within = refl
   follows n k before (p ∷ places) len agree within =

@@ -10,7 +10,7 @@ use Rattle.homeo_syntax.specs.declared.workload.RangeDecl.{RangeDecl}
 use Rattle.homeo_syntax.specs.declared.workload.ObjectDecl.{ObjectDecl}
 use Rattle.homeo_meaning.specs.Key.{words}
 use Rattle.homeo_meaning.specs.Bindings.{Scope, binding}
-use Rattle.homeo_meaning.specs.Places.{Mark, Place, DeclaresRow, TakesObject, TakesRelation, TakesValue, TakesField, NamesField, FillsFields, Assigns, in_commands}
+use Rattle.homeo_meaning.specs.Occurrences.{Mark, Occurrence, DeclaresRow, TakesObject, TakesRelation, TakesValue, TakesField, NamesField, FillsFields, Assigns, in_commands}
 use Rattle.homeo_meaning.specs.NameRules.{when, fault, number_fault, declares_row, takes_object, takes_relation, takes_value, field_of, takes_field, fills_all, fills_fields, assigns, judge_mark, judge}
 use Rattle.homeo_meaning.specs.TransactionRules.{is_in, each_from, each, local_of, temporaries, body_faults, parameter_fault, transaction_faults}
 use Rattle.homeo_meaning.specs.GlobalNames.{SitedCall, global_names, duplicate, scope_of, sited_calls}
@@ -163,7 +163,7 @@ mark_early sc b (NamesField q f) = field_early sc (sc.item q.name) f
 mark_early sc b (FillsFields q fs) = fills_fields_early sc (sc.item q.name) q fs
 mark_early sc b (Assigns t) = assigns_early t (b t.name)
 
-judge_early : (sc : Scope) (local : ℕ → Local) (p : Place) → Early (judge sc local p)
+judge_early : (sc : Scope) (local : ℕ → Local) (p : Occurrence) → Early (judge sc local p)
 unfolding words
 judge_early sc local p = mark_early sc (binding sc local p.rows) p.mark
 

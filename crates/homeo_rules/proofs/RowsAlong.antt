@@ -10,7 +10,7 @@ use Rattle.homeo_meaning.specs.Key.{words as meaning_words}
 use Rattle.homeo_meaning.specs.NameRules.{when, fault}
 use Rattle.homeo_meaning.specs.TransactionRules.{each}
 use Rattle.homeo_meaning.specs.GlobalNames as g
-use Rattle.homeo_meaning.specs.LowMeaning.{Place}
+use Rattle.homeo_meaning.specs.LowMeaning.{Location}
 use Rattle.homeo_meaning.specs.LowSizes.{Extent, command_extent, rows, rows_all}
 use Rattle.homeo_meaning.specs.Schema.{nat_of, schema_of}
 use Rattle.homeo_meaning.specs.CallForm.{call_form}
@@ -42,7 +42,7 @@ mutual
   rows_all_one L.NoCommand = omega arith
   rows_all_one (L.MoreCommand c cs) = one_product (rows c) (rows_all cs) (rows_one c) (rows_all_one cs)
 
-size_one : (sites : ℕ) (c : L.Command) (v : Place → Extent) → 1 ≤ (command_extent sites c v).size
+size_one : (sites : ℕ) (c : L.Command) (v : Location → Extent) → 1 ≤ (command_extent sites c v).size
 unfolding meaning_words
 size_one sites L.Skip v = omega arith
 size_one sites (L.Assign t e) v = omega arith

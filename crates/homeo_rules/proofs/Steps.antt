@@ -9,7 +9,7 @@ use Rattle.homeo_meaning.specs.Bindings.{Row, Scope, binding}
 use Rattle.homeo_syntax.specs.declared.workload.RangeDecl.{RangeDecl}
 use Rattle.homeo_syntax.specs.declared.workload.RelationDecl.{RelationDecl}
 use Rattle.homeo_meaning.specs.ListRules.{is_in}
-use Rattle.homeo_meaning.specs.Places.{at, DeclaresRow, TakesObject, TakesRelation, TakesValue, TakesField, NamesField, FillsFields, Assigns}
+use Rattle.homeo_meaning.specs.Occurrences.{at, DeclaresRow, TakesObject, TakesRelation, TakesValue, TakesField, NamesField, FillsFields, Assigns}
 use Rattle.homeo_meaning.specs.NameRules.{declares_row, takes_object, takes_relation, takes_value, field_of, takes_field, fills_fields, assigns}
 use Rattle.homeo_rules.specs.inner.Deciding.{keep, keep_all}
 use Rattle.homeo_meaning.specs.declared.rules.Fault.{Fault}

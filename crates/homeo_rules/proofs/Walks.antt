@@ -18,7 +18,7 @@ use Rattle.homeo_syntax.proofs.SourceViews as v
 use Rattle.homeo_syntax.proofs.SourceViews.{phrase_views, command_views}
 use Rattle.homeo_meaning.specs.Key.{words as meaning_words}
 use Rattle.homeo_meaning.specs.Bindings.{Row, Scope}
-use Rattle.homeo_meaning.specs.Places.{Place, at, within, in_expr, in_exprs, in_test, in_cond, in_fields, in_command, in_commands, DeclaresRow, TakesObject, TakesRelation, TakesValue, TakesField, NamesField, FillsFields, Assigns}
+use Rattle.homeo_meaning.specs.Occurrences.{Occurrence, at, within, in_expr, in_exprs, in_test, in_cond, in_fields, in_command, in_commands, DeclaresRow, TakesObject, TakesRelation, TakesValue, TakesField, NamesField, FillsFields, Assigns}
 use Rattle.homeo_rules.specs.inner.Key.{words}
 use Rattle.homeo_rules.specs.inner.Follow.{Standing, step, follow}
 use Rattle.homeo_rules.specs.inner.Plain.{plain_exprs, plain_tests, plain_fields, named_fields, plain_commands}
@@ -62,11 +62,11 @@ pub follow-none : (s : Scope) (k : Standing) → follow s k [] ≡ k
 unfolding words
 follow-none s k = refl
 
-pub follow-one : (s : Scope) (k : Standing) (p : Place) (ps : List Place) → follow s k (p ∷ ps) ≡ follow s (step s k p) ps
+pub follow-one : (s : Scope) (k : Standing) (p : Occurrence) (ps : List Occurrence) → follow s k (p ∷ ps) ≡ follow s (step s k p) ps
 unfolding words
 follow-one s k p ps = refl
 
-pub follow-append : (s : Scope) (k : Standing) (ps qs : List Place) → follow s k (ps ++ qs) ≡ follow s (follow s k ps) qs
+pub follow-append : (s : Scope) (k : Standing) (ps qs : List Occurrence) → follow s k (ps ++ qs) ≡ follow s (follow s k ps) qs
 unfolding words
 follow-append s k [] qs = refl
 follow-append s k (p ∷ ps) qs = follow-append s (step s k p) ps qs

@@ -13,7 +13,7 @@ use Rattle.homeo_syntax.specs.declared.workload.Transaction.{Transaction}
 use Rattle.homeo_syntax.specs.declared.command.Command.{Command}
 use Rattle.homeo_meaning.specs.Key.{words as meaning_words}
 use Rattle.homeo_meaning.specs.Bindings as m
-use Rattle.homeo_meaning.specs.Places.{Place, within, in_expr, in_exprs, in_test, in_cond, in_fields, in_command, in_commands}
+use Rattle.homeo_meaning.specs.Occurrences.{Occurrence, within, in_expr, in_exprs, in_test, in_cond, in_fields, in_command, in_commands}
 use Rattle.homeo_meaning.specs.NameRules.{when, fault}
 use Rattle.homeo_meaning.specs.NumberRules.{range_bounds}
 use Rattle.homeo_meaning.specs.TransactionRules.{is_in, each_from, each, local_of, body_faults, parameter_fault, transaction_faults}
@@ -34,7 +34,7 @@ use Rattle.homeo_rules.proofs.Listing.{all-along}
 use Rattle.homeo_rules.proofs.Agrees.{TargetsWithin, in_more, or-nothing, or_true, follows}
 
 -- ---- targets are names where all identifiers are
-both : (n : ℕ) (ps qs : List Place) → TargetsWithin n ps → TargetsWithin n qs → TargetsWithin n (ps ++ qs)
+both : (n : ℕ) (ps qs : List Occurrence) → TargetsWithin n ps → TargetsWithin n qs → TargetsWithin n (ps ++ qs)
 both n [] qs h k = k
 both n (p ∷ ps) qs h k = (h.0, both n ps qs h.1 k)
 
@@ -159,7 +159,7 @@ unfolding words meaning_words syntax_words
 whole sc n best t within =
     let params : List Ident = map (λ d. d.name) t.params in
     let ps : List ℕ = names params in
-    let places : List Place = in_commands [] t.body in
+    let places : List Occurrence = in_commands [] t.body in
     let k : Standing = record { locals = replicate n L.Absent; best = best } in
     let e : Entered sc n [] k (enter_params sc k t.params) t.params = enters sc n [] k t.params (length-replicate n L.Absent) (blank n) within.0 in
     follows sc ps n (enter_params sc k t.params) [] places e.long (λ i m. e.agree m i) (targets n [] t.body within.1)

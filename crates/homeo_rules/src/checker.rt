@@ -2,7 +2,7 @@
 
 ghost use Rattle.std.specs.Prelude.{◌≡◌, replicate, IfOk, OnOk};
 ghost use Rattle.homeo_meaning.specs.Bindings.{binding};
-ghost use Rattle.homeo_meaning.specs.Places.{at, DeclaresRow, TakesObject, TakesRelation, TakesValue, TakesField, NamesField, FillsFields, Assigns};
+ghost use Rattle.homeo_meaning.specs.Occurrences.{at, DeclaresRow, TakesObject, TakesRelation, TakesValue, TakesField, NamesField, FillsFields, Assigns};
 ghost use Rattle.homeo_rules.specs.inner.Deciding.{keep_all};
 ghost use Rattle.homeo_meaning.specs.NameRules.{fault};
 ghost use Rattle.homeo_meaning.specs.declared.rules.Local.TheVariants.{Absent};

@@ -2,7 +2,7 @@
 
 ghost use Rattle.std.specs.Prelude.{◌≡◌, OnOk};
 ghost use Rattle.homeo_syntax.specs.SourceView.{plain_expr, plain_test, plain_cond, plain_command};
-ghost use Rattle.homeo_meaning.specs.Places.{in_expr, in_exprs, in_test, in_cond, in_fields, in_command, in_commands};
+ghost use Rattle.homeo_meaning.specs.Occurrences.{in_expr, in_exprs, in_test, in_cond, in_fields, in_command, in_commands};
 ghost use Rattle.homeo_rules.specs.inner.Follow.{follow};
 ghost use Rattle.homeo_rules.specs.inner.InForce.{rows_of};
 ghost use Rattle.homeo_rules.specs.inner.Plain.{plain_exprs, plain_tests, plain_fields, plain_commands};

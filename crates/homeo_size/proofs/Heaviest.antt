@@ -5,21 +5,21 @@ use Rattle.std.proofs.lemmas.Int.{clamps}
 use Rattle.std.proofs.lemmas.Bool.Decides.{nat_tests}
 use Rattle.homeo_syntax.specs.Low.{Test, Cond, True, Not, Comparison, NoTest, MoreTest, Command, Commands, Skip, Assign, Write, Print, Seq, If, NoCommand, MoreCommand}
 use Rattle.homeo_meaning.specs.Key.{words as meaning_words}
-use Rattle.homeo_meaning.specs.LowMeaning.{Place}
+use Rattle.homeo_meaning.specs.LowMeaning.{Location}
 use Rattle.homeo_meaning.specs.LowWeights.{weight, after, is_light_test, is_light_cond, is_light, are_light}
 
 abbrev mutual
-  pub heaviest_test : Test → (Place → ℕ) → ℕ
+  pub heaviest_test : Test → (Location → ℕ) → ℕ
   heaviest_test True v = 0
   heaviest_test (Not c) v = heaviest_tests c v
   heaviest_test (Comparison op a b) v = max (weight a v) (weight b v)
 
-  pub heaviest_tests : Cond → (Place → ℕ) → ℕ
+  pub heaviest_tests : Cond → (Location → ℕ) → ℕ
   heaviest_tests NoTest v = 0
   heaviest_tests (MoreTest t c) v = max (heaviest_test t v) (heaviest_tests c v)
 
 abbrev mutual
-  pub heaviest : Command → (Place → ℕ) → ℕ
+  pub heaviest : Command → (Location → ℕ) → ℕ
   heaviest Skip v = 0
   heaviest (Assign t e) v = weight e v
   heaviest (Write x e) v = weight e v
@@ -27,7 +27,7 @@ abbrev mutual
   heaviest (Seq cs) v = heaviest_all cs v
   heaviest (If b c d) v = max (heaviest_tests b v) (max (heaviest c v) (heaviest d v))
 
-  pub heaviest_all : Commands → (Place → ℕ) → ℕ
+  pub heaviest_all : Commands → (Location → ℕ) → ℕ
   heaviest_all NoCommand v = 0
   heaviest_all (MoreCommand c cs) v = max (heaviest c v) (heaviest_all cs (after c v))
 
@@ -48,12 +48,12 @@ both_light m n b = go (nat_le m b) (nat_le n b) (nat_le (max m n) b) refl refl r
 mutual
   unfolding meaning_words
 
-  test_light : (b : ℕ) (t : Test) (v : Place → ℕ) → is_light_test b t v ≡ nat_le (heaviest_test t v) b
+  test_light : (b : ℕ) (t : Test) (v : Location → ℕ) → is_light_test b t v ≡ nat_le (heaviest_test t v) b
   test_light b True v = none_heavy b
   test_light b (Not c) v = cond_light b c v
   test_light b (Comparison op d e) v = both_light (weight d v) (weight e v) b
 
-  cond_light : (b : ℕ) (c : Cond) (v : Place → ℕ) → is_light_cond b c v ≡ nat_le (heaviest_tests c v) b
+  cond_light : (b : ℕ) (c : Cond) (v : Location → ℕ) → is_light_cond b c v ≡ nat_le (heaviest_tests c v) b
   cond_light b NoTest v = none_heavy b
   cond_light b (MoreTest t c) v =
       ap₂ ◌&&◌ (test_light b t v) (cond_light b c v) ∙ both_light (heaviest_test t v) (heaviest_tests c v) b
@@ -61,7 +61,7 @@ mutual
 mutual
   unfolding meaning_words
 
-  pub light_is : (b : ℕ) (c : Command) (v : Place → ℕ) → is_light b c v ≡ nat_le (heaviest c v) b
+  pub light_is : (b : ℕ) (c : Command) (v : Location → ℕ) → is_light b c v ≡ nat_le (heaviest c v) b
   light_is b Skip v = none_heavy b
   light_is b (Assign t e) v = refl
   light_is b (Write x e) v = refl
@@ -71,7 +71,7 @@ mutual
       ap₂ ◌&&◌ (cond_light b t v) (ap₂ ◌&&◌ (light_is b c v) (light_is b d v) ∙ both_light (heaviest c v) (heaviest d v) b)
       ∙ both_light (heaviest_tests t v) (max (heaviest c v) (heaviest d v)) b
 
-  all_light : (b : ℕ) (cs : Commands) (v : Place → ℕ) → are_light b cs v ≡ nat_le (heaviest_all cs v) b
+  all_light : (b : ℕ) (cs : Commands) (v : Location → ℕ) → are_light b cs v ≡ nat_le (heaviest_all cs v) b
   all_light b NoCommand v = none_heavy b
   all_light b (MoreCommand c cs) v =
       ap₂ ◌&&◌ (light_is b c v) (all_light b cs (after c v)) ∙ both_light (heaviest c v) (heaviest_all cs (after c v)) b

@@ -5,7 +5,7 @@ use Rattle.homeo_syntax.specs.Low as L
 use Rattle.homeo_syntax.specs.Source.{Expr, Exprs, Literal, Name, Read, Sum, Product, Neg, Field, Row, Count, Total, NoExpr, MoreExpr, Test, Cond, True, Not, Comparison, NoTest, MoreTest}
 use Rattle.homeo_meaning.specs.Key.{words as meaning_words}
 use Rattle.homeo_meaning.specs.Context.{Spot, Slot, Context, spot, cell, field_cell, object, slots, fields, bind, slot_at}
-use Rattle.homeo_meaning.specs.LowMeaning.{TempAt, BaseAt, put, same_place}
+use Rattle.homeo_meaning.specs.LowMeaning.{TempAt, BaseAt, put, same_location}
 use Rattle.homeo_meaning.specs.LForm.{Lifted, Made, AllMade, read, fresh, equal, name_of, read_chain, read_slot, literal_of, indexed_by, visits, counted, lift, lift_all, lift_test, lift_cond}
 use Rattle.homeo_size.specs.inner.Key.{words}
 use Rattle.homeo_size.specs.inner.Parts.{literal, nothing, no_factor, beside, plus, times, around, summed, compared, greater, empty, valued, chosen, with_one}
@@ -62,7 +62,7 @@ module _ (sites : ℕ) where
   chain_leaves f e t [] v = refl
   chain_leaves f e t (slot ∷ more) v =
       (λ i p. greater (put v (TempAt (temp.Fresh t)) (v (BaseAt (cell slot f))) p) (chain_leaves f e t more v i p))
-      ∙ (λ i p. both_put (same_place (TempAt (temp.Fresh t)) p) (v (BaseAt (cell slot f))) (chain_sized f more (seen v)) (v p) i)
+      ∙ (λ i p. both_put (same_location (TempAt (temp.Fresh t)) p) (v (BaseAt (cell slot f))) (chain_sized f more (seen v)) (v p) i)
 
   chain_tells : (f : Spot) (e : L.Expr) (t : ℕ) (all : List Slot) (v : Extents) → low_measured sites (read_chain f e t all) v ≡ chain_measured f (low_sized e v) all (seen v)
   unfolding words meaning_words

@@ -2,7 +2,7 @@
 use Rattle.std.proofs.Common.{ℕ}
 use Rattle.homeo_syntax.specs.Low.{Expr, Exprs, Literal, OfTemp, Read, Sum, Product, Neg, NoExpr, MoreExpr, Test, Cond, True, Not, Comparison, NoTest, MoreTest, Command, Commands, Skip, Assign, Write, Print, Seq, If, NoCommand, MoreCommand}
 use Rattle.homeo_meaning.specs.Key.{words as meaning_words}
-use Rattle.homeo_meaning.specs.LowMeaning.{Place, TempAt, place_of, put}
+use Rattle.homeo_meaning.specs.LowMeaning.{Location, TempAt, location_of, put}
 use Rattle.homeo_size.specs.inner.Key.{words}
 use Rattle.homeo_size.specs.inner.Parts.{literal, nothing, no_factor, beside, plus, times, around, summed, compared, truth, greater, written, empty, valued, writing, chosen, none, with_one}
 use Rattle.homeo_size.specs.declared.extent.Extent.{Extent}
@@ -11,7 +11,7 @@ use Rattle.homeo_size.specs.declared.measures.Measure.{Measure}
 
 -- the extents of all places
 abbrev pub Extents : Type 0
-Extents = Place → Extent
+Extents = Location → Extent
 
 abbrev mutual
   unfolding words meaning_words
@@ -19,7 +19,7 @@ abbrev mutual
   pub low_sized : Expr → Extents → Extent
   low_sized (Literal n) v = literal n
   low_sized (OfTemp t) v = v (TempAt t)
-  low_sized (Read x) v = v (place_of x)
+  low_sized (Read x) v = v (location_of x)
   low_sized (Sum es) v = summed (low_sum es v nothing)
   low_sized (Product es) v = around (low_product es v no_factor)
   low_sized (Neg e) v = around (low_sized e v)
@@ -55,7 +55,7 @@ module _ (sites : ℕ) where
     pub low_after : Command → Extents → Extents
     low_after Skip v = v
     low_after (Assign t e) v = put v (TempAt t) (low_sized e v)
-    low_after (Write x e) v = put v (place_of x) (written sites (low_sized e v))
+    low_after (Write x e) v = put v (location_of x) (written sites (low_sized e v))
     low_after (Print e) v = v
     low_after (Seq cs) v = low_after_all cs v
     low_after (If b c d) v = λ p. greater (low_after c v p) (low_after d v p)

@@ -3,26 +3,26 @@ use Rattle.std.proofs.Common.{ℕ, ◌≤◌, Bool, true, false, cond, arith}
 use Rattle.std.proofs.lemmas.Int.{clamps}
 use Rattle.homeo_syntax.specs.Low.{Expr, Exprs, Literal, OfTemp, Read, Sum, Product, Neg, NoExpr, MoreExpr, Test, Cond, True, Not, Comparison, NoTest, MoreTest, Command, Commands, Skip, Assign, Write, Print, Seq, If, NoCommand, MoreCommand}
 use Rattle.homeo_meaning.specs.Key.{words as meaning_words}
-use Rattle.homeo_meaning.specs.LowMeaning.{Place, TempAt, BaseAt, DeltaAt, place_of, put, same_place}
+use Rattle.homeo_meaning.specs.LowMeaning.{Location, TempAt, BaseAt, DeltaAt, location_of, put, same_location}
 use Rattle.homeo_meaning.specs.LowSizes.{Extent, extent, extent_all, test_extent, tests_extent, after, after_all, command_extent, commands_extent, first_extents, written}
 use Rattle.homeo_size.proofs.NodeLaw.{of_expr, of_exprs, of_test, of_tests, of_command, of_commands}
 
 -- no name is smaller than 1
-abbrev Least : (Place → Extent) → Type 0
-Least v = (p : Place) → 1 ≤ (v p).size
+abbrev Least : (Location → Extent) → Type 0
+Least v = (p : Location) → 1 ≤ (v p).size
 
 mutual
   unfolding meaning_words
 
-  expr_size : (e : Expr) (v : Place → Extent) → Least v → of_expr e ≤ (extent e v).size
+  expr_size : (e : Expr) (v : Location → Extent) → Least v → of_expr e ≤ (extent e v).size
   expr_size (Literal n) v h = omega arith
   expr_size (OfTemp t) v h = h (TempAt t)
-  expr_size (Read x) v h = h (place_of x)
+  expr_size (Read x) v h = h (location_of x)
   expr_size (Sum es) v h = let k = exprs_size es v h in omega (arith, k)
   expr_size (Product es) v h = let k = exprs_size es v h in omega (arith, k)
   expr_size (Neg e) v h = let k = expr_size e v h in omega (arith, k)
 
-  exprs_size : (es : Exprs) (v : Place → Extent) → Least v → of_exprs es ≤ (extent_all es v).size
+  exprs_size : (es : Exprs) (v : Location → Extent) → Least v → of_exprs es ≤ (extent_all es v).size
   exprs_size NoExpr v h = omega arith
   exprs_size (MoreExpr e es) v h =
       let k = expr_size e v h in
@@ -40,7 +40,7 @@ some_expr (Neg e) = omega arith
 mutual
   unfolding meaning_words
 
-  test_size : (t : Test) (v : Place → Extent) → Least v → of_test t ≤ (test_extent t v).size
+  test_size : (t : Test) (v : Location → Extent) → Least v → of_test t ≤ (test_extent t v).size
   test_size True v h = omega arith
   test_size (Not c) v h = let k = tests_size c v h in omega (arith, k)
   test_size (Comparison op a b) v h =
@@ -48,16 +48,16 @@ mutual
       let l = expr_size b v h in
       omega (arith, k, l)
 
-  tests_size : (c : Cond) (v : Place → Extent) → Least v → of_tests c ≤ (tests_extent c v).size
+  tests_size : (c : Cond) (v : Location → Extent) → Least v → of_tests c ≤ (tests_extent c v).size
   tests_size NoTest v h = omega arith
   tests_size (MoreTest t c) v h =
       let k = test_size t v h in
       let l = tests_size c v h in
       omega (arith, k, l)
 
-put_least : (v : Place → Extent) (p : Place) (e : Extent) → Least v → 1 ≤ e.size → Least (put v p e)
+put_least : (v : Location → Extent) (p : Location) (e : Extent) → Least v → 1 ≤ e.size → Least (put v p e)
 unfolding meaning_words
-put_least v p e h k q = go (same_place p q)
+put_least v p e h k q = go (same_location p q)
   where
     go : (b : Bool) → 1 ≤ (cond b e (v q)).size
     go true = k
@@ -67,7 +67,7 @@ module _ (sites : ℕ) where
   mutual
     unfolding meaning_words
 
-    after_least : (c : Command) (v : Place → Extent) → Least v → Least (after sites c v)
+    after_least : (c : Command) (v : Location → Extent) → Least v → Least (after sites c v)
     after_least Skip v h = h
     after_least (Assign t e) v h =
         let k = expr_size e v h in
@@ -76,19 +76,19 @@ module _ (sites : ℕ) where
     after_least (Write x e) v h =
         let k = expr_size e v h in
         let s = some_expr e in
-        put_least v (place_of x) (written sites (extent e v)) h (omega (arith, k, s))
+        put_least v (location_of x) (written sites (extent e v)) h (omega (arith, k, s))
     after_least (Print e) v h = h
     after_least (Seq cs) v h = all_least cs v h
     after_least (If b c d) v h = λ p. let k = after_least c v h p in omega (arith, clamps, k)
 
-    all_least : (cs : Commands) (v : Place → Extent) → Least v → Least (after_all sites cs v)
+    all_least : (cs : Commands) (v : Location → Extent) → Least v → Least (after_all sites cs v)
     all_least NoCommand v h = h
     all_least (MoreCommand c cs) v h = all_least cs (after sites c v) (after_least c v h)
 
   mutual
     unfolding meaning_words
 
-    pub command_size : (c : Command) (v : Place → Extent) → Least v → of_command c ≤ (command_extent sites c v).size
+    pub command_size : (c : Command) (v : Location → Extent) → Least v → of_command c ≤ (command_extent sites c v).size
     command_size Skip v h = omega arith
     command_size (Assign t e) v h = let k = expr_size e v h in omega (arith, k)
     command_size (Write x e) v h = let k = expr_size e v h in omega (arith, k)
@@ -100,7 +100,7 @@ module _ (sites : ℕ) where
         let l = command_size d v h in
         omega (arith, j, k, l)
 
-    commands_size : (cs : Commands) (v : Place → Extent) → Least v → of_commands cs ≤ (commands_extent sites cs v).size
+    commands_size : (cs : Commands) (v : Location → Extent) → Least v → of_commands cs ≤ (commands_extent sites cs v).size
     commands_size NoCommand v h = omega arith
     commands_size (MoreCommand c cs) v h =
         let k = command_size c v h in

@@ -4,7 +4,7 @@ use Rattle.std.proofs.Math.Nat.{mul_assoc, one-mul, mul-one}
 use Rattle.std.proofs.lemmas.Int.{clamps}
 use Rattle.homeo_syntax.specs.Low.{Expr, Exprs, Literal, OfTemp, Read, Sum, Product, Neg, NoExpr, MoreExpr, Test, Cond, True, Not, Comparison, NoTest, MoreTest, Command, Commands, Skip, Assign, Write, Print, Seq, If, NoCommand, MoreCommand}
 use Rattle.homeo_meaning.specs.Key.{words as meaning_words}
-use Rattle.homeo_meaning.specs.LowMeaning.{Place, TempAt, place_of, put, same_place}
+use Rattle.homeo_meaning.specs.LowMeaning.{Location, TempAt, location_of, put, same_location}
 use Rattle.homeo_meaning.specs.LowSizes as low
 use Rattle.homeo_meaning.specs.LowSizes.{extent, extent_all, test_extent, tests_extent, cond_extent, after, after_all, command_extent, commands_extent, rows, rows_all}
 use Rattle.homeo_meaning.specs.LowWeights as heavy
@@ -109,12 +109,12 @@ told_measure_same : (a b : low.Extent) (k l m n : ℕ) → a ≡ b → k ≡ l �
 told_measure_same a b k l m n p q r = λ i. told_measure (p i) (q i) (r i)
 
 -- ---- the extents v are those of e and w
-abbrev pub Tells : Extents → (Place → low.Extent) → (Place → ℕ) → Type 0
-Tells v e w = (p : Place) → v p ≡ told (e p) (w p)
+abbrev pub Tells : Extents → (Location → low.Extent) → (Location → ℕ) → Type 0
+Tells v e w = (p : Location) → v p ≡ told (e p) (w p)
 
-put_told : (v : Extents) (e : Place → low.Extent) (w : Place → ℕ) (p : Place) (x : Extent) (a : low.Extent) (m : ℕ) → Tells v e w → x ≡ told a m → Tells (put v p x) (put e p a) (put w p m)
+put_told : (v : Extents) (e : Location → low.Extent) (w : Location → ℕ) (p : Location) (x : Extent) (a : low.Extent) (m : ℕ) → Tells v e w → x ≡ told a m → Tells (put v p x) (put e p a) (put w p m)
 unfolding meaning_words
-put_told v e w p x a m h k q = go (same_place p q)
+put_told v e w p x a m h k q = go (same_location p q)
   where
     go : (b : Bool) → cond b x (v q) ≡ told (cond b a (e q)) (cond b m (w q))
     go true = k
@@ -123,10 +123,10 @@ put_told v e w p x a m h k q = go (same_place p q)
 mutual
   unfolding words meaning_words
 
-  pub expr_told : (x : Expr) (v : Extents) (e : Place → low.Extent) (w : Place → ℕ) → Tells v e w → low_sized x v ≡ told (extent x e) (weight x w)
+  pub expr_told : (x : Expr) (v : Extents) (e : Location → low.Extent) (w : Location → ℕ) → Tells v e w → low_sized x v ≡ told (extent x e) (weight x w)
   expr_told (Literal n) v e w h = refl
   expr_told (OfTemp t) v e w h = h (TempAt t)
-  expr_told (Read o) v e w h = h (place_of o)
+  expr_told (Read o) v e w h = h (location_of o)
   expr_told (Sum es) v e w h =
       ap summed (sum_told es v e w h (low.flat 0) 0 ∙ told_same (low.beside (low.flat 0) (extent_all es e)) (extent_all es e) (0 + sum_weight es w) (sum_weight es w) (nothing_beside (extent_all es e)) (zero_plus (sum_weight es w)))
       ∙ told_summed (extent_all es e) (sum_weight es w)
@@ -135,14 +135,14 @@ mutual
       ∙ told_around (extent_all es e) (product_weight es w)
   expr_told (Neg x) v e w h = ap around (expr_told x v e w h) ∙ told_around (extent x e) (weight x w)
 
-  sum_told : (es : Exprs) (v : Extents) (e : Place → low.Extent) (w : Place → ℕ) → Tells v e w → (a : low.Extent) (m : ℕ) → low_sum es v (told a m) ≡ told (low.beside a (extent_all es e)) (m + sum_weight es w)
+  sum_told : (es : Exprs) (v : Extents) (e : Location → low.Extent) (w : Location → ℕ) → Tells v e w → (a : low.Extent) (m : ℕ) → low_sum es v (told a m) ≡ told (low.beside a (extent_all es e)) (m + sum_weight es w)
   sum_told NoExpr v e w h a m = told_same a (low.beside a (low.flat 0)) m (m + 0) (sym (beside_nothing a)) (sym (plus_zero m))
   sum_told (MoreExpr x es) v e w h a m =
       ap (low_sum es v) (ap (plus (told a m)) (expr_told x v e w h) ∙ told_plus a (extent x e) m (weight x w))
       ∙ sum_told es v e w h (low.beside a (extent x e)) (m + weight x w)
       ∙ told_same (low.beside (low.beside a (extent x e)) (extent_all es e)) (low.beside a (low.beside (extent x e) (extent_all es e))) ((m + weight x w) + sum_weight es w) (m + (weight x w + sum_weight es w)) (beside_assoc a (extent x e) (extent_all es e)) (plus_assoc m (weight x w) (sum_weight es w))
 
-  product_told : (es : Exprs) (v : Extents) (e : Place → low.Extent) (w : Place → ℕ) → Tells v e w → (a : low.Extent) (m : ℕ) → low_product es v (told a m) ≡ told (low.beside a (extent_all es e)) (m * product_weight es w)
+  product_told : (es : Exprs) (v : Extents) (e : Location → low.Extent) (w : Location → ℕ) → Tells v e w → (a : low.Extent) (m : ℕ) → low_product es v (told a m) ≡ told (low.beside a (extent_all es e)) (m * product_weight es w)
   product_told NoExpr v e w h a m = told_same a (low.beside a (low.flat 0)) m (m * 1) (sym (beside_nothing a)) (sym (mul-one m))
   product_told (MoreExpr x es) v e w h a m =
       ap (low_product es v) (ap (times (told a m)) (expr_told x v e w h) ∙ told_times a (extent x e) m (weight x w))
@@ -152,7 +152,7 @@ mutual
 mutual
   unfolding words meaning_words
 
-  test_told : (t : Test) (v : Extents) (e : Place → low.Extent) (w : Place → ℕ) → Tells v e w → low_test t v ≡ told (test_extent t e) (heaviest_test t w)
+  test_told : (t : Test) (v : Extents) (e : Location → low.Extent) (w : Location → ℕ) → Tells v e w → low_test t v ≡ told (test_extent t e) (heaviest_test t w)
   test_told True v e w h = refl
   test_told (Not c) v e w h =
       ap around (ap around (tests_told c v e w h (low.flat 0) 0 ∙ told_same (low.beside (low.flat 0) (tests_extent c e)) (tests_extent c e) (max 0 (heaviest_tests c w)) (heaviest_tests c w) (nothing_beside (tests_extent c e)) (zero_max (heaviest_tests c w))) ∙ told_around (tests_extent c e) (heaviest_tests c w))
@@ -161,14 +161,14 @@ mutual
       ap around (ap₂ beside (expr_told a v e w h) (expr_told b v e w h) ∙ told_beside (extent a e) (extent b e) (weight a w) (weight b w))
       ∙ told_around (low.beside (extent a e) (extent b e)) (max (weight a w) (weight b w))
 
-  tests_told : (c : Cond) (v : Extents) (e : Place → low.Extent) (w : Place → ℕ) → Tells v e w → (a : low.Extent) (m : ℕ) → low_tests c v (told a m) ≡ told (low.beside a (tests_extent c e)) (max m (heaviest_tests c w))
+  tests_told : (c : Cond) (v : Extents) (e : Location → low.Extent) (w : Location → ℕ) → Tells v e w → (a : low.Extent) (m : ℕ) → low_tests c v (told a m) ≡ told (low.beside a (tests_extent c e)) (max m (heaviest_tests c w))
   tests_told NoTest v e w h a m = told_same a (low.beside a (low.flat 0)) m (max m 0) (sym (beside_nothing a)) (sym (max_zero m))
   tests_told (MoreTest t c) v e w h a m =
       ap (low_tests c v) (ap (beside (told a m)) (test_told t v e w h) ∙ told_beside a (test_extent t e) m (heaviest_test t w))
       ∙ tests_told c v e w h (low.beside a (test_extent t e)) (max m (heaviest_test t w))
       ∙ told_same (low.beside (low.beside a (test_extent t e)) (tests_extent c e)) (low.beside a (low.beside (test_extent t e) (tests_extent c e))) (max (max m (heaviest_test t w)) (heaviest_tests c w)) (max m (max (heaviest_test t w) (heaviest_tests c w))) (beside_assoc a (test_extent t e) (tests_extent c e)) (max_assoc m (heaviest_test t w) (heaviest_tests c w))
 
-cond_told : (c : Cond) (v : Extents) (e : Place → low.Extent) (w : Place → ℕ) → Tells v e w → low_cond c v ≡ told (cond_extent c e) (heaviest_tests c w)
+cond_told : (c : Cond) (v : Extents) (e : Location → low.Extent) (w : Location → ℕ) → Tells v e w → low_cond c v ≡ told (cond_extent c e) (heaviest_tests c w)
 unfolding words meaning_words
 cond_told c v e w h =
     ap around (tests_told c v e w h (low.flat 0) 0 ∙ told_same (low.beside (low.flat 0) (tests_extent c e)) (tests_extent c e) (max 0 (heaviest_tests c w)) (heaviest_tests c w) (nothing_beside (tests_extent c e)) (zero_max (heaviest_tests c w)))
@@ -178,17 +178,17 @@ module _ (sites : ℕ) where
   mutual
     unfolding words meaning_words
 
-    after_told : (c : Command) (v : Extents) (e : Place → low.Extent) (w : Place → ℕ) → Tells v e w → Tells (low_after sites c v) (after sites c e) (heavy.after c w)
+    after_told : (c : Command) (v : Extents) (e : Location → low.Extent) (w : Location → ℕ) → Tells v e w → Tells (low_after sites c v) (after sites c e) (heavy.after c w)
     after_told Skip v e w h = h
     after_told (Assign t x) v e w h = put_told v e w (TempAt t) (low_sized x v) (extent x e) (weight x w) h (expr_told x v e w h)
     after_told (Write o x) v e w h =
-        put_told v e w (place_of o) (written sites (low_sized x v)) (low.written sites (extent x e)) (weight x w) h (ap (written sites) (expr_told x v e w h) ∙ told_written sites (extent x e) (weight x w))
+        put_told v e w (location_of o) (written sites (low_sized x v)) (low.written sites (extent x e)) (weight x w) h (ap (written sites) (expr_told x v e w h) ∙ told_written sites (extent x e) (weight x w))
     after_told (Print x) v e w h = h
     after_told (Seq cs) v e w h = all_after_told cs v e w h
     after_told (If b c d) v e w h =
         λ p. ap₂ greater (after_told c v e w h p) (after_told d v e w h p) ∙ told_greater (after sites c e p) (after sites d e p) (heavy.after c w p) (heavy.after d w p)
 
-    all_after_told : (cs : Commands) (v : Extents) (e : Place → low.Extent) (w : Place → ℕ) → Tells v e w → Tells (low_after_all sites cs v) (after_all sites cs e) (heavy.after_all cs w)
+    all_after_told : (cs : Commands) (v : Extents) (e : Location → low.Extent) (w : Location → ℕ) → Tells v e w → Tells (low_after_all sites cs v) (after_all sites cs e) (heavy.after_all cs w)
     all_after_told NoCommand v e w h = h
     all_after_told (MoreCommand c cs) v e w h =
         all_after_told cs (low_after sites c v) (after sites c e) (heavy.after c w) (after_told c v e w h)
@@ -196,7 +196,7 @@ module _ (sites : ℕ) where
   mutual
     unfolding words meaning_words
 
-    pub measured_told : (c : Command) (v : Extents) (e : Place → low.Extent) (w : Place → ℕ) → Tells v e w → low_measured sites c v ≡ told_measure (command_extent sites c e) (heaviest c w) (rows c)
+    pub measured_told : (c : Command) (v : Extents) (e : Location → low.Extent) (w : Location → ℕ) → Tells v e w → low_measured sites c v ≡ told_measure (command_extent sites c e) (heaviest c w) (rows c)
     measured_told Skip v e w h = refl
     measured_told (Assign t x) v e w h = ap valued (expr_told x v e w h) ∙ told_valued (extent x e) (weight x w)
     measured_told (Write o x) v e w h = ap (writing sites) (expr_told x v e w h) ∙ told_writing sites (extent x e) (weight x w)
@@ -208,7 +208,7 @@ module _ (sites : ℕ) where
         (λ i. chosen (cond_told b v e w h i) (measured_told c v e w h i) (measured_told d v e w h i))
         ∙ told_chosen (cond_extent b e) (command_extent sites c e) (command_extent sites d e) (heaviest_tests b w) (heaviest c w) (heaviest d w) (rows c) (rows d)
 
-    all_measured_told : (cs : Commands) (v : Extents) (e : Place → low.Extent) (w : Place → ℕ) → Tells v e w → (b : Before) (a : low.Extent) (m n : ℕ) → b.all ≡ told_measure a m n → (low_measured_all sites cs v b).all ≡ told_measure (low.beside a (commands_extent sites cs e)) (max m (heaviest_all cs w)) (n * rows_all cs)
+    all_measured_told : (cs : Commands) (v : Extents) (e : Location → low.Extent) (w : Location → ℕ) → Tells v e w → (b : Before) (a : low.Extent) (m n : ℕ) → b.all ≡ told_measure a m n → (low_measured_all sites cs v b).all ≡ told_measure (low.beside a (commands_extent sites cs e)) (max m (heaviest_all cs w)) (n * rows_all cs)
     all_measured_told NoCommand v e w h b a m n k =
         k ∙ told_measure_same a (low.beside a (low.flat 0)) m (max m 0) n (n * 1) (sym (beside_nothing a)) (sym (max_zero m)) (sym (mul-one n))
     all_measured_told (MoreCommand c cs) v e w h b a m n k =

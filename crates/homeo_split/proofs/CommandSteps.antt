@@ -11,7 +11,7 @@ use Rattle.homeo_syntax.specs.declared.low.SplitName.{SplitName}
 use Rattle.homeo_syntax.specs.Low.{Expr, Cond, Command, Commands, Skip, Assign, Write, Print, Seq, If}
 use Rattle.homeo_syntax.proofs.LowViews.{low_If}
 use Rattle.homeo_meaning.specs.Key.{words as meaning_words}
-use Rattle.homeo_meaning.specs.LowMeaning.{State, Run, TempAt, place_of, put, value, holds, after_prints, exec, exec_all}
+use Rattle.homeo_meaning.specs.LowMeaning.{State, Run, TempAt, location_of, put, value, holds, after_prints, exec, exec_all}
 use Rattle.homeo_meaning.proofs.Steps.{drop_next, drop_none}
 use Rattle.homeo_split.specs.Key.{words}
 use Rattle.homeo_split.specs.CanExec.{expr_fits, cond_fits, can_exec, can_exec_all}
@@ -30,9 +30,9 @@ pub run_Assign : (s : State) (ps : List ℤ) (t : Temp) (e : Expr) → after_pri
 unfolding words meaning_words
 run_Assign s ps t e = after_done ps (put s (TempAt t) (value e s))
 
-pub run_Write : (s : State) (ps : List ℤ) (x : SplitName) (e : Expr) → after_prints ps (exec (Write x e) s) ≡ run_of (put s (place_of x) (value e s)) ps
+pub run_Write : (s : State) (ps : List ℤ) (x : SplitName) (e : Expr) → after_prints ps (exec (Write x e) s) ≡ run_of (put s (location_of x) (value e s)) ps
 unfolding words meaning_words
-run_Write s ps x e = after_done ps (put s (place_of x) (value e s))
+run_Write s ps x e = after_done ps (put s (location_of x) (value e s))
 
 pub run_Print : (s : State) (ps : List ℤ) (e : Expr) → after_prints ps (exec (Print e) s) ≡ run_of s (ps ++ value e s ∷ [])
 unfolding words meaning_words

@@ -3,7 +3,7 @@ use Rattle.std.proofs.Common.{◌≡◌, ℤ, List, [], ◌∷◌, map, length, 
 use Rattle.homeo_syntax.specs.declared.low.SplitName.{SplitName}
 use Rattle.homeo_syntax.specs.declared.low.SplitName.TheVariants.{Whole, Base, Delta}
 use Rattle.homeo_meaning.specs.Key.{words}
-use Rattle.homeo_meaning.specs.LowMeaning.{place_of}
+use Rattle.homeo_meaning.specs.LowMeaning.{location_of}
 use Rattle.homeo_split.specs.States.{state_with}
 
 pub lengths : {A : Type 0} (f : A → List ℤ) (l : List A) → map (λ d. length (f d)) l ≡ map length (map f l)
@@ -13,7 +13,7 @@ lengths f (d ∷ ds) = ap (λ ns. length (f d) ∷ ns) (lengths f ds)
 pub same_lengths : {A B : Type 0} (f : A → List ℤ) (g : B → List ℤ) (l : List A) (m : List B) → map f l ≡ map g m → map (λ d. length (f d)) l ≡ map (λ d. length (g d)) m
 same_lengths f g l m e = lengths f l ∙ ap (map length) e ∙ sym (lengths g m)
 
-pub without_temporaries : (base : List ℤ) (deltas : List (List ℤ)) (named fresh : List ℤ) (x : SplitName) → state_with base deltas [] [] (place_of x) ≡ state_with base deltas named fresh (place_of x)
+pub without_temporaries : (base : List ℤ) (deltas : List (List ℤ)) (named fresh : List ℤ) (x : SplitName) → state_with base deltas [] [] (location_of x) ≡ state_with base deltas named fresh (location_of x)
 unfolding words
 without_temporaries base deltas named fresh (Whole x) = refl
 without_temporaries base deltas named fresh (Base x) = refl

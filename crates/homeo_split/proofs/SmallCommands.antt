@@ -4,7 +4,7 @@ use Rattle.std.proofs.lemmas.Bool.Decides.{nat_tests}
 use Rattle.homeo_syntax.specs.Low.{Expr, Exprs, Literal, OfTemp, Read, Sum, Product, Neg, NoExpr, MoreExpr, Test, Cond, True, Not, Comparison, NoTest, MoreTest, Command, Commands, Skip, Assign, Write, Print, Seq, If, NoCommand, MoreCommand}
 use Rattle.homeo_meaning.specs.Key.{words as meaning_words}
 use Rattle.homeo_meaning.specs.Small.{is_small}
-use Rattle.homeo_meaning.specs.LowMeaning.{State, TempAt, place_of, value, passes, holds, exec}
+use Rattle.homeo_meaning.specs.LowMeaning.{State, TempAt, location_of, value, passes, holds, exec}
 use Rattle.homeo_meaning.specs.LowComputed.{CanValue, CanSum, CanProduct, CanPass, CanHold, CanRun, CanRunAll}
 use Rattle.homeo_meaning.specs.Small.{IsSmall}
 use Rattle.homeo_split.specs.Key.{words}
@@ -38,7 +38,7 @@ module _ (b : ℕ) (h : b ≤ limit) where
     value_fits : (e : Expr) (s : State) → CanValue (IsSmall b) (IsSmall b) e s → expr_fits limit e s ≡ true
     value_fits (Literal n) s c = small n c
     value_fits (OfTemp t) s c = small (s (TempAt t)) c
-    value_fits (Read x) s c = small (s (place_of x)) c
+    value_fits (Read x) s c = small (s (location_of x)) c
     value_fits (Sum es) s c = terms_fit es s (pos 0) zero_small c
     value_fits (Product es) s c = factors_fit es s (pos 1) one_small c
     value_fits (Neg e) s c = both (value_fits e s c.0) (small (neg_ℤ (value e s)) c.1)

@@ -6,14 +6,14 @@ use Rattle.std.proofs.lemmas.Bool.Decides.{nat_tests}
 use Rattle.homeo_syntax.specs.declared.low.Temp.TheVariants.{Named, Fresh}
 use Rattle.homeo_syntax.specs.declared.low.SplitName.TheVariants.{Base, Delta}
 use Rattle.homeo_meaning.specs.Key.{words}
-use Rattle.homeo_meaning.specs.LowMeaning.{Place, TempAt, BaseAt, DeltaAt, put}
+use Rattle.homeo_meaning.specs.LowMeaning.{Location, TempAt, BaseAt, DeltaAt, put}
 use Rattle.homeo_meaning.proofs.AbsentItems.{padded_set}
 use Rattle.homeo_split.specs.Key.{words as split_words}
 use Rattle.homeo_split.specs.States.{state_with}
 use Rattle.homeo_split.specs.Shape.{Shape, has_place}
 
 module _ (base : List ℤ) (deltas : List (List ℤ)) (named fresh new : List ℤ) (n : ℕ) (v : ℤ) where
-  named_at : ((m : ℕ) → get_or new m (pos 0) ≡ cond (n == m) v (get_or named m (pos 0))) → (q : Place) → state_with base deltas new fresh q ≡ put (state_with base deltas named fresh) (TempAt (Named n)) v q
+  named_at : ((m : ℕ) → get_or new m (pos 0) ≡ cond (n == m) v (get_or named m (pos 0))) → (q : Location) → state_with base deltas new fresh q ≡ put (state_with base deltas named fresh) (TempAt (Named n)) v q
   unfolding words
   named_at h (TempAt (Named m)) = h m
   named_at h (TempAt (Fresh m)) = refl
@@ -23,7 +23,7 @@ module _ (base : List ℤ) (deltas : List (List ℤ)) (named fresh new : List �
   pub set_named : ((m : ℕ) → get_or new m (pos 0) ≡ cond (n == m) v (get_or named m (pos 0))) → state_with base deltas new fresh ≡ put (state_with base deltas named fresh) (TempAt (Named n)) v
   set_named h = λ i q. named_at h q i
 
-  fresh_at : ((m : ℕ) → get_or new m (pos 0) ≡ cond (n == m) v (get_or fresh m (pos 0))) → (q : Place) → state_with base deltas named new q ≡ put (state_with base deltas named fresh) (TempAt (Fresh n)) v q
+  fresh_at : ((m : ℕ) → get_or new m (pos 0) ≡ cond (n == m) v (get_or fresh m (pos 0))) → (q : Location) → state_with base deltas named new q ≡ put (state_with base deltas named fresh) (TempAt (Fresh n)) v q
   unfolding words
   fresh_at h (TempAt (Named m)) = refl
   fresh_at h (TempAt (Fresh m)) = h m
@@ -34,7 +34,7 @@ module _ (base : List ℤ) (deltas : List (List ℤ)) (named fresh new : List �
   set_fresh h = λ i q. fresh_at h q i
 
 module _ (base : List ℤ) (deltas : List (List ℤ)) (named fresh : List ℤ) (x : ℕ) (v : ℤ) where
-  base_at : x < length base → (q : Place) → state_with (set base x v) deltas named fresh q ≡ put (state_with base deltas named fresh) (BaseAt x) v q
+  base_at : x < length base → (q : Location) → state_with (set base x v) deltas named fresh q ≡ put (state_with base deltas named fresh) (BaseAt x) v q
   unfolding words
   base_at h (TempAt (Named m)) = refl
   base_at h (TempAt (Fresh m)) = refl
@@ -58,7 +58,7 @@ site_case deltas x j y k v true e h =
 site_case deltas x j y k v false e h = refl
 
 module _ (base : List ℤ) (deltas : List (List ℤ)) (named fresh : List ℤ) (x j : ℕ) (v : ℤ) where
-  delta_at : j < length deltas → x < length (get_or deltas j []) → (q : Place) → state_with base (set deltas j (set (get_or deltas j []) x v)) named fresh q ≡ put (state_with base deltas named fresh) (DeltaAt x j) v q
+  delta_at : j < length deltas → x < length (get_or deltas j []) → (q : Location) → state_with base (set deltas j (set (get_or deltas j []) x v)) named fresh q ≡ put (state_with base deltas named fresh) (DeltaAt x j) v q
   unfolding words
   delta_at s h (TempAt (Named m)) = refl
   delta_at s h (TempAt (Fresh m)) = refl

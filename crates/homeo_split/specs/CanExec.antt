@@ -3,7 +3,7 @@
 use Rattle.std.specs.Prelude.{ℕ, ◌*◌, ◌^◌, ℤ, pos, ◌+ℤ◌, ◌*ℤ◌, neg_ℤ, Bool, true, cond, ◌&&◌}
 use Rattle.homeo_syntax.specs.Low.{Expr, Exprs, Literal, OfTemp, Read, Sum, Product, Neg, NoExpr, MoreExpr, Test, Cond, True, Not, Comparison, NoTest, MoreTest, Command, Commands, Skip, Assign, Write, Print, Seq, If, NoCommand, MoreCommand}
 use Rattle.homeo_meaning.specs.Small.{is_small}
-use Rattle.homeo_meaning.specs.LowMeaning.{State, TempAt, place_of, value, passes, holds, exec}
+use Rattle.homeo_meaning.specs.LowMeaning.{State, TempAt, location_of, value, passes, holds, exec}
 use Rattle.homeo_split.specs.Key.{words}
 
 -- the most that a value of a run may be in size
@@ -16,7 +16,7 @@ abbrev mutual
   pub expr_fits : ℕ → Expr → State → Bool
   expr_fits b (Literal n) s = is_small b n
   expr_fits b (OfTemp t) s = is_small b (s (TempAt t))
-  expr_fits b (Read x) s = is_small b (s (place_of x))
+  expr_fits b (Read x) s = is_small b (s (location_of x))
   expr_fits b (Sum es) s = sum_fits b (pos 0) es s
   expr_fits b (Product es) s = product_fits b (pos 1) es s
   expr_fits b (Neg e) s = expr_fits b e s && is_small b (neg_ℤ (value e s))

@@ -2,7 +2,7 @@
 use Rattle.std.specs.Prelude.{◌≡◌, ℕ, ℤ, pos, List, [], map, slice_index_or}
 use Rattle.homeo_syntax.specs.declared.low.Temp.TheVariants.{Named, Fresh}
 use Rattle.homeo_syntax.specs.declared.low.SplitName.{SplitName}
-use Rattle.homeo_meaning.specs.LowMeaning.{State, TempAt, BaseAt, DeltaAt, place_of}
+use Rattle.homeo_meaning.specs.LowMeaning.{State, TempAt, BaseAt, DeltaAt, location_of}
 use Rattle.homeo_split.specs.Key.{words}
 use Rattle.homeo_split.specs.declared.split.Split.{Split}
 
@@ -24,4 +24,4 @@ state_of s = state_with s.base.items (map (λ d. d.items) s.deltas.items) [] []
 
 -- two states have the same values at the base and the deltas
 abbrev pub AgreeOnNames : State → State → Type 0
-AgreeOnNames s u = (x : SplitName) → s (place_of x) ≡ u (place_of x)
+AgreeOnNames s u = (x : SplitName) → s (location_of x) ≡ u (location_of x)

@@ -3,7 +3,7 @@
 ghost use Rattle.std.specs.Prelude.{◌≡◌, ◌+ℤ◌, ◌*ℤ◌, neg_ℤ, pos, true, map};
 ghost use Rattle.homeo_syntax.specs.LowView.{low_exprs, low_tests, plain_lexpr, plain_ltest, plain_lcond};
 ghost use Rattle.homeo_meaning.specs.Meaning.{compared};
-ghost use Rattle.homeo_meaning.specs.LowMeaning.{TempAt, place_of, value, sum_value, product_value, passes, holds};
+ghost use Rattle.homeo_meaning.specs.LowMeaning.{TempAt, location_of, value, sum_value, product_value, passes, holds};
 ghost use Rattle.homeo_meaning.specs.Small.{is_small};
 ghost use Rattle.homeo_split.specs.CanExec.{limit, expr_fits, sum_fits, product_fits, test_fits, cond_fits};
 ghost use Rattle.homeo_split.specs.inner.States.{plain_state};

@@ -1,7 +1,7 @@
 //! The values that a run reads and changes.
 
 ghost use Rattle.std.specs.Prelude.{◌≡◌, true, OnOk};
-ghost use Rattle.homeo_meaning.specs.LowMeaning.{TempAt, DeltaAt, place_of, put};
+ghost use Rattle.homeo_meaning.specs.LowMeaning.{TempAt, DeltaAt, location_of, put};
 ghost use Rattle.homeo_split.specs.inner.States.{plain_state, state_shape};
 ghost use Rattle.homeo_split.specs.Shape.{has_place};
 
@@ -30,7 +30,7 @@ impl State {
 
     #[tactic(auto, unfolding(crate::specs::Key::words, homeo_meaning::specs::Key::words))]
     pub(crate) fn read(&self, x: SplitName) -> i64
-        ensures { result ≡ plain_state self.now (place_of x) }
+        ensures { result ≡ plain_state self.now (location_of x) }
     {
         match x {
             SplitName::Whole(object) => item_or(self.base.as_slice(), object as usize, 0),
@@ -54,7 +54,7 @@ impl State {
     pub(crate) fn write(&mut self, x: SplitName, v: i64)
         requires { has_place (state_shape self.old) x ≡ true }
         ensures shape { state_shape self.new ≡ state_shape self.old }
-        ensures set { plain_state self.new ≡ put (plain_state self.old) (place_of x) v }
+        ensures set { plain_state self.new ≡ put (plain_state self.old) (location_of x) v }
     {
         match x {
             SplitName::Whole(object) => self.base[object as usize] = v,

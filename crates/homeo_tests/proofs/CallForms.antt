@@ -8,7 +8,7 @@ use Rattle.homeo_meaning.specs.Acceptance.{IsLightBody}
 use Rattle.homeo_meaning.specs.Bounds.{IsWithin}
 use Rattle.homeo_meaning.specs.Ground.{Ground}
 use Rattle.homeo_meaning.specs.LForm.{l_form}
-use Rattle.homeo_meaning.specs.LowMeaning.{Place, TempAt, BaseAt, DeltaAt, whole}
+use Rattle.homeo_meaning.specs.LowMeaning.{Location, TempAt, BaseAt, DeltaAt, whole}
 use Rattle.homeo_meaning.specs.Schema.{schema_of}
 use Rattle.homeo_meaning.specs.Serial.{values_of}
 use Rattle.homeo_lform.proofs.Light.{light_law}
@@ -22,7 +22,7 @@ use Rattle.homeo_split.specs.States.{state_with}
 use Rattle.homeo_split.proofs.SmallCommands.{small_law}
 
 -- a split database without deltas is the whole one
-whole_at : (database : List ℤ) (p : Place) → whole (values_of database) p ≡ state_with database [] [] [] p
+whole_at : (database : List ℤ) (p : Location) → whole (values_of database) p ≡ state_with database [] [] [] p
 unfolding meaning_words split_words
 whole_at database (TempAt (Named n)) = refl
 whole_at database (TempAt (Fresh n)) = refl

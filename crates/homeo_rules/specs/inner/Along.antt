@@ -6,7 +6,7 @@ use Rattle.homeo_syntax.specs.declared.phrase.Test.{Test}
 use Rattle.homeo_syntax.specs.declared.command.FieldValue.{FieldValue}
 use Rattle.homeo_syntax.specs.declared.command.Command.{Command}
 use Rattle.homeo_meaning.specs.Bindings.{Row, Scope}
-use Rattle.homeo_meaning.specs.Places.{in_expr, in_test, in_command}
+use Rattle.homeo_meaning.specs.Occurrences.{in_expr, in_test, in_command}
 use Rattle.homeo_rules.specs.inner.Follow.{Standing, follow}
 
 abbrev pub along_exprs : Scope → List Row → Standing → List Expr → Standing

@@ -1,7 +1,7 @@
 -- What a reader of a transaction keeps, place by place.
 use Rattle.std.specs.Prelude.{ℕ, List, [], ◌∷◌, Option, slice_index_or, slice_set}
 use Rattle.homeo_meaning.specs.Bindings.{Scope, binding}
-use Rattle.homeo_meaning.specs.Places.{Mark, Place, Assigns}
+use Rattle.homeo_meaning.specs.Occurrences.{Mark, Occurrence, Assigns}
 use Rattle.homeo_meaning.specs.NameRules.{judge}
 use Rattle.homeo_rules.specs.inner.Deciding.{keep_all}
 use Rattle.homeo_meaning.specs.declared.rules.Fault.{Fault}
@@ -27,11 +27,11 @@ unfolding words
 locals_after b l (Assigns t) = assigned (b t.name) l t.name
 locals_after b l _ = l
 
-abbrev pub step : Scope → Standing → Place → Standing
+abbrev pub step : Scope → Standing → Occurrence → Standing
 unfolding words
 step s k p = record { locals = locals_after (binding s (local_at k.locals) p.rows) k.locals p.mark; best = keep_all k.best (judge s (local_at k.locals) p) }
 
-abbrev pub follow : Scope → Standing → List Place → Standing
+abbrev pub follow : Scope → Standing → List Occurrence → Standing
 unfolding words
 follow s k [] = k
 follow s k (p ∷ ps) = follow s (step s k p) ps

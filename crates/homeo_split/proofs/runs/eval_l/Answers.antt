@@ -1,7 +1,7 @@
 -- A run on copies, which begins at the state and is given back to it.
 use Rattle.std.proofs.Common.{◌++◌, map, length, ap, ◌∙◌}
 use Rattle.homeo_syntax.specs.LowView.{plain_lcommand}
-use Rattle.homeo_meaning.specs.LowMeaning.{place_of, exec}
+use Rattle.homeo_meaning.specs.LowMeaning.{location_of, exec}
 use Rattle.homeo_split.specs.Key.{words}
 use Rattle.homeo_split.specs.CanExec.{limit, can_exec}
 use Rattle.homeo_split.specs.States.{state_with}
@@ -41,9 +41,9 @@ returns-clause-database c x =
     let state = c.run.new.state in
     let ran = left_state _ _ _ _ c.in_ok-run.ensures.run in
     without_temporaries _ _ state.named.items state.fresh.items x
-    ∙ (λ i. state_with (c.from_vec.ensures i).items (c.in_ok-deltas.ensures i) state.named.items state.fresh.items (place_of x))
-    ∙ ap (λ s. s (place_of x)) ran
-    ∙ (λ i. (exec (plain_lcommand c.args.c.now) (state_with (base i) (deltas i) (c.new.ensures.items i) (c.new-2.ensures.items i))).state (place_of x))
+    ∙ (λ i. state_with (c.from_vec.ensures i).items (c.in_ok-deltas.ensures i) state.named.items state.fresh.items (location_of x))
+    ∙ ap (λ s. s (location_of x)) ran
+    ∙ (λ i. (exec (plain_lcommand c.args.c.now) (state_with (base i) (deltas i) (c.new.ensures.items i) (c.new-2.ensures.items i))).state (location_of x))
 
 pub returns-clause-shape : goal.returns-clause-shape
 unfolding words

@@ -4,7 +4,7 @@ use Rattle.std.proofs.lemmas.Int.{to_z-of_z}
 use Rattle.std.proofs.lemmas.List.{length-set}
 use Rattle.std.specs.Vec.{with_item}
 use Rattle.homeo_meaning.specs.Key.{words as meaning_words}
-use Rattle.homeo_meaning.specs.LowMeaning.{place_of, put}
+use Rattle.homeo_meaning.specs.LowMeaning.{location_of, put}
 use Rattle.homeo_split.specs.Key.{words}
 use Rattle.homeo_split.specs.States.{state_with}
 use Rattle.homeo_split.specs.inner.States.{plain_state, state_shape}
@@ -45,7 +45,7 @@ returns-in-Whole-clause-set c =
     let has = subst (λ x. has_place (state_shape s) x ≡ true) c.in-Whole.is c.requires in
     ap (λ v. state_with (set s.base.items x v) ds s.named.items s.fresh.items) (to_z-of_z w64 c.args.v c.ranges.v)
     ∙ set_base s.base.items ds s.named.items s.fresh.items x c.args.v (has_base (state_shape s) x has)
-    ∙ ap (λ x. put (plain_state s) (place_of x) c.args.v) (sym c.in-Whole.is)
+    ∙ ap (λ x. put (plain_state s) (location_of x) c.args.v) (sym c.in-Whole.is)
 
 pub returns-in-Base-clause-set : goal.returns-in-Base-clause-set
 unfolding words meaning_words
@@ -56,7 +56,7 @@ returns-in-Base-clause-set c =
     let has = subst (λ x. has_place (state_shape s) x ≡ true) c.in-Base.is c.requires in
     ap (λ v. state_with (set s.base.items x v) ds s.named.items s.fresh.items) (to_z-of_z w64 c.args.v c.ranges.v)
     ∙ set_base s.base.items ds s.named.items s.fresh.items x c.args.v (has_base (state_shape s) x has)
-    ∙ ap (λ x. put (plain_state s) (place_of x) c.args.v) (sym c.in-Base.is)
+    ∙ ap (λ x. put (plain_state s) (location_of x) c.args.v) (sym c.in-Base.is)
 
 pub index_mut-requires-in-Delta : goal.index_mut-requires-in-Delta
 unfolding words
@@ -90,4 +90,4 @@ returns-in-Delta-clause-set c =
     let new = with_item here c.in-Delta.object (to_z w64 (of_z w64 c.args.v)) in
     let has = subst (λ x. has_place (state_shape s) x ≡ true) c.in-Delta.is c.requires in
     set_site (λ d. d.items) s.deltas.items c.in-Delta.object c.in-Delta.site (length s.base.items) has here c.index_mut-in-Delta.ensures.value new c.args.v (ap (set here.items c.in-Delta.object) v) s.base.items s.named.items s.fresh.items
-    ∙ ap (λ x. put (plain_state s) (place_of x) c.args.v) (sym c.in-Delta.is)
+    ∙ ap (λ x. put (plain_state s) (location_of x) c.args.v) (sym c.in-Delta.is)

@@ -1,11 +1,11 @@
--- A transaction's text as the list of its places of names, in the order of the text.
+-- A transaction's text as the list of the occurrences of names in it, in the order of the text.
 use Rattle.std.specs.Prelude.{List, [], ◌∷◌, ◌++◌, map}
 use Rattle.homeo_syntax.specs.declared.phrase.Ident.{Ident}
 use Rattle.homeo_syntax.specs.Source.{FieldValue, Expr, Exprs, Literal, Name, Read, Sum, Product, Neg, Field, Row, Count, Total, NoExpr, MoreExpr, Test, Cond, True, Not, Comparison, NoTest, MoreTest, Command, Commands, Skip, Assign, Write, Print, If, Block, SetField, SetRow, Foreach, Insert, Delete, Update, NoCommand, MoreCommand}
 use Rattle.homeo_meaning.specs.Key.{words}
 use Rattle.homeo_meaning.specs.Bindings as b
 
--- what stands at a place
+-- what a name is there for
 pub data Mark : Type 0 where
   DeclaresRow : (x : Ident) → Mark
   TakesObject : (x : Ident) → Mark
@@ -22,11 +22,11 @@ pub data Mark : Type 0 where
   Assigns : (t : Ident) → Mark
 
 -- with the row variables that hold it, the innermost first
-pub record Place : Type 0 where
+pub record Occurrence : Type 0 where
   pub rows : List b.Row
   pub mark : Mark
 
-abbrev pub at : List b.Row → Mark → Place
+abbrev pub at : List b.Row → Mark → Occurrence
 at rows m = record { rows = rows; mark = m }
 
 -- the row variables in a phrase that one holds
@@ -37,7 +37,7 @@ within r q rows = record { row = r.name; relation = q.name } ∷ rows
 abbrev mutual
   unfolding words
 
-  pub in_expr : List b.Row → Expr → List Place
+  pub in_expr : List b.Row → Expr → List Occurrence
   in_expr rows (Literal n) = []
   in_expr rows (Name x) = at rows (TakesValue x) ∷ []
   in_expr rows (Read x) = at rows (TakesObject x) ∷ []
@@ -49,20 +49,20 @@ abbrev mutual
   in_expr rows (Count r q c) = at rows (DeclaresRow r) ∷ at (within r q rows) (TakesRelation q) ∷ in_cond (within r q rows) c
   in_expr rows (Total r f q c) = at rows (DeclaresRow r) ∷ at (within r q rows) (TakesRelation q) ∷ at (within r q rows) (NamesField q f) ∷ in_cond (within r q rows) c
 
-  pub in_exprs : List b.Row → Exprs → List Place
+  pub in_exprs : List b.Row → Exprs → List Occurrence
   in_exprs rows NoExpr = []
   in_exprs rows (MoreExpr e es) = in_expr rows e ++ in_exprs rows es
 
-  pub in_test : List b.Row → Test → List Place
+  pub in_test : List b.Row → Test → List Occurrence
   in_test rows True = []
   in_test rows (Not c) = in_cond rows c
   in_test rows (Comparison op d e) = in_expr rows d ++ in_expr rows e
 
-  pub in_cond : List b.Row → Cond → List Place
+  pub in_cond : List b.Row → Cond → List Occurrence
   in_cond rows NoTest = []
   in_cond rows (MoreTest t c) = in_test rows t ++ in_cond rows c
 
-abbrev pub in_fields : List b.Row → List FieldValue → List Place
+abbrev pub in_fields : List b.Row → List FieldValue → List Occurrence
 unfolding words
 in_fields rows [] = []
 in_fields rows (f ∷ fs) = in_expr rows f.value ++ in_fields rows fs
@@ -71,7 +71,7 @@ in_fields rows (f ∷ fs) = in_expr rows f.value ++ in_fields rows fs
 abbrev mutual
   unfolding words
 
-  pub in_command : List b.Row → Command → List Place
+  pub in_command : List b.Row → Command → List Occurrence
   in_command rows Skip = []
   in_command rows (Assign t e) = in_expr rows e ++ at rows (Assigns t) ∷ []
   in_command rows (Write x e) = at rows (TakesObject x) ∷ in_expr rows e
@@ -85,6 +85,6 @@ abbrev mutual
   in_command rows (Delete r q t) = at rows (DeclaresRow r) ∷ at rows (TakesRelation q) ∷ in_cond (within r q rows) t
   in_command rows (Update r q t f e) = at rows (DeclaresRow r) ∷ at rows (TakesRelation q) ∷ at rows (NamesField q f) ∷ in_cond (within r q rows) t ++ in_expr (within r q rows) e
 
-  pub in_commands : List b.Row → Commands → List Place
+  pub in_commands : List b.Row → Commands → List Occurrence
   in_commands rows NoCommand = []
   in_commands rows (MoreCommand c cs) = in_command rows c ++ in_commands rows cs
