@@ -19,7 +19,7 @@ use Rattle.homeo_meaning.specs.LowWeights.{first_weights, is_light}
 use Rattle.homeo_meaning.specs.Small.{IsSmall}
 use Rattle.homeo_meaning.specs.Computed.{CanRunAll}
 use Rattle.homeo_eval.specs.inner.CanRun.{can_run_all}
-use Rattle.homeo_meaning.specs.Acceptance.{limit, IsLightBody, IsLightCall}
+use Rattle.homeo_meaning.specs.Acceptance.{limit, IsLightBody}
 use Rattle.homeo_meaning.specs.Calls.{IsGroundCall}
 use Rattle.homeo_meaning.specs.Declarations.{Declarations, declarations, place_from, place_of}
 use Rattle.homeo_eval.specs.inner.States.{run_of}

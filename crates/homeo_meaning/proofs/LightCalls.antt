@@ -6,7 +6,8 @@ use Rattle.std.proofs.lemmas.Option.{slice_get_within, get_or_from_slice_get}
 use Rattle.homeo_syntax.specs.Source as s
 use Rattle.homeo_meaning.specs.declared.call.CallId.{CallId}
 use Rattle.homeo_meaning.specs.Key.{words}
-use Rattle.homeo_meaning.specs.Acceptance.{IsLightBody, IsLightCall}
+use Rattle.homeo_meaning.specs.Acceptance.{IsLightBody}
+use Rattle.homeo_meaning.specs.inner.LightCalls.{IsLightCall}
 use Rattle.homeo_meaning.specs.Calls.{IsGroundCall}
 use Rattle.homeo_meaning.specs.Serial.{numbered, call_of, arguments}
 use Rattle.homeo_meaning.proofs.Sound.{IsSound}

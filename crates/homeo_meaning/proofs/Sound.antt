@@ -7,7 +7,8 @@ use Rattle.homeo_meaning.specs.Schema.{schema_of}
 use Rattle.homeo_meaning.specs.Context.{object_count}
 use Rattle.homeo_meaning.specs.Bounds.{IsWithin}
 use Rattle.homeo_meaning.specs.Initial.{initial}
-use Rattle.homeo_meaning.specs.Acceptance.{IsLightCall, IsAccepted}
+use Rattle.homeo_meaning.specs.Acceptance.{IsAccepted}
+use Rattle.homeo_meaning.specs.inner.LightCalls.{IsLightCall}
 use Rattle.homeo_meaning.proofs.FaultParts.{NoTextFault, NoFault, parts, declared_parts}
 use Rattle.homeo_meaning.proofs.SoundRules.{all-light}
 use Rattle.homeo_meaning.proofs.SoundRelations.{SlotsFit, slots-fit, bounds-fit, objects-fit}

@@ -11,7 +11,8 @@ use Rattle.homeo_meaning.specs.Key.{words}
 use Rattle.homeo_meaning.specs.Schema.{declared_object, schema_of}
 use Rattle.homeo_meaning.specs.Bounds.{bounds_of, AreIn}
 use Rattle.homeo_meaning.specs.Serial.{transaction_named, arguments}
-use Rattle.homeo_meaning.specs.Acceptance.{IsLightBody, IsLightCall}
+use Rattle.homeo_meaning.specs.Acceptance.{IsLightBody}
+use Rattle.homeo_meaning.specs.inner.LightCalls.{IsLightCall}
 use Rattle.homeo_meaning.specs.NameRules.{when, fault}
 use Rattle.homeo_meaning.specs.GlobalNames.{GlobalName, SitedCall, numbered_from, first_named, scope_of, transaction_at, called, sited_calls_of, sited_calls}
 use Rattle.homeo_meaning.specs.NumberRules.{range_faults, outside, object_faults, site_faults, same_ground, ground_calls}

@@ -1,5 +1,5 @@
 -- Which workloads are accepted.
-use Rattle.std.specs.Prelude.{◌≡◌, ◌^◌, ℕ, ℤ, true, List, [], Option, Some}
+use Rattle.std.specs.Prelude.{◌≡◌, ◌^◌, ℕ, ℤ, true, List, [], Option}
 use Rattle.homeo_syntax.specs.Source as s
 use Rattle.homeo_syntax.specs.WellFormed.{IsWellFormed}
 use Rattle.homeo_meaning.specs.declared.call.Purpose.TheVariants.{Run}
@@ -7,7 +7,6 @@ use Rattle.homeo_meaning.specs.Key.{words}
 use Rattle.homeo_meaning.specs.Schema.{schema_of}
 use Rattle.homeo_meaning.specs.LowWeights.{first_weights, is_light}
 use Rattle.homeo_meaning.specs.CallForm.{body_form}
-use Rattle.homeo_meaning.specs.Serial.{transaction_named, arguments}
 use Rattle.homeo_meaning.specs.Faults.{faults}
 
 -- the largest weight of an expression
@@ -19,16 +18,7 @@ abbrev pub IsLightBody : s.Workload → Option s.Transaction → List ℤ → Ty
 unfolding words
 IsLightBody w t args = is_light limit (body_form w t args) (first_weights (schema_of w)) ≡ true
 
-abbrev pub IsLightCall : s.Workload → s.Call → Type 0
-unfolding words
-IsLightCall w c = IsLightBody w (transaction_named w c.name.name) (arguments c)
-
 -- well formed, and without a fault when it is read to be run
 pub record IsAccepted (w : s.Workload) : Type 0 where
   pub well_formed : IsWellFormed w
   pub rules : faults Run w ≡ []
-
--- some transaction has the name
-pub record NamesTransaction (w : s.Workload) (n : ℕ) : Type 0 where
-  pub transaction : s.Transaction
-  pub named : transaction_named w n ≡ Some transaction

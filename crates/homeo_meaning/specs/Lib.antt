@@ -31,3 +31,4 @@ pub mod Small
 pub mod TransactionRules
 pub mod Verdict
 pub mod Whole
+pub mod inner
