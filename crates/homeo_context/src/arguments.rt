@@ -35,17 +35,27 @@ pub fn bind(
     Ok(bound)
 }
 
+/// The argument of the parameter of a name, if there is one.
+pub fn argument_of(arguments: &[Argument], name: u32) -> Option<i64>
+    ensures { result ≡ arguments_of (map (λ a. a.name) arguments.now) (map (λ a. a.value) arguments.now) name }
+{
+    for argument in arguments {
+        if argument.name == name {
+            return Some(argument.value);
+        }
+    }
+    None
+}
+
 /// The argument of the parameter of a name, or the other value where no parameter has the name.
 pub fn argument_or(arguments: &[Argument], name: u32, other: i64) -> i64
     ensures { result ≡ argument_or (arguments_of (map (λ a. a.name) arguments.now)
         (map (λ a. a.value) arguments.now) name) other }
 {
-    for argument in arguments {
-        if argument.name == name {
-            return argument.value;
-        }
+    match argument_of(arguments, name) {
+        Some(value) => value,
+        None => other,
     }
-    other
 }
 
 /// The values of a call's arguments.
