@@ -1,4 +1,3 @@
-pub mod Found
 pub mod Key
 pub mod Made
 pub mod Settings

@@ -7,8 +7,7 @@ ghost use Rattle.homeo_desugar.specs.Settings.{plain_spot, plain_slot, plain_slo
 ghost use Rattle.homeo_desugar.specs.Made.{plain_target, AreWithin, filled};
 
 use crate::making::{Target, choice, equal, fresh, one_test, push_within, read};
-use crate::objects::Spot;
-use crate::slots::{Slot, Slots};
+use crate::slots::{Slot, Slots, Spot};
 use homeo_syntax::{LCommand, LCond, LExpr, List, Memory, SplitName, Temp};
 use std::alloc::Global;
 

@@ -15,8 +15,7 @@ use crate::chains::{all_within, fill_chain, write_chain};
 use crate::frame::Frame;
 use crate::lifting::{lift, lift_cond, lift_visit};
 use crate::making::{Making, Target, choice, guarded, literal_of, within};
-use crate::objects::Spot;
-use crate::slots::{Slot, Slots, field};
+use crate::slots::{Slot, Slots, Spot, field};
 use homeo_syntax::{
     Command, Cond, Expr, FieldValue, Ident, LCommand, LExpr, List, Memory, RangeDecl, SplitName,
     Temp,

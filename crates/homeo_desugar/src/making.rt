@@ -7,7 +7,7 @@ ghost use Rattle.homeo_meaning.specs.LForm.{both, one, in_front, read, fresh, li
 ghost use Rattle.homeo_desugar.specs.Settings.{plain_spot};
 ghost use Rattle.homeo_desugar.specs.Made.{made, both_tests};
 
-use crate::objects::Spot;
+use crate::slots::Spot;
 use homeo_syntax::{Compare, LCommand, LCond, LExpr, LTest, List, Memory, SplitName, Temp};
 use std::alloc::Global;
 

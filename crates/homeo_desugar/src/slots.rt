@@ -5,8 +5,15 @@ ghost use Rattle.homeo_meaning.specs.Schema.{declared_range};
 ghost use Rattle.homeo_meaning.specs.Context.{spot, cell, field_cell, slot_at};
 ghost use Rattle.homeo_desugar.specs.Settings.{plain_spot, plain_slot, plain_slots, slot_of, SlotsFit, rows_of};
 
-use crate::objects::Spot;
 use homeo_syntax::RangeDecl;
+
+/// Where a declaration is in its list, and its bounds.
+#[derive(Clone, Copy)]
+pub(crate) struct Spot {
+    pub(crate) place: u32,
+    pub(crate) lo: i64,
+    pub(crate) hi: i64,
+}
 
 /// A slot: its number, the object that says whether it is used, and the fields, whose objects follow that one.
 #[derive(Clone, Copy)]
