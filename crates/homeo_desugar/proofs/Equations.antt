@@ -9,9 +9,9 @@ use Rattle.homeo_syntax.specs.declared.low.SplitName.TheVariants as split
 use Rattle.homeo_meaning.specs.Key.{words}
 use Rattle.homeo_meaning.specs.Context.{Spot, arguments_of}
 use Rattle.homeo_meaning.specs.LForm.{name_of, one_test, within, guarded}
-use Rattle.homeo_desugar.specs.Key.{words as desugar_words}
-use Rattle.homeo_desugar.specs.Made.{made}
-use Rattle.homeo_desugar.specs.Settings.{plain_spot, setting}
+use Rattle.homeo_desugar.specs.inner.Key.{words as desugar_words}
+use Rattle.homeo_desugar.specs.inner.Made.{made}
+use Rattle.homeo_desugar.specs.inner.Settings.{plain_spot, setting}
 use Rattle.homeo_desugar.specs.declared.frame.Frame.{Frame}
 use Rattle.homeo_desugar.specs.declared.making.Making.{Making}
 use Rattle.homeo_desugar.specs.declared.slots.Spot as code

@@ -25,10 +25,10 @@ use Rattle.homeo_meaning.specs.declared.call.Purpose.TheVariants.{Run}
 use Rattle.homeo_meaning.proofs.FaultParts.{parts}
 use Rattle.homeo_meaning.proofs.SoundRelations.{SlotsFit, slots-fit, objects-fit}
 use Rattle.homeo_meaning.proofs.SoundRules.{all_head, all_tail}
-use Rattle.homeo_desugar.specs.Key.{words as desugar_words}
+use Rattle.homeo_desugar.specs.inner.Key.{words as desugar_words}
 use Rattle.homeo_meaning.specs.CallForm.{body_form, ground_form}
-use Rattle.homeo_desugar.specs.Made.{AreFormed}
-use Rattle.homeo_desugar.specs.Settings.{absent, SchemaFits}
+use Rattle.homeo_desugar.specs.inner.Made.{AreFormed}
+use Rattle.homeo_desugar.specs.inner.Settings.{absent, SchemaFits}
 use Rattle.homeo_desugar.proofs.Objects.{count_least}
 
 -- ---- a transaction by its number

@@ -3,7 +3,7 @@ use Rattle.std.proofs.Common.{◌≡◌, ℕ, suc, ◌+◌, ◌*◌, ◌^◌, �
 use Rattle.homeo_meaning.specs.Key.{words}
 use Rattle.homeo_meaning.specs.Schema.{Declared, Relation, Schema}
 use Rattle.homeo_meaning.specs.Context.{spot, spot_from, object_count}
-use Rattle.homeo_desugar.specs.Settings.{SchemaFits}
+use Rattle.homeo_desugar.specs.inner.Settings.{SchemaFits}
 
 -- there are no fewer objects than stand before a relation
 pub count_least : (k : ℕ) (rs : List Relation) → k ≤ object_count k rs

@@ -1,4 +1,1 @@
-pub mod Key
-pub mod Made
-pub mod Settings
-pub mod Visits
+pub mod inner

@@ -10,7 +10,7 @@ ghost use Rattle.homeo_meaning.specs.Ground.{plain_ground};
 ghost use Rattle.homeo_meaning.specs.LForm.{forms, l_form};
 ghost use Rattle.homeo_meaning.specs.SameRun.{MeansCall};
 ghost use Rattle.homeo_context.specs.Contexts.{call_context};
-ghost use Rattle.homeo_desugar.specs.Settings.{SchemaFits};
+ghost use Rattle.homeo_desugar.specs.inner.Settings.{SchemaFits};
 
 use crate::forming::form_all;
 use crate::frame::Frame;

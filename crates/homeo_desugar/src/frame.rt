@@ -5,7 +5,7 @@ ghost use Rattle.homeo_syntax.specs.LowView.{plain_lexpr};
 ghost use Rattle.homeo_meaning.specs.Schema.{declared_range};
 ghost use Rattle.homeo_meaning.specs.Context.{object, slots, fields, bind};
 ghost use Rattle.homeo_meaning.specs.LForm.{name_of};
-ghost use Rattle.homeo_desugar.specs.Settings.{plain_spot, plain_slot, plain_slots, SlotsFit, setting, Fits};
+ghost use Rattle.homeo_desugar.specs.inner.Settings.{plain_spot, plain_slot, plain_slots, SlotsFit, setting, Fits};
 
 use crate::slots::{Rows, Slot, Slots, Spot, row};
 use homeo_context::{Argument, Declarations, argument_of};

@@ -3,7 +3,7 @@
 ghost use Rattle.std.specs.Prelude.{◌≡◌, ◌+◌, ◌<◌, ◌≤◌, ◌^◌, map, length, option_map};
 ghost use Rattle.homeo_meaning.specs.Schema.{declared_range};
 ghost use Rattle.homeo_meaning.specs.Context.{spot, cell, field_cell, slot_at};
-ghost use Rattle.homeo_desugar.specs.Settings.{plain_spot, plain_slot, plain_slots, slot_of, SlotsFit, rows_of};
+ghost use Rattle.homeo_desugar.specs.inner.Settings.{plain_spot, plain_slot, plain_slots, slot_of, SlotsFit, rows_of};
 
 use homeo_syntax::RangeDecl;
 

@@ -4,7 +4,7 @@ use Rattle.homeo_syntax.specs.LowView.{low_commands, plain_lcommand}
 use Rattle.homeo_syntax.specs.SourceView.{commands, plain_command}
 use Rattle.homeo_syntax.proofs.LowViews.{low_Seq}
 use Rattle.homeo_meaning.specs.Key.{words as meaning_words}
-use Rattle.homeo_desugar.specs.Key.{words}
+use Rattle.homeo_desugar.specs.inner.Key.{words}
 use Rattle.homeo_desugar.proofs.Looking.{body_formed}
 use Rattle.homeo_desugar.proofs.call.form_body.Goals as goal
 

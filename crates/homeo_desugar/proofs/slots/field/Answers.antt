@@ -3,7 +3,7 @@ use Rattle.std.proofs.Common.{SFits, w64, pos, get_or, rules, refl, ◌∙◌}
 use Rattle.std.proofs.lemmas.Int.{to_z-of_z}
 use Rattle.homeo_syntax.specs.declared.workload.RangeDecl.{RangeDecl}
 use Rattle.homeo_meaning.specs.Key.{words as meaning_words}
-use Rattle.homeo_desugar.specs.Key.{words}
+use Rattle.homeo_desugar.specs.inner.Key.{words}
 use Rattle.homeo_desugar.proofs.FieldNames.{field_found, field_passed, field_none}
 use Rattle.homeo_desugar.proofs.slots.field.Goals as goal
 

@@ -2,7 +2,7 @@
 use Rattle.std.proofs.Common.{rules, arith}
 use Rattle.homeo_meaning.specs.Key.{words as meaning_words}
 use Rattle.homeo_meaning.proofs.Numbers.{kept_is}
-use Rattle.homeo_desugar.specs.Key.{words}
+use Rattle.homeo_desugar.specs.inner.Key.{words}
 use Rattle.homeo_desugar.proofs.Objects.{place_fits}
 use Rattle.homeo_desugar.proofs.frame.Frame.object.Goals as goal
 

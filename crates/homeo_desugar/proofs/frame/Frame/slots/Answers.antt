@@ -3,7 +3,7 @@ use Rattle.std.proofs.Common.{◌≡◌, ◌<◌, ◌^◌, map, length, sym, ap,
 use Rattle.std.proofs.lemmas.List.{length-map}
 use Rattle.homeo_meaning.specs.Key.{words as meaning_words}
 use Rattle.homeo_meaning.specs.Schema.{declared_range}
-use Rattle.homeo_desugar.specs.Key.{words}
+use Rattle.homeo_desugar.specs.inner.Key.{words}
 use Rattle.homeo_desugar.proofs.Objects.{first_fits, count_fits}
 use Rattle.homeo_desugar.proofs.frame.Frame.slots.Goals as goal
 

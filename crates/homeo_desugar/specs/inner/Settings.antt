@@ -2,7 +2,7 @@
 use Rattle.std.specs.Prelude.{ℕ, ◌+◌, ◌*◌, ◌^◌, ◌<◌, ◌==◌, cond, List, [], map, length}
 use Rattle.homeo_meaning.specs.Schema.{Schema, declared_range}
 use Rattle.homeo_meaning.specs.Context.{Spot, Slot, Context, slots_from, find_fields, object_count, arguments_of}
-use Rattle.homeo_desugar.specs.Key.{words}
+use Rattle.homeo_desugar.specs.inner.Key.{words}
 use Rattle.homeo_desugar.specs.declared.frame.Frame.{Frame}
 use Rattle.homeo_desugar.specs.declared.slots.Spot as declared
 use Rattle.homeo_desugar.specs.declared.slots.Slot as one
