@@ -1,5 +1,4 @@
 pub mod Equations
-pub mod FieldNames
 pub mod Forms
 pub mod Looking
 pub mod Makings

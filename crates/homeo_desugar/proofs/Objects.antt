@@ -1,7 +1,9 @@
 -- How many objects there are.
-use Rattle.std.proofs.Common.{◌≡◌, ℕ, suc, ◌+◌, ◌*◌, ◌^◌, ◌<◌, ◌≤◌, ◌==◌, cond, Bool, true, false, List, [], ◌∷◌, length, arith}
+use Rattle.std.proofs.Common.{◌≡◌, ℕ, suc, ◌+◌, ◌*◌, ◌^◌, ◌<◌, ◌≤◌, ◌==◌, cond, Bool, true, false, List, [], ◌∷◌, map, length, arith}
+use Rattle.std.proofs.lemmas.List.{length-map}
+use Rattle.homeo_syntax.specs.declared.workload.RangeDecl.{RangeDecl}
 use Rattle.homeo_meaning.specs.Key.{words}
-use Rattle.homeo_meaning.specs.Schema.{Declared, Relation, Schema}
+use Rattle.homeo_meaning.specs.Schema.{Declared, Relation, Schema, declared_range}
 use Rattle.homeo_meaning.specs.Context.{spot, spot_from, object_count}
 use Rattle.homeo_desugar.specs.inner.Settings.{SchemaFits}
 
@@ -23,10 +25,19 @@ spot_least k (d ∷ ds) n = by_name (d.name == n) (spot_least (suc k) ds n)
     by_name true h = omega arith
     by_name false h = omega arith
 
-pub place_fits : (x : Schema) (n place : ℕ) → SchemaFits x → place ≡ (spot x.objects n).place → place < 2 ^ 32
+place_within : (ds : List Declared) (n : ℕ) → (spot ds n).place ≤ length ds
 unfolding words
+place_within ds n = let h = spot_least 0 ds n in omega arith
+
+pub field_within : (ds : List RangeDecl) (n place : ℕ) → place ≡ (spot (map declared_range ds) n).place → place ≤ length ds
+field_within ds n place e =
+    let h = place_within (map declared_range ds) n in
+    let same : length (map declared_range ds) ≡ length ds = length-map ds declared_range in
+    omega arith
+
+pub place_fits : (x : Schema) (n place : ℕ) → SchemaFits x → place ≡ (spot x.objects n).place → place < 2 ^ 32
 place_fits x n place fits e =
-    let h = spot_least 0 x.objects n in
+    let h = place_within x.objects n in
     let least = count_least (length x.objects) x.relations in
     let few = fits.objects in
     omega arith
