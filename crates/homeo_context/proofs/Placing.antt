@@ -16,7 +16,6 @@ use Rattle.homeo_meaning.proofs.SoundRelations.{SlotsFit}
 use Rattle.homeo_meaning.proofs.SoundRules.{all_none, all_more, all_head, all_tail}
 use Rattle.homeo_meaning.proofs.TakenItems.{take_next, map_twice}
 
-
 -- ---- slots as the code counts them
 size_is : (v : ℤ) → 1 ≤ nat_of v → unsigned_abs v ≡ nat_of v
 size_is (pos n) h = refl

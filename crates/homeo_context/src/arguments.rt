@@ -15,11 +15,7 @@ pub struct Argument {
 }
 
 /// Gives each parameter its argument, as far as there are both.
-pub fn bind(
-    alloc: Global,
-    params: &[RangeDecl],
-    values: &[i64],
-) -> Result<Vec<Argument>, Memory>
+pub fn bind(alloc: Global, params: &[RangeDecl], values: &[i64]) -> Result<Vec<Argument>, Memory>
     ensures { IfOk result (λ bound.
         arguments_of (map (λ a. a.name) bound.items) (map (λ a. a.value) bound.items) ≡
         arguments_of (map (λ p. p.name.name) params.now) values.now) }

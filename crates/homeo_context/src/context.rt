@@ -9,8 +9,8 @@ ghost use Rattle.homeo_context.specs.Contexts.{rows_of, plain_context};
 
 use crate::arguments::{Argument, argument_or};
 use crate::declarations::Declarations;
-use crate::spot::Spot;
 use crate::slots::{Slot, Slots};
+use crate::spot::Spot;
 use std::alloc::Global;
 
 /// The rows in force, the innermost first.

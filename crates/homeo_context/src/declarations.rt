@@ -8,10 +8,10 @@ ghost use Rattle.homeo_meaning.specs.Context.{spot, find_slots, find_fields, obj
 ghost use Rattle.homeo_context.specs.inner.Placed.{placed_relation, StandFrom, HasSlots};
 ghost use Rattle.homeo_context.specs.Slots.{plain_spot, slots_of, IsCounted, IsNumbered};
 
+use crate::slots::Slots;
+use crate::spot::Spot;
 use homeo_meaning::Accepted;
 use homeo_meaning::padded::{item_or, put};
-use crate::spot::Spot;
-use crate::slots::Slots;
 use homeo_syntax::{Memory, ObjectDecl, RangeDecl, RelationDecl, Transaction};
 use std::alloc::Global;
 use std::marker::Model;

@@ -1,25 +1,24 @@
 -- The L form of what is called.
-use Rattle.std.proofs.Common.{◌≡◌, ℕ, zero, suc, ◌+◌, ◌*◌, ◌<◌, ◌≤◌, ◌==◌, Bool, true, false, cond, All, ℤ, Option, Some, List, [], ◌∷◌, map, length, refl, sym, ap, ◌∙◌, subst, arith}
-use Rattle.std.specs.Prelude.{slice_get, option_map, IsSome}
+use Rattle.std.proofs.Common.{◌≡◌, ℕ, zero, suc, ◌+◌, ◌*◌, ◌<◌, ◌≤◌, ◌==◌, Bool, true, false, cond, All, ℤ, Some, List, [], ◌∷◌, map, length, sym, ap, ◌∙◌, subst, arith}
+use Rattle.std.specs.Prelude.{slice_get, IsSome}
 use Rattle.std.proofs.lemmas.Bool.{false≢true}
 use Rattle.homeo_syntax.specs.Key.{words as tree_words}
 use Rattle.homeo_syntax.specs.Source as s
 use Rattle.homeo_syntax.specs.Low as L
-use Rattle.homeo_syntax.specs.SourceView.{commands, plain_command, plain_relation, plain_transaction, plain_workload}
+use Rattle.homeo_syntax.specs.SourceView.{commands, plain_command, plain_transaction, plain_workload}
 use Rattle.homeo_syntax.specs.declared.command.Command.{Command}
 use Rattle.homeo_syntax.specs.declared.workload.RangeDecl.{RangeDecl}
-use Rattle.homeo_syntax.specs.declared.workload.RelationDecl.{RelationDecl}
 use Rattle.homeo_syntax.specs.declared.workload.Transaction.{Transaction}
 use Rattle.homeo_syntax.specs.declared.workload.Workload.{Workload}
 use Rattle.homeo_meaning.specs.Key.{words}
 use Rattle.homeo_meaning.specs.Acceptance.{IsAccepted}
-use Rattle.homeo_meaning.specs.Context.{Slot, context, arguments_of, object_count, find_fields}
+use Rattle.homeo_meaning.specs.Context.{context, arguments_of, object_count, find_fields}
 use Rattle.homeo_meaning.specs.Declarations.{Declarations}
 use Rattle.homeo_meaning.specs.Ground.{Ground}
 use Rattle.homeo_context.specs.Contexts.{call_context}
 use Rattle.homeo_context.specs.declared.arguments.Argument.{Argument}
 use Rattle.homeo_meaning.specs.LForm.{forms, l_form}
-use Rattle.homeo_meaning.specs.Schema.{Declared, Relation, Schema, declared_object, declared_relation, schema_of}
+use Rattle.homeo_meaning.specs.Schema.{Relation, Schema, schema_of}
 use Rattle.homeo_meaning.specs.NumberRules.{limit_faults}
 use Rattle.homeo_meaning.specs.declared.call.Purpose.TheVariants.{Run}
 use Rattle.homeo_meaning.proofs.FaultParts.{parts}

@@ -1,4 +1,4 @@
-use Rattle.std.proofs.Common.{pos, get_or, Some, ap, refl, ◌∙◌, rules}
+use Rattle.std.proofs.Common.{pos, Some, ap, refl, ◌∙◌, rules}
 use Rattle.homeo_meaning.proofs.Numbers.{kept_is}
 use Rattle.homeo_context.specs.declared.arguments.Argument.{Argument}
 use Rattle.homeo_context.proofs.Given.{found, passed, not_given}

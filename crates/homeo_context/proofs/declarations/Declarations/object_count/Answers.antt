@@ -1,4 +1,4 @@
-use Rattle.std.proofs.Common.{length, map, refl, sym, ap, subst, ◌∙◌, arith, rules}
+use Rattle.std.proofs.Common.{length, map, sym, ap, subst, ◌∙◌, rules}
 use Rattle.std.proofs.Common.{◌≡◌}
 use Rattle.std.proofs.lemmas.List.{length-map}
 use Rattle.homeo_meaning.specs.Context.{object_count}
