@@ -7,7 +7,6 @@ use Rattle.homeo_syntax.specs.declared.workload.RangeDecl.{RangeDecl}
 use Rattle.homeo_context.specs.declared.arguments.Argument.{Argument}
 use Rattle.homeo_meaning.specs.Key.{words}
 use Rattle.homeo_meaning.specs.Context.{arguments_of}
-use Rattle.homeo_meaning.specs.Meaning.{argument_or}
 
 -- ---- as many as there are of both
 taken_none : (vs : List ℤ) (i n : ℕ) → arguments_of (take i []) (take i vs) n ≡ None
@@ -41,20 +40,17 @@ next given i n none h =
     let front : drop i given ≡ get_or given i none ∷ drop (i + 1) given = rw add-one (drop-cons given i none h) in
     ap (λ l. given_to l n) front
 
-pub found : (given : List Argument) (i n : ℕ) (none : Argument) (other : ℤ) → i < length given → (get_or given i none).name ≡ n → given_to (drop i given) n ≡ given_to given n → (get_or given i none).value ≡ argument_or (given_to given n) other
+pub found : (given : List Argument) (i n : ℕ) (none : Argument) → i < length given → (get_or given i none).name ≡ n → given_to (drop i given) n ≡ given_to given n → Some (get_or given i none).value ≡ given_to given n
 unfolding words
-found given i n none other h same left =
+found given i n none h same left =
     let e : ((get_or given i none).name == n) ≡ true = grind (arith, nat_tests) in
-    let is : given_to given n ≡ Some (get_or given i none).value = sym left ∙ next given i n none h ∙ ap (λ b. cond b (Some (get_or given i none).value) (given_to (drop (i + 1) given) n)) e in
-    sym (ap (λ o. argument_or o other) is)
+    sym (next given i n none h ∙ ap (λ b. cond b (Some (get_or given i none).value) (given_to (drop (i + 1) given) n)) e) ∙ left
 
 pub passed : (given : List Argument) (i n : ℕ) (none : Argument) → i < length given → ((get_or given i none).name ≡ n → ⊥) → given_to (drop i given) n ≡ given_to given n → given_to (drop (i + 1) given) n ≡ given_to given n
 passed given i n none h other left =
     let e : ((get_or given i none).name == n) ≡ false = grind (arith, nat_tests) in
     sym (next given i n none h ∙ ap (λ b. cond b (Some (get_or given i none).value) (given_to (drop (i + 1) given) n)) e) ∙ left
 
-pub not_given : (given : List Argument) (i n : ℕ) (other : ℤ) → length given ≤ i → given_to (drop i given) n ≡ given_to given n → other ≡ argument_or (given_to given n) other
+pub not_given : (given : List Argument) (i n : ℕ) → length given ≤ i → given_to (drop i given) n ≡ given_to given n → None ≡ given_to given n
 unfolding words
-not_given given i n other h left =
-    let is : given_to given n ≡ None = sym left ∙ ap (λ l. given_to l n) (drop_of_length-le given h) in
-    sym (ap (λ o. argument_or o other) is)
+not_given given i n h left = sym (ap (λ l. given_to l n) (drop_of_length-le given h)) ∙ left

@@ -1,7 +1,8 @@
 -- Relations placed one after another.
-use Rattle.std.proofs.Common.{◌≡◌, ℕ, ◌+◌, ◌*◌, ◌<◌, ◌≤◌, ◌^◌, ℤ, pos, negsuc, List, [], ◌∷◌, ◌++◌, map, take, drop, get_or, length, All, SFits, w64, to_z, of_z, refl, sym, ap, ◌∙◌, subst, arith}
+use Rattle.std.proofs.Common.{◌≡◌, ℕ, ◌+◌, ◌*◌, ◌<◌, ◌≤◌, ◌^◌, ℤ, pos, negsuc, List, [], ◌∷◌, ◌++◌, map, take, drop, get_or, length, All, SFits, w64, to_z, of_z, refl, sym, ap, ◌∙◌, subst, arith, add-one, drop_of_length-le}
 use Rattle.std.specs.Int.RustNames.{unsigned_abs}
 use Rattle.std.proofs.lemmas.Int.{to_z-of_z}
+use Rattle.std.proofs.Math.Seq.{drop-cons}
 use Rattle.std.proofs.lemmas.List.{length-map, map-append, take-append-drop}
 use Rattle.homeo_syntax.specs.Key.{words as tree_words}
 use Rattle.homeo_syntax.specs.SourceView.{plain_relation}
@@ -67,9 +68,9 @@ next_few first rs i r ps next h p placed at few =
 behind_is : (k : ℕ) (p : Placed) → k + p.slots * (1 + length (map declared_range p.fields.items)) ≡ k + p.slots * (1 + length p.fields.items)
 behind_is k p = ap (λ n. k + p.slots * (1 + n)) (length-map p.fields.items declared_range)
 
-stand_more : (k : ℕ) (ps : List Placed) (p : Placed) → StandFrom k ps → p.first ≡ object_count k (map placed_relation ps) → p.first + p.slots * (1 + length p.fields.items) < 2 ^ 63 → StandFrom k (ps ++ p ∷ [])
+stand_more : (k : ℕ) (ps : List Placed) (p : Placed) → StandFrom k ps → p.first ≡ object_count k (map placed_relation ps) → p.first + p.slots * (1 + length p.fields.items) < 2 ^ 32 → StandFrom k (ps ++ p ∷ [])
 unfolding words
-stand_more k [] p h at small = (at, subst (λ m. m + p.slots * (1 + length p.fields.items) < 2 ^ 63) at small, tt)
+stand_more k [] p h at small = (at, subst (λ m. m + p.slots * (1 + length p.fields.items) < 2 ^ 32) at small, tt)
 stand_more k (q ∷ ps) p h at small =
     (h.0, h.1, stand_more (k + q.slots * (1 + length q.fields.items)) ps p h.2 (at ∙ ap (λ m. object_count m (map placed_relation ps)) (behind_is k q)) small)
 
@@ -91,3 +92,29 @@ place_step first rs i r ps next p after items h e placed stand at few added name
       stand = subst (StandFrom first) (sym added) (stand_more first ps p stand (start ∙ at) (omega arith));
       at = behind ∙ (λ j. at j + sym own j) ∙ sym (count_more first (map placed_relation ps) (placed_relation p)) ∙ ap (object_count first) (sym now);
     }
+
+-- ---- the objects counted along the relations
+abbrev pub behind : ℕ → Placed → ℕ → ℕ
+behind k p fields = k + p.slots * (1 + fields)
+
+next_is : (ps : List Placed) (i : ℕ) (p : Placed) → i < length ps → p ≡ get_or ps i p → drop i ps ≡ p ∷ drop (i + 1) ps
+next_is ps i p h e =
+    let front : drop i ps ≡ get_or ps i p ∷ drop (i + 1) ps = rw add-one (drop-cons ps i p h) in
+    front ∙ ap (λ q. q ∷ drop (i + 1) ps) (sym e)
+
+pub stand_next : (ps : List Placed) (i k fields : ℕ) (p : Placed) → i < length ps → p ≡ get_or ps i p → fields ≡ length p.fields.items → StandFrom k (drop i ps) → (behind k p fields < 2 ^ 32) × StandFrom (behind k p fields) (drop (i + 1) ps)
+unfolding words
+stand_next ps i k fields p h e f stand =
+    let here : StandFrom k (p ∷ drop (i + 1) ps) = subst (StandFrom k) (next_is ps i p h e) stand in
+    subst (λ n. (behind k p n < 2 ^ 32) × StandFrom (behind k p n) (drop (i + 1) ps)) (sym f) (here.1, here.2)
+
+pub count_next : (ps : List Placed) (i k fields whole : ℕ) (p : Placed) → i < length ps → p ≡ get_or ps i p → fields ≡ length p.fields.items → object_count k (map placed_relation (drop i ps)) ≡ whole → object_count (behind k p fields) (map placed_relation (drop (i + 1) ps)) ≡ whole
+unfolding words
+count_next ps i k fields whole p h e f left =
+    ap (λ n. object_count n (map placed_relation (drop (i + 1) ps))) (ap (behind k p) f ∙ sym (behind_is k p))
+    ∙ sym (ap (λ l. object_count k (map placed_relation l)) (next_is ps i p h e))
+    ∙ left
+
+pub counted_all : (ps : List Placed) (i k whole : ℕ) → length ps ≤ i → object_count k (map placed_relation (drop i ps)) ≡ whole → k ≡ whole
+unfolding words
+counted_all ps i k whole h left = sym (ap (λ l. object_count k (map placed_relation l)) (drop_of_length-le ps h)) ∙ left

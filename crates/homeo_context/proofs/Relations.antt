@@ -13,7 +13,7 @@ use Rattle.homeo_context.specs.inner.Placed.{placed_relation, StandFrom}
 pub record Found (k : ℕ) (rs : List Placed) (n : ℕ) (r : Placed) : Type 0 where
   pub slots : find_slots k (map placed_relation rs) n ≡ slots_from 0 r.first (map declared_range r.fields.items) r.slots
   pub fields : find_fields (map placed_relation rs) n ≡ map declared_range r.fields.items
-  pub counted : r.first + r.slots * (1 + length r.fields.items) < 2 ^ 63
+  pub counted : r.first + r.slots * (1 + length r.fields.items) < 2 ^ 32
 
 pub record Nothing (k : ℕ) (rs : List Placed) (n : ℕ) : Type 0 where
   pub slots : find_slots k (map placed_relation rs) n ≡ []
@@ -56,7 +56,7 @@ found k j n i (q ∷ rs) r stand at h p = by_case (λ i. found (behind k q) (suc
         let here : Found k (q ∷ rs) n q = record {
           slots = ap (λ b. cond b (slots_from 0 k (map declared_range q.fields.items) q.slots) (find_slots (k + q.slots * (1 + length (map declared_range q.fields.items))) (map placed_relation rs) n)) e ∙ ap (λ m. slots_from 0 m (map declared_range q.fields.items) q.slots) (sym first);
           fields = ap (λ b. cond b (map declared_range q.fields.items) (find_fields (map placed_relation rs) n)) e;
-          counted = subst (λ m. m + q.slots * (1 + length q.fields.items) < 2 ^ 63) (sym first) stand.1;
+          counted = subst (λ m. m + q.slots * (1 + length q.fields.items) < 2 ^ 32) (sym first) stand.1;
         } in
         subst (Found k (q ∷ rs) n) is here
     by_case more true e (suc i) at h p = absurd (omega arith)

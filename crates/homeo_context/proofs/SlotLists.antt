@@ -1,14 +1,13 @@
 -- The slots of a relation that are left in a loop over them.
-use Rattle.std.proofs.Common.{◌≡◌, ℕ, zero, suc, ◌+◌, ◌*◌, ◌-◌, ◌<◌, ◌≤◌, Bool, true, false, cond, ◌&&◌, ℤ, pos, ◌+ℤ◌, ◌<ℤ◌, List, [], ◌∷◌, ◌++◌, map, length, Some, None, refl, sym, ap, ◌∙◌, subst, append_assoc, append-nil, arith}
+use Rattle.std.proofs.Common.{◌≡◌, ℕ, zero, suc, ◌+◌, ◌*◌, ◌-◌, ◌<◌, ◌≤◌, Bool, true, false, cond, ℤ, pos, ◌<ℤ◌, List, [], ◌∷◌, map, length, Some, None, refl, sym, ap, ◌∙◌, arith}
 use Rattle.std.specs.Ordering.{int_eq}
 use Rattle.std.proofs.lemmas.Int.{ints}
-use Rattle.std.proofs.lemmas.Bool.{and_parts}
 use Rattle.std.proofs.lemmas.List.{length-map}
 use Rattle.homeo_context.specs.declared.slots.Slot as code
 use Rattle.homeo_context.specs.declared.slots.Slots.{Slots}
 use Rattle.homeo_meaning.specs.Key.{words}
 use Rattle.homeo_meaning.specs.Schema.{Declared, declared_range}
-use Rattle.homeo_meaning.specs.Context.{Slot, spot, field_cell, slots_from, first_where, slot_at}
+use Rattle.homeo_meaning.specs.Context.{Slot, slots_from, first_where, slot_at}
 use Rattle.homeo_context.specs.Slots.{plain_slot, slots_of}
 
 -- the slot of a number

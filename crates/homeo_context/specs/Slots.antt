@@ -24,3 +24,8 @@ slots_of t = slots_from 0 t.first (map declared_range t.fields.now) t.count
 abbrev pub IsCounted : Slots → Type 0
 unfolding words
 IsCounted t = t.first + t.count * (1 + length t.fields.now) < 2 ^ 63
+
+-- the numbers of its objects are those of an L form, of 32 bits
+abbrev pub IsNumbered : Slots → Type 0
+unfolding words
+IsNumbered t = t.first + t.count * (1 + length t.fields.now) < 2 ^ 32

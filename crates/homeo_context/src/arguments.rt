@@ -15,11 +15,7 @@ pub struct Argument {
 }
 
 /// Gives each parameter its argument, as far as there are both.
-pub fn bind(
-    alloc: Global,
-    params: &[RangeDecl],
-    values: &[i64],
-) -> Result<Vec<Argument>, Memory>
+pub fn bind(alloc: Global, params: &[RangeDecl], values: &[i64]) -> Result<Vec<Argument>, Memory>
     ensures { IfOk result (λ bound.
         arguments_of (map (λ a. a.name) bound.items) (map (λ a. a.value) bound.items) ≡
         arguments_of (map (λ p. p.name.name) params.now) values.now) }
@@ -35,17 +31,27 @@ pub fn bind(
     Ok(bound)
 }
 
+/// The argument of the parameter of a name, if there is one.
+pub fn argument_of(arguments: &[Argument], name: u32) -> Option<i64>
+    ensures { result ≡ arguments_of (map (λ a. a.name) arguments.now) (map (λ a. a.value) arguments.now) name }
+{
+    for argument in arguments {
+        if argument.name == name {
+            return Some(argument.value);
+        }
+    }
+    None
+}
+
 /// The argument of the parameter of a name, or the other value where no parameter has the name.
 pub fn argument_or(arguments: &[Argument], name: u32, other: i64) -> i64
     ensures { result ≡ argument_or (arguments_of (map (λ a. a.name) arguments.now)
         (map (λ a. a.value) arguments.now) name) other }
 {
-    for argument in arguments {
-        if argument.name == name {
-            return argument.value;
-        }
+    match argument_of(arguments, name) {
+        Some(value) => value,
+        None => other,
     }
-    other
 }
 
 /// The values of a call's arguments.

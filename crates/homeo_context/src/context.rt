@@ -4,13 +4,13 @@ ghost use Rattle.std.specs.Prelude.{◌≡◌, map};
 ghost use Rattle.homeo_meaning.specs.Schema.{declared_range};
 ghost use Rattle.homeo_meaning.specs.Context.{object, slots, fields};
 ghost use Rattle.homeo_meaning.specs.Meaning.{argument_or};
-ghost use Rattle.homeo_context.specs.Slots.{plain_slot, plain_spot, slots_of, IsCounted};
+ghost use Rattle.homeo_context.specs.Slots.{plain_slot, plain_spot, slots_of, IsCounted, IsNumbered};
 ghost use Rattle.homeo_context.specs.Contexts.{rows_of, plain_context};
 
 use crate::arguments::{Argument, argument_or};
 use crate::declarations::Declarations;
-use crate::spot::Spot;
 use crate::slots::{Slot, Slots};
+use crate::spot::Spot;
 use std::alloc::Global;
 
 /// The rows in force, the innermost first.
@@ -126,6 +126,7 @@ impl<'a> Context<'a> {
         ensures slots { slots_of result ≡ slots (plain_context self.now) name }
         ensures fields { map declared_range result.fields.now ≡ fields (plain_context self.now) name }
         ensures counted { IsCounted result }
+        ensures numbered { IsNumbered result }
     {
         self.declared.relation(name)
     }

@@ -6,12 +6,12 @@ ghost use Rattle.homeo_meaning.specs.Schema.{declared_range, declared_relation};
 ghost use Rattle.homeo_meaning.specs.Declarations.{declarations, place_of};
 ghost use Rattle.homeo_meaning.specs.Context.{spot, find_slots, find_fields, object_count};
 ghost use Rattle.homeo_context.specs.inner.Placed.{placed_relation, StandFrom, HasSlots};
-ghost use Rattle.homeo_context.specs.Slots.{plain_spot, slots_of, IsCounted};
+ghost use Rattle.homeo_context.specs.Slots.{plain_spot, slots_of, IsCounted, IsNumbered};
 
+use crate::slots::Slots;
+use crate::spot::Spot;
 use homeo_meaning::Accepted;
 use homeo_meaning::padded::{item_or, put};
-use crate::spot::Spot;
-use crate::slots::Slots;
 use homeo_syntax::{Memory, ObjectDecl, RangeDecl, RelationDecl, Transaction};
 use std::alloc::Global;
 use std::marker::Model;
@@ -126,6 +126,13 @@ impl Declarations {
         })
     }
 
+    /// The number of all objects, those of the slots among them.
+    pub fn object_count(&self) -> usize
+        ensures { result ≡ object_count (length self.now.schema.objects) self.now.schema.relations }
+    {
+        count_objects(self.objects.len(), self.relations.as_slice())
+    }
+
     /// The number of the object of a name, or the number of objects where there is none.
     fn object(&self, name: u32) -> usize
         ensures { result ≡ (spot self.now.schema.objects name).place }
@@ -159,6 +166,7 @@ impl Declarations {
         ensures slots { slots_of result ≡ find_slots (length self.now.schema.objects) self.now.schema.relations name }
         ensures fields { map declared_range result.fields.now ≡ find_fields self.now.schema.relations name }
         ensures counted { IsCounted result }
+        ensures numbered { IsNumbered result }
     {
         match self.relations.get(self.relation_places.get(name)) {
             Some(relation) => Slots {
@@ -219,6 +227,18 @@ fn place_relations(
         next += slots * width;
     }
     Ok(places)
+}
+
+/// The number of all objects, where so many stand before those of the relations.
+fn count_objects(first: usize, relations: &[Placed]) -> usize
+    requires { StandFrom first relations.now }
+    ensures { result ≡ object_count first (map placed_relation relations.now) }
+{
+    let mut count = first;
+    for relation in relations {
+        count += relation.slots * (1 + relation.fields.len());
+    }
+    count
 }
 
 fn relation_names(alloc: Global, relations: &[Placed]) -> Result<Vec<u32>, Memory>

@@ -8,7 +8,7 @@ mod declarations;
 mod slots;
 mod spot;
 
-pub use arguments::{Argument, argument_or, argument_values, bind};
+pub use arguments::{Argument, argument_of, argument_or, argument_values, bind};
 pub use context::{BoundRows, Context};
 pub use declarations::{Declarations, Places};
 pub use slots::{Slot, Slots};

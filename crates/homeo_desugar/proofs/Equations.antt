@@ -9,12 +9,12 @@ use Rattle.homeo_syntax.specs.declared.low.SplitName.TheVariants as split
 use Rattle.homeo_meaning.specs.Key.{words}
 use Rattle.homeo_meaning.specs.Context.{Spot, arguments_of}
 use Rattle.homeo_meaning.specs.LForm.{name_of, one_test, within, guarded}
-use Rattle.homeo_desugar.specs.Key.{words as desugar_words}
-use Rattle.homeo_desugar.specs.Made.{made}
-use Rattle.homeo_desugar.specs.Settings.{plain_spot, setting}
+use Rattle.homeo_desugar.specs.inner.Key.{words as desugar_words}
+use Rattle.homeo_desugar.specs.inner.Made.{made}
+use Rattle.homeo_desugar.specs.inner.Settings.{plain_spot, setting}
 use Rattle.homeo_desugar.specs.declared.frame.Frame.{Frame}
 use Rattle.homeo_desugar.specs.declared.making.Making.{Making}
-use Rattle.homeo_desugar.specs.declared.objects.Spot as code
+use Rattle.homeo_desugar.specs.declared.slots.Spot as code
 
 pub name_Some : (v : ℤ) (n : ℕ) → name_of (Some v) n ≡ L.Literal v
 unfolding words
@@ -24,7 +24,7 @@ pub name_None : (n : ℕ) → name_of None n ≡ L.OfTemp (temp.Named n)
 unfolding words
 name_None n = refl
 
-pub setting_arguments : (f : Frame) (n : ℕ) → (setting f).arguments n ≡ arguments_of (map (λ p. p.name.name) f.params.now) f.args.now n
+pub setting_arguments : (f : Frame) (n : ℕ) → (setting f).arguments n ≡ arguments_of (map (λ a. a.name) f.arguments.now) (map (λ a. a.value) f.arguments.now) n
 unfolding words desugar_words
 setting_arguments f n = refl
 

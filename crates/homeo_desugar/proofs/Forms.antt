@@ -18,8 +18,8 @@ use Rattle.homeo_meaning.specs.Key.{words as meaning_words}
 use Rattle.homeo_meaning.specs.Schema.{Declared}
 use Rattle.homeo_meaning.specs.Context.{Spot, Slot, Context, slot_at, cell, spot}
 use Rattle.homeo_meaning.specs.LForm.{Lifted, Made, AllMade, Pair, Target, both, one, in_front, joined, visits, literal_of, lift, placed, within, write_chain, pair, write_to, write_field, write_at, write_by, write_indexed, stored, lift_values, all_within, fill_chain, inserted, chosen, as_one, form, forms}
-use Rattle.homeo_desugar.specs.Key.{words}
-use Rattle.homeo_desugar.specs.Made.{made, IsLifted, IsAdded, IsFormed, AreFormed, AreWithin, plain_target}
+use Rattle.homeo_desugar.specs.inner.Key.{words}
+use Rattle.homeo_desugar.specs.inner.Made.{made, IsLifted, IsAdded, IsFormed, AreFormed, AreWithin, plain_target}
 use Rattle.homeo_desugar.specs.declared.making.Making.{Making}
 use Rattle.homeo_desugar.specs.declared.making.Target as code
 use Rattle.homeo_desugar.proofs.Makings.{Leaves, both_none, both_both, made_push, lifted_joined, leaves_step}

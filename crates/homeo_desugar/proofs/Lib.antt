@@ -1,11 +1,8 @@
 pub mod Equations
-pub mod Few
-pub mod FieldNames
 pub mod Forms
 pub mod Looking
 pub mod Makings
-pub mod Passing
+pub mod Objects
 pub mod Rows
-pub mod Schemas
 pub mod SlotChains
 pub mod SlotLists

@@ -1,32 +1,34 @@
 -- The L form of what is called.
-use Rattle.std.proofs.Common.{◌≡◌, ℕ, zero, suc, ◌+◌, ◌*◌, ◌<◌, ◌≤◌, ◌==◌, Bool, true, false, cond, All, ℤ, Some, List, [], ◌∷◌, map, length, refl, sym, ap, ◌∙◌, subst, arith}
-use Rattle.std.specs.Prelude.{slice_get, option_map, IsSome}
+use Rattle.std.proofs.Common.{◌≡◌, ℕ, zero, suc, ◌+◌, ◌*◌, ◌<◌, ◌≤◌, ◌==◌, Bool, true, false, cond, All, ℤ, Some, List, [], ◌∷◌, map, length, sym, ap, ◌∙◌, subst, arith}
+use Rattle.std.specs.Prelude.{slice_get, IsSome}
 use Rattle.std.proofs.lemmas.Bool.{false≢true}
 use Rattle.homeo_syntax.specs.Key.{words as tree_words}
 use Rattle.homeo_syntax.specs.Source as s
 use Rattle.homeo_syntax.specs.Low as L
-use Rattle.homeo_syntax.specs.SourceView.{commands, plain_command, plain_relation, plain_transaction, plain_workload}
+use Rattle.homeo_syntax.specs.SourceView.{commands, plain_command, plain_transaction, plain_workload}
 use Rattle.homeo_syntax.specs.declared.command.Command.{Command}
 use Rattle.homeo_syntax.specs.declared.workload.RangeDecl.{RangeDecl}
-use Rattle.homeo_syntax.specs.declared.workload.RelationDecl.{RelationDecl}
 use Rattle.homeo_syntax.specs.declared.workload.Transaction.{Transaction}
 use Rattle.homeo_syntax.specs.declared.workload.Workload.{Workload}
 use Rattle.homeo_meaning.specs.Key.{words}
 use Rattle.homeo_meaning.specs.Acceptance.{IsAccepted}
-use Rattle.homeo_meaning.specs.Context.{Slot, context, arguments_of, object_count, find_fields}
+use Rattle.homeo_meaning.specs.Context.{context, arguments_of, object_count, find_fields}
+use Rattle.homeo_meaning.specs.Declarations.{Declarations}
 use Rattle.homeo_meaning.specs.Ground.{Ground}
+use Rattle.homeo_context.specs.Contexts.{call_context}
+use Rattle.homeo_context.specs.declared.arguments.Argument.{Argument}
 use Rattle.homeo_meaning.specs.LForm.{forms, l_form}
-use Rattle.homeo_meaning.specs.Schema.{Declared, Relation, Schema, declared_object, declared_relation, schema_of}
+use Rattle.homeo_meaning.specs.Schema.{Relation, Schema, schema_of}
 use Rattle.homeo_meaning.specs.NumberRules.{limit_faults}
 use Rattle.homeo_meaning.specs.declared.call.Purpose.TheVariants.{Run}
 use Rattle.homeo_meaning.proofs.FaultParts.{parts}
 use Rattle.homeo_meaning.proofs.SoundRelations.{SlotsFit, slots-fit, objects-fit}
 use Rattle.homeo_meaning.proofs.SoundRules.{all_head, all_tail}
-use Rattle.homeo_desugar.specs.Key.{words as desugar_words}
+use Rattle.homeo_desugar.specs.inner.Key.{words as desugar_words}
 use Rattle.homeo_meaning.specs.CallForm.{body_form, ground_form}
-use Rattle.homeo_desugar.specs.Made.{AreFormed}
-use Rattle.homeo_desugar.specs.Settings.{schemas, objects_of, schema_with, absent, SchemaFits}
-use Rattle.homeo_desugar.proofs.Schemas.{count_least}
+use Rattle.homeo_desugar.specs.inner.Made.{AreFormed}
+use Rattle.homeo_desugar.specs.inner.Settings.{absent, SchemaFits}
+use Rattle.homeo_desugar.proofs.Objects.{count_least}
 
 -- ---- a transaction by its number
 in_list : (ts : List Transaction) (n : ℕ) → IsSome (slice_get (map plain_transaction ts) n) → n < length ts
@@ -39,18 +41,6 @@ unfolding tree_words
 number_within w ts n e h = in_list ts n (subst (λ l. IsSome (slice_get (map plain_transaction l) n)) (sym e) h)
 
 -- ---- the schema of a workload
-schemas_are : (rs : List RelationDecl) → schemas rs ≡ map declared_relation (map plain_relation rs)
-unfolding desugar_words
-schemas_are [] = refl
-schemas_are (r ∷ rs) = ap (λ l. declared_relation (plain_relation r) ∷ l) (schemas_are rs)
-
-schema_is : (w own : Workload) (os : List Declared) (rs : List RelationDecl) → own ≡ w → os ≡ map declared_object own.objects.items → rs ≡ own.relations.items → schema_with os rs ≡ schema_of (plain_workload w)
-unfolding words tree_words desugar_words
-schema_is w own os rs e o q =
-    (λ i. schema_with (o i) (q i))
-    ∙ ap (λ (v : Workload). schema_with (map declared_object v.objects.items) v.relations.items) e
-    ∙ ap (λ l. record { objects = map declared_object w.objects.items; relations = l }) (schemas_are w.relations.items)
-
 -- a relation has fewer fields than objects
 fewer : (k slots fields most : ℕ) → 1 ≤ slots → k + slots * (1 + fields) ≤ most → fields ≤ most
 fewer k slots fields most h e =
@@ -65,18 +55,18 @@ unfolding words
 few_fields k [] n each few = omega arith
 few_fields k (r ∷ rs) n each few =
     let first : SlotsFit r = all_head SlotsFit r rs each in
-    let room : k + objects_of r ≤ object_count (k + objects_of r) rs = count_least (k + objects_of r) rs in
-    by_name (r.name == n) (fewer k r.slots (length r.fields) 1024 first.least (omega arith)) (few_fields (k + objects_of r) rs n (all_tail SlotsFit r rs each) few)
+    let room : k + r.slots * (1 + length r.fields) ≤ object_count (k + r.slots * (1 + length r.fields)) rs = count_least (k + r.slots * (1 + length r.fields)) rs in
+    by_name (r.name == n) (fewer k r.slots (length r.fields) 1024 first.least (omega arith)) (few_fields (k + r.slots * (1 + length r.fields)) rs n (all_tail SlotsFit r rs each) few)
   where
     by_name : (b : Bool) → length r.fields ≤ 1024 → length (find_fields rs n) ≤ 1024 → length (cond b r.fields (find_fields rs n)) ≤ 1024
     by_name true h e = h
     by_name false h e = e
 
 -- an accepted workload has few objects and fields
-pub schema_fits : (w own : Workload) (os : List Declared) (rs : List RelationDecl) → own ≡ w → os ≡ map declared_object own.objects.items → rs ≡ own.relations.items → IsAccepted (plain_workload w) → SchemaFits (schema_with os rs)
-schema_fits w own os rs e o q accepted =
+pub schema_fits : (w : Workload) (x : Schema) → x ≡ schema_of (plain_workload w) → IsAccepted (plain_workload w) → SchemaFits x
+schema_fits w x e accepted =
     let limits : limit_faults (plain_workload w) ≡ [] = (parts Run (plain_workload w) accepted.rules).text.limits in
-    subst SchemaFits (sym (schema_is w own os rs e o q)) (fits (schema_of (plain_workload w)) (slots-fit (plain_workload w) limits) (objects-fit (plain_workload w) limits))
+    subst SchemaFits (sym e) (fits (schema_of (plain_workload w)) (slots-fit (plain_workload w) limits) (objects-fit (plain_workload w) limits))
   where
     fits : (x : Schema) → All SlotsFit x.relations → object_count (length x.objects) x.relations ≤ 1024 → SchemaFits x
     fits x each few = record {
@@ -86,22 +76,27 @@ schema_fits w own os rs e o q accepted =
 
 -- ---- its form
 -- the frame of a body is the context of its call
-pub transaction_formed : (t : Transaction) (os : List Declared) (rs : List RelationDecl) (past : ℕ) (params : List RangeDecl) (args : List ℤ) (body : List Command) (after : ℕ) (made : L.Commands) (rows : ℕ → Slot) → params ≡ t.params.items → body ≡ t.body.items → past ≡ object_count (length os) (schemas rs) → rows ≡ (λ n. absent past) →
-    AreFormed after (forms (record { schema = schema_with os rs; arguments = arguments_of (map (λ p. p.name.name) params) args; rows = rows }) (commands (map plain_command body)) 0) made → L.Seq made ≡ l_form (schema_with os rs) (map (λ p. p.name.name) t.params.items) args (plain_transaction t).body
+pub body_formed : (d : Declarations) (given : List Argument) (past : ℕ) (body : s.Commands) (after : ℕ) (made : L.Commands) → past ≡ object_count (length d.schema.objects) d.schema.relations →
+    AreFormed after (forms (record { schema = d.schema; arguments = (call_context d given).arguments; rows = λ n. absent past }) body 0) made → L.Seq made ≡ L.Seq (forms (call_context d given) body 0).commands
+unfolding words desugar_words
+body_formed d given past body after made e formed =
+    ap L.Seq (formed.commands ∙ (λ i. (forms (record { schema = d.schema; arguments = (call_context d given).arguments; rows = λ n. absent (e i) }) body 0).commands))
+
+pub transaction_formed : (t : Transaction) (d : Declarations) (bound given : List Argument) (params : List RangeDecl) (args : List ℤ) (body : List Command) (r : L.Command) → params ≡ t.params.items → body ≡ t.body.items → given ≡ bound →
+    arguments_of (map (λ a. a.name) bound) (map (λ a. a.value) bound) ≡ arguments_of (map (λ p. p.name.name) params) args → r ≡ L.Seq (forms (call_context d given) (commands (map plain_command body)) 0).commands → r ≡ l_form d.schema (map (λ p. p.name.name) t.params.items) args (plain_transaction t).body
 unfolding words tree_words desugar_words
-transaction_formed t os rs past params args body after made rows p b e r formed =
-    ap L.Seq (
-    formed.commands
-    ∙ ap (λ (f : ℕ → Slot). (forms (record { schema = schema_with os rs; arguments = arguments_of (map (λ p. p.name.name) params) args; rows = f }) (commands (map plain_command body)) 0).commands) (r ∙ (λ i n. absent (e i)))
-    ∙ (λ i. (forms (context (schema_with os rs) (map (λ p. p.name.name) (p i)) args) (commands (map plain_command (b i))) 0).commands)
-    )
+transaction_formed t d bound given params args body r p b g a formed =
+    formed
+    ∙ (λ i. L.Seq (forms (call_context d (g i)) (commands (map plain_command body)) 0).commands)
+    ∙ (λ i. L.Seq (forms (record { schema = d.schema; arguments = a i; rows = λ n. absent (object_count (length d.schema.objects) d.schema.relations) }) (commands (map plain_command body)) 0).commands)
+    ∙ (λ i. L.Seq (forms (context d.schema (map (λ p. p.name.name) (p i)) args) (commands (map plain_command (b i))) 0).commands)
 
 -- what a ground call calls
-pub call_formed : (w own : Workload) (g : Ground) (t : Transaction) (os : List Declared) (rs : List RelationDecl) (args : List ℤ) (r : L.Command) → own ≡ w → slice_get (plain_workload own).transactions g.transaction ≡ Some (plain_transaction t) → os ≡ map declared_object own.objects.items → rs ≡ own.relations.items → args ≡ g.args →
-    r ≡ l_form (schema_with os rs) (map (λ p. p.name.name) t.params.items) args (plain_transaction t).body → r ≡ ground_form (plain_workload w) g
+pub call_formed : (w own : Workload) (g : Ground) (t : Transaction) (x : Schema) (args : List ℤ) (r : L.Command) → own ≡ w → slice_get (plain_workload own).transactions g.transaction ≡ Some (plain_transaction t) → x ≡ schema_of (plain_workload w) → args ≡ g.args →
+    r ≡ l_form x (map (λ p. p.name.name) t.params.items) args (plain_transaction t).body → r ≡ ground_form (plain_workload w) g
 unfolding words desugar_words tree_words
-call_formed w own g t os rs args r e at o q a is =
+call_formed w own g t x args r e at o a is =
     let here : slice_get (plain_workload w).transactions g.transaction ≡ Some (plain_transaction t) = ap (λ w. slice_get (plain_workload w).transactions g.transaction) (sym e) ∙ at in
     let form : Schema → List ℤ → s.Transaction → L.Command = λ x args t. l_form x (map (λ p. p.name.name) t.params) args t.body in
-    let same : r ≡ form (schema_of (plain_workload w)) g.args (plain_transaction t) = is ∙ (λ i. form (schema_is w own os rs e o q i) (a i) (plain_transaction t)) in
+    let same : r ≡ form (schema_of (plain_workload w)) g.args (plain_transaction t) = is ∙ (λ i. form (o i) (a i) (plain_transaction t)) in
     same ∙ sym (ap (λ o. body_form (plain_workload w) o g.args) here)

@@ -16,10 +16,10 @@ use Rattle.homeo_meaning.specs.Key.{words as meaning_words}
 use Rattle.homeo_meaning.specs.Schema.{Declared}
 use Rattle.homeo_meaning.specs.Context.{Spot, Slot, Context, slots, fields, spot, slot_at, bind}
 use Rattle.homeo_meaning.specs.LForm.{Lifted, Made, AllMade, both, one, in_front, within, plain, mapped, joined, visits, counted, equal, read, fresh, literal_of, read_slot, read_chain, indexed_by, indexed, lift, lift_all, lift_test, lift_cond}
-use Rattle.homeo_desugar.specs.Key.{words}
-use Rattle.homeo_desugar.specs.Made.{made, IsLifted, IsAdded, IsTested, both_tests}
-use Rattle.homeo_desugar.specs.Settings.{plain_slot, plain_slots, slots_after, slot_of}
-use Rattle.homeo_desugar.specs.Visits.{adding, used_and}
+use Rattle.homeo_desugar.specs.inner.Key.{words}
+use Rattle.homeo_desugar.specs.inner.Made.{made, IsLifted, IsAdded, IsTested, both_tests}
+use Rattle.homeo_desugar.specs.inner.Settings.{plain_slot, plain_slots, slots_after, slot_of}
+use Rattle.homeo_desugar.specs.inner.Visits.{adding, used_and}
 use Rattle.homeo_desugar.specs.declared.slots.Slot as one_slot
 use Rattle.homeo_desugar.specs.declared.slots.Slots as code
 use Rattle.homeo_desugar.proofs.SlotLists.{one_on, none_on, all_after}

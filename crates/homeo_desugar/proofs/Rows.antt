@@ -2,7 +2,7 @@
 use Rattle.std.proofs.Common.{ℕ, ◌==◌, Bool, true, false, cond}
 use Rattle.homeo_meaning.specs.Key.{words as meaning_words}
 use Rattle.homeo_meaning.specs.Context.{Slot, Context, bind}
-use Rattle.homeo_desugar.specs.Settings.{IsLow, Fits}
+use Rattle.homeo_desugar.specs.inner.Settings.{IsLow, Fits}
 
 low_row : (b : Bool) (slot row : Slot) → IsLow slot → IsLow row → IsLow (cond b slot row)
 low_row true slot row h k = h

@@ -13,9 +13,9 @@ use Rattle.homeo_meaning.specs.Key.{words as meaning_words}
 use Rattle.homeo_meaning.specs.Schema.{declared_range}
 use Rattle.homeo_meaning.specs.Context.{Spot, Slot, cell}
 use Rattle.homeo_meaning.specs.LForm.{Target, both, one, read, fresh, equal, one_test, within, read_chain, write_chain, fill_chain, all_within, field_writes}
-use Rattle.homeo_desugar.specs.Key.{words}
-use Rattle.homeo_desugar.specs.Settings.{plain_spot, slots_after, slot_of}
-use Rattle.homeo_desugar.specs.Made.{plain_target, both_tests, AreWithin, filled}
+use Rattle.homeo_desugar.specs.inner.Key.{words}
+use Rattle.homeo_desugar.specs.inner.Settings.{plain_spot, slots_after, slot_of}
+use Rattle.homeo_desugar.specs.inner.Made.{plain_target, both_tests, AreWithin, filled}
 use Rattle.homeo_desugar.specs.declared.making.Target as code
 use Rattle.homeo_desugar.specs.declared.slots.Slots as all
 use Rattle.homeo_desugar.proofs.Makings.{both_both, made_push, tests_none, tests_tests}

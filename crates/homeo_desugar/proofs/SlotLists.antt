@@ -8,8 +8,8 @@ use Rattle.std.proofs.lemmas.List.{length-map}
 use Rattle.homeo_meaning.specs.Key.{words as meaning_words}
 use Rattle.homeo_meaning.specs.Schema.{Declared, declared_range}
 use Rattle.homeo_meaning.specs.Context.{Slot, slots_from, slot_at}
-use Rattle.homeo_desugar.specs.Key.{words}
-use Rattle.homeo_desugar.specs.Settings.{slots_after, plain_slot, plain_slots, slot_of, end_of, IsLow, SlotsFit}
+use Rattle.homeo_desugar.specs.inner.Key.{words}
+use Rattle.homeo_desugar.specs.inner.Settings.{slots_after, plain_slot, plain_slots, slot_of, end_of, IsLow, SlotsFit}
 use Rattle.homeo_desugar.specs.declared.slots.Slot as code
 use Rattle.homeo_desugar.specs.declared.slots.Slots as all
 

@@ -1,5 +1,1 @@
-pub mod Found
-pub mod Key
-pub mod Made
-pub mod Settings
-pub mod Visits
+pub mod inner

@@ -3,12 +3,11 @@
 ghost use Rattle.std.specs.Prelude.{◌≡◌, ◌≤◌, ◌<◌, ◌^◌, map, length, IfOk};
 ghost use Rattle.homeo_syntax.specs.LowView.{plain_lexpr, plain_lcond, plain_lcommand};
 ghost use Rattle.homeo_meaning.specs.LForm.{read_chain, write_chain, fill_chain, all_within};
-ghost use Rattle.homeo_desugar.specs.Settings.{plain_spot, plain_slot, plain_slots, SlotsFit, IsLow};
-ghost use Rattle.homeo_desugar.specs.Made.{plain_target, AreWithin, filled};
+ghost use Rattle.homeo_desugar.specs.inner.Settings.{plain_spot, plain_slot, plain_slots, SlotsFit, IsLow};
+ghost use Rattle.homeo_desugar.specs.inner.Made.{plain_target, AreWithin, filled};
 
 use crate::making::{Target, choice, equal, fresh, one_test, push_within, read};
-use crate::objects::Spot;
-use crate::slots::{Slot, Slots};
+use crate::slots::{Slot, Slots, Spot};
 use homeo_syntax::{LCommand, LCond, LExpr, List, Memory, SplitName, Temp};
 use std::alloc::Global;
 

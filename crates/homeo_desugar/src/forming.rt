@@ -7,16 +7,15 @@ ghost use Rattle.homeo_syntax.specs.LowView.{low_commands, plain_lcommand};
 ghost use Rattle.homeo_meaning.specs.Schema.{declared_range};
 ghost use Rattle.homeo_meaning.specs.Context.{spot, bind};
 ghost use Rattle.homeo_meaning.specs.LForm.{lift, lift_cond, lift_values, visits, as_one, clear, write_to, write_field, write_indexed, inserted, form, forms};
-ghost use Rattle.homeo_desugar.specs.Settings.{plain_spot, plain_slot, plain_slots, SlotsFit, setting, IsLow, Fits};
-ghost use Rattle.homeo_desugar.specs.Made.{plain_target, IsLifted, IsFormed, AreFormed, AreWithin};
-ghost use Rattle.homeo_desugar.specs.Visits.{updating, running};
+ghost use Rattle.homeo_desugar.specs.inner.Settings.{plain_spot, plain_slot, plain_slots, SlotsFit, setting, IsLow, Fits};
+ghost use Rattle.homeo_desugar.specs.inner.Made.{plain_target, IsLifted, IsFormed, AreFormed, AreWithin};
+ghost use Rattle.homeo_desugar.specs.inner.Visits.{updating, running};
 
 use crate::chains::{all_within, fill_chain, write_chain};
 use crate::frame::Frame;
 use crate::lifting::{lift, lift_cond, lift_visit};
 use crate::making::{Making, Target, choice, guarded, literal_of, within};
-use crate::objects::Spot;
-use crate::slots::{Slot, Slots, field};
+use crate::slots::{Slot, Slots, Spot, field};
 use homeo_syntax::{
     Command, Cond, Expr, FieldValue, Ident, LCommand, LExpr, List, Memory, RangeDecl, SplitName,
     Temp,

@@ -1,102 +1,24 @@
 //! What stands fixed while a body is turned into its L form.
 
-ghost use Rattle.std.specs.Prelude.{◌≡◌, ◌<◌, ◌^◌, map, length};
-ghost use Rattle.homeo_syntax.specs.SourceView.{plain_relation};
+ghost use Rattle.std.specs.Prelude.{◌≡◌, map};
 ghost use Rattle.homeo_syntax.specs.LowView.{plain_lexpr};
-ghost use Rattle.homeo_meaning.specs.Schema.{declared_range, declared_relation};
-ghost use Rattle.homeo_meaning.specs.Context.{arguments_of, object, slots, fields, find_slots, find_fields, object_count, bind};
+ghost use Rattle.homeo_meaning.specs.Schema.{declared_range};
+ghost use Rattle.homeo_meaning.specs.Context.{object, slots, fields, bind};
 ghost use Rattle.homeo_meaning.specs.LForm.{name_of};
-ghost use Rattle.homeo_desugar.specs.Settings.{plain_spot, plain_slot, plain_slots, SlotsFit, objects_of, schemas, setting, Fits};
+ghost use Rattle.homeo_desugar.specs.inner.Settings.{plain_spot, plain_slot, plain_slots, SlotsFit, setting, Fits};
 
-use crate::objects::{Objects, Spot};
-use crate::slots::{Rows, Slot, Slots, row};
-use homeo_syntax::{LExpr, RangeDecl, RelationDecl, Temp};
+use crate::slots::{Rows, Slot, Slots, Spot, row};
+use homeo_context::{Argument, Declarations, argument_of};
+use homeo_syntax::{LExpr, Temp};
 
-/// The objects and relations, the parameters with their arguments, and the rows in force.
+/// The declarations, the arguments by their parameters' names, and the rows in force.
 #[derive(Clone, Copy)]
 pub(crate) struct Frame<'a> {
-    pub(crate) objects: &'a Objects,
-    /// Their objects stand behind the declared ones.
-    pub(crate) relations: &'a [RelationDecl],
+    pub(crate) declared: &'a Declarations,
+    pub(crate) arguments: &'a [Argument],
     /// The number of all objects.
     pub(crate) past: u32,
-    pub(crate) params: &'a [RangeDecl],
-    pub(crate) args: &'a [i64],
     pub(crate) rows: Rows<'a>,
-}
-
-/// The argument of the parameter of a name, where there are both.
-fn argument(params: &[RangeDecl], args: &[i64], name: u32) -> Option<i64>
-    ensures { result ≡ arguments_of (map (λ p. p.name.name) params.now) args.now name }
-{
-    let count = params.len().min(args.len());
-    for index in 0..count {
-        let parameter = params[index].name.name;
-        if parameter == name {
-            return Some(args[index]);
-        }
-    }
-    None
-}
-
-/// The number of slots of a relation.
-fn slot_count(relation: &RelationDecl) -> u32
-    requires { (declared_relation (plain_relation relation.now)).slots < 2 ^ 32 }
-    ensures { result ≡ (declared_relation (plain_relation relation.now)).slots }
-{
-    if relation.slots.value < 0 {
-        0
-    } else {
-        relation.slots.value as u32
-    }
-}
-
-/// The number of objects of a relation: for each slot, one more than fields.
-fn objects_of(relation: &RelationDecl) -> u32
-    requires { objects_of (declared_relation (plain_relation relation.now)) < 2 ^ 32 }
-    ensures { result ≡ objects_of (declared_relation (plain_relation relation.now)) }
-{
-    let width = relation.fields.as_slice().len() + 1;
-    (slot_count(relation) as usize * width) as u32
-}
-
-/// The number of all objects, where so many stand before those of the relations.
-pub(crate) fn objects_past(relations: &[RelationDecl], declared: u32) -> u32
-    requires { object_count declared (schemas relations.now) < 2 ^ 32 }
-    ensures { result ≡ object_count declared (schemas relations.now) }
-{
-    let mut past = declared;
-    for relation in relations {
-        past += objects_of(relation);
-    }
-    past
-}
-
-/// The slots of the relation of a name, where the first of the relations begins at an object.
-fn find<'a>(relations: &'a [RelationDecl], first: u32, name: u32) -> Slots<'a>
-    requires objects { object_count first (schemas relations.now) < 2 ^ 32 }
-    requires fields { length (find_fields (schemas relations.now) name) < 2 ^ 32 }
-    ensures slots { plain_slots result ≡ find_slots first (schemas relations.now) name }
-    ensures fields { map declared_range result.fields.now ≡ find_fields (schemas relations.now) name }
-    ensures fits { SlotsFit result }
-{
-    let mut first = first;
-    for relation in relations {
-        let fields = relation.fields.as_slice();
-        if relation.name.name == name {
-            return Slots {
-                first,
-                count: slot_count(relation),
-                fields,
-            };
-        }
-        first += objects_of(relation);
-    }
-    Slots {
-        first: 0,
-        count: 0,
-        fields: &[],
-    }
 }
 
 impl<'a> Frame<'a> {
@@ -107,7 +29,12 @@ impl<'a> Frame<'a> {
         ensures fields { map declared_range result.fields.now ≡ fields (setting self.now) name }
         ensures fits { SlotsFit result }
     {
-        find(self.relations, self.objects.len(), name)
+        let found = self.declared.relation(name);
+        Slots {
+            first: found.first as u32,
+            count: found.count as u32,
+            fields: found.fields,
+        }
     }
 
     /// The slot of the row of a name: where no such row is in force, one past all objects.
@@ -143,7 +70,7 @@ impl Frame<'_> {
     pub(crate) fn name(&self, name: u32) -> LExpr
         ensures { plain_lexpr result ≡ name_of ((setting self.now).arguments name) name }
     {
-        match argument(self.params, self.args, name) {
+        match argument_of(self.arguments, name) {
             Some(value) => LExpr::Literal(value),
             None => LExpr::Temp(Temp::Named(name)),
         }
@@ -151,8 +78,14 @@ impl Frame<'_> {
 
     /// The object of a name.
     pub(crate) fn object(&self, name: u32) -> Spot
+        requires { Fits (setting self.now) }
         ensures { plain_spot result ≡ object (setting self.now) name }
     {
-        self.objects.spot(name)
+        let found = self.declared.spot(name);
+        Spot {
+            place: found.place as u32,
+            lo: found.lo,
+            hi: found.hi,
+        }
     }
 }

@@ -8,7 +8,6 @@ mod forming;
 mod frame;
 mod lifting;
 mod making;
-mod objects;
 mod slots;
 
 pub use call::desugar;

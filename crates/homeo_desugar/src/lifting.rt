@@ -6,9 +6,9 @@ ghost use Rattle.homeo_syntax.specs.LowView.{low_exprs, low_tests, plain_lexpr, 
 ghost use Rattle.homeo_meaning.specs.Schema.{declared_range};
 ghost use Rattle.homeo_meaning.specs.Context.{spot, bind};
 ghost use Rattle.homeo_meaning.specs.LForm.{plain, indexed, visits, counted, lift, lift_all, lift_test, lift_cond};
-ghost use Rattle.homeo_desugar.specs.Settings.{plain_slot, plain_slots, SlotsFit, setting, IsLow, Fits};
-ghost use Rattle.homeo_desugar.specs.Made.{IsLifted, IsTested, IsAdded};
-ghost use Rattle.homeo_desugar.specs.Visits.{term_of, added, adding, used_and};
+ghost use Rattle.homeo_desugar.specs.inner.Settings.{plain_slot, plain_slots, SlotsFit, setting, IsLow, Fits};
+ghost use Rattle.homeo_desugar.specs.inner.Made.{IsLifted, IsTested, IsAdded};
+ghost use Rattle.homeo_desugar.specs.inner.Visits.{term_of, added, adding, used_and};
 
 use crate::chains::read_chain;
 use crate::frame::Frame;

@@ -3,10 +3,18 @@
 ghost use Rattle.std.specs.Prelude.{◌≡◌, ◌+◌, ◌<◌, ◌≤◌, ◌^◌, map, length, option_map};
 ghost use Rattle.homeo_meaning.specs.Schema.{declared_range};
 ghost use Rattle.homeo_meaning.specs.Context.{spot, cell, field_cell, slot_at};
-ghost use Rattle.homeo_desugar.specs.Settings.{plain_spot, plain_slot, plain_slots, slot_of, SlotsFit, rows_of};
+ghost use Rattle.homeo_desugar.specs.inner.Settings.{plain_spot, plain_slot, plain_slots, slot_of, SlotsFit, rows_of};
 
-use crate::objects::Spot;
+use homeo_context::find_field;
 use homeo_syntax::RangeDecl;
+
+/// Where a declaration is in its list, and its bounds.
+#[derive(Clone, Copy)]
+pub(crate) struct Spot {
+    pub(crate) place: u32,
+    pub(crate) lo: i64,
+    pub(crate) hi: i64,
+}
 
 /// A slot: its number, the object that says whether it is used, and the fields, whose objects follow that one.
 #[derive(Clone, Copy)]
@@ -41,19 +49,11 @@ pub(crate) fn field(fields: &[RangeDecl], name: u32) -> Spot
     ensures is { plain_spot result ≡ spot (map declared_range fields.now) name }
     ensures within { result.place ≤ length fields.now }
 {
-    for (place, field) in fields.iter().enumerate() {
-        if field.name.name == name {
-            return Spot {
-                place: place as u32,
-                lo: field.lo.value,
-                hi: field.hi.value,
-            };
-        }
-    }
+    let found = find_field(fields, name);
     Spot {
-        place: fields.len() as u32,
-        lo: 0,
-        hi: 0,
+        place: found.place as u32,
+        lo: found.lo,
+        hi: found.hi,
     }
 }
 

@@ -4,7 +4,7 @@ use Rattle.std.specs.Prelude.{slice_get, option_map}
 use Rattle.std.proofs.lemmas.Option.{slice_get-map}
 use Rattle.homeo_syntax.specs.declared.workload.ObjectDecl.{ObjectDecl}
 use Rattle.homeo_meaning.specs.Key.{words as meaning_words}
-use Rattle.homeo_meaning.specs.Schema.{Declared, Relation, Schema, declared_object}
+use Rattle.homeo_meaning.specs.Schema.{Declared, Relation, declared_object}
 use Rattle.homeo_meaning.specs.Context as context
 use Rattle.homeo_meaning.specs.Context.{Spot, Slot, spot, spot_from, find_slots, find_fields}
 use Rattle.homeo_meaning.specs.Declarations.{place_from, place_of}

@@ -1,5 +1,5 @@
 -- What a layout may be made of, and what it stands for.
-use Rattle.std.specs.Prelude.{◌≡◌, ◌≤◌, List, map, length}
+use Rattle.std.specs.Prelude.{◌≤◌, List, map, length}
 use Rattle.homeo_syntax.specs.SourceView.{plain_relation}
 use Rattle.homeo_syntax.specs.declared.workload.ObjectDecl.{ObjectDecl}
 use Rattle.homeo_syntax.specs.declared.workload.RelationDecl.{RelationDecl}
@@ -15,7 +15,3 @@ relation_of r = declared_relation (plain_relation r)
 
 abbrev pub schema_with : List ObjectDecl → List RelationDecl → Schema
 schema_with objects relations = record { objects = map declared_object objects; relations = map relation_of relations }
-
--- a layout stands for the schema that it was made of
-abbrev pub IsLayout : Schema → Schema → Type 0
-IsLayout x layout = layout ≡ x

@@ -11,8 +11,8 @@ use crate::extent::{Extent, unwritten};
 use crate::extents::Extents;
 use crate::frame::Frame;
 use crate::layout::Layout;
-use crate::nodes::TOO_MANY;
 use crate::measures::Measure;
+use crate::nodes::TOO_MANY;
 use homeo_syntax::{Memory, Number, Transaction};
 use std::alloc::Global;
 
@@ -20,10 +20,10 @@ use std::alloc::Global;
 fn first_extents(alloc: Global, weights: &[u64], sites: u64) -> Result<Vec<Extent>, Memory>
     ensures { IfOk result (λ objects. objects.items ≡ map (unwritten sites) weights.now) }
 {
-    let mut objects = Vec::new(alloc);
-    for weight in weights {
-        objects.push(unwritten(sites, *weight))?;
-    }
+    let objects = weights
+        .iter()
+        .map(|weight| unwritten(sites, *weight))
+        .collect(alloc)?;
     Ok(objects)
 }
 

@@ -11,10 +11,10 @@ use crate::extent::{
     Extent, NOTHING, around, greater, is_equal, literal, natural, successor, within_tests, written,
 };
 use crate::extents::{Entry, Extents};
-use crate::slot::{Slot, cell};
 use crate::measures::{
     Before, EMPTY, Measure, NONE, chosen, guarded, placed, valued, with_one, writing,
 };
+use crate::slot::{Slot, cell};
 use homeo_context::Spot;
 use homeo_syntax::Memory;
 use std::alloc::Global;

@@ -10,9 +10,9 @@ use crate::chains::{Filled, chain_writing, slot_writing};
 use crate::extent::{NOTHING, around, within_tests, written};
 use crate::extents::{Entry, Extents};
 use crate::frame::Frame;
+use crate::measures::{Before, EMPTY, Measure, NONE, chosen, guarded, placed, valued, with_one};
 use crate::rows::with_row;
 use crate::slot::slot_at;
-use crate::measures::{Before, EMPTY, Measure, NONE, chosen, guarded, placed, valued, with_one};
 use homeo_syntax::{Command, FieldValue, Memory};
 use std::alloc::Global;
 

@@ -10,8 +10,8 @@ ghost use Rattle.homeo_size.specs.inner.Tables.{setting};
 
 use crate::layout::Layout;
 use crate::slot::{Row, Slot, slot_at};
-use homeo_meaning::padded::item_or;
 use homeo_context::Spot;
+use homeo_meaning::padded::item_or;
 use homeo_syntax::Expr;
 
 /// What names stand for: the declarations, the arguments by their parameters' names, and the rows in force, of which a

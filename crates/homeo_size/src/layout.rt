@@ -133,10 +133,10 @@ fn weigh_slots(weights: &mut Vec<u64>, fields: &[RangeDecl], count: u64) -> Resu
 fn weigh_objects(alloc: Global, objects: &[ObjectDecl]) -> Result<Vec<u64>, Memory>
     ensures { IfOk result (λ weights. weights.items ≡ map object_weight objects.now) }
 {
-    let mut weights = Vec::new(alloc);
-    for object in objects {
-        weights.push(object_weight(*object))?;
-    }
+    let weights = objects
+        .iter()
+        .map(|object| object_weight(*object))
+        .collect(alloc)?;
     Ok(weights)
 }
 
@@ -153,10 +153,10 @@ fn weigh_relations(weights: &mut Vec<u64>, relations: &[RelationDecl]) -> Result
 fn relation_names(alloc: Global, relations: &[RelationDecl]) -> Result<Vec<u32>, Memory>
     ensures { IfOk result (λ names. names.items ≡ map (λ r. r.name.name) relations.now) }
 {
-    let mut names = Vec::new(alloc);
-    for relation in relations {
-        names.push(relation.name.name)?;
-    }
+    let names = relations
+        .iter()
+        .map(|relation| relation.name.name)
+        .collect(alloc)?;
     Ok(names)
 }
 

@@ -10,18 +10,18 @@ mod extents;
 mod frame;
 mod layout;
 mod loops;
+mod measures;
 mod nodes;
 mod numbers;
 mod phrases;
 mod prints;
 mod rows;
 mod slot;
-mod measures;
 #[cfg(test)]
 mod tests;
 
 pub use call::measure;
 pub use layout::Layout;
+pub use measures::Measure;
 pub use numbers::{BEYOND, TOO_HEAVY};
 pub use prints::{TOO_MANY_PRINTS, count_prints};
-pub use measures::Measure;

@@ -14,9 +14,9 @@ use crate::extent::{
 };
 use crate::extents::Extents;
 use crate::frame::Frame;
+use crate::measures::{Before, EMPTY, Measure, chosen, valued, with_one};
 use crate::rows::with_row;
 use crate::slot::{Slot, cell, field_cell, slot_at};
-use crate::measures::{Before, EMPTY, Measure, chosen, valued, with_one};
 use homeo_context::Spot;
 use homeo_syntax::{Cond, Expr, Memory, Test};
 use std::alloc::Global;

@@ -4,8 +4,8 @@ ghost use Rattle.std.specs.Prelude.{◌≡◌, ◌≤◌, [], ◌∷◌, pos, le
 
 use crate::{Layout, Measure, TOO_MANY_PRINTS, count_prints, measure};
 use homeo_syntax::{
-    Command, Compare, Cond, Expr, Ident, List, Memory, Number, ObjectDecl, RangeDecl,
-    RelationDecl, Test, Transaction,
+    Command, Compare, Cond, Expr, Ident, List, Memory, Number, ObjectDecl, RangeDecl, RelationDecl,
+    Test, Transaction,
 };
 use std::alloc::Global;
 use std::test::Fail;

@@ -15,7 +15,7 @@ abbrev pub StandFrom : ℕ → List Placed → Type 0
 unfolding words
 StandFrom k [] = Unit {0}
 StandFrom k (p ∷ ps) =
-    (p.first ≡ k) × (k + p.slots * (1 + length p.fields.items) < 2 ^ 63) × StandFrom (k + p.slots * (1 + length p.fields.items)) ps
+    (p.first ≡ k) × (k + p.slots * (1 + length p.fields.items) < 2 ^ 32) × StandFrom (k + p.slots * (1 + length p.fields.items)) ps
 
 -- relations stand behind the objects, and the tables of names are those of both
 pub record ArePlaced (objects : List ObjectDecl) (relations : List Placed) (object_names relation_names : List ℕ) : Type 0 where

@@ -1,5 +1,5 @@
 -- What the code's tables and frames stand for.
-use Rattle.std.specs.Prelude.{ℕ, ◌==◌, cond, List, [], ◌∷◌, map, length, ℤ, Option, None, slice_index_or}
+use Rattle.std.specs.Prelude.{ℕ, ◌==◌, cond, List, [], ◌∷◌, length, ℤ, Option, None, slice_index_or}
 use Rattle.homeo_meaning.specs.Context as context
 use Rattle.homeo_meaning.specs.Context.{spot, find_slots, find_fields}
 use Rattle.homeo_meaning.specs.Schema.{Schema}

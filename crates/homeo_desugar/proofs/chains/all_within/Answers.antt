@@ -5,9 +5,9 @@ use Rattle.homeo_syntax.specs.Low.{NoTest}
 use Rattle.homeo_syntax.specs.LowView.{low_tests, plain_ltest}
 use Rattle.homeo_syntax.proofs.LowViews.{low_conjunction_of}
 use Rattle.homeo_meaning.specs.LForm.{all_within, within}
-use Rattle.homeo_desugar.specs.Key.{words}
-use Rattle.homeo_desugar.specs.Made.{plain_target, both_tests}
-use Rattle.homeo_desugar.specs.Settings.{plain_spot}
+use Rattle.homeo_desugar.specs.inner.Key.{words}
+use Rattle.homeo_desugar.specs.inner.Made.{plain_target, both_tests}
+use Rattle.homeo_desugar.specs.inner.Settings.{plain_spot}
 use Rattle.homeo_desugar.specs.declared.making.Target as code
 use Rattle.homeo_desugar.proofs.SlotChains.{tests_step, tests_end}
 use Rattle.homeo_desugar.proofs.chains.all_within.Goals as goal

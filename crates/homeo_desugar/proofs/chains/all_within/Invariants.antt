@@ -2,7 +2,7 @@
 use Rattle.std.proofs.Common.{◌≡◌, map, drop}
 use Rattle.homeo_syntax.specs.LowView.{low_tests, plain_ltest}
 use Rattle.homeo_meaning.specs.LForm.{all_within}
-use Rattle.homeo_desugar.specs.Made.{plain_target, both_tests}
+use Rattle.homeo_desugar.specs.inner.Made.{plain_target, both_tests}
 use Rattle.homeo_desugar.proofs.chains.all_within.Given as goal
 
 abbrev pub invariant-loop-target : goal.invariant-loop-target

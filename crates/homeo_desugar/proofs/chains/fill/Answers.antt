@@ -9,9 +9,9 @@ use Rattle.homeo_syntax.specs.declared.low.SplitName.TheVariants as split
 use Rattle.homeo_syntax.proofs.LowViews.{low_Seq, low_Assign, low_Write, low_Literal}
 use Rattle.homeo_meaning.specs.Key.{words as meaning_words}
 use Rattle.homeo_meaning.specs.LForm.{both, field_writes}
-use Rattle.homeo_desugar.specs.Key.{words}
-use Rattle.homeo_desugar.specs.Made.{plain_target}
-use Rattle.homeo_desugar.specs.Settings.{plain_slot}
+use Rattle.homeo_desugar.specs.inner.Key.{words}
+use Rattle.homeo_desugar.specs.inner.Made.{plain_target}
+use Rattle.homeo_desugar.specs.inner.Settings.{plain_slot}
 use Rattle.homeo_desugar.specs.declared.making.Target as code
 use Rattle.homeo_desugar.proofs.SlotChains.{writes_step, fill_end, place_within}
 use Rattle.homeo_desugar.proofs.SlotLists.{low_used}

@@ -7,8 +7,8 @@ use Rattle.homeo_syntax.proofs.LowViews.{low_Assign, low_Literal}
 use Rattle.homeo_meaning.specs.Key.{words as meaning_words}
 use Rattle.homeo_meaning.specs.Context.{Slot}
 use Rattle.homeo_meaning.specs.LForm.{read, equal, one_test, fill_chain}
-use Rattle.homeo_desugar.specs.Key.{words}
-use Rattle.homeo_desugar.specs.Made.{plain_target, filled}
+use Rattle.homeo_desugar.specs.inner.Key.{words}
+use Rattle.homeo_desugar.specs.inner.Made.{plain_target, filled}
 use Rattle.homeo_desugar.proofs.SlotChains.{fill_more, within_same}
 use Rattle.homeo_desugar.proofs.SlotLists.{none_after, all_after, slot_is_low}
 use Rattle.homeo_desugar.proofs.chains.fill_chain.Goals as goal

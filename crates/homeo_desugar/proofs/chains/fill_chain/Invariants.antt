@@ -2,8 +2,8 @@
 use Rattle.std.proofs.Common.{◌≡◌, ◌≤◌, ◌-◌, map}
 use Rattle.homeo_syntax.specs.LowView.{plain_lcommand}
 use Rattle.homeo_meaning.specs.LForm.{fill_chain}
-use Rattle.homeo_desugar.specs.Made.{plain_target}
-use Rattle.homeo_desugar.specs.Settings.{slots_after}
+use Rattle.homeo_desugar.specs.inner.Made.{plain_target}
+use Rattle.homeo_desugar.specs.inner.Settings.{slots_after}
 use Rattle.homeo_desugar.proofs.chains.fill_chain.Given as goal
 
 abbrev pub invariant-loop-number : goal.invariant-loop-number

@@ -8,7 +8,7 @@ use Rattle.homeo_meaning.specs.Key.{words as meaning_words}
 use Rattle.homeo_meaning.specs.Context.{cell}
 use Rattle.homeo_meaning.specs.LForm.{read, equal, one_test, read_chain}
 use Rattle.homeo_meaning.proofs.Numbers.{kept_is}
-use Rattle.homeo_desugar.specs.Settings.{plain_spot}
+use Rattle.homeo_desugar.specs.inner.Settings.{plain_spot}
 use Rattle.homeo_desugar.proofs.SlotChains.{read_more}
 use Rattle.homeo_desugar.proofs.SlotLists.{none_after, all_after, cell_fits}
 use Rattle.homeo_desugar.proofs.chains.read_chain.Goals as goal

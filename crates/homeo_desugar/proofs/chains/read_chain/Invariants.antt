@@ -2,7 +2,7 @@
 use Rattle.std.proofs.Common.{◌≡◌, ◌≤◌, ◌-◌}
 use Rattle.homeo_syntax.specs.LowView.{plain_lexpr, plain_lcommand}
 use Rattle.homeo_meaning.specs.LForm.{read_chain}
-use Rattle.homeo_desugar.specs.Settings.{plain_spot, slots_after}
+use Rattle.homeo_desugar.specs.inner.Settings.{plain_spot, slots_after}
 use Rattle.homeo_desugar.proofs.chains.read_chain.Given as goal
 
 abbrev pub invariant-loop-number : goal.invariant-loop-number

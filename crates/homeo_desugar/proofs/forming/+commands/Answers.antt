@@ -13,9 +13,9 @@ use Rattle.homeo_meaning.specs.Key.{words as meaning_words}
 use Rattle.homeo_meaning.specs.Schema.{declared_range}
 use Rattle.homeo_meaning.specs.Context.{Slot, bind, slots, fields, object}
 use Rattle.homeo_meaning.specs.LForm.{Lifted, both, lift, lift_cond, visits, clear, form, forms}
-use Rattle.homeo_desugar.specs.Key.{words}
-use Rattle.homeo_desugar.specs.Settings.{setting, plain_slot, plain_slots, plain_spot, Fits}
-use Rattle.homeo_desugar.specs.Visits.{updating, running}
+use Rattle.homeo_desugar.specs.inner.Key.{words}
+use Rattle.homeo_desugar.specs.inner.Settings.{setting, plain_slot, plain_slots, plain_spot, Fits}
+use Rattle.homeo_desugar.specs.inner.Visits.{updating, running}
 use Rattle.homeo_desugar.proofs.Forms.{loop_formed, or_skip, indexed_as, inserted_as, written_as, set_as, looped_as, chosen_formed, forms_step, forms_end, forms_in, command_formed}
 use Rattle.homeo_desugar.proofs.Makings.{visits_begin, visit_step, visits_done}
 use Rattle.homeo_desugar.proofs.Rows.{bind_fits}

@@ -3,9 +3,9 @@ use Rattle.std.proofs.Common.{◌-◌, map, drop}
 use Rattle.homeo_syntax.specs.SourceView.{commands, plain_cond, plain_command}
 use Rattle.homeo_meaning.specs.Context.{bind}
 use Rattle.homeo_meaning.specs.LForm.{visits, lift_cond, forms}
-use Rattle.homeo_desugar.specs.Settings.{setting, slots_after, plain_slots}
+use Rattle.homeo_desugar.specs.inner.Settings.{setting, slots_after, plain_slots}
 use Rattle.homeo_syntax.specs.LowView.{low_commands, plain_lcommand}
-use Rattle.homeo_desugar.specs.Visits.{running}
+use Rattle.homeo_desugar.specs.inner.Visits.{running}
 use Rattle.homeo_desugar.proofs.Forms.{FormsLeft}
 use Rattle.homeo_desugar.proofs.Makings.{VisitsLeft}
 use Rattle.homeo_desugar.proofs.forming.+commands.Given as goal

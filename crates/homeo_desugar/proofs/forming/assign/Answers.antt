@@ -7,7 +7,7 @@ use Rattle.homeo_syntax.specs.declared.low.Temp.TheVariants as temp
 use Rattle.homeo_syntax.proofs.LowViews.{low_Assign}
 use Rattle.homeo_meaning.specs.Key.{words as meaning_words}
 use Rattle.homeo_meaning.specs.LForm.{lift}
-use Rattle.homeo_desugar.specs.Settings.{setting}
+use Rattle.homeo_desugar.specs.inner.Settings.{setting}
 use Rattle.homeo_desugar.proofs.Forms.{placed_formed}
 use Rattle.homeo_desugar.proofs.forming.assign.Goals as goal
 

@@ -8,8 +8,8 @@ use Rattle.homeo_syntax.proofs.LowViews.{low_Literal, low_Seq, low_Write}
 use Rattle.homeo_meaning.specs.Key.{words as meaning_words}
 use Rattle.homeo_meaning.specs.Context.{Slot, bind}
 use Rattle.homeo_meaning.specs.LForm.{Lifted, visits, lift_cond, clear}
-use Rattle.homeo_desugar.specs.Key.{words}
-use Rattle.homeo_desugar.specs.Settings.{setting, plain_slot, plain_slots, Fits}
+use Rattle.homeo_desugar.specs.inner.Key.{words}
+use Rattle.homeo_desugar.specs.inner.Settings.{setting, plain_slot, plain_slots, Fits}
 use Rattle.homeo_desugar.proofs.Forms.{loop_formed, or_skip}
 use Rattle.homeo_desugar.proofs.Makings.{visits_begin, visit_step, visits_done}
 use Rattle.homeo_desugar.proofs.Rows.{bind_fits}

@@ -6,9 +6,9 @@ use Rattle.homeo_syntax.proofs.LowViews.{low_Assign}
 use Rattle.homeo_meaning.specs.Schema.{declared_range}
 use Rattle.homeo_meaning.specs.Context.{Spot, spot}
 use Rattle.homeo_meaning.specs.LForm.{lift, lift_values}
-use Rattle.homeo_desugar.specs.Key.{words}
-use Rattle.homeo_desugar.specs.Made.{plain_target}
-use Rattle.homeo_desugar.specs.Settings.{setting}
+use Rattle.homeo_desugar.specs.inner.Key.{words}
+use Rattle.homeo_desugar.specs.inner.Made.{plain_target}
+use Rattle.homeo_desugar.specs.inner.Settings.{setting}
 use Rattle.homeo_desugar.proofs.Forms.{stored_lifted, values_step, values_end, within_none, within_push}
 use Rattle.homeo_desugar.proofs.Makings.{pushed_after}
 use Rattle.homeo_desugar.proofs.forming.lift_values.Goals as goal

@@ -3,8 +3,8 @@ use Rattle.std.proofs.Common.{[], ◌++◌, map, drop}
 use Rattle.homeo_syntax.specs.SourceView.{plain_field}
 use Rattle.homeo_meaning.specs.Schema.{declared_range}
 use Rattle.homeo_meaning.specs.LForm.{lift_values}
-use Rattle.homeo_desugar.specs.Made.{plain_target, AreWithin}
-use Rattle.homeo_desugar.specs.Settings.{setting}
+use Rattle.homeo_desugar.specs.inner.Made.{plain_target, AreWithin}
+use Rattle.homeo_desugar.specs.inner.Settings.{setting}
 use Rattle.homeo_desugar.proofs.Makings.{Leaves}
 use Rattle.homeo_desugar.proofs.forming.lift_values.Given as goal
 

@@ -6,7 +6,7 @@ use Rattle.homeo_syntax.specs.LowView.{plain_lexpr, plain_lcommand}
 use Rattle.homeo_syntax.proofs.LowViews.{low_Print}
 use Rattle.homeo_meaning.specs.Key.{words as meaning_words}
 use Rattle.homeo_meaning.specs.LForm.{lift}
-use Rattle.homeo_desugar.specs.Settings.{setting}
+use Rattle.homeo_desugar.specs.inner.Settings.{setting}
 use Rattle.homeo_desugar.proofs.Forms.{placed_formed}
 use Rattle.homeo_desugar.proofs.forming.print.Goals as goal
 

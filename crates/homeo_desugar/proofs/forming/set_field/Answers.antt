@@ -13,8 +13,8 @@ use Rattle.homeo_meaning.specs.Key.{words as meaning_words}
 use Rattle.homeo_meaning.specs.Schema.{declared_range}
 use Rattle.homeo_meaning.specs.Context.{Spot, Slot, spot, slot_at}
 use Rattle.homeo_meaning.specs.LForm.{Lifted, lift, within, write_at, write_indexed, write_chain}
-use Rattle.homeo_desugar.specs.Made.{IsFormed}
-use Rattle.homeo_desugar.specs.Settings.{setting, plain_slot, plain_slots, plain_spot}
+use Rattle.homeo_desugar.specs.inner.Made.{IsFormed}
+use Rattle.homeo_desugar.specs.inner.Settings.{setting, plain_slot, plain_slots, plain_spot}
 use Rattle.homeo_desugar.proofs.Forms.{write_as, write_literal, write_by_chain}
 use Rattle.homeo_desugar.proofs.SlotLists.{at_numbered, numbered_fits}
 use Rattle.homeo_desugar.proofs.forming.set_field.Goals.{in-Some-at, in-None}

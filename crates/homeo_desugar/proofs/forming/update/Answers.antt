@@ -6,9 +6,9 @@ use Rattle.homeo_syntax.specs.LowView.{plain_lcond, plain_lcommand}
 use Rattle.homeo_syntax.proofs.LowViews.{low_Seq}
 use Rattle.homeo_meaning.specs.Context.{Slot, bind}
 use Rattle.homeo_meaning.specs.LForm.{Lifted, visits, lift_cond}
-use Rattle.homeo_desugar.specs.Key.{words}
-use Rattle.homeo_desugar.specs.Settings.{setting, plain_slot, plain_slots, Fits}
-use Rattle.homeo_desugar.specs.Visits.{updating}
+use Rattle.homeo_desugar.specs.inner.Key.{words}
+use Rattle.homeo_desugar.specs.inner.Settings.{setting, plain_slot, plain_slots, Fits}
+use Rattle.homeo_desugar.specs.inner.Visits.{updating}
 use Rattle.homeo_desugar.proofs.Forms.{loop_formed, or_skip, field_in}
 use Rattle.homeo_desugar.proofs.Makings.{visits_begin, visit_step, visits_done}
 use Rattle.homeo_desugar.proofs.Rows.{bind_fits}

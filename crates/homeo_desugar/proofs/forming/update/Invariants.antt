@@ -3,8 +3,8 @@ use Rattle.std.proofs.Common.{◌-◌}
 use Rattle.homeo_syntax.specs.SourceView.{plain_expr, plain_cond}
 use Rattle.homeo_meaning.specs.Context.{bind}
 use Rattle.homeo_meaning.specs.LForm.{visits, lift_cond}
-use Rattle.homeo_desugar.specs.Settings.{setting, slots_after, plain_slots}
-use Rattle.homeo_desugar.specs.Visits.{updating}
+use Rattle.homeo_desugar.specs.inner.Settings.{setting, slots_after, plain_slots}
+use Rattle.homeo_desugar.specs.inner.Visits.{updating}
 use Rattle.homeo_desugar.proofs.Makings.{VisitsLeft}
 use Rattle.homeo_desugar.proofs.forming.update.Given as goal
 

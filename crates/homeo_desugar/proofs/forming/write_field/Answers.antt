@@ -4,8 +4,8 @@ use Rattle.std.proofs.lemmas.Result.{IfOk-weaker}
 use Rattle.homeo_syntax.specs.SourceView.{plain_expr}
 use Rattle.homeo_syntax.specs.LowView.{plain_lcommand}
 use Rattle.homeo_meaning.specs.LForm.{lift}
-use Rattle.homeo_desugar.specs.Key.{words}
-use Rattle.homeo_desugar.specs.Settings.{setting, plain_slot, plain_spot}
+use Rattle.homeo_desugar.specs.inner.Key.{words}
+use Rattle.homeo_desugar.specs.inner.Settings.{setting, plain_slot, plain_spot}
 use Rattle.homeo_desugar.proofs.Forms.{field_formed}
 use Rattle.homeo_desugar.proofs.SlotLists.{low_used}
 use Rattle.homeo_desugar.proofs.forming.write_field.Goals as goal

@@ -4,7 +4,7 @@ use Rattle.homeo_syntax.specs.SourceView.{plain_expr}
 use Rattle.homeo_syntax.specs.LowView.{plain_lexpr, plain_lcommand}
 use Rattle.homeo_meaning.specs.Key.{words as meaning_words}
 use Rattle.homeo_meaning.specs.LForm.{lift, guarded}
-use Rattle.homeo_desugar.specs.Settings.{setting, plain_spot}
+use Rattle.homeo_desugar.specs.inner.Settings.{setting, plain_spot}
 use Rattle.homeo_desugar.proofs.Forms.{placed_formed}
 use Rattle.homeo_desugar.proofs.forming.write_to.Goals as goal
 

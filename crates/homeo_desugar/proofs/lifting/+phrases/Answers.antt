@@ -15,10 +15,10 @@ use Rattle.homeo_meaning.specs.Key.{words as meaning_words}
 use Rattle.homeo_meaning.specs.Schema.{declared_range}
 use Rattle.homeo_meaning.specs.Context.{spot, field_cell, bind, slots, fields}
 use Rattle.homeo_meaning.specs.LForm.{read, equal, plain, lift, lift_all, lift_cond}
-use Rattle.homeo_desugar.specs.Key.{words}
-use Rattle.homeo_desugar.specs.Made.{both_tests}
-use Rattle.homeo_desugar.specs.Settings.{setting, plain_slot, plain_slots, IsLow, Fits}
-use Rattle.homeo_desugar.specs.Visits.{adding, added, term_of}
+use Rattle.homeo_desugar.specs.inner.Key.{words}
+use Rattle.homeo_desugar.specs.inner.Made.{both_tests}
+use Rattle.homeo_desugar.specs.inner.Settings.{setting, plain_slot, plain_slots, IsLow, Fits}
+use Rattle.homeo_desugar.specs.inner.Visits.{adding, added, term_of}
 use Rattle.homeo_desugar.proofs.Makings.{Leaves, both_exprs, lifted_plain, lifted_mapped, lifted_joined, expr_lifted, test_lifted, cond_lifted, visit_lifted, exprs_step, exprs_past, exprs_end, tests_step, tests_past, conds_end, pushed_after, visits_begin, visit_step, visits_done, counted_lifted, counted_as, indexed_lifted, indexed_as}
 use Rattle.homeo_desugar.proofs.Rows.{bind_fits}
 use Rattle.homeo_desugar.proofs.SlotLists.{low_used, slot_is_low}

@@ -5,9 +5,9 @@ use Rattle.homeo_syntax.specs.SourceView.{exprs, tests, plain_expr, plain_test, 
 use Rattle.homeo_syntax.specs.LowView.{low_exprs, low_tests, plain_lexpr, plain_ltest}
 use Rattle.homeo_meaning.specs.Context.{bind}
 use Rattle.homeo_meaning.specs.LForm.{visits, lift_all, lift_cond}
-use Rattle.homeo_desugar.specs.Made.{both_tests}
-use Rattle.homeo_desugar.specs.Settings.{setting, slots_after, plain_slots}
-use Rattle.homeo_desugar.specs.Visits.{adding, term_of}
+use Rattle.homeo_desugar.specs.inner.Made.{both_tests}
+use Rattle.homeo_desugar.specs.inner.Settings.{setting, slots_after, plain_slots}
+use Rattle.homeo_desugar.specs.inner.Visits.{adding, term_of}
 use Rattle.homeo_desugar.proofs.Makings.{Leaves, VisitsLeft, both_exprs}
 use Rattle.homeo_desugar.proofs.lifting.+phrases.Given as goal
 

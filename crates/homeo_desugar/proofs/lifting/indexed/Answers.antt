@@ -8,8 +8,8 @@ use Rattle.homeo_meaning.specs.Key.{words as meaning_words}
 use Rattle.homeo_meaning.specs.Schema.{declared_range}
 use Rattle.homeo_meaning.specs.Context.{cell, slot_at, spot}
 use Rattle.homeo_meaning.specs.LForm.{read, fresh, read_slot, read_chain}
-use Rattle.homeo_desugar.specs.Key.{words}
-use Rattle.homeo_desugar.specs.Settings.{plain_slot, plain_slots}
+use Rattle.homeo_desugar.specs.inner.Key.{words}
+use Rattle.homeo_desugar.specs.inner.Settings.{plain_slot, plain_slots}
 use Rattle.homeo_desugar.proofs.Makings.{indexed_literal, indexed_chain, pushed_after}
 use Rattle.homeo_desugar.proofs.SlotLists.{at_numbered, numbered_fits}
 use Rattle.homeo_desugar.proofs.lifting.indexed.Goals.{in-Some-at, in-None}

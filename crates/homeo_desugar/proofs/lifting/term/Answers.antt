@@ -2,9 +2,9 @@
 use Rattle.std.proofs.Common.{pos, sym, ap, ◌∙◌}
 use Rattle.homeo_syntax.proofs.LowViews.{low_Literal}
 use Rattle.homeo_meaning.specs.LForm.{read}
-use Rattle.homeo_desugar.specs.Key.{words}
-use Rattle.homeo_desugar.specs.Settings.{plain_slot}
-use Rattle.homeo_desugar.specs.Visits.{term_of}
+use Rattle.homeo_desugar.specs.inner.Key.{words}
+use Rattle.homeo_desugar.specs.inner.Settings.{plain_slot}
+use Rattle.homeo_desugar.specs.inner.Visits.{term_of}
 use Rattle.homeo_desugar.proofs.SlotLists.{low_used}
 use Rattle.homeo_desugar.proofs.lifting.term.Goals as goal
 

@@ -5,9 +5,9 @@ use Rattle.homeo_syntax.specs.Low.{NoTest}
 use Rattle.homeo_syntax.specs.LowView.{low_tests, plain_ltest, plain_lexpr}
 use Rattle.homeo_syntax.proofs.LowViews.{low_conjunction_of}
 use Rattle.homeo_meaning.specs.LForm.{within}
-use Rattle.homeo_desugar.specs.Key.{words}
-use Rattle.homeo_desugar.specs.Made.{both_tests}
-use Rattle.homeo_desugar.specs.Settings.{plain_spot}
+use Rattle.homeo_desugar.specs.inner.Key.{words}
+use Rattle.homeo_desugar.specs.inner.Made.{both_tests}
+use Rattle.homeo_desugar.specs.inner.Settings.{plain_spot}
 use Rattle.homeo_desugar.proofs.making.within.Goals as goal
 
 pub returns : goal.returns

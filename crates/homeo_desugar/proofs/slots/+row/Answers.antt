@@ -1,8 +1,8 @@
 -- The row is the first of its name.
 use Rattle.std.proofs.Common.{◌≡◌, ◌==◌, cond, sym, ap, ◌∙◌, true, false, arith}
 use Rattle.std.proofs.lemmas.Bool.Decides.{nat_tests}
-use Rattle.homeo_desugar.specs.Key.{words}
-use Rattle.homeo_desugar.specs.Settings.{plain_slot, rows_of}
+use Rattle.homeo_desugar.specs.inner.Key.{words}
+use Rattle.homeo_desugar.specs.inner.Settings.{plain_slot, rows_of}
 use Rattle.homeo_desugar.proofs.slots.+row.Goals as goal
 
 pub returns-in-Outside : goal.returns-in-Outside

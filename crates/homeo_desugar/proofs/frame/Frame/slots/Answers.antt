@@ -1,26 +1,34 @@
 -- The relations of the frame are those of its context.
-use Rattle.std.proofs.Common.{◌<◌, ◌^◌, sym, ap, ◌∙◌, subst}
+use Rattle.std.proofs.Common.{◌≡◌, ◌<◌, ◌^◌, length, sym, ap, ◌∙◌, subst, arith}
+use Rattle.std.proofs.lemmas.List.{length-map}
 use Rattle.homeo_meaning.specs.Key.{words as meaning_words}
-use Rattle.homeo_meaning.specs.Context.{object_count, find_slots}
-use Rattle.homeo_desugar.specs.Key.{words}
-use Rattle.homeo_desugar.specs.Settings.{schemas}
-use Rattle.homeo_desugar.proofs.Schemas.{one_less}
+use Rattle.homeo_meaning.specs.Schema.{declared_range}
+use Rattle.homeo_desugar.specs.inner.Key.{words}
+use Rattle.homeo_desugar.proofs.Objects.{first_fits, count_fits}
 use Rattle.homeo_desugar.proofs.frame.Frame.slots.Goals as goal
 
-pub find-requires-clause-objects : goal.find-requires-clause-objects
-unfolding words
-find-requires-clause-objects c =
-    subst (λ n. object_count n (schemas c.args.self.now.relations.now) < 2 ^ 32) (sym c.len.ensures) (one_less _ c.requires.schema.objects)
+pub overflow_cast-result : goal.overflow_cast-result
+unfolding words meaning_words
+overflow_cast-result c =
+    let few = first_fits c.relation-found.result.first c.relation-found.result.count (length c.relation-found.result.fields.now) c.relation-found.ensures.numbered in
+    omega (arith, few)
 
-pub find-requires-clause-fields : goal.find-requires-clause-fields
-unfolding words
-find-requires-clause-fields c = c.requires.schema.fields c.args.name
+pub overflow_cast-result-2 : goal.overflow_cast-result-2
+unfolding words meaning_words
+overflow_cast-result-2 c =
+    let few = count_fits c.relation-found.result.first c.relation-found.result.count (length c.relation-found.result.fields.now) c.relation-found.ensures.numbered in
+    omega (arith, few)
 
 pub returns-clause-slots : goal.returns-clause-slots
 unfolding words meaning_words
-returns-clause-slots c =
-    c.find.ensures.slots ∙ ap (λ n. find_slots n (schemas c.args.self.now.relations.now) c.args.name) c.len.ensures
+returns-clause-slots c = c.relation-found.ensures.slots
 
 pub returns-clause-fields : goal.returns-clause-fields
 unfolding words meaning_words
-returns-clause-fields c = c.find.ensures.fields
+returns-clause-fields c = c.relation-found.ensures.fields
+
+pub returns-clause-fits : goal.returns-clause-fits
+unfolding words meaning_words
+returns-clause-fits c =
+    let few : length c.relation-found.result.fields.now ≡ _ = sym (length-map c.relation-found.result.fields.now declared_range) ∙ ap length c.relation-found.ensures.fields in
+    record { objects = c.relation-found.ensures.numbered; fields = subst (λ n. n < 2 ^ 32) (sym few) (c.requires.schema.fields c.args.name) }

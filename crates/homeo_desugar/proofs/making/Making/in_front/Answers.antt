@@ -4,7 +4,7 @@ use Rattle.std.proofs.lemmas.Bool.Decides.{nat_tests}
 use Rattle.homeo_syntax.specs.LowView.{low_commands, plain_lcommand}
 use Rattle.homeo_syntax.specs.Low as L
 use Rattle.homeo_syntax.proofs.LowViews.{low_Seq}
-use Rattle.homeo_desugar.specs.Key.{words}
+use Rattle.homeo_desugar.specs.inner.Key.{words}
 use Rattle.homeo_desugar.proofs.Makings.{front_alone, front_more}
 use Rattle.homeo_desugar.proofs.making.Making.in_front.Goals as goal
 

@@ -1,7 +1,7 @@
 -- The command stands behind those that were there.
 use Rattle.std.proofs.Common.{map, ap, ◌∙◌}
 use Rattle.homeo_syntax.specs.LowView.{low_commands, plain_lcommand}
-use Rattle.homeo_desugar.specs.Key.{words}
+use Rattle.homeo_desugar.specs.inner.Key.{words}
 use Rattle.homeo_desugar.proofs.Makings.{made_push}
 use Rattle.homeo_desugar.proofs.making.Making.push.Goals as goal
 

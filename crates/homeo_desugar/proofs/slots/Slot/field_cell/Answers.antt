@@ -2,8 +2,8 @@
 use Rattle.std.proofs.Common.{ap, ◌∙◌}
 use Rattle.homeo_meaning.specs.Key.{words as meaning_words}
 use Rattle.homeo_meaning.specs.Context.{cell}
-use Rattle.homeo_desugar.specs.Key.{words}
-use Rattle.homeo_desugar.specs.Settings.{plain_slot}
+use Rattle.homeo_desugar.specs.inner.Key.{words}
+use Rattle.homeo_desugar.specs.inner.Settings.{plain_slot}
 use Rattle.homeo_desugar.proofs.slots.Slot.field_cell.Goals as goal
 
 pub returns : goal.returns

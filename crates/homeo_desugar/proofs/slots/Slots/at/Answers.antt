@@ -1,6 +1,6 @@
 -- An index below 0, within the slots, or past them.
 use Rattle.std.proofs.Common.{rules, SFits, w64}
-use Rattle.homeo_desugar.specs.Settings.{plain_slot}
+use Rattle.homeo_desugar.specs.inner.Settings.{plain_slot}
 use Rattle.homeo_desugar.proofs.SlotLists.{at_below, at_beyond, at_inside}
 use Rattle.homeo_desugar.proofs.slots.Slots.at.Goals.{then-index-lt0-via-then-index-lt0, then-index-lt0-via-else-index-lt0+then-index-from}
 use Rattle.homeo_desugar.proofs.slots.Slots.at.Goals as goal

@@ -1,7 +1,7 @@
 -- The slots are one wider than their fields.
 use Rattle.std.proofs.Common.{◌≡◌, ◌+◌, ◌*◌, ℕ, length, map, ap, arith}
 use Rattle.homeo_meaning.specs.Schema.{declared_range}
-use Rattle.homeo_desugar.specs.Key.{words}
+use Rattle.homeo_desugar.specs.inner.Key.{words}
 use Rattle.homeo_desugar.proofs.slots.Slots.slot.Goals as goal
 
 width : (n k first : ℕ) → first + k * (n + 1) ≡ first + k * (1 + n)

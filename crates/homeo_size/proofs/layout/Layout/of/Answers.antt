@@ -1,5 +1,5 @@
 -- Each part is laid out, and the objects are few.
-use Rattle.std.proofs.Common.{[], arith, refl, length}
+use Rattle.std.proofs.Common.{[], arith}
 use Rattle.homeo_size.specs.inner.Key.{words}
 use Rattle.homeo_size.proofs.Layouts.{few_objects, layout_is}
 use Rattle.homeo_size.proofs.layout.Layout.of.Goals as goal

@@ -5,7 +5,7 @@ use Rattle.homeo_syntax.specs.declared.low.Temp.TheVariants as temp
 use Rattle.homeo_syntax.specs.Source.{Expr, Commands}
 use Rattle.homeo_meaning.specs.Context.{Slot, Context, field_cell, bind}
 use Rattle.homeo_meaning.specs.LForm.{Lifted, Made, mapped, equal, read, fresh, lift, write_field, as_one, forms}
-use Rattle.homeo_desugar.specs.Key.{words}
+use Rattle.homeo_desugar.specs.inner.Key.{words}
 
 -- what a used slot adds: 1, or a field
 abbrev pub term_of : Option ℕ → Slot → L.Expr

@@ -1,17 +1,15 @@
 -- What the code's slots, rows and frames stand for.
 use Rattle.std.specs.Prelude.{ℕ, ◌+◌, ◌*◌, ◌^◌, ◌<◌, ◌==◌, cond, List, [], map, length}
-use Rattle.homeo_syntax.specs.SourceView.{plain_relation}
-use Rattle.homeo_syntax.specs.declared.workload.RelationDecl.{RelationDecl}
-use Rattle.homeo_meaning.specs.Schema.{Declared, Relation, Schema, declared_range, declared_relation}
+use Rattle.homeo_meaning.specs.Schema.{Schema, declared_range}
 use Rattle.homeo_meaning.specs.Context.{Spot, Slot, Context, slots_from, find_fields, object_count, arguments_of}
-use Rattle.homeo_desugar.specs.Key.{words}
+use Rattle.homeo_desugar.specs.inner.Key.{words}
 use Rattle.homeo_desugar.specs.declared.frame.Frame.{Frame}
-use Rattle.homeo_desugar.specs.declared.objects.Spot as objects
+use Rattle.homeo_desugar.specs.declared.slots.Spot as declared
 use Rattle.homeo_desugar.specs.declared.slots.Slot as one
 use Rattle.homeo_desugar.specs.declared.slots.Slots as all
 use Rattle.homeo_desugar.specs.declared.slots.Rows.{Rows, Outside, Within'}
 
-abbrev pub plain_spot : objects.Spot → Spot
+abbrev pub plain_spot : declared.Spot → Spot
 unfolding words
 plain_spot s = record { place = s.place; lo = s.lo; hi = s.hi }
 
@@ -45,23 +43,14 @@ rows_of absent (Within' name slot p outer) n = cond (name == n) (plain_slot slot
 abbrev pub absent : ℕ → Slot
 absent past = record { number = 0; used = past; fields = [] }
 
-abbrev pub schemas : List RelationDecl → List Relation
-unfolding words
-schemas rs = map (λ r. declared_relation (plain_relation r)) rs
-
--- for each slot one object more than fields
-abbrev pub objects_of : Relation → ℕ
-objects_of r = r.slots * (1 + length r.fields)
-
-abbrev pub schema_with : List Declared → List RelationDecl → Schema
-unfolding words
-schema_with objects relations = record { objects = objects; relations = schemas relations }
-
 -- the context of a phrase
 abbrev pub setting : Frame → Context
 unfolding words
-setting f =
-    record { schema = schema_with f.objects.now f.relations.now; arguments = arguments_of (map (λ p. p.name.name) f.params.now) f.args.now; rows = rows_of (absent f.past) f.rows }
+setting f = record {
+  schema = f.declared.now.schema;
+  arguments = arguments_of (map (λ a. a.name) f.arguments.now) (map (λ a. a.value) f.arguments.now);
+  rows = rows_of (absent f.past) f.rows;
+}
 
 -- the objects of the slot and of its fields have numbers of the code, and one more
 abbrev pub IsLow : Slot → Type 0

@@ -1,6 +1,6 @@
 use Rattle.std.proofs.Common.{◌≡◌, map, drop}
 use Rattle.homeo_meaning.specs.Context.{arguments_of}
-use Rattle.homeo_context.proofs.arguments.argument_or.Given as goal
+use Rattle.homeo_context.proofs.arguments.argument_of.Given as goal
 
 abbrev pub invariant-loop-argument : goal.invariant-loop-argument
 invariant-loop-argument l =

@@ -1,0 +1,4 @@
+pub mod Key
+pub mod Made
+pub mod Settings
+pub mod Visits
