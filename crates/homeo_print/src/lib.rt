@@ -16,8 +16,6 @@ pub mod laws;
 mod layout;
 mod phrases;
 mod pieces;
-#[cfg(test)]
-mod tests;
 
 use homeo_syntax::{Memory, Workload};
 use std::alloc::Global;

@@ -11,8 +11,6 @@ pub mod laws;
 mod numbers;
 mod parser;
 mod reader;
-#[cfg(test)]
-mod tests;
 mod workload;
 
 pub use reader::{ReadRefusal, read};

@@ -17,8 +17,6 @@ mod phrases;
 mod prints;
 mod rows;
 mod slot;
-#[cfg(test)]
-mod tests;
 
 pub use call::measure;
 pub use layout::Layout;

@@ -3,10 +3,12 @@
 ghost use Rattle.std.specs.Prelude.{◌≡◌, [], All, map, IfOk};
 ghost use Rattle.homeo_syntax.specs.SourceView.{plain_workload};
 ghost use Rattle.homeo_meaning.specs.Bounds.{IsWithin};
+ghost use Rattle.homeo_meaning.specs.Declarations.{declarations};
 ghost use Rattle.homeo_meaning.specs.Ground.{plain_ground};
 ghost use Rattle.homeo_meaning.specs.Schema.{schema_of};
 ghost use Rattle.homeo_ground.specs.Grounding.{IsCalled};
 
+use homeo_context::Declarations;
 use homeo_desugar::desugar;
 use homeo_ground::Grounding;
 use homeo_eval::{eval, initial};
@@ -91,14 +93,16 @@ fn run_both(
     rt: &impl Abort,
     alloc: Global,
     w: &Accepted,
+    declared: &Declarations,
     call: &GroundCall,
     database: &mut Database,
 ) -> Result<(), Fail>
+    requires declared { declared.now ≡ declarations (plain_workload w.now) }
     requires called { IsCalled (plain_workload w.now) (plain_ground call.now) }
     requires within { IsWithin (schema_of (plain_workload w.now)) database.old.items }
     ensures within { IsWithin (schema_of (plain_workload w.now)) database.new.items }
 {
-    let form = desugar(alloc, call, w)?;
+    let form = desugar(alloc, call, w, declared)?;
     let mut split = whole(alloc, database)?;
     assert!(rt; split.has_places(&form));
     let printed = eval_l(alloc, &form, &mut split)?;
@@ -113,15 +117,17 @@ fn run_round(
     rt: &impl Abort,
     alloc: Global,
     w: &Accepted,
+    declared: &Declarations,
     calls: &[GroundCall],
     database: &mut Database,
 ) -> Result<(), Fail>
+    requires declared { declared.now ≡ declarations (plain_workload w.now) }
     requires called { All (IsCalled (plain_workload w.now)) (map plain_ground calls.now) }
     requires within { IsWithin (schema_of (plain_workload w.now)) database.old.items }
     ensures within { IsWithin (schema_of (plain_workload w.now)) database.new.items }
 {
     for call in calls {
-        run_both(rt, alloc, w, call, database)?;
+        run_both(rt, alloc, w, declared, call, database)?;
     }
     Ok(())
 }
@@ -133,10 +139,11 @@ fn run_rounds(
     w: &Accepted,
     rounds: usize,
 ) -> Result<Database, Fail> {
+    let declared = Declarations::of(alloc, w)?;
     let grounding = Grounding::of(alloc, w)?;
     let mut database = initial(alloc, w)?;
     for _ in 0..rounds {
-        run_round(rt, alloc, w, grounding.calls(), &mut database)?;
+        run_round(rt, alloc, w, &declared, grounding.calls(), &mut database)?;
     }
     Ok(database)
 }

@@ -8,6 +8,10 @@ mod evaluation;
 mod forms;
 #[cfg(test)]
 mod printing;
+#[cfg(test)]
+mod sizes;
+#[cfg(test)]
+mod values;
 
 #[cfg(test)]
 mod tests {

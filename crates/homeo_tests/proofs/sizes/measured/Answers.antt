@@ -8,7 +8,7 @@ use Rattle.homeo_meaning.specs.Key.{words as meaning_words}
 use Rattle.homeo_meaning.specs.Schema.{declared_range, nat_of}
 use Rattle.homeo_size.specs.Layout.{relation_of, HasFewObjects, schema_with}
 use Rattle.homeo_size.specs.inner.Laid.{relation_size}
-use Rattle.homeo_size.proofs.tests.measured.Goals as goal
+use Rattle.homeo_tests.proofs.sizes.measured.Goals as goal
 
 few : (d : ObjectDecl) (r : RelationDecl) (rs : List RelationDecl) (slots : ℕ) → rs ≡ r ∷ [] → r.slots.value ≡ pos slots → length r.fields.items ≡ 1 → slots ≤ 64 → HasFewObjects (schema_with (d ∷ []) rs)
 unfolding tree_words meaning_words

@@ -2,7 +2,7 @@
 
 ghost use Rattle.std.specs.Prelude.{◌≡◌, ◌≤◌, [], ◌∷◌, pos, length, IfOk};
 
-use crate::{Layout, Measure, TOO_MANY_PRINTS, count_prints, measure};
+use homeo_size::{Layout, Measure, TOO_MANY_PRINTS, count_prints, measure};
 use homeo_syntax::{
     Command, Compare, Cond, Expr, Ident, List, Memory, Number, ObjectDecl, RangeDecl, RelationDecl,
     Test, Transaction,
@@ -10,6 +10,7 @@ use homeo_syntax::{
 use std::alloc::Global;
 use std::test::Fail;
 
+/// A number that stands nowhere.
 fn number(value: i64) -> Number
     ensures { result.value ≡ value }
 {
