@@ -65,7 +65,8 @@ after-sizes w b e none =
 
 -- ---- of the lists that the code goes along
 -- the ground calls are measured, one for one
-pub grounds-plain : (w : s.Workload) (grounds : List SitedCall) (measured found : List MeasuredCall) → map sited grounds ≡ ground_calls w → map call_of measured ≡ map sited grounds → found ≡ measured → map call_of found ≡ ground_calls w
+pub grounds-plain : (w : s.Workload) (grounds : List SitedCall) (measured found : List MeasuredCall)
+    → map sited grounds ≡ ground_calls w → map call_of measured ≡ map sited grounds → found ≡ measured → map call_of found ≡ ground_calls w
 grounds-plain w grounds measured found e m f = ap (map call_of) f ∙ m ∙ e
 
 -- where there is no fault of sizes, each ground call is measured
