@@ -25,7 +25,7 @@ use Rattle.homeo_rules.specs.inner.Printing.{prints_too_much_in}
 use Rattle.homeo_ground.specs.Sited.{sited}
 use Rattle.homeo_rules.specs.inner.Sizes.{AreTold, AreMeasured, call_of}
 use Rattle.homeo_ground.specs.declared.sited.SitedCall.{SitedCall}
-use Rattle.homeo_rules.specs.declared.sizes.MeasuredCall.{MeasuredCall}
+use Rattle.homeo_rules.specs.declared.rules.sizes.MeasuredCall.{MeasuredCall}
 use Rattle.homeo_rules.proofs.OneDecides.{none_left}
 use Rattle.homeo_rules.proofs.CallsMeasured.{are_measured}
 use Rattle.homeo_rules.proofs.Steps.{keep_all-append}
