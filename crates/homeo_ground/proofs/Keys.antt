@@ -44,12 +44,14 @@ place-keys k [] = refl
 place-keys k (j ∷ ks) = λ i. if not (same-key k j i) then 1 + place-keys k ks i else 0
 
 -- where calls stand in the text does not count
-any-unplaced : (u : g.SitedCall) (us : List g.SitedCall) → list_any (same_ground (unplaced u)) (map unplaced us) ≡ list_any (same_ground u) us
+any-unplaced : (u : g.SitedCall) (us : List g.SitedCall)
+    → list_any (same_ground (unplaced u)) (map unplaced us) ≡ list_any (same_ground u) us
 unfolding meaning_words
 any-unplaced u [] = refl
 any-unplaced u (v ∷ us) = ap (λ (b : Bool). same_ground u v || b) (any-unplaced u us)
 
-place-unplaced : (u : g.SitedCall) (us : List g.SitedCall) → position_or_len (same_ground (unplaced u)) (map unplaced us) ≡ position_or_len (same_ground u) us
+place-unplaced : (u : g.SitedCall) (us : List g.SitedCall)
+    → position_or_len (same_ground (unplaced u)) (map unplaced us) ≡ position_or_len (same_ground u) us
 unfolding meaning_words
 place-unplaced u [] = refl
 place-unplaced u (v ∷ us) = ap (λ (n : ℕ). if not (same_ground u v) then 1 + n else 0) (place-unplaced u us)

@@ -16,7 +16,7 @@ use Rattle.homeo_rules.specs.inner.Deciding.{keep_all}
 use Rattle.homeo_meaning.specs.declared.rules.Fault.{Fault}
 use Rattle.homeo_size.specs.Measured.{IsMeasure}
 use Rattle.homeo_rules.specs.inner.Sizes.{call_of, AreMeasured, known}
-use Rattle.homeo_rules.specs.declared.sizes.MeasuredCall.{MeasuredCall}
+use Rattle.homeo_rules.specs.declared.rules.sizes.MeasuredCall.{MeasuredCall}
 use Rattle.homeo_rules.proofs.Steps.{keep_all-append}
 
 -- ---- what is told up to a cap decides as what is not

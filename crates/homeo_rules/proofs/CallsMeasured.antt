@@ -21,7 +21,7 @@ use Rattle.homeo_size.specs.declared.steps.Measure.{Measure}
 use Rattle.homeo_ground.specs.Sited.{sited}
 use Rattle.homeo_rules.specs.inner.Sizes.{call_of, told_size, IsToldAfter, IsTold, AreTold, AreMeasured, known}
 use Rattle.homeo_ground.specs.declared.sited.SitedCall.{SitedCall}
-use Rattle.homeo_rules.specs.declared.sizes.MeasuredCall.{MeasuredCall}
+use Rattle.homeo_rules.specs.declared.rules.sizes.MeasuredCall.{MeasuredCall}
 use Rattle.homeo_rules.proofs.AlongCalls.{or_true, AgreeUpTo, total_known, total_unknown}
 
 pub told_last : (w : s.Workload) (a : ℕ) (ms : List MeasuredCall) (m : MeasuredCall) → AreTold w a ms → IsToldAfter w (a + sum_by (λ (k : MeasuredCall). told_size w (call_of k)) ms) (call_of m) m.measure → AreTold w a (ms ++ m ∷ [])

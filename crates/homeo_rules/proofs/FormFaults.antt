@@ -25,7 +25,7 @@ use Rattle.homeo_rules.specs.inner.Printing.{prints_too_much_in}
 use Rattle.homeo_ground.specs.Sited.{sited}
 use Rattle.homeo_rules.specs.inner.Sizes.{AreTold, AreMeasured, call_of}
 use Rattle.homeo_ground.specs.declared.sited.SitedCall.{SitedCall}
-use Rattle.homeo_rules.specs.declared.sizes.MeasuredCall.{MeasuredCall}
+use Rattle.homeo_rules.specs.declared.rules.sizes.MeasuredCall.{MeasuredCall}
 use Rattle.homeo_rules.proofs.OneDecides.{none_left}
 use Rattle.homeo_rules.proofs.CallsMeasured.{are_measured}
 use Rattle.homeo_rules.proofs.Steps.{keep_all-append}
@@ -65,7 +65,8 @@ after-sizes w b e none =
 
 -- ---- of the lists that the code goes along
 -- the ground calls are measured, one for one
-pub grounds-plain : (w : s.Workload) (grounds : List SitedCall) (measured found : List MeasuredCall) → map sited grounds ≡ ground_calls w → map call_of measured ≡ map sited grounds → found ≡ measured → map call_of found ≡ ground_calls w
+pub grounds-plain : (w : s.Workload) (grounds : List SitedCall) (measured found : List MeasuredCall)
+    → map sited grounds ≡ ground_calls w → map call_of measured ≡ map sited grounds → found ≡ measured → map call_of found ≡ ground_calls w
 grounds-plain w grounds measured found e m f = ap (map call_of) f ∙ m ∙ e
 
 -- where there is no fault of sizes, each ground call is measured

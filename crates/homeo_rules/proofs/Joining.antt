@@ -199,8 +199,8 @@ scope-is w t items qs globals ei eq =
 
 -- ---- calls
 -- the distinct calls of the clients are the ground calls
-pub grounds-are : (w : Workload) (grounds : List SitedCall) (cs : List Client) → map sited grounds ≡ distinct_after [] (flat_map sited_calls_of (map plain_client cs)) → cs ≡ w.clients.items
-    → map sited grounds ≡ ground_calls (plain_workload w)
+pub grounds-are : (w : Workload) (grounds : List SitedCall) (cs : List Client)
+    → map sited grounds ≡ distinct_after [] (flat_map sited_calls_of (map plain_client cs)) → cs ≡ w.clients.items → map sited grounds ≡ ground_calls (plain_workload w)
 unfolding meaning_words syntax_words
 grounds-are w grounds cs e ec = e ∙ ap (λ l. distinct_after [] (flat_map sited_calls_of (map plain_client l))) ec
 

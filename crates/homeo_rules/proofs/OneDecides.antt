@@ -126,7 +126,8 @@ pub refused-by : (purpose : Purpose) (w : s.Workload) (f : Fault) (r : Refusal) 
 refused-by purpose w f r e c o = record { fault = f; decides = decides (faults purpose w) f e; same_code = c; same_offset = o }
 
 -- ---- verdicts
-pub one_refusal : (purpose : Purpose) (w : s.Workload) (r q : Refusal) → IsRefusedBy purpose w r → IsRefusedBy purpose w q → r ≡ q
+pub one_refusal : (purpose : Purpose) (w : s.Workload) (r q : Refusal)
+    → IsRefusedBy purpose w r → IsRefusedBy purpose w q → r ≡ q
 one_refusal purpose w r q x y =
     let same : x.fault ≡ y.fault = one_decides (faults purpose w) x.fault y.fault x.decides y.decides in
     let codes : r.code ≡ q.code = x.same_code ∙ ap (λ (f : Fault). code f.phase) same ∙ sym y.same_code in

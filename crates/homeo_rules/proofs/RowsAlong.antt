@@ -21,7 +21,7 @@ use Rattle.homeo_meaning.specs.declared.rules.Phase.TheVariants.{Rows}
 use Rattle.homeo_size.specs.Measured.{IsMeasure}
 use Rattle.homeo_size.specs.declared.steps.Measure.{Measure}
 use Rattle.homeo_rules.specs.inner.Sizes.{call_of, AreMeasured, known}
-use Rattle.homeo_rules.specs.declared.sizes.MeasuredCall.{MeasuredCall}
+use Rattle.homeo_rules.specs.declared.rules.sizes.MeasuredCall.{MeasuredCall}
 use Rattle.homeo_rules.proofs.AlongCalls.{left_of, one_more, none_more, sum_before, sum_next, again, capped-less, head_measured}
 
 one_product : (m n : ℕ) → 1 ≤ m → 1 ≤ n → 1 ≤ m * n

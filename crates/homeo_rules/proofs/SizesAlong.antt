@@ -15,7 +15,7 @@ use Rattle.homeo_meaning.specs.declared.rules.Fault.{Fault}
 use Rattle.homeo_meaning.specs.declared.rules.Phase.TheVariants.{Size}
 use Rattle.homeo_size.specs.declared.steps.Measure.{Measure}
 use Rattle.homeo_rules.specs.inner.Sizes.{call_of, told_size, IsToldAfter, AreTold, known, is_too_large}
-use Rattle.homeo_rules.specs.declared.sizes.MeasuredCall.{MeasuredCall}
+use Rattle.homeo_rules.specs.declared.rules.sizes.MeasuredCall.{MeasuredCall}
 use Rattle.homeo_rules.proofs.AlongCalls.{left_of, one_more, none_more, sum_before, sum_next, again, capped-less, or_true, AgreeUpTo, total_known, total_unknown}
 
 same_test : (m n : ℕ) → AgreeUpTo 2000001 m n → nat_lt 2000000 m ≡ nat_lt 2000000 n

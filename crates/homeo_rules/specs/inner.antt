@@ -16,7 +16,6 @@ pub mod Relations
 pub mod Scopes
 pub mod Sited
 pub mod Sizes
-pub mod Stages
 pub mod Tabled
 pub mod Tally
 pub mod Within

@@ -13,9 +13,9 @@ ghost use Rattle.homeo_rules.specs.inner.Plain.{named_fields};
 ghost use Rattle.homeo_rules.specs.inner.Scopes.{scope_in};
 
 use crate::deciding::at_name;
-use crate::fields::{check_field, check_insert};
-use crate::rows::Rows;
-use crate::scope::Scope;
+use crate::names::rows::Rows;
+use crate::names::scope::Scope;
+use crate::rules::fields::{check_field, check_insert};
 use homeo_meaning::{Binding, Fault, Item, Local, Phase};
 use homeo_syntax::{FieldValue, Ident, Memory};
 use std::alloc::Global;

@@ -12,19 +12,19 @@ ghost use Rattle.homeo_rules.specs.inner.Scopes.{scope_in};
 ghost use Rattle.homeo_ground.specs.Sited.{sited};
 ghost use Rattle.homeo_rules.specs.inner.Decided.{NamesGlobals, faults_with_names};
 
-use crate::bounds::check_objects;
-use crate::calls::check_clients;
-use crate::field_table::FieldTable;
 use crate::forms::check_forms;
-use crate::items::{self, Items};
-use crate::limits::{
+use crate::names::field_table::FieldTable;
+use crate::names::items::{self, Items};
+use crate::names::scope::Scope;
+use crate::rules::bounds::check_objects;
+use crate::rules::calls::check_clients;
+use crate::rules::limits::{
     check_call_count, check_client_count, check_ground_count, check_site_count,
     check_transaction_count,
 };
-use crate::objects::check_object_count;
-use crate::relations::{check_all_slots, check_relations};
-use crate::schedule::check_schedule;
-use crate::scope::Scope;
+use crate::rules::objects::check_object_count;
+use crate::rules::relations::{check_all_slots, check_relations};
+use crate::rules::schedule::check_schedule;
 use crate::sited::sited_calls;
 use crate::transaction::check_transactions;
 use homeo_ground::{SitedCall, number_clients};

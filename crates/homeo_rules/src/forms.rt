@@ -14,9 +14,9 @@ ghost use Rattle.homeo_rules.specs.inner.Scopes.{scope_in};
 ghost use Rattle.homeo_ground.specs.Sited.{sited};
 ghost use Rattle.homeo_rules.specs.inner.Sizes.{IsSetUp, workload_of, call_of, AreTold, AreMeasured};
 
-use crate::prints::check_prints;
-use crate::scope::Scope;
-use crate::sizes::{
+use crate::names::scope::Scope;
+use crate::rules::prints::check_prints;
+use crate::rules::sizes::{
     MeasuredCall, Measuring, check_rows, check_sizes, check_weights, measure_calls,
 };
 use homeo_ground::SitedCall;

@@ -2,26 +2,14 @@
 #![tactic(auto)]
 
 mod acceptance;
-mod bounds;
-mod calls;
 mod checker;
 mod deciding;
 mod decision;
-mod distinct;
-mod field_table;
-mod fields;
 mod forms;
-mod items;
 pub mod laws;
-mod limits;
-mod objects;
-mod prints;
-mod relations;
-mod rows;
-mod schedule;
-mod scope;
+mod names;
+mod rules;
 mod sited;
-mod sizes;
 mod transaction;
 mod walk;
 

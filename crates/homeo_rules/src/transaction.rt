@@ -10,10 +10,10 @@ ghost use Rattle.homeo_rules.specs.inner.Within.{IsNamed, AreNamed};
 ghost use Rattle.homeo_rules.specs.inner.Callers.{transaction_faults_of};
 ghost use Rattle.homeo_rules.specs.inner.Listwise.{along_all};
 
-use crate::bounds::check_ranges;
 use crate::checker::Checker;
-use crate::rows::Rows;
-use crate::scope::Scope;
+use crate::names::rows::Rows;
+use crate::names::scope::Scope;
+use crate::rules::bounds::check_ranges;
 use crate::walk::walk_commands;
 use homeo_meaning::Fault;
 use homeo_syntax::{Memory, RangeDecl, Transaction};

@@ -9,8 +9,8 @@ ghost use Rattle.homeo_rules.specs.inner.Plain.{plain_exprs, plain_tests, plain_
 ghost use Rattle.homeo_rules.specs.inner.Scopes.{scope_in};
 
 use crate::checker::Checker;
-use crate::rows::Rows;
-use crate::scope::Scope;
+use crate::names::rows::Rows;
+use crate::names::scope::Scope;
 use homeo_syntax::{Command, Cond, Expr, FieldValue, Memory, Test};
 
 #[cycle(phrases)]

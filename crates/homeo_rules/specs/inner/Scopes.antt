@@ -3,7 +3,7 @@ use Rattle.std.specs.Prelude.{ℕ, List, Option, None, slice_index_or}
 use Rattle.homeo_syntax.specs.declared.workload.RelationDecl.{RelationDecl}
 use Rattle.homeo_meaning.specs.Bindings as b
 use Rattle.homeo_meaning.specs.declared.rules.Item.{Item}
-use Rattle.homeo_rules.specs.declared.scope.Scope.{Scope}
+use Rattle.homeo_rules.specs.declared.names.scope.Scope.{Scope}
 use Rattle.homeo_rules.specs.inner.Tabled.{fields_at}
 
 abbrev pub item_at : List (Option Item) → ℕ → Option Item

@@ -14,8 +14,8 @@ use Rattle.homeo_size.specs.Measured.{IsMeasure, IsMeasured}
 use Rattle.homeo_size.specs.declared.steps.Measure.{Measure}
 use Rattle.homeo_rules.specs.inner.Scopes.{scope_in}
 use Rattle.homeo_ground.specs.Sited.{sited}
-use Rattle.homeo_rules.specs.declared.sizes.MeasuredCall.{MeasuredCall}
-use Rattle.homeo_rules.specs.declared.sizes.Measuring.{Measuring}
+use Rattle.homeo_rules.specs.declared.rules.sizes.MeasuredCall.{MeasuredCall}
+use Rattle.homeo_rules.specs.declared.rules.sizes.Measuring.{Measuring}
 
 abbrev pub workload_of : Measuring → s.Workload
 workload_of m = plain_workload m.workload.now

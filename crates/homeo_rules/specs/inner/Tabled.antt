@@ -3,7 +3,7 @@ use Rattle.std.specs.Prelude.{◌≡◌, ℕ, ◌==◌, ◌&&◌, Bool, false, L
 use Rattle.std.specs.List.{list_any}
 use Rattle.indexmap.specs.IndexSet.{IndexSet}
 use Rattle.homeo_syntax.specs.declared.workload.RelationDecl.{RelationDecl}
-use Rattle.homeo_rules.specs.declared.field_table.FieldKey.{FieldKey}
+use Rattle.homeo_rules.specs.declared.names.field_table.FieldKey.{FieldKey}
 
 abbrev pub fields_of : Option RelationDecl → List ℕ
 fields_of None = []

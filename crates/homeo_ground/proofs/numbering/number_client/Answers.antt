@@ -9,17 +9,28 @@ loop-call-init c = record { keys = c.requires; calls = no-calls (sited_all c.arg
 
 pub loop-call-preserved : goal.loop-call-preserved
 loop-call-preserved c =
-    let is = sited-is c.args.client.now c.call-item.result c.as_slice.result.now _ c.as_slice.ensures (search rules) in
+    let client = c.args.client.now in
+    let calls = c.as_slice-call-items.result.now in
+    let item = c.call-item.result in
+    let is = sited-is client item c.as_slice.result.now _ c.as_slice.ensures (search rules) in
+    let so_far = c.loop-call.invariant in
+    let put = c.in_ok-place.ensures in
+    let made = c.in_ok-push.ensures.items in
+    let within = c.loop-call-test.true in
     record {
-      keys = c.in_ok-place.ensures.keys;
-      calls = client_calls-step c.args.client.now c.as_slice-call-items.result.now c.loop-call.call-index c.call-item.result c.loop-call-test.true c.call-item.is _ is _ _ _ c.loop-call.invariant.calls c.in_ok-place.ensures.calls;
-      places = client_places-step c.args.client.now c.as_slice-call-items.result.now c.loop-call.call-index c.call-item.result c.loop-call-test.true c.call-item.is _ is _ _ _ c.loop-call.invariant.calls c.in_ok-place.ensures.calls c.loop-call.places.items _ _ c.loop-call.invariant.places c.in_ok-place.ensures.place c.in_ok-push.ensures.items;
+      keys = put.keys;
+      calls = client_calls-step client calls c.loop-call.call-index item within c.call-item.is _ is _ _ _ so_far.calls put.calls;
+      places =
+          client_places-step client calls c.loop-call.call-index item within c.call-item.is _ is _ _ _ so_far.calls put.calls _ _ _ so_far.places put.place made;
     }
 
 pub returns-clause-calls : goal.returns-clause-calls
 returns-clause-calls c =
-    client_calls-whole c.args.client.now c.as_slice-call-items.result.now c.loop-call.call-index _ _ c.as_slice-call-items.ensures c.loop-call-test.false c.loop-call.invariant.calls
+    let calls = c.as_slice-call-items in
+    client_calls-whole c.args.client.now calls.result.now c.loop-call.call-index _ _ calls.ensures c.loop-call-test.false c.loop-call.invariant.calls
 
 pub returns-clause-places : goal.returns-clause-places
 returns-clause-places c =
-    client_places-whole c.args.client.now c.as_slice-call-items.result.now c.loop-call.call-index (sited_all c.loop-call.distinct) c.loop-call.places.items c.as_slice-call-items.ensures c.loop-call-test.false c.loop-call.invariant.places
+    let calls = c.as_slice-call-items in
+    let so_far = c.loop-call in
+    client_places-whole c.args.client.now calls.result.now so_far.call-index _ _ calls.ensures c.loop-call-test.false so_far.invariant.places

@@ -12,8 +12,16 @@ loop-client-init c = record {
 }
 
 pub loop-client-preserved : goal.loop-client-preserved
-loop-client-preserved c = record {
-  keys = c.in_ok-numbers.ensures.keys;
-  calls = all_calls-step c.args.clients.now c.loop-client.client-index c.client-item.result c.loop-client-test.true c.client-item.is _ _ c.loop-client.invariant.calls c.in_ok-numbers.ensures.calls;
-  places = all_places-step c.args.clients.now c.loop-client.client-index c.client-item.result c.loop-client-test.true c.client-item.is _ _ c.loop-client.invariant.calls c.in_ok-numbers.ensures.calls c.loop-client.places.items _ c.in_ok-numbers.numbers c.loop-client.invariant.places c.in_ok-numbers.ensures.places c.in_ok-push.ensures.items;
-}
+loop-client-preserved c =
+    let clients = c.args.clients.now in
+    let item = c.client-item in
+    let within = c.loop-client-test.true in
+    let so_far = c.loop-client.invariant in
+    let new = c.in_ok-numbers.ensures in
+    let made = c.in_ok-push.ensures.items in
+    record {
+      keys = new.keys;
+      calls = all_calls-step clients c.loop-client.client-index item.result within item.is _ _ so_far.calls new.calls;
+      places =
+          all_places-step clients c.loop-client.client-index item.result within item.is _ _ so_far.calls new.calls _ _ _ so_far.places new.places made;
+    }

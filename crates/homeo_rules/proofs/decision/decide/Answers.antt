@@ -5,22 +5,34 @@ use Rattle.homeo_rules.proofs.Joining.{scope-is, calls-are, grounds-are, text-fo
 use Rattle.homeo_rules.proofs.decision.decide.Goals as goal
 
 pub text-requires-clause-names : goal.text-requires-clause-names
-text-requires-clause-names c = scope-is c.args.w.now c.in_ok-items.items c.as_slice-2.result.now c.in_ok-fields.fields c.in_ok-items.ensures c.as_slice-2.ensures (c.in_ok-fields.ensures ∙ c.as_slice.ensures)
+text-requires-clause-names c =
+    let fields = c.in_ok-fields.ensures ∙ c.as_slice.ensures in
+    scope-is c.args.w.now c.in_ok-items.items c.as_slice-2.result.now c.in_ok-fields.fields c.in_ok-items.ensures c.as_slice-2.ensures fields
 
 pub text-requires-clause-sited : goal.text-requires-clause-sited
-text-requires-clause-sited c = ap (map sited) c.as_slice-5.ensures.value ∙ calls-are c.args.w.now c.in_ok-calls.calls.items c.as_slice-3.result.now c.in_ok-calls.ensures c.as_slice-3.ensures
+text-requires-clause-sited c =
+    ap (map sited) c.as_slice-5.ensures.value
+    ∙ calls-are c.args.w.now c.in_ok-calls.calls.items c.as_slice-3.result.now c.in_ok-calls.ensures c.as_slice-3.ensures
 
 pub text-requires-clause-grounds : goal.text-requires-clause-grounds
-text-requires-clause-grounds c = ap (map sited) c.as_slice-grounds.ensures.value ∙ grounds-are c.args.w.now c.in_ok-numbered.numbered.calls.items c.as_slice-4.result.now c.in_ok-numbered.ensures.calls c.as_slice-4.ensures
+text-requires-clause-grounds c =
+    ap (map sited) c.as_slice-grounds.ensures.value
+    ∙ grounds-are c.args.w.now c.in_ok-numbered.numbered.calls.items c.as_slice-4.result.now c.in_ok-numbered.ensures.calls c.as_slice-4.ensures
 
 pub check_forms-requires-clause-names : goal.check_forms-requires-clause-names
-check_forms-requires-clause-names c = scope-is c.args.w.now c.in_ok-items.items c.as_slice-2.result.now c.in_ok-fields.fields c.in_ok-items.ensures c.as_slice-2.ensures (c.in_ok-fields.ensures ∙ c.as_slice.ensures)
+check_forms-requires-clause-names c =
+    let fields = c.in_ok-fields.ensures ∙ c.as_slice.ensures in
+    scope-is c.args.w.now c.in_ok-items.items c.as_slice-2.result.now c.in_ok-fields.fields c.in_ok-items.ensures c.as_slice-2.ensures fields
 
 pub check_forms-requires-clause-sited : goal.check_forms-requires-clause-sited
-check_forms-requires-clause-sited c = ap (map sited) c.as_slice-in-None.ensures.value ∙ calls-are c.args.w.now c.in_ok-calls.calls.items c.as_slice-3.result.now c.in_ok-calls.ensures c.as_slice-3.ensures
+check_forms-requires-clause-sited c =
+    ap (map sited) c.as_slice-in-None.ensures.value
+    ∙ calls-are c.args.w.now c.in_ok-calls.calls.items c.as_slice-3.result.now c.in_ok-calls.ensures c.as_slice-3.ensures
 
 pub check_forms-requires-clause-grounds : goal.check_forms-requires-clause-grounds
-check_forms-requires-clause-grounds c = ap (map sited) c.as_slice-grounds.ensures.value ∙ grounds-are c.args.w.now c.in_ok-numbered.numbered.calls.items c.as_slice-4.result.now c.in_ok-numbered.ensures.calls c.as_slice-4.ensures
+check_forms-requires-clause-grounds c =
+    ap (map sited) c.as_slice-grounds.ensures.value
+    ∙ grounds-are c.args.w.now c.in_ok-numbered.numbered.calls.items c.as_slice-4.result.now c.in_ok-numbered.ensures.calls c.as_slice-4.ensures
 
 pub check_forms-requires-clause-faultless : goal.check_forms-requires-clause-faultless
 check_forms-requires-clause-faultless c =

@@ -9,15 +9,20 @@ use Rattle.homeo_ground.proofs.distinct_calls.DistinctCalls.put.Goals as goal
 
 pub returns-clause-keys : goal.returns-clause-keys
 returns-clause-keys c =
-    keys-stand c.args.self.now.keys.keys c.args.self.now.calls.items c.in_ok-key.key c.args.call c.requires c.in_ok-key.ensures _ _ _ c.in_ok-place.ensures.keys c.in_ok-place.ensures.added c.in_ok-push_new.ensures
+    let old = c.args.self.now in
+    let set = c.in_ok-place.ensures in
+    keys-stand old.keys.keys old.calls.items c.in_ok-key.key c.args.call c.requires c.in_ok-key.ensures _ _ _ set.keys set.added c.in_ok-push_new.ensures
 
 pub returns-clause-calls : goal.returns-clause-calls
 returns-clause-calls c =
-    calls-put c.args.self.now.keys.keys c.args.self.now.calls.items c.in_ok-key.key c.args.call c.requires c.in_ok-key.ensures _ _ _ c.in_ok-place.ensures.keys c.in_ok-place.ensures.added c.in_ok-push_new.ensures
+    let old = c.args.self.now in
+    let set = c.in_ok-place.ensures in
+    calls-put old.keys.keys old.calls.items c.in_ok-key.key c.args.call c.requires c.in_ok-key.ensures _ _ _ set.keys set.added c.in_ok-push_new.ensures
 
 pub returns-clause-place : goal.returns-clause-place
 returns-clause-place c =
+    let old = c.args.self.now in
     c.in_ok-place.ensures.index
-    ∙ place-is c.args.self.now.keys.keys c.args.self.now.calls.items c.in_ok-key.key c.args.call c.requires c.in_ok-key.ensures
-    ∙ sym (put-place (sited_all c.args.self.now) (sited c.args.call))
+    ∙ place-is old.keys.keys old.calls.items c.in_ok-key.key c.args.call c.requires c.in_ok-key.ensures
+    ∙ sym (put-place (sited_all old) (sited c.args.call))
     ∙ ap (λ l. place_among l (sited c.args.call)) (sym (returns-clause-calls c))

@@ -1,7 +1,0 @@
-use Rattle.std.proofs.Common.{◌≡◌, drop}
-use Rattle.homeo_meaning.specs.NumberRules.{range_bounds}
-use Rattle.homeo_rules.specs.inner.Listwise.{along_all}
-use Rattle.homeo_rules.proofs.bounds.check_ranges.Given as goal
-
-abbrev pub invariant-loop-d : goal.invariant-loop-d
-invariant-loop-d l = along_all range_bounds l.best (drop l.d-index l.ds) ≡ along_all range_bounds l.initial.best l.ds

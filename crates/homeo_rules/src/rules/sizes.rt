@@ -1,0 +1,261 @@
+//! How large the L forms of the ground calls are, how heavy, and their tables.
+
+ghost use Rattle.std.specs.Prelude.{◌≡◌, ◌+◌, ◌*◌, ◌||◌, [], not, map, min, nat_le, nat_lt, slice_get, IfOk};
+ghost use Rattle.std.specs.List.{flat_map};
+ghost use Rattle.homeo_rules.specs.inner.Deciding.{keep_all};
+ghost use Rattle.homeo_meaning.specs.NameRules.{when, fault};
+ghost use Rattle.homeo_meaning.specs.TransactionRules.{each};
+ghost use Rattle.homeo_meaning.specs.CallForm.{body_form};
+ghost use Rattle.homeo_meaning.specs.SizeRules.{extent_of, too_large, heavy_call, too_many_rows};
+ghost use Rattle.homeo_meaning.specs.declared.rules.Phase.TheVariants.{Size, Weight, Rows};
+ghost use Rattle.homeo_ground.specs.Sited.{values, sited};
+ghost use Rattle.homeo_rules.specs.inner.Scopes.{scope_in};
+ghost use Rattle.homeo_rules.specs.inner.Sizes.{IsSetUp, workload_of, transaction_place, call_of, told_size, IsMeasuredBody, IsMeasuredAs, IsTold, AreTold, AreMeasured, is_too_large, known};
+
+use crate::deciding::at_name;
+use crate::names::scope::Scope;
+use homeo_ground::SitedCall;
+use homeo_meaning::{Fault, Item, Phase};
+use homeo_size::{BEYOND, Layout, Measure, TOO_HEAVY, measure};
+use homeo_syntax::{Ident, Memory, Number, Workload};
+use std::alloc::Global;
+
+/// The largest size of a ground call.
+const LARGEST: u64 = 200_000;
+
+/// The greatest depth of a ground call.
+const DEEPEST: u64 = 1_000;
+
+/// The largest sizes together.
+const LARGEST_TOGETHER: u64 = 2_000_000;
+
+/// The most rows of a ground call's table.
+const MOST_ROWS: u64 = 4_096;
+
+/// The most rows times sizes together.
+const MOST_ROWS_TOGETHER: u64 = 8_000_000;
+
+/// What is told of a call that has no body.
+const NOTHING: Measure = Measure {
+    size: 1,
+    depth: 0,
+    weight: 0,
+    rows: 1,
+};
+
+/// What is told of a call that is too large, or that comes after calls that are too large together.
+const UNMEASURED: Measure = Measure {
+    size: BEYOND,
+    depth: BEYOND,
+    weight: TOO_HEAVY,
+    rows: BEYOND,
+};
+
+/// What calls are measured in, the same for each call.
+#[derive(Clone, Copy)]
+pub struct Measuring<'a, 'b> {
+    pub scope: Scope<'a>,
+    pub workload: &'a Workload,
+    pub layout: &'b Layout<'a>,
+    pub sites: u64,
+}
+
+/// A ground call with its measure. There is none where it is larger than all calls may be together, with those before it.
+#[derive(Clone, Copy)]
+pub struct MeasuredCall<'a> {
+    pub call: SitedCall<'a>,
+    pub measure: Option<Measure>,
+}
+
+/// A sum, up to the number that stands for all that are larger.
+fn capped_sum(a: u64, b: u64) -> u64
+    ensures { result ≡ min 8000001 (a + b) }
+{
+    BEYOND.min(a.saturating_add(b))
+}
+
+/// A product, up to the same number.
+fn capped_product(a: u64, b: u64) -> u64
+    ensures { result ≡ min 8000001 (a * b) }
+{
+    BEYOND.min(a.saturating_mul(b))
+}
+
+/// The measure of the transaction of a number, with these arguments.
+fn measure_at(
+    alloc: Global,
+    place: usize,
+    args: &[Number],
+    measuring: &Measuring<'_, '_>,
+) -> Result<Option<Measure>, Memory>
+    requires { IsSetUp measuring.now }
+    ensures { IfOk result (IsMeasuredBody (workload_of measuring.now)
+        (slice_get (workload_of measuring.now).transactions place) (values args.now)) }
+{
+    match measuring.workload.transactions.as_slice().get(place) {
+        Some(t) => measure(alloc, t, args, measuring.layout, measuring.sites),
+        None => Ok(Some(NOTHING)),
+    }
+}
+
+/// The number of the transaction that a name names.
+fn transaction_place(scope: Scope<'_>, name: u32) -> Option<usize>
+    ensures { result ≡ transaction_place ((scope_in scope.entry).item name) }
+{
+    match scope.item(name) {
+        Some(Item::Transaction(place)) => Some(place),
+        _ => None,
+    }
+}
+
+/// The measure of a call.
+fn measure_call(
+    alloc: Global,
+    call: SitedCall<'_>,
+    measuring: &Measuring<'_, '_>,
+) -> Result<Option<Measure>, Memory>
+    requires { IsSetUp measuring.now }
+    ensures { IfOk result (IsMeasuredAs (workload_of measuring.now) (sited call.entry)) }
+{
+    match transaction_place(measuring.scope, call.name.name) {
+        Some(place) => measure_at(alloc, place, call.args, measuring),
+        None => Ok(Some(NOTHING)),
+    }
+}
+
+/// Measures a call, unless those before it are too large together already: then what comes is a fault, however large.
+fn measure_after(
+    alloc: Global,
+    total: u64,
+    call: SitedCall<'_>,
+    measuring: &Measuring<'_, '_>,
+) -> Result<Option<Measure>, Memory>
+    requires { IsSetUp measuring.now }
+    ensures { IfOk result (IsTold (workload_of measuring.now) total (sited call.entry)) }
+{
+    if total > LARGEST_TOGETHER {
+        return Ok(None);
+    }
+    measure_call(alloc, call, measuring)
+}
+
+/// The measure, or what stands for that of a call that is not measured.
+fn known(measure: Option<Measure>) -> Measure
+    ensures { result ≡ known measure }
+{
+    match measure {
+        Some(measure) => measure,
+        None => UNMEASURED,
+    }
+}
+
+/// Measures each call once.
+pub fn measure_calls<'a>(
+    alloc: Global,
+    calls: &[SitedCall<'a>],
+    measuring: &Measuring<'_, '_>,
+) -> Result<Vec<MeasuredCall<'a>>, Memory>
+    requires { IsSetUp measuring.now }
+    ensures calls { IfOk result (λ all. map call_of all.items ≡ map sited calls.now) }
+    ensures told { IfOk result (λ all. AreTold (workload_of measuring.now) 0 all.items) }
+{
+    let mut total = 0;
+    let mut all = Vec::new(alloc);
+    for call in calls {
+        let measure = measure_after(alloc, total, *call, measuring)?;
+        total = capped_sum(total, known(measure).size);
+        all.push(MeasuredCall {
+            call: *call,
+            measure,
+        })?;
+    }
+    Ok(all)
+}
+
+#[tactic(auto, using(crate::proofs::Steps::keeping))]
+fn check_size(measure: Measure, total: u64, x: Ident, best: Option<Fault>) -> Option<Fault>
+    ensures { result ≡ keep_all best (when (is_too_large measure total) (fault Size x)) }
+{
+    if measure.size > LARGEST || measure.depth > DEEPEST || total > LARGEST_TOGETHER {
+        at_name(best, Phase::Size, x)
+    } else {
+        best
+    }
+}
+
+/// The fault that decides, of those of sizes and of one so far.
+pub fn check_sizes(
+    calls: &[MeasuredCall<'_>],
+    measuring: &Measuring<'_, '_>,
+    best: Option<Fault>,
+) -> Option<Fault>
+    requires { AreTold (workload_of measuring.now) 0 calls.now }
+    ensures { result ≡ keep_all best (each (too_large (extent_of (workload_of measuring.now))) (map call_of calls.now)) }
+{
+    let mut total = 0;
+    let mut best = best;
+    for measured in calls {
+        let measure = known(measured.measure);
+        total = capped_sum(total, measure.size);
+        best = check_size(measure, total, measured.call.name, best);
+    }
+    best
+}
+
+#[tactic(auto, using(crate::proofs::Steps::keeping))]
+fn check_weight(weight: u64, x: Ident, best: Option<Fault>) -> Option<Fault>
+    ensures { result ≡ keep_all best (when (not (nat_le weight 1000000000000000000)) (fault Weight x)) }
+{
+    if weight < TOO_HEAVY {
+        best
+    } else {
+        at_name(best, Phase::Weight, x)
+    }
+}
+
+/// The fault that decides, of those of weights and of one so far.
+pub fn check_weights(
+    calls: &[MeasuredCall<'_>],
+    measuring: &Measuring<'_, '_>,
+    best: Option<Fault>,
+) -> Option<Fault>
+    requires { AreMeasured (workload_of measuring.now) calls.now }
+    ensures { result ≡ keep_all best (flat_map (heavy_call (workload_of measuring.now)) (map call_of calls.now)) }
+{
+    let mut best = best;
+    for measured in calls {
+        let measure = known(measured.measure);
+        best = check_weight(measure.weight, measured.call.name, best);
+    }
+    best
+}
+
+#[tactic(auto, using(crate::proofs::Steps::keeping))]
+fn check_row_count(rows: u64, total: u64, x: Ident, best: Option<Fault>) -> Option<Fault>
+    ensures { result ≡ keep_all best (when (nat_lt 4096 rows || nat_lt 8000000 total) (fault Rows x)) }
+{
+    if rows > MOST_ROWS || total > MOST_ROWS_TOGETHER {
+        at_name(best, Phase::Rows, x)
+    } else {
+        best
+    }
+}
+
+/// The fault that decides, of those of rows and of one so far.
+pub fn check_rows(
+    calls: &[MeasuredCall<'_>],
+    measuring: &Measuring<'_, '_>,
+    best: Option<Fault>,
+) -> Option<Fault>
+    requires { AreMeasured (workload_of measuring.now) calls.now }
+    ensures { result ≡ keep_all best (each (too_many_rows (workload_of measuring.now)) (map call_of calls.now)) }
+{
+    let mut total = 0;
+    let mut best = best;
+    for measured in calls {
+        let measure = known(measured.measure);
+        total = capped_sum(total, capped_product(measure.rows, measure.size));
+        best = check_row_count(measure.rows, total, measured.call.name, best);
+    }
+    best
+}
