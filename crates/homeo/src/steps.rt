@@ -16,9 +16,9 @@ ghost use Rattle.homeo.specs.Order.{scheduled_calls};
 ghost use Rattle.homeo.specs.inner.Scheduled.{IsWholeOrder, HasSites};
 
 use crate::order::scheduled_calls;
-use homeo_history::{Closing, Entry, History, Round};
 use homeo_context::Declarations;
 use homeo_eval::{eval_call, initial};
+use homeo_history::{Closing, Entry, History, Round};
 use homeo_meaning::{Accepted, CallId, Database};
 use homeo_syntax::{Client, List, Memory, Workload};
 use std::alloc::Global;

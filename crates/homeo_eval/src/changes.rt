@@ -11,13 +11,19 @@ ghost use Rattle.homeo_context.specs.Slots.{plain_slot};
 ghost use Rattle.homeo_context.specs.Contexts.{plain_context};
 ghost use Rattle.homeo_eval.specs.inner.Visits.{holds_at, cond_fits_at, clears, can_clear, writes_at, value_fits_at};
 
-use homeo_context::{BoundRows, Context, Slot, find_field};
 use crate::phrases::{holds, value};
 use crate::state::State;
+use homeo_context::{BoundRows, Context, Slot, find_field};
 use homeo_syntax::{Cond, Expr};
 
 /// Whether a slot is used and a condition holds of the row.
-pub(crate) fn is_visited(test: &Cond, slot: &Slot, row: u32, context: &Context, state: &State) -> bool
+pub(crate) fn is_visited(
+    test: &Cond,
+    slot: &Slot,
+    row: u32,
+    context: &Context,
+    state: &State,
+) -> bool
     requires { cond_fits limit (bind (plain_context context.now) row (plain_slot slot.now)) (plain_cond test.now)
         (state_of state.now) ≡ true }
     ensures { result ≡ (is_used (state_of state.now) (plain_slot slot.now) &&

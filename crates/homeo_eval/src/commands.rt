@@ -11,10 +11,10 @@ ghost use Rattle.homeo_context.specs.Contexts.{plain_context};
 ghost use Rattle.homeo_eval.specs.inner.Visits.{holds_at, cond_fits_at, does_at, can_run_at};
 
 use crate::changes::{delete, is_visited, set_field, set_object, set_row, update};
-use homeo_context::{Context, BoundRows};
 use crate::inserts::insert;
 use crate::phrases::{holds, value};
 use crate::state::State;
+use homeo_context::{BoundRows, Context};
 use homeo_syntax::{Command, Cond, List, Memory};
 
 /// Runs commands at each used slot at which a condition holds of the row.

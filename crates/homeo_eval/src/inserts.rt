@@ -12,9 +12,9 @@ ghost use Rattle.homeo_context.specs.Slots.{plain_slot, slots_of, IsCounted};
 ghost use Rattle.homeo_context.specs.Contexts.{plain_context};
 ghost use Rattle.homeo_eval.specs.inner.Settings.{plain_setting};
 
-use homeo_context::{Context, Slot, Slots, Spot};
 use crate::phrases::value;
 use crate::state::State;
+use homeo_context::{Context, Slot, Slots, Spot};
 use homeo_syntax::{FieldValue, Memory};
 
 /// A field and its new value.

@@ -11,8 +11,8 @@ ghost use Rattle.homeo_context.specs.Slots.{plain_slot, slots_of, IsCounted};
 ghost use Rattle.homeo_context.specs.Contexts.{plain_context};
 ghost use Rattle.homeo_eval.specs.inner.Terms.{term_of, counts, row_fits};
 
-use homeo_context::{BoundRows, Context, Slot, Slots};
 use crate::state::State;
+use homeo_context::{BoundRows, Context, Slot, Slots};
 use homeo_syntax::{Compare, Cond, Expr, Test};
 
 /// What a slot adds to a count or a sum: 1, or the field that has this place.

@@ -13,10 +13,10 @@ ghost use Rattle.homeo_context.specs.Contexts.{call_context};
 ghost use Rattle.homeo_meaning.specs.Serial.{start};
 ghost use Rattle.homeo_meaning.specs.Serial.{database_like, call_of, call_outcome, serial};
 
-use homeo_meaning::{Accepted, CallId, Database};
-use homeo_context::{Argument, BoundRows, Context, Declarations, argument_values, bind};
 use crate::commands::run_all;
 use crate::state::State;
+use homeo_context::{Argument, BoundRows, Context, Declarations, argument_values, bind};
+use homeo_meaning::{Accepted, CallId, Database};
 use homeo_syntax::{Call, Command, List, Memory, Prints, Workload};
 use std::alloc::Global;
 

@@ -6,8 +6,8 @@ ghost use Rattle.homeo_meaning.specs.Meaning.{is_used, is_free, set_temp, set_ob
 ghost use Rattle.homeo_eval.specs.inner.States.{state_of, IsZeroPast};
 ghost use Rattle.homeo_context.specs.Slots.{plain_spot, plain_slot};
 
-use homeo_meaning::padded::{item_or, put};
 use homeo_context::{Slot, Spot, find_field};
+use homeo_meaning::padded::{item_or, put};
 use homeo_syntax::Memory;
 
 /// The values of the objects, by number, and of the temporaries, by the numbers of their names.

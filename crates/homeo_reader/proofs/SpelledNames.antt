@@ -112,4 +112,3 @@ well_formed text w r =
       named = subst (λ (l : List (List ℕ)). EachIdent (IsBelow (length l)) w) (sym k.names_are) k.named;
       sites = k.sites;
     }
-

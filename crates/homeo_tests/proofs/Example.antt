@@ -131,8 +131,5 @@ second_exists : CallExists example second
 unfolding meaning_words
 second_exists = refl
 
-
-
-
 pub exist : (w : s.Workload) → w ≡ example → All (CallExists w) (record { client = 0; seq = 1 } ∷ record { client = 0; seq = 2 } ∷ [])
 exist w e = subst (λ v. All (CallExists v) (first ∷ second ∷ [])) (sym e) (all_more (CallExists example) first (second ∷ []) first_exists (all_more (CallExists example) second [] second_exists (all_none (CallExists example))))

@@ -173,4 +173,3 @@ fn a_ground_call_is_copied(rt: HostRuntime) -> Result<(), Fail> {
     assert_eq!(rt; copy.args.as_slice(), [3, -1].as_slice());
     Ok(())
 }
-

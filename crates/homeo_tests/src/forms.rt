@@ -10,8 +10,8 @@ ghost use Rattle.homeo_ground.specs.Grounding.{IsCalled};
 
 use homeo_context::Declarations;
 use homeo_desugar::desugar;
-use homeo_ground::Grounding;
 use homeo_eval::{eval, initial};
+use homeo_ground::Grounding;
 use homeo_meaning::{Accepted, Database, GroundCall, Purpose};
 use homeo_reader::{ReadRefusal, read};
 use homeo_rules::{RuleRefusal, accept};
