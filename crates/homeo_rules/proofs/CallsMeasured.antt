@@ -17,7 +17,7 @@ use Rattle.homeo_meaning.proofs.FaultParts.{none_first, none_second}
 use Rattle.homeo_meaning.specs.declared.rules.Fault.{Fault}
 use Rattle.homeo_meaning.specs.declared.rules.Phase.TheVariants.{Size}
 use Rattle.homeo_size.specs.Measured.{IsMeasure}
-use Rattle.homeo_size.specs.declared.steps.Measure.{Measure}
+use Rattle.homeo_size.specs.declared.measures.Measure.{Measure}
 use Rattle.homeo_ground.specs.Sited.{sited}
 use Rattle.homeo_rules.specs.inner.Sizes.{call_of, told_size, IsToldAfter, IsTold, AreTold, AreMeasured, known}
 use Rattle.homeo_ground.specs.declared.sited.SitedCall.{SitedCall}

@@ -17,9 +17,8 @@ use Rattle.homeo_meaning.specs.GlobalNames as g
 use Rattle.homeo_meaning.specs.CallForm.{body_form}
 use Rattle.homeo_meaning.specs.declared.rules.Item.{Item}
 use Rattle.homeo_meaning.specs.declared.rules.Item.TheVariants as I
-use Rattle.homeo_size.specs.Layout.{IsLayout}
 use Rattle.homeo_size.specs.Measured.{IsMeasured}
-use Rattle.homeo_size.specs.declared.steps.Measure.{Measure}
+use Rattle.homeo_size.specs.declared.measures.Measure.{Measure}
 use Rattle.homeo_rules.specs.inner.Scopes.{scope_in}
 use Rattle.homeo_ground.specs.Sited.{values, sited}
 use Rattle.homeo_rules.specs.inner.Sizes.{IsSetUp, workload_of, transaction_place, told_size, IsMeasuredBody, IsMeasuredAs, IsTold}
@@ -49,11 +48,11 @@ pub if_ok : {A E : Type 0} (P Q : A → Type 0) → ((a : A) → P a → Q a) �
 if_ok P Q f (Ok a) h = f a h
 if_ok P Q f (Err e) h = h
 
-pub body-measured : (m : Measuring) (k : ℕ) (t : Transaction) (args : List Number) (r : Result (Option Measure) Memory) → IsSetUp m → slice_get (workload_of m).transactions k ≡ Some (plain_transaction t) → IfOk r (λ o. (x : Schema) → IsLayout x m.layout.now → IsMeasured x m.sites (l_form x (map (λ p. p.name.name) t.params.items) (map (λ a. a.value) args) (plain_transaction t).body) o) → IfOk r (IsMeasuredBody (workload_of m) (slice_get (workload_of m).transactions k) (values args))
+pub body-measured : (m : Measuring) (k : ℕ) (t : Transaction) (args : List Number) (r : Result (Option Measure) Memory) → IsSetUp m → slice_get (workload_of m).transactions k ≡ Some (plain_transaction t) → IfOk r (IsMeasured m.layout.now m.sites (l_form m.layout.now (map (λ p. p.name.name) t.params.items) (map (λ a. a.value) args) (plain_transaction t).body)) → IfOk r (IsMeasuredBody (workload_of m) (slice_get (workload_of m).transactions k) (values args))
 unfolding meaning_words syntax_words
 body-measured m k t args r up e h =
     let w : s.Workload = workload_of m in
-    if_ok _ _ (λ o g. subst (λ b. IsMeasured (schema_of w) (nat_of w.sites.value) (body_form w b (values args)) o) (sym e) (subst (λ n. IsMeasured (schema_of w) n (body_form w (Some (plain_transaction t)) (values args)) o) up.sites (g (schema_of w) up.layout))) r h
+    if_ok _ _ (λ o g. subst (λ b. IsMeasured (schema_of w) (nat_of w.sites.value) (body_form w b (values args)) o) (sym e) (subst (λ n. IsMeasured (schema_of w) n (body_form w (Some (plain_transaction t)) (values args)) o) up.sites (subst (λ x. IsMeasured x m.sites (l_form x (map (λ p. p.name.name) t.params.items) (map (λ a. a.value) args) (plain_transaction t).body) o) up.layout g))) r h
 
 nothing : (w : s.Workload) (args : List Number) → IsMeasuredBody w None (values args) (Some (record { size = 1; depth = 0; weight = 0; rows = 1 }))
 unfolding meaning_words

@@ -26,7 +26,6 @@ use Rattle.homeo_meaning.specs.declared.rules.Fault.{Fault}
 use Rattle.homeo_meaning.specs.declared.rules.Item.{Item}
 use Rattle.homeo_meaning.specs.declared.rules.Item.TheVariants as I
 use Rattle.homeo_meaning.specs.declared.rules.Phase.TheVariants.{Size}
-use Rattle.homeo_size.specs.Layout.{IsLayout}
 use Rattle.homeo_ground.specs.declared.sited.SitedCall.{SitedCall}
 use Rattle.homeo_rules.specs.declared.rules.sizes.Measuring.{Measuring}
 use Rattle.homeo_rules.specs.inner.Printing.{capped_prints, prints_too_much_in, counted_prints, Printed, print_one, print_all}
@@ -67,9 +66,9 @@ module _ (s : Scope) (counts : List ℕ) (prints : g.SitedCall → ℕ) (agree :
   printed best calls = print-all [] (record { total = 0; best = best }) calls refl
 
 -- ---- by the counts of the transactions
-pub counted : (m : Measuring) (t : Transaction) (n : ℕ) → IsSetUp m → ((x : Schema) → IsLayout x m.layout.now → (args : List ℤ) → n ≡ min 1000001 (prints_in (l_form x (map (λ p. p.name.name) t.params.items) args (plain_transaction t).body))) → (args : List ℤ) → n ≡ capped_prints (workload_of m) args t
+pub counted : (m : Measuring) (t : Transaction) (n : ℕ) → IsSetUp m → ((args : List ℤ) → n ≡ min 1000001 (prints_in (l_form m.layout.now (map (λ p. p.name.name) t.params.items) args (plain_transaction t).body))) → (args : List ℤ) → n ≡ capped_prints (workload_of m) args t
 unfolding meaning_words syntax_words
-counted m t n up h args = h (schema_of (workload_of m)) up.layout args
+counted m t n up h args = h args ∙ ap (λ x. min 1000001 (prints_in (l_form x (map (λ p. p.name.name) t.params.items) args (plain_transaction t).body))) up.layout
 
 count-plain : (w : s.Workload) (args : List ℤ) (ts : List Transaction) (k : ℕ) → slice_index (map (capped_prints w args) ts) k ≡ min 1000001 (prints_in (body_form w (slice_get (map plain_transaction ts) k) args))
 unfolding meaning_words

@@ -19,7 +19,7 @@ use Rattle.homeo_rules.specs.inner.Deciding.{keep_all}
 use Rattle.homeo_meaning.specs.declared.rules.Fault.{Fault}
 use Rattle.homeo_meaning.specs.declared.rules.Phase.TheVariants.{Rows}
 use Rattle.homeo_size.specs.Measured.{IsMeasure}
-use Rattle.homeo_size.specs.declared.steps.Measure.{Measure}
+use Rattle.homeo_size.specs.declared.measures.Measure.{Measure}
 use Rattle.homeo_rules.specs.inner.Sizes.{call_of, AreMeasured, known}
 use Rattle.homeo_rules.specs.declared.rules.sizes.MeasuredCall.{MeasuredCall}
 use Rattle.homeo_rules.proofs.AlongCalls.{left_of, one_more, none_more, sum_before, sum_next, again, capped-less, head_measured}

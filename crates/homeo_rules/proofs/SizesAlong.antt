@@ -13,7 +13,7 @@ use Rattle.homeo_meaning.specs.SizeRules.{extent_of, too_large}
 use Rattle.homeo_rules.specs.inner.Deciding.{keep_all}
 use Rattle.homeo_meaning.specs.declared.rules.Fault.{Fault}
 use Rattle.homeo_meaning.specs.declared.rules.Phase.TheVariants.{Size}
-use Rattle.homeo_size.specs.declared.steps.Measure.{Measure}
+use Rattle.homeo_size.specs.declared.measures.Measure.{Measure}
 use Rattle.homeo_rules.specs.inner.Sizes.{call_of, told_size, IsToldAfter, AreTold, known, is_too_large}
 use Rattle.homeo_rules.specs.declared.rules.sizes.MeasuredCall.{MeasuredCall}
 use Rattle.homeo_rules.proofs.AlongCalls.{left_of, one_more, none_more, sum_before, sum_next, again, capped-less, or_true, AgreeUpTo, total_known, total_unknown}

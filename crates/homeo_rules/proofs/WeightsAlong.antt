@@ -13,7 +13,7 @@ use Rattle.homeo_meaning.specs.LowWeights.{first_weights, is_light}
 use Rattle.homeo_rules.specs.inner.Deciding.{keep_all}
 use Rattle.homeo_meaning.specs.declared.rules.Fault.{Fault}
 use Rattle.homeo_meaning.specs.declared.rules.Phase.TheVariants.{Weight}
-use Rattle.homeo_size.specs.declared.steps.Measure.{Measure}
+use Rattle.homeo_size.specs.declared.measures.Measure.{Measure}
 use Rattle.homeo_rules.specs.inner.Sizes.{call_of, AreMeasured, known}
 use Rattle.homeo_rules.specs.declared.rules.sizes.MeasuredCall.{MeasuredCall}
 use Rattle.homeo_rules.proofs.Steps.{keep_all-append}

@@ -8,7 +8,6 @@ ghost use Rattle.homeo_meaning.specs.GlobalNames.{scope_of, sited_calls};
 ghost use Rattle.homeo_meaning.specs.NumberRules.{ground_calls};
 ghost use Rattle.homeo_meaning.specs.Schema.{nat_of, schema_of};
 ghost use Rattle.homeo_meaning.specs.SizeRules.{size_faults, print_faults, weight_faults, row_faults};
-ghost use Rattle.homeo_size.specs.Layout.{IsLayout};
 ghost use Rattle.homeo_rules.specs.inner.Decided.{IsFaultless};
 ghost use Rattle.homeo_rules.specs.inner.Scopes.{scope_in};
 ghost use Rattle.homeo_ground.specs.Sited.{sited};
@@ -36,7 +35,7 @@ fn site_count(w: &Workload) -> u64
 /// Where the objects and the fields of slots stand.
 fn lay_out<'a>(alloc: Global, w: &'a Workload) -> Result<Layout<'a>, Memory>
     requires { IsFaultless (plain_workload w.now) }
-    ensures { IfOk result (IsLayout (schema_of (plain_workload w.now))) }
+    ensures { IfOk result (λ layout. layout ≡ schema_of (plain_workload w.now)) }
 {
     Layout::of(alloc, w.objects.as_slice(), w.relations.as_slice())
 }

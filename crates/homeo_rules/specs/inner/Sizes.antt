@@ -9,9 +9,8 @@ use Rattle.homeo_meaning.specs.CallForm.{body_form, call_form}
 use Rattle.homeo_meaning.specs.SizeRules.{extent_of}
 use Rattle.homeo_meaning.specs.declared.rules.Item.{Item}
 use Rattle.homeo_meaning.specs.declared.rules.Item.TheVariants as I
-use Rattle.homeo_size.specs.Layout.{IsLayout}
 use Rattle.homeo_size.specs.Measured.{IsMeasure, IsMeasured}
-use Rattle.homeo_size.specs.declared.steps.Measure.{Measure}
+use Rattle.homeo_size.specs.declared.measures.Measure.{Measure}
 use Rattle.homeo_rules.specs.inner.Scopes.{scope_in}
 use Rattle.homeo_ground.specs.Sited.{sited}
 use Rattle.homeo_rules.specs.declared.rules.sizes.MeasuredCall.{MeasuredCall}
@@ -23,7 +22,7 @@ workload_of m = plain_workload m.workload.now
 -- the global names, the layout and the number of sites are the workload's
 pub record IsSetUp (m : Measuring) : Type 0 where
   pub scope : scope_in m.scope ≡ scope_of (workload_of m)
-  pub layout : IsLayout (schema_of (workload_of m)) m.layout.now
+  pub layout : m.layout.now ≡ schema_of (workload_of m)
   pub sites : m.sites ≡ nat_of (workload_of m).sites.value
 
 -- the number of a transaction

@@ -1,5 +1,4 @@
-use Rattle.std.proofs.Common.{IfOk, subst}
-use Rattle.homeo_size.specs.Layout.{IsLayout}
+use Rattle.std.proofs.Common.{◌≡◌, IfOk, subst}
 use Rattle.homeo_rules.proofs.FormFaults.{schema-plain, few-objects}
 use Rattle.homeo_rules.proofs.forms.lay_out.Goals as goal
 
@@ -8,4 +7,4 @@ of-requires c = few-objects c.args.w.now c.as_slice.result.now c.as_slice-2.resu
 
 pub returns : goal.returns
 returns c =
-    subst (λ x. IfOk c.of.result (IsLayout x)) (schema-plain c.args.w.now c.as_slice.result.now c.as_slice-2.result.now c.as_slice.ensures c.as_slice-2.ensures) c.of.ensures
+    subst (λ x. IfOk c.of.result (λ layout. layout ≡ x)) (schema-plain c.args.w.now c.as_slice.result.now c.as_slice-2.result.now c.as_slice.ensures c.as_slice-2.ensures) c.of.ensures

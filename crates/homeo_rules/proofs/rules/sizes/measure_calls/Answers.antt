@@ -1,5 +1,5 @@
 use Rattle.std.proofs.Common.{◌∙◌, ◌+◌, ap, min}
-use Rattle.homeo_size.specs.declared.steps.Measure.{Measure}
+use Rattle.homeo_size.specs.declared.measures.Measure.{Measure}
 use Rattle.homeo_rules.specs.inner.Sizes.{workload_of}
 use Rattle.homeo_rules.proofs.CallsMeasured.{measuring_step}
 use Rattle.homeo_rules.proofs.rules.sizes.measure_calls.Goals as goal
