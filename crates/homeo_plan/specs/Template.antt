@@ -1,0 +1,104 @@
+-- The template of ground calls at a base: the clauses of their atoms, and the deltas that are frozen.
+use Rattle.std.specs.Prelude.{◌≡◌, ℕ, Bool, true, false, cond, ◌&&◌, List, [], ◌∷◌, ◌++◌, map, ℤ, neg_ℤ}
+use Rattle.std.specs.Ordering.{int_eq}
+use Rattle.std.specs.List.{list_any}
+use Rattle.homeo_syntax.specs.Low.{Command}
+use Rattle.homeo_meaning.specs.LowMeaning.{whole}
+use Rattle.homeo_plan.specs.Key.{words}
+use Rattle.homeo_plan.specs.Each.{Each, Member}
+use Rattle.homeo_plan.specs.Split.{shift}
+use Rattle.homeo_plan.specs.Table.{Row, table, row_at}
+use Rattle.homeo_plan.specs.declared.forms.Delta.{Delta}
+use Rattle.homeo_plan.specs.declared.forms.Term.{Term}
+use Rattle.homeo_plan.specs.Linear.{same_delta, Linear, add_deltas, is_none}
+use Rattle.homeo_plan.specs.Atoms.{true_cond}
+use Rattle.homeo_plan.specs.Needs.{needs}
+
+-- an analysed call: its site, and its command over whole objects
+pub record Ground : Type 0 where
+  pub site : ℕ
+  pub command : Command
+
+abbrev pub shifted : ℕ → Ground → Command
+unfolding words
+shifted k g = shift k g.site g.command
+
+-- the row at the base
+abbrev pub base_row : ℕ → (ℕ → ℤ) → Ground → Row
+unfolding words
+base_row k b g = row_at (table (shifted k g)) (whole b)
+
+abbrev pub atoms_of : ℕ → (ℕ → ℤ) → Ground → List Linear
+unfolding words
+atoms_of k b g = true_cond b (base_row k b g).formula
+
+abbrev pub needs_of : ℕ → (ℕ → ℤ) → Ground → List Delta
+unfolding words
+needs_of k b g = needs g.site b (base_row k b g).residual
+
+pub record Clause : Type 0 where
+  pub terms : List Term
+  pub slack : ℤ
+
+abbrev pub clause_of : Linear → Clause
+unfolding words
+clause_of a = record { terms = a.terms; slack = neg_ℤ a.constant }
+
+abbrev pub same_term : Term → Term → Bool
+unfolding words
+same_term a b = same_delta a.delta b.delta && int_eq a.factor b.factor
+
+abbrev pub same_terms : List Term → List Term → Bool
+unfolding words
+same_terms [] [] = true
+same_terms [] (b ∷ bs) = false
+same_terms (a ∷ ts) [] = false
+same_terms (a ∷ ts) (b ∷ bs) = same_term a b && same_terms ts bs
+
+abbrev pub same_clause : Clause → Clause → Bool
+unfolding words
+same_clause a b = same_terms a.terms b.terms && int_eq a.slack b.slack
+
+-- the clauses so far and that of one more atom, unless it has no terms or was there
+abbrev pub with_clause : List Clause → Linear → List Clause
+unfolding words
+with_clause cs a =
+    cond (is_none a.terms) cs (cond (list_any (same_clause (clause_of a)) cs) cs (cs ++ clause_of a ∷ []))
+
+abbrev pub clauses_from : List Clause → List Linear → List Clause
+unfolding words
+clauses_from cs [] = cs
+clauses_from cs (a ∷ more) = clauses_from (with_clause cs a) more
+
+abbrev pub joined : List (List Linear) → List Linear
+unfolding words
+joined [] = []
+joined (atoms ∷ more) = atoms ++ joined more
+
+-- lists of deltas put into the others, one after another
+abbrev pub put_all : List (List Delta) → List Delta → List Delta
+unfolding words
+put_all [] out = out
+put_all (ds ∷ more) out = put_all more (add_deltas ds out)
+
+pub record Template : Type 0 where
+  pub clauses : List Clause
+  pub freezes : List Delta
+
+-- of sets of atoms, and of lists of deltas that are needed
+abbrev pub join_sets : List (List Linear) → List (List Delta) → Template
+unfolding words
+join_sets sets needed = record {
+  clauses = clauses_from [] (joined sets);
+  freezes = put_all needed (put_all (map (λ a. a.mixed) (joined sets)) []);
+}
+
+abbrev pub template : ℕ → (ℕ → ℤ) → List Ground → Template
+unfolding words
+template k b gs = join_sets (map (atoms_of k b) gs) (map (needs_of k b) gs)
+
+-- each atom of a call has its clause in the template, and what it mixes and needs is frozen there
+pub record Covers (t : Template) (k : ℕ) (b : ℕ → ℤ) (g : Ground) : Type 0 where
+  pub clauses : Each (λ a. is_none a.terms ≡ false → Member (clause_of a) t.clauses) (atoms_of k b g)
+  pub mixed : Each (λ a. Each (λ d. Member d t.freezes) a.mixed) (atoms_of k b g)
+  pub needs : Each (λ d. Member d t.freezes) (needs_of k b g)
