@@ -8,16 +8,17 @@ use Rattle.std.proofs.lemmas.Bool.Decides.{nat_tests}
 use Rattle.homeo_meaning.specs.Bounds.{AllWithin}
 use Rattle.homeo_meaning.specs.LowMeaning.{BaseAt, exec, whole}
 use Rattle.homeo_plan.specs.Each.{Each}
-use Rattle.homeo_plan.specs.Joined.{Deltas, folded}
+use Rattle.homeo_plan.specs.Joined.{Deltas, folded, with_site}
 use Rattle.homeo_plan.specs.declared.forms.Delta.{Delta}
 use Rattle.homeo_plan.specs.declared.forms.Term.{Term}
 use Rattle.homeo_plan.specs.Template.{Clause, Template}
 use Rattle.homeo_plan.specs.Config.{Config, Fits}
 use Rattle.homeo_plan.specs.Treaty.{site_sum, bound_at, KeepsClauses, KeepsFreezes, Treaty}
 use Rattle.homeo_plan.specs.Local.{local_deltas, no_deltas}
-use Rattle.homeo_plan.specs.TreatyLaws.{OwnWithin}
+use Rattle.homeo_plan.specs.TreatyLaws.{StepsFold}
+use Rattle.homeo_plan.specs.ReplayLaws.{OwnWithin}
 use Rattle.homeo_plan.proofs.Sums.{sum_same, sum_at}
-use Rattle.homeo_plan.proofs.Stepped.{with_site, Stepped, stepped}
+use Rattle.homeo_plan.proofs.Stepped.{stepped}
 
 -- ---- deltas 0 keep every treaty
 site_sum_zero : (i : ℕ) (ts : List Term) → site_sum i ts no_deltas ≡ pos 0
@@ -105,10 +106,10 @@ own_within x k b t config i d [] fits lt can h within keeps = within
 own_within x k b t config i d (g ∷ gs) fits lt can h within keeps =
     own_within x k b t config i (local_deltas k b g d) gs fits lt can.1 keeps.0 after keeps.1
   where
-    one : Stepped k b (only i d) g i
+    one : StepsFold k b (only i d) g i
     one =
-        subst (Stepped k b (only i d) g) can.0.at_site
-        (stepped k b t config (only i d) g fits (λ j l. only_keeps k t config i d fits h j) can.0.covers (subst (λ j. j < k) (sym can.0.at_site) lt) can.0.whole)
+        subst (StepsFold k b (only i d) g) can.0.at_site
+        (stepped k b t config (only i d) fits (λ j l. only_keeps k t config i d fits h j) g can.0.covers (subst (λ j. j < k) (sym can.0.at_site) lt) can.0.whole)
 
     stays : AllWithin x (λ n. (exec g.command (whole (folded k b (only i d)))).state (BaseAt n))
     stays = can.0.stays (folded k b (only i d)) (subst (AllWithin x) (sym (only_folded k b i d lt)) within)

@@ -1,4 +1,5 @@
--- The template of ground calls at a base: the clauses of their atoms, and the deltas that are frozen.
+-- Templates (Roy et al., SIGMOD 2015): what all treaties of a round that begins at a base ask of the deltas. Which atoms give
+-- clauses, which deltas are frozen, and in which order both stand, is this project's rule.
 use Rattle.std.specs.Prelude.{◌≡◌, ℕ, Bool, true, false, cond, ◌&&◌, List, [], ◌∷◌, ◌++◌, map, ℤ, neg_ℤ}
 use Rattle.std.specs.Ordering.{int_eq}
 use Rattle.std.specs.List.{list_any}
@@ -14,36 +15,42 @@ use Rattle.homeo_plan.specs.Linear.{same_delta, Linear, add_deltas, is_none}
 use Rattle.homeo_plan.specs.Atoms.{true_cond}
 use Rattle.homeo_plan.specs.Needs.{needs}
 
--- an analysed call: its site, and its command over whole objects
+-- a ground call as it is analysed: its site, and its L form, a command over whole objects
 pub record Ground : Type 0 where
   pub site : ℕ
   pub command : Command
 
+-- its command for its site of k
 abbrev pub shifted : ℕ → Ground → Command
 unfolding words
 shifted k g = shift k g.site g.command
 
--- the row at the base
+-- its row at the base
 abbrev pub base_row : ℕ → (ℕ → ℤ) → Ground → Row
 unfolding words
 base_row k b g = row_at (table (shifted k g)) (whole b)
 
+-- the atoms of that row's formula
 abbrev pub atoms_of : ℕ → (ℕ → ℤ) → Ground → List Linear
 unfolding words
 atoms_of k b g = true_cond b (base_row k b g).formula
 
+-- the needs of that row's residual
 abbrev pub needs_of : ℕ → (ℕ → ℤ) → Ground → List Delta
 unfolding words
 needs_of k b g = needs g.site b (base_row k b g).residual
 
+-- a clause: the sum of factor times delta is at most the slack
 pub record Clause : Type 0 where
   pub terms : List Term
   pub slack : ℤ
 
+-- of an atom: its constant negated is the slack
 abbrev pub clause_of : Linear → Clause
 unfolding words
 clause_of a = record { terms = a.terms; slack = neg_ℤ a.constant }
 
+-- ---- clauses that are equal
 abbrev pub same_term : Term → Term → Bool
 unfolding words
 same_term a b = same_delta a.delta b.delta && int_eq a.factor b.factor
@@ -59,17 +66,20 @@ abbrev pub same_clause : Clause → Clause → Bool
 unfolding words
 same_clause a b = same_terms a.terms b.terms && int_eq a.slack b.slack
 
+-- ---- clauses and freezes of many calls
 -- the clauses so far and that of one more atom, unless it has no terms or was there
 abbrev pub with_clause : List Clause → Linear → List Clause
 unfolding words
 with_clause cs a =
     cond (is_none a.terms) cs (cond (list_any (same_clause (clause_of a)) cs) cs (cs ++ clause_of a ∷ []))
 
+-- the clauses so far and those of more atoms
 abbrev pub clauses_from : List Clause → List Linear → List Clause
 unfolding words
 clauses_from cs [] = cs
 clauses_from cs (a ∷ more) = clauses_from (with_clause cs a) more
 
+-- lists one after another
 abbrev pub joined : List (List Linear) → List Linear
 unfolding words
 joined [] = []
@@ -81,11 +91,12 @@ unfolding words
 put_all [] out = out
 put_all (ds ∷ more) out = put_all more (add_deltas ds out)
 
+-- the clauses, in the order of the atoms, and the deltas that are frozen at 0, in their own order
 pub record Template : Type 0 where
   pub clauses : List Clause
   pub freezes : List Delta
 
--- of sets of atoms, and of lists of deltas that are needed
+-- of sets of atoms, and of lists of deltas that are needed: what an atom mixes is frozen, and so is what is needed
 abbrev pub join_sets : List (List Linear) → List (List Delta) → Template
 unfolding words
 join_sets sets needed = record {
@@ -93,6 +104,7 @@ join_sets sets needed = record {
   freezes = put_all needed (put_all (map (λ a. a.mixed) (joined sets)) []);
 }
 
+-- of ground calls, for k sites at a base
 abbrev pub template : ℕ → (ℕ → ℤ) → List Ground → Template
 unfolding words
 template k b gs = join_sets (map (atoms_of k b) gs) (map (needs_of k b) gs)

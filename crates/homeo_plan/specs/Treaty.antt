@@ -1,4 +1,5 @@
--- Treaties: what the deltas of one site keep, and the first that fails.
+-- Treaties (Roy et al., SIGMOD 2015): what a site keeps of a template by itself. What fails first, in clauses and then in
+-- freezes, is this project's rule.
 use Rattle.std.specs.Prelude.{◌≡◌, ℕ, suc, ◌==◌, cond, List, [], ◌∷◌, ℤ, pos, int_le, ◌+ℤ◌, ◌*ℤ◌, ◌≤ℤ◌, ◌&&◌, not, Option, Some, None, slice_index_or}
 use Rattle.std.specs.Ordering.{int_eq}
 use Rattle.homeo_plan.specs.declared.treaty.Broken.{Broken}
@@ -21,7 +22,7 @@ abbrev pub bound_at : List ℤ → ℕ → ℤ
 unfolding words
 bound_at bounds i = slice_index_or bounds i (pos 0)
 
--- of each clause, the site's sum is at most its bound
+-- in each clause the site's sum is at most its bound
 abbrev pub KeepsClauses : ℕ → Deltas → List Clause → Config → Type 0
 unfolding words
 KeepsClauses i x [] bs = Unit {0}
@@ -33,12 +34,12 @@ abbrev pub KeepsFreezes : ℕ → Deltas → List Delta → Type 0
 unfolding words
 KeepsFreezes i x ds = Each (λ d. d.site ≡ i → x d.object ≡ pos 0) ds
 
--- the treaty of site i, on its deltas x
+-- the treaty of site i holds of its deltas x
 pub record Treaty (t : Template) (config : Config) (i : ℕ) (x : Deltas) : Type 0 where
   pub clauses : KeepsClauses i x t.clauses config
   pub freezes : KeepsFreezes i x t.freezes
 
--- ---- what fails first: a number, with the site's sum and bound, or a frozen delta's value and 0
+-- ---- findings: the number that fails, with the site's sum and bound, or with a frozen delta's value and 0
 -- of freezes numbered from n on
 abbrev pub broken_freeze : ℕ → ℕ → Deltas → List Delta → Option Broken
 unfolding words
@@ -56,7 +57,7 @@ broken_from n i x (c ∷ cs) (b ∷ bs) ds =
     cond (int_le (site_sum i c.terms x) (bound_at b i)) (broken_from (suc n) i x cs bs ds)
     (Some (record { clause = n; sum = site_sum i c.terms x; bound = bound_at b i }))
 
--- the lowest number that fails: none where the treaty holds
+-- the finding of the lowest number that fails: none where the treaty holds
 abbrev pub finding : Template → Config → ℕ → Deltas → Option Broken
 unfolding words
 finding t config i x = broken_from 0 i x t.clauses config t.freezes
