@@ -7,11 +7,10 @@ use Rattle.std.specs.Ordering.{int_eq}
 use Rattle.std.proofs.lemmas.Int.{ints}
 use Rattle.std.proofs.lemmas.Bool.Decides.{nat_tests}
 use Rattle.homeo_plan.specs.declared.forms.Delta.{Delta}
-use Rattle.homeo_plan.specs.Template.{Clause}
+use Rattle.homeo_plan.specs.Template.{Clause, Template}
 use Rattle.homeo_plan.specs.Joined.{Deltas}
 use Rattle.homeo_plan.specs.Config.{Config}
-use Rattle.homeo_plan.specs.Treaty.{site_sum, bound_at, KeepsClauses, KeepsFreezes, broken_freeze, broken_from}
-use Rattle.homeo_plan.specs.TreatyLaws.{FindingLaw}
+use Rattle.homeo_plan.specs.Treaty.{site_sum, bound_at, KeepsClauses, KeepsFreezes, broken_freeze, broken_from, Finds}
 
 -- an option that has nothing exactly where P holds
 record Tells (P : Type 0) (o : Option Broken) : Type 0 where
@@ -66,7 +65,7 @@ clauses_tell n i x (c ∷ cs) (b ∷ bs) ds = go (clauses_tell (suc n) i x cs bs
     go rest false q =
         record { none = λ e. absurd (some_not_none one e); some = λ f e h. not_at_most _ _ q h.0.0 }
 
-pub finding_law : FindingLaw
+pub finding_law : (t : Template) (config : Config) (i : ℕ) (x : Deltas) → Finds t config i x
 unfolding words meaning_words
 finding_law t config i x =
     let r = clauses_tell 0 i x t.clauses config t.freezes in

@@ -16,7 +16,7 @@ use Rattle.homeo_lform.proofs.Lifts.{seen_run}
 use Rattle.homeo_lform.proofs.Stays.{bounds_law}
 use Rattle.homeo_lform.proofs.Wholes.{whole_law}
 use Rattle.homeo_plan.specs.Key.{words}
-use Rattle.homeo_plan.specs.ReplayLaws.{Stays}
+use Rattle.homeo_plan.specs.Replay.{Stays}
 
 -- what the L form of a call does to the database, and what it prints
 pub form_run : (x : Schema) (params : List ℕ) (args : List ℤ) (body : s.Commands) (v : ℕ → ℤ) → seen_run (M.exec (l_form x params args body) (M.whole v)) ≡ run x params args body v

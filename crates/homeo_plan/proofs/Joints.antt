@@ -7,11 +7,17 @@ use Rattle.std.proofs.lemmas.List.{map-append}
 use Rattle.std.proofs.lemmas.List.Elements.{filter-append}
 use Rattle.homeo_meaning.specs.LowMeaning.{State, holds}
 use Rattle.homeo_plan.specs.Table.{Row, last_row, holds_at}
-use Rattle.homeo_plan.specs.Joint.{pick_first, with_each, joint_table, joint_formula, picks_from, joint_picks}
-use Rattle.homeo_plan.specs.JointLaws.{choice_holds, JointLaw, picked, PicksLaw}
+use Rattle.homeo_plan.specs.Joint.{with_each, joint_table, joint_formula, joint_row_at, picks_from, joint_picks, picked, HasOneRow}
+use Rattle.homeo_plan.specs.Each.{Each}
 use Rattle.homeo_plan.proofs.Tables.{holds_both, filter_map, filter_none}
 
 -- ---- the choice that holds
+abbrev choice_holds : State → List Row → Bool
+choice_holds s choice = holds (joint_formula choice) s
+
+abbrev pick_first : Row → List Row → List Row
+pick_first r choice = r ∷ choice
+
 filter_pick : (s : State) (r : Row) (choices : List (List Row)) (v : Bool) → holds r.formula s ≡ v → filter (choice_holds s) (map (pick_first r) choices) ≡ cond v (map (pick_first r) (filter (choice_holds s) choices)) []
 unfolding words meaning_words
 filter_pick s r choices true e =
@@ -34,7 +40,9 @@ filter_each s (r ∷ rs) choices =
     go true = refl
     go false = refl
 
-pub joint_law : JointLaw
+pub joint_law :
+    (ts : List (List Row)) (s : State) → Each (HasOneRow s) ts →
+    filter (λ choice. holds (joint_formula choice) s) (joint_table ts) ≡ joint_row_at ts s ∷ []
 unfolding words meaning_words
 joint_law [] s h = refl
 joint_law (t ∷ ts) s h = filter_each s t (joint_table ts) ∙ ap₂ with_each h.0 (joint_law ts s h.1)
@@ -58,7 +66,7 @@ pick_rows t ts n (r ∷ rs) h choices =
     next : (i : ℕ) → slice_index_or t ((n + 1) + i) last_row ≡ slice_index_or t (n + suc i) last_row
     next i = let e : (n + 1) + i ≡ n + suc i = omega arith in ap (λ m. slice_index_or t m last_row) e
 
-pub picks_law : PicksLaw
+pub picks_law : (ts : List (List Row)) → map (picked ts) (joint_picks ts) ≡ joint_table ts
 unfolding words
 picks_law [] = refl
 picks_law (t ∷ ts) = pick_rows t ts 0 t start (joint_picks ts) ∙ ap (with_each t) (picks_law ts)

@@ -16,7 +16,7 @@ use Rattle.homeo_plan.specs.Template.{Ground, shifted, base_row, atoms_of, needs
 use Rattle.homeo_plan.specs.Config.{Config, Fits}
 use Rattle.homeo_plan.specs.Treaty.{Treaty}
 use Rattle.homeo_plan.specs.Local.{local_run}
-use Rattle.homeo_plan.specs.TreatyLaws.{IsLocallySound}
+use Rattle.homeo_plan.specs.Soundness.{IsLocallySound}
 use Rattle.homeo_plan.proofs.Shift.{shift_follows}
 use Rattle.homeo_plan.proofs.Tables.{row_at_walk, walk_residual, row_is_unique, walk_holds}
 use Rattle.homeo_plan.proofs.Atoms.{true_cond_holds, true_cond_below}

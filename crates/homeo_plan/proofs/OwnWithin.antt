@@ -11,14 +11,15 @@ use Rattle.homeo_plan.specs.Each.{Each}
 use Rattle.homeo_plan.specs.Joined.{Deltas, folded, with_site}
 use Rattle.homeo_plan.specs.declared.forms.Delta.{Delta}
 use Rattle.homeo_plan.specs.declared.forms.Term.{Term}
-use Rattle.homeo_plan.specs.Template.{Clause, Template}
+use Rattle.homeo_plan.specs.Template.{Clause, Template, Ground}
 use Rattle.homeo_plan.specs.Config.{Config, Fits}
 use Rattle.homeo_plan.specs.Treaty.{site_sum, bound_at, KeepsClauses, KeepsFreezes, Treaty}
-use Rattle.homeo_plan.specs.Local.{local_deltas, no_deltas}
-use Rattle.homeo_plan.specs.TreatyLaws.{StepsFold}
-use Rattle.homeo_plan.specs.ReplayLaws.{OwnWithin}
+use Rattle.homeo_plan.specs.Local.{local_deltas, no_deltas, replay}
+use Rattle.homeo_plan.specs.Soundness.{StepsFold}
+use Rattle.homeo_plan.specs.Replay.{KeepsAlong, CanStep}
 use Rattle.homeo_plan.proofs.Sums.{sum_same, sum_at}
 use Rattle.homeo_plan.proofs.Stepped.{stepped}
+use Rattle.homeo_meaning.specs.Schema.{Schema}
 
 -- ---- deltas 0 keep every treaty
 site_sum_zero : (i : ℕ) (ts : List Term) → site_sum i ts no_deltas ≡ pos 0
@@ -100,7 +101,10 @@ only_folded k b i x lt = fun_ext at
         (sum_same 0 k _ (λ j. cond (i == j) (x n) (pos 0)) (λ j. swap n j (nat_lt j k) (i == j) refl refl)
         ∙ sum_at i k (λ j. x n) ∙ ap (λ v. cond v (x n) (pos 0)) there)
 
-pub own_within : OwnWithin
+pub own_within :
+    (x : Schema) (k : ℕ) (b : ℕ → ℤ) (t : Template) (config : Config) (i : ℕ) (d : Deltas) (gs : List Ground) →
+    Fits k t.clauses config → i < k → Each (CanStep x k b t i) gs → Treaty t config i d → AllWithin x (λ n. b n +ℤ d n) →
+    KeepsAlong k b t config i d gs → AllWithin x (λ n. b n +ℤ replay k b gs d n)
 unfolding words meaning_words
 own_within x k b t config i d [] fits lt can h within keeps = within
 own_within x k b t config i d (g ∷ gs) fits lt can h within keeps =

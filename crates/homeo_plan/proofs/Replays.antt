@@ -1,11 +1,11 @@
 -- The ground calls of a workload keep within bounds, and its templates cover them: so its replays stay within bounds.
 use Rattle.homeo_meaning.specs.Key.{words as meaning_words}
 use Rattle.homeo_plan.specs.Key.{words}
-use Rattle.std.proofs.Common.{◌≡◌, ℕ, List, [], ◌∷◌, map, ℤ, pos, ◌+ℤ◌, sym, subst, ⊎_elim, arith}
+use Rattle.std.proofs.Common.{◌≡◌, ℕ, List, [], ◌∷◌, map, ℤ, pos, ◌+ℤ◌, sym, subst, ⊎_elim, arith, ◌<◌}
 use mathlib.Core.Path.{fun_ext}
 use Rattle.std.proofs.lemmas.Int.{ints}
 use Rattle.homeo_syntax.specs.Source as s
-use Rattle.homeo_meaning.specs.Bounds.{AllWithin}
+use Rattle.homeo_meaning.specs.Bounds.{AllWithin, IsWithin}
 use Rattle.homeo_meaning.specs.Ground as meaning
 use Rattle.homeo_meaning.specs.Schema.{schema_of}
 use Rattle.homeo_meaning.specs.Serial.{values_of}
@@ -13,15 +13,16 @@ use Rattle.homeo_meaning.proofs.Within.{all_within}
 use Rattle.homeo_plan.specs.Each.{Each, Member}
 use Rattle.homeo_meaning.specs.Whole.{IsWhole}
 use Rattle.homeo_plan.specs.Template.{Ground, Covers}
-use Rattle.homeo_plan.specs.Local.{no_deltas}
+use Rattle.homeo_plan.specs.Local.{no_deltas, replay}
 use Rattle.homeo_plan.specs.Planned.{sites_of, planned_call, planned, template_at, policy}
-use Rattle.homeo_plan.specs.TreatyLaws.{GroundSoundness}
-use Rattle.homeo_plan.specs.ReplayLaws.{Stays, CanStep, ReplaysWithin}
+use Rattle.homeo_plan.specs.Soundness.{GroundSoundness}
+use Rattle.homeo_plan.specs.Replay.{Stays, CanStep, KeepsAlong}
 use Rattle.homeo_plan.proofs.Covering.{template_covers}
 use Rattle.homeo_plan.proofs.GroundForms.{ground_whole, ground_stays}
 use Rattle.homeo_plan.proofs.Local.{locally_sound}
 use Rattle.homeo_plan.proofs.OwnWithin.{zero_keeps, own_within}
 use Rattle.homeo_plan.proofs.Policy.{policy_fits}
+use Rattle.homeo_meaning.specs.Acceptance.{IsAccepted}
 
 -- ---- the ground calls
 pub record IsPlanned (w : s.Workload) (g : Ground) : Type 0 where
@@ -66,7 +67,11 @@ no_change b = fun_ext at
     at : (n : ℕ) → b n +ℤ pos 0 ≡ b n
     at n = omega (arith, ints)
 
-pub replays_within : ReplaysWithin
+pub replays_within :
+    (w : s.Workload) (base : List ℤ) (i : ℕ) (gs : List Ground) → IsAccepted w → IsWithin (schema_of w) base → i < sites_of w →
+    Each (λ g. (g.site ≡ i) × Member g (planned w)) gs →
+    KeepsAlong (sites_of w) (values_of base) (template_at w base) (policy w base) i no_deltas gs →
+    AllWithin (schema_of w) (λ n. values_of base n +ℤ replay (sites_of w) (values_of base) gs no_deltas n)
 unfolding words meaning_words
 replays_within w base i gs accepted within lt calls keeps =
     let fits = policy_fits w base accepted in

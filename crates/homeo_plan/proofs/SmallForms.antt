@@ -1,11 +1,11 @@
 -- Where a command is light, the forms along its row are small.
 use Rattle.homeo_plan.specs.Key.{words}
 use Rattle.homeo_meaning.specs.Key.{words as meaning_words}
-use Rattle.std.proofs.Common.{◌≡◌, ℕ, zero, suc, ◌+◌, ◌*◌, ◌≤◌, Bool, true, false, cond, List, [], ◌∷◌, ℤ, pos, ◌+ℤ◌, refl, sym, subst, arith}
+use Rattle.std.proofs.Common.{◌≡◌, ℕ, zero, suc, ◌+◌, ◌*◌, ◌≤◌, Bool, true, false, cond, List, [], ◌∷◌, ℤ, pos, ◌+ℤ◌, refl, sym, subst, arith, ◌<◌}
 use Rattle.std.specs.Int.RustNames.{unsigned_abs}
 use Rattle.std.proofs.lemmas.Int.{ints}
 use Rattle.homeo_meaning.specs.LowMeaning.{Place, TempAt, BaseAt, DeltaAt, whole}
-use Rattle.homeo_meaning.specs.LowWeights.{first_weights}
+use Rattle.homeo_meaning.specs.LowWeights.{first_weights, is_light}
 use Rattle.homeo_meaning.specs.Schema.{Schema}
 use Rattle.homeo_meaning.specs.Bounds.{Bounds, IsIn, all_bounds, bounds_at, AllWithin}
 use Rattle.homeo_meaning.specs.LowWeights.{weight_at, bounds_weight}
@@ -14,7 +14,7 @@ use Rattle.homeo_plan.specs.Split.{shift}
 use Rattle.homeo_plan.specs.Table.{last_row, walk_before, walk}
 use Rattle.homeo_plan.specs.Linear.{delta_of, same_delta, delta_form, base_forms}
 use Rattle.homeo_plan.specs.FormSizes.{CanCond}
-use Rattle.homeo_plan.specs.SizeLaws.{SmallForms}
+use Rattle.homeo_plan.specs.SmallForms.{HasSmallForms}
 use Rattle.homeo_plan.proofs.Factors.{at_delta}
 use Rattle.homeo_plan.proofs.Sizes.{within_constant}
 use Rattle.homeo_plan.proofs.Others.{others_from, IsBit, others_bit, none_own}
@@ -22,6 +22,8 @@ use Rattle.homeo_plan.proofs.Cleared.{can_clear_cond}
 use Rattle.homeo_plan.proofs.AtomSizes.{true_of_cond}
 use Rattle.homeo_plan.proofs.WholeReads.{Own, Holds}
 use Rattle.homeo_plan.proofs.Followed.{follow}
+use Rattle.homeo_syntax.specs.Low.{Command}
+use Rattle.homeo_meaning.specs.Whole.{IsWhole}
 
 in_size : (x : Bounds) (v : ℤ) → IsIn x v → unsigned_abs v ≤ bounds_weight x
 unfolding meaning_words
@@ -61,7 +63,10 @@ start k i x base h =
     ones (BaseAt n) = one_at (all_bounds x) n
     ones (DeltaAt n j) = omega arith
 
-pub small_forms : SmallForms
+pub small_forms :
+    (b : ℕ) (x : Schema) (k i : ℕ) (c : Command) (base : ℕ → ℤ) → i < k → IsWhole c → AllWithin x base →
+    ((n : ℕ) → IsSmall b (base n)) → is_light b c (first_weights x) ≡ true →
+    HasSmallForms (2 * b + 1) base (walk (shift k i c) (whole base))
 unfolding words meaning_words
 small_forms b x k i c base inside w h small l =
     let r = follow b k i base inside small c w (first_weights x) (whole base) (base_forms base) (start k i x base h) l in

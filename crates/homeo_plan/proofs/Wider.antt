@@ -10,7 +10,7 @@ use Rattle.homeo_plan.specs.Table.{Row}
 use Rattle.homeo_plan.specs.declared.forms.Term.{Term}
 use Rattle.homeo_plan.specs.Linear.{Linear, constant_form, add_forms, multiply_forms, Forms, form}
 use Rattle.homeo_plan.specs.FormSizes.{Numbers, CanForm, CanSum, CanProduct, CanSubtract, CanTest, CanCond, CanFollow}
-use Rattle.homeo_plan.specs.SizeLaws.{HasSmallForms}
+use Rattle.homeo_plan.specs.SmallForms.{HasSmallForms}
 
 module _ (P Q : ℤ → Type 0) (q : (z : ℤ) → P z → Q z) where
   each_wider : (ts : List Term) → Each (λ t. P t.factor) ts → Each (λ t. Q t.factor) ts

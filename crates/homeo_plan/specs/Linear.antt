@@ -1,6 +1,6 @@
 -- Linear forms: an expression of a residual at a base, as a constant and a factor for each delta. How an expression becomes
 -- linear, and what stands for the products that don't, is this project's rule.
-use Rattle.std.specs.Prelude.{◌≡◌, ℕ, ◌==◌, nat_lt, Bool, true, false, cond, ◌&&◌, ◌||◌, List, [], ◌∷◌, ℤ, pos, negsuc, ◌+ℤ◌, ◌*ℤ◌}
+use Rattle.std.specs.Prelude.{◌≡◌, ℕ, ◌==◌, nat_lt, Bool, true, false, cond, ◌&&◌, ◌||◌, List, [], ◌∷◌, map, ℤ, pos, negsuc, ◌+ℤ◌, ◌*ℤ◌}
 use Rattle.std.specs.Ordering.{int_eq}
 use Rattle.homeo_syntax.specs.Low.{Expr, Exprs, Literal, OfTemp, Read, Sum, Product, Neg, NoExpr, MoreExpr}
 use Rattle.homeo_meaning.specs.LowMeaning.{Place, TempAt, BaseAt, DeltaAt, State, place_of}
@@ -69,8 +69,7 @@ scale_terms n (t ∷ ts) = with_term t.delta (n *ℤ t.factor) (scale_terms n ts
 -- the deltas of terms
 abbrev pub deltas_of : List Term → List Delta
 unfolding words
-deltas_of [] = []
-deltas_of (t ∷ ts) = t.delta ∷ deltas_of ts
+deltas_of ts = map (λ t. t.delta) ts
 
 -- ---- forms
 -- a number

@@ -61,3 +61,8 @@ broken_from n i x (c ∷ cs) (b ∷ bs) ds =
 abbrev pub finding : Template → Config → ℕ → Deltas → Option Broken
 unfolding words
 finding t config i x = broken_from 0 i x t.clauses config t.freezes
+
+-- there is a finding exactly where the treaty doesn't hold
+pub record Finds (t : Template) (config : Config) (i : ℕ) (x : Deltas) : Type 0 where
+  pub none : finding t config i x ≡ None → Treaty t config i x
+  pub some : (f : Broken) → finding t config i x ≡ Some f → Treaty t config i x → ⊥

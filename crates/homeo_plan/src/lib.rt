@@ -1,9 +1,14 @@
-//! The plan of a round: the tables of its calls, and at its base their forms, template, configuration and treaties.
+//! The plan of a round: the tables of its calls, and at its base their forms, template, configuration and treaties. Of code
+//! there are the types alone.
 #![tactic(auto)]
 
-pub mod laws;
 mod forms;
+pub mod laws;
+mod rows;
+mod templates;
 mod treaty;
 
-pub use forms::{Delta, Term};
-pub use treaty::Broken;
+pub use forms::{Atom, AtomSet, Delta, Linear, Term};
+pub use rows::{JointRow, Residual, Row};
+pub use templates::{Clause, Config, FreezeSet, Template};
+pub use treaty::{Broken, LocalTreaty};

@@ -1,4 +1,4 @@
--- What holds along a replay of local steps that keep a treaty: base plus own deltas stays within bounds.
+-- Replays of local steps that keep a treaty.
 use Rattle.std.specs.Prelude.{◌≡◌, ℕ, ◌<◌, List, [], ◌∷◌, ℤ, ◌+ℤ◌}
 use Rattle.homeo_syntax.specs.Source as s
 use Rattle.homeo_syntax.specs.Low.{Command}
@@ -35,18 +35,3 @@ pub record CanStep (x : Schema) (k : ℕ) (b : ℕ → ℤ) (t : Template) (i : 
   pub covers : Covers t k b g
   pub whole : IsWhole g.command
   pub stays : Stays x g.command
-
--- base plus own deltas is within bounds at the end of a replay, and so in each state on the way
-abbrev pub OwnWithin : Type 0
-OwnWithin =
-    (x : Schema) (k : ℕ) (b : ℕ → ℤ) (t : Template) (config : Config) (i : ℕ) (d : Deltas) (gs : List Ground) →
-    Fits k t.clauses config → i < k → Each (CanStep x k b t i) gs → Treaty t config i d →
-    AllWithin x (λ n. b n +ℤ d n) → KeepsAlong k b t config i d gs → AllWithin x (λ n. b n +ℤ replay k b gs d n)
-
--- of ground calls of an accepted workload, from deltas 0
-abbrev pub ReplaysWithin : Type 0
-ReplaysWithin =
-    (w : s.Workload) (base : List ℤ) (i : ℕ) (gs : List Ground) → IsAccepted w → IsWithin (schema_of w) base →
-    i < sites_of w → Each (λ g. (g.site ≡ i) × Member g (planned w)) gs →
-    KeepsAlong (sites_of w) (values_of base) (template_at w base) (policy w base) i no_deltas gs →
-    AllWithin (schema_of w) (λ n. values_of base n +ℤ replay (sites_of w) (values_of base) gs no_deltas n)
