@@ -112,7 +112,9 @@ int_eq_is_not : (x y : ℤ) → int_eq x y ≡ false → x ≡ y → ⊥
 unfolding words meaning_words
 int_eq_is_not x y h e = true≢false (sym (int_eq_of x y e) ∙ h)
 
-true_comparison_holds : (op : Compare) (a b : Linear) (s : State) (x y : ℤ) → Is a s x → Is b s y → Each (AtomHolds s) (true_comparison op a b) → compared op x y ≡ true
+true_comparison_holds :
+    (op : Compare) (a b : Linear) (s : State) (x y : ℤ) → Is a s x → Is b s y → Each (AtomHolds s) (true_comparison op a b) →
+    compared op x y ≡ true
 unfolding words meaning_words
 true_comparison_holds Less a b s x y hx hy h = less_if x y (gap a b (pos 1) s x y hx hy h.0)
 true_comparison_holds LessEqual a b s x y hx hy h = at_most_if x y (gap a b (pos 0) s x y hx hy h.0)
@@ -121,7 +123,9 @@ true_comparison_holds Equal a b s x y hx hy h =
     let q = gap b a (pos 0) s y x hy hx h.1.0 in
     int_eq_of x y (omega (arith, ints))
 
-false_comparison_holds : (op : Compare) (v : Bool) (a b : Linear) (s : State) (x y : ℤ) → Is a s x → Is b s y → Each (AtomHolds s) (false_comparison op v a b) → compared op x y ≡ false
+false_comparison_holds :
+    (op : Compare) (v : Bool) (a b : Linear) (s : State) (x y : ℤ) → Is a s x → Is b s y →
+    Each (AtomHolds s) (false_comparison op v a b) → compared op x y ≡ false
 unfolding words meaning_words
 false_comparison_holds Less v a b s x y hx hy h = not_less_if x y (gap b a (pos 0) s y x hy hx h.0)
 false_comparison_holds LessEqual v a b s x y hx hy h = not_at_most_if x y (gap b a (pos 1) s y x hy hx h.0)
@@ -137,7 +141,9 @@ true_below Less a b h = (omega (arith, ints), tt)
 true_below LessEqual a b h = (omega (arith, ints), tt)
 true_below Equal a b h = let e = int_eq_is a.constant b.constant h in (omega (arith, ints), (omega (arith, ints), tt))
 
-false_below : (op : Compare) (a b : Linear) → compared op a.constant b.constant ≡ false → Each IsBelowAtBase (false_comparison op (int_lt a.constant b.constant) a b)
+false_below :
+    (op : Compare) (a b : Linear) → compared op a.constant b.constant ≡ false →
+    Each IsBelowAtBase (false_comparison op (int_lt a.constant b.constant) a b)
 unfolding words meaning_words
 false_below Less a b h = (omega (arith, ints), tt)
 false_below LessEqual a b h = (omega (arith, ints), tt)

@@ -38,7 +38,9 @@ not_large : (n : Number) → too_large n ≡ [] → unsigned_abs n.value ≤ mos
 unfolding meaning_words
 not_large n e = go (int_lt n.value (neg_ℤ largest_bound)) (int_lt largest_bound n.value) refl refl e
   where
-    go : (b c : Bool) → int_lt n.value (neg_ℤ largest_bound) ≡ b → int_lt largest_bound n.value ≡ c → when (b || c) (number_fault F.Bounds n) ≡ [] → unsigned_abs n.value ≤ most
+    go :
+        (b c : Bool) → int_lt n.value (neg_ℤ largest_bound) ≡ b → int_lt largest_bound n.value ≡ c →
+        when (b || c) (number_fault F.Bounds n) ≡ [] → unsigned_abs n.value ≤ most
     go true c p q e = cc
     go false true p q e = cc
     go false false p q e = in_range n.value false false p q refl

@@ -55,12 +55,16 @@ from_with_clause : (P : Clause → Type 0) (cs : List Clause) (a : Linear) → E
 unfolding words meaning_words
 from_with_clause P cs a h = go (is_none a.terms) (list_any (same_clause (clause_of a)) cs) refl h
   where
-    go : (v w : Bool) → list_any (same_clause (clause_of a)) cs ≡ w → Each P (cond v cs (cond w cs (cs ++ clause_of a ∷ []))) → Each P cs × (v ≡ false → P (clause_of a))
+    go :
+        (v w : Bool) → list_any (same_clause (clause_of a)) cs ≡ w → Each P (cond v cs (cond w cs (cs ++ clause_of a ∷ []))) →
+        Each P cs × (v ≡ false → P (clause_of a))
     go true w q h = (h, λ e. absurd (true≢false e))
     go false true q h = (h, λ e. among P (clause_of a) cs q h)
     go false false q h = let k = each_append P cs (clause_of a ∷ []) h in (k.0, λ e. k.1.0)
 
-from_clauses : (P : Clause → Type 0) (cs : List Clause) (atoms : List Linear) → Each P (clauses_from cs atoms) → Each P cs × Each (λ a. is_none a.terms ≡ false → P (clause_of a)) atoms
+from_clauses :
+    (P : Clause → Type 0) (cs : List Clause) (atoms : List Linear) → Each P (clauses_from cs atoms) →
+    Each P cs × Each (λ a. is_none a.terms ≡ false → P (clause_of a)) atoms
 unfolding words meaning_words
 from_clauses P cs [] h = (h, tt)
 from_clauses P cs (a ∷ more) h =
@@ -68,7 +72,9 @@ from_clauses P cs (a ∷ more) h =
     let m = from_with_clause P cs a k.0 in
     (m.0, (m.1, k.1))
 
-from_all_atoms : (P : Linear → Type 0) (k : ℕ) (b : ℕ → ℤ) (g : Ground) (gs : List Ground) → Member g gs → Each P (joined (map (atoms_of k b) gs)) → Each P (atoms_of k b g)
+from_all_atoms :
+    (P : Linear → Type 0) (k : ℕ) (b : ℕ → ℤ) (g : Ground) (gs : List Ground) → Member g gs →
+    Each P (joined (map (atoms_of k b) gs)) → Each P (atoms_of k b g)
 unfolding words meaning_words
 from_all_atoms P k b g [] m h = absurd m
 from_all_atoms P k b g (e ∷ gs) m h =
@@ -88,7 +94,9 @@ unfolding words meaning_words
 from_mixed P [] h = tt
 from_mixed P (a ∷ more) h = (h.0, from_mixed P more h.1)
 
-from_needs : (P : Delta → Type 0) (k : ℕ) (b : ℕ → ℤ) (g : Ground) (gs : List Ground) → Member g gs → Each (Each P) (map (needs_of k b) gs) → Each P (needs_of k b g)
+from_needs :
+    (P : Delta → Type 0) (k : ℕ) (b : ℕ → ℤ) (g : Ground) (gs : List Ground) → Member g gs →
+    Each (Each P) (map (needs_of k b) gs) → Each P (needs_of k b g)
 unfolding words meaning_words
 from_needs P k b g [] m h = absurd m
 from_needs P k b g (e ∷ gs) m h =
@@ -102,7 +110,10 @@ atom_holds s a low c z = record { below = go a.terms c; mixed = z }
     go [] c = omega (arith, ints, low)
     go (t ∷ ts) c = let h = c refl in omega (arith, ints)
 
-pub atoms_hold : (s : State) (atoms : List Linear) → Each IsBelowAtBase atoms → Each (λ a. is_none a.terms ≡ false → ClauseHolds s (clause_of a)) atoms → Each (λ a. Each (IsZeroAt s) a.mixed) atoms → Each (AtomHolds s) atoms
+pub atoms_hold :
+    (s : State) (atoms : List Linear) → Each IsBelowAtBase atoms →
+    Each (λ a. is_none a.terms ≡ false → ClauseHolds s (clause_of a)) atoms → Each (λ a. Each (IsZeroAt s) a.mixed) atoms →
+    Each (AtomHolds s) atoms
 unfolding words meaning_words
 atoms_hold s [] low c z = tt
 atoms_hold s (a ∷ more) low c z = (atom_holds s a low.0 c.0 z.0, atoms_hold s more low.1 c.1 z.1)

@@ -72,7 +72,10 @@ unfolding words
 add_term_factor d f [] e = with_term_factor d f [] e
 add_term_factor d f (t ∷ ts) e = go (same_delta d t.delta) refl (delta_before d t.delta) (add_term_factor d f ts e)
   where
-    go : (v : Bool) → same_delta d t.delta ≡ v → (w : Bool) → factor e (add_term d f ts) ≡ at_delta d f e +ℤ factor e ts → factor e (cond v (with_term t.delta (f +ℤ t.factor) ts) (cond w (with_term d f (t ∷ ts)) (t ∷ add_term d f ts))) ≡ at_delta d f e +ℤ (at_delta t.delta t.factor e +ℤ factor e ts)
+    go :
+        (v : Bool) → same_delta d t.delta ≡ v → (w : Bool) → factor e (add_term d f ts) ≡ at_delta d f e +ℤ factor e ts →
+        factor e (cond v (with_term t.delta (f +ℤ t.factor) ts) (cond w (with_term d f (t ∷ ts)) (t ∷ add_term d f ts))) ≡
+        at_delta d f e +ℤ (at_delta t.delta t.factor e +ℤ factor e ts)
     go true q w ih =
         let same : at_delta d f e ≡ at_delta t.delta f e = ap (λ c. at_delta c f e) (same_delta_is d t.delta q) in
         with_term_factor t.delta (f +ℤ t.factor) ts e ∙ omega (arith, ints, at_spot-add t.delta f t.factor e, same)

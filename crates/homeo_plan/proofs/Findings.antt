@@ -40,7 +40,10 @@ freezes_tell n i x (d ∷ ds) = go (freezes_tell (suc n) i x ds) (d.site == i) (
     one : Broken
     one = record { clause = n; sum = x d.object; bound = pos 0 }
 
-    go : Tells (KeepsFreezes i x ds) (broken_freeze (suc n) i x ds) → (u v : Bool) → (d.site == i) ≡ u → int_eq (x d.object) (pos 0) ≡ v → Tells ((d.site ≡ i → x d.object ≡ pos 0) × KeepsFreezes i x ds) (cond (u && not v) (Some one) (broken_freeze (suc n) i x ds))
+    go :
+        Tells (KeepsFreezes i x ds) (broken_freeze (suc n) i x ds) → (u v : Bool) → (d.site == i) ≡ u →
+        int_eq (x d.object) (pos 0) ≡ v →
+        Tells ((d.site ≡ i → x d.object ≡ pos 0) × KeepsFreezes i x ds) (cond (u && not v) (Some one) (broken_freeze (suc n) i x ds))
     go rest false v p q =
         record { none = λ e. (λ s. absurd (true≢false (sym (grind (arith, nat_tests)) ∙ p)), rest.none e); some = λ f e h. rest.some f e h.1 }
     go rest true true p q =
@@ -48,7 +51,9 @@ freezes_tell n i x (d ∷ ds) = go (freezes_tell (suc n) i x ds) (d.site == i) (
     go rest true false p q =
         record { none = λ e. absurd (some_not_none one e); some = λ f e h. unequal (x d.object) (pos 0) q (h.0 (grind (arith, nat_tests))) }
 
-clauses_tell : (n i : ℕ) (x : Deltas) (cs : List Clause) (bs : Config) (ds : List Delta) → Tells (KeepsClauses i x cs bs × KeepsFreezes i x ds) (broken_from n i x cs bs ds)
+clauses_tell :
+    (n i : ℕ) (x : Deltas) (cs : List Clause) (bs : Config) (ds : List Delta) →
+    Tells (KeepsClauses i x cs bs × KeepsFreezes i x ds) (broken_from n i x cs bs ds)
 unfolding words meaning_words
 clauses_tell n i x [] bs ds =
     let t = freezes_tell n i x ds in
@@ -59,7 +64,10 @@ clauses_tell n i x (c ∷ cs) (b ∷ bs) ds = go (clauses_tell (suc n) i x cs bs
     one : Broken
     one = record { clause = n; sum = site_sum i c.terms x; bound = bound_at b i }
 
-    go : Tells (KeepsClauses i x cs bs × KeepsFreezes i x ds) (broken_from (suc n) i x cs bs ds) → (v : Bool) → int_le (site_sum i c.terms x) (bound_at b i) ≡ v → Tells (((site_sum i c.terms x ≤ℤ bound_at b i) × KeepsClauses i x cs bs) × KeepsFreezes i x ds) (cond v (broken_from (suc n) i x cs bs ds) (Some one))
+    go :
+        Tells (KeepsClauses i x cs bs × KeepsFreezes i x ds) (broken_from (suc n) i x cs bs ds) → (v : Bool) →
+        int_le (site_sum i c.terms x) (bound_at b i) ≡ v →
+        Tells (((site_sum i c.terms x ≤ℤ bound_at b i) × KeepsClauses i x cs bs) × KeepsFreezes i x ds) (cond v (broken_from (suc n) i x cs bs ds) (Some one))
     go rest true q =
         record { none = λ e. let r = rest.none e in ((at_most _ _ q, r.0), r.1); some = λ f e h. rest.some f e (h.0.1, h.1) }
     go rest false q =

@@ -58,7 +58,9 @@ put_ones v p n h one q = go (same_place p q)
     go true = one
     go false = h q
 
-holds_temp : (k i : ℕ) (base : ℕ → ℤ) (v : Place → ℕ) (f : Forms) (t : Temp) (n : ℕ) (a : Linear) → Holds k i base v f → 1 ≤ n → Within n a → Holds k i base (put v (TempAt t) n) (put f (TempAt t) a)
+holds_temp :
+    (k i : ℕ) (base : ℕ → ℤ) (v : Place → ℕ) (f : Forms) (t : Temp) (n : ℕ) (a : Linear) → Holds k i base v f → 1 ≤ n →
+    Within n a → Holds k i base (put v (TempAt t) n) (put f (TempAt t) a)
 unfolding meaning_words
 holds_temp k i base v f t n a h one w =
     record { temps = λ u. go u (same_temp t u); bases = h.bases; deltas = h.deltas; own = h.own; ones = put_ones v (TempAt t) n h.ones one }
@@ -67,7 +69,9 @@ holds_temp k i base v f t n a h one w =
     go u true = w
     go u false = h.temps u
 
-holds_own : (k i : ℕ) (base : ℕ → ℤ) (v : Place → ℕ) (f : Forms) (x n : ℕ) (a : Linear) → Holds k i base v f → 1 ≤ n → Own k i base x n a → Holds k i base (put v (BaseAt x) n) (put f (DeltaAt x i) a)
+holds_own :
+    (k i : ℕ) (base : ℕ → ℤ) (v : Place → ℕ) (f : Forms) (x n : ℕ) (a : Linear) → Holds k i base v f → 1 ≤ n →
+    Own k i base x n a → Holds k i base (put v (BaseAt x) n) (put f (DeltaAt x i) a)
 unfolding meaning_words
 holds_own k i base v f x n a h one o =
     record { temps = h.temps; bases = h.bases; deltas = λ y j q. other y j q (x == y) (i == j) q; own = λ y. own y (x == y) refl (i == i) same; ones = put_ones v (BaseAt x) n h.ones one }
@@ -98,7 +102,9 @@ module _ (b k i : ℕ) (base : ℕ → ℤ) (inside : i < k) (small : (x : ℕ) 
   mutual
     unfolding words meaning_words
 
-    pub follow : (c : Command) → IsWhole c → (v : Place → ℕ) (s : State) (f : Forms) → Holds k i base v f → is_light b c v ≡ true → Walked (after c v) f (forms_after (shift k i c) s f) (walk_before (shift k i c) s)
+    pub follow :
+        (c : Command) → IsWhole c → (v : Place → ℕ) (s : State) (f : Forms) → Holds k i base v f → is_light b c v ≡ true →
+        Walked (after c v) f (forms_after (shift k i c) s f) (walk_before (shift k i c) s)
     follow Skip w v s f h l = record { after = h; formula = λ r c. c; residual = λ r c. c }
     follow (Assign t e) w v s f h l =
         let small_weight = weight_small b v e l in
@@ -129,7 +135,9 @@ module _ (b k i : ℕ) (base : ℕ → ℤ) (inside : i < k) (small : (x : ℕ) 
         go false tests x y =
             record { after = holds_wider k i base (after d v) (λ p. max (after c v p) (after d v p)) _ (λ p. omega arith) y.after; formula = λ r q. can_both P f (otherwise (shift_cond k t)) _ (tests, tt) (y.formula r q); residual = y.residual }
 
-    pub follow_all : (cs : Commands) → AreWhole cs → (v : Place → ℕ) (s : State) (f : Forms) → Holds k i base v f → are_light b cs v ≡ true → Walked (after_all cs v) f (all_forms_after (shift_all k i cs) s f) (walk_all_before (shift_all k i cs) s)
+    pub follow_all :
+        (cs : Commands) → AreWhole cs → (v : Place → ℕ) (s : State) (f : Forms) → Holds k i base v f → are_light b cs v ≡ true →
+        Walked (after_all cs v) f (all_forms_after (shift_all k i cs) s f) (walk_all_before (shift_all k i cs) s)
     follow_all NoCommand w v s f h l = record { after = h; formula = λ r c. c; residual = λ r c. c }
     follow_all (MoreCommand c cs) w v s f h l =
         let parts = and_parts (is_light b c v) _ l in

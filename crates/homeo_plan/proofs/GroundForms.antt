@@ -19,7 +19,9 @@ use Rattle.homeo_plan.specs.Key.{words}
 use Rattle.homeo_plan.specs.Replay.{Stays}
 
 -- what the L form of a call does to the database, and what it prints
-pub form_run : (x : Schema) (params : List ℕ) (args : List ℤ) (body : s.Commands) (v : ℕ → ℤ) → seen_run (M.exec (l_form x params args body) (M.whole v)) ≡ run x params args body v
+pub form_run :
+    (x : Schema) (params : List ℕ) (args : List ℤ) (body : s.Commands) (v : ℕ → ℤ) →
+    seen_run (M.exec (l_form x params args body) (M.whole v)) ≡ run x params args body v
 unfolding words meaning_words
 form_run x params args body v = forms_do (context x params args) body 0 (M.whole v)
 

@@ -1,7 +1,7 @@
 -- Of a joint table one choice holds, and the numbers of rows pick its choices.
 use Rattle.homeo_meaning.specs.Key.{words as meaning_words}
 use Rattle.homeo_plan.specs.Key.{words}
-use Rattle.std.proofs.Common.{◌≡◌, ℕ, zero, suc, ◌+◌, Bool, true, false, cond, ◌&&◌, List, [], ◌∷◌, ◌++◌, map, filter, refl, sym, ap, ap₂, ◌∙◌, arith}
+use Rattle.std.proofs.Common.{◌≡◌, ℕ, suc, ◌+◌, Bool, true, false, cond, ◌&&◌, List, [], ◌∷◌, ◌++◌, map, filter, refl, ap, ap₂, ◌∙◌, arith}
 use Rattle.std.specs.Prelude.{slice_index_or}
 use Rattle.std.proofs.lemmas.List.{map-append}
 use Rattle.std.proofs.lemmas.List.Elements.{filter-append}
@@ -18,7 +18,9 @@ choice_holds s choice = holds (joint_formula choice) s
 abbrev pick_first : Row → List Row → List Row
 pick_first r choice = r ∷ choice
 
-filter_pick : (s : State) (r : Row) (choices : List (List Row)) (v : Bool) → holds r.formula s ≡ v → filter (choice_holds s) (map (pick_first r) choices) ≡ cond v (map (pick_first r) (filter (choice_holds s) choices)) []
+filter_pick :
+    (s : State) (r : Row) (choices : List (List Row)) (v : Bool) → holds r.formula s ≡ v →
+    filter (choice_holds s) (map (pick_first r) choices) ≡ cond v (map (pick_first r) (filter (choice_holds s) choices)) []
 unfolding words meaning_words
 filter_pick s r choices true e =
     filter_map (pick_first r) (choice_holds s) (choice_holds s)
@@ -28,7 +30,9 @@ filter_pick s r choices false e =
     (λ c. holds_both r.formula (joint_formula c) s ∙ ap (λ v. v && holds (joint_formula c) s) e) choices
     ∙ ap (map (pick_first r)) (filter_none (λ c. false) (λ c. refl) choices)
 
-filter_each : (s : State) (rs : List Row) (choices : List (List Row)) → filter (choice_holds s) (with_each rs choices) ≡ with_each (filter (holds_at s) rs) (filter (choice_holds s) choices)
+filter_each :
+    (s : State) (rs : List Row) (choices : List (List Row)) →
+    filter (choice_holds s) (with_each rs choices) ≡ with_each (filter (holds_at s) rs) (filter (choice_holds s) choices)
 unfolding words meaning_words
 filter_each s [] choices = refl
 filter_each s (r ∷ rs) choices =
@@ -36,7 +40,10 @@ filter_each s (r ∷ rs) choices =
     ∙ ap₂ ◌++◌ (filter_pick s r choices (holds r.formula s) refl) (filter_each s rs choices)
     ∙ go (holds r.formula s)
   where
-    go : (v : Bool) → (cond v (map (pick_first r) (filter (choice_holds s) choices)) [] ++ with_each (filter (holds_at s) rs) (filter (choice_holds s) choices)) ≡ with_each (cond v (r ∷ filter (holds_at s) rs) (filter (holds_at s) rs)) (filter (choice_holds s) choices)
+    go :
+        (v : Bool) →
+        (cond v (map (pick_first r) (filter (choice_holds s) choices)) [] ++ with_each (filter (holds_at s) rs) (filter (choice_holds s) choices)) ≡
+        with_each (cond v (r ∷ filter (holds_at s) rs) (filter (holds_at s) rs)) (filter (choice_holds s) choices)
     go true = refl
     go false = refl
 
@@ -48,12 +55,17 @@ joint_law [] s h = refl
 joint_law (t ∷ ts) s h = filter_each s t (joint_table ts) ∙ ap₂ with_each h.0 (joint_law ts s h.1)
 
 -- ---- the numbers of rows
-pick_row : (t : List Row) (ts : List (List Row)) (n : ℕ) (r : Row) → slice_index_or t n last_row ≡ r → (choices : List (List ℕ)) → map (picked (t ∷ ts)) (map (λ ns. n ∷ ns) choices) ≡ map (pick_first r) (map (picked ts) choices)
+pick_row :
+    (t : List Row) (ts : List (List Row)) (n : ℕ) (r : Row) → slice_index_or t n last_row ≡ r → (choices : List (List ℕ)) →
+    map (picked (t ∷ ts)) (map (λ ns. n ∷ ns) choices) ≡ map (pick_first r) (map (picked ts) choices)
 unfolding words
 pick_row t ts n r e [] = refl
 pick_row t ts n r e (ns ∷ choices) = ap₂ ◌∷◌ (ap (λ q. q ∷ picked ts ns) e) (pick_row t ts n r e choices)
 
-pick_rows : (t : List Row) (ts : List (List Row)) (n : ℕ) (rs : List Row) → ((i : ℕ) → slice_index_or t (n + i) last_row ≡ slice_index_or rs i last_row) → (choices : List (List ℕ)) → map (picked (t ∷ ts)) (picks_from n rs choices) ≡ with_each rs (map (picked ts) choices)
+pick_rows :
+    (t : List Row) (ts : List (List Row)) (n : ℕ) (rs : List Row) →
+    ((i : ℕ) → slice_index_or t (n + i) last_row ≡ slice_index_or rs i last_row) → (choices : List (List ℕ)) →
+    map (picked (t ∷ ts)) (picks_from n rs choices) ≡ with_each rs (map (picked ts) choices)
 unfolding words
 pick_rows t ts n [] h choices = refl
 pick_rows t ts n (r ∷ rs) h choices =

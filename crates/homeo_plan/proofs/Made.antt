@@ -59,7 +59,9 @@ own_within k i base x n b a one h o =
     record { constant = own_size (base x) a.constant n b o.constant h; factors = λ d. own_size (others_from i x 0 k d) (factor d a.terms) n b (o.factors d) (omega (arith, one, bit_size (others_from i x 0 k d) (others_bit i x 0 k d))); sorted = o.sorted }
 
 module _ (b k i : ℕ) (base : ℕ → ℤ) (inside : i < k) (small : (x : ℕ) → unsigned_abs (base x) ≤ b) (v : Place → ℕ) (f : Forms) (h : Holds k i base v f) where
-  read_made : (x : ℕ) → v (BaseAt x) ≤ b → Made (CanForm (IsSmall (2 * b + 1)) f (shift_read k (split.Whole x))) (v (BaseAt x)) (form f (shift_read k (split.Whole x)))
+  read_made :
+      (x : ℕ) → v (BaseAt x) ≤ b →
+      Made (CanForm (IsSmall (2 * b + 1)) f (shift_read k (split.Whole x))) (v (BaseAt x)) (form f (shift_read k (split.Whole x)))
   unfolding words meaning_words
   read_made x l =
       let one = h.ones (BaseAt x) in
@@ -104,7 +106,9 @@ module _ (b k i : ℕ) (base : ℕ → ℤ) (inside : i < k) (small : (x : ℕ) 
         let w = within_negated (weight e v) (form f (shift_expr k e)) r.within in
         record { can = (r.can, numbers (2 * b + 1) (weight e v) _ (omega (arith, l)) w); within = w }
 
-    sum_make : (es : Exprs) → AreWholeExprs es → (a : Linear) (m : ℕ) → Within m a → m + sum_weight es v ≤ b → Made (CanSum (IsSmall (2 * b + 1)) f a (shift_exprs k es)) (m + sum_weight es v) (sum_form f a (shift_exprs k es))
+    sum_make :
+        (es : Exprs) → AreWholeExprs es → (a : Linear) (m : ℕ) → Within m a → m + sum_weight es v ≤ b →
+        Made (CanSum (IsSmall (2 * b + 1)) f a (shift_exprs k es)) (m + sum_weight es v) (sum_form f a (shift_exprs k es))
     sum_make NoExpr t a m w l =
         record { can = numbers (2 * b + 1) m a (omega (arith, l)) w; within = wider (m + 0) m a (omega arith) w }
     sum_make (MoreExpr e es) t a m w l =
@@ -112,7 +116,9 @@ module _ (b k i : ℕ) (base : ℕ → ℤ) (inside : i < k) (small : (x : ℕ) 
         let r = sum_make es t.1 (add_forms (form f (shift_expr k e)) a) (weight e v + m) (within_add (weight e v) m (form f (shift_expr k e)) a x.within w) (omega (arith, l)) in
         record { can = (numbers (2 * b + 1) m a (omega (arith, l)) w, x.can, r.can); within = wider (m + (weight e v + sum_weight es v)) (weight e v + m + sum_weight es v) _ (omega arith) r.within }
 
-    product_make : (es : Exprs) → AreWholeExprs es → (a : Linear) (m : ℕ) → Within m a → 1 ≤ m → m * product_weight es v ≤ b → Made (CanProduct (IsSmall (2 * b + 1)) f a (shift_exprs k es)) (m * product_weight es v) (product_form f a (shift_exprs k es))
+    product_make :
+        (es : Exprs) → AreWholeExprs es → (a : Linear) (m : ℕ) → Within m a → 1 ≤ m → m * product_weight es v ≤ b →
+        Made (CanProduct (IsSmall (2 * b + 1)) f a (shift_exprs k es)) (m * product_weight es v) (product_form f a (shift_exprs k es))
     product_make NoExpr t a m w one l =
         record { can = numbers (2 * b + 1) m a (omega (arith, l)) w; within = wider (m * 1) m a (omega arith) w }
     product_make (MoreExpr e es) t a m w one l =

@@ -35,7 +35,9 @@ member_kept c d (e ∷ es) m = go (same_delta d e) (delta_before d e) (member_ke
     go false true ih = inr m
     go false false ih = ⊎_elim inl (λ k. inr (ih k)) m
 
-each_written : (P : Delta → Type 0) (i : ℕ) (f : Forms) (d : Delta) (ds : List Delta) → Member d ds → Each P (written_needs i f ds) → Each P (remote i (support (f (DeltaAt d.object d.site))))
+each_written :
+    (P : Delta → Type 0) (i : ℕ) (f : Forms) (d : Delta) (ds : List Delta) → Member d ds → Each P (written_needs i f ds) →
+    Each P (remote i (support (f (DeltaAt d.object d.site))))
 unfolding words meaning_words
 each_written P i f d [] m h = absurd m
 each_written P i f d (e ∷ ds) m h =
@@ -48,7 +50,9 @@ module _ (i : ℕ) (s s' : State) (own : (x : ℕ) → s (DeltaAt x i) ≡ s' (D
   support_agrees [] h = tt
   support_agrees (d ∷ ds) h = go (d.site == i) refl (support_agrees ds) h
     where
-      go : (v : Bool) → (d.site == i) ≡ v → (Each (ZeroInBoth s s') (remote i ds) → Each (Agrees s s') ds) → Each (ZeroInBoth s s') (cond v (remote i ds) (d ∷ remote i ds)) → Agrees s s' d × Each (Agrees s s') ds
+      go :
+          (v : Bool) → (d.site == i) ≡ v → (Each (ZeroInBoth s s') (remote i ds) → Each (Agrees s s') ds) →
+          Each (ZeroInBoth s s') (cond v (remote i ds) (d ∷ remote i ds)) → Agrees s s' d × Each (Agrees s s') ds
       go true q ih h =
           let e : d.site ≡ i = grind (arith, nat_tests) in
           (subst (λ j. s (DeltaAt d.object j) ≡ s' (DeltaAt d.object j)) (sym e) (own d.object), ih h)
@@ -59,7 +63,9 @@ module _ (i : ℕ) (s s' : State) (own : (x : ℕ) → s (DeltaAt x i) ≡ s' (D
   unfolding words meaning_words
   IsSameUnlessWritten u u' ds x = (u (DeltaAt x i) ≡ u' (DeltaAt x i)) ⊎ Member (delta_of x i) ds
 
-  put_tracks : (f : Forms) (u u' : State) (p : Place) (a : Linear) (v v' : ℤ) → TracksAll f s s' u u' → Tracks a s s' v v' → TracksAll (put f p a) s s' (put u p v) (put u' p v')
+  put_tracks :
+      (f : Forms) (u u' : State) (p : Place) (a : Linear) (v v' : ℤ) → TracksAll f s s' u u' → Tracks a s s' v v' →
+      TracksAll (put f p a) s s' (put u p v) (put u' p v')
   unfolding words meaning_words
   put_tracks f u u' p a v v' h k q = go (same_place p q)
     where
@@ -67,15 +73,22 @@ module _ (i : ℕ) (s s' : State) (own : (x : ℕ) → s (DeltaAt x i) ≡ s' (D
       go true = k
       go false = h q
 
-  still_same : (u u' : State) (x j : ℕ) (v v' : ℤ) (ds : List Delta) (y : ℕ) → IsSameUnlessWritten u u' ds y → IsSameUnlessWritten (put u (DeltaAt x j) v) (put u' (DeltaAt x j) v') (add_delta (delta_of x j) ds) y
+  still_same :
+      (u u' : State) (x j : ℕ) (v v' : ℤ) (ds : List Delta) (y : ℕ) → IsSameUnlessWritten u u' ds y →
+      IsSameUnlessWritten (put u (DeltaAt x j) v) (put u' (DeltaAt x j) v') (add_delta (delta_of x j) ds) y
   unfolding words meaning_words
   still_same u u' x j v v' ds y h = go ((x == y) && (j == i)) refl
     where
-      go : (w : Bool) → ((x == y) && (j == i)) ≡ w → (cond w v (u (DeltaAt y i)) ≡ cond w v' (u' (DeltaAt y i))) ⊎ Member (delta_of y i) (add_delta (delta_of x j) ds)
+      go :
+          (w : Bool) → ((x == y) && (j == i)) ≡ w →
+          (cond w v (u (DeltaAt y i)) ≡ cond w v' (u' (DeltaAt y i))) ⊎ Member (delta_of y i) (add_delta (delta_of x j) ds)
       go true q = inr (subst (λ d. Member d (add_delta (delta_of x j) ds)) (same_delta_is (delta_of x j) (delta_of y i) q) (member_added (delta_of x j) ds))
       go false q = ⊎_elim inl (λ m. inr (member_kept (delta_of y i) (delta_of x j) ds m)) h
 
-  same_own : (cs : Commands) (f : Forms) (ds : List Delta) (u u' : State) → IsStraight cs → TracksAll f s s' u u' → ((x : ℕ) → IsSameUnlessWritten u u' ds x) → Each (ZeroInBoth s s') (needs_from i f ds cs) → SameOwn i (exec_all cs u) (exec_all cs u')
+  same_own :
+      (cs : Commands) (f : Forms) (ds : List Delta) (u u' : State) → IsStraight cs → TracksAll f s s' u u' →
+      ((x : ℕ) → IsSameUnlessWritten u u' ds x) → Each (ZeroInBoth s s') (needs_from i f ds cs) →
+      SameOwn i (exec_all cs u) (exec_all cs u')
   unfolding words meaning_words
   same_own NoCommand f ds u u' st t w z =
       record {
@@ -99,7 +112,9 @@ module _ (i : ℕ) (s s' : State) (own : (x : ℕ) → s (DeltaAt x i) ≡ s' (D
   same_own (MoreCommand (Seq ds') cs) f ds u u' st t w z = absurd st.0
   same_own (MoreCommand (If b c d) cs) f ds u u' st t w z = absurd st.0
 
-  pub residual_same : (b : ℕ → ℤ) (cs : Commands) → IsOn b s → IsOn b s' → IsStraight cs → Each (ZeroInBoth s s') (needs i b cs) → SameOwn i (exec_all cs s) (exec_all cs s')
+  pub residual_same :
+      (b : ℕ → ℤ) (cs : Commands) → IsOn b s → IsOn b s' → IsStraight cs → Each (ZeroInBoth s s') (needs i b cs) →
+      SameOwn i (exec_all cs s) (exec_all cs s')
   unfolding words meaning_words
   residual_same b cs on on' st z =
       same_own cs (base_forms b) [] s s' st (start_tracks b s s' on on') (λ x. inl (own x)) z

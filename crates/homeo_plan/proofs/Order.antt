@@ -38,7 +38,9 @@ unfolding words
 above_add c d f [] h a = above_with c d f [] h a
 above_add c d f (t ∷ ts) h a = go (same_delta d t.delta) (delta_before d t.delta) (above_add c d f ts h a.1)
   where
-    go : (v w : Bool) → Above c (add_term d f ts) → Above c (cond v (with_term t.delta (f +ℤ t.factor) ts) (cond w (with_term d f (t ∷ ts)) (t ∷ add_term d f ts)))
+    go :
+        (v w : Bool) → Above c (add_term d f ts) →
+        Above c (cond v (with_term t.delta (f +ℤ t.factor) ts) (cond w (with_term d f (t ∷ ts)) (t ∷ add_term d f ts)))
     go true w ih = above_with c t.delta (f +ℤ t.factor) ts a.0 a.1
     go false true ih = above_with c d f (t ∷ ts) h a
     go false false ih = (a.0, ih)
@@ -61,7 +63,9 @@ unfolding words
 sorted_add d f [] s = sorted_with d f [] tt tt
 sorted_add d f (t ∷ ts) s = go (same_delta d t.delta) refl (delta_before d t.delta) refl (sorted_add d f ts s.1)
   where
-    go : (v : Bool) → same_delta d t.delta ≡ v → (w : Bool) → delta_before d t.delta ≡ w → Sorted (add_term d f ts) → Sorted (cond v (with_term t.delta (f +ℤ t.factor) ts) (cond w (with_term d f (t ∷ ts)) (t ∷ add_term d f ts)))
+    go :
+        (v : Bool) → same_delta d t.delta ≡ v → (w : Bool) → delta_before d t.delta ≡ w → Sorted (add_term d f ts) →
+        Sorted (cond v (with_term t.delta (f +ℤ t.factor) ts) (cond w (with_term d f (t ∷ ts)) (t ∷ add_term d f ts)))
     go true p w q ih = sorted_with t.delta (f +ℤ t.factor) ts s.0 s.1
     go false p true q ih = sorted_with d f (t ∷ ts) (q, above_before d t.delta ts q s.0) s
     go false p false q ih = (above_add t.delta d f ts (before_total d t.delta p q) s.0, ih)

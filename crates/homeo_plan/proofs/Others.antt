@@ -49,7 +49,9 @@ others_bit i x j (suc n) d = go (i == j) (same_delta (delta_of x j) d) refl (oth
     one : (z : ℤ) → z ≡ pos 0 → IsBit (pos 1 +ℤ z)
     one z q = subst (λ y. IsBit (pos 1 +ℤ y)) (sym q) (record { low = grind (arith, ints); high = grind (arith, ints) })
 
-    go : (u v : Bool) → same_delta (delta_of x j) d ≡ v → IsBit (others_from i x (suc j) n d) → IsBit (cond u (pos 0) (cond v (pos 1) (pos 0)) +ℤ others_from i x (suc j) n d)
+    go :
+        (u v : Bool) → same_delta (delta_of x j) d ≡ v → IsBit (others_from i x (suc j) n d) →
+        IsBit (cond u (pos 0) (cond v (pos 1) (pos 0)) +ℤ others_from i x (suc j) n d)
     go true v q ih = subst IsBit (plus_zero (others_from i x (suc j) n d)) ih
     go false true q ih =
         let e : j ≡ d.site = ap (λ s. s.site) (same_delta_is (delta_of x j) d q) in
@@ -62,7 +64,9 @@ unfolding words
 none_own i x j zero d h = refl
 none_own i x j (suc n) d h = go (i == j) refl (same_delta (delta_of x j) d) refl (none_own i x (suc j) n d h)
   where
-    go : (u : Bool) → (i == j) ≡ u → (v : Bool) → same_delta (delta_of x j) d ≡ v → others_from i x (suc j) n d ≡ pos 0 → cond u (pos 0) (cond v (pos 1) (pos 0)) +ℤ others_from i x (suc j) n d ≡ pos 0
+    go :
+        (u : Bool) → (i == j) ≡ u → (v : Bool) → same_delta (delta_of x j) d ≡ v → others_from i x (suc j) n d ≡ pos 0 →
+        cond u (pos 0) (cond v (pos 1) (pos 0)) +ℤ others_from i x (suc j) n d ≡ pos 0
     go true p v q ih = omega (arith, ints, ih)
     go false p true q ih =
         let e : j ≡ d.site = ap (λ s. s.site) (same_delta_is (delta_of x j) d q) in

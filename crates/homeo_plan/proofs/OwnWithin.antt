@@ -58,7 +58,9 @@ zero_keeps k t config i fits =
 abbrev only : ℕ → Deltas → ℕ → Deltas
 only i x = with_site (λ j. no_deltas) i x
 
-only_keeps : (k : ℕ) (t : Template) (config : Config) (i : ℕ) (x : Deltas) → Fits k t.clauses config → Treaty t config i x → (j : ℕ) → Treaty t config j (only i x j)
+only_keeps :
+    (k : ℕ) (t : Template) (config : Config) (i : ℕ) (x : Deltas) → Fits k t.clauses config → Treaty t config i x → (j : ℕ) →
+    Treaty t config j (only i x j)
 unfolding words meaning_words
 only_keeps k t config i x fits h j = go (i == j) refl
   where

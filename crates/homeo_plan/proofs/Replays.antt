@@ -54,7 +54,9 @@ pub planned_covers : (w : s.Workload) (base : List ℤ) (g : Ground) → Member 
 unfolding words meaning_words
 planned_covers w base g m = template_covers (sites_of w) (values_of base) (planned w) g m
 
-can_step : (w : s.Workload) (base : List ℤ) (i : ℕ) (gs : List Ground) → Each (λ g. (g.site ≡ i) × Member g (planned w)) gs → Each (CanStep (schema_of w) (sites_of w) (values_of base) (template_at w base) i) gs
+can_step :
+    (w : s.Workload) (base : List ℤ) (i : ℕ) (gs : List Ground) → Each (λ g. (g.site ≡ i) × Member g (planned w)) gs →
+    Each (CanStep (schema_of w) (sites_of w) (values_of base) (template_at w base) i) gs
 unfolding words meaning_words
 can_step w base i [] h = tt
 can_step w base i (g ∷ gs) h =

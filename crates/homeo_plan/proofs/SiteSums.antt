@@ -37,7 +37,9 @@ abbrev pub ClauseHolds : State → Clause → Type 0
 unfolding words meaning_words
 ClauseHolds s c = terms_value c.terms s ≤ℤ c.slack
 
-pub clauses_hold : (k : ℕ) (b : ℕ → ℤ) (d : ℕ → Deltas) (cs : List Clause) (bounds : Config) → Fits k cs bounds → ((i : ℕ) → i < k → KeepsClauses i (d i) cs bounds) → Each (ClauseHolds (join k b d)) cs
+pub clauses_hold :
+    (k : ℕ) (b : ℕ → ℤ) (d : ℕ → Deltas) (cs : List Clause) (bounds : Config) → Fits k cs bounds →
+    ((i : ℕ) → i < k → KeepsClauses i (d i) cs bounds) → Each (ClauseHolds (join k b d)) cs
 unfolding words meaning_words
 clauses_hold k b d [] [] f h = tt
 clauses_hold k b d [] (n ∷ ns) f h = tt

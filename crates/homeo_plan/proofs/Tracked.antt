@@ -26,7 +26,9 @@ unfolding words meaning_words
 each_add_delta P d [] h = h
 each_add_delta P d (e ∷ es) h = go (same_delta d e) refl (delta_before d e) (each_add_delta P d es) h
   where
-    go : (v : Bool) → same_delta d e ≡ v → (w : Bool) → (Each P (add_delta d es) → P d × Each P es) → Each P (cond v (e ∷ es) (cond w (d ∷ e ∷ es) (e ∷ add_delta d es))) → P d × (P e × Each P es)
+    go :
+        (v : Bool) → same_delta d e ≡ v → (w : Bool) → (Each P (add_delta d es) → P d × Each P es) →
+        Each P (cond v (e ∷ es) (cond w (d ∷ e ∷ es) (e ∷ add_delta d es))) → P d × (P e × Each P es)
     go true q w ih h = (subst P (sym (same_delta_is d e q)) h.0, h)
     go false q true ih h = h
     go false q false ih h = let k = ih h.1 in (k.0, (h.0, k.1))
@@ -63,7 +65,11 @@ unfolding words meaning_words
 add_term_value d f [] s = with_term_value d f [] s
 add_term_value d f (t ∷ ts) s = go (same_delta d t.delta) refl (delta_before d t.delta) (add_term_value d f ts s)
   where
-    go : (v : Bool) → same_delta d t.delta ≡ v → (w : Bool) → terms_value (add_term d f ts) s ≡ (f *ℤ at s d) +ℤ terms_value ts s → terms_value (cond v (with_term t.delta (f +ℤ t.factor) ts) (cond w (with_term d f (t ∷ ts)) (t ∷ add_term d f ts))) s ≡ (f *ℤ at s d) +ℤ ((t.factor *ℤ at s t.delta) +ℤ terms_value ts s)
+    go :
+        (v : Bool) → same_delta d t.delta ≡ v → (w : Bool) →
+        terms_value (add_term d f ts) s ≡ (f *ℤ at s d) +ℤ terms_value ts s →
+        terms_value (cond v (with_term t.delta (f +ℤ t.factor) ts) (cond w (with_term d f (t ∷ ts)) (t ∷ add_term d f ts))) s ≡
+        (f *ℤ at s d) +ℤ ((t.factor *ℤ at s t.delta) +ℤ terms_value ts s)
     go true q w ih =
         let e : at s d ≡ at s t.delta = ap (at s) (same_delta_is d t.delta q) in
         with_term_value t.delta (f +ℤ t.factor) ts s ∙ omega (arith, ints, dist f t.factor (at s t.delta), ap (λ x. f *ℤ x) e)
@@ -155,7 +161,9 @@ is_multiply : (a b : Linear) (s : State) (x y : ℤ) → Is a s x → Is b s y �
 unfolding words meaning_words
 is_multiply a b s x y hx hy = go (is_pure a) refl (is_pure b) refl
   where
-    go : (v : Bool) → is_pure a ≡ v → (w : Bool) → is_pure b ≡ w → Is (cond v (scale_form a.constant b) (cond w (scale_form b.constant a) (mix_forms a b))) s (x *ℤ y)
+    go :
+        (v : Bool) → is_pure a ≡ v → (w : Bool) → is_pure b ≡ w →
+        Is (cond v (scale_form a.constant b) (cond w (scale_form b.constant a) (mix_forms a b))) s (x *ℤ y)
     go true p w q h = ap (λ k. k *ℤ y) (is_pure_value a s x p hx) ∙ is_scale a.constant b s y hy h
     go false p true q h =
         mul_comm_z x y ∙ ap (λ k. k *ℤ x) (is_pure_value b s y q hy) ∙ is_scale b.constant a s x hx h
@@ -202,7 +210,9 @@ differ_multiply : (a b : Linear) (s s' : State) (x x' y y' : ℤ) → Tracks a s
 unfolding words meaning_words
 differ_multiply a b s s' x x' y y' hx hy = go (is_pure a) refl (is_pure b) refl
   where
-    go : (v : Bool) → is_pure a ≡ v → (w : Bool) → is_pure b ≡ w → Differ (cond v (scale_form a.constant b) (cond w (scale_form b.constant a) (mix_forms a b))) s s' (x *ℤ y) (x' *ℤ y')
+    go :
+        (v : Bool) → is_pure a ≡ v → (w : Bool) → is_pure b ≡ w →
+        Differ (cond v (scale_form a.constant b) (cond w (scale_form b.constant a) (mix_forms a b))) s s' (x *ℤ y) (x' *ℤ y')
     go true p w q h =
         let e = is_pure_value a s x p hx.here in
         let e' = is_pure_value a s' x' p hx.there in
@@ -287,7 +297,9 @@ module _ (f : Forms) (s s' u u' : State) (h : TracksAll f s s' u u') where
     tracks_sum (MoreExpr e es) a n n' k =
         tracks_sum es (add_forms (form f e) a) (n +ℤ value e u) (n' +ℤ value e u') (tracks_more a (form f e) s s' n n' (value e u) (value e u') k (tracks e))
 
-    tracks_product : (es : Exprs) (a : Linear) (n n' : ℤ) → Tracks a s s' n n' → Tracks (product_form f a es) s s' (product_value n es u) (product_value n' es u')
+    tracks_product :
+        (es : Exprs) (a : Linear) (n n' : ℤ) → Tracks a s s' n n' →
+        Tracks (product_form f a es) s s' (product_value n es u) (product_value n' es u')
     tracks_product NoExpr a n n' k = k
     tracks_product (MoreExpr e es) a n n' k =
         tracks_product es (multiply_forms a (form f e)) (n *ℤ value e u) (n' *ℤ value e u') (tracks_multiply a (form f e) s s' n n' (value e u) (value e u') k (tracks e))

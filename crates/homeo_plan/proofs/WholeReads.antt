@@ -53,11 +53,16 @@ module _ (k i m : ℕ) (f : Forms) (x : ℕ) where
     pub factors : (d : Delta) → factor d a.terms +ℤ others_from i x j n d ≡ g d
     pub sorted : Sorted a.terms
 
-  part_numbers : (w : ℕ) (z : ℤ) (g : Delta → ℤ) (j n : ℕ) (a : Linear) → w + 1 ≤ m → Part z g j n a → unsigned_abs z ≤ m → ((d : Delta) → unsigned_abs (g d) ≤ w) → Numbers (IsSmall m) a
+  part_numbers :
+      (w : ℕ) (z : ℤ) (g : Delta → ℤ) (j n : ℕ) (a : Linear) → w + 1 ≤ m → Part z g j n a → unsigned_abs z ≤ m →
+      ((d : Delta) → unsigned_abs (g d) ≤ w) → Numbers (IsSmall m) a
   part_numbers w z g j n a l p h q =
       numbers m m a (omega arith) (record { constant = subst (λ y. unsigned_abs y ≤ m) (sym p.constant) h; factors = λ d. omega (arith, l, near (factor d a.terms) (others_from i x j n d) (g d) w (others_bit i x j n d) (p.factors d) (q d)); sorted = p.sorted })
 
-  other_step : (z : ℤ) (g : Delta → ℤ) (j n : ℕ) (a : Linear) → (i == j) ≡ false → Shape (pos 0) (at_delta (delta_of x j) (pos 1)) (f (DeltaAt x j)) → Part z g j (suc n) a → Part z g (suc j) n (add_forms (f (DeltaAt x j)) a)
+  other_step :
+      (z : ℤ) (g : Delta → ℤ) (j n : ℕ) (a : Linear) → (i == j) ≡ false →
+      Shape (pos 0) (at_delta (delta_of x j) (pos 1)) (f (DeltaAt x j)) → Part z g j (suc n) a →
+      Part z g (suc j) n (add_forms (f (DeltaAt x j)) a)
   unfolding words
   other_step z g j n a q s p =
       record { constant = omega (arith, ints, p.constant, s.constant); factors = λ d. factors d; sorted = sorted_adds (f (DeltaAt x j)).terms a.terms p.sorted }
@@ -69,7 +74,9 @@ module _ (k i m : ℕ) (f : Forms) (x : ℕ) where
           ap (λ y. y +ℤ others_from i x (suc j) n d) (add_terms_factor (f (DeltaAt x j)).terms a.terms d)
           ∙ omega (arith, ints, s.factors d, one, whole)
 
-  own_step : (z : ℤ) (g : Delta → ℤ) (n : ℕ) (a o : Linear) → Sorted o.terms → Part z g i (suc n) a → Part (z +ℤ o.constant) (λ d. g d +ℤ factor d o.terms) (suc i) n (add_forms o a)
+  own_step :
+      (z : ℤ) (g : Delta → ℤ) (n : ℕ) (a o : Linear) → Sorted o.terms → Part z g i (suc n) a →
+      Part (z +ℤ o.constant) (λ d. g d +ℤ factor d o.terms) (suc i) n (add_forms o a)
   unfolding words
   own_step z g n a o s p =
       record { constant = omega (arith, ints, p.constant); factors = λ d. factors d; sorted = sorted_adds o.terms a.terms p.sorted }
@@ -88,12 +95,17 @@ module _ (k i m : ℕ) (f : Forms) (x : ℕ) where
     pub can : CanSum (IsSmall m) f a (delta_reads x j n)
     pub shape : Shape z g (sum_form f a (delta_reads x j n))
 
-  summed_none : (w : ℕ) (z : ℤ) (g : Delta → ℤ) (j : ℕ) (a : Linear) → w + 1 ≤ m → unsigned_abs z ≤ m → ((d : Delta) → unsigned_abs (g d) ≤ w) → Part z g j 0 a → Summed z g j 0 a
+  summed_none :
+      (w : ℕ) (z : ℤ) (g : Delta → ℤ) (j : ℕ) (a : Linear) → w + 1 ≤ m → unsigned_abs z ≤ m →
+      ((d : Delta) → unsigned_abs (g d) ≤ w) → Part z g j 0 a → Summed z g j 0 a
   unfolding words meaning_words
   summed_none w z g j a l h q p =
       record { can = part_numbers w z g j 0 a l p h q; shape = record { constant = p.constant; factors = λ d. omega (arith, ints, p.factors d); sorted = p.sorted } }
 
-  after_own : (w : ℕ) (z : ℤ) (g : Delta → ℤ) → w + 1 ≤ m → unsigned_abs z ≤ m → ((d : Delta) → unsigned_abs (g d) ≤ w) → ((j : ℕ) → (i == j) ≡ false → Shape (pos 0) (at_delta (delta_of x j) (pos 1)) (f (DeltaAt x j))) → (n j : ℕ) (a : Linear) → i < j → Part z g j n a → Summed z g j n a
+  after_own :
+      (w : ℕ) (z : ℤ) (g : Delta → ℤ) → w + 1 ≤ m → unsigned_abs z ≤ m → ((d : Delta) → unsigned_abs (g d) ≤ w) →
+      ((j : ℕ) → (i == j) ≡ false → Shape (pos 0) (at_delta (delta_of x j) (pos 1)) (f (DeltaAt x j))) →
+      (n j : ℕ) (a : Linear) → i < j → Part z g j n a → Summed z g j n a
   unfolding words meaning_words
   after_own w z g l h q s zero j a r p = summed_none w z g j a l h q p
   after_own w z g l h q s (suc n) j a r p =
@@ -101,7 +113,13 @@ module _ (k i m : ℕ) (f : Forms) (x : ℕ) where
       let rest = after_own w z g l h q s n (suc j) (add_forms (f (DeltaAt x j)) a) (omega (arith, r)) (other_step z g j n a other (s j other) p) in
       record { can = (part_numbers w z g j (suc n) a l p h q, delta_numbers m (delta_of x j) (f (DeltaAt x j)) (omega (arith, l)) (s j other), rest.can); shape = rest.shape }
 
-  pub before_own : (w : ℕ) (z : ℤ) (g : Delta → ℤ) → w + 1 ≤ m → unsigned_abs z ≤ m → ((d : Delta) → unsigned_abs (g d) ≤ w) → unsigned_abs (z +ℤ (f (DeltaAt x i)).constant) ≤ m → ((d : Delta) → unsigned_abs (g d +ℤ factor d (f (DeltaAt x i)).terms) ≤ w) → ((j : ℕ) → (i == j) ≡ false → Shape (pos 0) (at_delta (delta_of x j) (pos 1)) (f (DeltaAt x j))) → Numbers (IsSmall m) (f (DeltaAt x i)) → Sorted (f (DeltaAt x i)).terms → (n j : ℕ) (a : Linear) → j ≤ i → i < j + n → Part z g j n a → Summed (z +ℤ (f (DeltaAt x i)).constant) (λ d. g d +ℤ factor d (f (DeltaAt x i)).terms) j n a
+  pub before_own :
+      (w : ℕ) (z : ℤ) (g : Delta → ℤ) → w + 1 ≤ m → unsigned_abs z ≤ m → ((d : Delta) → unsigned_abs (g d) ≤ w) →
+      unsigned_abs (z +ℤ (f (DeltaAt x i)).constant) ≤ m →
+      ((d : Delta) → unsigned_abs (g d +ℤ factor d (f (DeltaAt x i)).terms) ≤ w) →
+      ((j : ℕ) → (i == j) ≡ false → Shape (pos 0) (at_delta (delta_of x j) (pos 1)) (f (DeltaAt x j))) →
+      Numbers (IsSmall m) (f (DeltaAt x i)) → Sorted (f (DeltaAt x i)).terms → (n j : ℕ) (a : Linear) → j ≤ i → i < j + n →
+      Part z g j n a → Summed (z +ℤ (f (DeltaAt x i)).constant) (λ d. g d +ℤ factor d (f (DeltaAt x i)).terms) j n a
   unfolding words meaning_words
   before_own w z g l h q h' q' s o so zero j a r t p = absurd (never r t)
     where

@@ -58,12 +58,16 @@ module _ (k i m : ℕ) (f : Forms) (x : ℕ) (y : ℤ) (g : Delta → ℤ) where
           let whole : factor d a.terms +ℤ others_from i x 0 k d ≡ g d +ℤ (cond (i == j) (pos 0) (at_delta (delta_of x j) (pos 1) d) +ℤ others_from i x (suc j) n d) = p.factors d in
           omega (arith, ints, none, whole)
 
-  take_off : (j n : ℕ) (a : Linear) → (i == j) ≡ false → Shape (pos 0) (at_delta (delta_of x j) (pos 1)) (f (DeltaAt x j)) → Part j (suc n) a → Part (suc j) n (add_forms (scale_form (negsuc 0) (f (DeltaAt x j))) a)
+  take_off :
+      (j n : ℕ) (a : Linear) → (i == j) ≡ false → Shape (pos 0) (at_delta (delta_of x j) (pos 1)) (f (DeltaAt x j)) →
+      Part j (suc n) a → Part (suc j) n (add_forms (scale_form (negsuc 0) (f (DeltaAt x j))) a)
   unfolding words
   take_off j n a q s p =
       record { constant = omega (arith, ints, p.constant, s.constant, minus_one (f (DeltaAt x j)).constant); factors = λ d. factors d; sorted = sorted_adds (scale_terms (negsuc 0) (f (DeltaAt x j)).terms) a.terms p.sorted }
     where
-      factors : (d : Delta) → factor d (add_forms (scale_form (negsuc 0) (f (DeltaAt x j))) a).terms +ℤ others_from i x 0 k d ≡ g d +ℤ others_from i x (suc j) n d
+      factors :
+          (d : Delta) → factor d (add_forms (scale_form (negsuc 0) (f (DeltaAt x j))) a).terms +ℤ others_from i x 0 k d ≡
+          g d +ℤ others_from i x (suc j) n d
       factors d =
           let one : cond (i == j) (pos 0) (at_delta (delta_of x j) (pos 1) d) ≡ at_delta (delta_of x j) (pos 1) d = ap (λ b. cond b (pos 0) (at_delta (delta_of x j) (pos 1) d)) q in
           let whole : factor d a.terms +ℤ others_from i x 0 k d ≡ g d +ℤ (cond (i == j) (pos 0) (at_delta (delta_of x j) (pos 1) d) +ℤ others_from i x (suc j) n d) = p.factors d in
@@ -71,13 +75,18 @@ module _ (k i m : ℕ) (f : Forms) (x : ℕ) (y : ℤ) (g : Delta → ℤ) where
           ap (λ z. z +ℤ others_from i x 0 k d) (add_terms_factor (scale_form (negsuc 0) (f (DeltaAt x j))).terms a.terms d)
           ∙ omega (arith, ints, scaled, minus_one (at_delta (delta_of x j) (pos 1) d), one, whole)
 
-  pub taken : (w : ℕ) → w + 1 ≤ m → unsigned_abs y ≤ m → ((d : Delta) → unsigned_abs (g d) ≤ w) → ((j : ℕ) → (i == j) ≡ false → Shape (pos 0) (at_delta (delta_of x j) (pos 1)) (f (DeltaAt x j))) → (n j : ℕ) (a : Linear) → Part j n a → Taken a (other_deltas i x j n)
+  pub taken :
+      (w : ℕ) → w + 1 ≤ m → unsigned_abs y ≤ m → ((d : Delta) → unsigned_abs (g d) ≤ w) →
+      ((j : ℕ) → (i == j) ≡ false → Shape (pos 0) (at_delta (delta_of x j) (pos 1)) (f (DeltaAt x j))) →
+      (n j : ℕ) (a : Linear) → Part j n a → Taken a (other_deltas i x j n)
   unfolding words meaning_words
   taken w l c q s zero j a p =
       record { can = part_numbers w j 0 a l c q p; constant = p.constant; factors = λ d. omega (arith, ints, p.factors d); sorted = p.sorted }
   taken w l c q s (suc n) j a p = go (i == j) refl (λ b. taken w l c q s n (suc j) b)
     where
-      go : (u : Bool) → (i == j) ≡ u → ((b : Linear) → Part (suc j) n b → Taken b (other_deltas i x (suc j) n)) → Taken a (cond u (other_deltas i x (suc j) n) (MoreExpr (Neg (Read (split.Delta x j))) (other_deltas i x (suc j) n)))
+      go :
+          (u : Bool) → (i == j) ≡ u → ((b : Linear) → Part (suc j) n b → Taken b (other_deltas i x (suc j) n)) →
+          Taken a (cond u (other_deltas i x (suc j) n) (MoreExpr (Neg (Read (split.Delta x j))) (other_deltas i x (suc j) n)))
       go true e ih = ih a (skip j n a e p)
       go false e ih =
           let one = delta_within (delta_of x j) (f (DeltaAt x j)) (s j e) in
@@ -92,7 +101,9 @@ off_size : (z y : ℤ) (n b : ℕ) → unsigned_abs z ≤ n → unsigned_abs y �
 off_size z y n b h l = grind (arith, ints, h, l, minus_one y)
 
 module _ (b k i : ℕ) (base : ℕ → ℤ) (small : (x : ℕ) → unsigned_abs (base x) ≤ b) (v : Place → ℕ) (f : Forms) (h : Holds k i base v f) where
-  pub written : (x n : ℕ) (e : Expr) → 1 ≤ n → n ≤ b → Made (CanForm (IsSmall (2 * b + 1)) f e) n (form f e) → Wrote (CanForm (IsSmall (2 * b + 1)) f (own_value k i x e)) k i base x n (form f (own_value k i x e))
+  pub written :
+      (x n : ℕ) (e : Expr) → 1 ≤ n → n ≤ b → Made (CanForm (IsSmall (2 * b + 1)) f e) n (form f e) →
+      Wrote (CanForm (IsSmall (2 * b + 1)) f (own_value k i x e)) k i base x n (form f (own_value k i x e))
   unfolding words meaning_words
   written x n e one l r =
       let m = 2 * b + 1 in
@@ -116,7 +127,10 @@ module _ (b k i : ℕ) (base : ℕ → ℤ) (small : (x : ℕ) → unsigned_abs 
       turn : (c t g : ℤ) → c +ℤ t ≡ g → t +ℤ c ≡ g
       turn c t g e = omega (arith, ints, e)
 
-      start_factor : (F : Linear) (d : Delta) → factor d (add_forms (scale_form (negsuc 0) (f (BaseAt x))) (add_forms F (constant_form (pos 0)))).terms +ℤ others_from i x 0 k d ≡ factor d F.terms +ℤ others_from i x 0 k d
+      start_factor :
+          (F : Linear) (d : Delta) →
+          factor d (add_forms (scale_form (negsuc 0) (f (BaseAt x))) (add_forms F (constant_form (pos 0)))).terms +ℤ others_from i x 0 k d ≡
+          factor d F.terms +ℤ others_from i x 0 k d
       start_factor F d =
           let scaled : factor d (scale_form (negsuc 0) (f (BaseAt x))).terms ≡ negsuc 0 *ℤ pos 0 = scale_terms_factor (negsuc 0) (f (BaseAt x)).terms d ∙ ap (λ z. negsuc 0 *ℤ z) ((h.bases x).factors d) in
           ap (λ z. z +ℤ others_from i x 0 k d) (add_terms_factor (scale_form (negsuc 0) (f (BaseAt x))).terms (add_forms F (constant_form (pos 0))).terms d)

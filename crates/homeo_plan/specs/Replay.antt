@@ -1,21 +1,16 @@
 -- Replays of local steps that keep a treaty.
-use Rattle.std.specs.Prelude.{◌≡◌, ℕ, ◌<◌, List, [], ◌∷◌, ℤ, ◌+ℤ◌}
-use Rattle.homeo_syntax.specs.Source as s
+use Rattle.std.specs.Prelude.{◌≡◌, ℕ, List, [], ◌∷◌, ℤ}
 use Rattle.homeo_syntax.specs.Low.{Command}
-use Rattle.homeo_meaning.specs.Acceptance.{IsAccepted}
-use Rattle.homeo_meaning.specs.Bounds.{AllWithin, IsWithin}
+use Rattle.homeo_meaning.specs.Bounds.{AllWithin}
 use Rattle.homeo_meaning.specs.LowMeaning.{BaseAt, exec, whole}
-use Rattle.homeo_meaning.specs.Schema.{Schema, schema_of}
-use Rattle.homeo_meaning.specs.Serial.{values_of}
+use Rattle.homeo_meaning.specs.Schema.{Schema}
 use Rattle.homeo_meaning.specs.Whole.{IsWhole}
 use Rattle.homeo_plan.specs.Key.{words}
-use Rattle.homeo_plan.specs.Each.{Each, Member}
 use Rattle.homeo_plan.specs.Joined.{Deltas}
 use Rattle.homeo_plan.specs.Template.{Ground, Template, Covers}
-use Rattle.homeo_plan.specs.Config.{Config, Fits}
+use Rattle.homeo_plan.specs.Config.{Config}
 use Rattle.homeo_plan.specs.Treaty.{Treaty}
-use Rattle.homeo_plan.specs.Local.{local_deltas, no_deltas, replay}
-use Rattle.homeo_plan.specs.Planned.{sites_of, planned, template_at, policy}
+use Rattle.homeo_plan.specs.Local.{local_deltas}
 
 -- the command leaves each object within its bounds
 abbrev pub Stays : Schema → Command → Type 0

@@ -4,11 +4,13 @@
 
 mod forms;
 pub mod laws;
+mod round;
 mod rows;
 mod templates;
 mod treaty;
 
 pub use forms::{Atom, AtomSet, Delta, Linear, Term};
+pub use round::RoundPlan;
 pub use rows::{JointRow, Residual, Row};
 pub use templates::{Clause, Config, FreezeSet, Template};
 pub use treaty::{Broken, LocalTreaty};
