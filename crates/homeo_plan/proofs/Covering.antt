@@ -9,9 +9,9 @@ use Rattle.homeo_meaning.specs.LowMeaning.{State}
 use Rattle.homeo_plan.specs.Each.{Each, Member}
 use Rattle.homeo_plan.specs.declared.forms.Delta.{Delta}
 use Rattle.homeo_plan.specs.declared.forms.Term.{Term}
-use Rattle.homeo_plan.specs.Linear.{same_delta, Linear, add_deltas, is_none, terms_value, IsZeroAt}
+use Rattle.homeo_plan.specs.Linear.{same_delta, Linear, add_deltas, is_empty, terms_value, IsZeroAt}
 use Rattle.homeo_plan.specs.Holding.{AtomHolds}
-use Rattle.homeo_plan.specs.Template.{Ground, atoms_of, needs_of, Clause, clause_of, same_term, same_terms, same_clause, with_clause, clauses_from, joined, put_all, template, Covers}
+use Rattle.homeo_plan.specs.Template.{PlannedCall, atoms_of, needs_of, Clause, clause_of, same_term, same_terms, same_clause, with_clause, clauses_from, joined, put_all, template, Covers}
 use Rattle.homeo_plan.proofs.Tracked.{same_delta_is, each_add_deltas}
 use Rattle.homeo_plan.proofs.Atoms.{IsBelowAtBase, each_append, int_eq_is}
 use Rattle.homeo_plan.proofs.SiteSums.{ClauseHolds}
@@ -51,9 +51,9 @@ among P c (a ∷ cs) e h = go (same_clause c a) refl (among P c cs) e
     go true q ih e = subst P (sym (same_clause_is c a q)) h.0
     go false q ih e = ih e h.1
 
-from_with_clause : (P : Clause → Type 0) (cs : List Clause) (a : Linear) → Each P (with_clause cs a) → Each P cs × (is_none a.terms ≡ false → P (clause_of a))
+from_with_clause : (P : Clause → Type 0) (cs : List Clause) (a : Linear) → Each P (with_clause cs a) → Each P cs × (is_empty a.terms ≡ false → P (clause_of a))
 unfolding words meaning_words
-from_with_clause P cs a h = go (is_none a.terms) (list_any (same_clause (clause_of a)) cs) refl h
+from_with_clause P cs a h = go (is_empty a.terms) (list_any (same_clause (clause_of a)) cs) refl h
   where
     go :
         (v w : Bool) → list_any (same_clause (clause_of a)) cs ≡ w → Each P (cond v cs (cond w cs (cs ++ clause_of a ∷ []))) →
@@ -64,7 +64,7 @@ from_with_clause P cs a h = go (is_none a.terms) (list_any (same_clause (clause_
 
 from_clauses :
     (P : Clause → Type 0) (cs : List Clause) (atoms : List Linear) → Each P (clauses_from cs atoms) →
-    Each P cs × Each (λ a. is_none a.terms ≡ false → P (clause_of a)) atoms
+    Each P cs × Each (λ a. is_empty a.terms ≡ false → P (clause_of a)) atoms
 unfolding words meaning_words
 from_clauses P cs [] h = (h, tt)
 from_clauses P cs (a ∷ more) h =
@@ -73,7 +73,7 @@ from_clauses P cs (a ∷ more) h =
     (m.0, (m.1, k.1))
 
 from_all_atoms :
-    (P : Linear → Type 0) (k : ℕ) (b : ℕ → ℤ) (g : Ground) (gs : List Ground) → Member g gs →
+    (P : Linear → Type 0) (k : ℕ) (b : ℕ → ℤ) (g : PlannedCall) (gs : List PlannedCall) → Member g gs →
     Each P (joined (map (atoms_of k b) gs)) → Each P (atoms_of k b g)
 unfolding words meaning_words
 from_all_atoms P k b g [] m h = absurd m
@@ -95,24 +95,24 @@ from_mixed P [] h = tt
 from_mixed P (a ∷ more) h = (h.0, from_mixed P more h.1)
 
 from_needs :
-    (P : Delta → Type 0) (k : ℕ) (b : ℕ → ℤ) (g : Ground) (gs : List Ground) → Member g gs →
+    (P : Delta → Type 0) (k : ℕ) (b : ℕ → ℤ) (g : PlannedCall) (gs : List PlannedCall) → Member g gs →
     Each (Each P) (map (needs_of k b) gs) → Each P (needs_of k b g)
 unfolding words meaning_words
 from_needs P k b g [] m h = absurd m
 from_needs P k b g (e ∷ gs) m h =
     ⊎_elim (λ q. subst (λ z. Each P (needs_of k b z)) q h.0) (λ n. from_needs P k b g gs n h.1) m
 
-atom_holds : (s : State) (a : Linear) → IsBelowAtBase a → (is_none a.terms ≡ false → ClauseHolds s (clause_of a)) → Each (IsZeroAt s) a.mixed → AtomHolds s a
+atom_holds : (s : State) (a : Linear) → IsBelowAtBase a → (is_empty a.terms ≡ false → ClauseHolds s (clause_of a)) → Each (IsZeroAt s) a.mixed → AtomHolds s a
 unfolding words meaning_words
 atom_holds s a low c z = record { below = go a.terms c; mixed = z }
   where
-    go : (ts : List Term) → (is_none ts ≡ false → terms_value ts s ≤ℤ neg_ℤ a.constant) → (a.constant +ℤ terms_value ts s) ≤ℤ pos 0
+    go : (ts : List Term) → (is_empty ts ≡ false → terms_value ts s ≤ℤ neg_ℤ a.constant) → (a.constant +ℤ terms_value ts s) ≤ℤ pos 0
     go [] c = omega (arith, ints, low)
     go (t ∷ ts) c = let h = c refl in omega (arith, ints)
 
 pub atoms_hold :
     (s : State) (atoms : List Linear) → Each IsBelowAtBase atoms →
-    Each (λ a. is_none a.terms ≡ false → ClauseHolds s (clause_of a)) atoms → Each (λ a. Each (IsZeroAt s) a.mixed) atoms →
+    Each (λ a. is_empty a.terms ≡ false → ClauseHolds s (clause_of a)) atoms → Each (λ a. Each (IsZeroAt s) a.mixed) atoms →
     Each (AtomHolds s) atoms
 unfolding words meaning_words
 atoms_hold s [] low c z = tt
@@ -134,7 +134,7 @@ each_in [] ys h = tt
 each_in (x ∷ xs) ys h = (h x (inl refl), each_in xs ys (λ y m. h y (inr m)))
 
 -- the template of all calls covers each
-pub template_covers : (k : ℕ) (b : ℕ → ℤ) (gs : List Ground) (g : Ground) → Member g gs → Covers (template k b gs) k b g
+pub template_covers : (k : ℕ) (b : ℕ → ℤ) (gs : List PlannedCall) (g : PlannedCall) → Member g gs → Covers (template k b gs) k b g
 unfolding words meaning_words
 template_covers k b gs g m =
     let cs = (template k b gs).clauses in
@@ -143,7 +143,7 @@ template_covers k b gs g m =
     let frozen = from_put_all (λ d. Member d ds) (map (needs_of k b) gs) (put_all (map (λ a. a.mixed) atoms) []) (each_in ds ds (λ d q. q)) in
     let mixed = from_put_all (λ d. Member d ds) (map (λ a. a.mixed) atoms) [] frozen.1 in
     record {
-      clauses = from_all_atoms (λ a. is_none a.terms ≡ false → Member (clause_of a) cs) k b g gs m (from_clauses (λ c. Member c cs) [] atoms (each_in cs cs (λ c q. q))).1;
+      clauses = from_all_atoms (λ a. is_empty a.terms ≡ false → Member (clause_of a) cs) k b g gs m (from_clauses (λ c. Member c cs) [] atoms (each_in cs cs (λ c q. q))).1;
       mixed = from_all_atoms (λ a. Each (λ d. Member d ds) a.mixed) k b g gs m (from_mixed (λ d. Member d ds) atoms mixed.0);
       needs = from_needs (λ d. Member d ds) k b g gs m frozen.0;
     }

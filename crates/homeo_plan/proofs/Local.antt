@@ -9,10 +9,10 @@ use Rattle.homeo_meaning.specs.Whole.{IsWhole}
 use Rattle.homeo_plan.specs.Joined.{Deltas, join, alone}
 use Rattle.homeo_plan.specs.Table.{Row, walk}
 use Rattle.homeo_plan.specs.declared.forms.Delta.{Delta}
-use Rattle.homeo_plan.specs.Linear.{Linear, is_none, IsZeroAt}
+use Rattle.homeo_plan.specs.Linear.{Linear, is_empty, IsZeroAt}
 use Rattle.homeo_plan.specs.Needs.{IsStraight}
 use Rattle.homeo_plan.specs.Holding.{IsOn, ZeroInBoth, SameOwn}
-use Rattle.homeo_plan.specs.Template.{Ground, shifted, base_row, atoms_of, needs_of, clause_of, Template, Covers}
+use Rattle.homeo_plan.specs.Template.{PlannedCall, shifted, base_row, atoms_of, needs_of, clause_of, Template, Covers}
 use Rattle.homeo_plan.specs.Config.{Config, Fits}
 use Rattle.homeo_plan.specs.Treaty.{Treaty}
 use Rattle.homeo_plan.specs.Local.{local_run}
@@ -33,7 +33,7 @@ alone_is_on : (b : ℕ → ℤ) (i : ℕ) (x : Deltas) → IsOn b (alone b i x)
 unfolding words meaning_words
 alone_is_on b i x = record { bases = λ y. refl; temps = λ t. refl }
 
-module _ (k : ℕ) (b : ℕ → ℤ) (t : Template) (bounds : Config) (d : ℕ → Deltas) (fits : Fits k t.clauses bounds) (keeps : (i : ℕ) → i < k → Treaty t bounds i (d i)) (g : Ground) (covers : Covers t k b g) (lt : g.site < k) (w : IsWhole g.command) where
+module _ (k : ℕ) (b : ℕ → ℤ) (t : Template) (bounds : Config) (d : ℕ → Deltas) (fits : Fits k t.clauses bounds) (keeps : (i : ℕ) → i < k → Treaty t bounds i (d i)) (g : PlannedCall) (covers : Covers t k b g) (lt : g.site < k) (w : IsWhole g.command) where
   all_frozen : Each (IsZeroAt (join k b d)) t.freezes
   unfolding words meaning_words
   all_frozen = freezes_hold k b d t.freezes (λ i l. (keeps i l).freezes)
@@ -55,7 +55,7 @@ module _ (k : ℕ) (b : ℕ → ℤ) (t : Template) (bounds : Config) (d : ℕ �
   unfolding words meaning_words
   formula_holds =
       let cs = clauses_hold k b d t.clauses bounds fits (λ i l. (keeps i l).clauses) in
-      let own = each_map _ (λ (a : Linear). is_none a.terms ≡ false → ClauseHolds (join k b d) (clause_of a)) (λ a f e. each_member (ClauseHolds (join k b d)) (clause_of a) t.clauses cs (f e)) (atoms_of k b g) covers.clauses in
+      let own = each_map _ (λ (a : Linear). is_empty a.terms ≡ false → ClauseHolds (join k b d) (clause_of a)) (λ a f e. each_member (ClauseHolds (join k b d)) (clause_of a) t.clauses cs (f e)) (atoms_of k b g) covers.clauses in
       let low = true_cond_below b (base_row k b g).formula formula_at_base in
       let z = each_map _ (λ (a : Linear). Each (IsZeroAt (join k b d)) a.mixed) (λ a f. frozen_among a.mixed f) (atoms_of k b g) covers.mixed in
       true_cond_holds b (join k b d) (join_is_on k b d) (base_row k b g).formula formula_at_base (atoms_hold (join k b d) (atoms_of k b g) low own z)

@@ -11,7 +11,7 @@ use Rattle.homeo_plan.specs.Each.{Each}
 use Rattle.homeo_plan.specs.Joined.{Deltas, folded, with_site}
 use Rattle.homeo_plan.specs.declared.forms.Delta.{Delta}
 use Rattle.homeo_plan.specs.declared.forms.Term.{Term}
-use Rattle.homeo_plan.specs.Template.{Clause, Template, Ground}
+use Rattle.homeo_plan.specs.Template.{Clause, Template, PlannedCall}
 use Rattle.homeo_plan.specs.Config.{Config, Fits}
 use Rattle.homeo_plan.specs.Treaty.{site_sum, bound_at, KeepsClauses, KeepsFreezes, Treaty}
 use Rattle.homeo_plan.specs.Local.{local_deltas, no_deltas, replay}
@@ -104,7 +104,7 @@ only_folded k b i x lt = fun_ext at
         ∙ sum_at i k (λ j. x n) ∙ ap (λ v. cond v (x n) (pos 0)) there)
 
 pub own_within :
-    (x : Schema) (k : ℕ) (b : ℕ → ℤ) (t : Template) (config : Config) (i : ℕ) (d : Deltas) (gs : List Ground) →
+    (x : Schema) (k : ℕ) (b : ℕ → ℤ) (t : Template) (config : Config) (i : ℕ) (d : Deltas) (gs : List PlannedCall) →
     Fits k t.clauses config → i < k → Each (CanStep x k b t i) gs → Treaty t config i d → AllWithin x (λ n. b n +ℤ d n) →
     KeepsAlong k b t config i d gs → AllWithin x (λ n. b n +ℤ replay k b gs d n)
 unfolding words meaning_words

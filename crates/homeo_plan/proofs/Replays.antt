@@ -12,7 +12,7 @@ use Rattle.homeo_meaning.specs.Serial.{values_of}
 use Rattle.homeo_meaning.proofs.Within.{all_within}
 use Rattle.homeo_plan.specs.Each.{Each, Member}
 use Rattle.homeo_meaning.specs.Whole.{IsWhole}
-use Rattle.homeo_plan.specs.Template.{Ground, Covers}
+use Rattle.homeo_plan.specs.Template.{PlannedCall, Covers}
 use Rattle.homeo_plan.specs.Local.{no_deltas, replay}
 use Rattle.homeo_plan.specs.Planned.{sites_of, planned_call, planned, template_at, policy}
 use Rattle.homeo_plan.specs.Soundness.{GroundSoundness}
@@ -25,37 +25,37 @@ use Rattle.homeo_plan.proofs.Policy.{policy_fits}
 use Rattle.homeo_meaning.specs.Acceptance.{IsAccepted}
 
 -- ---- the ground calls
-pub record IsPlanned (w : s.Workload) (g : Ground) : Type 0 where
+pub record IsPlanned (w : s.Workload) (g : PlannedCall) : Type 0 where
   pub from : meaning.Ground
   pub is : planned_call w from ≡ g
 
-among : (w : s.Workload) (gs : List meaning.Ground) (g : Ground) → Member g (map (planned_call w) gs) → IsPlanned w g
+among : (w : s.Workload) (gs : List meaning.Ground) (g : PlannedCall) → Member g (map (planned_call w) gs) → IsPlanned w g
 unfolding words meaning_words
 among w [] g m = absurd m
 among w (e ∷ gs) g m = ⊎_elim (λ q. record { from = e; is = q }) (λ n. among w gs g n) m
 
-pub is_planned : (w : s.Workload) (g : Ground) → Member g (planned w) → IsPlanned w g
+pub is_planned : (w : s.Workload) (g : PlannedCall) → Member g (planned w) → IsPlanned w g
 unfolding words meaning_words
 is_planned w g m = among w (meaning.grounds w) g m
 
-pub planned_whole : (w : s.Workload) (g : Ground) → Member g (planned w) → IsWhole g.command
+pub planned_whole : (w : s.Workload) (g : PlannedCall) → Member g (planned w) → IsWhole g.command
 unfolding words meaning_words
 planned_whole w g m =
     let p = is_planned w g m in
-    subst (λ (z : Ground). IsWhole z.command) p.is (ground_whole w p.from)
+    subst (λ (z : PlannedCall). IsWhole z.command) p.is (ground_whole w p.from)
 
-pub planned_stays : (w : s.Workload) (g : Ground) → Member g (planned w) → Stays (schema_of w) g.command
+pub planned_stays : (w : s.Workload) (g : PlannedCall) → Member g (planned w) → Stays (schema_of w) g.command
 unfolding words meaning_words
 planned_stays w g m =
     let p = is_planned w g m in
-    subst (λ (z : Ground). Stays (schema_of w) z.command) p.is (ground_stays w p.from)
+    subst (λ (z : PlannedCall). Stays (schema_of w) z.command) p.is (ground_stays w p.from)
 
-pub planned_covers : (w : s.Workload) (base : List ℤ) (g : Ground) → Member g (planned w) → Covers (template_at w base) (sites_of w) (values_of base) g
+pub planned_covers : (w : s.Workload) (base : List ℤ) (g : PlannedCall) → Member g (planned w) → Covers (template_at w base) (sites_of w) (values_of base) g
 unfolding words meaning_words
 planned_covers w base g m = template_covers (sites_of w) (values_of base) (planned w) g m
 
 can_step :
-    (w : s.Workload) (base : List ℤ) (i : ℕ) (gs : List Ground) → Each (λ g. (g.site ≡ i) × Member g (planned w)) gs →
+    (w : s.Workload) (base : List ℤ) (i : ℕ) (gs : List PlannedCall) → Each (λ g. (g.site ≡ i) × Member g (planned w)) gs →
     Each (CanStep (schema_of w) (sites_of w) (values_of base) (template_at w base) i) gs
 unfolding words meaning_words
 can_step w base i [] h = tt
@@ -70,7 +70,7 @@ no_change b = fun_ext at
     at n = omega (arith, ints)
 
 pub replays_within :
-    (w : s.Workload) (base : List ℤ) (i : ℕ) (gs : List Ground) → IsAccepted w → IsWithin (schema_of w) base → i < sites_of w →
+    (w : s.Workload) (base : List ℤ) (i : ℕ) (gs : List PlannedCall) → IsAccepted w → IsWithin (schema_of w) base → i < sites_of w →
     Each (λ g. (g.site ≡ i) × Member g (planned w)) gs →
     KeepsAlong (sites_of w) (values_of base) (template_at w base) (policy w base) i no_deltas gs →
     AllWithin (schema_of w) (λ n. values_of base n +ℤ replay (sites_of w) (values_of base) gs no_deltas n)

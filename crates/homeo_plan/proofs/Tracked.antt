@@ -9,7 +9,7 @@ use Rattle.homeo_syntax.specs.Low.{Expr, Exprs, Literal, OfTemp, Read, Sum, Prod
 use Rattle.homeo_meaning.specs.LowMeaning.{Place, TempAt, DeltaAt, State, place_of, value, sum_value, product_value}
 use Rattle.homeo_plan.specs.declared.forms.Delta.{Delta}
 use Rattle.homeo_plan.specs.declared.forms.Term.{Term}
-use Rattle.homeo_plan.specs.Linear.{same_delta, delta_before, Linear, add_delta, add_deltas, with_term, add_term, add_terms, scale_terms, deltas_of, constant_form, add_forms, scale_form, is_none, is_pure, support, mix_forms, multiply_forms, Forms, form, sum_form, product_form, terms_value, form_value, IsZeroAt}
+use Rattle.homeo_plan.specs.Linear.{same_delta, delta_before, Linear, add_delta, add_deltas, with_term, add_term, add_terms, scale_terms, deltas_of, constant_form, add_forms, scale_form, is_empty, is_pure, support, mix_forms, multiply_forms, Forms, form, sum_form, product_form, terms_value, form_value, IsZeroAt}
 use Rattle.homeo_plan.specs.Each.{Each}
 use Rattle.homeo_plan.proofs.Zed.{dist, dist_left, dist2, mul_comm_z}
 
@@ -115,10 +115,10 @@ abbrev pub Differ : Linear → State → State → ℤ → ℤ → Type 0
 unfolding words meaning_words
 Differ a s s' x x' = Each (Agrees s s') a.mixed → x +ℤ form_value a s' ≡ x' +ℤ form_value a s
 
-is_none_is : {X : Type 0} (xs : List X) → is_none xs ≡ true → xs ≡ []
+is_empty_is : {X : Type 0} (xs : List X) → is_empty xs ≡ true → xs ≡ []
 unfolding words meaning_words
-is_none_is [] h = refl
-is_none_is (x ∷ xs) h = absurd (true≢false (sym h))
+is_empty_is [] h = refl
+is_empty_is (x ∷ xs) h = absurd (true≢false (sym h))
 
 both_true : (a b : Bool) → (a && b) ≡ true → (a ≡ true) × (b ≡ true)
 unfolding words meaning_words
@@ -128,9 +128,9 @@ both_true false b h = absurd (true≢false (sym h))
 is_pure_value : (a : Linear) (s : State) (x : ℤ) → is_pure a ≡ true → Is a s x → x ≡ a.constant
 unfolding words meaning_words
 is_pure_value a s x p h =
-    let q = both_true (is_none a.terms) (is_none a.mixed) p in
-    h (subst (Each (IsZeroAt s)) (sym (is_none_is a.mixed q.1)) tt)
-    ∙ ap (λ ts. a.constant +ℤ terms_value ts s) (is_none_is a.terms q.0)
+    let q = both_true (is_empty a.terms) (is_empty a.mixed) p in
+    h (subst (Each (IsZeroAt s)) (sym (is_empty_is a.mixed q.1)) tt)
+    ∙ ap (λ ts. a.constant +ℤ terms_value ts s) (is_empty_is a.terms q.0)
     ∙ omega (arith, ints)
 
 pub is_add : (a b : Linear) (s : State) (x y : ℤ) → Is a s x → Is b s y → Is (add_forms a b) s (x +ℤ y)

@@ -16,6 +16,7 @@ pub record AtomHolds (s : State) (a : Linear) : Type 0 where
   pub mixed : Each (IsZeroAt s) a.mixed
   pub below : form_value a s ≤ℤ pos 0
 
+-- the delta is 0 in both states
 pub record ZeroInBoth (s s' : State) (d : Delta) : Type 0 where
   pub here : IsZeroAt s d
   pub there : IsZeroAt s' d

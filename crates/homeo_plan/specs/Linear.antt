@@ -13,6 +13,7 @@ abbrev pub delta_of : ℕ → ℕ → Delta
 unfolding words
 delta_of x j = record { object = x; site = j }
 
+-- the same object and the same site
 abbrev pub same_delta : Delta → Delta → Bool
 unfolding words
 same_delta a b = (a.object == b.object) && (a.site == b.site)
@@ -93,15 +94,15 @@ unfolding words
 scale_form n a = record { constant = n *ℤ a.constant; terms = scale_terms n a.terms; mixed = a.mixed }
 
 -- a list with no elements
-abbrev pub is_none : {X : Type 0} → List X → Bool
+abbrev pub is_empty : {X : Type 0} → List X → Bool
 unfolding words
-is_none [] = true
-is_none (x ∷ xs) = false
+is_empty [] = true
+is_empty (x ∷ xs) = false
 
 -- a form that is a number
 abbrev pub is_pure : Linear → Bool
 unfolding words
-is_pure a = is_none a.terms && is_none a.mixed
+is_pure a = is_empty a.terms && is_empty a.mixed
 
 -- every delta of the form, mixed or not
 abbrev pub support : Linear → List Delta
@@ -119,7 +120,7 @@ unfolding words
 multiply_forms a b =
     cond (is_pure a) (scale_form a.constant b) (cond (is_pure b) (scale_form b.constant a) (mix_forms a b))
 
--- the forms of what stands at the places of a state
+-- a form for what stands at each place of a state
 abbrev pub Forms : Type 0
 Forms = Place → Linear
 
@@ -153,13 +154,13 @@ abbrev mutual
   product_form f a (MoreExpr e es) = product_form f (multiply_forms a (form f e)) es
 
 -- ---- values of forms
--- the sum of factor times delta, in a state
+-- the sum of factor times delta in a state
 abbrev pub terms_value : List Term → State → ℤ
 unfolding words
 terms_value [] s = pos 0
 terms_value (t ∷ ts) s = (t.factor *ℤ s (DeltaAt t.delta.object t.delta.site)) +ℤ terms_value ts s
 
--- the constant and the terms, in a state
+-- the constant and the terms added up in a state
 abbrev pub form_value : Linear → State → ℤ
 unfolding words
 form_value a s = a.constant +ℤ terms_value a.terms s

@@ -43,12 +43,14 @@ unfolding words
 needs i b cs = needs_from i (base_forms b) [] cs
 
 -- ---- residuals
+-- the name of a delta
 abbrev pub IsDeltaName : SplitName → Type 0
 unfolding words
 IsDeltaName (split.Whole x) = ⊥
 IsDeltaName (split.Base x) = ⊥
 IsDeltaName (split.Delta x j) = Unit {0}
 
+-- one command of a residual
 abbrev pub IsStraightOne : Command → Type 0
 unfolding words
 IsStraightOne (Assign t e) = Unit {0}

@@ -12,7 +12,7 @@ use Rattle.homeo_meaning.specs.Serial.{values_of}
 use Rattle.homeo_meaning.specs.CallForm.{ground_form}
 use Rattle.homeo_plan.specs.Key.{words}
 use Rattle.homeo_plan.specs.Each.{Member}
-use Rattle.homeo_plan.specs.Template.{Ground, Clause, Template, template}
+use Rattle.homeo_plan.specs.Template.{PlannedCall, Clause, Template, template}
 use Rattle.homeo_plan.specs.Config.{Config, split_by}
 
 -- how many sites
@@ -21,17 +21,17 @@ unfolding words
 sites_of w = nat_of w.sites.value
 
 -- a ground call with its L form
-abbrev pub planned_call : s.Workload → meaning.Ground → Ground
+abbrev pub planned_call : s.Workload → meaning.Ground → PlannedCall
 unfolding words
 planned_call w g = record { site = g.site; command = ground_form w g }
 
 -- the distinct ground calls in first-seen order
-abbrev pub planned : s.Workload → List Ground
+abbrev pub planned : s.Workload → List PlannedCall
 unfolding words
 planned w = map (planned_call w) (meaning.grounds w)
 
 -- the ground call of a client's call: at site 0 and doing nothing where there is no such call
-abbrev pub planned_at : s.Workload → CallId → Ground
+abbrev pub planned_at : s.Workload → CallId → PlannedCall
 unfolding words
 planned_at w id = option_map_or (planned_call w) (meaning.ground_of w id) (record { site = 0; command = Skip })
 
@@ -51,6 +51,6 @@ unfolding words
 policy w base = split_by (shares_of w) (template_at w base).clauses
 
 -- a client's call is one of the ground calls, and of an accepted workload at a site that there is
-pub record IsPlannedCall (w : s.Workload) (id : CallId) : Type 0 where
+pub record HasPlannedCall (w : s.Workload) (id : CallId) : Type 0 where
   pub member : Member (planned_at w id) (planned w)
   pub below : IsAccepted w → (planned_at w id).site < sites_of w

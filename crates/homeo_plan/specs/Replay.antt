@@ -7,7 +7,7 @@ use Rattle.homeo_meaning.specs.Schema.{Schema}
 use Rattle.homeo_meaning.specs.Whole.{IsWhole}
 use Rattle.homeo_plan.specs.Key.{words}
 use Rattle.homeo_plan.specs.Joined.{Deltas}
-use Rattle.homeo_plan.specs.Template.{Ground, Template, Covers}
+use Rattle.homeo_plan.specs.Template.{PlannedCall, Template, Covers}
 use Rattle.homeo_plan.specs.Config.{Config}
 use Rattle.homeo_plan.specs.Treaty.{Treaty}
 use Rattle.homeo_plan.specs.Local.{local_deltas}
@@ -18,14 +18,14 @@ unfolding words
 Stays x c = (v : ℕ → ℤ) → AllWithin x v → AllWithin x (λ n. (exec c (whole v)).state (BaseAt n))
 
 -- each call in turn keeps the treaty of site i
-abbrev pub KeepsAlong : ℕ → (ℕ → ℤ) → Template → Config → ℕ → Deltas → List Ground → Type 0
+abbrev pub KeepsAlong : ℕ → (ℕ → ℤ) → Template → Config → ℕ → Deltas → List PlannedCall → Type 0
 unfolding words
 KeepsAlong k b t config i x [] = Unit {0}
 KeepsAlong k b t config i x (g ∷ gs) =
     Treaty t config i (local_deltas k b g x) × KeepsAlong k b t config i (local_deltas k b g x) gs
 
--- a call of site i that the template covers
-pub record CanStep (x : Schema) (k : ℕ) (b : ℕ → ℤ) (t : Template) (i : ℕ) (g : Ground) : Type 0 where
+-- a call of site i that the template covers, over whole objects, and that keeps within bounds
+pub record CanStep (x : Schema) (k : ℕ) (b : ℕ → ℤ) (t : Template) (i : ℕ) (g : PlannedCall) : Type 0 where
   pub at_site : g.site ≡ i
   pub covers : Covers t k b g
   pub whole : IsWhole g.command

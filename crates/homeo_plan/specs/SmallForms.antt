@@ -7,7 +7,7 @@ use Rattle.homeo_plan.specs.Linear.{base_forms}
 use Rattle.homeo_plan.specs.Atoms.{true_cond}
 use Rattle.homeo_plan.specs.FormSizes.{Numbers, CanCond, CanFollow}
 
--- of a row, followed at a base: its tests, its atoms and its residual
+-- each constant and factor of a row at a base is at most n in size: of its tests, its atoms and its residual
 pub record HasSmallForms (n : ℕ) (base : ℕ → ℤ) (row : Row) : Type 0 where
   pub formula : CanCond (IsSmall n) (base_forms base) row.formula
   pub atoms : Each (Numbers (IsSmall n)) (true_cond base row.formula)

@@ -11,32 +11,32 @@ use Rattle.homeo_plan.specs.Split.{shift}
 use Rattle.homeo_plan.specs.Table.{Row, table, row_at}
 use Rattle.homeo_plan.specs.declared.forms.Delta.{Delta}
 use Rattle.homeo_plan.specs.declared.forms.Term.{Term}
-use Rattle.homeo_plan.specs.Linear.{same_delta, Linear, add_deltas, is_none}
+use Rattle.homeo_plan.specs.Linear.{same_delta, Linear, add_deltas, is_empty}
 use Rattle.homeo_plan.specs.Atoms.{true_cond}
 use Rattle.homeo_plan.specs.Needs.{needs}
 
 -- a ground call as it is analysed: its site, and its L form, a command over whole objects
-pub record Ground : Type 0 where
+pub record PlannedCall : Type 0 where
   pub site : ℕ
   pub command : Command
 
 -- its command for its site of k
-abbrev pub shifted : ℕ → Ground → Command
+abbrev pub shifted : ℕ → PlannedCall → Command
 unfolding words
 shifted k g = shift k g.site g.command
 
 -- its row at the base
-abbrev pub base_row : ℕ → (ℕ → ℤ) → Ground → Row
+abbrev pub base_row : ℕ → (ℕ → ℤ) → PlannedCall → Row
 unfolding words
 base_row k b g = row_at (table (shifted k g)) (whole b)
 
 -- the atoms of that row's formula
-abbrev pub atoms_of : ℕ → (ℕ → ℤ) → Ground → List Linear
+abbrev pub atoms_of : ℕ → (ℕ → ℤ) → PlannedCall → List Linear
 unfolding words
 atoms_of k b g = true_cond b (base_row k b g).formula
 
 -- the needs of that row's residual
-abbrev pub needs_of : ℕ → (ℕ → ℤ) → Ground → List Delta
+abbrev pub needs_of : ℕ → (ℕ → ℤ) → PlannedCall → List Delta
 unfolding words
 needs_of k b g = needs g.site b (base_row k b g).residual
 
@@ -50,11 +50,13 @@ abbrev pub clause_of : Linear → Clause
 unfolding words
 clause_of a = record { terms = a.terms; slack = neg_ℤ a.constant }
 
--- ---- clauses that are equal
+-- ---- equal clauses
+-- the same delta by the same factor
 abbrev pub same_term : Term → Term → Bool
 unfolding words
 same_term a b = same_delta a.delta b.delta && int_eq a.factor b.factor
 
+-- the same terms in the same order
 abbrev pub same_terms : List Term → List Term → Bool
 unfolding words
 same_terms [] [] = true
@@ -62,6 +64,7 @@ same_terms [] (b ∷ bs) = false
 same_terms (a ∷ ts) [] = false
 same_terms (a ∷ ts) (b ∷ bs) = same_term a b && same_terms ts bs
 
+-- the same terms and the same slack
 abbrev pub same_clause : Clause → Clause → Bool
 unfolding words
 same_clause a b = same_terms a.terms b.terms && int_eq a.slack b.slack
@@ -71,7 +74,7 @@ same_clause a b = same_terms a.terms b.terms && int_eq a.slack b.slack
 abbrev pub with_clause : List Clause → Linear → List Clause
 unfolding words
 with_clause cs a =
-    cond (is_none a.terms) cs (cond (list_any (same_clause (clause_of a)) cs) cs (cs ++ clause_of a ∷ []))
+    cond (is_empty a.terms) cs (cond (list_any (same_clause (clause_of a)) cs) cs (cs ++ clause_of a ∷ []))
 
 -- the clauses so far and those of more atoms
 abbrev pub clauses_from : List Clause → List Linear → List Clause
@@ -105,12 +108,12 @@ join_sets sets needed = record {
 }
 
 -- of ground calls, for k sites at a base
-abbrev pub template : ℕ → (ℕ → ℤ) → List Ground → Template
+abbrev pub template : ℕ → (ℕ → ℤ) → List PlannedCall → Template
 unfolding words
 template k b gs = join_sets (map (atoms_of k b) gs) (map (needs_of k b) gs)
 
 -- each atom of a call has its clause in the template, and what it mixes and needs is frozen there
-pub record Covers (t : Template) (k : ℕ) (b : ℕ → ℤ) (g : Ground) : Type 0 where
-  pub clauses : Each (λ a. is_none a.terms ≡ false → Member (clause_of a) t.clauses) (atoms_of k b g)
+pub record Covers (t : Template) (k : ℕ) (b : ℕ → ℤ) (g : PlannedCall) : Type 0 where
+  pub clauses : Each (λ a. is_empty a.terms ≡ false → Member (clause_of a) t.clauses) (atoms_of k b g)
   pub mixed : Each (λ a. Each (λ d. Member d t.freezes) a.mixed) (atoms_of k b g)
   pub needs : Each (λ d. Member d t.freezes) (needs_of k b g)

@@ -17,7 +17,7 @@ unfolding words
 site_sum i [] x = pos 0
 site_sum i (t ∷ ts) x = cond (t.delta.site == i) (t.factor *ℤ x t.delta.object) (pos 0) +ℤ site_sum i ts x
 
--- the bound of site i
+-- the bound of site i: 0 where there is none
 abbrev pub bound_at : List ℤ → ℕ → ℤ
 unfolding words
 bound_at bounds i = slice_index_or bounds i (pos 0)
@@ -48,7 +48,7 @@ broken_freeze n i x (d ∷ ds) =
     cond ((d.site == i) && not (int_eq (x d.object) (pos 0))) (Some (record { clause = n; sum = x d.object; bound = pos 0 }))
     (broken_freeze (suc n) i x ds)
 
--- of clauses numbered from n on, and then of freezes; a clause without bounds has bound 0
+-- of clauses numbered from n on, and then of freezes; a clause for which there are no bounds fails, with bound 0
 abbrev pub broken_from : ℕ → ℕ → Deltas → List Clause → Config → List Delta → Option Broken
 unfolding words
 broken_from n i x [] bs ds = broken_freeze n i x ds
