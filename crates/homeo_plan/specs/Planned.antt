@@ -1,18 +1,16 @@
 -- What the treaties of a workload are made of: its ground calls with their L forms, and at a base their template and policy
 -- (this project's rule).
-use Rattle.std.specs.Prelude.{ℕ, ◌<◌, List, map, replicate, ℤ}
+use Rattle.std.specs.Prelude.{ℕ, List, map, replicate, ℤ}
 use Rattle.std.specs.Option.{option_map_or}
 use Rattle.homeo_syntax.specs.Source as s
-use Rattle.homeo_syntax.specs.Low.{Skip}
+use Rattle.homeo_syntax.specs.Low.{Command, Skip}
 use Rattle.homeo_meaning.specs.declared.call.CallId.{CallId}
-use Rattle.homeo_meaning.specs.Acceptance.{IsAccepted}
 use Rattle.homeo_meaning.specs.Schema.{nat_of}
 use Rattle.homeo_meaning.specs.Ground as meaning
 use Rattle.homeo_meaning.specs.Serial.{values_of}
 use Rattle.homeo_meaning.specs.CallForm.{ground_form}
 use Rattle.homeo_plan.specs.Key.{words}
-use Rattle.homeo_plan.specs.Each.{Member}
-use Rattle.homeo_plan.specs.Template.{PlannedCall, Clause, Template, template}
+use Rattle.homeo_plan.specs.Template.{PlannedCall, shifted, Clause, Template, template}
 use Rattle.homeo_plan.specs.Config.{Config, split_by}
 
 -- how many sites
@@ -29,6 +27,11 @@ planned_call w g = record { site = g.site; command = ground_form w g }
 abbrev pub planned : s.Workload → List PlannedCall
 unfolding words
 planned w = map (planned_call w) (meaning.grounds w)
+
+-- their transformed commands, each for its site
+abbrev pub transformed : s.Workload → List Command
+unfolding words
+transformed w = map (shifted (sites_of w)) (planned w)
 
 -- the ground call of a client's call: at site 0 and doing nothing where there is no such call
 abbrev pub planned_at : s.Workload → CallId → PlannedCall
@@ -49,8 +52,3 @@ shares_of w c = replicate (sites_of w) 1
 abbrev pub policy : s.Workload → List ℤ → Config
 unfolding words
 policy w base = split_by (shares_of w) (template_at w base).clauses
-
--- a client's call is one of the ground calls, and of an accepted workload at a site that there is
-pub record HasPlannedCall (w : s.Workload) (id : CallId) : Type 0 where
-  pub member : Member (planned_at w id) (planned w)
-  pub below : IsAccepted w → (planned_at w id).site < sites_of w

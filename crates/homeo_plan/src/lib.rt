@@ -2,6 +2,7 @@
 //! there are the types alone.
 #![tactic(auto)]
 
+mod compiled;
 mod forms;
 pub mod laws;
 mod round;
@@ -9,6 +10,7 @@ mod rows;
 mod templates;
 mod treaty;
 
+pub use compiled::Compiled;
 pub use forms::{Atom, AtomSet, Delta, Linear, Term};
 pub use round::RoundPlan;
 pub use rows::{JointRow, Residual, Row};
