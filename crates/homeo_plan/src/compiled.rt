@@ -3,7 +3,6 @@
 ghost use Rattle.std.specs.Prelude.{◌≡◌, map};
 ghost use Rattle.homeo_syntax.specs.LowView.{plain_lcommand};
 ghost use Rattle.homeo_syntax.specs.SourceView.{plain_workload};
-ghost use Rattle.homeo_meaning.specs.Acceptance.{IsAccepted};
 ghost use Rattle.homeo_meaning.specs.Ground.{plain_ground, grounds};
 ghost use Rattle.homeo_plan.specs.Planned.{transformed};
 
@@ -26,7 +25,6 @@ impl Model for Compiled {
     ghost use Rattle.homeo_syntax.specs.contracts.workload.Workload.{the_row};
     ghost use Rattle.homeo_syntax.specs.LowView.{plain_lcommand};
     ghost use Rattle.homeo_syntax.specs.SourceView.{plain_workload};
-    ghost use Rattle.homeo_meaning.specs.Acceptance.{IsAccepted};
     ghost use Rattle.homeo_meaning.specs.Ground.{plain_ground, grounds};
     ghost use Rattle.homeo_plan.specs.Planned.{transformed};
 
@@ -36,15 +34,13 @@ impl Model for Compiled {
 
     ghost view = { λ c. c.workload };
 
-    ghost invariant = { λ c. IsAccepted (plain_workload c.workload)
-        × (map plain_ground c.calls.items ≡ grounds (plain_workload c.workload))
+    ghost invariant = { λ c. (map plain_ground c.calls.items ≡ grounds (plain_workload c.workload))
         × (map plain_lcommand c.commands.items ≡ transformed (plain_workload c.workload)) };
 }
 
 impl Compiled {
     /// Takes a workload with its ground calls and their transformed commands. It takes no memory.
     pub fn new(workload: Accepted, calls: List<GroundCall>, commands: List<LCommand>) -> Compiled
-        requires accepted { IsAccepted (plain_workload workload) }
         requires calls { map plain_ground calls.items ≡ grounds (plain_workload workload) }
         requires commands { map plain_lcommand commands.items ≡ transformed (plain_workload workload) }
         ensures { plain_workload result ≡ plain_workload workload }
@@ -58,8 +54,7 @@ impl Compiled {
 
     /// Lends the workload.
     pub fn workload(&self) -> &Accepted
-        ensures value { result.now ≡ self.now }
-        ensures accepted { IsAccepted (plain_workload self.now) }
+        ensures { result.now ≡ self.now }
     {
         &self.workload
     }
