@@ -58,13 +58,15 @@ unfolding words meaning_words
 objects_small [] e = tt
 objects_small (d ∷ os) e =
     let here : object_faults d ≡ [] = none_first (object_faults d) (flat_map object_faults os) e in
-    (range_small d.lo d.hi (none_first (range_faults d.lo d.hi) (outside d.lo d.hi d.start) here), objects_small os (none_second (object_faults d) (flat_map object_faults os) e))
+    (range_small d.lo d.hi (none_first (range_faults d.lo d.hi) (outside d.lo d.hi d.start) here),
+     objects_small os (none_second (object_faults d) (flat_map object_faults os) e))
 
 fields_small : (ds : List RangeDecl) → flat_map range_bounds ds ≡ [] → Each IsSmallBound (map bounds_of (map declared_range ds))
 unfolding words meaning_words
 fields_small [] e = tt
 fields_small (d ∷ ds) e =
-    (range_small d.lo d.hi (none_first (range_bounds d) (flat_map range_bounds ds) e), fields_small ds (none_second (range_bounds d) (flat_map range_bounds ds) e))
+    (range_small d.lo d.hi (none_first (range_bounds d) (flat_map range_bounds ds) e),
+     fields_small ds (none_second (range_bounds d) (flat_map range_bounds ds) e))
 
 slots_small : (n : ℕ) (fields : List Declared) → Each IsSmallBound (map bounds_of fields) → Each IsSmallBound (slot_bounds n fields)
 unfolding words meaning_words
@@ -78,7 +80,10 @@ relations_small [] e = tt
 relations_small (q ∷ qs) e =
     let here : of_relation q ≡ [] = none_first (of_relation q) (flat_map of_relation qs) e in
     let fields : flat_map range_bounds q.fields ≡ [] = none_first (flat_map range_bounds q.fields) (each duplicate (map (λ d. d.name) q.fields)) here in
-    each_append (slot_bounds (nat_of q.slots.value) (map declared_range q.fields)) (relation_bounds (map declared_relation qs)) (slots_small (nat_of q.slots.value) (map declared_range q.fields) (fields_small q.fields fields)) (relations_small qs (none_second (of_relation q) (flat_map of_relation qs) e))
+    each_append (slot_bounds (nat_of q.slots.value) (map declared_range q.fields))
+    (relation_bounds (map declared_relation qs))
+    (slots_small (nat_of q.slots.value) (map declared_range q.fields) (fields_small q.fields fields))
+    (relations_small qs (none_second (of_relation q) (flat_map of_relation qs) e))
 
 weights_small : (bs : List Bounds) → Each IsSmallBound bs → (n : ℕ) → weight_at bs n ≤ most
 unfolding words meaning_words
@@ -90,4 +95,7 @@ pub bounds_small : (w : s.Workload) → declared_faults w ≡ [] → (n : ℕ) �
 unfolding words meaning_words
 bounds_small w e n =
     let p : NoDeclaredFault w = declared_parts w e in
-    weights_small (all_bounds (schema_of w)) (each_append (map bounds_of (map declared_object w.objects)) (relation_bounds (map declared_relation w.relations)) (objects_small w.objects p.objects) (relations_small w.relations p.relations)) n
+    weights_small (all_bounds (schema_of w))
+    (each_append (map bounds_of (map declared_object w.objects)) (relation_bounds (map declared_relation w.relations))
+    (objects_small w.objects p.objects) (relations_small w.relations p.relations))
+    n

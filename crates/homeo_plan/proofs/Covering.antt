@@ -143,7 +143,9 @@ template_covers k b gs g m =
     let frozen = from_put_all (λ d. Member d ds) (map (needs_of k b) gs) (put_all (map (λ a. a.mixed) atoms) []) (each_in ds ds (λ d q. q)) in
     let mixed = from_put_all (λ d. Member d ds) (map (λ a. a.mixed) atoms) [] frozen.1 in
     record {
-      clauses = from_all_atoms (λ a. is_empty a.terms ≡ false → Member (clause_of a) cs) k b g gs m (from_clauses (λ c. Member c cs) [] atoms (each_in cs cs (λ c q. q))).1;
+      clauses =
+          from_all_atoms (λ a. is_empty a.terms ≡ false → Member (clause_of a) cs) k b g gs m
+          (from_clauses (λ c. Member c cs) [] atoms (each_in cs cs (λ c q. q))).1;
       mixed = from_all_atoms (λ a. Each (λ d. Member d ds) a.mixed) k b g gs m (from_mixed (λ d. Member d ds) atoms mixed.0);
       needs = from_needs (λ d. Member d ds) k b g gs m frozen.0;
     }

@@ -48,7 +48,13 @@ own_wider k i base x m n a l o =
 
 holds_wider : (k i : ℕ) (base : ℕ → ℤ) (v v' : Place → ℕ) (f : Forms) → ((p : Place) → v p ≤ v' p) → Holds k i base v f → Holds k i base v' f
 holds_wider k i base v v' f l h =
-    record { temps = λ t. wider (v' (TempAt t)) (v (TempAt t)) (f (TempAt t)) (l (TempAt t)) (h.temps t); bases = h.bases; deltas = h.deltas; own = λ x. own_wider k i base x (v' (BaseAt x)) (v (BaseAt x)) (f (DeltaAt x i)) (l (BaseAt x)) (h.own x); ones = λ p. omega (arith, l p, h.ones p) }
+    record {
+      temps = λ t. wider (v' (TempAt t)) (v (TempAt t)) (f (TempAt t)) (l (TempAt t)) (h.temps t);
+      bases = h.bases;
+      deltas = h.deltas;
+      own = λ x. own_wider k i base x (v' (BaseAt x)) (v (BaseAt x)) (f (DeltaAt x i)) (l (BaseAt x)) (h.own x);
+      ones = λ p. omega (arith, l p, h.ones p);
+    }
 
 put_ones : (v : Place → ℕ) (p : Place) (n : ℕ) → ((q : Place) → 1 ≤ v q) → 1 ≤ n → (q : Place) → 1 ≤ put v p n q
 unfolding meaning_words
@@ -74,7 +80,13 @@ holds_own :
     Own k i base x n a → Holds k i base (put v (BaseAt x) n) (put f (DeltaAt x i) a)
 unfolding meaning_words
 holds_own k i base v f x n a h one o =
-    record { temps = h.temps; bases = h.bases; deltas = λ y j q. other y j q (x == y) (i == j) q; own = λ y. own y (x == y) refl (i == i) same; ones = put_ones v (BaseAt x) n h.ones one }
+    record {
+      temps = h.temps;
+      bases = h.bases;
+      deltas = λ y j q. other y j q (x == y) (i == j) q;
+      own = λ y. own y (x == y) refl (i == i) same;
+      ones = put_ones v (BaseAt x) n h.ones one;
+    }
   where
     same : (i == i) ≡ true
     same = grind (arith, nat_tests)
@@ -109,12 +121,20 @@ module _ (b k i : ℕ) (base : ℕ → ℤ) (inside : i < k) (small : (x : ℕ) 
     follow (Assign t e) w v s f h l =
         let small_weight = weight_small b v e l in
         let r = make b k i base inside small v f h e w small_weight in
-        record { after = holds_temp k i base v f t (weight e v) (form f (shift_expr k e)) h (one_weight v h.ones e) r.within; formula = λ q c. can_replace_cond P (TempAt t) (shift_expr k e) f r.can q.formula c; residual = λ q c. (r.can, c) }
+        record {
+          after = holds_temp k i base v f t (weight e v) (form f (shift_expr k e)) h (one_weight v h.ones e) r.within;
+          formula = λ q c. can_replace_cond P (TempAt t) (shift_expr k e) f r.can q.formula c;
+          residual = λ q c. (r.can, c);
+        }
     follow (Write (Whole x) e) w v s f h l =
         let small_weight = weight_small b v e l in
         let r = make b k i base inside small v f h e w.1 small_weight in
         let o = written b k i base small v f h x (weight e v) (shift_expr k e) (one_weight v h.ones e) small_weight r in
-        record { after = holds_own k i base v f x (weight e v) (form f (own_value k i x (shift_expr k e))) h (one_weight v h.ones e) o.own; formula = λ q c. can_replace_cond P (DeltaAt x i) (own_value k i x (shift_expr k e)) f o.can q.formula c; residual = λ q c. (o.can, c) }
+        record {
+          after = holds_own k i base v f x (weight e v) (form f (own_value k i x (shift_expr k e))) h (one_weight v h.ones e) o.own;
+          formula = λ q c. can_replace_cond P (DeltaAt x i) (own_value k i x (shift_expr k e)) f o.can q.formula c;
+          residual = λ q c. (o.can, c);
+        }
     follow (Write (Base x) e) w v s f h l = absurd w.0
     follow (Write (Delta x j) e) w v s f h l = absurd w.0
     follow (Print e) w v s f h l =
@@ -129,11 +149,27 @@ module _ (b k i : ℕ) (base : ℕ → ℤ) (inside : i < k) (small : (x : ℕ) 
         let y = follow d w.2 v s f h branches.1 in
         go (holds (shift_cond k t) s) tests x y
       where
-        go : (u : Bool) → CanCond P f (shift_cond k t) → Walked (after c v) f (forms_after (shift k i c) s f) (walk_before (shift k i c) s) → Walked (after d v) f (forms_after (shift k i d) s f) (walk_before (shift k i d) s) → Walked (λ p. max (after c v p) (after d v p)) f (cond u (forms_after (shift k i c) s f) (forms_after (shift k i d) s f)) (λ r. cond u (test_before (shift_cond k t) (walk_before (shift k i c) s r)) (test_before (otherwise (shift_cond k t)) (walk_before (shift k i d) s r)))
+        go :
+            (u : Bool) → CanCond P f (shift_cond k t) →
+            Walked (after c v) f (forms_after (shift k i c) s f) (walk_before (shift k i c) s) →
+            Walked (after d v) f (forms_after (shift k i d) s f) (walk_before (shift k i d) s) →
+            Walked (λ p. max (after c v p) (after d v p)) f
+            (cond u (forms_after (shift k i c) s f) (forms_after (shift k i d) s f))
+            (λ r.
+              cond u (test_before (shift_cond k t) (walk_before (shift k i c) s r))
+              (test_before (otherwise (shift_cond k t)) (walk_before (shift k i d) s r)))
         go true tests x y =
-            record { after = holds_wider k i base (after c v) (λ p. max (after c v p) (after d v p)) _ (λ p. omega arith) x.after; formula = λ r q. can_both P f (shift_cond k t) _ tests (x.formula r q); residual = x.residual }
+            record {
+              after = holds_wider k i base (after c v) (λ p. max (after c v p) (after d v p)) _ (λ p. omega arith) x.after;
+              formula = λ r q. can_both P f (shift_cond k t) _ tests (x.formula r q);
+              residual = x.residual;
+            }
         go false tests x y =
-            record { after = holds_wider k i base (after d v) (λ p. max (after c v p) (after d v p)) _ (λ p. omega arith) y.after; formula = λ r q. can_both P f (otherwise (shift_cond k t)) _ (tests, tt) (y.formula r q); residual = y.residual }
+            record {
+              after = holds_wider k i base (after d v) (λ p. max (after c v p) (after d v p)) _ (λ p. omega arith) y.after;
+              formula = λ r q. can_both P f (otherwise (shift_cond k t)) _ (tests, tt) (y.formula r q);
+              residual = y.residual;
+            }
 
     pub follow_all :
         (cs : Commands) → AreWhole cs → (v : Place → ℕ) (s : State) (f : Forms) → Holds k i base v f → are_light b cs v ≡ true →

@@ -33,7 +33,11 @@ alone_is_on : (b : ℕ → ℤ) (i : ℕ) (x : Deltas) → IsOn b (alone b i x)
 unfolding words meaning_words
 alone_is_on b i x = record { bases = λ y. refl; temps = λ t. refl }
 
-module _ (k : ℕ) (b : ℕ → ℤ) (t : Template) (bounds : Config) (d : ℕ → Deltas) (fits : Fits k t.clauses bounds) (keeps : (i : ℕ) → i < k → Treaty t bounds i (d i)) (g : PlannedCall) (covers : Covers t k b g) (lt : g.site < k) (w : IsWhole g.command) where
+module _
+    (k : ℕ) (b : ℕ → ℤ) (t : Template) (bounds : Config) (d : ℕ → Deltas) (fits : Fits k t.clauses bounds)
+    (keeps : (i : ℕ) → i < k → Treaty t bounds i (d i)) (g : PlannedCall) (covers : Covers t k b g) (lt : g.site < k)
+    (w : IsWhole g.command)
+    where
   all_frozen : Each (IsZeroAt (join k b d)) t.freezes
   unfolding words meaning_words
   all_frozen = freezes_hold k b d t.freezes (λ i l. (keeps i l).freezes)
@@ -55,7 +59,9 @@ module _ (k : ℕ) (b : ℕ → ℤ) (t : Template) (bounds : Config) (d : ℕ �
   unfolding words meaning_words
   formula_holds =
       let cs = clauses_hold k b d t.clauses bounds fits (λ i l. (keeps i l).clauses) in
-      let own = each_map _ (λ (a : Linear). is_empty a.terms ≡ false → ClauseHolds (join k b d) (clause_of a)) (λ a f e. each_member (ClauseHolds (join k b d)) (clause_of a) t.clauses cs (f e)) (atoms_of k b g) covers.clauses in
+      let own =
+          each_map _ (λ (a : Linear). is_empty a.terms ≡ false → ClauseHolds (join k b d) (clause_of a))
+          (λ a f e. each_member (ClauseHolds (join k b d)) (clause_of a) t.clauses cs (f e)) (atoms_of k b g) covers.clauses in
       let low = true_cond_below b (base_row k b g).formula formula_at_base in
       let z = each_map _ (λ (a : Linear). Each (IsZeroAt (join k b d)) a.mixed) (λ a f. frozen_among a.mixed f) (atoms_of k b g) covers.mixed in
       true_cond_holds b (join k b d) (join_is_on k b d) (base_row k b g).formula formula_at_base (atoms_hold (join k b d) (atoms_of k b g) low own z)
@@ -63,7 +69,8 @@ module _ (k : ℕ) (b : ℕ → ℤ) (t : Template) (bounds : Config) (d : ℕ �
   same_walk : walk (shifted k g) (join k b d) ≡ walk (shifted k g) (whole b)
   unfolding words meaning_words
   same_walk =
-      row_is_unique (shifted k g) (whole b) (join k b d) (λ t. refl) (λ t. refl) (ap (λ (r : Row). holds r.formula (join k b d)) (sym base_is_walk) ∙ formula_holds)
+      row_is_unique (shifted k g) (whole b) (join k b d) (λ t. refl) (λ t. refl)
+      (ap (λ (r : Row). holds r.formula (join k b d)) (sym base_is_walk) ∙ formula_holds)
 
   same_run : exec (shifted k g) (join k b d) ≡ exec_all (base_row k b g).residual (join k b d)
   unfolding words meaning_words
@@ -97,7 +104,9 @@ module _ (k : ℕ) (b : ℕ → ℤ) (t : Template) (bounds : Config) (d : ℕ �
   same_own : SameOwn g.site (exec_all (base_row k b g).residual (join k b d)) (local_run k b g (d g.site))
   unfolding words meaning_words
   same_own =
-      residual_same g.site (join k b d) (alone b g.site (d g.site)) own_same b (base_row k b g).residual (join_is_on k b d) (alone_is_on b g.site (d g.site)) residual_straight (zero_in_both (needs_of k b g) (frozen_among (needs_of k b g) covers.needs))
+      residual_same g.site (join k b d) (alone b g.site (d g.site)) own_same b (base_row k b g).residual (join_is_on k b d)
+      (alone_is_on b g.site (d g.site)) residual_straight
+      (zero_in_both (needs_of k b g) (frozen_among (needs_of k b g) covers.needs))
 
   pub locally_sound : IsLocallySound k b d g
   unfolding words meaning_words

@@ -85,9 +85,17 @@ pub record Shape (z : ℤ) (g : Delta → ℤ) (a : Linear) : Type 0 where
 
 pub shape_within : (n : ℕ) (z : ℤ) (g : Delta → ℤ) (a : Linear) → Shape z g a → unsigned_abs z ≤ n → ((d : Delta) → unsigned_abs (g d) ≤ n) → Within n a
 shape_within n z g a s h k =
-    record { constant = subst (λ y. unsigned_abs y ≤ n) (sym s.constant) h; factors = λ d. subst (λ y. unsigned_abs y ≤ n) (sym (s.factors d)) (k d); sorted = s.sorted }
+    record {
+      constant = subst (λ y. unsigned_abs y ≤ n) (sym s.constant) h;
+      factors = λ d. subst (λ y. unsigned_abs y ≤ n) (sym (s.factors d)) (k d);
+      sorted = s.sorted;
+    }
 
 pub shape_add : (z y : ℤ) (g h : Delta → ℤ) (a b : Linear) → Shape z g a → Shape y h b → Shape (z +ℤ y) (λ d. g d +ℤ h d) (add_forms a b)
 unfolding words
 shape_add z y g h a b s t =
-    record { constant = omega (arith, ints, s.constant, t.constant); factors = λ d. add_terms_factor a.terms b.terms d ∙ omega (arith, ints, s.factors d, t.factors d); sorted = sorted_adds a.terms b.terms t.sorted }
+    record {
+      constant = omega (arith, ints, s.constant, t.constant);
+      factors = λ d. add_terms_factor a.terms b.terms d ∙ omega (arith, ints, s.factors d, t.factors d);
+      sorted = sorted_adds a.terms b.terms t.sorted;
+    }

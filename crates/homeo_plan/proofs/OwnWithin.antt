@@ -115,7 +115,8 @@ own_within x k b t config i d (g ∷ gs) fits lt can h within keeps =
     one : StepsFold k b (only i d) g i
     one =
         subst (StepsFold k b (only i d) g) can.0.at_site
-        (stepped k b t config (only i d) fits (λ j l. only_keeps k t config i d fits h j) g can.0.covers (subst (λ j. j < k) (sym can.0.at_site) lt) can.0.whole)
+        (stepped k b t config (only i d) fits (λ j l. only_keeps k t config i d fits h j) g can.0.covers
+        (subst (λ j. j < k) (sym can.0.at_site) lt) can.0.whole)
 
     stays : AllWithin x (λ n. (exec g.command (whole (folded k b (only i d)))).state (BaseAt n))
     stays = can.0.stays (folded k b (only i d)) (subst (AllWithin x) (sym (only_folded k b i d lt)) within)

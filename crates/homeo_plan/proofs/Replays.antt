@@ -60,7 +60,8 @@ can_step :
 unfolding words meaning_words
 can_step w base i [] h = tt
 can_step w base i (g ∷ gs) h =
-    (record { at_site = h.0.0; covers = planned_covers w base g h.0.1; whole = planned_whole w g h.0.1; stays = planned_stays w g h.0.1 }, can_step w base i gs h.1)
+    (record { at_site = h.0.0; covers = planned_covers w base g h.0.1; whole = planned_whole w g h.0.1; stays = planned_stays w g h.0.1 },
+     can_step w base i gs h.1)
 
 no_change : (b : ℕ → ℤ) → (λ n. b n +ℤ no_deltas n) ≡ b
 unfolding words meaning_words
@@ -77,7 +78,9 @@ pub replays_within :
 unfolding words meaning_words
 replays_within w base i gs accepted within lt calls keeps =
     let fits = policy_fits w base accepted in
-    own_within (schema_of w) (sites_of w) (values_of base) (template_at w base) (policy w base) i no_deltas gs fits lt (can_step w base i gs calls) (zero_keeps (sites_of w) (template_at w base) (policy w base) i fits) (subst (AllWithin (schema_of w)) (sym (no_change (values_of base))) (all_within (schema_of w) base within)) keeps
+    own_within (schema_of w) (sites_of w) (values_of base) (template_at w base) (policy w base) i no_deltas gs fits lt
+    (can_step w base i gs calls) (zero_keeps (sites_of w) (template_at w base) (policy w base) i fits)
+    (subst (AllWithin (schema_of w)) (sym (no_change (values_of base))) (all_within (schema_of w) base within)) keeps
 
 pub ground_soundness : GroundSoundness
 ground_soundness w base config d fits keeps g m lt =

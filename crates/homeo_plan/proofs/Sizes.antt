@@ -44,11 +44,16 @@ within_constant n z h = record { constant = h; factors = λ d. omega arith; sort
 pub within_add : (m n : ℕ) (a b : Linear) → Within m a → Within n b → Within (m + n) (add_forms a b)
 unfolding words
 within_add m n a b v w =
-    record { constant = omega (arith, abs_add a.constant b.constant, v.constant, w.constant); factors = λ d. size d; sorted = sorted_adds a.terms b.terms w.sorted }
+    record {
+      constant = omega (arith, abs_add a.constant b.constant, v.constant, w.constant);
+      factors = λ d. size d;
+      sorted = sorted_adds a.terms b.terms w.sorted;
+    }
   where
     size : (d : Delta) → unsigned_abs (factor d (add_forms a b).terms) ≤ m + n
     size d =
-        subst (λ z. unsigned_abs z ≤ m + n) (sym (add_terms_factor a.terms b.terms d)) (omega (arith, abs_add (factor d a.terms) (factor d b.terms), v.factors d, w.factors d))
+        subst (λ z. unsigned_abs z ≤ m + n) (sym (add_terms_factor a.terms b.terms d))
+        (omega (arith, abs_add (factor d a.terms) (factor d b.terms), v.factors d, w.factors d))
 
 size_mul : (m n : ℕ) (x y : ℤ) → unsigned_abs x ≤ m → unsigned_abs y ≤ n → unsigned_abs (x *ℤ y) ≤ m * n
 size_mul m n x y h k =

@@ -52,11 +52,26 @@ one_of o false t h = grind (arith, ints, t.low, t.high)
 start : (k i : ℕ) (x : Schema) (base : ℕ → ℤ) → AllWithin x base → Holds k i base (first_weights x) (base_forms base)
 unfolding words meaning_words
 start k i x base h =
-    record { temps = λ t. within_constant 1 (pos 0) (omega arith); bases = λ n. record { constant = refl; factors = λ d. refl; sorted = tt }; deltas = λ n j q. record { constant = refl; factors = λ d. plus_zero (at_delta (delta_of n j) (pos 1) d); sorted = (tt, tt) }; own = λ n. own n; ones = ones }
+    record {
+      temps = λ t. within_constant 1 (pos 0) (omega arith);
+      bases = λ n. record { constant = refl; factors = λ d. refl; sorted = tt };
+      deltas = λ n j q. record { constant = refl; factors = λ d. plus_zero (at_delta (delta_of n j) (pos 1) d); sorted = (tt, tt) };
+      own = λ n. own n;
+      ones = ones;
+    }
   where
     own : (n : ℕ) → Own k i base n (weight_at (all_bounds x) n) (delta_form (delta_of n i))
     own n =
-        record { constant = subst (λ z. unsigned_abs z ≤ weight_at (all_bounds x) n) (sym (plus_zero (base n))) (size_at (all_bounds x) n (base n) (h n)); factors = λ d. omega (arith, one_at (all_bounds x) n, one_of (others_from i n 0 k d) (same_delta (delta_of n i) d) (others_bit i n 0 k d) (none_own i n 0 k d)); sorted = (tt, tt) }
+        record {
+          constant =
+              subst (λ z. unsigned_abs z ≤ weight_at (all_bounds x) n) (sym (plus_zero (base n)))
+              (size_at (all_bounds x) n (base n) (h n));
+          factors = λ d.
+              omega
+              (arith, one_at (all_bounds x) n,
+               one_of (others_from i n 0 k d) (same_delta (delta_of n i) d) (others_bit i n 0 k d) (none_own i n 0 k d));
+          sorted = (tt, tt);
+        }
 
     ones : (p : Place) → 1 ≤ first_weights x p
     ones (TempAt t) = omega arith
@@ -70,5 +85,6 @@ pub small_forms :
 unfolding words meaning_words
 small_forms b x k i c base inside w h small l =
     let r = follow b k i base inside small c w (first_weights x) (whole base) (base_forms base) (start k i x base h) l in
-    let formula : CanCond (IsSmall (2 * b + 1)) (base_forms base) (walk (shift k i c) (whole base)).formula = can_clear_cond base (IsSmall (2 * b + 1)) (walk_before (shift k i c) (whole base) last_row).formula (r.formula last_row tt) in
+    let formula : CanCond (IsSmall (2 * b + 1)) (base_forms base) (walk (shift k i c) (whole base)).formula =
+        can_clear_cond base (IsSmall (2 * b + 1)) (walk_before (shift k i c) (whole base) last_row).formula (r.formula last_row tt) in
     record { formula = formula; atoms = true_of_cond (IsSmall (2 * b + 1)) base _ formula; residual = r.residual last_row tt }

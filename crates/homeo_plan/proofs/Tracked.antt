@@ -248,7 +248,8 @@ tracks_add a b s s' x x' y y' hx hy =
 -- added in front
 tracks_more : (a b : Linear) (s s' : State) (x x' y y' : ℤ) → Tracks a s s' x x' → Tracks b s s' y y' → Tracks (add_forms b a) s s' (x +ℤ y) (x' +ℤ y')
 tracks_more a b s s' x x' y y' hx hy =
-    subst (λ z. Tracks (add_forms b a) s s' z (x' +ℤ y')) (swap y x) (subst (λ z. Tracks (add_forms b a) s s' (y +ℤ x) z) (swap y' x') (tracks_add b a s s' y y' x x' hy hx))
+    subst (λ z. Tracks (add_forms b a) s s' z (x' +ℤ y')) (swap y x)
+    (subst (λ z. Tracks (add_forms b a) s s' (y +ℤ x) z) (swap y' x') (tracks_add b a s s' y y' x x' hy hx))
   where
     swap : (m n : ℤ) → m +ℤ n ≡ n +ℤ m
     swap m n = omega (arith, ints)
@@ -302,4 +303,5 @@ module _ (f : Forms) (s s' u u' : State) (h : TracksAll f s s' u u') where
         Tracks (product_form f a es) s s' (product_value n es u) (product_value n' es u')
     tracks_product NoExpr a n n' k = k
     tracks_product (MoreExpr e es) a n n' k =
-        tracks_product es (multiply_forms a (form f e)) (n *ℤ value e u) (n' *ℤ value e u') (tracks_multiply a (form f e) s s' n n' (value e u) (value e u') k (tracks e))
+        tracks_product es (multiply_forms a (form f e)) (n *ℤ value e u) (n' *ℤ value e u')
+        (tracks_multiply a (form f e) s s' n n' (value e u) (value e u') k (tracks e))

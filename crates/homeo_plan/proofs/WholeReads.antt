@@ -57,7 +57,13 @@ module _ (k i m : ℕ) (f : Forms) (x : ℕ) where
       (w : ℕ) (z : ℤ) (g : Delta → ℤ) (j n : ℕ) (a : Linear) → w + 1 ≤ m → Part z g j n a → unsigned_abs z ≤ m →
       ((d : Delta) → unsigned_abs (g d) ≤ w) → Numbers (IsSmall m) a
   part_numbers w z g j n a l p h q =
-      numbers m m a (omega arith) (record { constant = subst (λ y. unsigned_abs y ≤ m) (sym p.constant) h; factors = λ d. omega (arith, l, near (factor d a.terms) (others_from i x j n d) (g d) w (others_bit i x j n d) (p.factors d) (q d)); sorted = p.sorted })
+      numbers m m a (omega arith)
+      (record {
+        constant = subst (λ y. unsigned_abs y ≤ m) (sym p.constant) h;
+        factors = λ d.
+            omega (arith, l, near (factor d a.terms) (others_from i x j n d) (g d) w (others_bit i x j n d) (p.factors d) (q d));
+        sorted = p.sorted;
+      })
 
   other_step :
       (z : ℤ) (g : Delta → ℤ) (j n : ℕ) (a : Linear) → (i == j) ≡ false →
@@ -69,7 +75,8 @@ module _ (k i m : ℕ) (f : Forms) (x : ℕ) where
     where
       factors : (d : Delta) → factor d (add_forms (f (DeltaAt x j)) a).terms +ℤ others_from i x (suc j) n d ≡ g d
       factors d =
-          let one : cond (i == j) (pos 0) (at_delta (delta_of x j) (pos 1) d) ≡ at_delta (delta_of x j) (pos 1) d = ap (λ b. cond b (pos 0) (at_delta (delta_of x j) (pos 1) d)) q in
+          let one : cond (i == j) (pos 0) (at_delta (delta_of x j) (pos 1) d) ≡ at_delta (delta_of x j) (pos 1) d =
+              ap (λ b. cond b (pos 0) (at_delta (delta_of x j) (pos 1) d)) q in
           let whole : factor d a.terms +ℤ (cond (i == j) (pos 0) (at_delta (delta_of x j) (pos 1) d) +ℤ others_from i x (suc j) n d) ≡ g d = p.factors d in
           ap (λ y. y +ℤ others_from i x (suc j) n d) (add_terms_factor (f (DeltaAt x j)).terms a.terms d)
           ∙ omega (arith, ints, s.factors d, one, whole)
@@ -100,7 +107,10 @@ module _ (k i m : ℕ) (f : Forms) (x : ℕ) where
       ((d : Delta) → unsigned_abs (g d) ≤ w) → Part z g j 0 a → Summed z g j 0 a
   unfolding words meaning_words
   summed_none w z g j a l h q p =
-      record { can = part_numbers w z g j 0 a l p h q; shape = record { constant = p.constant; factors = λ d. omega (arith, ints, p.factors d); sorted = p.sorted } }
+      record {
+        can = part_numbers w z g j 0 a l p h q;
+        shape = record { constant = p.constant; factors = λ d. omega (arith, ints, p.factors d); sorted = p.sorted };
+      }
 
   after_own :
       (w : ℕ) (z : ℤ) (g : Delta → ℤ) → w + 1 ≤ m → unsigned_abs z ≤ m → ((d : Delta) → unsigned_abs (g d) ≤ w) →
@@ -111,7 +121,10 @@ module _ (k i m : ℕ) (f : Forms) (x : ℕ) where
   after_own w z g l h q s (suc n) j a r p =
       let other : (i == j) ≡ false = grind (arith, nat_tests) in
       let rest = after_own w z g l h q s n (suc j) (add_forms (f (DeltaAt x j)) a) (omega (arith, r)) (other_step z g j n a other (s j other) p) in
-      record { can = (part_numbers w z g j (suc n) a l p h q, delta_numbers m (delta_of x j) (f (DeltaAt x j)) (omega (arith, l)) (s j other), rest.can); shape = rest.shape }
+      record {
+        can = (part_numbers w z g j (suc n) a l p h q, delta_numbers m (delta_of x j) (f (DeltaAt x j)) (omega (arith, l)) (s j other), rest.can);
+        shape = rest.shape;
+      }
 
   pub before_own :
       (w : ℕ) (z : ℤ) (g : Delta → ℤ) → w + 1 ≤ m → unsigned_abs z ≤ m → ((d : Delta) → unsigned_abs (g d) ≤ w) →
@@ -130,14 +143,24 @@ module _ (k i m : ℕ) (f : Forms) (x : ℕ) where
     where
       at_own : Part z g i (suc n) a → Summed (z +ℤ (f (DeltaAt x i)).constant) (λ d. g d +ℤ factor d (f (DeltaAt x i)).terms) i (suc n) a
       at_own p' =
-          let rest = after_own w (z +ℤ (f (DeltaAt x i)).constant) (λ d. g d +ℤ factor d (f (DeltaAt x i)).terms) l h' q' s n (suc i) (add_forms (f (DeltaAt x i)) a) (omega arith) (own_step z g n a (f (DeltaAt x i)) so p') in
+          let rest =
+              after_own w (z +ℤ (f (DeltaAt x i)).constant) (λ d. g d +ℤ factor d (f (DeltaAt x i)).terms) l h' q' s n
+              (suc i) (add_forms (f (DeltaAt x i)) a) (omega arith) (own_step z g n a (f (DeltaAt x i)) so p') in
           record { can = (part_numbers w z g i (suc n) a l p' h q, o, rest.can); shape = rest.shape }
 
-      go : (u : Bool) → (i == j) ≡ u → (suc j ≤ i → Part z g (suc j) n (add_forms (f (DeltaAt x j)) a) → Summed (z +ℤ (f (DeltaAt x i)).constant) (λ d. g d +ℤ factor d (f (DeltaAt x i)).terms) (suc j) n (add_forms (f (DeltaAt x j)) a)) → Summed (z +ℤ (f (DeltaAt x i)).constant) (λ d. g d +ℤ factor d (f (DeltaAt x i)).terms) j (suc n) a
+      go :
+          (u : Bool) → (i == j) ≡ u →
+          (suc j ≤ i → Part z g (suc j) n (add_forms (f (DeltaAt x j)) a) →
+            Summed (z +ℤ (f (DeltaAt x i)).constant) (λ d. g d +ℤ factor d (f (DeltaAt x i)).terms) (suc j) n
+            (add_forms (f (DeltaAt x j)) a)) →
+          Summed (z +ℤ (f (DeltaAt x i)).constant) (λ d. g d +ℤ factor d (f (DeltaAt x i)).terms) j (suc n) a
       go true e ih =
           let same : i ≡ j = grind (arith, nat_tests) in
           subst (λ y. Part z g y (suc n) a → Summed (z +ℤ (f (DeltaAt x i)).constant) (λ d. g d +ℤ factor d (f (DeltaAt x i)).terms) y (suc n) a) same at_own p
       go false e ih =
           let up : suc j ≤ i = grind (arith, nat_tests, r, e) in
           let rest = ih up (other_step z g j n a e (s j e) p) in
-          record { can = (part_numbers w z g j (suc n) a l p h q, delta_numbers m (delta_of x j) (f (DeltaAt x j)) (omega (arith, l)) (s j e), rest.can); shape = rest.shape }
+          record {
+            can = (part_numbers w z g j (suc n) a l p h q, delta_numbers m (delta_of x j) (f (DeltaAt x j)) (omega (arith, l)) (s j e), rest.can);
+            shape = rest.shape;
+          }

@@ -79,4 +79,8 @@ pub wider_forms : (m n : ℕ) (base : ℕ → ℤ) (row : Row) → n ≤ m → H
 unfolding meaning_words
 wider_forms m n base row l h =
     let q : (z : ℤ) → IsSmall n z → IsSmall m z = λ z k. omega (arith, l, k) in
-    record { formula = cond_wider (IsSmall n) (IsSmall m) q _ row.formula h.formula; atoms = atoms_wider (IsSmall n) (IsSmall m) q _ h.atoms; residual = follow_wider (IsSmall n) (IsSmall m) q _ row.residual h.residual }
+    record {
+      formula = cond_wider (IsSmall n) (IsSmall m) q _ row.formula h.formula;
+      atoms = atoms_wider (IsSmall n) (IsSmall m) q _ h.atoms;
+      residual = follow_wider (IsSmall n) (IsSmall m) q _ row.residual h.residual;
+    }
