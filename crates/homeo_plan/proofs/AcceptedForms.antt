@@ -34,5 +34,5 @@ accepted_forms w g k i base accepted ground within inside =
     let p : NoFault Run w = parts Run w accepted.rules in
     let all = all_within (schema_of w) base within in
     let small : (n : ℕ) → IsSmall limit (values_of base n) =
-        λ n. omega (arith, size_at (all_bounds (schema_of w)) n (values_of base n) (all n), bounds_small w p.text.declared n) in
+    λ n. omega (arith, size_at (all_bounds (schema_of w)) n (values_of base n) (all n), bounds_small w p.text.declared n) in
     small_forms limit (schema_of w) k i (ground_form w g) (values_of base) inside (ground_whole w g) all small light

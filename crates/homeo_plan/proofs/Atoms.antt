@@ -78,8 +78,8 @@ gap : (a b : Linear) (n : ℤ) (s : State) (x y : ℤ) → Is a s x → Is b s y
 unfolding words meaning_words
 gap a b n s x y hx hy h =
     let e =
-        is_add (constant_form n) (add_forms a (scale_form (negsuc 0) b)) s n (x +ℤ (negsuc 0 *ℤ y)) (constant_is n n s refl)
-        (is_add a (scale_form (negsuc 0) b) s x (negsuc 0 *ℤ y) hx (is_scale (negsuc 0) b s y hy)) h.mixed in
+    is_add (constant_form n) (add_forms a (scale_form (negsuc 0) b)) s n (x +ℤ (negsuc 0 *ℤ y)) (constant_is n n s refl)
+    (is_add a (scale_form (negsuc 0) b) s x (negsuc 0 *ℤ y) hx (is_scale (negsuc 0) b s y hy)) h.mixed in
     subst (λ z. z ≤ℤ pos 0) (sym e) h.below
 
 less_if : (x y : ℤ) → (pos 1 +ℤ (x +ℤ (negsuc 0 *ℤ y))) ≤ℤ pos 0 → int_lt x y ≡ true

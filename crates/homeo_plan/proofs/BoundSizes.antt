@@ -57,16 +57,18 @@ objects_small : (os : List ObjectDecl) → flat_map object_faults os ≡ [] → 
 unfolding words meaning_words
 objects_small [] e = tt
 objects_small (d ∷ os) e =
-    let here : object_faults d ≡ [] = none_first (object_faults d) (flat_map object_faults os) e in
-    (range_small d.lo d.hi (none_first (range_faults d.lo d.hi) (outside d.lo d.hi d.start) here),
-     objects_small os (none_second (object_faults d) (flat_map object_faults os) e))
+    let here : object_faults d ≡ [] = none_first (object_faults d) (flat_map object_faults os) e in (
+      range_small d.lo d.hi (none_first (range_faults d.lo d.hi) (outside d.lo d.hi d.start) here),
+      objects_small os (none_second (object_faults d) (flat_map object_faults os) e),
+    )
 
 fields_small : (ds : List RangeDecl) → flat_map range_bounds ds ≡ [] → Each IsSmallBound (map bounds_of (map declared_range ds))
 unfolding words meaning_words
 fields_small [] e = tt
-fields_small (d ∷ ds) e =
-    (range_small d.lo d.hi (none_first (range_bounds d) (flat_map range_bounds ds) e),
-     fields_small ds (none_second (range_bounds d) (flat_map range_bounds ds) e))
+fields_small (d ∷ ds) e = (
+  range_small d.lo d.hi (none_first (range_bounds d) (flat_map range_bounds ds) e),
+  fields_small ds (none_second (range_bounds d) (flat_map range_bounds ds) e),
+)
 
 slots_small : (n : ℕ) (fields : List Declared) → Each IsSmallBound (map bounds_of fields) → Each IsSmallBound (slot_bounds n fields)
 unfolding words meaning_words

@@ -7,7 +7,7 @@ use Rattle.std.specs.Ordering.{int_eq}
 use Rattle.homeo_plan.specs.declared.forms.Delta.{Delta}
 use Rattle.homeo_plan.specs.declared.forms.Term.{Term}
 use Rattle.homeo_plan.specs.Linear.{same_delta, delta_before, with_term, add_term, add_terms, scale_terms}
-use Rattle.homeo_plan.proofs.Zed.{dist_left}
+use Rattle.homeo_plan.proofs.WholeNumbers.{dist_left}
 
 pub same_delta_is : (d e : Delta) → same_delta d e ≡ true → d ≡ e
 unfolding words

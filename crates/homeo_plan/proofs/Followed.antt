@@ -156,8 +156,8 @@ module _ (b k i : ℕ) (base : ℕ → ℤ) (inside : i < k) (small : (x : ℕ) 
             Walked (λ p. max (after c v p) (after d v p)) f
             (cond u (forms_after (shift k i c) s f) (forms_after (shift k i d) s f))
             (λ r.
-              cond u (test_before (shift_cond k t) (walk_before (shift k i c) s r))
-              (test_before (otherwise (shift_cond k t)) (walk_before (shift k i d) s r)))
+            cond u (test_before (shift_cond k t) (walk_before (shift k i c) s r))
+            (test_before (otherwise (shift_cond k t)) (walk_before (shift k i d) s r)))
         go true tests x y =
             record {
               after = holds_wider k i base (after c v) (λ p. max (after c v p) (after d v p)) _ (λ p. omega arith) x.after;

@@ -74,23 +74,23 @@ module _ (b k i : ℕ) (base : ℕ → ℤ) (inside : i < k) (small : (x : ℕ) 
       let o = h.own x in
       let z = h.bases x in
       let zero_numbers : Numbers (IsSmall (2 * b + 1)) (constant_form (pos 0)) =
-          numbers (2 * b + 1) 0 (constant_form (pos 0)) (omega arith) (within_constant 0 (pos 0) (omega arith)) in
+      numbers (2 * b + 1) 0 (constant_form (pos 0)) (omega arith) (within_constant 0 (pos 0) (omega arith)) in
       let base_numbers : Numbers (IsSmall (2 * b + 1)) (f (BaseAt x)) =
-          numbers (2 * b + 1) b (f (BaseAt x)) (omega arith) (shape_within b (base x) (λ d. pos 0) (f (BaseAt x)) z (small x) (λ d. omega arith)) in
+      numbers (2 * b + 1) b (f (BaseAt x)) (omega arith) (shape_within b (base x) (λ d. pos 0) (f (BaseAt x)) z (small x) (λ d. omega arith)) in
       let own_numbers : Numbers (IsSmall (2 * b + 1)) (f (DeltaAt x i)) =
-          numbers (2 * b + 1) (v (BaseAt x) + b) (f (DeltaAt x i)) (omega (arith, l))
-          (own_within k i base x (v (BaseAt x)) b (f (DeltaAt x i)) (omega (arith, l, one)) (small x) o) in
+      numbers (2 * b + 1) (v (BaseAt x) + b) (f (DeltaAt x i)) (omega (arith, l))
+      (own_within k i base x (v (BaseAt x)) b (f (DeltaAt x i)) (omega (arith, l, one)) (small x) o) in
       let first : Part k i (2 * b + 1) f x (base x) (others_from i x 0 k) 0 k (add_forms (f (BaseAt x)) (constant_form (pos 0))) =
-          record {
-            constant = start_constant (base x) (f (BaseAt x)).constant z.constant;
-            factors = λ d. start_factor d;
-            sorted = sorted_adds (f (BaseAt x)).terms [] tt;
-          } in
+      record {
+        constant = start_constant (base x) (f (BaseAt x)).constant z.constant;
+        factors = λ d. start_factor d;
+        sorted = sorted_adds (f (BaseAt x)).terms [] tt;
+      } in
       let s =
-          before_own k i (2 * b + 1) f x (v (BaseAt x)) (base x) (others_from i x 0 k) (omega (arith, l, one))
-          (omega (arith, small x)) (λ d. omega (arith, one, bit_size (others_from i x 0 k d) (others_bit i x 0 k d)))
-          (omega (arith, l, o.constant)) o.factors (h.deltas x) own_numbers o.sorted k 0
-          (add_forms (f (BaseAt x)) (constant_form (pos 0))) (omega arith) (omega (arith, inside)) first in
+      before_own k i (2 * b + 1) f x (v (BaseAt x)) (base x) (others_from i x 0 k) (omega (arith, l, one))
+      (omega (arith, small x)) (λ d. omega (arith, one, bit_size (others_from i x 0 k d) (others_bit i x 0 k d)))
+      (omega (arith, l, o.constant)) o.factors (h.deltas x) own_numbers o.sorted k 0
+      (add_forms (f (BaseAt x)) (constant_form (pos 0))) (omega arith) (omega (arith, inside)) first in
       record { can = (zero_numbers, base_numbers, s.can); within = shape_within (v (BaseAt x)) _ _ _ s.shape o.constant o.factors }
     where
       start_constant : (y c : ℤ) → c ≡ y → c +ℤ pos 0 ≡ y
@@ -133,8 +133,8 @@ module _ (b k i : ℕ) (base : ℕ → ℤ) (inside : i < k) (small : (x : ℕ) 
     sum_make (MoreExpr e es) t a m w l =
         let x = make e t.0 (omega (arith, l)) in
         let r =
-            sum_make es t.1 (add_forms (form f (shift_expr k e)) a) (weight e v + m)
-            (within_add (weight e v) m (form f (shift_expr k e)) a x.within w) (omega (arith, l)) in
+        sum_make es t.1 (add_forms (form f (shift_expr k e)) a) (weight e v + m)
+        (within_add (weight e v) m (form f (shift_expr k e)) a x.within w) (omega (arith, l)) in
         record {
           can = (numbers (2 * b + 1) m a (omega (arith, l)) w, x.can, r.can);
           within = wider (m + (weight e v + sum_weight es v)) (weight e v + m + sum_weight es v) _ (omega arith) r.within;
@@ -155,8 +155,8 @@ module _ (b k i : ℕ) (base : ℕ → ℤ) (inside : i < k) (small : (x : ℕ) 
         let x = make e t.0 (omega (arith, l, whole_le)) in
         let same : (m * we) * rest ≡ m * (we * rest) = omega arith in
         let r =
-            product_make es t.1 (multiply_forms a (form f (shift_expr k e))) (m * we)
-            (within_multiply m we a (form f (shift_expr k e)) w x.within) (one_mul m we one one_e) (omega (arith, l, same)) in
+        product_make es t.1 (multiply_forms a (form f (shift_expr k e))) (m * we)
+        (within_multiply m we a (form f (shift_expr k e)) w x.within) (one_mul m we one one_e) (omega (arith, l, same)) in
         record {
           can = (numbers (2 * b + 1) m a (omega (arith, l, part)) w, x.can, r.can);
           within = wider (m * (we * rest)) ((m * we) * rest) _ (omega (arith, same)) r.within;

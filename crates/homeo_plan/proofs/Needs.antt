@@ -96,24 +96,24 @@ module _ (i : ℕ) (s s' : State) (own : (x : ℕ) → s (DeltaAt x i) ≡ s' (D
         own_deltas = λ x.
             ⊎_elim (λ e. e)
             (λ m.
-              same_by_support (f (DeltaAt x i)) s s' _ _ (t (DeltaAt x i)).apart
-              (support_agrees (support (f (DeltaAt x i))) (each_written (ZeroInBoth s s') i f (delta_of x i) ds m z)))
+            same_by_support (f (DeltaAt x i)) s s' _ _ (t (DeltaAt x i)).apart
+            (support_agrees (support (f (DeltaAt x i))) (each_written (ZeroInBoth s s') i f (delta_of x i) ds m z)))
             (w x);
       }
   same_own (MoreCommand Skip cs) f ds u u' st t w z = absurd st.0
   same_own (MoreCommand (Assign v e) cs) f ds u u' st t w z =
       let k =
-          same_own cs (put f (TempAt v) (form f e)) ds (put u (TempAt v) (value e u)) (put u' (TempAt v) (value e u')) st.1
-          (put_tracks f u u' (TempAt v) (form f e) _ _ t (tracks f s s' u u' t e)) w z in
+      same_own cs (put f (TempAt v) (form f e)) ds (put u (TempAt v) (value e u)) (put u' (TempAt v) (value e u')) st.1
+      (put_tracks f u u' (TempAt v) (form f e) _ _ t (tracks f s s' u u' t e)) w z in
       record { prints = k.prints; own_deltas = k.own_deltas }
   same_own (MoreCommand (Write (split.Whole x) e) cs) f ds u u' st t w z = absurd st.0
   same_own (MoreCommand (Write (split.Base x) e) cs) f ds u u' st t w z = absurd st.0
   same_own (MoreCommand (Write (split.Delta x j) e) cs) f ds u u' st t w z =
       let k =
-          same_own cs (put f (DeltaAt x j) (form f e)) (add_delta (delta_of x j) ds) (put u (DeltaAt x j) (value e u))
-          (put u' (DeltaAt x j) (value e u')) st.1
-          (put_tracks f u u' (DeltaAt x j) (form f e) _ _ t (tracks f s s' u u' t e))
-          (λ y. still_same u u' x j _ _ ds y (w y)) z in
+      same_own cs (put f (DeltaAt x j) (form f e)) (add_delta (delta_of x j) ds) (put u (DeltaAt x j) (value e u))
+      (put u' (DeltaAt x j) (value e u')) st.1
+      (put_tracks f u u' (DeltaAt x j) (form f e) _ _ t (tracks f s s' u u' t e))
+      (λ y. still_same u u' x j _ _ ds y (w y)) z in
       record { prints = k.prints; own_deltas = k.own_deltas }
   same_own (MoreCommand (Print e) cs) f ds u u' st t w z =
       let m = each_add_deltas (ZeroInBoth s s') (remote i (support (form f e))) (needs_from i f ds cs) z in

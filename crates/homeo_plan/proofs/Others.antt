@@ -5,9 +5,9 @@ use Rattle.std.specs.Int.RustNames.{unsigned_abs}
 use Rattle.std.proofs.lemmas.Int.{ints}
 use Rattle.std.proofs.lemmas.Bool.Decides.{nat_tests}
 use Rattle.homeo_plan.specs.declared.forms.Delta.{Delta}
-use Rattle.homeo_plan.specs.Linear.{delta_of, same_delta, Linear, add_forms}
-use Rattle.homeo_plan.proofs.Factors.{same_delta_is, at_delta, factor, add_terms_factor}
-use Rattle.homeo_plan.proofs.Order.{Sorted, sorted_adds}
+use Rattle.homeo_plan.specs.Linear.{delta_of, same_delta, Linear}
+use Rattle.homeo_plan.proofs.Factors.{same_delta_is, at_delta, factor}
+use Rattle.homeo_plan.proofs.Order.{Sorted}
 use Rattle.homeo_plan.proofs.Sizes.{Within}
 
 -- of n sites from j on, how often the delta is that of x at a site other than i
@@ -89,13 +89,4 @@ shape_within n z g a s h k =
       constant = subst (λ y. unsigned_abs y ≤ n) (sym s.constant) h;
       factors = λ d. subst (λ y. unsigned_abs y ≤ n) (sym (s.factors d)) (k d);
       sorted = s.sorted;
-    }
-
-pub shape_add : (z y : ℤ) (g h : Delta → ℤ) (a b : Linear) → Shape z g a → Shape y h b → Shape (z +ℤ y) (λ d. g d +ℤ h d) (add_forms a b)
-unfolding words
-shape_add z y g h a b s t =
-    record {
-      constant = omega (arith, ints, s.constant, t.constant);
-      factors = λ d. add_terms_factor a.terms b.terms d ∙ omega (arith, ints, s.factors d, t.factors d);
-      sorted = sorted_adds a.terms b.terms t.sorted;
     }

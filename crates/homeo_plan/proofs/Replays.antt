@@ -59,9 +59,10 @@ can_step :
     Each (CanStep (schema_of w) (sites_of w) (values_of base) (template_at w base) i) gs
 unfolding words meaning_words
 can_step w base i [] h = tt
-can_step w base i (g ∷ gs) h =
-    (record { at_site = h.0.0; covers = planned_covers w base g h.0.1; whole = planned_whole w g h.0.1; stays = planned_stays w g h.0.1 },
-     can_step w base i gs h.1)
+can_step w base i (g ∷ gs) h = (
+  record { at_site = h.0.0; covers = planned_covers w base g h.0.1; whole = planned_whole w g h.0.1; stays = planned_stays w g h.0.1 },
+  can_step w base i gs h.1,
+)
 
 no_change : (b : ℕ → ℤ) → (λ n. b n +ℤ no_deltas n) ≡ b
 unfolding words meaning_words

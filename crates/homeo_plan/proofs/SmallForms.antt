@@ -67,9 +67,11 @@ start k i x base h =
               subst (λ z. unsigned_abs z ≤ weight_at (all_bounds x) n) (sym (plus_zero (base n)))
               (size_at (all_bounds x) n (base n) (h n));
           factors = λ d.
-              omega
-              (arith, one_at (all_bounds x) n,
-               one_of (others_from i n 0 k d) (same_delta (delta_of n i) d) (others_bit i n 0 k d) (none_own i n 0 k d));
+              omega (
+                arith,
+                one_at (all_bounds x) n,
+                one_of (others_from i n 0 k d) (same_delta (delta_of n i) d) (others_bit i n 0 k d) (none_own i n 0 k d),
+              );
           sorted = (tt, tt);
         }
 
@@ -86,5 +88,5 @@ unfolding words meaning_words
 small_forms b x k i c base inside w h small l =
     let r = follow b k i base inside small c w (first_weights x) (whole base) (base_forms base) (start k i x base h) l in
     let formula : CanCond (IsSmall (2 * b + 1)) (base_forms base) (walk (shift k i c) (whole base)).formula =
-        can_clear_cond base (IsSmall (2 * b + 1)) (walk_before (shift k i c) (whole base) last_row).formula (r.formula last_row tt) in
+    can_clear_cond base (IsSmall (2 * b + 1)) (walk_before (shift k i c) (whole base) last_row).formula (r.formula last_row tt) in
     record { formula = formula; atoms = true_of_cond (IsSmall (2 * b + 1)) base _ formula; residual = r.residual last_row tt }

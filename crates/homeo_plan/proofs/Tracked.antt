@@ -11,7 +11,7 @@ use Rattle.homeo_plan.specs.declared.forms.Delta.{Delta}
 use Rattle.homeo_plan.specs.declared.forms.Term.{Term}
 use Rattle.homeo_plan.specs.Linear.{same_delta, delta_before, Linear, add_delta, add_deltas, with_term, add_term, add_terms, scale_terms, deltas_of, constant_form, add_forms, scale_form, is_empty, is_pure, support, mix_forms, multiply_forms, Forms, form, sum_form, product_form, terms_value, form_value, IsZeroAt}
 use Rattle.homeo_plan.specs.Each.{Each}
-use Rattle.homeo_plan.proofs.Zed.{dist, dist_left, dist2, mul_comm_z}
+use Rattle.homeo_plan.proofs.WholeNumbers.{dist, dist_left, dist2, mul_comm_z}
 
 -- ---- deltas
 pub same_delta_is : (d e : Delta) → same_delta d e ≡ true → d ≡ e

@@ -76,7 +76,7 @@ module _ (k i m : ℕ) (f : Forms) (x : ℕ) where
       factors : (d : Delta) → factor d (add_forms (f (DeltaAt x j)) a).terms +ℤ others_from i x (suc j) n d ≡ g d
       factors d =
           let one : cond (i == j) (pos 0) (at_delta (delta_of x j) (pos 1) d) ≡ at_delta (delta_of x j) (pos 1) d =
-              ap (λ b. cond b (pos 0) (at_delta (delta_of x j) (pos 1) d)) q in
+          ap (λ b. cond b (pos 0) (at_delta (delta_of x j) (pos 1) d)) q in
           let whole : factor d a.terms +ℤ (cond (i == j) (pos 0) (at_delta (delta_of x j) (pos 1) d) +ℤ others_from i x (suc j) n d) ≡ g d = p.factors d in
           ap (λ y. y +ℤ others_from i x (suc j) n d) (add_terms_factor (f (DeltaAt x j)).terms a.terms d)
           ∙ omega (arith, ints, s.factors d, one, whole)
@@ -144,15 +144,15 @@ module _ (k i m : ℕ) (f : Forms) (x : ℕ) where
       at_own : Part z g i (suc n) a → Summed (z +ℤ (f (DeltaAt x i)).constant) (λ d. g d +ℤ factor d (f (DeltaAt x i)).terms) i (suc n) a
       at_own p' =
           let rest =
-              after_own w (z +ℤ (f (DeltaAt x i)).constant) (λ d. g d +ℤ factor d (f (DeltaAt x i)).terms) l h' q' s n
-              (suc i) (add_forms (f (DeltaAt x i)) a) (omega arith) (own_step z g n a (f (DeltaAt x i)) so p') in
+          after_own w (z +ℤ (f (DeltaAt x i)).constant) (λ d. g d +ℤ factor d (f (DeltaAt x i)).terms) l h' q' s n
+          (suc i) (add_forms (f (DeltaAt x i)) a) (omega arith) (own_step z g n a (f (DeltaAt x i)) so p') in
           record { can = (part_numbers w z g i (suc n) a l p' h q, o, rest.can); shape = rest.shape }
 
       go :
           (u : Bool) → (i == j) ≡ u →
           (suc j ≤ i → Part z g (suc j) n (add_forms (f (DeltaAt x j)) a) →
-            Summed (z +ℤ (f (DeltaAt x i)).constant) (λ d. g d +ℤ factor d (f (DeltaAt x i)).terms) (suc j) n
-            (add_forms (f (DeltaAt x j)) a)) →
+          Summed (z +ℤ (f (DeltaAt x i)).constant) (λ d. g d +ℤ factor d (f (DeltaAt x i)).terms) (suc j) n
+          (add_forms (f (DeltaAt x j)) a)) →
           Summed (z +ℤ (f (DeltaAt x i)).constant) (λ d. g d +ℤ factor d (f (DeltaAt x i)).terms) j (suc n) a
       go true e ih =
           let same : i ≡ j = grind (arith, nat_tests) in

@@ -49,10 +49,12 @@ module _ (k i m : ℕ) (f : Forms) (x : ℕ) (y : ℤ) (g : Delta → ℤ) where
       (record {
         constant = subst (λ z. unsigned_abs z ≤ m) (sym p.constant) c;
         factors = λ d.
-            omega
-            (arith, l,
-             near (factor d a.terms) (others_from i x 0 k d) (g d) (others_from i x j n d) w (others_bit i x 0 k d)
-             (others_bit i x j n d) (p.factors d) (q d));
+            omega (
+              arith,
+              l,
+              near (factor d a.terms) (others_from i x 0 k d) (g d) (others_from i x j n d) w (others_bit i x 0 k d)
+                  (others_bit i x j n d) (p.factors d) (q d),
+            );
         sorted = p.sorted;
       })
 
@@ -65,9 +67,9 @@ module _ (k i m : ℕ) (f : Forms) (x : ℕ) (y : ℤ) (g : Delta → ℤ) where
       factors d =
           let none : cond (i == j) (pos 0) (at_delta (delta_of x j) (pos 1) d) ≡ pos 0 = ap (λ b. cond b (pos 0) (at_delta (delta_of x j) (pos 1) d)) q in
           let whole :
-              factor d a.terms +ℤ others_from i x 0 k d ≡
-              g d +ℤ (cond (i == j) (pos 0) (at_delta (delta_of x j) (pos 1) d) +ℤ others_from i x (suc j) n d) =
-              p.factors d in
+          factor d a.terms +ℤ others_from i x 0 k d ≡
+          g d +ℤ (cond (i == j) (pos 0) (at_delta (delta_of x j) (pos 1) d) +ℤ others_from i x (suc j) n d) =
+          p.factors d in
           omega (arith, ints, none, whole)
 
   take_off :
@@ -86,13 +88,13 @@ module _ (k i m : ℕ) (f : Forms) (x : ℕ) (y : ℤ) (g : Delta → ℤ) where
           g d +ℤ others_from i x (suc j) n d
       factors d =
           let one : cond (i == j) (pos 0) (at_delta (delta_of x j) (pos 1) d) ≡ at_delta (delta_of x j) (pos 1) d =
-              ap (λ b. cond b (pos 0) (at_delta (delta_of x j) (pos 1) d)) q in
+          ap (λ b. cond b (pos 0) (at_delta (delta_of x j) (pos 1) d)) q in
           let whole :
-              factor d a.terms +ℤ others_from i x 0 k d ≡
-              g d +ℤ (cond (i == j) (pos 0) (at_delta (delta_of x j) (pos 1) d) +ℤ others_from i x (suc j) n d) =
-              p.factors d in
+          factor d a.terms +ℤ others_from i x 0 k d ≡
+          g d +ℤ (cond (i == j) (pos 0) (at_delta (delta_of x j) (pos 1) d) +ℤ others_from i x (suc j) n d) =
+          p.factors d in
           let scaled : factor d (scale_form (negsuc 0) (f (DeltaAt x j))).terms ≡ negsuc 0 *ℤ at_delta (delta_of x j) (pos 1) d =
-              scale_terms_factor (negsuc 0) (f (DeltaAt x j)).terms d ∙ ap (λ z. negsuc 0 *ℤ z) (s.factors d) in
+          scale_terms_factor (negsuc 0) (f (DeltaAt x j)).terms d ∙ ap (λ z. negsuc 0 *ℤ z) (s.factors d) in
           ap (λ z. z +ℤ others_from i x 0 k d) (add_terms_factor (scale_form (negsuc 0) (f (DeltaAt x j))).terms a.terms d)
           ∙ omega (arith, ints, scaled, minus_one (at_delta (delta_of x j) (pos 1) d), one, whole)
 
@@ -113,10 +115,11 @@ module _ (k i m : ℕ) (f : Forms) (x : ℕ) (y : ℤ) (g : Delta → ℤ) where
           let one = delta_within (delta_of x j) (f (DeltaAt x j)) (s j e) in
           let r = ih (add_forms (scale_form (negsuc 0) (f (DeltaAt x j))) a) (take_off j n a e (s j e) p) in
           record {
-            can =
-                (part_numbers w j (suc n) a l c q p,
-                 (numbers m 1 _ (omega (arith, l)) one, numbers m 1 _ (omega (arith, l)) (within_negated 1 _ one)),
-                 r.can);
+            can = (
+              part_numbers w j (suc n) a l c q p,
+              (numbers m 1 _ (omega (arith, l)) one, numbers m 1 _ (omega (arith, l)) (within_negated 1 _ one)),
+              r.can,
+            );
             constant = r.constant;
             factors = r.factors;
             sorted = r.sorted;
@@ -141,27 +144,32 @@ module _ (b k i : ℕ) (base : ℕ → ℤ) (small : (x : ℕ) → unsigned_abs 
       let zero_numbers : Numbers (IsSmall m) (constant_form (pos 0)) = numbers m 0 _ (omega arith) (within_constant 0 (pos 0) (omega arith)) in
       let base_within : Within b (f (BaseAt x)) = shape_within b (base x) (λ d. pos 0) (f (BaseAt x)) z (small x) (λ d. omega arith) in
       let first : Within (n + 0) (add_forms F (constant_form (pos 0))) =
-          within_add n 0 F (constant_form (pos 0)) r.within (within_constant 0 (pos 0) (omega arith)) in
+      within_add n 0 F (constant_form (pos 0)) r.within (within_constant 0 (pos 0) (omega arith)) in
       let start :
-          Part k i m f x (F.constant +ℤ (negsuc 0 *ℤ base x)) (λ d. factor d F.terms) 0 k
-          (add_forms (scale_form (negsuc 0) (f (BaseAt x))) (add_forms F (constant_form (pos 0)))) =
-          record {
-            constant = start_constant F.constant (f (BaseAt x)).constant (base x) z.constant;
-            factors = λ d. start_factor F d;
-            sorted = sorted_adds (scale_terms (negsuc 0) (f (BaseAt x)).terms) (add_terms F.terms []) first.sorted;
-          } in
+      Part k i m f x (F.constant +ℤ (negsuc 0 *ℤ base x)) (λ d. factor d F.terms) 0 k
+      (add_forms (scale_form (negsuc 0) (f (BaseAt x))) (add_forms F (constant_form (pos 0)))) =
+      record {
+        constant = start_constant F.constant (f (BaseAt x)).constant (base x) z.constant;
+        factors = λ d. start_factor F d;
+        sorted = sorted_adds (scale_terms (negsuc 0) (f (BaseAt x)).terms) (add_terms F.terms []) first.sorted;
+      } in
       let t =
-          taken k i m f x (F.constant +ℤ (negsuc 0 *ℤ base x)) (λ d. factor d F.terms) n (omega (arith, l, one))
-          (omega (arith, l, off_size F.constant (base x) n b r.within.constant (small x))) r.within.factors (h.deltas x) k 0
-          _ start in
+      taken k i m f x (F.constant +ℤ (negsuc 0 *ℤ base x)) (λ d. factor d F.terms) n (omega (arith, l, one))
+      (omega (arith, l, off_size F.constant (base x) n b r.within.constant (small x))) r.within.factors (h.deltas x) k 0
+      _ start in
       let made = sum_form f (add_forms (scale_form (negsuc 0) (f (BaseAt x))) (add_forms F (constant_form (pos 0)))) (other_deltas i x 0 k) in
       let constant : unsigned_abs (base x +ℤ made.constant) ≤ n =
-          subst (λ c. unsigned_abs c ≤ n) (sym (back F.constant (base x) _ t.constant)) r.within.constant in
+      subst (λ c. unsigned_abs c ≤ n) (sym (back F.constant (base x) _ t.constant)) r.within.constant in
       record {
-        can =
-            (zero_numbers, r.can,
-             (numbers m (n + 0) _ (omega (arith, l)) first,
-              (numbers m b _ (omega arith) base_within, numbers m b _ (omega arith) (within_negated b _ base_within)), t.can));
+        can = (
+          zero_numbers,
+          r.can,
+          (
+            numbers m (n + 0) _ (omega (arith, l)) first,
+            (numbers m b _ (omega arith) base_within, numbers m b _ (omega arith) (within_negated b _ base_within)),
+            t.can,
+          ),
+        );
         own = record {
           constant = constant;
           factors = λ d.
@@ -187,6 +195,6 @@ module _ (b k i : ℕ) (base : ℕ → ℤ) (small : (x : ℕ) → unsigned_abs 
           factor d F.terms +ℤ others_from i x 0 k d
       start_factor F d =
           let scaled : factor d (scale_form (negsuc 0) (f (BaseAt x))).terms ≡ negsuc 0 *ℤ pos 0 =
-              scale_terms_factor (negsuc 0) (f (BaseAt x)).terms d ∙ ap (λ z. negsuc 0 *ℤ z) ((h.bases x).factors d) in
+          scale_terms_factor (negsuc 0) (f (BaseAt x)).terms d ∙ ap (λ z. negsuc 0 *ℤ z) ((h.bases x).factors d) in
           ap (λ z. z +ℤ others_from i x 0 k d) (add_terms_factor (scale_form (negsuc 0) (f (BaseAt x))).terms (add_forms F (constant_form (pos 0))).terms d)
           ∙ omega (arith, ints, scaled, add_terms_factor F.terms [] d)
