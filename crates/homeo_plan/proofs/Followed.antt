@@ -8,7 +8,7 @@ use Rattle.std.proofs.lemmas.Bool.Decides.{nat_tests}
 use Rattle.homeo_syntax.specs.declared.low.Temp.{Temp}
 use Rattle.homeo_syntax.specs.declared.low.SplitName.TheVariants.{Whole, Base, Delta}
 use Rattle.homeo_syntax.specs.Low.{Command, Commands, Skip, Assign, Write, Print, Seq, If, NoCommand, MoreCommand}
-use Rattle.homeo_meaning.specs.LowMeaning.{Place, TempAt, BaseAt, DeltaAt, State, place_of, same_temp, same_place, put, holds, exec}
+use Rattle.homeo_meaning.specs.LowMeaning.{Location, TempAt, BaseAt, DeltaAt, State, location_of, same_temp, same_location, put, holds, exec}
 use Rattle.homeo_meaning.specs.LowWeights.{weight, after, after_all, is_light_cond, is_light, are_light}
 use Rattle.homeo_meaning.specs.Small.{IsSmall}
 use Rattle.homeo_meaning.specs.Whole.{IsWhole, AreWhole}
@@ -33,7 +33,7 @@ abbrev mutual
   pub forms_after : Command → State → Forms → Forms
   forms_after Skip s f = f
   forms_after (Assign t e) s f = put f (TempAt t) (form f e)
-  forms_after (Write x e) s f = put f (place_of x) (form f e)
+  forms_after (Write x e) s f = put f (location_of x) (form f e)
   forms_after (Print e) s f = f
   forms_after (Seq cs) s f = all_forms_after cs s f
   forms_after (If b c d) s f = cond (holds b s) (forms_after c s f) (forms_after d s f)
@@ -46,7 +46,7 @@ own_wider : (k i : ℕ) (base : ℕ → ℤ) (x m n : ℕ) (a : Linear) → n �
 own_wider k i base x m n a l o =
     record { constant = omega (arith, l, o.constant); factors = λ d. omega (arith, l, o.factors d); sorted = o.sorted }
 
-holds_wider : (k i : ℕ) (base : ℕ → ℤ) (v v' : Place → ℕ) (f : Forms) → ((p : Place) → v p ≤ v' p) → Holds k i base v f → Holds k i base v' f
+holds_wider : (k i : ℕ) (base : ℕ → ℤ) (v v' : Location → ℕ) (f : Forms) → ((p : Location) → v p ≤ v' p) → Holds k i base v f → Holds k i base v' f
 holds_wider k i base v v' f l h =
     record {
       temps = λ t. wider (v' (TempAt t)) (v (TempAt t)) (f (TempAt t)) (l (TempAt t)) (h.temps t);
@@ -56,16 +56,16 @@ holds_wider k i base v v' f l h =
       ones = λ p. omega (arith, l p, h.ones p);
     }
 
-put_ones : (v : Place → ℕ) (p : Place) (n : ℕ) → ((q : Place) → 1 ≤ v q) → 1 ≤ n → (q : Place) → 1 ≤ put v p n q
+put_ones : (v : Location → ℕ) (p : Location) (n : ℕ) → ((q : Location) → 1 ≤ v q) → 1 ≤ n → (q : Location) → 1 ≤ put v p n q
 unfolding meaning_words
-put_ones v p n h one q = go (same_place p q)
+put_ones v p n h one q = go (same_location p q)
   where
     go : (b : Bool) → 1 ≤ cond b n (v q)
     go true = one
     go false = h q
 
 holds_temp :
-    (k i : ℕ) (base : ℕ → ℤ) (v : Place → ℕ) (f : Forms) (t : Temp) (n : ℕ) (a : Linear) → Holds k i base v f → 1 ≤ n →
+    (k i : ℕ) (base : ℕ → ℤ) (v : Location → ℕ) (f : Forms) (t : Temp) (n : ℕ) (a : Linear) → Holds k i base v f → 1 ≤ n →
     Within n a → Holds k i base (put v (TempAt t) n) (put f (TempAt t) a)
 unfolding meaning_words
 holds_temp k i base v f t n a h one w =
@@ -76,7 +76,7 @@ holds_temp k i base v f t n a h one w =
     go u false = h.temps u
 
 holds_own :
-    (k i : ℕ) (base : ℕ → ℤ) (v : Place → ℕ) (f : Forms) (x n : ℕ) (a : Linear) → Holds k i base v f → 1 ≤ n →
+    (k i : ℕ) (base : ℕ → ℤ) (v : Location → ℕ) (f : Forms) (x n : ℕ) (a : Linear) → Holds k i base v f → 1 ≤ n →
     Own k i base x n a → Holds k i base (put v (BaseAt x) n) (put f (DeltaAt x i) a)
 unfolding meaning_words
 holds_own k i base v f x n a h one o =
@@ -106,7 +106,7 @@ module _ (b k i : ℕ) (base : ℕ → ℤ) (inside : i < k) (small : (x : ℕ) 
   P = IsSmall (2 * b + 1)
 
   -- from the forms f to the forms u, and from the row r to the row q in front of it
-  pub record Walked (v : Place → ℕ) (f u : Forms) (step : Row → Row) : Type 0 where
+  pub record Walked (v : Location → ℕ) (f u : Forms) (step : Row → Row) : Type 0 where
     pub after : Holds k i base v u
     pub formula : (r : Row) → CanCond P u r.formula → CanCond P f (step r).formula
     pub residual : (r : Row) → CanFollow P u r.residual → CanFollow P f (step r).residual
@@ -115,7 +115,7 @@ module _ (b k i : ℕ) (base : ℕ → ℤ) (inside : i < k) (small : (x : ℕ) 
     unfolding words meaning_words
 
     pub follow :
-        (c : Command) → IsWhole c → (v : Place → ℕ) (s : State) (f : Forms) → Holds k i base v f → is_light b c v ≡ true →
+        (c : Command) → IsWhole c → (v : Location → ℕ) (s : State) (f : Forms) → Holds k i base v f → is_light b c v ≡ true →
         Walked (after c v) f (forms_after (shift k i c) s f) (walk_before (shift k i c) s)
     follow Skip w v s f h l = record { after = h; formula = λ r c. c; residual = λ r c. c }
     follow (Assign t e) w v s f h l =
@@ -172,7 +172,7 @@ module _ (b k i : ℕ) (base : ℕ → ℤ) (inside : i < k) (small : (x : ℕ) 
             }
 
     pub follow_all :
-        (cs : Commands) → AreWhole cs → (v : Place → ℕ) (s : State) (f : Forms) → Holds k i base v f → are_light b cs v ≡ true →
+        (cs : Commands) → AreWhole cs → (v : Location → ℕ) (s : State) (f : Forms) → Holds k i base v f → are_light b cs v ≡ true →
         Walked (after_all cs v) f (all_forms_after (shift_all k i cs) s f) (walk_all_before (shift_all k i cs) s)
     follow_all NoCommand w v s f h l = record { after = h; formula = λ r c. c; residual = λ r c. c }
     follow_all (MoreCommand c cs) w v s f h l =

@@ -7,7 +7,7 @@ use Rattle.std.proofs.lemmas.Int.{ints}
 use Rattle.std.proofs.lemmas.Nat.{mul-le}
 use Rattle.homeo_syntax.specs.declared.low.SplitName.TheVariants as split
 use Rattle.homeo_syntax.specs.Low.{Expr, Exprs, Literal, OfTemp, Read, Sum, Product, Neg, NoExpr, MoreExpr}
-use Rattle.homeo_meaning.specs.LowMeaning.{Place, TempAt, BaseAt, DeltaAt, place_of}
+use Rattle.homeo_meaning.specs.LowMeaning.{Location, TempAt, BaseAt, DeltaAt, location_of}
 use Rattle.homeo_meaning.specs.LowWeights.{weight, sum_weight, product_weight}
 use Rattle.homeo_meaning.specs.Small.{IsSmall}
 use Rattle.homeo_meaning.specs.Whole.{IsWholeExpr, AreWholeExprs}
@@ -27,14 +27,14 @@ one_mul m n p q = omega (arith, mul-le 1 1 m n p q)
 factor_le : (a k : ℕ) → 1 ≤ k → a ≤ a * k
 factor_le a k p = omega (arith, mul-le a 1 a k (omega arith) p)
 
-module _ (w : Place → ℕ) (ones : (p : Place) → 1 ≤ w p) where
+module _ (w : Location → ℕ) (ones : (p : Location) → 1 ≤ w p) where
   mutual
     unfolding words meaning_words
 
     pub one_weight : (e : Expr) → 1 ≤ weight e w
     one_weight (Literal n) = omega arith
     one_weight (OfTemp t) = ones (TempAt t)
-    one_weight (Read x) = ones (place_of x)
+    one_weight (Read x) = ones (location_of x)
     one_weight (Sum es) = omega arith
     one_weight (Product es) = one_product es
     one_weight (Neg e) = one_weight e
@@ -64,7 +64,7 @@ own_within k i base x n b a one h o =
       sorted = o.sorted;
     }
 
-module _ (b k i : ℕ) (base : ℕ → ℤ) (inside : i < k) (small : (x : ℕ) → unsigned_abs (base x) ≤ b) (v : Place → ℕ) (f : Forms) (h : Holds k i base v f) where
+module _ (b k i : ℕ) (base : ℕ → ℤ) (inside : i < k) (small : (x : ℕ) → unsigned_abs (base x) ≤ b) (v : Location → ℕ) (f : Forms) (h : Holds k i base v f) where
   read_made :
       (x : ℕ) → v (BaseAt x) ≤ b →
       Made (CanForm (IsSmall (2 * b + 1)) f (shift_read k (split.Whole x))) (v (BaseAt x)) (form f (shift_read k (split.Whole x)))

@@ -5,7 +5,7 @@ use Rattle.std.proofs.Common.{◌≡◌, ℕ, ◌==◌, ◌&&◌, Bool, true, fa
 use Rattle.std.proofs.lemmas.Bool.Decides.{nat_tests}
 use Rattle.homeo_syntax.specs.declared.low.SplitName.TheVariants as split
 use Rattle.homeo_syntax.specs.Low.{Commands, Skip, Assign, Write, Print, Seq, If, NoCommand, MoreCommand}
-use Rattle.homeo_meaning.specs.LowMeaning.{Place, TempAt, DeltaAt, State, same_place, put, value, exec_all}
+use Rattle.homeo_meaning.specs.LowMeaning.{Location, TempAt, DeltaAt, State, same_location, put, value, exec_all}
 use Rattle.homeo_plan.specs.Each.{Member, Each}
 use Rattle.homeo_plan.specs.declared.forms.Delta.{Delta}
 use Rattle.homeo_plan.specs.Linear.{delta_of, same_delta, delta_before, Linear, add_delta, support, Forms, base_forms, form}
@@ -64,10 +64,10 @@ module _ (i : ℕ) (s s' : State) (own : (x : ℕ) → s (DeltaAt x i) ≡ s' (D
   IsSameUnlessWritten u u' ds x = (u (DeltaAt x i) ≡ u' (DeltaAt x i)) ⊎ Member (delta_of x i) ds
 
   put_tracks :
-      (f : Forms) (u u' : State) (p : Place) (a : Linear) (v v' : ℤ) → TracksAll f s s' u u' → Tracks a s s' v v' →
+      (f : Forms) (u u' : State) (p : Location) (a : Linear) (v v' : ℤ) → TracksAll f s s' u u' → Tracks a s s' v v' →
       TracksAll (put f p a) s s' (put u p v) (put u' p v')
   unfolding words meaning_words
-  put_tracks f u u' p a v v' h k q = go (same_place p q)
+  put_tracks f u u' p a v v' h k q = go (same_location p q)
     where
       go : (w : Bool) → Tracks (cond w a (f q)) s s' (cond w v (u q)) (cond w v' (u' q))
       go true = k

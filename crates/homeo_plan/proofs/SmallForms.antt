@@ -4,7 +4,7 @@ use Rattle.homeo_meaning.specs.Key.{words as meaning_words}
 use Rattle.std.proofs.Common.{◌≡◌, ℕ, zero, suc, ◌+◌, ◌*◌, ◌≤◌, Bool, true, false, cond, List, [], ◌∷◌, ℤ, pos, ◌+ℤ◌, refl, sym, subst, arith, ◌<◌}
 use Rattle.std.specs.Int.RustNames.{unsigned_abs}
 use Rattle.std.proofs.lemmas.Int.{ints}
-use Rattle.homeo_meaning.specs.LowMeaning.{Place, TempAt, BaseAt, DeltaAt, whole}
+use Rattle.homeo_meaning.specs.LowMeaning.{Location, TempAt, BaseAt, DeltaAt, whole}
 use Rattle.homeo_meaning.specs.LowWeights.{first_weights, is_light}
 use Rattle.homeo_meaning.specs.Schema.{Schema}
 use Rattle.homeo_meaning.specs.Bounds.{Bounds, IsIn, all_bounds, bounds_at, AllWithin}
@@ -75,7 +75,7 @@ start k i x base h =
           sorted = (tt, tt);
         }
 
-    ones : (p : Place) → 1 ≤ first_weights x p
+    ones : (p : Location) → 1 ≤ first_weights x p
     ones (TempAt t) = omega arith
     ones (BaseAt n) = one_at (all_bounds x) n
     ones (DeltaAt n j) = omega arith

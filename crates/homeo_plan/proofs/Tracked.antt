@@ -6,7 +6,7 @@ use Rattle.std.proofs.lemmas.Int.{ints}
 use Rattle.std.proofs.lemmas.Bool.Decides.{nat_tests}
 use Rattle.std.specs.Ordering.{int_eq}
 use Rattle.homeo_syntax.specs.Low.{Expr, Exprs, Literal, OfTemp, Read, Sum, Product, Neg, NoExpr, MoreExpr}
-use Rattle.homeo_meaning.specs.LowMeaning.{Place, TempAt, DeltaAt, State, place_of, value, sum_value, product_value}
+use Rattle.homeo_meaning.specs.LowMeaning.{Location, TempAt, DeltaAt, State, location_of, value, sum_value, product_value}
 use Rattle.homeo_plan.specs.declared.forms.Delta.{Delta}
 use Rattle.homeo_plan.specs.declared.forms.Term.{Term}
 use Rattle.homeo_plan.specs.Linear.{same_delta, delta_before, Linear, add_delta, add_deltas, with_term, add_term, add_terms, scale_terms, deltas_of, constant_form, add_forms, scale_form, is_empty, is_pure, support, mix_forms, multiply_forms, Forms, form, sum_form, product_form, terms_value, form_value, IsZeroAt}
@@ -279,7 +279,7 @@ tracks_negation a s s' x x' hx =
 -- two states whose values the forms track, from two states at the start
 abbrev pub TracksAll : Forms → State → State → State → State → Type 0
 unfolding words meaning_words
-TracksAll f s s' u u' = (p : Place) → Tracks (f p) s s' (u p) (u' p)
+TracksAll f s s' u u' = (p : Location) → Tracks (f p) s s' (u p) (u' p)
 
 module _ (f : Forms) (s s' u u' : State) (h : TracksAll f s s' u u') where
   mutual
@@ -288,7 +288,7 @@ module _ (f : Forms) (s s' u u' : State) (h : TracksAll f s s' u u') where
     pub tracks : (e : Expr) → Tracks (form f e) s s' (value e u) (value e u')
     tracks (Literal n) = tracks_constant n s s'
     tracks (OfTemp t) = h (TempAt t)
-    tracks (Read x) = h (place_of x)
+    tracks (Read x) = h (location_of x)
     tracks (Sum es) = tracks_sum es (constant_form (pos 0)) (pos 0) (pos 0) (tracks_constant (pos 0) s s')
     tracks (Product es) = tracks_product es (constant_form (pos 1)) (pos 1) (pos 1) (tracks_constant (pos 1) s s')
     tracks (Neg e) = tracks_negation (form f e) s s' (value e u) (value e u') (tracks e)

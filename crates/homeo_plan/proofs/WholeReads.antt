@@ -6,7 +6,7 @@ use Rattle.std.specs.Int.RustNames.{unsigned_abs}
 use Rattle.std.proofs.lemmas.Int.{ints}
 use Rattle.std.proofs.lemmas.Bool.Decides.{nat_tests}
 use Rattle.homeo_syntax.specs.declared.low.Temp.{Temp}
-use Rattle.homeo_meaning.specs.LowMeaning.{Place, TempAt, BaseAt, DeltaAt}
+use Rattle.homeo_meaning.specs.LowMeaning.{Location, TempAt, BaseAt, DeltaAt}
 use Rattle.homeo_meaning.specs.Small.{IsSmall}
 use Rattle.homeo_plan.specs.Split.{delta_reads}
 use Rattle.homeo_plan.specs.declared.forms.Delta.{Delta}
@@ -24,12 +24,12 @@ pub record Own (k i : ℕ) (base : ℕ → ℤ) (x n : ℕ) (a : Linear) : Type 
   pub sorted : Sorted a.terms
 
 -- the weights v bound the forms that a command of site i has made from a base
-pub record Holds (k i : ℕ) (base : ℕ → ℤ) (v : Place → ℕ) (f : Forms) : Type 0 where
+pub record Holds (k i : ℕ) (base : ℕ → ℤ) (v : Location → ℕ) (f : Forms) : Type 0 where
   pub temps : (t : Temp) → Within (v (TempAt t)) (f (TempAt t))
   pub bases : (x : ℕ) → Shape (base x) (λ d. pos 0) (f (BaseAt x))
   pub deltas : (x j : ℕ) → (i == j) ≡ false → Shape (pos 0) (at_delta (delta_of x j) (pos 1)) (f (DeltaAt x j))
   pub own : (x : ℕ) → Own k i base x (v (BaseAt x)) (f (DeltaAt x i))
-  pub ones : (p : Place) → 1 ≤ v p
+  pub ones : (p : Location) → 1 ≤ v p
 
 at_delta_bit : (b : Bool) → unsigned_abs (cond b (pos 1) (pos 0)) ≤ 1
 at_delta_bit true = omega arith

@@ -3,7 +3,7 @@ use Rattle.homeo_plan.specs.Key.{words}
 use Rattle.homeo_meaning.specs.Key.{words as meaning_words}
 use Rattle.std.proofs.Common.{ℕ, ◌≤◌, List, [], ◌∷◌, ℤ, pos, arith}
 use Rattle.homeo_syntax.specs.Low.{Expr, Exprs, Literal, OfTemp, Read, Sum, Product, Neg, NoExpr, MoreExpr, Test, Cond, True, Not, Comparison, NoTest, MoreTest, Commands, Skip, Assign, Write, Print, Seq, If, NoCommand, MoreCommand}
-use Rattle.homeo_meaning.specs.LowMeaning.{TempAt, place_of, put}
+use Rattle.homeo_meaning.specs.LowMeaning.{TempAt, location_of, put}
 use Rattle.homeo_meaning.specs.Small.{IsSmall}
 use Rattle.homeo_plan.specs.Each.{Each}
 use Rattle.homeo_plan.specs.Table.{Row}
@@ -65,7 +65,7 @@ module _ (P Q : ℤ → Type 0) (q : (z : ℤ) → P z → Q z) where
   follow_wider f (MoreCommand (Assign t e) cs) h =
       (form_wider f e h.0, follow_wider (put f (TempAt t) (form f e)) cs h.1)
   follow_wider f (MoreCommand (Write x e) cs) h =
-      (form_wider f e h.0, follow_wider (put f (place_of x) (form f e)) cs h.1)
+      (form_wider f e h.0, follow_wider (put f (location_of x) (form f e)) cs h.1)
   follow_wider f (MoreCommand (Print e) cs) h = (form_wider f e h.0, follow_wider f cs h.1)
   follow_wider f (MoreCommand (Seq ds) cs) h = follow_wider f cs h
   follow_wider f (MoreCommand (If b c d) cs) h = follow_wider f cs h

@@ -6,7 +6,7 @@ use Rattle.std.specs.Int.RustNames.{unsigned_abs}
 use Rattle.std.proofs.lemmas.Int.{ints}
 use Rattle.homeo_syntax.specs.declared.low.SplitName.TheVariants as split
 use Rattle.homeo_syntax.specs.Low.{Expr, Exprs, Read, Sum, Neg, MoreExpr}
-use Rattle.homeo_meaning.specs.LowMeaning.{Place, BaseAt, DeltaAt}
+use Rattle.homeo_meaning.specs.LowMeaning.{Location, BaseAt, DeltaAt}
 use Rattle.homeo_meaning.specs.Small.{IsSmall}
 use Rattle.homeo_plan.specs.Split.{other_deltas}
 use Rattle.homeo_plan.specs.declared.forms.Delta.{Delta}
@@ -132,7 +132,7 @@ pub record Wrote (Can : Type 0) (k i : ℕ) (base : ℕ → ℤ) (x n : ℕ) (a 
 off_size : (z y : ℤ) (n b : ℕ) → unsigned_abs z ≤ n → unsigned_abs y ≤ b → unsigned_abs (z +ℤ (negsuc 0 *ℤ y)) ≤ n + b
 off_size z y n b h l = grind (arith, ints, h, l, minus_one y)
 
-module _ (b k i : ℕ) (base : ℕ → ℤ) (small : (x : ℕ) → unsigned_abs (base x) ≤ b) (v : Place → ℕ) (f : Forms) (h : Holds k i base v f) where
+module _ (b k i : ℕ) (base : ℕ → ℤ) (small : (x : ℕ) → unsigned_abs (base x) ≤ b) (v : Location → ℕ) (f : Forms) (h : Holds k i base v f) where
   pub written :
       (x n : ℕ) (e : Expr) → 1 ≤ n → n ≤ b → Made (CanForm (IsSmall (2 * b + 1)) f e) n (form f e) →
       Wrote (CanForm (IsSmall (2 * b + 1)) f (own_value k i x e)) k i base x n (form f (own_value k i x e))

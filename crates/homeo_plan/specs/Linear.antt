@@ -3,7 +3,7 @@
 use Rattle.std.specs.Prelude.{◌≡◌, ℕ, ◌==◌, nat_lt, Bool, true, false, cond, ◌&&◌, ◌||◌, List, [], ◌∷◌, map, ℤ, pos, negsuc, ◌+ℤ◌, ◌*ℤ◌}
 use Rattle.std.specs.Ordering.{int_eq}
 use Rattle.homeo_syntax.specs.Low.{Expr, Exprs, Literal, OfTemp, Read, Sum, Product, Neg, NoExpr, MoreExpr}
-use Rattle.homeo_meaning.specs.LowMeaning.{Place, TempAt, BaseAt, DeltaAt, State, place_of}
+use Rattle.homeo_meaning.specs.LowMeaning.{Location, TempAt, BaseAt, DeltaAt, State, location_of}
 use Rattle.homeo_plan.specs.declared.forms.Delta.{Delta}
 use Rattle.homeo_plan.specs.declared.forms.Term.{Term}
 use Rattle.homeo_plan.specs.Key.{words}
@@ -122,7 +122,7 @@ multiply_forms a b =
 
 -- a form for what stands at each place of a state
 abbrev pub Forms : Type 0
-Forms = Place → Linear
+Forms = Location → Linear
 
 -- at a base b: temporaries are 0, bases are numbers, and each delta is itself
 abbrev pub base_forms : (ℕ → ℤ) → Forms
@@ -138,7 +138,7 @@ abbrev mutual
   pub form : Forms → Expr → Linear
   form f (Literal n) = constant_form n
   form f (OfTemp t) = f (TempAt t)
-  form f (Read x) = f (place_of x)
+  form f (Read x) = f (location_of x)
   form f (Sum es) = sum_form f (constant_form (pos 0)) es
   form f (Product es) = product_form f (constant_form (pos 1)) es
   form f (Neg e) = scale_form (negsuc 0) (form f e)

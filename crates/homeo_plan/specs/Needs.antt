@@ -4,7 +4,7 @@ use Rattle.std.specs.Prelude.{ℕ, ◌==◌, cond, List, [], ◌∷◌, ℤ}
 use Rattle.homeo_syntax.specs.declared.low.SplitName.{SplitName}
 use Rattle.homeo_syntax.specs.declared.low.SplitName.TheVariants as split
 use Rattle.homeo_syntax.specs.Low.{Command, Commands, Assign, Write, Print, NoCommand, MoreCommand}
-use Rattle.homeo_meaning.specs.LowMeaning.{TempAt, DeltaAt, place_of, put}
+use Rattle.homeo_meaning.specs.LowMeaning.{TempAt, DeltaAt, location_of, put}
 use Rattle.homeo_plan.specs.Key.{words}
 use Rattle.homeo_plan.specs.declared.forms.Delta.{Delta}
 use Rattle.homeo_plan.specs.Linear.{delta_of, add_delta, add_deltas, support, Forms, base_forms, form}
@@ -33,7 +33,7 @@ abbrev pub needs_from : ℕ → Forms → List Delta → Commands → List Delta
 unfolding words
 needs_from i f ds NoCommand = written_needs i f ds
 needs_from i f ds (MoreCommand (Assign t e) cs) = needs_from i (put f (TempAt t) (form f e)) ds cs
-needs_from i f ds (MoreCommand (Write x e) cs) = needs_from i (put f (place_of x) (form f e)) (add_written x ds) cs
+needs_from i f ds (MoreCommand (Write x e) cs) = needs_from i (put f (location_of x) (form f e)) (add_written x ds) cs
 needs_from i f ds (MoreCommand (Print e) cs) = add_deltas (remote i (support (form f e))) (needs_from i f ds cs)
 needs_from i f ds (MoreCommand _ cs) = needs_from i f ds cs
 
