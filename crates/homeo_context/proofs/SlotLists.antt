@@ -12,12 +12,10 @@ use Rattle.homeo_context.specs.Slots.{plain_slot, slots_of}
 
 -- the slot of a number
 abbrev pub slot_of : Slots → ℕ → Slot
-unfolding words
 slot_of t i = record { number = i; used = t.first + i * (1 + length t.fields.now); fields = map declared_range t.fields.now }
 
 -- the slots from a number on
 abbrev pub left : Slots → ℕ → List Slot
-unfolding words
 left t i = slots_from i (t.first + i * (1 + length t.fields.now)) (map declared_range t.fields.now) (t.count - i)
 
 pub slot_is : (t : Slots) (i : ℕ) (s : code.Slot) → s.number ≡ i → s.used ≡ t.first + i * (1 + length t.fields.now) → s.fields.now ≡ t.fields.now → plain_slot s ≡ slot_of t i

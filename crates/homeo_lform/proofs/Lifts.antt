@@ -10,11 +10,9 @@ use Rattle.homeo_meaning.specs.LForm.{Lifted, both, one, in_front, plain, mapped
 
 -- the source's state in a state of L
 abbrev pub seen : M.State → State
-unfolding words
 seen s = record { database = λ x. s (M.BaseAt x); temps = λ x. s (M.TempAt (temp.Named x)) }
 
 abbrev pub seen_run : M.Run → Run
-unfolding words
 seen_run r = record { state = seen r.state; prints = r.prints }
 
 abbrev pub quiet : M.State → M.Run

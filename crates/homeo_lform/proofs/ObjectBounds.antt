@@ -144,7 +144,6 @@ count_end g first (r ∷ rs) h =
 
 -- ---- the declarations of a workload
 abbrev pub all_at : Schema → ℕ → Bounds
-unfolding words
 all_at w x = bounds_at (all_bounds w) x
 
 relations_begin : (w : Schema) → Begins (all_at w) (length w.objects) (relation_bounds w.relations)

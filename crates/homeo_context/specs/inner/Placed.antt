@@ -3,16 +3,13 @@ use Rattle.std.specs.Prelude.{◌≡◌, ◌≤◌, ◌<◌, ◌^◌, ◌+◌, �
 use Rattle.homeo_syntax.specs.declared.workload.ObjectDecl.{ObjectDecl}
 use Rattle.homeo_syntax.specs.declared.workload.RelationDecl.{RelationDecl}
 use Rattle.homeo_context.specs.declared.declarations.Placed.{Placed}
-use Rattle.homeo_meaning.specs.Key.{words}
 use Rattle.homeo_meaning.specs.Schema.{Relation, declared_range, nat_of}
 
 abbrev pub placed_relation : Placed → Relation
-unfolding words
 placed_relation p = record { name = p.name; slots = p.slots; fields = map declared_range p.fields.items }
 
 -- relations one after another, whose first object is that of number k
 abbrev pub StandFrom : ℕ → List Placed → Type 0
-unfolding words
 StandFrom k [] = Unit {0}
 StandFrom k (p ∷ ps) =
     (p.first ≡ k) × (k + p.slots * (1 + length p.fields.items) < 2 ^ 32) × StandFrom (k + p.slots * (1 + length p.fields.items)) ps
