@@ -39,7 +39,10 @@ read_Delta k x j = refl
 pub ruleset reads = (low_Sum, low_Read, read_Whole, read_Base, read_Delta)
 
 -- one more site
-pub pushed_read : (old new : List LExpr) (x j : ℕ) → new ≡ old ++ Read (Delta x j) ∷ [] → map plain_lexpr old ≡ l.Read (Base x) ∷ map (delta_at x) (range_with_len 0 j) → map plain_lexpr new ≡ l.Read (Base x) ∷ map (delta_at x) (range_with_len 0 (j + 1))
+pub pushed_read :
+    (old new : List LExpr) (x j : ℕ) → new ≡ old ++ Read (Delta x j) ∷ [] →
+    map plain_lexpr old ≡ l.Read (Base x) ∷ map (delta_at x) (range_with_len 0 j) →
+    map plain_lexpr new ≡ l.Read (Base x) ∷ map (delta_at x) (range_with_len 0 (j + 1))
 pushed_read old new x j e h =
     ap (map plain_lexpr) e ∙ map-append plain_lexpr old (Read (Delta x j) ∷ [])
     ∙ ap₂ (λ es d. es ++ d ∷ []) h (low_Read (Delta x j))
@@ -64,7 +67,9 @@ others_are i x j (suc n) = go (i == j) (others_are i x (suc j) n ∙ ap (λ m. l
     go true h = h
     go false h = ap (l.MoreExpr (minus_delta x j)) h
 
-pub write_Whole : (k i x : ℕ) (e : l.Expr) → shift_write k i (Whole x) e ≡ l.Write (Delta x i) (l.Sum (low_exprs (e ∷ l.Neg (l.Read (Base x)) ∷ map (minus_delta x) (others i 0 k))))
+pub write_Whole :
+    (k i x : ℕ) (e : l.Expr) → shift_write k i (Whole x) e ≡
+    l.Write (Delta x i) (l.Sum (low_exprs (e ∷ l.Neg (l.Read (Base x)) ∷ map (minus_delta x) (others i 0 k))))
 unfolding words tree_words
 write_Whole k i x e = ap (λ es. l.Write (Delta x i) (l.Sum (l.MoreExpr e (l.MoreExpr (l.Neg (l.Read (Base x))) es)))) (others_are i x 0 k)
 
@@ -96,12 +101,17 @@ others_more i j v q =
 
 -- one more site, with or without its read
 module _ (x i j : ℕ) (a b : l.Expr) where
-  pub skipped_other : (terms : List LExpr) → i ≡ j → map plain_lexpr terms ≡ a ∷ b ∷ map (minus_delta x) (others i 0 j) → map plain_lexpr terms ≡ a ∷ b ∷ map (minus_delta x) (others i 0 (j + 1))
+  pub skipped_other :
+      (terms : List LExpr) → i ≡ j → map plain_lexpr terms ≡ a ∷ b ∷ map (minus_delta x) (others i 0 j) →
+      map plain_lexpr terms ≡ a ∷ b ∷ map (minus_delta x) (others i 0 (j + 1))
   skipped_other terms e h =
       let q : (i == j) ≡ true = grind (arith, nat_tests) in
       h ∙ ap (λ ns. a ∷ b ∷ map (minus_delta x) ns) (sym (others_more i j true q ∙ append-nil _))
 
-  pub pushed_other : (old new : List LExpr) (r : LExpr) → i ≢ j → plain_lexpr r ≡ minus_delta x j → new ≡ old ++ r ∷ [] → map plain_lexpr old ≡ a ∷ b ∷ map (minus_delta x) (others i 0 j) → map plain_lexpr new ≡ a ∷ b ∷ map (minus_delta x) (others i 0 (j + 1))
+  pub pushed_other :
+      (old new : List LExpr) (r : LExpr) → i ≢ j → plain_lexpr r ≡ minus_delta x j → new ≡ old ++ r ∷ [] →
+      map plain_lexpr old ≡ a ∷ b ∷ map (minus_delta x) (others i 0 j) →
+      map plain_lexpr new ≡ a ∷ b ∷ map (minus_delta x) (others i 0 (j + 1))
   pushed_other old new r ne is e h =
       let q : (i == j) ≡ false = grind (arith, nat_tests) in
       ap (map plain_lexpr) e ∙ map-append plain_lexpr old (r ∷ []) ∙ ap₂ (λ es t. es ++ t ∷ []) h is

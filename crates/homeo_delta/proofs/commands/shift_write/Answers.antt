@@ -11,7 +11,9 @@ use Rattle.homeo_delta.proofs.commands.shift_write.Goals as goal
 pub loop-other-preserved : goal.loop-other-preserved
 loop-other-preserved c =
     let object = c.in-Whole.object in
-    let P = λ (l : Listed LExpr). map plain_lexpr l.items ≡ plain_lexpr c.args.value ∷ low.Neg (low.Read (Base object)) ∷ map (minus_delta object) (others c.args.site 0 (c.loop-other.other + 1)) in
+    let P = λ (l : Listed LExpr).
+    map plain_lexpr l.items ≡
+    plain_lexpr c.args.value ∷ low.Neg (low.Read (Base object)) ∷ map (minus_delta object) (others c.args.site 0 (c.loop-other.other + 1)) in
     elim c.if-other-site.branch [
       | then-other-site+in_ok-minus-in-Whole-2+in_ok-push-in-Whole-3 w ↦
           let apart : c.args.site ≢ c.loop-other.other = omega (arith, w.if-other-site.true) in

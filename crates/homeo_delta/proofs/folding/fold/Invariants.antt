@@ -1,6 +1,6 @@
 use Rattle.std.proofs.Common.{◌≡◌}
 use Rattle.homeo_meaning.specs.Serial.{values_from}
-use Rattle.homeo_delta.specs.Fold.{folded_at}
+use Rattle.homeo_delta.specs.Folding.{folded_at}
 use Rattle.homeo_delta.proofs.folding.fold.Given as goal
 
 abbrev pub invariant-loop-object : goal.invariant-loop-object

@@ -1,5 +1,5 @@
 use Rattle.std.proofs.Common.{◌≡◌}
-use Rattle.homeo_delta.specs.Fold.{folded_of}
+use Rattle.homeo_delta.specs.Folding.{folded_of}
 use Rattle.homeo_delta.proofs.folding.fold_object.Given as goal
 
 abbrev pub invariant-loop-deltas : goal.invariant-loop-deltas
