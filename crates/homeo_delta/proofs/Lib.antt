@@ -1,0 +1,4 @@
+pub mod DeltaReads
+pub mod Folds
+pub mod Following
+pub mod Shifts
