@@ -2,3 +2,4 @@ pub mod CallForms
 pub mod Example
 pub mod RelationTexts
 pub mod RuleTexts
+pub mod SplitExample

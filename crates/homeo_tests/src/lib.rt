@@ -9,6 +9,8 @@ mod forms;
 #[cfg(test)]
 mod printing;
 #[cfg(test)]
+mod sites;
+#[cfg(test)]
 mod sizes;
 #[cfg(test)]
 mod values;
