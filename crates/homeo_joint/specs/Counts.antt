@@ -16,6 +16,10 @@ abbrev pub product_of : List ℕ → ℕ
 product_of [] = 1
 product_of (n ∷ ns) = n * product_of ns
 
+-- the most rows that a joint table may have
+abbrev pub row_limit : ℕ
+row_limit = 1024
+
 -- up to this place, and not before it, the product of numbers exceeds the limit: it is p there
 pub record IsFirstOver (limit : ℕ) (ns : List ℕ) (place p : ℕ) : Type 0 where
   pub exists : place < length ns

@@ -3,11 +3,11 @@
 ghost use Rattle.std.specs.Prelude.{◌≡◌, ℕ, ◌^◌, ◌<◌, ◌≤◌, map, length, vec_len, pos, ◌↔◌, IfOk, IsErrAnd};
 ghost use Rattle.std.specs.List.{All};
 ghost use Rattle.homeo_plan.specs.Joint.{joint_picks};
-ghost use Rattle.homeo_joint.specs.Counts.{plain_table, row_counts, product_of, IsFirstOver};
+ghost use Rattle.homeo_joint.specs.Counts.{plain_table, row_counts, product_of, row_limit, IsFirstOver};
 ghost use Rattle.homeo_joint.specs.TooMany.{IsTooMany};
 ghost use Rattle.homeo_joint.specs.inner.Digits.{digits};
 
-use crate::size::{JointError, MOST_ROWS, joint_size};
+use crate::size::{JointError, joint_size};
 use homeo_plan::{JointRow, Row};
 use homeo_syntax::{List, Memory, Numbers};
 use std::alloc::Global;
@@ -25,8 +25,8 @@ pub fn joint(alloc: Global, tables: &[Vec<Row>]) -> Result<Vec<JointRow>, JointE
     requires some { All (λ t. 1 ≤ vec_len t) tables.now }
     requires counted { All (λ t. vec_len t < 2 ^ 32) tables.now }
     ensures picks { IfOk result (λ rows. map (λ r. r.picks.items) rows.items ≡ map (map pos) (joint_picks (map plain_table tables.now))) }
-    ensures over { IsErrAnd result IsTooMany ↔ (MOST_ROWS < product_of (row_counts tables.now)) }
-    ensures first { (t p : ℕ) → result ≡ Err (JointError.TooMany t p) → IsFirstOver MOST_ROWS (row_counts tables.now) t p }
+    ensures over { IsErrAnd result IsTooMany ↔ (row_limit < product_of (row_counts tables.now)) }
+    ensures first { (t p : ℕ) → result ≡ Err (JointError.TooMany t p) → IsFirstOver row_limit (row_counts tables.now) t p }
 {
     let size = joint_size(tables)?;
     let rows = joint_rows(alloc, tables, size)?;
@@ -36,7 +36,7 @@ pub fn joint(alloc: Global, tables: &[Vec<Row>]) -> Result<Vec<JointRow>, JointE
 fn joint_rows(alloc: Global, tables: &[Vec<Row>], size: u64) -> Result<Vec<JointRow>, Memory>
     requires some { All (λ t. 1 ≤ vec_len t) tables.now }
     requires size { size ≡ product_of (row_counts tables.now) }
-    requires within { size ≤ MOST_ROWS }
+    requires within { size ≤ row_limit }
     ensures { IfOk result (λ rows. map (λ r. r.picks.items) rows.items ≡ map (map pos) (joint_picks (map plain_table tables.now))) }
 {
     let mut rows = Vec::new(alloc);
@@ -51,7 +51,7 @@ fn joint_rows(alloc: Global, tables: &[Vec<Row>], size: u64) -> Result<Vec<Joint
 fn picks_at(alloc: Global, tables: &[Vec<Row>], size: u64, number: u64) -> Result<Numbers, Memory>
     requires some { All (λ t. 1 ≤ vec_len t) tables.now }
     requires size { size ≡ product_of (row_counts tables.now) }
-    requires within { size ≤ MOST_ROWS }
+    requires within { size ≤ row_limit }
     requires exists { number < size }
     ensures { IfOk result (λ picks. picks.items ≡ map pos (digits (row_counts tables.now) number)) }
 {

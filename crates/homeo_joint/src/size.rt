@@ -2,7 +2,7 @@
 
 ghost use Rattle.std.specs.Prelude.{◌≡◌, ℕ, ◌^◌, ◌<◌, ◌≤◌, length, vec_len, IfErr, IfOk};
 ghost use Rattle.std.specs.List.{All};
-ghost use Rattle.homeo_joint.specs.Counts.{row_counts, product_of, IsFirstOver};
+ghost use Rattle.homeo_joint.specs.Counts.{row_counts, product_of, row_limit, IsFirstOver};
 ghost use Rattle.homeo_joint.specs.TooMany.{IsTooMany};
 
 use homeo_plan::Row;
@@ -42,9 +42,9 @@ pub(crate) fn joint_size(tables: &[Vec<Row>]) -> Result<u64, JointError>
     requires some { All (λ t. 1 ≤ vec_len t) tables.now }
     requires counted { All (λ t. vec_len t < 2 ^ 32) tables.now }
     ensures size { IfOk result (λ n. n ≡ product_of (row_counts tables.now)) }
-    ensures within { IfOk result (λ n. n ≤ MOST_ROWS) }
+    ensures within { IfOk result (λ n. n ≤ row_limit) }
     ensures error { IfErr result IsTooMany }
-    ensures first { (t p : ℕ) → result ≡ Err (JointError.TooMany t p) → IsFirstOver MOST_ROWS (row_counts tables.now) t p }
+    ensures first { (t p : ℕ) → result ≡ Err (JointError.TooMany t p) → IsFirstOver row_limit (row_counts tables.now) t p }
 {
     let mut product = 1;
     for (table, rows) in tables.iter().enumerate() {
