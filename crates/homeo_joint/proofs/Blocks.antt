@@ -1,0 +1,102 @@
+-- The numbers of joint rows by their digits are the picks of the joint table.
+use Rattle.homeo_plan.specs.Key.{words}
+use Rattle.std.proofs.Common.{◌≡◌, ℕ, zero, suc, ◌+◌, ◌*◌, ◌<◌, ◌≤◌, ◌/◌, ◌%◌, List, [], ◌∷◌, ◌++◌, map, drop, length, pos, ℤ, ◌^◌, w64, to_z, Global, refl, sym, ap, ap₂, ◌∙◌, arith}
+use Rattle.std.specs.Prelude.{slice_index_or, Vec, vec_len}
+use Rattle.std.specs.List.{All}
+use Rattle.std.proofs.Math.Nat.{div-le_self}
+use Rattle.std.proofs.lemmas.Int.{to_z_pos}
+use Rattle.std.proofs.lemmas.List.{append-nil, append_assoc, map_push, length-map}
+use Rattle.std.proofs.lemmas.Nat.{div-mul-add, mod-mul-add}
+use Rattle.homeo_plan.specs.declared.rows.Row as rows
+use Rattle.homeo_plan.specs.PlanView.{plain_row}
+use Rattle.homeo_plan.specs.Table.{Row}
+use Rattle.homeo_plan.specs.Joint.{picks_from, joint_picks}
+use Rattle.homeo_joint.specs.Counts.{plain_table, row_counts, product_of}
+use Rattle.homeo_joint.specs.inner.Digits.{digits, digits_below}
+use Rattle.homeo_joint.proofs.Products.{counts-drop, alike-more}
+
+-- a first digit in front of the others
+abbrev after : ℕ → List ℕ → List ℕ
+after n ds = n ∷ ds
+
+-- a number in the block of its first digit
+in_block : (a : ℕ) (ns : List ℕ) (k j : ℕ) → j < product_of ns → digits (a ∷ ns) (k * product_of ns + j) ≡ k ∷ digits ns j
+in_block a ns k j h = ap₂ (λ q r. q ∷ digits ns r) (div-mul-add k (product_of ns) j h) (mod-mul-add k (product_of ns) j h)
+
+block :
+    (a : ℕ) (ns : List ℕ) (k j : ℕ) → j ≤ product_of ns →
+    digits_below (a ∷ ns) (k * product_of ns + j) ≡ digits_below (a ∷ ns) (k * product_of ns) ++ map (after k) (digits_below ns j)
+block a ns k zero h =
+    let e : k * product_of ns + 0 ≡ k * product_of ns = omega arith in
+    ap (digits_below (a ∷ ns)) e ∙ sym (append-nil (digits_below (a ∷ ns) (k * product_of ns)))
+block a ns k (suc j) h =
+    let start : ℕ = k * product_of ns in
+    let below : j < product_of ns = omega arith in
+    let le : j ≤ product_of ns = omega arith in
+    let e : start + suc j ≡ suc (start + j) = omega arith in
+    ap (digits_below (a ∷ ns)) e
+    ∙ ap₂ (λ l ds. l ++ ds ∷ []) (block a ns k j le) (in_block a ns k j below)
+    ∙ append_assoc (digits_below (a ∷ ns) start) (map (after k) (digits_below ns j)) ((k ∷ digits ns j) ∷ [])
+    ∙ ap (λ l. digits_below (a ∷ ns) start ++ l) (sym (map_push (after k) (digits_below ns j) (digits ns j)))
+
+blocks :
+    (a : ℕ) (ns : List ℕ) (n : ℕ) (rs : List Row) →
+    digits_below (a ∷ ns) (n * product_of ns) ++ picks_from n rs (digits_below ns (product_of ns)) ≡
+    digits_below (a ∷ ns) ((n + length rs) * product_of ns)
+unfolding words
+blocks a ns n [] =
+    let e : n ≡ n + 0 = omega arith in
+    append-nil (digits_below (a ∷ ns) (n * product_of ns)) ∙ ap (λ m. digits_below (a ∷ ns) (m * product_of ns)) e
+blocks a ns n (r ∷ rs) =
+    let p : ℕ = product_of ns in
+    let choices : List (List ℕ) = digits_below ns p in
+    let le : product_of ns ≤ product_of ns = omega arith in
+    let next : n * product_of ns + product_of ns ≡ (n + 1) * product_of ns = omega arith in
+    let on : (n + 1) + length rs ≡ n + suc (length rs) = omega arith in
+    sym (append_assoc (digits_below (a ∷ ns) (n * p)) (map (after n) choices) (picks_from (n + 1) rs choices))
+    ∙ ap (λ l. l ++ picks_from (n + 1) rs choices) (sym (block a ns n p le) ∙ ap (digits_below (a ∷ ns)) next)
+    ∙ blocks a ns (n + 1) rs
+    ∙ ap (λ m. digits_below (a ∷ ns) (m * p)) on
+
+pub joint-digits : (ts : List (List Row)) → digits_below (map length ts) (product_of (map length ts)) ≡ joint_picks ts
+unfolding words
+joint-digits [] = refl
+joint-digits (t ∷ ts) =
+    let ns : List ℕ = map length ts in
+    let e : length t ≡ 0 + length t = omega arith in
+    let none : 0 ≡ 0 * product_of ns = omega arith in
+    ap (λ m. digits_below (length t ∷ ns) (m * product_of ns)) e
+    ∙ sym (blocks (length t) ns 0 t)
+    ∙ sym (ap (λ m. digits_below (length t ∷ ns) m ++ picks_from 0 t (digits_below ns (product_of ns))) none)
+    ∙ ap (picks_from 0 t) (joint-digits ts)
+
+-- ---- a joint row's picks, and the joint rows
+pub picks-more :
+    {A : Type 0} (ts : List (Vec rows.Row A)) (i : ℕ) (t : Vec rows.Row A) → All (λ t. 1 ≤ vec_len t) ts → i < length ts →
+    t ≡ slice_index_or ts i t → (a n b : ℕ) → a ≡ product_of (drop i (row_counts ts)) → n ≡ vec_len t → a ≤ 1024 → b < a →
+    (before after whole : List ℤ) → before ++ map pos (digits (drop i (row_counts ts)) b) ≡ whole →
+    after ≡ before ++ to_z w64 (b / (a / n)) ∷ [] →
+    after ++ map pos (digits (drop (i + 1) (row_counts ts)) (b % (a / n))) ≡ whole
+picks-more ts i t all h is a n b e len within below before after whole f made =
+    let rest : List ℕ = drop (i + 1) (row_counts ts) in
+    let q : ℕ = b / (a / n) in
+    let small : q < 2 ^ 63 = omega (arith, div-le_self b (a / n)) in
+    let pick : to_z w64 q ≡ pos q = to_z_pos w64 q small in
+    let alike : a / n ≡ product_of rest = alike-more ts i t all h is a n e len in
+    let split : digits (drop i (row_counts ts)) b ≡ q ∷ digits rest (b % (a / n)) =
+    ap (λ ns. digits ns b) (counts-drop ts i t h is) ∙ sym (ap (λ m. (b / m) ∷ digits rest (b % m)) alike) in
+    ap₂ (λ l z. l ++ z) (made ∙ ap (λ z. before ++ z ∷ []) pick) refl
+    ∙ append_assoc before (pos q ∷ []) (map pos (digits rest (b % (a / n))))
+    ∙ sym (ap (λ ds. before ++ map pos ds) split)
+    ∙ f
+
+pub counts-plain : (ts : List (Vec rows.Row Global)) → row_counts ts ≡ map length (map plain_table ts)
+counts-plain [] = refl
+counts-plain (t ∷ ts) = ap₂ ◌∷◌ (t.ok.0 ∙ sym (length-map t.items plain_row)) (counts-plain ts)
+
+pub all_choices :
+    (ts : List (Vec rows.Row Global)) (size n : ℕ) → size ≡ product_of (row_counts ts) → n ≡ size →
+    digits_below (row_counts ts) n ≡ joint_picks (map plain_table ts)
+all_choices ts size n e f =
+    ap (digits_below (row_counts ts)) (f ∙ e) ∙ ap (λ ns. digits_below ns (product_of ns)) (counts-plain ts)
+    ∙ joint-digits (map plain_table ts)

@@ -1,0 +1,23 @@
+-- The error of the size is that of the joint table.
+use Rattle.std.proofs.Common.{◌≡◌, ℕ, ◌<◌, ◌≤◌, List, Result, Ok, Err, IsErrAnd, refl, ap}
+use Rattle.std.specs.List.{All}
+use Rattle.homeo_joint.specs.declared.size.JointError.{JointError}
+use Rattle.homeo_joint.specs.declared.size.JointError.TheVariants.{TooMany, Memory}
+use Rattle.homeo_joint.specs.Counts.{product_of, IsFirstOver}
+use Rattle.homeo_joint.specs.TooMany.{IsTooMany}
+use Rattle.homeo_joint.proofs.Products.{whole_over}
+
+pub passed_on : {T : Type 0} (r : Result T JointError) (e : JointError) → IsErrAnd r (λ x. x ≡ e) → r ≡ Err e
+passed_on (Ok x) e h = absurd h
+passed_on (Err x) e h = ap Err h
+
+pub one_error : {T : Type 0} (r : Result T JointError) (e f : JointError) → r ≡ Err e → r ≡ Err f → e ≡ f
+one_error r e f h k = cc
+
+-- the whole product exceeds the limit where the error says so
+pub over_err :
+    {T : Type 0} (limit : ℕ) (ns : List ℕ) → All (λ n. 1 ≤ n) ns → (r : Result T JointError) → IsErrAnd r IsTooMany →
+    ((t p : ℕ) → r ≡ Err (TooMany t p) → IsFirstOver limit ns t p) → limit < product_of ns
+over_err limit ns all (Ok x) h first = absurd h
+over_err limit ns all (Err (TooMany t p)) h first = whole_over limit ns t p all (first t p refl)
+over_err limit ns all (Err Memory) h first = absurd h

@@ -1,0 +1,68 @@
+//! The rows of a joint table.
+
+ghost use Rattle.std.specs.Prelude.{◌≡◌, ℕ, ◌^◌, ◌<◌, ◌≤◌, map, length, vec_len, pos, ◌↔◌, IfOk, IsErrAnd};
+ghost use Rattle.std.specs.List.{All};
+ghost use Rattle.homeo_plan.specs.Joint.{joint_picks};
+ghost use Rattle.homeo_joint.specs.Counts.{plain_table, row_counts, product_of, row_limit, IsFirstOver};
+ghost use Rattle.homeo_joint.specs.TooMany.{IsTooMany};
+ghost use Rattle.homeo_joint.specs.inner.Digits.{digits};
+
+use crate::size::{JointError, joint_size};
+use homeo_plan::{JointRow, Row};
+use homeo_syntax::{List, Memory, Numbers};
+use std::alloc::Global;
+
+/// The joint table (Roy et al., SIGMOD 2015): a row for each choice of one row of each table, with the numbers of the
+/// chosen rows, from 0, in the order of the tables. The last table's row changes fastest (this project's rule). No tables
+/// give one row, without picks. It takes time and memory linear in the picks.
+///
+/// # Errors
+///
+/// `TooMany` exactly where the product of the row counts exceeds `MOST_ROWS`: the first table at which the product of the
+/// counts up to it does, and that product. Else `Memory` when out of memory.
+pub fn joint(alloc: Global, tables: &[Vec<Row>]) -> Result<Vec<JointRow>, JointError>
+    requires few { length tables.now < 2 ^ 32 }
+    requires some { All (λ t. 1 ≤ vec_len t) tables.now }
+    requires counted { All (λ t. vec_len t < 2 ^ 32) tables.now }
+    ensures picks { IfOk result (λ rows. map (λ r. r.picks.items) rows.items ≡ map (map pos) (joint_picks (map plain_table tables.now))) }
+    ensures over { IsErrAnd result IsTooMany ↔ (row_limit < product_of (row_counts tables.now)) }
+    ensures first { (t p : ℕ) → result ≡ Err (JointError.TooMany t p) → IsFirstOver row_limit (row_counts tables.now) t p }
+{
+    let size = joint_size(tables)?;
+    let rows = joint_rows(alloc, tables, size)?;
+    Ok(rows)
+}
+
+fn joint_rows(alloc: Global, tables: &[Vec<Row>], size: u64) -> Result<Vec<JointRow>, Memory>
+    requires some { All (λ t. 1 ≤ vec_len t) tables.now }
+    requires size { size ≡ product_of (row_counts tables.now) }
+    requires within { size ≤ row_limit }
+    ensures { IfOk result (λ rows. map (λ r. r.picks.items) rows.items ≡ map (map pos) (joint_picks (map plain_table tables.now))) }
+{
+    let mut rows = Vec::new(alloc);
+    for number in 0..size {
+        let picks = picks_at(alloc, tables, size, number)?;
+        rows.push(JointRow { picks })?;
+    }
+    Ok(rows)
+}
+
+/// Of each table the number of its row in the joint row with this number, of `size`.
+fn picks_at(alloc: Global, tables: &[Vec<Row>], size: u64, number: u64) -> Result<Numbers, Memory>
+    requires some { All (λ t. 1 ≤ vec_len t) tables.now }
+    requires size { size ≡ product_of (row_counts tables.now) }
+    requires within { size ≤ row_limit }
+    requires exists { number < size }
+    ensures { IfOk result (λ picks. picks.items ≡ map pos (digits (row_counts tables.now) number)) }
+{
+    let mut picks = List::new(alloc);
+    // how many joint rows share the picks so far, and how many of these stand before this one
+    let mut alike = size;
+    let mut before = number;
+    for rows in tables {
+        alike /= rows.len() as u64;
+        picks.push((before / alike) as i64)?;
+        before %= alike;
+    }
+    Ok(picks)
+}

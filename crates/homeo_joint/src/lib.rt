@@ -1,0 +1,8 @@
+//! The joint table of symbolic tables: the choices of one row of each.
+#![tactic(auto)]
+
+mod choices;
+mod size;
+
+pub use choices::joint;
+pub use size::{JointError, MOST_ROWS};

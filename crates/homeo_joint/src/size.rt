@@ -1,0 +1,60 @@
+//! How many rows a joint table has.
+
+ghost use Rattle.std.specs.Prelude.{◌≡◌, ℕ, ◌^◌, ◌<◌, ◌≤◌, length, vec_len, IfErr, IfOk};
+ghost use Rattle.std.specs.List.{All};
+ghost use Rattle.homeo_joint.specs.Counts.{row_counts, product_of, row_limit, IsFirstOver};
+ghost use Rattle.homeo_joint.specs.TooMany.{IsTooMany};
+
+use homeo_plan::Row;
+use homeo_syntax::Memory;
+
+/// The most rows that a joint table may have.
+pub const MOST_ROWS: u64 = 1_024;
+
+/// Why there is no joint table.
+#[derive(Clone, Copy, Debug, PartialEq, Eq)]
+pub enum JointError {
+    /// It would have more than `MOST_ROWS` rows: the first table, from 0, up to which the tables have more choices than
+    /// that, and how many.
+    TooMany { table: u32, product: u64 },
+    /// Out of memory.
+    Memory,
+}
+
+impl From<Memory> for JointError {
+    ghost use Rattle.std.specs.Prelude.{◌≡◌};
+    ghost use Rattle.homeo_joint.specs.declared.size.JointError.TheVariants as error;
+
+    ghost from_gives = { λ _ e. e ≡ error.Memory };
+
+    fn from(_e: Memory) -> JointError {
+        JointError::Memory
+    }
+}
+
+/// The number of rows of the joint table.
+///
+/// # Errors
+///
+/// `TooMany` where it exceeds `MOST_ROWS`.
+pub(crate) fn joint_size(tables: &[Vec<Row>]) -> Result<u64, JointError>
+    requires few { length tables.now < 2 ^ 32 }
+    requires some { All (λ t. 1 ≤ vec_len t) tables.now }
+    requires counted { All (λ t. vec_len t < 2 ^ 32) tables.now }
+    ensures size { IfOk result (λ n. n ≡ product_of (row_counts tables.now)) }
+    ensures within { IfOk result (λ n. n ≤ row_limit) }
+    ensures error { IfErr result IsTooMany }
+    ensures first { (t p : ℕ) → result ≡ Err (JointError.TooMany t p) → IsFirstOver row_limit (row_counts tables.now) t p }
+{
+    let mut product = 1;
+    for (table, rows) in tables.iter().enumerate() {
+        product *= rows.len() as u64;
+        if product > MOST_ROWS {
+            return Err(JointError::TooMany {
+                table: table as u32,
+                product,
+            });
+        }
+    }
+    Ok(product)
+}
