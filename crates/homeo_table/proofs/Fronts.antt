@@ -29,7 +29,7 @@ rest-more cs left c rows some within is =
     let below : left - 1 < length cs = omega arith in
     let back : (left - 1) + 1 ≡ left = omega arith in
     let split : drop (left - 1) cs ≡ c ∷ drop left cs =
-        drop_more cs (left - 1) c below ∙ ap₂ ◌∷◌ (sym is) (ap (λ n. drop n cs) back) in
+    drop_more cs (left - 1) c below ∙ ap₂ ◌∷◌ (sym is) (ap (λ n. drop n cs) back) in
     ap (λ l. all_before (low_commands (map plain_lcommand l)) rows) split
 
 pub joined-if :
