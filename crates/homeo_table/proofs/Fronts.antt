@@ -1,5 +1,5 @@
 -- Commands in front of rows.
-use Rattle.std.proofs.Common.{◌≡◌, ℕ, ◌+◌, ◌-◌, ◌<◌, ◌≤◌, List, [], ◌∷◌, ◌++◌, map, drop, length, refl, sym, ap, ap₂, ◌∙◌, subst, arith}
+use Rattle.std.proofs.Common.{◌≡◌, ℕ, ◌+◌, ◌-◌, ◌<◌, ◌≤◌, List, [], ◌∷◌, ◌++◌, map, drop, length, sym, ap, ap₂, ◌∙◌, arith}
 use Rattle.std.specs.Prelude.{slice_index_or}
 use Rattle.std.proofs.lemmas.List.{map-append, drop_more, drop_all}
 use Rattle.homeo_syntax.specs.Key.{words as tree_words}
@@ -29,7 +29,7 @@ rest-more cs left c rows some within is =
     let below : left - 1 < length cs = omega arith in
     let back : (left - 1) + 1 ≡ left = omega arith in
     let split : drop (left - 1) cs ≡ c ∷ drop left cs =
-        drop_more cs (left - 1) c below ∙ ap₂ ◌∷◌ (sym is) (ap (λ n. drop n cs) back) in
+    drop_more cs (left - 1) c below ∙ ap₂ ◌∷◌ (sym is) (ap (λ n. drop n cs) back) in
     ap (λ l. all_before (low_commands (map plain_lcommand l)) rows) split
 
 pub joined-if :

@@ -27,13 +27,13 @@ before-returns-in_ok-no-in-If-2 t c =
     let b = plain_lcond c.in-If.test in
     let rows = map plain_making c.args.rows.items in
     let yes =
-        c.in_ok-yes-in-If-2.ensures
-        ∙ ap (map (test_before b)) (c.in_ok-yes-in-If.ensures ∙ ap (λ k. before (plain_lcommand k) rows) c.deref.ensures) in
+    c.in_ok-yes-in-If-2.ensures
+    ∙ ap (map (test_before b)) (c.in_ok-yes-in-If.ensures ∙ ap (λ k. before (plain_lcommand k) rows) c.deref.ensures) in
     let no =
-        c.in_ok-no-in-If-2.ensures
-        ∙ ap (map (test_before (otherwise b)))
-        (c.in_ok-no-in-If.ensures
-        ∙ ap₂ (λ k rs. before (plain_lcommand k) rs) c.deref-in-If.ensures (c.in_ok-others-in-If.ensures ∙ ap (map plain_making) c.as_slice-in-If.ensures.value)) in
+    c.in_ok-no-in-If-2.ensures
+    ∙ ap (map (test_before (otherwise b)))
+    (c.in_ok-no-in-If.ensures
+    ∙ ap₂ (λ k rs. before (plain_lcommand k) rs) c.deref-in-If.ensures (c.in_ok-others-in-If.ensures ∙ ap (map plain_making) c.as_slice-in-If.ensures.value)) in
     let is = ap plain_lcommand c.in-If.is ∙ low_If c.in-If.test c.in-If.yes c.in-If.no in
     IfOk-weaker c.joined.result _ _
     (λ r h. joined-if r.items _ _ b (plain_lcommand c.in-If.yes.value) (plain_lcommand c.in-If.no.value) _ rows h yes no is) c.joined.ensures
