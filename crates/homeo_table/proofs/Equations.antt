@@ -1,15 +1,14 @@
 -- The definitions form by form, as equations, which code rewrites by.
-use Rattle.std.proofs.Common.{◌≡◌, ℤ, pos, cond, List, [], ◌∷◌, ◌++◌, map, refl, ap, ap₂, ◌∙◌}
+use Rattle.std.proofs.Common.{◌≡◌, ℤ, pos, cond, List, [], ◌∷◌, ◌++◌, map, refl, ap}
 use Rattle.homeo_syntax.specs.Key.{words as tree_words}
-use Rattle.homeo_syntax.specs.declared.low.LExpr.{LExpr}
 use Rattle.homeo_syntax.specs.declared.low.Temp as t
 use Rattle.homeo_syntax.specs.declared.low.SplitName.{SplitName}
 use Rattle.homeo_syntax.specs.declared.phrase.Compare.{Compare}
-use Rattle.homeo_syntax.specs.Low.{Expr, Exprs, Literal, OfTemp, Read, Sum, Product, Neg, NoExpr, MoreExpr, Test, Cond, True, Not, Comparison, NoTest, MoreTest, Command, Commands, Skip, Assign, Write, Print, Seq, If, NoCommand, MoreCommand}
-use Rattle.homeo_syntax.specs.LowView.{low_exprs, low_tests, low_commands, plain_lexpr}
+use Rattle.homeo_syntax.specs.Low.{Expr, Literal, OfTemp, Read, Sum, Product, Neg, MoreExpr, Test, Cond, True, Not, Comparison, MoreTest, Command, Commands, Skip, Assign, Write, Print, Seq, If}
+use Rattle.homeo_syntax.specs.LowView.{low_exprs, low_tests, plain_lexpr}
 use Rattle.homeo_meaning.specs.LowMeaning.{Location, TempAt, location_of, same_location}
 use Rattle.homeo_plan.specs.Key.{words}
-use Rattle.homeo_plan.specs.Table.{Row, replace, replace_all, replace_cond, clear, clear_all, clear_cond, set_before, print_before, test_before, otherwise, before, all_before}
+use Rattle.homeo_plan.specs.Table.{Row, replace, replace_all, clear, clear_all, set_before, test_before, otherwise, before, all_before}
 use Rattle.homeo_table.specs.declared.substitution.Substitution.{Substitution}
 use Rattle.homeo_table.specs.declared.substitution.Substitution.TheVariants.{Replace, Clear}
 use Rattle.homeo_table.specs.declared.places.Place.{Place}

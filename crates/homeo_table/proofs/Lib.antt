@@ -1,3 +1,4 @@
 pub mod Equations
 pub mod Makings
 pub mod Fronts
+pub mod Held

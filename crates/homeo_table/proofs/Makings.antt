@@ -4,7 +4,7 @@ use Rattle.std.proofs.lemmas.List.{reverse-append, map_push}
 use Rattle.homeo_syntax.specs.Key.{words as tree_words}
 use Rattle.homeo_syntax.specs.declared.low.LTest.{LTest}
 use Rattle.homeo_syntax.specs.declared.low.LCommand.{LCommand}
-use Rattle.homeo_syntax.specs.Low.{Expr, Test, Cond, Not, MoreTest, NoTest, Command, MoreCommand}
+use Rattle.homeo_syntax.specs.Low.{Test, Cond, Not, MoreTest, Command}
 use Rattle.homeo_syntax.specs.LowView.{low_tests, low_commands, plain_lexpr, plain_ltest, plain_lcommand}
 use Rattle.homeo_plan.specs.Key.{words}
 use Rattle.homeo_plan.specs.Table.{Row, both, set_before, test_before, otherwise, clear_row, last_row}

@@ -2,8 +2,11 @@
 
 ghost use Rattle.std.specs.Prelude.{◌≡◌, ◌++◌, map, IfOk};
 ghost use Rattle.homeo_syntax.specs.LowView.{low_commands, plain_lexpr, plain_lcond, plain_lcommand};
+ghost use Rattle.homeo_plan.specs.Joint.{HasOneRow};
 ghost use Rattle.homeo_plan.specs.PlanView.{plain_row};
 ghost use Rattle.homeo_plan.specs.Table.{set_before, test_before, otherwise, before, all_before, clear_row, table};
+ghost use Rattle.homeo_split.specs.declared.split.Split.{Split};
+ghost use Rattle.homeo_split.specs.States.{state_of};
 ghost use Rattle.homeo_table.specs.inner.Places.{plain_place};
 ghost use Rattle.homeo_table.specs.inner.Makings.{plain_making, command_before};
 
@@ -16,13 +19,15 @@ use std::alloc::Global;
 /// The symbolic table of a command (Roy et al., SIGMOD 2015): for each of its branches a row, first those where the
 /// condition of the first `if` holds. Its formula says before the command when the branch is taken, and its residual has
 /// the assignments, writes and prints of the branch. A formula reads no temporary: it has 0 in place of what a temporary
-/// has as a call begins.
+/// has as a call begins. So at each split database, where temporaries are 0, exactly one row holds. What comes in front
+/// is pushed at the ends of the lists that a row is made of.
 ///
 /// # Errors
 ///
 /// `Memory` when out of memory.
 pub fn table(alloc: Global, c: &LCommand) -> Result<Vec<Row>, Memory>
-    ensures { IfOk result (λ rows. map plain_row rows.items ≡ table (plain_lcommand c.now)) }
+    ensures rows { IfOk result (λ rows. map plain_row rows.items ≡ table (plain_lcommand c.now)) }
+    ensures one { IfOk result (λ rows. (base : Split) → HasOneRow (state_of base) (map plain_row rows.items)) }
 {
     let mut last = Vec::new(alloc);
     last.push(Making::last(alloc))?;

@@ -1,0 +1,51 @@
+-- The first of the rows that are left, where one of them holds.
+use Rattle.std.proofs.Common.{◌≡◌, ℕ, ◌+◌, ◌<◌, true, false, cond, List, [], ◌∷◌, map, filter, drop, length, pos, refl, sym, ap, ◌∙◌, subst}
+use Rattle.std.specs.Prelude.{slice_index_or}
+use Rattle.std.proofs.lemmas.List.{get_or-map}
+use Rattle.homeo_meaning.specs.LowMeaning.{State, TempAt, holds}
+use Rattle.homeo_meaning.proofs.Steps.{drop_next}
+use Rattle.homeo_plan.specs.Key.{words}
+use Rattle.homeo_plan.specs.declared.rows.Row as rows
+use Rattle.homeo_plan.specs.PlanView.{plain_row}
+use Rattle.homeo_plan.specs.Table.{Row, last_row, holds_at, table}
+use Rattle.homeo_plan.specs.Joint.{HasOneRow}
+use Rattle.homeo_plan.proofs.Tables.{table_law}
+use Rattle.homeo_split.specs.Key.{words as split_words}
+use Rattle.homeo_split.specs.declared.split.Split.{Split}
+use Rattle.homeo_split.specs.States.{state_of}
+use Rattle.homeo_syntax.specs.Low.{Command}
+use Rattle.homeo_syntax.specs.declared.low.Temp.{Temp}
+use Rattle.homeo_syntax.specs.declared.low.Temp.TheVariants.{Named, Fresh}
+
+pub held-row :
+    (s : State) (rs : List rows.Row) (i : ℕ) (r : rows.Row) (one : Row) → i < length rs → r ≡ slice_index_or rs i r →
+    filter (holds_at s) (map plain_row (drop i rs)) ≡ one ∷ [] → true ≡ holds (plain_row r).formula s →
+    slice_index_or (map plain_row rs) i last_row ≡ one
+unfolding words
+held-row s rs i r one h is e k =
+    let rest : List Row = map plain_row (drop (i + 1) rs) in
+    let first : plain_row r ∷ filter (holds_at s) rest ≡ one ∷ [] =
+    ap (λ v. cond v (plain_row r ∷ filter (holds_at s) rest) (filter (holds_at s) rest)) k
+    ∙ sym (ap (filter (holds_at s)) (drop_next plain_row rs i r h is)) ∙ e in
+    let same : plain_row r ≡ one = cc in
+    get_or-map plain_row rs i r last_row h ∙ ap plain_row (sym is) ∙ same
+
+pub passed-row :
+    (s : State) (rs : List rows.Row) (i : ℕ) (r : rows.Row) (one : Row) → i < length rs → r ≡ slice_index_or rs i r →
+    filter (holds_at s) (map plain_row (drop i rs)) ≡ one ∷ [] → false ≡ holds (plain_row r).formula s →
+    filter (holds_at s) (map plain_row (drop (i + 1) rs)) ≡ one ∷ []
+unfolding words
+passed-row s rs i r one h is e k =
+    let rest : List Row = map plain_row (drop (i + 1) rs) in
+    ap (λ v. cond v (plain_row r ∷ filter (holds_at s) rest) (filter (holds_at s) rest)) k
+    ∙ sym (ap (filter (holds_at s)) (drop_next plain_row rs i r h is)) ∙ e
+
+-- ---- tables
+no_temps : (base : Split) (t : Temp) → state_of base (TempAt t) ≡ pos 0
+unfolding split_words
+no_temps base (Named n) = refl
+no_temps base (Fresh n) = refl
+
+pub table_has_one : (c : Command) (rs : List Row) → rs ≡ table c → (base : Split) → HasOneRow (state_of base) rs
+unfolding words split_words
+table_has_one c rs e base = subst (HasOneRow (state_of base)) (sym e) (table_law c (state_of base) (no_temps base)).one

@@ -1,0 +1,16 @@
+-- The tests that are left pass where all do.
+use Rattle.std.proofs.Common.{◌≡◌, true, map, drop}
+use Rattle.homeo_syntax.specs.LowView.{low_tests, plain_ltest}
+use Rattle.homeo_split.specs.CanExec.{limit, cond_fits}
+use Rattle.homeo_meaning.specs.LowMeaning.{holds}
+use Rattle.homeo_split.specs.States.{state_of}
+use Rattle.homeo_table.proofs.evaluation.+conditions.Given as goal
+
+abbrev pub invariant-all_pass-loop-t : goal.invariant-all_pass-loop-t
+invariant-all_pass-loop-t l =
+    let s = state_of l.base in
+    let rest = low_tests (map plain_ltest (drop l.t-index l.ts)) in
+    record {
+      fits : cond_fits limit rest s ≡ true;
+      left : holds rest s ≡ holds (low_tests (map plain_ltest l.ts)) s;
+    }
