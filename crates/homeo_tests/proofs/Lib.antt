@@ -2,4 +2,3 @@ pub mod CallForms
 pub mod Example
 pub mod RelationTexts
 pub mod RuleTexts
-pub mod SplitExample

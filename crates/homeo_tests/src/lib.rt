@@ -9,8 +9,6 @@ mod forms;
 #[cfg(test)]
 mod printing;
 #[cfg(test)]
-mod sites;
-#[cfg(test)]
 mod sizes;
 #[cfg(test)]
 mod values;

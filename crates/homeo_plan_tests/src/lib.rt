@@ -1,0 +1,5 @@
+//! Tests of the crates of plans, each call on values made here.
+#![tactic(auto)]
+
+#[cfg(test)]
+mod sites;

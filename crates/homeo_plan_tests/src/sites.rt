@@ -1,0 +1,76 @@
+//! A command and its delta transform, on a database of two objects at two sites.
+
+ghost use Rattle.std.specs.Prelude.{◌≡◌, [], ◌∷◌, IfOk};
+ghost use Rattle.homeo_syntax.specs.LowView.{plain_lexpr, plain_lcommand};
+ghost use Rattle.homeo_plan_tests.specs.inner.SplitExample.{next, raise, IsStart};
+
+use homeo_delta::{fold, transform};
+use homeo_split::{Split, eval_l};
+use homeo_syntax::{LCommand, LExpr, List, Memory, SplitName};
+use std::alloc::Global;
+use std::test::Fail;
+
+fn next(alloc: Global) -> Result<LExpr, Memory>
+    ensures { IfOk result (λ e. plain_lexpr e ≡ next) }
+{
+    let mut terms = List::new(alloc);
+    terms.push(LExpr::Read(SplitName::Whole(0)))?;
+    terms.push(LExpr::Literal(1))?;
+    Ok(LExpr::Sum(terms))
+}
+
+/// Object 0 is raised by 1 and printed.
+fn raise(alloc: Global) -> Result<LCommand, Memory>
+    ensures { IfOk result (λ c. plain_lcommand c ≡ raise) }
+{
+    let target = SplitName::Whole(0);
+    let value = next(alloc)?;
+    let mut commands = List::new(alloc);
+    commands.push(LCommand::Write { target, value })?;
+    commands.push(LCommand::Print {
+        value: LExpr::Read(target),
+    })?;
+    Ok(LCommand::Seq { commands })
+}
+
+fn pair(alloc: Global, first: i64, second: i64) -> Result<List<i64>, Memory>
+    ensures { IfOk result (λ l. l.items ≡ first ∷ second ∷ []) }
+{
+    let mut pair = List::new(alloc);
+    pair.push(first)?;
+    pair.push(second)?;
+    Ok(pair)
+}
+
+fn start(alloc: Global) -> Result<Split, Memory>
+    ensures { IfOk result IsStart }
+{
+    let base = pair(alloc, 5, 7)?;
+    let mut deltas = List::new(alloc);
+    deltas.push(pair(alloc, 2, -1)?)?;
+    deltas.push(pair(alloc, 3, 4)?)?;
+    Ok(Split { base, deltas })
+}
+
+#[test]
+fn a_site_raises_an_object_of_the_fold(rt: HostRuntime) -> Result<(), Fail> {
+    let alloc = rt.alloc();
+    let command = raise(alloc)?;
+    let mut split = start(alloc)?;
+    let before = fold(alloc, &split)?;
+    assert_eq!(rt; before.as_slice(), [10, 10].as_slice());
+    let shifted = transform(alloc, &command, 1, 2)?;
+    let prints = eval_l(alloc, &shifted, &mut split)?;
+    assert_eq!(rt; prints.as_slice(), [11].as_slice());
+    assert_eq!(rt; split.base.as_slice(), [5, 7].as_slice());
+    match split.deltas.as_slice() {
+        [other, own] => {
+            assert_eq!(rt; other.as_slice(), [2, -1].as_slice());
+            assert_eq!(rt; own.as_slice(), [4, 4].as_slice());
+        }
+        _ => panic!(rt; "two sites"),
+    }
+    let after = fold(alloc, &split)?;
+    assert_eq!(rt; after.as_slice(), [11, 10].as_slice());
+    Ok(())
+}
