@@ -23,7 +23,8 @@ loop-rows-preserved c =
     let so_far = c.loop-rows in
     let tables = c.args.tables.now in
     let within : c.loop-rows.alike ≤ 1024 = so_far.invariant.within in
-    let positive = alike_positive tables so_far.rows-index c.rows-item.result c.requires.some c.loop-rows-test.true c.rows-item.is _ _ so_far.invariant.alike c.len.ensures in
+    let positive = alike_positive tables so_far.rows-index c.rows-item.result c.requires.some c.loop-rows-test.true c.rows-item.is _ _
+    so_far.invariant.alike c.len.ensures in
     record {
       alike =
           alike-more tables so_far.rows-index c.rows-item.result c.requires.some c.loop-rows-test.true c.rows-item.is _ _

@@ -21,7 +21,8 @@ passes-returns-in-Compare t c =
     let right = kept_is c.value-right.result _ (search rules) c.value-right.ensures in
     c.compared.ensures
     ∙ (λ i. compared op (left i) (right i))
-    ∙ sym (ap (λ t. passes (plain_ltest t) s) c.in-Compare.is ∙ ap (λ t. passes t s) (low_Compare op a b) ∙ passes_Comparison s op (plain_lexpr a) (plain_lexpr b))
+    ∙ sym (ap (λ t. passes (plain_ltest t) s) c.in-Compare.is ∙ ap (λ t. passes t s) (low_Compare op a b)
+    ∙ passes_Comparison s op (plain_lexpr a) (plain_lexpr b))
 
 pub all_pass-passes-requires : goal.all_pass-passes-requires
 all_pass-passes-requires t c =

@@ -10,7 +10,8 @@ use Rattle.homeo_table.proofs.tables.table.Goals as goal
 pub returns-clause-rows : goal.returns-clause-rows
 returns-clause-rows c =
     let first = c.in_ok-push.ensures.items ∙ ap (λ l. l ++ c.last.result ∷ []) c.new-last.ensures.items in
-    IfOk-weaker c.finished.result _ _ (λ r h. table-is _ (map plain_row r.items) _ _ c.last.result h c.in_ok-rows.ensures first c.last.ensures) c.finished.ensures
+    IfOk-weaker c.finished.result _ _
+    (λ r h. table-is _ (map plain_row r.items) _ _ c.last.result h c.in_ok-rows.ensures first c.last.ensures) c.finished.ensures
 
 pub returns-clause-one : goal.returns-clause-one
 returns-clause-one c =
