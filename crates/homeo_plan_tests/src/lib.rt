@@ -2,4 +2,8 @@
 #![tactic(auto)]
 
 #[cfg(test)]
+mod joint_tables;
+#[cfg(test)]
 mod sites;
+#[cfg(test)]
+mod tables;
