@@ -99,33 +99,3 @@ fn copy_atoms(alloc: Global, atoms: &[Atom]) -> Result<List<Atom>, Memory>
     }
     Ok(copy)
 }
-
-#[cfg(test)]
-mod tests {
-    use super::*;
-    use std::test::Fail;
-
-    #[test]
-    fn atoms_are_copied(rt: HostRuntime) -> Result<(), Fail> {
-        let here = Delta { object: 0, site: 1 };
-        let there = Delta { object: 2, site: 0 };
-        let term = Term {
-            delta: here,
-            factor: -3,
-        };
-        let form = Linear {
-            constant: -7,
-            terms: List::from_vec([term].to_vec(rt.alloc())?),
-            mixed: List::from_vec([there].to_vec(rt.alloc())?),
-        };
-        let mut atoms = List::new(rt.alloc());
-        atoms.push(Atom { form })?;
-        let copy = AtomSet { atoms }.copy(rt.alloc())?;
-        assert_eq!(rt; copy.atoms.as_slice().len(), 1);
-        let form = &copy.atoms.as_slice()[0].form;
-        assert_eq!(rt; form.constant, -7);
-        assert_eq!(rt; form.terms.as_slice(), [term].as_slice());
-        assert_eq!(rt; form.mixed.as_slice(), [there].as_slice());
-        Ok(())
-    }
-}

@@ -88,33 +88,3 @@ fn copy_commands(alloc: Global, commands: &[LCommand]) -> Result<List<LCommand>,
     }
     Ok(copy)
 }
-
-#[cfg(test)]
-mod tests {
-    use super::*;
-    use homeo_syntax::LExpr;
-    use std::test::Fail;
-
-    #[test]
-    fn a_row_is_copied(rt: HostRuntime) -> Result<(), Fail> {
-        let mut residual = List::new(rt.alloc());
-        residual.push(LCommand::Print {
-            value: LExpr::Literal(4),
-        })?;
-        let formula = LCond {
-            tests: List::new(rt.alloc()),
-        };
-        let copy = Row { formula, residual }.copy(rt.alloc())?;
-        assert_eq!(rt; copy.formula.tests.as_slice().len(), 0);
-        assert_eq!(rt; copy.residual.as_slice().len(), 1);
-        assert!(rt;
-            matches!(
-                &copy.residual.as_slice()[0],
-                LCommand::Print {
-                    value: LExpr::Literal(4)
-                }
-            )
-        );
-        Ok(())
-    }
-}
