@@ -6,11 +6,14 @@ pub mod DeclarationSteps
 pub mod DeclarationsBack
 pub mod Deeper
 pub mod ExpressionsBack
+pub mod FormulaSteps
 pub mod Laying
 pub mod Lexing
 pub mod Listed
+pub mod NamedObjects
 pub mod NamesBack
 pub mod Numbered
+pub mod OneMore
 pub mod PhraseSteps
 pub mod PhrasesBack
 pub mod ReadingBack

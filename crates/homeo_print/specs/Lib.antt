@@ -1,8 +1,11 @@
 pub mod inner
+pub mod Calls
 pub mod Key
 pub mod Layout
+pub mod Names
 pub mod Offsets
 pub mod Print
 pub mod Printed
 pub mod ReadingBack
+pub mod Tables
 pub mod TokensOf

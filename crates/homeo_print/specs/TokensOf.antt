@@ -57,16 +57,16 @@ pub data Level : Type 0 where
   AsFactor : Level
 
 -- a sum stands in parentheses but where it is by itself
-abbrev pub around_sum : Level → Kinds → Kinds
-around_sum Alone ks = ks
-around_sum AsTerm ks = parenthesised ks
-around_sum AsFactor ks = parenthesised ks
+abbrev pub around_sum : {A : Type 0} → (A → A) → Level → A → A
+around_sum enclosed Alone sum = sum
+around_sum enclosed AsTerm sum = enclosed sum
+around_sum enclosed AsFactor sum = enclosed sum
 
 -- a product stands in parentheses where it is a factor
-abbrev pub around_product : Level → Kinds → Kinds
-around_product Alone ks = ks
-around_product AsTerm ks = ks
-around_product AsFactor ks = parenthesised ks
+abbrev pub around_product : {A : Type 0} → (A → A) → Level → A → A
+around_product enclosed Alone product = product
+around_product enclosed AsTerm product = product
+around_product enclosed AsFactor product = enclosed product
 
 abbrev pub comparison_mark : Compare → Mark
 comparison_mark compare.Less = mark.Less
@@ -80,8 +80,8 @@ abbrev mutual
   expr_at l (s.Literal n) = value_of n
   expr_at l (s.Name x) = name_of x
   expr_at l (s.Read x) = kind.Fixed mark.Read ∷ parenthesised (name_of x)
-  expr_at l (s.Sum es) = around_sum l (sum_kinds es)
-  expr_at l (s.Product es) = around_product l (product_kinds es)
+  expr_at l (s.Sum es) = around_sum parenthesised l (sum_kinds es)
+  expr_at l (s.Product es) = around_product parenthesised l (product_kinds es)
   expr_at l (s.Neg e) = kind.Fixed mark.Minus ∷ expr_at AsFactor e
   expr_at l (s.Field relation index field) =
       name_of relation ++ kind.Fixed mark.OpenBracket ∷ (expr_at Alone index ++ kind.Fixed mark.CloseBracket ∷ kind.Fixed mark.Dot ∷ name_of field)

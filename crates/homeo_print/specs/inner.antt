@@ -1,2 +1,4 @@
+pub mod Choices
+pub mod Objects
 pub mod Pieces
 pub mod Walk

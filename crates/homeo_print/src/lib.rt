@@ -1,5 +1,5 @@
 //! The text of a workload, which reads as the same workload where each of its names and numbers can stand in a text
-//! (this project's rule: the layout, and where parentheses stand).
+//! (this project's rule: the layout, and where parentheses stand). And the texts of calls, symbolic tables and joint tables.
 #![tactic(auto)]
 
 ghost use Rattle.std.specs.Prelude.{◌≡◌, ℕ, List, IfOk};
@@ -10,12 +10,24 @@ ghost use Rattle.homeo_print.specs.Print.{print};
 ghost use Rattle.homeo_print.specs.Printed.{IsPrintable, ScansAs};
 ghost use Rattle.homeo_print.specs.ReadingBack.{ReadsBack};
 
+mod append;
+mod calls;
+mod choices;
 mod commands;
 mod declarations;
+mod formulas;
 pub mod laws;
 mod layout;
+mod objects;
 mod phrases;
 mod pieces;
+mod tables;
+
+pub use append::{push_bytes, push_heading, push_number, push_numbers, push_signed};
+pub use calls::{name_of, print_call, push_call};
+pub use choices::{print_joint, print_too_many_choices};
+pub use objects::ObjectNames;
+pub use tables::{print_row, print_table};
 
 use homeo_syntax::{Memory, Workload};
 use std::alloc::Global;

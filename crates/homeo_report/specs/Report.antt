@@ -1,43 +1,18 @@
 -- The text of a report.
-use Rattle.std.specs.Prelude.{◌≡◌, ℕ, List, [], ◌∷◌, ◌++◌, map, length, ℤ, Option, Some, None, codes, decimal, slice_get, unwrap_or}
+use Rattle.std.specs.Prelude.{◌≡◌, ℕ, List, [], ◌∷◌, ◌++◌, length, ℤ, Option, Some, None, codes, decimal, slice_get}
 use Rattle.std.specs.Fmt.{signed_decimal}
-use Rattle.std.specs.List.{flat_map, range_with_len, enumerate_from}
+use Rattle.std.specs.List.{flat_map, enumerate_from}
 use Rattle.std.specs.Option.{option_map_or}
 use Rattle.homeo_syntax.specs.Source as s
-use Rattle.homeo_syntax.specs.declared.phrase.Ident.{Ident}
-use Rattle.homeo_syntax.specs.declared.phrase.Number.{Number}
-use Rattle.homeo_syntax.specs.declared.workload.ObjectDecl.{ObjectDecl}
-use Rattle.homeo_syntax.specs.declared.workload.RangeDecl.{RangeDecl}
 use Rattle.homeo_meaning.specs.declared.call.CallId.{CallId}
-use Rattle.homeo_meaning.specs.Schema.{nat_of}
-use Rattle.homeo_meaning.specs.Serial.{call_of}
+use Rattle.homeo_meaning.specs.Serial.{call_of, arguments}
 use Rattle.homeo_history.specs.History.{Entry, Closing, Round, History}
 use Rattle.homeo_history.specs.Legal.{calls_of}
+use Rattle.homeo_print.specs.Names.{newline, heading, numbers_text, name_text, object_names}
+use Rattle.homeo_print.specs.Calls.{call_text}
 use Rattle.homeo_report.specs.Key.{words}
 
-abbrev pub newline : List ℕ
-newline = codes "\n"
-
--- the text of a name, and nothing where there is no such name
-abbrev pub name_text : s.Workload → Ident → List ℕ
-unfolding words
-name_text w x = unwrap_or (slice_get w.names x.name) []
-
 -- ---- calls
-abbrev pub more_arguments_text : List Number → List ℕ
-unfolding words
-more_arguments_text args = flat_map (λ a. codes ", " ++ signed_decimal a.value) args
-
-abbrev pub arguments_text : List Number → List ℕ
-unfolding words
-arguments_text [] = []
-arguments_text (a ∷ more) = signed_decimal a.value ++ more_arguments_text more
-
--- NAME(V, V)
-abbrev pub call_text : s.Workload → s.Call → List ℕ
-unfolding words
-call_text w c = name_text w c.name ++ codes "(" ++ arguments_text c.args ++ codes ")"
-
 -- the name of a call's client, and nothing where there is no such client
 abbrev pub client_text : s.Workload → CallId → List ℕ
 unfolding words
@@ -46,25 +21,16 @@ client_text w id = option_map_or (λ client. name_text w client.name) (slice_get
 -- a client's call, and nothing where there is no such call
 abbrev pub made_text : s.Workload → CallId → List ℕ
 unfolding words
-made_text w id = option_map_or (call_text w) (call_of w id) []
-
-abbrev pub prints_text : List ℤ → List ℕ
-unfolding words
-prints_text prints = flat_map (λ v. codes " " ++ signed_decimal v) prints
+made_text w id = option_map_or (λ c. call_text w c.name (arguments c)) (call_of w id) []
 
 -- CLIENT NUMBER CALL: V V
 abbrev pub entry_line : s.Workload → Entry → List ℕ
 unfolding words
 entry_line w e =
     client_text w e.call ++ codes " " ++ decimal e.call.seq ++ codes " " ++ made_text w e.call ++ codes ":"
-    ++ prints_text e.prints ++ newline
+    ++ numbers_text e.prints ++ newline
 
 -- ---- rounds
--- a word and a number, in a line of their own
-abbrev pub heading : List ℕ → ℕ → List ℕ
-unfolding words
-heading word number = word ++ decimal number ++ newline
-
 abbrev pub entries_text : s.Workload → List Entry → List ℕ
 unfolding words
 entries_text w entries = flat_map (entry_line w) entries
@@ -96,32 +62,6 @@ unfolding words
 rounds_text w rounds = flat_map (λ r. round_text w r.0 r.1) (enumerate_from 0 rounds)
 
 -- ---- objects
--- R.K.F for slot K of the relation R
-abbrev pub field_name : s.Workload → s.RelationDecl → ℕ → List ℕ → List ℕ
-unfolding words
-field_name w r slot field = name_text w r.name ++ codes "." ++ decimal slot ++ codes "." ++ field
-
-abbrev pub field_names : s.Workload → s.RelationDecl → ℕ → List RangeDecl → List (List ℕ)
-unfolding words
-field_names w r slot fields = map (λ f. field_name w r slot (name_text w f.name)) fields
-
-abbrev pub slot_names : s.Workload → s.RelationDecl → ℕ → List (List ℕ)
-unfolding words
-slot_names w r slot = field_name w r slot (codes "used") ∷ field_names w r slot r.fields
-
-abbrev pub relation_names : s.Workload → s.RelationDecl → List (List ℕ)
-unfolding words
-relation_names w r = flat_map (slot_names w r) (range_with_len 0 (nat_of r.slots.value))
-
-abbrev pub declared_names : s.Workload → List ObjectDecl → List (List ℕ)
-unfolding words
-declared_names w objects = map (λ o. name_text w o.name) objects
-
--- the names of all objects, in the order of their numbers
-abbrev pub object_names : s.Workload → List (List ℕ)
-unfolding words
-object_names w = declared_names w w.objects ++ flat_map (relation_names w) w.relations
-
 -- what stands behind the name of an object in its line: NAME = V
 abbrev pub value_text : ℤ → List ℕ
 unfolding words

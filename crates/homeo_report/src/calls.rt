@@ -1,33 +1,18 @@
-//! Appending names, calls and entries.
+//! Appending calls and entries.
 #![tactic(auto, using(homeo_syntax::proofs::SourceViews::workload_views), unfolding(crate::specs::Key::words, homeo_meaning::specs::Key::words))]
 
-ghost use Rattle.std.specs.Prelude.{◌≡◌, ◌++◌, map, OnOk, option_map, slice_get};
+ghost use Rattle.std.specs.Prelude.{◌≡◌, ◌++◌, map, IfOk, OnOk, option_map, slice_get};
 ghost use Rattle.std.specs.Option.{option_copied};
 ghost use Rattle.homeo_syntax.specs.SourceView.{plain_call, plain_workload};
-ghost use Rattle.homeo_meaning.specs.Serial.{numbered, call_of};
+ghost use Rattle.homeo_meaning.specs.Serial.{arguments, numbered, call_of};
 ghost use Rattle.homeo_history.specs.HistoryView.{plain_entry};
-ghost use Rattle.homeo_report.specs.Report.{name_text, more_arguments_text, arguments_text, call_text, client_text, made_text, prints_text, entry_line};
+ghost use Rattle.homeo_report.specs.Report.{client_text, made_text, entry_line};
 
-use crate::append::{push_bytes, push_number, push_signed};
 use homeo_history::Entry;
 use homeo_meaning::CallId;
-use homeo_syntax::{Call, Client, Ident, Memory, Number, Text, Workload};
-
-fn text_of(w: &Workload, name: Ident) -> Option<&Text>
-    ensures { option_copied result ≡ slice_get w.now.names.items name.name }
-{
-    w.names.as_slice().get(name.name as usize)
-}
-
-/// The text of a name, which is empty where the workload has no such name.
-pub fn name_of(w: &Workload, name: Ident) -> &[u8]
-    ensures { result.now ≡ name_text (plain_workload w.now) name }
-{
-    match text_of(w, name) {
-        Some(text) => text.as_str().as_bytes(),
-        None => b"",
-    }
-}
+use homeo_print::{name_of, push_bytes, push_call, push_number, push_numbers};
+use homeo_syntax::{Call, Client, Memory, Workload};
+use std::alloc::Global;
 
 fn client_of(w: &Workload, id: CallId) -> Option<&Client>
     ensures { option_copied result ≡ slice_get w.now.clients.items id.client }
@@ -72,40 +57,15 @@ fn call_of(w: &Workload, id: CallId) -> Option<&Call>
     }
 }
 
-/// Appends arguments, each behind a comma and a space.
-fn push_more_arguments(out: &mut Vec<u8>, arguments: &[Number]) -> Result<(), Memory>
-    ensures { OnOk result (out.new.items ≡ out.old.items ++ more_arguments_text arguments.now) }
+/// The arguments of a call.
+fn arguments_of(alloc: Global, call: &Call) -> Result<Vec<i64>, Memory>
+    ensures { IfOk result (λ args. args.items ≡ arguments (plain_call call.now)) }
 {
-    for argument in arguments {
-        push_bytes(out, b", ")?;
-        push_signed(out, argument.value)?;
+    let mut args = Vec::new(alloc);
+    for argument in call.args.as_slice() {
+        args.push(argument.value)?;
     }
-    Ok(())
-}
-
-/// Appends arguments, with a comma and a space between each two.
-fn push_arguments(out: &mut Vec<u8>, arguments: &[Number]) -> Result<(), Memory>
-    ensures { OnOk result (out.new.items ≡ out.old.items ++ arguments_text arguments.now) }
-{
-    match arguments {
-        [] => Ok(()),
-        [first, more @ ..] => {
-            push_signed(out, first.value)?;
-            push_more_arguments(out, more)?;
-            Ok(())
-        }
-    }
-}
-
-fn push_call(out: &mut Vec<u8>, w: &Workload, call: &Call) -> Result<(), Memory>
-    ensures { OnOk result (out.new.items
-        ≡ out.old.items ++ call_text (plain_workload w.now) (plain_call call.now)) }
-{
-    push_bytes(out, name_of(w, call.name))?;
-    push_bytes(out, b"(")?;
-    push_arguments(out, call.args.as_slice())?;
-    push_bytes(out, b")")?;
-    Ok(())
+    Ok(args)
 }
 
 /// Appends a client's call, and nothing where there is no such call.
@@ -114,21 +74,11 @@ fn push_made(out: &mut Vec<u8>, w: &Workload, id: CallId) -> Result<(), Memory>
 {
     match call_of(w, id) {
         Some(call) => {
-            push_call(out, w, call)?;
-            Ok(())
+            let args = arguments_of(*out.allocator(), call)?;
+            push_call(out, w, call.name, args.as_slice())
         }
         None => Ok(()),
     }
-}
-
-fn push_prints(out: &mut Vec<u8>, prints: &[i64]) -> Result<(), Memory>
-    ensures { OnOk result (out.new.items ≡ out.old.items ++ prints_text prints.now) }
-{
-    for value in prints {
-        push_bytes(out, b" ")?;
-        push_signed(out, *value)?;
-    }
-    Ok(())
 }
 
 /// Appends the line of an entry.
@@ -142,7 +92,7 @@ pub fn push_entry(out: &mut Vec<u8>, w: &Workload, entry: &Entry) -> Result<(), 
     push_bytes(out, b" ")?;
     push_made(out, w, entry.call)?;
     push_bytes(out, b":")?;
-    push_prints(out, entry.prints.as_slice())?;
+    push_numbers(out, entry.prints.as_slice())?;
     push_bytes(out, b"\n")?;
     Ok(())
 }

@@ -1,7 +1,6 @@
 //! The text of a report: what the calls of each round printed, and the database that they leave.
 #![tactic(auto)]
 
-mod append;
 mod calls;
 mod objects;
 mod rounds;

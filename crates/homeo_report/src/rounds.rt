@@ -6,24 +6,15 @@ ghost use Rattle.std.specs.List.{flat_map};
 ghost use Rattle.homeo_syntax.specs.SourceView.{plain_workload};
 ghost use Rattle.homeo_history.specs.HistoryView.{plain_entry, plain_segment, plain_closing, plain_round, plain_history};
 ghost use Rattle.homeo_history.specs.Legal.{entries_of, calls_of};
-ghost use Rattle.homeo_report.specs.Report.{heading, segment_text, segments_text, closing_text, round_text, rounds_text, totals_line, report, CanReport};
+ghost use Rattle.homeo_report.specs.Report.{segment_text, segments_text, closing_text, round_text, rounds_text, totals_line, report, CanReport};
 
-use crate::append::{push_bytes, push_number};
 use crate::calls::push_entry;
 use crate::objects::push_objects;
 use homeo_history::{Closing, Entry, History, Round, Segment};
 use homeo_meaning::Accepted;
+use homeo_print::{ObjectNames, push_bytes, push_heading, push_number};
 use homeo_syntax::{Memory, Workload};
 use std::alloc::Global;
-
-fn push_heading(out: &mut Vec<u8>, word: &[u8], number: u64) -> Result<(), Memory>
-    ensures { OnOk result (out.new.items ≡ out.old.items ++ heading word.now number) }
-{
-    push_bytes(out, word)?;
-    push_number(out, number)?;
-    push_bytes(out, b"\n")?;
-    Ok(())
-}
 
 /// Appends the entries of a site, behind its number.
 fn push_segment(out: &mut Vec<u8>, w: &Workload, site: u64, entries: &[Entry]) -> Result<(), Memory>
@@ -132,7 +123,8 @@ pub(crate) fn report_of(alloc: Global, history: &History, w: &Workload) -> Resul
     let mut out = Vec::new(alloc);
     let calls = push_rounds(&mut out, w, history.rounds.as_slice())?;
     push_bytes(&mut out, b"database\n")?;
-    push_objects(&mut out, w, history.last.as_slice())?;
+    let names = ObjectNames::of(alloc, w)?;
+    push_objects(&mut out, &names, history.last.as_slice())?;
     push_totals(&mut out, history.rounds.as_slice().len() as u64, calls)?;
     Ok(out)
 }

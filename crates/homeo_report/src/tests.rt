@@ -2,7 +2,7 @@
 
 ghost use Rattle.std.specs.Prelude.{◌≡◌, length, IfOk};
 ghost use Rattle.homeo_syntax.specs.SourceView.{plain_workload};
-ghost use Rattle.homeo_report.specs.Report.{object_names};
+ghost use Rattle.homeo_print.specs.Names.{object_names};
 
 use crate::rounds::report_of;
 use homeo_history::{Closing, Entry, History, Round, Segment};

@@ -1,13 +1,15 @@
--- The tokens of phrases, as they are put one after another.
-use Rattle.std.specs.Prelude.{[], ◌∷◌}
+-- The tokens and texts of phrases, as they are put one after another.
+use Rattle.std.specs.Prelude.{ℕ, List, [], ◌∷◌, codes}
 use Rattle.homeo_syntax.specs.declared.token.Mark.{Mark}
 use Rattle.homeo_syntax.specs.declared.token.Mark.TheVariants as mark
 use Rattle.homeo_syntax.specs.declared.token.Kind.TheVariants as kind
 use Rattle.homeo_syntax.specs.declared.phrase.Ident.{Ident}
+use Rattle.homeo_syntax.specs.Low as l
 use Rattle.homeo_syntax.specs.Source as s
 use Rattle.homeo_print.specs.declared.phrases.Position.{Position}
 use Rattle.homeo_print.specs.declared.phrases.Position.TheVariants as position
 use Rattle.homeo_print.specs.Key.{words}
+use Rattle.homeo_print.specs.Tables as text
 use Rattle.homeo_print.specs.TokensOf.{Kinds, Level, Alone, AsTerm, AsFactor, expr_at}
 
 abbrev pub level_of : Position → Level
@@ -38,3 +40,16 @@ row_field row field = kind.Name row.name ∷ kind.Fixed mark.Dot ∷ kind.Name f
 abbrev pub chosen_of : Ident → Kinds
 unfolding words
 chosen_of relation = kind.Fixed mark.Of ∷ kind.Name relation.name ∷ kind.Fixed mark.When ∷ []
+
+-- ---- expressions over split names
+-- An expression at a position. Where its sign is put already, a negation is what it negates.
+abbrev pub expr_text_in : s.Workload → Position → l.Expr → List ℕ
+unfolding words
+expr_text_in w position.Signed (l.Neg e) = text.expr_at w AsTerm e
+expr_text_in w p e = text.expr_at w (level_of p) e
+
+-- what stands in front of a term behind another
+abbrev pub sign_text : l.Expr → List ℕ
+unfolding words
+sign_text (l.Neg e) = codes " - "
+sign_text e = codes " + "

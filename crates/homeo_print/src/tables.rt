@@ -1,0 +1,145 @@
+//! The texts of rows and tables.
+
+ghost use Rattle.std.specs.Prelude.{◌≡◌, ◌++◌, map, OnOk};
+ghost use Rattle.homeo_syntax.specs.SourceView.{plain_workload};
+ghost use Rattle.homeo_syntax.specs.LowView.{low_commands, plain_lcommand};
+ghost use Rattle.homeo_meaning.specs.Ground.{plain_ground};
+ghost use Rattle.homeo_plan.specs.PlanView.{plain_row};
+ghost use Rattle.homeo_print.specs.Names.{object_names};
+ghost use Rattle.homeo_print.specs.Tables.{command_text, residual_text, row_text, rows_text, table_text};
+
+use crate::append::{push_bytes, push_heading, push_number};
+use crate::calls::print_call;
+use crate::formulas::{push_cond, push_expr, push_split_name, push_temp};
+use crate::objects::ObjectNames;
+use crate::phrases::Position;
+use homeo_meaning::GroundCall;
+use homeo_plan::Row;
+use homeo_syntax::{LCommand, Memory, Workload};
+
+/// Appends a command of a residual, and nothing for a command that no residual has.
+fn push_command(
+    out: &mut Vec<u8>,
+    w: &Workload,
+    objects: &ObjectNames,
+    c: &LCommand,
+) -> Result<(), Memory>
+    requires named { objects.now ≡ object_names (plain_workload w.now) }
+    ensures { OnOk result (out.new.items
+        ≡ out.old.items ++ command_text (plain_workload w.now) (plain_lcommand c.now)) }
+{
+    match c {
+        LCommand::Assign { target, value } => {
+            push_temp(out, w, *target)?;
+            push_bytes(out, b" := ")?;
+            push_expr(out, w, objects, value, Position::Alone)
+        }
+        LCommand::Write { target, value } => {
+            push_bytes(out, b"write(")?;
+            push_split_name(out, w, objects, *target)?;
+            push_bytes(out, b" = ")?;
+            push_expr(out, w, objects, value, Position::Alone)?;
+            push_bytes(out, b")")
+        }
+        LCommand::Print { value } => {
+            push_bytes(out, b"print(")?;
+            push_expr(out, w, objects, value, Position::Alone)?;
+            push_bytes(out, b")")
+        }
+        LCommand::Skip | LCommand::Seq { .. } | LCommand::If { .. } => Ok(()),
+    }
+}
+
+fn push_residual(
+    out: &mut Vec<u8>,
+    w: &Workload,
+    objects: &ObjectNames,
+    commands: &[LCommand],
+) -> Result<(), Memory>
+    requires named { objects.now ≡ object_names (plain_workload w.now) }
+    ensures { OnOk result (out.new.items
+        ≡ out.old.items ++ residual_text (plain_workload w.now) (low_commands (map plain_lcommand commands.now))) }
+{
+    match commands {
+        [] => push_bytes(out, b"{}"),
+        [first, more @ ..] => {
+            push_bytes(out, b"{ ")?;
+            push_command(out, w, objects, first)?;
+            for c in more {
+                push_bytes(out, b"; ")?;
+                push_command(out, w, objects, c)?;
+            }
+            push_bytes(out, b" }")
+        }
+    }
+}
+
+/// Appends a row of a symbolic table, in three lines: its number, its formula, its residual. The names are those of the
+/// workload's objects.
+///
+/// # Errors
+///
+/// `Memory` when out of memory, and then some of the bytes may be appended.
+pub fn print_row(
+    out: &mut Vec<u8>,
+    w: &Workload,
+    objects: &ObjectNames,
+    number: u64,
+    row: &Row,
+) -> Result<(), Memory>
+    requires named { objects.now ≡ object_names (plain_workload w.now) }
+    ensures text { OnOk result (out.new.items
+        ≡ out.old.items ++ row_text (plain_workload w.now) number (plain_row row.now)) }
+{
+    push_heading(out, b"row ", number)?;
+    push_bytes(out, b"when ")?;
+    push_cond(out, w, objects, &row.formula)?;
+    push_bytes(out, b"\ndo ")?;
+    push_residual(out, w, objects, row.residual.as_slice())?;
+    push_bytes(out, b"\n")
+}
+
+/// Appends rows, numbered from 0.
+fn push_rows(
+    out: &mut Vec<u8>,
+    w: &Workload,
+    objects: &ObjectNames,
+    rows: &[Row],
+) -> Result<(), Memory>
+    requires named { objects.now ≡ object_names (plain_workload w.now) }
+    ensures { OnOk result (out.new.items
+        ≡ out.old.items ++ rows_text (plain_workload w.now) (map plain_row rows.now)) }
+{
+    for (number, row) in rows.iter().enumerate() {
+        print_row(out, w, objects, number as u64, row)?;
+    }
+    Ok(())
+}
+
+/// Appends a symbolic table: a line with the ground call's number, the call, its site and how many rows there are, and
+/// then the rows, numbered from 0. The names are those of the workload's objects.
+///
+/// # Errors
+///
+/// `Memory` when out of memory, and then some of the bytes may be appended.
+pub fn print_table(
+    out: &mut Vec<u8>,
+    w: &Workload,
+    objects: &ObjectNames,
+    number: u64,
+    call: &GroundCall,
+    rows: &[Row],
+) -> Result<(), Memory>
+    requires named { objects.now ≡ object_names (plain_workload w.now) }
+    ensures text { OnOk result (out.new.items ≡ out.old.items
+        ++ table_text (plain_workload w.now) number (plain_ground call.now) (map plain_row rows.now)) }
+{
+    push_bytes(out, b"call ")?;
+    push_number(out, number)?;
+    push_bytes(out, b" ")?;
+    print_call(out, w, call)?;
+    push_bytes(out, b" at ")?;
+    push_number(out, call.site as u64)?;
+    push_heading(out, b" rows ", rows.len() as u64)?;
+    push_rows(out, w, objects, rows)
+}

@@ -1,6 +1,0 @@
-use Rattle.std.proofs.Common.{◌≡◌, ◌++◌, take}
-use Rattle.homeo_report.specs.Report.{more_arguments_text}
-use Rattle.homeo_report.proofs.calls.push_more_arguments.Given as goal
-
-abbrev pub invariant-loop-argument : goal.invariant-loop-argument
-invariant-loop-argument l = l.out.items ≡ l.fn.out.items ++ more_arguments_text (take l.argument-index l.arguments)
