@@ -10,7 +10,7 @@ use Rattle.homeo_meaning.specs.LowSizes.{rows, rows_all}
 use Rattle.homeo_plan.specs.Split.{shift, shift_all, shift_write}
 use Rattle.homeo_plan.specs.Table.{Row, test_before, otherwise, before, all_before, clear_row, last_row, table}
 use Rattle.homeo_plan.specs.Template.{PlannedCall, shifted}
-use Rattle.homeo_plan.specs.Joint.{picks_from, joint_picks, row_product}
+use Rattle.homeo_plan.specs.Joint.{picks_from, joint_picks, product_of}
 
 -- ---- tables
 one_each : {X : Type 0} (f : X → Row) (rs : List X) → length (map f rs) ≡ 1 * length rs
@@ -77,7 +77,7 @@ length_picks n (r ∷ rs) choices =
     ∙ ap₂ ◌+◌ (length-map choices (λ picks. n ∷ picks)) (length_picks (n + 1) rs choices)
     ∙ next ∙ ap (λ m. m * length choices) here
 
-pub length_joint : (ts : List (List Row)) → length (joint_picks ts) ≡ row_product ts
+pub length_joint : (ts : List (List Row)) → length (joint_picks ts) ≡ product_of (map length ts)
 unfolding words
 length_joint [] = refl
 length_joint (t ∷ ts) = length_picks 0 t (joint_picks ts) ∙ ap (λ n. length t * n) (length_joint ts)
