@@ -1,4 +1,9 @@
 pub mod DeltaReads
 pub mod Folds
 pub mod Following
+pub mod ShiftedPlaces
 pub mod Shifts
+pub mod SmallShifts
+pub mod SmallSites
+pub mod SmallSums
+pub mod SmallValues

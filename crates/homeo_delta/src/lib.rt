@@ -3,6 +3,7 @@
 
 mod commands;
 mod folding;
+pub mod laws;
 mod reads;
 
 pub use commands::transform;

@@ -10,8 +10,9 @@ use Rattle.std.proofs.lemmas.Nat.{div-mul-add, mod-mul-add}
 use Rattle.homeo_plan.specs.declared.rows.Row as rows
 use Rattle.homeo_plan.specs.PlanView.{plain_row}
 use Rattle.homeo_plan.specs.Table.{Row}
-use Rattle.homeo_plan.specs.Joint.{picks_from, joint_picks}
-use Rattle.homeo_joint.specs.Counts.{plain_table, row_counts, product_of}
+use Rattle.homeo_plan.specs.Joint.{product_of, picks_from, joint_picks}
+use Rattle.homeo_plan.proofs.RowCounts.{length_joint}
+use Rattle.homeo_joint.specs.Counts.{plain_table, row_counts}
 use Rattle.homeo_joint.specs.inner.Digits.{digits, digits_below}
 use Rattle.homeo_joint.proofs.Products.{counts-drop, alike-more}
 
@@ -93,6 +94,21 @@ picks-more ts i t all h is a n b e len within below before after whole f made =
 pub counts-plain : (ts : List (Vec rows.Row Global)) → row_counts ts ≡ map length (map plain_table ts)
 counts-plain [] = refl
 counts-plain (t ∷ ts) = ap₂ ◌∷◌ (t.ok.0 ∙ sym (length-map t.items plain_row)) (counts-plain ts)
+
+-- how many joint rows there are
+pub joint_count : (ts : List (Vec rows.Row Global)) → length (joint_picks (map plain_table ts)) ≡ product_of (row_counts ts)
+joint_count ts = length_joint (map plain_table ts) ∙ ap product_of (sym (counts-plain ts))
+
+pub rows_within :
+    (ts : List (Vec rows.Row Global)) (size limit : ℕ) → size ≡ product_of (row_counts ts) → size ≤ limit →
+    length (joint_picks (map plain_table ts)) ≤ limit
+rows_within ts size limit e within = let count = joint_count ts in omega (arith, count, e, within)
+
+pub rows_count :
+    {X : Type 0} (picks : X → List ℤ) (ts : List (Vec rows.Row Global)) (rs : List X) →
+    map picks rs ≡ map (map pos) (joint_picks (map plain_table ts)) → length rs ≡ product_of (row_counts ts)
+rows_count picks ts rs e =
+    sym (length-map rs picks) ∙ ap length e ∙ length-map (joint_picks (map plain_table ts)) (map pos) ∙ joint_count ts
 
 pub all_choices :
     (ts : List (Vec rows.Row Global)) (size n : ℕ) → size ≡ product_of (row_counts ts) → n ≡ size →

@@ -1,9 +1,10 @@
 -- The error of the size is that of the joint table.
-use Rattle.std.proofs.Common.{◌≡◌, ℕ, ◌<◌, ◌≤◌, List, Result, Ok, Err, IsErrAnd, refl, ap}
+use Rattle.std.proofs.Common.{◌≡◌, ℕ, ◌<◌, ◌≤◌, List, Result, Ok, Err, IsErrAnd, ◌↔◌, refl, ap, subst, arith}
 use Rattle.std.specs.List.{All}
 use Rattle.homeo_joint.specs.declared.size.JointError.{JointError}
 use Rattle.homeo_joint.specs.declared.size.JointError.TheVariants.{TooMany, Memory}
-use Rattle.homeo_joint.specs.Counts.{product_of, IsFirstOver}
+use Rattle.homeo_plan.specs.Joint.{product_of}
+use Rattle.homeo_joint.specs.Counts.{IsFirstOver}
 use Rattle.homeo_joint.specs.TooMany.{IsTooMany}
 use Rattle.homeo_joint.proofs.Products.{whole_over}
 
@@ -21,3 +22,11 @@ pub over_err :
 over_err limit ns all (Ok x) h first = absurd h
 over_err limit ns all (Err (TooMany t p)) h first = whole_over limit ns t p all (first t p refl)
 over_err limit ns all (Err Memory) h first = absurd h
+
+-- where there are as few as may be, nothing says that there are too many
+pub none_over : {P : Type 0} (limit n : ℕ) → n ≤ limit → (P → ⊥) → P ↔ (limit < n)
+none_over limit n within never = (λ h. absurd (never h), λ over. absurd (omega arith))
+
+pub out_of_memory : {T : Type 0} (r : Result T JointError) → IsErrAnd r (λ e. e ≡ Memory) → IsErrAnd r IsTooMany → ⊥
+out_of_memory (Ok x) h g = g
+out_of_memory (Err e) h g = subst IsTooMany h g

@@ -2,8 +2,8 @@
 
 ghost use Rattle.std.specs.Prelude.{◌≡◌, ℕ, ◌^◌, ◌<◌, ◌≤◌, map, length, vec_len, pos, ◌↔◌, IfOk, IsErrAnd};
 ghost use Rattle.std.specs.List.{All};
-ghost use Rattle.homeo_plan.specs.Joint.{joint_picks};
-ghost use Rattle.homeo_joint.specs.Counts.{plain_table, row_counts, product_of, row_limit, IsFirstOver};
+ghost use Rattle.homeo_plan.specs.Joint.{joint_picks, product_of};
+ghost use Rattle.homeo_joint.specs.Counts.{plain_table, row_counts, row_limit, IsFirstOver};
 ghost use Rattle.homeo_joint.specs.TooMany.{IsTooMany};
 ghost use Rattle.homeo_joint.specs.inner.Digits.{digits};
 
@@ -18,14 +18,15 @@ use std::alloc::Global;
 ///
 /// # Errors
 ///
-/// `TooMany` exactly where the product of the row counts exceeds `MOST_ROWS`: the first table at which the product of the
-/// counts up to it does, and that product. Else `Memory` when out of memory.
+/// `TooMany` exactly where there are more than `MOST_ROWS` such rows: the first table up to which the tables have more
+/// choices than that, and how many. Else `Memory` when out of memory.
 pub fn joint(alloc: Global, tables: &[Vec<Row>]) -> Result<Vec<JointRow>, JointError>
     requires few { length tables.now < 2 ^ 32 }
     requires some { All (λ t. 1 ≤ vec_len t) tables.now }
     requires counted { All (λ t. vec_len t < 2 ^ 32) tables.now }
     ensures picks { IfOk result (λ rows. map (λ r. r.picks.items) rows.items ≡ map (map pos) (joint_picks (map plain_table tables.now))) }
-    ensures over { IsErrAnd result IsTooMany ↔ (row_limit < product_of (row_counts tables.now)) }
+    ensures count { IfOk result (λ rows. vec_len rows ≡ product_of (row_counts tables.now)) }
+    ensures over { IsErrAnd result IsTooMany ↔ (row_limit < length (joint_picks (map plain_table tables.now))) }
     ensures first { (t p : ℕ) → result ≡ Err (JointError.TooMany t p) → IsFirstOver row_limit (row_counts tables.now) t p }
 {
     let size = joint_size(tables)?;

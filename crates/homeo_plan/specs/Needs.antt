@@ -43,6 +43,20 @@ unfolding words
 needs i b cs = needs_from i (base_forms b) [] cs
 
 -- ---- residuals
+-- P holds of each of the commands
+abbrev pub EachCommand : (Command → Type 0) → Commands → Type 0
+unfolding words
+EachCommand P NoCommand = Unit {0}
+EachCommand P (MoreCommand c cs) = P c × EachCommand P cs
+
+-- an assignment, a write or a print
+abbrev pub IsStep : Command → Type 0
+unfolding words
+IsStep (Assign t e) = Unit {0}
+IsStep (Write x e) = Unit {0}
+IsStep (Print e) = Unit {0}
+IsStep _ = ⊥
+
 -- the name of a delta
 abbrev pub IsDeltaName : SplitName → Type 0
 unfolding words
@@ -50,7 +64,7 @@ IsDeltaName (split.Whole x) = ⊥
 IsDeltaName (split.Base x) = ⊥
 IsDeltaName (split.Delta x j) = Unit {0}
 
--- one command of a residual
+-- an assignment, a write of a delta or a print
 abbrev pub IsStraightOne : Command → Type 0
 unfolding words
 IsStraightOne (Assign t e) = Unit {0}
@@ -58,8 +72,12 @@ IsStraightOne (Write x e) = IsDeltaName x
 IsStraightOne (Print e) = Unit {0}
 IsStraightOne _ = ⊥
 
--- a residual: assignments, prints and writes of deltas
+-- assignments, writes and prints, one after another
+abbrev pub AreSteps : Commands → Type 0
+unfolding words
+AreSteps cs = EachCommand IsStep cs
+
+-- the same, where what is written are deltas
 abbrev pub IsStraight : Commands → Type 0
 unfolding words
-IsStraight NoCommand = Unit {0}
-IsStraight (MoreCommand c cs) = IsStraightOne c × IsStraight cs
+IsStraight cs = EachCommand IsStraightOne cs

@@ -1,0 +1,83 @@
+-- How many rows a table has, and how many a joint table.
+use Rattle.homeo_meaning.specs.Key.{words as meaning_words}
+use Rattle.homeo_plan.specs.Key.{words}
+use Rattle.std.proofs.Common.{◌≡◌, ℕ, ◌+◌, ◌*◌, List, [], ◌∷◌, ◌++◌, map, length, refl, sym, ap, ap₂, ◌∙◌, arith}
+use Rattle.std.proofs.Math.Nat.{mul_assoc, add-mul}
+use Rattle.std.proofs.lemmas.List.{length-append, length-map}
+use Rattle.homeo_syntax.specs.declared.low.SplitName.TheVariants.{Whole, Base, Delta}
+use Rattle.homeo_syntax.specs.Low.{Expr, Command, Commands, Skip, Assign, Write, Print, Seq, If, NoCommand, MoreCommand}
+use Rattle.homeo_meaning.specs.LowSizes.{rows, rows_all}
+use Rattle.homeo_plan.specs.Split.{shift, shift_all, shift_write}
+use Rattle.homeo_plan.specs.Table.{Row, test_before, otherwise, before, all_before, clear_row, last_row, table}
+use Rattle.homeo_plan.specs.Template.{PlannedCall, shifted}
+use Rattle.homeo_plan.specs.Joint.{picks_from, joint_picks, product_of}
+
+-- ---- tables
+one_each : {X : Type 0} (f : X → Row) (rs : List X) → length (map f rs) ≡ 1 * length rs
+one_each f rs = omega (arith, length-map rs f)
+
+mutual
+  unfolding words meaning_words
+
+  length_before : (c : Command) (rs : List Row) → length (before c rs) ≡ rows c * length rs
+  length_before Skip rs = omega arith
+  length_before (Assign t e) rs = one_each _ rs
+  length_before (Write x e) rs = one_each _ rs
+  length_before (Print e) rs = one_each _ rs
+  length_before (Seq cs) rs = length_all_before cs rs
+  length_before (If b c d) rs =
+      length-append (map (test_before b) (before c rs)) (map (test_before (otherwise b)) (before d rs))
+      ∙ ap₂ ◌+◌
+      (length-map (before c rs) (test_before b) ∙ length_before c rs)
+      (length-map (before d rs) (test_before (otherwise b)) ∙ length_before d rs)
+      ∙ sym (add-mul (rows c) (rows d) (length rs))
+
+  length_all_before : (cs : Commands) (rs : List Row) → length (all_before cs rs) ≡ rows_all cs * length rs
+  length_all_before NoCommand rs = omega arith
+  length_all_before (MoreCommand c cs) rs =
+      length_before c (all_before cs rs) ∙ ap (λ n. rows c * n) (length_all_before cs rs)
+      ∙ sym (mul_assoc (rows c) (rows_all cs) (length rs))
+
+pub length_table : (c : Command) → length (table c) ≡ rows c
+unfolding words meaning_words
+length_table c =
+    let one : rows c * 1 ≡ rows c = omega arith in
+    length-map (before c (last_row ∷ [])) clear_row ∙ length_before c (last_row ∷ []) ∙ one
+
+-- ---- the table of a transformed command
+mutual
+  unfolding words meaning_words
+
+  pub rows_shift : (k i : ℕ) (c : Command) → rows (shift k i c) ≡ rows c
+  rows_shift k i Skip = refl
+  rows_shift k i (Assign t e) = refl
+  rows_shift k i (Write (Whole x) e) = refl
+  rows_shift k i (Write (Base x) e) = refl
+  rows_shift k i (Write (Delta x j) e) = refl
+  rows_shift k i (Print e) = refl
+  rows_shift k i (Seq cs) = rows_shift_all k i cs
+  rows_shift k i (If b c d) = ap₂ ◌+◌ (rows_shift k i c) (rows_shift k i d)
+
+  rows_shift_all : (k i : ℕ) (cs : Commands) → rows_all (shift_all k i cs) ≡ rows_all cs
+  rows_shift_all k i NoCommand = refl
+  rows_shift_all k i (MoreCommand c cs) = ap₂ ◌*◌ (rows_shift k i c) (rows_shift_all k i cs)
+
+pub length_shifted : (k : ℕ) (g : PlannedCall) → length (table (shifted k g)) ≡ rows g.command
+unfolding words
+length_shifted k g = length_table (shift k g.site g.command) ∙ rows_shift k g.site g.command
+
+-- ---- joint tables
+length_picks : (n : ℕ) (rs : List Row) (choices : List (List ℕ)) → length (picks_from n rs choices) ≡ length rs * length choices
+unfolding words
+length_picks n [] choices = omega arith
+length_picks n (r ∷ rs) choices =
+    let next : length choices + length rs * length choices ≡ (1 + length rs) * length choices = omega arith in
+    let here : 1 + length rs ≡ length (r ∷ rs) = omega arith in
+    length-append (map (λ picks. n ∷ picks) choices) (picks_from (n + 1) rs choices)
+    ∙ ap₂ ◌+◌ (length-map choices (λ picks. n ∷ picks)) (length_picks (n + 1) rs choices)
+    ∙ next ∙ ap (λ m. m * length choices) here
+
+pub length_joint : (ts : List (List Row)) → length (joint_picks ts) ≡ product_of (map length ts)
+unfolding words
+length_joint [] = refl
+length_joint (t ∷ ts) = length_picks 0 t (joint_picks ts) ∙ ap (λ n. length t * n) (length_joint ts)
