@@ -2,12 +2,12 @@
 use Rattle.std.proofs.Common.{◌≡◌, ℕ, ◌+◌, ◌<◌, true, false, cond, List, [], ◌∷◌, map, filter, drop, length, pos, refl, sym, ap, ◌∙◌, subst}
 use Rattle.std.specs.Prelude.{slice_index_or}
 use Rattle.std.proofs.lemmas.List.{get_or-map}
-use Rattle.homeo_meaning.specs.LowMeaning.{State, TempAt, holds}
+use Rattle.homeo_meaning.specs.LowMeaning.{State, TempAt, holds, exec, exec_all}
 use Rattle.homeo_meaning.proofs.Steps.{drop_next}
 use Rattle.homeo_plan.specs.Key.{words}
 use Rattle.homeo_plan.specs.declared.rows.Row as rows
 use Rattle.homeo_plan.specs.PlanView.{plain_row}
-use Rattle.homeo_plan.specs.Table.{Row, last_row, holds_at, table}
+use Rattle.homeo_plan.specs.Table.{Row, last_row, holds_at, row_at, table}
 use Rattle.homeo_plan.specs.Joint.{HasOneRow}
 use Rattle.homeo_plan.proofs.Tables.{table_law}
 use Rattle.homeo_split.specs.Key.{words as split_words}
@@ -49,3 +49,10 @@ no_temps base (Fresh n) = refl
 pub table_has_one : (c : Command) (rs : List Row) → rs ≡ table c → (base : Split) → HasOneRow (state_of base) rs
 unfolding words split_words
 table_has_one c rs e base = subst (HasOneRow (state_of base)) (sym e) (table_law c (state_of base) (no_temps base)).one
+
+pub table_does :
+    (c : Command) (rs : List Row) → rs ≡ table c → (base : Split) →
+    exec_all (row_at rs (state_of base)).residual (state_of base) ≡ exec c (state_of base)
+unfolding words split_words
+table_does c rs e base =
+    ap (λ (l : List Row). exec_all (row_at l (state_of base)).residual (state_of base)) e ∙ (table_law c (state_of base) (no_temps base)).residual

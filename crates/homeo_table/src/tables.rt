@@ -1,10 +1,12 @@
 //! Symbolic tables.
 
-ghost use Rattle.std.specs.Prelude.{◌≡◌, ◌++◌, map, IfOk};
+ghost use Rattle.std.specs.Prelude.{◌≡◌, ◌++◌, map, length, IfOk};
 ghost use Rattle.homeo_syntax.specs.LowView.{low_commands, plain_lexpr, plain_lcond, plain_lcommand};
+ghost use Rattle.homeo_meaning.specs.LowMeaning.{exec, exec_all};
+ghost use Rattle.homeo_meaning.specs.LowSizes.{rows};
 ghost use Rattle.homeo_plan.specs.Joint.{HasOneRow};
 ghost use Rattle.homeo_plan.specs.PlanView.{plain_row};
-ghost use Rattle.homeo_plan.specs.Table.{set_before, test_before, otherwise, before, all_before, clear_row, table};
+ghost use Rattle.homeo_plan.specs.Table.{set_before, test_before, otherwise, before, all_before, clear_row, row_at, table};
 ghost use Rattle.homeo_split.specs.declared.split.Split.{Split};
 ghost use Rattle.homeo_split.specs.States.{state_of};
 ghost use Rattle.homeo_table.specs.inner.Places.{plain_place};
@@ -19,8 +21,8 @@ use std::alloc::Global;
 /// The symbolic table of a command (Roy et al., SIGMOD 2015): for each of its branches a row, first those where the
 /// condition of the first `if` holds. Its formula says before the command when the branch is taken, and its residual has
 /// the assignments, writes and prints of the branch. A formula reads no temporary: it has 0 in place of what a temporary
-/// has as a call begins. So at each split database, where temporaries are 0, exactly one row holds. What comes in front
-/// is pushed at the ends of the lists that a row is made of.
+/// has as a call begins. So at each split database, where temporaries are 0, exactly one row holds, and its residual does
+/// there what the command does. What comes in front is pushed at the ends of the lists that a row is made of.
 ///
 /// # Errors
 ///
@@ -28,6 +30,9 @@ use std::alloc::Global;
 pub fn table(alloc: Global, c: &LCommand) -> Result<Vec<Row>, Memory>
     ensures rows { IfOk result (λ rows. map plain_row rows.items ≡ table (plain_lcommand c.now)) }
     ensures one { IfOk result (λ rows. (base : Split) → HasOneRow (state_of base) (map plain_row rows.items)) }
+    ensures means { IfOk result (λ rows. (base : Split) → let s = state_of base in
+        exec_all (row_at (map plain_row rows.items) s).residual s ≡ exec (plain_lcommand c.now) s) }
+    ensures count { IfOk result (λ t. length t.items ≡ rows (plain_lcommand c.now)) }
 {
     let mut last = Vec::new(alloc);
     last.push(Making::last(alloc))?;
