@@ -30,26 +30,6 @@ const TOO_LONG: Refusal = Refusal {
     offset: 1_048_576,
 };
 
-// Why there is no output.
-#[derive(Clone, Copy, Debug, PartialEq, Eq)]
-enum Stop {
-    Usage,
-    Refused(Refusal),
-    Memory,
-    ReadFault,
-}
-
-impl From<Memory> for Stop {
-    ghost use Rattle.std.specs.Prelude.{◌≡◌};
-    ghost use Rattle.homeo.specs.declared.top.Stop.TheVariants as Stop;
-
-    ghost from_gives = { λ _ stop. stop ≡ Stop.Memory };
-
-    fn from(_e: Memory) -> Stop {
-        Stop::Memory
-    }
-}
-
 /// Runs the command that the words are: `steps` reads a workload from the source, runs its calls one after another in
 /// the order of its schedule, and writes the report to `out`. The words don't include the program's name.
 ///
@@ -130,37 +110,6 @@ fn make_output<S: Source>(
         Err(ReadError::TooLong { .. }) => Err(Stop::Refused(TOO_LONG)),
         Err(ReadError::Memory) => Err(Stop::Memory),
     }
-}
-
-fn is_command(words: &List<Text>) -> bool
-    ensures { IsTrue result ↔ IsCommand words.now.items }
-{
-    match words.as_slice() {
-        [word] => word.as_str() == STEPS,
-        _ => false,
-    }
-}
-
-// The report of the workload that a text reads as, with its calls run in the order of its schedule.
-fn report_of(alloc: Global, text: &[u8]) -> Result<Vec<u8>, Stop>
-    requires { length text.now ≤ text_limit }
-    ensures report { IfOk result (λ bytes. IsReportOf text.now bytes.items) }
-    ensures refused { (r : Refusal) → IsErrOf result (Stop.Refused r) → IsRefused text.now Steps r }
-    ensures no_other { (IsErrOf result Stop.Usage → ⊥) × (IsErrOf result Stop.ReadFault → ⊥) }
-{
-    let workload = match read(alloc, text) {
-        Ok(workload) => workload,
-        Err(ReadRefusal::Refused(refusal)) => return Err(Stop::Refused(refusal)),
-        Err(ReadRefusal::Memory) => return Err(Stop::Memory),
-    };
-    let accepted = match accept(alloc, workload, Purpose::Steps) {
-        Ok(accepted) => accepted,
-        Err(RuleRefusal::Refused(refusal)) => return Err(Stop::Refused(refusal)),
-        Err(RuleRefusal::Memory) => return Err(Stop::Memory),
-    };
-    let history = steps(alloc, &accepted)?;
-    let output = report(alloc, &history, &accepted)?;
-    Ok(output)
 }
 
 // Writes a line. A fault of the complaints changes nothing else.
