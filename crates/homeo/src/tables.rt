@@ -11,8 +11,10 @@ ghost use Rattle.homeo_plan.specs.PlanView.{plain_row};
 ghost use Rattle.homeo_joint.specs.Counts.{plain_table};
 ghost use Rattle.homeo_print.specs.Names.{object_names};
 ghost use Rattle.homeo_print.specs.Tables.{call_table, joint_text, tables_text};
+ghost use Rattle.homeo.specs.inner.Scheduled.{HasSites};
 ghost use Rattle.homeo.specs.inner.Tabulated.{CanTabulate, calls_text};
 
+use crate::sites::site_count;
 use homeo_context::Declarations;
 use homeo_delta::transform;
 use homeo_desugar::desugar;
@@ -21,7 +23,7 @@ use homeo_joint::{JointError, joint};
 use homeo_meaning::{Accepted, GroundCall};
 use homeo_plan::Row;
 use homeo_print::{ObjectNames, print_joint, print_table, print_too_many_choices};
-use homeo_syntax::{Memory, Workload};
+use homeo_syntax::Memory;
 use homeo_table::table;
 use std::alloc::Global;
 
@@ -33,10 +35,9 @@ pub fn tables(alloc: Global, w: &Accepted) -> Result<Vec<u8>, Memory>
 {
     let mut out = Vec::new(alloc);
     let declared = Declarations::of(alloc, w)?;
-    let objects = ObjectNames::of(alloc, w)?;
+    let objects = ObjectNames::of(alloc, w.workload())?;
     let grounding = Grounding::of(alloc, w)?;
-    let calls = grounding.calls();
-    let tables = push_calls(alloc, &mut out, w, &declared, &objects, calls)?;
+    let tables = push_calls(alloc, &mut out, w, &declared, &objects, grounding.calls())?;
     push_joint(alloc, &mut out, tables.as_slice())?;
     Ok(out)
 }
@@ -53,6 +54,7 @@ fn push_calls(
     requires declared { declared.now ≡ declarations (plain_workload w.now) }
     requires named { objects.now ≡ object_names (plain_workload w.now) }
     requires few { length calls.now < 2 ^ 32 }
+    requires sites { HasSites (plain_workload w.now) }
     requires each { All (CanTabulate (plain_workload w.now)) (map plain_ground calls.now) }
     ensures text { OnOk result (out.new.items ≡ out.old.items ++ calls_text (plain_workload w.now) (map plain_ground calls.now)) }
     ensures tables { IfOk result (λ ts. map plain_table ts.items ≡ map (call_table (plain_workload w.now)) (map plain_ground calls.now)) }
@@ -62,7 +64,7 @@ fn push_calls(
     let mut tables = Vec::new(alloc);
     for (number, call) in calls.iter().enumerate() {
         let rows = call_table(alloc, w, declared, call)?;
-        print_table(out, w, objects, number as u64, call, rows.as_slice())?;
+        print_table(out, w.workload(), objects, number as u64, call, rows.as_slice())?;
         tables.push(rows)?;
     }
     Ok(tables)
@@ -76,14 +78,15 @@ fn call_table(
     call: &GroundCall,
 ) -> Result<Vec<Row>, Memory>
     requires declared { declared.now ≡ declarations (plain_workload w.now) }
+    requires sites { HasSites (plain_workload w.now) }
     requires can { CanTabulate (plain_workload w.now) (plain_ground call.now) }
     ensures table { IfOk result (λ rows. plain_table rows ≡ call_table (plain_workload w.now) (plain_ground call.now)) }
     ensures some { IfOk result (λ rows. 1 ≤ vec_len rows) }
     ensures counted { IfOk result (λ rows. vec_len rows < 2 ^ 32) }
 {
     let form = desugar(alloc, call, w, declared)?;
-    let command = transform(alloc, &form, call.site, site_count(w.workload()))?;
-    table(alloc, &command)
+    let shifted = transform(alloc, &form, call.site, site_count(w.workload()))?;
+    table(alloc, &shifted)
 }
 
 // Appends the joint table of tables, or that it has too many rows.
