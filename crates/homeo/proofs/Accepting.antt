@@ -22,6 +22,7 @@ use Rattle.homeo_meaning.specs.CallRules.{times, call_count, call_faults, client
 use Rattle.homeo_meaning.specs.NumberRules.{object_faults, site_faults, site_count_faults, passes_limit, ground_calls, limit_faults}
 use Rattle.homeo_meaning.specs.Faults.{of_transaction, declared_faults, faults}
 use Rattle.homeo_meaning.proofs.FaultParts.{none_first, none_second, parts, declared_parts, limit_parts}
+use Rattle.homeo_meaning.specs.declared.call.Purpose.{Purpose}
 use Rattle.homeo_meaning.specs.declared.call.Purpose.TheVariants.{Steps}
 use Rattle.homeo_meaning.specs.Declarations.{place_of, place_from}
 use Rattle.homeo_meaning.specs.declared.rules.Fault.{Fault}
@@ -361,7 +362,7 @@ sited w (c ∷ cs) none formed =
 clients_in : (w : s.Workload) → declared_faults w ≡ [] → flat_map (client_faults w.sites (scope_of w) w.transactions) w.clients ≡ []
 clients_in w none = (declared_parts w none).clients
 
-pub has_sites : (w : s.Workload) → IsWellFormed w → faults Steps w ≡ [] → HasSites w
-has_sites w formed none =
-    let all = parts Steps w none in
+pub has_sites : (purpose : Purpose) (w : s.Workload) → IsWellFormed w → faults purpose w ≡ [] → HasSites w
+has_sites purpose w formed none =
+    let all = parts purpose w none in
     record { few = few_sites w.sites (few w all.text.limits).sites; clients = sited w w.clients (clients_in w all.text.declared) formed.sites }

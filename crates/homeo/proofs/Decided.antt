@@ -1,5 +1,5 @@
 -- A text is not both accepted and refused, and what a source told is what it gave.
-use Rattle.std.proofs.Common.{◌≡◌, ◌≤◌, ◌+◌, ◌∙◌, ◌++◌, ℕ, List, [], Some, None, length, sym, ap, subst, arith, append-nil, length-append, inl, inr}
+use Rattle.std.proofs.Common.{◌≡◌, ◌≤◌, ◌+◌, ◌∙◌, ◌++◌, ℕ, List, [], Some, None, length, refl, sym, ap, subst, arith, append-nil, length-append, inl, inr}
 use Rattle.std.specs.declared.option.Option.{Option}
 use Rattle.homeo_io.specs.Moved.{Gave, GaveAll}
 use Rattle.homeo_syntax.specs.declared.workload.Refusal.{Refusal}
@@ -7,12 +7,14 @@ use Rattle.homeo_syntax.specs.Source as s
 use Rattle.homeo_syntax.specs.Reads.{Reads, IsUnread}
 use Rattle.homeo_reader.proofs.Unread.{one_reading, unread}
 use Rattle.homeo_meaning.specs.declared.call.Purpose.{Purpose}
-use Rattle.homeo_meaning.specs.declared.call.Purpose.TheVariants.{Steps}
 use Rattle.homeo_meaning.specs.declared.rules.Fault.{Fault}
 use Rattle.homeo_meaning.specs.Faults.{faults, IsFaultIn, IsRefusedBy}
 use Rattle.homeo_meaning.specs.Key.{words as meanings}
 use Rattle.homeo_meaning.specs.Verdict.{Accepts, IsRefused, text_limit}
-use Rattle.homeo.specs.Outcome.{IsOutputOf, IsRefusedAt, TellsRefused, TellsAccepted}
+use Rattle.homeo.specs.Command.{Say, purpose_of}
+use Rattle.homeo.specs.Outcome.{IsMade, IsRefusedAt, TellsRefused, TellsAccepted}
+use Rattle.homeo.specs.declared.command.Command.{Command}
+use Rattle.homeo.specs.declared.command.Command.TheVariants.{Steps, Tables}
 
 -- no fault is in an empty list
 none_there : (all : List Fault) (f : Fault) → all ≡ [] → IsFaultIn f all → ⊥
@@ -42,27 +44,37 @@ told_is_long (Some xs) (Some ys) text n e g =
     omega (arith, ap length same, ap length g.2, length-append g.0 ys, g.1)
 
 -- a source that gave more than the limit told a text that is too long
-pub refuses_long : (old new : Option (List ℕ)) (text : List ℕ) (r : Refusal) → old ≡ Some text → Gave old new (text_limit + 1)
-    → r ≡ record { code = 2; offset = text_limit } → IsRefused text Steps r
+pub refuses_long : (old new : Option (List ℕ)) (text : List ℕ) (purpose : Purpose) (r : Refusal) → old ≡ Some text → Gave old new (text_limit + 1)
+    → r ≡ record { code = 2; offset = text_limit } → IsRefused text purpose r
 unfolding meanings
-refuses_long old new text r e g is = inl (record { long = omega (arith, told_is_long old new text (text_limit + 1) e g); code = ap (λ x. x.code) is; offset = ap (λ x. x.offset) is })
+refuses_long old new text purpose r e g is = inl (record { long = omega (arith, told_is_long old new text (text_limit + 1) e g); code = ap (λ x. x.code) is; offset = ap (λ x. x.offset) is })
+
+-- words are one command
+pub one_command : (words : List (List ℕ)) (c d : Command) → Say words c → Say words d → c ≡ d
+one_command words Steps Steps a b = refl
+one_command words Tables Tables a b = refl
+one_command words Steps Tables a b = let same = sym a ∙ b in cc
+one_command words Tables Steps a b = let same = sym a ∙ b in cc
 
 -- where the output was made, no refused text was told
-pub output_not_refused : (old new : Option (List ℕ)) (output : List ℕ) → IsOutputOf old new output → TellsRefused old → ⊥
-output_not_refused old new output o t =
-    let same = told_is_given old new t.0 o.text t.2 o.read in
-    accepted_not_refused o.text Steps o.made.workload t.1 o.made.accepted (subst (λ x. IsRefused x Steps t.1) same t.3)
+pub output_not_refused : (words : List (List ℕ)) (old new : Option (List ℕ)) (output : List ℕ) → IsMade words old new output → TellsRefused words old → ⊥
+output_not_refused words old new output o (c, text, r, said, told, refused) =
+    let same_text : text ≡ o.text = told_is_given old new text o.text told o.read in
+    let same : c ≡ o.command = one_command words c o.command said o.said in
+    accepted_not_refused o.text (purpose_of o.command) o.made.workload r o.made.accepted
+    (subst (λ d. IsRefused o.text (purpose_of d) r) same (subst (λ x. IsRefused x (purpose_of c) r) same_text refused))
 
 -- where the text told is refused, no accepted text was told
-pub refused_not_accepted : (old : Option (List ℕ)) (r : Refusal) → IsRefusedAt old r → TellsAccepted old → ⊥
-refused_not_accepted old r refused t = accepted_not_refused t.0 Steps t.1 r t.3 (refused t.0 t.2)
+pub refused_not_accepted : (words : List (List ℕ)) (old : Option (List ℕ)) (r : Refusal) → IsRefusedAt words old r → TellsAccepted words old → ⊥
+refused_not_accepted words old r refused (c, text, w, said, told, accepted) =
+    accepted_not_refused text (purpose_of c) w r accepted (refused c text said told)
 
 -- what the reader refuses is refused
-pub refuses_unread : (text : List ℕ) (r : Refusal) → length text ≤ text_limit → IsUnread text r → IsRefused text Steps r
+pub refuses_unread : (text : List ℕ) (purpose : Purpose) (r : Refusal) → length text ≤ text_limit → IsUnread text r → IsRefused text purpose r
 unfolding meanings
-refuses_unread text r short unread = inr (short, inl unread)
+refuses_unread text purpose r short unread = inr (short, inl unread)
 
 -- what breaks a rule is refused
-pub refuses_broken : (text : List ℕ) (w : s.Workload) (r : Refusal) → length text ≤ text_limit → Reads text w → IsRefusedBy Steps w r → IsRefused text Steps r
+pub refuses_broken : (text : List ℕ) (purpose : Purpose) (w : s.Workload) (r : Refusal) → length text ≤ text_limit → Reads text w → IsRefusedBy purpose w r → IsRefused text purpose r
 unfolding meanings
-refuses_broken text w r short reads by = inr (short, inr (record { workload = w; reads = reads; refused = by }))
+refuses_broken text purpose w r short reads by = inr (short, inr (record { workload = w; reads = reads; refused = by }))

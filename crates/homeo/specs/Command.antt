@@ -1,18 +1,36 @@
--- The commands, and the lines that go to the complaints.
+-- The commands with their words, and the lines that go to the complaints.
 use Rattle.std.specs.Prelude.{◌≡◌, ℕ, List, [], ◌∷◌, ◌++◌, codes}
 use Rattle.std.specs.Fmt.{decimal}
 use Rattle.homeo_syntax.specs.declared.workload.Refusal.{Refusal as AnyRefusal}
+use Rattle.homeo_meaning.specs.declared.call.Purpose.{Purpose}
+use Rattle.homeo_meaning.specs.declared.call.Purpose.TheVariants as purpose
+use Rattle.homeo.specs.declared.command.Command.{Command}
+use Rattle.homeo.specs.declared.command.Command.TheVariants.{Steps, Tables}
 use Rattle.homeo.specs.declared.status.Status.{Status}
 use Rattle.homeo.specs.declared.status.Status.TheVariants.{Done, Usage, Refused, Memory, ReadFault, WriteFault}
 
--- the words are the one command
+-- the word of a command
+abbrev pub word_of : Command → List ℕ
+word_of Steps = codes "steps"
+word_of Tables = codes "tables"
+
+-- the words are this command
+abbrev pub Say : List (List ℕ) → Command → Type 0
+Say words c = words ≡ word_of c ∷ []
+
+-- the words are a command
 abbrev pub IsCommand : List (List ℕ) → Type 0
-IsCommand words = words ≡ codes "steps" ∷ []
+IsCommand words = (c : Command) × Say words c
+
+-- what a command's text is read for
+abbrev pub purpose_of : Command → Purpose
+purpose_of Steps = purpose.Steps
+purpose_of Tables = purpose.Tables
 
 -- the line of a status; that of a refusal has more to say
 abbrev pub line_of : Status → List ℕ
 line_of Done = []
-line_of Usage = codes "usage: homeo steps\n"
+line_of Usage = codes "usage: homeo steps or tables\n"
 line_of Refused = []
 line_of Memory = codes "out of memory\n"
 line_of ReadFault = codes "read fault\n"

@@ -1,10 +1,16 @@
 //! The top call: a text is read, checked, run and answered by a report.
 #![tactic(auto)]
 
+mod command;
 mod order;
+mod output;
+mod sites;
 mod status;
 mod steps;
+mod stop;
+mod tables;
 mod top;
 
+pub use command::Command;
 pub use status::Status;
 pub use top::run;

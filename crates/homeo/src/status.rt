@@ -3,11 +3,8 @@
 ghost use Rattle.std.specs.Prelude.{◌≡◌};
 ghost use Rattle.homeo.specs.Command.{number_of};
 
-/// The word of the one command.
-pub const STEPS: &str = "steps";
-
 /// What is said of words that are no command.
-pub const USAGE_LINE: &str = "usage: homeo steps\n";
+pub const USAGE_LINE: &str = "usage: homeo steps or tables\n";
 
 /// What the line of a refusal begins with, before the code's number.
 pub const REFUSED: &str = "refused E";

@@ -16,11 +16,12 @@ ghost use Rattle.homeo.specs.Order.{scheduled_calls};
 ghost use Rattle.homeo.specs.inner.Scheduled.{IsWholeOrder, HasSites};
 
 use crate::order::scheduled_calls;
+use crate::sites::{site_count, site_of};
 use homeo_context::Declarations;
 use homeo_eval::{eval_call, initial};
 use homeo_history::{Closing, Entry, History, Round};
 use homeo_meaning::{Accepted, CallId, Database};
-use homeo_syntax::{Client, List, Memory, Workload};
+use homeo_syntax::{List, Memory};
 use std::alloc::Global;
 
 /// Runs the calls in the order of the schedule, each in a round of its own, which it closes.
@@ -55,7 +56,7 @@ fn run_calls(
     ensures last { IfOk result (λ h. (plain_history h).last ≡ (serial (plain_workload w.now) database.items calls.now).database) }
     ensures within { IfOk result (λ h. IsWithin (schema_of (plain_workload w.now)) (plain_history h).last) }
 {
-    let sites = site_count(w.workload());
+    let sites = site_count(w.workload()) as usize;
     let mut last = database;
     let mut rounds = List::new(alloc);
     for call in calls {
@@ -116,36 +117,4 @@ fn copy_values(alloc: Global, values: &[i64]) -> Result<Database, Memory>
 {
     let copy = Vec::from_slice(alloc, values)?;
     Ok(List::from_vec(copy))
-}
-
-// The number of a count or a site as a text has it.
-fn natural(n: i64) -> u64
-    ensures { result ≡ nat_of n }
-{
-    if n < 0 { 0 } else { n as u64 }
-}
-
-#[tactic(auto, unfolding(homeo_syntax::specs::Key::words, homeo_history::specs::Key::words))]
-fn site_count(w: &Workload) -> usize
-    requires { HasSites (plain_workload w.now) }
-    ensures { result ≡ site_count (plain_workload w.now) }
-{
-    natural(w.sites.value) as usize
-}
-
-fn site_of(w: &Workload, call: CallId) -> u32
-    requires { HasSites (plain_workload w.now) }
-    ensures { result ≡ site_or_zero (plain_workload w.now) call }
-{
-    match w.clients.as_slice().get(call.client as usize) {
-        Some(client) => client_site(client),
-        None => 0,
-    }
-}
-
-fn client_site(client: &Client) -> u32
-    requires { nat_of client.now.site.value < 16 }
-    ensures { result ≡ nat_of client.now.site.value }
-{
-    natural(client.site.value) as u32
 }

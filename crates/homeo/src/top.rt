@@ -1,24 +1,21 @@
 //! The top call, with its promise: words, a source, an output and complaints.
 
-ghost use Rattle.std.specs.Prelude.{◌≡◌, ◌≢◌, ◌⊎◌, ◌≤◌, ◌<◌, ◌+◌, ◌↔◌, ℕ, length, IsTrue, IfOk, OnOk, OnErr, IsErrOf};
+ghost use Rattle.std.specs.Prelude.{◌≡◌, ◌≢◌, ◌⊎◌, ◌+◌, ◌↔◌, IfOk, OnOk, IsErrOf};
 ghost use Rattle.homeo_io.specs.Faults.{Rose};
 ghost use Rattle.homeo_io.specs.Moved.{GaveAtMost, TookExactly, TookPrefix};
 ghost use Rattle.homeo_syntax.specs.declared.workload.Refusal.{Refusal};
-ghost use Rattle.homeo_meaning.specs.declared.call.Purpose.TheVariants.{Steps};
-ghost use Rattle.homeo_meaning.specs.Verdict.{IsRefused, text_limit};
+ghost use Rattle.homeo_meaning.specs.Verdict.{text_limit};
 ghost use Rattle.homeo.specs.Command.{IsCommand, line_of, refusal_line};
-ghost use Rattle.homeo.specs.Outcome.{TookLine, IsReportOf, IsOutputOf, IsRefusedAt, TellsRefused, TellsAccepted, IsDone, IsCutOff, IsToldRefusal};
+ghost use Rattle.homeo.specs.Outcome.{TellsRefused, TellsAccepted, IsRefusedAt, IsMade, IsDone, IsCutOff, TookLine, IsToldRefusal};
 
+use crate::command::Command;
+use crate::output::output_of;
 use crate::status::{
-    AT, MEMORY_LINE, READ_FAULT_LINE, REFUSED, STEPS, Status, USAGE_LINE, WRITE_FAULT_LINE,
+    AT, MEMORY_LINE, READ_FAULT_LINE, REFUSED, Status, USAGE_LINE, WRITE_FAULT_LINE,
 };
-use crate::steps::steps;
+use crate::stop::Stop;
 use homeo_io::{Failed, ReadError, Sink, Source, read_all, write_all};
-use homeo_meaning::Purpose;
-use homeo_reader::{ReadRefusal, read};
-use homeo_report::report;
-use homeo_rules::{RuleRefusal, accept};
-use homeo_syntax::{List, Memory, Refusal, Text};
+use homeo_syntax::{List, Refusal, Text};
 use std::alloc::Global;
 
 /// The most bytes that a text may have.
@@ -30,30 +27,13 @@ const TOO_LONG: Refusal = Refusal {
     offset: 1_048_576,
 };
 
-// Why there is no output.
-#[derive(Clone, Copy, Debug, PartialEq, Eq)]
-enum Stop {
-    Usage,
-    Refused(Refusal),
-    Memory,
-    ReadFault,
-}
-
-impl From<Memory> for Stop {
-    ghost use Rattle.std.specs.Prelude.{◌≡◌};
-    ghost use Rattle.homeo.specs.declared.top.Stop.TheVariants as Stop;
-
-    ghost from_gives = { λ _ stop. stop ≡ Stop.Memory };
-
-    fn from(_e: Memory) -> Stop {
-        Stop::Memory
-    }
-}
-
-/// Runs the command that the words are: `steps` reads a workload from the source, runs its calls one after another in
-/// the order of its schedule, and writes the report to `out`. The words don't include the program's name.
+/// Runs the command that the words are, on the text that the source gives:
 ///
-/// `out` is offered bytes only when the whole output has been made. A fault of `complaints` changes no status.
+/// - `steps` runs the calls one after another in the order of the schedule, and writes the report;
+/// - `tables` writes the symbolic tables of the ground calls, and their joint table.
+///
+/// The words don't include the program's name. The output goes to `out`, which is offered bytes only when the whole output
+/// has been made. A fault of `complaints` changes no status.
 pub fn run<S: Source, O: Sink, E: Sink>(
     alloc: Global,
     words: &List<Text>,
@@ -67,9 +47,9 @@ pub fn run<S: Source, O: Sink, E: Sink>(
     ensures usage_reads_nothing { result ≡ Status.Usage → source.new ≡ source.old }
 
     // Status 2, exactly where the text is refused. The complaint names code and offset.
-    ensures refused { result ≡ Status.Refused → IsToldRefusal (S.left source.old)
+    ensures refused { result ≡ Status.Refused → IsToldRefusal words.now.items (S.left source.old)
         (E.taken complaints.old) (E.taken complaints.new) (E.faults complaints.old) (E.faults complaints.new) }
-    ensures refused_exactly { IsCommand words.now.items → TellsRefused (S.left source.old)
+    ensures refused_exactly { TellsRefused words.now.items (S.left source.old)
         → ¬ Rose (S.faults source.old) (S.faults source.new)
         → (result ≡ Status.Refused) ⊎ (result ≡ Status.Memory) }
 
@@ -82,15 +62,17 @@ pub fn run<S: Source, O: Sink, E: Sink>(
 
     // What `out` took: nothing, a prefix of the output, or exactly the output.
     ensures untouched { result ≢ Status.Done → result ≢ Status.WriteFault → out.new ≡ out.old }
-    ensures cut_off { result ≡ Status.WriteFault → IsCutOff (S.left source.old) (S.left source.new) (O.taken out.old) (O.taken out.new) }
-    ensures done { result ≡ Status.Done → IsDone (S.left source.old) (S.left source.new) (O.taken out.old) (O.taken out.new) }
+    ensures cut_off { result ≡ Status.WriteFault → IsCutOff words.now.items
+        (S.left source.old) (S.left source.new) (O.taken out.old) (O.taken out.new) }
+    ensures done { result ≡ Status.Done → IsDone words.now.items
+        (S.left source.old) (S.left source.new) (O.taken out.old) (O.taken out.new) }
 
     // What `complaints` took: exactly the status's line, or a prefix where its count rose.
     ensures complaint { result ≢ Status.Refused → TookLine
         (E.taken complaints.old) (E.taken complaints.new) (E.faults complaints.old) (E.faults complaints.new) (line_of result) }
 
     // Right words, an accepted text and no fault.
-    ensures complete { IsCommand words.now.items → TellsAccepted (S.left source.old)
+    ensures complete { TellsAccepted words.now.items (S.left source.old)
         → ¬ Rose (S.faults source.old) (S.faults source.new) → ¬ Rose (O.faults out.old) (O.faults out.new)
         → (result ≡ Status.Done) ⊎ (result ≡ Status.Memory) }
 {
@@ -112,55 +94,24 @@ fn make_output<S: Source>(
     words: &List<Text>,
     source: &mut S,
 ) -> Result<Vec<u8>, Stop>
-    ensures output { IfOk result (λ bytes. IsOutputOf (S.left source.old) (S.left source.new) bytes.items) }
+    ensures output { IfOk result (λ bytes. IsMade words.now.items (S.left source.old) (S.left source.new) bytes.items) }
     ensures command { OnOk result (IsCommand words.now.items) }
     ensures usage { IsErrOf result Stop.Usage → ¬ IsCommand words.now.items }
     ensures unread { IsErrOf result Stop.Usage → source.new ≡ source.old }
     ensures usage_exactly { ¬ IsCommand words.now.items → IsErrOf result Stop.Usage }
-    ensures refused { (r : Refusal) → IsErrOf result (Stop.Refused r) → IsRefusedAt (S.left source.old) r }
+    ensures refused { (r : Refusal) → IsErrOf result (Stop.Refused r) → IsRefusedAt words.now.items (S.left source.old) r }
     ensures fault { IsErrOf result Stop.ReadFault → Rose (S.faults source.old) (S.faults source.new) }
     ensures gave { GaveAtMost (S.left source.old) (S.left source.new) (text_limit + 1) }
 {
-    if !is_command(words) {
+    let Some(command) = Command::of(words) else {
         return Err(Stop::Usage);
-    }
+    };
     match read_all(alloc, source, TEXT_LIMIT) {
-        Ok(text) => report_of(alloc, &text),
+        Ok(text) => output_of(alloc, command, &text),
         Err(ReadError::Fault) => Err(Stop::ReadFault),
         Err(ReadError::TooLong { .. }) => Err(Stop::Refused(TOO_LONG)),
         Err(ReadError::Memory) => Err(Stop::Memory),
     }
-}
-
-fn is_command(words: &List<Text>) -> bool
-    ensures { IsTrue result ↔ IsCommand words.now.items }
-{
-    match words.as_slice() {
-        [word] => word.as_str() == STEPS,
-        _ => false,
-    }
-}
-
-// The report of the workload that a text reads as, with its calls run in the order of its schedule.
-fn report_of(alloc: Global, text: &[u8]) -> Result<Vec<u8>, Stop>
-    requires { length text.now ≤ text_limit }
-    ensures report { IfOk result (λ bytes. IsReportOf text.now bytes.items) }
-    ensures refused { (r : Refusal) → IsErrOf result (Stop.Refused r) → IsRefused text.now Steps r }
-    ensures no_other { (IsErrOf result Stop.Usage → ⊥) × (IsErrOf result Stop.ReadFault → ⊥) }
-{
-    let workload = match read(alloc, text) {
-        Ok(workload) => workload,
-        Err(ReadRefusal::Refused(refusal)) => return Err(Stop::Refused(refusal)),
-        Err(ReadRefusal::Memory) => return Err(Stop::Memory),
-    };
-    let accepted = match accept(alloc, workload, Purpose::Steps) {
-        Ok(accepted) => accepted,
-        Err(RuleRefusal::Refused(refusal)) => return Err(Stop::Refused(refusal)),
-        Err(RuleRefusal::Memory) => return Err(Stop::Memory),
-    };
-    let history = steps(alloc, &accepted)?;
-    let output = report(alloc, &history, &accepted)?;
-    Ok(output)
 }
 
 // Writes a line. A fault of the complaints changes nothing else.

@@ -3,7 +3,7 @@ use Rattle.std.specs.Prelude.{slice_get}
 use Rattle.std.proofs.lemmas.Option.{slice_get-get_or, slice_get_past}
 use Rattle.homeo_syntax.specs.declared.workload.Client.{Client}
 use Rattle.homeo.proofs.Stepping.{site_found, site_none, site_of_few}
-use Rattle.homeo.proofs.steps.site_of.Goals as goal
+use Rattle.homeo.proofs.sites.site_of.Goals as goal
 
 pub client_site-requires : goal.client_site-requires
 client_site-requires c =
