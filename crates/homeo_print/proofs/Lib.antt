@@ -1,5 +1,7 @@
 pub mod Atoms
 pub mod Behind
+pub mod CallNames
+pub mod ChoiceLines
 pub mod Claims
 pub mod CommandSteps
 pub mod DeclarationSteps
@@ -18,4 +20,5 @@ pub mod PhraseSteps
 pub mod PhrasesBack
 pub mod ReadingBack
 pub mod Scanning
+pub mod TableSteps
 pub mod TestsBack

@@ -1,4 +1,4 @@
--- The tokens of a list, its first item before the others.
+-- The tokens, or the text, of a list, its first item before the others.
 use Rattle.std.proofs.Common.{◌≡◌, ℕ, ◌+◌, ◌-◌, ◌<◌, ◌≤◌, List, [], ◌∷◌, ◌++◌, length, take, drop, get_or, append_assoc, append-nil, refl, sym, ap, ◌∙◌, arith}
 use Rattle.std.specs.List.{flat_map}
 use Rattle.std.proofs.lemmas.List.{take_more, take_all}
@@ -27,26 +27,26 @@ list_more {X} m f xs i d start out marked new within so_far put_mark put_item =
 others : {X : Type 0} (x : X) (xs : List X) → take (length (x ∷ xs) - 1) (drop 1 (x ∷ xs)) ≡ xs
 others x xs = take_all (length (x ∷ xs) - 1) xs (omega arith)
 
-module _ {X : Type 0} (first_kinds : X → Kinds) (behind whole : List X → Kinds) where
+module _ {X K : Type 0} (one : X → List K) (behind whole : List X → List K) where
   -- all items are put
-  pub list_end : ((x : X) (xs : List X) → whole (x ∷ xs) ≡ first_kinds x ++ behind xs) → (out mid old : Kinds) (all : List X) (first : X) (i : ℕ) → 1 ≤ length all → first ≡ get_or all 0 first → mid ≡ old ++ first_kinds first
+  pub list_end : ((x : X) (xs : List X) → whole (x ∷ xs) ≡ one x ++ behind xs) → (out mid old : List K) (all : List X) (first : X) (i : ℕ) → 1 ≤ length all → first ≡ get_or all 0 first → mid ≡ old ++ one first
       → length (take (length all - 1) (drop 1 all)) ≤ i → out ≡ mid ++ behind (take i (take (length all - 1) (drop 1 all))) → out ≡ old ++ whole all
-  list_end split out mid old [] first i some is one past done = absurd (omega arith)
-  list_end split out mid old (x ∷ xs) first i some is one past done =
+  list_end split out mid old [] first i some is put past done = absurd (omega arith)
+  list_end split out mid old (x ∷ xs) first i some is put past done =
       let short : length xs ≤ i = omega (arith, ap length (others x xs)) in
       done ∙ ap (λ l. mid ++ behind (take i l)) (others x xs) ∙ ap (λ l. mid ++ behind l) (take_all i xs short)
-      ∙ ap (λ m. m ++ behind xs) one ∙ append_assoc old (first_kinds first) (behind xs)
-      ∙ ap (λ y. old ++ (first_kinds y ++ behind xs)) is ∙ ap (λ l. old ++ l) (sym (split x xs))
+      ∙ ap (λ m. m ++ behind xs) put ∙ append_assoc old (one first) (behind xs)
+      ∙ ap (λ y. old ++ (one y ++ behind xs)) is ∙ ap (λ l. old ++ l) (sym (split x xs))
 
   -- the same where the first item is copied
-  pub list_end_copy : ((x : X) (xs : List X) → whole (x ∷ xs) ≡ first_kinds x ++ behind xs) → (out mid old : Kinds) (all : List X) (d : X) (i : ℕ) → 1 ≤ length all → mid ≡ old ++ first_kinds (get_or all 0 d)
+  pub list_end_copy : ((x : X) (xs : List X) → whole (x ∷ xs) ≡ one x ++ behind xs) → (out mid old : List K) (all : List X) (d : X) (i : ℕ) → 1 ≤ length all → mid ≡ old ++ one (get_or all 0 d)
       → length (take (length all - 1) (drop 1 all)) ≤ i → out ≡ mid ++ behind (take i (take (length all - 1) (drop 1 all))) → out ≡ old ++ whole all
-  list_end_copy split out mid old [] d i some one past done = absurd (omega arith)
-  list_end_copy split out mid old (x ∷ xs) d i some one past done = list_end split out mid old (x ∷ xs) x i some refl one past done
+  list_end_copy split out mid old [] d i some put past done = absurd (omega arith)
+  list_end_copy split out mid old (x ∷ xs) d i some put past done = list_end split out mid old (x ∷ xs) x i some refl put past done
 
-  pub list_none : whole [] ≡ [] → (old : Kinds) (all : List X) → length all < 1 → old ≡ old ++ whole all
+  pub list_none : whole [] ≡ [] → (old : List K) (all : List X) → length all < 1 → old ≡ old ++ whole all
   list_none none old [] empty = sym (append-nil old) ∙ ap (λ l. old ++ l) (sym none)
   list_none none old (x ∷ xs) empty = absurd (omega arith)
 
-  pub list_start : behind [] ≡ [] → (out : Kinds) → out ≡ out ++ behind []
+  pub list_start : behind [] ≡ [] → (out : List K) → out ≡ out ++ behind []
   list_start none out = sym (append-nil out) ∙ ap (λ l. out ++ l) (sym none)

@@ -1,6 +1,9 @@
 -- The names of objects, with one more.
-use Rattle.std.proofs.Common.{◌≡◌, ℕ, suc, ◌+◌, ◌<◌, List, [], ◌∷◌, ◌++◌, map, length, take, get_or, append-nil, zero-add, add-one, length-append, refl, sym, ap, ◌∙◌, arith}
+use Rattle.std.proofs.Common.{◌≡◌, ℕ, suc, ◌+◌, ◌<◌, List, [], ◌∷◌, ◌++◌, map, length, take, get_or, append_assoc, append-nil, zero-add, add-one, length-append, refl, sym, ap, ◌∙◌, arith}
+use Rattle.std.specs.Prelude.{Vec, Option, Some, None, slice_get, unwrap_or}
 use Rattle.std.specs.List.{flat_map, range_with_len}
+use Rattle.std.specs.Option.{option_map, option_map_or}
+use Rattle.std.proofs.lemmas.Option.{slice_get-map}
 use Rattle.std.proofs.lemmas.List.{take_more, map-append, length-map}
 use Rattle.std.proofs.lemmas.List.Folds.{flat_map-map}
 use Rattle.std.proofs.lemmas.Grind.{flat_map-append}
@@ -13,22 +16,25 @@ use Rattle.homeo_syntax.specs.declared.workload.RelationDecl.{RelationDecl}
 use Rattle.homeo_syntax.specs.declared.workload.Workload.{Workload}
 use Rattle.homeo_meaning.specs.Schema.{nat_of}
 use Rattle.homeo_print.specs.Key.{words}
-use Rattle.homeo_print.specs.Names.{name_text, declared_names, field_name, field_names, slot_names, relation_names, object_names}
-use Rattle.homeo_print.proofs.OneMore.{views_more, range_push}
+use Rattle.homeo_print.specs.Names.{name_text, declared_names, field_name, field_names, slot_names, relation_names, object_names, name_at}
+use Rattle.homeo_print.specs.inner.Objects.{bytes_of}
+use Rattle.homeo_print.proofs.OneMore.{range_push}
 
 -- ---- declared objects
-pub declared_more : (w : s.Workload) (objects : List ObjectDecl) (i : ℕ) (o : ObjectDecl) → i < length objects → o ≡ get_or objects i o → declared_names w (take (i + 1) objects) ≡ declared_names w (take i objects) ++ name_text w o.name ∷ []
+pub declared_more : (w : s.Workload) (objects : List ObjectDecl) (i : ℕ) (o : ObjectDecl) → i < length objects → declared_names w (take (i + 1) objects) ≡ declared_names w (take i objects) ++ name_text w (get_or objects i o).name ∷ []
 unfolding words
-declared_more w objects i o within is = views_more (λ (p : ObjectDecl). name_text w p.name) objects i o within is
+declared_more w objects i o within =
+    ap (declared_names w) (take_more objects i o within) ∙ map-append (λ (p : ObjectDecl). name_text w p.name) (take i objects) (get_or objects i o ∷ [])
 
 pub length_declared : (w : s.Workload) (objects : List ObjectDecl) → length (declared_names w objects) ≡ length objects
 unfolding words
 length_declared w objects = length-map objects (λ (p : ObjectDecl). name_text w p.name)
 
 -- ---- the fields of a slot
-pub fields_more : (w : s.Workload) (r : s.RelationDecl) (slot : ℕ) (fields : List RangeDecl) (i : ℕ) (f : RangeDecl) → i < length fields → f ≡ get_or fields i f → field_names w r slot (take (i + 1) fields) ≡ field_names w r slot (take i fields) ++ field_name w r slot (name_text w f.name) ∷ []
+pub fields_more : (w : s.Workload) (r : s.RelationDecl) (slot : ℕ) (fields : List RangeDecl) (i : ℕ) (f : RangeDecl) → i < length fields → field_names w r slot (take (i + 1) fields) ≡ field_names w r slot (take i fields) ++ field_name w r slot (name_text w (get_or fields i f).name) ∷ []
 unfolding words
-fields_more w r slot fields i f within is = views_more (λ (p : RangeDecl). field_name w r slot (name_text w p.name)) fields i f within is
+fields_more w r slot fields i f within =
+    ap (field_names w r slot) (take_more fields i f within) ∙ map-append (λ (p : RangeDecl). field_name w r slot (name_text w p.name)) (take i fields) (get_or fields i f ∷ [])
 
 -- ---- the names of a relation's first slots
 abbrev pub first_names : s.Workload → s.RelationDecl → ℕ → List (List ℕ)
@@ -65,3 +71,11 @@ names_more w relations i r within is =
     ap (names_of w) (take_more relations i r within) ∙ flat_map-append (λ (q : RelationDecl). relation_names w (plain_relation q)) (take i relations) (get_or relations i r ∷ [])
     ∙ ap (λ l. names_of w (take i relations) ++ l) (append-nil (relation_names w (plain_relation (get_or relations i r))))
     ∙ ap (λ q. names_of w (take i relations) ++ relation_names w (plain_relation q)) (sym is)
+
+pub ruleset object_steps = (append_assoc, declared_more, fields_more, first_names_more, names_more)
+
+-- the name of a number, as it is looked up
+pub name_found : {A : Type 0} (texts : List (Vec ℕ A)) (n : ℕ) (o : Option (Vec ℕ A)) → o ≡ slice_get texts n → name_at (map bytes_of texts) n ≡ option_map_or bytes_of o []
+unfolding words
+name_found texts n None e = ap (λ o. unwrap_or o []) (slice_get-map bytes_of texts n ∙ ap (option_map bytes_of) (sym e))
+name_found texts n (Some text) e = ap (λ o. unwrap_or o []) (slice_get-map bytes_of texts n ∙ ap (option_map bytes_of) (sym e))

@@ -115,10 +115,15 @@ unfolding words
 later_commands w NoCommand = []
 later_commands w (MoreCommand c cs) = codes "; " ++ command_text w c ++ later_commands w cs
 
+abbrev pub commands_text : s.Workload → Commands → List ℕ
+unfolding words
+commands_text w NoCommand = []
+commands_text w (MoreCommand c cs) = command_text w c ++ later_commands w cs
+
 abbrev pub residual_text : s.Workload → Commands → List ℕ
 unfolding words
 residual_text w NoCommand = codes "{}"
-residual_text w (MoreCommand c cs) = codes "{ " ++ command_text w c ++ later_commands w cs ++ codes " }"
+residual_text w cs = codes "{ " ++ commands_text w cs ++ codes " }"
 
 -- three lines: row J, when FORMULA, do RESIDUAL
 abbrev pub row_text : s.Workload → ℕ → Row → List ℕ

@@ -48,6 +48,7 @@ pub fn push_signed(out: &mut Vec<u8>, n: i64) -> Result<(), Memory>
 /// # Errors
 ///
 /// `Memory` when out of memory, and then some of the bytes may be appended.
+#[tactic(auto, unfolding(crate::specs::Key::words))]
 pub fn push_numbers(out: &mut Vec<u8>, numbers: &[i64]) -> Result<(), Memory>
     ensures { OnOk result (out.new.items ≡ out.old.items ++ numbers_text numbers.now) }
 {

@@ -91,7 +91,10 @@ pub fn print_call(out: &mut Vec<u8>, w: &Workload, call: &GroundCall) -> Result<
         ≡ out.old.items ++ ground_text (plain_workload w.now) (plain_ground call.now)) }
 {
     match transaction_at(w, call.transaction) {
-        Some(transaction) => push_call(out, w, transaction.name, call.args.as_slice()),
+        Some(transaction) => {
+            push_call(out, w, transaction.name, call.args.as_slice())?;
+            Ok(())
+        }
         None => Ok(()),
     }
 }

@@ -1,4 +1,5 @@
 //! The text of a joint table.
+#![tactic(auto, using(crate::proofs::ChoiceLines::choice_steps))]
 
 ghost use Rattle.std.specs.Prelude.{◌≡◌, ℕ, ◌<◌, ◌≤◌, List, ◌++◌, map, length, pos, OnOk};
 ghost use Rattle.std.specs.List.{flat_map};
@@ -15,7 +16,8 @@ fn push_pick(out: &mut Vec<u8>, row: &JointRow) -> Result<(), Memory>
 {
     push_bytes(out, b"pick")?;
     push_numbers(out, row.picks.as_slice())?;
-    push_bytes(out, b"\n")
+    push_bytes(out, b"\n")?;
+    Ok(())
 }
 
 fn push_picks(out: &mut Vec<u8>, rows: &[JointRow]) -> Result<(), Memory>
@@ -39,7 +41,8 @@ pub fn print_joint(out: &mut Vec<u8>, rows: &[JointRow]) -> Result<(), Memory>
         → OnOk result (out.new.items ≡ out.old.items ++ choices_text picks) }
 {
     push_heading(out, b"joint ", rows.len() as u64)?;
-    push_picks(out, rows)
+    push_picks(out, rows)?;
+    Ok(())
 }
 
 /// Appends what stands in place of a joint table of more than 1,024 choices.
@@ -51,5 +54,6 @@ pub fn print_too_many_choices(out: &mut Vec<u8>) -> Result<(), Memory>
     ensures text { (picks : List (List ℕ)) → most_choices < length picks
         → OnOk result (out.new.items ≡ out.old.items ++ choices_text picks) }
 {
-    push_bytes(out, b"joint too many\n")
+    push_bytes(out, b"joint too many\n")?;
+    Ok(())
 }

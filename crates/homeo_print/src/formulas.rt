@@ -1,5 +1,4 @@
 //! The texts of expressions and conditions over split names.
-#![tactic(auto, using(homeo_syntax::proofs::Measures::low_expr_parts, homeo_syntax::proofs::Measures::low_test_parts, homeo_syntax::proofs::LowViews::low_phrase_views, crate::proofs::FormulaSteps::formula_steps))]
 
 ghost use Rattle.std.specs.Prelude.{◌≡◌, ◌++◌, map, OnOk};
 ghost use Rattle.homeo_syntax.specs.SourceView.{plain_workload};
@@ -15,19 +14,25 @@ use crate::phrases::Position;
 use homeo_syntax::{Compare, Ident, LCond, LExpr, LTest, Memory, SplitName, Temp, Workload};
 
 /// Appends a temporary.
+#[tactic(auto, unfolding(crate::specs::Key::words))]
 pub fn push_temp(out: &mut Vec<u8>, w: &Workload, t: Temp) -> Result<(), Memory>
     ensures { OnOk result (out.new.items ≡ out.old.items ++ temp_text (plain_workload w.now) t) }
 {
     match t {
-        Temp::Named(name) => push_bytes(out, name_of(w, Ident { name, offset: 0 })),
+        Temp::Named(name) => {
+            push_bytes(out, name_of(w, Ident { name, offset: 0 }))?;
+            Ok(())
+        }
         Temp::Fresh(number) => {
             push_bytes(out, b"$")?;
-            push_number(out, number as u64)
+            push_number(out, number as u64)?;
+            Ok(())
         }
     }
 }
 
 /// Appends a split name.
+#[tactic(auto, using(crate::proofs::FormulaSteps::name_steps))]
 pub fn push_split_name(
     out: &mut Vec<u8>,
     w: &Workload,
@@ -38,21 +43,27 @@ pub fn push_split_name(
     ensures { OnOk result (out.new.items ≡ out.old.items ++ split_name_text (plain_workload w.now) x) }
 {
     match x {
-        SplitName::Whole(object) => push_bytes(out, objects.get(object as usize)),
+        SplitName::Whole(object) => {
+            push_bytes(out, objects.get(object as usize))?;
+            Ok(())
+        }
         SplitName::Base(object) => {
             push_bytes(out, b"base(")?;
             push_bytes(out, objects.get(object as usize))?;
-            push_bytes(out, b")")
+            push_bytes(out, b")")?;
+            Ok(())
         }
         SplitName::Delta { object, site } => {
             push_bytes(out, objects.get(object as usize))?;
             push_bytes(out, b"@")?;
-            push_number(out, site as u64)
+            push_number(out, site as u64)?;
+            Ok(())
         }
     }
 }
 
 /// What stands in front of a term behind another.
+#[tactic(auto, using(homeo_syntax::proofs::LowViews::low_phrase_views, crate::proofs::FormulaSteps::signs))]
 fn sign_of(e: &LExpr) -> &'static [u8]
     ensures { result.now ≡ sign_text (plain_lexpr e.now) }
 {
@@ -68,6 +79,7 @@ fn sign_of(e: &LExpr) -> &'static [u8]
 
 /// Appends an expression that stands at a position.
 #[cycle(expressions)]
+#[tactic(auto, using(homeo_syntax::proofs::Measures::low_expr_parts, homeo_syntax::proofs::LowViews::low_phrase_views, crate::proofs::FormulaSteps::expression_steps))]
 pub fn push_expr(
     out: &mut Vec<u8>,
     w: &Workload,
@@ -80,38 +92,58 @@ pub fn push_expr(
         ≡ out.old.items ++ expr_text_in (plain_workload w.now) position (plain_lexpr e.now)) }
 {
     match e {
-        LExpr::Literal(n) => push_signed(out, *n),
-        LExpr::Temp(t) => push_temp(out, w, *t),
-        LExpr::Read(x) => push_split_name(out, w, objects, *x),
+        LExpr::Literal(n) => {
+            push_signed(out, *n)?;
+            Ok(())
+        }
+        LExpr::Temp(t) => {
+            push_temp(out, w, *t)?;
+            Ok(())
+        }
+        LExpr::Read(x) => {
+            push_split_name(out, w, objects, *x)?;
+            Ok(())
+        }
         LExpr::Sum(es) => match position {
-            Position::Alone => push_sum(out, w, objects, es.as_slice()),
+            Position::Alone => {
+                push_sum(out, w, objects, es.as_slice())?;
+                Ok(())
+            }
             Position::AsTerm | Position::AsFactor | Position::Signed => {
                 push_bytes(out, b"(")?;
                 push_sum(out, w, objects, es.as_slice())?;
-                push_bytes(out, b")")
+                push_bytes(out, b")")?;
+                Ok(())
             }
         },
         LExpr::Product(es) => match position {
             Position::Alone | Position::AsTerm | Position::Signed => {
-                push_product(out, w, objects, es.as_slice())
+                push_product(out, w, objects, es.as_slice())?;
+                Ok(())
             }
             Position::AsFactor => {
                 push_bytes(out, b"(")?;
                 push_product(out, w, objects, es.as_slice())?;
-                push_bytes(out, b")")
+                push_bytes(out, b")")?;
+                Ok(())
             }
         },
         LExpr::Neg(inner) => match position {
             Position::Alone | Position::AsTerm | Position::AsFactor => {
                 push_bytes(out, b"-")?;
-                push_expr(out, w, objects, inner, Position::AsFactor)
+                push_expr(out, w, objects, inner, Position::AsFactor)?;
+                Ok(())
             }
-            Position::Signed => push_expr(out, w, objects, inner, Position::AsTerm),
+            Position::Signed => {
+                push_expr(out, w, objects, inner, Position::AsTerm)?;
+                Ok(())
+            }
         },
     }
 }
 
 #[cycle(expressions)]
+#[tactic(auto, using(homeo_syntax::proofs::Measures::low_expr_parts, homeo_syntax::proofs::LowViews::low_phrase_views, crate::proofs::FormulaSteps::expression_steps))]
 fn push_sum(
     out: &mut Vec<u8>,
     w: &Workload,
@@ -136,6 +168,7 @@ fn push_sum(
 }
 
 #[cycle(expressions)]
+#[tactic(auto, using(homeo_syntax::proofs::Measures::low_expr_parts, homeo_syntax::proofs::LowViews::low_phrase_views, crate::proofs::FormulaSteps::expression_steps))]
 fn push_product(
     out: &mut Vec<u8>,
     w: &Workload,
@@ -159,6 +192,7 @@ fn push_product(
     }
 }
 
+#[tactic(auto, using(crate::proofs::FormulaSteps::comparisons))]
 fn comparison_text(op: Compare) -> &'static [u8]
     ensures { result.now ≡ comparison_text op }
 {
@@ -170,6 +204,7 @@ fn comparison_text(op: Compare) -> &'static [u8]
 }
 
 #[cycle(conditions)]
+#[tactic(auto, using(homeo_syntax::proofs::Measures::low_test_parts, homeo_syntax::proofs::LowViews::low_phrase_views, crate::proofs::FormulaSteps::condition_steps))]
 fn push_test(
     out: &mut Vec<u8>,
     w: &Workload,
@@ -181,22 +216,28 @@ fn push_test(
         ≡ out.old.items ++ test_text (plain_workload w.now) (plain_ltest t.now)) }
 {
     match t {
-        LTest::True => push_bytes(out, b"true"),
+        LTest::True => {
+            push_bytes(out, b"true")?;
+            Ok(())
+        }
         LTest::Not(c) => {
             push_bytes(out, b"not (")?;
             push_cond(out, w, objects, c)?;
-            push_bytes(out, b")")
+            push_bytes(out, b")")?;
+            Ok(())
         }
         LTest::Compare { op, left, right } => {
             push_expr(out, w, objects, left, Position::Alone)?;
             push_bytes(out, comparison_text(*op))?;
-            push_expr(out, w, objects, right, Position::Alone)
+            push_expr(out, w, objects, right, Position::Alone)?;
+            Ok(())
         }
     }
 }
 
 /// Appends a condition.
 #[cycle(conditions)]
+#[tactic(auto, using(homeo_syntax::proofs::Measures::low_test_parts, homeo_syntax::proofs::LowViews::low_phrase_views, crate::proofs::FormulaSteps::condition_steps))]
 pub fn push_cond(
     out: &mut Vec<u8>,
     w: &Workload,
@@ -208,7 +249,10 @@ pub fn push_cond(
         ≡ out.old.items ++ cond_text (plain_workload w.now) (plain_lcond c.now)) }
 {
     match c.tests.as_slice() {
-        [] => push_bytes(out, b"true"),
+        [] => {
+            push_bytes(out, b"true")?;
+            Ok(())
+        }
         [first, more @ ..] => {
             push_test(out, w, objects, first)?;
             for t in more {

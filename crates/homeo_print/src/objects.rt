@@ -1,6 +1,8 @@
 //! The names of objects.
+#![tactic(auto, using(crate::proofs::NamedObjects::object_steps), unfolding(crate::specs::Key::words))]
 
-ghost use Rattle.std.specs.Prelude.{◌≡◌, ◌++◌, length, IfOk, OnOk};
+ghost use Rattle.std.specs.Prelude.{◌≡◌, [], ◌∷◌, ◌++◌, length, slice_get, IfOk, OnOk};
+ghost use Rattle.std.specs.Option.{option_copied};
 ghost use Rattle.homeo_syntax.specs.SourceView.{plain_relation, plain_workload};
 ghost use Rattle.homeo_meaning.specs.Schema.{nat_of};
 ghost use Rattle.homeo_print.specs.Names.{name_text, field_name, field_names, slot_names, relation_names, declared_names, object_names, name_at};
@@ -57,7 +59,7 @@ impl ObjectNames {
     pub fn get(&self, object: usize) -> &[u8]
         ensures { result.now ≡ name_at self.now object }
     {
-        match self.names.get(object) {
+        match text_at(self.names.as_slice(), object) {
             Some(name) => name.as_slice(),
             None => b"",
         }
@@ -80,7 +82,7 @@ impl ObjectNames {
         ensures { OnOk result (self.new ≡ self.old ++ declared_names (plain_workload w.now) objects.now) }
     {
         for object in objects {
-            self.push(name_of(w, object.name).to_vec(alloc)?)?;
+            self.push(Vec::from_slice(alloc, name_of(w, object.name))?)?;
         }
         Ok(())
     }
@@ -120,6 +122,12 @@ impl ObjectNames {
     }
 }
 
+fn text_at(texts: &[Vec<u8>], place: usize) -> Option<&Vec<u8>>
+    ensures { option_copied result ≡ slice_get texts.now place }
+{
+    texts.get(place)
+}
+
 #[tactic(auto, using(homeo_syntax::proofs::SourceViews::workload_views), unfolding(crate::specs::Key::words, homeo_syntax::specs::Key::words))]
 fn field_name(
     alloc: Global,
@@ -131,7 +139,7 @@ fn field_name(
     ensures { IfOk result (λ name. name.items
         ≡ field_name (plain_workload w.now) (plain_relation relation.now) slot field.now) }
 {
-    let mut name = name_of(w, relation.name).to_vec(alloc)?;
+    let mut name = Vec::from_slice(alloc, name_of(w, relation.name))?;
     push_bytes(&mut name, b".")?;
     push_number(&mut name, slot)?;
     push_bytes(&mut name, b".")?;

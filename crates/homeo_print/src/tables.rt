@@ -1,4 +1,5 @@
 //! The texts of rows and tables.
+#![tactic(auto, using(homeo_syntax::proofs::LowViews::low_command_views, crate::proofs::TableSteps::table_steps))]
 
 ghost use Rattle.std.specs.Prelude.{◌≡◌, ◌++◌, map, OnOk};
 ghost use Rattle.homeo_syntax.specs.SourceView.{plain_workload};
@@ -6,7 +7,7 @@ ghost use Rattle.homeo_syntax.specs.LowView.{low_commands, plain_lcommand};
 ghost use Rattle.homeo_meaning.specs.Ground.{plain_ground};
 ghost use Rattle.homeo_plan.specs.PlanView.{plain_row};
 ghost use Rattle.homeo_print.specs.Names.{object_names};
-ghost use Rattle.homeo_print.specs.Tables.{command_text, residual_text, row_text, rows_text, table_text};
+ghost use Rattle.homeo_print.specs.Tables.{command_text, commands_text, residual_text, row_text, rows_text, table_text};
 
 use crate::append::{push_bytes, push_heading, push_number};
 use crate::calls::print_call;
@@ -32,21 +33,48 @@ fn push_command(
         LCommand::Assign { target, value } => {
             push_temp(out, w, *target)?;
             push_bytes(out, b" := ")?;
-            push_expr(out, w, objects, value, Position::Alone)
+            push_expr(out, w, objects, value, Position::Alone)?;
+            Ok(())
         }
         LCommand::Write { target, value } => {
             push_bytes(out, b"write(")?;
             push_split_name(out, w, objects, *target)?;
             push_bytes(out, b" = ")?;
             push_expr(out, w, objects, value, Position::Alone)?;
-            push_bytes(out, b")")
+            push_bytes(out, b")")?;
+            Ok(())
         }
         LCommand::Print { value } => {
             push_bytes(out, b"print(")?;
             push_expr(out, w, objects, value, Position::Alone)?;
-            push_bytes(out, b")")
+            push_bytes(out, b")")?;
+            Ok(())
         }
         LCommand::Skip | LCommand::Seq { .. } | LCommand::If { .. } => Ok(()),
+    }
+}
+
+/// Appends commands, with a semicolon and a space between each two.
+fn push_commands(
+    out: &mut Vec<u8>,
+    w: &Workload,
+    objects: &ObjectNames,
+    commands: &[LCommand],
+) -> Result<(), Memory>
+    requires named { objects.now ≡ object_names (plain_workload w.now) }
+    ensures { OnOk result (out.new.items
+        ≡ out.old.items ++ commands_text (plain_workload w.now) (low_commands (map plain_lcommand commands.now))) }
+{
+    match commands {
+        [] => Ok(()),
+        [first, more @ ..] => {
+            push_command(out, w, objects, first)?;
+            for c in more {
+                push_bytes(out, b"; ")?;
+                push_command(out, w, objects, c)?;
+            }
+            Ok(())
+        }
     }
 }
 
@@ -60,17 +88,14 @@ fn push_residual(
     ensures { OnOk result (out.new.items
         ≡ out.old.items ++ residual_text (plain_workload w.now) (low_commands (map plain_lcommand commands.now))) }
 {
-    match commands {
-        [] => push_bytes(out, b"{}"),
-        [first, more @ ..] => {
-            push_bytes(out, b"{ ")?;
-            push_command(out, w, objects, first)?;
-            for c in more {
-                push_bytes(out, b"; ")?;
-                push_command(out, w, objects, c)?;
-            }
-            push_bytes(out, b" }")
-        }
+    if commands.is_empty() {
+        push_bytes(out, b"{}")?;
+        Ok(())
+    } else {
+        push_bytes(out, b"{ ")?;
+        push_commands(out, w, objects, commands)?;
+        push_bytes(out, b" }")?;
+        Ok(())
     }
 }
 
@@ -96,7 +121,8 @@ pub fn print_row(
     push_cond(out, w, objects, &row.formula)?;
     push_bytes(out, b"\ndo ")?;
     push_residual(out, w, objects, row.residual.as_slice())?;
-    push_bytes(out, b"\n")
+    push_bytes(out, b"\n")?;
+    Ok(())
 }
 
 /// Appends rows, numbered from 0.
@@ -141,5 +167,6 @@ pub fn print_table(
     push_bytes(out, b" at ")?;
     push_number(out, call.site as u64)?;
     push_heading(out, b" rows ", rows.len() as u64)?;
-    push_rows(out, w, objects, rows)
+    push_rows(out, w, objects, rows)?;
+    Ok(())
 }
