@@ -2,24 +2,22 @@
 use Rattle.std.proofs.Common.{◌≡◌, ℕ, true, arith, ◌<◌, List, ℤ, ◌+◌, ◌*◌}
 use Rattle.homeo_syntax.specs.Source as s
 use Rattle.homeo_meaning.specs.Key.{words as meaning_words}
-use Rattle.homeo_meaning.specs.declared.call.Purpose.TheVariants.{Run}
 use Rattle.homeo_meaning.specs.Acceptance.{limit, IsAccepted}
-use Rattle.homeo_meaning.specs.Bounds.{all_bounds, IsWithin}
+use Rattle.homeo_meaning.specs.Bounds.{IsWithin}
 use Rattle.homeo_meaning.specs.CallForm.{ground_form}
 use Rattle.homeo_meaning.specs.LowWeights.{first_weights, is_light}
 use Rattle.homeo_meaning.specs.Schema.{schema_of}
 use Rattle.homeo_meaning.specs.Serial.{values_of}
 use Rattle.homeo_meaning.specs.Small.{IsSmall}
-use Rattle.homeo_meaning.proofs.FaultParts.{NoFault, parts}
 use Rattle.homeo_meaning.proofs.LightCalls.{ground_call_light}
 use Rattle.homeo_meaning.proofs.Sound.{sound}
 use Rattle.homeo_meaning.proofs.Within.{all_within}
 use Rattle.homeo_plan.specs.SmallForms.{HasSmallForms}
 use Rattle.homeo_plan.specs.Split.{shift}
 use Rattle.homeo_plan.specs.Table.{walk}
-use Rattle.homeo_plan.proofs.BoundSizes.{bounds_small}
 use Rattle.homeo_plan.proofs.GroundForms.{ground_whole}
-use Rattle.homeo_plan.proofs.SmallForms.{size_at, small_forms}
+use Rattle.homeo_plan.proofs.GroundNumbers.{values_small}
+use Rattle.homeo_plan.proofs.SmallForms.{small_forms}
 use Rattle.homeo_meaning.specs.Ground.{Ground}
 use Rattle.homeo_meaning.specs.Calls.{IsGroundCall}
 use Rattle.homeo_meaning.specs.LowMeaning.{whole}
@@ -31,8 +29,6 @@ pub accepted_forms :
 unfolding meaning_words
 accepted_forms w g k i base accepted ground within inside =
     let light : is_light limit (ground_form w g) (first_weights (schema_of w)) ≡ true = ground_call_light w g.transaction g.args (sound w accepted) ground in
-    let p : NoFault Run w = parts Run w accepted.rules in
     let all = all_within (schema_of w) base within in
-    let small : (n : ℕ) → IsSmall limit (values_of base n) =
-    λ n. omega (arith, size_at (all_bounds (schema_of w)) n (values_of base n) (all n), bounds_small w p.text.declared n) in
+    let small : (n : ℕ) → IsSmall limit (values_of base n) = λ n. omega (arith, values_small w accepted (values_of base) all n) in
     small_forms limit (schema_of w) k i (ground_form w g) (values_of base) inside (ground_whole w g) all small light
