@@ -1,4 +1,4 @@
-use Rattle.std.proofs.Common.{◌≡◌, List, [], length, ap, ◌∙◌, arith}
+use Rattle.std.proofs.Common.{◌≡◌, [], length, ap, arith}
 use Rattle.homeo_syntax.specs.Listed.{Listed}
 use Rattle.homeo_syntax.specs.SourceView.{plain_workload}
 use Rattle.homeo_syntax.specs.declared.workload.RelationDecl.{RelationDecl}
