@@ -1,5 +1,5 @@
 -- Ground calls by the transactions that are looked up.
-use Rattle.std.proofs.Common.{◌≡◌, Option, Some, None, [], map, sym, ap, ◌∙◌}
+use Rattle.std.proofs.Common.{◌≡◌, Option, Some, None, [], sym, ap, ◌∙◌}
 use Rattle.std.specs.Prelude.{slice_get}
 use Rattle.std.specs.Option.{option_map, option_map_or}
 use Rattle.std.proofs.lemmas.Option.{slice_get-map}

@@ -8,7 +8,7 @@ use Rattle.std.proofs.lemmas.List.{length-map}
 use Rattle.std.proofs.lemmas.List.Folds.{flat_map-map}
 use Rattle.homeo_plan.specs.declared.rows.JointRow.{JointRow}
 use Rattle.homeo_print.specs.Key.{words}
-use Rattle.homeo_print.specs.Names.{newline, heading, numbers_text}
+use Rattle.homeo_print.specs.Names.{newline, heading}
 use Rattle.homeo_print.specs.Tables.{most_choices, pick_line, choices_text}
 use Rattle.homeo_print.specs.inner.Choices.{pick_text, picks_text}
 use Rattle.homeo_print.proofs.Listed.{flat_more}

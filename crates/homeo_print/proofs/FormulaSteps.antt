@@ -10,7 +10,7 @@ use Rattle.homeo_syntax.specs.LowView.{low_exprs, low_tests, plain_lexpr, plain_
 use Rattle.homeo_syntax.specs.declared.phrase.Compare.{Compare}
 use Rattle.homeo_syntax.specs.declared.phrase.Compare.TheVariants as compare
 use Rattle.homeo_syntax.specs.declared.low.Temp.{Temp}
-use Rattle.homeo_syntax.specs.declared.low.Temp.TheVariants.{Named, Fresh}
+use Rattle.homeo_syntax.specs.declared.low.Temp.TheVariants.{Fresh}
 use Rattle.homeo_syntax.specs.declared.low.SplitName.{SplitName}
 use Rattle.homeo_syntax.specs.declared.low.SplitName.TheVariants.{Whole, Base, Delta}
 use Rattle.homeo_syntax.specs.declared.low.LExpr.{LExpr}

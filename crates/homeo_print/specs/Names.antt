@@ -1,4 +1,4 @@
--- Names, and the lines that begin with a word.
+-- Names of objects, and small texts that others are made of.
 use Rattle.std.specs.Prelude.{ℕ, List, [], ◌∷◌, ◌++◌, map, ℤ, codes, decimal, slice_get, unwrap_or}
 use Rattle.std.specs.Fmt.{signed_decimal}
 use Rattle.std.specs.List.{flat_map, range_with_len}

@@ -1,5 +1,5 @@
 -- The text of symbolic tables and of the joint table (this project's rule).
-use Rattle.std.specs.Prelude.{ℕ, cond, nat_lt, List, [], ◌∷◌, ◌++◌, map, length, codes, decimal, slice_get, unwrap_or}
+use Rattle.std.specs.Prelude.{ℕ, cond, nat_lt, List, [], ◌++◌, map, length, codes, decimal}
 use Rattle.std.specs.Fmt.{signed_decimal}
 use Rattle.std.specs.List.{flat_map, enumerate_from}
 use Rattle.homeo_syntax.specs.Source as s
@@ -43,6 +43,7 @@ abbrev pub in_parentheses : List ℕ → List ℕ
 unfolding words
 in_parentheses text = codes "(" ++ text ++ codes ")"
 
+-- No table has a sum or a product without items: it has no text.
 abbrev mutual
   unfolding words
 

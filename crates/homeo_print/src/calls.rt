@@ -58,12 +58,7 @@ fn push_arguments(out: &mut Vec<u8>, args: &[i64]) -> Result<(), Memory>
 /// # Errors
 ///
 /// `Memory` when out of memory, and then some of the bytes may be appended.
-pub fn push_call(
-    out: &mut Vec<u8>,
-    w: &Workload,
-    name: Ident,
-    args: &[i64],
-) -> Result<(), Memory>
+pub fn push_call(out: &mut Vec<u8>, w: &Workload, name: Ident, args: &[i64]) -> Result<(), Memory>
     ensures { OnOk result (out.new.items
         ≡ out.old.items ++ call_text (plain_workload w.now) name args.now) }
 {

@@ -69,11 +69,8 @@ fn sign_of(e: &LExpr) -> &'static [u8]
 {
     match e {
         LExpr::Neg(_) => b" - ",
-        LExpr::Literal(_)
-        | LExpr::Temp(_)
-        | LExpr::Read(_)
-        | LExpr::Sum(_)
-        | LExpr::Product(_) => b" + ",
+        LExpr::Literal(_) | LExpr::Temp(_) | LExpr::Read(_) | LExpr::Sum(_) | LExpr::Product(_) =>
+            b" + ",
     }
 }
 

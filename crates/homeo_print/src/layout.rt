@@ -4,9 +4,9 @@ ghost use Rattle.std.specs.Prelude.{◌≡◌, [], ◌++◌, map, get_or, IfOk, 
 ghost use Rattle.homeo_print.specs.inner.Pieces.{kind_of};
 ghost use Rattle.homeo_print.specs.Layout.{token_text, mark_sort, sort_of, loose_gap, name_gap, opening_gap, dot_gap, gap, after_minus, after, printed};
 
+use crate::append::{push_bytes, push_number};
 use crate::pieces::Piece;
 use homeo_syntax::{Mark, Memory, Text};
-use itoa::Buffer;
 use std::alloc::Global;
 
 /// How a token stands beside others.
@@ -188,13 +188,6 @@ fn after(before: Before, sort: Sort) -> Before
     }
 }
 
-fn push_bytes(text: &mut Vec<u8>, bytes: &[u8]) -> Result<(), Memory>
-    ensures pushed { OnOk result (text.new.items ≡ text.old.items ++ bytes.now) }
-{
-    text.extend_from_slice(bytes)?;
-    Ok(())
-}
-
 fn name_text(names: &[Text], index: u32) -> &[u8]
     ensures text { result.now ≡ get_or names.now index [] }
 {
@@ -211,10 +204,7 @@ fn push_token(text: &mut Vec<u8>, names: &[Text], piece: Piece) -> Result<(), Me
 {
     match piece {
         Piece::Name(index) => push_bytes(text, name_text(names, index)),
-        Piece::Number(value) => {
-            let mut digits = Buffer::new();
-            push_bytes(text, digits.format(value).as_bytes())
-        }
+        Piece::Number(value) => push_number(text, value),
         Piece::Fixed(mark) => push_bytes(text, mark.text()),
     }
 }

@@ -8,9 +8,10 @@ use Rattle.homeo_meaning.specs.Key.{words as meanings}
 use Rattle.homeo_meaning.specs.Schema.{Declared, declared_object, declared_range, declared_relation, nat_of, schema_of}
 use Rattle.homeo_meaning.specs.Bounds.{Bounds, bounds_of, slot_bounds, relation_bounds, all_bounds, AreIn, IsWithin}
 use Rattle.homeo_history.specs.History.{History}
-use Rattle.homeo_report.specs.Key.{words}
-use Rattle.homeo_report.specs.Report.{declared_names, slot_names, relation_names, object_names, CanReport}
-use Rattle.homeo_report.proofs.ObjectLines.{first_names, first_names_more, length_slot_names, relation_names_are, length_declared}
+use Rattle.homeo_print.specs.Key.{words as prints}
+use Rattle.homeo_print.specs.Names.{declared_names, slot_names, relation_names, object_names}
+use Rattle.homeo_print.proofs.NamedObjects.{first_names, first_names_more, length_slot_names, relation_names_are, length_declared}
+use Rattle.homeo_report.specs.Report.{CanReport}
 
 length_within : (bounds : List Bounds) (values : List ℤ) → AreIn bounds values → length values ≡ length bounds
 length_within [] [] h = refl
@@ -49,7 +50,7 @@ relations_alike w (r ∷ relations) =
     )
 
 pub length_object_bounds : (w : s.Workload) → length (all_bounds (schema_of w)) ≡ length (object_names w)
-unfolding words meanings
+unfolding prints meanings
 length_object_bounds w =
     let objects : List Declared = map declared_object w.objects in
     omega (

@@ -14,9 +14,10 @@ use Rattle.homeo_history.specs.HistoryView.{plain_entry, plain_segment, plain_cl
 use Rattle.homeo_history.specs.declared.history.Segment.{Segment}
 use Rattle.homeo_history.specs.declared.history.Closing.{Closing}
 use Rattle.homeo_history.specs.declared.history.Round.{Round}
-use Rattle.homeo_report.proofs.RoundLines.{views_more}
+use Rattle.homeo_print.specs.Names.{heading}
+use Rattle.homeo_print.proofs.OneMore.{views_more}
 use Rattle.homeo_report.specs.Key.{words}
-use Rattle.homeo_report.specs.Report.{heading, entry_line, entries_text, segment_text, segments_text, closing_text, round_text}
+use Rattle.homeo_report.specs.Report.{entry_line, entries_text, segment_text, segments_text, closing_text, round_text}
 
 -- ---- counting
 pub segments_count_more : (segments : List Segment) (i : ℕ) (s : Segment) → i < length segments → s ≡ get_or segments i s → length (flat_map plain_segment (take (i + 1) segments)) ≡ length (flat_map plain_segment (take i segments)) + length s.entries.items

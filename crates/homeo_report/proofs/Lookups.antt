@@ -12,7 +12,8 @@ use Rattle.homeo_meaning.specs.Key.{words as meanings}
 use Rattle.homeo_meaning.specs.declared.call.CallId.{CallId}
 use Rattle.homeo_meaning.specs.Serial.{numbered, call_of}
 use Rattle.homeo_report.specs.Key.{words}
-use Rattle.homeo_report.specs.Report.{name_text, client_text}
+use Rattle.homeo_print.specs.Names.{name_text}
+use Rattle.homeo_report.specs.Report.{client_text}
 
 -- the client of a number, in the plain workload
 pub client_at : (w : Workload) (n : ℕ) → slice_get (plain_workload w).clients n ≡ option_map plain_client (slice_get w.clients.items n)

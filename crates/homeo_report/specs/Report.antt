@@ -62,16 +62,16 @@ unfolding words
 rounds_text w rounds = flat_map (λ r. round_text w r.0 r.1) (enumerate_from 0 rounds)
 
 -- ---- objects
--- what stands behind the name of an object in its line: NAME = V
-abbrev pub value_text : ℤ → List ℕ
+-- NAME = V
+abbrev pub object_line : List ℕ → ℤ → List ℕ
 unfolding words
-value_text v = codes " = " ++ signed_decimal v ++ newline
+object_line name v = name ++ codes " = " ++ signed_decimal v ++ newline
 
 abbrev pub object_lines : List (List ℕ) → List ℤ → List ℕ
 unfolding words
 object_lines [] values = []
 object_lines (name ∷ names) [] = []
-object_lines (name ∷ names) (v ∷ values) = name ++ value_text v ++ object_lines names values
+object_lines (name ∷ names) (v ∷ values) = object_line name v ++ object_lines names values
 
 -- ---- the whole
 abbrev pub totals_line : ℕ → ℕ → List ℕ

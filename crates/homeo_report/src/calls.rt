@@ -75,7 +75,8 @@ fn push_made(out: &mut Vec<u8>, w: &Workload, id: CallId) -> Result<(), Memory>
     match call_of(w, id) {
         Some(call) => {
             let args = arguments_of(*out.allocator(), call)?;
-            push_call(out, w, call.name, args.as_slice())
+            push_call(out, w, call.name, args.as_slice())?;
+            Ok(())
         }
         None => Ok(()),
     }

@@ -13,12 +13,12 @@ pub loop-piece-preserved : goal.loop-piece-preserved
 loop-piece-preserved c =
     laid_more c.args.names.now c.loop-piece.before c.args.pieces.now c.loop-piece.piece-index (piece.Name 0) _ c.loop-piece.text.items _ _ _ _
     c.loop-piece-test.true c.loop-piece.invariant c.sort_of-sort.ensures.sort
-    (c.in_ok-push_bytes.ensures.pushed ∙ ap (λ g. c.loop-piece.text.items ++ g) c.gap.ensures.text)
+    (c.in_ok-push_bytes.ensures ∙ ap (λ g. c.loop-piece.text.items ++ g) c.gap.ensures.text)
     c.in_ok-push_token.ensures.pushed c.after-before.ensures.state
 
 pub returns : goal.returns
 returns c = record {
-  text = c.in_ok-push_bytes-2.ensures.pushed
+  text = c.in_ok-push_bytes-2.ensures
       ∙ ap (λ l. c.loop-piece.text.items ++ l) (sym (laid_end c.args.names.now c.loop-piece.before c.args.pieces.now c.loop-piece.piece-index c.loop-piece-test.false))
       ∙ c.loop-piece.invariant;
 }

@@ -2,7 +2,8 @@ use Rattle.std.proofs.Common.{◌≡◌, ◌++◌, map, take}
 use Rattle.std.specs.Prelude.{codes}
 use Rattle.homeo_syntax.specs.SourceView.{plain_workload}
 use Rattle.homeo_history.specs.HistoryView.{plain_entry}
-use Rattle.homeo_report.specs.Report.{heading, entries_text}
+use Rattle.homeo_print.specs.Names.{heading}
+use Rattle.homeo_report.specs.Report.{entries_text}
 use Rattle.homeo_report.proofs.rounds.push_segment.Given as goal
 
 abbrev pub invariant-loop-entry : goal.invariant-loop-entry

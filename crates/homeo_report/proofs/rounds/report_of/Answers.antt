@@ -6,12 +6,13 @@ use Rattle.homeo_history.specs.Key.{words as histories}
 use Rattle.homeo_history.specs.Legal.{calls_of}
 use Rattle.homeo_history.specs.HistoryView.{plain_round}
 use Rattle.homeo_report.specs.Key.{words}
-use Rattle.homeo_report.specs.Report.{rounds_text, object_names, object_lines, totals_line}
+use Rattle.homeo_print.specs.Names.{object_names}
+use Rattle.homeo_report.specs.Report.{rounds_text, object_lines, totals_line}
 use Rattle.homeo_report.proofs.rounds.report_of.Goals as goal
 
 pub push_objects-requires : goal.push_objects-requires
 unfolding histories
-push_objects-requires c = ap length c.as_slice-2.ensures ∙ c.requires.values
+push_objects-requires c = ap length c.as_slice-2.ensures ∙ c.requires.values ∙ ap length (sym c.in_ok-names.ensures)
 
 assembled : (rounds heading objects totals a b d : List ℕ) → a ≡ rounds → b ≡ a ++ heading → d ≡ b ++ objects → d ++ totals ≡ rounds ++ heading ++ objects ++ totals
 assembled rounds heading objects totals a b d first second third =
@@ -32,4 +33,5 @@ returns c =
     (c.in_ok-calls.ensures.text ∙ ap (λ l. l ++ rounds_text w (map plain_round c.as_slice.result.now)) c.new-out.ensures.items
     ∙ ap (λ rs. rounds_text w (map plain_round rs)) c.as_slice.ensures)
     c.in_ok-push_bytes.ensures
-    (c.in_ok-push_objects.ensures ∙ ap (λ vs. c.push_bytes.new.out.items ++ object_lines (object_names w) vs) c.as_slice-2.ensures)
+    (c.in_ok-push_objects.ensures ∙ ap (λ names. c.push_bytes.new.out.items ++ object_lines names c.as_slice-2.result.now) c.in_ok-names.ensures
+    ∙ ap (λ vs. c.push_bytes.new.out.items ++ object_lines (object_names w) vs) c.as_slice-2.ensures)

@@ -1,10 +1,10 @@
-use Rattle.std.proofs.Common.{◌≡◌, List, [], length, ap, ◌∙◌, arith}
+use Rattle.std.proofs.Common.{◌≡◌, [], length, ap, arith}
 use Rattle.homeo_syntax.specs.Listed.{Listed}
 use Rattle.homeo_syntax.specs.SourceView.{plain_workload}
 use Rattle.homeo_syntax.specs.declared.workload.RelationDecl.{RelationDecl}
 use Rattle.homeo_syntax.specs.declared.workload.Workload.{Workload}
-use Rattle.homeo_report.specs.Report.{object_names}
-use Rattle.homeo_report.proofs.ObjectLines.{length_object_names, names_of}
+use Rattle.homeo_print.specs.Names.{object_names}
+use Rattle.homeo_print.proofs.NamedObjects.{length_object_names, names_of}
 use Rattle.homeo_report.proofs.tests.workload.Goals as goal
 
 one_object : (w : Workload) → length w.objects.items ≡ 1 → w.relations.items ≡ [] → length (object_names (plain_workload w)) ≡ 1
