@@ -1,5 +1,7 @@
 pub mod Equations
+pub mod Substituted
+pub mod Bound
 pub mod Makings
-pub mod Fronts
+pub mod Following
 pub mod Held
 pub mod RowCounts

@@ -1,110 +1,98 @@
--- Rows in the making, with commands and tests in front.
-use Rattle.std.proofs.Common.{◌≡◌, List, [], ◌∷◌, ◌++◌, map, reverse, refl, sym, ap, ap₂, ◌∙◌}
-use Rattle.std.proofs.lemmas.List.{reverse-append, map_push}
+-- One more command or test of a row in the making.
+use Rattle.std.proofs.Common.{◌≡◌, Option, Some, None, List, [], ◌∷◌, ◌++◌, map, refl, sym, ap, ap₂, ◌∙◌}
+use Rattle.std.proofs.lemmas.List.{map_push}
 use Rattle.homeo_syntax.specs.Key.{words as tree_words}
 use Rattle.homeo_syntax.specs.declared.low.LTest.{LTest}
 use Rattle.homeo_syntax.specs.declared.low.LCommand.{LCommand}
-use Rattle.homeo_syntax.specs.Low.{Test, Cond, Not, MoreTest, Command}
-use Rattle.homeo_syntax.specs.LowView.{low_tests, low_commands, plain_lexpr, plain_ltest, plain_lcommand}
-use Rattle.homeo_plan.specs.Key.{words}
+use Rattle.homeo_syntax.specs.Low.{Expr, Test, Cond, Not, NoTest, MoreTest, Command, Commands, NoCommand, MoreCommand}
+use Rattle.homeo_syntax.specs.LowView.{low_tests, low_commands, plain_ltest, plain_lcommand}
+use Rattle.homeo_meaning.specs.LowMeaning.{Location, put}
+use Rattle.homeo_plan.specs.Key.{words as plan_words}
 use Rattle.homeo_plan.specs.Table.{Row, both, set_before, test_before, otherwise, clear_row, last_row}
-use Rattle.homeo_table.specs.declared.making.Making.{Making}
-use Rattle.homeo_table.specs.declared.substitution.Substitution.{Substitution}
-use Rattle.homeo_table.specs.declared.substitution.Substitution.TheVariants.{Replace, Clear}
-use Rattle.homeo_table.specs.declared.places.Place.{Place}
-use Rattle.homeo_table.specs.inner.Places.{plain_place}
-use Rattle.homeo_plan.specs.declared.rows.Row as rows
-use Rattle.homeo_plan.specs.PlanView.{plain_row}
-use Rattle.homeo_syntax.specs.Listed.{Listed}
-use Rattle.homeo_syntax.specs.declared.low.LCond.{roll-LCond}
-use Rattle.homeo_syntax.proofs.LowViews.{low_conjunction_of}
-use Rattle.homeo_table.specs.inner.Substitution.{substituted_test, substituted_cond}
-use Rattle.homeo_table.specs.inner.Makings.{plain_making, command_before}
-use Rattle.homeo_table.proofs.Equations.{substituted_all}
+use Rattle.homeo_table.specs.inner.Key.{words}
+use Rattle.homeo_table.specs.inner.Makings.{and_then, row_with, command_before}
+use Rattle.homeo_table.specs.inner.Substitution.{substituted, substituted_test, substituted_cond}
+use Rattle.homeo_table.proofs.Equations.{substituted-tests}
+use Rattle.homeo_table.proofs.Substituted.{put-cond, substituted-both, none-cond}
 
--- ---- lists from the last to the first
-reverse-cons : {X : Type 0} (x : X) (xs : List X) → reverse (x ∷ xs) ≡ reverse xs ++ x ∷ []
-reverse-cons x xs = reverse-append (x ∷ []) xs
+abbrev pub row_of : Cond → Commands → Row
+row_of c cs = record { formula = c; residual = cs }
 
-pub reverse-push : {X : Type 0} (xs : List X) (x : X) → reverse (xs ++ x ∷ []) ≡ x ∷ reverse xs
-reverse-push xs x = reverse-append xs (x ∷ [])
+-- ---- lists of tests and commands
+both-append : (ts us : List Test) (c : Cond) → both (low_tests (ts ++ us)) c ≡ both (low_tests ts) (both (low_tests us) c)
+unfolding plan_words tree_words
+both-append [] us c = refl
+both-append (t ∷ ts) us c = ap (MoreTest t) (both-append ts us c)
 
-pub map-reverse : {X Y : Type 0} (f : X → Y) (xs : List X) → map f (reverse xs) ≡ reverse (map f xs)
-map-reverse f [] = refl
-map-reverse f (x ∷ xs) =
-    ap (map f) (reverse-cons x xs) ∙ map_push f (reverse xs) x ∙ ap (λ l. l ++ f x ∷ []) (map-reverse f xs)
-    ∙ sym (reverse-cons (f x) (map f xs))
+both-none : (c : Cond) → both c NoTest ≡ c
+unfolding plan_words
+both-none NoTest = refl
+both-none (MoreTest t c) = ap (MoreTest t) (both-none c)
 
-pushed : {X Y : Type 0} (f : X → Y) (xs ys : List X) (x : X) (y : Y) → ys ≡ xs ++ x ∷ [] → f x ≡ y → reverse (map f ys) ≡ y ∷ reverse (map f xs)
-pushed f xs ys x y e h = ap (λ l. reverse (map f l)) e ∙ ap reverse (map_push f xs x) ∙ reverse-push (map f xs) (f x) ∙ ap (λ z. z ∷ reverse (map f xs)) h
+then-push : (cs : List Command) (c : Command) (ds : Commands) → and_then (cs ++ c ∷ []) ds ≡ and_then cs (MoreCommand c ds)
+unfolding words
+then-push [] c ds = refl
+then-push (d ∷ cs) c ds = ap (MoreCommand d) (then-push cs c ds)
 
-pub low-both : (ts us : List Test) → low_tests (ts ++ us) ≡ both (low_tests ts) (low_tests us)
+then-none : (cs : List Command) → and_then cs NoCommand ≡ low_commands cs
 unfolding words tree_words
-low-both [] us = refl
-low-both (t ∷ ts) us = ap (MoreTest t) (low-both ts us)
-
-abbrev row_of : Cond → List Command → Row
-row_of c cs = record { formula = c; residual = low_commands cs }
+then-none [] = refl
+then-none (c ∷ cs) = ap (MoreCommand c) (then-none cs)
 
 -- ---- rows
-pub making-last : (m : Making) → m.tests.items ≡ [] → m.commands.items ≡ [] → plain_making m ≡ last_row
-unfolding words tree_words plain_making
-making-last m e f =
-    ap₂ (λ ts cs. row_of (low_tests (reverse (map plain_ltest ts))) (reverse (map plain_lcommand cs))) e f
+pub row-new : (ts : List LTest) (cs : List LCommand) (s : Location → Option Expr) → ts ≡ [] → cs ≡ [] → s ≡ (λ l. None) → row_with (map plain_ltest ts) (map plain_lcommand cs) s ≡ clear_row
+unfolding words plan_words tree_words
+row-new ts cs s e f h =
+    ap₂ (λ ts cs. row_with (map plain_ltest ts) (map plain_lcommand cs) s) e f ∙ ap (row_with [] []) h
+    ∙ (λ i r. row_of (none-cond r.formula i) r.residual)
 
-pub making-same :
-    (m n : Making) → map plain_ltest n.tests.items ≡ map plain_ltest m.tests.items →
-    map plain_lcommand n.commands.items ≡ map plain_lcommand m.commands.items → plain_making n ≡ plain_making m
-unfolding plain_making
-making-same m n e f = ap₂ (λ ts cs. row_of (low_tests (reverse ts)) (reverse cs)) e f
+pub row-same :
+    (ts ts' : List Test) (cs cs' : List Command) (s s' : Location → Option Expr) → ts ≡ ts' → cs ≡ cs' → s ≡ s' → row_with ts cs s ≡ row_with ts' cs' s'
+row-same ts ts' cs cs' s s' e f h = ap₂ (λ ts cs. row_with ts cs s) e f ∙ ap (row_with ts' cs') h
 
-pub making-command :
-    (m n : Making) (c : LCommand) (d : Command) → n.tests.items ≡ m.tests.items → n.commands.items ≡ m.commands.items ++ c ∷ [] →
-    plain_lcommand c ≡ d → plain_making n ≡ command_before d (plain_making m)
-unfolding words tree_words plain_making command_before
-making-command m n c d e f h =
-    ap₂ (λ ts cs. row_of (low_tests (reverse (map plain_ltest ts))) cs) e (pushed plain_lcommand m.commands.items n.commands.items c d f h)
+row-put :
+    (ts : List Test) (cs : List Command) (s : Location → Option Expr) (c : Command) (p : Location) (e : Expr) →
+    row_with ts (cs ++ c ∷ []) (put s p (Some (substituted s e))) ≡ (λ r. row_with ts cs s (set_before c p e r))
+unfolding plan_words
+row-put ts cs s c p e = λ i r. row_of (both (low_tests ts) (put-cond s p e r.formula i)) (then-push cs c r.residual i)
 
-formula-put :
-    (s : Substitution) (ts us : List LTest) → map plain_ltest us ≡ map (substituted_test s) (map plain_ltest ts) →
-    low_tests (reverse (map plain_ltest us)) ≡ substituted_cond s (low_tests (reverse (map plain_ltest ts)))
-formula-put s ts us e =
-    ap (λ l. low_tests (reverse l)) e ∙ ap low_tests (sym (map-reverse (substituted_test s) (map plain_ltest ts)))
-    ∙ sym (substituted_all s (reverse (map plain_ltest ts)))
+pub row-set :
+    (ts : List Test) (xs ys : List LCommand) (s s' : Location → Option Expr) (x : LCommand) (c : Command) (p : Location) (e v : Expr) →
+    ys ≡ xs ++ x ∷ [] → plain_lcommand x ≡ c → s' ≡ put s p (Some v) → v ≡ substituted s e →
+    row_with ts (map plain_lcommand ys) s' ≡ (λ r. row_with ts (map plain_lcommand xs) s (set_before c p e r))
+row-set ts xs ys s s' x c p e v h is k w =
+    ap₂ (λ cs s. row_with ts cs s) (ap (map plain_lcommand) h ∙ map_push plain_lcommand xs x ∙ ap (λ c. map plain_lcommand xs ++ c ∷ []) is)
+    (k ∙ ap (λ v. put s p (Some v)) w)
+    ∙ row-put ts (map plain_lcommand xs) s c p e
 
-pub making-set :
-    (p : Place) (e : _) (m n : Making) (c : LCommand) (d : Command) →
-    map plain_ltest n.tests.items ≡ map (substituted_test (Replace p e)) (map plain_ltest m.tests.items) →
-    n.commands.items ≡ m.commands.items ++ c ∷ [] → plain_lcommand c ≡ d →
-    plain_making n ≡ set_before d (plain_place p) (plain_lexpr e.now) (plain_making m)
-unfolding words tree_words plain_making substituted_cond
-making-set p e m n c d h f k =
-    ap₂ row_of (formula-put (Replace p e) m.tests.items n.tests.items h) (pushed plain_lcommand m.commands.items n.commands.items c d f k)
+pub row-command :
+    (ts : List Test) (xs ys : List LCommand) (s : Location → Option Expr) (x : LCommand) (c : Command) → ys ≡ xs ++ x ∷ [] → plain_lcommand x ≡ c →
+    row_with ts (map plain_lcommand ys) s ≡ (λ r. row_with ts (map plain_lcommand xs) s (command_before c r))
+unfolding command_before
+row-command ts xs ys s x c h is =
+    ap (λ cs. row_with ts cs s) (ap (map plain_lcommand) h ∙ map_push plain_lcommand xs x ∙ ap (λ c. map plain_lcommand xs ++ c ∷ []) is)
+    ∙ (λ i r. row_of (both (low_tests ts) (substituted_cond s r.formula)) (then-push (map plain_lcommand xs) c r.residual i))
 
-pub making-tests :
-    (m n : Making) (front : List Test) (b : Cond) →
-    reverse (map plain_ltest n.tests.items) ≡ front ++ reverse (map plain_ltest m.tests.items) → b ≡ low_tests front →
-    n.commands.items ≡ m.commands.items → plain_making n ≡ test_before b (plain_making m)
-unfolding words plain_making
-making-tests m n front b e h f =
-    ap₂ (λ ts cs. row_of (low_tests ts) (reverse (map plain_lcommand cs))) e f
-    ∙ ap (λ b. row_of b (reverse (map plain_lcommand m.commands.items)))
-    (low-both front (reverse (map plain_ltest m.tests.items)) ∙ ap (λ c. both c (low_tests (reverse (map plain_ltest m.tests.items)))) (sym h))
+pub row-tests :
+    (ts ts' us : List Test) (cs : List Command) (s : Location → Option Expr) (b : Cond) → ts' ≡ ts ++ map (substituted_test s) us → b ≡ low_tests us →
+    row_with ts' cs s ≡ (λ r. row_with ts cs s (test_before b r))
+unfolding plan_words
+row-tests ts ts' us cs s b e h =
+    ap (λ ts. row_with ts cs s) e
+    ∙ (λ i r. row_of
+    ((both-append ts (map (substituted_test s) us) (substituted_cond s r.formula)
+    ∙ ap (λ c. both (low_tests ts) (both c (substituted_cond s r.formula))) (sym (substituted-tests s us) ∙ ap (substituted_cond s) (sym h))
+    ∙ ap (both (low_tests ts)) (sym (substituted-both s b r.formula))) i)
+    (and_then cs r.residual))
 
-pub making-fails :
-    (m n : Making) (t : LTest) (b : Cond) → n.tests.items ≡ m.tests.items ++ t ∷ [] → plain_ltest t ≡ Not b →
-    n.commands.items ≡ m.commands.items → plain_making n ≡ test_before (otherwise b) (plain_making m)
-unfolding words tree_words
-making-fails m n t b e h f = making-tests m n (Not b ∷ []) (otherwise b) (pushed plain_ltest m.tests.items n.tests.items t (Not b) e h) refl f
+pub row-fails :
+    (xs ys : List LTest) (cs : List Command) (s : Location → Option Expr) (x : LTest) (b : Cond) → ys ≡ xs ++ x ∷ [] →
+    plain_ltest x ≡ Not (substituted_cond s b) → row_with (map plain_ltest ys) cs s ≡ (λ r. row_with (map plain_ltest xs) cs s (test_before (otherwise b) r))
+unfolding words plan_words tree_words
+row-fails xs ys cs s x b e h =
+    row-tests (map plain_ltest xs) (map plain_ltest ys) (Not b ∷ []) cs s (otherwise b)
+    (ap (map plain_ltest) e ∙ map_push plain_ltest xs x ∙ ap (λ t. map plain_ltest xs ++ t ∷ []) h) refl
 
-pub making-row :
-    (m : Making) (ts : Listed LTest) (cs : Listed LCommand) (us : List LTest) →
-    ts.items ≡ reverse us → map plain_ltest us ≡ map (substituted_test Clear) (map plain_ltest m.tests.items) →
-    cs.items ≡ reverse m.commands.items → (r : rows.Row) →
-    r ≡ record { formula = roll-LCond (record { tests = ts }); residual = cs } → plain_row r ≡ clear_row (plain_making m)
-unfolding words plain_making substituted_cond
-making-row m ts cs us e h f r k =
-    ap plain_row k
-    ∙ ap₂ row_of
-    (low_conjunction_of ts ∙ ap (λ l. low_tests (map plain_ltest l)) e ∙ ap low_tests (map-reverse plain_ltest us) ∙ formula-put Clear m.tests.items us h)
-    (ap (map plain_lcommand) f ∙ map-reverse plain_lcommand m.commands.items)
+pub row-last : (ts : List Test) (cs : List Command) (s : Location → Option Expr) → row_of (low_tests ts) (low_commands cs) ≡ row_with ts cs s last_row
+unfolding words plan_words
+row-last ts cs s = ap₂ row_of (sym (both-none (low_tests ts))) (sym (then-none cs))

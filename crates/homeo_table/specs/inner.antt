@@ -1,3 +1,6 @@
+pub mod Bindings
+pub mod Branches
+pub mod Key
 pub mod Makings
 pub mod Places
 pub mod Substitution

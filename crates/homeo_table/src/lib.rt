@@ -1,6 +1,8 @@
 //! The symbolic tables of commands, and the row of a table that holds at a split database.
 #![tactic(auto)]
 
+mod bindings;
+mod branches;
 mod evaluation;
 mod making;
 mod places;

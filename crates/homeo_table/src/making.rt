@@ -1,113 +1,122 @@
-//! Rows in the making, with commands and tests in front.
+//! Rows in the making.
 
-ghost use Rattle.std.specs.Prelude.{◌≡◌, ◌++◌, map, reverse, IfOk, OnOk};
+ghost use Rattle.std.specs.Prelude.{◌≡◌, ◌++◌, map, IfOk, OnOk};
 ghost use Rattle.homeo_syntax.specs.LowView.{plain_lexpr, plain_ltest, plain_lcond, plain_lcommand};
 ghost use Rattle.homeo_plan.specs.PlanView.{plain_row};
 ghost use Rattle.homeo_plan.specs.Table.{last_row, set_before, test_before, otherwise, clear_row};
+ghost use Rattle.homeo_table.specs.inner.Bindings.{bound};
+ghost use Rattle.homeo_table.specs.inner.Makings.{completed, command_before};
 ghost use Rattle.homeo_table.specs.inner.Places.{plain_place};
-ghost use Rattle.homeo_table.specs.inner.Makings.{plain_making, command_before};
+ghost use Rattle.homeo_table.specs.inner.Substitution.{substituted_test};
 
+use crate::bindings::Bindings;
 use crate::places::Place;
-use crate::substitution::{Substitution, each_test};
+use crate::substitution::{condition, expression, test};
 use homeo_plan::Row;
 use homeo_syntax::{LCommand, LCond, LExpr, LTest, List, Memory};
 use std::alloc::Global;
 
-/// A row in the making. Each list is from the last to the first, so that what comes in front is pushed.
+/// The tests and commands of a row as far as a branch was followed. The tests speak of the state before the command.
 #[derive(Drop)]
 pub(crate) struct Making {
-    pub(crate) tests: Vec<LTest>,
-    pub(crate) commands: Vec<LCommand>,
+    tests: Vec<LTest>,
+    commands: Vec<LCommand>,
+    bindings: Bindings,
 }
 
 impl Making {
-    /// The row after the last command.
-    pub(crate) fn last(alloc: Global) -> Making
-        ensures { plain_making result ≡ last_row }
+    /// Nothing was followed. Temporaries are 0.
+    pub(crate) fn new(alloc: Global) -> Making
+        ensures { completed result ≡ clear_row }
     {
         Making {
             tests: Vec::new(alloc),
             commands: Vec::new(alloc),
+            bindings: Bindings::new(alloc),
         }
     }
 
     pub(crate) fn copy(&self, alloc: Global) -> Result<Making, Memory>
-        ensures { IfOk result (λ r. plain_making r ≡ plain_making self.now) }
+        ensures { IfOk result (λ m. completed m ≡ completed self.now) }
     {
         Ok(Making {
             tests: copied_tests(alloc, self.tests.as_slice())?,
             commands: copied_commands(alloc, self.commands.as_slice())?,
+            bindings: self.bindings.copy()?,
         })
     }
 
-    /// With a command in front that sets no value that a formula reads.
-    pub(crate) fn after_command(self, alloc: Global, c: &LCommand) -> Result<Making, Memory>
-        ensures { IfOk result (λ r. plain_making r ≡ command_before (plain_lcommand c.now) (plain_making self)) }
+    /// Follows a command that sets no value.
+    pub(crate) fn follow(&mut self, alloc: Global, c: &LCommand) -> Result<(), Memory>
+        ensures { OnOk result (completed self.new ≡ (λ r. completed self.old (command_before (plain_lcommand c.now) r))) }
     {
-        let mut commands = self.commands;
-        commands.push(c.copy(alloc)?)?;
-        Ok(Making {
-            tests: self.tests,
-            commands,
-        })
+        self.commands.push(c.copy(alloc)?)?;
+        Ok(())
     }
 
-    /// With a command in front that sets a place to a value.
-    pub(crate) fn after_set(
-        self,
+    /// Follows a command that sets a place to a value.
+    pub(crate) fn follow_set(
+        &mut self,
         alloc: Global,
         c: &LCommand,
         place: Place,
         value: &LExpr,
-    ) -> Result<Making, Memory>
-        ensures { IfOk result (λ r. plain_making r ≡
-            set_before (plain_lcommand c.now) (plain_place place) (plain_lexpr value.now) (plain_making self)) }
+    ) -> Result<(), Memory>
+        ensures { OnOk result (completed self.new ≡ (λ r. completed self.old (set_before (plain_lcommand c.now) (plain_place place) (plain_lexpr value.now) r))) }
     {
-        let put = Substitution::Replace { place, by: value };
-        let tests = each_test(alloc, put, self.tests.as_slice())?;
-        let mut commands = self.commands;
-        commands.push(c.copy(alloc)?)?;
-        Ok(Making { tests, commands })
+        let value = expression(alloc, &self.bindings, value)?;
+        self.bindings.bind(alloc, place, value)?;
+        self.commands.push(c.copy(alloc)?)?;
+        Ok(())
     }
 
-    /// Where a condition holds.
-    pub(crate) fn where_holds(self, alloc: Global, test: &LCond) -> Result<Making, Memory>
-        ensures { IfOk result (λ r. plain_making r ≡ test_before (plain_lcond test.now) (plain_making self)) }
+    /// Follows the branch where a condition holds.
+    pub(crate) fn where_holds(&mut self, alloc: Global, test: &LCond) -> Result<(), Memory>
+        ensures { OnOk result (completed self.new ≡ (λ r. completed self.old (test_before (plain_lcond test.now) r))) }
     {
-        let tests = with_tests(alloc, self.tests, test.tests.as_slice())?;
-        Ok(Making {
-            tests,
-            commands: self.commands,
-        })
+        push_tests(
+            alloc,
+            &self.bindings,
+            test.tests.as_slice(),
+            &mut self.tests,
+        )
     }
 
-    /// Where a condition doesn't hold.
-    pub(crate) fn where_fails(self, alloc: Global, test: &LCond) -> Result<Making, Memory>
-        ensures { IfOk result (λ r. plain_making r ≡ test_before (otherwise (plain_lcond test.now)) (plain_making self)) }
+    /// Follows the branch where a condition doesn't hold.
+    pub(crate) fn where_fails(&mut self, alloc: Global, test: &LCond) -> Result<(), Memory>
+        ensures { OnOk result (completed self.new ≡ (λ r. completed self.old (test_before (otherwise (plain_lcond test.now)) r))) }
     {
-        let mut tests = self.tests;
-        tests.push(LTest::Not(test.copy(alloc)?))?;
-        Ok(Making {
-            tests,
-            commands: self.commands,
-        })
+        let test = condition(alloc, &self.bindings, test)?;
+        self.tests.push(LTest::Not(test))?;
+        Ok(())
     }
 
-    /// The row, whose formula reads no temporary.
-    pub(crate) fn row(self, alloc: Global) -> Result<Row, Memory>
-        ensures { IfOk result (λ r. plain_row r ≡ clear_row (plain_making self)) }
+    /// The row, where the branch ends.
+    pub(crate) fn row(self) -> Row
+        ensures { plain_row result ≡ completed self last_row }
     {
-        let mut tests = each_test(alloc, Substitution::Clear, self.tests.as_slice())?;
-        tests.reverse();
-        let mut commands = self.commands;
-        commands.reverse();
-        Ok(Row {
+        Row {
             formula: LCond {
-                tests: List::from_vec(tests),
+                tests: List::from_vec(self.tests),
             },
-            residual: List::from_vec(commands),
-        })
+            residual: List::from_vec(self.commands),
+        }
     }
+}
+
+fn push_tests(
+    alloc: Global,
+    put: &Bindings,
+    tests: &[LTest],
+    made: &mut Vec<LTest>,
+) -> Result<(), Memory>
+    ensures { OnOk result (map plain_ltest made.new.items ≡
+        map plain_ltest made.old.items ++ map (substituted_test (bound put.now)) (map plain_ltest tests.now)) }
+{
+    for t in tests {
+        made.push(test(alloc, put, t)?)?;
+    }
+    Ok(())
 }
 
 fn copied_tests(alloc: Global, tests: &[LTest]) -> Result<Vec<LTest>, Memory>
@@ -128,18 +137,4 @@ fn copied_commands(alloc: Global, commands: &[LCommand]) -> Result<Vec<LCommand>
         copies.push(command.copy(alloc)?)?;
     }
     Ok(copies)
-}
-
-/// Tests in front of others, each list from the last to the first.
-fn with_tests(alloc: Global, tests: Vec<LTest>, front: &[LTest]) -> Result<Vec<LTest>, Memory>
-    ensures { IfOk result (λ r. reverse (map plain_ltest r.items) ≡
-        map plain_ltest front.now ++ reverse (map plain_ltest tests.items)) }
-{
-    let mut tests = tests;
-    let mut left = front.len();
-    while left > 0 {
-        left -= 1;
-        tests.push(front[left].copy(alloc)?)?;
-    }
-    Ok(tests)
 }

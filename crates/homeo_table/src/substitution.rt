@@ -1,59 +1,39 @@
-//! Expressions and conditions with others put in for what they read.
+//! Expressions and conditions with what stands at a place put in for what is read there.
 
 ghost use Rattle.std.specs.Prelude.{◌≡◌, map, IfOk};
 ghost use Rattle.homeo_syntax.specs.Low.{OfTemp, Read};
 ghost use Rattle.homeo_syntax.specs.LowView.{plain_lexpr, plain_ltest, plain_lcond};
+ghost use Rattle.homeo_table.specs.inner.Bindings.{bound};
 ghost use Rattle.homeo_table.specs.inner.Substitution.{substituted, substituted_test, substituted_cond};
 
-use crate::places::{Place, is_same, place_of};
+use crate::bindings::Bindings;
+use crate::places::{place_of, place_of_temp};
 use homeo_syntax::{LCond, LExpr, LTest, List, Memory, SplitName, Temp};
 use std::alloc::Global;
 
-/// What is put in.
-#[derive(Clone, Copy)]
-pub(crate) enum Substitution<'a> {
-    /// An expression in place of what is read at a place.
-    Replace { place: Place, by: &'a LExpr },
-    /// The literal 0 in place of each temporary.
-    Clear,
-}
-
-#[tactic(auto, using(homeo_syntax::proofs::LowViews::low_phrase_views, crate::proofs::Equations::leaves))]
-fn temp(alloc: Global, put: Substitution<'_>, t: Temp) -> Result<LExpr, Memory>
-    ensures { IfOk result (λ r. plain_lexpr r ≡ substituted put.entry (OfTemp t)) }
+/// A temporary that wasn't set is 0, as a call begins with it.
+fn temp(alloc: Global, put: &Bindings, t: Temp) -> Result<LExpr, Memory>
+    ensures { IfOk result (λ r. plain_lexpr r ≡ substituted (bound put.now) (OfTemp t)) }
 {
-    match put {
-        Substitution::Replace { place, by } => {
-            if is_same(place, Place::Temp(t)) {
-                by.copy(alloc)
-            } else {
-                Ok(LExpr::Temp(t))
-            }
-        }
-        Substitution::Clear => Ok(LExpr::Literal(0)),
+    match put.at(place_of_temp(t)) {
+        Some(assigned) => assigned.copy(alloc),
+        None => Ok(LExpr::Literal(0)),
     }
 }
 
-#[tactic(auto, using(homeo_syntax::proofs::LowViews::low_phrase_views, crate::proofs::Equations::leaves))]
-fn read(alloc: Global, put: Substitution<'_>, x: SplitName) -> Result<LExpr, Memory>
-    ensures { IfOk result (λ r. plain_lexpr r ≡ substituted put.entry (Read x)) }
+fn read(alloc: Global, put: &Bindings, x: SplitName) -> Result<LExpr, Memory>
+    ensures { IfOk result (λ r. plain_lexpr r ≡ substituted (bound put.now) (Read x)) }
 {
-    match put {
-        Substitution::Replace { place, by } => {
-            if is_same(place, place_of(x)) {
-                by.copy(alloc)
-            } else {
-                Ok(LExpr::Read(x))
-            }
-        }
-        Substitution::Clear => Ok(LExpr::Read(x)),
+    match put.at(place_of(x)) {
+        Some(written) => written.copy(alloc),
+        None => Ok(LExpr::Read(x)),
     }
 }
 
 #[cycle(expressions)]
 #[tactic(auto, using(homeo_syntax::proofs::Measures::low_expr_parts, homeo_syntax::proofs::LowViews::low_phrase_views, crate::proofs::Equations::expressions))]
-fn expression(alloc: Global, put: Substitution<'_>, e: &LExpr) -> Result<LExpr, Memory>
-    ensures { IfOk result (λ r. plain_lexpr r ≡ substituted put.entry (plain_lexpr e.now)) }
+pub(crate) fn expression(alloc: Global, put: &Bindings, e: &LExpr) -> Result<LExpr, Memory>
+    ensures { IfOk result (λ r. plain_lexpr r ≡ substituted (bound put.now) (plain_lexpr e.now)) }
 {
     match e {
         LExpr::Literal(n) => Ok(LExpr::Literal(*n)),
@@ -76,12 +56,8 @@ fn expression(alloc: Global, put: Substitution<'_>, e: &LExpr) -> Result<LExpr, 
 
 #[cycle(expressions)]
 #[tactic(auto, using(homeo_syntax::proofs::Measures::low_expr_parts, homeo_syntax::proofs::LowViews::low_phrase_views))]
-fn each_expression(
-    alloc: Global,
-    put: Substitution<'_>,
-    es: &[LExpr],
-) -> Result<List<LExpr>, Memory>
-    ensures { IfOk result (λ r. map plain_lexpr r.items ≡ map (substituted put.entry) (map plain_lexpr es.now)) }
+fn each_expression(alloc: Global, put: &Bindings, es: &[LExpr]) -> Result<List<LExpr>, Memory>
+    ensures { IfOk result (λ r. map plain_lexpr r.items ≡ map (substituted (bound put.now)) (map plain_lexpr es.now)) }
 {
     let mut made = List::new(alloc);
     for e in es {
@@ -92,8 +68,8 @@ fn each_expression(
 
 #[cycle(conditions)]
 #[tactic(auto, using(homeo_syntax::proofs::Measures::low_test_parts, homeo_syntax::proofs::LowViews::low_phrase_views, crate::proofs::Equations::conditions))]
-fn test(alloc: Global, put: Substitution<'_>, t: &LTest) -> Result<LTest, Memory>
-    ensures { IfOk result (λ r. plain_ltest r ≡ substituted_test put.entry (plain_ltest t.now)) }
+pub(crate) fn test(alloc: Global, put: &Bindings, t: &LTest) -> Result<LTest, Memory>
+    ensures { IfOk result (λ r. plain_ltest r ≡ substituted_test (bound put.now) (plain_ltest t.now)) }
 {
     match t {
         LTest::True => Ok(LTest::True),
@@ -115,26 +91,19 @@ fn test(alloc: Global, put: Substitution<'_>, t: &LTest) -> Result<LTest, Memory
 
 #[cycle(conditions)]
 #[tactic(auto, using(homeo_syntax::proofs::Measures::low_test_parts, homeo_syntax::proofs::LowViews::low_phrase_views, crate::proofs::Equations::conditions))]
-fn condition(alloc: Global, put: Substitution<'_>, c: &LCond) -> Result<LCond, Memory>
-    ensures { IfOk result (λ r. plain_lcond r ≡ substituted_cond put.entry (plain_lcond c.now)) }
+pub(crate) fn condition(alloc: Global, put: &Bindings, c: &LCond) -> Result<LCond, Memory>
+    ensures { IfOk result (λ r. plain_lcond r ≡ substituted_cond (bound put.now) (plain_lcond c.now)) }
 {
     let tests = each_test(alloc, put, c.tests.as_slice())?;
-    Ok(LCond {
-        tests: List::from_vec(tests),
-    })
+    Ok(LCond { tests })
 }
 
-/// Each of the tests with what is put in.
 #[cycle(conditions)]
 #[tactic(auto, using(homeo_syntax::proofs::Measures::low_test_parts, homeo_syntax::proofs::LowViews::low_phrase_views))]
-pub(crate) fn each_test(
-    alloc: Global,
-    put: Substitution<'_>,
-    ts: &[LTest],
-) -> Result<Vec<LTest>, Memory>
-    ensures { IfOk result (λ r. map plain_ltest r.items ≡ map (substituted_test put.entry) (map plain_ltest ts.now)) }
+fn each_test(alloc: Global, put: &Bindings, ts: &[LTest]) -> Result<List<LTest>, Memory>
+    ensures { IfOk result (λ r. map plain_ltest r.items ≡ map (substituted_test (bound put.now)) (map plain_ltest ts.now)) }
 {
-    let mut made = Vec::new(alloc);
+    let mut made = List::new(alloc);
     for t in ts {
         made.push(test(alloc, put, t)?)?;
     }

@@ -1,19 +1,33 @@
--- What substitution of the code puts in.
-use Rattle.homeo_syntax.specs.Low.{Expr, Test, Cond}
-use Rattle.homeo_syntax.specs.LowView.{plain_lexpr}
-use Rattle.homeo_plan.specs.Table.{replace, replace_test, replace_cond, clear, clear_test, clear_cond}
-use Rattle.homeo_table.specs.inner.Places.{plain_place}
-use Rattle.homeo_table.specs.declared.substitution.Substitution as code
-use Rattle.homeo_table.specs.declared.substitution.Substitution.TheVariants.{Replace, Clear}
+-- Expressions put in for what is read, all at once. A temporary for which there is none is 0, as a call begins with it.
+use Rattle.std.specs.Prelude.{Option, pos}
+use Rattle.std.specs.Option.{unwrap_or}
+use Rattle.homeo_syntax.specs.Low.{Expr, Exprs, Literal, OfTemp, Read, Sum, Product, Neg, NoExpr, MoreExpr, Test, Cond, True, Not, Comparison, NoTest, MoreTest}
+use Rattle.homeo_meaning.specs.LowMeaning.{Location, TempAt, location_of}
+use Rattle.homeo_table.specs.inner.Key.{words}
 
-unfoldable pub substituted : code.Substitution → Expr → Expr
-substituted (Replace p e) a = replace (plain_place p) (plain_lexpr e.now) a
-substituted Clear a = clear a
+abbrev mutual
+  unfolding words
 
-unfoldable pub substituted_test : code.Substitution → Test → Test
-substituted_test (Replace p e) t = replace_test (plain_place p) (plain_lexpr e.now) t
-substituted_test Clear t = clear_test t
+  pub substituted : (Location → Option Expr) → Expr → Expr
+  substituted s (Literal n) = Literal n
+  substituted s (OfTemp t) = unwrap_or (s (TempAt t)) (Literal (pos 0))
+  substituted s (Read x) = unwrap_or (s (location_of x)) (Read x)
+  substituted s (Sum es) = Sum (substituted_all s es)
+  substituted s (Product es) = Product (substituted_all s es)
+  substituted s (Neg a) = Neg (substituted s a)
 
-unfoldable pub substituted_cond : code.Substitution → Cond → Cond
-substituted_cond (Replace p e) c = replace_cond (plain_place p) (plain_lexpr e.now) c
-substituted_cond Clear c = clear_cond c
+  pub substituted_all : (Location → Option Expr) → Exprs → Exprs
+  substituted_all s NoExpr = NoExpr
+  substituted_all s (MoreExpr a es) = MoreExpr (substituted s a) (substituted_all s es)
+
+abbrev mutual
+  unfolding words
+
+  pub substituted_test : (Location → Option Expr) → Test → Test
+  substituted_test s True = True
+  substituted_test s (Not c) = Not (substituted_cond s c)
+  substituted_test s (Comparison op a b) = Comparison op (substituted s a) (substituted s b)
+
+  pub substituted_cond : (Location → Option Expr) → Cond → Cond
+  substituted_cond s NoTest = NoTest
+  substituted_cond s (MoreTest t c) = MoreTest (substituted_test s t) (substituted_cond s c)

@@ -1,14 +1,15 @@
--- The lists are turned round, and the temporaries cleared.
-use Rattle.std.proofs.Common.{map, refl, ap, ◌∙◌}
-use Rattle.homeo_syntax.specs.LowView.{plain_ltest}
-use Rattle.homeo_table.specs.inner.Substitution.{substituted_test}
-use Rattle.homeo_table.specs.declared.substitution.Substitution.TheVariants.{Clear}
-use Rattle.homeo_table.proofs.Makings.{making-row}
+-- The tests and the commands.
+use Rattle.std.proofs.Common.{map, ap, ap₂, ◌∙◌}
+use Rattle.homeo_syntax.specs.LowView.{low_tests, low_commands, plain_ltest, plain_lcommand}
+use Rattle.homeo_syntax.proofs.LowViews.{low_conjunction_of}
+use Rattle.homeo_table.specs.inner.Bindings.{bound}
+use Rattle.homeo_table.specs.inner.Makings.{completed}
+use Rattle.homeo_table.proofs.Makings.{row_of, row-last}
 use Rattle.homeo_table.proofs.making.Making.row.Goals as goal
 
 pub returns : goal.returns
+unfolding completed
 returns c =
-    making-row c.args.self c.from_vec.result c.from_vec-2.result c.in_ok-tests.tests.items
-    (ap (λ l. l.items) c.from_vec.ensures ∙ c.reverse.ensures.items)
-    (c.in_ok-tests.ensures ∙ ap (λ ts. map (substituted_test Clear) (map plain_ltest ts)) c.as_slice.ensures.value)
-    (ap (λ l. l.items) c.from_vec-2.ensures ∙ c.reverse-2.ensures.items) _ refl
+    ap₂ row_of (low_conjunction_of c.from_vec.result ∙ ap (λ l. low_tests (map plain_ltest l.items)) c.from_vec.ensures)
+    (ap (λ l. low_commands (map plain_lcommand l.items)) c.from_vec-2.ensures)
+    ∙ row-last (map plain_ltest c.args.self.tests.items) (map plain_lcommand c.args.self.commands.items) (bound c.args.self.bindings)

@@ -1,11 +1,15 @@
--- The tests are pushed.
-use Rattle.std.proofs.Common.{map, refl, sym, ap, ◌∙◌}
+-- The condition's tests.
+use Rattle.std.proofs.Common.{map, sym, ap, ◌∙◌}
+use Rattle.std.proofs.lemmas.Result.{IfOk-weaker}
 use Rattle.homeo_syntax.specs.LowView.{low_tests, plain_ltest}
 use Rattle.homeo_syntax.proofs.LowViews.{low_conjunction}
-use Rattle.homeo_table.proofs.Makings.{making-tests}
+use Rattle.homeo_table.specs.inner.Makings.{completed}
+use Rattle.homeo_table.proofs.Makings.{row-tests}
 use Rattle.homeo_table.proofs.making.Making.where_holds.Goals as goal
 
 pub returns : goal.returns
+unfolding completed
 returns c =
-    making-tests c.args.self _ _ _ c.in_ok-tests.ensures
-    (low_conjunction c.args.test.now ∙ sym (ap (λ ts. low_tests (map plain_ltest ts)) c.as_slice.ensures)) refl
+    IfOk-weaker c.push_tests.result _ _
+    (λ r h. row-tests _ _ (map plain_ltest c.as_slice.result.now) _ _ _ h
+    (low_conjunction c.args.test.now ∙ sym (ap (λ ts. low_tests (map plain_ltest ts)) c.as_slice.ensures))) c.push_tests.ensures
