@@ -96,13 +96,36 @@ mod tests {
         check(&rt, alloc, nothing, Status::Done, nothing_ran, "")
     }
 
+    const TABLES: Given = Given {
+        words: &["tables"],
+        ..PLAIN
+    };
+
+    #[test]
+    fn tables_are_written(rt: HostRuntime) -> Result<(), Fail> {
+        let alloc = rt.alloc();
+        let one = Given {
+            text: "workload 1\nsites 1\nobject x in 0..10 = 5\ntransaction t() { write(x = read(x) + 1) }\nclient a at 0 { t() }\nend\n",
+            ..TABLES
+        };
+        let rows =
+            "call 0 t() at 0 rows 2\nrow 0\nwhen 0 <= (base(x) + x@0) + 1 and (base(x) + x@0) + 1 <= 10\ndo { write(x@0 = ((base(x) + x@0) + 1) - base(x)) }\nrow 1\nwhen not (0 <= (base(x) + x@0) + 1 and (base(x) + x@0) + 1 <= 10)\ndo {}\njoint 2\npick 0\npick 1\n";
+        check(&rt, alloc, one, Status::Done, rows, "")?;
+        let none = Given {
+            text: "workload 1\nsites 1\nend\n",
+            ..TABLES
+        };
+        check(&rt, alloc, none, Status::Done, "joint 1\npick\n", "")
+    }
+
     #[test]
     fn other_words_are_no_command(rt: HostRuntime) -> Result<(), Fail> {
-        let usage = "usage: homeo steps\n";
-        let lists: [&'static [&'static str]; 5] = [
+        let usage = "usage: homeo steps or tables\n";
+        let lists: [&'static [&'static str]; 6] = [
             &[],
             &["step"],
             &["steps", "x"],
+            &["steps", "tables"],
             &["--help"],
             &[""],
         ];
