@@ -1,9 +1,9 @@
 -- What a map of places has at each location.
-use Rattle.std.proofs.Common.{rules, ◌≡◌, Bool, true, false, cond, Option, Some, List, [], ◌∷◌, refl, sym, ap, ap₂, ◌∙◌, subst}
+use Rattle.std.proofs.Common.{rules, Bor, ◌≡◌, Bool, true, false, cond, Option, Some, None, List, [], ◌∷◌, refl, sym, ap, ap₂, ◌∙◌, subst}
 use Rattle.std.specs.HashMap.{HashMap, get, get_by}
 use Rattle.std.specs.List.{AllZip}
 use Rattle.std.specs.Map.{lookup}
-use Rattle.std.specs.Option.{option_map}
+use Rattle.std.specs.Option.{option_map, option_copied}
 use Rattle.homeo_syntax.specs.declared.low.Temp.TheVariants as temps
 use Rattle.homeo_meaning.specs.Key.{words as meaning_words}
 use Rattle.homeo_meaning.specs.LowMeaning.{Location, TempAt, BaseAt, DeltaAt, same_location, put}
@@ -39,6 +39,10 @@ bound-put f m n k v h =
     let at = at_each_place (λ l. option_map f (get_by (is_at l) n) ≡ cond (same_location (plain_place k) l) (Some (f v)) (option_map f (get_by (is_at l) m)))
     (λ q. ap (option_map f) (h' q) ∙ map-choice f (same_location (plain_place k) (plain_place q)) v (get_by (is_at (plain_place q)) m)) in
     λ i l. at l i
+
+pub map-copied : {X Y : Type 0} (f : X → Y) (o : Option (Bor X)) → option_map (λ e. f e.now) o ≡ option_map f (option_copied o)
+map-copied f None = refl
+map-copied f (Some e) = refl
 
 pub bound-at :
     {X Y S : Type 0} (f : X → Y) (m : HashMap Place X S) (k : Place) (o : Option X) → o ≡ get ghosts.eq m k →

@@ -1,4 +1,5 @@
 pub mod Equations
+pub mod SharedViews
 pub mod Substituted
 pub mod Bound
 pub mod Makings

@@ -3,4 +3,5 @@ pub mod Branches
 pub mod Key
 pub mod Makings
 pub mod Places
+pub mod Shared
 pub mod Substitution

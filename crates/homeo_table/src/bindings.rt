@@ -2,13 +2,14 @@
 
 ghost use Rattle.std.specs.Prelude.{◌≡◌, Some, None, IfOk, OnOk};
 ghost use Rattle.std.specs.Option.{option_map};
-ghost use Rattle.homeo_syntax.specs.LowView.{plain_lexpr};
 ghost use Rattle.homeo_meaning.specs.LowMeaning.{put};
 ghost use Rattle.homeo_table.specs.inner.Bindings.{bound};
 ghost use Rattle.homeo_table.specs.inner.Places.{plain_place};
+ghost use Rattle.homeo_table.specs.inner.Shared.{plain_shared};
 
 use crate::places::Place;
-use homeo_syntax::{LExpr, Memory};
+use crate::shared::Shared;
+use homeo_syntax::Memory;
 use std::alloc::Global;
 use std::collections::HashMap;
 use std::rc::Rc;
@@ -17,7 +18,7 @@ use std::rc::Rc;
 /// share the expressions.
 #[derive(Drop)]
 pub(crate) struct Bindings {
-    expressions: HashMap<Place, Rc<LExpr>>,
+    expressions: HashMap<Place, Rc<Shared>>,
 }
 
 impl Bindings {
@@ -37,21 +38,17 @@ impl Bindings {
         })
     }
 
-    pub(crate) fn bind(&mut self, alloc: Global, place: Place, value: LExpr) -> Result<(), Memory>
-        ensures { OnOk result (bound self.new ≡ put (bound self.old) (plain_place place) (Some (plain_lexpr value))) }
+    pub(crate) fn bind(&mut self, place: Place, value: Rc<Shared>) -> Result<(), Memory>
+        ensures { OnOk result (bound self.new ≡ put (bound self.old) (plain_place place) (Some (plain_shared value.value))) }
     {
-        let value = Rc::new(alloc, value)?;
         self.expressions.insert(place, value)?;
         Ok(())
     }
 
     /// What stands at a place, if it was set.
-    pub(crate) fn at(&self, place: Place) -> Option<&LExpr>
-        ensures { option_map (λ e. plain_lexpr e.now) result ≡ bound self.now (plain_place place) }
+    pub(crate) fn at(&self, place: Place) -> Option<&Rc<Shared>>
+        ensures { option_map (λ e. plain_shared e.now.value) result ≡ bound self.now (plain_place place) }
     {
-        match self.expressions.get(&place) {
-            Some(value) => Some(value.as_ref()),
-            None => None,
-        }
+        self.expressions.get(&place)
     }
 }

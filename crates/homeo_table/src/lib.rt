@@ -7,6 +7,7 @@ mod evaluation;
 mod making;
 mod places;
 mod selection;
+mod shared;
 mod substitution;
 mod tables;
 

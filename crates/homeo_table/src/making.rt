@@ -65,7 +65,7 @@ impl Making {
         ensures { OnOk result (completed self.new ≡ (λ r. completed self.old (set_before (plain_lcommand c.now) (plain_place place) (plain_lexpr value.now) r))) }
     {
         let value = expression(alloc, &self.bindings, value)?;
-        self.bindings.bind(alloc, place, value)?;
+        self.bindings.bind(place, value)?;
         self.commands.push(c.copy(alloc)?)?;
         Ok(())
     }

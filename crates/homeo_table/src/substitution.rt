@@ -4,66 +4,79 @@ ghost use Rattle.std.specs.Prelude.{◌≡◌, map, IfOk};
 ghost use Rattle.homeo_syntax.specs.Low.{OfTemp, Read};
 ghost use Rattle.homeo_syntax.specs.LowView.{plain_lexpr, plain_ltest, plain_lcond};
 ghost use Rattle.homeo_table.specs.inner.Bindings.{bound};
+ghost use Rattle.homeo_table.specs.inner.Shared.{plain_shared};
 ghost use Rattle.homeo_table.specs.inner.Substitution.{substituted, substituted_test, substituted_cond};
 
 use crate::bindings::Bindings;
 use crate::places::{place_of, place_of_temp};
+use crate::shared::Shared;
 use homeo_syntax::{LCond, LExpr, LTest, List, Memory, SplitName, Temp};
 use std::alloc::Global;
+use std::rc::Rc;
 
-/// A temporary that wasn't set is 0, as a call begins with it.
-fn temp(alloc: Global, put: &Bindings, t: Temp) -> Result<LExpr, Memory>
-    ensures { IfOk result (λ r. plain_lexpr r ≡ substituted (bound put.now) (OfTemp t)) }
+/// What stands at a temporary. One that wasn't set is 0, as a call begins with it.
+fn temp(alloc: Global, put: &Bindings, t: Temp) -> Result<Rc<Shared>, Memory>
+    ensures { IfOk result (λ r. plain_shared r.value ≡ substituted (bound put.now) (OfTemp t)) }
 {
     match put.at(place_of_temp(t)) {
-        Some(assigned) => assigned.copy(alloc),
-        None => Ok(LExpr::Literal(0)),
+        Some(assigned) => Ok(assigned.clone()?),
+        None => Ok(Rc::new(alloc, Shared::Literal(0))?),
     }
 }
 
-fn read(alloc: Global, put: &Bindings, x: SplitName) -> Result<LExpr, Memory>
-    ensures { IfOk result (λ r. plain_lexpr r ≡ substituted (bound put.now) (Read x)) }
+/// What stands under a split name. One that wasn't set is read.
+fn read(alloc: Global, put: &Bindings, x: SplitName) -> Result<Rc<Shared>, Memory>
+    ensures { IfOk result (λ r. plain_shared r.value ≡ substituted (bound put.now) (Read x)) }
 {
     match put.at(place_of(x)) {
-        Some(written) => written.copy(alloc),
-        None => Ok(LExpr::Read(x)),
+        Some(written) => Ok(written.clone()?),
+        None => Ok(Rc::new(alloc, Shared::Read(x))?),
     }
 }
 
+/// An expression with what is put in shared, so that it takes no more memory than the expression.
 #[cycle(expressions)]
-#[tactic(auto, using(homeo_syntax::proofs::Measures::low_expr_parts, homeo_syntax::proofs::LowViews::low_phrase_views, crate::proofs::Equations::expressions))]
-pub(crate) fn expression(alloc: Global, put: &Bindings, e: &LExpr) -> Result<LExpr, Memory>
-    ensures { IfOk result (λ r. plain_lexpr r ≡ substituted (bound put.now) (plain_lexpr e.now)) }
+#[tactic(auto, using(homeo_syntax::proofs::Measures::low_expr_parts, homeo_syntax::proofs::LowViews::low_phrase_views, crate::proofs::SharedViews::views, crate::proofs::Equations::expressions))]
+pub(crate) fn expression(alloc: Global, put: &Bindings, e: &LExpr) -> Result<Rc<Shared>, Memory>
+    ensures { IfOk result (λ r. plain_shared r.value ≡ substituted (bound put.now) (plain_lexpr e.now)) }
 {
     match e {
-        LExpr::Literal(n) => Ok(LExpr::Literal(*n)),
+        LExpr::Literal(n) => Ok(Rc::new(alloc, Shared::Literal(*n))?),
         LExpr::Temp(t) => temp(alloc, put, *t),
         LExpr::Read(x) => read(alloc, put, *x),
         LExpr::Sum(es) => {
             let es = each_expression(alloc, put, es.as_slice())?;
-            Ok(LExpr::Sum(es))
+            Ok(Rc::new(alloc, Shared::Sum(es))?)
         }
         LExpr::Product(es) => {
             let es = each_expression(alloc, put, es.as_slice())?;
-            Ok(LExpr::Product(es))
+            Ok(Rc::new(alloc, Shared::Product(es))?)
         }
         LExpr::Neg(e) => {
             let e = expression(alloc, put, e)?;
-            Ok(LExpr::Neg(Box::new(alloc, e)?))
+            Ok(Rc::new(alloc, Shared::Neg(e))?)
         }
     }
 }
 
 #[cycle(expressions)]
 #[tactic(auto, using(homeo_syntax::proofs::Measures::low_expr_parts, homeo_syntax::proofs::LowViews::low_phrase_views))]
-fn each_expression(alloc: Global, put: &Bindings, es: &[LExpr]) -> Result<List<LExpr>, Memory>
-    ensures { IfOk result (λ r. map plain_lexpr r.items ≡ map (substituted (bound put.now)) (map plain_lexpr es.now)) }
+fn each_expression(alloc: Global, put: &Bindings, es: &[LExpr]) -> Result<Vec<Rc<Shared>>, Memory>
+    ensures { IfOk result (λ r. map (λ e. plain_shared e.value) r.items ≡ map (substituted (bound put.now)) (map plain_lexpr es.now)) }
 {
-    let mut made = List::new(alloc);
+    let mut made = Vec::new(alloc);
     for e in es {
         made.push(expression(alloc, put, e)?)?;
     }
     Ok(made)
+}
+
+/// An expression of a test, which shares nothing.
+fn side(alloc: Global, put: &Bindings, e: &LExpr) -> Result<LExpr, Memory>
+    ensures { IfOk result (λ r. plain_lexpr r ≡ substituted (bound put.now) (plain_lexpr e.now)) }
+{
+    let e = expression(alloc, put, e)?;
+    e.as_ref().unshared(alloc)
 }
 
 #[cycle(conditions)]
@@ -78,8 +91,8 @@ pub(crate) fn test(alloc: Global, put: &Bindings, t: &LTest) -> Result<LTest, Me
             Ok(LTest::Not(c))
         }
         LTest::Compare { op, left, right } => {
-            let left = expression(alloc, put, left)?;
-            let right = expression(alloc, put, right)?;
+            let left = side(alloc, put, left)?;
+            let right = side(alloc, put, right)?;
             Ok(LTest::Compare {
                 op: *op,
                 left,

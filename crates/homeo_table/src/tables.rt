@@ -21,9 +21,10 @@ use std::alloc::Global;
 /// has as a call begins. So at each split database, where temporaries are 0, exactly one row holds, and its residual does
 /// there what the command does.
 ///
-/// Each branch is followed once, from its first command to its last, and what it adds is pushed at the ends of formula and
-/// residual. So time and memory are linear in the rows with their formulas and residuals, where an expression that is
-/// assigned or written counts with what stands for what it reads put in.
+/// Branches are followed from the first command to the last, each from where it parts from another, and tests and
+/// commands are pushed at the ends of formula and residual. What is put in is shared until a test reads it. So, with a
+/// look-up of a name as one step, time and memory are linear in the rows, each with its formula, its residual and the
+/// commands on its way.
 ///
 /// # Errors
 ///

@@ -2,9 +2,10 @@
 use Rattle.std.proofs.Common.{◌≡◌, map, take}
 use Rattle.homeo_syntax.specs.LowView.{plain_lexpr}
 use Rattle.homeo_table.specs.inner.Bindings.{bound}
+use Rattle.homeo_table.specs.inner.Shared.{plain_shared}
 use Rattle.homeo_table.specs.inner.Substitution.{substituted}
 use Rattle.homeo_table.proofs.substitution.+expressions.Given as goal
 
 abbrev pub invariant-each_expression-loop-e : goal.invariant-each_expression-loop-e
 invariant-each_expression-loop-e l =
-    map plain_lexpr l.made.items ≡ map (substituted (bound l.put)) (map plain_lexpr (take l.e-index l.es))
+    map (λ e. plain_shared e.value) l.made.items ≡ map (substituted (bound l.put)) (map plain_lexpr (take l.e-index l.es))

@@ -1,15 +1,15 @@
 -- What stands there, or what is there where nothing was set.
-use Rattle.std.proofs.Common.{◌∙◌}
-use Rattle.std.proofs.lemmas.Result.{IfOk-weaker}
-use Rattle.homeo_syntax.proofs.LowViews.{low_Read}
+use Rattle.std.proofs.Common.{ap, ◌∙◌}
 use Rattle.homeo_table.specs.inner.Bindings.{bound}
+use Rattle.homeo_table.specs.inner.Shared.{plain_shared}
+use Rattle.homeo_table.proofs.SharedViews.{shared-Read}
 use Rattle.homeo_table.proofs.Substituted.{substituted-read}
 use Rattle.homeo_table.proofs.substitution.read.Goals as goal
 
-pub returns-in-Some : goal.returns-in-Some
-returns-in-Some c =
-    IfOk-weaker c.copy.result _ _
-    (λ r h. h ∙ substituted-read (bound c.args.put.now) c.args.x _ _ c.in-Some.ensures c.place_of.ensures) c.copy.ensures
+pub returns-in_ok-clone-in-Some : goal.returns-in_ok-clone-in-Some
+returns-in_ok-clone-in-Some c =
+    ap plain_shared c.in_ok-clone-in-Some.ensures.cases ∙ substituted-read (bound c.args.put.now) c.args.x _ _ c.in-Some.ensures c.place_of.ensures
 
-pub returns-in-None : goal.returns-in-None
-returns-in-None c = low_Read c.args.x ∙ substituted-read (bound c.args.put.now) c.args.x _ _ c.in-None.ensures c.place_of.ensures
+pub returns-in_ok-new-in-None : goal.returns-in_ok-new-in-None
+returns-in_ok-new-in-None c =
+    ap plain_shared c.in_ok-new-in-None.ensures.ok ∙ shared-Read c.args.x ∙ substituted-read (bound c.args.put.now) c.args.x _ _ c.in-None.ensures c.place_of.ensures

@@ -1,15 +1,15 @@
 -- What stands there, or what is there where nothing was set.
-use Rattle.std.proofs.Common.{pos, ◌∙◌}
-use Rattle.std.proofs.lemmas.Result.{IfOk-weaker}
-use Rattle.homeo_syntax.proofs.LowViews.{low_Literal}
+use Rattle.std.proofs.Common.{pos, ap, ◌∙◌}
 use Rattle.homeo_table.specs.inner.Bindings.{bound}
+use Rattle.homeo_table.specs.inner.Shared.{plain_shared}
+use Rattle.homeo_table.proofs.SharedViews.{shared-Literal}
 use Rattle.homeo_table.proofs.Substituted.{substituted-temp}
 use Rattle.homeo_table.proofs.substitution.temp.Goals as goal
 
-pub returns-in-Some : goal.returns-in-Some
-returns-in-Some c =
-    IfOk-weaker c.copy.result _ _
-    (λ r h. h ∙ substituted-temp (bound c.args.put.now) c.args.t _ _ c.in-Some.ensures c.place_of_temp.ensures) c.copy.ensures
+pub returns-in_ok-clone-in-Some : goal.returns-in_ok-clone-in-Some
+returns-in_ok-clone-in-Some c =
+    ap plain_shared c.in_ok-clone-in-Some.ensures.cases ∙ substituted-temp (bound c.args.put.now) c.args.t _ _ c.in-Some.ensures c.place_of_temp.ensures
 
-pub returns-in-None : goal.returns-in-None
-returns-in-None c = low_Literal (pos 0) ∙ substituted-temp (bound c.args.put.now) c.args.t _ _ c.in-None.ensures c.place_of_temp.ensures
+pub returns-in_ok-new-in-None : goal.returns-in_ok-new-in-None
+returns-in_ok-new-in-None c =
+    ap plain_shared c.in_ok-new-in-None.ensures.ok ∙ shared-Literal (pos 0) ∙ substituted-temp (bound c.args.put.now) c.args.t _ _ c.in-None.ensures c.place_of_temp.ensures

@@ -1,9 +1,9 @@
 -- The same expressions at the same places.
-use Rattle.homeo_syntax.specs.LowView.{plain_lexpr}
 use Rattle.homeo_table.specs.inner.Bindings.{bound}
+use Rattle.homeo_table.specs.inner.Shared.{plain_shared}
 use Rattle.homeo_table.proofs.Bound.{is_at, bound-same}
 use Rattle.homeo_table.proofs.bindings.Bindings.copy.Goals as goal
 
 pub returns : goal.returns
 unfolding bound
-returns c = λ i l. bound-same (λ e. e.value) plain_lexpr _ _ c.in_ok-clone.ensures.cases (is_at l) i
+returns c = λ i l. bound-same (λ e. e.value) plain_shared _ _ c.in_ok-clone.ensures.cases (is_at l) i

@@ -2,11 +2,11 @@
 use Rattle.std.proofs.Common.{ap}
 use Rattle.std.specs.Map.{lookup}
 use Rattle.std.specs.Option.{option_map}
-use Rattle.homeo_syntax.specs.LowView.{plain_lexpr}
 use Rattle.homeo_table.specs.inner.Bindings.{bound}
+use Rattle.homeo_table.specs.inner.Shared.{plain_shared}
 use Rattle.homeo_table.proofs.Bound.{is_at}
 use Rattle.homeo_table.proofs.bindings.Bindings.new.Goals as goal
 
 pub returns : goal.returns
 unfolding bound
-returns c = λ i l. ap (λ es. option_map (λ e. plain_lexpr e.value) (lookup (is_at l) es)) c.new.ensures.empty i
+returns c = λ i l. ap (λ es. option_map (λ e. plain_shared e.value) (lookup (is_at l) es)) c.new.ensures.empty i

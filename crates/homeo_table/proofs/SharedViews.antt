@@ -1,0 +1,34 @@
+-- The view of each kind of expression with shared parts as it is made, and that its parts are smaller.
+use Rattle.std.proofs.Common.{◌≡◌, ℤ, map, Vec, Global, rules}
+use Rattle.std.proofs.lemmas.Simd.{map-map}
+use Rattle.std.specs.declared.rc.Rc.{Rc}
+use Rattle.homeo_syntax.specs.declared.low.SplitName.{SplitName}
+use Rattle.homeo_syntax.specs.Low as l
+use Rattle.homeo_syntax.specs.LowView.{low_exprs}
+use Rattle.homeo_table.specs.declared.shared.Shared.{Shared, Literal, Read, Sum, Product, Neg, the_lemmas}
+use Rattle.homeo_table.specs.inner.Key.{words}
+use Rattle.homeo_table.specs.inner.Shared.{plain_shared}
+
+pub ruleset parts = (the_lemmas)
+
+pub shared-Literal : (n : ℤ) → plain_shared (Literal n) ≡ l.Literal n
+unfolding words
+shared-Literal n = search (rules, the_lemmas)
+
+pub shared-Read : (x : SplitName) → plain_shared (Read x) ≡ l.Read x
+unfolding words
+shared-Read x = search (rules, the_lemmas)
+
+pub shared-Sum : (es : Vec (Rc Shared Global) Global) → plain_shared (Sum es) ≡ l.Sum (low_exprs (map (λ e. plain_shared e.value) es.items))
+unfolding words
+shared-Sum es = search (rules, the_lemmas, map-map)
+
+pub shared-Product : (es : Vec (Rc Shared Global) Global) → plain_shared (Product es) ≡ l.Product (low_exprs (map (λ e. plain_shared e.value) es.items))
+unfolding words
+shared-Product es = search (rules, the_lemmas, map-map)
+
+pub shared-Neg : (e : Rc Shared Global) → plain_shared (Neg e) ≡ l.Neg (plain_shared e.value)
+unfolding words
+shared-Neg e = search (rules, the_lemmas)
+
+pub ruleset views = (shared-Literal, shared-Read, shared-Sum, shared-Product, shared-Neg)

@@ -1,0 +1,57 @@
+//! Expressions that share their parts.
+
+ghost use Rattle.std.specs.Prelude.{◌≡◌, map, IfOk};
+ghost use Rattle.homeo_syntax.specs.LowView.{plain_lexpr};
+ghost use Rattle.homeo_table.specs.inner.Shared.{plain_shared};
+
+use homeo_syntax::{LExpr, List, Memory, SplitName};
+use std::alloc::Global;
+use std::rc::Rc;
+
+/// An expression over split names that reads no temporary. Where an expression is put in at several places, they share it.
+#[derive(Drop)]
+pub(crate) enum Shared {
+    Literal(i64),
+    Read(SplitName),
+    Sum(Vec<Rc<Shared>>),
+    Product(Vec<Rc<Shared>>),
+    Neg(Rc<Shared>),
+}
+
+impl Shared {
+    /// Makes an equal expression that shares nothing.
+    #[cycle(unshared)]
+    #[tactic(auto, using(homeo_syntax::proofs::LowViews::low_phrase_views, crate::proofs::SharedViews::parts, crate::proofs::SharedViews::views))]
+    pub(crate) fn unshared(&self, alloc: Global) -> Result<LExpr, Memory>
+        ensures { IfOk result (λ e. plain_lexpr e ≡ plain_shared self.now) }
+    {
+        match self {
+            Shared::Literal(n) => Ok(LExpr::Literal(*n)),
+            Shared::Read(x) => Ok(LExpr::Read(*x)),
+            Shared::Sum(es) => {
+                let es = each_unshared(alloc, es.as_slice())?;
+                Ok(LExpr::Sum(es))
+            }
+            Shared::Product(es) => {
+                let es = each_unshared(alloc, es.as_slice())?;
+                Ok(LExpr::Product(es))
+            }
+            Shared::Neg(e) => {
+                let e = e.as_ref().unshared(alloc)?;
+                Ok(LExpr::Neg(Box::new(alloc, e)?))
+            }
+        }
+    }
+}
+
+#[cycle(unshared)]
+#[tactic(auto, using(homeo_syntax::proofs::LowViews::low_phrase_views, crate::proofs::SharedViews::parts, crate::proofs::SharedViews::views))]
+fn each_unshared(alloc: Global, es: &[Rc<Shared>]) -> Result<List<LExpr>, Memory>
+    ensures { IfOk result (λ r. map plain_lexpr r.items ≡ map (λ e. plain_shared e.value) es.now) }
+{
+    let mut made = List::new(alloc);
+    for e in es {
+        made.push(e.as_ref().unshared(alloc)?)?;
+    }
+    Ok(made)
+}
