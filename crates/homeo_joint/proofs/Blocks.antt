@@ -5,17 +5,33 @@ use Rattle.std.specs.Prelude.{slice_index_or, Vec, vec_len}
 use Rattle.std.specs.List.{All}
 use Rattle.std.proofs.Math.Nat.{div-le_self}
 use Rattle.std.proofs.lemmas.Int.{to_z_pos}
-use Rattle.std.proofs.lemmas.List.{append-nil, append_assoc, map_push, length-map}
+use Rattle.std.proofs.lemmas.List.{append-nil, append_assoc, map_push, length-append, length-map}
 use Rattle.std.proofs.lemmas.Nat.{div-mul-add, mod-mul-add}
 use Rattle.homeo_plan.specs.declared.rows.Row as rows
 use Rattle.homeo_plan.specs.PlanView.{plain_row}
 use Rattle.homeo_plan.specs.Table.{Row}
-use Rattle.homeo_plan.specs.Joint.{product_of, picks_from, joint_picks}
-use Rattle.homeo_plan.proofs.RowCounts.{length_joint}
-use Rattle.homeo_joint.specs.Counts.{plain_table, row_counts}
+use Rattle.homeo_plan.specs.Joint.{picks_from, joint_picks}
+use Rattle.homeo_joint.specs.Counts.{plain_table, row_counts, product_of}
 use Rattle.homeo_joint.specs.inner.Digits.{digits, digits_below}
 use Rattle.homeo_joint.proofs.Products.{counts-drop, alike-more}
 
+-- ---- how many choices there are
+length_picks : (n : ℕ) (rs : List Row) (choices : List (List ℕ)) → length (picks_from n rs choices) ≡ length rs * length choices
+unfolding words
+length_picks n [] choices = omega arith
+length_picks n (r ∷ rs) choices =
+    let next : length choices + length rs * length choices ≡ (1 + length rs) * length choices = omega arith in
+    let here : 1 + length rs ≡ length (r ∷ rs) = omega arith in
+    length-append (map (λ picks. n ∷ picks) choices) (picks_from (n + 1) rs choices)
+    ∙ ap₂ ◌+◌ (length-map choices (λ picks. n ∷ picks)) (length_picks (n + 1) rs choices)
+    ∙ next ∙ ap (λ m. m * length choices) here
+
+pub length_joint : (ts : List (List Row)) → length (joint_picks ts) ≡ product_of (map length ts)
+unfolding words
+length_joint [] = refl
+length_joint (t ∷ ts) = length_picks 0 t (joint_picks ts) ∙ ap (λ n. length t * n) (length_joint ts)
+
+-- ---- digits
 -- a first digit in front of the others
 abbrev after : ℕ → List ℕ → List ℕ
 after n ds = n ∷ ds

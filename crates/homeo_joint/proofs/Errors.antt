@@ -3,8 +3,7 @@ use Rattle.std.proofs.Common.{◌≡◌, ℕ, ◌<◌, ◌≤◌, List, Result, 
 use Rattle.std.specs.List.{All}
 use Rattle.homeo_joint.specs.declared.size.JointError.{JointError}
 use Rattle.homeo_joint.specs.declared.size.JointError.TheVariants.{TooMany, Memory}
-use Rattle.homeo_plan.specs.Joint.{product_of}
-use Rattle.homeo_joint.specs.Counts.{IsFirstOver}
+use Rattle.homeo_joint.specs.Counts.{product_of, IsFirstOver}
 use Rattle.homeo_joint.specs.TooMany.{IsTooMany}
 use Rattle.homeo_joint.proofs.Products.{whole_over}
 

@@ -6,8 +6,7 @@ use Rattle.std.proofs.Math.Nat.{mul_assoc, one-le-mul, le-mul_of_pos_right, mul-
 use Rattle.std.proofs.lemmas.List.{take_more, take-append-drop, drop_more, get_or-map, length-map}
 use Rattle.std.proofs.lemmas.List.Elements.{All-head, All-tail, All-drop, All-map}
 use Rattle.homeo_plan.specs.declared.rows.Row.{Row}
-use Rattle.homeo_plan.specs.Joint.{product_of}
-use Rattle.homeo_joint.specs.Counts.{row_counts, IsFirstOver}
+use Rattle.homeo_joint.specs.Counts.{row_counts, product_of, IsFirstOver}
 
 pub product-append : (ms ns : List ℕ) → product_of (ms ++ ns) ≡ product_of ms * product_of ns
 product-append [] ns = omega arith

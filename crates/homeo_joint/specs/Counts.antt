@@ -1,8 +1,7 @@
 -- How many rows tables have, and where there are too many choices of one row of each.
-use Rattle.std.specs.Prelude.{◌≡◌, ℕ, ◌+◌, ◌<◌, ◌≤◌, List, map, take, length, Vec, vec_len}
+use Rattle.std.specs.Prelude.{◌≡◌, ℕ, ◌+◌, ◌*◌, ◌<◌, ◌≤◌, List, [], ◌∷◌, map, take, length, Vec, vec_len}
 use Rattle.homeo_plan.specs.declared.rows.Row.{Row}
 use Rattle.homeo_plan.specs.PlanView.{plain_row}
-use Rattle.homeo_plan.specs.Joint.{product_of}
 use Rattle.homeo_plan.specs.Table as table
 
 -- what a table stands for
@@ -12,6 +11,10 @@ plain_table t = map plain_row t.items
 -- how many rows each table has
 abbrev pub row_counts : {A : Type 0} → List (Vec Row A) → List ℕ
 row_counts ts = map vec_len ts
+
+abbrev pub product_of : List ℕ → ℕ
+product_of [] = 1
+product_of (n ∷ ns) = n * product_of ns
 
 -- the most rows that a joint table may have
 abbrev pub row_limit : ℕ

@@ -2,8 +2,8 @@
 
 ghost use Rattle.std.specs.Prelude.{◌≡◌, ℕ, ◌^◌, ◌<◌, ◌≤◌, map, length, vec_len, pos, ◌↔◌, IfOk, IsErrAnd};
 ghost use Rattle.std.specs.List.{All};
-ghost use Rattle.homeo_plan.specs.Joint.{joint_picks, product_of};
-ghost use Rattle.homeo_joint.specs.Counts.{plain_table, row_counts, row_limit, IsFirstOver};
+ghost use Rattle.homeo_plan.specs.Joint.{joint_picks};
+ghost use Rattle.homeo_joint.specs.Counts.{plain_table, row_counts, product_of, row_limit, IsFirstOver};
 ghost use Rattle.homeo_joint.specs.TooMany.{IsTooMany};
 ghost use Rattle.homeo_joint.specs.inner.Digits.{digits};
 

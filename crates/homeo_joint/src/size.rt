@@ -2,8 +2,7 @@
 
 ghost use Rattle.std.specs.Prelude.{◌≡◌, ℕ, ◌^◌, ◌<◌, ◌≤◌, length, vec_len, IfErr, IfOk};
 ghost use Rattle.std.specs.List.{All};
-ghost use Rattle.homeo_plan.specs.Joint.{product_of};
-ghost use Rattle.homeo_joint.specs.Counts.{row_counts, row_limit, IsFirstOver};
+ghost use Rattle.homeo_joint.specs.Counts.{row_counts, product_of, row_limit, IsFirstOver};
 ghost use Rattle.homeo_joint.specs.TooMany.{IsTooMany};
 
 use homeo_plan::Row;

@@ -1,4 +1,4 @@
--- How many rows a table has, and how many a joint table.
+-- How many rows a table has.
 use Rattle.homeo_meaning.specs.Key.{words as meaning_words}
 use Rattle.homeo_plan.specs.Key.{words}
 use Rattle.std.proofs.Common.{◌≡◌, ℕ, ◌+◌, ◌*◌, List, [], ◌∷◌, ◌++◌, map, length, refl, sym, ap, ap₂, ◌∙◌, arith}
@@ -10,7 +10,6 @@ use Rattle.homeo_meaning.specs.LowSizes.{rows, rows_all}
 use Rattle.homeo_plan.specs.Split.{shift, shift_all, shift_write}
 use Rattle.homeo_plan.specs.Table.{Row, test_before, otherwise, before, all_before, clear_row, last_row, table}
 use Rattle.homeo_plan.specs.Template.{PlannedCall, shifted}
-use Rattle.homeo_plan.specs.Joint.{picks_from, joint_picks, product_of}
 
 -- ---- tables
 one_each : {X : Type 0} (f : X → Row) (rs : List X) → length (map f rs) ≡ 1 * length rs
@@ -65,19 +64,3 @@ mutual
 pub length_shifted : (k : ℕ) (g : PlannedCall) → length (table (shifted k g)) ≡ rows g.command
 unfolding words
 length_shifted k g = length_table (shift k g.site g.command) ∙ rows_shift k g.site g.command
-
--- ---- joint tables
-length_picks : (n : ℕ) (rs : List Row) (choices : List (List ℕ)) → length (picks_from n rs choices) ≡ length rs * length choices
-unfolding words
-length_picks n [] choices = omega arith
-length_picks n (r ∷ rs) choices =
-    let next : length choices + length rs * length choices ≡ (1 + length rs) * length choices = omega arith in
-    let here : 1 + length rs ≡ length (r ∷ rs) = omega arith in
-    length-append (map (λ picks. n ∷ picks) choices) (picks_from (n + 1) rs choices)
-    ∙ ap₂ ◌+◌ (length-map choices (λ picks. n ∷ picks)) (length_picks (n + 1) rs choices)
-    ∙ next ∙ ap (λ m. m * length choices) here
-
-pub length_joint : (ts : List (List Row)) → length (joint_picks ts) ≡ product_of (map length ts)
-unfolding words
-length_joint [] = refl
-length_joint (t ∷ ts) = length_picks 0 t (joint_picks ts) ∙ ap (λ n. length t * n) (length_joint ts)

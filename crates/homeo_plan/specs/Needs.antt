@@ -43,20 +43,6 @@ unfolding words
 needs i b cs = needs_from i (base_forms b) [] cs
 
 -- ---- residuals
--- P holds of each of the commands
-abbrev pub EachCommand : (Command → Type 0) → Commands → Type 0
-unfolding words
-EachCommand P NoCommand = Unit {0}
-EachCommand P (MoreCommand c cs) = P c × EachCommand P cs
-
--- an assignment, a write or a print
-abbrev pub IsStep : Command → Type 0
-unfolding words
-IsStep (Assign t e) = Unit {0}
-IsStep (Write x e) = Unit {0}
-IsStep (Print e) = Unit {0}
-IsStep _ = ⊥
-
 -- the name of a delta
 abbrev pub IsDeltaName : SplitName → Type 0
 unfolding words
@@ -72,12 +58,8 @@ IsStraightOne (Write x e) = IsDeltaName x
 IsStraightOne (Print e) = Unit {0}
 IsStraightOne _ = ⊥
 
--- assignments, writes and prints, one after another
-abbrev pub AreSteps : Commands → Type 0
-unfolding words
-AreSteps cs = EachCommand IsStep cs
-
--- the same, where what is written are deltas
+-- such commands, one after another
 abbrev pub IsStraight : Commands → Type 0
 unfolding words
-IsStraight cs = EachCommand IsStraightOne cs
+IsStraight NoCommand = Unit {0}
+IsStraight (MoreCommand c cs) = IsStraightOne c × IsStraight cs

@@ -1,6 +1,6 @@
 -- The picks of a joint row by its number: digits, the last of which changes fastest.
 use Rattle.std.specs.Prelude.{ℕ, zero, suc, ◌/◌, ◌%◌, List, [], ◌∷◌, ◌++◌}
-use Rattle.homeo_plan.specs.Joint.{product_of}
+use Rattle.homeo_joint.specs.Counts.{product_of}
 
 -- a number by its digits, where there are so many digits in each place
 abbrev pub digits : List ℕ → ℕ → List ℕ

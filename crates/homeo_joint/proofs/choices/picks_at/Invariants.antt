@@ -1,7 +1,6 @@
 -- The loop of `picks_at`.
 use Rattle.std.proofs.Common.{◌≡◌, ◌<◌, ◌≤◌, ◌++◌, map, drop, pos}
-use Rattle.homeo_plan.specs.Joint.{product_of}
-use Rattle.homeo_joint.specs.Counts.{row_counts}
+use Rattle.homeo_joint.specs.Counts.{row_counts, product_of}
 use Rattle.homeo_joint.specs.inner.Digits.{digits}
 use Rattle.homeo_joint.proofs.choices.picks_at.Given as goal
 

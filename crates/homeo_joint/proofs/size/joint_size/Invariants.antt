@@ -1,7 +1,6 @@
 -- The loop of `joint_size`.
 use Rattle.std.proofs.Common.{◌≡◌, ◌≤◌, take}
-use Rattle.homeo_plan.specs.Joint.{product_of}
-use Rattle.homeo_joint.specs.Counts.{row_counts}
+use Rattle.homeo_joint.specs.Counts.{row_counts, product_of}
 use Rattle.homeo_joint.proofs.size.joint_size.Given as goal
 
 abbrev pub invariant-loop-table : goal.invariant-loop-table
