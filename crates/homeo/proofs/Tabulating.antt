@@ -1,10 +1,13 @@
 -- Where a workload has no fault, tables can be made of all its ground calls.
-use Rattle.std.proofs.Common.{◌≡◌, ℕ, ◌<◌, ◌≤◌, Bool, true, false, ◌||◌, List, [], ◌∷◌, ◌++◌, map, Option, Some, All, refl, sym, ap, subst, ◌∙◌, arith}
+use Rattle.std.proofs.Common.{◌≡◌, ℕ, ◌+◌, ◌*◌, ◌^◌, ◌<◌, ◌≤◌, Bool, true, false, ◌||◌, List, [], ◌∷◌, ◌++◌, map, length, take, get_or, Option, Some, All, refl, sym, ap, ap₂, subst, ◌∙◌, arith}
 use Rattle.std.specs.Prelude.{slice_get, is_some, IsSome, nat_lt}
 use Rattle.std.specs.List.{flat_map, sum_by}
+use Rattle.std.proofs.Math.Nat.{one-le-mul}
 use Rattle.std.proofs.lemmas.Bool.Decides.{nat_tests}
+use Rattle.std.proofs.lemmas.List.{get_or-map, length-map, map-append}
 use Rattle.homeo_syntax.specs.Source as s
 use Rattle.homeo_syntax.specs.WellFormed.{IsWellFormed}
+use Rattle.homeo_syntax.specs.Low.{Command, Commands, Skip, Assign, Write, Print, Seq, If, NoCommand, MoreCommand}
 use Rattle.homeo_meaning.specs.Key.{words as meanings}
 use Rattle.homeo_meaning.specs.Acceptance.{IsAccepted}
 use Rattle.homeo_meaning.specs.CallForm.{body_form, call_form, ground_form}
@@ -12,9 +15,10 @@ use Rattle.homeo_meaning.specs.CallRules.{call_faults, client_faults}
 use Rattle.homeo_meaning.specs.Declarations.{declarations, place_of}
 use Rattle.homeo_meaning.specs.Faults.{faults}
 use Rattle.homeo_meaning.specs.GlobalNames.{SitedCall, scope_of, called, transaction_at, sited_calls_of, sited_calls}
-use Rattle.homeo_meaning.specs.Ground.{sited_call, ground_of_sited, grounds}
+use Rattle.homeo_meaning.specs.Ground.{Ground, plain_ground, sited_call, ground_of_sited, grounds}
+use Rattle.homeo_meaning.specs.declared.call.GroundCall.{GroundCall}
 use Rattle.homeo_meaning.specs.ListRules.{when, fault}
-use Rattle.homeo_meaning.specs.LowSizes.{rows}
+use Rattle.homeo_meaning.specs.LowSizes.{rows, rows_all}
 use Rattle.homeo_meaning.specs.NumberRules.{ground_calls, site_faults}
 use Rattle.homeo_meaning.specs.Serial.{transaction_named}
 use Rattle.homeo_meaning.specs.SizeRules.{table_size, too_many_rows}
@@ -28,9 +32,15 @@ use Rattle.homeo_meaning.proofs.GroundCalls.{Every}
 use Rattle.homeo_meaning.proofs.SoundRules.{all_none, all_more, names_of, names_one, named-is}
 use Rattle.homeo_meaning.proofs.TransactionPlaces.{transaction_place}
 use Rattle.homeo_plan.specs.Key.{words as plans}
-use Rattle.homeo_plan.specs.Planned.{sites_of}
+use Rattle.homeo_plan.specs.Planned.{sites_of, planned_call}
+use Rattle.homeo_plan.specs.Split.{shift}
+use Rattle.homeo_plan.specs.Template.{shifted}
 use Rattle.homeo_plan.proofs.PlannedCalls.{StandsBelow, every_both, every_distinct, ground_sites_below}
-use Rattle.homeo.specs.inner.Tabulated.{CanTabulate}
+use Rattle.homeo_plan.proofs.RowCounts.{rows_shift}
+use Rattle.homeo_print.specs.Tables.{call_table, table_text}
+use Rattle.homeo_print.proofs.OneMore.{views_more, numbered_more}
+use Rattle.homeo.specs.Key.{words}
+use Rattle.homeo.specs.inner.Tabulated.{CanTabulate, calls_text}
 
 -- ---- each call names a transaction
 abbrev IsNamed : s.Workload → SitedCall → Type 0
@@ -42,9 +52,10 @@ rule w call = call_faults w.transactions ((scope_of w).item call.name.name) call
 named_calls : (w : s.Workload) (client : s.Client) (calls : List s.Call) → flat_map (rule w) calls ≡ [] → Every (IsNamed w) (map (sited_call client) calls)
 unfolding meanings
 named_calls w client [] none = tt
-named_calls w client (c ∷ cs) none =
-    (names_one w c ((scope_of w).item c.name.name) (none_first (rule w c) (flat_map (rule w) cs) none),
-      named_calls w client cs (none_second (rule w c) (flat_map (rule w) cs) none))
+named_calls w client (c ∷ cs) none = (
+  names_one w c ((scope_of w).item c.name.name) (none_first (rule w c) (flat_map (rule w) cs) none),
+  named_calls w client cs (none_second (rule w c) (flat_map (rule w) cs) none),
+)
 
 named_clients :
     (w : s.Workload) (cs : List s.Client) → flat_map (client_faults w.sites (scope_of w) w.transactions) cs ≡ [] → Every (IsNamed w) (flat_map sited_calls_of cs)
@@ -86,9 +97,10 @@ few_rows : (w : s.Workload) (before cs : List SitedCall) → each_from (too_many
 unfolding meanings
 few_rows w before [] none = tt
 few_rows w before (c ∷ cs) none =
-    let more : List Fault = each_from (too_many_rows w) (before ++ c ∷ []) cs in
-    (few_or_fault (rows (call_form w c)) _ more _ (none_first (too_many_rows w before c) more none),
-      few_rows w (before ++ c ∷ []) cs (none_second (too_many_rows w before c) more none))
+    let more : List Fault = each_from (too_many_rows w) (before ++ c ∷ []) cs in (
+      few_or_fault (rows (call_form w c)) _ more _ (none_first (too_many_rows w before c) more none),
+      few_rows w (before ++ c ∷ []) cs (none_second (too_many_rows w before c) more none),
+    )
 
 -- ---- all of them
 all_can :
@@ -109,3 +121,58 @@ can_tabulate w formed none =
     let named : Every (IsNamed w) (ground_calls w) =
     every_distinct (IsNamed w) (sited_calls w) [] (named_clients w w.clients (declared_parts w all.text.declared).clients) tt in
     all_can w (ground_calls w) named (few_rows w [] (ground_calls w) all.form.rows) (ground_sites_below w accepted)
+
+-- ---- the table of one call
+pub shifted_is :
+    (w : s.Workload) (g : Ground) (sites : ℕ) (form c : Command) → sites ≡ sites_of w → form ≡ ground_form w g → c ≡ shift sites g.site form →
+    c ≡ shifted (sites_of w) (planned_call w g)
+unfolding plans
+shifted_is w g sites form c k e is = is ∙ ap₂ (λ n d. shift n g.site d) k e
+
+mutual
+  unfolding meanings
+
+  -- no table is empty
+  pub some_rows : (c : Command) → 1 ≤ rows c
+  some_rows Skip = omega arith
+  some_rows (Assign t e) = omega arith
+  some_rows (Write x e) = omega arith
+  some_rows (Print e) = omega arith
+  some_rows (Seq cs) = some_rows_all cs
+  some_rows (If b c d) = let here = some_rows c in omega (arith, here)
+
+  some_rows_all : (cs : Commands) → 1 ≤ rows_all cs
+  some_rows_all NoCommand = omega arith
+  some_rows_all (MoreCommand c cs) = one-le-mul (some_rows c) (some_rows_all cs)
+
+-- a table that has so many rows has one, and not too many
+pub rows_counted :
+    (w : s.Workload) (g : Ground) (c : Command) (n : ℕ) → CanTabulate w g → c ≡ shifted (sites_of w) (planned_call w g) → n ≡ rows c → (1 ≤ n) × (n < 2 ^ 32)
+unfolding plans
+rows_counted w g c n can is count =
+    let same : rows c ≡ rows (ground_form w g) = ap rows is ∙ rows_shift (sites_of w) g.site (ground_form w g) in
+    let some : 1 ≤ rows (ground_form w g) = some_rows (ground_form w g) in
+    let few : rows (ground_form w g) ≤ 4096 = can.few in
+    (omega (arith, same, some, count), omega (arith, same, few, count))
+
+-- ---- one call more
+pub texts_more :
+    (w : s.Workload) (calls : List GroundCall) (i : ℕ) (g : GroundCall) → i < length calls → g ≡ get_or calls i g →
+    calls_text w (map plain_ground (take (i + 1) calls)) ≡
+    calls_text w (map plain_ground (take i calls)) ++ table_text w i (plain_ground g) (call_table w (plain_ground g))
+unfolding words
+texts_more w calls i g within is = numbered_more (λ n g. table_text w n g (call_table w g)) plain_ground calls i g within is
+
+pub tables_more :
+    (w : s.Workload) (calls : List GroundCall) (i : ℕ) (g : GroundCall) → i < length calls → g ≡ get_or calls i g →
+    map (call_table w) (map plain_ground (take (i + 1) calls)) ≡
+    map (call_table w) (map plain_ground (take i calls)) ++ call_table w (plain_ground g) ∷ []
+tables_more w calls i g within is =
+    ap (map (call_table w)) (views_more plain_ground calls i g within is) ∙ map-append (call_table w) (map plain_ground (take i calls)) (plain_ground g ∷ [])
+
+pub can_here :
+    (w : s.Workload) (calls : List GroundCall) (i : ℕ) (g : GroundCall) → i < length calls → g ≡ get_or calls i g →
+    All (CanTabulate w) (map plain_ground calls) → CanTabulate w (plain_ground g)
+can_here w calls i g within is all =
+    let here : i < length (map plain_ground calls) = omega (arith, length-map calls plain_ground, within) in
+    subst (CanTabulate w) (get_or-map plain_ground calls i g (plain_ground g) within ∙ ap plain_ground (sym is)) (all i (plain_ground g) here)

@@ -64,7 +64,14 @@ fn push_calls(
     let mut tables = Vec::new(alloc);
     for (number, call) in calls.iter().enumerate() {
         let rows = call_table(alloc, w, declared, call)?;
-        print_table(out, w.workload(), objects, number as u64, call, rows.as_slice())?;
+        print_table(
+            out,
+            w.workload(),
+            objects,
+            number as u64,
+            call,
+            rows.as_slice(),
+        )?;
         tables.push(rows)?;
     }
     Ok(tables)

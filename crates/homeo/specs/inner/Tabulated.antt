@@ -1,5 +1,5 @@
 -- Ground calls of which tables can be made, and the text of their tables.
-use Rattle.std.specs.Prelude.{ℕ, ◌<◌, ◌≤◌, List, ◌×◌, IsSome, slice_get}
+use Rattle.std.specs.Prelude.{ℕ, ◌<◌, ◌≤◌, List, IsSome, slice_get}
 use Rattle.std.specs.List.{flat_map, enumerate_from}
 use Rattle.homeo_syntax.specs.Source as s
 use Rattle.homeo_meaning.specs.CallForm.{ground_form}
