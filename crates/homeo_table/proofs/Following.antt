@@ -131,7 +131,7 @@ rows-both m k b c d rows all held failed others h e f g =
     ap₂ ◌++◌ e (g ∙ ap (λ failed. failed ++ all) f) ∙ sym (append_assoc (map m y) (map m n) all)
     ∙ ap (λ rows. rows ++ all) (sym (map-append m y n) ∙ ap (λ k. map m (before k rows)) (sym h))
 
--- the places of the pushed are the items' own
+-- what one more stands for is behind what the others stand for
 pub pushed-left : (cs ds : List (Bor LCommand)) (c : Bor LCommand) (k : Command) → ds ≡ cs ++ c ∷ [] → plain_lcommand c.now ≡ k → map (λ c. plain_lcommand c.now) ds ≡ map (λ c. plain_lcommand c.now) cs ++ k ∷ []
 pushed-left cs ds c k h is =
     ap (map (λ c. plain_lcommand c.now)) h ∙ map_push (λ c. plain_lcommand c.now) cs c ∙ ap (λ k. map (λ c. plain_lcommand c.now) cs ++ k ∷ []) is

@@ -34,7 +34,8 @@ fn read(alloc: Global, put: &Bindings, x: SplitName) -> Result<Rc<Shared>, Memor
     }
 }
 
-/// An expression with what is put in shared, so that it takes no more memory than the expression.
+/// An expression with what stands there put in for what it reads. What is put in is shared, so that no more is made than
+/// the expression has.
 #[cycle(expressions)]
 #[tactic(auto, using(homeo_syntax::proofs::Measures::low_expr_parts, homeo_syntax::proofs::LowViews::low_phrase_views, crate::proofs::SharedViews::views, crate::proofs::Equations::expressions))]
 pub(crate) fn expression(alloc: Global, put: &Bindings, e: &LExpr) -> Result<Rc<Shared>, Memory>
@@ -71,7 +72,7 @@ fn each_expression(alloc: Global, put: &Bindings, es: &[LExpr]) -> Result<Vec<Rc
     Ok(made)
 }
 
-/// An expression of a test, which shares nothing.
+/// The same for a side of a comparison, which shares nothing.
 fn side(alloc: Global, put: &Bindings, e: &LExpr) -> Result<LExpr, Memory>
     ensures { IfOk result (λ r. plain_lexpr r ≡ substituted (bound put.now) (plain_lexpr e.now)) }
 {
