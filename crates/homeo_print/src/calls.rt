@@ -1,7 +1,7 @@
 //! The texts of names and calls.
 #![tactic(auto, using(homeo_syntax::proofs::SourceViews::workload_views), unfolding(crate::specs::Key::words, homeo_meaning::specs::Key::words))]
 
-ghost use Rattle.std.specs.Prelude.{◌≡◌, ◌++◌, map, OnOk, option_map, slice_get};
+ghost use Rattle.std.specs.Prelude.{◌≡◌, ◌++◌, OnOk, slice_get};
 ghost use Rattle.std.specs.Option.{option_copied};
 ghost use Rattle.homeo_syntax.specs.SourceView.{plain_workload};
 ghost use Rattle.homeo_meaning.specs.Ground.{plain_ground};

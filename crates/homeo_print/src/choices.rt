@@ -2,7 +2,6 @@
 #![tactic(auto, using(crate::proofs::ChoiceLines::choice_steps))]
 
 ghost use Rattle.std.specs.Prelude.{◌≡◌, ℕ, ◌<◌, ◌≤◌, List, ◌++◌, map, length, pos, OnOk};
-ghost use Rattle.std.specs.List.{flat_map};
 ghost use Rattle.homeo_print.specs.Tables.{most_choices, choices_text};
 ghost use Rattle.homeo_print.specs.inner.Choices.{pick_text, picks_text};
 

@@ -5,11 +5,11 @@ ghost use Rattle.std.specs.Prelude.{◌≡◌, [], ◌∷◌, ◌++◌, length, 
 ghost use Rattle.std.specs.Option.{option_copied};
 ghost use Rattle.homeo_syntax.specs.SourceView.{plain_relation, plain_workload};
 ghost use Rattle.homeo_meaning.specs.Schema.{nat_of};
-ghost use Rattle.homeo_print.specs.Names.{name_text, field_name, field_names, slot_names, relation_names, declared_names, object_names, name_at};
+ghost use Rattle.homeo_print.specs.Names.{field_name, slot_names, relation_names, declared_names, object_names, name_at};
 
 use crate::append::{push_bytes, push_number};
 use crate::calls::name_of;
-use homeo_syntax::{Ident, Memory, ObjectDecl, RangeDecl, RelationDecl, Workload};
+use homeo_syntax::{Memory, ObjectDecl, RelationDecl, Workload};
 use std::alloc::Global;
 use std::marker::Model;
 
