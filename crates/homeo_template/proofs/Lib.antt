@@ -1,0 +1,4 @@
+pub mod Appending
+pub mod Freezing
+pub mod Keys
+pub mod Negation
