@@ -1,6 +1,6 @@
 -- Small numbers negated.
 use Rattle.homeo_meaning.specs.Key.{words as meaning_words}
-use Rattle.std.proofs.Common.{◌≡◌, ◌≤◌, ℤ, ◌-ℤ◌, pos, neg_ℤ, FitsSigned, SFits, to_z, of_z, arith}
+use Rattle.std.proofs.Common.{◌≡◌, ℤ, ◌-ℤ◌, pos, neg_ℤ, FitsSigned, SFits, to_z, of_z, arith}
 use mir.Syntax.{w128}
 use Rattle.std.proofs.Math.IntN.{+ℤ_idl}
 use Rattle.std.specs.Int.RustNames.{unsigned_abs}

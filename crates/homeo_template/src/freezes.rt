@@ -70,11 +70,13 @@ fn place_of(delta: Delta) -> Place
 fn in_order(alloc: Global, frozen: &BTreeSet<Place>) -> Result<Vec<Delta>, Memory>
     ensures { IfOk result (λ ds. ds.items ≡ deltas_in frozen.now) }
 {
-    Ok(frozen
-        .iter()
-        .map(|place| Delta {
-            object: place.object,
-            site: place.site,
-        })
-        .collect(alloc)?)
+    Ok(
+        frozen
+            .iter()
+            .map(|place| Delta {
+                object: place.object,
+                site: place.site,
+            })
+            .collect(alloc)?,
+    )
 }
