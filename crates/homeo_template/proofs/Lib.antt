@@ -2,3 +2,5 @@ pub mod Appending
 pub mod Freezing
 pub mod Keys
 pub mod Negation
+pub mod Ordered
+pub mod SmallSlacks

@@ -8,7 +8,7 @@ use Rattle.std.proofs.lemmas.Int.{ints, fits_signed_from_abs, to_z-of_z}
 use Rattle.homeo_meaning.specs.Small.{IsSmall}
 use Rattle.homeo_template.specs.Constants.{constant_limit}
 
-abs_neg : (a : ℤ) → unsigned_abs (neg_ℤ a) ≡ unsigned_abs a
+pub abs_neg : (a : ℤ) → unsigned_abs (neg_ℤ a) ≡ unsigned_abs a
 abs_neg a = grind (arith, ints)
 
 negation_fits : (a : ℤ) → IsSmall constant_limit a → FitsSigned w128 (neg_ℤ a)
