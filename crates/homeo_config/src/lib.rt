@@ -1,0 +1,6 @@
+//! Configurations: bounds of the sites that fit a template's clauses.
+#![tactic(auto)]
+
+mod split;
+
+pub use split::split_even;

@@ -1,0 +1,93 @@
+-- Keys tell clauses apart as the definition does, and the set of them stays beside the clauses.
+use Rattle.homeo_plan.specs.Key.{words}
+use Rattle.std.proofs.Common.{◌≡◌, ℤ, Bool, true, false, cond, ◌&&◌, ◌==◌, List, [], ◌∷◌, ◌++◌, map, length, refl, ap, ap₂, ◌∙◌, arith}
+use Rattle.std.specs.Prelude.{neg_ℤ, ◌||◌, not, if◌then◌else◌}
+use Rattle.std.specs.Ordering.{int_eq}
+use Rattle.std.specs.List.{list_any}
+use Rattle.std.specs.Cmp.Lexicographic.{pointwise}
+use Rattle.std.proofs.lemmas.Bool.Decides.{nat_tests}
+use Rattle.std.proofs.lemmas.List.{map_push}
+use Rattle.homeo_syntax.specs.Listed.{Listed}
+use Rattle.homeo_plan.specs.declared.forms.Term.{Term}
+use Rattle.homeo_plan.specs.declared.forms.Linear as forms
+use Rattle.homeo_plan.specs.declared.templates.Clause.{Clause}
+use Rattle.homeo_plan.specs.PlanView.{plain_clause, plain_linear}
+use Rattle.homeo_plan.specs.Linear.{Linear, is_empty}
+use Rattle.homeo_plan.specs.Template as template
+use Rattle.homeo_plan.specs.Template.{clause_of, same_terms, same_clause, with_clause}
+use Rattle.homeo_template.specs.declared.key.TermKey.{TermKey}
+use Rattle.homeo_template.specs.declared.key.Key.{Key}
+use Rattle.homeo_template.specs.inner.Keys.{term_of, clause_at}
+
+-- the tests of the code
+abbrev pub same_term_key : TermKey → TermKey → Bool
+same_term_key a b = (a.object == b.object) && ((a.site == b.site) && int_eq a.factor b.factor)
+
+abbrev pub same_key : Key → Key → Bool
+same_key a b = pointwise same_term_key a.terms.items b.terms.items && int_eq a.slack b.slack
+
+and-assoc : (a b c : Bool) → (a && (b && c)) ≡ ((a && b) && c)
+and-assoc true b c = refl
+and-assoc false b c = refl
+
+same-terms : (xs ys : List TermKey) → pointwise same_term_key xs ys ≡ same_terms (map term_of xs) (map term_of ys)
+unfolding words
+same-terms [] [] = refl
+same-terms [] (y ∷ ys) = refl
+same-terms (x ∷ xs) [] = refl
+same-terms (x ∷ xs) (y ∷ ys) =
+    ap₂ (λ a b. a && b) (and-assoc (x.object == y.object) (x.site == y.site) (int_eq x.factor y.factor)) (same-terms xs ys)
+
+same-key : (a b : Key) → same_key a b ≡ same_clause (clause_at a) (clause_at b)
+unfolding words
+same-key a b = ap (λ c. c && int_eq a.slack b.slack) (same-terms a.terms.items b.terms.items)
+
+any-keys : (k : Key) (ks : List Key) → list_any (same_key k) ks ≡ list_any (same_clause (clause_at k)) (map clause_at ks)
+any-keys k [] = refl
+any-keys k (j ∷ ks) = λ i. same-key k j i || any-keys k ks i
+
+-- a clause behind the others, unless it is there
+abbrev pub after : template.Clause → List template.Clause → List template.Clause
+after c cs = if list_any (same_clause c) cs then cs else cs ++ c ∷ []
+
+pub clause_put :
+    (ks : List Key) (cs made : List Clause) (k : Key) (c : Clause) (is_new : Bool) → map clause_at ks ≡ map plain_clause cs →
+    clause_at k ≡ plain_clause c → is_new ≡ not (list_any (same_key k) ks) →
+    made ≡ (if is_new then cs ++ c ∷ [] else cs) → map plain_clause made ≡ after (plain_clause c) (map plain_clause cs)
+clause_put ks cs made k c is_new keys key new pushed =
+    ap (map plain_clause) (pushed ∙ ap (λ (b : Bool). if b then cs ++ c ∷ [] else cs) new)
+    ∙ go (list_any (same_key k) ks)
+    ∙ ap (λ (b : Bool). if b then map plain_clause cs else map plain_clause cs ++ plain_clause c ∷ []) there
+  where
+    there : list_any (same_key k) ks ≡ list_any (same_clause (plain_clause c)) (map plain_clause cs)
+    there = any-keys k ks ∙ (λ i. list_any (same_clause (key i)) (keys i))
+
+    go :
+        (b : Bool) →
+        map plain_clause (if not b then cs ++ c ∷ [] else cs) ≡
+        (if b then map plain_clause cs else map plain_clause cs ++ plain_clause c ∷ [])
+    go true = refl
+    go false = map_push plain_clause cs c
+
+-- ---- an atom's clause
+pub no_clause : (cs : List template.Clause) (a : Linear) → (length a.terms == 0) ≡ true → cs ≡ with_clause cs a
+unfolding words
+no_clause cs a e = go a.terms e
+  where
+    go : (ts : List Term) → (length ts == 0) ≡ true → cs ≡ cond (is_empty ts) cs (after (clause_of a) cs)
+    go [] e = refl
+    go (t ∷ ts) e = absurd (grind (arith, nat_tests))
+
+pub one_clause : (cs : List template.Clause) (a : Linear) → (length a.terms == 0) ≡ false → after (clause_of a) cs ≡ with_clause cs a
+unfolding words
+one_clause cs a e = go a.terms e
+  where
+    go : (ts : List Term) → (length ts == 0) ≡ false → after (clause_of a) cs ≡ cond (is_empty ts) cs (after (clause_of a) cs)
+    go [] e = absurd (cc)
+    go (t ∷ ts) e = refl
+
+pub made_clause :
+    (form : forms.Linear) (terms : Listed Term) (negated : ℤ) → terms.items ≡ form.terms.items → negated ≡ neg_ℤ form.constant →
+    plain_clause (record { terms = terms; slack = negated }) ≡ clause_of (plain_linear form)
+unfolding words
+made_clause form terms negated e f = λ i. let c : template.Clause = record { terms = e i; slack = f i } in c

@@ -1,0 +1,6 @@
+pub mod Appending
+pub mod Freezing
+pub mod Keys
+pub mod Negation
+pub mod Ordered
+pub mod SmallSlacks

@@ -1,0 +1,21 @@
+-- The clauses and the freezes make the template.
+use Rattle.std.proofs.Common.{subst, sym, map, []}
+use Rattle.homeo_plan.specs.PlanView.{plain_atoms}
+use Rattle.homeo_plan.specs.Template.{joined}
+use Rattle.homeo_plan.specs.declared.templates.FreezeSet.{FreezeSet}
+use Rattle.homeo_template.specs.InOrder.{AreInOrder}
+use Rattle.homeo_template.proofs.Appending.{template_of}
+use Rattle.homeo_template.proofs.Ordered.{put-in_order}
+use Rattle.homeo_template.proofs.SmallSlacks.{small-slacks}
+use Rattle.homeo_template.proofs.joining.template.Goals as goal
+
+pub returns-clause-value : goal.returns-clause-value
+returns-clause-value c = template_of _ _ _ _ c.in_ok-clauses.ensures c.in_ok-freezes.ensures
+
+pub returns-clause-small : goal.returns-clause-small
+returns-clause-small c = small-slacks c.args.sets.now _ c.requires.small c.in_ok-clauses.ensures
+
+pub returns-clause-order : goal.returns-clause-order
+returns-clause-order c =
+    subst AreInOrder (sym c.in_ok-freezes.ensures)
+    (put-in_order (map (λ (f : FreezeSet). f.deltas.items) c.args.freezes.now) _ (put-in_order (map (λ a. a.mixed) (joined (map plain_atoms c.args.sets.now))) [] tt))
