@@ -11,16 +11,15 @@ use Rattle.std.proofs.lemmas.Bool.Decides.{Decides-eqb, nat_tests}
 use Rattle.homeo_syntax.specs.Source as s
 use Rattle.homeo_syntax.specs.declared.phrase.Ident.{Ident}
 use Rattle.homeo_syntax.specs.declared.phrase.Number.{Number}
-use Rattle.homeo_syntax.specs.declared.workload.ObjectDecl.{ObjectDecl}
 use Rattle.homeo_syntax.specs.Key.{words as syntax}
 use Rattle.homeo_syntax.specs.WellFormed.{Each, InSchedule, IsBelow, IsWellFormed}
 use Rattle.homeo_meaning.specs.Key.{words as meanings}
 use Rattle.homeo_meaning.specs.NameRules.{when}
 use Rattle.homeo_meaning.specs.TransactionRules.{each, each_from, is_in}
-use Rattle.homeo_meaning.specs.GlobalNames.{GlobalName, SitedCall, global_names, numbered_from, first_named, duplicate, scope_of, sited_calls}
+use Rattle.homeo_meaning.specs.GlobalNames.{GlobalName, global_names, numbered_from, first_named, duplicate, scope_of}
 use Rattle.homeo_meaning.specs.CallRules.{times, call_count, call_faults, client_faults, scheduled, is_short, end_fault, schedule_faults}
-use Rattle.homeo_meaning.specs.NumberRules.{object_faults, site_faults, site_count_faults, passes_limit, ground_calls, limit_faults}
-use Rattle.homeo_meaning.specs.Faults.{of_transaction, declared_faults, faults}
+use Rattle.homeo_meaning.specs.NumberRules.{site_faults, site_count_faults, passes_limit, limit_faults}
+use Rattle.homeo_meaning.specs.Faults.{declared_faults, faults}
 use Rattle.homeo_meaning.proofs.FaultParts.{none_first, none_second, parts, declared_parts, limit_parts}
 use Rattle.homeo_meaning.specs.declared.call.Purpose.{Purpose}
 use Rattle.homeo_meaning.specs.declared.call.Purpose.TheVariants.{Steps}

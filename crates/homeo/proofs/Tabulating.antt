@@ -1,7 +1,7 @@
 -- Where a workload has no fault, tables can be made of all its ground calls.
-use Rattle.std.proofs.Common.{◌≡◌, ℕ, ◌+◌, ◌*◌, ◌^◌, ◌<◌, ◌≤◌, Bool, true, false, ◌||◌, List, [], ◌∷◌, ◌++◌, map, length, take, get_or, Option, Some, All, refl, sym, ap, ap₂, subst, ◌∙◌, arith}
+use Rattle.std.proofs.Common.{◌≡◌, ℕ, ◌+◌, ◌^◌, ◌<◌, ◌≤◌, Bool, true, false, ◌||◌, List, [], ◌∷◌, ◌++◌, map, length, take, get_or, Some, All, refl, sym, ap, ap₂, subst, ◌∙◌, arith}
 use Rattle.std.specs.Prelude.{slice_get, is_some, IsSome, nat_lt}
-use Rattle.std.specs.List.{flat_map, sum_by}
+use Rattle.std.specs.List.{flat_map}
 use Rattle.std.proofs.Math.Nat.{one-le-mul}
 use Rattle.std.proofs.lemmas.Bool.Decides.{nat_tests}
 use Rattle.std.proofs.lemmas.List.{get_or-map, length-map, map-append}
@@ -17,16 +17,14 @@ use Rattle.homeo_meaning.specs.Faults.{faults}
 use Rattle.homeo_meaning.specs.GlobalNames.{SitedCall, scope_of, called, transaction_at, sited_calls_of, sited_calls}
 use Rattle.homeo_meaning.specs.Ground.{Ground, plain_ground, sited_call, ground_of_sited, grounds}
 use Rattle.homeo_meaning.specs.declared.call.GroundCall.{GroundCall}
-use Rattle.homeo_meaning.specs.ListRules.{when, fault}
+use Rattle.homeo_meaning.specs.ListRules.{when}
 use Rattle.homeo_meaning.specs.LowSizes.{rows, rows_all}
 use Rattle.homeo_meaning.specs.NumberRules.{ground_calls, site_faults}
-use Rattle.homeo_meaning.specs.Serial.{transaction_named}
-use Rattle.homeo_meaning.specs.SizeRules.{table_size, too_many_rows}
+use Rattle.homeo_meaning.specs.SizeRules.{too_many_rows}
 use Rattle.homeo_meaning.specs.TransactionRules.{each_from}
 use Rattle.homeo_meaning.specs.declared.call.Purpose.TheVariants.{Tables}
 use Rattle.homeo_meaning.specs.declared.rules.Fault.{Fault}
 use Rattle.homeo_meaning.specs.declared.rules.Item.TheVariants as I
-use Rattle.homeo_meaning.specs.declared.rules.Phase.TheVariants.{Rows}
 use Rattle.homeo_meaning.proofs.FaultParts.{none_first, none_second, parts, declared_parts, for_run}
 use Rattle.homeo_meaning.proofs.GroundCalls.{Every}
 use Rattle.homeo_meaning.proofs.SoundRules.{all_none, all_more, names_of, names_one, named-is}

@@ -148,7 +148,7 @@ table_text w number g rows =
     ++ codes " at " ++ decimal g.site ++ heading (codes " rows ") (length rows)
     ++ rows_text w rows
 
--- the symbolic table of a ground call, over its site's own deltas
+-- the symbolic table of a ground call: of the delta transform of its L form, for its site
 abbrev pub call_table : s.Workload → Ground → List Row
 unfolding words
 call_table w g = table (shifted (sites_of w) (planned_call w g))

@@ -5,4 +5,3 @@ pub mod Bound
 pub mod Makings
 pub mod Following
 pub mod Held
-pub mod RowCounts

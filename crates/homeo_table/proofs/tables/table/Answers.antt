@@ -7,7 +7,7 @@ use Rattle.homeo_plan.specs.Table.{table}
 use Rattle.homeo_table.specs.inner.Branches.{rows_of_all}
 use Rattle.homeo_table.proofs.Following.{branches-start, branches-end, branches-next, next-row, fewer-rows}
 use Rattle.homeo_table.proofs.Held.{table_has_one, table_does}
-use Rattle.homeo_table.proofs.RowCounts.{length-table}
+use Rattle.homeo_plan.proofs.RowCounts.{length_table}
 use Rattle.homeo_table.proofs.tables.table.Goals as goal
 
 pub loop-branch-init : goal.loop-branch-init
@@ -40,4 +40,4 @@ returns-clause-means c = table_does (plain_lcommand c.args.c.now) (map plain_row
 
 pub returns-clause-count : goal.returns-clause-count
 returns-clause-count c =
-    sym (length-map c.loop-branch.rows.items plain_row) ∙ ap length (returns-clause-rows c) ∙ length-table (plain_lcommand c.args.c.now)
+    sym (length-map c.loop-branch.rows.items plain_row) ∙ ap length (returns-clause-rows c) ∙ length_table (plain_lcommand c.args.c.now)

@@ -1,2 +1,0 @@
-use Rattle.std.proofs.Common.{ap}
-use Rattle.homeo.proofs.command.Command.of.Goals as goal
