@@ -1,23 +1,22 @@
 -- The command of the tests can be run and transformed, and its split database folded.
-use Rattle.std.proofs.Common.{◌≡◌, ℕ, zero, suc, ◌-◌, ◌^◌, ◌<◌, ◌≤◌, true, List, [], ◌∷◌, ◌++◌, map, length, pos, ◌+ℤ◌, FitsSigned, w64, sym, ap, ap₂, ◌∙◌, subst, arith}
+use Rattle.std.proofs.Common.{◌≡◌, ℕ, zero, suc, ◌-◌, ◌^◌, ◌<◌, ◌≤◌, true, List, [], ◌∷◌, ◌++◌, map, length, pos, FitsSigned, w64, sym, ap, ap₂, ◌∙◌, subst, arith}
 use Rattle.std.proofs.lemmas.Int.{fits_signed_from_abs}
 use Rattle.std.proofs.lemmas.List.{length-map}
 use Rattle.homeo_syntax.specs.Listed.{Listed}
 use Rattle.homeo_syntax.specs.Low.{Command}
-use Rattle.homeo_syntax.specs.declared.low.SplitName.TheVariants.{Base, Delta}
 use Rattle.homeo_meaning.specs.Key.{words as meaning_words}
 use Rattle.homeo_meaning.specs.LowMeaning.{State, BaseAt, location_of, exec}
 use Rattle.homeo_meaning.specs.Whole.{IsWhole}
 use Rattle.homeo_plan.specs.Key.{words}
 use Rattle.homeo_plan.specs.Split.{fold_state, shift}
-use Rattle.homeo_plan.proofs.Sums.{sum_same}
+use Rattle.homeo_plan.proofs.SameFolds.{same_folds}
 use Rattle.homeo_split.specs.Key.{words as split_words}
 use Rattle.homeo_split.specs.CanExec.{limit, can_exec}
 use Rattle.homeo_split.specs.Shape.{Shape, shape_of, has_places}
 use Rattle.homeo_split.specs.States.{state_with, state_of, AgreeOnNames}
 use Rattle.homeo_split.specs.declared.split.Split.{Split}
 use Rattle.homeo_split.proofs.Copies.{lengths}
-use Rattle.homeo_delta.specs.Folding.{folded_of, SumsFit}
+use Rattle.homeo_delta.specs.Folding.{SumsFit}
 use Rattle.homeo_plan_tests.specs.inner.SplitExample.{raise, base, deltas, IsStart}
 
 pub raise-whole : (c : Command) → c ≡ raise → IsWhole c
@@ -46,10 +45,6 @@ unfolding words meaning_words split_words
 can_shift s c is e = ap₂ (can_exec limit) e (start_is s is)
 
 -- ---- folds
-agreed : (s : Split) (st : State) → AgreeOnNames (state_of s) st → (k x : ℕ) → folded_of s k x ≡ fold_state k st (BaseAt x)
-unfolding words meaning_words
-agreed s st agree k x = ap₂ ◌+ℤ◌ (agree (Base x)) (sum_same 0 k _ _ (λ j. agree (Delta x j)))
-
 sums_fit :
     (s : Split) (st : State) → AgreeOnNames (state_of s) st → shape_of s ≡ record { base = 2; deltas = 2 ∷ 2 ∷ [] } →
     ((k x : ℕ) → k ≤ 2 → x < 2 → FitsSigned w64 (fold_state k st (BaseAt x))) → SumsFit s
@@ -57,7 +52,7 @@ unfolding split_words
 sums_fit s st agree shape fits k x le lt =
     let sites : length s.deltas.items ≡ 2 = sym (length-map s.deltas.items (λ d. length d.items)) ∙ ap (λ (h : Shape). length h.deltas) shape in
     let objects : length s.base.items ≡ 2 = ap (λ (h : Shape). h.base) shape in
-    subst (FitsSigned w64) (sym (agreed s st agree k x)) (fits k x (omega arith) (omega arith))
+    subst (FitsSigned w64) (sym (same_folds (state_of s) st agree k x)) (fits k x (omega arith) (omega arith))
 
 up_to_two :
     (P : ℕ → ℕ → Type 0) → P 0 0 → P 0 1 → P 1 0 → P 1 1 → P 2 0 → P 2 1 → (k x : ℕ) → k ≤ 2 → x < 2 → P k x

@@ -1,1 +1,2 @@
+pub mod CallExample
 pub mod SplitExample

@@ -1,6 +1,8 @@
-//! Tests of the crates of plans, each call on values made here.
+//! Tests of the crates of plans, on values made here and on a text.
 #![tactic(auto)]
 
+#[cfg(test)]
+mod calls;
 #[cfg(test)]
 mod copies;
 #[cfg(test)]
