@@ -1,3 +1,4 @@
 mod Adding
+mod FormParts
 mod Orders
 mod Widths

@@ -2,5 +2,6 @@
 #![tactic(auto)]
 
 mod deltas;
+mod form;
 mod numbers;
 mod terms;
