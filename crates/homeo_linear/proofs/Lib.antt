@@ -1,4 +1,6 @@
 mod Adding
 mod FormParts
+mod FormSteps
 mod Orders
+mod Stands
 mod Widths

@@ -1,3 +1,6 @@
+pub mod Kept
 pub mod Key
 pub mod Order
+pub mod Places
+pub mod Standing
 pub mod Terms

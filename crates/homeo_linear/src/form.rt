@@ -48,6 +48,13 @@ impl Form {
         }
     }
 
+    /// The form of a value.
+    pub(crate) fn value(alloc: Global, n: i64) -> Form
+        ensures { result ≡ constant_form n }
+    {
+        Form::number(alloc, n as i128)
+    }
+
     /// The form of a delta.
     pub(crate) fn delta(alloc: Global, delta: Delta) -> Result<Form, Memory>
         ensures { IfOk result (λ f. f ≡ delta_form delta) }
