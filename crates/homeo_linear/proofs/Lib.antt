@@ -1,6 +1,8 @@
 mod Adding
+mod Comparing
 mod FormParts
 mod FormSteps
+mod Keeping
 mod Orders
 mod Stands
 mod Widths
