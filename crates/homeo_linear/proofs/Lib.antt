@@ -3,6 +3,7 @@ mod Comparing
 mod FormParts
 mod FormSteps
 mod Keeping
+mod Needing
 mod Orders
 mod Stands
 mod Widths

@@ -1,14 +1,14 @@
 //! Residuals that are followed from command to command.
 
-ghost use Rattle.std.specs.Prelude.{◌≡◌, IfOk, OnOk};
+ghost use Rattle.std.specs.Prelude.{◌≡◌, ◌==◌, not, map, IfOk, OnOk};
 ghost use Rattle.homeo_syntax.specs.Low.{Commands, MoreCommand, NoCommand, Assign, Write, Print};
-ghost use Rattle.homeo_syntax.specs.LowView.{plain_lexpr, plain_lcommand};
+ghost use Rattle.homeo_syntax.specs.LowView.{low_commands, plain_lexpr, plain_lcommand};
 ghost use Rattle.homeo_meaning.specs.LowMeaning.{DeltaAt};
 ghost use Rattle.homeo_meaning.specs.Serial.{values_of};
 ghost use Rattle.homeo_meaning.specs.Small.{IsSmall};
 ghost use Rattle.homeo_plan.specs.FormSizes.{CanForm, CanFollow};
 ghost use Rattle.homeo_plan.specs.Linear.{base_forms, support};
-ghost use Rattle.homeo_plan.specs.Needs.{remote, written_needs, add_written, needs, IsStraightOne};
+ghost use Rattle.homeo_plan.specs.Needs.{remote, written_needs, add_written, needs, IsStraightOne, IsStraight};
 ghost use Rattle.homeo_linear.specs.Limit.{limit};
 ghost use Rattle.homeo_linear.specs.inner.Following.{needs_of, Followed};
 ghost use Rattle.homeo_linear.specs.inner.Order.{InOrder};
@@ -49,8 +49,21 @@ impl<'a> Following<'a> {
         }
     }
 
-    /// Follows an assignment, a write of a delta or a print.
-    pub(crate) fn follow(&mut self, alloc: Global, command: &LCommand) -> Result<(), Memory>
+    /// Follows assignments, writes of deltas and prints.
+    pub(crate) fn follow_all(&mut self, alloc: Global, commands: &[LCommand]) -> Result<(), Memory>
+        requires straight { IsStraight (low_commands (map plain_lcommand commands.now)) }
+        requires small { CanFollow (IsSmall limit) (forms_of self.old.standing) (low_commands (map plain_lcommand commands.now)) }
+        requires order { InOrder self.old.written.items }
+        ensures { OnOk result (needs_of self.new NoCommand ≡ needs_of self.old (low_commands (map plain_lcommand commands.now))) }
+    {
+        for command in commands {
+            self.follow(alloc, command)?;
+        }
+        Ok(())
+    }
+
+    /// Follows one of them.
+    fn follow(&mut self, alloc: Global, command: &LCommand) -> Result<(), Memory>
         requires straight { IsStraightOne (plain_lcommand command.now) }
         requires small { CanFollow (IsSmall limit) (forms_of self.old.standing) (MoreCommand (plain_lcommand command.now) NoCommand) }
         requires order { InOrder self.old.written.items }
@@ -60,7 +73,7 @@ impl<'a> Following<'a> {
             LCommand::Assign { target, value } => self.assign(alloc, *target, value),
             LCommand::Write { target, value } => self.write(alloc, *target, value),
             LCommand::Print { value } => self.print(alloc, value),
-            _ => unreachable!(),
+            LCommand::Skip | LCommand::Seq { .. } | LCommand::If { .. } => unreachable!(),
         }
     }
 
@@ -95,8 +108,7 @@ impl<'a> Following<'a> {
 
     /// What the residual needs, where it ends here.
     pub(crate) fn needs(self, alloc: Global) -> Result<Vec<Delta>, Memory>
-        requires { InOrder self.written.items }
-        ensures { IfOk result (λ v. v.items ≡ needs_of self NoCommand) }
+        ensures { IfOk result (λ v. v.items ≡ needs_of self.entry NoCommand) }
     {
         let mut prints = self.prints;
         let mut needed = written_needs(alloc, self.site, &self.standing, self.written.as_slice())?;
@@ -145,26 +157,32 @@ fn remote_of(alloc: Global, site: u32, form: &Form) -> Result<Vec<Delta>, Memory
     remote(alloc, site, deltas.as_slice())
 }
 
-#[tactic(auto, using(homeo_meaning::proofs::Steps::steps), unfolding(homeo_plan::specs::Key::words))]
 fn remote(alloc: Global, site: u32, deltas: &[Delta]) -> Result<Vec<Delta>, Memory>
     ensures { IfOk result (λ v. v.items ≡ remote site deltas.now) }
 {
     let mut others = Vec::new(alloc);
     for delta in deltas {
-        if delta.site != site {
+        if is_remote(delta, site) {
             others.push(*delta)?;
         }
     }
     Ok(others)
 }
 
+fn is_remote(delta: &Delta, site: u32) -> bool
+    ensures { result ≡ not (delta.now.site == site) }
+{
+    delta.site != site
+}
+
 /// Adds a delta that is written.
+#[tactic(auto, unfolding(homeo_plan::specs::Key::words))]
 fn add_name(written: &mut Vec<Delta>, name: SplitName) -> Result<(), Memory>
     requires { InOrder written.old.items }
     ensures { OnOk result (written.new.items ≡ add_written name written.old.items) }
 {
     match name {
         SplitName::Delta { object, site } => add_delta(written, Delta { object, site }),
-        _ => Ok(()),
+        SplitName::Whole(_) | SplitName::Base(_) => Ok(()),
     }
 }

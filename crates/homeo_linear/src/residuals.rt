@@ -1,7 +1,6 @@
 //! What residuals need of other sites.
 
 ghost use Rattle.std.specs.Prelude.{◌≡◌, ℕ, IfOk};
-ghost use Rattle.homeo_syntax.specs.Low.{NoCommand};
 ghost use Rattle.homeo_meaning.specs.LowMeaning.{State, DeltaAt, exec_all};
 ghost use Rattle.homeo_meaning.specs.Serial.{values_of};
 ghost use Rattle.homeo_meaning.specs.Small.{IsSmall};
@@ -12,8 +11,6 @@ ghost use Rattle.homeo_plan.specs.Linear.{base_forms};
 ghost use Rattle.homeo_plan.specs.Needs.{needs, IsStraight};
 ghost use Rattle.homeo_plan.specs.PlanView.{plain_residual};
 ghost use Rattle.homeo_linear.specs.Limit.{limit};
-ghost use Rattle.homeo_linear.specs.inner.Following.{needs_of};
-ghost use Rattle.homeo_linear.specs.inner.Order.{InOrder};
 
 use crate::following::Following;
 use homeo_meaning::Database;
@@ -39,23 +36,10 @@ pub fn needs(alloc: Global, residual: &Residual, base: &Database) -> Result<Free
         IsOn (values_of base.now.items) s → IsOn (values_of base.now.items) s' → Each (ZeroInBoth s s') f.deltas.items →
         SameOwn residual.now.site (exec_all (plain_residual residual.now) s) (exec_all (plain_residual residual.now) s')) }
 {
-    let following = followed(alloc, residual, base.as_slice())?;
+    let mut following = Following::new(alloc, residual.site, base.as_slice());
+    following.follow_all(alloc, residual.commands.as_slice())?;
     let needed = following.needs(alloc)?;
     Ok(FreezeSet {
         deltas: List::from_vec(needed),
     })
-}
-
-/// The residual followed to its end.
-fn followed<'a>(alloc: Global, residual: &Residual, base: &'a [i64]) -> Result<Following<'a>, Memory>
-    requires straight { IsStraight (plain_residual residual.now) }
-    requires small { CanFollow (IsSmall limit) (base_forms (values_of base.now)) (plain_residual residual.now) }
-    ensures order { IfOk result (λ r. InOrder r.written.items) }
-    ensures needs { IfOk result (λ r. needs_of r NoCommand ≡ needs residual.now.site (values_of base.now) (plain_residual residual.now)) }
-{
-    let mut following = Following::new(alloc, residual.site, base);
-    for command in residual.commands.as_slice() {
-        following.follow(alloc, command)?;
-    }
-    Ok(following)
 }
