@@ -1,5 +1,5 @@
 -- Forms of expressions, one part after another.
-use Rattle.std.proofs.Common.{◌≡◌, ℕ, ◌+◌, ◌<◌, ◌≤◌, Box, Global, List, [], ◌∷◌, map, drop, get_or, length, ℤ, pos, negsuc, refl, sym, ap, ◌∙◌, subst, arith}
+use Rattle.std.proofs.Common.{◌≡◌, ℕ, ◌+◌, ◌<◌, ◌≤◌, Box, Global, List, map, drop, get_or, length, ℤ, pos, negsuc, sym, ap, ◌∙◌, subst, arith}
 use Rattle.homeo_syntax.specs.Key.{words as tree_words}
 use Rattle.homeo_syntax.specs.Low as l
 use Rattle.homeo_syntax.specs.LowView.{low_exprs, plain_lexpr}

@@ -1,5 +1,5 @@
 -- Conditions that are kept, one test after another.
-use Rattle.std.proofs.Common.{◌≡◌, ℕ, ◌+◌, ◌<◌, ◌≤◌, Bool, true, false, not, cond, ◌&&◌, List, [], ◌∷◌, ◌++◌, map, drop, get_or, length, ℤ, int_lt, refl, sym, ap, ap₂, ◌∙◌, subst, true≢false, append-nil}
+use Rattle.std.proofs.Common.{◌≡◌, ℕ, ◌+◌, ◌<◌, ◌≤◌, Bool, true, false, not, cond, ◌&&◌, List, [], ◌++◌, map, drop, get_or, length, ℤ, int_lt, refl, sym, ap, ap₂, ◌∙◌, subst, true≢false, append-nil}
 use Rattle.std.proofs.lemmas.List.{append_assoc}
 use Rattle.homeo_syntax.specs.Key.{words as tree_words}
 use Rattle.homeo_syntax.specs.declared.phrase.Compare.{Compare as Comparing}
@@ -11,13 +11,13 @@ use Rattle.homeo_syntax.specs.declared.low.LCond.{LCond}
 use Rattle.homeo_syntax.proofs.LowViews.{low_True, low_Not, low_Compare}
 use Rattle.homeo_meaning.specs.Key.{words as meaning_words}
 use Rattle.homeo_meaning.specs.Meaning.{compared}
-use Rattle.homeo_meaning.specs.LowMeaning.{State, value, passes, holds, whole}
+use Rattle.homeo_meaning.specs.LowMeaning.{State, passes, holds, whole}
 use Rattle.homeo_meaning.specs.Serial.{values_of}
 use Rattle.homeo_meaning.specs.Small.{IsSmall}
 use Rattle.homeo_meaning.proofs.Steps.{drop_next, drop_none}
 use Rattle.homeo_plan.specs.Key.{words as plan_words}
 use Rattle.homeo_plan.specs.Atoms.{true_comparison, false_comparison, true_test, false_test, true_cond, false_cond}
-use Rattle.homeo_plan.specs.FormSizes.{Numbers, CanForm, CanSubtract, CanTest, CanCond}
+use Rattle.homeo_plan.specs.FormSizes.{CanForm, CanTest, CanCond}
 use Rattle.homeo_plan.specs.Linear.{Linear, base_forms, form}
 use Rattle.homeo_plan.specs.Each.{Each}
 use Rattle.homeo_plan.specs.Holding.{IsOn, AtomHolds}
@@ -190,9 +190,10 @@ pub test_passes :
     × (kept_from b new (low_tests (map plain_ltest (drop (i + 1) ts))) ≡ kept_from b ys (low_tests (map plain_ltest (drop i ts))))
 test_passes {b} {ts} {i} {t} {more} {new} k v ys n q o h =
     let p = is_true v n in
-    let rest = low_tests (map plain_ltest (drop (i + 1) ts)) in
-    (sym (k.holds ∙ ap (λ u. u && holds rest (whole b)) (sym q ∙ p)),
-    ap (λ l. kept_from b l rest) (h ∙ ap (λ l. ys ++ l) o) ∙ k.pass ys (sym p ∙ q))
+    let rest = low_tests (map plain_ltest (drop (i + 1) ts)) in (
+      sym (k.holds ∙ ap (λ u. u && holds rest (whole b)) (sym q ∙ p)),
+      ap (λ l. kept_from b l rest) (h ∙ ap (λ l. ys ++ l) o) ∙ k.pass ys (sym p ∙ q),
+    )
 
 -- ---- what the atoms of a whole formula mean
 pub atoms_mean :

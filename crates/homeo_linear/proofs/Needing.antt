@@ -13,7 +13,6 @@ use Rattle.homeo_syntax.proofs.LowViews.{low_Skip, low_Assign, low_Write, low_Pr
 use Rattle.homeo_syntax.specs.declared.low.SplitName.{SplitName}
 use Rattle.homeo_syntax.specs.declared.low.SplitName.TheVariants as split
 use Rattle.homeo_syntax.specs.declared.low.Temp.{Temp}
-use Rattle.homeo_meaning.specs.Key.{words as meaning_words}
 use Rattle.homeo_meaning.specs.LowMeaning.{Location, TempAt, DeltaAt, State, location_of, put, exec_all}
 use Rattle.homeo_meaning.specs.Serial.{values_of}
 use Rattle.homeo_meaning.specs.Small.{IsSmall}
@@ -23,7 +22,7 @@ use Rattle.homeo_plan.specs.Each.{Each}
 use Rattle.homeo_plan.specs.FormSizes.{CanForm, CanFollow}
 use Rattle.homeo_plan.specs.Holding.{IsOn, ZeroInBoth, SameOwn}
 use Rattle.homeo_plan.proofs.Needs.{residual_same}
-use Rattle.homeo_plan.specs.Linear.{Linear, Forms, base_forms, form, support, delta_of, add_delta, add_deltas}
+use Rattle.homeo_plan.specs.Linear.{Linear, Forms, base_forms, form, support, delta_of, add_deltas}
 use Rattle.homeo_plan.specs.Needs.{remote, written_needs, add_written, needs_from, needs, IsStraightOne, IsStraight}
 use Rattle.homeo_plan.specs.declared.forms.Delta.{Delta}
 use Rattle.homeo_linear.specs.Limit.{limit}
@@ -193,17 +192,19 @@ pub needed_place :
     k ≡ DeltaAt (get_or ds (p - 1) x).object (get_or ds (p - 1) x).site → a ≡ f k → gs ≡ remote i (support a) → hs ≡ gs → fs ≡ add_deltas hs es → InOrder es →
     es ≡ written_needs i f (drop p ds) → InOrder fs × (fs ≡ written_needs i f (drop (p - 1) ds))
 needed_place i f ds es fs gs hs p x k a m h pk pa pg ph pf o pe =
-    let same : p - 1 + 1 ≡ p = omega (arith, m) in
-    (subst InOrder (sym pf) (in_order_adds hs es o),
-    needed_more i f ds es fs gs hs (p - 1) x k a (omega (arith, m, h)) pk pa pg ph pf (pe ∙ ap (λ n. written_needs i f (drop n ds)) (sym same)))
+    let same : p - 1 + 1 ≡ p = omega (arith, m) in (
+      subst InOrder (sym pf) (in_order_adds hs es o),
+      needed_more i f ds es fs gs hs (p - 1) x k a (omega (arith, m, h)) pk pa pg ph pf (pe ∙ ap (λ n. written_needs i f (drop n ds)) (sym same)),
+    )
 
 pub popped :
     {V : Type 0} (g : V → List Delta) (ps qs : List V) (v : V) (es fs hs : List Delta) → ps ≡ qs ++ v ∷ [] → hs ≡ g v → fs ≡ add_deltas hs es → InOrder es →
     InOrder fs × (adds (map g qs) fs ≡ adds (map g ps) es)
-popped g ps qs v es fs hs p q r o =
-    (subst InOrder (sym r) (in_order_adds hs es o),
-    ap (adds (map g qs)) (r ∙ ap (λ l. add_deltas l es) q) ∙ sym (adds_push (map g qs) (g v) es)
-    ∙ sym (ap (λ l. adds l es) (ap (map g) p ∙ map_push g qs v)))
+popped g ps qs v es fs hs p q r o = (
+  subst InOrder (sym r) (in_order_adds hs es o),
+  ap (adds (map g qs)) (r ∙ ap (λ l. add_deltas l es) q) ∙ sym (adds_push (map g qs) (g v) es)
+      ∙ sym (ap (λ l. adds l es) (ap (map g) p ∙ map_push g qs v)),
+)
 
 pub all_popped : {V : Type 0} (g : V → List Delta) (ps : List V) (es ws : List Delta) → ps ≡ [] → adds (map g ps) es ≡ ws → es ≡ ws
 unfolding words

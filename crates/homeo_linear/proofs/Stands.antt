@@ -1,5 +1,5 @@
 -- What a map of places gives for each location.
-use Rattle.std.proofs.Common.{rules, ◌≡◌, Bool, true, false, cond, Option, Some, None, List, refl, sym, ap, ◌∙◌, subst}
+use Rattle.std.proofs.Common.{rules, ◌≡◌, Bool, true, false, cond, Option, Some, None, refl, ap, ◌∙◌, subst}
 use Rattle.std.specs.HashMap.{HashMap, get, get_by}
 use Rattle.std.specs.Option.{unwrap_or}
 use Rattle.homeo_syntax.specs.declared.low.Temp.TheVariants as temps

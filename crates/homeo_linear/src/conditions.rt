@@ -11,7 +11,7 @@ ghost use Rattle.homeo_plan.specs.PlanView.{plain_atom};
 ghost use Rattle.homeo_linear.specs.Limit.{limit};
 ghost use Rattle.homeo_linear.specs.inner.Kept.{kept_test, kept_cond};
 
-use crate::comparisons::{comparison, Kept};
+use crate::comparisons::{Kept, comparison};
 use crate::expressions::form_at_base;
 use homeo_plan::Atom;
 use homeo_syntax::{LCond, LTest, Memory};

@@ -18,7 +18,7 @@ ghost use Rattle.homeo_linear.specs.inner.Standing.{forms_of};
 use crate::deltas::{add_delta, add_deltas};
 use crate::expressions::form;
 use crate::form::Form;
-use crate::places::{place_of, place_of_temp, Place};
+use crate::places::{Place, place_of, place_of_temp};
 use crate::standing::Standing;
 use homeo_plan::Delta;
 use homeo_syntax::{LCommand, LExpr, Memory, SplitName, Temp};

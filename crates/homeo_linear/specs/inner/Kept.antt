@@ -1,5 +1,5 @@
 -- What keeps a comparison, test or condition as it is at a base.
-use Rattle.std.specs.Prelude.{◌≡◌, ℕ, Bool, cond, List, ℤ, negsuc, int_lt}
+use Rattle.std.specs.Prelude.{ℕ, cond, List, ℤ, negsuc, int_lt}
 use Rattle.homeo_syntax.specs.declared.phrase.Compare.{Compare}
 use Rattle.homeo_syntax.specs.Low.{Test, Cond}
 use Rattle.homeo_meaning.specs.Meaning.{compared}

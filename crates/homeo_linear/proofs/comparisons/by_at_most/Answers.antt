@@ -1,5 +1,5 @@
 -- At most at the base, or not.
-use Rattle.std.proofs.Common.{pos, refl, ◌∙◌}
+use Rattle.std.proofs.Common.{refl, ◌∙◌}
 use Rattle.std.proofs.lemmas.Result.{IfOk-weaker}
 use Rattle.homeo_syntax.specs.declared.phrase.Compare.TheVariants.{LessEqual}
 use Rattle.homeo_meaning.specs.Key.{words as meaning_words}

@@ -1,5 +1,5 @@
 -- Equal at the base, less, or more.
-use Rattle.std.proofs.Common.{pos, refl, ◌∙◌}
+use Rattle.std.proofs.Common.{refl, ◌∙◌}
 use Rattle.std.proofs.lemmas.Result.{IfOk-weaker}
 use Rattle.homeo_syntax.specs.declared.phrase.Compare.TheVariants.{Equal}
 use Rattle.homeo_meaning.specs.Key.{words as meaning_words}

@@ -1,5 +1,5 @@
 -- The tests so far pass. What keeps those, and what keeps the tests that are left, keep all of them.
-use Rattle.std.proofs.Common.{◌≡◌, ◌++◌, cond, map, drop}
+use Rattle.std.proofs.Common.{◌≡◌, map, drop}
 use Rattle.homeo_syntax.specs.LowView.{low_tests, plain_ltest}
 use Rattle.homeo_meaning.specs.LowMeaning.{holds, whole}
 use Rattle.homeo_meaning.specs.Serial.{values_of}

@@ -16,9 +16,11 @@ form-sum-requires t c =
     (search (rules, the_lemmas), sum_can (forms_of c.args.standing.now) c.args.e.now c.in-Sum.es c.as_slice.result.now c.in-Sum.is c.as_slice.ensures c.requires)
 
 pub form-product-requires : goal.form-product-requires
-form-product-requires t c =
-    (search (rules, the_lemmas), product_can (forms_of c.args.standing.now) c.args.e.now c.in-Product.es c.as_slice-in-Product.result.now c.in-Product.is
-    c.as_slice-in-Product.ensures c.requires)
+form-product-requires t c = (
+  search (rules, the_lemmas),
+  product_can (forms_of c.args.standing.now) c.args.e.now c.in-Product.es c.as_slice-in-Product.result.now c.in-Product.is
+      c.as_slice-in-Product.ensures c.requires,
+)
 
 pub form-form-requires : goal.form-form-requires
 form-form-requires t c =

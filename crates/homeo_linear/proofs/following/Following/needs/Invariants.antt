@@ -1,9 +1,7 @@
 -- What the prints that are left put into what is needed so far.
 use Rattle.std.proofs.Common.{◌≡◌, map, length}
-use Rattle.homeo_plan.specs.Needs.{written_needs}
 use Rattle.homeo_linear.specs.inner.Following.{adds}
 use Rattle.homeo_linear.specs.inner.Order.{InOrder}
-use Rattle.homeo_linear.specs.inner.Standing.{forms_of}
 use Rattle.homeo_linear.proofs.following.Following.needs.Given as goal
 
 abbrev pub invariant-loop-deltas : goal.invariant-loop-deltas

@@ -1,7 +1,6 @@
 -- One that is a number, or neither.
-use Rattle.std.proofs.Common.{rules, sym, ap, refl, ◌∙◌}
+use Rattle.std.proofs.Common.{rules, refl, ◌∙◌}
 use Rattle.std.proofs.lemmas.Result.{IfOk-weaker}
-use Rattle.homeo_plan.specs.Linear.{scale_form}
 use Rattle.homeo_linear.proofs.Widths.{kept_is}
 use Rattle.homeo_linear.proofs.FormParts.{by_number, by_other, by_neither}
 use Rattle.homeo_linear.proofs.form.Form.by.Goals as goal

@@ -1,5 +1,5 @@
 -- No delta.
-use Rattle.std.proofs.Common.{rules, refl}
+use Rattle.std.proofs.Common.{refl}
 use Rattle.homeo_linear.proofs.Widths.{kept_is}
 use Rattle.homeo_linear.proofs.FormParts.{none_in_order, number_is}
 use Rattle.homeo_linear.proofs.form.Form.number.Goals as goal

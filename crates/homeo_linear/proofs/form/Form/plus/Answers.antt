@@ -1,7 +1,7 @@
 -- The sums of the parts.
 use Rattle.std.proofs.Common.{rules, refl}
 use Rattle.homeo_linear.proofs.Widths.{sum_kept}
-use Rattle.homeo_linear.proofs.FormParts.{small_terms, small_constant, sum_in_order, sum_is}
+use Rattle.homeo_linear.proofs.FormParts.{small_terms, sum_in_order, sum_is}
 use Rattle.homeo_linear.proofs.form.Form.plus.Goals as goal
 
 pub add_terms-requires-clause-small : goal.add_terms-requires-clause-small
