@@ -1,0 +1,9 @@
+mod Adding
+mod Comparing
+mod FormParts
+mod FormSteps
+mod Keeping
+mod Needing
+mod Orders
+mod Stands
+mod Widths

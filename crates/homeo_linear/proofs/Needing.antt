@@ -1,0 +1,252 @@
+-- What residuals need, one command after another.
+use Rattle.std.proofs.Common.{◌≡◌, ℕ, ◌+◌, ◌-◌, ◌<◌, ◌≤◌, ◌==◌, Bool, true, false, not, cond, List, [], ◌∷◌, ◌++◌, map, drop, get_or, length, ℤ, refl, sym, ap, ap₂, ◌∙◌, subst, add-one, drop_of_length-le, append-nil, Box, Global, arith}
+use Rattle.std.proofs.Math.Seq.{drop-cons}
+use Rattle.std.proofs.lemmas.List.{append_assoc, map_push}
+use Rattle.homeo_syntax.specs.Key.{words as tree_words}
+use Rattle.homeo_syntax.specs.Low as l
+use Rattle.homeo_syntax.specs.LowView.{low_commands, plain_lexpr, plain_lcommand}
+use Rattle.homeo_syntax.specs.Listed.{Listed}
+use Rattle.homeo_syntax.specs.declared.low.LCond.{LCond}
+use Rattle.homeo_syntax.specs.declared.low.LExpr.{LExpr}
+use Rattle.homeo_syntax.specs.declared.low.LCommand.{LCommand, Skip, Assign, Write, Print, Seq, If}
+use Rattle.homeo_syntax.proofs.LowViews.{low_Skip, low_Assign, low_Write, low_Print, low_Seq, low_If}
+use Rattle.homeo_syntax.specs.declared.low.SplitName.{SplitName}
+use Rattle.homeo_syntax.specs.declared.low.SplitName.TheVariants as split
+use Rattle.homeo_syntax.specs.declared.low.Temp.{Temp}
+use Rattle.homeo_meaning.specs.LowMeaning.{Location, TempAt, DeltaAt, State, location_of, put, exec_all}
+use Rattle.homeo_meaning.specs.Serial.{values_of}
+use Rattle.homeo_meaning.specs.Small.{IsSmall}
+use Rattle.homeo_meaning.proofs.Steps.{drop_next, drop_none}
+use Rattle.homeo_plan.specs.Key.{words as plan_words}
+use Rattle.homeo_plan.specs.Each.{Each}
+use Rattle.homeo_plan.specs.FormSizes.{CanForm, CanFollow}
+use Rattle.homeo_plan.specs.Holding.{IsOn, ZeroInBoth, SameOwn}
+use Rattle.homeo_plan.proofs.Needs.{residual_same}
+use Rattle.homeo_plan.specs.Linear.{Linear, Forms, base_forms, form, support, delta_of, add_deltas}
+use Rattle.homeo_plan.specs.Needs.{remote, written_needs, add_written, needs_from, needs, IsStraightOne, IsStraight}
+use Rattle.homeo_plan.specs.declared.forms.Delta.{Delta}
+use Rattle.homeo_linear.specs.Limit.{limit}
+use Rattle.homeo_linear.specs.declared.following.Following.{Following}
+use Rattle.homeo_linear.specs.inner.Following.{adds, needs_of, Followed}
+use Rattle.homeo_linear.specs.inner.Key.{words}
+use Rattle.homeo_linear.specs.inner.Order.{InOrder}
+use Rattle.homeo_linear.specs.inner.Standing.{forms_of}
+use Rattle.homeo_linear.proofs.Orders.{in_order_add, in_order_adds}
+
+-- ---- remote deltas
+module _ (i : ℕ) (out ds : List Delta) (n : ℕ) (x : Delta) (h : n < length ds) where
+  remote_next : (b : Bool) → (get_or ds n x).site == i ≡ b → remote i (drop n ds) ≡ cond b (remote i (drop (n + 1) ds)) (get_or ds n x ∷ remote i (drop (n + 1) ds))
+  unfolding plan_words
+  remote_next b e =
+      let next : drop n ds ≡ get_or ds n x ∷ drop (n + 1) ds = rw add-one (drop-cons ds n x h) in
+      ap (remote i) next ∙ ap (λ v. cond v (remote i (drop (n + 1) ds)) (get_or ds n x ∷ remote i (drop (n + 1) ds))) e
+
+  pub remote_more : true ≡ not ((get_or ds n x).site == i) → (out ++ get_or ds n x ∷ []) ++ remote i (drop (n + 1) ds) ≡ out ++ remote i (drop n ds)
+  remote_more e =
+      append_assoc out (get_or ds n x ∷ []) (remote i (drop (n + 1) ds))
+      ∙ ap (λ l. out ++ l) (sym (remote_next false (is_not ((get_or ds n x).site == i) e)))
+    where
+      is_not : (b : Bool) → true ≡ not b → b ≡ false
+      is_not true k = k
+      is_not false k = refl
+
+  pub remote_less : false ≡ not ((get_or ds n x).site == i) → out ++ remote i (drop (n + 1) ds) ≡ out ++ remote i (drop n ds)
+  remote_less e = ap (λ l. out ++ l) (sym (remote_next true (is_true ((get_or ds n x).site == i) e)))
+    where
+      is_true : (b : Bool) → false ≡ not b → b ≡ true
+      is_true true k = refl
+      is_true false k = k
+
+pub remote_end : (i : ℕ) (out ds : List Delta) (n : ℕ) → length ds ≤ n → out ≡ out ++ remote i (drop n ds)
+unfolding plan_words
+remote_end i out ds n h = sym (ap (λ l. out ++ remote i l) (drop_of_length-le ds h) ∙ append-nil out)
+
+-- ---- what the written deltas need
+pub none_needed : (ds : List Delta) → ds ≡ [] → InOrder ds
+unfolding words
+none_needed ds p = subst InOrder (sym p) tt
+
+pub needed_end : (i : ℕ) (f : Forms) (ds es : List Delta) → es ≡ [] → es ≡ written_needs i f (drop (length ds) ds)
+unfolding plan_words
+needed_end i f ds es p = p ∙ sym (ap (written_needs i f) (none ds))
+  where
+    none : (xs : List Delta) → drop (length xs) xs ≡ []
+    none [] = refl
+    none (x ∷ xs) = none xs
+
+pub needed_more :
+    (i : ℕ) (f : Forms) (ds es fs gs hs : List Delta) (n : ℕ) (x : Delta) (k : Location) (a : Linear) → n < length ds →
+    k ≡ DeltaAt (get_or ds n x).object (get_or ds n x).site → a ≡ f k → gs ≡ remote i (support a) → hs ≡ gs → fs ≡ add_deltas hs es →
+    es ≡ written_needs i f (drop (n + 1) ds) → fs ≡ written_needs i f (drop n ds)
+unfolding plan_words
+needed_more i f ds es fs gs hs n x k a h pk pa pg ph pf pe =
+    let d : Delta = get_or ds n x in
+    let next : drop n ds ≡ d ∷ drop (n + 1) ds = rw add-one (drop-cons ds n x h) in
+    pf ∙ ap₂ add_deltas (ph ∙ pg ∙ ap (λ l. remote i (support l)) (pa ∙ ap f pk)) pe ∙ sym (ap (written_needs i f) next)
+
+-- ---- what the prints need
+pub adds_push : (ps : List (List Delta)) (p es : List Delta) → adds (ps ++ p ∷ []) es ≡ adds ps (add_deltas p es)
+unfolding words
+adds_push [] p es = refl
+adds_push (q ∷ ps) p es = ap (add_deltas q) (adds_push ps p es)
+
+-- ---- commands
+pub followed_by :
+    (r s : Following) (c : l.Command) (f : Forms) (w : List Delta) (ps : List (List Delta)) → s.site ≡ r.site → forms_of s.standing ≡ f →
+    s.written.items ≡ w → map (λ p. p.items) s.prints.items ≡ ps → InOrder w →
+    ((cs : l.Commands) → adds ps (needs_from r.site f w cs) ≡ needs_of r (l.MoreCommand c cs)) →
+    ((cs : l.Commands) → CanFollow (IsSmall limit) (forms_of r.standing) (l.MoreCommand c cs) → CanFollow (IsSmall limit) f cs) → Followed r s c
+unfolding needs_of
+followed_by r s c f w ps ei ef ew ep o n k =
+    record {
+      order = subst InOrder (sym ew) o;
+      needs = λ cs. ap₂ (λ i g. adds (map (λ p. p.items) s.prints.items) (needs_from i g s.written.items cs)) ei ef
+          ∙ ap₂ (λ v q. adds q (needs_from r.site f v cs)) ew ep ∙ n cs;
+      small = λ cs h. subst (λ g. CanFollow (IsSmall limit) g cs) (sym ef) (k cs h);
+    }
+
+module _ (r s : Following) (e : l.Expr) (a : Linear) (is : a ≡ form (forms_of r.standing) e) (site : s.site ≡ r.site) (o : InOrder r.written.items) where
+  pub assigned :
+      (t : Temp) (k : Location) → k ≡ TempAt t → s.written.items ≡ r.written.items → map (λ p. p.items) s.prints.items ≡ map (λ p. p.items) r.prints.items →
+      forms_of s.standing ≡ put (forms_of r.standing) k a → Followed r s (l.Assign t e)
+  unfolding needs_of plan_words
+  assigned t k pk ew ep ef =
+      followed_by r s (l.Assign t e) (put (forms_of r.standing) (TempAt t) (form (forms_of r.standing) e)) r.written.items (map (λ p. p.items) r.prints.items) site
+      (ef ∙ ap₂ (put (forms_of r.standing)) pk is) ew ep o (λ cs. refl) (λ cs h. h.1)
+
+  order_written : (x : SplitName) → InOrder (add_written x r.written.items)
+  unfolding plan_words
+  order_written (split.Whole x) = o
+  order_written (split.Base x) = o
+  order_written (split.Delta x j) = in_order_add (delta_of x j) r.written.items o
+
+  pub wrote :
+      (x : SplitName) (k : Location) → k ≡ location_of x → s.written.items ≡ add_written x r.written.items →
+      map (λ p. p.items) s.prints.items ≡ map (λ p. p.items) r.prints.items → forms_of s.standing ≡ put (forms_of r.standing) k a → Followed r s (l.Write x e)
+  unfolding needs_of plan_words
+  wrote x k pk ew ep ef =
+      followed_by r s (l.Write x e) (put (forms_of r.standing) (location_of x) (form (forms_of r.standing) e)) (add_written x r.written.items)
+      (map (λ p. p.items) r.prints.items) site (ef ∙ ap₂ (put (forms_of r.standing)) pk is) ew ep (order_written x) (λ cs. refl) (λ cs h. h.1)
+
+  pub printed :
+      (ds : List Delta) → ds ≡ remote r.site (support a) → s.written.items ≡ r.written.items →
+      map (λ p. p.items) s.prints.items ≡ map (λ p. p.items) r.prints.items ++ ds ∷ [] → forms_of s.standing ≡ forms_of r.standing → Followed r s (l.Print e)
+  unfolding needs_of plan_words
+  printed ds pd ew ep ef =
+      let needed : List Delta = remote r.site (support (form (forms_of r.standing) e)) in
+      followed_by r s (l.Print e) (forms_of r.standing) r.written.items (map (λ p. p.items) r.prints.items ++ needed ∷ []) site ef ew
+      (ep ∙ ap (λ d. map (λ p. p.items) r.prints.items ++ d ∷ []) (pd ∙ ap (λ b. remote r.site (support b)) is)) o
+      (λ cs. adds_push (map (λ p. p.items) r.prints.items) needed (needs_from r.site (forms_of r.standing) r.written.items cs)) (λ cs h. h.1)
+
+pub first_needs :
+    (r : Following) (i : ℕ) (b : ℕ → ℤ) → r.site ≡ i → forms_of r.standing ≡ base_forms b → r.written.items ≡ [] → r.prints.items ≡ [] →
+    (cs : l.Commands) → needs_of r cs ≡ needs i b cs
+unfolding needs_of words plan_words
+first_needs r i b ei ef ew ep cs =
+    ap₂ (λ j g. adds (map (λ p. p.items) r.prints.items) (needs_from j g r.written.items cs)) ei ef
+    ∙ ap₂ (λ v q. adds (map (λ p. p.items) q) (needs_from i (base_forms b) v cs)) ew ep
+
+-- ---- the first of the commands that are left
+can_one : (f : Forms) (c : l.Command) (cs : l.Commands) → CanFollow (IsSmall limit) f (l.MoreCommand c cs) → CanFollow (IsSmall limit) f (l.MoreCommand c l.NoCommand)
+unfolding plan_words
+can_one f (l.Assign t e) cs h = (h.0, tt)
+can_one f (l.Write x e) cs h = (h.0, tt)
+can_one f (l.Print e) cs h = (h.0, tt)
+can_one f l.Skip cs h = tt
+can_one f (l.Seq ds) cs h = tt
+can_one f (l.If b c d) cs h = tt
+
+pub record CommandStep (r : Following) (cs : List LCommand) (i : ℕ) (c : LCommand) : Type 0 where
+  pub straight : IsStraightOne (plain_lcommand c)
+  pub small : CanFollow (IsSmall limit) (forms_of r.standing) (l.MoreCommand (plain_lcommand c) l.NoCommand)
+  pub left : IsStraight (low_commands (map plain_lcommand (drop (i + 1) cs)))
+  pub can : (s : Following) → Followed r s (plain_lcommand c) → CanFollow (IsSmall limit) (forms_of s.standing) (low_commands (map plain_lcommand (drop (i + 1) cs)))
+  pub needs : (s : Following) → Followed r s (plain_lcommand c) →
+      needs_of s (low_commands (map plain_lcommand (drop (i + 1) cs))) ≡ needs_of r (low_commands (map plain_lcommand (drop i cs)))
+
+pub command_step :
+    (r : Following) (cs : List LCommand) (i : ℕ) (c : LCommand) → i < length cs → c ≡ get_or cs i c →
+    IsStraight (low_commands (map plain_lcommand (drop i cs))) →
+    CanFollow (IsSmall limit) (forms_of r.standing) (low_commands (map plain_lcommand (drop i cs))) → CommandStep r cs i c
+unfolding plan_words tree_words
+command_step r cs i c h p st can =
+    let rest = low_commands (map plain_lcommand (drop (i + 1) cs)) in
+    let next = drop_next plain_lcommand cs i c h p in
+    let k = subst (λ l. IsStraight (low_commands l)) next st in
+    let m = subst (λ l. CanFollow (IsSmall limit) (forms_of r.standing) (low_commands l)) next can in
+    record {
+      straight = k.0;
+      small = can_one (forms_of r.standing) (plain_lcommand c) rest m;
+      left = k.1;
+      can = λ s d. d.small rest m;
+      needs = λ s d. d.needs rest ∙ sym (ap (λ l. needs_of r (low_commands l)) next);
+    }
+
+pub commands_end : (r : Following) (cs : List LCommand) (i : ℕ) → length cs ≤ i → needs_of r l.NoCommand ≡ needs_of r (low_commands (map plain_lcommand (drop i cs)))
+unfolding tree_words
+commands_end r cs i h = sym (ap (λ l. needs_of r (low_commands l)) (drop_none plain_lcommand cs i h))
+
+-- ---- loops from the end
+pub needed_place :
+    (i : ℕ) (f : Forms) (ds es fs gs hs : List Delta) (p : ℕ) (x : Delta) (k : Location) (a : Linear) → 0 < p → p ≤ length ds →
+    k ≡ DeltaAt (get_or ds (p - 1) x).object (get_or ds (p - 1) x).site → a ≡ f k → gs ≡ remote i (support a) → hs ≡ gs → fs ≡ add_deltas hs es → InOrder es →
+    es ≡ written_needs i f (drop p ds) → InOrder fs × (fs ≡ written_needs i f (drop (p - 1) ds))
+needed_place i f ds es fs gs hs p x k a m h pk pa pg ph pf o pe =
+    let same : p - 1 + 1 ≡ p = omega (arith, m) in (
+      subst InOrder (sym pf) (in_order_adds hs es o),
+      needed_more i f ds es fs gs hs (p - 1) x k a (omega (arith, m, h)) pk pa pg ph pf (pe ∙ ap (λ n. written_needs i f (drop n ds)) (sym same)),
+    )
+
+pub popped :
+    {V : Type 0} (g : V → List Delta) (ps qs : List V) (v : V) (es fs hs : List Delta) → ps ≡ qs ++ v ∷ [] → hs ≡ g v → fs ≡ add_deltas hs es → InOrder es →
+    InOrder fs × (adds (map g qs) fs ≡ adds (map g ps) es)
+popped g ps qs v es fs hs p q r o = (
+  subst InOrder (sym r) (in_order_adds hs es o),
+  ap (adds (map g qs)) (r ∙ ap (λ l. add_deltas l es) q) ∙ sym (adds_push (map g qs) (g v) es)
+      ∙ sym (ap (λ l. adds l es) (ap (map g) p ∙ map_push g qs v)),
+)
+
+pub all_popped : {V : Type 0} (g : V → List Delta) (ps : List V) (es ws : List Delta) → ps ≡ [] → adds (map g ps) es ≡ ws → es ≡ ws
+unfolding words
+all_popped g ps es ws p h = sym (ap (λ l. adds (map g l) es) p) ∙ h
+
+pub needs_are :
+    (r : Following) (es vs : List Delta) → vs ≡ r.written.items → es ≡ written_needs r.site (forms_of r.standing) vs →
+    adds (map (λ p. p.items) r.prints.items) es ≡ needs_of r l.NoCommand
+unfolding needs_of plan_words
+needs_are r es vs p q = ap (adds (map (λ p. p.items) r.prints.items)) (q ∙ ap (written_needs r.site (forms_of r.standing)) p)
+
+-- ---- each kind of command
+module _ (f : Forms) (x : LCommand) where
+  pub assign_can : (t : Temp) (e : LExpr) → x ≡ Assign t e → CanFollow (IsSmall limit) f (l.MoreCommand (plain_lcommand x) l.NoCommand) → CanForm (IsSmall limit) f (plain_lexpr e)
+  unfolding plan_words
+  assign_can t e p h = (subst (λ y. CanFollow (IsSmall limit) f (l.MoreCommand y l.NoCommand)) (ap plain_lcommand p ∙ low_Assign t e) h).0
+
+  pub write_can : (n : SplitName) (e : LExpr) → x ≡ Write n e → CanFollow (IsSmall limit) f (l.MoreCommand (plain_lcommand x) l.NoCommand) → CanForm (IsSmall limit) f (plain_lexpr e)
+  unfolding plan_words
+  write_can n e p h = (subst (λ y. CanFollow (IsSmall limit) f (l.MoreCommand y l.NoCommand)) (ap plain_lcommand p ∙ low_Write n e) h).0
+
+  pub print_can : (e : LExpr) → x ≡ Print e → CanFollow (IsSmall limit) f (l.MoreCommand (plain_lcommand x) l.NoCommand) → CanForm (IsSmall limit) f (plain_lexpr e)
+  unfolding plan_words
+  print_can e p h = (subst (λ y. CanFollow (IsSmall limit) f (l.MoreCommand y l.NoCommand)) (ap plain_lcommand p ∙ low_Print e) h).0
+
+module _ (x : LCommand) (h : IsStraightOne (plain_lcommand x)) where
+  pub no_skip : x ≡ Skip → ⊥
+  unfolding plan_words
+  no_skip p = subst IsStraightOne (ap plain_lcommand p ∙ low_Skip) h
+
+  pub no_seq : (cs : Listed LCommand) → x ≡ Seq cs → ⊥
+  unfolding plan_words
+  no_seq cs p = subst IsStraightOne (ap plain_lcommand p ∙ low_Seq cs) h
+
+  pub no_if : (b : LCond) (c d : Box LCommand Global) → x ≡ If b c d → ⊥
+  unfolding plan_words
+  no_if b c d p = subst IsStraightOne (ap plain_lcommand p ∙ low_If b c d) h
+
+-- ---- what the needs of a whole residual mean
+pub needs_mean :
+    (i : ℕ) (db : List ℤ) (cs : l.Commands) (ds : List Delta) → ds ≡ needs i (values_of db) cs → IsStraight cs → (s s' : State) →
+    ((x : ℕ) → s (DeltaAt x i) ≡ s' (DeltaAt x i)) → IsOn (values_of db) s → IsOn (values_of db) s' → Each (ZeroInBoth s s') ds →
+    SameOwn i (exec_all cs s) (exec_all cs s')
+needs_mean i db cs ds p st s s' own on on' z =
+    residual_same i s s' own (values_of db) cs on on' st (subst (Each (ZeroInBoth s s')) p z)

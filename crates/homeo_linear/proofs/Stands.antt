@@ -1,0 +1,52 @@
+-- What a map of places gives for each location.
+use Rattle.std.proofs.Common.{rules, ◌≡◌, Bool, true, false, cond, Option, Some, None, refl, ap, ◌∙◌, subst}
+use Rattle.std.specs.HashMap.{HashMap, get, get_by}
+use Rattle.std.specs.Option.{unwrap_or}
+use Rattle.homeo_syntax.specs.declared.low.Temp.TheVariants as temps
+use Rattle.homeo_meaning.specs.Key.{words as meaning_words}
+use Rattle.homeo_meaning.specs.LowMeaning.{Location, TempAt, BaseAt, DeltaAt, same_location, put}
+use Rattle.homeo_plan.specs.Linear.{Linear, Forms}
+use Rattle.homeo_linear.specs.contracts.places.PlacePartialEq.TheImpl.{ghosts}
+use Rattle.homeo_linear.specs.declared.places.Place.{Place}
+use Rattle.homeo_linear.specs.declared.places.Place.TheVariants.{Named, Fresh, Base, Delta}
+use Rattle.homeo_linear.specs.inner.Places.{plain_place}
+
+abbrev pub is_at : Location → Place → Bool
+is_at l p = same_location l (plain_place p)
+
+choice : (b : Bool) (v d : Linear) (o : Option Linear) → unwrap_or (cond b (Some v) o) d ≡ cond b v (unwrap_or o d)
+choice true v d o = refl
+choice false v d o = refl
+
+at_each_place : (P : Location → Type 0) → ((p : Place) → P (plain_place p)) → (l : Location) → P l
+at_each_place P h (TempAt (temps.Named n)) = h (Named n)
+at_each_place P h (TempAt (temps.Fresh n)) = h (Fresh n)
+at_each_place P h (BaseAt x) = h (Base x)
+at_each_place P h (DeltaAt x j) = h (Delta x j)
+
+same-places : (a b : Place) → ghosts.eq a b ≡ is_at (plain_place a) b
+unfolding meaning_words
+same-places a b = search rules
+
+pub stands-put :
+    {S : Type 0} (g : Forms) (m n : HashMap Place Linear S) (k : Place) (v : Linear) →
+    ((q : Place) → get ghosts.eq n q ≡ cond (ghosts.eq k q) (Some v) (get ghosts.eq m q)) →
+    (λ l. unwrap_or (get_by (is_at l) n) (g l)) ≡ put (λ l. unwrap_or (get_by (is_at l) m) (g l)) (plain_place k) v
+unfolding meaning_words
+stands-put g m n k v h =
+    let s : ghosts.eq ≡ (λ a b. is_at (plain_place a) b) = λ i a b. same-places a b i in
+    let h' = subst (λ (e : Place → Place → Bool). (q : Place) → get e n q ≡ cond (e k q) (Some v) (get e m q)) s h in
+    let at = at_each_place (λ l. unwrap_or (get_by (is_at l) n) (g l) ≡ cond (same_location (plain_place k) l) v (unwrap_or (get_by (is_at l) m) (g l)))
+    (λ q. ap (λ o. unwrap_or o (g (plain_place q))) (h' q) ∙ choice (same_location (plain_place k) (plain_place q)) v (g (plain_place q)) (get_by (is_at (plain_place q)) m)) in
+    λ i l. at l i
+
+stands-at : {S : Type 0} (g : Forms) (m : HashMap Place Linear S) (k : Place) (o : Option Linear) → o ≡ get ghosts.eq m k → unwrap_or o (g (plain_place k)) ≡ unwrap_or (get_by (is_at (plain_place k)) m) (g (plain_place k))
+stands-at g m k o h =
+    let test : ghosts.eq k ≡ is_at (plain_place k) = λ i p. same-places k p i in
+    ap (λ o. unwrap_or o (g (plain_place k))) (h ∙ ap (λ t. get_by t m) test)
+
+pub stands-set : {S : Type 0} (g : Forms) (m : HashMap Place Linear S) (k : Place) (v : Linear) → Some v ≡ get ghosts.eq m k → v ≡ unwrap_or (get_by (is_at (plain_place k)) m) (g (plain_place k))
+stands-set g m k v h = stands-at g m k (Some v) h
+
+pub stands-unset : {S : Type 0} (g : Forms) (m : HashMap Place Linear S) (k : Place) → None ≡ get ghosts.eq m k → g (plain_place k) ≡ unwrap_or (get_by (is_at (plain_place k)) m) (g (plain_place k))
+stands-unset g m k h = stands-at g m k None h

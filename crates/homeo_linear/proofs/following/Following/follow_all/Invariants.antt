@@ -1,0 +1,21 @@
+-- What the residual needs stays, with the commands that are left.
+use Rattle.std.proofs.Common.{◌≡◌, map, drop}
+use Rattle.homeo_syntax.specs.LowView.{low_commands, plain_lcommand}
+use Rattle.homeo_meaning.specs.Small.{IsSmall}
+use Rattle.homeo_plan.specs.FormSizes.{CanFollow}
+use Rattle.homeo_plan.specs.Needs.{IsStraight}
+use Rattle.homeo_linear.specs.Limit.{limit}
+use Rattle.homeo_linear.specs.inner.Following.{needs_of}
+use Rattle.homeo_linear.specs.inner.Order.{InOrder}
+use Rattle.homeo_linear.specs.inner.Standing.{forms_of}
+use Rattle.homeo_linear.proofs.following.Following.follow_all.Given as goal
+
+abbrev pub invariant-loop-command : goal.invariant-loop-command
+invariant-loop-command l =
+    let rest = low_commands (map plain_lcommand (drop l.command-index l.commands)) in
+    record {
+      straight : IsStraight rest;
+      small : CanFollow (IsSmall limit) (forms_of l.self.standing) rest;
+      order : InOrder l.self.written.items;
+      needs : needs_of l.self rest ≡ needs_of l.initial.self (low_commands (map plain_lcommand l.commands));
+    }

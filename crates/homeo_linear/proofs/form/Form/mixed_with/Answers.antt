@@ -1,0 +1,13 @@
+-- The deltas of both.
+use Rattle.std.proofs.Common.{rules}
+use Rattle.homeo_linear.proofs.Widths.{product_kept}
+use Rattle.homeo_linear.proofs.FormParts.{mix_in_order, mix_is}
+use Rattle.homeo_linear.proofs.form.Form.mixed_with.Goals as goal
+
+pub invariant_of-result : goal.invariant_of-result
+invariant_of-result c = mix_in_order _ _ _ _ c.new.ensures.items c.in_ok-add_deltas.ensures c.in_ok-mixed.ensures.order
+
+pub returns : goal.returns
+returns c =
+    mix_is c.args.self.now c.args.other.now c.self.inside.constant c.other.inside.constant _ _ _ _ _ _ _ _ _ _ c.self.view_is c.other.view_is (product_kept c.multiplied.result c.self.inside.constant c.other.inside.constant (search rules) (search rules) (search rules) c.multiplied.ensures) c.new.ensures.items
+    c.in_ok-add_deltas.ensures c.as_slice.ensures.value c.in_ok-deltas.ensures.value c.in_ok-mixed.ensures.value

@@ -1,0 +1,7 @@
+pub mod Following
+pub mod Kept
+pub mod Key
+pub mod Order
+pub mod Places
+pub mod Standing
+pub mod Terms

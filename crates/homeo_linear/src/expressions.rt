@@ -1,0 +1,72 @@
+//! The forms of expressions.
+
+ghost use Rattle.std.specs.Prelude.{◌≡◌, pos, map, IfOk};
+ghost use Rattle.homeo_syntax.specs.LowView.{low_exprs, plain_lexpr};
+ghost use Rattle.homeo_meaning.specs.Small.{IsSmall};
+ghost use Rattle.homeo_meaning.specs.Serial.{values_of};
+ghost use Rattle.homeo_plan.specs.FormSizes.{CanForm, CanSum, CanProduct};
+ghost use Rattle.homeo_plan.specs.Linear.{constant_form, base_forms, form, sum_form, product_form};
+ghost use Rattle.homeo_linear.specs.Limit.{limit};
+ghost use Rattle.homeo_linear.specs.inner.Standing.{forms_of};
+
+use crate::form::Form;
+use crate::places::{place_of, place_of_temp};
+use crate::standing::Standing;
+use homeo_syntax::{LExpr, Memory};
+use std::alloc::Global;
+
+#[cycle(expressions)]
+#[tactic(auto, using(homeo_syntax::proofs::Measures::low_expr_parts, homeo_syntax::proofs::LowViews::low_phrase_views))]
+pub(crate) fn form(alloc: Global, standing: &Standing, e: &LExpr) -> Result<Form, Memory>
+    requires { CanForm (IsSmall limit) (forms_of standing.now) (plain_lexpr e.now) }
+    ensures { IfOk result (λ f. f ≡ form (forms_of standing.now) (plain_lexpr e.now)) }
+{
+    match e {
+        LExpr::Literal(n) => Ok(Form::value(alloc, *n)),
+        LExpr::Temp(t) => standing.form_at(alloc, place_of_temp(*t)),
+        LExpr::Read(x) => standing.form_at(alloc, place_of(*x)),
+        LExpr::Sum(es) => sum(alloc, standing, es.as_slice()),
+        LExpr::Product(es) => product(alloc, standing, es.as_slice()),
+        LExpr::Neg(e) => {
+            let part = form(alloc, standing, e)?;
+            part.times(alloc, -1)
+        }
+    }
+}
+
+#[cycle(expressions)]
+#[tactic(auto, using(homeo_syntax::proofs::Measures::low_expr_parts))]
+fn sum(alloc: Global, standing: &Standing, es: &[LExpr]) -> Result<Form, Memory>
+    requires { CanSum (IsSmall limit) (forms_of standing.now) (constant_form (pos 0)) (low_exprs (map plain_lexpr es.now)) }
+    ensures { IfOk result (λ f. f ≡ sum_form (forms_of standing.now) (constant_form (pos 0)) (low_exprs (map plain_lexpr es.now))) }
+{
+    let mut total = Form::number(alloc, 0);
+    for e in es {
+        let part = form(alloc, standing, e)?;
+        total = total.plus(&part)?;
+    }
+    Ok(total)
+}
+
+#[cycle(expressions)]
+#[tactic(auto, using(homeo_syntax::proofs::Measures::low_expr_parts))]
+fn product(alloc: Global, standing: &Standing, es: &[LExpr]) -> Result<Form, Memory>
+    requires { CanProduct (IsSmall limit) (forms_of standing.now) (constant_form (pos 1)) (low_exprs (map plain_lexpr es.now)) }
+    ensures { IfOk result (λ f. f ≡ product_form (forms_of standing.now) (constant_form (pos 1)) (low_exprs (map plain_lexpr es.now))) }
+{
+    let mut total = Form::number(alloc, 1);
+    for e in es {
+        let part = form(alloc, standing, e)?;
+        total = total.by(alloc, &part)?;
+    }
+    Ok(total)
+}
+
+/// The form of an expression at a base.
+pub(crate) fn form_at_base(alloc: Global, base: &[i64], e: &LExpr) -> Result<Form, Memory>
+    requires { CanForm (IsSmall limit) (base_forms (values_of base.now)) (plain_lexpr e.now) }
+    ensures { IfOk result (λ f. f ≡ form (base_forms (values_of base.now)) (plain_lexpr e.now)) }
+{
+    let standing = Standing::new(alloc, base);
+    form(alloc, &standing, e)
+}

@@ -1,0 +1,188 @@
+//! Residuals that are followed from command to command.
+
+ghost use Rattle.std.specs.Prelude.{◌≡◌, ◌==◌, not, map, IfOk, OnOk};
+ghost use Rattle.homeo_syntax.specs.Low.{Commands, MoreCommand, NoCommand, Assign, Write, Print};
+ghost use Rattle.homeo_syntax.specs.LowView.{low_commands, plain_lexpr, plain_lcommand};
+ghost use Rattle.homeo_meaning.specs.LowMeaning.{DeltaAt};
+ghost use Rattle.homeo_meaning.specs.Serial.{values_of};
+ghost use Rattle.homeo_meaning.specs.Small.{IsSmall};
+ghost use Rattle.homeo_plan.specs.FormSizes.{CanForm, CanFollow};
+ghost use Rattle.homeo_plan.specs.Linear.{base_forms, support};
+ghost use Rattle.homeo_plan.specs.Needs.{remote, written_needs, add_written, needs, IsStraightOne, IsStraight};
+ghost use Rattle.homeo_linear.specs.Limit.{limit};
+ghost use Rattle.homeo_linear.specs.inner.Following.{needs_of, Followed};
+ghost use Rattle.homeo_linear.specs.inner.Order.{InOrder};
+ghost use Rattle.homeo_linear.specs.inner.Places.{plain_place};
+ghost use Rattle.homeo_linear.specs.inner.Standing.{forms_of};
+
+use crate::deltas::{add_delta, add_deltas};
+use crate::expressions::form;
+use crate::form::Form;
+use crate::places::{Place, place_of, place_of_temp};
+use crate::standing::Standing;
+use homeo_plan::Delta;
+use homeo_syntax::{LCommand, LExpr, Memory, SplitName, Temp};
+use std::alloc::Global;
+
+/// A residual of a site, as far as it was followed.
+#[derive(Drop)]
+pub(crate) struct Following<'a> {
+    site: u32,
+    standing: Standing<'a>,
+    /// The deltas written, in order.
+    written: Vec<Delta>,
+    /// Of each print what it needs of other sites.
+    prints: Vec<Vec<Delta>>,
+}
+
+impl<'a> Following<'a> {
+    pub(crate) fn new(alloc: Global, site: u32, base: &'a [i64]) -> Following<'a>
+        ensures order { InOrder result.written.items }
+        ensures standing { forms_of result.standing ≡ base_forms (values_of base.now) }
+        ensures needs { (cs : Commands) → needs_of result cs ≡ needs site (values_of base.now) cs }
+    {
+        Following {
+            site,
+            standing: Standing::new(alloc, base),
+            written: Vec::new(alloc),
+            prints: Vec::new(alloc),
+        }
+    }
+
+    /// Follows assignments, writes of deltas and prints.
+    pub(crate) fn follow_all(&mut self, alloc: Global, commands: &[LCommand]) -> Result<(), Memory>
+        requires straight { IsStraight (low_commands (map plain_lcommand commands.now)) }
+        requires small { CanFollow (IsSmall limit) (forms_of self.old.standing) (low_commands (map plain_lcommand commands.now)) }
+        requires order { InOrder self.old.written.items }
+        ensures { OnOk result (needs_of self.new NoCommand ≡ needs_of self.old (low_commands (map plain_lcommand commands.now))) }
+    {
+        for command in commands {
+            self.follow(alloc, command)?;
+        }
+        Ok(())
+    }
+
+    /// Follows one of them.
+    fn follow(&mut self, alloc: Global, command: &LCommand) -> Result<(), Memory>
+        requires straight { IsStraightOne (plain_lcommand command.now) }
+        requires small { CanFollow (IsSmall limit) (forms_of self.old.standing) (MoreCommand (plain_lcommand command.now) NoCommand) }
+        requires order { InOrder self.old.written.items }
+        ensures { OnOk result (Followed self.old self.new (plain_lcommand command.now)) }
+    {
+        match command {
+            LCommand::Assign { target, value } => self.assign(alloc, *target, value),
+            LCommand::Write { target, value } => self.write(alloc, *target, value),
+            LCommand::Print { value } => self.print(alloc, value),
+            LCommand::Skip | LCommand::Seq { .. } | LCommand::If { .. } => unreachable!(),
+        }
+    }
+
+    fn assign(&mut self, alloc: Global, target: Temp, value: &LExpr) -> Result<(), Memory>
+        requires small { CanForm (IsSmall limit) (forms_of self.old.standing) (plain_lexpr value.now) }
+        requires order { InOrder self.old.written.items }
+        ensures { OnOk result (Followed self.old self.new (Assign target (plain_lexpr value.now))) }
+    {
+        let form = form(alloc, &self.standing, value)?;
+        self.standing.set(place_of_temp(target), form)
+    }
+
+    fn write(&mut self, alloc: Global, target: SplitName, value: &LExpr) -> Result<(), Memory>
+        requires small { CanForm (IsSmall limit) (forms_of self.old.standing) (plain_lexpr value.now) }
+        requires order { InOrder self.old.written.items }
+        ensures { OnOk result (Followed self.old self.new (Write target (plain_lexpr value.now))) }
+    {
+        let form = form(alloc, &self.standing, value)?;
+        self.standing.set(place_of(target), form)?;
+        add_name(&mut self.written, target)
+    }
+
+    fn print(&mut self, alloc: Global, value: &LExpr) -> Result<(), Memory>
+        requires small { CanForm (IsSmall limit) (forms_of self.old.standing) (plain_lexpr value.now) }
+        requires order { InOrder self.old.written.items }
+        ensures { OnOk result (Followed self.old self.new (Print (plain_lexpr value.now))) }
+    {
+        let form = form(alloc, &self.standing, value)?;
+        self.prints.push(remote_of(alloc, self.site, &form)?)?;
+        Ok(())
+    }
+
+    /// What the residual needs, where it ends here.
+    pub(crate) fn needs(self, alloc: Global) -> Result<Vec<Delta>, Memory>
+        ensures { IfOk result (λ v. v.items ≡ needs_of self.entry NoCommand) }
+    {
+        let mut prints = self.prints;
+        let mut needed = written_needs(alloc, self.site, &self.standing, self.written.as_slice())?;
+        while let Some(deltas) = prints.pop() {
+            add_deltas(&mut needed, deltas.as_slice())?;
+        }
+        Ok(needed)
+    }
+}
+
+/// What the deltas written need of other sites.
+fn written_needs(
+    alloc: Global,
+    site: u32,
+    standing: &Standing,
+    written: &[Delta],
+) -> Result<Vec<Delta>, Memory>
+    ensures order { IfOk result (λ v. InOrder v.items) }
+    ensures needs { IfOk result (λ v. v.items ≡ written_needs site (forms_of standing.now) written.now) }
+{
+    let mut needed = Vec::new(alloc);
+    let mut place = written.len();
+    while place > 0 {
+        place -= 1;
+        let form = standing.form_at(alloc, place_of_delta(&written[place]))?;
+        let deltas = remote_of(alloc, site, &form)?;
+        add_deltas(&mut needed, deltas.as_slice())?;
+    }
+    Ok(needed)
+}
+
+fn place_of_delta(delta: &Delta) -> Place
+    ensures { plain_place result ≡ DeltaAt delta.now.object delta.now.site }
+{
+    Place::Delta {
+        object: delta.object,
+        site: delta.site,
+    }
+}
+
+/// The deltas of other sites in a form.
+fn remote_of(alloc: Global, site: u32, form: &Form) -> Result<Vec<Delta>, Memory>
+    ensures { IfOk result (λ v. v.items ≡ remote site (support form.now)) }
+{
+    let deltas = form.support(alloc)?;
+    remote(alloc, site, deltas.as_slice())
+}
+
+fn remote(alloc: Global, site: u32, deltas: &[Delta]) -> Result<Vec<Delta>, Memory>
+    ensures { IfOk result (λ v. v.items ≡ remote site deltas.now) }
+{
+    let mut others = Vec::new(alloc);
+    for delta in deltas {
+        if is_remote(delta, site) {
+            others.push(*delta)?;
+        }
+    }
+    Ok(others)
+}
+
+fn is_remote(delta: &Delta, site: u32) -> bool
+    ensures { result ≡ not (delta.now.site == site) }
+{
+    delta.site != site
+}
+
+/// Adds a delta that is written.
+#[tactic(auto, unfolding(homeo_plan::specs::Key::words))]
+fn add_name(written: &mut Vec<Delta>, name: SplitName) -> Result<(), Memory>
+    requires { InOrder written.old.items }
+    ensures { OnOk result (written.new.items ≡ add_written name written.old.items) }
+{
+    match name {
+        SplitName::Delta { object, site } => add_delta(written, Delta { object, site }),
+        SplitName::Whole(_) | SplitName::Base(_) => Ok(()),
+    }
+}

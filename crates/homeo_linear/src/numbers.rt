@@ -1,0 +1,21 @@
+//! Sums and products of the numbers of forms.
+
+ghost use Rattle.std.specs.Prelude.{◌≡◌, ◌+ℤ◌, ◌*ℤ◌};
+ghost use Rattle.homeo_meaning.specs.Small.{IsSmall};
+ghost use Rattle.homeo_linear.specs.Limit.{limit};
+
+pub(crate) fn added(a: i128, b: i128) -> i128
+    requires left { IsSmall limit a }
+    requires right { IsSmall limit b }
+    ensures { result ≡ a +ℤ b }
+{
+    a + b
+}
+
+pub(crate) fn multiplied(a: i128, b: i128) -> i128
+    requires left { IsSmall limit a }
+    requires right { IsSmall limit b }
+    ensures { result ≡ a *ℤ b }
+{
+    a * b
+}

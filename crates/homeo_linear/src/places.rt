@@ -1,0 +1,36 @@
+//! Where a residual sets a value.
+
+ghost use Rattle.std.specs.Prelude.{◌≡◌};
+ghost use Rattle.homeo_meaning.specs.LowMeaning.{TempAt, location_of};
+ghost use Rattle.homeo_linear.specs.inner.Places.{plain_place};
+
+use homeo_syntax::{SplitName, Temp};
+
+/// A temporary of the text or a fresh one, the base's value of an object, or a delta of one. A whole object is its base.
+#[derive(Clone, Copy, PartialEq, Eq, Hash)]
+pub(crate) enum Place {
+    Named(u32),
+    Fresh(u32),
+    Base(u32),
+    Delta { object: u32, site: u32 },
+}
+
+pub(crate) fn place_of_temp(t: Temp) -> Place
+    ensures { plain_place result ≡ TempAt t }
+{
+    match t {
+        Temp::Named(name) => Place::Named(name),
+        Temp::Fresh(number) => Place::Fresh(number),
+    }
+}
+
+#[tactic(auto, unfolding(homeo_meaning::specs::Key::words))]
+pub(crate) fn place_of(name: SplitName) -> Place
+    ensures { plain_place result ≡ location_of name }
+{
+    match name {
+        SplitName::Whole(object) => Place::Base(object),
+        SplitName::Base(object) => Place::Base(object),
+        SplitName::Delta { object, site } => Place::Delta { object, site },
+    }
+}
