@@ -1,0 +1,5 @@
+//! Tests of what treaties are made of, on values made here.
+#![tactic(auto)]
+
+#[cfg(test)]
+mod slacks;
