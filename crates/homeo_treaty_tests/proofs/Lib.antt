@@ -1,1 +1,3 @@
+pub mod AtomExample
+pub mod Pushes
 pub mod SlackExample

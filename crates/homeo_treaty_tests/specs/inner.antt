@@ -1,1 +1,2 @@
+pub mod AtomExample
 pub mod SlackExample

@@ -3,3 +3,5 @@
 
 #[cfg(test)]
 mod slacks;
+#[cfg(test)]
+mod templates;

@@ -1,0 +1,28 @@
+-- The constants of the tests' atoms are small.
+use Rattle.std.proofs.Common.{◌≡◌, List, [], ◌∷◌, map, ℤ, pos, negsuc, sym, subst, arith}
+use Rattle.homeo_meaning.specs.Key.{words as meaning_words}
+use Rattle.homeo_meaning.specs.Small.{IsSmall}
+use Rattle.homeo_plan.specs.Key.{words}
+use Rattle.homeo_plan.specs.declared.forms.Atom.{Atom}
+use Rattle.homeo_plan.specs.Each.{Each}
+use Rattle.homeo_plan.specs.PlanView.{plain_atom}
+use Rattle.homeo_template.specs.Constants.{constant_limit}
+
+pub small_pair :
+    (first second : Atom) (atoms : List Atom) → atoms ≡ first ∷ second ∷ [] → IsSmall constant_limit first.form.constant →
+    IsSmall constant_limit second.form.constant → Each (λ a. IsSmall constant_limit a.constant) (map plain_atom atoms)
+unfolding words
+small_pair first second atoms e h k =
+    subst (λ (l : List Atom). Each (λ a. IsSmall constant_limit a.constant) (map plain_atom l)) (sym e) (h, (k, tt))
+
+pub minus_five : (n : ℤ) → n ≡ negsuc 4 → IsSmall constant_limit n
+unfolding meaning_words
+minus_five n e = subst (IsSmall constant_limit) (sym e) (omega arith)
+
+pub minus_two : (n : ℤ) → n ≡ negsuc 1 → IsSmall constant_limit n
+unfolding meaning_words
+minus_two n e = subst (IsSmall constant_limit) (sym e) (omega arith)
+
+pub nothing : (n : ℤ) → n ≡ pos 0 → IsSmall constant_limit n
+unfolding meaning_words
+nothing n e = subst (IsSmall constant_limit) (sym e) (omega arith)
