@@ -2,6 +2,12 @@
 #![tactic(auto)]
 
 #[cfg(test)]
+mod formulas;
+#[cfg(test)]
+mod object;
+#[cfg(test)]
+mod residuals;
+#[cfg(test)]
 mod slacks;
 #[cfg(test)]
 mod templates;
