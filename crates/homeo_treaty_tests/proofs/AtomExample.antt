@@ -1,7 +1,8 @@
 -- The constants of the tests' atoms are small.
-use Rattle.std.proofs.Common.{◌≡◌, List, [], ◌∷◌, map, ℤ, pos, negsuc, sym, subst, arith}
+use Rattle.std.proofs.Common.{◌≡◌, List, [], ◌∷◌, map, ℤ, true, sym, subst}
 use Rattle.homeo_meaning.specs.Key.{words as meaning_words}
-use Rattle.homeo_meaning.specs.Small.{IsSmall}
+use Rattle.homeo_meaning.specs.Small.{IsSmall, is_small}
+use Rattle.homeo_meaning.proofs.Numbers.{small_is}
 use Rattle.homeo_plan.specs.Key.{words}
 use Rattle.homeo_plan.specs.declared.forms.Atom.{Atom}
 use Rattle.homeo_plan.specs.Each.{Each}
@@ -15,14 +16,6 @@ unfolding words
 small_pair first second atoms e h k =
     subst (λ (l : List Atom). Each (λ a. IsSmall constant_limit a.constant) (map plain_atom l)) (sym e) (h, (k, tt))
 
-pub minus_five : (n : ℤ) → n ≡ negsuc 4 → IsSmall constant_limit n
+pub small : (n m : ℤ) → n ≡ m → is_small constant_limit m ≡ true → IsSmall constant_limit n
 unfolding meaning_words
-minus_five n e = subst (IsSmall constant_limit) (sym e) (omega arith)
-
-pub minus_two : (n : ℤ) → n ≡ negsuc 1 → IsSmall constant_limit n
-unfolding meaning_words
-minus_two n e = subst (IsSmall constant_limit) (sym e) (omega arith)
-
-pub nothing : (n : ℤ) → n ≡ pos 0 → IsSmall constant_limit n
-unfolding meaning_words
-nothing n e = subst (IsSmall constant_limit) (sym e) (omega arith)
+small n m e h = subst (IsSmall constant_limit) (sym e) (small_is constant_limit m h)

@@ -1,8 +1,8 @@
 //! The atoms of a formula on an object at two sites.
 
-ghost use Rattle.std.specs.Prelude.{◌≡◌, [], ◌∷◌, pos, IfOk};
-ghost use Rattle.homeo_syntax.specs.LowView.{plain_lcond, plain_lexpr};
-ghost use Rattle.homeo_treaty_tests.specs.inner.ObjectExample.{joined, at_most_five};
+ghost use Rattle.std.specs.Prelude.{◌≡◌, IfOk};
+ghost use Rattle.homeo_syntax.specs.LowView.{plain_lcond};
+ghost use Rattle.homeo_treaty_tests.specs.inner.ObjectExample.{at_most_five};
 
 use crate::object::{base, joined};
 use homeo_linear::atoms;

@@ -1,6 +1,6 @@
 //! An object at two sites, and its value in a base.
 
-ghost use Rattle.std.specs.Prelude.{◌≡◌, [], ◌∷◌, pos, IfOk};
+ghost use Rattle.std.specs.Prelude.{◌≡◌, IfOk};
 ghost use Rattle.homeo_syntax.specs.LowView.{plain_lexpr};
 ghost use Rattle.homeo_treaty_tests.specs.inner.ObjectExample.{base, joined};
 

@@ -1,15 +1,21 @@
 -- The atoms' constants are small.
-use Rattle.homeo_treaty_tests.proofs.AtomExample.{minus_five, minus_two, nothing}
+use Rattle.std.proofs.Common.{pos, negsuc, refl}
+use Rattle.homeo_meaning.specs.Key.{words}
+use Rattle.homeo_treaty_tests.proofs.AtomExample.{small}
 use Rattle.homeo_treaty_tests.proofs.templates.sets.Goals as goal
 
 pub pair-requires-clause-first : goal.pair-requires-clause-first
-pair-requires-clause-first c = minus_five c.in_ok-first.first.form.constant c.in_ok-first.ensures
+unfolding words
+pair-requires-clause-first c = small c.in_ok-first.first.form.constant (negsuc 4) c.in_ok-first.ensures refl
 
 pub pair-requires-clause-second : goal.pair-requires-clause-second
-pair-requires-clause-second c = nothing c.in_ok-without_terms.without_terms.form.constant c.in_ok-without_terms.ensures
+unfolding words
+pair-requires-clause-second c = small c.in_ok-without_terms.without_terms.form.constant (pos 0) c.in_ok-without_terms.ensures refl
 
 pub pair-requires-2-clause-first : goal.pair-requires-2-clause-first
-pair-requires-2-clause-first c = minus_two c.in_ok-third.third.form.constant c.in_ok-third.ensures
+unfolding words
+pair-requires-2-clause-first c = small c.in_ok-third.third.form.constant (negsuc 1) c.in_ok-third.ensures refl
 
 pub pair-requires-2-clause-second : goal.pair-requires-2-clause-second
-pair-requires-2-clause-second c = minus_five c.in_ok-again.again.form.constant c.in_ok-again.ensures
+unfolding words
+pair-requires-2-clause-second c = small c.in_ok-again.again.form.constant (negsuc 4) c.in_ok-again.ensures refl
