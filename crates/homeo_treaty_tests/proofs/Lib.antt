@@ -1,0 +1,4 @@
+pub mod AtomExample
+pub mod ObjectExample
+pub mod Pushes
+pub mod SlackExample

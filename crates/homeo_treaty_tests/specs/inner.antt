@@ -1,0 +1,3 @@
+pub mod AtomExample
+pub mod ObjectExample
+pub mod SlackExample
