@@ -95,32 +95,32 @@ limit_parts w e6 =
       grounds = none_second (a ++ b ++ c ++ d ++ f ++ g) h e6;
     }
 
-pub record NoFormFault (w : s.Workload) : Type 0 where
+pub record NoFormFault (purpose : Purpose) (w : s.Workload) : Type 0 where
   pub sizes : size_faults w ≡ []
   pub prints : print_faults w ≡ []
   pub weights : weight_faults w ≡ []
-  pub rows : row_faults w ≡ []
+  pub rows : row_faults purpose w ≡ []
 
-pub form_parts : (w : s.Workload) → form_faults w ≡ [] → NoFormFault w
+pub form_parts : (purpose : Purpose) (w : s.Workload) → form_faults purpose w ≡ [] → NoFormFault purpose w
 unfolding words
-form_parts w e3 =
+form_parts purpose w e3 =
     let a = size_faults w in
     let b = print_faults w in
     let c = weight_faults w in
-    let d = row_faults w in
+    let d = row_faults purpose w in
     let e2 = none_first (a ++ b ++ c) d e3 in
     let e1 = none_first (a ++ b) c e2 in
     record { sizes = none_first a b e1; prints = none_second a b e1; weights = none_second (a ++ b) c e2; rows = none_second (a ++ b ++ c) d e3 }
 
 pub record NoFault (purpose : Purpose) (w : s.Workload) : Type 0 where
   pub text : NoTextFault purpose w
-  pub form : NoFormFault w
+  pub form : NoFormFault purpose w
 
 pub parts : (purpose : Purpose) (w : s.Workload) → faults purpose w ≡ [] → NoFault purpose w
 unfolding words
 parts purpose w e = record {
-  text = text_parts purpose w (none_first (text_faults purpose w) (form_faults w) e);
-  form = form_parts w (none_second (text_faults purpose w) (form_faults w) e);
+  text = text_parts purpose w (none_first (text_faults purpose w) (form_faults purpose w) e);
+  form = form_parts purpose w (none_second (text_faults purpose w) (form_faults purpose w) e);
 }
 
 -- a schedule that serves any purpose serves a run
@@ -134,5 +134,5 @@ pub for_run : (purpose : Purpose) (w : s.Workload) → faults purpose w ≡ [] �
 unfolding words
 for_run purpose w e =
     let p : NoTextFault purpose w = (parts purpose w e).text in
-    let none : form_faults w ≡ [] = none_second (text_faults purpose w) (form_faults w) e in
-    λ i. (p.names i ++ p.declared i ++ p.limits i ++ order_for_run purpose w w.schedule p.schedule i) ++ none i
+    let f : NoFormFault purpose w = (parts purpose w e).form in
+    λ i. (p.names i ++ p.declared i ++ p.limits i ++ order_for_run purpose w w.schedule p.schedule i) ++ (f.sizes i ++ f.prints i ++ f.weights i ++ [])

@@ -43,15 +43,15 @@ text_faults purpose w =
     ++ limit_faults w
     ++ schedule_faults purpose (scope_of w) w.clients w.end w.schedule
 
--- how large the calls' L forms are, their values and their tables
-abbrev pub form_faults : s.Workload → List Fault
+-- how large the calls' L forms are, their values, and their tables where these are made
+abbrev pub form_faults : Purpose → s.Workload → List Fault
 unfolding words
-form_faults w = size_faults w ++ print_faults w ++ weight_faults w ++ row_faults w
+form_faults purpose w = size_faults w ++ print_faults w ++ weight_faults w ++ row_faults purpose w
 
 -- all faults of a workload that is read for a purpose
 abbrev pub faults : Purpose → s.Workload → List Fault
 unfolding words
-faults purpose w = text_faults purpose w ++ form_faults w
+faults purpose w = text_faults purpose w ++ form_faults purpose w
 
 -- ---- the fault that decides
 -- the place of a phase in the order in which they are tried

@@ -1,5 +1,5 @@
 -- The rules of how large calls are, how much they print, and how large their values may get.
-use Rattle.std.specs.Prelude.{ℕ, ℤ, ◌+◌, ◌*◌, ◌||◌, not, nat_lt, List, map, Option, Some, None}
+use Rattle.std.specs.Prelude.{ℕ, ℤ, Bool, true, false, ◌+◌, ◌*◌, ◌||◌, not, nat_lt, List, map, Option, Some, None}
 use Rattle.std.specs.List.{flat_map, sum_by}
 use Rattle.homeo_syntax.specs.Source as s
 use Rattle.homeo_meaning.specs.Key.{words}
@@ -11,6 +11,8 @@ use Rattle.homeo_meaning.specs.NameRules.{when, fault}
 use Rattle.homeo_meaning.specs.TransactionRules.{each}
 use Rattle.homeo_meaning.specs.GlobalNames.{SitedCall, sited_calls}
 use Rattle.homeo_meaning.specs.NumberRules.{ground_calls}
+use Rattle.homeo_meaning.specs.declared.call.Purpose.{Purpose}
+use Rattle.homeo_meaning.specs.declared.call.Purpose.TheVariants.{Tables}
 use Rattle.homeo_meaning.specs.declared.rules.Fault.{Fault}
 use Rattle.homeo_meaning.specs.declared.rules.Phase.TheVariants.{Size, Weight, Rows}
 
@@ -66,6 +68,11 @@ unfolding words
 too_many_rows w before c =
     when (nat_lt 4096 (rows (call_form w c)) || nat_lt 8000000 (sum_by (table_size w) before + table_size w c)) (fault Rows c.name)
 
-abbrev pub row_faults : s.Workload → List Fault
+-- symbolic tables are made of the calls; for any other purpose a row of each is walked
+abbrev pub makes_tables : Purpose → Bool
+makes_tables Tables = true
+makes_tables _ = false
+
+abbrev pub row_faults : Purpose → s.Workload → List Fault
 unfolding words
-row_faults w = each (too_many_rows w) (ground_calls w)
+row_faults purpose w = when (makes_tables purpose) (each (too_many_rows w) (ground_calls w))

@@ -1,5 +1,5 @@
 -- Which of the faults of L forms decides, by those of sizes and prints, and then of weights and rows.
-use Rattle.std.proofs.Common.{◌≡◌, List, [], ◌∷◌, ◌++◌, map, Option, Some, None, refl, sym, ap, subst, ◌∙◌, append_assoc}
+use Rattle.std.proofs.Common.{◌≡◌, true, false, List, [], ◌∷◌, ◌++◌, map, Option, Some, None, refl, sym, ap, subst, ◌∙◌, append_assoc}
 use Rattle.std.specs.List.{flat_map}
 use Rattle.homeo_syntax.specs.Key.{words as syntax_words}
 use Rattle.homeo_syntax.specs.Source as s
@@ -13,8 +13,10 @@ use Rattle.homeo_meaning.specs.Faults.{form_faults}
 use Rattle.homeo_meaning.specs.GlobalNames.{sited_calls}
 use Rattle.homeo_meaning.specs.NumberRules.{ground_calls}
 use Rattle.homeo_meaning.specs.Schema.{schema_of, declared_object, declared_relation}
-use Rattle.homeo_meaning.specs.SizeRules.{extent_of, too_large, size_faults, print_faults, heavy_call, weight_faults, too_many_rows, row_faults}
+use Rattle.homeo_meaning.specs.SizeRules.{extent_of, too_large, size_faults, print_faults, heavy_call, weight_faults, too_many_rows, makes_tables, row_faults}
+use Rattle.homeo_meaning.specs.ListRules.{when}
 use Rattle.homeo_meaning.specs.TransactionRules.{each}
+use Rattle.homeo_meaning.specs.declared.call.Purpose.{Purpose}
 use Rattle.homeo_meaning.specs.declared.rules.Fault.{Fault}
 use Rattle.homeo_meaning.proofs.FaultParts.{none_first}
 use Rattle.homeo_rules.proofs.Phases.{sizes_in, later_in, decides_first}
@@ -46,22 +48,22 @@ few-objects w os rs eo er sound = subst HasFewObjects (sym (schema-plain w os rs
 
 -- ---- which decides
 -- a fault of sizes or prints comes before those of weights and rows
-pub sizes-decide : (w : s.Workload) (b : Option Fault) (f : Fault) → b ≡ keep_all None (size_faults w ++ print_faults w) → b ≡ Some f → b ≡ keep_all None (form_faults w)
+pub sizes-decide : (purpose : Purpose) (w : s.Workload) (b : Option Fault) (f : Fault) → b ≡ keep_all None (size_faults w ++ print_faults w) → b ≡ Some f → b ≡ keep_all None (form_faults purpose w)
 unfolding meaning_words
-sizes-decide w b f e is =
+sizes-decide purpose w b f e is =
     is
     ∙ sym (
-    ap (keep_all None) (append_assoc (size_faults w ++ print_faults w) (weight_faults w) (row_faults w))
-    ∙ keep_all-append None (size_faults w ++ print_faults w) (weight_faults w ++ row_faults w)
-    ∙ decides_first 7 8 10 (size_faults w ++ print_faults w) (weight_faults w ++ row_faults w) f (sizes_in w) (later_in w) (sym e ∙ is))
+    ap (keep_all None) (append_assoc (size_faults w ++ print_faults w) (weight_faults w) (row_faults purpose w))
+    ∙ keep_all-append None (size_faults w ++ print_faults w) (weight_faults w ++ row_faults purpose w)
+    ∙ decides_first 7 8 10 (size_faults w ++ print_faults w) (weight_faults w ++ row_faults purpose w) f (sizes_in w) (later_in purpose w) (sym e ∙ is))
 
-pub after-sizes : (w : s.Workload) (b : Option Fault) → b ≡ keep_all None (size_faults w ++ print_faults w) → b ≡ None → keep_all None (weight_faults w ++ row_faults w) ≡ keep_all None (form_faults w)
+pub after-sizes : (purpose : Purpose) (w : s.Workload) (b : Option Fault) → b ≡ keep_all None (size_faults w ++ print_faults w) → b ≡ None → keep_all None (weight_faults w ++ row_faults purpose w) ≡ keep_all None (form_faults purpose w)
 unfolding meaning_words
-after-sizes w b e none =
+after-sizes purpose w b e none =
     sym (
-    ap (keep_all None) (append_assoc (size_faults w ++ print_faults w) (weight_faults w) (row_faults w))
-    ∙ keep_all-append None (size_faults w ++ print_faults w) (weight_faults w ++ row_faults w)
-    ∙ ap (λ o. keep_all o (weight_faults w ++ row_faults w)) (sym e ∙ none))
+    ap (keep_all None) (append_assoc (size_faults w ++ print_faults w) (weight_faults w) (row_faults purpose w))
+    ∙ keep_all-append None (size_faults w ++ print_faults w) (weight_faults w ++ row_faults purpose w)
+    ∙ ap (λ o. keep_all o (weight_faults w ++ row_faults purpose w)) (sym e ∙ none))
 
 -- ---- of the lists that the code goes along
 -- the ground calls are measured, one for one
@@ -84,10 +86,18 @@ sizes-and-prints w ms calls one two grounds all e f =
     ∙ ap (λ l. keep_all (keep_all None (each (too_large (extent_of w)) l)) (print_faults w)) grounds
     ∙ sym (keep_all-append None (size_faults w) (print_faults w))
 
-pub weights-and-rows : (w : s.Workload) (ms : List MeasuredCall) (one two : Option Fault) → map call_of ms ≡ ground_calls w → one ≡ keep_all None (flat_map (heavy_call w) (map call_of ms)) → two ≡ keep_all one (each (too_many_rows w) (map call_of ms)) → two ≡ keep_all None (weight_faults w ++ row_faults w)
+pub rows-found : (purpose : Purpose) (w : s.Workload) (best : Option Fault) (ms : List MeasuredCall) → map call_of ms ≡ ground_calls w → makes_tables purpose ≡ true → keep_all best (each (too_many_rows w) (map call_of ms)) ≡ keep_all best (row_faults purpose w)
 unfolding meaning_words
-weights-and-rows w ms one two grounds e f =
+rows-found purpose w best ms grounds makes =
+    ap (λ l. keep_all best (each (too_many_rows w) l)) grounds ∙ ap (λ b. keep_all best (when b (each (too_many_rows w) (ground_calls w)))) (sym makes)
+
+pub no-rows : (purpose : Purpose) (w : s.Workload) (best : Option Fault) → makes_tables purpose ≡ false → best ≡ keep_all best (row_faults purpose w)
+unfolding meaning_words
+no-rows purpose w best makes = ap (λ b. keep_all best (when b (each (too_many_rows w) (ground_calls w)))) (sym makes)
+
+pub weights-and-rows : (purpose : Purpose) (w : s.Workload) (ms : List MeasuredCall) (one two : Option Fault) → map call_of ms ≡ ground_calls w → one ≡ keep_all None (flat_map (heavy_call w) (map call_of ms)) → two ≡ keep_all one (row_faults purpose w) → two ≡ keep_all None (weight_faults w ++ row_faults purpose w)
+unfolding meaning_words
+weights-and-rows purpose w ms one two grounds e f =
     f
-    ∙ (λ i. keep_all (e i) (each (too_many_rows w) (map call_of ms)))
-    ∙ ap (λ l. keep_all (keep_all None (flat_map (heavy_call w) l)) (each (too_many_rows w) l)) grounds
-    ∙ sym (keep_all-append None (weight_faults w) (row_faults w))
+    ∙ ap (λ o. keep_all o (row_faults purpose w)) (e ∙ ap (λ l. keep_all None (flat_map (heavy_call w) l)) grounds)
+    ∙ sym (keep_all-append None (weight_faults w) (row_faults purpose w))

@@ -248,16 +248,16 @@ of-text purpose w =
 pub text-decides : (purpose : Purpose) (w : s.Workload) (f : Fault) → keep_all None (text_faults purpose w) ≡ Some f → Some f ≡ keep_all None (faults purpose w)
 unfolding meaning_words
 text-decides purpose w f e =
-    let late = both_lists 7 10 (size_faults w ++ print_faults w) (weight_faults w ++ row_faults w) (wider_below 7 8 10 (size_faults w ++ print_faults w) (omega arith) (sizes_in w)) (wider_above 7 8 10 (weight_faults w ++ row_faults w) (omega arith) (later_in w)) in
+    let late = both_lists 7 10 (size_faults w ++ print_faults w) (weight_faults w ++ row_faults purpose w) (wider_below 7 8 10 (size_faults w ++ print_faults w) (omega arith) (sizes_in w)) (wider_above 7 8 10 (weight_faults w ++ row_faults purpose w) (omega arith) (later_in purpose w)) in
     sym (
-    keep_all-append None (text_faults purpose w) (form_faults w)
-    ∙ ap (keep_all (keep_all None (text_faults purpose w))) (append_assoc (size_faults w ++ print_faults w) (weight_faults w) (row_faults w))
-    ∙ decides_first 0 7 10 (text_faults purpose w) ((size_faults w ++ print_faults w) ++ (weight_faults w ++ row_faults w)) f (text_early purpose w) late e)
+    keep_all-append None (text_faults purpose w) (form_faults purpose w)
+    ∙ ap (keep_all (keep_all None (text_faults purpose w))) (append_assoc (size_faults w ++ print_faults w) (weight_faults w) (row_faults purpose w))
+    ∙ decides_first 0 7 10 (text_faults purpose w) ((size_faults w ++ print_faults w) ++ (weight_faults w ++ row_faults purpose w)) f (text_early purpose w) late e)
 
 -- without one, those of the L forms do
-pub forms-decide : (purpose : Purpose) (w : s.Workload) → keep_all None (text_faults purpose w) ≡ None → keep_all None (form_faults w) ≡ keep_all None (faults purpose w)
+pub forms-decide : (purpose : Purpose) (w : s.Workload) → keep_all None (text_faults purpose w) ≡ None → keep_all None (form_faults purpose w) ≡ keep_all None (faults purpose w)
 unfolding meaning_words
-forms-decide purpose w e = sym (keep_all-append None (text_faults purpose w) (form_faults w) ∙ ap (λ o. keep_all o (form_faults w)) e)
+forms-decide purpose w e = sym (keep_all-append None (text_faults purpose w) (form_faults purpose w) ∙ ap (λ o. keep_all o (form_faults purpose w)) e)
 
 pub faultless : (purpose : Purpose) (w : s.Workload) → keep_all None (text_faults purpose w) ≡ None → IsFaultless w
 faultless purpose w e =

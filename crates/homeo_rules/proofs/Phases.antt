@@ -16,7 +16,7 @@ use Rattle.homeo_meaning.specs.TransactionRules.{is_in, each_from, each, local_o
 use Rattle.homeo_meaning.specs.GlobalNames.{SitedCall, global_names, duplicate, scope_of, sited_calls}
 use Rattle.homeo_meaning.specs.NumberRules.{largest_bound, too_large, crossed, range_faults, outside, object_faults, range_bounds, argument_outside, arguments_outside, site_faults, site_count_faults, slot_faults, makings, made, too_many_objects, passes_limit, ground_calls, limit_faults}
 use Rattle.homeo_meaning.specs.CallRules.{times, call_count, params_of, call_faults, client_faults, scheduled, order_faults, is_short, end_fault, needs_order, has_calls, schedule_faults}
-use Rattle.homeo_meaning.specs.SizeRules.{too_large as too_large_call, size_faults, prints_too_much, print_faults, heavy_call, weight_faults, too_many_rows, row_faults}
+use Rattle.homeo_meaning.specs.SizeRules.{too_large as too_large_call, size_faults, prints_too_much, print_faults, heavy_call, weight_faults, too_many_rows, row_faults, makes_tables}
 use Rattle.homeo_meaning.specs.CallForm.{call_form}
 use Rattle.homeo_meaning.specs.SizeRules.{extent_of, heaviest, table_size}
 use Rattle.homeo_meaning.specs.LowSizes.{Extent, rows, prints_in}
@@ -290,10 +290,10 @@ sizes_in w =
     let prints : SitedCall → ℕ = λ c. prints_in (call_form w c) in
     both 7 8 (size_faults w) (print_faults w) (each_of 7 8 (too_large_call e) (λ before c. if_so 7 8 (nat_lt 200000 (e c).size || nat_lt 1000 (e c).depth || nat_lt 2000000 (sum_by (λ d. (e d).size) before + (e c).size)) (fault F.Size c.name) (omega arith, omega arith, tt)) [] (ground_calls w)) (each_of 7 8 (prints_too_much prints) (λ before c. if_so 7 8 (nat_lt 1000000 (sum_by prints before + prints c)) (fault F.Size c.name) (omega arith, omega arith, tt)) [] (sited_calls w))
 
-pub later_in : (w : s.Workload) → Between 8 10 (weight_faults w ++ row_faults w)
+pub later_in : (purpose : Purpose) (w : s.Workload) → Between 8 10 (weight_faults w ++ row_faults purpose w)
 unfolding words
-later_in w =
-    both 8 10 (weight_faults w) (row_faults w) (all_of 8 10 (heavy_call w) (λ c. if_so 8 10 (not (is_light heaviest (call_form w c) (first_weights (schema_of w)))) (fault F.Weight c.name) (omega arith, omega arith, tt)) (ground_calls w)) (each_of 8 10 (too_many_rows w) (λ before c. if_so 8 10 (nat_lt 4096 (rows (call_form w c)) || nat_lt 8000000 (sum_by (table_size w) before + table_size w c)) (fault F.Rows c.name) (omega arith, omega arith, tt)) [] (ground_calls w))
+later_in purpose w =
+    both 8 10 (weight_faults w) (row_faults purpose w) (all_of 8 10 (heavy_call w) (λ c. if_so 8 10 (not (is_light heaviest (call_form w c) (first_weights (schema_of w)))) (fault F.Weight c.name) (omega arith, omega arith, tt)) (ground_calls w)) (if_so 8 10 (makes_tables purpose) (each (too_many_rows w) (ground_calls w)) (each_of 8 10 (too_many_rows w) (λ before c. if_so 8 10 (nat_lt 4096 (rows (call_form w c)) || nat_lt 8000000 (sum_by (table_size w) before + table_size w c)) (fault F.Rows c.name) (omega arith, omega arith, tt)) [] (ground_calls w)))
 
 -- ---- which one is kept
 abbrev RankedBelow : ℕ → Option Fault → Type 0

@@ -160,6 +160,6 @@ pub fn decide(alloc: Global, purpose: Purpose, w: &Workload) -> Result<Option<Fa
     )?;
     match best {
         Some(_) => Ok(best),
-        None => check_forms(alloc, w, &scope, calls.as_slice(), grounds),
+        None => check_forms(alloc, purpose, w, &scope, calls.as_slice(), grounds),
     }
 }

@@ -7,7 +7,7 @@ ghost use Rattle.homeo_meaning.specs.Faults.{form_faults};
 ghost use Rattle.homeo_meaning.specs.GlobalNames.{scope_of, sited_calls};
 ghost use Rattle.homeo_meaning.specs.NumberRules.{ground_calls};
 ghost use Rattle.homeo_meaning.specs.Schema.{nat_of, schema_of};
-ghost use Rattle.homeo_meaning.specs.SizeRules.{size_faults, print_faults, weight_faults, row_faults};
+ghost use Rattle.homeo_meaning.specs.SizeRules.{size_faults, print_faults, weight_faults, makes_tables, row_faults};
 ghost use Rattle.homeo_rules.specs.inner.Decided.{IsFaultless};
 ghost use Rattle.homeo_rules.specs.inner.Scopes.{scope_in};
 ghost use Rattle.homeo_ground.specs.Sited.{sited};
@@ -19,7 +19,7 @@ use crate::rules::sizes::{
     MeasuredCall, Measuring, check_rows, check_sizes, check_weights, measure_calls,
 };
 use homeo_ground::SitedCall;
-use homeo_meaning::Fault;
+use homeo_meaning::{Fault, Purpose};
 use homeo_size::Layout;
 use homeo_syntax::{Memory, Workload};
 use std::alloc::Global;
@@ -58,23 +58,53 @@ fn check_sizes_and_prints(
     check_prints(alloc, calls, measuring, best)
 }
 
+/// Whether symbolic tables are made for the purpose.
+fn makes_tables(purpose: Purpose) -> bool
+    ensures { result ≡ makes_tables purpose }
+{
+    match purpose {
+        Purpose::Tables => true,
+        Purpose::Steps | Purpose::Run | Purpose::Treaty => false,
+    }
+}
+
+/// With the faults of rows, which only tables have.
+fn check_tables(
+    purpose: Purpose,
+    measured: &[MeasuredCall<'_>],
+    measuring: &Measuring<'_, '_>,
+    best: Option<Fault>,
+) -> Option<Fault>
+    requires measured { AreMeasured (workload_of measuring.now) measured.now }
+    requires grounds { map call_of measured.now ≡ ground_calls (workload_of measuring.now) }
+    ensures { result ≡ keep_all best (row_faults purpose (workload_of measuring.now)) }
+{
+    if makes_tables(purpose) {
+        check_rows(measured, measuring, best)
+    } else {
+        best
+    }
+}
+
 /// The fault that decides, of those of weights and of rows.
 fn check_weights_and_rows(
+    purpose: Purpose,
     measured: &[MeasuredCall<'_>],
     measuring: &Measuring<'_, '_>,
 ) -> Option<Fault>
     requires measured { AreMeasured (workload_of measuring.now) measured.now }
     requires grounds { map call_of measured.now ≡ ground_calls (workload_of measuring.now) }
     ensures { result ≡
-        keep_all None (weight_faults (workload_of measuring.now) ++ row_faults (workload_of measuring.now)) }
+        keep_all None (weight_faults (workload_of measuring.now) ++ row_faults purpose (workload_of measuring.now)) }
 {
     let best = check_weights(measured, measuring, None);
-    check_rows(measured, measuring, best)
+    check_tables(purpose, measured, measuring, best)
 }
 
-/// The fault that decides, of those of the L forms, where the text has none.
+/// The fault that decides, of those that the L forms have for the purpose, where the text has none.
 pub fn check_forms<'a>(
     alloc: Global,
+    purpose: Purpose,
     w: &'a Workload,
     scope: &Scope<'a>,
     calls: &[SitedCall<'_>],
@@ -84,7 +114,7 @@ pub fn check_forms<'a>(
     requires sited { map sited calls.now ≡ sited_calls (plain_workload w.now) }
     requires grounds { map sited grounds.now ≡ ground_calls (plain_workload w.now) }
     requires faultless { IsFaultless (plain_workload w.now) }
-    ensures { IfOk result (λ b. b ≡ keep_all None (form_faults (plain_workload w.now))) }
+    ensures { IfOk result (λ b. b ≡ keep_all None (form_faults purpose (plain_workload w.now))) }
 {
     let layout = lay_out(alloc, w)?;
     let measuring = Measuring {
@@ -97,6 +127,10 @@ pub fn check_forms<'a>(
     let best = check_sizes_and_prints(alloc, measured.as_slice(), calls, &measuring)?;
     match best {
         Some(_) => Ok(best),
-        None => Ok(check_weights_and_rows(measured.as_slice(), &measuring)),
+        None => Ok(check_weights_and_rows(
+            purpose,
+            measured.as_slice(),
+            &measuring,
+        )),
     }
 }

@@ -10,7 +10,7 @@ check_sizes_and_prints-requires-clause-grounds c =
     grounds-plain (plain_workload c.args.w.now) c.args.grounds.now measured.measured.items _ c.requires.grounds measured.ensures.calls c.as_slice.ensures.value
 
 pub returns-in-Some : goal.returns-in-Some
-returns-in-Some c = sizes-decide (plain_workload c.args.w.now) c.in_ok-best.best _ c.in_ok-best.ensures c.in-Some.is
+returns-in-Some c = sizes-decide c.args.purpose (plain_workload c.args.w.now) c.in_ok-best.best _ c.in_ok-best.ensures c.in-Some.is
 
 pub check_weights_and_rows-requires-clause-grounds : goal.check_weights_and_rows-requires-clause-grounds
 check_weights_and_rows-requires-clause-grounds c =
@@ -25,4 +25,4 @@ check_weights_and_rows-requires-clause-measured c =
     all-measured w c.in_ok-best.best c.as_slice-in-None.result.now calls told c.in_ok-best.ensures c.in-None.is
 
 pub returns : goal.returns
-returns c = c.check_weights_and_rows.ensures ∙ after-sizes (plain_workload c.args.w.now) c.in_ok-best.best c.in_ok-best.ensures c.in-None.is
+returns c = c.check_weights_and_rows.ensures ∙ after-sizes c.args.purpose (plain_workload c.args.w.now) c.in_ok-best.best c.in_ok-best.ensures c.in-None.is
