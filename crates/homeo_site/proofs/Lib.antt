@@ -1,0 +1,3 @@
+pub mod CallsOfSites
+pub mod LocalSteps
+pub mod SitesHold
