@@ -1,3 +1,6 @@
 pub mod CallsOfSites
+pub mod Limits
 pub mod LocalSteps
 pub mod SitesHold
+pub mod StepsRun
+pub mod WalkRuns
