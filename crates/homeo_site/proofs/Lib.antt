@@ -1,4 +1,5 @@
 pub mod CallsOfSites
+pub mod FirstFailures
 pub mod Limits
 pub mod LocalSteps
 pub mod SitesHold
