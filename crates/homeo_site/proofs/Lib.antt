@@ -2,6 +2,8 @@ pub mod CallsOfSites
 pub mod FirstFailures
 pub mod Limits
 pub mod LocalSteps
+pub mod OrderedAtoms
 pub mod SitesHold
 pub mod StepsRun
+pub mod TemplateClauses
 pub mod WalkRuns
