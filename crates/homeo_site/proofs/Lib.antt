@@ -3,6 +3,7 @@ pub mod FirstFailures
 pub mod Limits
 pub mod LocalSteps
 pub mod OrderedAtoms
+pub mod OwnSums
 pub mod OwnTerms
 pub mod SitesHold
 pub mod StepsRun
