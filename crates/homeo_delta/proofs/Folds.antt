@@ -82,7 +82,8 @@ pub all_objects : (s : Split) → folded s ≡ values_from 0 (length s.base.item
 unfolding meaning_words
 all_objects s = refl
 
-values_are :
+-- the values from k on, where past n of them there is 0
+pub values_are :
     (k n x : ℕ) (f : ℕ → ℤ) → ((y : ℕ) → n ≤ y → f (k + y) ≡ pos 0) → get_or (values_from k n f) x (pos 0) ≡ f (k + x)
 values_are k zero x f h = sym (h x (omega arith))
 values_are k (suc n) zero f h = let here : k ≡ k + 0 = omega arith in ap f here

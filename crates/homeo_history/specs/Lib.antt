@@ -4,4 +4,5 @@ pub mod HistoryView
 pub mod Key
 pub mod Legal
 pub mod Merge
+pub mod Replayed
 pub mod Stepwise

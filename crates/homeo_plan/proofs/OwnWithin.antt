@@ -6,9 +6,9 @@ use mathlib.Core.Path.{fun_ext}
 use Rattle.std.proofs.lemmas.Int.{ints}
 use Rattle.std.proofs.lemmas.Bool.Decides.{nat_tests}
 use Rattle.homeo_meaning.specs.Bounds.{AllWithin}
-use Rattle.homeo_meaning.specs.LowMeaning.{BaseAt, exec, whole}
+use Rattle.homeo_meaning.specs.LowMeaning.{Location, TempAt, BaseAt, DeltaAt, exec, whole}
 use Rattle.homeo_plan.specs.Each.{Each}
-use Rattle.homeo_plan.specs.Joined.{Deltas, folded, with_site}
+use Rattle.homeo_plan.specs.Joined.{Deltas, join, alone, folded, with_site}
 use Rattle.homeo_plan.specs.declared.forms.Delta.{Delta}
 use Rattle.homeo_plan.specs.declared.forms.Term.{Term}
 use Rattle.homeo_plan.specs.Template.{Clause, Template, PlannedCall}
@@ -55,10 +55,10 @@ zero_keeps k t config i fits =
     record { clauses = zero_keeps_clauses k i t.clauses config fits; freezes = zero_keeps_freezes i t.freezes }
 
 -- ---- one site's deltas alone
-abbrev only : ℕ → Deltas → ℕ → Deltas
+abbrev pub only : ℕ → Deltas → ℕ → Deltas
 only i x = with_site (λ j. no_deltas) i x
 
-only_keeps :
+pub only_keeps :
     (k : ℕ) (t : Template) (config : Config) (i : ℕ) (x : Deltas) → Fits k t.clauses config → Treaty t config i x → (j : ℕ) →
     Treaty t config j (only i x j)
 unfolding words meaning_words
@@ -68,7 +68,7 @@ only_keeps k t config i x fits h j = go (i == j) refl
     go true q = let s : i ≡ j = grind (arith, nat_tests) in subst (λ n. Treaty t config n x) s h
     go false q = zero_keeps k t config j fits
 
-only_here : (i : ℕ) (x : Deltas) → only i x i ≡ x
+pub only_here : (i : ℕ) (x : Deltas) → only i x i ≡ x
 unfolding words meaning_words
 only_here i x =
     let q : (i == i) ≡ true = grind (arith, nat_tests) in ap (λ (v : Bool). let d : Deltas = cond v x no_deltas in d) q
@@ -81,7 +81,7 @@ only_again i x y = fun_ext (λ j. go (i == j))
     go true = refl
     go false = refl
 
-only_folded : (k : ℕ) (b : ℕ → ℤ) (i : ℕ) (x : Deltas) → i < k → folded k b (only i x) ≡ (λ n. b n +ℤ x n)
+pub only_folded : (k : ℕ) (b : ℕ → ℤ) (i : ℕ) (x : Deltas) → i < k → folded k b (only i x) ≡ (λ n. b n +ℤ x n)
 unfolding words meaning_words
 only_folded k b i x lt = fun_ext at
   where
@@ -103,6 +103,47 @@ only_folded k b i x lt = fun_ext at
         (sum_same 0 k _ (λ j. cond (i == j) (x n) (pos 0)) (λ j. swap n j (nat_lt j k) (i == j) refl refl)
         ∙ sum_at i k (λ j. x n) ∙ ap (λ v. cond v (x n) (pos 0)) there)
 
+-- what a site sees of a round is what all sites have where the others' deltas are 0
+pub alone_is_joined : (k : ℕ) (b : ℕ → ℤ) (i : ℕ) (x : Deltas) → i < k → alone b i x ≡ join k b (only i x)
+unfolding words meaning_words
+alone_is_joined k b i x lt = fun_ext at
+  where
+    delta :
+        (n j : ℕ) (u v w : Bool) → (j == i) ≡ u → nat_lt j k ≡ v → (i == j) ≡ w →
+        cond u (x n) (pos 0) ≡ cond v (cond w x no_deltas n) (pos 0)
+    delta n j true true true p q r = refl
+    delta n j true true false p q r = absurd (grind (arith, nat_tests))
+    delta n j true false w p q r = absurd (grind (arith, nat_tests))
+    delta n j false true true p q r = absurd (grind (arith, nat_tests))
+    delta n j false true false p q r = refl
+    delta n j false false w p q r = refl
+
+    at : (p : Location) → alone b i x p ≡ join k b (only i x) p
+    at (TempAt t) = refl
+    at (BaseAt n) = refl
+    at (DeltaAt n j) = delta n j (j == i) (nat_lt j k) (i == j) refl refl refl
+
+-- ---- one local step, whether or not it keeps the treaty
+pub step_within :
+    (x : Schema) (k : ℕ) (b : ℕ → ℤ) (t : Template) (config : Config) (i : ℕ) (d : Deltas) (g : PlannedCall) →
+    Fits k t.clauses config → i < k → CanStep x k b t i g → Treaty t config i d → AllWithin x (λ n. b n +ℤ d n) →
+    AllWithin x (λ n. b n +ℤ local_deltas k b g d n)
+unfolding words meaning_words
+step_within x k b t config i d g fits lt can h within =
+    subst (AllWithin x)
+    (one.after ∙ ap (λ y. folded k b (with_site (only i d) i (local_deltas k b g y))) (only_here i d)
+    ∙ ap (folded k b) (only_again i d (local_deltas k b g d)) ∙ only_folded k b i (local_deltas k b g d) lt)
+    stays
+  where
+    one : StepsFold k b (only i d) g i
+    one =
+        subst (StepsFold k b (only i d) g) can.at_site
+        (stepped k b t config (only i d) fits (λ j l. only_keeps k t config i d fits h j) g can.covers
+        (subst (λ j. j < k) (sym can.at_site) lt) can.whole)
+
+    stays : AllWithin x (λ n. (exec g.command (whole (folded k b (only i d)))).state (BaseAt n))
+    stays = can.stays (folded k b (only i d)) (subst (AllWithin x) (sym (only_folded k b i d lt)) within)
+
 pub own_within :
     (x : Schema) (k : ℕ) (b : ℕ → ℤ) (t : Template) (config : Config) (i : ℕ) (d : Deltas) (gs : List PlannedCall) →
     Fits k t.clauses config → i < k → Each (CanStep x k b t i) gs → Treaty t config i d → AllWithin x (λ n. b n +ℤ d n) →
@@ -110,20 +151,5 @@ pub own_within :
 unfolding words meaning_words
 own_within x k b t config i d [] fits lt can h within keeps = within
 own_within x k b t config i d (g ∷ gs) fits lt can h within keeps =
-    own_within x k b t config i (local_deltas k b g d) gs fits lt can.1 keeps.0 after keeps.1
-  where
-    one : StepsFold k b (only i d) g i
-    one =
-        subst (StepsFold k b (only i d) g) can.0.at_site
-        (stepped k b t config (only i d) fits (λ j l. only_keeps k t config i d fits h j) g can.0.covers
-        (subst (λ j. j < k) (sym can.0.at_site) lt) can.0.whole)
-
-    stays : AllWithin x (λ n. (exec g.command (whole (folded k b (only i d)))).state (BaseAt n))
-    stays = can.0.stays (folded k b (only i d)) (subst (AllWithin x) (sym (only_folded k b i d lt)) within)
-
-    after : AllWithin x (λ n. b n +ℤ local_deltas k b g d n)
-    after =
-        subst (AllWithin x)
-        (one.after ∙ ap (λ y. folded k b (with_site (only i d) i (local_deltas k b g y))) (only_here i d)
-        ∙ ap (folded k b) (only_again i d (local_deltas k b g d)) ∙ only_folded k b i (local_deltas k b g d) lt)
-        stays
+    own_within x k b t config i (local_deltas k b g d) gs fits lt can.1 keeps.0
+    (step_within x k b t config i d g fits lt can.0 h within) keeps.1

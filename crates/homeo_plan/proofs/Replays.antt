@@ -54,7 +54,7 @@ pub planned_covers : (w : s.Workload) (base : List ℤ) (g : PlannedCall) → Me
 unfolding words meaning_words
 planned_covers w base g m = template_covers (sites_of w) (values_of base) (planned w) g m
 
-can_step :
+pub can_step :
     (w : s.Workload) (base : List ℤ) (i : ℕ) (gs : List PlannedCall) → Each (λ g. (g.site ≡ i) × Member g (planned w)) gs →
     Each (CanStep (schema_of w) (sites_of w) (values_of base) (template_at w base) i) gs
 unfolding words meaning_words

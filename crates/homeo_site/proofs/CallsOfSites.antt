@@ -1,0 +1,64 @@
+-- The calls of a site's clients are planned, at that site, and their entries replay as the planned calls do.
+use Rattle.std.proofs.Common.{◌≡◌, ℕ, List, [], ◌∷◌, ◌++◌, map, ℤ, Option, Some, All, refl, sym, ap, ◌∙◌}
+use Rattle.std.specs.Option.{option_map}
+use Rattle.std.proofs.lemmas.List.Elements.{All-head, All-tail}
+use Rattle.homeo_syntax.specs.Source as s
+use Rattle.homeo_meaning.specs.Key.{words as meaning_words}
+use Rattle.homeo_meaning.specs.declared.call.CallId.{CallId}
+use Rattle.homeo_meaning.specs.Schema.{nat_of}
+use Rattle.homeo_meaning.specs.Serial.{values_of}
+use Rattle.homeo_plan.specs.Key.{words as plan_words}
+use Rattle.homeo_plan.specs.Each.{Each, Member}
+use Rattle.homeo_plan.specs.Joined.{Deltas}
+use Rattle.homeo_plan.specs.Planned.{sites_of, planned, planned_at, template_at, policy}
+use Rattle.homeo_plan.specs.Replay.{KeepsAlong}
+use Rattle.homeo_plan.specs.Template.{PlannedCall}
+use Rattle.homeo_plan.proofs.PlannedCalls.{KnownCall, known, planned_is, planned_member}
+use Rattle.homeo_history.specs.Key.{words as history_words}
+use Rattle.homeo_history.specs.History.{Entry}
+use Rattle.homeo_history.specs.Legal.{site_of, IsCallAt}
+use Rattle.homeo_history.specs.Replayed.{prints_at, deltas_after, end_of, MeetsTreaty, KeepsOne, KeepsAll}
+
+same_in_some : (a b : ℕ) → Some a ≡ Some b → a ≡ b
+same_in_some a b e = cc
+
+pub call_site : (w : s.Workload) (i : ℕ) (call : CallId) → IsCallAt w i call → (planned_at w call).site ≡ i
+unfolding plan_words meaning_words history_words
+call_site w i call h =
+    let n : KnownCall w call = known w call h.exists in
+    ap (λ (g : PlannedCall). g.site) (planned_is w call n)
+    ∙ same_in_some _ i (sym (ap (λ o. option_map (λ (client : s.Client). nat_of client.site.value) o) n.found) ∙ h.at_site)
+
+pub planned_calls :
+    (w : s.Workload) (i : ℕ) (es : List Entry) → All (λ e. IsCallAt w i e.call) es →
+    Each (λ g. (g.site ≡ i) × Member g (planned w)) (map (λ e. planned_at w e.call) es)
+unfolding plan_words
+planned_calls w i [] h = tt
+planned_calls w i (e ∷ es) h =
+    let here : IsCallAt w i e.call = All-head (λ (e : Entry). IsCallAt w i e.call) e es h in
+    (
+      (call_site w i e.call here, planned_member w e.call here.exists),
+      planned_calls w i es (All-tail (λ (e : Entry). IsCallAt w i e.call) e es h),
+    )
+
+pub kept_along :
+    (w : s.Workload) (base : List ℤ) (i : ℕ) (x : Deltas) (es : List Entry) → KeepsAll w base i x es →
+    KeepsAlong (sites_of w) (values_of base) (template_at w base) (policy w base) i x (map (λ e. planned_at w e.call) es)
+unfolding plan_words history_words
+kept_along w base i x [] h = tt
+kept_along w base i x (e ∷ es) h = (h.0.keeps, kept_along w base i (deltas_after w base e.call x) es h.1)
+
+-- ---- one more entry
+pub end_more :
+    (w : s.Workload) (base : List ℤ) (es : List Entry) (e : Entry) (x : Deltas) →
+    end_of w base (es ++ e ∷ []) x ≡ deltas_after w base e.call (end_of w base es x)
+unfolding plan_words history_words
+end_more w base [] e x = refl
+end_more w base (d ∷ es) e x = end_more w base es e (deltas_after w base d.call x)
+
+pub keeps_more :
+    (w : s.Workload) (base : List ℤ) (i : ℕ) (es : List Entry) (e : Entry) (x : Deltas) → KeepsAll w base i x es →
+    KeepsOne w base i (end_of w base es x) e → KeepsAll w base i x (es ++ e ∷ [])
+unfolding plan_words history_words
+keeps_more w base i [] e x h one = (one, tt)
+keeps_more w base i (d ∷ es) e x h one = (h.0, keeps_more w base i es e (deltas_after w base d.call x) h.1 one)

@@ -1,0 +1,6 @@
+//! A site in a round: it runs the calls of its own clients by itself while its treaty holds, and says what fails where it
+//! doesn't.
+#![tactic(auto)]
+
+pub mod laws;
+mod own_treaty;
