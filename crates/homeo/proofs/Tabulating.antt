@@ -125,33 +125,33 @@ module _
     (w : s.Workload) (calls : List GroundCall) (commands : List LCommand)
     (grounds_are : map plain_ground calls ≡ grounds w) (transformed_are : map plain_lcommand commands ≡ transformed w)
   where
-  pub as_many : length commands ≡ length calls
-  unfolding plans
-  as_many = omega (
-    arith,
-    length-map calls plain_ground,
-    length-map commands plain_lcommand,
-    ap length grounds_are,
-    ap length transformed_are,
-    length-map (planned w) (shifted (sites_of w)),
-    length-map (grounds w) (planned_call w),
-  )
+    pub as_many : length commands ≡ length calls
+    unfolding plans
+    as_many = omega (
+      arith,
+      length-map calls plain_ground,
+      length-map commands plain_lcommand,
+      ap length grounds_are,
+      ap length transformed_are,
+      length-map (planned w) (shifted (sites_of w)),
+      length-map (grounds w) (planned_call w),
+    )
 
-  pub command_is :
-      (i : ℕ) (g : GroundCall) (c : LCommand) → i < length calls → g ≡ get_or calls i g → c ≡ get_or commands i c →
-      plain_lcommand c ≡ shifted (sites_of w) (planned_call w (plain_ground g))
-  unfolding plans
-  command_is i g c within is_call is_command =
-      let here : plain_ground g ≡ get_or (grounds w) i (plain_ground g) =
-      ap plain_ground is_call ∙ sym (get_or-map plain_ground calls i g (plain_ground g) within) ∙ ap (λ l. get_or l i (plain_ground g)) grounds_are in
-      let few : i < length (grounds w) = omega (arith, within, length-map calls plain_ground, ap length grounds_are) in
-      let few_planned : i < length (planned w) = omega (arith, few, length-map (grounds w) (planned_call w)) in
-      ap plain_lcommand is_command
-      ∙ sym (get_or-map plain_lcommand commands i c (plain_lcommand c) (omega (arith, within, as_many)))
-      ∙ ap (λ l. get_or l i (plain_lcommand c)) transformed_are
-      ∙ get_or-map (shifted (sites_of w)) (planned w) i (planned_call w (plain_ground g)) (plain_lcommand c) few_planned
-      ∙ ap (shifted (sites_of w))
-      (get_or-map (planned_call w) (grounds w) i (plain_ground g) (planned_call w (plain_ground g)) few ∙ ap (planned_call w) (sym here))
+    pub command_is :
+        (i : ℕ) (g : GroundCall) (c : LCommand) → i < length calls → g ≡ get_or calls i g → c ≡ get_or commands i c →
+        plain_lcommand c ≡ shifted (sites_of w) (planned_call w (plain_ground g))
+    unfolding plans
+    command_is i g c within is_call is_command =
+        let here : plain_ground g ≡ get_or (grounds w) i (plain_ground g) =
+        ap plain_ground is_call ∙ sym (get_or-map plain_ground calls i g (plain_ground g) within) ∙ ap (λ l. get_or l i (plain_ground g)) grounds_are in
+        let few : i < length (grounds w) = omega (arith, within, length-map calls plain_ground, ap length grounds_are) in
+        let few_planned : i < length (planned w) = omega (arith, few, length-map (grounds w) (planned_call w)) in
+        ap plain_lcommand is_command
+        ∙ sym (get_or-map plain_lcommand commands i c (plain_lcommand c) (omega (arith, within, as_many)))
+        ∙ ap (λ l. get_or l i (plain_lcommand c)) transformed_are
+        ∙ get_or-map (shifted (sites_of w)) (planned w) i (planned_call w (plain_ground g)) (plain_lcommand c) few_planned
+        ∙ ap (shifted (sites_of w))
+        (get_or-map (planned_call w) (grounds w) i (plain_ground g) (planned_call w (plain_ground g)) few ∙ ap (planned_call w) (sym here))
 
 mutual
   unfolding meanings
