@@ -1,0 +1,5 @@
+pub mod Equations
+pub mod Fitting
+pub mod LiteralSteps
+pub mod Literals
+pub mod Localizing

@@ -1,0 +1,5 @@
+pub mod Indexed
+pub mod Key
+pub mod Localized
+pub mod Touched
+pub mod inner

@@ -1,0 +1,4 @@
+pub mod Alone
+
+pub mod Uses
+pub mod Literals
