@@ -6,6 +6,7 @@ use Rattle.homeo_syntax.specs.Low as l
 use Rattle.homeo_syntax.specs.declared.low.Temp.{Temp}
 use Rattle.homeo_syntax.specs.declared.low.SplitName.{SplitName}
 use Rattle.homeo_effect.specs.Key.{words}
+use Rattle.homeo_effect.specs.Touched.{with_delta, written}
 use Rattle.homeo_effect.specs.Localized.{literal_or, literal_sum, literal_product, summed, multiplied, negated, local_read, local_expr, local_exprs, local_command, localized}
 
 -- ---- phrases
@@ -90,3 +91,30 @@ pub localized_commands : (b : ℕ → ℤ) (i : ℕ) (cs : List l.Command) → l
 unfolding words tree_words
 localized_commands b i [] = refl
 localized_commands b i (c ∷ cs) = ap (l.MoreCommand (local_command b i c)) (localized_commands b i cs)
+
+-- ---- the deltas that a command writes
+pub writes_Skip : written (low_commands (l.Skip ∷ [])) ≡ []
+unfolding words tree_words
+writes_Skip = refl
+
+pub writes_Assign : (t : Temp) (e : l.Expr) → written (low_commands (l.Assign t e ∷ [])) ≡ []
+unfolding words tree_words
+writes_Assign t e = refl
+
+pub writes_Write : (x : SplitName) (e : l.Expr) → written (low_commands (l.Write x e ∷ [])) ≡ with_delta x []
+unfolding words tree_words
+writes_Write x e = refl
+
+pub writes_Print : (e : l.Expr) → written (low_commands (l.Print e ∷ [])) ≡ []
+unfolding words tree_words
+writes_Print e = refl
+
+pub writes_Seq : (cs : l.Commands) → written (low_commands (l.Seq cs ∷ [])) ≡ []
+unfolding words tree_words
+writes_Seq cs = refl
+
+pub writes_If : (test : l.Cond) (c d : l.Command) → written (low_commands (l.If test c d ∷ [])) ≡ []
+unfolding words tree_words
+writes_If test c d = refl
+
+pub ruleset writes = (writes_Skip, writes_Assign, writes_Write, writes_Print, writes_Seq, writes_If)

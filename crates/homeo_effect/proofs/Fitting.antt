@@ -6,6 +6,8 @@ use Rattle.homeo_syntax.specs.Key.{words as tree_words}
 use Rattle.homeo_syntax.specs.LowView.{low_exprs, plain_lexpr}
 use Rattle.homeo_syntax.specs.Low as l
 use Rattle.homeo_syntax.specs.declared.low.LExpr.{LExpr}
+use Rattle.homeo_syntax.specs.declared.low.SplitName.{SplitName}
+use Rattle.homeo_syntax.specs.declared.low.Temp.{Temp}
 use Rattle.homeo_meaning.specs.Key.{words as meaning_words}
 use Rattle.homeo_meaning.specs.LowMeaning.{State, value}
 use Rattle.homeo_meaning.specs.Small.{is_small}
@@ -13,7 +15,7 @@ use Rattle.homeo_split.specs.Key.{words as split_words}
 use Rattle.homeo_split.specs.CanExec.{limit, expr_fits, sum_fits, product_fits}
 use Rattle.homeo_effect.specs.Key.{words}
 use Rattle.homeo_effect.specs.Localized.{local_expr, local_exprs}
-use Rattle.homeo_effect.specs.inner.Alone.{IsAlone, Fits, SumFits, ProductFits, NegationFits}
+use Rattle.homeo_effect.specs.inner.Alone.{IsAlone, Fits, SumFits, ProductFits, NegationFits, CommandFits}
 use Rattle.homeo_effect.proofs.Equations.{local_low_exprs}
 use Rattle.homeo_effect.proofs.Localizing.{same_value, sum_fits_too, product_fits_too}
 
@@ -70,3 +72,16 @@ module _ (b : ℕ → ℤ) (i : ℕ) where
       (f.0,
       subst (λ v. is_small limit (neg_ℤ v) ≡ true) (sym (ap (λ e. value e f.0) h ∙ same_value b i f.0 f.1 e))
       (and_parts (expr_fits limit e f.0) _ f.2).1)
+
+  -- ---- commands
+  pub assigned_fits : (t : Temp) (e : l.Expr) → CommandFits b i (l.Assign t e) → Fits b i e
+  unfolding split_words
+  assigned_fits t e f = f
+
+  pub written_fits : (x : SplitName) (e : l.Expr) → CommandFits b i (l.Write x e) → Fits b i e
+  unfolding split_words
+  written_fits x e f = f
+
+  pub printed_fits : (e : l.Expr) → CommandFits b i (l.Print e) → Fits b i e
+  unfolding split_words
+  printed_fits e f = f

@@ -5,6 +5,7 @@ use Rattle.homeo_syntax.specs.declared.low.SplitName.{SplitName}
 use Rattle.homeo_syntax.specs.declared.low.SplitName.TheVariants.{Whole, Base, Delta}
 use Rattle.homeo_syntax.specs.Low.{Commands, Write, NoCommand, MoreCommand}
 use Rattle.homeo_plan.specs.declared.forms.Delta as forms
+use Rattle.homeo_plan.specs.declared.forms.Term.{Term}
 use Rattle.homeo_plan.specs.Each.{Each}
 use Rattle.homeo_plan.specs.Linear.{delta_of, same_delta}
 use Rattle.homeo_plan.specs.Template.{Clause, Template}
@@ -40,10 +41,15 @@ unfolding words
 numbers_where test n [] = []
 numbers_where test n (x ∷ xs) = cond (test x) (n ∷ numbers_where test (suc n) xs) (numbers_where test (suc n) xs)
 
+-- one of the terms is on one of the deltas
+abbrev pub are_on : List forms.Delta → List Term → Bool
+unfolding words
+are_on ds ts = list_any (λ t. is_among ds t.delta) ts
+
 -- the clause has a term on one of the deltas
 abbrev pub is_touched : List forms.Delta → Clause → Bool
 unfolding words
-is_touched ds c = list_any (λ t. is_among ds t.delta) c.terms
+is_touched ds c = are_on ds c.terms
 
 -- the numbers of the clauses with a term on one of the deltas
 abbrev pub touched_clauses : List forms.Delta → Template → List ℕ

@@ -2,5 +2,9 @@
 //! clauses and freezes of the site's treaty that it touches.
 #![tactic(auto)]
 
+mod commands;
 mod expressions;
+mod index;
+mod uses;
 
+pub use index::TreatyIndex;
