@@ -1,5 +1,5 @@
 -- What stands for each kind of phrase and command at its site, as equations, which code rewrites by.
-use Rattle.std.proofs.Common.{◌≡◌, ℕ, ℤ, pos, Option, Some, None, List, [], ◌∷◌, map, refl, ap}
+use Rattle.std.proofs.Common.{◌≡◌, ℕ, ℤ, pos, Some, None, List, [], ◌∷◌, map, refl, ap}
 use Rattle.homeo_syntax.specs.Key.{words as tree_words}
 use Rattle.homeo_syntax.specs.LowView.{low_exprs, low_commands}
 use Rattle.homeo_syntax.specs.Low as l

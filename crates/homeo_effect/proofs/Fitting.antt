@@ -1,5 +1,5 @@
 -- The numbers of a phrase are small in a state of the site: so are those of its parts, and of its parts at the site.
-use Rattle.std.proofs.Common.{◌≡◌, ℕ, ◌+◌, ◌<◌, ℤ, pos, neg_ℤ, true, All, List, [], ◌∷◌, map, sym, ap, ◌∙◌, subst}
+use Rattle.std.proofs.Common.{◌≡◌, ℕ, ℤ, pos, neg_ℤ, true, All, List, [], ◌∷◌, map, sym, ap, ◌∙◌, subst}
 use Rattle.std.proofs.lemmas.Bool.{and_parts}
 use Rattle.std.proofs.lemmas.List.Elements.{All-nil, All-cons}
 use Rattle.homeo_syntax.specs.Key.{words as tree_words}
@@ -8,13 +8,11 @@ use Rattle.homeo_syntax.specs.Low as l
 use Rattle.homeo_syntax.specs.declared.low.LExpr.{LExpr}
 use Rattle.homeo_syntax.specs.declared.low.SplitName.{SplitName}
 use Rattle.homeo_syntax.specs.declared.low.Temp.{Temp}
-use Rattle.homeo_meaning.specs.Key.{words as meaning_words}
 use Rattle.homeo_meaning.specs.LowMeaning.{State, value}
 use Rattle.homeo_meaning.specs.Small.{is_small}
 use Rattle.homeo_split.specs.Key.{words as split_words}
 use Rattle.homeo_split.specs.CanExec.{limit, expr_fits, sum_fits, product_fits}
-use Rattle.homeo_effect.specs.Key.{words}
-use Rattle.homeo_effect.specs.Localized.{local_expr, local_exprs}
+use Rattle.homeo_effect.specs.Localized.{local_expr}
 use Rattle.homeo_effect.specs.inner.Alone.{IsAlone, Fits, SumFits, ProductFits, NegationFits, CommandFits}
 use Rattle.homeo_effect.proofs.Equations.{local_low_exprs}
 use Rattle.homeo_effect.proofs.Localizing.{same_value, sum_fits_too, product_fits_too}
@@ -53,25 +51,28 @@ module _ (b : ℕ → ℤ) (i : ℕ) where
   pub local_terms_fit :
       (es : List l.Expr) (ds : List l.Expr) → ds ≡ map (local_expr b i) es → Fits b i (l.Sum (low_exprs es)) → SumFits (pos 0) (low_exprs ds)
   unfolding split_words
-  local_terms_fit es ds h f =
-      (f.0,
-      subst (λ ts. sum_fits limit (pos 0) ts f.0 ≡ true) (local_low_exprs b i es ∙ ap low_exprs (sym h))
-      (sum_fits_too b i f.0 f.1 limit (low_exprs es) (pos 0) f.2))
+  local_terms_fit es ds h f = (
+    f.0,
+    subst (λ ts. sum_fits limit (pos 0) ts f.0 ≡ true) (local_low_exprs b i es ∙ ap low_exprs (sym h))
+        (sum_fits_too b i f.0 f.1 limit (low_exprs es) (pos 0) f.2),
+  )
 
   pub local_factors_fit :
       (es : List l.Expr) (ds : List l.Expr) → ds ≡ map (local_expr b i) es → Fits b i (l.Product (low_exprs es)) → ProductFits (pos 1) (low_exprs ds)
   unfolding split_words
-  local_factors_fit es ds h f =
-      (f.0,
-      subst (λ ts. product_fits limit (pos 1) ts f.0 ≡ true) (local_low_exprs b i es ∙ ap low_exprs (sym h))
-      (product_fits_too b i f.0 f.1 limit (low_exprs es) (pos 1) f.2))
+  local_factors_fit es ds h f = (
+    f.0,
+    subst (λ ts. product_fits limit (pos 1) ts f.0 ≡ true) (local_low_exprs b i es ∙ ap low_exprs (sym h))
+        (product_fits_too b i f.0 f.1 limit (low_exprs es) (pos 1) f.2),
+  )
 
   pub local_negation_fits : (e d : l.Expr) → d ≡ local_expr b i e → Fits b i (l.Neg e) → NegationFits d
   unfolding split_words
-  local_negation_fits e d h f =
-      (f.0,
-      subst (λ v. is_small limit (neg_ℤ v) ≡ true) (sym (ap (λ e. value e f.0) h ∙ same_value b i f.0 f.1 e))
-      (and_parts (expr_fits limit e f.0) _ f.2).1)
+  local_negation_fits e d h f = (
+    f.0,
+    subst (λ v. is_small limit (neg_ℤ v) ≡ true) (sym (ap (λ e. value e f.0) h ∙ same_value b i f.0 f.1 e))
+        (and_parts (expr_fits limit e f.0) _ f.2).1,
+  )
 
   -- ---- commands
   pub assigned_fits : (t : Temp) (e : l.Expr) → CommandFits b i (l.Assign t e) → Fits b i e

@@ -4,5 +4,9 @@ pub mod Keeping
 pub mod LiteralSteps
 pub mod Literals
 pub mod Localizing
+pub mod LocalRuns
 pub mod Noting
 pub mod Numbering
+pub mod Touching
+pub mod OwnWrites
+pub mod Untouched

@@ -10,7 +10,7 @@ use Rattle.homeo_meaning.specs.Small.{is_small}
 use Rattle.homeo_split.specs.Key.{words as split_words}
 use Rattle.homeo_split.specs.CanExec.{expr_fits, sum_fits, product_fits}
 use Rattle.homeo_effect.specs.Key.{words}
-use Rattle.homeo_effect.specs.Localized.{summed, multiplied, negated, local_read, local_expr, local_exprs}
+use Rattle.homeo_effect.specs.Localized.{local_read, local_expr, local_exprs}
 use Rattle.homeo_effect.specs.inner.Alone.{IsAlone}
 use Rattle.homeo_effect.proofs.Literals.{summed_value, multiplied_value, negated_value, summed_fits, multiplied_fits, negated_fits}
 

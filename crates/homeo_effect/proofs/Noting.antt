@@ -1,7 +1,6 @@
 -- Tables of numbers by object, as numbers are put in and looked up.
-use Rattle.std.proofs.Common.{◌≡◌, ℕ, suc, ◌==◌, ◌+◌, ◌<◌, ◌≤◌, Bool, true, false, cond, ◌&&◌, List, [], ◌∷◌, ◌++◌, map, set, take, get_or, length, refl, sym, ap, ap₂, ◌∙◌, subst, arith}
+use Rattle.std.proofs.Common.{◌≡◌, ℕ, ◌==◌, ◌+◌, ◌<◌, Bool, true, false, cond, ◌&&◌, List, [], ◌∷◌, ◌++◌, map, set, take, get_or, length, refl, sym, ap, ◌∙◌, subst, arith}
 use Rattle.std.specs.Prelude.{◌||◌}
-use Rattle.std.specs.List.{list_any}
 use Rattle.std.proofs.lemmas.Bool.Decides.{nat_tests}
 use Rattle.std.proofs.lemmas.List.{map-set, map-append, get_or-map, length-map}
 use Rattle.std.proofs.lemmas.List.Folds.{list_any-append, list_any_more}
@@ -9,7 +8,7 @@ use Rattle.homeo_meaning.proofs.AbsentItems.{padded_more, padded_set}
 use Rattle.homeo_plan.specs.Key.{words as plan_words}
 use Rattle.homeo_plan.specs.declared.forms.Delta.{Delta}
 use Rattle.homeo_plan.specs.declared.forms.Term.{Term}
-use Rattle.homeo_plan.specs.Linear.{delta_of, same_delta}
+use Rattle.homeo_plan.specs.Linear.{delta_of}
 use Rattle.homeo_effect.specs.Key.{words}
 use Rattle.homeo_effect.specs.Touched.{is_among, are_on}
 use Rattle.homeo_effect.specs.inner.Uses.{has, at_object}
@@ -89,23 +88,23 @@ join_or false false v e = refl
 module _ (ts : List Term) (k : ℕ) (t d : Term) (lt : k < length ts) (p : t ≡ get_or ts k d) (site number : ℕ) (first before : List (List ℕ))
     (so_far : (x n : ℕ) → has n (at_object x before) ≡ (has n (at_object x first) || (are_on (delta_of x site ∷ []) (take k ts) && (n == number))))
   where
-  pub term_noted :
-      t.delta.site ≡ site → (after : List (List ℕ)) →
-      ((x : ℕ) → at_object x after ≡ cond (t.delta.object == x) (at_object x before ++ number ∷ []) (at_object x before)) → (x n : ℕ) →
-      has n (at_object x after) ≡ (has n (at_object x first) || (are_on (delta_of x site ∷ []) (take (k + 1) ts) && (n == number)))
-  term_noted e after put x n =
-      one_noted t.delta site number x n e (at_object x before) (at_object x after) (put x)
-      ∙ ap (λ v. v || (is_among (delta_of x site ∷ []) t.delta && (n == number))) (so_far x n)
-      ∙ join_or (has n (at_object x first)) (are_on (delta_of x site ∷ []) (take k ts)) (is_among (delta_of x site ∷ []) t.delta) (n == number)
-      ∙ ap (λ v. has n (at_object x first) || (v && (n == number))) (sym (on_more (delta_of x site ∷ []) ts k t d lt p))
+    pub term_noted :
+        t.delta.site ≡ site → (after : List (List ℕ)) →
+        ((x : ℕ) → at_object x after ≡ cond (t.delta.object == x) (at_object x before ++ number ∷ []) (at_object x before)) → (x n : ℕ) →
+        has n (at_object x after) ≡ (has n (at_object x first) || (are_on (delta_of x site ∷ []) (take (k + 1) ts) && (n == number)))
+    term_noted e after put x n =
+        one_noted t.delta site number x n e (at_object x before) (at_object x after) (put x)
+        ∙ ap (λ v. v || (is_among (delta_of x site ∷ []) t.delta && (n == number))) (so_far x n)
+        ∙ join_or (has n (at_object x first)) (are_on (delta_of x site ∷ []) (take k ts)) (is_among (delta_of x site ∷ []) t.delta) (n == number)
+        ∙ ap (λ v. has n (at_object x first) || (v && (n == number))) (sym (on_more (delta_of x site ∷ []) ts k t d lt p))
 
-  pub term_skipped :
-      (t.delta.site == site) ≡ false → (x n : ℕ) →
-      has n (at_object x before) ≡ (has n (at_object x first) || (are_on (delta_of x site ∷ []) (take (k + 1) ts) && (n == number)))
-  term_skipped q x n =
-      so_far x n ∙ with_none (has n (at_object x first)) (are_on (delta_of x site ∷ []) (take k ts)) (n == number)
-      ∙ ap (λ v. has n (at_object x first) || ((are_on (delta_of x site ∷ []) (take k ts) || v) && (n == number))) (sym (there_is t.delta site x q))
-      ∙ ap (λ v. has n (at_object x first) || (v && (n == number))) (sym (on_more (delta_of x site ∷ []) ts k t d lt p))
+    pub term_skipped :
+        (t.delta.site == site) ≡ false → (x n : ℕ) →
+        has n (at_object x before) ≡ (has n (at_object x first) || (are_on (delta_of x site ∷ []) (take (k + 1) ts) && (n == number)))
+    term_skipped q x n =
+        so_far x n ∙ with_none (has n (at_object x first)) (are_on (delta_of x site ∷ []) (take k ts)) (n == number)
+        ∙ ap (λ v. has n (at_object x first) || ((are_on (delta_of x site ∷ []) (take k ts) || v) && (n == number))) (sym (there_is t.delta site x q))
+        ∙ ap (λ v. has n (at_object x first) || (v && (n == number))) (sym (on_more (delta_of x site ∷ []) ts k t d lt p))
 
 pub terms_none : (b e : Bool) → b ≡ (b || (false && e))
 terms_none b e = sym (or_false b)

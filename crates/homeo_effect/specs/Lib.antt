@@ -1,3 +1,4 @@
+pub mod EffectsView
 pub mod Indexed
 pub mod Key
 pub mod Localized

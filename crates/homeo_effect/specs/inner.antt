@@ -1,4 +1,3 @@
 pub mod Alone
-
 pub mod Uses
 pub mod Literals

@@ -90,7 +90,10 @@ fn local_read(base: &[i64], site: u32, name: SplitName) -> LExpr
     match name {
         SplitName::Whole(object) => LExpr::Literal(item_or(base, object as usize, 0)),
         SplitName::Base(object) => LExpr::Literal(item_or(base, object as usize, 0)),
-        SplitName::Delta { object: _, site: at } => {
+        SplitName::Delta {
+            object: _,
+            site: at,
+        } => {
             if at == site {
                 LExpr::Read(name)
             } else {
@@ -162,12 +165,7 @@ pub(crate) fn local_expr(alloc: Global, base: &[i64], site: u32, e: &LExpr) -> R
 
 #[cycle(expressions)]
 #[tactic(auto, using(homeo_syntax::proofs::LowViews::low_phrase_views, crate::proofs::Equations::phrases))]
-fn local_exprs(
-    alloc: Global,
-    base: &[i64],
-    site: u32,
-    es: &[LExpr],
-) -> Result<List<LExpr>, Memory>
+fn local_exprs(alloc: Global, base: &[i64], site: u32, es: &[LExpr]) -> Result<List<LExpr>, Memory>
     requires { All (λ e. Fits (values_of base.now) site (plain_lexpr e)) es.now }
     ensures { IfOk result (λ ds. map plain_lexpr ds.items ≡ map (local_expr (values_of base.now) site) (map plain_lexpr es.now)) }
 {

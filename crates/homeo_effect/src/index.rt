@@ -1,11 +1,13 @@
 //! Which clauses and freezes of a treaty stand on each delta of its site.
 
-ghost use Rattle.std.specs.Prelude.{◌≡◌, ◌+◌, ◌<◌, ◌^◌, length, IfOk};
+ghost use Rattle.std.specs.Prelude.{◌≡◌, ◌+◌, ◌<◌, ◌^◌, length, map, IfOk};
+ghost use Rattle.homeo_syntax.specs.LowView.{low_commands, plain_lcommand};
 ghost use Rattle.homeo_plan.specs.PlanView.{plain_template};
+ghost use Rattle.homeo_effect.specs.Touched.{written, WritesOwn, touched_clauses, touched_freezes};
 
-use crate::uses::{clause_uses, freeze_uses};
+use crate::uses::{clause_uses, freeze_uses, touched};
 use homeo_plan::LocalTreaty;
-use homeo_syntax::Memory;
+use homeo_syntax::{LCommand, List, Memory};
 use std::alloc::Global;
 use std::marker::Model;
 
@@ -48,11 +50,45 @@ impl<'a> TreatyIndex<'a> {
         let all = treaty.template.clauses.as_slice();
         let clauses = clause_uses(alloc, treaty.site, all)?;
         let first = all.len() as u32;
-        let freezes = freeze_uses(alloc, treaty.site, first, treaty.template.freezes.as_slice())?;
+        let freezes = freeze_uses(
+            alloc,
+            treaty.site,
+            first,
+            treaty.template.freezes.as_slice(),
+        )?;
         Ok(TreatyIndex {
             treaty,
             clauses,
             freezes,
         })
+    }
+
+    /// The numbers of the clauses with a term on a delta that commands write: rising. They must write deltas of the
+    /// treaty's site alone.
+    pub(crate) fn clauses_touched(
+        &self,
+        alloc: Global,
+        commands: &[LCommand],
+    ) -> Result<List<u32>, Memory>
+        requires { WritesOwn self.now.site (low_commands (map plain_lcommand commands.now)) }
+        ensures { IfOk result (λ v. v.items ≡
+            touched_clauses (written (low_commands (map plain_lcommand commands.now))) self.now.template) }
+    {
+        let numbers = touched(alloc, self.clauses.as_slice(), commands)?;
+        Ok(List::from_vec(numbers))
+    }
+
+    /// The numbers of the freezes that commands write: rising. They must write deltas of the treaty's site alone.
+    pub(crate) fn freezes_touched(
+        &self,
+        alloc: Global,
+        commands: &[LCommand],
+    ) -> Result<List<u32>, Memory>
+        requires { WritesOwn self.now.site (low_commands (map plain_lcommand commands.now)) }
+        ensures { IfOk result (λ v. v.items ≡
+            touched_freezes (written (low_commands (map plain_lcommand commands.now))) self.now.template) }
+    {
+        let numbers = touched(alloc, self.freezes.as_slice(), commands)?;
+        Ok(List::from_vec(numbers))
     }
 }

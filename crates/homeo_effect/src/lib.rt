@@ -5,6 +5,9 @@
 mod commands;
 mod expressions;
 mod index;
+pub mod laws;
+mod site_effects;
 mod uses;
 
 pub use index::TreatyIndex;
+pub use site_effects::{SiteEffects, effects};

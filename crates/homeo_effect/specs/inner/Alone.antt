@@ -1,5 +1,5 @@
 -- States that a site meets as it runs by itself: the base stays, and the deltas of other sites are 0.
-use Rattle.std.specs.Prelude.{◌≡◌, ℕ, ◌==◌, Bool, true, false, ℤ, pos, neg_ℤ}
+use Rattle.std.specs.Prelude.{◌≡◌, ℕ, ◌==◌, true, false, ℤ, pos, neg_ℤ}
 use Rattle.homeo_syntax.specs.Low.{Expr, Exprs, Command}
 use Rattle.homeo_meaning.specs.LowMeaning.{BaseAt, DeltaAt, State, value}
 use Rattle.homeo_meaning.specs.Small.{is_small}

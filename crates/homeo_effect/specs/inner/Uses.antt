@@ -1,11 +1,10 @@
 -- Tables of numbers by object: which numbers are kept at an object, and what an index over a treaty keeps.
-use Rattle.std.specs.Prelude.{◌≡◌, ℕ, ◌==◌, Bool, List, [], ◌∷◌, length, map, slice_index_or}
+use Rattle.std.specs.Prelude.{◌≡◌, ℕ, ◌==◌, Bool, List, [], ◌∷◌, slice_index_or}
 use Rattle.std.specs.List.{list_any}
 use Rattle.homeo_plan.specs.declared.forms.Delta.{Delta}
 use Rattle.homeo_plan.specs.Linear.{delta_of}
-use Rattle.homeo_plan.specs.Template.{Clause, Template}
-use Rattle.homeo_effect.specs.Touched.{is_touched, is_among, numbers_where, touched_clauses, touched_freezes}
-use Rattle.homeo_effect.specs.Key.{words}
+use Rattle.homeo_plan.specs.Template.{Clause}
+use Rattle.homeo_effect.specs.Touched.{is_touched, is_among, numbers_where}
 
 -- the number is in the list
 abbrev pub has : ℕ → List ℕ → Bool

@@ -1,8 +1,7 @@
 -- The parts of a phrase are smaller than it, and their numbers are small.
-use Rattle.std.proofs.Common.{rules, ◌≡◌, All, map, sym, ap, ◌∙◌, subst}
+use Rattle.std.proofs.Common.{rules, All, map, sym, ap, ◌∙◌, subst}
 use Rattle.std.proofs.lemmas.List.Elements.{All-get_or}
-use Rattle.homeo_syntax.specs.Low as l
-use Rattle.homeo_syntax.specs.LowView.{low_exprs, plain_lexpr}
+use Rattle.homeo_syntax.specs.LowView.{plain_lexpr}
 use Rattle.homeo_syntax.specs.declared.low.LExpr.{the_lemmas}
 use Rattle.homeo_syntax.proofs.LowViews.{low_Sum, low_Product, low_Neg}
 use Rattle.homeo_meaning.specs.Serial.{values_of}
@@ -49,7 +48,8 @@ local_expr-negated-requires t c =
 
 pub local_exprs-local_expr-requires : goal.local_exprs-local_expr-requires
 local_exprs-local_expr-requires t c =
-    let b = values_of c.args.base.now in
-    (search (rules, the_lemmas),
-    subst (λ e. Fits b c.args.site (plain_lexpr e)) (sym c.e-item.is)
-    (All-get_or (λ e. Fits b c.args.site (plain_lexpr e)) c.args.es.now c.loop-e.e-index _ c.loop-e-test.true c.requires))
+    let b = values_of c.args.base.now in (
+      search (rules, the_lemmas),
+      subst (λ e. Fits b c.args.site (plain_lexpr e)) (sym c.e-item.is)
+          (All-get_or (λ e. Fits b c.args.site (plain_lexpr e)) c.args.es.now c.loop-e.e-index _ c.loop-e-test.true c.requires),
+    )

@@ -1,5 +1,5 @@
 -- One more literal, and the first phrase that is none.
-use Rattle.std.proofs.Common.{rules, ◌≡◌, ◌+◌, ◌*ℤ◌, None, true, w64, to_z, map, drop, refl, sym, ap, ◌∙◌, subst}
+use Rattle.std.proofs.Common.{rules, ◌≡◌, ◌+◌, ◌*ℤ◌, true, w64, to_z, map, drop, refl, sym, ap, ◌∙◌, subst}
 use Rattle.homeo_syntax.specs.LowView.{low_exprs, plain_lexpr}
 use Rattle.homeo_meaning.specs.Small.{is_small}
 use Rattle.homeo_meaning.proofs.Numbers.{kept_is}

@@ -1,5 +1,5 @@
 -- One more clause.
-use Rattle.std.proofs.Common.{◌≡◌, ◌+◌, ℕ, map, refl, ap, ◌∙◌}
+use Rattle.std.proofs.Common.{◌+◌, map, refl, ap}
 use Rattle.homeo_effect.specs.Key.{words}
 use Rattle.homeo_effect.specs.inner.Uses.{has, at_object}
 use Rattle.homeo_effect.proofs.Keeping.{clause_kept}

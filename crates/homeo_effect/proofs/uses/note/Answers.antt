@@ -1,6 +1,5 @@
 -- The number stands behind those of its object.
-use Rattle.std.proofs.Common.{◌≡◌, ◌==◌, ◌++◌, [], ◌∷◌, cond, map, ap, ◌∙◌, arith}
-use Rattle.homeo_effect.specs.inner.Uses.{at_object}
+use Rattle.std.proofs.Common.{◌==◌, ◌++◌, [], ◌∷◌, cond, ap, ◌∙◌, arith}
 use Rattle.homeo_effect.proofs.Noting.{noted}
 use Rattle.homeo_effect.proofs.uses.note.Goals as goal
 

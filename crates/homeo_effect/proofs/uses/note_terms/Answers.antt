@@ -1,11 +1,8 @@
 -- One more term.
-use Rattle.std.proofs.Common.{◌≡◌, ℕ, ◌==◌, ◌+◌, ◌&&◌, false, List, [], ◌∷◌, map, get_or, ℤ, pos, refl, ap, ◌∙◌, arith}
-use Rattle.std.specs.Prelude.{◌||◌}
+use Rattle.std.proofs.Common.{◌≡◌, ℕ, ◌==◌, false, List, map, get_or, pos, refl, ap, ◌∙◌, arith}
 use Rattle.std.proofs.lemmas.Bool.Decides.{nat_tests}
 use Rattle.homeo_plan.specs.declared.forms.Term.{Term}
-use Rattle.homeo_plan.specs.Linear.{delta_of}
 use Rattle.homeo_effect.specs.Key.{words}
-use Rattle.homeo_effect.specs.Touched.{are_on}
 use Rattle.homeo_effect.specs.inner.Uses.{has, at_object}
 use Rattle.homeo_effect.proofs.Noting.{terms_none, term_noted, term_skipped}
 use Rattle.homeo_effect.proofs.uses.note_terms.Goals.{then-term-site+in_ok-note, else-term-site}

@@ -1,5 +1,5 @@
 -- One more command, and the numbers in order.
-use Rattle.std.proofs.Common.{◌==◌, map, take, sym, ap, ◌∙◌}
+use Rattle.std.proofs.Common.{◌==◌, map, sym, ap, ◌∙◌}
 use Rattle.std.proofs.lemmas.List.Filters.{dedup_is}
 use Rattle.std.proofs.lemmas.List.Sorted.{list_any-IsPermutation}
 use Rattle.std.proofs.lemmas.Map.Keys.{IsStrictlyIncreasing-dedup, sorted_from_strictly_increasing}
