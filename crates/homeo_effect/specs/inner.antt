@@ -1,3 +1,5 @@
 pub mod Alone
 pub mod Uses
 pub mod Literals
+pub mod Numbered
+pub mod OwnView

@@ -1,41 +1,16 @@
 //! Expressions at a site, on a base that stays.
 
-ghost use Rattle.std.specs.Prelude.{◌≡◌, ◌+ℤ◌, ◌*ℤ◌, neg_ℤ, pos, true, All, map, IfOk};
+ghost use Rattle.std.specs.Prelude.{◌≡◌, pos, All, map, IfOk};
 ghost use Rattle.homeo_syntax.specs.LowView.{low_exprs, plain_lexpr};
 ghost use Rattle.homeo_meaning.specs.Serial.{values_of};
-ghost use Rattle.homeo_meaning.specs.Small.{is_small};
-ghost use Rattle.homeo_split.specs.CanExec.{limit};
 ghost use Rattle.homeo_effect.specs.Localized.{literal_sum, literal_product, summed, multiplied, negated, local_read, local_expr};
 ghost use Rattle.homeo_effect.specs.inner.Literals.{literal_of};
 ghost use Rattle.homeo_effect.specs.inner.Alone.{Fits, SumFits, ProductFits, NegationFits};
 
+use crate::numbers::{minus, plus, times};
 use homeo_meaning::padded::item_or;
 use homeo_syntax::{LExpr, List, Memory, SplitName};
 use std::alloc::Global;
-
-#[tactic(auto, using(homeo_split::proofs::Numbers::sizes))]
-fn plus(a: i64, b: i64) -> i64
-    requires { is_small limit (a +ℤ b) ≡ true }
-    ensures { result ≡ a +ℤ b }
-{
-    a + b
-}
-
-#[tactic(auto, using(homeo_split::proofs::Numbers::sizes))]
-fn times(a: i64, b: i64) -> i64
-    requires { is_small limit (a *ℤ b) ≡ true }
-    ensures { result ≡ a *ℤ b }
-{
-    a * b
-}
-
-#[tactic(auto, using(homeo_split::proofs::Numbers::sizes))]
-fn minus(a: i64) -> i64
-    requires { is_small limit (neg_ℤ a) ≡ true }
-    ensures { result ≡ neg_ℤ a }
-{
-    -a
-}
 
 /// The number that a literal is.
 #[tactic(auto, using(homeo_syntax::proofs::LowViews::low_phrase_views), unfolding(crate::specs::Key::words))]

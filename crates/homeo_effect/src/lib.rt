@@ -6,8 +6,12 @@ mod commands;
 mod expressions;
 mod index;
 pub mod laws;
+mod numbers;
+mod program;
 mod site_effects;
 mod uses;
+mod values;
 
 pub use index::TreatyIndex;
+pub use program::{Program, Step};
 pub use site_effects::{SiteEffects, effects};
