@@ -10,3 +10,5 @@ pub mod Numbering
 pub mod Touching
 pub mod OwnWrites
 pub mod Untouched
+pub mod StepRuns
+pub mod ProgramRuns

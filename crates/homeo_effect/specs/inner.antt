@@ -3,3 +3,4 @@ pub mod Uses
 pub mod Literals
 pub mod Numbered
 pub mod OwnView
+pub mod Places

@@ -8,6 +8,7 @@ mod index;
 pub mod laws;
 mod numbers;
 mod program;
+mod running;
 mod site_effects;
 mod uses;
 mod values;

@@ -4,6 +4,7 @@ ghost use Rattle.std.specs.Prelude.{◌≡◌, ◌+ℤ◌, ◌*ℤ◌, neg_ℤ, 
 ghost use Rattle.homeo_syntax.specs.LowView.{low_exprs, plain_lexpr};
 ghost use Rattle.homeo_meaning.specs.LowMeaning.{TempAt, location_of, value, sum_value, product_value};
 ghost use Rattle.homeo_split.specs.CanExec.{limit, expr_fits, sum_fits, product_fits};
+ghost use Rattle.homeo_effect.specs.OwnState.{own_state};
 ghost use Rattle.homeo_effect.specs.inner.OwnView.{plain_own};
 
 use crate::numbers::{minus, plus, times};
@@ -11,10 +12,11 @@ use homeo_meaning::padded::item_or;
 use homeo_syntax::{LExpr, SplitName, Temp};
 
 /// What a site has as it runs by itself: all else is 0.
-pub(crate) struct Own<'a> {
-    pub(crate) site: u32,
-    pub(crate) deltas: &'a [i64],
-    pub(crate) temporaries: &'a [i64],
+#[derive(Drop)]
+struct Own<'a> {
+    site: u32,
+    deltas: &'a [i64],
+    temporaries: &'a [i64],
 }
 
 #[tactic(auto, unfolding(crate::specs::Key::words))]
@@ -44,10 +46,22 @@ fn read(name: SplitName, own: &Own) -> i64
     }
 }
 
-/// The value of an expression.
+/// The value of an expression on a site's deltas and temporaries.
+pub(crate) fn value_at(e: &LExpr, site: u32, deltas: &[i64], temporaries: &[i64]) -> i64
+    requires { expr_fits limit (plain_lexpr e.now) (own_state site deltas.now temporaries.now) ≡ true }
+    ensures { result ≡ value (plain_lexpr e.now) (own_state site deltas.now temporaries.now) }
+{
+    let own = Own {
+        site,
+        deltas,
+        temporaries,
+    };
+    value(e, &own)
+}
+
 #[cycle(values)]
 #[tactic(auto, using(homeo_syntax::proofs::Measures::low_expr_parts, std::proofs::lemmas::Bool::and_parts, homeo_syntax::proofs::LowViews::low_phrase_views), unfolding(homeo_split::specs::Key::words, homeo_meaning::specs::Key::words))]
-pub(crate) fn value(e: &LExpr, own: &Own) -> i64
+fn value(e: &LExpr, own: &Own) -> i64
     requires { expr_fits limit (plain_lexpr e.now) (plain_own own.now) ≡ true }
     ensures { result ≡ value (plain_lexpr e.now) (plain_own own.now) }
 {
