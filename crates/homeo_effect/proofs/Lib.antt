@@ -1,0 +1,14 @@
+pub mod Equations
+pub mod Fitting
+pub mod Keeping
+pub mod LiteralSteps
+pub mod Literals
+pub mod Localizing
+pub mod LocalRuns
+pub mod Noting
+pub mod Numbering
+pub mod Touching
+pub mod OwnWrites
+pub mod Untouched
+pub mod StepRuns
+pub mod ProgramRuns
