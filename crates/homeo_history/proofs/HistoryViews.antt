@@ -17,7 +17,7 @@ pub plain_Segment : (s : Segment) → plain_segment s ≡ map plain_entry s.entr
 unfolding words
 plain_Segment s = refl
 
-pub plain_Closing : (c : Closing) → plain_closing c ≡ record { site = c.site; entry = plain_entry c.entry }
+pub plain_Closing : (c : Closing) → plain_closing c ≡ record { site = c.site; entry = plain_entry c.entry; broken = c.broken }
 unfolding words
 plain_Closing c = refl
 

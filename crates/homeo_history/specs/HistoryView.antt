@@ -18,7 +18,7 @@ plain_segment s = map plain_entry s.entries.items
 
 abbrev pub plain_closing : Closing → h.Closing
 unfolding words
-plain_closing c = record { site = c.site; entry = plain_entry c.entry }
+plain_closing c = record { site = c.site; entry = plain_entry c.entry; broken = c.broken }
 
 abbrev pub plain_round : Round → h.Round
 unfolding words
