@@ -16,38 +16,15 @@ use Rattle.homeo_meaning.specs.Meaning.{Run, run}
 use Rattle.homeo_meaning.specs.Schema.{Schema, schema_of, nat_of}
 use Rattle.homeo_meaning.specs.Serial.{values_of, values_from, database_like, Outcome, outcome_at, outcome_of, call_of, call_outcome, transaction_named, arguments, numbered}
 use Rattle.homeo_meaning.specs.CallForm.{body_form}
-use Rattle.homeo_meaning.proofs.Outcomes.{transaction_place}
-use Rattle.homeo_meaning.proofs.Stays.{bounds_law, zero_past_end}
-use Rattle.homeo_meaning.proofs.Within.{length_in, all_within, list_in}
+use Rattle.homeo_meaning.proofs.TransactionPlaces.{transaction_place}
+use Rattle.homeo_lform.proofs.Stays.{bounds_law}
+use Rattle.homeo_meaning.proofs.Within.{all_within, list_in}
 use Rattle.homeo_plan.specs.Template.{PlannedCall}
 use Rattle.homeo_plan.specs.Planned.{planned_at}
 use Rattle.homeo_plan.proofs.GroundForms.{form_run}
 use Rattle.homeo_plan.proofs.PlannedCalls.{KnownCall, known, planned_is}
 use Rattle.homeo_history.specs.Legal.{site_of, IsCallAt}
-
--- ---- a database made of values
-value_from : (k n : ℕ) (f : ℕ → ℤ) (i : ℕ) → i < n → slice_index_or (values_from k n f) i (pos 0) ≡ f (k + i)
-unfolding meanings
-value_from k zero f i lt = absurd (omega (arith, lt))
-value_from k (suc n) f zero lt = ap f (omega arith)
-value_from k (suc n) f (suc i) lt = value_from (suc k) n f i (omega (arith, lt)) ∙ ap f (omega arith)
-
-value_past : (k n : ℕ) (f : ℕ → ℤ) (i : ℕ) → n ≤ i → slice_index_or (values_from k n f) i (pos 0) ≡ pos 0
-unfolding meanings
-value_past k zero f i le = refl
-value_past k (suc n) f zero le = absurd (omega (arith, le))
-value_past k (suc n) f (suc i) le = value_past (suc k) n f i (omega (arith, le))
-
--- as many values as a database within bounds has are all of them
-pub values_like : (x : Schema) (db : List ℤ) (f : ℕ → ℤ) → IsWithin x db → AllWithin x f → values_of (database_like db f) ≡ f
-unfolding meanings
-values_like x db f h all = fun_ext (λ n. at n (nat_lt n (length db)) refl)
-  where
-    at : (n : ℕ) (v : Bool) → nat_lt n (length db) ≡ v → slice_index_or (values_from 0 (length db) f) n (pos 0) ≡ f n
-    at n true q = value_from 0 (length db) f n (grind (arith, nat_tests)) ∙ ap f (omega arith)
-    at n false q =
-        let le : length db ≤ n = grind (arith, nat_tests) in
-        value_past 0 (length db) f n le ∙ sym (zero_past_end x f n all (subst (λ m. m ≤ n) (length_in (all_bounds x) db h) le))
+use Rattle.homeo_history.proofs.ValueLists.{values_like}
 
 -- ---- a transaction that may be there
 record OutcomeRuns (w : s.Workload) (o : Option s.Transaction) (args db : List ℤ) : Type 0 where

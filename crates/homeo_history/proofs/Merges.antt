@@ -16,7 +16,6 @@ use Rattle.homeo_meaning.specs.Calls.{CallExists}
 use Rattle.homeo_meaning.specs.LowMeaning.{BaseAt, exec, whole}
 use Rattle.homeo_meaning.specs.Schema.{schema_of}
 use Rattle.homeo_meaning.specs.Serial.{values_of, call_outcome, SerialRun, serial}
-use Rattle.homeo_meaning.proofs.Outcomes.{like_itself}
 use Rattle.homeo_meaning.proofs.Within.{length_in}
 use Rattle.homeo_meaning.specs.Bounds.{all_bounds}
 use Rattle.homeo_plan.specs.Joined.{Deltas, folded}
@@ -24,7 +23,8 @@ use Rattle.homeo_plan.specs.Local.{no_deltas}
 use Rattle.homeo_plan.specs.Planned.{sites_of, planned_at, template_at, policy}
 use Rattle.homeo_plan.specs.Treaty.{Treaty}
 use Rattle.homeo_plan.proofs.Sums.{sum_same, sum_zero}
-use Rattle.homeo_plan.proofs.Stepped.{Stepped, stepped}
+use Rattle.homeo_plan.specs.Soundness.{StepsFold}
+use Rattle.homeo_plan.proofs.Stepped.{stepped}
 use Rattle.homeo_plan.proofs.OwnWithin.{zero_keeps}
 use Rattle.homeo_plan.proofs.Policy.{policy_fits}
 use Rattle.homeo_plan.proofs.Replays.{planned_whole, planned_covers}
@@ -32,9 +32,10 @@ use Rattle.homeo_plan.proofs.PlannedCalls.{planned_member, site_below}
 use Rattle.homeo_history.specs.History.{Entry, Round}
 use Rattle.homeo_history.specs.Merge.{segment_of, put_at, merge, FitsSegments}
 use Rattle.homeo_history.specs.Legal.{IsCallAt}
-use Rattle.homeo_history.specs.Replayed.{prints_at, deltas_after, end_of, KeepsOne, KeepsAll, site_end, fold_of}
+use Rattle.homeo_history.specs.Replayed.{prints_at, deltas_after, end_of, MeetsTreaty, KeepsOne, KeepsAll, site_end, fold_of}
 use Rattle.homeo_history.specs.Laws.{HasSegments, MergeLaw}
 use Rattle.homeo_history.proofs.CallRuns.{call_runs, site_is}
+use Rattle.homeo_history.proofs.ValueLists.{like_itself}
 use Rattle.homeo_history.proofs.Counts.{count_same, count_other}
 
 abbrev Segments : Type 0
@@ -42,7 +43,7 @@ Segments = ℕ → List Entry
 
 module _ (w : s.Workload) (base : List ℤ) (accepted : IsAccepted w) where
   abbrev AllKeep : (ℕ → Deltas) → Type 0
-  AllKeep d = (i : ℕ) → i < sites_of w → Treaty (template_at w base) (policy w base) i (d i)
+  AllKeep d = (i : ℕ) → i < sites_of w → MeetsTreaty w base i (d i)
 
   abbrev fold_at : (ℕ → Deltas) → ℕ → ℤ
   fold_at d = folded (sites_of w) (values_of base) d
@@ -54,11 +55,11 @@ module _ (w : s.Workload) (base : List ℤ) (accepted : IsAccepted w) where
     values : values_of (call_outcome w id db).database ≡ fold_at (put_at d i (deltas_after w base id (d i)))
 
   acted_there : (d : ℕ → Deltas) (id : CallId) (db : List ℤ) → AllKeep d → CallExists w id → IsWithin (schema_of w) db → values_of db ≡ fold_at d → Acted d id db (planned_at w id).site
-  unfolding words
+  unfolding words plans
   acted_there d id db keep exists h at =
       let m = planned_member w id exists in
       let g = planned_at w id in
-      let one : Stepped (sites_of w) (values_of base) d g g.site = stepped (sites_of w) (values_of base) (template_at w base) (policy w base) d g (policy_fits w base accepted) keep (planned_covers w base g m) (site_below w id accepted exists) (planned_whole w g m) in
+      let one : StepsFold (sites_of w) (values_of base) d g g.site = stepped (sites_of w) (values_of base) (template_at w base) (policy w base) d (policy_fits w base accepted) keep g (planned_covers w base g m) (site_below w id accepted exists) (planned_whole w g m) in
       let r = call_runs w id db exists h in
       record {
         prints = r.prints ∙ ap (λ v. (exec g.command (whole v)).prints) at ∙ one.prints;
@@ -134,10 +135,10 @@ module _ (w : s.Workload) (base : List ℤ) (accepted : IsAccepted w) where
             let ne : i ≢ j = grind (arith, nat_tests) in
             sym (count_other i j choice ne) ∙ can.lengths j
 
-        treaties : (j : ℕ) (v : Bool) → (i == j) ≡ v → j < sites_of w → Treaty (template_at w base) (policy w base) j (cond v (deltas_after w base e.call (d i)) (d j))
+        treaties : (j : ℕ) (v : Bool) → (i == j) ≡ v → j < sites_of w → MeetsTreaty w base j (cond v (deltas_after w base e.call (d i)) (d j))
         treaties j true q lt =
             let s : i ≡ j = grind (arith, nat_tests) in
-            subst (λ m. Treaty (template_at w base) (policy w base) m (deltas_after w base e.call (d i))) s kept.0.1.keeps
+            subst (λ m. MeetsTreaty w base m (deltas_after w base e.call (d i))) s kept.0.1.keeps
         treaties j false q lt = can.treaties j lt
 
         entries : (j : ℕ) (v : Bool) → (i == j) ≡ v → Held j (cond v (deltas_after w base e.call (d i)) (d j)) (cond v es (segs j))
