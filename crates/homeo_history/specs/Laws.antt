@@ -1,5 +1,6 @@
--- The laws of merges and of histories.
-use Rattle.std.specs.Prelude.{◌≡◌, ℕ, List, [], ◌∷◌, ℤ, All}
+-- The laws of merges, of histories and of their answers.
+use Rattle.std.specs.Prelude.{◌≡◌, ℕ, List, [], ◌∷◌, map, ℤ, All, slice_index_or}
+use Rattle.std.specs.List.{range_with_len}
 use Rattle.homeo_syntax.specs.Source as s
 use Rattle.homeo_meaning.specs.declared.call.CallId.{CallId}
 use Rattle.homeo_meaning.specs.Acceptance.{IsAccepted}
@@ -12,6 +13,7 @@ use Rattle.homeo_history.specs.Merge.{segment_of}
 use Rattle.homeo_history.specs.Legal.{IsCallAt, IsAtSites, HasMerges, ClosesWith, base_or, AreSerial, IsLegalFrom}
 use Rattle.homeo_history.specs.Replayed.{KeepsAll, fold_of, IsReplayed}
 use Rattle.homeo_history.specs.Follows.{Follows}
+use Rattle.homeo_history.specs.Answers.{answers_of, answers_to, IsAnswerIn}
 
 -- each segment is of calls of clients at its site, which in the replay keep the site's treaty with these prints
 pub record HasSegments (w : s.Workload) (r : Round) : Type 0 where
@@ -49,3 +51,14 @@ abbrev pub OneHistory : Type 0
 OneHistory =
     (w : s.Workload) (start : List ℤ) (counts : List ℕ) (h h' : History) (calls : List CallId) →
     IsLegalFrom w start counts h → IsLegalFrom w start counts h' → Follows w h calls → Follows w h' calls → h ≡ h'
+
+-- the answers to a client are those to its first calls in order, and each is that of its call
+pub record AreAnswered (rounds : List Round) (client count : ℕ) : Type 0 where
+  pub numbers : map (λ a. a.seq) (answers_to client (answers_of 0 rounds)) ≡ range_with_len 1 count
+  pub each : All (IsAnswerIn rounds) (answers_to client (answers_of 0 rounds))
+
+-- so the answers of a legal history
+abbrev pub AnswersStand : Type 0
+AnswersStand =
+    (w : s.Workload) (start : List ℤ) (counts : List ℕ) (h : History) (client : ℕ) → IsLegalFrom w start counts h →
+    AreAnswered h.rounds client (slice_index_or counts client 0)

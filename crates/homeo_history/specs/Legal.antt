@@ -15,10 +15,20 @@ use Rattle.homeo_history.specs.Merge.{segment_of, merged, interleave, FitsSegmen
 use Rattle.homeo_history.specs.Replayed.{IsReplayed}
 
 -- ---- what a workload says of sites and calls
--- the site of a call's client, where there is such a client
+-- a client's site, where there is such a client
+abbrev pub client_site : s.Workload → ℕ → Option ℕ
+unfolding words
+client_site w client = option_map (λ client. nat_of client.site.value) (slice_get w.clients client)
+
+-- the site of a call's client
 abbrev pub site_of : s.Workload → CallId → Option ℕ
 unfolding words
-site_of w call = option_map (λ client. nat_of client.site.value) (slice_get w.clients call.client)
+site_of w call = client_site w call.client
+
+-- the client is at this site
+abbrev pub IsClientAt : s.Workload → ℕ → ℕ → Type 0
+unfolding words
+IsClientAt w site client = client_site w client ≡ Some site
 
 -- how many calls a client has: none where there is no such client
 abbrev pub call_count : s.Workload → ℕ → ℕ
