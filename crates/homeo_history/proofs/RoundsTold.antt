@@ -12,7 +12,7 @@ use Rattle.homeo_history.specs.History.{Entry, Closing, Round}
 use Rattle.homeo_plan.specs.declared.treaty.Broken.{Broken}
 use Rattle.homeo_plan.specs.Local.{no_deltas}
 use Rattle.homeo_history.specs.Merge.{segment_of}
-use Rattle.homeo_history.specs.Replayed.{deltas_after, end_of, finding_at, Breaks, IsReplayed}
+use Rattle.homeo_history.specs.Replayed.{deltas_after, end_of, finding_at, IsReplayed}
 use Rattle.homeo_history.specs.Legal.{site_of, IsCallAt, IsAtSites, entries_of, calls_of, ClosesWith, base_or, AreSerial}
 use Rattle.homeo_history.proofs.Lists.{cons_head, cons_tail, not_nil}
 use Rattle.homeo_history.proofs.Choices.{flat}
