@@ -66,8 +66,7 @@ closing_same w base base' segs segs' a b next other (Some c) (Some d) eb es e m 
     let site : c.site ≡ d.site = some_is c.site d.site (sym p.at_site ∙ ap (site_of w) call ∙ q.at_site) in
     let prints : c.entry.prints ≡ d.entry.prints = ap (λ (o : Outcome). o.prints) outcome in
     let one : found w base segs c.site c.entry.call ≡ found w base' segs' d.site d.entry.call = λ j. found w (eb j) (es j) (site j) (call j) in
-    let broken : c.broken ≡ d.broken = some_is c.broken d.broken (sym f ∙ one ∙ g) in
-    (
+    let broken : c.broken ≡ d.broken = some_is c.broken d.broken (sym f ∙ one ∙ g) in (
       (λ j. Some (record { site = site j; entry = record { call = call j; prints = prints j }; broken = broken j })),
       ap (λ (o : Outcome). o.database) outcome,
     )

@@ -9,10 +9,11 @@ use Rattle.homeo_meaning.specs.Schema.{nat_of}
 use Rattle.homeo_meaning.specs.declared.call.CallId.{CallId}
 use Rattle.homeo_history.specs.Key.{words as histories}
 use Rattle.homeo_history.specs.History.{Entry, Closing, Round}
-use Rattle.homeo_history.specs.Legal.{site_of, IsAtSites, entries_of, numbers_of}
+use Rattle.homeo_history.specs.Legal.{site_of, IsCallAt, IsAtSites, entries_of, numbers_of}
 use Rattle.homeo_report.specs.Key.{words}
 use Rattle.homeo_print.specs.Key.{words as prints}
-use Rattle.homeo_report.specs.Report.{name_text, client_text}
+use Rattle.homeo_print.specs.Names.{name_text}
+use Rattle.homeo_report.specs.Report.{client_text}
 use Rattle.homeo_report.proofs.Splits.{cons_head, cons_tail, not_nil}
 use Rattle.homeo_history.proofs.Choices.{flat}
 
@@ -88,12 +89,12 @@ round_of_clients : (w : s.Workload) (r : Round) → IsAtSites w r → All (IsEnt
 unfolding histories
 round_of_clients w r at =
     All-append (IsEntryOfClient w) (flat r.segments) (option_to_list (option_map (λ (c : Closing). c.entry) r.closing))
-    (segments_of_clients w 0 r.segments (λ i. All-weaker (λ (e : Entry). site_of w e.call ≡ Some i) (λ (e : Entry). site_of w e.call ≡ Some (0 + i)) (λ e at. let m : i ≡ 0 + i = omega arith in at ∙ ap Some m) (slice_index_or r.segments i []) (at.segments i)))
+    (segments_of_clients w 0 r.segments (λ i. All-weaker (λ (e : Entry). IsCallAt w i e.call) (λ (e : Entry). site_of w e.call ≡ Some (0 + i)) (λ e at. let m : i ≡ 0 + i = omega arith in at.at_site ∙ ap Some m) (slice_index_or r.segments i []) (at.segments i)))
     (by r.closing at.closing)
   where
-    by : (c : Option Closing) → IfSome c (λ (c : Closing). site_of w c.entry.call ≡ Some c.site) → All (IsEntryOfClient w) (option_to_list (option_map (λ (c : Closing). c.entry) c))
+    by : (c : Option Closing) → IfSome c (λ (c : Closing). IsCallAt w c.site c.entry.call) → All (IsEntryOfClient w) (option_to_list (option_map (λ (c : Closing). c.entry) c))
     by None h = All-nil (IsEntryOfClient w)
-    by (Some c) h = All-cons (IsEntryOfClient w) c.entry [] (of_client w c.entry.call c.site h) (All-nil (IsEntryOfClient w))
+    by (Some c) h = All-cons (IsEntryOfClient w) c.entry [] (of_client w c.entry.call c.site h.at_site) (All-nil (IsEntryOfClient w))
 
 pub rounds_of_clients : (w : s.Workload) (rounds : List Round) → All (IsAtSites w) rounds → All (IsEntryOfClient w) (flat_map entries_of rounds)
 rounds_of_clients w [] at = All-nil (IsEntryOfClient w)

@@ -7,7 +7,8 @@ use Rattle.homeo_syntax.specs.Source as s
 use Rattle.homeo_history.specs.History.{Entry}
 use Rattle.homeo_report.specs.Key.{words}
 use Rattle.homeo_print.specs.Key.{words as prints}
-use Rattle.homeo_report.specs.Report.{client_text, made_text, prints_text, entry_line}
+use Rattle.homeo_print.specs.Names.{numbers_text}
+use Rattle.homeo_report.specs.Report.{client_text, made_text, entry_line}
 use Rattle.homeo_plan.specs.declared.treaty.Broken.{Broken}
 use Rattle.homeo_report.specs.Report.{closing_heading}
 use Rattle.homeo_report.proofs.Splits.{cut_same, all_append, one_fails}
@@ -25,7 +26,7 @@ pub record HasPlainNames (w : s.Workload) : Type 0 where
 -- ---- the lines without their newlines
 abbrev pub entry_words : s.Workload → Entry → List ℕ
 entry_words w e =
-    client_text w e.call ++ codes " " ++ decimal e.call.seq ++ codes " " ++ made_text w e.call ++ codes ":" ++ prints_text e.prints
+    client_text w e.call ++ codes " " ++ decimal e.call.seq ++ codes " " ++ made_text w e.call ++ codes ":" ++ numbers_text e.prints
 
 abbrev pub closing_words : ℕ → Broken → List ℕ
 closing_words site f =
@@ -64,7 +65,7 @@ module _ (w : s.Workload) (names : HasPlainNames w) (e : Entry) where
       let b : List ℕ = a ++ decimal e.call.seq in
       let c : List ℕ = b ++ codes " " in
       let d : List ℕ = c ++ made_text w e.call in
-      all_append p (d ++ codes ":") (prints_text e.prints)
+      all_append p (d ++ codes ":") (numbers_text e.prints)
       (all_append p d (codes ":")
       (all_append p c (made_text w e.call)
       (all_append p b (codes " ")
@@ -82,23 +83,23 @@ module _ (w : s.Workload) (names : HasPlainNames w) (e : Entry) where
   pub entry_is_entry : is_entry (entry_words w e) ≡ true
   entry_is_entry =
       let before : List ℕ = client_text w e.call ++ codes " " ++ decimal e.call.seq ++ codes " " ++ made_text w e.call in
-      ap (λ l. not (list_all (is_not 58) l)) (append_assoc before (codes ":") (prints_text e.prints))
-      ∙ ap not (one_fails (is_not 58) before 58 (prints_text e.prints) refl)
+      ap (λ l. not (list_all (is_not 58) l)) (append_assoc before (codes ":") (numbers_text e.prints))
+      ∙ ap not (one_fails (is_not 58) before 58 (numbers_text e.prints) refl)
 
 -- the words behind the client's name
 abbrev after_client : s.Workload → Entry → List ℕ
-after_client w e = codes " " ++ decimal e.call.seq ++ codes " " ++ made_text w e.call ++ codes ":" ++ prints_text e.prints
+after_client w e = codes " " ++ decimal e.call.seq ++ codes " " ++ made_text w e.call ++ codes ":" ++ numbers_text e.prints
 
 regroup : (x a b c d e f : List ℕ) → x ++ a ++ b ++ c ++ d ++ e ++ f ≡ x ++ (a ++ b ++ c ++ d ++ e ++ f)
 regroup [] a b c d e f = refl
 regroup (y ∷ x) a b c d e f = ap (λ l. y ∷ l) (regroup x a b c d e f)
 
 client_first : (w : s.Workload) (e : Entry) → entry_words w e ≡ client_text w e.call ++ after_client w e
-client_first w e = regroup (client_text w e.call) (codes " ") (decimal e.call.seq) (codes " ") (made_text w e.call) (codes ":") (prints_text e.prints)
+client_first w e = regroup (client_text w e.call) (codes " ") (decimal e.call.seq) (codes " ") (made_text w e.call) (codes ":") (numbers_text e.prints)
 
 pub entry_has_space : (w : s.Workload) (e : Entry) → has_space (entry_words w e) ≡ true
 entry_has_space w e =
-    ap has_space (client_first w e) ∙ ap not (one_fails (is_not 32) (client_text w e.call) 32 (decimal e.call.seq ++ codes " " ++ made_text w e.call ++ codes ":" ++ prints_text e.prints) refl)
+    ap has_space (client_first w e) ∙ ap not (one_fails (is_not 32) (client_text w e.call) 32 (decimal e.call.seq ++ codes " " ++ made_text w e.call ++ codes ":" ++ numbers_text e.prints) refl)
 
 -- the line of an entry tells the name of its client
 pub client_read : (w : s.Workload) → HasPlainNames w → (e f : Entry) → entry_words w e ≡ entry_words w f → client_text w e.call ≡ client_text w f.call

@@ -17,7 +17,7 @@ use Rattle.homeo_meaning.specs.declared.rules.Item.{Item}
 use Rattle.homeo_meaning.specs.declared.rules.Item.TheVariants as I
 use Rattle.homeo_report.specs.Key.{words}
 use Rattle.homeo_print.specs.Key.{words as prints}
-use Rattle.homeo_report.specs.Report.{name_text}
+use Rattle.homeo_print.specs.Names.{name_text}
 use Rattle.homeo_report.proofs.Splits.{all_weaker}
 use Rattle.homeo_report.proofs.Bytes.{is_not}
 use Rattle.homeo_report.proofs.Lines.{HasPlainNames}

@@ -7,7 +7,9 @@ use Rattle.homeo_syntax.specs.Source as s
 use Rattle.homeo_history.specs.Key.{words as histories}
 use Rattle.homeo_history.specs.History as h
 use Rattle.homeo_history.specs.Legal.{entries_of, calls_of}
-use Rattle.homeo_report.specs.Report.{client_text, object_names, object_lines, totals_line}
+use Rattle.homeo_print.specs.Names.{object_names}
+use Rattle.homeo_report.specs.Key.{words}
+use Rattle.homeo_report.specs.Report.{client_text, object_lines, totals_line}
 use Rattle.homeo_history.specs.History.{Closing, Round, History}
 use Rattle.homeo_report.specs.Report.{report}
 use Rattle.homeo_report.proofs.Splits.{cons_head, cons_tail, not_nil}
@@ -23,14 +25,14 @@ use Rattle.homeo_history.proofs.RoundsTold.{Shape, shape}
 -- what follows the line of the database
 abbrev tail_of : s.Workload → History → List ℕ
 tail_of w h =
-    object_lines (object_names w) h.last ++ totals_line (length h.rounds) (length (calls_of (h.rounds)))
+    object_lines (object_names w) h.last ++ totals_line (length h.rounds) (length (calls_of h.rounds))
 
 report_split : (w : s.Workload) (h : History) → report w h ≡ join (lines_of w 0 h.rounds) ++ (codes "database" ++ 10 ∷ tail_of w h)
 unfolding words
 report_split w h =
     let front : List ℕ = join (lines_of w 0 h.rounds) in
     let objects : List ℕ = object_lines (object_names w) h.last in
-    let totals : List ℕ = totals_line (length h.rounds) (length (calls_of (h.rounds))) in
+    let totals : List ℕ = totals_line (length h.rounds) (length (calls_of h.rounds)) in
     ap (λ t. t ++ codes "database\n" ++ objects ++ totals) (rounds_text_join w h.rounds)
     ∙ ap (λ t. t ++ totals) (append_assoc front (codes "database\n") objects)
     ∙ append_assoc front (codes "database\n" ++ objects) totals
@@ -51,11 +53,11 @@ sizes_kept : (w : s.Workload) (segments : List (List h.Entry)) → map length se
 sizes_kept w [] = refl
 sizes_kept w (s ∷ segments) = λ i. sym (length-map s (entry_words w)) i ∷ sizes_kept w segments i
 
-closed_kept : (w : s.Workload) (c : Option Closing) → is_some (option_map plain_closing c) ≡ is_some (option_map (closing_pair w) c)
+closed_kept : (w : s.Workload) (c : Option Closing) → is_some c ≡ is_some (option_map (closing_pair w) c)
 closed_kept w None = refl
 closed_kept w (Some c) = refl
 
-shape_kept : (w : s.Workload) (r : Round) → shape (r) ≡ block_shape (block w r)
+shape_kept : (w : s.Workload) (r : Round) → shape r ≡ block_shape (block w r)
 unfolding words block_shape
 shape_kept w r = λ i. record { sizes = sizes_kept w r.segments i; closed = closed_kept w r.closing i }
 
@@ -74,7 +76,7 @@ flat_kept : (w : s.Workload) (segments : List (List h.Entry)) → map (entry_wor
 flat_kept w [] = refl
 flat_kept w (s ∷ segments) = map-append (entry_words w) s (flat segments) ∙ ap (λ l. map (entry_words w) s ++ l) (flat_kept w segments)
 
-closing_kept : (w : s.Workload) (c : Option Closing) → map (entry_words w) (option_to_list (option_map (λ (c : h.Closing). c.entry) (option_map plain_closing c))) ≡ option_to_list (option_map (λ c. c.1) (option_map (closing_pair w) c))
+closing_kept : (w : s.Workload) (c : Option Closing) → map (entry_words w) (option_to_list (option_map (λ (c : h.Closing). c.entry) (c))) ≡ option_to_list (option_map (λ c. c.1) (option_map (closing_pair w) c))
 unfolding words
 closing_kept w None = refl
 closing_kept w (Some c) = refl

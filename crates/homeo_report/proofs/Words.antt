@@ -5,12 +5,14 @@ use Rattle.std.specs.Fmt.{signed_decimal, digit_glyph}
 use Rattle.std.specs.List.{list_all}
 use Rattle.std.specs.Option.{option_map_or}
 use Rattle.homeo_syntax.specs.Source as s
-use Rattle.homeo_syntax.specs.declared.phrase.Number.{Number}
+use Rattle.homeo_syntax.specs.declared.phrase.Ident.{Ident}
 use Rattle.homeo_meaning.specs.declared.call.CallId.{CallId}
-use Rattle.homeo_meaning.specs.Serial.{call_of}
+use Rattle.homeo_meaning.specs.Serial.{call_of, arguments}
 use Rattle.homeo_report.specs.Key.{words}
 use Rattle.homeo_print.specs.Key.{words as prints}
-use Rattle.homeo_report.specs.Report.{name_text, more_arguments_text, arguments_text, call_text, client_text, made_text, prints_text}
+use Rattle.homeo_print.specs.Calls.{more_arguments_text, arguments_text, call_text}
+use Rattle.homeo_print.specs.Names.{name_text, numbers_text}
+use Rattle.homeo_report.specs.Report.{client_text, made_text}
 use Rattle.homeo_report.proofs.Splits.{and_both, all_append, all_flat_map}
 use Rattle.homeo_report.proofs.Bytes.{is_not, decimal_all, signed_all, digit_is_not}
 
@@ -46,32 +48,32 @@ module _ (w : s.Workload) (p : ℕ → Bool) (n : PassesNumbers p) (names : (i :
   signed : (z : ℤ) → list_all p (signed_decimal z) ≡ true
   signed z = signed_all p n.digits n.minus z
 
-  more_all : (args : List Number) → list_all p (more_arguments_text args) ≡ true
+  more_all : (args : List ℤ) → list_all p (more_arguments_text args) ≡ true
   unfolding words prints
-  more_all args = all_flat_map p (λ (a : Number). codes ", " ++ signed_decimal a.value) args (λ a. all_append p (codes ", ") (signed_decimal a.value) (and_both (p 44) _ comma (and_both (p 32) _ space refl)) (signed a.value))
+  more_all args = all_flat_map p (λ (a : ℤ). codes ", " ++ signed_decimal a) args (λ a. all_append p (codes ", ") (signed_decimal a) (and_both (p 44) _ comma (and_both (p 32) _ space refl)) (signed a))
 
-  arguments_all : (args : List Number) → list_all p (arguments_text args) ≡ true
+  arguments_all : (args : List ℤ) → list_all p (arguments_text args) ≡ true
   unfolding words prints
   arguments_all [] = refl
-  arguments_all (a ∷ more) = all_append p (signed_decimal a.value) (more_arguments_text more) (signed a.value) (more_all more)
+  arguments_all (a ∷ more) = all_append p (signed_decimal a) (more_arguments_text more) (signed a) (more_all more)
 
-  call_all : (c : s.Call) → list_all p (call_text w c) ≡ true
+  call_all : (name : Ident) (args : List ℤ) → list_all p (call_text w name args) ≡ true
   unfolding words prints
-  call_all c =
-      all_append p (name_text w c.name ++ codes "(" ++ arguments_text c.args) (codes ")")
-      (all_append p (name_text w c.name ++ codes "(") (arguments_text c.args)
-      (all_append p (name_text w c.name) (codes "(") (names c.name.name) (and_both (p 40) _ open_mark refl))
-      (arguments_all c.args))
+  call_all name args =
+      all_append p (name_text w name ++ codes "(" ++ arguments_text args) (codes ")")
+      (all_append p (name_text w name ++ codes "(") (arguments_text args)
+      (all_append p (name_text w name) (codes "(") (names name.name) (and_both (p 40) _ open_mark refl))
+      (arguments_all args))
       (and_both (p 41) _ close_mark refl)
 
   pub made_all : (id : CallId) → list_all p (made_text w id) ≡ true
   unfolding words prints
   made_all id = by (call_of w id)
     where
-      by : (c : Option s.Call) → list_all p (option_map_or (call_text w) c []) ≡ true
+      by : (c : Option s.Call) → list_all p (option_map_or (λ (c : s.Call). call_text w c.name (arguments c)) c []) ≡ true
       by None = refl
-      by (Some c) = call_all c
+      by (Some c) = call_all c.name (arguments c)
 
-  pub prints_all : (prints : List ℤ) → list_all p (prints_text prints) ≡ true
+  pub prints_all : (prints : List ℤ) → list_all p (numbers_text prints) ≡ true
   unfolding words prints
   prints_all prints = all_flat_map p (λ (v : ℤ). codes " " ++ signed_decimal v) prints (λ v. and_both (p 32) _ space (signed v))

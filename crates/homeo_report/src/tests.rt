@@ -7,6 +7,7 @@ ghost use Rattle.homeo_print.specs.Names.{object_names};
 use crate::rounds::report_of;
 use homeo_history::{Closing, Entry, History, Round, Segment};
 use homeo_meaning::{CallId, Database};
+use homeo_plan::Broken;
 use homeo_syntax::{Call, Client, Ident, List, Number, ObjectDecl, Text, Workload};
 use std::alloc::Global;
 use std::test::Fail;
@@ -113,12 +114,17 @@ fn rounds_of_closing_calls(rt: HostRuntime) -> Result<(), Fail> {
     let first = Closing {
         site: 1,
         entry: entry(alloc, 1, &[3])?,
+        broken: Broken {
+            clause: 2,
+            sum: -4,
+            bound: 0,
+        },
     };
     rounds.push(Round::without_entries(alloc, database(alloc, 2)?, 2, Some(first))?)?;
     rounds.push(Round::without_entries(alloc, database(alloc, 3)?, 2, None)?)?;
     let text = told(alloc, rounds, 3, &[])?;
     let want =
-        b"round 0\nsite 0\nsite 1\nclose 1\nb 1 up(): 3\nround 1\nsite 0\nsite 1\ndatabase\nx = 3\nrounds 2 calls 1\n";
+        b"round 0\nsite 0\nsite 1\nclose 1 clause 2 sum -4 bound 0\nb 1 up(): 3\nround 1\nsite 0\nsite 1\ndatabase\nx = 3\nrounds 2 calls 1\n";
     assert_eq!(rt; text.as_slice(), want.as_slice());
     Ok(())
 }
