@@ -13,6 +13,8 @@ use Rattle.homeo_history.specs.Merge.{segment_of, put_at, merge}
 use Rattle.homeo_history.specs.Legal.{site_of}
 use Rattle.homeo_history.specs.Follows.{site_or_zero}
 use Rattle.homeo_core.specs.Key.{words}
+use Rattle.homeo_site.specs.Key.{words as site_words}
+use Rattle.homeo_core.specs.Laws.{FollowsLocal, FollowsCleanup}
 use Rattle.homeo_plan.specs.declared.treaty.Broken.{Broken}
 use Rattle.homeo_history.specs.History.{Round}
 use Rattle.homeo_site.specs.SiteState.{SiteState, local_entry, after_local, renewed, KeepsCall}
@@ -194,14 +196,14 @@ merge_more (i ∷ choice) segments home e lt all picks =
 
 -- ---- rounds
 rounds_more : (w : s.Workload) (closed : List Round) (r r' : Round) (calls : List CallId) (call : CallId) → ((part : List CallId) → FollowsRound w r part → FollowsRound w r' (part ++ call ∷ [])) → FollowsRounds w (closed ++ r ∷ []) calls → FollowsRounds w (closed ++ r' ∷ []) (calls ++ call ∷ [])
-unfolding words
+unfolding histories
 rounds_more w [] r r' calls call more f =
     (f.0 ++ call ∷ [], [], ap (λ cs. cs ++ call ∷ []) (f.2 ∙ ap (λ rest. f.0 ++ rest) f.4 ∙ append-nil f.0) ∙ sym (append-nil (f.0 ++ call ∷ [])), more f.0 f.3, refl)
 rounds_more w (x ∷ closed) r r' calls call more f =
     (f.0, f.1 ++ call ∷ [], ap (λ cs. cs ++ call ∷ []) f.2 ∙ append_assoc f.0 f.1 (call ∷ []), f.3, rounds_more w closed r r' f.1 call more f.4)
 
 rounds_end : (w : s.Workload) (rounds : List Round) (r : Round) (calls : List CallId) → FollowsRound w r [] → FollowsRounds w rounds calls → FollowsRounds w (rounds ++ r ∷ []) calls
-unfolding words
+unfolding histories
 rounds_end w [] r calls none f = ([], [], f, none, refl)
 rounds_end w (x ∷ rounds) r calls none f = (f.0, f.1, f.2, f.3, rounds_end w rounds r f.1 none f.4)
 
@@ -242,17 +244,17 @@ open_more w base sites sites' home e lt is at part f =
           ∙ ap (λ v. map (λ (x : Entry). x.call) (merge (segment_of v) (map (site_or_zero w) (f.before ++ e.call ∷ [])))) (sym is);
     }
 
-pub follows_local : (w : s.Workload) (b : BookState) (sites : List SiteState) (home : ℕ) (x : SiteState) (call : CallId) (calls : List CallId) → AreJoined w b sites → slice_get sites home ≡ Some x → KeepsCall w x call → FollowsRounds w (rounds_of b sites) calls → FollowsRounds w (rounds_of b (slice_set sites home (after_local w x call))) (calls ++ call ∷ [])
-unfolding words
-follows_local w b sites home x call calls joined here event f =
+pub follows_local : FollowsLocal
+unfolding words site_words
+follows_local w b sites home x call calls here at_home f =
     let y : SiteState = after_local w x call in
     let e : Entry = local_entry w x call in
     let lt : home < length (segments_of sites) = subst (λ n. home < n) (sym (length-map sites (λ (z : SiteState). z.segment))) (get_lt sites home x here) in
-    let at : site_or_zero w call ≡ home = site_is w call x.number event.at.at ∙ (joined.round.each home x here).number in
+    let at : site_or_zero w call ≡ home = site_is w call home at_home.at_site in
     rounds_more w b.closed (open_round b.base sites) (open_round b.base (slice_set sites home y)) calls call (open_more w b.base sites (slice_set sites home y) home e lt (segments_extended sites home x y e here refl) at) f
 
 closed_more : (w : s.Workload) (b : BookState) (sites : List SiteState) (home : ℕ) (call : CallId) (broken : Broken) (part : List CallId) → FollowsRound w (open_round b.base sites) part → FollowsRound w (closed_round w b sites home call broken) (part ++ call ∷ [])
-unfolding words
+unfolding words histories
 closed_more w b sites home call broken part f = record {
   before = f.before;
   cut = ap (λ cs. cs ++ call ∷ []) (f.cut ∙ append-nil f.before);
@@ -261,14 +263,14 @@ closed_more w b sites home call broken part f = record {
 }
 
 no_total : (base : List ℤ) (sites : List SiteState) → total (segments_of (map (renewed base) sites)) ≡ 0
-unfolding words
+unfolding words site_words
 no_total base [] = refl
 no_total base (x ∷ sites) =
     let ih : total (segments_of (map (renewed base) sites)) ≡ 0 = no_total base sites in
     let more : total ([] ∷ segments_of (map (renewed base) sites)) ≡ 0 + total (segments_of (map (renewed base) sites)) = sum_more 0 (map length (segments_of (map (renewed base) sites))) in
     omega arith
 
-pub follows_cleanup : (w : s.Workload) (b : BookState) (sites : List SiteState) (home : ℕ) (call : CallId) (broken : Broken) (calls : List CallId) → FollowsRounds w (rounds_of b sites) calls → FollowsRounds w (rounds_of (after_closing w b sites home call broken) (map (renewed (next_base w b sites call)) sites)) (calls ++ call ∷ [])
-unfolding words histories
+pub follows_cleanup : FollowsCleanup
+unfolding words histories site_words
 follows_cleanup w b sites home call broken calls f =
     rounds_end w (b.closed ++ closed_round w b sites home call broken ∷ []) (open_round (next_base w b sites call) (map (renewed (next_base w b sites call)) sites)) (calls ++ call ∷ []) (record { before = []; cut = refl; whole = sym (no_total (next_base w b sites call) sites); by_sites = refl }) (rounds_more w b.closed (open_round b.base sites) (closed_round w b sites home call broken) calls call (closed_more w b sites home call broken) f)

@@ -75,7 +75,7 @@ sum_sites (d ∷ ds) (suc k) n f le same =
 pub gathered_is :
     (w : s.Workload) (r : Round) (ds : List (List ℤ)) → All (λ d. length d ≡ length r.base) ds → length ds ≤ sites_of w →
     ((site : ℕ) → site_end w r site ≡ values_of (slice_index_or ds site [])) → gathered r.base ds ≡ fold_of w r
-unfolding histories
+unfolding histories meanings plans
 gathered_is w r ds long few ends = like_itself r.base (gathered r.base ds) (folded (sites_of w) (values_of r.base) (site_end w r)) (gathered_count r.base ds) values
   where
     inside : (n j : ℕ) (v : Bool) → nat_lt j (sites_of w) ≡ v → cond v (site_end w r j n) (pos 0) ≡ get_or (slice_index_or ds j []) n (pos 0)
@@ -90,7 +90,6 @@ gathered_is w r ds long few ends = like_itself r.base (gathered r.base ds) (fold
         past (x ∷ xs) (suc i) le = past xs i (omega (arith, le))
 
     values : values_of (gathered r.base ds) ≡ folded (sites_of w) (values_of r.base) (site_end w r)
-    unfolding meanings plans
     values = fun_ext (λ n.
         gathered_at r.base ds n long
         ∙ ap (λ z. get_or r.base n (pos 0) +ℤ z)

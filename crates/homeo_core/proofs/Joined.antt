@@ -5,6 +5,8 @@ use Rattle.std.proofs.lemmas.List.{append-nil}
 use Rattle.std.proofs.lemmas.List.Elements.{All-push}
 use Rattle.homeo_syntax.specs.Source as s
 use Rattle.homeo_core.specs.Key.{words}
+use Rattle.homeo_history.specs.Key.{words as histories}
+use Rattle.homeo_meaning.specs.Acceptance.{IsAccepted}
 use Rattle.homeo_plan.specs.Planned.{sites_of}
 use Rattle.homeo_history.specs.Legal.{IsInOrder, IsFramed, IsAtSites, calls_of, RunsTo, IsLegal}
 use Rattle.homeo_history.specs.History.{Round}
@@ -20,7 +22,7 @@ use Rattle.homeo_core.proofs.OpenRound.{open_count, open_calls, open_keeps, open
 
 -- the answers to a client of closed rounds and an open one
 pub with_open : (b : BookState) (sites : List SiteState) (client : ℕ) → answers_to client (answers_of 0 (rounds_of b sites)) ≡ answers_to client (answers_of 0 b.closed) ++ answers_to client (local_answers (length b.closed) 0 (segments_of sites))
-unfolding words
+unfolding words histories
 with_open b sites client =
     let number : 0 + length b.closed ≡ length b.closed = omega arith in
     ap (answers_to client) (answers_of_end 0 b.closed (open_round b.base sites))
@@ -30,7 +32,7 @@ with_open b sites client =
 
 module _ (w : s.Workload) (b : BookState) (sites : List SiteState) (accepted : IsAccepted w) (joined : AreJoined w b sites) where
   framed : IsFramed w (initial w) (rounds_of b sites)
-  unfolding words
+  unfolding words histories
   framed = record {
     starts = first_is b.closed (open_round b.base sites) ∙ ap Some joined.book.starts;
     segments = All-push (λ (r : Round). length r.segments ≡ sites_of w) b.closed (open_round b.base sites) joined.book.segments (open_count w b sites accepted joined);
@@ -38,16 +40,16 @@ module _ (w : s.Workload) (b : BookState) (sites : List SiteState) (accepted : I
   }
 
   pub at_sites : All (IsAtSites w) (rounds_of b sites)
-  unfolding words
+  unfolding words histories
   at_sites =
       All-push (IsAtSites w) b.closed (open_round b.base sites) joined.book.at_sites (record { segments = open_calls w b sites accepted joined; closing = tt })
 
   runs : RunsTo w (open_round b.base sites) (whole b sites)
-  unfolding words
+  unfolding words histories
   runs = record { after = whole b sites; merges = open_merges w b sites accepted joined; closes = refl }
 
   pub is_legal : (counts : List ℕ) → IsInOrder w counts (calls_of (rounds_of b sites)) → IsLegal w counts (history_of b sites)
-  unfolding words
+  unfolding words histories
   is_legal counts in_order = record {
     framed = framed;
     at_sites = at_sites;

@@ -52,7 +52,7 @@ segment_at sites i x e = get_index (segments_of sites) i x.segment [] (get_map (
 pub record IsOn (w : s.Workload) (base : List ℤ) (site : ℕ) (x : SiteState) : Type 0 where
   pub holds : SiteHolds w x
   pub number : x.number ≡ site
-  pub base : x.base ≡ base
+  pub same_base : x.base ≡ base
 
 module _ (w : s.Workload) (base : List ℤ) (sites : List SiteState) (few : length sites ≤ sites_of w) (each : (i : ℕ) (x : SiteState) → slice_get sites i ≡ Some x → IsOn w base i x) where
   pub calls_at : (site : ℕ) → All (λ e. IsCallAt w site e.call) (segment_of (segments_of sites) site)
@@ -64,10 +64,10 @@ module _ (w : s.Workload) (base : List ℤ) (sites : List SiteState) (few : leng
   unfolding histories
   keeps_at =
       each_number (λ i es ds. KeepsAll w base i no_deltas es) sites (λ i. tt) (λ i x e. let at = each i x e in
-      subst (λ y. KeepsAll w y i no_deltas x.segment) at.base (subst (λ n. KeepsAll w x.base n no_deltas x.segment) at.number at.holds.keeps))
+      subst (λ y. KeepsAll w y i no_deltas x.segment) at.same_base (subst (λ n. KeepsAll w x.base n no_deltas x.segment) at.number at.holds.keeps))
 
   pub end_at : (i : ℕ) (x : SiteState) → slice_get sites i ≡ Some x → end_of w base x.segment no_deltas ≡ values_of x.deltas
-  end_at i x e = subst (λ y. end_of w y x.segment no_deltas ≡ values_of x.deltas) (each i x e).base (each i x e).holds.replays
+  end_at i x e = subst (λ y. end_of w y x.segment no_deltas ≡ values_of x.deltas) (each i x e).same_base (each i x e).holds.replays
 
   ends : (site : ℕ) → site_end w (open_round base sites) site ≡ values_of (slice_index_or (deltas_of sites) site [])
   unfolding histories words plans meanings
@@ -78,7 +78,7 @@ module _ (w : s.Workload) (base : List ℤ) (sites : List SiteState) (few : leng
   long =
       All-map (λ d. length d ≡ length base) (λ (x : SiteState). x.deltas) sites
       (all_from_get (λ (x : SiteState). length x.deltas ≡ length base) sites
-      (λ i x e. (each i x e).holds.count ∙ ap length (each i x e).base))
+      (λ i x e. (each i x e).holds.count ∙ ap length (each i x e).same_base))
 
   is_fold : gathered base (deltas_of sites) ≡ fold_of w (open_round base sites)
   unfolding deltas_of words
@@ -111,7 +111,7 @@ module _ (w : s.Workload) (b : BookState) (sites : List SiteState) (accepted : I
 
   on_base : (i : ℕ) (x : SiteState) → slice_get sites i ≡ Some x → IsOn w b.base i x
   on_base i x e =
-      let at = joined.round.each i x e in record { holds = holds_at i x e; number = at.number; base = at.base }
+      let at = joined.round.each i x e in record { holds = holds_at i x e; number = at.number; same_base = at.base }
 
   all_few : length sites ≤ sites_of w
   all_few = omega (arith, joined.round.count)

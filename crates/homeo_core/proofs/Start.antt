@@ -95,7 +95,7 @@ no_calls : (w : s.Workload) → calls_of (rounds_of (first_book w) (first_sites 
 unfolding words histories
 no_calls w = ap (λ es. map (λ (e : Entry). e.call) ((es ++ []) ++ [])) (no_entries w (range_with_len 0 (sites_of w)))
 
-none_each : (w : s.Workload) (cs : List s.Client) (client : ℕ) → slice_index_or (map (λ (c : s.Client). 0) cs) client 0 ≡ 0
+none_each : (w : s.Workload) (cs : List s.Client) (client : ℕ) → let none : List ℕ = map (λ (c : s.Client). 0) cs in slice_index_or none client 0 ≡ 0
 none_each w [] client = refl
 none_each w (c ∷ cs) zero = refl
 none_each w (c ∷ cs) (suc client) = none_each w cs client
