@@ -3,9 +3,8 @@ use Rattle.std.proofs.Common.{◌≡◌}
 use Rattle.homeo_syntax.specs.Source as s
 use Rattle.homeo_meaning.specs.Key.{words as meanings}
 use Rattle.homeo_meaning.specs.Acceptance.{IsAccepted}
-use Rattle.homeo_meaning.specs.Faults.{text_faults, form_faults}
 use Rattle.homeo_meaning.specs.declared.call.Purpose.TheVariants.{Run}
-use Rattle.homeo_meaning.proofs.FaultParts.{none_first, text_parts}
+use Rattle.homeo_meaning.proofs.FaultParts.{parts}
 use Rattle.homeo_meaning.proofs.SoundRelations.{globals-apart}
 use Rattle.homeo_report.specs.Laws.{OneReport}
 use Rattle.homeo_report.proofs.CallsTold.{HasDistinctClients}
@@ -15,7 +14,7 @@ use Rattle.homeo_report.proofs.OneReport.{one_report}
 clients_apart : (w : s.Workload) → IsAccepted w → HasDistinctClients w
 unfolding meanings
 clients_apart w accepted =
-    distinct_clients w accepted.well_formed (globals-apart w (text_parts Run w (none_first (text_faults Run w) (form_faults w) accepted.rules)).names)
+    distinct_clients w accepted.well_formed (globals-apart w (parts Run w accepted.rules).text.names)
 
 pub report_law : OneReport
 report_law w h g accepted = one_report w (plain_names w accepted.well_formed) (clients_apart w accepted) h g

@@ -13,4 +13,5 @@ pub mod Reports
 pub mod RoundLines
 pub mod Splits
 pub mod Texts
+pub mod Totals
 pub mod Words

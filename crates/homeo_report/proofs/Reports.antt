@@ -81,12 +81,12 @@ unfolding words
 closing_kept w None = refl
 closing_kept w (Some c) = refl
 
-entries_kept : (w : s.Workload) (rounds : List Round) → map (entry_words w) (flat_map entries_of (rounds)) ≡ flat_map block_entries (map (block w) rounds)
+entries_kept : (w : s.Workload) (rounds : List Round) → map (entry_words w) (flat_map entries_of rounds) ≡ flat_map block_entries (map (block w) rounds)
 unfolding words histories block_entries
 entries_kept w [] = refl
 entries_kept w (r ∷ rounds) =
-    let last : List h.Entry = option_to_list (option_map (λ (c : h.Closing). c.entry) (option_map plain_closing r.closing)) in
-    map-append (entry_words w) (flat r.segments ++ last) (flat_map entries_of (rounds))
+    let last : List h.Entry = option_to_list (option_map (λ (c : h.Closing). c.entry) r.closing) in
+    map-append (entry_words w) (flat r.segments ++ last) (flat_map entries_of rounds)
     ∙ ap₂ ◌++◌ (map-append (entry_words w) (flat r.segments) last ∙ ap₂ ◌++◌ (flat_kept w r.segments) (closing_kept w r.closing)) (entries_kept w rounds)
 
 clients_read : (w : s.Workload) → HasPlainNames w → (xs ys : List h.Entry) → map (entry_words w) xs ≡ map (entry_words w) ys → map (client_text w) (call_list xs) ≡ map (client_text w) (call_list ys)
@@ -98,8 +98,8 @@ clients_read w names (x ∷ xs) (y ∷ ys) e =
     let rest : map (client_text w) (call_list xs) ≡ map (client_text w) (call_list ys) = clients_read w names xs ys (cons_tail (entry_words w x) (entry_words w y) (map (entry_words w) xs) (map (entry_words w) ys) e) in
     λ i. here i ∷ rest i
 
-pub clients_told : (w : s.Workload) → HasPlainNames w → (rs ks : List Round) → map (block w) rs ≡ map (block w) ks → map (client_text w) (calls_of (rs)) ≡ map (client_text w) (calls_of (ks))
+pub clients_told : (w : s.Workload) → HasPlainNames w → (rs ks : List Round) → map (block w) rs ≡ map (block w) ks → map (client_text w) (calls_of rs) ≡ map (client_text w) (calls_of ks)
 unfolding histories
 clients_told w names rs ks e =
-    clients_read w names (flat_map entries_of (rs)) (flat_map entries_of (ks))
+    clients_read w names (flat_map entries_of rs) (flat_map entries_of ks)
     (entries_kept w rs ∙ ap (flat_map block_entries) e ∙ sym (entries_kept w ks))

@@ -5,7 +5,9 @@ mod calls;
 pub mod laws;
 mod objects;
 mod rounds;
+mod summaries;
 #[cfg(test)]
 mod tests;
 
 pub use rounds::report;
+pub use summaries::summary;
