@@ -1,5 +1,4 @@
 -- The next call of a client, and its site.
-use Rattle.homeo_history.specs.Key.{words as histories}
 use Rattle.std.proofs.Common.{◌<◌, subst}
 use Rattle.homeo_plan.specs.Planned.{sites_of}
 use Rattle.homeo_plan.proofs.PlannedCalls.{site_below as planned_below}

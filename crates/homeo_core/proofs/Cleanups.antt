@@ -1,34 +1,28 @@
 -- A cleanup by a call that breaks its site's treaty leaves book and sites joined, and adds the closing call's answer.
-use Rattle.std.proofs.Common.{◌≡◌, ℕ, zero, suc, ◌+◌, ◌<◌, ◌≤◌, List, [], ◌∷◌, ◌++◌, map, length, Bool, true, false, cond, eqb, Some, refl, sym, ap, subst, ◌∙◌, arith, append_assoc}
-use Rattle.std.specs.Prelude.{ℤ, IsSome, slice_get, slice_set, slice_index_or}
-use mathlib.Core.Logic.{⊎_elim}
-use Rattle.std.specs.List.{range_with_len}
-use Rattle.std.proofs.lemmas.List.{append-nil, map-append, length-map, length_push}
-use Rattle.std.proofs.lemmas.List.Elements.{All-nil, All-push}
-use Rattle.std.proofs.lemmas.Bool.Decides.{nat_tests}
+use Rattle.std.proofs.Common.{◌≡◌, ℕ, suc, ◌+◌, ◌<◌, List, [], ◌∷◌, ◌++◌, map, length, Some, refl, sym, ap, subst, ◌∙◌, arith, append_assoc}
+use Rattle.std.specs.Prelude.{ℤ, IsSome, slice_get}
+use Rattle.std.proofs.lemmas.List.{append-nil, length-map, length_push}
+use Rattle.std.proofs.lemmas.List.Elements.{All-push}
 use Rattle.homeo_syntax.specs.Source as s
 use Rattle.homeo_core.specs.Key.{words}
 use Rattle.homeo_history.specs.Key.{words as histories}
 use Rattle.homeo_site.specs.Key.{words as site_words}
 use Rattle.homeo_meaning.specs.Acceptance.{IsAccepted}
 use Rattle.homeo_meaning.specs.declared.call.CallId.{CallId}
-use Rattle.homeo_history.specs.History.{Entry, Round}
-use Rattle.homeo_meaning.specs.Initial.{initial}
-use Rattle.homeo_meaning.specs.Serial.{call_outcome}
-use Rattle.homeo_history.specs.Legal.{call_count, numbers_of, IsInOrder, IsCallAt, IsAtSites, calls_of, HasMerges, RunsTo, IsClientAt}
+use Rattle.homeo_history.specs.History.{Round}
+use Rattle.homeo_history.specs.Legal.{IsAtSites, HasMerges, RunsTo}
 use Rattle.homeo_history.specs.Merge.{segment_of}
 use Rattle.homeo_plan.specs.Planned.{sites_of}
 use Rattle.homeo_meaning.specs.Bounds.{IsWithin}
 use Rattle.homeo_meaning.specs.Schema.{schema_of}
 use Rattle.homeo_plan.specs.declared.treaty.Broken.{Broken}
-use Rattle.homeo_history.specs.Replayed.{KeepsAll, IsReplayed}
-use Rattle.homeo_history.specs.Answers.{Answer, local_answer, closing_answer, local_answers, answers_of_round, answers_of, answers_to}
-use Rattle.homeo_site.specs.SiteState.{SiteState, SiteHolds, local_entry, after_local, KeepsCall, renewed}
+use Rattle.homeo_history.specs.Replayed.{IsReplayed}
+use Rattle.homeo_history.specs.Answers.{Answer, closing_answer, local_answers, answers_of_round, answers_of, answers_to}
+use Rattle.homeo_site.specs.SiteState.{SiteState, SiteHolds, renewed}
 use Rattle.homeo_core.specs.Core.{BookState, BookHolds, IsInRound, AreJoined, segments_of, whole, rounds_of}
-use Rattle.homeo_core.specs.Events.{BreaksCall, closing_of, closed_round, next_base, after_closing, OneMore, IsAfter}
-use Rattle.homeo_history.proofs.Lists.{get_set_same, set_cases, length_set, index_set_same, index_set_other, get_map_back, get_lt, All-get, all_from_get, range_more}
+use Rattle.homeo_core.specs.Events.{BreaksCall, closing_of, closed_round, next_base, after_closing, IsAfter}
+use Rattle.homeo_history.proofs.Lists.{get_map_back, get_lt, all_from_get}
 use Rattle.homeo_history.proofs.AnswerLists.{answers_to_more, answers_of_end}
-use Rattle.homeo_history.proofs.ClientAnswers.{same_client, client_at, none_to}
 use Rattle.homeo_history.proofs.Rounds.{serial_end, base_or_end}
 use Rattle.homeo_meaning.specs.Serial.{values_of}
 use Rattle.homeo_plan.specs.Local.{no_deltas}
@@ -36,10 +30,8 @@ use Rattle.homeo_history.specs.Replayed.{deltas_after, end_of, finding_at}
 use Rattle.homeo_history.proofs.CallRuns.{call_runs}
 use Rattle.homeo_site.proofs.SitesHold.{begun_holds}
 use Rattle.homeo_core.specs.Laws.{CoreCleanup}
-use Rattle.homeo_core.specs.Core.{open_round}
-use Rattle.homeo_core.proofs.OneAnswer.{not_same, not_to, others_stay, one_more_entry}
 use Rattle.homeo_core.proofs.Joined.{with_open}
-use Rattle.homeo_core.proofs.OpenRound.{segment_at, base_within, open_calls, open_keeps, open_end, open_count, open_merges, whole_within, own_local}
+use Rattle.homeo_core.proofs.OpenRound.{segment_at, open_calls, open_keeps, open_end, open_count, open_merges, whole_within}
 
 -- ---- the cleanup event
 none_open : (client round k : ℕ) (base : List ℤ) (sites : List SiteState) → answers_to client (local_answers round k (segments_of (map (renewed base) sites))) ≡ []

@@ -17,9 +17,9 @@ use Rattle.homeo_site.specs.Key.{words as site_words}
 use Rattle.homeo_core.specs.Laws.{FollowsLocal, FollowsCleanup}
 use Rattle.homeo_plan.specs.declared.treaty.Broken.{Broken}
 use Rattle.homeo_history.specs.History.{Round}
-use Rattle.homeo_site.specs.SiteState.{SiteState, local_entry, after_local, renewed, KeepsCall}
-use Rattle.homeo_core.specs.Core.{BookState, AreJoined, segments_of, open_round, rounds_of}
-use Rattle.homeo_core.specs.Events.{next_base, closed_round, after_closing}
+use Rattle.homeo_site.specs.SiteState.{SiteState, local_entry, after_local, renewed}
+use Rattle.homeo_core.specs.Core.{BookState, segments_of, open_round}
+use Rattle.homeo_core.specs.Events.{next_base, closed_round}
 use Rattle.homeo_history.specs.Follows.{FollowsRound, FollowsRounds}
 use Rattle.homeo_history.proofs.Lists.{get_lt}
 

@@ -3,7 +3,7 @@ use Rattle.homeo_meaning.specs.Key.{words as meanings}
 use Rattle.homeo_plan.specs.Key.{words as plans}
 use Rattle.homeo_history.specs.Key.{words as histories}
 use Rattle.homeo_core.specs.Key.{words}
-use Rattle.std.proofs.Common.{◌≡◌, ℕ, zero, suc, ◌+◌, ◌<◌, ◌≤◌, nat_lt, Bool, true, false, cond, List, [], ◌∷◌, length, get_or, ℤ, pos, ◌+ℤ◌, refl, sym, ap, ◌∙◌, subst, arith}
+use Rattle.std.proofs.Common.{◌≡◌, ℕ, zero, suc, ◌≤◌, nat_lt, Bool, true, false, cond, List, [], ◌∷◌, length, get_or, ℤ, pos, ◌+ℤ◌, refl, sym, ap, ◌∙◌, subst, arith}
 use Rattle.std.specs.Prelude.{All, slice_index_or}
 use mathlib.Core.Path.{fun_ext}
 use Rattle.std.proofs.lemmas.Int.{ints}
@@ -14,7 +14,7 @@ use Rattle.homeo_meaning.specs.Serial.{values_of}
 use Rattle.homeo_plan.specs.Joined.{Deltas, folded}
 use Rattle.homeo_plan.specs.Planned.{sites_of}
 use Rattle.homeo_plan.specs.Split.{sum_from}
-use Rattle.homeo_plan.proofs.Sums.{sum_same, sum_next}
+use Rattle.homeo_plan.proofs.Sums.{sum_next}
 use Rattle.homeo_history.specs.History.{Round}
 use Rattle.homeo_history.specs.Replayed.{site_end, fold_of}
 use Rattle.homeo_history.proofs.ValueLists.{like_itself}

@@ -1,40 +1,27 @@
 -- A call that keeps its site's treaty leaves book and sites joined, and adds its answer.
-use Rattle.std.proofs.Common.{◌≡◌, ℕ, zero, suc, ◌+◌, ◌<◌, ◌≤◌, List, [], ◌∷◌, ◌++◌, map, length, Bool, true, false, cond, eqb, Some, refl, sym, ap, subst, ◌∙◌, arith, append_assoc}
-use Rattle.std.specs.Prelude.{ℤ, IsSome, slice_get, slice_set, slice_index_or}
+use Rattle.std.proofs.Common.{◌≡◌, ℕ, List, [], ◌∷◌, ◌++◌, map, length, Bool, true, false, eqb, Some, refl, sym, ap, subst, ◌∙◌, append_assoc}
+use Rattle.std.specs.Prelude.{slice_get, slice_set}
 use mathlib.Core.Logic.{⊎_elim}
-use Rattle.std.specs.List.{range_with_len}
-use Rattle.std.proofs.lemmas.List.{append-nil, map-append, length-map, length_push}
-use Rattle.std.proofs.lemmas.List.Elements.{All-nil, All-push}
-use Rattle.std.proofs.lemmas.Bool.Decides.{nat_tests}
+use Rattle.std.proofs.lemmas.List.{append-nil}
 use Rattle.homeo_syntax.specs.Source as s
 use Rattle.homeo_core.specs.Key.{words}
 use Rattle.homeo_history.specs.Key.{words as histories}
 use Rattle.homeo_site.specs.Key.{words as site_words}
 use Rattle.homeo_meaning.specs.Acceptance.{IsAccepted}
 use Rattle.homeo_meaning.specs.declared.call.CallId.{CallId}
-use Rattle.homeo_history.specs.History.{Entry, Round}
-use Rattle.homeo_meaning.specs.Initial.{initial}
-use Rattle.homeo_meaning.specs.Serial.{call_outcome}
-use Rattle.homeo_history.specs.Legal.{call_count, numbers_of, IsInOrder, IsCallAt, IsAtSites, calls_of, HasMerges, RunsTo, IsClientAt}
-use Rattle.homeo_history.specs.Merge.{segment_of}
-use Rattle.homeo_plan.specs.Planned.{sites_of}
-use Rattle.homeo_meaning.specs.Bounds.{IsWithin}
-use Rattle.homeo_meaning.specs.Schema.{schema_of}
-use Rattle.homeo_plan.specs.declared.treaty.Broken.{Broken}
-use Rattle.homeo_history.specs.Replayed.{KeepsAll, IsReplayed}
-use Rattle.homeo_history.specs.Answers.{Answer, local_answer, closing_answer, local_answers, answers_of_round, answers_of, answers_to}
-use Rattle.homeo_site.specs.SiteState.{SiteState, SiteHolds, local_entry, after_local, KeepsCall, renewed}
-use Rattle.homeo_core.specs.Core.{BookState, BookHolds, IsInRound, AreJoined, segments_of, whole, rounds_of}
-use Rattle.homeo_core.specs.Events.{BreaksCall, closing_of, closed_round, next_base, after_closing, OneMore, IsAfter}
-use Rattle.homeo_history.proofs.Lists.{get_set_same, set_cases, length_set, index_set_same, index_set_other, get_map_back, get_lt, All-get, all_from_get, range_more}
-use Rattle.homeo_history.proofs.AnswerLists.{answers_to_more, answers_of_end}
-use Rattle.homeo_history.proofs.ClientAnswers.{same_client, client_at, none_to}
-use Rattle.homeo_history.proofs.Rounds.{serial_end, base_or_end}
+use Rattle.homeo_history.specs.History.{Entry}
+use Rattle.homeo_history.specs.Legal.{IsCallAt, IsClientAt}
+use Rattle.homeo_history.specs.Answers.{local_answer, local_answers, answers_of, answers_to}
+use Rattle.homeo_site.specs.SiteState.{SiteState, SiteHolds, local_entry, after_local, KeepsCall}
+use Rattle.homeo_core.specs.Core.{BookState, IsInRound, AreJoined, segments_of}
+use Rattle.homeo_core.specs.Events.{IsAfter}
+use Rattle.homeo_history.proofs.Lists.{get_set_same, set_cases, length_set, All-get, all_from_get}
+use Rattle.homeo_history.proofs.ClientAnswers.{same_client, client_at}
 use Rattle.homeo_site.proofs.SitesHold.{local_holds}
 use Rattle.homeo_core.specs.Laws.{CoreLocal}
 use Rattle.homeo_core.proofs.OneAnswer.{not_same, not_to, others_stay, one_more_entry}
 use Rattle.homeo_core.proofs.Joined.{with_open}
-use Rattle.homeo_core.proofs.OpenRound.{segment_at, base_within, open_calls, open_keeps, open_end, open_count, open_merges, whole_within, own_local}
+use Rattle.homeo_core.proofs.OpenRound.{own_local}
 
 -- ---- the local event
 module _ (w : s.Workload) (b : BookState) (sites : List SiteState) (home : ℕ) (x : SiteState) (call : CallId) (accepted : IsAccepted w) (joined : AreJoined w b sites) (here : slice_get sites home ≡ Some x) (at_home : IsCallAt w home call) (keeps : KeepsCall w x call) where

@@ -1,35 +1,18 @@
 -- The answers to a client where a site has one more entry.
-use Rattle.std.proofs.Common.{◌≡◌, ℕ, zero, suc, ◌+◌, ◌<◌, ◌≤◌, List, [], ◌∷◌, ◌++◌, map, length, Bool, true, false, cond, eqb, Some, refl, sym, ap, subst, ◌∙◌, arith, append_assoc}
-use Rattle.std.specs.Prelude.{ℤ, IsSome, slice_get, slice_set, slice_index_or}
-use mathlib.Core.Logic.{⊎_elim}
-use Rattle.std.specs.List.{range_with_len}
-use Rattle.std.proofs.lemmas.List.{append-nil, map-append, length-map, length_push}
-use Rattle.std.proofs.lemmas.List.Elements.{All-nil, All-push}
+use Rattle.std.proofs.Common.{◌≡◌, ℕ, zero, suc, List, [], ◌∷◌, ◌++◌, map, false, eqb, Some, refl, sym, ap, subst, ◌∙◌, arith}
+use Rattle.std.specs.Prelude.{slice_get, slice_set}
+use Rattle.std.proofs.lemmas.List.{map-append}
 use Rattle.std.proofs.lemmas.Bool.Decides.{nat_tests}
-use Rattle.homeo_syntax.specs.Source as s
 use Rattle.homeo_core.specs.Key.{words}
 use Rattle.homeo_history.specs.Key.{words as histories}
-use Rattle.homeo_site.specs.Key.{words as site_words}
-use Rattle.homeo_meaning.specs.Acceptance.{IsAccepted}
-use Rattle.homeo_meaning.specs.declared.call.CallId.{CallId}
 use Rattle.homeo_history.specs.History.{Entry, Round}
-use Rattle.homeo_meaning.specs.Initial.{initial}
-use Rattle.homeo_meaning.specs.Serial.{call_outcome}
-use Rattle.homeo_history.specs.Legal.{call_count, numbers_of, IsInOrder, IsCallAt, IsAtSites, calls_of, HasMerges, RunsTo, IsClientAt}
-use Rattle.homeo_history.specs.Merge.{segment_of}
-use Rattle.homeo_plan.specs.Planned.{sites_of}
-use Rattle.homeo_meaning.specs.Bounds.{IsWithin}
-use Rattle.homeo_meaning.specs.Schema.{schema_of}
-use Rattle.homeo_plan.specs.declared.treaty.Broken.{Broken}
-use Rattle.homeo_history.specs.Replayed.{KeepsAll, IsReplayed}
-use Rattle.homeo_history.specs.Answers.{Answer, local_answer, closing_answer, local_answers, answers_of_round, answers_of, answers_to}
-use Rattle.homeo_site.specs.SiteState.{SiteState, SiteHolds, local_entry, after_local, KeepsCall, renewed}
-use Rattle.homeo_core.specs.Core.{BookState, BookHolds, IsInRound, AreJoined, segments_of, whole, rounds_of}
-use Rattle.homeo_core.specs.Events.{BreaksCall, closing_of, closed_round, next_base, after_closing, OneMore, IsAfter}
-use Rattle.homeo_history.proofs.Lists.{get_set_same, set_cases, length_set, index_set_same, index_set_other, get_map_back, get_lt, All-get, all_from_get, range_more}
-use Rattle.homeo_history.proofs.AnswerLists.{answers_to_more, answers_of_end, called_all, numbers_called}
-use Rattle.homeo_history.proofs.ClientAnswers.{same_client, client_at, none_to}
-use Rattle.homeo_history.proofs.Rounds.{serial_end, base_or_end}
+use Rattle.homeo_history.specs.Legal.{numbers_of, calls_of}
+use Rattle.homeo_history.specs.Answers.{Answer, local_answer, local_answers, answers_of, answers_to}
+use Rattle.homeo_site.specs.SiteState.{SiteState}
+use Rattle.homeo_core.specs.Core.{segments_of}
+use Rattle.homeo_history.proofs.Lists.{all_from_get}
+use Rattle.homeo_history.proofs.AnswerLists.{answers_to_more, called_all, numbers_called}
+use Rattle.homeo_history.proofs.ClientAnswers.{none_to}
 
 pub not_same : (m n : ℕ) → m ≡ n → eqb m n ≡ false → ⊥
 not_same m n h f = grind (arith, nat_tests)

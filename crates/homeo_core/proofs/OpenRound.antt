@@ -3,9 +3,9 @@ use Rattle.homeo_meaning.specs.Key.{words as meanings}
 use Rattle.homeo_plan.specs.Key.{words as plans}
 use Rattle.homeo_history.specs.Key.{words as histories}
 use Rattle.homeo_core.specs.Key.{words}
-use Rattle.std.proofs.Common.{◌≡◌, ℕ, zero, suc, ◌<◌, ◌≤◌, List, [], ◌∷◌, map, take, length, ℤ, Some, refl, sym, ap, subst, ◌∙◌, arith}
+use Rattle.std.proofs.Common.{◌≡◌, ℕ, zero, suc, ◌≤◌, List, [], ◌∷◌, map, take, length, ℤ, Some, refl, sym, ap, subst, ◌∙◌, arith}
 use Rattle.std.specs.Prelude.{All, slice_get, slice_index_or}
-use Rattle.std.proofs.lemmas.List.{length-map, length-take-le}
+use Rattle.std.proofs.lemmas.List.{length-map}
 use Rattle.std.proofs.lemmas.List.Elements.{All-nil, All-map}
 use Rattle.homeo_syntax.specs.Source as s
 use Rattle.homeo_meaning.specs.Acceptance.{IsAccepted}
@@ -23,7 +23,7 @@ use Rattle.homeo_history.specs.Answers.{local_answer, local_answers, answers_to}
 use Rattle.homeo_history.specs.Laws.{HasSegments}
 use Rattle.homeo_history.proofs.ClientAnswers.{at_own_site}
 use Rattle.homeo_history.proofs.Folds.{fold_within}
-use Rattle.homeo_history.proofs.Lists.{get_lt, get_some, get_index, get_map, All-get, all_from_get}
+use Rattle.homeo_history.proofs.Lists.{get_some, get_index, get_map, All-get, all_from_get}
 use Rattle.homeo_history.proofs.Merges.{merge_law}
 use Rattle.homeo_site.specs.SiteState.{SiteState, SiteHolds}
 use Rattle.homeo_core.specs.Core.{BookState, AreJoined, gathered, whole, segments_of, open_round}

@@ -1,22 +1,20 @@
 -- Book and sites at the start.
-use Rattle.homeo_meaning.specs.Key.{words as meanings}
 use Rattle.homeo_history.specs.Key.{words as histories}
 use Rattle.homeo_site.specs.Key.{words as site_words}
 use Rattle.homeo_core.specs.Key.{words}
-use Rattle.std.proofs.Common.{◌≡◌, ℕ, zero, suc, ◌+◌, ◌<◌, ◌≤◌, List, [], ◌∷◌, ◌++◌, map, length, Some, refl, sym, ap, subst, ◌∙◌, arith}
-use Rattle.std.specs.Prelude.{IsSome, All, slice_get, slice_index_or, sum}
+use Rattle.std.proofs.Common.{◌≡◌, ℕ, zero, suc, ◌+◌, ◌<◌, List, [], ◌∷◌, ◌++◌, map, length, Some, refl, sym, ap, subst, ◌∙◌, arith}
+use Rattle.std.specs.Prelude.{IsSome, slice_get, slice_index_or, sum}
 use Rattle.std.specs.List.{range_with_len, flat_map}
 use Rattle.std.proofs.lemmas.List.{length-map}
 use Rattle.std.proofs.lemmas.List.Sums.{sum_by-cons}
 use Rattle.std.proofs.lemmas.List.Elements.{All-nil}
 use Rattle.homeo_syntax.specs.Source as s
-use Rattle.homeo_meaning.specs.declared.call.CallId.{CallId}
 use Rattle.homeo_meaning.specs.Acceptance.{IsAccepted}
 use Rattle.homeo_meaning.specs.Initial.{initial}
 use Rattle.homeo_meaning.proofs.Sound.{sound}
 use Rattle.homeo_plan.specs.Planned.{sites_of}
 use Rattle.homeo_history.specs.History.{Entry, Round}
-use Rattle.homeo_history.specs.Legal.{IsAtSites, IsInOrder, call_count, calls_of, entries_of, numbers_of}
+use Rattle.homeo_history.specs.Legal.{IsAtSites, IsInOrder, calls_of}
 use Rattle.homeo_history.specs.Replayed.{IsReplayed}
 use Rattle.homeo_history.specs.Follows.{FollowsRounds}
 use Rattle.homeo_history.proofs.Lists.{get_lt, get_map_back, all_from_get}
@@ -24,7 +22,7 @@ use Rattle.homeo_site.specs.SiteState.{SiteState, SiteHolds, begun}
 use Rattle.homeo_site.proofs.SitesHold.{begun_holds}
 use Rattle.homeo_core.specs.Core.{BookHolds, IsInRound, AreJoined, segments_of, rounds_of}
 use Rattle.homeo_core.specs.Events.{first_book, first_sites}
-use Rattle.homeo_core.specs.Laws.{IsStart, Starting}
+use Rattle.homeo_core.specs.Laws.{Starting}
 
 range_length : (a n : ℕ) → length (range_with_len a n) ≡ n
 range_length a zero = refl
