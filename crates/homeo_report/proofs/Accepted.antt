@@ -1,5 +1,4 @@
 -- Of an accepted workload a report tells the history.
-use Rattle.std.proofs.Common.{◌≡◌}
 use Rattle.homeo_syntax.specs.Source as s
 use Rattle.homeo_meaning.specs.Key.{words as meanings}
 use Rattle.homeo_meaning.specs.Acceptance.{IsAccepted}

@@ -1,5 +1,5 @@
 -- A round's entries are those of its segments, and then that of its closing call.
-use Rattle.std.proofs.Common.{◌≡◌, length, ap, arith}
+use Rattle.std.proofs.Common.{length, ap, arith}
 use Rattle.std.specs.List.{flat_map}
 use Rattle.std.proofs.lemmas.List.{length_push}
 use Rattle.homeo_history.specs.HistoryView.{plain_entry, plain_segment}
