@@ -1,0 +1,11 @@
+pub mod Calls
+pub mod Cleanups
+pub mod Following
+pub mod Gathered
+pub mod Gathering
+pub mod Joined
+pub mod LocalCalls
+pub mod OneAnswer
+pub mod OpenRound
+pub mod Order
+pub mod Start
