@@ -1,4 +1,5 @@
 pub mod CallsOfSites
+pub mod FailureSteps
 pub mod FirstFailures
 pub mod Limits
 pub mod LocalSteps
