@@ -7,6 +7,7 @@ pub mod OrderedAtoms
 pub mod OwnSums
 pub mod OwnTerms
 pub mod SitesHold
+pub mod StepFindings
 pub mod StepsRun
 pub mod TemplateClauses
 pub mod WalkRuns
