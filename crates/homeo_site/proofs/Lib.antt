@@ -4,6 +4,7 @@ pub mod FirstFailures
 pub mod Limits
 pub mod LocalSteps
 pub mod OrderedAtoms
+pub mod OwnFits
 pub mod OwnSums
 pub mod OwnTerms
 pub mod SitesHold
@@ -11,3 +12,4 @@ pub mod StepFindings
 pub mod StepsRun
 pub mod TemplateClauses
 pub mod WalkRuns
+pub mod WrittenObjects
