@@ -9,12 +9,12 @@ use Rattle.homeo_meaning.specs.Serial.{values_of}
 use Rattle.homeo_plan.specs.Key.{words as plan_words}
 use Rattle.homeo_plan.specs.declared.treaty.Broken.{Broken}
 use Rattle.homeo_plan.specs.declared.forms.Delta.{Delta}
-use Rattle.homeo_plan.specs.Each.{Each}
+use Rattle.homeo_plan.specs.Each.{Each, Member}
 use Rattle.homeo_plan.specs.Joined.{Deltas}
 use Rattle.homeo_plan.specs.Linear.{delta_of}
 use Rattle.homeo_plan.specs.Local.{local_deltas}
 use Rattle.homeo_plan.specs.Needs.{IsStraight}
-use Rattle.homeo_plan.specs.Planned.{sites_of, planned_at, template_at, policy}
+use Rattle.homeo_plan.specs.Planned.{sites_of, planned, planned_at, template_at, policy}
 use Rattle.homeo_plan.specs.Table.{Row}
 use Rattle.homeo_plan.specs.Template.{PlannedCall, Clause, Template, shifted, base_row}
 use Rattle.homeo_plan.specs.Config.{Config}
@@ -173,13 +173,13 @@ unfolding plan_words
 each_of P h [] = tt
 each_of P h (x ∷ xs) = (h x, each_of P h xs)
 
-pub residual_straight : (w : s.Workload) (base : List ℤ) (i : ℕ) (call : CallId) → IsCallAt w i call →
-    IsStraight (base_row (sites_of w) (values_of base) (planned_at w call)).residual
+pub residual_straight :
+    (w : s.Workload) (base : List ℤ) (g : PlannedCall) → Member g (planned w) →
+    IsStraight (base_row (sites_of w) (values_of base) g).residual
 unfolding plan_words meaning_words
-residual_straight w base i call at =
-    let g : PlannedCall = planned_at w call in
+residual_straight w base g member =
     subst (λ (r : Row). IsStraight r.residual) (sym (row_at_walk (shifted (sites_of w) g) (whole (values_of base)) (λ t. refl)))
-    (walk_straight (sites_of w) g.site g.command (whole (values_of base)) (planned_whole w g (planned_member w call at.exists)))
+    (walk_straight (sites_of w) g.site g.command (whole (values_of base)) (planned_whole w g member))
 
 module _ (w : s.Workload) (x : SiteState) (h : SiteHolds w x) (call : CallId) (at : IsCallAt w x.number call) where
   abbrev g : PlannedCall
@@ -205,7 +205,7 @@ module _ (w : s.Workload) (x : SiteState) (h : SiteHolds w x) (call : CallId) (a
       (call_site w x.number call at) here h.meets
     where
       straight : IsStraight (base_row (sites_of w) (values_of x.base) g).residual
-      straight = residual_straight w x.base x.number call at
+      straight = residual_straight w x.base g (planned_member w call at.exists)
 
       here :
           Treaty t (policy w x.base) g.site (values_of x.deltas) →

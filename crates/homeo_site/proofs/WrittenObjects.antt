@@ -6,7 +6,6 @@ use Rattle.homeo_syntax.specs.declared.low.SplitName.TheVariants.{Whole, Base, D
 use Rattle.homeo_syntax.specs.Low.{Command, Commands, Skip, Assign, Write, Print, Seq, If, NoCommand, MoreCommand}
 use Rattle.homeo_syntax.specs.Source as s
 use Rattle.homeo_meaning.specs.Key.{words as meaning_words}
-use Rattle.homeo_meaning.specs.declared.call.CallId.{CallId}
 use Rattle.homeo_meaning.specs.Acceptance.{IsAccepted}
 use Rattle.homeo_meaning.specs.Bounds.{IsWithin, all_bounds}
 use Rattle.homeo_meaning.specs.CallForm.{ground_form}
@@ -18,12 +17,11 @@ use Rattle.homeo_meaning.proofs.Within.{length_in}
 use Rattle.homeo_lform.proofs.NamedWithin.{named_law}
 use Rattle.homeo_plan.specs.Key.{words as plan_words}
 use Rattle.homeo_plan.specs.declared.forms.Delta as forms
-use Rattle.homeo_plan.specs.Each.{Each}
-use Rattle.homeo_plan.specs.Planned.{sites_of, planned_at}
+use Rattle.homeo_plan.specs.Each.{Each, Member}
+use Rattle.homeo_plan.specs.Planned.{sites_of, planned}
 use Rattle.homeo_plan.specs.Split.{shift}
 use Rattle.homeo_plan.specs.Table.{Row, last_row, test_before, otherwise, walk, walk_before, walk_all_before}
 use Rattle.homeo_plan.specs.Template.{PlannedCall, shifted, base_row}
-use Rattle.homeo_plan.proofs.PlannedCalls.{planned_member}
 use Rattle.homeo_plan.proofs.Replays.{planned_whole}
 use Rattle.homeo_plan.proofs.Tables.{row_at_walk}
 use Rattle.homeo_split.specs.Key.{words as split_words}
@@ -32,8 +30,6 @@ use Rattle.homeo_delta.proofs.ShiftedPlaces.{places_law}
 use Rattle.homeo_effect.specs.Key.{words as effect_words}
 use Rattle.homeo_effect.specs.Touched.{written, WritesOwn}
 use Rattle.homeo_effect.proofs.OwnWrites.{walk_writes_own}
-use Rattle.homeo_history.specs.Legal.{IsCallAt}
-use Rattle.homeo_site.proofs.CallsOfSites.{call_site}
 use Rattle.homeo_site.proofs.StepsRun.{IsMade, is_made}
 
 module _ (h : Shape) where
@@ -101,10 +97,7 @@ own_objects i n (d ∷ ds) own there =
       own_objects i n ds own.1 there.1,
     )
 
-module _ (w : s.Workload) (base : List ℤ) (i : ℕ) (call : CallId) (at : IsCallAt w i call) where
-  abbrev g : PlannedCall
-  g = planned_at w call
-
+module _ (w : s.Workload) (base : List ℤ) (g : PlannedCall) (member : Member g (planned w)) where
   abbrev k : ℕ
   k = sites_of w
 
@@ -115,39 +108,35 @@ module _ (w : s.Workload) (base : List ℤ) (i : ℕ) (call : CallId) (at : IsCa
   unfolding plan_words meaning_words
   row_is = row_at_walk (shifted k g) start (λ t. refl)
 
-  pub writes_own : WritesOwn i (base_row k (values_of base) g).residual
+  pub writes_own : WritesOwn g.site (base_row k (values_of base) g).residual
   unfolding plan_words
   writes_own =
-      subst (λ j. WritesOwn j (base_row k (values_of base) g).residual) (call_site w i call at)
-      (subst (λ (r : Row). WritesOwn g.site r.residual) (sym row_is)
-      (walk_writes_own k g.site g.command start (planned_whole w g (planned_member w call at.exists))))
+      subst (λ (r : Row). WritesOwn g.site r.residual) (sym row_is) (walk_writes_own k g.site g.command start (planned_whole w g member))
 
   pub writes_objects :
       IsAccepted w → IsWithin (schema_of w) base → Each (λ d. d.object < length base) (written (base_row k (values_of base) g).residual)
   unfolding plan_words effect_words meaning_words
   writes_objects accepted within =
-      own_objects i (length base) (written (base_row k (values_of base) g).residual) writes_own
-      (subst (λ (r : Row). Each (λ d. d.object < get_or (replicate (suc i) (length base)) d.site 0) (written r.residual)) (sym row_is)
+      own_objects g.site (length base) (written (base_row k (values_of base) g).residual) writes_own
+      (subst (λ (r : Row). Each (λ d. d.object < get_or (replicate (suc g.site) (length base)) d.site 0) (written r.residual)) (sym row_is)
       (written_there h (walk (shifted k g) start).residual (residual_places h (shifted k g) start places)))
     where
       h : Shape
-      h = record { base = length base; deltas = replicate (suc i) (length base) }
+      h = record { base = length base; deltas = replicate (suc g.site) (length base) }
 
       made : IsMade w g
-      made = is_made w g accepted (planned_member w call at.exists)
+      made = is_made w g accepted member
 
       named : NamesWithin (length (all_bounds (schema_of w))) (length w.names) g.command
       named =
           subst (NamesWithin (length (all_bounds (schema_of w))) (length w.names)) (ap (λ (c : PlannedCall). c.command) made.is)
           (named_law w made.from accepted)
 
-      enough : length (all_bounds (schema_of w)) ≤ get_or (replicate (suc i) (length base)) i 0
+      enough : length (all_bounds (schema_of w)) ≤ get_or (replicate (suc g.site) (length base)) g.site 0
       enough =
           let count : length base ≡ length (all_bounds (schema_of w)) = length_in (all_bounds (schema_of w)) base within in
-          omega (arith, at_last i (length base), count)
+          omega (arith, at_last g.site (length base), count)
 
       places : has_places h (shifted k g) ≡ true
       places =
-          subst (λ j. has_places h (shift k j g.command) ≡ true) (sym (call_site w i call at))
-          (places_law (length (all_bounds (schema_of w))) (length w.names) h k i g.command enough
-          (planned_whole w g (planned_member w call at.exists)) named)
+          places_law (length (all_bounds (schema_of w))) (length w.names) h k g.site g.command enough (planned_whole w g member) named

@@ -1,12 +1,13 @@
 -- What an attempt of a call comes to, and the room that it takes.
-use Rattle.std.specs.Prelude.{◌≡◌, ℕ, suc, ◌≤◌, List, [], replicate, ℤ, pos, Some}
+use Rattle.std.specs.Prelude.{◌≡◌, ◌≤◌, List, [], replicate, ℤ, pos, Some}
 use Rattle.homeo_syntax.specs.Source as s
-use Rattle.homeo_syntax.specs.Low.{Command, Commands, Assign, Print, NoCommand, MoreCommand}
+use Rattle.homeo_syntax.specs.Low.{Commands}
 use Rattle.homeo_syntax.specs.Listed.{Listed}
 use Rattle.homeo_meaning.specs.declared.call.CallId.{CallId}
 use Rattle.homeo_meaning.specs.Serial.{values_of}
 use Rattle.homeo_plan.specs.Planned.{sites_of, planned_at}
 use Rattle.homeo_plan.specs.Template.{base_row}
+use Rattle.homeo_effect.specs.Counts.{assignment_count, print_count}
 use Rattle.homeo_site.specs.Key.{words}
 use Rattle.homeo_site.specs.SiteState.{SiteState, KeepsCall, step_prints, step_deltas, step_finding}
 use Rattle.homeo_site.specs.declared.attempts.Change.{Change}
@@ -32,20 +33,6 @@ IsOutcome w x call (Breaks b) = step_finding w x call ≡ Some b
 abbrev pub step_commands : s.Workload → SiteState → CallId → Commands
 unfolding words
 step_commands w x call = (base_row (sites_of w) (values_of x.base) (planned_at w call)).residual
-
--- how many of commands are prints
-abbrev pub print_count : Commands → ℕ
-unfolding words
-print_count NoCommand = 0
-print_count (MoreCommand (Print e) cs) = suc (print_count cs)
-print_count (MoreCommand _ cs) = print_count cs
-
--- how many are assignments
-abbrev pub assignment_count : Commands → ℕ
-unfolding words
-assignment_count NoCommand = 0
-assignment_count (MoreCommand (Assign t e) cs) = suc (assignment_count cs)
-assignment_count (MoreCommand _ cs) = assignment_count cs
 
 -- room for a call: the site's deltas, no prints, a 0 for each assignment, and room for each print
 pub record IsRoom (w : s.Workload) (x : SiteState) (id : CallId) (r : Room) : Type 0 where

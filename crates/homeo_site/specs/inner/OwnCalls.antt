@@ -10,12 +10,12 @@ use Rattle.homeo_plan.specs.Joined.{alone}
 use Rattle.homeo_plan.specs.Planned.{sites_of, planned, template_at}
 use Rattle.homeo_plan.specs.Template.{PlannedCall, base_row}
 use Rattle.homeo_split.specs.CanExec.{limit, can_exec_all}
+use Rattle.homeo_effect.specs.Counts.{assignment_count, print_count}
 use Rattle.homeo_effect.specs.OwnState.{own_state}
 use Rattle.homeo_effect.specs.Program.{plain_program, set_after_all, prints_of_all}
 use Rattle.homeo_effect.specs.Touched.{written, touched_clauses, touched_freezes}
 use Rattle.homeo_effect.specs.declared.program.Program.{Program}
 use Rattle.homeo_site.specs.Key.{words}
-use Rattle.homeo_site.specs.Attempts.{print_count, assignment_count}
 use Rattle.homeo_site.specs.declared.own_calls.OwnCall.{OwnCall}
 
 -- from the same own deltas, whatever the temporaries were, the program of site i does on a base what the commands do there
