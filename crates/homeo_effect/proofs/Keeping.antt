@@ -18,7 +18,7 @@ use Rattle.homeo_effect.specs.Key.{words}
 use Rattle.homeo_effect.specs.Touched.{with_delta, written, is_among, are_on, is_touched}
 use Rattle.homeo_effect.specs.inner.Uses.{has, at_object, is_at, Keeps, KeepsClauses, KeepsFreezes}
 use Rattle.homeo_effect.proofs.Noting.{one_noted, there_is}
-use Rattle.homeo_effect.proofs.Numbering.{has_more}
+use Rattle.homeo_effect.proofs.RisingNumbers.{has_more}
 
 -- ---- one more item
 module _ {X : Type 0} (test : List Delta → X → Bool) (i first : ℕ) (xs : List X) (item : X) where

@@ -12,7 +12,7 @@ use Rattle.homeo_plan.specs.Template.{Template}
 use Rattle.homeo_effect.specs.Key.{words}
 use Rattle.homeo_effect.specs.Touched.{is_among, are_on, is_touched, numbers_where, touched_clauses, touched_freezes}
 use Rattle.homeo_effect.specs.inner.Uses.{has, is_at, Keeps, KeepsClauses, KeepsFreezes}
-use Rattle.homeo_effect.proofs.Numbering.{has_either, has_none, numbers_rise, same_rising}
+use Rattle.homeo_effect.proofs.RisingNumbers.{has_either, has_none, numbers_rise, same_rising}
 
 module _ {X : Type 0} (test : List Delta → X → Bool) (none : (x : X) → test [] x ≡ false)
     (either : (d : Delta) (ds : List Delta) (x : X) → test (d ∷ ds) x ≡ (test (d ∷ []) x || test ds x)) (i first : ℕ) (xs : List X) (uses : List (List ℕ))

@@ -5,7 +5,10 @@
 mod commands;
 mod expressions;
 mod index;
+mod latest;
 pub mod laws;
+mod making;
+mod numbering;
 mod numbers;
 mod program;
 mod running;

@@ -94,6 +94,12 @@ impl Program {
         ensures temporaries { length temporaries.new ≡ length temporaries.old }
         ensures spare { prints.new.spare ≡ prints.old.spare - prints_of_all self.now.steps.items }
     {
-        run_steps(self.steps.as_slice(), self.site, deltas, temporaries, prints)
+        run_steps(
+            self.steps.as_slice(),
+            self.site,
+            deltas,
+            temporaries,
+            prints,
+        )
     }
 }

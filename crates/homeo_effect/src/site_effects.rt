@@ -9,6 +9,7 @@ ghost use Rattle.homeo_plan.specs.PlanView.{plain_residual};
 ghost use Rattle.homeo_split.specs.CanExec.{limit, can_exec_all};
 ghost use Rattle.homeo_effect.specs.EffectsView.{plain_commands};
 ghost use Rattle.homeo_effect.specs.Localized.{localized};
+ghost use Rattle.homeo_effect.specs.OwnCommands.{are_own};
 ghost use Rattle.homeo_effect.specs.Touched.{written, WritesOwn, touched_clauses, touched_freezes};
 
 use crate::commands::local_commands;
@@ -62,6 +63,7 @@ pub fn effects(
     ensures can_run { IfOk result (λ e. (x : Deltas) →
         can_exec_all limit (plain_residual residual.now) (alone (values_of base.now.items) residual.now.site x) ≡ true →
         can_exec_all limit (plain_commands e) (alone (values_of base.now.items) residual.now.site x) ≡ true) }
+    ensures own { IfOk result (λ e. are_own residual.now.site (plain_commands e) ≡ true) }
     ensures straight { IfOk result (λ e. IsStraight (plain_commands e)) }
     ensures written { IfOk result (λ e. written (plain_commands e) ≡ written (plain_residual residual.now)) }
 {

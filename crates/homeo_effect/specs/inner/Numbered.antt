@@ -1,8 +1,8 @@
 -- Commands whose temporaries are numbered in the order in which they are set: what is read stands for what was set last.
-use Rattle.std.specs.Prelude.{ℕ, suc, cond, ℤ, pos, Option, Some, None}
+use Rattle.std.specs.Prelude.{ℕ, suc, cond, pos, Option, Some, None}
 use Rattle.homeo_syntax.specs.declared.low.Temp.{Temp}
 use Rattle.homeo_syntax.specs.declared.low.Temp.TheVariants.{Named}
-use Rattle.homeo_syntax.specs.Low.{Expr, Exprs, Literal, OfTemp, Read, Sum, Product, Neg, NoExpr, MoreExpr, Command, Commands, Skip, Assign, Write, Print, Seq, If, NoCommand, MoreCommand}
+use Rattle.homeo_syntax.specs.Low.{Expr, Exprs, Literal, OfTemp, Read, Sum, Product, Neg, NoExpr, MoreExpr, Commands, Assign, Write, Print, NoCommand, MoreCommand}
 use Rattle.homeo_meaning.specs.LowMeaning.{same_temp}
 use Rattle.homeo_effect.specs.Key.{words}
 

@@ -1,5 +1,5 @@
 -- Each kind of step.
-use Rattle.std.proofs.Common.{rules, ◌≡◌, ◌<◌, ◌++◌, [], ◌∷◌, length, w64, to_z, sym, ap, ◌∙◌, subst}
+use Rattle.std.proofs.Common.{rules, ◌<◌, length, ap, ◌∙◌}
 use Rattle.homeo_meaning.proofs.Numbers.{kept_is}
 use Rattle.homeo_split.specs.CanExec.{limit}
 use Rattle.homeo_effect.specs.OwnState.{own_state}

@@ -1,5 +1,5 @@
 -- One more step.
-use Rattle.std.proofs.Common.{◌≡◌, ◌≤◌, ◌<◌, ◌+◌, length, drop, sym, ap, ◌∙◌, subst}
+use Rattle.std.proofs.Common.{◌≤◌, ◌+◌, length, drop, sym, ◌∙◌, subst}
 use Rattle.homeo_effect.specs.OwnState.{own_state}
 use Rattle.homeo_effect.specs.Program.{plain_steps, set_after_all}
 use Rattle.homeo_effect.specs.Touched.{written}

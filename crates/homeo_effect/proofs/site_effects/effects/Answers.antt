@@ -1,5 +1,5 @@
 -- What the commands of a site are, and that they do what the residual does.
-use Rattle.std.proofs.Common.{All, map, sym, ap, ◌∙◌, subst}
+use Rattle.std.proofs.Common.{true, ◌≡◌, All, map, sym, ap, ◌∙◌, subst}
 use Rattle.homeo_syntax.specs.LowView.{low_commands, plain_lcommand}
 use Rattle.homeo_meaning.specs.LowMeaning.{whole, exec_all}
 use Rattle.homeo_meaning.specs.Serial.{values_of}
@@ -8,10 +8,12 @@ use Rattle.homeo_plan.specs.Needs.{IsStraight}
 use Rattle.homeo_plan.specs.PlanView.{plain_residual}
 use Rattle.homeo_split.specs.CanExec.{limit, can_exec_all}
 use Rattle.homeo_effect.specs.Localized.{local_command}
+use Rattle.homeo_effect.specs.OwnCommands.{are_own}
 use Rattle.homeo_effect.specs.Touched.{written}
 use Rattle.homeo_effect.specs.inner.Alone.{CommandFits}
 use Rattle.homeo_effect.proofs.Equations.{localized_commands}
 use Rattle.homeo_effect.proofs.LocalRuns.{alone_is_alone, whole_is_alone, same_runs, can_too, each_fits, straight_too, same_written}
+use Rattle.homeo_effect.proofs.OwnParts.{own_commands}
 use Rattle.homeo_effect.proofs.site_effects.effects.Goals as goal
 
 pub local_commands-requires : goal.local_commands-requires
@@ -57,3 +59,8 @@ returns-clause-straight c =
 pub returns-clause-written : goal.returns-clause-written
 returns-clause-written c =
     ap written (commands_are c) ∙ same_written (values_of c.args.base.now.items) c.args.residual.now.site (plain_residual c.args.residual.now)
+
+pub returns-clause-own : goal.returns-clause-own
+returns-clause-own c =
+    subst (λ cs. are_own c.args.residual.now.site cs ≡ true) (sym (commands_are c))
+    (own_commands (values_of c.args.base.now.items) c.args.residual.now.site (plain_residual c.args.residual.now) c.requires.straight c.requires.own)

@@ -9,7 +9,7 @@ use Rattle.homeo_effect.specs.Key.{words}
 use Rattle.homeo_effect.specs.Touched.{written}
 use Rattle.homeo_effect.specs.inner.Uses.{has, is_at}
 use Rattle.homeo_effect.proofs.Keeping.{touched_more, all_taken}
-use Rattle.homeo_effect.proofs.Numbering.{kept}
+use Rattle.homeo_effect.proofs.RisingNumbers.{kept}
 use Rattle.homeo_effect.proofs.uses.touched.Goals as goal
 
 pub loop-c-init : goal.loop-c-init

@@ -1,6 +1,5 @@
 -- What the steps leave of the deltas and prints.
-use Rattle.std.proofs.Common.{◌≡◌, ◌==◌, true, cond, pos, get_or, ◌++◌, sym, ap, ◌∙◌, arith}
-use Rattle.std.proofs.lemmas.Bool.Decides.{nat_tests}
+use Rattle.std.proofs.Common.{◌++◌, sym, ap, ◌∙◌}
 use Rattle.homeo_meaning.specs.LowMeaning.{DeltaAt, exec_all}
 use Rattle.homeo_effect.specs.OwnState.{own_state}
 use Rattle.homeo_effect.specs.Program.{plain_steps}
