@@ -15,10 +15,10 @@ use Rattle.homeo_plan.specs.PlanView.{plain_clause}
 use Rattle.homeo_plan.specs.Template as template
 use Rattle.homeo_plan.specs.Each.{Each}
 use Rattle.homeo_plan.specs.Config.{Config, bounds_from, split, split_by, even}
-use Rattle.homeo_config.specs.Slacks.{slack_limit}
+use Rattle.homeo_plan.specs.Limit.{form_limit}
 
 -- ---- the bounds of a clause
-pub amount_small : (slack : ℤ) (amount : ℕ) → IsSmall slack_limit slack → amount ≡ nat_of slack → amount ≤ slack_limit
+pub amount_small : (slack : ℤ) (amount : ℕ) → IsSmall form_limit slack → amount ≡ nat_of slack → amount ≤ form_limit
 unfolding meaning_words
 amount_small (pos n) amount h e = omega (arith, h, e)
 amount_small (negsuc n) amount h e = omega (arith, e)
@@ -58,7 +58,7 @@ clause_at P [] i c all h is = absurd (omega (arith, h))
 clause_at P (x ∷ cs) zero c all h is = subst (λ c. P (plain_clause c)) (sym is) all.0
 clause_at P (x ∷ cs) (suc i) c all h is = clause_at P cs i c all.1 (omega (arith, h)) is
 
-slack_back : (slack : ℤ) → IsSmall slack_limit slack → to_z w128 (of_z w128 slack) ≡ slack
+slack_back : (slack : ℤ) → IsSmall form_limit slack → to_z w128 (of_z w128 slack) ≡ slack
 unfolding meaning_words
 slack_back slack h = to_z-of_z w128 slack (fits_signed_from_abs w128 slack (omega (arith, h)))
 
@@ -77,12 +77,12 @@ pub even-whole :
 even-whole k clauses lent i made same h e = e ∙ ap (λ l. even k (map plain_clause l)) (take_all i lent h ∙ same)
 
 -- one clause more, as the code reads it
-module _ (clauses lent : List Clause) (i : ℕ) (c : Clause) (same : lent ≡ clauses) (h : i < length lent) (is : c ≡ get_or lent i c) (small : Each (λ c. IsSmall slack_limit c.slack) (map plain_clause clauses)) where
+module _ (clauses lent : List Clause) (i : ℕ) (c : Clause) (same : lent ≡ clauses) (h : i < length lent) (is : c ≡ get_or lent i c) (small : Each (λ c. IsSmall form_limit c.slack) (map plain_clause clauses)) where
   at : (P : ℤ → Type 0) → Each (λ c. P c.slack) (map plain_clause clauses) → P c.slack
   at P all = clause_at (λ c. P c.slack) lent i c (subst (λ l. Each (λ c. P c.slack) (map plain_clause l)) (sym same) all) h is
 
   back : to_z w128 (of_z w128 c.slack) ≡ c.slack
-  back = slack_back c.slack (at (λ z. IsSmall slack_limit z) small)
+  back = slack_back c.slack (at (λ z. IsSmall form_limit z) small)
 
   pub slack_is : (P : ℤ → Type 0) → Each (λ c. P c.slack) (map plain_clause clauses) → P (to_z w128 (of_z w128 c.slack))
   slack_is P all = subst P (sym back) (at P all)

@@ -6,7 +6,7 @@ ghost use Rattle.homeo_meaning.specs.Small.{IsSmall};
 ghost use Rattle.homeo_plan.specs.Each.{Each};
 ghost use Rattle.homeo_plan.specs.Config.{HaveSlack, Fits, split, even};
 ghost use Rattle.homeo_plan.specs.PlanView.{plain_template, plain_config};
-ghost use Rattle.homeo_config.specs.Slacks.{slack_limit};
+ghost use Rattle.homeo_plan.specs.Limit.{form_limit};
 
 use homeo_plan::{Config, Template};
 use homeo_syntax::{List, Memory};
@@ -22,7 +22,7 @@ use std::alloc::Global;
 pub fn split_even(alloc: Global, t: &Template) -> Result<Config, Memory>
     requires sites { 1 ≤ t.now.sites }
     requires not_negative { HaveSlack (plain_template t.now).clauses }
-    requires small { Each (λ c. IsSmall slack_limit c.slack) (plain_template t.now).clauses }
+    requires small { Each (λ c. IsSmall form_limit c.slack) (plain_template t.now).clauses }
     ensures bounds { IfOk result (λ c. plain_config c ≡ even t.now.sites (plain_template t.now).clauses) }
     ensures fits { IfOk result (λ c. Fits t.now.sites (plain_template t.now).clauses (plain_config c)) }
 {
@@ -44,7 +44,7 @@ fn ones(alloc: Global, sites: usize) -> Result<Vec<u64>, Memory>
 /// Splits a slack by shares: each site's bound, in order.
 fn split(alloc: Global, slack: i128, shares: &[u64]) -> Result<List<i128>, Memory>
     requires not_negative { pos 0 ≤ℤ slack }
-    requires small { IsSmall slack_limit slack }
+    requires small { IsSmall form_limit slack }
     requires some { 1 ≤ sum shares.now }
     requires fits { sum shares.now < 2 ^ 64 }
     ensures { IfOk result (λ bounds. bounds.items ≡ split shares.now slack) }
@@ -78,7 +78,7 @@ fn natural(slack: i128) -> u128
 
 /// What the slack gives the shares up to a site, less what it gives those below the site, of `all` shares.
 fn bound(slack: u128, below: u64, with_it: u64, all: u64) -> i128
-    requires small { slack ≤ slack_limit }
+    requires small { slack ≤ form_limit }
     requires some { 1 ≤ all }
     requires rises { below ≤ with_it }
     ensures { result ≡ pos (slack * with_it / all - slack * below / all) }
@@ -88,7 +88,7 @@ fn bound(slack: u128, below: u64, with_it: u64, all: u64) -> i128
 
 /// The floor of what the slack gives `shares` of `all` shares.
 fn part(slack: u128, shares: u64, all: u64) -> u128
-    requires small { slack ≤ slack_limit }
+    requires small { slack ≤ form_limit }
     requires some { 1 ≤ all }
     ensures { result ≡ slack * shares / all }
 {

@@ -11,7 +11,7 @@ use Rattle.homeo_plan.specs.Each.{Each}
 use Rattle.homeo_plan.specs.Linear.{same_delta, delta_before, deltas_of, with_term, add_term, add_terms, scale_terms, add_delta, add_deltas}
 use Rattle.homeo_plan.specs.declared.forms.Delta.{Delta}
 use Rattle.homeo_plan.specs.declared.forms.Term.{Term}
-use Rattle.homeo_linear.specs.Limit.{limit}
+use Rattle.homeo_plan.specs.Limit.{form_limit}
 use Rattle.homeo_linear.specs.inner.Key.{words}
 use Rattle.homeo_linear.specs.inner.Order.{InOrder, BeginsBehind, IsPlace, begins_with}
 use Rattle.homeo_linear.specs.inner.Terms.{AreSmall, AreSmallWhereSame, IsSmallAt, add_at}
@@ -134,14 +134,14 @@ pub sum_is_none :
     false ≡ not (int_eq s.factor (pos 0)) → remove ts n ≡ add_at n f ts
 sum_is_none ts n f x s l p g h = removed_factor ts n f x s l (g ∙ ap (λ (t : Term). f +ℤ t.factor) p) h
 
-small_item : (ts : List Term) (n : ℕ) (x : Term) → n < length ts → IsSmallAt n ts → IsSmall limit (get_or ts n x).factor
+small_item : (ts : List Term) (n : ℕ) (x : Term) → n < length ts → IsSmallAt n ts → IsSmall form_limit (get_or ts n x).factor
 unfolding words
 small_item [] n x l h = absurd (omega (arith, l))
 small_item (t ∷ ts) zero x l h = h
 small_item (t ∷ ts) (suc n) x l h = small_item ts n x (omega (arith, l)) h
 
-pub small_at : (ts : List Term) (n : ℕ) (x : Term) → n < length ts → x ≡ get_or ts n x → IsSmallAt n ts → IsSmall limit x.factor
-small_at ts n x l p h = subst (λ (t : Term). IsSmall limit t.factor) (sym p) (small_item ts n x l h)
+pub small_at : (ts : List Term) (n : ℕ) (x : Term) → n < length ts → x ≡ get_or ts n x → IsSmallAt n ts → IsSmall form_limit x.factor
+small_at ts n x l p h = subst (λ (t : Term). IsSmall form_limit t.factor) (sym p) (small_item ts n x l h)
 
 add_term_split :
     (d : Delta) (f : ℤ) (ts : List Term) (n : ℕ) → Each (λ e. delta_before e d ≡ true) (take n (deltas_of ts)) →
@@ -294,13 +294,13 @@ begins_small d ts xs n e s h = small_where d ts n s (sym (h ∙ ap (λ l. begins
 
 -- terms behind d are small
 abbrev SmallBehind : Delta → List Term → Type 0
-SmallBehind d ts = Each (λ t. delta_before t.delta d ≡ false → IsSmall limit t.factor) ts
+SmallBehind d ts = Each (λ t. delta_before t.delta d ≡ false → IsSmall form_limit t.factor) ts
 
 -- each of the first, when it is added to the second with those before it, meets small factors
 abbrev pub CanAdd : List Term → List Term → Type 0
 unfolding words
 CanAdd [] us = Unit {0}
-CanAdd (t ∷ ts) us = IsSmall limit t.factor × AreSmallWhereSame t.delta us × CanAdd ts (add_term t.delta t.factor us)
+CanAdd (t ∷ ts) us = IsSmall form_limit t.factor × AreSmallWhereSame t.delta us × CanAdd ts (add_term t.delta t.factor us)
 
 small_with : (d c : Delta) (f : ℤ) (us : List Term) → delta_before d c ≡ true → SmallBehind c us → SmallBehind c (with_term d f us)
 unfolding plan_words
@@ -353,7 +353,7 @@ can_add ts us o s h = can_add_behind ts us o s (each ts)
 
 -- ---- all of them
 pub record AddStep (ts us vs ws : List Term) (i : ℕ) (t : Term) : Type 0 where
-  pub first : IsSmall limit t.factor
+  pub first : IsSmall form_limit t.factor
   pub same : AreSmallWhereSame t.delta us
   pub rest : vs ≡ add_term t.delta t.factor us → CanAdd (drop (i + 1) ts) vs × InOrder (deltas_of vs) × (add_terms (drop (i + 1) ts) vs ≡ ws)
 
@@ -417,6 +417,6 @@ pub scaled_end : (n : ℤ) (out ts : List Term) (i : ℕ) → length ts ≤ i �
 unfolding plan_words
 scaled_end n out ts i l = sym (ap (λ r. out ++ scale_terms n r) (drop_of_length-le ts l) ∙ append-nil out)
 
-pub small_next : (ts : List Term) (i : ℕ) (x : Term) → i < length ts → AreSmall ts → IsSmall limit (get_or ts i x).factor
+pub small_next : (ts : List Term) (i : ℕ) (x : Term) → i < length ts → AreSmall ts → IsSmall form_limit (get_or ts i x).factor
 unfolding words
-small_next ts i x l s = each_at (λ t. IsSmall limit t.factor) ts i x l s
+small_next ts i x l s = each_at (λ t. IsSmall form_limit t.factor) ts i x l s

@@ -11,10 +11,10 @@ use Rattle.homeo_plan.specs.FormSizes.{Numbers, CanSubtract}
 use Rattle.homeo_plan.specs.Linear.{Linear, constant_form, add_forms, scale_form}
 use Rattle.homeo_plan.specs.PlanView.{plain_atom}
 use Rattle.homeo_plan.specs.declared.forms.Atom.{Atom}
-use Rattle.homeo_linear.specs.Limit.{limit}
+use Rattle.homeo_plan.specs.Limit.{form_limit}
 use Rattle.homeo_linear.specs.inner.Kept.{AreApart, kept_comparison}
 
-bit_small : (n : ℤ) → IsSmall 1 n → IsSmall limit n
+bit_small : (n : ℤ) → IsSmall 1 n → IsSmall form_limit n
 unfolding meaning_words
 bit_small n h = omega (arith, h)
 
@@ -26,14 +26,14 @@ one_bit : IsSmall 1 (pos 1)
 unfolding meaning_words
 one_bit = omega arith
 
-number_small : (n : ℤ) (a : Linear) → IsSmall 1 n → a ≡ constant_form n → Numbers (IsSmall limit) a
+number_small : (n : ℤ) (a : Linear) → IsSmall 1 n → a ≡ constant_form n → Numbers (IsSmall form_limit) a
 unfolding plan_words
-number_small n a h e = subst (Numbers (IsSmall limit)) (sym e) (record { constant = bit_small n h; factors = tt })
+number_small n a h e = subst (Numbers (IsSmall form_limit)) (sym e) (record { constant = bit_small n h; factors = tt })
 
-pub zero_small : (a : Linear) → a ≡ constant_form (pos 0) → Numbers (IsSmall limit) a
+pub zero_small : (a : Linear) → a ≡ constant_form (pos 0) → Numbers (IsSmall form_limit) a
 zero_small a e = number_small (pos 0) a zero_bit e
 
-pub one_small : (a : Linear) → a ≡ constant_form (pos 1) → Numbers (IsSmall limit) a
+pub one_small : (a : Linear) → a ≡ constant_form (pos 1) → Numbers (IsSmall form_limit) a
 one_small a e = number_small (pos 1) a one_bit e
 
 pub difference_is :
@@ -41,7 +41,7 @@ pub difference_is :
 unfolding plan_words
 difference_is x y a m d n p q r = r ∙ ap₂ add_forms q p
 
-pub are_apart : (a b : Linear) → Numbers (IsSmall limit) a → Numbers (IsSmall limit) b → CanSubtract (IsSmall limit) a b → AreApart a b
+pub are_apart : (a b : Linear) → Numbers (IsSmall form_limit) a → Numbers (IsSmall form_limit) b → CanSubtract (IsSmall form_limit) a b → AreApart a b
 are_apart a b h k s = record { left = h; right = k; negated = s.negated; apart = s.apart }
 
 -- ---- the atoms of a comparison that holds, and of one that doesn't

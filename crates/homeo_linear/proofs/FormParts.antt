@@ -7,7 +7,7 @@ use Rattle.homeo_plan.specs.FormSizes.{Numbers}
 use Rattle.homeo_plan.specs.Linear.{Linear, deltas_of, add_deltas, add_terms, scale_terms, constant_form, delta_form, add_forms, scale_form, multiply_forms, mix_forms, is_empty, is_pure, support}
 use Rattle.homeo_plan.specs.declared.forms.Delta.{Delta}
 use Rattle.homeo_plan.specs.declared.forms.Term.{Term}
-use Rattle.homeo_linear.specs.Limit.{limit}
+use Rattle.homeo_plan.specs.Limit.{form_limit}
 use Rattle.homeo_linear.specs.inner.Key.{words}
 use Rattle.homeo_linear.specs.inner.Order.{InOrder}
 use Rattle.homeo_linear.specs.inner.Terms.{AreSmall}
@@ -51,13 +51,13 @@ mix_in_order ts ds es ys p q o =
     (subst (λ l. InOrder (deltas_of l)) (sym p) tt, subst InOrder (sym q) (in_order_adds ys ds o))
 
 -- ---- small numbers
-pub small_terms : (a : Linear) (n : ℤ) (ts xs : List Term) (ds : List Delta) → form_of n ts ds ≡ a → xs ≡ ts → Numbers (IsSmall limit) a → AreSmall xs
+pub small_terms : (a : Linear) (n : ℤ) (ts xs : List Term) (ds : List Delta) → form_of n ts ds ≡ a → xs ≡ ts → Numbers (IsSmall form_limit) a → AreSmall xs
 unfolding words
 small_terms a n ts xs ds e p h =
     subst AreSmall (sym p) (subst (λ (b : Linear). AreSmall b.terms) (sym e) h.factors)
 
-pub small_constant : (a : Linear) (n : ℤ) (ts : List Term) (ds : List Delta) → form_of n ts ds ≡ a → IsSmall limit a.constant → IsSmall limit n
-small_constant a n ts ds e h = subst (λ (b : Linear). IsSmall limit b.constant) (sym e) h
+pub small_constant : (a : Linear) (n : ℤ) (ts : List Term) (ds : List Delta) → form_of n ts ds ≡ a → IsSmall form_limit a.constant → IsSmall form_limit n
+small_constant a n ts ds e h = subst (λ (b : Linear). IsSmall form_limit b.constant) (sym e) h
 
 -- ---- what forms are
 pub number_is : (z n : ℤ) (ts : List Term) (ds : List Delta) → z ≡ n → ts ≡ [] → ds ≡ [] → form_of z ts ds ≡ constant_form n

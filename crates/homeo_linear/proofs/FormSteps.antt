@@ -15,7 +15,7 @@ use Rattle.homeo_meaning.proofs.Steps.{drop_next, drop_none}
 use Rattle.homeo_plan.specs.Key.{words as plan_words}
 use Rattle.homeo_plan.specs.FormSizes.{Numbers, CanForm, CanSum, CanProduct}
 use Rattle.homeo_plan.specs.Linear.{Linear, Forms, constant_form, add_forms, scale_form, multiply_forms, form, sum_form, product_form}
-use Rattle.homeo_linear.specs.Limit.{limit}
+use Rattle.homeo_plan.specs.Limit.{form_limit}
 
 -- ---- forms that can be made are small
 module _ (P : ℤ → Type 0) (f : Forms) where
@@ -38,30 +38,30 @@ module _ (P : ℤ → Type 0) (f : Forms) where
     small_product a l.NoExpr h = h
     small_product a (l.MoreExpr e es) h = small_product (multiply_forms a (form f e)) es h.2
 
-pub one_is_small : IsSmall limit (negsuc 0)
+pub one_is_small : IsSmall form_limit (negsuc 0)
 unfolding meaning_words
 one_is_small = omega arith
 
 -- ---- one more term of a sum
 pub record SumStep (f : Forms) (a : Linear) (es : List LExpr) (i : ℕ) (e : LExpr) : Type 0 where
-  pub so_far : Numbers (IsSmall limit) a
-  pub first : CanForm (IsSmall limit) f (plain_lexpr e)
-  pub small : Numbers (IsSmall limit) (form f (plain_lexpr e))
-  pub rest : CanSum (IsSmall limit) f (add_forms (form f (plain_lexpr e)) a) (low_exprs (map plain_lexpr (drop (i + 1) es)))
+  pub so_far : Numbers (IsSmall form_limit) a
+  pub first : CanForm (IsSmall form_limit) f (plain_lexpr e)
+  pub small : Numbers (IsSmall form_limit) (form f (plain_lexpr e))
+  pub rest : CanSum (IsSmall form_limit) f (add_forms (form f (plain_lexpr e)) a) (low_exprs (map plain_lexpr (drop (i + 1) es)))
   pub same : sum_form f (add_forms (form f (plain_lexpr e)) a) (low_exprs (map plain_lexpr (drop (i + 1) es)))
       ≡ sum_form f a (low_exprs (map plain_lexpr (drop i es)))
 
 pub sum_step :
     {f : Forms} {a : Linear} (es : List LExpr) (i : ℕ) (e : LExpr) → i < length es → e ≡ get_or es i e →
-    CanSum (IsSmall limit) f a (low_exprs (map plain_lexpr (drop i es))) → SumStep f a es i e
+    CanSum (IsSmall form_limit) f a (low_exprs (map plain_lexpr (drop i es))) → SumStep f a es i e
 unfolding plan_words tree_words
 sum_step {f} {a} es i e h p can =
     let next = drop_next plain_lexpr es i e h p in
-    let k = subst (λ l. CanSum (IsSmall limit) f a (low_exprs l)) next can in
+    let k = subst (λ l. CanSum (IsSmall form_limit) f a (low_exprs l)) next can in
     record {
       so_far = k.0;
       first = k.1;
-      small = small_form (IsSmall limit) f (plain_lexpr e) k.1;
+      small = small_form (IsSmall form_limit) f (plain_lexpr e) k.1;
       rest = k.2;
       same = sym (ap (λ l. sum_form f a (low_exprs l)) next);
     }
@@ -72,24 +72,24 @@ sum_stop f a es i h = sym (ap (λ l. sum_form f a (low_exprs l)) (drop_none plai
 
 -- ---- one more factor of a product
 pub record ProductStep (f : Forms) (a : Linear) (es : List LExpr) (i : ℕ) (e : LExpr) : Type 0 where
-  pub so_far : Numbers (IsSmall limit) a
-  pub first : CanForm (IsSmall limit) f (plain_lexpr e)
-  pub small : Numbers (IsSmall limit) (form f (plain_lexpr e))
-  pub rest : CanProduct (IsSmall limit) f (multiply_forms a (form f (plain_lexpr e))) (low_exprs (map plain_lexpr (drop (i + 1) es)))
+  pub so_far : Numbers (IsSmall form_limit) a
+  pub first : CanForm (IsSmall form_limit) f (plain_lexpr e)
+  pub small : Numbers (IsSmall form_limit) (form f (plain_lexpr e))
+  pub rest : CanProduct (IsSmall form_limit) f (multiply_forms a (form f (plain_lexpr e))) (low_exprs (map plain_lexpr (drop (i + 1) es)))
   pub same : product_form f (multiply_forms a (form f (plain_lexpr e))) (low_exprs (map plain_lexpr (drop (i + 1) es)))
       ≡ product_form f a (low_exprs (map plain_lexpr (drop i es)))
 
 pub product_step :
     {f : Forms} {a : Linear} (es : List LExpr) (i : ℕ) (e : LExpr) → i < length es → e ≡ get_or es i e →
-    CanProduct (IsSmall limit) f a (low_exprs (map plain_lexpr (drop i es))) → ProductStep f a es i e
+    CanProduct (IsSmall form_limit) f a (low_exprs (map plain_lexpr (drop i es))) → ProductStep f a es i e
 unfolding plan_words tree_words
 product_step {f} {a} es i e h p can =
     let next = drop_next plain_lexpr es i e h p in
-    let k = subst (λ l. CanProduct (IsSmall limit) f a (low_exprs l)) next can in
+    let k = subst (λ l. CanProduct (IsSmall form_limit) f a (low_exprs l)) next can in
     record {
       so_far = k.0;
       first = k.1;
-      small = small_form (IsSmall limit) f (plain_lexpr e) k.1;
+      small = small_form (IsSmall form_limit) f (plain_lexpr e) k.1;
       rest = k.2;
       same = sym (ap (λ l. product_form f a (low_exprs l)) next);
     }
@@ -100,29 +100,29 @@ product_stop f a es i h = sym (ap (λ l. product_form f a (low_exprs l)) (drop_n
 
 -- ---- of each kind of expression
 module _ (f : Forms) (e : LExpr) where
-  pub sum_can : (es : Listed LExpr) (xs : List LExpr) → e ≡ Sum es → xs ≡ es.items → CanForm (IsSmall limit) f (plain_lexpr e) → CanSum (IsSmall limit) f (constant_form (pos 0)) (low_exprs (map plain_lexpr xs))
+  pub sum_can : (es : Listed LExpr) (xs : List LExpr) → e ≡ Sum es → xs ≡ es.items → CanForm (IsSmall form_limit) f (plain_lexpr e) → CanSum (IsSmall form_limit) f (constant_form (pos 0)) (low_exprs (map plain_lexpr xs))
   unfolding plan_words
   sum_can es xs p q h =
-      let k : CanSum (IsSmall limit) f (constant_form (pos 0)) (low_exprs (map plain_lexpr es.items)) =
-      subst (CanForm (IsSmall limit) f) (ap plain_lexpr p ∙ low_Sum es) h in
-      subst (λ l. CanSum (IsSmall limit) f (constant_form (pos 0)) (low_exprs (map plain_lexpr l))) (sym q) k
+      let k : CanSum (IsSmall form_limit) f (constant_form (pos 0)) (low_exprs (map plain_lexpr es.items)) =
+      subst (CanForm (IsSmall form_limit) f) (ap plain_lexpr p ∙ low_Sum es) h in
+      subst (λ l. CanSum (IsSmall form_limit) f (constant_form (pos 0)) (low_exprs (map plain_lexpr l))) (sym q) k
 
-  pub product_can : (es : Listed LExpr) (xs : List LExpr) → e ≡ Product es → xs ≡ es.items → CanForm (IsSmall limit) f (plain_lexpr e) → CanProduct (IsSmall limit) f (constant_form (pos 1)) (low_exprs (map plain_lexpr xs))
+  pub product_can : (es : Listed LExpr) (xs : List LExpr) → e ≡ Product es → xs ≡ es.items → CanForm (IsSmall form_limit) f (plain_lexpr e) → CanProduct (IsSmall form_limit) f (constant_form (pos 1)) (low_exprs (map plain_lexpr xs))
   unfolding plan_words
   product_can es xs p q h =
-      let k : CanProduct (IsSmall limit) f (constant_form (pos 1)) (low_exprs (map plain_lexpr es.items)) =
-      subst (CanForm (IsSmall limit) f) (ap plain_lexpr p ∙ low_Product es) h in
-      subst (λ l. CanProduct (IsSmall limit) f (constant_form (pos 1)) (low_exprs (map plain_lexpr l))) (sym q) k
+      let k : CanProduct (IsSmall form_limit) f (constant_form (pos 1)) (low_exprs (map plain_lexpr es.items)) =
+      subst (CanForm (IsSmall form_limit) f) (ap plain_lexpr p ∙ low_Product es) h in
+      subst (λ l. CanProduct (IsSmall form_limit) f (constant_form (pos 1)) (low_exprs (map plain_lexpr l))) (sym q) k
 
-  pub neg_can : (b : Box LExpr Global) (x : LExpr) → e ≡ Neg b → x ≡ b.value → CanForm (IsSmall limit) f (plain_lexpr e) → CanForm (IsSmall limit) f (plain_lexpr x)
+  pub neg_can : (b : Box LExpr Global) (x : LExpr) → e ≡ Neg b → x ≡ b.value → CanForm (IsSmall form_limit) f (plain_lexpr e) → CanForm (IsSmall form_limit) f (plain_lexpr x)
   unfolding plan_words
   neg_can b x p q h =
-      let k : CanForm (IsSmall limit) f (l.Neg (plain_lexpr b.value)) = subst (CanForm (IsSmall limit) f) (ap plain_lexpr p ∙ low_Neg b) h in
-      subst (λ y. CanForm (IsSmall limit) f (plain_lexpr y)) (sym q) k.0
+      let k : CanForm (IsSmall form_limit) f (l.Neg (plain_lexpr b.value)) = subst (CanForm (IsSmall form_limit) f) (ap plain_lexpr p ∙ low_Neg b) h in
+      subst (λ y. CanForm (IsSmall form_limit) f (plain_lexpr y)) (sym q) k.0
 
-  pub neg_small : (b : Box LExpr Global) (x : LExpr) (a : Linear) → e ≡ Neg b → x ≡ b.value → a ≡ form f (plain_lexpr x) → CanForm (IsSmall limit) f (plain_lexpr e) → Numbers (IsSmall limit) a
+  pub neg_small : (b : Box LExpr Global) (x : LExpr) (a : Linear) → e ≡ Neg b → x ≡ b.value → a ≡ form f (plain_lexpr x) → CanForm (IsSmall form_limit) f (plain_lexpr e) → Numbers (IsSmall form_limit) a
   neg_small b x a p q r h =
-      subst (Numbers (IsSmall limit)) (sym r) (small_form (IsSmall limit) f (plain_lexpr x) (neg_can b x p q h))
+      subst (Numbers (IsSmall form_limit)) (sym r) (small_form (IsSmall form_limit) f (plain_lexpr x) (neg_can b x p q h))
 
   pub literal_form : (n : ℤ) (a : Linear) → e ≡ Literal n → a ≡ constant_form n → a ≡ form f (plain_lexpr e)
   unfolding plan_words
@@ -160,19 +160,19 @@ module _ (f : Forms) (e : LExpr) where
 -- ---- the form so far with one part more
 pub sum_next :
     {f : Forms} {a : Linear} {es : List LExpr} {i : ℕ} {e : LExpr} {b c : Linear} → SumStep f a es i e → b ≡ form f (plain_lexpr e) → c ≡ add_forms b a →
-    CanSum (IsSmall limit) f c (low_exprs (map plain_lexpr (drop (i + 1) es)))
+    CanSum (IsSmall form_limit) f c (low_exprs (map plain_lexpr (drop (i + 1) es)))
     × (sum_form f c (low_exprs (map plain_lexpr (drop (i + 1) es))) ≡ sum_form f a (low_exprs (map plain_lexpr (drop i es))))
 sum_next {f} {a} {es} {i} {e} {b} {c} k p q =
     let rest = low_exprs (map plain_lexpr (drop (i + 1) es)) in
     let s : c ≡ add_forms (form f (plain_lexpr e)) a = q ∙ ap (λ x. add_forms x a) p in
-    (subst (λ x. CanSum (IsSmall limit) f x rest) (sym s) k.rest, ap (λ x. sum_form f x rest) s ∙ k.same)
+    (subst (λ x. CanSum (IsSmall form_limit) f x rest) (sym s) k.rest, ap (λ x. sum_form f x rest) s ∙ k.same)
 
 pub product_next :
     {f : Forms} {a : Linear} {es : List LExpr} {i : ℕ} {e : LExpr} {b c : Linear} → ProductStep f a es i e → b ≡ form f (plain_lexpr e) →
     c ≡ multiply_forms a b →
-    CanProduct (IsSmall limit) f c (low_exprs (map plain_lexpr (drop (i + 1) es)))
+    CanProduct (IsSmall form_limit) f c (low_exprs (map plain_lexpr (drop (i + 1) es)))
     × (product_form f c (low_exprs (map plain_lexpr (drop (i + 1) es))) ≡ product_form f a (low_exprs (map plain_lexpr (drop i es))))
 product_next {f} {a} {es} {i} {e} {b} {c} k p q =
     let rest = low_exprs (map plain_lexpr (drop (i + 1) es)) in
     let s : c ≡ multiply_forms a (form f (plain_lexpr e)) = q ∙ ap (multiply_forms a) p in
-    (subst (λ x. CanProduct (IsSmall limit) f x rest) (sym s) k.rest, ap (λ x. product_form f x rest) s ∙ k.same)
+    (subst (λ x. CanProduct (IsSmall form_limit) f x rest) (sym s) k.rest, ap (λ x. product_form f x rest) s ∙ k.same)

@@ -24,7 +24,7 @@ use Rattle.homeo_plan.specs.Holding.{IsOn, AtomHolds}
 use Rattle.homeo_plan.specs.PlanView.{plain_atom}
 use Rattle.homeo_plan.specs.declared.forms.Atom.{Atom}
 use Rattle.homeo_plan.proofs.Atoms.{form_at_base, true_cond_holds}
-use Rattle.homeo_linear.specs.Limit.{limit}
+use Rattle.homeo_plan.specs.Limit.{form_limit}
 use Rattle.homeo_linear.specs.inner.Kept.{AreApart, kept_comparison, kept_test, kept_cond}
 use Rattle.homeo_linear.proofs.FormSteps.{small_form}
 use Rattle.homeo_linear.proofs.Comparing.{are_apart}
@@ -58,8 +58,8 @@ kept_stop b ys t c h = go (passes t (whole b)) h
 
 -- ---- the first of the tests that are left
 pub record TestStep (b : ℕ → ℤ) (ts : List LTest) (i : ℕ) (t : LTest) : Type 0 where
-  pub first : CanTest (IsSmall limit) (base_forms b) (plain_ltest t)
-  pub rest : CanCond (IsSmall limit) (base_forms b) (low_tests (map plain_ltest (drop (i + 1) ts)))
+  pub first : CanTest (IsSmall form_limit) (base_forms b) (plain_ltest t)
+  pub rest : CanCond (IsSmall form_limit) (base_forms b) (low_tests (map plain_ltest (drop (i + 1) ts)))
   pub holds : holds (low_tests (map plain_ltest (drop i ts))) (whole b)
       ≡ (passes (plain_ltest t) (whole b) && holds (low_tests (map plain_ltest (drop (i + 1) ts))) (whole b))
   pub pass : (ys : List Linear) → true ≡ passes (plain_ltest t) (whole b) →
@@ -69,12 +69,12 @@ pub record TestStep (b : ℕ → ℤ) (ts : List LTest) (i : ℕ) (t : LTest) : 
 
 pub test_step :
     {b : ℕ → ℤ} (ts : List LTest) (i : ℕ) (t : LTest) → i < length ts → t ≡ get_or ts i t →
-    CanCond (IsSmall limit) (base_forms b) (low_tests (map plain_ltest (drop i ts))) → TestStep b ts i t
+    CanCond (IsSmall form_limit) (base_forms b) (low_tests (map plain_ltest (drop i ts))) → TestStep b ts i t
 unfolding plan_words tree_words meaning_words
 test_step {b} ts i t h p can =
     let next = drop_next plain_ltest ts i t h p in
     let more = low_tests (map plain_ltest (drop (i + 1) ts)) in
-    let k = subst (λ l. CanCond (IsSmall limit) (base_forms b) (low_tests l)) next can in
+    let k = subst (λ l. CanCond (IsSmall form_limit) (base_forms b) (low_tests l)) next can in
     record {
       first = k.0;
       rest = k.1;
@@ -94,24 +94,24 @@ tests_kept b ys ts i h =
 
 -- ---- each kind of test
 module _ (b : ℕ → ℤ) (t : LTest) where
-  pub not_can : (c : LCond) → t ≡ Not c → CanTest (IsSmall limit) (base_forms b) (plain_ltest t) → CanCond (IsSmall limit) (base_forms b) (plain_lcond c)
+  pub not_can : (c : LCond) → t ≡ Not c → CanTest (IsSmall form_limit) (base_forms b) (plain_ltest t) → CanCond (IsSmall form_limit) (base_forms b) (plain_lcond c)
   unfolding plan_words
-  not_can c p h = subst (CanTest (IsSmall limit) (base_forms b)) (ap plain_ltest p ∙ low_Not c) h
+  not_can c p h = subst (CanTest (IsSmall form_limit) (base_forms b)) (ap plain_ltest p ∙ low_Not c) h
 
   -- what a comparison asks of its sides
   pub record SidesCan (x y : LExpr) : Type 0 where
-    pub left : CanForm (IsSmall limit) (base_forms b) (plain_lexpr x)
-    pub right : CanForm (IsSmall limit) (base_forms b) (plain_lexpr y)
+    pub left : CanForm (IsSmall form_limit) (base_forms b) (plain_lexpr x)
+    pub right : CanForm (IsSmall form_limit) (base_forms b) (plain_lexpr y)
     pub there : AreApart (form (base_forms b) (plain_lexpr x)) (form (base_forms b) (plain_lexpr y))
     pub back : AreApart (form (base_forms b) (plain_lexpr y)) (form (base_forms b) (plain_lexpr x))
 
-  pub sides_can : (op : Comparing) (x y : LExpr) → t ≡ Compare op x y → CanTest (IsSmall limit) (base_forms b) (plain_ltest t) → SidesCan x y
+  pub sides_can : (op : Comparing) (x y : LExpr) → t ≡ Compare op x y → CanTest (IsSmall form_limit) (base_forms b) (plain_ltest t) → SidesCan x y
   unfolding plan_words
   sides_can op x y p h =
-      let k : CanTest (IsSmall limit) (base_forms b) (l.Comparison op (plain_lexpr x) (plain_lexpr y)) =
-      subst (CanTest (IsSmall limit) (base_forms b)) (ap plain_ltest p ∙ low_Compare op x y) h in
-      let m = small_form (IsSmall limit) (base_forms b) (plain_lexpr x) k.0 in
-      let n = small_form (IsSmall limit) (base_forms b) (plain_lexpr y) k.1 in
+      let k : CanTest (IsSmall form_limit) (base_forms b) (l.Comparison op (plain_lexpr x) (plain_lexpr y)) =
+      subst (CanTest (IsSmall form_limit) (base_forms b)) (ap plain_ltest p ∙ low_Compare op x y) h in
+      let m = small_form (IsSmall form_limit) (base_forms b) (plain_lexpr x) k.0 in
+      let n = small_form (IsSmall form_limit) (base_forms b) (plain_lexpr y) k.1 in
       record { left = k.0; right = k.1; there = are_apart _ _ m n k.2; back = are_apart _ _ n m k.3 }
 
   pub true_passes : t ≡ True → true ≡ passes (plain_ltest t) (whole b)

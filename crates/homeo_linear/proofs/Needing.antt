@@ -25,7 +25,7 @@ use Rattle.homeo_plan.proofs.Needs.{residual_same}
 use Rattle.homeo_plan.specs.Linear.{Linear, Forms, base_forms, form, support, delta_of, add_deltas}
 use Rattle.homeo_plan.specs.Needs.{remote, written_needs, add_written, needs_from, needs, IsStraightOne, IsStraight}
 use Rattle.homeo_plan.specs.declared.forms.Delta.{Delta}
-use Rattle.homeo_linear.specs.Limit.{limit}
+use Rattle.homeo_plan.specs.Limit.{form_limit}
 use Rattle.homeo_linear.specs.declared.following.Following.{Following}
 use Rattle.homeo_linear.specs.inner.Following.{adds, needs_of, Followed}
 use Rattle.homeo_linear.specs.inner.Key.{words}
@@ -95,14 +95,14 @@ pub followed_by :
     (r s : Following) (c : l.Command) (f : Forms) (w : List Delta) (ps : List (List Delta)) → s.site ≡ r.site → forms_of s.standing ≡ f →
     s.written.items ≡ w → map (λ p. p.items) s.prints.items ≡ ps → InOrder w →
     ((cs : l.Commands) → adds ps (needs_from r.site f w cs) ≡ needs_of r (l.MoreCommand c cs)) →
-    ((cs : l.Commands) → CanFollow (IsSmall limit) (forms_of r.standing) (l.MoreCommand c cs) → CanFollow (IsSmall limit) f cs) → Followed r s c
+    ((cs : l.Commands) → CanFollow (IsSmall form_limit) (forms_of r.standing) (l.MoreCommand c cs) → CanFollow (IsSmall form_limit) f cs) → Followed r s c
 unfolding needs_of
 followed_by r s c f w ps ei ef ew ep o n k =
     record {
       order = subst InOrder (sym ew) o;
       needs = λ cs. ap₂ (λ i g. adds (map (λ p. p.items) s.prints.items) (needs_from i g s.written.items cs)) ei ef
           ∙ ap₂ (λ v q. adds q (needs_from r.site f v cs)) ew ep ∙ n cs;
-      small = λ cs h. subst (λ g. CanFollow (IsSmall limit) g cs) (sym ef) (k cs h);
+      small = λ cs h. subst (λ g. CanFollow (IsSmall form_limit) g cs) (sym ef) (k cs h);
     }
 
 module _ (r s : Following) (e : l.Expr) (a : Linear) (is : a ≡ form (forms_of r.standing) e) (site : s.site ≡ r.site) (o : InOrder r.written.items) where
@@ -147,7 +147,7 @@ first_needs r i b ei ef ew ep cs =
     ∙ ap₂ (λ v q. adds (map (λ p. p.items) q) (needs_from i (base_forms b) v cs)) ew ep
 
 -- ---- the first of the commands that are left
-can_one : (f : Forms) (c : l.Command) (cs : l.Commands) → CanFollow (IsSmall limit) f (l.MoreCommand c cs) → CanFollow (IsSmall limit) f (l.MoreCommand c l.NoCommand)
+can_one : (f : Forms) (c : l.Command) (cs : l.Commands) → CanFollow (IsSmall form_limit) f (l.MoreCommand c cs) → CanFollow (IsSmall form_limit) f (l.MoreCommand c l.NoCommand)
 unfolding plan_words
 can_one f (l.Assign t e) cs h = (h.0, tt)
 can_one f (l.Write x e) cs h = (h.0, tt)
@@ -158,22 +158,22 @@ can_one f (l.If b c d) cs h = tt
 
 pub record CommandStep (r : Following) (cs : List LCommand) (i : ℕ) (c : LCommand) : Type 0 where
   pub straight : IsStraightOne (plain_lcommand c)
-  pub small : CanFollow (IsSmall limit) (forms_of r.standing) (l.MoreCommand (plain_lcommand c) l.NoCommand)
+  pub small : CanFollow (IsSmall form_limit) (forms_of r.standing) (l.MoreCommand (plain_lcommand c) l.NoCommand)
   pub left : IsStraight (low_commands (map plain_lcommand (drop (i + 1) cs)))
-  pub can : (s : Following) → Followed r s (plain_lcommand c) → CanFollow (IsSmall limit) (forms_of s.standing) (low_commands (map plain_lcommand (drop (i + 1) cs)))
+  pub can : (s : Following) → Followed r s (plain_lcommand c) → CanFollow (IsSmall form_limit) (forms_of s.standing) (low_commands (map plain_lcommand (drop (i + 1) cs)))
   pub needs : (s : Following) → Followed r s (plain_lcommand c) →
       needs_of s (low_commands (map plain_lcommand (drop (i + 1) cs))) ≡ needs_of r (low_commands (map plain_lcommand (drop i cs)))
 
 pub command_step :
     (r : Following) (cs : List LCommand) (i : ℕ) (c : LCommand) → i < length cs → c ≡ get_or cs i c →
     IsStraight (low_commands (map plain_lcommand (drop i cs))) →
-    CanFollow (IsSmall limit) (forms_of r.standing) (low_commands (map plain_lcommand (drop i cs))) → CommandStep r cs i c
+    CanFollow (IsSmall form_limit) (forms_of r.standing) (low_commands (map plain_lcommand (drop i cs))) → CommandStep r cs i c
 unfolding plan_words tree_words
 command_step r cs i c h p st can =
     let rest = low_commands (map plain_lcommand (drop (i + 1) cs)) in
     let next = drop_next plain_lcommand cs i c h p in
     let k = subst (λ l. IsStraight (low_commands l)) next st in
-    let m = subst (λ l. CanFollow (IsSmall limit) (forms_of r.standing) (low_commands l)) next can in
+    let m = subst (λ l. CanFollow (IsSmall form_limit) (forms_of r.standing) (low_commands l)) next can in
     record {
       straight = k.0;
       small = can_one (forms_of r.standing) (plain_lcommand c) rest m;
@@ -218,17 +218,17 @@ needs_are r es vs p q = ap (adds (map (λ p. p.items) r.prints.items)) (q ∙ ap
 
 -- ---- each kind of command
 module _ (f : Forms) (x : LCommand) where
-  pub assign_can : (t : Temp) (e : LExpr) → x ≡ Assign t e → CanFollow (IsSmall limit) f (l.MoreCommand (plain_lcommand x) l.NoCommand) → CanForm (IsSmall limit) f (plain_lexpr e)
+  pub assign_can : (t : Temp) (e : LExpr) → x ≡ Assign t e → CanFollow (IsSmall form_limit) f (l.MoreCommand (plain_lcommand x) l.NoCommand) → CanForm (IsSmall form_limit) f (plain_lexpr e)
   unfolding plan_words
-  assign_can t e p h = (subst (λ y. CanFollow (IsSmall limit) f (l.MoreCommand y l.NoCommand)) (ap plain_lcommand p ∙ low_Assign t e) h).0
+  assign_can t e p h = (subst (λ y. CanFollow (IsSmall form_limit) f (l.MoreCommand y l.NoCommand)) (ap plain_lcommand p ∙ low_Assign t e) h).0
 
-  pub write_can : (n : SplitName) (e : LExpr) → x ≡ Write n e → CanFollow (IsSmall limit) f (l.MoreCommand (plain_lcommand x) l.NoCommand) → CanForm (IsSmall limit) f (plain_lexpr e)
+  pub write_can : (n : SplitName) (e : LExpr) → x ≡ Write n e → CanFollow (IsSmall form_limit) f (l.MoreCommand (plain_lcommand x) l.NoCommand) → CanForm (IsSmall form_limit) f (plain_lexpr e)
   unfolding plan_words
-  write_can n e p h = (subst (λ y. CanFollow (IsSmall limit) f (l.MoreCommand y l.NoCommand)) (ap plain_lcommand p ∙ low_Write n e) h).0
+  write_can n e p h = (subst (λ y. CanFollow (IsSmall form_limit) f (l.MoreCommand y l.NoCommand)) (ap plain_lcommand p ∙ low_Write n e) h).0
 
-  pub print_can : (e : LExpr) → x ≡ Print e → CanFollow (IsSmall limit) f (l.MoreCommand (plain_lcommand x) l.NoCommand) → CanForm (IsSmall limit) f (plain_lexpr e)
+  pub print_can : (e : LExpr) → x ≡ Print e → CanFollow (IsSmall form_limit) f (l.MoreCommand (plain_lcommand x) l.NoCommand) → CanForm (IsSmall form_limit) f (plain_lexpr e)
   unfolding plan_words
-  print_can e p h = (subst (λ y. CanFollow (IsSmall limit) f (l.MoreCommand y l.NoCommand)) (ap plain_lcommand p ∙ low_Print e) h).0
+  print_can e p h = (subst (λ y. CanFollow (IsSmall form_limit) f (l.MoreCommand y l.NoCommand)) (ap plain_lcommand p ∙ low_Print e) h).0
 
 module _ (x : LCommand) (h : IsStraightOne (plain_lcommand x)) where
   pub no_skip : x ≡ Skip → ⊥

@@ -9,7 +9,7 @@ ghost use Rattle.homeo_plan.specs.Atoms.{difference};
 ghost use Rattle.homeo_plan.specs.FormSizes.{Numbers};
 ghost use Rattle.homeo_plan.specs.Linear.{add_forms, scale_form};
 ghost use Rattle.homeo_plan.specs.PlanView.{plain_atom};
-ghost use Rattle.homeo_linear.specs.Limit.{limit};
+ghost use Rattle.homeo_plan.specs.Limit.{form_limit};
 ghost use Rattle.homeo_linear.specs.inner.Kept.{AreApart, kept_comparison};
 
 use crate::form::Form;

@@ -8,7 +8,7 @@ ghost use Rattle.homeo_meaning.specs.Small.{IsSmall};
 ghost use Rattle.homeo_plan.specs.FormSizes.{CanTest, CanCond};
 ghost use Rattle.homeo_plan.specs.Linear.{base_forms};
 ghost use Rattle.homeo_plan.specs.PlanView.{plain_atom};
-ghost use Rattle.homeo_linear.specs.Limit.{limit};
+ghost use Rattle.homeo_plan.specs.Limit.{form_limit};
 ghost use Rattle.homeo_linear.specs.inner.Kept.{kept_test, kept_cond};
 
 use crate::comparisons::{Kept, comparison};
@@ -20,7 +20,7 @@ use std::alloc::Global;
 #[cycle(conditions)]
 #[tactic(auto, using(homeo_syntax::proofs::Measures::low_test_parts, homeo_syntax::proofs::LowViews::low_phrase_views))]
 fn test(alloc: Global, base: &[i64], t: &LTest) -> Result<Kept, Memory>
-    requires { CanTest (IsSmall limit) (base_forms (values_of base.now)) (plain_ltest t.now) }
+    requires { CanTest (IsSmall form_limit) (base_forms (values_of base.now)) (plain_ltest t.now) }
     ensures holds { IfOk result (λ k. k.holds ≡ passes (plain_ltest t.now) (whole (values_of base.now))) }
     ensures atoms { IfOk result (λ k. map plain_atom k.atoms.items ≡ kept_test (values_of base.now) (plain_ltest t.now)) }
 {
@@ -48,7 +48,7 @@ fn test(alloc: Global, base: &[i64], t: &LTest) -> Result<Kept, Memory>
 #[cycle(conditions)]
 #[tactic(auto, using(homeo_syntax::proofs::Measures::low_test_parts, homeo_syntax::proofs::LowViews::low_phrase_views))]
 pub(crate) fn condition(alloc: Global, base: &[i64], c: &LCond) -> Result<Kept, Memory>
-    requires { CanCond (IsSmall limit) (base_forms (values_of base.now)) (plain_lcond c.now) }
+    requires { CanCond (IsSmall form_limit) (base_forms (values_of base.now)) (plain_lcond c.now) }
     ensures holds { IfOk result (λ k. k.holds ≡ holds (plain_lcond c.now) (whole (values_of base.now))) }
     ensures atoms { IfOk result (λ k. map plain_atom k.atoms.items ≡ kept_cond (values_of base.now) (plain_lcond c.now)) }
 {
@@ -58,7 +58,7 @@ pub(crate) fn condition(alloc: Global, base: &[i64], c: &LCond) -> Result<Kept, 
 #[cycle(conditions)]
 #[tactic(auto, using(homeo_syntax::proofs::Measures::low_test_parts))]
 fn tests(alloc: Global, base: &[i64], ts: &[LTest]) -> Result<Kept, Memory>
-    requires { CanCond (IsSmall limit) (base_forms (values_of base.now)) (low_tests (map plain_ltest ts.now)) }
+    requires { CanCond (IsSmall form_limit) (base_forms (values_of base.now)) (low_tests (map plain_ltest ts.now)) }
     ensures holds { IfOk result (λ k. k.holds ≡ holds (low_tests (map plain_ltest ts.now)) (whole (values_of base.now))) }
     ensures atoms { IfOk result (λ k. map plain_atom k.atoms.items ≡ kept_cond (values_of base.now) (low_tests (map plain_ltest ts.now))) }
 {

@@ -6,7 +6,7 @@ ghost use Rattle.homeo_meaning.specs.Small.{IsSmall};
 ghost use Rattle.homeo_meaning.specs.Serial.{values_of};
 ghost use Rattle.homeo_plan.specs.FormSizes.{CanForm, CanSum, CanProduct};
 ghost use Rattle.homeo_plan.specs.Linear.{constant_form, base_forms, form, sum_form, product_form};
-ghost use Rattle.homeo_linear.specs.Limit.{limit};
+ghost use Rattle.homeo_plan.specs.Limit.{form_limit};
 ghost use Rattle.homeo_linear.specs.inner.Standing.{forms_of};
 
 use crate::form::Form;
@@ -18,7 +18,7 @@ use std::alloc::Global;
 #[cycle(expressions)]
 #[tactic(auto, using(homeo_syntax::proofs::Measures::low_expr_parts, homeo_syntax::proofs::LowViews::low_phrase_views))]
 pub(crate) fn form(alloc: Global, standing: &Standing, e: &LExpr) -> Result<Form, Memory>
-    requires { CanForm (IsSmall limit) (forms_of standing.now) (plain_lexpr e.now) }
+    requires { CanForm (IsSmall form_limit) (forms_of standing.now) (plain_lexpr e.now) }
     ensures { IfOk result (λ f. f ≡ form (forms_of standing.now) (plain_lexpr e.now)) }
 {
     match e {
@@ -37,7 +37,7 @@ pub(crate) fn form(alloc: Global, standing: &Standing, e: &LExpr) -> Result<Form
 #[cycle(expressions)]
 #[tactic(auto, using(homeo_syntax::proofs::Measures::low_expr_parts))]
 fn sum(alloc: Global, standing: &Standing, es: &[LExpr]) -> Result<Form, Memory>
-    requires { CanSum (IsSmall limit) (forms_of standing.now) (constant_form (pos 0)) (low_exprs (map plain_lexpr es.now)) }
+    requires { CanSum (IsSmall form_limit) (forms_of standing.now) (constant_form (pos 0)) (low_exprs (map plain_lexpr es.now)) }
     ensures { IfOk result (λ f. f ≡ sum_form (forms_of standing.now) (constant_form (pos 0)) (low_exprs (map plain_lexpr es.now))) }
 {
     let mut total = Form::number(alloc, 0);
@@ -51,7 +51,7 @@ fn sum(alloc: Global, standing: &Standing, es: &[LExpr]) -> Result<Form, Memory>
 #[cycle(expressions)]
 #[tactic(auto, using(homeo_syntax::proofs::Measures::low_expr_parts))]
 fn product(alloc: Global, standing: &Standing, es: &[LExpr]) -> Result<Form, Memory>
-    requires { CanProduct (IsSmall limit) (forms_of standing.now) (constant_form (pos 1)) (low_exprs (map plain_lexpr es.now)) }
+    requires { CanProduct (IsSmall form_limit) (forms_of standing.now) (constant_form (pos 1)) (low_exprs (map plain_lexpr es.now)) }
     ensures { IfOk result (λ f. f ≡ product_form (forms_of standing.now) (constant_form (pos 1)) (low_exprs (map plain_lexpr es.now))) }
 {
     let mut total = Form::number(alloc, 1);
@@ -64,7 +64,7 @@ fn product(alloc: Global, standing: &Standing, es: &[LExpr]) -> Result<Form, Mem
 
 /// The form of an expression at a base.
 pub(crate) fn form_at_base(alloc: Global, base: &[i64], e: &LExpr) -> Result<Form, Memory>
-    requires { CanForm (IsSmall limit) (base_forms (values_of base.now)) (plain_lexpr e.now) }
+    requires { CanForm (IsSmall form_limit) (base_forms (values_of base.now)) (plain_lexpr e.now) }
     ensures { IfOk result (λ f. f ≡ form (base_forms (values_of base.now)) (plain_lexpr e.now)) }
 {
     let standing = Standing::new(alloc, base);

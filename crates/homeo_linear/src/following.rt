@@ -9,7 +9,7 @@ ghost use Rattle.homeo_meaning.specs.Small.{IsSmall};
 ghost use Rattle.homeo_plan.specs.FormSizes.{CanForm, CanFollow};
 ghost use Rattle.homeo_plan.specs.Linear.{base_forms, support};
 ghost use Rattle.homeo_plan.specs.Needs.{remote, written_needs, add_written, needs, IsStraightOne, IsStraight};
-ghost use Rattle.homeo_linear.specs.Limit.{limit};
+ghost use Rattle.homeo_plan.specs.Limit.{form_limit};
 ghost use Rattle.homeo_linear.specs.inner.Following.{needs_of, Followed};
 ghost use Rattle.homeo_linear.specs.inner.Order.{InOrder};
 ghost use Rattle.homeo_linear.specs.inner.Places.{plain_place};
@@ -52,7 +52,7 @@ impl<'a> Following<'a> {
     /// Follows assignments, writes of deltas and prints.
     pub(crate) fn follow_all(&mut self, alloc: Global, commands: &[LCommand]) -> Result<(), Memory>
         requires straight { IsStraight (low_commands (map plain_lcommand commands.now)) }
-        requires small { CanFollow (IsSmall limit) (forms_of self.old.standing) (low_commands (map plain_lcommand commands.now)) }
+        requires small { CanFollow (IsSmall form_limit) (forms_of self.old.standing) (low_commands (map plain_lcommand commands.now)) }
         requires order { InOrder self.old.written.items }
         ensures { OnOk result (needs_of self.new NoCommand ≡ needs_of self.old (low_commands (map plain_lcommand commands.now))) }
     {
@@ -65,7 +65,7 @@ impl<'a> Following<'a> {
     /// Follows one of them.
     fn follow(&mut self, alloc: Global, command: &LCommand) -> Result<(), Memory>
         requires straight { IsStraightOne (plain_lcommand command.now) }
-        requires small { CanFollow (IsSmall limit) (forms_of self.old.standing) (MoreCommand (plain_lcommand command.now) NoCommand) }
+        requires small { CanFollow (IsSmall form_limit) (forms_of self.old.standing) (MoreCommand (plain_lcommand command.now) NoCommand) }
         requires order { InOrder self.old.written.items }
         ensures { OnOk result (Followed self.old self.new (plain_lcommand command.now)) }
     {
@@ -78,7 +78,7 @@ impl<'a> Following<'a> {
     }
 
     fn assign(&mut self, alloc: Global, target: Temp, value: &LExpr) -> Result<(), Memory>
-        requires small { CanForm (IsSmall limit) (forms_of self.old.standing) (plain_lexpr value.now) }
+        requires small { CanForm (IsSmall form_limit) (forms_of self.old.standing) (plain_lexpr value.now) }
         requires order { InOrder self.old.written.items }
         ensures { OnOk result (Followed self.old self.new (Assign target (plain_lexpr value.now))) }
     {
@@ -87,7 +87,7 @@ impl<'a> Following<'a> {
     }
 
     fn write(&mut self, alloc: Global, target: SplitName, value: &LExpr) -> Result<(), Memory>
-        requires small { CanForm (IsSmall limit) (forms_of self.old.standing) (plain_lexpr value.now) }
+        requires small { CanForm (IsSmall form_limit) (forms_of self.old.standing) (plain_lexpr value.now) }
         requires order { InOrder self.old.written.items }
         ensures { OnOk result (Followed self.old self.new (Write target (plain_lexpr value.now))) }
     {
@@ -97,7 +97,7 @@ impl<'a> Following<'a> {
     }
 
     fn print(&mut self, alloc: Global, value: &LExpr) -> Result<(), Memory>
-        requires small { CanForm (IsSmall limit) (forms_of self.old.standing) (plain_lexpr value.now) }
+        requires small { CanForm (IsSmall form_limit) (forms_of self.old.standing) (plain_lexpr value.now) }
         requires order { InOrder self.old.written.items }
         ensures { OnOk result (Followed self.old self.new (Print (plain_lexpr value.now))) }
     {

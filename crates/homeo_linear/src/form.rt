@@ -5,7 +5,7 @@ ghost use Rattle.homeo_meaning.specs.Small.{IsSmall};
 ghost use Rattle.homeo_plan.specs.FormSizes.{Numbers};
 ghost use Rattle.homeo_plan.specs.Linear.{constant_form, delta_form, add_forms, scale_form, multiply_forms, mix_forms, is_pure, support};
 ghost use Rattle.homeo_plan.specs.PlanView.{plain_linear};
-ghost use Rattle.homeo_linear.specs.Limit.{limit};
+ghost use Rattle.homeo_plan.specs.Limit.{form_limit};
 ghost use Rattle.homeo_linear.specs.inner.Order.{InOrder};
 
 use crate::deltas::{add_deltas, add_deltas_of};
@@ -80,8 +80,8 @@ impl Form {
 
     /// The other form put into this one.
     pub(crate) fn plus(self, other: &Form) -> Result<Form, Memory>
-        requires small { Numbers (IsSmall limit) self }
-        requires other_small { Numbers (IsSmall limit) other.now }
+        requires small { Numbers (IsSmall form_limit) self }
+        requires other_small { Numbers (IsSmall form_limit) other.now }
         ensures { IfOk result (λ f. f ≡ add_forms other.now self) }
     {
         let mut terms = self.terms;
@@ -97,8 +97,8 @@ impl Form {
 
     /// The form with its numbers multiplied.
     pub(crate) fn times(&self, alloc: Global, factor: i128) -> Result<Form, Memory>
-        requires factor { IsSmall limit factor }
-        requires small { Numbers (IsSmall limit) self.now }
+        requires factor { IsSmall form_limit factor }
+        requires small { Numbers (IsSmall form_limit) self.now }
         ensures { IfOk result (λ f. f ≡ scale_form factor self.now) }
     {
         Ok(Form {
@@ -110,8 +110,8 @@ impl Form {
 
     /// The product of two forms. Of two that aren't numbers it is that of their constants, where each of their deltas is 0.
     pub(crate) fn by(&self, alloc: Global, other: &Form) -> Result<Form, Memory>
-        requires small { Numbers (IsSmall limit) self.now }
-        requires other_small { Numbers (IsSmall limit) other.now }
+        requires small { Numbers (IsSmall form_limit) self.now }
+        requires other_small { Numbers (IsSmall form_limit) other.now }
         ensures { IfOk result (λ f. f ≡ multiply_forms self.now other.now) }
     {
         if self.is_number() {
@@ -124,8 +124,8 @@ impl Form {
     }
 
     fn mixed_with(&self, alloc: Global, other: &Form) -> Result<Form, Memory>
-        requires small { IsSmall limit self.now.constant }
-        requires other_small { IsSmall limit other.now.constant }
+        requires small { IsSmall form_limit self.now.constant }
+        requires other_small { IsSmall form_limit other.now.constant }
         ensures { IfOk result (λ f. f ≡ mix_forms self.now other.now) }
     {
         let deltas = self.support(alloc)?;

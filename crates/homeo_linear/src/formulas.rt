@@ -11,7 +11,7 @@ ghost use Rattle.homeo_plan.specs.FormSizes.{CanCond};
 ghost use Rattle.homeo_plan.specs.Holding.{IsOn, AtomHolds};
 ghost use Rattle.homeo_plan.specs.Linear.{base_forms};
 ghost use Rattle.homeo_plan.specs.PlanView.{plain_atoms};
-ghost use Rattle.homeo_linear.specs.Limit.{limit};
+ghost use Rattle.homeo_plan.specs.Limit.{form_limit};
 
 use crate::conditions::condition;
 use homeo_meaning::Database;
@@ -32,7 +32,7 @@ use std::alloc::Global;
 /// `Memory` when out of memory.
 pub fn atoms(alloc: Global, formula: &LCond, base: &Database) -> Result<AtomSet, Memory>
     requires holds { holds (plain_lcond formula.now) (whole (values_of base.now.items)) ≡ true }
-    requires small { CanCond (IsSmall limit) (base_forms (values_of base.now.items)) (plain_lcond formula.now) }
+    requires small { CanCond (IsSmall form_limit) (base_forms (values_of base.now.items)) (plain_lcond formula.now) }
     ensures atoms { IfOk result (λ a. plain_atoms a ≡ true_cond (values_of base.now.items) (plain_lcond formula.now)) }
     ensures means { IfOk result (λ a. (s : State) → IsOn (values_of base.now.items) s →
         Each (AtomHolds s) (plain_atoms a) → holds (plain_lcond formula.now) s ≡ true) }

@@ -2,19 +2,19 @@
 
 ghost use Rattle.std.specs.Prelude.{◌≡◌, ◌+ℤ◌, ◌*ℤ◌};
 ghost use Rattle.homeo_meaning.specs.Small.{IsSmall};
-ghost use Rattle.homeo_linear.specs.Limit.{limit};
+ghost use Rattle.homeo_plan.specs.Limit.{form_limit};
 
 pub(crate) fn added(a: i128, b: i128) -> i128
-    requires left { IsSmall limit a }
-    requires right { IsSmall limit b }
+    requires left { IsSmall form_limit a }
+    requires right { IsSmall form_limit b }
     ensures { result ≡ a +ℤ b }
 {
     a + b
 }
 
 pub(crate) fn multiplied(a: i128, b: i128) -> i128
-    requires left { IsSmall limit a }
-    requires right { IsSmall limit b }
+    requires left { IsSmall form_limit a }
+    requires right { IsSmall form_limit b }
     ensures { result ≡ a *ℤ b }
 {
     a * b

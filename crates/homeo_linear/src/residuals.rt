@@ -10,7 +10,7 @@ ghost use Rattle.homeo_plan.specs.Holding.{IsOn, ZeroInBoth, SameOwn};
 ghost use Rattle.homeo_plan.specs.Linear.{base_forms};
 ghost use Rattle.homeo_plan.specs.Needs.{needs, IsStraight};
 ghost use Rattle.homeo_plan.specs.PlanView.{plain_residual};
-ghost use Rattle.homeo_linear.specs.Limit.{limit};
+ghost use Rattle.homeo_plan.specs.Limit.{form_limit};
 
 use crate::following::Following;
 use homeo_meaning::Database;
@@ -30,7 +30,7 @@ use std::alloc::Global;
 /// `Memory` when out of memory.
 pub fn needs(alloc: Global, residual: &Residual, base: &Database) -> Result<FreezeSet, Memory>
     requires straight { IsStraight (plain_residual residual.now) }
-    requires small { CanFollow (IsSmall limit) (base_forms (values_of base.now.items)) (plain_residual residual.now) }
+    requires small { CanFollow (IsSmall form_limit) (base_forms (values_of base.now.items)) (plain_residual residual.now) }
     ensures needs { IfOk result (λ f. f.deltas.items ≡ needs residual.now.site (values_of base.now.items) (plain_residual residual.now)) }
     ensures means { IfOk result (λ f. (s s' : State) → ((x : ℕ) → s (DeltaAt x residual.now.site) ≡ s' (DeltaAt x residual.now.site)) →
         IsOn (values_of base.now.items) s → IsOn (values_of base.now.items) s' → Each (ZeroInBoth s s') f.deltas.items →

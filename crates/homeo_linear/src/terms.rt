@@ -4,7 +4,7 @@ ghost use Rattle.std.specs.Prelude.{◌≡◌, ◌<◌, ◌+ℤ◌, ◌*ℤ◌, 
 ghost use Rattle.std.specs.Ordering.{int_eq};
 ghost use Rattle.homeo_meaning.specs.Small.{IsSmall};
 ghost use Rattle.homeo_plan.specs.Linear.{same_delta, deltas_of, add_term, add_terms, scale_terms};
-ghost use Rattle.homeo_linear.specs.Limit.{limit};
+ghost use Rattle.homeo_plan.specs.Limit.{form_limit};
 ghost use Rattle.homeo_linear.specs.inner.Order.{InOrder, IsPlace, begins_with};
 ghost use Rattle.homeo_linear.specs.inner.Terms.{AreSmall, AreSmallWhereSame, IsSmallAt, add_at};
 
@@ -56,8 +56,8 @@ fn counts(term: &Term) -> bool
 
 /// The term with another's factor added to its own.
 fn plus(term: &Term, more: &Term) -> Term
-    requires factor { IsSmall limit more.now.factor }
-    requires small { IsSmall limit term.now.factor }
+    requires factor { IsSmall form_limit more.now.factor }
+    requires small { IsSmall form_limit term.now.factor }
     ensures delta { result.delta ≡ term.now.delta }
     ensures factor { result.factor ≡ more.now.factor +ℤ term.now.factor }
 {
@@ -69,8 +69,8 @@ fn plus(term: &Term, more: &Term) -> Term
 
 /// The term with its factor multiplied.
 fn times(term: &Term, factor: i128) -> Term
-    requires factor { IsSmall limit factor }
-    requires small { IsSmall limit term.now.factor }
+    requires factor { IsSmall form_limit factor }
+    requires small { IsSmall form_limit term.now.factor }
     ensures delta { result.delta ≡ term.now.delta }
     ensures factor { result.factor ≡ factor *ℤ term.now.factor }
 {
@@ -83,7 +83,7 @@ fn times(term: &Term, factor: i128) -> Term
 /// Adds a term's factor to that of the term at a place, which is taken out where it becomes 0.
 fn add_factor(terms: &mut Vec<Term>, place: usize, more: &Term)
     requires within { place < length terms.old.items }
-    requires factor { IsSmall limit more.now.factor }
+    requires factor { IsSmall form_limit more.now.factor }
     requires small { IsSmallAt place terms.old.items }
     ensures { terms.new.items ≡ add_at place more.now.factor terms.old.items }
 {
@@ -98,7 +98,7 @@ fn add_factor(terms: &mut Vec<Term>, place: usize, more: &Term)
 /// Adds a term.
 fn add_term(terms: &mut Vec<Term>, term: &Term) -> Result<(), Memory>
     requires order { InOrder (deltas_of terms.old.items) }
-    requires factor { IsSmall limit term.now.factor }
+    requires factor { IsSmall form_limit term.now.factor }
     requires small { AreSmallWhereSame term.now.delta terms.old.items }
     ensures { OnOk result (terms.new.items ≡ add_term term.now.delta term.now.factor terms.old.items) }
 {
@@ -129,7 +129,7 @@ pub(crate) fn add_terms(terms: &mut Vec<Term>, more: &[Term]) -> Result<(), Memo
 
 /// The terms with their factors multiplied, without those that become 0.
 pub(crate) fn scaled(alloc: Global, factor: i128, terms: &[Term]) -> Result<Vec<Term>, Memory>
-    requires factor { IsSmall limit factor }
+    requires factor { IsSmall form_limit factor }
     requires small { AreSmall terms.now }
     ensures { IfOk result (λ v. v.items ≡ scale_terms factor terms.now) }
 {

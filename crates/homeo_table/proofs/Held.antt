@@ -1,20 +1,19 @@
 -- The first of the rows that are left, where one of them holds.
-use Rattle.std.proofs.Common.{◌≡◌, ℕ, ◌+◌, ◌<◌, true, false, cond, List, [], ◌∷◌, map, filter, drop, length, pos, refl, sym, ap, ◌∙◌, subst}
+use Rattle.std.proofs.Common.{◌≡◌, ℕ, ◌+◌, ◌<◌, true, false, cond, List, [], ◌∷◌, map, filter, drop, length, refl, sym, ap, ◌∙◌, subst}
 use Rattle.std.specs.Prelude.{slice_index_or}
 use Rattle.std.proofs.lemmas.List.{get_or-map}
-use Rattle.homeo_meaning.specs.LowMeaning.{State, TempAt, holds, exec, exec_all}
+use Rattle.homeo_meaning.specs.LowMeaning.{State, holds, exec, exec_all}
 use Rattle.homeo_meaning.proofs.Steps.{drop_next}
 use Rattle.homeo_plan.specs.Key.{words}
 use Rattle.homeo_plan.specs.declared.rows.Row as rows
 use Rattle.homeo_plan.specs.PlanView.{plain_row}
-use Rattle.homeo_plan.specs.Table.{Row, last_row, holds_at, row_at, table}
+use Rattle.homeo_plan.specs.Table.{Row, last_row, holds_at, row_at, table, HasNoTemps}
 use Rattle.homeo_plan.specs.Joint.{HasOneRow}
 use Rattle.homeo_plan.proofs.Tables.{table_law}
 use Rattle.homeo_split.specs.Key.{words as split_words}
 use Rattle.homeo_split.specs.declared.split.Split.{Split}
 use Rattle.homeo_split.specs.States.{state_of}
 use Rattle.homeo_syntax.specs.Low.{Command}
-use Rattle.homeo_syntax.specs.declared.low.Temp.{Temp}
 use Rattle.homeo_syntax.specs.declared.low.Temp.TheVariants.{Named, Fresh}
 
 pub held-row :
@@ -41,8 +40,8 @@ passed-row s rs i r one h is e k =
     ∙ sym (ap (filter (holds_at s)) (drop_next plain_row rs i r h is)) ∙ e
 
 -- ---- tables
-no_temps : (base : Split) (t : Temp) → state_of base (TempAt t) ≡ pos 0
-unfolding split_words
+pub no_temps : (base : Split) → HasNoTemps (state_of base)
+unfolding words split_words
 no_temps base (Named n) = refl
 no_temps base (Fresh n) = refl
 

@@ -5,3 +5,5 @@ pub mod Bound
 pub mod Makings
 pub mod Following
 pub mod Held
+pub mod Fitting
+pub mod WalkSteps

@@ -73,17 +73,24 @@ row-command ts xs ys s x c h is =
     ap (λ cs. row_with ts cs s) (ap (map plain_lcommand) h ∙ map_push plain_lcommand xs x ∙ ap (λ c. map plain_lcommand xs ++ c ∷ []) is)
     ∙ (λ i r. row_of (both (low_tests ts) (substituted_cond s r.formula)) (then-push (map plain_lcommand xs) c r.residual i))
 
+-- tests that are those of a condition with what stands there put in
+pub row-asked :
+    (ts ts' us : List Test) (cs : List Command) (s : Location → Option Expr) (b : Cond) → ts' ≡ ts ++ us → low_tests us ≡ substituted_cond s b →
+    row_with ts' cs s ≡ (λ r. row_with ts cs s (test_before b r))
+unfolding plan_words
+row-asked ts ts' us cs s b e h =
+    ap (λ ts. row_with ts cs s) e
+    ∙ (λ i r. row_of
+    ((both-append ts us (substituted_cond s r.formula)
+    ∙ ap (λ c. both (low_tests ts) (both c (substituted_cond s r.formula))) h
+    ∙ ap (both (low_tests ts)) (sym (substituted-both s b r.formula))) i)
+    (and_then cs r.residual))
+
 pub row-tests :
     (ts ts' us : List Test) (cs : List Command) (s : Location → Option Expr) (b : Cond) → ts' ≡ ts ++ map (substituted_test s) us → b ≡ low_tests us →
     row_with ts' cs s ≡ (λ r. row_with ts cs s (test_before b r))
-unfolding plan_words
 row-tests ts ts' us cs s b e h =
-    ap (λ ts. row_with ts cs s) e
-    ∙ (λ i r. row_of
-    ((both-append ts (map (substituted_test s) us) (substituted_cond s r.formula)
-    ∙ ap (λ c. both (low_tests ts) (both c (substituted_cond s r.formula))) (sym (substituted-tests s us) ∙ ap (substituted_cond s) (sym h))
-    ∙ ap (both (low_tests ts)) (sym (substituted-both s b r.formula))) i)
-    (and_then cs r.residual))
+    row-asked ts ts' (map (substituted_test s) us) cs s b e (sym (substituted-tests s us) ∙ ap (substituted_cond s) (sym h))
 
 pub row-fails :
     (xs ys : List LTest) (cs : List Command) (s : Location → Option Expr) (x : LTest) (b : Cond) → ys ≡ xs ++ x ∷ [] →

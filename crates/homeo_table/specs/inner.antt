@@ -5,3 +5,4 @@ pub mod Makings
 pub mod Places
 pub mod Shared
 pub mod Substitution
+pub mod Walks

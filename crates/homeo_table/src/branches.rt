@@ -89,7 +89,10 @@ impl<'a> Branch<'a> {
 }
 
 /// Pushes commands in front of those that are left.
-fn push_all<'a>(left: &mut Vec<&'a LCommand>, commands: &'a [LCommand]) -> Result<(), Memory>
+pub(crate) fn push_all<'a>(
+    left: &mut Vec<&'a LCommand>,
+    commands: &'a [LCommand],
+) -> Result<(), Memory>
     ensures { OnOk result (map (λ c. plain_lcommand c.now) left.new.items ≡
         map (λ c. plain_lcommand c.now) left.old.items ++ reverse (map plain_lcommand commands.now)) }
 {

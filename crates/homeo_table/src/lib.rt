@@ -1,4 +1,5 @@
-//! The symbolic tables of commands, and the row of a table that holds at a split database.
+//! The symbolic tables of commands, the row of a table that holds at a split database, and the walk that makes this row without
+//! the table.
 #![tactic(auto)]
 
 mod bindings;
@@ -10,6 +11,8 @@ mod selection;
 mod shared;
 mod substitution;
 mod tables;
+mod walking;
 
 pub use selection::row_at;
 pub use tables::table;
+pub use walking::walk;

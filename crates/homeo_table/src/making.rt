@@ -1,18 +1,23 @@
 //! Rows in the making.
 
-ghost use Rattle.std.specs.Prelude.{◌≡◌, ◌++◌, map, IfOk, OnOk};
+ghost use Rattle.std.specs.Prelude.{◌≡◌, true, cond, ◌++◌, Some, None, map, IfOk, OnOk};
 ghost use Rattle.homeo_syntax.specs.LowView.{plain_lexpr, plain_ltest, plain_lcond, plain_lcommand};
+ghost use Rattle.homeo_meaning.specs.LowMeaning.{put, holds};
 ghost use Rattle.homeo_plan.specs.PlanView.{plain_row};
 ghost use Rattle.homeo_plan.specs.Table.{last_row, set_before, test_before, otherwise, clear_row};
+ghost use Rattle.homeo_split.specs.CanExec.{limit, cond_fits};
+ghost use Rattle.homeo_split.specs.States.{state_of};
 ghost use Rattle.homeo_table.specs.inner.Bindings.{bound};
 ghost use Rattle.homeo_table.specs.inner.Makings.{completed, command_before};
 ghost use Rattle.homeo_table.specs.inner.Places.{plain_place};
-ghost use Rattle.homeo_table.specs.inner.Substitution.{substituted_test};
+ghost use Rattle.homeo_table.specs.inner.Substitution.{substituted, substituted_test, substituted_cond};
 
 use crate::bindings::Bindings;
+use crate::evaluation::holds;
 use crate::places::Place;
 use crate::substitution::{condition, expression, test};
 use homeo_plan::Row;
+use homeo_split::Split;
 use homeo_syntax::{LCommand, LCond, LExpr, LTest, List, Memory};
 use std::alloc::Global;
 
@@ -27,7 +32,8 @@ pub(crate) struct Making {
 impl Making {
     /// Nothing was followed. Temporaries are 0.
     pub(crate) fn new(alloc: Global) -> Making
-        ensures { completed result ≡ clear_row }
+        ensures row { completed result ≡ clear_row }
+        ensures bound { bound result.bindings ≡ (λ l. None) }
     {
         Making {
             tests: Vec::new(alloc),
@@ -48,7 +54,8 @@ impl Making {
 
     /// Follows a command that sets no value.
     pub(crate) fn follow(&mut self, alloc: Global, c: &LCommand) -> Result<(), Memory>
-        ensures { OnOk result (completed self.new ≡ (λ r. completed self.old (command_before (plain_lcommand c.now) r))) }
+        ensures row { OnOk result (completed self.new ≡ (λ r. completed self.old (command_before (plain_lcommand c.now) r))) }
+        ensures bound { OnOk result (bound self.new.bindings ≡ bound self.old.bindings) }
     {
         self.commands.push(c.copy(alloc)?)?;
         Ok(())
@@ -62,7 +69,9 @@ impl Making {
         place: Place,
         value: &LExpr,
     ) -> Result<(), Memory>
-        ensures { OnOk result (completed self.new ≡ (λ r. completed self.old (set_before (plain_lcommand c.now) (plain_place place) (plain_lexpr value.now) r))) }
+        ensures row { OnOk result (completed self.new ≡ (λ r. completed self.old (set_before (plain_lcommand c.now) (plain_place place) (plain_lexpr value.now) r))) }
+        ensures bound { OnOk result (bound self.new.bindings ≡
+            put (bound self.old.bindings) (plain_place place) (Some (substituted (bound self.old.bindings) (plain_lexpr value.now)))) }
     {
         let value = expression(alloc, &self.bindings, value)?;
         self.bindings.bind(place, value)?;
@@ -91,6 +100,29 @@ impl Making {
         Ok(())
     }
 
+    /// Follows the branch that is taken at a split database, and says whether it is the one where a condition holds.
+    pub(crate) fn decide(
+        &mut self,
+        alloc: Global,
+        test: &LCond,
+        base: &Split,
+    ) -> Result<bool, Memory>
+        requires { cond_fits limit (substituted_cond (bound self.old.bindings) (plain_lcond test.now)) (state_of base.now) ≡ true }
+        ensures taken { IfOk result (λ yes. yes ≡ holds (substituted_cond (bound self.old.bindings) (plain_lcond test.now)) (state_of base.now)) }
+        ensures row { IfOk result (λ yes. completed self.new ≡
+            (λ r. completed self.old (test_before (cond yes (plain_lcond test.now) (otherwise (plain_lcond test.now))) r))) }
+        ensures bound { IfOk result (λ yes. bound self.new.bindings ≡ bound self.old.bindings) }
+    {
+        let asked = condition(alloc, &self.bindings, test)?;
+        if holds(&asked, base) {
+            move_tests(asked.tests, &mut self.tests)?;
+            Ok(true)
+        } else {
+            self.tests.push(LTest::Not(asked))?;
+            Ok(false)
+        }
+    }
+
     /// The row, where the branch ends.
     pub(crate) fn row(self) -> Row
         ensures { plain_row result ≡ completed self last_row }
@@ -115,6 +147,15 @@ fn push_tests(
 {
     for t in tests {
         made.push(test(alloc, put, t)?)?;
+    }
+    Ok(())
+}
+
+fn move_tests(tests: List<LTest>, made: &mut Vec<LTest>) -> Result<(), Memory>
+    ensures { OnOk result (map plain_ltest made.new.items ≡ map plain_ltest made.old.items ++ map plain_ltest tests.items) }
+{
+    for test in tests.into_vec() {
+        made.push(test)?;
     }
     Ok(())
 }

@@ -11,14 +11,14 @@ use Rattle.homeo_plan.specs.Each.{Each}
 use Rattle.homeo_plan.specs.Linear.{Linear, is_empty}
 use Rattle.homeo_plan.specs.Template.{Clause, clause_of, same_clause, with_clause, clauses_from, joined}
 use Rattle.homeo_plan.proofs.Atoms.{append_each}
-use Rattle.homeo_template.specs.Constants.{constant_limit}
+use Rattle.homeo_plan.specs.Limit.{form_limit}
 use Rattle.homeo_template.proofs.Negation.{abs_neg}
 
 abbrev HasSmallConstant : Linear → Type 0
-HasSmallConstant a = IsSmall constant_limit a.constant
+HasSmallConstant a = IsSmall form_limit a.constant
 
 abbrev HasSmallSlack : Clause → Type 0
-HasSmallSlack c = IsSmall constant_limit c.slack
+HasSmallSlack c = IsSmall form_limit c.slack
 
 with-small : (cs : List Clause) (a : Linear) → HasSmallConstant a → Each HasSmallSlack cs → Each HasSmallSlack (with_clause cs a)
 unfolding words meaning_words

@@ -1,3 +1,2 @@
-pub mod Constants
 pub mod InOrder
 pub mod inner

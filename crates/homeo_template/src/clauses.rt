@@ -6,7 +6,7 @@ ghost use Rattle.homeo_meaning.specs.Small.{IsSmall};
 ghost use Rattle.homeo_plan.specs.Each.{Each};
 ghost use Rattle.homeo_plan.specs.PlanView.{plain_linear, plain_atom, plain_atoms, plain_clause};
 ghost use Rattle.homeo_plan.specs.Template.{clause_of, same_clause, with_clause, clauses_from, joined};
-ghost use Rattle.homeo_template.specs.Constants.{constant_limit};
+ghost use Rattle.homeo_plan.specs.Limit.{form_limit};
 ghost use Rattle.homeo_template.specs.inner.Keys.{clauses_in, AreKeys};
 
 use crate::key::{Key, key_of};
@@ -24,7 +24,7 @@ pub(crate) struct DistinctClauses {
 
 /// The clauses of the atoms of all sets.
 pub(crate) fn join_clauses(alloc: Global, sets: &[AtomSet]) -> Result<List<Clause>, Memory>
-    requires small { All (λ s. Each (λ a. IsSmall constant_limit a.constant) (plain_atoms s)) sets.now }
+    requires small { All (λ s. Each (λ a. IsSmall form_limit a.constant) (plain_atoms s)) sets.now }
     ensures { IfOk result (λ cs. map plain_clause cs.items ≡ clauses_from [] (joined (map plain_atoms sets.now))) }
 {
     let mut distinct = DistinctClauses::new(alloc);
@@ -49,7 +49,7 @@ impl DistinctClauses {
     /// Puts the clauses of atoms behind those that are there.
     fn put_all(&mut self, alloc: Global, atoms: &[Atom]) -> Result<(), Memory>
         requires keys { AreKeys self.old }
-        requires small { Each (λ a. IsSmall constant_limit a.constant) (map plain_atom atoms.now) }
+        requires small { Each (λ a. IsSmall form_limit a.constant) (map plain_atom atoms.now) }
         ensures keys { OnOk result (AreKeys self.new) }
         ensures clauses { OnOk result (clauses_in self.new ≡ clauses_from (clauses_in self.old) (map plain_atom atoms.now)) }
     {
@@ -62,7 +62,7 @@ impl DistinctClauses {
     /// Puts the clause of an atom with this form, where it has one.
     fn put(&mut self, alloc: Global, form: &Linear) -> Result<(), Memory>
         requires keys { AreKeys self.old }
-        requires small { IsSmall constant_limit form.now.constant }
+        requires small { IsSmall form_limit form.now.constant }
         ensures keys { OnOk result (AreKeys self.new) }
         ensures clauses { OnOk result (clauses_in self.new ≡ with_clause (clauses_in self.old) (plain_linear form.now)) }
     {
@@ -98,7 +98,7 @@ fn push_new(clauses: &mut Vec<Clause>, is_new: bool, clause: Clause) -> Result<(
 
 /// The clause of an atom with this form.
 fn clause_of(alloc: Global, form: &Linear) -> Result<Clause, Memory>
-    requires { IsSmall constant_limit form.now.constant }
+    requires { IsSmall form_limit form.now.constant }
     ensures { IfOk result (λ c. plain_clause c ≡ clause_of (plain_linear form.now)) }
 {
     let terms = Vec::from_slice(alloc, form.terms.as_slice())?;
@@ -109,7 +109,7 @@ fn clause_of(alloc: Global, form: &Linear) -> Result<Clause, Memory>
 }
 
 fn negated(number: i128) -> i128
-    requires { IsSmall constant_limit number }
+    requires { IsSmall form_limit number }
     ensures { result ≡ neg_ℤ number }
 {
     -number

@@ -6,7 +6,7 @@ ghost use Rattle.homeo_meaning.specs.Small.{IsSmall};
 ghost use Rattle.homeo_plan.specs.Each.{Each};
 ghost use Rattle.homeo_plan.specs.PlanView.{plain_atoms, plain_template};
 ghost use Rattle.homeo_plan.specs.Template.{join_sets};
-ghost use Rattle.homeo_template.specs.Constants.{constant_limit};
+ghost use Rattle.homeo_plan.specs.Limit.{form_limit};
 ghost use Rattle.homeo_template.specs.InOrder.{AreInOrder};
 
 use crate::clauses::join_clauses;
@@ -29,11 +29,11 @@ pub fn template(
     freezes: &[FreezeSet],
     sites: u32,
 ) -> Result<Template, Memory>
-    requires small { All (λ s. Each (λ a. IsSmall constant_limit a.constant) (plain_atoms s)) sets.now }
+    requires small { All (λ s. Each (λ a. IsSmall form_limit a.constant) (plain_atoms s)) sets.now }
     ensures sites { IfOk result (λ t. t.sites ≡ sites) }
     ensures value { IfOk result (λ t. plain_template t ≡
         join_sets (map plain_atoms sets.now) (map (λ f. f.deltas.items) freezes.now)) }
-    ensures small { IfOk result (λ t. Each (λ c. IsSmall constant_limit c.slack) (plain_template t).clauses) }
+    ensures small { IfOk result (λ t. Each (λ c. IsSmall form_limit c.slack) (plain_template t).clauses) }
     ensures order { IfOk result (λ t. AreInOrder t.freezes.items) }
 {
     let clauses = join_clauses(alloc, sets)?;

@@ -7,15 +7,15 @@ use Rattle.homeo_plan.specs.Key.{words}
 use Rattle.homeo_plan.specs.declared.forms.Atom.{Atom}
 use Rattle.homeo_plan.specs.Each.{Each}
 use Rattle.homeo_plan.specs.PlanView.{plain_atom}
-use Rattle.homeo_template.specs.Constants.{constant_limit}
+use Rattle.homeo_plan.specs.Limit.{form_limit}
 
 pub small_pair :
-    (first second : Atom) (atoms : List Atom) → atoms ≡ first ∷ second ∷ [] → IsSmall constant_limit first.form.constant →
-    IsSmall constant_limit second.form.constant → Each (λ a. IsSmall constant_limit a.constant) (map plain_atom atoms)
+    (first second : Atom) (atoms : List Atom) → atoms ≡ first ∷ second ∷ [] → IsSmall form_limit first.form.constant →
+    IsSmall form_limit second.form.constant → Each (λ a. IsSmall form_limit a.constant) (map plain_atom atoms)
 unfolding words
 small_pair first second atoms e h k =
-    subst (λ (l : List Atom). Each (λ a. IsSmall constant_limit a.constant) (map plain_atom l)) (sym e) (h, (k, tt))
+    subst (λ (l : List Atom). Each (λ a. IsSmall form_limit a.constant) (map plain_atom l)) (sym e) (h, (k, tt))
 
-pub small : (n m : ℤ) → n ≡ m → is_small constant_limit m ≡ true → IsSmall constant_limit n
+pub small : (n m : ℤ) → n ≡ m → is_small form_limit m ≡ true → IsSmall form_limit n
 unfolding meaning_words
-small n m e h = subst (IsSmall constant_limit) (sym e) (small_is constant_limit m h)
+small n m e h = subst (IsSmall form_limit) (sym e) (small_is form_limit m h)

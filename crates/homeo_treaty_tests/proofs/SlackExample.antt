@@ -6,13 +6,13 @@ use Rattle.homeo_plan.specs.Key.{words}
 use Rattle.homeo_plan.specs.Each.{Each}
 use Rattle.homeo_plan.specs.Config.{HaveSlack}
 use Rattle.homeo_plan.specs.Template.{Clause}
-use Rattle.homeo_config.specs.Slacks.{slack_limit}
+use Rattle.homeo_plan.specs.Limit.{form_limit}
 use Rattle.homeo_treaty_tests.specs.inner.SlackExample.{slacks}
 
 pub not_negative : (cs : List Clause) → cs ≡ slacks → HaveSlack cs
 unfolding words meaning_words
 not_negative cs e = subst HaveSlack (sym e) (omega arith, (omega arith, tt))
 
-pub small : (cs : List Clause) → cs ≡ slacks → Each (λ c. IsSmall slack_limit c.slack) cs
+pub small : (cs : List Clause) → cs ≡ slacks → Each (λ c. IsSmall form_limit c.slack) cs
 unfolding words meaning_words
-small cs e = subst (λ ds. Each (λ c. IsSmall slack_limit c.slack) ds) (sym e) (omega arith, (omega arith, tt))
+small cs e = subst (λ ds. Each (λ c. IsSmall form_limit c.slack) ds) (sym e) (omega arith, (omega arith, tt))

@@ -3,7 +3,7 @@
 ghost use Rattle.std.specs.Prelude.{◌≡◌, IfOk};
 ghost use Rattle.std.specs.List.{All};
 ghost use Rattle.homeo_meaning.specs.Small.{IsSmall};
-ghost use Rattle.homeo_template.specs.Constants.{constant_limit};
+ghost use Rattle.homeo_plan.specs.Limit.{form_limit};
 ghost use Rattle.homeo_treaty_tests.specs.inner.AtomExample.{AreSmall};
 
 use homeo_plan::{Atom, AtomSet, Clause, Delta, FreezeSet, Linear, Term};
@@ -35,8 +35,8 @@ fn atom(alloc: Global, constant: i128, terms: &[Term], mixed: &[Delta]) -> Resul
 }
 
 fn pair(alloc: Global, first: Atom, second: Atom) -> Result<AtomSet, Memory>
-    requires first { IsSmall constant_limit first.form.constant }
-    requires second { IsSmall constant_limit second.form.constant }
+    requires first { IsSmall form_limit first.form.constant }
+    requires second { IsSmall form_limit second.form.constant }
     ensures { IfOk result AreSmall }
 {
     let mut atoms = List::new(alloc);

@@ -6,7 +6,7 @@ use Rattle.homeo_plan.specs.FormSizes.{CanFollow}
 use Rattle.homeo_plan.specs.Linear.{add_deltas}
 use Rattle.homeo_plan.specs.Needs.{needs_from}
 use Rattle.homeo_plan.specs.declared.forms.Delta.{Delta}
-use Rattle.homeo_linear.specs.Limit.{limit}
+use Rattle.homeo_plan.specs.Limit.{form_limit}
 use Rattle.homeo_linear.specs.declared.following.Following.{Following}
 use Rattle.homeo_linear.specs.inner.Key.{words}
 use Rattle.homeo_linear.specs.inner.Order.{InOrder}
@@ -26,4 +26,4 @@ needs_of r cs = adds (map (λ p. p.items) r.prints.items) (needs_from r.site (fo
 pub record Followed (r s : Following) (c : Command) : Type 0 where
   pub order : InOrder s.written.items
   pub needs : (cs : Commands) → needs_of s cs ≡ needs_of r (MoreCommand c cs)
-  pub small : (cs : Commands) → CanFollow (IsSmall limit) (forms_of r.standing) (MoreCommand c cs) → CanFollow (IsSmall limit) (forms_of s.standing) cs
+  pub small : (cs : Commands) → CanFollow (IsSmall form_limit) (forms_of r.standing) (MoreCommand c cs) → CanFollow (IsSmall form_limit) (forms_of s.standing) cs

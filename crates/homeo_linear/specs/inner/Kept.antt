@@ -8,14 +8,14 @@ use Rattle.homeo_meaning.specs.Small.{IsSmall}
 use Rattle.homeo_plan.specs.Atoms.{true_comparison, false_comparison, true_test, false_test, true_cond, false_cond}
 use Rattle.homeo_plan.specs.FormSizes.{Numbers}
 use Rattle.homeo_plan.specs.Linear.{Linear, add_forms, scale_form}
-use Rattle.homeo_linear.specs.Limit.{limit}
+use Rattle.homeo_plan.specs.Limit.{form_limit}
 
 -- the numbers met in the difference of two forms are small
 pub record AreApart (a b : Linear) : Type 0 where
-  pub left : Numbers (IsSmall limit) a
-  pub right : Numbers (IsSmall limit) b
-  pub negated : Numbers (IsSmall limit) (scale_form (negsuc 0) b)
-  pub apart : Numbers (IsSmall limit) (add_forms a (scale_form (negsuc 0) b))
+  pub left : Numbers (IsSmall form_limit) a
+  pub right : Numbers (IsSmall form_limit) b
+  pub negated : Numbers (IsSmall form_limit) (scale_form (negsuc 0) b)
+  pub apart : Numbers (IsSmall form_limit) (add_forms a (scale_form (negsuc 0) b))
 
 -- whether the comparison holds at the base is seen by the constants of the forms
 abbrev pub kept_comparison : Compare → Linear → Linear → List Linear

@@ -5,24 +5,24 @@ use Rattle.homeo_plan.specs.Each.{Each}
 use Rattle.homeo_plan.specs.Linear.{same_delta, with_term}
 use Rattle.homeo_plan.specs.declared.forms.Delta.{Delta}
 use Rattle.homeo_plan.specs.declared.forms.Term.{Term}
-use Rattle.homeo_linear.specs.Limit.{limit}
+use Rattle.homeo_plan.specs.Limit.{form_limit}
 use Rattle.homeo_linear.specs.inner.Key.{words}
 
 abbrev pub AreSmall : List Term → Type 0
 unfolding words
-AreSmall ts = Each (λ t. IsSmall limit t.factor) ts
+AreSmall ts = Each (λ t. IsSmall form_limit t.factor) ts
 
 -- the term at place n
 abbrev pub IsSmallAt : ℕ → List Term → Type 0
 unfolding words
 IsSmallAt n [] = Unit {0}
-IsSmallAt zero (t ∷ ts) = IsSmall limit t.factor
+IsSmallAt zero (t ∷ ts) = IsSmall form_limit t.factor
 IsSmallAt (suc n) (t ∷ ts) = IsSmallAt n ts
 
 -- the term of a delta
 abbrev pub AreSmallWhereSame : Delta → List Term → Type 0
 unfolding words
-AreSmallWhereSame d ts = Each (λ t. same_delta d t.delta ≡ true → IsSmall limit t.factor) ts
+AreSmallWhereSame d ts = Each (λ t. same_delta d t.delta ≡ true → IsSmall form_limit t.factor) ts
 
 -- the terms, with f added to the factor of that at place n
 abbrev pub add_at : ℕ → ℤ → List Term → List Term

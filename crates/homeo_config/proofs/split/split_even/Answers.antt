@@ -5,7 +5,7 @@ use Rattle.homeo_meaning.specs.Small.{IsSmall}
 use Rattle.homeo_plan.specs.Config.{Fits}
 use Rattle.homeo_plan.specs.PlanView.{plain_clause}
 use Rattle.homeo_plan.proofs.Policy.{even_fits}
-use Rattle.homeo_config.specs.Slacks.{slack_limit}
+use Rattle.homeo_plan.specs.Limit.{form_limit}
 use Rattle.homeo_config.proofs.Splitting.{slack_is, even-none, even-more, even-whole}
 use Rattle.homeo_config.proofs.split.split_even.Goals as goal
 
@@ -20,7 +20,7 @@ split-requires-clause-not_negative c =
 pub split-requires-clause-small : goal.split-requires-clause-small
 split-requires-clause-small c =
     let clauses = c.as_slice-clause-items in
-    slack_is c.args.t.now.clauses.items clauses.result.now c.loop-clause.clause-index c.clause-item.result clauses.ensures c.loop-clause-test.true c.clause-item.is c.requires.small (λ z. IsSmall slack_limit z) c.requires.small
+    slack_is c.args.t.now.clauses.items clauses.result.now c.loop-clause.clause-index c.clause-item.result clauses.ensures c.loop-clause-test.true c.clause-item.is c.requires.small (λ z. IsSmall form_limit z) c.requires.small
 
 pub loop-clause-preserved : goal.loop-clause-preserved
 loop-clause-preserved c =

@@ -7,7 +7,7 @@ use Rattle.homeo_meaning.specs.Small.{IsSmall}
 use Rattle.homeo_plan.specs.FormSizes.{CanCond}
 use Rattle.homeo_plan.specs.Linear.{base_forms}
 use Rattle.homeo_plan.specs.PlanView.{plain_atom}
-use Rattle.homeo_linear.specs.Limit.{limit}
+use Rattle.homeo_plan.specs.Limit.{form_limit}
 use Rattle.homeo_linear.specs.inner.Kept.{kept_cond}
 use Rattle.homeo_linear.proofs.Keeping.{kept_from}
 use Rattle.homeo_linear.proofs.conditions.+conditions.Given as goal
@@ -18,7 +18,7 @@ invariant-tests-loop-t l =
     let rest = low_tests (map plain_ltest (drop l.t-index l.ts)) in
     let all = low_tests (map plain_ltest l.ts) in
     record {
-      small : CanCond (IsSmall limit) (base_forms b) rest;
+      small : CanCond (IsSmall form_limit) (base_forms b) rest;
       holds : holds rest (whole b) ≡ holds all (whole b);
       atoms : kept_from b (map plain_atom l.atoms.items) rest ≡ kept_cond b all;
     }

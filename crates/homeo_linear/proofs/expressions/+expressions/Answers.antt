@@ -6,7 +6,7 @@ use Rattle.homeo_meaning.proofs.Numbers.{kept_is}
 use Rattle.homeo_meaning.specs.Small.{IsSmall}
 use Rattle.homeo_plan.specs.FormSizes.{Numbers}
 use Rattle.homeo_plan.specs.Linear.{constant_form}
-use Rattle.homeo_linear.specs.Limit.{limit}
+use Rattle.homeo_plan.specs.Limit.{form_limit}
 use Rattle.homeo_linear.specs.inner.Standing.{forms_of}
 use Rattle.homeo_linear.proofs.FormSteps.{one_is_small, sum_can, product_can, neg_can, neg_small, literal_form, temp_form, read_form, sum_is_form, product_is_form, neg_form, sum_step, sum_next, sum_stop, product_step, product_next, product_stop}
 use Rattle.homeo_linear.proofs.expressions.+expressions.Goals as goal
@@ -75,7 +75,7 @@ product-by-requires-clause-small t c =
 
 pub product-by-requires-clause-other_small : goal.product-by-requires-clause-other_small
 product-by-requires-clause-other_small t c =
-    subst (Numbers (IsSmall limit)) (sym c.in_ok-part.ensures)
+    subst (Numbers (IsSmall form_limit)) (sym c.in_ok-part.ensures)
     (product_step c.args.es.now c.loop-e.e-index c.e-item.result c.loop-e-test.true c.e-item.is c.loop-e.invariant.small).small
 
 pub product-loop-e-preserved : goal.product-loop-e-preserved
@@ -97,7 +97,7 @@ sum-plus-requires-clause-small t c =
 
 pub sum-plus-requires-clause-other_small : goal.sum-plus-requires-clause-other_small
 sum-plus-requires-clause-other_small t c =
-    subst (Numbers (IsSmall limit)) (sym c.in_ok-part.ensures)
+    subst (Numbers (IsSmall form_limit)) (sym c.in_ok-part.ensures)
     (sum_step c.args.es.now c.loop-e.e-index c.e-item.result c.loop-e-test.true c.e-item.is c.loop-e.invariant.small).small
 
 pub sum-loop-e-preserved : goal.sum-loop-e-preserved

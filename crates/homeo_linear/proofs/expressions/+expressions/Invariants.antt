@@ -4,7 +4,7 @@ use Rattle.homeo_syntax.specs.LowView.{low_exprs, plain_lexpr}
 use Rattle.homeo_meaning.specs.Small.{IsSmall}
 use Rattle.homeo_plan.specs.FormSizes.{CanSum, CanProduct}
 use Rattle.homeo_plan.specs.Linear.{constant_form, sum_form, product_form}
-use Rattle.homeo_linear.specs.Limit.{limit}
+use Rattle.homeo_plan.specs.Limit.{form_limit}
 use Rattle.homeo_linear.specs.inner.Standing.{forms_of}
 use Rattle.homeo_linear.proofs.expressions.+expressions.Given as goal
 
@@ -13,7 +13,7 @@ invariant-sum-loop-e l =
     let f = forms_of l.standing in
     let rest = low_exprs (map plain_lexpr (drop l.e-index l.es)) in
     record {
-      small : CanSum (IsSmall limit) f l.total rest;
+      small : CanSum (IsSmall form_limit) f l.total rest;
       left : sum_form f l.total rest ≡ sum_form f (constant_form (pos 0)) (low_exprs (map plain_lexpr l.es));
     }
 
@@ -22,6 +22,6 @@ invariant-product-loop-e l =
     let f = forms_of l.standing in
     let rest = low_exprs (map plain_lexpr (drop l.e-index l.es)) in
     record {
-      small : CanProduct (IsSmall limit) f l.total rest;
+      small : CanProduct (IsSmall form_limit) f l.total rest;
       left : product_form f l.total rest ≡ product_form f (constant_form (pos 1)) (low_exprs (map plain_lexpr l.es));
     }

@@ -4,7 +4,7 @@ use Rattle.homeo_syntax.specs.LowView.{low_commands, plain_lcommand}
 use Rattle.homeo_meaning.specs.Small.{IsSmall}
 use Rattle.homeo_plan.specs.FormSizes.{CanFollow}
 use Rattle.homeo_plan.specs.Needs.{IsStraight}
-use Rattle.homeo_linear.specs.Limit.{limit}
+use Rattle.homeo_plan.specs.Limit.{form_limit}
 use Rattle.homeo_linear.specs.inner.Following.{needs_of}
 use Rattle.homeo_linear.specs.inner.Order.{InOrder}
 use Rattle.homeo_linear.specs.inner.Standing.{forms_of}
@@ -15,7 +15,7 @@ invariant-loop-command l =
     let rest = low_commands (map plain_lcommand (drop l.command-index l.commands)) in
     record {
       straight : IsStraight rest;
-      small : CanFollow (IsSmall limit) (forms_of l.self.standing) rest;
+      small : CanFollow (IsSmall form_limit) (forms_of l.self.standing) rest;
       order : InOrder l.self.written.items;
       needs : needs_of l.self rest ≡ needs_of l.initial.self (low_commands (map plain_lcommand l.commands));
     }

@@ -31,12 +31,12 @@ returns-in-Assign-clause-rows c =
     on_ok_weaker c.follow_set.result
     (λ h. ap (λ rows. rows ++ rows_of_all c.args.others.now.items)
     (rows-through (completed c.args.self.now.row) _ (set_before k place e) k rows h (over-Assign k c.in-Assign.target e place rows is c.place_of_temp.ensures)))
-    c.follow_set.ensures
+    c.follow_set.ensures.row
 
 pub returns-in-Assign-clause-less : goal.returns-in-Assign-clause-less
 unfolding left_of
 returns-in-Assign-clause-less c =
-    on_ok_weaker c.follow_set.result (λ h. less-before (plain_lcommand c.args.c.now) (left_of c.args.self.now)) c.follow_set.ensures
+    on_ok_weaker c.follow_set.result (λ h. less-before (plain_lcommand c.args.c.now) (left_of c.args.self.now)) c.follow_set.ensures.row
 
 pub returns-in-Write-clause-rows : goal.returns-in-Write-clause-rows
 unfolding rows_of left_of
@@ -49,12 +49,12 @@ returns-in-Write-clause-rows c =
     on_ok_weaker c.follow_set-in-Write.result
     (λ h. ap (λ rows. rows ++ rows_of_all c.args.others.now.items)
     (rows-through (completed c.args.self.now.row) _ (set_before k place e) k rows h (over-Write k c.in-Write.target e place rows is c.place_of.ensures)))
-    c.follow_set-in-Write.ensures
+    c.follow_set-in-Write.ensures.row
 
 pub returns-in-Write-clause-less : goal.returns-in-Write-clause-less
 unfolding left_of
 returns-in-Write-clause-less c =
-    on_ok_weaker c.follow_set-in-Write.result (λ h. less-before (plain_lcommand c.args.c.now) (left_of c.args.self.now)) c.follow_set-in-Write.ensures
+    on_ok_weaker c.follow_set-in-Write.result (λ h. less-before (plain_lcommand c.args.c.now) (left_of c.args.self.now)) c.follow_set-in-Write.ensures.row
 
 pub returns-in-Print-clause-rows : goal.returns-in-Print-clause-rows
 unfolding rows_of left_of
@@ -65,12 +65,12 @@ returns-in-Print-clause-rows c =
     on_ok_weaker c.follow.result
     (λ h. ap (λ rows. rows ++ rows_of_all c.args.others.now.items)
     (rows-through (completed c.args.self.now.row) _ (command_before k) k rows h (over-Print k (plain_lexpr c.in-Print.value) rows is)))
-    c.follow.ensures
+    c.follow.ensures.row
 
 pub returns-in-Print-clause-less : goal.returns-in-Print-clause-less
 unfolding left_of
 returns-in-Print-clause-less c =
-    on_ok_weaker c.follow.result (λ h. less-before (plain_lcommand c.args.c.now) (left_of c.args.self.now)) c.follow.ensures
+    on_ok_weaker c.follow.result (λ h. less-before (plain_lcommand c.args.c.now) (left_of c.args.self.now)) c.follow.ensures.row
 
 pub returns-in-Seq-clause-rows : goal.returns-in-Seq-clause-rows
 unfolding rows_of left_of

@@ -1,6 +1,6 @@
 -- The clauses of one atom after another.
 use Rattle.homeo_meaning.specs.Small.{IsSmall}
-use Rattle.homeo_template.specs.Constants.{constant_limit}
+use Rattle.homeo_plan.specs.Limit.{form_limit}
 use Rattle.homeo_template.specs.inner.Keys.{clauses_in}
 use Rattle.homeo_template.proofs.Appending.{no-clauses, atom_at, atoms_more}
 use Rattle.homeo_template.proofs.clauses.DistinctClauses.put_all.Goals as goal
@@ -10,7 +10,7 @@ loop-atom-init c = record { keys = c.requires.keys; clauses = no-clauses (clause
 
 pub put-requires-clause-small : goal.put-requires-clause-small
 put-requires-clause-small c =
-    atom_at (λ a. IsSmall constant_limit a.constant) c.args.atoms.now c.loop-atom.atom-index c.atom-item.result c.requires.small c.loop-atom-test.true c.atom-item.is
+    atom_at (λ a. IsSmall form_limit a.constant) c.args.atoms.now c.loop-atom.atom-index c.atom-item.result c.requires.small c.loop-atom-test.true c.atom-item.is
 
 pub loop-atom-preserved : goal.loop-atom-preserved
 loop-atom-preserved c =

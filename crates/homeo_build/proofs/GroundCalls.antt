@@ -1,0 +1,68 @@
+-- What is made of each ground call of a workload, in their order.
+use Rattle.std.proofs.Common.{◌≡◌, ℕ, ◌<◌, ◌≤◌, List, [], ◌∷◌, map, length, take, get_or, All, refl, sym, ap, ◌∙◌, subst, arith}
+use Rattle.std.proofs.lemmas.List.{get_or-map, length-map, take_all}
+use Rattle.homeo_syntax.specs.LowView.{plain_lcommand}
+use Rattle.homeo_syntax.specs.Source as s
+use Rattle.homeo_syntax.specs.declared.low.LCommand.{LCommand}
+use Rattle.homeo_meaning.specs.Key.{words as meanings}
+use Rattle.homeo_meaning.specs.Acceptance.{IsAccepted}
+use Rattle.homeo_meaning.specs.GlobalNames.{SitedCall}
+use Rattle.homeo_meaning.specs.Ground.{Ground, plain_ground, ground_of_sited, grounds}
+use Rattle.homeo_meaning.specs.NumberRules.{ground_calls}
+use Rattle.homeo_meaning.specs.declared.call.GroundCall.{GroundCall}
+use Rattle.homeo_meaning.proofs.GroundCalls.{Every}
+use Rattle.homeo_meaning.proofs.SoundRules.{all_none, all_more}
+use Rattle.homeo_ground.proofs.Called.{are_called}
+use Rattle.homeo_plan.specs.Key.{words as plans}
+use Rattle.homeo_plan.specs.Planned.{sites_of, planned_call, planned, transformed}
+use Rattle.homeo_plan.specs.Template.{PlannedCall, shifted}
+use Rattle.homeo_plan.proofs.PlannedCalls.{StandsBelow, ground_sites_below}
+use Rattle.homeo_build.specs.inner.Planning.{CanCompile}
+use Rattle.homeo_build.proofs.Grown.{map_map}
+
+-- what is made of a ground call, as it is planned
+abbrev pub of_call : {Z : Type 0} → s.Workload → (PlannedCall → Z) → GroundCall → Z
+of_call w h call = h (planned_call w (plain_ground call))
+
+pub of_calls :
+    {Z : Type 0} (w : s.Workload) (h : PlannedCall → Z) (calls : List GroundCall) → map plain_ground calls ≡ grounds w →
+    map (of_call w h) calls ≡ map h (planned w)
+unfolding plans
+of_calls w h calls are =
+    sym (map_map plain_ground (λ g. h (planned_call w g)) calls) ∙ ap (map (λ g. h (planned_call w g))) are
+    ∙ sym (map_map (planned_call w) h (grounds w))
+
+-- once it is made of all of them
+pub of_all :
+    {Z : Type 0} (w : s.Workload) (h : PlannedCall → Z) (made : List Z) (calls : List GroundCall) (i : ℕ) → length calls ≤ i →
+    map plain_ground calls ≡ grounds w → made ≡ map (of_call w h) (take i calls) → made ≡ map h (planned w)
+of_all w h made calls i past are so_far = so_far ∙ ap (map (of_call w h)) (take_all i calls past) ∙ of_calls w h calls are
+
+pub commands_are :
+    (w : s.Workload) (calls : List GroundCall) (commands : List LCommand) → map plain_ground calls ≡ grounds w →
+    map plain_lcommand commands ≡ transformed w → map plain_lcommand commands ≡ map (of_call w (shifted (sites_of w))) calls
+unfolding plans
+commands_are w calls commands are made = made ∙ sym (of_calls w (shifted (sites_of w)) calls are)
+
+-- ---- each can be compiled
+all_below : (w : s.Workload) (us : List SitedCall) → Every (StandsBelow (sites_of w)) us → All (λ (g : Ground). g.site < sites_of w) (map (ground_of_sited w) us)
+unfolding meanings
+all_below w [] h = all_none (λ (g : Ground). g.site < sites_of w)
+all_below w (u ∷ us) h =
+    all_more (λ (g : Ground). g.site < sites_of w) (ground_of_sited w u) (map (ground_of_sited w) us) h.0 (all_below w us h.1)
+
+pub can_compile : (w : s.Workload) → IsAccepted w → All (CanCompile w) (grounds w)
+unfolding meanings
+can_compile w accepted k g lt =
+    record {
+      called = are_called w accepted k g lt;
+      site = all_below w (ground_calls w) (ground_sites_below w accepted) k g lt;
+    }
+
+pub can_here :
+    (w : s.Workload) (calls : List GroundCall) (i : ℕ) (call : GroundCall) → IsAccepted w → map plain_ground calls ≡ grounds w →
+    i < length calls → call ≡ get_or calls i call → CanCompile w (plain_ground call)
+can_here w calls i call accepted are within is =
+    let here : i < length (map plain_ground calls) = omega (arith, length-map calls plain_ground, within) in
+    subst (CanCompile w) (get_or-map plain_ground calls i call (plain_ground call) within ∙ ap plain_ground (sym is))
+    (subst (All (CanCompile w)) (sym are) (can_compile w accepted) i (plain_ground call) here)

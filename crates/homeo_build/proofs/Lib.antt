@@ -1,0 +1,6 @@
+pub mod FewSites
+pub mod GroundCalls
+pub mod Grown
+pub mod PlanParts
+pub mod Planning
+pub mod Undivided

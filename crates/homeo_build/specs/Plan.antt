@@ -1,0 +1,48 @@
+-- Plans of rounds (Roy et al., SIGMOD 2015): what a workload's round that begins at a base is run by.
+use Rattle.std.specs.Prelude.{◌≡◌, ℕ, List, map, ℤ, Option, Some, None}
+use Rattle.homeo_syntax.specs.Low.{Commands}
+use Rattle.homeo_syntax.specs.Source as s
+use Rattle.homeo_meaning.specs.Bounds.{IsWithin}
+use Rattle.homeo_meaning.specs.Schema.{schema_of}
+use Rattle.homeo_meaning.specs.Serial.{values_of}
+use Rattle.homeo_plan.specs.declared.rows.Residual.{Residual}
+use Rattle.homeo_plan.specs.declared.round.RoundPlan.{RoundPlan}
+use Rattle.homeo_plan.specs.declared.templates.Config.{Config}
+use Rattle.homeo_plan.specs.Config as config
+use Rattle.homeo_plan.specs.Template.{PlannedCall, base_row}
+use Rattle.homeo_plan.specs.Planned.{sites_of, planned, template_at}
+use Rattle.homeo_plan.specs.PlanView.{plain_residual, plain_template, plain_config}
+use Rattle.homeo_build.specs.Key.{words}
+
+-- a residual with the site of its call
+pub record SitedResidual : Type 0 where
+  pub site : ℕ
+  pub residual : Commands
+
+abbrev pub sited_residual : Residual → SitedResidual
+sited_residual r = record { site = r.site; residual = plain_residual r }
+
+-- of a ground call, for k sites: that of its row at the base
+abbrev pub residual_at : ℕ → (ℕ → ℤ) → PlannedCall → SitedResidual
+unfolding words
+residual_at k b g = record { site = g.site; residual = (base_row k b g).residual }
+
+-- of each ground call of a workload, in their order
+abbrev pub residuals_at : s.Workload → List ℤ → List SitedResidual
+unfolding words
+residuals_at w base = map (residual_at (sites_of w) (values_of base)) (planned w)
+
+-- the configuration that is given, or else the policy
+abbrev pub config_or : config.Config → Option Config → config.Config
+unfolding words
+config_or policy None = policy
+config_or policy (Some given) = plain_config given
+
+-- a workload's plan at a base of these values: its template there, bounds that fit it, and the residual of each ground call
+pub record IsPlanOf (w : s.Workload) (values : List ℤ) (p : RoundPlan) : Type 0 where
+  pub within : IsWithin (schema_of w) values
+  pub base : p.base.items ≡ values
+  pub sites : p.template.sites ≡ sites_of w
+  pub template : plain_template p.template ≡ template_at w values
+  pub fits : config.Fits (sites_of w) (template_at w values).clauses (plain_config p.config)
+  pub residuals : map sited_residual p.residuals.items ≡ residuals_at w values

@@ -1,0 +1,104 @@
+//! What ground calls bring to the plan of a round.
+
+ghost use Rattle.std.specs.Prelude.{◌≡◌, map, [], IfOk};
+ghost use Rattle.homeo_syntax.specs.LowView.{plain_lcommand};
+ghost use Rattle.homeo_syntax.specs.SourceView.{plain_workload};
+ghost use Rattle.homeo_meaning.specs.Acceptance.{IsAccepted};
+ghost use Rattle.homeo_meaning.specs.Bounds.{IsWithin};
+ghost use Rattle.homeo_meaning.specs.LowMeaning.{whole};
+ghost use Rattle.homeo_meaning.specs.Schema.{schema_of};
+ghost use Rattle.homeo_meaning.specs.Serial.{values_of};
+ghost use Rattle.homeo_plan.specs.Atoms.{true_cond};
+ghost use Rattle.homeo_plan.specs.Needs.{needs};
+ghost use Rattle.homeo_plan.specs.PlanView.{plain_atoms, plain_residual};
+ghost use Rattle.homeo_plan.specs.Planned.{sites_of, planned};
+ghost use Rattle.homeo_plan.specs.Table.{table, row_at};
+ghost use Rattle.homeo_plan.specs.Template.{atoms_of, needs_of};
+ghost use Rattle.homeo_build.specs.Plan.{sited_residual, residuals_at};
+ghost use Rattle.homeo_build.specs.inner.Planning.{CanPlan};
+
+use homeo_linear::{atoms, needs};
+use homeo_meaning::GroundCall;
+use homeo_plan::{AtomSet, Compiled, FreezeSet, Residual, Row};
+use homeo_split::Split;
+use homeo_syntax::{LCommand, List, Memory};
+use homeo_table::walk;
+use std::alloc::Global;
+
+/// What a ground call brings: the atoms of its row at the base, and the row's residual with what that needs.
+struct PlannedCall {
+    atoms: AtomSet,
+    needs: FreezeSet,
+    residual: Residual,
+}
+
+/// What the ground calls of a workload bring, in their order.
+#[derive(Drop)]
+pub(crate) struct PlannedCalls {
+    pub atoms: Vec<AtomSet>,
+    pub needs: Vec<FreezeSet>,
+    pub residuals: List<Residual>,
+}
+
+/// Plans a ground call with its transformed command, on a base without deltas.
+fn plan_call(
+    alloc: Global,
+    call: &GroundCall,
+    command: &LCommand,
+    split: &Split,
+) -> Result<PlannedCall, Memory>
+    requires undivided { split.now.deltas.items ≡ [] }
+    requires can { CanPlan (plain_lcommand command.now) split.now.base.items }
+    ensures atoms { IfOk result (λ p. let b = values_of split.now.base.items in
+        plain_atoms p.atoms ≡ true_cond b (row_at (table (plain_lcommand command.now)) (whole b)).formula) }
+    ensures needs { IfOk result (λ p. let b = values_of split.now.base.items in
+        p.needs.deltas.items ≡ needs call.now.site b (row_at (table (plain_lcommand command.now)) (whole b)).residual) }
+    ensures site { IfOk result (λ p. p.residual.site ≡ call.now.site) }
+    ensures residual { IfOk result (λ p. let b = values_of split.now.base.items in
+        plain_residual p.residual ≡ (row_at (table (plain_lcommand command.now)) (whole b)).residual) }
+{
+    let row = walk(alloc, command, split)?;
+    let Row { formula, residual } = row;
+    let atoms = atoms(alloc, &formula, &split.base)?;
+    let residual = Residual {
+        site: call.site,
+        commands: residual,
+    };
+    let needs = needs(alloc, &residual, &split.base)?;
+    Ok(PlannedCall {
+        atoms,
+        needs,
+        residual,
+    })
+}
+
+/// Plans all ground calls, on a base without deltas.
+pub(crate) fn plan_calls(alloc: Global, c: &Compiled, split: &Split) -> Result<PlannedCalls, Memory>
+    requires accepted { IsAccepted (plain_workload c.now) }
+    requires undivided { split.now.deltas.items ≡ [] }
+    requires within { IsWithin (schema_of (plain_workload c.now)) split.now.base.items }
+    ensures atoms { IfOk result (λ p. map plain_atoms p.atoms.items ≡
+        map (atoms_of (sites_of (plain_workload c.now)) (values_of split.now.base.items)) (planned (plain_workload c.now))) }
+    ensures needs { IfOk result (λ p. map (λ f. f.deltas.items) p.needs.items ≡
+        map (needs_of (sites_of (plain_workload c.now)) (values_of split.now.base.items)) (planned (plain_workload c.now))) }
+    ensures residuals { IfOk result (λ p. map sited_residual p.residuals.items ≡
+        residuals_at (plain_workload c.now) split.now.base.items) }
+{
+    let commands = c.commands();
+    let mut planned = PlannedCalls {
+        atoms: Vec::new(alloc),
+        needs: Vec::new(alloc),
+        residuals: List::new(alloc),
+    };
+    for (i, call) in c.calls().iter().enumerate() {
+        let PlannedCall {
+            atoms,
+            needs,
+            residual,
+        } = plan_call(alloc, call, &commands[i], split)?;
+        planned.atoms.push(atoms)?;
+        planned.needs.push(needs)?;
+        planned.residuals.push(residual)?;
+    }
+    Ok(planned)
+}

@@ -1,0 +1,8 @@
+//! The plan of a round: an accepted workload is compiled once, and at each base the treaties are made of it.
+#![tactic(auto)]
+
+mod calls;
+pub mod compile;
+pub mod laws;
+mod sites;
+pub mod treaties;

@@ -1,0 +1,94 @@
+//! The treaties of a round.
+
+ghost use Rattle.std.specs.Prelude.{◌≡◌, ◌≤◌, [], map, Some, IfOk};
+ghost use Rattle.homeo_syntax.specs.SourceView.{plain_workload};
+ghost use Rattle.homeo_meaning.specs.Bounds.{IsWithin};
+ghost use Rattle.homeo_meaning.specs.Schema.{schema_of};
+ghost use Rattle.homeo_meaning.specs.Small.{IsSmall};
+ghost use Rattle.homeo_plan.specs.Config.{Fits, HaveSlack, even};
+ghost use Rattle.homeo_plan.specs.Each.{Each};
+ghost use Rattle.homeo_plan.specs.Limit.{form_limit};
+ghost use Rattle.homeo_plan.specs.PlanView.{plain_template, plain_config};
+ghost use Rattle.homeo_plan.specs.Planned.{sites_of, template_at, policy};
+ghost use Rattle.homeo_plan.specs.declared.templates.Config.{Config};
+ghost use Rattle.homeo_template.specs.InOrder.{AreInOrder};
+ghost use Rattle.homeo_build.specs.Plan.{config_or, sited_residual, residuals_at, IsPlanOf};
+
+use crate::calls::plan_calls;
+use crate::sites::site_count;
+use homeo_config::split_even;
+use homeo_meaning::Database;
+use homeo_plan::{Compiled, Config, RoundPlan, Template};
+use homeo_split::Split;
+use homeo_syntax::{List, Memory};
+use homeo_template::template;
+use std::alloc::Global;
+
+/// The plan of the round that begins at a base (Roy et al., SIGMOD 2015). Of each ground call the row of its symbolic table
+/// that holds there is found by following the branches that are taken, without the table; the template is made of the
+/// atoms of all these rows' formulas and of what their residuals need. The configuration is the given one, or else the
+/// policy, which splits each slack evenly (this project's rule).
+///
+/// The base must be within the workload's bounds, and a configuration that is given must fit the template: for each clause a
+/// bound for each site, none negative, which add up to the slack.
+///
+/// # Errors
+///
+/// `Memory` when out of memory.
+pub fn treaties(
+    alloc: Global,
+    c: &Compiled,
+    base: &Database,
+    config: Option<Config>,
+) -> Result<RoundPlan, Memory>
+    requires within { IsWithin (schema_of (plain_workload c.now)) base.now.items }
+    requires fits { (given : Config) → config ≡ Some given → Fits (sites_of (plain_workload c.now))
+        (template_at (plain_workload c.now) base.now.items).clauses (plain_config given) }
+    ensures base { IfOk result (λ p. p.base.items ≡ base.now.items) }
+    ensures sites { IfOk result (λ p. p.template.sites ≡ sites_of (plain_workload c.now)) }
+    ensures template { IfOk result (λ p. plain_template p.template ≡ template_at (plain_workload c.now) base.now.items) }
+    ensures order { IfOk result (λ p. AreInOrder p.template.freezes.items) }
+    ensures config { IfOk result (λ p. plain_config p.config ≡ config_or (policy (plain_workload c.now) base.now.items) config) }
+    ensures fits { IfOk result (λ p. Fits (sites_of (plain_workload c.now))
+        (template_at (plain_workload c.now) base.now.items).clauses (plain_config p.config)) }
+    ensures residuals { IfOk result (λ p. map sited_residual p.residuals.items ≡ residuals_at (plain_workload c.now) base.now.items) }
+    ensures plan { IfOk result (IsPlanOf (plain_workload c.now) base.now.items) }
+{
+    let sites = site_count(c.workload());
+    let split = without_deltas(alloc, base)?;
+    let calls = plan_calls(alloc, c, &split)?;
+    let template = template(alloc, calls.atoms.as_slice(), calls.needs.as_slice(), sites)?;
+    let config = config_for(alloc, &template, config)?;
+    let Split { base, deltas: _ } = split;
+    Ok(RoundPlan {
+        base,
+        template,
+        config,
+        residuals: calls.residuals,
+    })
+}
+
+/// A copy of a base that no site has written to.
+fn without_deltas(alloc: Global, base: &Database) -> Result<Split, Memory>
+    ensures base { IfOk result (λ s. s.base.items ≡ base.now.items) }
+    ensures deltas { IfOk result (λ s. s.deltas.items ≡ []) }
+{
+    let values = Vec::from_slice(alloc, base.as_slice())?;
+    Ok(Split {
+        base: List::from_vec(values),
+        deltas: List::new(alloc),
+    })
+}
+
+/// The given configuration, or else the even one.
+fn config_for(alloc: Global, t: &Template, config: Option<Config>) -> Result<Config, Memory>
+    requires sites { 1 ≤ t.now.sites }
+    requires not_negative { HaveSlack (plain_template t.now).clauses }
+    requires small { Each (λ c. IsSmall form_limit c.slack) (plain_template t.now).clauses }
+    ensures { IfOk result (λ c. plain_config c ≡ config_or (even t.now.sites (plain_template t.now).clauses) config) }
+{
+    match config {
+        Some(config) => Ok(config),
+        None => split_even(alloc, t),
+    }
+}

@@ -1,0 +1,41 @@
+-- What is known of a walk on its way: what is left to follow, from which state, and which row it gives.
+use Rattle.std.specs.Prelude.{◌≡◌, ℤ, Bool, true, Option, Some, None, List, map, reverse}
+use Rattle.std.specs.Borrow.{Bor}
+use Rattle.homeo_syntax.specs.declared.low.LCommand.{LCommand}
+use Rattle.homeo_syntax.specs.Low.{Expr, Command}
+use Rattle.homeo_syntax.specs.LowView.{low_commands, plain_lcommand}
+use Rattle.homeo_meaning.specs.LowMeaning.{Location, State, value}
+use Rattle.homeo_plan.specs.Table.{Row, last_row, walk_all_before}
+use Rattle.homeo_split.specs.CanExec.{limit, expr_fits, can_exec_all}
+
+-- the value of an expression at s, or n where there is none
+abbrev pub value_or : ℤ → Option Expr → State → ℤ
+value_or n None s = n
+value_or n (Some e) s = value e s
+
+-- the state where these expressions stand, which speak of state s
+abbrev pub after : (Location → Option Expr) → State → State
+after b s l = value_or (s l) (b l) s
+
+-- an expression, if there is one, can be evaluated at s
+abbrev pub fits_if : Option Expr → State → Bool
+fits_if None s = true
+fits_if (Some e) s = expr_fits limit e s
+
+-- commands can be followed from the state where these expressions stand
+pub record CanFollow (b : Location → Option Expr) (cs : List Command) (s : State) : Type 0 where
+  pub expressions : (l : Location) → fits_if (b l) s ≡ true
+  pub commands : can_exec_all limit (low_commands cs) (after b s) ≡ true
+
+-- the row of these commands' walk from the state where these expressions stand, made whole by f
+abbrev pub walked : (Row → Row) → (Location → Option Expr) → List Command → State → Row
+walked f b cs s = f (walk_all_before (low_commands cs) (after b s) last_row)
+
+-- other commands can be followed where other expressions stand, and their walk gives the same row
+pub record Goes (f f' : Row → Row) (b b' : Location → Option Expr) (cs cs' : List Command) (s : State) : Type 0 where
+  pub can : CanFollow b' cs' s
+  pub row : walked f' b' cs' s ≡ walked f b cs s
+
+-- commands that stand from the last to the first, in their order
+abbrev pub in_order : List (Bor LCommand) → List Command
+in_order cs = reverse (map (λ c. plain_lcommand c.now) cs)
