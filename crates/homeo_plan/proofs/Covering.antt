@@ -128,7 +128,7 @@ unfolding words meaning_words
 each_map P Q f [] h = tt
 each_map P Q f (x ∷ xs) h = (f x h.0, each_map P Q f xs h.1)
 
-each_in : {X : Type 0} (xs ys : List X) → ((x : X) → Member x xs → Member x ys) → Each (λ x. Member x ys) xs
+pub each_in : {X : Type 0} (xs ys : List X) → ((x : X) → Member x xs → Member x ys) → Each (λ x. Member x ys) xs
 unfolding words meaning_words
 each_in [] ys h = tt
 each_in (x ∷ xs) ys h = (h x (inl refl), each_in xs ys (λ y m. h y (inr m)))

@@ -1,3 +1,11 @@
 pub mod CallsOfSites
+pub mod FirstFailures
+pub mod Limits
 pub mod LocalSteps
+pub mod OrderedAtoms
+pub mod OwnSums
+pub mod OwnTerms
 pub mod SitesHold
+pub mod StepsRun
+pub mod TemplateClauses
+pub mod WalkRuns

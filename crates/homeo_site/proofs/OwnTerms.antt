@@ -1,0 +1,173 @@
+-- The terms of a site, one more at a time, and their sums.
+use Rattle.std.proofs.Common.{◌≡◌, ℕ, zero, suc, ◌+◌, ◌<◌, ◌≤◌, ◌==◌, Bool, true, false, cond, List, [], ◌∷◌, ◌++◌, length, get_or, map, take, ℤ, pos, ◌+ℤ◌, ◌*ℤ◌, refl, sym, ap, ap₂, ◌∙◌, subst, FitsSigned, arith}
+use Rattle.std.proofs.lemmas.Int.{ints}
+use Rattle.std.specs.Int.{w128}
+use Rattle.std.proofs.lemmas.Bool.Decides.{nat_tests}
+use Rattle.std.proofs.Math.Seq.{take-length}
+use Rattle.std.proofs.lemmas.List.{take_more, append-nil, map-append}
+use Rattle.homeo_syntax.specs.Listed.{Listed}
+use Rattle.homeo_plan.specs.Key.{words as plan_words}
+use Rattle.homeo_plan.specs.declared.forms.Term.{Term}
+use Rattle.homeo_plan.specs.Joined.{Deltas}
+use Rattle.homeo_plan.specs.Config.{Config}
+use Rattle.homeo_plan.specs.PlanView.{plain_clause}
+use Rattle.homeo_plan.specs.Treaty.{site_sum, bound_at}
+use Rattle.homeo_plan.specs.declared.templates.Clause as code
+use Rattle.homeo_site.specs.Key.{words}
+use Rattle.homeo_site.specs.declared.own_treaty.OwnTerm.{OwnTerm}
+use Rattle.homeo_site.specs.inner.OwnTreaty.{own_terms, own_sum, SumsFit, OwnClause, plain_own, own_clauses}
+use Rattle.homeo_site.specs.declared.own_treaty.OwnClause as code_own
+
+-- a site's sum is that of its own terms
+pub own_sum_is : (i : ℕ) (ts : List Term) (x : Deltas) → own_sum (own_terms i ts) x ≡ site_sum i ts x
+unfolding words plan_words
+own_sum_is i [] x = refl
+own_sum_is i (t ∷ ts) x = go (t.delta.site == i) (own_sum_is i ts x)
+  where
+    go :
+        (v : Bool) → own_sum (own_terms i ts) x ≡ site_sum i ts x →
+        own_sum (cond v (record { object = t.delta.object; factor = t.factor } ∷ own_terms i ts) (own_terms i ts)) x ≡
+        cond v (t.factor *ℤ x t.delta.object) (pos 0) +ℤ site_sum i ts x
+    go true ih = ap (λ z. (t.factor *ℤ x t.delta.object) +ℤ z) ih
+    go false ih = omega (arith, ints, ih)
+
+own_append : (i : ℕ) (ts us : List Term) → own_terms i (ts ++ us) ≡ own_terms i ts ++ own_terms i us
+unfolding words
+own_append i [] us = refl
+own_append i (t ∷ ts) us = go (t.delta.site == i) (own_append i ts us)
+  where
+    one : OwnTerm
+    one = record { object = t.delta.object; factor = t.factor }
+
+    go :
+        (v : Bool) → own_terms i (ts ++ us) ≡ own_terms i ts ++ own_terms i us →
+        cond v (one ∷ own_terms i (ts ++ us)) (own_terms i (ts ++ us)) ≡ cond v (one ∷ own_terms i ts) (own_terms i ts) ++ own_terms i us
+    go true ih = ap (λ os. one ∷ os) ih
+    go false ih = ih
+
+-- the next of a list of terms is put to the site's where it is one of its terms
+pub own_more :
+    (i : ℕ) (ts : List Term) (k : ℕ) (d : Term) → k < length ts → (get_or ts k d).delta.site ≡ i →
+    own_terms i (take (k + 1) ts) ≡
+    own_terms i (take k ts) ++ record { object = (get_or ts k d).delta.object; factor = (get_or ts k d).factor } ∷ []
+unfolding words
+own_more i ts k d lt here =
+    let q : ((get_or ts k d).delta.site == i) ≡ true = grind (arith, nat_tests) in
+    ap (own_terms i) (take_more ts k d lt) ∙ own_append i (take k ts) (get_or ts k d ∷ [])
+    ∙ ap (λ v. own_terms i (take k ts) ++ cond v (record { object = (get_or ts k d).delta.object; factor = (get_or ts k d).factor } ∷ []) []) q
+
+-- and no other
+pub own_other :
+    (i : ℕ) (ts : List Term) (k : ℕ) (d : Term) → k < length ts → ((get_or ts k d).delta.site ≡ i → ⊥) →
+    own_terms i (take (k + 1) ts) ≡ own_terms i (take k ts)
+unfolding words
+own_other i ts k d lt other =
+    let q : ((get_or ts k d).delta.site == i) ≡ false = grind (arith, nat_tests) in
+    ap (own_terms i) (take_more ts k d lt) ∙ own_append i (take k ts) (get_or ts k d ∷ [])
+    ∙ ap (λ v. own_terms i (take k ts) ++ cond v (record { object = (get_or ts k d).delta.object; factor = (get_or ts k d).factor } ∷ []) []) q
+    ∙ append-nil (own_terms i (take k ts))
+
+sum_append : (ts us : List OwnTerm) (x : Deltas) → own_sum (ts ++ us) x ≡ own_sum ts x +ℤ own_sum us x
+unfolding words
+sum_append [] us x = omega (arith, ints)
+sum_append (t ∷ ts) us x = omega (arith, ints, sum_append ts us x)
+
+-- the next term is added to the sum
+pub sum_more :
+    (ts : List OwnTerm) (k : ℕ) (d : OwnTerm) (x : Deltas) → k < length ts →
+    own_sum (take (k + 1) ts) x ≡ own_sum (take k ts) x +ℤ ((get_or ts k d).factor *ℤ x (get_or ts k d).object)
+unfolding words
+sum_more ts k d x lt =
+    ap (λ us. own_sum us x) (take_more ts k d lt) ∙ sum_append (take k ts) (get_or ts k d ∷ []) x
+    ∙ ap (λ z. own_sum (take k ts) x +ℤ z) (last ((get_or ts k d).factor *ℤ x (get_or ts k d).object))
+  where
+    last : (z : ℤ) → z +ℤ pos 0 ≡ z
+    last z = omega (arith, ints)
+
+-- ---- steps of the loops
+pub own_pushed :
+    (i : ℕ) (ts : List Term) (k : ℕ) (d : Term) (one : OwnTerm) (old new : List OwnTerm) → k < length ts →
+    (get_or ts k d).delta.site ≡ i → old ≡ own_terms i (take k ts) →
+    one ≡ record { object = (get_or ts k d).delta.object; factor = (get_or ts k d).factor } → new ≡ old ++ one ∷ [] →
+    new ≡ own_terms i (take (k + 1) ts)
+own_pushed i ts k d one old new lt here so_far same e =
+    e ∙ ap₂ (λ os (o : OwnTerm). os ++ o ∷ []) so_far same ∙ sym (own_more i ts k d lt here)
+
+pub sum_next :
+    (ts : List OwnTerm) (k : ℕ) (d : OwnTerm) (x : Deltas) (sum next : ℤ) → k < length ts → sum ≡ own_sum (take k ts) x →
+    next ≡ sum +ℤ ((get_or ts k d).factor *ℤ x (get_or ts k d).object) → next ≡ own_sum (take (k + 1) ts) x
+sum_next ts k d x sum next lt so_far e =
+    e ∙ ap (λ z. z +ℤ ((get_or ts k d).factor *ℤ x (get_or ts k d).object)) so_far ∙ sym (sum_more ts k d x lt)
+
+pub sum_fits :
+    (ts : List OwnTerm) (k : ℕ) (d : OwnTerm) (x : Deltas) (sum : ℤ) → k < length ts → sum ≡ own_sum (take k ts) x →
+    SumsFit ts x → FitsSigned w128 (sum +ℤ ((get_or ts k d).factor *ℤ x (get_or ts k d).object))
+sum_fits ts k d x sum lt so_far fits =
+    subst (FitsSigned w128) (sym (sum_next ts k d x sum _ lt so_far refl)) (fits.sums (k + 1))
+
+pub all_sum : (ts : List OwnTerm) (x : Deltas) → own_sum (take (length ts) ts) x ≡ own_sum ts x
+all_sum ts x = ap (λ us. own_sum us x) (take-length ts)
+
+-- ---- bounds
+bounds_at_place :
+    (bs : List (Listed ℤ)) (n : ℕ) (b : Listed ℤ) → n < length bs → b ≡ get_or bs n b →
+    get_or (map (λ (l : Listed ℤ). l.items) bs) n [] ≡ b.items
+bounds_at_place [] n b lt e = absurd (omega arith)
+bounds_at_place (a ∷ bs) zero b lt e = ap (λ (l : Listed ℤ). l.items) (sym e)
+bounds_at_place (a ∷ bs) (suc n) b lt e = bounds_at_place bs n b (omega arith) e
+
+pub bound_there :
+    (bs ks : List (Listed ℤ)) (n i : ℕ) (b : Listed ℤ) (ns : List ℤ) (z : ℤ) → ks ≡ bs → n < length ks → b ≡ get_or ks n b →
+    ns ≡ b.items → z ≡ get_or ns i (pos 0) → z ≡ bound_at (get_or (map (λ (l : Listed ℤ). l.items) bs) n []) i
+unfolding plan_words
+bound_there bs ks n i b ns z same lt at items e =
+    e ∙ ap (λ l. get_or l i (pos 0)) (items ∙ sym (bounds_at_place ks n b lt at))
+    ∙ ap (λ l. get_or (get_or (map (λ (l : Listed ℤ). l.items) l) n []) i (pos 0)) same
+
+no_bounds : (bs : List (Listed ℤ)) (n : ℕ) → length bs ≤ n → get_or (map (λ (l : Listed ℤ). l.items) bs) n [] ≡ []
+no_bounds [] n le = refl
+no_bounds (a ∷ bs) zero le = absurd (omega arith)
+no_bounds (a ∷ bs) (suc n) le = no_bounds bs n (omega arith)
+
+pub no_bound :
+    (bs ks : List (Listed ℤ)) (n i : ℕ) → ks ≡ bs → length ks ≤ n →
+    pos 0 ≡ bound_at (get_or (map (λ (l : Listed ℤ). l.items) bs) n []) i
+unfolding plan_words
+no_bound bs ks n i same le =
+    ap (λ l. get_or l i (pos 0)) (sym (no_bounds ks n le))
+    ∙ ap (λ l. get_or (get_or (map (λ (l : Listed ℤ). l.items) l) n []) i (pos 0)) same
+
+-- ---- clauses
+pub own_clause_more :
+    (i : ℕ) (cs : List code.Clause) (bs : Config) (k : ℕ) (d : code.Clause) → k < length cs →
+    own_clauses i (map plain_clause (take (suc k) cs)) bs ≡
+    own_clauses i (map plain_clause (take k cs)) bs
+    ++ record { terms = own_terms i (get_or cs k d).terms.items; bound = bound_at (get_or bs k []) i } ∷ []
+unfolding words plan_words
+own_clause_more i [] bs k d lt = absurd (omega arith)
+own_clause_more i (c ∷ cs) [] zero d lt = refl
+own_clause_more i (c ∷ cs) (b ∷ bs) zero d lt = refl
+own_clause_more i (c ∷ cs) [] (suc k) d lt =
+    ap (λ os. record { terms = own_terms i c.terms.items; bound = pos 0 } ∷ os) (own_clause_more i cs [] k d (omega arith))
+own_clause_more i (c ∷ cs) (b ∷ bs) (suc k) d lt =
+    ap (λ os. record { terms = own_terms i c.terms.items; bound = bound_at b i } ∷ os) (own_clause_more i cs bs k d (omega arith))
+
+pub clause_pushed :
+    (i : ℕ) (cs : List code.Clause) (bs : Config) (k : ℕ) (c : code.Clause) (one : code_own.OwnClause)
+    (old new : List code_own.OwnClause) → k < length cs → c ≡ get_or cs k c →
+    map plain_own old ≡ own_clauses i (map plain_clause (take k cs)) bs → one.terms.items ≡ own_terms i c.terms.items →
+    one.bound ≡ bound_at (get_or bs k []) i → new ≡ old ++ one ∷ [] →
+    map plain_own new ≡ own_clauses i (map plain_clause (take (k + 1) cs)) bs
+unfolding words
+clause_pushed i cs bs k c one old new lt at so_far terms bound e =
+    ap (map plain_own) e ∙ map-append plain_own old (one ∷ [])
+    ∙ ap₂ (λ os (o : OwnClause). os ++ o ∷ []) so_far (same (terms ∙ ap (λ (d : code.Clause). own_terms i d.terms.items) at) bound)
+    ∙ sym (own_clause_more i cs bs k c lt) ∙ ap (λ n. own_clauses i (map plain_clause (take n cs)) bs) next
+  where
+    next : suc k ≡ k + 1
+    next = omega arith
+
+    same :
+        {ts : List OwnTerm} {b : ℤ} → one.terms.items ≡ ts → one.bound ≡ b →
+        plain_own one ≡ record { terms = ts; bound = b }
+    same t b = λ j. record { terms = t j; bound = b j }

@@ -1,0 +1,58 @@
+-- What fails of a treaty at one number, and the first that fails of several.
+use Rattle.std.specs.Prelude.{ℕ, zero, suc, ◌==◌, ◌&&◌, not, cond, List, [], ◌∷◌, ℤ, pos, int_le, Option, Some, None}
+use Rattle.std.specs.Ordering.{int_eq}
+use Rattle.homeo_plan.specs.declared.treaty.Broken.{Broken}
+use Rattle.homeo_plan.specs.declared.forms.Delta.{Delta}
+use Rattle.homeo_plan.specs.declared.forms.Term.{Term}
+use Rattle.homeo_plan.specs.Joined.{Deltas}
+use Rattle.homeo_plan.specs.Template.{Clause, Template}
+use Rattle.homeo_plan.specs.Config.{Config}
+use Rattle.homeo_plan.specs.Treaty.{site_sum, bound_at}
+use Rattle.homeo_site.specs.Key.{words}
+
+-- a sum above the bound fails
+abbrev pub sum_failure : ℕ → ℤ → ℤ → Option Broken
+unfolding words
+sum_failure n sum bound = cond (int_le sum bound) None (Some (record { clause = n; sum = sum; bound = bound }))
+
+-- a frozen delta that isn't 0 fails
+abbrev pub frozen_failure : ℕ → ℤ → Option Broken
+unfolding words
+frozen_failure n value = cond (int_eq value (pos 0)) None (Some (record { clause = n; sum = value; bound = pos 0 }))
+
+-- so where the delta is one of site i
+abbrev pub freeze_failure : ℕ → ℕ → Deltas → Delta → Option Broken
+unfolding words
+freeze_failure n i x d = cond (d.site == i) (frozen_failure n (x d.object)) None
+
+-- of freezes numbered from n on, what fails of the one at this place
+abbrev pub freeze_failure_from : ℕ → ℕ → Deltas → List Delta → ℕ → Option Broken
+unfolding words
+freeze_failure_from n i x [] m = None
+freeze_failure_from n i x (d ∷ ds) zero = freeze_failure n i x d
+freeze_failure_from n i x (d ∷ ds) (suc m) = freeze_failure_from (suc n) i x ds m
+
+-- so of clauses numbered from n on, and then of freezes
+abbrev pub failure_from : ℕ → ℕ → Deltas → List Clause → Config → List Delta → ℕ → Option Broken
+unfolding words
+failure_from n i x [] bs ds m = freeze_failure_from n i x ds m
+failure_from n i x (c ∷ cs) [] ds m = sum_failure n (site_sum i c.terms x) (pos 0)
+failure_from n i x (c ∷ cs) (b ∷ bs) ds zero = sum_failure n (site_sum i c.terms x) (bound_at b i)
+failure_from n i x (c ∷ cs) (b ∷ bs) ds (suc m) = failure_from (suc n) i x cs bs ds m
+
+-- what fails of the treaty of site i at a number
+abbrev pub failure_at : Template → Config → ℕ → Deltas → ℕ → Option Broken
+unfolding words
+failure_at t config i x m = failure_from 0 i x t.clauses config t.freezes m
+
+-- the first, or else the second
+abbrev pub first_of : Option Broken → Option Broken → Option Broken
+unfolding words
+first_of None next = next
+first_of (Some f) next = Some f
+
+-- the first that fails of numbers, one after another
+abbrev pub first_failure : (ℕ → Option Broken) → List ℕ → Option Broken
+unfolding words
+first_failure failure [] = None
+first_failure failure (n ∷ ns) = first_of (failure n) (first_failure failure ns)

@@ -1,0 +1,105 @@
+//! What a site keeps of a treaty: of each clause the terms on its own deltas and its own bound.
+
+ghost use Rattle.std.specs.Prelude.{◌≡◌, ◌+ℤ◌, ◌*ℤ◌, [], map, slice_index_or, IfOk, FitsSigned};
+ghost use Rattle.std.specs.Int.{w128};
+ghost use Rattle.homeo_meaning.specs.Serial.{values_of};
+ghost use Rattle.homeo_plan.specs.PlanView.{plain_clause, plain_config};
+ghost use Rattle.homeo_plan.specs.Treaty.{bound_at};
+ghost use Rattle.homeo_site.specs.inner.OwnTreaty.{own_terms, own_sum, SumsFit, plain_own, own_clauses};
+
+use homeo_meaning::padded::item_or;
+use homeo_plan::{Clause, Config, Term};
+use homeo_syntax::{List, Memory};
+use std::alloc::Global;
+
+/// A factor, and the object of the own delta that is taken by it.
+#[derive(Clone, Copy)]
+pub(crate) struct OwnTerm {
+    pub object: u32,
+    pub factor: i128,
+}
+
+/// A clause with the terms on a site's deltas, in their order, and the site's bound.
+#[derive(Drop)]
+pub(crate) struct OwnClause {
+    pub terms: List<OwnTerm>,
+    pub bound: i128,
+}
+
+fn own_term(term: &Term) -> OwnTerm
+    ensures { result ≡ record { object = term.now.delta.object; factor = term.now.factor } }
+{
+    OwnTerm {
+        object: term.delta.object,
+        factor: term.factor,
+    }
+}
+
+/// The terms on deltas of a site.
+#[tactic(auto, unfolding(crate::specs::Key::words))]
+fn own_terms(alloc: Global, terms: &[Term], site: u32) -> Result<List<OwnTerm>, Memory>
+    ensures { IfOk result (λ own. own.items ≡ own_terms site terms.now) }
+{
+    let mut own = List::new(alloc);
+    for term in terms {
+        if term.delta.site == site {
+            own.push(own_term(term))?;
+        }
+    }
+    Ok(own)
+}
+
+/// The bound of a site in a clause, by the clause's number: 0 where there is none.
+fn bound_of(config: &Config, clause: usize, site: u32) -> i128
+    ensures { result ≡ bound_at (slice_index_or (plain_config config.now) clause []) site }
+{
+    let bounds = config.bounds.as_slice();
+    if clause < bounds.len() {
+        item_or(bounds[clause].as_slice(), site as usize, 0)
+    } else {
+        0
+    }
+}
+
+/// What a site keeps of clauses, one for each.
+#[tactic(auto, unfolding(crate::specs::Key::words))]
+pub(crate) fn own_clauses(
+    alloc: Global,
+    clauses: &[Clause],
+    config: &Config,
+    site: u32,
+) -> Result<List<OwnClause>, Memory>
+    ensures { IfOk result (λ own. map plain_own own.items ≡
+        own_clauses site (map plain_clause clauses.now) (plain_config config.now)) }
+{
+    let mut own = List::new(alloc);
+    for (n, clause) in clauses.iter().enumerate() {
+        let terms = own_terms(alloc, clause.terms.as_slice(), site)?;
+        let bound = bound_of(config, n, site);
+        own.push(OwnClause { terms, bound })?;
+    }
+    Ok(own)
+}
+
+/// A sum with one more term's factor times delta.
+fn with_term(sum: i128, term: OwnTerm, deltas: &[i64]) -> i128
+    requires product { FitsSigned w128 (term.factor *ℤ values_of deltas.now term.object) }
+    requires total { FitsSigned w128 (sum +ℤ (term.factor *ℤ values_of deltas.now term.object)) }
+    ensures { result ≡ sum +ℤ (term.factor *ℤ values_of deltas.now term.object) }
+{
+    let delta = item_or(deltas, term.object as usize, 0);
+    sum + term.factor * i128::from(delta)
+}
+
+/// The sum of factor times delta.
+#[tactic(auto, using(crate::proofs::OwnTerms::all_sum), unfolding(crate::specs::Key::words))]
+pub(crate) fn own_sum(terms: &[OwnTerm], deltas: &[i64]) -> i128
+    requires { SumsFit terms.now (values_of deltas.now) }
+    ensures { result ≡ own_sum terms.now (values_of deltas.now) }
+{
+    let mut sum = 0;
+    for term in terms {
+        sum = with_term(sum, *term, deltas);
+    }
+    sum
+}
