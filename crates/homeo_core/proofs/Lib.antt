@@ -1,0 +1,9 @@
+pub mod ClosingCalls
+pub mod Following
+pub mod Gathered
+pub mod Gathering
+pub mod Joining
+pub mod LocalCalls
+pub mod OneAnswer
+pub mod OpenRound
+pub mod Ordered

@@ -1,0 +1,4 @@
+pub mod Events
+pub mod Joined
+pub mod Key
+pub mod Laws
