@@ -1,3 +1,4 @@
+pub mod Added
 pub mod ClosingCalls
 pub mod Following
 pub mod Gathered

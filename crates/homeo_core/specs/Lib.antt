@@ -1,4 +1,5 @@
 pub mod Events
+pub mod GatherView
 pub mod Joined
 pub mod Key
 pub mod Laws

@@ -2,4 +2,7 @@
 //! else on the gathered database, where it closes the round.
 #![tactic(auto)]
 
+mod gather;
 pub mod laws;
+
+pub use gather::Gather;
