@@ -8,3 +8,5 @@ pub mod LocalCalls
 pub mod OneAnswer
 pub mod OpenRound
 pub mod Ordered
+pub mod SitesOfClients
+pub mod StartsOfSites

@@ -19,14 +19,16 @@ pub record BreaksCall (w : s.Workload) (sites : List SiteState) (home : ℕ) (ca
   pub at_site : IsCallAt w home call
   pub breaks : step_finding w site call ≡ Some broken
 
--- the call with what it prints on the base with the deltas of all sites
+-- the call with what it prints on a database
+abbrev pub closing_on : s.Workload → List ℤ → ℕ → CallId → Broken → Closing
+unfolding words
+closing_on w database home call broken =
+    record { site = home; entry = record { call = call; prints = (call_outcome w call database).prints }; broken = broken }
+
+-- on the base with the deltas of all sites
 abbrev pub closing_of : s.Workload → BookState → List SiteState → ℕ → CallId → Broken → Closing
 unfolding words
-closing_of w b sites home call broken = record {
-  site = home;
-  entry = record { call = call; prints = (call_outcome w call (gathered b.base sites)).prints };
-  broken = broken;
-}
+closing_of w b sites home call broken = closing_on w (gathered b.base sites) home call broken
 
 -- the round of these sites, closed by the call
 abbrev pub closed_round : s.Workload → BookState → List SiteState → ℕ → CallId → Broken → Round

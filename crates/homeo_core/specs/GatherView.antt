@@ -10,13 +10,13 @@ pub record GatherView : Type 0 where
   pub sum : List ℤ
   pub added : ℕ
 
--- the round that ends, its base, the next base, and the closing call; of each site the segment that was taken, and whether the
--- site still waits for its start in the next round
+-- the round that ends, its base, the call that closes it, and the next base; of each site the segment that was taken, empty where
+-- none was, and whether the site still waits for its start in the next round
 pub record PreparedView : Type 0 where
   pub work : Workload
   pub round : ℕ
   pub base : List ℤ
-  pub next : List ℤ
   pub closing : Closing
+  pub next : List ℤ
   pub segments : List (List Entry)
   pub waiting : List Bool

@@ -1,5 +1,6 @@
 pub mod Events
 pub mod GatherView
+pub mod inner
 pub mod Joined
 pub mod Key
 pub mod Laws

@@ -14,10 +14,10 @@ use std::marker::Model;
 /// round leave (Roy et al., SIGMOD 2015).
 #[derive(Drop)]
 pub struct Gather {
-    round: u64,
-    base: Database,
-    sum: Vec<i64>,
-    added: u64,
+    pub(crate) round: u64,
+    pub(crate) base: Database,
+    pub(crate) sum: Vec<i64>,
+    pub(crate) added: u64,
 }
 
 impl Model for Gather {

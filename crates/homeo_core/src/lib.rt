@@ -2,7 +2,10 @@
 //! else on the gathered database, where it closes the round.
 #![tactic(auto)]
 
+mod clients;
 mod gather;
 pub mod laws;
+mod prepared;
 
 pub use gather::Gather;
+pub use prepared::Prepared;
