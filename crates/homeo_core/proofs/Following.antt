@@ -1,27 +1,24 @@
 -- A list of calls that was followed is followed with one call more.
+use Rattle.homeo_history.specs.Key.{words as histories}
+use Rattle.homeo_site.specs.Key.{words as site_words}
+use Rattle.homeo_core.specs.Key.{words}
 use Rattle.std.proofs.Common.{◌≡◌, ℕ, zero, suc, ◌+◌, ◌<◌, ◌≤◌, List, [], ◌∷◌, ◌++◌, map, length, take, drop, Bool, true, false, cond, eqb, Some, refl, sym, ap, subst, ◌∙◌, arith, append_assoc}
-use Rattle.std.specs.Prelude.{ℤ, sum, slice_get, slice_set}
+use Rattle.std.specs.Prelude.{ℤ, sum, slice_get, slice_set, unwrap_or}
 use Rattle.std.proofs.lemmas.List.{append-nil, map-append, length-map, length_push, length-append}
 use Rattle.std.proofs.lemmas.List.Sums.{sum_by-cons}
 use Rattle.std.proofs.lemmas.Bool.Decides.{nat_tests}
-use Rattle.std.specs.Prelude.{unwrap_or}
 use Rattle.homeo_syntax.specs.Source as s
 use Rattle.homeo_meaning.specs.declared.call.CallId.{CallId}
-use Rattle.homeo_history.specs.Key.{words as histories}
-use Rattle.homeo_history.specs.History.{Entry}
-use Rattle.homeo_history.specs.Merge.{segment_of, put_at, merge}
-use Rattle.homeo_history.specs.Legal.{site_of}
-use Rattle.homeo_history.specs.Follows.{site_or_zero}
-use Rattle.homeo_core.specs.Key.{words}
-use Rattle.homeo_site.specs.Key.{words as site_words}
-use Rattle.homeo_core.specs.Laws.{FollowsLocal, FollowsCleanup}
 use Rattle.homeo_plan.specs.declared.treaty.Broken.{Broken}
-use Rattle.homeo_history.specs.History.{Round}
-use Rattle.homeo_site.specs.SiteState.{SiteState, local_entry, after_local, renewed}
-use Rattle.homeo_core.specs.Core.{BookState, segments_of, open_round}
-use Rattle.homeo_core.specs.Events.{next_base, closed_round}
-use Rattle.homeo_history.specs.Follows.{FollowsRound, FollowsRounds}
+use Rattle.homeo_history.specs.Follows.{site_or_zero, FollowsRound, FollowsRounds}
+use Rattle.homeo_history.specs.History.{Entry, Round}
+use Rattle.homeo_history.specs.Legal.{site_of}
+use Rattle.homeo_history.specs.Merge.{segment_of, put_at, merge}
 use Rattle.homeo_history.proofs.Lists.{get_lt}
+use Rattle.homeo_site.specs.SiteState.{SiteState, local_entry, after_local, renewed}
+use Rattle.homeo_core.specs.Joined.{BookState, segments_of, open_round}
+use Rattle.homeo_core.specs.Events.{next_base, closed_round}
+use Rattle.homeo_core.specs.Laws.{FollowsLocal, FollowsCleanup}
 
 -- the segments, and the entry at the end of one of them
 abbrev extended : List (List Entry) → ℕ → Entry → List (List Entry)
@@ -245,12 +242,12 @@ open_more w base sites sites' home e lt is at part f =
     }
 
 pub follows_local : FollowsLocal
-unfolding words site_words
-follows_local w b sites home x call calls here at_home f =
+unfolding words histories site_words
+follows_local w start b sites home x call calls joined here at_site f =
     let y : SiteState = after_local w x call in
     let e : Entry = local_entry w x call in
     let lt : home < length (segments_of sites) = subst (λ n. home < n) (sym (length-map sites (λ (z : SiteState). z.segment))) (get_lt sites home x here) in
-    let at : site_or_zero w call ≡ home = site_is w call home at_home.at_site in
+    let at : site_or_zero w call ≡ home = site_is w call home at_site.at_site in
     rounds_more w b.closed (open_round b.base sites) (open_round b.base (slice_set sites home y)) calls call (open_more w b.base sites (slice_set sites home y) home e lt (segments_extended sites home x y e here refl) at) f
 
 closed_more : (w : s.Workload) (b : BookState) (sites : List SiteState) (home : ℕ) (call : CallId) (broken : Broken) (part : List CallId) → FollowsRound w (open_round b.base sites) part → FollowsRound w (closed_round w b sites home call broken) (part ++ call ∷ [])
@@ -271,6 +268,6 @@ no_total base (x ∷ sites) =
     omega arith
 
 pub follows_cleanup : FollowsCleanup
-unfolding words histories site_words
+unfolding words histories
 follows_cleanup w b sites home call broken calls f =
     rounds_end w (b.closed ++ closed_round w b sites home call broken ∷ []) (open_round (next_base w b sites call) (map (renewed (next_base w b sites call)) sites)) (calls ++ call ∷ []) (record { before = []; cut = refl; whole = sym (no_total (next_base w b sites call) sites); by_sites = refl }) (rounds_more w b.closed (open_round b.base sites) (closed_round w b sites home call broken) calls call (closed_more w b sites home call broken) f)

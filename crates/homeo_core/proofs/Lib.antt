@@ -1,11 +1,12 @@
-pub mod Calls
-pub mod Cleanups
+pub mod Added
+pub mod ClosingCalls
 pub mod Following
 pub mod Gathered
 pub mod Gathering
-pub mod Joined
+pub mod Joining
 pub mod LocalCalls
 pub mod OneAnswer
 pub mod OpenRound
-pub mod Order
-pub mod Start
+pub mod Ordered
+pub mod SitesOfClients
+pub mod StartsOfSites

@@ -1,4 +1,6 @@
-pub mod Core
 pub mod Events
+pub mod GatherView
+pub mod inner
+pub mod Joined
 pub mod Key
 pub mod Laws

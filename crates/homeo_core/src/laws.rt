@@ -1,53 +1,41 @@
-//! What is true of closed rounds and the sites of the open one.
+//! What is true of closed rounds and the sites of the open one, of an accepted workload.
 
-ghost use Rattle.homeo_core.specs.Laws.{Starting, Joining, Gathering, NextCall, SiteBelow, CoreLocal, CoreCleanup, CoreOrder, FollowsLocal, FollowsCleanup};
-
-/// Book and sites are joined at the start, where no call is made.
-pub fn starting()
-    ensures { Starting }
-{}
+ghost use Rattle.homeo_core.specs.Laws.{Joining, Gathering, CoreLocal, FollowsLocal, CoreCleanup, FollowsCleanup, CoreOrder};
 
 /// Closed rounds and sites in one round, with each client's calls in order, are a legal history.
-pub fn joining()
+pub fn joined_rounds_are_legal()
     ensures { Joining }
 {}
 
-/// While the deltas of the sites are added to the base one site after another, the database is within bounds.
-pub fn gathering()
+/// While the deltas of the sites are added to the base, one site after another, each sum is within the workload's bounds.
+pub fn sums_stay_within_bounds()
     ensures { Gathering }
 {}
 
-/// A client's number from 1 to the count of its calls is a call at its site.
-pub fn next_call()
-    ensures { NextCall }
-{}
-
-/// The site of a call is one of the workload's.
-pub fn site_below()
-    ensures { SiteBelow }
-{}
-
-/// A call that keeps its site's treaty leaves book and sites joined, and adds its answer to the history's.
-pub fn core_local()
+/// A call that keeps its site's treaty keeps what closed rounds and sites hold, and adds exactly its answer to the
+/// history's.
+pub fn local_calls_go_on()
     ensures { CoreLocal }
 {}
 
-/// A cleanup by a call that breaks its site's treaty leaves them joined, and adds the closing call's answer.
-pub fn core_cleanup()
-    ensures { CoreCleanup }
-{}
-
-/// With the answer to the next call of its client each client's calls are in order.
-pub fn core_order()
-    ensures { CoreOrder }
-{}
-
-/// A list of calls that was followed is followed with a local call at its end.
-pub fn follows_local()
+/// Where the history followed a list of calls, after such a call it follows the list with this call at its end.
+pub fn local_calls_are_followed()
     ensures { FollowsLocal }
 {}
 
-/// And with a closing call at its end.
-pub fn follows_cleanup()
+/// A call that breaks its site's treaty and so closes the round keeps what closed rounds and sites hold, and adds exactly
+/// its answer to the history's.
+pub fn closing_calls_go_on()
+    ensures { CoreCleanup }
+{}
+
+/// Where the history followed a list of calls, after such a call it follows the list with this call at its end.
+pub fn closing_calls_are_followed()
     ensures { FollowsCleanup }
+{}
+
+/// Where the answers have one more at the end of those to its client, with that client's next number, each client's calls
+/// stay in order.
+pub fn answers_stay_in_order()
+    ensures { CoreOrder }
 {}

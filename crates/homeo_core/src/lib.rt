@@ -1,4 +1,11 @@
-//! All sites of a workload as one: local calls, and cleanups that close a round.
+//! Runs calls at the sites of one program, one after another: each by its site alone where that keeps the site's treaty, and
+//! else on the gathered database, where it closes the round.
 #![tactic(auto)]
 
+mod clients;
+mod gather;
 pub mod laws;
+mod prepared;
+
+pub use gather::Gather;
+pub use prepared::Prepared;

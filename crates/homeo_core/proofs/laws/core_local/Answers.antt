@@ -1,5 +1,0 @@
-use Rattle.homeo_core.proofs.LocalCalls.{core_local}
-use Rattle.homeo_core.proofs.laws.core_local.Goals as goal
-
-pub returns : goal.returns
-returns c = core_local
