@@ -2,6 +2,7 @@ pub mod Added
 pub mod ClosingCalls
 pub mod Following
 pub mod Gathered
+pub mod GatheredSites
 pub mod Gathering
 pub mod Joining
 pub mod LocalCalls

@@ -1,2 +1,3 @@
-pub mod Codes
+pub mod SiteLists
 pub mod Starts
+pub mod Tried

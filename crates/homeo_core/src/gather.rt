@@ -22,9 +22,9 @@ pub struct Gather {
 
 impl Model for Gather {
     ghost use Rattle.std.specs.Prelude.{◌<◌, ◌^◌};
-    ghost use Rattle.homeo_core.specs.GatherView.{GatherView};
+    ghost use Rattle.homeo_core.specs.GatherView.{GatherValue};
 
-    ghost Value = { GatherView };
+    ghost Value = { GatherValue };
 
     ghost view = { λ g. record { round = g.round; base = g.base.items; sum = g.sum.items; added = g.added } };
 

@@ -5,7 +5,9 @@
 mod clients;
 mod gather;
 pub mod laws;
+mod local;
 mod prepared;
+mod rounds;
 
 pub use gather::Gather;
 pub use prepared::Prepared;

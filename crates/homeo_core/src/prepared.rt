@@ -46,12 +46,13 @@ pub struct Prepared {
 
 impl Model for Prepared {
     ghost use Rattle.std.specs.Prelude.{◌≡◌, map, length};
-    ghost use Rattle.homeo_core.specs.GatherView.{PreparedView};
-    ghost use Rattle.homeo_core.specs.inner.Codes.{prepared_code};
+    ghost use Rattle.std.specs.Coded.{codes};
+    ghost use Rattle.homeo_syntax.specs.contracts.workload.Workload as workload;
+    ghost use Rattle.homeo_core.specs.GatherView.{PreparedValue};
 
-    ghost Value = { PreparedView };
+    ghost Value = { PreparedValue };
 
-    ghost coded = { prepared_code };
+    ghost coded = { Prim.hlevel (codes, workload.the_row.coded) };
 
     ghost use Rattle.homeo_history.specs.Answers.{closing_answer};
     ghost use Rattle.homeo_history.specs.HistoryView.{plain_segment, plain_closing, plain_answer};
