@@ -8,6 +8,8 @@ pub mod laws;
 mod local;
 mod prepared;
 mod rounds;
+mod steps;
 
 pub use gather::Gather;
 pub use prepared::Prepared;
+pub use steps::Core;
