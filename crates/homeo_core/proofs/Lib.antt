@@ -1,6 +1,7 @@
 pub mod Added
 pub mod CallsMade
 pub mod ClosingCalls
+pub mod CoreStarts
 pub mod CoreSteps
 pub mod Following
 pub mod Gathered

@@ -66,6 +66,19 @@ impl Gather {
         add_deltas(self.sum.as_mut_slice(), site.deltas());
         self.added = u64::from(site.number()) + 1;
     }
+
+    /// The base with the deltas of the sites that were added. It takes no memory.
+    pub(crate) fn into_values(self) -> Database
+        ensures { result.items ≡ self.sum }
+    {
+        let Gather {
+            round: _,
+            base: _,
+            sum,
+            added: _,
+        } = self;
+        List::from_vec(sum)
+    }
 }
 
 /// Adds to each value the delta at its place, if there is one.

@@ -6,7 +6,7 @@ ghost use Rattle.homeo_syntax.specs.SourceView.{plain_workload};
 ghost use Rattle.homeo_meaning.specs.Acceptance.{IsAccepted};
 ghost use Rattle.homeo_history.specs.Answers.{closing_answer};
 ghost use Rattle.homeo_history.specs.Follows.{site_or_zero};
-ghost use Rattle.homeo_history.specs.HistoryView.{plain_answer};
+ghost use Rattle.homeo_history.specs.HistoryView.{plain_segment, plain_answer};
 ghost use Rattle.homeo_site.specs.SiteState.{renewed};
 ghost use Rattle.homeo_core.specs.CoreView.{start_of};
 ghost use Rattle.homeo_core.specs.Events.{BreaksCall, closing_of, next_base, after_closing};
@@ -17,7 +17,7 @@ ghost use Rattle.homeo_core.specs.inner.SiteLists.{states, AreOf, AreAt};
 use crate::gather::Gather;
 use crate::prepared::Prepared;
 use homeo_build::Compiled;
-use homeo_history::{Answer, Round};
+use homeo_history::{Answer, Round, Segment};
 use homeo_meaning::{CallId, Database};
 use homeo_plan::Broken;
 use homeo_site::Site;
@@ -47,6 +47,34 @@ pub(crate) fn gather_all(
         gather.add(site);
     }
     Ok(gather)
+}
+
+/// The values of that database.
+pub(crate) fn gathered_values(
+    alloc: Global,
+    round: u64,
+    base: &Database,
+    sites: &[Site],
+) -> Result<Database, Memory>
+    requires round { round < 2 ^ 63 }
+    requires at { AreAt round base.now.items (states sites.now) }
+    requires fits { (n : ℕ) → All (FitsSigned w64) (gathered base.now.items (take n (states sites.now))) }
+    ensures { IfOk result (λ d. d.items ≡ gathered base.now.items (states sites.now)) }
+{
+    let gather = gather_all(alloc, round, base, sites)?;
+    Ok(gather.into_values())
+}
+
+/// The segments of all sites.
+#[tactic(auto, using(homeo_history::proofs::HistoryViews::history_views))]
+pub(crate) fn into_segments(alloc: Global, sites: Vec<Site>) -> Result<List<Segment>, Memory>
+    ensures { IfOk result (λ s. map plain_segment s.items ≡ segments_of (states sites.items)) }
+{
+    let mut segments = List::new(alloc);
+    for site in sites {
+        segments.push(site.into_segment())?;
+    }
+    Ok(segments)
 }
 
 /// Gives each site its start in the next round, and takes its segment.
