@@ -1,9 +1,7 @@
 -- A call of a client over closed rounds and sites.
-use Rattle.homeo_plan.specs.Key.{words as plans}
 use Rattle.homeo_history.specs.Key.{words as histories}
 use Rattle.homeo_site.specs.Key.{words as site_words}
-use Rattle.homeo_core.specs.Key.{words}
-use Rattle.std.proofs.Common.{◌≡◌, ℕ, zero, suc, ◌+◌, ◌<◌, List, [], ◌∷◌, length, get_or, ℤ, Option, Some, None, Result, Ok, Err, refl, sym, ap, subst, ◌∙◌, arith, slice_set}
+use Rattle.std.proofs.Common.{◌≡◌, ℕ, zero, suc, ◌<◌, List, [], ◌∷◌, length, get_or, ℤ, Option, Some, None, Result, Ok, Err, refl, sym, ap, subst, ◌∙◌, slice_set}
 use Rattle.std.specs.Prelude.{slice_get, unwrap_or, IfOk, OnOk, OnErr}
 use Rattle.homeo_syntax.specs.Source as s
 use Rattle.homeo_meaning.specs.declared.call.CallId.{CallId}

@@ -2,8 +2,8 @@
 use Rattle.homeo_history.specs.Key.{words as histories}
 use Rattle.homeo_site.specs.Key.{words as site_words}
 use Rattle.homeo_core.specs.Key.{words}
-use Rattle.std.proofs.Common.{◌≡◌, ℕ, zero, suc, ◌+◌, ◌<◌, ◌≤◌, List, [], ◌∷◌, ◌++◌, map, length, replicate, get_or, ℤ, Some, refl, sym, ap, subst, ◌∙◌, arith}
-use Rattle.std.specs.Prelude.{slice_get, slice_index_or, IsSome, All}
+use Rattle.std.proofs.Common.{◌≡◌, ℕ, zero, suc, ◌+◌, ◌<◌, ◌≤◌, List, [], ◌∷◌, ◌++◌, map, length, replicate, ℤ, Some, refl, sym, ap, subst, ◌∙◌, arith}
+use Rattle.std.specs.Prelude.{slice_get, slice_index_or, IsSome}
 use Rattle.std.specs.List.{range_with_len, flat_map}
 use Rattle.std.proofs.lemmas.List.{length-map, map-append}
 use Rattle.std.proofs.lemmas.List.Elements.{All-nil}
@@ -15,7 +15,7 @@ use Rattle.homeo_meaning.specs.Bounds.{IsWithin}
 use Rattle.homeo_meaning.specs.Schema.{schema_of}
 use Rattle.homeo_plan.specs.Planned.{sites_of}
 use Rattle.homeo_history.specs.History.{Entry, Round}
-use Rattle.homeo_history.specs.Legal.{IsAtSites, call_count, calls_of, numbers_of, IsInOrder}
+use Rattle.homeo_history.specs.Legal.{IsAtSites, call_count, calls_of, numbers_of}
 use Rattle.homeo_history.specs.Replayed.{IsReplayed}
 use Rattle.homeo_history.proofs.Lists.{get_map_back, all_from_get, range_more}
 use Rattle.homeo_site.specs.SiteState.{SiteState, SiteHolds, begun}
@@ -23,7 +23,7 @@ use Rattle.homeo_site.specs.SiteView.{SiteValue}
 use Rattle.homeo_site.proofs.SitesHold.{begun_holds}
 use Rattle.homeo_core.specs.CoreView.{CoreHolds, begun_sites, core_at}
 use Rattle.homeo_core.specs.Joined.{BookState, IsInRound, rounds_of}
-use Rattle.homeo_core.specs.inner.SiteLists.{states, AreOf}
+use Rattle.homeo_core.specs.inner.SiteLists.{AreOf}
 use Rattle.homeo_core.proofs.GatheredSites.{length_same}
 
 -- ---- the sites

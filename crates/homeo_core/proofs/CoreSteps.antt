@@ -2,7 +2,7 @@
 use Rattle.homeo_history.specs.Key.{words as histories}
 use Rattle.homeo_site.specs.Key.{words as site_words}
 use Rattle.homeo_core.specs.Key.{words}
-use Rattle.std.proofs.Common.{◌≡◌, ℕ, zero, suc, ◌+◌, ◌<◌, ◌≤◌, List, [], ◌∷◌, ◌++◌, length, take, drop, ℤ, Option, Some, None, refl, sym, ap, subst, ◌∙◌, arith, slice_set}
+use Rattle.std.proofs.Common.{◌≡◌, ℕ, suc, ◌+◌, ◌<◌, ◌≤◌, List, [], ◌∷◌, ◌++◌, length, take, drop, ℤ, Option, Some, None, refl, sym, ap, subst, ◌∙◌, arith, slice_set}
 use Rattle.std.specs.Prelude.{slice_get, slice_index_or}
 use Rattle.homeo_syntax.specs.Source as s
 use Rattle.homeo_syntax.specs.SourceView.{plain_workload}
@@ -124,8 +124,7 @@ unfolding words
 taken x client home last a b' sites' x' holds t made =
     let next : suc (slice_index_or x.counts client 0) ≡ last + 1 = let e = t.last_is in omega (arith, e) in
     let made' : IsMade (plain_workload x.work) x.book x.sites home (next_call x client) a b' sites' = subst (λ n. IsMade (plain_workload x.work) x.book x.sites home (record { client = client; seq = n }) a b' sites') (sym next) made in
-    let step : IsStep x client a (counted x client b' sites') = record { home = home; at_home = t.at; made = made'; work = refl; counts = refl } in
-    (
+    let step : IsStep x client a (counted x client b' sites') = record { home = home; at_home = t.at; made = made'; work = refl; counts = refl } in (
       subst (IsStepped x client a) (sym t.new) (stepped x client home a b' sites' holds t.lt t.at t.left made'),
       subst (IsStep x client a) (sym t.new) step,
     )

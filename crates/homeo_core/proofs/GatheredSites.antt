@@ -1,6 +1,6 @@
 -- Sites one after another: gathered, and renewed.
 use Rattle.homeo_core.specs.Key.{words}
-use Rattle.std.proofs.Common.{◌≡◌, ℕ, zero, suc, ◌+◌, ◌<◌, ◌≤◌, List, [], ◌∷◌, map, length, take, replicate, get_or, Bool, true, false, Some, None, ℤ, refl, sym, ap, ap₂, subst, ◌∙◌, arith, slice_set}
+use Rattle.std.proofs.Common.{◌≡◌, ℕ, zero, suc, ◌<◌, List, [], ◌∷◌, length, take, replicate, get_or, Some, ℤ, refl, sym, ap, subst, ◌∙◌, arith, slice_set}
 use Rattle.std.specs.Prelude.{slice_get, All}
 use mathlib.Core.Logic.{⊎_elim}
 use Rattle.homeo_history.proofs.Lists.{All-get, all_from_get, set_cases}

@@ -1,10 +1,10 @@
 -- Sites in one round stand at it, and gathered values are numbers of 64 bits.
 use Rattle.homeo_meaning.specs.Key.{words as meanings}
 use Rattle.homeo_core.specs.Key.{words}
-use Rattle.std.proofs.Common.{◌≡◌, ℕ, ◌<◌, List, length, get_or, ℤ, pos, refl, sym, subst, ◌∙◌, arith, FitsSigned}
+use Rattle.std.proofs.Common.{List, length, get_or, ℤ, pos, subst, arith, FitsSigned}
 use Rattle.std.specs.Int.{w64}
 use Rattle.std.specs.Prelude.{All}
-use Rattle.std.proofs.lemmas.Int.{ints, fits_signed_from_abs}
+use Rattle.std.proofs.lemmas.Int.{fits_signed_from_abs}
 use Rattle.std.proofs.lemmas.List.{get_or_default}
 use Rattle.homeo_syntax.specs.Source as s
 use Rattle.homeo_meaning.specs.Acceptance.{IsAccepted}

@@ -1,6 +1,6 @@
 -- Sites that wait for their starts.
 use Rattle.homeo_core.specs.Key.{words}
-use Rattle.std.proofs.Common.{◌≡◌, ℕ, zero, suc, ◌+◌, Bool, true, false, List, [], ◌∷◌, ◌++◌, map, length, replicate, Option, Some, None, ℤ, refl, sym, ap, subst, ◌∙◌, arith, inl, inr}
+use Rattle.std.proofs.Common.{◌≡◌, ℕ, zero, suc, true, List, [], ◌∷◌, ◌++◌, map, length, replicate, Option, Some, None, ℤ, refl, sym, ap, subst, ◌∙◌, inl, inr}
 use Rattle.std.specs.Prelude.{slice_get, slice_index_or}
 use mathlib.Core.Logic.{⊎_elim}
 use Rattle.std.specs.Prelude.{◌⊎◌}

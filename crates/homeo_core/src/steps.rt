@@ -123,7 +123,12 @@ impl Core {
             sites,
             counts: _,
         } = self;
-        let last = gathered_values(alloc, closed.as_slice().len() as u64, &base, sites.as_slice())?;
+        let last = gathered_values(
+            alloc,
+            closed.as_slice().len() as u64,
+            &base,
+            sites.as_slice(),
+        )?;
         let segments = into_segments(alloc, sites)?;
         closed.push(Round {
             base,
@@ -218,11 +223,7 @@ fn make_call(
 }
 
 /// Each site of a plan, in the round 0, before any call.
-fn begin_sites(
-    alloc: Global,
-    c: &Arc<Compiled>,
-    plan: &Arc<RoundPlan>,
-) -> Result<Vec<Site>, Memory>
+fn begin_sites(alloc: Global, c: &Arc<Compiled>, plan: &Arc<RoundPlan>) -> Result<Vec<Site>, Memory>
     requires plan { IsPlanOf (plain_workload c.now.value) plan.now.value.base.items plan.now.value }
     requires policy { plain_config plan.now.value.config ≡ policy (plain_workload c.now.value) plan.now.value.base.items }
     ensures states { IfOk result (λ s. states s.items ≡

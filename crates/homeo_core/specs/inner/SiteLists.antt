@@ -1,5 +1,5 @@
 -- The states of sites, and sites in one round.
-use Rattle.std.specs.Prelude.{◌≡◌, ℕ, zero, suc, List, [], ◌∷◌, map, length, ℤ, All, Some, slice_get}
+use Rattle.std.specs.Prelude.{◌≡◌, ℕ, zero, suc, List, [], ◌∷◌, map, ℤ, All, Some, slice_get}
 use Rattle.homeo_syntax.specs.declared.workload.Workload.{Workload}
 use Rattle.homeo_site.specs.SiteState.{SiteState}
 use Rattle.homeo_site.specs.SiteView.{SiteValue}

@@ -1,5 +1,5 @@
 -- The starts of sites in the round after one.
-use Rattle.std.specs.Prelude.{◌≡◌, ℕ, suc, ℤ, Bool, true, false, List, length, Option, Some, None, slice_get}
+use Rattle.std.specs.Prelude.{◌≡◌, ℕ, suc, ℤ, Bool, true, false, List, Option, Some, None, slice_get}
 use Rattle.homeo_syntax.specs.declared.workload.Workload.{Workload}
 use Rattle.homeo_site.specs.SiteView.{StartValue}
 use Rattle.homeo_core.specs.Key.{words}

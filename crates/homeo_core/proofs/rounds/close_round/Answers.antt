@@ -1,9 +1,6 @@
-use Rattle.std.proofs.Common.{◌≡◌, ℕ, ◌<◌, true, [], ◌∷◌, ◌++◌, Some, List, ℤ, length, map, take, replicate, refl, sym, ap, subst, ◌∙◌, arith, FitsSigned}
-use Rattle.std.specs.Int.{w64}
-use Rattle.std.specs.Prelude.{All}
+use Rattle.std.proofs.Common.{◌≡◌, ℕ, true, [], ◌∷◌, ◌++◌, Some, length, map, take, replicate, sym, ap, subst, ◌∙◌}
 use Rattle.std.proofs.lemmas.List.{length-map, map-append}
 use Rattle.homeo_syntax.specs.Listed.{Listed}
-use Rattle.homeo_syntax.specs.Source as s
 use Rattle.homeo_syntax.specs.SourceView.{plain_workload}
 use Rattle.homeo_meaning.specs.Bounds.{IsWithin}
 use Rattle.homeo_meaning.specs.Schema.{schema_of}
@@ -11,10 +8,9 @@ use Rattle.homeo_meaning.specs.Serial.{call_outcome}
 use Rattle.homeo_plan.specs.Planned.{sites_of}
 use Rattle.homeo_history.specs.Answers.{closing_answer}
 use Rattle.homeo_history.specs.Follows.{site_or_zero}
-use Rattle.homeo_history.specs.History as h
 use Rattle.homeo_history.specs.HistoryView.{plain_round}
 use Rattle.homeo_history.specs.declared.history.Round.{Round}
-use Rattle.homeo_site.specs.SiteState.{SiteState, renewed}
+use Rattle.homeo_site.specs.SiteState.{renewed}
 use Rattle.homeo_core.specs.Key.{words}
 use Rattle.homeo_core.specs.CoreView.{start_of}
 use Rattle.homeo_core.specs.Events.{closing_on}

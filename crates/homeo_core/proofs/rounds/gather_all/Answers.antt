@@ -1,12 +1,11 @@
-use Rattle.std.proofs.Common.{◌≡◌, ℕ, suc, ◌+◌, Some, List, ℤ, length, take, refl, sym, ap, subst, ◌∙◌, arith, get_or, FitsSigned}
+use Rattle.std.proofs.Common.{◌≡◌, ℕ, suc, ◌+◌, Some, length, take, sym, ap, subst, ◌∙◌, arith, FitsSigned}
 use Rattle.std.specs.Int.{w64}
 use Rattle.std.specs.Prelude.{slice_get, All}
-use Rattle.homeo_site.specs.SiteState.{SiteState}
 use Rattle.homeo_site.specs.SiteView.{SiteValue}
 use Rattle.homeo_core.specs.Key.{words}
 use Rattle.homeo_core.specs.GatherView.{GatherValue}
 use Rattle.homeo_core.specs.Joined.{plus_deltas, gathered}
-use Rattle.homeo_core.specs.inner.SiteLists.{states, IsAt}
+use Rattle.homeo_core.specs.inner.SiteLists.{states}
 use Rattle.homeo_core.proofs.GatheredSites.{states_at, states_count, gathered_next, take_whole}
 use Rattle.homeo_core.proofs.rounds.gather_all.Goals as goal
 

@@ -1,4 +1,4 @@
-use Rattle.std.proofs.Common.{◌≡◌, ℕ, suc, ◌+◌, ◌<◌, ◌≤◌, true, false, Bool, Some, List, length, map, replicate, get_or, refl, sym, ap, subst, ◌∙◌, arith, slice_set}
+use Rattle.std.proofs.Common.{◌≡◌, ℕ, suc, ◌+◌, true, false, Bool, Some, List, length, map, replicate, get_or, refl, sym, ap, ◌∙◌, arith, slice_set}
 use Rattle.std.specs.Prelude.{slice_get}
 use Rattle.std.proofs.lemmas.List.{length-map}
 use Rattle.homeo_history.proofs.Lists.{get_map}
@@ -8,7 +8,7 @@ use Rattle.homeo_core.specs.Key.{words}
 use Rattle.homeo_core.specs.GatherView.{PreparedValue}
 use Rattle.homeo_core.specs.Joined.{segments_of}
 use Rattle.homeo_core.specs.inner.SiteLists.{states, first_from}
-use Rattle.homeo_core.proofs.GatheredSites.{Turn, turn, from_next, from_at, from_all, states_set, states_count, all_set, same_in, length_same}
+use Rattle.homeo_core.proofs.GatheredSites.{turn, from_next, from_at, from_all, states_set, states_count, all_set, same_in, length_same}
 use Rattle.homeo_core.proofs.rounds.install_all.Goals as goal
 
 pub loop-i-init : goal.loop-i-init

@@ -1,4 +1,4 @@
-use Rattle.std.proofs.Common.{ap, map, ◌∙◌}
+use Rattle.std.proofs.Common.{ap, map}
 use Rattle.homeo_syntax.specs.Listed.{Listed}
 use Rattle.homeo_history.specs.HistoryView.{plain_segment}
 use Rattle.homeo_history.specs.declared.history.Segment.{Segment}

@@ -1,24 +1,21 @@
 use Rattle.homeo_history.specs.Key.{words as histories}
 use Rattle.homeo_site.specs.Key.{words as site_words}
-use Rattle.std.proofs.Common.{◌≡◌, ℕ, ◌<◌, List, ℤ, length, map, get_or, Some, None, refl, sym, ap, subst, ◌∙◌, slice_set}
-use Rattle.std.specs.Prelude.{slice_get}
+use Rattle.std.proofs.Common.{◌≡◌, ◌<◌, length, map, get_or, Some, None, sym, ap, subst, ◌∙◌, slice_set}
 use Rattle.std.proofs.lemmas.List.{length-map}
 use Rattle.homeo_syntax.specs.declared.workload.Workload.{Workload}
 use Rattle.homeo_syntax.specs.SourceView.{plain_workload}
 use Rattle.homeo_plan.specs.declared.treaty.Broken.{Broken}
-use Rattle.homeo_history.specs.Answers.{local_answer, closing_answer}
+use Rattle.homeo_history.specs.Answers.{closing_answer}
 use Rattle.homeo_history.specs.Follows.{site_or_zero}
-use Rattle.homeo_history.specs.HistoryView.{plain_round, plain_answer}
+use Rattle.homeo_history.specs.HistoryView.{plain_round}
 use Rattle.homeo_history.specs.Legal.{IsCallAt}
-use Rattle.homeo_history.specs.declared.answer.Answer.{Answer}
 use Rattle.homeo_history.specs.declared.answer.Path.TheVariants.{Local}
-use Rattle.homeo_site.specs.SiteState.{SiteState, renewed, step_finding, step_prints, local_entry, after_local}
+use Rattle.homeo_site.specs.SiteState.{SiteState, renewed, step_finding, after_local}
 use Rattle.homeo_site.specs.SiteView.{SiteValue}
 use Rattle.homeo_core.specs.Key.{words}
-use Rattle.homeo_core.specs.CoreView.{start_of, book_after, sites_after, answer_to, IsMade}
+use Rattle.homeo_core.specs.CoreView.{start_of, book_after, sites_after, answer_to}
 use Rattle.homeo_core.specs.Events.{BreaksCall, closing_of, next_base, after_closing}
 use Rattle.homeo_core.specs.Joined.{BookState, AreJoined}
-use Rattle.homeo_core.specs.declared.local.Tried.{Tried}
 use Rattle.homeo_core.specs.inner.Books.{book_of}
 use Rattle.homeo_core.specs.inner.SiteLists.{states}
 use Rattle.homeo_core.specs.inner.Tried.{IsTried, after_try}

@@ -1,4 +1,4 @@
-use Rattle.std.proofs.Common.{◌≡◌, sym, ap, subst, ◌∙◌, map, length, replicate, true, [], List, ℤ, ℕ}
+use Rattle.std.proofs.Common.{◌≡◌, sym, ap, subst, ◌∙◌, map, replicate, true, [], List, ℤ}
 use Rattle.homeo_syntax.specs.Listed.{Listed}
 use Rattle.homeo_syntax.specs.declared.workload.Workload.{Workload}
 use Rattle.homeo_syntax.specs.SourceView.{plain_workload}
@@ -6,7 +6,6 @@ use Rattle.homeo_meaning.specs.Serial.{Outcome, call_outcome}
 use Rattle.homeo_plan.specs.Planned.{sites_of}
 use Rattle.homeo_build.specs.Plan.{IsPlanOf}
 use Rattle.homeo_history.specs.Follows.{site_or_zero}
-use Rattle.homeo_history.specs.History.{Closing}
 use Rattle.homeo_history.specs.HistoryView.{plain_segment, plain_closing}
 use Rattle.homeo_core.specs.Key.{words}
 use Rattle.homeo_core.specs.Events.{closing_on}

@@ -1,4 +1,4 @@
-use Rattle.std.proofs.Common.{◌≡◌, true, Some, ap, subst, sym, ◌∙◌, ℕ}
+use Rattle.std.proofs.Common.{◌≡◌, true, Some, subst, sym, ◌∙◌, ℕ}
 use Rattle.std.specs.Prelude.{slice_get}
 use Rattle.homeo_core.specs.GatherView.{PreparedValue}
 use Rattle.homeo_core.proofs.StartsOfSites.{no_start}

@@ -1,5 +1,5 @@
 use Rattle.homeo_history.specs.Key.{words as histories}
-use Rattle.std.proofs.Common.{◌≡◌, List, ℤ, ℕ, [], map, length, replicate, sym, ap, subst, ◌∙◌}
+use Rattle.std.proofs.Common.{◌≡◌, [], length, replicate, sym, ap, subst, ◌∙◌}
 use Rattle.homeo_syntax.specs.Listed.{Listed}
 use Rattle.homeo_syntax.specs.declared.workload.Workload.{Workload}
 use Rattle.homeo_syntax.specs.SourceView.{plain_workload}
@@ -11,7 +11,7 @@ use Rattle.homeo_history.specs.declared.history.Round.{Round}
 use Rattle.homeo_core.specs.Key.{words}
 use Rattle.homeo_core.specs.CoreView.{CoreValue, CoreHolds, begun_sites, core_at, core_history}
 use Rattle.homeo_core.specs.inner.Books.{book_of}
-use Rattle.homeo_core.specs.inner.SiteLists.{states, AreOf}
+use Rattle.homeo_core.specs.inner.SiteLists.{states}
 use Rattle.homeo_core.proofs.CoreStarts.{core_begins}
 use Rattle.homeo_core.proofs.CoreSteps.{is_legal}
 use Rattle.homeo_core.proofs.steps.Core.begin_at.Goals as goal

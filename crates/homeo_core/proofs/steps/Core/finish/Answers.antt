@@ -1,14 +1,12 @@
 use Rattle.homeo_history.specs.Key.{words as histories}
-use Rattle.std.proofs.Common.{◌≡◌, List, ℤ, ℕ, [], ◌∷◌, ◌++◌, None, map, length, take, sym, ap, subst, ◌∙◌, FitsSigned}
+use Rattle.std.proofs.Common.{◌≡◌, List, [], ◌∷◌, ◌++◌, None, map, length, take, sym, ap, subst, ◌∙◌, FitsSigned}
 use Rattle.std.specs.Int.{w64}
 use Rattle.std.specs.Prelude.{All}
 use Rattle.std.proofs.lemmas.List.{length-map, map-append}
 use Rattle.homeo_syntax.specs.Listed.{Listed}
 use Rattle.homeo_syntax.specs.SourceView.{plain_workload}
 use Rattle.homeo_history.specs.HistoryView.{plain_segment, plain_round, plain_history}
-use Rattle.homeo_history.specs.History as h
 use Rattle.homeo_history.specs.Legal.{IsLegalFrom}
-use Rattle.homeo_history.specs.declared.history.History.{History}
 use Rattle.homeo_history.specs.declared.history.Round.{Round}
 use Rattle.homeo_site.specs.SiteState.{SiteState}
 use Rattle.homeo_core.specs.Key.{words}

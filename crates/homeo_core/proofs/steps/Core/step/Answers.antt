@@ -1,9 +1,8 @@
-use Rattle.std.proofs.Common.{rules, ◌≡◌, ℕ, suc, ◌+◌, ◌<◌, List, ℤ, length, take, drop, ◌++◌, refl, sym, ap, subst, ◌∙◌, arith, get_or, slice_set}
+use Rattle.std.proofs.Common.{rules, ◌≡◌, suc, ◌+◌, ◌<◌, List, length, take, drop, ◌++◌, sym, ap, subst, ◌∙◌, arith, slice_set}
 use Rattle.std.specs.Prelude.{slice_index_or}
 use Rattle.std.proofs.lemmas.List.{get_or_default}
 use Rattle.homeo_syntax.specs.declared.workload.Workload.{Workload}
 use Rattle.homeo_syntax.specs.SourceView.{plain_workload}
-use Rattle.homeo_meaning.specs.declared.call.CallId.{CallId}
 use Rattle.homeo_history.specs.HistoryView.{plain_answer}
 use Rattle.homeo_history.specs.Legal.{IsClientAt, IsCallAt, call_count, IsLegalFrom}
 use Rattle.homeo_site.specs.SiteState.{SiteState}
@@ -14,7 +13,7 @@ use Rattle.homeo_core.specs.Events.{OneMore}
 use Rattle.homeo_core.specs.Joined.{BookState}
 use Rattle.homeo_core.specs.inner.Books.{book_of}
 use Rattle.homeo_core.specs.inner.SiteLists.{states, AreOf}
-use Rattle.homeo_core.proofs.CoreSteps.{can_call, is_legal, whole_slice, counted, IsStepped, IsTaken, taken}
+use Rattle.homeo_core.proofs.CoreSteps.{can_call, is_legal, whole_slice, counted, IsStepped, taken}
 use Rattle.homeo_core.proofs.steps.Core.step.Goals as goal
 
 pub make_call-requires-clause-at_home : goal.make_call-requires-clause-at_home
