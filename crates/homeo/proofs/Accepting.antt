@@ -300,7 +300,7 @@ whole_in w (Some xs) k c none found is =
     omega (arith, most, least)
 
 -- as many items as a limit allows
-few_from : {A : Type 0} (limit : ℕ) (name : A → Ident) (before xs : List A) → length before ≤ limit → each_from (passes_limit limit name) before xs ≡ [] → length before + length xs ≤ limit
+pub few_from : {A : Type 0} (limit : ℕ) (name : A → Ident) (before xs : List A) → length before ≤ limit → each_from (passes_limit limit name) before xs ≡ [] → length before + length xs ≤ limit
 unfolding meanings
 few_from limit name before [] most none = omega (arith, most)
 few_from limit name before (x ∷ xs) most none =

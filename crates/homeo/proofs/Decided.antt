@@ -1,5 +1,5 @@
 -- A text is not both accepted and refused, and what a source told is what it gave.
-use Rattle.std.proofs.Common.{◌≡◌, ◌≤◌, ◌+◌, ◌∙◌, ◌++◌, ℕ, List, [], Some, None, length, refl, sym, ap, subst, arith, append-nil, length-append, inl, inr}
+use Rattle.std.proofs.Common.{◌≡◌, ◌≤◌, ◌+◌, ◌∙◌, ◌++◌, ◌==◌, ℕ, cond, List, [], ◌∷◌, get_or, Some, None, length, refl, sym, ap, subst, arith, append-nil, length-append, inl, inr}
 use Rattle.std.specs.declared.option.Option.{Option}
 use Rattle.homeo_io.specs.Moved.{Gave, GaveAll}
 use Rattle.homeo_syntax.specs.declared.workload.Refusal.{Refusal}
@@ -11,10 +11,10 @@ use Rattle.homeo_meaning.specs.declared.rules.Fault.{Fault}
 use Rattle.homeo_meaning.specs.Faults.{faults, IsFaultIn, IsRefusedBy}
 use Rattle.homeo_meaning.specs.Key.{words as meanings}
 use Rattle.homeo_meaning.specs.Verdict.{Accepts, IsRefused, text_limit}
-use Rattle.homeo.specs.Command.{Say, purpose_of}
+use Rattle.homeo.specs.Command.{word_of, Say, purpose_of}
 use Rattle.homeo.specs.Outcome.{IsMade, IsRefusedAt, TellsRefused, TellsAccepted}
 use Rattle.homeo.specs.declared.command.Command.{Command}
-use Rattle.homeo.specs.declared.command.Command.TheVariants.{Steps, Tables}
+use Rattle.homeo.specs.declared.command.Command.TheVariants.{Steps, Tables, Treaty}
 
 -- no fault is in an empty list
 none_there : (all : List Fault) (f : Fault) → all ≡ [] → IsFaultIn f all → ⊥
@@ -49,12 +49,20 @@ pub refuses_long : (old new : Option (List ℕ)) (text : List ℕ) (purpose : Pu
 unfolding meanings
 refuses_long old new text purpose r e g is = inl (record { long = omega (arith, told_is_long old new text (text_limit + 1) e g); code = ap (λ x. x.code) is; offset = ap (λ x. x.offset) is })
 
+-- a command by the second letter of its word
+abbrev by_letter : List (List ℕ) → Command
+by_letter words =
+    let letter = get_or (get_or words 0 []) 1 0 in
+    cond (letter == 97) Tables (cond (letter == 114) Treaty Steps)
+
+its_letter : (c : Command) → by_letter (word_of c ∷ []) ≡ c
+its_letter Steps = refl
+its_letter Tables = refl
+its_letter Treaty = refl
+
 -- words are one command
 pub one_command : (words : List (List ℕ)) (c d : Command) → Say words c → Say words d → c ≡ d
-one_command words Steps Steps a b = refl
-one_command words Tables Tables a b = refl
-one_command words Steps Tables a b = let same = sym a ∙ b in cc
-one_command words Tables Steps a b = let same = sym a ∙ b in cc
+one_command words c d a b = sym (its_letter c) ∙ ap by_letter (sym a ∙ b) ∙ its_letter d
 
 -- where the output was made, no refused text was told
 pub output_not_refused : (words : List (List ℕ)) (old new : Option (List ℕ)) (output : List ℕ) → IsMade words old new output → TellsRefused words old → ⊥

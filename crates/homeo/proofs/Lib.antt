@@ -1,4 +1,5 @@
 pub mod Accepting
+pub mod Bounded
 pub mod Decided
 pub mod Scheduling
 pub mod Stepping

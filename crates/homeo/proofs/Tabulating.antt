@@ -1,15 +1,16 @@
--- Where a workload has no fault, tables can be made of all its ground calls.
-use Rattle.std.proofs.Common.{◌≡◌, ℕ, ◌+◌, ◌^◌, ◌<◌, ◌≤◌, Bool, true, false, ◌||◌, List, [], ◌∷◌, ◌++◌, map, length, take, get_or, Some, All, refl, sym, ap, ap₂, subst, ◌∙◌, arith}
-use Rattle.std.specs.Prelude.{slice_get, is_some, IsSome, nat_lt}
+-- Where a workload has no fault, no table of a ground call has too many rows. And the tables of the transformed commands are
+-- those of the ground calls.
+use Rattle.std.proofs.Common.{◌≡◌, ℕ, ◌+◌, ◌^◌, ◌<◌, ◌≤◌, Bool, true, false, ◌||◌, List, [], ◌∷◌, ◌++◌, map, length, take, get_or, Some, All, refl, sym, ap, subst, ◌∙◌, arith}
+use Rattle.std.specs.Prelude.{slice_get, nat_lt}
 use Rattle.std.specs.List.{flat_map}
 use Rattle.std.proofs.Math.Nat.{one-le-mul}
 use Rattle.std.proofs.lemmas.Bool.Decides.{nat_tests}
 use Rattle.std.proofs.lemmas.List.{get_or-map, length-map, map-append}
 use Rattle.homeo_syntax.specs.Source as s
-use Rattle.homeo_syntax.specs.WellFormed.{IsWellFormed}
+use Rattle.homeo_syntax.specs.LowView.{plain_lcommand}
+use Rattle.homeo_syntax.specs.declared.low.LCommand.{LCommand}
 use Rattle.homeo_syntax.specs.Low.{Command, Commands, Skip, Assign, Write, Print, Seq, If, NoCommand, MoreCommand}
 use Rattle.homeo_meaning.specs.Key.{words as meanings}
-use Rattle.homeo_meaning.specs.Acceptance.{IsAccepted}
 use Rattle.homeo_meaning.specs.CallForm.{body_form, call_form, ground_form}
 use Rattle.homeo_meaning.specs.CallRules.{call_faults, client_faults}
 use Rattle.homeo_meaning.specs.Declarations.{declarations, place_of}
@@ -25,20 +26,20 @@ use Rattle.homeo_meaning.specs.TransactionRules.{each_from}
 use Rattle.homeo_meaning.specs.declared.call.Purpose.TheVariants.{Tables}
 use Rattle.homeo_meaning.specs.declared.rules.Fault.{Fault}
 use Rattle.homeo_meaning.specs.declared.rules.Item.TheVariants as I
-use Rattle.homeo_meaning.proofs.FaultParts.{none_first, none_second, parts, declared_parts, for_run}
+use Rattle.homeo_meaning.proofs.FaultParts.{none_first, none_second, parts, declared_parts, limit_parts}
 use Rattle.homeo_meaning.proofs.GroundCalls.{Every}
-use Rattle.homeo_meaning.proofs.SoundRules.{all_none, all_more, names_of, names_one, named-is}
+use Rattle.homeo_meaning.proofs.SoundRules.{all_none, all_more, names_one, named-is}
 use Rattle.homeo_meaning.proofs.TransactionPlaces.{transaction_place}
 use Rattle.homeo_plan.specs.Key.{words as plans}
-use Rattle.homeo_plan.specs.Planned.{sites_of, planned_call}
-use Rattle.homeo_plan.specs.Split.{shift}
+use Rattle.homeo_plan.specs.Planned.{sites_of, planned_call, planned, transformed}
 use Rattle.homeo_plan.specs.Template.{shifted}
-use Rattle.homeo_plan.proofs.PlannedCalls.{StandsBelow, every_both, every_distinct, ground_sites_below}
+use Rattle.homeo_plan.proofs.PlannedCalls.{every_both, every_distinct}
 use Rattle.homeo_plan.proofs.RowCounts.{rows_shift}
 use Rattle.homeo_print.specs.Tables.{call_table, table_text}
 use Rattle.homeo_print.proofs.OneMore.{views_more, numbered_more}
 use Rattle.homeo.specs.Key.{words}
-use Rattle.homeo.specs.inner.Tabulated.{CanTabulate, calls_text}
+use Rattle.homeo.specs.inner.Tabulated.{HasFewRows, calls_text}
+use Rattle.homeo.proofs.Accepting.{few_from}
 
 -- ---- each call names a transaction
 abbrev IsNamed : s.Workload → SitedCall → Type 0
@@ -66,11 +67,7 @@ named_clients w (c ∷ cs) none =
     (named_calls w c c.calls (none_first (flat_map (rule w) c.calls) (site_faults w.sites c.site) (none_first here more none)))
     (named_clients w cs (none_second here more none))
 
--- its transaction is there, and its L form is that of its ground call
-found : (w : s.Workload) (c : SitedCall) → IsNamed w c → IsSome (slice_get w.transactions (ground_of_sited w c).transaction)
-unfolding meanings
-found w c n = ap is_some (transaction_place w c.name.name ∙ (names_of w c.name.name n.0 n.1).there)
-
+-- its L form is that of its ground call
 same_form : (w : s.Workload) (c : SitedCall) → IsNamed w c → call_form w c ≡ ground_form w (ground_of_sited w c)
 unfolding meanings
 same_form w c n =
@@ -80,8 +77,8 @@ same_form w c n =
     ap (λ t. body_form w t c.args) (by_name ∙ sym by_place)
 
 -- ---- no table has too many rows
-abbrev HasFewRows : s.Workload → SitedCall → Type 0
-HasFewRows w c = rows (call_form w c) ≤ 4096
+abbrev HasFew : s.Workload → SitedCall → Type 0
+HasFew w c = rows (call_form w c) ≤ 4096
 
 few_or_fault : (n : ℕ) (b : Bool) (fs : List Fault) (f : Fault) → when (nat_lt 4096 n || b) (f ∷ []) ≡ [] → n ≤ 4096
 unfolding meanings
@@ -91,7 +88,7 @@ few_or_fault n b fs f none = go (nat_lt 4096 n) refl none
     go true e none = absurd (cc)
     go false e none = grind (arith, nat_tests)
 
-few_rows : (w : s.Workload) (before cs : List SitedCall) → each_from (too_many_rows w) before cs ≡ [] → Every (HasFewRows w) cs
+few_rows : (w : s.Workload) (before cs : List SitedCall) → each_from (too_many_rows w) before cs ≡ [] → Every (HasFew w) cs
 unfolding meanings
 few_rows w before [] none = tt
 few_rows w before (c ∷ cs) none =
@@ -101,31 +98,60 @@ few_rows w before (c ∷ cs) none =
     )
 
 -- ---- all of them
-all_can :
-    (w : s.Workload) (us : List SitedCall) → Every (IsNamed w) us → Every (HasFewRows w) us → Every (StandsBelow (sites_of w)) us →
-    All (CanTabulate w) (map (ground_of_sited w) us)
+all_few : (w : s.Workload) (us : List SitedCall) → Every (IsNamed w) us → Every (HasFew w) us → All (HasFewRows w) (map (ground_of_sited w) us)
 unfolding meanings
-all_can w [] named few below = all_none (CanTabulate w)
-all_can w (u ∷ us) named few below =
-    all_more (CanTabulate w) (ground_of_sited w u) (map (ground_of_sited w) us)
-    (record { there = found w u named.0; site = below.0; few = subst (λ c. rows c ≤ 4096) (same_form w u named.0) few.0 })
-    (all_can w us named.1 few.1 below.1)
+all_few w [] named few = all_none (HasFewRows w)
+all_few w (u ∷ us) named few =
+    all_more (HasFewRows w) (ground_of_sited w u) (map (ground_of_sited w) us) (subst (λ c. rows c ≤ 4096) (same_form w u named.0) few.0)
+    (all_few w us named.1 few.1)
 
-pub can_tabulate : (w : s.Workload) → IsWellFormed w → faults Tables w ≡ [] → All (CanTabulate w) (grounds w)
+pub tables_are_few : (w : s.Workload) → faults Tables w ≡ [] → All (HasFewRows w) (grounds w)
 unfolding meanings
-can_tabulate w formed none =
+tables_are_few w none =
     let all = parts Tables w none in
-    let accepted : IsAccepted w = record { well_formed = formed; rules = for_run Tables w none } in
     let named : Every (IsNamed w) (ground_calls w) =
     every_distinct (IsNamed w) (sited_calls w) [] (named_clients w w.clients (declared_parts w all.text.declared).clients) tt in
-    all_can w (ground_calls w) named (few_rows w [] (ground_calls w) all.form.rows) (ground_sites_below w accepted)
+    all_few w (ground_calls w) named (few_rows w [] (ground_calls w) all.form.rows)
 
--- ---- the table of one call
-pub shifted_is :
-    (w : s.Workload) (g : Ground) (sites : ℕ) (form c : Command) → sites ≡ sites_of w → form ≡ ground_form w g → c ≡ shift sites g.site form →
-    c ≡ shifted (sites_of w) (planned_call w g)
-unfolding plans
-shifted_is w g sites form c k e is = is ∙ ap₂ (λ n d. shift n g.site d) k e
+pub grounds_few : (w : s.Workload) → faults Tables w ≡ [] → length (grounds w) ≤ 1024
+unfolding meanings
+grounds_few w none =
+    let limits = limit_parts w (parts Tables w none).text.limits in
+    let few = few_from 1024 (λ (c : SitedCall). c.name) [] (ground_calls w) (omega arith) limits.grounds in
+    omega (arith, few, length-map (ground_calls w) (ground_of_sited w))
+
+-- ---- the commands of the ground calls
+module _
+    (w : s.Workload) (calls : List GroundCall) (commands : List LCommand)
+    (grounds_are : map plain_ground calls ≡ grounds w) (transformed_are : map plain_lcommand commands ≡ transformed w)
+  where
+    pub as_many : length commands ≡ length calls
+    unfolding plans
+    as_many = omega (
+      arith,
+      length-map calls plain_ground,
+      length-map commands plain_lcommand,
+      ap length grounds_are,
+      ap length transformed_are,
+      length-map (planned w) (shifted (sites_of w)),
+      length-map (grounds w) (planned_call w),
+    )
+
+    pub command_is :
+        (i : ℕ) (g : GroundCall) (c : LCommand) → i < length calls → g ≡ get_or calls i g → c ≡ get_or commands i c →
+        plain_lcommand c ≡ shifted (sites_of w) (planned_call w (plain_ground g))
+    unfolding plans
+    command_is i g c within is_call is_command =
+        let here : plain_ground g ≡ get_or (grounds w) i (plain_ground g) =
+        ap plain_ground is_call ∙ sym (get_or-map plain_ground calls i g (plain_ground g) within) ∙ ap (λ l. get_or l i (plain_ground g)) grounds_are in
+        let few : i < length (grounds w) = omega (arith, within, length-map calls plain_ground, ap length grounds_are) in
+        let few_planned : i < length (planned w) = omega (arith, few, length-map (grounds w) (planned_call w)) in
+        ap plain_lcommand is_command
+        ∙ sym (get_or-map plain_lcommand commands i c (plain_lcommand c) (omega (arith, within, as_many)))
+        ∙ ap (λ l. get_or l i (plain_lcommand c)) transformed_are
+        ∙ get_or-map (shifted (sites_of w)) (planned w) i (planned_call w (plain_ground g)) (plain_lcommand c) few_planned
+        ∙ ap (shifted (sites_of w))
+        (get_or-map (planned_call w) (grounds w) i (plain_ground g) (planned_call w (plain_ground g)) few ∙ ap (planned_call w) (sym here))
 
 mutual
   unfolding meanings
@@ -143,14 +169,13 @@ mutual
   some_rows_all NoCommand = omega arith
   some_rows_all (MoreCommand c cs) = one-le-mul (some_rows c) (some_rows_all cs)
 
--- a table that has so many rows has one, and not too many
+-- the table of a command of few rows has one, and not too many
 pub rows_counted :
-    (w : s.Workload) (g : Ground) (c : Command) (n : ℕ) → CanTabulate w g → c ≡ shifted (sites_of w) (planned_call w g) → n ≡ rows c → (1 ≤ n) × (n < 2 ^ 32)
+    (w : s.Workload) (g : Ground) (c : Command) (n : ℕ) → HasFewRows w g → c ≡ shifted (sites_of w) (planned_call w g) → n ≡ rows c → (1 ≤ n) × (n < 2 ^ 32)
 unfolding plans
-rows_counted w g c n can is count =
+rows_counted w g c n few is count =
     let same : rows c ≡ rows (ground_form w g) = ap rows is ∙ rows_shift (sites_of w) g.site (ground_form w g) in
     let some : 1 ≤ rows (ground_form w g) = some_rows (ground_form w g) in
-    let few : rows (ground_form w g) ≤ 4096 = can.few in
     (omega (arith, same, some, count), omega (arith, same, few, count))
 
 -- ---- one call more
@@ -168,9 +193,9 @@ pub tables_more :
 tables_more w calls i g within is =
     ap (map (call_table w)) (views_more plain_ground calls i g within is) ∙ map-append (call_table w) (map plain_ground (take i calls)) (plain_ground g ∷ [])
 
-pub can_here :
+pub few_here :
     (w : s.Workload) (calls : List GroundCall) (i : ℕ) (g : GroundCall) → i < length calls → g ≡ get_or calls i g →
-    All (CanTabulate w) (map plain_ground calls) → CanTabulate w (plain_ground g)
-can_here w calls i g within is all =
+    All (HasFewRows w) (map plain_ground calls) → HasFewRows w (plain_ground g)
+few_here w calls i g within is all =
     let here : i < length (map plain_ground calls) = omega (arith, length-map calls plain_ground, within) in
-    subst (CanTabulate w) (get_or-map plain_ground calls i g (plain_ground g) within ∙ ap plain_ground (sym is)) (all i (plain_ground g) here)
+    subst (HasFewRows w) (get_or-map plain_ground calls i g (plain_ground g) within ∙ ap plain_ground (sym is)) (all i (plain_ground g) here)

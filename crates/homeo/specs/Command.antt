@@ -5,7 +5,7 @@ use Rattle.homeo_syntax.specs.declared.workload.Refusal.{Refusal as AnyRefusal}
 use Rattle.homeo_meaning.specs.declared.call.Purpose.{Purpose}
 use Rattle.homeo_meaning.specs.declared.call.Purpose.TheVariants as purpose
 use Rattle.homeo.specs.declared.command.Command.{Command}
-use Rattle.homeo.specs.declared.command.Command.TheVariants.{Steps, Tables}
+use Rattle.homeo.specs.declared.command.Command.TheVariants.{Steps, Tables, Treaty}
 use Rattle.homeo.specs.declared.status.Status.{Status}
 use Rattle.homeo.specs.declared.status.Status.TheVariants.{Done, Usage, Refused, Memory, ReadFault, WriteFault}
 
@@ -13,6 +13,7 @@ use Rattle.homeo.specs.declared.status.Status.TheVariants.{Done, Usage, Refused,
 abbrev pub word_of : Command → List ℕ
 word_of Steps = codes "steps"
 word_of Tables = codes "tables"
+word_of Treaty = codes "treaty"
 
 -- the words are this command
 abbrev pub Say : List (List ℕ) → Command → Type 0
@@ -26,11 +27,12 @@ IsCommand words = (c : Command) × Say words c
 abbrev pub purpose_of : Command → Purpose
 purpose_of Steps = purpose.Steps
 purpose_of Tables = purpose.Tables
+purpose_of Treaty = purpose.Treaty
 
 -- the line of a status; that of a refusal has more to say
 abbrev pub line_of : Status → List ℕ
 line_of Done = []
-line_of Usage = codes "usage: homeo steps or tables\n"
+line_of Usage = codes "usage: homeo steps or tables or treaty\n"
 line_of Refused = []
 line_of Memory = codes "out of memory\n"
 line_of ReadFault = codes "read fault\n"

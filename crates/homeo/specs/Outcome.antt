@@ -11,11 +11,12 @@ use Rattle.homeo_history.specs.Legal.{IsFull}
 use Rattle.homeo_history.specs.Follows.{Follows}
 use Rattle.homeo_history.specs.Stepwise.{stepwise_history}
 use Rattle.homeo_print.specs.Tables.{tables_text}
+use Rattle.homeo_print.specs.Treaties.{treaty_text}
 use Rattle.homeo_report.specs.Report.{report}
 use Rattle.homeo.specs.Command.{Say, purpose_of, refusal_line}
 use Rattle.homeo.specs.Order.{scheduled_calls}
 use Rattle.homeo.specs.declared.command.Command.{Command}
-use Rattle.homeo.specs.declared.command.Command.TheVariants.{Steps, Tables}
+use Rattle.homeo.specs.declared.command.Command.TheVariants.{Steps, Tables, Treaty}
 
 -- ---- what a command makes of a text
 -- The report of a history that is legal for the workload, has all calls of each client, and follows the schedule. Today
@@ -31,6 +32,7 @@ pub record IsReport (w : s.Workload) (output : List ℕ) : Type 0 where
 abbrev pub IsOutput : Command → s.Workload → List ℕ → Type 0
 IsOutput Steps w output = IsReport w output
 IsOutput Tables w output = output ≡ tables_text w
+IsOutput Treaty w output = output ≡ treaty_text w
 
 -- the text is accepted as a workload, for what the command reads it for, and this is the command's output on it
 pub record IsOutputOf (c : Command) (text output : List ℕ) : Type 0 where

@@ -13,6 +13,8 @@ pub enum Command {
     Steps,
     /// Writes the symbolic tables of the ground calls, and their joint table.
     Tables,
+    /// Writes the treaties at the initial database.
+    Treaty,
 }
 
 impl Command {
@@ -24,6 +26,8 @@ impl Command {
             Some(Command::Steps)
         } else if word == "tables" {
             Some(Command::Tables)
+        } else if word == "treaty" {
+            Some(Command::Treaty)
         } else {
             None
         }
@@ -46,6 +50,7 @@ impl Command {
         match self {
             Command::Steps => Purpose::Steps,
             Command::Tables => Purpose::Tables,
+            Command::Treaty => Purpose::Treaty,
         }
     }
 }

@@ -10,6 +10,7 @@ mod steps;
 mod stop;
 mod tables;
 mod top;
+mod treaty;
 
 pub use command::Command;
 pub use status::Status;

@@ -14,6 +14,7 @@ use crate::command::Command;
 use crate::steps::steps;
 use crate::stop::Stop;
 use crate::tables::tables;
+use crate::treaty::treaty;
 use homeo_meaning::{Accepted, Purpose};
 use homeo_reader::{ReadRefusal, read};
 use homeo_report::report;
@@ -29,7 +30,7 @@ pub fn output_of(alloc: Global, command: Command, text: &[u8]) -> Result<Vec<u8>
     ensures no_other { (IsErrOf result Stop.Usage → ⊥) × (IsErrOf result Stop.ReadFault → ⊥) }
 {
     let accepted = accept_text(alloc, text, command.purpose())?;
-    let output = make(alloc, command, &accepted)?;
+    let output = make(alloc, command, accepted)?;
     Ok(output)
 }
 
@@ -54,14 +55,15 @@ fn accept_text(alloc: Global, text: &[u8], purpose: Purpose) -> Result<Accepted,
 }
 
 // The output of a command on a workload that is accepted for it.
-fn make(alloc: Global, command: Command, w: &Accepted) -> Result<Vec<u8>, Memory>
-    requires well_formed { IsWellFormed (plain_workload w.now) }
-    requires sound { faults (purpose_of command) (plain_workload w.now) ≡ [] }
-    ensures { IfOk result (λ bytes. IsOutput command (plain_workload w.now) bytes.items) }
+fn make(alloc: Global, command: Command, w: Accepted) -> Result<Vec<u8>, Memory>
+    requires well_formed { IsWellFormed (plain_workload w) }
+    requires sound { faults (purpose_of command) (plain_workload w) ≡ [] }
+    ensures { IfOk result (λ bytes. IsOutput command (plain_workload w) bytes.items) }
 {
     match command {
-        Command::Steps => report_of(alloc, w),
+        Command::Steps => report_of(alloc, &w),
         Command::Tables => tables(alloc, w),
+        Command::Treaty => treaty(alloc, w),
     }
 }
 

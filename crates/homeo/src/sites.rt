@@ -5,7 +5,6 @@ ghost use Rattle.homeo_syntax.specs.SourceView.{plain_workload};
 ghost use Rattle.homeo_meaning.specs.Schema.{nat_of};
 ghost use Rattle.homeo_history.specs.Follows.{site_or_zero};
 ghost use Rattle.homeo_history.specs.Legal.{site_count};
-ghost use Rattle.homeo_plan.specs.Planned.{sites_of};
 ghost use Rattle.homeo.specs.inner.Scheduled.{HasSites};
 
 use homeo_meaning::CallId;
@@ -19,11 +18,10 @@ fn natural(n: i64) -> u64
 }
 
 /// How many sites there are.
-#[tactic(auto, unfolding(homeo_syntax::specs::Key::words, homeo_history::specs::Key::words, homeo_plan::specs::Key::words))]
+#[tactic(auto, unfolding(homeo_syntax::specs::Key::words, homeo_history::specs::Key::words))]
 pub(crate) fn site_count(w: &Workload) -> u32
     requires { HasSites (plain_workload w.now) }
-    ensures segments { result ≡ site_count (plain_workload w.now) }
-    ensures sites { result ≡ sites_of (plain_workload w.now) }
+    ensures { result ≡ site_count (plain_workload w.now) }
 {
     natural(w.sites.value) as u32
 }

@@ -30,7 +30,8 @@ const TOO_LONG: Refusal = Refusal {
 /// Runs the command that the words are, on the text that the source gives:
 ///
 /// - `steps` runs the calls one after another in the order of the schedule, and writes the report;
-/// - `tables` writes the symbolic tables of the ground calls, and their joint table.
+/// - `tables` writes the symbolic tables of the ground calls, and their joint table;
+/// - `treaty` writes the treaties at the initial database.
 ///
 /// The words don't include the program's name. The output goes to `out`, which is offered bytes only when the whole output
 /// has been made. A fault of `complaints` changes no status.

@@ -2,19 +2,16 @@
 use Rattle.homeo_meaning.specs.Key.{words as meanings}
 use Rattle.homeo_plan.specs.Key.{words as plans}
 use Rattle.homeo_history.specs.Key.{words}
-use Rattle.std.proofs.Common.{◌≡◌, ℕ, zero, suc, ◌+◌, ◌<◌, ◌≤◌, nat_lt, Bool, true, false, List, length, map, ℤ, pos, Option, Some, None, refl, sym, ap, ◌∙◌, subst, arith}
-use Rattle.std.specs.Prelude.{slice_index_or}
+use Rattle.std.proofs.Common.{◌≡◌, ℕ, List, map, ℤ, Option, Some, None, refl, sym, ap, ◌∙◌, subst}
 use Rattle.std.specs.Option.{option_and_then, option_map}
-use mathlib.Core.Path.{fun_ext}
-use Rattle.std.proofs.lemmas.Bool.Decides.{nat_tests}
 use Rattle.homeo_syntax.specs.Source as s
 use Rattle.homeo_meaning.specs.declared.call.CallId.{CallId}
-use Rattle.homeo_meaning.specs.Bounds.{all_bounds, AllWithin, IsWithin}
+use Rattle.homeo_meaning.specs.Bounds.{AllWithin, IsWithin}
 use Rattle.homeo_meaning.specs.Calls.{CallExists}
 use Rattle.homeo_meaning.specs.LowMeaning.{BaseAt, exec, whole}
 use Rattle.homeo_meaning.specs.Meaning.{Run, run}
-use Rattle.homeo_meaning.specs.Schema.{Schema, schema_of, nat_of}
-use Rattle.homeo_meaning.specs.Serial.{values_of, values_from, database_like, Outcome, outcome_at, outcome_of, call_of, call_outcome, transaction_named, arguments, numbered}
+use Rattle.homeo_meaning.specs.Schema.{schema_of, nat_of}
+use Rattle.homeo_meaning.specs.Serial.{values_of, Outcome, outcome_at, outcome_of, call_of, call_outcome, transaction_named, arguments, numbered}
 use Rattle.homeo_meaning.specs.CallForm.{body_form}
 use Rattle.homeo_meaning.proofs.TransactionPlaces.{transaction_place}
 use Rattle.homeo_lform.proofs.Stays.{bounds_law}

@@ -12,7 +12,7 @@ use Rattle.homeo_meaning.specs.declared.call.CallId.{CallId}
 use Rattle.homeo_history.specs.History.{Entry, Closing, Round}
 use Rattle.homeo_meaning.specs.Calls.{CallExists}
 use Rattle.homeo_history.specs.Merge.{segment_of}
-use Rattle.homeo_history.specs.Legal.{site_of, call_count, IsCallAt, IsAtSites, IsClientAt}
+use Rattle.homeo_history.specs.Legal.{call_count, IsCallAt, IsAtSites, IsClientAt}
 use Rattle.homeo_meaning.specs.Serial.{numbered}
 use Rattle.homeo_history.specs.Answers.{Answer, local_answer, closing_answer, answers_of, answers_to}
 use Rattle.homeo_history.proofs.Lists.{get_lt, get_some, All-get}

@@ -21,7 +21,6 @@ use Rattle.homeo_meaning.specs.Bounds.{all_bounds}
 use Rattle.homeo_plan.specs.Joined.{Deltas, folded}
 use Rattle.homeo_plan.specs.Local.{no_deltas}
 use Rattle.homeo_plan.specs.Planned.{sites_of, planned_at, template_at, policy}
-use Rattle.homeo_plan.specs.Treaty.{Treaty}
 use Rattle.homeo_plan.proofs.Sums.{sum_same, sum_zero}
 use Rattle.homeo_plan.specs.Soundness.{StepsFold}
 use Rattle.homeo_plan.proofs.Stepped.{stepped}

@@ -1,8 +1,8 @@
 -- Choices of sites with one number more: how often a site stands in them, and what they pick.
 use Rattle.homeo_history.specs.Key.{words}
-use Rattle.std.proofs.Common.{◌≡◌, ◌≢◌, ◌⊎◌, ℕ, zero, suc, ◌+◌, ◌==◌, ◌<◌, ◌≤◌, nat_lt, Bool, true, false, cond, List, [], ◌∷◌, ◌++◌, length, map, take, drop, get_or, replicate, slice_set, count_by, Option, Some, None, refl, sym, ap, ap₂, ◌∙◌, subst, append_assoc, arith}
+use Rattle.std.proofs.Common.{◌≡◌, ℕ, zero, suc, ◌+◌, ◌==◌, ◌<◌, ◌≤◌, nat_lt, Bool, true, false, cond, List, [], ◌∷◌, ◌++◌, length, map, take, drop, get_or, replicate, slice_set, count_by, Option, Some, None, refl, sym, ap, ap₂, ◌∙◌, subst, append_assoc, arith}
 use Rattle.std.proofs.lemmas.List.{take_more, get_or_default, length-map, length-take-le, map-append}
-use Rattle.std.proofs.lemmas.List.Sums.{sum_by_push, sum_by_more, sum_by-take-le, count_by-le-length}
+use Rattle.std.proofs.lemmas.List.Sums.{sum_by_push, sum_by-take-le, count_by-le-length}
 use Rattle.std.proofs.lemmas.Bool.Decides.{nat_tests}
 use Rattle.homeo_meaning.specs.declared.call.CallId.{CallId}
 use Rattle.homeo_history.specs.History as h

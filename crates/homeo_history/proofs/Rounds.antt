@@ -4,8 +4,7 @@ use Rattle.std.specs.Prelude.{ℤ, All, IsSome, slice_get}
 use Rattle.std.proofs.lemmas.List.Elements.{All-head, All-tail}
 use Rattle.homeo_syntax.specs.Source as s
 use Rattle.homeo_history.specs.Key.{words}
-use Rattle.homeo_history.specs.History.{Entry, Round}
-use Rattle.homeo_history.specs.Merge.{segment_of}
+use Rattle.homeo_history.specs.History.{Round}
 use Rattle.homeo_history.specs.Legal.{first_base, OnlyLastIsOpen, base_or, RunsTo, AreSerial}
 
 pub base_first : (rounds : List Round) (base : List ℤ) → slice_get (map (λ r. r.base) rounds ++ base ∷ []) 0 ≡ Some (base_or rounds base)

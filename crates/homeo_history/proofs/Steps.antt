@@ -10,6 +10,7 @@ use Rattle.homeo_meaning.specs.declared.call.CallId.{CallId}
 use Rattle.homeo_history.specs.History.{Entry, Closing, Round}
 use Rattle.homeo_history.specs.Merge.{segment_of, put_at, merge}
 use Rattle.homeo_history.specs.Legal.{OnlyLastIsOpen}
+use Rattle.homeo_history.proofs.Lists.{cons_head, cons_tail, not_nil}
 use Rattle.homeo_history.specs.Follows.{site_or_zero, FollowsRounds}
 
 abbrev pub Segments : Type 0
@@ -103,15 +104,6 @@ calls_length (e ∷ es) = ap suc (calls_length es)
 sites_length : (w : s.Workload) (calls : List CallId) → length (map (site_or_zero w) calls) ≡ length calls
 sites_length w [] = refl
 sites_length w (id ∷ calls) = ap suc (sites_length w calls)
-
-cons_head : {X : Type 0} (x y : X) (xs ys : List X) → x ∷ xs ≡ y ∷ ys → x ≡ y
-cons_head x y xs ys e = cc
-
-cons_tail : {X : Type 0} (x y : X) (xs ys : List X) → x ∷ xs ≡ y ∷ ys → xs ≡ ys
-cons_tail x y xs ys e = cc
-
-not_nil : {X : Type 0} (x : X) (xs : List X) → x ∷ xs ≡ [] → ⊥
-not_nil x xs e = cc
 
 through : (w : s.Workload) (closing : Option Closing) (rounds : List Round) (n : ℕ) (tail : List CallId) → ((segs : Segments) → ((i : ℕ) → segs i ≡ []) → StepsThrough w tail segs closing rounds) → (before : List CallId) (segs : Segments) → ((i : ℕ) → n ≤ i → segs i ≡ []) → length before ≡ size n segs → before ≡ map (λ (e : Entry). e.call) (merge segs (map (site_or_zero w) before)) → StepsThrough w (before ++ tail) segs closing rounds
 unfolding words

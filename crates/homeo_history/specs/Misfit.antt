@@ -1,6 +1,5 @@
 -- Choices that do not fit a round's segments.
 use Rattle.std.specs.Prelude.{◌≡◌, ℕ, ◌==◌, ◌<◌, List, length, count_by}
-use Rattle.homeo_history.specs.Key.{words}
 use Rattle.homeo_history.specs.History.{Entry}
 use Rattle.homeo_history.specs.Merge.{segment_of}
 

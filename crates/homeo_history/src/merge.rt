@@ -207,7 +207,10 @@ mod tests {
         let calls = interleave(rt.alloc(), &round, [1, 0, 0].as_slice())
             .ok()
             .ok_or("no merge")?;
-        assert_eq!(rt; calls.as_slice(), [call(1, 1), call(0, 1), call(0, 2)].as_slice());
+        assert_eq!(rt;
+            calls.as_slice(),
+            [call(1, 1), call(0, 1), call(0, 2)].as_slice()
+        );
         Ok(())
     }
 
@@ -215,7 +218,14 @@ mod tests {
     fn a_choice_without_a_site_that_has_entries_does_not_fit(rt: HostRuntime) -> Result<(), Fail> {
         let round = round_of_two_sites(rt.alloc()).ok().ok_or("memory")?;
         let misfit = interleave(rt.alloc(), &round, [0, 0].as_slice()).err();
-        assert!(rt; misfit == Some(MergeError::Misfit { site: 1, chosen: 0, length: 1 }));
+        assert!(rt;
+            misfit
+                == Some(MergeError::Misfit {
+                    site: 1,
+                    chosen: 0,
+                    length: 1
+                })
+        );
         Ok(())
     }
 }

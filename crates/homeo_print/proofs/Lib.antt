@@ -22,3 +22,4 @@ pub mod ReadingBack
 pub mod Scanning
 pub mod TableSteps
 pub mod TestsBack
+pub mod TreatySteps

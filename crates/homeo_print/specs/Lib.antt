@@ -9,3 +9,4 @@ pub mod Printed
 pub mod ReadingBack
 pub mod Tables
 pub mod TokensOf
+pub mod Treaties

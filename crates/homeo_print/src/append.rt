@@ -5,7 +5,7 @@ ghost use Rattle.std.specs.Fmt.{signed_decimal};
 ghost use Rattle.homeo_print.specs.Names.{heading, numbers_text};
 
 use homeo_syntax::Memory;
-use itoa::Buffer;
+use itoa::{Buffer, Integer};
 
 /// Appends bytes.
 ///
@@ -19,6 +19,18 @@ pub fn push_bytes(out: &mut Vec<u8>, bytes: &[u8]) -> Result<(), Memory>
     Ok(())
 }
 
+/// Appends a number of any integer type in decimal, behind `-` where it is negative.
+///
+/// # Errors
+///
+/// `Memory` when out of memory.
+pub fn push_integer<I: Integer>(out: &mut Vec<u8>, n: I) -> Result<(), Memory>
+    ensures { OnOk result (out.new.items ≡ out.old.items ++ I.text n) }
+{
+    let mut digits = Buffer::new();
+    push_bytes(out, digits.format(n).as_bytes())
+}
+
 /// Appends a number in decimal.
 ///
 /// # Errors
@@ -27,8 +39,7 @@ pub fn push_bytes(out: &mut Vec<u8>, bytes: &[u8]) -> Result<(), Memory>
 pub fn push_number(out: &mut Vec<u8>, n: u64) -> Result<(), Memory>
     ensures { OnOk result (out.new.items ≡ out.old.items ++ decimal n) }
 {
-    let mut digits = Buffer::new();
-    push_bytes(out, digits.format(n).as_bytes())
+    push_integer(out, n)
 }
 
 /// Appends a number in decimal, behind `-` where it is negative.
@@ -39,8 +50,7 @@ pub fn push_number(out: &mut Vec<u8>, n: u64) -> Result<(), Memory>
 pub fn push_signed(out: &mut Vec<u8>, n: i64) -> Result<(), Memory>
     ensures { OnOk result (out.new.items ≡ out.old.items ++ signed_decimal n) }
 {
-    let mut digits = Buffer::new();
-    push_bytes(out, digits.format(n).as_bytes())
+    push_integer(out, n)
 }
 
 /// Appends numbers, each behind a space.

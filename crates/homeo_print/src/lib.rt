@@ -1,5 +1,5 @@
 //! The text of a workload, which reads as the same workload where each of its names and numbers can stand in a text, and the
-//! texts of calls, symbolic tables and joint tables (this project's rule: the layout, and where parentheses stand).
+//! texts of calls, symbolic tables, joint tables and treaties (this project's rule: the layout, and where parentheses stand).
 #![tactic(auto)]
 
 ghost use Rattle.std.specs.Prelude.{◌≡◌, ℕ, List, IfOk};
@@ -22,14 +22,16 @@ mod objects;
 mod phrases;
 mod pieces;
 mod tables;
+mod treaties;
 
-pub use append::{push_bytes, push_heading, push_number, push_numbers, push_signed};
+pub use append::{push_bytes, push_heading, push_integer, push_number, push_numbers, push_signed};
 pub use calls::{name_of, print_call, push_call};
 pub use choices::{print_joint, print_too_many_choices};
 use homeo_syntax::{Memory, Workload};
 pub use objects::ObjectNames;
 use std::alloc::Global;
 pub use tables::{print_row, print_table};
+pub use treaties::print_template;
 
 /// The text of a workload: its declarations in order, each in a line of its own. Where the workload came from a text,
 /// this text reads as it, apart from offsets. A name that isn't among the workload's names has no bytes.

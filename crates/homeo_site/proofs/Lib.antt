@@ -1,11 +1,15 @@
 pub mod CallsOfSites
+pub mod FailureSteps
 pub mod FirstFailures
 pub mod Limits
 pub mod LocalSteps
 pub mod OrderedAtoms
+pub mod OwnFits
 pub mod OwnSums
 pub mod OwnTerms
 pub mod SitesHold
+pub mod StepFindings
 pub mod StepsRun
 pub mod TemplateClauses
 pub mod WalkRuns
+pub mod WrittenObjects

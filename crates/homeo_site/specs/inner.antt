@@ -1,2 +1,4 @@
 pub mod Failures
+pub mod OwnCalls
+pub mod OwnRound
 pub mod OwnTreaty

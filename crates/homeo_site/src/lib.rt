@@ -2,5 +2,10 @@
 //! doesn't.
 #![tactic(auto)]
 
+mod attempts;
 pub mod laws;
+mod own_calls;
+mod own_round;
 mod own_treaty;
+
+pub use attempts::{Change, Outcome, Room};

@@ -7,3 +7,4 @@ pub mod Following
 pub mod Held
 pub mod Fitting
 pub mod WalkSteps
+pub mod FormulasFit

@@ -103,10 +103,10 @@ sets-Write k x e p s h w =
     }
 
 -- it does what command d does, where condition c is asked first
-record Takes (k d : Command) (c : Cond) (s : State) : Type 0 where
-  can : can_exec limit k s ≡ true → can_exec limit d s ≡ true
-  state : (exec k s).state ≡ (exec d s).state
-  walk : (r : Row) → walk_before k s r ≡ test_before c (walk_before d s r)
+pub record Takes (k d : Command) (c : Cond) (s : State) : Type 0 where
+  pub can : can_exec limit k s ≡ true → can_exec limit d s ≡ true
+  pub state : (exec k s).state ≡ (exec d s).state
+  pub walk : (r : Row) → walk_before k s r ≡ test_before c (walk_before d s r)
 
 choice :
     (k : Command) (b : Cond) (c d : Command) (s : State) → k ≡ If b c d → can_exec limit k s ≡ true →
@@ -114,7 +114,7 @@ choice :
 unfolding split_words
 choice k b c d s h can = and_parts _ _ (ap (λ k. can_exec limit k s) (sym h) ∙ can)
 
-takes :
+pub takes :
     (v : Bool) (k : Command) (b : Cond) (c d : Command) (s : State) → k ≡ If b c d → holds b s ≡ v →
     Takes k (cond v c d) (cond v b (otherwise b)) s
 unfolding plan_words meaning_words

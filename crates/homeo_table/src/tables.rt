@@ -1,12 +1,14 @@
 //! Symbolic tables.
 
-ghost use Rattle.std.specs.Prelude.{◌≡◌, map, length, IfOk};
+ghost use Rattle.std.specs.Prelude.{◌≡◌, true, map, length, IfOk};
+ghost use Rattle.std.specs.List.{All};
 ghost use Rattle.homeo_syntax.specs.LowView.{plain_lcommand};
 ghost use Rattle.homeo_meaning.specs.LowMeaning.{exec, exec_all};
 ghost use Rattle.homeo_meaning.specs.LowSizes.{rows};
 ghost use Rattle.homeo_plan.specs.Joint.{HasOneRow};
 ghost use Rattle.homeo_plan.specs.PlanView.{plain_row};
 ghost use Rattle.homeo_plan.specs.Table.{row_at, table};
+ghost use Rattle.homeo_split.specs.CanExec.{limit, cond_fits, can_exec};
 ghost use Rattle.homeo_split.specs.declared.split.Split.{Split};
 ghost use Rattle.homeo_split.specs.States.{state_of};
 
@@ -19,7 +21,8 @@ use std::alloc::Global;
 /// condition of the first `if` holds. Its formula says before the command when the branch is taken, and its residual has
 /// the assignments, writes and prints of the branch. A formula reads no temporary: it has 0 in place of what a temporary
 /// has as a call begins. So at each split database, where temporaries are 0, exactly one row holds, and its residual does
-/// there what the command does.
+/// there what the command does. And where the command meets no number above 2 * 10^18 in size, no formula does up to its first
+/// test that fails, so that `row_at` can find the row.
 ///
 /// Branches are followed from the first command to the last, each from where it parts from another, and tests and
 /// commands are pushed at the ends of formula and residual. What is put in is shared until a test reads it. So, with a
@@ -34,6 +37,8 @@ pub fn table(alloc: Global, c: &LCommand) -> Result<Vec<Row>, Memory>
     ensures one { IfOk result (λ rows. (base : Split) → HasOneRow (state_of base) (map plain_row rows.items)) }
     ensures means { IfOk result (λ rows. (base : Split) → let s = state_of base in
         exec_all (row_at (map plain_row rows.items) s).residual s ≡ exec (plain_lcommand c.now) s) }
+    ensures small { IfOk result (λ rows. (base : Split) → can_exec limit (plain_lcommand c.now) (state_of base) ≡ true →
+        All (λ r. cond_fits limit (plain_row r).formula (state_of base) ≡ true) rows.items) }
     ensures count { IfOk result (λ t. length t.items ≡ rows (plain_lcommand c.now)) }
 {
     let mut rows = Vec::new(alloc);

@@ -118,9 +118,49 @@ mod tests {
         check(&rt, alloc, none, Status::Done, "joint 1\npick\n", "")
     }
 
+    const TREATY: Given = Given {
+        words: &["treaty"],
+        ..PLAIN
+    };
+
+    #[test]
+    fn treaties_are_written(rt: HostRuntime) -> Result<(), Fail> {
+        for (text, treaties) in [
+            // slacks that two sites can't share evenly
+            (
+                "workload 1\nsites 2\nobject stock in 0..10 = 8\ntransaction buy(n in 1..3) { s := read(stock); if n <= s then { write(stock = s - n); print(1) } else print(0) }\nclient a at 0 { buy(1); buy(1); buy(1) }\nclient b at 1 { buy(1) }\nschedule a a b a\nend\n",
+                "clauses 2\n0 slack 7 bounds 3 4 form -1*stock@0 -1*stock@1\n1 slack 3 bounds 1 2 form 1*stock@0 1*stock@1\nfreezes 0\n",
+            ),
+            // what a write of a constant needs
+            (
+                "workload 1\nsites 2\nobject stock in 0..10 = 1\ntransaction fill() { if read(stock) < 2 then write(stock = 9) else skip }\nclient a at 0 { fill() }\nclient b at 1 { fill() }\nschedule a b\nend\n",
+                "clauses 1\n0 slack 0 bounds 0 0 form 1*stock@0 1*stock@1\nfreezes 2\n1 stock@0\n2 stock@1\n",
+            ),
+            // a product of two objects
+            (
+                "workload 1\nsites 2\nobject x in 0..10 = 4\nobject y in 0..10 = 5\ntransaction look() { if read(x) * read(y) <= 20 then print(1) else print(0) }\nclient a at 0 { look() }\nend\n",
+                "clauses 0\nfreezes 4\n0 x@0\n1 x@1\n2 y@0\n3 y@1\n",
+            ),
+            // an equation that is false
+            (
+                "workload 1\nsites 2\nobject x in 0..10 = 5\ntransaction t() { if read(x) = 3 then print(1) else print(0) }\nclient a at 0 { t() }\nend\n",
+                "clauses 1\n0 slack 1 bounds 0 1 form -1*x@0 -1*x@1\nfreezes 0\n",
+            ),
+            // a condition of which each test is false
+            (
+                "workload 1\nsites 2\nobject x in 0..10 = 5\nobject y in 0..10 = 7\ntransaction t() { if not (read(x) <= 2 and read(y) <= 2) then print(1) else print(0) }\nclient a at 0 { t() }\nend\n",
+                "clauses 1\n0 slack 2 bounds 1 1 form -1*x@0 -1*x@1\nfreezes 0\n",
+            ),
+        ] {
+            let given = Given { text, ..TREATY };
+            check(&rt, rt.alloc(), given, Status::Done, treaties, "")?;
+        }
+        Ok(())
+    }
+
     #[test]
     fn other_words_are_no_command(rt: HostRuntime) -> Result<(), Fail> {
-        let usage = "usage: homeo steps or tables\n";
+        let usage = "usage: homeo steps or tables or treaty\n";
         let lists: [&'static [&'static str]; 6] = [
             &[],
             &["step"],

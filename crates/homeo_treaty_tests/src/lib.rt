@@ -8,6 +8,8 @@ mod object;
 #[cfg(test)]
 mod residuals;
 #[cfg(test)]
+mod rounds;
+#[cfg(test)]
 mod slacks;
 #[cfg(test)]
 mod templates;

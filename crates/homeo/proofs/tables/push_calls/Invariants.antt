@@ -9,8 +9,8 @@ use Rattle.homeo.proofs.tables.push_calls.Given as goal
 
 abbrev pub invariant-loop-number : goal.invariant-loop-number
 invariant-loop-number l = record {
-  text : l.out.items ≡ l.fn.out.items ++ calls_text (plain_workload l.w) (map plain_ground (take l.number l.calls));
-  tables : map plain_table l.tables.items ≡ map (call_table (plain_workload l.w)) (map plain_ground (take l.number l.calls));
+  text : l.out.items ≡ l.fn.out.items ++ calls_text (plain_workload l.c) (map plain_ground (take l.number l.calls));
+  tables : map plain_table l.tables.items ≡ map (call_table (plain_workload l.c)) (map plain_ground (take l.number l.calls));
   some : All (λ t. 1 ≤ vec_len t) l.tables.items;
   counted : All (λ t. vec_len t < 2 ^ 32) l.tables.items;
 }

@@ -1,5 +1,5 @@
 -- The entry at that place is the one that is picked.
-use Rattle.std.proofs.Common.{◌≡◌, ◌<◌, [], ◌∷◌, length, get_or, sym, ap, ◌∙◌, subst, arith}
+use Rattle.std.proofs.Common.{◌<◌, [], ◌∷◌, length, get_or, sym, ap, ◌∙◌, subst, arith}
 use Rattle.homeo_history.proofs.Picking.{place_within, call_there}
 use Rattle.homeo_history.proofs.merge.call_at.Goals as goal
 

@@ -1,5 +1,5 @@
 -- Each number picks the next entry of its site.
-use Rattle.std.proofs.Common.{◌≡◌, ℕ, ◌+◌, ◌≤◌, length, map, get_or, ap, ◌∙◌, arith}
+use Rattle.std.proofs.Common.{◌+◌, ◌≤◌, length, map, get_or, ap, ◌∙◌, arith}
 use Rattle.std.proofs.lemmas.List.{length-replicate}
 use Rattle.homeo_history.specs.Key.{words}
 use Rattle.homeo_history.specs.HistoryView.{plain_segment}

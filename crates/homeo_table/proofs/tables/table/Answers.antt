@@ -7,6 +7,7 @@ use Rattle.homeo_plan.specs.Table.{table}
 use Rattle.homeo_table.specs.inner.Branches.{rows_of_all}
 use Rattle.homeo_table.proofs.Following.{branches-start, branches-end, branches-next, next-row, fewer-rows}
 use Rattle.homeo_table.proofs.Held.{table_has_one, table_does}
+use Rattle.homeo_table.proofs.FormulasFit.{table_fits}
 use Rattle.homeo_plan.proofs.RowCounts.{length_table}
 use Rattle.homeo_table.proofs.tables.table.Goals as goal
 
@@ -37,6 +38,9 @@ returns-clause-one c = table_has_one (plain_lcommand c.args.c.now) (map plain_ro
 
 pub returns-clause-means : goal.returns-clause-means
 returns-clause-means c = table_does (plain_lcommand c.args.c.now) (map plain_row c.loop-branch.rows.items) (returns-clause-rows c)
+
+pub returns-clause-small : goal.returns-clause-small
+returns-clause-small c = table_fits (plain_lcommand c.args.c.now) c.loop-branch.rows.items (returns-clause-rows c)
 
 pub returns-clause-count : goal.returns-clause-count
 returns-clause-count c =

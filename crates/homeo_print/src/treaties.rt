@@ -1,0 +1,173 @@
+//! The text of treaties.
+#![tactic(auto, using(crate::proofs::TreatySteps::treaty_steps))]
+
+ghost use Rattle.std.specs.Prelude.{◌≡◌, ◌++◌, map, length, OnOk};
+ghost use Rattle.homeo_syntax.specs.SourceView.{plain_workload};
+ghost use Rattle.homeo_plan.specs.PlanView.{plain_clause, plain_template, plain_config};
+ghost use Rattle.homeo_print.specs.Names.{numbers_text, object_names};
+ghost use Rattle.homeo_print.specs.Treaties.{delta_text, terms_text, clause_text, clauses_text, freeze_text, freezes_text, template_text};
+
+use crate::append::{push_bytes, push_heading, push_integer, push_number};
+use crate::formulas::push_split_name;
+use crate::objects::ObjectNames;
+use homeo_plan::{Clause, Config, Delta, Template, Term};
+use homeo_syntax::{List, Memory, SplitName, Workload};
+
+fn push_delta(
+    out: &mut Vec<u8>,
+    w: &Workload,
+    objects: &ObjectNames,
+    delta: Delta,
+) -> Result<(), Memory>
+    requires named { objects.now ≡ object_names (plain_workload w.now) }
+    ensures { OnOk result (out.new.items ≡ out.old.items ++ delta_text (plain_workload w.now) delta) }
+{
+    let Delta { object, site } = delta;
+    push_split_name(out, w, objects, SplitName::Delta { object, site })
+}
+
+/// Appends bounds, each behind a space.
+#[tactic(auto, unfolding(crate::specs::Key::words))]
+fn push_bounds(out: &mut Vec<u8>, bounds: &[i128]) -> Result<(), Memory>
+    ensures { OnOk result (out.new.items ≡ out.old.items ++ numbers_text bounds.now) }
+{
+    for bound in bounds {
+        push_bytes(out, b" ")?;
+        push_integer(out, *bound)?;
+    }
+    Ok(())
+}
+
+/// Appends terms, each behind a space.
+#[tactic(auto, unfolding(crate::specs::Key::words))]
+fn push_terms(
+    out: &mut Vec<u8>,
+    w: &Workload,
+    objects: &ObjectNames,
+    terms: &[Term],
+) -> Result<(), Memory>
+    requires named { objects.now ≡ object_names (plain_workload w.now) }
+    ensures { OnOk result (out.new.items ≡ out.old.items ++ terms_text (plain_workload w.now) terms.now) }
+{
+    for term in terms {
+        push_bytes(out, b" ")?;
+        push_integer(out, term.factor)?;
+        push_bytes(out, b"*")?;
+        push_delta(out, w, objects, term.delta)?;
+    }
+    Ok(())
+}
+
+/// Appends the line of a clause with its bounds.
+fn push_clause(
+    out: &mut Vec<u8>,
+    w: &Workload,
+    objects: &ObjectNames,
+    number: u64,
+    clause: &Clause,
+    bounds: &[i128],
+) -> Result<(), Memory>
+    requires named { objects.now ≡ object_names (plain_workload w.now) }
+    ensures { OnOk result (out.new.items
+        ≡ out.old.items ++ clause_text (plain_workload w.now) number (plain_clause clause.now) bounds.now) }
+{
+    push_number(out, number)?;
+    push_bytes(out, b" slack ")?;
+    push_integer(out, clause.slack)?;
+    push_bytes(out, b" bounds")?;
+    push_bounds(out, bounds)?;
+    push_bytes(out, b" form")?;
+    push_terms(out, w, objects, clause.terms.as_slice())?;
+    push_bytes(out, b"\n")?;
+    Ok(())
+}
+
+/// Appends clauses, numbered from 0, each with its bounds.
+fn push_clauses(
+    out: &mut Vec<u8>,
+    w: &Workload,
+    objects: &ObjectNames,
+    clauses: &[Clause],
+    config: &Config,
+) -> Result<(), Memory>
+    requires named { objects.now ≡ object_names (plain_workload w.now) }
+    requires bounds { length config.now.bounds.items ≡ length clauses.now }
+    ensures { OnOk result (out.new.items ≡ out.old.items
+        ++ clauses_text (plain_workload w.now) (map plain_clause clauses.now) (plain_config config.now)) }
+{
+    let bounds = config.bounds.as_slice();
+    for (number, clause) in clauses.iter().enumerate() {
+        push_clause(
+            out,
+            w,
+            objects,
+            number as u64,
+            clause,
+            bounds[number].as_slice(),
+        )?;
+    }
+    Ok(())
+}
+
+/// Appends the line of a freeze.
+fn push_freeze(
+    out: &mut Vec<u8>,
+    w: &Workload,
+    objects: &ObjectNames,
+    number: u128,
+    delta: Delta,
+) -> Result<(), Memory>
+    requires named { objects.now ≡ object_names (plain_workload w.now) }
+    ensures { OnOk result (out.new.items ≡ out.old.items ++ freeze_text (plain_workload w.now) number delta) }
+{
+    push_integer(out, number)?;
+    push_bytes(out, b" ")?;
+    push_delta(out, w, objects, delta)?;
+    push_bytes(out, b"\n")?;
+    Ok(())
+}
+
+/// Appends freezes, numbered from `first` on.
+fn push_freezes(
+    out: &mut Vec<u8>,
+    w: &Workload,
+    objects: &ObjectNames,
+    first: usize,
+    freezes: &[Delta],
+) -> Result<(), Memory>
+    requires named { objects.now ≡ object_names (plain_workload w.now) }
+    ensures { OnOk result (out.new.items ≡ out.old.items ++ freezes_text (plain_workload w.now) first freezes.now) }
+{
+    for (place, delta) in freezes.iter().enumerate() {
+        push_freeze(out, w, objects, first as u128 + place as u128, *delta)?;
+    }
+    Ok(())
+}
+
+/// Appends the treaties of a template with a configuration: a line with how many clauses there are and a line for each,
+/// with its number, its slack, the bound of each site and its terms, and then a line with how many freezes there are and a
+/// line for each, with its number and its delta. The names are those of the workload's objects.
+///
+/// # Errors
+///
+/// `Memory` when out of memory, and then some of the bytes may be appended.
+pub fn print_template(
+    out: &mut Vec<u8>,
+    w: &Workload,
+    objects: &ObjectNames,
+    t: &Template,
+    c: &Config,
+) -> Result<(), Memory>
+    requires named { objects.now ≡ object_names (plain_workload w.now) }
+    requires bounds { length (plain_config c.now) ≡ length (plain_template t.now).clauses }
+    ensures text { OnOk result (out.new.items ≡ out.old.items
+        ++ template_text (plain_workload w.now) (plain_template t.now) (plain_config c.now)) }
+{
+    let clauses = t.clauses.as_slice();
+    let freezes = t.freezes.as_slice();
+    push_heading(out, b"clauses ", clauses.len() as u64)?;
+    push_clauses(out, w, objects, clauses, c)?;
+    push_heading(out, b"freezes ", freezes.len() as u64)?;
+    push_freezes(out, w, objects, clauses.len(), freezes)?;
+    Ok(())
+}
