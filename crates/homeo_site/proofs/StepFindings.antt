@@ -29,8 +29,9 @@ use Rattle.homeo_effect.proofs.Untouched.{clause_stays, own_delta_stays}
 use Rattle.homeo_history.specs.Key.{words as history_words}
 use Rattle.homeo_history.specs.Legal.{IsCallAt}
 use Rattle.homeo_site.specs.Key.{words}
-use Rattle.homeo_site.specs.SiteState.{SiteState, SiteHolds, step_values, step_finding}
+use Rattle.homeo_site.specs.SiteState.{SiteState, step_values, step_finding}
 use Rattle.homeo_site.specs.inner.Failures.{sum_failure, freeze_failure, freeze_failure_from, failure_from, failure_at, first_of, first_failure, own_failure, own_freeze_failure}
+use Rattle.homeo_site.specs.inner.Ready.{IsReady}
 use Rattle.homeo_site.specs.inner.OwnTreaty.{own_terms, own_sum, OwnClause, own_clauses}
 use Rattle.homeo_site.proofs.CallsOfSites.{call_site}
 use Rattle.homeo_site.proofs.FirstFailures.{first_of_both, clauses_first}
@@ -181,7 +182,7 @@ residual_straight w base g member =
     subst (λ (r : Row). IsStraight r.residual) (sym (row_at_walk (shifted (sites_of w) g) (whole (values_of base)) (λ t. refl)))
     (walk_straight (sites_of w) g.site g.command (whole (values_of base)) (planned_whole w g member))
 
-module _ (w : s.Workload) (x : SiteState) (h : SiteHolds w x) (call : CallId) (at : IsCallAt w x.number call) where
+module _ (w : s.Workload) (x : SiteState) (h : IsReady w x) (call : CallId) (at : IsCallAt w x.number call) where
   abbrev g : PlannedCall
   g = planned_at w call
 

@@ -46,10 +46,10 @@ use Rattle.homeo_history.specs.Legal.{IsCallAt}
 use Rattle.homeo_history.specs.Replayed.{MeetsTreaty}
 use Rattle.homeo_history.specs.Key.{words as history_words}
 use Rattle.homeo_site.specs.Key.{words}
-use Rattle.homeo_site.specs.SiteState.{SiteState, SiteHolds}
+use Rattle.homeo_site.specs.SiteState.{SiteState}
+use Rattle.homeo_site.specs.inner.Ready.{IsReady}
 use Rattle.homeo_site.proofs.CallsOfSites.{call_site}
 use Rattle.homeo_site.proofs.Limits.{few_sites}
-use Rattle.homeo_site.proofs.LocalSteps.{own_within}
 use Rattle.homeo_site.proofs.WalkRuns.{residual_runs}
 
 -- ---- a planned call is a ground call of some client
@@ -175,9 +175,9 @@ base_runs w base g accepted within member site =
 
 -- ---- a call of a site
 pub step_runs :
-    (w : s.Workload) (x : SiteState) → IsAccepted w → SiteHolds w x → (call : CallId) → IsCallAt w x.number call →
+    (w : s.Workload) (x : SiteState) → IsAccepted w → IsReady w x → (call : CallId) → IsCallAt w x.number call →
     can_exec_all limit (base_row (sites_of w) (values_of x.base) (planned_at w call)).residual
     (alone (values_of x.base) x.number (values_of x.deltas)) ≡ true
 step_runs w x accepted h call at =
-    alone_runs w x.base x.number (values_of x.deltas) accepted h.within h.site h.meets (own_within w x accepted h) (planned_at w call)
+    alone_runs w x.base x.number (values_of x.deltas) accepted h.within h.site h.meets h.all (planned_at w call)
     (planned_member w call at.exists) (call_site w x.number call at)

@@ -2,3 +2,4 @@ pub mod Failures
 pub mod OwnCalls
 pub mod OwnRound
 pub mod OwnTreaty
+pub mod Ready
