@@ -3,3 +3,4 @@ pub mod OwnCalls
 pub mod OwnRound
 pub mod OwnTreaty
 pub mod Ready
+pub mod Standing

@@ -3,9 +3,14 @@
 #![tactic(auto)]
 
 mod attempts;
+mod copies;
 pub mod laws;
 mod own_calls;
 mod own_round;
 mod own_treaty;
+mod site;
+mod start;
 
 pub use attempts::{Change, Outcome, Room};
+pub use site::Site;
+pub use start::SiteStart;

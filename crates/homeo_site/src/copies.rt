@@ -1,0 +1,48 @@
+//! Lists for copies of what a call prints, with room for it.
+
+ghost use Rattle.std.specs.Prelude.{◌≡◌, [], ◌≤◌, All, length, replicate, IfOk};
+
+use homeo_syntax::{List, Memory, Prints};
+use std::alloc::Global;
+
+/// An empty list with room for so many prints.
+pub(crate) fn empty_prints(alloc: Global, count: u64) -> Result<Prints, Memory>
+    ensures { IfOk result (λ p. p ≡ record { items = []; spare = count }) }
+{
+    let mut prints = List::new(alloc);
+    prints.reserve(count)?;
+    Ok(prints)
+}
+
+/// So many of them.
+pub(crate) fn empty_copies(alloc: Global, copies: u32, count: u64) -> Result<List<Prints>, Memory>
+    ensures { IfOk result (λ l. l.items ≡ replicate copies (record { items = []; spare = count })) }
+{
+    let mut lists = List::new(alloc);
+    for _ in 0..copies {
+        lists.push(empty_prints(alloc, count)?)?;
+    }
+    Ok(lists)
+}
+
+/// Copies prints into an empty list that has room for them.
+fn copy_prints(prints: &[i64], copy: &mut Prints)
+    requires empty { copy.old.items ≡ [] }
+    requires spare { length prints.now ≤ copy.old.spare }
+    ensures { copy.new.items ≡ prints.now }
+{
+    for number in prints {
+        let _ = copy.push(*number);
+    }
+}
+
+/// Copies prints into each of such lists.
+pub(crate) fn copy_to_all(prints: &[i64], copies: &mut List<Prints>)
+    requires { All (λ copy. (copy.items ≡ []) × (length prints.now ≤ copy.spare)) copies.old.items }
+    ensures count { length copies.new.items ≡ length copies.old.items }
+    ensures copied { All (λ copy. copy.items ≡ prints.now) copies.new.items }
+{
+    for place in 0..copies.as_slice().len() {
+        copy_prints(prints, copies.item_mut(place));
+    }
+}

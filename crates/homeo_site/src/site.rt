@@ -1,0 +1,147 @@
+//! Sites.
+
+ghost use Rattle.std.specs.Prelude.{◌≡◌, ◌<◌, ◌≤◌, ◌-◌, All, length, pos, IfOk, OnOk, slice_index_or};
+ghost use Rattle.homeo_syntax.specs.SourceView.{plain_workload};
+ghost use Rattle.homeo_history.specs.HistoryView.{plain_segment};
+ghost use Rattle.homeo_history.specs.Legal.{IsCallAt};
+ghost use Rattle.homeo_site.specs.Attempts.{IsChange, IsOutcome, IsRoom, IsEmptyCopy, copied_prints};
+ghost use Rattle.homeo_site.specs.SiteState.{SiteHolds, after_local, begun};
+
+use crate::attempts::{Change, Outcome, Room};
+use crate::copies::{copy_to_all, empty_copies, empty_prints};
+use crate::own_round::OwnRound;
+use crate::start::SiteStart;
+use homeo_history::{Entry, Segment};
+use homeo_meaning::{CallId, Database};
+use homeo_syntax::{List, Memory, Prints};
+use std::alloc::Global;
+use std::marker::Model;
+use std::mem;
+
+/// A site in a round (Roy et al., SIGMOD 2015): it runs the calls of its own clients on its own deltas, as long as these meet
+/// its treaty, and keeps what it ran as a segment of the history. Of its segment it has a spare, the number of entries for
+/// which there is room.
+#[derive(Drop)]
+pub struct Site {
+    own: OwnRound,
+    deltas: Database,
+    segment: Segment,
+}
+
+impl Model for Site {
+    ghost use Rattle.std.specs.Coded.{codes};
+    ghost use Rattle.homeo_syntax.specs.contracts.workload.Workload as workload;
+    ghost use Rattle.homeo_site.specs.SiteView.{SiteValue};
+    ghost use Rattle.homeo_site.specs.inner.Standing.{IsSite, state_in};
+
+    ghost Value = { SiteValue };
+
+    ghost coded = { Prim.hlevel (codes, workload.the_row.coded) };
+
+    ghost view = { λ s. record {
+      work = s.own.work;
+      state = state_in s.own s.deltas.items s.segment;
+      spare = s.segment.entries.spare;
+    } };
+
+    ghost invariant = { λ s. IsSite s.own s.deltas.items s.segment };
+}
+
+impl Site {
+    /// The site as it begins a round: its deltas are 0, and its segment is empty. It takes no memory.
+    pub fn begin(start: SiteStart) -> Site
+        ensures { result ≡ record { work = start.work; state = begun start.number start.round start.base; spare = 0 } }
+    {
+        let SiteStart {
+            own,
+            deltas,
+            segment,
+        } = start;
+        Site {
+            own,
+            deltas,
+            segment,
+        }
+    }
+
+    /// The number of the site, from 0.
+    pub fn number(&self) -> u32
+        ensures { result ≡ self.now.state.number }
+    {
+        self.own.number()
+    }
+
+    /// The number of the round, from 0.
+    pub fn round(&self) -> u64
+        ensures { result ≡ self.now.state.round }
+    {
+        self.own.round()
+    }
+
+    /// The site's delta of an object, which must be one of the workload's.
+    pub fn delta(&self, object: u32) -> i64
+        requires { object < length self.now.state.deltas }
+        ensures { result ≡ slice_index_or self.now.state.deltas object (pos 0) }
+    {
+        self.deltas.as_slice()[object as usize]
+    }
+
+    /// Lends the segment: the entries of the calls that the site ran in this round, in their order.
+    pub fn segment(&self) -> &Segment
+        ensures segment { plain_segment result.now ≡ self.now.state.segment }
+        ensures holds { SiteHolds (plain_workload self.now.work) self.now.state }
+    {
+        &self.segment
+    }
+
+    /// Gives the segment. It takes no memory.
+    pub fn into_segment(self) -> Segment
+        ensures { plain_segment result ≡ self.state.segment }
+    {
+        self.segment
+    }
+
+    /// Goes on to the round of a start, and gives the segment of the round before. It takes no memory.
+    pub fn renew(&mut self, start: SiteStart) -> Segment
+        ensures state { self.new ≡ record { work = start.work; state = begun start.number start.round start.base; spare = 0 } }
+        ensures segment { plain_segment result ≡ self.old.state.segment }
+    {
+        let before = mem::replace(self, Site::begin(start));
+        before.into_segment()
+    }
+
+    /// Takes room for an attempt of a call, and for so many copies of its prints: all the memory that the attempt, a commit
+    /// of its change, and the copies need. The call must be one of a client of this site.
+    ///
+    /// # Errors
+    ///
+    /// `Memory` when out of memory. Nothing changes, whatever the answer, but that the spare may grow.
+    pub fn room(
+        &mut self,
+        alloc: Global,
+        call: CallId,
+        copies: u32,
+    ) -> Result<(Room, List<Prints>), Memory>
+        requires { IsCallAt (plain_workload self.old.work) self.old.state.number call }
+        ensures state { self.new ≡ record self.old { spare = self.new.spare } }
+        ensures room { IfOk result (λ r. IsRoom (plain_workload self.old.work) self.old.state call r.0) }
+        ensures count { IfOk result (λ r. length r.1.items ≡ copies) }
+        ensures copies { IfOk result (λ r. All (IsEmptyCopy (plain_workload self.old.work) self.old.state call) r.1.items) }
+        ensures spare { OnOk result (1 ≤ self.new.spare) }
+    {
+        let own = self.own.call(call);
+        let count = u64::from(own.program.prints);
+        let temporaries = vec![in alloc; 0; own.program.temporaries as usize]?;
+        let deltas = Vec::from_slice(alloc, self.deltas.as_slice())?;
+        let prints = empty_prints(alloc, count)?;
+        let lists = empty_copies(alloc, copies, count)?;
+        self.segment.entries.reserve(1)?;
+        let room = Room {
+            call,
+            deltas: List::from_vec(deltas),
+            prints,
+            temporaries: List::from_vec(temporaries),
+        };
+        Ok((room, lists))
+    }
+}
