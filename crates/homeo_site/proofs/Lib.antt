@@ -11,6 +11,7 @@ pub mod OwnRuns
 pub mod OwnSums
 pub mod OwnTerms
 pub mod PlanCalls
+pub mod SiteViews
 pub mod SitesHold
 pub mod StepFindings
 pub mod StepsRun

@@ -3,8 +3,8 @@
 #![tactic(auto)]
 
 mod attempts;
-mod copies;
 pub mod laws;
+mod lists;
 mod own_calls;
 mod own_round;
 mod own_treaty;

@@ -8,7 +8,7 @@ ghost use Rattle.homeo_site.specs.Attempts.{IsChange, IsOutcome, IsRoom, IsEmpty
 ghost use Rattle.homeo_site.specs.SiteState.{SiteHolds, after_local, begun};
 
 use crate::attempts::{Change, Outcome, Room};
-use crate::copies::{copy_to_all, empty_copies, empty_prints};
+use crate::lists::{copy_to_all, empty_copies, empty_prints, zeros};
 use crate::own_round::OwnRound;
 use crate::start::SiteStart;
 use homeo_history::{Entry, Segment};
@@ -131,7 +131,7 @@ impl Site {
     {
         let own = self.own.call(call);
         let count = u64::from(own.program.prints);
-        let temporaries = vec![in alloc; 0; own.program.temporaries as usize]?;
+        let temporaries = zeros(alloc, own.program.temporaries as usize)?;
         let deltas = Vec::from_slice(alloc, self.deltas.as_slice())?;
         let prints = empty_prints(alloc, count)?;
         let lists = empty_copies(alloc, copies, count)?;
@@ -140,8 +140,86 @@ impl Site {
             call,
             deltas: List::from_vec(deltas),
             prints,
-            temporaries: List::from_vec(temporaries),
+            temporaries,
         };
         Ok((room, lists))
+    }
+
+    /// Runs a call of one of the site's clients on the site's deltas, in its room, and says whether the site's treaty holds
+    /// afterwards: with the change, or with what fails first, of all clauses and then of all freezes. Where it holds, the
+    /// prints are copied into each list of `answers`. It takes no memory, and changes nothing of the site.
+    ///
+    /// The room, the answers and the site's spare must be as `room` leaves them for this call on the site's present state.
+    pub fn attempt_in(&self, call: CallId, room: Room, answers: &mut List<Prints>) -> Outcome
+        requires call { IsCallAt (plain_workload self.now.work) self.now.state.number call }
+        requires room { IsRoom (plain_workload self.now.work) self.now.state call room }
+        requires answers { All (IsEmptyCopy (plain_workload self.now.work) self.now.state call) answers.old.items }
+        requires spare { 1 ≤ self.now.spare }
+        ensures outcome { IsOutcome (plain_workload self.now.work) self.now.state call result }
+        ensures count { length answers.new.items ≡ length answers.old.items }
+        ensures answers { All (λ copy. copy.items ≡ copied_prints result) answers.new.items }
+    {
+        let Room {
+            call: _,
+            deltas,
+            mut prints,
+            temporaries,
+        } = room;
+        let mut deltas = deltas.into_vec();
+        let mut temporaries = temporaries.into_vec();
+        let failure = self.own.run(
+            call,
+            deltas.as_mut_slice(),
+            temporaries.as_mut_slice(),
+            &mut prints,
+        );
+        match failure {
+            Some(broken) => Outcome::Breaks(broken),
+            None => {
+                copy_to_all(*deltas.allocator(), prints.as_slice(), answers);
+                Outcome::Keeps(Change {
+                    call,
+                    deltas: List::from_vec(deltas),
+                    prints,
+                })
+            }
+        }
+    }
+
+    /// Runs a call of one of the site's clients on the site's deltas, and says whether the site's treaty holds afterwards:
+    /// `room` with no copies, and then `attempt_in`.
+    ///
+    /// # Errors
+    ///
+    /// `Memory` when out of memory. Nothing changes, whatever the answer, but that the spare may grow.
+    pub fn attempt(&mut self, alloc: Global, call: CallId) -> Result<Outcome, Memory>
+        requires { IsCallAt (plain_workload self.old.work) self.old.state.number call }
+        ensures state { self.new ≡ record self.old { spare = self.new.spare } }
+        ensures outcome { IfOk result (IsOutcome (plain_workload self.old.work) self.old.state call) }
+        ensures spare { OnOk result (1 ≤ self.new.spare) }
+    {
+        let (room, mut copies) = self.room(alloc, call, 0)?;
+        Ok(self.attempt_in(call, room, &mut copies))
+    }
+
+    /// Makes the change: the deltas become those of the change, and the segment gets its entry. The change must be what the
+    /// call's local step gives on the site's present state, and keep the treaty; the spare must be at least 1. It takes no
+    /// memory.
+    pub fn commit(&mut self, change: Change)
+        requires call { IsCallAt (plain_workload self.old.work) self.old.state.number change.call }
+        requires change { IsChange (plain_workload self.old.work) self.old.state change.call change }
+        requires spare { 1 ≤ self.old.spare }
+        ensures { self.new ≡ record self.old {
+          state = after_local (plain_workload self.old.work) self.old.state change.call;
+          spare = self.old.spare - 1;
+        } }
+    {
+        let Change {
+            call,
+            deltas,
+            prints,
+        } = change;
+        self.deltas = deltas;
+        let _ = self.segment.entries.push(Entry { call, prints });
     }
 }
