@@ -11,6 +11,7 @@ pub mod OwnRuns
 pub mod OwnSums
 pub mod OwnTerms
 pub mod PlanCalls
+pub mod SiteAttempts
 pub mod SiteViews
 pub mod SitesHold
 pub mod StepFindings
