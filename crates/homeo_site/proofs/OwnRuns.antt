@@ -1,11 +1,11 @@
 -- A site's run of what it keeps for a call is the call's local step.
-use Rattle.std.proofs.Common.{◌≡◌, ℕ, zero, suc, ◌+◌, ◌<◌, ◌≤◌, true, List, [], ◌∷◌, length, get_or, ℤ, pos, All, refl, sym, ap, ap₂, ◌∙◌, subst, arith}
+use Rattle.std.proofs.Common.{◌≡◌, ℕ, suc, ◌+◌, ◌<◌, ◌≤◌, true, List, [], ◌∷◌, length, get_or, ℤ, pos, All, refl, sym, ap, ap₂, ◌∙◌, subst, arith}
 use mathlib.Core.Path.{fun_ext}
 use Rattle.homeo_syntax.specs.Source as s
 use Rattle.homeo_meaning.specs.Key.{words as meaning_words}
 use Rattle.homeo_meaning.specs.declared.call.CallId.{CallId}
 use Rattle.homeo_meaning.specs.Acceptance.{IsAccepted}
-use Rattle.homeo_meaning.specs.LowMeaning.{Run, DeltaAt, exec_all}
+use Rattle.homeo_meaning.specs.LowMeaning.{DeltaAt, exec_all}
 use Rattle.homeo_meaning.specs.Serial.{values_of, values_from, database_like}
 use Rattle.homeo_plan.specs.Key.{words as plan_words}
 use Rattle.homeo_plan.specs.Joined.{Deltas, alone}
@@ -74,66 +74,66 @@ module _
     (o : OwnCall)
     (own : IsOwnCall (template_at w x.base) (values_of x.base) x.number (length x.base) (step_commands w x call) o)
   where
-  abbrev t : Template
-  t = template_at w x.base
+    abbrev t : Template
+    t = template_at w x.base
 
-  pub can_run : (kept : List ℤ) → can_exec_all limit (plain_program o.program) (own_state o.program.site x.deltas kept) ≡ true
-  unfolding words
-  can_run kept =
-      subst (λ i. can_exec_all limit (plain_program o.program) (own_state i x.deltas kept) ≡ true) (sym own.program.site)
-      (own.program.small x.deltas kept (step_runs w x accepted ready call at))
+    pub can_run : (kept : List ℤ) → can_exec_all limit (plain_program o.program) (own_state o.program.site x.deltas kept) ≡ true
+    unfolding words
+    can_run kept =
+        subst (λ i. can_exec_all limit (plain_program o.program) (own_state i x.deltas kept) ≡ true) (sym own.program.site)
+        (own.program.small x.deltas kept (step_runs w x accepted ready call at))
 
-  pub clause_numbers : All (λ n. n < length t.clauses) o.clauses.items
-  unfolding effect_words
-  clause_numbers =
-      subst (λ ns. All (λ n. n < length t.clauses) ns) (sym own.clauses)
-      (λ k d lt. let h = within_numbers (is_touched (written (step_commands w x call))) 0 t.clauses k d lt in omega (arith, h.1))
+    pub clause_numbers : All (λ n. n < length t.clauses) o.clauses.items
+    unfolding effect_words
+    clause_numbers =
+        subst (λ ns. All (λ n. n < length t.clauses) ns) (sym own.clauses)
+        (λ k d lt. let h = within_numbers (is_touched (written (step_commands w x call))) 0 t.clauses k d lt in omega (arith, h.1))
 
-  pub freeze_numbers : All (λ n. (length t.clauses ≤ n) × (n < length t.clauses + length t.freezes)) o.freezes.items
-  unfolding effect_words
-  freeze_numbers =
-      subst (λ ns. All (λ n. (length t.clauses ≤ n) × (n < length t.clauses + length t.freezes)) ns) (sym own.freezes)
-      (within_numbers (is_among (written (step_commands w x call))) (length t.clauses) t.freezes)
+    pub freeze_numbers : All (λ n. (length t.clauses ≤ n) × (n < length t.clauses + length t.freezes)) o.freezes.items
+    unfolding effect_words
+    freeze_numbers =
+        subst (λ ns. All (λ n. (length t.clauses ≤ n) × (n < length t.clauses + length t.freezes)) ns) (sym own.freezes)
+        (within_numbers (is_among (written (step_commands w x call))) (length t.clauses) t.freezes)
 
-  pub run_prints :
-      (kept : List ℤ) → (exec_all (plain_program o.program) (own_state o.program.site x.deltas kept)).prints ≡ step_prints w x call
-  run_prints kept =
-      ap (λ i. (exec_all (plain_program o.program) (own_state i x.deltas kept)).prints) own.program.site
-      ∙ own.program.same_prints x.deltas kept ∙ prints_are w x call at
+    pub run_prints :
+        (kept : List ℤ) → (exec_all (plain_program o.program) (own_state o.program.site x.deltas kept)).prints ≡ step_prints w x call
+    run_prints kept =
+        ap (λ i. (exec_all (plain_program o.program) (own_state i x.deltas kept)).prints) own.program.site
+        ∙ own.program.same_prints x.deltas kept ∙ prints_are w x call at
 
-  -- the deltas that a run leaves
-  module _
-      (kept new : List ℤ) (count : length new ≡ length x.deltas)
-      (left : (n : ℕ) → values_of new n ≡
+    -- the deltas that a run leaves
+    module _
+        (kept new : List ℤ) (count : length new ≡ length x.deltas)
+        (left : (n : ℕ) → values_of new n ≡
         (exec_all (plain_program o.program) (own_state o.program.site x.deltas kept)).state (DeltaAt n o.program.site))
-    where
-    values_are : (n : ℕ) → values_of new n ≡ step_values w x call n
-    values_are n =
-        left n
-        ∙ ap (λ i. (exec_all (plain_program o.program) (own_state i x.deltas kept)).state (DeltaAt n i)) own.program.site
-        ∙ own.program.same_deltas x.deltas kept n ∙ deltas_are w x call at n
+      where
+        values_are : (n : ℕ) → values_of new n ≡ step_values w x call n
+        values_are n =
+            left n
+            ∙ ap (λ i. (exec_all (plain_program o.program) (own_state i x.deltas kept)).state (DeltaAt n i)) own.program.site
+            ∙ own.program.same_deltas x.deltas kept n ∙ deltas_are w x call at n
 
-    pub run_deltas : new ≡ step_deltas w x call
-    unfolding words
-    run_deltas = list_is x.base new (step_values w x call) (count ∙ ready.count) values_are
+        pub run_deltas : new ≡ step_deltas w x call
+        unfolding words
+        run_deltas = list_is x.base new (step_values w x call) (count ∙ ready.count) values_are
 
-    all_values : values_of new ≡ step_values w x call
-    all_values = fun_ext values_are
+        all_values : values_of new ≡ step_values w x call
+        all_values = fun_ext values_are
 
-    pub run_fits : All (λ (c : OwnClause). SumsFit c.terms (values_of new)) (own_clauses x.number t.clauses (policy w x.base))
-    run_fits =
-        subst (λ (y : Deltas). All (λ (c : OwnClause). SumsFit c.terms y) (own_clauses x.number t.clauses (policy w x.base))) (sym all_values)
-        (own_clauses_fit w x.base x.number (step_values w x call) accepted ready.within (after_within w x accepted ready call at) (policy w x.base))
+        pub run_fits : All (λ (c : OwnClause). SumsFit c.terms (values_of new)) (own_clauses x.number t.clauses (policy w x.base))
+        run_fits =
+            subst (λ (y : Deltas). All (λ (c : OwnClause). SumsFit c.terms y) (own_clauses x.number t.clauses (policy w x.base))) (sym all_values)
+            (own_clauses_fit w x.base x.number (step_values w x call) accepted ready.within (after_within w x accepted ready call at) (policy w x.base))
 
-    pub run_finding :
-        first_of (first_failure (own_failure (own_clauses x.number t.clauses (policy w x.base)) (values_of new)) o.clauses.items)
-        (first_failure (own_freeze_failure (length t.clauses) x.number t.freezes (values_of new)) o.freezes.items) ≡ step_finding w x call
-    unfolding words
-    run_finding =
-        ap
-        (λ (y : Deltas). first_of (first_failure (own_failure (own_clauses x.number t.clauses (policy w x.base)) y) o.clauses.items)
-        (first_failure (own_freeze_failure (length t.clauses) x.number t.freezes y) o.freezes.items)) all_values
-        ∙ ap₂
-        (λ (ns ms : List ℕ). first_of (first_failure (own_failure (own_clauses x.number t.clauses (policy w x.base)) (step_values w x call)) ns)
-        (first_failure (own_freeze_failure (length t.clauses) x.number t.freezes (step_values w x call)) ms)) own.clauses own.freezes
-        ∙ touched_finding w x ready call at
+        pub run_finding :
+            first_of (first_failure (own_failure (own_clauses x.number t.clauses (policy w x.base)) (values_of new)) o.clauses.items)
+            (first_failure (own_freeze_failure (length t.clauses) x.number t.freezes (values_of new)) o.freezes.items) ≡ step_finding w x call
+        unfolding words
+        run_finding =
+            ap
+            (λ (y : Deltas). first_of (first_failure (own_failure (own_clauses x.number t.clauses (policy w x.base)) y) o.clauses.items)
+            (first_failure (own_freeze_failure (length t.clauses) x.number t.freezes y) o.freezes.items)) all_values
+            ∙ ap₂
+            (λ (ns ms : List ℕ). first_of (first_failure (own_failure (own_clauses x.number t.clauses (policy w x.base)) (step_values w x call)) ns)
+            (first_failure (own_freeze_failure (length t.clauses) x.number t.freezes (step_values w x call)) ms)) own.clauses own.freezes
+            ∙ touched_finding w x ready call at

@@ -1,9 +1,8 @@
 -- The residuals of a plan are those of the planned calls, and each can be kept for its site.
-use Rattle.std.proofs.Common.{◌≡◌, ◌≢◌, ℕ, zero, suc, ◌+◌, ◌<◌, ◌≤◌, true, List, [], ◌∷◌, ◌++◌, map, length, get_or, take, ℤ, Option, Some, None, refl, sym, ap, ◌∙◌, subst, inl, inr, arith}
+use Rattle.std.proofs.Common.{◌≡◌, ℕ, zero, suc, ◌+◌, ◌<◌, ◌≤◌, true, List, [], ◌∷◌, ◌++◌, map, length, get_or, take, ℤ, Option, Some, None, refl, sym, ap, ◌∙◌, subst, inl, inr, arith}
 use Rattle.std.specs.List.{AllZip}
 use Rattle.std.proofs.lemmas.List.{take_more, length-map}
 use Rattle.std.proofs.lemmas.Slice.Zip.{all_zipped_more}
-use Rattle.homeo_syntax.specs.Low.{Commands}
 use Rattle.homeo_syntax.specs.Source as s
 use Rattle.homeo_meaning.specs.Acceptance.{IsAccepted}
 use Rattle.homeo_meaning.specs.LowMeaning.{whole}
@@ -20,7 +19,7 @@ use Rattle.homeo_plan.proofs.Covering.{each_member}
 use Rattle.homeo_plan.proofs.PlannedCalls.{all_sites_below}
 use Rattle.homeo_split.specs.CanExec.{limit, can_exec_all}
 use Rattle.homeo_build.specs.Key.{words as build_words}
-use Rattle.homeo_build.specs.Plan.{SitedResidual, sited_residual, residual_at, residuals_at, IsPlanOf}
+use Rattle.homeo_build.specs.Plan.{SitedResidual, sited_residual, residual_at, IsPlanOf}
 use Rattle.homeo_effect.specs.Touched.{written, WritesOwn}
 use Rattle.homeo_site.specs.Key.{words}
 use Rattle.homeo_site.specs.declared.own_calls.OwnCall.{OwnCall}
@@ -93,14 +92,14 @@ can_keep w p n r accepted plan h =
     record {
       straight = subst IsStraight same (residual_straight w base h.call h.member);
       own =
-        subst (λ j. WritesOwn j (plain_residual r)) (site_is w base h.call r h.is)
-        (subst (WritesOwn h.call.site) same (writes_own w base h.call h.member));
+          subst (λ j. WritesOwn j (plain_residual r)) (site_is w base h.call r h.is)
+          (subst (WritesOwn h.call.site) same (writes_own w base h.call h.member));
       small =
-        subst (λ cs. can_exec_all limit cs (whole (values_of base)) ≡ true) same
-        (base_runs w base h.call accepted plan.within h.member below);
+          subst (λ cs. can_exec_all limit cs (whole (values_of base)) ≡ true) same
+          (base_runs w base h.call accepted plan.within h.member below);
       objects =
-        subst (λ cs. Each (λ d. d.object < length base) (written cs)) same
-        (writes_objects w base h.call h.member accepted plan.within);
+          subst (λ cs. Each (λ d. d.object < length base) (written cs)) same
+          (writes_objects w base h.call h.member accepted plan.within);
     }
 
 -- ---- what is kept for it

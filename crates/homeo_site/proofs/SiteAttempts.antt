@@ -1,17 +1,16 @@
 -- An attempt at a site is the call's local step on the site's state, and a commit of its change is the state after it.
-use Rattle.std.proofs.Common.{◌≡◌, ℕ, zero, suc, ◌+◌, ◌-◌, ◌<◌, ◌≤◌, List, [], ◌∷◌, ◌++◌, map, length, get_or, take, replicate, ℤ, pos, All, Option, Some, None, Ok, Err, Result, refl, sym, ap, ap₂, ◌∙◌, subst, arith, length-append}
+use Rattle.std.proofs.Common.{◌≡◌, ℕ, zero, suc, ◌-◌, ◌≤◌, List, [], ◌∷◌, ◌++◌, map, length, get_or, take, replicate, ℤ, pos, All, None, Ok, Err, Result, refl, sym, ap, ◌∙◌, subst, arith}
 use Rattle.std.specs.Prelude.{IsOk, OnOk}
 use Rattle.std.proofs.lemmas.Bool.{false≢true}
 use Rattle.std.proofs.Math.Seq.{take-append_seam}
 use Rattle.std.proofs.lemmas.List.{map-append}
 use Rattle.homeo_syntax.specs.Listed.{Listed}
-use Rattle.homeo_syntax.specs.Low.{Command, Commands, Skip, Assign, Write, Print, Seq, If, NoCommand, MoreCommand}
+use Rattle.homeo_syntax.specs.Low.{Commands, Skip, Assign, Write, Print, Seq, If, NoCommand, MoreCommand}
 use Rattle.homeo_syntax.specs.Source as s
 use Rattle.homeo_syntax.specs.SourceView.{plain_workload}
 use Rattle.homeo_meaning.specs.Key.{words as meaning_words}
 use Rattle.homeo_meaning.specs.declared.call.CallId.{CallId}
 use Rattle.homeo_meaning.specs.LowMeaning.{State, exec, exec_all}
-use Rattle.homeo_meaning.specs.Serial.{values_of}
 use Rattle.homeo_plan.specs.Key.{words as plan_words}
 use Rattle.homeo_plan.specs.Needs.{IsStraight}
 use Rattle.homeo_plan.specs.Planned.{planned_at, template_at, policy}
@@ -34,7 +33,7 @@ use Rattle.homeo_site.specs.inner.Ready.{IsReady, with_deltas}
 use Rattle.homeo_site.specs.inner.Standing.{IsSite, state_in}
 use Rattle.homeo_site.proofs.LocalSteps.{ready}
 use Rattle.homeo_site.proofs.SitesHold.{local_holds}
-use Rattle.homeo_site.proofs.SiteViews.{value_in, with_spare}
+use Rattle.homeo_site.proofs.SiteViews.{value_in}
 use Rattle.homeo_site.proofs.StepFindings.{residual_straight}
 
 -- ---- how many numbers a call prints
@@ -60,60 +59,60 @@ module _
     (v : StartValue) (x : List ℤ) (s : Segment) (u : SiteValue) (is : value_in v x s ≡ u) (d : List ℤ) (here : d ≡ u.state.deltas)
     (call : CallId)
   where
-  same_deltas : d ≡ x
-  same_deltas = here ∙ sym (ap (λ (y : SiteValue). y.state.deltas) is)
+    same_deltas : d ≡ x
+    same_deltas = here ∙ sym (ap (λ (y : SiteValue). y.state.deltas) is)
 
-  pub ready_here : IsSite v x s → IsReady (plain_workload v.work) (with_deltas v d)
-  ready_here site =
-      let r = ready (plain_workload v.work) (state_in v x s) site.accepted site.holds in
-      subst (λ (y : List ℤ). IsReady (plain_workload v.work) (with_deltas v y)) (sym same_deltas)
-      (record { site = r.site; within = r.within; count = r.count; meets = r.meets; all = r.all })
+    pub ready_here : IsSite v x s → IsReady (plain_workload v.work) (with_deltas v d)
+    ready_here site =
+        let r = ready (plain_workload v.work) (state_in v x s) site.accepted site.holds in
+        subst (λ (y : List ℤ). IsReady (plain_workload v.work) (with_deltas v y)) (sym same_deltas)
+        (record { site = r.site; within = r.within; count = r.count; meets = r.meets; all = r.all })
 
-  pub commands_here : step_commands (plain_workload v.work) (with_deltas v d) call ≡ step_commands (plain_workload u.work) u.state call
-  unfolding words
-  commands_here = ap (λ (y : SiteValue). step_commands (plain_workload y.work) y.state call) is
+    pub commands_here : step_commands (plain_workload v.work) (with_deltas v d) call ≡ step_commands (plain_workload u.work) u.state call
+    unfolding words
+    commands_here = ap (λ (y : SiteValue). step_commands (plain_workload y.work) y.state call) is
 
-  pub finding_here : step_finding (plain_workload v.work) (with_deltas v d) call ≡ step_finding (plain_workload u.work) u.state call
-  unfolding words
-  finding_here =
-      ap (λ (y : List ℤ). step_finding (plain_workload v.work) (with_deltas v y) call) same_deltas
-      ∙ ap (λ (y : SiteValue). step_finding (plain_workload y.work) y.state call) is
+    pub finding_here : step_finding (plain_workload v.work) (with_deltas v d) call ≡ step_finding (plain_workload u.work) u.state call
+    unfolding words
+    finding_here =
+        ap (λ (y : List ℤ). step_finding (plain_workload v.work) (with_deltas v y) call) same_deltas
+        ∙ ap (λ (y : SiteValue). step_finding (plain_workload y.work) y.state call) is
 
-  pub deltas_here : step_deltas (plain_workload v.work) (with_deltas v d) call ≡ step_deltas (plain_workload u.work) u.state call
-  unfolding words
-  deltas_here =
-      ap (λ (y : List ℤ). step_deltas (plain_workload v.work) (with_deltas v y) call) same_deltas
-      ∙ ap (λ (y : SiteValue). step_deltas (plain_workload y.work) y.state call) is
+    pub deltas_here : step_deltas (plain_workload v.work) (with_deltas v d) call ≡ step_deltas (plain_workload u.work) u.state call
+    unfolding words
+    deltas_here =
+        ap (λ (y : List ℤ). step_deltas (plain_workload v.work) (with_deltas v y) call) same_deltas
+        ∙ ap (λ (y : SiteValue). step_deltas (plain_workload y.work) y.state call) is
 
-  pub prints_here : step_prints (plain_workload v.work) (with_deltas v d) call ≡ step_prints (plain_workload u.work) u.state call
-  unfolding words
-  prints_here =
-      ap (λ (y : List ℤ). step_prints (plain_workload v.work) (with_deltas v y) call) same_deltas
-      ∙ ap (λ (y : SiteValue). step_prints (plain_workload y.work) y.state call) is
+    pub prints_here : step_prints (plain_workload v.work) (with_deltas v d) call ≡ step_prints (plain_workload u.work) u.state call
+    unfolding words
+    prints_here =
+        ap (λ (y : List ℤ). step_prints (plain_workload v.work) (with_deltas v y) call) same_deltas
+        ∙ ap (λ (y : SiteValue). step_prints (plain_workload y.work) y.state call) is
 
-  pub enough_temporaries :
-      (ts : List ℤ) → ts ≡ replicate (assignment_count (step_commands (plain_workload u.work) u.state call)) (pos 0) →
-      assignment_count (step_commands (plain_workload v.work) (with_deltas v d) call) ≤ length ts
-  enough_temporaries ts zeros =
-      let count : length ts ≡ assignment_count (step_commands (plain_workload u.work) u.state call) = ap length zeros ∙ zeros_count _ in
-      let same : assignment_count (step_commands (plain_workload v.work) (with_deltas v d) call) ≡
-      assignment_count (step_commands (plain_workload u.work) u.state call) = ap assignment_count commands_here in
-      omega (arith, count, same)
-    where
-      zeros_count : (n : ℕ) → length (replicate n (pos 0)) ≡ n
-      zeros_count zero = refl
-      zeros_count (suc n) = ap suc (zeros_count n)
+    pub enough_temporaries :
+        (ts : List ℤ) → ts ≡ replicate (assignment_count (step_commands (plain_workload u.work) u.state call)) (pos 0) →
+        assignment_count (step_commands (plain_workload v.work) (with_deltas v d) call) ≤ length ts
+    enough_temporaries ts zeros =
+        let count : length ts ≡ assignment_count (step_commands (plain_workload u.work) u.state call) = ap length zeros ∙ zeros_count _ in
+        let same : assignment_count (step_commands (plain_workload v.work) (with_deltas v d) call) ≡
+        assignment_count (step_commands (plain_workload u.work) u.state call) = ap assignment_count commands_here in
+        omega (arith, count, same)
+      where
+        zeros_count : (n : ℕ) → length (replicate n (pos 0)) ≡ n
+        zeros_count zero = refl
+        zeros_count (suc n) = ap suc (zeros_count n)
 
-  pub enough_spare :
-      (spare : ℕ) → print_count (step_commands (plain_workload u.work) u.state call) ≤ spare →
-      print_count (step_commands (plain_workload v.work) (with_deltas v d) call) ≤ spare
-  enough_spare spare h = subst (λ cs. print_count cs ≤ spare) (sym commands_here) h
+    pub enough_spare :
+        (spare : ℕ) → print_count (step_commands (plain_workload u.work) u.state call) ≤ spare →
+        print_count (step_commands (plain_workload v.work) (with_deltas v d) call) ≤ spare
+    enough_spare spare h = subst (λ cs. print_count cs ≤ spare) (sym commands_here) h
 
-  -- what is printed, from a list without prints
-  pub all_prints :
-      (old new : List ℤ) → old ≡ [] → new ≡ old ++ step_prints (plain_workload v.work) (with_deltas v d) call →
-      new ≡ step_prints (plain_workload u.work) u.state call
-  all_prints old new none e = e ∙ ap (λ ps. ps ++ step_prints (plain_workload v.work) (with_deltas v d) call) none ∙ prints_here
+    -- what is printed, from a list without prints
+    pub all_prints :
+        (old new : List ℤ) → old ≡ [] → new ≡ old ++ step_prints (plain_workload v.work) (with_deltas v d) call →
+        new ≡ step_prints (plain_workload u.work) u.state call
+    all_prints old new none e = e ∙ ap (λ ps. ps ++ step_prints (plain_workload v.work) (with_deltas v d) call) none ∙ prints_here
 
 pub copies_fit :
     (u : SiteValue) (call : CallId) (prints : List ℤ) (copies : List (Listed ℤ)) → IsCallAt (plain_workload u.work) u.state.number call →
@@ -152,43 +151,43 @@ module _
     (e : Entry) (name : e.call ≡ call) (prints : e.prints.items ≡ step_prints (plain_workload u.work) u.state call)
     (deltas : d ≡ step_deltas (plain_workload u.work) u.state call) (entries : t.entries.items ≡ s.entries.items ++ e ∷ [])
   where
-  abbrev before : SiteState
-  before = state_in v x s
+    abbrev before : SiteState
+    before = state_in v x s
 
-  -- the state after the commit is that after the local step
-  committed : state_in v d t ≡ after_local (plain_workload v.work) before call
-  unfolding words history_words
-  committed =
-      let old_deltas : d ≡ step_deltas (plain_workload v.work) before call =
-      deltas ∙ sym (ap (λ (y : SiteValue). step_deltas (plain_workload y.work) y.state call) is) in
-      let old_prints : e.prints.items ≡ step_prints (plain_workload v.work) before call =
-      prints ∙ sym (ap (λ (y : SiteValue). step_prints (plain_workload y.work) y.state call) is) in
-      let entry : plain_entry e ≡ local_entry (plain_workload v.work) before call = λ j. record { call = name j; prints = old_prints j } in
-      let segment : plain_segment t ≡ plain_segment s ++ local_entry (plain_workload v.work) before call ∷ [] =
-      ap (map plain_entry) entries ∙ map-append plain_entry s.entries.items (e ∷ []) ∙ ap (λ (y : h.Entry). plain_segment s ++ y ∷ []) entry in
-      λ j. record { number = v.number; round = v.round; base = v.base; deltas = old_deltas j; segment = segment j }
+    -- the state after the commit is that after the local step
+    committed : state_in v d t ≡ after_local (plain_workload v.work) before call
+    unfolding words history_words
+    committed =
+        let old_deltas : d ≡ step_deltas (plain_workload v.work) before call =
+        deltas ∙ sym (ap (λ (y : SiteValue). step_deltas (plain_workload y.work) y.state call) is) in
+        let old_prints : e.prints.items ≡ step_prints (plain_workload v.work) before call =
+        prints ∙ sym (ap (λ (y : SiteValue). step_prints (plain_workload y.work) y.state call) is) in
+        let entry : plain_entry e ≡ local_entry (plain_workload v.work) before call = λ j. record { call = name j; prints = old_prints j } in
+        let segment : plain_segment t ≡ plain_segment s ++ local_entry (plain_workload v.work) before call ∷ [] =
+        ap (map plain_entry) entries ∙ map-append plain_entry s.entries.items (e ∷ []) ∙ ap (λ (y : h.Entry). plain_segment s ++ y ∷ []) entry in
+        λ j. record { number = v.number; round = v.round; base = v.base; deltas = old_deltas j; segment = segment j }
 
-  pub commit_holds :
-      IsSite v x s → IsCallAt (plain_workload u.work) u.state.number call → KeepsCall (plain_workload u.work) u.state call → IsSite v d t
-  commit_holds site at keeps =
-      record {
-        accepted = site.accepted;
-        holds =
-          subst (SiteHolds (plain_workload v.work)) (sym committed)
-          (local_holds (plain_workload v.work) before call site.accepted site.holds
-          (subst (λ (y : SiteValue). IsCallAt (plain_workload y.work) y.state.number call) (sym is) at)
-          (subst (λ (y : SiteValue). KeepsCall (plain_workload y.work) y.state call) (sym is) keeps));
-      }
+    pub commit_holds :
+        IsSite v x s → IsCallAt (plain_workload u.work) u.state.number call → KeepsCall (plain_workload u.work) u.state call → IsSite v d t
+    commit_holds site at keeps =
+        record {
+          accepted = site.accepted;
+          holds =
+              subst (SiteHolds (plain_workload v.work)) (sym committed)
+              (local_holds (plain_workload v.work) before call site.accepted site.holds
+              (subst (λ (y : SiteValue). IsCallAt (plain_workload y.work) y.state.number call) (sym is) at)
+              (subst (λ (y : SiteValue). KeepsCall (plain_workload y.work) y.state call) (sym is) keeps));
+        }
 
-  -- the value with a state
-  abbrev with_state : SiteValue → SiteState → ℕ → SiteValue
-  with_state y z n = record { work = y.work; state = z; spare = n }
+    -- the value with a state
+    abbrev with_state : SiteValue → SiteState → ℕ → SiteValue
+    with_state y z n = record { work = y.work; state = z; spare = n }
 
-  pub commit_value :
-      t.entries.spare ≡ s.entries.spare - 1 →
-      value_in v d t ≡ with_state u (after_local (plain_workload u.work) u.state call) (u.spare - 1)
-  commit_value spare =
-      let state = committed in
-      let here : value_in v d t ≡ with_state (value_in v x s) (after_local (plain_workload v.work) before call) (s.entries.spare - 1) =
-      λ j. record { work = v.work; state = state j; spare = spare j } in
-      here ∙ ap (λ (y : SiteValue). with_state y (after_local (plain_workload y.work) y.state call) (y.spare - 1)) is
+    pub commit_value :
+        t.entries.spare ≡ s.entries.spare - 1 →
+        value_in v d t ≡ with_state u (after_local (plain_workload u.work) u.state call) (u.spare - 1)
+    commit_value spare =
+        let state = committed in
+        let here : value_in v d t ≡ with_state (value_in v x s) (after_local (plain_workload v.work) before call) (s.entries.spare - 1) =
+        λ j. record { work = v.work; state = state j; spare = spare j } in
+        here ∙ ap (λ (y : SiteValue). with_state y (after_local (plain_workload y.work) y.state call) (y.spare - 1)) is

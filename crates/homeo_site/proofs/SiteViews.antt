@@ -1,19 +1,17 @@
 -- What contracts see of a site, from what its parts hold.
-use Rattle.std.proofs.Common.{◌≡◌, ℕ, ◌≤◌, List, [], map, replicate, ℤ, pos, All, refl, sym, ap, ◌∙◌, subst, arith}
+use Rattle.std.proofs.Common.{◌≡◌, ℕ, List, [], map, replicate, ℤ, pos, All, refl, sym, ap, ◌∙◌, subst, arith}
 use Rattle.std.proofs.lemmas.List.Elements.{All-replicate}
 use Rattle.homeo_syntax.specs.Listed.{Listed}
-use Rattle.homeo_syntax.specs.Low.{Commands}
 use Rattle.homeo_syntax.specs.SourceView.{plain_workload}
 use Rattle.homeo_meaning.specs.declared.call.CallId.{CallId}
 use Rattle.homeo_effect.specs.Counts.{assignment_count, print_count}
 use Rattle.homeo_history.specs.Key.{words as history_words}
-use Rattle.homeo_history.specs.History as h
 use Rattle.homeo_history.specs.HistoryView.{plain_entry, plain_segment}
 use Rattle.homeo_history.specs.declared.history.Entry.{Entry}
 use Rattle.homeo_history.specs.declared.history.Segment.{Segment}
 use Rattle.homeo_site.specs.Key.{words}
 use Rattle.homeo_site.specs.Attempts.{step_commands, IsRoom, IsEmptyCopy}
-use Rattle.homeo_site.specs.SiteState.{SiteState, SiteHolds, begun}
+use Rattle.homeo_site.specs.SiteState.{SiteHolds, begun}
 use Rattle.homeo_site.specs.SiteView.{StartValue, SiteValue}
 use Rattle.homeo_site.specs.declared.attempts.Room.{Room}
 use Rattle.homeo_site.specs.inner.Standing.{IsStart, IsSite, state_in}
@@ -38,8 +36,8 @@ start_is_site v x s is =
     record {
       accepted = is.accepted;
       holds =
-        subst (SiteHolds (plain_workload v.work)) (sym (begun_state v x s is))
-        (begun_holds (plain_workload v.work) v.number v.round v.base is.accepted is.site is.within);
+          subst (SiteHolds (plain_workload v.work)) (sym (begun_state v x s is))
+          (begun_holds (plain_workload v.work) v.number v.round v.base is.accepted is.site is.within);
     }
 
 pub start_value : (v u : StartValue) (x : List ℤ) (s : Segment) → IsStart v x s → v ≡ u → value_in v x s ≡ begun_value u
@@ -88,8 +86,8 @@ room_is v x s u call r temporaries prints is assigned printed name deltas empty 
       prints = ap (λ (l : Listed ℤ). l.items) empty;
       temporaries = zeros ∙ ap (λ n. replicate n (pos 0)) assigned;
       spare =
-        let spare : r.prints.spare ≡ prints = ap (λ (l : Listed ℤ). l.spare) empty in
-        omega (arith, spare, printed);
+          let spare : r.prints.spare ≡ prints = ap (λ (l : Listed ℤ). l.spare) empty in
+          omega (arith, spare, printed);
     })
 
 pub copies_are :

@@ -137,7 +137,13 @@ impl OwnRound {
         }
         let template = &self.plan.template;
         let count = template.clauses.as_slice().len();
-        first_freeze(template.freezes.as_slice(), count, own.freezes.as_slice(), self.site, deltas)
+        first_freeze(
+            template.freezes.as_slice(),
+            count,
+            own.freezes.as_slice(),
+            self.site,
+            deltas,
+        )
     }
 
     /// Runs a call of one of the site's clients on the site's deltas, and gives what fails first of the treaty afterwards. It

@@ -9,7 +9,7 @@ use Rattle.homeo_meaning.specs.Serial.{values_of}
 use Rattle.homeo_plan.specs.declared.round.RoundPlan.{RoundPlan}
 use Rattle.homeo_plan.specs.Each.{Each}
 use Rattle.homeo_plan.specs.Joined.{alone}
-use Rattle.homeo_plan.specs.Planned.{sites_of, planned, template_at}
+use Rattle.homeo_plan.specs.Planned.{sites_of, template_at}
 use Rattle.homeo_plan.specs.Template.{PlannedCall, base_row, Template}
 use Rattle.homeo_split.specs.CanExec.{limit, can_exec_all}
 use Rattle.homeo_build.specs.Plan.{IsPlanOf}

@@ -1,13 +1,11 @@
 -- What the program does is what the residual does at its site.
-use Rattle.std.proofs.Common.{◌≡◌, ◌<◌, length, sym, ap, ◌∙◌, subst}
+use Rattle.std.proofs.Common.{◌<◌, length, sym, ap, ◌∙◌, subst}
 use Rattle.homeo_meaning.specs.LowMeaning.{Run, DeltaAt}
 use Rattle.homeo_meaning.specs.Serial.{values_of}
 use Rattle.homeo_plan.specs.Each.{Each}
 use Rattle.homeo_plan.specs.PlanView.{plain_residual}
 use Rattle.homeo_effect.specs.Counts.{assignment_count, print_count}
-use Rattle.homeo_effect.specs.EffectsView.{plain_commands}
 use Rattle.homeo_effect.proofs.Counted.{localized_set, localized_print}
-use Rattle.homeo_site.specs.inner.OwnCalls.{RunsAs}
 use Rattle.homeo_site.proofs.own_calls.own_call.Goals as goal
 
 pub returns : goal.returns

@@ -1,5 +1,5 @@
 -- Each residual of the plan is that of a ground call, which the site keeps if it is its own.
-use Rattle.std.proofs.Common.{◌≡◌, Option, ap, ◌∙◌}
+use Rattle.std.proofs.Common.{Option, ap, ◌∙◌}
 use Rattle.homeo_syntax.specs.Listed.{Listed}
 use Rattle.homeo_site.specs.declared.own_calls.OwnCall.{OwnCall}
 use Rattle.homeo_site.proofs.PlanCalls.{plan_call, can_keep, kept_here, kept_elsewhere, one_more_kept, none_kept, all_kept}
@@ -50,14 +50,14 @@ loop-residual-preserved c work plan =
     let r = c.residual-item.result in
     let h = plan_call work c.args.plan.now c.as_slice-residual-items.result.now n r plan c.as_slice-residual-items.ensures c.loop-residual-test.true c.residual-item.is in
     elim c.if-residual-site.branch [
-    then-residual-site+in_ok-own_call+in_ok-push w ↦
-      one_more_kept work base c.args.site n r _ _ _ h (c.loop-residual.invariant work plan)
-      (kept_here work base c.args.site n r _ _ h (c.in_ok-index.ensures.template ∙ plan.template) w.if-residual-site.true w.in_ok-own_call.ensures)
-      (ap (λ (l : Listed (Option OwnCall)). l.items) (w.own-is ∙ w.in_ok-push.ensures.ok))
-    | else-residual-site+in_ok-push-2 w ↦
-      one_more_kept work base c.args.site n r _ _ _ h (c.loop-residual.invariant work plan)
-      (kept_elsewhere work base c.args.site n r h w.if-residual-site.false)
-      (ap (λ (l : Listed (Option OwnCall)). l.items) (w.own-is ∙ w.in_ok-push-2.ensures.ok))
+      | then-residual-site+in_ok-own_call+in_ok-push w ↦
+          one_more_kept work base c.args.site n r _ _ _ h (c.loop-residual.invariant work plan)
+          (kept_here work base c.args.site n r _ _ h (c.in_ok-index.ensures.template ∙ plan.template) w.if-residual-site.true w.in_ok-own_call.ensures)
+          (ap (λ (l : Listed (Option OwnCall)). l.items) (w.own-is ∙ w.in_ok-push.ensures.ok))
+      | else-residual-site+in_ok-push-2 w ↦
+          one_more_kept work base c.args.site n r _ _ _ h (c.loop-residual.invariant work plan)
+          (kept_elsewhere work base c.args.site n r h w.if-residual-site.false)
+          (ap (λ (l : Listed (Option OwnCall)). l.items) (w.own-is ∙ w.in_ok-push-2.ensures.ok))
     ]
 
 pub returns : goal.returns

@@ -1,5 +1,5 @@
 -- For each ground call so far the site keeps what it should, whatever workload the plan is of.
-use Rattle.std.proofs.Common.{◌≡◌, take}
+use Rattle.std.proofs.Common.{take}
 use Rattle.homeo_syntax.specs.Source.{Workload}
 use Rattle.homeo_plan.specs.Planned.{planned}
 use Rattle.homeo_build.specs.Plan.{IsPlanOf}

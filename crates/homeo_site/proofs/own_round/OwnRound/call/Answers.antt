@@ -1,5 +1,5 @@
 -- What is kept stands at the place of the call's ground call.
-use Rattle.std.proofs.Common.{◌≡◌, ◌<◌, length, get_or, slice_get, Option, Some, sym, subst}
+use Rattle.std.proofs.Common.{◌≡◌, ◌<◌, length, get_or, slice_get, sym, subst}
 use Rattle.homeo_syntax.specs.SourceView.{plain_workload}
 use Rattle.homeo_syntax.specs.declared.workload.Workload.{Workload}
 use Rattle.homeo_meaning.specs.Ground.{grounds, ground_of}
@@ -9,7 +9,6 @@ use Rattle.homeo_plan.specs.Template.{base_row}
 use Rattle.homeo_history.specs.Legal.{IsCallAt}
 use Rattle.homeo_site.specs.Key.{words}
 use Rattle.homeo_site.specs.SiteView.{StartValue}
-use Rattle.homeo_site.specs.declared.own_calls.OwnCall.{OwnCall}
 use Rattle.homeo_site.specs.inner.OwnCalls.{IsOwnCall, IsKeptFor}
 use Rattle.homeo_site.proofs.OwnLookups.{place_within, kept_at, not_lost}
 use Rattle.homeo_site.proofs.own_round.OwnRound.call.Goals as goal

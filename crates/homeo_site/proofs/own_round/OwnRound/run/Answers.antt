@@ -1,5 +1,5 @@
 -- The run of what is kept for a call is the call's local step.
-use Rattle.std.proofs.Common.{◌≡◌, ◌≤◌, ◌++◌, length, sym, ap, ◌∙◌, subst}
+use Rattle.std.proofs.Common.{◌≤◌, ◌++◌, length, sym, ap, ◌∙◌, subst}
 use Rattle.homeo_syntax.specs.SourceView.{plain_workload}
 use Rattle.homeo_site.specs.Key.{words}
 use Rattle.homeo_site.specs.inner.Ready.{with_deltas}

@@ -1,5 +1,5 @@
 -- The run on the room's deltas is the call's local step on the site's state.
-use Rattle.std.proofs.Common.{◌≡◌, ℤ, refl, sym, ap, ◌∙◌}
+use Rattle.std.proofs.Common.{ℤ, refl, sym, ap, ◌∙◌}
 use Rattle.homeo_syntax.specs.Listed.{Listed}
 use Rattle.homeo_site.specs.Key.{words}
 use Rattle.homeo_site.proofs.SiteAttempts.{ready_here, finding_here, deltas_here, enough_temporaries, enough_spare, all_prints, copies_fit, written_whole, change_is}

@@ -1,5 +1,5 @@
 -- The state after the commit is that after the call's local step.
-use Rattle.std.proofs.Common.{◌≡◌, ◌<◌, refl, ap, arith}
+use Rattle.std.proofs.Common.{◌<◌, refl, ap, arith}
 use Rattle.homeo_syntax.specs.Listed.{Listed}
 use Rattle.homeo_history.specs.declared.history.Entry.{Entry}
 use Rattle.homeo_site.specs.SiteView.{SiteValue}

@@ -1,6 +1,5 @@
 -- The segment keeps its entries, and there is room for what the call keeps and prints.
-use Rattle.std.proofs.Common.{◌≡◌, refl, sym, ap, ◌∙◌}
-use Rattle.homeo_syntax.specs.Listed.{Listed}
+use Rattle.std.proofs.Common.{refl, ap, ◌∙◌}
 use Rattle.homeo_site.specs.Key.{words}
 use Rattle.homeo_site.proofs.SiteViews.{still_site, spare_changed, room_is, copies_are}
 use Rattle.homeo_site.proofs.site.Site.room.Goals as goal
