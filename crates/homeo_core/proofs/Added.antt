@@ -1,9 +1,8 @@
 -- Deltas added to values one after another.
 use Rattle.homeo_core.specs.Key.{words}
-use Rattle.std.proofs.Common.{◌≡◌, ℕ, zero, suc, ◌+◌, ◌<◌, List, [], ◌∷◌, length, take, get_or, ℤ, pos, ◌+ℤ◌, refl, sym, ap, ap₂, ◌∙◌, subst, arith, slice_set, FitsSigned}
-use Rattle.std.specs.Prelude.{All, slice_index_or}
+use Rattle.std.proofs.Common.{◌≡◌, ℕ, zero, suc, ◌<◌, List, [], ◌∷◌, length, take, get_or, ℤ, pos, ◌+ℤ◌, refl, sym, ap, subst, arith, slice_set, FitsSigned}
+use Rattle.std.specs.Prelude.{All}
 use Rattle.std.specs.Int.{w64}
-use Rattle.std.proofs.lemmas.Int.{ints}
 use Rattle.homeo_core.specs.Joined.{plus_deltas}
 use Rattle.homeo_core.proofs.Gathered.{plus_length}
 

@@ -2,7 +2,7 @@
 use Rattle.homeo_syntax.specs.Key.{words as syntax}
 use Rattle.homeo_meaning.specs.Key.{words as meanings}
 use Rattle.homeo_history.specs.Key.{words as histories}
-use Rattle.std.proofs.Common.{◌≡◌, ℕ, zero, suc, ◌<◌, ◌≤◌, List, [], ◌∷◌, map, length, get_or, ℤ, pos, negsuc, ◌≤ℤ◌, ◌<ℤ◌, int_le, Bool, true, false, All, Option, Some, None, refl, sym, ap, subst, ◌∙◌, arith, to_z, of_z}
+use Rattle.std.proofs.Common.{◌≡◌, ℕ, zero, suc, ◌<◌, List, [], ◌∷◌, map, length, ℤ, pos, ◌≤ℤ◌, ◌<ℤ◌, int_le, Bool, true, false, All, Some, refl, sym, ap, subst, ◌∙◌, arith, to_z, of_z}
 use Rattle.std.specs.Prelude.{slice_get}
 use Rattle.std.specs.List.{flat_map}
 use Rattle.std.specs.Option.{option_map, option_map_or}
@@ -24,7 +24,7 @@ use Rattle.homeo_meaning.specs.NumberRules.{site_faults}
 use Rattle.homeo_meaning.specs.Schema.{nat_of}
 use Rattle.homeo_meaning.specs.declared.rules.Fault.{Fault}
 use Rattle.homeo_meaning.specs.declared.call.Purpose.TheVariants.{Run}
-use Rattle.homeo_meaning.proofs.FaultParts.{NoFault, none_second, parts, declared_parts}
+use Rattle.homeo_meaning.proofs.FaultParts.{none_second, parts, declared_parts}
 use Rattle.homeo_meaning.proofs.SoundRules.{each-none}
 use Rattle.homeo_plan.proofs.PlannedCalls.{KnownCall, known}
 use Rattle.homeo_build.proofs.FewSites.{few_sites}

@@ -1,16 +1,16 @@
 -- Sites that wait for their starts.
 use Rattle.homeo_core.specs.Key.{words}
-use Rattle.std.proofs.Common.{◌≡◌, ℕ, zero, suc, ◌+◌, Bool, true, false, List, [], ◌∷◌, ◌++◌, map, length, replicate, Option, Some, None, ℤ, refl, sym, ap, subst, ◌∙◌, arith, inl, inr}
+use Rattle.std.proofs.Common.{◌≡◌, ℕ, zero, suc, true, List, [], ◌∷◌, ◌++◌, map, length, replicate, Option, Some, None, ℤ, refl, sym, ap, subst, ◌∙◌, inl, inr}
 use Rattle.std.specs.Prelude.{slice_get, slice_index_or}
 use mathlib.Core.Logic.{⊎_elim}
 use Rattle.std.specs.Prelude.{◌⊎◌}
 use Rattle.std.proofs.lemmas.List.{map-append}
 use Rattle.homeo_syntax.specs.declared.workload.Workload.{Workload}
-use Rattle.homeo_site.specs.SiteView.{StartView}
+use Rattle.homeo_site.specs.SiteView.{StartValue}
 use Rattle.homeo_core.specs.inner.Starts.{start_after, AreStarts, waits}
 use Rattle.homeo_core.proofs.SitesOfClients.{same_length}
 
-pub no_start : (starts : List (Option StartView)) (n : ℕ) (d : Option StartView) → slice_get (map waits starts) n ≡ Some true → slice_index_or starts n d ≡ None → ⊥
+pub no_start : (starts : List (Option StartValue)) (n : ℕ) (d : Option StartValue) → slice_get (map waits starts) n ≡ Some true → slice_index_or starts n d ≡ None → ⊥
 unfolding words
 no_start [] n d w e = cc
 no_start (None ∷ starts) zero d w e = cc
@@ -22,13 +22,13 @@ pub no_starts : (w : Workload) (round : ℕ) (next : List ℤ) → AreStarts w r
 unfolding words
 no_starts w round next i s e = absurd (cc)
 
-at_end : (starts : List (Option StartView)) (o p : Option StartView) (i : ℕ) → slice_get (starts ++ o ∷ []) i ≡ Some p → (slice_get starts i ≡ Some p) ⊎ ((i ≡ length starts) × (o ≡ p))
+at_end : (starts : List (Option StartValue)) (o p : Option StartValue) (i : ℕ) → slice_get (starts ++ o ∷ []) i ≡ Some p → (slice_get starts i ≡ Some p) ⊎ ((i ≡ length starts) × (o ≡ p))
 at_end [] o p zero e = inr (refl, cc)
 at_end [] o p (suc i) e = absurd (cc)
 at_end (s ∷ starts) o p zero e = inl e
 at_end (s ∷ starts) o p (suc i) e = ⊎_elim (λ h. inl h) (λ h. inr (ap suc h.0, h.1)) (at_end starts o p i e)
 
-pub starts_more : (w : Workload) (round : ℕ) (next : List ℤ) (starts : List (Option StartView)) (s : StartView) → AreStarts w round next starts → s ≡ start_after w round next (length starts) → AreStarts w round next (starts ++ Some s ∷ [])
+pub starts_more : (w : Workload) (round : ℕ) (next : List ℤ) (starts : List (Option StartValue)) (s : StartValue) → AreStarts w round next starts → s ≡ start_after w round next (length starts) → AreStarts w round next (starts ++ Some s ∷ [])
 unfolding words
 starts_more w round next starts s all is i t e =
     ⊎_elim (λ h. all i t h) (λ h. last h.0 h.1) (at_end starts (Some s) (Some t) i e)
@@ -36,7 +36,7 @@ starts_more w round next starts s all is i t e =
     last : i ≡ length starts → Some s ≡ Some t → t ≡ start_after w round next i
     last q p = let same : s ≡ t = cc in subst (λ n. t ≡ start_after w round next n) (sym q) (sym same ∙ is)
 
-pub waiting_more : (starts : List (Option StartView)) (s : StartView) (n : ℕ) → map waits starts ≡ replicate n true → map waits (starts ++ Some s ∷ []) ≡ replicate (suc n) true
+pub waiting_more : (starts : List (Option StartValue)) (s : StartValue) (n : ℕ) → map waits starts ≡ replicate n true → map waits (starts ++ Some s ∷ []) ≡ replicate (suc n) true
 unfolding words
 waiting_more starts s n e = map-append waits starts (Some s ∷ []) ∙ ap (λ l. l ++ true ∷ []) e ∙ one_more n
   where
@@ -44,7 +44,7 @@ waiting_more starts s n e = map-append waits starts (Some s ∷ []) ∙ ap (λ l
     one_more zero = refl
     one_more (suc n) = ap (λ l. true ∷ l) (one_more n)
 
-pub waiting_count : (starts : List (Option StartView)) (n : ℕ) → map waits starts ≡ replicate n true → length starts ≡ n
+pub waiting_count : (starts : List (Option StartValue)) (n : ℕ) → map waits starts ≡ replicate n true → length starts ≡ n
 waiting_count starts n e = sym (same_length waits starts) ∙ ap length e ∙ length_replicate n
   where
     length_replicate : (n : ℕ) → length (replicate n true) ≡ n

@@ -4,7 +4,7 @@ use Rattle.homeo_syntax.specs.declared.workload.Workload.{Workload}
 use Rattle.homeo_history.specs.History.{Entry, Closing}
 
 -- the round and its base, the base with the deltas of the sites that were added, and how many these are
-pub record GatherView : Type 0 where
+pub record GatherValue : Type 0 where
   pub round : ℕ
   pub base : List ℤ
   pub sum : List ℤ
@@ -12,7 +12,7 @@ pub record GatherView : Type 0 where
 
 -- the round that ends, its base, the call that closes it, and the next base; of each site the segment that was taken, empty where
 -- none was, and whether the site still waits for its start in the next round
-pub record PreparedView : Type 0 where
+pub record PreparedValue : Type 0 where
   pub work : Workload
   pub round : ℕ
   pub base : List ℤ

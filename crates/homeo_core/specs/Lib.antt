@@ -1,3 +1,4 @@
+pub mod CoreView
 pub mod Events
 pub mod GatherView
 pub mod inner

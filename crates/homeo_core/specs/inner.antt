@@ -1,2 +1,4 @@
-pub mod Codes
+pub mod Books
+pub mod SiteLists
 pub mod Starts
+pub mod Tried

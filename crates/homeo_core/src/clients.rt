@@ -17,6 +17,15 @@ pub(crate) fn site_count(w: &Accepted) -> u32
     natural(w.workload().sites.value)
 }
 
+/// How many clients there are.
+#[tactic(auto, unfolding(homeo_syntax::specs::Key::words))]
+pub(crate) fn client_count(w: &Accepted) -> u64
+    ensures count { result ≡ length (plain_workload w.now).clients }
+    ensures accepted { IsAccepted (plain_workload w.now) }
+{
+    w.workload().clients.as_slice().len() as u64
+}
+
 /// The site of a client.
 pub(crate) fn site_of(w: &Accepted, client: u32) -> u32
     requires exists { client < length (plain_workload w.now).clients }

@@ -22,9 +22,9 @@ pub struct Gather {
 
 impl Model for Gather {
     ghost use Rattle.std.specs.Prelude.{◌<◌, ◌^◌};
-    ghost use Rattle.homeo_core.specs.GatherView.{GatherView};
+    ghost use Rattle.homeo_core.specs.GatherView.{GatherValue};
 
-    ghost Value = { GatherView };
+    ghost Value = { GatherValue };
 
     ghost view = { λ g. record { round = g.round; base = g.base.items; sum = g.sum.items; added = g.added } };
 
@@ -65,6 +65,19 @@ impl Gather {
     {
         add_deltas(self.sum.as_mut_slice(), site.deltas());
         self.added = u64::from(site.number()) + 1;
+    }
+
+    /// The base with the deltas of the sites that were added. It takes no memory.
+    pub(crate) fn into_values(self) -> Database
+        ensures { result.items ≡ self.sum }
+    {
+        let Gather {
+            round: _,
+            base: _,
+            sum,
+            added: _,
+        } = self;
+        List::from_vec(sum)
     }
 }
 

@@ -5,7 +5,11 @@
 mod clients;
 mod gather;
 pub mod laws;
+mod local;
 mod prepared;
+mod rounds;
+mod steps;
 
 pub use gather::Gather;
 pub use prepared::Prepared;
+pub use steps::Core;

@@ -46,12 +46,13 @@ pub struct Prepared {
 
 impl Model for Prepared {
     ghost use Rattle.std.specs.Prelude.{◌≡◌, map, length};
-    ghost use Rattle.homeo_core.specs.GatherView.{PreparedView};
-    ghost use Rattle.homeo_core.specs.inner.Codes.{prepared_code};
+    ghost use Rattle.std.specs.Coded.{codes};
+    ghost use Rattle.homeo_syntax.specs.contracts.workload.Workload as workload;
+    ghost use Rattle.homeo_core.specs.GatherView.{PreparedValue};
 
-    ghost Value = { PreparedView };
+    ghost Value = { PreparedValue };
 
-    ghost coded = { prepared_code };
+    ghost coded = { Prim.hlevel (codes, workload.the_row.coded) };
 
     ghost use Rattle.homeo_history.specs.Answers.{closing_answer};
     ghost use Rattle.homeo_history.specs.HistoryView.{plain_segment, plain_closing, plain_answer};
@@ -142,7 +143,11 @@ fn run_call(
 
 /// The plan of the round that begins at a base.
 #[tactic(auto, unfolding(homeo_build::specs::Key::words))]
-fn plan_at(alloc: Global, c: &Compiled, base: &Database) -> Result<Arc<RoundPlan>, Memory>
+pub(crate) fn plan_at(
+    alloc: Global,
+    c: &Compiled,
+    base: &Database,
+) -> Result<Arc<RoundPlan>, Memory>
     requires within { IsWithin (schema_of (plain_workload c.now)) base.now.items }
     ensures plan { IfOk result (λ p. IsPlanOf (plain_workload c.now) base.now.items p.value) }
     ensures policy { IfOk result (λ p. plain_config p.value.config ≡ policy (plain_workload c.now) base.now.items) }

@@ -1,6 +1,6 @@
 //! What a residual does at its own site.
 
-ghost use Rattle.std.specs.Prelude.{◌≡◌, true, IfOk};
+ghost use Rattle.std.specs.Prelude.{◌≡◌, true, length, IfOk};
 ghost use Rattle.homeo_meaning.specs.LowMeaning.{whole, exec_all};
 ghost use Rattle.homeo_meaning.specs.Serial.{values_of};
 ghost use Rattle.homeo_plan.specs.Joined.{Deltas, alone};
@@ -53,6 +53,7 @@ pub fn effects(
     requires small { can_exec_all limit (plain_residual residual.now) (whole (values_of base.now.items)) ≡ true }
     ensures commands { IfOk result (λ e. plain_commands e ≡
         localized (values_of base.now.items) residual.now.site (plain_residual residual.now)) }
+    ensures count { IfOk result (λ e. length e.commands.items ≡ length residual.now.commands.items) }
     ensures clauses { IfOk result (λ e. e.clauses.items ≡
         touched_clauses (written (plain_residual residual.now)) index.now.template) }
     ensures freezes { IfOk result (λ e. e.freezes.items ≡

@@ -1,5 +1,5 @@
 -- Where a treaty held before, the first that fails of what is touched is the first that fails of all.
-use Rattle.std.proofs.Common.{◌≡◌, ℕ, zero, suc, ◌+◌, ◌==◌, Bool, true, false, cond, not, ◌&&◌, List, [], ◌∷◌, ◌++◌, length, ℤ, pos, int_le, ◌≤ℤ◌, Option, Some, None, refl, sym, ap, ap₂, ◌∙◌, subst, arith}
+use Rattle.std.proofs.Common.{◌≡◌, ℕ, suc, ◌+◌, ◌==◌, Bool, true, false, cond, not, ◌&&◌, List, [], ◌∷◌, ◌++◌, length, ℤ, pos, int_le, ◌≤ℤ◌, Option, Some, None, refl, sym, ap, ap₂, ◌∙◌, subst, arith}
 use Rattle.std.specs.Ordering.{int_eq}
 use Rattle.std.proofs.lemmas.Int.{ints}
 use Rattle.std.proofs.lemmas.Bool.Decides.{nat_tests}
@@ -8,13 +8,13 @@ use Rattle.homeo_plan.specs.declared.treaty.Broken.{Broken}
 use Rattle.homeo_plan.specs.declared.forms.Delta.{Delta}
 use Rattle.homeo_plan.specs.Each.{Each}
 use Rattle.homeo_plan.specs.Joined.{Deltas}
-use Rattle.homeo_plan.specs.Template.{Clause, Template}
+use Rattle.homeo_plan.specs.Template.{Clause}
 use Rattle.homeo_plan.specs.Config.{Config}
-use Rattle.homeo_plan.specs.Treaty.{site_sum, bound_at, KeepsClauses, KeepsFreezes, Treaty, broken_freeze, broken_from, finding}
+use Rattle.homeo_plan.specs.Treaty.{site_sum, bound_at, KeepsClauses, KeepsFreezes, broken_freeze, broken_from}
 use Rattle.homeo_effect.specs.Key.{words as effect_words}
 use Rattle.homeo_effect.specs.Touched.{numbers_where}
 use Rattle.homeo_site.specs.Key.{words}
-use Rattle.homeo_site.specs.inner.Failures.{sum_failure, frozen_failure, freeze_failure, freeze_failure_from, failure_from, failure_at, first_of, first_failure}
+use Rattle.homeo_site.specs.inner.Failures.{sum_failure, frozen_failure, freeze_failure, freeze_failure_from, failure_from, first_of, first_failure}
 
 pub first_of_both : (f : ℕ → Option Broken) (ms ns : List ℕ) → first_failure f (ms ++ ns) ≡ first_of (first_failure f ms) (first_failure f ns)
 unfolding words

@@ -4,9 +4,15 @@ pub mod FirstFailures
 pub mod Limits
 pub mod LocalSteps
 pub mod OrderedAtoms
+pub mod OwnChecks
 pub mod OwnFits
+pub mod OwnLookups
+pub mod OwnRuns
 pub mod OwnSums
 pub mod OwnTerms
+pub mod PlanCalls
+pub mod SiteAttempts
+pub mod SiteViews
 pub mod SitesHold
 pub mod StepFindings
 pub mod StepsRun

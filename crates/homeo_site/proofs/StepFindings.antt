@@ -1,5 +1,5 @@
 -- What fails first of what a call touches is what fails first of the site's whole treaty, after the call's local step.
-use Rattle.std.proofs.Common.{◌≡◌, ℕ, zero, suc, ◌+◌, ◌-◌, ◌<◌, ◌≤◌, ◌==◌, Bool, true, false, cond, List, [], ◌∷◌, ◌++◌, length, get_or, ℤ, pos, All, Option, Some, None, refl, sym, ap, ap₂, ◌∙◌, subst, arith}
+use Rattle.std.proofs.Common.{◌≡◌, ℕ, zero, suc, ◌+◌, ◌-◌, ◌<◌, ◌≤◌, Bool, true, false, cond, List, [], ◌∷◌, ◌++◌, length, get_or, ℤ, pos, All, Option, refl, sym, ap, ap₂, ◌∙◌, subst, arith}
 use Rattle.std.proofs.lemmas.List.Elements.{All-nil, All-cons, All-head, All-tail}
 use Rattle.homeo_syntax.specs.Source as s
 use Rattle.homeo_meaning.specs.Key.{words as meaning_words}
@@ -12,7 +12,6 @@ use Rattle.homeo_plan.specs.declared.forms.Delta.{Delta}
 use Rattle.homeo_plan.specs.Each.{Each, Member}
 use Rattle.homeo_plan.specs.Joined.{Deltas}
 use Rattle.homeo_plan.specs.Linear.{delta_of}
-use Rattle.homeo_plan.specs.Local.{local_deltas}
 use Rattle.homeo_plan.specs.Needs.{IsStraight}
 use Rattle.homeo_plan.specs.Planned.{sites_of, planned, planned_at, template_at, policy}
 use Rattle.homeo_plan.specs.Table.{Row}
@@ -29,9 +28,10 @@ use Rattle.homeo_effect.proofs.Untouched.{clause_stays, own_delta_stays}
 use Rattle.homeo_history.specs.Key.{words as history_words}
 use Rattle.homeo_history.specs.Legal.{IsCallAt}
 use Rattle.homeo_site.specs.Key.{words}
-use Rattle.homeo_site.specs.SiteState.{SiteState, SiteHolds, step_values, step_finding}
+use Rattle.homeo_site.specs.SiteState.{SiteState, step_values, step_finding}
 use Rattle.homeo_site.specs.inner.Failures.{sum_failure, freeze_failure, freeze_failure_from, failure_from, failure_at, first_of, first_failure, own_failure, own_freeze_failure}
-use Rattle.homeo_site.specs.inner.OwnTreaty.{own_terms, own_sum, OwnClause, own_clauses}
+use Rattle.homeo_site.specs.inner.Ready.{IsReady}
+use Rattle.homeo_site.specs.inner.OwnTreaty.{own_sum, own_clauses}
 use Rattle.homeo_site.proofs.CallsOfSites.{call_site}
 use Rattle.homeo_site.proofs.FirstFailures.{first_of_both, clauses_first}
 use Rattle.homeo_site.proofs.OwnTerms.{own_sum_is}
@@ -181,7 +181,7 @@ residual_straight w base g member =
     subst (λ (r : Row). IsStraight r.residual) (sym (row_at_walk (shifted (sites_of w) g) (whole (values_of base)) (λ t. refl)))
     (walk_straight (sites_of w) g.site g.command (whole (values_of base)) (planned_whole w g member))
 
-module _ (w : s.Workload) (x : SiteState) (h : SiteHolds w x) (call : CallId) (at : IsCallAt w x.number call) where
+module _ (w : s.Workload) (x : SiteState) (h : IsReady w x) (call : CallId) (at : IsCallAt w x.number call) where
   abbrev g : PlannedCall
   g = planned_at w call
 

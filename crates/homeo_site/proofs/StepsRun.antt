@@ -23,11 +23,11 @@ use Rattle.homeo_meaning.specs.Small.{IsSmall}
 use Rattle.homeo_meaning.proofs.Within.{all_within}
 use Rattle.homeo_plan.specs.Key.{words as plan_words}
 use Rattle.homeo_plan.specs.Each.{Member}
-use Rattle.homeo_plan.specs.Joined.{Deltas, alone, join}
+use Rattle.homeo_plan.specs.Joined.{Deltas, alone}
 use Rattle.homeo_plan.specs.Local.{no_deltas}
 use Rattle.homeo_plan.specs.Planned.{sites_of, planned_call, planned, planned_at, template_at, policy}
 use Rattle.homeo_plan.specs.Split.{fold_state, shift}
-use Rattle.homeo_plan.specs.Table.{Row, table, row_at, walk, HasNoTemps}
+use Rattle.homeo_plan.specs.Table.{Row, table, row_at, HasNoTemps}
 use Rattle.homeo_plan.specs.Template.{PlannedCall, shifted, base_row}
 use Rattle.homeo_plan.proofs.BoundSizes.{most}
 use Rattle.homeo_plan.proofs.GroundNumbers.{values_small, fold_numbers}
@@ -45,11 +45,10 @@ use Rattle.homeo_delta.proofs.SmallShifts.{runs_law}
 use Rattle.homeo_history.specs.Legal.{IsCallAt}
 use Rattle.homeo_history.specs.Replayed.{MeetsTreaty}
 use Rattle.homeo_history.specs.Key.{words as history_words}
-use Rattle.homeo_site.specs.Key.{words}
-use Rattle.homeo_site.specs.SiteState.{SiteState, SiteHolds}
+use Rattle.homeo_site.specs.SiteState.{SiteState}
+use Rattle.homeo_site.specs.inner.Ready.{IsReady}
 use Rattle.homeo_site.proofs.CallsOfSites.{call_site}
 use Rattle.homeo_site.proofs.Limits.{few_sites}
-use Rattle.homeo_site.proofs.LocalSteps.{own_within}
 use Rattle.homeo_site.proofs.WalkRuns.{residual_runs}
 
 -- ---- a planned call is a ground call of some client
@@ -93,57 +92,57 @@ module _
     (w : s.Workload) (base : List ℤ) (i : ℕ) (own : Deltas) (accepted : IsAccepted w) (within : IsWithin (schema_of w) base)
     (site : i < sites_of w) (meets : MeetsTreaty w base i own) (all : AllWithin (schema_of w) (own_values (values_of base) own))
   where
-  abbrev k : ℕ
-  k = sites_of w
+    abbrev k : ℕ
+    k = sites_of w
 
-  abbrev b : ℕ → ℤ
-  b = values_of base
+    abbrev b : ℕ → ℤ
+    b = values_of base
 
-  abbrev here : State
-  here = alone b i own
+    abbrev here : State
+    here = alone b i own
 
-  fold_within : AllWithin (schema_of w) (fold_values k here)
-  fold_within = subst (AllWithin (schema_of w)) (sym (alone_fold k b i own site)) all
+    fold_within : AllWithin (schema_of w) (fold_values k here)
+    fold_within = subst (AllWithin (schema_of w)) (sym (alone_fold k b i own site)) all
 
-  small_parts : HasSmallParts k i most largest here
-  unfolding meaning_words plan_words
-  small_parts =
-      record {
-        fold = λ n. let small = values_small w accepted (fold_values k here) fold_within n in omega (arith, small);
-        bases = λ n. values_small w accepted b (all_within (schema_of w) base within) n;
-        others = λ n j lt apart. subst (λ v. unsigned_abs v ≤ most) (sym (other_zero b i own n j apart)) (omega arith);
-      }
+    small_parts : HasSmallParts k i most largest here
+    unfolding meaning_words plan_words
+    small_parts =
+        record {
+          fold = λ n. let small = values_small w accepted (fold_values k here) fold_within n in omega (arith, small);
+          bases = λ n. values_small w accepted b (all_within (schema_of w) base within) n;
+          others = λ n j lt apart. subst (λ v. unsigned_abs v ≤ most) (sym (other_zero b i own n j apart)) (omega arith);
+        }
 
-  module _ (g : PlannedCall) (member : Member g (planned w)) (at_site : g.site ≡ i) where
-    -- the call's row is that of the base
-    same_row : row_at (table (shifted k g)) here ≡ base_row k b g
-    unfolding history_words
-    same_row =
-        let fits = policy_fits w base accepted in
-        subst (λ s. row_at (table (shifted k g)) s ≡ base_row k b g) (sym (alone_is_joined k b i own site))
-        (locally_sound k b (template_at w base) (policy w base) (only i own) fits
-        (λ j l. only_keeps k (template_at w base) (policy w base) i own fits meets j) g (planned_covers w base g member)
-        (subst (λ j. j < k) (sym at_site) site) (planned_whole w g member)).row
+    module _ (g : PlannedCall) (member : Member g (planned w)) (at_site : g.site ≡ i) where
+      -- the call's row is that of the base
+      same_row : row_at (table (shifted k g)) here ≡ base_row k b g
+      unfolding history_words
+      same_row =
+          let fits = policy_fits w base accepted in
+          subst (λ s. row_at (table (shifted k g)) s ≡ base_row k b g) (sym (alone_is_joined k b i own site))
+          (locally_sound k b (template_at w base) (policy w base) (only i own) fits
+          (λ j l. only_keeps k (template_at w base) (policy w base) i own fits meets j) g (planned_covers w base g member)
+          (subst (λ j. j < k) (sym at_site) site) (planned_whole w g member)).row
 
-    call_runs : can_exec limit (shifted k g) here ≡ true
-    unfolding plan_words
-    call_runs =
-        let m : IsMade w g = is_made w g accepted member in
-        let few : k ≤ 16 = few_sites w accepted in
-        let most_all : k * most ≤ 16 * most = mul-le k most 16 most few (omega arith) in
-        let room : largest + k * most ≤ limit = omega arith in
-        let command : ground_form w m.from ≡ g.command = ap (λ (c : PlannedCall). c.command) m.is in
-        let computes : CanRun (IsSmall largest) (IsSmall largest) g.command (fold_state k here) =
-        subst (λ c. CanRun (IsSmall largest) (IsSmall largest) c (fold_state k here)) command
-        (fold_numbers w m.from k here accepted m.called (no_temps b i own) fold_within) in
-        subst (λ j. can_exec limit (shift k j g.command) here ≡ true) (sym at_site)
-        (runs_law k i most largest g.command here site (omega arith) room (planned_whole w g member) small_parts computes)
+      call_runs : can_exec limit (shifted k g) here ≡ true
+      unfolding plan_words
+      call_runs =
+          let m : IsMade w g = is_made w g accepted member in
+          let few : k ≤ 16 = few_sites w accepted in
+          let most_all : k * most ≤ 16 * most = mul-le k most 16 most few (omega arith) in
+          let room : largest + k * most ≤ limit = omega arith in
+          let command : ground_form w m.from ≡ g.command = ap (λ (c : PlannedCall). c.command) m.is in
+          let computes : CanRun (IsSmall largest) (IsSmall largest) g.command (fold_state k here) =
+          subst (λ c. CanRun (IsSmall largest) (IsSmall largest) c (fold_state k here)) command
+          (fold_numbers w m.from k here accepted m.called (no_temps b i own) fold_within) in
+          subst (λ j. can_exec limit (shift k j g.command) here ≡ true) (sym at_site)
+          (runs_law k i most largest g.command here site (omega arith) room (planned_whole w g member) small_parts computes)
 
-    -- the residual can be run at the site alone
-    pub alone_runs : can_exec_all limit (base_row k b g).residual here ≡ true
-    alone_runs =
-        subst (λ (r : Row). can_exec_all limit r.residual here ≡ true)
-        (sym (row_at_walk (shifted k g) here (no_temps b i own)) ∙ same_row) (residual_runs limit (shifted k g) here call_runs)
+      -- the residual can be run at the site alone
+      pub alone_runs : can_exec_all limit (base_row k b g).residual here ≡ true
+      alone_runs =
+          subst (λ (r : Row). can_exec_all limit r.residual here ≡ true)
+          (sym (row_at_walk (shifted k g) here (no_temps b i own)) ∙ same_row) (residual_runs limit (shifted k g) here call_runs)
 
 -- ---- on the base, before any call
 base_is_alone : (b : ℕ → ℤ) (i : ℕ) → alone b i no_deltas ≡ whole b
@@ -175,9 +174,9 @@ base_runs w base g accepted within member site =
 
 -- ---- a call of a site
 pub step_runs :
-    (w : s.Workload) (x : SiteState) → IsAccepted w → SiteHolds w x → (call : CallId) → IsCallAt w x.number call →
+    (w : s.Workload) (x : SiteState) → IsAccepted w → IsReady w x → (call : CallId) → IsCallAt w x.number call →
     can_exec_all limit (base_row (sites_of w) (values_of x.base) (planned_at w call)).residual
     (alone (values_of x.base) x.number (values_of x.deltas)) ≡ true
 step_runs w x accepted h call at =
-    alone_runs w x.base x.number (values_of x.deltas) accepted h.within h.site h.meets (own_within w x accepted h) (planned_at w call)
+    alone_runs w x.base x.number (values_of x.deltas) accepted h.within h.site h.meets h.all (planned_at w call)
     (planned_member w call at.exists) (call_site w x.number call at)

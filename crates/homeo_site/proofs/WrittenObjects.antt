@@ -8,8 +8,7 @@ use Rattle.homeo_syntax.specs.Source as s
 use Rattle.homeo_meaning.specs.Key.{words as meaning_words}
 use Rattle.homeo_meaning.specs.Acceptance.{IsAccepted}
 use Rattle.homeo_meaning.specs.Bounds.{IsWithin, all_bounds}
-use Rattle.homeo_meaning.specs.CallForm.{ground_form}
-use Rattle.homeo_meaning.specs.LowMeaning.{State, holds, exec, exec_all, whole}
+use Rattle.homeo_meaning.specs.LowMeaning.{State, holds, exec, whole}
 use Rattle.homeo_meaning.specs.NamesWithin.{NamesWithin}
 use Rattle.homeo_meaning.specs.Schema.{schema_of}
 use Rattle.homeo_meaning.specs.Serial.{values_of}
@@ -19,7 +18,6 @@ use Rattle.homeo_plan.specs.Key.{words as plan_words}
 use Rattle.homeo_plan.specs.declared.forms.Delta as forms
 use Rattle.homeo_plan.specs.Each.{Each, Member}
 use Rattle.homeo_plan.specs.Planned.{sites_of, planned}
-use Rattle.homeo_plan.specs.Split.{shift}
 use Rattle.homeo_plan.specs.Table.{Row, last_row, test_before, otherwise, walk, walk_before, walk_all_before}
 use Rattle.homeo_plan.specs.Template.{PlannedCall, shifted, base_row}
 use Rattle.homeo_plan.proofs.Replays.{planned_whole}
@@ -91,11 +89,10 @@ own_objects :
     Each (λ d. d.object < n) ds
 unfolding plan_words
 own_objects i n [] own there = tt
-own_objects i n (d ∷ ds) own there =
-    (
-      subst (λ m. d.object < m) (ap (λ j. get_or (replicate (suc i) n) j 0) own.0 ∙ at_last i n) there.0,
-      own_objects i n ds own.1 there.1,
-    )
+own_objects i n (d ∷ ds) own there = (
+  subst (λ m. d.object < m) (ap (λ j. get_or (replicate (suc i) n) j 0) own.0 ∙ at_last i n) there.0,
+  own_objects i n ds own.1 there.1,
+)
 
 module _ (w : s.Workload) (base : List ℤ) (g : PlannedCall) (member : Member g (planned w)) where
   abbrev k : ℕ

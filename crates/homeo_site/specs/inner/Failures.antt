@@ -1,9 +1,8 @@
 -- What fails of a treaty at one number, and the first that fails of several.
-use Rattle.std.specs.Prelude.{ℕ, zero, suc, ◌-◌, slice_index_or, ◌==◌, ◌&&◌, not, cond, List, [], ◌∷◌, ℤ, pos, int_le, Option, Some, None}
+use Rattle.std.specs.Prelude.{ℕ, zero, suc, ◌-◌, slice_index_or, ◌==◌, cond, List, [], ◌∷◌, ℤ, pos, int_le, Option, Some, None}
 use Rattle.std.specs.Ordering.{int_eq}
 use Rattle.homeo_plan.specs.declared.treaty.Broken.{Broken}
 use Rattle.homeo_plan.specs.declared.forms.Delta.{Delta}
-use Rattle.homeo_plan.specs.declared.forms.Term.{Term}
 use Rattle.homeo_plan.specs.Joined.{Deltas}
 use Rattle.homeo_plan.specs.Template.{Clause, Template}
 use Rattle.homeo_plan.specs.Config.{Config}

@@ -1,4 +1,4 @@
-use Rattle.std.proofs.Common.{rules, ◌≡◌, ◌+◌, ℤ, pos, ◌+ℤ◌, suc, ap, subst, ◌∙◌, take, arith, slice_index_or, slice_set, get_or, List, to_z, of_z, FitsSigned}
+use Rattle.std.proofs.Common.{rules, ◌≡◌, ◌+◌, ℤ, pos, ◌+ℤ◌, suc, ap, ◌∙◌, take, arith, slice_index_or, slice_set, get_or, List, FitsSigned}
 use Rattle.std.specs.Int.{w64}
 use Rattle.std.proofs.lemmas.Int.{to_z-of_z}
 use Rattle.homeo_core.specs.Joined.{plus_deltas}

@@ -1,5 +1,4 @@
-use Rattle.std.proofs.Common.{sym, ap, subst, map, List, Option}
-use Rattle.homeo_site.specs.SiteView.{StartView}
+use Rattle.std.proofs.Common.{sym, ap, subst, map}
 use Rattle.homeo_core.specs.inner.Starts.{AreStarts, waits}
 use Rattle.homeo_core.proofs.StartsOfSites.{no_starts}
 use Rattle.homeo_core.proofs.prepared.starts_after.Goals as goal

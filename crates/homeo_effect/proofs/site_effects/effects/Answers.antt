@@ -1,5 +1,6 @@
 -- What the commands of a site are, and that they do what the residual does.
-use Rattle.std.proofs.Common.{true, ◌≡◌, All, map, sym, ap, ◌∙◌, subst}
+use Rattle.std.proofs.Common.{length, true, ◌≡◌, All, map, sym, ap, ◌∙◌, subst}
+use Rattle.std.proofs.lemmas.List.{length-map}
 use Rattle.homeo_syntax.specs.LowView.{low_commands, plain_lcommand}
 use Rattle.homeo_meaning.specs.LowMeaning.{whole, exec_all}
 use Rattle.homeo_meaning.specs.Serial.{values_of}
@@ -64,3 +65,11 @@ pub returns-clause-own : goal.returns-clause-own
 returns-clause-own c =
     subst (λ cs. are_own c.args.residual.now.site cs ≡ true) (sym (commands_are c))
     (own_commands (values_of c.args.base.now.items) c.args.residual.now.site (plain_residual c.args.residual.now) c.requires.straight c.requires.own)
+
+pub returns-clause-count : goal.returns-clause-count
+returns-clause-count c =
+    let site = c.args.residual.now.site in
+    let given = c.as_slice-commands.result.now in
+    sym (length-map c.in_ok-local.local.items plain_lcommand) ∙ ap length c.in_ok-local.ensures
+    ∙ length-map (map plain_lcommand given) (local_command (values_of c.as_slice.result.now) site)
+    ∙ length-map given plain_lcommand ∙ ap length c.as_slice-commands.ensures

@@ -1,4 +1,4 @@
-use Rattle.std.proofs.Common.{◌≡◌, true, false, map, get_or, is_some, sym, ◌∙◌, rules, subst}
+use Rattle.std.proofs.Common.{◌≡◌, true, false, map, is_some, sym, ◌∙◌, rules, subst}
 use Rattle.homeo_meaning.specs.Serial.{values_of}
 use Rattle.homeo_site.specs.declared.own_treaty.OwnClause.{OwnClause}
 use Rattle.homeo_site.specs.inner.Failures.{own_failure}

@@ -1,4 +1,4 @@
-use Rattle.std.proofs.Common.{◌≡◌, true, false, is_some, sym, ◌∙◌, rules}
+use Rattle.std.proofs.Common.{sym}
 use Rattle.homeo_meaning.specs.Serial.{values_of}
 use Rattle.homeo_plan.specs.Key.{words as plan_words}
 use Rattle.homeo_site.specs.Key.{words}

@@ -1,4 +1,4 @@
-use Rattle.std.proofs.Common.{◌≡◌, sym, ap, subst, ◌∙◌, map, length, replicate, true, [], List, ℤ, ℕ}
+use Rattle.std.proofs.Common.{◌≡◌, sym, ap, subst, ◌∙◌, map, replicate, true, [], List, ℤ}
 use Rattle.homeo_syntax.specs.Listed.{Listed}
 use Rattle.homeo_syntax.specs.declared.workload.Workload.{Workload}
 use Rattle.homeo_syntax.specs.SourceView.{plain_workload}
@@ -6,11 +6,10 @@ use Rattle.homeo_meaning.specs.Serial.{Outcome, call_outcome}
 use Rattle.homeo_plan.specs.Planned.{sites_of}
 use Rattle.homeo_build.specs.Plan.{IsPlanOf}
 use Rattle.homeo_history.specs.Follows.{site_or_zero}
-use Rattle.homeo_history.specs.History.{Closing}
 use Rattle.homeo_history.specs.HistoryView.{plain_segment, plain_closing}
 use Rattle.homeo_core.specs.Key.{words}
 use Rattle.homeo_core.specs.Events.{closing_on}
-use Rattle.homeo_core.specs.GatherView.{GatherView}
+use Rattle.homeo_core.specs.GatherView.{GatherValue}
 use Rattle.homeo_core.specs.inner.Starts.{AreStarts, waits}
 use Rattle.homeo_core.proofs.StartsOfSites.{as_many}
 use Rattle.homeo_core.proofs.gather.Gather.prepare.Goals as goal
@@ -40,13 +39,13 @@ returns c =
     let first : c.workload.result.now ≡ w = c.workload.ensures ∙ c.deref.ensures in
     let second : c.workload-2.result.now ≡ w = c.workload-2.ensures ∙ c.deref-3.ensures in
     let third : c.workload-3.result.now ≡ w = c.workload-3.ensures ∙ c.deref-4.ensures in
-    let sum : c.from_vec-next.result.items ≡ c.args.self.sum = ap (λ (l : Listed ℤ). l.items) c.from_vec-next.ensures ∙ ap (λ (g : GatherView). g.sum) c.self.view_is in
+    let sum : c.from_vec-next.result.items ≡ c.args.self.sum = ap (λ (l : Listed ℤ). l.items) c.from_vec-next.ensures ∙ ap (λ (g : GatherValue). g.sum) c.self.view_is in
     let outcome : call_outcome (plain_workload c.workload.result.now) call c.from_vec-next.result.items ≡ call_outcome (plain_workload w) call c.args.self.sum = (λ i. call_outcome (plain_workload (first i)) call (sum i)) in
     let prints : c.in_ok-prints.prints.items ≡ (call_outcome (plain_workload w) call c.args.self.sum).prints = c.in_ok-prints.ensures.prints ∙ ap (λ (o : Outcome). o.prints) outcome in
     let database : c.run_call.new.database.items ≡ (call_outcome (plain_workload w) call c.args.self.sum).database = c.in_ok-prints.ensures.database ∙ ap (λ (o : Outcome). o.database) outcome in
     let next : c.next.inside.items.items ≡ (call_outcome (plain_workload w) call c.args.self.sum).database = ap (λ (l : Listed ℤ). l.items) c.next.view_is ∙ database in
-    let round : c.self.inside.round ≡ c.args.self.round = ap (λ (g : GatherView). g.round) c.self.view_is in
-    let base : c.base.inside.items.items ≡ c.args.self.base = ap (λ (l : Listed ℤ). l.items) c.base.view_is ∙ ap (λ (g : GatherView). g.base) c.self.view_is in
+    let round : c.self.inside.round ≡ c.args.self.round = ap (λ (g : GatherValue). g.round) c.self.view_is in
+    let base : c.base.inside.items.items ≡ c.args.self.base = ap (λ (l : Listed ℤ). l.items) c.base.view_is ∙ ap (λ (g : GatherValue). g.base) c.self.view_is in
     let closing : plain_closing c.in_ok-closing.closing ≡ closing_on (plain_workload w) c.args.self.sum (site_or_zero (plain_workload w) call) call c.args.broken =
     c.in_ok-closing.ensures.closing
     ∙ (λ i. record { site = site_or_zero (plain_workload (second i)) call; entry = record { call = call; prints = prints i }; broken = c.args.broken }) in
