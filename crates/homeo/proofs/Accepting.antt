@@ -1,27 +1,24 @@
 -- Where no rule is broken, the schedule runs every call of every client.
 use Rattle.std.proofs.Common.{◌≡◌, ◌<◌, ◌≤◌, ◌+◌, ◌∙◌, ◌++◌, ◌==◌, ◌||◌, ℕ, zero, suc, Bool, true, false, cond, List, [], ◌∷◌, length, map, refl, sym, ap, subst, arith, append_assoc, append-nil, length-append, ◌⊎◌, inl, inr}
-use Rattle.std.specs.Prelude.{ℤ, pos, ◌≤ℤ◌, ◌<ℤ◌, All, Option, Some, None, slice_get, if◌then◌else◌, nat_lt, int_lt, int_le}
-use Rattle.std.specs.List.{list_any, flat_map}
+use Rattle.std.specs.Prelude.{All, Option, Some, None, slice_get, if◌then◌else◌, nat_lt}
+use Rattle.std.specs.List.{list_any}
 use Rattle.std.proofs.lemmas.List.{map-append}
 use Rattle.std.proofs.lemmas.List.Elements.{All-nil, All-cons}
 use Rattle.std.proofs.lemmas.List.Folds.{list_any-append}
-use Rattle.std.proofs.lemmas.Int.{ints}
 use Rattle.std.proofs.lemmas.Bool.{eqb-false}
 use Rattle.std.proofs.lemmas.Bool.Decides.{Decides-eqb, nat_tests}
 use Rattle.homeo_syntax.specs.Source as s
 use Rattle.homeo_syntax.specs.declared.phrase.Ident.{Ident}
-use Rattle.homeo_syntax.specs.declared.phrase.Number.{Number}
 use Rattle.homeo_syntax.specs.Key.{words as syntax}
 use Rattle.homeo_syntax.specs.WellFormed.{Each, InSchedule, IsBelow, IsWellFormed}
 use Rattle.homeo_meaning.specs.Key.{words as meanings}
 use Rattle.homeo_meaning.specs.NameRules.{when}
 use Rattle.homeo_meaning.specs.TransactionRules.{each, each_from, is_in}
 use Rattle.homeo_meaning.specs.GlobalNames.{GlobalName, global_names, numbered_from, first_named, duplicate, scope_of}
-use Rattle.homeo_meaning.specs.CallRules.{times, call_count, call_faults, client_faults, scheduled, is_short, end_fault, schedule_faults}
-use Rattle.homeo_meaning.specs.NumberRules.{site_faults, site_count_faults, passes_limit, limit_faults}
-use Rattle.homeo_meaning.specs.Faults.{declared_faults, faults}
-use Rattle.homeo_meaning.proofs.FaultParts.{none_first, none_second, parts, declared_parts, limit_parts}
-use Rattle.homeo_meaning.specs.declared.call.Purpose.{Purpose}
+use Rattle.homeo_meaning.specs.CallRules.{times, call_count, scheduled, is_short, end_fault, schedule_faults}
+use Rattle.homeo_meaning.specs.NumberRules.{passes_limit, limit_faults}
+use Rattle.homeo_meaning.specs.Faults.{faults}
+use Rattle.homeo_meaning.proofs.FaultParts.{none_first, none_second, parts, limit_parts}
 use Rattle.homeo_meaning.specs.declared.call.Purpose.TheVariants.{Steps}
 use Rattle.homeo_meaning.specs.Declarations.{place_of, place_from}
 use Rattle.homeo_meaning.specs.declared.rules.Fault.{Fault}

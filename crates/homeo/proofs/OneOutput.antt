@@ -2,12 +2,9 @@
 use Rattle.std.proofs.Common.{◌≡◌, ◌∙◌, ℕ, List, sym, ap, subst}
 use Rattle.homeo_syntax.specs.Source as s
 use Rattle.homeo_reader.proofs.Unread.{one_reading}
-use Rattle.homeo_history.specs.History.{History}
 use Rattle.homeo_history.specs.Key.{words as histories}
 use Rattle.homeo_history.proofs.OneHistories.{one_history}
 use Rattle.homeo_meaning.specs.Initial.{initial}
-use Rattle.homeo_print.specs.Tables.{tables_text}
-use Rattle.homeo_print.specs.Treaties.{treaty_text}
 use Rattle.homeo_report.specs.Report.{report}
 use Rattle.homeo.specs.Laws.{OneOutput}
 use Rattle.homeo.specs.Order.{scheduled_calls}
