@@ -1,5 +1,5 @@
 -- An accepted workload has from 1 to 16 sites.
-use Rattle.std.proofs.Common.{◌≡◌, ℕ, ◌≤◌, Bool, true, false, ◌||◌, List, [], ◌∷◌, ℤ, pos, negsuc, int_lt, ◌≤ℤ◌, to_z, of_z, refl, sym, ap, subst, ◌∙◌, arith}
+use Rattle.std.proofs.Common.{◌≡◌, ◌≤◌, Bool, true, false, ◌||◌, [], ℤ, pos, negsuc, int_lt, ◌≤ℤ◌, to_z, of_z, refl, sym, ap, subst, ◌∙◌, arith}
 use mir.Syntax.{w64}
 use Rattle.std.proofs.lemmas.Int.{ints, fits_signed_from_abs, to_z-of_z}
 use Rattle.homeo_syntax.specs.Source as s

@@ -1,5 +1,5 @@
 -- The parts of a plan: its template has small constants, and each configuration for it fits.
-use Rattle.std.proofs.Common.{◌≡◌, ℕ, ◌<◌, List, [], ◌∷◌, map, length, get_or, All, ℤ, pos, Option, Some, None, refl, sym, ap, ap₂, subst, ◌∙◌, arith}
+use Rattle.std.proofs.Common.{◌≡◌, ℕ, ◌<◌, List, [], map, length, get_or, All, ℤ, Option, Some, None, refl, sym, ap, ap₂, subst, ◌∙◌, arith}
 use Rattle.std.proofs.lemmas.List.{get_or-map, length-map}
 use Rattle.homeo_syntax.specs.Source as s
 use Rattle.homeo_meaning.specs.Acceptance.{IsAccepted}
@@ -16,7 +16,7 @@ use Rattle.homeo_plan.specs.Limit.{form_limit}
 use Rattle.homeo_plan.specs.Linear.{Linear}
 use Rattle.homeo_plan.specs.PlanView.{plain_atoms, plain_config}
 use Rattle.homeo_plan.specs.Planned.{sites_of, planned_call, planned, template_at, policy}
-use Rattle.homeo_plan.specs.Template.{Template, Clause, atoms_of, needs_of, join_sets}
+use Rattle.homeo_plan.specs.Template.{Template, atoms_of, needs_of, join_sets}
 use Rattle.homeo_plan.specs.declared.forms.AtomSet.{AtomSet}
 use Rattle.homeo_plan.specs.declared.forms.Delta.{Delta}
 use Rattle.homeo_plan.specs.declared.templates.Config.{Config}

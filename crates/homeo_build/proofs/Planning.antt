@@ -1,9 +1,8 @@
 -- Each ground call of an accepted workload can be planned at each base within bounds.
-use Rattle.std.proofs.Common.{◌≡◌, ℕ, ◌+◌, ◌*◌, ◌<◌, ◌≤◌, true, List, map, length, get_or, All, ℤ, pos, ◌+ℤ◌, refl, sym, ap, ap₂, subst, ◌∙◌, arith}
+use Rattle.std.proofs.Common.{◌≡◌, ℕ, ◌+◌, ◌*◌, ◌<◌, ◌≤◌, true, List, ℤ, refl, sym, subst, arith}
 use mathlib.Core.Path.{fun_ext}
 use Rattle.std.specs.Int.RustNames.{unsigned_abs}
 use Rattle.std.proofs.lemmas.Int.{ints}
-use Rattle.homeo_syntax.specs.Low.{Command}
 use Rattle.homeo_syntax.specs.Source as s
 use Rattle.homeo_meaning.specs.Key.{words as meanings}
 use Rattle.homeo_meaning.specs.Acceptance.{limit as largest, IsAccepted}
@@ -12,7 +11,7 @@ use Rattle.homeo_meaning.specs.CallForm.{ground_form}
 use Rattle.homeo_meaning.specs.Calls.{IsGroundCall}
 use Rattle.homeo_meaning.specs.Ground.{Ground}
 use Rattle.homeo_meaning.specs.LowComputed.{CanRun}
-use Rattle.homeo_meaning.specs.LowMeaning.{State, TempAt, BaseAt, DeltaAt, whole}
+use Rattle.homeo_meaning.specs.LowMeaning.{BaseAt, whole}
 use Rattle.homeo_meaning.specs.Schema.{schema_of}
 use Rattle.homeo_meaning.specs.Serial.{values_of}
 use Rattle.homeo_meaning.specs.Small.{IsSmall}

@@ -1,10 +1,9 @@
 -- A split database without deltas is the base as a whole.
-use Rattle.std.proofs.Common.{◌≡◌, List, [], map, ℤ, refl, ap, ap₂, ◌∙◌}
+use Rattle.std.proofs.Common.{◌≡◌, List, [], map, ℤ, refl, ap, ◌∙◌}
 use mathlib.Core.Path.{fun_ext}
-use Rattle.homeo_syntax.specs.Low.{Command}
 use Rattle.homeo_syntax.specs.declared.low.Temp.TheVariants.{Named, Fresh}
 use Rattle.homeo_meaning.specs.Key.{words as meanings}
-use Rattle.homeo_meaning.specs.LowMeaning.{Location, State, TempAt, BaseAt, DeltaAt, whole}
+use Rattle.homeo_meaning.specs.LowMeaning.{Location, TempAt, BaseAt, DeltaAt, whole}
 use Rattle.homeo_meaning.specs.Serial.{values_of}
 use Rattle.homeo_split.specs.Key.{words as splits}
 use Rattle.homeo_split.specs.States.{state_with, state_of}

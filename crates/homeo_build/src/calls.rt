@@ -26,7 +26,7 @@ use homeo_table::walk;
 use std::alloc::Global;
 
 /// What a ground call brings: the atoms of its row at the base, and the row's residual with what that needs.
-struct PlannedCall {
+struct CallPlan {
     atoms: AtomSet,
     needs: FreezeSet,
     residual: Residual,
@@ -34,7 +34,7 @@ struct PlannedCall {
 
 /// What the ground calls of a workload bring, in their order.
 #[derive(Drop)]
-pub(crate) struct PlannedCalls {
+pub(crate) struct CallPlans {
     pub atoms: Vec<AtomSet>,
     pub needs: Vec<FreezeSet>,
     pub residuals: List<Residual>,
@@ -46,7 +46,7 @@ fn plan_call(
     call: &GroundCall,
     command: &LCommand,
     split: &Split,
-) -> Result<PlannedCall, Memory>
+) -> Result<CallPlan, Memory>
     requires undivided { split.now.deltas.items ≡ [] }
     requires can { CanPlan (plain_lcommand command.now) split.now.base.items }
     ensures atoms { IfOk result (λ p. let b = values_of split.now.base.items in
@@ -65,7 +65,7 @@ fn plan_call(
         commands: residual,
     };
     let needs = needs(alloc, &residual, &split.base)?;
-    Ok(PlannedCall {
+    Ok(CallPlan {
         atoms,
         needs,
         residual,
@@ -73,7 +73,7 @@ fn plan_call(
 }
 
 /// Plans all ground calls, on a base without deltas.
-pub(crate) fn plan_calls(alloc: Global, c: &Compiled, split: &Split) -> Result<PlannedCalls, Memory>
+pub(crate) fn plan_calls(alloc: Global, c: &Compiled, split: &Split) -> Result<CallPlans, Memory>
     requires accepted { IsAccepted (plain_workload c.now) }
     requires undivided { split.now.deltas.items ≡ [] }
     requires within { IsWithin (schema_of (plain_workload c.now)) split.now.base.items }
@@ -85,13 +85,13 @@ pub(crate) fn plan_calls(alloc: Global, c: &Compiled, split: &Split) -> Result<P
         residuals_at (plain_workload c.now) split.now.base.items) }
 {
     let commands = c.commands();
-    let mut planned = PlannedCalls {
+    let mut planned = CallPlans {
         atoms: Vec::new(alloc),
         needs: Vec::new(alloc),
         residuals: List::new(alloc),
     };
     for (i, call) in c.calls().iter().enumerate() {
-        let PlannedCall {
+        let CallPlan {
             atoms,
             needs,
             residual,

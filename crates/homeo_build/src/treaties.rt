@@ -27,7 +27,8 @@ use std::alloc::Global;
 /// The plan of the round that begins at a base (Roy et al., SIGMOD 2015). Of each ground call the row of its symbolic table
 /// that holds there is found by following the branches that are taken, without the table; the template is made of the
 /// atoms of all these rows' formulas and of what their residuals need. The configuration is the given one, or else the
-/// policy, which splits each slack evenly (this project's rule).
+/// policy, which splits each slack evenly (this project's rule). The plan has a copy of the base, and a residual for each
+/// ground call, in the order of `Compiled::calls`.
 ///
 /// The base must be within the workload's bounds, and a configuration that is given must fit the template: for each clause a
 /// bound for each site, none negative, which add up to the slack.

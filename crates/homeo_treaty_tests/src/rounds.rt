@@ -55,7 +55,13 @@ fn term(site: u32, factor: i128) -> Term {
 }
 
 /// The factor times the sum of both sites' deltas is at most the slack, which is split into these bounds.
-fn is_shared(clause: &Clause, bounds: &List<i128>, factor: i128, slack: i128, split: &[i128]) -> bool {
+fn is_shared(
+    clause: &Clause,
+    bounds: &List<i128>,
+    factor: i128,
+    slack: i128,
+    split: &[i128],
+) -> bool {
     clause.terms.as_slice() == [term(0, factor), term(1, factor)].as_slice()
         && clause.slack == slack
         && bounds.as_slice() == split
@@ -68,7 +74,10 @@ fn a_second_write_is_bounded_on_what_the_first_one_wrote(rt: HostRuntime) -> Res
     let plan = first_plan(alloc, w)?;
     assert_eq!(rt; plan.base.as_slice(), [5].as_slice());
     assert_eq!(rt; plan.template.sites, 2);
-    match (plan.template.clauses.as_slice(), plan.config.bounds.as_slice()) {
+    match (
+        plan.template.clauses.as_slice(),
+        plan.config.bounds.as_slice(),
+    ) {
         ([low, high, second_low, second_high], [a, b, c, d]) => {
             assert!(rt; is_shared(low, a, -1, 6, [3, 3].as_slice()));
             assert!(rt; is_shared(high, b, 1, 4, [2, 2].as_slice()));

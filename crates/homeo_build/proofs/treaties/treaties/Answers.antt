@@ -1,4 +1,4 @@
-use Rattle.std.proofs.Common.{◌≡◌, List, map, ℤ, sym, ap, ap₂, subst, ◌∙◌}
+use Rattle.std.proofs.Common.{map, sym, ap, subst, ◌∙◌}
 use Rattle.std.specs.List.{All}
 use Rattle.homeo_syntax.specs.SourceView.{plain_workload}
 use Rattle.homeo_syntax.specs.declared.workload.Workload.{Workload}
