@@ -35,8 +35,7 @@ pub planned_calls :
 unfolding plan_words
 planned_calls w i [] h = tt
 planned_calls w i (e ∷ es) h =
-    let here : IsCallAt w i e.call = All-head (λ (e : Entry). IsCallAt w i e.call) e es h in
-    (
+    let here : IsCallAt w i e.call = All-head (λ (e : Entry). IsCallAt w i e.call) e es h in (
       (call_site w i e.call here, planned_member w e.call here.exists),
       planned_calls w i es (All-tail (λ (e : Entry). IsCallAt w i e.call) e es h),
     )

@@ -150,7 +150,7 @@ pub sums_fit :
 sums_fit n x ts few small past rises factors =
     record {
       products = λ k d lt.
-      fits_signed_from_abs w128 _ (below _ (omega (arith, each_product n (2 * 10 ^ 12) x small past ts factors k d lt)));
+          fits_signed_from_abs w128 _ (below _ (omega (arith, each_product n (2 * 10 ^ 12) x small past ts factors k d lt)));
       sums = λ k. fits_signed_from_abs w128 _ (below (unsigned_abs (own_sum (take k ts) x)) (all k));
     }
   where

@@ -46,8 +46,8 @@ begun_holds w number round base accepted site within =
       within = within;
       count = zeros_count (length base);
       meets =
-        subst (MeetsTreaty w base number) (zeros_are (length base))
-        (zero_keeps (sites_of w) (template_at w base) (policy w base) number (policy_fits w base accepted));
+          subst (MeetsTreaty w base number) (zeros_are (length base))
+          (zero_keeps (sites_of w) (template_at w base) (policy w base) number (policy_fits w base accepted));
       calls = All-nil (λ (e : Entry). IsCallAt w number e.call);
       keeps = tt;
       replays = zeros_are (length base);
@@ -66,8 +66,8 @@ local_holds w x call accepted h at keeps =
       calls = All-push (λ (e : Entry). IsCallAt w x.number e.call) x.segment (local_entry w x call) h.calls at;
       keeps = keeps_more w x.base x.number x.segment (local_entry w x call) no_deltas h.keeps one;
       replays =
-        end_more w x.base x.segment (local_entry w x call) no_deltas
-        ∙ ap (deltas_after w x.base call) h.replays ∙ sym (step_list w x accepted h call at);
+          end_more w x.base x.segment (local_entry w x call) no_deltas
+          ∙ ap (deltas_after w x.base call) h.replays ∙ sym (step_list w x accepted h call at);
     }
   where
     one : KeepsOne w x.base x.number (end_of w x.base x.segment no_deltas) (local_entry w x call)

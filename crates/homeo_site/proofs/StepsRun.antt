@@ -109,7 +109,7 @@ module _ (w : s.Workload) (x : SiteState) (accepted : IsAccepted w) (h : SiteHol
         fold = λ n. let small = values_small w accepted (fold_values k here) fold_within n in omega (arith, small);
         bases = λ n. values_small w accepted b (all_within (schema_of w) x.base h.within) n;
         others = λ n j lt apart.
-        subst (λ v. unsigned_abs v ≤ most) (sym (other_zero b x.number own n j apart)) (omega arith);
+            subst (λ v. unsigned_abs v ≤ most) (sym (other_zero b x.number own n j apart)) (omega arith);
       }
 
   module _ (call : CallId) (at : IsCallAt w x.number call) where

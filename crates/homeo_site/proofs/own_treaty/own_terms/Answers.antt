@@ -8,10 +8,10 @@ use Rattle.homeo_site.proofs.own_treaty.own_terms.Goals.{then-term-site+in_ok-pu
 pub loop-term-preserved : goal.loop-term-preserved
 loop-term-preserved c =
     elim c.if-term-site.branch [
-    then-term-site+in_ok-push w ↦
-      own_pushed c.args.site c.args.terms.now c.loop-term.term-index _ _ _ _ c.loop-term-test.true w.if-term-site.true c.loop-term.invariant
-      w.own_term.ensures (ap (λ (l : Listed OwnTerm). l.items) (w.own-is ∙ w.in_ok-push.ensures.ok))
-    | else-term-site w ↦
-      ap (λ (l : Listed OwnTerm). l.items) w.own-is ∙ c.loop-term.invariant
-      ∙ sym (own_other c.args.site c.args.terms.now c.loop-term.term-index _ c.loop-term-test.true w.if-term-site.false)
+      | then-term-site+in_ok-push w ↦
+          own_pushed c.args.site c.args.terms.now c.loop-term.term-index _ _ _ _ c.loop-term-test.true w.if-term-site.true c.loop-term.invariant
+          w.own_term.ensures (ap (λ (l : Listed OwnTerm). l.items) (w.own-is ∙ w.in_ok-push.ensures.ok))
+      | else-term-site w ↦
+          ap (λ (l : Listed OwnTerm). l.items) w.own-is ∙ c.loop-term.invariant
+          ∙ sym (own_other c.args.site c.args.terms.now c.loop-term.term-index _ c.loop-term-test.true w.if-term-site.false)
     ]
