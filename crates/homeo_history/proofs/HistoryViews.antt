@@ -2,7 +2,8 @@
 use Rattle.std.proofs.Common.{◌≡◌, map, refl}
 use Rattle.std.specs.Option.{option_map}
 use Rattle.homeo_history.specs.Key.{words}
-use Rattle.homeo_history.specs.HistoryView.{plain_entry, plain_segment, plain_closing, plain_round, plain_history}
+use Rattle.homeo_history.specs.HistoryView.{plain_entry, plain_segment, plain_closing, plain_round, plain_history, plain_answer}
+use Rattle.homeo_history.specs.declared.answer.Answer.{Answer}
 use Rattle.homeo_history.specs.declared.history.Entry.{Entry}
 use Rattle.homeo_history.specs.declared.history.Segment.{Segment}
 use Rattle.homeo_history.specs.declared.history.Closing.{Closing}
@@ -17,7 +18,7 @@ pub plain_Segment : (s : Segment) → plain_segment s ≡ map plain_entry s.entr
 unfolding words
 plain_Segment s = refl
 
-pub plain_Closing : (c : Closing) → plain_closing c ≡ record { site = c.site; entry = plain_entry c.entry }
+pub plain_Closing : (c : Closing) → plain_closing c ≡ record { site = c.site; entry = plain_entry c.entry; broken = c.broken }
 unfolding words
 plain_Closing c = refl
 
@@ -33,4 +34,15 @@ pub plain_History : (h : History) → plain_history h ≡ record { rounds = map 
 unfolding words
 plain_History h = refl
 
-pub ruleset history_views = (plain_Entry, plain_Segment, plain_Closing, plain_Round, plain_History)
+pub plain_Answer : (a : Answer) → plain_answer a ≡ record {
+  client = a.client;
+  seq = a.seq;
+  site = a.site;
+  round = a.round;
+  path = a.path;
+  prints = a.prints.items;
+}
+unfolding words
+plain_Answer a = refl
+
+pub ruleset history_views = (plain_Entry, plain_Segment, plain_Closing, plain_Round, plain_History, plain_Answer)

@@ -1,7 +1,9 @@
--- What a value of the types of histories stands for, wherever its parts lie in memory.
+-- What a value of the types of histories and answers stands for, wherever its parts lie in memory.
 use Rattle.std.specs.Prelude.{List, map, option_map}
 use Rattle.homeo_history.specs.Key.{words}
+use Rattle.homeo_history.specs.Answers as answers
 use Rattle.homeo_history.specs.History as h
+use Rattle.homeo_history.specs.declared.answer.Answer.{Answer}
 use Rattle.homeo_history.specs.declared.history.Entry.{Entry}
 use Rattle.homeo_history.specs.declared.history.Segment.{Segment}
 use Rattle.homeo_history.specs.declared.history.Closing.{Closing}
@@ -18,7 +20,7 @@ plain_segment s = map plain_entry s.entries.items
 
 abbrev pub plain_closing : Closing → h.Closing
 unfolding words
-plain_closing c = record { site = c.site; entry = plain_entry c.entry }
+plain_closing c = record { site = c.site; entry = plain_entry c.entry; broken = c.broken }
 
 abbrev pub plain_round : Round → h.Round
 unfolding words
@@ -31,3 +33,14 @@ plain_round r = record {
 abbrev pub plain_history : History → h.History
 unfolding words
 plain_history h = record { rounds = map plain_round h.rounds.items; last = h.last.items }
+
+abbrev pub plain_answer : Answer → answers.Answer
+unfolding words
+plain_answer a = record {
+  client = a.client;
+  seq = a.seq;
+  site = a.site;
+  round = a.round;
+  path = a.path;
+  prints = a.prints.items;
+}

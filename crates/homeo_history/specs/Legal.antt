@@ -8,19 +8,27 @@ use Rattle.homeo_meaning.specs.Calls.{CallExists}
 use Rattle.homeo_meaning.specs.Schema.{nat_of}
 use Rattle.homeo_meaning.specs.Initial.{initial}
 use Rattle.homeo_meaning.specs.Serial.{call_outcome, serial}
+use Rattle.homeo_plan.specs.Planned.{sites_of}
 use Rattle.homeo_history.specs.Key.{words}
 use Rattle.homeo_history.specs.History.{Entry, Closing, Round, History}
 use Rattle.homeo_history.specs.Merge.{segment_of, merged, interleave, FitsSegments}
+use Rattle.homeo_history.specs.Replayed.{IsReplayed}
 
 -- ---- what a workload says of sites and calls
-abbrev pub site_count : s.Workload → ℕ
+-- a client's site, where there is such a client
+abbrev pub client_site : s.Workload → ℕ → Option ℕ
 unfolding words
-site_count w = nat_of w.sites.value
+client_site w client = option_map (λ client. nat_of client.site.value) (slice_get w.clients client)
 
--- the site of a call's client, where there is such a client
+-- the site of a call's client
 abbrev pub site_of : s.Workload → CallId → Option ℕ
 unfolding words
-site_of w call = option_map (λ client. nat_of client.site.value) (slice_get w.clients call.client)
+site_of w call = client_site w call.client
+
+-- the client is at this site
+abbrev pub IsClientAt : s.Workload → ℕ → ℕ → Type 0
+unfolding words
+IsClientAt w site client = client_site w client ≡ Some site
 
 -- how many calls a client has: none where there is no such client
 abbrev pub call_count : s.Workload → ℕ → ℕ
@@ -39,9 +47,9 @@ OnlyLastIsOpen [] = ⊥
 OnlyLastIsOpen (r ∷ []) = r.closing ≡ None
 OnlyLastIsOpen (r ∷ next ∷ rounds) = IsSome r.closing × OnlyLastIsOpen (next ∷ rounds)
 
-pub record IsFramed (w : s.Workload) (rounds : List Round) : Type 0 where
-  pub starts : first_base rounds ≡ Some (initial w)
-  pub segments : All (λ r. length r.segments ≡ site_count w) rounds
+pub record IsFramed (w : s.Workload) (start : List ℤ) (rounds : List Round) : Type 0 where
+  pub starts : first_base rounds ≡ Some start
+  pub segments : All (λ r. length r.segments ≡ sites_of w) rounds
   pub closed : OnlyLastIsOpen rounds
 
 -- ---- each call at its client's site
@@ -106,12 +114,18 @@ AreSerial w [] last = Unit {0}
 AreSerial w (r ∷ rounds) last = RunsTo w r (base_or rounds last) × AreSerial w rounds last
 
 -- ---- all of it
--- a history of the first calls of each client, as many as counts says
-pub record IsLegal (w : s.Workload) (counts : List ℕ) (h : History) : Type 0 where
-  pub framed : IsFramed w h.rounds
+-- a history from a database on, of the first calls of each client, as many as counts says
+pub record IsLegalFrom (w : s.Workload) (start : List ℤ) (counts : List ℕ) (h : History) : Type 0 where
+  pub framed : IsFramed w start h.rounds
   pub at_sites : All (IsAtSites w) h.rounds
   pub in_order : IsInOrder w counts (calls_of h.rounds)
   pub serial : AreSerial w h.rounds h.last
+  pub replayed : All (IsReplayed w) h.rounds
+
+-- the same from the initial database
+abbrev pub IsLegal : s.Workload → List ℕ → History → Type 0
+unfolding words
+IsLegal w counts h = IsLegalFrom w (initial w) counts h
 
 -- a legal history of all calls of each client
 abbrev pub IsFull : s.Workload → History → Type 0

@@ -1,14 +1,17 @@
--- Segments replayed: the local steps of a site's calls in a round, and entries that keep its treaty along them.
-use Rattle.std.specs.Prelude.{◌≡◌, ℕ, List, [], ◌∷◌, map, ℤ}
+-- Rounds replayed (Roy et al., SIGMOD 2015): by its local steps each site keeps its treaty, until the closing call breaks the
+-- treaty of its own site.
+use Rattle.std.specs.Prelude.{◌≡◌, ℕ, List, [], ◌∷◌, map, ℤ, Option, Some, IfSome}
 use Rattle.homeo_syntax.specs.Source as s
 use Rattle.homeo_meaning.specs.declared.call.CallId.{CallId}
-use Rattle.homeo_meaning.specs.Serial.{values_of}
-use Rattle.homeo_plan.specs.Joined.{Deltas}
-use Rattle.homeo_plan.specs.Local.{local_prints, local_deltas, replay}
+use Rattle.homeo_meaning.specs.Serial.{values_of, database_like}
+use Rattle.homeo_plan.specs.declared.treaty.Broken.{Broken}
+use Rattle.homeo_plan.specs.Joined.{Deltas, folded}
+use Rattle.homeo_plan.specs.Local.{local_prints, local_deltas, no_deltas, replay}
 use Rattle.homeo_plan.specs.Planned.{sites_of, planned_at, template_at, policy}
-use Rattle.homeo_plan.specs.Treaty.{Treaty}
+use Rattle.homeo_plan.specs.Treaty.{Treaty, finding}
 use Rattle.homeo_history.specs.Key.{words}
-use Rattle.homeo_history.specs.History.{Entry}
+use Rattle.homeo_history.specs.History.{Entry, Closing, Round}
+use Rattle.homeo_history.specs.Merge.{segment_of}
 
 -- what a call's local step prints, in a round that begins with this base
 abbrev pub prints_at : s.Workload → List ℤ → CallId → Deltas → List ℤ
@@ -40,3 +43,29 @@ abbrev pub KeepsAll : s.Workload → List ℤ → ℕ → Deltas → List Entry 
 unfolding words
 KeepsAll w base site x [] = Unit {0}
 KeepsAll w base site x (e ∷ es) = KeepsOne w base site x e × KeepsAll w base site (deltas_after w base e.call x) es
+
+-- what fails first of the site's treaty there, if anything does
+abbrev pub finding_at : s.Workload → List ℤ → ℕ → Deltas → Option Broken
+unfolding words
+finding_at w base site x = finding (template_at w base) (policy w base) site x
+
+-- the deltas that the replay of a site's segment ends with
+abbrev pub site_end : s.Workload → Round → ℕ → Deltas
+unfolding words
+site_end w r site = end_of w r.base (segment_of r.segments site) no_deltas
+
+-- from these deltas the closing call breaks its site's treaty, with the finding that stands in it
+abbrev pub Breaks : s.Workload → Round → Closing → Type 0
+unfolding words
+Breaks w r c =
+    finding_at w r.base c.site (deltas_after w r.base c.entry.call (site_end w r c.site)) ≡ Some c.broken
+
+-- each entry of a round keeps its site's treaty, and the closing call breaks it
+pub record IsReplayed (w : s.Workload) (r : Round) : Type 0 where
+  pub segments : (site : ℕ) → KeepsAll w r.base site no_deltas (segment_of r.segments site)
+  pub closing : IfSome r.closing (Breaks w r)
+
+-- the round's base with the deltas that the replays of all sites end with
+abbrev pub fold_of : s.Workload → Round → List ℤ
+unfolding words
+fold_of w r = database_like r.base (folded (sites_of w) (values_of r.base) (site_end w r))

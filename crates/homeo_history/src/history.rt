@@ -4,6 +4,7 @@ ghost use Rattle.std.specs.Prelude.{◌≡◌, [], map, replicate, option_map, I
 ghost use Rattle.homeo_history.specs.HistoryView.{plain_segment, plain_closing, plain_round};
 
 use homeo_meaning::{CallId, Database};
+use homeo_plan::Broken;
 use homeo_syntax::{List, Memory, Prints};
 use std::alloc::Global;
 
@@ -20,11 +21,12 @@ pub struct Segment {
     pub entries: List<Entry>,
 }
 
-/// The call that ends a round, and its site, from 0.
+/// The call that ends a round, its site, from 0, and what of the site's treaty it breaks.
 #[derive(Drop)]
 pub struct Closing {
     pub site: u32,
     pub entry: Entry,
+    pub broken: Broken,
 }
 
 /// A round: the database that it begins with, a segment for each site, and the call that closes it. An open round

@@ -17,7 +17,7 @@ use Rattle.homeo_history.specs.declared.history.Round.{Round}
 use Rattle.homeo_print.specs.Names.{heading}
 use Rattle.homeo_print.proofs.OneMore.{views_more}
 use Rattle.homeo_report.specs.Key.{words}
-use Rattle.homeo_report.specs.Report.{entry_line, entries_text, segment_text, segments_text, closing_text, round_text}
+use Rattle.homeo_report.specs.Report.{entry_line, entries_text, segment_text, segments_text, closing_heading, closing_text, round_text}
 
 -- ---- counting
 pub segments_count_more : (segments : List Segment) (i : ℕ) (s : Segment) → i < length segments → s ≡ get_or segments i s → length (flat_map plain_segment (take (i + 1) segments)) ≡ length (flat_map plain_segment (take i segments)) + length s.entries.items
@@ -71,7 +71,7 @@ segments_are_long w k (es ∷ segments) =
 closing_is_long : (w : s.Workload) (o : Option h.Closing) → length (option_to_list (option_map (λ c. c.entry) o)) ≤ length (closing_text w o)
 unfolding words
 closing_is_long w None = omega arith
-closing_is_long w (Some c) = omega (arith, line_is_long w c.entry, length-append (heading (codes "close ") c.site) (entry_line w c.entry))
+closing_is_long w (Some c) = omega (arith, line_is_long w c.entry, length-append (closing_heading c.site c.broken) (entry_line w c.entry))
 
 -- a round has at most as many calls as its text has bytes
 pub round_is_long : (w : s.Workload) (k : ℕ) (r : h.Round) → length (entries_of r) ≤ length (round_text w k r)

@@ -1,5 +1,17 @@
+pub mod Accepted
+pub mod Blocks
+pub mod Bytes
+pub mod CallsTold
 pub mod CanReport
 pub mod Counts
+pub mod Lines
 pub mod Lookups
+pub mod Names
 pub mod ObjectLines
+pub mod OneReport
+pub mod Reports
 pub mod RoundLines
+pub mod Splits
+pub mod Texts
+pub mod Totals
+pub mod Words

@@ -1,2 +1,4 @@
 pub mod Key
+pub mod Laws
 pub mod Report
+pub mod Summary

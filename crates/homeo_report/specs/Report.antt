@@ -1,4 +1,4 @@
--- The text of a report.
+-- The text of a report (this project's rule).
 use Rattle.std.specs.Prelude.{◌≡◌, ℕ, List, [], ◌∷◌, ◌++◌, length, ℤ, Option, Some, None, codes, decimal, slice_get}
 use Rattle.std.specs.Fmt.{signed_decimal}
 use Rattle.std.specs.List.{flat_map, enumerate_from}
@@ -6,6 +6,7 @@ use Rattle.std.specs.Option.{option_map_or}
 use Rattle.homeo_syntax.specs.Source as s
 use Rattle.homeo_meaning.specs.declared.call.CallId.{CallId}
 use Rattle.homeo_meaning.specs.Serial.{call_of, arguments}
+use Rattle.homeo_plan.specs.declared.treaty.Broken.{Broken}
 use Rattle.homeo_history.specs.History.{Entry, Closing, Round, History}
 use Rattle.homeo_history.specs.Legal.{calls_of}
 use Rattle.homeo_print.specs.Names.{newline, heading, numbers_text, name_text, object_names}
@@ -45,11 +46,18 @@ abbrev pub segments_text : s.Workload → List (List Entry) → List ℕ
 unfolding words
 segments_text w segments = flat_map (λ s. segment_text w s.0 s.1) (enumerate_from 0 segments)
 
--- close I, and the closing entry
+-- close I clause C sum S bound B
+abbrev pub closing_heading : ℕ → Broken → List ℕ
+unfolding words
+closing_heading site b =
+    codes "close " ++ decimal site ++ codes " clause " ++ decimal b.clause ++ codes " sum " ++ signed_decimal b.sum
+    ++ codes " bound " ++ signed_decimal b.bound ++ newline
+
+-- the heading of the closing call with its finding, and its entry
 abbrev pub closing_text : s.Workload → Option Closing → List ℕ
 unfolding words
 closing_text w None = []
-closing_text w (Some c) = heading (codes "close ") c.site ++ entry_line w c.entry
+closing_text w (Some c) = closing_heading c.site c.broken ++ entry_line w c.entry
 
 abbrev pub round_text : s.Workload → ℕ → Round → List ℕ
 unfolding words

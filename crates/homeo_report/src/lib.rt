@@ -2,9 +2,12 @@
 #![tactic(auto)]
 
 mod calls;
+pub mod laws;
 mod objects;
 mod rounds;
+mod summaries;
 #[cfg(test)]
 mod tests;
 
 pub use rounds::report;
+pub use summaries::summary;

@@ -6,13 +6,14 @@ ghost use Rattle.std.specs.List.{flat_map};
 ghost use Rattle.homeo_syntax.specs.SourceView.{plain_workload};
 ghost use Rattle.homeo_history.specs.HistoryView.{plain_entry, plain_segment, plain_closing, plain_round, plain_history};
 ghost use Rattle.homeo_history.specs.Legal.{entries_of, calls_of};
-ghost use Rattle.homeo_report.specs.Report.{segment_text, segments_text, closing_text, round_text, rounds_text, totals_line, report, CanReport};
+ghost use Rattle.homeo_report.specs.Report.{segment_text, segments_text, closing_heading, closing_text, round_text, rounds_text, totals_line, report, CanReport};
 
 use crate::calls::push_entry;
 use crate::objects::push_objects;
 use homeo_history::{Closing, Entry, History, Round, Segment};
 use homeo_meaning::Accepted;
-use homeo_print::{ObjectNames, push_bytes, push_heading, push_number};
+use homeo_plan::Broken;
+use homeo_print::{ObjectNames, push_bytes, push_heading, push_integer, push_number};
 use homeo_syntax::{Memory, Workload};
 use std::alloc::Global;
 
@@ -40,6 +41,22 @@ fn push_segments(out: &mut Vec<u8>, w: &Workload, segments: &[Segment]) -> Resul
     Ok(())
 }
 
+/// Appends the heading of a closing call at a site, with what the call breaks there.
+fn push_closing_heading(out: &mut Vec<u8>, site: u32, broken: Broken) -> Result<(), Memory>
+    ensures { OnOk result (out.new.items ≡ out.old.items ++ closing_heading site broken) }
+{
+    push_bytes(out, b"close ")?;
+    push_integer(out, site)?;
+    push_bytes(out, b" clause ")?;
+    push_integer(out, broken.clause)?;
+    push_bytes(out, b" sum ")?;
+    push_integer(out, broken.sum)?;
+    push_bytes(out, b" bound ")?;
+    push_integer(out, broken.bound)?;
+    push_bytes(out, b"\n")?;
+    Ok(())
+}
+
 fn push_closing(out: &mut Vec<u8>, w: &Workload, closing: &Option<Closing>) -> Result<(), Memory>
     ensures { OnOk result (out.new.items
         ≡ out.old.items
@@ -47,7 +64,7 @@ fn push_closing(out: &mut Vec<u8>, w: &Workload, closing: &Option<Closing>) -> R
 {
     match closing {
         Some(closing) => {
-            push_heading(out, b"close ", closing.site as u64)?;
+            push_closing_heading(out, closing.site, closing.broken)?;
             push_entry(out, w, &closing.entry)?;
             Ok(())
         }

@@ -5,8 +5,10 @@ ghost use Rattle.homeo_syntax.specs.SourceView.{plain_workload};
 ghost use Rattle.homeo_print.specs.Names.{object_names};
 
 use crate::rounds::report_of;
+use crate::summaries::summary_of;
 use homeo_history::{Closing, Entry, History, Round, Segment};
 use homeo_meaning::{CallId, Database};
+use homeo_plan::Broken;
 use homeo_syntax::{Call, Client, Ident, List, Number, ObjectDecl, Text, Workload};
 use std::alloc::Global;
 use std::test::Fail;
@@ -106,6 +108,16 @@ fn told(alloc: Global, rounds: List<Round>, value: i64, args: &[Number]) -> Resu
     Ok(report_of(alloc, &history, &w)?)
 }
 
+/// The summary of such a run.
+fn summed(alloc: Global, rounds: List<Round>, value: i64) -> Result<Vec<u8>, Fail> {
+    let w = workload(alloc, &[])?;
+    let history = History {
+        rounds,
+        last: database(alloc, value)?,
+    };
+    Ok(summary_of(alloc, &history, &w)?)
+}
+
 #[test]
 fn rounds_of_closing_calls(rt: HostRuntime) -> Result<(), Fail> {
     let alloc = rt.alloc();
@@ -113,12 +125,17 @@ fn rounds_of_closing_calls(rt: HostRuntime) -> Result<(), Fail> {
     let first = Closing {
         site: 1,
         entry: entry(alloc, 1, &[3])?,
+        broken: Broken {
+            clause: 2,
+            sum: -4,
+            bound: 0,
+        },
     };
     rounds.push(Round::without_entries(alloc, database(alloc, 2)?, 2, Some(first))?)?;
     rounds.push(Round::without_entries(alloc, database(alloc, 3)?, 2, None)?)?;
     let text = told(alloc, rounds, 3, &[])?;
     let want =
-        b"round 0\nsite 0\nsite 1\nclose 1\nb 1 up(): 3\nround 1\nsite 0\nsite 1\ndatabase\nx = 3\nrounds 2 calls 1\n";
+        b"round 0\nsite 0\nsite 1\nclose 1 clause 2 sum -4 bound 0\nb 1 up(): 3\nround 1\nsite 0\nsite 1\ndatabase\nx = 3\nrounds 2 calls 1\n";
     assert_eq!(rt; text.as_slice(), want.as_slice());
     Ok(())
 }
@@ -139,5 +156,25 @@ fn an_entry_of_a_site(rt: HostRuntime) -> Result<(), Fail> {
     let text = told(alloc, rounds, -1, &[number(7), number(-2)])?;
     let want = b"round 0\nsite 0\na 1 up(7, -2): -5 0\ndatabase\nx = -1\nrounds 1 calls 1\n";
     assert_eq!(rt; text.as_slice(), want.as_slice());
+    Ok(())
+}
+
+#[test]
+fn a_summary_counts_calls_and_prints(rt: HostRuntime) -> Result<(), Fail> {
+    let alloc = rt.alloc();
+    let mut rounds = List::new(alloc);
+    let first = Closing {
+        site: 1,
+        entry: entry(alloc, 1, &[3, 4])?,
+        broken: Broken {
+            clause: 0,
+            sum: 1,
+            bound: 0,
+        },
+    };
+    rounds.push(Round::without_entries(alloc, database(alloc, 2)?, 2, Some(first))?)?;
+    rounds.push(Round::without_entries(alloc, database(alloc, 3)?, 2, None)?)?;
+    let text = summed(alloc, rounds, 3)?;
+    assert_eq!(rt; text.as_slice(), b"calls 1\nprints 2\nx = 3\n".as_slice());
     Ok(())
 }
