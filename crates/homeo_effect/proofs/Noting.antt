@@ -1,0 +1,110 @@
+-- Tables of numbers by object, as numbers are put in and looked up.
+use Rattle.std.proofs.Common.{◌≡◌, ℕ, ◌==◌, ◌+◌, ◌<◌, Bool, true, false, cond, ◌&&◌, List, [], ◌∷◌, ◌++◌, map, set, take, get_or, length, refl, sym, ap, ◌∙◌, subst, arith}
+use Rattle.std.specs.Prelude.{◌||◌}
+use Rattle.std.proofs.lemmas.Bool.Decides.{nat_tests}
+use Rattle.std.proofs.lemmas.List.{map-set, map-append, get_or-map, length-map}
+use Rattle.std.proofs.lemmas.List.Folds.{list_any-append, list_any_more}
+use Rattle.homeo_meaning.proofs.AbsentItems.{padded_more, padded_set}
+use Rattle.homeo_plan.specs.Key.{words as plan_words}
+use Rattle.homeo_plan.specs.declared.forms.Delta.{Delta}
+use Rattle.homeo_plan.specs.declared.forms.Term.{Term}
+use Rattle.homeo_plan.specs.Linear.{delta_of}
+use Rattle.homeo_effect.specs.Key.{words}
+use Rattle.homeo_effect.specs.Touched.{is_among, are_on}
+use Rattle.homeo_effect.specs.inner.Uses.{has, at_object}
+
+-- ---- one object's numbers
+module _ {A : Type 0} (f : A → List ℕ) where
+  pub room_more : (us : List A) (v : A) → f v ≡ [] → (x : ℕ) → at_object x (map f (us ++ v ∷ [])) ≡ at_object x (map f us)
+  room_more us v e x =
+      ap (at_object x) (map-append f us (v ∷ []) ∙ ap (λ t. map f us ++ t ∷ []) e) ∙ padded_more (map f us) [] x
+
+  pub noted :
+      (us : List A) (object : ℕ) (v new : A) (number : ℕ) → object < length us → v ≡ get_or us object v → f new ≡ f v ++ number ∷ [] → (x : ℕ) →
+      at_object x (map f (set us object new)) ≡ cond (object == x) (at_object x (map f us) ++ number ∷ []) (at_object x (map f us))
+  noted us object v new number h p e x =
+      let long : object < length (map f us) = subst (λ n. object < n) (sym (length-map us f)) h in
+      ap (at_object x) (map-set f us object new) ∙ padded_set (map f us) object (f new) [] x long ∙ go (object == x) refl
+    where
+      go :
+          (b : Bool) → (object == x) ≡ b →
+          cond b (f new) (at_object x (map f us)) ≡ cond b (at_object x (map f us) ++ number ∷ []) (at_object x (map f us))
+      go true q =
+          let same : object ≡ x = grind (arith, nat_tests) in
+          e ∙ ap (λ ns. ns ++ number ∷ []) (ap f p ∙ sym (get_or-map f us object v [] h) ∙ ap (λ y. at_object y (map f us)) same)
+      go false q = refl
+
+-- ---- terms
+or_false : (b : Bool) → (b || false) ≡ b
+or_false true = refl
+or_false false = refl
+
+here_is : (d : Delta) (site x : ℕ) → d.site ≡ site → is_among (delta_of x site ∷ []) d ≡ (d.object == x)
+unfolding words plan_words
+here_is d site x e =
+    let q : (d.site == site) ≡ true = grind (arith, nat_tests) in
+    or_false ((d.object == x) && (d.site == site)) ∙ ap (λ v. (d.object == x) && v) q ∙ and_true (d.object == x)
+  where
+    and_true : (b : Bool) → (b && true) ≡ b
+    and_true true = refl
+    and_true false = refl
+
+pub there_is : (d : Delta) (site x : ℕ) → (d.site == site) ≡ false → is_among (delta_of x site ∷ []) d ≡ false
+unfolding words plan_words
+there_is d site x q = or_false ((d.object == x) && (d.site == site)) ∙ ap (λ v. (d.object == x) && v) q ∙ and_false (d.object == x)
+  where
+    and_false : (b : Bool) → (b && false) ≡ false
+    and_false true = refl
+    and_false false = refl
+
+on_more : (ds : List Delta) (ts : List Term) (k : ℕ) (t d : Term) → k < length ts → t ≡ get_or ts k d → are_on ds (take (k + 1) ts) ≡ (are_on ds (take k ts) || is_among ds t.delta)
+unfolding words
+on_more ds ts k t d h p =
+    list_any_more (λ (u : Term). is_among ds u.delta) ts k d h ∙ ap (λ (u : Term). are_on ds (take k ts) || is_among ds u.delta) (sym p)
+
+with_none : (b o e : Bool) → (b || (o && e)) ≡ (b || ((o || false) && e))
+with_none true o e = refl
+with_none false true e = refl
+with_none false false e = refl
+
+-- what is put at an object, of which the site's delta is noted
+pub one_noted :
+    (d : Delta) (site number x n : ℕ) → d.site ≡ site → (before after : List ℕ) → after ≡ cond (d.object == x) (before ++ number ∷ []) before →
+    has n after ≡ (has n before || (is_among (delta_of x site ∷ []) d && (n == number)))
+one_noted d site number x n e before after put =
+    ap (has n) put ∙ go (d.object == x) ∙ ap (λ v. has n before || (v && (n == number))) (sym (here_is d site x e))
+  where
+    go : (v : Bool) → has n (cond v (before ++ number ∷ []) before) ≡ (has n before || (v && (n == number)))
+    go true = list_any-append (λ m. n == m) before (number ∷ []) ∙ ap (λ v. has n before || v) (or_false (n == number))
+    go false = sym (or_false (has n before))
+
+join_or : (b o v e : Bool) → ((b || (o && e)) || (v && e)) ≡ (b || ((o || v) && e))
+join_or true o v e = refl
+join_or false true v true = refl
+join_or false true true false = refl
+join_or false true false false = refl
+join_or false false v e = refl
+
+module _ (ts : List Term) (k : ℕ) (t d : Term) (lt : k < length ts) (p : t ≡ get_or ts k d) (site number : ℕ) (first before : List (List ℕ))
+    (so_far : (x n : ℕ) → has n (at_object x before) ≡ (has n (at_object x first) || (are_on (delta_of x site ∷ []) (take k ts) && (n == number))))
+  where
+    pub term_noted :
+        t.delta.site ≡ site → (after : List (List ℕ)) →
+        ((x : ℕ) → at_object x after ≡ cond (t.delta.object == x) (at_object x before ++ number ∷ []) (at_object x before)) → (x n : ℕ) →
+        has n (at_object x after) ≡ (has n (at_object x first) || (are_on (delta_of x site ∷ []) (take (k + 1) ts) && (n == number)))
+    term_noted e after put x n =
+        one_noted t.delta site number x n e (at_object x before) (at_object x after) (put x)
+        ∙ ap (λ v. v || (is_among (delta_of x site ∷ []) t.delta && (n == number))) (so_far x n)
+        ∙ join_or (has n (at_object x first)) (are_on (delta_of x site ∷ []) (take k ts)) (is_among (delta_of x site ∷ []) t.delta) (n == number)
+        ∙ ap (λ v. has n (at_object x first) || (v && (n == number))) (sym (on_more (delta_of x site ∷ []) ts k t d lt p))
+
+    pub term_skipped :
+        (t.delta.site == site) ≡ false → (x n : ℕ) →
+        has n (at_object x before) ≡ (has n (at_object x first) || (are_on (delta_of x site ∷ []) (take (k + 1) ts) && (n == number)))
+    term_skipped q x n =
+        so_far x n ∙ with_none (has n (at_object x first)) (are_on (delta_of x site ∷ []) (take k ts)) (n == number)
+        ∙ ap (λ v. has n (at_object x first) || ((are_on (delta_of x site ∷ []) (take k ts) || v) && (n == number))) (sym (there_is t.delta site x q))
+        ∙ ap (λ v. has n (at_object x first) || (v && (n == number))) (sym (on_more (delta_of x site ∷ []) ts k t d lt p))
+
+pub terms_none : (b e : Bool) → b ≡ (b || (false && e))
+terms_none b e = sym (or_false b)

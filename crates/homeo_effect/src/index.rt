@@ -1,0 +1,94 @@
+//! Which clauses and freezes of a treaty stand on each delta of its site.
+
+ghost use Rattle.std.specs.Prelude.{◌≡◌, ◌+◌, ◌<◌, ◌^◌, length, map, IfOk};
+ghost use Rattle.homeo_syntax.specs.LowView.{low_commands, plain_lcommand};
+ghost use Rattle.homeo_plan.specs.PlanView.{plain_template};
+ghost use Rattle.homeo_effect.specs.Touched.{written, WritesOwn, touched_clauses, touched_freezes};
+
+use crate::uses::{clause_uses, freeze_uses, touched};
+use homeo_plan::LocalTreaty;
+use homeo_syntax::{LCommand, List, Memory};
+use std::alloc::Global;
+use std::marker::Model;
+
+/// A treaty with an index over it: of each object the clauses with a term on its delta of the treaty's site, and the
+/// freezes of that delta. It is made once for many calls.
+#[derive(Drop)]
+pub struct TreatyIndex<'a> {
+    treaty: &'a LocalTreaty,
+    clauses: Vec<Vec<u32>>,
+    freezes: Vec<Vec<u32>>,
+}
+
+impl<'a> Model for TreatyIndex<'a> {
+    ghost use Rattle.std.specs.Prelude.{map, length};
+    ghost use Rattle.homeo_plan.specs.PlanView.{plain_template};
+    ghost use Rattle.homeo_effect.specs.Indexed.{Indexed};
+    ghost use Rattle.homeo_effect.specs.inner.Uses.{KeepsClauses, KeepsFreezes};
+
+    ghost Value = { Indexed };
+
+    ghost view = { λ x. record { site = x.treaty.now.site; template = plain_template x.treaty.now.template } };
+
+    ghost invariant = { λ x. KeepsClauses x.treaty.now.site (plain_template x.treaty.now.template).clauses (map (λ v. v.items) x.clauses.items)
+        × KeepsFreezes x.treaty.now.site (length x.treaty.now.template.clauses.items) x.treaty.now.template.freezes.items (map (λ v. v.items) x.freezes.items) };
+}
+
+impl<'a> TreatyIndex<'a> {
+    /// Makes the index of a treaty, in one pass over its terms and freezes.
+    ///
+    /// The clauses and freezes together must be fewer than 2^32.
+    ///
+    /// # Errors
+    ///
+    /// `Memory` when out of memory.
+    pub fn of(alloc: Global, treaty: &'a LocalTreaty) -> Result<TreatyIndex<'a>, Memory>
+        requires { length treaty.now.template.clauses.items + length treaty.now.template.freezes.items < 2 ^ 32 }
+        ensures site { IfOk result (λ x. x.site ≡ treaty.now.site) }
+        ensures template { IfOk result (λ x. x.template ≡ plain_template treaty.now.template) }
+    {
+        let all = treaty.template.clauses.as_slice();
+        let clauses = clause_uses(alloc, treaty.site, all)?;
+        let first = all.len() as u32;
+        let freezes = freeze_uses(
+            alloc,
+            treaty.site,
+            first,
+            treaty.template.freezes.as_slice(),
+        )?;
+        Ok(TreatyIndex {
+            treaty,
+            clauses,
+            freezes,
+        })
+    }
+
+    /// The numbers of the clauses with a term on a delta that commands write: rising. They must write deltas of the
+    /// treaty's site alone.
+    pub(crate) fn clauses_touched(
+        &self,
+        alloc: Global,
+        commands: &[LCommand],
+    ) -> Result<List<u32>, Memory>
+        requires { WritesOwn self.now.site (low_commands (map plain_lcommand commands.now)) }
+        ensures { IfOk result (λ v. v.items ≡
+            touched_clauses (written (low_commands (map plain_lcommand commands.now))) self.now.template) }
+    {
+        let numbers = touched(alloc, self.clauses.as_slice(), commands)?;
+        Ok(List::from_vec(numbers))
+    }
+
+    /// The numbers of the freezes that commands write: rising. They must write deltas of the treaty's site alone.
+    pub(crate) fn freezes_touched(
+        &self,
+        alloc: Global,
+        commands: &[LCommand],
+    ) -> Result<List<u32>, Memory>
+        requires { WritesOwn self.now.site (low_commands (map plain_lcommand commands.now)) }
+        ensures { IfOk result (λ v. v.items ≡
+            touched_freezes (written (low_commands (map plain_lcommand commands.now))) self.now.template) }
+    {
+        let numbers = touched(alloc, self.freezes.as_slice(), commands)?;
+        Ok(List::from_vec(numbers))
+    }
+}

@@ -1,0 +1,148 @@
+//! Numbers by object: where clauses and freezes stand on the deltas of one site.
+
+ghost use Rattle.std.specs.Prelude.{◌≡◌, ◌==◌, ◌+◌, ◌<◌, ◌^◌, ◌&&◌, ◌||◌, ◌++◌, ◌∷◌, [], ℕ, if◌then◌else◌, length, map, option_to_list, IfOk, OnOk};
+ghost use Rattle.std.specs.Ordering.{nat_cmp};
+ghost use Rattle.std.specs.List.Sorted.{IsStrictlySortedBy};
+ghost use Rattle.homeo_syntax.specs.LowView.{low_commands, plain_lcommand};
+ghost use Rattle.homeo_plan.specs.Linear.{delta_of};
+ghost use Rattle.homeo_plan.specs.PlanView.{plain_clause};
+ghost use Rattle.homeo_effect.specs.Touched.{with_delta, written, are_on};
+ghost use Rattle.homeo_effect.specs.inner.Uses.{has, at_object, is_at, KeepsClauses, KeepsFreezes};
+
+use homeo_plan::{Clause, Delta, Term};
+use homeo_syntax::{LCommand, List, Memory, SplitName};
+use std::alloc::Global;
+
+/// Puts a number at an object.
+fn note(alloc: Global, uses: &mut Vec<Vec<u32>>, object: usize, number: u32) -> Result<(), Memory>
+    ensures { OnOk result ((x : ℕ) → at_object x (map (λ v. v.items) uses.new.items) ≡
+        if object == x then at_object x (map (λ v. v.items) uses.old.items) ++ number ∷ []
+        else at_object x (map (λ v. v.items) uses.old.items)) }
+{
+    while uses.len() <= object {
+        uses.push(Vec::new(alloc))?;
+    }
+    uses[object].push(number)?;
+    Ok(())
+}
+
+/// Puts a number at each object of which there is a term on the site's delta.
+fn note_terms(
+    alloc: Global,
+    uses: &mut Vec<Vec<u32>>,
+    site: u32,
+    number: u32,
+    terms: &[Term],
+) -> Result<(), Memory>
+    ensures { OnOk result ((x n : ℕ) → has n (at_object x (map (λ v. v.items) uses.new.items)) ≡
+        (has n (at_object x (map (λ v. v.items) uses.old.items)) || (are_on (delta_of x site ∷ []) terms.now && (n == number)))) }
+{
+    for term in terms {
+        if term.delta.site == site {
+            note(alloc, uses, term.delta.object as usize, number)?;
+        }
+    }
+    Ok(())
+}
+
+/// The numbers of the clauses, from 0, at the objects on whose deltas of the site they have terms.
+pub(crate) fn clause_uses(
+    alloc: Global,
+    site: u32,
+    clauses: &[Clause],
+) -> Result<Vec<Vec<u32>>, Memory>
+    requires { length clauses.now < 2 ^ 32 }
+    ensures { IfOk result (λ u. KeepsClauses site (map plain_clause clauses.now) (map (λ v. v.items) u.items)) }
+{
+    let mut uses = Vec::new(alloc);
+    let mut number = 0;
+    for clause in clauses {
+        note_terms(alloc, &mut uses, site, number, clause.terms.as_slice())?;
+        number += 1;
+    }
+    Ok(uses)
+}
+
+/// The numbers of the freezes, from the first on, at the objects whose deltas of the site they freeze.
+pub(crate) fn freeze_uses(
+    alloc: Global,
+    site: u32,
+    first: u32,
+    freezes: &[Delta],
+) -> Result<Vec<Vec<u32>>, Memory>
+    requires { first + length freezes.now < 2 ^ 32 }
+    ensures { IfOk result (λ u. KeepsFreezes site first freezes.now (map (λ v. v.items) u.items)) }
+{
+    let mut uses = Vec::new(alloc);
+    let mut number = first;
+    for freeze in freezes {
+        if freeze.site == site {
+            note(alloc, &mut uses, freeze.object as usize, number)?;
+        }
+        number += 1;
+    }
+    Ok(uses)
+}
+
+/// Appends the numbers at an object.
+fn append(numbers: &mut Vec<u32>, uses: &[Vec<u32>], object: usize) -> Result<(), Memory>
+    ensures { OnOk result (numbers.new.items ≡ numbers.old.items ++ at_object object (map (λ v. v.items) uses.now)) }
+{
+    if object < uses.len() {
+        numbers.extend_from_slice(uses[object].as_slice())?;
+    }
+    Ok(())
+}
+
+/// The delta that a command writes.
+#[tactic(auto, using(homeo_syntax::proofs::LowViews::low_command_views, crate::proofs::Equations::writes))]
+fn written_delta(c: &LCommand) -> Option<Delta>
+    ensures { written (low_commands (plain_lcommand c.now ∷ [])) ≡ option_to_list result }
+{
+    match c {
+        LCommand::Write { target, value: _ } => delta_named(*target),
+        LCommand::Skip => None,
+        LCommand::Assign { .. } => None,
+        LCommand::Print { .. } => None,
+        LCommand::Seq { .. } => None,
+        LCommand::If { .. } => None,
+    }
+}
+
+/// The delta that a name stands for.
+#[tactic(auto, unfolding(crate::specs::Key::words, homeo_plan::specs::Key::words))]
+fn delta_named(name: SplitName) -> Option<Delta>
+    ensures { with_delta name [] ≡ option_to_list result }
+{
+    match name {
+        SplitName::Delta { object, site } => Some(Delta { object, site }),
+        SplitName::Whole(_) => None,
+        SplitName::Base(_) => None,
+    }
+}
+
+/// Appends the numbers at the object of which a command writes a delta.
+fn append_written(numbers: &mut Vec<u32>, uses: &[Vec<u32>], c: &LCommand) -> Result<(), Memory>
+    ensures { OnOk result ((n : ℕ) → has n numbers.new.items ≡
+        (has n numbers.old.items || is_at n (written (low_commands (plain_lcommand c.now ∷ []))) (map (λ v. v.items) uses.now))) }
+{
+    match written_delta(c) {
+        Some(delta) => append(numbers, uses, delta.object as usize),
+        None => Ok(()),
+    }
+}
+
+/// The numbers at the objects of which commands write a delta: rising, each once.
+pub(crate) fn touched(alloc: Global, uses: &[Vec<u32>], cs: &[LCommand]) -> Result<Vec<u32>, Memory>
+    ensures rising { IfOk result (λ v. IsStrictlySortedBy nat_cmp v.items) }
+    ensures all { IfOk result (λ v. (n : ℕ) → has n v.items ≡
+        is_at n (written (low_commands (map plain_lcommand cs.now))) (map (λ v. v.items) uses.now)) }
+{
+    let mut numbers = Vec::new(alloc);
+    for c in cs {
+        append_written(&mut numbers, uses, c)?;
+    }
+    numbers.sort_unstable();
+    numbers.dedup();
+    Ok(numbers)
+}

@@ -1,0 +1,119 @@
+//! An object at two sites, of which the first takes one.
+
+ghost use Rattle.std.specs.Prelude.{◌≡◌, ◌+◌, ◌<◌, ◌^◌, length, IfOk};
+ghost use Rattle.homeo_syntax.specs.Low.{Neg, Read};
+ghost use Rattle.homeo_syntax.specs.LowView.{plain_lexpr};
+ghost use Rattle.homeo_site_tests.specs.inner.Example.{base, joined, lowered, pair_of, sum_of, IsExample};
+
+use homeo_meaning::Database;
+use homeo_plan::{Clause, Config, Delta, LocalTreaty, Residual, Template, Term};
+use homeo_syntax::{LCommand, LExpr, List, Memory, SplitName, Temp};
+use std::alloc::Global;
+
+pub(crate) fn base(alloc: Global) -> Result<Database, Memory>
+    ensures { IfOk result (λ b. b.items ≡ base) }
+{
+    let mut base = List::new(alloc);
+    base.push(5)?;
+    Ok(base)
+}
+
+fn pair(alloc: Global, first: LExpr, second: LExpr) -> Result<LExpr, Memory>
+    ensures { IfOk result (λ e. plain_lexpr e ≡ pair_of (plain_lexpr first) (plain_lexpr second)) }
+{
+    let mut terms = List::new(alloc);
+    terms.push(first)?;
+    terms.push(second)?;
+    Ok(LExpr::Sum(terms))
+}
+
+fn sum(alloc: Global, first: LExpr, second: LExpr, third: LExpr) -> Result<LExpr, Memory>
+    ensures { IfOk result (λ e. plain_lexpr e ≡ sum_of (plain_lexpr first) (plain_lexpr second) (plain_lexpr third)) }
+{
+    let mut terms = List::new(alloc);
+    terms.push(first)?;
+    terms.push(second)?;
+    terms.push(third)?;
+    Ok(LExpr::Sum(terms))
+}
+
+#[tactic(auto, using(homeo_syntax::proofs::LowViews::low_phrase_views))]
+fn minus(alloc: Global, e: LExpr) -> Result<LExpr, Memory>
+    ensures { IfOk result (λ d. plain_lexpr d ≡ Neg (plain_lexpr e)) }
+{
+    Ok(LExpr::Neg(Box::new(alloc, e)?))
+}
+
+fn joined(alloc: Global) -> Result<LExpr, Memory>
+    ensures { IfOk result (λ e. plain_lexpr e ≡ joined) }
+{
+    sum(
+        alloc,
+        LExpr::Read(SplitName::Base(0)),
+        LExpr::Read(SplitName::Delta { object: 0, site: 0 }),
+        LExpr::Read(SplitName::Delta { object: 0, site: 1 }),
+    )
+}
+
+fn lowered(alloc: Global) -> Result<LExpr, Memory>
+    ensures { IfOk result (λ e. plain_lexpr e ≡ lowered) }
+{
+    let one = minus(alloc, LExpr::Literal(1))?;
+    let less = pair(alloc, LExpr::Temp(Temp::Named(7)), one)?;
+    let base = minus(alloc, LExpr::Read(SplitName::Base(0)))?;
+    let there = minus(alloc, LExpr::Read(SplitName::Delta { object: 0, site: 1 }))?;
+    sum(alloc, less, base, there)
+}
+
+/// At site 0: temporary 7 is set to the object, the site's delta to what is one less, and 1 is printed.
+pub(crate) fn residual(alloc: Global) -> Result<Residual, Memory>
+    ensures example { IfOk result IsExample }
+    ensures few { IfOk result (λ r. length r.commands.items < 2 ^ 32) }
+{
+    let mut commands = List::new(alloc);
+    commands.push(LCommand::Assign {
+        target: Temp::Named(7),
+        value: joined(alloc)?,
+    })?;
+    commands.push(LCommand::Write {
+        target: SplitName::Delta { object: 0, site: 0 },
+        value: lowered(alloc)?,
+    })?;
+    commands.push(LCommand::Print {
+        value: LExpr::Literal(1),
+    })?;
+    Ok(Residual { site: 0, commands })
+}
+
+fn clause(alloc: Global, factor: i128, slack: i128) -> Result<Clause, Memory> {
+    let term = Term {
+        delta: Delta { object: 0, site: 0 },
+        factor,
+    };
+    Ok(Clause {
+        terms: List::from_vec([term].to_vec(alloc)?),
+        slack,
+    })
+}
+
+/// The object is from 1 to 9: of its delta at site 0 at most 4 may be taken, and 2 added.
+pub(crate) fn treaty(alloc: Global) -> Result<LocalTreaty, Memory>
+    ensures site { IfOk result (λ t. t.site ≡ 0) }
+    ensures few { IfOk result (λ t. length t.template.clauses.items + length t.template.freezes.items < 2 ^ 32) }
+{
+    let mut clauses = List::new(alloc);
+    clauses.push(clause(alloc, -1, 4)?)?;
+    clauses.push(clause(alloc, 1, 4)?)?;
+    let mut bounds = List::new(alloc);
+    bounds.push(List::from_vec([4, 0].to_vec(alloc)?))?;
+    bounds.push(List::from_vec([2, 2].to_vec(alloc)?))?;
+    Ok(LocalTreaty {
+        site: 0,
+        template: Template {
+            sites: 2,
+            clauses,
+            freezes: List::new(alloc),
+        },
+        config: Config { bounds },
+    })
+}

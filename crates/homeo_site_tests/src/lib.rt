@@ -1,0 +1,7 @@
+//! Tests of what a site does by itself, on values made here.
+#![tactic(auto)]
+
+#[cfg(test)]
+mod example;
+#[cfg(test)]
+mod residuals;
