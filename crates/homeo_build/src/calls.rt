@@ -17,9 +17,10 @@ ghost use Rattle.homeo_plan.specs.Template.{atoms_of, needs_of};
 ghost use Rattle.homeo_build.specs.Plan.{sited_residual, residuals_at};
 ghost use Rattle.homeo_build.specs.inner.Planning.{CanPlan};
 
+use crate::compiled::Compiled;
 use homeo_linear::{atoms, needs};
 use homeo_meaning::GroundCall;
-use homeo_plan::{AtomSet, Compiled, FreezeSet, Residual, Row};
+use homeo_plan::{AtomSet, FreezeSet, Residual, Row};
 use homeo_split::Split;
 use homeo_syntax::{LCommand, List, Memory};
 use homeo_table::walk;

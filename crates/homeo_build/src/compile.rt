@@ -10,13 +10,13 @@ ghost use Rattle.homeo_plan.specs.Planned.{sites_of, planned_call, transformed};
 ghost use Rattle.homeo_plan.specs.Template.{shifted};
 ghost use Rattle.homeo_build.specs.inner.Planning.{CanCompile};
 
+use crate::compiled::Compiled;
 use crate::sites::site_count;
 use homeo_context::Declarations;
 use homeo_delta::transform;
 use homeo_desugar::desugar;
 use homeo_ground::Grounding;
 use homeo_meaning::{Accepted, GroundCall};
-use homeo_plan::Compiled;
 use homeo_syntax::{LCommand, List, Memory};
 use std::alloc::Global;
 
@@ -31,20 +31,9 @@ pub fn compile(alloc: Global, w: Accepted) -> Result<Compiled, Memory>
 {
     let sites = site_count(&w);
     let declared = Declarations::of(alloc, &w)?;
-    let grounding = Grounding::of(alloc, &w)?;
-    let calls = copy_calls(alloc, grounding.calls())?;
-    let commands = transform_calls(alloc, &w, &declared, sites, calls.as_slice())?;
+    let calls = Grounding::of(alloc, &w)?;
+    let commands = transform_calls(alloc, &w, &declared, sites, calls.calls())?;
     Ok(Compiled::new(w, calls, commands))
-}
-
-fn copy_calls(alloc: Global, calls: &[GroundCall]) -> Result<List<GroundCall>, Memory>
-    ensures { IfOk result (λ c. map plain_ground c.items ≡ map plain_ground calls.now) }
-{
-    let mut copy = List::new(alloc);
-    for call in calls {
-        copy.push(call.copy(alloc)?)?;
-    }
-    Ok(copy)
 }
 
 /// The delta transform of the L form of each ground call.

@@ -3,6 +3,9 @@
 
 mod calls;
 pub mod compile;
+mod compiled;
 pub mod laws;
 mod sites;
 pub mod treaties;
+
+pub use compiled::Compiled;

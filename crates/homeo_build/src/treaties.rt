@@ -15,10 +15,11 @@ ghost use Rattle.homeo_template.specs.InOrder.{AreInOrder};
 ghost use Rattle.homeo_build.specs.Plan.{config_or, sited_residual, residuals_at, IsPlanOf};
 
 use crate::calls::plan_calls;
+use crate::compiled::Compiled;
 use crate::sites::site_count;
 use homeo_config::split_even;
 use homeo_meaning::Database;
-use homeo_plan::{Compiled, Config, RoundPlan, Template};
+use homeo_plan::{Config, RoundPlan, Template};
 use homeo_split::Split;
 use homeo_syntax::{List, Memory};
 use homeo_template::template;

@@ -1,3 +1,4 @@
+pub mod Counted
 pub mod Equations
 pub mod Fitting
 pub mod Keeping

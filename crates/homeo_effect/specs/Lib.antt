@@ -1,3 +1,4 @@
+pub mod Counts
 pub mod EffectsView
 pub mod Indexed
 pub mod Key

@@ -6,16 +6,17 @@ ghost use Rattle.homeo_plan.specs.PlanView.{plain_template};
 ghost use Rattle.homeo_effect.specs.Touched.{written, WritesOwn, touched_clauses, touched_freezes};
 
 use crate::uses::{clause_uses, freeze_uses, touched};
-use homeo_plan::LocalTreaty;
+use homeo_plan::Template;
 use homeo_syntax::{LCommand, List, Memory};
 use std::alloc::Global;
 use std::marker::Model;
 
-/// A treaty with an index over it: of each object the clauses with a term on its delta of the treaty's site, and the
+/// A template with an index over it for one site: of each object the clauses with a term on its delta of this site, and the
 /// freezes of that delta. It is made once for many calls.
 #[derive(Drop)]
 pub struct TreatyIndex<'a> {
-    treaty: &'a LocalTreaty,
+    site: u32,
+    template: &'a Template,
     clauses: Vec<Vec<u32>>,
     freezes: Vec<Vec<u32>>,
 }
@@ -28,43 +29,48 @@ impl<'a> Model for TreatyIndex<'a> {
 
     ghost Value = { Indexed };
 
-    ghost view = { λ x. record { site = x.treaty.now.site; template = plain_template x.treaty.now.template } };
+    ghost view = { λ x. record { site = x.site; template = plain_template x.template.now } };
 
-    ghost invariant = { λ x. KeepsClauses x.treaty.now.site (plain_template x.treaty.now.template).clauses (map (λ v. v.items) x.clauses.items)
-        × KeepsFreezes x.treaty.now.site (length x.treaty.now.template.clauses.items) x.treaty.now.template.freezes.items (map (λ v. v.items) x.freezes.items) };
+    ghost invariant = { λ x. KeepsClauses x.site (plain_template x.template.now).clauses (map (λ v. v.items) x.clauses.items)
+        × KeepsFreezes x.site (length x.template.now.clauses.items) x.template.now.freezes.items (map (λ v. v.items) x.freezes.items) };
 }
 
 impl<'a> TreatyIndex<'a> {
-    /// Makes the index of a treaty, in one pass over its terms and freezes.
+    /// Makes the index of a template for a site, in one pass over its terms and freezes.
     ///
     /// The clauses and freezes together must be fewer than 2^32.
     ///
     /// # Errors
     ///
     /// `Memory` when out of memory.
-    pub fn of(alloc: Global, treaty: &'a LocalTreaty) -> Result<TreatyIndex<'a>, Memory>
-        requires { length treaty.now.template.clauses.items + length treaty.now.template.freezes.items < 2 ^ 32 }
-        ensures site { IfOk result (λ x. x.site ≡ treaty.now.site) }
-        ensures template { IfOk result (λ x. x.template ≡ plain_template treaty.now.template) }
+    pub fn of(
+        alloc: Global,
+        template: &'a Template,
+        site: u32,
+    ) -> Result<TreatyIndex<'a>, Memory>
+        requires { length template.now.clauses.items + length template.now.freezes.items < 2 ^ 32 }
+        ensures site { IfOk result (λ x. x.site ≡ site) }
+        ensures template { IfOk result (λ x. x.template ≡ plain_template template.now) }
     {
-        let all = treaty.template.clauses.as_slice();
-        let clauses = clause_uses(alloc, treaty.site, all)?;
+        let all = template.clauses.as_slice();
+        let clauses = clause_uses(alloc, site, all)?;
         let first = all.len() as u32;
         let freezes = freeze_uses(
             alloc,
-            treaty.site,
+            site,
             first,
-            treaty.template.freezes.as_slice(),
+            template.freezes.as_slice(),
         )?;
         Ok(TreatyIndex {
-            treaty,
+            site,
+            template,
             clauses,
             freezes,
         })
     }
 
     /// The numbers of the clauses with a term on a delta that commands write: rising. They must write deltas of the
-    /// treaty's site alone.
+    /// index's site alone.
     pub(crate) fn clauses_touched(
         &self,
         alloc: Global,
@@ -78,7 +84,7 @@ impl<'a> TreatyIndex<'a> {
         Ok(List::from_vec(numbers))
     }
 
-    /// The numbers of the freezes that commands write: rising. They must write deltas of the treaty's site alone.
+    /// The numbers of the freezes that commands write: rising. They must write deltas of the index's site alone.
     pub(crate) fn freezes_touched(
         &self,
         alloc: Global,

@@ -6,6 +6,7 @@ ghost use Rattle.homeo_meaning.specs.Serial.{values_of};
 ghost use Rattle.homeo_plan.specs.Holding.{SameOwn};
 ghost use Rattle.homeo_plan.specs.Joined.{alone};
 ghost use Rattle.homeo_split.specs.CanExec.{limit, can_exec_all};
+ghost use Rattle.homeo_effect.specs.Counts.{assignment_count, print_count};
 ghost use Rattle.homeo_effect.specs.EffectsView.{plain_commands};
 ghost use Rattle.homeo_effect.specs.OwnCommands.{are_own};
 ghost use Rattle.homeo_effect.specs.OwnState.{own_state};
@@ -34,6 +35,8 @@ impl Program {
         ensures site { IfOk result (λ p. p.site ≡ site) }
         ensures temporaries { IfOk result (λ p. p.temporaries ≡ set_after_all 0 p.steps.items) }
         ensures prints { IfOk result (λ p. p.prints ≡ prints_of_all p.steps.items) }
+        ensures assigned { IfOk result (λ p. p.temporaries ≡ assignment_count (plain_commands effects.now)) }
+        ensures printed { IfOk result (λ p. p.prints ≡ print_count (plain_commands effects.now)) }
         ensures written { IfOk result (λ p. written (plain_program p) ≡ written (plain_commands effects.now)) }
         ensures means { IfOk result (λ p. (b : ℕ → ℤ) (deltas temporaries : List ℤ) → SameOwn site
             (exec_all (plain_program p) (own_state site deltas temporaries))

@@ -2,7 +2,6 @@
 //! there are the types alone.
 #![tactic(auto)]
 
-mod compiled;
 mod forms;
 pub mod laws;
 mod round;
@@ -10,7 +9,6 @@ mod rows;
 mod templates;
 mod treaty;
 
-pub use compiled::Compiled;
 pub use forms::{Atom, AtomSet, Delta, Linear, Term};
 pub use round::RoundPlan;
 pub use rows::{JointRow, Residual, Row};

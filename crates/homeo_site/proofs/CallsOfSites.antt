@@ -1,5 +1,5 @@
 -- The calls of a site's clients are planned, at that site, and their entries replay as the planned calls do.
-use Rattle.std.proofs.Common.{◌≡◌, ℕ, List, [], ◌∷◌, ◌++◌, map, ℤ, Option, Some, All, refl, sym, ap, ◌∙◌}
+use Rattle.std.proofs.Common.{◌≡◌, ℕ, List, [], ◌∷◌, ◌++◌, map, ℤ, Some, All, refl, sym, ap, ◌∙◌}
 use Rattle.std.specs.Option.{option_map}
 use Rattle.std.proofs.lemmas.List.Elements.{All-head, All-tail}
 use Rattle.homeo_syntax.specs.Source as s
@@ -16,8 +16,8 @@ use Rattle.homeo_plan.specs.Template.{PlannedCall}
 use Rattle.homeo_plan.proofs.PlannedCalls.{KnownCall, known, planned_is, planned_member}
 use Rattle.homeo_history.specs.Key.{words as history_words}
 use Rattle.homeo_history.specs.History.{Entry}
-use Rattle.homeo_history.specs.Legal.{site_of, IsCallAt}
-use Rattle.homeo_history.specs.Replayed.{prints_at, deltas_after, end_of, MeetsTreaty, KeepsOne, KeepsAll}
+use Rattle.homeo_history.specs.Legal.{IsCallAt}
+use Rattle.homeo_history.specs.Replayed.{deltas_after, end_of, KeepsOne, KeepsAll}
 
 same_in_some : (a b : ℕ) → Some a ≡ Some b → a ≡ b
 same_in_some a b e = cc

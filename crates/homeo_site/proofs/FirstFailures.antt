@@ -1,5 +1,5 @@
 -- Where a treaty held before, the first that fails of what is touched is the first that fails of all.
-use Rattle.std.proofs.Common.{◌≡◌, ℕ, zero, suc, ◌+◌, ◌==◌, Bool, true, false, cond, not, ◌&&◌, List, [], ◌∷◌, ◌++◌, length, ℤ, pos, int_le, ◌≤ℤ◌, Option, Some, None, refl, sym, ap, ap₂, ◌∙◌, subst, arith}
+use Rattle.std.proofs.Common.{◌≡◌, ℕ, suc, ◌+◌, ◌==◌, Bool, true, false, cond, not, ◌&&◌, List, [], ◌∷◌, ◌++◌, length, ℤ, pos, int_le, ◌≤ℤ◌, Option, Some, None, refl, sym, ap, ap₂, ◌∙◌, subst, arith}
 use Rattle.std.specs.Ordering.{int_eq}
 use Rattle.std.proofs.lemmas.Int.{ints}
 use Rattle.std.proofs.lemmas.Bool.Decides.{nat_tests}
@@ -8,16 +8,13 @@ use Rattle.homeo_plan.specs.declared.treaty.Broken.{Broken}
 use Rattle.homeo_plan.specs.declared.forms.Delta.{Delta}
 use Rattle.homeo_plan.specs.Each.{Each}
 use Rattle.homeo_plan.specs.Joined.{Deltas}
-use Rattle.homeo_plan.specs.Template.{Clause, Template}
+use Rattle.homeo_plan.specs.Template.{Clause}
 use Rattle.homeo_plan.specs.Config.{Config}
-use Rattle.homeo_plan.specs.Treaty.{site_sum, bound_at, KeepsClauses, KeepsFreezes, Treaty, broken_freeze, broken_from, finding}
+use Rattle.homeo_plan.specs.Treaty.{site_sum, bound_at, KeepsClauses, KeepsFreezes, broken_freeze, broken_from}
+use Rattle.homeo_effect.specs.Key.{words as effect_words}
+use Rattle.homeo_effect.specs.Touched.{numbers_where}
 use Rattle.homeo_site.specs.Key.{words}
-use Rattle.homeo_site.specs.inner.Failures.{sum_failure, frozen_failure, freeze_failure, freeze_failure_from, failure_from, failure_at, first_of, first_failure}
-
-abbrev pub numbers_where : {X : Type 0} → (X → Bool) → ℕ → List X → List ℕ
-unfolding words
-numbers_where test n [] = []
-numbers_where test n (x ∷ xs) = cond (test x) (n ∷ numbers_where test (suc n) xs) (numbers_where test (suc n) xs)
+use Rattle.homeo_site.specs.inner.Failures.{sum_failure, frozen_failure, freeze_failure, freeze_failure_from, failure_from, first_of, first_failure}
 
 pub first_of_both : (f : ℕ → Option Broken) (ms ns : List ℕ) → first_failure f (ms ++ ns) ≡ first_of (first_failure f ms) (first_failure f ns)
 unfolding words
@@ -77,7 +74,7 @@ module _ (i : ℕ) (x y : Deltas) (p : Clause → Bool) (q : Delta → Bool) (f 
   freezes_first :
       (n : ℕ) (ds : List Delta) → ((m : ℕ) → f (n + m) ≡ freeze_failure_from n i y ds m) → KeepsFreezes i x ds → SameFreezes ds →
       first_failure f (numbers_where q n ds) ≡ broken_freeze n i y ds
-  unfolding words plan_words
+  unfolding words plan_words effect_words
   freezes_first n [] agree keeps same = refl
   freezes_first n (d ∷ ds) agree keeps same =
       go (q d) refl (freezes_first (suc n) ds (λ m. next m ∙ agree (suc m)) keeps.1 same.1)
@@ -101,7 +98,7 @@ module _ (i : ℕ) (x y : Deltas) (p : Clause → Bool) (q : Delta → Bool) (f 
       (n : ℕ) (cs : List Clause) (bs : Config) (ds : List Delta) → ((m : ℕ) → f (n + m) ≡ failure_from n i y cs bs ds m) →
       KeepsClauses i x cs bs → KeepsFreezes i x ds → SameClauses cs → SameFreezes ds →
       first_failure f (numbers_where p n cs ++ numbers_where q (n + length cs) ds) ≡ broken_from n i y cs bs ds
-  unfolding words plan_words
+  unfolding words plan_words effect_words
   clauses_first n [] bs ds agree keeps frozen same same' =
       let e : n + 0 ≡ n = omega arith in
       ap (λ m. first_failure f (numbers_where q m ds)) e ∙ freezes_first n ds agree frozen same'

@@ -1,16 +1,14 @@
 -- How many sites and objects an accepted workload has.
-use Rattle.std.proofs.Common.{◌≡◌, ℕ, zero, suc, ◌+◌, ◌*◌, ◌≤◌, Bool, true, false, ◌||◌, List, [], ◌∷◌, ◌++◌, map, length, ℤ, pos, negsuc, int_lt, ◌≤ℤ◌, sym, refl, ap, ◌∙◌, subst, arith}
+use Rattle.std.proofs.Common.{◌≡◌, ◌≤◌, Bool, true, false, ◌||◌, List, [], ◌∷◌, length, ℤ, pos, negsuc, int_lt, sym, refl, ◌∙◌, subst, arith}
 use Rattle.std.proofs.lemmas.Int.{ints}
 use Rattle.homeo_syntax.specs.Source as s
 use Rattle.homeo_meaning.specs.Key.{words as meaning_words}
 use Rattle.homeo_meaning.specs.declared.call.Purpose.TheVariants.{Run}
 use Rattle.homeo_meaning.specs.declared.rules.Phase.TheVariants.{Limits}
-use Rattle.homeo_meaning.specs.declared.rules.Fault.{Fault}
 use Rattle.homeo_meaning.specs.Acceptance.{IsAccepted}
-use Rattle.homeo_meaning.specs.Bounds.{Bounds, bounds_of, slot_bounds, relation_bounds, all_bounds, IsWithin}
-use Rattle.homeo_meaning.specs.Context.{object_count}
+use Rattle.homeo_meaning.specs.Bounds.{all_bounds, IsWithin}
 use Rattle.homeo_meaning.specs.ListRules.{when, number_fault}
-use Rattle.homeo_meaning.specs.Schema.{Declared, Relation, nat_of, schema_of}
+use Rattle.homeo_meaning.specs.Schema.{nat_of, schema_of}
 use Rattle.homeo_meaning.proofs.FaultParts.{NoFault, parts, limit_parts}
 use Rattle.homeo_meaning.proofs.SoundRelations.{objects-fit}
 use Rattle.homeo_meaning.proofs.Within.{length_in}

@@ -1,6 +1,6 @@
 -- Base plus own deltas is within bounds at a site, before a call's local step and after it, whether or not it keeps the
 -- treaty; so a site has no delta but of an object that there is.
-use Rattle.std.proofs.Common.{◌≡◌, ℕ, zero, suc, ◌+◌, ◌<◌, ◌≤◌, List, [], ◌∷◌, map, length, get_or, ℤ, pos, ◌+ℤ◌, refl, sym, ap, ◌∙◌, subst, arith}
+use Rattle.std.proofs.Common.{◌≡◌, ℕ, zero, suc, ◌+◌, ◌≤◌, List, [], ◌∷◌, map, length, get_or, ℤ, pos, ◌+ℤ◌, refl, ap, ◌∙◌, subst, arith}
 use mathlib.Core.Path.{fun_ext}
 use Rattle.std.proofs.lemmas.Int.{ints}
 use Rattle.std.proofs.lemmas.List.{get_or_past}
@@ -13,22 +13,20 @@ use Rattle.homeo_meaning.specs.Schema.{schema_of}
 use Rattle.homeo_meaning.specs.Serial.{values_of, values_from, database_like}
 use Rattle.homeo_meaning.proofs.Within.{length_in}
 use Rattle.homeo_plan.specs.Key.{words as plan_words}
-use Rattle.homeo_plan.specs.Each.{Each, Member}
 use Rattle.homeo_plan.specs.Joined.{Deltas}
-use Rattle.homeo_plan.specs.Local.{no_deltas, local_deltas}
-use Rattle.homeo_plan.specs.Planned.{sites_of, planned, planned_at, template_at, policy}
+use Rattle.homeo_plan.specs.Local.{no_deltas}
+use Rattle.homeo_plan.specs.Planned.{sites_of, planned_at, template_at, policy}
 use Rattle.homeo_plan.specs.Replay.{CanStep}
-use Rattle.homeo_plan.specs.Template.{PlannedCall}
 use Rattle.homeo_plan.proofs.OwnWithin.{step_within}
 use Rattle.homeo_plan.proofs.PlannedCalls.{planned_member}
 use Rattle.homeo_plan.proofs.Policy.{policy_fits}
 use Rattle.homeo_plan.proofs.Replays.{can_step, replays_within}
 use Rattle.homeo_history.specs.Key.{words as history_words}
 use Rattle.homeo_history.specs.Legal.{IsCallAt}
-use Rattle.homeo_history.specs.Replayed.{deltas_after, MeetsTreaty}
 use Rattle.homeo_delta.proofs.Folds.{values_are}
 use Rattle.homeo_site.specs.Key.{words}
 use Rattle.homeo_site.specs.SiteState.{SiteState, SiteHolds, step_values, step_deltas}
+use Rattle.homeo_site.specs.inner.Ready.{IsReady}
 use Rattle.homeo_site.proofs.CallsOfSites.{call_site, planned_calls, kept_along}
 
 -- ---- lists and values by number
@@ -78,6 +76,10 @@ module _ (w : s.Workload) (x : SiteState) (accepted : IsAccepted w) (h : SiteHol
       (replays_within w x.base x.number (map (λ e. planned_at w e.call) x.segment) accepted h.within h.site
       (planned_calls w x.number x.segment h.calls) (kept_along w x.base x.number no_deltas x.segment h.keeps))
 
+  pub ready : IsReady w x
+  ready = record { site = h.site; within = h.within; count = h.count; meets = h.meets; all = own_within }
+
+module _ (w : s.Workload) (x : SiteState) (accepted : IsAccepted w) (h : IsReady w x) where
   module _ (call : CallId) (at : IsCallAt w x.number call) where
     can : CanStep (schema_of w) (sites_of w) (values_of x.base) (template_at w x.base) x.number (planned_at w call)
     unfolding plan_words
@@ -89,7 +91,7 @@ module _ (w : s.Workload) (x : SiteState) (accepted : IsAccepted w) (h : SiteHol
     unfolding plan_words history_words meaning_words words
     after_within =
         step_within (schema_of w) (sites_of w) (values_of x.base) (template_at w x.base) (policy w x.base) x.number
-        (values_of x.deltas) (planned_at w call) (policy_fits w x.base accepted) h.site can h.meets own_within
+        (values_of x.deltas) (planned_at w call) (policy_fits w x.base accepted) h.site can h.meets h.all
 
     -- the list of the deltas after the step is the deltas after it
     pub step_list : values_of (step_deltas w x call) ≡ step_values w x call

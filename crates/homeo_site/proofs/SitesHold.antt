@@ -1,5 +1,5 @@
 -- What a site keeps holds at the start of a round, and after each call that keeps its treaty.
-use Rattle.std.proofs.Common.{◌≡◌, ℕ, zero, suc, ◌<◌, List, [], ◌∷◌, length, get_or, replicate, ℤ, pos, refl, sym, ap, ◌∙◌, subst, All}
+use Rattle.std.proofs.Common.{◌≡◌, ℕ, zero, suc, ◌<◌, List, length, get_or, replicate, ℤ, pos, refl, sym, ap, ◌∙◌, subst}
 use mathlib.Core.Path.{fun_ext}
 use Rattle.std.proofs.lemmas.List.Elements.{All-nil, All-push}
 use Rattle.homeo_syntax.specs.Source as s
@@ -17,11 +17,11 @@ use Rattle.homeo_plan.proofs.Policy.{policy_fits}
 use Rattle.homeo_history.specs.Key.{words as history_words}
 use Rattle.homeo_history.specs.History.{Entry}
 use Rattle.homeo_history.specs.Legal.{IsCallAt}
-use Rattle.homeo_history.specs.Replayed.{prints_at, deltas_after, end_of, MeetsTreaty, KeepsOne, KeepsAll}
+use Rattle.homeo_history.specs.Replayed.{deltas_after, end_of, MeetsTreaty, KeepsOne}
 use Rattle.homeo_site.specs.Key.{words}
 use Rattle.homeo_site.specs.SiteState.{SiteState, SiteHolds, KeepsCall, local_entry, step_values, after_local, begun}
 use Rattle.homeo_site.proofs.CallsOfSites.{end_more, keeps_more}
-use Rattle.homeo_site.proofs.LocalSteps.{count_like, step_list}
+use Rattle.homeo_site.proofs.LocalSteps.{count_like, ready, step_list}
 
 zeros_at : (n x : ℕ) → get_or (replicate n (pos 0)) x (pos 0) ≡ pos 0
 zeros_at zero x = refl
@@ -62,12 +62,12 @@ local_holds w x call accepted h at keeps =
       site = h.site;
       within = h.within;
       count = count_like x.base (step_values w x call);
-      meets = subst (MeetsTreaty w x.base x.number) (sym (step_list w x accepted h call at)) keeps;
+      meets = subst (MeetsTreaty w x.base x.number) (sym (step_list w x accepted (ready w x accepted h) call at)) keeps;
       calls = All-push (λ (e : Entry). IsCallAt w x.number e.call) x.segment (local_entry w x call) h.calls at;
       keeps = keeps_more w x.base x.number x.segment (local_entry w x call) no_deltas h.keeps one;
       replays =
           end_more w x.base x.segment (local_entry w x call) no_deltas
-          ∙ ap (deltas_after w x.base call) h.replays ∙ sym (step_list w x accepted h call at);
+          ∙ ap (deltas_after w x.base call) h.replays ∙ sym (step_list w x accepted (ready w x accepted h) call at);
     }
   where
     one : KeepsOne w x.base x.number (end_of w x.base x.segment no_deltas) (local_entry w x call)

@@ -3,6 +3,7 @@
 use Rattle.std.proofs.Common.{◌≡◌, ℕ, ◌<◌, ◌≤◌, ◌+◌, ◌*◌, ◌==◌, Bool, true, false, cond, List, [], ◌∷◌, map, ℤ, pos, ◌+ℤ◌, All, refl, sym, ap, ◌∙◌, subst, arith, ⊎_elim}
 use mathlib.Core.Path.{fun_ext}
 use Rattle.std.specs.Int.RustNames.{unsigned_abs}
+use Rattle.std.proofs.lemmas.Int.{ints}
 use Rattle.std.proofs.lemmas.Bool.Decides.{nat_tests}
 use Rattle.std.proofs.lemmas.Nat.{mul-le}
 use Rattle.std.proofs.lemmas.List.Elements.{All-head, All-tail}
@@ -10,27 +11,28 @@ use Rattle.homeo_syntax.specs.Source as s
 use Rattle.homeo_meaning.specs.Key.{words as meaning_words}
 use Rattle.homeo_meaning.specs.declared.call.CallId.{CallId}
 use Rattle.homeo_meaning.specs.Acceptance.{limit as largest, IsAccepted}
-use Rattle.homeo_meaning.specs.Bounds.{AllWithin}
+use Rattle.homeo_meaning.specs.Bounds.{AllWithin, IsWithin}
 use Rattle.homeo_meaning.specs.CallForm.{ground_form}
 use Rattle.homeo_meaning.specs.Calls.{IsGroundCall}
 use Rattle.homeo_meaning.specs.Ground.{Ground, grounds}
 use Rattle.homeo_meaning.specs.LowComputed.{CanRun}
-use Rattle.homeo_meaning.specs.LowMeaning.{State, BaseAt, DeltaAt}
+use Rattle.homeo_meaning.specs.LowMeaning.{Location, TempAt, BaseAt, DeltaAt, State, whole}
 use Rattle.homeo_meaning.specs.Schema.{schema_of}
 use Rattle.homeo_meaning.specs.Serial.{values_of}
 use Rattle.homeo_meaning.specs.Small.{IsSmall}
 use Rattle.homeo_meaning.proofs.Within.{all_within}
 use Rattle.homeo_plan.specs.Key.{words as plan_words}
 use Rattle.homeo_plan.specs.Each.{Member}
-use Rattle.homeo_plan.specs.Joined.{Deltas, alone, join}
+use Rattle.homeo_plan.specs.Joined.{Deltas, alone}
+use Rattle.homeo_plan.specs.Local.{no_deltas}
 use Rattle.homeo_plan.specs.Planned.{sites_of, planned_call, planned, planned_at, template_at, policy}
 use Rattle.homeo_plan.specs.Split.{fold_state, shift}
-use Rattle.homeo_plan.specs.Table.{Row, table, row_at, walk, HasNoTemps}
+use Rattle.homeo_plan.specs.Table.{Row, table, row_at, HasNoTemps}
 use Rattle.homeo_plan.specs.Template.{PlannedCall, shifted, base_row}
 use Rattle.homeo_plan.proofs.BoundSizes.{most}
 use Rattle.homeo_plan.proofs.GroundNumbers.{values_small, fold_numbers}
 use Rattle.homeo_plan.proofs.Local.{locally_sound}
-use Rattle.homeo_plan.proofs.OwnWithin.{only, only_keeps, only_folded, alone_is_joined}
+use Rattle.homeo_plan.proofs.OwnWithin.{zero_keeps, only, only_keeps, only_folded, alone_is_joined}
 use Rattle.homeo_plan.proofs.PlannedCalls.{planned_member}
 use Rattle.homeo_plan.proofs.Policy.{policy_fits}
 use Rattle.homeo_plan.proofs.Replays.{planned_whole, planned_covers}
@@ -41,12 +43,12 @@ use Rattle.homeo_split.specs.CanExec.{limit, can_exec, can_exec_all}
 use Rattle.homeo_delta.specs.SmallParts.{HasSmallParts}
 use Rattle.homeo_delta.proofs.SmallShifts.{runs_law}
 use Rattle.homeo_history.specs.Legal.{IsCallAt}
+use Rattle.homeo_history.specs.Replayed.{MeetsTreaty}
 use Rattle.homeo_history.specs.Key.{words as history_words}
-use Rattle.homeo_site.specs.Key.{words}
-use Rattle.homeo_site.specs.SiteState.{SiteState, SiteHolds}
+use Rattle.homeo_site.specs.SiteState.{SiteState}
+use Rattle.homeo_site.specs.inner.Ready.{IsReady}
 use Rattle.homeo_site.proofs.CallsOfSites.{call_site}
 use Rattle.homeo_site.proofs.Limits.{few_sites}
-use Rattle.homeo_site.proofs.LocalSteps.{own_within}
 use Rattle.homeo_site.proofs.WalkRuns.{residual_runs}
 
 -- ---- a planned call is a ground call of some client
@@ -86,72 +88,95 @@ alone_fold : (k : ℕ) (b : ℕ → ℤ) (i : ℕ) (x : Deltas) → i < k → fo
 unfolding plan_words meaning_words
 alone_fold k b i x lt = ap (fold_values k) (alone_is_joined k b i x lt) ∙ only_folded k b i x lt
 
-module _ (w : s.Workload) (x : SiteState) (accepted : IsAccepted w) (h : SiteHolds w x) where
-  abbrev k : ℕ
-  k = sites_of w
+module _
+    (w : s.Workload) (base : List ℤ) (i : ℕ) (own : Deltas) (accepted : IsAccepted w) (within : IsWithin (schema_of w) base)
+    (site : i < sites_of w) (meets : MeetsTreaty w base i own) (all : AllWithin (schema_of w) (own_values (values_of base) own))
+  where
+    abbrev k : ℕ
+    k = sites_of w
 
-  abbrev b : ℕ → ℤ
-  b = values_of x.base
+    abbrev b : ℕ → ℤ
+    b = values_of base
 
-  abbrev own : Deltas
-  own = values_of x.deltas
+    abbrev here : State
+    here = alone b i own
 
-  abbrev here : State
-  here = alone b x.number own
+    fold_within : AllWithin (schema_of w) (fold_values k here)
+    fold_within = subst (AllWithin (schema_of w)) (sym (alone_fold k b i own site)) all
 
-  fold_within : AllWithin (schema_of w) (fold_values k here)
-  fold_within = subst (AllWithin (schema_of w)) (sym (alone_fold k b x.number own h.site)) (own_within w x accepted h)
+    small_parts : HasSmallParts k i most largest here
+    unfolding meaning_words plan_words
+    small_parts =
+        record {
+          fold = λ n. let small = values_small w accepted (fold_values k here) fold_within n in omega (arith, small);
+          bases = λ n. values_small w accepted b (all_within (schema_of w) base within) n;
+          others = λ n j lt apart. subst (λ v. unsigned_abs v ≤ most) (sym (other_zero b i own n j apart)) (omega arith);
+        }
 
-  small_parts : HasSmallParts k x.number most largest here
-  unfolding meaning_words plan_words
-  small_parts =
-      record {
-        fold = λ n. let small = values_small w accepted (fold_values k here) fold_within n in omega (arith, small);
-        bases = λ n. values_small w accepted b (all_within (schema_of w) x.base h.within) n;
-        others = λ n j lt apart.
-            subst (λ v. unsigned_abs v ≤ most) (sym (other_zero b x.number own n j apart)) (omega arith);
-      }
+    module _ (g : PlannedCall) (member : Member g (planned w)) (at_site : g.site ≡ i) where
+      -- the call's row is that of the base
+      same_row : row_at (table (shifted k g)) here ≡ base_row k b g
+      unfolding history_words
+      same_row =
+          let fits = policy_fits w base accepted in
+          subst (λ s. row_at (table (shifted k g)) s ≡ base_row k b g) (sym (alone_is_joined k b i own site))
+          (locally_sound k b (template_at w base) (policy w base) (only i own) fits
+          (λ j l. only_keeps k (template_at w base) (policy w base) i own fits meets j) g (planned_covers w base g member)
+          (subst (λ j. j < k) (sym at_site) site) (planned_whole w g member)).row
 
-  module _ (call : CallId) (at : IsCallAt w x.number call) where
-    abbrev g : PlannedCall
-    g = planned_at w call
+      call_runs : can_exec limit (shifted k g) here ≡ true
+      unfolding plan_words
+      call_runs =
+          let m : IsMade w g = is_made w g accepted member in
+          let few : k ≤ 16 = few_sites w accepted in
+          let most_all : k * most ≤ 16 * most = mul-le k most 16 most few (omega arith) in
+          let room : largest + k * most ≤ limit = omega arith in
+          let command : ground_form w m.from ≡ g.command = ap (λ (c : PlannedCall). c.command) m.is in
+          let computes : CanRun (IsSmall largest) (IsSmall largest) g.command (fold_state k here) =
+          subst (λ c. CanRun (IsSmall largest) (IsSmall largest) c (fold_state k here)) command
+          (fold_numbers w m.from k here accepted m.called (no_temps b i own) fold_within) in
+          subst (λ j. can_exec limit (shift k j g.command) here ≡ true) (sym at_site)
+          (runs_law k i most largest g.command here site (omega arith) room (planned_whole w g member) small_parts computes)
 
-    member : Member g (planned w)
-    member = planned_member w call at.exists
+      -- the residual can be run at the site alone
+      pub alone_runs : can_exec_all limit (base_row k b g).residual here ≡ true
+      alone_runs =
+          subst (λ (r : Row). can_exec_all limit r.residual here ≡ true)
+          (sym (row_at_walk (shifted k g) here (no_temps b i own)) ∙ same_row) (residual_runs limit (shifted k g) here call_runs)
 
-    at_site : g.site ≡ x.number
-    at_site = call_site w x.number call at
+-- ---- on the base, before any call
+base_is_alone : (b : ℕ → ℤ) (i : ℕ) → alone b i no_deltas ≡ whole b
+unfolding plan_words meaning_words
+base_is_alone b i = fun_ext at
+  where
+    zero : (v : Bool) → cond v (pos 0) (pos 0) ≡ pos 0
+    zero true = refl
+    zero false = refl
 
-    site : g.site < k
-    site = subst (λ j. j < k) (sym at_site) h.site
+    at : (p : Location) → alone b i no_deltas p ≡ whole b p
+    at (TempAt t) = refl
+    at (BaseAt n) = refl
+    at (DeltaAt n j) = zero (j == i)
 
-    -- the call's row is that of the base
-    pub same_row : row_at (table (shifted k g)) here ≡ base_row k b g
-    unfolding history_words
-    same_row =
-        let fits = policy_fits w x.base accepted in
-        subst (λ s. row_at (table (shifted k g)) s ≡ base_row k b g) (sym (alone_is_joined k b x.number own h.site))
-        (locally_sound k b (template_at w x.base) (policy w x.base) (only x.number own) fits
-        (λ j l. only_keeps k (template_at w x.base) (policy w x.base) x.number own fits h.meets j) g
-        (planned_covers w x.base g member) site (planned_whole w g member)).row
+no_change : (b : ℕ → ℤ) → b ≡ own_values b no_deltas
+unfolding plan_words
+no_change b = fun_ext (λ n. omega (arith, ints))
 
-    call_runs : can_exec limit (shifted k g) here ≡ true
-    unfolding plan_words
-    call_runs =
-        let m : IsMade w g = is_made w g accepted member in
-        let few : k ≤ 16 = few_sites w accepted in
-        let most_all : k * most ≤ 16 * most = mul-le k most 16 most few (omega arith) in
-        let room : largest + k * most ≤ limit = omega arith in
-        let command : ground_form w m.from ≡ g.command = ap (λ (c : PlannedCall). c.command) m.is in
-        let computes : CanRun (IsSmall largest) (IsSmall largest) g.command (fold_state k here) =
-        subst (λ c. CanRun (IsSmall largest) (IsSmall largest) c (fold_state k here)) command
-        (fold_numbers w m.from k here accepted m.called (no_temps b x.number own) fold_within) in
-        subst (λ j. can_exec limit (shift k j g.command) here ≡ true) (sym at_site)
-        (runs_law k x.number most largest g.command here h.site (omega arith) room (planned_whole w g member) small_parts computes)
+pub base_runs :
+    (w : s.Workload) (base : List ℤ) (g : PlannedCall) → IsAccepted w → IsWithin (schema_of w) base → Member g (planned w) →
+    g.site < sites_of w → can_exec_all limit (base_row (sites_of w) (values_of base) g).residual (whole (values_of base)) ≡ true
+unfolding history_words
+base_runs w base g accepted within member site =
+    subst (λ s. can_exec_all limit (base_row (sites_of w) (values_of base) g).residual s ≡ true) (base_is_alone (values_of base) g.site)
+    (alone_runs w base g.site no_deltas accepted within site
+    (zero_keeps (sites_of w) (template_at w base) (policy w base) g.site (policy_fits w base accepted))
+    (subst (AllWithin (schema_of w)) (no_change (values_of base)) (all_within (schema_of w) base within)) g member refl)
 
-    -- the residual can be run at the site alone
-    pub step_runs : can_exec_all limit (base_row k b g).residual here ≡ true
-    step_runs =
-        subst (λ (r : Row). can_exec_all limit r.residual here ≡ true)
-        (sym (row_at_walk (shifted k g) here (no_temps b x.number own)) ∙ same_row)
-        (residual_runs limit (shifted k g) here call_runs)
+-- ---- a call of a site
+pub step_runs :
+    (w : s.Workload) (x : SiteState) → IsAccepted w → IsReady w x → (call : CallId) → IsCallAt w x.number call →
+    can_exec_all limit (base_row (sites_of w) (values_of x.base) (planned_at w call)).residual
+    (alone (values_of x.base) x.number (values_of x.deltas)) ≡ true
+step_runs w x accepted h call at =
+    alone_runs w x.base x.number (values_of x.deltas) accepted h.within h.site h.meets h.all (planned_at w call)
+    (planned_member w call at.exists) (call_site w x.number call at)

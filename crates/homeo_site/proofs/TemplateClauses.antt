@@ -1,5 +1,5 @@
 -- The clauses of a workload's template: their terms are in order, each delta once, and their factors are small.
-use Rattle.std.proofs.Common.{◌≡◌, ℕ, ◌+◌, ◌*◌, ◌<◌, Bool, true, false, cond, List, [], ◌∷◌, ◌++◌, map, ℤ, refl, sym, ap, subst}
+use Rattle.std.proofs.Common.{ℕ, ◌+◌, ◌*◌, ◌<◌, Bool, true, false, cond, List, [], ◌∷◌, ◌++◌, map, ℤ, refl, sym, subst}
 use Rattle.std.specs.List.{list_any}
 use Rattle.homeo_syntax.specs.Source as s
 use Rattle.homeo_meaning.specs.Acceptance.{limit as largest, IsAccepted}
@@ -15,8 +15,7 @@ use Rattle.homeo_plan.specs.FormSizes.{Numbers}
 use Rattle.homeo_plan.specs.Linear.{Linear, is_empty}
 use Rattle.homeo_plan.specs.Planned.{sites_of, planned_call, planned, template_at}
 use Rattle.homeo_plan.specs.SmallForms.{HasSmallForms}
-use Rattle.homeo_plan.specs.Split.{shift}
-use Rattle.homeo_plan.specs.Table.{Row, walk}
+use Rattle.homeo_plan.specs.Table.{walk}
 use Rattle.homeo_plan.specs.Template.{PlannedCall, shifted, base_row, atoms_of, Clause, clause_of, same_clause, with_clause, clauses_from, joined}
 use Rattle.homeo_plan.proofs.AcceptedForms.{accepted_forms}
 use Rattle.homeo_plan.proofs.Atoms.{append_each}

@@ -2,5 +2,15 @@
 //! doesn't.
 #![tactic(auto)]
 
+mod attempts;
 pub mod laws;
+mod lists;
+mod own_calls;
+mod own_round;
 mod own_treaty;
+mod site;
+mod start;
+
+pub use attempts::{Change, Outcome, Room};
+pub use site::Site;
+pub use start::SiteStart;

@@ -1,14 +1,15 @@
 //! What a site keeps of a treaty: of each clause the terms on its own deltas and its own bound.
 
-ghost use Rattle.std.specs.Prelude.{◌≡◌, ◌+ℤ◌, ◌*ℤ◌, [], map, slice_index_or, IfOk, FitsSigned};
+ghost use Rattle.std.specs.Prelude.{◌≡◌, ◌+◌, ◌<◌, ◌≤◌, ◌+ℤ◌, ◌*ℤ◌, [], All, length, map, slice_index_or, IfOk, FitsSigned};
 ghost use Rattle.std.specs.Int.{w128};
 ghost use Rattle.homeo_meaning.specs.Serial.{values_of};
 ghost use Rattle.homeo_plan.specs.PlanView.{plain_clause, plain_config};
 ghost use Rattle.homeo_plan.specs.Treaty.{bound_at};
+ghost use Rattle.homeo_site.specs.inner.Failures.{sum_failure, freeze_failure, first_failure, own_failure, own_freeze_failure};
 ghost use Rattle.homeo_site.specs.inner.OwnTreaty.{own_terms, own_sum, SumsFit, plain_own, own_clauses};
 
 use homeo_meaning::padded::item_or;
-use homeo_plan::{Clause, Config, Term};
+use homeo_plan::{Broken, Clause, Config, Delta, Term};
 use homeo_syntax::{List, Memory};
 use std::alloc::Global;
 
@@ -102,4 +103,75 @@ pub(crate) fn own_sum(terms: &[OwnTerm], deltas: &[i64]) -> i128
         sum = with_term(sum, *term, deltas);
     }
     sum
+}
+
+/// What fails of a clause of this number: its sum where that is above the bound.
+#[tactic(auto, unfolding(crate::specs::Key::words))]
+fn clause_failure(clause: &OwnClause, number: u32, deltas: &[i64]) -> Option<Broken>
+    requires { SumsFit clause.now.terms.items (values_of deltas.now) }
+    ensures { result ≡ sum_failure number (own_sum clause.now.terms.items (values_of deltas.now)) clause.now.bound }
+{
+    let sum = own_sum(clause.terms.as_slice(), deltas);
+    if sum <= clause.bound {
+        None
+    } else {
+        Some(Broken {
+            clause: number,
+            sum,
+            bound: clause.bound,
+        })
+    }
+}
+
+/// The first that fails of the clauses of these numbers.
+pub(crate) fn first_clause(clauses: &[OwnClause], numbers: &[u32], deltas: &[i64]) -> Option<Broken>
+    requires numbers { All (λ n. n < length clauses.now) numbers.now }
+    requires fit { All (λ c. SumsFit c.terms.items (values_of deltas.now)) clauses.now }
+    ensures { result ≡ first_failure (own_failure (map plain_own clauses.now) (values_of deltas.now)) numbers.now }
+{
+    for number in numbers {
+        let failure = clause_failure(&clauses[*number as usize], *number, deltas);
+        if failure.is_some() {
+            return failure;
+        }
+    }
+    None
+}
+
+/// What fails of a freeze of this number: a delta of the site that isn't 0.
+#[tactic(auto, unfolding(crate::specs::Key::words))]
+fn freeze_failure(freeze: Delta, site: u32, number: u32, deltas: &[i64]) -> Option<Broken>
+    ensures { result ≡ freeze_failure number site (values_of deltas.now) freeze }
+{
+    let value = item_or(deltas, freeze.object as usize, 0);
+    if freeze.site == site && value != 0 {
+        Some(Broken {
+            clause: number,
+            sum: i128::from(value),
+            bound: 0,
+        })
+    } else {
+        None
+    }
+}
+
+/// The first that fails of the freezes of these numbers, where the first of all freezes has the given one.
+pub(crate) fn first_freeze(
+    freezes: &[Delta],
+    first: usize,
+    numbers: &[u32],
+    site: u32,
+    deltas: &[i64],
+) -> Option<Broken>
+    requires { All (λ n. (first ≤ n) × (n < first + length freezes.now)) numbers.now }
+    ensures { result ≡ first_failure (own_freeze_failure first site freezes.now (values_of deltas.now)) numbers.now }
+{
+    for number in numbers {
+        let freeze = freezes[*number as usize - first];
+        let failure = freeze_failure(freeze, site, *number, deltas);
+        if failure.is_some() {
+            return failure;
+        }
+    }
+    None
 }

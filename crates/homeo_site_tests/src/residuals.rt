@@ -63,7 +63,7 @@ fn what_is_fixed_at_a_site_is_put_in(rt: HostRuntime) -> Result<(), Fail> {
     let residual = residual(rt.alloc())?;
     let base = base(rt.alloc())?;
     let treaty = treaty(rt.alloc())?;
-    let index = TreatyIndex::of(rt.alloc(), &treaty)?;
+    let index = TreatyIndex::of(rt.alloc(), &treaty.template, treaty.site)?;
     let effects = effects(rt.alloc(), &residual, &index, &base)?;
     match effects.commands.as_slice() {
         [
@@ -96,7 +96,7 @@ fn a_program_runs_on_the_deltas_of_its_site(rt: HostRuntime) -> Result<(), Fail>
     let residual = residual(rt.alloc())?;
     let base = base(rt.alloc())?;
     let treaty = treaty(rt.alloc())?;
-    let index = TreatyIndex::of(rt.alloc(), &treaty)?;
+    let index = TreatyIndex::of(rt.alloc(), &treaty.template, treaty.site)?;
     let effects = effects(rt.alloc(), &residual, &index, &base)?;
     let program = Program::of(rt.alloc(), 0, &effects)?;
     let mut deltas = [2];

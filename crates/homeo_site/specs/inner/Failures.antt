@@ -1,14 +1,15 @@
 -- What fails of a treaty at one number, and the first that fails of several.
-use Rattle.std.specs.Prelude.{ℕ, zero, suc, ◌==◌, ◌&&◌, not, cond, List, [], ◌∷◌, ℤ, pos, int_le, Option, Some, None}
+use Rattle.std.specs.Prelude.{ℕ, zero, suc, ◌-◌, slice_index_or, ◌==◌, cond, List, [], ◌∷◌, ℤ, pos, int_le, Option, Some, None}
 use Rattle.std.specs.Ordering.{int_eq}
 use Rattle.homeo_plan.specs.declared.treaty.Broken.{Broken}
 use Rattle.homeo_plan.specs.declared.forms.Delta.{Delta}
-use Rattle.homeo_plan.specs.declared.forms.Term.{Term}
 use Rattle.homeo_plan.specs.Joined.{Deltas}
 use Rattle.homeo_plan.specs.Template.{Clause, Template}
 use Rattle.homeo_plan.specs.Config.{Config}
 use Rattle.homeo_plan.specs.Treaty.{site_sum, bound_at}
+use Rattle.homeo_plan.specs.Linear.{delta_of}
 use Rattle.homeo_site.specs.Key.{words}
+use Rattle.homeo_site.specs.inner.OwnTreaty.{OwnClause, own_sum}
 
 -- a sum above the bound fails
 abbrev pub sum_failure : ℕ → ℤ → ℤ → Option Broken
@@ -56,3 +57,16 @@ abbrev pub first_failure : (ℕ → Option Broken) → List ℕ → Option Broke
 unfolding words
 first_failure failure [] = None
 first_failure failure (n ∷ ns) = first_of (failure n) (first_failure failure ns)
+
+-- ---- what a site keeps of the treaty
+-- what fails at a number of a site's own clauses
+abbrev pub own_failure : List OwnClause → Deltas → ℕ → Option Broken
+unfolding words
+own_failure cs x n =
+    let c : OwnClause = slice_index_or cs n (record { terms = []; bound = pos 0 }) in
+    sum_failure n (own_sum c.terms x) c.bound
+
+-- what fails of freezes at a number, where the first has number k
+abbrev pub own_freeze_failure : ℕ → ℕ → List Delta → Deltas → ℕ → Option Broken
+unfolding words
+own_freeze_failure k i ds x n = freeze_failure n i x (slice_index_or ds (n - k) (delta_of 0 0))

@@ -1,8 +1,6 @@
-use Rattle.std.proofs.Common.{◌≡◌, List, ℤ, pos, get_or, ◌∙◌, sym, ap, SFits, to_z, of_z, rules}
+use Rattle.std.proofs.Common.{◌≡◌, ◌∙◌, SFits, to_z, of_z, rules}
 use mir.Syntax.{w128}
 use Rattle.std.proofs.lemmas.Int.{to_z-of_z}
-use Rattle.homeo_plan.specs.Key.{words}
-use Rattle.homeo_plan.specs.Treaty.{bound_at}
 use Rattle.homeo_site.proofs.OwnTerms.{bound_there, no_bound}
 use Rattle.homeo_site.proofs.own_treaty.bound_of.Goals as goal
 

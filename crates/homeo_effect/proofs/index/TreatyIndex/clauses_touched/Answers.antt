@@ -13,11 +13,12 @@ use Rattle.homeo_effect.proofs.index.TreatyIndex.clauses_touched.Goals as goal
 pub returns : goal.returns
 unfolding words
 returns c =
-    let treaty = c.self.inside.treaty.now in
+    let template = c.self.inside.template.now in
+    let site = c.self.inside.site in
     let ds = written (low_commands (map plain_lcommand c.args.commands.now)) in
     let own = subst (λ (x : Indexed). Each (λ d. d.site ≡ x.site) ds) (sym c.self.view_is) c.requires in
     ap (λ l. l.items) c.from_vec.ensures
-    ∙ clauses_are treaty.site (plain_template treaty.template) (map (λ v. v.items) c.self.inside.clauses.items) c.self.invariant.0 ds own _
+    ∙ clauses_are site (plain_template template) (map (λ v. v.items) c.self.inside.clauses.items) c.self.invariant.0 ds own _
     c.in_ok-numbers.ensures.rising
     (λ n. c.in_ok-numbers.ensures.all n ∙ ap (λ us. is_at n ds (map (λ v. v.items) us)) c.as_slice.ensures.value)
     ∙ ap (λ (x : Indexed). touched_clauses ds x.template) c.self.view_is

@@ -14,14 +14,15 @@ use Rattle.homeo_effect.proofs.index.TreatyIndex.freezes_touched.Goals as goal
 pub returns : goal.returns
 unfolding words
 returns c =
-    let treaty = c.self.inside.treaty.now in
+    let template = c.self.inside.template.now in
+    let site = c.self.inside.site in
     let ds = written (low_commands (map plain_lcommand c.args.commands.now)) in
     let own = subst (λ (x : Indexed). Each (λ d. d.site ≡ x.site) ds) (sym c.self.view_is) c.requires in
     let keeps =
-    subst (λ first. KeepsFreezes treaty.site first treaty.template.freezes.items (map (λ v. v.items) c.self.inside.freezes.items))
-    (sym (length-map treaty.template.clauses.items plain_clause)) c.self.invariant.1 in
+    subst (λ first. KeepsFreezes site first template.freezes.items (map (λ v. v.items) c.self.inside.freezes.items))
+    (sym (length-map template.clauses.items plain_clause)) c.self.invariant.1 in
     ap (λ l. l.items) c.from_vec.ensures
-    ∙ freezes_are treaty.site (plain_template treaty.template) (map (λ v. v.items) c.self.inside.freezes.items) keeps ds own _
+    ∙ freezes_are site (plain_template template) (map (λ v. v.items) c.self.inside.freezes.items) keeps ds own _
     c.in_ok-numbers.ensures.rising
     (λ n. c.in_ok-numbers.ensures.all n ∙ ap (λ us. is_at n ds (map (λ v. v.items) us)) c.as_slice.ensures.value)
     ∙ ap (λ (x : Indexed). touched_freezes ds x.template) c.self.view_is

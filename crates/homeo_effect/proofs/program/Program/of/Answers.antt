@@ -10,6 +10,7 @@ use Rattle.homeo_effect.specs.OwnState.{own_state}
 use Rattle.homeo_effect.specs.Touched.{written}
 use Rattle.homeo_effect.specs.inner.Numbered.{nothing_set}
 use Rattle.homeo_effect.specs.inner.SoFar.{stands_for}
+use Rattle.homeo_effect.proofs.Counted.{all_set, all_printed}
 use Rattle.homeo_effect.proofs.MadeSteps.{steps_are}
 use Rattle.homeo_effect.proofs.NumberedRuns.{same_runs, can_too, begins, same_written}
 use Rattle.homeo_effect.proofs.OwnParts.{front, own_parts}
@@ -30,6 +31,22 @@ loop-command-preserved c =
       own = (own_parts cs k c.command-item.result c.loop-command-test.true c.command-item.is c.args.site c.loop-command.invariant.own).1;
       counted = c.in_ok-take.ensures.counted k c.loop-command.invariant.counted;
     }
+
+pub returns-clause-assigned : goal.returns-clause-assigned
+returns-clause-assigned c =
+    let is =
+    steps_are c.args.site c.loop-command.numbering c.as_slice-command-items.result.now c.loop-command.command-index c.loop-command-test.false
+    c.loop-command.invariant.same c.args.effects.now.commands.items c.as_slice-command-items.ensures in
+    c.loop-command.invariant.counted.temporaries
+    ∙ all_set c.args.site c.loop-command.numbering.steps.items nothing_set (plain_commands c.args.effects.now) is
+
+pub returns-clause-printed : goal.returns-clause-printed
+returns-clause-printed c =
+    let is =
+    steps_are c.args.site c.loop-command.numbering c.as_slice-command-items.result.now c.loop-command.command-index c.loop-command-test.false
+    c.loop-command.invariant.same c.args.effects.now.commands.items c.as_slice-command-items.ensures in
+    c.loop-command.invariant.counted.prints
+    ∙ all_printed c.args.site c.loop-command.numbering.steps.items nothing_set (plain_commands c.args.effects.now) is
 
 pub returns-clause-written : goal.returns-clause-written
 returns-clause-written c =

@@ -1,21 +1,24 @@
 //! A workload with its ground calls and their commands.
 
-ghost use Rattle.std.specs.Prelude.{◌≡◌, map};
+ghost use Rattle.std.specs.Prelude.{◌≡◌, ◌<◌, length, map, slice_get};
 ghost use Rattle.homeo_syntax.specs.LowView.{plain_lcommand};
 ghost use Rattle.homeo_syntax.specs.SourceView.{plain_workload};
-ghost use Rattle.homeo_meaning.specs.Ground.{plain_ground, grounds};
+ghost use Rattle.homeo_meaning.specs.Calls.{CallExists};
+ghost use Rattle.homeo_meaning.specs.Ground.{plain_ground, grounds, ground_of};
+ghost use Rattle.homeo_ground.specs.Grounding.{grounding};
 ghost use Rattle.homeo_plan.specs.Planned.{transformed};
 
-use homeo_meaning::{Accepted, GroundCall};
+use homeo_ground::Grounding;
+use homeo_meaning::{Accepted, CallId, GroundCall};
 use homeo_syntax::{LCommand, List};
 use std::marker::Model;
 
 /// An accepted workload with what is fixed for all its rounds: its distinct ground calls, each where it is first called, in
-/// the order of the text, and the delta transform of the L form of each, at the call's site.
+/// the order of the text; which of them each call is; and the delta transform of the L form of each, at the call's site.
 #[derive(Drop)]
 pub struct Compiled {
     workload: Accepted,
-    calls: List<GroundCall>,
+    calls: Grounding,
     commands: List<LCommand>,
 }
 
@@ -25,7 +28,7 @@ impl Model for Compiled {
     ghost use Rattle.homeo_syntax.specs.contracts.workload.Workload.{the_row};
     ghost use Rattle.homeo_syntax.specs.LowView.{plain_lcommand};
     ghost use Rattle.homeo_syntax.specs.SourceView.{plain_workload};
-    ghost use Rattle.homeo_meaning.specs.Ground.{plain_ground, grounds};
+    ghost use Rattle.homeo_ground.specs.Grounding.{grounding};
     ghost use Rattle.homeo_plan.specs.Planned.{transformed};
 
     ghost Value = { Workload };
@@ -34,14 +37,14 @@ impl Model for Compiled {
 
     ghost view = { λ c. c.workload };
 
-    ghost invariant = { λ c. (map plain_ground c.calls.items ≡ grounds (plain_workload c.workload))
+    ghost invariant = { λ c. (c.calls ≡ grounding (plain_workload c.workload))
         × (map plain_lcommand c.commands.items ≡ transformed (plain_workload c.workload)) };
 }
 
 impl Compiled {
     /// Takes a workload with its ground calls and their transformed commands. It takes no memory.
-    pub fn new(workload: Accepted, calls: List<GroundCall>, commands: List<LCommand>) -> Compiled
-        requires calls { map plain_ground calls.items ≡ grounds (plain_workload workload) }
+    pub fn new(workload: Accepted, calls: Grounding, commands: List<LCommand>) -> Compiled
+        requires calls { calls ≡ grounding (plain_workload workload) }
         requires commands { map plain_lcommand commands.items ≡ transformed (plain_workload workload) }
         ensures { plain_workload result ≡ plain_workload workload }
     {
@@ -63,7 +66,7 @@ impl Compiled {
     pub fn calls(&self) -> &[GroundCall]
         ensures { map plain_ground result.now ≡ grounds (plain_workload self.now) }
     {
-        self.calls.as_slice()
+        self.calls.calls()
     }
 
     /// Lends the transformed commands, one for each ground call.
@@ -71,5 +74,15 @@ impl Compiled {
         ensures { map plain_lcommand result.now ≡ transformed (plain_workload self.now) }
     {
         self.commands.as_slice()
+    }
+
+    /// The place of a call's ground call among the ground calls, in constant time and without memory. The call is one of the
+    /// workload.
+    pub fn place(&self, call: CallId) -> u32
+        requires { CallExists (plain_workload self.now) call }
+        ensures within { result < length (grounds (plain_workload self.now)) }
+        ensures place { slice_get (grounds (plain_workload self.now)) result ≡ ground_of (plain_workload self.now) call }
+    {
+        self.calls.place(call)
     }
 }

@@ -1,0 +1,61 @@
+-- What a site keeps for a call stands at the place of the call's ground call.
+use Rattle.std.proofs.Common.{◌≡◌, ℕ, zero, suc, ◌<◌, List, [], ◌∷◌, map, length, get_or, slice_get, ℤ, Option, None, refl, sym, ap, ◌∙◌, subst, arith}
+use Rattle.std.specs.List.{AllZip}
+use Rattle.std.specs.Option.{option_map_or}
+use Rattle.std.proofs.lemmas.List.{length-map}
+use Rattle.std.proofs.lemmas.Slice.Zip.{AllZip-long}
+use Rattle.homeo_syntax.specs.Low.{Skip}
+use Rattle.homeo_syntax.specs.Source as s
+use Rattle.homeo_meaning.specs.declared.call.CallId.{CallId}
+use Rattle.homeo_meaning.specs.Ground.{Ground, grounds, ground_of}
+use Rattle.homeo_plan.specs.Key.{words as plan_words}
+use Rattle.homeo_plan.specs.Planned.{planned_call, planned, planned_at}
+use Rattle.homeo_plan.specs.Template.{PlannedCall}
+use Rattle.homeo_history.specs.Legal.{IsCallAt}
+use Rattle.homeo_site.specs.Key.{words}
+use Rattle.homeo_site.specs.declared.own_calls.OwnCall.{OwnCall}
+use Rattle.homeo_site.specs.inner.OwnCalls.{IsKeptFor, AreOwnCalls}
+use Rattle.homeo_site.proofs.CallsOfSites.{call_site}
+
+nothing : PlannedCall
+nothing = record { site = 0; command = Skip }
+
+planned_there : (w : s.Workload) (gs : List Ground) (n : ℕ) → get_or (map (planned_call w) gs) n nothing ≡ option_map_or (planned_call w) (slice_get gs n) nothing
+planned_there w [] n = refl
+planned_there w (g ∷ gs) zero = refl
+planned_there w (g ∷ gs) (suc n) = planned_there w gs n
+
+at_place :
+    {A B : Type 0} (R : A → B → Type 0) (xs : List A) (ys : List B) (n : ℕ) (a : A) (b : B) → AllZip R xs ys → n < length xs →
+    R (get_or xs n a) (get_or ys n b)
+at_place R [] ys n a b h lt = absurd (omega arith)
+at_place R (x ∷ xs) [] n a b h lt = absurd h
+at_place R (x ∷ xs) (y ∷ ys) zero a b h lt = h.0
+at_place R (x ∷ xs) (y ∷ ys) (suc n) a b h lt = at_place R xs ys n a b h.1 (omega arith)
+
+pub place_within :
+    (w : s.Workload) (base : List ℤ) (i n : ℕ) (os : List (Option OwnCall)) → AreOwnCalls w base i (planned w) os →
+    n < length (grounds w) → n < length os
+unfolding words plan_words
+place_within w base i n os h lt =
+    subst (λ m. n < m)
+    (sym (AllZip-long (IsKeptFor w base i) (planned w) os h ∙ length-map (grounds w) (planned_call w))) lt
+
+pub kept_at :
+    (w : s.Workload) (base : List ℤ) (i n : ℕ) (call : CallId) (os : List (Option OwnCall)) (o : Option OwnCall) →
+    AreOwnCalls w base i (planned w) os → n < length (grounds w) → slice_get (grounds w) n ≡ ground_of w call → o ≡ get_or os n o →
+    IsKeptFor w base i (planned_at w call) o
+unfolding words plan_words nothing
+kept_at w base i n call os o h lt ground at =
+    let count : n < length (planned w) = subst (λ m. n < m) (sym (length-map (grounds w) (planned_call w))) lt in
+    let there : get_or (planned w) n nothing ≡ planned_at w call =
+    planned_there w (grounds w) n ∙ ap (λ g. option_map_or (planned_call w) g nothing) ground in
+    subst (λ q. IsKeptFor w base i (planned_at w call) q) (sym at)
+    (subst (λ (g : PlannedCall). IsKeptFor w base i g (get_or os n o)) there
+    (at_place (IsKeptFor w base i) (planned w) os n nothing o h count))
+
+-- a call of the site is kept
+pub not_lost :
+    (w : s.Workload) (base : List ℤ) (i : ℕ) (call : CallId) → IsCallAt w i call → IsKeptFor w base i (planned_at w call) None → ⊥
+unfolding words
+not_lost w base i call at h = h (call_site w i call at)

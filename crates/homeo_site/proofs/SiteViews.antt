@@ -1,0 +1,101 @@
+-- What contracts see of a site, from what its parts hold.
+use Rattle.std.proofs.Common.{◌≡◌, ℕ, List, [], map, replicate, ℤ, pos, All, refl, sym, ap, ◌∙◌, subst, arith}
+use Rattle.std.proofs.lemmas.List.Elements.{All-replicate}
+use Rattle.homeo_syntax.specs.Listed.{Listed}
+use Rattle.homeo_syntax.specs.SourceView.{plain_workload}
+use Rattle.homeo_meaning.specs.declared.call.CallId.{CallId}
+use Rattle.homeo_effect.specs.Counts.{assignment_count, print_count}
+use Rattle.homeo_history.specs.Key.{words as history_words}
+use Rattle.homeo_history.specs.HistoryView.{plain_entry, plain_segment}
+use Rattle.homeo_history.specs.declared.history.Entry.{Entry}
+use Rattle.homeo_history.specs.declared.history.Segment.{Segment}
+use Rattle.homeo_site.specs.Key.{words}
+use Rattle.homeo_site.specs.Attempts.{step_commands, IsRoom, IsEmptyCopy}
+use Rattle.homeo_site.specs.SiteState.{SiteHolds, begun}
+use Rattle.homeo_site.specs.SiteView.{StartValue, SiteValue}
+use Rattle.homeo_site.specs.declared.attempts.Room.{Room}
+use Rattle.homeo_site.specs.inner.Standing.{IsStart, IsSite, state_in}
+use Rattle.homeo_site.proofs.SitesHold.{begun_holds}
+
+-- the value of a site with these parts
+abbrev pub value_in : StartValue → List ℤ → Segment → SiteValue
+value_in v x s = record { work = v.work; state = state_in v x s; spare = s.entries.spare }
+
+-- ---- the start
+abbrev pub begun_value : StartValue → SiteValue
+begun_value v = record { work = v.work; state = begun v.number v.round v.base; spare = 0 }
+
+begun_state : (v : StartValue) (x : List ℤ) (s : Segment) → IsStart v x s → state_in v x s ≡ begun v.number v.round v.base
+unfolding words history_words
+begun_state v x s is =
+    let none : plain_segment s ≡ [] = ap (λ (l : Listed Entry). map plain_entry l.items) is.entries in
+    λ j. record { number = v.number; round = v.round; base = v.base; deltas = is.deltas j; segment = none j }
+
+pub start_is_site : (v : StartValue) (x : List ℤ) (s : Segment) → IsStart v x s → IsSite v x s
+start_is_site v x s is =
+    record {
+      accepted = is.accepted;
+      holds =
+          subst (SiteHolds (plain_workload v.work)) (sym (begun_state v x s is))
+          (begun_holds (plain_workload v.work) v.number v.round v.base is.accepted is.site is.within);
+    }
+
+pub start_value : (v u : StartValue) (x : List ℤ) (s : Segment) → IsStart v x s → v ≡ u → value_in v x s ≡ begun_value u
+start_value v u x s is same =
+    let spare : s.entries.spare ≡ 0 = ap (λ (l : Listed Entry). l.spare) is.entries in
+    let state = begun_state v x s is in
+    let here : value_in v x s ≡ begun_value v = λ j. record { work = v.work; state = state j; spare = spare j } in
+    here ∙ ap begun_value same
+
+-- ---- another spare
+same_state : (v : StartValue) (x : List ℤ) (s t : Segment) → t.entries.items ≡ s.entries.items → state_in v x t ≡ state_in v x s
+unfolding history_words
+same_state v x s t same =
+    let segment : plain_segment t ≡ plain_segment s = ap (map plain_entry) same in
+    λ j. record { number = v.number; round = v.round; base = v.base; deltas = x; segment = segment j }
+
+pub still_site : (v : StartValue) (x : List ℤ) (s t : Segment) → IsSite v x s → t.entries.items ≡ s.entries.items → IsSite v x t
+still_site v x s t is same =
+    record { accepted = is.accepted; holds = subst (SiteHolds (plain_workload v.work)) (sym (same_state v x s t same)) is.holds }
+
+-- the value with another spare
+abbrev pub with_spare : SiteValue → ℕ → SiteValue
+with_spare v n = record { work = v.work; state = v.state; spare = n }
+
+pub spare_changed :
+    (v : StartValue) (x : List ℤ) (s t : Segment) (u : SiteValue) → t.entries.items ≡ s.entries.items → value_in v x s ≡ u →
+    value_in v x t ≡ with_spare u t.entries.spare
+spare_changed v x s t u same is =
+    let state = same_state v x s t same in
+    let here : value_in v x t ≡ with_spare (value_in v x s) t.entries.spare =
+    λ j. record { work = v.work; state = state j; spare = t.entries.spare } in
+    here ∙ ap (λ (y : SiteValue). with_spare y t.entries.spare) is
+
+-- ---- room
+pub room_is :
+    (v : StartValue) (x : List ℤ) (s : Segment) (u : SiteValue) (call : CallId) (r : Room) (temporaries prints : ℕ) → value_in v x s ≡ u →
+    temporaries ≡ assignment_count (step_commands (plain_workload v.work) (state_in v x s) call) →
+    prints ≡ print_count (step_commands (plain_workload v.work) (state_in v x s) call) → r.call ≡ call → r.deltas.items ≡ x →
+    r.prints ≡ record { items = []; spare = prints } → r.temporaries.items ≡ replicate temporaries (pos 0) →
+    IsRoom (plain_workload u.work) u.state call r
+room_is v x s u call r temporaries prints is assigned printed name deltas empty zeros =
+    subst (λ (y : SiteValue). IsRoom (plain_workload y.work) y.state call r) is
+    (record {
+      call = name;
+      deltas = deltas;
+      prints = ap (λ (l : Listed ℤ). l.items) empty;
+      temporaries = zeros ∙ ap (λ n. replicate n (pos 0)) assigned;
+      spare =
+          let spare : r.prints.spare ≡ prints = ap (λ (l : Listed ℤ). l.spare) empty in
+          omega (arith, spare, printed);
+    })
+
+pub copies_are :
+    (v : StartValue) (x : List ℤ) (s : Segment) (u : SiteValue) (call : CallId) (lists : List (Listed ℤ)) (copies prints : ℕ) →
+    value_in v x s ≡ u → prints ≡ print_count (step_commands (plain_workload v.work) (state_in v x s) call) →
+    lists ≡ replicate copies (record { items = []; spare = prints }) → All (IsEmptyCopy (plain_workload u.work) u.state call) lists
+copies_are v x s u call lists copies prints is printed e =
+    subst (λ (y : SiteValue). All (IsEmptyCopy (plain_workload y.work) y.state call) lists) is
+    (subst (λ ls. All (IsEmptyCopy (plain_workload v.work) (state_in v x s) call) ls) (sym e)
+    (All-replicate (IsEmptyCopy (plain_workload v.work) (state_in v x s) call) copies (record { items = []; spare = prints })
+    (record { empty = refl; spare = omega (arith, printed) })))

@@ -1,0 +1,173 @@
+//! What a site keeps of a round besides its deltas.
+
+ghost use Rattle.std.specs.Prelude.{◌≡◌, ◌+◌, ◌<◌, ◌≤◌, ◌++◌, All, length, IfOk};
+ghost use Rattle.homeo_syntax.specs.SourceView.{plain_workload};
+ghost use Rattle.homeo_meaning.specs.Acceptance.{IsAccepted};
+ghost use Rattle.homeo_meaning.specs.Serial.{values_of};
+ghost use Rattle.homeo_plan.specs.Planned.{sites_of, planned_at, template_at, policy};
+ghost use Rattle.homeo_plan.specs.PlanView.{plain_config};
+ghost use Rattle.homeo_plan.specs.Template.{base_row};
+ghost use Rattle.homeo_build.specs.Plan.{IsPlanOf};
+ghost use Rattle.homeo_history.specs.Legal.{IsCallAt};
+ghost use Rattle.homeo_effect.specs.Counts.{assignment_count, print_count};
+ghost use Rattle.homeo_site.specs.Attempts.{step_commands};
+ghost use Rattle.homeo_site.specs.SiteState.{step_prints, step_deltas, step_finding};
+ghost use Rattle.homeo_site.specs.inner.Failures.{first_of, first_failure, own_failure, own_freeze_failure};
+ghost use Rattle.homeo_site.specs.inner.OwnCalls.{IsOwnCall};
+ghost use Rattle.homeo_site.specs.inner.OwnTreaty.{own_clauses, SumsFit};
+ghost use Rattle.homeo_site.specs.inner.Ready.{IsReady, with_deltas};
+
+use crate::own_calls::{OwnCall, own_calls};
+use crate::own_treaty::{OwnClause, first_clause, first_freeze, own_clauses};
+use homeo_build::Compiled;
+use homeo_meaning::CallId;
+use homeo_plan::{Broken, RoundPlan};
+use homeo_syntax::{List, Memory, Prints};
+use std::alloc::Global;
+use std::marker::Model;
+use std::sync::Arc;
+
+/// A site's part of a round: what all sites share, the numbers of the site and of the round, the site's part of each clause,
+/// and of each ground call of its clients what it runs.
+#[derive(Drop)]
+pub(crate) struct OwnRound {
+    compiled: Arc<Compiled, Global>,
+    plan: Arc<RoundPlan, Global>,
+    site: u32,
+    round: u64,
+    clauses: List<OwnClause>,
+    calls: List<Option<OwnCall>>,
+}
+
+impl Model for OwnRound {
+    ghost use Rattle.std.specs.Coded.{codes};
+    ghost use Rattle.homeo_syntax.specs.contracts.workload.Workload as workload;
+    ghost use Rattle.homeo_syntax.specs.SourceView.{plain_workload};
+    ghost use Rattle.homeo_site.specs.SiteView.{StartValue};
+    ghost use Rattle.homeo_site.specs.inner.OwnRound.{IsOwnRound};
+
+    ghost Value = { StartValue };
+
+    ghost coded = { Prim.hlevel (codes, workload.the_row.coded) };
+
+    ghost view = { λ r. record {
+      work = r.compiled.value;
+      number = r.site;
+      round = r.round;
+      base = r.plan.value.base.items;
+    } };
+
+    ghost invariant = { λ r. IsOwnRound (plain_workload r.compiled.value) r.plan.value r.site r.clauses.items r.calls.items };
+}
+
+impl OwnRound {
+    /// A site's part of the round that this plan is of.
+    pub(crate) fn new(
+        alloc: Global,
+        compiled: &Arc<Compiled, Global>,
+        plan: &Arc<RoundPlan, Global>,
+        site: u32,
+        round: u64,
+    ) -> Result<OwnRound, Memory>
+        requires plan { IsPlanOf (plain_workload compiled.now.value) plan.now.value.base.items plan.now.value }
+        requires policy { plain_config plan.now.value.config ≡ policy (plain_workload compiled.now.value) plan.now.value.base.items }
+        requires site { site < sites_of (plain_workload compiled.now.value) }
+        ensures { IfOk result (λ r. r ≡ record {
+          work = compiled.now.value;
+          number = site;
+          round = round;
+          base = plan.now.value.base.items;
+        }) }
+    {
+        // its rules hold
+        let _workload = compiled.workload().workload();
+        let clauses = own_clauses(alloc, plan.template.clauses.as_slice(), &plan.config, site)?;
+        let calls = own_calls(alloc, plan, site)?;
+        Ok(OwnRound {
+            compiled: Arc::try_clone(compiled)?,
+            plan: Arc::try_clone(plan)?,
+            site,
+            round,
+            clauses,
+            calls,
+        })
+    }
+
+    pub(crate) fn number(&self) -> u32
+        ensures { result ≡ self.now.number }
+    {
+        self.site
+    }
+
+    pub(crate) fn round(&self) -> u64
+        ensures { result ≡ self.now.round }
+    {
+        self.round
+    }
+
+    /// Lends what the site keeps for a call of one of its clients, in constant time.
+    pub(crate) fn call(&self, call: CallId) -> &OwnCall
+        requires { IsCallAt (plain_workload self.now.work) self.now.number call }
+        ensures { let w = plain_workload self.now.work in let base = self.now.base in
+            IsOwnCall (template_at w base) (values_of base) self.now.number (length base)
+            (base_row (sites_of w) (values_of base) (planned_at w call)).residual result.now }
+    {
+        let place = self.compiled.place(call) as usize;
+        match &self.calls.as_slice()[place] {
+            Some(own) => own,
+            None => unreachable!(),
+        }
+    }
+
+    /// The first that fails of what a call touches.
+    fn first_failure(&self, own: &OwnCall, deltas: &[i64]) -> Option<Broken>
+        requires clauses { All (λ n. n < length (template_at (plain_workload self.now.work) self.now.base).clauses) own.now.clauses.items }
+        requires freezes { let t = template_at (plain_workload self.now.work) self.now.base in
+            All (λ n. (length t.clauses ≤ n) × (n < length t.clauses + length t.freezes)) own.now.freezes.items }
+        requires fit { let w = plain_workload self.now.work in All (λ c. SumsFit c.terms (values_of deltas.now))
+            (own_clauses self.now.number (template_at w self.now.base).clauses (policy w self.now.base)) }
+        ensures { let w = plain_workload self.now.work in let t = template_at w self.now.base in result ≡
+            first_of (first_failure (own_failure (own_clauses self.now.number t.clauses (policy w self.now.base))
+            (values_of deltas.now)) own.now.clauses.items)
+            (first_failure (own_freeze_failure (length t.clauses) self.now.number t.freezes (values_of deltas.now)) own.now.freezes.items) }
+    {
+        let failure = first_clause(self.clauses.as_slice(), own.clauses.as_slice(), deltas);
+        if failure.is_some() {
+            return failure;
+        }
+        let template = &self.plan.template;
+        let count = template.clauses.as_slice().len();
+        first_freeze(
+            template.freezes.as_slice(),
+            count,
+            own.freezes.as_slice(),
+            self.site,
+            deltas,
+        )
+    }
+
+    /// Runs a call of one of the site's clients on the site's deltas, and gives what fails first of the treaty afterwards. It
+    /// takes no memory.
+    pub(crate) fn run(
+        &self,
+        call: CallId,
+        deltas: &mut [i64],
+        temporaries: &mut [i64],
+        prints: &mut Prints,
+    ) -> Option<Broken>
+        requires accepted { IsAccepted (plain_workload self.now.work) }
+        requires ready { IsReady (plain_workload self.now.work) (with_deltas self.now deltas.old) }
+        requires call { IsCallAt (plain_workload self.now.work) self.now.number call }
+        requires temporaries { assignment_count (step_commands (plain_workload self.now.work) (with_deltas self.now deltas.old) call)
+            ≤ length temporaries.old }
+        requires spare { print_count (step_commands (plain_workload self.now.work) (with_deltas self.now deltas.old) call) ≤ prints.old.spare }
+        ensures failure { result ≡ step_finding (plain_workload self.now.work) (with_deltas self.now deltas.old) call }
+        ensures deltas { deltas.new ≡ step_deltas (plain_workload self.now.work) (with_deltas self.now deltas.old) call }
+        ensures prints { prints.new.items ≡ prints.old.items ++
+            step_prints (plain_workload self.now.work) (with_deltas self.now deltas.old) call }
+    {
+        let own = self.call(call);
+        own.program.run(deltas, temporaries, prints);
+        self.first_failure(own, deltas)
+    }
+}

@@ -1,0 +1,225 @@
+//! Sites.
+
+ghost use Rattle.std.specs.Prelude.{◌≡◌, ◌<◌, ◌≤◌, ◌-◌, All, length, pos, IfOk, OnOk, slice_index_or};
+ghost use Rattle.homeo_syntax.specs.SourceView.{plain_workload};
+ghost use Rattle.homeo_history.specs.HistoryView.{plain_segment};
+ghost use Rattle.homeo_history.specs.Legal.{IsCallAt};
+ghost use Rattle.homeo_site.specs.Attempts.{IsChange, IsOutcome, IsRoom, IsEmptyCopy, copied_prints};
+ghost use Rattle.homeo_site.specs.SiteState.{SiteHolds, after_local, begun};
+
+use crate::attempts::{Change, Outcome, Room};
+use crate::lists::{copy_to_all, empty_copies, empty_prints, zeros};
+use crate::own_round::OwnRound;
+use crate::start::SiteStart;
+use homeo_history::{Entry, Segment};
+use homeo_meaning::{CallId, Database};
+use homeo_syntax::{List, Memory, Prints};
+use std::alloc::Global;
+use std::marker::Model;
+use std::mem;
+
+/// A site in a round (Roy et al., SIGMOD 2015): it runs the calls of its own clients on its own deltas, as long as these meet
+/// its treaty, and keeps what it ran as a segment of the history. Of its segment it has a spare, the number of entries for
+/// which there is room.
+#[derive(Drop)]
+pub struct Site {
+    own: OwnRound,
+    deltas: Database,
+    segment: Segment,
+}
+
+impl Model for Site {
+    ghost use Rattle.std.specs.Coded.{codes};
+    ghost use Rattle.homeo_syntax.specs.contracts.workload.Workload as workload;
+    ghost use Rattle.homeo_site.specs.SiteView.{SiteValue};
+    ghost use Rattle.homeo_site.specs.inner.Standing.{IsSite, state_in};
+
+    ghost Value = { SiteValue };
+
+    ghost coded = { Prim.hlevel (codes, workload.the_row.coded) };
+
+    ghost view = { λ s. record {
+      work = s.own.work;
+      state = state_in s.own s.deltas.items s.segment;
+      spare = s.segment.entries.spare;
+    } };
+
+    ghost invariant = { λ s. IsSite s.own s.deltas.items s.segment };
+}
+
+impl Site {
+    /// The site as it begins a round: its deltas are 0, and its segment is empty. It takes no memory.
+    pub fn begin(start: SiteStart) -> Site
+        ensures { result ≡ record { work = start.work; state = begun start.number start.round start.base; spare = 0 } }
+    {
+        let SiteStart {
+            own,
+            deltas,
+            segment,
+        } = start;
+        Site {
+            own,
+            deltas,
+            segment,
+        }
+    }
+
+    /// The number of the site, from 0.
+    pub fn number(&self) -> u32
+        ensures { result ≡ self.now.state.number }
+    {
+        self.own.number()
+    }
+
+    /// The number of the round, from 0.
+    pub fn round(&self) -> u64
+        ensures { result ≡ self.now.state.round }
+    {
+        self.own.round()
+    }
+
+    /// The site's delta of an object, which must be one of the workload's.
+    pub fn delta(&self, object: u32) -> i64
+        requires { object < length self.now.state.deltas }
+        ensures { result ≡ slice_index_or self.now.state.deltas object (pos 0) }
+    {
+        self.deltas.as_slice()[object as usize]
+    }
+
+    /// Lends the segment: the entries of the calls that the site ran in this round, in their order.
+    pub fn segment(&self) -> &Segment
+        ensures segment { plain_segment result.now ≡ self.now.state.segment }
+        ensures holds { SiteHolds (plain_workload self.now.work) self.now.state }
+    {
+        &self.segment
+    }
+
+    /// Gives the segment. It takes no memory.
+    pub fn into_segment(self) -> Segment
+        ensures { plain_segment result ≡ self.state.segment }
+    {
+        self.segment
+    }
+
+    /// Goes on to the round of a start, and gives the segment of the round before. It takes no memory.
+    pub fn renew(&mut self, start: SiteStart) -> Segment
+        ensures state { self.new ≡ record { work = start.work; state = begun start.number start.round start.base; spare = 0 } }
+        ensures segment { plain_segment result ≡ self.old.state.segment }
+    {
+        let before = mem::replace(self, Site::begin(start));
+        before.into_segment()
+    }
+
+    /// Takes room for an attempt of a call, and for so many copies of its prints: all the memory that the attempt, a commit
+    /// of its change, and the copies need. The call must be one of a client of this site.
+    ///
+    /// # Errors
+    ///
+    /// `Memory` when out of memory. Nothing changes, whatever the answer, but that the spare may grow.
+    pub fn room(
+        &mut self,
+        alloc: Global,
+        call: CallId,
+        copies: u32,
+    ) -> Result<(Room, List<Prints>), Memory>
+        requires { IsCallAt (plain_workload self.old.work) self.old.state.number call }
+        ensures state { self.new ≡ record self.old { spare = self.new.spare } }
+        ensures room { IfOk result (λ r. IsRoom (plain_workload self.old.work) self.old.state call r.0) }
+        ensures count { IfOk result (λ r. length r.1.items ≡ copies) }
+        ensures copies { IfOk result (λ r. All (IsEmptyCopy (plain_workload self.old.work) self.old.state call) r.1.items) }
+        ensures spare { OnOk result (1 ≤ self.new.spare) }
+    {
+        let own = self.own.call(call);
+        let count = u64::from(own.program.prints);
+        let temporaries = zeros(alloc, own.program.temporaries as usize)?;
+        let deltas = Vec::from_slice(alloc, self.deltas.as_slice())?;
+        let prints = empty_prints(alloc, count)?;
+        let lists = empty_copies(alloc, copies, count)?;
+        self.segment.entries.reserve(1)?;
+        let room = Room {
+            call,
+            deltas: List::from_vec(deltas),
+            prints,
+            temporaries,
+        };
+        Ok((room, lists))
+    }
+
+    /// Runs a call of one of the site's clients on the site's deltas, in its room, and says whether the site's treaty holds
+    /// afterwards: with the change, or with what fails first, of all clauses and then of all freezes. Where it holds, the
+    /// prints are copied into each list of `answers`. It takes no memory, and changes nothing of the site.
+    ///
+    /// The room, the answers and the site's spare must be as `room` leaves them for this call on the site's present state.
+    pub fn attempt_in(&self, call: CallId, room: Room, answers: &mut List<Prints>) -> Outcome
+        requires call { IsCallAt (plain_workload self.now.work) self.now.state.number call }
+        requires room { IsRoom (plain_workload self.now.work) self.now.state call room }
+        requires answers { All (IsEmptyCopy (plain_workload self.now.work) self.now.state call) answers.old.items }
+        requires spare { 1 ≤ self.now.spare }
+        ensures outcome { IsOutcome (plain_workload self.now.work) self.now.state call result }
+        ensures count { length answers.new.items ≡ length answers.old.items }
+        ensures answers { All (λ copy. copy.items ≡ copied_prints result) answers.new.items }
+    {
+        let Room {
+            call: _,
+            deltas,
+            mut prints,
+            temporaries,
+        } = room;
+        let mut deltas = deltas.into_vec();
+        let mut temporaries = temporaries.into_vec();
+        let failure = self.own.run(
+            call,
+            deltas.as_mut_slice(),
+            temporaries.as_mut_slice(),
+            &mut prints,
+        );
+        match failure {
+            Some(broken) => Outcome::Breaks(broken),
+            None => {
+                copy_to_all(*deltas.allocator(), prints.as_slice(), answers);
+                Outcome::Keeps(Change {
+                    call,
+                    deltas: List::from_vec(deltas),
+                    prints,
+                })
+            }
+        }
+    }
+
+    /// Runs a call of one of the site's clients on the site's deltas, and says whether the site's treaty holds afterwards:
+    /// `room` with no copies, and then `attempt_in`.
+    ///
+    /// # Errors
+    ///
+    /// `Memory` when out of memory. Nothing changes, whatever the answer, but that the spare may grow.
+    pub fn attempt(&mut self, alloc: Global, call: CallId) -> Result<Outcome, Memory>
+        requires { IsCallAt (plain_workload self.old.work) self.old.state.number call }
+        ensures state { self.new ≡ record self.old { spare = self.new.spare } }
+        ensures outcome { IfOk result (IsOutcome (plain_workload self.old.work) self.old.state call) }
+        ensures spare { OnOk result (1 ≤ self.new.spare) }
+    {
+        let (room, mut copies) = self.room(alloc, call, 0)?;
+        Ok(self.attempt_in(call, room, &mut copies))
+    }
+
+    /// Makes the change: the deltas become those of the change, and the segment gets its entry. The change must be what the
+    /// call's local step gives on the site's present state, and keep the treaty; the spare must be at least 1. It takes no
+    /// memory.
+    pub fn commit(&mut self, change: Change)
+        requires call { IsCallAt (plain_workload self.old.work) self.old.state.number change.call }
+        requires change { IsChange (plain_workload self.old.work) self.old.state change.call change }
+        requires spare { 1 ≤ self.old.spare }
+        ensures { self.new ≡ record self.old {
+          state = after_local (plain_workload self.old.work) self.old.state change.call;
+          spare = self.old.spare - 1;
+        } }
+    {
+        let Change {
+            call,
+            deltas,
+            prints,
+        } = change;
+        self.deltas = deltas;
+        let _ = self.segment.entries.push(Entry { call, prints });
+    }
+}

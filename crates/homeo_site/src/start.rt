@@ -1,0 +1,81 @@
+//! The start of a site in a round.
+
+ghost use Rattle.std.specs.Prelude.{◌≡◌, ◌<◌, IfOk};
+ghost use Rattle.homeo_syntax.specs.SourceView.{plain_workload};
+ghost use Rattle.homeo_plan.specs.Planned.{sites_of, policy};
+ghost use Rattle.homeo_plan.specs.PlanView.{plain_config};
+ghost use Rattle.homeo_build.specs.Plan.{IsPlanOf};
+
+use crate::own_round::OwnRound;
+use homeo_build::Compiled;
+use homeo_history::Segment;
+use homeo_meaning::Database;
+use homeo_plan::RoundPlan;
+use homeo_syntax::{List, Memory};
+use std::alloc::Global;
+use std::marker::Model;
+use std::sync::Arc;
+
+/// One site's part of a round: what a site begins the round with.
+#[derive(Drop)]
+pub struct SiteStart {
+    pub(crate) own: OwnRound,
+    pub(crate) deltas: Database,
+    pub(crate) segment: Segment,
+}
+
+impl Model for SiteStart {
+    ghost use Rattle.std.specs.Coded.{codes};
+    ghost use Rattle.homeo_syntax.specs.contracts.workload.Workload as workload;
+    ghost use Rattle.homeo_site.specs.SiteView.{StartValue};
+    ghost use Rattle.homeo_site.specs.inner.Standing.{IsStart};
+
+    ghost Value = { StartValue };
+
+    ghost coded = { Prim.hlevel (codes, workload.the_row.coded) };
+
+    ghost view = { λ s. s.own };
+
+    ghost invariant = { λ s. IsStart s.own s.deltas.items s.segment };
+}
+
+impl SiteStart {
+    /// The part of the site of this number, from 0, in the round of this number. It shares the workload and the plan, and
+    /// keeps of the plan its own part alone: of each clause the terms on its deltas and its bound, and of each ground call
+    /// of its clients what it runs. That takes about the time of the plan's length.
+    ///
+    /// The plan must be one of the workload, with the bounds of the policy, and the site one of the workload's.
+    ///
+    /// # Errors
+    ///
+    /// `Memory` when out of memory.
+    pub fn new(
+        alloc: Global,
+        compiled: &Arc<Compiled, Global>,
+        plan: &Arc<RoundPlan, Global>,
+        site: u32,
+        round: u64,
+    ) -> Result<SiteStart, Memory>
+        requires plan { IsPlanOf (plain_workload compiled.now.value) plan.now.value.base.items plan.now.value }
+        requires policy { plain_config plan.now.value.config ≡ policy (plain_workload compiled.now.value) plan.now.value.base.items }
+        requires site { site < sites_of (plain_workload compiled.now.value) }
+        ensures { IfOk result (λ s. s ≡ record {
+          work = compiled.now.value;
+          number = site;
+          round = round;
+          base = plan.now.value.base.items;
+        }) }
+    {
+        // its rules hold
+        let _workload = compiled.workload().workload();
+        let own = OwnRound::new(alloc, compiled, plan, site, round)?;
+        let deltas = vec![in alloc; 0; plan.base.as_slice().len()]?;
+        Ok(SiteStart {
+            own,
+            deltas: List::from_vec(deltas),
+            segment: Segment {
+                entries: List::new(alloc),
+            },
+        })
+    }
+}
