@@ -1,0 +1,34 @@
+-- Deltas added to values one after another.
+use Rattle.homeo_core.specs.Key.{words}
+use Rattle.std.proofs.Common.{◌≡◌, ℕ, zero, suc, ◌<◌, List, [], ◌∷◌, length, take, get_or, ℤ, pos, ◌+ℤ◌, refl, sym, ap, subst, arith, slice_set, FitsSigned}
+use Rattle.std.specs.Prelude.{All}
+use Rattle.std.specs.Int.{w64}
+use Rattle.homeo_core.specs.Joined.{plus_deltas}
+use Rattle.homeo_core.proofs.Gathered.{plus_length}
+
+pub plus_none : (values : List ℤ) → values ≡ plus_deltas values []
+unfolding words
+plus_none [] = refl
+plus_none (v ∷ values) = refl
+
+pub plus_next : (values deltas : List ℤ) (i : ℕ) → i < length deltas → slice_set (plus_deltas values (take i deltas)) i (get_or (plus_deltas values (take i deltas)) i (pos 0) +ℤ get_or deltas i (pos 0)) ≡ plus_deltas values (take (suc i) deltas)
+unfolding words
+plus_next values [] i lt = absurd (omega (arith, lt))
+plus_next [] (d ∷ deltas) zero lt = refl
+plus_next [] (d ∷ deltas) (suc i) lt = refl
+plus_next (v ∷ values) (d ∷ deltas) zero lt = ap (λ l. (v +ℤ d) ∷ l) (plus_none values)
+plus_next (v ∷ values) (d ∷ deltas) (suc i) lt = ap (λ l. (v +ℤ d) ∷ l) (plus_next values deltas i (omega (arith, lt)))
+
+pub plus_here : (values deltas : List ℤ) (i : ℕ) → i < length deltas → i < length values → get_or (plus_deltas values (take i deltas)) i (pos 0) +ℤ get_or deltas i (pos 0) ≡ get_or (plus_deltas values deltas) i (pos 0)
+unfolding words
+plus_here values [] i lt inside = absurd (omega (arith, lt))
+plus_here [] (d ∷ deltas) i lt inside = absurd (omega (arith, inside))
+plus_here (v ∷ values) (d ∷ deltas) zero lt inside = refl
+plus_here (v ∷ values) (d ∷ deltas) (suc i) lt inside = plus_here values deltas i (omega (arith, lt)) (omega (arith, inside))
+
+pub fits_here : (values deltas : List ℤ) (i : ℕ) → All (FitsSigned w64) (plus_deltas values deltas) → i < length deltas → i < length (plus_deltas values (take i deltas)) → FitsSigned w64 (get_or (plus_deltas values (take i deltas)) i (pos 0) +ℤ get_or deltas i (pos 0))
+fits_here values deltas i all lt inside =
+    let long : i < length values = omega (arith, inside, plus_length values (take i deltas)) in
+    subst (FitsSigned w64) (sym (plus_here values deltas i lt long)) (all i (pos 0) (omega (arith, long, plus_length values deltas)))
+
+pub ruleset added = (plus_none, plus_next, fits_here)

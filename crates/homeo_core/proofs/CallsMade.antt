@@ -1,0 +1,61 @@
+-- A call of a client over closed rounds and sites.
+use Rattle.homeo_history.specs.Key.{words as histories}
+use Rattle.homeo_site.specs.Key.{words as site_words}
+use Rattle.std.proofs.Common.{◌≡◌, ℕ, zero, suc, ◌<◌, List, [], ◌∷◌, length, get_or, ℤ, Option, Some, None, Result, Ok, Err, refl, sym, ap, subst, ◌∙◌, slice_set}
+use Rattle.std.specs.Prelude.{slice_get, unwrap_or, IfOk, OnOk, OnErr}
+use Rattle.homeo_syntax.specs.Source as s
+use Rattle.homeo_meaning.specs.declared.call.CallId.{CallId}
+use Rattle.homeo_meaning.specs.Acceptance.{IsAccepted}
+use Rattle.homeo_plan.specs.declared.treaty.Broken.{Broken}
+use Rattle.homeo_plan.specs.Planned.{sites_of, template_at, policy}
+use Rattle.homeo_plan.proofs.Findings.{finding_law}
+use Rattle.homeo_plan.proofs.PlannedCalls.{site_below}
+use Rattle.homeo_history.specs.Follows.{site_or_zero}
+use Rattle.homeo_history.specs.Legal.{IsCallAt}
+use Rattle.homeo_history.proofs.CallRuns.{site_is}
+use Rattle.homeo_site.specs.SiteState.{SiteState, KeepsCall, step_values, step_finding}
+use Rattle.homeo_site.specs.SiteView.{SiteValue}
+use Rattle.homeo_core.specs.Joined.{BookState, AreJoined}
+use Rattle.homeo_core.specs.inner.SiteLists.{states}
+use Rattle.homeo_core.proofs.GatheredSites.{states_at, states_count, states_set}
+
+-- nothing fails where the treaty is kept
+pub none_where_kept : (w : s.Workload) (x : SiteState) (call : CallId) → KeepsCall w x call → step_finding w x call ≡ None
+unfolding site_words histories
+none_where_kept w x call keeps = go (step_finding w x call) refl
+  where
+    go : (o : Option Broken) → step_finding w x call ≡ o → o ≡ None
+    go None e = refl
+    go (Some f) e = absurd ((finding_law (template_at w x.base) (policy w x.base) x.number (step_values w x call)).some f e keeps)
+
+pub home_is : (w : s.Workload) (home : ℕ) (call : CallId) → IsCallAt w home call → site_or_zero w call ≡ home
+unfolding histories
+home_is w home call at = ap (λ o. unwrap_or o 0) at.at_site
+
+pub home_lt : (w : s.Workload) (start : List ℤ) (b : BookState) (sites : List SiteValue) (home : ℕ) (call : CallId) → IsAccepted w → AreJoined w start b (states sites) → IsCallAt w home call → home < length sites
+home_lt w start b sites home call accepted joined at =
+    let below : home < sites_of w = subst (λ n. n < sites_of w) (site_is w call home at) (site_below w call accepted at.exists) in
+    subst (λ n. home < n) (sym joined.round.count ∙ states_count sites) below
+
+pub set_itself : {X : Type 0} (xs : List X) (i : ℕ) (x : X) → slice_get xs i ≡ Some x → slice_set xs i x ≡ xs
+set_itself [] i x e = refl
+set_itself (y ∷ xs) zero x e = let same : y ≡ x = cc in ap (λ z. z ∷ xs) (sym same)
+set_itself (y ∷ xs) (suc i) x e = ap (λ l. y ∷ l) (set_itself xs i x e)
+
+-- where a site's state is as it was, so are all
+pub states_stay : (sites : List SiteValue) (home : ℕ) (d y : SiteValue) → home < length sites → y.state ≡ (get_or sites home d).state → states (slice_set sites home y) ≡ states sites
+states_stay sites home d y lt same =
+    states_set sites home y ∙ ap (slice_set (states sites) home) same ∙ set_itself (states sites) home (get_or sites home d).state (states_at sites home d lt)
+
+-- ---- results
+pub on_err : {T E : Type 0} (r : Result T E) (P : Type 0) → P → OnErr r P
+on_err (Ok x) P h = tt
+on_err (Err e) P h = h
+
+pub on_err_map : {T E : Type 0} (r : Result T E) (P Q : Type 0) → (P → Q) → OnErr r P → OnErr r Q
+on_err_map (Ok x) P Q f h = tt
+on_err_map (Err e) P Q f h = f h
+
+pub if_ok : {T E : Type 0} (r : Result T E) (P Q : Type 0) (R S : T → Type 0) → OnOk r P → OnOk r Q → IfOk r R → ((x : T) → P → Q → R x → S x) → IfOk r S
+if_ok (Ok x) P Q R S p q h f = f x p q h
+if_ok (Err e) P Q R S p q h f = tt

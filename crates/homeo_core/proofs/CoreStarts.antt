@@ -1,0 +1,117 @@
+-- A core before any call.
+use Rattle.homeo_history.specs.Key.{words as histories}
+use Rattle.homeo_site.specs.Key.{words as site_words}
+use Rattle.homeo_core.specs.Key.{words}
+use Rattle.std.proofs.Common.{◌≡◌, ℕ, zero, suc, ◌+◌, ◌<◌, ◌≤◌, List, [], ◌∷◌, ◌++◌, map, length, replicate, ℤ, Some, refl, sym, ap, subst, ◌∙◌, arith}
+use Rattle.std.specs.Prelude.{slice_get, slice_index_or, IsSome}
+use Rattle.std.specs.List.{range_with_len, flat_map}
+use Rattle.std.proofs.lemmas.List.{length-map, map-append}
+use Rattle.std.proofs.lemmas.List.Elements.{All-nil}
+use Rattle.homeo_syntax.specs.Source as s
+use Rattle.homeo_syntax.specs.SourceView.{plain_workload}
+use Rattle.homeo_syntax.specs.declared.workload.Workload.{Workload}
+use Rattle.homeo_meaning.specs.Acceptance.{IsAccepted}
+use Rattle.homeo_meaning.specs.Bounds.{IsWithin}
+use Rattle.homeo_meaning.specs.Schema.{schema_of}
+use Rattle.homeo_plan.specs.Planned.{sites_of}
+use Rattle.homeo_history.specs.History.{Entry, Round}
+use Rattle.homeo_history.specs.Legal.{IsAtSites, call_count, calls_of, numbers_of}
+use Rattle.homeo_history.specs.Replayed.{IsReplayed}
+use Rattle.homeo_history.proofs.Lists.{get_map_back, all_from_get, range_more}
+use Rattle.homeo_site.specs.SiteState.{SiteState, SiteHolds, begun}
+use Rattle.homeo_site.specs.SiteView.{SiteValue}
+use Rattle.homeo_site.proofs.SitesHold.{begun_holds}
+use Rattle.homeo_core.specs.CoreView.{CoreHolds, begun_sites, core_at}
+use Rattle.homeo_core.specs.Joined.{BookState, IsInRound, rounds_of}
+use Rattle.homeo_core.specs.inner.SiteLists.{AreOf}
+use Rattle.homeo_core.proofs.GatheredSites.{length_same}
+
+-- ---- the sites
+pub begun_more : (n : ℕ) (base : List ℤ) → begun_sites (suc n) base ≡ begun_sites n base ++ begun n 0 base ∷ []
+unfolding words
+begun_more n base =
+    let here : 0 + n ≡ n = omega arith in
+    ap (map (λ i. begun i 0 base)) (range_more 0 n)
+    ∙ map-append (λ i. begun i 0 base) (range_with_len 0 n) ((0 + n) ∷ [])
+    ∙ ap (λ m. begun_sites n base ++ begun m 0 base ∷ []) here
+
+record InRange (a n i j : ℕ) : Type 0 where
+  pub is : j ≡ a + i
+  pub lt : i < n
+
+range_at : (a n i j : ℕ) → slice_get (range_with_len a n) i ≡ Some j → InRange a n i j
+range_at a zero i j e = absurd (cc)
+range_at a (suc n) zero j e = let same : a ≡ j = cc in record { is = omega (arith, same); lt = omega arith }
+range_at a (suc n) (suc i) j e = let h = range_at (a + 1) n i j e in record { is = omega (arith, h.is); lt = omega (arith, h.lt) }
+
+record IsBegun (count : ℕ) (base : List ℤ) (i : ℕ) (x : SiteState) : Type 0 where
+  pub is : begun i 0 base ≡ x
+  pub lt : i < count
+
+begun_at : (count : ℕ) (base : List ℤ) (i : ℕ) (x : SiteState) → slice_get (begun_sites count base) i ≡ Some x → IsBegun count base i x
+unfolding words
+begun_at count base i x e =
+    let was = get_map_back (λ j. begun j 0 base) (range_with_len 0 count) i x e in
+    let h = range_at 0 count i was.0 was.1.0 in
+    let same : was.0 ≡ i = omega (arith, h.is) in
+    record { is = ap (λ j. begun j 0 base) (sym same) ∙ was.1.1; lt = h.lt }
+
+length_range : (a n : ℕ) → length (range_with_len a n) ≡ n
+length_range a zero = refl
+length_range a (suc n) = ap suc (length_range (a + 1) n)
+
+-- ---- no calls
+no_entries : (base : List ℤ) (ns : List ℕ) → flat_map (λ (es : List Entry). es) (map (λ (x : SiteState). x.segment) (map (λ i. begun i 0 base) ns)) ≡ []
+unfolding site_words
+no_entries base [] = refl
+no_entries base (n ∷ ns) = no_entries base ns
+
+no_calls : (base : List ℤ) (count : ℕ) → calls_of (rounds_of (record { closed = []; base = base }) (begun_sites count base)) ≡ []
+unfolding words histories
+no_calls base count = ap (λ (es : List Entry). map (λ (e : Entry). e.call) ((es ++ []) ++ [])) (no_entries base (range_with_len 0 count))
+
+abbrev zeros : ℕ → List ℕ
+zeros n = replicate n 0
+
+zeros_at : (n client : ℕ) → slice_index_or (zeros n) client 0 ≡ 0
+zeros_at zero client = refl
+zeros_at (suc n) zero = refl
+zeros_at (suc n) (suc client) = zeros_at n client
+
+pub core_begins : (work : Workload) (base : List ℤ) → IsAccepted (plain_workload work) → IsWithin (schema_of (plain_workload work)) base → CoreHolds (core_at work base)
+unfolding words histories site_words
+core_begins work base accepted within =
+    let w : s.Workload = plain_workload work in
+    let b : BookState = record { closed = []; base = base } in
+    record {
+      accepted = accepted;
+      joined = record {
+        book = record {
+          starts = refl;
+          within = within;
+          segments = All-nil (λ (r : Round). length r.segments ≡ sites_of w);
+          closed = All-nil (λ (r : Round). IsSome r.closing);
+          at_sites = All-nil (IsAtSites w);
+          serial = tt;
+          replayed = All-nil (IsReplayed w);
+        };
+        holds = all_from_get (SiteHolds w) (begun_sites (sites_of w) base) (λ i x e. let h = begun_at (sites_of w) base i x e in
+            subst (SiteHolds w) h.is (begun_holds w i 0 base accepted h.lt within));
+        round = record {
+          count = length-map (range_with_len 0 (sites_of w)) (λ i. begun i 0 base) ∙ length_range 0 (sites_of w);
+          each = λ i x e. let h = begun_at (sites_of w) base i x e in subst (IsInRound b i) h.is (in_first i);
+        };
+      };
+      ordered = record {
+        clients = length_same (length w.clients) 0;
+        exist = λ client. subst (λ n. n ≤ call_count w client) (sym (zeros_at (length w.clients) client)) (omega arith);
+        numbers = λ client. ap (numbers_of client) (no_calls base (sites_of w)) ∙ ap (range_with_len 1) (sym (zeros_at (length w.clients) client));
+      };
+    }
+  where
+    in_first : (i : ℕ) → IsInRound (record { closed = []; base = base }) i (begun i 0 base)
+    in_first i = record { numbered = refl; round = refl; base = refl }
+
+pub none_of : (w : Workload) → AreOf w []
+unfolding words
+none_of w = All-nil (λ (s : SiteValue). s.work ≡ w)

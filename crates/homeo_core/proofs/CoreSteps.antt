@@ -1,0 +1,130 @@
+-- A core after a client's next call.
+use Rattle.homeo_history.specs.Key.{words as histories}
+use Rattle.homeo_site.specs.Key.{words as site_words}
+use Rattle.homeo_core.specs.Key.{words}
+use Rattle.std.proofs.Common.{◌≡◌, ℕ, suc, ◌+◌, ◌<◌, ◌≤◌, List, [], ◌∷◌, ◌++◌, length, take, drop, ℤ, Option, Some, None, refl, sym, ap, subst, ◌∙◌, arith, slice_set}
+use Rattle.std.specs.Prelude.{slice_get, slice_index_or}
+use Rattle.homeo_syntax.specs.Source as s
+use Rattle.homeo_syntax.specs.SourceView.{plain_workload}
+use Rattle.homeo_meaning.specs.declared.call.CallId.{CallId}
+use Rattle.homeo_meaning.specs.Acceptance.{IsAccepted}
+use Rattle.homeo_plan.specs.declared.treaty.Broken.{Broken}
+use Rattle.homeo_plan.specs.Planned.{template_at, policy}
+use Rattle.homeo_plan.proofs.Findings.{finding_law}
+use Rattle.homeo_history.specs.Answers.{Answer}
+use Rattle.homeo_history.specs.Legal.{IsClientAt, IsCallAt, call_count, calls_of, IsInOrder, IsLegalFrom}
+use Rattle.homeo_history.proofs.Exists.{is_call_at}
+use Rattle.homeo_site.specs.SiteState.{SiteState, KeepsCall, step_values, step_finding}
+use Rattle.homeo_core.specs.CoreView.{CoreValue, CoreHolds, core_history, start_of, next_call, book_after, sites_after, answer_to, IsMade, IsStep, GoesOnBy}
+use Rattle.homeo_core.specs.Events.{OneMore, IsAfter}
+use Rattle.homeo_core.specs.Joined.{BookState, AreJoined, rounds_of, history_of}
+use Rattle.homeo_core.proofs.ClosingCalls.{core_cleanup}
+use Rattle.homeo_core.proofs.Following.{follows_local, follows_cleanup}
+use Rattle.homeo_core.proofs.Joining.{joining}
+use Rattle.homeo_core.proofs.LocalCalls.{core_local}
+use Rattle.homeo_core.proofs.Ordered.{core_order}
+
+keeps_where_none : (w : s.Workload) (x : SiteState) (call : CallId) → step_finding w x call ≡ None → KeepsCall w x call
+unfolding site_words histories
+keeps_where_none w x call e = (finding_law (template_at w x.base) (policy w x.base) x.number (step_values w x call)).none e
+
+module _ (w : s.Workload) (start : List ℤ) (b : BookState) (sites : List SiteState) (home : ℕ) (call : CallId) (accepted : IsAccepted w) (joined : AreJoined w start b sites) (at : IsCallAt w home call) where
+  pub record Goes (a : Answer) (b' : BookState) (sites' : List SiteState) : Type 0 where
+    pub after : IsAfter w start a b b' sites sites'
+    pub follows : GoesOnBy w (history_of b sites) call (history_of b' sites')
+    pub client : a.client ≡ call.client
+    pub seq : a.seq ≡ call.seq
+
+  goes : (x : SiteState) → slice_get sites home ≡ Some x → (o : Option Broken) → step_finding w x call ≡ o → Goes (answer_to w b sites home x call o) (book_after w b sites home call o) (sites_after w b sites home x call o)
+  unfolding words histories site_words
+  goes x here None e = record {
+    after = core_local w start b sites home x call accepted joined here at (keeps_where_none w x call e);
+    follows = λ calls. follows_local w start b sites home x call calls joined here at;
+    client = refl;
+    seq = refl;
+  }
+  goes x here (Some broken) e = record {
+    after = core_cleanup w start b sites home call broken accepted joined (record { site = x; here = here; at_site = at; breaks = e });
+    follows = λ calls. follows_cleanup w b sites home call broken calls;
+    client = refl;
+    seq = refl;
+  }
+
+  pub made_goes : (a : Answer) (b' : BookState) (sites' : List SiteState) → IsMade w b sites home call a b' sites' → Goes a b' sites'
+  made_goes a b' sites' m =
+      subst (λ v. Goes v b' sites') (sym m.answer)
+      (subst (λ v. Goes (answer_to w b sites home m.site call (step_finding w m.site call)) v sites') (sym m.rounds)
+      (subst (Goes (answer_to w b sites home m.site call (step_finding w m.site call)) (book_after w b sites home call (step_finding w m.site call))) (sym m.states)
+      (goes m.site m.here (step_finding w m.site call) refl)))
+
+-- ---- the whole core
+pub record IsStepped (x : CoreValue) (client : ℕ) (a : Answer) (x' : CoreValue) : Type 0 where
+  pub holds : CoreHolds x'
+  pub answered : OneMore a (rounds_of x.book x.sites) (rounds_of x'.book x'.sites)
+  pub follows : GoesOnBy (plain_workload x.work) (core_history x) (next_call x client) (core_history x')
+  pub legal : IsLegalFrom (plain_workload x.work) (start_of x.book) x'.counts (core_history x')
+  pub start : start_of x'.book ≡ start_of x.book
+
+pub can_call : (x : CoreValue) (client home : ℕ) → IsClientAt (plain_workload x.work) home client → slice_index_or x.counts client 0 < call_count (plain_workload x.work) client → IsCallAt (plain_workload x.work) home (next_call x client)
+unfolding words
+can_call x client home at left = is_call_at (plain_workload x.work) home (next_call x client) at (omega arith) (omega (arith, left))
+
+abbrev pub counted : CoreValue → ℕ → BookState → List SiteState → CoreValue
+unfolding words
+counted x client b' sites' = record { work = x.work; book = b'; sites = sites'; counts = slice_set x.counts client (suc (slice_index_or x.counts client 0)) }
+
+pub stepped : (x : CoreValue) (client home : ℕ) (a : Answer) (b' : BookState) (sites' : List SiteState) → CoreHolds x → client < length x.counts → IsClientAt (plain_workload x.work) home client → slice_index_or x.counts client 0 < call_count (plain_workload x.work) client → IsMade (plain_workload x.work) x.book x.sites home (next_call x client) a b' sites' → IsStepped x client a (counted x client b' sites')
+unfolding words
+stepped x client home a b' sites' holds lt at left made =
+    let w : s.Workload = plain_workload x.work in
+    let call : CallId = next_call x client in
+    let n : ℕ = slice_index_or x.counts client 0 in
+    let g = made_goes w (start_of x.book) x.book x.sites home call holds.accepted holds.joined (can_call x client home at left) a b' sites' made in
+    let client_is : a.client ≡ client = g.client in
+    let seq_is : a.seq ≡ suc n = g.seq in
+    let seq_next : a.seq ≡ suc (slice_index_or x.counts a.client 0) = seq_is ∙ ap (λ c. suc (slice_index_or x.counts c 0)) (sym client_is) in
+    let few : a.seq ≤ call_count w a.client = subst (λ c. a.seq ≤ call_count w c) (sym client_is) (omega (arith, seq_is, left)) in
+    let in_order : IsInOrder w (slice_set x.counts a.client a.seq) (calls_of (rounds_of b' sites')) = core_order w x.counts a (rounds_of x.book x.sites) (rounds_of b' sites') holds.ordered g.after.answer (subst (λ c. c < length x.counts) (sym client_is) lt) seq_next few in
+    let ordered : IsInOrder w (slice_set x.counts client (suc n)) (calls_of (rounds_of b' sites')) = subst (λ c. IsInOrder w (slice_set x.counts c (suc n)) (calls_of (rounds_of b' sites'))) client_is (subst (λ m. IsInOrder w (slice_set x.counts a.client m) (calls_of (rounds_of b' sites'))) seq_is in_order) in
+    record {
+      holds = record {
+        accepted = holds.accepted;
+        joined = subst (λ d. AreJoined w d b' sites') (sym g.after.joined.book.starts) g.after.joined;
+        ordered = ordered;
+      };
+      answered = g.after.answer;
+      follows = g.follows;
+      legal = joining w (start_of x.book) b' sites' (slice_set x.counts client (suc n)) holds.accepted g.after.joined ordered;
+      start = g.after.joined.book.starts;
+    }
+
+pub is_legal : (x : CoreValue) → CoreHolds x → IsLegalFrom (plain_workload x.work) (start_of x.book) x.counts (core_history x)
+unfolding words
+is_legal x holds = joining (plain_workload x.work) (start_of x.book) x.book x.sites x.counts holds.accepted holds.joined holds.ordered
+
+-- ---- a vector's items written as a slice
+pub whole_slice : {X : Type 0} (len : ℕ) (old new : List X) → length new ≡ length old → length old ≡ len → take len (new ++ drop (length new) old) ≡ new
+whole_slice len old new same count = subst (λ n. take n (new ++ drop (length new) old) ≡ new) (same ∙ count) (go new old same)
+  where
+    go : {X : Type 0} (new old : List X) → length new ≡ length old → take (length new) (new ++ drop (length new) old) ≡ new
+    go [] old e = refl
+    go (x ∷ new) [] e = absurd (omega (arith, e))
+    go (x ∷ new) (y ∷ old) e = ap (λ l. x ∷ l) (go new old (omega (arith, e)))
+
+-- ---- a step as the code makes it: of the core as it lies in memory
+pub record IsTaken (x : CoreValue) (client home last : ℕ) (b' : BookState) (sites' : List SiteState) (x' : CoreValue) : Type 0 where
+  pub lt : client < length x.counts
+  pub last_is : last ≡ slice_index_or x.counts client 0
+  pub at : IsClientAt (plain_workload x.work) home client
+  pub left : slice_index_or x.counts client 0 < call_count (plain_workload x.work) client
+  pub new : x' ≡ counted x client b' sites'
+
+pub taken : (x : CoreValue) (client home last : ℕ) (a : Answer) (b' : BookState) (sites' : List SiteState) (x' : CoreValue) → CoreHolds x → IsTaken x client home last b' sites' x' → IsMade (plain_workload x.work) x.book x.sites home (record { client = client; seq = last + 1 }) a b' sites' → IsStepped x client a x' × IsStep x client a x'
+unfolding words
+taken x client home last a b' sites' x' holds t made =
+    let next : suc (slice_index_or x.counts client 0) ≡ last + 1 = let e = t.last_is in omega (arith, e) in
+    let made' : IsMade (plain_workload x.work) x.book x.sites home (next_call x client) a b' sites' = subst (λ n. IsMade (plain_workload x.work) x.book x.sites home (record { client = client; seq = n }) a b' sites') (sym next) made in
+    let step : IsStep x client a (counted x client b' sites') = record { home = home; at_home = t.at; made = made'; work = refl; counts = refl } in (
+      subst (IsStepped x client a) (sym t.new) (stepped x client home a b' sites' holds t.lt t.at t.left made'),
+      subst (IsStep x client a) (sym t.new) step,
+    )

@@ -1,0 +1,17 @@
+pub mod Added
+pub mod CallsMade
+pub mod ClosingCalls
+pub mod CoreStarts
+pub mod CoreSteps
+pub mod Following
+pub mod Gathered
+pub mod GatheredSites
+pub mod Gathering
+pub mod InRounds
+pub mod Joining
+pub mod LocalCalls
+pub mod OneAnswer
+pub mod OpenRound
+pub mod Ordered
+pub mod SitesOfClients
+pub mod StartsOfSites

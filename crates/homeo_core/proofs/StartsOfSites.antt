@@ -1,0 +1,62 @@
+-- Sites that wait for their starts.
+use Rattle.homeo_core.specs.Key.{words}
+use Rattle.std.proofs.Common.{◌≡◌, ℕ, zero, suc, true, List, [], ◌∷◌, ◌++◌, map, length, replicate, Option, Some, None, ℤ, refl, sym, ap, subst, ◌∙◌, inl, inr}
+use Rattle.std.specs.Prelude.{slice_get, slice_index_or}
+use mathlib.Core.Logic.{⊎_elim}
+use Rattle.std.specs.Prelude.{◌⊎◌}
+use Rattle.std.proofs.lemmas.List.{map-append}
+use Rattle.homeo_syntax.specs.declared.workload.Workload.{Workload}
+use Rattle.homeo_site.specs.SiteView.{StartValue}
+use Rattle.homeo_core.specs.inner.Starts.{start_after, AreStarts, waits}
+use Rattle.homeo_core.proofs.SitesOfClients.{same_length}
+
+pub no_start : (starts : List (Option StartValue)) (n : ℕ) (d : Option StartValue) → slice_get (map waits starts) n ≡ Some true → slice_index_or starts n d ≡ None → ⊥
+unfolding words
+no_start [] n d w e = cc
+no_start (None ∷ starts) zero d w e = cc
+no_start (Some s ∷ starts) zero d w e = cc
+no_start (s ∷ starts) (suc n) d w e = no_start starts n d w e
+
+-- ---- one site after another
+pub no_starts : (w : Workload) (round : ℕ) (next : List ℤ) → AreStarts w round next []
+unfolding words
+no_starts w round next i s e = absurd (cc)
+
+at_end : (starts : List (Option StartValue)) (o p : Option StartValue) (i : ℕ) → slice_get (starts ++ o ∷ []) i ≡ Some p → (slice_get starts i ≡ Some p) ⊎ ((i ≡ length starts) × (o ≡ p))
+at_end [] o p zero e = inr (refl, cc)
+at_end [] o p (suc i) e = absurd (cc)
+at_end (s ∷ starts) o p zero e = inl e
+at_end (s ∷ starts) o p (suc i) e = ⊎_elim (λ h. inl h) (λ h. inr (ap suc h.0, h.1)) (at_end starts o p i e)
+
+pub starts_more : (w : Workload) (round : ℕ) (next : List ℤ) (starts : List (Option StartValue)) (s : StartValue) → AreStarts w round next starts → s ≡ start_after w round next (length starts) → AreStarts w round next (starts ++ Some s ∷ [])
+unfolding words
+starts_more w round next starts s all is i t e =
+    ⊎_elim (λ h. all i t h) (λ h. last h.0 h.1) (at_end starts (Some s) (Some t) i e)
+  where
+    last : i ≡ length starts → Some s ≡ Some t → t ≡ start_after w round next i
+    last q p = let same : s ≡ t = cc in subst (λ n. t ≡ start_after w round next n) (sym q) (sym same ∙ is)
+
+pub waiting_more : (starts : List (Option StartValue)) (s : StartValue) (n : ℕ) → map waits starts ≡ replicate n true → map waits (starts ++ Some s ∷ []) ≡ replicate (suc n) true
+unfolding words
+waiting_more starts s n e = map-append waits starts (Some s ∷ []) ∙ ap (λ l. l ++ true ∷ []) e ∙ one_more n
+  where
+    one_more : (n : ℕ) → replicate n true ++ true ∷ [] ≡ replicate (suc n) true
+    one_more zero = refl
+    one_more (suc n) = ap (λ l. true ∷ l) (one_more n)
+
+pub waiting_count : (starts : List (Option StartValue)) (n : ℕ) → map waits starts ≡ replicate n true → length starts ≡ n
+waiting_count starts n e = sym (same_length waits starts) ∙ ap length e ∙ length_replicate n
+  where
+    length_replicate : (n : ℕ) → length (replicate n true) ≡ n
+    length_replicate zero = refl
+    length_replicate (suc n) = ap suc (length_replicate n)
+
+pub as_many : {X Y A B : Type 0} (f : X → A) (g : Y → B) (xs : List X) (ys : List Y) (n : ℕ) (a : A) (b : B) → map f xs ≡ replicate n a → map g ys ≡ replicate n b → length xs ≡ length ys
+as_many f g xs ys n a b p q = count f xs n a p ∙ sym (count g ys n b q)
+  where
+    length_replicate : {A : Type 0} (n : ℕ) (a : A) → length (replicate n a) ≡ n
+    length_replicate zero a = refl
+    length_replicate (suc n) a = ap suc (length_replicate n a)
+
+    count : {X A : Type 0} (f : X → A) (xs : List X) (n : ℕ) (a : A) → map f xs ≡ replicate n a → length xs ≡ n
+    count f xs n a p = sym (same_length f xs) ∙ ap length p ∙ length_replicate n a

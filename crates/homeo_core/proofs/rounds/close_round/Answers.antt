@@ -1,0 +1,127 @@
+use Rattle.std.proofs.Common.{◌≡◌, ℕ, true, [], ◌∷◌, ◌++◌, Some, length, map, take, replicate, sym, ap, subst, ◌∙◌}
+use Rattle.std.proofs.lemmas.List.{length-map, map-append}
+use Rattle.homeo_syntax.specs.Listed.{Listed}
+use Rattle.homeo_syntax.specs.SourceView.{plain_workload}
+use Rattle.homeo_meaning.specs.Bounds.{IsWithin}
+use Rattle.homeo_meaning.specs.Schema.{schema_of}
+use Rattle.homeo_meaning.specs.Serial.{call_outcome}
+use Rattle.homeo_plan.specs.Planned.{sites_of}
+use Rattle.homeo_history.specs.Answers.{closing_answer}
+use Rattle.homeo_history.specs.Follows.{site_or_zero}
+use Rattle.homeo_history.specs.HistoryView.{plain_round}
+use Rattle.homeo_history.specs.declared.history.Round.{Round}
+use Rattle.homeo_site.specs.SiteState.{renewed}
+use Rattle.homeo_core.specs.Key.{words}
+use Rattle.homeo_core.specs.CoreView.{start_of}
+use Rattle.homeo_core.specs.Events.{closing_on}
+use Rattle.homeo_core.specs.GatherView.{GatherValue, PreparedValue}
+use Rattle.homeo_core.specs.Joined.{BookState, gathered, segments_of}
+use Rattle.homeo_core.specs.inner.Books.{book_of}
+use Rattle.homeo_core.specs.inner.SiteLists.{states, AreAt}
+use Rattle.homeo_core.proofs.GatheredSites.{states_count, length_same}
+use Rattle.homeo_core.proofs.InRounds.{at_round, all_fit}
+use Rattle.homeo_core.proofs.OpenRound.{first_within, whole_within}
+use Rattle.homeo_core.proofs.rounds.close_round.Goals as goal
+
+pub gather_all-requires-clause-at : goal.gather_all-requires-clause-at
+unfolding words
+gather_all-requires-clause-at c =
+    let w = plain_workload c.args.c.now.value in
+    let b : BookState = book_of c.args.closed.now.items c.args.base.now.items in
+    let same : length c.as_slice.result.now ≡ length c.args.closed.now.items = ap length (c.as_slice.ensures ∙ ap (λ (l : Listed Round). l.items) c.in_ok-reserve.ensures.ok) in
+    subst (λ n. AreAt n c.args.base.now.items (states c.args.sites.now)) (length-map c.args.closed.now.items plain_round ∙ sym same)
+    (at_round w (start_of b) b (states c.args.sites.now) c.requires.joined)
+
+pub gather_all-requires-clause-fits : goal.gather_all-requires-clause-fits
+unfolding words
+gather_all-requires-clause-fits c n =
+    let w = plain_workload c.args.c.now.value in
+    let b : BookState = book_of c.args.closed.now.items c.args.base.now.items in
+    all_fit w (gathered c.args.base.now.items (take n (states c.args.sites.now))) c.requires.accepted
+    (first_within w (start_of b) b (states c.args.sites.now) c.requires.accepted c.requires.joined n)
+
+pub prepare-requires-clause-sites : goal.prepare-requires-clause-sites
+unfolding words
+prepare-requires-clause-sites c =
+    ap (λ (g : GatherValue). g.added) c.in_ok-gather.ensures ∙ sym (states_count c.args.sites.now) ∙ c.requires.joined.round.count
+
+pub prepare-requires-clause-within : goal.prepare-requires-clause-within
+unfolding words
+prepare-requires-clause-within c =
+    let w = plain_workload c.args.c.now.value in
+    let b : BookState = book_of c.args.closed.now.items c.args.base.now.items in
+    subst (IsWithin (schema_of w)) (sym (ap (λ (g : GatherValue). g.sum) c.in_ok-gather.ensures))
+    (whole_within w (start_of b) b (states c.args.sites.now) c.requires.accepted c.requires.joined)
+
+pub install_all-requires-clause-at : goal.install_all-requires-clause-at
+unfolding words
+install_all-requires-clause-at c =
+    let w = plain_workload c.args.c.now.value in
+    let b : BookState = book_of c.args.closed.now.items c.args.base.now.items in
+    let same : length c.as_slice.result.now ≡ length c.args.closed.now.items = ap length (c.as_slice.ensures ∙ ap (λ (l : Listed Round). l.items) c.in_ok-reserve.ensures.ok) in
+    let round : c.in_ok-prepared.prepared.round ≡ length b.closed =
+    ap (λ (p : PreparedValue). p.round) c.in_ok-prepared.ensures ∙ ap (λ (g : GatherValue). g.round) c.in_ok-gather.ensures ∙ same ∙ sym (length-map c.args.closed.now.items plain_round) in
+    let base : c.in_ok-prepared.prepared.base ≡ b.base =
+    ap (λ (p : PreparedValue). p.base) c.in_ok-prepared.ensures ∙ ap (λ (g : GatherValue). g.base) c.in_ok-gather.ensures in
+    subst (λ n. AreAt n c.in_ok-prepared.prepared.base (states c.args.sites.now)) (sym round)
+    (subst (λ d. AreAt (length b.closed) d (states c.args.sites.now)) (sym base) (at_round w (start_of b) b (states c.args.sites.now) c.requires.joined))
+
+pub install_all-requires-clause-segments : goal.install_all-requires-clause-segments
+unfolding words
+install_all-requires-clause-segments c =
+    let w = plain_workload c.args.c.now.value in
+    ap (λ (p : PreparedValue). length p.segments) c.in_ok-prepared.ensures
+    ∙ length_same (sites_of w) []
+    ∙ sym c.requires.joined.round.count ∙ states_count c.args.sites.now
+
+pub install_all-requires-clause-waiting : goal.install_all-requires-clause-waiting
+unfolding words
+install_all-requires-clause-waiting c =
+    ap (λ (p : PreparedValue). p.waiting) c.in_ok-prepared.ensures
+    ∙ ap (λ n. replicate n true) (sym c.requires.joined.round.count ∙ states_count c.args.sites.now)
+
+pub returns-clause-book : goal.returns-clause-book
+unfolding words
+returns-clause-book c =
+    let w = plain_workload c.args.c.now.value in
+    let call = c.args.call in
+    let home : ℕ = site_or_zero w call in
+    let b : BookState = book_of c.args.closed.now.items c.args.base.now.items in
+    let sum : c.in_ok-gather.gather.sum ≡ gathered c.args.base.now.items (states c.args.sites.now) = ap (λ (g : GatherValue). g.sum) c.in_ok-gather.ensures in
+    let base : c.install_all.new.prepared.base ≡ c.args.base.now.items =
+    ap (λ (p : PreparedValue). p.base) c.install_all.ensures.prepared ∙ ap (λ (p : PreparedValue). p.base) c.in_ok-prepared.ensures ∙ ap (λ (g : GatherValue). g.base) c.in_ok-gather.ensures in
+    let segments : c.install_all.new.prepared.segments ≡ segments_of (states c.args.sites.now) = ap (λ (p : PreparedValue). p.segments) c.install_all.ensures.prepared in
+    let closing : c.install_all.new.prepared.closing ≡ closing_on w (gathered c.args.base.now.items (states c.args.sites.now)) home call c.args.broken =
+    ap (λ (p : PreparedValue). p.closing) c.install_all.ensures.prepared ∙ ap (λ (p : PreparedValue). p.closing) c.in_ok-prepared.ensures ∙ ap (λ d. closing_on w d home call c.args.broken) sum in
+    let next : c.closed-round.result.1.items ≡ (call_outcome w call (gathered c.args.base.now.items (states c.args.sites.now))).database =
+    c.closed-round.ensures.next ∙ ap (λ (p : PreparedValue). p.next) c.install_all.ensures.prepared ∙ ap (λ (p : PreparedValue). p.next) c.in_ok-prepared.ensures
+    ∙ ap (λ d. (call_outcome w call d).database) sum in
+    let round = c.closed-round.ensures.round ∙ (λ j. record { base = base j; segments = segments j; closing = Some (closing j) }) in
+    let reserved : c.reserve.new.self.items ≡ c.args.closed.now.items = ap (λ (l : Listed Round). l.items) c.in_ok-reserve.ensures.ok in
+    let rounds =
+    ap (map plain_round) c.push_reserved.ensures
+    ∙ map-append plain_round c.reserve.new.self.items (c.closed-round.result.0 ∷ [])
+    ∙ (λ j. map plain_round (reserved j) ++ round j ∷ []) in
+    (λ j. record { closed = rounds j; base = next j })
+
+pub returns-clause-sites : goal.returns-clause-sites
+unfolding words
+returns-clause-sites c =
+    let w = plain_workload c.args.c.now.value in
+    let next : c.in_ok-prepared.prepared.next ≡ (call_outcome w c.args.call (gathered c.args.base.now.items (states c.args.sites.now))).database =
+    ap (λ (p : PreparedValue). p.next) c.in_ok-prepared.ensures ∙ ap (λ (g : GatherValue). (call_outcome w c.args.call g.sum).database) c.in_ok-gather.ensures in
+    c.install_all.ensures.sites ∙ ap (λ n. map (renewed n) (states c.args.sites.now)) next
+
+pub returns-clause-answer : goal.returns-clause-answer
+unfolding words
+returns-clause-answer c =
+    let w = plain_workload c.args.c.now.value in
+    let call = c.args.call in
+    let home : ℕ = site_or_zero w call in
+    let same : length c.as_slice.result.now ≡ length c.args.closed.now.items = ap length (c.as_slice.ensures ∙ ap (λ (l : Listed Round). l.items) c.in_ok-reserve.ensures.ok) in
+    let round : c.install_all.new.prepared.round ≡ length c.args.closed.now.items =
+    ap (λ (p : PreparedValue). p.round) c.install_all.ensures.prepared ∙ ap (λ (p : PreparedValue). p.round) c.in_ok-prepared.ensures ∙ ap (λ (g : GatherValue). g.round) c.in_ok-gather.ensures ∙ same in
+    let sum : c.in_ok-gather.gather.sum ≡ gathered c.args.base.now.items (states c.args.sites.now) = ap (λ (g : GatherValue). g.sum) c.in_ok-gather.ensures in
+    let closing : c.install_all.new.prepared.closing ≡ closing_on w (gathered c.args.base.now.items (states c.args.sites.now)) home call c.args.broken =
+    ap (λ (p : PreparedValue). p.closing) c.install_all.ensures.prepared ∙ ap (λ (p : PreparedValue). p.closing) c.in_ok-prepared.ensures ∙ ap (λ d. closing_on w d home call c.args.broken) sum in
+    c.closed-round.ensures.answer ∙ (λ j. closing_answer (round j) (closing j))

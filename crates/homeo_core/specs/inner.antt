@@ -1,0 +1,4 @@
+pub mod Books
+pub mod SiteLists
+pub mod Starts
+pub mod Tried

@@ -1,0 +1,61 @@
+//! What a workload says of its sites and clients.
+
+ghost use Rattle.std.specs.Prelude.{◌≡◌, ◌<◌, Some, pos, ◌≤ℤ◌, length, slice_get};
+ghost use Rattle.homeo_syntax.specs.SourceView.{plain_client, plain_workload};
+ghost use Rattle.homeo_meaning.specs.Acceptance.{IsAccepted};
+ghost use Rattle.homeo_meaning.specs.Schema.{nat_of};
+ghost use Rattle.homeo_plan.specs.Planned.{sites_of};
+ghost use Rattle.homeo_history.specs.Legal.{IsClientAt, call_count};
+
+use homeo_meaning::Accepted;
+use homeo_syntax::Client;
+
+/// How many sites there are.
+pub(crate) fn site_count(w: &Accepted) -> u32
+    ensures { result ≡ sites_of (plain_workload w.now) }
+{
+    natural(w.workload().sites.value)
+}
+
+/// How many clients there are.
+#[tactic(auto, unfolding(homeo_syntax::specs::Key::words))]
+pub(crate) fn client_count(w: &Accepted) -> u64
+    ensures count { result ≡ length (plain_workload w.now).clients }
+    ensures accepted { IsAccepted (plain_workload w.now) }
+{
+    w.workload().clients.as_slice().len() as u64
+}
+
+/// The site of a client.
+pub(crate) fn site_of(w: &Accepted, client: u32) -> u32
+    requires exists { client < length (plain_workload w.now).clients }
+    ensures { IsClientAt (plain_workload w.now) result client }
+{
+    natural(client_of(w, client).site.value)
+}
+
+/// How many calls a client has.
+pub(crate) fn call_count(w: &Accepted, client: u32) -> u64
+    requires exists { client < length (plain_workload w.now).clients }
+    ensures { result ≡ call_count (plain_workload w.now) client }
+{
+    client_of(w, client).calls.as_slice().len() as u64
+}
+
+#[tactic(auto, unfolding(homeo_syntax::specs::Key::words))]
+fn client_of(w: &Accepted, client: u32) -> &Client
+    requires exists { client < length (plain_workload w.now).clients }
+    ensures found { slice_get (plain_workload w.now).clients client ≡ Some (plain_client result.now) }
+    ensures accepted { IsAccepted (plain_workload w.now) }
+{
+    &w.workload().clients.as_slice()[client as usize]
+}
+
+/// A number of sites as a text has it.
+fn natural(n: i64) -> u32
+    requires some { pos 0 ≤ℤ n }
+    requires few { n ≤ℤ pos 16 }
+    ensures { result ≡ nat_of n }
+{
+    n as u32
+}

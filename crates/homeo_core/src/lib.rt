@@ -1,0 +1,15 @@
+//! Runs calls at the sites of one program, one after another: each by its site alone where that keeps the site's treaty, and
+//! else on the gathered database, where it closes the round.
+#![tactic(auto)]
+
+mod clients;
+mod gather;
+pub mod laws;
+mod local;
+mod prepared;
+mod rounds;
+mod steps;
+
+pub use gather::Gather;
+pub use prepared::Prepared;
+pub use steps::Core;
