@@ -86,6 +86,13 @@ impl Site {
         self.deltas.as_slice()[object as usize]
     }
 
+    /// Lends the site's deltas, one for each object.
+    pub fn deltas(&self) -> &[i64]
+        ensures { result.now ≡ self.now.state.deltas }
+    {
+        self.deltas.as_slice()
+    }
+
     /// Lends the segment: the entries of the calls that the site ran in this round, in their order.
     pub fn segment(&self) -> &Segment
         ensures segment { plain_segment result.now ≡ self.now.state.segment }
