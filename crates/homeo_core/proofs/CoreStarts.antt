@@ -3,10 +3,11 @@ use Rattle.homeo_history.specs.Key.{words as histories}
 use Rattle.homeo_site.specs.Key.{words as site_words}
 use Rattle.homeo_core.specs.Key.{words}
 use Rattle.std.proofs.Common.{◌≡◌, ℕ, zero, suc, ◌+◌, ◌<◌, ◌≤◌, List, [], ◌∷◌, ◌++◌, map, length, replicate, ℤ, Some, refl, sym, ap, subst, ◌∙◌, arith}
-use Rattle.std.specs.Prelude.{slice_get, slice_index_or, IsSome}
+use Rattle.std.specs.Prelude.{slice_get, slice_index_or, IsSome, sum}
 use Rattle.std.specs.List.{range_with_len, flat_map}
 use Rattle.std.proofs.lemmas.List.{length-map, map-append}
 use Rattle.std.proofs.lemmas.List.Elements.{All-nil}
+use Rattle.std.proofs.lemmas.List.Sums.{sum_by-cons}
 use Rattle.homeo_syntax.specs.Source as s
 use Rattle.homeo_syntax.specs.SourceView.{plain_workload}
 use Rattle.homeo_syntax.specs.declared.workload.Workload.{Workload}
@@ -14,6 +15,7 @@ use Rattle.homeo_meaning.specs.Acceptance.{IsAccepted}
 use Rattle.homeo_meaning.specs.Bounds.{IsWithin}
 use Rattle.homeo_meaning.specs.Schema.{schema_of}
 use Rattle.homeo_plan.specs.Planned.{sites_of}
+use Rattle.homeo_history.specs.Follows.{Follows}
 use Rattle.homeo_history.specs.History.{Entry, Round}
 use Rattle.homeo_history.specs.Legal.{IsAtSites, call_count, calls_of, numbers_of}
 use Rattle.homeo_history.specs.Replayed.{IsReplayed}
@@ -21,7 +23,7 @@ use Rattle.homeo_history.proofs.Lists.{get_map_back, all_from_get, range_more}
 use Rattle.homeo_site.specs.SiteState.{SiteState, SiteHolds, begun}
 use Rattle.homeo_site.specs.SiteView.{SiteValue}
 use Rattle.homeo_site.proofs.SitesHold.{begun_holds}
-use Rattle.homeo_core.specs.CoreView.{CoreHolds, begun_sites, core_at}
+use Rattle.homeo_core.specs.CoreView.{CoreHolds, begun_sites, core_at, core_history}
 use Rattle.homeo_core.specs.Joined.{BookState, IsInRound, rounds_of}
 use Rattle.homeo_core.specs.inner.SiteLists.{AreOf}
 use Rattle.homeo_core.proofs.GatheredSites.{length_same}
@@ -115,3 +117,17 @@ core_begins work base accepted within =
 pub none_of : (w : Workload) → AreOf w []
 unfolding words
 none_of w = All-nil (λ (s : SiteValue). s.work ≡ w)
+
+-- ---- the list of no calls is followed
+no_length : (base : List ℤ) (ns : List ℕ) → sum (map length (map (λ (x : SiteState). x.segment) (map (λ i. begun i 0 base) ns))) ≡ 0
+unfolding site_words
+no_length base [] = refl
+no_length base (n ∷ ns) =
+    let rest = no_length base ns in
+    let more = sum_by-cons (λ x. x) 0 (map length (map (λ (x : SiteState). x.segment) (map (λ i. begun i 0 base) ns))) in
+    omega (arith, rest, more)
+
+pub follows_none : (w : Workload) (base : List ℤ) → Follows (plain_workload w) (core_history (core_at w base)) []
+unfolding words histories
+follows_none w base =
+    ([], [], refl, record { before = []; cut = refl; whole = sym (no_length base (range_with_len 0 (sites_of (plain_workload w)))); by_sites = refl }, refl)

@@ -1,6 +1,6 @@
 //! The next call of a client, over all sites.
 
-ghost use Rattle.std.specs.Prelude.{◌≡◌, ◌+◌, ◌<◌, suc, map, length, replicate, slice_index_or, IfOk, OnOk, OnErr};
+ghost use Rattle.std.specs.Prelude.{◌≡◌, ◌+◌, ◌<◌, [], suc, map, length, replicate, slice_index_or, IfOk, OnOk, OnErr};
 ghost use Rattle.homeo_syntax.specs.SourceView.{plain_workload};
 ghost use Rattle.homeo_meaning.specs.Acceptance.{IsAccepted};
 ghost use Rattle.homeo_meaning.specs.Bounds.{IsWithin};
@@ -9,6 +9,7 @@ ghost use Rattle.homeo_meaning.specs.Schema.{schema_of};
 ghost use Rattle.homeo_plan.specs.PlanView.{plain_config};
 ghost use Rattle.homeo_plan.specs.Planned.{sites_of, policy};
 ghost use Rattle.homeo_build.specs.Plan.{IsPlanOf};
+ghost use Rattle.homeo_history.specs.Follows.{Follows};
 ghost use Rattle.homeo_history.specs.HistoryView.{plain_answer, plain_history};
 ghost use Rattle.homeo_history.specs.Legal.{IsCallAt, call_count, IsLegalFrom};
 ghost use Rattle.homeo_core.specs.CoreView.{begun_sites, core_at, core_history, start_of, next_call, GoesOnBy, IsMade, IsStep};
@@ -76,9 +77,11 @@ impl Core {
     /// # Errors
     ///
     /// `Memory` when out of memory.
-    pub fn begin(alloc: Global, c: Compiled) -> Result<Core, Memory>
-        ensures core { IfOk result (λ x. x ≡ core_at c (initial (plain_workload c))) }
-        ensures legal { IfOk result (λ x. IsLegalFrom (plain_workload c) (initial (plain_workload c)) x.counts (core_history x)) }
+    pub fn begin(alloc: Global, c: Arc<Compiled>) -> Result<Core, Memory>
+        ensures core { IfOk result (λ x. x ≡ core_at c.value (initial (plain_workload c.value))) }
+        ensures legal { IfOk result (λ x.
+            IsLegalFrom (plain_workload c.value) (initial (plain_workload c.value)) x.counts (core_history x)) }
+        ensures follows { IfOk result (λ x. Follows (plain_workload c.value) (core_history x) []) }
     {
         let base = initial(alloc, c.workload())?;
         Core::begin_at(alloc, c, base)
@@ -89,17 +92,17 @@ impl Core {
     /// # Errors
     ///
     /// `Memory` when out of memory.
-    pub fn begin_at(alloc: Global, c: Compiled, base: Database) -> Result<Core, Memory>
-        requires within { IsWithin (schema_of (plain_workload c)) base.items }
-        ensures core { IfOk result (λ x. x ≡ core_at c base.items) }
-        ensures legal { IfOk result (λ x. IsLegalFrom (plain_workload c) base.items x.counts (core_history x)) }
+    pub fn begin_at(alloc: Global, c: Arc<Compiled>, base: Database) -> Result<Core, Memory>
+        requires within { IsWithin (schema_of (plain_workload c.value)) base.items }
+        ensures core { IfOk result (λ x. x ≡ core_at c.value base.items) }
+        ensures legal { IfOk result (λ x. IsLegalFrom (plain_workload c.value) base.items x.counts (core_history x)) }
+        ensures follows { IfOk result (λ x. Follows (plain_workload c.value) (core_history x) []) }
     {
         let plan = plan_at(alloc, &c, &base)?;
         let counts = zero_counts(alloc, c.workload())?;
-        let compiled = Arc::new(alloc, c)?;
-        let sites = begin_sites(alloc, &compiled, &plan)?;
+        let sites = begin_sites(alloc, &c, &plan)?;
         Ok(Core {
-            compiled,
+            compiled: c,
             closed: List::new(alloc),
             base,
             sites,
@@ -115,6 +118,7 @@ impl Core {
     pub fn finish(self, alloc: Global) -> Result<History, Memory>
         ensures history { IfOk result (λ h. plain_history h ≡ core_history self) }
         ensures legal { IfOk result (λ h. IsLegalFrom (plain_workload self.work) (start_of self.book) self.counts (plain_history h)) }
+        ensures within { IfOk result (λ h. IsWithin (schema_of (plain_workload self.work)) (plain_history h).last) }
     {
         let Core {
             compiled: _,

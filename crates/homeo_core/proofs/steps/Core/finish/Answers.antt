@@ -5,6 +5,8 @@ use Rattle.std.specs.Prelude.{All}
 use Rattle.std.proofs.lemmas.List.{length-map, map-append}
 use Rattle.homeo_syntax.specs.Listed.{Listed}
 use Rattle.homeo_syntax.specs.SourceView.{plain_workload}
+use Rattle.homeo_meaning.specs.Bounds.{IsWithin}
+use Rattle.homeo_meaning.specs.Schema.{schema_of}
 use Rattle.homeo_history.specs.HistoryView.{plain_segment, plain_round, plain_history}
 use Rattle.homeo_history.specs.Legal.{IsLegalFrom}
 use Rattle.homeo_history.specs.declared.history.Round.{Round}
@@ -16,7 +18,7 @@ use Rattle.homeo_core.specs.inner.Books.{book_of}
 use Rattle.homeo_core.specs.inner.SiteLists.{states, AreAt}
 use Rattle.homeo_core.proofs.CoreSteps.{is_legal}
 use Rattle.homeo_core.proofs.InRounds.{at_round, all_fit}
-use Rattle.homeo_core.proofs.OpenRound.{first_within}
+use Rattle.homeo_core.proofs.OpenRound.{first_within, whole_within}
 use Rattle.homeo_core.proofs.steps.Core.finish.Goals as goal
 
 pub gathered_values-requires-clause-at : goal.gathered_values-requires-clause-at
@@ -86,3 +88,17 @@ returns-clause-legal c =
     }) in
     subst (λ (v : CoreValue). IsLegalFrom (plain_workload v.work) (start_of v.book) v.counts (plain_history (record { rounds = c.push.new.self; last = c.in_ok-last.last }))) view
     (subst (IsLegalFrom w (start_of b) x.counts) (sym history) (is_legal x holds))
+
+pub returns-clause-within : goal.returns-clause-within
+unfolding words histories
+returns-clause-within c =
+    let f = c.self.inside in
+    let b : BookState = book_of f.closed.items f.base.items in
+    let x : CoreValue = record { work = f.compiled.value; book = b; sites = states f.sites.items; counts = f.counts.items } in
+    let w = plain_workload x.work in
+    let holds : CoreHolds x = c.self.invariant.1 in
+    let view : x ≡ c.args.self = c.self.view_is in
+    let sites : states c.as_slice-2.result.now ≡ states f.sites.items = ap states c.as_slice-2.ensures.value in
+    let last : c.in_ok-last.last.items ≡ gathered f.base.items (states f.sites.items) = c.in_ok-last.ensures ∙ ap (gathered f.base.items) sites in
+    subst (λ (v : CoreValue). IsWithin (schema_of (plain_workload v.work)) c.in_ok-last.last.items) view
+    (subst (IsWithin (schema_of w)) (sym last) (whole_within w (start_of b) b x.sites holds.accepted holds.joined))
