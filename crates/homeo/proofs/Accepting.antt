@@ -1,4 +1,4 @@
--- Where no rule is broken, the schedule runs every call of every client, and the sites are few.
+-- Where no rule is broken, the schedule runs every call of every client.
 use Rattle.std.proofs.Common.{◌≡◌, ◌<◌, ◌≤◌, ◌+◌, ◌∙◌, ◌++◌, ◌==◌, ◌||◌, ℕ, zero, suc, Bool, true, false, cond, List, [], ◌∷◌, length, map, refl, sym, ap, subst, arith, append_assoc, append-nil, length-append, ◌⊎◌, inl, inr}
 use Rattle.std.specs.Prelude.{ℤ, pos, ◌≤ℤ◌, ◌<ℤ◌, All, Option, Some, None, slice_get, if◌then◌else◌, nat_lt, int_lt, int_le}
 use Rattle.std.specs.List.{list_any, flat_map}
@@ -29,7 +29,7 @@ use Rattle.homeo_meaning.specs.declared.rules.Item.{Item}
 use Rattle.homeo_meaning.specs.declared.rules.Item.TheVariants as I
 use Rattle.homeo.specs.Key.{words}
 use Rattle.homeo.specs.Order.{client_names, order_of}
-use Rattle.homeo.specs.inner.Scheduled.{IsWholeOrder, HasSites}
+use Rattle.homeo.specs.inner.Scheduled.{IsWholeOrder}
 use Rattle.homeo.proofs.Scheduling.{times-snoc}
 
 -- ---- lists of faults that are empty
@@ -310,19 +310,10 @@ few_from limit name before (x ∷ xs) most none =
     let whole = few_from limit name (before ++ x ∷ []) xs next (none_second (passes_limit limit name before x) (each_from (passes_limit limit name) (before ++ x ∷ []) xs) none) in
     omega (arith, whole, longer)
 
--- the sites, and the clients, are few
-record Few (w : s.Workload) : Type 0 where
-  pub sites : site_count_faults w.sites ≡ []
-  pub clients : length w.clients ≤ 64
-
-few : (w : s.Workload) → limit_faults w ≡ [] → Few w
+few_clients : (w : s.Workload) → limit_faults w ≡ [] → length w.clients ≤ 64
 unfolding meanings
-few w none =
-    let parts = limit_parts w none in
-    record {
-      sites = parts.sites;
-      clients = let many = few_from 64 (λ (c : s.Client). c.name) [] w.clients (omega arith) parts.clients in omega (arith, many);
-    }
+few_clients w none =
+    let many = few_from 64 (λ (c : s.Client). c.name) [] w.clients (omega arith) (limit_parts w none).clients in omega (arith, many)
 
 pub whole_order : (w : s.Workload) → IsWellFormed w → faults Steps w ≡ [] → IsWholeOrder w
 whole_order w formed none =
@@ -332,36 +323,5 @@ whole_order w formed none =
       known = known_in (IsBelow (length w.names)) w.schedule formed.named.schedule;
       placed = λ k c found. (client_known w k c all.text.names found).0;
       whole = λ k c found. whole_in w w.schedule k c all.text.schedule found (client_known w k c all.text.names found).1;
-      few = (few w all.text.limits).clients;
+      few = few_clients w all.text.limits;
     }
-
--- ---- the sites
-not_less_int : (a b : ℤ) → int_lt a b ≡ false → b ≤ℤ a
-not_less_int a b e = grind (arith, ints, nat_tests)
-
-less_int : (a b : ℤ) → int_le a b ≡ false → b <ℤ a
-less_int a b e = grind (arith, ints, nat_tests)
-
-few_sites : (n : Number) → site_count_faults n ≡ [] → n.value ≤ℤ pos 16
-unfolding meanings
-few_sites n none = not_less_int (pos 16) n.value (or_false (int_lt n.value (pos 1)) (int_lt (pos 16) n.value) (when_none (int_lt n.value (pos 1) || int_lt (pos 16) n.value) _ none)).1
-
-sited : (w : s.Workload) (cs : List s.Client) → flat_map (client_faults w.sites (scope_of w) w.transactions) cs ≡ [] → Each (λ (c : s.Client). pos 0 ≤ℤ c.site.value) cs
-    → All (λ (c : s.Client). (pos 0 ≤ℤ c.site.value) × (c.site.value <ℤ w.sites.value)) cs
-unfolding meanings syntax
-sited w [] none formed = All-nil (λ (c : s.Client). (pos 0 ≤ℤ c.site.value) × (c.site.value <ℤ w.sites.value))
-sited w (c ∷ cs) none formed =
-    let here = none_first (client_faults w.sites (scope_of w) w.transactions c) (flat_map (client_faults w.sites (scope_of w) w.transactions) cs) none in
-    let rest = none_second (client_faults w.sites (scope_of w) w.transactions c) (flat_map (client_faults w.sites (scope_of w) w.transactions) cs) none in
-    let calls : List Fault = flat_map (λ (call : s.Call). call_faults w.transactions ((scope_of w).item call.name.name) call) c.calls in
-    let site = none_second calls (site_faults w.sites c.site) here in
-    All-cons (λ (c : s.Client). (pos 0 ≤ℤ c.site.value) × (c.site.value <ℤ w.sites.value)) c cs
-    (formed.0, less_int w.sites.value c.site.value (when_none (int_le w.sites.value c.site.value) _ site)) (sited w cs rest formed.1)
-
-clients_in : (w : s.Workload) → declared_faults w ≡ [] → flat_map (client_faults w.sites (scope_of w) w.transactions) w.clients ≡ []
-clients_in w none = (declared_parts w none).clients
-
-pub has_sites : (purpose : Purpose) (w : s.Workload) → IsWellFormed w → faults purpose w ≡ [] → HasSites w
-has_sites purpose w formed none =
-    let all = parts purpose w none in
-    record { few = few_sites w.sites (few w all.text.limits).sites; clients = sited w w.clients (clients_in w all.text.declared) formed.sites }

@@ -1,177 +1,184 @@
--- The history that one call after another makes, in the order of a schedule.
-use Rattle.std.proofs.Common.{◌≡◌, ◌<◌, ◌≤◌, ◌+◌, ◌∙◌, ◌++◌, ◌==◌, ℕ, suc, Bool, cond, List, [], ◌∷◌, length, map, get_or, refl, sym, ap, subst, arith, append_assoc, ◌⊎◌, inl, inr, drop}
-use Rattle.std.proofs.lemmas.Grind.{common_steps}
-use Rattle.std.proofs.lemmas.Int.{ints}
-use Rattle.std.specs.Prelude.{ℤ, pos, negsuc, ◌≤ℤ◌, ◌<ℤ◌, All, Option, Some, None, IsSome, is_some, slice_get, unwrap_or}
-use Rattle.std.specs.Option.{option_and_then, option_map}
-use Rattle.std.proofs.lemmas.List.{length-map, get_or-map, map-append}
-use Rattle.std.proofs.lemmas.List.Elements.{All-nil, All-cons, All-head, All-tail}
-use Rattle.std.proofs.lemmas.List.Sums.{sum_by-append}
-use Rattle.std.proofs.lemmas.Option.{slice_get-get_or, slice_get_cases, slice_get_within, slice_get-map}
+-- What a core has made of a schedule, name after name.
+use Rattle.std.proofs.Common.{◌≡◌, ◌≢◌, ◌<◌, ◌≤◌, ◌+◌, ◌∙◌, ◌++◌, ◌==◌, ℕ, zero, suc, Bool, true, false, cond, List, [], ◌∷◌, length, map, get_or, refl, sym, ap, subst, arith, append_assoc, append-nil, take, drop}
+use Rattle.std.proofs.lemmas.Grind.{common_steps, get_or-set_at, same_number_lists}
+use Rattle.std.proofs.lemmas.List.{length-map, length-replicate, get_or-map, get_or-set_other, take-append-drop}
+use Rattle.std.proofs.lemmas.Option.{slice_get-get_or}
+use Rattle.std.proofs.Math.ListN.{length-set}
+use Rattle.std.proofs.lemmas.Bool.{eqb-false}
 use Rattle.std.proofs.lemmas.Bool.Decides.{Decides-eqb}
+use Rattle.std.specs.Prelude.{ℤ, All, Option, Some, None, slice_get, slice_set, slice_index_or, replicate}
 use Rattle.homeo_syntax.specs.Source as s
+use Rattle.homeo_syntax.specs.SourceView.{plain_workload}
 use Rattle.homeo_syntax.specs.declared.phrase.Ident.{Ident}
+use Rattle.homeo_syntax.specs.declared.workload.Workload.{Workload}
 use Rattle.homeo_meaning.specs.declared.call.CallId.{CallId}
 use Rattle.homeo_meaning.specs.Initial.{initial}
-use Rattle.homeo_meaning.specs.Schema.{nat_of}
-use Rattle.homeo_meaning.specs.Serial.{serial, call_outcome, numbered}
-use Rattle.homeo_meaning.specs.Calls.{CallExists}
 use Rattle.homeo_meaning.specs.CallRules.{times}
 use Rattle.homeo_meaning.specs.Declarations.{place_of}
-use Rattle.homeo_meaning.specs.Key.{words as meanings}
-use Rattle.homeo_history.specs.History.{History, Round}
-use Rattle.homeo_history.specs.HistoryView.{plain_round}
-use Rattle.homeo_history.specs.declared.history.Round.{Round as AnyRound}
-use Rattle.homeo_syntax.specs.SourceView.{plain_client, plain_workload}
-use Rattle.homeo_syntax.specs.Key.{words as syntax}
-use Rattle.homeo_syntax.specs.declared.workload.Client.{Client as AnyClient}
-use Rattle.homeo_syntax.specs.declared.workload.Workload.{Workload as AnyWorkload}
-use Rattle.homeo_history.specs.Legal.{IsFull}
-use Rattle.homeo_history.specs.Follows.{Follows, site_or_zero}
-use Rattle.homeo_history.specs.Stepwise.{open_round, closed_round, stepwise, stepwise_history}
+use Rattle.homeo_history.specs.Answers.{Answer}
+use Rattle.homeo_history.specs.Follows.{Follows}
+use Rattle.homeo_history.specs.History.{History}
+use Rattle.homeo_history.specs.Legal.{IsFull, IsLegalFrom, call_count}
 use Rattle.homeo_history.specs.Key.{words as histories}
-use Rattle.homeo_history.proofs.StepwiseLaws.{stepwise_is_full, stepwise_follows, stepwise_at, stepwise_all, serial_at, serial_all}
+use Rattle.homeo_core.specs.CoreView.{CoreValue, core_at, core_history, start_of, next_call, GoesOnBy, IsStep}
+use Rattle.homeo_core.specs.Key.{words as cores}
 use Rattle.homeo.specs.Key.{words}
 use Rattle.homeo.specs.Order.{calls_from, client_names, order_of, scheduled_calls}
-use Rattle.homeo.specs.inner.Scheduled.{IsWholeOrder, HasSites}
-use Rattle.homeo.proofs.Scheduling.{all_calls, named_there, times-cons}
+use Rattle.homeo.specs.inner.Scheduled.{IsWholeOrder}
+use Rattle.homeo.specs.inner.Stepped.{HasMade}
+use Rattle.homeo.proofs.Scheduling.{calls_from-snoc, named_there, times-snoc, has_left, past_the_last, some_is}
 
--- ---- each call of the schedule exists
-is_some_within : {X : Type 0} (xs : List X) (i : ℕ) → i < length xs → IsSome (slice_get xs i)
-is_some_within [] i less = absurd (omega (arith, less))
-is_some_within (x ∷ xs) i less = ap is_some (slice_get-get_or (x ∷ xs) i x less)
-
--- a name stands once more among names than before its place
-times_before : (n : ℕ) (before xs : List Ident) (x : Ident) → x.name ≡ n → times n before < times n (before ++ x ∷ xs)
-times_before n before xs x is =
-    let counts : Ident → ℕ = λ (y : Ident). cond (y.name == n) 1 0 in
-    let one : counts x ≡ 1 = ap (λ (b : Bool). cond b 1 0) ((Decides-eqb x.name n).1 is) in
-    omega (arith, sum_by-append counts before (x ∷ xs), times-cons n x xs, one)
-
--- the next call of a client that is named once more
-exists_at : (w : s.Workload) (before xs : List Ident) (x : Ident) → IsWholeOrder w → before ++ x ∷ xs ≡ order_of w.schedule → (c : s.Client) → place_of (client_names w) x.name < length w.clients
-    → slice_get w.clients (place_of (client_names w) x.name) ≡ Some c → get_or w.clients (place_of (client_names w) x.name) c ≡ c
-    → CallExists w (record { client = place_of (client_names w) x.name; seq = suc (times x.name before) })
-unfolding words meanings
-exists_at w before xs x order whole c named found there =
-    let k = place_of (client_names w) x.name in
+-- ---- the counts
+-- the places of two names are equal where the names are
+same_name : (w : s.Workload) (m n : ℕ) → place_of (client_names w) m < length w.clients → place_of (client_names w) m ≡ place_of (client_names w) n → m ≡ n
+unfolding words
+same_name w m n less e =
     let many : length (client_names w) ≡ length w.clients = length-map w.clients (λ (c : s.Client). c.name.name) in
-    let its_name : c.name.name ≡ x.name =
-    sym (ap (λ (c : s.Client). c.name.name) there) ∙ sym (get_or-map (λ (c : s.Client). c.name.name) w.clients k c 0 named)
-    ∙ named_there (client_names w) x.name 0 (omega (arith, many, named)) in
-    let all_named : times c.name.name (order_of w.schedule) ≡ length c.calls = order.whole k c found in
-    let counted : times x.name (before ++ x ∷ xs) ≡ length c.calls =
-    ap (times x.name) whole ∙ ap (λ (n : ℕ). times n (order_of w.schedule)) (sym its_name) ∙ all_named in
-    let less : times x.name before < length c.calls = omega (arith, counted, times_before x.name before xs x refl) in
-    subst (λ (o : Option s.Client). IsSome (option_and_then (λ (client : s.Client). numbered (suc (times x.name before)) client.calls) o)) (sym found)
-    (is_some_within c.calls (times x.name before) less)
+    sym (named_there (client_names w) m 0 (omega (arith, less, many))) ∙ ap (λ (i : ℕ). get_or (client_names w) i 0) e
+    ∙ named_there (client_names w) n 0 (omega (arith, less, many, e))
 
-exists_here : (w : s.Workload) (before xs : List Ident) (x : Ident) → IsWholeOrder w → before ++ x ∷ xs ≡ order_of w.schedule → place_of (client_names w) x.name < length w.clients
-    → CallExists w (record { client = place_of (client_names w) x.name; seq = suc (times x.name before) })
-exists_here w before xs x order whole named = here (slice_get_cases w.clients (place_of (client_names w) x.name)).1
-  where
-    here : ((c : s.Client) × (place_of (client_names w) x.name < length w.clients) × (slice_get w.clients (place_of (client_names w) x.name) ≡ Some c) × (get_or w.clients (place_of (client_names w) x.name) c ≡ c))
-        ⊎ ((length w.clients ≤ place_of (client_names w) x.name) × (slice_get w.clients (place_of (client_names w) x.name) ≡ None))
-        → CallExists w (record { client = place_of (client_names w) x.name; seq = suc (times x.name before) })
-    here (inl found) = exists_at w before xs x order whole found.0 named found.2 found.3
-    here (inr past) = absurd (omega (arith, past.0, named))
+module _ (w : s.Workload) (counts : List ℕ) (names : List Ident) (x : Ident) (size : length counts ≡ length w.clients) (named : place_of (client_names w) x.name < length w.clients)
+    (counted : (n : ℕ) → place_of (client_names w) n < length w.clients → slice_index_or counts (place_of (client_names w) n) 0 ≡ times n names) where
+  place : ℕ → ℕ
+  place n = place_of (client_names w) n
 
-exist_from : (w : s.Workload) (before xs : List Ident) → IsWholeOrder w → before ++ xs ≡ order_of w.schedule → All (λ x. place_of (client_names w) x.name < length w.clients) xs
-    → All (CallExists w) (calls_from (client_names w) before xs)
-unfolding words
-exist_from w before [] order whole named = All-nil (CallExists w)
-exist_from w before (x ∷ xs) order whole named =
-    let P : Ident → Type 0 = λ (y : Ident). place_of (client_names w) y.name < length w.clients in
-    let here : P x = All-head P x xs named in
-    All-cons (CallExists w) _ _ (exists_here w before xs x order whole here)
-    (exist_from w (before ++ x ∷ []) xs order (append_assoc before (x ∷ []) xs ∙ whole) (All-tail P x xs named))
+  counted_at : (b : Bool) (n : ℕ) → place n < length w.clients → (x.name == n) ≡ b → slice_index_or (slice_set counts (place x.name) (suc (slice_index_or counts (place x.name) 0))) (place n) 0 ≡ times n names + cond b 1 0
+  unfolding place
+  counted_at true n less e =
+      let same : x.name ≡ n = (Decides-eqb x.name n).0 e in
+      let at = get_or-set_at counts (place x.name) (place n) (suc (slice_index_or counts (place x.name) 0)) 0 (ap place (sym same)) (omega (arith, named, size)) in
+      let here : slice_index_or counts (place x.name) 0 ≡ times n names = counted x.name named ∙ ap (λ (m : ℕ). times m names) same in
+      at ∙ omega (arith, here)
+  counted_at false n less e =
+      let other : place n ≢ place x.name = λ p. eqb-false x.name n e (sym (same_name w n x.name less p)) in
+      let zero_more : times n names ≡ times n names + 0 = omega arith in
+      get_or-set_other counts (place x.name) (place n) (suc (slice_index_or counts (place x.name) 0)) 0 other ∙ counted n less ∙ zero_more
 
-pub all_exist : (w : s.Workload) → IsWholeOrder w → All (CallExists w) (scheduled_calls w)
-unfolding words
-all_exist w order = exist_from w [] (order_of w.schedule) order refl order.named
+  pub counted_more : (n : ℕ) → place_of (client_names w) n < length w.clients
+      → slice_index_or (slice_set counts (place_of (client_names w) x.name) (suc (slice_index_or counts (place_of (client_names w) x.name) 0))) (place_of (client_names w) n) 0 ≡ times n (names ++ x ∷ [])
+  unfolding place
+  counted_more n less = counted_at (x.name == n) n less refl ∙ sym (times-snoc n names x)
 
--- ---- the history
-pub stepwise_made : (w : s.Workload) (h : History) (base : List ℤ) (calls : List CallId) → h.rounds ≡ stepwise w base calls → h.last ≡ (serial w base calls).database
-    → base ≡ initial w → calls ≡ scheduled_calls w → h ≡ stepwise_history w (scheduled_calls w)
-unfolding histories
-stepwise_made w h base calls rounds last start order =
-    let r : h.rounds ≡ stepwise w (initial w) (scheduled_calls w) = rounds ∙ ap (λ (b : List ℤ). stepwise w b calls) start ∙ ap (stepwise w (initial w)) order in
-    let l : h.last ≡ (serial w (initial w) (scheduled_calls w)).database = last ∙ ap (λ (b : List ℤ). (serial w b calls).database) start ∙ ap (λ (c : List CallId). (serial w (initial w) c).database) order in
-    λ i. record { rounds = r i; last = l i }
+-- ---- one step more
+pub made_more : (w : s.Workload) (x x' : CoreValue) (a : Answer) (names : List Ident) (name : Ident) → HasMade w names x → place_of (client_names w) name.name < length w.clients
+    → IsStep x (place_of (client_names w) name.name) a x' → start_of x'.book ≡ start_of x.book
+    → GoesOnBy (plain_workload x.work) (core_history x) (next_call x (place_of (client_names w) name.name)) (core_history x') → HasMade w (names ++ name ∷ []) x'
+unfolding cores
+made_more w x x' a names name made named step start goes =
+    let client = place_of (client_names w) name.name in
+    let work : plain_workload x.work ≡ w = made.work in
+    let count : slice_index_or x.counts client 0 ≡ times name.name names = made.counted name.name named in
+    let calls : List CallId = calls_from (client_names w) [] names in
+    let more : ℕ → List CallId = λ (n : ℕ). calls ++ record { client = client; seq = suc n } ∷ [] in
+    let list : more (slice_index_or x.counts client 0) ≡ calls_from (client_names w) [] (names ++ name ∷ []) = ap more count ∙ sym (calls_from-snoc (client_names w) [] names name) in
+    let followed = subst (λ (v : s.Workload). GoesOnBy v (core_history x) (next_call x client) (core_history x')) work goes calls made.follows in
+    record {
+      work = ap plain_workload step.work ∙ work;
+      start = start ∙ made.start;
+      size = ap length step.counts ∙ length-set x.counts client (suc (slice_index_or x.counts client 0)) ∙ made.size;
+      counted = λ n less. ap (λ (l : List ℕ). slice_index_or l (place_of (client_names w) n) 0) step.counts ∙ counted_more w x.counts names name made.size named made.counted n less;
+      follows = subst (Follows w (core_history x')) list followed;
+    }
 
-pub steps_full : (w : s.Workload) (h : History) (base : List ℤ) (calls : List CallId) → IsWholeOrder w → h.rounds ≡ stepwise w base calls → h.last ≡ (serial w base calls).database
-    → base ≡ initial w → calls ≡ scheduled_calls w → IsFull w h
-steps_full w h base calls whole rounds last start order =
-    subst (IsFull w) (sym (stepwise_made w h base calls rounds last start order)) (stepwise_is_full w (scheduled_calls w) (all_calls w whole) (all_exist w whole))
+-- the client has a call left
+pub left_here : (w : s.Workload) (x : CoreValue) (before names : List Ident) (name : Ident) → HasMade w before x → IsWholeOrder w → before ++ name ∷ names ≡ order_of w.schedule
+    → place_of (client_names w) name.name < length w.clients → slice_index_or x.counts (place_of (client_names w) name.name) 0 < call_count (plain_workload x.work) (place_of (client_names w) name.name)
+left_here w x before names name made order whole named =
+    let count : slice_index_or x.counts (place_of (client_names w) name.name) 0 ≡ times name.name before = made.counted name.name named in
+    let there = has_left w before names name order whole named in
+    let same = ap (λ (v : s.Workload). call_count v (place_of (client_names w) name.name)) made.work in
+    omega (arith, count, there, same)
 
-pub steps_follow : (w : s.Workload) (h : History) (base : List ℤ) (calls : List CallId) → h.rounds ≡ stepwise w base calls → h.last ≡ (serial w base calls).database
-    → base ≡ initial w → calls ≡ scheduled_calls w → Follows w h (scheduled_calls w)
-steps_follow w h base calls rounds last start order =
-    subst (λ (g : History). Follows w g (scheduled_calls w)) (sym (stepwise_made w h base calls rounds last start order)) (stepwise_follows w (scheduled_calls w))
-
--- ---- rounds one by one
--- one round more
-pub round_more : (w : s.Workload) (made next : List AnyRound) (r : AnyRound) (base after : List ℤ) (calls : List CallId) (i : ℕ) (call : CallId) (whole : List Round) → i < length calls → call ≡ get_or calls i call
-    → plain_round r ≡ closed_round w base call → next ≡ made ++ r ∷ [] → after ≡ (call_outcome w call base).database
-    → map plain_round made ++ stepwise w base (drop i calls) ≡ whole → map plain_round next ++ stepwise w after (drop (i + 1) calls) ≡ whole
-round_more w made next r base after calls i call whole within is round pushed left so_far =
-    ap (λ (l : List AnyRound). map plain_round l ++ stepwise w after (drop (i + 1) calls)) pushed
-    ∙ ap (λ (l : List Round). l ++ stepwise w after (drop (i + 1) calls)) (map-append plain_round made (r ∷ []))
-    ∙ ap (λ (x : Round). (map plain_round made ++ x ∷ []) ++ stepwise w after (drop (i + 1) calls)) round
-    ∙ ap (λ (d : List ℤ). (map plain_round made ++ closed_round w base call ∷ []) ++ stepwise w d (drop (i + 1) calls)) left
-    ∙ sym (stepwise_at w base (map plain_round made) calls i call within is) ∙ so_far
-
-pub last_more : (w : s.Workload) (base after : List ℤ) (calls : List CallId) (i : ℕ) (call : CallId) (whole : List ℤ) → i < length calls → call ≡ get_or calls i call
-    → after ≡ (call_outcome w call base).database → (serial w base (drop i calls)).database ≡ whole → (serial w after (drop (i + 1) calls)).database ≡ whole
-last_more w base after calls i call whole within is left so_far =
-    ap (λ (d : List ℤ). (serial w d (drop (i + 1) calls)).database) left ∙ sym (serial_at w base calls i call within is) ∙ so_far
-
--- the open round at the end
-pub rounds_done : (w : s.Workload) (made next : List AnyRound) (r : AnyRound) (base : List ℤ) (calls : List CallId) (i : ℕ) (whole : List Round) → length calls ≤ i
-    → plain_round r ≡ open_round w base → next ≡ made ++ r ∷ [] → map plain_round made ++ stepwise w base (drop i calls) ≡ whole → map plain_round next ≡ whole
-rounds_done w made next r base calls i whole past round pushed so_far =
-    ap (map plain_round) pushed ∙ map-append plain_round made (r ∷ []) ∙ ap (λ (x : Round). map plain_round made ++ x ∷ []) round
-    ∙ sym (stepwise_all w base (map plain_round made) calls i past) ∙ so_far
-
-pub last_done : (w : s.Workload) (base : List ℤ) (calls : List CallId) (i : ℕ) (whole : List ℤ) → length calls ≤ i → (serial w base (drop i calls)).database ≡ whole → base ≡ whole
-last_done w base calls i whole past so_far = sym (serial_all w base calls i past) ∙ so_far
-
+-- ---- the next name of the order
 -- what is read at a place doesn't depend on what stands for no place
-pub call_again : (calls : List CallId) (i : ℕ) (d : CallId) → i < length calls → get_or calls i d ≡ get_or calls i (get_or calls i d)
-call_again calls i d within = grind (arith, common_steps)
+pub read_again : (order : List Ident) (i : ℕ) (d : Ident) → i < length order → get_or order i d ≡ get_or order i (get_or order i d)
+read_again order i d within = grind (arith, common_steps)
 
--- ---- sites
-some_is : {X : Type 0} (x y : X) → Some x ≡ Some y → x ≡ y
-some_is x y e = cc
+pub named_next : (w : s.Workload) (order : List Ident) (i : ℕ) (name : Ident) → IsWholeOrder w → order ≡ order_of w.schedule → i < length order → name ≡ get_or order i name
+    → place_of (client_names w) name.name < length w.clients
+named_next w order i name whole is within at =
+    let all : All (λ (x : Ident). place_of (client_names w) x.name < length w.clients) order = subst (All (λ (x : Ident). place_of (client_names w) x.name < length w.clients)) (sym is) whole.named in
+    subst (λ (x : Ident). place_of (client_names w) x.name < length w.clients) (sym at) (all i name within)
 
-small : (v sites : ℤ) → pos 0 ≤ℤ v → v <ℤ sites → sites ≤ℤ pos 16 → nat_of v < 16
-small (pos n) sites low high few = omega (arith, ints, high, few)
-small (negsuc n) sites low high few = omega (arith, ints, low, high, few)
+cut_at : (order : List Ident) (i : ℕ) (name : Ident) → i < length order → name ≡ get_or order i name → take i order ++ name ∷ drop (i + 1) order ≡ order
+cut_at order i name within at =
+    let here : drop i order ≡ name ∷ drop (i + 1) order = grind (arith, common_steps) in
+    ap (λ (l : List Ident). take i order ++ l) (sym here) ∙ take-append-drop i order
 
--- the site of a client is one of a few
-pub site_small : (clients : List AnyClient) (sites : ℤ) (k : ℕ) (client : AnyClient) → sites ≤ℤ pos 16
-    → All (λ (c : s.Client). (pos 0 ≤ℤ c.site.value) × (c.site.value <ℤ sites)) (map plain_client clients) → slice_get clients k ≡ Some client → nat_of client.site.value < 16
-unfolding syntax
-site_small clients sites k client few all found =
-    let within : k < length clients = slice_get_within clients k client found in
-    let many : length (map plain_client clients) ≡ length clients = length-map clients plain_client in
-    let there : get_or clients k client ≡ client = some_is _ _ (sym (slice_get-get_or clients k client within) ∙ found) in
-    let same : get_or (map plain_client clients) k (plain_client client) ≡ plain_client client = get_or-map plain_client clients k client (plain_client client) within ∙ ap plain_client there in
-    let at = all k (plain_client client) (omega (arith, within, many)) in
-    let at_site = subst (λ (c : s.Client). (pos 0 ≤ℤ c.site.value) × (c.site.value <ℤ sites)) same at in
-    small client.site.value sites at_site.0 at_site.1 few
+next_name : (order : List Ident) (i : ℕ) (name : Ident) → i < length order → name ≡ get_or order i name → take i order ++ name ∷ [] ≡ take (i + 1) order
+next_name order i name within at = grind (arith, common_steps)
 
--- the site of a call, by what is found at its client's place
-pub site_found : (w : AnyWorkload) (call : CallId) (client : AnyClient) → slice_get w.clients.items call.client ≡ Some client → nat_of client.site.value ≡ site_or_zero (plain_workload w) call
-unfolding syntax histories
-site_found w call client found =
-    sym (ap (λ (o : Option s.Client). unwrap_or (option_map (λ (c : s.Client). nat_of c.site.value) o) 0) (slice_get-map plain_client w.clients.items call.client ∙ ap (option_map plain_client) found))
+-- the client that it names has a call left
+pub left_next : (w : s.Workload) (x : CoreValue) (order : List Ident) (i : ℕ) (name : Ident) (client : ℕ) → HasMade w (take i order) x → IsWholeOrder w → order ≡ order_of w.schedule → i < length order → name ≡ get_or order i name
+    → client ≡ place_of (client_names w) name.name → slice_index_or x.counts client 0 < call_count (plain_workload x.work) client
+left_next w x order i name client made whole is within at place =
+    subst (λ (k : ℕ). slice_index_or x.counts k 0 < call_count (plain_workload x.work) k) (sym place)
+    (left_here w x (take i order) (drop (i + 1) order) name made whole (cut_at order i name within at ∙ is) (named_next w order i name whole is within at))
 
-pub site_none : (w : AnyWorkload) (call : CallId) → slice_get w.clients.items call.client ≡ None → 0 ≡ site_or_zero (plain_workload w) call
-unfolding syntax histories
-site_none w call none =
-    sym (ap (λ (o : Option s.Client). unwrap_or (option_map (λ (c : s.Client). nat_of c.site.value) o) 0) (slice_get-map plain_client w.clients.items call.client ∙ ap (option_map plain_client) none))
+-- and after this call one name more is done
+pub made_next : (w : s.Workload) (x x' : CoreValue) (a : Answer) (order : List Ident) (i : ℕ) (name : Ident) (client : ℕ) → HasMade w (take i order) x → IsWholeOrder w → order ≡ order_of w.schedule → i < length order → name ≡ get_or order i name
+    → client ≡ place_of (client_names w) name.name → IsStep x client a x' → start_of x'.book ≡ start_of x.book → GoesOnBy (plain_workload x.work) (core_history x) (next_call x client) (core_history x')
+    → HasMade w (take (i + 1) order) x'
+made_next w x x' a order i name client made whole is within at place step start goes =
+    subst (λ (l : List Ident). HasMade w l x') (next_name order i name within at)
+    (made_more w x x' a (take i order) name made (named_next w order i name whole is within at) (subst (λ (k : ℕ). IsStep x k a x') place step) start
+    (subst (λ (k : ℕ). GoesOnBy (plain_workload x.work) (core_history x) (next_call x k) (core_history x')) place goes))
 
-pub site_of_few : (w : AnyWorkload) (k : ℕ) (client : AnyClient) → HasSites (plain_workload w) → slice_get w.clients.items k ≡ Some client → nat_of client.site.value < 16
-unfolding syntax
-site_of_few w k client sites found = site_small w.clients.items w.sites.value k client sites.few sites.clients found
+-- all names are done
+pub all_made : (w : s.Workload) (x : CoreValue) (order : List Ident) (i : ℕ) → HasMade w (take i order) x → order ≡ order_of w.schedule → length order ≤ i → HasMade w (order_of w.schedule) x
+all_made w x order i made is past =
+    let all : take i order ≡ order = grind (arith, common_steps) in
+    subst (λ (l : List Ident). HasMade w l x) (all ∙ is) made
+
+-- ---- all calls
+-- how many calls each client has
+calls_each : s.Workload → List ℕ
+calls_each w = map (λ (c : s.Client). length c.calls) w.clients
+
+count_at : (w : s.Workload) (counts : List ℕ) (k : ℕ) → IsWholeOrder w → k < length w.clients
+    → ((n : ℕ) → place_of (client_names w) n < length w.clients → slice_index_or counts (place_of (client_names w) n) 0 ≡ times n (order_of w.schedule))
+    → (found : Option s.Client) → slice_get w.clients k ≡ found → slice_index_or counts k 0 ≡ get_or (calls_each w) k 0
+unfolding calls_each
+count_at w counts k order less counted None is = absurd (omega (arith, past_the_last w.clients k is, less))
+count_at w counts k order less counted (Some c) is =
+    let here : place_of (client_names w) c.name.name ≡ k = order.placed k c is in
+    let there : get_or w.clients k c ≡ c = some_is _ _ (sym (slice_get-get_or w.clients k c less) ∙ is) in
+    ap (λ (j : ℕ). slice_index_or counts j 0) (sym here) ∙ counted c.name.name (omega (arith, here, less)) ∙ order.whole k c is
+    ∙ ap (λ (c : s.Client). length c.calls) (sym there) ∙ sym (get_or-map (λ (c : s.Client). length c.calls) w.clients k c 0 less)
+
+all_counted : (w : s.Workload) (counts : List ℕ) → IsWholeOrder w → length counts ≡ length w.clients
+    → ((n : ℕ) → place_of (client_names w) n < length w.clients → slice_index_or counts (place_of (client_names w) n) 0 ≡ times n (order_of w.schedule))
+    → counts ≡ map (λ (c : s.Client). length c.calls) w.clients
+unfolding calls_each
+all_counted w counts order size counted =
+    let many : length (calls_each w) ≡ length w.clients = length-map w.clients (λ (c : s.Client). length c.calls) in
+    same_number_lists counts (calls_each w) (size ∙ sym many) (λ k less. count_at w counts k order (omega (arith, less, size)) counted (slice_get w.clients k) refl)
+
+-- what is legal after all names is full
+pub is_full : (w : s.Workload) (x : CoreValue) (h : History) → IsWholeOrder w → HasMade w (order_of w.schedule) x → IsLegalFrom (plain_workload x.work) (start_of x.book) x.counts h → IsFull w h
+unfolding histories
+is_full w x h order made legal =
+    let counts : x.counts ≡ map (λ (c : s.Client). length c.calls) w.clients = all_counted w x.counts order made.size made.counted in
+    let at_work = subst (λ (v : s.Workload). IsLegalFrom v (start_of x.book) x.counts h) made.work legal in
+    let at_start = subst (λ (base : List ℤ). IsLegalFrom w base x.counts h) made.start at_work in
+    subst (λ (l : List ℕ). IsLegalFrom w (initial w) l h) counts at_start
+
+pub does_follow : (w : s.Workload) (x : CoreValue) (h : History) → HasMade w (order_of w.schedule) x → h ≡ core_history x → Follows w h (scheduled_calls w)
+unfolding words
+does_follow w x h made is = subst (λ (g : History). Follows w g (scheduled_calls w)) (sym is) made.follows
+
+-- ---- the start
+none_made : (xs : List s.Client) (k : ℕ) → ◌≡◌ {A = ℕ} (get_or (replicate (length xs) 0) k 0) 0
+none_made xs k = grind (arith, common_steps)
+
+pub none_yet : (v : Workload) (x : CoreValue) → x ≡ core_at v (initial (plain_workload v)) → Follows (plain_workload v) (core_history x) [] → HasMade (plain_workload v) [] x
+unfolding cores words histories
+none_yet v x is follows =
+    let w = plain_workload v in
+    record {
+      work = ap (λ (y : CoreValue). plain_workload y.work) is;
+      start = ap (λ (y : CoreValue). start_of y.book) is;
+      size = ap (λ (y : CoreValue). length y.counts) is ∙ length-replicate (length w.clients) 0;
+      counted = λ n less. ap (λ (y : CoreValue). slice_index_or y.counts (place_of (client_names w) n) 0) is ∙ none_made w.clients (place_of (client_names w) n);
+      follows = follows;
+    }

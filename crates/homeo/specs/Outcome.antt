@@ -9,7 +9,6 @@ use Rattle.homeo_meaning.specs.Verdict.{Accepts, IsRefused}
 use Rattle.homeo_history.specs.History.{History}
 use Rattle.homeo_history.specs.Legal.{IsFull}
 use Rattle.homeo_history.specs.Follows.{Follows}
-use Rattle.homeo_history.specs.Stepwise.{stepwise_history}
 use Rattle.homeo_print.specs.Tables.{tables_text}
 use Rattle.homeo_print.specs.Treaties.{treaty_text}
 use Rattle.homeo_report.specs.Report.{report}
@@ -19,13 +18,12 @@ use Rattle.homeo.specs.declared.command.Command.{Command}
 use Rattle.homeo.specs.declared.command.Command.TheVariants.{Steps, Tables, Treaty}
 
 -- ---- what a command makes of a text
--- The report of a history that is legal for the workload, has all calls of each client, and follows the schedule. Today
--- each call closes a round of its own, so the workload determines the history.
+-- The report of a history that is legal for the workload, has all calls of each client, and follows the schedule. There is one
+-- such history.
 pub record IsReport (w : s.Workload) (output : List ℕ) : Type 0 where
   pub history : History
   pub full : IsFull w history
   pub follows : Follows w history (scheduled_calls w)
-  pub stepwise : history ≡ stepwise_history w (scheduled_calls w)
   pub reported : output ≡ report w history
 
 -- the output of each command on a workload

@@ -1,2 +1,3 @@
 pub mod Scheduled
+pub mod Stepped
 pub mod Tabulated

@@ -2,9 +2,9 @@
 #![tactic(auto)]
 
 mod command;
+pub mod laws;
 mod order;
 mod output;
-mod sites;
 mod status;
 mod steps;
 mod stop;

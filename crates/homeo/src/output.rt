@@ -15,12 +15,14 @@ use crate::steps::steps;
 use crate::stop::Stop;
 use crate::tables::tables;
 use crate::treaty::treaty;
+use homeo_build::compile::compile;
 use homeo_meaning::{Accepted, Purpose};
 use homeo_reader::{ReadRefusal, read};
 use homeo_report::report;
 use homeo_rules::{RuleRefusal, accept};
 use homeo_syntax::Memory;
 use std::alloc::Global;
+use std::sync::Arc;
 
 /// The output of a command on a text.
 pub fn output_of(alloc: Global, command: Command, text: &[u8]) -> Result<Vec<u8>, Stop>
@@ -61,18 +63,19 @@ fn make(alloc: Global, command: Command, w: Accepted) -> Result<Vec<u8>, Memory>
     ensures { IfOk result (λ bytes. IsOutput command (plain_workload w) bytes.items) }
 {
     match command {
-        Command::Steps => report_of(alloc, &w),
+        Command::Steps => report_of(alloc, w),
         Command::Tables => tables(alloc, w),
         Command::Treaty => treaty(alloc, w),
     }
 }
 
-// The report of a workload whose calls are run in the order of its schedule.
-fn report_of(alloc: Global, w: &Accepted) -> Result<Vec<u8>, Memory>
-    requires well_formed { IsWellFormed (plain_workload w.now) }
-    requires sound { faults purpose.Steps (plain_workload w.now) ≡ [] }
-    ensures { IfOk result (λ bytes. IsReport (plain_workload w.now) bytes.items) }
+// The report of a workload whose calls are made in the order of its schedule.
+fn report_of(alloc: Global, w: Accepted) -> Result<Vec<u8>, Memory>
+    requires well_formed { IsWellFormed (plain_workload w) }
+    requires sound { faults purpose.Steps (plain_workload w) ≡ [] }
+    ensures { IfOk result (λ bytes. IsReport (plain_workload w) bytes.items) }
 {
-    let history = steps(alloc, w)?;
-    report(alloc, &history, w)
+    let compiled = Arc::new(alloc, compile(alloc, w)?)?;
+    let history = steps(alloc, &compiled)?;
+    report(alloc, &history, compiled.workload())
 }

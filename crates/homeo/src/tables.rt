@@ -10,10 +10,11 @@ ghost use Rattle.homeo_print.specs.Names.{object_names};
 ghost use Rattle.homeo_print.specs.Tables.{call_table, joint_text, tables_text};
 ghost use Rattle.homeo.specs.inner.Tabulated.{HasFewRows, calls_text};
 
+use homeo_build::Compiled;
 use homeo_build::compile::compile;
 use homeo_joint::{JointError, joint};
 use homeo_meaning::Accepted;
-use homeo_plan::{Compiled, Row};
+use homeo_plan::Row;
 use homeo_print::{ObjectNames, print_joint, print_table, print_too_many_choices};
 use homeo_syntax::Memory;
 use homeo_table::table;

@@ -26,7 +26,7 @@ mod tests {
         "workload 1\nsites 2\nobject x in 0..3 = 2\ntransaction up() { write(x = read(x) + 1); print(read(x)) }\nclient a at 0 { up() }\nclient b at 1 { up() }\nschedule b a\nend\n";
 
     const COUNTED: &str =
-        "round 0\nsite 0\nsite 1\nclose 1\nb 1 up(): 3\nround 1\nsite 0\nsite 1\nclose 0\na 1 up(): 3\nround 2\nsite 0\nsite 1\ndatabase\nx = 3\nrounds 3 calls 2\n";
+        "round 0\nsite 0\nsite 1\nclose 1 clause 1 sum 1 bound 0\nb 1 up(): 3\nround 1\nsite 0\na 1 up(): 3\nsite 1\ndatabase\nx = 3\nrounds 2 calls 2\n";
 
     // What a run is given: words, a text, how many bytes a call takes at most, and the number of a call that fails, or 0.
     #[derive(Clone, Copy, Drop)]
@@ -94,6 +94,36 @@ mod tests {
         };
         let nothing_ran = "round 0\nsite 0\ndatabase\nrounds 1 calls 0\n";
         check(&rt, alloc, nothing, Status::Done, nothing_ran, "")
+    }
+
+    #[test]
+    fn a_round_ends_with_the_call_that_breaks_a_treaty(rt: HostRuntime) -> Result<(), Fail> {
+        for (text, report) in [
+            // the third call from site 0 takes more than its share
+            (
+                "workload 1\nsites 2\nobject stock in 0..10 = 5\ntransaction buy(n in 1..3) { s := read(stock); if n <= s then { write(stock = s - n); print(1) } else print(0) }\nclient a at 0 { buy(1); buy(1); buy(1) }\nclient b at 1 { buy(1) }\nschedule a a b a\nend\n",
+                "round 0\nsite 0\na 1 buy(1): 1\na 2 buy(1): 1\nsite 1\nb 1 buy(1): 1\nclose 0 clause 0 sum 3 bound 2\na 3 buy(1): 1\nround 1\nsite 0\nsite 1\ndatabase\nstock = 1\nrounds 2 calls 4\n",
+            ),
+            // a round is closed, and the next call finds the base that this leaves
+            (
+                "workload 1\nsites 2\nobject stock in 0..10 = 1\ntransaction buy(n in 1..3) { s := read(stock); if n <= s then { write(stock = s - n); print(1) } else print(0) }\nclient a at 0 { buy(1) }\nclient b at 1 { buy(1) }\nschedule a b\nend\n",
+                "round 0\nsite 0\nsite 1\nclose 0 clause 0 sum 1 bound 0\na 1 buy(1): 1\nround 1\nsite 0\nsite 1\nb 1 buy(1): 0\ndatabase\nstock = 0\nrounds 2 calls 2\n",
+            ),
+            // what a site prints of an object is frozen at the other sites
+            (
+                "workload 1\nsites 2\nobject x in 0..10 = 5\ntransaction show() { print(read(x)) }\ntransaction raise() { write(x = read(x) + 1) }\nclient a at 0 { show() }\nclient b at 1 { raise(); raise() }\nschedule b a b\nend\n",
+                "round 0\nsite 0\nsite 1\nclose 1 clause 2 sum 1 bound 0\nb 1 raise():\nround 1\nsite 0\na 1 show(): 6\nsite 1\nclose 1 clause 2 sum 1 bound 0\nb 2 raise():\nround 2\nsite 0\nsite 1\ndatabase\nx = 7\nrounds 3 calls 3\n",
+            ),
+            // each call takes the next row of a relation, until none is free
+            (
+                "workload 1\nsites 1\nrelation R[4] (f in 0..9)\ntransaction p() { print(R[4].f); R[4].f := 3; insert R (f = 7) into s; print(s) }\nclient a at 0 { p(); p(); p(); p(); p() }\nschedule a a a a a\nend\n",
+                "round 0\nsite 0\nclose 0 clause 0 sum 1 bound 0\na 1 p(): 0 1\nround 1\nsite 0\nclose 0 clause 1 sum 1 bound 0\na 2 p(): 0 2\nround 2\nsite 0\nclose 0 clause 2 sum 1 bound 0\na 3 p(): 0 3\nround 3\nsite 0\nclose 0 clause 3 sum 1 bound 0\na 4 p(): 0 4\nround 4\nsite 0\na 5 p(): 0 0\ndatabase\nR.0.used = 1\nR.0.f = 7\nR.1.used = 1\nR.1.f = 7\nR.2.used = 1\nR.2.f = 7\nR.3.used = 1\nR.3.f = 7\nrounds 5 calls 5\n",
+            ),
+        ] {
+            let given = Given { text, ..PLAIN };
+            check(&rt, rt.alloc(), given, Status::Done, report, "")?;
+        }
+        Ok(())
     }
 
     const TABLES: Given = Given {

@@ -1,5 +1,5 @@
 -- Schedules that run every call of every client.
-use Rattle.std.specs.Prelude.{◌≡◌, ◌<◌, ◌≤◌, ℕ, pos, ◌≤ℤ◌, ◌<ℤ◌, length, All, Some, slice_get}
+use Rattle.std.specs.Prelude.{◌≡◌, ◌<◌, ◌≤◌, ℕ, length, All, Some, slice_get}
 use Rattle.homeo_syntax.specs.Source as s
 use Rattle.homeo_meaning.specs.CallRules.{times}
 use Rattle.homeo_meaning.specs.Declarations.{place_of}
@@ -12,8 +12,3 @@ pub record IsWholeOrder (w : s.Workload) : Type 0 where
   pub placed : (k : ℕ) (c : s.Client) → slice_get w.clients k ≡ Some c → place_of (client_names w) c.name.name ≡ k
   pub whole : (k : ℕ) (c : s.Client) → slice_get w.clients k ≡ Some c → times c.name.name (order_of w.schedule) ≡ length c.calls
   pub few : length w.clients ≤ 64
-
--- There are few sites, and each client stands at one of them.
-pub record HasSites (w : s.Workload) : Type 0 where
-  pub few : w.sites.value ≤ℤ pos 16
-  pub clients : All (λ c. (pos 0 ≤ℤ c.site.value) × (c.site.value <ℤ w.sites.value)) w.clients

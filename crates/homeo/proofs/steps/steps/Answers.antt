@@ -1,69 +1,93 @@
-use Rattle.std.proofs.Common.{◌≡◌, ◌∙◌, ap, List, Result, Ok, Err, IfOk, sym, subst}
-use Rattle.std.specs.Prelude.{ℤ, All}
+use Rattle.std.proofs.Common.{◌≡◌, ◌∙◌, ◌<◌, ℕ, List, [], Result, Ok, Err, IfOk, length, get_or, sym, ap, subst}
 use Rattle.homeo_syntax.specs.Source as s
 use Rattle.homeo_syntax.specs.SourceView.{plain_workload}
 use Rattle.homeo_syntax.specs.declared.list.Memory.{Memory}
+use Rattle.homeo_syntax.specs.declared.phrase.Ident.{Ident}
 use Rattle.homeo_syntax.specs.declared.workload.Workload.{Workload}
-use Rattle.homeo_meaning.specs.declared.call.CallId.{CallId}
-use Rattle.homeo_meaning.specs.Calls.{CallExists}
-use Rattle.homeo_meaning.specs.Initial.{initial}
-use Rattle.homeo_meaning.specs.Serial.{serial}
-use Rattle.homeo_history.specs.declared.history.History.{History}
-use Rattle.homeo_history.specs.HistoryView.{plain_history}
-use Rattle.homeo_history.specs.Legal.{IsFull}
-use Rattle.homeo_history.specs.Follows.{Follows}
-use Rattle.homeo_history.specs.Stepwise.{stepwise, stepwise_history}
-use Rattle.homeo.specs.Order.{scheduled_calls}
-use Rattle.homeo.specs.inner.Scheduled.{IsWholeOrder}
-use Rattle.std.proofs.lemmas.Result.{IfOk-weaker}
-use Rattle.homeo_meaning.specs.Schema.{schema_of}
 use Rattle.homeo_meaning.specs.Bounds.{IsWithin}
+use Rattle.homeo_meaning.specs.Declarations.{place_of}
+use Rattle.homeo_meaning.specs.Initial.{initial}
+use Rattle.homeo_meaning.specs.Schema.{schema_of}
+use Rattle.homeo_history.specs.declared.history.History.{History}
+use Rattle.homeo_history.specs.Follows.{Follows}
+use Rattle.homeo_history.specs.HistoryView.{plain_history}
+use Rattle.homeo_history.specs.Legal.{IsFull, IsLegalFrom}
+use Rattle.homeo_core.specs.CoreView.{CoreValue, core_at, core_history, start_of}
 use Rattle.homeo_report.specs.Report.{CanReport}
 use Rattle.homeo_report.proofs.CanReport.{can_report}
-use Rattle.homeo.proofs.Stepping.{all_exist, stepwise_made, steps_full, steps_follow}
+use Rattle.homeo.specs.Order.{client_names, order_of, scheduled_calls}
+use Rattle.homeo.specs.inner.Scheduled.{IsWholeOrder}
+use Rattle.homeo.specs.inner.Stepped.{HasMade}
+use Rattle.homeo.proofs.Stepping.{none_yet, read_again, left_next, made_next, all_made, is_full, does_follow}
 use Rattle.homeo.proofs.steps.steps.Goals as goal
 
-is_full : (w : s.Workload) (base : List ℤ) (calls : List CallId) (result : Result History Memory) → IsWholeOrder w → base ≡ initial w → calls ≡ scheduled_calls w
-    → IfOk result (λ h. (plain_history h).rounds ≡ stepwise w base calls) → IfOk result (λ h. (plain_history h).last ≡ (serial w base calls).database)
-    → IfOk result (λ h. IsFull w (plain_history h))
-is_full w base calls (Ok h) whole start order rounds last = steps_full w (plain_history h) base calls whole rounds last start order
-is_full w base calls (Err e) whole start order rounds last = tt
+abbrev none : Ident
+none = record { name = 0; offset = 0 }
 
-does_follow : (w : s.Workload) (base : List ℤ) (calls : List CallId) (result : Result History Memory) → base ≡ initial w → calls ≡ scheduled_calls w
-    → IfOk result (λ h. (plain_history h).rounds ≡ stepwise w base calls) → IfOk result (λ h. (plain_history h).last ≡ (serial w base calls).database)
-    → IfOk result (λ h. Follows w (plain_history h) (scheduled_calls w))
-does_follow w base calls (Ok h) start order rounds last = steps_follow w (plain_history h) base calls rounds last start order
-does_follow w base calls (Err e) start order rounds last = tt
+full : (w : s.Workload) (x : CoreValue) (result : Result History Memory) → IsWholeOrder w → HasMade w (order_of w.schedule) x
+    → IfOk result (λ h. IsLegalFrom (plain_workload x.work) (start_of x.book) x.counts (plain_history h)) → IfOk result (λ h. IsFull w (plain_history h))
+full w x (Ok h) order made legal = is_full w x (plain_history h) order made legal
+full w x (Err e) order made legal = tt
 
-pub run_calls-requires-clause-exist : goal.run_calls-requires-clause-exist
-run_calls-requires-clause-exist c =
-    let w = plain_workload c.args.w.now in
-    let order : c.as_slice.result.now ≡ scheduled_calls (plain_workload c.args.w.now) = c.as_slice.ensures.value ∙ c.in_ok-calls.ensures ∙ ap (λ (w : Workload). scheduled_calls (plain_workload w)) c.workload.ensures.value in
-    subst (All (CallExists w)) (sym order) (all_exist w c.requires.order)
+follows : (w : s.Workload) (x : CoreValue) (result : Result History Memory) → HasMade w (order_of w.schedule) x
+    → IfOk result (λ h. plain_history h ≡ core_history x) → IfOk result (λ h. Follows w (plain_history h) (scheduled_calls w))
+follows w x (Ok h) made is = does_follow w x (plain_history h) made is
+follows w x (Err e) made is = tt
+
+reportable : (w : s.Workload) (x : CoreValue) (result : Result History Memory) → HasMade w (order_of w.schedule) x
+    → IfOk result (λ h. IsWithin (schema_of (plain_workload x.work)) (plain_history h).last) → IfOk result (λ h. CanReport w (plain_history h))
+reportable w x (Ok h) made within =
+    can_report w (plain_history h) (subst (λ (v : s.Workload). IsWithin (schema_of v) (plain_history h).last) made.work within)
+reportable w x (Err e) made within = tt
+
+pub loop-name-init : goal.loop-name-init
+loop-name-init c =
+    let same : c.in_ok-try_clone.field-0.value ≡ c.args.c.now.value = c.in_ok-try_clone.ensures in
+    none_yet c.args.c.now.value c.in_ok-core.core (c.in_ok-core.ensures.core ∙ ap (λ (v : Workload). core_at v (initial (plain_workload v))) same)
+    (subst (λ (v : Workload). Follows (plain_workload v) (core_history c.in_ok-core.core) []) same c.in_ok-core.ensures.follows)
+
+pub step-requires-clause-left : goal.step-requires-clause-left
+step-requires-clause-left c =
+    let w = plain_workload c.args.c.now.value in
+    let names : List Ident = c.order-name-items.result.now in
+    let i = c.loop-name.name-index in
+    let name : Ident = get_or names i none in
+    let work : c.workload-w.result.now ≡ c.args.c.now.value = c.workload-w.ensures.value ∙ c.workload.ensures ∙ c.deref.ensures in
+    let order : names ≡ order_of w.schedule = c.order-name-items.ensures ∙ ap (λ (v : Workload). order_of (plain_workload v).schedule) work in
+    let clients : c.in_ok-clients.clients ≡ client_names w = c.in_ok-clients.ensures ∙ ap (λ (v : Workload). client_names (plain_workload v)) work in
+    let place : c.get.result ≡ place_of (client_names w) name.name = c.get.ensures ∙ ap (λ (ns : List ℕ). place_of ns name.name) clients in
+    left_next w c.loop-name.core names i name c.get.result c.loop-name.invariant c.requires order c.loop-name-test.true (read_again names i none c.loop-name-test.true) place
+
+pub loop-name-preserved : goal.loop-name-preserved
+loop-name-preserved c =
+    let w = plain_workload c.args.c.now.value in
+    let names : List Ident = c.order-name-items.result.now in
+    let i = c.loop-name.name-index in
+    let name : Ident = get_or names i none in
+    let work : c.workload-w.result.now ≡ c.args.c.now.value = c.workload-w.ensures.value ∙ c.workload.ensures ∙ c.deref.ensures in
+    let order : names ≡ order_of w.schedule = c.order-name-items.ensures ∙ ap (λ (v : Workload). order_of (plain_workload v).schedule) work in
+    let clients : c.in_ok-clients.clients ≡ client_names w = c.in_ok-clients.ensures ∙ ap (λ (v : Workload). client_names (plain_workload v)) work in
+    let place : c.get.result ≡ place_of (client_names w) name.name = c.get.ensures ∙ ap (λ (ns : List ℕ). place_of ns name.name) clients in
+    made_next w c.loop-name.core c.step.new.self _ names i name c.get.result c.loop-name.invariant c.requires order c.loop-name-test.true (read_again names i none c.loop-name-test.true) place
+    c.in_ok-step.ensures.step c.in_ok-step.ensures.start c.in_ok-step.ensures.follows
 
 pub returns-clause-full : goal.returns-clause-full
 returns-clause-full c =
-    let order : c.as_slice.result.now ≡ scheduled_calls (plain_workload c.args.w.now) = c.as_slice.ensures.value ∙ c.in_ok-calls.ensures ∙ ap (λ (w : Workload). scheduled_calls (plain_workload w)) c.workload.ensures.value in
-    is_full (plain_workload c.args.w.now) _ _ c.run_calls.result c.requires.order c.in_ok-database.ensures.value order c.run_calls.ensures.rounds c.run_calls.ensures.last
+    let w = plain_workload c.args.c.now.value in
+    let work : c.workload-w.result.now ≡ c.args.c.now.value = c.workload-w.ensures.value ∙ c.workload.ensures ∙ c.deref.ensures in
+    let order : c.order-name-items.result.now ≡ order_of w.schedule = c.order-name-items.ensures ∙ ap (λ (v : Workload). order_of (plain_workload v).schedule) work in
+    full w c.loop-name.core c.finish.result c.requires (all_made w c.loop-name.core _ c.loop-name.name-index c.loop-name.invariant order c.loop-name-test.false) c.finish.ensures.legal
 
 pub returns-clause-follows : goal.returns-clause-follows
 returns-clause-follows c =
-    let order : c.as_slice.result.now ≡ scheduled_calls (plain_workload c.args.w.now) = c.as_slice.ensures.value ∙ c.in_ok-calls.ensures ∙ ap (λ (w : Workload). scheduled_calls (plain_workload w)) c.workload.ensures.value in
-    does_follow (plain_workload c.args.w.now) _ _ c.run_calls.result c.in_ok-database.ensures.value order c.run_calls.ensures.rounds c.run_calls.ensures.last
+    let w = plain_workload c.args.c.now.value in
+    let work : c.workload-w.result.now ≡ c.args.c.now.value = c.workload-w.ensures.value ∙ c.workload.ensures ∙ c.deref.ensures in
+    let order : c.order-name-items.result.now ≡ order_of w.schedule = c.order-name-items.ensures ∙ ap (λ (v : Workload). order_of (plain_workload v).schedule) work in
+    follows w c.loop-name.core c.finish.result (all_made w c.loop-name.core _ c.loop-name.name-index c.loop-name.invariant order c.loop-name-test.false) c.finish.ensures.history
 
 pub returns-clause-reportable : goal.returns-clause-reportable
 returns-clause-reportable c =
-    let w = plain_workload c.args.w.now in
-    IfOk-weaker c.run_calls.result (λ (h : History). IsWithin (schema_of w) (plain_history h).last) (λ (h : History). CanReport w (plain_history h))
-    (λ h within. can_report w (plain_history h) within) c.run_calls.ensures.within
-
-is_stepwise : (w : s.Workload) (base : List ℤ) (calls : List CallId) (result : Result History Memory) → base ≡ initial w → calls ≡ scheduled_calls w
-    → IfOk result (λ h. (plain_history h).rounds ≡ stepwise w base calls) → IfOk result (λ h. (plain_history h).last ≡ (serial w base calls).database)
-    → IfOk result (λ h. plain_history h ≡ stepwise_history w (scheduled_calls w))
-is_stepwise w base calls (Ok h) start order rounds last = stepwise_made w (plain_history h) base calls rounds last start order
-is_stepwise w base calls (Err e) start order rounds last = tt
-
-pub returns-clause-stepwise : goal.returns-clause-stepwise
-returns-clause-stepwise c =
-    let order : c.as_slice.result.now ≡ scheduled_calls (plain_workload c.args.w.now) = c.as_slice.ensures.value ∙ c.in_ok-calls.ensures ∙ ap (λ (w : Workload). scheduled_calls (plain_workload w)) c.workload.ensures.value in
-    is_stepwise (plain_workload c.args.w.now) _ _ c.run_calls.result c.in_ok-database.ensures.value order c.run_calls.ensures.rounds c.run_calls.ensures.last
+    let w = plain_workload c.args.c.now.value in
+    let work : c.workload-w.result.now ≡ c.args.c.now.value = c.workload-w.ensures.value ∙ c.workload.ensures ∙ c.deref.ensures in
+    let order : c.order-name-items.result.now ≡ order_of w.schedule = c.order-name-items.ensures ∙ ap (λ (v : Workload). order_of (plain_workload v).schedule) work in
+    reportable w c.loop-name.core c.finish.result (all_made w c.loop-name.core _ c.loop-name.name-index c.loop-name.invariant order c.loop-name-test.false) c.finish.ensures.within
