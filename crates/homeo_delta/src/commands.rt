@@ -31,7 +31,7 @@ fn shift_write(
 {
     match name {
         SplitName::Whole(object) => {
-            let mut terms = List::new(alloc);
+            let mut terms = Vec::with_capacity(alloc, sites as usize + 1)?;
             terms.push(value)?;
             terms.push(minus(alloc, SplitName::Base(object))?)?;
             for other in 0..sites {
@@ -45,7 +45,7 @@ fn shift_write(
             }
             Ok(LCommand::Write {
                 target: SplitName::Delta { object, site },
-                value: LExpr::Sum(terms),
+                value: LExpr::Sum(List::from_vec(terms)),
             })
         }
         SplitName::Base(_) | SplitName::Delta { .. } => Ok(LCommand::Write {
@@ -103,11 +103,11 @@ fn shift_all(
 ) -> Result<List<LCommand>, Memory>
     ensures { IfOk result (λ ds. map plain_lcommand ds.items ≡ map (shift sites site) (map plain_lcommand cs.now)) }
 {
-    let mut shifted = List::new(alloc);
+    let mut shifted = Vec::with_capacity(alloc, cs.len())?;
     for c in cs {
         shifted.push(shift(alloc, c, site, sites)?)?;
     }
-    Ok(shifted)
+    Ok(List::from_vec(shifted))
 }
 
 /// The delta transform of a command for one of so many sites (Roy et al., SIGMOD 2015; how a delta encodes a write is this

@@ -13,12 +13,12 @@ fn shift_read(alloc: Global, name: SplitName, sites: u32) -> Result<LExpr, Memor
 {
     match name {
         SplitName::Whole(object) => {
-            let mut terms = List::new(alloc);
+            let mut terms = Vec::with_capacity(alloc, sites as usize + 1)?;
             terms.push(LExpr::Read(SplitName::Base(object)))?;
             for site in 0..sites {
                 terms.push(LExpr::Read(SplitName::Delta { object, site }))?;
             }
-            Ok(LExpr::Sum(terms))
+            Ok(LExpr::Sum(List::from_vec(terms)))
         }
         SplitName::Base(_) | SplitName::Delta { .. } => Ok(LExpr::Read(name)),
     }
@@ -53,11 +53,11 @@ pub(crate) fn shift_expr(alloc: Global, e: &LExpr, sites: u32) -> Result<LExpr, 
 fn shift_exprs(alloc: Global, es: &[LExpr], sites: u32) -> Result<List<LExpr>, Memory>
     ensures { IfOk result (λ ds. map plain_lexpr ds.items ≡ map (shift_expr sites) (map plain_lexpr es.now)) }
 {
-    let mut shifted = List::new(alloc);
+    let mut shifted = Vec::with_capacity(alloc, es.len())?;
     for e in es {
         shifted.push(shift_expr(alloc, e, sites)?)?;
     }
-    Ok(shifted)
+    Ok(List::from_vec(shifted))
 }
 
 #[cycle(conditions)]
@@ -97,9 +97,9 @@ pub(crate) fn shift_cond(alloc: Global, c: &LCond, sites: u32) -> Result<LCond, 
 fn shift_tests(alloc: Global, ts: &[LTest], sites: u32) -> Result<List<LTest>, Memory>
     ensures { IfOk result (λ ds. map plain_ltest ds.items ≡ map (shift_test sites) (map plain_ltest ts.now)) }
 {
-    let mut shifted = List::new(alloc);
+    let mut shifted = Vec::with_capacity(alloc, ts.len())?;
     for t in ts {
         shifted.push(shift_test(alloc, t, sites)?)?;
     }
-    Ok(shifted)
+    Ok(List::from_vec(shifted))
 }

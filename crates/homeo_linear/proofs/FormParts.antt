@@ -1,16 +1,17 @@
 -- Forms from their parts: a number, lists of terms and of mixed deltas in order.
 use Rattle.std.proofs.Common.{◌≡◌, ℕ, ◌==◌, suc, Bool, true, false, cond, ◌&&◌, List, [], ◌∷◌, ◌++◌, length, ℤ, pos, ◌+ℤ◌, ◌*ℤ◌, refl, sym, ap, ap₂, ◌∙◌, subst, arith}
+use Rattle.std.proofs.Math.IntN.{+ℤ_idl}
 use Rattle.std.proofs.lemmas.Bool.Decides.{nat_tests}
 use Rattle.homeo_meaning.specs.Small.{IsSmall}
 use Rattle.homeo_plan.specs.Key.{words as plan_words}
 use Rattle.homeo_plan.specs.FormSizes.{Numbers}
-use Rattle.homeo_plan.specs.Linear.{Linear, deltas_of, add_deltas, add_terms, scale_terms, constant_form, delta_form, add_forms, scale_form, multiply_forms, mix_forms, is_empty, is_pure, support}
+use Rattle.homeo_plan.specs.Linear.{Linear, deltas_of, add_deltas, add_term, add_terms, scale_terms, constant_form, delta_form, add_forms, scale_form, multiply_forms, mix_forms, is_empty, is_pure, support}
 use Rattle.homeo_plan.specs.declared.forms.Delta.{Delta}
 use Rattle.homeo_plan.specs.declared.forms.Term.{Term}
 use Rattle.homeo_plan.specs.Limit.{form_limit}
 use Rattle.homeo_linear.specs.inner.Key.{words}
 use Rattle.homeo_linear.specs.inner.Order.{InOrder}
-use Rattle.homeo_linear.specs.inner.Terms.{AreSmall}
+use Rattle.homeo_linear.specs.inner.Terms.{AreSmall, AreSmallWhereSame, term_form}
 use Rattle.homeo_linear.proofs.Orders.{in_order_adds}
 use Rattle.homeo_linear.proofs.Adding.{order_adds, order_scale}
 
@@ -50,6 +51,10 @@ unfolding words plan_words
 mix_in_order ts ds es ys p q o =
     (subst (λ l. InOrder (deltas_of l)) (sym p) tt, subst InOrder (sym q) (in_order_adds ys ds o))
 
+pub term_in_order : (ts us : List Term) (t : Term) (ds : List Delta) → us ≡ add_term t.delta t.factor ts → AreInOrder ts ds → AreInOrder us ds
+unfolding plan_words
+term_in_order ts us t ds p o = sum_in_order ts us (t ∷ []) ds ds [] p refl o
+
 -- ---- small numbers
 pub small_terms : (a : Linear) (n : ℤ) (ts xs : List Term) (ds : List Delta) → form_of n ts ds ≡ a → xs ≡ ts → Numbers (IsSmall form_limit) a → AreSmall xs
 unfolding words
@@ -58,6 +63,14 @@ small_terms a n ts xs ds e p h =
 
 pub small_constant : (a : Linear) (n : ℤ) (ts : List Term) (ds : List Delta) → form_of n ts ds ≡ a → IsSmall form_limit a.constant → IsSmall form_limit n
 small_constant a n ts ds e h = subst (λ (b : Linear). IsSmall form_limit b.constant) (sym e) h
+
+small_where_same : (d : Delta) (ts : List Term) → AreSmall ts → AreSmallWhereSame d ts
+unfolding words plan_words
+small_where_same d [] h = tt
+small_where_same d (t ∷ ts) h = ((λ s. h.0), small_where_same d ts h.1)
+
+pub small_same : (a : Linear) (d : Delta) (n : ℤ) (ts : List Term) (ds : List Delta) → form_of n ts ds ≡ a → Numbers (IsSmall form_limit) a → AreSmallWhereSame d ts
+small_same a d n ts ds e h = small_where_same d ts (small_terms a n ts ts ds e refl h)
 
 -- ---- what forms are
 pub number_is : (z n : ℤ) (ts : List Term) (ds : List Delta) → z ≡ n → ts ≡ [] → ds ≡ [] → form_of z ts ds ≡ constant_form n
@@ -81,6 +94,18 @@ unfolding plan_words
 sum_is a b m n z ts us vs xs ds es fs ys e f c p p' q q' =
     same_form z (n +ℤ m) vs (add_terms us ts) fs (add_deltas es ds) c (p ∙ ap (λ l. add_terms l ts) p') (q ∙ ap (λ l. add_deltas l ds) q')
     ∙ ap₂ (λ x y. add_forms x y) f e
+
+pub number_more_is :
+    (a : Linear) (m n z : ℤ) (ts : List Term) (ds : List Delta) → form_of m ts ds ≡ a → z ≡ n +ℤ m → form_of z ts ds ≡ add_forms (constant_form n) a
+unfolding plan_words
+number_more_is a m n z ts ds e c = same_form z (n +ℤ m) ts ts ds ds c refl refl ∙ ap (add_forms (constant_form n)) e
+
+pub term_more_is :
+    (a : Linear) (m z : ℤ) (t : Term) (ts us : List Term) (ds : List Delta) → form_of m ts ds ≡ a → z ≡ m → us ≡ add_term t.delta t.factor ts →
+    form_of z us ds ≡ add_forms (term_form t) a
+unfolding plan_words words
+term_more_is a m z t ts us ds e c p =
+    same_form z (pos 0 +ℤ m) us (add_term t.delta t.factor ts) ds ds (c ∙ sym (+ℤ_idl m)) p refl ∙ ap (add_forms (term_form t)) e
 
 pub multiple_is :
     (a : Linear) (k k' n z : ℤ) (ts us xs : List Term) (ds es ys : List Delta) → form_of n ts ds ≡ a → z ≡ k *ℤ n → k' ≡ k → us ≡ scale_terms k' xs →

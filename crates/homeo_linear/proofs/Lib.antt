@@ -2,6 +2,7 @@ mod Adding
 mod Comparing
 mod FormParts
 mod FormSteps
+mod ItemForms
 mod Keeping
 mod Needing
 mod Orders

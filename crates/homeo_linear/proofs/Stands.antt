@@ -1,15 +1,18 @@
 -- What a map of places gives for each location.
-use Rattle.std.proofs.Common.{rules, ◌≡◌, Bool, true, false, cond, Option, Some, None, refl, ap, ◌∙◌, subst}
+use Rattle.std.proofs.Common.{rules, ◌≡◌, ℕ, Bool, true, false, cond, Option, Some, None, ℤ, pos, negsuc, refl, sym, ap, ◌∙◌, subst}
 use Rattle.std.specs.HashMap.{HashMap, get, get_by}
 use Rattle.std.specs.Option.{unwrap_or}
 use Rattle.homeo_syntax.specs.declared.low.Temp.TheVariants as temps
 use Rattle.homeo_meaning.specs.Key.{words as meaning_words}
 use Rattle.homeo_meaning.specs.LowMeaning.{Location, TempAt, BaseAt, DeltaAt, same_location, put}
-use Rattle.homeo_plan.specs.Linear.{Linear, Forms}
+use Rattle.homeo_plan.specs.Key.{words as plan_words}
+use Rattle.homeo_plan.specs.Linear.{Linear, Forms, base_forms, scale_form}
 use Rattle.homeo_linear.specs.contracts.places.PlacePartialEq.TheImpl.{ghosts}
 use Rattle.homeo_linear.specs.declared.places.Place.{Place}
 use Rattle.homeo_linear.specs.declared.places.Place.TheVariants.{Named, Fresh, Base, Delta}
+use Rattle.homeo_linear.specs.inner.Key.{words}
 use Rattle.homeo_linear.specs.inner.Places.{plain_place}
+use Rattle.homeo_linear.specs.inner.Terms.{term_form}
 
 abbrev pub is_at : Location → Place → Bool
 is_at l p = same_location l (plain_place p)
@@ -50,3 +53,15 @@ stands-set g m k v h = stands-at g m k (Some v) h
 
 pub stands-unset : {S : Type 0} (g : Forms) (m : HashMap Place Linear S) (k : Place) → None ≡ get ghosts.eq m k → g (plain_place k) ≡ unwrap_or (get_by (is_at (plain_place k)) m) (g (plain_place k))
 stands-unset g m k h = stands-at g m k None h
+
+-- ---- the form of a delta as a round begins
+pub base_delta :
+    (b : ℕ → ℤ) (p : Place) (x j : ℕ) → p ≡ Delta x j → term_form (record { delta = record { object = x; site = j }; factor = pos 1 }) ≡ base_forms b (plain_place p)
+unfolding plan_words words
+base_delta b p x j e = sym (ap (λ q. base_forms b (plain_place q)) e)
+
+pub base_negated :
+    (b : ℕ → ℤ) (p : Place) (x j : ℕ) → p ≡ Delta x j →
+    term_form (record { delta = record { object = x; site = j }; factor = negsuc 0 }) ≡ scale_form (negsuc 0) (base_forms b (plain_place p))
+unfolding plan_words words
+base_negated b p x j e = sym (ap (λ q. scale_form (negsuc 0) (base_forms b (plain_place q))) e)

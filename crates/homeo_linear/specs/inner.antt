@@ -1,4 +1,5 @@
 pub mod Following
+pub mod Items
 pub mod Kept
 pub mod Key
 pub mod Order

@@ -10,6 +10,7 @@ ghost use Rattle.homeo_plan.specs.Limit.{form_limit};
 ghost use Rattle.homeo_linear.specs.inner.Standing.{forms_of};
 
 use crate::form::Form;
+use crate::items::{Item, item_of};
 use crate::places::{place_of, place_of_temp};
 use crate::standing::Standing;
 use homeo_syntax::{LExpr, Memory};
@@ -40,10 +41,16 @@ fn sum(alloc: Global, standing: &Standing, es: &[LExpr]) -> Result<Form, Memory>
     requires { CanSum (IsSmall form_limit) (forms_of standing.now) (constant_form (pos 0)) (low_exprs (map plain_lexpr es.now)) }
     ensures { IfOk result (λ f. f ≡ sum_form (forms_of standing.now) (constant_form (pos 0)) (low_exprs (map plain_lexpr es.now))) }
 {
-    let mut total = Form::number(alloc, 0);
+    let mut total = Form::with_room(alloc, es.len())?;
     for e in es {
-        let part = form(alloc, standing, e)?;
-        total = total.plus(&part)?;
+        total = match item_of(e) {
+            Item::Read(place) => standing.add_at(place, total)?,
+            Item::Negated(place) => standing.subtract_at(alloc, place, total)?,
+            Item::Other => {
+                let part = form(alloc, standing, e)?;
+                total.plus(&part)?
+            }
+        };
     }
     Ok(total)
 }

@@ -1,16 +1,17 @@
 //! Linear forms, their sums and products.
 
-ghost use Rattle.std.specs.Prelude.{◌≡◌, IfOk};
+ghost use Rattle.std.specs.Prelude.{◌≡◌, pos, IfOk};
 ghost use Rattle.homeo_meaning.specs.Small.{IsSmall};
 ghost use Rattle.homeo_plan.specs.FormSizes.{Numbers};
 ghost use Rattle.homeo_plan.specs.Linear.{constant_form, delta_form, add_forms, scale_form, multiply_forms, mix_forms, is_pure, support};
 ghost use Rattle.homeo_plan.specs.PlanView.{plain_linear};
 ghost use Rattle.homeo_plan.specs.Limit.{form_limit};
 ghost use Rattle.homeo_linear.specs.inner.Order.{InOrder};
+ghost use Rattle.homeo_linear.specs.inner.Terms.{term_form};
 
 use crate::deltas::{add_deltas, add_deltas_of};
 use crate::numbers::{added, multiplied};
-use crate::terms::{add_terms, scaled};
+use crate::terms::{add_term, add_terms, scaled};
 use homeo_plan::{Delta, Linear, Term};
 use homeo_syntax::{List, Memory};
 use std::alloc::Global;
@@ -46,6 +47,17 @@ impl Form {
             terms: Vec::new(alloc),
             mixed: Vec::new(alloc),
         }
+    }
+
+    /// The form of 0, with room for terms.
+    pub(crate) fn with_room(alloc: Global, terms: usize) -> Result<Form, Memory>
+        ensures { IfOk result (λ f. f ≡ constant_form (pos 0)) }
+    {
+        Ok(Form {
+            constant: 0,
+            terms: Vec::with_capacity(alloc, terms)?,
+            mixed: Vec::new(alloc),
+        })
     }
 
     /// The form of a value.
@@ -92,6 +104,34 @@ impl Form {
             constant: added(other.constant, self.constant),
             terms,
             mixed,
+        })
+    }
+
+    /// The number put into this form.
+    pub(crate) fn plus_number(self, n: i128) -> Form
+        requires small { Numbers (IsSmall form_limit) self }
+        requires number_small { IsSmall form_limit n }
+        ensures { result ≡ add_forms (constant_form n) self }
+    {
+        Form {
+            constant: added(n, self.constant),
+            terms: self.terms,
+            mixed: self.mixed,
+        }
+    }
+
+    /// The term put into this form.
+    pub(crate) fn plus_term(self, term: Term) -> Result<Form, Memory>
+        requires small { Numbers (IsSmall form_limit) self }
+        requires term_small { IsSmall form_limit term.factor }
+        ensures { IfOk result (λ f. f ≡ add_forms (term_form term) self) }
+    {
+        let mut terms = self.terms;
+        add_term(&mut terms, &term)?;
+        Ok(Form {
+            constant: self.constant,
+            terms,
+            mixed: self.mixed,
         })
     }
 

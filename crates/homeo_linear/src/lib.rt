@@ -8,6 +8,7 @@ mod expressions;
 mod following;
 mod form;
 mod formulas;
+mod items;
 mod numbers;
 mod places;
 mod residuals;

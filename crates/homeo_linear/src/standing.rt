@@ -1,16 +1,20 @@
 //! The forms of what stands at each place.
 
-ghost use Rattle.std.specs.Prelude.{◌≡◌, IfOk, OnOk};
+ghost use Rattle.std.specs.Prelude.{◌≡◌, negsuc, IfOk, OnOk};
 ghost use Rattle.homeo_meaning.specs.LowMeaning.{put};
 ghost use Rattle.homeo_meaning.specs.Serial.{values_of};
-ghost use Rattle.homeo_plan.specs.Linear.{base_forms};
+ghost use Rattle.homeo_meaning.specs.Small.{IsSmall};
+ghost use Rattle.homeo_plan.specs.FormSizes.{Numbers};
+ghost use Rattle.homeo_plan.specs.Limit.{form_limit};
+ghost use Rattle.homeo_plan.specs.Linear.{base_forms, add_forms, scale_form};
 ghost use Rattle.homeo_linear.specs.inner.Places.{plain_place};
 ghost use Rattle.homeo_linear.specs.inner.Standing.{forms_of};
 
 use crate::form::Form;
+use crate::numbers::multiplied;
 use crate::places::Place;
 use homeo_meaning::padded::item_or;
-use homeo_plan::Delta;
+use homeo_plan::{Delta, Term};
 use homeo_syntax::Memory;
 use std::alloc::Global;
 use std::collections::HashMap;
@@ -49,6 +53,39 @@ impl<'a> Standing<'a> {
             None => base_form(alloc, self.base, place),
         }
     }
+
+    /// The form at a place put into another.
+    pub(crate) fn add_at(&self, place: Place, total: Form) -> Result<Form, Memory>
+        requires small { Numbers (IsSmall form_limit) total }
+        requires place_small { Numbers (IsSmall form_limit) (forms_of self.now (plain_place place)) }
+        ensures { IfOk result (λ f. f ≡ add_forms (forms_of self.now (plain_place place)) total) }
+    {
+        match self.set.get(&place) {
+            Some(form) => total.plus(form),
+            None => add_base(self.base, place, total),
+        }
+    }
+
+    /// The negative of the form at a place put into another.
+    pub(crate) fn subtract_at(
+        &self,
+        alloc: Global,
+        place: Place,
+        total: Form,
+    ) -> Result<Form, Memory>
+        requires small { Numbers (IsSmall form_limit) total }
+        requires place_small { Numbers (IsSmall form_limit) (forms_of self.now (plain_place place)) }
+        requires negated_small { Numbers (IsSmall form_limit) (scale_form (negsuc 0) (forms_of self.now (plain_place place))) }
+        ensures { IfOk result (λ f. f ≡ add_forms (scale_form (negsuc 0) (forms_of self.now (plain_place place))) total) }
+    {
+        match self.set.get(&place) {
+            Some(form) => {
+                let negated = form.times(alloc, -1)?;
+                total.plus(&negated)
+            }
+            None => subtract_base(self.base, place, total),
+        }
+    }
 }
 
 /// The form at a place as a round begins.
@@ -64,5 +101,46 @@ fn base_form(alloc: Global, base: &[i64], place: Place) -> Result<Form, Memory>
             Ok(Form::value(alloc, value))
         }
         Place::Delta { object, site } => Form::delta(alloc, Delta { object, site }),
+    }
+}
+
+/// The form at a place as a round begins, put into another.
+#[tactic(auto, unfolding(homeo_plan::specs::Key::words))]
+fn add_base(base: &[i64], place: Place, total: Form) -> Result<Form, Memory>
+    requires small { Numbers (IsSmall form_limit) total }
+    requires place_small { Numbers (IsSmall form_limit) (base_forms (values_of base.now) (plain_place place)) }
+    ensures { IfOk result (λ f. f ≡ add_forms (base_forms (values_of base.now) (plain_place place)) total) }
+{
+    match place {
+        Place::Named(_) | Place::Fresh(_) => Ok(total),
+        Place::Base(object) => {
+            let value = item_or(base, object as usize, 0);
+            Ok(total.plus_number(value as i128))
+        }
+        Place::Delta { object, site } => total.plus_term(Term {
+            delta: Delta { object, site },
+            factor: 1,
+        }),
+    }
+}
+
+/// The negative of the form at a place as a round begins, put into another.
+#[tactic(auto, unfolding(homeo_plan::specs::Key::words))]
+fn subtract_base(base: &[i64], place: Place, total: Form) -> Result<Form, Memory>
+    requires small { Numbers (IsSmall form_limit) total }
+    requires place_small { Numbers (IsSmall form_limit) (base_forms (values_of base.now) (plain_place place)) }
+    requires negated_small { Numbers (IsSmall form_limit) (scale_form (negsuc 0) (base_forms (values_of base.now) (plain_place place))) }
+    ensures { IfOk result (λ f. f ≡ add_forms (scale_form (negsuc 0) (base_forms (values_of base.now) (plain_place place))) total) }
+{
+    match place {
+        Place::Named(_) | Place::Fresh(_) => Ok(total),
+        Place::Base(object) => {
+            let value = item_or(base, object as usize, 0);
+            Ok(total.plus_number(multiplied(-1, value as i128)))
+        }
+        Place::Delta { object, site } => total.plus_term(Term {
+            delta: Delta { object, site },
+            factor: -1,
+        }),
     }
 }

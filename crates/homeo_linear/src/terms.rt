@@ -96,7 +96,7 @@ fn add_factor(terms: &mut Vec<Term>, place: usize, more: &Term)
 }
 
 /// Adds a term.
-fn add_term(terms: &mut Vec<Term>, term: &Term) -> Result<(), Memory>
+pub(crate) fn add_term(terms: &mut Vec<Term>, term: &Term) -> Result<(), Memory>
     requires order { InOrder (deltas_of terms.old.items) }
     requires factor { IsSmall form_limit term.now.factor }
     requires small { AreSmallWhereSame term.now.delta terms.old.items }
@@ -121,6 +121,7 @@ pub(crate) fn add_terms(terms: &mut Vec<Term>, more: &[Term]) -> Result<(), Memo
     requires more_small { AreSmall more.now }
     ensures { OnOk result (terms.new.items ≡ add_terms more.now terms.old.items) }
 {
+    terms.reserve(more.len())?;
     for term in more {
         add_term(terms, term)?;
     }
@@ -133,7 +134,7 @@ pub(crate) fn scaled(alloc: Global, factor: i128, terms: &[Term]) -> Result<Vec<
     requires small { AreSmall terms.now }
     ensures { IfOk result (λ v. v.items ≡ scale_terms factor terms.now) }
 {
-    let mut scaled = Vec::new(alloc);
+    let mut scaled = Vec::with_capacity(alloc, terms.len())?;
     for term in terms {
         let product = times(term, factor);
         if counts(&product) {

@@ -25,7 +25,7 @@ use std::process::Abort;
 use std::test::Fail;
 
 /// The second write reads what the first one wrote.
-const TWICE: &str = "workload 1
+pub(crate) const TWICE: &str = "workload 1
 sites 2
 object x in 0..10 = 5
 transaction twice() { write(x = read(x) + 1); write(x = read(x) + 1) }
@@ -35,7 +35,7 @@ end
 ";
 
 /// Reads a text that is accepted.
-fn accepted(rt: &impl Abort, alloc: Global, text: &str) -> Result<Accepted, Fail> {
+pub(crate) fn accepted(rt: &impl Abort, alloc: Global, text: &str) -> Result<Accepted, Fail> {
     assert!(rt; text.len() <= 1_048_576);
     let workload = match read(alloc, text.as_bytes()) {
         Ok(workload) => workload,
@@ -56,7 +56,7 @@ fn zeros(alloc: Global, count: usize) -> Result<Database, Memory>
 }
 
 /// A database at two sites that have not written yet.
-fn undivided(alloc: Global, database: &Database) -> Result<Split, Memory>
+pub(crate) fn undivided(alloc: Global, database: &Database) -> Result<Split, Memory>
     ensures { IfOk result (IsUndivided database.now.items) }
 {
     let values = database.as_slice();
@@ -91,31 +91,26 @@ fn run_first(
     Ok(split)
 }
 
-/// Runs the first of ground calls at site 0, from the starting values.
-fn run_head(
-    alloc: Global,
-    w: &Accepted,
-    declared: &Declarations,
-    calls: &[GroundCall],
-) -> Result<Split, Fail>
-    requires declared { declared.now ≡ declarations (plain_workload w.now) }
-    requires called { All (IsCalled (plain_workload w.now)) (map plain_ground calls.now) }
-    ensures { IfOk result SumsFit }
+/// The first of a workload's ground calls.
+pub(crate) fn first<'a>(w: &Accepted, calls: &'a [GroundCall]) -> Result<&'a GroundCall, Fail>
+    requires { All (IsCalled (plain_workload w.now)) (map plain_ground calls.now) }
+    ensures { IfOk result (λ call. IsCalled (plain_workload w.now) (plain_ground call.now)) }
 {
-    let database = initial(alloc, w)?;
     match calls {
-        [call, ..] => Ok(run_first(alloc, w, declared, call, &database, 0)?),
+        [call, ..] => Ok(call),
         _ => Err(Fail::from("no call")),
     }
 }
 
-/// Runs the first ground call of a workload so.
+/// Runs the first ground call of a workload at site 0, from the starting values.
 fn run_workload(alloc: Global, w: &Accepted) -> Result<Split, Fail>
     ensures { IfOk result SumsFit }
 {
     let declared = Declarations::of(alloc, w)?;
     let grounding = Grounding::of(alloc, w)?;
-    run_head(alloc, w, &declared, grounding.calls())
+    let call = first(w, grounding.calls())?;
+    let database = initial(alloc, w)?;
+    Ok(run_first(alloc, w, &declared, call, &database, 0)?)
 }
 
 /// Runs the first ground call of a text so.

@@ -11,3 +11,5 @@ mod joint_tables;
 mod sites;
 #[cfg(test)]
 mod tables;
+#[cfg(test)]
+mod walks;

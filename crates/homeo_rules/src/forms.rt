@@ -127,10 +127,6 @@ pub fn check_forms<'a>(
     let best = check_sizes_and_prints(alloc, measured.as_slice(), calls, &measuring)?;
     match best {
         Some(_) => Ok(best),
-        None => Ok(check_weights_and_rows(
-            purpose,
-            measured.as_slice(),
-            &measuring,
-        )),
+        None => Ok(check_weights_and_rows(purpose, measured.as_slice(), &measuring)),
     }
 }

@@ -1,11 +1,10 @@
 -- The view of each kind of expression with shared parts as it is made, and that its parts are smaller.
-use Rattle.std.proofs.Common.{◌≡◌, ℤ, map, Vec, Global, rules}
-use Rattle.std.proofs.lemmas.Simd.{map-map}
+use Rattle.std.proofs.Common.{◌≡◌, ℤ, map, Vec, Box, Global, rules}
 use Rattle.std.specs.declared.rc.Rc.{Rc}
 use Rattle.homeo_syntax.specs.declared.low.SplitName.{SplitName}
 use Rattle.homeo_syntax.specs.Low as l
 use Rattle.homeo_syntax.specs.LowView.{low_exprs}
-use Rattle.homeo_table.specs.declared.shared.Shared.{Shared, Literal, Read, Sum, Product, Neg, the_lemmas}
+use Rattle.homeo_table.specs.declared.shared.Shared.{Shared, Literal, Read, Sum, Product, Neg, Same, the_lemmas}
 use Rattle.homeo_table.specs.inner.Key.{words}
 use Rattle.homeo_table.specs.inner.Shared.{plain_shared}
 
@@ -19,16 +18,20 @@ pub shared-Read : (x : SplitName) → plain_shared (Read x) ≡ l.Read x
 unfolding words
 shared-Read x = search (rules, the_lemmas)
 
-pub shared-Sum : (es : Vec (Rc Shared Global) Global) → plain_shared (Sum es) ≡ l.Sum (low_exprs (map (λ e. plain_shared e.value) es.items))
+pub shared-Sum : (es : Vec Shared Global) → plain_shared (Sum es) ≡ l.Sum (low_exprs (map plain_shared es.items))
 unfolding words
-shared-Sum es = search (rules, the_lemmas, map-map)
+shared-Sum es = search (rules, the_lemmas)
 
-pub shared-Product : (es : Vec (Rc Shared Global) Global) → plain_shared (Product es) ≡ l.Product (low_exprs (map (λ e. plain_shared e.value) es.items))
+pub shared-Product : (es : Vec Shared Global) → plain_shared (Product es) ≡ l.Product (low_exprs (map plain_shared es.items))
 unfolding words
-shared-Product es = search (rules, the_lemmas, map-map)
+shared-Product es = search (rules, the_lemmas)
 
-pub shared-Neg : (e : Rc Shared Global) → plain_shared (Neg e) ≡ l.Neg (plain_shared e.value)
+pub shared-Neg : (e : Box Shared Global) → plain_shared (Neg e) ≡ l.Neg (plain_shared e.value)
 unfolding words
 shared-Neg e = search (rules, the_lemmas)
 
-pub ruleset views = (shared-Literal, shared-Read, shared-Sum, shared-Product, shared-Neg)
+pub shared-Same : (e : Rc Shared Global) → plain_shared (Same e) ≡ plain_shared e.value
+unfolding words
+shared-Same e = search (rules, the_lemmas)
+
+pub ruleset views = (shared-Literal, shared-Read, shared-Sum, shared-Product, shared-Neg, shared-Same)

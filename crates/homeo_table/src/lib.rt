@@ -9,6 +9,7 @@ mod making;
 mod places;
 mod selection;
 mod shared;
+mod sides;
 mod substitution;
 mod tables;
 mod walking;

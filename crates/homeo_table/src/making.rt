@@ -15,7 +15,7 @@ ghost use Rattle.homeo_table.specs.inner.Substitution.{substituted, substituted_
 use crate::bindings::Bindings;
 use crate::evaluation::holds;
 use crate::places::Place;
-use crate::substitution::{condition, expression, test};
+use crate::substitution::{condition, shared_value, test};
 use homeo_plan::Row;
 use homeo_split::Split;
 use homeo_syntax::{LCommand, LCond, LExpr, LTest, List, Memory};
@@ -73,7 +73,7 @@ impl Making {
         ensures bound { OnOk result (bound self.new.bindings ≡
             put (bound self.old.bindings) (plain_place place) (Some (substituted (bound self.old.bindings) (plain_lexpr value.now)))) }
     {
-        let value = expression(alloc, &self.bindings, value)?;
+        let value = shared_value(alloc, &self.bindings, value)?;
         self.bindings.bind(place, value)?;
         self.commands.push(c.copy(alloc)?)?;
         Ok(())
@@ -163,7 +163,7 @@ fn move_tests(tests: List<LTest>, made: &mut Vec<LTest>) -> Result<(), Memory>
 fn copied_tests(alloc: Global, tests: &[LTest]) -> Result<Vec<LTest>, Memory>
     ensures { IfOk result (λ r. map plain_ltest r.items ≡ map plain_ltest tests.now) }
 {
-    let mut copies = Vec::new(alloc);
+    let mut copies = Vec::with_capacity(alloc, tests.len())?;
     for test in tests {
         copies.push(test.copy(alloc)?)?;
     }
@@ -173,7 +173,7 @@ fn copied_tests(alloc: Global, tests: &[LTest]) -> Result<Vec<LTest>, Memory>
 fn copied_commands(alloc: Global, commands: &[LCommand]) -> Result<Vec<LCommand>, Memory>
     ensures { IfOk result (λ r. map plain_lcommand r.items ≡ map plain_lcommand commands.now) }
 {
-    let mut copies = Vec::new(alloc);
+    let mut copies = Vec::with_capacity(alloc, commands.len())?;
     for command in commands {
         copies.push(command.copy(alloc)?)?;
     }

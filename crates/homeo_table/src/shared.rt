@@ -13,9 +13,11 @@ use std::rc::Rc;
 pub(crate) enum Shared {
     Literal(i64),
     Read(SplitName),
-    Sum(Vec<Rc<Shared>>),
-    Product(Vec<Rc<Shared>>),
-    Neg(Rc<Shared>),
+    Sum(Vec<Shared>),
+    Product(Vec<Shared>),
+    Neg(Box<Shared>),
+    /// The expression that is put in there.
+    Same(Rc<Shared>),
 }
 
 impl Shared {
@@ -37,21 +39,22 @@ impl Shared {
                 Ok(LExpr::Product(es))
             }
             Shared::Neg(e) => {
-                let e = e.as_ref().unshared(alloc)?;
+                let e = e.unshared(alloc)?;
                 Ok(LExpr::Neg(Box::new(alloc, e)?))
             }
+            Shared::Same(e) => e.as_ref().unshared(alloc),
         }
     }
 }
 
 #[cycle(unshared)]
 #[tactic(auto, using(homeo_syntax::proofs::LowViews::low_phrase_views, crate::proofs::SharedViews::parts, crate::proofs::SharedViews::views))]
-fn each_unshared(alloc: Global, es: &[Rc<Shared>]) -> Result<List<LExpr>, Memory>
-    ensures { IfOk result (λ r. map plain_lexpr r.items ≡ map (λ e. plain_shared e.value) es.now) }
+fn each_unshared(alloc: Global, es: &[Shared]) -> Result<List<LExpr>, Memory>
+    ensures { IfOk result (λ r. map plain_lexpr r.items ≡ map plain_shared es.now) }
 {
-    let mut made = List::new(alloc);
+    let mut made = Vec::with_capacity(alloc, es.len())?;
     for e in es {
-        made.push(e.as_ref().unshared(alloc)?)?;
+        made.push(e.unshared(alloc)?)?;
     }
-    Ok(made)
+    Ok(List::from_vec(made))
 }

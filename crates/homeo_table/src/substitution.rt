@@ -10,27 +10,28 @@ ghost use Rattle.homeo_table.specs.inner.Substitution.{substituted, substituted_
 use crate::bindings::Bindings;
 use crate::places::{place_of, place_of_temp};
 use crate::shared::Shared;
+use crate::sides::side;
 use homeo_syntax::{LCond, LExpr, LTest, List, Memory, SplitName, Temp};
 use std::alloc::Global;
 use std::rc::Rc;
 
 /// What stands at a temporary. One that wasn't set is 0, as a call begins with it.
-fn temp(alloc: Global, put: &Bindings, t: Temp) -> Result<Rc<Shared>, Memory>
-    ensures { IfOk result (λ r. plain_shared r.value ≡ substituted (bound put.now) (OfTemp t)) }
+fn temp(put: &Bindings, t: Temp) -> Result<Shared, Memory>
+    ensures { IfOk result (λ r. plain_shared r ≡ substituted (bound put.now) (OfTemp t)) }
 {
     match put.at(place_of_temp(t)) {
-        Some(assigned) => Ok(assigned.clone()?),
-        None => Ok(Rc::new(alloc, Shared::Literal(0))?),
+        Some(assigned) => Ok(Shared::Same(assigned.clone()?)),
+        None => Ok(Shared::Literal(0)),
     }
 }
 
 /// What stands under a split name. One that wasn't set is read.
-fn read(alloc: Global, put: &Bindings, x: SplitName) -> Result<Rc<Shared>, Memory>
-    ensures { IfOk result (λ r. plain_shared r.value ≡ substituted (bound put.now) (Read x)) }
+fn read(put: &Bindings, x: SplitName) -> Result<Shared, Memory>
+    ensures { IfOk result (λ r. plain_shared r ≡ substituted (bound put.now) (Read x)) }
 {
     match put.at(place_of(x)) {
-        Some(written) => Ok(written.clone()?),
-        None => Ok(Rc::new(alloc, Shared::Read(x))?),
+        Some(written) => Ok(Shared::Same(written.clone()?)),
+        None => Ok(Shared::Read(x)),
     }
 }
 
@@ -38,46 +39,49 @@ fn read(alloc: Global, put: &Bindings, x: SplitName) -> Result<Rc<Shared>, Memor
 /// the expression has.
 #[cycle(expressions)]
 #[tactic(auto, using(homeo_syntax::proofs::Measures::low_expr_parts, homeo_syntax::proofs::LowViews::low_phrase_views, crate::proofs::SharedViews::views, crate::proofs::Equations::expressions))]
-pub(crate) fn expression(alloc: Global, put: &Bindings, e: &LExpr) -> Result<Rc<Shared>, Memory>
-    ensures { IfOk result (λ r. plain_shared r.value ≡ substituted (bound put.now) (plain_lexpr e.now)) }
+fn expression(alloc: Global, put: &Bindings, e: &LExpr) -> Result<Shared, Memory>
+    ensures { IfOk result (λ r. plain_shared r ≡ substituted (bound put.now) (plain_lexpr e.now)) }
 {
     match e {
-        LExpr::Literal(n) => Ok(Rc::new(alloc, Shared::Literal(*n))?),
-        LExpr::Temp(t) => temp(alloc, put, *t),
-        LExpr::Read(x) => read(alloc, put, *x),
+        LExpr::Literal(n) => Ok(Shared::Literal(*n)),
+        LExpr::Temp(t) => temp(put, *t),
+        LExpr::Read(x) => read(put, *x),
         LExpr::Sum(es) => {
             let es = each_expression(alloc, put, es.as_slice())?;
-            Ok(Rc::new(alloc, Shared::Sum(es))?)
+            Ok(Shared::Sum(es))
         }
         LExpr::Product(es) => {
             let es = each_expression(alloc, put, es.as_slice())?;
-            Ok(Rc::new(alloc, Shared::Product(es))?)
+            Ok(Shared::Product(es))
         }
         LExpr::Neg(e) => {
             let e = expression(alloc, put, e)?;
-            Ok(Rc::new(alloc, Shared::Neg(e))?)
+            Ok(Shared::Neg(Box::new(alloc, e)?))
         }
     }
 }
 
 #[cycle(expressions)]
 #[tactic(auto, using(homeo_syntax::proofs::Measures::low_expr_parts, homeo_syntax::proofs::LowViews::low_phrase_views))]
-fn each_expression(alloc: Global, put: &Bindings, es: &[LExpr]) -> Result<Vec<Rc<Shared>>, Memory>
-    ensures { IfOk result (λ r. map (λ e. plain_shared e.value) r.items ≡ map (substituted (bound put.now)) (map plain_lexpr es.now)) }
+fn each_expression(alloc: Global, put: &Bindings, es: &[LExpr]) -> Result<Vec<Shared>, Memory>
+    ensures { IfOk result (λ r. map plain_shared r.items ≡ map (substituted (bound put.now)) (map plain_lexpr es.now)) }
 {
-    let mut made = Vec::new(alloc);
+    let mut made = Vec::with_capacity(alloc, es.len())?;
     for e in es {
         made.push(expression(alloc, put, e)?)?;
     }
     Ok(made)
 }
 
-/// The same for a side of a comparison, which shares nothing.
-fn side(alloc: Global, put: &Bindings, e: &LExpr) -> Result<LExpr, Memory>
-    ensures { IfOk result (λ r. plain_lexpr r ≡ substituted (bound put.now) (plain_lexpr e.now)) }
+/// The same for a value that a place is set to. One that stands at another place already is shared with it.
+#[tactic(auto, using(crate::proofs::SharedViews::views))]
+pub(crate) fn shared_value(alloc: Global, put: &Bindings, e: &LExpr) -> Result<Rc<Shared>, Memory>
+    ensures { IfOk result (λ r. plain_shared r.value ≡ substituted (bound put.now) (plain_lexpr e.now)) }
 {
-    let e = expression(alloc, put, e)?;
-    e.as_ref().unshared(alloc)
+    match expression(alloc, put, e)? {
+        Shared::Same(e) => Ok(e),
+        made => Ok(Rc::new(alloc, made)?),
+    }
 }
 
 #[cycle(conditions)]
@@ -117,9 +121,9 @@ pub(crate) fn condition(alloc: Global, put: &Bindings, c: &LCond) -> Result<LCon
 fn each_test(alloc: Global, put: &Bindings, ts: &[LTest]) -> Result<List<LTest>, Memory>
     ensures { IfOk result (λ r. map plain_ltest r.items ≡ map (substituted_test (bound put.now)) (map plain_ltest ts.now)) }
 {
-    let mut made = List::new(alloc);
+    let mut made = Vec::with_capacity(alloc, ts.len())?;
     for t in ts {
         made.push(test(alloc, put, t)?)?;
     }
-    Ok(made)
+    Ok(List::from_vec(made))
 }

@@ -1,8 +1,8 @@
 -- Terms whose factors are small, and one term's factor added to.
-use Rattle.std.specs.Prelude.{◌≡◌, ℕ, zero, suc, true, List, [], ◌∷◌, ℤ, ◌+ℤ◌}
+use Rattle.std.specs.Prelude.{◌≡◌, ℕ, zero, suc, true, List, [], ◌∷◌, ℤ, pos, ◌+ℤ◌}
 use Rattle.homeo_meaning.specs.Small.{IsSmall}
 use Rattle.homeo_plan.specs.Each.{Each}
-use Rattle.homeo_plan.specs.Linear.{same_delta, with_term}
+use Rattle.homeo_plan.specs.Linear.{Linear, same_delta, with_term}
 use Rattle.homeo_plan.specs.declared.forms.Delta.{Delta}
 use Rattle.homeo_plan.specs.declared.forms.Term.{Term}
 use Rattle.homeo_plan.specs.Limit.{form_limit}
@@ -30,3 +30,8 @@ unfolding words
 add_at n f [] = []
 add_at zero f (t ∷ ts) = with_term t.delta (f +ℤ t.factor) ts
 add_at (suc n) f (t ∷ ts) = t ∷ add_at n f ts
+
+-- a term by itself
+abbrev pub term_form : Term → Linear
+unfolding words
+term_form t = record { constant = pos 0; terms = t ∷ []; mixed = [] }

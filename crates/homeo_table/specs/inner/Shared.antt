@@ -1,5 +1,4 @@
 -- What an expression with shared parts stands for.
-use Rattle.std.specs.Prelude.{map}
 use Rattle.homeo_syntax.specs.Low as l
 use Rattle.homeo_syntax.specs.LowView.{low_exprs}
 use Rattle.homeo_table.specs.declared.shared.Shared.{Shared}
@@ -10,9 +9,10 @@ use Rattle.homeo_table.specs.inner.Key.{words}
 abbrev pub shared_step : Shared-F l.Expr → l.Expr
 shared_step (Shared-F.Literal n) = l.Literal n
 shared_step (Shared-F.Read x) = l.Read x
-shared_step (Shared-F.Sum es) = l.Sum (low_exprs (map (λ e. e.value) es.items))
-shared_step (Shared-F.Product es) = l.Product (low_exprs (map (λ e. e.value) es.items))
+shared_step (Shared-F.Sum es) = l.Sum (low_exprs es.items)
+shared_step (Shared-F.Product es) = l.Product (low_exprs es.items)
 shared_step (Shared-F.Neg e) = l.Neg e.value
+shared_step (Shared-F.Same e) = e.value
 
 abbrev pub plain_shared : Shared → l.Expr
 unfolding words

@@ -1,6 +1,7 @@
 -- Each kind of expression, and one more term or factor.
 use Rattle.std.proofs.Common.{rules, sym, ap, ◌∙◌, subst, refl}
 use Rattle.std.proofs.lemmas.Result.{IfOk-weaker}
+use Rattle.homeo_syntax.specs.LowView.{plain_lexpr}
 use Rattle.homeo_syntax.specs.declared.low.LExpr.{the_lemmas}
 use Rattle.homeo_meaning.proofs.Numbers.{kept_is}
 use Rattle.homeo_meaning.specs.Small.{IsSmall}
@@ -9,7 +10,9 @@ use Rattle.homeo_plan.specs.Linear.{constant_form}
 use Rattle.homeo_plan.specs.Limit.{form_limit}
 use Rattle.homeo_linear.specs.inner.Standing.{forms_of}
 use Rattle.homeo_linear.proofs.FormSteps.{one_is_small, sum_can, product_can, neg_can, neg_small, literal_form, temp_form, read_form, sum_is_form, product_is_form, neg_form, sum_step, sum_next, sum_stop, product_step, product_next, product_stop}
+use Rattle.homeo_linear.proofs.ItemForms.{item_read, item_negated, negated_small}
 use Rattle.homeo_linear.proofs.expressions.+expressions.Goals as goal
+use Rattle.homeo_linear.proofs.expressions.+expressions.Goals.{sum-in-Read+in_ok-total-in-Read, sum-in-Negated+in_ok-total-in-Negated, sum-in-Other+in_ok-part-in-Other+in_ok-total-in-Other}
 
 pub form-sum-requires : goal.form-sum-requires
 form-sum-requires t c =
@@ -91,20 +94,56 @@ pub sum-form-requires : goal.sum-form-requires
 sum-form-requires t c =
     (search (rules, the_lemmas), (sum_step c.args.es.now c.loop-e.e-index c.e-item.result c.loop-e-test.true c.e-item.is c.loop-e.invariant.small).first)
 
+pub sum-add_at-requires-clause-small : goal.sum-add_at-requires-clause-small
+sum-add_at-requires-clause-small t c =
+    (sum_step c.args.es.now c.loop-e.e-index c.e-item.result c.loop-e-test.true c.e-item.is c.loop-e.invariant.small).so_far
+
+pub sum-add_at-requires-clause-place_small : goal.sum-add_at-requires-clause-place_small
+sum-add_at-requires-clause-place_small t c =
+    let k = sum_step c.args.es.now c.loop-e.e-index c.e-item.result c.loop-e-test.true c.e-item.is c.loop-e.invariant.small in
+    (item_read c.item_of.result c.in-Read.place (plain_lexpr c.e-item.result) c.in-Read.is c.item_of.ensures).small (forms_of c.args.standing.now) k.first
+
+pub sum-subtract_at-requires-clause-small : goal.sum-subtract_at-requires-clause-small
+sum-subtract_at-requires-clause-small t c =
+    (sum_step c.args.es.now c.loop-e.e-index c.e-item.result c.loop-e-test.true c.e-item.is c.loop-e.invariant.small).so_far
+
+pub sum-subtract_at-requires-clause-place_small : goal.sum-subtract_at-requires-clause-place_small
+sum-subtract_at-requires-clause-place_small t c =
+    let k = sum_step c.args.es.now c.loop-e.e-index c.e-item.result c.loop-e-test.true c.e-item.is c.loop-e.invariant.small in
+    (item_negated c.item_of.result c.in-Negated.place (plain_lexpr c.e-item.result) c.in-Negated.is c.item_of.ensures).small (forms_of c.args.standing.now) k.first
+
+pub sum-subtract_at-requires-clause-negated_small : goal.sum-subtract_at-requires-clause-negated_small
+sum-subtract_at-requires-clause-negated_small t c =
+    let k = sum_step c.args.es.now c.loop-e.e-index c.e-item.result c.loop-e-test.true c.e-item.is c.loop-e.invariant.small in
+    negated_small (forms_of c.args.standing.now) (item_negated c.item_of.result c.in-Negated.place (plain_lexpr c.e-item.result) c.in-Negated.is c.item_of.ensures) k.first
+
 pub sum-plus-requires-clause-small : goal.sum-plus-requires-clause-small
 sum-plus-requires-clause-small t c =
     (sum_step c.args.es.now c.loop-e.e-index c.e-item.result c.loop-e-test.true c.e-item.is c.loop-e.invariant.small).so_far
 
 pub sum-plus-requires-clause-other_small : goal.sum-plus-requires-clause-other_small
 sum-plus-requires-clause-other_small t c =
-    subst (Numbers (IsSmall form_limit)) (sym c.in_ok-part.ensures)
+    subst (Numbers (IsSmall form_limit)) (sym c.in_ok-part-in-Other.ensures)
     (sum_step c.args.es.now c.loop-e.e-index c.e-item.result c.loop-e-test.true c.e-item.is c.loop-e.invariant.small).small
 
 pub sum-loop-e-preserved : goal.sum-loop-e-preserved
 sum-loop-e-preserved t c =
+    let f = forms_of c.args.standing.now in
+    let e = plain_lexpr c.e-item.result in
     let k = sum_step c.args.es.now c.loop-e.e-index c.e-item.result c.loop-e-test.true c.e-item.is c.loop-e.invariant.small in
-    let n = sum_next k c.in_ok-part.ensures c.in_ok-total.ensures in
-    record { small = n.0; left = n.1 ∙ c.loop-e.invariant.left }
+    elim c.match-item_of.branch [
+      | sum-in-Read+in_ok-total-in-Read w ↦
+          let m = item_read c.item_of.result w.in-Read.place e w.in-Read.is c.item_of.ensures in
+          let n = sum_next k (sym (m.made f)) (w.total-is ∙ w.in_ok-total-in-Read.ensures) in
+          record { small = n.0; left = n.1 ∙ c.loop-e.invariant.left }
+      | sum-in-Negated+in_ok-total-in-Negated w ↦
+          let m = item_negated c.item_of.result w.in-Negated.place e w.in-Negated.is c.item_of.ensures in
+          let n = sum_next k (sym (m.made f)) (w.total-is ∙ w.in_ok-total-in-Negated.ensures) in
+          record { small = n.0; left = n.1 ∙ c.loop-e.invariant.left }
+      | sum-in-Other+in_ok-part-in-Other+in_ok-total-in-Other w ↦
+          let n = sum_next k w.in_ok-part-in-Other.ensures (w.total-is ∙ w.in_ok-total-in-Other.ensures) in
+          record { small = n.0; left = n.1 ∙ c.loop-e.invariant.left }
+    ]
 
 pub sum-returns : goal.sum-returns
 sum-returns t c = sum_stop _ _ c.args.es.now c.loop-e.e-index c.loop-e-test.false ∙ c.loop-e.invariant.left

@@ -1,12 +1,15 @@
 -- One more term is added.
-use Rattle.std.proofs.Common.{refl}
-use Rattle.homeo_linear.proofs.Adding.{can_add, add_step, add_end}
+use Rattle.std.proofs.Common.{refl, sym, ap, ◌∙◌, subst}
+use Rattle.homeo_plan.specs.Linear.{deltas_of, add_terms}
+use Rattle.homeo_linear.specs.inner.Order.{InOrder}
+use Rattle.homeo_linear.proofs.Adding.{CanAdd, can_add, add_step, add_end}
 use Rattle.homeo_linear.proofs.terms.add_terms.Goals as goal
 
 pub loop-term-init : goal.loop-term-init
 loop-term-init c = record {
-  order = c.requires.order;
-  small = can_add c.args.more.now c.args.terms.now.items c.requires.more_order c.requires.more_small c.requires.small;
+  order = subst (λ l. InOrder (deltas_of l)) (sym c.in_ok-reserve.ensures.items) c.requires.order;
+  small = subst (CanAdd c.args.more.now) (sym c.in_ok-reserve.ensures.items)
+      (can_add c.args.more.now c.args.terms.now.items c.requires.more_order c.requires.more_small c.requires.small);
   left = refl;
 }
 
@@ -28,4 +31,6 @@ loop-term-preserved c =
     record { order = s.1; small = s.0; left = s.2 }
 
 pub returns : goal.returns
-returns c = add_end c.args.more.now c.loop-term.terms.items _ c.loop-term.term-index c.loop-term-test.false c.loop-term.invariant.left
+returns c =
+    add_end c.args.more.now c.loop-term.terms.items _ c.loop-term.term-index c.loop-term-test.false c.loop-term.invariant.left
+    ∙ ap (add_terms c.args.more.now) c.in_ok-reserve.ensures.items

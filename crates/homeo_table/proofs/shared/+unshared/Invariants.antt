@@ -5,4 +5,4 @@ use Rattle.homeo_table.specs.inner.Shared.{plain_shared}
 use Rattle.homeo_table.proofs.shared.+unshared.Given as goal
 
 abbrev pub invariant-each_unshared-loop-e : goal.invariant-each_unshared-loop-e
-invariant-each_unshared-loop-e l = map plain_lexpr l.made.items ≡ map (λ e. plain_shared e.value) (take l.e-index l.es)
+invariant-each_unshared-loop-e l = map plain_lexpr l.made.items ≡ map plain_shared (take l.e-index l.es)

@@ -8,4 +8,4 @@ use Rattle.homeo_table.proofs.substitution.+expressions.Given as goal
 
 abbrev pub invariant-each_expression-loop-e : goal.invariant-each_expression-loop-e
 invariant-each_expression-loop-e l =
-    map (λ e. plain_shared e.value) l.made.items ≡ map (substituted (bound l.put)) (map plain_lexpr (take l.e-index l.es))
+    map plain_shared l.made.items ≡ map (substituted (bound l.put)) (map plain_lexpr (take l.e-index l.es))

@@ -2,14 +2,14 @@
 use Rattle.std.proofs.Common.{ap, ◌∙◌}
 use Rattle.homeo_table.specs.inner.Bindings.{bound}
 use Rattle.homeo_table.specs.inner.Shared.{plain_shared}
-use Rattle.homeo_table.proofs.SharedViews.{shared-Read}
+use Rattle.homeo_table.proofs.SharedViews.{shared-Read, shared-Same}
 use Rattle.homeo_table.proofs.Substituted.{substituted-read}
 use Rattle.homeo_table.proofs.substitution.read.Goals as goal
 
 pub returns-in_ok-clone-in-Some : goal.returns-in_ok-clone-in-Some
 returns-in_ok-clone-in-Some c =
-    ap plain_shared c.in_ok-clone-in-Some.ensures.cases ∙ substituted-read (bound c.args.put.now) c.args.x _ _ c.in-Some.ensures c.place_of.ensures
+    shared-Same c.in_ok-clone-in-Some.field-0 ∙ ap plain_shared c.in_ok-clone-in-Some.ensures.cases
+    ∙ substituted-read (bound c.args.put.now) c.args.x _ _ c.in-Some.ensures c.place_of.ensures
 
-pub returns-in_ok-new-in-None : goal.returns-in_ok-new-in-None
-returns-in_ok-new-in-None c =
-    ap plain_shared c.in_ok-new-in-None.ensures.ok ∙ shared-Read c.args.x ∙ substituted-read (bound c.args.put.now) c.args.x _ _ c.in-None.ensures c.place_of.ensures
+pub returns-in-None : goal.returns-in-None
+returns-in-None c = shared-Read c.args.x ∙ substituted-read (bound c.args.put.now) c.args.x _ _ c.in-None.ensures c.place_of.ensures

@@ -1,0 +1,21 @@
+-- Items of sums whose form is that at a place, or its negative.
+use Rattle.std.specs.Prelude.{◌≡◌, negsuc}
+use Rattle.homeo_syntax.specs.Low.{Expr}
+use Rattle.homeo_meaning.specs.Small.{IsSmall}
+use Rattle.homeo_plan.specs.FormSizes.{Numbers, CanForm}
+use Rattle.homeo_plan.specs.Linear.{Linear, Forms, scale_form, form}
+use Rattle.homeo_plan.specs.Limit.{form_limit}
+use Rattle.homeo_linear.specs.declared.items.Item.{Item}
+use Rattle.homeo_linear.specs.declared.items.Item.TheVariants.{Read, Negated, Other}
+use Rattle.homeo_linear.specs.declared.places.Place.{Place}
+use Rattle.homeo_linear.specs.inner.Places.{plain_place}
+
+-- the form of an expression is made of that at a place
+pub record IsMade (of : Linear → Linear) (e : Expr) (p : Place) : Type 0 where
+  pub made : (f : Forms) → form f e ≡ of (f (plain_place p))
+  pub small : (f : Forms) → CanForm (IsSmall form_limit) f e → Numbers (IsSmall form_limit) (f (plain_place p))
+
+abbrev pub IsItem : Item → Expr → Type 0
+IsItem (Read p) e = IsMade (λ a. a) e p
+IsItem (Negated p) e = IsMade (scale_form (negsuc 0)) e p
+IsItem Other e = Unit {0}

@@ -1,0 +1,103 @@
+//! The row of a whole call of a text, by the table and by the walk.
+
+ghost use Rattle.std.specs.Prelude.{◌≡◌, true};
+ghost use Rattle.homeo_syntax.specs.LowView.{plain_lcommand};
+ghost use Rattle.homeo_syntax.specs.SourceView.{plain_workload};
+ghost use Rattle.homeo_meaning.specs.Bounds.{IsWithin};
+ghost use Rattle.homeo_meaning.specs.Declarations.{declarations};
+ghost use Rattle.homeo_meaning.specs.Ground.{plain_ground};
+ghost use Rattle.homeo_meaning.specs.Schema.{schema_of};
+ghost use Rattle.homeo_split.specs.CanExec.{limit, can_exec};
+ghost use Rattle.homeo_split.specs.States.{state_of};
+ghost use Rattle.homeo_ground.specs.Grounding.{IsCalled};
+
+use crate::calls::{TWICE, accepted, first, undivided};
+use homeo_context::Declarations;
+use homeo_delta::transform;
+use homeo_desugar::desugar;
+use homeo_eval::initial;
+use homeo_ground::Grounding;
+use homeo_meaning::{Accepted, Database, GroundCall};
+use homeo_plan::Row;
+use homeo_print::{ObjectNames, print_row};
+use homeo_split::Split;
+use homeo_syntax::{LCommand, Memory, Workload};
+use homeo_table::{row_at, table, walk};
+use std::alloc::Global;
+use std::test::Fail;
+
+/// Both writes stay within the bounds. The second one's test has what the first one writes put in.
+const ROW: &str = "row 0
+when 0 <= (base(x) + x@0 + x@1) + 1 and (base(x) + x@0 + x@1) + 1 <= 10 and 0 <= (base(x) + (((base(x) + x@0 + x@1) + 1) - base(x) - x@1) + x@1) + 1 and (base(x) + (((base(x) + x@0 + x@1) + 1) - base(x) - x@1) + x@1) + 1 <= 10
+do { write(x@0 = ((base(x) + x@0 + x@1) + 1) - base(x) - x@1); write(x@0 = ((base(x) + x@0 + x@1) + 1) - base(x) - x@1) }
+";
+
+/// The row that a command takes at a database: its place in the table, and the row itself by the table and by the walk.
+#[derive(Drop)]
+struct Taken {
+    place: usize,
+    by_table: Row,
+    by_walk: Row,
+}
+
+fn take(alloc: Global, c: &LCommand, base: &Split) -> Result<Taken, Memory>
+    requires { can_exec limit (plain_lcommand c.now) (state_of base.now) ≡ true }
+{
+    let rows = table(alloc, c)?;
+    let place = row_at(rows.as_slice(), base);
+    let by_table = rows[place].copy(alloc)?;
+    let by_walk = walk(alloc, c, base)?;
+    Ok(Taken {
+        place,
+        by_table,
+        by_walk,
+    })
+}
+
+/// The row that a ground call takes at site 0, on a database that the sites have not written yet.
+fn take_by_call(
+    alloc: Global,
+    w: &Accepted,
+    declared: &Declarations,
+    call: &GroundCall,
+    database: &Database,
+) -> Result<Taken, Memory>
+    requires declared { declared.now ≡ declarations (plain_workload w.now) }
+    requires called { IsCalled (plain_workload w.now) (plain_ground call.now) }
+    requires within { IsWithin (schema_of (plain_workload w.now)) database.now.items }
+{
+    // its ground calls compute small numbers, and its bounds are small
+    let _workload = w.workload();
+    let form = desugar(alloc, call, w, declared)?;
+    let shifted = transform(alloc, &form, 0, 2)?;
+    let base = undivided(alloc, database)?;
+    take(alloc, &shifted, &base)
+}
+
+/// The row that a workload's first ground call takes so, at the starting values.
+fn take_first(alloc: Global, w: &Accepted) -> Result<Taken, Fail> {
+    let declared = Declarations::of(alloc, w)?;
+    let grounding = Grounding::of(alloc, w)?;
+    let call = first(w, grounding.calls())?;
+    let database = initial(alloc, w)?;
+    Ok(take_by_call(alloc, w, &declared, call, &database)?)
+}
+
+fn printed(alloc: Global, w: &Workload, place: usize, row: &Row) -> Result<Vec<u8>, Memory> {
+    let objects = ObjectNames::of(alloc, w)?;
+    let mut out = Vec::new(alloc);
+    print_row(&mut out, w, &objects, place as u64, row)?;
+    Ok(out)
+}
+
+#[test]
+fn the_walk_gives_the_row_of_the_table(rt: HostRuntime) -> Result<(), Fail> {
+    let alloc = rt.alloc();
+    let w = accepted(&rt, alloc, TWICE)?;
+    let taken = take_first(alloc, &w)?;
+    let by_table = printed(alloc, w.workload(), taken.place, &taken.by_table)?;
+    let by_walk = printed(alloc, w.workload(), taken.place, &taken.by_walk)?;
+    assert_eq!(rt; by_walk.as_slice(), ROW.as_bytes());
+    assert_eq!(rt; by_table.as_slice(), ROW.as_bytes());
+    Ok(())
+}
