@@ -43,11 +43,7 @@ impl<'a> TreatyIndex<'a> {
     /// # Errors
     ///
     /// `Memory` when out of memory.
-    pub fn of(
-        alloc: Global,
-        template: &'a Template,
-        site: u32,
-    ) -> Result<TreatyIndex<'a>, Memory>
+    pub fn of(alloc: Global, template: &'a Template, site: u32) -> Result<TreatyIndex<'a>, Memory>
         requires { length template.now.clauses.items + length template.now.freezes.items < 2 ^ 32 }
         ensures site { IfOk result (λ x. x.site ≡ site) }
         ensures template { IfOk result (λ x. x.template ≡ plain_template template.now) }
@@ -55,12 +51,7 @@ impl<'a> TreatyIndex<'a> {
         let all = template.clauses.as_slice();
         let clauses = clause_uses(alloc, site, all)?;
         let first = all.len() as u32;
-        let freezes = freeze_uses(
-            alloc,
-            site,
-            first,
-            template.freezes.as_slice(),
-        )?;
+        let freezes = freeze_uses(alloc, site, first, template.freezes.as_slice())?;
         Ok(TreatyIndex {
             site,
             template,

@@ -1,5 +1,5 @@
 -- The calls of a first client at site 0, and the site that runs them.
-use Rattle.std.proofs.Common.{◌≡◌, ℕ, zero, suc, ◌<◌, ◌≤◌, true, List, [], ◌∷◌, map, length, get_or, slice_get, is_some, ℤ, pos, Option, Some, refl, sym, ap, ◌∙◌, subst, arith}
+use Rattle.std.proofs.Common.{◌≡◌, ℕ, zero, suc, ◌<◌, ◌≤◌, List, [], ◌∷◌, map, length, get_or, slice_get, ℤ, pos, Option, Some, refl, sym, ap, ◌∙◌, subst, arith}
 use Rattle.std.specs.Prelude.{IsSome}
 use Rattle.std.specs.Option.{option_map, option_and_then}
 use Rattle.homeo_syntax.specs.Key.{words as syntax_words}
@@ -9,7 +9,6 @@ use Rattle.homeo_syntax.specs.declared.workload.Call.{Call}
 use Rattle.homeo_syntax.specs.declared.workload.Client.{Client}
 use Rattle.homeo_syntax.specs.declared.workload.Workload.{Workload}
 use Rattle.homeo_meaning.specs.Key.{words as meaning_words}
-use Rattle.homeo_meaning.specs.declared.call.CallId.{CallId}
 use Rattle.homeo_meaning.specs.Schema.{nat_of}
 use Rattle.homeo_meaning.specs.Serial.{numbered}
 use Rattle.homeo_history.specs.Key.{words as history_words}
@@ -39,9 +38,9 @@ first_call w cs client seq same some is site least most =
     ap (λ (l : List Client). slice_get (map plain_client l) 0) (sym same) ∙ first_of_clients cs client some is in
     record {
       exists =
-        subst (λ (o : Option s.Client). IsSome (option_and_then (λ (c : s.Client). numbered seq c.calls) o)) (sym found)
-        (has_number client.calls.items seq least most);
+          subst (λ (o : Option s.Client). IsSome (option_and_then (λ (c : s.Client). numbered seq c.calls) o)) (sym found)
+          (has_number client.calls.items seq least most);
       at_site =
-        ap (λ (o : Option s.Client). option_map (λ (c : s.Client). nat_of c.site.value) o) found
-        ∙ ap (λ (z : ℤ). Some (nat_of z)) site;
+          ap (λ (o : Option s.Client). option_map (λ (c : s.Client). nat_of c.site.value) o) found
+          ∙ ap (λ (z : ℤ). Some (nat_of z)) site;
     }
