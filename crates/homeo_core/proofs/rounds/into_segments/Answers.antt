@@ -1,9 +1,7 @@
 use Rattle.homeo_core.proofs.GatheredSites.{segments_more}
 use Rattle.homeo_site.specs.SiteView.{SiteValue}
-use Rattle.homeo_core.specs.inner.SiteLists.{states}
-use Rattle.homeo_core.specs.Joined.{segments_of}
 use Rattle.std.proofs.lemmas.List.{map-append}
-use Rattle.std.proofs.Common.{ap, map, ◌≡◌, List, [], ◌∷◌, ◌++◌, sym, ◌∙◌}
+use Rattle.std.proofs.Common.{ap, map, ◌≡◌, [], ◌∷◌, ◌++◌, sym, ◌∙◌}
 use Rattle.homeo_syntax.specs.Listed.{Listed}
 use Rattle.homeo_history.specs.HistoryView.{plain_segment}
 use Rattle.homeo_history.specs.declared.history.Segment.{Segment}

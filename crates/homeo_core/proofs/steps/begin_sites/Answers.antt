@@ -1,9 +1,9 @@
 use Rattle.homeo_core.proofs.GatheredSites.{states_more}
 use Rattle.homeo_core.specs.CoreView.{begun_sites}
 use Rattle.homeo_site.specs.SiteView.{SiteValue, StartValue}
-use Rattle.homeo_site.specs.SiteState.{SiteState, begun}
+use Rattle.homeo_site.specs.SiteState.{begun}
 use Rattle.std.proofs.lemmas.List.Elements.{All-push}
-use Rattle.std.proofs.Common.{sym, ap, subst, ◌≡◌, ℕ, ℤ, suc, ◌+◌, List, [], ◌∷◌, ◌++◌, ◌∙◌, arith}
+use Rattle.std.proofs.Common.{sym, ap, subst, ◌≡◌, suc, ◌+◌, [], ◌∷◌, ◌++◌, ◌∙◌, arith}
 use Rattle.homeo_core.specs.Key.{words}
 use Rattle.homeo_core.specs.inner.SiteLists.{states, AreOf}
 use Rattle.homeo_core.proofs.CoreStarts.{none_of, begun_more}

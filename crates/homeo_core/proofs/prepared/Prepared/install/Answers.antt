@@ -2,10 +2,10 @@ use Rattle.homeo_site.specs.Key.{words as site_words}
 use Rattle.homeo_core.specs.inner.Starts.{start_after, waits}
 use Rattle.homeo_core.specs.Key.{words}
 use Rattle.homeo_site.specs.SiteView.{SiteValue, StartValue}
-use Rattle.homeo_site.specs.SiteState.{SiteState, begun, renewed}
+use Rattle.homeo_site.specs.SiteState.{begun}
 use Rattle.homeo_history.specs.HistoryView.{plain_segment, plain_closing}
 use Rattle.homeo_history.proofs.Lists.{length_set}
-use Rattle.std.proofs.Common.{◌≡◌, true, Some, subst, sym, ◌∙◌, ℕ, suc, false, List, ℤ, map, length, ap, slice_set}
+use Rattle.std.proofs.Common.{◌≡◌, true, Some, subst, sym, ◌∙◌, ℕ, suc, false, map, ap, slice_set}
 use Rattle.std.specs.Prelude.{slice_get}
 use Rattle.homeo_core.specs.GatherView.{PreparedValue}
 use Rattle.homeo_core.proofs.StartsOfSites.{no_start, start_there, starts_less, map_set}
@@ -21,8 +21,7 @@ pub invariant_of-self : goal.invariant_of-self
 unfolding words
 invariant_of-self c =
     let f = c.self.inside in
-    let n : ℕ = c.number-number.result in
-    (
+    let n : ℕ = c.number-number.result in (
       c.self.invariant.0,
       starts_less f.compiled.value f.round f.next.items f.starts.items n c.take.new.self c.take.ensures.after c.self.invariant.1,
       length_set f.segments.items n c.renew.result ∙ c.self.invariant.2 ∙ sym (length_set f.starts.items n c.take.new.self),
