@@ -69,7 +69,10 @@ fn core_of(rt: &impl Abort, alloc: Global, text: &str) -> Result<(Core, u32), Fa
 {
     let w = accepted(rt, alloc, text)?;
     let c = compile(alloc, w)?;
-    let clients = u32::try_from(c.workload().workload().clients.as_slice().len()).expect(rt, "many clients");
+    let clients = u32::try_from(c.workload().workload().clients.as_slice().len()).expect(
+        rt,
+        "many clients",
+    );
     let core = Core::begin(alloc, Arc::new(alloc, c)?)?;
     Ok((core, clients))
 }
@@ -90,7 +93,14 @@ mod tests {
                 assert!(rt; other.path == Path::Local);
                 assert_eq!(rt; last.seq, 3);
                 assert_eq!(rt; last.round, 0);
-                assert!(rt; last.path == Path::Cleanup(Broken { clause: 0, sum: 3, bound: 2 }));
+                assert!(rt;
+                    last.path
+                        == Path::Cleanup(Broken {
+                            clause: 0,
+                            sum: 3,
+                            bound: 2
+                        })
+                );
                 assert_eq!(rt; last.prints.as_slice(), [1].as_slice());
             }
             _ => panic!(rt; "four answers"),
