@@ -1,12 +1,12 @@
 -- Sites one after another: gathered, and renewed.
 use Rattle.homeo_core.specs.Key.{words}
-use Rattle.std.proofs.Common.{◌≡◌, ℕ, zero, suc, ◌<◌, List, [], ◌∷◌, length, take, replicate, get_or, Some, ℤ, refl, sym, ap, subst, ◌∙◌, arith, slice_set}
+use Rattle.std.proofs.Common.{◌≡◌, ℕ, zero, suc, ◌<◌, List, [], ◌∷◌, length, take, replicate, get_or, Some, ℤ, refl, sym, ap, subst, ◌∙◌, arith, slice_set, ◌++◌}
 use Rattle.std.specs.Prelude.{slice_get, All}
 use mathlib.Core.Logic.{⊎_elim}
 use Rattle.homeo_history.proofs.Lists.{All-get, all_from_get, set_cases}
 use Rattle.homeo_site.specs.SiteState.{SiteState}
 use Rattle.homeo_site.specs.SiteView.{SiteValue}
-use Rattle.homeo_core.specs.Joined.{plus_deltas, gathered}
+use Rattle.homeo_core.specs.Joined.{plus_deltas, gathered, segments_of}
 use Rattle.homeo_core.specs.inner.SiteLists.{states, IsAt, AreAt, first_from}
 
 pub states_at : (sites : List SiteValue) (i : ℕ) (d : SiteValue) → i < length sites → slice_get (states sites) i ≡ Some (get_or sites i d).state
@@ -85,3 +85,13 @@ length_same (suc n) x = ap suc (length_same n x)
 pub take_whole : {X : Type 0} (xs : List X) → take (length xs) xs ≡ xs
 take_whole [] = refl
 take_whole (x ∷ xs) = ap (λ l. x ∷ l) (take_whole xs)
+
+pub segments_more : (sites : List SiteValue) (x : SiteValue) → segments_of (states (sites ++ x ∷ [])) ≡ segments_of (states sites) ++ x.state.segment ∷ []
+unfolding words
+segments_more [] x = refl
+segments_more (y ∷ sites) x = ap (λ l. y.state.segment ∷ l) (segments_more sites x)
+
+pub states_more : (sites : List SiteValue) (x : SiteValue) → states (sites ++ x ∷ []) ≡ states sites ++ x.state ∷ []
+unfolding words
+states_more [] x = refl
+states_more (y ∷ sites) x = ap (λ l. y.state ∷ l) (states_more sites x)

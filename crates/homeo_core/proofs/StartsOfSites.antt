@@ -1,12 +1,13 @@
 -- Sites that wait for their starts.
 use Rattle.homeo_core.specs.Key.{words}
-use Rattle.std.proofs.Common.{◌≡◌, ℕ, zero, suc, true, List, [], ◌∷◌, ◌++◌, map, length, replicate, Option, Some, None, ℤ, refl, sym, ap, subst, ◌∙◌, inl, inr}
+use Rattle.std.proofs.Common.{◌≡◌, ℕ, zero, suc, true, List, [], ◌∷◌, ◌++◌, map, length, replicate, Option, Some, None, ℤ, refl, sym, ap, subst, ◌∙◌, inl, inr, slice_set}
 use Rattle.std.specs.Prelude.{slice_get, slice_index_or}
 use mathlib.Core.Logic.{⊎_elim}
 use Rattle.std.specs.Prelude.{◌⊎◌}
 use Rattle.std.proofs.lemmas.List.{map-append}
 use Rattle.homeo_syntax.specs.declared.workload.Workload.{Workload}
 use Rattle.homeo_site.specs.SiteView.{StartValue}
+use Rattle.homeo_history.proofs.Lists.{set_cases}
 use Rattle.homeo_core.specs.inner.Starts.{start_after, AreStarts, waits}
 use Rattle.homeo_core.proofs.SitesOfClients.{same_length}
 
@@ -60,3 +61,23 @@ as_many f g xs ys n a b p q = count f xs n a p ∙ sym (count g ys n b q)
 
     count : {X A : Type 0} (f : X → A) (xs : List X) (n : ℕ) (a : A) → map f xs ≡ replicate n a → length xs ≡ n
     count f xs n a p = sym (same_length f xs) ∙ ap length p ∙ length_replicate n a
+
+-- ---- a start that is given to its site
+pub start_there : (starts : List (Option StartValue)) (n : ℕ) (d : Option StartValue) (s : StartValue) → slice_get (map waits starts) n ≡ Some true → slice_index_or starts n d ≡ Some s → slice_get starts n ≡ Some (Some s)
+unfolding words
+start_there [] n d s w e = absurd (cc)
+start_there (o ∷ starts) zero d s w e = ap Some e
+start_there (o ∷ starts) (suc n) d s w e = start_there starts n d s w e
+
+pub starts_less : (w : Workload) (round : ℕ) (next : List ℤ) (starts : List (Option StartValue)) (n : ℕ) (o : Option StartValue) → o ≡ None → AreStarts w round next starts → AreStarts w round next (slice_set starts n o)
+unfolding words
+starts_less w round next starts n o none all i s e =
+    ⊎_elim (λ h. absurd (gone (sym none ∙ h.1))) (λ h. all i s h) (set_cases starts n i o (Some s) e)
+  where
+    gone : None ≡ Some s → ⊥
+    gone q = cc
+
+pub map_set : {X Y : Type 0} (f : X → Y) (xs : List X) (i : ℕ) (x : X) → map f (slice_set xs i x) ≡ slice_set (map f xs) i (f x)
+map_set f [] i x = refl
+map_set f (y ∷ xs) zero x = refl
+map_set f (y ∷ xs) (suc i) x = ap (λ l. f y ∷ l) (map_set f xs i x)

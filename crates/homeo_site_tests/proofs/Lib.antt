@@ -1,2 +1,4 @@
+pub mod FirstCalls
 pub mod Pushes
 pub mod ResidualExample
+pub mod SiteSteps

@@ -5,3 +5,5 @@
 mod example;
 #[cfg(test)]
 mod residuals;
+#[cfg(test)]
+mod sites;

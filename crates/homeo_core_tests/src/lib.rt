@@ -1,0 +1,4 @@
+//! Texts run by a core, call by call.
+#![tactic(auto)]
+
+mod steps;

@@ -1,0 +1,121 @@
+//! Calls of two clients at two sites.
+
+ghost use Rattle.std.specs.Prelude.{◌≡◌, ◌≤◌, length, IfOk};
+ghost use Rattle.homeo_syntax.specs.SourceView.{plain_workload};
+ghost use Rattle.homeo_core.specs.CoreView.{CoreValue};
+
+use homeo_build::compile::compile;
+use homeo_core::Core;
+use homeo_history::{Answer, Path};
+use homeo_meaning::{Accepted, Purpose};
+use homeo_plan::Broken;
+use homeo_reader::{ReadRefusal, read};
+use homeo_rules::{RuleRefusal, accept};
+use homeo_syntax::List;
+use std::alloc::{AllocError, Global};
+use std::process::Abort;
+use std::sync::Arc;
+use std::test::Fail;
+
+/// Of the slack 4 of each clause on the stock, each site has 2.
+const STOCK: &str = "workload 1
+sites 2
+object stock in 0..10 = 5
+transaction buy(n in 1..3) { s := read(stock); if n <= s then { write(stock = s - n); print(1) } else print(0) }
+client a at 0 { buy(1); buy(1); buy(1) }
+client b at 1 { buy(1) }
+schedule a a b a
+end
+";
+
+/// Reads a text that is accepted.
+fn accepted(rt: &impl Abort, alloc: Global, text: &str) -> Result<Accepted, Fail> {
+    assert!(rt; text.len() <= 1_048_576);
+    let workload = match read(alloc, text.as_bytes()) {
+        Ok(workload) => workload,
+        Err(ReadRefusal::Memory) => return Err(Fail::from(AllocError)),
+        Err(ReadRefusal::Refused(refusal)) => panic!(rt; "refused {refusal:?}"),
+    };
+    match accept(alloc, workload, Purpose::Steps) {
+        Ok(w) => Ok(w),
+        Err(RuleRefusal::Memory) => Err(Fail::from(AllocError)),
+        Err(RuleRefusal::Refused(refusal)) => panic!(rt; "refused {refusal:?}"),
+    }
+}
+
+/// Makes the next call of each of these clients, of whom there are so many.
+fn step_all(
+    alloc: Global,
+    core: &mut Core,
+    clients: u32,
+    order: &[u32],
+) -> Result<List<Answer>, Fail>
+    requires { clients ≤ length (plain_workload core.old.work).clients }
+{
+    let mut answers = List::new(alloc);
+    for client in order {
+        if *client >= clients || core.left(*client) == 0 {
+            return Err(Fail::from("no call is left"));
+        }
+        let answer = core.step(alloc, *client)?;
+        answers.push(answer)?;
+    }
+    Ok(answers)
+}
+
+/// The core of a text, and how many clients the text has.
+fn core_of(rt: &impl Abort, alloc: Global, text: &str) -> Result<(Core, u32), Fail>
+    ensures { IfOk result (λ p. p.1 ≤ length (plain_workload p.0.work).clients) }
+{
+    let w = accepted(rt, alloc, text)?;
+    let c = compile(alloc, w)?;
+    let clients = u32::try_from(c.workload().workload().clients.as_slice().len()).expect(
+        rt,
+        "many clients",
+    );
+    let core = Core::begin(alloc, Arc::new(alloc, c)?)?;
+    Ok((core, clients))
+}
+
+#[cfg(test)]
+mod tests {
+    use super::*;
+
+    #[test]
+    fn a_call_that_breaks_its_treaty_closes_the_round(rt: HostRuntime) -> Result<(), Fail> {
+        let (mut core, clients) = core_of(&rt, rt.alloc(), STOCK)?;
+        let answers = step_all(rt.alloc(), &mut core, clients, [0, 0, 1, 0].as_slice())?;
+        match answers.as_slice() {
+            [first, _, other, last] => {
+                assert_eq!(rt; first.prints.as_slice(), [1].as_slice());
+                assert!(rt; first.path == Path::Local);
+                assert_eq!(rt; other.site, 1);
+                assert!(rt; other.path == Path::Local);
+                assert_eq!(rt; last.seq, 3);
+                assert_eq!(rt; last.round, 0);
+                assert!(rt;
+                    last.path
+                        == Path::Cleanup(Broken {
+                            clause: 0,
+                            sum: 3,
+                            bound: 2
+                        })
+                );
+                assert_eq!(rt; last.prints.as_slice(), [1].as_slice());
+            }
+            _ => panic!(rt; "four answers"),
+        }
+        let history = core.finish(rt.alloc())?;
+        assert_eq!(rt; history.last.as_slice(), [1].as_slice());
+        match history.rounds.as_slice() {
+            [closed, open] => {
+                assert_eq!(rt; closed.base.as_slice(), [5].as_slice());
+                assert!(rt; closed.closing.is_some());
+                assert_eq!(rt; open.base.as_slice(), [1].as_slice());
+                assert!(rt; open.closing.is_none());
+            }
+            _ => panic!(rt; "two rounds"),
+        }
+        Ok(())
+    }
+}
