@@ -71,20 +71,11 @@ fn core_of(rt: &impl Abort, alloc: Global, text: &str) -> Result<Core, Fail>
 {
     let w = accepted(rt, alloc, text)?;
     let c = compile(alloc, w)?;
-<<<<<<< HEAD
-    let clients = u32::try_from(c.workload().workload().clients.as_slice().len()).expect(
-        rt,
-        "many clients",
-    );
-    let core = Core::begin(alloc, Arc::new(alloc, c)?)?;
-    Ok((core, clients))
-=======
     if client_count(&c) < 2 {
         return Err(Fail::from("two clients"));
     }
     let shared = Arc::new(alloc, c)?;
     Ok(Core::begin(alloc, shared)?)
->>>>>>> 8839903cfe33b64a88e0289e660480c215aa0082
 }
 
 #[cfg(test)]
@@ -103,14 +94,7 @@ mod tests {
                 assert!(rt; other.path == Path::Local);
                 assert_eq!(rt; last.seq, 3);
                 assert_eq!(rt; last.round, 0);
-                assert!(rt;
-                    last.path
-                        == Path::Cleanup(Broken {
-                            clause: 0,
-                            sum: 3,
-                            bound: 2
-                        })
-                );
+                assert!(rt; last.path == Path::Cleanup(Broken { clause: 0, sum: 3, bound: 2 }));
                 assert_eq!(rt; last.prints.as_slice(), [1].as_slice());
             }
             _ => panic!(rt; "four answers"),
