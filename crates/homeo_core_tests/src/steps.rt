@@ -94,7 +94,14 @@ mod tests {
                 assert!(rt; other.path == Path::Local);
                 assert_eq!(rt; last.seq, 3);
                 assert_eq!(rt; last.round, 0);
-                assert!(rt; last.path == Path::Cleanup(Broken { clause: 0, sum: 3, bound: 2 }));
+                assert!(rt;
+                    last.path
+                        == Path::Cleanup(Broken {
+                            clause: 0,
+                            sum: 3,
+                            bound: 2
+                        })
+                );
                 assert_eq!(rt; last.prints.as_slice(), [1].as_slice());
             }
             _ => panic!(rt; "four answers"),
