@@ -1,4 +1,5 @@
 //! Texts run by a core, call by call.
 #![tactic(auto)]
 
+#[cfg(test)]
 mod steps;

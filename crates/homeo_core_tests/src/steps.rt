@@ -2,8 +2,8 @@
 
 ghost use Rattle.std.specs.Prelude.{◌≡◌, ◌≤◌, length, IfOk};
 ghost use Rattle.homeo_syntax.specs.SourceView.{plain_workload};
-ghost use Rattle.homeo_core.specs.CoreView.{CoreValue};
 
+use homeo_build::Compiled;
 use homeo_build::compile::compile;
 use homeo_core::Core;
 use homeo_history::{Answer, Path};
@@ -43,18 +43,13 @@ fn accepted(rt: &impl Abort, alloc: Global, text: &str) -> Result<Accepted, Fail
     }
 }
 
-/// Makes the next call of each of these clients, of whom there are so many.
-fn step_all(
-    alloc: Global,
-    core: &mut Core,
-    clients: u32,
-    order: &[u32],
-) -> Result<List<Answer>, Fail>
-    requires { clients ≤ length (plain_workload core.old.work).clients }
+/// Makes the next call of each of these clients, of the first two.
+fn step_all(alloc: Global, core: &mut Core, order: &[u32]) -> Result<List<Answer>, Fail>
+    requires { 2 ≤ length (plain_workload core.old.work).clients }
 {
     let mut answers = List::new(alloc);
     for client in order {
-        if *client >= clients || core.left(*client) == 0 {
+        if *client >= 2 || core.left(*client) == 0 {
             return Err(Fail::from("no call is left"));
         }
         let answer = core.step(alloc, *client)?;
@@ -63,18 +58,24 @@ fn step_all(
     Ok(answers)
 }
 
-/// The core of a text, and how many clients the text has.
-fn core_of(rt: &impl Abort, alloc: Global, text: &str) -> Result<(Core, u32), Fail>
-    ensures { IfOk result (λ p. p.1 ≤ length (plain_workload p.0.work).clients) }
+#[tactic(auto, unfolding(homeo_syntax::specs::Key::words))]
+fn client_count(c: &Compiled) -> u64
+    ensures { result ≡ length (plain_workload c.now).clients }
+{
+    c.workload().workload().clients.as_slice().len() as u64
+}
+
+/// The core of a text with two clients.
+fn core_of(rt: &impl Abort, alloc: Global, text: &str) -> Result<Core, Fail>
+    ensures { IfOk result (λ core. 2 ≤ length (plain_workload core.work).clients) }
 {
     let w = accepted(rt, alloc, text)?;
     let c = compile(alloc, w)?;
-    let clients = u32::try_from(c.workload().workload().clients.as_slice().len()).expect(
-        rt,
-        "many clients",
-    );
-    let core = Core::begin(alloc, Arc::new(alloc, c)?)?;
-    Ok((core, clients))
+    if client_count(&c) < 2 {
+        return Err(Fail::from("two clients"));
+    }
+    let shared = Arc::new(alloc, c)?;
+    Ok(Core::begin(alloc, shared)?)
 }
 
 #[cfg(test)]
@@ -83,8 +84,8 @@ mod tests {
 
     #[test]
     fn a_call_that_breaks_its_treaty_closes_the_round(rt: HostRuntime) -> Result<(), Fail> {
-        let (mut core, clients) = core_of(&rt, rt.alloc(), STOCK)?;
-        let answers = step_all(rt.alloc(), &mut core, clients, [0, 0, 1, 0].as_slice())?;
+        let mut core = core_of(&rt, rt.alloc(), STOCK)?;
+        let answers = step_all(rt.alloc(), &mut core, [0, 0, 1, 0].as_slice())?;
         match answers.as_slice() {
             [first, _, other, last] => {
                 assert_eq!(rt; first.prints.as_slice(), [1].as_slice());
