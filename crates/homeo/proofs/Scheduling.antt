@@ -1,6 +1,6 @@
 -- The calls of a schedule that names each client as often as it has calls: what one name more makes of them.
-use Rattle.std.proofs.Common.{◌≡◌, ◌<◌, ◌≤◌, ◌+◌, ◌-◌, ◌^◌, ◌∙◌, ◌++◌, ◌==◌, ℕ, zero, suc, Bool, true, false, cond, List, [], ◌∷◌, length, get_or, refl, sym, ap, subst, arith, add-zero, append_assoc, append-nil}
-use Rattle.std.specs.Prelude.{All, Option, Some, None, slice_get}
+use Rattle.std.proofs.Common.{◌≡◌, ◌<◌, ◌≤◌, ◌+◌, ◌-◌, ◌∙◌, ◌++◌, ◌==◌, ℕ, zero, suc, Bool, true, false, cond, List, [], ◌∷◌, length, get_or, refl, sym, ap, subst, arith, add-zero, append_assoc, append-nil}
+use Rattle.std.specs.Prelude.{Option, Some, None, slice_get}
 use Rattle.std.specs.Option.{option_map_or}
 use Rattle.std.proofs.lemmas.List.Sums.{sum_by-cons, sum_by-append}
 use Rattle.std.proofs.lemmas.Bool.Decides.{Decides-eqb}
@@ -50,7 +50,7 @@ named_there ns n d less =
     subst (λ (i : ℕ). get_or ns i d ≡ n) same there
 
 -- ---- counts
-pub times-cons : (n : ℕ) (x : Ident) (xs : List Ident) → times n (x ∷ xs) ≡ cond (x.name == n) 1 0 + times n xs
+times-cons : (n : ℕ) (x : Ident) (xs : List Ident) → times n (x ∷ xs) ≡ cond (x.name == n) 1 0 + times n xs
 times-cons n x xs = sum_by-cons (λ (y : Ident). cond (y.name == n) 1 0) x xs
 
 pub times-snoc : (n : ℕ) (xs : List Ident) (x : Ident) → times n (xs ++ x ∷ []) ≡ times n xs + cond (x.name == n) 1 0
@@ -111,7 +111,3 @@ calls_from-snoc ns before (y ∷ xs) x =
     let first : CallId = record { client = place_of ns y.name; seq = suc (times y.name before) } in
     ap (λ (l : List CallId). first ∷ l) (calls_from-snoc ns (before ++ y ∷ []) xs x)
     ∙ ap (λ (l : List Ident). first ∷ calls_from ns (before ++ y ∷ []) xs ++ record { client = place_of ns x.name; seq = suc (times x.name l) } ∷ []) (append_assoc before (y ∷ []) xs)
-
--- the number of each client that the schedule names is small
-pub clients_few : (w : s.Workload) → IsWholeOrder w → All (λ x. place_of (client_names w) x.name < 2 ^ 32) (order_of w.schedule)
-clients_few w order i d within = omega (arith, order.named i d within, order.few)

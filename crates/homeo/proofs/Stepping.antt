@@ -60,7 +60,7 @@ module _ (w : s.Workload) (counts : List ℕ) (names : List Ident) (x : Ident) (
   counted_more n less = counted_at (x.name == n) n less refl ∙ sym (times-snoc n names x)
 
 -- ---- one step more
-pub made_more : (w : s.Workload) (x x' : CoreValue) (a : Answer) (names : List Ident) (name : Ident) → HasMade w names x → place_of (client_names w) name.name < length w.clients
+made_more : (w : s.Workload) (x x' : CoreValue) (a : Answer) (names : List Ident) (name : Ident) → HasMade w names x → place_of (client_names w) name.name < length w.clients
     → IsStep x (place_of (client_names w) name.name) a x' → start_of x'.book ≡ start_of x.book
     → GoesOnBy (plain_workload x.work) (core_history x) (next_call x (place_of (client_names w) name.name)) (core_history x') → HasMade w (names ++ name ∷ []) x'
 unfolding cores
@@ -81,7 +81,7 @@ made_more w x x' a names name made named step start goes =
     }
 
 -- the client has a call left
-pub left_here : (w : s.Workload) (x : CoreValue) (before names : List Ident) (name : Ident) → HasMade w before x → IsWholeOrder w → before ++ name ∷ names ≡ order_of w.schedule
+left_here : (w : s.Workload) (x : CoreValue) (before names : List Ident) (name : Ident) → HasMade w before x → IsWholeOrder w → before ++ name ∷ names ≡ order_of w.schedule
     → place_of (client_names w) name.name < length w.clients → slice_index_or x.counts (place_of (client_names w) name.name) 0 < call_count (plain_workload x.work) (place_of (client_names w) name.name)
 left_here w x before names name made order whole named =
     let count : slice_index_or x.counts (place_of (client_names w) name.name) 0 ≡ times name.name before = made.counted name.name named in
@@ -94,7 +94,7 @@ left_here w x before names name made order whole named =
 pub read_again : (order : List Ident) (i : ℕ) (d : Ident) → i < length order → get_or order i d ≡ get_or order i (get_or order i d)
 read_again order i d within = grind (arith, common_steps)
 
-pub named_next : (w : s.Workload) (order : List Ident) (i : ℕ) (name : Ident) → IsWholeOrder w → order ≡ order_of w.schedule → i < length order → name ≡ get_or order i name
+named_next : (w : s.Workload) (order : List Ident) (i : ℕ) (name : Ident) → IsWholeOrder w → order ≡ order_of w.schedule → i < length order → name ≡ get_or order i name
     → place_of (client_names w) name.name < length w.clients
 named_next w order i name whole is within at =
     let all : All (λ (x : Ident). place_of (client_names w) x.name < length w.clients) order = subst (All (λ (x : Ident). place_of (client_names w) x.name < length w.clients)) (sym is) whole.named in
