@@ -1,7 +1,8 @@
 //! Calls of two clients at two sites.
 
-ghost use Rattle.std.specs.Prelude.{◌≡◌, ◌≤◌, length, IfOk};
+ghost use Rattle.std.specs.Prelude.{◌≡◌, ◌<◌, ◌≤◌, length, slice_index_or, IfOk};
 ghost use Rattle.homeo_syntax.specs.SourceView.{plain_workload};
+ghost use Rattle.homeo_history.specs.Legal.{call_count};
 
 use homeo_build::Compiled;
 use homeo_build::compile::compile;
@@ -11,7 +12,7 @@ use homeo_meaning::{Accepted, Purpose};
 use homeo_plan::Broken;
 use homeo_reader::{ReadRefusal, read};
 use homeo_rules::{RuleRefusal, accept};
-use homeo_syntax::List;
+use homeo_syntax::{List, Memory};
 use std::alloc::{AllocError, Global};
 use std::process::Abort;
 use std::sync::Arc;
@@ -43,6 +44,18 @@ fn accepted(rt: &impl Abort, alloc: Global, text: &str) -> Result<Accepted, Fail
     }
 }
 
+/// Makes a client's next call, and makes it again where memory was refused: the core is as it was then.
+fn step_again(alloc: Global, core: &mut Core, client: u32) -> Result<Answer, Memory>
+    requires exists { client < length (plain_workload core.old.work).clients }
+    requires left { slice_index_or core.old.counts client 0 < call_count (plain_workload core.old.work) client }
+    ensures { core.new.work ≡ core.old.work }
+{
+    match core.step(alloc, client) {
+        Ok(answer) => Ok(answer),
+        Err(_) => core.step(alloc, client),
+    }
+}
+
 /// Makes the next call of each of these clients, of the first two.
 fn step_all(alloc: Global, core: &mut Core, order: &[u32]) -> Result<List<Answer>, Fail>
     requires { 2 ≤ length (plain_workload core.old.work).clients }
@@ -52,7 +65,7 @@ fn step_all(alloc: Global, core: &mut Core, order: &[u32]) -> Result<List<Answer
         if *client >= 2 || core.left(*client) == 0 {
             return Err(Fail::from("no call is left"));
         }
-        let answer = core.step(alloc, *client)?;
+        let answer = step_again(alloc, core, *client)?;
         answers.push(answer)?;
     }
     Ok(answers)
