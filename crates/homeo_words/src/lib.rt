@@ -1,0 +1,11 @@
+//! The command line: the commands, and which words are which command.
+#![tactic(auto)]
+
+mod command;
+mod line;
+mod numeral;
+mod reading;
+#[cfg(test)]
+mod tests;
+
+pub use command::Command;
