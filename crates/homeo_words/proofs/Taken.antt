@@ -4,6 +4,7 @@ use Rattle.std.specs.Prelude.{option_map}
 use Rattle.clap.specs.Words.{Row, Text, first_of, is_simple, subcommand_of, takes}
 use Rattle.clap.proofs.OnLiterals.{clap_on_literals}
 use Rattle.homeo_words.specs.inner.App.{homeo}
+use Rattle.homeo_words.proofs.Loads.{load_words}
 
 pub simple : is_simple homeo ≡ true
 simple = refl
@@ -37,9 +38,6 @@ unfolding clap_on_literals
 treaty_taken = record { taken = refl; name = refl }
 
 -- ---- a load
-abbrev pub load_words : Text → Text → List Text
-load_words n c = codes "load" ∷ n ∷ c ∷ []
-
 abbrev found : Text → Text → Option (Text × List Row)
 found n c = subcommand_of homeo (load_words n c)
 
