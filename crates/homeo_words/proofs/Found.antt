@@ -1,5 +1,5 @@
 -- What `clap` finds in the words of a command.
-use Rattle.std.proofs.Common.{◌≡◌, ◌≢◌, ◌∙◌, ℕ, true, false, List, Option, Some, None, [], ◌∷◌, codes, refl, sym, ap, subst, inl, inr}
+use Rattle.std.proofs.Common.{◌≡◌, ◌≢◌, ◌∙◌, ℕ, true, List, Option, Some, None, [], ◌∷◌, codes, refl, sym, ap, subst, inl, inr}
 use Rattle.std.specs.Prelude.{◌⊎◌, option_map}
 use Rattle.std.specs.Borrow.{Bor}
 use Rattle.clap.specs.Words.{Row, Text, first_of, first_value, rows_of, subcommand_of, subcommand_name_of, subcommand_rows_of, takes}
@@ -117,3 +117,10 @@ module _ (words : List Text) (found : Option (Text × List Row)) (same : found �
     number_found = ap (value_in (codes "NUMBER")) (same_load load) ∙ load.taken.2;
     calls_found = ap (value_in (codes "CALLS")) (same_load load) ∙ load.taken.3;
   }
+
+  -- the two values that were found, behind `load`, are the words
+  pub load_said : (l : LoadFound) (n c : Text) → Some n ≡ Some l.number → Some c ≡ Some l.calls → Some (load_words n c) ≡ Some words
+  load_said l n c number calls =
+      let e : n ≡ l.number = cc in
+      let f : c ≡ l.calls = cc in
+      (λ t. Some (load_words (e t) (f t))) ∙ ap Some l.words_are

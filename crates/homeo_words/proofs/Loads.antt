@@ -1,5 +1,5 @@
 -- Three words that are a load.
-use Rattle.std.proofs.Common.{◌≡◌, ◌≤◌, ℕ, Bool, true, false, List, [], ◌∷◌, codes, length, subst, sym, ap, ◌∙◌, refl, arith}
+use Rattle.std.proofs.Common.{◌≡◌, ◌≤◌, ℕ, Bool, true, false, List, [], ◌∷◌, codes, subst, refl, arith}
 use Rattle.std.specs.Prelude.{◌&&◌, nat_le}
 use Rattle.std.specs.List.{list_all}
 use Rattle.std.proofs.lemmas.Bool.Decides.{nat_tests}
@@ -7,7 +7,7 @@ use Rattle.homeo_syntax.specs.Lexemes.{is_digit}
 use Rattle.homeo_words.specs.declared.command.Command.{Command}
 use Rattle.homeo_words.specs.declared.command.Command.TheVariants.{Steps, Run, Tables, Treaty, Load}
 use Rattle.homeo_words.specs.Numeral.{IsNumeral}
-use Rattle.homeo_words.specs.Command.{SayLoad, Say}
+use Rattle.homeo_words.specs.Command.{Say}
 
 abbrev pub load_words : List ℕ → List ℕ → List (List ℕ)
 load_words n d = codes "load" ∷ n ∷ d ∷ []
@@ -55,7 +55,9 @@ begins_with_digit least most (b ∷ bytes) v is =
     let here = both (is_digit b) (list_all is_digit bytes) is.digits in
     let digit = both (nat_le 48 b) (nat_le b 57) here.0 in
     record {
-      first = b; rest = bytes; is = refl;
+      first = b;
+      rest = bytes;
+      is = refl;
       low = (let q : nat_le 48 b ≡ true = digit.0 in grind (arith, nat_tests));
       high = (let q : nat_le b 57 ≡ true = digit.1 in grind (arith, nat_tests));
     }

@@ -52,8 +52,14 @@ fn other_words_are_no_command(rt: HostRuntime) -> Result<(), Fail> {
 #[test]
 fn other_numbers_are_no_command(rt: HostRuntime) -> Result<(), Fail> {
     let alloc = rt.alloc();
-    assert_eq!(rt; command_of(alloc, &["load", "18446744073709551616", "1"])?, None);
-    assert_eq!(rt; command_of(alloc, &["load", "000000000000000000001", "1"])?, None);
+    assert_eq!(rt;
+        command_of(alloc, &["load", "18446744073709551616", "1"])?,
+        None
+    );
+    assert_eq!(rt;
+        command_of(alloc, &["load", "000000000000000000001", "1"])?,
+        None
+    );
     assert_eq!(rt; command_of(alloc, &["load", "", "1"])?, None);
     assert_eq!(rt; command_of(alloc, &["load", "+1", "1"])?, None);
     assert_eq!(rt; command_of(alloc, &["load", "1", "0"])?, None);

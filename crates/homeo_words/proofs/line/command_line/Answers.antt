@@ -14,10 +14,10 @@ returns c =
     let run_is : app_of c.in_ok-subcommand-2.field-0 ≡ with_word (with_word empty (codes "steps")) (codes "run") =
     c.in_ok-subcommand-2.ensures.shape (search rules) ∙ ap₂ with_subcommand steps_is (ap (λ (a : App). a.top) c.new-3.ensures.app) in
     let tables_is : app_of c.in_ok-subcommand-3.field-0
-        ≡ with_word (with_word (with_word empty (codes "steps")) (codes "run")) (codes "tables") =
+    ≡ with_word (with_word (with_word empty (codes "steps")) (codes "run")) (codes "tables") =
     c.in_ok-subcommand-3.ensures.shape (search rules) ∙ ap₂ with_subcommand run_is (ap (λ (a : App). a.top) c.new-4.ensures.app) in
     let treaty_is : app_of c.in_ok-subcommand-4.field-0
-        ≡ with_word (with_word (with_word (with_word empty (codes "steps")) (codes "run")) (codes "tables")) (codes "treaty") =
+    ≡ with_word (with_word (with_word (with_word empty (codes "steps")) (codes "run")) (codes "tables")) (codes "treaty") =
     c.in_ok-subcommand-4.ensures.shape (search rules)
     ∙ ap₂ with_subcommand tables_is (ap (λ (a : App). a.top) c.new-5.ensures.app) in
     c.in_ok-homeo.ensures.shape c.in_ok-load.ensures.local ∙ ap₂ with_subcommand treaty_is (ap (λ (a : App). a.top) c.in_ok-load.ensures.app)

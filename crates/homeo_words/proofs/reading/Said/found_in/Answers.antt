@@ -1,8 +1,7 @@
-use Rattle.std.proofs.Common.{◌≡◌, ◌≢◌, ◌∙◌, true, false, List, Option, Some, None, [], ◌∷◌, codes, sym, ap}
-use Rattle.std.specs.Prelude.{option_map}
+use Rattle.std.proofs.Common.{◌≡◌, ◌≢◌, ◌∙◌, true, Some, None, codes, sym, ap}
 use Rattle.std.proofs.lemmas.Slice.Eq.{bytes_eq-Decides}
-use Rattle.clap.specs.Words.{Text, found_of, subcommand_rows_of}
-use Rattle.homeo_words.proofs.Found.{all_taken, name_of_rows, value_is, some_name, plain_words, load_found}
+use Rattle.clap.specs.Words.{found_of, subcommand_rows_of}
+use Rattle.homeo_words.proofs.Found.{all_taken, name_of_rows, value_is, some_name, plain_words, load_found, load_said}
 use Rattle.homeo_words.proofs.reading.Said.found_in.Goals as goal
 
 pub returns-in_err-name : goal.returns-in_err-name
@@ -40,9 +39,7 @@ returns-in_ok-calls c = λ words command said same.
     value_is found (found_of c.in_ok-name.arguments.now) (codes "NUMBER") load.number _ (sym c.in_ok-name.ensures.rows) c.in_ok-number.ensures load.number_found in
     let calls : Some c.in_ok-calls.calls.now ≡ Some load.calls =
     value_is found (found_of c.in_ok-name.arguments.now) (codes "CALLS") load.calls _ (sym c.in_ok-name.ensures.rows) c.in_ok-calls.ensures load.calls_found in
-    let e : c.in_ok-number.number.now ≡ load.number = cc in
-    let f : c.in_ok-calls.calls.now ≡ load.calls = cc in
-    (λ t. Some (codes "load" ∷ e t ∷ f t ∷ [])) ∙ ap Some load.words_are
+    load_said words found same c.in_ok-name.name.now (c.in_ok-name.ensures.name ∙ sym (name_of_rows m)) load c.in_ok-number.number.now c.in_ok-calls.calls.now number calls
 
 pub returns-else-eq : goal.returns-else-eq
 returns-else-eq c = λ words command said same.
