@@ -1,5 +1,5 @@
 -- The workload of each load is accepted.
-use Rattle.std.proofs.Common.{◌≡◌, ◌≤◌, ℕ, List, [], ◌∷◌, ◌++◌, map, length, arith}
+use Rattle.std.proofs.Common.{◌≡◌, ◌≤◌, ℕ, List, [], map, length, arith}
 use Rattle.std.specs.Prelude.{All}
 use Rattle.homeo_meaning.specs.Key.{words as meaning}
 use Rattle.homeo_meaning.specs.Acceptance.{IsAccepted}

@@ -1,5 +1,5 @@
 -- One call of a load, run on a database that it does not lead out of its bounds.
-use Rattle.std.proofs.Common.{◌≡◌, ◌<◌, ◌≤◌, ℕ, zero, suc, ◌+◌, Bool, true, false, cond, List, [], ◌∷◌, map, ℤ, pos, Option, Some, None, refl, sym, ap, ◌∙◌, arith}
+use Rattle.std.proofs.Common.{◌≡◌, ◌<◌, ◌≤◌, ℕ, ◌+◌, Bool, true, false, cond, List, [], ◌∷◌, map, ℤ, pos, refl, ap, ◌∙◌, arith}
 use Rattle.std.specs.Prelude.{◌==◌, ◌&&◌, ◌+ℤ◌, int_le}
 use Rattle.std.proofs.lemmas.Bool.Decides.{nat_tests}
 use Rattle.homeo_meaning.specs.Key.{words as meaning}
@@ -8,9 +8,7 @@ use Rattle.homeo_meaning.specs.Serial.{Outcome, values_of, values_from, database
 use Rattle.homeo_load.specs.Key.{words}
 use Rattle.homeo_load.specs.Draws.{Addition}
 use Rattle.homeo_load.specs.Load.{transaction_name, load_of, eight}
-use Rattle.homeo_load.specs.Sums.{added_to}
 use Rattle.homeo_load.proofs.Cases.{by_eight}
-use Rattle.homeo_load.proofs.DrawnAdditions.{IsAddition}
 
 -- the database whose objects have these values
 abbrev pub database_of : (ℕ → ℕ) → List ℤ

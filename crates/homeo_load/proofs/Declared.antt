@@ -1,5 +1,5 @@
 -- The declarations and the calls of a load have no fault.
-use Rattle.std.proofs.Common.{◌≡◌, ◌<◌, ◌≤◌, ℕ, ◌%◌, true, false, List, [], ◌∷◌, ◌++◌, map, flat_map, pos, refl, arith}
+use Rattle.std.proofs.Common.{◌≡◌, ◌<◌, ◌≤◌, ℕ, ◌%◌, false, List, [], ◌∷◌, map, flat_map, pos, refl, arith}
 use Rattle.std.specs.Prelude.{All, int_le}
 use Rattle.std.proofs.lemmas.List.Elements.{All-head, All-tail}
 use Rattle.std.proofs.lemmas.Bool.Decides.{nat_tests}
@@ -9,12 +9,12 @@ use Rattle.homeo_meaning.specs.ListRules.{each, duplicate}
 use Rattle.homeo_meaning.specs.GlobalNames.{global_names, scope_of}
 use Rattle.homeo_meaning.specs.NumberRules.{object_faults, site_faults}
 use Rattle.homeo_meaning.specs.CallRules.{call_faults, client_faults, schedule_faults}
-use Rattle.homeo_meaning.specs.Faults.{of_relation, of_transaction, declared_faults}
+use Rattle.homeo_meaning.specs.Faults.{of_transaction, declared_faults}
 use Rattle.homeo_meaning.specs.declared.call.Purpose.TheVariants.{Run}
 use Rattle.homeo_meaning.specs.declared.rules.Fault.{Fault}
 use Rattle.homeo_load.specs.Key.{words}
 use Rattle.homeo_load.specs.Draws.{Addition}
-use Rattle.homeo_load.specs.Load.{ident, number, load_transaction, load_call, load_client, load_of, eight, dealt}
+use Rattle.homeo_load.specs.Load.{number, load_call, load_client, load_of, eight, dealt}
 use Rattle.homeo_load.proofs.Cases.{by_eight, by_nine}
 use Rattle.homeo_load.proofs.DrawnAdditions.{IsAddition}
 use Rattle.homeo_load.proofs.Dealt.{dealt_fit}

@@ -1,15 +1,9 @@
--- The first draws, and what each draw chooses.
-use Rattle.std.proofs.Common.{◌≡◌, ℕ, zero, suc, ◌+◌, ◌<◌, ◌≤◌, ◌%◌, List, [], ◌∷◌, length, refl, arith}
+-- What each draw chooses.
+use Rattle.std.proofs.Common.{◌≡◌, ℕ, zero, suc, ◌<◌, ◌≤◌, length, refl, arith}
 use Rattle.std.specs.Prelude.{All}
 use Rattle.std.proofs.lemmas.List.Elements.{All-nil, All-cons}
 use Rattle.homeo_load.specs.Key.{words}
 use Rattle.homeo_load.specs.Draws.{Addition, next_state, drawn, chosen, additions}
-
-first_draw : drawn (next_state 1) ≡ 1817669548
-first_draw = refl
-
-second_draw : drawn (next_state (next_state 1)) ≡ 2187888307
-second_draw = refl
 
 -- an object from 0 to 7, a number from 1 to 9
 pub record IsAddition (a : Addition) : Type 0 where

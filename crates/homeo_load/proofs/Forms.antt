@@ -1,15 +1,15 @@
 -- The L forms of the calls of a load: their size and depth, their prints, their weights.
-use Rattle.std.proofs.Common.{◌≡◌, ℕ, ◌+◌, ◌<◌, ◌≤◌, true, List, [], ◌∷◌, pos, Some, refl, arith}
+use Rattle.std.proofs.Common.{◌≡◌, ℕ, ◌<◌, ◌≤◌, true, List, [], ◌∷◌, pos, refl}
 use Rattle.homeo_meaning.specs.Key.{words as meaning}
 use Rattle.homeo_meaning.specs.Schema.{schema_of}
 use Rattle.homeo_meaning.specs.CallForm.{call_form}
 use Rattle.homeo_meaning.specs.LowSizes.{Extent, prints_in}
 use Rattle.homeo_meaning.specs.LowWeights.{first_weights, is_light}
-use Rattle.homeo_meaning.specs.GlobalNames.{SitedCall, called}
+use Rattle.homeo_meaning.specs.GlobalNames.{SitedCall}
 use Rattle.homeo_meaning.specs.SizeRules.{extent_of, heaviest}
 use Rattle.homeo_load.specs.Key.{words}
 use Rattle.homeo_load.specs.Draws.{Addition}
-use Rattle.homeo_load.specs.Load.{ident, transaction_name, load_transaction, load_of}
+use Rattle.homeo_load.specs.Load.{ident, transaction_name, load_of}
 use Rattle.homeo_load.proofs.Cases.{by_eight, by_nine}
 
 -- the call of addp(n) at a site

@@ -4,7 +4,7 @@ use Rattle.std.specs.Prelude.{All, ◌==◌, ◌||◌, ◌&&◌}
 use Rattle.std.specs.Ordering.{int_eq}
 use Rattle.std.specs.List.{list_any, IsDistinct}
 use Rattle.std.proofs.lemmas.List.{length-map, map-append}
-use Rattle.std.proofs.lemmas.List.Elements.{All-nil, All-cons, All-head, All-tail, All-push}
+use Rattle.std.proofs.lemmas.List.Elements.{All-nil, All-head, All-tail, All-push}
 use Rattle.std.proofs.lemmas.Map.Keys.{IsDistinct-push}
 use Rattle.std.specs.Cmp.{nat_eq_equiv}
 use Rattle.std.proofs.lemmas.Map.Steps.{length-le_from_distinct_below}
@@ -15,7 +15,6 @@ use Rattle.homeo_meaning.specs.GlobalNames.{SitedCall}
 use Rattle.homeo_meaning.specs.NumberRules.{same_ground, distinct_after}
 use Rattle.homeo_load.specs.Key.{words}
 use Rattle.homeo_load.specs.Load.{ident, transaction_name}
-use Rattle.homeo_load.proofs.Forms.{sited}
 use Rattle.homeo_load.proofs.LoadCalls.{IsLoadCall}
 
 -- ---- the number of a call

@@ -1,24 +1,18 @@
 -- Calls of a load by their clients and numbers, and sums over them.
-use Rattle.std.proofs.Common.{◌≡◌, ◌<◌, ◌≤◌, ℕ, zero, suc, ◌+◌, Bool, true, false, cond, List, [], ◌∷◌, map, length, Option, Some, None, slice_get, slice_index_or, refl, sym, ap, ◌∙◌, arith}
-use Rattle.std.specs.Prelude.{All, ◌==◌, nat_lt, sum_by, filter, option_map, IfSome}
-use Rattle.std.specs.List.{range_with_len}
-use Rattle.std.specs.Option.{option_map_or}
-use Rattle.std.proofs.lemmas.List.{length-map}
-use Rattle.std.proofs.lemmas.List.Elements.{All-nil, All-cons, All-head, All-tail}
-use Rattle.std.proofs.lemmas.List.Sums.{sum_by-cons}
+use Rattle.std.proofs.Common.{◌≡◌, ◌<◌, ◌≤◌, ℕ, zero, suc, Bool, true, false, cond, List, [], ◌∷◌, map, length, Option, Some, None, slice_get, refl, sym, ap, ◌∙◌, arith}
+use Rattle.std.specs.Prelude.{All, nat_lt, option_map, IfSome}
+use Rattle.std.proofs.lemmas.List.Elements.{All-head, All-tail}
 use Rattle.std.proofs.lemmas.Bool.Decides.{nat_tests}
 use Rattle.homeo_syntax.specs.Source as s
 use Rattle.homeo_meaning.specs.Key.{words as meaning}
 use Rattle.homeo_meaning.specs.declared.call.CallId.{CallId}
 use Rattle.homeo_meaning.specs.Serial.{numbered, call_of}
-use Rattle.homeo_history.specs.Key.{words as histories}
-use Rattle.homeo_history.specs.Legal.{numbers_of}
 use Rattle.homeo_load.specs.Key.{words}
 use Rattle.homeo_load.specs.Draws.{Addition}
-use Rattle.homeo_load.specs.Load.{load_call, load_client, load_of, eight, dealt}
+use Rattle.homeo_load.specs.Load.{load_call, load_of, dealt}
 use Rattle.homeo_load.proofs.Cases.{by_eight}
 use Rattle.homeo_load.proofs.DrawnAdditions.{IsAddition}
-use Rattle.homeo_load.proofs.Dealt.{dealt_fit, dealt_sum, one_takes}
+use Rattle.homeo_load.proofs.Dealt.{dealt_fit}
 
 -- ---- the addition that a call makes
 abbrev pub at_number : ℕ → List Addition → Option Addition

@@ -10,6 +10,7 @@ pub mod Grounds
 pub mod Ids
 pub mod Judged
 pub mod LoadCalls
+pub mod LoadExample
 pub mod Making
 pub mod Named
 pub mod Output

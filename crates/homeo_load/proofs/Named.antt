@@ -1,5 +1,5 @@
 -- Each identifier of a load is the place of a name.
-use Rattle.std.proofs.Common.{◌≡◌, ◌<◌, ◌≤◌, ℕ, zero, suc, ◌+◌, ◌%◌, List, [], ◌∷◌, map, length, pos, refl, arith}
+use Rattle.std.proofs.Common.{◌<◌, ℕ, ◌+◌, ◌%◌, List, [], ◌∷◌, map, pos, refl, arith}
 use Rattle.std.specs.Prelude.{All, ◌≤ℤ◌}
 use Rattle.std.proofs.lemmas.List.Elements.{All-head, All-tail}
 use Rattle.std.proofs.lemmas.Bool.Decides.{nat_tests}
@@ -9,7 +9,7 @@ use Rattle.homeo_syntax.specs.declared.phrase.Ident.{Ident}
 use Rattle.homeo_syntax.specs.WellFormed.{Each, EachIdent, EachInCommands, IsBelow, IsWellFormed}
 use Rattle.homeo_load.specs.Key.{words}
 use Rattle.homeo_load.specs.Draws.{Addition}
-use Rattle.homeo_load.specs.Load.{ident, transaction_name, load_body, load_call, load_client, load_of, eight, dealt}
+use Rattle.homeo_load.specs.Load.{ident, transaction_name, load_body, load_call, load_of, eight, dealt}
 use Rattle.homeo_load.proofs.DrawnAdditions.{IsAddition}
 use Rattle.homeo_load.proofs.Dealt.{dealt_fit}
 use Rattle.homeo_load.proofs.Grounds.{name_below}

@@ -1,5 +1,5 @@
 -- The rounds of a legal history of a load add up.
-use Rattle.std.proofs.Common.{◌≡◌, ◌<◌, ◌≤◌, ℕ, zero, suc, ◌+◌, List, [], ◌∷◌, ◌++◌, map, flat_map, length, ℤ, Option, Some, None, refl, sym, ap, ap₂, ◌∙◌, subst, arith}
+use Rattle.std.proofs.Common.{◌≡◌, ◌≤◌, ℕ, ◌+◌, List, [], ◌∷◌, ◌++◌, map, flat_map, length, ℤ, Option, Some, None, refl, sym, ap, ◌∙◌, subst, arith}
 use Rattle.std.specs.Prelude.{All, sum_by, option_map}
 use Rattle.std.specs.Option.{option_to_list}
 use Rattle.std.proofs.lemmas.List.{map-append}
@@ -82,8 +82,10 @@ module _ (all : List Addition) (fits : All IsAddition all) where
   closing_adds None last next f base closes room = record { database = closes ∙ base ∙ same_database f (after all fits f []) (λ i. omega arith); prints = refl }
   closing_adds (Some c) last next f base closes room =
       let id : CallId = c.entry.call in
-      let is : call_outcome (load_of all) id (database_of f) ≡ record { prints = prints_of (addition_of all id); database = database_of (λ i. f i + adds_to all fits i id) } = outcome_is all fits f id (λ i. omega (arith, room i)) in
-      let e : record { prints = c.entry.prints; database = next } ≡ record { prints = prints_of (addition_of all id); database = database_of (λ i. f i + adds_to all fits i id) } = sym closes ∙ ap (call_outcome (load_of all) id) base ∙ is in
+      let told : Outcome = record { prints = c.entry.prints; database = next } in
+      let added : Outcome = record { prints = prints_of (addition_of all id); database = database_of (λ i. f i + adds_to all fits i id) } in
+      let is : call_outcome (load_of all) id (database_of f) ≡ added = outcome_is all fits f id (λ i. omega (arith, room i)) in
+      let e : told ≡ added = sym closes ∙ ap (call_outcome (load_of all) id) base ∙ is in
       record {
         database = ap (λ (o : Outcome). o.database) e ∙ same_database (λ i. f i + adds_to all fits i id) (after all fits f (id ∷ [])) (λ i. omega arith);
         prints = (let p : length c.entry.prints ≡ print_of all fits id = ap (λ (o : Outcome). length o.prints) e ∙ print_count all fits (addition_of all id) in omega (arith, p));

@@ -1,5 +1,5 @@
 -- The workload of a load: four sites, eight objects with a transaction each, eight clients (this project's rule).
-use Rattle.std.specs.Prelude.{ℕ, zero, suc, ◌+◌, ◌%◌, ◌==◌, ℤ, pos, List, [], ◌∷◌, ◌++◌, map, codes, cond, None}
+use Rattle.std.specs.Prelude.{ℕ, zero, suc, ◌+◌, ◌%◌, ◌==◌, pos, List, [], ◌∷◌, ◌++◌, map, codes, cond, None}
 use Rattle.homeo_syntax.specs.Source as s
 use Rattle.homeo_syntax.specs.declared.phrase.Ident.{Ident}
 use Rattle.homeo_syntax.specs.declared.phrase.Number.{Number}

@@ -63,7 +63,12 @@ fn push_if(list: &mut List<Call>, alloc: Global, taken: bool, a: Addition) -> Re
 
 /// The calls of a client in a load of so many calls. Each client goes over all draws by itself.
 #[tactic(auto, unfolding(crate::specs::Key::words))]
-pub(crate) fn calls_of(alloc: Global, start: u64, calls: u32, client: u32) -> Result<List<Call>, Memory>
+pub(crate) fn calls_of(
+    alloc: Global,
+    start: u64,
+    calls: u32,
+    client: u32,
+) -> Result<List<Call>, Memory>
     ensures { IfOk result (λ l. map plain_call l.items ≡ map load_call (dealt client 0 (additions start calls))) }
 {
     let mut draws = Draws { state: start };
