@@ -108,7 +108,8 @@ impl<'a> Said<'a> {
 /// The command of what was found, where this is all of the words.
 fn checked(words: &[&str], found: Option<Said<'_>>) -> Option<Command>
     ensures only { IfSome result (Say (texts words.now)) }
-    ensures all { (c : Command) → option_map said_words found.entry ≡ Some (texts words.now) → Say (texts words.now) c → result ≡ Some c }
+    ensures all { (c : Command) → option_map said_words found.entry ≡ Some (texts words.now) → Say (texts words.now) c
+        → result ≡ Some c }
 {
     let said = found?;
     if said.are(words) {
