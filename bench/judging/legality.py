@@ -3,7 +3,6 @@ import dataclasses
 
 from judging.merges import Merges, check_prints
 from judging.report import Illegal
-from judging.treaties import NotAsked
 
 
 @dataclasses.dataclass
@@ -16,7 +15,8 @@ class Verdict:
     whole: int
     sampled: int
     treaties: int
-    not_asked: list
+    asked: int
+    refused: int
 
 
 def check_shape(workload, history):
@@ -139,30 +139,23 @@ class Local:
 
 def check_treaty(where, found, base, treaty, calls):
     choices = {}
-    for site, segment in enumerate(found.segments):
-        local = Local(where, site, base, treaty, calls, choices)
+    sites = [Local(where, site, base, treaty, calls, choices) for site in range(len(found.segments))]
+    for local, segment in zip(sites, found.segments):
         for entry in segment:
             local.check_kept(entry)
-        if found.closing and found.closing.site == site:
-            local.check_broken(found.closing)
+    if found.closing:
+        sites[found.closing.site].check_broken(found.closing)
 
 
 def check_treaties(history, bases, treaties, calls):
-    """Checks the rounds whose treaty can be asked for. Returns how many these are, and of the others why they can't."""
-    asked, not_asked = 0, []
     for number, (found, base) in enumerate(zip(history.rounds, bases)):
-        try:
-            treaty = treaties.at(number, base)
-        except NotAsked as it:
-            not_asked.append(f"round {number}: {it}")
-            continue
-        asked += 1
-        check_treaty(f"round {number}", found, base, treaty, calls)
-    return asked, not_asked
+        treaty = treaties.at(number, base)
+        if treaty is not None:
+            check_treaty(f"round {number}", found, base, treaty, calls)
 
 
 def judge(workload, history, treaties, count, seed, follows_schedule):
-    """The verdict on a legal history, or `Illegal`. `treaties` answers for a round and its base, or with `NotAsked`."""
+    """The verdict on a legal history, or `Illegal`."""
     check_shape(workload, history)
     check_calls(workload, history)
     if follows_schedule:
@@ -171,6 +164,7 @@ def judge(workload, history, treaties, count, seed, follows_schedule):
     merges = Merges(calls, count, seed)
     bases, database = bases_of(history, merges, workload.initial())
     check_database(history, database)
-    asked, not_asked = check_treaties(history, bases, treaties, calls)
+    check_treaties(history, bases, treaties, calls)
     closing = len(history.rounds) - 1
-    return Verdict(len(bases), history.calls() - closing, closing, merges.whole, merges.sampled, asked, not_asked)
+    local = history.calls() - closing
+    return Verdict(len(bases), local, closing, merges.whole, merges.sampled, treaties.derived, treaties.asked, treaties.refused)

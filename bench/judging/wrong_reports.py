@@ -106,12 +106,12 @@ shop 1 order(2): 1
 round 1
 site 0
 site 1
-close 0 clause 2 sum 1 bound 0
+close 0 clause 1 sum 1 bound 0
 shop 2 order(5): 2
 round 2
 site 0
 site 1
-close 1 clause 5 sum 1 bound 0
+close 1 clause 3 sum 1 bound 0
 web 1 pay(0):
 round 3
 site 0
@@ -127,13 +127,41 @@ orders.1.paid = 0
 rounds 4 calls 4
 """
 
+COUNTING = """workload 1
+sites 2
+object x in 0..100 = 50
+transaction down() { write(x = read(x) - 1); print(read(x)) }
+client a at 0 { down() }
+client b at 1 { down() }
+schedule a b
+end
+"""
+
+COUNTING_REPORT = """round 0
+site 0
+site 1
+close 0 clause 2 sum -1 bound 0
+a 1 down(): 49
+round 1
+site 0
+site 1
+close 1 clause 3 sum -1 bound 0
+b 1 down(): 48
+round 2
+site 0
+site 1
+database
+x = 48
+rounds 3 calls 2
+"""
+
 # What a right report is changed by, pairs of what stands there once and what comes in its place; and a part of what is said of it.
 TICKETS_EDITS = [
-    ("nothing changed", [], "legal: 4 rounds, 6 local and 3 closing calls; all merges of 4 rounds; treaties of 4"),
+    ("nothing changed", [], "legal: 4 rounds, 6 local and 3 closing calls; all merges of 4 rounds, up to 100 of each of 0; treaties of 4 rounds"),
     (
         "a call moved to a later round",
         [("hall 2 buy(4): 4\n", ""), ("round 1\nsite 0\n", "round 1\nsite 0\nhall 2 buy(4): 4\n")],
-        "round 1, site 0: hall 2 buy(4) breaks the treaty",
+        "round 1, site 1: web 4 buy(4) closes the round and breaks nothing of the treaty",
     ),
     ("a print of a local call changed", [("hall 2 buy(4): 4", "hall 2 buy(4): 3")], "round 0: hall 2 buy(4) prints 4 in a merge, and not 3"),
     ("a print of a closing call changed", [("web 3 buy(3): 3", "web 3 buy(3): 0")], "round 0: web 3 buy(3) prints 3 behind the merges, and not 0"),
@@ -204,11 +232,11 @@ MOVED_EARLIER = [
     ("kiosk 1 buy(1): 1\n", "kiosk 1 buy(1): 1\nkiosk 2 buy(2): 2\n"),
 ]
 ORDERS_EDITS = [
-    ("orders, nothing changed", [], "legal: 4 rounds, 1 local and 3 closing calls; all merges of 4 rounds; treaties of 4"),
+    ("orders, nothing changed", [], "legal: 4 rounds, 1 local and 3 closing calls; all merges of 4 rounds, up to 100 of each of 0; treaties of 4 rounds"),
     ("a free slot in the end", [("orders.1.used = 1", "orders.1.used = 0")], "the database: orders.1.used = 0, and the calls leave 1"),
     ("fields in another order", [("orders.0.amount = 2\norders.0.paid = 1\n", "orders.0.paid = 1\norders.0.amount = 2\n")], "orders.0.paid stands where orders.0.amount is wanted"),
     ("another place", [("order(5): 2", "order(5): 1")], "round 1: shop 2 order(5) prints 2 behind the merges, and not 1"),
-    ("a freeze's sum", [("clause 5 sum 1", "clause 5 sum 2")], "round 2, site 1: web 1 pay(0) breaks clause 5 sum 1 bound 0"),
+    ("a clause on a slot", [("clause 3 sum 1", "clause 2 sum 1")], "round 2, site 1: web 1 pay(0) breaks clause 3 sum 1 bound 0, and not clause 2 sum 1 bound 0"),
 ]
 
 
@@ -228,6 +256,8 @@ def cases():
         ("nothing changed, by the schedule", "steps", TICKETS, TICKETS_REPORT, "legal: 4 rounds"),
         ("a call moved to an earlier round", "run", TICKETS, moved, "legal: 4 rounds"),
         ("a call moved to an earlier round, by the schedule", "steps", TICKETS, moved, "round 0: the schedule has kiosk last, and not web 3 buy(3)"),
+        ("counting, nothing changed", "steps", COUNTING, COUNTING_REPORT, "legal: 3 rounds"),
+        ("a frozen delta's sum", "steps", COUNTING, COUNTING_REPORT.replace("clause 3 sum -1", "clause 3 sum 1"), "breaks clause 3 sum -1 bound 0"),
         ("merges that leave two databases", "run", PUTTING, PUTTING_TOGETHER, "round 0: one merge leaves x = "),
         ("a call that prints otherwise in another merge", "run", PUTTING, TAKING_TOGETHER, "round 0: a 2 take() prints 2 in a merge, and not 1"),
     ]
