@@ -114,11 +114,11 @@ class Local:
         return self.choices[call]
 
     def step(self, entry):
-        """What breaks at the deltas behind a local step, None where nothing does."""
+        """The prints of a local step, and what breaks at the deltas behind it, None where nothing does."""
         run = self.calls[entry.call].run_on(self.database)
         if run.choices != self.base_choices(entry.call):
             raise Illegal(f"{self.where}: {entry} goes another way than at the base, and the treaty is kept")
-        return run.prints, self.treaty.broken(self.site, self.base, self.database)
+        return run.prints, self.treaty.broken(self.site, self.base, self.database, run.written)
 
     def check_kept(self, entry):
         prints, broken = self.step(entry)

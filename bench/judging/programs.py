@@ -9,17 +9,26 @@ node = dataclasses.dataclass(frozen=True, slots=True)
 
 
 class Run:
-    """One call on a database: the names that it knows, the slots that it visits, what it prints and how it chooses."""
+    """One call on a database: the names that it knows, the slots that it visits, what it prints and writes and how it chooses."""
 
-    __slots__ = ("database", "names", "slots", "prints", "choices")
+    __slots__ = ("database", "names", "slots", "prints", "written", "choices")
 
     def __init__(self, database, arguments):
         self.database, self.names, self.slots = database, dict(arguments), {}
-        self.prints, self.choices = [], []
+        self.prints, self.written, self.choices = [], set(), []
 
     def choose(self, choice):
         self.choices.append(choice)
         return choice
+
+    def set(self, name, value):
+        self.database[name] = value
+        self.written.add(name)
+
+    def set_within(self, name, bounds, value):
+        """Sets a number where the value is within its bounds."""
+        if self.choose(bounds.hold(value)):
+            self.set(name, value)
 
 
 # ---- what is declared
@@ -261,19 +270,13 @@ class Assign:
         run.names[self.name] = self.value.value(run)
 
 
-def write(run, name, bounds, value):
-    """Sets a number where the value is within its bounds."""
-    if run.choose(bounds.hold(value)):
-        run.database[name] = value
-
-
 @node
 class Write:
     target: Object
     value: object
 
     def do(self, run):
-        write(run, self.target.name, self.target.bounds, self.value.value(run))
+        run.set_within(self.target.name, self.target.bounds, self.value.value(run))
 
 
 @node
@@ -303,7 +306,7 @@ class SetRowField:
 
     def do(self, run):
         name = self.relation.field(run.slots[self.row], self.field)
-        write(run, name, self.relation.fields[self.field], self.value.value(run))
+        run.set_within(name, self.relation.fields[self.field], self.value.value(run))
 
 
 @node
@@ -318,9 +321,9 @@ class SetSlotField:
         bounds = self.relation.fields[self.field]
         if is_known(self.index):
             if self.relation.has(slot):
-                write(run, self.relation.field(slot, self.field), bounds, value)
+                run.set_within(self.relation.field(slot, self.field), bounds, value)
         elif run.choose(bounds.hold(value)) and run.choose(slot if self.relation.has(slot) else None) is not None:
-            run.database[self.relation.field(slot, self.field)] = value
+            run.set(self.relation.field(slot, self.field), value)
 
 
 @node
@@ -348,8 +351,9 @@ class Insert:
             return
         free = [slot for slot in range(self.relation.slots) if run.database[self.relation.used(slot)] == 0]
         if run.choose(free[0] if free else None) is not None:
-            run.database[self.relation.used(free[0])] = 1
-            run.database.update((self.relation.field(free[0], name), value) for name, value in values.items())
+            run.set(self.relation.used(free[0]), 1)
+            for name, value in values.items():
+                run.set(self.relation.field(free[0], name), value)
             run.names[self.place] = free[0] + 1
 
 
@@ -361,7 +365,7 @@ class Delete:
 
     def do(self, run):
         for slot in visited(run, self.row, self.relation, self.condition):
-            run.database[self.relation.used(slot)] = 0
+            run.set(self.relation.used(slot), 0)
 
 
 @node
@@ -374,7 +378,7 @@ class Update:
 
     def do(self, run):
         for slot in visited(run, self.row, self.relation, self.condition):
-            write(run, self.relation.field(slot, self.field), self.relation.fields[self.field], self.value.value(run))
+            run.set_within(self.relation.field(slot, self.field), self.relation.fields[self.field], self.value.value(run))
 
 
 @node

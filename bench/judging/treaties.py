@@ -6,6 +6,10 @@ from judging.plain_text import PlainText
 from judging.report import Illegal
 
 
+# The most walks of ground calls that are made for the treaties of one run.
+MOST_WALKS = 50_000
+
+
 class Refused(Exception):
     """The program refuses a text of which the treaty is asked for."""
 
@@ -33,8 +37,9 @@ class Treaties:
     """
 
     def __init__(self, program, workload, text, most, most_asked):
-        self.program, self.workload, self.text, self.most, self.most_asked = program, workload, text, most, most_asked
+        self.program, self.workload, self.text, self.most_asked = program, workload, text, most_asked
         self.calls, self.plain, self.kept = derivation.ground_calls(workload), None, {}
+        self.most = min(most, MOST_WALKS // max(1, len(self.calls)))
         self.derived, self.asked, self.refused = 0, 0, 0
 
     def at(self, number, base):

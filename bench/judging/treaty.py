@@ -26,30 +26,38 @@ class Treaty:
     freezes: list
 
     def __post_init__(self):
-        self.own = {}
+        self.parts_of = {}
 
     def parts(self, site):
-        """The clauses with a term on the site's own deltas, and its frozen deltas, each with its number."""
-        if site not in self.own:
-            forms = [[(factor, name) for factor, name, at in it.form if at == site] for it in self.clauses]
-            sums = [(number, form, it.bounds[site]) for number, (it, form) in enumerate(zip(self.clauses, forms)) if form]
-            frozen = [(number, name) for number, (name, at) in enumerate(self.freezes, len(self.clauses)) if at == site]
-            self.own[site] = sums, frozen
-        return self.own[site]
+        """What the treaty asks of a site: by its number, a form of factors and names, and its bound, None for a frozen delta.
 
-    def broken(self, site, base, database):
+        And by the name of each of these deltas, the numbers of what is asked of it.
+        """
+        if site not in self.parts_of:
+            asked, numbers = {}, {}
+            for number, clause in enumerate(self.clauses):
+                asked[number] = [(factor, name) for factor, name, at in clause.form if at == site], clause.bounds[site]
+            for number, (name, at) in enumerate(self.freezes, len(self.clauses)):
+                asked[number] = [(1, name)] if at == site else [], None
+            for number, (form, _) in asked.items():
+                for _, name in form:
+                    numbers.setdefault(name, []).append(number)
+            self.parts_of[site] = asked, numbers
+        return self.parts_of[site]
+
+    def broken(self, site, base, database, written):
         """What the site's own deltas, the database less the base, break first: its number, the sum and the bound, or None.
 
-        The clauses come first, by their numbers, and then the freezes, whose sum is the delta and whose bound is 0.
+        Only these names were written since the treaty was kept. The clauses come first, by their numbers, and then the freezes,
+        whose sum is the delta and whose bound is 0.
         """
-        sums, frozen = self.parts(site)
-        for number, form, bound in sums:
+        asked, numbers = self.parts(site)
+        for number in sorted({it for name in written for it in numbers.get(name, ())}):
+            form, bound = asked[number]
             found = sum(factor * (database[name] - base[name]) for factor, name in form)
-            if found > bound:
-                return number, found, bound
-        for number, name in frozen:
-            if database[name] != base[name]:
-                return number, database[name] - base[name], 0
+            is_kept = found == 0 if bound is None else found <= bound
+            if not is_kept:
+                return number, found, bound or 0
         return None
 
 

@@ -1,4 +1,5 @@
-"""Reports that were made wrong, and what the judge has to say of each: small edits of right ones."""
+"""Reports that were made wrong, and what the judge has to say of each: edits of right ones, and all small changes of them."""
+import re
 
 TICKETS = """workload 1
 sites 3
@@ -261,3 +262,25 @@ def cases():
         ("merges that leave two databases", "run", PUTTING, PUTTING_TOGETHER, "round 0: one merge leaves x = "),
         ("a call that prints otherwise in another merge", "run", PUTTING, TAKING_TOGETHER, "round 0: a 2 take() prints 2 in a merge, and not 1"),
     ]
+
+
+def small_changes(told):
+    """A report with one line left out, made twice or swapped with the next, or with one number greater or less by 1.
+
+    A text has one report under `steps`, so that none of these is legal.
+    """
+    lines = told.splitlines(keepends=True)
+    for at, line in enumerate(lines):
+        yield lines[:at] + lines[at + 1 :]
+        yield lines[:at] + [line] + lines[at:]
+        if at + 1 < len(lines) and lines[at + 1] != line:
+            yield lines[:at] + [lines[at + 1], line] + lines[at + 2 :]
+        for number in re.finditer(r"-?\d+", line):
+            for change in (1, -1):
+                yield lines[:at] + [line[: number.start()] + str(int(number[0]) + change) + line[number.end() :]] + lines[at + 1 :]
+
+
+def changed_reports():
+    """Texts with changed reports of `steps`, none of which is legal."""
+    rights = [(TICKETS, TICKETS_REPORT), (ORDERS, ORDERS_REPORT), (COUNTING, COUNTING_REPORT)]
+    return [(text, "".join(lines)) for text, told in rights for lines in small_changes(told)]
