@@ -88,8 +88,8 @@ class Transaction:
         relation, (_, fields) = self.pick(list(self.maker.relations.items()))
         name, _, high = self.pick(fields)
         commands = self.pick([f"r0.{name} := r0.{name} + 1", f"print(r0.{name})", f"if r0.{name} < {high} then r0.{name} := {high} else print(1)"])
-        loops = [f"foreach r0 of {relation} when true {{ {commands} }}", f"update r0 of {relation} when r0.{name} < {high} set {name} = r0.{name} + 1"]
-        return self.pick(loops)
+        loop = f"foreach r0 of {relation} when true {{ {commands} }}"
+        return self.pick([loop, f"update r0 of {relation} when r0.{name} < {high} set {name} = r0.{name} + 1"])
 
     # ---- any commands
     def anything(self):
@@ -173,7 +173,8 @@ class Transaction:
         leaves += [self.row_field] * (3 if self.rows else 0)
         if depth == 0:
             return self.pick(leaves)()
-        nodes = [lambda: f"{self.expression(depth - 1)} + {self.expression(depth - 1)}", lambda: f"{self.expression(depth - 1)} - {self.expression(0)}"]
+        nodes = [lambda: f"{self.expression(depth - 1)} + {self.expression(depth - 1)}"]
+        nodes += [lambda: f"{self.expression(depth - 1)} - {self.expression(0)}"]
         nodes += [lambda: f"-{self.expression(0)}", lambda: f"({self.expression(depth - 1)}) * {self.expression(0)}"]
         nodes += [self.slot_field, lambda: self.loop_value(depth - 1)] if self.maker.relations else []
         return self.pick(leaves * 2 + nodes)()

@@ -179,7 +179,11 @@ TICKETS_EDITS = [
     ),
     ("a closing call lost", [("close 1 clause 0 sum 11 bound 9\nweb 3 buy(3): 3\n", "")], "line 10: 'round 1' stands where"),
     ("a closing line lost", [("close 1 clause 0 sum 4 bound 3\n", "")], "line 18: 'round 2' stands where"),
-    ("the last round closed", [("database\n", "close 2 clause 0 sum 1 bound 0\nkiosk 3 buy(1): 1\ndatabase\n")], "line 31: 'database' stands where round 4 is wanted"),
+    (
+        "the last round closed",
+        [("database\n", "close 2 clause 0 sum 1 bound 0\nkiosk 3 buy(1): 1\ndatabase\n")],
+        "line 31: 'database' stands where round 4 is wanted",
+    ),
     ("another value in the end", [("tickets = 5", "tickets = 6")], "the database: tickets = 6, and the calls leave 5"),
     ("a value wanting in the end", [("tickets = 5\n", "")], "the database: tickets is wanting"),
     ("a value too many in the end", [("tickets = 5\n", "tickets = 5\nseats = 5\n")], "the database: there is no seats"),
@@ -192,7 +196,7 @@ TICKETS_EDITS = [
     ("a call wanting", [("kiosk 2 buy(2): 2\n", ""), ("calls 9", "calls 8")], "kiosk makes 1 of its 2 calls"),
     (
         "a call made twice",
-        [("hall 3 buy(1): 1\nround 3\nsite 0\nsite 1\nsite 2\n", "hall 3 buy(1): 1\nround 3\nsite 0\nsite 1\nsite 2\nkiosk 2 buy(2): 2\n"), ("calls 9", "calls 10")],
+        [("site 2\ndatabase\n", "site 2\nkiosk 2 buy(2): 2\ndatabase\n"), ("calls 9", "calls 10")],
         "round 3, site 2: kiosk 2 buy(2): kiosk has made all its calls before",
     ),
     ("a call of no client", [("kiosk 1 buy(1): 1", "booth 1 buy(1): 1")], "there is no client booth"),
@@ -212,7 +216,12 @@ TICKETS_EDITS = [
     ),
     (
         "a call that breaks the treaty and closes nothing",
-        [("close 1 clause 0 sum 4 bound 3\nweb 4 buy(4): 4\nround 2\nsite 0\nsite 1\nsite 2\n", ""), ("round 1\nsite 0\nsite 1\n", "round 1\nsite 0\nsite 1\nweb 4 buy(4): 4\n"), ("round 3", "round 2"), ("rounds 4", "rounds 3")],
+        [
+            ("close 1 clause 0 sum 4 bound 3\nweb 4 buy(4): 4\nround 2\nsite 0\nsite 1\nsite 2\n", ""),
+            ("round 1\nsite 0\nsite 1\n", "round 1\nsite 0\nsite 1\nweb 4 buy(4): 4\n"),
+            ("round 3", "round 2"),
+            ("rounds 4", "rounds 3"),
+        ],
         "round 1, site 1: web 4 buy(4) breaks the treaty, clause 0 with sum 4 and bound 3, and closes no round",
     ),
     ("a number with a zero in front", [("tickets = 5", "tickets = 05")], "line 30: 'tickets = 05' stands where"),
@@ -221,7 +230,11 @@ TICKETS_EDITS = [
     ("two spaces", [("web 1 buy(4): 4", "web 1 buy(4):  4")], "line 6: 'web 1 buy(4):  4' stands where"),
     ("a space at a line's end", [("kiosk 2 buy(2): 2", "kiosk 2 buy(2): 2 ")], "line 16: 'kiosk 2 buy(2): 2 ' stands where"),
     ("another round's number", [("round 2", "round 3\nsite 0")], "line 19: round 3 stands where round 2 is wanted"),
-    ("a site wanting", [("round 1\nsite 0\nsite 1\nsite 2\nkiosk 2 buy(2): 2\n", "round 1\nsite 0\nsite 1\n")], "round 1: there are 2 sites, and not 3"),
+    (
+        "a site wanting",
+        [("round 1\nsite 0\nsite 1\nsite 2\nkiosk 2 buy(2): 2\n", "round 1\nsite 0\nsite 1\n")],
+        "round 1: there are 2 sites, and not 3",
+    ),
     ("sites in another order", [("site 1\nweb 1", "site 2\nweb 1")], "line 5: site 2 stands where site 1 is wanted"),
     ("a line at the end", [("calls 9\n", "calls 9\n\n")], "line 32: '' stands behind the last line"),
     ("no newline at the end", [("calls 9\n", "calls 9")], "the report doesn't end with a newline"),
@@ -233,11 +246,23 @@ MOVED_EARLIER = [
     ("kiosk 1 buy(1): 1\n", "kiosk 1 buy(1): 1\nkiosk 2 buy(2): 2\n"),
 ]
 ORDERS_EDITS = [
-    ("orders, nothing changed", [], "legal: 4 rounds, 1 local and 3 closing calls; all merges of 4 rounds, up to 100 of each of 0; treaties of 4 rounds"),
+    (
+        "orders, nothing changed",
+        [],
+        "legal: 4 rounds, 1 local and 3 closing calls; all merges of 4 rounds, up to 100 of each of 0; treaties of 4 rounds",
+    ),
     ("a free slot in the end", [("orders.1.used = 1", "orders.1.used = 0")], "the database: orders.1.used = 0, and the calls leave 1"),
-    ("fields in another order", [("orders.0.amount = 2\norders.0.paid = 1\n", "orders.0.paid = 1\norders.0.amount = 2\n")], "orders.0.paid stands where orders.0.amount is wanted"),
+    (
+        "fields in another order",
+        [("orders.0.amount = 2\norders.0.paid = 1\n", "orders.0.paid = 1\norders.0.amount = 2\n")],
+        "orders.0.paid stands where orders.0.amount is wanted",
+    ),
     ("another place", [("order(5): 2", "order(5): 1")], "round 1: shop 2 order(5) prints 2 behind the merges, and not 1"),
-    ("a clause on a slot", [("clause 3 sum 1", "clause 2 sum 1")], "round 2, site 1: web 1 pay(0) breaks clause 3 sum 1 bound 0, and not clause 2 sum 1 bound 0"),
+    (
+        "a clause on a slot",
+        [("clause 3 sum 1", "clause 2 sum 1")],
+        "round 2, site 1: web 1 pay(0) breaks clause 3 sum 1 bound 0, and not clause 2 sum 1 bound 0",
+    ),
 ]
 
 
