@@ -11,19 +11,33 @@ from judging.treaty import Clause, Treaty, even_split
 
 @dataclasses.dataclass
 class Form:
-    """A constant, and a factor other than 0 for each delta, which is a pair of a name and a site."""
+    """A constant, and a factor other than 0 for each delta, which is a pair of a name and a site.
+
+    It is right while its mixed deltas stay 0: those of products that are taken for what they are now.
+    """
 
     constant: int
     factors: dict
+    mixed: frozenset = frozenset()
 
     def plus(self, other, times=1):
         factors = dict(self.factors)
         for delta, factor in other.factors.items():
             factors[delta] = factors.get(delta, 0) + times * factor
-        return Form(self.constant + times * other.constant, {delta: factor for delta, factor in factors.items() if factor})
+        kept = {delta: factor for delta, factor in factors.items() if factor}
+        return Form(self.constant + times * other.constant, kept, self.mixed | other.mixed)
 
     def times(self, number):
-        return Form(self.constant * number, {delta: factor * number for delta, factor in self.factors.items() if number})
+        factors = {delta: factor * number for delta, factor in self.factors.items() if number}
+        return Form(self.constant * number, factors, self.mixed)
+
+    def product(self, other):
+        if self.may_change() and other.may_change():
+            return Form(self.constant * other.constant, {}, (self.mixed | other.mixed).union(self.factors, other.factors))
+        return self.times(other.constant) if self.may_change() else other.times(self.constant)
+
+    def may_change(self):
+        return bool(self.factors or self.mixed)
 
 
 def constant(number):
@@ -86,31 +100,37 @@ class Walk:
 
     def __init__(self, sites, site, base, call):
         self.sites, self.site, self.base, self.slots = range(sites), site, base, {}
-        self.names = {name: constant(it) for name, it in zip(call.transaction.parameters, call.arguments)}
+        self.parameters = dict(zip(call.transaction.parameters, call.arguments))
+        self.names = {name: constant(it) for name, it in self.parameters.items()}
         self.written, self.atoms, self.frozen = {}, [], set()
         self.command(call.transaction.body)
+        self.freeze_written()
 
     def object(self, name):
         """What a number of the database is: its base with all deltas, or what was written."""
         return self.written.get(name) or Form(self.base[name], {(name, site): 1 for site in self.sites})
 
     def decide(self, condition):
+        """Whether a condition holds at the base. What is mixed in the tests that keep it so is frozen, at every site."""
         found = condition.holds()
-        self.atoms += condition.atoms(found)
+        for atom in condition.atoms(found):
+            self.atoms.append(atom)
+            self.frozen |= atom.mixed
         return found
 
     def freeze_others(self, form):
-        self.frozen.update(delta for delta in form.factors if delta[1] != self.site)
+        """Freezes the deltas of other sites in what the site prints or writes: its own it knows, in products too."""
+        self.frozen.update(delta for delta in form.mixed.union(form.factors) if delta[1] != self.site)
 
-    def write(self, name, value):
-        """Sets a number by the site's own delta: the value less the base and less the deltas of all others."""
-        others = Form(self.base[name], {(name, site): 1 for site in self.sites if site != self.site})
-        self.freeze_others(value.plus(others, -1))
-        self.written[name] = value
+    def freeze_written(self):
+        """The site leaves its own delta of what it wrote: the value in the end less the base and less the deltas of all others."""
+        for name, value in self.written.items():
+            others = Form(self.base[name], {(name, site): 1 for site in self.sites if site != self.site})
+            self.freeze_others(value.plus(others, -1))
 
     def write_within(self, name, bounds, value):
         if self.decide(self.within(bounds, value)):
-            self.write(name, value)
+            self.written[name] = value
 
     def within(self, bounds, value):
         return Together([Test(p.AtMost, constant(bounds.low), value), Test(p.AtMost, value, constant(bounds.high))])
@@ -131,11 +151,11 @@ class Walk:
             case p.Difference(left, right):
                 return self.value(left).plus(self.value(right), -1)
             case p.Product(left, right):
-                return self.product(self.value(left), self.value(right))
+                return self.value(left).product(self.value(right))
             case p.RowField(relation, row, field):
                 return self.object(relation.field(self.slots[row], field))
             case p.SlotField(relation, index, field):
-                slot = self.slot(relation, index, self.value(index))
+                slot = self.slot(relation, index)
                 return constant(0) if slot is None else self.object(relation.field(slot, field))
             case p.Count(relation, row, condition):
                 return constant(sum(1 for _ in self.visited(relation, row, condition)))
@@ -145,17 +165,14 @@ class Walk:
                     total = total.plus(self.object(relation.field(slot, field)))
                 return total
 
-    def product(self, left, right):
-        """The product, where one of both is a constant. Where both may change, what they are now, and all their deltas are frozen."""
-        if left.factors and right.factors:
-            self.frozen.update(left.factors, right.factors)
-            return constant(left.constant * right.constant)
-        return right.times(left.constant) if not left.factors else left.times(right.constant)
-
-    def slot(self, relation, index, value):
+    def slot(self, relation, index):
         """The slot of an index, None where there is no such slot. Unless it is known, one test a slot finds it."""
-        if p.is_known(index):
-            return value.constant if relation.has(value.constant) else None
+        slot = p.known(index, self.parameters)
+        if slot is not None:
+            return slot if relation.has(slot) else None
+        return self.searched(relation, self.value(index))
+
+    def searched(self, relation, value):
         return next((slot for slot in range(relation.slots) if self.decide(Test(p.Equal, value, constant(slot)))), None)
 
     def visited(self, relation, row, condition):
@@ -200,22 +217,23 @@ class Walk:
                 self.insert(found)
             case p.Delete(relation, row, condition):
                 for slot in self.visited(relation, row, condition):
-                    self.write(relation.used(slot), constant(0))
+                    self.written[relation.used(slot)] = constant(0)
             case p.Update(relation, row, condition, field, value):
                 for slot in self.visited(relation, row, condition):
                     self.write_within(relation.field(slot, field), relation.fields[field], self.value(value))
 
     def set_slot_field(self, found):
         relation, bounds = found.relation, found.relation.fields[found.field]
+        slot = p.known(found.index, self.parameters)
+        if slot is not None:
+            if relation.has(slot):
+                self.write_within(relation.field(slot, found.field), bounds, self.value(found.value))
+            return
         index, value = self.value(found.index), self.value(found.value)
-        if p.is_known(found.index):
-            slot = self.slot(relation, found.index, index)
+        if self.decide(self.within(bounds, value)):
+            slot = self.searched(relation, index)
             if slot is not None:
-                self.write_within(relation.field(slot, found.field), bounds, value)
-        elif self.decide(self.within(bounds, value)):
-            slot = self.slot(relation, found.index, index)
-            if slot is not None:
-                self.write(relation.field(slot, found.field), value)
+                self.written[relation.field(slot, found.field)] = value
 
     def insert(self, found):
         relation = found.relation
@@ -225,9 +243,9 @@ class Walk:
             return
         for slot in range(relation.slots):
             if self.decide(Test(p.Equal, self.object(relation.used(slot)), constant(0))):
-                self.write(relation.used(slot), constant(1))
+                self.written[relation.used(slot)] = constant(1)
                 for name, value in values.items():
-                    self.write(relation.field(slot, name), value)
+                    self.written[relation.field(slot, name)] = value
                 self.names[found.place] = constant(slot + 1)
                 return
 

@@ -162,20 +162,24 @@ class Transactions:
         return before
 
     def set_slot_field(self, found, before):
-        relation, field = found.relation, found.field
-        if isinstance(found.index, p.Number):
-            slot = found.index.number
+        relation, field, index = found.relation, found.field, found.index
+        if isinstance(index, p.Number):
+            slot = index.number
             before.extend(self.set(self.field(relation, slot, field), found.value) if relation.has(slot) else ["skip"])
-            return
+        elif isinstance(index, p.Name) and index.is_parameter:
+            slots = range(relation.slots)
+            self.first([(f"{index.name} = {slot}", self.set(self.field(relation, slot, field), found.value)) for slot in slots], before)
+        else:
+            self.set_searched(found, before)
+
+    def set_searched(self, found, before):
+        relation, field = found.relation, found.field
         index = self.assigned(self.expression(found.index, before), before)
         value = self.assigned(self.expression(found.value, before), before)
         ways = [(f"{index} = {slot}", [f"write({self.field(relation, slot, field)} = {value})"]) for slot in range(relation.slots)]
-        if p.is_known(found.index):
-            self.first(ways, before)
-        else:
-            inner = []
-            self.first(ways, inner)
-            before.append(guarded(self.within(relation.fields[field], value), inner))
+        inner = []
+        self.first(ways, inner)
+        before.append(guarded(self.within(relation.fields[field], value), inner))
 
     def within(self, bounds, value):
         return f"{bounds.low} <= {value} and {value} <= {bounds.high}"

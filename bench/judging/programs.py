@@ -142,9 +142,17 @@ class RowField:
         return run.database[self.relation.field(run.slots[self.row], self.field)]
 
 
-def is_known(index):
-    """Whether an index is a number or a parameter, so that which slot it names is no choice of the run."""
-    return isinstance(index, Number) or (isinstance(index, Name) and index.is_parameter)
+def known(index, parameters):
+    """The number that an index is before its call runs, so that which slot it names is no choice; None for any other index."""
+    match index:
+        case Number(number):
+            return number
+        case Name(name, True):
+            return parameters[name]
+        case SlotField(relation, inner, _):
+            slot = known(inner, parameters)
+            return 0 if slot is not None and not relation.has(slot) else None
+    return None
 
 
 @node
@@ -156,8 +164,9 @@ class SlotField:
     field: str
 
     def value(self, run):
-        slot = self.index.value(run)
-        if not is_known(self.index):
+        slot = known(self.index, run.names)
+        if slot is None:
+            slot = self.index.value(run)
             run.choose(slot if self.relation.has(slot) else None)
         return run.database[self.relation.field(slot, self.field)] if self.relation.has(slot) else 0
 
@@ -317,12 +326,13 @@ class SetSlotField:
     value: object
 
     def do(self, run):
-        slot, value = self.index.value(run), self.value.value(run)
-        bounds = self.relation.fields[self.field]
-        if is_known(self.index):
+        slot, bounds = known(self.index, run.names), self.relation.fields[self.field]
+        if slot is not None:
             if self.relation.has(slot):
-                run.set_within(self.relation.field(slot, self.field), bounds, value)
-        elif run.choose(bounds.hold(value)) and run.choose(slot if self.relation.has(slot) else None) is not None:
+                run.set_within(self.relation.field(slot, self.field), bounds, self.value.value(run))
+            return
+        slot, value = self.index.value(run), self.value.value(run)
+        if run.choose(bounds.hold(value)) and run.choose(slot if self.relation.has(slot) else None) is not None:
             run.set(self.relation.field(slot, self.field), value)
 
 
