@@ -1,11 +1,12 @@
 """Random workload texts, each a function of its seed, small enough that most are accepted.
 
 Some transactions are of a common kind (add to a number, sell where enough is left, move, insert, pay, look), others any commands.
-Some texts have room for many calls that sites make alone, others next to none.
+Some texts have room for many calls that sites make alone, others next to none; in some, sites sell by turns what gets scarce.
 """
 import random
 
 OBJECT_BOUNDS = [(0, 1_000_000), (0, 1_000), (0, 1_000), (0, 60), (0, 20), (0, 3), (-50, 50), (-1_000, -10)]
+SCARCE_BOUNDS = [(0, 20), (0, 60), (0, 90)]
 FIELD_BOUNDS = [(0, 1), (0, 1), (1, 5), (0, 9), (-3, 3), (1, 99)]
 PARAMETER_BOUNDS = [(1, 3), (0, 4), (1, 9), (-2, 2), (0, 1)]
 SITES = [1, 2, 2, 2, 3, 3, 4, 5, 8, 16]
@@ -212,9 +213,11 @@ class Maker:
 
     def __init__(self, seed):
         self.random = random.Random(seed)
-        self.wildness = self.random.choice([0, 0, 2, 6])
-        self.objects = {f"x{k}": self.random.choice(OBJECT_BOUNDS) for k in range(self.random.randint(0, 4))}
-        count = self.random.choice([0, 0, 0, 1, 1, 2])
+        is_scarce = self.random.random() < 0.25
+        self.wildness = 0 if is_scarce else self.random.choice([0, 0, 2, 6])
+        bounds, most = (SCARCE_BOUNDS, 2) if is_scarce else (OBJECT_BOUNDS, 4)
+        self.objects = {f"x{k}": self.random.choice(bounds) for k in range(self.random.randint(int(is_scarce), most))}
+        count = 0 if is_scarce else self.random.choice([0, 0, 0, 1, 1, 2])
         self.relations = {f"R{k}": (self.random.choice([1, 2, 2, 3, 4, 7]), self.fields()) for k in range(count)}
 
     def fields(self):
