@@ -11,7 +11,7 @@ use homeo_meaning::Accepted;
 use homeo_syntax::Client;
 
 /// How many sites there are.
-pub(crate) fn site_count(w: &Accepted) -> u32
+pub fn site_count(w: &Accepted) -> u32
     ensures { result ≡ sites_of (plain_workload w.now) }
 {
     natural(w.workload().sites.value)
@@ -19,7 +19,7 @@ pub(crate) fn site_count(w: &Accepted) -> u32
 
 /// How many clients there are.
 #[tactic(auto, unfolding(homeo_syntax::specs::Key::words))]
-pub(crate) fn client_count(w: &Accepted) -> u64
+pub fn client_count(w: &Accepted) -> u64
     ensures count { result ≡ length (plain_workload w.now).clients }
     ensures accepted { IsAccepted (plain_workload w.now) }
 {
@@ -27,7 +27,7 @@ pub(crate) fn client_count(w: &Accepted) -> u64
 }
 
 /// The site of a client.
-pub(crate) fn site_of(w: &Accepted, client: u32) -> u32
+pub fn site_of(w: &Accepted, client: u32) -> u32
     requires exists { client < length (plain_workload w.now).clients }
     ensures { IsClientAt (plain_workload w.now) result client }
 {
@@ -35,7 +35,7 @@ pub(crate) fn site_of(w: &Accepted, client: u32) -> u32
 }
 
 /// How many calls a client has.
-pub(crate) fn call_count(w: &Accepted, client: u32) -> u64
+pub fn call_count(w: &Accepted, client: u32) -> u64
     requires exists { client < length (plain_workload w.now).clients }
     ensures { result ≡ call_count (plain_workload w.now) client }
 {

@@ -2,7 +2,7 @@
 //! else on the gathered database, where it closes the round.
 #![tactic(auto)]
 
-mod clients;
+pub mod clients;
 mod gather;
 pub mod laws;
 mod local;

@@ -243,6 +243,13 @@ impl Prepared {
         &self.answer
     }
 
+    /// Lends the base of the next round. It takes no memory.
+    pub fn next(&self) -> &Database
+        ensures { result.now.items ≡ self.now.next }
+    {
+        &self.next
+    }
+
     /// Gives a site its start in the next round, and takes its segment. It takes no memory. The site is in the round and on
     /// its base, and still waits for its start. Sites may come in any order.
     pub fn install(&mut self, site: &mut Site)

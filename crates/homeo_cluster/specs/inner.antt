@@ -1,0 +1,4 @@
+pub mod Grows
+pub mod Meets
+pub mod Moves
+pub mod Tries

@@ -1,0 +1,36 @@
+//! What lies under the lock of a site.
+
+ghost use Rattle.std.specs.Prelude.{◌≡◌, ◌<◌};
+ghost use Rattle.homeo_plan.specs.Planned.{sites_of};
+
+use crate::naming::ClusterNaming;
+use homeo_notes::Holder;
+use homeo_site::Site;
+use std::marker::Model;
+
+/// A site, and the holder of its lines on the board.
+#[derive(Drop)]
+pub(crate) struct SiteCell<N: ClusterNaming> {
+    pub(crate) site: Site,
+    pub(crate) holder: Holder<N>,
+}
+
+impl<N: ClusterNaming> Model for SiteCell<N> {
+    ghost use Rattle.homeo_cluster.specs.Cells.{CellValue, IsCell};
+
+    ghost Value = { CellValue };
+
+    ghost view = { λ s. record { site = s.site; held = s.holder } };
+
+    ghost invariant = { λ s. IsCell N.workload (record { site = s.site; held = s.holder }) };
+}
+
+impl<N: ClusterNaming> SiteCell<N> {
+    /// The number of the site.
+    pub(crate) fn number(&self) -> u32
+        ensures number { result ≡ self.now.site.state.number }
+        ensures bound { result < sites_of N.workload }
+    {
+        self.site.number()
+    }
+}
