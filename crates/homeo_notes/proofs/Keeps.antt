@@ -12,7 +12,8 @@ use Rattle.atomic_table.specs.Table.{Me, step, Allows, Splits, Joins, keeps, ope
 use Rattle.atomic_table.proofs.Lists.{at_set, set_again, set_else, at_longer, at_last}
 use Rattle.homeo_notes.specs.declared.rule.View.{View}
 use Rattle.homeo_notes.specs.Lines.{Entry, Entries, IsOwner, put, longer, longest, or_empty, all_or_empty, is_within}
-use Rattle.homeo_notes.specs.inner.Rule.{view_owns, Fits, Owned, Kept, newcomer, held}
+use Rattle.homeo_notes.specs.Boards.{newcomer, held}
+use Rattle.homeo_notes.specs.inner.Rule.{view_owns, Fits, Owned, Kept}
 use Rattle.homeo_notes.specs.inner.Steps.{Adds, Looks, Learns, Marks, marked, stays, dealt, noted, told_by, spent}
 use Rattle.homeo_notes.proofs.Lists.{get_or-put_same, get_or-put_other, get_or-pick, set_there, at_snoc_or_last, cond_some, get_or-longest, get_or-all_or_empty}
 use Rattle.homeo_notes.proofs.Prefixes.{prefix_self, prefix_nil, prefix_trans, prefix_push, longer_prefixes}

@@ -38,7 +38,7 @@ pub struct Blank {
 impl Model for Blank {
     ghost use Rattle.std.specs.Prelude.{◌≡◌, [], ◌<◌};
     ghost use Rattle.atomic_table.specs.Seated.{TableId};
-    ghost use Rattle.homeo_notes.specs.inner.Rule.{newcomer};
+    ghost use Rattle.homeo_notes.specs.Boards.{newcomer};
 
     ghost Value = { TableId };
 

@@ -6,7 +6,7 @@ ghost use Rattle.homeo_notes.specs.Lines.{IsOwner, HasSeen, TellsOf, list_at, se
 ghost use Rattle.homeo_notes.specs.inner.Steps.{marked};
 
 use crate::rule::{Law, View};
-use crate::steps::{Add, Deal, Learn, Look, Mark, Note, Range, Wording};
+use crate::steps::{Add, Deal, EntryNaming, Learn, LinesNaming, Look, Mark, Note};
 use crate::{Blank, Holder, Naming};
 use atomic_table::{Seat, Table};
 use std::alloc::Global;
@@ -109,7 +109,7 @@ impl<N: Naming> Board<N> {
         self.look(right, other);
     }
 
-    fn add<E: Wording>(&self, holder: &mut Holder<N>, line: u32, head: &[i64], body: &[i64])
+    fn add<E: EntryNaming>(&self, holder: &mut Holder<N>, line: u32, head: &[i64], body: &[i64])
         requires owner { IsOwner holder.old line }
         requires room { length (list_at holder.old line) < 2 ^ 63 }
         requires entry { E.entry ≡ head.now ++ body.now }
@@ -120,7 +120,7 @@ impl<N: Naming> Board<N> {
             .fetch_add::<Add<E>>(&mut holder.seat, line as usize, 1);
     }
 
-    fn mark<C: Range>(&self, seat: &mut Seat<u8, View>, first: u32, end: u32)
+    fn mark<C: LinesNaming>(&self, seat: &mut Seat<u8, View>, first: u32, end: u32)
         requires table { seat.old.table_id ≡ N.board }
         requires range { (C.first ≡ first) × (C.end ≡ end) }
         ensures same { (seat.new.table_id ≡ seat.old.table_id) × (seat.new.id ≡ seat.old.id) × (seat.new.me.1 ≡ seat.old.me.1) }

@@ -16,7 +16,7 @@ pub struct Holder<N: Naming> {
 impl<N: Naming> Model for Holder<N> {
     ghost use Rattle.std.specs.Prelude.{◌≡◌, []};
     ghost use Rattle.homeo_notes.specs.Lines.{Held, IsWithin};
-    ghost use Rattle.homeo_notes.specs.inner.Rule.{held};
+    ghost use Rattle.homeo_notes.specs.Boards.{held};
 
     ghost Value = { Held };
 

@@ -18,7 +18,8 @@ pub struct View {
 pub struct Law;
 
 impl TableRule<u8, View, usize> for Law {
-    ghost use Rattle.homeo_notes.specs.inner.Rule.{Kept, newcomer};
+    ghost use Rattle.homeo_notes.specs.Boards.{newcomer};
+    ghost use Rattle.homeo_notes.specs.inner.Rule.{Kept};
 
     ghost holds = { Kept };
 

@@ -5,25 +5,25 @@ use atomic_table::{Join, Play, Split};
 use std::marker::{Brand, PhantomData};
 
 /// Names an entry, for contracts alone.
-pub trait Wording {
+pub trait EntryNaming {
     ghost use Rattle.std.specs.Prelude.{List, ℤ};
 
     /// The entry.
     ghost entry: { List ℤ };
 }
 
-impl Wording for Brand {
+impl EntryNaming for Brand {
     ghost use Rattle.std.specs.Prelude.{[]};
 
     ghost entry = { [] };
 }
 
 /// Adds 1 to the word of an owned line, whose list then has the entry as its last.
-pub struct Add<E: Wording> {
+pub struct Add<E: EntryNaming> {
     of: PhantomData<E>,
 }
 
-impl<E: Wording> Play<u8, View> for Add<E> {
+impl<E: EntryNaming> Play<u8, View> for Add<E> {
     ghost use Rattle.homeo_notes.specs.inner.Steps.{Adds};
 
     ghost then = { Adds E.entry };
@@ -48,7 +48,7 @@ impl Play<u8, View> for Learn {
 }
 
 /// Names the lines from `first` to below `end`, for contracts alone.
-pub trait Range {
+pub trait LinesNaming {
     ghost use Rattle.std.specs.Prelude.{ℕ};
 
     /// The first of the lines.
@@ -58,18 +58,18 @@ pub trait Range {
     ghost end: { ℕ };
 }
 
-impl Range for Brand {
+impl LinesNaming for Brand {
     ghost first = { 0 };
 
     ghost end = { 0 };
 }
 
 /// Loads word 0 and marks which lines are dealt next.
-pub struct Mark<C: Range> {
+pub struct Mark<C: LinesNaming> {
     of: PhantomData<C>,
 }
 
-impl<C: Range> Play<u8, View> for Mark<C> {
+impl<C: LinesNaming> Play<u8, View> for Mark<C> {
     ghost use Rattle.homeo_notes.specs.inner.Steps.{Marks};
 
     ghost then = { Marks C.first C.end };

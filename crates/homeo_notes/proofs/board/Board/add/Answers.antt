@@ -1,7 +1,7 @@
 use Rattle.std.proofs.Common.{◌≡◌, ◌<◌, ◌^◌, length, sym, ◌∙◌, ap, subst}
 use Rattle.atomic_table.specs.Seated.{TableId}
 use Rattle.homeo_notes.specs.Lines.{Held, IsOwner, IsWithin, list_at}
-use Rattle.homeo_notes.specs.inner.Rule.{held}
+use Rattle.homeo_notes.specs.Boards.{held}
 use Rattle.homeo_notes.specs.declared.rule.View.{View}
 use Rattle.homeo_notes.proofs.Keeps.{adds}
 use Rattle.homeo_notes.proofs.Within.{within_list, within_same}
@@ -16,7 +16,7 @@ fetch_add-requires g c =
     let lt = c.holder.invariant.2 line _ owner in (
       c.holder.invariant.0 ∙ sym b.named,
       subst (λ (t : TableId). line < t.words) (sym b.named) lt,
-      adds b.table.shared.key b.table.shared.table_id.slots c.holder.inside.seat.id line c.holder.inside.seat.me g.E.Wording.entry _ (subst (λ n. line < n) (sym b.lines) lt) owner
+      adds b.table.shared.key b.table.shared.table_id.slots c.holder.inside.seat.id line c.holder.inside.seat.me g.E.EntryNaming.entry _ (subst (λ n. line < n) (sym b.lines) lt) owner
           (subst (λ (h : Held). length (list_at h line) < 2 ^ 63) is c.requires.room),
     )
 

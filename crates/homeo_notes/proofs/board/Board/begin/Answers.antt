@@ -3,7 +3,7 @@ use Rattle.atomic_table.specs.Table.{Me}
 use Rattle.atomic_table.specs.Seated.{TableId}
 use Rattle.homeo_notes.specs.declared.rule.View.{View}
 use Rattle.homeo_notes.specs.Lines.{IsWithin, owner_of_all}
-use Rattle.homeo_notes.specs.inner.Rule.{held}
+use Rattle.homeo_notes.specs.Boards.{held}
 use Rattle.homeo_notes.proofs.Within.{within_all}
 use Rattle.homeo_notes.proofs.board.Board.begin.Goals as goal
 

@@ -2,7 +2,7 @@ use Rattle.std.proofs.Common.{◌≡◌, ℕ, sym, ap, ◌∙◌, subst}
 use Rattle.homeo_notes.specs.Lines.{Held, IsOwner, IsWithin}
 use Rattle.atomic_table.specs.Table.{Me}
 use Rattle.homeo_notes.specs.declared.rule.View.{View}
-use Rattle.homeo_notes.specs.inner.Rule.{held}
+use Rattle.homeo_notes.specs.Boards.{held}
 use Rattle.homeo_notes.proofs.Within.{within_pick}
 use Rattle.homeo_notes.proofs.Keeps.{deals_marked}
 use Rattle.homeo_notes.proofs.board.Board.deal.Goals as goal

@@ -4,7 +4,7 @@ use lib.ListN.{get_or}
 use Rattle.atomic_table.specs.Table.{Me}
 use Rattle.homeo_notes.specs.declared.rule.View.{View}
 use Rattle.homeo_notes.specs.Lines.{Held, TellsOf, longest}
-use Rattle.homeo_notes.specs.inner.Rule.{held}
+use Rattle.homeo_notes.specs.Boards.{held}
 use Rattle.homeo_notes.specs.inner.Steps.{noted, told_by}
 use Rattle.homeo_notes.proofs.Prefixes.{prefix_trans}
 use Rattle.homeo_notes.proofs.Within.{within_same}
