@@ -20,7 +20,7 @@ fn crosses_threads<N: Naming + Send + Sync>(board: &Board<N>, holder: &Holder<N>
 // Of three lines, `left` has line 0 and `right` line 1. Both lists get the entry 1, 2, 3.
 fn agree<N: Naming + Send + Sync>(blank: Blank) -> (Holder<N>, Holder<N>)
     requires named { blank ≡ N.board }
-    requires lines { N.board.words ≡ 3 }
+    requires lines { blank.words ≡ 3 }
     ensures left { list_at result.0 0 ≡ (pos 1 ∷ pos 2 ∷ pos 3 ∷ []) ∷ [] }
     ensures right { list_at result.1 1 ≡ list_at result.0 0 }
 {
@@ -37,9 +37,17 @@ fn agree<N: Naming + Send + Sync>(blank: Blank) -> (Holder<N>, Holder<N>)
     (left, right)
 }
 
+// No holder of a board leaves the function in which N names it.
+fn agree_within<N: Naming + Send + Sync>(blank: Blank)
+    requires named { blank ≡ N.board }
+    requires lines { blank.words ≡ 3 }
+{
+    let (_left, _right) = agree::<N>(blank);
+}
+
 #[test]
 fn two_holders_agree(rt: HostRuntime) -> Result<(), Fail> {
     let blank = Blank::new(rt.alloc(), 3).ok().ok_or("memory")?;
-    let (_left, _right) = agree::<Brand>(blank);
+    agree_within::<Brand>(blank);
     Ok(())
 }
