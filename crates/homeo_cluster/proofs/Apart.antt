@@ -1,10 +1,12 @@
 -- The lines of a site's holder are apart.
+use Rattle.homeo_history.specs.Key.{words as histories}
+use Rattle.homeo_site.specs.Key.{words as site_words}
 use Rattle.std.proofs.Common.{◌≡◌, ◌⊎◌, ℕ, zero, suc, ◌+◌, ◌*◌, ◌<◌, ◌≤◌, Bool, true, false, List, [], ◌∷◌, length, map, Some, None, refl, sym, ap, subst, ◌∙◌, arith, ⊎_elim, inl, inr}
 use Rattle.std.specs.Prelude.{slice_get, option_map}
 use Rattle.homeo_syntax.specs.Source as s
 use Rattle.homeo_syntax.specs.Source.{Client}
 use Rattle.homeo_history.specs.Legal.{site_of, IsClientAt}
-use Rattle.homeo_history.specs.Key.{words}
+use Rattle.homeo_assembly.specs.Key.{words}
 use Rattle.homeo_cluster.specs.Key.{places}
 use Rattle.homeo_cluster.specs.Places.{is_less, is_same, one_for, earlier, nth, homes, home_of, below, place, kept_line, done_line, shut_line, at_line, bases_line}
 
@@ -15,7 +17,7 @@ stands f (x ∷ xs) zero site e = (cc (e), omega arith)
 stands f (x ∷ xs) (suc i) site e = let rest = stands f xs i site e in (rest.0, omega (arith, rest.1))
 
 pub at_home : (w : s.Workload) (site client : ℕ) → IsClientAt w site client → (home_of w client ≡ site) × (client < length (homes w))
-unfolding places words histories
+unfolding places histories
 at_home w site client at = stands (λ (c : Client). c.site) w.clients client site at
 
 -- counted before a place, and from it on

@@ -1,4 +1,6 @@
 -- The local event, over plain data.
+use Rattle.homeo_history.specs.Key.{words as histories}
+use Rattle.homeo_site.specs.Key.{words as site_words}
 use Rattle.std.proofs.Common.{◌≡◌, ◌≢◌, ℕ, suc, ◌+◌, ◌<◌, ◌≤◌, List, [], ◌∷◌, ◌++◌, length, map, Some, refl, sym, ap, subst, ◌∙◌, arith}
 use Rattle.std.specs.Prelude.{ℤ, All}
 use Rattle.std.specs.List.{range_with_len}
@@ -12,7 +14,7 @@ use Rattle.homeo_history.specs.History.{Entry as Made}
 use Rattle.homeo_plan.specs.Planned.{sites_of}
 use Rattle.homeo_history.specs.Legal.{call_count, IsClientAt}
 use Rattle.homeo_site.specs.SiteState.{SiteState, local_entry, after_local, KeepsCall}
-use Rattle.homeo_history.specs.Key.{words}
+use Rattle.homeo_assembly.specs.Key.{words}
 use Rattle.homeo_history.specs.Answers.{Answer, local_answer}
 use Rattle.homeo_assembly.specs.Events.{ExtendsDone}
 use Rattle.homeo_assembly.specs.Facts.{SiteFacts}
@@ -59,7 +61,7 @@ pub extends_done : (w : s.Workload) (x : SiteState) (call : CallId) (h h' : Held
     → call.seq ≡ suc (length (list_at h (done_line w call.client)))
     → Grew h h' (done_line w call.client) (written (local_answer x.round x.number (local_entry w x call)))
     → ExtendsDone w x (local_answer x.round x.number (local_entry w x call)) (site_lists w x.number h) (site_lists w x.number h')
-unfolding words
+unfolding words histories site_words
 extends_done w x call h h' own next g =
     let a : Answer = local_answer x.round x.number (local_entry w x call) in
     let lines : AreApart w x.number = apart w x.number in record {
@@ -76,7 +78,7 @@ pub cell_local : (w : s.Workload) (v v' : SiteValue) (h h' : Held) (call : CallI
     → Grew h h' (done_line w call.client) (written (local_answer v.state.round v.state.number (local_entry w v.state call)))
     → HasSeen h' (asked_line call.client) (list_at h' (done_line w call.client))
     → IsCell w record { site = v'; held = h' }
-unfolding words
+unfolding words histories site_words
 cell_local w v v' h h' call is own keeps work state next g seen =
     let e : Entry = written (local_answer v.state.round v.state.number (local_entry w v.state call)) in
     let number : v'.state.number ≡ v.state.number = ap (λ (x : SiteState). x.number) state in record {

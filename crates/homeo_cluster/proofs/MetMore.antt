@@ -3,12 +3,13 @@ use Rattle.std.proofs.Common.{◌≡◌, ◌≢◌, ◌⊎◌, inl, inr, ⊎_eli
 use Rattle.std.specs.Prelude.{ℤ}
 use Rattle.homeo_syntax.specs.Source as s
 use Rattle.homeo_history.specs.Legal.{IsClientAt}
+use Rattle.homeo_cluster.specs.Passes.{PassValue, logs_of, AreAll}
 use Rattle.homeo_history.specs.Answers.{Answer}
 use Rattle.homeo_assembly.specs.Facts.{Cell, BookLists, SiteFacts}
-use Rattle.homeo_assembly.proofs.ClientAnswers.{one_site}
-use Rattle.homeo_assembly.proofs.Lists.{get_map, get_map_back}
-use Rattle.homeo_cluster.specs.Cells.{CellValue, BookValue, PassValue, cell_of, cells_of, logs_of}
-use Rattle.homeo_cluster.specs.inner.Meets.{SameBook, AreAll, AreNumbered, CellsNumbered, IsMet, MetAt, MetShut, MetDone}
+use Rattle.homeo_history.proofs.ClientAnswers.{one_site}
+use Rattle.homeo_history.proofs.Lists.{get_map, get_map_back}
+use Rattle.homeo_cluster.specs.Cells.{CellValue, BookValue, cell_of, cells_of}
+use Rattle.homeo_cluster.specs.inner.Meets.{SameBook, AreNumbered, CellsNumbered, IsMet, MetAt, MetShut, MetDone}
 
 pub get_snoc : {X : Type 0} (xs : List X) (a b : X) (j : ℕ) → slice_get (xs ++ a ∷ []) j ≡ Some b → (slice_get xs j ≡ Some b) ⊎ ((a ≡ b) × (j ≡ length xs))
 get_snoc [] a b zero e = inr (cc (e), refl)

@@ -11,15 +11,15 @@ use Rattle.homeo_plan.specs.Planned.{sites_of}
 use Rattle.homeo_history.specs.Legal.{call_count, IsClientAt, IsCallAt}
 use Rattle.homeo_site.specs.SiteState.{SiteState}
 use Rattle.homeo_core.specs.Joined.{BookState, rounds_of}
-use Rattle.homeo_history.specs.Key.{words}
+use Rattle.homeo_assembly.specs.Key.{words}
 use Rattle.homeo_history.specs.Answers.{Answer, local_answer, answers_of, answers_to}
 use Rattle.homeo_assembly.specs.Events.{HasMoved}
-use Rattle.homeo_assembly.specs.Facts.{Cell, BookLists, SiteFacts, BookFacts, sites_of, AreMet}
+use Rattle.homeo_assembly.specs.Facts.{Cell, BookLists, SiteFacts, BookFacts, states_of, AreMet}
 use Rattle.homeo_assembly.specs.Written.{written}
-use Rattle.homeo_assembly.proofs.Exists.{client_lt, all_exist, count_bound}
+use Rattle.homeo_history.proofs.Exists.{client_lt, all_exist, count_bound}
 use Rattle.homeo_assembly.proofs.Joined.{at_sites}
-use Rattle.homeo_assembly.proofs.ClientAnswers.{client_at}
-use Rattle.homeo_assembly.proofs.Lists.{All-get}
+use Rattle.homeo_history.proofs.ClientAnswers.{client_at}
+use Rattle.homeo_history.proofs.Lists.{All-get}
 use Rattle.homeo_assembly.proofs.MetLists as lists
 use Rattle.homeo_cluster.specs.Key.{places}
 use Rattle.homeo_cluster.specs.inner.Grows.{Grew}
@@ -92,9 +92,9 @@ done_short w b l cells sound book sites met client i c own e =
     let numbered : map (λ (a : Answer). a.seq) (c.lists.done client) ≡ range_with_len 1 (length (c.lists.done client)) = ((lists.facts_at w b l cells book sites met i c e).serves client own').numbered in
     let is = lists.done_is w b l cells book sites met sound client i c own e in
     let joined = lists.joined w b l cells book sites met in
-    let rounds = rounds_of b (sites_of cells) in
+    let rounds = rounds_of b (states_of cells) in
     subst (λ xs. length xs ≤ call_count w client) (sym is)
-      (count_bound w client (answers_of 0 rounds) (all_exist w 0 rounds (at_sites w b (sites_of cells) sound joined))
+      (count_bound w client (answers_of 0 rounds) (all_exist w 0 rounds (at_sites w b (states_of cells) sound joined))
         (subst (λ xs. map (λ (a : Answer). a.seq) xs ≡ range_with_len 1 (length xs)) is numbered))
 
 -- an entry of the segment is of a client of the site

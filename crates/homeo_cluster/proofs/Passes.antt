@@ -1,4 +1,6 @@
 -- A pass after an answer, over plain data.
+use Rattle.homeo_history.specs.Key.{words as histories}
+use Rattle.homeo_site.specs.Key.{words as site_words}
 use Rattle.std.proofs.Common.{◌≡◌, ℕ, suc, ◌+◌, ◌<◌, ◌≤◌, List, [], ◌∷◌, ◌++◌, length, map, Some, refl, sym, ap, subst, ◌∙◌, arith}
 use Rattle.std.specs.Prelude.{ℤ, All}
 use Rattle.std.specs.List.{range_with_len}
@@ -11,13 +13,13 @@ use Rattle.homeo_history.specs.Legal.{call_count, IsClientAt}
 use Rattle.homeo_site.specs.SiteState.{SiteState, local_entry}
 use ?Rattle.site.specs.Values.{ChangeValue, local_change, head_of}
 use Rattle.homeo_site.specs.Attempts.{IsChange}
-use Rattle.homeo_history.specs.Key.{words}
+use Rattle.homeo_cluster.specs.Passes.{PassValue, IsPass, IsLog, HoldsLog}
+use Rattle.homeo_assembly.specs.Key.{words}
 use Rattle.homeo_history.specs.Answers.{Answer, local_answer}
 use Rattle.homeo_assembly.specs.Written.{written}
-use Rattle.homeo_assembly.proofs.Lists.{range_more}
+use Rattle.homeo_history.proofs.Lists.{range_more}
 use Rattle.homeo_cluster.specs.inner.Grows.{Grew}
 use Rattle.homeo_cluster.specs.Places.{asked_line, done_line}
-use Rattle.homeo_cluster.specs.Cells.{PassValue, IsPass, IsLog, HoldsLog}
 use Rattle.homeo_cluster.proofs.Grows.{grew_same, grew_owner_same}
 
 numbered_more : (log : List Answer) (a : Answer) → a.seq ≡ suc (length log) → map (λ x. x.seq) log ≡ range_with_len 1 (length log) → map (λ x. x.seq) (log ++ a ∷ []) ≡ range_with_len 1 (length (log ++ a ∷ []))
@@ -55,7 +57,7 @@ pass_more w client left left' log log' h h' a is fewer items own seq g seen =
 
 -- what is extended is the answer as it is written
 pub written_head : (a : Answer) → head_of a ++ a.prints ≡ written a
-unfolding words
+unfolding words histories site_words
 written_head a = refl
 
 -- a change's answer is that of its local step

@@ -1,4 +1,6 @@
 -- The cleanup event at one site, over plain data.
+use Rattle.homeo_history.specs.Key.{words as histories}
+use Rattle.homeo_site.specs.Key.{words as site_words}
 use Rattle.std.proofs.Common.{◌≡◌, ◌≢◌, ℕ, suc, ◌+◌, ◌<◌, List, [], ◌∷◌, ◌++◌, length, map, take, Some, None, refl, sym, ap, subst, ◌∙◌, arith}
 use Rattle.std.specs.Prelude.{ℤ, All, slice_get}
 use mathlib.Core.Logic.{dite}
@@ -11,7 +13,7 @@ use Rattle.homeo_plan.specs.Planned.{sites_of}
 use Rattle.homeo_history.specs.Legal.{IsClientAt}
 use Rattle.homeo_site.specs.SiteState.{SiteState, renewed}
 use Rattle.homeo_plan.specs.Local.{no_deltas}
-use Rattle.homeo_history.specs.Key.{words}
+use Rattle.homeo_assembly.specs.Key.{words}
 use Rattle.homeo_history.specs.Answers.{Answer, local_answer, answers_to}
 use Rattle.homeo_assembly.specs.Events.{Gives, HasMoved, Moves, Renews}
 use Rattle.homeo_assembly.specs.Facts.{SiteFacts}
@@ -31,7 +33,7 @@ pub moved_more : (w : s.Workload) (x : SiteState) (h0 h h' : Held) (k : ℕ) (e 
     → HasMoved w x k (site_lists w x.number h0).shut (site_lists w x.number h).shut
     → Grew h h' (shut_line w e.call.client) (written (local_answer x.round x.number e))
     → HasMoved w x (suc k) (site_lists w x.number h0).shut (site_lists w x.number h').shut
-unfolding words
+unfolding words histories site_words
 moved_more w x h0 h h' k e facts own at moved g =
     (moving w x (site_lists w x.number h0) facts).more k e (site_lists w x.number h).shut (site_lists w x.number h').shut at moved
       (gives w x.number h h' (shut_line w) (local_answer x.round x.number e) (apart w x.number).shut own g)
@@ -71,7 +73,7 @@ pub cell_renewed : (w : s.Workload) (v v' : SiteValue) (h h' : Held) (base : Lis
     → rules.finding base v.state.number (no_deltas base) ≡ None
     → Renews w base v.state a (site_lists w v.state.number h) (site_lists w v.state.number h') → HoldsAt w v.state.number h'
     → IsCell w record { site = v'; held = h' }
-unfolding words
+unfolding words histories site_words
 cell_renewed w v v' h h' base a is work state meets renews holds =
     let number : v'.state.number ≡ v.state.number = ap (λ (x : SiteState). x.number) state in record {
       work = work ∙ is.work;

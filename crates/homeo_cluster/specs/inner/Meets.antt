@@ -7,9 +7,10 @@ use Rattle.homeo_plan.specs.Planned.{sites_of}
 use Rattle.homeo_history.specs.Legal.{IsClientAt}
 use Rattle.homeo_site.specs.SiteState.{SiteState}
 use Rattle.homeo_core.specs.Joined.{BookState}
+use Rattle.homeo_cluster.specs.Passes.{PassValue}
 use Rattle.homeo_history.specs.Answers.{Answer}
 use Rattle.homeo_assembly.specs.Facts.{Cell, BookLists, SiteFacts, BookFacts, AreMet, AreAsked}
-use Rattle.homeo_cluster.specs.Cells.{CellValue, BookValue, PassValue, cell_of, book_lists}
+use Rattle.homeo_cluster.specs.Cells.{CellValue, BookValue, cell_of, book_lists}
 
 -- the holder alone has learnt something
 pub record SameCell (w : s.Workload) (c c' : CellValue) : Type 0 where
@@ -63,8 +64,8 @@ pub record AreSettled (w : s.Workload) (b : BookState) (l : BookLists) (cs : Lis
   pub met : AreMet w l cs
   pub asked : AreAsked w cs logs
 
-abbrev pub states_of : List CellValue → List SiteState
-states_of cells = map (λ (c : CellValue). c.site.state) cells
+abbrev pub site_states : List CellValue → List SiteState
+site_states cells = map (λ (c : CellValue). c.site.state) cells
 
 abbrev pub segment_at : CellValue → List Entry
 segment_at c = c.site.state.segment
