@@ -1,0 +1,7 @@
+pub mod Assembled
+pub mod ClientsAtSites
+pub mod ClosingEvents
+pub mod MetLists
+pub mod MovedEntries
+pub mod Reading
+pub mod SiteEvents

@@ -1,0 +1,60 @@
+-- An answer, written as numbers, reads back as it was.
+use Rattle.homeo_assembly.specs.Key.{words}
+use Rattle.std.proofs.Common.{◌≡◌, ℕ, ◌+◌, ◌*◌, ◌/◌, ◌%◌, ℤ, pos, negsuc, ◌+ℤ◌, ◌-ℤ◌, List, [], ◌∷◌, ◌++◌, map, refl, ap, subst, ◌∙◌, arith}
+use Rattle.std.specs.Prelude.{All}
+use Rattle.std.proofs.lemmas.Int.{ints}
+use Rattle.std.proofs.lemmas.List.Elements.{All-head, All-tail}
+use Rattle.homeo_history.specs.Answers.{Answer}
+use Rattle.homeo_history.specs.declared.answer.Path.{Path}
+use Rattle.homeo_history.specs.declared.answer.Path.TheVariants.{Local, Cleanup}
+use Rattle.homeo_assembly.specs.Written.{natural, joined, upper, lower, head_of, written, read, ReadBack}
+
+-- ---- a number
+halves : (n : ℕ) → n / 18446744073709551616 * 18446744073709551616 + n % 18446744073709551616 ≡ n
+halves n = omega arith
+
+shifted_back : (r : ℕ) → (pos r -ℤ pos 9223372036854775808) +ℤ pos 9223372036854775808 ≡ pos r
+shifted_back r = omega (arith, ints)
+
+pub number_again : (z : ℤ) → joined (upper z) (lower z) ≡ z
+unfolding words
+number_again (pos n) =
+    ap (λ r. pos (n / 18446744073709551616 * 18446744073709551616 + natural r)) (shifted_back (n % 18446744073709551616)) ∙ ap pos (halves n)
+number_again (negsuc n) =
+    ap (λ r. negsuc (n / 18446744073709551616 * 18446744073709551616 + natural r)) (shifted_back (n % 18446744073709551616)) ∙ ap negsuc (halves n)
+
+pub natural_again : (n : ℕ) → natural (joined (upper (pos n)) (lower (pos n))) ≡ n
+unfolding words
+natural_again n = ap natural (number_again (pos n))
+
+-- ---- an answer
+read_as : (path : Path) (a : Answer) → read a.client (head_of a.seq a.site a.round path ++ a.prints) ≡ record { client = a.client; seq = a.seq; site = a.site; round = a.round; path = path; prints = a.prints }
+unfolding words
+read_as Local a = λ i. record {
+  client = a.client;
+  seq = natural_again a.seq i;
+  site = natural_again a.site i;
+  round = natural_again a.round i;
+  path = Local;
+  prints = a.prints;
+}
+read_as (Cleanup b) a = λ i. record {
+  client = a.client;
+  seq = natural_again a.seq i;
+  site = natural_again a.site i;
+  round = natural_again a.round i;
+  path = Cleanup (record { clause = natural_again b.clause i; sum = number_again b.sum i; bound = number_again b.bound i });
+  prints = a.prints;
+}
+
+pub read_written : (client : ℕ) (a : Answer) → a.client ≡ client → read client (written a) ≡ a
+unfolding words
+read_written client a e = subst (λ c. read c (written a) ≡ a) e (read_as a.path a)
+
+pub read_back : ReadBack
+unfolding words
+read_back client [] all = refl
+read_back client (a ∷ answers) all =
+    let here : read client (written a) ≡ a = read_written client a (All-head (λ (x : Answer). x.client ≡ client) a answers all) in
+    let rest : map (read client) (map written answers) ≡ answers = read_back client answers (All-tail (λ (x : Answer). x.client ≡ client) a answers all) in
+    λ i. here i ∷ rest i
