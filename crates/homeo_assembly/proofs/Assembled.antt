@@ -1,4 +1,6 @@
 -- Sites, book and clients whose lists are found equal make a legal history, in which the answers stand.
+use Rattle.homeo_history.specs.Key.{words as histories}
+use Rattle.homeo_core.specs.Key.{words as cores}
 use Rattle.homeo_assembly.specs.Key.{words}
 use Rattle.std.proofs.Common.{◌≡◌, ℕ, zero, suc, ◌<◌, ◌≤◌, List, [], ◌∷◌, map, length, Option, Some, None, refl, sym, ap, subst, ◌∙◌, arith}
 use Rattle.std.specs.Prelude.{All, slice_get, slice_index_or}
@@ -72,6 +74,7 @@ module _ (w : s.Workload) (b : BookState) (l : BookLists) (cells : List Cell) (a
   }
 
   is_assembled : IsAssembled w asked (history_of b (states_of cells))
+  unfolding words histories cores
   is_assembled = record {
     legal = joining w (initial w) b (states_of cells) (map length asked) accepted (met_lists.joined w b l cells book sites met) in_order;
     answers = record {

@@ -3,7 +3,7 @@ use Rattle.homeo_syntax.specs.Key.{words as syntax}
 use Rattle.homeo_meaning.specs.Key.{words as meanings}
 use Rattle.homeo_plan.specs.Key.{words as plans}
 use Rattle.homeo_history.specs.Key.{words as histories}
-use Rattle.std.proofs.Common.{◌≡◌, ℕ, zero, suc, ◌<◌, ℤ, pos, negsuc, ◌≤ℤ◌, ◌<ℤ◌, int_le, Bool, true, false, List, [], ◌∷◌, Option, Some, None, All, subst, arith}
+use Rattle.std.proofs.Common.{◌≡◌, ℕ, zero, suc, ◌<◌, ℤ, pos, negsuc, ◌≤ℤ◌, ◌<ℤ◌, int_le, Bool, true, false, List, [], ◌∷◌, Option, Some, None, All, refl, subst, arith}
 use Rattle.std.specs.Prelude.{slice_get}
 use Rattle.std.specs.List.{flat_map}
 use Rattle.std.specs.Option.{option_map}

@@ -51,12 +51,13 @@ module _ (w : s.Workload) (b : BookState) (l l' : BookLists) (cells cells' : Lis
   joined = met_lists.joined w b l cells old.book old.sites old.met
 
   gone_on : IsAfter w (initial w) a b after (states_of cells) begun_states
+  unfolding cores
   gone_on = core_cleanup w (initial w) b (states_of cells) home call broken accepted joined event
 
   -- ---- the book
   -- the answers of the closed rounds to a client are those of the history before, and the closing call's
   closed_more : (client i : ℕ) (c : Cell) → IsClientAt w i client → slice_get cells i ≡ Some c → answers_to client (answers_of 0 after.closed) ≡ answers_to client (answers_of 0 (rounds_of b (states_of cells))) ++ answers_to client (a ∷ [])
-  unfolding histories site_words
+  unfolding histories site_words cores
   closed_more client i c own e =
       let begun_at : slice_get begun_states i ≡ Some (renewed next c.site) = get_map (renewed next) (states_of cells) i c.site (met_lists.state_at w b l cells old.book old.sites old.met i c e) in
       sym (append-nil (answers_to client (answers_of 0 after.closed)))
@@ -91,6 +92,7 @@ module _ (w : s.Workload) (b : BookState) (l l' : BookLists) (cells cells' : Lis
   before i c' e = get_some cells i (subst (λ n. i < n) new.count (get_lt cells' i c' e))
 
   site_after : (i : ℕ) (c' : Cell) → slice_get cells' i ≡ Some c' → SiteFacts w c'.site c'.lists
+  unfolding words cores
   site_after i c' e =
       let was = before i c' e in
       subst (λ x. SiteFacts w x c'.lists) (sym (new.site i was.0 c' was.1 e)) (site_renewal w next was.0.site a was.0.lists c'.lists accepted gone_on.joined.book.within (met_lists.facts_at w b l cells old.book old.sites old.met i was.0 was.1) (new.lists i was.0 c' was.1 e))

@@ -1,4 +1,5 @@
 -- While a round is closed, the answers to a site's entries go over to the closed ones one by one.
+use Rattle.homeo_history.specs.Key.{words as histories}
 use Rattle.homeo_assembly.specs.Key.{words}
 use Rattle.std.proofs.Common.{◌≡◌, ℕ, zero, suc, List, [], ◌∷◌, ◌++◌, map, take, length, Some, refl, sym, ap, ◌∙◌, append_assoc}
 use Rattle.std.specs.Prelude.{slice_get}
@@ -15,7 +16,7 @@ take_next (x ∷ es) zero e h = let same : x ≡ e = cc in ap (λ y. y ∷ []) s
 take_next (x ∷ es) (suc k) e h = ap (λ l. x ∷ l) (take_next es k e h)
 
 pub moving : Moving
-unfolding words
+unfolding words histories
 moving w x l facts = record {
   none = λ client own. sym (append-nil (l.shut client));
   more = λ k e now later at moved gives client own.
