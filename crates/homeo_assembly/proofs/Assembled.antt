@@ -73,7 +73,7 @@ module _ (w : s.Workload) (b : BookState) (l : BookLists) (cells : List Cell) (a
     numbers = λ client. (counted client (slice_get asked client) refl).numbers;
   }
 
-  is_assembled : IsAssembled w asked (history_of b (states_of cells))
+  pub is_assembled : IsAssembled w asked (history_of b (states_of cells))
   unfolding words histories cores
   is_assembled = record {
     legal = joining w (initial w) b (states_of cells) (map length asked) accepted (met_lists.joined w b l cells book sites met) in_order;

@@ -51,10 +51,13 @@ pub read_written : (client : ℕ) (a : Answer) → a.client ≡ client → read 
 unfolding words
 read_written client a e = subst (λ c. read c (written a) ≡ a) e (read_as a.path a)
 
+pub read_all : (client : ℕ) (answers : List Answer) → All (λ a. a.client ≡ client) answers → map (read client) (map written answers) ≡ answers
+read_all client [] all = refl
+read_all client (a ∷ answers) all =
+    let here : read client (written a) ≡ a = read_written client a (All-head (λ (x : Answer). x.client ≡ client) a answers all) in
+    let rest : map (read client) (map written answers) ≡ answers = read_all client answers (All-tail (λ (x : Answer). x.client ≡ client) a answers all) in
+    λ i. here i ∷ rest i
+
 pub read_back : ReadBack
 unfolding words
-read_back client [] all = refl
-read_back client (a ∷ answers) all =
-    let here : read client (written a) ≡ a = read_written client a (All-head (λ (x : Answer). x.client ≡ client) a answers all) in
-    let rest : map (read client) (map written answers) ≡ answers = read_back client answers (All-tail (λ (x : Answer). x.client ≡ client) a answers all) in
-    λ i. here i ∷ rest i
+read_back = read_all
