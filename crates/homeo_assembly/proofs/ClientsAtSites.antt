@@ -35,25 +35,41 @@ nat_lt (pos m) (pos n) h e = let lt : pos m <ℤ pos n = omega (arith, ints, e) 
 nat_lt (pos m) (negsuc n) h e = absurd (omega (arith, ints, e))
 nat_lt (negsuc m) sites h e = absurd (omega (arith, ints, h))
 
-not_negative : (cs : List s.Client) (i : ℕ) (c : s.Client) → formed.Each (λ (c : s.Client). pos 0 ≤ℤ c.site.value) cs → slice_get cs i ≡ Some c → pos 0 ≤ℤ c.site.value
+not_negative :
+    (cs : List s.Client) (i : ℕ) (c : s.Client) → formed.Each (λ (c : s.Client). pos 0 ≤ℤ c.site.value) cs →
+    slice_get cs i ≡ Some c → pos 0 ≤ℤ c.site.value
 unfolding syntax
 not_negative [] i c all e = absurd (cc)
-not_negative (x ∷ cs) zero c all e = let same : x ≡ c = cc in subst (λ (y : s.Client). pos 0 ≤ℤ y.site.value) same all.0
+not_negative (x ∷ cs) zero c all e =
+    let same : x ≡ c = cc in subst (λ (y : s.Client). pos 0 ≤ℤ y.site.value) same all.0
 not_negative (x ∷ cs) (suc i) c all e = not_negative cs i c all.1 e
+
+abbrev IsBelow : s.Workload → s.Client → Type 0
+IsBelow w c = int_le w.sites.value c.site.value ≡ false
+
+below : (w : s.Workload) (c : s.Client) → client_faults w.sites (scope_of w) w.transactions c ≡ [] → IsBelow w c
+unfolding meanings
+below w c none =
+    let calls : List Fault =
+    flat_map (λ (call : s.Call). call_faults w.transactions ((scope_of w).item call.name.name) call) c.calls in
+    none_when (int_le w.sites.value c.site.value) _ (none_second calls (site_faults w.sites c.site) none)
 
 site_lt : (w : s.Workload) (i : ℕ) (c : s.Client) → IsAccepted w → slice_get w.clients i ≡ Some c → nat_of c.site.value < sites_of w
 unfolding meanings plans
 site_lt w i c accepted e =
-    let IsBelow : s.Client → Type 0 = λ x. int_le w.sites.value x.site.value ≡ false in
-    let none : flat_map (client_faults w.sites (scope_of w) w.transactions) w.clients ≡ [] = (declared_parts w (parts Run w accepted.rules).text.declared).clients in
-    let each : All IsBelow w.clients = each-none (client_faults w.sites (scope_of w) w.transactions) IsBelow (λ x f. none_when (int_le w.sites.value x.site.value) _ (none_second (flat_map (λ (call : s.Call). call_faults w.transactions ((scope_of w).item call.name.name) call) x.calls) (site_faults w.sites x.site) f)) w.clients none in
-    nat_lt c.site.value w.sites.value (not_negative w.clients i c accepted.well_formed.sites e) (All-get IsBelow w.clients i c each e)
+    let faults : s.Client → List Fault = client_faults w.sites (scope_of w) w.transactions in
+    let none : flat_map faults w.clients ≡ [] = (declared_parts w (parts Run w accepted.rules).text.declared).clients in
+    let each : All (IsBelow w) w.clients = each-none faults (IsBelow w) (below w) w.clients none in
+    nat_lt c.site.value w.sites.value (not_negative w.clients i c accepted.well_formed.sites e)
+    (All-get (IsBelow w) w.clients i c each e)
 
-pub site_below : (w : s.Workload) (site client : ℕ) → IsAccepted w → IsClientAt w site client → site < sites_of w
+pub client_below : (w : s.Workload) (site client : ℕ) → IsAccepted w → IsClientAt w site client → site < sites_of w
 unfolding histories
-site_below w site client accepted at = go (slice_get w.clients client) refl at
+client_below w site client accepted at = go (slice_get w.clients client) refl at
   where
-    go : (o : Option s.Client) → slice_get w.clients client ≡ o → option_map (λ (c : s.Client). nat_of c.site.value) o ≡ Some site → site < sites_of w
+    go :
+        (o : Option s.Client) → slice_get w.clients client ≡ o →
+        option_map (λ (c : s.Client). nat_of c.site.value) o ≡ Some site → site < sites_of w
     go None e h = absurd (cc)
     go (Some c) e h =
         let same : nat_of c.site.value ≡ site = cc in subst (λ n. n < sites_of w) same (site_lt w client c accepted e)

@@ -23,46 +23,54 @@ use Rattle.homeo_history.proofs.Exists.{has_site}
 use Rattle.homeo_history.proofs.Lists.{get_lt, get_some, get_map, all_from_get}
 use Rattle.homeo_site.specs.SiteState.{SiteState, renewed}
 use Rattle.homeo_core.specs.Events.{BreaksCall, closing_of, next_base, after_closing, IsAfter}
-use Rattle.homeo_core.specs.Joined.{BookState, AreJoined, rounds_of}
+use Rattle.homeo_core.specs.Joined.{BookState, rounds_of}
 use Rattle.homeo_core.proofs.ClosingCalls.{core_cleanup}
 use Rattle.homeo_core.proofs.Joining.{with_open}
 use Rattle.homeo_core.proofs.OpenRound.{own_local}
 use Rattle.homeo_assembly.specs.Facts.{SiteFacts, BookLists, BookFacts, Cell, states_of, AreMet}
 use Rattle.homeo_assembly.specs.Events.{Closes, InHand}
 use Rattle.homeo_assembly.specs.Laws.{CleanupEvent, BookStart}
-use Rattle.homeo_assembly.proofs.ClientsAtSites.{site_below}
+use Rattle.homeo_assembly.proofs.ClientsAtSites.{client_below}
 use Rattle.homeo_assembly.proofs.MetLists as met_lists
 use Rattle.homeo_assembly.proofs.SiteEvents.{site_renewal}
 
 module _ (w : s.Workload) (b : BookState) (l l' : BookLists) (cells cells' : List Cell) (home : ℕ) (call : CallId) (broken : Broken) (accepted : IsAccepted w) (old : InHand w b l cells) (event : BreaksCall w (states_of cells) home call broken) (new : Closes w (next_base w b (states_of cells) call) (closing_answer (length b.closed) (closing_of w b (states_of cells) home call broken)) cells cells' l l') where
+  abbrev sites : List SiteState
+  sites = states_of cells
+
   abbrev next : List ℤ
-  next = next_base w b (states_of cells) call
+  next = next_base w b sites call
 
   abbrev a : Answer
-  a = closing_answer (length b.closed) (closing_of w b (states_of cells) home call broken)
+  a = closing_answer (length b.closed) (closing_of w b sites home call broken)
 
   abbrev after : BookState
-  after = after_closing w b (states_of cells) home call broken
+  after = after_closing w b sites home call broken
 
-  abbrev begun_states : List SiteState
-  begun_states = map (renewed next) (states_of cells)
+  abbrev begun_sites : List SiteState
+  begun_sites = map (renewed next) sites
 
-  joined : AreJoined w (initial w) b (states_of cells)
-  joined = met_lists.joined w b l cells old.book old.sites old.met
-
-  gone_on : IsAfter w (initial w) a b after (states_of cells) begun_states
+  gone_on : IsAfter w (initial w) a b after sites begun_sites
   unfolding cores
-  gone_on = core_cleanup w (initial w) b (states_of cells) home call broken accepted joined event
+  gone_on =
+      core_cleanup w (initial w) b sites home call broken accepted (met_lists.joined w b l cells old.book old.sites old.met)
+      event
 
   -- ---- the book
   -- the answers of the closed rounds to a client are those of the history before, and the closing call's
-  closed_more : (client i : ℕ) (c : Cell) → IsClientAt w i client → slice_get cells i ≡ Some c → answers_to client (answers_of 0 after.closed) ≡ answers_to client (answers_of 0 (rounds_of b (states_of cells))) ++ answers_to client (a ∷ [])
+  closed_more :
+      (client i : ℕ) (c : Cell) → IsClientAt w i client → slice_get cells i ≡ Some c →
+      answers_to client (answers_of 0 after.closed) ≡
+      answers_to client (answers_of 0 (rounds_of b sites)) ++ answers_to client (a ∷ [])
   unfolding histories site_words cores
   closed_more client i c own e =
-      let begun_at : slice_get begun_states i ≡ Some (renewed next c.site) = get_map (renewed next) (states_of cells) i c.site (met_lists.state_at w b l cells old.book old.sites old.met i c e) in
-      sym (append-nil (answers_to client (answers_of 0 after.closed)))
-      ∙ ap (λ xs. answers_to client (answers_of 0 after.closed) ++ xs) (sym (own_local w (initial w) after begun_states accepted gone_on.joined client i (renewed next c.site) own begun_at))
-      ∙ sym (with_open after begun_states client) ∙ gone_on.answer client
+      let closed : List Answer = answers_to client (answers_of 0 after.closed) in
+      let begun_at : slice_get begun_sites i ≡ Some (renewed next c.site) =
+      get_map (renewed next) sites i c.site (met_lists.state_at w b l cells old.book old.sites old.met i c e) in
+      sym (append-nil closed)
+      ∙ ap (λ xs. closed ++ xs)
+      (sym (own_local w (initial w) after begun_sites accepted gone_on.joined client i (renewed next c.site) own begun_at))
+      ∙ sym (with_open after begun_sites client) ∙ gone_on.answer client
 
   kept : (client : ℕ) → client < length w.clients → l'.kept client ≡ answers_to client (answers_of 0 after.closed)
   unfolding words
@@ -70,20 +78,25 @@ module _ (w : s.Workload) (b : BookState) (l l' : BookLists) (cells cells' : Lis
       let at = has_site w client lt in
       let i : ℕ = at.0 in
       let own : IsClientAt w i client = at.1 in
-      let inside : i < length cells = subst (λ n. i < n) (sym old.met.count) (site_below w i client accepted own) in
+      let inside : i < length cells = subst (λ n. i < n) (sym old.met.count) (client_below w i client accepted own) in
       let cell = get_some cells i inside in
       let cell' = get_some cells' i (subst (λ n. i < n) (sym new.count) inside) in
-      let lists = new.lists i cell.0 cell'.0 cell.1 cell'.1 in
-      let here : IsClientAt w cell.0.site.number client = met_lists.at_own_number w b l cells old.book old.sites old.met client i cell.0 own cell.1 in
+      let c : Cell = cell.0 in
+      let lists = new.lists i c cell'.0 cell.1 cell'.1 in
+      let here : IsClientAt w c.site.number client =
+      met_lists.at_own_number w b l cells old.book old.sites old.met client i c own cell.1 in
       new.kept i cell'.0 cell'.1 client own ∙ lists.shut client here ∙ lists.done client here
-      ∙ ap (λ xs. xs ++ answers_to client (a ∷ [])) (met_lists.done_is w b l cells old.book old.sites old.met accepted client i cell.0 own cell.1)
-      ∙ sym (closed_more client i cell.0 own cell.1)
+      ∙ ap (λ xs. xs ++ answers_to client (a ∷ []))
+      (met_lists.done_is w b l cells old.book old.sites old.met accepted client i c own cell.1)
+      ∙ sym (closed_more client i c own cell.1)
 
   book : BookFacts w after l'
   unfolding cores
   book = record {
     holds = gone_on.joined.book;
-    bases = new.bases ∙ ap (λ xs. xs ++ next ∷ []) old.book.bases ∙ ap (λ xs. xs ++ next ∷ []) (sym (map-append (λ (r : Round). r.base) b.closed _));
+    bases =
+        new.bases ∙ ap (λ xs. xs ++ next ∷ []) old.book.bases
+        ∙ ap (λ xs. xs ++ next ∷ []) (sym (map-append (λ (r : Round). r.base) b.closed _));
     kept = kept;
   }
 
@@ -95,7 +108,10 @@ module _ (w : s.Workload) (b : BookState) (l l' : BookLists) (cells cells' : Lis
   unfolding words cores
   site_after i c' e =
       let was = before i c' e in
-      subst (λ x. SiteFacts w x c'.lists) (sym (new.site i was.0 c' was.1 e)) (site_renewal w next was.0.site a was.0.lists c'.lists accepted gone_on.joined.book.within (met_lists.facts_at w b l cells old.book old.sites old.met i was.0 was.1) (new.lists i was.0 c' was.1 e))
+      let c : Cell = was.0 in
+      let facts : SiteFacts w c.site c.lists = met_lists.facts_at w b l cells old.book old.sites old.met i c was.1 in
+      subst (λ x. SiteFacts w x c'.lists) (sym (new.site i c c' was.1 e))
+      (site_renewal w next c.site a c.lists c'.lists accepted gone_on.joined.book.within facts (new.lists i c c' was.1 e))
 
   met : AreMet w l' cells'
   unfolding words site_words
@@ -109,7 +125,9 @@ module _ (w : s.Workload) (b : BookState) (l l' : BookLists) (cells cells' : Lis
   }
 
   closed_in_hand : InHand w after l' cells'
-  closed_in_hand = record { book = book; sites = all_from_get (λ (c : Cell). SiteFacts w c.site c.lists) cells' site_after; met = met }
+  closed_in_hand =
+      let sites_after = all_from_get (λ (c : Cell). SiteFacts w c.site c.lists) cells' site_after in
+      record { book = book; sites = sites_after; met = met }
 
 pub cleanup_event : CleanupEvent
 unfolding words

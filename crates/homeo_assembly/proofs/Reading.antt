@@ -10,25 +10,37 @@ use Rattle.homeo_history.specs.declared.answer.Path.TheVariants.{Local, Cleanup}
 use Rattle.homeo_assembly.specs.Written.{natural, joined, upper, lower, head_of, written, read, ReadBack}
 
 -- ---- a number
-halves : (n : ℕ) → n / 18446744073709551616 * 18446744073709551616 + n % 18446744073709551616 ≡ n
-halves n = omega arith
+abbrev joined_naturals : ℕ → ℤ → ℕ
+joined_naturals q r = q * 18446744073709551616 + natural r
+
+parts_joined : (n : ℕ) → joined_naturals (n / 18446744073709551616) (pos (n % 18446744073709551616)) ≡ n
+unfolding words
+parts_joined n = omega arith
 
 shifted_back : (r : ℕ) → (pos r -ℤ pos 9223372036854775808) +ℤ pos 9223372036854775808 ≡ pos r
 shifted_back r = omega (arith, ints)
 
+natural_joined :
+    (n : ℕ) →
+    joined_naturals (n / 18446744073709551616)
+    ((pos (n % 18446744073709551616) -ℤ pos 9223372036854775808) +ℤ pos 9223372036854775808) ≡ n
+natural_joined n = ap (joined_naturals (n / 18446744073709551616)) (shifted_back (n % 18446744073709551616)) ∙ parts_joined n
+
 pub number_again : (z : ℤ) → joined (upper z) (lower z) ≡ z
 unfolding words
-number_again (pos n) =
-    ap (λ r. pos (n / 18446744073709551616 * 18446744073709551616 + natural r)) (shifted_back (n % 18446744073709551616)) ∙ ap pos (halves n)
-number_again (negsuc n) =
-    ap (λ r. negsuc (n / 18446744073709551616 * 18446744073709551616 + natural r)) (shifted_back (n % 18446744073709551616)) ∙ ap negsuc (halves n)
+number_again (pos n) = ap pos (natural_joined n)
+number_again (negsuc n) = ap negsuc (natural_joined n)
 
 pub natural_again : (n : ℕ) → natural (joined (upper (pos n)) (lower (pos n))) ≡ n
 unfolding words
 natural_again n = ap natural (number_again (pos n))
 
 -- ---- an answer
-read_as : (path : Path) (a : Answer) → read a.client (head_of a.seq a.site a.round path ++ a.prints) ≡ record { client = a.client; seq = a.seq; site = a.site; round = a.round; path = path; prints = a.prints }
+abbrev made_by : Answer → Path → Answer
+made_by a path =
+    record { client = a.client; seq = a.seq; site = a.site; round = a.round; path = path; prints = a.prints }
+
+read_as : (path : Path) (a : Answer) → read a.client (head_of a.seq a.site a.round path ++ a.prints) ≡ made_by a path
 unfolding words
 read_as Local a = λ i. record {
   client = a.client;
@@ -51,11 +63,14 @@ pub read_written : (client : ℕ) (a : Answer) → a.client ≡ client → read 
 unfolding words
 read_written client a e = subst (λ c. read c (written a) ≡ a) e (read_as a.path a)
 
-pub read_all : (client : ℕ) (answers : List Answer) → All (λ a. a.client ≡ client) answers → map (read client) (map written answers) ≡ answers
+-- ---- a client's answers
+pub read_all :
+    (client : ℕ) (answers : List Answer) → All (λ a. a.client ≡ client) answers → map (read client) (map written answers) ≡ answers
 read_all client [] all = refl
 read_all client (a ∷ answers) all =
-    let here : read client (written a) ≡ a = read_written client a (All-head (λ (x : Answer). x.client ≡ client) a answers all) in
-    let rest : map (read client) (map written answers) ≡ answers = read_all client answers (All-tail (λ (x : Answer). x.client ≡ client) a answers all) in
+    let IsOwn : Answer → Type 0 = λ x. x.client ≡ client in
+    let here : read client (written a) ≡ a = read_written client a (All-head IsOwn a answers all) in
+    let rest : map (read client) (map written answers) ≡ answers = read_all client answers (All-tail IsOwn a answers all) in
     λ i. here i ∷ rest i
 
 pub read_back : ReadBack
