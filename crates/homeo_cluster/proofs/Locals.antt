@@ -9,17 +9,20 @@ use mathlib.Core.Logic.{dite}
 use native.Mathlib.Decide.{ℕ_discrete}
 use Rattle.homeo_notes.specs.Lines.{Held, Entry, Entries, IsOwner, HasSeen, list_at}
 use Rattle.homeo_syntax.specs.Source as s
+use Rattle.homeo_syntax.specs.SourceView.{plain_workload}
+use Rattle.homeo_meaning.specs.Acceptance.{IsAccepted}
+use Rattle.homeo_history.proofs.ClientAnswers.{client_at}
 use Rattle.homeo_meaning.specs.declared.call.CallId.{CallId}
 use Rattle.homeo_history.specs.History.{Entry as Made}
 use Rattle.homeo_plan.specs.Planned.{sites_of}
-use Rattle.homeo_history.specs.Legal.{call_count, IsClientAt}
+use Rattle.homeo_history.specs.Legal.{call_count, IsClientAt, IsCallAt}
 use Rattle.homeo_site.specs.SiteState.{SiteState, local_entry, after_local, KeepsCall}
 use Rattle.homeo_assembly.specs.Key.{words}
 use Rattle.homeo_history.specs.Answers.{Answer, local_answer}
 use Rattle.homeo_assembly.specs.Events.{ExtendsDone}
 use Rattle.homeo_assembly.specs.Facts.{SiteFacts}
 use Rattle.homeo_assembly.specs.Written.{written, read}
-use Rattle.homeo_assembly.proofs.ClusterSteps.{local_event}
+use Rattle.homeo_assembly.proofs.SiteEvents.{local_event}
 use Rattle.homeo_site.specs.SiteView.{SiteValue}
 use Rattle.homeo_cluster.specs.inner.Grows.{Grew}
 use Rattle.homeo_cluster.specs.Places.{asked_line, kept_line, done_line, shut_line, at_line, bases_line}
@@ -71,20 +74,21 @@ extends_done w x call h h' own next g =
       shut = agrees w x.number h h' (shut_line w) (done_line w call.client) (written a) (λ c at q. lines.mixed call.client c own at (sym q)) g;
     }
 
-pub cell_local : (w : s.Workload) (v v' : SiteValue) (h h' : Held) (call : CallId)
-    → IsCell w record { site = v; held = h } → IsClientAt w v.state.number call.client → KeepsCall w v.state call
+pub cell_local : (w : s.Workload) (v v' : SiteValue) (h h' : Held) (call : CallId) → IsAccepted w
+    → IsCell w (record { site = v; held = h }) → IsCallAt w v.state.number call → KeepsCall w v.state call
     → v'.work ≡ v.work → v'.state ≡ after_local w v.state call
     → call.seq ≡ suc (length (list_at h (done_line w call.client)))
     → Grew h h' (done_line w call.client) (written (local_answer v.state.round v.state.number (local_entry w v.state call)))
     → HasSeen h' (asked_line call.client) (list_at h' (done_line w call.client))
-    → IsCell w record { site = v'; held = h' }
+    → IsCell w (record { site = v'; held = h' })
 unfolding words histories site_words
-cell_local w v v' h h' call is own keeps work state next g seen =
+cell_local w v v' h h' call accepted is at keeps work state next g seen =
     let e : Entry = written (local_answer v.state.round v.state.number (local_entry w v.state call)) in
+    let own : IsClientAt w v.state.number call.client = client_at w call v.state.number at.at_site in
     let number : v'.state.number ≡ v.state.number = ap (λ (x : SiteState). x.number) state in record {
-      work = work ∙ is.work;
+      work = ap plain_workload work ∙ is.work;
       number = subst (λ n. n < sites_of w) (sym number) is.number;
       facts = subst (λ (x : SiteState). SiteFacts w x (site_lists w x.number h')) (sym state)
-          (local_event w v.state call (site_lists w v.state.number h) (site_lists w v.state.number h') is.facts keeps (extends_done w v.state call h h' own next g));
+          (local_event w v.state call (site_lists w v.state.number h) (site_lists w v.state.number h') accepted is.facts at keeps (extends_done w v.state call h h' own next g));
       holds = subst (λ n. HoldsAt w n h') (sym number) (holds_more w v.state.number call.client h h' e is.holds own g seen);
     }

@@ -1,10 +1,14 @@
 -- While the entries of one site go over into the book, over plain data.
-use Rattle.std.proofs.Common.{◌≡◌, ◌≢◌, ℕ, suc, ◌+◌, ◌<◌, ◌≤◌, List, [], ◌∷◌, ◌++◌, length, map, Some, refl, sym, ap, subst, ◌∙◌, arith}
+use Rattle.homeo_history.specs.Key.{words as histories}
+use Rattle.homeo_site.specs.Key.{words as site_words}
+use Rattle.std.proofs.Common.{◌≡◌, ◌≢◌, ℕ, suc, ◌+◌, ◌<◌, ◌≤◌, List, [], ◌∷◌, ◌++◌, length, map, take, drop, eqb, Some, refl, sym, ap, subst, ◌∙◌, arith}
 use Rattle.std.specs.Prelude.{ℤ, All, slice_get}
+use Rattle.std.proofs.lemmas.List.{append-nil, map-append, length-map, length-append, take-append-drop}
+use Rattle.std.proofs.lemmas.List.Elements.{filter-append}
 use Rattle.std.specs.List.{range_with_len}
 use mathlib.Core.Logic.{dite}
 use native.Mathlib.Decide.{ℕ_discrete}
-use Rattle.homeo_notes.specs.Lines.{Held, Entry, IsOwner, HasSeen, list_at}
+use Rattle.homeo_notes.specs.Lines.{Held, Entry, IsOwner, HasSeen, list_at, seen_at}
 use Rattle.homeo_syntax.specs.Source as s
 use Rattle.homeo_history.specs.History.{Entry as Made}
 use Rattle.homeo_plan.specs.Planned.{sites_of}
@@ -15,12 +19,12 @@ use Rattle.homeo_assembly.specs.Key.{words}
 use Rattle.homeo_history.specs.Answers.{Answer, local_answer, answers_of, answers_to}
 use Rattle.homeo_assembly.specs.Events.{HasMoved}
 use Rattle.homeo_assembly.specs.Facts.{Cell, BookLists, SiteFacts, BookFacts, states_of, AreMet}
-use Rattle.homeo_assembly.specs.Written.{written}
-use Rattle.homeo_history.proofs.Exists.{client_lt, all_exist, count_bound}
-use Rattle.homeo_assembly.proofs.Joined.{at_sites}
+use Rattle.homeo_assembly.specs.Written.{written, read}
+use Rattle.homeo_history.proofs.Exists.{client_lt}
 use Rattle.homeo_history.proofs.ClientAnswers.{client_at}
 use Rattle.homeo_history.proofs.Lists.{All-get}
-use Rattle.homeo_assembly.proofs.MetLists as lists
+use Rattle.homeo_assembly.proofs.MovedEntries.{moving}
+use Rattle.homeo_notes.proofs.Prefixes.{prefix_self}
 use Rattle.homeo_cluster.specs.Key.{places}
 use Rattle.homeo_cluster.specs.inner.Grows.{Grew}
 use Rattle.homeo_cluster.specs.Places.{kept_line, done_line, shut_line, at_line, bases_line}
@@ -121,7 +125,7 @@ moved_short w x k h0 b0 h b client facts is own =
     let all : length (list_at h0 (done_line w client)) ≡ length ((site_lists w x.number h0).shut client ++ answers_to client (map f x.segment)) =
         sym (length-map (list_at h0 (done_line w client)) (read client)) ∙ ap length (facts.serves client own).answered in
     let parts : length (answers_to client (map f x.segment)) ≡ length (answers_to client (map f (take k x.segment))) + length (answers_to client (map f (drop k x.segment))) =
-        ap (λ es. length (answers_to client (map f es))) (sym (take-drop k x.segment))
+        ap (λ es. length (answers_to client (map f es))) (sym (take-append-drop k x.segment))
         ∙ ap (λ as. length (answers_to client as)) (map-append f (take k x.segment) (drop k x.segment))
         ∙ ap length (filter-append (λ (a : Answer). eqb a.client client) (map f (take k x.segment)) (map f (drop k x.segment)))
         ∙ length-append (answers_to client (map f (take k x.segment))) (answers_to client (map f (drop k x.segment))) in

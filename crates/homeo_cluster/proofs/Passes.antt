@@ -11,7 +11,6 @@ use Rattle.homeo_syntax.specs.Source as s
 use Rattle.homeo_meaning.specs.declared.call.CallId.{CallId}
 use Rattle.homeo_history.specs.Legal.{call_count, IsClientAt}
 use Rattle.homeo_site.specs.SiteState.{SiteState, local_entry}
-use ?Rattle.site.specs.Values.{ChangeValue, local_change, head_of}
 use Rattle.homeo_site.specs.Attempts.{IsChange}
 use Rattle.homeo_cluster.specs.Passes.{PassValue, IsPass, IsLog, HoldsLog}
 use Rattle.homeo_assembly.specs.Key.{words}
@@ -54,12 +53,3 @@ pass_more w client left left' log log' h h' a is fewer items own seq g seen =
         seen = seen;
       };
     }
-
--- what is extended is the answer as it is written
-pub written_head : (a : Answer) → head_of a ++ a.prints ≡ written a
-unfolding words histories site_words
-written_head a = refl
-
--- a change's answer is that of its local step
-pub answer_is : (w : s.Workload) (x : SiteState) (change : ChangeValue) (a : Answer) → IsChange w x change → a ≡ local_change x.round x.number change → a ≡ local_answer x.round x.number (local_entry w x change.call)
-answer_is w x change a is e = e ∙ ap (local_answer x.round x.number) is.entry

@@ -12,13 +12,17 @@ use Rattle.homeo_history.specs.History.{Entry as Made}
 use Rattle.homeo_plan.specs.Planned.{sites_of}
 use Rattle.homeo_history.specs.Legal.{IsClientAt}
 use Rattle.homeo_site.specs.SiteState.{SiteState, renewed}
-use Rattle.homeo_plan.specs.Local.{no_deltas}
+use Rattle.homeo_syntax.specs.SourceView.{plain_workload}
+use Rattle.homeo_meaning.specs.Acceptance.{IsAccepted}
+use Rattle.homeo_meaning.specs.Bounds.{IsWithin}
+use Rattle.homeo_meaning.specs.Schema.{schema_of}
 use Rattle.homeo_assembly.specs.Key.{words}
 use Rattle.homeo_history.specs.Answers.{Answer, local_answer, answers_to}
 use Rattle.homeo_assembly.specs.Events.{Gives, HasMoved, Moves, Renews}
 use Rattle.homeo_assembly.specs.Facts.{SiteFacts}
 use Rattle.homeo_assembly.specs.Written.{written}
-use Rattle.homeo_assembly.proofs.ClusterSteps.{moving, site_renewal}
+use Rattle.homeo_assembly.proofs.MovedEntries.{moving}
+use Rattle.homeo_assembly.proofs.SiteEvents.{site_renewal}
 use Rattle.homeo_site.specs.SiteView.{SiteValue}
 use Rattle.homeo_cluster.specs.inner.Grows.{Grew}
 use Rattle.homeo_cluster.specs.Places.{asked_line, kept_line, done_line, shut_line, at_line, bases_line}
@@ -68,17 +72,16 @@ holds_shut w site client h h' e is own g seen =
     }
 
 -- a site that begins the next round is a cell again
-pub cell_renewed : (w : s.Workload) (v v' : SiteValue) (h h' : Held) (base : List ℤ) (a : Answer)
-    → IsCell w record { site = v; held = h } → v'.work ≡ v.work → v'.state ≡ renewed base v.state
-    → rules.finding base v.state.number (no_deltas base) ≡ None
+pub cell_renewed : (w : s.Workload) (v v' : SiteValue) (h h' : Held) (base : List ℤ) (a : Answer) → IsAccepted w → IsWithin (schema_of w) base
+    → IsCell w (record { site = v; held = h }) → plain_workload v'.work ≡ w → v'.state ≡ renewed base v.state
     → Renews w base v.state a (site_lists w v.state.number h) (site_lists w v.state.number h') → HoldsAt w v.state.number h'
-    → IsCell w record { site = v'; held = h' }
-unfolding words histories site_words
-cell_renewed w v v' h h' base a is work state meets renews holds =
+    → IsCell w (record { site = v'; held = h' })
+unfolding site_words
+cell_renewed w v v' h h' base a accepted within is work state renews holds =
     let number : v'.state.number ≡ v.state.number = ap (λ (x : SiteState). x.number) state in record {
-      work = work ∙ is.work;
+      work = work;
       number = subst (λ n. n < sites_of w) (sym number) is.number;
       facts = subst (λ (x : SiteState). SiteFacts w x (site_lists w x.number h')) (sym state)
-          (site_renewal w base v.state a (site_lists w v.state.number h) (site_lists w v.state.number h') meets is.facts renews);
+          (site_renewal w base v.state a (site_lists w v.state.number h) (site_lists w v.state.number h') accepted within is.facts renews);
       holds = subst (λ n. HoldsAt w n h') (sym number) holds;
     }

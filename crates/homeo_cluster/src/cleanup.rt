@@ -1,6 +1,7 @@
 //! A call that breaks its site's treaty, under the locks of the book and of all sites.
 
-ghost use Rattle.std.specs.Prelude.{◌≡◌, ◌<◌, ◌≤◌, ◌+◌, ◌^◌, ◌∷◌, ◌++◌, [], true, length, replicate, vec_len, All, IfOk, OnErr};
+ghost use Rattle.std.specs.Prelude.{◌≡◌, ℕ, ◌<◌, ◌≤◌, ◌+◌, ◌^◌, ◌∷◌, ◌++◌, [], true, length, take, replicate, vec_len, All, IfOk, OnErr, FitsSigned};
+ghost use Rattle.std.specs.Int.{w64};
 ghost use Rattle.homeo_syntax.specs.SourceView.{plain_workload};
 ghost use Rattle.homeo_meaning.specs.Bounds.{IsWithin};
 ghost use Rattle.homeo_meaning.specs.Initial.{initial};
@@ -17,10 +18,10 @@ ghost use Rattle.homeo_cluster.specs.Cells.{cells_of, book_state, book_lists, si
 ghost use Rattle.homeo_cluster.specs.Passes.{IsReplied, next_call};
 ghost use Rattle.homeo_cluster.specs.Places.{at_line, bases_line};
 ghost use Rattle.homeo_notes.specs.Lines.{list_at};
-ghost use Rattle.homeo_cluster.specs.inner.Meets.{SameBook, AreNumbered, MetAt, MetShut, site_states};
+ghost use Rattle.homeo_cluster.specs.inner.Meets.{SameBook, AreNumbered, CellsNumbered, MetAt, MetShut, site_states};
 ghost use Rattle.homeo_cluster.specs.inner.Moves.{KeepsEach, ArePairs, AreShort};
 ghost use Rattle.homeo_cluster.specs.inner.Renewed.{CanAsk};
-ghost use Rattle.homeo_cluster.specs.inner.Rows.{held_cells, HaveGoneOn, prepared_at};
+ghost use Rattle.homeo_cluster.specs.inner.Rows.{held_cells, CanRenew, HaveGoneOn, prepared_at};
 
 use crate::book::Book;
 use crate::cell::SiteCell;
@@ -148,6 +149,39 @@ impl<N: ClusterNaming> Frame<N> {
         self.meet_clients(cells, book);
     }
 
+    /// Each site has been at the bases that the book has.
+    fn meet_bases(&self, cells: &mut Vec<MutexGuard<'_, SiteCell<N>>>, book: &mut Book<N>)
+        ensures count { vec_len cells.new ≡ vec_len cells.old }
+        ensures cells { cells_of N.workload (held_cells cells.new.items) ≡ cells_of N.workload (held_cells cells.old.items) }
+        ensures book { SameBook N.workload book.old book.new }
+        ensures met { MetAt N.workload (vec_len cells.old) (cells_of N.workload (held_cells cells.old.items))
+            (book_lists N.workload book.old.held) }
+    {
+        let mut i = 0;
+        while i < cells.len() {
+            self.meet_at(&mut *cells[i], book);
+            i += 1;
+        }
+    }
+
+    /// Each client's site has shut what the book has kept of it.
+    fn meet_clients(&self, cells: &mut Vec<MutexGuard<'_, SiteCell<N>>>, book: &mut Book<N>)
+        requires count { vec_len cells.old ≡ sites_of N.workload }
+        requires numbers { CellsNumbered (cells_of N.workload (held_cells cells.old.items)) }
+        ensures count { vec_len cells.new ≡ vec_len cells.old }
+        ensures cells { cells_of N.workload (held_cells cells.new.items) ≡ cells_of N.workload (held_cells cells.old.items) }
+        ensures book { SameBook N.workload book.old book.new }
+        ensures met { MetShut N.workload (length N.workload.clients) (cells_of N.workload (held_cells cells.old.items))
+            (book_lists N.workload book.old.held) }
+    {
+        let mut client = 0;
+        while client < self.clients() {
+            let home = self.home(client);
+            self.meet_shut(&mut *cells[home as usize], book, client);
+            client += 1;
+        }
+    }
+
     /// Each site goes on to the next round.
     fn renew_row(
         &self,
@@ -159,6 +193,18 @@ impl<N: ClusterNaming> Frame<N> {
         answer: &Answer,
         broken: Broken,
     )
+        requires numbers { AreNumbered (held_cells cells.old.items) }
+        requires rounds { AreAt prepared.old.round prepared.old.base (site_states (held_cells cells.old.items)) }
+        requires segments { length prepared.old.segments ≡ vec_len cells.old }
+        requires waiting { prepared.old.waiting ≡ replicate (vec_len cells.old) true }
+        requires work { plain_workload prepared.old.work ≡ N.workload }
+        requires next { next.now ≡ prepared.old.next }
+        requires within { IsWithin (schema_of N.workload) prepared.old.next }
+        requires path { answer.now.path ≡ Path.Cleanup broken }
+        requires there { answer.now.client < length N.workload.clients }
+        requires each { CanRenew N.workload next.now (plain_answer answer.now) book.old (held_cells cells.old.items) }
+        requires book { KeepsEach N.workload book.old }
+        requires asker { CanAsk N.workload answer.now.client asker.old }
         ensures gone { HaveGoneOn N.workload next.now (plain_answer answer.now) (vec_len cells.old) (held_cells cells.old.items)
             (held_cells cells.new.items) book.old book.new asker.old asker.new }
         ensures prepared { prepared.new ≡ prepared_at prepared.old (site_states (held_cells cells.old.items)) (vec_len cells.old) }
@@ -176,5 +222,40 @@ impl<N: ClusterNaming> Frame<N> {
             );
             i += 1;
         }
+    }
+}
+
+/// The base of the round with the deltas of all its sites.
+fn gather_row<N: ClusterNaming>(
+    alloc: Global,
+    book: &Book<N>,
+    cells: &Vec<MutexGuard<'_, SiteCell<N>>>,
+) -> Result<Gather, Memory>
+    requires at { AreAt (length book.now.closed) book.now.base (site_states (held_cells cells.now.items)) }
+    requires fits { (n : ℕ) → All (FitsSigned w64) (gathered book.now.base (take n (site_states (held_cells cells.now.items)))) }
+    ensures { IfOk result (λ g. g ≡ record {
+      round = length book.now.closed;
+      base = book.now.base;
+      sum = gathered book.now.base (site_states (held_cells cells.now.items));
+      added = vec_len cells.now;
+    }) }
+{
+    let mut gather = Gather::begin(alloc, book.closed.as_slice().len() as u64, &book.base)?;
+    let mut i = 0;
+    while i < cells.len() {
+        gather.add(&cells[i].site);
+        i += 1;
+    }
+    Ok(gather)
+}
+
+/// Appends a round, for which the list has room.
+fn push_round(closed: &mut List<Round>, round: Round)
+    requires { 0 < closed.old.spare }
+    ensures { closed.new.items ≡ closed.old.items ++ round ∷ [] }
+{
+    match closed.push(round) {
+        Ok(()) => {}
+        Err(_) => unreachable!(),
     }
 }

@@ -10,16 +10,28 @@ use Rattle.homeo_site.specs.SiteState.{SiteState, renewed}
 use Rattle.homeo_core.specs.GatherView.{PreparedValue}
 use Rattle.homeo_core.specs.Joined.{segments_of}
 use Rattle.homeo_core.specs.inner.SiteLists.{first_from}
-use Rattle.homeo_assembly.specs.Events.{Renews}
+use Rattle.homeo_assembly.specs.Events.{IsNext, Renews}
 use Rattle.homeo_cluster.specs.Cells.{CellValue, site_lists}
 use Rattle.homeo_cluster.specs.Places.{kept_line, at_line, bases_line}
 use Rattle.homeo_cluster.specs.inner.Meets.{site_states}
-use Rattle.homeo_cluster.specs.inner.Moves.{KeepsEach, ArePairs}
+use Rattle.homeo_cluster.specs.inner.Moves.{KeepsEach, ArePairs, AreShort}
 use Rattle.homeo_cluster.specs.inner.Renewed.{WasAsked}
 
 -- what lies under locks that are held
 abbrev pub held_cells : {X : Type 0} → List (MutexGuard X) → List X
 held_cells {X} guards = map (λ (g : MutexGuard X). mutex_guard_value g) guards
+
+-- ---- before
+-- what each site needs to go on: the closing answer is its client's next, the book has kept what it has shut, it has answered its
+-- clients no more often than they have calls, and the book is one base ahead of it
+pub record IsReady (w : s.Workload) (next : List ℤ) (a : Answer) (b : Held) (site : ℕ) (c : CellValue) : Type 0 where
+  pub is_next : IsNext w site a (site_lists w site c.held).done
+  pub pairs : ArePairs w site c.held b
+  pub short : AreShort w site c.held
+  pub ahead : list_at b (bases_line w) ≡ list_at c.held (at_line w site) ++ next ∷ []
+
+abbrev pub CanRenew : s.Workload → List ℤ → Answer → Held → List CellValue → Type 0
+CanRenew w next a b cells = (i : ℕ) (c : CellValue) → slice_get cells i ≡ Some c → IsReady w next a b i c
 
 -- ---- one after another
 -- a site that has gone on, where the book's holder is now b
