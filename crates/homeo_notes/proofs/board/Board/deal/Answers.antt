@@ -1,4 +1,4 @@
-use Rattle.std.proofs.Common.{◌≡◌, ℕ, sym, ap, ◌∙◌, subst}
+use Rattle.std.proofs.Common.{ℕ, sym, ap, ◌∙◌, subst}
 use Rattle.homeo_notes.specs.Lines.{Held, IsOwner, IsWithin}
 use Rattle.atomic_table.specs.Table.{Me}
 use Rattle.homeo_notes.specs.declared.rule.View.{View}
