@@ -1,7 +1,7 @@
 use Rattle.std.proofs.Common.{◌<◌, ◌^◌, length, sym, ◌∙◌, subst}
 use Rattle.atomic_table.specs.Seated.{TableId}
 use Rattle.homeo_notes.specs.Lines.{Held, IsOwner, list_at}
-use Rattle.homeo_notes.proofs.Keeps.{adds}
+use Rattle.homeo_notes.proofs.KeepsExtend.{adds}
 use Rattle.homeo_notes.proofs.Within.{within_added}
 use Rattle.homeo_notes.proofs.board.Board.add.Goals as goal
 
