@@ -44,7 +44,9 @@ record AreCounted (w : s.Workload) (client : ℕ) (rounds : List Round) (count :
   pub exist : count ≤ call_count w client
   pub numbers : numbers_of client (calls_of rounds) ≡ range_with_len 1 count
 
-module _ (w : s.Workload) (b : BookState) (l : BookLists) (cells : List Cell) (asked : List (List Answer)) (accepted : IsAccepted w) (book : BookFacts w b l) (sites : HaveFacts w cells) (met : AreMet w l cells) (agreed : AreAsked w cells asked) where
+module _ (w : s.Workload) (b : BookState) (l : BookLists) (cells : List Cell) (asked : List (List Answer))
+    (accepted : IsAccepted w) (book : BookFacts w b l) (sites : HaveFacts w cells) (met : AreMet w l cells)
+    (agreed : AreAsked w cells asked) where
   abbrev rounds : List Round
   rounds = rounds_of b (states_of cells)
 
@@ -74,7 +76,8 @@ module _ (w : s.Workload) (b : BookState) (l : BookLists) (cells : List Cell) (a
       let none : answers_to client (answers_of 0 rounds) ≡ [] = none_to_none w client (answers_of 0 rounds) nobody exist in
       let numbers : numbers_of client (calls_of rounds) ≡ [] =
       numbers_are client rounds ∙ ap (map (λ (a : Answer). a.seq)) none in
-      subst (AreCounted w client rounds) (sym (past_map length asked client e)) (record { exist = omega arith; numbers = numbers })
+      subst (AreCounted w client rounds) (sym (past_map length asked client e))
+      (record { exist = omega arith; numbers = numbers })
   counted client (Some log) e =
       let answers : List Answer = answers_to client (answers_of 0 rounds) in
       let is : IsWhole client rounds log = log_is client log e in

@@ -54,7 +54,9 @@ below w c none =
     flat_map (λ (call : s.Call). call_faults w.transactions ((scope_of w).item call.name.name) call) c.calls in
     none_when (int_le w.sites.value c.site.value) _ (none_second calls (site_faults w.sites c.site) none)
 
-site_lt : (w : s.Workload) (i : ℕ) (c : s.Client) → IsAccepted w → slice_get w.clients i ≡ Some c → nat_of c.site.value < sites_of w
+site_lt :
+    (w : s.Workload) (i : ℕ) (c : s.Client) → IsAccepted w → slice_get w.clients i ≡ Some c →
+    nat_of c.site.value < sites_of w
 unfolding meanings plans
 site_lt w i c accepted e =
     let faults : s.Client → List Fault = client_faults w.sites (scope_of w) w.transactions in

@@ -34,7 +34,11 @@ use Rattle.homeo_assembly.proofs.ClientsAtSites.{client_below}
 use Rattle.homeo_assembly.proofs.MetLists as met_lists
 use Rattle.homeo_assembly.proofs.SiteEvents.{site_renewal}
 
-module _ (w : s.Workload) (b : BookState) (l l' : BookLists) (cells cells' : List Cell) (home : ℕ) (call : CallId) (broken : Broken) (accepted : IsAccepted w) (old : InHand w b l cells) (event : BreaksCall w (states_of cells) home call broken) (new : Closes w (next_base w b (states_of cells) call) (closing_answer (length b.closed) (closing_of w b (states_of cells) home call broken)) cells cells' l l') where
+module _ (w : s.Workload) (b : BookState) (l l' : BookLists) (cells cells' : List Cell) (home : ℕ) (call : CallId)
+    (broken : Broken) (accepted : IsAccepted w) (old : InHand w b l cells)
+    (event : BreaksCall w (states_of cells) home call broken)
+    (new : Closes w (next_base w b (states_of cells) call)
+    (closing_answer (length b.closed) (closing_of w b (states_of cells) home call broken)) cells cells' l l') where
   abbrev sites : List SiteState
   sites = states_of cells
 

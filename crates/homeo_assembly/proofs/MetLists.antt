@@ -23,7 +23,8 @@ use Rattle.homeo_assembly.proofs.NumberedAnswers.{AreNumbered}
 abbrev pub HaveFacts : s.Workload → List Cell → Type 0
 HaveFacts w cells = All (λ c. SiteFacts w c.site c.lists) cells
 
-module _ (w : s.Workload) (b : BookState) (l : BookLists) (cells : List Cell) (book : BookFacts w b l) (sites : HaveFacts w cells) (met : AreMet w l cells) where
+module _ (w : s.Workload) (b : BookState) (l : BookLists) (cells : List Cell) (book : BookFacts w b l)
+    (sites : HaveFacts w cells) (met : AreMet w l cells) where
   pub facts_at : (i : ℕ) (c : Cell) → slice_get cells i ≡ Some c → SiteFacts w c.site c.lists
   facts_at i c e = All-get (λ (x : Cell). SiteFacts w x.site x.lists) cells i c sites e
 

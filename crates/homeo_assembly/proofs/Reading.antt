@@ -65,7 +65,8 @@ read_written client a e = subst (λ c. read c (written a) ≡ a) e (read_as a.pa
 
 -- ---- a client's answers
 pub read_all :
-    (client : ℕ) (answers : List Answer) → All (λ a. a.client ≡ client) answers → map (read client) (map written answers) ≡ answers
+    (client : ℕ) (answers : List Answer) → All (λ a. a.client ≡ client) answers →
+    map (read client) (map written answers) ≡ answers
 read_all client [] all = refl
 read_all client (a ∷ answers) all =
     let IsOwn : Answer → Type 0 = λ x. x.client ≡ client in
