@@ -1,4 +1,0 @@
-pub mod Grows
-pub mod Meets
-pub mod Moves
-pub mod Tries
