@@ -10,7 +10,9 @@ mod cluster;
 mod finish;
 mod frame;
 mod gate;
+mod meets;
 mod naming;
+mod pairs;
 mod pass;
 mod run;
 
