@@ -77,10 +77,8 @@ impl<N: ClusterNaming> Frame<N> {
         ensures met { MetAt N.workload (vec_len cells.old) (cells_of N.workload cells.old.items)
             (book_lists N.workload book.old.held) }
     {
-        let mut i = 0;
-        while i < cells.len() {
+        for i in 0..cells.len() {
             self.meet_at(&mut cells[i], book);
-            i += 1;
         }
     }
 
@@ -93,11 +91,9 @@ impl<N: ClusterNaming> Frame<N> {
         ensures met { MetShut N.workload (length N.workload.clients) (cells_of N.workload cells.old.items)
             (book_lists N.workload book.old.held) }
     {
-        let mut client = 0;
-        while client < self.clients() {
+        for client in 0..self.clients() {
             let home = self.home(client);
             self.meet_shut(&mut cells[home as usize], book, client);
-            client += 1;
         }
     }
 
@@ -110,11 +106,9 @@ impl<N: ClusterNaming> Frame<N> {
         ensures met { MetDone N.workload (length N.workload.clients) (cells_of N.workload cells.old.items)
             (logs_of passes.old.items) }
     {
-        let mut client = 0;
-        while client < self.clients() {
+        for client in 0..self.clients() {
             let home = self.home(client);
             self.meet_done(&mut cells[home as usize], &mut passes[client as usize]);
-            client += 1;
         }
     }
 

@@ -1,14 +1,14 @@
 use Rattle.homeo_core.specs.Key.{words as cores}
-use Rattle.std.proofs.Common.{◌≡◌, ℕ, suc, ◌+◌, ◌<◌, Some, slice_get, length, take, sym, ap, subst, ◌∙◌, arith, FitsSigned}
+use Rattle.std.proofs.Common.{◌≡◌, ℕ, suc, ◌+◌, ◌<◌, Some, slice_get, length, take, refl, sym, ap, subst, ◌∙◌, arith, FitsSigned}
 use Rattle.std.specs.Int.{w64}
 use Rattle.std.specs.Prelude.{All}
+use Rattle.std.proofs.lemmas.Option.{slice_get_read}
 use Rattle.homeo_site.specs.SiteView.{SiteValue}
 use Rattle.homeo_core.specs.GatherView.{GatherValue}
 use Rattle.homeo_core.specs.Joined.{plus_deltas, gathered}
 use Rattle.homeo_core.proofs.GatheredSites.{gathered_next, take_whole}
 use Rattle.homeo_cluster.specs.Cells.{CellValue}
 use Rattle.homeo_cluster.specs.inner.Meets.{site_states}
-use Rattle.homeo_cluster.proofs.MetMore.{get_read}
 use Rattle.homeo_cluster.proofs.Settles.{states_get, states_long}
 use Rattle.homeo_cluster.proofs.finish.last_database.Goals as goal
 use Rattle.homeo_cluster.proofs.finish.last_database.Goals.{After-site}
@@ -18,7 +18,7 @@ use Rattle.homeo_cluster.proofs.finish.last_database.Given.{Over}
 here : (g : Over) (c : After-site g) → slice_get (site_states c.args.cells.now) c.loop-cell.cell-index ≡ Some c.site.result.now.state
 here g c =
     let v : CellValue = c.cell-item.result in
-    states_get c.args.cells.now c.loop-cell.cell-index v (get_read c.args.cells.now c.loop-cell.cell-index v c.loop-cell-test.true c.cell-item.is)
+    states_get c.args.cells.now c.loop-cell.cell-index v (slice_get_read c.args.cells.now _ c.loop-cell.cell-index v refl c.loop-cell-test.true c.cell-item.is)
     ∙ ap (λ (s : SiteValue). Some s.state) (sym c.site.ensures)
 
 pub loop-cell-init : goal.loop-cell-init

@@ -1,9 +1,10 @@
-use Rattle.std.proofs.Common.{rules, ◌≡◌, ◌<◌, List, Some, slice_get, length, length-set, sym, subst, ◌∙◌, arith}
+use Rattle.std.proofs.Common.{rules, ◌≡◌, ◌<◌, List, Some, slice_get, length, length-set, refl, sym, subst, ◌∙◌, arith}
+use Rattle.std.proofs.lemmas.Option.{slice_get_read}
 use Rattle.homeo_plan.specs.Planned.{sites_of}
 use Rattle.homeo_history.specs.Legal.{IsClientAt}
 use Rattle.homeo_cluster.specs.Cells.{CellValue, cell_of, cells_of, book_lists}
 use Rattle.homeo_cluster.specs.inner.Meets.{MetShut}
-use Rattle.homeo_cluster.proofs.MetMore.{get_read, cell_at, cells_set, shut_more, same_book, at_end}
+use Rattle.homeo_cluster.proofs.MetMore.{cell_at, cells_set, shut_more, same_book}
 use Rattle.homeo_cluster.proofs.frame.Frame.meet_clients.Goals as goal
 
 pub meet_shut-requires-clause-home : goal.meet_shut-requires-clause-home
@@ -14,7 +15,7 @@ meet_shut-requires-clause-home g c =
     let inv = c.loop-client.invariant in
     let bound : c.home-home.result < sites_of w = c.home-home.ensures.bound in
     let lt : c.home-home.result < length cells = omega (arith, bound, inv.long) in
-    let at : slice_get cells c.home-home.result ≡ Some v = get_read cells c.home-home.result v lt c.index_mut.ensures.value in
+    let at : slice_get cells c.home-home.result ≡ Some v = slice_get_read cells _ c.home-home.result v refl lt c.index_mut.ensures.value in
     let number : v.site.state.number ≡ c.home-home.result = c.requires.numbers c.home-home.result (cell_of w v) (cell_at w cells _ c.home-home.result v inv.cells at) in
     subst (λ n. IsClientAt w n c.loop-client.client) (sym number) c.home-home.ensures.at
 
@@ -29,11 +30,10 @@ loop-client-preserved g c =
     let bound : i < sites_of w = c.home-home.ensures.bound in
     let lt : i < length cells = omega (arith, bound, inv.long) in
     let more : n < length w.clients = search rules in
-    let at : slice_get cells i ≡ Some v = get_read cells i v lt c.index_mut.ensures.value in
+    let at : slice_get cells i ≡ Some v = slice_get_read cells _ i v refl lt c.index_mut.ensures.value in
     record {
-      bound = omega (arith, more);
       long = length-set cells i c.meet_shut.new.cell ∙ inv.long;
-      cells = cells_set w cells _ i v c.meet_shut.new.cell inv.cells at c.meet_shut.ensures.cell.cell;
+      cells = cells_set w cells _ i v c.meet_shut.new.cell inv.cells c.index_mut.ensures.value c.meet_shut.ensures.cell.cell;
       book = same_book w _ _ _ inv.book c.meet_shut.ensures.book;
       met = shut_more w _ _ (book_lists w c.loop-client.book.held) n i (cell_of w v) inv.met c.home-home.ensures.at (cell_at w cells _ i v inv.cells at) inv.book.lists c.meet_shut.ensures.met;
     }
@@ -41,6 +41,5 @@ loop-client-preserved g c =
 pub returns-clause-met : goal.returns-clause-met
 returns-clause-met g c =
     let w = g.N.ClusterNaming.workload in
-    let past : c.loop-client.client < length w.clients → ⊥ = search rules in
-    let all : c.loop-client.client ≡ length w.clients = at_end _ _ c.loop-client.invariant.bound past in
+    let all : c.loop-client.client ≡ length w.clients = omega (arith, c.loop-client-test.false, c.loop-client.auto.client-end) in
     subst (λ n. MetShut w n (cells_of w c.args.cells.now.items) (book_lists w c.args.book.now.held)) all c.loop-client.invariant.met

@@ -1,11 +1,12 @@
-use Rattle.std.proofs.Common.{rules, ◌≡◌, ◌<◌, List, Some, slice_get, length, length-set, sym, subst, ◌∙◌, arith}
+use Rattle.std.proofs.Common.{rules, ◌≡◌, ◌<◌, List, Some, slice_get, length, length-set, refl, sym, subst, ◌∙◌, arith}
+use Rattle.std.proofs.lemmas.Option.{slice_get_read}
 use Rattle.homeo_plan.specs.Planned.{sites_of}
 use Rattle.homeo_history.specs.Legal.{IsClientAt}
 use Rattle.homeo_history.proofs.Lists.{get_map}
 use Rattle.homeo_cluster.specs.Cells.{CellValue, cell_of, cells_of}
 use Rattle.homeo_cluster.specs.Passes.{PassValue, logs_of}
 use Rattle.homeo_cluster.specs.inner.Meets.{MetDone}
-use Rattle.homeo_cluster.proofs.MetMore.{get_read, cell_at, cells_set, done_more, map_set_same, all_set, at_end}
+use Rattle.homeo_cluster.proofs.MetMore.{cell_at, cells_set, done_more, logs_set, all_set}
 use Rattle.homeo_cluster.proofs.frame.Frame.meet_passes.Goals as goal
 
 pub meet_done-requires : goal.meet_done-requires
@@ -21,8 +22,8 @@ meet_done-requires g c =
     let lt : c.home-home.result < length cells = omega (arith, bound, inv.long) in
     let few : n < length w.clients = search rules in
     let more : n < length passes = omega (arith, few, inv.all.count) in
-    let at : slice_get cells c.home-home.result ≡ Some v = get_read cells c.home-home.result v lt c.index_mut.ensures.value in
-    let at_p : slice_get passes n ≡ Some p = get_read passes n p more c.index_mut-in-loop-client.ensures.value in
+    let at : slice_get cells c.home-home.result ≡ Some v = slice_get_read cells _ c.home-home.result v refl lt c.index_mut.ensures.value in
+    let at_p : slice_get passes n ≡ Some p = slice_get_read passes _ n p refl more c.index_mut-in-loop-client.ensures.value in
     let number : v.site.state.number ≡ c.home-home.result = c.requires.numbers c.home-home.result (cell_of w v) (cell_at w cells _ c.home-home.result v inv.cells at) in
     let client : p.client ≡ n = inv.all.clients n p at_p in
     let own : IsClientAt w c.home-home.result n = c.home-home.ensures.at in
@@ -42,23 +43,21 @@ loop-client-preserved g c =
     let lt : i < length cells = omega (arith, bound, inv.long) in
     let few : n < length w.clients = search rules in
     let more : n < length passes = omega (arith, few, inv.all.count) in
-    let at : slice_get cells i ≡ Some v = get_read cells i v lt c.index_mut.ensures.value in
-    let at_p : slice_get passes n ≡ Some p = get_read passes n p more c.index_mut-in-loop-client.ensures.value in
+    let at : slice_get cells i ≡ Some v = slice_get_read cells _ i v refl lt c.index_mut.ensures.value in
+    let at_p : slice_get passes n ≡ Some p = slice_get_read passes _ n p refl more c.index_mut-in-loop-client.ensures.value in
     let client : p.client ≡ n = inv.all.clients n p at_p in
     let own : IsClientAt w i n = c.home-home.ensures.at in
     let log : slice_get (logs_of c.args.passes.now.items) n ≡ Some p.log = subst (λ xs. slice_get xs n ≡ Some p.log) inv.logs (get_map (λ (k : PassValue). k.log) passes n p at_p) in
     record {
-      bound = omega (arith, few);
       long = length-set cells i c.meet_done.new.cell ∙ inv.long;
-      cells = cells_set w cells _ i v c.meet_done.new.cell inv.cells at c.meet_done.ensures.cell.cell;
+      cells = cells_set w cells _ i v c.meet_done.new.cell inv.cells c.index_mut.ensures.value c.meet_done.ensures.cell.cell;
       all = all_set w passes n p c.meet_done.new.pass at_p c.meet_done.ensures.pass.client inv.all;
-      logs = map_set_same (λ (k : PassValue). k.log) passes n c.meet_done.new.pass p at_p c.meet_done.ensures.pass.log ∙ inv.logs;
+      logs = logs_set passes _ n p c.meet_done.new.pass inv.logs c.index_mut-in-loop-client.ensures.value c.meet_done.ensures.pass.log;
       met = done_more w _ _ n i (cell_of w v) p.log inv.met own (cell_at w cells _ i v inv.cells at) log (subst (λ k. p.log ≡ (cell_of w v).lists.done k) client c.meet_done.ensures.met);
     }
 
 pub returns-clause-met : goal.returns-clause-met
 returns-clause-met g c =
     let w = g.N.ClusterNaming.workload in
-    let past : c.loop-client.client < length w.clients → ⊥ = search rules in
-    let all : c.loop-client.client ≡ length w.clients = at_end _ _ c.loop-client.invariant.bound past in
+    let all : c.loop-client.client ≡ length w.clients = omega (arith, c.loop-client-test.false, c.loop-client.auto.client-end) in
     subst (λ n. MetDone w n (cells_of w c.args.cells.now.items) (logs_of c.args.passes.now.items)) all c.loop-client.invariant.met
