@@ -49,8 +49,8 @@ pub at_more :
 at_more w cs l l' n c met at same facts e i d lt here = ⊎_elim
     (λ before. met i d before here)
     (λ now.
-      let is : c ≡ d = get_same cs n c d at (ap (slice_get cs) (sym now) ∙ here) in
-      subst (λ k. IsMet w k l) is (record { facts = facts; at = e ∙ ap (λ (k : BookLists). k.bases) same }))
+    let is : c ≡ d = get_same cs n c d at (ap (slice_get cs) (sym now) ∙ here) in
+    subst (λ k. IsMet w k l) is (record { facts = facts; at = e ∙ ap (λ (k : BookLists). k.bases) same }))
     (last_or n i lt)
 
 pub shut_more :
@@ -59,13 +59,13 @@ pub shut_more :
 shut_more w cs l l' n h c met home at same e client i d lt own here = ⊎_elim
     (λ before. met client i d before own here)
     (λ now.
-      let place : i ≡ h = one_site w n i h (subst (IsClientAt w i) now own) home in
-      let is : c ≡ d = get_same cs h c d at (ap (slice_get cs) (sym place) ∙ here) in
-      ap (λ (k : Cell). k.lists.shut client) (sym is)
-      ∙ ap c.lists.shut now
-      ∙ e
-      ∙ ap l'.kept (sym now)
-      ∙ ap (λ (k : BookLists). k.kept client) same)
+    let place : i ≡ h = one_site w n i h (subst (IsClientAt w i) now own) home in
+    let is : c ≡ d = get_same cs h c d at (ap (slice_get cs) (sym place) ∙ here) in
+    ap (λ (k : Cell). k.lists.shut client) (sym is)
+    ∙ ap c.lists.shut now
+    ∙ e
+    ∙ ap l'.kept (sym now)
+    ∙ ap (λ (k : BookLists). k.kept client) same)
     (last_or n client lt)
 
 pub done_more :
@@ -75,11 +75,11 @@ pub done_more :
 done_more w cs logs n h c log met home at logged e client i d lt own here = ⊎_elim
     (λ before. met client i d before own here)
     (λ now.
-      let place : i ≡ h = one_site w n i h (subst (IsClientAt w i) now own) home in
-      let is : c ≡ d = get_same cs h c d at (ap (slice_get cs) (sym place) ∙ here) in
-      ap (slice_get logs) now
-      ∙ logged
-      ∙ ap Some (e ∙ ap c.lists.done (sym now) ∙ ap (λ (k : Cell). k.lists.done client) is))
+    let place : i ≡ h = one_site w n i h (subst (IsClientAt w i) now own) home in
+    let is : c ≡ d = get_same cs h c d at (ap (slice_get cs) (sym place) ∙ here) in
+    ap (slice_get logs) now
+    ∙ logged
+    ∙ ap Some (e ∙ ap c.lists.done (sym now) ∙ ap (λ (k : Cell). k.lists.done client) is))
     (last_or n client lt)
 
 -- ---- what stays

@@ -40,13 +40,7 @@ impl<N: ClusterNaming> Frame<N> {
     {
         let shut = self.shut(client);
         let kept = self.kept(client);
-        meet_pair(
-            &self.board,
-            &mut cell.holder,
-            shut,
-            &mut book.holder,
-            kept,
-        );
+        meet_pair(&self.board, &mut cell.holder, shut, &mut book.holder, kept);
     }
 
     /// The bases that a site has been at are those of all rounds.
@@ -58,12 +52,6 @@ impl<N: ClusterNaming> Frame<N> {
     {
         let line = self.at(cell.site.number());
         let bases = self.bases();
-        meet_pair(
-            &self.board,
-            &mut cell.holder,
-            line,
-            &mut book.holder,
-            bases,
-        );
+        meet_pair(&self.board, &mut cell.holder, line, &mut book.holder, bases);
     }
 }
