@@ -1,4 +1,5 @@
 -- What the types keep stays where a holder has learnt something.
+use Rattle.homeo_assembly.specs.Key.{words}
 use Rattle.std.proofs.Common.{◌≡◌, ℕ, ◌<◌, List, [], ◌∷◌, map, length, Some, refl, sym, ap, subst, ◌∙◌}
 use Rattle.std.specs.Prelude.{ℤ, All}
 use Rattle.homeo_notes.specs.Lines.{Held, Entries, IsOwner, HasSeen, list_at, seen_at}
@@ -11,7 +12,7 @@ use Rattle.homeo_history.specs.History.{Round}
 use Rattle.homeo_history.specs.Answers.{Answer}
 use Rattle.homeo_assembly.specs.Facts.{SiteFacts, BookFacts, SiteLists, BookLists}
 use Rattle.homeo_assembly.specs.Written.{written, read}
-use Rattle.homeo_assembly.proofs.Reading.{read_all}
+use Rattle.homeo_assembly.proofs.Reading.{read_back}
 use Rattle.homeo_site.specs.SiteView.{SiteValue}
 use Rattle.homeo_cluster.specs.inner.Grows.{Rose}
 use Rattle.homeo_cluster.specs.Places.{asked_line, kept_line, done_line, shut_line, at_line, bases_line}
@@ -74,4 +75,5 @@ rose_pass w client left log h h' is r = record {
 -- equal entries are equal answers
 pub log_is_done : (w : s.Workload) (client left : ℕ) (log : List Answer) (h k : Held) → IsPass w record { client = client; left = left; log = log; held = h }
     → list_at k (done_line w client) ≡ list_at h (asked_line client) → log ≡ answers_at k client (done_line w client)
-log_is_done w client left log h k is e = sym (ap (map (read client)) (e ∙ is.holds.asked) ∙ read_all client log is.logged.own)
+unfolding words
+log_is_done w client left log h k is e = sym (ap (map (read client)) (e ∙ is.holds.asked) ∙ read_back client log is.logged.own)

@@ -1,4 +1,5 @@
-// A pair of lists, of which each owner has seen at least its own.
+//! Two lists that go together: each owner has seen at least its own on the other's line.
+
 ghost use Rattle.std.specs.Prelude.{◌≡◌, ℕ, ◌<◌, ◌^◌, ◌++◌, ◌∷◌, [], length};
 ghost use Rattle.homeo_notes.specs.Lines.{IsOwner, HasSeen, list_at};
 ghost use Rattle.homeo_cluster.specs.inner.Grows.{Rose, Grew};
@@ -6,7 +7,7 @@ ghost use Rattle.homeo_cluster.specs.inner.Grows.{Rose, Grew};
 use homeo_notes::{Board, Holder, Naming};
 
 /// The two lists are equal.
-pub fn meet_pair<N: Naming>(
+pub(crate) fn meet_pair<N: Naming>(
     board: &Board<N>,
     left: &mut Holder<N>,
     one: u32,
@@ -24,7 +25,7 @@ pub fn meet_pair<N: Naming>(
 }
 
 /// `to` has then seen at least what `from` owns.
-pub fn tell_on<N: Naming>(board: &Board<N>, from: &mut Holder<N>, to: &mut Holder<N>)
+pub(crate) fn tell_on<N: Naming>(board: &Board<N>, from: &mut Holder<N>, to: &mut Holder<N>)
     ensures from { from.new ≡ from.old }
     ensures rose { Rose to.old to.new }
     ensures told { (i : ℕ) → HasSeen to.new i (list_at from.old i) }
@@ -33,7 +34,7 @@ pub fn tell_on<N: Naming>(board: &Board<N>, from: &mut Holder<N>, to: &mut Holde
 }
 
 /// Both lists get one entry more.
-pub fn extend_pair<N: Naming>(
+pub(crate) fn extend_pair<N: Naming>(
     board: &Board<N>,
     left: &mut Holder<N>,
     one: u32,
@@ -60,7 +61,7 @@ pub fn extend_pair<N: Naming>(
 }
 
 /// The list of `one` gets the entry that the list of `other` is longer by.
-pub fn follow_pair<N: Naming>(
+pub(crate) fn follow_pair<N: Naming>(
     board: &Board<N>,
     left: &mut Holder<N>,
     one: u32,
