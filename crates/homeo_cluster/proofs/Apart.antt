@@ -86,9 +86,10 @@ done_apart w site c d at bt e =
     let x = in_block w site c at in
     let y = in_block w site d bt in
     let xl : done_line w c ≡ 2 * length w.clients + 2 * (below w site + earlier (λ s. is_same s site) (homes w) c) + site = x.line in
-    let yl : done_line w d ≡ 2 * length w.clients + 2 * (below w site + earlier (λ s. is_same s site) (homes w) d) + site = y.line in
-    ( (λ lt. let f : suc (earlier (λ s. is_same s site) (homes w) c) ≤ earlier (λ s. is_same s site) (homes w) d = earlier_client w site c d lt at in omega arith)
-    , (λ lt. let f : suc (earlier (λ s. is_same s site) (homes w) d) ≤ earlier (λ s. is_same s site) (homes w) c = earlier_client w site d c lt bt in omega arith) )
+    let yl : done_line w d ≡ 2 * length w.clients + 2 * (below w site + earlier (λ s. is_same s site) (homes w) d) + site = y.line in (
+      (λ lt. let f : suc (earlier (λ s. is_same s site) (homes w) c) ≤ earlier (λ s. is_same s site) (homes w) d = earlier_client w site c d lt at in omega arith),
+      (λ lt. let f : suc (earlier (λ s. is_same s site) (homes w) d) ≤ earlier (λ s. is_same s site) (homes w) c = earlier_client w site d c lt bt in omega arith),
+    )
 
 neither : (c d : ℕ) → (c < d → ⊥) × (d < c → ⊥) → c ≡ d
 neither zero zero h = refl

@@ -39,9 +39,9 @@ unfolding words histories site_words
 gives w site h h' line a apart own g = λ c at. dite (ℕ_discrete c a.client)
     (λ same. subst (λ n. answers_at h' n (line n) ≡ answers_at h n (line n) ++ answers_to n (a ∷ [])) (sym same) (gives_one h h' (line a.client) a g))
     (λ other.
-        ap (map (read c)) (grew_list_other h h' (line a.client) (line c) (written a) g (λ e. other (apart c a.client at own e)))
-        ∙ sym (append-nil (answers_at h c (line c)))
-        ∙ ap (λ xs. answers_at h c (line c) ++ xs) (sym (not_to c a (λ e. other (sym e)))))
+    ap (map (read c)) (grew_list_other h h' (line a.client) (line c) (written a) g (λ e. other (apart c a.client at own e)))
+    ∙ sym (append-nil (answers_at h c (line c)))
+    ∙ ap (λ xs. answers_at h c (line c) ++ xs) (sym (not_to c a (λ e. other (sym e)))))
 
 -- a list of another line stays
 pub agrees : (w : s.Workload) (site : ℕ) (h h' : Held) (line : ℕ → ℕ) (grown : ℕ) (e : Entry)

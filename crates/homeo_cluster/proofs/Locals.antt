@@ -46,18 +46,18 @@ holds_more w site client h h' e is own g seen =
           let owns_shut = grew_owner_other h h' (done_line w client) (shut_line w c) e g shut_other was.owns_shut in
           let seen_kept = subst (HasSeen h' (kept_line w c)) (sym (grew_list_other h h' (done_line w client) (shut_line w c) e g shut_other)) (grew_seen h h' (done_line w client) (kept_line w c) e (list_at h (shut_line w c)) g was.seen_kept) in
           dite (ℕ_discrete c client)
-            (λ same. record {
-              owns_done = grew_owner_same h h' (done_line w client) (done_line w c) e g (ap (done_line w) same);
-              owns_shut = owns_shut;
-              seen_asked = subst (λ n. HasSeen h' (asked_line n) (list_at h' (done_line w n))) (sym same) seen;
-              seen_kept = seen_kept;
-            })
-            (λ other. let done_other : done_line w c ≢ done_line w client = (λ q. other (lines.done c client at own q)) in record {
-              owns_done = grew_owner_other h h' (done_line w client) (done_line w c) e g done_other was.owns_done;
-              owns_shut = owns_shut;
-              seen_asked = subst (HasSeen h' (asked_line c)) (sym (grew_list_other h h' (done_line w client) (done_line w c) e g done_other)) (grew_seen h h' (done_line w client) (asked_line c) e (list_at h (done_line w c)) g was.seen_asked);
-              seen_kept = seen_kept;
-            });
+          (λ same. record {
+            owns_done = grew_owner_same h h' (done_line w client) (done_line w c) e g (ap (done_line w) same);
+            owns_shut = owns_shut;
+            seen_asked = subst (λ n. HasSeen h' (asked_line n) (list_at h' (done_line w n))) (sym same) seen;
+            seen_kept = seen_kept;
+          })
+          (λ other. let done_other : done_line w c ≢ done_line w client = (λ q. other (lines.done c client at own q)) in record {
+            owns_done = grew_owner_other h h' (done_line w client) (done_line w c) e g done_other was.owns_done;
+            owns_shut = owns_shut;
+            seen_asked = subst (HasSeen h' (asked_line c)) (sym (grew_list_other h h' (done_line w client) (done_line w c) e g done_other)) (grew_seen h h' (done_line w client) (asked_line c) e (list_at h (done_line w c)) g was.seen_asked);
+            seen_kept = seen_kept;
+          });
     }
 
 pub extends_done : (w : s.Workload) (x : SiteState) (call : CallId) (h h' : Held) → IsClientAt w x.number call.client

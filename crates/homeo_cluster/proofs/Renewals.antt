@@ -40,7 +40,7 @@ pub moved_more : (w : s.Workload) (x : SiteState) (h0 h h' : Held) (k : ℕ) (e 
 unfolding words histories site_words
 moved_more w x h0 h h' k e facts own at moved g =
     (moving w x (site_lists w x.number h0) facts).more k e (site_lists w x.number h).shut (site_lists w x.number h').shut at moved
-      (gives w x.number h h' (shut_line w) (local_answer x.round x.number e) (apart w x.number).shut own g)
+    (gives w x.number h h' (shut_line w) (local_answer x.round x.number e) (apart w x.number).shut own g)
 
 -- the holder after the list `shut` of one client grew
 pub holds_shut : (w : s.Workload) (site client : ℕ) (h h' : Held) (e : Entry) → HoldsAt w site h → IsClientAt w site client
@@ -57,18 +57,18 @@ holds_shut w site client h h' e is own g seen =
           let owns_done = grew_owner_other h h' (shut_line w client) (done_line w c) e g done_other was.owns_done in
           let seen_asked = subst (HasSeen h' (asked_line c)) (sym (grew_list_other h h' (shut_line w client) (done_line w c) e g done_other)) (grew_seen h h' (shut_line w client) (asked_line c) e (list_at h (done_line w c)) g was.seen_asked) in
           dite (ℕ_discrete c client)
-            (λ same. record {
-              owns_done = owns_done;
-              owns_shut = grew_owner_same h h' (shut_line w client) (shut_line w c) e g (ap (shut_line w) same);
-              seen_asked = seen_asked;
-              seen_kept = subst (λ n. HasSeen h' (kept_line w n) (list_at h' (shut_line w n))) (sym same) seen;
-            })
-            (λ other. let shut_other : shut_line w c ≢ shut_line w client = (λ q. other (lines.shut c client at own q)) in record {
-              owns_done = owns_done;
-              owns_shut = grew_owner_other h h' (shut_line w client) (shut_line w c) e g shut_other was.owns_shut;
-              seen_asked = seen_asked;
-              seen_kept = subst (HasSeen h' (kept_line w c)) (sym (grew_list_other h h' (shut_line w client) (shut_line w c) e g shut_other)) (grew_seen h h' (shut_line w client) (kept_line w c) e (list_at h (shut_line w c)) g was.seen_kept);
-            });
+          (λ same. record {
+            owns_done = owns_done;
+            owns_shut = grew_owner_same h h' (shut_line w client) (shut_line w c) e g (ap (shut_line w) same);
+            seen_asked = seen_asked;
+            seen_kept = subst (λ n. HasSeen h' (kept_line w n) (list_at h' (shut_line w n))) (sym same) seen;
+          })
+          (λ other. let shut_other : shut_line w c ≢ shut_line w client = (λ q. other (lines.shut c client at own q)) in record {
+            owns_done = owns_done;
+            owns_shut = grew_owner_other h h' (shut_line w client) (shut_line w c) e g shut_other was.owns_shut;
+            seen_asked = seen_asked;
+            seen_kept = subst (HasSeen h' (kept_line w c)) (sym (grew_list_other h h' (shut_line w client) (shut_line w c) e g shut_other)) (grew_seen h h' (shut_line w client) (kept_line w c) e (list_at h (shut_line w c)) g was.seen_kept);
+          });
     }
 
 -- a site that begins the next round is a cell again

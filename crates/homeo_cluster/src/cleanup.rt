@@ -76,13 +76,13 @@ impl<N: ClusterNaming> Cluster<N> {
         ensures numbers { IfOk result (λ v. AreNumbered (held_cells v.items)) }
     {
         let mut cells = Vec::new(alloc);
-        let mut i = 0;
-        while i < self.sites.len() {
-            let cell = self.sites[i].lock(rt);
-            if cell.number() as usize != i || cells.push(cell).is_err() {
+        for lock in &self.sites {
+            let cell = lock.lock(rt);
+            // It never differs, but no type says which lock has which site.
+            if cell.number() as usize != cells.len() {
                 return Err(Memory);
             }
-            i += 1;
+            cells.push(cell)?;
         }
         Ok(cells)
     }
@@ -145,27 +145,25 @@ impl<N: ClusterNaming> Frame<N> {
         ensures met { InHand N.workload (book_state book.old) (book_lists N.workload book.old.held)
             (cells_of N.workload (held_cells cells.old.items)) }
     {
-        self.meet_bases(cells, book);
-        self.meet_clients(cells, book);
+        self.meet_row_bases(cells, book);
+        self.meet_row_clients(cells, book);
     }
 
     /// Each site has been at the bases that the book has.
-    fn meet_bases(&self, cells: &mut Vec<MutexGuard<'_, SiteCell<N>>>, book: &mut Book<N>)
+    fn meet_row_bases(&self, cells: &mut Vec<MutexGuard<'_, SiteCell<N>>>, book: &mut Book<N>)
         ensures count { vec_len cells.new ≡ vec_len cells.old }
         ensures cells { cells_of N.workload (held_cells cells.new.items) ≡ cells_of N.workload (held_cells cells.old.items) }
         ensures book { SameBook N.workload book.old book.new }
         ensures met { MetAt N.workload (vec_len cells.old) (cells_of N.workload (held_cells cells.old.items))
             (book_lists N.workload book.old.held) }
     {
-        let mut i = 0;
-        while i < cells.len() {
+        for i in 0..cells.len() {
             self.meet_at(&mut *cells[i], book);
-            i += 1;
         }
     }
 
     /// Each client's site has shut what the book has kept of it.
-    fn meet_clients(&self, cells: &mut Vec<MutexGuard<'_, SiteCell<N>>>, book: &mut Book<N>)
+    fn meet_row_clients(&self, cells: &mut Vec<MutexGuard<'_, SiteCell<N>>>, book: &mut Book<N>)
         requires count { vec_len cells.old ≡ sites_of N.workload }
         requires numbers { CellsNumbered (cells_of N.workload (held_cells cells.old.items)) }
         ensures count { vec_len cells.new ≡ vec_len cells.old }
@@ -174,11 +172,9 @@ impl<N: ClusterNaming> Frame<N> {
         ensures met { MetShut N.workload (length N.workload.clients) (cells_of N.workload (held_cells cells.old.items))
             (book_lists N.workload book.old.held) }
     {
-        let mut client = 0;
-        while client < self.clients() {
+        for client in 0..self.clients() {
             let home = self.home(client);
             self.meet_shut(&mut *cells[home as usize], book, client);
-            client += 1;
         }
     }
 
@@ -209,18 +205,8 @@ impl<N: ClusterNaming> Frame<N> {
             (held_cells cells.new.items) book.old book.new asker.old asker.new }
         ensures prepared { prepared.new ≡ prepared_at prepared.old (site_states (held_cells cells.old.items)) (vec_len cells.old) }
     {
-        let mut i = 0;
-        while i < cells.len() {
-            self.renew(
-                &mut *cells[i],
-                book,
-                asker,
-                prepared,
-                next,
-                answer,
-                broken,
-            );
-            i += 1;
+        for i in 0..cells.len() {
+            self.renew(&mut *cells[i], book, asker, prepared, next, answer, broken);
         }
     }
 }
@@ -241,10 +227,8 @@ fn gather_row<N: ClusterNaming>(
     }) }
 {
     let mut gather = Gather::begin(alloc, book.closed.as_slice().len() as u64, &book.base)?;
-    let mut i = 0;
-    while i < cells.len() {
-        gather.add(&cells[i].site);
-        i += 1;
+    for i in 0..cells.len() {
+        gather.add(cells[i].site());
     }
     Ok(gather)
 }

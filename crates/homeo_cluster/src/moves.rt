@@ -106,10 +106,26 @@ impl<N: ClusterNaming> Frame<N> {
         if self.home(client) == number {
             let head = closing_head(answer.seq, answer.site, answer.round, broken);
             let done = self.done(client);
-            extend_pair(&self.board, site, done, asker, client, &head, answer.prints.as_slice());
+            extend_pair(
+                &self.board,
+                site,
+                done,
+                asker,
+                client,
+                &head,
+                answer.prints.as_slice(),
+            );
             let shut = self.shut(client);
             let kept = self.kept(client);
-            extend_pair(&self.board, site, shut, book, kept, &head, answer.prints.as_slice());
+            extend_pair(
+                &self.board,
+                site,
+                shut,
+                book,
+                kept,
+                &head,
+                answer.prints.as_slice(),
+            );
         }
     }
 

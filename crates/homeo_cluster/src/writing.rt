@@ -8,6 +8,7 @@ use homeo_plan::Broken;
 
 /// 2^64, and 2^63.
 const WHOLE: i128 = 18_446_744_073_709_551_616;
+
 const HALF: i128 = 9_223_372_036_854_775_808;
 
 /// A number below 0 from -1 on, as it is from 0 on.
