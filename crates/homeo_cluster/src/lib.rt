@@ -10,6 +10,7 @@ mod cluster;
 mod finish;
 mod frame;
 mod gate;
+mod lines;
 mod naming;
 mod pass;
 mod run;
