@@ -1,4 +1,5 @@
 pub mod Cells
+pub mod inner
 pub mod Key
 pub mod Named
 pub mod Passes

@@ -1,5 +1,7 @@
 //! What lies under the lock of the book.
 
+ghost use Rattle.homeo_cluster.specs.Cells.{IsBook};
+
 use crate::naming::ClusterNaming;
 use homeo_history::Round;
 use homeo_meaning::Database;
@@ -29,4 +31,13 @@ impl<N: ClusterNaming> Model for Book<N> {
       base = b.base.items;
       held = b.holder;
     }) };
+}
+
+impl<N: ClusterNaming> Book<N> {
+    /// It has its facts.
+    pub(crate) fn facts(&self)
+        ensures { IsBook N.workload self.now }
+    {
+        let _rounds = self.closed.as_slice();
+    }
 }

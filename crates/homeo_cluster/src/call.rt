@@ -6,6 +6,7 @@ ghost use Rattle.homeo_cluster.specs.Passes.{IsReplied};
 
 use crate::cluster::Cluster;
 use crate::gate::Gate;
+use crate::local::Tried;
 use crate::naming::ClusterNaming;
 use crate::pass::ClientPass;
 use homeo_history::Answer;
@@ -32,6 +33,18 @@ impl<N: ClusterNaming> Cluster<N> {
         ensures replied { IfOk result (λ a. IsReplied N.workload pass.old pass.new (plain_answer a)) }
         ensures unchanged { OnErr result (pass.new ≡ pass.old) }
     {
-        Err(Memory)
+        let home = self.frame.home(pass.client());
+        let mut cell = self.sites[home as usize].lock(rt);
+        // A lock is known by its place alone; that the site behind it has this number is looked up, and always holds.
+        if cell.number() != home {
+            return Err(Memory);
+        }
+        let call = pass.next();
+        gate.inside(rt, home, call.client, call.seq);
+        if let Tried::Done(answer) = self.frame.attempt(alloc, &mut *cell, pass)? {
+            return Ok(answer);
+        }
+        drop(cell);
+        self.close_or_make(rt, alloc, home, pass)
     }
 }

@@ -33,4 +33,18 @@ impl<N: ClusterNaming> SiteCell<N> {
     {
         self.site.number()
     }
+
+    /// Lends the site.
+    pub(crate) fn site(&self) -> &Site
+        ensures { result.now ≡ self.now.site }
+    {
+        &self.site
+    }
+
+    /// Gives the site.
+    pub(crate) fn into_site(self) -> Site
+        ensures { result ≡ self.site }
+    {
+        self.site
+    }
 }

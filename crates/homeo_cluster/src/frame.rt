@@ -1,15 +1,15 @@
 //! What all parts of a cluster share.
 
-ghost use Rattle.std.specs.Prelude.{◌≡◌, ◌<◌, ◌+◌, ◌*◌, length};
+ghost use Rattle.std.specs.Prelude.{◌≡◌, ◌<◌, ◌+◌, ◌*◌, ◌^◌, length};
 ghost use Rattle.homeo_syntax.specs.SourceView.{plain_workload};
 ghost use Rattle.homeo_meaning.specs.Acceptance.{IsAccepted};
 ghost use Rattle.homeo_plan.specs.Planned.{sites_of};
-ghost use Rattle.homeo_history.specs.Legal.{IsClientAt};
+ghost use Rattle.homeo_history.specs.Legal.{IsClientAt, call_count};
 ghost use Rattle.homeo_cluster.specs.Places.{AreLines, kept_line, done_line, shut_line, at_line, bases_line};
 
 use crate::naming::ClusterNaming;
 use homeo_build::Compiled;
-use homeo_core::clients::{client_count, site_count, site_of};
+use homeo_core::clients::{call_count, client_count, site_count, site_of};
 use homeo_notes::Board;
 use std::sync::Arc;
 
@@ -53,6 +53,15 @@ impl<N: ClusterNaming> Frame<N> {
         ensures bound { result < sites_of N.workload }
     {
         site_of(self.compiled.workload(), client)
+    }
+
+    /// How many calls a client has.
+    pub(crate) fn calls(&self, client: u32) -> u64
+        requires exists { client < length N.workload.clients }
+        ensures count { result ≡ call_count N.workload client }
+        ensures few { result < 2 ^ 63 }
+    {
+        call_count(self.compiled.workload(), client)
     }
 
     /// The line of what the book has kept of a client.

@@ -1,6 +1,6 @@
 //! What a workload says of its sites and clients.
 
-ghost use Rattle.std.specs.Prelude.{◌≡◌, ◌<◌, ◌≤◌, Some, pos, ◌≤ℤ◌, length, slice_get};
+ghost use Rattle.std.specs.Prelude.{◌≡◌, ◌<◌, ◌≤◌, ◌^◌, Some, pos, ◌≤ℤ◌, length, slice_get};
 ghost use Rattle.homeo_syntax.specs.SourceView.{plain_client, plain_workload};
 ghost use Rattle.homeo_meaning.specs.Acceptance.{IsAccepted};
 ghost use Rattle.homeo_meaning.specs.Schema.{nat_of};
@@ -39,7 +39,8 @@ pub fn site_of(w: &Accepted, client: u32) -> u32
 /// How many calls a client has.
 pub fn call_count(w: &Accepted, client: u32) -> u64
     requires exists { client < length (plain_workload w.now).clients }
-    ensures { result ≡ call_count (plain_workload w.now) client }
+    ensures count { result ≡ call_count (plain_workload w.now) client }
+    ensures few { result < 2 ^ 63 }
 {
     client_of(w, client).calls.as_slice().len() as u64
 }

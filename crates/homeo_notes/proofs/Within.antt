@@ -1,11 +1,13 @@
 -- Whoever owns a line owns one of the board's lines.
-use Rattle.std.proofs.Common.{◌≡◌, ◌≢◌, ℕ, ◌+◌, ◌<◌, ◌≤◌, Bool, cond, List, [], length, Some, None, replicate, refl, sym, ap, ◌∙◌, subst, arith}
+use Rattle.std.proofs.Common.{◌≡◌, ℕ, ◌+◌, ◌<◌, ◌++◌, ◌∷◌, Bool, [], Some, None, replicate, sym, ap, ◌∙◌, subst, arith}
 use Rattle.std.specs.declared.option.Option.{Option}
 use Rattle.std.proofs.lemmas.List.{get_or_past, length-replicate}
 use mathlib.Core.Logic.{dite}
 use native.Mathlib.Decide.{ℕ_discrete, dec_lt}
 use lib.ListN.{get_or}
-use Rattle.homeo_notes.specs.Lines.{Held, Entries, Owns, IsOwner, IsWithin, put, pick, owned_at, with_list, owner_of_all}
+use Rattle.homeo_notes.specs.declared.rule.View.{View}
+use Rattle.homeo_notes.specs.Boards.{held}
+use Rattle.homeo_notes.specs.Lines.{Held, Entry, Entries, list_at, IsOwner, IsWithin, put, pick, owned_at, with_list, owner_of_all}
 use Rattle.homeo_notes.proofs.Lists.{get_or-put_other, get_or-pick, cond_some}
 
 pub within_list : (n : ℕ) (h : Held) (line : ℕ) (xs : Entries) → IsWithin n h → IsOwner h line → IsWithin n (with_list h line xs)
@@ -28,3 +30,7 @@ within_all n i ys e = by_test (dec_lt i n)
 
 pub within_same : (n : ℕ) (h k : Held) → k.owned ≡ h.owned → IsWithin n h → IsWithin n k
 within_same n h k same is i ys e = is i ys (sym (ap (λ os. get_or os i None) same) ∙ e)
+
+-- where an entry was appended to the list of a line that the holder owns
+pub within_added : (n : ℕ) (v w : View) (line : ℕ) (e : Entry) → w ≡ record v { owned = put None v.owned line (Some (list_at (held v) line ++ e ∷ [])) } → IsOwner (held v) line → IsWithin n (held v) → IsWithin n (held w)
+within_added n v w line e is owner within = subst (λ (u : View). IsWithin n (held u)) (sym is) (within_list n (held v) line (list_at (held v) line ++ e ∷ []) within owner)

@@ -36,15 +36,14 @@ pub struct Blank {
 }
 
 impl Model for Blank {
-    ghost use Rattle.std.specs.Prelude.{◌≡◌, [], ◌<◌};
     ghost use Rattle.atomic_table.specs.Seated.{TableId};
-    ghost use Rattle.homeo_notes.specs.Boards.{newcomer};
+    ghost use Rattle.homeo_notes.specs.Boards.{IsUnused};
 
     ghost Value = { TableId };
 
     ghost view = { λ b. b.table.shared.table_id };
 
-    ghost invariant = { λ b. (0 < b.table.shared.table_id.words) × (b.table.shared.key ≡ b.table.shared.table_id.words) × (b.seat.table_id ≡ b.table.shared.table_id) × (b.seat.me ≡ (newcomer b.table.shared.table_id.words, [])) };
+    ghost invariant = { λ b. IsUnused b.table.shared.table_id b.table.shared.key b.seat.table_id b.seat.me };
 }
 
 impl Blank {

@@ -74,6 +74,8 @@ impl<N: Naming> Board<N> {
         ensures to { to.new ≡ after_telling from.old to.old }
         ensures prefixes { (i : ℕ) → TellsOf from.old to.old i }
     {
+        // A split and a join tell nothing. So a look shows that what `from` has seen begins what it owns, and `to` takes in
+        // what the note told by a load of its own.
         self.table.shared.load::<Look>(&mut from.seat, 0);
         let note = self.table.shared.split_seat::<Note>(&mut from.seat);
         self.table.shared.join_seat::<Note>(&mut to.seat, note);
@@ -109,6 +111,7 @@ impl<N: Naming> Board<N> {
         self.look(right, other);
     }
 
+    // Appends the entry that E names: a step can't see the arguments of the call that makes it.
     fn add<E: EntryNaming>(&self, holder: &mut Holder<N>, line: u32, head: &[i64], body: &[i64])
         requires owner { IsOwner holder.old line }
         requires room { length (list_at holder.old line) < 2 ^ 63 }
@@ -120,6 +123,7 @@ impl<N: Naming> Board<N> {
             .fetch_add::<Add<E>>(&mut holder.seat, line as usize, 1);
     }
 
+    // Marks the lines that C names, from `first` to below `end`, as those that are dealt next.
     fn mark<C: LinesNaming>(&self, seat: &mut Seat<u8, View>, first: u32, end: u32)
         requires table { seat.old.table_id ≡ N.board }
         requires range { (C.first ≡ first) × (C.end ≡ end) }

@@ -1,10 +1,8 @@
-use Rattle.std.proofs.Common.{◌≡◌, ◌<◌, ◌^◌, length, sym, ◌∙◌, ap, subst}
+use Rattle.std.proofs.Common.{◌<◌, ◌^◌, length, sym, ◌∙◌, subst}
 use Rattle.atomic_table.specs.Seated.{TableId}
-use Rattle.homeo_notes.specs.Lines.{Held, IsOwner, IsWithin, list_at}
-use Rattle.homeo_notes.specs.Boards.{held}
-use Rattle.homeo_notes.specs.declared.rule.View.{View}
-use Rattle.homeo_notes.proofs.Keeps.{adds}
-use Rattle.homeo_notes.proofs.Within.{within_list, within_same}
+use Rattle.homeo_notes.specs.Lines.{Held, IsOwner, list_at}
+use Rattle.homeo_notes.proofs.KeepsExtend.{adds}
+use Rattle.homeo_notes.proofs.Within.{within_added}
 use Rattle.homeo_notes.proofs.board.Board.add.Goals as goal
 
 pub fetch_add-requires : goal.fetch_add-requires
@@ -25,4 +23,4 @@ invariant_of-holder g c =
     let e = c.fetch_add.ensures in
     let i = c.holder.invariant in
     let owner = subst (λ (h : Held). IsOwner h c.args.line) (sym c.holder.view_is) c.requires.owner in
-    (e.0 ∙ i.0, e.2.1 ∙ i.1, subst (λ (v : View). IsWithin g.N.Naming.board.words (held v)) (sym e.2.0) (within_list g.N.Naming.board.words (held c.holder.inside.seat.me.0) c.args.line _ i.2 owner))
+    (e.0 ∙ i.0, e.2.1 ∙ i.1, within_added g.N.Naming.board.words c.holder.inside.seat.me.0 c.fetch_add.new.seat.me.0 c.args.line g.E.EntryNaming.entry e.2.0 owner i.2)

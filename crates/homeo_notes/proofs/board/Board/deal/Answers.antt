@@ -1,10 +1,10 @@
-use Rattle.std.proofs.Common.{◌≡◌, ℕ, sym, ap, ◌∙◌, subst}
+use Rattle.std.proofs.Common.{ℕ, sym, ap, ◌∙◌, subst}
 use Rattle.homeo_notes.specs.Lines.{Held, IsOwner, IsWithin}
 use Rattle.atomic_table.specs.Table.{Me}
 use Rattle.homeo_notes.specs.declared.rule.View.{View}
 use Rattle.homeo_notes.specs.Boards.{held}
 use Rattle.homeo_notes.proofs.Within.{within_pick}
-use Rattle.homeo_notes.proofs.Keeps.{deals_marked}
+use Rattle.homeo_notes.proofs.KeepsDeal.{deals_marked}
 use Rattle.homeo_notes.proofs.board.Board.deal.Goals as goal
 
 pub split_seat-seat-requires : goal.split_seat-seat-requires

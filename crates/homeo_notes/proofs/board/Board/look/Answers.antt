@@ -1,7 +1,7 @@
-use Rattle.std.proofs.Common.{◌≡◌, ◌<◌, sym, ◌∙◌, subst}
+use Rattle.std.proofs.Common.{◌<◌, sym, ◌∙◌, subst}
 use Rattle.atomic_table.specs.Seated.{TableId}
 use Rattle.homeo_notes.specs.Lines.{Held, IsOwner}
-use Rattle.homeo_notes.proofs.Keeps.{looks}
+use Rattle.homeo_notes.proofs.KeepsLoad.{looks}
 use Rattle.homeo_notes.proofs.board.Board.look.Goals as goal
 
 pub load-requires : goal.load-requires

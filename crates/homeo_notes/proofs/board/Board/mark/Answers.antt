@@ -1,5 +1,5 @@
 use Rattle.std.proofs.Common.{sym, ◌∙◌}
-use Rattle.homeo_notes.proofs.Keeps.{marks}
+use Rattle.homeo_notes.proofs.KeepsLoad.{marks}
 use Rattle.homeo_notes.proofs.board.Board.mark.Goals as goal
 
 pub load-requires : goal.load-requires

@@ -8,7 +8,8 @@ use Rattle.homeo_notes.specs.Boards.{held}
 use Rattle.homeo_notes.specs.inner.Steps.{noted, told_by}
 use Rattle.homeo_notes.proofs.Prefixes.{prefix_trans}
 use Rattle.homeo_notes.proofs.Within.{within_same}
-use Rattle.homeo_notes.proofs.Keeps.{notes, joins, learns, looks, known_prefixes}
+use Rattle.homeo_notes.proofs.KeepsTell.{notes, joins, known_prefixes}
+use Rattle.homeo_notes.proofs.KeepsLoad.{learns, looks}
 use Rattle.homeo_notes.proofs.board.Board.tell.Goals as goal
 
 pub load-requires : goal.load-requires
