@@ -2,7 +2,7 @@
 use Rattle.homeo_history.specs.Key.{words as histories}
 use Rattle.homeo_site.specs.Key.{words as site_words}
 use Rattle.homeo_assembly.specs.Key.{words}
-use Rattle.std.proofs.Common.{◌≡◌, ℕ, suc, ◌+◌, List, [], ◌∷◌, ◌++◌, map, length, ℤ, Some, refl, sym, ap, subst, ◌∙◌, arith, append_assoc}
+use Rattle.std.proofs.Common.{◌≡◌, suc, ◌+◌, List, [], ◌∷◌, ◌++◌, map, length, Some, refl, sym, ap, subst, ◌∙◌, arith, append_assoc}
 use Rattle.std.specs.Prelude.{slice_get}
 use Rattle.std.proofs.lemmas.List.{append-nil, length_push}
 use Rattle.homeo_meaning.specs.Initial.{initial}

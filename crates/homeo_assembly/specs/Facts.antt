@@ -1,6 +1,6 @@
 -- What each site and the book of closed rounds keep for themselves, and what is known once their lists are found equal (this
 -- project's rule).
-use Rattle.std.specs.Prelude.{◌≡◌, ℕ, suc, ◌<◌, List, [], ◌∷◌, ◌++◌, map, length, ℤ, All, Some, slice_get}
+use Rattle.std.specs.Prelude.{◌≡◌, ℕ, suc, ◌<◌, List, [], ◌∷◌, ◌++◌, map, length, ℤ, Some, slice_get}
 use Rattle.std.specs.List.{range_with_len}
 use Rattle.homeo_syntax.specs.Source as s
 use Rattle.homeo_meaning.specs.Initial.{initial}

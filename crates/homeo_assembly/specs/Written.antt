@@ -1,6 +1,5 @@
 -- How an answer is written as numbers of 64 bits, and how it is read back (this project's rule).
 use Rattle.std.specs.Prelude.{◌≡◌, ℕ, zero, suc, ◌+◌, ◌*◌, ◌/◌, ◌%◌, ℤ, pos, negsuc, ◌+ℤ◌, ◌-ℤ◌, List, [], ◌∷◌, ◌++◌, map, drop, slice_index_or, All}
-use Rattle.homeo_plan.specs.declared.treaty.Broken.{Broken}
 use Rattle.homeo_history.specs.declared.answer.Path.{Path}
 use Rattle.homeo_history.specs.declared.answer.Path.TheVariants.{Local, Cleanup}
 use Rattle.homeo_history.specs.Answers.{Answer}

@@ -5,7 +5,8 @@ use Rattle.std.proofs.Common.{◌≡◌, ◌⊎◌, ℕ, zero, suc, ◌+◌, ◌
 use Rattle.std.specs.Prelude.{slice_get, option_map}
 use Rattle.homeo_syntax.specs.Source as s
 use Rattle.homeo_syntax.specs.Source.{Client}
-use Rattle.homeo_history.specs.Legal.{site_of, IsClientAt}
+use Rattle.homeo_meaning.specs.Schema.{nat_of}
+use Rattle.homeo_history.specs.Legal.{client_site, IsClientAt}
 use Rattle.homeo_assembly.specs.Key.{words}
 use Rattle.homeo_cluster.specs.Key.{places}
 use Rattle.homeo_cluster.specs.Places.{is_less, is_same, one_for, earlier, nth, homes, home_of, below, place, kept_line, done_line, shut_line, at_line, bases_line}
@@ -18,7 +19,7 @@ stands f (x ∷ xs) (suc i) site e = let rest = stands f xs i site e in (rest.0,
 
 pub at_home : (w : s.Workload) (site client : ℕ) → IsClientAt w site client → (home_of w client ≡ site) × (client < length (homes w))
 unfolding places histories
-at_home w site client at = stands (λ (c : Client). c.site) w.clients client site at
+at_home w site client at = stands (λ (c : Client). nat_of c.site.value) w.clients client site at
 
 -- counted before a place, and from it on
 fewer : (p : ℕ → Bool) (xs : List ℕ) (i j : ℕ) → i < j → i < length xs → p (nth xs i) ≡ true → suc (earlier p xs i) ≤ earlier p xs j
@@ -42,7 +43,7 @@ split_one (suc s) zero = less_none s
     less_none (suc s) = refl
 split_one (suc s) (suc i) = split_one s i
 
-split_all : (i : ℕ) (xs : List ℕ) (n : ℕ) → earlier (λ s. is_less s (suc i)) xs n ≡ earlier (λ s. is_less s i) xs n + earlier (λ s. is_same s i) xs n
+pub split_all : (i : ℕ) (xs : List ℕ) (n : ℕ) → earlier (λ s. is_less s (suc i)) xs n ≡ earlier (λ s. is_less s i) xs n + earlier (λ s. is_same s i) xs n
 split_all i [] n = refl
 split_all i (x ∷ xs) zero = refl
 split_all i (x ∷ xs) (suc n) =

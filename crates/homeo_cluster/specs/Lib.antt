@@ -4,3 +4,4 @@ pub mod Key
 pub mod Named
 pub mod Passes
 pub mod Places
+pub mod inner

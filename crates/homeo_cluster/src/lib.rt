@@ -11,6 +11,7 @@ mod cluster;
 mod finish;
 mod frame;
 mod gate;
+mod lines;
 mod local;
 mod meets;
 mod moves;

@@ -97,7 +97,7 @@ impl<N: ClusterNaming> Frame<N> {
         requires holds { HoldsAt N.workload number site.old }
         requires pairs { ArePairs N.workload number site.old book.old }
         requires book { KeepsEach N.workload book.old }
-        requires asker { CanAsk N.workload answer.now.client asker.old }
+        requires asker { IsClientAt N.workload number answer.now.client → CanAsk N.workload answer.now.client asker.old }
         requires room { IsClientAt N.workload number answer.now.client → length (list_at book.old (kept_line N.workload answer.now.client)) < 2 ^ 63 }
         ensures given { IsGiven N.workload number (plain_answer answer.now) site.old book.old site.new book.new }
         ensures asked { IsAsked N.workload number (plain_answer answer.now) asker.old asker.new }
@@ -155,7 +155,7 @@ impl<N: ClusterNaming> Frame<N> {
         requires short { AreShort N.workload cell.old.site.state.number cell.old.held }
         requires ahead { list_at book.old (bases_line N.workload) ≡
             list_at cell.old.held (at_line N.workload cell.old.site.state.number) ++ next.now ∷ [] }
-        requires asker { CanAsk N.workload answer.now.client asker.old }
+        requires asker { IsClientAt N.workload cell.old.site.state.number answer.now.client → CanAsk N.workload answer.now.client asker.old }
         ensures renewed { IsRenewed N.workload prepared.old.next (plain_answer answer.now) cell.old cell.new book.old book.new }
         ensures asked { IsAsked N.workload cell.old.site.state.number (plain_answer answer.now) asker.old asker.new }
         ensures taken { prepared.new ≡ record {

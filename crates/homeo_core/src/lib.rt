@@ -11,5 +11,5 @@ mod rounds;
 mod steps;
 
 pub use gather::Gather;
-pub use prepared::Prepared;
+pub use prepared::{Prepared, plan_at};
 pub use steps::Core;

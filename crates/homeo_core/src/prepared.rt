@@ -141,9 +141,13 @@ fn run_call(
     eval_call(alloc, w, &declared, call, database)
 }
 
-/// The plan of the round that begins at a base.
+/// The plan of the round that begins at a base, which is within the workload's bounds.
+///
+/// # Errors
+///
+/// `Memory` when out of memory.
 #[tactic(auto, unfolding(homeo_build::specs::Key::words))]
-pub(crate) fn plan_at(
+pub fn plan_at(
     alloc: Global,
     c: &Compiled,
     base: &Database,
