@@ -56,7 +56,7 @@ module _ (w : s.Workload) (next : List ℤ) (a : Answer) (before now : List Cell
   kept_is i c' e' client at =
       let v' = get_map_back (cell_of w) now i c' e' in
       let v = get_some before i (subst (λ n. i < n) gone.count (get_lt now i v'.0 v'.1.0)) in
-      ap (map (read client)) (sym ((one i v.0 v'.0 v.1 v'.1.0).pairs client at)) ∙ ap (λ (k : Cell). k.lists.shut client) v'.1.1
+      sym ((one i v.0 v'.0 v.1 v'.1.0).pairs client at) ∙ ap (λ (k : Cell). k.lists.shut client) v'.1.1
 
   pub closes : Closes w next a (cells_of w before) (cells_of w now) (book_lists w bb) (book_lists w b)
   unfolding words
@@ -73,6 +73,7 @@ module _ (w : s.Workload) (next : List ℤ) (a : Answer) (before now : List Cell
       → next ≡ next_base w old (states_of (cells_of w before)) call
       → a ≡ closing_answer (length old.closed) (closing_of w old (states_of (cells_of w before)) home call broken)
       → book_state new ≡ after_closing w old (states_of (cells_of w before)) home call broken → new.held ≡ b → IsBook w new
+  unfolding words
   book_again home call broken old new accepted count hand breaks is_next is_answer state held =
       let after = cleanup_event w old (book_lists w bb) (book_lists w b) (cells_of w before) (cells_of w now) home call broken accepted hand breaks
           (subst (λ (x : List ℤ × Answer). Closes w x.0 x.1 (cells_of w before) (cells_of w now) (book_lists w bb) (book_lists w b)) (λ i. (is_next i, is_answer i)) closes) in

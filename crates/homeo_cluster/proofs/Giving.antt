@@ -57,7 +57,7 @@ module _ (w : s.Workload) (site : ℕ) (a : Answer) where
             grew_list_other h1 h (shut_line w c) (at_line w site) e g2 (lines.at_shut c own)
             ∙ grew_list_other h0 h1 (done_line w c) (at_line w site) e g1 (lines.at_done c own);
         holds = holds_shut w site c h1 h e first own g2 seen2;
-        pairs = pairs_more w site c h1 h b0 b e (λ d at. grew_list_other h0 h1 (done_line w c) (shut_line w d) e g1 (λ q. lines.mixed c d own at (sym q)) ∙ pairs d at) own g2 f;
+        pairs = pairs_more w site c h1 h b0 b e (λ d at. ap (map (read d)) (grew_list_other h0 h1 (done_line w c) (shut_line w d) e g1 (λ q. lines.mixed c d own at (sym q))) ∙ pairs d at) own g2 f;
         keeps = others_kept w site c b0 b0 b e (same_others w site b0 book) own f seen;
       }
 
@@ -74,5 +74,5 @@ module _ (w : s.Workload) (site : ℕ) (a : Answer) where
     keeps = same_others w site b book;
   }
     where
-      nothing : (d : ℕ) → IsClientAt w site d → (as : List Answer) → as ≡ as ++ answers_to d (a ∷ [])
-      nothing d at as = sym (append-nil as) ∙ ap (λ xs. as ++ xs) (sym (not_to d a (λ same. away (subst (IsClientAt w site) (sym same) at))))
+      nothing : (d : ℕ) → IsClientAt w site d → (given : List Answer) → given ≡ given ++ answers_to d (a ∷ [])
+      nothing d at given = sym (append-nil given) ∙ ap (λ xs. given ++ xs) (sym (not_to d a (λ same. away (subst (IsClientAt w site) (sym same) at))))

@@ -10,6 +10,7 @@ use Rattle.homeo_history.specs.Answers.{Answer}
 use Rattle.homeo_history.specs.Legal.{IsClientAt}
 use Rattle.homeo_history.proofs.ClientAnswers.{one_site}
 use Rattle.homeo_history.proofs.Lists.{get_same, get_set_same, get_set_other, length_set}
+use Rattle.homeo_assembly.specs.Written.{read}
 use Rattle.homeo_cluster.specs.Cells.{CellValue, site_lists}
 use Rattle.homeo_cluster.specs.Places.{kept_line, at_line, bases_line}
 use Rattle.homeo_cluster.specs.inner.Moves.{KeepsEach, KeepsOthers, ArePairs}
@@ -43,14 +44,14 @@ gone_none w next a before b p book = record {
 module _ (w : s.Workload) (next : List ℤ) (a : Answer) (i : ℕ) (before now : List CellValue) (b0 b p0 p : Held)
     (so_far : HaveGoneOn w next a i before now b0 b p0 p) where
   -- the site whose turn it is
-  pub ready_now : (c : CellValue) → CanRenew w next a b0 before → slice_get now i ≡ Some c → i < length before → IsReady w next a b i c
+  pub ready_now : (c : CellValue) → CanRenew w next b0 before → slice_get now i ≡ Some c → i < length before → IsReady w next b i c
   ready_now c ready here lt =
       let was = before_is c lt here in
       let r = ready i c was in record {
-        is_next = r.is_next;
-        pairs = λ client at. r.pairs client at ∙ sym (so_far.kept i client (omega arith) at);
+        pairs = λ client at. r.pairs client at ∙ sym (ap (map (read client)) (so_far.kept i client (omega arith) at));
         short = r.short;
         ahead = so_far.bases ∙ r.ahead;
+        few = r.few;
       }
     where
       some_of : (xs : List CellValue) (j : ℕ) → j < length xs → (x : CellValue) × (slice_get xs j ≡ Some x)
@@ -64,8 +65,8 @@ module _ (w : s.Workload) (next : List ℤ) (a : Answer) (i : ℕ) (before now :
           let same : x.0 ≡ c = get_same now i x.0 c (so_far.same i x.0 (omega arith) x.1) here in
           subst (λ v. slice_get before i ≡ Some v) same x.1
 
-  pub asker_now : (site : ℕ) → IsClientAt w i a.client → CanAsk w a.client p0 → CanAsk w a.client p
-  asker_now site at can = subst (CanAsk w a.client) (sym (so_far.unasked i at (omega arith))) can
+  pub asker_now : (site : ℕ) → IsClientAt w i a.client → CanAsk w a p0 → CanAsk w a p
+  asker_now site at can = subst (CanAsk w a) (sym (so_far.unasked i at (omega arith))) can
 
   -- it goes on
   pub gone_more : (c c' : CellValue) (b' p' : Held) → slice_get now i ≡ Some c → i < length before → c.site.state.number ≡ i → IsRenewed w next a c c' b b'
@@ -98,7 +99,7 @@ module _ (w : s.Workload) (next : List ℤ) (a : Answer) (i : ℕ) (before now :
           let o = so_far.done j d d' earlier was now_is in record {
             state = o.state;
             lists = o.lists;
-            pairs = λ client at. o.pairs client at ∙ sym (keeps.others client (λ own. let same : i ≡ j = one_site w client i j own at in absurd (omega (arith, earlier, same))));
+            pairs = λ client at. o.pairs client at ∙ sym (ap (map (read client)) (keeps.others client (λ own. let same : i ≡ j = one_site w client i j own at in absurd (omega (arith, earlier, same)))));
             told = seen_on b b' (at_line w j) (bases_line w) keeps.bases keeps.seen o.told;
           }
 

@@ -28,7 +28,7 @@ use Rattle.homeo_notes.proofs.Prefixes.{prefix_self}
 use Rattle.homeo_cluster.specs.Key.{places}
 use Rattle.homeo_cluster.specs.inner.Grows.{Grew}
 use Rattle.homeo_cluster.specs.Places.{kept_line, done_line, shut_line, at_line, bases_line}
-use Rattle.homeo_cluster.specs.Cells.{HoldsAt, HoldsBook, KeepsFor, site_lists}
+use Rattle.homeo_cluster.specs.Cells.{HoldsAt, KeepsFor, site_lists, answers_at}
 use Rattle.homeo_cluster.specs.inner.Moves.{KeepsEach, KeepsOthers, ArePairs, IsMoving, AreShort}
 use Rattle.homeo_cluster.proofs.Apart.{AreApart, apart}
 use Rattle.homeo_cluster.proofs.Grows.{grew_same, grew_owner_same, grew_owner_other, grew_list_other, grew_seen}
@@ -77,10 +77,14 @@ pub pairs_more : (w : s.Workload) (site client : ℕ) (h h' b b' : Held) (e : En
 pairs_more w site client h h' b b' e is own g f =
     let lines : AreApart w site = apart w site in
     λ c here. dite (ℕ_discrete c client)
-      (λ same. subst (λ m. list_at h' (shut_line w m) ≡ list_at b' (kept_line w m)) (sym same)
-        (grew_same h h' (shut_line w client) (shut_line w client) e g refl ∙ ap (λ xs. xs ++ e ∷ []) (is client own) ∙ sym (grew_same b b' (kept_line w client) (kept_line w client) e f refl)))
-      (λ other. grew_list_other h h' (shut_line w client) (shut_line w c) e g (λ q. other (lines.shut c client here own q))
-        ∙ is c here ∙ sym (grew_list_other b b' (kept_line w client) (kept_line w c) e f (λ q. other (kept_apart w c client q))))
+      (λ same. subst (λ m. answers_at h' m (shut_line w m) ≡ answers_at b' m (kept_line w m)) (sym same)
+        (ap (map (read client)) (grew_same h h' (shut_line w client) (shut_line w client) e g refl)
+        ∙ map-append (read client) (list_at h (shut_line w client)) (e ∷ [])
+        ∙ ap (λ xs. xs ++ read client e ∷ []) (is client own)
+        ∙ sym (map-append (read client) (list_at b (kept_line w client)) (e ∷ []))
+        ∙ sym (ap (map (read client)) (grew_same b b' (kept_line w client) (kept_line w client) e f refl))))
+      (λ other. ap (map (read c)) (grew_list_other h h' (shut_line w client) (shut_line w c) e g (λ q. other (lines.shut c client here own q)))
+        ∙ is c here ∙ sym (ap (map (read c)) (grew_list_other b b' (kept_line w client) (kept_line w c) e f (λ q. other (kept_apart w c client q)))))
 
 -- one entry more
 pub moving_more : (w : s.Workload) (x : SiteState) (h0 b0 h h' b b' : Held) (k : ℕ) (e : Made)
@@ -104,6 +108,7 @@ moving_more w x h0 b0 h h' b b' k e facts own at g f seen_h seen_b is =
 -- none so far
 pub moving_none : (w : s.Workload) (x : SiteState) (h b : Held) → SiteFacts w x (site_lists w x.number h) → HoldsAt w x.number h → KeepsEach w b
     → ArePairs w x.number h b → IsMoving w x 0 h b h b
+unfolding words
 moving_none w x h b facts holds book pairs = record {
   moved = (moving w x (site_lists w x.number h) facts).none;
   at = refl;
@@ -119,14 +124,15 @@ moved_short : (w : s.Workload) (x : SiteState) (k : ℕ) (h0 b0 h b : Held) (cli
 unfolding words histories
 moved_short w x k h0 b0 h b client facts is own =
     let f : Made → Answer = local_answer x.round x.number in
-    let first : length (list_at b (kept_line w client)) ≡ length (list_at h (shut_line w client)) = ap length (sym (is.pairs client own)) in
+    let first : length (list_at b (kept_line w client)) ≡ length (list_at h (shut_line w client)) =
+        sym (length-map (list_at b (kept_line w client)) (read client)) ∙ ap length (sym (is.pairs client own)) ∙ length-map (list_at h (shut_line w client)) (read client) in
     let now : length (list_at h (shut_line w client)) ≡ length ((site_lists w x.number h0).shut client ++ answers_to client (map f (take k x.segment))) =
         sym (length-map (list_at h (shut_line w client)) (read client)) ∙ ap length (is.moved client own) in
     let all : length (list_at h0 (done_line w client)) ≡ length ((site_lists w x.number h0).shut client ++ answers_to client (map f x.segment)) =
         sym (length-map (list_at h0 (done_line w client)) (read client)) ∙ ap length (facts.serves client own).answered in
     let parts : length (answers_to client (map f x.segment)) ≡ length (answers_to client (map f (take k x.segment))) + length (answers_to client (map f (drop k x.segment))) =
         ap (λ es. length (answers_to client (map f es))) (sym (take-append-drop k x.segment))
-        ∙ ap (λ as. length (answers_to client as)) (map-append f (take k x.segment) (drop k x.segment))
+        ∙ ap (λ given. length (answers_to client given)) (map-append f (take k x.segment) (drop k x.segment))
         ∙ ap length (filter-append (λ (a : Answer). eqb a.client client) (map f (take k x.segment)) (map f (drop k x.segment)))
         ∙ length-append (answers_to client (map f (take k x.segment))) (answers_to client (map f (drop k x.segment))) in
     let one = length-append ((site_lists w x.number h0).shut client) (answers_to client (map f (take k x.segment))) in
@@ -142,4 +148,4 @@ moving_room w x k h0 b0 h b client facts short is own =
 
 -- an entry of the segment is of a client of the site
 pub own_entry : (w : s.Workload) (x : SiteState) (h : Held) (k : ℕ) (e : Made) → SiteFacts w x (site_lists w x.number h) → slice_get x.segment k ≡ Some e → IsClientAt w x.number e.call.client
-own_entry w x h k e facts at = client_at w e.call x.number (All-get (λ (m : Made). IsCallAt w x.number m.call) x.segment k e facts.holds.calls at).at
+own_entry w x h k e facts at = client_at w e.call x.number (All-get (λ (m : Made). IsCallAt w x.number m.call) x.segment k e facts.holds.calls at).at_site

@@ -76,7 +76,7 @@ pub cell_renewed : (w : s.Workload) (v v' : SiteValue) (h h' : Held) (base : Lis
     → IsCell w (record { site = v; held = h }) → plain_workload v'.work ≡ w → v'.state ≡ renewed base v.state
     → Renews w base v.state a (site_lists w v.state.number h) (site_lists w v.state.number h') → HoldsAt w v.state.number h'
     → IsCell w (record { site = v'; held = h' })
-unfolding site_words
+unfolding words site_words
 cell_renewed w v v' h h' base a accepted within is work state renews holds =
     let number : v'.state.number ≡ v.state.number = ap (λ (x : SiteState). x.number) state in record {
       work = work;

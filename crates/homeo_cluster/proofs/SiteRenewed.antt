@@ -96,8 +96,8 @@ module _ (w : s.Workload) (x : SiteState) (next : List ℤ) (a : Answer) (h0 h1 
 
   pub pairs : ArePairs w x.number h3 b3
   pairs client at =
-      grew_list_other h2 h3 (at_line w x.number) (shut_line w client) next grew (λ q. lines.at_shut client at (sym q))
-      ∙ given.pairs client at ∙ sym (rose_list b2 b3 (kept_line w client) rose)
+      ap (map (read client)) (grew_list_other h2 h3 (at_line w x.number) (shut_line w client) next grew (λ q. lines.at_shut client at (sym q)))
+      ∙ given.pairs client at ∙ sym (ap (map (read client)) (rose_list b2 b3 (kept_line w client) rose))
 
   pub keeps : KeepsOthers w x.number b0 b3
   keeps =

@@ -1,6 +1,6 @@
 //! The end of a round at one site: what it has answered goes over into the book, and it goes on to the next round.
 
-ghost use Rattle.std.specs.Prelude.{◌≡◌, ◌<◌, ◌≤◌, ◌^◌, ◌∷◌, ◌++◌, [], true, false, Some, length, slice_get, slice_set};
+ghost use Rattle.std.specs.Prelude.{◌≡◌, ◌+◌, ◌<◌, ◌≤◌, ◌^◌, ◌∷◌, ◌++◌, [], true, false, Some, length, slice_get, slice_set};
 ghost use Rattle.homeo_syntax.specs.SourceView.{plain_workload};
 ghost use Rattle.homeo_notes.specs.Lines.{IsOwner, HasSeen, list_at};
 ghost use Rattle.homeo_meaning.specs.Bounds.{IsWithin};
@@ -97,12 +97,15 @@ impl<N: ClusterNaming> Frame<N> {
         requires holds { HoldsAt N.workload number site.old }
         requires pairs { ArePairs N.workload number site.old book.old }
         requires book { KeepsEach N.workload book.old }
-        requires asker { IsClientAt N.workload number answer.now.client → CanAsk N.workload answer.now.client asker.old }
-        requires room { IsClientAt N.workload number answer.now.client → length (list_at book.old (kept_line N.workload answer.now.client)) < 2 ^ 63 }
+        requires asker { IsClientAt N.workload number answer.now.client → CanAsk N.workload (plain_answer answer.now) asker.old }
+        requires room { IsClientAt N.workload number answer.now.client
+            → length (list_at book.old (kept_line N.workload answer.now.client)) ≤ call_count N.workload answer.now.client }
+        ensures next { IsNext N.workload number (plain_answer answer.now) (site_lists N.workload number site.old).done }
         ensures given { IsGiven N.workload number (plain_answer answer.now) site.old book.old site.new book.new }
         ensures asked { IsAsked N.workload number (plain_answer answer.now) asker.old asker.new }
     {
         let client = answer.client;
+        let _few = self.calls(client);
         if self.home(client) == number {
             let head = closing_head(answer.seq, answer.site, answer.round, broken);
             let done = self.done(client);
@@ -148,14 +151,14 @@ impl<N: ClusterNaming> Frame<N> {
         requires within { IsWithin (schema_of N.workload) prepared.old.next }
         requires path { answer.now.path ≡ Path.Cleanup broken }
         requires there { answer.now.client < length N.workload.clients }
-        requires is_next { IsNext N.workload cell.old.site.state.number (plain_answer answer.now)
-            (site_lists N.workload cell.old.site.state.number cell.old.held).done }
         requires book { KeepsEach N.workload book.old }
         requires pairs { ArePairs N.workload cell.old.site.state.number cell.old.held book.old }
         requires short { AreShort N.workload cell.old.site.state.number cell.old.held }
+        requires few { cell.old.site.state.round + 1 < 2 ^ 63 }
         requires ahead { list_at book.old (bases_line N.workload) ≡
             list_at cell.old.held (at_line N.workload cell.old.site.state.number) ++ next.now ∷ [] }
-        requires asker { IsClientAt N.workload cell.old.site.state.number answer.now.client → CanAsk N.workload answer.now.client asker.old }
+        requires asker { IsClientAt N.workload cell.old.site.state.number answer.now.client
+            → CanAsk N.workload (plain_answer answer.now) asker.old }
         ensures renewed { IsRenewed N.workload prepared.old.next (plain_answer answer.now) cell.old cell.new book.old book.new }
         ensures asked { IsAsked N.workload cell.old.site.state.number (plain_answer answer.now) asker.old asker.new }
         ensures taken { prepared.new ≡ record {
@@ -168,6 +171,7 @@ impl<N: ClusterNaming> Frame<N> {
           waiting = slice_set prepared.old.waiting cell.old.site.state.number false;
         } }
     {
+        self.accepted();
         let number = cell.number();
         self.move_segment(&cell.site, &mut cell.holder, book);
         self.give(number, &mut cell.holder, book, asker, answer, broken);

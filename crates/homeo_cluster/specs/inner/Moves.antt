@@ -5,7 +5,7 @@ use Rattle.homeo_notes.specs.Lines.{Held, IsOwner, HasSeen, list_at, seen_at}
 use Rattle.homeo_history.specs.Legal.{IsClientAt, call_count}
 use Rattle.homeo_site.specs.SiteState.{SiteState}
 use Rattle.homeo_assembly.specs.Events.{HasMoved}
-use Rattle.homeo_cluster.specs.Cells.{HoldsAt, KeepsFor, site_lists}
+use Rattle.homeo_cluster.specs.Cells.{HoldsAt, KeepsFor, site_lists, answers_at}
 use Rattle.homeo_cluster.specs.Places.{kept_line, done_line, shut_line, at_line, bases_line}
 
 -- what the book's holder has, but for what it has seen of the sites' bases
@@ -24,7 +24,7 @@ pub record KeepsOthers (w : s.Workload) (site : ℕ) (b0 b : Held) : Type 0 wher
 -- the book has kept of the site's clients what the site has shut
 abbrev pub ArePairs : s.Workload → ℕ → Held → Held → Type 0
 ArePairs w site h b =
-    (client : ℕ) → IsClientAt w site client → list_at h (shut_line w client) ≡ list_at b (kept_line w client)
+    (client : ℕ) → IsClientAt w site client → answers_at h client (shut_line w client) ≡ answers_at b client (kept_line w client)
 
 -- k entries have gone over so far; h0, b0 are the holders before, h, b those now
 pub record IsMoving (w : s.Workload) (x : SiteState) (k : ℕ) (h0 b0 h b : Held) : Type 0 where

@@ -13,11 +13,12 @@ use Rattle.homeo_cluster.specs.inner.Grows.{Grew}
 use Rattle.homeo_cluster.specs.inner.Moves.{KeepsOthers, ArePairs}
 
 -- ---- the pass of the closing call
--- its holder owns the client's list, has seen at least this of what the site has done, and the list may grow
-pub record CanAsk (w : s.Workload) (client : ℕ) (p : Held) : Type 0 where
-  pub owns : IsOwner p (asked_line client)
-  pub seen : HasSeen p (done_line w client) (list_at p (asked_line client))
-  pub room : length (list_at p (asked_line client)) < 2 ^ 63
+-- its holder owns the client's list, whose next answer this is, and has seen at least this of what the site has done
+pub record CanAsk (w : s.Workload) (a : Answer) (p : Held) : Type 0 where
+  pub owns : IsOwner p (asked_line a.client)
+  pub seen : HasSeen p (done_line w a.client) (list_at p (asked_line a.client))
+  pub next : a.seq ≡ suc (length (list_at p (asked_line a.client)))
+  pub few : a.seq ≤ 2 ^ 63
 
 -- it has got the answer
 pub record WasAsked (w : s.Workload) (a : Answer) (p p' : Held) : Type 0 where

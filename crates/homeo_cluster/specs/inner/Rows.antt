@@ -1,5 +1,5 @@
 -- Cells behind a row of locks that are held, and while they go on to the next round one after another.
-use Rattle.std.specs.Prelude.{◌≡◌, ℕ, suc, ◌<◌, ◌≤◌, Bool, true, false, List, [], ◌∷◌, ◌++◌, map, length, replicate, ℤ, Some, slice_get}
+use Rattle.std.specs.Prelude.{◌≡◌, ℕ, ◌+◌, ◌<◌, ◌≤◌, ◌^◌, Bool, true, false, List, [], ◌∷◌, ◌++◌, map, length, replicate, ℤ, Some, slice_get}
 use Rattle.std.specs.Sync.Mutex.{mutex_guard_value}
 use Rattle.std.specs.declared.sync.MutexGuard.{MutexGuard}
 use Rattle.homeo_syntax.specs.Source as s
@@ -10,7 +10,7 @@ use Rattle.homeo_site.specs.SiteState.{SiteState, renewed}
 use Rattle.homeo_core.specs.GatherView.{PreparedValue}
 use Rattle.homeo_core.specs.Joined.{segments_of}
 use Rattle.homeo_core.specs.inner.SiteLists.{first_from}
-use Rattle.homeo_assembly.specs.Events.{IsNext, Renews}
+use Rattle.homeo_assembly.specs.Events.{Renews}
 use Rattle.homeo_cluster.specs.Cells.{CellValue, site_lists}
 use Rattle.homeo_cluster.specs.Places.{kept_line, at_line, bases_line}
 use Rattle.homeo_cluster.specs.inner.Meets.{site_states}
@@ -22,16 +22,16 @@ abbrev pub held_cells : {X : Type 0} → List (MutexGuard X) → List X
 held_cells {X} guards = map (λ (g : MutexGuard X). mutex_guard_value g) guards
 
 -- ---- before
--- what each site needs to go on: the closing answer is its client's next, the book has kept what it has shut, it has answered its
--- clients no more often than they have calls, and the book is one base ahead of it
-pub record IsReady (w : s.Workload) (next : List ℤ) (a : Answer) (b : Held) (site : ℕ) (c : CellValue) : Type 0 where
-  pub is_next : IsNext w site a (site_lists w site c.held).done
+-- what each site needs to go on: the book has kept what it has shut, it has answered its clients no more often than they have calls,
+-- the book is one base ahead of it, and there is room for a round more
+pub record IsReady (w : s.Workload) (next : List ℤ) (b : Held) (site : ℕ) (c : CellValue) : Type 0 where
   pub pairs : ArePairs w site c.held b
   pub short : AreShort w site c.held
   pub ahead : list_at b (bases_line w) ≡ list_at c.held (at_line w site) ++ next ∷ []
+  pub few : c.site.state.round + 1 < 2 ^ 63
 
-abbrev pub CanRenew : s.Workload → List ℤ → Answer → Held → List CellValue → Type 0
-CanRenew w next a b cells = (i : ℕ) (c : CellValue) → slice_get cells i ≡ Some c → IsReady w next a b i c
+abbrev pub CanRenew : s.Workload → List ℤ → Held → List CellValue → Type 0
+CanRenew w next b cells = (i : ℕ) (c : CellValue) → slice_get cells i ≡ Some c → IsReady w next b i c
 
 -- ---- one after another
 -- a site that has gone on, where the book's holder is now b

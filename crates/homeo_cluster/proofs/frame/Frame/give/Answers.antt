@@ -60,6 +60,7 @@ extend_pair-requires-then-home-number-clause-left g c =
     subst (λ (x : ℕ × ℕ). HasSeen c.extend_pair.new.left x.1 (list_at c.extend_pair.new.left x.0)) (λ i. (sym c.shut-shut.ensures i, sym c.kept-kept.ensures i)) for.seen_kept
 
 pub returns-then-home-number-clause-given : goal.returns-then-home-number-clause-given
+unfolding histories
 returns-then-home-number-clause-given g c =
     let w = g.N.ClusterNaming.workload in
     let a : Answer = plain_answer c.args.answer.now in
@@ -76,6 +77,7 @@ returns-then-home-number-clause-given g c =
       (subst (λ (x : ℕ × ℕ). HasSeen two.new.right x.0 (list_at two.new.right x.1)) (λ i. (shut i, kept i)) two.ensures.right_seen)
 
 pub returns-then-home-number-clause-asked : goal.returns-then-home-number-clause-asked
+unfolding histories
 returns-then-home-number-clause-asked g c =
     let w = g.N.ClusterNaming.workload in
     let e = (goal.at.returns-then-home-number-clause-asked g c).After-extend_pair in
@@ -85,6 +87,7 @@ returns-then-home-number-clause-asked g c =
     })
 
 pub returns-else-home-number-clause-given : goal.returns-else-home-number-clause-given
+unfolding histories
 returns-else-home-number-clause-given g c =
     let w = g.N.ClusterNaming.workload in
     given_elsewhere w c.args.number (plain_answer c.args.answer.now) c.args.site.now c.args.book.now
@@ -92,6 +95,7 @@ returns-else-home-number-clause-given g c =
       c.requires.holds c.requires.pairs c.requires.book
 
 pub returns-else-home-number-clause-asked : goal.returns-else-home-number-clause-asked
+unfolding histories
 returns-else-home-number-clause-asked g c =
     let w = g.N.ClusterNaming.workload in
     inr ((λ at. c.if-home-number.false (one_site w c.args.answer.now.client c.home.result c.args.number c.home.ensures.at at)), refl)
