@@ -3,7 +3,6 @@ use Rattle.std.proofs.Common.{◌≡◌, [], ◌∷◌, ◌++◌, map, ap, sym, 
 use Rattle.std.proofs.lemmas.List.{map-append}
 use Rattle.homeo_syntax.specs.Listed.{Listed}
 use Rattle.homeo_history.specs.HistoryView.{plain_segment}
-use Rattle.homeo_history.specs.History.{Entry}
 use Rattle.homeo_history.specs.declared.history.Segment.{Segment}
 use Rattle.homeo_site.specs.SiteView.{SiteValue}
 use Rattle.homeo_cluster.specs.Cells.{CellValue}

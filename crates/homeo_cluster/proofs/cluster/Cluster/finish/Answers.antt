@@ -2,7 +2,6 @@ use Rattle.std.proofs.Common.{◌≡◌, List, sym, ap, subst, ◌∙◌}
 use Rattle.std.proofs.lemmas.Result.{IfOk-weaker}
 use Rattle.homeo_syntax.specs.Source as s
 use Rattle.homeo_meaning.specs.Initial.{initial}
-use Rattle.homeo_history.specs.HistoryView.{plain_history}
 use Rattle.homeo_core.specs.Joined.{AreJoined, history_of}
 use Rattle.homeo_assembly.specs.Laws.{IsAssembled}
 use Rattle.homeo_cluster.specs.Cells.{CellValue, BookValue, book_state}

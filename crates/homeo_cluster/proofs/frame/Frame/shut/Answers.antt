@@ -2,7 +2,6 @@ use Rattle.homeo_cluster.specs.Key.{places}
 use Rattle.std.proofs.Common.{◌+◌, ◌<◌, ℕ, ap, sym, ◌∙◌, arith}
 use Rattle.homeo_syntax.specs.Source as s
 use Rattle.homeo_meaning.specs.Acceptance.{IsAccepted}
-use Rattle.homeo_plan.specs.Planned.{sites_of}
 use Rattle.homeo_history.specs.Legal.{IsClientAt}
 use Rattle.homeo_history.proofs.Exists.{has_site}
 use Rattle.homeo_core.proofs.FewClients.{clients_few, sites_of_few}
