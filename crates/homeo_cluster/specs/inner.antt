@@ -1,4 +1,5 @@
 pub mod Begun
+pub mod Frames
 pub mod Grows
 pub mod Meets
 pub mod Moves

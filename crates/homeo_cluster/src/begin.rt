@@ -138,9 +138,9 @@ impl<N: ClusterNaming> Frame<N> {
         plan: &Arc<RoundPlan>,
         rest: &mut Holder<N>,
     ) -> Result<Vec<Mutex<SiteCell<N>>>, Memory>
-        requires plan { IsPlanOf (plain_workload self.now.compiled.value) plan.now.value.base.items plan.now.value }
+        requires plan { IsPlanOf (plain_workload self.now) plan.now.value.base.items plan.now.value }
         requires policy { plain_config plan.now.value.config ≡
-            policy (plain_workload self.now.compiled.value) plan.now.value.base.items }
+            policy (plain_workload self.now) plan.now.value.base.items }
         requires base { plan.now.value.base.items ≡ initial N.workload }
         requires rest { IsRest N.workload (initial N.workload) 0 rest.old }
         ensures rest { OnOk result (IsRest N.workload (initial N.workload) (sites_of N.workload) rest.new) }
@@ -165,9 +165,9 @@ impl<N: ClusterNaming> Frame<N> {
         site: u32,
         first: u32,
     ) -> Result<SiteCell<N>, Memory>
-        requires plan { IsPlanOf (plain_workload self.now.compiled.value) plan.now.value.base.items plan.now.value }
+        requires plan { IsPlanOf (plain_workload self.now) plan.now.value.base.items plan.now.value }
         requires policy { plain_config plan.now.value.config ≡
-            policy (plain_workload self.now.compiled.value) plan.now.value.base.items }
+            policy (plain_workload self.now) plan.now.value.base.items }
         requires base { plan.now.value.base.items ≡ initial N.workload }
         requires site { site < sites_of N.workload }
         requires first { first ≡ first_line N.workload site }

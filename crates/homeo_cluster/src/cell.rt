@@ -16,9 +16,13 @@ pub(crate) struct SiteCell<N: ClusterNaming> {
 }
 
 impl<N: ClusterNaming> Model for SiteCell<N> {
+    ghost use Rattle.std.specs.Coded.{codes};
+    ghost use Rattle.homeo_syntax.specs.contracts.workload.Workload as workload;
     ghost use Rattle.homeo_cluster.specs.Cells.{CellValue, IsCell};
 
     ghost Value = { CellValue };
+
+    ghost coded = { Prim.hlevel (codes, workload.the_row.coded) };
 
     ghost view = { λ s. record { site = s.site; held = s.holder } };
 

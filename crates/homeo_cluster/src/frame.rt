@@ -1,16 +1,16 @@
 //! What all parts of a cluster share.
 
 ghost use Rattle.std.specs.Prelude.{◌≡◌, ◌<◌, ◌+◌, ◌*◌, ◌^◌, length};
-ghost use Rattle.homeo_syntax.specs.SourceView.{plain_workload};
 ghost use Rattle.homeo_meaning.specs.Acceptance.{IsAccepted};
 ghost use Rattle.homeo_plan.specs.Planned.{sites_of};
 ghost use Rattle.homeo_history.specs.Legal.{IsClientAt, call_count};
-ghost use Rattle.homeo_cluster.specs.Places.{AreLines, kept_line, done_line, shut_line, at_line, bases_line};
+ghost use Rattle.homeo_cluster.specs.Places.{kept_line, done_line, shut_line, at_line, bases_line};
 
 use crate::naming::ClusterNaming;
 use homeo_build::Compiled;
 use homeo_core::clients::{call_count, client_count, site_count, site_of};
 use homeo_notes::Board;
+use std::marker::Model;
 use std::sync::Arc;
 
 /// The board with the places of its lines, and the compiled workload.
@@ -20,8 +20,20 @@ pub(crate) struct Frame<N: ClusterNaming> {
     pub(crate) compiled: Arc<Compiled>,
     pub(crate) done_lines: Vec<u32>,
     pub(crate) at_lines: Vec<u32>,
-    ghost named: { plain_workload compiled.value ≡ N.workload },
-    ghost placed: { AreLines N.workload done_lines.items at_lines.items },
+}
+
+impl<N: ClusterNaming> Model for Frame<N> {
+    ghost use Rattle.homeo_syntax.specs.declared.workload.Workload.{Workload};
+    ghost use Rattle.homeo_syntax.specs.contracts.workload.Workload.{the_row};
+    ghost use Rattle.homeo_cluster.specs.inner.Frames.{IsFrame};
+
+    ghost Value = { Workload };
+
+    ghost coded = { the_row.coded };
+
+    ghost view = { λ f. f.compiled.value };
+
+    ghost invariant = { λ f. IsFrame N.workload f.compiled.value f.done_lines.items f.at_lines.items };
 }
 
 impl<N: ClusterNaming> Frame<N> {
