@@ -112,6 +112,7 @@ impl<N: ClusterNaming> Frame<N> {
     pub(crate) fn bases(&self) -> u32
         ensures { result ≡ bases_line N.workload }
     {
+        self.accepted();
         4 * self.clients() + self.sites()
     }
 }
