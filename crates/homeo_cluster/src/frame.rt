@@ -64,6 +64,7 @@ impl<N: ClusterNaming> Frame<N> {
         ensures at { IsClientAt N.workload result client }
         ensures bound { result < sites_of N.workload }
     {
+        self.accepted();
         site_of(self.compiled.workload(), client)
     }
 
@@ -81,6 +82,7 @@ impl<N: ClusterNaming> Frame<N> {
         requires exists { client < length N.workload.clients }
         ensures { result ≡ kept_line N.workload client }
     {
+        self.accepted();
         self.clients() + client
     }
 
@@ -97,6 +99,7 @@ impl<N: ClusterNaming> Frame<N> {
         requires exists { client < length N.workload.clients }
         ensures { result ≡ shut_line N.workload client }
     {
+        self.accepted();
         self.done(client) + 1
     }
 

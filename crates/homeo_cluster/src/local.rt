@@ -1,6 +1,6 @@
 //! A call at its own site, under the lock of this site alone.
 
-ghost use Rattle.std.specs.Prelude.{◌≡◌, ◌<◌, ◌≤◌, ◌∷◌, ◌++◌, ◌^◌, ℤ, List as Seq, suc, length, All, IfOk, OnErr};
+ghost use Rattle.std.specs.Prelude.{◌≡◌, ◌<◌, ◌≤◌, [], ◌∷◌, ◌++◌, ◌^◌, ℤ, List as Seq, suc, length, All, IfOk, OnErr};
 ghost use Rattle.homeo_notes.specs.Lines.{IsOwner, HasSeen, list_at};
 ghost use Rattle.homeo_history.specs.Answers.{local_answer};
 ghost use Rattle.homeo_history.specs.HistoryView.{plain_answer};
@@ -73,6 +73,7 @@ impl<N: ClusterNaming> Frame<N> {
         requires spare { 1 ≤ cell.old.site.spare }
         requires owns { IsOwner asker.old (asked_line change.call.client) }
         requires seen { HasSeen asker.old (done_line N.workload change.call.client) (list_at asker.old (asked_line change.call.client)) }
+        requires few { change.call.seq ≤ 2 ^ 63 }
         requires next { change.call.seq ≡ suc (length (list_at asker.old (asked_line change.call.client))) }
         ensures made { cell.new.site.state ≡ after_local N.workload cell.old.site.state change.call }
         ensures asked { Grew asker.old asker.new (asked_line change.call.client)
@@ -80,8 +81,8 @@ impl<N: ClusterNaming> Frame<N> {
             (local_entry N.workload cell.old.site.state change.call))) }
         ensures seen { HasSeen asker.new (done_line N.workload change.call.client) (list_at asker.new (asked_line change.call.client)) }
     {
+        self.accepted();
         let client = change.call.client;
-        prove!(change.call.seq <= self.calls(client));
         let done = self.done(client);
         let head = local_head(change.call.seq, cell.site.number(), cell.site.round());
         extend_pair(
@@ -118,6 +119,7 @@ fn two_answers(call: CallId, site: u32, round: u64, copies: List<Prints>) -> (An
 }
 
 /// The answer to a call that a site made by itself.
+#[tactic(auto, using(homeo_history::proofs::HistoryViews::history_views), unfolding(homeo_history::specs::Key::words))]
 fn local_answer(call: CallId, site: u32, round: u64, prints: Prints) -> Answer
     ensures { plain_answer result ≡ local_answer round site (record { call = call; prints = prints.items }) }
 {

@@ -1,6 +1,6 @@
 //! A client's pass.
 
-ghost use Rattle.std.specs.Prelude.{◌≡◌, ◌<◌, ◌+◌, length, map};
+ghost use Rattle.std.specs.Prelude.{◌≡◌, ◌<◌, ◌≤◌, ◌+◌, ◌^◌, length, map};
 ghost use Rattle.homeo_history.specs.HistoryView.{plain_answer};
 ghost use Rattle.homeo_history.specs.Legal.{call_count};
 ghost use Rattle.homeo_cluster.specs.Passes.{next_call};
@@ -66,7 +66,8 @@ impl<N: ClusterNaming> ClientPass<N> {
     /// The client's next call.
     pub(crate) fn next(&self) -> CallId
         requires { 0 < self.now.left }
-        ensures { result ≡ next_call self.now }
+        ensures call { result ≡ next_call self.now }
+        ensures few { result.seq ≤ 2 ^ 63 }
     {
         CallId {
             client: self.client,

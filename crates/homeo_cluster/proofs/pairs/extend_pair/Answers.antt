@@ -7,11 +7,11 @@ use Rattle.homeo_cluster.proofs.pairs.extend_pair.Goals.{After-tell_on-2}
 use Rattle.homeo_cluster.proofs.pairs.extend_pair.Given.{Over}
 
 left_grew : (g : Over) (c : After-tell_on-2 g) → Grew c.args.left.now c.tell_on-2.new.to c.args.one (c.args.head.now ++ c.args.body.now)
-left_grew g c = rose_grew_rose c.args.left.now c.meet_pair.new.left c.extend.new.holder c.tell_on-2.new.to c.args.one _ c.meet_pair.ensures.left (grew_by_extend _ _ c.args.one _ c.extend.ensures)
+left_grew g c = rose_grew_rose c.args.left.now c.meet_pair.new.left c.extend.new.holder c.tell_on-2.new.to c.args.one _ c.meet_pair.ensures.left (grew_by_extend _ _ c.args.one _ c.extend.ensures.appended)
     (subst (λ (h : Held). Rose h c.tell_on-2.new.to) c.tell_on.ensures.from c.tell_on-2.ensures.rose)
 
 right_grew : (g : Over) (c : After-tell_on-2 g) → Grew c.args.right.now c.tell_on.new.to c.args.other (c.args.head.now ++ c.args.body.now)
-right_grew g c = rose_grew_rose c.args.right.now c.meet_pair.new.right c.extend-2.new.holder c.tell_on.new.to c.args.other _ c.meet_pair.ensures.right (grew_by_extend _ _ c.args.other _ c.extend-2.ensures) c.tell_on.ensures.rose
+right_grew g c = rose_grew_rose c.args.right.now c.meet_pair.new.right c.extend-2.new.holder c.tell_on.new.to c.args.other _ c.meet_pair.ensures.right (grew_by_extend _ _ c.args.other _ c.extend-2.ensures.appended) c.tell_on.ensures.rose
 
 same_lists : (g : Over) (c : After-tell_on-2 g) → list_at c.tell_on.new.to c.args.other ≡ list_at c.tell_on-2.new.to c.args.one
 same_lists g c = grew_same _ _ c.args.other c.args.other _ (right_grew g c) refl ∙ (ap (λ xs. xs ++ (c.args.head.now ++ c.args.body.now) ∷ []) (sym c.meet_pair.ensures.equal) ∙ sym (grew_same _ _ c.args.one c.args.one _ (left_grew g c) refl))

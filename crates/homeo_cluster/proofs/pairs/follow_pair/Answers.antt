@@ -14,7 +14,7 @@ left_rose : (g : Over) (c : After-tell_on-2 g) → Rose c.extend.new.holder c.te
 left_rose g c = subst (λ (h : Held). Rose h c.tell_on-2.new.to) c.tell_on.ensures.from c.tell_on-2.ensures.rose
 
 left_grew : (g : Over) (c : After-tell_on-2 g) → Grew c.args.left.now c.tell_on-2.new.to c.args.one (c.args.head.now ++ c.args.body.now)
-left_grew g c = rose_grew_rose c.args.left.now c.args.left.now c.extend.new.holder c.tell_on-2.new.to c.args.one _ (still c.args.left.now) (grew_by_extend _ _ c.args.one _ c.extend.ensures) (left_rose g c)
+left_grew g c = rose_grew_rose c.args.left.now c.args.left.now c.extend.new.holder c.tell_on-2.new.to c.args.one _ (still c.args.left.now) (grew_by_extend _ _ c.args.one _ c.extend.ensures.appended) (left_rose g c)
 
 same_lists : (g : Over) (c : After-tell_on-2 g) → list_at c.tell_on.new.to c.args.other ≡ list_at c.tell_on-2.new.to c.args.one
 same_lists g c = rose_list c.args.right.now c.tell_on.new.to c.args.other c.tell_on.ensures.rose ∙ (c.requires.ahead ∙ sym (grew_same _ _ c.args.one c.args.one _ (left_grew g c) refl))
