@@ -1,6 +1,7 @@
 -- The first passes, sites and book.
 use Rattle.homeo_site.specs.Key.{words as site_words}
-use Rattle.std.proofs.Common.{◌≡◌, ◌≢◌, ℕ, zero, suc, ◌+◌, ◌*◌, ◌<◌, ◌≤◌, List, [], ◌∷◌, ◌++◌, map, length, replicate, Some, None, ℤ, refl, sym, ap, subst, ◌∙◌, ◌⊎◌, inl, inr, ⊎_elim, arith, length-append}
+use Rattle.homeo_assembly.specs.Key.{words}
+use Rattle.std.proofs.Common.{◌≡◌, ◌≢◌, ℕ, zero, suc, ◌+◌, ◌*◌, ◌^◌, ◌<◌, ◌≤◌, List, [], ◌∷◌, ◌++◌, map, length, replicate, Some, None, ℤ, refl, sym, ap, subst, ◌∙◌, ◌⊎◌, inl, inr, ⊎_elim, arith, length-append}
 use Rattle.std.specs.Prelude.{All, slice_get}
 use Rattle.std.specs.List.{range_with_len}
 use Rattle.std.proofs.lemmas.List.{get_or-replicate}
@@ -20,9 +21,11 @@ use Rattle.homeo_meaning.specs.Acceptance.{IsAccepted}
 use Rattle.homeo_meaning.specs.Initial.{initial}
 use Rattle.homeo_plan.specs.Planned.{sites_of}
 use Rattle.homeo_history.specs.Answers.{Answer}
+use Rattle.homeo_history.specs.History.{Round}
 use Rattle.homeo_history.specs.Legal.{IsClientAt, call_count}
 use Rattle.homeo_site.specs.SiteState.{SiteState, begun}
-use Rattle.homeo_site.specs.SiteView.{SiteValue}
+use Rattle.homeo_site.specs.SiteView.{StartValue, SiteValue}
+use Rattle.homeo_core.specs.Joined.{BookState}
 use Rattle.homeo_assembly.specs.Facts.{SiteLists, SiteFacts, Serves, BookLists, BookFacts}
 use Rattle.homeo_assembly.specs.Events.{no_answers}
 use Rattle.homeo_assembly.specs.Laws.{SiteStart, BookStart}
@@ -42,6 +45,10 @@ owned_owner h i xs e = e ∙ ap Some (sym (ap or_empty e))
 
 seen_none : (h k : Held) (i j : ℕ) → Owns k j [] → HasSeen h i (list_at k j)
 seen_none h k i j e = subst (HasSeen h i) (sym (ap or_empty e)) (prefix_nil _)
+
+-- an empty list has room
+pub some_room : (h : Held) (i : ℕ) → Owns h i [] → length (list_at h i) < 2 ^ 63
+some_room h i e = let none : length (list_at h i) ≡ 0 = ap length (owned_list h i [] e) in omega (arith, none)
 
 -- ---- the lines that are left
 pub all_left : (lines end : ℕ) (h : Held) → h ≡ owner_of_all lines → lines ≡ end → AreLeft 0 end h
@@ -210,6 +217,21 @@ module _ (w : s.Workload) (base : Entry) (site : ℕ) (h h1 h2 h3 k k1 : Held)
         own_line (shut_line w client) (omega (arith, next, first)) place.last;
   }
 
+-- what is left and what the new holder has, where it was told on, and its old state stands for that in between
+pub site_dealt : (w : s.Workload) (base : Entry) (site : ℕ) (h h1 h2 h3 h4 k k0 k1 : Held) → site < sites_of w → IsRest w base site h
+    → h1 ≡ with_list h (at_line w site) (list_at h (at_line w site) ++ base ∷ [])
+    → h2 ≡ without_lines (first_line w site) (at_line w site + 1) h1
+    → k ≡ only_lines (first_line w site) (at_line w site + 1) h1
+    → h3 ≡ after_telling k h2 → ((i : ℕ) → TellsOf k h2 i) → k0 ≡ k
+    → k1 ≡ after_telling h3 k0 → ((i : ℕ) → TellsOf h3 k0 i) → h4 ≡ h3
+    → IsRest w base (site + 1) h4 × IsFirst w base site k1
+site_dealt w base site h h1 h2 h3 h4 k k0 k1 lt rest is1 is2 is is3 tells same is4 tells_back last =
+    let back : k1 ≡ after_telling h3 k = is4 ∙ ap (after_telling h3) same in
+    let told : (i : ℕ) → TellsOf h3 k i = λ i. subst (λ (x : Held). TellsOf h3 x i) same (tells_back i) in (
+      subst (IsRest w base (site + 1)) (sym last) (rest_less w base site h h1 h2 h3 k k1 lt rest is1 is2 is is3 tells back told),
+      site_first w base site h h1 h2 h3 k k1 lt rest is1 is2 is is3 tells back told,
+    )
+
 -- each line to be dealt is owned
 pub owners_dealt : (w : s.Workload) (base : Entry) (site i : ℕ) (h h1 : Held) → site < sites_of w → IsRest w base site h → h1 ≡ with_list h (at_line w site) (list_at h (at_line w site) ++ base ∷ []) → first_line w site ≤ i → i < at_line w site + 1 → IsOwner h1 i
 owners_dealt w base site i h h1 lt rest is l u =
@@ -235,7 +257,7 @@ same_facts w x l m at done shut f = record {
 
 first_cell : SiteStart → (w : s.Workload) (work : Workload) (site : ℕ) (h : Held) → IsAccepted w → plain_workload work ≡ w → site < sites_of w → IsFirst w (initial w) site h
     → IsCell w record { site = record { work = work; state = begun site 0 (initial w); spare = 0 }; held = h }
-unfolding site_words
+unfolding words site_words
 first_cell law w work site h accepted same lt first =
     let at = owned_list h (at_line w site) (initial w ∷ []) first.at in
     record {
@@ -257,17 +279,24 @@ first_cell law w work site h accepted same lt first =
       };
     }
 
-pub first_cell_is : SiteStart → (w : s.Workload) (work : Workload) (site : ℕ) (v : SiteValue) (h : Held) → IsAccepted w → plain_workload work ≡ w → site < sites_of w → v ≡ record { work = work; state = begun site 0 (initial w); spare = 0 } → IsFirst w (initial w) site h
+abbrev begun_as : StartValue → SiteValue
+begun_as start = record { work = start.work; state = begun start.number start.round start.base; spare = 0 }
+
+pub first_cell_is : SiteStart → (w : s.Workload) (work : Workload) (site : ℕ) (base : List ℤ) (start : StartValue) (v : SiteValue) (h : Held) → IsAccepted w → plain_workload work ≡ w → site < sites_of w
+    → v ≡ begun_as start → start ≡ record { work = work; number = site; round = 0; base = base } → base ≡ initial w → IsFirst w (initial w) site h
     → IsCell w record { site = v; held = h }
-first_cell_is law w work site v h accepted same lt is first = subst (λ (x : SiteValue). IsCell w record { site = x; held = h }) (sym is) (first_cell law w work site h accepted same lt first)
+first_cell_is law w work site base start v h accepted same lt is starts on first =
+    let all : v ≡ begun_as record { work = work; number = site; round = 0; base = initial w } = is ∙ ap begun_as starts ∙ ap (λ (b : List ℤ). begun_as record { work = work; number = site; round = 0; base = b }) on in
+    subst (λ (x : SiteValue). IsCell w record { site = x; held = h }) (sym all) (first_cell law w work site h accepted same lt first)
 
 -- ---- the book's type holds
-pub first_book_is : BookStart → (w : s.Workload) (base : List ℤ) (h : Held) → IsAccepted w → base ≡ initial w → IsRest w (initial w) (sites_of w) h
-    → IsBook w record { closed = []; base = base; held = h }
-first_book_is law w base h accepted is rest =
+pub first_book_is : BookStart → (w : s.Workload) (closed : List Round) (base : List ℤ) (h : Held) → IsAccepted w → closed ≡ [] → base ≡ initial w → IsRest w (initial w) (sites_of w) h
+    → IsBook w record { closed = closed; base = base; held = h }
+unfolding words
+first_book_is law w closed base h accepted none is rest =
     let bases = owned_list h (bases_line w) (initial w ∷ []) rest.bases in
     let f = law w accepted in
-    subst (λ (xs : List ℤ). IsBook w record { closed = []; base = xs; held = h }) (sym is) record {
+    subst (λ (x : BookState). IsBook w record { closed = x.closed; base = x.base; held = h }) (λ i. record { closed = sym none i; base = sym is i }) record {
       facts = record {
         holds = f.holds;
         bases = bases ∙ f.bases;

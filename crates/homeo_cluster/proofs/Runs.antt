@@ -4,7 +4,7 @@ use Rattle.std.specs.Prelude.{All, IfOk}
 use Rattle.std.specs.declared.result.Result.{Result}
 use Rattle.std.proofs.lemmas.List.{length-map}
 use Rattle.std.proofs.lemmas.List.Elements.{All-nil, All-cons}
-use Rattle.homeo_syntax.specs.declared.memory.Memory.{Memory}
+use Rattle.homeo_syntax.specs.declared.list.Memory.{Memory}
 use Rattle.homeo_cluster.specs.Passes.{PassValue, AreFinished}
 use Rattle.homeo_cluster.specs.inner.Ran.{HasRun}
 
@@ -32,7 +32,7 @@ finished (p ∷ before) [] long each = absurd (omega (arith, long))
 finished (p ∷ before) (q ∷ after) long each =
     let rest = finished before after (omega (arith, long)) (λ i e l. each (suc i) e (omega (arith, l))) in
     let first : HasRun p q = each 0 p (omega arith) in record {
-      same = ap (λ n. n ∷ map (λ (x : PassValue). x.client) before) first.client ∙ ap (λ ns. q.client ∷ ns) rest.same;
+      same = ap (λ (ns : List ℕ). q.client ∷ ns) rest.same ∙ ap (λ (n : ℕ). n ∷ map (λ (x : PassValue). x.client) before) first.client;
       left = All-cons (λ (x : PassValue). x.left ≡ 0) q after first.left rest.left;
     }
 

@@ -4,4 +4,3 @@ pub mod Key
 pub mod Named
 pub mod Passes
 pub mod Places
-pub mod inner

@@ -19,7 +19,6 @@ use crate::lines::{at_lines_of, count_lines, done_lines_of};
 use crate::naming::ClusterNaming;
 use crate::pass::ClientPass;
 use homeo_build::Compiled;
-use homeo_core::clients::call_count;
 use homeo_core::plan_at;
 use homeo_eval::initial;
 use homeo_meaning::Database;
@@ -113,10 +112,11 @@ impl<N: ClusterNaming> Frame<N> {
         ensures client { result.client ≡ client }
         ensures log { result.log ≡ [] }
     {
+        self.accepted();
         let holder = self.board.deal(rest, client, client + 1);
         ClientPass {
             client,
-            left: call_count(self.compiled.workload(), client),
+            left: self.calls(client),
             log: List::new(alloc),
             holder,
         }
@@ -124,11 +124,12 @@ impl<N: ClusterNaming> Frame<N> {
 
     /// Writes the first base into the list of the bases of all rounds.
     fn write_base(&self, rest: &mut Holder<N>, base: &Database)
+        requires base { base.now.items ≡ initial N.workload }
         requires rest { AreLeft (length N.workload.clients) (line_count N.workload) rest.old }
-        ensures rest { IsRest N.workload base.now.items 0 rest.new }
+        ensures { IsRest N.workload (initial N.workload) 0 rest.new }
     {
-        self.board
-            .extend(rest, self.bases(), &[], base.as_slice());
+        let line = self.bases();
+        self.board.extend(rest, line, &[], base.as_slice());
     }
 
     /// All sites, in order, in a first round on the plan's base.
@@ -138,14 +139,15 @@ impl<N: ClusterNaming> Frame<N> {
         plan: &Arc<RoundPlan>,
         rest: &mut Holder<N>,
     ) -> Result<Vec<Mutex<SiteCell<N>>>, Memory>
-        requires plan { IsPlanOf (plain_workload self.now.compiled.value) plan.now.value.base.items plan.now.value }
+        requires plan { IsPlanOf (plain_workload self.now) plan.now.value.base.items plan.now.value }
         requires policy { plain_config plan.now.value.config ≡
-            policy (plain_workload self.now.compiled.value) plan.now.value.base.items }
+            policy (plain_workload self.now) plan.now.value.base.items }
         requires base { plan.now.value.base.items ≡ initial N.workload }
         requires rest { IsRest N.workload (initial N.workload) 0 rest.old }
         ensures rest { OnOk result (IsRest N.workload (initial N.workload) (sites_of N.workload) rest.new) }
         ensures count { IfOk result (λ sites. vec_len sites ≡ sites_of N.workload) }
     {
+        self.accepted();
         let mut sites = Vec::new(alloc);
         let mut first = 2 * self.clients();
         for site in 0..self.sites() {
@@ -165,9 +167,9 @@ impl<N: ClusterNaming> Frame<N> {
         site: u32,
         first: u32,
     ) -> Result<SiteCell<N>, Memory>
-        requires plan { IsPlanOf (plain_workload self.now.compiled.value) plan.now.value.base.items plan.now.value }
+        requires plan { IsPlanOf (plain_workload self.now) plan.now.value.base.items plan.now.value }
         requires policy { plain_config plan.now.value.config ≡
-            policy (plain_workload self.now.compiled.value) plan.now.value.base.items }
+            policy (plain_workload self.now) plan.now.value.base.items }
         requires base { plan.now.value.base.items ≡ initial N.workload }
         requires site { site < sites_of N.workload }
         requires first { first ≡ first_line N.workload site }
@@ -194,10 +196,12 @@ impl<N: ClusterNaming> Frame<N> {
     ) -> Holder<N>
         requires site { site < sites_of N.workload }
         requires first { first ≡ first_line N.workload site }
-        requires rest { IsRest N.workload base.now.items site rest.old }
-        ensures rest { IsRest N.workload base.now.items (site + 1) rest.new }
-        ensures dealt { IsFirst N.workload base.now.items site result }
+        requires base { base.now.items ≡ initial N.workload }
+        requires rest { IsRest N.workload (initial N.workload) site rest.old }
+        ensures rest { IsRest N.workload (initial N.workload) (site + 1) rest.new }
+        ensures dealt { IsFirst N.workload (initial N.workload) site result }
     {
+        self.accepted();
         let at = self.at(site);
         self.board.extend(rest, at, &[], base.as_slice());
         let mut holder = self.board.deal(rest, first, at + 1);

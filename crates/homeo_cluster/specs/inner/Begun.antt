@@ -38,8 +38,8 @@ pub record IsFirst (w : s.Workload) (base : List ℤ) (site : ℕ) (h : Held) : 
   pub done : (client : ℕ) → IsClientAt w site client → Owns h (done_line w client) []
   pub shut : (client : ℕ) → IsClientAt w site client → Owns h (shut_line w client) []
 
--- the passes of the first clients, in order, with no answers
-pub record AreFirst (clients : ℕ) (passes : List PassValue) : Type 0 where
-  pub count : length passes ≡ clients
+-- the passes of the first n clients, in order, with no answers
+pub record AreFirst (n : ℕ) (passes : List PassValue) : Type 0 where
+  pub count : length passes ≡ n
   pub clients : (i : ℕ) (p : PassValue) → slice_get passes i ≡ Some p → p.client ≡ i
   pub logs : All (λ (p : PassValue). p.log ≡ []) passes
