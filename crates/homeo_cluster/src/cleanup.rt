@@ -39,6 +39,9 @@ use homeo_syntax::{List, Memory};
 use std::alloc::Global;
 use std::sync::{MutexGuard, Wait};
 
+/// More rounds than any list has.
+const MOST_ROUNDS: u64 = 1 << 62;
+
 impl<N: ClusterNaming> Cluster<N> {
     /// Attempts the next call of a pass once more under the locks of the book and of all sites, and closes the round by it where it
     /// breaks its site's treaty.
@@ -107,15 +110,15 @@ impl<N: ClusterNaming> Frame<N> {
         ensures replied { IfOk result (λ a. IsReplied N.workload pass.old pass.new (plain_answer a)) }
         ensures unchanged { OnErr result (pass.new ≡ pass.old) }
     {
-        let call = pass.next();
-        book.closed.reserve(1)?;
-        pass.log.reserve(1)?;
+        self.accepted();
         self.meet_row(cells, book);
         let gather = gather_row(alloc, book, cells)?;
-        let mut prepared = gather.prepare(alloc, &self.compiled, call, broken)?;
+        let mut prepared = gather.prepare(alloc, &self.compiled, pass.next(), broken)?;
         let answer = prepared.answer().copy(alloc)?;
         let logged = answer.copy(alloc)?;
         let next = Vec::from_slice(alloc, prepared.next().as_slice())?;
+        book.closed.reserve(1)?;
+        pass.log.reserve(1)?;
         let bases = self.bases();
         self.board
             .extend(&mut book.holder, bases, &[], next.as_slice());
@@ -140,11 +143,13 @@ impl<N: ClusterNaming> Frame<N> {
     fn meet_row(&self, cells: &mut Vec<MutexGuard<'_, SiteCell<N>>>, book: &mut Book<N>)
         requires count { vec_len cells.old ≡ sites_of N.workload }
         requires numbers { AreNumbered (held_cells cells.old.items) }
-        ensures cells { cells_of N.workload (held_cells cells.new.items) ≡ cells_of N.workload (held_cells cells.old.items) }
-        ensures book { SameBook N.workload book.old book.new }
-        ensures met { InHand N.workload (book_state book.old) (book_lists N.workload book.old.held)
-            (cells_of N.workload (held_cells cells.old.items)) }
+        ensures count { vec_len cells.new ≡ sites_of N.workload }
+        ensures numbers { AreNumbered (held_cells cells.new.items) }
+        ensures states { site_states (held_cells cells.new.items) ≡ site_states (held_cells cells.old.items) }
+        ensures met { InHand N.workload (book_state book.new) (book_lists N.workload book.new.held)
+            (cells_of N.workload (held_cells cells.new.items)) }
     {
+        book.facts();
         self.meet_row_bases(cells, book);
         self.meet_row_clients(cells, book);
     }
@@ -198,9 +203,9 @@ impl<N: ClusterNaming> Frame<N> {
         requires within { IsWithin (schema_of N.workload) prepared.old.next }
         requires path { answer.now.path ≡ Path.Cleanup broken }
         requires there { answer.now.client < length N.workload.clients }
-        requires each { CanRenew N.workload next.now (plain_answer answer.now) book.old (held_cells cells.old.items) }
+        requires each { CanRenew N.workload next.now book.old (held_cells cells.old.items) }
         requires book { KeepsEach N.workload book.old }
-        requires asker { CanAsk N.workload answer.now.client asker.old }
+        requires asker { CanAsk N.workload (plain_answer answer.now) asker.old }
         ensures gone { HaveGoneOn N.workload next.now (plain_answer answer.now) (vec_len cells.old) (held_cells cells.old.items)
             (held_cells cells.new.items) book.old book.new asker.old asker.new }
         ensures prepared { prepared.new ≡ prepared_at prepared.old (site_states (held_cells cells.old.items)) (vec_len cells.old) }
@@ -219,14 +224,20 @@ fn gather_row<N: ClusterNaming>(
 ) -> Result<Gather, Memory>
     requires at { AreAt (length book.now.closed) book.now.base (site_states (held_cells cells.now.items)) }
     requires fits { (n : ℕ) → All (FitsSigned w64) (gathered book.now.base (take n (site_states (held_cells cells.now.items)))) }
-    ensures { IfOk result (λ g. g ≡ record {
+    ensures few { IfOk result (λ g. g.round + 1 < 2 ^ 63) }
+    ensures gathered { IfOk result (λ g. g ≡ record {
       round = length book.now.closed;
       base = book.now.base;
       sum = gathered book.now.base (site_states (held_cells cells.now.items));
       added = vec_len cells.now;
     }) }
 {
-    let mut gather = Gather::begin(alloc, book.closed.as_slice().len() as u64, &book.base)?;
+    let round = book.closed.as_slice().len() as u64;
+    // No list is as long.
+    if round >= MOST_ROUNDS {
+        return Err(Memory);
+    }
+    let mut gather = Gather::begin(alloc, round, &book.base)?;
     for i in 0..cells.len() {
         gather.add(cells[i].site());
     }

@@ -1,12 +1,14 @@
 use Rattle.homeo_history.specs.Key.{words as histories}
-use Rattle.std.proofs.Common.{rules, ◌≡◌, ◌≢◌, ℕ, List, [], ◌∷◌, ◌++◌, ap, sym, subst, ◌∙◌, refl, inl, inr}
+use Rattle.std.proofs.Common.{rules, ◌≡◌, ◌≢◌, ℕ, suc, length, List, [], ◌∷◌, ◌++◌, ap, sym, subst, ◌∙◌, refl, inl, inr}
 use Rattle.std.specs.Prelude.{ℤ}
 use Rattle.homeo_notes.specs.Lines.{Held, IsOwner, HasSeen, list_at}
 use Rattle.homeo_history.specs.Answers.{Answer}
 use Rattle.homeo_history.specs.HistoryView.{plain_answer}
 use Rattle.homeo_history.specs.Legal.{IsClientAt}
 use Rattle.homeo_history.proofs.ClientAnswers.{one_site}
-use Rattle.homeo_assembly.specs.Written.{written}
+use Rattle.std.proofs.lemmas.List.{length-map}
+use Rattle.homeo_assembly.specs.Key.{words}
+use Rattle.homeo_assembly.specs.Written.{written, read}
 use Rattle.homeo_cluster.specs.Cells.{HoldsAt, HoldsFor}
 use Rattle.homeo_cluster.specs.Places.{asked_line, kept_line, done_line, shut_line}
 use Rattle.homeo_cluster.specs.inner.Grows.{Grew}
@@ -99,3 +101,19 @@ unfolding histories
 returns-else-home-number-clause-asked g c =
     let w = g.N.ClusterNaming.workload in
     inr ((λ at. c.if-home-number.false (one_site w c.args.answer.now.client c.home.result c.args.number c.home.ensures.at at)), refl)
+
+pub returns-then-home-number-clause-next : goal.returns-then-home-number-clause-next
+unfolding words histories
+returns-then-home-number-clause-next g c at =
+    let w = g.N.ClusterNaming.workload in
+    let client = c.args.answer.now.client in
+    let e = (goal.at.returns-then-home-number-clause-next g c).After-extend_pair in
+    let equal : list_at c.args.site.now c.done-done.result ≡ list_at c.args.asker.now client = c.extend_pair.ensures.equal in
+    (c.requires.asker (own g e)).next
+    ∙ ap (λ es. suc (length es)) (sym equal ∙ ap (list_at c.args.site.now) c.done-done.ensures)
+    ∙ ap suc (sym (length-map (list_at c.args.site.now (done_line w client)) (read client)))
+
+pub returns-else-home-number-clause-next : goal.returns-else-home-number-clause-next
+unfolding words histories
+returns-else-home-number-clause-next g c at =
+    absurd (c.if-home-number.false (one_site g.N.ClusterNaming.workload c.args.answer.now.client c.home.result c.args.number c.home.ensures.at at))

@@ -1,6 +1,6 @@
 use Rattle.homeo_site.specs.Key.{words as site_words}
 use Rattle.homeo_history.specs.Key.{words as histories}
-use Rattle.std.proofs.Common.{rules, ◌≡◌, ℕ, suc, ◌+◌, ◌<◌, ◌≤◌, List, length, refl, ap, sym, subst, ◌∙◌, arith}
+use Rattle.std.proofs.Common.{rules, ◌≡◌, ℕ, suc, ◌+◌, ◌<◌, ◌≤◌, List, length, map, refl, ap, sym, subst, ◌∙◌, arith}
 use Rattle.std.specs.Prelude.{ℤ}
 use Rattle.homeo_syntax.specs.SourceView.{plain_workload}
 use Rattle.homeo_meaning.specs.Bounds.{IsWithin}
@@ -11,6 +11,8 @@ use Rattle.homeo_history.specs.HistoryView.{plain_answer}
 use Rattle.homeo_history.specs.Legal.{IsClientAt}
 use Rattle.homeo_site.specs.SiteState.{SiteState, renewed}
 use Rattle.homeo_assembly.specs.Events.{IsNext, Renews}
+use Rattle.homeo_assembly.specs.Key.{words}
+use Rattle.homeo_assembly.specs.Written.{read}
 use Rattle.homeo_cluster.specs.Cells.{CellValue, site_lists}
 use Rattle.homeo_cluster.specs.Places.{at_line, bases_line}
 use Rattle.homeo_cluster.specs.inner.Grows.{Grew}
@@ -27,6 +29,8 @@ give-requires-clause-room g c own =
     let x : SiteState = c.cell.inside.site.state in
     let cell : c.args.cell.now ≡ record { site = c.cell.inside.site; held = c.cell.inside.holder } = search rules in
     let number : c.number-number.result ≡ x.number = c.number-number.ensures.number ∙ ap (λ (v : CellValue). v.site.state.number) cell in
+    let is_next : IsNext w x.number a (site_lists w x.number c.cell.inside.holder).done =
+        (λ at. c.give.ensures.next (subst (λ n. IsClientAt w n a.client) (sym number) at) ∙ ap (λ es. suc (length (map (read a.client) es))) (c.move_segment.ensures.moved.done a.client at)) in
     moving_room w x (length x.segment) c.cell.inside.holder c.args.book.now c.move_segment.new.holder c.move_segment.new.book c.args.answer.now.client
       c.cell.invariant.facts (subst (λ (v : CellValue). AreShort w v.site.state.number v.held) cell c.requires.short) c.move_segment.ensures.moved
       (subst (λ n. IsClientAt w n c.args.answer.now.client) number own)
@@ -37,6 +41,8 @@ follow_pair-requires-clause-room g c =
     let x : SiteState = c.cell.inside.site.state in
     let cell : c.args.cell.now ≡ record { site = c.cell.inside.site; held = c.cell.inside.holder } = search rules in
     let number : c.number-number.result ≡ x.number = c.number-number.ensures.number ∙ ap (λ (v : CellValue). v.site.state.number) cell in
+    let is_next : IsNext w x.number a (site_lists w x.number c.cell.inside.holder).done =
+        (λ at. c.give.ensures.next (subst (λ n. IsClientAt w n a.client) (sym number) at) ∙ ap (λ es. suc (length (map (read a.client) es))) (c.move_segment.ensures.moved.done a.client at)) in
     let given : IsGiven w x.number (plain_answer c.args.answer.now) c.move_segment.new.holder c.move_segment.new.book c.give.new.site c.give.new.book =
         subst (λ n. IsGiven w n (plain_answer c.args.answer.now) c.move_segment.new.holder c.move_segment.new.book c.give.new.site c.give.new.book) number c.give.ensures.given in
     let line : c.at-at.result ≡ at_line w x.number = c.at-at.ensures ∙ ap (at_line w) number in
@@ -46,7 +52,7 @@ follow_pair-requires-clause-room g c =
     omega (arith, long, few)
 
 pub invariant_of-cell : goal.invariant_of-cell
-unfolding site_words
+unfolding words site_words histories
 invariant_of-cell g c =
     let w = g.N.ClusterNaming.workload in
     let x : SiteState = c.cell.inside.site.state in
@@ -55,6 +61,8 @@ invariant_of-cell g c =
     let is_next : IsNext w x.number a (site_lists w x.number c.cell.inside.holder).done =
         subst (λ (v : CellValue). IsNext w v.site.state.number a (site_lists w v.site.state.number v.held).done) cell c.requires.is_next in
     let number : c.number-number.result ≡ x.number = c.number-number.ensures.number ∙ ap (λ (v : CellValue). v.site.state.number) cell in
+    let is_next : IsNext w x.number a (site_lists w x.number c.cell.inside.holder).done =
+        (λ at. c.give.ensures.next (subst (λ n. IsClientAt w n a.client) (sym number) at) ∙ ap (λ es. suc (length (map (read a.client) es))) (c.move_segment.ensures.moved.done a.client at)) in
     let given : IsGiven w x.number a c.move_segment.new.holder c.move_segment.new.book c.give.new.site c.give.new.book =
         subst (λ n. IsGiven w n a c.move_segment.new.holder c.move_segment.new.book c.give.new.site c.give.new.book) number c.give.ensures.given in
     let line : c.at-at.result ≡ at_line w x.number = c.at-at.ensures ∙ ap (at_line w) number in
@@ -73,7 +81,7 @@ invariant_of-cell g c =
         c.args.book.now c.move_segment.new.book c.give.new.book c.follow_pair.new.right c.cell.invariant.facts is_next c.move_segment.ensures.moved given grew c.follow_pair.ensures.right seen)
 
 pub returns-clause-renewed : goal.returns-clause-renewed
-unfolding site_words
+unfolding words site_words histories
 returns-clause-renewed g c =
     let w = g.N.ClusterNaming.workload in
     let x : SiteState = c.cell.inside.site.state in
@@ -82,6 +90,8 @@ returns-clause-renewed g c =
     let is_next : IsNext w x.number a (site_lists w x.number c.cell.inside.holder).done =
         subst (λ (v : CellValue). IsNext w v.site.state.number a (site_lists w v.site.state.number v.held).done) cell c.requires.is_next in
     let number : c.number-number.result ≡ x.number = c.number-number.ensures.number ∙ ap (λ (v : CellValue). v.site.state.number) cell in
+    let is_next : IsNext w x.number a (site_lists w x.number c.cell.inside.holder).done =
+        (λ at. c.give.ensures.next (subst (λ n. IsClientAt w n a.client) (sym number) at) ∙ ap (λ es. suc (length (map (read a.client) es))) (c.move_segment.ensures.moved.done a.client at)) in
     let given : IsGiven w x.number a c.move_segment.new.holder c.move_segment.new.book c.give.new.site c.give.new.book =
         subst (λ n. IsGiven w n a c.move_segment.new.holder c.move_segment.new.book c.give.new.site c.give.new.book) number c.give.ensures.given in
     let line : c.at-at.result ≡ at_line w x.number = c.at-at.ensures ∙ ap (at_line w) number in
