@@ -1,7 +1,7 @@
 -- Sites that go on to the next round, one after another, over plain data.
 use Rattle.homeo_assembly.specs.Key.{words}
 use Rattle.homeo_site.specs.Key.{words as site_words}
-use Rattle.std.proofs.Common.{◌≡◌, ◌≢◌, ◌⊎◌, ℕ, suc, ◌+◌, ◌<◌, ◌≤◌, List, [], ◌∷◌, ◌++◌, map, length, slice_set, Some, refl, sym, ap, subst, ◌∙◌, arith, inl, inr, ⊎_elim}
+use Rattle.std.proofs.Common.{◌≡◌, ◌≢◌, ◌⊎◌, ℕ, zero, suc, ◌+◌, ◌<◌, ◌≤◌, List, [], ◌∷◌, ◌++◌, map, length, slice_set, Some, refl, sym, ap, subst, ◌∙◌, arith, inl, inr, ⊎_elim}
 use Rattle.std.specs.Prelude.{ℤ, slice_get}
 use Rattle.homeo_notes.specs.Lines.{Held, HasSeen, list_at, seen_at}
 use Rattle.homeo_notes.proofs.Prefixes.{prefix_trans}
@@ -43,30 +43,29 @@ gone_none w next a before b p book = record {
 
 module _ (w : s.Workload) (next : List ℤ) (a : Answer) (i : ℕ) (before now : List CellValue) (b0 b p0 p : Held)
     (so_far : HaveGoneOn w next a i before now b0 b p0 p) where
+  some_of : (xs : List CellValue) (j : ℕ) → j < length xs → (x : CellValue) × (slice_get xs j ≡ Some x)
+  some_of [] j lt = absurd (omega (arith, lt))
+  some_of (x ∷ xs) zero lt = (x, refl)
+  some_of (x ∷ xs) (suc j) lt = some_of xs j (omega (arith, lt))
+
   -- the site whose turn it is
+  pub before_is : (c : CellValue) → i < length before → slice_get now i ≡ Some c → slice_get before i ≡ Some c
+  before_is c lt here =
+      let x = some_of before i lt in
+      let same : x.0 ≡ c = get_same now i x.0 c (so_far.same i x.0 (omega arith) x.1) here in
+      subst (λ v. slice_get before i ≡ Some v) same x.1
+
   pub ready_now : (c : CellValue) → CanRenew w next b0 before → slice_get now i ≡ Some c → i < length before → IsReady w next b i c
   ready_now c ready here lt =
-      let was = before_is c lt here in
-      let r = ready i c was in record {
+      let r = ready i c (before_is c lt here) in record {
         pairs = λ client at. r.pairs client at ∙ sym (ap (map (read client)) (so_far.kept i client (omega arith) at));
         short = r.short;
         ahead = so_far.bases ∙ r.ahead;
         few = r.few;
       }
-    where
-      some_of : (xs : List CellValue) (j : ℕ) → j < length xs → (x : CellValue) × (slice_get xs j ≡ Some x)
-      some_of [] j lt = absurd (omega (arith, lt))
-      some_of (x ∷ xs) zero lt = (x, refl)
-      some_of (x ∷ xs) (suc j) lt = some_of xs j (omega (arith, lt))
 
-      before_is : (c : CellValue) → i < length before → slice_get now i ≡ Some c → slice_get before i ≡ Some c
-      before_is c lt here =
-          let x = some_of before i lt in
-          let same : x.0 ≡ c = get_same now i x.0 c (so_far.same i x.0 (omega arith) x.1) here in
-          subst (λ v. slice_get before i ≡ Some v) same x.1
-
-  pub asker_now : (site : ℕ) → IsClientAt w i a.client → CanAsk w a p0 → CanAsk w a p
-  asker_now site at can = subst (CanAsk w a) (sym (so_far.unasked i at (omega arith))) can
+  pub asker_now : IsClientAt w i a.client → CanAsk w a p0 → CanAsk w a p
+  asker_now at can = subst (CanAsk w a) (sym (so_far.unasked i at (omega arith))) can
 
   -- it goes on
   pub gone_more : (c c' : CellValue) (b' p' : Held) → slice_get now i ≡ Some c → i < length before → c.site.state.number ≡ i → IsRenewed w next a c c' b b'

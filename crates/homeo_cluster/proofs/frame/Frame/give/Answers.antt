@@ -1,5 +1,5 @@
 use Rattle.homeo_history.specs.Key.{words as histories}
-use Rattle.std.proofs.Common.{rules, ◌≡◌, ◌≢◌, ℕ, suc, length, List, [], ◌∷◌, ◌++◌, ap, sym, subst, ◌∙◌, refl, inl, inr}
+use Rattle.std.proofs.Common.{rules, ◌≡◌, ◌≢◌, ℕ, suc, length, List, [], ◌∷◌, ◌++◌, ap, sym, subst, ◌∙◌, refl, inl, inr, ◌<◌, ◌≤◌, arith}
 use Rattle.std.specs.Prelude.{ℤ}
 use Rattle.homeo_notes.specs.Lines.{Held, IsOwner, HasSeen, list_at}
 use Rattle.homeo_history.specs.Answers.{Answer}
@@ -12,6 +12,7 @@ use Rattle.homeo_assembly.specs.Written.{written, read}
 use Rattle.homeo_cluster.specs.Cells.{HoldsAt, HoldsFor}
 use Rattle.homeo_cluster.specs.Places.{asked_line, kept_line, done_line, shut_line}
 use Rattle.homeo_cluster.specs.inner.Grows.{Grew}
+use Rattle.homeo_cluster.specs.inner.Renewed.{CanAsk}
 use Rattle.homeo_cluster.proofs.Entries.{written_closing}
 use Rattle.homeo_cluster.proofs.Giving.{given_here, given_elsewhere}
 use Rattle.homeo_cluster.proofs.Locals.{holds_more}
@@ -117,3 +118,29 @@ pub returns-else-home-number-clause-next : goal.returns-else-home-number-clause-
 unfolding words histories
 returns-else-home-number-clause-next g c at =
     absurd (c.if-home-number.false (one_site g.N.ClusterNaming.workload c.args.answer.now.client c.home.result c.args.number c.home.ensures.at at))
+
+pub extend_pair-requires-clause-owners : goal.extend_pair-requires-clause-owners
+unfolding histories
+extend_pair-requires-clause-owners g c =
+    let w = g.N.ClusterNaming.workload in
+    let here : IsClientAt w c.args.number c.args.answer.now.client = subst (λ n. IsClientAt w n c.args.answer.now.client) c.if-home-number.true c.home.ensures.at in
+    let can : CanAsk w (plain_answer c.args.answer.now) c.args.asker.now = c.requires.asker here in
+    (subst (IsOwner c.args.site.now) (sym c.done-done.ensures) (c.requires.holds.each c.args.answer.now.client here).owns_done, can.owns)
+
+pub extend_pair-requires-clause-right : goal.extend_pair-requires-clause-right
+unfolding histories
+extend_pair-requires-clause-right g c =
+    let w = g.N.ClusterNaming.workload in
+    let here : IsClientAt w c.args.number c.args.answer.now.client = subst (λ n. IsClientAt w n c.args.answer.now.client) c.if-home-number.true c.home.ensures.at in
+    let can : CanAsk w (plain_answer c.args.answer.now) c.args.asker.now = c.requires.asker here in
+    subst (λ l. HasSeen c.args.asker.now l (list_at c.args.asker.now (asked_line c.args.answer.now.client))) (sym c.done-done.ensures) can.seen
+
+pub extend_pair-requires-clause-room : goal.extend_pair-requires-clause-room
+unfolding histories
+extend_pair-requires-clause-room g c =
+    let w = g.N.ClusterNaming.workload in
+    let here : IsClientAt w c.args.number c.args.answer.now.client = subst (λ n. IsClientAt w n c.args.answer.now.client) c.if-home-number.true c.home.ensures.at in
+    let can : CanAsk w (plain_answer c.args.answer.now) c.args.asker.now = c.requires.asker here in
+    let next : c.args.answer.now.seq ≡ suc (length (list_at c.args.asker.now c.args.answer.now.client)) = can.next in
+    let few : c.args.answer.now.seq ≤ 9223372036854775808 = can.few in
+    omega (arith, next, few)

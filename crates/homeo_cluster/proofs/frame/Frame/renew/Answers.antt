@@ -29,8 +29,6 @@ give-requires-clause-room g c own =
     let x : SiteState = c.cell.inside.site.state in
     let cell : c.args.cell.now ≡ record { site = c.cell.inside.site; held = c.cell.inside.holder } = search rules in
     let number : c.number-number.result ≡ x.number = c.number-number.ensures.number ∙ ap (λ (v : CellValue). v.site.state.number) cell in
-    let is_next : IsNext w x.number a (site_lists w x.number c.cell.inside.holder).done =
-        (λ at. c.give.ensures.next (subst (λ n. IsClientAt w n a.client) (sym number) at) ∙ ap (λ es. suc (length (map (read a.client) es))) (c.move_segment.ensures.moved.done a.client at)) in
     moving_room w x (length x.segment) c.cell.inside.holder c.args.book.now c.move_segment.new.holder c.move_segment.new.book c.args.answer.now.client
       c.cell.invariant.facts (subst (λ (v : CellValue). AreShort w v.site.state.number v.held) cell c.requires.short) c.move_segment.ensures.moved
       (subst (λ n. IsClientAt w n c.args.answer.now.client) number own)
@@ -41,8 +39,6 @@ follow_pair-requires-clause-room g c =
     let x : SiteState = c.cell.inside.site.state in
     let cell : c.args.cell.now ≡ record { site = c.cell.inside.site; held = c.cell.inside.holder } = search rules in
     let number : c.number-number.result ≡ x.number = c.number-number.ensures.number ∙ ap (λ (v : CellValue). v.site.state.number) cell in
-    let is_next : IsNext w x.number a (site_lists w x.number c.cell.inside.holder).done =
-        (λ at. c.give.ensures.next (subst (λ n. IsClientAt w n a.client) (sym number) at) ∙ ap (λ es. suc (length (map (read a.client) es))) (c.move_segment.ensures.moved.done a.client at)) in
     let given : IsGiven w x.number (plain_answer c.args.answer.now) c.move_segment.new.holder c.move_segment.new.book c.give.new.site c.give.new.book =
         subst (λ n. IsGiven w n (plain_answer c.args.answer.now) c.move_segment.new.holder c.move_segment.new.book c.give.new.site c.give.new.book) number c.give.ensures.given in
     let line : c.at-at.result ≡ at_line w x.number = c.at-at.ensures ∙ ap (at_line w) number in
@@ -58,8 +54,6 @@ invariant_of-cell g c =
     let x : SiteState = c.cell.inside.site.state in
     let a : Answer = plain_answer c.args.answer.now in
     let cell : c.args.cell.now ≡ record { site = c.cell.inside.site; held = c.cell.inside.holder } = search rules in
-    let is_next : IsNext w x.number a (site_lists w x.number c.cell.inside.holder).done =
-        subst (λ (v : CellValue). IsNext w v.site.state.number a (site_lists w v.site.state.number v.held).done) cell c.requires.is_next in
     let number : c.number-number.result ≡ x.number = c.number-number.ensures.number ∙ ap (λ (v : CellValue). v.site.state.number) cell in
     let is_next : IsNext w x.number a (site_lists w x.number c.cell.inside.holder).done =
         (λ at. c.give.ensures.next (subst (λ n. IsClientAt w n a.client) (sym number) at) ∙ ap (λ es. suc (length (map (read a.client) es))) (c.move_segment.ensures.moved.done a.client at)) in
@@ -87,8 +81,6 @@ returns-clause-renewed g c =
     let x : SiteState = c.cell.inside.site.state in
     let a : Answer = plain_answer c.args.answer.now in
     let cell : c.args.cell.now ≡ record { site = c.cell.inside.site; held = c.cell.inside.holder } = search rules in
-    let is_next : IsNext w x.number a (site_lists w x.number c.cell.inside.holder).done =
-        subst (λ (v : CellValue). IsNext w v.site.state.number a (site_lists w v.site.state.number v.held).done) cell c.requires.is_next in
     let number : c.number-number.result ≡ x.number = c.number-number.ensures.number ∙ ap (λ (v : CellValue). v.site.state.number) cell in
     let is_next : IsNext w x.number a (site_lists w x.number c.cell.inside.holder).done =
         (λ at. c.give.ensures.next (subst (λ n. IsClientAt w n a.client) (sym number) at) ∙ ap (λ es. suc (length (map (read a.client) es))) (c.move_segment.ensures.moved.done a.client at)) in
