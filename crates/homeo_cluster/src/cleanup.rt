@@ -1,27 +1,29 @@
 //! A call that breaks its site's treaty, under the locks of the book and of all sites.
 
-ghost use Rattle.std.specs.Prelude.{◌≡◌, ℕ, ◌<◌, ◌≤◌, ◌+◌, ◌^◌, ◌∷◌, ◌++◌, [], true, length, take, replicate, vec_len, All, IfOk, OnErr, FitsSigned};
+ghost use Rattle.std.specs.Prelude.{◌≡◌, ℕ, ◌<◌, ◌≤◌, ◌+◌, ◌^◌, ◌∷◌, ◌++◌, [], true, length, map, take, replicate, vec_len, All, IfOk, OnErr, FitsSigned};
 ghost use Rattle.std.specs.Int.{w64};
 ghost use Rattle.homeo_syntax.specs.SourceView.{plain_workload};
 ghost use Rattle.homeo_meaning.specs.Bounds.{IsWithin};
 ghost use Rattle.homeo_meaning.specs.Initial.{initial};
 ghost use Rattle.homeo_meaning.specs.Schema.{schema_of};
 ghost use Rattle.homeo_plan.specs.Planned.{sites_of};
-ghost use Rattle.homeo_history.specs.HistoryView.{plain_answer};
+ghost use Rattle.homeo_history.specs.HistoryView.{plain_answer, plain_round};
+ghost use Rattle.homeo_history.specs.Answers.{called, closing_answer};
 ghost use Rattle.homeo_history.specs.Legal.{IsClientAt};
 ghost use Rattle.homeo_core.specs.Events.{BreaksCall};
+ghost use Rattle.homeo_core.specs.inner.Books.{book_of};
 ghost use Rattle.homeo_core.specs.Joined.{AreJoined, gathered};
 ghost use Rattle.homeo_core.specs.inner.SiteLists.{AreAt};
 ghost use Rattle.homeo_assembly.specs.Events.{InHand, IsNext};
 ghost use Rattle.homeo_assembly.specs.Facts.{states_of};
-ghost use Rattle.homeo_cluster.specs.Cells.{cells_of, book_state, book_lists, site_lists};
+ghost use Rattle.homeo_cluster.specs.Cells.{cells_of, book_state, book_lists, HoldsBook, IsBook};
 ghost use Rattle.homeo_cluster.specs.Passes.{IsReplied, next_call};
 ghost use Rattle.homeo_cluster.specs.Places.{at_line, bases_line};
 ghost use Rattle.homeo_notes.specs.Lines.{list_at};
 ghost use Rattle.homeo_cluster.specs.inner.Meets.{SameBook, AreNumbered, CellsNumbered, MetAt, MetShut, site_states};
 ghost use Rattle.homeo_cluster.specs.inner.Moves.{KeepsEach, ArePairs, AreShort};
-ghost use Rattle.homeo_cluster.specs.inner.Renewed.{CanAsk};
-ghost use Rattle.homeo_cluster.specs.inner.Rows.{held_cells, CanRenew, HaveGoneOn, prepared_at};
+ghost use Rattle.homeo_cluster.specs.inner.Renewed.{CanAsk, WasAsked};
+ghost use Rattle.homeo_cluster.specs.inner.Rows.{held_cells, CanRenew, HaveGoneOn, IsPrepared, prepared_at};
 
 use crate::book::Book;
 use crate::cell::SiteCell;
@@ -32,7 +34,7 @@ use crate::naming::ClusterNaming;
 use crate::pass::ClientPass;
 use homeo_core::{Gather, Prepared};
 use homeo_history::{Answer, Path, Round};
-use homeo_meaning::Database;
+use homeo_meaning::{CallId, Database};
 use homeo_notes::Holder;
 use homeo_plan::Broken;
 use homeo_syntax::{List, Memory};
@@ -112,31 +114,92 @@ impl<N: ClusterNaming> Frame<N> {
     {
         self.accepted();
         self.meet_row(cells, book);
-        let gather = gather_row(alloc, book, cells)?;
-        let mut prepared = gather.prepare(alloc, &self.compiled, pass.next(), broken)?;
+        let prepared = self.prepare_row(alloc, book, cells, home, pass.next(), broken)?;
         let answer = prepared.answer().copy(alloc)?;
         let logged = answer.copy(alloc)?;
         let next = Vec::from_slice(alloc, prepared.next().as_slice())?;
         book.closed.reserve(1)?;
         pass.log.reserve(1)?;
-        let bases = self.bases();
-        self.board
-            .extend(&mut book.holder, bases, &[], next.as_slice());
-        self.renew_row(
-            cells,
+        self.end_round(
+            &mut book.closed,
+            &mut book.base,
             &mut book.holder,
+            cells,
             &mut pass.holder,
-            &mut prepared,
+            prepared,
             next.as_slice(),
             &answer,
             broken,
         );
-        let (round, base, _answer) = prepared.closed();
-        push_round(&mut book.closed, round);
-        book.base = base;
         push_reserved(&mut pass.log, logged);
         pass.left -= 1;
         Ok(answer)
+    }
+
+    /// Makes all ready for the end of the round: the closing call is run on the gathered database, and each site's start in the
+    /// next round is made.
+    fn prepare_row(
+        &self,
+        alloc: Global,
+        book: &Book<N>,
+        cells: &Vec<MutexGuard<'_, SiteCell<N>>>,
+        home: u32,
+        call: CallId,
+        broken: Broken,
+    ) -> Result<Prepared, Memory>
+        requires count { vec_len cells.now ≡ sites_of N.workload }
+        requires hand { InHand N.workload (book_state book.now) (book_lists N.workload book.now.held)
+            (cells_of N.workload (held_cells cells.now.items)) }
+        requires breaks { BreaksCall N.workload (site_states (held_cells cells.now.items)) home call broken }
+        ensures { IfOk result (IsPrepared N.workload (book_state book.now) (site_states (held_cells cells.now.items)) home call broken) }
+    {
+        self.accepted();
+        let gather = gather_row(alloc, book, cells)?;
+        gather.prepare(alloc, &self.compiled, call, broken)
+    }
+
+    /// Ends the round, for which all is ready: each site goes on to the next one, and the closed round comes to the others. It takes
+    /// no memory.
+    fn end_round(
+        &self,
+        closed: &mut List<Round>,
+        base: &mut Database,
+        book: &mut Holder<N>,
+        cells: &mut Vec<MutexGuard<'_, SiteCell<N>>>,
+        asker: &mut Holder<N>,
+        prepared: Prepared,
+        next: &[i64],
+        answer: &Answer,
+        broken: Broken,
+    )
+        requires room { 0 < closed.old.spare }
+        requires count { vec_len cells.old ≡ sites_of N.workload }
+        requires numbers { AreNumbered (held_cells cells.old.items) }
+        requires hand { InHand N.workload (book_of closed.old.items base.old.items) (book_lists N.workload book.old)
+            (cells_of N.workload (held_cells cells.old.items)) }
+        requires holds { HoldsBook N.workload book.old }
+        requires breaks { BreaksCall N.workload (site_states (held_cells cells.old.items)) answer.now.site
+            (called (plain_answer answer.now)) broken }
+        requires prepared { IsPrepared N.workload (book_of closed.old.items base.old.items) (site_states (held_cells cells.old.items))
+            answer.now.site (called (plain_answer answer.now)) broken prepared }
+        requires answer { plain_answer answer.now ≡ closing_answer prepared.round prepared.closing }
+        requires next { next.now ≡ prepared.next }
+        requires asker { CanAsk N.workload (plain_answer answer.now) asker.old }
+        ensures book { IsBook N.workload (record {
+          closed = map plain_round closed.new.items;
+          base = base.new.items;
+          held = book.new;
+        }) }
+        ensures asked { WasAsked N.workload (plain_answer answer.now) asker.old asker.new }
+    {
+        self.accepted();
+        let mut prepared = prepared;
+        let bases = self.bases();
+        self.board.extend(book, bases, &[], next);
+        self.renew_row(cells, book, asker, &mut prepared, next, answer, broken);
+        let (round, last, _answer) = prepared.closed();
+        push_round(closed, round);
+        *base = last;
     }
 
     /// The lists of all sites and of the book are found equal.

@@ -3,12 +3,16 @@ use Rattle.std.specs.Prelude.{◌≡◌, ℕ, ◌+◌, ◌<◌, ◌≤◌, ◌^�
 use Rattle.std.specs.Sync.Mutex.{mutex_guard_value}
 use Rattle.std.specs.declared.sync.MutexGuard.{MutexGuard}
 use Rattle.homeo_syntax.specs.Source as s
+use Rattle.homeo_syntax.specs.SourceView.{plain_workload}
+use Rattle.homeo_meaning.specs.declared.call.CallId.{CallId}
 use Rattle.homeo_notes.specs.Lines.{Held, HasSeen, list_at}
+use Rattle.homeo_plan.specs.declared.treaty.Broken.{Broken}
 use Rattle.homeo_history.specs.Answers.{Answer}
 use Rattle.homeo_history.specs.Legal.{IsClientAt}
 use Rattle.homeo_site.specs.SiteState.{SiteState, renewed}
 use Rattle.homeo_core.specs.GatherView.{PreparedValue}
-use Rattle.homeo_core.specs.Joined.{segments_of}
+use Rattle.homeo_core.specs.Events.{closing_of, next_base}
+use Rattle.homeo_core.specs.Joined.{BookState, segments_of}
 use Rattle.homeo_core.specs.inner.SiteLists.{first_from}
 use Rattle.homeo_assembly.specs.Events.{Renews}
 use Rattle.homeo_cluster.specs.Cells.{CellValue, site_lists}
@@ -65,3 +69,16 @@ prepared_at p sites n = record {
   segments = first_from p.segments (segments_of sites) n;
   waiting = first_from p.waiting (replicate (length sites) false) n;
 }
+
+-- ---- the end of a round
+-- all that it takes is ready: for closed rounds, the sites of the open one, the site of the closing call, the call and what it breaks
+pub record IsPrepared (w : s.Workload) (b : BookState) (sites : List SiteState) (home : ℕ) (call : CallId) (broken : Broken)
+    (p : PreparedValue) : Type 0 where
+  pub work : plain_workload p.work ≡ w
+  pub round : p.round ≡ length b.closed
+  pub base : p.base ≡ b.base
+  pub closing : p.closing ≡ closing_of w b sites home call broken
+  pub next : p.next ≡ next_base w b sites call
+  pub segments : length p.segments ≡ length sites
+  pub waiting : p.waiting ≡ replicate (length sites) true
+  pub few : p.round + 1 < 2 ^ 63

@@ -1,7 +1,9 @@
 use Rattle.homeo_core.specs.Key.{words as cores}
-use Rattle.std.proofs.Common.{rules, ◌≡◌, ℕ, suc, ◌+◌, ◌<◌, Some, slice_get, length, take, refl, sym, ap, subst, ◌∙◌, arith, FitsSigned}
+use Rattle.std.proofs.Common.{rules, ◌≡◌, ℕ, suc, ◌+◌, ◌<◌, Some, slice_get, length, map, take, refl, sym, ap, subst, ◌∙◌, arith, FitsSigned}
 use Rattle.std.specs.Int.{w64}
 use Rattle.std.specs.Prelude.{All}
+use Rattle.std.proofs.lemmas.List.{length-map}
+use Rattle.homeo_history.specs.HistoryView.{plain_round}
 use Rattle.homeo_site.specs.SiteView.{SiteValue}
 use Rattle.homeo_core.specs.GatherView.{GatherValue}
 use Rattle.homeo_core.specs.Joined.{plus_deltas, gathered}
@@ -26,7 +28,11 @@ here g c =
 
 pub loop-i-init : goal.loop-i-init
 unfolding cores
-loop-i-init g c = c.in_ok-gather.ensures ∙ search rules
+loop-i-init g c =
+    let same : map plain_round c.book.inside.closed.items ≡ c.args.book.now.closed = search rules in
+    let closed : length c.as_slice.result.now ≡ length c.args.book.now.closed = ap length c.as_slice.ensures ∙ sym (length-map c.book.inside.closed.items plain_round) ∙ ap length same in
+    let base : c.book.inside.base.items ≡ c.args.book.now.base = search rules in
+    c.in_ok-gather.ensures ∙ (λ j. record { round = closed j; base = base j; sum = base j; added = 0 })
 
 pub add-requires-clause-number : goal.add-requires-clause-number
 unfolding cores

@@ -1,3 +1,4 @@
+use Rattle.homeo_history.specs.Key.{words as histories}
 use Rattle.homeo_core.specs.Key.{words as cores}
 use Rattle.std.proofs.Common.{rules, ◌≡◌, ℕ, suc, ◌+◌, ◌<◌, true, false, List, [], ◌∷◌, ◌++◌, Some, slice_get, slice_set, length, length-set, map, replicate, vec_len, refl, sym, ap, subst, ◌∙◌, arith}
 use Rattle.std.specs.Prelude.{ℤ}
@@ -108,6 +109,7 @@ renew-requires-clause-ahead g c =
     subst (λ n. list_at c.loop-i.book (bases_line g.N.ClusterNaming.workload) ≡ list_at c.deref_mut.result.now.held (at_line g.N.ClusterNaming.workload n) ++ c.args.next.now ∷ []) (sym (number g e)) (ready g e).ahead
 
 pub renew-requires-clause-asker : goal.renew-requires-clause-asker
+unfolding histories
 renew-requires-clause-asker g c own =
     let e = (goal.at.renew-requires-clause-asker g c).After-deref_mut in
     on.asker_now g.N.ClusterNaming.workload c.args.next.now (plain_answer c.args.answer.now) c.loop-i.i (before g e) (now g e) c.args.book.now c.loop-i.book c.args.asker.now c.loop-i.asker
