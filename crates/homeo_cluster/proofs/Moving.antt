@@ -39,7 +39,7 @@ kept_apart : (w : s.Workload) (c d : ℕ) → kept_line w c ≡ kept_line w d �
 unfolding places
 kept_apart w c d e = omega (arith, e)
 
-bases_apart : (w : s.Workload) (c : ℕ) → c < length w.clients → bases_line w ≡ kept_line w c → ⊥
+pub bases_apart : (w : s.Workload) (c : ℕ) → c < length w.clients → bases_line w ≡ kept_line w c → ⊥
 unfolding places
 bases_apart w c lt e = omega (arith, lt, e)
 

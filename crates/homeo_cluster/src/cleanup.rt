@@ -60,6 +60,7 @@ impl<N: ClusterNaming> Cluster<N> {
         ensures replied { IfOk result (λ a. IsReplied N.workload pass.old pass.new (plain_answer a)) }
         ensures unchanged { OnErr result (pass.new ≡ pass.old) }
     {
+        pass.facts();
         let mut book = self.book.lock(rt);
         let mut cells = self.lock_all(rt, alloc)?;
         match self.frame.attempt(alloc, &mut *cells[home as usize], pass)? {
@@ -113,6 +114,7 @@ impl<N: ClusterNaming> Frame<N> {
         ensures unchanged { OnErr result (pass.new ≡ pass.old) }
     {
         self.accepted();
+        book.facts();
         self.meet_row(cells, book);
         let prepared = self.prepare_row(alloc, book, cells, home, pass.next(), broken)?;
         let answer = prepared.answer().copy(alloc)?;
@@ -155,7 +157,8 @@ impl<N: ClusterNaming> Frame<N> {
     {
         self.accepted();
         let gather = gather_row(alloc, book, cells)?;
-        gather.prepare(alloc, &self.compiled, call, broken)
+        let prepared = gather.prepare(alloc, &self.compiled, call, broken)?;
+        Ok(prepared)
     }
 
     /// Ends the round, for which all is ready: each site goes on to the next one, and the closed round comes to the others. It takes

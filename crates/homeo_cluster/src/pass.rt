@@ -3,7 +3,7 @@
 ghost use Rattle.std.specs.Prelude.{◌≡◌, ◌<◌, ◌≤◌, ◌+◌, ◌^◌, length, map};
 ghost use Rattle.homeo_history.specs.HistoryView.{plain_answer};
 ghost use Rattle.homeo_history.specs.Legal.{call_count};
-ghost use Rattle.homeo_cluster.specs.Passes.{next_call};
+ghost use Rattle.homeo_cluster.specs.Passes.{IsPass, next_call};
 
 use crate::naming::ClusterNaming;
 use homeo_history::Answer;
@@ -61,6 +61,13 @@ impl<N: ClusterNaming> ClientPass<N> {
         ensures { map plain_answer result.now.items ≡ self.now.log }
     {
         &self.log
+    }
+
+    /// It has its facts.
+    pub(crate) fn facts(&self)
+        ensures { IsPass N.workload self.now }
+    {
+        let _log = self.log.as_slice();
     }
 
     /// The client's next call.
