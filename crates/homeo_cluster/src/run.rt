@@ -47,9 +47,11 @@ fn run_all<N: ClusterNaming + Send + Sync, R: Threads + Wait + Sync, G: Gate>(
     ensures each { IfOk result (λ results. (i : ℕ) (d : _) (e : _) → i < vec_len passes →
         IfOk (slice_index_or results.items i d) (HasRun (slice_index_or passes.items i e))) }
 {
-    thread::map_vec(rt, passes, &|pass| {
-        run_one(rt, alloc, cluster, pass, gate)
-    })
+    thread::map_vec(
+        rt,
+        passes,
+        &|pass| { run_one(rt, alloc, cluster, pass, gate) },
+    )
 }
 
 /// Runs a pass to its end.
