@@ -1,7 +1,7 @@
 //! Each pass in work of its own.
 
-ghost use Rattle.std.specs.Prelude.{◌≡◌, ℕ, ◌<◌, map, vec_len, slice_index_or, Ok, IfOk};
-ghost use Rattle.homeo_cluster.specs.Passes.{AreFinished};
+ghost use Rattle.std.specs.Prelude.{◌≡◌, ℕ, ◌<◌, All, map, vec_len, slice_index_or, Ok, IfOk};
+ghost use Rattle.homeo_cluster.specs.Passes.{AreFinished, HasAllAnswers};
 ghost use Rattle.homeo_cluster.specs.inner.Ran.{HasRun};
 
 use crate::cluster::Cluster;
@@ -14,8 +14,8 @@ use std::sync::Wait;
 use std::thread;
 use std::thread::Threads;
 
-/// Runs each pass to its end, each in work of its own. Gives the same passes in the same order, with no call left in any. It
-/// may wait for locks and workers.
+/// Runs each pass to its end, each in work of its own. Gives the same passes in the same order, with no call left in any, and an
+/// answer to each call of its client in its log. It may wait for locks and workers.
 ///
 /// # Errors
 ///
@@ -28,6 +28,7 @@ pub fn run_clients<N: ClusterNaming + Send + Sync, R: Threads + Wait + Sync, G: 
     gate: &G,
 ) -> Result<Vec<ClientPass<N>>, Memory>
     ensures finished { IfOk result (λ after. AreFinished passes.items after.items) }
+    ensures answers { IfOk result (λ after. All (HasAllAnswers N.workload) after.items) }
 {
     let Ok(results) = run_all(rt, alloc, cluster, passes, gate) else {
         return Err(Memory);
@@ -45,7 +46,7 @@ fn run_all<N: ClusterNaming + Send + Sync, R: Threads + Wait + Sync, G: Gate>(
 ) -> Result<Vec<Result<ClientPass<N>, Memory>>, AllocError>
     ensures count { IfOk result (λ results. vec_len results ≡ vec_len passes) }
     ensures each { IfOk result (λ results. (i : ℕ) (d : _) (e : _) → i < vec_len passes →
-        IfOk (slice_index_or results.items i d) (HasRun (slice_index_or passes.items i e))) }
+        IfOk (slice_index_or results.items i d) (HasRun N.workload (slice_index_or passes.items i e))) }
 {
     thread::map_vec(
         rt,
@@ -62,7 +63,7 @@ fn run_one<N: ClusterNaming, R: Wait, G: Gate>(
     mut pass: ClientPass<N>,
     gate: &G,
 ) -> Result<ClientPass<N>, Memory>
-    ensures { IfOk result (HasRun pass) }
+    ensures { IfOk result (HasRun N.workload pass) }
 {
     while pass.left() > 0 {
         cluster.call(rt, alloc, &mut pass, gate)?;
