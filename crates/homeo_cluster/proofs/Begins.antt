@@ -134,88 +134,88 @@ module _ (w : s.Workload) (base : Entry) (site : ℕ) (h h1 h2 h3 k k1 : Held)
     (is4 : k1 ≡ after_telling h3 k)
     (tells_back : (i : ℕ) → TellsOf h3 k i)
   where
-  at_left : Owns h (at_line w site) []
-  at_left = rest.left (at_line w site) (at_after_first w site) (at_before_bases w site lt)
+    at_left : Owns h (at_line w site) []
+    at_left = rest.left (at_line w site) (at_after_first w site) (at_before_bases w site lt)
 
-  at_written : Owns h1 (at_line w site) (base ∷ [])
-  at_written = written_same h h1 (at_line w site) base is1 at_left
+    at_written : Owns h1 (at_line w site) (base ∷ [])
+    at_written = written_same h h1 (at_line w site) base is1 at_left
 
-  stays : (i : ℕ) (xs : Entries) → i ≢ at_line w site → Owns h i xs → Owns h1 i xs
-  stays i xs ne own = written_other h h1 (at_line w site) i _ xs is1 ne own
+    stays : (i : ℕ) (xs : Entries) → i ≢ at_line w site → Owns h i xs → Owns h1 i xs
+    stays i xs ne own = written_other h h1 (at_line w site) i _ xs is1 ne own
 
-  -- what is not dealt is left
-  below_left : (i : ℕ) (xs : Entries) → i < first_line w site → Owns h i xs → Owns h3 i xs
-  below_left i xs l own =
-      let after = at_after_first w site in
-      ap (λ (x : Held). owned_at x i) is3 ∙ ap (λ (x : Held). owned_at x i) is2
-      ∙ owned_below (first_line w site) (at_line w site + 1) i h1 l ∙ stays i xs (λ e. absurd (omega (arith, after, l, e))) own
-
-  above_left : (i : ℕ) (xs : Entries) → at_line w site < i → Owns h i xs → Owns h3 i xs
-  above_left i xs l own =
-      ap (λ (x : Held). owned_at x i) is3 ∙ ap (λ (x : Held). owned_at x i) is2
-      ∙ owned_above (first_line w site) (at_line w site + 1) i h1 (omega (arith, l)) ∙ stays i xs (λ e. absurd (omega (arith, l, e))) own
-
-  -- what is dealt is the new holder's
-  dealt : (i : ℕ) (xs : Entries) → first_line w site ≤ i → i ≤ at_line w site → Owns h1 i xs → Owns k i xs
-  dealt i xs l u own = ap (λ (x : Held). owned_at x i) is ∙ owned_only (first_line w site) (at_line w site + 1) i h1 l (omega (arith, u)) ∙ own
-
-  still : (i : ℕ) (xs : Entries) → Owns k i xs → Owns k1 i xs
-  still i xs own = ap (λ (x : Held). owned_at x i) is4 ∙ own
-
-  at_dealt : Owns k (at_line w site) (base ∷ [])
-  at_dealt = dealt (at_line w site) (base ∷ []) (at_after_first w site) (omega arith) at_written
-
-  bases_left : Owns h3 (bases_line w) (base ∷ [])
-  bases_left = above_left (bases_line w) (base ∷ []) (at_before_bases w site lt) rest.bases
-
-  -- what was seen is still seen
-  seen_before : (i : ℕ) (xs : Entries) → HasSeen h i xs → HasSeen h3 i xs
-  seen_before i xs saw =
-      let saw1 : HasSeen h1 i xs = subst (λ (x : Held). HasSeen x i xs) (sym is1) saw in
-      let saw2 : HasSeen h2 i xs = subst (λ (x : Held). HasSeen x i xs) (sym is2) saw1 in
-      subst (λ (x : Held). HasSeen x i xs) (sym is3) (prefix_trans xs (seen_at h2 i) (seen_at (after_telling k h2) i) saw2 (tells i).0)
-
-  seen_new : HasSeen h3 (at_line w site) (base ∷ [])
-  seen_new = subst (λ (x : Held). HasSeen x (at_line w site) (base ∷ [])) (sym is3)
-      (subst (HasSeen (after_telling k h2) (at_line w site)) (ap or_empty at_dealt) (tells (at_line w site)).2)
-
-  seen_last : (j : ℕ) → j < site + 1 → j ≢ site → j < site
-  seen_last j l ne = omega (arith, l, ne)
-
-  pub rest_less : IsRest w base (site + 1) h3
-  rest_less = record {
-    kept = λ client l. below_left (kept_line w client) [] (kept_before_first w site client l) (rest.kept client l);
-    left = λ line l u.
-        let next = first_next w site in
+    -- what is not dealt is left
+    below_left : (i : ℕ) (xs : Entries) → i < first_line w site → Owns h i xs → Owns h3 i xs
+    below_left i xs l own =
         let after = at_after_first w site in
-        above_left line [] (omega (arith, l, next)) (rest.left line (omega (arith, l, next, after)) u);
-    bases = bases_left;
-    seen = λ j l. dite (ℕ_discrete j site)
-        (λ same. subst (λ n. HasSeen h3 (at_line w n) (base ∷ [])) (sym same) seen_new)
-        (λ ne. seen_before (at_line w j) (base ∷ []) (rest.seen j (seen_last j l ne)));
-  }
+        ap (λ (x : Held). owned_at x i) is3 ∙ ap (λ (x : Held). owned_at x i) is2
+        ∙ owned_below (first_line w site) (at_line w site + 1) i h1 l ∙ stays i xs (λ e. absurd (omega (arith, after, l, e))) own
 
-  own_line : (i : ℕ) → first_line w site ≤ i → i < at_line w site → Owns k1 i []
-  own_line i l u =
-      let last = at_before_bases w site lt in
-      still i [] (dealt i [] l (omega (arith, u)) (stays i [] (λ e. absurd (omega (arith, u, e))) (rest.left i l (omega (arith, u, last)))))
+    above_left : (i : ℕ) (xs : Entries) → at_line w site < i → Owns h i xs → Owns h3 i xs
+    above_left i xs l own =
+        ap (λ (x : Held). owned_at x i) is3 ∙ ap (λ (x : Held). owned_at x i) is2
+        ∙ owned_above (first_line w site) (at_line w site + 1) i h1 (omega (arith, l)) ∙ stays i xs (λ e. absurd (omega (arith, l, e))) own
 
-  pub site_first : IsFirst w base site k1
-  site_first = record {
-    at = still (at_line w site) (base ∷ []) at_dealt;
-    seen = subst (λ (x : Held). HasSeen x (bases_line w) (base ∷ [])) (sym is4)
-        (subst (HasSeen (after_telling h3 k) (bases_line w)) (ap or_empty bases_left) (tells_back (bases_line w)).2);
-    done = λ client own.
-        let place = among w site client own in
-        let next = shut_after_done w client in
-        let last = place.last in
-        own_line (done_line w client) place.first (omega (arith, next, last));
-    shut = λ client own.
-        let place = among w site client own in
-        let next = shut_after_done w client in
-        let first = place.first in
-        own_line (shut_line w client) (omega (arith, next, first)) place.last;
-  }
+    -- what is dealt is the new holder's
+    dealt : (i : ℕ) (xs : Entries) → first_line w site ≤ i → i ≤ at_line w site → Owns h1 i xs → Owns k i xs
+    dealt i xs l u own = ap (λ (x : Held). owned_at x i) is ∙ owned_only (first_line w site) (at_line w site + 1) i h1 l (omega (arith, u)) ∙ own
+
+    still : (i : ℕ) (xs : Entries) → Owns k i xs → Owns k1 i xs
+    still i xs own = ap (λ (x : Held). owned_at x i) is4 ∙ own
+
+    at_dealt : Owns k (at_line w site) (base ∷ [])
+    at_dealt = dealt (at_line w site) (base ∷ []) (at_after_first w site) (omega arith) at_written
+
+    bases_left : Owns h3 (bases_line w) (base ∷ [])
+    bases_left = above_left (bases_line w) (base ∷ []) (at_before_bases w site lt) rest.bases
+
+    -- what was seen is still seen
+    seen_before : (i : ℕ) (xs : Entries) → HasSeen h i xs → HasSeen h3 i xs
+    seen_before i xs saw =
+        let saw1 : HasSeen h1 i xs = subst (λ (x : Held). HasSeen x i xs) (sym is1) saw in
+        let saw2 : HasSeen h2 i xs = subst (λ (x : Held). HasSeen x i xs) (sym is2) saw1 in
+        subst (λ (x : Held). HasSeen x i xs) (sym is3) (prefix_trans xs (seen_at h2 i) (seen_at (after_telling k h2) i) saw2 (tells i).0)
+
+    seen_new : HasSeen h3 (at_line w site) (base ∷ [])
+    seen_new = subst (λ (x : Held). HasSeen x (at_line w site) (base ∷ [])) (sym is3)
+        (subst (HasSeen (after_telling k h2) (at_line w site)) (ap or_empty at_dealt) (tells (at_line w site)).2)
+
+    seen_last : (j : ℕ) → j < site + 1 → j ≢ site → j < site
+    seen_last j l ne = omega (arith, l, ne)
+
+    pub rest_less : IsRest w base (site + 1) h3
+    rest_less = record {
+      kept = λ client l. below_left (kept_line w client) [] (kept_before_first w site client l) (rest.kept client l);
+      left = λ line l u.
+          let next = first_next w site in
+          let after = at_after_first w site in
+          above_left line [] (omega (arith, l, next)) (rest.left line (omega (arith, l, next, after)) u);
+      bases = bases_left;
+      seen = λ j l. dite (ℕ_discrete j site)
+          (λ same. subst (λ n. HasSeen h3 (at_line w n) (base ∷ [])) (sym same) seen_new)
+          (λ ne. seen_before (at_line w j) (base ∷ []) (rest.seen j (seen_last j l ne)));
+    }
+
+    own_line : (i : ℕ) → first_line w site ≤ i → i < at_line w site → Owns k1 i []
+    own_line i l u =
+        let last = at_before_bases w site lt in
+        still i [] (dealt i [] l (omega (arith, u)) (stays i [] (λ e. absurd (omega (arith, u, e))) (rest.left i l (omega (arith, u, last)))))
+
+    pub site_first : IsFirst w base site k1
+    site_first = record {
+      at = still (at_line w site) (base ∷ []) at_dealt;
+      seen = subst (λ (x : Held). HasSeen x (bases_line w) (base ∷ [])) (sym is4)
+          (subst (HasSeen (after_telling h3 k) (bases_line w)) (ap or_empty bases_left) (tells_back (bases_line w)).2);
+      done = λ client own.
+          let place = among w site client own in
+          let next = shut_after_done w client in
+          let last = place.last in
+          own_line (done_line w client) place.first (omega (arith, next, last));
+      shut = λ client own.
+          let place = among w site client own in
+          let next = shut_after_done w client in
+          let first = place.first in
+          own_line (shut_line w client) (omega (arith, next, first)) place.last;
+    }
 
 -- what is left and what the new holder has, where it was told on, and its old state stands for that in between
 pub site_dealt : (w : s.Workload) (base : Entry) (site : ℕ) (h h1 h2 h3 h4 k k0 k1 : Held) → site < sites_of w → IsRest w base site h

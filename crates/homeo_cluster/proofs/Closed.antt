@@ -48,9 +48,9 @@ module _ (w : s.Workload) (next : List ℤ) (a : Answer) (before now : List Cell
       let v' = get_map_back (cell_of w) now i c' e' in
       let h = one i v.0 v'.0 v.1.0 v'.1.0 in
       subst (λ (k : Cell). Renews w next k.site a k.lists c'.lists) v.1.1
-        (subst (λ (k : Cell). Renews w next v.0.site.state a (site_lists w v.0.site.state.number v.0.held) k.lists) v'.1.1
-          (subst (λ n. Renews w next v.0.site.state a (site_lists w n v.0.held) (site_lists w v'.0.site.state.number v'.0.held)) (sym (numbers i v.0 v.1.0))
-            (subst (λ n. Renews w next v.0.site.state a (site_lists w i v.0.held) (site_lists w n v'.0.held)) (sym (number_of i v.0 v'.0 v.1.0 v'.1.0)) h.lists)))
+      (subst (λ (k : Cell). Renews w next v.0.site.state a (site_lists w v.0.site.state.number v.0.held) k.lists) v'.1.1
+      (subst (λ n. Renews w next v.0.site.state a (site_lists w n v.0.held) (site_lists w v'.0.site.state.number v'.0.held)) (sym (numbers i v.0 v.1.0))
+      (subst (λ n. Renews w next v.0.site.state a (site_lists w i v.0.held) (site_lists w n v'.0.held)) (sym (number_of i v.0 v'.0 v.1.0 v'.1.0)) h.lists)))
 
   kept_is : (i : ℕ) (c' : Cell) → slice_get (cells_of w now) i ≡ Some c' → (client : ℕ) → IsClientAt w i client → (book_lists w b).kept client ≡ c'.lists.shut client
   kept_is i c' e' client at =
@@ -76,7 +76,7 @@ module _ (w : s.Workload) (next : List ℤ) (a : Answer) (before now : List Cell
   unfolding words
   book_again home call broken old new accepted count hand breaks is_next is_answer state held =
       let after = cleanup_event w old (book_lists w bb) (book_lists w b) (cells_of w before) (cells_of w now) home call broken accepted hand breaks
-          (subst (λ (x : List ℤ × Answer). Closes w x.0 x.1 (cells_of w before) (cells_of w now) (book_lists w bb) (book_lists w b)) (λ i. (is_next i, is_answer i)) closes) in
+      (subst (λ (x : List ℤ × Answer). Closes w x.0 x.1 (cells_of w before) (cells_of w now) (book_lists w bb) (book_lists w b)) (λ i. (is_next i, is_answer i)) closes) in
       subst (λ h. IsBook w (record { closed = new.closed; base = new.base; held = h })) (sym held) (record {
         facts = subst (λ (x : BookState). BookFacts w x (book_lists w b)) (sym state) after.book;
         holds = record {

@@ -108,9 +108,9 @@ module _ (w : s.Workload) (next : List ℤ) (a : Answer) (i : ℕ) (before now :
           let same : c ≡ d = get_same now i c d here there in
           let same' : c' ≡ d' = get_same (slice_set now i c') i c' d' (get_set_same now i c c' here) (ap (slice_get (slice_set now i c')) (sym last) ∙ new) in
           subst (λ v. HasGoneOn w next a j v d' b') same
-            (subst (λ v. HasGoneOn w next a j c v b') same'
-              (subst (λ n. HasGoneOn w next a n c c' b') (number ∙ sym last)
-                (record { state = is.state; lists = is.lists; pairs = is.pairs; told = is.told })))
+          (subst (λ v. HasGoneOn w next a j c v b') same'
+          (subst (λ n. HasGoneOn w next a n c c' b') (number ∙ sym last)
+          (record { state = is.state; lists = is.lists; pairs = is.pairs; told = is.told })))
 
       not_here : (site : ℕ) → IsClientAt w site a.client → site < i → p' ≡ p
       not_here site at earlier = ⊎_elim (λ own. let same : i ≡ site = one_site w a.client i site own.0 at in absurd (omega (arith, earlier, same))) (λ away. away.1) asked

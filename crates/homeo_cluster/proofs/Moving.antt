@@ -77,14 +77,14 @@ pub pairs_more : (w : s.Workload) (site client : ℕ) (h h' b b' : Held) (e : En
 pairs_more w site client h h' b b' e is own g f =
     let lines : AreApart w site = apart w site in
     λ c here. dite (ℕ_discrete c client)
-      (λ same. subst (λ m. answers_at h' m (shut_line w m) ≡ answers_at b' m (kept_line w m)) (sym same)
-        (ap (map (read client)) (grew_same h h' (shut_line w client) (shut_line w client) e g refl)
-        ∙ map-append (read client) (list_at h (shut_line w client)) (e ∷ [])
-        ∙ ap (λ xs. xs ++ read client e ∷ []) (is client own)
-        ∙ sym (map-append (read client) (list_at b (kept_line w client)) (e ∷ []))
-        ∙ sym (ap (map (read client)) (grew_same b b' (kept_line w client) (kept_line w client) e f refl))))
-      (λ other. ap (map (read c)) (grew_list_other h h' (shut_line w client) (shut_line w c) e g (λ q. other (lines.shut c client here own q)))
-        ∙ is c here ∙ sym (ap (map (read c)) (grew_list_other b b' (kept_line w client) (kept_line w c) e f (λ q. other (kept_apart w c client q)))))
+    (λ same. subst (λ m. answers_at h' m (shut_line w m) ≡ answers_at b' m (kept_line w m)) (sym same)
+    (ap (map (read client)) (grew_same h h' (shut_line w client) (shut_line w client) e g refl)
+    ∙ map-append (read client) (list_at h (shut_line w client)) (e ∷ [])
+    ∙ ap (λ xs. xs ++ read client e ∷ []) (is client own)
+    ∙ sym (map-append (read client) (list_at b (kept_line w client)) (e ∷ []))
+    ∙ sym (ap (map (read client)) (grew_same b b' (kept_line w client) (kept_line w client) e f refl))))
+    (λ other. ap (map (read c)) (grew_list_other h h' (shut_line w client) (shut_line w c) e g (λ q. other (lines.shut c client here own q)))
+    ∙ is c here ∙ sym (ap (map (read c)) (grew_list_other b b' (kept_line w client) (kept_line w c) e f (λ q. other (kept_apart w c client q)))))
 
 -- one entry more
 pub moving_more : (w : s.Workload) (x : SiteState) (h0 b0 h h' b b' : Held) (k : ℕ) (e : Made)
@@ -125,16 +125,16 @@ unfolding words histories
 moved_short w x k h0 b0 h b client facts is own =
     let f : Made → Answer = local_answer x.round x.number in
     let first : length (list_at b (kept_line w client)) ≡ length (list_at h (shut_line w client)) =
-        sym (length-map (list_at b (kept_line w client)) (read client)) ∙ ap length (sym (is.pairs client own)) ∙ length-map (list_at h (shut_line w client)) (read client) in
+    sym (length-map (list_at b (kept_line w client)) (read client)) ∙ ap length (sym (is.pairs client own)) ∙ length-map (list_at h (shut_line w client)) (read client) in
     let now : length (list_at h (shut_line w client)) ≡ length ((site_lists w x.number h0).shut client ++ answers_to client (map f (take k x.segment))) =
-        sym (length-map (list_at h (shut_line w client)) (read client)) ∙ ap length (is.moved client own) in
+    sym (length-map (list_at h (shut_line w client)) (read client)) ∙ ap length (is.moved client own) in
     let all : length (list_at h0 (done_line w client)) ≡ length ((site_lists w x.number h0).shut client ++ answers_to client (map f x.segment)) =
-        sym (length-map (list_at h0 (done_line w client)) (read client)) ∙ ap length (facts.serves client own).answered in
+    sym (length-map (list_at h0 (done_line w client)) (read client)) ∙ ap length (facts.serves client own).answered in
     let parts : length (answers_to client (map f x.segment)) ≡ length (answers_to client (map f (take k x.segment))) + length (answers_to client (map f (drop k x.segment))) =
-        ap (λ es. length (answers_to client (map f es))) (sym (take-append-drop k x.segment))
-        ∙ ap (λ given. length (answers_to client given)) (map-append f (take k x.segment) (drop k x.segment))
-        ∙ ap length (filter-append (λ (a : Answer). eqb a.client client) (map f (take k x.segment)) (map f (drop k x.segment)))
-        ∙ length-append (answers_to client (map f (take k x.segment))) (answers_to client (map f (drop k x.segment))) in
+    ap (λ es. length (answers_to client (map f es))) (sym (take-append-drop k x.segment))
+    ∙ ap (λ given. length (answers_to client given)) (map-append f (take k x.segment) (drop k x.segment))
+    ∙ ap length (filter-append (λ (a : Answer). eqb a.client client) (map f (take k x.segment)) (map f (drop k x.segment)))
+    ∙ length-append (answers_to client (map f (take k x.segment))) (answers_to client (map f (drop k x.segment))) in
     let one = length-append ((site_lists w x.number h0).shut client) (answers_to client (map f (take k x.segment))) in
     let two = length-append ((site_lists w x.number h0).shut client) (answers_to client (map f x.segment)) in
     omega (arith, first, now, all, parts, one, two)

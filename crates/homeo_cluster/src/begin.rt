@@ -187,13 +187,7 @@ impl<N: ClusterNaming> Frame<N> {
 
     /// Writes the first base into the list of the bases that the site has been at, and deals the site its lines, which are
     /// those from `first` on.
-    fn deal_site(
-        &self,
-        rest: &mut Holder<N>,
-        site: u32,
-        first: u32,
-        base: &Database,
-    ) -> Holder<N>
+    fn deal_site(&self, rest: &mut Holder<N>, site: u32, first: u32, base: &Database) -> Holder<N>
         requires site { site < sites_of N.workload }
         requires first { first ≡ first_line N.workload site }
         requires base { base.now.items ≡ initial N.workload }

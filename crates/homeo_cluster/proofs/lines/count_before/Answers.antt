@@ -13,11 +13,11 @@ loop-other-preserved c =
     let w = plain_workload c.args.w.now in
     let few = c.loop-other.invariant.few in
     elim c.if-site_of-site.branch [
-      then-site_of-site b ↦ record {
+      | then-site_of-site b ↦ record {
         count = before_more w c.site_of.result c.args.site c.loop-other.other c.loop-other.count c.if-site_of-site.count c.site_of.ensures b.if-site_of-site.true c.loop-other.invariant.count b.count-is;
         few = let is = b.count-is in omega (arith, few, is);
       }
-    | else-site_of-site b ↦ record {
+      | else-site_of-site b ↦ record {
         count = b.count-is ∙ before_same w c.site_of.result c.args.site c.loop-other.other c.loop-other.count c.site_of.ensures b.if-site_of-site.false c.loop-other.invariant.count;
         few = let is = b.count-is in omega (arith, few, is);
       }

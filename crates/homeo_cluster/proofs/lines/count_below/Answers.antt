@@ -12,11 +12,11 @@ loop-client-preserved c =
     let w = plain_workload c.args.w.now in
     let few = c.loop-client.invariant.few in
     elim c.if-site_of-site.branch [
-      then-site_of-site b ↦ record {
+      | then-site_of-site b ↦ record {
         count = below_more w c.site_of.result c.args.site c.loop-client.client c.loop-client.count c.if-site_of-site.count c.site_of.ensures b.if-site_of-site.true c.loop-client.invariant.count b.count-is;
         few = let is = b.count-is in omega (arith, few, is);
       }
-    | else-site_of-site b ↦ record {
+      | else-site_of-site b ↦ record {
         count = b.count-is ∙ below_same w c.site_of.result c.args.site c.loop-client.client c.loop-client.count c.site_of.ensures b.if-site_of-site.false c.loop-client.invariant.count;
         few = let is = b.count-is in omega (arith, few, is);
       }

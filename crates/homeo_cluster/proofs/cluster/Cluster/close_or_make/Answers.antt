@@ -41,12 +41,12 @@ close-requires-clause-numbers g c i d here =
     let e = (goal.at.close-requires-clause-numbers g c).After-deref_mut in
     let vs : List CellValue = held_cells c.in_ok-cells.cells.items in
     let tried : IsTried w c.deref_mut.result.now c.attempt.new.cell c.args.pass.now c.attempt.new.pass (Breaks c.in-Breaks.broken) =
-        subst (IsTried w c.deref_mut.result.now c.attempt.new.cell c.args.pass.now c.attempt.new.pass) c.in-Breaks.is c.in_ok-answer.ensures.tried in
+    subst (IsTried w c.deref_mut.result.now c.attempt.new.cell c.args.pass.now c.attempt.new.pass) c.in-Breaks.is c.in_ok-answer.ensures.tried in
     let now : slice_get (slice_set vs c.args.home c.attempt.new.cell) i ≡ Some d = ap (λ l. slice_get l i) (sym (held_set c.in_ok-cells.cells.items c.args.home _)) ∙ here in
     ⊎_elim
-      (λ (x : (i ≡ c.args.home) × (c.attempt.new.cell ≡ d)). ap (λ (v : CellValue). v.site.state.number) (sym x.1) ∙ ap (λ (y : SiteState). y.number) tried.1 ∙ number g e ∙ sym x.0)
-      (λ was. c.in_ok-cells.ensures.numbers i d was)
-      (set_cases vs c.args.home i c.attempt.new.cell d now)
+    (λ (x : (i ≡ c.args.home) × (c.attempt.new.cell ≡ d)). ap (λ (v : CellValue). v.site.state.number) (sym x.1) ∙ ap (λ (y : SiteState). y.number) tried.1 ∙ number g e ∙ sym x.0)
+    (λ was. c.in_ok-cells.ensures.numbers i d was)
+    (set_cases vs c.args.home i c.attempt.new.cell d now)
 
 pub close-requires-clause-breaks : goal.close-requires-clause-breaks
 close-requires-clause-breaks g c =
@@ -54,13 +54,13 @@ close-requires-clause-breaks g c =
     let e = (goal.at.close-requires-clause-breaks g c).After-deref_mut in
     let vs : List CellValue = held_cells c.in_ok-cells.cells.items in
     let tried : IsTried w c.deref_mut.result.now c.attempt.new.cell c.args.pass.now c.attempt.new.pass (Breaks c.in-Breaks.broken) =
-        subst (IsTried w c.deref_mut.result.now c.attempt.new.cell c.args.pass.now c.attempt.new.pass) c.in-Breaks.is c.in_ok-answer.ensures.tried in
+    subst (IsTried w c.deref_mut.result.now c.attempt.new.cell c.args.pass.now c.attempt.new.pass) c.in-Breaks.is c.in_ok-answer.ensures.tried in
     let call : next_call c.args.pass.now ≡ next_call c.attempt.new.pass = ap next_call (sym tried.0) in
     let all : length c.args.pass.now.log + c.args.pass.now.left ≡ call_count w c.args.pass.now.client = c.facts.ensures.logged.all in
     let some : 0 < c.args.pass.now.left = c.requires.left in
     let le : suc (length c.args.pass.now.log) ≤ call_count w c.args.pass.now.client = omega (arith, all, some) in
     let here : slice_get (held_cells (slice_set c.in_ok-cells.cells.items c.args.home _)) c.args.home ≡ Some c.attempt.new.cell =
-        ap (λ l. slice_get l c.args.home) (held_set c.in_ok-cells.cells.items c.args.home _) ∙ get_set_same vs c.args.home c.deref_mut.result.now c.attempt.new.cell (stands g e) in
+    ap (λ l. slice_get l c.args.home) (held_set c.in_ok-cells.cells.items c.args.home _) ∙ get_set_same vs c.args.home c.deref_mut.result.now c.attempt.new.cell (stands g e) in
     record {
       site = c.attempt.new.cell.site.state;
       here = states_get _ c.args.home c.attempt.new.cell here;

@@ -14,5 +14,5 @@ loop-lock-preserved g c =
     let long = held_long gs in
     let read : c.number.result ≡ length gs = search rules in
     let place : (mutex_guard_value c.lock-cell.result).site.state.number ≡ length (held_cells gs) =
-        ap (λ (k : CellValue). k.site.state.number) (sym c.deref.ensures) ∙ (sym c.number.ensures.number ∙ (read ∙ sym long)) in
+    ap (λ (k : CellValue). k.site.state.number) (sym c.deref.ensures) ∙ (sym c.number.ensures.number ∙ (read ∙ sym long)) in
     (numbered_push (held_cells gs) _ (mutex_guard_value c.lock-cell.result) states place c.loop-lock.invariant.0, omega (arith, ap length items, length-append gs (c.lock-cell.result ∷ []), c.loop-lock.invariant.1))

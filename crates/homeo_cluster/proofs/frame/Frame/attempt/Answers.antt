@@ -44,7 +44,7 @@ is_call g c =
     let some : 0 < c.pass.inside.left = left g c in
     let le : suc (length (log_of g c)) ≤ call_count w c.pass.inside.client = omega (arith, all, some) in
     subst (IsCallAt w c.cell.inside.site.state.number) (sym (next g c))
-      (is_call_at w c.cell.inside.site.state.number (record { client = c.pass.inside.client; seq = suc (length (log_of g c)) }) (home g c) (omega arith) le)
+    (is_call_at w c.cell.inside.site.state.number (record { client = c.pass.inside.client; seq = suc (length (log_of g c)) }) (home g c) (omega arith) le)
 
 pub room-requires : goal.room-requires
 room-requires g c =
@@ -58,7 +58,7 @@ attempt_in-requires-clause-call g c =
     let state : c.room.new.self.state ≡ c.cell.inside.site.state = ap (λ (v : SiteValue). v.state) c.room.ensures.state in
     let work : plain_workload c.room.new.self.work ≡ g.N.ClusterNaming.workload = ap (λ (v : SiteValue). plain_workload v.work) c.room.ensures.state ∙ c.cell.invariant.work in
     subst (λ w. IsCallAt w c.room.new.self.state.number c.next-call.result) (sym work)
-      (subst (λ (x : SiteState). IsCallAt g.N.ClusterNaming.workload x.number c.next-call.result) (sym state) (is_call g e))
+    (subst (λ (x : SiteState). IsCallAt g.N.ClusterNaming.workload x.number c.next-call.result) (sym state) (is_call g e))
 
 -- ---- where it keeps the treaty
 state_is : (g : Over) (c : After-two_answers-answer g) → c.room.new.self.state ≡ c.cell.inside.site.state
@@ -84,7 +84,7 @@ make-requires-clause-call g c =
     let e = (goal.at.make-requires-clause-call g c).After-two_answers-answer in
     let d = (goal.at.make-requires-clause-call g c).After-cell in
     subst (IsCallAt g.N.ClusterNaming.workload c.room.new.self.state.number) (sym (is_change g e).call)
-      (subst (λ (x : SiteState). IsCallAt g.N.ClusterNaming.workload x.number c.next-call.result) (sym (state_is g e)) (is_call g d))
+    (subst (λ (x : SiteState). IsCallAt g.N.ClusterNaming.workload x.number c.next-call.result) (sym (state_is g e)) (is_call g d))
 
 pub make-requires-clause-change : goal.make-requires-clause-change
 make-requires-clause-change g c =
@@ -127,7 +127,7 @@ answer_is g c =
     let round : c.round-round.result ≡ x.round = c.round-round.ensures in
     let number : c.number-site.result ≡ x.number = c.number-site.ensures in
     let same : local_answer c.round-round.result c.number-site.result (record { call = c.next-call.result; prints = c.in-Keeps.change.prints.items }) ≡ reply g c =
-        (λ i. local_answer (round i) (number i) (record { call = sym is.call i; prints = (is.prints ∙ ap (λ k. step_prints w x k) (sym is.call)) i })) in
+    (λ i. local_answer (round i) (number i) (record { call = sym is.call i; prints = (is.prints ∙ ap (λ k. step_prints w x k) (sym is.call)) i })) in
     (c.two_answers-answer.ensures.first c.in-Keeps.change.prints.items all ∙ same, c.two_answers-answer.ensures.second c.in-Keeps.change.prints.items all ∙ same)
 
 -- whose answer it is
@@ -153,9 +153,9 @@ invariant_of-pass-in-Keeps g c =
     let is = whose g e in
     let client = client_is g e in
     pass_more w c.pass.inside.client c.pass.inside.left (c.pass.inside.left - 1) (map plain_answer c.pass.inside.log.items) (map plain_answer c.push_reserved.new.log.items) c.pass.inside.holder c.make.new.asker (reply g e)
-      c.pass.invariant (omega (arith, some)) (log_now g d (reply g e) (answer_is g e).1) is.0 is.1
-      (subst (λ n. Grew c.pass.inside.holder c.make.new.asker (asked_line n) (written (reply g e))) client c.make.ensures.asked)
-      (subst (λ n. HasSeen c.make.new.asker (done_line w n) (list_at c.make.new.asker (asked_line n))) client c.make.ensures.seen)
+    c.pass.invariant (omega (arith, some)) (log_now g d (reply g e) (answer_is g e).1) is.0 is.1
+    (subst (λ n. Grew c.pass.inside.holder c.make.new.asker (asked_line n) (written (reply g e))) client c.make.ensures.asked)
+    (subst (λ n. HasSeen c.make.new.asker (done_line w n) (list_at c.make.new.asker (asked_line n))) client c.make.ensures.seen)
 
 pub returns-in-Keeps-clause-tried : goal.returns-in-Keeps-clause-tried
 unfolding histories
@@ -168,16 +168,17 @@ returns-in-Keeps-clause-tried g c =
     let is = whose g e in
     let was : c.args.pass.now ≡ record { client = c.pass.inside.client; left = c.pass.inside.left; log = map plain_answer c.pass.inside.log.items; held = c.pass.inside.holder } = search rules in
     let state : c.room.new.self.state ≡ c.args.cell.now.site.state = state_is g e ∙ search rules in
-    let call : c.in-Keeps.change.call ≡ next_call c.args.pass.now = (is_change g e).call ∙ c.next-call.ensures.call in
-    ( subst (λ a. IsReplied w c.args.pass.now (record { client = c.pass.inside.client; left = c.pass.inside.left - 1; log = map plain_answer c.push_reserved.new.log.items; held = c.make.new.asker }) a) (sym (answer_is g e).0)
-        (subst (λ p. IsReplied w p (record { client = c.pass.inside.client; left = c.pass.inside.left - 1; log = map plain_answer c.push_reserved.new.log.items; held = c.make.new.asker }) (reply g e)) (sym was) (record {
-          client = refl;
-          left = omega (arith, some);
-          log = log_now g d (reply g e) (answer_is g e).1;
-          call = λ i. record { client = is.0 i; seq = is.1 i };
-          site = subst (λ n. IsClientAt w n c.pass.inside.client) (sym is.2) (home g f);
-        }))
-    , c.make.ensures.made ∙ (λ i. after_local w (state i) (call i)) )
+    let call : c.in-Keeps.change.call ≡ next_call c.args.pass.now = (is_change g e).call ∙ c.next-call.ensures.call in (
+      subst (λ a. IsReplied w c.args.pass.now (record { client = c.pass.inside.client; left = c.pass.inside.left - 1; log = map plain_answer c.push_reserved.new.log.items; held = c.make.new.asker }) a) (sym (answer_is g e).0)
+          (subst (λ p. IsReplied w p (record { client = c.pass.inside.client; left = c.pass.inside.left - 1; log = map plain_answer c.push_reserved.new.log.items; held = c.make.new.asker }) (reply g e)) (sym was) (record {
+            client = refl;
+            left = omega (arith, some);
+            log = log_now g d (reply g e) (answer_is g e).1;
+            call = λ i. record { client = is.0 i; seq = is.1 i };
+            site = subst (λ n. IsClientAt w n c.pass.inside.client) (sym is.2) (home g f);
+          })),
+      c.make.ensures.made ∙ (λ i. after_local w (state i) (call i)),
+    )
 
 pub returns-in-Breaks-clause-tried : goal.returns-in-Breaks-clause-tried
 unfolding site_words
@@ -188,7 +189,8 @@ returns-in-Breaks-clause-tried g c =
     let inside : c.room.new.self.state ≡ c.cell.inside.site.state = ap (λ (v : SiteValue). v.state) c.room.ensures.state in
     let state : c.room.new.self.state ≡ c.args.cell.now.site.state = inside ∙ search rules in
     let work : plain_workload c.room.new.self.work ≡ w = ap (λ (v : SiteValue). plain_workload v.work) c.room.ensures.state ∙ c.cell.invariant.work in
-    let broken : step_finding (plain_workload c.room.new.self.work) c.room.new.self.state c.next-call.result ≡ Some c.in-Breaks.broken = c.in-Breaks.ensures.outcome in
-    ( (λ i. record { client = c.pass.inside.client; left = c.pass.inside.left; log = map plain_answer (reserved i); held = c.pass.inside.holder }) ∙ was
-    , state
-    , (λ i. step_finding (sym work i) (sym state i) (sym c.next-call.ensures.call i)) ∙ broken )
+    let broken : step_finding (plain_workload c.room.new.self.work) c.room.new.self.state c.next-call.result ≡ Some c.in-Breaks.broken = c.in-Breaks.ensures.outcome in (
+      (λ i. record { client = c.pass.inside.client; left = c.pass.inside.left; log = map plain_answer (reserved i); held = c.pass.inside.holder }) ∙ was,
+      state,
+      (λ i. step_finding (sym work i) (sym state i) (sym c.next-call.ensures.call i)) ∙ broken,
+    )

@@ -32,7 +32,7 @@ end_round-requires-clause-hand g c =
     let view : c.meet_row.new.book ≡ record { closed = map plain_round c.book.inside.closed.items; base = c.book.inside.base.items; held = c.book.inside.holder } = search rules in
     let kept : c.book.inside.closed.items ≡ c.reserve.new.self.items = search rules in
     let state : b ≡ book_of c.reserve.new.self.items c.book.inside.base.items =
-        (λ i. book_state (view i)) ∙ (λ i. record { closed = map plain_round (kept i); base = c.book.inside.base.items }) in
+    (λ i. book_state (view i)) ∙ (λ i. record { closed = map plain_round (kept i); base = c.book.inside.base.items }) in
     let lists : book_lists w c.meet_row.new.book.held ≡ book_lists w c.book.inside.holder = (λ i. book_lists w (view i).held) in
     subst (λ (x : BookState × BookLists). InHand w x.0 x.1 (cells_of w vs)) (λ i. (state i, lists i)) c.meet_row.ensures.met
 
@@ -46,11 +46,11 @@ end_round-requires-clause-breaks g c =
     let a : Answer = plain_answer c.in_ok-answer.answer in
     let ready : IsPrepared w b (site_states vs) c.args.home c.next.result c.args.broken p = c.in_ok-prepared.ensures in
     let is : a ≡ closing_answer p.round (closing_of w b (site_states vs) c.args.home c.next.result c.args.broken) =
-        c.in_ok-answer.ensures ∙ c.answer.ensures ∙ ap (closing_answer p.round) ready.closing in
+    c.in_ok-answer.ensures ∙ c.answer.ensures ∙ ap (closing_answer p.round) ready.closing in
     let site_is : c.in_ok-answer.answer.site ≡ c.args.home = ap (λ (x : Answer). x.site) is in
     let call_is : called a ≡ c.next.result = ap called is in
     subst (λ (x : ℕ × CallId). BreaksCall w (site_states vs) x.0 x.1 c.args.broken) (λ i. (sym site_is i, sym call_is i))
-      (subst (λ (x : List SiteState × CallId). BreaksCall w x.0 c.args.home x.1 c.args.broken) (λ i. (sym c.meet_row.ensures.states i, sym c.next.ensures.call i)) c.requires.breaks)
+    (subst (λ (x : List SiteState × CallId). BreaksCall w x.0 c.args.home x.1 c.args.broken) (λ i. (sym c.meet_row.ensures.states i, sym c.next.ensures.call i)) c.requires.breaks)
 
 pub end_round-requires-clause-prepared : goal.end_round-requires-clause-prepared
 unfolding histories cores
@@ -62,15 +62,15 @@ end_round-requires-clause-prepared g c =
     let a : Answer = plain_answer c.in_ok-answer.answer in
     let ready : IsPrepared w b (site_states vs) c.args.home c.next.result c.args.broken p = c.in_ok-prepared.ensures in
     let is : a ≡ closing_answer p.round (closing_of w b (site_states vs) c.args.home c.next.result c.args.broken) =
-        c.in_ok-answer.ensures ∙ c.answer.ensures ∙ ap (closing_answer p.round) ready.closing in
+    c.in_ok-answer.ensures ∙ c.answer.ensures ∙ ap (closing_answer p.round) ready.closing in
     let site_is : c.in_ok-answer.answer.site ≡ c.args.home = ap (λ (x : Answer). x.site) is in
     let call_is : called a ≡ c.next.result = ap called is in
     let view : c.meet_row.new.book ≡ record { closed = map plain_round c.book.inside.closed.items; base = c.book.inside.base.items; held = c.book.inside.holder } = search rules in
     let kept : c.book.inside.closed.items ≡ c.reserve.new.self.items = search rules in
     let state : b ≡ book_of c.reserve.new.self.items c.book.inside.base.items =
-        (λ i. book_state (view i)) ∙ (λ i. record { closed = map plain_round (kept i); base = c.book.inside.base.items }) in
+    (λ i. book_state (view i)) ∙ (λ i. record { closed = map plain_round (kept i); base = c.book.inside.base.items }) in
     subst (λ (x : BookState). IsPrepared w x (site_states vs) c.in_ok-answer.answer.site (called a) c.args.broken p) state
-      (subst (λ (x : ℕ × CallId). IsPrepared w b (site_states vs) x.0 x.1 c.args.broken p) (λ i. (sym site_is i, sym call_is i)) ready)
+    (subst (λ (x : ℕ × CallId). IsPrepared w b (site_states vs) x.0 x.1 c.args.broken p) (λ i. (sym site_is i, sym call_is i)) ready)
 
 pub end_round-requires-clause-asker : goal.end_round-requires-clause-asker
 unfolding histories cores
@@ -82,7 +82,7 @@ end_round-requires-clause-asker g c =
     let a : Answer = plain_answer c.in_ok-answer.answer in
     let ready : IsPrepared w b (site_states vs) c.args.home c.next.result c.args.broken p = c.in_ok-prepared.ensures in
     let is : a ≡ closing_answer p.round (closing_of w b (site_states vs) c.args.home c.next.result c.args.broken) =
-        c.in_ok-answer.ensures ∙ c.answer.ensures ∙ ap (closing_answer p.round) ready.closing in
+    c.in_ok-answer.ensures ∙ c.answer.ensures ∙ ap (closing_answer p.round) ready.closing in
     let site_is : c.in_ok-answer.answer.site ≡ c.args.home = ap (λ (x : Answer). x.site) is in
     let call_is : called a ≡ c.next.result = ap called is in
     let next : c.next.result ≡ record { client = c.pass.inside.client; seq = suc (length (map plain_answer c.pass.inside.log.items)) } = search rules in
@@ -108,7 +108,7 @@ invariant_of-pass-2 g c =
     let a : Answer = plain_answer c.in_ok-answer.answer in
     let ready : IsPrepared w b (site_states vs) c.args.home c.next.result c.args.broken p = c.in_ok-prepared.ensures in
     let is : a ≡ closing_answer p.round (closing_of w b (site_states vs) c.args.home c.next.result c.args.broken) =
-        c.in_ok-answer.ensures ∙ c.answer.ensures ∙ ap (closing_answer p.round) ready.closing in
+    c.in_ok-answer.ensures ∙ c.answer.ensures ∙ ap (closing_answer p.round) ready.closing in
     let site_is : c.in_ok-answer.answer.site ≡ c.args.home = ap (λ (x : Answer). x.site) is in
     let call_is : called a ≡ c.next.result = ap called is in
     let next : c.next.result ≡ record { client = c.pass.inside.client; seq = suc (length (map plain_answer c.pass.inside.log.items)) } = search rules in
@@ -116,14 +116,14 @@ invariant_of-pass-2 g c =
     let seq : a.seq ≡ suc (length (map plain_answer c.pass.inside.log.items)) = ap (λ (k : CallId). k.seq) (call_is ∙ next) in
     let reserved : c.reserve-2.new.self.items ≡ c.pass.inside.log.items = search rules in
     let logged : map plain_answer c.push_reserved.new.log.items ≡ map plain_answer c.pass.inside.log.items ++ a ∷ [] =
-        ap (map plain_answer) c.push_reserved.ensures
-        ∙ map-append plain_answer c.reserve-2.new.self.items (c.in_ok-logged.logged ∷ [])
-        ∙ (λ i. map plain_answer (reserved i) ++ c.in_ok-logged.ensures i ∷ []) in
+    ap (map plain_answer) c.push_reserved.ensures
+    ∙ map-append plain_answer c.reserve-2.new.self.items (c.in_ok-logged.logged ∷ [])
+    ∙ (λ i. map plain_answer (reserved i) ++ c.in_ok-logged.ensures i ∷ []) in
     let some : 0 < c.pass.inside.left = search rules in
     pass_more w c.pass.inside.client c.pass.inside.left (c.pass.inside.left - 1) (map plain_answer c.pass.inside.log.items) (map plain_answer c.push_reserved.new.log.items) c.pass.inside.holder c.end_round.new.asker a
-      c.pass.invariant (omega (arith, some)) logged client seq
-      (subst (λ n. Grew c.pass.inside.holder c.end_round.new.asker (asked_line n) (written a)) client c.end_round.ensures.asked.grew)
-      (subst (λ n. HasSeen c.end_round.new.asker (done_line w n) (list_at c.end_round.new.asker (asked_line n))) client c.end_round.ensures.asked.seen)
+    c.pass.invariant (omega (arith, some)) logged client seq
+    (subst (λ n. Grew c.pass.inside.holder c.end_round.new.asker (asked_line n) (written a)) client c.end_round.ensures.asked.grew)
+    (subst (λ n. HasSeen c.end_round.new.asker (done_line w n) (list_at c.end_round.new.asker (asked_line n))) client c.end_round.ensures.asked.seen)
 
 pub returns-clause-replied : goal.returns-clause-replied
 unfolding histories cores
@@ -135,7 +135,7 @@ returns-clause-replied g c =
     let a : Answer = plain_answer c.in_ok-answer.answer in
     let ready : IsPrepared w b (site_states vs) c.args.home c.next.result c.args.broken p = c.in_ok-prepared.ensures in
     let is : a ≡ closing_answer p.round (closing_of w b (site_states vs) c.args.home c.next.result c.args.broken) =
-        c.in_ok-answer.ensures ∙ c.answer.ensures ∙ ap (closing_answer p.round) ready.closing in
+    c.in_ok-answer.ensures ∙ c.answer.ensures ∙ ap (closing_answer p.round) ready.closing in
     let site_is : c.in_ok-answer.answer.site ≡ c.args.home = ap (λ (x : Answer). x.site) is in
     let call_is : called a ≡ c.next.result = ap called is in
     let next : c.next.result ≡ record { client = c.pass.inside.client; seq = suc (length (map plain_answer c.pass.inside.log.items)) } = search rules in
@@ -143,9 +143,9 @@ returns-clause-replied g c =
     let seq : a.seq ≡ suc (length (map plain_answer c.pass.inside.log.items)) = ap (λ (k : CallId). k.seq) (call_is ∙ next) in
     let reserved : c.reserve-2.new.self.items ≡ c.pass.inside.log.items = search rules in
     let logged : map plain_answer c.push_reserved.new.log.items ≡ map plain_answer c.pass.inside.log.items ++ a ∷ [] =
-        ap (map plain_answer) c.push_reserved.ensures
-        ∙ map-append plain_answer c.reserve-2.new.self.items (c.in_ok-logged.logged ∷ [])
-        ∙ (λ i. map plain_answer (reserved i) ++ c.in_ok-logged.ensures i ∷ []) in
+    ap (map plain_answer) c.push_reserved.ensures
+    ∙ map-append plain_answer c.reserve-2.new.self.items (c.in_ok-logged.logged ∷ [])
+    ∙ (λ i. map plain_answer (reserved i) ++ c.in_ok-logged.ensures i ∷ []) in
     let some : 0 < c.pass.inside.left = search rules in
     let was : c.args.pass.now ≡ record { client = c.pass.inside.client; left = c.pass.inside.left; log = map plain_answer c.pass.inside.log.items; held = c.pass.inside.holder } = search rules in
     let home : IsClientAt w c.args.home c.pass.inside.client = subst (λ (x : PassValue). IsClientAt w c.args.home x.client) was c.requires.home in

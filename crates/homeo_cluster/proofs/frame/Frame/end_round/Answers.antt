@@ -59,7 +59,7 @@ joined g c = joined_hand g.N.ClusterNaming.workload (cells g c) (book g c) (book
 extended : (g : Over) (c : After-extend g) → Grew c.args.book.now c.extend.new.holder (bases_line g.N.ClusterNaming.workload) c.args.next.now
 extended g c =
     subst (λ l. Grew c.args.book.now c.extend.new.holder l c.args.next.now) c.bases-bases.ensures
-      (grew_by_extend c.args.book.now c.extend.new.holder c.bases-bases.result c.args.next.now c.extend.ensures.appended)
+    (grew_by_extend c.args.book.now c.extend.new.holder c.bases-bases.result c.args.next.now c.extend.ensures.appended)
 
 count_is : (g : Over) (c : After-extend g) → length (cells g c) ≡ vec_len c.args.cells.now
 count_is g c =
@@ -72,14 +72,14 @@ renew_row-requires-clause-rounds g c =
     let e = (goal.at.renew_row-requires-clause-rounds g c).After-extend in
     let p = c.requires.prepared in
     subst (λ (x : ℕ × List ℤ). AreAt x.0 x.1 (site_states (cells g e))) (λ i. (sym p.round i, sym p.base i))
-      (at_round g.N.ClusterNaming.workload (initial g.N.ClusterNaming.workload) (book g e) (site_states (cells g e)) (joined g e))
+    (at_round g.N.ClusterNaming.workload (initial g.N.ClusterNaming.workload) (book g e) (site_states (cells g e)) (joined g e))
 
 pub renew_row-requires-clause-within : goal.renew_row-requires-clause-within
 renew_row-requires-clause-within g c =
     let e = (goal.at.renew_row-requires-clause-within g c).After-extend in
     let w = g.N.ClusterNaming.workload in
     subst (IsWithin (schema_of w)) (sym c.requires.prepared.next)
-      (next_within w (initial w) (book g e) (site_states (cells g e)) c.args.answer.now.site (called (plain_answer c.args.answer.now)) c.args.broken c.accepted.ensures (joined g e) c.requires.breaks)
+    (next_within w (initial w) (book g e) (site_states (cells g e)) c.args.answer.now.site (called (plain_answer c.args.answer.now)) c.args.broken c.accepted.ensures (joined g e) c.requires.breaks)
 
 pub renew_row-requires-clause-path : goal.renew_row-requires-clause-path
 unfolding histories cores
@@ -110,10 +110,10 @@ renew_row-requires-clause-each g c i v at =
       pairs = λ client own.
           hand.met.shut client i (cell_of w v) own here
           ∙ sym (ap (map (read client)) (grew_list_other c.args.book.now c.extend.new.holder (bases_line w) (kept_line w client) c.args.next.now (extended g e)
-            (λ q. bases_apart w client (client_lt w i client own) (sym q))));
+          (λ q. bases_apart w client (client_lt w i client own) (sym q))));
       short = λ client own.
           subst (λ n. n ≤ call_count w client) (length-map (list_at v.held (done_line w client)) (read client))
-            (met_lists.done_short w (book g e) (book_lists w c.args.book.now) (cells_of w (cells g e)) hand.book hand.sites hand.met c.accepted.ensures client i (cell_of w v) own here);
+          (met_lists.done_short w (book g e) (book_lists w c.args.book.now) (cells_of w (cells g e)) hand.book hand.sites hand.met c.accepted.ensures client i (cell_of w v) own here);
       ahead =
           grew_same c.args.book.now c.extend.new.holder (bases_line w) (bases_line w) c.args.next.now (extended g e) refl
           ∙ ap (λ xs. xs ++ c.args.next.now ∷ []) (sym (hand.met.at i (cell_of w v) here) ∙ ap (λ n. list_at v.held (at_line w n)) number);
@@ -184,25 +184,25 @@ returns-clause-book g c =
     let p = c.requires.prepared in
     let same : states_of (cells_of w vs) ≡ site_states vs = states_are w vs in
     let gone : HaveGoneOn w c.args.next.now a (length vs) vs (held_cells c.renew_row.new.cells.items) c.extend.new.holder c.renew_row.new.book c.args.asker.now c.renew_row.new.asker =
-        subst (λ n. HaveGoneOn w c.args.next.now a n vs (held_cells c.renew_row.new.cells.items) c.extend.new.holder c.renew_row.new.book c.args.asker.now c.renew_row.new.asker) (sym (count_is g e)) c.renew_row.ensures.gone in
+    subst (λ n. HaveGoneOn w c.args.next.now a n vs (held_cells c.renew_row.new.cells.items) c.extend.new.holder c.renew_row.new.book c.args.asker.now c.renew_row.new.asker) (sym (count_is g e)) c.renew_row.ensures.gone in
     let ready = c.renew_row.ensures.prepared in
     let round : plain_round c.closed-round.result.0 ≡ record { base = b.base; segments = segments_of (site_states vs); closing = Some (closing_of w b (site_states vs) home call c.args.broken) } =
-        c.closed-round.ensures.round ∙ (λ i. record {
-          base = (ap (λ (q : PreparedValue). q.base) ready ∙ p.base) i;
-          segments = segments_are g f i;
-          closing = Some ((ap (λ (q : PreparedValue). q.closing) ready ∙ p.closing) i);
-        }) in
+    c.closed-round.ensures.round ∙ (λ i. record {
+      base = (ap (λ (q : PreparedValue). q.base) ready ∙ p.base) i;
+      segments = segments_are g f i;
+      closing = Some ((ap (λ (q : PreparedValue). q.closing) ready ∙ p.closing) i);
+    }) in
     let rounds = ap (map plain_round) c.push_round.ensures ∙ map-append plain_round c.args.closed.now.items (c.closed-round.result.0 ∷ []) ∙ ap (λ r. map plain_round c.args.closed.now.items ++ r ∷ []) round in
     let last = c.closed-round.ensures.next ∙ ap (λ (q : PreparedValue). q.next) ready ∙ p.next in
     closed.book_again w c.args.next.now a vs (held_cells c.renew_row.new.cells.items) c.args.book.now c.extend.new.holder c.renew_row.new.book c.args.asker.now c.renew_row.new.asker
-      gone c.requires.numbers (grew_same c.args.book.now c.extend.new.holder (bases_line w) (bases_line w) c.args.next.now (extended g e) refl)
-      home call c.args.broken b (record { closed = map plain_round c.push_round.new.closed.items; base = c.closed-round.result.1.items; held = c.renew_row.new.book })
-      c.accepted.ensures (count_is g e ∙ c.requires.count) c.requires.hand
-      (subst (λ (xs : List SiteState). BreaksCall w xs home call c.args.broken) (sym same) c.requires.breaks)
-      (c.requires.next ∙ p.next ∙ ap (λ (xs : List SiteState). next_base w b xs call) (sym same))
-      (c.requires.answer ∙ (λ i. closing_answer (p.round i) (p.closing i)) ∙ ap (λ (xs : List SiteState). closing_answer (length b.closed) (closing_of w b xs home call c.args.broken)) (sym same))
-      ((λ i. record { closed = rounds i; base = last i }) ∙ ap (λ (xs : List SiteState). after_closing w b xs home call c.args.broken) (sym same))
-      refl
+    gone c.requires.numbers (grew_same c.args.book.now c.extend.new.holder (bases_line w) (bases_line w) c.args.next.now (extended g e) refl)
+    home call c.args.broken b (record { closed = map plain_round c.push_round.new.closed.items; base = c.closed-round.result.1.items; held = c.renew_row.new.book })
+    c.accepted.ensures (count_is g e ∙ c.requires.count) c.requires.hand
+    (subst (λ (xs : List SiteState). BreaksCall w xs home call c.args.broken) (sym same) c.requires.breaks)
+    (c.requires.next ∙ p.next ∙ ap (λ (xs : List SiteState). next_base w b xs call) (sym same))
+    (c.requires.answer ∙ (λ i. closing_answer (p.round i) (p.closing i)) ∙ ap (λ (xs : List SiteState). closing_answer (length b.closed) (closing_of w b xs home call c.args.broken)) (sym same))
+    ((λ i. record { closed = rounds i; base = last i }) ∙ ap (λ (xs : List SiteState). after_closing w b xs home call c.args.broken) (sym same))
+    refl
 
 pub returns-clause-asked : goal.returns-clause-asked
 unfolding histories

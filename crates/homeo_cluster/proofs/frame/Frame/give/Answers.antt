@@ -52,9 +52,10 @@ between g c =
 pub extend_pair-requires-then-home-number-clause-owners : goal.extend_pair-requires-then-home-number-clause-owners
 extend_pair-requires-then-home-number-clause-owners g c =
     let e = (goal.at.extend_pair-requires-then-home-number-clause-owners g c).After-extend_pair in
-    let for : HoldsFor g.N.ClusterNaming.workload c.extend_pair.new.left c.args.answer.now.client = (between g e).each c.args.answer.now.client (own g e) in
-    ( subst (IsOwner c.extend_pair.new.left) (sym c.shut-shut.ensures) for.owns_shut
-    , subst (IsOwner c.args.book.now) (sym c.kept-kept.ensures) (c.requires.book.each c.args.answer.now.client c.requires.there).owns )
+    let for : HoldsFor g.N.ClusterNaming.workload c.extend_pair.new.left c.args.answer.now.client = (between g e).each c.args.answer.now.client (own g e) in (
+      subst (IsOwner c.extend_pair.new.left) (sym c.shut-shut.ensures) for.owns_shut,
+      subst (IsOwner c.args.book.now) (sym c.kept-kept.ensures) (c.requires.book.each c.args.answer.now.client c.requires.there).owns,
+    )
 
 pub extend_pair-requires-then-home-number-clause-left : goal.extend_pair-requires-then-home-number-clause-left
 extend_pair-requires-then-home-number-clause-left g c =
@@ -73,29 +74,32 @@ returns-then-home-number-clause-given g c =
     let written_is : c.closing_head-head.result ++ c.as_slice-then-home-number.result.now ≡ written a = ap (λ xs. c.closing_head-head.result ++ xs) (c.as_slice-then-home-number.ensures ∙ sym c.as_slice.ensures) ∙ entry g e in
     let two = c.extend_pair-then-home-number in
     given_here w c.args.number a c.args.site.now c.extend_pair.new.left two.new.left c.args.book.now two.new.right (own g e) c.requires.holds c.requires.pairs c.requires.book
-      (done_grew g e) (done_seen g e)
-      (subst (λ (x : LineEntry). Grew c.extend_pair.new.left two.new.left x.0 x.1) (λ i. (shut i, written_is i)) two.ensures.left)
-      (subst (λ (x : ℕ × ℕ). HasSeen two.new.left x.1 (list_at two.new.left x.0)) (λ i. (shut i, kept i)) two.ensures.left_seen)
-      (subst (λ (x : LineEntry). Grew c.args.book.now two.new.right x.0 x.1) (λ i. (kept i, written_is i)) two.ensures.right)
-      (subst (λ (x : ℕ × ℕ). HasSeen two.new.right x.0 (list_at two.new.right x.1)) (λ i. (shut i, kept i)) two.ensures.right_seen)
+    (done_grew g e) (done_seen g e)
+    (subst (λ (x : LineEntry). Grew c.extend_pair.new.left two.new.left x.0 x.1) (λ i. (shut i, written_is i)) two.ensures.left)
+    (subst (λ (x : ℕ × ℕ). HasSeen two.new.left x.1 (list_at two.new.left x.0)) (λ i. (shut i, kept i)) two.ensures.left_seen)
+    (subst (λ (x : LineEntry). Grew c.args.book.now two.new.right x.0 x.1) (λ i. (kept i, written_is i)) two.ensures.right)
+    (subst (λ (x : ℕ × ℕ). HasSeen two.new.right x.0 (list_at two.new.right x.1)) (λ i. (shut i, kept i)) two.ensures.right_seen)
 
 pub returns-then-home-number-clause-asked : goal.returns-then-home-number-clause-asked
 unfolding histories
 returns-then-home-number-clause-asked g c =
     let w = g.N.ClusterNaming.workload in
     let e = (goal.at.returns-then-home-number-clause-asked g c).After-extend_pair in
-    inl (own g e, record {
-      grew = asked_grew g e;
-      seen = subst (λ l. HasSeen c.extend_pair.new.right l (list_at c.extend_pair.new.right (asked_line c.args.answer.now.client))) c.done-done.ensures c.extend_pair.ensures.right_seen;
-    })
+    inl (
+      own g e,
+      record {
+        grew = asked_grew g e;
+        seen = subst (λ l. HasSeen c.extend_pair.new.right l (list_at c.extend_pair.new.right (asked_line c.args.answer.now.client))) c.done-done.ensures c.extend_pair.ensures.right_seen;
+      },
+    )
 
 pub returns-else-home-number-clause-given : goal.returns-else-home-number-clause-given
 unfolding histories
 returns-else-home-number-clause-given g c =
     let w = g.N.ClusterNaming.workload in
     given_elsewhere w c.args.number (plain_answer c.args.answer.now) c.args.site.now c.args.book.now
-      (λ at. c.if-home-number.false (one_site w c.args.answer.now.client c.home.result c.args.number c.home.ensures.at at))
-      c.requires.holds c.requires.pairs c.requires.book
+    (λ at. c.if-home-number.false (one_site w c.args.answer.now.client c.home.result c.args.number c.home.ensures.at at))
+    c.requires.holds c.requires.pairs c.requires.book
 
 pub returns-else-home-number-clause-asked : goal.returns-else-home-number-clause-asked
 unfolding histories

@@ -31,7 +31,7 @@ done-done-requires g c =
 own : (g : Over) (c : After-as_slice g) → IsClientAt g.N.ClusterNaming.workload c.cell.inside.site.state.number c.args.change.call.client
 own g c =
     let here : IsClientAt g.N.ClusterNaming.workload c.args.cell.now.site.state.number c.args.change.call.client =
-        client_at g.N.ClusterNaming.workload c.args.change.call c.args.cell.now.site.state.number c.requires.call.at_site in
+    client_at g.N.ClusterNaming.workload c.args.change.call c.args.cell.now.site.state.number c.requires.call.at_site in
     let same : c.args.cell.now.site.state.number ≡ c.cell.inside.site.state.number = search rules in
     subst (λ n. IsClientAt g.N.ClusterNaming.workload n c.args.change.call.client) same here
 
@@ -59,8 +59,8 @@ entry g c =
     let round : c.round.result ≡ x.round = c.round.ensures in
     let change : IsChange w x c.args.change.call c.args.change = search rules in
     written_entry x.round x.number (local_entry w x c.args.change.call) c.local_head-head.result c.as_slice.result.now
-      (c.local_head-head.ensures ∙ (λ i. head_of c.args.change.call.seq (number i) (round i) Local))
-      (c.as_slice.ensures ∙ change.prints)
+    (c.local_head-head.ensures ∙ (λ i. head_of c.args.change.call.seq (number i) (round i) Local))
+    (c.as_slice.ensures ∙ change.prints)
 
 abbrev LineEntry : Type 0
 LineEntry = ℕ × List ℤ
@@ -77,11 +77,11 @@ invariant_of-cell g c =
     let made : c.commit.new.self.state ≡ after_local (plain_workload c.cell.inside.site.work) x call = ap (λ (v : SiteValue). v.state) c.commit.ensures in
     let equal : list_at c.cell.inside.holder c.done-done.result ≡ list_at c.args.asker.now call.client = c.extend_pair.ensures.equal in
     cell_local w c.cell.inside.site c.commit.new.self c.cell.inside.holder c.extend_pair.new.left call
-      c.accepted.ensures c.cell.invariant (subst (λ (y : SiteState). IsCallAt w y.number call) same c.requires.call) change.keeps work
-      (made ∙ ap (λ v. after_local v x call) c.cell.invariant.work)
-      (c.requires.next ∙ ap (λ xs. suc (length xs)) (sym equal ∙ ap (list_at c.cell.inside.holder) (line g e)))
-      (subst (λ (x : LineEntry). Grew c.cell.inside.holder c.extend_pair.new.left x.0 x.1) (λ i. (line g e i, entry g e i)) c.extend_pair.ensures.left)
-      (subst (λ l. HasSeen c.extend_pair.new.left (asked_line call.client) (list_at c.extend_pair.new.left l)) (line g e) c.extend_pair.ensures.left_seen)
+    c.accepted.ensures c.cell.invariant (subst (λ (y : SiteState). IsCallAt w y.number call) same c.requires.call) change.keeps work
+    (made ∙ ap (λ v. after_local v x call) c.cell.invariant.work)
+    (c.requires.next ∙ ap (λ xs. suc (length xs)) (sym equal ∙ ap (list_at c.cell.inside.holder) (line g e)))
+    (subst (λ (x : LineEntry). Grew c.cell.inside.holder c.extend_pair.new.left x.0 x.1) (λ i. (line g e i, entry g e i)) c.extend_pair.ensures.left)
+    (subst (λ l. HasSeen c.extend_pair.new.left (asked_line call.client) (list_at c.extend_pair.new.left l)) (line g e) c.extend_pair.ensures.left_seen)
 
 pub returns-clause-asked : goal.returns-clause-asked
 returns-clause-asked g c =
@@ -89,4 +89,4 @@ returns-clause-asked g c =
     let e = (goal.at.returns-clause-asked g c).After-as_slice in
     let same : c.cell.inside.site.state ≡ c.args.cell.now.site.state = search rules in
     subst (λ (x : SiteState). Grew c.args.asker.now c.extend_pair.new.right (asked_line c.args.change.call.client) (written (local_answer x.round x.number (local_entry w x c.args.change.call)))) same
-      (subst (λ (x : List ℤ). Grew c.args.asker.now c.extend_pair.new.right (asked_line c.args.change.call.client) x) (entry g e) c.extend_pair.ensures.right)
+    (subst (λ (x : List ℤ). Grew c.args.asker.now c.extend_pair.new.right (asked_line c.args.change.call.client) x) (entry g e) c.extend_pair.ensures.right)

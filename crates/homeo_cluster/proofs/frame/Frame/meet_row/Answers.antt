@@ -34,10 +34,10 @@ returns-clause-met g c =
     let cells = c.meet_row_clients.ensures.cells ∙ c.meet_row_bases.ensures.cells in
     let book = same_book w _ _ _ c.meet_row_bases.ensures.book c.meet_row_clients.ensures.book in
     let at : MetAt w (length vs) (cells_of w vs) (book_lists w c.args.book.now.held) =
-        subst (λ n. MetAt w n (cells_of w vs) (book_lists w c.args.book.now.held)) (sym count) c.meet_row_bases.ensures.met in
+    subst (λ n. MetAt w n (cells_of w vs) (book_lists w c.args.book.now.held)) (sym count) c.meet_row_bases.ensures.met in
     let shut : MetShut w (length w.clients) (cells_of w vs) (book_lists w c.args.book.now.held) =
-        subst (λ cs. MetShut w (length w.clients) cs (book_lists w c.args.book.now.held)) c.meet_row_bases.ensures.cells
-          (subst (λ l. MetShut w (length w.clients) (cells_of w (held_cells c.meet_row_bases.new.cells.items)) l) c.meet_row_bases.ensures.book.lists c.meet_row_clients.ensures.met) in
+    subst (λ cs. MetShut w (length w.clients) cs (book_lists w c.args.book.now.held)) c.meet_row_bases.ensures.cells
+    (subst (λ l. MetShut w (length w.clients) (cells_of w (held_cells c.meet_row_bases.new.cells.items)) l) c.meet_row_bases.ensures.book.lists c.meet_row_clients.ensures.met) in
     subst (λ (x : Hand). InHand w x.0 x.1 x.2)
-      (λ i. (record { closed = sym book.closed i; base = sym book.base i }, sym book.lists i, sym cells i))
-      (hand_all w vs (book_state c.args.book.now) (book_lists w c.args.book.now.held) c.facts.ensures.facts (count ∙ c.requires.count) c.requires.numbers at shut)
+    (λ i. (record { closed = sym book.closed i; base = sym book.base i }, sym book.lists i, sym cells i))
+    (hand_all w vs (book_state c.args.book.now) (book_lists w c.args.book.now.held) c.facts.ensures.facts (count ∙ c.requires.count) c.requires.numbers at shut)

@@ -45,9 +45,10 @@ move_entry-requires-clause-there g c =
 pub move_entry-requires-clause-owners : goal.move_entry-requires-clause-owners
 move_entry-requires-clause-owners g c =
     let e = (goal.at.move_entry-requires-clause-owners g c).After-entry-item in
-    let client = c.entry-item.result.call.client in
-    ( (c.loop-entry.invariant.holds.each client (own g e)).owns_shut
-    , (c.loop-entry.invariant.keeps.book.each client (client_lt g.N.ClusterNaming.workload c.args.site.now.state.number client (own g e))).owns )
+    let client = c.entry-item.result.call.client in (
+      (c.loop-entry.invariant.holds.each client (own g e)).owns_shut,
+      (c.loop-entry.invariant.keeps.book.each client (client_lt g.N.ClusterNaming.workload c.args.site.now.state.number client (own g e))).owns,
+    )
 
 pub move_entry-requires-clause-site : goal.move_entry-requires-clause-site
 move_entry-requires-clause-site g c =
@@ -64,7 +65,7 @@ pub move_entry-requires-clause-room : goal.move_entry-requires-clause-room
 move_entry-requires-clause-room g c =
     let e = (goal.at.move_entry-requires-clause-room g c).After-entry-item in
     moving_room g.N.ClusterNaming.workload c.args.site.now.state c.loop-entry.entry-index c.args.holder.now c.args.book.now c.loop-entry.holder c.loop-entry.book c.entry-item.result.call.client
-      c.requires.facts c.requires.short c.loop-entry.invariant (own g e)
+    c.requires.facts c.requires.short c.loop-entry.invariant (own g e)
 
 pub loop-entry-preserved : goal.loop-entry-preserved
 unfolding histories
@@ -78,12 +79,12 @@ loop-entry-preserved g c =
     let number : c.number-number.result ≡ x.number = c.number-number.ensures in
     let next : suc k ≡ k + 1 = omega arith in
     let left : Grew c.loop-entry.holder c.move_entry.new.site (shut_line w m.call.client) (written (local_answer x.round x.number m)) =
-        subst (λ (y : ℕ × ℕ). Grew c.loop-entry.holder c.move_entry.new.site (shut_line w m.call.client) (written (local_answer y.0 y.1 m))) (λ i. (round i, number i)) c.move_entry.ensures.site in
+    subst (λ (y : ℕ × ℕ). Grew c.loop-entry.holder c.move_entry.new.site (shut_line w m.call.client) (written (local_answer y.0 y.1 m))) (λ i. (round i, number i)) c.move_entry.ensures.site in
     let right : Grew c.loop-entry.book c.move_entry.new.book (kept_line w m.call.client) (written (local_answer x.round x.number m)) =
-        subst (λ (y : ℕ × ℕ). Grew c.loop-entry.book c.move_entry.new.book (kept_line w m.call.client) (written (local_answer y.0 y.1 m))) (λ i. (round i, number i)) c.move_entry.ensures.book in
+    subst (λ (y : ℕ × ℕ). Grew c.loop-entry.book c.move_entry.new.book (kept_line w m.call.client) (written (local_answer y.0 y.1 m))) (λ i. (round i, number i)) c.move_entry.ensures.book in
     subst (λ n. IsMoving w x n c.args.holder.now c.args.book.now c.move_entry.new.site c.move_entry.new.book) next
-      (moving_more w x c.args.holder.now c.args.book.now c.loop-entry.holder c.move_entry.new.site c.loop-entry.book c.move_entry.new.book k m
-        c.requires.facts (own g e) (at g e) left right c.move_entry.ensures.site_seen c.move_entry.ensures.book_seen c.loop-entry.invariant)
+    (moving_more w x c.args.holder.now c.args.book.now c.loop-entry.holder c.move_entry.new.site c.loop-entry.book c.move_entry.new.book k m
+    c.requires.facts (own g e) (at g e) left right c.move_entry.ensures.site_seen c.move_entry.ensures.book_seen c.loop-entry.invariant)
 
 pub returns : goal.returns
 unfolding histories

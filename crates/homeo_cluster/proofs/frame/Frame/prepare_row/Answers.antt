@@ -47,8 +47,8 @@ prepare-requires-clause-within g c =
     let e = (goal.at.prepare-requires-clause-within g c).After-accepted in
     let sum : c.in_ok-gather.gather.sum ≡ gathered c.args.book.now.base (sites g e) = ap (λ (x : GatherValue). x.sum) c.in_ok-gather.ensures.gathered in
     subst (λ w. IsWithin (schema_of w) c.in_ok-gather.gather.sum) (sym c.self.invariant.named)
-      (subst (IsWithin (schema_of g.N.ClusterNaming.workload)) (sym sum)
-        (last_within g.N.ClusterNaming.workload (book_state c.args.book.now) (sites g e) c.accepted.ensures (joined g e)))
+    (subst (IsWithin (schema_of g.N.ClusterNaming.workload)) (sym sum)
+    (last_within g.N.ClusterNaming.workload (book_state c.args.book.now) (sites g e) c.accepted.ensures (joined g e)))
 
 pub returns : goal.returns
 unfolding histories cores
@@ -64,7 +64,7 @@ returns g c =
     let home : site_or_zero (plain_workload c.self.inside.compiled.value) call ≡ c.args.home = ap (λ (v : s.Workload). site_or_zero v call) named ∙ ap (λ o. unwrap_or o 0) c.requires.breaks.at_site.at_site in
     let cells : length c.args.cells.now.items ≡ vec_len c.args.cells.now = search rules in
     let count : sites_of (plain_workload c.self.inside.compiled.value) ≡ length (sites g e) =
-        ap sites_of named ∙ sym (states_long (held_cells c.args.cells.now.items) ∙ (held_long c.args.cells.now.items ∙ (cells ∙ c.requires.count))) in
+    ap sites_of named ∙ sym (states_long (held_cells c.args.cells.now.items) ∙ (held_long c.args.cells.now.items ∙ (cells ∙ c.requires.count))) in
     let few : c.in_ok-gather.gather.round + 1 < 9223372036854775808 = c.in_ok-gather.ensures.few in
     record {
       work = ap (λ (p : PreparedValue). plain_workload p.work) is ∙ named;

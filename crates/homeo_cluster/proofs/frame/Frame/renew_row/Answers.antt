@@ -56,7 +56,7 @@ stands g c =
 stood : (g : Over) (c : After-deref_mut g) → slice_get (before g c) c.loop-i.i ≡ Some c.deref_mut.result.now
 stood g c =
     on.before_is g.N.ClusterNaming.workload c.args.next.now (plain_answer c.args.answer.now) c.loop-i.i (before g c) (now g c) c.args.book.now c.loop-i.book c.args.asker.now c.loop-i.asker
-      c.loop-i.invariant.gone c.deref_mut.result.now (inside g c) (stands g c)
+    c.loop-i.invariant.gone c.deref_mut.result.now (inside g c) (stands g c)
 
 number : (g : Over) (c : After-deref_mut g) → c.deref_mut.result.now.site.state.number ≡ c.loop-i.i
 number g c = c.requires.numbers c.loop-i.i c.deref_mut.result.now (stood g c)
@@ -64,7 +64,7 @@ number g c = c.requires.numbers c.loop-i.i c.deref_mut.result.now (stood g c)
 ready : (g : Over) (c : After-deref_mut g) → IsReady g.N.ClusterNaming.workload c.args.next.now c.loop-i.book c.loop-i.i c.deref_mut.result.now
 ready g c =
     on.ready_now g.N.ClusterNaming.workload c.args.next.now (plain_answer c.args.answer.now) c.loop-i.i (before g c) (now g c) c.args.book.now c.loop-i.book c.args.asker.now c.loop-i.asker
-      c.loop-i.invariant.gone c.deref_mut.result.now c.requires.each (stands g c) (inside g c)
+    c.loop-i.invariant.gone c.deref_mut.result.now c.requires.each (stands g c) (inside g c)
 
 at_own : (g : Over) (c : After-deref_mut g) (client : ℕ) → IsClientAt g.N.ClusterNaming.workload c.deref_mut.result.now.site.state.number client → IsClientAt g.N.ClusterNaming.workload c.loop-i.i client
 at_own g c client own = subst (λ n. IsClientAt g.N.ClusterNaming.workload n client) (number g c) own
@@ -113,7 +113,7 @@ unfolding histories
 renew-requires-clause-asker g c own =
     let e = (goal.at.renew-requires-clause-asker g c).After-deref_mut in
     on.asker_now g.N.ClusterNaming.workload c.args.next.now (plain_answer c.args.answer.now) c.loop-i.i (before g e) (now g e) c.args.book.now c.loop-i.book c.args.asker.now c.loop-i.asker
-      c.loop-i.invariant.gone (at_own g e c.args.answer.now.client own) c.requires.asker
+    c.loop-i.invariant.gone (at_own g e c.args.answer.now.client own) c.requires.asker
 
 pub loop-i-preserved : goal.loop-i-preserved
 unfolding cores
@@ -135,22 +135,22 @@ loop-i-preserved g c =
     let renewed : IsRenewed w c.args.next.now a v c.renew.new.cell c.loop-i.book c.renew.new.book = subst (λ n. IsRenewed w n a v c.renew.new.cell c.loop-i.book c.renew.new.book) next c.renew.ensures.renewed in
     let asked : IsAsked w i a c.loop-i.asker c.renew.new.asker = subst (λ n. IsAsked w n a c.loop-i.asker c.renew.new.asker) is c.renew.ensures.asked in
     let segments : slice_set c.loop-i.prepared.segments x.number x.segment ≡ first_from p.segments (segments_of sites) (i + 1) =
-        ap (λ (q : PreparedValue). slice_set q.segments x.number x.segment) same
-        ∙ ap (λ n. slice_set (first_from p.segments (segments_of sites) i) n x.segment) is
-        ∙ from_next p.segments (segments_of sites) i x.segment (get_map (λ (y : SiteState). y.segment) sites i x (state_at g e))
-        ∙ ap (first_from p.segments (segments_of sites)) plus in
+    ap (λ (q : PreparedValue). slice_set q.segments x.number x.segment) same
+    ∙ ap (λ n. slice_set (first_from p.segments (segments_of sites) i) n x.segment) is
+    ∙ from_next p.segments (segments_of sites) i x.segment (get_map (λ (y : SiteState). y.segment) sites i x (state_at g e))
+    ∙ ap (first_from p.segments (segments_of sites)) plus in
     let long : length (held_cells c.args.cells.now.items) ≡ length sites = sym (states_long (before g e)) in
     let within : i < length (before g e) = inside g e in
     let waiting : slice_set c.loop-i.prepared.waiting x.number false ≡ first_from p.waiting (replicate (length sites) false) (i + 1) =
-        ap (λ (q : PreparedValue). slice_set q.waiting x.number false) same
-        ∙ ap (λ n. slice_set (first_from p.waiting (replicate (length sites) false) i) n false) is
-        ∙ from_next p.waiting (replicate (length sites) false) i false (same_in (length sites) i false (omega (arith, within, long)))
-        ∙ ap (first_from p.waiting (replicate (length sites) false)) plus in
+    ap (λ (q : PreparedValue). slice_set q.waiting x.number false) same
+    ∙ ap (λ n. slice_set (first_from p.waiting (replicate (length sites) false) i) n false) is
+    ∙ from_next p.waiting (replicate (length sites) false) i false (same_in (length sites) i false (omega (arith, within, long)))
+    ∙ ap (first_from p.waiting (replicate (length sites) false)) plus in
     record {
       long = length-set gs i _ ∙ c.loop-i.invariant.long;
       gone = subst (λ vs. HaveGoneOn w c.args.next.now a (i + 1) (before g e) vs c.args.book.now c.renew.new.book c.args.asker.now c.renew.new.asker) (sym (held_set gs i _))
           (on.gone_more w c.args.next.now a i (before g e) (now g e) c.args.book.now c.loop-i.book c.args.asker.now c.loop-i.asker c.loop-i.invariant.gone v c.renew.new.cell c.renew.new.book c.renew.new.asker
-            (stands g e) within is renewed asked);
+          (stands g e) within is renewed asked);
       prepared = c.renew.ensures.taken ∙ (λ j. record {
         work = (same j).work;
         round = (same j).round;
