@@ -36,7 +36,7 @@ pub record IsFew (n : ℤ) : Type 0 where
   pub some : pos 0 ≤ℤ n
   pub few : n ≤ℤ pos 16
 
-none_when : (b : Bool) (f : Fault) → when b (f ∷ []) ≡ [] → b ≡ false
+pub none_when : (b : Bool) (f : Fault) → when b (f ∷ []) ≡ [] → b ≡ false
 unfolding meanings
 none_when true f e = absurd (cc)
 none_when false f e = refl

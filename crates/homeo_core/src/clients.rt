@@ -1,6 +1,6 @@
 //! What a workload says of its sites and clients.
 
-ghost use Rattle.std.specs.Prelude.{◌≡◌, ◌<◌, Some, pos, ◌≤ℤ◌, length, slice_get};
+ghost use Rattle.std.specs.Prelude.{◌≡◌, ◌<◌, ◌≤◌, ◌^◌, Some, pos, ◌≤ℤ◌, length, slice_get};
 ghost use Rattle.homeo_syntax.specs.SourceView.{plain_client, plain_workload};
 ghost use Rattle.homeo_meaning.specs.Acceptance.{IsAccepted};
 ghost use Rattle.homeo_meaning.specs.Schema.{nat_of};
@@ -10,24 +10,26 @@ ghost use Rattle.homeo_history.specs.Legal.{IsClientAt, call_count};
 use homeo_meaning::Accepted;
 use homeo_syntax::Client;
 
-/// How many sites there are.
-pub(crate) fn site_count(w: &Accepted) -> u32
-    ensures { result ≡ sites_of (plain_workload w.now) }
+/// How many sites there are, from 1 to 16.
+pub fn site_count(w: &Accepted) -> u32
+    ensures count { result ≡ sites_of (plain_workload w.now) }
+    ensures few { result ≤ 16 }
 {
     natural(w.workload().sites.value)
 }
 
-/// How many clients there are.
+/// How many clients there are, 64 at most.
 #[tactic(auto, unfolding(homeo_syntax::specs::Key::words))]
-pub(crate) fn client_count(w: &Accepted) -> u64
+pub fn client_count(w: &Accepted) -> u64
     ensures count { result ≡ length (plain_workload w.now).clients }
+    ensures few { result ≤ 64 }
     ensures accepted { IsAccepted (plain_workload w.now) }
 {
     w.workload().clients.as_slice().len() as u64
 }
 
 /// The site of a client.
-pub(crate) fn site_of(w: &Accepted, client: u32) -> u32
+pub fn site_of(w: &Accepted, client: u32) -> u32
     requires exists { client < length (plain_workload w.now).clients }
     ensures { IsClientAt (plain_workload w.now) result client }
 {
@@ -35,9 +37,10 @@ pub(crate) fn site_of(w: &Accepted, client: u32) -> u32
 }
 
 /// How many calls a client has.
-pub(crate) fn call_count(w: &Accepted, client: u32) -> u64
+pub fn call_count(w: &Accepted, client: u32) -> u64
     requires exists { client < length (plain_workload w.now).clients }
-    ensures { result ≡ call_count (plain_workload w.now) client }
+    ensures count { result ≡ call_count (plain_workload w.now) client }
+    ensures few { result < 2 ^ 63 }
 {
     client_of(w, client).calls.as_slice().len() as u64
 }

@@ -68,7 +68,7 @@ impl Gather {
     }
 
     /// The base with the deltas of the sites that were added. It takes no memory.
-    pub(crate) fn into_values(self) -> Database
+    pub fn into_values(self) -> Database
         ensures { result.items ≡ self.sum }
     {
         let Gather {

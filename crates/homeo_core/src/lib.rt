@@ -2,7 +2,7 @@
 //! else on the gathered database, where it closes the round.
 #![tactic(auto)]
 
-mod clients;
+pub mod clients;
 mod gather;
 pub mod laws;
 mod local;
@@ -11,5 +11,5 @@ mod rounds;
 mod steps;
 
 pub use gather::Gather;
-pub use prepared::Prepared;
+pub use prepared::{Prepared, plan_at};
 pub use steps::Core;

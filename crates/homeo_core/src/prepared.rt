@@ -141,9 +141,13 @@ fn run_call(
     eval_call(alloc, w, &declared, call, database)
 }
 
-/// The plan of the round that begins at a base.
+/// The plan of the round that begins at a base, which is within the workload's bounds.
+///
+/// # Errors
+///
+/// `Memory` when out of memory.
 #[tactic(auto, unfolding(homeo_build::specs::Key::words))]
-pub(crate) fn plan_at(
+pub fn plan_at(
     alloc: Global,
     c: &Compiled,
     base: &Database,
@@ -241,6 +245,13 @@ impl Prepared {
         ensures { plain_answer result.now ≡ closing_answer self.now.round self.now.closing }
     {
         &self.answer
+    }
+
+    /// Lends the base of the next round. It takes no memory.
+    pub fn next(&self) -> &Database
+        ensures { result.now.items ≡ self.now.next }
+    {
+        &self.next
     }
 
     /// Gives a site its start in the next round, and takes its segment. It takes no memory. The site is in the round and on

@@ -1,6 +1,8 @@
 use Rattle.std.proofs.Common.{◌∙◌, arith}
 use Rattle.std.proofs.lemmas.Int.{ints}
+use Rattle.homeo_syntax.specs.SourceView.{plain_workload}
 use Rattle.homeo_build.proofs.FewSites.{read_few, read_is}
+use Rattle.homeo_core.proofs.FewClients.{sites_of_few}
 use Rattle.homeo_core.proofs.clients.site_count.Goals as goal
 
 pub natural-requires-clause-some : goal.natural-requires-clause-some
@@ -11,5 +13,11 @@ natural-requires-clause-some c =
 pub natural-requires-clause-few : goal.natural-requires-clause-few
 natural-requires-clause-few c = (read_few c.args.w.now c.workload.result.now c.workload.ensures.value c.workload.ensures.accepted).few
 
-pub returns : goal.returns
-returns c = c.natural.ensures ∙ read_is c.args.w.now c.workload.result.now c.workload.ensures.value c.workload.ensures.accepted
+pub returns-clause-count : goal.returns-clause-count
+returns-clause-count c = c.natural.ensures ∙ read_is c.args.w.now c.workload.result.now c.workload.ensures.value c.workload.ensures.accepted
+
+pub returns-clause-few : goal.returns-clause-few
+returns-clause-few c =
+    let few = sites_of_few (plain_workload c.args.w.now) c.workload.ensures.accepted in
+    let is = c.natural.ensures ∙ read_is c.args.w.now c.workload.result.now c.workload.ensures.value c.workload.ensures.accepted in
+    omega (arith, is, few)

@@ -1,0 +1,5 @@
+pub mod Events
+pub mod Facts
+pub mod Key
+pub mod Laws
+pub mod Written

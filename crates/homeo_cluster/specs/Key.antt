@@ -1,0 +1,3 @@
+-- What a proof names to look into the places of lines.
+unfoldable pub places : Unit {0}
+places = tt
