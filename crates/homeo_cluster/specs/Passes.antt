@@ -65,3 +65,7 @@ pub record AreBegun (w : s.Workload) (passes : List PassValue) : Type 0 where
 pub record AreFinished (before after : List PassValue) : Type 0 where
   pub same : map (λ (p : PassValue). p.client) after ≡ map (λ (p : PassValue). p.client) before
   pub left : All (λ (p : PassValue). p.left ≡ 0) after
+
+-- the client got an answer to each of its calls
+abbrev pub HasAllAnswers : s.Workload → PassValue → Type 0
+HasAllAnswers w p = length p.log ≡ call_count w p.client
