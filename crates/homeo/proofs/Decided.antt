@@ -11,10 +11,10 @@ use Rattle.homeo_meaning.specs.declared.rules.Fault.{Fault}
 use Rattle.homeo_meaning.specs.Faults.{faults, IsFaultIn, IsRefusedBy}
 use Rattle.homeo_meaning.specs.Key.{words as meanings}
 use Rattle.homeo_meaning.specs.Verdict.{Accepts, IsRefused, text_limit}
-use Rattle.homeo.specs.Command.{word_of, Say, purpose_of}
+use Rattle.homeo.specs.Command.{word_of, Say, ReadFor, purpose_of}
 use Rattle.homeo.specs.Outcome.{IsMade, IsRefusedAt, TellsRefused, TellsAccepted}
 use Rattle.homeo.specs.declared.command.Command.{Command}
-use Rattle.homeo.specs.declared.command.Command.TheVariants.{Steps, Tables, Treaty}
+use Rattle.homeo.specs.declared.command.Command.TheVariants.{Steps, Run, Tables, Treaty}
 
 -- no fault is in an empty list
 none_there : (all : List Fault) (f : Fault) → all ≡ [] → IsFaultIn f all → ⊥
@@ -53,29 +53,35 @@ refuses_long old new text purpose r e g is = inl (record { long = omega (arith, 
 abbrev by_letter : List (List ℕ) → Command
 by_letter words =
     let letter = get_or (get_or words 0 []) 1 0 in
-    cond (letter == 97) Tables (cond (letter == 114) Treaty Steps)
+    cond (letter == 97) Tables (cond (letter == 114) Treaty (cond (letter == 117) Run Steps))
 
 its_letter : (c : Command) → by_letter (word_of c ∷ []) ≡ c
 its_letter Steps = refl
+its_letter Run = refl
 its_letter Tables = refl
 its_letter Treaty = refl
 
 -- words are one command
-pub one_command : (words : List (List ℕ)) (c d : Command) → Say words c → Say words d → c ≡ d
+one_command : (words : List (List ℕ)) (c d : Command) → Say words c → Say words d → c ≡ d
 one_command words c d a b = sym (its_letter c) ∙ ap by_letter (sym a ∙ b) ∙ its_letter d
+
+-- for one purpose
+one_purpose : (words : List (List ℕ)) (p q : Purpose) → ReadFor words p → ReadFor words q → p ≡ q
+one_purpose words p q (c, said, for) (d, said', for') = sym for ∙ ap purpose_of (one_command words c d said said') ∙ for'
 
 -- where the output was made, no refused text was told
 pub output_not_refused : (words : List (List ℕ)) (old new : Option (List ℕ)) (output : List ℕ) → IsMade words old new output → TellsRefused words old → ⊥
-output_not_refused words old new output o (c, text, r, said, told, refused) =
+output_not_refused words old new output o (p, text, r, asked, told, refused) =
     let same_text : text ≡ o.text = told_is_given old new text o.text told o.read in
-    let same : c ≡ o.command = one_command words c o.command said o.said in
-    accepted_not_refused o.text (purpose_of o.command) o.made.workload r o.made.accepted
-    (subst (λ d. IsRefused o.text (purpose_of d) r) same (subst (λ x. IsRefused x (purpose_of c) r) same_text refused))
+    let same : p ≡ o.purpose = one_purpose words p o.purpose asked o.asked in
+    accepted_not_refused o.text o.purpose o.made.workload r o.made.accepted
+    (subst (λ q. IsRefused o.text q r) same (subst (λ x. IsRefused x p r) same_text refused))
 
 -- where the text told is refused, no accepted text was told
 pub refused_not_accepted : (words : List (List ℕ)) (old : Option (List ℕ)) (r : Refusal) → IsRefusedAt words old r → TellsAccepted words old → ⊥
-refused_not_accepted words old r refused (c, text, w, said, told, accepted) =
-    accepted_not_refused text (purpose_of c) w r accepted (refused c text said told)
+refused_not_accepted words old r (q, asked', refused) (p, text, w, asked, told, accepted) =
+    let same : q ≡ p = one_purpose words q p asked' asked in
+    accepted_not_refused text p w r accepted (subst (λ p. IsRefused text p r) same (refused text told))
 
 -- what the reader refuses is refused
 pub refuses_unread : (text : List ℕ) (purpose : Purpose) (r : Refusal) → length text ≤ text_limit → IsUnread text r → IsRefused text purpose r

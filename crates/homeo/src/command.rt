@@ -11,6 +11,8 @@ use homeo_syntax::{List, Text};
 pub enum Command {
     /// Runs the calls in the order of the schedule, and writes the report.
     Steps,
+    /// Runs the calls of each client in work of its own, and writes the report.
+    Run,
     /// Writes the symbolic tables of the ground calls, and their joint table.
     Tables,
     /// Writes the treaties at the initial database.
@@ -24,6 +26,8 @@ impl Command {
     {
         if word == "steps" {
             Some(Command::Steps)
+        } else if word == "run" {
+            Some(Command::Run)
         } else if word == "tables" {
             Some(Command::Tables)
         } else if word == "treaty" {
@@ -49,6 +53,7 @@ impl Command {
     {
         match self {
             Command::Steps => Purpose::Steps,
+            Command::Run => Purpose::Run,
             Command::Tables => Purpose::Tables,
             Command::Treaty => Purpose::Treaty,
         }

@@ -1,6 +1,7 @@
 //! The top call: a text is read, checked, run and answered by a report.
 #![tactic(auto)]
 
+mod clients;
 mod command;
 pub mod laws;
 mod order;

@@ -14,9 +14,12 @@ use crate::status::{
     AT, MEMORY_LINE, READ_FAULT_LINE, REFUSED, Status, USAGE_LINE, WRITE_FAULT_LINE,
 };
 use crate::stop::Stop;
+use homeo_cluster::Gate;
 use homeo_io::{Failed, ReadError, Sink, Source, read_all, write_all};
 use homeo_syntax::{List, Refusal, Text};
 use std::alloc::Global;
+use std::sync::Wait;
+use std::thread::Threads;
 
 /// The most bytes that a text may have.
 const TEXT_LIMIT: usize = 1_048_576;
@@ -30,17 +33,21 @@ const TOO_LONG: Refusal = Refusal {
 /// Runs the command that the words are, on the text that the source gives:
 ///
 /// - `steps` runs the calls one after another in the order of the schedule, and writes the report;
+/// - `run` runs the calls of each client in work of its own, and writes the report;
 /// - `tables` writes the symbolic tables of the ground calls, and their joint table;
 /// - `treaty` writes the treaties at the initial database.
 ///
 /// The words don't include the program's name. The output goes to `out`, which is offered bytes only when the whole output
-/// has been made. A fault of `complaints` changes no status.
-pub fn run<S: Source, O: Sink, E: Sink>(
+/// has been made. A fault of `complaints` changes no status. Under `run` it may wait for locks and workers, and the gate is told
+/// of each call.
+pub fn run<R: Threads + Wait + Sync, S: Source, O: Sink, E: Sink, G: Gate>(
+    rt: &R,
     alloc: Global,
     words: &List<Text>,
     source: &mut S,
     out: &mut O,
     complaints: &mut E,
+    gate: &G,
 ) -> Status
     // Status 1, exactly where the words are no command. Nothing is read.
     ensures usage { result ≡ Status.Usage → ¬ IsCommand words.now.items }
@@ -77,7 +84,7 @@ pub fn run<S: Source, O: Sink, E: Sink>(
         → ¬ Rose (S.faults source.old) (S.faults source.new) → ¬ Rose (O.faults out.old) (O.faults out.new)
         → (result ≡ Status.Done) ⊎ (result ≡ Status.Memory) }
 {
-    match make_output(alloc, words, source) {
+    match make_output(rt, alloc, words, source, gate) {
         Ok(output) => match write_all(out, &output) {
             Ok(()) => Status::Done,
             Err(Failed) => {
@@ -90,10 +97,12 @@ pub fn run<S: Source, O: Sink, E: Sink>(
 }
 
 // Makes the whole output, and writes nothing.
-fn make_output<S: Source>(
+fn make_output<R: Threads + Wait + Sync, S: Source, G: Gate>(
+    rt: &R,
     alloc: Global,
     words: &List<Text>,
     source: &mut S,
+    gate: &G,
 ) -> Result<Vec<u8>, Stop>
     ensures output { IfOk result (λ bytes. IsMade words.now.items (S.left source.old) (S.left source.new) bytes.items) }
     ensures command { OnOk result (IsCommand words.now.items) }
@@ -108,7 +117,7 @@ fn make_output<S: Source>(
         return Err(Stop::Usage);
     };
     match read_all(alloc, source, TEXT_LIMIT) {
-        Ok(text) => output_of(alloc, command, &text),
+        Ok(text) => output_of(rt, alloc, command.purpose(), &text, gate),
         Err(ReadError::Fault) => Err(Stop::ReadFault),
         Err(ReadError::TooLong { .. }) => Err(Stop::Refused(TOO_LONG)),
         Err(ReadError::Memory) => Err(Stop::Memory),

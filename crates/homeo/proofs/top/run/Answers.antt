@@ -27,7 +27,7 @@ only_memory ReadFault result usage refused fault memory = absurd (fault refl)
 pub returns-clause-complete : goal.returns-clause-complete
 returns-clause-complete g c = λ told no_read no_write.
     only_memory c.in-Err.stop c.complain.result
-    (λ is. c.in-Err.ensures.usage (ap Err is) (told.0, told.3))
+    (λ is. c.in-Err.ensures.usage (ap Err is) (told.3.0, told.3.1))
     (λ r is. refused_not_accepted _ _ r (c.in-Err.ensures.refused r (ap Err is)) told)
     (λ is. no_read (c.in-Err.ensures.fault (ap Err is)))
     c.complain.ensures.memory
