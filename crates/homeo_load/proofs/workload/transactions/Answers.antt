@@ -1,0 +1,9 @@
+use Rattle.std.proofs.Common.{◌-◌}
+use Rattle.homeo_syntax.specs.SourceView.{plain_transaction}
+use Rattle.homeo_load.specs.Load.{load_transaction}
+use Rattle.homeo_load.proofs.Making.{place_more}
+use Rattle.homeo_load.proofs.workload.transactions.Goals as goal
+
+pub loop-i-preserved : goal.loop-i-preserved
+loop-i-preserved c =
+    place_more plain_transaction load_transaction c.loop-i.list.items c.in_ok-transaction.field-0 c.push.new.self (c.loop-i.list.spare - 1) c.loop-i.i c.loop-i.invariant c.in_ok-transaction.ensures c.in_ok-push.ensures.ok

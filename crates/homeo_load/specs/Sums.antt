@@ -1,0 +1,14 @@
+-- What a load adds to each object.
+use Rattle.std.specs.Prelude.{ℕ, ◌==◌, cond, ℤ, pos, List, map, sum_by}
+use Rattle.homeo_load.specs.Key.{words}
+use Rattle.homeo_load.specs.Draws.{Addition}
+use Rattle.homeo_load.specs.Load.{eight}
+
+-- what an addition adds to object i
+abbrev pub added_to : ℕ → Addition → ℕ
+added_to i a = cond (a.object == i) a.number 0
+
+-- for each object the sum of the numbers added to it
+abbrev pub sums : List Addition → List ℤ
+unfolding words
+sums all = map (λ i. pos (sum_by (added_to i) all)) eight

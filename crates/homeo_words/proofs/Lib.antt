@@ -1,0 +1,5 @@
+pub mod Digits
+pub mod Found
+pub mod Loads
+pub mod OneCommand
+pub mod Taken

@@ -1,0 +1,63 @@
+-- Three words that are a load.
+use Rattle.std.proofs.Common.{◌≡◌, ◌≤◌, ℕ, Bool, true, false, List, [], ◌∷◌, codes, subst, refl, arith}
+use Rattle.std.specs.Prelude.{◌&&◌, nat_le}
+use Rattle.std.specs.List.{list_all}
+use Rattle.std.proofs.lemmas.Bool.Decides.{nat_tests}
+use Rattle.homeo_syntax.specs.Lexemes.{is_digit}
+use Rattle.homeo_words.specs.declared.command.Command.{Command}
+use Rattle.homeo_words.specs.declared.command.Command.TheVariants.{Steps, Run, Tables, Treaty, Load}
+use Rattle.homeo_words.specs.Numeral.{IsNumeral}
+use Rattle.homeo_words.specs.Command.{Say}
+
+abbrev pub load_words : List ℕ → List ℕ → List (List ℕ)
+load_words n d = codes "load" ∷ n ∷ d ∷ []
+
+-- the numbers of a command that three words are
+pub record IsLoad (n d : List ℕ) (c : Command) : Type 0 where
+  pub number : ℕ
+  pub calls : ℕ
+  pub is : Load number calls ≡ c
+  pub number_is : IsNumeral 0 18446744073709551615 n number
+  pub calls_are : IsNumeral 1 20000 d calls
+
+pub load_numbers : (n d : List ℕ) (c : Command) → Say (load_words n d) c → IsLoad n d c
+load_numbers n d Steps said = cc
+load_numbers n d Run said = cc
+load_numbers n d Tables said = cc
+load_numbers n d Treaty said = cc
+load_numbers n d (Load number calls) said =
+    let all = said.said in
+    let first : said.first ≡ n = cc in
+    let second : said.second ≡ d = cc in
+    record {
+      number = number;
+      calls = calls;
+      is = refl;
+      number_is = subst (λ w. IsNumeral 0 18446744073709551615 w number) first said.number_is;
+      calls_are = subst (λ w. IsNumeral 1 20000 w calls) second said.calls_are;
+    }
+
+-- ---- a number begins with a digit
+pub record BeginsWithDigit (word : List ℕ) : Type 0 where
+  pub first : ℕ
+  pub rest : List ℕ
+  pub is : first ∷ rest ≡ word
+  pub low : 48 ≤ first
+  pub high : first ≤ 57
+
+both : (a b : Bool) → (a && b) ≡ true → (a ≡ true) × (b ≡ true)
+both true b e = (refl, e)
+both false b e = cc
+
+pub begins_with_digit : (least most : ℕ) (word : List ℕ) (v : ℕ) → IsNumeral least most word v → BeginsWithDigit word
+begins_with_digit least most [] v is = absurd (omega (arith, is.some))
+begins_with_digit least most (b ∷ bytes) v is =
+    let here = both (is_digit b) (list_all is_digit bytes) is.digits in
+    let digit = both (nat_le 48 b) (nat_le b 57) here.0 in
+    record {
+      first = b;
+      rest = bytes;
+      is = refl;
+      low = (let q : nat_le 48 b ≡ true = digit.0 in grind (arith, nat_tests));
+      high = (let q : nat_le b 57 ≡ true = digit.1 in grind (arith, nat_tests));
+    }

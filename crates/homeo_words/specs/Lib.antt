@@ -1,0 +1,3 @@
+pub mod Command
+pub mod Numeral
+pub mod inner

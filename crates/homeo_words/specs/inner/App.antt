@@ -1,0 +1,22 @@
+-- The command line as `clap` reads it.
+use Rattle.std.specs.Prelude.{true, [], codes}
+use Rattle.clap.specs.Words.{App, Rule, Text, new_app, new_rule, with_rule, with_subcommand}
+
+abbrev pub argument : Text → Rule
+argument id = record (new_rule id) { required = true }
+
+abbrev pub load : App
+load = with_rule (with_rule (new_app (codes "load")) (argument (codes "NUMBER"))) (argument (codes "CALLS"))
+
+-- the words don't include the program's name
+abbrev pub empty : App
+empty = record { top = record (new_app (codes "homeo")).top { no_binary_name = true }; subs = [] }
+
+abbrev pub with_word : App → Text → App
+with_word app word = with_subcommand app (new_app word).top
+
+abbrev pub homeo : App
+homeo =
+    with_subcommand
+    (with_word (with_word (with_word (with_word empty (codes "steps")) (codes "run")) (codes "tables")) (codes "treaty"))
+    load.top

@@ -1,0 +1,35 @@
+//! The command line as `clap` reads it.
+
+ghost use Rattle.std.specs.Prelude.{◌≡◌, IfOk, false};
+ghost use Rattle.clap.specs.Words.{app_of};
+ghost use Rattle.clap.specs.declared.builder.command.Command.TheViews.{out-Command as fields_of};
+ghost use Rattle.homeo_words.specs.inner.App.{homeo, load};
+
+use clap::{Arg, Command};
+use homeo_syntax::Memory;
+use std::alloc::Global;
+
+/// `load` with its two numbers.
+fn load<'a>(alloc: Global) -> Result<Command<'a>, Memory>
+    ensures app { IfOk result (λ c. app_of c ≡ load) }
+    ensures local { IfOk result (λ c. (fields_of c).has_globals ≡ false) }
+{
+    let number = Arg::new(alloc, "NUMBER").required(true);
+    let calls = Arg::new(alloc, "CALLS").required(true);
+    let load = Command::new(alloc, "load").arg(number)?.arg(calls)?;
+    Ok(load)
+}
+
+/// The commands with their arguments. The words don't include the program's name.
+pub(crate) fn command_line<'a>(alloc: Global) -> Result<Command<'a>, Memory>
+    ensures { IfOk result (λ c. app_of c ≡ homeo) }
+{
+    let homeo = Command::new(alloc, "homeo")
+        .no_binary_name(true)
+        .subcommand(Command::new(alloc, "steps"))?
+        .subcommand(Command::new(alloc, "run"))?
+        .subcommand(Command::new(alloc, "tables"))?
+        .subcommand(Command::new(alloc, "treaty"))?
+        .subcommand(load(alloc)?)?;
+    Ok(homeo)
+}
