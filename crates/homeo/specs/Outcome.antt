@@ -1,4 +1,4 @@
--- What is made of a text, and what a run did to its source, its output and its complaints, where they tell their bytes.
+-- What is made of a text or a load, and what a run did to its source, its output and its complaints, where they tell their bytes.
 use Rattle.std.specs.Prelude.{◌≡◌, ◌⊎◌, ℕ, List, Some}
 use Rattle.std.specs.declared.option.Option.{Option}
 use Rattle.homeo_io.specs.Faults.{Rose}
@@ -14,6 +14,10 @@ use Rattle.homeo_history.specs.Follows.{Follows}
 use Rattle.homeo_print.specs.Tables.{tables_text}
 use Rattle.homeo_print.specs.Treaties.{treaty_text}
 use Rattle.homeo_report.specs.Report.{report}
+use Rattle.homeo_report.specs.Summary.{summary}
+use Rattle.homeo_load.specs.Load.{load_workload}
+use Rattle.homeo_load.specs.Output.{load_summary}
+use Rattle.homeo_words.specs.Command.{SayLoad}
 use Rattle.homeo.specs.Command.{ReadFor, refusal_line}
 use Rattle.homeo.specs.Order.{scheduled_calls}
 
@@ -42,6 +46,15 @@ pub record IsOutputOf (purpose : Purpose) (text output : List ℕ) : Type 0 wher
   pub accepted : Accepts text purpose workload
   pub made : IsOutput purpose workload output
 
+-- ---- what is made of a load
+-- The summary of a full history of the load that starts at this number and has so many calls. All of these have one summary,
+-- which the two numbers determine.
+pub record IsLoadOutput (number calls : ℕ) (output : List ℕ) : Type 0 where
+  pub history : History
+  pub full : IsFull (load_workload number calls) history
+  pub summarized : output ≡ summary (load_workload number calls) history
+  pub determined : output ≡ load_summary number calls
+
 -- ---- what the source told
 -- the words are a command that reads a text, and the source tells one that is refused under it
 abbrev pub TellsRefused : List (List ℕ) → Option (List ℕ) → Type 0
@@ -53,19 +66,32 @@ abbrev pub TellsAccepted : List (List ℕ) → Option (List ℕ) → Type 0
 TellsAccepted words left =
     (p : Purpose) × (text : List ℕ) × (w : s.Workload) × ReadFor words p × (left ≡ Some text) × Accepts text p w
 
+-- the text that the source told is refused so where it is read for this purpose
+abbrev pub IsRefusedFor : Purpose → Option (List ℕ) → Refusal → Type 0
+IsRefusedFor p old r = (text : List ℕ) → old ≡ Some text → IsRefused text p r
+
 -- the words are a command that reads a text, and the text that the source told is refused so under it
 abbrev pub IsRefusedAt : List (List ℕ) → Option (List ℕ) → Refusal → Type 0
-IsRefusedAt words old r =
-    (p : Purpose) × ReadFor words p × ((text : List ℕ) → old ≡ Some text → IsRefused text p r)
+IsRefusedAt words old r = (p : Purpose) × ReadFor words p × IsRefusedFor p old r
 
 -- ---- what was done
--- the words are a command that reads a text, the source was read to its end, and this is the output on the text that it gave
-pub record IsMade (words : List (List ℕ)) (left left' : Option (List ℕ)) (output : List ℕ) : Type 0 where
-  pub purpose : Purpose
+-- the source was read to its end for this purpose, and this is the output on the text that it gave
+pub record IsMadeOfText (purpose : Purpose) (left left' : Option (List ℕ)) (output : List ℕ) : Type 0 where
   pub text : List ℕ
-  pub asked : ReadFor words purpose
   pub read : GaveAll left left' text
   pub made : IsOutputOf purpose text output
+
+-- the words are a load, and this is its output
+pub record IsMadeOfLoad (words : List (List ℕ)) (output : List ℕ) : Type 0 where
+  pub number : ℕ
+  pub calls : ℕ
+  pub asked : SayLoad words number calls
+  pub made : IsLoadOutput number calls output
+
+-- what the command that the words are makes of the text that the source gave, or of no text
+abbrev pub IsMade : List (List ℕ) → (left left' : Option (List ℕ)) → List ℕ → Type 0
+IsMade words left left' output =
+    ((p : Purpose) × ReadFor words p × IsMadeOfText p left left' output) ⊎ IsMadeOfLoad words output
 
 -- the output was made, and the sink took exactly it
 abbrev pub IsDone : List (List ℕ) → (left left' taken taken' : Option (List ℕ)) → Type 0

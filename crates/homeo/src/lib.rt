@@ -2,8 +2,8 @@
 #![tactic(auto)]
 
 mod clients;
-mod command;
 pub mod laws;
+mod load;
 mod order;
 mod output;
 mod status;
@@ -12,7 +12,7 @@ mod stop;
 mod tables;
 mod top;
 mod treaty;
+mod work;
 
-pub use command::Command;
 pub use status::Status;
 pub use top::run;

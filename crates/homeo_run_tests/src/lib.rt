@@ -6,6 +6,8 @@ mod answers;
 #[cfg(test)]
 mod gates;
 #[cfg(test)]
+mod loads;
+#[cfg(test)]
 mod market;
 #[cfg(test)]
 mod output;

@@ -107,7 +107,7 @@ fn check_prints(rt: &impl Abort, alloc: Global, report: &str) -> Result<(), Fail
 fn a_market_sells_each_piece_once(rt: HostRuntime) -> Result<(), Fail> {
     let alloc = rt.alloc();
     let text = market(alloc)?;
-    let bytes = output(&rt, alloc, text.as_str(), &OpenGate)?;
+    let bytes = output(&rt, alloc, &["run"], text.as_str(), &OpenGate)?;
     let Ok(report) = str::from_utf8(bytes.as_slice()) else {
         return Err(Fail::from("a report is a text"));
     };

@@ -1,4 +1,4 @@
-//! Whole runs of texts in memory, by the command `run`.
+//! Whole runs in memory, and their outputs.
 
 use homeo::{Status, run};
 use homeo_cluster::Gate;
@@ -28,16 +28,18 @@ fn sink(alloc: Global, room: usize) -> Result<MemorySink, Fail> {
     }
 }
 
-/// Runs the command of one word on a text.
-pub fn run_word<R: Threads + Wait + Sync, G: Gate>(
+/// Runs the command that the words are on a text.
+pub fn run_words<R: Threads + Wait + Sync, G: Gate>(
     rt: &R,
     alloc: Global,
-    word: &str,
+    spoken: &[&str],
     text: &str,
     gate: &G,
 ) -> Result<Ending, Fail> {
     let mut words = List::new(alloc);
-    words.push(Text::of(alloc, word)?)?;
+    for word in spoken {
+        words.push(Text::of(alloc, word)?)?;
+    }
     let bytes = text.as_bytes().to_vec(alloc)?;
     let mut source = MemorySource::new(bytes, 65_536, Vec::new(alloc));
     let mut taken = sink(alloc, ROOM)?;
@@ -50,14 +52,15 @@ pub fn run_word<R: Threads + Wait + Sync, G: Gate>(
     })
 }
 
-/// The output of the command `run` on a text that is accepted.
+/// The output of words that are a command, on a text that is accepted under it.
 pub fn output<R: Threads + Wait + Abort + Sync, G: Gate>(
     rt: &R,
     alloc: Global,
+    spoken: &[&str],
     text: &str,
     gate: &G,
 ) -> Result<Vec<u8>, Fail> {
-    let ending = run_word(rt, alloc, "run", text, gate)?;
+    let ending = run_words(rt, alloc, spoken, text, gate)?;
     assert_eq!(rt; ending.status, Status::Done);
     assert_eq!(rt; ending.complaint.as_slice(), b"".as_slice());
     Ok(ending.output)

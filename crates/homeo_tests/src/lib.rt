@@ -201,12 +201,16 @@ mod tests {
 
     #[test]
     fn other_words_are_no_command(rt: HostRuntime) -> Result<(), Fail> {
-        let usage = "usage: homeo steps or run or tables or treaty\n";
-        let lists: [&'static [&'static str]; 6] = [
+        let usage = "usage: homeo steps or run or tables or treaty or load NUMBER CALLS\n";
+        let lists: [&'static [&'static str]; 10] = [
             &[],
             &["step"],
             &["steps", "x"],
             &["steps", "tables"],
+            &["load"],
+            &["load", "1"],
+            &["load", "1", "0"],
+            &["load", "1", "20001"],
             &["--help"],
             &[""],
         ];
