@@ -1,38 +1,34 @@
--- The commands with their words, and the lines that go to the complaints.
+-- What commands read their texts for, and the lines that go to the complaints.
 use Rattle.std.specs.Prelude.{◌≡◌, ℕ, List, [], ◌∷◌, ◌++◌, codes}
 use Rattle.std.specs.Fmt.{decimal}
 use Rattle.homeo_syntax.specs.declared.workload.Refusal.{Refusal as AnyRefusal}
 use Rattle.homeo_meaning.specs.declared.call.Purpose.{Purpose}
 use Rattle.homeo_meaning.specs.declared.call.Purpose.TheVariants as purpose
-use Rattle.homeo.specs.declared.command.Command.{Command}
-use Rattle.homeo.specs.declared.command.Command.TheVariants.{Steps, Tables, Treaty}
+use Rattle.homeo_words.specs.Command.{Say, SayLoad}
+use Rattle.homeo_words.specs.declared.command.Command.{Command}
+use Rattle.homeo_words.specs.declared.command.Command.TheVariants.{Steps, Run, Tables, Treaty}
 use Rattle.homeo.specs.declared.status.Status.{Status}
 use Rattle.homeo.specs.declared.status.Status.TheVariants.{Done, Usage, Refused, Memory, ReadFault, WriteFault}
 
--- the word of a command
-abbrev pub word_of : Command → List ℕ
-word_of Steps = codes "steps"
-word_of Tables = codes "tables"
-word_of Treaty = codes "treaty"
+-- the command that reads a text for a purpose
+abbrev pub reader_of : Purpose → Command
+reader_of purpose.Steps = Steps
+reader_of purpose.Run = Run
+reader_of purpose.Tables = Tables
+reader_of purpose.Treaty = Treaty
 
--- the words are this command
-abbrev pub Say : List (List ℕ) → Command → Type 0
-Say words c = words ≡ word_of c ∷ []
+-- the words are the command that reads a text for this purpose
+abbrev pub ReadFor : List (List ℕ) → Purpose → Type 0
+ReadFor words p = Say words (reader_of p)
 
--- the words are a command
-abbrev pub IsCommand : List (List ℕ) → Type 0
-IsCommand words = (c : Command) × Say words c
-
--- what a command's text is read for
-abbrev pub purpose_of : Command → Purpose
-purpose_of Steps = purpose.Steps
-purpose_of Tables = purpose.Tables
-purpose_of Treaty = purpose.Treaty
+-- the words are a load
+abbrev pub AsksLoad : List (List ℕ) → Type 0
+AsksLoad words = (number : ℕ) × (calls : ℕ) × SayLoad words number calls
 
 -- the line of a status; that of a refusal has more to say
 abbrev pub line_of : Status → List ℕ
 line_of Done = []
-line_of Usage = codes "usage: homeo steps or tables or treaty\n"
+line_of Usage = codes "usage: homeo steps or run or tables or treaty or load NUMBER CALLS\n"
 line_of Refused = []
 line_of Memory = codes "out of memory\n"
 line_of ReadFault = codes "read fault\n"

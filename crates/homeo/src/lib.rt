@@ -1,8 +1,9 @@
 //! The top call: a text is read, checked, run and answered by a report.
 #![tactic(auto)]
 
-mod command;
+mod clients;
 pub mod laws;
+mod load;
 mod order;
 mod output;
 mod status;
@@ -11,7 +12,7 @@ mod stop;
 mod tables;
 mod top;
 mod treaty;
+mod work;
 
-pub use command::Command;
 pub use status::Status;
 pub use top::run;

@@ -1,4 +1,4 @@
-//! What a command makes of a text.
+//! What is made of a text.
 
 ghost use Rattle.std.specs.Prelude.{◌≡◌, ◌≤◌, [], length, IfOk, IsErrOf};
 ghost use Rattle.homeo_syntax.specs.declared.workload.Refusal.{Refusal};
@@ -7,32 +7,39 @@ ghost use Rattle.homeo_syntax.specs.WellFormed.{IsWellFormed};
 ghost use Rattle.homeo_meaning.specs.declared.call.Purpose.TheVariants as purpose;
 ghost use Rattle.homeo_meaning.specs.Faults.{faults};
 ghost use Rattle.homeo_meaning.specs.Verdict.{Accepts, IsRefused, text_limit};
-ghost use Rattle.homeo.specs.Command.{purpose_of};
-ghost use Rattle.homeo.specs.Outcome.{IsReport, IsOutput, IsOutputOf};
+ghost use Rattle.homeo.specs.Outcome.{IsReport, IsScheduledReport, IsOutput, IsOutputOf};
 
-use crate::command::Command;
+use crate::clients::clients;
 use crate::steps::steps;
 use crate::stop::Stop;
 use crate::tables::tables;
 use crate::treaty::treaty;
 use homeo_build::compile::compile;
+use homeo_cluster::Gate;
 use homeo_meaning::{Accepted, Purpose};
 use homeo_reader::{ReadRefusal, read};
 use homeo_report::report;
 use homeo_rules::{RuleRefusal, accept};
 use homeo_syntax::Memory;
 use std::alloc::Global;
-use std::sync::Arc;
+use std::sync::{Arc, Wait};
+use std::thread::Threads;
 
-/// The output of a command on a text.
-pub fn output_of(alloc: Global, command: Command, text: &[u8]) -> Result<Vec<u8>, Stop>
+/// The output on a text that is read for a purpose.
+pub fn output_of<R: Threads + Wait + Sync, G: Gate>(
+    rt: &R,
+    alloc: Global,
+    purpose: Purpose,
+    text: &[u8],
+    gate: &G,
+) -> Result<Vec<u8>, Stop>
     requires { length text.now ≤ text_limit }
-    ensures made { IfOk result (λ bytes. IsOutputOf command text.now bytes.items) }
-    ensures refused { (r : Refusal) → IsErrOf result (Stop.Refused r) → IsRefused text.now (purpose_of command) r }
+    ensures made { IfOk result (λ bytes. IsOutputOf purpose text.now bytes.items) }
+    ensures refused { (r : Refusal) → IsErrOf result (Stop.Refused r) → IsRefused text.now purpose r }
     ensures no_other { (IsErrOf result Stop.Usage → ⊥) × (IsErrOf result Stop.ReadFault → ⊥) }
 {
-    let accepted = accept_text(alloc, text, command.purpose())?;
-    let output = make(alloc, command, accepted)?;
+    let accepted = accept_text(alloc, text, purpose)?;
+    let output = make(rt, alloc, purpose, accepted, gate)?;
     Ok(output)
 }
 
@@ -56,26 +63,47 @@ fn accept_text(alloc: Global, text: &[u8], purpose: Purpose) -> Result<Accepted,
     }
 }
 
-// The output of a command on a workload that is accepted for it.
-fn make(alloc: Global, command: Command, w: Accepted) -> Result<Vec<u8>, Memory>
+// The output on a workload that is accepted for a purpose.
+fn make<R: Threads + Wait + Sync, G: Gate>(
+    rt: &R,
+    alloc: Global,
+    purpose: Purpose,
+    w: Accepted,
+    gate: &G,
+) -> Result<Vec<u8>, Memory>
     requires well_formed { IsWellFormed (plain_workload w) }
-    requires sound { faults (purpose_of command) (plain_workload w) ≡ [] }
-    ensures { IfOk result (λ bytes. IsOutput command (plain_workload w) bytes.items) }
+    requires sound { faults purpose (plain_workload w) ≡ [] }
+    ensures { IfOk result (λ bytes. IsOutput purpose (plain_workload w) bytes.items) }
 {
-    match command {
-        Command::Steps => report_of(alloc, w),
-        Command::Tables => tables(alloc, w),
-        Command::Treaty => treaty(alloc, w),
+    match purpose {
+        Purpose::Steps => steps_report(alloc, w),
+        Purpose::Run => run_report(rt, alloc, w, gate),
+        Purpose::Tables => tables(alloc, w),
+        Purpose::Treaty => treaty(alloc, w),
     }
 }
 
 // The report of a workload whose calls are made in the order of its schedule.
-fn report_of(alloc: Global, w: Accepted) -> Result<Vec<u8>, Memory>
+fn steps_report(alloc: Global, w: Accepted) -> Result<Vec<u8>, Memory>
     requires well_formed { IsWellFormed (plain_workload w) }
     requires sound { faults purpose.Steps (plain_workload w) ≡ [] }
-    ensures { IfOk result (λ bytes. IsReport (plain_workload w) bytes.items) }
+    ensures { IfOk result (λ bytes. IsScheduledReport (plain_workload w) bytes.items) }
 {
     let compiled = Arc::new(alloc, compile(alloc, w)?)?;
     let history = steps(alloc, &compiled)?;
+    report(alloc, &history, compiled.workload())
+}
+
+// The report of a workload whose clients make their calls each in work of its own.
+fn run_report<R: Threads + Wait + Sync, G: Gate>(
+    rt: &R,
+    alloc: Global,
+    w: Accepted,
+    gate: &G,
+) -> Result<Vec<u8>, Memory>
+    ensures { IfOk result (λ bytes. IsReport (plain_workload w) bytes.items) }
+{
+    let compiled = Arc::new(alloc, compile(alloc, w)?)?;
+    let history = clients(rt, alloc, Arc::try_clone(&compiled)?, gate)?;
     report(alloc, &history, compiled.workload())
 }

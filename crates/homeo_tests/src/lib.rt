@@ -16,11 +16,14 @@ mod values;
 #[cfg(test)]
 mod tests {
     use homeo::{Status, run};
+    use homeo_cluster::OpenGate;
     use homeo_io::{Memory, MemorySink, MemorySource};
     use homeo_syntax::{List, Text};
     use std::alloc::Global;
     use std::process::Abort;
+    use std::sync::Wait;
     use std::test::Fail;
+    use std::thread::Threads;
 
     const COUNTER: &str =
         "workload 1\nsites 2\nobject x in 0..3 = 2\ntransaction up() { write(x = read(x) + 1); print(read(x)) }\nclient a at 0 { up() }\nclient b at 1 { up() }\nschedule b a\nend\n";
@@ -56,8 +59,8 @@ mod tests {
     }
 
     // Runs, and compares status, output and complaint.
-    fn check(
-        rt: &impl Abort,
+    fn check<R: Threads + Wait + Abort + Sync>(
+        rt: &R,
         alloc: Global,
         given: Given,
         status: Status,
@@ -75,7 +78,15 @@ mod tests {
         );
         let mut taken = sink(alloc, given.piece, given.write_fails)?;
         let mut said = sink(alloc, given.piece, given.complaint_fails)?;
-        let ended = run(alloc, &words, &mut source, &mut taken, &mut said);
+        let ended = run(
+            rt,
+            alloc,
+            &words,
+            &mut source,
+            &mut taken,
+            &mut said,
+            &OpenGate,
+        );
         assert_eq!(rt; ended, status);
         assert_eq!(rt; taken.bytes(), out.as_bytes());
         assert_eq!(rt; said.bytes(), complaint.as_bytes());
@@ -190,12 +201,16 @@ mod tests {
 
     #[test]
     fn other_words_are_no_command(rt: HostRuntime) -> Result<(), Fail> {
-        let usage = "usage: homeo steps or tables or treaty\n";
-        let lists: [&'static [&'static str]; 6] = [
+        let usage = "usage: homeo steps or run or tables or treaty or load NUMBER CALLS\n";
+        let lists: [&'static [&'static str]; 10] = [
             &[],
             &["step"],
             &["steps", "x"],
             &["steps", "tables"],
+            &["load"],
+            &["load", "1"],
+            &["load", "1", "0"],
+            &["load", "1", "20001"],
             &["--help"],
             &[""],
         ];
@@ -241,7 +256,15 @@ mod tests {
         let mut source = MemorySource::new(spaces, 65_536, Vec::new(alloc));
         let mut taken = sink(alloc, 16, 0)?;
         let mut said = sink(alloc, 16, 0)?;
-        let ended = run(alloc, &words, &mut source, &mut taken, &mut said);
+        let ended = run(
+            &rt,
+            alloc,
+            &words,
+            &mut source,
+            &mut taken,
+            &mut said,
+            &OpenGate,
+        );
         assert_eq!(rt; ended, Status::Refused);
         assert_eq!(rt; taken.bytes(), b"".as_slice());
         assert_eq!(rt; said.bytes(), b"refused E2 at 1048576\n".as_slice());

@@ -3,6 +3,7 @@ use Rattle.homeo_syntax.specs.declared.workload.Refusal.{Refusal as AnyRefusal}
 use Rattle.homeo.specs.declared.status.Status.{Status as AnyStatus}
 use Rattle.homeo.specs.declared.status.Status.TheVariants as Status
 use Rattle.homeo.specs.declared.stop.Stop.TheVariants.{the_data, Usage, Refused, Memory, ReadFault}
+use Rattle.homeo.specs.Command.{reader_of}
 use Rattle.homeo.proofs.Decided.{output_not_refused, refused_not_accepted}
 use Rattle.homeo.proofs.top.run.Goals as goal
 
@@ -27,7 +28,7 @@ only_memory ReadFault result usage refused fault memory = absurd (fault refl)
 pub returns-clause-complete : goal.returns-clause-complete
 returns-clause-complete g c = λ told no_read no_write.
     only_memory c.in-Err.stop c.complain.result
-    (λ is. c.in-Err.ensures.usage (ap Err is) (told.0, told.3))
+    (λ is. c.in-Err.ensures.usage (ap Err is) (reader_of told.0, told.3))
     (λ r is. refused_not_accepted _ _ r (c.in-Err.ensures.refused r (ap Err is)) told)
     (λ is. no_read (c.in-Err.ensures.fault (ap Err is)))
     c.complain.ensures.memory

@@ -1,0 +1,140 @@
+//! The answers that clients got, beside the history of what was done.
+
+ghost use Rattle.std.specs.Prelude.{◌≡◌};
+ghost use Rattle.homeo_syntax.specs.SourceView.{plain_workload};
+ghost use Rattle.homeo_cluster.specs.Places.{line_count};
+
+use crate::gates::{Hold, Holds, call};
+use crate::texts::THREE_EACH;
+use homeo_build::Compiled;
+use homeo_build::compile::compile;
+use homeo_cluster::{ClientPass, Cluster, ClusterNaming, Gate, blank_for, run_clients};
+use homeo_history::{Answer, Entry, History, Path};
+use homeo_meaning::{Accepted, Purpose};
+use homeo_notes::Blank;
+use homeo_reader::{ReadRefusal, read};
+use homeo_rules::{RuleRefusal, accept};
+use homeo_syntax::{List, Memory};
+use std::alloc::{AllocError, Global};
+use std::marker::Brand;
+use std::process::Abort;
+use std::sync::{Arc, Wait};
+use std::test::Fail;
+use std::thread::Threads;
+
+// Reads a text that is accepted.
+fn accepted(rt: &impl Abort, alloc: Global, text: &str) -> Result<Accepted, Fail> {
+    assert!(rt; text.len() <= 1_048_576);
+    let workload = match read(alloc, text.as_bytes()) {
+        Ok(workload) => workload,
+        Err(ReadRefusal::Memory) => return Err(Fail::from(AllocError)),
+        Err(ReadRefusal::Refused(refusal)) => panic!(rt; "refused {refusal:?}"),
+    };
+    match accept(alloc, workload, Purpose::Run) {
+        Ok(w) => Ok(w),
+        Err(RuleRefusal::Memory) => Err(Fail::from(AllocError)),
+        Err(RuleRefusal::Refused(refusal)) => panic!(rt; "refused {refusal:?}"),
+    }
+}
+
+// What all clients were answered, and the history of what was done.
+#[derive(Drop)]
+struct Day {
+    answers: List<Answer>,
+    history: History,
+}
+
+fn copy_logs<N: ClusterNaming>(
+    alloc: Global,
+    passes: &[ClientPass<N>],
+) -> Result<List<Answer>, Memory> {
+    let mut all = List::new(alloc);
+    for pass in passes {
+        for answer in pass.log().as_slice() {
+            all.push(answer.copy(alloc)?)?;
+        }
+    }
+    Ok(all)
+}
+
+#[tactic(auto, using(homeo::proofs::Gathering::all_back))]
+fn run_day_on<N: ClusterNaming + Send + Sync, R: Threads + Wait + Sync, G: Gate>(
+    rt: &R,
+    alloc: Global,
+    blank: Blank,
+    c: Arc<Compiled>,
+    gate: &G,
+) -> Result<Day, Memory>
+    requires board { blank ≡ N.board }
+    requires workload { plain_workload c.value ≡ N.workload }
+    requires lines { blank.words ≡ line_count N.workload }
+{
+    let (cluster, passes) = Cluster::<N>::begin(alloc, blank, c)?;
+    let passes = run_clients(rt, alloc, &cluster, passes, gate)?;
+    let answers = copy_logs(alloc, passes.as_slice())?;
+    let history = cluster.finish(alloc, passes)?;
+    Ok(Day { answers, history })
+}
+
+fn run_day<R: Threads + Wait + Sync, G: Gate>(
+    rt: &R,
+    alloc: Global,
+    w: Accepted,
+    gate: &G,
+) -> Result<Day, Memory> {
+    let c = Arc::new(alloc, compile(alloc, w)?)?;
+    let blank = blank_for(alloc, &c)?;
+    run_day_on::<Brand, R, G>(rt, alloc, blank, c, gate)
+}
+
+// The entry of an answer's call in the answer's round: at its site, or as the call that closes the round.
+fn entry_of<'a>(history: &'a History, answer: &Answer) -> Option<&'a Entry> {
+    let round = history.rounds.as_slice().get(answer.round as usize)?;
+    let entry = match answer.path {
+        Path::Local => {
+            let segment = round.segments.as_slice().get(answer.site as usize)?;
+            let entries = segment.entries.as_slice();
+            entries.iter().find(|e| e.call.client == answer.client && e.call.seq == answer.seq)?
+        }
+        Path::Cleanup(broken) => {
+            let closing = round.closing.as_ref()?;
+            if closing.site != answer.site || closing.broken != broken {
+                return None;
+            }
+            &closing.entry
+        }
+    };
+    Some(entry)
+}
+
+#[test]
+fn answers_stand_in_the_history(rt: HostRuntime) -> Result<(), Fail> {
+    let alloc = rt.alloc();
+    let gate = Holds::new([
+        Hold {
+            call: call(0, 3),
+            until: call(1, 3),
+        },
+        Hold {
+            call: call(1, 3),
+            until: call(0, 3),
+        },
+    ]);
+    let w = accepted(&rt, alloc, THREE_EACH)?;
+    let day = run_day(&rt, alloc, w, &gate)?;
+    assert!(rt; !gate.was_late(&rt));
+    let mut closing = 0u64;
+    for answer in day.answers.as_slice() {
+        let Some(entry) = entry_of(&day.history, answer) else {
+            return Err(Fail::from("an answer has an entry"));
+        };
+        assert_eq!(rt; entry.call, call(answer.client, answer.seq));
+        assert_eq!(rt; entry.prints.as_slice(), answer.prints.as_slice());
+        if answer.path != Path::Local {
+            closing = closing.wrapping_add(1);
+        }
+    }
+    assert_eq!(rt; day.answers.as_slice().len(), 6);
+    assert_eq!(rt; closing, 1);
+    Ok(())
+}

@@ -1,0 +1,153 @@
+//! Two clients that buy from one stock.
+
+use crate::gates::{Hold, Holds, HoldsFirst, call};
+use crate::output::{output, run_words};
+use crate::texts::{IN_ORDER, ONE_SITE, SHORT_ORDER, THREE_AND_ONE, THREE_AND_TWO, THREE_EACH};
+use homeo::Status;
+use homeo_cluster::OpenGate;
+use std::test::Fail;
+
+#[test]
+fn of_two_calls_that_break_at_once_one_closes_the_round(rt: HostRuntime) -> Result<(), Fail> {
+    let gate = Holds::new([
+        Hold {
+            call: call(0, 3),
+            until: call(1, 3),
+        },
+        Hold {
+            call: call(1, 3),
+            until: call(0, 3),
+        },
+    ]);
+    let output = output(&rt, rt.alloc(), &["run"], THREE_EACH, &gate)?;
+    assert!(rt; !gate.was_late(&rt));
+    let first_closes = b"round 0
+site 0
+a 1 buy(1): 1
+a 2 buy(1): 1
+site 1
+b 1 buy(1): 1
+b 2 buy(1): 1
+close 0 clause 0 sum 3 bound 2
+a 3 buy(1): 1
+round 1
+site 0
+site 1
+b 3 buy(1): 0
+database
+stock = 0
+rounds 2 calls 6
+";
+    let second_closes = b"round 0
+site 0
+a 1 buy(1): 1
+a 2 buy(1): 1
+site 1
+b 1 buy(1): 1
+b 2 buy(1): 1
+close 1 clause 0 sum 3 bound 2
+b 3 buy(1): 1
+round 1
+site 0
+a 3 buy(1): 0
+site 1
+database
+stock = 0
+rounds 2 calls 6
+";
+    let bytes = output.as_slice();
+    assert!(rt; bytes == first_closes.as_slice() || bytes == second_closes.as_slice());
+    Ok(())
+}
+
+#[test]
+fn a_local_call_needs_no_other_sites_lock(rt: HostRuntime) -> Result<(), Fail> {
+    let gate = Holds::new([
+        Hold {
+            call: call(1, 1),
+            until: call(0, 1),
+        },
+        Hold {
+            call: call(0, 1),
+            until: call(1, 2),
+        },
+    ]);
+    let output = output(&rt, rt.alloc(), &["run"], THREE_AND_TWO, &gate)?;
+    assert!(rt; !gate.was_late(&rt));
+    let report = b"round 0
+site 0
+a 1 buy(1): 1
+a 2 buy(1): 1
+site 1
+b 1 buy(1): 1
+b 2 buy(1): 1
+close 0 clause 0 sum 3 bound 2
+a 3 buy(1): 1
+round 1
+site 0
+site 1
+database
+stock = 0
+rounds 2 calls 5
+";
+    assert_eq!(rt; output.as_slice(), report.as_slice());
+    Ok(())
+}
+
+#[test]
+fn calls_of_one_site_are_not_inside_together(rt: HostRuntime) -> Result<(), Fail> {
+    let gate = HoldsFirst::new();
+    let output = output(&rt, rt.alloc(), &["run"], ONE_SITE, &gate)?;
+    assert!(rt; !gate.were_together(&rt));
+    assert_eq!(rt; gate.calls(&rt), 2);
+    let a_first = b"round 0
+site 0
+a 1 buy(1): 1
+b 1 buy(1): 1
+site 1
+database
+stock = 3
+rounds 1 calls 2
+";
+    let b_first = b"round 0
+site 0
+b 1 buy(1): 1
+a 1 buy(1): 1
+site 1
+database
+stock = 3
+rounds 1 calls 2
+";
+    let bytes = output.as_slice();
+    assert!(rt; bytes == a_first.as_slice() || bytes == b_first.as_slice());
+    Ok(())
+}
+
+#[test]
+fn clients_need_no_schedule(rt: HostRuntime) -> Result<(), Fail> {
+    let alloc = rt.alloc();
+    let last_lines = b"database\nstock = 1\nrounds 2 calls 4\n";
+    for text in [THREE_AND_ONE, IN_ORDER] {
+        let output = output(&rt, alloc, &["run"], text, &OpenGate)?;
+        assert!(rt; output.as_slice().ends_with(last_lines.as_slice()));
+    }
+    let refused = run_words(&rt, alloc, &["steps"], THREE_AND_ONE, &OpenGate)?;
+    assert_eq!(rt; refused.status, Status::Refused);
+    assert_eq!(rt;
+        refused.complaint.as_slice(),
+        b"refused E14 at 224\n".as_slice()
+    );
+    Ok(())
+}
+
+#[test]
+fn a_schedule_is_checked_where_it_is_not_used(rt: HostRuntime) -> Result<(), Fail> {
+    let refused = run_words(&rt, rt.alloc(), &["run"], SHORT_ORDER, &OpenGate)?;
+    assert_eq!(rt; refused.status, Status::Refused);
+    assert_eq!(rt; refused.output.as_slice(), b"".as_slice());
+    assert_eq!(rt;
+        refused.complaint.as_slice(),
+        b"refused E14 at 239\n".as_slice()
+    );
+    Ok(())
+}
