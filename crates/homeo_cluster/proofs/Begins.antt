@@ -31,7 +31,7 @@ use Rattle.homeo_assembly.specs.Events.{no_answers}
 use Rattle.homeo_assembly.specs.Laws.{SiteStart, BookStart}
 use Rattle.homeo_assembly.specs.Written.{read, written}
 use Rattle.homeo_cluster.specs.Places.{asked_line, kept_line, done_line, shut_line, at_line, bases_line, line_count}
-use Rattle.homeo_cluster.specs.Cells.{answers_at, site_lists, HoldsFor, HoldsAt, IsCell, book_lists, KeepsFor, HoldsBook, IsBook}
+use Rattle.homeo_cluster.specs.inner.Cells.{answers_at, site_lists, HoldsFor, HoldsAt, IsCell, book_lists, KeepsFor, HoldsBook, IsBook}
 use Rattle.homeo_cluster.specs.Passes.{PassValue, IsLog, HoldsLog, IsPass, AreAll, AreBegun}
 use Rattle.homeo_cluster.specs.inner.Begun.{AreLeft, IsRest, IsFirst, AreFirst, first_line}
 use Rattle.homeo_cluster.proofs.LinesInOrder.{first_of_all, first_next, at_after_first, at_before_bases, kept_before_first, kept_before_bases, kept_after_asked, first_after_asked, bases_is_last, bases_after_asked, shut_after_done, IsAmong, among}

@@ -20,7 +20,7 @@ use Rattle.homeo_assembly.specs.Events.{Renews, Closes, InHand}
 use Rattle.homeo_assembly.specs.Facts.{Cell, BookLists, BookFacts, states_of}
 use Rattle.homeo_assembly.specs.Written.{read}
 use Rattle.homeo_assembly.proofs.ClosingEvents.{cleanup_event}
-use Rattle.homeo_cluster.specs.Cells.{CellValue, BookValue, IsBook, book_state, book_lists, cell_of, cells_of, site_lists}
+use Rattle.homeo_cluster.specs.inner.Cells.{CellValue, BookValue, IsBook, book_state, book_lists, cell_of, cells_of, site_lists}
 use Rattle.homeo_cluster.specs.Places.{kept_line, shut_line, at_line, bases_line}
 use Rattle.homeo_cluster.specs.inner.Meets.{AreNumbered, site_states}
 use Rattle.homeo_cluster.specs.inner.Rows.{HasGoneOn, HaveGoneOn}

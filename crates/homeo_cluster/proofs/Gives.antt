@@ -16,7 +16,7 @@ use Rattle.homeo_assembly.specs.Written.{written, read}
 use Rattle.homeo_core.proofs.OneAnswer.{not_to}
 use Rattle.homeo_assembly.proofs.Reading.{read_written}
 use Rattle.homeo_cluster.specs.inner.Grows.{Rose, Grew}
-use Rattle.homeo_cluster.specs.Cells.{answers_at}
+use Rattle.homeo_cluster.specs.inner.Cells.{answers_at}
 use Rattle.homeo_cluster.proofs.Grows.{rose_list, grew_same, grew_list_other}
 
 pub own_to : (client : ℕ) (a : Answer) → a.client ≡ client → answers_to client (a ∷ []) ≡ a ∷ []

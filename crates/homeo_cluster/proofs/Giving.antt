@@ -10,7 +10,7 @@ use Rattle.homeo_history.specs.Answers.{Answer, answers_to}
 use Rattle.homeo_history.specs.Legal.{IsClientAt}
 use Rattle.homeo_core.proofs.OneAnswer.{not_to}
 use Rattle.homeo_assembly.specs.Written.{written, read}
-use Rattle.homeo_cluster.specs.Cells.{HoldsAt, site_lists, answers_at}
+use Rattle.homeo_cluster.specs.inner.Cells.{HoldsAt, site_lists, answers_at}
 use Rattle.homeo_cluster.specs.Places.{asked_line, kept_line, done_line, shut_line, at_line, bases_line}
 use Rattle.homeo_cluster.specs.inner.Grows.{Grew, Rose}
 use Rattle.homeo_cluster.specs.inner.Moves.{KeepsEach, KeepsOthers, ArePairs}

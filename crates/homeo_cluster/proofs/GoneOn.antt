@@ -11,7 +11,7 @@ use Rattle.homeo_history.specs.Legal.{IsClientAt}
 use Rattle.homeo_history.proofs.ClientAnswers.{one_site}
 use Rattle.homeo_history.proofs.Lists.{get_same, get_set_same, get_set_other, length_set}
 use Rattle.homeo_assembly.specs.Written.{read}
-use Rattle.homeo_cluster.specs.Cells.{CellValue, site_lists}
+use Rattle.homeo_cluster.specs.inner.Cells.{CellValue, site_lists}
 use Rattle.homeo_cluster.specs.Places.{kept_line, at_line, bases_line}
 use Rattle.homeo_cluster.specs.inner.Moves.{KeepsEach, KeepsOthers, ArePairs}
 use Rattle.homeo_cluster.specs.inner.Renewed.{CanAsk, WasAsked, IsAsked, IsRenewed}

@@ -26,7 +26,7 @@ use Rattle.homeo_assembly.proofs.SiteEvents.{local_event}
 use Rattle.homeo_site.specs.SiteView.{SiteValue}
 use Rattle.homeo_cluster.specs.inner.Grows.{Grew}
 use Rattle.homeo_cluster.specs.Places.{asked_line, kept_line, done_line, shut_line, at_line, bases_line}
-use Rattle.homeo_cluster.specs.Cells.{CellValue, IsCell, HoldsAt, HoldsFor, site_lists, answers_at}
+use Rattle.homeo_cluster.specs.inner.Cells.{CellValue, IsCell, HoldsAt, HoldsFor, site_lists, answers_at}
 use Rattle.homeo_cluster.proofs.Apart.{AreApart, apart}
 use Rattle.homeo_cluster.proofs.Gives.{gives, agrees}
 use Rattle.homeo_cluster.proofs.Grows.{grew_same, grew_owner_same, grew_owner_other, grew_list_other, grew_seen}

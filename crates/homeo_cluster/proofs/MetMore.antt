@@ -7,7 +7,7 @@ use Rattle.homeo_history.specs.Legal.{IsClientAt}
 use Rattle.homeo_history.proofs.ClientAnswers.{one_site}
 use Rattle.homeo_history.proofs.Lists.{get_map, get_map_back, get_same, set_cases}
 use Rattle.homeo_assembly.specs.Facts.{Cell, BookLists, SiteFacts}
-use Rattle.homeo_cluster.specs.Cells.{CellValue, BookValue, cell_of, cells_of}
+use Rattle.homeo_cluster.specs.inner.Cells.{CellValue, BookValue, cell_of, cells_of}
 use Rattle.homeo_cluster.specs.Passes.{PassValue, logs_of, AreAll}
 use Rattle.homeo_cluster.specs.inner.Meets.{SameBook, AreNumbered, CellsNumbered, IsMet, MetAt, MetShut, MetDone}
 

@@ -28,7 +28,7 @@ use Rattle.homeo_notes.proofs.Prefixes.{prefix_self}
 use Rattle.homeo_cluster.specs.Key.{places}
 use Rattle.homeo_cluster.specs.inner.Grows.{Grew}
 use Rattle.homeo_cluster.specs.Places.{kept_line, done_line, shut_line, at_line, bases_line}
-use Rattle.homeo_cluster.specs.Cells.{HoldsAt, KeepsFor, site_lists, answers_at}
+use Rattle.homeo_cluster.specs.inner.Cells.{HoldsAt, KeepsFor, site_lists, answers_at}
 use Rattle.homeo_cluster.specs.inner.Moves.{KeepsEach, KeepsOthers, ArePairs, IsMoving, AreShort}
 use Rattle.homeo_cluster.proofs.Apart.{AreApart, apart}
 use Rattle.homeo_cluster.proofs.Grows.{grew_same, grew_owner_same, grew_owner_other, grew_list_other, grew_seen}

@@ -16,7 +16,7 @@ use Rattle.homeo_assembly.proofs.Reading.{read_back}
 use Rattle.homeo_site.specs.SiteView.{SiteValue}
 use Rattle.homeo_cluster.specs.inner.Grows.{Rose}
 use Rattle.homeo_cluster.specs.Places.{asked_line, kept_line, done_line, shut_line, at_line, bases_line}
-use Rattle.homeo_cluster.specs.Cells.{IsCell, HoldsAt, HoldsFor, site_lists, IsBook, HoldsBook, KeepsFor, book_lists, book_state, answers_at}
+use Rattle.homeo_cluster.specs.inner.Cells.{IsCell, HoldsAt, HoldsFor, site_lists, IsBook, HoldsBook, KeepsFor, book_lists, book_state, answers_at}
 use Rattle.homeo_cluster.proofs.Grows.{rose_list, rose_owner, rose_seen}
 
 pub same_lists : (w : s.Workload) (site : ℕ) (h h' : Held) → Rose h h' → site_lists w site h' ≡ site_lists w site h

@@ -14,7 +14,7 @@ use Rattle.homeo_assembly.specs.Events.{InHand}
 use Rattle.homeo_assembly.specs.Facts.{Cell, BookLists, BookFacts, SiteFacts, states_of}
 use Rattle.homeo_assembly.specs.Key.{words}
 use Rattle.homeo_assembly.proofs.MetLists as met_lists
-use Rattle.homeo_cluster.specs.Cells.{CellValue, cell_of, cells_of}
+use Rattle.homeo_cluster.specs.inner.Cells.{CellValue, cell_of, cells_of}
 use Rattle.homeo_cluster.specs.inner.Meets.{AreNumbered, MetAt, MetShut, site_states}
 use Rattle.homeo_cluster.specs.inner.Rows.{held_cells}
 use Rattle.homeo_cluster.proofs.MetMore.{numbers_of_cells}

@@ -23,7 +23,7 @@ use Rattle.homeo_assembly.specs.Facts.{Cell, BookLists, BookFacts, SiteFacts, st
 use Rattle.homeo_assembly.specs.Laws.{IsAssembled}
 use Rattle.homeo_assembly.proofs.Assembled.{assembly}
 use Rattle.homeo_assembly.proofs.MetLists as met_lists
-use Rattle.homeo_cluster.specs.Cells.{CellValue, cell_of, cells_of}
+use Rattle.homeo_cluster.specs.inner.Cells.{CellValue, cell_of, cells_of}
 use Rattle.homeo_cluster.specs.Passes.{PassValue, logs_of, AreAll}
 use Rattle.homeo_cluster.specs.inner.Meets.{AreNumbered, CellsNumbered, MetAt, MetShut, MetDone, AreSettled, site_states}
 use Rattle.homeo_cluster.proofs.MetMore.{numbers_of_cells}

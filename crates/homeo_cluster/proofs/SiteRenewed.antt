@@ -12,7 +12,7 @@ use Rattle.homeo_assembly.specs.Events.{IsNext, Gives, Renews}
 use Rattle.homeo_assembly.specs.Facts.{SiteFacts, SiteLists}
 use Rattle.homeo_assembly.specs.Written.{written, read}
 use Rattle.homeo_assembly.proofs.MovedEntries.{moving}
-use Rattle.homeo_cluster.specs.Cells.{HoldsAt, HoldsFor, KeepsFor, site_lists, answers_at}
+use Rattle.homeo_cluster.specs.inner.Cells.{HoldsAt, HoldsFor, KeepsFor, site_lists, answers_at}
 use Rattle.homeo_cluster.specs.Places.{asked_line, kept_line, done_line, shut_line, at_line, bases_line}
 use Rattle.homeo_cluster.specs.inner.Grows.{Grew, Rose}
 use Rattle.homeo_cluster.specs.inner.Moves.{KeepsEach, KeepsOthers, ArePairs, IsMoving}

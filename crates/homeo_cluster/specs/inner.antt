@@ -1,8 +1,10 @@
 pub mod Begun
+pub mod Cells
 pub mod Frames
 pub mod Grows
 pub mod Meets
 pub mod Moves
+pub mod Named
 pub mod Ran
 pub mod Renewed
 pub mod Rows

@@ -1,6 +1,6 @@
 //! What lies under the lock of the book.
 
-ghost use Rattle.homeo_cluster.specs.Cells.{IsBook};
+ghost use Rattle.homeo_cluster.specs.inner.Cells.{IsBook};
 
 use crate::naming::ClusterNaming;
 use homeo_history::Round;
@@ -20,7 +20,7 @@ pub(crate) struct Book<N: ClusterNaming> {
 impl<N: ClusterNaming> Model for Book<N> {
     ghost use Rattle.std.specs.Prelude.{map};
     ghost use Rattle.homeo_history.specs.HistoryView.{plain_round};
-    ghost use Rattle.homeo_cluster.specs.Cells.{BookValue, IsBook};
+    ghost use Rattle.homeo_cluster.specs.inner.Cells.{BookValue, IsBook};
 
     ghost Value = { BookValue };
 

@@ -18,7 +18,7 @@ pub(crate) struct SiteCell<N: ClusterNaming> {
 impl<N: ClusterNaming> Model for SiteCell<N> {
     ghost use Rattle.std.specs.Coded.{codes};
     ghost use Rattle.homeo_syntax.specs.contracts.workload.Workload as workload;
-    ghost use Rattle.homeo_cluster.specs.Cells.{CellValue, IsCell};
+    ghost use Rattle.homeo_cluster.specs.inner.Cells.{CellValue, IsCell};
 
     ghost Value = { CellValue };
 

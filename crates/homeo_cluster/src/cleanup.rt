@@ -16,7 +16,7 @@ ghost use Rattle.homeo_core.specs.Joined.{AreJoined, gathered};
 ghost use Rattle.homeo_core.specs.inner.SiteLists.{AreAt};
 ghost use Rattle.homeo_assembly.specs.Events.{InHand, IsNext};
 ghost use Rattle.homeo_assembly.specs.Facts.{states_of};
-ghost use Rattle.homeo_cluster.specs.Cells.{cells_of, book_state, book_lists, HoldsBook, IsBook};
+ghost use Rattle.homeo_cluster.specs.inner.Cells.{cells_of, book_state, book_lists, HoldsBook, IsBook};
 ghost use Rattle.homeo_cluster.specs.Passes.{IsReplied, next_call};
 ghost use Rattle.homeo_cluster.specs.Places.{at_line, bases_line};
 ghost use Rattle.homeo_notes.specs.Lines.{list_at};

@@ -2,7 +2,7 @@
 
 ghost use Rattle.std.specs.Prelude.{◌≡◌, ◌<◌, length};
 ghost use Rattle.homeo_history.specs.Legal.{IsClientAt};
-ghost use Rattle.homeo_cluster.specs.Cells.{IsCell, cell_of, book_lists};
+ghost use Rattle.homeo_cluster.specs.inner.Cells.{IsCell, cell_of, book_lists};
 ghost use Rattle.homeo_cluster.specs.inner.Meets.{SameCell, SameBook, SamePass};
 
 use crate::book::Book;

@@ -13,7 +13,7 @@ ghost use Rattle.homeo_site.specs.SiteState.{renewed};
 ghost use Rattle.homeo_assembly.specs.Events.{IsNext};
 ghost use Rattle.homeo_assembly.specs.Facts.{SiteFacts};
 ghost use Rattle.homeo_assembly.specs.Written.{written};
-ghost use Rattle.homeo_cluster.specs.Cells.{HoldsAt, site_lists};
+ghost use Rattle.homeo_cluster.specs.inner.Cells.{HoldsAt, site_lists};
 ghost use Rattle.homeo_cluster.specs.Places.{kept_line, shut_line, at_line, bases_line};
 ghost use Rattle.homeo_cluster.specs.inner.Grows.{Grew};
 ghost use Rattle.homeo_cluster.specs.inner.Moves.{KeepsEach, ArePairs, IsMoving, AreShort};

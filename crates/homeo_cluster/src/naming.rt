@@ -11,7 +11,7 @@ pub trait ClusterNaming: Naming {
 }
 
 impl ClusterNaming for Brand {
-    ghost use Rattle.homeo_cluster.specs.Named.{no_workload};
+    ghost use Rattle.homeo_cluster.specs.inner.Named.{no_workload};
 
     ghost workload = { no_workload };
 }

@@ -6,7 +6,7 @@ use Rattle.homeo_history.specs.Legal.{IsClientAt}
 use Rattle.homeo_site.specs.SiteState.{SiteState}
 use Rattle.homeo_core.specs.Joined.{BookState}
 use Rattle.homeo_assembly.specs.Facts.{Cell, BookLists, SiteFacts, BookFacts, AreMet, AreAsked}
-use Rattle.homeo_cluster.specs.Cells.{CellValue, BookValue, cell_of, book_lists}
+use Rattle.homeo_cluster.specs.inner.Cells.{CellValue, BookValue, cell_of, book_lists}
 use Rattle.homeo_cluster.specs.Passes.{PassValue}
 
 -- ---- the holder alone has learnt something

@@ -5,7 +5,7 @@ use Rattle.homeo_notes.specs.Lines.{Held, IsOwner, HasSeen, list_at, seen_at}
 use Rattle.homeo_history.specs.Legal.{IsClientAt, call_count}
 use Rattle.homeo_site.specs.SiteState.{SiteState}
 use Rattle.homeo_assembly.specs.Events.{HasMoved}
-use Rattle.homeo_cluster.specs.Cells.{HoldsAt, KeepsFor, site_lists, answers_at}
+use Rattle.homeo_cluster.specs.inner.Cells.{HoldsAt, KeepsFor, site_lists, answers_at}
 use Rattle.homeo_cluster.specs.Places.{kept_line, done_line, shut_line, at_line, bases_line}
 
 -- what the book's holder has, but for what it has seen of the sites' bases

@@ -7,7 +7,7 @@ use Rattle.homeo_history.specs.Legal.{IsClientAt}
 use Rattle.homeo_site.specs.SiteState.{SiteState, renewed}
 use Rattle.homeo_assembly.specs.Events.{Gives, Renews}
 use Rattle.homeo_assembly.specs.Written.{written}
-use Rattle.homeo_cluster.specs.Cells.{CellValue, HoldsAt, site_lists}
+use Rattle.homeo_cluster.specs.inner.Cells.{CellValue, HoldsAt, site_lists}
 use Rattle.homeo_cluster.specs.Places.{asked_line, done_line, at_line, bases_line}
 use Rattle.homeo_cluster.specs.inner.Grows.{Grew}
 use Rattle.homeo_cluster.specs.inner.Moves.{KeepsOthers, ArePairs}

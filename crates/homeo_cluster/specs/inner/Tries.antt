@@ -3,7 +3,7 @@ use Rattle.std.specs.Prelude.{◌≡◌, Some}
 use Rattle.homeo_syntax.specs.Source as s
 use Rattle.homeo_history.specs.HistoryView.{plain_answer}
 use Rattle.homeo_site.specs.SiteState.{after_local, step_finding}
-use Rattle.homeo_cluster.specs.Cells.{CellValue}
+use Rattle.homeo_cluster.specs.inner.Cells.{CellValue}
 use Rattle.homeo_cluster.specs.Passes.{PassValue, IsReplied, next_call}
 use Rattle.homeo_cluster.specs.declared.local.Tried.{Tried}
 use Rattle.homeo_cluster.specs.declared.local.Tried.TheVariants.{Done, Breaks}

@@ -8,7 +8,7 @@ use Rattle.homeo_site.specs.SiteView.{SiteValue}
 use Rattle.homeo_core.specs.GatherView.{GatherValue}
 use Rattle.homeo_core.specs.Joined.{plus_deltas, gathered}
 use Rattle.homeo_core.proofs.GatheredSites.{gathered_next, take_whole}
-use Rattle.homeo_cluster.specs.Cells.{CellValue}
+use Rattle.homeo_cluster.specs.inner.Cells.{CellValue}
 use Rattle.homeo_cluster.specs.inner.Meets.{site_states}
 use Rattle.homeo_cluster.specs.inner.Rows.{held_cells}
 use Rattle.homeo_cluster.proofs.Rows.{held_at, held_long}

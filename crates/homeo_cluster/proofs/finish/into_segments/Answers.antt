@@ -5,7 +5,7 @@ use Rattle.homeo_syntax.specs.Listed.{Listed}
 use Rattle.homeo_history.specs.HistoryView.{plain_segment}
 use Rattle.homeo_history.specs.declared.history.Segment.{Segment}
 use Rattle.homeo_site.specs.SiteView.{SiteValue}
-use Rattle.homeo_cluster.specs.Cells.{CellValue}
+use Rattle.homeo_cluster.specs.inner.Cells.{CellValue}
 use Rattle.homeo_cluster.proofs.Settles.{segments_more}
 use Rattle.homeo_cluster.proofs.finish.into_segments.Goals as goal
 

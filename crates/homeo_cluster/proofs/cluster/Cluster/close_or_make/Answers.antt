@@ -6,7 +6,7 @@ use Rattle.homeo_history.specs.Legal.{IsClientAt, IsCallAt, call_count}
 use Rattle.homeo_history.proofs.Exists.{is_call_at}
 use Rattle.homeo_history.proofs.Lists.{get_set_same, set_cases}
 use Rattle.homeo_site.specs.SiteState.{SiteState, step_finding}
-use Rattle.homeo_cluster.specs.Cells.{CellValue}
+use Rattle.homeo_cluster.specs.inner.Cells.{CellValue}
 use Rattle.homeo_cluster.specs.Passes.{PassValue, next_call}
 use Rattle.homeo_cluster.specs.inner.Meets.{site_states}
 use Rattle.homeo_cluster.specs.inner.Rows.{held_cells}

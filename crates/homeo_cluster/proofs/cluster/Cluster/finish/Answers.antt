@@ -4,7 +4,7 @@ use Rattle.homeo_syntax.specs.Source as s
 use Rattle.homeo_meaning.specs.Initial.{initial}
 use Rattle.homeo_core.specs.Joined.{AreJoined, history_of}
 use Rattle.homeo_assembly.specs.Laws.{IsAssembled}
-use Rattle.homeo_cluster.specs.Cells.{CellValue, BookValue, book_state}
+use Rattle.homeo_cluster.specs.inner.Cells.{CellValue, BookValue, book_state}
 use Rattle.homeo_cluster.specs.Passes.{logs_of}
 use Rattle.homeo_cluster.specs.inner.Meets.{SameBook, site_states}
 use Rattle.homeo_cluster.proofs.Settles.{states_again, joined_of, assembled_of}

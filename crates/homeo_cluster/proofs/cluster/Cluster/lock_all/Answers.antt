@@ -1,6 +1,6 @@
 use Rattle.std.proofs.Common.{rules, ◌≡◌, ℕ, ◌+◌, ◌++◌, ◌∷◌, [], length, length-append, arith, ap, sym, ◌∙◌}
 use Rattle.std.specs.Sync.Mutex.{mutex_guard_value}
-use Rattle.homeo_cluster.specs.Cells.{CellValue}
+use Rattle.homeo_cluster.specs.inner.Cells.{CellValue}
 use Rattle.homeo_cluster.specs.inner.Rows.{held_cells}
 use Rattle.homeo_cluster.proofs.MetMore.{numbered_push}
 use Rattle.homeo_cluster.proofs.Rows.{held_push, held_long}

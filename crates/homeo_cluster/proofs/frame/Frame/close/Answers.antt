@@ -14,7 +14,7 @@ use Rattle.homeo_core.specs.inner.Books.{book_of}
 use Rattle.homeo_assembly.specs.Events.{InHand}
 use Rattle.homeo_assembly.specs.Facts.{BookLists}
 use Rattle.homeo_assembly.specs.Written.{written}
-use Rattle.homeo_cluster.specs.Cells.{CellValue, book_state, book_lists, cells_of}
+use Rattle.homeo_cluster.specs.inner.Cells.{CellValue, book_state, book_lists, cells_of}
 use Rattle.homeo_cluster.specs.Passes.{PassValue, IsReplied}
 use Rattle.homeo_cluster.specs.Places.{asked_line, done_line}
 use Rattle.homeo_cluster.specs.inner.Grows.{Grew}

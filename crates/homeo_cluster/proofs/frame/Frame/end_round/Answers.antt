@@ -32,7 +32,7 @@ use Rattle.homeo_core.proofs.InRounds.{at_round}
 use Rattle.homeo_assembly.specs.Facts.{Cell, states_of}
 use Rattle.homeo_assembly.proofs.MetLists as met_lists
 use Rattle.homeo_assembly.specs.Written.{read}
-use Rattle.homeo_cluster.specs.Cells.{CellValue, KeepsFor, book_lists, cell_of, cells_of}
+use Rattle.homeo_cluster.specs.inner.Cells.{CellValue, KeepsFor, book_lists, cell_of, cells_of}
 use Rattle.homeo_cluster.specs.Places.{kept_line, done_line, shut_line, at_line, bases_line}
 use Rattle.homeo_cluster.specs.inner.Grows.{Grew}
 use Rattle.homeo_cluster.specs.inner.Meets.{site_states}

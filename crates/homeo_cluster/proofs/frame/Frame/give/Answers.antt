@@ -9,7 +9,7 @@ use Rattle.homeo_history.proofs.ClientAnswers.{one_site}
 use Rattle.std.proofs.lemmas.List.{length-map}
 use Rattle.homeo_assembly.specs.Key.{words}
 use Rattle.homeo_assembly.specs.Written.{written, read}
-use Rattle.homeo_cluster.specs.Cells.{HoldsAt, HoldsFor}
+use Rattle.homeo_cluster.specs.inner.Cells.{HoldsAt, HoldsFor}
 use Rattle.homeo_cluster.specs.Places.{asked_line, kept_line, done_line, shut_line}
 use Rattle.homeo_cluster.specs.inner.Grows.{Grew}
 use Rattle.homeo_cluster.specs.inner.Renewed.{CanAsk}

@@ -13,7 +13,7 @@ use Rattle.homeo_history.specs.declared.history.Round.{Round}
 use Rattle.homeo_core.specs.Joined.{BookState, AreJoined, gathered, history_of, segments_of}
 use Rattle.homeo_core.specs.inner.SiteLists.{AreAt}
 use Rattle.homeo_core.proofs.InRounds.{at_round}
-use Rattle.homeo_cluster.specs.Cells.{CellValue, BookValue, book_state}
+use Rattle.homeo_cluster.specs.inner.Cells.{CellValue, BookValue, book_state}
 use Rattle.homeo_cluster.specs.inner.Meets.{site_states}
 use Rattle.homeo_cluster.proofs.Settles.{sums_fit, last_within}
 use Rattle.homeo_cluster.proofs.frame.Frame.history.Goals as goal

@@ -12,7 +12,7 @@ use Rattle.homeo_site.specs.SiteState.{SiteState, after_local, local_entry}
 use Rattle.homeo_site.specs.SiteView.{SiteValue}
 use Rattle.homeo_assembly.specs.Written.{written, head_of}
 use Rattle.homeo_history.specs.declared.answer.Path.TheVariants.{Local}
-use Rattle.homeo_cluster.specs.Cells.{CellValue, HoldsFor}
+use Rattle.homeo_cluster.specs.inner.Cells.{CellValue, HoldsFor}
 use Rattle.homeo_cluster.specs.Places.{asked_line, done_line}
 use Rattle.homeo_cluster.specs.inner.Grows.{Grew}
 use Rattle.homeo_cluster.proofs.Entries.{written_entry}

@@ -2,7 +2,7 @@ use Rattle.std.proofs.Common.{rules, ◌≡◌, ◌<◌, List, Some, slice_get, 
 use Rattle.std.proofs.lemmas.Option.{slice_get_read}
 use Rattle.homeo_plan.specs.Planned.{sites_of}
 use Rattle.homeo_history.specs.Legal.{IsClientAt}
-use Rattle.homeo_cluster.specs.Cells.{CellValue, cell_of, cells_of, book_lists}
+use Rattle.homeo_cluster.specs.inner.Cells.{CellValue, cell_of, cells_of, book_lists}
 use Rattle.homeo_cluster.specs.inner.Meets.{MetShut}
 use Rattle.homeo_cluster.proofs.MetMore.{cell_at, cells_set, shut_more, same_book}
 use Rattle.homeo_cluster.proofs.frame.Frame.meet_clients.Goals as goal

@@ -1,7 +1,7 @@
 -- Of the first clients site and book are met.
 use Rattle.std.proofs.Common.{◌≡◌, length}
 use Rattle.homeo_plan.specs.Planned.{sites_of}
-use Rattle.homeo_cluster.specs.Cells.{cells_of, book_lists}
+use Rattle.homeo_cluster.specs.inner.Cells.{cells_of, book_lists}
 use Rattle.homeo_cluster.specs.inner.Meets.{SameBook, MetShut}
 use Rattle.homeo_cluster.proofs.frame.Frame.meet_clients.Given as goal
 

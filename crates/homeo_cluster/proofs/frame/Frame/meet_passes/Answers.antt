@@ -3,7 +3,7 @@ use Rattle.std.proofs.lemmas.Option.{slice_get_read}
 use Rattle.homeo_plan.specs.Planned.{sites_of}
 use Rattle.homeo_history.specs.Legal.{IsClientAt}
 use Rattle.homeo_history.proofs.Lists.{get_map}
-use Rattle.homeo_cluster.specs.Cells.{CellValue, cell_of, cells_of}
+use Rattle.homeo_cluster.specs.inner.Cells.{CellValue, cell_of, cells_of}
 use Rattle.homeo_cluster.specs.Passes.{PassValue, logs_of}
 use Rattle.homeo_cluster.specs.inner.Meets.{MetDone}
 use Rattle.homeo_cluster.proofs.MetMore.{cell_at, cells_set, done_more, logs_set, all_set}

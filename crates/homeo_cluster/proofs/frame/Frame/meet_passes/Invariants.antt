@@ -1,7 +1,7 @@
 -- Of the first clients site and pass are met.
 use Rattle.std.proofs.Common.{◌≡◌, length}
 use Rattle.homeo_plan.specs.Planned.{sites_of}
-use Rattle.homeo_cluster.specs.Cells.{cells_of}
+use Rattle.homeo_cluster.specs.inner.Cells.{cells_of}
 use Rattle.homeo_cluster.specs.Passes.{AreAll, logs_of}
 use Rattle.homeo_cluster.specs.inner.Meets.{MetDone}
 use Rattle.homeo_cluster.proofs.frame.Frame.meet_passes.Given as goal

@@ -2,7 +2,7 @@ use Rattle.std.proofs.Common.{rules, ◌≡◌, List, length, vec_len, sym, subs
 use Rattle.homeo_core.specs.Joined.{BookState}
 use Rattle.homeo_assembly.specs.Events.{InHand}
 use Rattle.homeo_assembly.specs.Facts.{Cell, BookLists}
-use Rattle.homeo_cluster.specs.Cells.{CellValue, cells_of, book_lists, book_state}
+use Rattle.homeo_cluster.specs.inner.Cells.{CellValue, cells_of, book_lists, book_state}
 use Rattle.homeo_cluster.specs.inner.Meets.{MetAt, MetShut}
 use Rattle.homeo_cluster.specs.inner.Rows.{held_cells}
 use Rattle.homeo_cluster.proofs.MetMore.{same_book}

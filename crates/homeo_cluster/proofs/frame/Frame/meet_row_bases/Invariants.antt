@@ -1,6 +1,6 @@
 -- The first sites are met.
 use Rattle.std.proofs.Common.{◌≡◌, vec_len, length}
-use Rattle.homeo_cluster.specs.Cells.{cells_of, book_lists}
+use Rattle.homeo_cluster.specs.inner.Cells.{cells_of, book_lists}
 use Rattle.homeo_cluster.specs.inner.Meets.{SameBook, MetAt}
 use Rattle.homeo_cluster.specs.inner.Rows.{held_cells}
 use Rattle.homeo_cluster.proofs.frame.Frame.meet_row_bases.Given as goal

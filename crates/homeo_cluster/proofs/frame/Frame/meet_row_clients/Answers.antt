@@ -1,7 +1,7 @@
 use Rattle.std.proofs.Common.{rules, ◌≡◌, ◌<◌, List, Some, slice_get, length, length-set, refl, ap, sym, subst, ◌∙◌, arith}
 use Rattle.homeo_plan.specs.Planned.{sites_of}
 use Rattle.homeo_history.specs.Legal.{IsClientAt}
-use Rattle.homeo_cluster.specs.Cells.{CellValue, cell_of, cells_of, book_lists}
+use Rattle.homeo_cluster.specs.inner.Cells.{CellValue, cell_of, cells_of, book_lists}
 use Rattle.homeo_cluster.specs.inner.Meets.{MetShut}
 use Rattle.homeo_cluster.specs.inner.Rows.{held_cells}
 use Rattle.homeo_cluster.proofs.MetMore.{cell_at, shut_more, same_book}

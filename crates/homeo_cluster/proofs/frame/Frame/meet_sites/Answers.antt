@@ -1,6 +1,6 @@
 use Rattle.std.proofs.Common.{rules, ◌≡◌, ◌<◌, List, Some, slice_get, length, length-set, vec_len, refl, subst, ◌∙◌, arith}
 use Rattle.std.proofs.lemmas.Option.{slice_get_read}
-use Rattle.homeo_cluster.specs.Cells.{CellValue, cell_of, cells_of, book_lists}
+use Rattle.homeo_cluster.specs.inner.Cells.{CellValue, cell_of, cells_of, book_lists}
 use Rattle.homeo_cluster.specs.inner.Meets.{MetAt}
 use Rattle.homeo_cluster.proofs.MetMore.{cell_at, cells_set, at_more, same_book}
 use Rattle.homeo_cluster.proofs.frame.Frame.meet_sites.Goals as goal

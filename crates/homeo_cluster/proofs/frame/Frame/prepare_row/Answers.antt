@@ -16,7 +16,7 @@ use Rattle.homeo_core.specs.GatherView.{GatherValue, PreparedValue}
 use Rattle.homeo_core.specs.Joined.{BookState, AreJoined, gathered}
 use Rattle.homeo_core.proofs.GatheredSites.{length_same}
 use Rattle.homeo_core.proofs.InRounds.{at_round}
-use Rattle.homeo_cluster.specs.Cells.{CellValue, book_state, book_lists}
+use Rattle.homeo_cluster.specs.inner.Cells.{CellValue, book_state, book_lists}
 use Rattle.homeo_cluster.specs.inner.Meets.{site_states}
 use Rattle.homeo_cluster.specs.inner.Rows.{held_cells}
 use Rattle.homeo_cluster.proofs.Rows.{held_long, joined_hand}

@@ -13,7 +13,7 @@ use Rattle.homeo_site.specs.SiteState.{SiteState, renewed}
 use Rattle.homeo_assembly.specs.Events.{IsNext, Renews}
 use Rattle.homeo_assembly.specs.Key.{words}
 use Rattle.homeo_assembly.specs.Written.{read}
-use Rattle.homeo_cluster.specs.Cells.{CellValue, site_lists}
+use Rattle.homeo_cluster.specs.inner.Cells.{CellValue, site_lists}
 use Rattle.homeo_cluster.specs.Places.{at_line, bases_line}
 use Rattle.homeo_cluster.specs.inner.Grows.{Grew}
 use Rattle.homeo_cluster.specs.inner.Moves.{AreShort}

@@ -1,5 +1,5 @@
 use Rattle.std.proofs.Common.{rules, ◌≡◌, List, length, vec_len, sym, subst, ◌∙◌}
-use Rattle.homeo_cluster.specs.Cells.{CellValue, cells_of, book_lists, book_state}
+use Rattle.homeo_cluster.specs.inner.Cells.{CellValue, cells_of, book_lists, book_state}
 use Rattle.homeo_cluster.specs.Passes.{logs_of}
 use Rattle.homeo_cluster.specs.inner.Meets.{MetAt, MetShut, MetDone}
 use Rattle.homeo_cluster.proofs.Settles.{numbers_again, settled_all}
