@@ -147,11 +147,7 @@ fn run_call(
 ///
 /// `Memory` when out of memory.
 #[tactic(auto, unfolding(homeo_build::specs::Key::words))]
-pub fn plan_at(
-    alloc: Global,
-    c: &Compiled,
-    base: &Database,
-) -> Result<Arc<RoundPlan>, Memory>
+pub fn plan_at(alloc: Global, c: &Compiled, base: &Database) -> Result<Arc<RoundPlan>, Memory>
     requires within { IsWithin (schema_of (plain_workload c.now)) base.now.items }
     ensures plan { IfOk result (λ p. IsPlanOf (plain_workload c.now) base.now.items p.value) }
     ensures policy { IfOk result (λ p. plain_config p.value.config ≡ policy (plain_workload c.now) base.now.items) }

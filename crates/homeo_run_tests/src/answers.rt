@@ -1,18 +1,22 @@
 //! The answers that clients got, beside the history of what was done.
 
-ghost use Rattle.std.specs.Prelude.{◌≡◌};
+ghost use Rattle.std.specs.Prelude.{◌≡◌, IfOk, OnOk};
 ghost use Rattle.homeo_syntax.specs.SourceView.{plain_workload};
+ghost use Rattle.homeo_history.specs.HistoryView.{plain_history};
+ghost use Rattle.homeo_report.specs.Report.{CanReport};
+ghost use Rattle.homeo_cluster.specs.Passes.{AreAll};
 ghost use Rattle.homeo_cluster.specs.Places.{line_count};
 
 use crate::gates::{Hold, Holds, call};
-use crate::texts::THREE_EACH;
+use crate::texts::{THREE_AND_ONE, THREE_EACH};
 use homeo_build::Compiled;
 use homeo_build::compile::compile;
-use homeo_cluster::{ClientPass, Cluster, ClusterNaming, Gate, blank_for, run_clients};
+use homeo_cluster::{ClientPass, Cluster, ClusterNaming, Gate, OpenGate, blank_for, run_clients};
 use homeo_history::{Answer, Entry, History, Path};
 use homeo_meaning::{Accepted, Purpose};
 use homeo_notes::Blank;
 use homeo_reader::{ReadRefusal, read};
+use homeo_report::report;
 use homeo_rules::{RuleRefusal, accept};
 use homeo_syntax::{List, Memory};
 use std::alloc::{AllocError, Global};
@@ -107,6 +111,95 @@ fn entry_of<'a>(history: &'a History, answer: &Answer) -> Option<&'a Entry> {
     Some(entry)
 }
 
+// Makes calls from one thread: the next one of each of these clients, in order.
+fn make_in_order<N: ClusterNaming, R: Wait>(
+    rt: &R,
+    alloc: Global,
+    cluster: &Cluster<N>,
+    passes: &mut Vec<ClientPass<N>>,
+    clients: &[usize],
+) -> Result<(), Memory>
+    requires all { AreAll N.workload passes.old.items }
+    ensures all { OnOk result (AreAll N.workload passes.new.items) }
+{
+    for client in clients {
+        if *client < passes.len() && passes[*client].left() > 0 {
+            cluster.call(rt, alloc, &mut passes[*client], &OpenGate)?;
+        }
+    }
+    Ok(())
+}
+
+fn run_in_order_on<N: ClusterNaming, R: Wait>(
+    rt: &R,
+    alloc: Global,
+    blank: Blank,
+    c: Arc<Compiled>,
+    clients: &[usize],
+) -> Result<Day, Memory>
+    requires board { blank ≡ N.board }
+    requires workload { plain_workload c.value ≡ N.workload }
+    requires lines { blank.words ≡ line_count N.workload }
+    ensures reportable { IfOk result (λ day. CanReport N.workload (plain_history day.history)) }
+{
+    let (cluster, mut passes) = Cluster::<N>::begin(alloc, blank, c)?;
+    make_in_order(rt, alloc, &cluster, &mut passes, clients)?;
+    let answers = copy_logs(alloc, passes.as_slice())?;
+    let history = cluster.finish(alloc, passes)?;
+    Ok(Day { answers, history })
+}
+
+fn run_in_order<R: Wait>(
+    rt: &R,
+    alloc: Global,
+    c: &Arc<Compiled>,
+    clients: &[usize],
+) -> Result<Day, Memory>
+    ensures reportable { IfOk result (λ day. CanReport (plain_workload c.now.value) (plain_history day.history)) }
+{
+    let blank = blank_for(alloc, c)?;
+    run_in_order_on::<Brand, R>(rt, alloc, blank, Arc::try_clone(c)?, clients)
+}
+
+// Whether the answers are as many as this, and each has the prints of its entry.
+fn assert_answers_stand(rt: &impl Abort, day: &Day, many: usize) -> Result<(), Fail> {
+    for answer in day.answers.as_slice() {
+        let Some(entry) = entry_of(&day.history, answer) else {
+            return Err(Fail::from("an answer has an entry"));
+        };
+        assert_eq!(rt; entry.call, call(answer.client, answer.seq));
+        assert_eq!(rt; entry.prints.as_slice(), answer.prints.as_slice());
+    }
+    assert_eq!(rt; day.answers.as_slice().len(), many);
+    Ok(())
+}
+
+#[test]
+fn calls_of_one_thread_are_reported_in_their_order(rt: HostRuntime) -> Result<(), Fail> {
+    let alloc = rt.alloc();
+    let compiled = Arc::new(alloc, compile(alloc, accepted(&rt, alloc, THREE_AND_ONE)?)?)?;
+    let day = run_in_order(&rt, alloc, &compiled, &[0, 0, 1, 0])?;
+    assert_answers_stand(&rt, &day, 4)?;
+    let told = report(alloc, &day.history, compiled.workload())?;
+    let expected = b"round 0
+site 0
+a 1 buy(1): 1
+a 2 buy(1): 1
+site 1
+b 1 buy(1): 1
+close 0 clause 0 sum 3 bound 2
+a 3 buy(1): 1
+round 1
+site 0
+site 1
+database
+stock = 1
+rounds 2 calls 4
+";
+    assert_eq!(rt; told.as_slice(), expected.as_slice());
+    Ok(())
+}
+
 #[test]
 fn answers_stand_in_the_history(rt: HostRuntime) -> Result<(), Fail> {
     let alloc = rt.alloc();
@@ -123,18 +216,13 @@ fn answers_stand_in_the_history(rt: HostRuntime) -> Result<(), Fail> {
     let w = accepted(&rt, alloc, THREE_EACH)?;
     let day = run_day(&rt, alloc, w, &gate)?;
     assert!(rt; !gate.was_late(&rt));
+    assert_answers_stand(&rt, &day, 6)?;
     let mut closing = 0u64;
     for answer in day.answers.as_slice() {
-        let Some(entry) = entry_of(&day.history, answer) else {
-            return Err(Fail::from("an answer has an entry"));
-        };
-        assert_eq!(rt; entry.call, call(answer.client, answer.seq));
-        assert_eq!(rt; entry.prints.as_slice(), answer.prints.as_slice());
         if answer.path != Path::Local {
             closing = closing.wrapping_add(1);
         }
     }
-    assert_eq!(rt; day.answers.as_slice().len(), 6);
     assert_eq!(rt; closing, 1);
     Ok(())
 }

@@ -15,7 +15,7 @@ returns g c =
     let results : List (Result PassValue Memory) = c.in-Ok.results.items in
     let long : length results ≡ length before = omega (arith, c.in-Ok.ensures.count) in
     let each : (i : ℕ) (d : Result PassValue Memory) (e : PassValue) → i < length before → IfOk (get_or results i d) (HasRun w (get_or before i e)) =
-        λ i d e l. c.in-Ok.ensures.each i d e (omega (arith, l, c.args.passes.ok.0)) in
+    λ i d e l. c.in-Ok.ensures.each i d e (omega (arith, l, c.args.passes.ok.0)) in
     record {
       finished = IfOk-weaker c.all_of.result _ _ (λ after is. (all_have_run w before after.items results is long each).finished) c.all_of.ensures;
       answers = IfOk-weaker c.all_of.result _ _ (λ after is. (all_have_run w before after.items results is long each).answers) c.all_of.ensures;
