@@ -13,4 +13,5 @@ OneOutput =
 -- and so have the words of a load, which determine it
 abbrev pub OneLoadOutput : Type 0
 OneLoadOutput =
-    (words : List (List ℕ)) (output output' : List ℕ) → IsMadeOfLoad words output → IsMadeOfLoad words output' → output ≡ output'
+    (words : List (List ℕ)) (output output' : List ℕ) → IsMadeOfLoad words output → IsMadeOfLoad words output' →
+    output ≡ output'

@@ -1,4 +1,4 @@
--- What is made of a text or a load, and what a run did to its source, its output and its complaints, where they tell their bytes.
+-- What is made of a text or a load, and what a run did to its source, output and complaints, where they tell their bytes.
 use Rattle.std.specs.Prelude.{◌≡◌, ◌⊎◌, ℕ, List, Some}
 use Rattle.std.specs.declared.option.Option.{Option}
 use Rattle.homeo_io.specs.Faults.{Rose}
