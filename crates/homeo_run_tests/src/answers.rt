@@ -1,6 +1,6 @@
 //! The answers that clients got, beside the history of what was done.
 
-ghost use Rattle.std.specs.Prelude.{◌≡◌, IfOk, OnOk};
+ghost use Rattle.std.specs.Prelude.{◌≡◌, ◌<◌, IfOk, OnOk, vec_len};
 ghost use Rattle.homeo_syntax.specs.SourceView.{plain_workload};
 ghost use Rattle.homeo_history.specs.HistoryView.{plain_history};
 ghost use Rattle.homeo_report.specs.Report.{CanReport};
@@ -111,6 +111,25 @@ fn entry_of<'a>(history: &'a History, answer: &Answer) -> Option<&'a Entry> {
     Some(entry)
 }
 
+// Makes the next call of a client's pass, where one is left.
+fn make_next<N: ClusterNaming, R: Wait>(
+    rt: &R,
+    alloc: Global,
+    cluster: &Cluster<N>,
+    passes: &mut Vec<ClientPass<N>>,
+    client: usize,
+) -> Result<(), Memory>
+    requires inside { client < vec_len passes.old }
+    requires all { AreAll N.workload passes.old.items }
+    ensures all { OnOk result (AreAll N.workload passes.new.items) }
+{
+    if passes[client].left() == 0 {
+        return Ok(());
+    }
+    cluster.call(rt, alloc, &mut passes[client], &OpenGate)?;
+    Ok(())
+}
+
 // Makes calls from one thread: the next one of each of these clients, in order.
 fn make_in_order<N: ClusterNaming, R: Wait>(
     rt: &R,
@@ -123,8 +142,8 @@ fn make_in_order<N: ClusterNaming, R: Wait>(
     ensures all { OnOk result (AreAll N.workload passes.new.items) }
 {
     for client in clients {
-        if *client < passes.len() && passes[*client].left() > 0 {
-            cluster.call(rt, alloc, &mut passes[*client], &OpenGate)?;
+        if *client < passes.len() {
+            make_next(rt, alloc, cluster, passes, *client)?;
         }
     }
     Ok(())
