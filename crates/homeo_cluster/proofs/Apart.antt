@@ -1,15 +1,13 @@
 -- The lines of a site's holder are apart.
 use Rattle.homeo_history.specs.Key.{words as histories}
-use Rattle.homeo_site.specs.Key.{words as site_words}
-use Rattle.std.proofs.Common.{◌≡◌, ◌⊎◌, ℕ, zero, suc, ◌+◌, ◌*◌, ◌<◌, ◌≤◌, Bool, true, false, List, [], ◌∷◌, length, map, Some, None, refl, sym, ap, subst, ◌∙◌, arith, ⊎_elim, inl, inr}
+use Rattle.std.proofs.Common.{◌≡◌, ℕ, zero, suc, ◌+◌, ◌*◌, ◌<◌, ◌≤◌, Bool, true, List, [], ◌∷◌, length, map, Some, refl, ap, ◌∙◌, arith}
 use Rattle.std.specs.Prelude.{slice_get, option_map}
 use Rattle.homeo_syntax.specs.Source as s
 use Rattle.homeo_syntax.specs.Source.{Client}
 use Rattle.homeo_meaning.specs.Schema.{nat_of}
-use Rattle.homeo_history.specs.Legal.{client_site, IsClientAt}
-use Rattle.homeo_assembly.specs.Key.{words}
+use Rattle.homeo_history.specs.Legal.{IsClientAt}
 use Rattle.homeo_cluster.specs.Key.{places}
-use Rattle.homeo_cluster.specs.Places.{is_less, is_same, one_for, earlier, nth, homes, home_of, below, place, kept_line, done_line, shut_line, at_line, bases_line}
+use Rattle.homeo_cluster.specs.Places.{is_less, is_same, one_for, earlier, nth, homes, home_of, below, done_line, shut_line, at_line}
 
 -- at the place i stands x
 stands : {X : Type 0} (f : X → ℕ) (xs : List X) (i site : ℕ) → option_map f (slice_get xs i) ≡ Some site → (nth (map f xs) i ≡ site) × (i < length (map f xs))

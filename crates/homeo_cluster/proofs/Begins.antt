@@ -1,16 +1,14 @@
 -- The first passes, sites and book.
 use Rattle.homeo_site.specs.Key.{words as site_words}
 use Rattle.homeo_assembly.specs.Key.{words}
-use Rattle.std.proofs.Common.{◌≡◌, ◌≢◌, ℕ, zero, suc, ◌+◌, ◌*◌, ◌^◌, ◌<◌, ◌≤◌, List, [], ◌∷◌, ◌++◌, map, length, replicate, Some, None, ℤ, refl, sym, ap, subst, ◌∙◌, ◌⊎◌, inl, inr, ⊎_elim, arith, length-append}
-use Rattle.std.specs.Prelude.{All, slice_get}
-use Rattle.std.specs.List.{range_with_len}
+use Rattle.std.proofs.Common.{◌≡◌, ◌≢◌, ℕ, zero, suc, ◌+◌, ◌^◌, ◌<◌, ◌≤◌, List, [], ◌∷◌, ◌++◌, map, length, Some, None, ℤ, refl, sym, ap, subst, ◌∙◌, ◌⊎◌, inl, inr, ⊎_elim, arith, length-append}
+use Rattle.std.specs.Prelude.{slice_get}
 use Rattle.std.proofs.lemmas.List.{get_or-replicate}
 use Rattle.std.proofs.lemmas.List.Elements.{All-nil, All-push}
 use mathlib.Core.Logic.{dite}
 use native.Mathlib.Decide.{ℕ_discrete}
-use lib.ListN.{get_or}
 use Rattle.std.specs.declared.option.Option.{Option}
-use Rattle.homeo_notes.specs.Lines.{Held, Entry, Entries, put, or_empty, owned_at, list_at, seen_at, Owns, IsOwner, HasSeen, TellsOf, with_list, owner_of_all, after_telling, only_lines, without_lines}
+use Rattle.homeo_notes.specs.Lines.{Held, Entry, Entries, or_empty, owned_at, list_at, seen_at, Owns, IsOwner, HasSeen, TellsOf, with_list, owner_of_all, after_telling, only_lines, without_lines}
 use Rattle.homeo_notes.proofs.Lists.{get_or-put_same, get_or-put_other}
 use Rattle.homeo_notes.proofs.Prefixes.{prefix_nil, prefix_trans}
 use Rattle.homeo_notes.proofs.Deals.{owned_only, owned_above, owned_below}
@@ -26,15 +24,15 @@ use Rattle.homeo_history.specs.Legal.{IsClientAt, call_count}
 use Rattle.homeo_site.specs.SiteState.{SiteState, begun}
 use Rattle.homeo_site.specs.SiteView.{StartValue, SiteValue}
 use Rattle.homeo_core.specs.Joined.{BookState}
-use Rattle.homeo_assembly.specs.Facts.{SiteLists, SiteFacts, Serves, BookLists, BookFacts}
+use Rattle.homeo_assembly.specs.Facts.{SiteLists, SiteFacts, Serves}
 use Rattle.homeo_assembly.specs.Events.{no_answers}
 use Rattle.homeo_assembly.specs.Laws.{SiteStart, BookStart}
-use Rattle.homeo_assembly.specs.Written.{read, written}
+use Rattle.homeo_assembly.specs.Written.{read}
 use Rattle.homeo_cluster.specs.Places.{asked_line, kept_line, done_line, shut_line, at_line, bases_line, line_count}
-use Rattle.homeo_cluster.specs.inner.Cells.{answers_at, site_lists, HoldsFor, HoldsAt, IsCell, book_lists, KeepsFor, HoldsBook, IsBook}
-use Rattle.homeo_cluster.specs.Passes.{PassValue, IsLog, HoldsLog, IsPass, AreAll, AreBegun}
+use Rattle.homeo_cluster.specs.inner.Cells.{site_lists, IsCell, IsBook}
+use Rattle.homeo_cluster.specs.Passes.{PassValue, IsPass, AreBegun}
 use Rattle.homeo_cluster.specs.inner.Begun.{AreLeft, IsRest, IsFirst, AreFirst, first_line}
-use Rattle.homeo_cluster.proofs.LinesInOrder.{first_of_all, first_next, at_after_first, at_before_bases, kept_before_first, kept_before_bases, kept_after_asked, first_after_asked, bases_is_last, bases_after_asked, shut_after_done, IsAmong, among}
+use Rattle.homeo_cluster.proofs.LinesInOrder.{first_next, at_after_first, at_before_bases, kept_before_first, kept_before_bases, kept_after_asked, first_after_asked, bases_is_last, bases_after_asked, shut_after_done, among}
 
 -- ---- a line that is owned
 pub owned_list : (h : Held) (i : ℕ) (xs : Entries) → Owns h i xs → list_at h i ≡ xs

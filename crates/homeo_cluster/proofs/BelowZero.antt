@@ -1,8 +1,7 @@
 -- A number below 0 as two of 64 bits.
 use Rattle.homeo_assembly.specs.Key.{words}
-use Rattle.std.proofs.Common.{◌≡◌, ◌/◌, ℤ, pos, negsuc, ◌-ℤ◌, ◌+ℤ◌, ◌<ℤ◌, ◌≤ℤ◌, ℕ, suc, ap, sym, ◌∙◌, arith, subst}
+use Rattle.std.proofs.Common.{◌≡◌, ◌/◌, ℤ, pos, negsuc, ◌-ℤ◌, ◌+ℤ◌, ◌<ℤ◌, ℕ, ap, ◌∙◌, arith}
 use Rattle.std.proofs.lemmas.Int.{ints}
-use lib.Signed.{quot_z}
 use Rattle.homeo_assembly.specs.Written.{upper}
 
 above : (k : ℕ) → pos 0 -ℤ (negsuc k +ℤ pos 1) ≡ pos k

@@ -1,10 +1,10 @@
 -- The round is closed: sites and book hold again, over plain data.
 use Rattle.homeo_assembly.specs.Key.{words}
 use Rattle.homeo_site.specs.Key.{words as site_words}
-use Rattle.std.proofs.Common.{◌≡◌, ℕ, ◌<◌, ◌≤◌, List, [], ◌∷◌, ◌++◌, map, length, Some, refl, sym, ap, subst, ◌∙◌, arith}
+use Rattle.std.proofs.Common.{◌≡◌, ℕ, ◌<◌, List, [], ◌∷◌, ◌++◌, length, Some, sym, ap, subst, ◌∙◌}
 use Rattle.std.specs.Prelude.{ℤ, slice_get}
 use Rattle.std.proofs.lemmas.List.{length-map}
-use Rattle.homeo_notes.specs.Lines.{Held, HasSeen, list_at}
+use Rattle.homeo_notes.specs.Lines.{Held, list_at}
 use Rattle.homeo_syntax.specs.Source as s
 use Rattle.homeo_meaning.specs.Acceptance.{IsAccepted}
 use Rattle.homeo_meaning.specs.declared.call.CallId.{CallId}
@@ -17,12 +17,11 @@ use Rattle.homeo_site.specs.SiteState.{SiteState, renewed}
 use Rattle.homeo_core.specs.Events.{BreaksCall, closing_of, next_base, after_closing}
 use Rattle.homeo_core.specs.Joined.{BookState}
 use Rattle.homeo_assembly.specs.Events.{Renews, Closes, InHand}
-use Rattle.homeo_assembly.specs.Facts.{Cell, BookLists, BookFacts, states_of}
-use Rattle.homeo_assembly.specs.Written.{read}
+use Rattle.homeo_assembly.specs.Facts.{Cell, BookFacts, states_of}
 use Rattle.homeo_assembly.proofs.ClosingEvents.{cleanup_event}
 use Rattle.homeo_cluster.specs.inner.Cells.{CellValue, BookValue, IsBook, book_state, book_lists, cell_of, cells_of, site_lists}
-use Rattle.homeo_cluster.specs.Places.{kept_line, shut_line, at_line, bases_line}
-use Rattle.homeo_cluster.specs.inner.Meets.{AreNumbered, site_states}
+use Rattle.homeo_cluster.specs.Places.{bases_line}
+use Rattle.homeo_cluster.specs.inner.Meets.{AreNumbered}
 use Rattle.homeo_cluster.specs.inner.Rows.{HasGoneOn, HaveGoneOn}
 
 module _ (w : s.Workload) (next : List ℤ) (a : Answer) (before now : List CellValue) (bb b0 b p0 p : Held)

@@ -1,12 +1,11 @@
 -- What is written on the board: a head and prints.
 use Rattle.homeo_history.specs.Key.{words as histories}
 use Rattle.homeo_assembly.specs.Key.{words}
-use Rattle.std.proofs.Common.{◌≡◌, ℕ, List, ◌++◌, ◌∙◌, ap, sym, subst}
+use Rattle.std.proofs.Common.{◌≡◌, ℕ, List, ◌++◌, ◌∙◌, ap, sym}
 use Rattle.std.specs.Prelude.{ℤ}
 use Rattle.homeo_plan.specs.declared.treaty.Broken.{Broken}
 use Rattle.homeo_history.specs.Answers.{Answer, local_answer}
 use Rattle.homeo_history.specs.History.{Entry}
-use Rattle.homeo_history.specs.declared.answer.Path.{Path}
 use Rattle.homeo_history.specs.declared.answer.Path.TheVariants.{Local, Cleanup}
 use Rattle.homeo_assembly.specs.Written.{head_of, written}
 

@@ -1,12 +1,11 @@
 -- From lists of entries to lists of answers.
 use Rattle.homeo_history.specs.Key.{words as histories}
 use Rattle.homeo_site.specs.Key.{words as site_words}
-use Rattle.std.proofs.Common.{◌≡◌, ◌≢◌, ℕ, suc, ◌<◌, Bool, true, false, cond, eqb, List, [], ◌∷◌, ◌++◌, length, map, Some, refl, sym, ap, subst, ◌∙◌, arith, eq-eqb}
-use Rattle.std.specs.Prelude.{ℤ}
+use Rattle.std.proofs.Common.{◌≡◌, ℕ, cond, [], ◌∷◌, ◌++◌, map, refl, sym, ap, subst, ◌∙◌, eq-eqb}
 use Rattle.std.proofs.lemmas.List.{append-nil, map-append}
 use mathlib.Core.Logic.{dite}
 use native.Mathlib.Decide.{ℕ_discrete}
-use Rattle.homeo_notes.specs.Lines.{Held, Entry, Entries, HasSeen, list_at}
+use Rattle.homeo_notes.specs.Lines.{Held, Entry, list_at}
 use Rattle.homeo_syntax.specs.Source as s
 use Rattle.homeo_history.specs.Legal.{IsClientAt}
 use Rattle.homeo_assembly.specs.Key.{words}
@@ -15,9 +14,9 @@ use Rattle.homeo_assembly.specs.Events.{Gives, Agree}
 use Rattle.homeo_assembly.specs.Written.{written, read}
 use Rattle.homeo_core.proofs.OneAnswer.{not_to}
 use Rattle.homeo_assembly.proofs.Reading.{read_written}
-use Rattle.homeo_cluster.specs.inner.Grows.{Rose, Grew}
+use Rattle.homeo_cluster.specs.inner.Grows.{Grew}
 use Rattle.homeo_cluster.specs.inner.Cells.{answers_at}
-use Rattle.homeo_cluster.proofs.Grows.{rose_list, grew_same, grew_list_other}
+use Rattle.homeo_cluster.proofs.Grows.{grew_same, grew_list_other}
 
 pub own_to : (client : ℕ) (a : Answer) → a.client ≡ client → answers_to client (a ∷ []) ≡ a ∷ []
 unfolding words histories site_words

@@ -1,7 +1,6 @@
 -- The answer to a closing call, at its client's site and at the others, over plain data.
-use Rattle.homeo_history.specs.Key.{words as histories}
 use Rattle.homeo_assembly.specs.Key.{words}
-use Rattle.std.proofs.Common.{◌≡◌, ◌≢◌, ℕ, List, [], ◌∷◌, ◌++◌, map, refl, sym, ap, subst, ◌∙◌}
+use Rattle.std.proofs.Common.{◌≡◌, ℕ, List, [], ◌∷◌, ◌++◌, map, refl, sym, ap, subst, ◌∙◌}
 use Rattle.std.proofs.lemmas.List.{append-nil}
 use Rattle.homeo_notes.specs.Lines.{Held, Entry, HasSeen, list_at, seen_at}
 use Rattle.homeo_notes.proofs.Prefixes.{prefix_self, prefix_trans}
@@ -10,9 +9,9 @@ use Rattle.homeo_history.specs.Answers.{Answer, answers_to}
 use Rattle.homeo_history.specs.Legal.{IsClientAt}
 use Rattle.homeo_core.proofs.OneAnswer.{not_to}
 use Rattle.homeo_assembly.specs.Written.{written, read}
-use Rattle.homeo_cluster.specs.inner.Cells.{HoldsAt, site_lists, answers_at}
-use Rattle.homeo_cluster.specs.Places.{asked_line, kept_line, done_line, shut_line, at_line, bases_line}
-use Rattle.homeo_cluster.specs.inner.Grows.{Grew, Rose}
+use Rattle.homeo_cluster.specs.inner.Cells.{HoldsAt, answers_at}
+use Rattle.homeo_cluster.specs.Places.{asked_line, kept_line, done_line, shut_line, at_line}
+use Rattle.homeo_cluster.specs.inner.Grows.{Grew}
 use Rattle.homeo_cluster.specs.inner.Moves.{KeepsEach, KeepsOthers, ArePairs}
 use Rattle.homeo_cluster.specs.inner.Renewed.{IsGiven}
 use Rattle.homeo_cluster.proofs.Apart.{AreApart, apart}

@@ -1,7 +1,5 @@
 -- Sites that go on to the next round, one after another, over plain data.
-use Rattle.homeo_assembly.specs.Key.{words}
-use Rattle.homeo_site.specs.Key.{words as site_words}
-use Rattle.std.proofs.Common.{◌≡◌, ◌≢◌, ◌⊎◌, ℕ, zero, suc, ◌+◌, ◌<◌, ◌≤◌, List, [], ◌∷◌, ◌++◌, map, length, slice_set, Some, refl, sym, ap, subst, ◌∙◌, arith, inl, inr, ⊎_elim}
+use Rattle.std.proofs.Common.{◌≡◌, ◌⊎◌, ℕ, zero, suc, ◌+◌, ◌<◌, ◌≤◌, List, [], ◌∷◌, map, length, slice_set, Some, refl, sym, ap, subst, ◌∙◌, arith, inl, inr, ⊎_elim}
 use Rattle.std.specs.Prelude.{ℤ, slice_get}
 use Rattle.homeo_notes.specs.Lines.{Held, HasSeen, list_at, seen_at}
 use Rattle.homeo_notes.proofs.Prefixes.{prefix_trans}
@@ -11,9 +9,9 @@ use Rattle.homeo_history.specs.Legal.{IsClientAt}
 use Rattle.homeo_history.proofs.ClientAnswers.{one_site}
 use Rattle.homeo_history.proofs.Lists.{get_same, get_set_same, get_set_other, length_set}
 use Rattle.homeo_assembly.specs.Written.{read}
-use Rattle.homeo_cluster.specs.inner.Cells.{CellValue, site_lists}
-use Rattle.homeo_cluster.specs.Places.{kept_line, at_line, bases_line}
-use Rattle.homeo_cluster.specs.inner.Moves.{KeepsEach, KeepsOthers, ArePairs}
+use Rattle.homeo_cluster.specs.inner.Cells.{CellValue}
+use Rattle.homeo_cluster.specs.Places.{at_line, bases_line}
+use Rattle.homeo_cluster.specs.inner.Moves.{KeepsEach, KeepsOthers}
 use Rattle.homeo_cluster.specs.inner.Renewed.{CanAsk, WasAsked, IsAsked, IsRenewed}
 use Rattle.homeo_cluster.specs.inner.Rows.{IsReady, CanRenew, HasGoneOn, HaveGoneOn}
 

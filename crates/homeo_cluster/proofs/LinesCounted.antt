@@ -1,7 +1,6 @@
 -- Clients are counted one after another.
-use Rattle.homeo_history.specs.Key.{words as histories}
 use Rattle.homeo_cluster.specs.Key.{places}
-use Rattle.std.proofs.Common.{◌≡◌, ◌≢◌, ℕ, zero, suc, ◌+◌, ◌*◌, ◌<◌, ◌≤◌, Bool, true, false, List, [], ◌∷◌, ◌++◌, length, map, Some, refl, sym, ap, ◌∙◌, arith, length-append}
+use Rattle.std.proofs.Common.{◌≡◌, ◌≢◌, ℕ, zero, suc, ◌+◌, ◌*◌, ◌<◌, ◌≤◌, Bool, true, false, List, [], ◌∷◌, ◌++◌, length, Some, refl, sym, ap, ◌∙◌, arith, length-append}
 use Rattle.std.specs.Prelude.{slice_get}
 use mathlib.Core.Logic.{dite}
 use native.Mathlib.Decide.{ℕ_discrete}
@@ -10,7 +9,7 @@ use Rattle.std.proofs.lemmas.List.{length-map}
 use Rattle.homeo_syntax.specs.Source as s
 use Rattle.homeo_meaning.specs.Schema.{nat_of}
 use Rattle.homeo_history.specs.Legal.{IsClientAt}
-use Rattle.homeo_cluster.specs.Places.{is_less, is_same, one_for, earlier, nth, homes, home_of, below, place, done_line, at_line}
+use Rattle.homeo_cluster.specs.Places.{is_less, is_same, one_for, earlier, nth, homes, below, place, done_line, at_line}
 use Rattle.homeo_cluster.specs.inner.Begun.{before}
 use Rattle.homeo_cluster.proofs.Apart.{at_home}
 

@@ -1,7 +1,6 @@
 -- The lines of the sites follow each other, after those of the passes and of the book, and before the last.
-use Rattle.homeo_history.specs.Key.{words as histories}
 use Rattle.homeo_cluster.specs.Key.{places}
-use Rattle.std.proofs.Common.{◌≡◌, ℕ, zero, suc, ◌+◌, ◌*◌, ◌<◌, ◌≤◌, Bool, true, false, List, [], ◌∷◌, length, refl, sym, ap, ◌∙◌, arith}
+use Rattle.std.proofs.Common.{◌≡◌, ℕ, zero, suc, ◌+◌, ◌*◌, ◌<◌, ◌≤◌, List, [], ◌∷◌, length, refl, ap, ◌∙◌, arith}
 use Rattle.homeo_syntax.specs.Source as s
 use Rattle.homeo_plan.specs.Planned.{sites_of}
 use Rattle.homeo_history.specs.Legal.{IsClientAt}
@@ -9,7 +8,7 @@ use Rattle.homeo_meaning.specs.Acceptance.{IsAccepted}
 use Rattle.homeo_core.proofs.FewClients.{clients_few, sites_of_few}
 use Rattle.homeo_cluster.specs.Places.{is_less, is_same, one_for, earlier, homes, below, kept_line, done_line, shut_line, at_line, bases_line, line_count}
 use Rattle.homeo_cluster.specs.inner.Begun.{before, first_line}
-use Rattle.homeo_cluster.proofs.Apart.{in_block, split_all, at_home}
+use Rattle.homeo_cluster.proofs.Apart.{in_block, split_all}
 use Rattle.homeo_cluster.proofs.LinesCounted.{earlier_few, homes_length}
 
 none_less : (xs : List ℕ) (n : ℕ) → earlier (λ site. is_less site 0) xs n ≡ 0

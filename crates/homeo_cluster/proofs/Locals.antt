@@ -1,21 +1,18 @@
 -- The local event, over plain data.
 use Rattle.homeo_history.specs.Key.{words as histories}
 use Rattle.homeo_site.specs.Key.{words as site_words}
-use Rattle.std.proofs.Common.{◌≡◌, ◌≢◌, ℕ, suc, ◌+◌, ◌<◌, ◌≤◌, List, [], ◌∷◌, ◌++◌, length, map, Some, refl, sym, ap, subst, ◌∙◌, arith}
-use Rattle.std.specs.Prelude.{ℤ, All}
-use Rattle.std.specs.List.{range_with_len}
-use Rattle.std.proofs.lemmas.List.{append-nil, map-append, length-map, length_push}
+use Rattle.std.proofs.Common.{◌≡◌, ◌≢◌, ℕ, suc, ◌<◌, length, sym, ap, subst, ◌∙◌}
+use Rattle.std.proofs.lemmas.List.{length-map}
 use mathlib.Core.Logic.{dite}
 use native.Mathlib.Decide.{ℕ_discrete}
-use Rattle.homeo_notes.specs.Lines.{Held, Entry, Entries, IsOwner, HasSeen, list_at}
+use Rattle.homeo_notes.specs.Lines.{Held, Entry, HasSeen, list_at}
 use Rattle.homeo_syntax.specs.Source as s
 use Rattle.homeo_syntax.specs.SourceView.{plain_workload}
 use Rattle.homeo_meaning.specs.Acceptance.{IsAccepted}
 use Rattle.homeo_history.proofs.ClientAnswers.{client_at}
 use Rattle.homeo_meaning.specs.declared.call.CallId.{CallId}
-use Rattle.homeo_history.specs.History.{Entry as Made}
 use Rattle.homeo_plan.specs.Planned.{sites_of}
-use Rattle.homeo_history.specs.Legal.{call_count, IsClientAt, IsCallAt}
+use Rattle.homeo_history.specs.Legal.{IsClientAt, IsCallAt}
 use Rattle.homeo_site.specs.SiteState.{SiteState, local_entry, after_local, KeepsCall}
 use Rattle.homeo_assembly.specs.Key.{words}
 use Rattle.homeo_history.specs.Answers.{Answer, local_answer}
@@ -26,10 +23,10 @@ use Rattle.homeo_assembly.proofs.SiteEvents.{local_event}
 use Rattle.homeo_site.specs.SiteView.{SiteValue}
 use Rattle.homeo_cluster.specs.inner.Grows.{Grew}
 use Rattle.homeo_cluster.specs.Places.{asked_line, kept_line, done_line, shut_line, at_line, bases_line}
-use Rattle.homeo_cluster.specs.inner.Cells.{CellValue, IsCell, HoldsAt, HoldsFor, site_lists, answers_at}
+use Rattle.homeo_cluster.specs.inner.Cells.{IsCell, HoldsAt, HoldsFor, site_lists}
 use Rattle.homeo_cluster.proofs.Apart.{AreApart, apart}
 use Rattle.homeo_cluster.proofs.Gives.{gives, agrees}
-use Rattle.homeo_cluster.proofs.Grows.{grew_same, grew_owner_same, grew_owner_other, grew_list_other, grew_seen}
+use Rattle.homeo_cluster.proofs.Grows.{grew_owner_same, grew_owner_other, grew_list_other, grew_seen}
 
 -- the holder after the list `done` of one client grew
 pub holds_more : (w : s.Workload) (site client : ℕ) (h h' : Held) (e : Entry) → HoldsAt w site h → IsClientAt w site client

@@ -1,24 +1,19 @@
 -- While the entries of one site go over into the book, over plain data.
 use Rattle.homeo_history.specs.Key.{words as histories}
-use Rattle.homeo_site.specs.Key.{words as site_words}
-use Rattle.std.proofs.Common.{◌≡◌, ◌≢◌, ℕ, suc, ◌+◌, ◌<◌, ◌≤◌, List, [], ◌∷◌, ◌++◌, length, map, take, drop, eqb, Some, refl, sym, ap, subst, ◌∙◌, arith}
-use Rattle.std.specs.Prelude.{ℤ, All, slice_get}
-use Rattle.std.proofs.lemmas.List.{append-nil, map-append, length-map, length-append, take-append-drop}
+use Rattle.std.proofs.Common.{◌≡◌, ◌≢◌, ℕ, suc, ◌+◌, ◌<◌, ◌≤◌, [], ◌∷◌, ◌++◌, length, map, take, drop, eqb, Some, refl, sym, ap, subst, ◌∙◌, arith}
+use Rattle.std.specs.Prelude.{slice_get}
+use Rattle.std.proofs.lemmas.List.{map-append, length-map, length-append, take-append-drop}
 use Rattle.std.proofs.lemmas.List.Elements.{filter-append}
-use Rattle.std.specs.List.{range_with_len}
 use mathlib.Core.Logic.{dite}
 use native.Mathlib.Decide.{ℕ_discrete}
-use Rattle.homeo_notes.specs.Lines.{Held, Entry, IsOwner, HasSeen, list_at, seen_at}
+use Rattle.homeo_notes.specs.Lines.{Held, Entry, HasSeen, list_at, seen_at}
 use Rattle.homeo_syntax.specs.Source as s
 use Rattle.homeo_history.specs.History.{Entry as Made}
-use Rattle.homeo_plan.specs.Planned.{sites_of}
 use Rattle.homeo_history.specs.Legal.{call_count, IsClientAt, IsCallAt}
 use Rattle.homeo_site.specs.SiteState.{SiteState}
-use Rattle.homeo_core.specs.Joined.{BookState, rounds_of}
 use Rattle.homeo_assembly.specs.Key.{words}
-use Rattle.homeo_history.specs.Answers.{Answer, local_answer, answers_of, answers_to}
-use Rattle.homeo_assembly.specs.Events.{HasMoved}
-use Rattle.homeo_assembly.specs.Facts.{Cell, BookLists, SiteFacts, BookFacts, states_of, AreMet}
+use Rattle.homeo_history.specs.Answers.{Answer, local_answer, answers_to}
+use Rattle.homeo_assembly.specs.Facts.{SiteFacts}
 use Rattle.homeo_assembly.specs.Written.{written, read}
 use Rattle.homeo_history.proofs.Exists.{client_lt}
 use Rattle.homeo_history.proofs.ClientAnswers.{client_at}

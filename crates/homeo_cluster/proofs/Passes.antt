@@ -1,20 +1,13 @@
 -- A pass after an answer, over plain data.
-use Rattle.homeo_history.specs.Key.{words as histories}
-use Rattle.homeo_site.specs.Key.{words as site_words}
-use Rattle.std.proofs.Common.{◌≡◌, ℕ, suc, ◌+◌, ◌<◌, ◌≤◌, List, [], ◌∷◌, ◌++◌, length, map, Some, refl, sym, ap, subst, ◌∙◌, arith}
-use Rattle.std.specs.Prelude.{ℤ, All}
+use Rattle.std.proofs.Common.{◌≡◌, ℕ, suc, ◌+◌, List, [], ◌∷◌, ◌++◌, length, map, refl, sym, ap, subst, ◌∙◌, arith}
 use Rattle.std.specs.List.{range_with_len}
-use Rattle.std.proofs.lemmas.List.{append-nil, map-append, length-map, length_push}
+use Rattle.std.proofs.lemmas.List.{map-append, length_push}
 use Rattle.std.proofs.lemmas.List.Elements.{All-push}
-use Rattle.homeo_notes.specs.Lines.{Held, Entry, Entries, IsOwner, HasSeen, list_at}
+use Rattle.homeo_notes.specs.Lines.{Held, HasSeen, list_at}
 use Rattle.homeo_syntax.specs.Source as s
-use Rattle.homeo_meaning.specs.declared.call.CallId.{CallId}
-use Rattle.homeo_history.specs.Legal.{call_count, IsClientAt}
-use Rattle.homeo_site.specs.SiteState.{SiteState, local_entry}
-use Rattle.homeo_site.specs.Attempts.{IsChange}
-use Rattle.homeo_cluster.specs.Passes.{PassValue, IsPass, IsLog, HoldsLog}
-use Rattle.homeo_assembly.specs.Key.{words}
-use Rattle.homeo_history.specs.Answers.{Answer, local_answer}
+use Rattle.homeo_history.specs.Legal.{call_count}
+use Rattle.homeo_cluster.specs.Passes.{IsPass}
+use Rattle.homeo_history.specs.Answers.{Answer}
 use Rattle.homeo_assembly.specs.Written.{written}
 use Rattle.homeo_history.proofs.Lists.{range_more}
 use Rattle.homeo_cluster.specs.inner.Grows.{Grew}

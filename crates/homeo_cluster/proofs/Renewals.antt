@@ -1,13 +1,12 @@
 -- The cleanup event at one site, over plain data.
 use Rattle.homeo_history.specs.Key.{words as histories}
 use Rattle.homeo_site.specs.Key.{words as site_words}
-use Rattle.std.proofs.Common.{◌≡◌, ◌≢◌, ℕ, suc, ◌+◌, ◌<◌, List, [], ◌∷◌, ◌++◌, length, map, take, Some, None, refl, sym, ap, subst, ◌∙◌, arith}
-use Rattle.std.specs.Prelude.{ℤ, All, slice_get}
+use Rattle.std.proofs.Common.{◌≡◌, ◌≢◌, ℕ, suc, ◌<◌, List, Some, sym, ap, subst}
+use Rattle.std.specs.Prelude.{ℤ, slice_get}
 use mathlib.Core.Logic.{dite}
 use native.Mathlib.Decide.{ℕ_discrete}
-use Rattle.homeo_notes.specs.Lines.{Held, Entry, Entries, IsOwner, HasSeen, list_at}
+use Rattle.homeo_notes.specs.Lines.{Held, Entry, HasSeen, list_at}
 use Rattle.homeo_syntax.specs.Source as s
-use Rattle.homeo_meaning.specs.declared.call.CallId.{CallId}
 use Rattle.homeo_history.specs.History.{Entry as Made}
 use Rattle.homeo_plan.specs.Planned.{sites_of}
 use Rattle.homeo_history.specs.Legal.{IsClientAt}
@@ -17,8 +16,8 @@ use Rattle.homeo_meaning.specs.Acceptance.{IsAccepted}
 use Rattle.homeo_meaning.specs.Bounds.{IsWithin}
 use Rattle.homeo_meaning.specs.Schema.{schema_of}
 use Rattle.homeo_assembly.specs.Key.{words}
-use Rattle.homeo_history.specs.Answers.{Answer, local_answer, answers_to}
-use Rattle.homeo_assembly.specs.Events.{Gives, HasMoved, Moves, Renews}
+use Rattle.homeo_history.specs.Answers.{Answer, local_answer}
+use Rattle.homeo_assembly.specs.Events.{HasMoved, Renews}
 use Rattle.homeo_assembly.specs.Facts.{SiteFacts}
 use Rattle.homeo_assembly.specs.Written.{written}
 use Rattle.homeo_assembly.proofs.MovedEntries.{moving}
@@ -26,10 +25,10 @@ use Rattle.homeo_assembly.proofs.SiteEvents.{site_renewal}
 use Rattle.homeo_site.specs.SiteView.{SiteValue}
 use Rattle.homeo_cluster.specs.inner.Grows.{Grew}
 use Rattle.homeo_cluster.specs.Places.{asked_line, kept_line, done_line, shut_line, at_line, bases_line}
-use Rattle.homeo_cluster.specs.inner.Cells.{IsCell, HoldsAt, HoldsFor, site_lists, answers_at}
+use Rattle.homeo_cluster.specs.inner.Cells.{IsCell, HoldsAt, HoldsFor, site_lists}
 use Rattle.homeo_cluster.proofs.Apart.{AreApart, apart}
 use Rattle.homeo_cluster.proofs.Gives.{gives}
-use Rattle.homeo_cluster.proofs.Grows.{grew_same, grew_owner_same, grew_owner_other, grew_list_other, grew_seen}
+use Rattle.homeo_cluster.proofs.Grows.{grew_owner_same, grew_owner_other, grew_list_other, grew_seen}
 
 -- one entry more has gone over: the list `shut` of its client grew
 pub moved_more : (w : s.Workload) (x : SiteState) (h0 h h' : Held) (k : ℕ) (e : Made)

@@ -1,22 +1,19 @@
 -- What the types keep stays where a holder has learnt something.
 use Rattle.homeo_assembly.specs.Key.{words}
-use Rattle.std.proofs.Common.{◌≡◌, ℕ, ◌<◌, List, [], ◌∷◌, map, length, Some, refl, sym, ap, subst, ◌∙◌}
-use Rattle.std.specs.Prelude.{ℤ, All}
-use Rattle.homeo_notes.specs.Lines.{Held, Entries, IsOwner, HasSeen, list_at, seen_at}
+use Rattle.std.proofs.Common.{◌≡◌, ℕ, List, [], map, sym, ap, subst, ◌∙◌}
+use Rattle.std.specs.Prelude.{ℤ}
+use Rattle.homeo_notes.specs.Lines.{Held, HasSeen, list_at}
 use Rattle.homeo_syntax.specs.Source as s
-use Rattle.homeo_plan.specs.Planned.{sites_of}
-use Rattle.homeo_history.specs.Legal.{IsClientAt}
-use Rattle.homeo_site.specs.SiteState.{SiteState}
-use Rattle.homeo_cluster.specs.Passes.{IsPass, HoldsLog}
+use Rattle.homeo_cluster.specs.Passes.{IsPass}
 use Rattle.homeo_history.specs.History.{Round}
 use Rattle.homeo_history.specs.Answers.{Answer}
-use Rattle.homeo_assembly.specs.Facts.{SiteFacts, BookFacts, SiteLists, BookLists}
-use Rattle.homeo_assembly.specs.Written.{written, read}
+use Rattle.homeo_assembly.specs.Facts.{SiteFacts, BookFacts}
+use Rattle.homeo_assembly.specs.Written.{read}
 use Rattle.homeo_assembly.proofs.Reading.{read_back}
 use Rattle.homeo_site.specs.SiteView.{SiteValue}
 use Rattle.homeo_cluster.specs.inner.Grows.{Rose}
 use Rattle.homeo_cluster.specs.Places.{asked_line, kept_line, done_line, shut_line, at_line, bases_line}
-use Rattle.homeo_cluster.specs.inner.Cells.{IsCell, HoldsAt, HoldsFor, site_lists, IsBook, HoldsBook, KeepsFor, book_lists, book_state, answers_at}
+use Rattle.homeo_cluster.specs.inner.Cells.{IsCell, HoldsAt, HoldsFor, site_lists, IsBook, KeepsFor, book_lists, answers_at}
 use Rattle.homeo_cluster.proofs.Grows.{rose_list, rose_owner, rose_seen}
 
 pub same_lists : (w : s.Workload) (site : ℕ) (h h' : Held) → Rose h h' → site_lists w site h' ≡ site_lists w site h

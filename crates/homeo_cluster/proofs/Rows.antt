@@ -1,6 +1,5 @@
 -- What lies behind a row of locks that are held.
-use Rattle.std.proofs.Common.{◌≡◌, ℕ, zero, suc, ◌<◌, List, [], ◌∷◌, ◌++◌, map, length, set, get_or, Some, slice_get, refl, sym, ap, subst, ◌∙◌, arith}
-use Rattle.std.specs.Prelude.{All}
+use Rattle.std.proofs.Common.{◌≡◌, ℕ, zero, suc, ◌<◌, List, [], ◌∷◌, ◌++◌, length, set, get_or, Some, slice_get, refl, sym, ap, subst, ◌∙◌, arith}
 use Rattle.std.specs.Sync.Mutex.{mutex_guard_value}
 use Rattle.std.specs.declared.sync.MutexGuard.{MutexGuard}
 use Rattle.std.proofs.lemmas.List.{map-append, map-set, length-map}
@@ -8,7 +7,7 @@ use Rattle.homeo_syntax.specs.Source as s
 use Rattle.homeo_meaning.specs.Initial.{initial}
 use Rattle.homeo_plan.specs.Planned.{sites_of}
 use Rattle.homeo_history.proofs.Exists.{client_lt}
-use Rattle.homeo_history.proofs.Lists.{get_lt, get_map, get_map_back, all_from_get, map_map}
+use Rattle.homeo_history.proofs.Lists.{get_lt, get_map, all_from_get, map_map}
 use Rattle.homeo_core.specs.Joined.{BookState, AreJoined}
 use Rattle.homeo_assembly.specs.Events.{InHand}
 use Rattle.homeo_assembly.specs.Facts.{Cell, BookLists, BookFacts, SiteFacts, states_of}

@@ -3,7 +3,7 @@ use Rattle.homeo_core.specs.Key.{words as cores}
 use Rattle.homeo_assembly.specs.Key.{words}
 use Rattle.std.specs.Int.{w64}
 use Rattle.std.specs.Prelude.{All}
-use Rattle.std.proofs.Common.{◌≡◌, ℕ, suc, ◌<◌, List, [], ◌∷◌, ◌++◌, map, take, length, ℤ, Some, slice_get, FitsSigned, refl, sym, ap, subst, ◌∙◌, arith}
+use Rattle.std.proofs.Common.{◌≡◌, ℕ, ◌<◌, List, [], ◌∷◌, ◌++◌, take, length, Some, slice_get, FitsSigned, refl, sym, ap, subst, ◌∙◌}
 use Rattle.std.proofs.lemmas.List.{length-map}
 use Rattle.homeo_syntax.specs.Source as s
 use Rattle.homeo_meaning.specs.Acceptance.{IsAccepted}
@@ -12,7 +12,6 @@ use Rattle.homeo_meaning.specs.Initial.{initial}
 use Rattle.homeo_meaning.specs.Schema.{schema_of}
 use Rattle.homeo_plan.specs.Planned.{sites_of}
 use Rattle.homeo_history.specs.Answers.{Answer}
-use Rattle.homeo_history.specs.History.{History}
 use Rattle.homeo_history.proofs.Exists.{client_lt}
 use Rattle.homeo_history.proofs.Lists.{get_lt, get_map, all_from_get, map_map}
 use Rattle.homeo_site.specs.SiteState.{SiteState}

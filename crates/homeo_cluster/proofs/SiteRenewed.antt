@@ -1,16 +1,15 @@
 -- A site in the next round: its entries and the closing answer have gone over, and it has the next base, over plain data.
-use Rattle.homeo_history.specs.Key.{words as histories}
 use Rattle.homeo_assembly.specs.Key.{words}
 use Rattle.std.proofs.Common.{◌≡◌, ◌≢◌, ℕ, List, [], ◌∷◌, ◌++◌, map, length, refl, sym, ap, subst, ◌∙◌}
 use Rattle.std.specs.Prelude.{ℤ}
-use Rattle.homeo_notes.specs.Lines.{Held, Entry, HasSeen, list_at, seen_at}
+use Rattle.homeo_notes.specs.Lines.{Held, Entry, HasSeen, list_at}
 use Rattle.homeo_syntax.specs.Source as s
 use Rattle.homeo_history.specs.Answers.{Answer, answers_to}
 use Rattle.homeo_history.specs.Legal.{IsClientAt}
 use Rattle.homeo_site.specs.SiteState.{SiteState}
-use Rattle.homeo_assembly.specs.Events.{IsNext, Gives, Renews}
-use Rattle.homeo_assembly.specs.Facts.{SiteFacts, SiteLists}
-use Rattle.homeo_assembly.specs.Written.{written, read}
+use Rattle.homeo_assembly.specs.Events.{IsNext, Renews}
+use Rattle.homeo_assembly.specs.Facts.{SiteFacts}
+use Rattle.homeo_assembly.specs.Written.{read}
 use Rattle.homeo_assembly.proofs.MovedEntries.{moving}
 use Rattle.homeo_cluster.specs.inner.Cells.{HoldsAt, HoldsFor, KeepsFor, site_lists, answers_at}
 use Rattle.homeo_cluster.specs.Places.{asked_line, kept_line, done_line, shut_line, at_line, bases_line}

@@ -1,8 +1,7 @@
 -- The lines while a cluster begins: those that are left, and those that a site got.
-use Rattle.std.specs.Prelude.{◌≡◌, ℕ, suc, ◌+◌, ◌*◌, ◌<◌, ◌≤◌, [], ◌∷◌, List, length, ℤ, Some, All, slice_get}
+use Rattle.std.specs.Prelude.{◌≡◌, ℕ, ◌+◌, ◌*◌, ◌<◌, ◌≤◌, [], ◌∷◌, List, length, ℤ, Some, All, slice_get}
 use Rattle.homeo_syntax.specs.Source as s
 use Rattle.homeo_notes.specs.Lines.{Held, Owns, HasSeen}
-use Rattle.homeo_plan.specs.Planned.{sites_of}
 use Rattle.homeo_history.specs.Legal.{IsClientAt}
 use Rattle.homeo_cluster.specs.Key.{places}
 use Rattle.homeo_cluster.specs.Passes.{PassValue}

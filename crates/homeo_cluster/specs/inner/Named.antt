@@ -1,5 +1,5 @@
 -- A workload of nothing, where none is named.
-use Rattle.std.specs.Prelude.{[], ℤ, pos, None}
+use Rattle.std.specs.Prelude.{[], pos, None}
 use Rattle.homeo_syntax.specs.Source as s
 
 abbrev pub no_workload : s.Workload

@@ -1,10 +1,10 @@
 -- A site, the book and the pass of the closing call while the site goes on to the next round.
-use Rattle.std.specs.Prelude.{◌≡◌, ◌⊎◌, ℕ, suc, ◌<◌, ◌≤◌, ◌^◌, List, length, ℤ}
+use Rattle.std.specs.Prelude.{◌≡◌, ◌⊎◌, ℕ, suc, ◌≤◌, ◌^◌, List, length, ℤ}
 use Rattle.homeo_syntax.specs.Source as s
 use Rattle.homeo_notes.specs.Lines.{Held, IsOwner, HasSeen, list_at}
 use Rattle.homeo_history.specs.Answers.{Answer}
 use Rattle.homeo_history.specs.Legal.{IsClientAt}
-use Rattle.homeo_site.specs.SiteState.{SiteState, renewed}
+use Rattle.homeo_site.specs.SiteState.{renewed}
 use Rattle.homeo_assembly.specs.Events.{Gives, Renews}
 use Rattle.homeo_assembly.specs.Written.{written}
 use Rattle.homeo_cluster.specs.inner.Cells.{CellValue, HoldsAt, site_lists}

@@ -1,5 +1,5 @@
 -- Cells behind a row of locks that are held, and while they go on to the next round one after another.
-use Rattle.std.specs.Prelude.{◌≡◌, ℕ, ◌+◌, ◌<◌, ◌≤◌, ◌^◌, Bool, true, false, List, [], ◌∷◌, ◌++◌, map, length, replicate, ℤ, Some, slice_get}
+use Rattle.std.specs.Prelude.{◌≡◌, ℕ, ◌+◌, ◌<◌, ◌≤◌, ◌^◌, true, false, List, [], ◌∷◌, ◌++◌, map, length, replicate, ℤ, Some, slice_get}
 use Rattle.std.specs.Sync.Mutex.{mutex_guard_value}
 use Rattle.std.specs.declared.sync.MutexGuard.{MutexGuard}
 use Rattle.homeo_syntax.specs.Source as s
@@ -17,7 +17,6 @@ use Rattle.homeo_core.specs.inner.SiteLists.{first_from}
 use Rattle.homeo_assembly.specs.Events.{Renews}
 use Rattle.homeo_cluster.specs.inner.Cells.{CellValue, site_lists}
 use Rattle.homeo_cluster.specs.Places.{kept_line, at_line, bases_line}
-use Rattle.homeo_cluster.specs.inner.Meets.{site_states}
 use Rattle.homeo_cluster.specs.inner.Moves.{KeepsEach, ArePairs, AreShort}
 use Rattle.homeo_cluster.specs.inner.Renewed.{WasAsked}
 

@@ -1,5 +1,5 @@
 use Rattle.homeo_core.specs.Key.{words as cores}
-use Rattle.std.proofs.Common.{rules, ◌≡◌, ℕ, suc, ◌+◌, ◌<◌, Some, slice_get, length, map, take, refl, sym, ap, subst, ◌∙◌, arith, FitsSigned}
+use Rattle.std.proofs.Common.{rules, ◌≡◌, suc, ◌+◌, ◌<◌, Some, slice_get, length, map, take, sym, ap, subst, ◌∙◌, arith, FitsSigned}
 use Rattle.std.specs.Int.{w64}
 use Rattle.std.specs.Prelude.{All}
 use Rattle.std.proofs.lemmas.List.{length-map}
@@ -7,12 +7,12 @@ use Rattle.homeo_history.specs.HistoryView.{plain_round}
 use Rattle.homeo_site.specs.SiteView.{SiteValue}
 use Rattle.homeo_core.specs.GatherView.{GatherValue}
 use Rattle.homeo_core.specs.Joined.{plus_deltas, gathered}
-use Rattle.homeo_core.proofs.GatheredSites.{gathered_next, take_whole}
+use Rattle.homeo_core.proofs.GatheredSites.{gathered_next}
 use Rattle.homeo_cluster.specs.inner.Cells.{CellValue}
 use Rattle.homeo_cluster.specs.inner.Meets.{site_states}
 use Rattle.homeo_cluster.specs.inner.Rows.{held_cells}
-use Rattle.homeo_cluster.proofs.Rows.{held_at, held_long}
-use Rattle.homeo_cluster.proofs.Settles.{states_get, states_long}
+use Rattle.homeo_cluster.proofs.Rows.{held_at}
+use Rattle.homeo_cluster.proofs.Settles.{states_get}
 use Rattle.homeo_cluster.proofs.cleanup.gather_row.Goals as goal
 use Rattle.homeo_cluster.proofs.cleanup.gather_row.Goals.{After-site}
 use Rattle.homeo_cluster.proofs.cleanup.gather_row.Given.{Over}

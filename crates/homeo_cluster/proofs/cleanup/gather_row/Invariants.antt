@@ -1,5 +1,5 @@
 -- The deltas of the first sites are added.
-use Rattle.std.proofs.Common.{◌≡◌, ◌+◌, ◌<◌, ◌^◌, length, take}
+use Rattle.std.proofs.Common.{◌≡◌, length, take}
 use Rattle.homeo_core.specs.Joined.{gathered}
 use Rattle.homeo_cluster.specs.inner.Meets.{site_states}
 use Rattle.homeo_cluster.specs.inner.Rows.{held_cells}

@@ -1,4 +1,4 @@
-use Rattle.std.proofs.Common.{◌≡◌, ℕ, ◌+◌, ◌*◌, [], ◌∷◌, ◌++◌, length, sym, ◌∙◌, arith}
+use Rattle.std.proofs.Common.{◌≡◌, ℕ, ◌+◌, ◌*◌, [], ◌∷◌, ◌++◌, arith}
 use Rattle.homeo_syntax.specs.SourceView.{plain_workload}
 use Rattle.homeo_cluster.specs.Places.{at_line}
 use Rattle.homeo_cluster.proofs.LinesCounted.{at_is, one_line_more, longer_by_one}

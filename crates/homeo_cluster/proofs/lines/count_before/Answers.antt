@@ -1,6 +1,5 @@
-use Rattle.std.proofs.Common.{◌≡◌, ◌+◌, sym, ◌∙◌, arith}
+use Rattle.std.proofs.Common.{sym, ◌∙◌, arith}
 use Rattle.homeo_syntax.specs.SourceView.{plain_workload}
-use Rattle.homeo_cluster.specs.inner.Begun.{before}
 use Rattle.homeo_cluster.proofs.LinesCounted.{before_none, before_more, before_same}
 use Rattle.homeo_cluster.proofs.lines.count_before.Goals as goal
 use Rattle.homeo_cluster.proofs.lines.count_before.Goals.{then-site_of-site, else-site_of-site}

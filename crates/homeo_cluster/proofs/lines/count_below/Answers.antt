@@ -1,4 +1,4 @@
-use Rattle.std.proofs.Common.{◌≡◌, ◌+◌, length, sym, ◌∙◌, arith}
+use Rattle.std.proofs.Common.{◌≡◌, length, sym, ◌∙◌, arith}
 use Rattle.homeo_syntax.specs.SourceView.{plain_workload}
 use Rattle.homeo_cluster.proofs.LinesCounted.{below_none, below_more, below_same, below_whole}
 use Rattle.homeo_cluster.proofs.lines.count_below.Goals as goal

@@ -1,4 +1,4 @@
-use Rattle.std.proofs.Common.{◌≡◌, ◌+◌, sym, ap, ◌∙◌, arith}
+use Rattle.std.proofs.Common.{arith}
 use Rattle.homeo_syntax.specs.SourceView.{plain_workload}
 use Rattle.homeo_cluster.proofs.LinesCounted.{place_is}
 use Rattle.homeo_cluster.proofs.lines.place_of.Goals as goal

@@ -1,4 +1,4 @@
-use Rattle.std.proofs.Common.{◌≡◌, ℕ, ◌++◌, ◌∷◌, [], sym, ap, ◌∙◌, subst, refl}
+use Rattle.std.proofs.Common.{◌≡◌, ◌++◌, sym, ap, ◌∙◌, subst, refl}
 use Rattle.homeo_notes.specs.Lines.{Held, HasSeen, list_at, seen_at}
 use Rattle.homeo_notes.proofs.Prefixes.{prefix_self}
 use Rattle.homeo_cluster.specs.inner.Grows.{Rose, Grew}

@@ -1,5 +1,5 @@
 use Rattle.homeo_assembly.specs.Key.{words}
-use Rattle.std.proofs.Common.{rules, ◌≡◌, [], ◌∷◌, ℤ, pos, w64, to_z, of_z}
+use Rattle.std.proofs.Common.{rules, ◌≡◌, [], ◌∷◌, pos, w64, to_z, of_z}
 use Rattle.std.proofs.lemmas.Int.{to_z-of_z}
 use Rattle.homeo_assembly.specs.Written.{upper, lower}
 use Rattle.homeo_cluster.proofs.writing.closing_head.Goals as goal

@@ -1,14 +1,12 @@
-use Rattle.std.proofs.Common.{rules, ◌≡◌, ℕ, suc, ◌+◌, ◌<◌, ◌≤◌, List, Some, slice_get, slice_set, length, vec_len, refl, sym, ap, subst, ◌∙◌, arith}
+use Rattle.std.proofs.Common.{rules, ◌≡◌, suc, ◌+◌, ◌<◌, ◌≤◌, List, Some, slice_get, slice_set, length, vec_len, sym, ap, subst, ◌∙◌, arith}
 use mathlib.Core.Logic.{⊎_elim}
-use Rattle.homeo_meaning.specs.declared.call.CallId.{CallId}
 use Rattle.homeo_plan.specs.Planned.{sites_of}
 use Rattle.homeo_history.specs.Legal.{IsClientAt, IsCallAt, call_count}
 use Rattle.homeo_history.proofs.Exists.{is_call_at}
 use Rattle.homeo_history.proofs.Lists.{get_set_same, set_cases}
 use Rattle.homeo_site.specs.SiteState.{SiteState, step_finding}
 use Rattle.homeo_cluster.specs.inner.Cells.{CellValue}
-use Rattle.homeo_cluster.specs.Passes.{PassValue, next_call}
-use Rattle.homeo_cluster.specs.inner.Meets.{site_states}
+use Rattle.homeo_cluster.specs.Passes.{next_call}
 use Rattle.homeo_cluster.specs.inner.Rows.{held_cells}
 use Rattle.homeo_cluster.specs.inner.Tries.{IsTried}
 use Rattle.homeo_cluster.specs.declared.local.Tried.TheVariants.{Breaks}

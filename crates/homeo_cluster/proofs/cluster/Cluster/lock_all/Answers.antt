@@ -1,4 +1,4 @@
-use Rattle.std.proofs.Common.{rules, ◌≡◌, ℕ, ◌+◌, ◌++◌, ◌∷◌, [], length, length-append, arith, ap, sym, ◌∙◌}
+use Rattle.std.proofs.Common.{rules, ◌≡◌, ◌++◌, ◌∷◌, [], length, length-append, arith, ap, sym, ◌∙◌}
 use Rattle.std.specs.Sync.Mutex.{mutex_guard_value}
 use Rattle.homeo_cluster.specs.inner.Cells.{CellValue}
 use Rattle.homeo_cluster.specs.inner.Rows.{held_cells}

@@ -1,22 +1,19 @@
 use Rattle.homeo_site.specs.Key.{words as site_words}
 use Rattle.homeo_history.specs.Key.{words as histories}
-use Rattle.std.proofs.Common.{rules, ◌≡◌, ℕ, suc, ◌+◌, ◌-◌, ◌<◌, ◌≤◌, List, [], ◌∷◌, ◌++◌, length, map, Some, All, refl, sym, ap, subst, ◌∙◌, arith}
-use Rattle.std.specs.Prelude.{ℤ}
+use Rattle.std.proofs.Common.{rules, ◌≡◌, suc, ◌+◌, ◌-◌, ◌<◌, ◌≤◌, List, [], ◌∷◌, ◌++◌, length, map, Some, All, refl, sym, ap, subst, ◌∙◌, arith}
 use Rattle.std.proofs.lemmas.List.{length-map, map-append}
-use Rattle.homeo_syntax.specs.Listed.{Listed}
 use Rattle.homeo_syntax.specs.SourceView.{plain_workload}
 use Rattle.homeo_meaning.specs.declared.call.CallId.{CallId}
-use Rattle.homeo_notes.specs.Lines.{Held, Entry, IsOwner, HasSeen, list_at}
+use Rattle.homeo_notes.specs.Lines.{IsOwner, HasSeen, list_at}
 use Rattle.homeo_history.specs.Answers.{Answer, local_answer}
 use Rattle.homeo_history.specs.HistoryView.{plain_answer}
-use Rattle.homeo_history.specs.declared.answer.Answer as code
 use Rattle.homeo_history.specs.Legal.{IsClientAt, IsCallAt, call_count}
 use Rattle.homeo_history.proofs.Exists.{is_call_at}
 use Rattle.homeo_site.specs.Attempts.{IsChange}
 use Rattle.homeo_site.specs.SiteState.{SiteState, after_local, local_entry, step_prints, step_finding}
 use Rattle.homeo_site.specs.SiteView.{SiteValue}
 use Rattle.homeo_assembly.specs.Written.{written}
-use Rattle.homeo_cluster.specs.Passes.{PassValue, IsPass, IsReplied, next_call}
+use Rattle.homeo_cluster.specs.Passes.{IsReplied, next_call}
 use Rattle.homeo_cluster.specs.Places.{asked_line, done_line}
 use Rattle.homeo_cluster.specs.inner.Grows.{Grew}
 use Rattle.homeo_cluster.proofs.Passes.{pass_more}

@@ -1,6 +1,6 @@
-use Rattle.std.proofs.Common.{◌≡◌, ℕ, ◌+◌, ◌<◌, ◌≤◌, [], ◌∷◌, ◌++◌, sym, subst, ◌∙◌, arith}
+use Rattle.std.proofs.Common.{◌≡◌, ◌+◌, ◌<◌, ◌≤◌, [], ◌∷◌, ◌++◌, sym, subst, ◌∙◌, arith}
 use Rattle.homeo_meaning.specs.Initial.{initial}
-use Rattle.homeo_notes.specs.Lines.{Held, Owns, IsOwner, list_at, with_list, without_lines, only_lines}
+use Rattle.homeo_notes.specs.Lines.{Owns, IsOwner, list_at, with_list, without_lines, only_lines}
 use Rattle.homeo_cluster.specs.Places.{at_line, bases_line}
 use Rattle.homeo_cluster.specs.inner.Begun.{IsRest, IsFirst, first_line}
 use Rattle.homeo_cluster.proofs.LinesInOrder.{at_after_first, at_before_bases, bases_few}

@@ -1,19 +1,17 @@
 use Rattle.homeo_history.specs.Key.{words as histories}
 use Rattle.homeo_core.specs.Key.{words as cores}
 use Rattle.homeo_assembly.specs.Key.{words}
-use Rattle.std.proofs.Common.{rules, ◌≡◌, ◌≢◌, ℕ, zero, suc, ◌+◌, ◌<◌, ◌≤◌, Bool, true, false, List, [], ◌∷◌, ◌++◌, length, map, replicate, vec_len, Some, refl, sym, ap, subst, ◌∙◌, arith}
+use Rattle.std.proofs.Common.{rules, ◌≡◌, ◌≢◌, ℕ, ◌+◌, ◌<◌, ◌≤◌, Bool, true, false, List, [], ◌∷◌, ◌++◌, length, map, replicate, vec_len, Some, refl, sym, ap, subst, ◌∙◌, arith}
 use Rattle.std.specs.Prelude.{ℤ, All, slice_get}
 use Rattle.std.proofs.lemmas.List.{length-map, map-append}
 use Rattle.std.proofs.lemmas.List.Elements.{All-replicate}
-use Rattle.homeo_syntax.specs.Source as s
-use Rattle.homeo_syntax.specs.SourceView.{plain_workload}
 use Rattle.homeo_meaning.specs.Bounds.{IsWithin}
 use Rattle.homeo_meaning.specs.declared.call.CallId.{CallId}
 use Rattle.homeo_meaning.specs.Initial.{initial}
 use Rattle.homeo_meaning.specs.Schema.{schema_of}
-use Rattle.homeo_notes.specs.Lines.{Held, HasSeen, list_at}
+use Rattle.homeo_notes.specs.Lines.{HasSeen, list_at}
 use Rattle.homeo_history.specs.Answers.{Answer, called, closing_answer}
-use Rattle.homeo_history.specs.History.{Closing, Round, Entry}
+use Rattle.homeo_history.specs.History.{Closing}
 use Rattle.homeo_history.specs.HistoryView.{plain_answer, plain_round}
 use Rattle.homeo_history.specs.declared.answer.Path.TheVariants.{Cleanup}
 use Rattle.homeo_history.specs.Legal.{IsClientAt, call_count}
@@ -29,14 +27,14 @@ use Rattle.homeo_core.specs.inner.SiteLists.{AreAt, first_from}
 use Rattle.homeo_core.proofs.ClosingCalls.{next_within}
 use Rattle.homeo_core.proofs.GatheredSites.{from_all, length_same}
 use Rattle.homeo_core.proofs.InRounds.{at_round}
-use Rattle.homeo_assembly.specs.Facts.{Cell, states_of}
+use Rattle.homeo_assembly.specs.Facts.{states_of}
 use Rattle.homeo_assembly.proofs.MetLists as met_lists
 use Rattle.homeo_assembly.specs.Written.{read}
 use Rattle.homeo_cluster.specs.inner.Cells.{CellValue, KeepsFor, book_lists, cell_of, cells_of}
 use Rattle.homeo_cluster.specs.Places.{kept_line, done_line, shut_line, at_line, bases_line}
 use Rattle.homeo_cluster.specs.inner.Grows.{Grew}
 use Rattle.homeo_cluster.specs.inner.Meets.{site_states}
-use Rattle.homeo_cluster.specs.inner.Rows.{held_cells, HaveGoneOn, IsPrepared, prepared_at}
+use Rattle.homeo_cluster.specs.inner.Rows.{held_cells, HaveGoneOn}
 use Rattle.homeo_cluster.proofs.Closed as closed
 use Rattle.homeo_cluster.proofs.Grows.{grew_by_extend, grew_same, grew_list_other, grew_owner_same, grew_owner_other, grew_seen}
 use Rattle.homeo_cluster.proofs.Moving.{bases_apart}

@@ -1,4 +1,4 @@
-use Rattle.std.proofs.Common.{◌≡◌, ◌≤◌, ◌<◌, [], length, map, arith}
+use Rattle.std.proofs.Common.{◌≤◌, ◌<◌, length, map, arith}
 use Rattle.homeo_history.specs.HistoryView.{plain_answer}
 use Rattle.homeo_cluster.specs.Places.{line_count}
 use Rattle.homeo_core.proofs.FewClients.{clients_few}

@@ -1,4 +1,4 @@
-use Rattle.std.proofs.Common.{rules, ◌≡◌, [], ◌∷◌, ◌++◌}
+use Rattle.std.proofs.Common.{◌≡◌, [], ◌∷◌, ◌++◌}
 use Rattle.homeo_cluster.proofs.Begins.{no_passes, one_pass_more}
 use Rattle.homeo_cluster.proofs.frame.Frame.first_passes.Goals as goal
 

@@ -1,7 +1,7 @@
 use Rattle.homeo_history.specs.Key.{words as histories}
-use Rattle.std.proofs.Common.{rules, ◌≡◌, ◌≢◌, ℕ, suc, length, List, [], ◌∷◌, ◌++◌, ap, sym, subst, ◌∙◌, refl, inl, inr, ◌<◌, ◌≤◌, arith}
+use Rattle.std.proofs.Common.{◌≡◌, ℕ, suc, length, List, ◌++◌, ap, sym, subst, ◌∙◌, refl, inl, inr, ◌≤◌, arith}
 use Rattle.std.specs.Prelude.{ℤ}
-use Rattle.homeo_notes.specs.Lines.{Held, IsOwner, HasSeen, list_at}
+use Rattle.homeo_notes.specs.Lines.{IsOwner, HasSeen, list_at}
 use Rattle.homeo_history.specs.Answers.{Answer}
 use Rattle.homeo_history.specs.HistoryView.{plain_answer}
 use Rattle.homeo_history.specs.Legal.{IsClientAt}
@@ -10,7 +10,7 @@ use Rattle.std.proofs.lemmas.List.{length-map}
 use Rattle.homeo_assembly.specs.Key.{words}
 use Rattle.homeo_assembly.specs.Written.{written, read}
 use Rattle.homeo_cluster.specs.inner.Cells.{HoldsAt, HoldsFor}
-use Rattle.homeo_cluster.specs.Places.{asked_line, kept_line, done_line, shut_line}
+use Rattle.homeo_cluster.specs.Places.{asked_line, done_line}
 use Rattle.homeo_cluster.specs.inner.Grows.{Grew}
 use Rattle.homeo_cluster.specs.inner.Renewed.{CanAsk}
 use Rattle.homeo_cluster.proofs.Entries.{written_closing}

@@ -1,10 +1,10 @@
 use Rattle.homeo_site.specs.Key.{words as site_words}
-use Rattle.std.proofs.Common.{rules, ◌≡◌, ℕ, suc, ◌+◌, ◌<◌, ◌≤◌, List, ◌++◌, length, map, refl, sym, ap, subst, ◌∙◌, arith}
+use Rattle.std.proofs.Common.{rules, ◌≡◌, ℕ, suc, List, ◌++◌, length, sym, ap, subst, ◌∙◌}
 use Rattle.std.specs.Prelude.{ℤ}
 use Rattle.homeo_syntax.specs.SourceView.{plain_workload}
-use Rattle.homeo_notes.specs.Lines.{Held, Entry, IsOwner, HasSeen, list_at}
+use Rattle.homeo_notes.specs.Lines.{IsOwner, HasSeen, list_at}
 use Rattle.homeo_history.specs.Answers.{local_answer}
-use Rattle.homeo_history.specs.Legal.{IsClientAt, IsCallAt, call_count}
+use Rattle.homeo_history.specs.Legal.{IsClientAt, IsCallAt}
 use Rattle.homeo_history.proofs.ClientAnswers.{client_at}
 use Rattle.homeo_history.proofs.Exists.{client_lt}
 use Rattle.homeo_site.specs.Attempts.{IsChange}
@@ -12,7 +12,7 @@ use Rattle.homeo_site.specs.SiteState.{SiteState, after_local, local_entry}
 use Rattle.homeo_site.specs.SiteView.{SiteValue}
 use Rattle.homeo_assembly.specs.Written.{written, head_of}
 use Rattle.homeo_history.specs.declared.answer.Path.TheVariants.{Local}
-use Rattle.homeo_cluster.specs.inner.Cells.{CellValue, HoldsFor}
+use Rattle.homeo_cluster.specs.inner.Cells.{HoldsFor}
 use Rattle.homeo_cluster.specs.Places.{asked_line, done_line}
 use Rattle.homeo_cluster.specs.inner.Grows.{Grew}
 use Rattle.homeo_cluster.proofs.Entries.{written_entry}

@@ -1,4 +1,4 @@
-use Rattle.std.proofs.Common.{rules, ◌≡◌, List, length, vec_len, sym, subst, ◌∙◌, ap}
+use Rattle.std.proofs.Common.{rules, ◌≡◌, List, length, vec_len, sym, subst, ◌∙◌}
 use Rattle.homeo_core.specs.Joined.{BookState}
 use Rattle.homeo_assembly.specs.Events.{InHand}
 use Rattle.homeo_assembly.specs.Facts.{Cell, BookLists}

@@ -1,4 +1,4 @@
-use Rattle.std.proofs.Common.{rules, ◌≡◌, ◌<◌, List, Some, slice_get, length, length-set, vec_len, refl, ap, subst, ◌∙◌, arith}
+use Rattle.std.proofs.Common.{rules, ◌≡◌, ◌<◌, List, Some, slice_get, length, length-set, vec_len, ap, subst, ◌∙◌, arith}
 use Rattle.homeo_cluster.specs.inner.Cells.{CellValue, cell_of, cells_of, book_lists}
 use Rattle.homeo_cluster.specs.inner.Meets.{MetAt}
 use Rattle.homeo_cluster.specs.inner.Rows.{held_cells}

@@ -1,10 +1,9 @@
 use Rattle.homeo_history.specs.Key.{words as histories}
-use Rattle.std.proofs.Common.{rules, ◌≡◌, ℕ, List, ◌++◌, ap, sym, subst, ◌∙◌, refl}
+use Rattle.std.proofs.Common.{◌≡◌, ℕ, List, ◌++◌, subst}
 use Rattle.std.specs.Prelude.{ℤ}
 use Rattle.homeo_history.specs.Answers.{local_answer}
 use Rattle.homeo_history.specs.HistoryView.{plain_entry}
 use Rattle.homeo_assembly.specs.Written.{written}
-use Rattle.homeo_cluster.specs.Places.{kept_line, shut_line}
 use Rattle.homeo_cluster.specs.inner.Grows.{Grew}
 use Rattle.homeo_cluster.proofs.Entries.{written_entry}
 use Rattle.homeo_cluster.proofs.frame.Frame.move_entry.Goals as goal

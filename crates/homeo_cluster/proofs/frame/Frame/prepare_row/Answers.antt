@@ -1,7 +1,7 @@
 use Rattle.homeo_history.specs.Key.{words as histories}
 use Rattle.homeo_core.specs.Key.{words as cores}
-use Rattle.std.proofs.Common.{rules, ◌≡◌, ℕ, ◌+◌, ◌<◌, true, List, [], length, replicate, vec_len, Some, refl, sym, ap, subst, ◌∙◌, arith}
-use Rattle.std.specs.Prelude.{ℤ, unwrap_or}
+use Rattle.std.proofs.Common.{rules, ◌≡◌, ◌+◌, ◌<◌, true, List, [], length, replicate, vec_len, sym, ap, subst, ◌∙◌}
+use Rattle.std.specs.Prelude.{unwrap_or}
 use Rattle.homeo_syntax.specs.Source as s
 use Rattle.homeo_syntax.specs.SourceView.{plain_workload}
 use Rattle.homeo_meaning.specs.Bounds.{IsWithin}
@@ -13,10 +13,10 @@ use Rattle.homeo_history.specs.Follows.{site_or_zero}
 use Rattle.homeo_site.specs.SiteState.{SiteState}
 use Rattle.homeo_core.specs.Events.{closing_on}
 use Rattle.homeo_core.specs.GatherView.{GatherValue, PreparedValue}
-use Rattle.homeo_core.specs.Joined.{BookState, AreJoined, gathered}
+use Rattle.homeo_core.specs.Joined.{AreJoined, gathered}
 use Rattle.homeo_core.proofs.GatheredSites.{length_same}
 use Rattle.homeo_core.proofs.InRounds.{at_round}
-use Rattle.homeo_cluster.specs.inner.Cells.{CellValue, book_state, book_lists}
+use Rattle.homeo_cluster.specs.inner.Cells.{book_state, book_lists}
 use Rattle.homeo_cluster.specs.inner.Meets.{site_states}
 use Rattle.homeo_cluster.specs.inner.Rows.{held_cells}
 use Rattle.homeo_cluster.proofs.Rows.{held_long, joined_hand}

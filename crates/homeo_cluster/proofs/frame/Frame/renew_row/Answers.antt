@@ -1,8 +1,7 @@
 use Rattle.homeo_history.specs.Key.{words as histories}
 use Rattle.homeo_core.specs.Key.{words as cores}
-use Rattle.std.proofs.Common.{rules, ◌≡◌, ℕ, suc, ◌+◌, ◌<◌, true, false, List, [], ◌∷◌, ◌++◌, Some, slice_get, slice_set, length, length-set, map, replicate, vec_len, refl, sym, ap, subst, ◌∙◌, arith}
-use Rattle.std.specs.Prelude.{ℤ}
-use Rattle.homeo_notes.specs.Lines.{Held, list_at}
+use Rattle.std.proofs.Common.{rules, ◌≡◌, ℕ, suc, ◌+◌, ◌<◌, true, false, List, [], ◌∷◌, ◌++◌, Some, slice_get, slice_set, length, length-set, replicate, vec_len, refl, sym, ap, subst, ◌∙◌, arith}
+use Rattle.homeo_notes.specs.Lines.{list_at}
 use Rattle.homeo_history.specs.Answers.{Answer}
 use Rattle.homeo_history.specs.HistoryView.{plain_answer}
 use Rattle.homeo_history.specs.Legal.{IsClientAt}

@@ -1,4 +1,4 @@
-use Rattle.std.proofs.Common.{◌≡◌, [], ◌∷◌, ◌++◌, length, sym, ap, subst, ◌∙◌, arith}
+use Rattle.std.proofs.Common.{◌≡◌, [], ◌∷◌, ◌++◌, sym, subst, ◌∙◌}
 use Rattle.homeo_meaning.specs.Initial.{initial}
 use Rattle.homeo_notes.specs.Lines.{Owns, IsOwner, list_at, with_list}
 use Rattle.homeo_cluster.specs.Places.{bases_line}
