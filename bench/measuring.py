@@ -1,0 +1,65 @@
+"""Runs a command in a process of its own, and measures it: what bench/measure and bench/hostile share.
+
+`measured` gives a `Measured`: the status (negative where a signal ended it, None where it took too long), the seconds from start to
+end, the seconds of processor time of all its threads, the peak of its memory in megabytes (some 10 of which are the launcher's, of
+which it is a copy at first), and what it said on standard error. Each run has a timeout, and may have no more address space than
+`MOST_MEMORY`, so that it can't exhaust the machine.
+"""
+import collections
+import json
+import pathlib
+import subprocess
+import sys
+
+ROOT = pathlib.Path(__file__).resolve().parent.parent
+Measured = collections.namedtuple("Measured", "status seconds processor megabytes said")
+# Bytes of address space, the seconds that a run may take, and those of one that is not repeated.
+MOST_MEMORY, TIMEOUT, LONG = 6 * 2**30, 120, 5
+
+LAUNCHER = """
+import json, resource, subprocess, sys, time
+given, taken, timeout, memory = sys.argv[1], sys.argv[2], float(sys.argv[3]), int(sys.argv[4])
+limit = lambda: resource.setrlimit(resource.RLIMIT_AS, (memory, memory))
+start = time.perf_counter()
+with open(given, "rb") as source, open(taken, "wb") as out:
+    child = subprocess.Popen(sys.argv[5:], stdin=source, stdout=out, preexec_fn=limit)
+    try:
+        status = child.wait(timeout)
+    except subprocess.TimeoutExpired:
+        child.kill()
+        child.wait()
+        status = None
+used = resource.getrusage(resource.RUSAGE_CHILDREN)
+print(json.dumps([status, time.perf_counter() - start, used.ru_utime + used.ru_stime, used.ru_maxrss / 1024]))
+"""
+
+
+def measured(command, given, taken="/dev/null", timeout=TIMEOUT):
+    """Runs the command with the file `given` as its standard input, and the file `taken` as its output."""
+    words = [sys.executable, "-S", "-E", "-c", LAUNCHER, str(given), str(taken), str(timeout), str(MOST_MEMORY), *map(str, command)]
+    run = subprocess.run(words, capture_output=True, text=True)
+    if run.returncode:
+        raise OSError(f"the launcher failed: {run.stderr}")
+    return Measured(*json.loads(run.stdout), run.stderr)
+
+
+def least(command, given, repeats, timeout=TIMEOUT):
+    """Of several runs the least of each time and the most memory. A run that takes long is not repeated, nor is one that goes wrong."""
+    runs = []
+    while len(runs) < repeats:
+        runs.append(measured(command, given, timeout=timeout))
+        if runs[-1].status not in (0, 2):
+            return runs[-1]
+        if runs[-1].seconds > LONG:
+            break
+    seconds, processor = min(it.seconds for it in runs), min(it.processor for it in runs)
+    return runs[-1]._replace(seconds=seconds, processor=processor, megabytes=max(it.megabytes for it in runs))
+
+
+def program_of(path):
+    """The program at the path, or where that is None the built one, which ./homeo builds if need be."""
+    if path is not None:
+        return pathlib.Path(path).resolve()
+    if subprocess.run([str(ROOT / "homeo"), "steps"], input=b"workload 1 sites 1 end", stdout=subprocess.DEVNULL).returncode:
+        sys.exit("there is no program to be measured")
+    return ROOT / ".build" / "homeo"

@@ -1,0 +1,57 @@
+"""Runs the built program under a library that is loaded before the C library: what bench/refuse-memory and bench/refuse-io share."""
+import argparse
+import collections
+import concurrent.futures
+import os
+import pathlib
+import subprocess
+import sys
+
+ROOT = pathlib.Path(__file__).resolve().parent.parent
+TIMEOUT = 60
+Ran = collections.namedtuple("Ran", "status output said counted")
+
+
+class Shim:
+    """A library made of a C source, and the program that is run with it."""
+
+    def __init__(self, program, source, folder):
+        self.program, self.library = program, pathlib.Path(folder) / "shim.so"
+        file = pathlib.Path(folder) / "shim.c"
+        file.write_text(source)
+        subprocess.run(["cc", "-shared", "-fPIC", "-O1", "-o", str(self.library), str(file), "-ldl", "-lpthread"], check=True)
+
+    def run(self, words, text, **settings):
+        """A run on the bytes of a text. The library takes its settings from the environment, and counts into a pipe."""
+        told, counter = os.pipe()
+        environment = {**os.environ, "LD_PRELOAD": str(self.library), "COUNT_TO": str(counter), **{k: str(v) for k, v in settings.items()}}
+        command = [str(self.program), *words]
+        try:
+            run = subprocess.run(command, input=text, capture_output=True, env=environment, pass_fds=(counter,), timeout=TIMEOUT)
+            status, output, said = run.returncode, run.stdout, run.stderr
+        except subprocess.TimeoutExpired:
+            status, output, said = None, b"", b""
+        os.close(counter)
+        with os.fdopen(told) as file:
+            counted = [int(it) for it in file.read().split()]
+        return Ran(status, output, said, counted)
+
+    def plain(self, words, text):
+        """The output of a run without the library."""
+        run = subprocess.run([str(self.program), *words], input=text, capture_output=True, timeout=TIMEOUT)
+        if run.returncode or run.stderr:
+            sys.exit(f"{' '.join(words)} ends with status {run.returncode}, {run.stderr!r}, where nothing is refused")
+        return run.stdout
+
+
+def side_by_side(work, items):
+    """What the work gives for each of the items, in their order, several at a time."""
+    with concurrent.futures.ThreadPoolExecutor(os.cpu_count()) as pool:
+        return list(pool.map(work, items))
+
+
+def parser_of(name, usage, description):
+    parser = argparse.ArgumentParser(prog=name, usage=usage, description=description, formatter_class=argparse.RawDescriptionHelpFormatter)
+    parser.add_argument("--every", type=int, default=1)
+    parser.add_argument("--program")
+    return parser
