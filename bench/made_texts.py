@@ -20,12 +20,36 @@ def long_name(number):
     return f"o{number:031}"
 
 
+# The kit's `FoldHasher`, with which the tables of names and of clauses hash. Its seed is fixed.
 SEED, MULTIPLIER = 0x243F_6A88_85A3_08D3, 0x9E37_79B9_7F4A_7C15
 
 
 def folded_multiply(a, b):
     product = a * b
     return product % 2**64 ^ product >> 64
+
+
+def hashed(state, number, size):
+    """The state of the hasher after it takes a number of 4, 8 or 16 bytes, which isn't negative."""
+    if size == 16:
+        return folded_multiply(number % 2**64 ^ (state + 16) % 2**64, number >> 64 ^ MULTIPLIER)
+    taken = number | number << 32 if size == 4 else number
+    return folded_multiply(state ^ taken, MULTIPLIER ^ 2 * size)
+
+
+def colliding_factors(count):
+    """Pairs of factors of two deltas, of forms that all have one hash: the second is chosen so that the hasher's state is 0 behind it."""
+    found, first = [], 0
+    while len(found) < count:
+        first += 1
+        state = SEED
+        for number, size in ((2, 8), (0, 4), (0, 4), (first, 16), (1, 4), (0, 4)):
+            state = hashed(state, number, size)
+        second = (state + 16) % 2**64
+        second -= 2**64 if second >= 2**63 else 0
+        if 0 < abs(second) < 9 * 10**17:
+            found.append((first, second))
+    return found
 
 
 @functools.lru_cache
@@ -41,7 +65,7 @@ def colliding_front():
 
 
 def colliding_names(count):
-    """Names of 32 characters that all have one hash in a table that hashes by the kit's `FoldHasher`, whose seed is fixed.
+    """Names of 32 characters that all have one hash.
 
     The hasher takes 16 bytes at a time, xors the first 8 with its state, and multiplies. Where they are the state, the product is 0
     whatever the other 8 are.
@@ -231,6 +255,33 @@ def depth_text(calls):
     return "\n".join(lines + [f"client a at 0 {{ {made} }}", "schedule " + "a " * calls, "end", ""])
 
 
+def nots_text(nots, calls):
+    """Different calls, each with a test of so many `not`s, 30 within one another."""
+    test = " and ".join(["not(" * 30 + "true" + ")" * 30] * (nots // 30))
+    return condition_text(test, calls)
+
+
+def signs_text(signs, calls):
+    """Different calls, each with a test of a sum of so many signs, 30 before each number, in brackets of 32 each."""
+    group = "(" + "+".join(["-" * 29 + "1"] * 32) + ")"
+    test = "+".join([group] * (signs // (29 * 32))) + " < 0"
+    return condition_text(test, calls)
+
+
+def condition_text(test, calls):
+    made = "; ".join(f"t({n})" for n in range(calls))
+    head = f"workload 1\nsites 1\ntransaction t(n in 0..9999) {{ if {test} then print(n) else skip }}"
+    return f"{head}\nclient a at 0 {{ {made} }}\nschedule {'a ' * calls}\nend\n"
+
+
+def long_nots_text(tests):
+    """A call of 512 rows, which all have the formula of so many tests of 30 `not`s each."""
+    test = " and ".join(["not(" * 30 + "true" + ")" * 30] * tests)
+    body = [f"if {test} then print(1) else skip"] + ["if read(x) < 1 then print(1) else skip"] * 8
+    lines = ["workload 1", "sites 1", "object x in 0..9 = 5", f"transaction t() {{ {'; '.join(body)} }}"]
+    return "\n".join(lines + ["client a at 0 { t() }", "end", ""])
+
+
 # ---- wide texts
 def closing_on_text(calls, sites, objects):
     """Calls that each close their round, with so many objects besides."""
@@ -294,9 +345,21 @@ def chain_text(objects, calls):
 
 
 def tail_text(numbers, calls):
-    """A sum of 512 objects, to which numbers are added one after another."""
+    """A sum of 512 objects, which is multiplied by one again and again."""
     names = [f"o{k}" for k in range(512)]
-    return tested_text(names, sum_of(names) + " + 1" * numbers + " < n", calls)
+    return tested_text(names, f"({sum_of(names)})" + " * 1" * numbers + " < n", calls)
+
+
+def falling_text(objects, calls):
+    """A sum of objects in the order that is the reverse of their declarations'."""
+    names = [f"o{k}" for k in range(objects)]
+    return tested_text(names, f"{sum_of(names[::-1])} < n", calls)
+
+
+def single_prints_text(objects, calls):
+    """A print for each object, in the order of their declarations."""
+    names = [f"o{k}" for k in range(objects)]
+    return tested_text(names, "n = n", calls, "{ " + "; ".join(f"print(read({name}))" for name in names) + " }")
 
 
 def mixed_text(calls):
@@ -330,6 +393,27 @@ def touched_text(clauses, calls):
     return "\n".join(lines + ["schedule v " + "a b " * (calls // 2), "end", ""])
 
 
+def rewritten_text(writes, clauses):
+    """A call that writes one object again and again, where so many clauses have a term on it."""
+    lines = ["workload 1", "sites 1", "object y in 0..1000000000000 = 500000000000"]
+    lines += [f"transaction again() {{ {';'.join(['write(y=1)'] * writes)} }}"]
+    each = clauses // 10
+    lines.append("transaction look(p in 0..999999) { " + ";".join(f"if read(y)<p+{k} then print(1) else skip" for k in range(each)) + " }")
+    looks = "; ".join(f"look({n * each})" for n in range(10))
+    return "\n".join(lines + [f"client v at 0 {{ {looks}; again() }}", "schedule " + "v " * 11, "end", ""])
+
+
+def many_rounds_text(clauses, sites, calls):
+    """So many clauses at these sites, and calls that each close their round."""
+    lines = ["workload 1", f"sites {sites}", "object x in 0..1000000 = 0", "object y in 0..1000000000000 = 500000000000"]
+    lines += ["transaction up() { write(x = read(x) + 1); print(read(x)) }"]
+    each = clauses // 20
+    lines.append("transaction look(p in 0..999999) { " + ";".join(f"if read(y)<p+{k} then print(1) else skip" for k in range(each)) + " }")
+    looks = "; ".join(f"look({n * each})" for n in range(20))
+    lines += [f"client u{site} at {site} {{ {'; '.join(['up()'] * (calls // 2))} }}" for site in range(2)]
+    return "\n".join(lines + [f"client v at 0 {{ {looks} }}", "schedule " + "u0 u1 " * (calls // 2) + "v " * 20, "end", ""])
+
+
 def under_many_text(clauses):
     """The same as `under`, with the clauses from ten calls of one transaction."""
     lines, clients = adding(2, 19_000, 0)
@@ -339,6 +423,19 @@ def under_many_text(clauses):
     looks = "; ".join(f"look({n * each})" for n in range(10))
     order = "v " * 10 + " ".join(f"w{k % 2}" for k in range(19_000))
     return "\n".join(lines + clients + [f"client v at 0 {{ {looks} }}", f"schedule {order}", "end", ""])
+
+
+def colliding_clauses_text(clauses):
+    """Four calls with so many clauses together, which all have one hash."""
+    lines = ["workload 1", "sites 1", "object x in 0..1 = 0", "object y in 0..1 = 0"]
+    tests = [
+        f"{first}*read(x)+{second}*read(y)<1" if second > 0 else f"{first}*read(x)<1+{-second}*read(y)"
+        for first, second in colliding_factors(clauses)
+    ]
+    for quarter in range(4):
+        body = ";".join(f"if {test} then print(1) else skip" for test in tests[quarter::4])
+        lines.append(f"transaction t{quarter}() {{{body}}}")
+    return "\n".join(lines + ["client a at 0 { t0(); t1(); t2(); t3() }", "schedule a a a a", "end", ""])
 
 
 # ---- slots
