@@ -66,25 +66,18 @@ def nested(opened, inmost, closed, levels, is_past):
 
 
 def depths():
-    """Commands, factors and tests within one another. The outermost factor or test has no bracket or sign."""
+    """Commands, factors and tests within one another, the command that they are of counted too. Only an empty block has nothing in it."""
     text = begin(1) + "transaction t() {{ {} }}\n" + END
     forms = [
-        ("commands", "{}", ("{ ", "", "} "), MOST_DEEP),
-        ("commands, in branches", "{}", ("if true then ", "skip", " else skip"), MOST_DEEP - 1),
-        ("factors", "print({})", ("- ", "1", ""), MOST_DEEP - 1),
-        ("factors, in brackets", "print({})", ("(", "1", ")"), MOST_DEEP - 1),
-        ("tests", "if {} then skip else skip", ("not (", "true", ")"), MOST_DEEP - 1),
+        ("blocks", "{}", ("{ ", "", "} "), MOST_DEEP),
+        ("branches", "{}", ("if true then ", "skip", " else skip"), MOST_DEEP - 1),
+        ("signs", "print({})", ("- ", "1", ""), MOST_DEEP - 2),
+        ("brackets", "print({})", ("(", "1", ")"), MOST_DEEP - 2),
+        ("nots", "if {} then skip else skip", ("not (", "true", ")"), MOST_DEEP - 2),
     ]
-    for what, around, (opened, inmost, closed), most in forms:
-        texts = []
-        for levels, is_past in ((most, False), (most + 1, True)):
-            if what == "commands, in branches":
-                # (the fault is the command that is too deep, and not the one that it stands in)
-                inside = opened * levels + ("`" if is_past else "") + inmost + closed * levels
-            else:
-                inside = nested(opened, inmost, closed, levels, is_past)
-            texts.append(text.format(around.format(inside)))
-        yield boundary(f"depth of {what}", "E4", *texts)
+    for what, around, parts, most in forms:
+        inside = [nested(*parts, most, False), nested(*parts, most + 1, True)]
+        yield boundary(f"depth of {what}", "E4", *(text.format(around.format(it)) for it in inside))
 
 
 # ---- what is declared and called
@@ -238,10 +231,10 @@ def repeated():
     """A megabyte of one thing."""
     within = begin(1) + "transaction t() { "
     for what, before, piece, allowed in [
-        ("opening brackets", within + "print(", "(", MOST_DEEP - 1),
-        ("signs", within + "print(", "-", MOST_DEEP - 1),
+        ("opening brackets", within + "print(", "(", MOST_DEEP - 2),
+        ("signs", within + "print(", "-", MOST_DEEP - 2),
         ("opening braces", within, "{", MOST_DEEP),
-        ("nots", within + "if ", "not(", MOST_DEEP - 1),
+        ("nots", within + "if ", "not(", MOST_DEEP - 2),
     ]:
         room = (MOST_BYTES - len(before)) // len(piece) - allowed
         yield what, "E4", before + piece * allowed + "`" + piece * room

@@ -242,7 +242,7 @@ def deep_text(chains):
 
 
 def deep_factors_text(size):
-    body = ";".join(["print(" + "(" * 31 + "1" + ")" * 31 + ")", "print(" + "-" * 31 + "1)"] * (size // 112))
+    body = ";".join(["print(" + "(" * 30 + "1" + ")" * 30 + ")", "print(" + "-" * 30 + "1)"] * (size // 112))
     return f"workload 1\nsites 1\ntransaction t() {{\n{body}\n}}\nend\n"
 
 
