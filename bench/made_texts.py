@@ -229,13 +229,13 @@ def walk_text(choices):
 
 # ---- deep texts
 def deep_text(chains):
-    """A call of chains of 31 `if`s within one another, each of which assigns a temporary of its own."""
+    """A call of chains of 29 `if`s within one another, each of which assigns a temporary of its own."""
     lines = ["workload 1", "sites 2", "object x in 0..9 = 5"]
-    names = short_names(chains * 31)
+    names = short_names(chains * 29)
     parts = []
     for chain in range(chains):
         made = "skip"
-        for name in names[chain * 31 : chain * 31 + 31]:
+        for name in names[chain * 29 : chain * 29 + 29]:
             made = f"if 9<v then {name}:=1 else {made}"
         parts.append(made)
     return "\n".join(lines + [f"transaction t() {{v:=1;{';'.join(parts)}}}", "client a at 0 { t() }", "schedule a", "end", ""])
@@ -262,9 +262,9 @@ def nots_text(nots, calls):
 
 
 def signs_text(signs, calls):
-    """Different calls, each with a test of a sum of so many signs, 30 before each number, in brackets of 32 each."""
-    group = "(" + "+".join(["-" * 29 + "1"] * 32) + ")"
-    test = "+".join([group] * (signs // (29 * 32))) + " < 0"
+    """Different calls, each with a test of a sum of so many signs, 28 before each number, in brackets of 32 each."""
+    group = "(" + "+".join(["-" * 28 + "1"] * 32) + ")"
+    test = "+".join([group] * (signs // (28 * 32))) + " < 0"
     return condition_text(test, calls)
 
 
@@ -295,9 +295,14 @@ def closing_after_text(calls, names):
     return closing_text(calls, 2).replace("transaction up", f"transaction before(){{{body}}}\ntransaction up", 1)
 
 
+def roomy(text):
+    """The text with so much room in its objects that its other calls close no round."""
+    return text.replace("in 0..1000000 = 500000", "in 0..1000000000000 = 500000000000")
+
+
 def others_text(calls, others):
     """Calls that each close their round, where the plan has so many other calls of 10 writes each, as many at each of 2 sites."""
-    text = plans_text(calls)
+    text = roomy(plans_text(calls))
     client = "client c at 0 { " + "; ".join(f"t({n})" for n in range(200)) + " }"
     made = "client c at 0 { " + "; ".join(f"t({n})" for n in range(others)) + " }"
     return text.replace(client, made).replace("c " * 200, "c " * others)
@@ -305,7 +310,7 @@ def others_text(calls, others):
 
 def wide_rounds_text(calls, others):
     """The calls of `wide`, and calls before them that each close their round."""
-    text = wide_text(others).replace("transaction t", "object x in 0..1000000 = 0\ntransaction t", 1)
+    text = roomy(wide_text(others)).replace("transaction t", "object x in 0..1000000 = 0\ntransaction t", 1)
     up = "transaction up() { write(x = read(x) + 1); print(read(x)) }\n"
     ups = "".join(f"client u{site} at {site} {{ {'; '.join(['up()'] * (calls // 2))} }}\n" for site in range(2))
     order = "u0 u1 " * (calls // 2) + "".join(f"c{site} " * len(range(site, others, 16)) for site in range(16))
@@ -362,10 +367,10 @@ def single_prints_text(objects, calls):
     return tested_text(names, "n = n", calls, "{ " + "; ".join(f"print(read({name}))" for name in names) + " }")
 
 
-def mixed_text(calls):
-    """A product of two sums of 512 objects each."""
-    names = [f"o{k}" for k in range(1_024)]
-    return tested_text(names, f"({sum_of(names[:512])}) * ({sum_of(names[512:])}) < n", calls)
+def mixed_text(calls, objects):
+    """A product of the sums of both halves of the objects."""
+    names, half = [f"o{k}" for k in range(objects)], objects // 2
+    return tested_text(names, f"({sum_of(names[:half])}) * ({sum_of(names[half:])}) < n", calls)
 
 
 def frozen_text(calls):
@@ -504,7 +509,8 @@ def clients_text(clients, sites):
     """20,000 local calls of so many clients."""
     lines, _ = adding(sites, 0, 0)
     each = 20_000 // clients
-    lines += [f"client v{j} at {j % sites} {{ {'; '.join(f'add{k % 8}({k % 9 + 1})' for k in range(each))} }}" for j in range(clients)]
+    made = [[f"add{j % 8}({k % 9 + 1})" for k in range(each)] for j in range(clients)]
+    lines += [f"client v{j} at {j % sites} {{ {'; '.join(calls)} }}" for j, calls in enumerate(made)]
     return "\n".join(lines + ["schedule " + " ".join(f"v{k % clients}" for k in range(each * clients)), "end", ""])
 
 
@@ -527,8 +533,8 @@ def joint_text(calls):
 
 def long_rows_text(prints):
     """A call at 16 sites of 512 rows, each with so many prints of an object with a long name."""
-    lines = ["workload 1", "sites 16", f"object {long_name(0)} in 0..9 = 0"]
-    body = ["write({} = 1)".format(long_name(0))] * 9 + ["print(read({}))".format(long_name(0))] * prints
+    lines = ["workload 1", "sites 16", "object x in 0..9 = 0", f"object {long_name(0)} in 0..9 = 0"]
+    body = ["write(x = 1)"] * 9 + [f"print(read({long_name(0)}))"] * prints
     return "\n".join(lines + [f"transaction t() {{ {'; '.join(body)} }}", "client a at 0 { t() }", "end", ""])
 
 

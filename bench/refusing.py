@@ -1,7 +1,7 @@
 """Runs the built program under a library that is loaded before the C library: what bench/refuse-memory and bench/refuse-io share."""
 import argparse
 import collections
-import concurrent.futures
+import multiprocessing
 import os
 import pathlib
 import subprocess
@@ -45,9 +45,21 @@ class Shim:
 
 
 def side_by_side(work, items):
-    """What the work gives for each of the items, in their order, several at a time."""
-    with concurrent.futures.ThreadPoolExecutor(os.cpu_count()) as pool:
-        return list(pool.map(work, items))
+    """What the work gives for each of the items, in their order, in a process for each processor, which are copies of this one."""
+    items = list(items)
+    if not items:
+        return []
+    with multiprocessing.get_context("fork").Pool(os.cpu_count(), begin_work, (work,)) as pool:
+        return pool.map(do_work, items, chunksize=max(1, min(64, len(items) // 16)))
+
+
+def begin_work(work):
+    global the_work
+    the_work = work
+
+
+def do_work(item):
+    return the_work(item)
 
 
 def parser_of(name, usage, description):
