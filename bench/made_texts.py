@@ -1,18 +1,11 @@
 """The texts that bench/measure runs. Each function makes one, of the size that it is given; bench/measure says what they are."""
 import functools
-import itertools
 import random
 import string
 
+from boundaries import short_names
+
 WORD = string.ascii_letters + string.digits
-# Words of three letters that are no names.
-RESERVED = ("and", "end", "not", "set", "sum")
-
-
-def short_names(count):
-    """Different names of three characters."""
-    made = ("".join(it) for it in itertools.product(string.ascii_letters, WORD, WORD))
-    return list(itertools.islice((name for name in made if name not in RESERVED), count))
 
 
 def long_name(number):
