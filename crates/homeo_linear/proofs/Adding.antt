@@ -1,5 +1,5 @@
 -- Terms in order: one more, and all of them.
-use Rattle.std.proofs.Common.{◌≡◌, ℕ, zero, suc, ◌+◌, ◌-◌, ◌<◌, ◌≤◌, nat_lt, Bool, true, false, not, cond, List, [], ◌∷◌, ◌++◌, take, drop, get_or, set, length, ℤ, pos, ◌+ℤ◌, ◌*ℤ◌, refl, sym, ap, ◌∙◌, subst, true≢false, add-one, drop_of_length-le, append-nil, arith}
+use Rattle.std.proofs.Common.{◌≡◌, ℕ, zero, suc, ◌+◌, ◌<◌, ◌≤◌, nat_lt, Bool, true, false, not, cond, List, [], ◌∷◌, ◌++◌, take, drop, get_or, set, length, ℤ, pos, ◌+ℤ◌, ◌*ℤ◌, refl, sym, ap, ◌∙◌, subst, true≢false, add-one, drop_of_length-le, append-nil, arith}
 use Rattle.std.proofs.Math.Seq.{drop-cons}
 use Rattle.std.proofs.lemmas.Bool.Decides.{nat_tests}
 use Rattle.std.proofs.lemmas.List.{get_or-map}
@@ -15,7 +15,7 @@ use Rattle.homeo_plan.specs.Limit.{form_limit}
 use Rattle.homeo_linear.specs.inner.Key.{words}
 use Rattle.homeo_linear.specs.inner.Order.{InOrder, BeginsBehind, IsPlace, begins_with}
 use Rattle.homeo_linear.specs.inner.Terms.{AreSmall, AreSmallWhereSame, IsSmallAt, add_at}
-use Rattle.homeo_linear.proofs.Orders.{before_is_other, before_is_one_way, before_total, Above, above_before, each_at, take_drop, begins_at, begins_past, adds_step, adds_end, place_end, place_found, place_less}
+use Rattle.homeo_linear.proofs.Orders.{before_is_other, before_is_one_way, before_total, Above, above_before, each_at, take_drop, begins_at, begins_past, adds_step, adds_end, place_end, place_above, place_below}
 
 -- ---- deltas of terms
 pub drop_deltas : (ts : List Term) (n : ℕ) → deltas_of (drop n ts) ≡ drop n (deltas_of ts)
@@ -48,19 +48,15 @@ adds_of_end ts es ws i l h =
     adds_end (deltas_of ts) es ws i (omega (arith, l, length_deltas ts)) (sym (ap (λ l. add_deltas l es) (drop_deltas ts i)) ∙ h)
 
 -- ---- places
-pub term_place_found :
-    (d : Delta) (ts : List Term) (p : ℕ) (t : Term) → InOrder (deltas_of ts) → 0 < p → p ≤ length ts → BeginsBehind d (drop p (deltas_of ts)) →
-    true ≡ delta_before (get_or ts (p - 1) t).delta d → IsPlace d (deltas_of ts) p
-term_place_found d ts p t o m l b h =
-    place_found d (deltas_of ts) p t.delta o m (omega (arith, l, length_deltas ts)) b
-    (h ∙ ap (λ e. delta_before e d) (sym (delta_at ts (p - 1) t (omega (arith, m, l)))))
+pub term_place_above : (d : Delta) (ts : List Term) (p : ℕ) (t : Term) → InOrder (deltas_of ts) → p < length ts → true ≡ delta_before (get_or ts p t).delta d →
+    Each (λ e. delta_before e d ≡ true) (take (p + 1) (deltas_of ts))
+term_place_above d ts p t o l h =
+    place_above d (deltas_of ts) p t.delta o (omega (arith, l, length_deltas ts)) (h ∙ ap (λ e. delta_before e d) (sym (delta_at ts p t l)))
 
-pub term_place_less :
-    (d : Delta) (ts : List Term) (p : ℕ) (t : Term) → 0 < p → p ≤ length ts → false ≡ delta_before (get_or ts (p - 1) t).delta d →
-    BeginsBehind d (drop (p - 1) (deltas_of ts))
-term_place_less d ts p t m l h =
-    place_less d (deltas_of ts) p t.delta m (omega (arith, l, length_deltas ts))
-    (h ∙ ap (λ e. delta_before e d) (sym (delta_at ts (p - 1) t (omega (arith, m, l)))))
+pub term_place_below : (d : Delta) (ts : List Term) (p : ℕ) (t : Term) → p < length ts → false ≡ delta_before (get_or ts p t).delta d →
+    BeginsBehind d (drop p (deltas_of ts))
+term_place_below d ts p t l h =
+    place_below d (deltas_of ts) p t.delta (omega (arith, l, length_deltas ts)) (h ∙ ap (λ e. delta_before e d) (sym (delta_at ts p t l)))
 
 pub term_begins_at : (d : Delta) (ts : List Term) (p : ℕ) (t : Term) → p < length ts → begins_with d (deltas_of (drop p ts)) ≡ same_delta d (get_or ts p t).delta
 term_begins_at d ts p t l =

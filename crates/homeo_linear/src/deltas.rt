@@ -15,19 +15,24 @@ pub(crate) fn is_before(a: Delta, b: Delta) -> bool
     a.object < b.object || (a.object == b.object && a.site < b.site)
 }
 
-/// How many of the deltas stand before a delta. It looks from the end, where most deltas are added.
+/// How many of the deltas stand before a delta. It looks at the last one first, behind which most deltas are added, and then
+/// halves what is left.
 fn place(deltas: &[Delta], delta: Delta) -> usize
     requires { InOrder deltas.now }
     ensures { IsPlace delta deltas.now result }
 {
-    let mut place = deltas.len();
-    while place > 0 {
-        if is_before(deltas[place - 1], delta) {
-            return place;
+    let mut low = 0;
+    let mut high = deltas.len();
+    let mut middle = high.saturating_sub(1);
+    while low < high {
+        if is_before(deltas[middle], delta) {
+            low = middle + 1;
+        } else {
+            high = middle;
         }
-        place -= 1;
+        middle = low + (high - low) / 2;
     }
-    0
+    low
 }
 
 /// Whether the delta stands at a place.

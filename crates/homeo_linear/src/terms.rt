@@ -14,19 +14,24 @@ use homeo_plan::{Delta, Term};
 use homeo_syntax::Memory;
 use std::alloc::Global;
 
-/// How many of the terms stand before a delta. It looks from the end, where most terms are added.
+/// How many of the terms stand before a delta. It looks at the last one first, behind which most terms are added, and then
+/// halves what is left.
 fn place(terms: &[Term], delta: Delta) -> usize
     requires { InOrder (deltas_of terms.now) }
     ensures { IsPlace delta (deltas_of terms.now) result }
 {
-    let mut place = terms.len();
-    while place > 0 {
-        if is_before(terms[place - 1].delta, delta) {
-            return place;
+    let mut low = 0;
+    let mut high = terms.len();
+    let mut middle = high.saturating_sub(1);
+    while low < high {
+        if is_before(terms[middle].delta, delta) {
+            low = middle + 1;
+        } else {
+            high = middle;
         }
-        place -= 1;
+        middle = low + (high - low) / 2;
     }
-    0
+    low
 }
 
 /// Whether the term at a place is one of the delta.
