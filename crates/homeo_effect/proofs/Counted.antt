@@ -1,10 +1,10 @@
 -- A program has a temporary for each assignment and a print for each print of what it is made of.
-use Rattle.std.proofs.Common.{◌≡◌, ℕ, zero, suc, ◌+◌, List, [], ◌∷◌, ℤ, refl, ap, ◌∙◌, arith}
+use Rattle.std.proofs.Common.{◌≡◌, ℕ, suc, ◌+◌, List, [], ◌∷◌, ℤ, refl, ap, ◌∙◌, arith}
 use Rattle.homeo_syntax.specs.Low.{Commands, Skip, Assign, Write, Print, Seq, If, NoCommand, MoreCommand}
 use Rattle.homeo_effect.specs.Key.{words}
 use Rattle.homeo_effect.specs.Counts.{assignment_count, print_count}
 use Rattle.homeo_effect.specs.Localized.{localized}
-use Rattle.homeo_effect.specs.Program.{set_after, set_after_all, prints_of_all, plain_steps}
+use Rattle.homeo_effect.specs.Program.{set_after_all, prints_of_all, plain_steps}
 use Rattle.homeo_effect.specs.declared.program.Step.{Step}
 use Rattle.homeo_effect.specs.declared.program.Step.TheVariants as step
 use Rattle.homeo_effect.specs.inner.Numbered.{Latest, set_latest, numbered}

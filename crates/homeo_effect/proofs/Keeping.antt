@@ -3,7 +3,6 @@ use Rattle.std.proofs.Common.{◌≡◌, ℕ, ◌==◌, ◌+◌, ◌<◌, ◌≤
 use Rattle.std.specs.Prelude.{◌||◌}
 use Rattle.std.proofs.lemmas.Grind.{common_steps}
 use Rattle.std.proofs.lemmas.List.{take_more, map-append, length-map}
-use Rattle.std.proofs.lemmas.List.Folds.{list_any-append}
 use Rattle.homeo_syntax.specs.Key.{words as tree_words}
 use Rattle.homeo_syntax.specs.Low as l
 use Rattle.homeo_syntax.specs.LowView.{low_commands}
@@ -16,7 +15,7 @@ use Rattle.homeo_plan.specs.Linear.{delta_of}
 use Rattle.homeo_plan.specs.PlanView.{plain_clause}
 use Rattle.homeo_effect.specs.Key.{words}
 use Rattle.homeo_effect.specs.Touched.{with_delta, written, is_among, are_on, is_touched}
-use Rattle.homeo_effect.specs.inner.Uses.{has, at_object, is_at, Keeps, KeepsClauses, KeepsFreezes}
+use Rattle.homeo_effect.specs.inner.Uses.{has, at_object, objects_of, Keeps, KeepsClauses, KeepsFreezes}
 use Rattle.homeo_effect.proofs.Noting.{one_noted, there_is}
 use Rattle.homeo_effect.proofs.RisingNumbers.{has_more}
 
@@ -99,17 +98,18 @@ written_more (l.Print e ∷ cs) c = written_more cs c
 written_more (l.Seq ds ∷ cs) c = written_more cs c
 written_more (l.If t d e ∷ cs) c = written_more cs c
 
-pub touched_more :
-    {A : Type 0} (f : A → l.Command) (cs : List A) (k : ℕ) (c : A) → k < length cs → c ≡ get_or cs k c → (uses : List (List ℕ)) (before after : List ℕ) →
-    ((n : ℕ) → has n before ≡ is_at n (written (low_commands (map f (take k cs)))) uses) →
-    ((n : ℕ) → has n after ≡ (has n before || is_at n (written (low_commands (f c ∷ []))) uses)) → (n : ℕ) →
-    has n after ≡ is_at n (written (low_commands (map f (take (k + 1) cs)))) uses
-touched_more f cs k c lt p uses before after so_far more n =
+pub objects_more :
+    {A : Type 0} (f : A → l.Command) (cs : List A) (k : ℕ) (c : A) → k < length cs → c ≡ get_or cs k c → (before after : List ℕ) →
+    before ≡ objects_of (written (low_commands (map f (take k cs)))) → after ≡ before ++ objects_of (written (low_commands (f c ∷ []))) →
+    after ≡ objects_of (written (low_commands (map f (take (k + 1) cs))))
+objects_more f cs k c lt p before after so_far more =
     let taken : map f (take (k + 1) cs) ≡ map f (take k cs) ++ f c ∷ [] =
     ap (map f) (take_more cs k c lt ∙ ap (λ d. take k cs ++ d ∷ []) (sym p)) ∙ map-append f (take k cs) (c ∷ []) in
-    more n ∙ ap (λ v. v || is_at n (written (low_commands (f c ∷ []))) uses) (so_far n)
-    ∙ sym (list_any-append (λ (d : Delta). has n (at_object d.object uses)) (written (low_commands (map f (take k cs)))) (written (low_commands (f c ∷ []))))
-    ∙ ap (λ ds. is_at n ds uses) (sym (ap (λ ds. written (low_commands ds)) taken ∙ written_more (map f (take k cs)) (f c)))
+    let first = written (low_commands (map f (take k cs))) in
+    let last = written (low_commands (f c ∷ [])) in
+    more ∙ ap (λ (xs : List ℕ). xs ++ objects_of last) so_far
+    ∙ sym (map-append (λ (d : Delta). d.object) first last)
+    ∙ ap objects_of (sym (ap (λ ds. written (low_commands ds)) taken ∙ written_more (map f (take k cs)) (f c)))
 
 pub all_taken : {A : Type 0} (xs : List A) (k : ℕ) → length xs ≤ k → take k xs ≡ xs
 all_taken xs k h = grind (arith, common_steps)

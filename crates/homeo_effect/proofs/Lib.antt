@@ -8,6 +8,7 @@ pub mod Literals
 pub mod LocalRuns
 pub mod Localizing
 pub mod MadeSteps
+pub mod Members
 pub mod Noting
 pub mod NumberedParts
 pub mod NumberedRuns

@@ -7,7 +7,7 @@ ghost use Rattle.homeo_syntax.specs.LowView.{low_commands, plain_lcommand};
 ghost use Rattle.homeo_plan.specs.Linear.{delta_of};
 ghost use Rattle.homeo_plan.specs.PlanView.{plain_clause};
 ghost use Rattle.homeo_effect.specs.Touched.{with_delta, written, are_on};
-ghost use Rattle.homeo_effect.specs.inner.Uses.{has, at_object, is_at, KeepsClauses, KeepsFreezes};
+ghost use Rattle.homeo_effect.specs.inner.Uses.{has, at_object, is_at, KeepsClauses, KeepsFreezes, objects_of};
 
 use homeo_plan::{Clause, Delta, Term};
 use homeo_syntax::{LCommand, List, Memory, SplitName};
@@ -121,26 +121,43 @@ fn delta_named(name: SplitName) -> Option<Delta>
     }
 }
 
-/// Appends the numbers at the object of which a command writes a delta.
-fn append_written(numbers: &mut Vec<u32>, uses: &[Vec<u32>], c: &LCommand) -> Result<(), Memory>
-    ensures { OnOk result ((n : ℕ) → has n numbers.new.items ≡
-        (has n numbers.old.items || is_at n (written (low_commands (plain_lcommand c.now ∷ []))) (map (λ v. v.items) uses.now))) }
+/// Appends the object of which a command writes a delta.
+fn append_object(objects: &mut Vec<u32>, c: &LCommand) -> Result<(), Memory>
+    ensures { OnOk result (objects.new.items ≡ objects.old.items ++ objects_of (written (low_commands (plain_lcommand c.now ∷ [])))) }
 {
     match written_delta(c) {
-        Some(delta) => append(numbers, uses, delta.object as usize),
+        Some(delta) => {
+            objects.push(delta.object)?;
+            Ok(())
+        }
         None => Ok(()),
     }
 }
 
-/// The numbers at the objects of which commands write a delta: rising, each once.
+/// The objects of which commands write a delta: rising, each once.
+fn written_objects(alloc: Global, cs: &[LCommand]) -> Result<Vec<u32>, Memory>
+    ensures { IfOk result (λ v. (x : ℕ) → has x v.items ≡ has x (objects_of (written (low_commands (map plain_lcommand cs.now))))) }
+{
+    let mut objects = Vec::new(alloc);
+    for c in cs {
+        append_object(&mut objects, c)?;
+    }
+    objects.sort_unstable();
+    objects.dedup();
+    Ok(objects)
+}
+
+/// The numbers at the objects of which commands write a delta: rising, each once. An object that is written often is looked up
+/// once.
 pub(crate) fn touched(alloc: Global, uses: &[Vec<u32>], cs: &[LCommand]) -> Result<Vec<u32>, Memory>
     ensures rising { IfOk result (λ v. IsStrictlySortedBy nat_cmp v.items) }
     ensures all { IfOk result (λ v. (n : ℕ) → has n v.items ≡
         is_at n (written (low_commands (map plain_lcommand cs.now))) (map (λ v. v.items) uses.now)) }
 {
+    let objects = written_objects(alloc, cs)?;
     let mut numbers = Vec::new(alloc);
-    for c in cs {
-        append_written(&mut numbers, uses, c)?;
+    for object in objects.as_slice() {
+        append(&mut numbers, uses, *object as usize)?;
     }
     numbers.sort_unstable();
     numbers.dedup();

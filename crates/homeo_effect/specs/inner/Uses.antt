@@ -1,5 +1,5 @@
 -- Tables of numbers by object: which numbers are kept at an object, and what an index over a treaty keeps.
-use Rattle.std.specs.Prelude.{◌≡◌, ℕ, ◌==◌, Bool, List, [], ◌∷◌, slice_index_or}
+use Rattle.std.specs.Prelude.{◌≡◌, ℕ, ◌==◌, Bool, List, [], ◌∷◌, map, slice_index_or}
 use Rattle.std.specs.List.{list_any}
 use Rattle.homeo_plan.specs.declared.forms.Delta.{Delta}
 use Rattle.homeo_plan.specs.Linear.{delta_of}
@@ -13,6 +13,10 @@ has n ns = list_any (λ m. n == m) ns
 -- the numbers at object x: none past the end
 abbrev pub at_object : ℕ → List (List ℕ) → List ℕ
 at_object x uses = slice_index_or uses x []
+
+-- the objects of deltas
+abbrev pub objects_of : List Delta → List ℕ
+objects_of ds = map (λ d. d.object) ds
 
 -- the number is at the object of one of the deltas
 abbrev pub is_at : ℕ → List Delta → List (List ℕ) → Bool

@@ -1,0 +1,59 @@
+-- Lists of numbers that have the same members.
+use Rattle.std.proofs.Common.{◌≡◌, ℕ, ◌==◌, Bool, true, false, List, [], ◌∷◌, refl, sym, ap, ◌∙◌, arith}
+use Rattle.std.specs.Prelude.{◌||◌}
+use Rattle.std.specs.List.{list_any}
+use Rattle.std.proofs.lemmas.Bool.Decides.{nat_tests}
+use Rattle.homeo_plan.specs.declared.forms.Delta.{Delta}
+use Rattle.homeo_effect.specs.inner.Uses.{has, at_object, is_at, objects_of}
+
+false_not : {A : Type 0} → false ≡ true → A
+false_not e = let no : ⊥ = cc in absurd no
+
+same_truth : (a b : Bool) → (a ≡ true → b ≡ true) → (b ≡ true → a ≡ true) → a ≡ b
+same_truth true b h k = sym (h refl)
+same_truth false true h k = k refl
+same_truth false false h k = refl
+
+either : (a b : Bool) (C : Type 0) → (a || b) ≡ true → (a ≡ true → C) → (b ≡ true → C) → C
+either true b C h p q = p refl
+either false b C h p q = q h
+
+first_holds : (a b : Bool) → a ≡ true → (a || b) ≡ true
+first_holds true b h = refl
+first_holds false b h = false_not h
+
+later_holds : (a b : Bool) → b ≡ true → (a || b) ≡ true
+later_holds true b h = refl
+later_holds false b h = h
+
+itself : (x : ℕ) → (x == x) ≡ true
+itself x = grind (arith, nat_tests)
+
+same_number : (x y : ℕ) → (x == y) ≡ true → x ≡ y
+same_number x y h = grind (arith, nat_tests)
+
+-- one that passes is a member that passes
+passing : (P : ℕ → Bool) (xs : List ℕ) → list_any P xs ≡ true → (x : ℕ) × (has x xs ≡ true) × (P x ≡ true)
+passing P [] h = false_not h
+passing P (y ∷ ys) h =
+    either (P y) (list_any P ys) ((x : ℕ) × (has x (y ∷ ys) ≡ true) × (P x ≡ true)) h
+    (λ p. (y, first_holds (y == y) (has y ys) (itself y), p))
+    (λ q. let m = passing P ys q in (m.0, later_holds (m.0 == y) (has m.0 ys) m.1, m.2))
+
+member_passes : (P : ℕ → Bool) (xs : List ℕ) (x : ℕ) → has x xs ≡ true → P x ≡ true → list_any P xs ≡ true
+member_passes P [] x h p = false_not h
+member_passes P (y ∷ ys) x h p =
+    either (x == y) (has x ys) (list_any P (y ∷ ys) ≡ true) h
+    (λ e. first_holds (P y) (list_any P ys) (sym (ap P (same_number x y e)) ∙ p))
+    (λ q. later_holds (P y) (list_any P ys) (member_passes P ys x q p))
+
+pub same_members : (P : ℕ → Bool) (xs ys : List ℕ) → ((x : ℕ) → has x xs ≡ has x ys) → list_any P xs ≡ list_any P ys
+same_members P xs ys h =
+    same_truth (list_any P xs) (list_any P ys)
+    (λ p. let m = passing P xs p in member_passes P ys m.0 (sym (h m.0) ∙ m.1) m.2)
+    (λ p. let m = passing P ys p in member_passes P xs m.0 (h m.0 ∙ m.1) m.2)
+
+-- the numbers at the objects of deltas
+pub at_objects : (n : ℕ) (ds : List Delta) (uses : List (List ℕ)) → list_any (λ x. has n (at_object x uses)) (objects_of ds) ≡ is_at n ds uses
+at_objects n [] uses = refl
+at_objects n (d ∷ ds) uses = ap (λ (b : Bool). has n (at_object d.object uses) || b) (at_objects n ds uses)
