@@ -12,6 +12,10 @@ pub fn item_or<T: Copy>(items: &[T], n: usize, absent: T) -> T
 }
 
 /// Puts an item at a place, with absent ones below it where the table was shorter.
+///
+/// # Errors
+///
+/// `Memory` when out of memory, and then some absent items may stand behind those that were there.
 #[tactic(auto, using(crate::proofs::AbsentItems::padded))]
 pub fn put<T: Copy + Drop>(items: &mut Vec<T>, n: usize, item: T, absent: T) -> Result<(), Memory>
     ensures { OnOk result ((m : ℕ) → slice_index_or items.new.items m absent ≡
