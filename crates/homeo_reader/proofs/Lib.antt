@@ -17,3 +17,4 @@ pub mod Words
 pub mod SpelledNames
 pub mod Top
 pub mod Unread
+pub mod Cut

@@ -1,20 +1,18 @@
 -- The names of a text are distinct, and spelled as names.
-use Rattle.std.proofs.Common.{◌≡◌, ◌≢◌, ◌<◌, ◌≤◌, ◌+◌, ◌-◌, ℕ, zero, suc, Bool, true, false, cond, List, [], ◌∷◌, ◌++◌, length, get_or, take, refl, sym, ap, subst, ◌∙◌, arith, inl, inr, length-append}
-use Rattle.std.specs.Prelude.{Option, Some, None, Result, Ok, Err, nat_lt, pos, if◌then◌else◌, ◌||◌, ◌&&◌, not, AllPairs, IfOk}
-use Rattle.std.specs.List.{list_all, list_any, take_while, prefix_len}
+use Rattle.std.proofs.Common.{◌≡◌, ◌≢◌, ◌<◌, ◌+◌, ℕ, zero, suc, Bool, true, false, List, [], ◌∷◌, ◌++◌, length, get_or, refl, sym, ap, subst, ◌∙◌, arith, inl, inr, length-append}
+use Rattle.std.specs.Prelude.{Ok, if◌then◌else◌, ◌||◌, AllPairs}
+use Rattle.std.specs.List.{list_any}
 use Rattle.std.specs.Str.{bytes_eq}
 use Rattle.std.proofs.lemmas.Bool.{cases_lt}
 use Rattle.std.proofs.Math.ListN.{get_or-append}
 use Rattle.std.proofs.Math.Seq.{get_or-append_seam}
 use Rattle.homeo_syntax.specs.Key.{words}
-use Rattle.homeo_syntax.specs.declared.token.Mark.{Mark}
 use Rattle.homeo_syntax.specs.Source as s
-use Rattle.homeo_syntax.specs.Lexemes.{Lexeme, Name, Number, Fixed, number_value, is_space, is_letter, is_digit, is_word, reserved, look_up, word_as, word_lexeme, number_lexeme, longest, symbol_lexeme, double_symbols, single_symbols, lexeme_of}
-use Rattle.homeo_syntax.specs.Tokens.{Scanned, scanned_from, scanned_of, found, in_front, with_name, with_lexeme, names_after, names_of, place_of, kind_in, tokens_in}
+use Rattle.homeo_syntax.specs.Lexemes.{Lexeme, Name, Number, Fixed}
+use Rattle.homeo_syntax.specs.Tokens.{Scanned, scanned_of, with_lexeme, names_after, names_of, kind_in, tokens_in}
 use Rattle.homeo_syntax.specs.Rules.{IsWorkload}
 use Rattle.homeo_syntax.specs.Reads.{Reads}
-use Rattle.homeo_syntax.specs.WellFormed.{IsName, BeginsWithLetter, Each, EachIdent, IsBelow, IsWellFormed}
-use Rattle.homeo_syntax.specs.declared.workload.Workload.{Workload}
+use Rattle.homeo_syntax.specs.WellFormed.{IsName, Each, EachIdent, IsBelow, IsWellFormed}
 use Rattle.homeo_syntax.proofs.Spelling.{IsSpelled, AllSpelled, scanned_spelled}
 use Rattle.homeo_syntax.proofs.Names.{bytes_same, InAll, AllIn, all_among, place_below}
 use Rattle.homeo_reader.proofs.Keeps.{Fine}

@@ -14,7 +14,7 @@ abbrev pub Exact : {A : Type 0} → (A → List Token → Type 0) → List Token
 Exact P ts (Ok a) = P a ts
 Exact P ts (Err fault) = IsFault P ts fault
 
-abbrev rest_of : {A : Type 0} → Reading A → List Token
+abbrev pub rest_of : {A : Type 0} → Reading A → List Token
 rest_of (Ok x) = x.1
 rest_of (Err e) = e
 

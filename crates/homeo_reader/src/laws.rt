@@ -1,10 +1,11 @@
 //! What is true of the texts of all workloads, whatever reads them. The definitions are this project's own.
 
-ghost use Rattle.std.specs.Prelude.{◌≡◌, ℕ, List};
+ghost use Rattle.std.specs.Prelude.{◌≡◌, ℕ, List, length};
 ghost use Rattle.homeo_syntax.specs.Source as s;
 ghost use Rattle.homeo_syntax.specs.Reads.{Reads, IsUnread};
 ghost use Rattle.homeo_syntax.specs.WellFormed.{IsWellFormed};
 ghost use Rattle.homeo_syntax.specs.declared.workload.Refusal.{Refusal};
+ghost use Rattle.homeo_reader.specs.Cut.{IsCutShort};
 
 /// No text reads as two workloads.
 pub fn one_reading()
@@ -25,4 +26,10 @@ pub fn unread()
 /// A text has one refusal at most.
 pub fn one_refusal()
     ensures { (text : List ℕ) (r q : Refusal) → IsUnread text r → IsUnread text q → r ≡ q }
+{}
+
+/// A workload's text that was cut short behind one of its tokens is refused at its end, since more is wanted there.
+pub fn cut_texts()
+    ensures { (text cut : List ℕ) (w : s.Workload) → Reads text w → IsCutShort text cut
+        → IsUnread cut (record { code = 4; offset = length cut }) }
 {}
