@@ -159,7 +159,8 @@ pub(crate) fn touched(alloc: Global, uses: &[Vec<u32>], cs: &[LCommand]) -> Resu
     for object in objects.as_slice() {
         append(&mut numbers, uses, *object as usize)?;
     }
-    numbers.sort_unstable();
+    // (a stable sort merges the rising runs that stand there)
+    numbers.sort()?;
     numbers.dedup();
     Ok(numbers)
 }

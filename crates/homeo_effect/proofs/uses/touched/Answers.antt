@@ -14,15 +14,15 @@ use Rattle.homeo_effect.proofs.uses.touched.Goals as goal
 
 pub returns-clause-rising : goal.returns-clause-rising
 returns-clause-rising c =
-    rw (dedup_is _ _ _ c.dedup.ensures.filtered) (sorted_from_strictly_increasing _ (IsStrictlyIncreasing-dedup _ c.sort_unstable.ensures.sorted))
+    rw (dedup_is _ _ _ c.dedup.ensures.filtered) (sorted_from_strictly_increasing _ (IsStrictlyIncreasing-dedup _ c.in_ok-sort.ensures.sorted))
 
 pub returns-clause-all : goal.returns-clause-all
 returns-clause-all c n =
     let uses = map (λ v. v.items) c.args.uses.now in
     let at = λ (x : ℕ). has n (at_object x uses) in
     let ds = written (low_commands (map plain_lcommand c.args.cs.now)) in
-    ap (has n) (dedup_is _ _ _ c.dedup.ensures.filtered) ∙ kept n c.sort_unstable.new.self.items
-    ∙ sym (list_any-IsPermutation (λ m. n == m) c.loop-object.numbers.items c.sort_unstable.new.self.items c.sort_unstable.ensures.permutation)
+    ap (has n) (dedup_is _ _ _ c.dedup.ensures.filtered) ∙ kept n c.sort.new.self.items
+    ∙ sym (list_any-IsPermutation (λ m. n == m) c.loop-object.numbers.items c.sort.new.self.items c.in_ok-sort.ensures.permutation)
     ∙ c.loop-object.invariant n
     ∙ ap (list_any at) (all_taken c.as_slice-object-items.result.now c.loop-object.object-index c.loop-object-test.false ∙ c.as_slice-object-items.ensures.value)
     ∙ same_members at c.in_ok-objects.objects.items (objects_of ds) c.in_ok-objects.ensures
