@@ -1,21 +1,23 @@
 -- Terms in order: one more, and all of them.
-use Rattle.std.proofs.Common.{◌≡◌, ℕ, zero, suc, ◌+◌, ◌<◌, ◌≤◌, nat_lt, Bool, true, false, not, cond, List, [], ◌∷◌, ◌++◌, take, drop, get_or, set, length, ℤ, pos, ◌+ℤ◌, ◌*ℤ◌, refl, sym, ap, ◌∙◌, subst, true≢false, add-one, drop_of_length-le, append-nil, arith}
+use Rattle.std.proofs.Common.{◌≡◌, ℕ, zero, suc, ◌+◌, ◌-◌, ◌*◌, ◌<◌, ◌≤◌, nat_lt, Bool, true, false, not, cond, List, [], ◌∷◌, ◌++◌, take, drop, get_or, set, length, ℤ, pos, ◌+ℤ◌, ◌*ℤ◌, refl, sym, ap, ◌∙◌, subst, true≢false, add-one, drop_of_length-le, append-nil, arith}
 use Rattle.std.proofs.Math.Seq.{drop-cons}
 use Rattle.std.proofs.lemmas.Bool.Decides.{nat_tests}
 use Rattle.std.proofs.lemmas.List.{get_or-map}
 use Rattle.std.specs.List.{insert, remove}
 use Rattle.std.specs.Ordering.{int_eq}
+use Rattle.homeo_meaning.specs.Key.{words as meaning_words}
 use Rattle.homeo_meaning.specs.Small.{IsSmall}
 use Rattle.homeo_plan.specs.Key.{words as plan_words}
 use Rattle.homeo_plan.specs.Each.{Each}
-use Rattle.homeo_plan.specs.Linear.{same_delta, delta_before, deltas_of, with_term, add_term, add_terms, scale_terms, add_delta, add_deltas}
+use Rattle.homeo_plan.specs.Linear.{same_delta, delta_before, deltas_of, with_term, add_term, add_terms, scale_terms}
 use Rattle.homeo_plan.specs.declared.forms.Delta.{Delta}
 use Rattle.homeo_plan.specs.declared.forms.Term.{Term}
 use Rattle.homeo_plan.specs.Limit.{form_limit}
 use Rattle.homeo_linear.specs.inner.Key.{words}
 use Rattle.homeo_linear.specs.inner.Order.{InOrder, BeginsBehind, IsPlace, begins_with}
-use Rattle.homeo_linear.specs.inner.Terms.{AreSmall, AreSmallWhereSame, IsSmallAt, add_at}
-use Rattle.homeo_linear.proofs.Orders.{before_is_other, before_is_one_way, before_total, Above, above_before, each_at, take_drop, begins_at, begins_past, adds_step, adds_end, place_end, place_above, place_below}
+use Rattle.homeo_linear.specs.inner.Terms.{AreWithin, AreSmall, AreJoined, sum_limit, add_at}
+use Rattle.homeo_linear.proofs.Orders.{before_is_other, before_is_one_way, before_total, Above, above_before, each_at, take_drop, begins_at, begins_past, place_end, place_after, place_below}
+use Rattle.homeo_linear.proofs.Widths.{abs_add}
 
 -- ---- deltas of terms
 pub drop_deltas : (ts : List Term) (n : ℕ) → deltas_of (drop n ts) ≡ drop n (deltas_of ts)
@@ -34,29 +36,35 @@ pub delta_at : (ts : List Term) (n : ℕ) (t : Term) → n < length ts → get_o
 unfolding plan_words
 delta_at ts n t l = get_or-map (λ (u : Term). u.delta) ts n t t.delta l
 
-pub adds_of_step :
-    (ts : List Term) (es fs ws : List Delta) (i : ℕ) (t : Term) → i < length ts → InOrder es → fs ≡ add_delta (get_or ts i t).delta es →
-    add_deltas (deltas_of (drop i ts)) es ≡ ws → InOrder fs × (add_deltas (deltas_of (drop (i + 1) ts)) fs ≡ ws)
-adds_of_step ts es fs ws i t l o e h =
-    let s =
-    adds_step (deltas_of ts) es fs ws i t.delta (omega (arith, l, length_deltas ts)) o (e ∙ ap (λ d. add_delta d es) (sym (delta_at ts i t l)))
-    (sym (ap (λ l. add_deltas l es) (drop_deltas ts i)) ∙ h) in
-    (s.0, ap (λ l. add_deltas l fs) (drop_deltas ts (i + 1)) ∙ s.1)
+append_more : {X : Type 0} (out : List X) (x : X) (more : List X) → (out ++ x ∷ []) ++ more ≡ out ++ x ∷ more
+append_more [] x more = refl
+append_more (y ∷ ys) x more = ap (λ l. y ∷ l) (append_more ys x more)
 
-pub adds_of_end : (ts : List Term) (es ws : List Delta) (i : ℕ) → length ts ≤ i → add_deltas (deltas_of (drop i ts)) es ≡ ws → es ≡ ws
-adds_of_end ts es ws i l h =
-    adds_end (deltas_of ts) es ws i (omega (arith, l, length_deltas ts)) (sym (ap (λ l. add_deltas l es) (drop_deltas ts i)) ∙ h)
+pub pushed_step :
+    (ts : List Term) (ds es ws : List Delta) (i : ℕ) (t : Term) → i < length ts → es ≡ ds ++ (get_or ts i t).delta ∷ [] → ds ++ deltas_of (drop i ts) ≡ ws →
+    es ++ deltas_of (drop (i + 1) ts) ≡ ws
+unfolding plan_words
+pushed_step ts ds es ws i t l e h =
+    let next : drop i ts ≡ get_or ts i t ∷ drop (i + 1) ts = rw add-one (drop-cons ts i t l) in
+    ap (λ l. l ++ deltas_of (drop (i + 1) ts)) e ∙ append_more ds (get_or ts i t).delta (deltas_of (drop (i + 1) ts))
+    ∙ sym (ap (λ l. ds ++ deltas_of l) next) ∙ h
+
+pub pushed_end : (ts : List Term) (ds ws : List Delta) (i : ℕ) → length ts ≤ i → ds ++ deltas_of (drop i ts) ≡ ws → ds ≡ ws
+unfolding plan_words
+pushed_end ts ds ws i l h = sym (append-nil ds) ∙ sym (ap (λ r. ds ++ deltas_of r) (drop_of_length-le ts l)) ∙ h
 
 -- ---- places
-pub term_place_above : (d : Delta) (ts : List Term) (p : ℕ) (t : Term) → InOrder (deltas_of ts) → p < length ts → true ≡ delta_before (get_or ts p t).delta d →
-    Each (λ e. delta_before e d ≡ true) (take (p + 1) (deltas_of ts))
-term_place_above d ts p t o l h =
-    place_above d (deltas_of ts) p t.delta o (omega (arith, l, length_deltas ts)) (h ∙ ap (λ e. delta_before e d) (sym (delta_at ts p t l)))
+pub term_place_after :
+    (d : Delta) (ts : List Term) (p : ℕ) (t : Term) → InOrder (deltas_of ts) → 0 < p → p ≤ length ts → true ≡ delta_before (get_or ts (p - 1) t).delta d →
+    BeginsBehind d (drop p (deltas_of ts)) → IsPlace d (deltas_of ts) p
+term_place_after d ts p t o m l h b =
+    place_after d (deltas_of ts) p t.delta o m (omega (arith, l, length_deltas ts)) (h ∙ ap (λ e. delta_before e d) (sym (delta_at ts (p - 1) t (omega (arith, m, l))))) b
 
-pub term_place_below : (d : Delta) (ts : List Term) (p : ℕ) (t : Term) → p < length ts → false ≡ delta_before (get_or ts p t).delta d →
-    BeginsBehind d (drop p (deltas_of ts))
-term_place_below d ts p t l h =
-    place_below d (deltas_of ts) p t.delta (omega (arith, l, length_deltas ts)) (h ∙ ap (λ e. delta_before e d) (sym (delta_at ts p t l)))
+pub term_place_below :
+    (d : Delta) (ts : List Term) (p : ℕ) (t : Term) → 0 < p → p ≤ length ts → false ≡ delta_before (get_or ts (p - 1) t).delta d →
+    BeginsBehind d (drop (p - 1) (deltas_of ts))
+term_place_below d ts p t m l h =
+    place_below d (deltas_of ts) p t.delta m (omega (arith, l, length_deltas ts)) (h ∙ ap (λ e. delta_before e d) (sym (delta_at ts (p - 1) t (omega (arith, m, l)))))
 
 pub term_begins_at : (d : Delta) (ts : List Term) (p : ℕ) (t : Term) → p < length ts → begins_with d (deltas_of (drop p ts)) ≡ same_delta d (get_or ts p t).delta
 term_begins_at d ts p t l =
@@ -69,19 +77,11 @@ term_begins_past d ts p l = ap (begins_with d) (drop_deltas ts p) ∙ begins_pas
 pub place_end_of : (d : Delta) (ts : List Term) → BeginsBehind d (drop (length ts) (deltas_of ts))
 place_end_of d ts = subst (λ n. BeginsBehind d (drop n (deltas_of ts))) (length_deltas ts) (place_end d (deltas_of ts))
 
--- ---- deltas that are the same
-same_is : (d e : Delta) → same_delta d e ≡ true → d ≡ e
-unfolding plan_words
-same_is d e h =
-    let x : d.object ≡ e.object = grind (arith, nat_tests) in
-    let j : d.site ≡ e.site = grind (arith, nat_tests) in
-    λ i. record { object = x i; site = j i }
-
-same_not_before : (d e : Delta) → same_delta d e ≡ true → delta_before e d ≡ false
-unfolding plan_words
-same_not_before d e h = grind (arith, nat_tests)
-
 -- ---- one more term
+is_not : (b : Bool) → true ≡ not b → b ≡ false
+is_not true k = k
+is_not false k = refl
+
 kept_with : (t : Term) (d : Delta) (f : ℤ) (ts : List Term) → t.delta ≡ d → t.factor ≡ f → true ≡ not (int_eq t.factor (pos 0)) → t ∷ ts ≡ with_term d f ts
 unfolding plan_words
 kept_with t d f ts e g h =
@@ -89,10 +89,6 @@ kept_with t d f ts e g h =
   where
     whole : t ∷ ts ≡ record { delta = d; factor = f } ∷ ts
     whole = λ i. record { delta = e i; factor = g i } ∷ ts
-
-    is_not : (b : Bool) → true ≡ not b → b ≡ false
-    is_not true k = k
-    is_not false k = refl
 
 none_with : (d : Delta) (f g : ℤ) (ts : List Term) → f ≡ g → false ≡ not (int_eq f (pos 0)) → ts ≡ with_term d g ts
 unfolding plan_words
@@ -130,14 +126,9 @@ pub sum_is_none :
     false ≡ not (int_eq s.factor (pos 0)) → remove ts n ≡ add_at n f ts
 sum_is_none ts n f x s l p g h = removed_factor ts n f x s l (g ∙ ap (λ (t : Term). f +ℤ t.factor) p) h
 
-small_item : (ts : List Term) (n : ℕ) (x : Term) → n < length ts → IsSmallAt n ts → IsSmall form_limit (get_or ts n x).factor
+pub small_at : (m : ℕ) (ts : List Term) (n : ℕ) (x : Term) → n < length ts → x ≡ get_or ts n x → AreWithin m ts → IsSmall m x.factor
 unfolding words
-small_item [] n x l h = absurd (omega (arith, l))
-small_item (t ∷ ts) zero x l h = h
-small_item (t ∷ ts) (suc n) x l h = small_item ts n x (omega (arith, l)) h
-
-pub small_at : (ts : List Term) (n : ℕ) (x : Term) → n < length ts → x ≡ get_or ts n x → IsSmallAt n ts → IsSmall form_limit x.factor
-small_at ts n x l p h = subst (λ (t : Term). IsSmall form_limit t.factor) (sym p) (small_item ts n x l h)
+small_at m ts n x l p h = subst (λ (t : Term). IsSmall m t.factor) (sym p) (each_at (λ t. IsSmall m t.factor) ts n x l h)
 
 add_term_split :
     (d : Delta) (f : ℤ) (ts : List Term) (n : ℕ) → Each (λ e. delta_before e d ≡ true) (take n (deltas_of ts)) →
@@ -278,97 +269,80 @@ order_scale n (t ∷ ts) o =
 pub place_within : (d : Delta) (xs : List Term) (n m : ℕ) → length xs ≡ m → IsPlace d (deltas_of xs) n → n ≤ m
 place_within d xs n m e p = omega (arith, e, p.within, length_deltas xs)
 
--- ---- factors that are met are small
-small_where : (d : Delta) (ts : List Term) (n : ℕ) → AreSmallWhereSame d ts → begins_with d (deltas_of (drop n ts)) ≡ true → IsSmallAt n ts
+-- ---- factors stay small
+pub wider : (m n : ℕ) (f : ℤ) → m ≤ n → IsSmall m f → IsSmall n f
+unfolding meaning_words
+wider m n f l h = omega (arith, l, h)
+
+sum_within : (m n : ℕ) (f g : ℤ) → IsSmall m f → IsSmall n g → IsSmall (m + n) (f +ℤ g)
+unfolding meaning_words
+sum_within m n f g h k = omega (arith, h, k, abs_add f g)
+
+pub all_wider : (m n : ℕ) (ts : List Term) → m ≤ n → AreWithin m ts → AreWithin n ts
 unfolding words plan_words
-small_where d [] n s h = tt
-small_where d (t ∷ ts) zero s h = s.0 h
-small_where d (t ∷ ts) (suc n) s h = small_where d ts n s.1 h
+all_wider m n [] l h = tt
+all_wider m n (t ∷ ts) l h = (wider m n t.factor l h.0, all_wider m n ts l h.1)
 
-pub begins_small : (d : Delta) (ts xs : List Term) (n : ℕ) → xs ≡ ts → AreSmallWhereSame d ts → true ≡ begins_with d (deltas_of (drop n xs)) → IsSmallAt n ts
-begins_small d ts xs n e s h = small_where d ts n s (sym (h ∙ ap (λ l. begins_with d (deltas_of (drop n l))) e))
-
--- terms behind d are small
-abbrev SmallBehind : Delta → List Term → Type 0
-SmallBehind d ts = Each (λ t. delta_before t.delta d ≡ false → IsSmall form_limit t.factor) ts
-
--- each of the first, when it is added to the second with those before it, meets small factors
-abbrev pub CanAdd : List Term → List Term → Type 0
-unfolding words
-CanAdd [] us = Unit {0}
-CanAdd (t ∷ ts) us = IsSmall form_limit t.factor × AreSmallWhereSame t.delta us × CanAdd ts (add_term t.delta t.factor us)
-
-small_with : (d c : Delta) (f : ℤ) (us : List Term) → delta_before d c ≡ true → SmallBehind c us → SmallBehind c (with_term d f us)
-unfolding plan_words
-small_with d c f us h s = go (int_eq f (pos 0))
+within_with : (n : ℕ) (d : Delta) (f : ℤ) (ts : List Term) → IsSmall n f → AreWithin n ts → AreWithin n (with_term d f ts)
+unfolding words plan_words
+within_with n d f ts h k = go (int_eq f (pos 0))
   where
-    go : (v : Bool) → SmallBehind c (cond v us (record { delta = d; factor = f } ∷ us))
-    go true = s
-    go false = ((λ k. absurd (true≢false (sym h ∙ k))), s)
+    go : (v : Bool) → AreWithin n (cond v ts (record { delta = d; factor = f } ∷ ts))
+    go true = k
+    go false = (h, k)
 
-small_behind : (d c : Delta) (f : ℤ) (us : List Term) → delta_before d c ≡ true → SmallBehind c us → SmallBehind c (add_term d f us)
-unfolding plan_words
-small_behind d c f [] h s = small_with d c f [] h tt
-small_behind d c f (u ∷ us) h s = go (same_delta d u.delta) refl (delta_before d u.delta) (small_behind d c f us h s.1)
+within_add : (m n : ℕ) (d : Delta) (f : ℤ) (ts : List Term) → IsSmall m f → AreWithin n ts → AreWithin (m + n) (add_term d f ts)
+unfolding words plan_words
+within_add m n d f [] h k = within_with (m + n) d f [] (wider m (m + n) f (omega arith) h) tt
+within_add m n d f (t ∷ ts) h k = go (same_delta d t.delta) (delta_before d t.delta) (within_add m n d f ts h k.1)
   where
+    rest : AreWithin (m + n) ts
+    rest = all_wider n (m + n) ts (omega arith) k.1
+
+    first : IsSmall (m + n) t.factor
+    first = wider n (m + n) t.factor (omega arith) k.0
+
     go :
-        (v : Bool) → same_delta d u.delta ≡ v → (w : Bool) → SmallBehind c (add_term d f us) →
-        SmallBehind c (cond v (with_term u.delta (f +ℤ u.factor) us) (cond w (with_term d f (u ∷ us)) (u ∷ add_term d f us)))
-    go true e w ih = small_with u.delta c (f +ℤ u.factor) us (subst (λ x. delta_before x c ≡ true) (same_is d u.delta e) h) s.1
-    go false e true ih = small_with d c f (u ∷ us) h s
-    go false e false ih = (s.0, ih)
+        (v w : Bool) → AreWithin (m + n) (add_term d f ts) →
+        AreWithin (m + n) (cond v (with_term t.delta (f +ℤ t.factor) ts) (cond w (with_term d f (t ∷ ts)) (t ∷ add_term d f ts)))
+    go true w ih = within_with (m + n) t.delta (f +ℤ t.factor) ts (sum_within m n f t.factor h k.0) rest
+    go false true ih = within_with (m + n) d f (t ∷ ts) (wider m (m + n) f (omega arith) h) (first, rest)
+    go false false ih = (first, ih)
 
--- from those behind a delta those of the delta
-small_same : (d : Delta) (us : List Term) → SmallBehind d us → AreSmallWhereSame d us
-unfolding words plan_words
-small_same d [] s = tt
-small_same d (u ∷ us) s = ((λ e. s.0 (same_not_before d u.delta e)), small_same d us s.1)
+pub small_next : (ts : List Term) (i : ℕ) (x : Term) → i < length ts → AreSmall ts → IsSmall form_limit (get_or ts i x).factor
+unfolding words
+small_next ts i x l s = each_at (λ t. IsSmall form_limit t.factor) ts i x l s
 
-can_add_behind : (ts us : List Term) → InOrder (deltas_of ts) → AreSmall ts → Each (λ t. SmallBehind t.delta us) ts → CanAdd ts us
-unfolding words plan_words
-can_add_behind [] us o s h = tt
-can_add_behind (t ∷ ts) us o s h =
-    (s.0, small_same t.delta us h.0, can_add_behind ts (add_term t.delta t.factor us) o.1 s.1 (each_behind ts o.0 h.1))
-  where
-    each_behind : (rs : List Term) → Above t.delta (deltas_of rs) → Each (λ r. SmallBehind r.delta us) rs → Each (λ r. SmallBehind r.delta (add_term t.delta t.factor us)) rs
-    each_behind [] a k = tt
-    each_behind (r ∷ rs) a k = (small_behind t.delta r.delta t.factor us a.0 k.0, each_behind rs a.1 k.1)
-
-all_behind : (d : Delta) (us : List Term) → AreSmall us → SmallBehind d us
-unfolding words plan_words
-all_behind d [] s = tt
-all_behind d (u ∷ us) s = ((λ e. s.0), all_behind d us s.1)
-
-pub can_add : (ts us : List Term) → InOrder (deltas_of ts) → AreSmall ts → AreSmall us → CanAdd ts us
-unfolding words plan_words
-can_add ts us o s h = can_add_behind ts us o s (each ts)
-  where
-    each : (rs : List Term) → Each (λ r. SmallBehind r.delta us) rs
-    each [] = tt
-    each (r ∷ rs) = (all_behind r.delta us h, each rs)
+pub limit_wider : (f : ℤ) → IsSmall form_limit f → IsSmall sum_limit f
+limit_wider f h = wider form_limit sum_limit f (omega arith) h
 
 -- ---- all of them
-pub record AddStep (ts us vs ws : List Term) (i : ℕ) (t : Term) : Type 0 where
-  pub first : IsSmall form_limit t.factor
-  pub same : AreSmallWhereSame t.delta us
-  pub rest : vs ≡ add_term t.delta t.factor us → CanAdd (drop (i + 1) ts) vs × InOrder (deltas_of vs) × (add_terms (drop (i + 1) ts) vs ≡ ws)
+pub record AddStep (ts us ws : List Term) (i : ℕ) : Type 0 where
+  pub order : InOrder (deltas_of us)
+  pub within : AreWithin (i * form_limit) us
+  pub left : add_terms (drop i ts) us ≡ ws
+
+pub add_start : (ts us : List Term) → us ≡ [] → AddStep ts us (add_terms ts []) 0
+unfolding words plan_words
+add_start ts us p = record {
+  order = subst (λ l. InOrder (deltas_of l)) (sym p) tt;
+  within = subst (AreWithin 0) (sym p) tt;
+  left = ap (add_terms ts) p;
+}
 
 pub add_step :
-    (ts us vs ws : List Term) (i : ℕ) (x : Term) → i < length ts → InOrder (deltas_of us) → CanAdd (drop i ts) us → add_terms (drop i ts) us ≡ ws →
-    AddStep ts us vs ws i (get_or ts i x)
+    (ts us vs ws : List Term) (i : ℕ) (x : Term) → i < length ts → AreSmall ts → vs ≡ add_term (get_or ts i x).delta (get_or ts i x).factor us →
+    AddStep ts us ws i → AddStep ts vs ws (i + 1)
 unfolding words plan_words
-add_step ts us vs ws i x l o k h =
+add_step ts us vs ws i x l s e k =
     let t : Term = get_or ts i x in
     let next : drop i ts ≡ t ∷ drop (i + 1) ts = rw add-one (drop-cons ts i x l) in
-    let can : CanAdd (t ∷ drop (i + 1) ts) us = subst (λ l. CanAdd l us) next k in
+    let more : form_limit + i * form_limit ≡ (i + 1) * form_limit = omega arith in
     record {
-      first = can.0;
-      same = can.1;
-      rest = λ e. (
-        subst (CanAdd (drop (i + 1) ts)) (sym e) can.2,
-        subst (λ l. InOrder (deltas_of l)) (sym e) (order_add t.delta t.factor us o),
-        ap (add_terms (drop (i + 1) ts)) e ∙ sym (ap (λ l. add_terms l us) next) ∙ h,
-      );
+      order = subst (λ l. InOrder (deltas_of l)) (sym e) (order_add t.delta t.factor us k.order);
+      within = subst (AreWithin ((i + 1) * form_limit)) (sym e)
+          (subst (λ n. AreWithin n (add_term t.delta t.factor us)) more (within_add form_limit (i * form_limit) t.delta t.factor us (small_next ts i x l s) k.within));
+      left = ap (add_terms (drop (i + 1) ts)) e ∙ sym (ap (λ l. add_terms l us) next) ∙ k.left;
     }
 
 pub add_end : (ts us ws : List Term) (i : ℕ) → length ts ≤ i → add_terms (drop i ts) us ≡ ws → us ≡ ws
@@ -379,10 +353,6 @@ add_end ts us ws i l h = sym (ap (λ r. add_terms r us) (drop_of_length-le ts l)
 -- the terms so far, and those that are still to be multiplied
 abbrev pub scaling_from : ℤ → List Term → List Term → List Term
 scaling_from n out rest = out ++ scale_terms n rest
-
-append_more : (out : List Term) (x : Term) (more : List Term) → (out ++ x ∷ []) ++ more ≡ out ++ x ∷ more
-append_more [] x more = refl
-append_more (y ∷ ys) x more = ap (λ l. y ∷ l) (append_more ys x more)
 
 next_scaled :
     (n : ℤ) (ts : List Term) (i : ℕ) (x s : Term) → i < length ts → s.delta ≡ (get_or ts i x).delta → s.factor ≡ n *ℤ (get_or ts i x).factor →
@@ -413,6 +383,32 @@ pub scaled_end : (n : ℤ) (out ts : List Term) (i : ℕ) → length ts ≤ i �
 unfolding plan_words
 scaled_end n out ts i l = sym (ap (λ r. out ++ scale_terms n r) (drop_of_length-le ts l) ∙ append-nil out)
 
-pub small_next : (ts : List Term) (i : ℕ) (x : Term) → i < length ts → AreSmall ts → IsSmall form_limit (get_or ts i x).factor
-unfolding words
-small_next ts i x l s = each_at (λ t. IsSmall form_limit t.factor) ts i x l s
+-- ---- terms that are joined already
+no_rest : (ts : List Term) → drop (length ts) ts ≡ []
+no_rest [] = refl
+no_rest (t ∷ ts) = no_rest ts
+
+pub none_left_joined : (ts : List Term) → AreJoined (drop (length ts) ts)
+unfolding words plan_words
+none_left_joined ts = subst AreJoined (sym (no_rest ts)) (record { order = tt; counts = tt })
+
+lead_of : (ts : List Term) (n : ℕ) (x : Term) → n < length ts → true ≡ not (int_eq (get_or ts n x).factor (pos 0)) →
+    (suc n < length ts → true ≡ delta_before (get_or ts n x).delta (get_or ts (suc n) x).delta) → AreJoined (drop (suc n) ts) → AreJoined (drop n ts)
+unfolding words plan_words
+lead_of [] n x l c b o = absurd (omega (arith, l))
+lead_of (t ∷ []) zero x l c b o = record { order = (tt, tt); counts = (is_not (int_eq t.factor (pos 0)) c, tt) }
+lead_of (t ∷ u ∷ us) zero x l c b o =
+    let h : delta_before t.delta u.delta ≡ true = sym (b (omega arith)) in
+    record {
+      order = ((h, above_before t.delta u.delta (deltas_of us) h o.order.0), o.order);
+      counts = (is_not (int_eq t.factor (pos 0)) c, o.counts);
+    }
+lead_of (t ∷ ts) (suc n) x l c b o = lead_of ts n x (omega (arith, l)) c (λ k. b (omega (arith, k))) o
+
+pub leads_at :
+    (ts : List Term) (n : ℕ) (x : Term) → n < length ts → true ≡ not (int_eq (get_or ts n x).factor (pos 0)) →
+    (n + 1 < length ts → true ≡ delta_before (get_or ts n x).delta (get_or ts (n + 1) x).delta) → AreJoined (drop (n + 1) ts) → AreJoined (drop n ts)
+leads_at ts n x l c b o =
+    let e : n + 1 ≡ suc n = omega arith in
+    lead_of ts n x l c
+    (λ k. b (omega (arith, k)) ∙ ap (λ m. delta_before (get_or ts n x).delta (get_or ts m x).delta) e) (subst (λ m. AreJoined (drop m ts)) e o)

@@ -11,9 +11,11 @@ use Rattle.homeo_plan.specs.declared.forms.Term.{Term}
 use Rattle.homeo_plan.specs.Limit.{form_limit}
 use Rattle.homeo_linear.specs.inner.Key.{words}
 use Rattle.homeo_linear.specs.inner.Order.{InOrder}
-use Rattle.homeo_linear.specs.inner.Terms.{AreSmall, AreSmallWhereSame, term_form}
+use Rattle.homeo_linear.specs.inner.Terms.{AreSmall, AreJoined, term_form}
 use Rattle.homeo_linear.proofs.Orders.{in_order_adds}
 use Rattle.homeo_linear.proofs.Adding.{order_adds, order_scale}
+use Rattle.homeo_linear.proofs.JoinedDeltas.{in_order_joined as deltas_joined, adds_append as deltas_append, adds_swap as deltas_swap}
+use Rattle.homeo_linear.proofs.JoinedTerms.{count_adds, count_scale, in_order_joined as terms_joined, adds_append as terms_append}
 
 abbrev pub form_of : ℤ → List Term → List Delta → Linear
 form_of n ts ds = record { constant = n; terms = ts; mixed = ds }
@@ -22,38 +24,41 @@ pub same_form : (m n : ℤ) (ts us : List Term) (ds es : List Delta) → m ≡ n
 same_form m n ts us ds es p q r = λ i. form_of (p i) (q i) (r i)
 
 abbrev pub AreInOrder : List Term → List Delta → Type 0
-AreInOrder ts ds = InOrder (deltas_of ts) × InOrder ds
+AreInOrder ts ds = AreJoined ts × InOrder ds
+
+no_terms : AreJoined []
+unfolding words plan_words
+no_terms = record { order = tt; counts = tt }
 
 pub none_in_order : (ts : List Term) (ds : List Delta) → ts ≡ [] → ds ≡ [] → AreInOrder ts ds
+unfolding words
+none_in_order ts ds p q = (subst AreJoined (sym p) no_terms, subst InOrder (sym q) tt)
+
+pub one_in_order :
+    (d : Delta) (ts us : List Term) (ds : List Delta) → us ≡ [] → ts ≡ us ++ record { delta = d; factor = pos 1 } ∷ [] → ds ≡ [] → AreInOrder ts ds
 unfolding words plan_words
-none_in_order ts ds p q = (subst (λ l. InOrder (deltas_of l)) (sym p) tt, subst InOrder (sym q) tt)
+one_in_order d ts us ds n p q = (
+  subst AreJoined (sym (p ∙ ap (λ l. l ++ record { delta = d; factor = pos 1 } ∷ []) n)) (record { order = (tt, tt); counts = (refl, tt) }),
+  subst InOrder (sym q) tt,
+)
 
-pub one_in_order : (ts us : List Term) (t : Term) (ds : List Delta) → us ≡ [] → ts ≡ us ++ t ∷ [] → ds ≡ [] → AreInOrder ts ds
+pub joined_in_order : (ts us : List Term) (ds es : List Delta) → us ≡ add_terms ts [] → es ≡ add_deltas ds [] → AreInOrder us es
 unfolding words plan_words
-one_in_order ts us t ds n p q =
-    (subst (λ l. InOrder (deltas_of l)) (sym (p ∙ ap (λ l. l ++ t ∷ []) n)) (tt, tt), subst InOrder (sym q) tt)
-
-pub copy_in_order : (ts us xs : List Term) (ds es ys : List Delta) → us ≡ xs → xs ≡ ts → es ≡ ys → ys ≡ ds → AreInOrder ts ds → AreInOrder us es
-copy_in_order ts us xs ds es ys p p' q q' o = (subst (λ l. InOrder (deltas_of l)) (sym (p ∙ p')) o.0, subst InOrder (sym (q ∙ q')) o.1)
-
-pub sum_in_order :
-    (ts us xs : List Term) (ds es ys : List Delta) → us ≡ add_terms xs ts → es ≡ add_deltas ys ds → AreInOrder ts ds → AreInOrder us es
-sum_in_order ts us xs ds es ys p q o =
-    (subst (λ l. InOrder (deltas_of l)) (sym p) (order_adds xs ts o.0), subst InOrder (sym q) (in_order_adds ys ds o.1))
+joined_in_order ts us ds es p q = (
+  subst AreJoined (sym p) (record { order = order_adds ts [] tt; counts = count_adds ts [] tt }),
+  subst InOrder (sym q) (in_order_adds ds [] tt),
+)
 
 pub multiple_in_order :
     (n : ℤ) (ts us xs : List Term) (ds es ys : List Delta) → us ≡ scale_terms n xs → xs ≡ ts → es ≡ ys → ys ≡ ds → AreInOrder ts ds → AreInOrder us es
-multiple_in_order n ts us xs ds es ys p p' q q' o =
-    (subst (λ l. InOrder (deltas_of l)) (sym (p ∙ ap (scale_terms n) p')) (order_scale n ts o.0), subst InOrder (sym (q ∙ q')) o.1)
+multiple_in_order n ts us xs ds es ys p p' q q' o = (
+  subst AreJoined (sym (p ∙ ap (scale_terms n) p')) (record { order = order_scale n ts o.0.order; counts = count_scale n ts }),
+  subst InOrder (sym (q ∙ q')) o.1,
+)
 
-pub mix_in_order : (ts : List Term) (ds es ys : List Delta) → ts ≡ [] → es ≡ add_deltas ys ds → InOrder ds → AreInOrder ts es
-unfolding words plan_words
-mix_in_order ts ds es ys p q o =
-    (subst (λ l. InOrder (deltas_of l)) (sym p) tt, subst InOrder (sym q) (in_order_adds ys ds o))
-
-pub term_in_order : (ts us : List Term) (t : Term) (ds : List Delta) → us ≡ add_term t.delta t.factor ts → AreInOrder ts ds → AreInOrder us ds
-unfolding plan_words
-term_in_order ts us t ds p o = sum_in_order ts us (t ∷ []) ds ds [] p refl o
+pub mix_in_order : (ts : List Term) (ds es : List Delta) → ts ≡ [] → es ≡ add_deltas ds [] → AreInOrder ts es
+unfolding words
+mix_in_order ts ds es p q = (subst AreJoined (sym p) no_terms, subst InOrder (sym q) (in_order_adds ds [] tt))
 
 -- ---- small numbers
 pub small_terms : (a : Linear) (n : ℤ) (ts xs : List Term) (ds : List Delta) → form_of n ts ds ≡ a → xs ≡ ts → Numbers (IsSmall form_limit) a → AreSmall xs
@@ -64,13 +69,21 @@ small_terms a n ts xs ds e p h =
 pub small_constant : (a : Linear) (n : ℤ) (ts : List Term) (ds : List Delta) → form_of n ts ds ≡ a → IsSmall form_limit a.constant → IsSmall form_limit n
 small_constant a n ts ds e h = subst (λ (b : Linear). IsSmall form_limit b.constant) (sym e) h
 
-small_where_same : (d : Delta) (ts : List Term) → AreSmall ts → AreSmallWhereSame d ts
+pub none_small : (ts : List Term) → ts ≡ [] → AreSmall ts
 unfolding words plan_words
-small_where_same d [] h = tt
-small_where_same d (t ∷ ts) h = ((λ s. h.0), small_where_same d ts h.1)
+none_small ts p = subst AreSmall (sym p) tt
 
-pub small_same : (a : Linear) (d : Delta) (n : ℤ) (ts : List Term) (ds : List Delta) → form_of n ts ds ≡ a → Numbers (IsSmall form_limit) a → AreSmallWhereSame d ts
-small_same a d n ts ds e h = small_where_same d ts (small_terms a n ts ts ds e refl h)
+small_append : (ts us : List Term) → AreSmall ts → AreSmall us → AreSmall (ts ++ us)
+unfolding words plan_words
+small_append [] us h k = k
+small_append (t ∷ ts) us h k = (h.0, small_append ts us h.1 k)
+
+pub both_small : (ts us vs : List Term) → vs ≡ ts ++ us → AreSmall ts → AreSmall us → AreSmall vs
+both_small ts us vs p h k = subst AreSmall (sym p) (small_append ts us h k)
+
+pub one_small : (t : Term) → IsSmall form_limit t.factor → AreSmall (t ∷ [])
+unfolding words plan_words
+one_small t h = (h, tt)
 
 -- ---- what forms are
 pub number_is : (z n : ℤ) (ts : List Term) (ds : List Delta) → z ≡ n → ts ≡ [] → ds ≡ [] → form_of z ts ds ≡ constant_form n
@@ -82,17 +95,23 @@ unfolding plan_words
 delta_is d ts us ds n p q =
     same_form (pos 0) (pos 0) ts (record { delta = d; factor = pos 1 } ∷ []) ds [] refl (p ∙ ap (λ l. l ++ record { delta = d; factor = pos 1 } ∷ []) n) q
 
-pub copy_is :
-    (a : Linear) (m n : ℤ) (ts us xs : List Term) (ds es ys : List Delta) → form_of n ts ds ≡ a → m ≡ n → us ≡ xs → xs ≡ ts → es ≡ ys → ys ≡ ds →
-    form_of m us es ≡ a
-copy_is a m n ts us xs ds es ys e c p p' q q' = same_form m n us ts es ds c (p ∙ p') (q ∙ q') ∙ e
+-- a sum of one form
+pub total_of : (a : Linear) (n z : ℤ) (ts : List Term) (ds : List Delta) → form_of n ts ds ≡ a → z ≡ n → AreInOrder ts ds → form_of z (add_terms ts []) (add_deltas ds []) ≡ a
+total_of a n z ts ds e c o =
+    same_form z n (add_terms ts []) ts (add_deltas ds []) ds c (sym (terms_joined ts o.0.order o.0.counts)) (sym (deltas_joined ds o.1)) ∙ e
+
+pub total_none : (z : ℤ) (ts : List Term) (ds : List Delta) → z ≡ pos 0 → ts ≡ [] → ds ≡ [] → form_of z (add_terms ts []) (add_deltas ds []) ≡ constant_form (pos 0)
+unfolding plan_words
+total_none z ts ds c p q = same_form z (pos 0) (add_terms ts []) [] (add_deltas ds []) [] c (ap (λ l. add_terms l []) p) (ap (λ l. add_deltas l []) q)
 
 pub sum_is :
-    (a b : Linear) (m n z : ℤ) (ts us vs xs : List Term) (ds es fs ys : List Delta) → form_of m ts ds ≡ a → form_of n us es ≡ b → z ≡ n +ℤ m →
-    vs ≡ add_terms xs ts → xs ≡ us → fs ≡ add_deltas ys ds → ys ≡ es → form_of z vs fs ≡ add_forms b a
+    (a b : Linear) (m n z : ℤ) (ts us vs xs : List Term) (ds es fs ys : List Delta) → form_of m (add_terms ts []) (add_deltas ds []) ≡ a → form_of n us es ≡ b →
+    z ≡ n +ℤ m → vs ≡ ts ++ xs → xs ≡ us → fs ≡ ds ++ ys → ys ≡ es → form_of z (add_terms vs []) (add_deltas fs []) ≡ add_forms b a
 unfolding plan_words
 sum_is a b m n z ts us vs xs ds es fs ys e f c p p' q q' =
-    same_form z (n +ℤ m) vs (add_terms us ts) fs (add_deltas es ds) c (p ∙ ap (λ l. add_terms l ts) p') (q ∙ ap (λ l. add_deltas l ds) q')
+    same_form z (n +ℤ m) (add_terms vs []) (add_terms us (add_terms ts [])) (add_deltas fs []) (add_deltas es (add_deltas ds [])) c
+    (ap (λ l. add_terms l []) p ∙ terms_append ts xs [] ∙ ap (λ l. add_terms l (add_terms ts [])) p')
+    (ap (λ l. add_deltas l []) q ∙ deltas_append ds ys [] ∙ ap (λ l. add_deltas l (add_deltas ds [])) q')
     ∙ ap₂ (λ x y. add_forms x y) f e
 
 pub number_more_is :
@@ -101,11 +120,13 @@ unfolding plan_words
 number_more_is a m n z ts ds e c = same_form z (n +ℤ m) ts ts ds ds c refl refl ∙ ap (add_forms (constant_form n)) e
 
 pub term_more_is :
-    (a : Linear) (m z : ℤ) (t : Term) (ts us : List Term) (ds : List Delta) → form_of m ts ds ≡ a → z ≡ m → us ≡ add_term t.delta t.factor ts →
-    form_of z us ds ≡ add_forms (term_form t) a
+    (a : Linear) (m z : ℤ) (t : Term) (ts us : List Term) (ds : List Delta) → form_of m (add_terms ts []) ds ≡ a → z ≡ m → us ≡ ts ++ t ∷ [] →
+    form_of z (add_terms us []) ds ≡ add_forms (term_form t) a
 unfolding plan_words words
 term_more_is a m z t ts us ds e c p =
-    same_form z (pos 0 +ℤ m) us (add_term t.delta t.factor ts) ds ds (c ∙ sym (+ℤ_idl m)) p refl ∙ ap (add_forms (term_form t)) e
+    same_form z (pos 0 +ℤ m) (add_terms us []) (add_term t.delta t.factor (add_terms ts [])) ds ds (c ∙ sym (+ℤ_idl m))
+    (ap (λ l. add_terms l []) p ∙ terms_append ts (t ∷ []) []) refl
+    ∙ ap (add_forms (term_form t)) e
 
 pub multiple_is :
     (a : Linear) (k k' n z : ℤ) (ts us xs : List Term) (ds es ys : List Delta) → form_of n ts ds ≡ a → z ≡ k *ℤ n → k' ≡ k → us ≡ scale_terms k' xs →
@@ -114,13 +135,18 @@ unfolding plan_words
 multiple_is a k k' n z ts us xs ds es ys e c w p p' q q' =
     same_form z (k *ℤ n) us (scale_terms k ts) es ds c (p ∙ ap₂ scale_terms w p') (q ∙ q') ∙ ap (scale_form k) e
 
+-- deltas put into others that are in order
+pub put_into : (ds es fs xs : List Delta) → fs ≡ add_deltas xs [] → xs ≡ ds ++ es → InOrder ds → fs ≡ add_deltas es ds
+put_into ds es fs xs p q o = p ∙ ap (λ l. add_deltas l []) q ∙ deltas_append ds es [] ∙ ap (add_deltas es) (sym (deltas_joined ds o))
+
 pub mix_is :
     (a b : Linear) (m n z : ℤ) (us vs : List Term) (fs gs : List Delta) (ts : List Term) (es ds ys ws : List Delta) → form_of m us fs ≡ a → form_of n vs gs ≡ b →
-    z ≡ m *ℤ n → ts ≡ [] → es ≡ add_deltas ys ds → ys ≡ ws → ws ≡ support a → ds ≡ support b → form_of z ts es ≡ mix_forms a b
+    z ≡ m *ℤ n → ts ≡ [] → es ≡ add_deltas ys ds → ys ≡ ws → ws ≡ support b → ds ≡ support a → InOrder ds → InOrder ws → form_of z ts es ≡ mix_forms a b
 unfolding plan_words
-mix_is a b m n z us vs fs gs ts es ds ys ws e f c p q y w d =
+mix_is a b m n z us vs fs gs ts es ds ys ws e f c p q y w d o r =
     same_form z (a.constant *ℤ b.constant) ts [] es (add_deltas (support a) (support b))
-    (c ∙ ap₂ (λ (x y : Linear). x.constant *ℤ y.constant) e f) p (q ∙ ap₂ add_deltas (y ∙ w) d)
+    (c ∙ ap₂ (λ (x y : Linear). x.constant *ℤ y.constant) e f) p
+    (q ∙ ap (λ l. add_deltas l ds) y ∙ deltas_swap ws ds r o ∙ ap₂ add_deltas d w)
 
 no_length : {X : Type 0} (xs : List X) → (length xs == 0) ≡ is_empty xs
 unfolding plan_words
@@ -169,7 +195,6 @@ unfolding plan_words
 support_is a n ts xs ds es ys fs e p x q q' =
     p ∙ ap₂ (λ l m. add_deltas (deltas_of l) m) x (q ∙ q') ∙ ap support e
 
-pub support_in_order :
-    (ts : List Term) (ds es ys fs : List Delta) → fs ≡ add_deltas (deltas_of ts) es → es ≡ ys → ys ≡ ds → InOrder ds → InOrder fs
-support_in_order ts ds es ys fs p q q' o =
-    subst InOrder (sym p) (in_order_adds (deltas_of ts) es (subst InOrder (sym (q ∙ q')) o))
+pub support_in_order : (ds es : List Delta) → es ≡ add_deltas ds [] → InOrder es
+unfolding words
+support_in_order ds es p = subst InOrder (sym p) (in_order_adds ds [] tt)

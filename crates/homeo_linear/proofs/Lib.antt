@@ -3,6 +3,8 @@ mod Comparing
 mod FormParts
 mod FormSteps
 mod ItemForms
+mod JoinedDeltas
+mod JoinedTerms
 mod Keeping
 mod Needing
 mod Orders

@@ -22,16 +22,15 @@ use Rattle.homeo_plan.specs.Each.{Each}
 use Rattle.homeo_plan.specs.FormSizes.{CanForm, CanFollow}
 use Rattle.homeo_plan.specs.Holding.{IsOn, ZeroInBoth, SameOwn}
 use Rattle.homeo_plan.proofs.Needs.{residual_same}
-use Rattle.homeo_plan.specs.Linear.{Linear, Forms, base_forms, form, support, delta_of, add_deltas}
+use Rattle.homeo_plan.specs.Linear.{Linear, Forms, base_forms, form, support, add_deltas}
 use Rattle.homeo_plan.specs.Needs.{remote, written_needs, add_written, needs_from, needs, IsStraightOne, IsStraight}
 use Rattle.homeo_plan.specs.declared.forms.Delta.{Delta}
 use Rattle.homeo_plan.specs.Limit.{form_limit}
 use Rattle.homeo_linear.specs.declared.following.Following.{Following}
 use Rattle.homeo_linear.specs.inner.Following.{adds, needs_of, Followed}
 use Rattle.homeo_linear.specs.inner.Key.{words}
-use Rattle.homeo_linear.specs.inner.Order.{InOrder}
 use Rattle.homeo_linear.specs.inner.Standing.{forms_of}
-use Rattle.homeo_linear.proofs.Orders.{in_order_add, in_order_adds}
+use Rattle.homeo_linear.proofs.JoinedDeltas.{adds_append}
 
 -- ---- remote deltas
 module _ (i : ℕ) (out ds : List Delta) (n : ℕ) (x : Delta) (h : n < length ds) where
@@ -62,13 +61,9 @@ unfolding plan_words
 remote_end i out ds n h = sym (ap (λ l. out ++ remote i l) (drop_of_length-le ds h) ∙ append-nil out)
 
 -- ---- what the written deltas need
-pub none_needed : (ds : List Delta) → ds ≡ [] → InOrder ds
-unfolding words
-none_needed ds p = subst InOrder (sym p) tt
-
-pub needed_end : (i : ℕ) (f : Forms) (ds es : List Delta) → es ≡ [] → es ≡ written_needs i f (drop (length ds) ds)
+pub needed_end : (i : ℕ) (f : Forms) (ds es : List Delta) → es ≡ [] → add_deltas es [] ≡ written_needs i f (drop (length ds) ds)
 unfolding plan_words
-needed_end i f ds es p = p ∙ sym (ap (written_needs i f) (none ds))
+needed_end i f ds es p = ap (λ l. add_deltas l []) p ∙ sym (ap (written_needs i f) (none ds))
   where
     none : (xs : List Delta) → drop (length xs) xs ≡ []
     none [] = refl
@@ -76,13 +71,20 @@ needed_end i f ds es p = p ∙ sym (ap (written_needs i f) (none ds))
 
 pub needed_more :
     (i : ℕ) (f : Forms) (ds es fs gs hs : List Delta) (n : ℕ) (x : Delta) (k : Location) (a : Linear) → n < length ds →
-    k ≡ DeltaAt (get_or ds n x).object (get_or ds n x).site → a ≡ f k → gs ≡ remote i (support a) → hs ≡ gs → fs ≡ add_deltas hs es →
-    es ≡ written_needs i f (drop (n + 1) ds) → fs ≡ written_needs i f (drop n ds)
+    k ≡ DeltaAt (get_or ds n x).object (get_or ds n x).site → a ≡ f k → gs ≡ remote i (support a) → hs ≡ gs → fs ≡ es ++ hs →
+    add_deltas es [] ≡ written_needs i f (drop (n + 1) ds) → add_deltas fs [] ≡ written_needs i f (drop n ds)
 unfolding plan_words
 needed_more i f ds es fs gs hs n x k a h pk pa pg ph pf pe =
     let d : Delta = get_or ds n x in
     let next : drop n ds ≡ d ∷ drop (n + 1) ds = rw add-one (drop-cons ds n x h) in
-    pf ∙ ap₂ add_deltas (ph ∙ pg ∙ ap (λ l. remote i (support l)) (pa ∙ ap f pk)) pe ∙ sym (ap (written_needs i f) next)
+    ap (λ l. add_deltas l []) pf ∙ adds_append es hs []
+    ∙ ap₂ add_deltas (ph ∙ pg ∙ ap (λ l. remote i (support l)) (pa ∙ ap f pk)) pe ∙ sym (ap (written_needs i f) next)
+
+-- ---- the deltas written
+pub written_more : (ws vs : List Delta) (x : SplitName) (d : Delta) → vs ≡ ws ++ d ∷ [] → x ≡ split.Delta d.object d.site →
+    add_deltas vs [] ≡ add_written x (add_deltas ws [])
+unfolding plan_words
+written_more ws vs x d p q = ap (λ l. add_deltas l []) p ∙ adds_append ws (d ∷ []) [] ∙ sym (ap (λ y. add_written y (add_deltas ws [])) q)
 
 -- ---- what the prints need
 pub adds_push : (ps : List (List Delta)) (p es : List Delta) → adds (ps ++ p ∷ []) es ≡ adds ps (add_deltas p es)
@@ -93,40 +95,33 @@ adds_push (q ∷ ps) p es = ap (add_deltas q) (adds_push ps p es)
 -- ---- commands
 pub followed_by :
     (r s : Following) (c : l.Command) (f : Forms) (w : List Delta) (ps : List (List Delta)) → s.site ≡ r.site → forms_of s.standing ≡ f →
-    s.written.items ≡ w → map (λ p. p.items) s.prints.items ≡ ps → InOrder w →
+    add_deltas s.written.items [] ≡ w → map (λ p. p.items) s.prints.items ≡ ps →
     ((cs : l.Commands) → adds ps (needs_from r.site f w cs) ≡ needs_of r (l.MoreCommand c cs)) →
     ((cs : l.Commands) → CanFollow (IsSmall form_limit) (forms_of r.standing) (l.MoreCommand c cs) → CanFollow (IsSmall form_limit) f cs) → Followed r s c
 unfolding needs_of
-followed_by r s c f w ps ei ef ew ep o n k =
+followed_by r s c f w ps ei ef ew ep n k =
     record {
-      order = subst InOrder (sym ew) o;
-      needs = λ cs. ap₂ (λ i g. adds (map (λ p. p.items) s.prints.items) (needs_from i g s.written.items cs)) ei ef
+      needs = λ cs. ap₂ (λ i g. adds (map (λ p. p.items) s.prints.items) (needs_from i g (add_deltas s.written.items []) cs)) ei ef
           ∙ ap₂ (λ v q. adds q (needs_from r.site f v cs)) ew ep ∙ n cs;
       small = λ cs h. subst (λ g. CanFollow (IsSmall form_limit) g cs) (sym ef) (k cs h);
     }
 
-module _ (r s : Following) (e : l.Expr) (a : Linear) (is : a ≡ form (forms_of r.standing) e) (site : s.site ≡ r.site) (o : InOrder r.written.items) where
+module _ (r s : Following) (e : l.Expr) (a : Linear) (is : a ≡ form (forms_of r.standing) e) (site : s.site ≡ r.site) where
   pub assigned :
       (t : Temp) (k : Location) → k ≡ TempAt t → s.written.items ≡ r.written.items → map (λ p. p.items) s.prints.items ≡ map (λ p. p.items) r.prints.items →
       forms_of s.standing ≡ put (forms_of r.standing) k a → Followed r s (l.Assign t e)
   unfolding needs_of plan_words
   assigned t k pk ew ep ef =
-      followed_by r s (l.Assign t e) (put (forms_of r.standing) (TempAt t) (form (forms_of r.standing) e)) r.written.items (map (λ p. p.items) r.prints.items) site
-      (ef ∙ ap₂ (put (forms_of r.standing)) pk is) ew ep o (λ cs. refl) (λ cs h. h.1)
-
-  order_written : (x : SplitName) → InOrder (add_written x r.written.items)
-  unfolding plan_words
-  order_written (split.Whole x) = o
-  order_written (split.Base x) = o
-  order_written (split.Delta x j) = in_order_add (delta_of x j) r.written.items o
+      followed_by r s (l.Assign t e) (put (forms_of r.standing) (TempAt t) (form (forms_of r.standing) e)) (add_deltas r.written.items [])
+      (map (λ p. p.items) r.prints.items) site (ef ∙ ap₂ (put (forms_of r.standing)) pk is) (ap (λ l. add_deltas l []) ew) ep (λ cs. refl) (λ cs h. h.1)
 
   pub wrote :
-      (x : SplitName) (k : Location) → k ≡ location_of x → s.written.items ≡ add_written x r.written.items →
+      (x : SplitName) (k : Location) → k ≡ location_of x → add_deltas s.written.items [] ≡ add_written x (add_deltas r.written.items []) →
       map (λ p. p.items) s.prints.items ≡ map (λ p. p.items) r.prints.items → forms_of s.standing ≡ put (forms_of r.standing) k a → Followed r s (l.Write x e)
   unfolding needs_of plan_words
   wrote x k pk ew ep ef =
-      followed_by r s (l.Write x e) (put (forms_of r.standing) (location_of x) (form (forms_of r.standing) e)) (add_written x r.written.items)
-      (map (λ p. p.items) r.prints.items) site (ef ∙ ap₂ (put (forms_of r.standing)) pk is) ew ep (order_written x) (λ cs. refl) (λ cs h. h.1)
+      followed_by r s (l.Write x e) (put (forms_of r.standing) (location_of x) (form (forms_of r.standing) e)) (add_written x (add_deltas r.written.items []))
+      (map (λ p. p.items) r.prints.items) site (ef ∙ ap₂ (put (forms_of r.standing)) pk is) ew ep (λ cs. refl) (λ cs h. h.1)
 
   pub printed :
       (ds : List Delta) → ds ≡ remote r.site (support a) → s.written.items ≡ r.written.items →
@@ -134,17 +129,18 @@ module _ (r s : Following) (e : l.Expr) (a : Linear) (is : a ≡ form (forms_of 
   unfolding needs_of plan_words
   printed ds pd ew ep ef =
       let needed : List Delta = remote r.site (support (form (forms_of r.standing) e)) in
-      followed_by r s (l.Print e) (forms_of r.standing) r.written.items (map (λ p. p.items) r.prints.items ++ needed ∷ []) site ef ew
-      (ep ∙ ap (λ d. map (λ p. p.items) r.prints.items ++ d ∷ []) (pd ∙ ap (λ b. remote r.site (support b)) is)) o
-      (λ cs. adds_push (map (λ p. p.items) r.prints.items) needed (needs_from r.site (forms_of r.standing) r.written.items cs)) (λ cs h. h.1)
+      let written : List Delta = add_deltas r.written.items [] in
+      followed_by r s (l.Print e) (forms_of r.standing) written (map (λ p. p.items) r.prints.items ++ needed ∷ []) site ef (ap (λ l. add_deltas l []) ew)
+      (ep ∙ ap (λ d. map (λ p. p.items) r.prints.items ++ d ∷ []) (pd ∙ ap (λ b. remote r.site (support b)) is))
+      (λ cs. adds_push (map (λ p. p.items) r.prints.items) needed (needs_from r.site (forms_of r.standing) written cs)) (λ cs h. h.1)
 
 pub first_needs :
     (r : Following) (i : ℕ) (b : ℕ → ℤ) → r.site ≡ i → forms_of r.standing ≡ base_forms b → r.written.items ≡ [] → r.prints.items ≡ [] →
     (cs : l.Commands) → needs_of r cs ≡ needs i b cs
 unfolding needs_of words plan_words
 first_needs r i b ei ef ew ep cs =
-    ap₂ (λ j g. adds (map (λ p. p.items) r.prints.items) (needs_from j g r.written.items cs)) ei ef
-    ∙ ap₂ (λ v q. adds (map (λ p. p.items) q) (needs_from i (base_forms b) v cs)) ew ep
+    ap₂ (λ j g. adds (map (λ p. p.items) r.prints.items) (needs_from j g (add_deltas r.written.items []) cs)) ei ef
+    ∙ ap₂ (λ v q. adds (map (λ p. p.items) q) (needs_from i (base_forms b) (add_deltas v []) cs)) ew ep
 
 -- ---- the first of the commands that are left
 can_one : (f : Forms) (c : l.Command) (cs : l.Commands) → CanFollow (IsSmall form_limit) f (l.MoreCommand c cs) → CanFollow (IsSmall form_limit) f (l.MoreCommand c l.NoCommand)
@@ -189,32 +185,29 @@ commands_end r cs i h = sym (ap (λ l. needs_of r (low_commands l)) (drop_none p
 -- ---- loops from the end
 pub needed_place :
     (i : ℕ) (f : Forms) (ds es fs gs hs : List Delta) (p : ℕ) (x : Delta) (k : Location) (a : Linear) → 0 < p → p ≤ length ds →
-    k ≡ DeltaAt (get_or ds (p - 1) x).object (get_or ds (p - 1) x).site → a ≡ f k → gs ≡ remote i (support a) → hs ≡ gs → fs ≡ add_deltas hs es → InOrder es →
-    es ≡ written_needs i f (drop p ds) → InOrder fs × (fs ≡ written_needs i f (drop (p - 1) ds))
-needed_place i f ds es fs gs hs p x k a m h pk pa pg ph pf o pe =
-    let same : p - 1 + 1 ≡ p = omega (arith, m) in (
-      subst InOrder (sym pf) (in_order_adds hs es o),
-      needed_more i f ds es fs gs hs (p - 1) x k a (omega (arith, m, h)) pk pa pg ph pf (pe ∙ ap (λ n. written_needs i f (drop n ds)) (sym same)),
-    )
+    k ≡ DeltaAt (get_or ds (p - 1) x).object (get_or ds (p - 1) x).site → a ≡ f k → gs ≡ remote i (support a) → hs ≡ gs → fs ≡ es ++ hs →
+    add_deltas es [] ≡ written_needs i f (drop p ds) → add_deltas fs [] ≡ written_needs i f (drop (p - 1) ds)
+needed_place i f ds es fs gs hs p x k a m h pk pa pg ph pf pe =
+    let same : p - 1 + 1 ≡ p = omega (arith, m) in
+    needed_more i f ds es fs gs hs (p - 1) x k a (omega (arith, m, h)) pk pa pg ph pf (pe ∙ ap (λ n. written_needs i f (drop n ds)) (sym same))
 
 pub popped :
-    {V : Type 0} (g : V → List Delta) (ps qs : List V) (v : V) (es fs hs : List Delta) → ps ≡ qs ++ v ∷ [] → hs ≡ g v → fs ≡ add_deltas hs es → InOrder es →
-    InOrder fs × (adds (map g qs) fs ≡ adds (map g ps) es)
-popped g ps qs v es fs hs p q r o = (
-  subst InOrder (sym r) (in_order_adds hs es o),
-  ap (adds (map g qs)) (r ∙ ap (λ l. add_deltas l es) q) ∙ sym (adds_push (map g qs) (g v) es)
-      ∙ sym (ap (λ l. adds l es) (ap (map g) p ∙ map_push g qs v)),
-)
+    {V : Type 0} (g : V → List Delta) (ps qs : List V) (v : V) (es fs hs : List Delta) → ps ≡ qs ++ v ∷ [] → hs ≡ g v → fs ≡ es ++ hs →
+    adds (map g qs) (add_deltas fs []) ≡ adds (map g ps) (add_deltas es [])
+popped g ps qs v es fs hs p q r =
+    ap (adds (map g qs)) (ap (λ l. add_deltas l []) r ∙ adds_append es hs [] ∙ ap (λ l. add_deltas l (add_deltas es [])) q)
+    ∙ sym (adds_push (map g qs) (g v) (add_deltas es []))
+    ∙ sym (ap (λ l. adds l (add_deltas es [])) (ap (map g) p ∙ map_push g qs v))
 
 pub all_popped : {V : Type 0} (g : V → List Delta) (ps : List V) (es ws : List Delta) → ps ≡ [] → adds (map g ps) es ≡ ws → es ≡ ws
 unfolding words
 all_popped g ps es ws p h = sym (ap (λ l. adds (map g l) es) p) ∙ h
 
 pub needs_are :
-    (r : Following) (es vs : List Delta) → vs ≡ r.written.items → es ≡ written_needs r.site (forms_of r.standing) vs →
+    (r : Following) (es vs ws : List Delta) → vs ≡ ws → ws ≡ add_deltas r.written.items [] → es ≡ written_needs r.site (forms_of r.standing) vs →
     adds (map (λ p. p.items) r.prints.items) es ≡ needs_of r l.NoCommand
 unfolding needs_of plan_words
-needs_are r es vs p q = ap (adds (map (λ p. p.items) r.prints.items)) (q ∙ ap (written_needs r.site (forms_of r.standing)) p)
+needs_are r es vs ws p q h = ap (adds (map (λ p. p.items) r.prints.items)) (h ∙ ap (written_needs r.site (forms_of r.standing)) (p ∙ q))
 
 -- ---- each kind of command
 module _ (f : Forms) (x : LCommand) where

@@ -1,5 +1,5 @@
 -- Deltas in order: where one stands among them, and one more.
-use Rattle.std.proofs.Common.{◌≡◌, ℕ, zero, suc, ◌+◌, ◌<◌, ◌≤◌, Bool, true, false, cond, List, [], ◌∷◌, ◌++◌, take, drop, get_or, length, refl, sym, ap, ◌∙◌, subst, true≢false, add-one, drop_of_length-le, arith}
+use Rattle.std.proofs.Common.{◌≡◌, ℕ, zero, suc, ◌+◌, ◌-◌, ◌<◌, ◌≤◌, Bool, true, false, cond, List, [], ◌∷◌, ◌++◌, take, drop, get_or, length, refl, sym, ap, ◌∙◌, subst, true≢false, add-one, drop_of_length-le, arith}
 use Rattle.std.proofs.Math.Seq.{drop-cons}
 use Rattle.std.specs.List.{insert}
 use Rattle.std.proofs.lemmas.Bool.Decides.{nat_tests}
@@ -56,28 +56,28 @@ unfolding words
 place_end d [] = tt
 place_end d (e ∷ es) = place_end d es
 
--- none stands before a delta among the first none
-pub place_start : (d : Delta) (ds : List Delta) → Each (λ e. delta_before e d ≡ true) (take 0 ds)
-unfolding plan_words
-place_start d ds = tt
-
 -- one stands before it, and so do those before that one
-pub place_above : (d : Delta) (ds : List Delta) (p : ℕ) (x : Delta) → InOrder ds → p < length ds → true ≡ delta_before (get_or ds p x) d →
-    Each (λ e. delta_before e d ≡ true) (take (p + 1) ds)
-place_above d ds p x o l h =
-    let e : suc p ≡ p + 1 = omega arith in
-    subst (λ n. Each (λ y. delta_before y d ≡ true) (take n ds)) e (before_all d ds p x o l (sym h))
+pub place_after :
+    (d : Delta) (ds : List Delta) (p : ℕ) (x : Delta) → InOrder ds → 0 < p → p ≤ length ds → true ≡ delta_before (get_or ds (p - 1) x) d →
+    BeginsBehind d (drop p ds) → IsPlace d ds p
+place_after d ds p x o m l h b =
+    let e : suc (p - 1) ≡ p = omega (arith, m) in
+    record {
+      within = l;
+      before = subst (λ n. Each (λ y. delta_before y d ≡ true) (take n ds)) e (before_all d ds (p - 1) x o (omega (arith, m, l)) (sym h));
+      behind = b;
+    }
 
--- one doesn't
-pub place_below : (d : Delta) (ds : List Delta) (p : ℕ) (x : Delta) → p < length ds → false ≡ delta_before (get_or ds p x) d → BeginsBehind d (drop p ds)
-place_below d ds p x l h = begins_behind d ds p x l (sym h)
+-- one doesn't, and so does none from it on
+pub place_below : (d : Delta) (ds : List Delta) (p : ℕ) (x : Delta) → 0 < p → p ≤ length ds → false ≡ delta_before (get_or ds (p - 1) x) d → BeginsBehind d (drop (p - 1) ds)
+place_below d ds p x m l h = begins_behind d ds (p - 1) x (omega (arith, m, l)) (sym h)
 
--- both meet
-pub place_met : (d : Delta) (ds : List Delta) (low high : ℕ) → low ≤ high → high ≤ low → high ≤ length ds →
-    Each (λ e. delta_before e d ≡ true) (take low ds) → BeginsBehind d (drop high ds) → IsPlace d ds low
-place_met d ds low high l m w a b =
-    let e : high ≡ low = omega (arith, l, m) in
-    record { within = omega (arith, e, w); before = a; behind = subst (λ n. BeginsBehind d (drop n ds)) e b }
+-- none stands before it
+pub place_first : (d : Delta) (ds : List Delta) (p : ℕ) → p ≤ 0 → BeginsBehind d (drop p ds) → IsPlace d ds 0
+unfolding plan_words
+place_first d ds p l b =
+    let e : p ≡ 0 = omega (arith, l) in
+    record { within = omega arith; before = tt; behind = subst (λ n. BeginsBehind d (drop n ds)) e b }
 
 pub begins_at : (d : Delta) (ds : List Delta) (p : ℕ) (x : Delta) → p < length ds → begins_with d (drop p ds) ≡ same_delta d (get_or ds p x)
 unfolding words
@@ -171,6 +171,10 @@ delta_kept d ds xs ys n x y p h =
     sym (add_split d ds n q.before ∙ ap (λ l. take n ds ++ l) (there_already d (drop n ds) k) ∙ take_drop ds n)
 
 -- ---- all of them
+pub adds_start : (ds es : List Delta) → es ≡ [] → InOrder es × (add_deltas ds es ≡ add_deltas ds [])
+unfolding words
+adds_start ds es p = (subst InOrder (sym p) tt, ap (add_deltas ds) p)
+
 pub adds_step :
     (ds es fs ws : List Delta) (i : ℕ) (x : Delta) → i < length ds → InOrder es → fs ≡ add_delta (get_or ds i x) es → add_deltas (drop i ds) es ≡ ws →
     InOrder fs × (add_deltas (drop (i + 1) ds) fs ≡ ws)

@@ -7,11 +7,12 @@ use Rattle.std.proofs.lemmas.Nat.{mul-le}
 use Rattle.homeo_meaning.specs.Key.{words as meaning_words}
 use Rattle.homeo_meaning.specs.Small.{IsSmall}
 use Rattle.homeo_plan.specs.Limit.{form_limit}
+use Rattle.homeo_linear.specs.inner.Terms.{sum_limit}
 
-abs_add : (a b : ℤ) → unsigned_abs (a +ℤ b) ≤ unsigned_abs a + unsigned_abs b
+pub abs_add : (a b : ℤ) → unsigned_abs (a +ℤ b) ≤ unsigned_abs a + unsigned_abs b
 abs_add a b = grind (arith, ints)
 
-sum_fits : (a b : ℤ) → IsSmall form_limit a → IsSmall form_limit b → FitsSigned w128 (a +ℤ b)
+sum_fits : (a b : ℤ) → IsSmall form_limit a → IsSmall sum_limit b → FitsSigned w128 (a +ℤ b)
 unfolding meaning_words
 sum_fits a b h k = fits_signed_from_abs w128 (a +ℤ b) (omega (arith, h, k, abs_add a b))
 
@@ -20,10 +21,10 @@ unfolding meaning_words
 product_fits a b h k =
     fits_signed_from_abs w128 (a *ℤ b) (omega (arith, unsigned_abs-mul a b, mul-le (unsigned_abs a) (unsigned_abs b) form_limit form_limit h k))
 
-pub sum_in : (a b : ℤ) → SFits w128 a → SFits w128 b → IsSmall form_limit a → IsSmall form_limit b → FitsSigned w128 (to_z w128 (of_z w128 a) +ℤ to_z w128 (of_z w128 b))
+pub sum_in : (a b : ℤ) → SFits w128 a → SFits w128 b → IsSmall form_limit a → IsSmall sum_limit b → FitsSigned w128 (to_z w128 (of_z w128 a) +ℤ to_z w128 (of_z w128 b))
 sum_in a b fa fb h k = rw (to_z-of_z w128 a fa, to_z-of_z w128 b fb) (sum_fits a b h k)
 
-pub sum_is : (a b : ℤ) → SFits w128 a → SFits w128 b → IsSmall form_limit a → IsSmall form_limit b → to_z w128 (of_z w128 (to_z w128 (of_z w128 a) +ℤ to_z w128 (of_z w128 b))) ≡ a +ℤ b
+pub sum_is : (a b : ℤ) → SFits w128 a → SFits w128 b → IsSmall form_limit a → IsSmall sum_limit b → to_z w128 (of_z w128 (to_z w128 (of_z w128 a) +ℤ to_z w128 (of_z w128 b))) ≡ a +ℤ b
 sum_is a b fa fb h k =
     rw (to_z-of_z w128 a fa, to_z-of_z w128 b fb) (to_z-of_z w128 (a +ℤ b) (sum_fits a b h k))
 

@@ -59,7 +59,7 @@ fn apart(alloc: Global, left: &Form, right: &Form) -> Result<Form, Memory>
     ensures { IfOk result (λ f. f ≡ add_forms left.now (scale_form (negsuc 0) right.now)) }
 {
     let negated = right.times(alloc, -1)?;
-    negated.plus(left)
+    negated.plus(alloc, left)
 }
 
 /// That a form is at most another.
@@ -68,7 +68,7 @@ fn at_most(alloc: Global, left: &Form, right: &Form) -> Result<Atom, Memory>
     ensures { IfOk result (λ a. plain_atom a ≡ difference left.now right.now (pos 0)) }
 {
     let apart = apart(alloc, left, right)?;
-    let form = apart.plus(&Form::value(alloc, 0))?;
+    let form = apart.plus(alloc, &Form::value(alloc, 0))?;
     Ok(Atom {
         form: form.into_linear(),
     })
@@ -80,7 +80,7 @@ fn less(alloc: Global, left: &Form, right: &Form) -> Result<Atom, Memory>
     ensures { IfOk result (λ a. plain_atom a ≡ difference left.now right.now (pos 1)) }
 {
     let apart = apart(alloc, left, right)?;
-    let form = apart.plus(&Form::value(alloc, 1))?;
+    let form = apart.plus(alloc, &Form::value(alloc, 1))?;
     Ok(Atom {
         form: form.into_linear(),
     })

@@ -1,11 +1,12 @@
 //! Deltas in order, each once.
 
-ghost use Rattle.std.specs.Prelude.{◌≡◌, drop, OnOk};
+ghost use Rattle.std.specs.Prelude.{◌≡◌, ◌<◌, ◌+◌, ◌++◌, length, drop, [], IsTrue, IfOk, OnOk};
 ghost use Rattle.homeo_plan.specs.Linear.{same_delta, delta_before, deltas_of, add_delta, add_deltas};
 ghost use Rattle.homeo_linear.specs.inner.Order.{InOrder, IsPlace, begins_with};
 
 use homeo_plan::{Delta, Term};
 use homeo_syntax::Memory;
+use std::alloc::Global;
 
 /// The order is by object, and then by site.
 #[tactic(auto, unfolding(homeo_plan::specs::Key::words))]
@@ -15,24 +16,19 @@ pub(crate) fn is_before(a: Delta, b: Delta) -> bool
     a.object < b.object || (a.object == b.object && a.site < b.site)
 }
 
-/// How many of the deltas stand before a delta. It looks at the last one first, behind which most deltas are added, and then
-/// halves what is left.
+/// How many of the deltas stand before a delta, looked for from the end: deltas that come in order are put there.
 fn place(deltas: &[Delta], delta: Delta) -> usize
     requires { InOrder deltas.now }
     ensures { IsPlace delta deltas.now result }
 {
-    let mut low = 0;
-    let mut high = deltas.len();
-    let mut middle = high.saturating_sub(1);
-    while low < high {
-        if is_before(deltas[middle], delta) {
-            low = middle + 1;
-        } else {
-            high = middle;
+    let mut place = deltas.len();
+    while place > 0 {
+        if is_before(deltas[place - 1], delta) {
+            return place;
         }
-        middle = low + (high - low) / 2;
+        place -= 1;
     }
-    low
+    0
 }
 
 /// Whether the delta stands at a place.
@@ -54,7 +50,7 @@ fn is_same(found: &Delta, delta: Delta) -> bool
 }
 
 /// Adds a delta, unless it is there.
-pub(crate) fn add_delta(deltas: &mut Vec<Delta>, delta: Delta) -> Result<(), Memory>
+fn add_delta(deltas: &mut Vec<Delta>, delta: Delta) -> Result<(), Memory>
     requires order { InOrder deltas.old.items }
     ensures { OnOk result (deltas.new.items ≡ add_delta delta deltas.old.items) }
 {
@@ -66,24 +62,59 @@ pub(crate) fn add_delta(deltas: &mut Vec<Delta>, delta: Delta) -> Result<(), Mem
     Ok(())
 }
 
-/// Adds deltas.
-pub(crate) fn add_deltas(deltas: &mut Vec<Delta>, more: &[Delta]) -> Result<(), Memory>
-    requires order { InOrder deltas.old.items }
-    ensures { OnOk result (deltas.new.items ≡ add_deltas more.now deltas.old.items) }
+/// Whether the delta at a place stands before the next one.
+fn leads(deltas: &[Delta], place: usize) -> bool
+    requires { place < length deltas.now }
+    ensures { IsTrue result → InOrder (drop (place + 1) deltas.now) → InOrder (drop place deltas.now) }
 {
-    for delta in more {
-        add_delta(deltas, *delta)?;
-    }
-    Ok(())
+    place + 1 == deltas.len() || is_before(deltas[place], deltas[place + 1])
 }
 
-/// Adds the deltas of terms.
-pub(crate) fn add_deltas_of(deltas: &mut Vec<Delta>, terms: &[Term]) -> Result<(), Memory>
-    requires order { InOrder deltas.old.items }
-    ensures { OnOk result (deltas.new.items ≡ add_deltas (deltas_of terms.now) deltas.old.items) }
+/// Whether the deltas are in order, each once.
+fn are_joined(deltas: &[Delta]) -> bool
+    ensures { IsTrue result → InOrder deltas.now }
 {
+    let mut place = deltas.len();
+    while place > 0 {
+        if !leads(deltas, place - 1) {
+            return false;
+        }
+        place -= 1;
+    }
+    true
+}
+
+/// The deltas, each once. Of deltas in order each is put at the end.
+fn collected(alloc: Global, deltas: &[Delta]) -> Result<Vec<Delta>, Memory>
+    ensures { IfOk result (λ v. v.items ≡ add_deltas deltas.now []) }
+{
+    let mut once = Vec::new(alloc);
+    for delta in deltas {
+        add_delta(&mut once, *delta)?;
+    }
+    Ok(once)
+}
+
+/// The deltas in order, each once. It doesn't matter in which order they are added, so that they are sorted first, unless
+/// they are in order.
+pub(crate) fn joined(alloc: Global, deltas: Vec<Delta>) -> Result<Vec<Delta>, Memory>
+    ensures { IfOk result (λ v. v.items ≡ add_deltas deltas.items []) }
+{
+    if are_joined(deltas.as_slice()) {
+        return Ok(deltas);
+    }
+    let mut sorted = deltas;
+    sorted.sort_by_key(|delta| (delta.object, delta.site))?;
+    collected(alloc, sorted.as_slice())
+}
+
+/// Puts the deltas of terms behind the others.
+pub(crate) fn push_deltas_of(deltas: &mut Vec<Delta>, terms: &[Term]) -> Result<(), Memory>
+    ensures { OnOk result (deltas.new.items ≡ deltas.old.items ++ deltas_of terms.now) }
+{
+    deltas.reserve(terms.len())?;
     for term in terms {
-        add_delta(deltas, term.delta)?;
+        deltas.push(term.delta)?;
     }
     Ok(())
 }

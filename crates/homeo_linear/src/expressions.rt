@@ -9,7 +9,7 @@ ghost use Rattle.homeo_plan.specs.Linear.{constant_form, base_forms, form, sum_f
 ghost use Rattle.homeo_plan.specs.Limit.{form_limit};
 ghost use Rattle.homeo_linear.specs.inner.Standing.{forms_of};
 
-use crate::form::Form;
+use crate::form::{Form, Total};
 use crate::items::{Item, item_of};
 use crate::places::{place_of, place_of_temp};
 use crate::standing::Standing;
@@ -41,18 +41,18 @@ fn sum(alloc: Global, standing: &Standing, es: &[LExpr]) -> Result<Form, Memory>
     requires { CanSum (IsSmall form_limit) (forms_of standing.now) (constant_form (pos 0)) (low_exprs (map plain_lexpr es.now)) }
     ensures { IfOk result (λ f. f ≡ sum_form (forms_of standing.now) (constant_form (pos 0)) (low_exprs (map plain_lexpr es.now))) }
 {
-    let mut total = Form::with_room(alloc, es.len())?;
+    let mut total = Total::with_room(alloc, es.len())?;
     for e in es {
         total = match item_of(e) {
-            Item::Read(place) => standing.add_at(place, total)?,
+            Item::Read(place) => standing.add_at(alloc, place, total)?,
             Item::Negated(place) => standing.subtract_at(alloc, place, total)?,
             Item::Other => {
                 let part = form(alloc, standing, e)?;
-                total.plus(&part)?
+                total.plus(alloc, &part)?
             }
         };
     }
-    Ok(total)
+    total.joined(alloc)
 }
 
 #[cycle(expressions)]

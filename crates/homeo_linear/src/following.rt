@@ -1,21 +1,20 @@
 //! Residuals that are followed from command to command.
 
-ghost use Rattle.std.specs.Prelude.{◌≡◌, ◌==◌, not, map, IfOk, OnOk};
+ghost use Rattle.std.specs.Prelude.{◌≡◌, ◌==◌, not, [], map, IfOk, OnOk};
 ghost use Rattle.homeo_syntax.specs.Low.{Commands, MoreCommand, NoCommand, Assign, Write, Print};
 ghost use Rattle.homeo_syntax.specs.LowView.{low_commands, plain_lexpr, plain_lcommand};
 ghost use Rattle.homeo_meaning.specs.LowMeaning.{DeltaAt};
 ghost use Rattle.homeo_meaning.specs.Serial.{values_of};
 ghost use Rattle.homeo_meaning.specs.Small.{IsSmall};
 ghost use Rattle.homeo_plan.specs.FormSizes.{CanForm, CanFollow};
-ghost use Rattle.homeo_plan.specs.Linear.{base_forms, support};
+ghost use Rattle.homeo_plan.specs.Linear.{add_deltas, base_forms, support};
 ghost use Rattle.homeo_plan.specs.Needs.{remote, written_needs, add_written, needs, IsStraightOne, IsStraight};
 ghost use Rattle.homeo_plan.specs.Limit.{form_limit};
 ghost use Rattle.homeo_linear.specs.inner.Following.{needs_of, Followed};
-ghost use Rattle.homeo_linear.specs.inner.Order.{InOrder};
 ghost use Rattle.homeo_linear.specs.inner.Places.{plain_place};
 ghost use Rattle.homeo_linear.specs.inner.Standing.{forms_of};
 
-use crate::deltas::{add_delta, add_deltas};
+use crate::deltas::joined;
 use crate::expressions::form;
 use crate::form::Form;
 use crate::places::{Place, place_of, place_of_temp};
@@ -29,7 +28,7 @@ use std::alloc::Global;
 pub(crate) struct Following<'a> {
     site: u32,
     standing: Standing<'a>,
-    /// The deltas written, in order.
+    /// The deltas written, as they were written.
     written: Vec<Delta>,
     /// Of each print what it needs of other sites.
     prints: Vec<Vec<Delta>>,
@@ -37,7 +36,6 @@ pub(crate) struct Following<'a> {
 
 impl<'a> Following<'a> {
     pub(crate) fn new(alloc: Global, site: u32, base: &'a [i64]) -> Following<'a>
-        ensures order { InOrder result.written.items }
         ensures standing { forms_of result.standing ≡ base_forms (values_of base.now) }
         ensures needs { (cs : Commands) → needs_of result cs ≡ needs site (values_of base.now) cs }
     {
@@ -53,7 +51,6 @@ impl<'a> Following<'a> {
     pub(crate) fn follow_all(&mut self, alloc: Global, commands: &[LCommand]) -> Result<(), Memory>
         requires straight { IsStraight (low_commands (map plain_lcommand commands.now)) }
         requires small { CanFollow (IsSmall form_limit) (forms_of self.old.standing) (low_commands (map plain_lcommand commands.now)) }
-        requires order { InOrder self.old.written.items }
         ensures { OnOk result (needs_of self.new NoCommand ≡ needs_of self.old (low_commands (map plain_lcommand commands.now))) }
     {
         for command in commands {
@@ -66,7 +63,6 @@ impl<'a> Following<'a> {
     fn follow(&mut self, alloc: Global, command: &LCommand) -> Result<(), Memory>
         requires straight { IsStraightOne (plain_lcommand command.now) }
         requires small { CanFollow (IsSmall form_limit) (forms_of self.old.standing) (MoreCommand (plain_lcommand command.now) NoCommand) }
-        requires order { InOrder self.old.written.items }
         ensures { OnOk result (Followed self.old self.new (plain_lcommand command.now)) }
     {
         match command {
@@ -78,8 +74,7 @@ impl<'a> Following<'a> {
     }
 
     fn assign(&mut self, alloc: Global, target: Temp, value: &LExpr) -> Result<(), Memory>
-        requires small { CanForm (IsSmall form_limit) (forms_of self.old.standing) (plain_lexpr value.now) }
-        requires order { InOrder self.old.written.items }
+        requires { CanForm (IsSmall form_limit) (forms_of self.old.standing) (plain_lexpr value.now) }
         ensures { OnOk result (Followed self.old self.new (Assign target (plain_lexpr value.now))) }
     {
         let form = form(alloc, &self.standing, value)?;
@@ -87,18 +82,16 @@ impl<'a> Following<'a> {
     }
 
     fn write(&mut self, alloc: Global, target: SplitName, value: &LExpr) -> Result<(), Memory>
-        requires small { CanForm (IsSmall form_limit) (forms_of self.old.standing) (plain_lexpr value.now) }
-        requires order { InOrder self.old.written.items }
+        requires { CanForm (IsSmall form_limit) (forms_of self.old.standing) (plain_lexpr value.now) }
         ensures { OnOk result (Followed self.old self.new (Write target (plain_lexpr value.now))) }
     {
         let form = form(alloc, &self.standing, value)?;
         self.standing.set(place_of(target), form)?;
-        add_name(&mut self.written, target)
+        push_name(&mut self.written, target)
     }
 
     fn print(&mut self, alloc: Global, value: &LExpr) -> Result<(), Memory>
-        requires small { CanForm (IsSmall form_limit) (forms_of self.old.standing) (plain_lexpr value.now) }
-        requires order { InOrder self.old.written.items }
+        requires { CanForm (IsSmall form_limit) (forms_of self.old.standing) (plain_lexpr value.now) }
         ensures { OnOk result (Followed self.old self.new (Print (plain_lexpr value.now))) }
     {
         let form = form(alloc, &self.standing, value)?;
@@ -111,23 +104,23 @@ impl<'a> Following<'a> {
         ensures { IfOk result (λ v. v.items ≡ needs_of self.entry NoCommand) }
     {
         let mut prints = self.prints;
-        let mut needed = written_needs(alloc, self.site, &self.standing, self.written.as_slice())?;
+        let written = joined(alloc, self.written)?;
+        let mut needed = written_needs(alloc, self.site, &self.standing, written.as_slice())?;
         while let Some(deltas) = prints.pop() {
-            add_deltas(&mut needed, deltas.as_slice())?;
+            needed.extend_from_slice(deltas.as_slice())?;
         }
-        Ok(needed)
+        joined(alloc, needed)
     }
 }
 
-/// What the deltas written need of other sites.
+/// What the deltas written need of other sites, in no order, and each as often as it is needed.
 fn written_needs(
     alloc: Global,
     site: u32,
     standing: &Standing,
     written: &[Delta],
 ) -> Result<Vec<Delta>, Memory>
-    ensures order { IfOk result (λ v. InOrder v.items) }
-    ensures needs { IfOk result (λ v. v.items ≡ written_needs site (forms_of standing.now) written.now) }
+    ensures { IfOk result (λ v. add_deltas v.items [] ≡ written_needs site (forms_of standing.now) written.now) }
 {
     let mut needed = Vec::new(alloc);
     let mut place = written.len();
@@ -135,7 +128,7 @@ fn written_needs(
         place -= 1;
         let form = standing.form_at(alloc, place_of_delta(&written[place]))?;
         let deltas = remote_of(alloc, site, &form)?;
-        add_deltas(&mut needed, deltas.as_slice())?;
+        needed.extend_from_slice(deltas.as_slice())?;
     }
     Ok(needed)
 }
@@ -175,14 +168,16 @@ fn is_remote(delta: &Delta, site: u32) -> bool
     delta.site != site
 }
 
-/// Adds a delta that is written.
+/// Puts a delta that is written behind the others.
 #[tactic(auto, unfolding(homeo_plan::specs::Key::words))]
-fn add_name(written: &mut Vec<Delta>, name: SplitName) -> Result<(), Memory>
-    requires { InOrder written.old.items }
-    ensures { OnOk result (written.new.items ≡ add_written name written.old.items) }
+fn push_name(written: &mut Vec<Delta>, name: SplitName) -> Result<(), Memory>
+    ensures { OnOk result (add_deltas written.new.items [] ≡ add_written name (add_deltas written.old.items [])) }
 {
     match name {
-        SplitName::Delta { object, site } => add_delta(written, Delta { object, site }),
+        SplitName::Delta { object, site } => {
+            written.push(Delta { object, site })?;
+            Ok(())
+        }
         SplitName::Whole(_) | SplitName::Base(_) => Ok(()),
     }
 }

@@ -9,16 +9,19 @@ ghost use Rattle.homeo_plan.specs.Limit.{form_limit};
 ghost use Rattle.homeo_linear.specs.inner.Order.{InOrder};
 ghost use Rattle.homeo_linear.specs.inner.Terms.{term_form};
 
-use crate::deltas::{add_deltas, add_deltas_of};
+use crate::deltas::{self, push_deltas_of};
 use crate::numbers::{added, multiplied};
-use crate::terms::{add_term, add_terms, scaled};
+use crate::terms;
 use homeo_plan::{Delta, Linear, Term};
 use homeo_syntax::{List, Memory};
 use std::alloc::Global;
 use std::marker::Model;
 
+/// The least room of a sum.
+const LEAST_ROOM: usize = 1024;
+
 /// A linear form in the making: the constant and the terms added up. The terms and the mixed deltas are in order, each
-/// delta once.
+/// delta once, and no factor is 0.
 #[derive(Drop)]
 pub(crate) struct Form {
     constant: i128,
@@ -27,14 +30,15 @@ pub(crate) struct Form {
 }
 
 impl Model for Form {
-    ghost use Rattle.homeo_plan.specs.Linear.{Linear, deltas_of};
+    ghost use Rattle.homeo_plan.specs.Linear.{Linear};
     ghost use Rattle.homeo_linear.specs.inner.Order.{InOrder};
+    ghost use Rattle.homeo_linear.specs.inner.Terms.{AreJoined};
 
     ghost Value = { Linear };
 
     ghost view = { λ f. record { constant = f.constant; terms = f.terms.items; mixed = f.mixed.items } };
 
-    ghost invariant = { λ f. InOrder (deltas_of f.terms.items) × InOrder f.mixed.items };
+    ghost invariant = { λ f. AreJoined f.terms.items × InOrder f.mixed.items };
 }
 
 impl Form {
@@ -47,17 +51,6 @@ impl Form {
             terms: Vec::new(alloc),
             mixed: Vec::new(alloc),
         }
-    }
-
-    /// The form of 0, with room for terms.
-    pub(crate) fn with_room(alloc: Global, terms: usize) -> Result<Form, Memory>
-        ensures { IfOk result (λ f. f ≡ constant_form (pos 0)) }
-    {
-        Ok(Form {
-            constant: 0,
-            terms: Vec::with_capacity(alloc, terms)?,
-            mixed: Vec::new(alloc),
-        })
     }
 
     /// The form of a value.
@@ -91,48 +84,13 @@ impl Form {
     }
 
     /// The other form put into this one.
-    pub(crate) fn plus(self, other: &Form) -> Result<Form, Memory>
+    pub(crate) fn plus(self, alloc: Global, other: &Form) -> Result<Form, Memory>
         requires small { Numbers (IsSmall form_limit) self }
         requires other_small { Numbers (IsSmall form_limit) other.now }
         ensures { IfOk result (λ f. f ≡ add_forms other.now self) }
     {
-        let mut terms = self.terms;
-        let mut mixed = self.mixed;
-        add_terms(&mut terms, other.terms.as_slice())?;
-        add_deltas(&mut mixed, other.mixed.as_slice())?;
-        Ok(Form {
-            constant: added(other.constant, self.constant),
-            terms,
-            mixed,
-        })
-    }
-
-    /// The number put into this form.
-    pub(crate) fn plus_number(self, n: i128) -> Form
-        requires small { Numbers (IsSmall form_limit) self }
-        requires number_small { IsSmall form_limit n }
-        ensures { result ≡ add_forms (constant_form n) self }
-    {
-        Form {
-            constant: added(n, self.constant),
-            terms: self.terms,
-            mixed: self.mixed,
-        }
-    }
-
-    /// The term put into this form.
-    pub(crate) fn plus_term(self, term: Term) -> Result<Form, Memory>
-        requires small { Numbers (IsSmall form_limit) self }
-        requires term_small { IsSmall form_limit term.factor }
-        ensures { IfOk result (λ f. f ≡ add_forms (term_form term) self) }
-    {
-        let mut terms = self.terms;
-        add_term(&mut terms, &term)?;
-        Ok(Form {
-            constant: self.constant,
-            terms,
-            mixed: self.mixed,
-        })
+        let total = Total::of(self);
+        total.put(other)?.joined(alloc)
     }
 
     /// The form with its numbers multiplied.
@@ -143,7 +101,7 @@ impl Form {
     {
         Ok(Form {
             constant: multiplied(factor, self.constant),
-            terms: scaled(alloc, factor, self.terms.as_slice())?,
+            terms: terms::scaled(alloc, factor, self.terms.as_slice())?,
             mixed: Vec::from_slice(alloc, self.mixed.as_slice())?,
         })
     }
@@ -168,13 +126,13 @@ impl Form {
         requires other_small { IsSmall form_limit other.now.constant }
         ensures { IfOk result (λ f. f ≡ mix_forms self.now other.now) }
     {
-        let deltas = self.support(alloc)?;
-        let mut mixed = other.support(alloc)?;
-        add_deltas(&mut mixed, deltas.as_slice())?;
+        let mut mixed = self.support(alloc)?;
+        let deltas = other.support(alloc)?;
+        mixed.extend_from_slice(deltas.as_slice())?;
         Ok(Form {
             constant: multiplied(self.constant, other.constant),
             terms: Vec::new(alloc),
-            mixed,
+            mixed: deltas::joined(alloc, mixed)?,
         })
     }
 
@@ -190,8 +148,8 @@ impl Form {
         ensures order { IfOk result (λ v. InOrder v.items) }
     {
         let mut deltas = Vec::from_slice(alloc, self.mixed.as_slice())?;
-        add_deltas_of(&mut deltas, self.terms.as_slice())?;
-        Ok(deltas)
+        push_deltas_of(&mut deltas, self.terms.as_slice())?;
+        deltas::joined(alloc, deltas)
     }
 
     pub(crate) fn constant(&self) -> i128
@@ -208,5 +166,131 @@ impl Form {
             terms: List::from_vec(self.terms),
             mixed: List::from_vec(self.mixed),
         }
+    }
+}
+
+/// A sum of forms in the making. Its terms and mixed deltas stand as they were put into it, until they are joined.
+#[derive(Drop)]
+pub(crate) struct Total {
+    constant: i128,
+    terms: Vec<Term>,
+    mixed: Vec<Delta>,
+    /// How many terms and mixed deltas may stand there where a form is put in. Where there are more, they are joined first, so
+    /// that a sum of many forms with the same deltas stays short.
+    room: usize,
+}
+
+impl Model for Total {
+    ghost use Rattle.std.specs.Prelude.{[]};
+    ghost use Rattle.homeo_plan.specs.Linear.{Linear, add_terms, add_deltas};
+    ghost use Rattle.homeo_linear.specs.inner.Terms.{AreSmall};
+
+    ghost Value = { Linear };
+
+    ghost view = { λ t. record { constant = t.constant; terms = add_terms t.terms.items []; mixed = add_deltas t.mixed.items [] } };
+
+    ghost invariant = { λ t. AreSmall t.terms.items };
+}
+
+impl Total {
+    /// The sum of no forms, with room for terms.
+    pub(crate) fn with_room(alloc: Global, terms: usize) -> Result<Total, Memory>
+        ensures { IfOk result (λ t. t ≡ constant_form (pos 0)) }
+    {
+        Ok(Total {
+            constant: 0,
+            terms: Vec::with_capacity(alloc, terms)?,
+            mixed: Vec::new(alloc),
+            room: LEAST_ROOM,
+        })
+    }
+
+    /// The sum of one form.
+    fn of(form: Form) -> Total
+        requires { Numbers (IsSmall form_limit) form }
+        ensures { result ≡ form }
+    {
+        let joined = form.terms.len().saturating_add(form.mixed.len());
+        Total {
+            constant: form.constant,
+            terms: form.terms,
+            mixed: form.mixed,
+            room: joined.saturating_mul(2).max(LEAST_ROOM),
+        }
+    }
+
+    fn is_full(&self) -> bool {
+        self.terms.len().saturating_add(self.mixed.len()) > self.room
+    }
+
+    /// The form put into the sum.
+    pub(crate) fn plus(self, alloc: Global, form: &Form) -> Result<Total, Memory>
+        requires small { Numbers (IsSmall form_limit) self }
+        requires form_small { Numbers (IsSmall form_limit) form.now }
+        ensures { IfOk result (λ t. t ≡ add_forms form.now self) }
+    {
+        if self.is_full() {
+            Total::of(self.joined(alloc)?).put(form)
+        } else {
+            self.put(form)
+        }
+    }
+
+    /// The same, where nothing is joined.
+    fn put(self, form: &Form) -> Result<Total, Memory>
+        requires small { Numbers (IsSmall form_limit) self }
+        requires form_small { Numbers (IsSmall form_limit) form.now }
+        ensures { IfOk result (λ t. t ≡ add_forms form.now self) }
+    {
+        let mut terms = self.terms;
+        let mut mixed = self.mixed;
+        terms.extend_from_slice(form.terms.as_slice())?;
+        mixed.extend_from_slice(form.mixed.as_slice())?;
+        Ok(Total {
+            constant: added(form.constant, self.constant),
+            terms,
+            mixed,
+            room: self.room,
+        })
+    }
+
+    /// The number put into the sum.
+    pub(crate) fn plus_number(self, n: i128) -> Total
+        requires small { Numbers (IsSmall form_limit) self }
+        requires number_small { IsSmall form_limit n }
+        ensures { result ≡ add_forms (constant_form n) self }
+    {
+        Total {
+            constant: added(n, self.constant),
+            terms: self.terms,
+            mixed: self.mixed,
+            room: self.room,
+        }
+    }
+
+    /// The term put into the sum.
+    pub(crate) fn plus_term(self, term: Term) -> Result<Total, Memory>
+        requires { IsSmall form_limit term.factor }
+        ensures { IfOk result (λ t. t ≡ add_forms (term_form term) self) }
+    {
+        let mut terms = self.terms;
+        terms.push(term)?;
+        Ok(Total {
+            constant: self.constant,
+            terms,
+            mixed: self.mixed,
+            room: self.room,
+        })
+    }
+
+    /// The sum as a form.
+    pub(crate) fn joined(self, alloc: Global) -> Result<Form, Memory>
+        ensures { IfOk result (λ f. f ≡ self) }
+    {
+        Ok(Form {
+            constant: self.constant,
+            terms: terms::joined(alloc, self.terms)?,
+            mixed: deltas::joined(alloc, self.mixed)?,
+        })
     }
 }

@@ -10,7 +10,7 @@ ghost use Rattle.homeo_plan.specs.Linear.{base_forms, add_forms, scale_form};
 ghost use Rattle.homeo_linear.specs.inner.Places.{plain_place};
 ghost use Rattle.homeo_linear.specs.inner.Standing.{forms_of};
 
-use crate::form::Form;
+use crate::form::{Form, Total};
 use crate::numbers::multiplied;
 use crate::places::Place;
 use homeo_meaning::padded::item_or;
@@ -54,25 +54,25 @@ impl<'a> Standing<'a> {
         }
     }
 
-    /// The form at a place put into another.
-    pub(crate) fn add_at(&self, place: Place, total: Form) -> Result<Form, Memory>
+    /// The form at a place put into a sum.
+    pub(crate) fn add_at(&self, alloc: Global, place: Place, total: Total) -> Result<Total, Memory>
         requires small { Numbers (IsSmall form_limit) total }
         requires place_small { Numbers (IsSmall form_limit) (forms_of self.now (plain_place place)) }
         ensures { IfOk result (λ f. f ≡ add_forms (forms_of self.now (plain_place place)) total) }
     {
         match self.set.get(&place) {
-            Some(form) => total.plus(form),
+            Some(form) => total.plus(alloc, form),
             None => add_base(self.base, place, total),
         }
     }
 
-    /// The negative of the form at a place put into another.
+    /// The negative of the form at a place put into a sum.
     pub(crate) fn subtract_at(
         &self,
         alloc: Global,
         place: Place,
-        total: Form,
-    ) -> Result<Form, Memory>
+        total: Total,
+    ) -> Result<Total, Memory>
         requires small { Numbers (IsSmall form_limit) total }
         requires place_small { Numbers (IsSmall form_limit) (forms_of self.now (plain_place place)) }
         requires negated_small { Numbers (IsSmall form_limit) (scale_form (negsuc 0) (forms_of self.now (plain_place place))) }
@@ -81,7 +81,7 @@ impl<'a> Standing<'a> {
         match self.set.get(&place) {
             Some(form) => {
                 let negated = form.times(alloc, -1)?;
-                total.plus(&negated)
+                total.plus(alloc, &negated)
             }
             None => subtract_base(self.base, place, total),
         }
@@ -104,9 +104,9 @@ fn base_form(alloc: Global, base: &[i64], place: Place) -> Result<Form, Memory>
     }
 }
 
-/// The form at a place as a round begins, put into another.
+/// The form at a place as a round begins, put into a sum.
 #[tactic(auto, unfolding(homeo_plan::specs::Key::words))]
-fn add_base(base: &[i64], place: Place, total: Form) -> Result<Form, Memory>
+fn add_base(base: &[i64], place: Place, total: Total) -> Result<Total, Memory>
     requires small { Numbers (IsSmall form_limit) total }
     requires place_small { Numbers (IsSmall form_limit) (base_forms (values_of base.now) (plain_place place)) }
     ensures { IfOk result (λ f. f ≡ add_forms (base_forms (values_of base.now) (plain_place place)) total) }
@@ -124,9 +124,9 @@ fn add_base(base: &[i64], place: Place, total: Form) -> Result<Form, Memory>
     }
 }
 
-/// The negative of the form at a place as a round begins, put into another.
+/// The negative of the form at a place as a round begins, put into a sum.
 #[tactic(auto, unfolding(homeo_plan::specs::Key::words))]
-fn subtract_base(base: &[i64], place: Place, total: Form) -> Result<Form, Memory>
+fn subtract_base(base: &[i64], place: Place, total: Total) -> Result<Total, Memory>
     requires small { Numbers (IsSmall form_limit) total }
     requires place_small { Numbers (IsSmall form_limit) (base_forms (values_of base.now) (plain_place place)) }
     requires negated_small { Numbers (IsSmall form_limit) (scale_form (negsuc 0) (base_forms (values_of base.now) (plain_place place))) }

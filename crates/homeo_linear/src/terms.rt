@@ -1,12 +1,12 @@
 //! Terms in the order of their deltas, each delta once.
 
-ghost use Rattle.std.specs.Prelude.{◌≡◌, ◌<◌, ◌+ℤ◌, ◌*ℤ◌, pos, not, length, drop, IfOk, OnOk};
+ghost use Rattle.std.specs.Prelude.{◌≡◌, ◌<◌, ◌+◌, ◌+ℤ◌, ◌*ℤ◌, pos, not, length, drop, [], IsTrue, IfOk, OnOk};
 ghost use Rattle.std.specs.Ordering.{int_eq};
 ghost use Rattle.homeo_meaning.specs.Small.{IsSmall};
 ghost use Rattle.homeo_plan.specs.Linear.{same_delta, deltas_of, add_term, add_terms, scale_terms};
 ghost use Rattle.homeo_plan.specs.Limit.{form_limit};
 ghost use Rattle.homeo_linear.specs.inner.Order.{InOrder, IsPlace, begins_with};
-ghost use Rattle.homeo_linear.specs.inner.Terms.{AreSmall, AreSmallWhereSame, IsSmallAt, add_at};
+ghost use Rattle.homeo_linear.specs.inner.Terms.{AreWithin, AreSmall, AreJoined, sum_limit, add_at};
 
 use crate::deltas::is_before;
 use crate::numbers::{added, multiplied};
@@ -14,24 +14,19 @@ use homeo_plan::{Delta, Term};
 use homeo_syntax::Memory;
 use std::alloc::Global;
 
-/// How many of the terms stand before a delta. It looks at the last one first, behind which most terms are added, and then
-/// halves what is left.
+/// How many of the terms stand before a delta, looked for from the end: terms that come in order are put there.
 fn place(terms: &[Term], delta: Delta) -> usize
     requires { InOrder (deltas_of terms.now) }
     ensures { IsPlace delta (deltas_of terms.now) result }
 {
-    let mut low = 0;
-    let mut high = terms.len();
-    let mut middle = high.saturating_sub(1);
-    while low < high {
-        if is_before(terms[middle].delta, delta) {
-            low = middle + 1;
-        } else {
-            high = middle;
+    let mut place = terms.len();
+    while place > 0 {
+        if is_before(terms[place - 1].delta, delta) {
+            return place;
         }
-        middle = low + (high - low) / 2;
+        place -= 1;
     }
-    low
+    0
 }
 
 /// Whether the term at a place is one of the delta.
@@ -62,7 +57,7 @@ fn counts(term: &Term) -> bool
 /// The term with another's factor added to its own.
 fn plus(term: &Term, more: &Term) -> Term
     requires factor { IsSmall form_limit more.now.factor }
-    requires small { IsSmall form_limit term.now.factor }
+    requires small { IsSmall sum_limit term.now.factor }
     ensures delta { result.delta ≡ term.now.delta }
     ensures factor { result.factor ≡ more.now.factor +ℤ term.now.factor }
 {
@@ -89,7 +84,7 @@ fn times(term: &Term, factor: i128) -> Term
 fn add_factor(terms: &mut Vec<Term>, place: usize, more: &Term)
     requires within { place < length terms.old.items }
     requires factor { IsSmall form_limit more.now.factor }
-    requires small { IsSmallAt place terms.old.items }
+    requires small { AreWithin sum_limit terms.old.items }
     ensures { terms.new.items ≡ add_at place more.now.factor terms.old.items }
 {
     let sum = plus(&terms[place], more);
@@ -101,10 +96,10 @@ fn add_factor(terms: &mut Vec<Term>, place: usize, more: &Term)
 }
 
 /// Adds a term.
-pub(crate) fn add_term(terms: &mut Vec<Term>, term: &Term) -> Result<(), Memory>
+fn add_term(terms: &mut Vec<Term>, term: &Term) -> Result<(), Memory>
     requires order { InOrder (deltas_of terms.old.items) }
     requires factor { IsSmall form_limit term.now.factor }
-    requires small { AreSmallWhereSame term.now.delta terms.old.items }
+    requires small { AreWithin sum_limit terms.old.items }
     ensures { OnOk result (terms.new.items ≡ add_term term.now.delta term.now.factor terms.old.items) }
 {
     let place = place(terms.as_slice(), term.delta);
@@ -118,19 +113,53 @@ pub(crate) fn add_term(terms: &mut Vec<Term>, term: &Term) -> Result<(), Memory>
     Ok(())
 }
 
-/// Adds terms.
-pub(crate) fn add_terms(terms: &mut Vec<Term>, more: &[Term]) -> Result<(), Memory>
-    requires order { InOrder (deltas_of terms.old.items) }
-    requires more_order { InOrder (deltas_of more.now) }
-    requires small { AreSmall terms.old.items }
-    requires more_small { AreSmall more.now }
-    ensures { OnOk result (terms.new.items ≡ add_terms more.now terms.old.items) }
+/// Whether the term at a place counts, and stands before the next one.
+fn leads(terms: &[Term], place: usize) -> bool
+    requires { place < length terms.now }
+    ensures { IsTrue result → AreJoined (drop (place + 1) terms.now) → AreJoined (drop place terms.now) }
 {
-    terms.reserve(more.len())?;
-    for term in more {
-        add_term(terms, term)?;
+    counts(&terms[place])
+        && (place + 1 == terms.len() || is_before(terms[place].delta, terms[place + 1].delta))
+}
+
+/// Whether the terms are in order, each delta once, and no factor is 0.
+fn are_joined(terms: &[Term]) -> bool
+    ensures { IsTrue result → AreJoined terms.now }
+{
+    let mut place = terms.len();
+    while place > 0 {
+        if !leads(terms, place - 1) {
+            return false;
+        }
+        place -= 1;
     }
-    Ok(())
+    true
+}
+
+/// The terms added up, one after another. Of terms in order each is put at the end.
+fn collected(alloc: Global, terms: &[Term]) -> Result<Vec<Term>, Memory>
+    requires { AreSmall terms.now }
+    ensures { IfOk result (λ v. v.items ≡ add_terms terms.now []) }
+{
+    let mut sums = Vec::new(alloc);
+    for term in terms {
+        add_term(&mut sums, term)?;
+    }
+    Ok(sums)
+}
+
+/// The terms added up. It doesn't matter to the sums in which order they are added, so that they are brought into that of
+/// their deltas first, unless they stand in it.
+pub(crate) fn joined(alloc: Global, terms: Vec<Term>) -> Result<Vec<Term>, Memory>
+    requires { AreSmall terms.items }
+    ensures { IfOk result (λ v. v.items ≡ add_terms terms.items []) }
+{
+    if are_joined(terms.as_slice()) {
+        return Ok(terms);
+    }
+    let mut sorted = terms;
+    sorted.sort_by_key(|t| (t.delta.object, t.delta.site))?;
+    collected(alloc, sorted.as_slice())
 }
 
 /// The terms with their factors multiplied, without those that become 0.

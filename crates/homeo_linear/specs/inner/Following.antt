@@ -9,7 +9,6 @@ use Rattle.homeo_plan.specs.declared.forms.Delta.{Delta}
 use Rattle.homeo_plan.specs.Limit.{form_limit}
 use Rattle.homeo_linear.specs.declared.following.Following.{Following}
 use Rattle.homeo_linear.specs.inner.Key.{words}
-use Rattle.homeo_linear.specs.inner.Order.{InOrder}
 use Rattle.homeo_linear.specs.inner.Standing.{forms_of}
 
 -- lists of deltas put into others, the last list first
@@ -20,10 +19,9 @@ adds (ds ∷ more) es = add_deltas ds (adds more es)
 
 -- the needs of the whole residual, where these commands are left
 unfoldable pub needs_of : Following → Commands → List Delta
-needs_of r cs = adds (map (λ p. p.items) r.prints.items) (needs_from r.site (forms_of r.standing) r.written.items cs)
+needs_of r cs = adds (map (λ p. p.items) r.prints.items) (needs_from r.site (forms_of r.standing) (add_deltas r.written.items []) cs)
 
 -- one command was followed
 pub record Followed (r s : Following) (c : Command) : Type 0 where
-  pub order : InOrder s.written.items
   pub needs : (cs : Commands) → needs_of s cs ≡ needs_of r (MoreCommand c cs)
   pub small : (cs : Commands) → CanFollow (IsSmall form_limit) (forms_of r.standing) (MoreCommand c cs) → CanFollow (IsSmall form_limit) (forms_of s.standing) cs

@@ -1,28 +1,26 @@
--- Terms whose factors are small, and one term's factor added to.
-use Rattle.std.specs.Prelude.{◌≡◌, ℕ, zero, suc, true, List, [], ◌∷◌, ℤ, pos, ◌+ℤ◌}
+-- Terms whose factors are small or not 0, and one term's factor added to.
+use Rattle.std.specs.Prelude.{◌≡◌, ℕ, zero, suc, ◌*◌, ◌^◌, false, List, [], ◌∷◌, ℤ, pos, ◌+ℤ◌}
+use Rattle.std.specs.Ordering.{int_eq}
 use Rattle.homeo_meaning.specs.Small.{IsSmall}
 use Rattle.homeo_plan.specs.Each.{Each}
-use Rattle.homeo_plan.specs.Linear.{Linear, same_delta, with_term}
-use Rattle.homeo_plan.specs.declared.forms.Delta.{Delta}
+use Rattle.homeo_plan.specs.Linear.{Linear, deltas_of, with_term}
 use Rattle.homeo_plan.specs.declared.forms.Term.{Term}
 use Rattle.homeo_plan.specs.Limit.{form_limit}
 use Rattle.homeo_linear.specs.inner.Key.{words}
+use Rattle.homeo_linear.specs.inner.Order.{InOrder}
+
+-- the factors are at most n in size
+abbrev pub AreWithin : ℕ → List Term → Type 0
+unfolding words
+AreWithin n ts = Each (λ t. IsSmall n t.factor) ts
 
 abbrev pub AreSmall : List Term → Type 0
 unfolding words
-AreSmall ts = Each (λ t. IsSmall form_limit t.factor) ts
+AreSmall ts = AreWithin form_limit ts
 
--- the term at place n
-abbrev pub IsSmallAt : ℕ → List Term → Type 0
-unfolding words
-IsSmallAt n [] = Unit {0}
-IsSmallAt zero (t ∷ ts) = IsSmall form_limit t.factor
-IsSmallAt (suc n) (t ∷ ts) = IsSmallAt n ts
-
--- the term of a delta
-abbrev pub AreSmallWhereSame : Delta → List Term → Type 0
-unfolding words
-AreSmallWhereSame d ts = Each (λ t. same_delta d t.delta ≡ true → IsSmall form_limit t.factor) ts
+-- the size that no sum of small factors of a list exceeds
+abbrev pub sum_limit : ℕ
+sum_limit = 2 ^ 64 * form_limit
 
 -- the terms, with f added to the factor of that at place n
 abbrev pub add_at : ℕ → ℤ → List Term → List Term
@@ -30,6 +28,16 @@ unfolding words
 add_at n f [] = []
 add_at zero f (t ∷ ts) = with_term t.delta (f +ℤ t.factor) ts
 add_at (suc n) f (t ∷ ts) = t ∷ add_at n f ts
+
+-- no factor is 0
+abbrev pub AllCount : List Term → Type 0
+unfolding words
+AllCount ts = Each (λ t. int_eq t.factor (pos 0) ≡ false) ts
+
+-- in order, each delta once, and no factor is 0
+pub record AreJoined (ts : List Term) : Type 0 where
+  pub order : InOrder (deltas_of ts)
+  pub counts : AllCount ts
 
 -- a term by itself
 abbrev pub term_form : Term → Linear

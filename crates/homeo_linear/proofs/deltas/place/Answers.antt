@@ -1,49 +1,21 @@
--- What is left between the two places is halved.
-use Rattle.std.proofs.Common.{◌≡◌, true, arith, sym, subst, take, drop}
-use Rattle.homeo_plan.specs.Each.{Each}
-use Rattle.homeo_plan.specs.Linear.{delta_before}
-use Rattle.homeo_linear.specs.inner.Order.{BeginsBehind}
-use Rattle.homeo_linear.proofs.Orders.{place_start, place_end, place_above, place_below, place_met}
+-- One stands before the delta, or none does.
+use Rattle.std.proofs.Common.{arith}
+use Rattle.homeo_linear.proofs.Orders.{place_after, place_below, place_first, place_end}
 use Rattle.homeo_linear.proofs.deltas.place.Goals as goal
-use Rattle.homeo_linear.proofs.deltas.place.Goals.{then-is_before, else-is_before}
 
-pub loop-low-init : goal.loop-low-init
-loop-low-init c = record {
-  ordered = omega arith;
-  within = omega arith;
-  from = omega arith;
-  to = λ some. omega (arith, some, c.saturating_sub-middle.ensures);
-  before = place_start c.args.delta c.args.deltas.now;
-  behind = place_end c.args.delta c.args.deltas.now;
+pub loop-place-init : goal.loop-place-init
+loop-place-init c = record { within = omega arith; behind = place_end c.args.delta c.args.deltas.now }
+
+pub loop-place-preserved : goal.loop-place-preserved
+loop-place-preserved c = record {
+  within = omega (arith, c.loop-place.invariant.within);
+  behind = place_below c.args.delta c.args.deltas.now c.loop-place.place _ c.loop-place-test.true c.loop-place.invariant.within c.if-is_before.ensures;
 }
 
-pub loop-low-preserved : goal.loop-low-preserved
-loop-low-preserved c =
-    let below = c.loop-low.invariant.to c.loop-low-test.true in
-    let within = c.loop-low.invariant.within in
-    let from = c.loop-low.invariant.from in
-    elim c.if-is_before.branch [
-      | then-is_before w ↦ record {
-        ordered = omega (arith, below, w.low-is, w.high-is);
-        within = omega (arith, within, w.high-is);
-        from = omega arith;
-        to = λ some. omega (arith, some);
-        before = subst (λ n. Each (λ e. delta_before e c.args.delta ≡ true) (take n c.args.deltas.now)) (sym w.low-is)
-            (place_above c.args.delta c.args.deltas.now c.loop-low.middle _ c.requires (omega (arith, below, within)) w.if-is_before.ensures);
-        behind = subst (λ n. BeginsBehind c.args.delta (drop n c.args.deltas.now)) (sym w.high-is) c.loop-low.invariant.behind;
-      }
-      | else-is_before w ↦ record {
-        ordered = omega (arith, from, w.low-is, w.high-is);
-        within = omega (arith, below, within, w.high-is);
-        from = omega arith;
-        to = λ some. omega (arith, some);
-        before = subst (λ n. Each (λ e. delta_before e c.args.delta ≡ true) (take n c.args.deltas.now)) (sym w.low-is) c.loop-low.invariant.before;
-        behind = subst (λ n. BeginsBehind c.args.delta (drop n c.args.deltas.now)) (sym w.high-is)
-            (place_below c.args.delta c.args.deltas.now c.loop-low.middle _ (omega (arith, below, within)) w.if-is_before.ensures);
-      }
-    ]
+pub returns-then-is_before : goal.returns-then-is_before
+returns-then-is_before c =
+    place_after c.args.delta c.args.deltas.now c.loop-place.place _ c.requires c.loop-place-test.true c.loop-place.invariant.within c.if-is_before.ensures
+    c.loop-place.invariant.behind
 
 pub returns : goal.returns
-returns c =
-    place_met c.args.delta c.args.deltas.now c.loop-low.low c.loop-low.high c.loop-low.invariant.ordered c.loop-low-test.false
-    (omega (arith, c.loop-low.invariant.within)) c.loop-low.invariant.before c.loop-low.invariant.behind
+returns c = place_first c.args.delta c.args.deltas.now c.loop-place.place c.loop-place-test.false c.loop-place.invariant.behind

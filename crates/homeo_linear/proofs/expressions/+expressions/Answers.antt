@@ -121,8 +121,8 @@ pub sum-plus-requires-clause-small : goal.sum-plus-requires-clause-small
 sum-plus-requires-clause-small t c =
     (sum_step c.args.es.now c.loop-e.e-index c.e-item.result c.loop-e-test.true c.e-item.is c.loop-e.invariant.small).so_far
 
-pub sum-plus-requires-clause-other_small : goal.sum-plus-requires-clause-other_small
-sum-plus-requires-clause-other_small t c =
+pub sum-plus-requires-clause-form_small : goal.sum-plus-requires-clause-form_small
+sum-plus-requires-clause-form_small t c =
     subst (Numbers (IsSmall form_limit)) (sym c.in_ok-part-in-Other.ensures)
     (sum_step c.args.es.now c.loop-e.e-index c.e-item.result c.loop-e-test.true c.e-item.is c.loop-e.invariant.small).small
 
@@ -146,4 +146,6 @@ sum-loop-e-preserved t c =
     ]
 
 pub sum-returns : goal.sum-returns
-sum-returns t c = sum_stop _ _ c.args.es.now c.loop-e.e-index c.loop-e-test.false ∙ c.loop-e.invariant.left
+sum-returns t c =
+    IfOk-weaker c.joined.result _ _
+    (λ f h. h ∙ sum_stop _ _ c.args.es.now c.loop-e.e-index c.loop-e-test.false ∙ c.loop-e.invariant.left) c.joined.ensures

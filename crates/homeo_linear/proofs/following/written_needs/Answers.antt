@@ -1,20 +1,19 @@
 -- What one more delta needs.
 use Rattle.std.proofs.Common.{arith}
 use Rattle.homeo_linear.specs.inner.Standing.{forms_of}
-use Rattle.homeo_linear.proofs.Needing.{none_needed, needed_end, needed_place}
+use Rattle.homeo_linear.proofs.Needing.{needed_end, needed_place}
 use Rattle.homeo_linear.proofs.following.written_needs.Goals as goal
 
 pub loop-place-init : goal.loop-place-init
 loop-place-init c = record {
   within = omega arith;
-  order = none_needed c.new-needed.result.items c.new-needed.ensures.items;
   needed = needed_end c.args.site (forms_of c.args.standing.now) c.args.written.now c.new-needed.result.items c.new-needed.ensures.items;
 }
 
 pub loop-place-preserved : goal.loop-place-preserved
-loop-place-preserved c =
-    let s =
-    needed_place c.args.site (forms_of c.args.standing.now) c.args.written.now c.loop-place.needed.items c.add_deltas.new.deltas.items _ _ c.loop-place.place _ _ _
-    c.loop-place-test.true c.loop-place.invariant.within c.place_of_delta.ensures c.in_ok-form.ensures c.in_ok-deltas.ensures c.as_slice.ensures.value
-    c.in_ok-add_deltas.ensures c.loop-place.invariant.order c.loop-place.invariant.needed in
-    record { within = omega (arith, c.loop-place.invariant.within); order = s.0; needed = s.1 }
+loop-place-preserved c = record {
+  within = omega (arith, c.loop-place.invariant.within);
+  needed = needed_place c.args.site (forms_of c.args.standing.now) c.args.written.now c.loop-place.needed.items c.extend_from_slice.new.self.items _ _ c.loop-place.place
+      _ _ _ c.loop-place-test.true c.loop-place.invariant.within c.place_of_delta.ensures c.in_ok-form.ensures c.in_ok-deltas.ensures c.as_slice.ensures.value
+      c.in_ok-extend_from_slice.ensures.items c.loop-place.invariant.needed;
+}

@@ -1,10 +1,12 @@
 -- The term at the place has the sum, or is taken out.
 use Rattle.std.proofs.Common.{◌∙◌}
+use Rattle.homeo_linear.specs.inner.Terms.{sum_limit}
 use Rattle.homeo_linear.proofs.Adding.{small_at, sum_counts, sum_is_none}
 use Rattle.homeo_linear.proofs.terms.add_factor.Goals as goal
 
 pub plus-sum-requires-clause-small : goal.plus-sum-requires-clause-small
-plus-sum-requires-clause-small c = small_at c.args.terms.now.items c.args.place c.index.result.now c.requires.within c.index.ensures c.requires.small
+plus-sum-requires-clause-small c =
+    small_at sum_limit c.args.terms.now.items c.args.place c.index.result.now c.requires.within c.index.ensures c.requires.small
 
 pub returns-then-counts : goal.returns-then-counts
 returns-then-counts c =

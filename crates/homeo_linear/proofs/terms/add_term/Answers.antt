@@ -1,14 +1,10 @@
 -- A term is added to that of its delta, or put at its place, or it doesn't count.
-use Rattle.homeo_linear.proofs.Adding.{begins_within, begins_small, place_within, term_summed, term_inserted, term_none}
+use Rattle.homeo_linear.proofs.Adding.{begins_within, place_within, term_summed, term_inserted, term_none}
 use Rattle.homeo_linear.proofs.terms.add_term.Goals as goal
 
 pub add_factor-requires-clause-within : goal.add_factor-requires-clause-within
 add_factor-requires-clause-within c =
     begins_within c.args.term.now.delta c.args.terms.now.items _ c.place-place.result c.as_slice-2.ensures.value c.if-stands_at.ensures
-
-pub add_factor-requires-clause-small : goal.add_factor-requires-clause-small
-add_factor-requires-clause-small c =
-    begins_small c.args.term.now.delta c.args.terms.now.items _ c.place-place.result c.as_slice-2.ensures.value c.requires.small c.if-stands_at.ensures
 
 pub returns-then-stands_at : goal.returns-then-stands_at
 returns-then-stands_at c =

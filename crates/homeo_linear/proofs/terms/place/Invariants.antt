@@ -1,19 +1,14 @@
--- Those below stand before the delta, and from the place above on none does.
-use Rattle.std.proofs.Common.{◌≡◌, ◌-◌, ◌<◌, ◌≤◌, true, length, take, drop}
-use Rattle.homeo_plan.specs.Each.{Each}
-use Rattle.homeo_plan.specs.Linear.{delta_before, deltas_of}
+-- From the place on none stands before the delta.
+use Rattle.std.proofs.Common.{◌≤◌, length, drop}
+use Rattle.homeo_plan.specs.Linear.{deltas_of}
 use Rattle.homeo_linear.specs.inner.Order.{BeginsBehind}
 use Rattle.homeo_linear.proofs.terms.place.Given as goal
 
-abbrev pub invariant-loop-low : goal.invariant-loop-low
-invariant-loop-low l = record {
-  ordered : l.low ≤ l.high;
-  within : l.high ≤ length l.terms;
-  from : l.low ≤ l.middle;
-  to : l.low < l.high → l.middle < l.high;
-  before : Each (λ e. delta_before e l.delta ≡ true) (take l.low (deltas_of l.terms));
-  behind : BeginsBehind l.delta (drop l.high (deltas_of l.terms));
+abbrev pub invariant-loop-place : goal.invariant-loop-place
+invariant-loop-place l = record {
+  within : l.place ≤ length l.terms;
+  behind : BeginsBehind l.delta (drop l.place (deltas_of l.terms));
 }
 
-abbrev pub decreases-loop-low : goal.decreases-loop-low
-decreases-loop-low l = l.high - l.low
+abbrev pub decreases-loop-place : goal.decreases-loop-place
+decreases-loop-place l = l.place

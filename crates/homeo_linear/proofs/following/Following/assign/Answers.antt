@@ -10,5 +10,5 @@ returns c =
     on_ok_weaker c.set.result
     (λ h. assigned c.args.self.now
     (record { site = c.args.self.now.site; standing = c.set.new.self; written = c.args.self.now.written; prints = c.args.self.now.prints })
-    (plain_lexpr c.args.value.now) c.in_ok-form.form c.in_ok-form.ensures refl c.requires.order c.args.target _ c.place_of_temp.ensures refl refl h)
+    (plain_lexpr c.args.value.now) c.in_ok-form.form c.in_ok-form.ensures refl c.args.target _ c.place_of_temp.ensures refl refl h)
     c.set.ensures

@@ -8,16 +8,16 @@ use Rattle.homeo_linear.specs.inner.Standing.{forms_of}
 use Rattle.homeo_linear.proofs.Needing.{assign_can, write_can, print_can, no_skip, no_seq, no_if}
 use Rattle.homeo_linear.proofs.following.Following.follow.Goals as goal
 
-pub assign-requires-clause-small : goal.assign-requires-clause-small
-assign-requires-clause-small c =
+pub assign-requires : goal.assign-requires
+assign-requires c =
     assign_can (forms_of c.args.self.now.standing) c.args.command.now c.in-Assign.target c.in-Assign.value c.in-Assign.is c.requires.small
 
-pub write-requires-clause-small : goal.write-requires-clause-small
-write-requires-clause-small c =
+pub write-requires : goal.write-requires
+write-requires c =
     write_can (forms_of c.args.self.now.standing) c.args.command.now c.in-Write.target c.in-Write.value c.in-Write.is c.requires.small
 
-pub print-requires-clause-small : goal.print-requires-clause-small
-print-requires-clause-small c =
+pub print-requires : goal.print-requires
+print-requires c =
     print_can (forms_of c.args.self.now.standing) c.args.command.now c.in-Print.value c.in-Print.is c.requires.small
 
 pub returns-in-Assign : goal.returns-in-Assign

@@ -19,7 +19,7 @@ loop-command-preserved c =
     command_step c.loop-command.self c.args.commands.now c.loop-command.command-index c.command-item.result c.loop-command-test.true c.command-item.is
     c.loop-command.invariant.straight c.loop-command.invariant.small in
     let d = c.in_ok-follow.ensures in
-    record { straight = k.left; small = k.can c.follow.new.self d; order = d.order; needs = k.needs c.follow.new.self d ∙ c.loop-command.invariant.needs }
+    record { straight = k.left; small = k.can c.follow.new.self d; needs = k.needs c.follow.new.self d ∙ c.loop-command.invariant.needs }
 
 pub returns : goal.returns
 returns c =

@@ -6,7 +6,6 @@ use Rattle.homeo_plan.specs.FormSizes.{CanFollow}
 use Rattle.homeo_plan.specs.Needs.{IsStraight}
 use Rattle.homeo_plan.specs.Limit.{form_limit}
 use Rattle.homeo_linear.specs.inner.Following.{needs_of}
-use Rattle.homeo_linear.specs.inner.Order.{InOrder}
 use Rattle.homeo_linear.specs.inner.Standing.{forms_of}
 use Rattle.homeo_linear.proofs.following.Following.follow_all.Given as goal
 
@@ -16,6 +15,5 @@ invariant-loop-command l =
     record {
       straight : IsStraight rest;
       small : CanFollow (IsSmall form_limit) (forms_of l.self.standing) rest;
-      order : InOrder l.self.written.items;
       needs : needs_of l.self rest ≡ needs_of l.initial.self (low_commands (map plain_lcommand l.commands));
     }

@@ -1,14 +1,13 @@
 -- What the prints that are left put into what is needed so far.
-use Rattle.std.proofs.Common.{◌≡◌, map, length}
+use Rattle.std.proofs.Common.{◌≡◌, [], map, length}
 use Rattle.homeo_linear.specs.inner.Following.{adds}
-use Rattle.homeo_linear.specs.inner.Order.{InOrder}
+use Rattle.homeo_plan.specs.Linear.{add_deltas}
 use Rattle.homeo_linear.proofs.following.Following.needs.Given as goal
 
 abbrev pub invariant-loop-deltas : goal.invariant-loop-deltas
-invariant-loop-deltas l = record {
-  order : InOrder l.needed.items;
-  left : adds (map (λ p. p.items) l.prints.items) l.needed.items ≡ adds (map (λ p. p.items) l.initial.prints.items) l.initial.needed.items;
-}
+invariant-loop-deltas l =
+    adds (map (λ p. p.items) l.prints.items) (add_deltas l.needed.items [])
+    ≡ adds (map (λ p. p.items) l.initial.prints.items) (add_deltas l.initial.needed.items [])
 
 abbrev pub decreases-loop-deltas : goal.decreases-loop-deltas
 decreases-loop-deltas l = length l.prints.items

@@ -1,11 +1,8 @@
 -- Nothing is written or printed.
 use Rattle.homeo_meaning.specs.Serial.{values_of}
 use Rattle.std.proofs.Common.{refl}
-use Rattle.homeo_linear.proofs.Needing.{none_needed, first_needs}
+use Rattle.homeo_linear.proofs.Needing.{first_needs}
 use Rattle.homeo_linear.proofs.following.Following.new.Goals as goal
-
-pub returns-clause-order : goal.returns-clause-order
-returns-clause-order c = none_needed c.new-2.result.items c.new-2.ensures.items
 
 pub returns-clause-needs : goal.returns-clause-needs
 returns-clause-needs c =

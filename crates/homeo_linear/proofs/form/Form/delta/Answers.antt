@@ -4,7 +4,7 @@ use Rattle.homeo_linear.proofs.form.Form.delta.Goals as goal
 
 pub invariant_of-result : goal.invariant_of-result
 invariant_of-result c =
-    one_in_order c.push.new.self.items c.new-terms.result.items _ c.new.result.items c.new-terms.ensures.items c.in_ok-push.ensures.items
+    one_in_order c.args.delta c.push.new.self.items c.new-terms.result.items c.new.result.items c.new-terms.ensures.items c.in_ok-push.ensures.items
     c.new.ensures.items
 
 pub returns : goal.returns

@@ -1,13 +1,17 @@
 -- The mixed deltas, and those of the terms.
-use Rattle.homeo_linear.proofs.FormParts.{support_is, support_in_order}
+use Rattle.std.proofs.Common.{◌∙◌, subst, sym}
+use Rattle.std.proofs.lemmas.Result.{IfOk-weaker}
+use Rattle.homeo_linear.specs.inner.Order.{InOrder}
+use Rattle.homeo_linear.proofs.FormParts.{put_into, support_is, support_in_order}
 use Rattle.homeo_linear.proofs.form.Form.support.Goals as goal
 
 pub returns-clause-value : goal.returns-clause-value
 returns-clause-value c =
-    support_is c.args.self.now _ c.self.inside.terms.items _ c.self.inside.mixed.items _ _ _ c.self.view_is c.in_ok-add_deltas_of.ensures
-    c.as_slice-2.ensures.value c.in_ok-deltas.ensures.items c.as_slice.ensures.value
+    let from = c.in_ok-deltas.ensures.items ∙ c.as_slice.ensures.value in
+    IfOk-weaker c.joined.result _ _
+    (λ v h. support_is c.args.self.now _ c.self.inside.terms.items _ c.self.inside.mixed.items _ _ v.items c.self.view_is
+    (put_into c.in_ok-deltas.deltas.items _ v.items _ h c.in_ok-push_deltas_of.ensures (subst InOrder (sym from) c.self.invariant.1))
+    c.as_slice-2.ensures.value c.in_ok-deltas.ensures.items c.as_slice.ensures.value) c.joined.ensures
 
 pub returns-clause-order : goal.returns-clause-order
-returns-clause-order c =
-    support_in_order _ c.self.inside.mixed.items _ _ _ c.in_ok-add_deltas_of.ensures c.in_ok-deltas.ensures.items c.as_slice.ensures.value
-    c.self.invariant.1
+returns-clause-order c = IfOk-weaker c.joined.result _ _ (λ v h. support_in_order _ v.items h) c.joined.ensures

@@ -10,9 +10,9 @@ use Rattle.homeo_linear.specs.inner.Standing.{forms_of}
 use Rattle.homeo_linear.proofs.Stands.{stands-set, stands-unset}
 use Rattle.homeo_linear.proofs.standing.Standing.add_at.Goals as goal
 
-pub plus-requires-clause-other_small : goal.plus-requires-clause-other_small
+pub plus-requires-clause-form_small : goal.plus-requires-clause-form_small
 unfolding forms_of
-plus-requires-clause-other_small c =
+plus-requires-clause-form_small c =
     subst (Numbers (IsSmall form_limit)) (sym (stands-set (base_forms (values_of c.args.self.now.base.now)) c.args.self.now.set c.args.place c.in-Some.form.now c.in-Some.ensures.value))
     c.requires.place_small
 

@@ -20,9 +20,9 @@ times-requires-clause-small c =
     subst (Numbers (IsSmall form_limit)) (sym (stands-set (base_forms (values_of c.args.self.now.base.now)) c.args.self.now.set c.args.place c.in-Some.form.now c.in-Some.ensures.value))
     c.requires.place_small
 
-pub plus-requires-clause-other_small : goal.plus-requires-clause-other_small
+pub plus-requires-clause-form_small : goal.plus-requires-clause-form_small
 unfolding forms_of
-plus-requires-clause-other_small c =
+plus-requires-clause-form_small c =
     subst (Numbers (IsSmall form_limit)) (sym (c.in_ok-negated-in-Some.ensures ∙ ap (scale_form (negsuc 0))
     (stands-set (base_forms (values_of c.args.self.now.base.now)) c.args.self.now.set c.args.place c.in-Some.form.now c.in-Some.ensures.value)))
     c.requires.negated_small
