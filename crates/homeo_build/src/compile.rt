@@ -33,7 +33,7 @@ pub fn compile(alloc: Global, w: Accepted) -> Result<Compiled, Memory>
     let declared = Declarations::of(alloc, &w)?;
     let calls = Grounding::of(alloc, &w)?;
     let commands = transform_calls(alloc, &w, &declared, sites, calls.calls())?;
-    Ok(Compiled::new(w, calls, commands))
+    Ok(Compiled::new(w, declared, calls, commands))
 }
 
 /// The delta transform of the L form of each ground call.

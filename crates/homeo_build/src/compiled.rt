@@ -4,20 +4,24 @@ ghost use Rattle.std.specs.Prelude.{◌≡◌, ◌<◌, length, map, slice_get};
 ghost use Rattle.homeo_syntax.specs.LowView.{plain_lcommand};
 ghost use Rattle.homeo_syntax.specs.SourceView.{plain_workload};
 ghost use Rattle.homeo_meaning.specs.Calls.{CallExists};
+ghost use Rattle.homeo_meaning.specs.Declarations.{declarations};
 ghost use Rattle.homeo_meaning.specs.Ground.{plain_ground, grounds, ground_of};
 ghost use Rattle.homeo_ground.specs.Grounding.{grounding};
 ghost use Rattle.homeo_plan.specs.Planned.{transformed};
 
+use homeo_context::Declarations;
 use homeo_ground::Grounding;
 use homeo_meaning::{Accepted, CallId, GroundCall};
 use homeo_syntax::{LCommand, List};
 use std::marker::Model;
 
-/// An accepted workload with what is fixed for all its rounds: its distinct ground calls, each where it is first called, in
-/// the order of the text; which of them each call is; and the delta transform of the L form of each, at the call's site.
+/// An accepted workload with what is fixed for all its rounds: the places of its names; its distinct ground calls, each where it
+/// is first called, in the order of the text; which of them each call is; and the delta transform of the L form of each, at the
+/// call's site.
 #[derive(Drop)]
 pub struct Compiled {
     workload: Accepted,
+    declared: Declarations,
     calls: Grounding,
     commands: List<LCommand>,
 }
@@ -28,6 +32,7 @@ impl Model for Compiled {
     ghost use Rattle.homeo_syntax.specs.contracts.workload.Workload.{the_row};
     ghost use Rattle.homeo_syntax.specs.LowView.{plain_lcommand};
     ghost use Rattle.homeo_syntax.specs.SourceView.{plain_workload};
+    ghost use Rattle.homeo_meaning.specs.Declarations.{declarations};
     ghost use Rattle.homeo_ground.specs.Grounding.{grounding};
     ghost use Rattle.homeo_plan.specs.Planned.{transformed};
 
@@ -38,18 +43,26 @@ impl Model for Compiled {
     ghost view = { λ c. c.workload };
 
     ghost invariant = { λ c. (c.calls ≡ grounding (plain_workload c.workload))
-        × (map plain_lcommand c.commands.items ≡ transformed (plain_workload c.workload)) };
+        × (map plain_lcommand c.commands.items ≡ transformed (plain_workload c.workload))
+        × (c.declared ≡ declarations (plain_workload c.workload)) };
 }
 
 impl Compiled {
-    /// Takes a workload with its ground calls and their transformed commands. It takes no memory.
-    pub fn new(workload: Accepted, calls: Grounding, commands: List<LCommand>) -> Compiled
+    /// Takes a workload with the places of its names, its ground calls and their transformed commands. It takes no memory.
+    pub fn new(
+        workload: Accepted,
+        declared: Declarations,
+        calls: Grounding,
+        commands: List<LCommand>,
+    ) -> Compiled
+        requires declared { declared ≡ declarations (plain_workload workload) }
         requires calls { calls ≡ grounding (plain_workload workload) }
         requires commands { map plain_lcommand commands.items ≡ transformed (plain_workload workload) }
         ensures { plain_workload result ≡ plain_workload workload }
     {
         Compiled {
             workload,
+            declared,
             calls,
             commands,
         }
@@ -60,6 +73,13 @@ impl Compiled {
         ensures { result.now ≡ self.now }
     {
         &self.workload
+    }
+
+    /// Lends the places of the workload's names.
+    pub fn declared(&self) -> &Declarations
+        ensures { result.now ≡ declarations (plain_workload self.now) }
+    {
+        &self.declared
     }
 
     /// Lends the ground calls.

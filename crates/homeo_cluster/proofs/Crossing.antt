@@ -17,6 +17,7 @@ use Rattle.homeo_syntax.proofs.low.LTest.TheLaws.TheKnot as low_test
 use Rattle.homeo_syntax.proofs.phrase.Expr.TheLaws.TheKnot as phrase
 use Rattle.homeo_meaning.specs.contracts.accepted.Accepted as Accepted
 use Rattle.homeo_plan.specs.contracts.round.RoundPlan as RoundPlan
+use Rattle.homeo_context.specs.contracts.declarations.Declarations as Declarations
 use Rattle.homeo_ground.specs.contracts.grounding.Grounding as Grounding
 use Rattle.homeo_build.specs.contracts.compiled.Compiled as Compiled
 use Rattle.homeo_history.specs.contracts.history.Round as Round
@@ -41,6 +42,12 @@ Accepted-send = search (std.crosses, phrase.crosses, command.crosses, list.the_s
 Accepted-sync : IsSync Accepted.the_row
 Accepted-sync = search (std.crosses, phrase.crosses, command.crosses, list.the_sync, sendable) depth 60 fits 20000
 
+Declarations-send : IsSend Declarations.the_row
+Declarations-send = search (std.crosses, list.the_send, sendable) depth 60
+
+Declarations-sync : IsSync Declarations.the_row
+Declarations-sync = search (std.crosses, list.the_sync, sendable) depth 60
+
 Grounding-send : IsSend Grounding.the_row
 Grounding-send = search (std.crosses, list.the_send, sendable) depth 60
 
@@ -49,12 +56,12 @@ Grounding-sync = search (std.crosses, list.the_sync, sendable) depth 60
 
 Compiled-send : IsSend Compiled.the_row
 Compiled-send =
-    let a = Accepted-send in let b = Grounding-send in
+    let a = Accepted-send in let b = Grounding-send in let d = Declarations-send in
     search (std.crosses, low_expression.crosses, low_test.crosses, low_command.crosses, list.the_send, sendable) depth 60 fits 20000
 
 Compiled-sync : IsSync Compiled.the_row
 Compiled-sync =
-    let a = Accepted-sync in let b = Grounding-sync in
+    let a = Accepted-sync in let b = Grounding-sync in let d = Declarations-sync in
     search (std.crosses, low_expression.crosses, low_test.crosses, low_command.crosses, list.the_sync, sendable) depth 60 fits 20000
 
 RoundPlan-send : IsSend RoundPlan.the_row

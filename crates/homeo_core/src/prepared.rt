@@ -20,7 +20,6 @@ use crate::clients::{site_count, site_of};
 use crate::gather::Gather;
 use homeo_build::Compiled;
 use homeo_build::treaties::treaties;
-use homeo_context::Declarations;
 use homeo_eval::eval_call;
 use homeo_history::{Answer, Closing, Entry, Path, Round, Segment};
 use homeo_meaning::{Accepted, CallId, Database};
@@ -108,7 +107,7 @@ impl Gather {
             added: _,
         } = self;
         let mut next = List::from_vec(sum);
-        let prints = run_call(alloc, c.workload(), call, &mut next)?;
+        let prints = run_call(alloc, c, call, &mut next)?;
         let plan = plan_at(alloc, c, &next)?;
         let (closing, answer) = close_by(alloc, c.workload(), round, call, broken, prints)?;
         Ok(Prepared {
@@ -127,18 +126,17 @@ impl Gather {
 /// Runs a call's program on a database, which becomes what the call leaves.
 fn run_call(
     alloc: Global,
-    w: &Accepted,
+    c: &Compiled,
     call: CallId,
     database: &mut Database,
 ) -> Result<Prints, Memory>
-    requires exists { CallExists (plain_workload w.now) call }
-    requires within { IsWithin (schema_of (plain_workload w.now)) database.old.items }
-    ensures prints { IfOk result (λ p. p.items ≡ (call_outcome (plain_workload w.now) call database.old.items).prints) }
-    ensures database { OnOk result (database.new.items ≡ (call_outcome (plain_workload w.now) call database.old.items).database) }
-    ensures within { IsWithin (schema_of (plain_workload w.now)) database.new.items }
+    requires exists { CallExists (plain_workload c.now) call }
+    requires within { IsWithin (schema_of (plain_workload c.now)) database.old.items }
+    ensures prints { IfOk result (λ p. p.items ≡ (call_outcome (plain_workload c.now) call database.old.items).prints) }
+    ensures database { OnOk result (database.new.items ≡ (call_outcome (plain_workload c.now) call database.old.items).database) }
+    ensures within { IsWithin (schema_of (plain_workload c.now)) database.new.items }
 {
-    let declared = Declarations::of(alloc, w)?;
-    eval_call(alloc, w, &declared, call, database)
+    eval_call(alloc, c.workload(), c.declared(), call, database)
 }
 
 /// The plan of the round that begins at a base, which is within the workload's bounds.

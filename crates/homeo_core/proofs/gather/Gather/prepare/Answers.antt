@@ -23,7 +23,7 @@ invariant_of-result-3 c =
     let next : c.next.inside.items.items ≡ c.run_call.new.database.items = ap (λ (l : Listed ℤ). l.items) c.next.view_is in
     let placed : AreStarts w c.self.inside.round c.next.inside.items.items c.in_ok-starts_after.field-0.items = subst (λ (b : List ℤ). AreStarts w c.self.inside.round b c.in_ok-starts_after.field-0.items) (plan.base ∙ sym next) starts in
     let waiting : map waits c.in_ok-starts_after.field-0.items ≡ replicate (sites_of (plain_workload w)) true = c.in_ok-starts_after.ensures.waiting in
-    let here : c.workload-3.result.now ≡ w = c.workload-3.ensures ∙ c.deref-4.ensures in
+    let here : c.workload-2.result.now ≡ w = c.workload-2.ensures ∙ c.deref-4.ensures in
     let segments : map plain_segment c.in_ok-empty_segments.field-0.items ≡ replicate (sites_of (plain_workload w)) [] = c.in_ok-empty_segments.ensures ∙ ap (λ v. replicate (sites_of (plain_workload v)) []) here in (
       c.in_ok-closing.ensures.answer,
       subst (λ (v : Workload). AreStarts v c.self.inside.round c.next.inside.items.items c.in_ok-starts_after.field-0.items) (sym work) placed,
@@ -36,11 +36,11 @@ returns c =
     let w = c.args.c.now.value in
     let call = c.args.call in
     let work : c.in_ok-try_clone.field-0.value ≡ w = c.in_ok-try_clone.ensures in
-    let first : c.workload.result.now ≡ w = c.workload.ensures ∙ c.deref.ensures in
-    let second : c.workload-2.result.now ≡ w = c.workload-2.ensures ∙ c.deref-3.ensures in
-    let third : c.workload-3.result.now ≡ w = c.workload-3.ensures ∙ c.deref-4.ensures in
+    let first : c.deref.result.now ≡ w = c.deref.ensures in
+    let second : c.workload.result.now ≡ w = c.workload.ensures ∙ c.deref-3.ensures in
+    let third : c.workload-2.result.now ≡ w = c.workload-2.ensures ∙ c.deref-4.ensures in
     let sum : c.from_vec-next.result.items ≡ c.args.self.sum = ap (λ (l : Listed ℤ). l.items) c.from_vec-next.ensures ∙ ap (λ (g : GatherValue). g.sum) c.self.view_is in
-    let outcome : call_outcome (plain_workload c.workload.result.now) call c.from_vec-next.result.items ≡ call_outcome (plain_workload w) call c.args.self.sum = (λ i. call_outcome (plain_workload (first i)) call (sum i)) in
+    let outcome : call_outcome (plain_workload c.deref.result.now) call c.from_vec-next.result.items ≡ call_outcome (plain_workload w) call c.args.self.sum = (λ i. call_outcome (plain_workload (first i)) call (sum i)) in
     let prints : c.in_ok-prints.prints.items ≡ (call_outcome (plain_workload w) call c.args.self.sum).prints = c.in_ok-prints.ensures.prints ∙ ap (λ (o : Outcome). o.prints) outcome in
     let database : c.run_call.new.database.items ≡ (call_outcome (plain_workload w) call c.args.self.sum).database = c.in_ok-prints.ensures.database ∙ ap (λ (o : Outcome). o.database) outcome in
     let next : c.next.inside.items.items ≡ (call_outcome (plain_workload w) call c.args.self.sum).database = ap (λ (l : Listed ℤ). l.items) c.next.view_is ∙ database in

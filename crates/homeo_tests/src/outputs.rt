@@ -1,0 +1,72 @@
+//! Outputs of commands on small texts, beside those that `faults` compares.
+
+use crate::runs::{check, plain};
+use homeo::Status;
+use std::test::Fail;
+
+#[test]
+fn calls_are_reported_with_their_rounds(rt: HostRuntime) -> Result<(), Fail> {
+    for (text, report) in [
+        // nothing is declared
+        (
+            "workload 1\nsites 1\nend\n",
+            "round 0\nsite 0\ndatabase\nrounds 1 calls 0\n",
+        ),
+        // a round is closed, and the next call finds the base that this leaves
+        (
+            "workload 1\nsites 2\nobject stock in 0..10 = 1\ntransaction buy(n in 1..3) { s := read(stock); if n <= s then { write(stock = s - n); print(1) } else print(0) }\nclient a at 0 { buy(1) }\nclient b at 1 { buy(1) }\nschedule a b\nend\n",
+            "round 0\nsite 0\nsite 1\nclose 0 clause 0 sum 1 bound 0\na 1 buy(1): 1\nround 1\nsite 0\nsite 1\nb 1 buy(1): 0\ndatabase\nstock = 0\nrounds 2 calls 2\n",
+        ),
+        // what a site prints of an object is frozen at the other sites
+        (
+            "workload 1\nsites 2\nobject x in 0..10 = 5\ntransaction show() { print(read(x)) }\ntransaction raise() { write(x = read(x) + 1) }\nclient a at 0 { show() }\nclient b at 1 { raise(); raise() }\nschedule b a b\nend\n",
+            "round 0\nsite 0\nsite 1\nclose 1 clause 2 sum 1 bound 0\nb 1 raise():\nround 1\nsite 0\na 1 show(): 6\nsite 1\nclose 1 clause 2 sum 1 bound 0\nb 2 raise():\nround 2\nsite 0\nsite 1\ndatabase\nx = 7\nrounds 3 calls 3\n",
+        ),
+        // each call takes the next row of a relation, until none is free
+        (
+            "workload 1\nsites 1\nrelation R[4] (f in 0..9)\ntransaction p() { print(R[4].f); R[4].f := 3; insert R (f = 7) into s; print(s) }\nclient a at 0 { p(); p(); p(); p(); p() }\nschedule a a a a a\nend\n",
+            "round 0\nsite 0\nclose 0 clause 0 sum 1 bound 0\na 1 p(): 0 1\nround 1\nsite 0\nclose 0 clause 1 sum 1 bound 0\na 2 p(): 0 2\nround 2\nsite 0\nclose 0 clause 2 sum 1 bound 0\na 3 p(): 0 3\nround 3\nsite 0\nclose 0 clause 3 sum 1 bound 0\na 4 p(): 0 4\nround 4\nsite 0\na 5 p(): 0 0\ndatabase\nR.0.used = 1\nR.0.f = 7\nR.1.used = 1\nR.1.f = 7\nR.2.used = 1\nR.2.f = 7\nR.3.used = 1\nR.3.f = 7\nrounds 5 calls 5\n",
+        ),
+    ] {
+        let given = plain(&["steps"], text);
+        check(&rt, rt.alloc(), given, Status::Done, report, "")?;
+    }
+    Ok(())
+}
+
+#[test]
+fn no_call_has_one_joint_row(rt: HostRuntime) -> Result<(), Fail> {
+    let given = plain(&["tables"], "workload 1\nsites 1\nend\n");
+    let joint = "joint 1\npick\n";
+    check(&rt, rt.alloc(), given, Status::Done, joint, "")
+}
+
+#[test]
+fn treaties_are_written(rt: HostRuntime) -> Result<(), Fail> {
+    for (text, treaties) in [
+        // slacks that two sites can't share evenly
+        (
+            "workload 1\nsites 2\nobject stock in 0..10 = 8\ntransaction buy(n in 1..3) { s := read(stock); if n <= s then { write(stock = s - n); print(1) } else print(0) }\nclient a at 0 { buy(1); buy(1); buy(1) }\nclient b at 1 { buy(1) }\nschedule a a b a\nend\n",
+            "clauses 2\n0 slack 7 bounds 3 4 form -1*stock@0 -1*stock@1\n1 slack 3 bounds 1 2 form 1*stock@0 1*stock@1\nfreezes 0\n",
+        ),
+        // what a write of a constant needs
+        (
+            "workload 1\nsites 2\nobject stock in 0..10 = 1\ntransaction fill() { if read(stock) < 2 then write(stock = 9) else skip }\nclient a at 0 { fill() }\nclient b at 1 { fill() }\nschedule a b\nend\n",
+            "clauses 1\n0 slack 0 bounds 0 0 form 1*stock@0 1*stock@1\nfreezes 2\n1 stock@0\n2 stock@1\n",
+        ),
+        // a product of two objects
+        (
+            "workload 1\nsites 2\nobject x in 0..10 = 4\nobject y in 0..10 = 5\ntransaction look() { if read(x) * read(y) <= 20 then print(1) else print(0) }\nclient a at 0 { look() }\nend\n",
+            "clauses 0\nfreezes 4\n0 x@0\n1 x@1\n2 y@0\n3 y@1\n",
+        ),
+        // a condition of which each test is false
+        (
+            "workload 1\nsites 2\nobject x in 0..10 = 5\nobject y in 0..10 = 7\ntransaction t() { if not (read(x) <= 2 and read(y) <= 2) then print(1) else print(0) }\nclient a at 0 { t() }\nend\n",
+            "clauses 1\n0 slack 2 bounds 1 1 form -1*x@0 -1*x@1\nfreezes 0\n",
+        ),
+    ] {
+        let given = plain(&["treaty"], text);
+        check(&rt, rt.alloc(), given, Status::Done, treaties, "")?;
+    }
+    Ok(())
+}

@@ -1,0 +1,122 @@
+//! Texts and words that are refused, and those next to them that aren't.
+
+use crate::runs::{Given, check, plain, run_to_end};
+use crate::texts::{
+    NOTHING_BEHIND_THE_HEAD, STOCK, STOCK_REPORT, called, in_parentheses, push_times,
+};
+use homeo::Status;
+use std::test::Fail;
+
+#[test]
+fn other_words_are_no_command(rt: HostRuntime) -> Result<(), Fail> {
+    let usage = "usage: homeo steps or run or tables or treaty or load NUMBER CALLS\n";
+    let lists: [&'static [&'static str]; 10] = [
+        &[],
+        &["step"],
+        &["steps", "x"],
+        &["steps", "tables"],
+        &["load"],
+        &["load", "1"],
+        &["load", "1", "0"],
+        &["load", "1", "20001"],
+        &["--help"],
+        &[""],
+    ];
+    for words in lists {
+        let given = plain(words, STOCK);
+        check(&rt, rt.alloc(), given, Status::Usage, "", usage)?;
+    }
+    Ok(())
+}
+
+#[test]
+fn a_faulty_text_is_refused(rt: HostRuntime) -> Result<(), Fail> {
+    for (text, complaint) in [
+        ("", "refused E4 at 0\n"),
+        (NOTHING_BEHIND_THE_HEAD, "refused E4 at 19\n"),
+        ("workload 2\nsites 1\nend\n", "refused E4 at 9\n"),
+        ("workload 1\n\0", "refused E1 at 11\n"),
+        ("workload 1\nsites 0\nend\n", "refused E13 at 17\n"),
+        ("workload 1\nsites 17\nend\n", "refused E13 at 17\n"),
+        (
+            "workload 1\nsites 1\nobject x in 0..9999999999999999999 = 0\nend\n",
+            "refused E3 at 34\n",
+        ),
+        (
+            "workload 1\nsites 1\nobject x in 0..1000000000001 = 0\nend\n",
+            "refused E9 at 34\n",
+        ),
+        (
+            "workload 1\nsites 1\nobject x in 5..4 = 5\nend\n",
+            "refused E9 at 31\n",
+        ),
+        (
+            "workload 1\nsites 1\nobject x in 0..3 = 4\nend\n",
+            "refused E9 at 38\n",
+        ),
+        (
+            "workload 1\nsites 1\ntransaction t() { print(x) }\nend\n",
+            "refused E6 at 43\n",
+        ),
+        (
+            "workload 1\nsites 1\ntransaction t() { skip }\nclient a at 0 { t() }\nend\n",
+            "refused E14 at 66\n",
+        ),
+    ] {
+        let given = plain(&["steps"], text);
+        check(&rt, rt.alloc(), given, Status::Refused, "", complaint)?;
+    }
+    Ok(())
+}
+
+#[test]
+fn each_beginning_of_a_text_is_refused(rt: HostRuntime) -> Result<(), Fail> {
+    let alloc = rt.alloc();
+    for length in 0..244 {
+        let text = STOCK.get(0..length).ok_or("the text is as long")?;
+        let ended = run_to_end(&rt, alloc, plain(&["steps"], text))?;
+        assert_eq!(rt; ended.status, Status::Refused, "at {length}");
+        assert_eq!(rt; ended.output.as_slice(), b"".as_slice());
+        // the assignment's mark is cut in two
+        let complaint = if length == 77 {
+            "refused E3 at 76\n"
+        } else {
+            "refused E4 at "
+        };
+        assert!(rt;
+            ended.complaint.as_slice().starts_with(complaint.as_bytes()),
+            "at {length}"
+        );
+    }
+    let whole = STOCK.get(0..244).ok_or("the text is as long")?;
+    let given = plain(&["steps"], whole);
+    check(&rt, alloc, given, Status::Done, STOCK_REPORT, "")
+}
+
+#[test]
+fn a_text_past_a_limit_is_refused(rt: HostRuntime) -> Result<(), Fail> {
+    let alloc = rt.alloc();
+    let deep = in_parentheses(alloc, 30)?;
+    let nothing_ran = "round 0\nsite 0\ndatabase\nrounds 1 calls 0\n";
+    let given = plain(&["steps"], deep.as_str());
+    check(&rt, alloc, given, Status::Done, nothing_ran, "")?;
+    let mut spaces = String::new(alloc);
+    push_times(&mut spaces, " ", 1_048_577)?;
+    let deeper = in_parentheses(alloc, 31)?;
+    let calls = called(alloc, "skip", 0, 20_000)?;
+    let prints = called(alloc, "print(1)", 50, 19_999)?;
+    for (command, text, complaint) in [
+        ("steps", deeper.as_str(), "refused E4 at 73\n"),
+        ("steps", calls.as_str(), "refused E13 at 80060\n"),
+        ("run", prints.as_str(), "refused E11 at 78942\n"),
+        ("treaty", spaces.as_str(), "refused E2 at 1048576\n"),
+    ] {
+        let words = [command];
+        let given = Given {
+            piece: 65_536,
+            ..plain(&words, text)
+        };
+        check(&rt, alloc, given, Status::Refused, "", complaint)?;
+    }
+    Ok(())
+}

@@ -1,0 +1,56 @@
+//! Texts that several tests take, and how others are made.
+
+use std::alloc::Global;
+use std::test::Fail;
+
+pub(crate) const STOCK: &str =
+    "workload 1\nsites 2\nobject stock in 0..10 = 5\ntransaction buy(n in 1..3) { s := read(stock); if n <= s then { write(stock = s - n); print(1) } else print(0) }\nclient a at 0 { buy(1); buy(1); buy(1) }\nclient b at 1 { buy(1) }\nschedule a a b a\nend\n";
+
+/// The report of `STOCK` under `steps`: the third call from site 0 takes more than its share.
+pub(crate) const STOCK_REPORT: &str =
+    "round 0\nsite 0\na 1 buy(1): 1\na 2 buy(1): 1\nsite 1\nb 1 buy(1): 1\nclose 0 clause 0 sum 3 bound 2\na 3 buy(1): 1\nround 1\nsite 0\nsite 1\ndatabase\nstock = 1\nrounds 2 calls 4\n";
+
+pub(crate) const NOTHING_BEHIND_THE_HEAD: &str = "workload 1\nsites 1\n";
+
+/// Appends a piece so many times.
+pub(crate) fn push_times(text: &mut String, piece: &str, times: u64) -> Result<(), Fail> {
+    for _ in 0..times {
+        text.push_str(piece)?;
+    }
+    Ok(())
+}
+
+/// Appends a piece so many times and once, with semicolons between.
+pub(crate) fn push_list(text: &mut String, piece: &str, others: u64) -> Result<(), Fail> {
+    text.push_str(piece)?;
+    for _ in 0..others {
+        text.push_str(";")?;
+        text.push_str(piece)?;
+    }
+    Ok(())
+}
+
+/// A transaction that prints a number in so many parentheses.
+pub(crate) fn in_parentheses(alloc: Global, depth: u64) -> Result<String, Fail> {
+    let mut text = String::from_str(alloc, "workload 1\nsites 1\ntransaction t() { print(")?;
+    push_times(&mut text, "(", depth)?;
+    text.push_str("1")?;
+    push_times(&mut text, ")", depth)?;
+    text.push_str(") }\nend\n")?;
+    Ok(text)
+}
+
+/// A transaction of this command and others like it, and a client that calls it so many times and once.
+pub(crate) fn called(
+    alloc: Global,
+    command: &str,
+    other_commands: u64,
+    other_calls: u64,
+) -> Result<String, Fail> {
+    let mut text = String::from_str(alloc, "workload 1\nsites 1\ntransaction t() { ")?;
+    push_list(&mut text, command, other_commands)?;
+    text.push_str(" }\nclient a at 0 { ")?;
+    push_list(&mut text, "t()", other_calls)?;
+    text.push_str(" }\nend\n")?;
+    Ok(text)
+}
