@@ -13,8 +13,6 @@ use Rattle.homeo_effect.proofs.Pushing.{then_none}
 pub steps_are :
     (i : ℕ) (m : Numbering) (cs : List LCommand) (k : ℕ) → length cs ≤ k →
     stands_for i m (low_commands (map plain_lcommand (drop k cs))) ≡ numbered nothing_set 0 (low_commands (map plain_lcommand cs)) →
-    (given : List LCommand) → cs ≡ given → plain_steps i 0 m.steps.items ≡ numbered nothing_set 0 (low_commands (map plain_lcommand given))
+    plain_steps i 0 m.steps.items ≡ numbered nothing_set 0 (low_commands (map plain_lcommand cs))
 unfolding words
-steps_are i m cs k h same given e =
-    sym (then_none (plain_steps i 0 m.steps.items)) ∙ ap (stands_for i m) (sym (none_left cs k h)) ∙ same
-    ∙ ap (λ ds. numbered nothing_set 0 (low_commands (map plain_lcommand ds))) e
+steps_are i m cs k h same = sym (then_none (plain_steps i 0 m.steps.items)) ∙ ap (stands_for i m) (sym (none_left cs k h)) ∙ same

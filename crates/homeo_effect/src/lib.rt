@@ -18,4 +18,4 @@ mod values;
 
 pub use index::TreatyIndex;
 pub use program::{Program, Step};
-pub use site_effects::{SiteEffects, effects};
+pub use site_effects::{SiteEffects, commands_at_site, effects};

@@ -7,7 +7,7 @@ ghost use Rattle.homeo_plan.specs.Holding.{SameOwn};
 ghost use Rattle.homeo_plan.specs.Joined.{alone};
 ghost use Rattle.homeo_split.specs.CanExec.{limit, can_exec_all};
 ghost use Rattle.homeo_effect.specs.Counts.{assignment_count, print_count};
-ghost use Rattle.homeo_effect.specs.EffectsView.{plain_commands};
+ghost use Rattle.homeo_effect.specs.EffectsView.{plain_all};
 ghost use Rattle.homeo_effect.specs.OwnCommands.{are_own};
 ghost use Rattle.homeo_effect.specs.OwnState.{own_state};
 ghost use Rattle.homeo_effect.specs.Program.{plain_program, set_after_all, prints_of_all};
@@ -15,8 +15,7 @@ ghost use Rattle.homeo_effect.specs.Touched.{written};
 
 use crate::numbering::Numbering;
 use crate::program::Program;
-use crate::site_effects::SiteEffects;
-use homeo_syntax::Memory;
+use homeo_syntax::{LCommand, Memory};
 use std::alloc::Global;
 
 impl Program {
@@ -29,24 +28,24 @@ impl Program {
     /// # Errors
     ///
     /// `Memory` when out of memory.
-    pub fn of(alloc: Global, site: u32, effects: &SiteEffects) -> Result<Program, Memory>
-        requires own { are_own site (plain_commands effects.now) ≡ true }
-        requires few { length effects.now.commands.items < 2 ^ 32 }
+    pub fn of(alloc: Global, site: u32, commands: &[LCommand]) -> Result<Program, Memory>
+        requires own { are_own site (plain_all commands.now) ≡ true }
+        requires few { length commands.now < 2 ^ 32 }
         ensures site { IfOk result (λ p. p.site ≡ site) }
         ensures temporaries { IfOk result (λ p. p.temporaries ≡ set_after_all 0 p.steps.items) }
         ensures prints { IfOk result (λ p. p.prints ≡ prints_of_all p.steps.items) }
-        ensures assigned { IfOk result (λ p. p.temporaries ≡ assignment_count (plain_commands effects.now)) }
-        ensures printed { IfOk result (λ p. p.prints ≡ print_count (plain_commands effects.now)) }
-        ensures written { IfOk result (λ p. written (plain_program p) ≡ written (plain_commands effects.now)) }
+        ensures assigned { IfOk result (λ p. p.temporaries ≡ assignment_count (plain_all commands.now)) }
+        ensures printed { IfOk result (λ p. p.prints ≡ print_count (plain_all commands.now)) }
+        ensures written { IfOk result (λ p. written (plain_program p) ≡ written (plain_all commands.now)) }
         ensures means { IfOk result (λ p. (b : ℕ → ℤ) (deltas temporaries : List ℤ) → SameOwn site
             (exec_all (plain_program p) (own_state site deltas temporaries))
-            (exec_all (plain_commands effects.now) (alone b site (values_of deltas)))) }
+            (exec_all (plain_all commands.now) (alone b site (values_of deltas)))) }
         ensures can_run { IfOk result (λ p. (b : ℕ → ℤ) (deltas temporaries : List ℤ) →
-            can_exec_all limit (plain_commands effects.now) (alone b site (values_of deltas)) ≡ true →
+            can_exec_all limit (plain_all commands.now) (alone b site (values_of deltas)) ≡ true →
             can_exec_all limit (plain_program p) (own_state site deltas temporaries) ≡ true) }
     {
         let mut numbering = Numbering::new(alloc);
-        for command in effects.commands.as_slice() {
+        for command in commands {
             numbering.take(alloc, site, command)?;
         }
         Ok(Program {

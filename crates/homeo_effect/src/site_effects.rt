@@ -7,7 +7,7 @@ ghost use Rattle.homeo_plan.specs.Joined.{Deltas, alone};
 ghost use Rattle.homeo_plan.specs.Needs.{IsStraight};
 ghost use Rattle.homeo_plan.specs.PlanView.{plain_residual};
 ghost use Rattle.homeo_split.specs.CanExec.{limit, can_exec_all};
-ghost use Rattle.homeo_effect.specs.EffectsView.{plain_commands};
+ghost use Rattle.homeo_effect.specs.EffectsView.{plain_all, plain_commands};
 ghost use Rattle.homeo_effect.specs.Localized.{localized};
 ghost use Rattle.homeo_effect.specs.OwnCommands.{are_own};
 ghost use Rattle.homeo_effect.specs.Touched.{written, WritesOwn, touched_clauses, touched_freezes};
@@ -30,10 +30,45 @@ pub struct SiteEffects {
     pub freezes: List<u32>,
 }
 
-/// What a residual does at its own site on a base that stays (this project's rule). The commands are those of the residual
-/// in their order: each read of the base is replaced by its number, each read of another site's delta by 0, and, inner
-/// phrases first, a negation of a literal and a sum or product of literals alone by one literal. From the same deltas of
-/// the site, where all other deltas are 0, they do what the residual does.
+/// The commands that a residual is at its own site on a base that stays (this project's rule): those of the residual in their
+/// order, where each read of the base is replaced by its number, each read of another site's delta by 0, and, inner phrases
+/// first, a negation of a literal and a sum or product of literals alone by one literal. From the same deltas of the site,
+/// where all other deltas are 0, they do what the residual does.
+///
+/// The residual must have assignments, writes of its site's deltas and prints alone, and meet no number above 2 * 10^18 in
+/// size on the base.
+///
+/// # Errors
+///
+/// `Memory` when out of memory.
+pub fn commands_at_site(
+    alloc: Global,
+    residual: &Residual,
+    base: &Database,
+) -> Result<List<LCommand>, Memory>
+    requires straight { IsStraight (plain_residual residual.now) }
+    requires own { WritesOwn residual.now.site (plain_residual residual.now) }
+    requires small { can_exec_all limit (plain_residual residual.now) (whole (values_of base.now.items)) ≡ true }
+    ensures commands { IfOk result (λ cs. plain_all cs.items ≡
+        localized (values_of base.now.items) residual.now.site (plain_residual residual.now)) }
+    ensures count { IfOk result (λ cs. length cs.items ≡ length residual.now.commands.items) }
+    ensures means { IfOk result (λ cs. (x : Deltas) →
+        exec_all (plain_all cs.items) (alone (values_of base.now.items) residual.now.site x) ≡
+        exec_all (plain_residual residual.now) (alone (values_of base.now.items) residual.now.site x)) }
+    ensures can_run { IfOk result (λ cs. (x : Deltas) →
+        can_exec_all limit (plain_residual residual.now) (alone (values_of base.now.items) residual.now.site x) ≡ true →
+        can_exec_all limit (plain_all cs.items) (alone (values_of base.now.items) residual.now.site x) ≡ true) }
+    ensures own { IfOk result (λ cs. are_own residual.now.site (plain_all cs.items) ≡ true) }
+    ensures straight { IfOk result (λ cs. IsStraight (plain_all cs.items)) }
+    ensures written { IfOk result (λ cs. written (plain_all cs.items) ≡ written (plain_residual residual.now)) }
+{
+    let commands = residual.commands.as_slice();
+    let local = local_commands(alloc, base.as_slice(), residual.site, commands)?;
+    Ok(local)
+}
+
+/// What a residual does at its own site on a base that stays (this project's rule): the commands that it is there, and what of
+/// the site's treaty it touches.
 ///
 /// The residual must be of the treaty's site, have assignments, writes of this site's deltas and prints alone, and meet no
 /// number above 2 * 10^18 in size on the base.
@@ -68,8 +103,8 @@ pub fn effects(
     ensures straight { IfOk result (λ e. IsStraight (plain_commands e)) }
     ensures written { IfOk result (λ e. written (plain_commands e) ≡ written (plain_residual residual.now)) }
 {
+    let local = commands_at_site(alloc, residual, base)?;
     let commands = residual.commands.as_slice();
-    let local = local_commands(alloc, base.as_slice(), residual.site, commands)?;
     let clauses = index.clauses_touched(alloc, commands)?;
     let freezes = index.freezes_touched(alloc, commands)?;
     Ok(SiteEffects {

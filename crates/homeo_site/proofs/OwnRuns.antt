@@ -15,14 +15,14 @@ use Rattle.homeo_split.specs.CanExec.{limit, can_exec_all}
 use Rattle.homeo_effect.specs.Key.{words as effect_words}
 use Rattle.homeo_effect.specs.OwnState.{own_state}
 use Rattle.homeo_effect.specs.Program.{plain_program}
-use Rattle.homeo_effect.specs.Touched.{written, is_touched, is_among}
+use Rattle.homeo_effect.specs.Touched.{written, is_touched, is_among, touched_clauses, touched_freezes}
+use Rattle.homeo_effect.specs.declared.program.Program.{Program}
 use Rattle.homeo_history.specs.Key.{words as history_words}
 use Rattle.homeo_history.specs.Legal.{IsCallAt}
 use Rattle.homeo_site.specs.Key.{words}
 use Rattle.homeo_site.specs.SiteState.{SiteState, step_prints, step_values, step_deltas, step_finding}
-use Rattle.homeo_site.specs.declared.own_calls.OwnCall.{OwnCall}
 use Rattle.homeo_site.specs.inner.Failures.{first_of, first_failure, own_failure, own_freeze_failure}
-use Rattle.homeo_site.specs.inner.OwnCalls.{IsOwnCall}
+use Rattle.homeo_site.specs.inner.OwnPrograms.{RunsAs}
 use Rattle.homeo_site.specs.inner.OwnTreaty.{OwnClause, SumsFit, own_clauses}
 use Rattle.homeo_site.specs.Attempts.{step_commands}
 use Rattle.homeo_site.specs.inner.Ready.{IsReady}
@@ -68,50 +68,56 @@ deltas_are w x call at n =
     (λ i. (exec_all (base_row (sites_of w) (values_of x.base) (planned_at w call)).residual (alone (values_of x.base) i (values_of x.deltas))).state (DeltaAt n i))
     (sym (call_site w x.number call at))
 
+-- ---- the numbers of what is touched
+module _ (w : s.Workload) (x : SiteState) (call : CallId) (ns : List ℕ) where
+  abbrev treaty : Template
+  treaty = template_at w x.base
+
+  pub clause_numbers : ns ≡ touched_clauses (written (step_commands w x call)) treaty → All (λ n. n < length treaty.clauses) ns
+  unfolding effect_words
+  clause_numbers is =
+      subst (λ ms. All (λ n. n < length treaty.clauses) ms) (sym is)
+      (λ k d lt. let h = within_numbers (is_touched (written (step_commands w x call))) 0 treaty.clauses k d lt in omega (arith, h.1))
+
+  pub freeze_numbers :
+      ns ≡ touched_freezes (written (step_commands w x call)) treaty →
+      All (λ n. (length treaty.clauses ≤ n) × (n < length treaty.clauses + length treaty.freezes)) ns
+  unfolding effect_words
+  freeze_numbers is =
+      subst (λ ms. All (λ n. (length treaty.clauses ≤ n) × (n < length treaty.clauses + length treaty.freezes)) ms) (sym is)
+      (within_numbers (is_among (written (step_commands w x call))) (length treaty.clauses) treaty.freezes)
+
 -- ---- a run of what is kept
 module _
     (w : s.Workload) (x : SiteState) (accepted : IsAccepted w) (ready : IsReady w x) (call : CallId) (at : IsCallAt w x.number call)
-    (o : OwnCall)
-    (own : IsOwnCall (template_at w x.base) (values_of x.base) x.number (length x.base) (step_commands w x call) o)
+    (p : Program) (own : RunsAs (values_of x.base) x.number (length x.base) (step_commands w x call) p)
   where
     abbrev t : Template
     t = template_at w x.base
 
-    pub can_run : (kept : List ℤ) → can_exec_all limit (plain_program o.program) (own_state o.program.site x.deltas kept) ≡ true
+    pub can_run : (kept : List ℤ) → can_exec_all limit (plain_program p) (own_state p.site x.deltas kept) ≡ true
     unfolding words
     can_run kept =
-        subst (λ i. can_exec_all limit (plain_program o.program) (own_state i x.deltas kept) ≡ true) (sym own.program.site)
-        (own.program.small x.deltas kept (step_runs w x accepted ready call at))
-
-    pub clause_numbers : All (λ n. n < length t.clauses) o.clauses.items
-    unfolding effect_words
-    clause_numbers =
-        subst (λ ns. All (λ n. n < length t.clauses) ns) (sym own.clauses)
-        (λ k d lt. let h = within_numbers (is_touched (written (step_commands w x call))) 0 t.clauses k d lt in omega (arith, h.1))
-
-    pub freeze_numbers : All (λ n. (length t.clauses ≤ n) × (n < length t.clauses + length t.freezes)) o.freezes.items
-    unfolding effect_words
-    freeze_numbers =
-        subst (λ ns. All (λ n. (length t.clauses ≤ n) × (n < length t.clauses + length t.freezes)) ns) (sym own.freezes)
-        (within_numbers (is_among (written (step_commands w x call))) (length t.clauses) t.freezes)
+        subst (λ i. can_exec_all limit (plain_program p) (own_state i x.deltas kept) ≡ true) (sym own.site)
+        (own.small x.deltas kept (step_runs w x accepted ready call at))
 
     pub run_prints :
-        (kept : List ℤ) → (exec_all (plain_program o.program) (own_state o.program.site x.deltas kept)).prints ≡ step_prints w x call
+        (kept : List ℤ) → (exec_all (plain_program p) (own_state p.site x.deltas kept)).prints ≡ step_prints w x call
     run_prints kept =
-        ap (λ i. (exec_all (plain_program o.program) (own_state i x.deltas kept)).prints) own.program.site
-        ∙ own.program.same_prints x.deltas kept ∙ prints_are w x call at
+        ap (λ i. (exec_all (plain_program p) (own_state i x.deltas kept)).prints) own.site
+        ∙ own.same_prints x.deltas kept ∙ prints_are w x call at
 
     -- the deltas that a run leaves
     module _
         (kept new : List ℤ) (count : length new ≡ length x.deltas)
         (left : (n : ℕ) → values_of new n ≡
-        (exec_all (plain_program o.program) (own_state o.program.site x.deltas kept)).state (DeltaAt n o.program.site))
+        (exec_all (plain_program p) (own_state p.site x.deltas kept)).state (DeltaAt n p.site))
       where
         values_are : (n : ℕ) → values_of new n ≡ step_values w x call n
         values_are n =
             left n
-            ∙ ap (λ i. (exec_all (plain_program o.program) (own_state i x.deltas kept)).state (DeltaAt n i)) own.program.site
-            ∙ own.program.same_deltas x.deltas kept n ∙ deltas_are w x call at n
+            ∙ ap (λ i. (exec_all (plain_program p) (own_state i x.deltas kept)).state (DeltaAt n i)) own.site
+            ∙ own.same_deltas x.deltas kept n ∙ deltas_are w x call at n
 
         pub run_deltas : new ≡ step_deltas w x call
         unfolding words
@@ -126,14 +132,16 @@ module _
             (own_clauses_fit w x.base x.number (step_values w x call) accepted ready.within (after_within w x accepted ready call at) (policy w x.base))
 
         pub run_finding :
-            first_of (first_failure (own_failure (own_clauses x.number t.clauses (policy w x.base)) (values_of new)) o.clauses.items)
-            (first_failure (own_freeze_failure (length t.clauses) x.number t.freezes (values_of new)) o.freezes.items) ≡ step_finding w x call
+            (clauses freezes : List ℕ) → clauses ≡ touched_clauses (written (step_commands w x call)) t →
+            freezes ≡ touched_freezes (written (step_commands w x call)) t →
+            first_of (first_failure (own_failure (own_clauses x.number t.clauses (policy w x.base)) (values_of new)) clauses)
+            (first_failure (own_freeze_failure (length t.clauses) x.number t.freezes (values_of new)) freezes) ≡ step_finding w x call
         unfolding words
-        run_finding =
+        run_finding clauses freezes are_clauses are_freezes =
             ap
-            (λ (y : Deltas). first_of (first_failure (own_failure (own_clauses x.number t.clauses (policy w x.base)) y) o.clauses.items)
-            (first_failure (own_freeze_failure (length t.clauses) x.number t.freezes y) o.freezes.items)) all_values
+            (λ (y : Deltas). first_of (first_failure (own_failure (own_clauses x.number t.clauses (policy w x.base)) y) clauses)
+            (first_failure (own_freeze_failure (length t.clauses) x.number t.freezes y) freezes)) all_values
             ∙ ap₂
             (λ (ns ms : List ℕ). first_of (first_failure (own_failure (own_clauses x.number t.clauses (policy w x.base)) (step_values w x call)) ns)
-            (first_failure (own_freeze_failure (length t.clauses) x.number t.freezes (step_values w x call)) ms)) own.clauses own.freezes
+            (first_failure (own_freeze_failure (length t.clauses) x.number t.freezes (step_values w x call)) ms)) are_clauses are_freezes
             ∙ touched_finding w x ready call at

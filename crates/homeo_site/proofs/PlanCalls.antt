@@ -12,18 +12,18 @@ use Rattle.homeo_plan.specs.declared.round.RoundPlan.{RoundPlan}
 use Rattle.homeo_plan.specs.declared.rows.Residual.{Residual}
 use Rattle.homeo_plan.specs.Each.{Each, Member}
 use Rattle.homeo_plan.specs.Needs.{IsStraight}
-use Rattle.homeo_plan.specs.Planned.{sites_of, planned, template_at}
+use Rattle.homeo_plan.specs.Planned.{sites_of, planned}
 use Rattle.homeo_plan.specs.PlanView.{plain_residual}
-use Rattle.homeo_plan.specs.Template.{PlannedCall, Template, base_row}
+use Rattle.homeo_plan.specs.Template.{PlannedCall, base_row}
 use Rattle.homeo_plan.proofs.Covering.{each_member}
 use Rattle.homeo_plan.proofs.PlannedCalls.{all_sites_below}
 use Rattle.homeo_split.specs.CanExec.{limit, can_exec_all}
 use Rattle.homeo_build.specs.Key.{words as build_words}
 use Rattle.homeo_build.specs.Plan.{SitedResidual, sited_residual, residual_at, IsPlanOf}
 use Rattle.homeo_effect.specs.Touched.{written, WritesOwn}
+use Rattle.homeo_effect.specs.declared.program.Program.{Program}
 use Rattle.homeo_site.specs.Key.{words}
-use Rattle.homeo_site.specs.declared.own_calls.OwnCall.{OwnCall}
-use Rattle.homeo_site.specs.inner.OwnCalls.{IsOwnCall, IsKeptFor, AreOwnCalls}
+use Rattle.homeo_site.specs.inner.OwnPrograms.{RunsAs, IsKeptFor, AreOwnPrograms}
 use Rattle.homeo_site.proofs.StepFindings.{residual_straight}
 use Rattle.homeo_site.proofs.StepsRun.{base_runs}
 use Rattle.homeo_site.proofs.WrittenObjects.{writes_own, writes_objects}
@@ -72,7 +72,7 @@ pub record CanKeep (base : List ℤ) (r : Residual) : Type 0 where
   pub small : can_exec_all limit (plain_residual r) (whole (values_of base)) ≡ true
   pub objects : Each (λ d. d.object < length base) (written (plain_residual r))
 
-commands_are : (w : s.Workload) (base : List ℤ) (g : PlannedCall) (r : Residual) → sited_residual r ≡ residual_at (sites_of w) (values_of base) g →
+pub commands_are : (w : s.Workload) (base : List ℤ) (g : PlannedCall) (r : Residual) → sited_residual r ≡ residual_at (sites_of w) (values_of base) g →
     (base_row (sites_of w) (values_of base) g).residual ≡ plain_residual r
 unfolding build_words
 commands_are w base g r is = sym (ap (λ (q : SitedResidual). q.residual) is)
@@ -104,14 +104,12 @@ can_keep w p n r accepted plan h =
 
 -- ---- what is kept for it
 pub kept_here :
-    (w : s.Workload) (base : List ℤ) (i n : ℕ) (r : Residual) (t : Template) (o : OwnCall) (h : HasCall w base (planned w) n r) →
-    t ≡ template_at w base → r.site ≡ i → IsOwnCall t (values_of base) r.site (length base) (plain_residual r) o →
-    IsKeptFor w base i h.call (Some o)
+    (w : s.Workload) (base : List ℤ) (i n : ℕ) (r : Residual) (p : Program) (h : HasCall w base (planned w) n r) →
+    r.site ≡ i → RunsAs (values_of base) r.site (length base) (plain_residual r) p → IsKeptFor w base i h.call (Some p)
 unfolding words
-kept_here w base i n r t o h template here is =
-    subst (λ cs. IsOwnCall (template_at w base) (values_of base) i (length base) cs o) (sym (commands_are w base h.call r h.is))
-    (subst (λ j. IsOwnCall (template_at w base) (values_of base) j (length base) (plain_residual r) o) here
-    (subst (λ u. IsOwnCall u (values_of base) r.site (length base) (plain_residual r) o) template is))
+kept_here w base i n r p h here is =
+    subst (λ cs. RunsAs (values_of base) i (length base) cs p) (sym (commands_are w base h.call r h.is))
+    (subst (λ j. RunsAs (values_of base) j (length base) (plain_residual r) p) here is)
 
 pub kept_elsewhere :
     (w : s.Workload) (base : List ℤ) (i n : ℕ) (r : Residual) (h : HasCall w base (planned w) n r) → (r.site ≡ i → ⊥) →
@@ -120,9 +118,9 @@ unfolding words
 kept_elsewhere w base i n r h other e = other (sym (site_is w base h.call r h.is) ∙ e)
 
 pub one_more_kept :
-    (w : s.Workload) (base : List ℤ) (i n : ℕ) (r : Residual) (old new : List (Option OwnCall)) (o : Option OwnCall)
-    (h : HasCall w base (planned w) n r) → AreOwnCalls w base i (take n (planned w)) old → IsKeptFor w base i h.call o →
-    new ≡ old ++ o ∷ [] → AreOwnCalls w base i (take (n + 1) (planned w)) new
+    (w : s.Workload) (base : List ℤ) (i n : ℕ) (r : Residual) (old new : List (Option Program)) (o : Option Program)
+    (h : HasCall w base (planned w) n r) → AreOwnPrograms w base i (take n (planned w)) old → IsKeptFor w base i h.call o →
+    new ≡ old ++ o ∷ [] → AreOwnPrograms w base i (take (n + 1) (planned w)) new
 unfolding words
 one_more_kept w base i n r old new o h so_far kept e =
     subst (λ (gs : List PlannedCall). AllZip (IsKeptFor w base i) gs new)
@@ -130,16 +128,16 @@ one_more_kept w base i n r old new o h so_far kept e =
     (subst (λ os. AllZip (IsKeptFor w base i) (take n (planned w) ++ h.call ∷ []) os) (sym e)
     (all_zipped_more (IsKeptFor w base i) (take n (planned w)) old h.call o so_far kept))
 
-pub none_kept : (w : s.Workload) (base : List ℤ) (i : ℕ) (os : List (Option OwnCall)) → os ≡ [] → AreOwnCalls w base i [] os
+pub none_kept : (w : s.Workload) (base : List ℤ) (i : ℕ) (os : List (Option Program)) → os ≡ [] → AreOwnPrograms w base i [] os
 unfolding words
-none_kept w base i os e = subst (λ (l : List (Option OwnCall)). AllZip (IsKeptFor w base i) [] l) (sym e) tt
+none_kept w base i os e = subst (λ (l : List (Option Program)). AllZip (IsKeptFor w base i) [] l) (sym e) tt
 
 pub all_kept :
-    (w : s.Workload) (p : RoundPlan) (rs : List Residual) (i n : ℕ) (os : List (Option OwnCall)) → IsPlanOf w p.base.items p →
-    rs ≡ p.residuals.items → length rs ≤ n → AreOwnCalls w p.base.items i (take n (planned w)) os → AreOwnCalls w p.base.items i (planned w) os
+    (w : s.Workload) (p : RoundPlan) (rs : List Residual) (i n : ℕ) (os : List (Option Program)) → IsPlanOf w p.base.items p →
+    rs ≡ p.residuals.items → length rs ≤ n → AreOwnPrograms w p.base.items i (take n (planned w)) os → AreOwnPrograms w p.base.items i (planned w) os
 all_kept w p rs i n os plan same le h =
     let enough : length (planned w) ≤ n = subst (λ m. m ≤ n) (ap length same ∙ plan_count w p plan) le in
-    subst (λ (gs : List PlannedCall). AreOwnCalls w p.base.items i gs os) (take_all (planned w) n enough) h
+    subst (λ (gs : List PlannedCall). AreOwnPrograms w p.base.items i gs os) (take_all (planned w) n enough) h
   where
     take_all : (gs : List PlannedCall) (m : ℕ) → length gs ≤ m → take m gs ≡ gs
     take_all [] zero le = refl

@@ -18,6 +18,7 @@ use Rattle.homeo_plan.proofs.Findings.{finding_law}
 use Rattle.homeo_plan.proofs.PlannedCalls.{planned_member}
 use Rattle.homeo_effect.specs.Key.{words as effect_words}
 use Rattle.homeo_effect.specs.Counts.{assignment_count, print_count}
+use Rattle.homeo_effect.specs.Touched.{written, touched_clauses, touched_freezes}
 use Rattle.homeo_history.specs.Key.{words as history_words}
 use Rattle.homeo_history.specs.History as h
 use Rattle.homeo_history.specs.HistoryView.{plain_entry, plain_segment}
@@ -71,6 +72,30 @@ module _
     pub commands_here : step_commands (plain_workload v.work) (with_deltas v d) call ≡ step_commands (plain_workload u.work) u.state call
     unfolding words
     commands_here = ap (λ (y : SiteValue). step_commands (plain_workload y.work) y.state call) is
+
+    pub clauses_here :
+        (ns : List ℕ) →
+        ns ≡ touched_clauses (written (step_commands (plain_workload u.work) u.state call)) (template_at (plain_workload u.work) u.state.base) →
+        ns ≡ touched_clauses (written (step_commands (plain_workload v.work) (with_deltas v d) call)) (template_at (plain_workload v.work) v.base)
+    unfolding words
+    clauses_here ns touched =
+        touched
+        ∙ sym
+        (ap
+        (λ (y : SiteValue). touched_clauses (written (step_commands (plain_workload y.work) y.state call)) (template_at (plain_workload y.work) y.state.base))
+        is)
+
+    pub freezes_here :
+        (ns : List ℕ) →
+        ns ≡ touched_freezes (written (step_commands (plain_workload u.work) u.state call)) (template_at (plain_workload u.work) u.state.base) →
+        ns ≡ touched_freezes (written (step_commands (plain_workload v.work) (with_deltas v d) call)) (template_at (plain_workload v.work) v.base)
+    unfolding words
+    freezes_here ns touched =
+        touched
+        ∙ sym
+        (ap
+        (λ (y : SiteValue). touched_freezes (written (step_commands (plain_workload y.work) y.state call)) (template_at (plain_workload y.work) y.state.base))
+        is)
 
     pub finding_here : step_finding (plain_workload v.work) (with_deltas v d) call ≡ step_finding (plain_workload u.work) u.state call
     unfolding words

@@ -4,7 +4,9 @@ use Rattle.std.proofs.lemmas.List.Elements.{All-replicate}
 use Rattle.homeo_syntax.specs.Listed.{Listed}
 use Rattle.homeo_syntax.specs.SourceView.{plain_workload}
 use Rattle.homeo_meaning.specs.declared.call.CallId.{CallId}
+use Rattle.homeo_plan.specs.Planned.{template_at}
 use Rattle.homeo_effect.specs.Counts.{assignment_count, print_count}
+use Rattle.homeo_effect.specs.Touched.{written, touched_clauses, touched_freezes}
 use Rattle.homeo_history.specs.Key.{words as history_words}
 use Rattle.homeo_history.specs.HistoryView.{plain_entry, plain_segment}
 use Rattle.homeo_history.specs.declared.history.Entry.{Entry}
@@ -77,8 +79,10 @@ pub room_is :
     temporaries ≡ assignment_count (step_commands (plain_workload v.work) (state_in v x s) call) →
     prints ≡ print_count (step_commands (plain_workload v.work) (state_in v x s) call) → r.call ≡ call → r.deltas.items ≡ x →
     r.prints ≡ record { items = []; spare = prints } → r.temporaries.items ≡ replicate temporaries (pos 0) →
+    r.clauses.items ≡ touched_clauses (written (step_commands (plain_workload v.work) (state_in v x s) call)) (template_at (plain_workload v.work) v.base) →
+    r.freezes.items ≡ touched_freezes (written (step_commands (plain_workload v.work) (state_in v x s) call)) (template_at (plain_workload v.work) v.base) →
     IsRoom (plain_workload u.work) u.state call r
-room_is v x s u call r temporaries prints is assigned printed name deltas empty zeros =
+room_is v x s u call r temporaries prints is assigned printed name deltas empty zeros clauses freezes =
     subst (λ (y : SiteValue). IsRoom (plain_workload y.work) y.state call r) is
     (record {
       call = name;
@@ -88,6 +92,8 @@ room_is v x s u call r temporaries prints is assigned printed name deltas empty 
       spare =
           let spare : r.prints.spare ≡ prints = ap (λ (l : Listed ℤ). l.spare) empty in
           omega (arith, spare, printed);
+      clauses = clauses;
+      freezes = freezes;
     })
 
 pub copies_are :

@@ -5,9 +5,10 @@ use Rattle.homeo_syntax.specs.Low.{Commands}
 use Rattle.homeo_syntax.specs.Listed.{Listed}
 use Rattle.homeo_meaning.specs.declared.call.CallId.{CallId}
 use Rattle.homeo_meaning.specs.Serial.{values_of}
-use Rattle.homeo_plan.specs.Planned.{sites_of, planned_at}
+use Rattle.homeo_plan.specs.Planned.{sites_of, planned_at, template_at}
 use Rattle.homeo_plan.specs.Template.{base_row}
 use Rattle.homeo_effect.specs.Counts.{assignment_count, print_count}
+use Rattle.homeo_effect.specs.Touched.{written, touched_clauses, touched_freezes}
 use Rattle.homeo_site.specs.Key.{words}
 use Rattle.homeo_site.specs.SiteState.{SiteState, KeepsCall, step_prints, step_deltas, step_finding}
 use Rattle.homeo_site.specs.declared.attempts.Change.{Change}
@@ -34,13 +35,16 @@ abbrev pub step_commands : s.Workload → SiteState → CallId → Commands
 unfolding words
 step_commands w x call = (base_row (sites_of w) (values_of x.base) (planned_at w call)).residual
 
--- room for a call: the site's deltas, no prints, a 0 for each assignment, and room for each print
+-- room for a call: the site's deltas, no prints, a 0 for each assignment, room for each print, and the numbers of what the
+-- call touches of the template
 pub record IsRoom (w : s.Workload) (x : SiteState) (id : CallId) (r : Room) : Type 0 where
   pub call : r.call ≡ id
   pub deltas : r.deltas.items ≡ x.deltas
   pub prints : r.prints.items ≡ []
   pub temporaries : r.temporaries.items ≡ replicate (assignment_count (step_commands w x id)) (pos 0)
   pub spare : print_count (step_commands w x id) ≤ r.prints.spare
+  pub clauses : r.clauses.items ≡ touched_clauses (written (step_commands w x id)) (template_at w x.base)
+  pub freezes : r.freezes.items ≡ touched_freezes (written (step_commands w x id)) (template_at w x.base)
 
 -- a list for a copy of a call's prints: it is empty, and has room for them
 pub record IsEmptyCopy (w : s.Workload) (x : SiteState) (id : CallId) (copy : Listed ℤ) : Type 0 where

@@ -1,5 +1,5 @@
 pub mod Failures
-pub mod OwnCalls
+pub mod OwnPrograms
 pub mod OwnRound
 pub mod OwnTreaty
 pub mod Ready

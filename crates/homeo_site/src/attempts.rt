@@ -2,7 +2,7 @@
 
 use homeo_meaning::{CallId, Database};
 use homeo_plan::Broken;
-use homeo_syntax::{Numbers, Prints};
+use homeo_syntax::{List, Numbers, Prints};
 
 /// What the attempt of a call at its site comes to (Roy et al., SIGMOD 2015).
 #[derive(Drop)]
@@ -33,4 +33,8 @@ pub struct Room {
     pub prints: Prints,
     /// A 0 for each number that the call keeps on the way.
     pub temporaries: Numbers,
+    /// The numbers, from 0, of the treaty's clauses with a term on a delta that the call writes: rising.
+    pub clauses: List<u32>,
+    /// The numbers of the treaty's freezes that the call writes: rising. They go on after those of all clauses.
+    pub freezes: List<u32>,
 }

@@ -5,7 +5,7 @@
 mod attempts;
 pub mod laws;
 mod lists;
-mod own_calls;
+mod own_programs;
 mod own_round;
 mod own_treaty;
 mod site;

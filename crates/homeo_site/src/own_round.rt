@@ -10,16 +10,18 @@ ghost use Rattle.homeo_plan.specs.Template.{base_row};
 ghost use Rattle.homeo_build.specs.Plan.{IsPlanOf};
 ghost use Rattle.homeo_history.specs.Legal.{IsCallAt};
 ghost use Rattle.homeo_effect.specs.Counts.{assignment_count, print_count};
+ghost use Rattle.homeo_effect.specs.Touched.{written, touched_clauses, touched_freezes};
 ghost use Rattle.homeo_site.specs.Attempts.{step_commands};
 ghost use Rattle.homeo_site.specs.SiteState.{step_prints, step_deltas, step_finding};
 ghost use Rattle.homeo_site.specs.inner.Failures.{first_of, first_failure, own_failure, own_freeze_failure};
-ghost use Rattle.homeo_site.specs.inner.OwnCalls.{IsOwnCall};
+ghost use Rattle.homeo_site.specs.inner.OwnPrograms.{RunsAs};
 ghost use Rattle.homeo_site.specs.inner.OwnTreaty.{own_clauses, SumsFit};
 ghost use Rattle.homeo_site.specs.inner.Ready.{IsReady, with_deltas};
 
-use crate::own_calls::{OwnCall, own_calls};
-use crate::own_treaty::{OwnClause, first_clause, first_freeze, own_clauses};
+use crate::own_programs::own_programs;
+use crate::own_treaty::{OwnClause, first_clause, first_freeze, own_clauses, own_index};
 use homeo_build::Compiled;
+use homeo_effect::{Program, TreatyIndex};
 use homeo_meaning::CallId;
 use homeo_plan::{Broken, RoundPlan};
 use homeo_syntax::{List, Memory, Prints};
@@ -28,7 +30,7 @@ use std::marker::Model;
 use std::sync::Arc;
 
 /// A site's part of a round: what all sites share, the numbers of the site and of the round, the site's part of each clause,
-/// and of each ground call of its clients what it runs.
+/// of each ground call of its clients what it runs, and which clauses and freezes stand on each of its deltas.
 #[derive(Drop)]
 pub(crate) struct OwnRound {
     compiled: Arc<Compiled, Global>,
@@ -36,7 +38,8 @@ pub(crate) struct OwnRound {
     site: u32,
     round: u64,
     clauses: List<OwnClause>,
-    calls: List<Option<OwnCall>>,
+    programs: List<Option<Program>>,
+    index: TreatyIndex,
 }
 
 impl Model for OwnRound {
@@ -57,7 +60,7 @@ impl Model for OwnRound {
       base = r.plan.value.base.items;
     } };
 
-    ghost invariant = { λ r. IsOwnRound (plain_workload r.compiled.value) r.plan.value r.site r.clauses.items r.calls.items };
+    ghost invariant = { λ r. IsOwnRound (plain_workload r.compiled.value) r.plan.value r.site r.clauses.items r.programs.items r.index };
 }
 
 impl OwnRound {
@@ -82,14 +85,16 @@ impl OwnRound {
         // its rules hold
         let _workload = compiled.workload().workload();
         let clauses = own_clauses(alloc, plan.template.clauses.as_slice(), &plan.config, site)?;
-        let calls = own_calls(alloc, plan, site)?;
+        let programs = own_programs(alloc, plan, site)?;
+        let index = own_index(alloc, plan, site)?;
         Ok(OwnRound {
             compiled: Arc::try_clone(compiled)?,
             plan: Arc::try_clone(plan)?,
             site,
             round,
             clauses,
-            calls,
+            programs,
+            index,
         })
     }
 
@@ -105,33 +110,55 @@ impl OwnRound {
         self.round
     }
 
-    /// Lends what the site keeps for a call of one of its clients, in constant time.
-    pub(crate) fn call(&self, call: CallId) -> &OwnCall
+    /// Lends what the site runs for a call of one of its clients, in constant time.
+    pub(crate) fn program(&self, call: CallId) -> &Program
         requires { IsCallAt (plain_workload self.now.work) self.now.number call }
         ensures { let w = plain_workload self.now.work in let base = self.now.base in
-            IsOwnCall (template_at w base) (values_of base) self.now.number (length base)
+            RunsAs (values_of base) self.now.number (length base)
             (base_row (sites_of w) (values_of base) (planned_at w call)).residual result.now }
     {
         let place = self.compiled.place(call) as usize;
-        match &self.calls.as_slice()[place] {
-            Some(own) => own,
+        match &self.programs.as_slice()[place] {
+            Some(program) => program,
             None => unreachable!(),
         }
     }
 
-    /// The first that fails of what a call touches.
-    fn first_failure(&self, own: &OwnCall, deltas: &[i64]) -> Option<Broken>
-        requires clauses { All (λ n. n < length (template_at (plain_workload self.now.work) self.now.base).clauses) own.now.clauses.items }
+    /// What of the treaty a call of one of the site's clients touches: the numbers of the clauses with a term on a delta that it
+    /// writes, and those of the freezes that it writes, rising.
+    pub(crate) fn touched(
+        &self,
+        alloc: Global,
+        call: CallId,
+    ) -> Result<(List<u32>, List<u32>), Memory>
+        requires { IsCallAt (plain_workload self.now.work) self.now.number call }
+        ensures clauses { let w = plain_workload self.now.work in let base = self.now.base in
+            IfOk result (λ r. r.0.items ≡ touched_clauses
+            (written (base_row (sites_of w) (values_of base) (planned_at w call)).residual) (template_at w base)) }
+        ensures freezes { let w = plain_workload self.now.work in let base = self.now.base in
+            IfOk result (λ r. r.1.items ≡ touched_freezes
+            (written (base_row (sites_of w) (values_of base) (planned_at w call)).residual) (template_at w base)) }
+    {
+        let place = self.compiled.place(call) as usize;
+        let commands = self.plan.residuals.as_slice()[place].commands.as_slice();
+        let clauses = self.index.clauses_touched(alloc, commands)?;
+        let freezes = self.index.freezes_touched(alloc, commands)?;
+        Ok((clauses, freezes))
+    }
+
+    /// The first that fails of clauses and freezes of these numbers.
+    fn first_failure(&self, clauses: &[u32], freezes: &[u32], deltas: &[i64]) -> Option<Broken>
+        requires clauses { All (λ n. n < length (template_at (plain_workload self.now.work) self.now.base).clauses) clauses.now }
         requires freezes { let t = template_at (plain_workload self.now.work) self.now.base in
-            All (λ n. (length t.clauses ≤ n) × (n < length t.clauses + length t.freezes)) own.now.freezes.items }
+            All (λ n. (length t.clauses ≤ n) × (n < length t.clauses + length t.freezes)) freezes.now }
         requires fit { let w = plain_workload self.now.work in All (λ c. SumsFit c.terms (values_of deltas.now))
             (own_clauses self.now.number (template_at w self.now.base).clauses (policy w self.now.base)) }
         ensures { let w = plain_workload self.now.work in let t = template_at w self.now.base in result ≡
             first_of (first_failure (own_failure (own_clauses self.now.number t.clauses (policy w self.now.base))
-            (values_of deltas.now)) own.now.clauses.items)
-            (first_failure (own_freeze_failure (length t.clauses) self.now.number t.freezes (values_of deltas.now)) own.now.freezes.items) }
+            (values_of deltas.now)) clauses.now)
+            (first_failure (own_freeze_failure (length t.clauses) self.now.number t.freezes (values_of deltas.now)) freezes.now) }
     {
-        let failure = first_clause(self.clauses.as_slice(), own.clauses.as_slice(), deltas);
+        let failure = first_clause(self.clauses.as_slice(), clauses, deltas);
         if failure.is_some() {
             return failure;
         }
@@ -140,17 +167,19 @@ impl OwnRound {
         first_freeze(
             template.freezes.as_slice(),
             count,
-            own.freezes.as_slice(),
+            freezes,
             self.site,
             deltas,
         )
     }
 
-    /// Runs a call of one of the site's clients on the site's deltas, and gives what fails first of the treaty afterwards. It
-    /// takes no memory.
+    /// Runs a call of one of the site's clients on the site's deltas, and gives what fails first of the treaty afterwards. The
+    /// numbers of the clauses and freezes must be those of what the call touches. It takes no memory.
     pub(crate) fn run(
         &self,
         call: CallId,
+        clauses: &[u32],
+        freezes: &[u32],
         deltas: &mut [i64],
         temporaries: &mut [i64],
         prints: &mut Prints,
@@ -158,6 +187,12 @@ impl OwnRound {
         requires accepted { IsAccepted (plain_workload self.now.work) }
         requires ready { IsReady (plain_workload self.now.work) (with_deltas self.now deltas.old) }
         requires call { IsCallAt (plain_workload self.now.work) self.now.number call }
+        requires clauses { clauses.now ≡
+            touched_clauses (written (step_commands (plain_workload self.now.work) (with_deltas self.now deltas.old) call))
+            (template_at (plain_workload self.now.work) self.now.base) }
+        requires freezes { freezes.now ≡
+            touched_freezes (written (step_commands (plain_workload self.now.work) (with_deltas self.now deltas.old) call))
+            (template_at (plain_workload self.now.work) self.now.base) }
         requires temporaries { assignment_count (step_commands (plain_workload self.now.work) (with_deltas self.now deltas.old) call)
             ≤ length temporaries.old }
         requires spare { print_count (step_commands (plain_workload self.now.work) (with_deltas self.now deltas.old) call) ≤ prints.old.spare }
@@ -166,8 +201,8 @@ impl OwnRound {
         ensures prints { prints.new.items ≡ prints.old.items ++
             step_prints (plain_workload self.now.work) (with_deltas self.now deltas.old) call }
     {
-        let own = self.call(call);
-        own.program.run(deltas, temporaries, prints);
-        self.first_failure(own, deltas)
+        let program = self.program(call);
+        program.run(deltas, temporaries, prints);
+        self.first_failure(clauses, freezes, deltas)
     }
 }

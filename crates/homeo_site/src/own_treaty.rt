@@ -1,17 +1,20 @@
-//! What a site keeps of a treaty: of each clause the terms on its own deltas and its own bound.
+//! What a site keeps of a treaty: of each clause the terms on its own deltas and its own bound, and which clauses and freezes
+//! stand on each of its deltas.
 
-ghost use Rattle.std.specs.Prelude.{◌≡◌, ◌+◌, ◌<◌, ◌≤◌, ◌+ℤ◌, ◌*ℤ◌, [], All, length, map, slice_index_or, IfOk, FitsSigned};
+ghost use Rattle.std.specs.Prelude.{◌≡◌, ◌+◌, ◌^◌, ◌<◌, ◌≤◌, ◌+ℤ◌, ◌*ℤ◌, [], All, length, map, slice_index_or, IsTrue, IfOk, FitsSigned};
 ghost use Rattle.std.specs.Int.{w128};
 ghost use Rattle.homeo_meaning.specs.Serial.{values_of};
-ghost use Rattle.homeo_plan.specs.PlanView.{plain_clause, plain_config};
+ghost use Rattle.homeo_plan.specs.PlanView.{plain_clause, plain_config, plain_template};
 ghost use Rattle.homeo_plan.specs.Treaty.{bound_at};
 ghost use Rattle.homeo_site.specs.inner.Failures.{sum_failure, freeze_failure, first_failure, own_failure, own_freeze_failure};
 ghost use Rattle.homeo_site.specs.inner.OwnTreaty.{own_terms, own_sum, SumsFit, plain_own, own_clauses};
 
+use homeo_effect::TreatyIndex;
 use homeo_meaning::padded::item_or;
-use homeo_plan::{Broken, Clause, Config, Delta, Term};
+use homeo_plan::{Broken, Clause, Config, Delta, RoundPlan, Template, Term};
 use homeo_syntax::{List, Memory};
 use std::alloc::Global;
+use std::sync::Arc;
 
 /// A factor, and the object of the own delta that is taken by it.
 #[derive(Clone, Copy)]
@@ -80,6 +83,31 @@ pub(crate) fn own_clauses(
         own.push(OwnClause { terms, bound })?;
     }
     Ok(own)
+}
+
+/// Whether clauses and freezes are so few that their numbers fit.
+fn can_be_numbered(template: &Template) -> bool
+    ensures { IsTrue result → length template.now.clauses.items + length template.now.freezes.items < 2 ^ 32 }
+{
+    let clauses = template.clauses.as_slice().len();
+    let freezes = template.freezes.as_slice().len();
+    clauses <= u32::MAX as usize && freezes <= u32::MAX as usize - clauses
+}
+
+/// The index of a plan's template for a site. A plan with 2^32 clauses and freezes or more is answered as one for which memory
+/// is short.
+pub(crate) fn own_index(
+    alloc: Global,
+    plan: &Arc<RoundPlan, Global>,
+    site: u32,
+) -> Result<TreatyIndex, Memory>
+    ensures site { IfOk result (λ x. x.site ≡ site) }
+    ensures template { IfOk result (λ x. x.template ≡ plain_template plan.now.value.template) }
+{
+    if !can_be_numbered(&plan.template) {
+        return Err(Memory);
+    }
+    TreatyIndex::of(alloc, plan, site)
 }
 
 /// A sum with one more term's factor times delta.

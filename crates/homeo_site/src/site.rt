@@ -118,7 +118,8 @@ impl Site {
     }
 
     /// Takes room for an attempt of a call, and for so many copies of its prints: all the memory that the attempt, a commit
-    /// of its change, and the copies need. The call must be one of a client of this site.
+    /// of its change, and the copies need. In the room stands which clauses and freezes the call touches. The call must be one
+    /// of a client of this site.
     ///
     /// # Errors
     ///
@@ -136,9 +137,10 @@ impl Site {
         ensures copies { IfOk result (λ r. All (IsEmptyCopy (plain_workload self.old.work) self.old.state call) r.1.items) }
         ensures spare { OnOk result (1 ≤ self.new.spare) }
     {
-        let own = self.own.call(call);
-        let count = u64::from(own.program.prints);
-        let temporaries = zeros(alloc, own.program.temporaries as usize)?;
+        let program = self.own.program(call);
+        let count = u64::from(program.prints);
+        let temporaries = zeros(alloc, program.temporaries as usize)?;
+        let (clauses, freezes) = self.own.touched(alloc, call)?;
         let deltas = Vec::from_slice(alloc, self.deltas.as_slice())?;
         let prints = empty_prints(alloc, count)?;
         let lists = empty_copies(alloc, copies, count)?;
@@ -148,6 +150,8 @@ impl Site {
             deltas: List::from_vec(deltas),
             prints,
             temporaries,
+            clauses,
+            freezes,
         };
         Ok((room, lists))
     }
@@ -171,11 +175,15 @@ impl Site {
             deltas,
             mut prints,
             temporaries,
+            clauses,
+            freezes,
         } = room;
         let mut deltas = deltas.into_vec();
         let mut temporaries = temporaries.into_vec();
         let failure = self.own.run(
             call,
+            clauses.as_slice(),
+            freezes.as_slice(),
             deltas.as_mut_slice(),
             temporaries.as_mut_slice(),
             &mut prints,

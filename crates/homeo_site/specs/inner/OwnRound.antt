@@ -6,16 +6,21 @@ use Rattle.homeo_plan.specs.declared.round.RoundPlan.{RoundPlan}
 use Rattle.homeo_plan.specs.Planned.{sites_of, planned, template_at, policy}
 use Rattle.homeo_plan.specs.PlanView.{plain_config}
 use Rattle.homeo_build.specs.Plan.{IsPlanOf}
-use Rattle.homeo_site.specs.declared.own_calls.OwnCall.{OwnCall}
+use Rattle.homeo_effect.specs.Indexed.{Indexed}
+use Rattle.homeo_effect.specs.declared.program.Program.{Program}
 use Rattle.homeo_site.specs.declared.own_treaty.OwnClause as code
-use Rattle.homeo_site.specs.inner.OwnCalls.{AreOwnCalls}
+use Rattle.homeo_site.specs.inner.OwnPrograms.{AreOwnPrograms}
 use Rattle.homeo_site.specs.inner.OwnTreaty.{plain_own, own_clauses}
 
--- the plan is that of the round, with bounds by the policy, and the site keeps its part of it
-pub record IsOwnRound (w : s.Workload) (p : RoundPlan) (i : ℕ) (cs : List code.OwnClause) (os : List (Option OwnCall)) : Type 0 where
-  pub accepted : IsAccepted w
-  pub site : i < sites_of w
-  pub plan : IsPlanOf w p.base.items p
-  pub bounds : plain_config p.config ≡ policy w p.base.items
-  pub clauses : map plain_own cs ≡ own_clauses i (template_at w p.base.items).clauses (policy w p.base.items)
-  pub calls : AreOwnCalls w p.base.items i (planned w) os
+-- the plan is that of the round, with bounds by the policy, and the site keeps its part of it, and an index over its treaty
+pub record IsOwnRound
+    (w : s.Workload) (p : RoundPlan) (i : ℕ) (cs : List code.OwnClause) (ps : List (Option Program)) (x : Indexed) : Type 0
+  where
+    pub accepted : IsAccepted w
+    pub site : i < sites_of w
+    pub plan : IsPlanOf w p.base.items p
+    pub bounds : plain_config p.config ≡ policy w p.base.items
+    pub clauses : map plain_own cs ≡ own_clauses i (template_at w p.base.items).clauses (policy w p.base.items)
+    pub programs : AreOwnPrograms w p.base.items i (planned w) ps
+    pub index_site : x.site ≡ i
+    pub index_template : x.template ≡ template_at w p.base.items

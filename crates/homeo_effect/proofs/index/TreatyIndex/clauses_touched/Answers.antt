@@ -13,7 +13,7 @@ use Rattle.homeo_effect.proofs.index.TreatyIndex.clauses_touched.Goals as goal
 pub returns : goal.returns
 unfolding words
 returns c =
-    let template = c.self.inside.template.now in
+    let template = c.self.inside.plan.value.template in
     let site = c.self.inside.site in
     let ds = written (low_commands (map plain_lcommand c.args.commands.now)) in
     let own = subst (λ (x : Indexed). Each (λ d. d.site ≡ x.site) ds) (sym c.self.view_is) c.requires in

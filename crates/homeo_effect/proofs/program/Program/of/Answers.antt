@@ -5,7 +5,7 @@ use Rattle.homeo_meaning.specs.Serial.{values_of}
 use Rattle.homeo_plan.specs.Holding.{SameOwn}
 use Rattle.homeo_plan.specs.Joined.{alone}
 use Rattle.homeo_split.specs.CanExec.{limit, can_exec_all}
-use Rattle.homeo_effect.specs.EffectsView.{plain_commands}
+use Rattle.homeo_effect.specs.EffectsView.{plain_all}
 use Rattle.homeo_effect.specs.OwnState.{own_state}
 use Rattle.homeo_effect.specs.Touched.{written}
 use Rattle.homeo_effect.specs.inner.Numbered.{nothing_set}
@@ -18,12 +18,12 @@ use Rattle.homeo_effect.proofs.program.Program.of.Goals as goal
 
 pub take-requires-clause-own : goal.take-requires-clause-own
 take-requires-clause-own c =
-    (own_parts c.as_slice-command-items.result.now c.loop-command.command-index c.command-item.result c.loop-command-test.true c.command-item.is
+    (own_parts c.args.commands.now c.loop-command.command-index c.command-item.result c.loop-command-test.true c.command-item.is
     c.args.site c.loop-command.invariant.own).0
 
 pub loop-command-preserved : goal.loop-command-preserved
 loop-command-preserved c =
-    let cs = c.as_slice-command-items.result.now in
+    let cs = c.args.commands.now in
     let k = c.loop-command.command-index in
     let next = front cs k c.command-item.result c.loop-command-test.true c.command-item.is in
     record {
@@ -35,44 +35,44 @@ loop-command-preserved c =
 pub returns-clause-assigned : goal.returns-clause-assigned
 returns-clause-assigned c =
     let is =
-    steps_are c.args.site c.loop-command.numbering c.as_slice-command-items.result.now c.loop-command.command-index c.loop-command-test.false
-    c.loop-command.invariant.same c.args.effects.now.commands.items c.as_slice-command-items.ensures in
+    steps_are c.args.site c.loop-command.numbering c.args.commands.now c.loop-command.command-index c.loop-command-test.false
+    c.loop-command.invariant.same in
     c.loop-command.invariant.counted.temporaries
-    ∙ all_set c.args.site c.loop-command.numbering.steps.items nothing_set (plain_commands c.args.effects.now) is
+    ∙ all_set c.args.site c.loop-command.numbering.steps.items nothing_set (plain_all c.args.commands.now) is
 
 pub returns-clause-printed : goal.returns-clause-printed
 returns-clause-printed c =
     let is =
-    steps_are c.args.site c.loop-command.numbering c.as_slice-command-items.result.now c.loop-command.command-index c.loop-command-test.false
-    c.loop-command.invariant.same c.args.effects.now.commands.items c.as_slice-command-items.ensures in
+    steps_are c.args.site c.loop-command.numbering c.args.commands.now c.loop-command.command-index c.loop-command-test.false
+    c.loop-command.invariant.same in
     c.loop-command.invariant.counted.prints
-    ∙ all_printed c.args.site c.loop-command.numbering.steps.items nothing_set (plain_commands c.args.effects.now) is
+    ∙ all_printed c.args.site c.loop-command.numbering.steps.items nothing_set (plain_all c.args.commands.now) is
 
 pub returns-clause-written : goal.returns-clause-written
 returns-clause-written c =
     let is =
-    steps_are c.args.site c.loop-command.numbering c.as_slice-command-items.result.now c.loop-command.command-index c.loop-command-test.false
-    c.loop-command.invariant.same c.args.effects.now.commands.items c.as_slice-command-items.ensures in
-    ap written is ∙ same_written (plain_commands c.args.effects.now) nothing_set 0
+    steps_are c.args.site c.loop-command.numbering c.args.commands.now c.loop-command.command-index c.loop-command-test.false
+    c.loop-command.invariant.same in
+    ap written is ∙ same_written (plain_all c.args.commands.now) nothing_set 0
 
 pub returns-clause-means : goal.returns-clause-means
 returns-clause-means c b deltas temporaries =
     let site = c.args.site in
     let is =
-    steps_are site c.loop-command.numbering c.as_slice-command-items.result.now c.loop-command.command-index c.loop-command-test.false
-    c.loop-command.invariant.same c.args.effects.now.commands.items c.as_slice-command-items.ensures in
+    steps_are site c.loop-command.numbering c.args.commands.now c.loop-command.command-index c.loop-command-test.false
+    c.loop-command.invariant.same in
     let s = alone b site (values_of deltas) in
     let s' = own_state site deltas temporaries in
-    subst (λ cs. SameOwn site (exec_all cs s') (exec_all (plain_commands c.args.effects.now) s)) (sym is)
-    (same_runs site (plain_commands c.args.effects.now) nothing_set 0 s s' c.requires.own (begins site b deltas temporaries))
+    subst (λ cs. SameOwn site (exec_all cs s') (exec_all (plain_all c.args.commands.now) s)) (sym is)
+    (same_runs site (plain_all c.args.commands.now) nothing_set 0 s s' c.requires.own (begins site b deltas temporaries))
 
 pub returns-clause-can_run : goal.returns-clause-can_run
 returns-clause-can_run c b deltas temporaries h =
     let site = c.args.site in
     let is =
-    steps_are site c.loop-command.numbering c.as_slice-command-items.result.now c.loop-command.command-index c.loop-command-test.false
-    c.loop-command.invariant.same c.args.effects.now.commands.items c.as_slice-command-items.ensures in
+    steps_are site c.loop-command.numbering c.args.commands.now c.loop-command.command-index c.loop-command-test.false
+    c.loop-command.invariant.same in
     let s = alone b site (values_of deltas) in
     let s' = own_state site deltas temporaries in
     subst (λ cs. can_exec_all limit cs s' ≡ true) (sym is)
-    (can_too site limit (plain_commands c.args.effects.now) nothing_set 0 s s' c.requires.own (begins site b deltas temporaries) h)
+    (can_too site limit (plain_all c.args.commands.now) nothing_set 0 s s' c.requires.own (begins site b deltas temporaries) h)

@@ -8,9 +8,9 @@ use Rattle.homeo_effect.proofs.program.Program.of.Given as goal
 
 abbrev pub invariant-loop-command : goal.invariant-loop-command
 invariant-loop-command l =
-    let rest = low_commands (map plain_lcommand (drop l.command-index l.command-items)) in
+    let rest = low_commands (map plain_lcommand (drop l.command-index l.commands)) in
     record {
-      same : stands_for l.site l.numbering rest ≡ numbered nothing_set 0 (low_commands (map plain_lcommand l.command-items));
+      same : stands_for l.site l.numbering rest ≡ numbered nothing_set 0 (low_commands (map plain_lcommand l.commands));
       own : are_own l.site rest ≡ true;
       counted : IsCounted l.numbering l.command-index;
     }

@@ -1,5 +1,5 @@
 -- What the site keeps of the template fails as the template does.
-use Rattle.std.proofs.Common.{◌≡◌, All, ℕ, ◌<◌, List, length, map, is_some, sym, ap, ap₂, ◌∙◌, subst}
+use Rattle.std.proofs.Common.{◌≡◌, All, ◌<◌, List, length, map, is_some, sym, ap, ap₂, ◌∙◌, subst}
 use Rattle.homeo_syntax.specs.SourceView.{plain_workload}
 use Rattle.homeo_meaning.specs.Serial.{values_of}
 use Rattle.homeo_plan.specs.Planned.{template_at, policy}
@@ -17,11 +17,10 @@ first_clause-failure-requires-clause-numbers c =
     let w = plain_workload in'.compiled.value in
     let base = in'.plan.value.base.items in
     let numbers =
-    subst (λ (v : StartValue). All (λ n. n < length (template_at (plain_workload v.work) v.base).clauses) c.args.own.now.clauses.items)
+    subst (λ (v : StartValue). All (λ n. n < length (template_at (plain_workload v.work) v.base).clauses) c.args.clauses.now)
     (sym c.self.view_is) c.requires.clauses in
-    let all = numbers_there in'.site (template_at w base).clauses (policy w base) in'.clauses.items c.args.own.now.clauses.items c.self.invariant.clauses numbers in
-    subst (λ (ns : List ℕ). All (λ n. n < length c.as_slice.result.now) ns) (sym c.as_slice-2.ensures)
-    (subst (λ (cs : List code.OwnClause). All (λ n. n < length cs) c.args.own.now.clauses.items) (sym c.as_slice.ensures) all)
+    let all = numbers_there in'.site (template_at w base).clauses (policy w base) in'.clauses.items c.args.clauses.now c.self.invariant.clauses numbers in
+    subst (λ (cs : List code.OwnClause). All (λ n. n < length cs) c.args.clauses.now) (sym c.as_slice.ensures) all
 
 pub first_clause-failure-requires-clause-fit : goal.first_clause-failure-requires-clause-fit
 first_clause-failure-requires-clause-fit c =
@@ -41,10 +40,10 @@ pub returns-then-is_some : goal.returns-then-is_some
 returns-then-is_some c =
     let in' = c.self.inside in
     let x = values_of c.args.deltas.now in
-    let cl = c.args.own.now.clauses.items in
+    let cl = c.args.clauses.now in
     let same =
     c.first_clause-failure.ensures
-    ∙ ap₂ (λ (os : List code.OwnClause) (ns : List ℕ). first_failure (own_failure (map plain_own os) x) ns) c.as_slice.ensures c.as_slice-2.ensures
+    ∙ ap (λ (os : List code.OwnClause). first_failure (own_failure (map plain_own os) x) cl) c.as_slice.ensures
     ∙ ap (λ os. first_failure (own_failure os x) cl) c.self.invariant.clauses in
     subst
     (λ (v : StartValue). c.first_clause-failure.result ≡
@@ -53,7 +52,7 @@ returns-then-is_some c =
     (own_failure (own_clauses v.number (template_at (plain_workload v.work) v.base).clauses (policy (plain_workload v.work) v.base)) x) cl)
     (first_failure
     (own_freeze_failure (length (template_at (plain_workload v.work) v.base).clauses) v.number (template_at (plain_workload v.work) v.base).freezes x)
-    c.args.own.now.freezes.items))
+    c.args.freezes.now))
     c.self.view_is
     (first_found c.first_clause-failure.result _ _ (sym c.if-is_some.ensures) same)
 
@@ -64,21 +63,20 @@ returns c =
     let p = in'.plan.value in
     let t = template_at w p.base.items in
     let x = values_of c.args.deltas.now in
-    let cl = c.args.own.now.clauses.items in
+    let cl = c.args.clauses.now in
     let same =
     c.first_clause-failure.ensures
-    ∙ ap₂ (λ (os : List code.OwnClause) (ns : List ℕ). first_failure (own_failure (map plain_own os) x) ns) c.as_slice.ensures c.as_slice-2.ensures
+    ∙ ap (λ (os : List code.OwnClause). first_failure (own_failure (map plain_own os) x) cl) c.as_slice.ensures
     ∙ ap (λ os. first_failure (own_failure os x) cl) c.self.invariant.clauses in
     let count =
     template_count p c.as_slice-count.result.now t (c.as_slice-count.ensures ∙ ap (λ (q : RoundPlan). q.template.clauses.items) c.deref.ensures)
     c.self.invariant.plan.template in
     let freezes =
-    template_freezes p c.as_slice-3.result.now t (c.as_slice-3.ensures ∙ ap (λ (q : RoundPlan). q.template.freezes.items) c.deref.ensures)
+    template_freezes p c.as_slice-2.result.now t (c.as_slice-2.ensures ∙ ap (λ (q : RoundPlan). q.template.freezes.items) c.deref.ensures)
     c.self.invariant.plan.template in
     let frozen =
     c.first_freeze.ensures
-    ∙ ap₂ (λ n ds. first_failure (own_freeze_failure n in'.site ds x) c.as_slice-4.result.now) count freezes
-    ∙ ap (λ (ns : List ℕ). first_failure (own_freeze_failure (length t.clauses) in'.site t.freezes x) ns) c.as_slice-4.ensures in
+    ∙ ap₂ (λ n ds. first_failure (own_freeze_failure n in'.site ds x) c.args.freezes.now) count freezes in
     subst
     (λ (v : StartValue). c.first_freeze.result ≡
     first_of
@@ -86,6 +84,6 @@ returns c =
     (own_failure (own_clauses v.number (template_at (plain_workload v.work) v.base).clauses (policy (plain_workload v.work) v.base)) x) cl)
     (first_failure
     (own_freeze_failure (length (template_at (plain_workload v.work) v.base).clauses) v.number (template_at (plain_workload v.work) v.base).freezes x)
-    c.args.own.now.freezes.items))
+    c.args.freezes.now))
     c.self.view_is
     (frozen ∙ second_is _ _ (ap is_some (sym same) ∙ sym c.if-is_some.ensures))

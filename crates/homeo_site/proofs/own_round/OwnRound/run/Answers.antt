@@ -9,36 +9,36 @@ use Rattle.homeo_site.proofs.own_round.OwnRound.run.Goals as goal
 pub run-requires-clause-temporaries : goal.run-requires-clause-temporaries
 unfolding words
 run-requires-clause-temporaries c =
-    subst (λ n. n ≤ length c.args.temporaries.now) (sym c.call-own.ensures.program.set) c.requires.temporaries
+    subst (λ n. n ≤ length c.args.temporaries.now) (sym c.program-program.ensures.set) c.requires.temporaries
 
 pub run-requires-clause-spare : goal.run-requires-clause-spare
 unfolding words
 run-requires-clause-spare c =
-    subst (λ n. n ≤ c.args.prints.now.spare) (sym c.call-own.ensures.program.printed) c.requires.spare
+    subst (λ n. n ≤ c.args.prints.now.spare) (sym c.program-program.ensures.printed) c.requires.spare
 
 pub run-requires-clause-small : goal.run-requires-clause-small
 unfolding words
 run-requires-clause-small c =
     can_run (plain_workload c.args.self.now.work) (with_deltas c.args.self.now c.args.deltas.now) c.requires.accepted c.requires.ready
-    c.args.call c.requires.call c.call-own.result.now c.call-own.ensures c.args.temporaries.now
+    c.args.call c.requires.call c.program-program.result.now c.program-program.ensures c.args.temporaries.now
 
 pub first_failure-requires-clause-clauses : goal.first_failure-requires-clause-clauses
 unfolding words
 first_failure-requires-clause-clauses c =
-    clause_numbers (plain_workload c.args.self.now.work) (with_deltas c.args.self.now c.args.deltas.now) c.requires.accepted c.requires.ready
-    c.args.call c.requires.call c.call-own.result.now c.call-own.ensures
+    clause_numbers (plain_workload c.args.self.now.work) (with_deltas c.args.self.now c.args.deltas.now) c.args.call c.args.clauses.now
+    c.requires.clauses
 
 pub first_failure-requires-clause-freezes : goal.first_failure-requires-clause-freezes
 unfolding words
 first_failure-requires-clause-freezes c =
-    freeze_numbers (plain_workload c.args.self.now.work) (with_deltas c.args.self.now c.args.deltas.now) c.requires.accepted c.requires.ready
-    c.args.call c.requires.call c.call-own.result.now c.call-own.ensures
+    freeze_numbers (plain_workload c.args.self.now.work) (with_deltas c.args.self.now c.args.deltas.now) c.args.call c.args.freezes.now
+    c.requires.freezes
 
 pub first_failure-requires-clause-fit : goal.first_failure-requires-clause-fit
 unfolding words
 first_failure-requires-clause-fit c =
     run_fits (plain_workload c.args.self.now.work) (with_deltas c.args.self.now c.args.deltas.now) c.requires.accepted c.requires.ready
-    c.args.call c.requires.call c.call-own.result.now c.call-own.ensures c.args.temporaries.now c.run.new.deltas c.run.ensures.objects
+    c.args.call c.requires.call c.program-program.result.now c.program-program.ensures c.args.temporaries.now c.run.new.deltas c.run.ensures.objects
     c.run.ensures.deltas
 
 pub returns-clause-failure : goal.returns-clause-failure
@@ -46,14 +46,14 @@ unfolding words
 returns-clause-failure c =
     c.first_failure.ensures
     ∙ run_finding (plain_workload c.args.self.now.work) (with_deltas c.args.self.now c.args.deltas.now) c.requires.accepted c.requires.ready
-    c.args.call c.requires.call c.call-own.result.now c.call-own.ensures c.args.temporaries.now c.run.new.deltas c.run.ensures.objects
-    c.run.ensures.deltas
+    c.args.call c.requires.call c.program-program.result.now c.program-program.ensures c.args.temporaries.now c.run.new.deltas c.run.ensures.objects
+    c.run.ensures.deltas c.args.clauses.now c.args.freezes.now c.requires.clauses c.requires.freezes
 
 pub returns-clause-deltas : goal.returns-clause-deltas
 unfolding words
 returns-clause-deltas c =
     run_deltas (plain_workload c.args.self.now.work) (with_deltas c.args.self.now c.args.deltas.now) c.requires.accepted c.requires.ready
-    c.args.call c.requires.call c.call-own.result.now c.call-own.ensures c.args.temporaries.now c.run.new.deltas c.run.ensures.objects
+    c.args.call c.requires.call c.program-program.result.now c.program-program.ensures c.args.temporaries.now c.run.new.deltas c.run.ensures.objects
     c.run.ensures.deltas
 
 pub returns-clause-prints : goal.returns-clause-prints
@@ -62,4 +62,4 @@ returns-clause-prints c =
     c.run.ensures.prints
     ∙ ap (λ ps. c.args.prints.now.items ++ ps)
     (run_prints (plain_workload c.args.self.now.work) (with_deltas c.args.self.now c.args.deltas.now) c.requires.accepted c.requires.ready
-    c.args.call c.requires.call c.call-own.result.now c.call-own.ensures c.args.temporaries.now)
+    c.args.call c.requires.call c.program-program.result.now c.program-program.ensures c.args.temporaries.now)

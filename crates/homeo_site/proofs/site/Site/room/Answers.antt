@@ -17,12 +17,12 @@ pub returns-clause-room : goal.returns-clause-room
 unfolding words
 returns-clause-room c =
     room_is c.self.inside.own c.self.inside.deltas.items c.self.inside.segment c.args.self.now c.args.call _ _ _ c.self.view_is
-    c.call-own.ensures.program.temporaries (c.from-count.ensures ∙ c.call-own.ensures.program.prints) refl
+    c.program-program.ensures.temporaries (c.from-count.ensures ∙ c.program-program.ensures.prints) refl
     (ap (λ l. l.items) c.from_vec.ensures ∙ c.in_ok-deltas.ensures.items ∙ c.as_slice.ensures) c.in_ok-prints.ensures
-    c.in_ok-temporaries.ensures
+    c.in_ok-temporaries.ensures c.in_ok-clauses.ensures.clauses c.in_ok-clauses.ensures.freezes
 
 pub returns-clause-copies : goal.returns-clause-copies
 unfolding words
 returns-clause-copies c =
     copies_are c.self.inside.own c.self.inside.deltas.items c.self.inside.segment c.args.self.now c.args.call _ _ _ c.self.view_is
-    (c.from-count.ensures ∙ c.call-own.ensures.program.prints) c.in_ok-lists.ensures
+    (c.from-count.ensures ∙ c.program-program.ensures.prints) c.in_ok-lists.ensures

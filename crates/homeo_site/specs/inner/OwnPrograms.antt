@@ -1,4 +1,4 @@
--- What a site keeps for the ground calls of its own clients.
+-- What a site runs for the ground calls of its own clients.
 use Rattle.std.specs.Prelude.{◌≡◌, ◌≢◌, ℕ, ◌<◌, true, List, length, ℤ, Option, MatchOption}
 use Rattle.std.specs.List.{AllZip}
 use Rattle.homeo_syntax.specs.Low.{Commands}
@@ -9,17 +9,16 @@ use Rattle.homeo_meaning.specs.Serial.{values_of}
 use Rattle.homeo_plan.specs.declared.round.RoundPlan.{RoundPlan}
 use Rattle.homeo_plan.specs.Each.{Each}
 use Rattle.homeo_plan.specs.Joined.{alone}
-use Rattle.homeo_plan.specs.Planned.{sites_of, template_at}
-use Rattle.homeo_plan.specs.Template.{PlannedCall, base_row, Template}
+use Rattle.homeo_plan.specs.Planned.{sites_of}
+use Rattle.homeo_plan.specs.Template.{PlannedCall, base_row}
 use Rattle.homeo_split.specs.CanExec.{limit, can_exec_all}
 use Rattle.homeo_build.specs.Plan.{IsPlanOf}
 use Rattle.homeo_effect.specs.Counts.{assignment_count, print_count}
 use Rattle.homeo_effect.specs.OwnState.{own_state}
 use Rattle.homeo_effect.specs.Program.{plain_program, set_after_all, prints_of_all}
-use Rattle.homeo_effect.specs.Touched.{written, touched_clauses, touched_freezes}
+use Rattle.homeo_effect.specs.Touched.{written}
 use Rattle.homeo_effect.specs.declared.program.Program.{Program}
 use Rattle.homeo_site.specs.Key.{words}
-use Rattle.homeo_site.specs.declared.own_calls.OwnCall.{OwnCall}
 
 -- from the same own deltas, whatever the temporaries were, the program of site i does on a base what the commands do there
 -- alone; it writes deltas of the first objects only
@@ -38,24 +37,16 @@ pub record RunsAs (b : ℕ → ℤ) (i count : ℕ) (cs : Commands) (p : Program
       (exec_all (plain_program p) (own_state i x kept)).state (DeltaAt n i) ≡
       (exec_all cs (alone b i (values_of x))).state (DeltaAt n i)
 
--- what a site keeps for a ground call whose residual has these commands: a program that runs as they do, and what of the
--- template they touch
-pub record IsOwnCall (t : Template) (b : ℕ → ℤ) (i count : ℕ) (cs : Commands) (o : OwnCall) : Type 0 where
-  pub program : RunsAs b i count cs o.program
-  pub clauses : o.clauses.items ≡ touched_clauses (written cs) t
-  pub freezes : o.freezes.items ≡ touched_freezes (written cs) t
-
--- so for a ground call of the site, and nothing for another
-abbrev pub IsKeptFor : s.Workload → List ℤ → ℕ → PlannedCall → Option OwnCall → Type 0
+-- so for the commands of a ground call of the site, and nothing for another
+abbrev pub IsKeptFor : s.Workload → List ℤ → ℕ → PlannedCall → Option Program → Type 0
 unfolding words
 IsKeptFor w base i g o =
-    MatchOption o (g.site ≢ i)
-    (IsOwnCall (template_at w base) (values_of base) i (length base) (base_row (sites_of w) (values_of base) g).residual)
+    MatchOption o (g.site ≢ i) (RunsAs (values_of base) i (length base) (base_row (sites_of w) (values_of base) g).residual)
 
 -- so for each
-abbrev pub AreOwnCalls : s.Workload → List ℤ → ℕ → List PlannedCall → List (Option OwnCall) → Type 0
+abbrev pub AreOwnPrograms : s.Workload → List ℤ → ℕ → List PlannedCall → List (Option Program) → Type 0
 unfolding words
-AreOwnCalls w base i gs os = AllZip (IsKeptFor w base i) gs os
+AreOwnPrograms w base i gs os = AllZip (IsKeptFor w base i) gs os
 
 -- the plan of some accepted workload
 pub record IsSomePlan (p : RoundPlan) : Type 0 where

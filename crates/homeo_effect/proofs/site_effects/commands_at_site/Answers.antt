@@ -15,7 +15,7 @@ use Rattle.homeo_effect.specs.inner.Alone.{CommandFits}
 use Rattle.homeo_effect.proofs.Equations.{localized_commands}
 use Rattle.homeo_effect.proofs.LocalRuns.{alone_is_alone, whole_is_alone, same_runs, can_too, each_fits, straight_too, same_written}
 use Rattle.homeo_effect.proofs.OwnParts.{own_commands}
-use Rattle.homeo_effect.proofs.site_effects.effects.Goals as goal
+use Rattle.homeo_effect.proofs.site_effects.commands_at_site.Goals as goal
 
 pub local_commands-requires : goal.local_commands-requires
 local_commands-requires c =

@@ -3,10 +3,10 @@ use Rattle.std.proofs.Common.{take}
 use Rattle.homeo_syntax.specs.Source.{Workload}
 use Rattle.homeo_plan.specs.Planned.{planned}
 use Rattle.homeo_build.specs.Plan.{IsPlanOf}
-use Rattle.homeo_site.specs.inner.OwnCalls.{AreOwnCalls}
-use Rattle.homeo_site.proofs.own_calls.own_calls.Given as goal
+use Rattle.homeo_site.specs.inner.OwnPrograms.{AreOwnPrograms}
+use Rattle.homeo_site.proofs.own_programs.own_programs.Given as goal
 
 abbrev pub invariant-loop-residual : goal.invariant-loop-residual
 invariant-loop-residual l =
     (work : Workload) → IsPlanOf work l.plan.base.items l.plan →
-    AreOwnCalls work l.plan.base.items l.site (take l.residual-index (planned work)) l.own.items
+    AreOwnPrograms work l.plan.base.items l.site (take l.residual-index (planned work)) l.own.items
