@@ -6,9 +6,10 @@ ghost use Rattle.homeo_syntax.specs.LowView.{plain_lexpr};
 ghost use Rattle.homeo_site_tests.specs.inner.Example.{base, joined, lowered, pair_of, sum_of, IsExample};
 
 use homeo_meaning::Database;
-use homeo_plan::{Clause, Config, Delta, LocalTreaty, Residual, Template, Term};
+use homeo_plan::{Clause, Config, Delta, Residual, RoundPlan, Template, Term};
 use homeo_syntax::{LCommand, LExpr, List, Memory, SplitName, Temp};
 use std::alloc::Global;
+use std::sync::Arc;
 
 pub(crate) fn base(alloc: Global) -> Result<Database, Memory>
     ensures { IfOk result (λ b. b.items ≡ base) }
@@ -96,10 +97,9 @@ fn clause(alloc: Global, factor: i128, slack: i128) -> Result<Clause, Memory> {
     })
 }
 
-/// The object is from 1 to 9: of its delta at site 0 at most 4 may be taken, and 2 added.
-pub(crate) fn treaty(alloc: Global) -> Result<LocalTreaty, Memory>
-    ensures site { IfOk result (λ t. t.site ≡ 0) }
-    ensures few { IfOk result (λ t. length t.template.clauses.items + length t.template.freezes.items < 2 ^ 32) }
+/// A round in which the object is from 1 to 9: of its delta at site 0 at most 4 may be taken, and 2 added.
+pub(crate) fn plan(alloc: Global) -> Result<Arc<RoundPlan>, Memory>
+    ensures { IfOk result (λ p. length p.value.template.clauses.items + length p.value.template.freezes.items < 2 ^ 32) }
 {
     let mut clauses = List::new(alloc);
     clauses.push(clause(alloc, -1, 4)?)?;
@@ -107,13 +107,15 @@ pub(crate) fn treaty(alloc: Global) -> Result<LocalTreaty, Memory>
     let mut bounds = List::new(alloc);
     bounds.push(List::from_vec([4, 0].to_vec(alloc)?))?;
     bounds.push(List::from_vec([2, 2].to_vec(alloc)?))?;
-    Ok(LocalTreaty {
-        site: 0,
+    let plan = RoundPlan {
+        base: base(alloc)?,
         template: Template {
             sites: 2,
             clauses,
             freezes: List::new(alloc),
         },
         config: Config { bounds },
-    })
+        residuals: List::new(alloc),
+    };
+    Ok(Arc::new(alloc, plan)?)
 }

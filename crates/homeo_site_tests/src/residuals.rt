@@ -1,6 +1,6 @@
 //! What a residual does at its own site, and how it runs there.
 
-use crate::example::{base, residual, treaty};
+use crate::example::{base, plan, residual};
 use homeo_effect::{Program, TreatyIndex, effects};
 use homeo_syntax::{LCommand, LExpr, List, Prints, SplitName, Temp};
 use std::test::Fail;
@@ -62,8 +62,8 @@ fn is_lowered(e: &LExpr) -> bool {
 fn what_is_fixed_at_a_site_is_put_in(rt: HostRuntime) -> Result<(), Fail> {
     let residual = residual(rt.alloc())?;
     let base = base(rt.alloc())?;
-    let treaty = treaty(rt.alloc())?;
-    let index = TreatyIndex::of(rt.alloc(), &treaty.template, treaty.site)?;
+    let plan = plan(rt.alloc())?;
+    let index = TreatyIndex::of(rt.alloc(), &plan, 0)?;
     let effects = effects(rt.alloc(), &residual, &index, &base)?;
     match effects.commands.as_slice() {
         [
@@ -95,10 +95,10 @@ fn what_is_fixed_at_a_site_is_put_in(rt: HostRuntime) -> Result<(), Fail> {
 fn a_program_runs_on_the_deltas_of_its_site(rt: HostRuntime) -> Result<(), Fail> {
     let residual = residual(rt.alloc())?;
     let base = base(rt.alloc())?;
-    let treaty = treaty(rt.alloc())?;
-    let index = TreatyIndex::of(rt.alloc(), &treaty.template, treaty.site)?;
+    let plan = plan(rt.alloc())?;
+    let index = TreatyIndex::of(rt.alloc(), &plan, 0)?;
     let effects = effects(rt.alloc(), &residual, &index, &base)?;
-    let program = Program::of(rt.alloc(), 0, &effects)?;
+    let program = Program::of(rt.alloc(), 0, effects.commands.as_slice())?;
     let mut deltas = [2];
     let mut temporaries = vec![in rt.alloc(); 9; program.temporaries as usize]?;
     let mut prints: Prints = List::new(rt.alloc());
