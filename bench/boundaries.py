@@ -19,6 +19,7 @@ COMMANDS = ("steps", "run", "tables", "treaty")
 MOST_BYTES, MOST_SITES, MOST_SLOTS, MOST_OBJECTS, MOST_TRANSACTIONS, MOST_CLIENTS = 1_048_576, 16, 64, 1_024, 256, 64
 MOST_CALLS, MOST_DIFFERENT, MOST_DIGITS, LONGEST_NAME, GREATEST_BOUND, MOST_DEEP = 20_000, 1_024, 18, 32, 10**12, 32
 MOST_SIZE, MOST_SIZES, MOST_DEPTH, MOST_PRINTS, MOST_ROWS, MOST_ROWS_TIMES_SIZES = 200_000, 2_000_000, 1_000, 1_000_000, 4_096, 8_000_000
+GREATEST_WEIGHT = 1_000
 END = "end\n"
 
 
@@ -29,6 +30,11 @@ def refusing(code):
 
 def begin(sites):
     return f"workload 1\nsites {sites}\n"
+
+
+def begin_weighed(sites, weights):
+    """The lines in front of the objects in version 2, with these weights."""
+    return f"workload 2\nsites {sites}\nweights {', '.join(map(str, weights))}\n"
 
 
 def client_calling(calls, mark=None):
@@ -114,6 +120,16 @@ def declared():
         yield boundary(what, "E9", *(begin(2) + f"object x in {it} = 0\n" + END for it in ranges))
 
 
+def weighed():
+    """The weights of sites, and how many there are."""
+    greatest, past = [begin_weighed(2, [0, it]) + END for it in (GREATEST_WEIGHT, f"`{GREATEST_WEIGHT + 1}")]
+    yield boundary("weight of a site, the most", "E9", greatest, past)
+    yield boundary("weight of a site, the least", "E9", begin_weighed(2, [0, 1]) + END, begin_weighed(2, ["`0", 0]) + END)
+    whole = begin_weighed(MOST_SITES, [1] * MOST_SITES) + END
+    for what, count in (("too many", MOST_SITES + 1), ("too few", MOST_SITES - 1)):
+        yield boundary(f"weights, {what}", "E8", whole, begin_weighed(MOST_SITES, ["`1"] + [1] * (count - 1)) + END)
+
+
 def called():
     """Calls, and different calls."""
     body = begin(2) + "transaction t(p in 0..99999) { skip }\n"
@@ -136,6 +152,12 @@ EMPTY = "transaction empty() { }\n"
 def once(body):
     """A text with one call of this body; the number `mark` says which call has a backquote."""
     return lambda mark=None: HEAD + f"transaction t() {{ {body} }}\n" + client_calling(["t()"], mark) + END
+
+
+def once_ending(body):
+    """A text of version 2 with one call of this body."""
+    head = begin_weighed(1, [1]) + "object x in 0..9 = 0\n"
+    return lambda mark=None: head + f"transaction t() {{ {body} }}\n" + client_calling(["t()"], mark) + END
 
 
 def often(body, count):
@@ -170,6 +192,11 @@ def sizes():
     yield boundary("size of a call, to the unit", "E11", once(skips)(), once(skips + ";skip")(0))
     loop = looped("skip", 39_988) + "; skip; skip; skip"
     yield boundary("size of a call, of a loop", "E11", once(loop)(), once(loop + "; skip")(0))
+    # Beside its commands a call that can end itself has size 12, and for each object that it writes 13 more on one site.
+    ending = ";".join(["skip"] * (MOST_SIZE - 12 - 2 - 8)) + "; abort; skip"
+    yield boundary("size of a call that can end itself, to the unit", "E11", once_ending(ending)(), once_ending("skip; " + ending)(0))
+    undone = ";".join(["skip"] * (MOST_SIZE - 12 - 13 - 17 - 2)) + "; write(x = 1); abort"
+    yield boundary("size of a call that can undo a write, to the unit", "E11", once_ending(undone)(), once_ending("skip; " + undone)(0))
     yield boundary("depth of a call", "E11", once(negated)(), once(negated + "; v := " + "- " * 30 + "v")(0))
     to_the_unit = negated + "; v := " + "- " * (MOST_DEPTH - 991) + "v"
     yield boundary("depth of a call, to the unit", "E11", once(to_the_unit)(), once(to_the_unit + "; v := - v")(0))
@@ -194,8 +221,10 @@ def printed():
 def branched():
     """How many rows a table may have, and how large all tables may be."""
     writes = joined(["write(x = 1)"] * 12)
+    ending = joined(["write(x = 1)"] * 11) + "; abort"
     loops = looped("skip", 1) + "; delete r of R when r.f = 1; write(x = 1); write(x = 2)"
     yield boundary("rows of a call", "E12", once(writes)(), once(writes + "; write(x = 1)")(0))
+    yield boundary("rows of a call that can end itself", "E12", once_ending(ending)(), once_ending("write(x = 1); " + ending)(0))
     one_more = f"if read(x) = 3 then skip else {{ {writes} }}"
     yield boundary("rows of a call, to the unit", "E12", once(writes)(), once(one_more)(0))
     yield boundary("rows of a call, of loops", "E12", once(loops)(), once(loops + "; write(x = 1)")(0))
@@ -207,7 +236,7 @@ def branched():
 
 def boundaries():
     """A boundary for each limit."""
-    for kind in (letters, depths, declared, called, heavy, sizes, printed, branched):
+    for kind in (letters, depths, declared, weighed, called, heavy, sizes, printed, branched):
         yield from kind()
 
 

@@ -412,6 +412,41 @@ def many_rounds_text(clauses, sites, calls):
     return "\n".join(lines + [f"client v at 0 {{ {looks} }}", "schedule " + "u0 u1 " * (calls // 2) + "v " * 20, "end", ""])
 
 
+def weighed(text, weights):
+    """A text of version 1 as one of version 2, with these weights."""
+    head, sites, rest = text.split("\n", 2)
+    assert head == "workload 1" and sites == f"sites {len(weights)}"
+    return "\n".join(["workload 2", sites, f"weights {', '.join(map(str, weights))}", rest])
+
+
+def weighed_rounds_text(clauses):
+    """The same as `many clauses`, at sites of different weights, of which two write."""
+    return weighed(many_rounds_text(clauses, 16, 4), range(985, 1_001))
+
+
+def weighed_wide_text(calls):
+    """The same as `wide`, at sites of different weights, all of which write."""
+    return weighed(wide_text(calls), range(985, 1_001))
+
+
+def undone_text(objects, calls):
+    """Calls that each write so many objects, the last one first, and then end themselves."""
+    lines = ["workload 1", "sites 2"] + [f"object o{k} in 0..1000000 = 500000" for k in range(objects)]
+    writes = ";".join(f"write(o{k} = read(o{k}) + 1)" for k in reversed(range(objects)))
+    lines.append(f"transaction t() {{ {writes}; abort }}")
+    lines += [f"client u{site} at {site} {{ {'; '.join(['t()'] * (calls // 2))} }}" for site in range(2)]
+    return weighed("\n".join(lines + ["schedule " + "u0 u1 " * (calls // 2), "end", ""]), [3, 1])
+
+
+def ending_text(objects, command):
+    """20,000 local calls at 2 sites that each write so many objects, where every other call of a site does this command behind them."""
+    lines = ["workload 1", "sites 2"] + [f"object o{k} in 0..1000000000000 = 500000000000" for k in range(objects)]
+    writes = "; ".join(f"write(o{k} = read(o{k}) + n)" for k in range(objects))
+    lines.append(f"transaction t(n in 1..2) {{ {writes}; if n = 1 then {command} else skip; print(n) }}")
+    lines += [f"client u{site} at {site} {{ {'; '.join(['t(1)', 't(2)'] * 5_000)} }}" for site in range(2)]
+    return weighed("\n".join(lines + ["schedule " + "u0 u1 " * 10_000, "end", ""]), [1, 1])
+
+
 def under_many_text(clauses):
     """The same as `under`, with the clauses from ten calls of one transaction."""
     lines, clients = adding(2, 19_000, 0)

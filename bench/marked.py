@@ -10,7 +10,7 @@ def end_of(name):
 
 
 def put(document, name, lines):
-    """Writes the lines between the markers of that name, in the place of what stood there. Returns None, or what is wanting."""
+    """Writes the lines between the markers of that name, in the place of what stood there. Returns None, or what isn't there."""
     text = document.read_text()
     front, begin, rest = text.partition(begin_of(name) + "\n")
     _, end, back = rest.partition(end_of(name) + "\n")

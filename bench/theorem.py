@@ -3,8 +3,9 @@
 
 Writes into docs/THEOREM.md, between marker lines, what is taken from the sources: the clause `done` of homeo::run (`clause`), the
 files of the heart with their lines (`heart`), and all files that the clauses of homeo::run reach (`files`). Run it after a change of
-crates/homeo/src/top.rt or of definitions; the gate compares. Lines are those of definitions that the clauses reach, without comments
-and imports, as .ci/reach.py counts them.
+crates/homeo/src/top.rt or of definitions. The gate compares, and looks that the tables of words and signs, which are written by hand,
+lack none that the document says they have. Lines are those of definitions that the clauses reach, without comments and imports, as
+.ci/reach.py counts them.
 """
 import collections
 import pathlib
@@ -25,9 +26,18 @@ HEART = [
     ("homeo_history/specs/History.antt", "rounds, entries and closing calls, as data"),
     ("homeo_history/specs/Legal.antt", "which histories are legal, in five parts"),
     ("homeo_history/specs/Merge.antt", "the orders in which the calls of a round may have been made"),
+    ("homeo_history/specs/Replayed.antt", "each entry by its site's local step, and where a round ends"),
+    ("homeo_plan/specs/Local.antt", "what a site does by itself"),
+    ("homeo_plan/specs/Treaty.antt", "what a site's deltas have to keep, and what fails first"),
     ("homeo_history/specs/Follows.antt", "that a history came from the calls of the schedule"),
     ("homeo_meaning/specs/Serial.antt", "calls one after another on one database"),
     ("homeo_meaning/specs/Meaning.antt", "what each expression and each command means"),
+]
+# Of each of these the document says what every definition says that the clause `done` reaches.
+TOLD = [
+    "homeo.specs.Outcome",
+    *(f"homeo_history.specs.{it}" for it in ("History", "Legal", "Merge", "Follows", "Replayed")),
+    "homeo_plan.specs.Treaty",
 ]
 
 
@@ -52,6 +62,23 @@ def reached():
     found = reach.Reach(ROOT)
     lines = reach.lines_of(found.of_top())
     return {str(found.modules[it].file.relative_to(ROOT / "crates")): count for it, count in lines.items()}
+
+
+def reached_by_clause():
+    """What reads the definitions, and those that the clause `done` reaches."""
+    found = reach.Reach(ROOT)
+    imports = next(it.imports for it in found.public if (it.crate, it.name) == reach.TOP)
+    return found, found.reached([reach.Promise("homeo", None, "run", " ".join(clause("done")), imports)])
+
+
+def signs(found, definitions):
+    """The names of std that these definitions use, with the signs that stand between their arguments."""
+    used = set()
+    for it in definitions:
+        words = {part for word in reach.NAME.findall(it.text) for part in word.split(".")} | set(it.text.split())
+        names = found.modules[it.module].imports.names.items()
+        used |= {name.strip("◌") for name, (path, _) in names if path.startswith("Rattle.std") and name.strip("◌") in words}
+    return used
 
 
 def heart_table(lines):
@@ -86,12 +113,14 @@ def parts():
 
 
 def check(verdict):
-    """What docs/THEOREM.md has taken from the sources is what stands there; each word stands in the file that it is linked to."""
+    """What docs/THEOREM.md has taken from the sources is what stands there; each word stands in the file that it is linked to; and
+    no word and no sign is left out that it says it has."""
     text = DOCUMENT.read_text()
     for name, lines in parts().items():
         part = text.partition(marked.begin_of(name))[2].partition(marked.end_of(name))[0]
         verdict(f"THEOREM.md: {name}", None if part.strip().splitlines() == lines else "not what stands in the sources: run bench/theorem.py")
-    words = re.findall(r"^\| `(\w+)`[^|]*\| [^|]* \| \[[^\]]*\]\(([^)]+)\) \|$", text, re.M)
+    rows = re.findall(r"^\| (`\w+`(?:, `\w+`)*) \| [^|]* \| \[[^\]]*\]\(([^)]+)\) \|$", text, re.M)
+    words = [(word, target) for listed, target in rows for word in re.findall(r"\w+", listed)]
     verdict("THEOREM.md: words", None if words else "there is no table of them")
     for word, target in words:
         file = DOCUMENT.parent / target
@@ -101,6 +130,13 @@ def check(verdict):
     names = cited - {"words", "now", "items", "old", "new", "source", "out", "S", "O"}
     lacking = names - {word for word, _ in words}
     verdict("THEOREM.md: words of the clause", f"{sorted(lacking)} have no row" if lacking else None)
+    found, definitions = reached_by_clause()
+    told = {it.name for it in definitions if it.module.removeprefix("Rattle.") in TOLD}
+    lacking = told - {word for word, _ in words}
+    verdict("THEOREM.md: words of outcomes and histories", f"{sorted(lacking)} have no row" if lacking or not told else None)
+    legend = text.partition("## The legend")[2].partition("\n## ")[0]
+    lacking = signs(found, definitions) - {it.replace("\\", "") for it in re.findall(r"(?:\\\||[^\s`,;|])+", legend)}
+    verdict("THEOREM.md: signs", f"{sorted(lacking)} have no row" if lacking else None)
 
 
 def main():

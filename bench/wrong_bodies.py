@@ -1,49 +1,98 @@
 #!/usr/bin/env python3
 """bench/wrong_bodies.py
 
-Prints the names of the wrong bodies of each crate, those of crates/*/must-fail/, and writes the list into docs/PROOFS.md between the
-marker lines of `wrong-bodies`. The gate compares.
+Prints the names of the wrong bodies of each crate, those that the gate tries (crates/*/must-fail/) and behind them the others
+(crates/*/wrong-bodies/, which bench/wrong-bodies tries with the first), and writes the list into docs/TESTS.md between the marker lines
+of `wrong-bodies`. It says which don't fit their files, and where a crate has more in must-fail/ than its share. The gate refuses both, and
+another list.
 """
 import pathlib
 import sys
 
 sys.dont_write_bytecode = True
 sys.path.insert(0, str(pathlib.Path(__file__).resolve().parent))
+import crates
+import edits
 import marked
 
-ROOT = pathlib.Path(__file__).resolve().parent.parent
-DOCUMENT = ROOT / "docs" / "PROOFS.md"
+ROOT = crates.ROOT
+DOCUMENT = ROOT / "docs" / "TESTS.md"
+GATED, OTHERS = "must-fail", "wrong-bodies"
+# How many of a crate's wrong bodies the gate tries.
+MOST = 4
+# Crates whose contracts the proofs of the crates above try already, and the bodies that the gate tries all the same.
+INNER = {
+    "homeo_context": [],
+    "homeo_ground": [],
+    "homeo_size": [],
+    "homeo_desugar": [],
+    "homeo_split": [],
+    "homeo_delta": [],
+    "homeo_joint": [],
+    "homeo_table": ["write_is_not_put_in"],
+    "homeo_linear": ["print_needs_nothing", "tests_before_a_false_one_are_taken", "written_deltas_need_nothing"],
+    "homeo_config": ["all_bounds_are_zero", "remainder_is_lost", "whole_slack_for_each"],
+    "homeo_template": [],
+    "homeo_build": [],
+    "homeo_effect": [],
+}
 
 
-def crates():
-    rows = (line.partition("#")[0].partition(":")[0].split() for line in (ROOT / "crates.txt").read_text().splitlines())
-    return [row[0] for row in rows if row]
+def edits_in(crate, part):
+    return sorted((ROOT / "crates" / crate / part).glob("*.edit"))
 
 
 def wrong_bodies(crate):
-    return sorted((ROOT / "crates" / crate / "must-fail").glob("*.edit"))
+    return [*edits_in(crate, GATED), *edits_in(crate, OTHERS)]
 
 
 def listed():
     """A crate a line, in the order of crates.txt, and the names of its edits as words."""
-    named = {crate: [it.stem.replace("_", " ") for it in wrong_bodies(crate)] for crate in crates()}
-    return [f"- {crate}: {'; '.join(names)}." for crate, names in named.items() if names]
+    return [f"- {crate}: {said_of(crate)}" for crate in crates.named() if wrong_bodies(crate)]
+
+
+def said_of(crate):
+    gated, others = ("; ".join(it.stem.replace("_", " ") for it in edits_in(crate, part)) for part in (GATED, OTHERS))
+    return " ".join([f"{gated}."] * bool(gated) + [f"Outside the gate: {others}."] * bool(others))
 
 
 def check(verdict):
-    """The list in docs/PROOFS.md is that of the folders."""
+    """The list in docs/TESTS.md is that of the folders, the gate tries no more of a crate than its share, and each edit can be made."""
     part = DOCUMENT.read_text().partition(marked.begin_of("wrong-bodies"))[2].partition(marked.end_of("wrong-bodies"))[0]
     written, wanted = part.strip().splitlines(), listed()
     wrong = [line for line in written if line not in wanted] + [line for line in wanted if line not in written]
     fault = f"run bench/wrong_bodies.py; it differs at {wrong[0]!r}" if wrong else None
-    verdict("PROOFS.md: wrong bodies", fault or (None if written == wanted else "another order: run bench/wrong_bodies.py"))
+    verdict("TESTS.md: wrong bodies", fault or (None if written == wanted else "another order: run bench/wrong_bodies.py"))
+    for crate in crates.named():
+        if wrong_bodies(crate):
+            verdict(f"wrong bodies of {crate}", next(faults_of(crate), None))
+
+
+def faults_of(crate):
+    gated = [it.stem for it in edits_in(crate, GATED)]
+    wanted = INNER.get(crate)
+    if wanted is not None and gated != wanted:
+        yield f"{GATED}/ of an inner crate has {gated}, and not {wanted}"
+    if len(gated) > MOST:
+        yield f"{GATED}/ has {len(gated)}, more than {MOST}: the others belong in {OTHERS}/"
+    for name in sorted({*gated} & {it.stem for it in edits_in(crate, OTHERS)}):
+        yield f"{name} stands in {GATED}/ and in {OTHERS}/"
+    for edit in edits_in(crate, GATED):
+        if not edits.is_of_code(edit):
+            yield f"{edit.name} turns a definition or a proof, which shows nothing of a body: it belongs in {OTHERS}/"
+    for edit in wrong_bodies(crate):
+        try:
+            edits.applied(edit, ROOT / "crates" / crate)
+        except edits.Misfit as misfit:
+            yield str(misfit)
 
 
 def main():
     print("\n".join(listed()))
+    faults = [f"{crate}: {fault}" for crate in crates.named() for fault in faults_of(crate)]
     lacking = marked.put(DOCUMENT, "wrong-bodies", listed())
-    if lacking:
-        sys.exit(lacking)
+    if faults or lacking:
+        sys.exit("\n".join([*faults, *[lacking] * bool(lacking)]))
 
 
 if __name__ == "__main__":

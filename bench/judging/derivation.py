@@ -6,7 +6,7 @@ sites; the tests on the way give the clauses, and what a site prints and writes 
 import dataclasses
 
 import judging.programs as p
-from judging.treaty import Clause, Treaty, even_split
+from judging.treaty import Clause, Treaty, split
 
 
 @dataclasses.dataclass
@@ -103,8 +103,12 @@ class Walk:
         self.parameters = dict(zip(call.transaction.parameters, call.arguments))
         self.names = {name: constant(it) for name, it in self.parameters.items()}
         self.written, self.atoms, self.frozen = {}, [], set()
-        self.command(call.transaction.body)
-        self.freeze_written()
+        try:
+            self.command(call.transaction.body)
+            self.freeze_written()
+        except p.Ended:
+            # All that was written is as it was, so that the site's deltas stay.
+            pass
 
     def object(self, name):
         """What a number of the database is: its base with all deltas, or what was written."""
@@ -221,6 +225,8 @@ class Walk:
             case p.Update(relation, row, condition, field, value):
                 for slot in self.visited(relation, row, condition):
                     self.write_within(relation.field(slot, field), relation.fields[field], self.value(value))
+            case p.Abort():
+                raise p.Ended
 
     def set_slot_field(self, found):
         relation, bounds = found.relation, found.relation.fields[found.field]
@@ -256,19 +262,63 @@ def ground_calls(workload):
     return list({(str(call), site): (call, site) for call, site in calls}.values())
 
 
-def treaty(sites, calls, base):
-    """The treaty of a round with this base and these ground calls, its bounds the even split of the slacks."""
-    order = {name: number for number, name in enumerate(base)}
-    clauses, frozen = {}, set()
+def may_write(found, parameters):
+    """The numbers that a command writes in one case or another."""
+    match found:
+        case p.Block(commands):
+            return {name for it in commands for name in may_write(it, parameters)}
+        case p.Write(target):
+            return {target.name}
+        case p.If(_, then, otherwise):
+            return may_write(then, parameters) | may_write(otherwise, parameters)
+        case p.ForEach(_, _, _, body):
+            return may_write(body, parameters)
+        case p.SetRowField(relation, _, field) | p.Update(relation, _, _, field):
+            return {relation.field(slot, field) for slot in range(relation.slots)}
+        case p.SetSlotField(relation, index, field):
+            known = p.known(index, parameters)
+            return {relation.field(slot, field) for slot in range(relation.slots) if known in (None, slot)}
+        case p.Delete(relation):
+            return {relation.used(slot) for slot in range(relation.slots)}
+        case p.Insert(relation):
+            fields = {relation.field(slot, field) for slot in range(relation.slots) for field in relation.fields}
+            return fields | {relation.used(slot) for slot in range(relation.slots)}
+    return set()
 
-    def by_place(delta):
-        return order[delta[0]], delta[1]
 
-    for call, site in calls:
-        walk = Walk(sites, site, base, call)
-        frozen |= walk.frozen
-        for atom in walk.atoms:
-            form = tuple((atom.factors[delta], *delta) for delta in sorted(atom.factors, key=by_place))
-            if form:
-                clauses.setdefault((-atom.constant, form))
-    return Treaty([Clause(slack, even_split(slack, sites), list(form)) for slack, form in clauses], sorted(frozen, key=by_place))
+class Derivation:
+    """Derives the treaties of a workload's rounds from its ground calls.
+
+    `written` has the deltas that the sites' calls write in one case or another, in whatever round.
+    """
+
+    def __init__(self, workload):
+        self.sites, self.weights, self.calls = workload.sites, workload.weights, ground_calls(workload)
+        self.written = set()
+        for call, site in self.calls if self.weights else []:
+            parameters = dict(zip(call.transaction.parameters, call.arguments))
+            self.written.update((name, site) for name in may_write(call.transaction.body, parameters))
+
+    def shares(self, form):
+        """The share of each site in a clause: its weight, where its calls write one of its deltas there. Without any, all are even."""
+        writers = {site for _, name, site in form if (name, site) in self.written}
+        found = [weight if site in writers else 0 for site, weight in enumerate(self.weights)]
+        return found if any(found) else [1] * self.sites
+
+    def treaty(self, base):
+        """The treaty of a round with this base."""
+        order = {name: number for number, name in enumerate(base)}
+        clauses, frozen = {}, set()
+
+        def by_place(delta):
+            return order[delta[0]], delta[1]
+
+        for call, site in self.calls:
+            walk = Walk(self.sites, site, base, call)
+            frozen |= walk.frozen
+            for atom in walk.atoms:
+                form = tuple((atom.factors[delta], *delta) for delta in sorted(atom.factors, key=by_place))
+                if form:
+                    clauses.setdefault((-atom.constant, form))
+        made = [Clause(slack, split(slack, self.shares(form)), list(form)) for slack, form in clauses]
+        return Treaty(made, sorted(frozen, key=by_place))

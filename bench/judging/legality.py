@@ -86,7 +86,7 @@ def bases_of(history, merges, initial):
 def check_database(history, database):
     for number, (name, value) in enumerate(database.items()):
         if number == len(history.database):
-            raise Illegal(f"the database: {name} is wanting")
+            raise Illegal(f"the database lacks {name}")
         said, number_said = history.database[number]
         if said != name:
             raise Illegal(f"the database: {said} stands where {name} is wanted")

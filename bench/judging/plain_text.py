@@ -4,6 +4,9 @@ So the treaty of any round can be asked for: it is that of the text that starts 
 used slots. Relations are written out slot by slot, as docs/LANGUAGE.md says what is analysed of them, so that the clauses are the
 same in the same order. Two things differ in the text and not in its clauses: each write has a test of its bounds of its own, which
 gives clauses that are there already; and a search of a slot is a row of tests with a flag, and not a nest that is 64 deep.
+
+Each different call has a transaction of its own, so that an index that its arguments tell is one slot there too, and the call can
+write what it can write in the given text and no more.
 """
 import re
 
@@ -26,11 +29,18 @@ def guarded(condition, commands):
     return f"if {condition} then {block(commands)} else skip"
 
 
-class Transactions:
-    """Writes commands. `names` has the names of the database's numbers in the text that is made."""
+class Transaction:
+    """Writes the transaction of a call. `names` has the names of the database's numbers in the text that is made."""
 
-    def __init__(self, names, beginning):
+    def __init__(self, names, beginning, call):
         self.names, self.beginning, self.slots, self.temporaries = names, beginning, {}, 0
+        self.called = call.transaction
+        self.parameters = dict(zip(self.called.parameters, call.arguments))
+
+    def text(self, name):
+        declared = ", ".join(f"{name} in {bounds.low}..{bounds.high}" for name, bounds in self.called.parameters.items())
+        commands = [self.command(it) for it in self.called.body.commands]
+        return f"transaction {name}({declared}) {{ {'; '.join(commands)} }}"
 
     def fresh(self):
         self.temporaries += 1
@@ -85,8 +95,8 @@ class Transactions:
 
     def slot_field(self, found, before):
         relation, field = found.relation, found.field
-        if isinstance(found.index, p.Number):
-            slot = found.index.number
+        slot = p.known(found.index, self.parameters)
+        if slot is not None:
             return f"read({self.field(relation, slot, field)})" if relation.has(slot) else "0"
         index = self.assigned(self.expression(found.index, before), before)
         value = self.assigned("0", before)
@@ -132,6 +142,8 @@ class Transactions:
         match found:
             case p.Skip():
                 before.append("skip")
+            case p.Abort():
+                before.append("abort")
             case p.Block(commands):
                 before.append(block([self.command(it) for it in commands]))
             case p.Assign(name, value):
@@ -162,15 +174,12 @@ class Transactions:
         return before
 
     def set_slot_field(self, found, before):
-        relation, field, index = found.relation, found.field, found.index
-        if isinstance(index, p.Number):
-            slot = index.number
-            before.extend(self.set(self.field(relation, slot, field), found.value) if relation.has(slot) else ["skip"])
-        elif isinstance(index, p.Name) and index.is_parameter:
-            slots = range(relation.slots)
-            self.first([(f"{index.name} = {slot}", self.set(self.field(relation, slot, field), found.value)) for slot in slots], before)
-        else:
+        relation, field = found.relation, found.field
+        slot = p.known(found.index, self.parameters)
+        if slot is None:
             self.set_searched(found, before)
+        else:
+            before.extend(self.set(self.field(relation, slot, field), found.value) if relation.has(slot) else ["skip"])
 
     def set_searched(self, found, before):
         relation, field = found.relation, found.field
@@ -198,6 +207,13 @@ class Transactions:
         return [f"write({self.used(relation, slot)} = 1)", *fields, f"{place} := {slot + 1}"]
 
 
+def head(workload):
+    """The lines in front of the objects."""
+    if not workload.weights:
+        return ["workload 1", f"sites {workload.sites}"]
+    return ["workload 2", f"sites {workload.sites}", f"weights {', '.join(map(str, workload.weights))}"]
+
+
 def all_bounds(workload):
     """The bounds of each number of a database."""
     found = {it.name: it.bounds for it in workload.objects.values()}
@@ -214,17 +230,15 @@ class PlainText:
     def __init__(self, workload, text):
         self.bounds, beginning = all_bounds(workload), name_beginning(text)
         self.names = {name: f"{beginning}{number}" for number, name in enumerate(self.bounds)}
-        self.sites, writer = workload.sites, Transactions(self.names, beginning)
+        self.head = head(workload)
         clients = workload.clients.values()
-        called = {call.transaction.name for client in clients for call in client.calls}
-        self.behind = [self.transaction(writer, it) for it in workload.transactions.values() if it.name in called]
-        self.behind += [f"client {it.name} at {it.site} {{ {'; '.join(map(str, it.calls))} }}" for it in clients]
-
-    def transaction(self, writer, found):
-        declared = ", ".join(f"{name} in {bounds.low}..{bounds.high}" for name, bounds in found.parameters.items())
-        commands = [writer.command(it) for it in found.body.commands]
-        return f"transaction {found.name}({declared}) {{ {'; '.join(commands)} }}"
+        calls = {str(call): call for client in clients for call in client.calls}
+        called = {said: f"{beginning}c{number}" for number, said in enumerate(calls)}
+        self.behind = [Transaction(self.names, beginning, calls[said]).text(name) for said, name in called.items()]
+        for it in clients:
+            made = "; ".join(f"{called[str(call)]}({', '.join(map(str, call.arguments))})" for call in it.calls)
+            self.behind.append(f"client {it.name} at {it.site} {{ {made} }}")
 
     def starting_with(self, database):
         objects = [f"object {self.names[name]} in {it.low}..{it.high} = {database[name]}" for name, it in self.bounds.items()]
-        return "\n".join(["workload 1", f"sites {self.sites}", *objects, *self.behind, "end", ""])
+        return "\n".join([*self.head, *objects, *self.behind, "end", ""])

@@ -8,22 +8,33 @@ import dataclasses
 node = dataclasses.dataclass(frozen=True, slots=True)
 
 
+class Ended(Exception):
+    """The call has ended itself."""
+
+
 class Run:
-    """One call on a database: the names that it knows, the slots that it visits, what it prints and writes and how it chooses."""
+    """One call on a database: the names that it knows, the slots that it visits, what it prints and how it chooses.
+
+    `written` has the value of each number that it wrote as it was before the call.
+    """
 
     __slots__ = ("database", "names", "slots", "prints", "written", "choices")
 
     def __init__(self, database, arguments):
         self.database, self.names, self.slots = database, dict(arguments), {}
-        self.prints, self.written, self.choices = [], set(), []
+        self.prints, self.written, self.choices = [], {}, []
 
     def choose(self, choice):
         self.choices.append(choice)
         return choice
 
     def set(self, name, value):
+        self.written.setdefault(name, self.database[name])
         self.database[name] = value
-        self.written.add(name)
+
+    def undo(self):
+        self.database.update(self.written)
+        self.written.clear()
 
     def set_within(self, name, bounds, value):
         """Sets a number where the value is within its bounds."""
@@ -262,6 +273,12 @@ class Skip:
 
 
 @node
+class Abort:
+    def do(self, run):
+        raise Ended
+
+
+@node
 class Block:
     commands: tuple
 
@@ -404,9 +421,12 @@ class Call:
     arguments: tuple
 
     def run_on(self, database):
-        """The run of this call, which changes the database."""
+        """The run of this call, which changes the database, unless the call ends itself."""
         run = Run(database, zip(self.transaction.parameters, self.arguments))
-        self.transaction.body.do(run)
+        try:
+            self.transaction.body.do(run)
+        except Ended:
+            run.undo()
         return run
 
     def __str__(self):

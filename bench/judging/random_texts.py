@@ -2,6 +2,7 @@
 
 Some transactions are of a common kind (add to a number, sell where enough is left, move, insert, pay, look), others any commands.
 Some texts have room for many calls that sites make alone, others next to none; in some, sites sell by turns what gets scarce.
+About half are of version 2, with weights and calls that end themselves; in others its words are names.
 """
 import random
 
@@ -10,6 +11,7 @@ SCARCE_BOUNDS = [(0, 20), (0, 60), (0, 90)]
 FIELD_BOUNDS = [(0, 1), (0, 1), (1, 5), (0, 9), (-3, 3), (1, 99)]
 PARAMETER_BOUNDS = [(1, 3), (0, 4), (1, 9), (-2, 2), (0, 1)]
 SITES = [1, 2, 2, 2, 3, 3, 4, 5, 8, 16]
+WEIGHTS = [0, 0, 1, 1, 1, 2, 3, 10, 1_000]
 CLIENTS = [1, 2, 2, 3, 4, 5, 6, 8, 12, 30, 64]
 MOST_CALLS = 70
 
@@ -38,6 +40,8 @@ class Transaction:
         objects, relations = self.maker.objects, self.maker.relations
         kinds = ([self.adding, self.selling] * 3 + [self.moving, self.looking] if objects else []) + [self.anything] * self.maker.wildness
         kinds += [self.inserting, self.inserting, self.clearing, self.paying, self.counting, self.sweeping] if relations else []
+        if self.maker.version == 2:
+            kinds += [self.undoing] * (4 * bool(objects)) + [self.undoing_rows] * (2 * bool(relations))
         return self.pick(kinds or [self.anything])()
 
     # ---- common kinds
@@ -92,6 +96,23 @@ class Transaction:
         loop = f"foreach r0 of {relation} when true {{ {commands} }}"
         return self.pick([loop, f"update r0 of {relation} when r0.{name} < {high} set {name} = r0.{name} + 1"])
 
+    # ---- calls that write first, and end themselves where that was too much
+    def undoing(self):
+        x, y, n = self.pick(list(self.maker.objects)), self.pick(list(self.maker.objects)), self.parameter(1, 4)
+        low, high = self.maker.objects[x]
+        end = self.pick(["abort", "abort", "{ print(-1); abort }", "{ print(-1); abort; print(-2) }"])
+        limit = self.pick([n, low + 3, (low + high) // 2, (low + high) // 2, high - 1])
+        test = f"if read({x}) {self.pick(['<', '<', '='])} {limit} then {end} else {self.pick(['skip', 'print(1)'])}"
+        behind = self.pick(["", f"; write({y} = read({y}) + {n})", f"; print(read({y}))"])
+        return f"write({x} = read({x}) - {n}); {test}{behind}"
+
+    def undoing_rows(self):
+        relation, (slots, fields) = self.pick(list(self.maker.relations.items()))
+        name, low, high = self.pick(fields)
+        before = self.pick(["", f"{relation}[{self.parameter(0, slots)}].{name} := {self.value_within(low, high)}; "])
+        body = self.pick([f"r0.{name} := r0.{name} + 1; if r0.{name} = {high} then abort else skip", f"print(r0.{name}); abort"])
+        return f"{before}foreach r0 of {relation} when r0.{name} {self.pick(['<', '<='])} {high} {{ {body} }}; print(0)"
+
     # ---- any commands
     def anything(self):
         for _ in range(self.random.randint(0, 2)):
@@ -106,13 +127,15 @@ class Transaction:
             kinds += [self.any_insert, self.set_slot] + ([self.foreach, self.any_delete, self.update] if depth else [])
         if self.rows:
             kinds += [self.set_row] * 3
+        if self.maker.version == 2 and depth < 2:
+            kinds += [lambda _: "abort"]
         return self.pick(kinds)(depth)
 
     def print(self, depth):
         return f"print({self.expression(2)})"
 
     def assign(self, depth):
-        value, name = self.expression(2), f"v{self.random.randint(0, 2)}"
+        value, name = self.expression(2), self.pick(self.maker.temporaries)
         self.temporaries.append(name)
         return f"{name} := {value}"
 
@@ -213,10 +236,13 @@ class Maker:
 
     def __init__(self, seed):
         self.random = random.Random(seed)
+        self.version = self.random.choice([1, 2])
         is_scarce = self.random.random() < 0.25
         self.wildness = 0 if is_scarce else self.random.choice([0, 0, 2, 6])
         bounds, most = (SCARCE_BOUNDS, 2) if is_scarce else (OBJECT_BOUNDS, 4)
-        self.objects = {f"x{k}": self.random.choice(bounds) for k in range(self.random.randint(int(is_scarce), most))}
+        first, last = self.random.choice([("x0", "v2"), ("weights", "abort")]) if self.version == 1 else ("x0", "v2")
+        self.temporaries = ["v0", "v1", last]
+        self.objects = {f"x{k}" if k else first: self.random.choice(bounds) for k in range(self.random.randint(int(is_scarce), most))}
         count = 0 if is_scarce else self.random.choice([0, 0, 0, 1, 1, 2])
         self.relations = {f"R{k}": (self.random.choice([1, 2, 2, 3, 4, 7]), self.fields()) for k in range(count)}
 
@@ -228,13 +254,19 @@ class Maker:
 
     def text(self):
         sites = self.random.choice(SITES)
-        lines = ["workload 1", f"sites {sites}"]
+        lines = [f"workload {self.version}", f"sites {sites}", *self.weights(sites)]
         lines += [f"object {name} in {low}..{high} = {self.start(low, high)}" for name, (low, high) in self.objects.items()]
         for name, (slots, fields) in self.relations.items():
             lines.append(f"relation {name}[{slots}] ({', '.join(f'{field} in {low}..{high}' for field, low, high in fields)})")
         transactions = [Transaction(self, f"t{k}") for k in range(self.random.randint(1, 5))]
         lines += [it.text() for it in transactions]
         return "\n".join([*lines, *self.clients(sites, transactions), "end", ""])
+
+    def weights(self, sites):
+        if self.version == 1:
+            return []
+        drawn = [self.random.choice(WEIGHTS) for _ in range(sites)]
+        return [f"weights {', '.join(map(str, drawn if any(drawn) else [1] * sites))}"]
 
     def clients(self, sites, transactions):
         count = self.random.choice(CLIENTS)

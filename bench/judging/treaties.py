@@ -1,6 +1,7 @@
 """The treaties of a run's rounds: each is derived, and the program is asked for those of the first rounds, which must be the same."""
 import subprocess
 
+import program
 from judging import derivation, treaty
 from judging.plain_text import PlainText
 from judging.report import Illegal
@@ -38,8 +39,8 @@ class Treaties:
 
     def __init__(self, program, workload, text, most, most_asked):
         self.program, self.workload, self.text, self.most_asked = program, workload, text, most_asked
-        self.calls, self.plain, self.kept = derivation.ground_calls(workload), None, {}
-        self.most = min(most, MOST_WALKS // max(1, len(self.calls)))
+        self.derivation, self.plain, self.kept = derivation.Derivation(workload), None, {}
+        self.most = min(most, MOST_WALKS // max(1, len(self.derivation.calls)))
         self.derived, self.asked, self.refused = 0, 0, 0
 
     def at(self, number, base):
@@ -48,21 +49,22 @@ class Treaties:
             return None
         key = tuple(base.values())
         if key not in self.kept:
-            self.kept[key] = derivation.treaty(self.workload.sites, self.calls, base)
+            self.kept[key] = self.derivation.treaty(base)
             if number < self.most_asked:
                 self.compare(number, base, self.kept[key])
         self.derived += 1
         return self.kept[key]
 
     def compare(self, number, base, derived):
+        told = []
+        self.asked += 1
         try:
-            told = [self.ask(self.text)] if number == 0 else []
-            self.asked += 1
+            if number == 0:
+                told.append(self.ask(self.text))
             if number or self.workload.relations:
                 told.append(self.ask_plain(base))
         except Refused:
             self.refused += 1
-            told = told[:1]
         for it in told:
             fault = difference(derived, it)
             if fault:
@@ -74,7 +76,7 @@ class Treaties:
         return renamed(self.ask(self.plain.starting_with(base)), {made: name for name, made in self.plain.names.items()})
 
     def ask(self, text):
-        run = subprocess.run([self.program, "treaty"], input=text.encode(), capture_output=True)
+        run = program.run([self.program, "treaty"], input=text.encode(), stdout=subprocess.PIPE, stderr=subprocess.PIPE)
         if run.returncode == 2 and run.stderr.startswith(b"refused E"):
             raise Refused
         if run.returncode or run.stderr:

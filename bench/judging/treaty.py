@@ -1,5 +1,6 @@
 """A round's treaty, read as `homeo treaty` prints it, and what breaks it."""
 import dataclasses
+import itertools
 import re
 
 from judging.report import COUNT, NUMBER, Illegal
@@ -61,9 +62,10 @@ class Treaty:
         return None
 
 
-def even_split(slack, sites):
-    """The bounds of the sites: whole numbers that sum to the slack."""
-    return [slack * (site + 1) // sites - slack * site // sites for site in range(sites)]
+def split(slack, shares):
+    """The bounds of the sites by the share of each: whole numbers that sum to the slack."""
+    whole, up_to = sum(shares), list(itertools.accumulate(shares, initial=0))
+    return [slack * after // whole - slack * before // whole for before, after in itertools.pairwise(up_to)]
 
 
 def listed(lines, word, form, first):

@@ -9,6 +9,8 @@ import judging.programs as p
 
 RESERVED = set("""workload sites object in relation transaction client at schedule end if then else skip write read print foreach of
 when insert into delete update set count sum used and not true""".split())
+# The words that version 2 reserves besides.
+RESERVED_IN_2 = {"weights", "abort"}
 TOKEN = re.compile(r"[ \t\r\n]*(?:([A-Za-z][A-Za-z0-9_]*)|([0-9]+)|(:=|\.\.|<=|[<=+\-*()\[\]{},;.])|$)")
 
 
@@ -25,7 +27,10 @@ class Client:
 
 @dataclasses.dataclass
 class Workload:
+    """What a text says. `weights` has the weight of each site, and in version 1 none."""
+
     sites: int
+    weights: list
     objects: dict
     relations: dict
     transactions: dict
@@ -55,6 +60,11 @@ class Words:
             if word:
                 self.found.append((word, at - len(word)))
         self.found.append(("", len(text)))
+        self.reserved = RESERVED | RESERVED_IN_2 if self.begins_version_2() else RESERVED
+
+    def begins_version_2(self):
+        number = self.found[1][0] if self.is_at("workload") else ""
+        return number.isdigit() and int(number) == 2
 
     def fault(self, wanted):
         word, at = self.found[self.next]
@@ -80,7 +90,7 @@ class Words:
 
     def name(self):
         word = self.found[self.next][0]
-        return self.take() if word[:1].isalpha() and word not in RESERVED else self.fault("a name")
+        return self.take() if word[:1].isalpha() and word not in self.reserved else self.fault("a name")
 
     def number(self):
         return int(self.take()) if self.found[self.next][0].isdigit() else self.fault("a number")
@@ -113,10 +123,12 @@ class Reader:
     def workload(self):
         words = self.words
         words.want("workload")
-        if words.number() != 1:
-            raise Unreadable("the version of the language isn't 1")
+        version = words.number()
+        if version not in (1, 2):
+            raise Unreadable("the version of the language is neither 1 nor 2")
         words.want("sites")
         sites, schedule = words.number(), None
+        weights = self.weights(sites) if version == 2 else []
         for word, phrase, kept in [
             ("object", self.object, self.objects),
             ("relation", self.relation, self.relations),
@@ -131,9 +143,18 @@ class Reader:
             while not words.is_at("end"):
                 schedule.append(words.known(self.clients, "a client").name)
         words.want("end", "")
-        return Workload(sites, self.objects, self.relations, self.transactions, self.clients, schedule)
+        return Workload(sites, weights, self.objects, self.relations, self.transactions, self.clients, schedule)
 
     # ---- declarations
+    def weights(self, sites):
+        self.words.want("weights")
+        found = [self.words.number()]
+        while self.words.took(","):
+            found.append(self.words.number())
+        if len(found) != sites:
+            raise Unreadable(f"there are {len(found)} weights for {sites} sites")
+        return found
+
     def bounds(self):
         low = self.words.signed()
         self.words.want("..")
@@ -196,9 +217,10 @@ class Reader:
             "insert": self.insert,
             "delete": self.delete,
             "update": self.update,
+            "abort": p.Abort,
         }
         for word, phrase in phrases.items():
-            if words.took(word):
+            if word in words.reserved and words.took(word):
                 return phrase()
         return self.assignment()
 

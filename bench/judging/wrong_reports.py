@@ -156,9 +156,103 @@ x = 48
 rounds 3 calls 2
 """
 
+WEIGHED = """workload 2
+sites 2
+weights 3, 1
+object stock in 0..10 = 9
+transaction sell(n in 1..3) {
+  left := read(stock);
+  if n <= left then { write(stock = left - n); print(n) } else print(0)
+}
+client shop at 0 { sell(2); sell(2); sell(2) }
+client web at 1 { sell(1); sell(1) }
+schedule shop web shop shop web
+end
+"""
+
+WEIGHED_REPORT = """round 0
+site 0
+shop 1 sell(2): 2
+shop 2 sell(2): 2
+site 1
+web 1 sell(1): 1
+close 0 clause 0 sum 6 bound 5
+shop 3 sell(2): 2
+round 1
+site 0
+site 1
+close 1 clause 0 sum 1 bound 0
+web 2 sell(1): 1
+round 2
+site 0
+site 1
+database
+stock = 1
+rounds 3 calls 5
+"""
+
+# What the same text without weights gives.
+EVEN_REPORT = """round 0
+site 0
+shop 1 sell(2): 2
+site 1
+web 1 sell(1): 1
+close 0 clause 0 sum 4 bound 3
+shop 2 sell(2): 2
+round 1
+site 0
+site 1
+close 0 clause 0 sum 2 bound 1
+shop 3 sell(2): 2
+round 2
+site 0
+site 1
+close 1 clause 0 sum 1 bound 0
+web 2 sell(1): 1
+round 3
+site 0
+site 1
+database
+stock = 1
+rounds 4 calls 5
+"""
+
+ENDING = """workload 2
+sites 2
+weights 3, 1
+object x in -9..90 = 40
+transaction take(n in 1..50) {
+  write(x = read(x) - n);
+  print(n);
+  if read(x) < 3 then abort else skip;
+  print(0)
+}
+client a at 0 { take(5); take(30); take(9) }
+client b at 1 { take(38); take(4) }
+schedule a b a b a
+end
+"""
+
+ENDING_REPORT = """round 0
+site 0
+a 1 take(5): 5 0
+site 1
+b 1 take(38): 38
+close 0 clause 0 sum 35 bound 33
+a 2 take(30): 30 0
+round 1
+site 0
+a 3 take(9): 9
+site 1
+b 2 take(4): 4
+database
+x = 5
+rounds 2 calls 5
+"""
+
 # What a right report is changed by, pairs of what stands there once and what comes in its place; and a part of what is said of it.
 TICKETS_EDITS = [
-    ("nothing changed", [], "legal: 4 rounds, 6 local and 3 closing calls; all merges of 4 rounds, up to 100 of each of 0; treaties of 4 rounds"),
+    ("nothing changed", [], "legal: 4 rounds, 6 local and 3 closing calls; all merges run of 4 rounds; the treaties of 4 rounds"),
     (
         "a call moved to a later round",
         [("hall 2 buy(4): 4\n", ""), ("round 1\nsite 0\n", "round 1\nsite 0\nhall 2 buy(4): 4\n")],
@@ -185,7 +279,7 @@ TICKETS_EDITS = [
         "line 31: 'database' stands where round 4 is wanted",
     ),
     ("another value in the end", [("tickets = 5", "tickets = 6")], "the database: tickets = 6, and the calls leave 5"),
-    ("a value wanting in the end", [("tickets = 5\n", "")], "the database: tickets is wanting"),
+    ("a value that lacks in the end", [("tickets = 5\n", "")], "the database lacks tickets"),
     ("a value too many in the end", [("tickets = 5\n", "tickets = 5\nseats = 5\n")], "the database: there is no seats"),
     (
         "a call at another site",
@@ -193,7 +287,7 @@ TICKETS_EDITS = [
         "round 0, site 1: kiosk 1 buy(1): kiosk stands at site 2",
     ),
     ("a closing call at another site", [("close 0 clause 2", "close 1 clause 2")], "round 2, site 1: hall 3 buy(1): hall stands at site 0"),
-    ("a call wanting", [("kiosk 2 buy(2): 2\n", ""), ("calls 9", "calls 8")], "kiosk makes 1 of its 2 calls"),
+    ("a call that lacks", [("kiosk 2 buy(2): 2\n", ""), ("calls 9", "calls 8")], "kiosk makes 1 of its 2 calls"),
     (
         "a call made twice",
         [("site 2\ndatabase\n", "site 2\nkiosk 2 buy(2): 2\ndatabase\n"), ("calls 9", "calls 10")],
@@ -231,7 +325,7 @@ TICKETS_EDITS = [
     ("a space at a line's end", [("kiosk 2 buy(2): 2", "kiosk 2 buy(2): 2 ")], "line 16: 'kiosk 2 buy(2): 2 ' stands where"),
     ("another round's number", [("round 2", "round 3\nsite 0")], "line 19: round 3 stands where round 2 is wanted"),
     (
-        "a site wanting",
+        "a site that lacks",
         [("round 1\nsite 0\nsite 1\nsite 2\nkiosk 2 buy(2): 2\n", "round 1\nsite 0\nsite 1\n")],
         "round 1: there are 2 sites, and not 3",
     ),
@@ -249,7 +343,7 @@ ORDERS_EDITS = [
     (
         "orders, nothing changed",
         [],
-        "legal: 4 rounds, 1 local and 3 closing calls; all merges of 4 rounds, up to 100 of each of 0; treaties of 4 rounds",
+        "legal: 4 rounds, 1 local and 3 closing calls; all merges run of 4 rounds; the treaties of 4 rounds",
     ),
     ("a free slot in the end", [("orders.1.used = 1", "orders.1.used = 0")], "the database: orders.1.used = 0, and the calls leave 1"),
     (
@@ -264,6 +358,36 @@ ORDERS_EDITS = [
         "round 2, site 1: web 1 pay(0) breaks clause 3 sum 1 bound 0, and not clause 2 sum 1 bound 0",
     ),
 ]
+WEIGHED_EDITS = [
+    (
+        "weights, nothing changed",
+        [],
+        "legal: 3 rounds, 3 local and 2 closing calls; all merges run of 3 rounds; the treaties of 3 rounds",
+    ),
+    (
+        "the bound of other weights",
+        [("sum 6 bound 5", "sum 6 bound 4")],
+        "round 0, site 0: shop 3 sell(2) breaks clause 0 sum 6 bound 5, and not clause 0 sum 6 bound 4",
+    ),
+]
+ENDING_EDITS = [
+    (
+        "calls that end themselves, nothing changed",
+        [],
+        "legal: 2 rounds, 4 local and 1 closing calls; all merges run of 2 rounds; the treaties of 2 rounds",
+    ),
+    ("what a call wrote that ended itself", [("x = 5", "x = -4")], "the database: x = -4, and the calls leave 5"),
+    ("a print behind the end of a call", [("take(38): 38", "take(38): 38 0")], "round 0: b 1 take(38) prints 38 in a merge, and not 38 0"),
+    (
+        "a call that ends itself and closes its round",
+        [
+            ("rounds 2", "rounds 3"),
+            ("round 1\n", "round 2\n"),
+            ("b 1 take(38): 38\n", "close 1 clause 0 sum 38 bound 11\nb 1 take(38): 38\nround 1\nsite 0\nsite 1\n"),
+        ],
+        "round 0, site 1: b 1 take(38) closes the round and breaks nothing of the treaty",
+    ),
+]
 
 
 def changed(text, edits):
@@ -275,8 +399,16 @@ def changed(text, edits):
 
 def cases():
     """Each with a name, the command whose report it is, the text, the report and a part of what is to be said of it."""
-    found = [(name, "run", TICKETS, changed(TICKETS_REPORT, edits), reason) for name, edits, reason in TICKETS_EDITS]
-    found += [(name, "run", ORDERS, changed(ORDERS_REPORT, edits), reason) for name, edits, reason in ORDERS_EDITS]
+    found = [
+        (name, "run", text, changed(told, edits), reason)
+        for text, told, cases_of in [
+            (TICKETS, TICKETS_REPORT, TICKETS_EDITS),
+            (ORDERS, ORDERS_REPORT, ORDERS_EDITS),
+            (WEIGHED, WEIGHED_REPORT, WEIGHED_EDITS),
+            (ENDING, ENDING_REPORT, ENDING_EDITS),
+        ]
+        for name, edits, reason in cases_of
+    ]
     moved = changed(TICKETS_REPORT, MOVED_EARLIER)
     return found + [
         ("nothing changed, by the schedule", "steps", TICKETS, TICKETS_REPORT, "legal: 4 rounds"),
@@ -286,6 +418,7 @@ def cases():
         ("a frozen delta's sum", "steps", COUNTING, COUNTING_REPORT.replace("clause 3 sum -1", "clause 3 sum 1"), "breaks clause 3 sum -1 bound 0"),
         ("merges that leave two databases", "run", PUTTING, PUTTING_TOGETHER, "round 0: one merge leaves x = "),
         ("a call that prints otherwise in another merge", "run", PUTTING, TAKING_TOGETHER, "round 0: a 2 take() prints 2 in a merge, and not 1"),
+        ("the rounds of an even split", "run", WEIGHED, EVEN_REPORT, "round 0, site 0: shop 2 sell(2) closes the round and breaks nothing"),
     ]
 
 
@@ -308,4 +441,5 @@ def small_changes(told):
 def changed_reports():
     """Texts with changed reports of `steps`, none of which is legal."""
     rights = [(TICKETS, TICKETS_REPORT), (ORDERS, ORDERS_REPORT), (COUNTING, COUNTING_REPORT)]
+    rights += [(WEIGHED, WEIGHED_REPORT), (ENDING, ENDING_REPORT)]
     return [(text, "".join(lines)) for text, told in rights for lines in small_changes(told)]

@@ -1,15 +1,20 @@
 //! The treaties at a workload's initial database, as a text.
 
-ghost use Rattle.std.specs.Prelude.{◌≡◌, IfOk};
+ghost use Rattle.std.specs.Prelude.{◌≡◌, length, IfOk};
 ghost use Rattle.homeo_syntax.specs.SourceView.{plain_workload};
-ghost use Rattle.homeo_print.specs.Treaties.{treaty_text};
+ghost use Rattle.homeo_meaning.specs.Initial.{initial};
+ghost use Rattle.homeo_plan.specs.PlanView.{plain_template, plain_config};
+ghost use Rattle.homeo_plan.specs.Planned.{template_at, policy};
+ghost use Rattle.homeo_print.specs.Treaties.{template_text, treaty_text};
 
+use homeo_build::Compiled;
 use homeo_build::compile::compile;
 use homeo_build::treaties::treaties;
 use homeo_eval::initial;
 use homeo_meaning::Accepted;
+use homeo_plan::RoundPlan;
 use homeo_print::{ObjectNames, print_template};
-use homeo_syntax::Memory;
+use homeo_syntax::{Memory, Workload};
 use std::alloc::Global;
 
 /// The treaties of the round that begins at the initial database.
@@ -17,11 +22,29 @@ pub fn treaty(alloc: Global, w: Accepted) -> Result<Vec<u8>, Memory>
     ensures { IfOk result (λ bytes. bytes.items ≡ treaty_text (plain_workload w)) }
 {
     let compiled = compile(alloc, w)?;
-    let base = initial(alloc, compiled.workload())?;
-    let plan = treaties(alloc, &compiled, &base, None)?;
-    let workload = compiled.workload().workload();
-    let objects = ObjectNames::of(alloc, workload)?;
+    let plan = first_plan(alloc, &compiled)?;
+    plan_text(alloc, compiled.workload().workload(), &plan)
+}
+
+/// The plan of the round that begins at the initial database.
+fn first_plan(alloc: Global, c: &Compiled) -> Result<RoundPlan, Memory>
+    ensures template { IfOk result (λ p. plain_template p.template ≡
+        template_at (plain_workload c.now) (initial (plain_workload c.now))) }
+    ensures config { IfOk result (λ p. plain_config p.config ≡ policy (plain_workload c.now) (initial (plain_workload c.now))) }
+    ensures bounds { IfOk result (λ p. length (plain_config p.config) ≡ length (plain_template p.template).clauses) }
+{
+    let base = initial(alloc, c.workload())?;
+    treaties(alloc, c, &base, None)
+}
+
+/// A plan's template with its configuration, as a text.
+fn plan_text(alloc: Global, w: &Workload, plan: &RoundPlan) -> Result<Vec<u8>, Memory>
+    requires bounds { length (plain_config plan.now.config) ≡ length (plain_template plan.now.template).clauses }
+    ensures { IfOk result (λ bytes. bytes.items ≡
+        template_text (plain_workload w.now) (plain_template plan.now.template) (plain_config plan.now.config)) }
+{
+    let objects = ObjectNames::of(alloc, w)?;
     let mut out = Vec::new(alloc);
-    print_template(&mut out, workload, &objects, &plan.template, &plan.config)?;
+    print_template(&mut out, w, &objects, &plan.template, &plan.config)?;
     Ok(out)
 }

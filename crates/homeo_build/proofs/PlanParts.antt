@@ -15,7 +15,7 @@ use Rattle.homeo_plan.specs.FormSizes.{Numbers}
 use Rattle.homeo_plan.specs.Limit.{form_limit}
 use Rattle.homeo_plan.specs.Linear.{Linear}
 use Rattle.homeo_plan.specs.PlanView.{plain_atoms, plain_config}
-use Rattle.homeo_plan.specs.Planned.{sites_of, planned_call, planned, template_at, policy}
+use Rattle.homeo_plan.specs.Planned.{sites_of, planned_call, planned, template_at, shares_of, policy}
 use Rattle.homeo_plan.specs.Template.{Template, atoms_of, needs_of, join_sets}
 use Rattle.homeo_plan.specs.declared.forms.AtomSet.{AtomSet}
 use Rattle.homeo_plan.specs.declared.forms.Delta.{Delta}
@@ -73,11 +73,10 @@ module _ (w : s.Workload) (base : List ℤ) (accepted : IsAccepted w) (within : 
       (small_here (get_or gs i no_ground) (can_compile w accepted i no_ground here))
 
 -- ---- configurations
-pub even_is :
-    (w : s.Workload) (base : List ℤ) (n : ℕ) (t : Template) → n ≡ sites_of w → t ≡ template_at w base →
-    config.even n t.clauses ≡ policy w base
+pub policy_is :
+    (w : s.Workload) (base : List ℤ) (t : Template) → t ≡ template_at w base → config.split_by (shares_of w) t.clauses ≡ policy w base
 unfolding plans
-even_is w base n t sites is = ap₂ (λ k (u : Template). config.even k u.clauses) sites is
+policy_is w base t is = ap (λ (u : Template). config.split_by (shares_of w) u.clauses) is
 
 pub config_fits :
     (w : s.Workload) (base : List ℤ) (made : Config) (given : Option Config) → IsAccepted w →

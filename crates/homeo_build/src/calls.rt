@@ -1,6 +1,6 @@
 //! What ground calls bring to the plan of a round.
 
-ghost use Rattle.std.specs.Prelude.{◌≡◌, map, [], IfOk};
+ghost use Rattle.std.specs.Prelude.{◌≡◌, map, [], ◌∷◌, ◌++◌, IfOk, OnOk};
 ghost use Rattle.homeo_syntax.specs.LowView.{plain_lcommand};
 ghost use Rattle.homeo_syntax.specs.SourceView.{plain_workload};
 ghost use Rattle.homeo_meaning.specs.Acceptance.{IsAccepted};
@@ -39,6 +39,38 @@ pub(crate) struct CallPlans {
     pub atoms: Vec<AtomSet>,
     pub needs: Vec<FreezeSet>,
     pub residuals: List<Residual>,
+}
+
+impl CallPlans {
+    /// Of no ground calls.
+    fn new(alloc: Global) -> CallPlans
+        ensures atoms { result.atoms.items ≡ [] }
+        ensures needs { result.needs.items ≡ [] }
+        ensures residuals { result.residuals.items ≡ [] }
+    {
+        CallPlans {
+            atoms: Vec::new(alloc),
+            needs: Vec::new(alloc),
+            residuals: List::new(alloc),
+        }
+    }
+
+    /// Takes up what one more ground call brings.
+    fn push(&mut self, plan: CallPlan) -> Result<(), Memory>
+        ensures atoms { OnOk result (self.new.atoms.items ≡ self.old.atoms.items ++ plan.atoms ∷ []) }
+        ensures needs { OnOk result (self.new.needs.items ≡ self.old.needs.items ++ plan.needs ∷ []) }
+        ensures residuals { OnOk result (self.new.residuals.items ≡ self.old.residuals.items ++ plan.residual ∷ []) }
+    {
+        let CallPlan {
+            atoms,
+            needs,
+            residual,
+        } = plan;
+        self.atoms.push(atoms)?;
+        self.needs.push(needs)?;
+        self.residuals.push(residual)?;
+        Ok(())
+    }
 }
 
 /// Plans a ground call with its transformed command, on a base without deltas.
@@ -86,20 +118,10 @@ pub(crate) fn plan_calls(alloc: Global, c: &Compiled, split: &Split) -> Result<C
         residuals_at (plain_workload c.now) split.now.base.items) }
 {
     let commands = c.commands();
-    let mut planned = CallPlans {
-        atoms: Vec::new(alloc),
-        needs: Vec::new(alloc),
-        residuals: List::new(alloc),
-    };
+    let mut planned = CallPlans::new(alloc);
     for (i, call) in c.calls().iter().enumerate() {
-        let CallPlan {
-            atoms,
-            needs,
-            residual,
-        } = plan_call(alloc, call, &commands[i], split)?;
-        planned.atoms.push(atoms)?;
-        planned.needs.push(needs)?;
-        planned.residuals.push(residual)?;
+        let plan = plan_call(alloc, call, &commands[i], split)?;
+        planned.push(plan)?;
     }
     Ok(planned)
 }

@@ -6,12 +6,15 @@ ghost use Rattle.homeo_syntax.specs.SourceView.{plain_workload};
 ghost use Rattle.homeo_meaning.specs.Acceptance.{IsAccepted};
 ghost use Rattle.homeo_meaning.specs.Declarations.{declarations};
 ghost use Rattle.homeo_meaning.specs.Ground.{plain_ground, grounds};
+ghost use Rattle.homeo_ground.specs.Grounding.{grounding};
 ghost use Rattle.homeo_plan.specs.Planned.{sites_of, planned_call, transformed};
 ghost use Rattle.homeo_plan.specs.Template.{shifted};
 ghost use Rattle.homeo_build.specs.inner.Planning.{CanCompile};
+ghost use Rattle.homeo_build.specs.inner.Written.{AreWritten};
 
 use crate::compiled::Compiled;
 use crate::sites::site_count;
+use crate::written::written_objects;
 use homeo_context::Declarations;
 use homeo_delta::transform;
 use homeo_desugar::desugar;
@@ -29,11 +32,56 @@ use std::alloc::Global;
 pub fn compile(alloc: Global, w: Accepted) -> Result<Compiled, Memory>
     ensures { IfOk result (λ c. plain_workload c ≡ plain_workload w) }
 {
-    let sites = site_count(&w);
-    let declared = Declarations::of(alloc, &w)?;
-    let calls = Grounding::of(alloc, &w)?;
-    let commands = transform_calls(alloc, &w, &declared, sites, calls.calls())?;
-    Ok(Compiled::new(w, declared, calls, commands))
+    let Parts {
+        declared,
+        calls,
+        commands,
+        written,
+    } = compile_parts(alloc, &w)?;
+    Ok(Compiled::new(w, declared, calls, commands, written))
+}
+
+/// What is made of a workload: the places of its names, its ground calls, their transformed commands, and for each site which
+/// objects these write there.
+struct Parts {
+    declared: Declarations,
+    calls: Grounding,
+    commands: List<LCommand>,
+    written: Vec<Vec<bool>>,
+}
+
+/// Makes what is fixed for all rounds of a workload.
+fn compile_parts(alloc: Global, w: &Accepted) -> Result<Parts, Memory>
+    ensures declared { IfOk result (λ p. p.declared ≡ declarations (plain_workload w.now)) }
+    ensures calls { IfOk result (λ p. p.calls ≡ grounding (plain_workload w.now)) }
+    ensures commands { IfOk result (λ p. map plain_lcommand p.commands.items ≡ transformed (plain_workload w.now)) }
+    ensures written { IfOk result (λ p. AreWritten (plain_workload w.now) (map (λ row. row.items) p.written.items)) }
+{
+    let declared = Declarations::of(alloc, w)?;
+    let (calls, commands) = ground_commands(alloc, w, &declared)?;
+    let written = written_objects(alloc, w, calls.calls(), commands.as_slice())?;
+    Ok(Parts {
+        declared,
+        calls,
+        commands,
+        written,
+    })
+}
+
+/// The ground calls, and the delta transform of the L form of each.
+fn ground_commands(
+    alloc: Global,
+    w: &Accepted,
+    declared: &Declarations,
+) -> Result<(Grounding, List<LCommand>), Memory>
+    requires { declared.now ≡ declarations (plain_workload w.now) }
+    ensures calls { IfOk result (λ made. made.0 ≡ grounding (plain_workload w.now)) }
+    ensures grounds { IfOk result (λ made. made.0.calls ≡ grounds (plain_workload w.now)) }
+    ensures commands { IfOk result (λ made. map plain_lcommand made.1.items ≡ transformed (plain_workload w.now)) }
+{
+    let calls = Grounding::of(alloc, w)?;
+    let commands = transform_calls(alloc, w, declared, site_count(w), calls.calls())?;
+    Ok((calls, commands))
 }
 
 /// The delta transform of the L form of each ground call.

@@ -7,23 +7,29 @@ ghost use Rattle.homeo_meaning.specs.Calls.{CallExists};
 ghost use Rattle.homeo_meaning.specs.Declarations.{declarations};
 ghost use Rattle.homeo_meaning.specs.Ground.{plain_ground, grounds, ground_of};
 ghost use Rattle.homeo_ground.specs.Grounding.{grounding};
-ghost use Rattle.homeo_plan.specs.Planned.{transformed};
+ghost use Rattle.homeo_plan.specs.PlanView.{plain_clause};
+ghost use Rattle.homeo_plan.specs.Planned.{sites_of, planned, transformed};
+ghost use Rattle.homeo_plan.specs.Shares.{takes_part};
+ghost use Rattle.homeo_build.specs.inner.Written.{AreWritten};
 
 use homeo_context::Declarations;
 use homeo_ground::Grounding;
+use homeo_meaning::padded::item_or;
 use homeo_meaning::{Accepted, CallId, GroundCall};
+use homeo_plan::Clause;
 use homeo_syntax::{LCommand, List};
 use std::marker::Model;
 
 /// An accepted workload with what is fixed for all its rounds: the places of its names; its distinct ground calls, each where it
 /// is first called, in the order of the text; which of them each call is; and the delta transform of the L form of each, at the
-/// call's site.
+/// call's site; and at each site the objects whose deltas some of them can write.
 #[derive(Drop)]
 pub struct Compiled {
     workload: Accepted,
     declared: Declarations,
     calls: Grounding,
     commands: List<LCommand>,
+    written: Vec<Vec<bool>>,
 }
 
 impl Model for Compiled {
@@ -35,6 +41,7 @@ impl Model for Compiled {
     ghost use Rattle.homeo_meaning.specs.Declarations.{declarations};
     ghost use Rattle.homeo_ground.specs.Grounding.{grounding};
     ghost use Rattle.homeo_plan.specs.Planned.{transformed};
+    ghost use Rattle.homeo_build.specs.inner.Written.{AreWritten};
 
     ghost Value = { Workload };
 
@@ -44,20 +51,24 @@ impl Model for Compiled {
 
     ghost invariant = { λ c. (c.calls ≡ grounding (plain_workload c.workload))
         × (map plain_lcommand c.commands.items ≡ transformed (plain_workload c.workload))
-        × (c.declared ≡ declarations (plain_workload c.workload)) };
+        × (c.declared ≡ declarations (plain_workload c.workload))
+        × AreWritten (plain_workload c.workload) (map (λ row. row.items) c.written.items) };
 }
 
 impl Compiled {
-    /// Takes a workload with the places of its names, its ground calls and their transformed commands. It takes no memory.
+    /// Takes a workload with the places of its names, its ground calls, their transformed commands, and what these can write. It
+    /// takes no memory.
     pub fn new(
         workload: Accepted,
         declared: Declarations,
         calls: Grounding,
         commands: List<LCommand>,
+        written: Vec<Vec<bool>>,
     ) -> Compiled
         requires declared { declared ≡ declarations (plain_workload workload) }
         requires calls { calls ≡ grounding (plain_workload workload) }
         requires commands { map plain_lcommand commands.items ≡ transformed (plain_workload workload) }
+        requires written { AreWritten (plain_workload workload) (map (λ row. row.items) written.items) }
         ensures { plain_workload result ≡ plain_workload workload }
     {
         Compiled {
@@ -65,6 +76,7 @@ impl Compiled {
             declared,
             calls,
             commands,
+            written,
         }
     }
 
@@ -94,6 +106,22 @@ impl Compiled {
         ensures { map plain_lcommand result.now ≡ transformed (plain_workload self.now) }
     {
         self.commands.as_slice()
+    }
+
+    /// Whether a clause has a term on a delta of a site that some ground call can write there, in time in proportion to its
+    /// terms. The site is one of the workload's.
+    pub fn takes_part(&self, clause: &Clause, site: u32) -> bool
+        requires { site < sites_of (plain_workload self.now) }
+        ensures { result ≡ takes_part (sites_of (plain_workload self.now)) (planned (plain_workload self.now)) (plain_clause clause.now) site }
+    {
+        let rows = self.written.as_slice();
+        let row = rows[site as usize].as_slice();
+        for term in clause.terms.as_slice() {
+            if term.delta.site == site && item_or(row, term.delta.object as usize, false) {
+                return true;
+            }
+        }
+        false
     }
 
     /// The place of a call's ground call among the ground calls, in constant time and without memory. The call is one of the

@@ -5,7 +5,9 @@ mod calls;
 pub mod compile;
 mod compiled;
 pub mod laws;
+pub mod shares;
 mod sites;
 pub mod treaties;
+mod written;
 
 pub use compiled::Compiled;

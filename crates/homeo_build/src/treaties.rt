@@ -1,25 +1,27 @@
 //! The treaties of a round.
 
-ghost use Rattle.std.specs.Prelude.{◌≡◌, ◌≤◌, [], map, Some, IfOk};
+ghost use Rattle.std.specs.Prelude.{◌≡◌, [], map, Some, IfOk};
 ghost use Rattle.homeo_syntax.specs.SourceView.{plain_workload};
+ghost use Rattle.homeo_meaning.specs.Acceptance.{IsAccepted};
 ghost use Rattle.homeo_meaning.specs.Bounds.{IsWithin};
 ghost use Rattle.homeo_meaning.specs.Schema.{schema_of};
 ghost use Rattle.homeo_meaning.specs.Small.{IsSmall};
-ghost use Rattle.homeo_plan.specs.Config.{Fits, HaveSlack, even};
+ghost use Rattle.homeo_plan.specs.Config.{Fits, HaveSlack, split_by};
 ghost use Rattle.homeo_plan.specs.Each.{Each};
 ghost use Rattle.homeo_plan.specs.Limit.{form_limit};
 ghost use Rattle.homeo_plan.specs.PlanView.{plain_template, plain_config};
-ghost use Rattle.homeo_plan.specs.Planned.{sites_of, template_at, policy};
+ghost use Rattle.homeo_plan.specs.Planned.{sites_of, template_at, shares_of, policy};
 ghost use Rattle.homeo_plan.specs.declared.templates.Config.{Config};
 ghost use Rattle.homeo_template.specs.InOrder.{AreInOrder};
 ghost use Rattle.homeo_build.specs.Plan.{config_or, sited_residual, residuals_at, IsPlanOf};
 
 use crate::calls::plan_calls;
 use crate::compiled::Compiled;
+use crate::shares::shares;
 use crate::sites::site_count;
-use homeo_config::split_even;
+use homeo_config::split_weighted;
 use homeo_meaning::Database;
-use homeo_plan::{Config, RoundPlan, Template};
+use homeo_plan::{Config, Residual, RoundPlan, Template};
 use homeo_split::Split;
 use homeo_syntax::{List, Memory};
 use homeo_template::template;
@@ -28,7 +30,7 @@ use std::alloc::Global;
 /// The plan of the round that begins at a base (Roy et al., SIGMOD 2015). Of each ground call the row of its symbolic table
 /// that holds there is found by following the branches that are taken, without the table; the template is made of the
 /// atoms of all these rows' formulas and of what their residuals need. The configuration is the given one, or else the
-/// policy, which splits each slack evenly (this project's rule). The plan has a copy of the base, and a residual for each
+/// policy, which splits each slack by the sites' shares of it (this project's rule). The plan has a copy of the base, and a residual for each
 /// ground call, in the order of `Compiled::calls`.
 ///
 /// The base must be within the workload's bounds, and a configuration that is given must fit the template: for each clause a
@@ -58,14 +60,44 @@ pub fn treaties(
 {
     let sites = site_count(c.workload());
     let split = without_deltas(alloc, base)?;
-    let calls = plan_calls(alloc, c, &split)?;
-    let template = template(alloc, calls.atoms.as_slice(), calls.needs.as_slice(), sites)?;
-    let config = config_for(alloc, &template, config)?;
+    let plan = plan_without_config(alloc, c, &split, sites)?;
+    let config = config_for(alloc, c, &plan.template, config)?;
     let Split { base, deltas: _ } = split;
     Ok(RoundPlan {
         base,
-        template,
+        template: plan.template,
         config,
+        residuals: plan.residuals,
+    })
+}
+
+/// A plan that has no configuration yet.
+#[derive(Drop)]
+struct Unconfigured {
+    template: Template,
+    residuals: List<Residual>,
+}
+
+/// The template of what the ground calls bring, and their residuals, on a base without deltas.
+fn plan_without_config(
+    alloc: Global,
+    c: &Compiled,
+    split: &Split,
+    sites: u32,
+) -> Result<Unconfigured, Memory>
+    requires accepted { IsAccepted (plain_workload c.now) }
+    requires undivided { split.now.deltas.items ≡ [] }
+    requires within { IsWithin (schema_of (plain_workload c.now)) split.now.base.items }
+    ensures sites { IfOk result (λ p. p.template.sites ≡ sites) }
+    ensures template { IfOk result (λ p. plain_template p.template ≡ template_at (plain_workload c.now) split.now.base.items) }
+    ensures small { IfOk result (λ p. Each (λ c. IsSmall form_limit c.slack) (plain_template p.template).clauses) }
+    ensures order { IfOk result (λ p. AreInOrder p.template.freezes.items) }
+    ensures residuals { IfOk result (λ p. map sited_residual p.residuals.items ≡ residuals_at (plain_workload c.now) split.now.base.items) }
+{
+    let calls = plan_calls(alloc, c, split)?;
+    let template = template(alloc, calls.atoms.as_slice(), calls.needs.as_slice(), sites)?;
+    Ok(Unconfigured {
+        template,
         residuals: calls.residuals,
     })
 }
@@ -82,15 +114,24 @@ fn without_deltas(alloc: Global, base: &Database) -> Result<Split, Memory>
     })
 }
 
-/// The given configuration, or else the even one.
-fn config_for(alloc: Global, t: &Template, config: Option<Config>) -> Result<Config, Memory>
-    requires sites { 1 ≤ t.now.sites }
+/// The given configuration, or else the one by shares.
+fn config_for(
+    alloc: Global,
+    c: &Compiled,
+    t: &Template,
+    config: Option<Config>,
+) -> Result<Config, Memory>
+    requires sites { t.now.sites ≡ sites_of (plain_workload c.now) }
     requires not_negative { HaveSlack (plain_template t.now).clauses }
     requires small { Each (λ c. IsSmall form_limit c.slack) (plain_template t.now).clauses }
-    ensures { IfOk result (λ c. plain_config c ≡ config_or (even t.now.sites (plain_template t.now).clauses) config) }
+    ensures { IfOk result (λ made. plain_config made ≡
+        config_or (split_by (shares_of (plain_workload c.now)) (plain_template t.now).clauses) config) }
 {
     match config {
         Some(config) => Ok(config),
-        None => split_even(alloc, t),
+        None => {
+            let shares = shares(alloc, c, t)?;
+            split_weighted(alloc, t, shares.as_slice())
+        }
     }
 }

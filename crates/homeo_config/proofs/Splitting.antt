@@ -84,6 +84,9 @@ module _ (clauses lent : List Clause) (i : ℕ) (c : Clause) (same : lent ≡ cl
   back : to_z w128 (of_z w128 c.slack) ≡ c.slack
   back = slack_back c.slack (at (λ z. IsSmall form_limit z) small)
 
+  pub slack_as : to_z w128 (of_z w128 c.slack) ≡ c.slack
+  slack_as = back
+
   pub slack_is : (P : ℤ → Type 0) → Each (λ c. P c.slack) (map plain_clause clauses) → P (to_z w128 (of_z w128 c.slack))
   slack_is P all = subst P (sym back) (at P all)
 

@@ -3,4 +3,4 @@
 
 mod split;
 
-pub use split::split_even;
+pub use split::{split_even, split_weighted};

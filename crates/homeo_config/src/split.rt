@@ -1,15 +1,15 @@
 //! Slacks that are split among sites.
 
-ghost use Rattle.std.specs.Prelude.{◌≡◌, ◌≤◌, ◌<◌, ◌*◌, ◌/◌, ◌-◌, ◌^◌, sum, replicate, pos, ◌≤ℤ◌, IfOk};
+ghost use Rattle.std.specs.Prelude.{◌≡◌, ◌≤◌, ◌<◌, ◌*◌, ◌/◌, ◌-◌, ◌^◌, length, map, sum, replicate, pos, ◌≤ℤ◌, IfOk};
 ghost use Rattle.homeo_meaning.specs.Schema.{nat_of};
 ghost use Rattle.homeo_meaning.specs.Small.{IsSmall};
 ghost use Rattle.homeo_plan.specs.Each.{Each};
-ghost use Rattle.homeo_plan.specs.Config.{HaveSlack, Fits, split, even};
+ghost use Rattle.homeo_plan.specs.Config.{HaveSlack, CanShare, Fits, split, split_each, natural_list, even};
 ghost use Rattle.homeo_plan.specs.PlanView.{plain_template, plain_config};
 ghost use Rattle.homeo_plan.specs.Limit.{form_limit};
 
 use homeo_plan::{Config, Template};
-use homeo_syntax::{List, Memory};
+use homeo_syntax::{List, Memory, Numbers};
 use std::alloc::Global;
 
 /// Splits the slack of each clause evenly (this project's rule): of `n` sites, site `i` from 0 has the floor of
@@ -32,6 +32,53 @@ pub fn split_even(alloc: Global, t: &Template) -> Result<Config, Memory>
         bounds.push(split(alloc, clause.slack, shares.as_slice())?)?;
     }
     Ok(Config { bounds })
+}
+
+/// Splits the slack of each clause by the clause's list of shares (this project's rule): a site has the floor of the slack
+/// by the shares of the sites up to it, of all shares, less the floor by those of the sites below it. So nothing of the slack
+/// is lost, and a site with share 0 has the bound 0. It takes time and memory linear in the bounds.
+///
+/// There must be as many lists as clauses, and in each a share for each site, from 0 to 1,000, and not all of them 0.
+///
+/// # Errors
+///
+/// `Memory` when out of memory.
+pub fn split_weighted(alloc: Global, t: &Template, shares: &[Numbers]) -> Result<Config, Memory>
+    requires not_negative { HaveSlack (plain_template t.now).clauses }
+    requires small { Each (λ c. IsSmall form_limit c.slack) (plain_template t.now).clauses }
+    requires lists { length shares.now ≡ length (plain_template t.now).clauses }
+    requires shares { Each (λ l. CanShare t.now.sites l.items) shares.now }
+    ensures bounds { IfOk result (λ c. plain_config c ≡ split_each (map natural_list shares.now) (plain_template t.now).clauses) }
+    ensures fits { IfOk result (λ c. Fits t.now.sites (plain_template t.now).clauses (plain_config c)) }
+{
+    let _sites = t.sites;
+    let mut bounds = List::new(alloc);
+    for (i, clause) in t.clauses.as_slice().iter().enumerate() {
+        let own = naturals(alloc, shares[i].as_slice())?;
+        bounds.push(split(alloc, clause.slack, own.as_slice())?)?;
+    }
+    Ok(Config { bounds })
+}
+
+/// Shares without a sign.
+fn naturals(alloc: Global, shares: &[i64]) -> Result<Vec<u64>, Memory>
+    requires natural { Each (λ n. pos 0 ≤ℤ n) shares.now }
+    requires small { Each (λ n. n ≤ℤ pos 1000) shares.now }
+    ensures { IfOk result (λ own. own.items ≡ map nat_of shares.now) }
+{
+    let mut own = Vec::new(alloc);
+    for share in shares {
+        own.push(without_sign(*share))?;
+    }
+    Ok(own)
+}
+
+/// A share, which isn't negative.
+fn without_sign(share: i64) -> u64
+    requires { pos 0 ≤ℤ share }
+    ensures { result ≡ nat_of share }
+{
+    share as u64
 }
 
 /// Equal shares of `sites` sites.

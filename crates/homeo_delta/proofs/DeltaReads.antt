@@ -109,11 +109,11 @@ module _ (x i j : ℕ) (a b : l.Expr) where
       h ∙ ap (λ ns. a ∷ b ∷ map (minus_delta x) ns) (sym (others_more i j true q ∙ append-nil _))
 
   pub pushed_other :
-      (old new : List LExpr) (r : LExpr) → i ≢ j → plain_lexpr r ≡ minus_delta x j → new ≡ old ++ r ∷ [] →
+      (old new : List LExpr) → i ≢ j → map plain_lexpr new ≡ map plain_lexpr old ++ minus_delta x j ∷ [] →
       map plain_lexpr old ≡ a ∷ b ∷ map (minus_delta x) (others i 0 j) →
       map plain_lexpr new ≡ a ∷ b ∷ map (minus_delta x) (others i 0 (j + 1))
-  pushed_other old new r ne is e h =
+  pushed_other old new ne e h =
       let q : (i == j) ≡ false = grind (arith, nat_tests) in
-      ap (map plain_lexpr) e ∙ map-append plain_lexpr old (r ∷ []) ∙ ap₂ (λ es t. es ++ t ∷ []) h is
+      e ∙ ap (λ es. es ++ minus_delta x j ∷ []) h
       ∙ ap (λ es. a ∷ b ∷ es) (sym (map-append (minus_delta x) (others i 0 j) (j ∷ [])))
       ∙ ap (λ ns. a ∷ b ∷ map (minus_delta x) ns) (sym (others_more i j false q))

@@ -1,6 +1,6 @@
 //! The delta transform of a command.
 
-ghost use Rattle.std.specs.Prelude.{◌≡◌, ◌<◌, map, IfOk};
+ghost use Rattle.std.specs.Prelude.{◌≡◌, ◌<◌, [], ◌∷◌, ◌++◌, map, IfOk, OnOk};
 ghost use Rattle.homeo_syntax.specs.Low.{Read, Neg};
 ghost use Rattle.homeo_syntax.specs.LowView.{plain_lexpr, plain_lcommand};
 ghost use Rattle.homeo_meaning.specs.LowMeaning.{State, exec};
@@ -19,6 +19,14 @@ fn minus(alloc: Global, name: SplitName) -> Result<LExpr, Memory>
     Ok(LExpr::Neg(Box::new(alloc, LExpr::Read(name))?))
 }
 
+/// Appends the value under a name with its sign turned.
+fn push_minus(terms: &mut Vec<LExpr>, alloc: Global, name: SplitName) -> Result<(), Memory>
+    ensures { OnOk result (map plain_lexpr terms.new.items ≡ map plain_lexpr terms.old.items ++ Neg (Read name) ∷ []) }
+{
+    terms.push(minus(alloc, name)?)?;
+    Ok(())
+}
+
 #[tactic(auto, using(crate::proofs::DeltaReads::writes))]
 fn shift_write(
     alloc: Global,
@@ -33,14 +41,14 @@ fn shift_write(
         SplitName::Whole(object) => {
             let mut terms = Vec::with_capacity(alloc, sites as usize + 1)?;
             terms.push(value)?;
-            terms.push(minus(alloc, SplitName::Base(object))?)?;
+            push_minus(&mut terms, alloc, SplitName::Base(object))?;
             for other in 0..sites {
                 if other != site {
                     let delta = SplitName::Delta {
                         object,
                         site: other,
                     };
-                    terms.push(minus(alloc, delta)?)?;
+                    push_minus(&mut terms, alloc, delta)?;
                 }
             }
             Ok(LCommand::Write {
@@ -83,15 +91,19 @@ fn shift(alloc: Global, c: &LCommand, site: u32, sites: u32) -> Result<LCommand,
         }
         LCommand::If { test, yes, no } => {
             let test = shift_cond(alloc, test, sites)?;
-            let yes = shift(alloc, yes, site, sites)?;
-            let no = shift(alloc, no, site, sites)?;
-            Ok(LCommand::If {
-                test,
-                yes: Box::new(alloc, yes)?,
-                no: Box::new(alloc, no)?,
-            })
+            let yes = shift_boxed(alloc, yes, site, sites)?;
+            let no = shift_boxed(alloc, no, site, sites)?;
+            Ok(LCommand::If { test, yes, no })
         }
     }
+}
+
+#[cycle(commands)]
+fn shift_boxed(alloc: Global, c: &LCommand, site: u32, sites: u32) -> Result<Box<LCommand>, Memory>
+    ensures { IfOk result (λ d. plain_lcommand d.value ≡ shift sites site (plain_lcommand c.now)) }
+{
+    let shifted = shift(alloc, c, site, sites)?;
+    Ok(Box::new(alloc, shifted)?)
 }
 
 #[cycle(commands)]

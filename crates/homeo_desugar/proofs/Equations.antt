@@ -1,5 +1,5 @@
 -- The definitions form by form, as equations, which code rewrites by.
-use Rattle.std.proofs.Common.{◌≡◌, ℕ, ℤ, Some, None, [], ◌∷◌, map, refl}
+use Rattle.std.proofs.Common.{◌≡◌, ℕ, ℤ, pos, true, false, Some, None, List, [], ◌∷◌, map, refl}
 use Rattle.homeo_syntax.specs.Key.{words as tree_words}
 use Rattle.homeo_syntax.specs.Low as L
 use Rattle.homeo_syntax.specs.LowView.{low_commands, low_tests, plain_lcommand}
@@ -8,7 +8,10 @@ use Rattle.homeo_syntax.specs.declared.low.Temp.TheVariants as temp
 use Rattle.homeo_syntax.specs.declared.low.SplitName.TheVariants as split
 use Rattle.homeo_meaning.specs.Key.{words}
 use Rattle.homeo_meaning.specs.Context.{Spot, arguments_of}
-use Rattle.homeo_meaning.specs.LForm.{name_of, one_test, within, guarded}
+use Rattle.homeo_syntax.specs.declared.low.Temp.{Temp}
+use Rattle.homeo_syntax.specs.declared.low.SplitName.{SplitName}
+use Rattle.homeo_meaning.specs.LowWrites.{object_in, with_number, written, all_written}
+use Rattle.homeo_meaning.specs.LForm.{name_of, one_test, equal, fresh, unless_ended, guard, set_flag, within, guarded}
 use Rattle.homeo_desugar.specs.inner.Key.{words as desugar_words}
 use Rattle.homeo_desugar.specs.inner.Made.{made}
 use Rattle.homeo_desugar.specs.inner.Settings.{plain_spot, setting}
@@ -54,6 +57,62 @@ tests_first t = refl
 pub ruleset makings = (low_none, made_is)
 
 pub ruleset lists = (one_test_is, tests_first)
+
+-- ---- guards
+pub unless_is : (c : L.Command) → unless_ended c ≡ L.If (one_test (equal (fresh 0) (pos 0))) c L.Skip
+unfolding words
+unless_is c = refl
+
+pub guard_true : (c : L.Command) → guard true c ≡ unless_ended c
+unfolding words
+guard_true c = refl
+
+pub guard_false : (c : L.Command) → guard false c ≡ c
+unfolding words
+guard_false c = refl
+
+pub flag_is : (v : ℤ) → set_flag v ≡ L.Assign (temp.Fresh 0) (L.Literal v)
+unfolding words
+flag_is v = refl
+
+pub ruleset guards = (unless_is, guard_true, guard_false, flag_is)
+
+-- ---- what is written
+pub written_Skip : (xs : List ℕ) → written L.Skip xs ≡ xs
+unfolding words
+written_Skip xs = refl
+
+pub written_Assign : (t : Temp) (e : L.Expr) (xs : List ℕ) → written (L.Assign t e) xs ≡ xs
+unfolding words
+written_Assign t e xs = refl
+
+pub written_Write : (x : SplitName) (e : L.Expr) (xs : List ℕ) → written (L.Write x e) xs ≡ with_number (object_in x) xs
+unfolding words
+written_Write x e xs = refl
+
+pub written_Print : (e : L.Expr) (xs : List ℕ) → written (L.Print e) xs ≡ xs
+unfolding words
+written_Print e xs = refl
+
+pub written_Seq : (cs : L.Commands) (xs : List ℕ) → written (L.Seq cs) xs ≡ all_written cs xs
+unfolding words
+written_Seq cs xs = refl
+
+pub written_If : (b : L.Cond) (c d : L.Command) (xs : List ℕ) → written (L.If b c d) xs ≡ written d (written c xs)
+unfolding words
+written_If b c d xs = refl
+
+pub written_none : (xs : List ℕ) → all_written (low_commands []) xs ≡ xs
+unfolding words tree_words
+written_none xs = refl
+
+pub written_more : (c : L.Command) (cs : List L.Command) (xs : List ℕ) → all_written (low_commands (c ∷ cs)) xs ≡ all_written (low_commands cs) (written c xs)
+unfolding words tree_words
+written_more c cs xs = refl
+
+pub ruleset writes = (written_Skip, written_Assign, written_Write, written_Print, written_Seq, written_If)
+
+pub ruleset write_lists = (written_none, written_more)
 
 -- ---- what a write is made of
 pub within_is : (b : Spot) (e : L.Expr) → within b e L.NoTest ≡ L.MoreTest (L.Comparison compare.LessEqual (L.Literal b.lo) e) (L.MoreTest (L.Comparison compare.LessEqual e (L.Literal b.hi)) L.NoTest)

@@ -1,5 +1,5 @@
 -- Commands that are made one after another.
-use Rattle.std.proofs.Common.{◌≡◌, ℕ, suc, ◌+◌, ◌<◌, ◌≤◌, List, [], ◌∷◌, ◌++◌, drop, get_or, map, length, All, ℤ, pos, Some, None, Option, refl, sym, ap, ◌∙◌, subst, append_assoc, append-nil, add-one}
+use Rattle.std.proofs.Common.{◌≡◌, ℕ, suc, ◌+◌, ◌<◌, ◌≤◌, Bool, false, ◌||◌, List, [], ◌∷◌, ◌++◌, drop, get_or, map, length, All, ℤ, pos, Some, None, Option, refl, sym, ap, ◌∙◌, subst, append_assoc, append-nil, add-one}
 use Rattle.std.proofs.Math.Seq.{drop-cons}
 use Rattle.std.proofs.lemmas.List.{map-append, drop_all}
 use Rattle.std.proofs.lemmas.List.Elements.{All-nil, All-push}
@@ -17,7 +17,8 @@ use Rattle.homeo_syntax.specs.declared.workload.RangeDecl.{RangeDecl}
 use Rattle.homeo_meaning.specs.Key.{words as meaning_words}
 use Rattle.homeo_meaning.specs.Schema.{Declared}
 use Rattle.homeo_meaning.specs.Context.{Spot, Slot, Context, slot_at, cell, spot}
-use Rattle.homeo_meaning.specs.LForm.{Lifted, Made, AllMade, Pair, Target, both, one, in_front, joined, visits, literal_of, lift, placed, within, write_chain, pair, write_to, write_field, write_at, write_by, write_indexed, stored, lift_values, all_within, fill_chain, inserted, chosen, as_one, form, forms}
+use Rattle.homeo_meaning.specs.Aborts.{holds_abort}
+use Rattle.homeo_meaning.specs.LForm.{Lifted, Made, AllMade, Pair, Target, both, one, in_front, guard, joined, visits, literal_of, lift, placed, within, write_chain, pair, write_to, write_field, write_at, write_by, write_indexed, stored, lift_values, all_within, fill_chain, inserted, chosen, as_one, form, forms}
 use Rattle.homeo_desugar.specs.inner.Key.{words}
 use Rattle.homeo_desugar.specs.inner.Made.{made, IsLifted, IsAdded, IsFormed, AreFormed, AreWithin, plain_target}
 use Rattle.homeo_desugar.specs.declared.making.Making.{Making}
@@ -56,8 +57,8 @@ field_formed slot name place after b x r e f h = write_as slot (spot slot.fields
 pub field_in : (x y : Context) (slot : Slot) (name after n : ℕ) (e : s.Expr) (r : L.Command) → y ≡ x → IsFormed after (write_field slot name (lift y e n)) r → IsFormed after (write_field slot name (lift x e n)) r
 field_in x y slot name after n e r same h = subst (λ z. IsFormed after (write_field slot name (lift z e n)) r) same h
 
-pub forms_in : (x y : Context) (cs : s.Commands) (after n : ℕ) (r : L.Commands) → y ≡ x → AreFormed after (forms y cs n) r → AreFormed after (forms x cs n) r
-forms_in x y cs after n r same h = subst (λ z. AreFormed after (forms z cs n) r) same h
+pub forms_in : (x y : Context) (cs : s.Commands) (after n : ℕ) (r : L.Commands) → y ≡ x → AreFormed after (forms y false cs n) r → AreFormed after (forms x false cs n) r
+forms_in x y cs after n r same h = subst (λ z. AreFormed after (forms z false cs n) r) same h
 
 -- ---- a write by an index
 pub write_literal : (start out : Making) (n after : ℕ) (x : ℕ → Lifted L.Expr) (y : ℕ → Lifted L.Expr) (all : List Slot) (f : Spot) (i : L.Expr) (c : L.Command) (v : ℤ) (found : Option Slot) → start.next ≡ n → IsLifted start out (x start.next) i → Some v ≡ literal_of i → slot_at v all ≡ found →
@@ -167,34 +168,37 @@ pub record FormsLeft (here : L.Commands) (rest whole : AllMade) : Type 0 where
   pub commands : both here rest.commands ≡ whole.commands
   pub next : rest.next ≡ whole.next
 
-forms_next : (x : Context) (cs : List Command) (i n : ℕ) (c : Command) → i < length cs → c ≡ get_or cs i c → forms x (commands (map plain_command (drop i cs))) n ≡ forms x (s.MoreCommand (plain_command c) (commands (map plain_command (drop (i + 1) cs)))) n
+forms_next : (x : Context) (g : Bool) (cs : List Command) (i n : ℕ) (c : Command) → i < length cs → c ≡ get_or cs i c → forms x g (commands (map plain_command (drop i cs))) n ≡ forms x g (s.MoreCommand (plain_command c) (commands (map plain_command (drop (i + 1) cs)))) n
 unfolding meaning_words tree_words
-forms_next x cs i n c h is =
+forms_next x g cs i n c h is =
     let front : drop i cs ≡ get_or cs i c ∷ drop (i + 1) cs = rw add-one (drop-cons cs i c h) in
-    ap (λ l. forms x (commands (map plain_command l)) n) front ∙ ap (λ (d : Command). forms x (s.MoreCommand (plain_command d) (commands (map plain_command (drop (i + 1) cs)))) n) (sym is)
+    ap (λ l. forms x g (commands (map plain_command l)) n) front ∙ ap (λ (d : Command). forms x g (s.MoreCommand (plain_command d) (commands (map plain_command (drop (i + 1) cs)))) n) (sym is)
 
-pub forms_step : (x : Context) (cs : List Command) (i now after : ℕ) (c : Command) (one_formed : LCommand) (before here : List LCommand) (whole : AllMade) → i < length cs → c ≡ get_or cs i c → IsFormed after (form x (plain_command c) now) (plain_lcommand one_formed) → here ≡ before ++ one_formed ∷ [] →
-    FormsLeft (low_commands (map plain_lcommand before)) (forms x (commands (map plain_command (drop i cs))) now) whole → FormsLeft (low_commands (map plain_lcommand here)) (forms x (commands (map plain_command (drop (i + 1) cs))) after) whole
+pub forms_step : (x : Context) (g later : Bool) (cs : List Command) (i now after : ℕ) (c : Command) (formed guarded : L.Command) (one_formed : LCommand) (before here : List LCommand) (whole : AllMade) → i < length cs → c ≡ get_or cs i c → IsFormed after (form x (plain_command c) now) formed →
+    guarded ≡ guard g formed → plain_lcommand one_formed ≡ guarded → here ≡ before ++ one_formed ∷ [] → later ≡ g || holds_abort (plain_command c) →
+    FormsLeft (low_commands (map plain_lcommand before)) (forms x g (commands (map plain_command (drop i cs))) now) whole → FormsLeft (low_commands (map plain_lcommand here)) (forms x later (commands (map plain_command (drop (i + 1) cs))) after) whole
 unfolding meaning_words
-forms_step x cs i now after c one_formed before here whole h is formed pushed left =
+forms_step x g later cs i now after c formed guarded one_formed before here whole h is made_one guards same pushed next left =
     let so_far : L.Commands = low_commands (map plain_lcommand before) in
     let f : Made = form x (plain_command c) now in
-    let others : L.Commands = (forms x (commands (map plain_command (drop (i + 1) cs))) f.next).commands in
-    let split : FormsLeft so_far (forms x (s.MoreCommand (plain_command c) (commands (map plain_command (drop (i + 1) cs)))) now) whole = subst (λ rest. FormsLeft so_far rest whole) (forms_next x cs i now c h is) left in
-    subst (λ n. FormsLeft (low_commands (map plain_lcommand here)) (forms x (commands (map plain_command (drop (i + 1) cs))) n) whole) (sym formed.next) (record {
+    let rest : s.Commands = commands (map plain_command (drop (i + 1) cs)) in
+    let others : L.Commands = (forms x (g || holds_abort (plain_command c)) rest f.next).commands in
+    let split : FormsLeft so_far (forms x g (s.MoreCommand (plain_command c) rest) now) whole = subst (λ r. FormsLeft so_far r whole) (forms_next x g cs i now c h is) left in
+    subst (λ v. FormsLeft (low_commands (map plain_lcommand here)) (forms x v rest after) whole) (sym next)
+    (subst (λ n. FormsLeft (low_commands (map plain_lcommand here)) (forms x (g || holds_abort (plain_command c)) rest n) whole) (sym made_one.next) (record {
       commands =
           ap (λ l. both (low_commands (map plain_lcommand l)) others) pushed
           ∙ ap (λ u. both u others) (made_push before one_formed)
           ∙ both_both so_far (one (plain_lcommand one_formed)) others
-          ∙ ap (λ u. both so_far (L.MoreCommand u others)) formed.command
+          ∙ ap (λ u. both so_far (L.MoreCommand u others)) (same ∙ guards ∙ ap (guard g) made_one.command)
           ∙ split.commands;
       next = split.next;
-    })
+    }))
 
-pub forms_end : (x : Context) (cs : List Command) (i now : ℕ) (here : L.Commands) (whole : AllMade) → length cs ≤ i → FormsLeft here (forms x (commands (map plain_command (drop i cs))) now) whole → AreFormed now whole here
+pub forms_end : (x : Context) (g : Bool) (cs : List Command) (i now : ℕ) (here : L.Commands) (whole : AllMade) → length cs ≤ i → FormsLeft here (forms x g (commands (map plain_command (drop i cs))) now) whole → AreFormed now whole here
 unfolding meaning_words tree_words
-forms_end x cs i now here whole h left =
-    let done : FormsLeft here (record { commands = L.NoCommand; next = now }) whole = subst (λ rest. FormsLeft here rest whole) (ap (λ l. forms x (commands (map plain_command l)) now) (drop_all i cs h)) left in
+forms_end x g cs i now here whole h left =
+    let done : FormsLeft here (record { commands = L.NoCommand; next = now }) whole = subst (λ rest. FormsLeft here rest whole) (ap (λ l. forms x g (commands (map plain_command l)) now) (drop_all i cs h)) left in
     record { commands = sym (both_none here) ∙ done.commands; next = done.next }
 
 -- ---- slots of the code
@@ -212,8 +216,11 @@ written_as b object place after x r e h k = subst (λ d. IsFormed after (write_t
 pub set_as : (slot row : Slot) (name after : ℕ) (x : Lifted L.Expr) (r : L.Command) → slot ≡ row → IsFormed after (write_field slot name x) r → IsFormed after (write_field row name x) r
 set_as slot row name after x r e h = subst (λ s. IsFormed after (write_field s name x) r) e h
 
-pub looped_as : (test : Slot → ℕ → Lifted L.Cond) (body : Slot → ℕ → Made) (all wanted : List Slot) (after n : ℕ) (r : L.Command) → all ≡ wanted → IsFormed after (as_one (visits test body all n)) r → IsFormed after (as_one (visits test body wanted n)) r
-looped_as test body all wanted after n r e h = subst (λ l. IsFormed after (as_one (visits test body l n)) r) e h
+pub looped_as : (later : Bool) (test : Slot → ℕ → Lifted L.Cond) (body : Slot → ℕ → Made) (all wanted : List Slot) (after n : ℕ) (r : L.Command) → all ≡ wanted → IsFormed after (as_one (visits false later test body all n)) r → IsFormed after (as_one (visits false later test body wanted n)) r
+looped_as later test body all wanted after n r e h = subst (λ l. IsFormed after (as_one (visits false later test body l n)) r) e h
+
+pub ends_as : (a b : Bool) (test : Slot → ℕ → Lifted L.Cond) (body : Slot → ℕ → Made) (all : List Slot) (after n : ℕ) (r : L.Command) → a ≡ b → IsFormed after (as_one (visits false a test body all n)) r → IsFormed after (as_one (visits false b test body all n)) r
+ends_as a b test body all after n r e h = subst (λ v. IsFormed after (as_one (visits false v test body all n)) r) e h
 
 -- ---- commands of the code
 pub command_formed : (x : Context) (after n : ℕ) (c : Command) (u : s.Command) (r : L.Command) → plain_command c ≡ u → IsFormed after (form x u n) r → IsFormed after (form x (plain_command c) n) r

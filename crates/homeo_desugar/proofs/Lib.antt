@@ -6,3 +6,4 @@ pub mod Objects
 pub mod Rows
 pub mod SlotChains
 pub mod SlotLists
+pub mod UndoSteps

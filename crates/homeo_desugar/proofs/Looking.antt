@@ -12,12 +12,14 @@ use Rattle.homeo_syntax.specs.declared.workload.Transaction.{Transaction}
 use Rattle.homeo_syntax.specs.declared.workload.Workload.{Workload}
 use Rattle.homeo_meaning.specs.Key.{words}
 use Rattle.homeo_meaning.specs.Acceptance.{IsAccepted}
-use Rattle.homeo_meaning.specs.Context.{context, arguments_of, object_count, find_fields}
+use Rattle.homeo_meaning.specs.Context.{Context, context, arguments_of, object_count, find_fields}
 use Rattle.homeo_meaning.specs.Declarations.{Declarations}
 use Rattle.homeo_meaning.specs.Ground.{Ground}
 use Rattle.homeo_context.specs.Contexts.{call_context}
 use Rattle.homeo_context.specs.declared.arguments.Argument.{Argument}
-use Rattle.homeo_meaning.specs.LForm.{forms, l_form}
+use Rattle.homeo_meaning.specs.Aborts.{hold_abort}
+use Rattle.homeo_meaning.specs.LowWrites.{all_written}
+use Rattle.homeo_meaning.specs.LForm.{forms, saved_in, undoing, body_by, l_form}
 use Rattle.homeo_meaning.specs.Schema.{Relation, Schema, schema_of}
 use Rattle.homeo_meaning.specs.NumberRules.{limit_faults}
 use Rattle.homeo_meaning.specs.declared.call.Purpose.TheVariants.{Run}
@@ -76,20 +78,38 @@ schema_fits w x e accepted =
 
 -- ---- its form
 -- the frame of a body is the context of its call
-pub body_formed : (d : Declarations) (given : List Argument) (past : ℕ) (body : s.Commands) (after : ℕ) (made : L.Commands) → past ≡ object_count (length d.schema.objects) d.schema.relations →
-    AreFormed after (forms (record { schema = d.schema; arguments = (call_context d given).arguments; rows = λ n. absent past }) body 0) made → L.Seq made ≡ L.Seq (forms (call_context d given) body 0).commands
+pub frame_context : (d : Declarations) (given : List Argument) (past : ℕ) → past ≡ object_count (length d.schema.objects) d.schema.relations →
+    record { schema = d.schema; arguments = (call_context d given).arguments; rows = λ n. absent past } ≡ call_context d given
 unfolding words desugar_words
-body_formed d given past body after made e formed =
-    ap L.Seq (formed.commands ∙ (λ i. (forms (record { schema = d.schema; arguments = (call_context d given).arguments; rows = λ n. absent (e i) }) body 0).commands))
+frame_context d given past e = λ i. record { schema = d.schema; arguments = (call_context d given).arguments; rows = λ n. absent (e i) }
+
+-- a body that can't end its call
+pub plain_body : (x y : Context) (body : s.Commands) (after : ℕ) (made : L.Commands) → y ≡ x → hold_abort body ≡ false → AreFormed after (forms y false body 0) made → L.Seq made ≡ body_by (hold_abort body) x body
+unfolding words
+plain_body x y body after made e none formed =
+    ap L.Seq (formed.commands ∙ ap (λ z. (forms z false body 0).commands) e) ∙ sym (ap (λ v. body_by v x body) none)
+
+-- one that can: its objects are found in its form, and saved before it
+pub undone_body : (x y : Context) (body : s.Commands) (first after : ℕ) (plain made : L.Commands) (saved : List ℕ) (r : L.Command) → y ≡ x → hold_abort body ≡ true → AreFormed first (forms y false body 0) plain → saved ≡ all_written plain [] →
+    AreFormed after (forms y false body (1 + length saved)) made → r ≡ undoing saved made → r ≡ body_by (hold_abort body) x body
+unfolding words
+undone_body x y body first after plain made saved r e some found is formed undone =
+    let same : saved ≡ saved_in x body = is ∙ ap (λ p. all_written p []) (found.commands ∙ ap (λ z. (forms z false body 0).commands) e) in
+    undone
+    ∙ ap (undoing saved) (formed.commands ∙ ap (λ z. (forms z false body (1 + length saved)).commands) e)
+    ∙ ap (λ xs. undoing xs (forms x false body (1 + length xs)).commands) same
+    ∙ sym (ap (λ v. body_by v x body) some)
 
 pub transaction_formed : (t : Transaction) (d : Declarations) (bound given : List Argument) (params : List RangeDecl) (args : List ℤ) (body : List Command) (r : L.Command) → params ≡ t.params.items → body ≡ t.body.items → given ≡ bound →
-    arguments_of (map (λ a. a.name) bound) (map (λ a. a.value) bound) ≡ arguments_of (map (λ p. p.name.name) params) args → r ≡ L.Seq (forms (call_context d given) (commands (map plain_command body)) 0).commands → r ≡ l_form d.schema (map (λ p. p.name.name) t.params.items) args (plain_transaction t).body
+    arguments_of (map (λ a. a.name) bound) (map (λ a. a.value) bound) ≡ arguments_of (map (λ p. p.name.name) params) args → r ≡ body_by (hold_abort (commands (map plain_command body))) (call_context d given) (commands (map plain_command body)) →
+    r ≡ l_form d.schema (map (λ p. p.name.name) t.params.items) args (plain_transaction t).body
 unfolding words tree_words desugar_words
 transaction_formed t d bound given params args body r p b g a formed =
+    let form : Context → List Command → L.Command = λ x cs. body_by (hold_abort (commands (map plain_command cs))) x (commands (map plain_command cs)) in
     formed
-    ∙ (λ i. L.Seq (forms (call_context d (g i)) (commands (map plain_command body)) 0).commands)
-    ∙ (λ i. L.Seq (forms (record { schema = d.schema; arguments = a i; rows = λ n. absent (object_count (length d.schema.objects) d.schema.relations) }) (commands (map plain_command body)) 0).commands)
-    ∙ (λ i. L.Seq (forms (context d.schema (map (λ p. p.name.name) (p i)) args) (commands (map plain_command (b i))) 0).commands)
+    ∙ (λ i. form (call_context d (g i)) body)
+    ∙ (λ i. form (record { schema = d.schema; arguments = a i; rows = λ n. absent (object_count (length d.schema.objects) d.schema.relations) }) body)
+    ∙ (λ i. form (context d.schema (map (λ p. p.name.name) (p i)) args) (b i))
 
 -- what a ground call calls
 pub call_formed : (w own : Workload) (g : Ground) (t : Transaction) (x : Schema) (args : List ℤ) (r : L.Command) → own ≡ w → slice_get (plain_workload own).transactions g.transaction ≡ Some (plain_transaction t) → x ≡ schema_of (plain_workload w) → args ≡ g.args →

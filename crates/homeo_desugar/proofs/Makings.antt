@@ -1,5 +1,5 @@
 -- Commands and phrases that are made one after another.
-use Rattle.std.proofs.Common.{◌≡◌, ◌≢◌, ℕ, suc, ◌+◌, ◌-◌, ◌<◌, ◌≤◌, List, [], ◌∷◌, ◌++◌, drop, get_or, ℤ, pos, Some, None, Option, map, length, refl, sym, ap, ◌∙◌, subst, arith, add-one}
+use Rattle.std.proofs.Common.{◌≡◌, ◌≢◌, ℕ, suc, ◌+◌, ◌-◌, ◌<◌, ◌≤◌, Bool, true, false, List, [], ◌∷◌, ◌++◌, drop, get_or, ℤ, pos, Some, None, Option, map, length, refl, sym, ap, ◌∙◌, subst, arith, add-one}
 use Rattle.std.proofs.Math.Seq.{drop-cons}
 use Rattle.std.proofs.lemmas.List.{map-append, drop_all}
 use Rattle.homeo_syntax.specs.Key.{words as tree_words}
@@ -15,11 +15,11 @@ use Rattle.homeo_syntax.specs.LowView.{low_exprs, low_tests, low_commands, plain
 use Rattle.homeo_meaning.specs.Key.{words as meaning_words}
 use Rattle.homeo_meaning.specs.Schema.{Declared}
 use Rattle.homeo_meaning.specs.Context.{Spot, Slot, Context, slots, fields, spot, slot_at, bind}
-use Rattle.homeo_meaning.specs.LForm.{Lifted, Made, AllMade, both, one, in_front, within, plain, mapped, joined, visits, counted, equal, read, fresh, literal_of, read_slot, read_chain, indexed_by, indexed, lift, lift_all, lift_test, lift_cond}
+use Rattle.homeo_meaning.specs.LForm.{Lifted, Made, AllMade, both, one, in_front, unless_ended, in_turn, within, plain, mapped, joined, visits, counted, equal, read, fresh, literal_of, read_slot, read_chain, indexed_by, indexed, lift, lift_all, lift_test, lift_cond}
 use Rattle.homeo_desugar.specs.inner.Key.{words}
-use Rattle.homeo_desugar.specs.inner.Made.{made, IsLifted, IsAdded, IsTested, both_tests}
+use Rattle.homeo_desugar.specs.inner.Made.{made, IsLifted, IsAdded, IsTurned, IsTested, both_tests}
 use Rattle.homeo_desugar.specs.inner.Settings.{plain_slot, plain_slots, slots_after, slot_of}
-use Rattle.homeo_desugar.specs.inner.Visits.{adding, used_and}
+use Rattle.homeo_desugar.specs.inner.Visits.{adding, used_and, visit_of}
 use Rattle.homeo_desugar.specs.declared.slots.Slot as one_slot
 use Rattle.homeo_desugar.specs.declared.slots.Slots as code
 use Rattle.homeo_desugar.proofs.SlotLists.{one_on, none_on, all_after}
@@ -232,7 +232,7 @@ pub record VisitsLeft (old now : Making) (rest whole : AllMade) : Type 0 where
 -- a slot is visited: its test is lifted, and the choice stands behind the lifting's commands
 pub visited : (test : Slot → ℕ → Lifted L.Cond) (body : Slot → ℕ → Made) (old now mid new : Making) (slot : Slot) (more : List Slot) (c : L.Cond) (d : L.Command) (whole : AllMade) →
     IsLifted now mid (used_and slot (test slot now.next)) c → d ≡ (body slot mid.next).command → new.next ≡ (body slot mid.next).next →
-    made new ≡ both (made mid) (one (L.If c d L.Skip)) → VisitsLeft old now (visits test body (slot ∷ more) now.next) whole → VisitsLeft old new (visits test body more new.next) whole
+    made new ≡ both (made mid) (one (L.If c d L.Skip)) → VisitsLeft old now (visits false false test body (slot ∷ more) now.next) whole → VisitsLeft old new (visits false false test body more new.next) whole
 unfolding words meaning_words
 visited test body old now mid new slot more c d whole h e k m l =
     let b : Lifted L.Cond = test slot now.next in
@@ -240,8 +240,8 @@ visited test body old now mid new slot more c d whole h e k m l =
     let begins : new.next ≡ after = k ∙ ap (λ n. (body slot n).next) h.next in
     let choice : L.If c d L.Skip ≡ L.If (L.MoreTest (equal (read slot.used) (pos 1)) b.phrase) (body slot b.next).command L.Skip =
     ap (λ p. L.If p d L.Skip) h.phrase ∙ ap (λ q. L.If (L.MoreTest (equal (read slot.used) (pos 1)) b.phrase) q L.Skip) (e ∙ ap (λ n. (body slot n).command) h.next) in
-    let others : L.Commands = (visits test body more after).commands in
-    subst (λ n. VisitsLeft old new (visits test body more n) whole) (sym begins) (record {
+    let others : L.Commands = (visits false false test body more after).commands in
+    subst (λ n. VisitsLeft old new (visits false false test body more n) whole) (sym begins) (record {
       commands =
           ap (λ cs. both cs others) (m ∙ ap (λ cs. both cs (one (L.If c d L.Skip))) h.commands ∙ ap (λ q. both (both (made now) b.before) (one q)) choice)
           ∙ both_both (both (made now) b.before) (one (L.If (L.MoreTest (equal (read slot.used) (pos 1)) b.phrase) (body slot b.next).command L.Skip)) others
@@ -250,9 +250,62 @@ visited test body old now mid new slot more c d whole h e k m l =
       next = l.next;
     })
 
-pub visits_end : (test : Slot → ℕ → Lifted L.Cond) (body : Slot → ℕ → Made) (old now : Making) (whole : AllMade) → VisitsLeft old now (visits test body [] now.next) whole → IsAdded old now whole
+pub visits_end : (g later : Bool) (test : Slot → ℕ → Lifted L.Cond) (body : Slot → ℕ → Made) (old now : Making) (whole : AllMade) → VisitsLeft old now (visits g later test body [] now.next) whole → IsAdded old now whole
 unfolding meaning_words
-visits_end test body old now whole l = record { commands = sym (both_none (made now)) ∙ l.commands; next = l.next }
+visits_end g later test body old now whole l = record { commands = sym (both_none (made now)) ∙ l.commands; next = l.next }
+
+-- ---- slots whose commands may be guarded
+turn_both : (g : Bool) (before : L.Commands) (c : L.Command) (more : L.Commands) → both (in_turn g before c L.NoCommand) more ≡ in_turn g before c more
+unfolding meaning_words
+turn_both true before c more = refl
+turn_both false before c more = both_both before (one c) more
+
+-- a slot's commands are made, guarded or not
+pub turned : (g later : Bool) (test : Slot → ℕ → Lifted L.Cond) (body : Slot → ℕ → Made) (old now new : Making) (slot : Slot) (more : List Slot) (whole : AllMade) →
+    IsTurned g now new (visit_of test body slot now.next) → VisitsLeft old now (visits g later test body (slot ∷ more) now.next) whole → VisitsLeft old new (visits later later test body more new.next) whole
+unfolding words meaning_words
+turned g later test body old now new slot more whole h l =
+    let v : Lifted L.Command = visit_of test body slot now.next in
+    let others : L.Commands = (visits later later test body more v.next).commands in
+    subst (λ n. VisitsLeft old new (visits later later test body more n) whole) (sym h.next) (record {
+      commands =
+          ap (λ cs. both cs others) h.commands
+          ∙ both_both (made now) (in_turn g v.before v.phrase L.NoCommand) others
+          ∙ ap (both (made now)) (turn_both g v.before v.phrase others)
+          ∙ l.commands;
+      next = l.next;
+    })
+
+-- the commands of a slot as they are
+pub turn_plain : (now mid new : Making) (v : Lifted L.Command) (c : L.Command) → IsLifted now mid v c → made new ≡ both (made mid) (one c) → new.next ≡ mid.next → IsTurned false now new v
+unfolding words meaning_words
+turn_plain now mid new v c h e n =
+    record {
+      commands = e ∙ (λ i. both (h.commands i) (one (h.phrase i))) ∙ both_both (made now) v.before (one v.phrase);
+      next = n ∙ h.next;
+    }
+
+-- and as one command that is guarded
+pub turn_guarded : (now start here new : Making) (v : Lifted L.Command) (c all guarded : L.Command) → made start ≡ L.NoCommand → IsLifted start here v c → all ≡ in_front (made here) c → guarded ≡ unless_ended all → made new ≡ both (made now) (one guarded) → new.next ≡ here.next → IsTurned true now new v
+unfolding words meaning_words
+turn_guarded now start here new v c all guarded none h front is e n =
+    record {
+      commands = e ∙ ap (λ d. both (made now) (one d)) (is ∙ ap unless_ended (front ∙ (λ i. in_front ((h.commands ∙ ap (λ u. both u v.before) none) i) (h.phrase i))));
+      next = n ∙ h.next;
+    }
+
+-- the lifted test of a slot and the form of its body
+pub visit_made : (x inner : Context) (row : ℕ) (b : s.Cond) (body : Slot → ℕ → Made) (slot : Slot) (old mid new : Making) (test : L.Cond) (then choice : L.Command) → inner ≡ bind x row slot → IsLifted old mid (used_and slot (lift_cond inner b old.next)) test →
+    then ≡ (body slot mid.next).command → new.next ≡ (body slot mid.next).next → made new ≡ made mid → choice ≡ L.If test then L.Skip → IsLifted old new (visit_of (λ slot. lift_cond (bind x row slot) b) body slot old.next) choice
+unfolding words meaning_words
+visit_made x inner row b body slot old mid new test then choice bound lifted same next still chosen =
+    let h : IsLifted old mid (used_and slot (lift_cond (bind x row slot) b old.next)) test = subst (λ y. IsLifted old mid (used_and slot (lift_cond y b old.next)) test) bound lifted in
+    let y : Lifted L.Cond = lift_cond (bind x row slot) b old.next in
+    record {
+      phrase = chosen ∙ ap (λ p. L.If p then L.Skip) h.phrase ∙ ap (λ q. L.If (L.MoreTest (equal (read slot.used) (pos 1)) y.phrase) q L.Skip) (same ∙ ap (λ n. (body slot n).command) h.next);
+      commands = still ∙ h.commands;
+      next = next ∙ ap (λ n. (body slot n).next) h.next;
+    }
 
 -- ---- fields by an index
 indexed_alone : (o : Option ℤ) (all : List Slot) (f : Spot) (x : Lifted L.Expr) (v : ℤ) → literal_of (indexed_by o all f x).phrase ≡ Some v → (indexed_by o all f x).before ≡ L.NoCommand
@@ -315,26 +368,36 @@ indexed_lifted x e all f old mid new i r h k =
     indexed_by_cases (literal_of y.phrase) all f old mid new y r refl (λ is v same. literal_alone x e old.next v (is ∙ same)) h.commands by_next
 
 -- ---- loops of the code over slots
-pub visits_begin : (test : Slot → ℕ → Lifted L.Cond) (body : Slot → ℕ → Made) (all : code.Slots) (m : Making) → VisitsLeft m m (visits test body (slots_after all 0 (all.count - 0)) m.next) (visits test body (plain_slots all) m.next)
-visits_begin test body all m =
-    subst (λ l. VisitsLeft m m (visits test body l m.next) (visits test body (plain_slots all) m.next)) (sym (all_after all 0 (omega arith))) (record { commands = refl; next = refl })
+pub visits_begin : (g later : Bool) (test : Slot → ℕ → Lifted L.Cond) (body : Slot → ℕ → Made) (all : code.Slots) (m : Making) → VisitsLeft m m (visits g later test body (slots_after all 0 (all.count - 0)) m.next) (visits g later test body (plain_slots all) m.next)
+visits_begin g later test body all m =
+    subst (λ l. VisitsLeft m m (visits g later test body l m.next) (visits g later test body (plain_slots all) m.next)) (sym (all_after all 0 (omega arith))) (record { commands = refl; next = refl })
 
 pub visit_step : (x inner : Context) (row number : ℕ) (b : s.Cond) (body : Slot → ℕ → Made) (all : code.Slots) (slot : one_slot.Slot) (old now mid new : Making) (test : L.Cond) (then choice : L.Command) (whole : AllMade) →
     number < all.count → plain_slot slot ≡ slot_of all number → inner ≡ bind x row (plain_slot slot) → IsLifted now mid (used_and (plain_slot slot) (lift_cond inner b now.next)) test →
     then ≡ (body (plain_slot slot) mid.next).command → new.next ≡ (body (plain_slot slot) mid.next).next → choice ≡ L.If test then L.Skip → made new ≡ both (made mid) (one choice) →
-    VisitsLeft old now (visits (λ slot. lift_cond (bind x row slot) b) body (slots_after all number (all.count - number)) now.next) whole →
-    VisitsLeft old new (visits (λ slot. lift_cond (bind x row slot) b) body (slots_after all (number + 1) (all.count - (number + 1))) new.next) whole
+    VisitsLeft old now (visits false false (λ slot. lift_cond (bind x row slot) b) body (slots_after all number (all.count - number)) now.next) whole →
+    VisitsLeft old new (visits false false (λ slot. lift_cond (bind x row slot) b) body (slots_after all (number + 1) (all.count - (number + 1))) new.next) whole
 visit_step x inner row number b body all slot old now mid new test then choice whole within is bound lifted same next chosen pushed left =
     let here : Slot = slot_of all number in
     let tests : Slot → ℕ → Lifted L.Cond = λ slot. lift_cond (bind x row slot) b in
     let by_row : IsLifted now mid (used_and (plain_slot slot) (lift_cond (bind x row (plain_slot slot)) b now.next)) test = subst (λ y. IsLifted now mid (used_and (plain_slot slot) (lift_cond y b now.next)) test) bound lifted in
     let by_slot : IsLifted now mid (used_and here (tests here now.next)) test = subst (λ r. IsLifted now mid (used_and r (lift_cond (bind x row r) b now.next)) test) is by_row in
     visited tests body old now mid new here (slots_after all (number + 1) (all.count - (number + 1))) test then whole by_slot (same ∙ ap (λ r. (body r mid.next).command) is) (next ∙ ap (λ r. (body r mid.next).next) is) (pushed ∙ ap (λ c. both (made mid) (one c)) chosen)
-    (subst (λ l. VisitsLeft old now (visits tests body l now.next) whole) (one_on all number within) left)
+    (subst (λ l. VisitsLeft old now (visits false false tests body l now.next) whole) (one_on all number within) left)
 
-pub visits_done : (test : Slot → ℕ → Lifted L.Cond) (body : Slot → ℕ → Made) (all : code.Slots) (number : ℕ) (old now : Making) (whole : AllMade) → all.count ≤ number → VisitsLeft old now (visits test body (slots_after all number (all.count - number)) now.next) whole → IsAdded old now whole
-visits_done test body all number old now whole h left =
-    visits_end test body old now whole (subst (λ l. VisitsLeft old now (visits test body l now.next) whole) (none_on all number h) left)
+-- of a loop whose slots may be guarded
+pub turn_step : (g later : Bool) (x : Context) (row number : ℕ) (b : s.Cond) (body : Slot → ℕ → Made) (all : code.Slots) (old now new : Making) (whole : AllMade) →
+    number < all.count → IsTurned g now new (visit_of (λ slot. lift_cond (bind x row slot) b) body (slot_of all number) now.next) →
+    VisitsLeft old now (visits g later (λ slot. lift_cond (bind x row slot) b) body (slots_after all number (all.count - number)) now.next) whole →
+    VisitsLeft old new (visits later later (λ slot. lift_cond (bind x row slot) b) body (slots_after all (number + 1) (all.count - (number + 1))) new.next) whole
+turn_step g later x row number b body all old now new whole within h left =
+    let tests : Slot → ℕ → Lifted L.Cond = λ slot. lift_cond (bind x row slot) b in
+    turned g later tests body old now new (slot_of all number) (slots_after all (number + 1) (all.count - (number + 1))) whole h
+    (subst (λ l. VisitsLeft old now (visits g later tests body l now.next) whole) (one_on all number within) left)
+
+pub visits_done : (g later : Bool) (test : Slot → ℕ → Lifted L.Cond) (body : Slot → ℕ → Made) (all : code.Slots) (number : ℕ) (old now : Making) (whole : AllMade) → all.count ≤ number → VisitsLeft old now (visits g later test body (slots_after all number (all.count - number)) now.next) whole → IsAdded old now whole
+visits_done g later test body all number old now whole h left =
+    visits_end g later test body old now whole (subst (λ l. VisitsLeft old now (visits g later test body l now.next) whole) (none_on all number h) left)
 
 -- slots of the code
 pub counted_as : (test : Slot → ℕ → Lifted L.Cond) (term : Slot → L.Expr) (all wanted : List Slot) (old new : Making) (r : L.Expr) → all ≡ wanted → IsLifted old new (counted test term all old.next) r → IsLifted old new (counted test term wanted old.next) r
@@ -342,12 +405,12 @@ counted_as test term all wanted old new r e h = subst (λ l. IsLifted old new (c
 
 -- a count or a sum
 pub counted_lifted : (test : Slot → ℕ → Lifted L.Cond) (term : Slot → L.Expr) (all : List Slot) (total : ℕ) (old mid end : Making) (first : L.Command) (r : L.Expr) → total ≡ old.next → mid.next ≡ suc old.next → made mid ≡ both (made old) (one first) →
-    first ≡ L.Assign (temp.Fresh total) (L.Literal (pos 0)) → IsAdded mid end (visits test (adding total term) all mid.next) → r ≡ fresh total → IsLifted old end (counted test term all old.next) r
+    first ≡ L.Assign (temp.Fresh total) (L.Literal (pos 0)) → IsAdded mid end (visits false false test (adding total term) all mid.next) → r ≡ fresh total → IsLifted old end (counted test term all old.next) r
 unfolding words meaning_words
 counted_lifted test term all total old mid end first r e begins pushed is h f =
-    let by_total : IsAdded mid end (visits test (adding old.next term) all mid.next) = subst (λ n. IsAdded mid end (visits test (adding n term) all mid.next)) e h in
-    let loop : IsAdded mid end (visits test (adding old.next term) all (suc old.next)) = subst (λ n. IsAdded mid end (visits test (adding old.next term) all n)) begins by_total in
-    let others : L.Commands = (visits test (adding old.next term) all (suc old.next)).commands in
+    let by_total : IsAdded mid end (visits false false test (adding old.next term) all mid.next) = subst (λ n. IsAdded mid end (visits false false test (adding n term) all mid.next)) e h in
+    let loop : IsAdded mid end (visits false false test (adding old.next term) all (suc old.next)) = subst (λ n. IsAdded mid end (visits false false test (adding old.next term) all n)) begins by_total in
+    let others : L.Commands = (visits false false test (adding old.next term) all (suc old.next)).commands in
     record {
       phrase = f ∙ ap fresh e;
       commands =

@@ -1,13 +1,13 @@
 //! The L form of a ground call.
 
 ghost use Rattle.std.specs.Prelude.{◌≡◌, map, Some, IsSome, slice_get, IfOk};
-ghost use Rattle.homeo_syntax.specs.Low.{Seq};
 ghost use Rattle.homeo_syntax.specs.SourceView.{commands, plain_command, plain_transaction, plain_workload};
 ghost use Rattle.homeo_syntax.specs.LowView.{plain_lcommand};
 ghost use Rattle.homeo_meaning.specs.CallForm.{ground_form};
 ghost use Rattle.homeo_meaning.specs.Declarations.{declarations};
 ghost use Rattle.homeo_meaning.specs.Ground.{plain_ground};
-ghost use Rattle.homeo_meaning.specs.LForm.{forms, l_form};
+ghost use Rattle.homeo_meaning.specs.Aborts.{hold_abort};
+ghost use Rattle.homeo_meaning.specs.LForm.{body_by, l_form};
 ghost use Rattle.homeo_meaning.specs.SameRun.{MeansCall};
 ghost use Rattle.homeo_context.specs.Contexts.{call_context};
 ghost use Rattle.homeo_desugar.specs.inner.Settings.{SchemaFits};
@@ -15,8 +15,9 @@ ghost use Rattle.homeo_desugar.specs.inner.Settings.{SchemaFits};
 use crate::forming::form_all;
 use crate::frame::Frame;
 use crate::slots::Rows;
+use crate::undoing::{first_behind, objects_written, undoing};
 use homeo_context::{Argument, Declarations, bind};
-use homeo_meaning::{Accepted, GroundCall};
+use homeo_meaning::{Accepted, GroundCall, hold_abort};
 use homeo_syntax::{Command, LCommand, Memory, Transaction, Workload};
 use std::alloc::Global;
 
@@ -27,7 +28,8 @@ fn find<'a>(workload: &'a Workload, number: u32) -> &'a Transaction
     &workload.transactions.as_slice()[number as usize]
 }
 
-/// The L form of a transaction's commands, with these arguments.
+/// The L form of a transaction's commands, with these arguments. Where they can end the call, they are formed twice: which
+/// objects they write is read off the first form.
 fn form_body<'a>(
     alloc: Global,
     declared: &'a Declarations,
@@ -35,8 +37,8 @@ fn form_body<'a>(
     body: &'a [Command],
 ) -> Result<LCommand, Memory>
     requires { SchemaFits declared.now.schema }
-    ensures { IfOk result (λ c. plain_lcommand c ≡
-        Seq (forms (call_context declared.now arguments.now) (commands (map plain_command body.now)) 0).commands) }
+    ensures { IfOk result (λ c. plain_lcommand c ≡ body_by (hold_abort (commands (map plain_command body.now)))
+        (call_context declared.now arguments.now) (commands (map plain_command body.now))) }
 {
     let frame = Frame {
         declared,
@@ -46,7 +48,13 @@ fn form_body<'a>(
     };
     let mut next = 0;
     let commands = form_all(alloc, body, &frame, &mut next)?;
-    Ok(LCommand::Seq { commands })
+    if !hold_abort(body) {
+        return Ok(LCommand::Seq { commands });
+    }
+    let saved = objects_written(alloc, commands.as_slice())?;
+    let mut next = first_behind(saved.as_slice())?;
+    let commands = form_all(alloc, body, &frame, &mut next)?;
+    undoing(alloc, saved.as_slice(), commands)
 }
 
 /// The L form of a transaction with these arguments.

@@ -1,15 +1,33 @@
 //! Chains of slots: one command for each, and the slot chosen by an index or by its being free.
 
-ghost use Rattle.std.specs.Prelude.{◌≡◌, ◌≤◌, ◌<◌, ◌^◌, map, length, IfOk};
+ghost use Rattle.std.specs.Prelude.{◌≡◌, ◌≤◌, ◌<◌, ◌^◌, pos, map, length, IfOk};
+ghost use Rattle.homeo_syntax.specs.Low.{Write, If, Skip, NoTest};
 ghost use Rattle.homeo_syntax.specs.LowView.{plain_lexpr, plain_lcond, plain_lcommand};
-ghost use Rattle.homeo_meaning.specs.LForm.{read_chain, write_chain, fill_chain, all_within};
+ghost use Rattle.homeo_meaning.specs.LForm.{equal, one_test, within, read_chain, write_chain, fill_chain, all_within};
 ghost use Rattle.homeo_desugar.specs.inner.Settings.{plain_spot, plain_slot, plain_slots, SlotsFit, IsLow};
 ghost use Rattle.homeo_desugar.specs.inner.Made.{plain_target, AreWithin, filled};
 
-use crate::making::{Target, choice, equal, fresh, one_test, push_within, read};
+use crate::making::{Target, choice, equal, fresh, one_test, push_within, read, within};
 use crate::slots::{Slot, Slots, Spot};
 use homeo_syntax::{LCommand, LCond, LExpr, List, Memory, SplitName, Temp};
 use std::alloc::Global;
+
+/// Tests whether an index names the slot of a number.
+fn is_slot(alloc: Global, index: &LExpr, number: u32) -> Result<LCond, Memory>
+    ensures { IfOk result (λ c. plain_lcond c ≡ one_test (equal (plain_lexpr index.now) (pos number))) }
+{
+    let index = index.copy(alloc)?;
+    one_test(alloc, equal(index, i64::from(number)))
+}
+
+/// Writes a copy of a value.
+#[tactic(auto, using(homeo_syntax::proofs::LowViews::low_command_views))]
+fn write(alloc: Global, target: SplitName, value: &LExpr) -> Result<LCommand, Memory>
+    ensures { IfOk result (λ c. plain_lcommand c ≡ Write target (plain_lexpr value.now)) }
+{
+    let value = value.copy(alloc)?;
+    Ok(LCommand::Write { target, value })
+}
 
 /// Puts the field of the slot that an index names into a fresh temporary, and 0 where there is no such slot.
 pub(crate) fn read_chain(
@@ -32,15 +50,15 @@ pub(crate) fn read_chain(
     let mut number = slots.count;
     while number > 0 {
         number -= 1;
+        let test = is_slot(alloc, index, number)?;
         let value = read(slots.slot(number).cell(field));
-        let test = one_test(alloc, equal(index.copy(alloc)?, i64::from(number)))?;
         chain = choice(alloc, test, LCommand::Assign { target, value }, chain)?;
     }
     Ok(chain)
 }
 
 /// Writes a value to the field of the slot that an index names, and nothing where there is no such slot.
-pub(crate) fn write_chain(
+fn write_chain(
     alloc: Global,
     index: &LExpr,
     slots: Slots<'_>,
@@ -57,11 +75,29 @@ pub(crate) fn write_chain(
     while number > 0 {
         number -= 1;
         let target = SplitName::Whole(slots.slot(number).cell(field));
-        let value = value.copy(alloc)?;
-        let test = one_test(alloc, equal(index.copy(alloc)?, i64::from(number)))?;
-        chain = choice(alloc, test, LCommand::Write { target, value }, chain)?;
+        let test = is_slot(alloc, index, number)?;
+        let write = write(alloc, target, value)?;
+        chain = choice(alloc, test, write, chain)?;
     }
     Ok(chain)
+}
+
+/// Writes a value that is within its field's bounds to the field of the slot that an index names.
+pub(crate) fn write_by_index(
+    alloc: Global,
+    index: &LExpr,
+    slots: Slots<'_>,
+    field: Spot,
+    value: &LExpr,
+) -> Result<LCommand, Memory>
+    requires slots { SlotsFit slots }
+    requires within { field.place ≤ length slots.fields.now }
+    ensures { IfOk result (λ c. plain_lcommand c ≡ If (within (plain_spot field) (plain_lexpr value.now) NoTest)
+        (write_chain (plain_spot field) (plain_lexpr index.now) (plain_lexpr value.now) (plain_slots slots.entry)) Skip) }
+{
+    let test = within(alloc, field, value)?;
+    let chain = write_chain(alloc, index, slots, field, value)?;
+    choice(alloc, test, chain, LCommand::Skip)
 }
 
 /// Tests whether all new values are within the bounds of their fields.
@@ -120,8 +156,8 @@ pub(crate) fn fill_chain(
     while number > 0 {
         number -= 1;
         let slot = slots.slot(number);
-        let filled = fill(alloc, slot, targets, into)?;
         let test = one_test(alloc, equal(read(slot.used), 0))?;
+        let filled = fill(alloc, slot, targets, into)?;
         chain = choice(alloc, test, filled, chain)?;
     }
     Ok(chain)

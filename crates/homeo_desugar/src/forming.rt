@@ -1,21 +1,23 @@
 //! The L forms of commands.
 
-ghost use Rattle.std.specs.Prelude.{◌≡◌, ◌<◌, ◌^◌, map, length, IfOk};
+ghost use Rattle.std.specs.Prelude.{◌≡◌, ◌<◌, ◌^◌, false, map, length, IfOk, OnOk};
 ghost use Rattle.homeo_syntax.specs.SourceView.{commands, plain_expr, plain_cond, plain_command, plain_field};
 ghost use Rattle.homeo_syntax.specs.Source.{Assign, Print};
 ghost use Rattle.homeo_syntax.specs.LowView.{low_commands, plain_lcommand};
 ghost use Rattle.homeo_meaning.specs.Schema.{declared_range};
 ghost use Rattle.homeo_meaning.specs.Context.{spot, bind};
+ghost use Rattle.homeo_meaning.specs.Aborts.{hold_abort};
 ghost use Rattle.homeo_meaning.specs.LForm.{lift, lift_cond, lift_values, visits, as_one, clear, write_to, write_field, write_indexed, inserted, form, forms};
-ghost use Rattle.homeo_desugar.specs.inner.Settings.{plain_spot, plain_slot, plain_slots, SlotsFit, setting, IsLow, Fits};
-ghost use Rattle.homeo_desugar.specs.inner.Made.{plain_target, IsLifted, IsFormed, AreFormed, AreWithin};
-ghost use Rattle.homeo_desugar.specs.inner.Visits.{updating, running};
+ghost use Rattle.homeo_desugar.specs.inner.Settings.{plain_spot, plain_slot, plain_slots, slot_of, SlotsFit, setting, IsLow, Fits};
+ghost use Rattle.homeo_desugar.specs.inner.Made.{plain_target, IsLifted, IsTurned, IsFormed, AreFormed, AreWithin};
+ghost use Rattle.homeo_desugar.specs.inner.Visits.{updating, running, visit_of};
 
-use crate::chains::{all_within, fill_chain, write_chain};
+use crate::chains::{all_within, fill_chain, write_by_index};
 use crate::frame::Frame;
 use crate::lifting::{lift, lift_cond, lift_visit};
-use crate::making::{Making, Target, choice, guarded, literal_of, within};
+use crate::making::{Making, Target, choice, guard, guarded, literal_of, set_flag, unless_ended};
 use crate::slots::{Slot, Slots, Spot, field};
+use homeo_meaning::{hold_abort, holds_abort};
 use homeo_syntax::{
     Command, Cond, Expr, FieldValue, Ident, LCommand, LExpr, List, Memory, RangeDecl, SplitName,
     Temp,
@@ -119,9 +121,7 @@ fn set_field(
     }
     let value = lift(alloc, value, frame, &mut out)?;
     *next = out.next;
-    let test = within(alloc, field, &value)?;
-    let chain = write_chain(alloc, &index, slots, field, &value)?;
-    let write = choice(alloc, test, chain, LCommand::Skip)?;
+    let write = write_by_index(alloc, &index, slots, field, &value)?;
     out.in_front(write)
 }
 
@@ -196,7 +196,7 @@ fn delete(
     requires fits { Fits (setting frame.now) }
     requires slots { SlotsFit slots }
     ensures { IfOk result (λ r. IsFormed next.new
-        (as_one (visits (λ slot. lift_cond (bind (setting frame.now) row slot) (plain_cond test.now)) clear (plain_slots slots.entry) next.old)) (plain_lcommand r)) }
+        (as_one (visits false false (λ slot. lift_cond (bind (setting frame.now) row slot) (plain_cond test.now)) clear (plain_slots slots.entry) next.old)) (plain_lcommand r)) }
 {
     let mut out = Making::from(alloc, *next);
     for number in 0..slots.count {
@@ -228,7 +228,7 @@ fn update(
     requires fits { Fits (setting frame.now) }
     requires slots { SlotsFit slots }
     ensures { IfOk result (λ r. IsFormed next.new
-        (as_one (visits (λ slot. lift_cond (bind (setting frame.now) row slot) (plain_cond test.now))
+        (as_one (visits false false (λ slot. lift_cond (bind (setting frame.now) row slot) (plain_cond test.now))
         (updating (setting frame.now) row name (plain_expr value.now)) (plain_slots slots.entry) next.old)) (plain_lcommand r)) }
 {
     let mut out = Making::from(alloc, *next);
@@ -265,10 +265,9 @@ fn form(alloc: Global, c: &Command, frame: &Frame<'_>, next: &mut u32) -> Result
             let mut out = Making::from(alloc, *next);
             let test = lift_cond(alloc, test, frame, &mut out)?;
             *next = out.next;
-            let yes = form(alloc, yes, frame, next)?;
-            let no = form(alloc, no, frame, next)?;
-            let chosen = choice(alloc, test, yes, no)?;
-            out.in_front(chosen)
+            let yes = form_boxed(alloc, yes, frame, next)?;
+            let no = form_boxed(alloc, no, frame, next)?;
+            out.in_front(LCommand::If { test, yes, no })
         }
         Command::Block { commands } => {
             let commands = form_all(alloc, commands.as_slice(), frame, next)?;
@@ -322,10 +321,89 @@ fn form(alloc: Global, c: &Command, frame: &Frame<'_>, next: &mut u32) -> Result
             let slots = frame.slots(relation.name);
             update(alloc, test, row.name, slots, field.name, value, frame, next)
         }
+        Command::Abort => Ok(set_flag(1)),
     }
 }
 
-/// Runs commands at each used slot where a condition holds.
+#[cycle(commands)]
+#[tactic(auto, using(homeo_syntax::proofs::Measures::command_parts))]
+fn form_boxed(
+    alloc: Global,
+    c: &Command,
+    frame: &Frame<'_>,
+    next: &mut u32,
+) -> Result<Box<LCommand>, Memory>
+    requires fits { Fits (setting frame.now) }
+    ensures { IfOk result (λ r. IsFormed next.new
+        (form (setting frame.now) (plain_command c.now) next.old) (plain_lcommand r.value)) }
+{
+    let formed = form(alloc, c, frame, next)?;
+    Ok(Box::new(alloc, formed)?)
+}
+
+/// The choice that a slot makes: its test is lifted before it.
+#[cycle(commands)]
+#[tactic(auto, using(homeo_syntax::proofs::Measures::command_parts))]
+fn visit(
+    alloc: Global,
+    body: &[Command],
+    test: &Cond,
+    row: u32,
+    slots: Slots<'_>,
+    number: u32,
+    frame: &Frame<'_>,
+    out: &mut Making,
+) -> Result<LCommand, Memory>
+    requires fits { Fits (setting frame.now) }
+    requires slots { SlotsFit slots }
+    requires within { number < slots.count }
+    ensures { IfOk result (λ r. IsLifted out.old out.new
+        (visit_of (λ slot. lift_cond (bind (setting frame.now) row slot) (plain_cond test.now))
+        (running (setting frame.now) row (commands (map plain_command body.now))) (slot_of slots.entry number) out.old.next) (plain_lcommand r)) }
+{
+    let slot = slots.slot(number);
+    let inner = (&*frame).bind(row, slot);
+    let test = lift_visit(alloc, test, slot, &inner, out)?;
+    let commands = form_all(alloc, body, &inner, &mut out.next)?;
+    choice(alloc, test, LCommand::Seq { commands }, LCommand::Skip)
+}
+
+/// Puts the commands of a slot behind the others, guarded or not.
+#[cycle(commands)]
+#[tactic(auto, using(homeo_syntax::proofs::Measures::command_parts))]
+fn take_turn(
+    alloc: Global,
+    guarded: bool,
+    body: &[Command],
+    test: &Cond,
+    row: u32,
+    slots: Slots<'_>,
+    number: u32,
+    frame: &Frame<'_>,
+    out: &mut Making,
+) -> Result<(), Memory>
+    requires fits { Fits (setting frame.now) }
+    requires slots { SlotsFit slots }
+    requires within { number < slots.count }
+    ensures { OnOk result (IsTurned guarded out.old out.new
+        (visit_of (λ slot. lift_cond (bind (setting frame.now) row slot) (plain_cond test.now))
+        (running (setting frame.now) row (commands (map plain_command body.now))) (slot_of slots.entry number) out.old.next)) }
+{
+    if guarded {
+        let mut here = Making::from(alloc, out.next);
+        let choice = visit(alloc, body, test, row, slots, number, frame, &mut here)?;
+        out.next = here.next;
+        let all = here.in_front(choice)?;
+        let guarded = unless_ended(alloc, all)?;
+        out.push(guarded)?;
+    } else {
+        let choice = visit(alloc, body, test, row, slots, number, frame, out)?;
+        out.push(choice)?;
+    }
+    Ok(())
+}
+
+/// Runs commands at each used slot where a condition holds, until the call is ended.
 #[cycle(commands)]
 #[tactic(auto, using(homeo_syntax::proofs::Measures::command_parts))]
 fn foreach(
@@ -340,16 +418,18 @@ fn foreach(
     requires fits { Fits (setting frame.now) }
     requires slots { SlotsFit slots }
     ensures { IfOk result (λ r. IsFormed next.new
-        (as_one (visits (λ slot. lift_cond (bind (setting frame.now) row slot) (plain_cond test.now))
+        (as_one (visits false (hold_abort (commands (map plain_command body.now)))
+        (λ slot. lift_cond (bind (setting frame.now) row slot) (plain_cond test.now))
         (running (setting frame.now) row (commands (map plain_command body.now))) (plain_slots slots.entry) next.old)) (plain_lcommand r)) }
 {
+    let later = hold_abort(body);
     let mut out = Making::from(alloc, *next);
+    let mut guarded = false;
     for number in 0..slots.count {
-        let slot = slots.slot(number);
-        let inner = frame.bind(row, slot);
-        let test = lift_visit(alloc, test, slot, &inner, &mut out)?;
-        let commands = form_all(alloc, body, &inner, &mut out.next)?;
-        out.push(choice(alloc, test, LCommand::Seq { commands }, LCommand::Skip)?)?;
+        take_turn(
+            alloc, guarded, body, test, row, slots, number, frame, &mut out,
+        )?;
+        guarded = later;
     }
     *next = out.next;
     Ok(LCommand::Seq {
@@ -357,7 +437,7 @@ fn foreach(
     })
 }
 
-/// The L forms of commands one after another.
+/// The L forms of commands one after another, each guarded that stands behind a command that can end the call.
 #[cycle(commands)]
 #[tactic(auto, using(homeo_syntax::proofs::Measures::command_parts))]
 pub(crate) fn form_all(
@@ -368,12 +448,14 @@ pub(crate) fn form_all(
 ) -> Result<List<LCommand>, Memory>
     requires fits { Fits (setting frame.now) }
     ensures { IfOk result (λ r. AreFormed next.new
-        (forms (setting frame.now) (commands (map plain_command cs.now)) next.old) (low_commands (map plain_lcommand r.items))) }
+        (forms (setting frame.now) false (commands (map plain_command cs.now)) next.old) (low_commands (map plain_lcommand r.items))) }
 {
     let mut formed = List::new(alloc);
+    let mut guarded = false;
     for c in cs {
         let one = form(alloc, c, frame, next)?;
-        formed.push(one)?;
+        formed.push(guard(alloc, guarded, one)?)?;
+        guarded = guarded || holds_abort(c);
     }
     Ok(formed)
 }

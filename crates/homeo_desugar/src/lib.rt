@@ -9,5 +9,6 @@ mod frame;
 mod lifting;
 mod making;
 mod slots;
+mod undoing;
 
 pub use call::desugar;

@@ -1,6 +1,6 @@
 //! The L forms of expressions and conditions.
 
-ghost use Rattle.std.specs.Prelude.{◌≡◌, ◌≤◌, ◌<◌, ◌^◌, map, Option, length, IfOk, OnOk};
+ghost use Rattle.std.specs.Prelude.{false, ◌≡◌, ◌≤◌, ◌<◌, ◌^◌, map, Option, length, IfOk, OnOk};
 ghost use Rattle.homeo_syntax.specs.SourceView.{exprs, tests, plain_expr, plain_test, plain_cond};
 ghost use Rattle.homeo_syntax.specs.LowView.{low_exprs, low_tests, plain_lexpr, plain_ltest, plain_lcond, plain_lcommand};
 ghost use Rattle.homeo_meaning.specs.Schema.{declared_range};
@@ -273,7 +273,7 @@ fn add_slots(
     requires fits { Fits (setting frame.now) }
     requires slots { SlotsFit slots }
     ensures { OnOk result (IsAdded out.old out.new
-        (visits (λ slot. lift_cond (bind (setting frame.now) row slot) (plain_cond test.now)) (adding total (term_of field)) (plain_slots slots.entry) out.old.next)) }
+        (visits false false (λ slot. lift_cond (bind (setting frame.now) row slot) (plain_cond test.now)) (adding total (term_of field)) (plain_slots slots.entry) out.old.next)) }
 {
     for number in 0..slots.count {
         let slot = slots.slot(number);

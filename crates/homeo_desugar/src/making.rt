@@ -3,13 +3,16 @@
 ghost use Rattle.std.specs.Prelude.{◌≡◌, suc, map, IfOk, OnOk};
 ghost use Rattle.homeo_syntax.specs.Low.{If, Comparison, NoCommand, NoTest};
 ghost use Rattle.homeo_syntax.specs.LowView.{low_tests, plain_lexpr, plain_ltest, plain_lcond, plain_lcommand};
-ghost use Rattle.homeo_meaning.specs.LForm.{both, one, in_front, read, fresh, literal_of, equal, one_test, within, guarded};
+ghost use Rattle.homeo_meaning.specs.LForm.{both, one, in_front, read, fresh, literal_of, equal, one_test, unless_ended, guard, set_flag, within, guarded};
 ghost use Rattle.homeo_desugar.specs.inner.Settings.{plain_spot};
 ghost use Rattle.homeo_desugar.specs.inner.Made.{made, both_tests};
 
 use crate::slots::Spot;
 use homeo_syntax::{Compare, LCommand, LCond, LExpr, LTest, List, Memory, SplitName, Temp};
 use std::alloc::Global;
+
+/// The fresh temporary that says whether the call is ended.
+const FLAG: u32 = 0;
 
 /// The commands that are made so far, and the next number of a fresh temporary.
 #[derive(Drop)]
@@ -136,6 +139,46 @@ pub(crate) fn choice(
         yes: Box::new(alloc, yes)?,
         no: Box::new(alloc, no)?,
     })
+}
+
+/// Whether the call is ended: 1 from its end on.
+#[tactic(auto, unfolding(homeo_meaning::specs::Key::words))]
+pub(crate) fn flag() -> LExpr
+    ensures { plain_lexpr result ≡ fresh 0 }
+{
+    fresh(FLAG)
+}
+
+/// A command that is not done where the call is ended.
+#[tactic(auto, using(homeo_syntax::proofs::LowViews::low_command_views, crate::proofs::Equations::guards))]
+pub(crate) fn unless_ended(alloc: Global, command: LCommand) -> Result<LCommand, Memory>
+    ensures { IfOk result (λ c. plain_lcommand c ≡ unless_ended (plain_lcommand command)) }
+{
+    let test = one_test(alloc, equal(flag(), 0))?;
+    choice(alloc, test, command, LCommand::Skip)
+}
+
+/// So where it is guarded, and else the command itself.
+#[tactic(auto, using(crate::proofs::Equations::guards))]
+pub(crate) fn guard(alloc: Global, guarded: bool, command: LCommand) -> Result<LCommand, Memory>
+    ensures { IfOk result (λ c. plain_lcommand c ≡ guard guarded (plain_lcommand command)) }
+{
+    if guarded {
+        unless_ended(alloc, command)
+    } else {
+        Ok(command)
+    }
+}
+
+/// Sets the temporary that says whether the call is ended.
+#[tactic(auto, using(homeo_syntax::proofs::LowViews::low_command_views, homeo_syntax::proofs::LowViews::low_phrase_views, crate::proofs::Equations::guards))]
+pub(crate) fn set_flag(value: i64) -> LCommand
+    ensures { plain_lcommand result ≡ set_flag value }
+{
+    LCommand::Assign {
+        target: Temp::Fresh(FLAG),
+        value: LExpr::Literal(value),
+    }
 }
 
 #[tactic(auto, using(homeo_syntax::proofs::LowViews::low_phrase_views))]

@@ -1,8 +1,8 @@
 -- Where each number that a program computes is small, it can be run.
-use Rattle.std.proofs.Common.{◌≡◌, ℕ, Bool, true, false, cond, ◌&&◌, List, [], ◌∷◌, ℤ, pos, ◌+ℤ◌, ◌*ℤ◌, neg_ℤ, Option, Some, None, refl, arith}
+use Rattle.std.proofs.Common.{◌≡◌, ℕ, Bool, true, false, cond, ◌&&◌, ◌||◌, List, [], ◌∷◌, ℤ, pos, ◌+ℤ◌, ◌*ℤ◌, neg_ℤ, Option, Some, None, refl, arith}
 use Rattle.std.proofs.lemmas.Bool.{and_parts, and_from, false≢true}
 use Rattle.std.proofs.lemmas.Bool.Decides.{nat_tests}
-use Rattle.homeo_syntax.specs.Source.{Expr, Exprs, Literal, Name, Read, Sum, Product, Neg, Field, Row, Count, Total, NoExpr, MoreExpr, Test, Cond, True, Not, Comparison, NoTest, MoreTest, FieldValue, Command, Commands, Skip, Assign, Write, Print, If, Block, SetField, SetRow, Foreach, Insert, Delete, Update, NoCommand, MoreCommand}
+use Rattle.homeo_syntax.specs.Source.{Expr, Exprs, Literal, Name, Read, Sum, Product, Neg, Field, Row, Count, Total, NoExpr, MoreExpr, Test, Cond, True, Not, Comparison, NoTest, MoreTest, FieldValue, Command, Commands, Skip, Assign, Write, Print, If, Block, SetField, SetRow, Foreach, Insert, Delete, Update, Abort, NoCommand, MoreCommand}
 use Rattle.homeo_meaning.specs.Key.{words}
 use Rattle.homeo_meaning.specs.Context.{Slot, Context, field_cell, slots, bind, slot_at}
 use Rattle.homeo_meaning.specs.Meaning.{State, Run, done, is_used, value, holds, set_object, write_field, does, does_all}
@@ -34,6 +34,11 @@ given_fits b x (Field q a f) s e =
 given_fits b x (Row r f) s e = refl
 given_fits b x (Count r q c) s e = absurd (false≢true e)
 given_fits b x (Total r f q c) s e = absurd (false≢true e)
+
+-- what is not done needs nothing
+ended_or : (v : Bool) (T : Type 0) (fits : Bool) → (T → fits ≡ true) → Unless v T → v || fits ≡ true
+ended_or true T fits k h = refl
+ended_or false T fits k h = k h
 
 some_slot : (o : Option Slot) (T : Type 0) (fits : Bool) → (T → fits ≡ true) → OnSlot o T → on_slot o fits ≡ true
 unfolding words
@@ -101,7 +106,8 @@ module _ (R : ℤ → Type 0) (b : ℕ) where
   unfolding words
   visits Tests Bodies tests bodies test body k l [] s h = refl
   visits Tests Bodies tests bodies test body k l (slot ∷ more) s h =
-      and_from (tests slot s) _ (k slot s h.0) (and_from (bodies slot s) _ (l slot s h.1) (visits Tests Bodies tests bodies test body k l more (cond (is_used s slot && test slot s) (body slot s) (done s)).state h.2))
+      and_from (tests slot s) _ (k slot s h.0) (and_from (bodies slot s) _ (l slot s h.1)
+      (ended_or (cond (is_used s slot && test slot s) (body slot s) (done s)).ended _ _ (visits Tests Bodies tests bodies test body k l more (cond (is_used s slot && test slot s) (body slot s) (done s)).state) h.2))
 
   mutual
     unfolding words
@@ -126,7 +132,8 @@ module _ (R : ℤ → Type 0) (b : ℕ) where
     run_fits x (Update r q t f e) s h =
         visits (λ slot. CanHold R (IsSmall b) (bind x r.name slot) t) (λ slot. CanValue R (IsSmall b) (bind x r.name slot) e) (λ slot. cond_fits b (bind x r.name slot) t) (λ slot. expr_fits b (bind x r.name slot) e) (λ slot. holds (bind x r.name slot) t) (λ slot u. done (write_field u slot f.name (value (bind x r.name slot) e u)))
         (λ slot u k. hold_fits (bind x r.name slot) t u k) (λ slot u k. value_fits (bind x r.name slot) e u k) (slots x q.name) s h
+    run_fits x Abort s h = refl
 
     pub runs_fit : (x : Context) (cs : Commands) (s : State) → CanRunAll R (IsSmall b) x cs s → can_run_all b x cs s ≡ true
     runs_fit x NoCommand s h = refl
-    runs_fit x (MoreCommand c cs) s h = and_from (can_run b x c s) _ (run_fits x c s h.0) (runs_fit x cs (does x c s).state h.1)
+    runs_fit x (MoreCommand c cs) s h = and_from (can_run b x c s) _ (run_fits x c s h.0) (ended_or (does x c s).ended _ _ (runs_fit x cs (does x c s).state) h.1)

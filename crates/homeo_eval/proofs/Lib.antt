@@ -11,4 +11,5 @@ pub mod PhraseSteps
 pub mod SlotSteps
 pub mod StartLists
 pub mod States
+pub mod Thens
 pub mod ValuesFit

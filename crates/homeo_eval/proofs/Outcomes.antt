@@ -13,11 +13,12 @@ use Rattle.homeo_meaning.specs.Key.{words}
 use Rattle.homeo_meaning.specs.Schema.{Schema, schema_of}
 use Rattle.homeo_meaning.specs.Bounds.{IsWithin, AllWithin}
 use Rattle.homeo_meaning.specs.Context.{Context, arguments_of, context}
-use Rattle.homeo_meaning.specs.Meaning.{State, after_prints, does_all}
+use Rattle.homeo_meaning.specs.Meaning.{State, Run, after_prints, does_all}
 use Rattle.homeo_meaning.specs.LForm.{l_form}
 use Rattle.homeo_meaning.specs.LowWeights.{first_weights, is_light}
 use Rattle.homeo_meaning.specs.Small.{IsSmall}
 use Rattle.homeo_meaning.specs.Computed.{CanRunAll}
+use Rattle.homeo_eval.specs.inner.BodyRuns.{run_in, body_run}
 use Rattle.homeo_eval.specs.inner.CanRun.{can_run_all}
 use Rattle.homeo_meaning.specs.Acceptance.{limit, IsLightBody}
 use Rattle.homeo_meaning.specs.Calls.{IsGroundCall}
@@ -64,7 +65,7 @@ context_is w params args given g = λ i. with_arguments (schema_of w) (sym g i)
 pub record BodyRuns (x : Schema) (params : List ℕ) (args : List ℤ) (body : s.Commands) (db : List ℤ) : Type 0 where
   pub small : CanRunAll (IsSmall limit) (IsSmall limit) (context x params args) body (start db)
   pub can : can_run_all limit (context x params args) body (start db) ≡ true
-  pub within : IsWithin x (database_like db (does_all (context x params args) body (start db)).state.database)
+  pub within : IsWithin x (database_like db (run_in (context x params args) body db).state.database)
 
 pub body_runs : (x : Schema) (params : List ℕ) (args : List ℤ) (body : s.Commands) (db : List ℤ) → IsWithin x db → is_light limit (l_form x params args body) (first_weights x) ≡ true → BodyRuns x params args body db
 unfolding words
@@ -74,15 +75,15 @@ body_runs x params args body db within light =
     record {
       small = small;
       can = runs_fit (IsSmall limit) limit (context x params args) body (start db) small;
-      within = list_in x db (does_all (context x params args) body (start db)).state.database within (bounds_law x params args body (values_of db) all);
+      within = list_in x db (run_in (context x params args) body db).state.database within (bounds_law x params args body (values_of db) all);
     }
 
 -- what stands of the transaction at a place, for its body cs, with these arguments on the database db
 pub record TransactionRuns (w : s.Workload) (place : ℕ) (args : List ℤ) (d : Declarations) (given : List Argument) (cs : s.Commands) (db : List ℤ) : Type 0 where
   pub can : can_run_all limit (call_context d given) cs (start db) ≡ true
   pub within : IsWithin d.schema db
-  pub after : IsWithin d.schema (database_like db (does_all (call_context d given) cs (start db)).state.database)
-  pub outcome : record { prints = (does_all (call_context d given) cs (start db)).prints; database = database_like db (does_all (call_context d given) cs (start db)).state.database } ≡ outcome_at w (slice_get w.transactions place) args db
+  pub after : IsWithin d.schema (database_like db (body_run d given cs db).state.database)
+  pub outcome : record { prints = (body_run d given cs db).prints; database = database_like db (body_run d given cs db).state.database } ≡ outcome_at w (slice_get w.transactions place) args db
 
 own_body : (w : s.Workload) (t : s.Transaction) (place : ℕ) (args : List ℤ) (given : List Argument) (db : List ℤ) → slice_get w.transactions place ≡ Some t → arguments_of (map (λ a. a.name) given) (map (λ a. a.value) given) ≡ arguments_of (map (λ p. p.name.name) t.params) args → IsLightBody w (slice_get w.transactions place) args → IsWithin (schema_of w) db → TransactionRuns w place args (declarations w) given t.body db
 unfolding words
@@ -94,8 +95,8 @@ own_body w t place args given db e g light within =
     record {
       can = subst (λ x. can_run_all limit x t.body (start db) ≡ true) x runs.can;
       within = within;
-      after = subst (λ x. IsWithin (schema_of w) (database_like db (does_all x t.body (start db)).state.database)) x runs.within;
-      outcome = sym (ap (λ o. outcome_at w o args db) e ∙ (λ i. record { prints = (does_all (x i) t.body (start db)).prints; database = database_like db (does_all (x i) t.body (start db)).state.database }));
+      after = subst (λ x. IsWithin (schema_of w) (database_like db (run_in x t.body db).state.database)) x runs.within;
+      outcome = sym (ap (λ o. outcome_at w o args db) e ∙ (λ i. record { prints = (run_in (x i) t.body db).prints; database = database_like db (run_in (x i) t.body db).state.database }));
     }
 
 pub transaction_runs : (w : s.Workload) (t : s.Transaction) (place : ℕ) (args : List ℤ) (d : Declarations) (given : List Argument) (cs : s.Commands) (db : List ℤ) → slice_get w.transactions place ≡ Some t → arguments_of (map (λ a. a.name) given) (map (λ a. a.value) given) ≡ arguments_of (map (λ p. p.name.name) t.params) args → d ≡ declarations w → cs ≡ t.body → IsLightBody w (slice_get w.transactions place) args → IsWithin (schema_of w) db → TransactionRuns w place args d given cs db
@@ -103,9 +104,23 @@ transaction_runs w t place args d given cs db e g p q light within =
     subst (λ d. TransactionRuns w place args d given cs db) (sym p) (subst (λ cs. TransactionRuns w place args (declarations w) given cs db) (sym q) (own_body w t place args given db e g light within))
 
 -- a run from an empty list of prints
-pub body_ran : (d : Declarations) (given : List Argument) (cs : s.Commands) (db copy temps ps qs : List ℤ) (r : State) → copy ≡ db → temps ≡ [] → qs ≡ [] → run_of r ps ≡ after_prints qs (does_all (call_context d given) cs (state_with copy temps)) → run_of r ps ≡ does_all (call_context d given) cs (start db)
+pub body_ran : (d : Declarations) (given : List Argument) (cs : s.Commands) (db copy temps ps qs : List ℤ) (r : State) (v : Bool) → copy ≡ db → temps ≡ [] → qs ≡ [] → run_of r ps v ≡ after_prints qs (does_all (call_context d given) cs (state_with copy temps)) → run_of r ps v ≡ does_all (call_context d given) cs (start db)
 unfolding words
-body_ran d given cs db copy temps ps qs r p q z e = e ∙ (λ i. after_prints (z i) (does_all (call_context d given) cs (state_with (p i) (q i))))
+body_ran d given cs db copy temps ps qs r v p q z e = e ∙ (λ i. after_prints (z i) (does_all (call_context d given) cs (state_with (p i) (q i))))
+
+-- the database after a call that goes on to its end, and after one that is ended
+pub settles_on : (after : Run) (s : State) (ps : List ℤ) (v : Bool) (db xs : List ℤ) → run_of s ps v ≡ after → v ≡ false → length xs ≡ length db → values_of xs ≡ s.database → xs ≡ database_like db (cond after.ended (values_of db) after.state.database)
+unfolding words
+settles_on after s ps v db xs e on len same =
+    let goes_on : after.ended ≡ false = sym (ap (λ (r : Run). r.ended) e) ∙ on in
+    like_itself db xs (cond after.ended (values_of db) after.state.database) len
+    (same ∙ ap (λ (r : Run). r.state.database) e ∙ sym (ap (λ w. cond w (values_of db) after.state.database) goes_on))
+
+pub settles_back : (after : Run) (s : State) (ps : List ℤ) (v : Bool) (db xs : List ℤ) → run_of s ps v ≡ after → v ≡ true → xs ≡ db → xs ≡ database_like db (cond after.ended (values_of db) after.state.database)
+unfolding words
+settles_back after s ps v db xs e ended same =
+    let up : after.ended ≡ true = sym (ap (λ (r : Run). r.ended) e) ∙ ended in
+    same ∙ like_itself db db (cond after.ended (values_of db) after.state.database) refl (sym (ap (λ w. cond w (values_of db) after.state.database) up))
 
 pub body_starts : (db copy temps : List ℤ) → copy ≡ db → temps ≡ [] → start db ≡ state_with copy temps
 unfolding words

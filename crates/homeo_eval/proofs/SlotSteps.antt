@@ -1,5 +1,5 @@
 -- The slots of a relation that are left in a loop over them.
-use Rattle.std.proofs.Common.{◌≡◌, ℕ, zero, suc, ◌+◌, ◌*◌, ◌-◌, ◌<◌, ◌≤◌, Bool, true, false, cond, ◌&&◌, ℤ, pos, ◌+ℤ◌, ◌<ℤ◌, List, [], ◌∷◌, ◌++◌, map, length, Some, None, refl, sym, ap, ◌∙◌, subst, append_assoc, append-nil, arith}
+use Rattle.std.proofs.Common.{◌≡◌, ℕ, zero, suc, ◌+◌, ◌*◌, ◌-◌, ◌<◌, ◌≤◌, Bool, true, false, cond, ◌&&◌, ◌||◌, ℤ, pos, ◌+ℤ◌, ◌<ℤ◌, List, [], ◌∷◌, ◌++◌, map, length, Some, None, refl, sym, ap, ◌∙◌, subst, append-nil, arith}
 use Rattle.std.specs.Ordering.{int_eq}
 use Rattle.std.proofs.lemmas.Int.{ints}
 use Rattle.std.proofs.lemmas.Bool.{and_parts}
@@ -9,12 +9,13 @@ use Rattle.homeo_context.specs.declared.slots.Slots.{Slots}
 use Rattle.homeo_meaning.specs.Key.{words}
 use Rattle.homeo_meaning.specs.Schema.{Declared, declared_range}
 use Rattle.homeo_meaning.specs.Context.{Slot, spot, field_cell, slots_from, first_where, slot_at}
-use Rattle.homeo_meaning.specs.Meaning.{State, Run, done, after_prints, is_used, added, visit}
+use Rattle.homeo_meaning.specs.Meaning.{State, Run, done, after_prints, then_do, is_used, added, visit}
 use Rattle.homeo_meaning.specs.Small.{is_small}
 use Rattle.homeo_eval.specs.inner.CanRun.{adding_fits, visits_fit}
 use Rattle.homeo_eval.specs.inner.States.{run_of}
 use Rattle.homeo_context.specs.Slots.{plain_slot, slots_of}
 use Rattle.homeo_lform.proofs.ObjectBounds.{Each}
+use Rattle.homeo_eval.proofs.Thens.{prints_twice, then_on, then_end, or_on}
 use Rattle.homeo_eval.specs.inner.Terms.{term_of}
 use Rattle.homeo_eval.specs.declared.phrases.Term.TheVariants.{Field}
 use Rattle.homeo_context.proofs.SlotLists.{slot_of, left, slot_is, left_next, left_all, left_none, at_here, at_past, at_below, first_step, first_none}
@@ -84,14 +85,14 @@ here_of test body slot s = cond (is_used s slot && test slot s) (body slot s) (d
 pub record VisitStep (tests bodies test : Slot → State → Bool) (body : Slot → State → Run) (t : Slots) (i : ℕ) (s : State) : Type 0 where
   pub tested : tests (slot_of t i) s ≡ true
   pub fits : bodies (slot_of t i) s ≡ true
-  pub rest : visits_fit tests bodies test body (left t (i + 1)) (here_of test body (slot_of t i) s).state ≡ true
-  pub same : visit test body (left t i) s ≡ after_prints (here_of test body (slot_of t i) s).prints (visit test body (left t (i + 1)) (here_of test body (slot_of t i) s).state)
+  pub rest : ((here_of test body (slot_of t i) s).ended || visits_fit tests bodies test body (left t (i + 1)) (here_of test body (slot_of t i) s).state) ≡ true
+  pub same : visit test body (left t i) s ≡ then_do (here_of test body (slot_of t i) s) (visit test body (left t (i + 1)))
 
-visits_more : (tests bodies test : Slot → State → Bool) (body : Slot → State → Run) (slot : Slot) (more : List Slot) (s : State) → visits_fit tests bodies test body (slot ∷ more) s ≡ tests slot s && (bodies slot s && visits_fit tests bodies test body more (here_of test body slot s).state)
+visits_more : (tests bodies test : Slot → State → Bool) (body : Slot → State → Run) (slot : Slot) (more : List Slot) (s : State) → visits_fit tests bodies test body (slot ∷ more) s ≡ tests slot s && (bodies slot s && ((here_of test body slot s).ended || visits_fit tests bodies test body more (here_of test body slot s).state))
 unfolding words
 visits_more tests bodies test body slot more s = refl
 
-visit_more : (test : Slot → State → Bool) (body : Slot → State → Run) (slot : Slot) (more : List Slot) (s : State) → visit test body (slot ∷ more) s ≡ after_prints (here_of test body slot s).prints (visit test body more (here_of test body slot s).state)
+visit_more : (test : Slot → State → Bool) (body : Slot → State → Run) (slot : Slot) (more : List Slot) (s : State) → visit test body (slot ∷ more) s ≡ then_do (here_of test body slot s) (visit test body more)
 unfolding words
 visit_more test body slot more s = refl
 
@@ -118,11 +119,13 @@ quiet_then r = refl
 pub quiet_step : (tests bodies test : Slot → State → Bool) (body : Slot → State → Run) (t : Slots) (i : ℕ) (s u : State) → VisitStep tests bodies test body t i s → done u ≡ here_of test body (slot_of t i) s → QuietStep tests bodies test body t i s u
 unfolding words
 quiet_step tests bodies test body t i s u step e =
-    let state : u ≡ (here_of test body (slot_of t i) s).state = ap (λ (r : Run). r.state) e in
-    let prints : [] ≡ (here_of test body (slot_of t i) s).prints = ap (λ (r : Run). r.prints) e in
+    let here : Run = here_of test body (slot_of t i) s in
+    let state : u ≡ here.state = ap (λ (r : Run). r.state) e in
+    let prints : [] ≡ here.prints = ap (λ (r : Run). r.prints) e in
+    let on : here.ended ≡ false = sym (ap (λ (r : Run). r.ended) e) in
     record {
-      fits = ap (visits_fit tests bodies test body (left t (i + 1))) state ∙ step.rest;
-      same = sym (quiet_then (visit test body (left t (i + 1)) u)) ∙ (λ j. after_prints (prints j) (visit test body (left t (i + 1)) (state j))) ∙ sym step.same;
+      fits = ap (visits_fit tests bodies test body (left t (i + 1))) state ∙ or_on here.ended _ on step.rest;
+      same = sym (quiet_then (visit test body (left t (i + 1)) u)) ∙ (λ j. after_prints (prints j) (visit test body (left t (i + 1)) (state j))) ∙ sym (step.same ∙ then_on here (visit test body (left t (i + 1))) on);
     }
 
 -- a visit that prints
@@ -130,20 +133,25 @@ pub record LoudStep (tests bodies test : Slot → State → Bool) (body : Slot �
   pub fits : visits_fit tests bodies test body (left t (i + 1)) u ≡ true
   pub same : after_prints qs (visit test body (left t (i + 1)) u) ≡ after_prints ps (visit test body (left t i) s)
 
-prints_twice : (ps qs : List ℤ) (r : Run) → after_prints (ps ++ qs) r ≡ after_prints ps (after_prints qs r)
-unfolding words
-prints_twice ps qs r = λ j. record { state = r.state; prints = append_assoc ps qs r.prints j }
-
-pub loud_step : (tests bodies test : Slot → State → Bool) (body : Slot → State → Run) (t : Slots) (i : ℕ) (s u : State) (ps qs : List ℤ) → VisitStep tests bodies test body t i s → run_of u qs ≡ after_prints ps (here_of test body (slot_of t i) s) → LoudStep tests bodies test body t i s u ps qs
+pub loud_step : (tests bodies test : Slot → State → Bool) (body : Slot → State → Run) (t : Slots) (i : ℕ) (s u : State) (ps qs : List ℤ) → VisitStep tests bodies test body t i s → run_of u qs false ≡ after_prints ps (here_of test body (slot_of t i) s) → LoudStep tests bodies test body t i s u ps qs
 unfolding words
 loud_step tests bodies test body t i s u ps qs step e =
     let here : Run = here_of test body (slot_of t i) s in
     let state : u ≡ here.state = ap (λ (r : Run). r.state) e in
     let prints : qs ≡ ps ++ here.prints = ap (λ (r : Run). r.prints) e in
+    let on : here.ended ≡ false = sym (ap (λ (r : Run). r.ended) e) in
     record {
-      fits = ap (visits_fit tests bodies test body (left t (i + 1))) state ∙ step.rest;
-      same = (λ j. after_prints (prints j) (visit test body (left t (i + 1)) (state j))) ∙ prints_twice ps here.prints (visit test body (left t (i + 1)) here.state) ∙ ap (after_prints ps) (sym step.same);
+      fits = ap (visits_fit tests bodies test body (left t (i + 1))) state ∙ or_on here.ended _ on step.rest;
+      same = (λ j. after_prints (prints j) (visit test body (left t (i + 1)) (state j))) ∙ prints_twice ps here.prints (visit test body (left t (i + 1)) here.state)
+          ∙ ap (after_prints ps) (sym (step.same ∙ then_on here (visit test body (left t (i + 1))) on));
     }
+
+-- the last visit, which ends the call
+pub loud_end : (tests bodies test : Slot → State → Bool) (body : Slot → State → Run) (t : Slots) (i : ℕ) (s u : State) (ps qs : List ℤ) → VisitStep tests bodies test body t i s → run_of u qs true ≡ after_prints ps (here_of test body (slot_of t i) s) → run_of u qs true ≡ after_prints ps (visit test body (left t i) s)
+unfolding words
+loud_end tests bodies test body t i s u ps qs step e =
+    let here : Run = here_of test body (slot_of t i) s in
+    e ∙ ap (after_prints ps) (sym (step.same ∙ then_end here (visit test body (left t (i + 1))) (sym (ap (λ (r : Run). r.ended) e))))
 
 -- what a visit does where the slot is visited, and where it isn't
 pub here_visited : (test : Slot → State → Bool) (body : Slot → State → Run) (slot : Slot) (s : State) (b : Bool) → b ≡ is_used s slot && test slot s → b ≡ true → here_of test body slot s ≡ body slot s
@@ -154,9 +162,9 @@ pub here_passed : (test : Slot → State → Bool) (body : Slot → State → Ru
 unfolding words
 here_passed test body slot s b e h = ap (λ v. cond v (body slot s) (done s)) (sym e ∙ h)
 
-pub loud_stop : (test : Slot → State → Bool) (body : Slot → State → Run) (t : Slots) (i : ℕ) (s : State) (ps : List ℤ) → t.count ≤ i → run_of s ps ≡ after_prints ps (visit test body (left t i) s)
+pub loud_stop : (test : Slot → State → Bool) (body : Slot → State → Run) (t : Slots) (i : ℕ) (s : State) (ps : List ℤ) → t.count ≤ i → run_of s ps false ≡ after_prints ps (visit test body (left t i) s)
 unfolding words
-loud_stop test body t i s ps h = sym (ap (after_prints ps) (visit_stop test body t i s h) ∙ (λ j. record { state = s; prints = append-nil ps j }))
+loud_stop test body t i s ps h = sym (ap (after_prints ps) (visit_stop test body t i s h) ∙ (λ j. record { state = s; prints = append-nil ps j; ended = false }))
 
 -- what holds of each slot of a relation
 each_from : (P : Slot → Type 0) (n k first : ℕ) (ds : List Declared) → Each P (slots_from k first ds n) → (i : ℕ) → i < n → P (record { number = k + i; used = first + i * (1 + length ds); fields = ds })

@@ -1,3 +1,4 @@
+pub mod BodyRuns
 pub mod CanRun
 pub mod Settings
 pub mod States

@@ -1,6 +1,6 @@
 //! What commands do.
 
-ghost use Rattle.std.specs.Prelude.{◌≡◌, true, map, length, OnOk};
+ghost use Rattle.std.specs.Prelude.{◌≡◌, true, map, length, IfOk};
 ghost use Rattle.homeo_syntax.specs.SourceView.{commands, plain_command, plain_cond};
 ghost use Rattle.homeo_meaning.specs.Context.{slots};
 ghost use Rattle.homeo_meaning.specs.Meaning.{after_prints, visit, does, does_all};
@@ -17,7 +17,7 @@ use crate::state::State;
 use homeo_context::{BoundRows, Context};
 use homeo_syntax::{Command, Cond, List, Memory};
 
-/// Runs commands at each used slot at which a condition holds of the row.
+/// Runs commands at each used slot at which a condition holds of the row, until the call is ended.
 #[cycle(runs)]
 fn foreach(
     body: &List<Command>,
@@ -27,7 +27,7 @@ fn foreach(
     context: &Context,
     state: &mut State,
     prints: &mut List<i64>,
-) -> Result<(), Memory>
+) -> Result<bool, Memory>
     requires serves { Serves context.now state.old }
     requires fits { visits_fit (cond_fits_at limit (plain_context context.now) row (plain_cond test.now))
         (can_run_at limit (plain_context context.now) row (commands (map plain_command body.now.items)))
@@ -35,7 +35,7 @@ fn foreach(
         (does_at (plain_context context.now) row (commands (map plain_command body.now.items)))
         (slots (plain_context context.now) relation) (state_of state.old) ≡ true }
     ensures places { length state.new.database.items ≡ length state.old.database.items }
-    ensures run { OnOk result (run_of (state_of state.new) prints.new.items ≡ after_prints prints.old.items
+    ensures run { IfOk result (λ ended. run_of (state_of state.new) prints.new.items ended ≡ after_prints prints.old.items
         (visit (holds_at (plain_context context.now) row (plain_cond test.now))
         (does_at (plain_context context.now) row (commands (map plain_command body.now.items)))
         (slots (plain_context context.now) relation) (state_of state.old))) }
@@ -49,13 +49,16 @@ fn foreach(
                 slot,
                 outer: context.rows,
             };
-            run_all(body.as_slice(), &context.with(&rows), state, prints)?;
+            if run_all(body.as_slice(), &context.with(&rows), state, prints)? {
+                return Ok(true);
+            }
         }
     }
-    Ok(())
+    Ok(false)
 }
 
-/// Runs a command: the state is left as the command leaves it, and its prints are added.
+/// Runs a command, and gives whether it ends the call: the state is left as the command leaves it, and its prints are
+/// added.
 #[cycle(runs)]
 #[tactic(auto, using(homeo_syntax::proofs::SourceViews::command_views, crate::proofs::CommandSteps::runs))]
 pub(crate) fn run(
@@ -63,29 +66,29 @@ pub(crate) fn run(
     context: &Context,
     state: &mut State,
     prints: &mut List<i64>,
-) -> Result<(), Memory>
+) -> Result<bool, Memory>
     requires serves { Serves context.now state.old }
     requires runs { can_run limit (plain_context context.now) (plain_command c.now) (state_of state.old) ≡ true }
     ensures places { length state.new.database.items ≡ length state.old.database.items }
-    ensures run { OnOk result (run_of (state_of state.new) prints.new.items ≡ after_prints prints.old.items
+    ensures run { IfOk result (λ ended. run_of (state_of state.new) prints.new.items ended ≡ after_prints prints.old.items
         (does (plain_context context.now) (plain_command c.now) (state_of state.old))) }
 {
     match c {
-        Command::Skip => Ok(()),
+        Command::Skip => Ok(false),
         Command::Assign { target, value: e } => {
             let v = value(e, context, state);
             state.assign(target.name, v)?;
-            Ok(())
+            Ok(false)
         }
         Command::Write { object, value: e } => {
             let v = value(e, context, state);
             set_object(object.name, v, context, state);
-            Ok(())
+            Ok(false)
         }
         Command::Print { value: e } => {
             let v = value(e, context, state);
             prints.push(v)?;
-            Ok(())
+            Ok(false)
         }
         Command::If { test, yes, no } => {
             if holds(test, context, state) {
@@ -102,7 +105,7 @@ pub(crate) fn run(
             value: e,
         } => {
             set_field(relation.name, index, field.name, e, context, state);
-            Ok(())
+            Ok(false)
         }
         Command::SetRow {
             row,
@@ -111,7 +114,7 @@ pub(crate) fn run(
         } => {
             let v = value(e, context, state);
             set_row(row.name, field.name, v, context, state);
-            Ok(())
+            Ok(false)
         }
         Command::Foreach {
             row,
@@ -123,14 +126,17 @@ pub(crate) fn run(
             relation,
             fields,
             into,
-        } => insert(relation.name, fields.as_slice(), into.name, context, state),
+        } => {
+            insert(relation.name, fields.as_slice(), into.name, context, state)?;
+            Ok(false)
+        }
         Command::Delete {
             row,
             relation,
             test,
         } => {
             delete(test, row.name, relation.name, context, state);
-            Ok(())
+            Ok(false)
         }
         Command::Update {
             row,
@@ -140,12 +146,13 @@ pub(crate) fn run(
             value: e,
         } => {
             update(test, row.name, relation.name, field.name, e, context, state);
-            Ok(())
+            Ok(false)
         }
+        Command::Abort => Ok(true),
     }
 }
 
-/// Runs commands one after another.
+/// Runs commands one after another until the call is ended, and gives whether it is.
 #[cycle(runs)]
 #[tactic(auto, using(crate::proofs::CommandSteps::each, homeo_meaning::proofs::Steps::steps))]
 pub(crate) fn run_all(
@@ -153,16 +160,18 @@ pub(crate) fn run_all(
     context: &Context,
     state: &mut State,
     prints: &mut List<i64>,
-) -> Result<(), Memory>
+) -> Result<bool, Memory>
     requires serves { Serves context.now state.old }
     requires runs { can_run_all limit (plain_context context.now) (commands (map plain_command cs.now))
         (state_of state.old) ≡ true }
     ensures places { length state.new.database.items ≡ length state.old.database.items }
-    ensures run { OnOk result (run_of (state_of state.new) prints.new.items ≡ after_prints prints.old.items
+    ensures run { IfOk result (λ ended. run_of (state_of state.new) prints.new.items ended ≡ after_prints prints.old.items
         (does_all (plain_context context.now) (commands (map plain_command cs.now)) (state_of state.old))) }
 {
     for c in cs {
-        run(c, context, state, prints)?;
+        if run(c, context, state, prints)? {
+            return Ok(true);
+        }
     }
-    Ok(())
+    Ok(false)
 }

@@ -7,8 +7,8 @@ ghost use Rattle.homeo_meaning.specs.Bounds.{IsWithin};
 ghost use Rattle.homeo_meaning.specs.Calls.{CallExists, IsGroundCall, ground_outcome};
 ghost use Rattle.homeo_meaning.specs.Declarations.{declarations};
 ghost use Rattle.homeo_meaning.specs.Acceptance.{limit, IsLightBody};
+ghost use Rattle.homeo_eval.specs.inner.BodyRuns.{body_run};
 ghost use Rattle.homeo_eval.specs.inner.CanRun.{can_run_all};
-ghost use Rattle.homeo_meaning.specs.Meaning.{does_all};
 ghost use Rattle.homeo_context.specs.Contexts.{call_context};
 ghost use Rattle.homeo_meaning.specs.Serial.{start};
 ghost use Rattle.homeo_meaning.specs.Serial.{database_like, call_of, call_outcome, serial};
@@ -26,7 +26,7 @@ fn copied(alloc: Global, items: &[i64]) -> Result<Vec<i64>, Memory>
     Ok(Vec::from_slice(alloc, items)?)
 }
 
-/// Runs commands on a database, from temporaries 0.
+/// Runs commands on a database, from temporaries 0. Where they end the call, the database stays as it was.
 fn run_body(
     alloc: Global,
     body: &[Command],
@@ -37,14 +37,12 @@ fn run_body(
     requires within { IsWithin declared.now.schema base.old.items }
     requires runs { can_run_all limit (call_context declared.now arguments.now)
         (commands (map plain_command body.now)) (start base.old.items) ≡ true }
-    requires after { IsWithin declared.now.schema (database_like base.old.items (does_all
-        (call_context declared.now arguments.now) (commands (map plain_command body.now))
-        (start base.old.items)).state.database) }
-    ensures prints { IfOk result (λ p. p.items ≡ (does_all (call_context declared.now arguments.now)
-        (commands (map plain_command body.now)) (start base.old.items)).prints) }
-    ensures database { OnOk result (base.new.items ≡ database_like base.old.items (does_all
-        (call_context declared.now arguments.now) (commands (map plain_command body.now))
-        (start base.old.items)).state.database) }
+    requires after { IsWithin declared.now.schema (database_like base.old.items (body_run declared.now arguments.now
+        (commands (map plain_command body.now)) base.old.items).state.database) }
+    ensures prints { IfOk result (λ p. p.items ≡ (body_run declared.now arguments.now
+        (commands (map plain_command body.now)) base.old.items).prints) }
+    ensures database { OnOk result (base.new.items ≡ database_like base.old.items (body_run declared.now arguments.now
+        (commands (map plain_command body.now)) base.old.items).state.database) }
     ensures within { IsWithin declared.now.schema base.new.items }
     ensures unchanged { OnErr result (base.new ≡ base.old) }
 {
@@ -57,8 +55,10 @@ fn run_body(
     };
     let context = Context::new(alloc, declared, arguments, &rows);
     let mut prints = List::new(alloc);
-    run_all(body, &context, &mut state, &mut prints)?;
-    *base = List::from_vec(state.database);
+    let ended = run_all(body, &context, &mut state, &mut prints)?;
+    if !ended {
+        *base = List::from_vec(state.database);
+    }
     Ok(prints)
 }
 
@@ -169,6 +169,32 @@ pub fn eval_call(
     run_at(alloc, workload, place, declared, args.as_slice(), database)
 }
 
+/// Runs calls one after another on a database, and gives the prints of each.
+/// `declared` has the places of the workload's names.
+fn run_each(
+    alloc: Global,
+    w: &Accepted,
+    declared: &Declarations,
+    calls: &[CallId],
+    database: &mut Database,
+) -> Result<Vec<Prints>, Memory>
+    requires exist { All (CallExists (plain_workload w.now)) calls.now }
+    requires declared { declared.now ≡ declarations (plain_workload w.now) }
+    requires within { IsWithin (schema_of (plain_workload w.now)) database.old.items }
+    ensures logs { IfOk result (λ logs. map (λ p. p.items) logs.items ≡
+        (serial (plain_workload w.now) database.old.items calls.now).logs) }
+    ensures database { OnOk result (database.new.items ≡
+        (serial (plain_workload w.now) database.old.items calls.now).database) }
+    ensures within { OnOk result (IsWithin (schema_of (plain_workload w.now)) database.new.items) }
+{
+    let mut logs = Vec::new(alloc);
+    for call in calls {
+        let prints = eval_call(alloc, w, declared, *call, database)?;
+        logs.push(prints)?;
+    }
+    Ok(logs)
+}
+
 /// Runs calls one after another on a database, each from temporaries 0, and gives the prints of
 /// each.
 ///
@@ -192,11 +218,7 @@ pub fn serial(
 {
     let declared = Declarations::of(alloc, w)?;
     let mut database = List::from_vec(copied(alloc, base.as_slice())?);
-    let mut logs = Vec::new(alloc);
-    for call in calls {
-        let prints = eval_call(alloc, w, &declared, *call, &mut database)?;
-        logs.push(prints)?;
-    }
+    let logs = run_each(alloc, w, &declared, calls, &mut database)?;
     *base = database;
     Ok(logs)
 }

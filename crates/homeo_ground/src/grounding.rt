@@ -3,6 +3,7 @@
 ghost use Rattle.std.specs.Prelude.{◌≡◌, ◌<◌, ◌^◌, All, length, map, slice_get, IfOk};
 ghost use Rattle.homeo_syntax.specs.Source as s;
 ghost use Rattle.homeo_syntax.specs.SourceView.{plain_workload};
+ghost use Rattle.homeo_meaning.specs.Declarations.{declarations};
 ghost use Rattle.homeo_meaning.specs.Ground.{plain_ground, grounds, ground_of};
 ghost use Rattle.homeo_ground.specs.Grounding.{grounding, IsCallIn, IsCalled};
 ghost use Rattle.homeo_ground.specs.Sited.{sited};
@@ -56,6 +57,21 @@ fn ground_calls(
     Ok(made)
 }
 
+/// The ground calls of calls of a workload.
+fn workload_calls(
+    alloc: Global,
+    w: &Accepted,
+    calls: &[SitedCall<'_>],
+) -> Result<Vec<GroundCall>, Memory>
+    requires sites { All (λ c. IsSite c.site) calls.now }
+    requires few { length (declarations (plain_workload w.now)).transactions < 2 ^ 32 }
+    ensures { IfOk result (λ made. map plain_ground made.items ≡
+        map (ground_by (declarations (plain_workload w.now)).transactions) (map sited calls.now)) }
+{
+    let numbering = Declarations::of(alloc, w)?;
+    ground_calls(alloc, &numbering, calls)
+}
+
 impl Grounding {
     /// Finds the distinct ground calls of a workload, in about the time that its calls and their
     /// arguments take.
@@ -68,10 +84,10 @@ impl Grounding {
         ensures calls { IfOk result (λ g. g.calls ≡ grounds (plain_workload w.now)) }
         ensures called { IfOk result (λ g. All (IsCalled (plain_workload w.now)) g.calls) }
     {
-        let numbering = Declarations::of(alloc, w)?;
         let numbered = number_clients(alloc, w.workload().clients.as_slice())?;
+        let calls = workload_calls(alloc, w, numbered.calls.as_slice())?;
         Ok(Grounding {
-            calls: ground_calls(alloc, &numbering, numbered.calls.as_slice())?,
+            calls,
             places: numbered.places,
         })
     }

@@ -9,16 +9,18 @@ use Rattle.homeo_meaning.specs.declared.call.CallId.{CallId}
 use Rattle.homeo_meaning.specs.Bounds.{AllWithin, IsWithin}
 use Rattle.homeo_meaning.specs.Calls.{CallExists}
 use Rattle.homeo_meaning.specs.LowMeaning.{BaseAt, exec, whole}
-use Rattle.homeo_meaning.specs.Meaning.{Run, run}
+use Rattle.homeo_meaning.specs.LForm.{l_form}
+use Rattle.homeo_meaning.specs.Meaning.{run}
+use Rattle.homeo_meaning.specs.SameRun.{IsSameRun}
 use Rattle.homeo_meaning.specs.Schema.{schema_of, nat_of}
 use Rattle.homeo_meaning.specs.Serial.{values_of, Outcome, outcome_at, outcome_of, call_of, call_outcome, transaction_named, arguments, numbered}
 use Rattle.homeo_meaning.specs.CallForm.{body_form}
 use Rattle.homeo_meaning.proofs.TransactionPlaces.{transaction_place}
+use Rattle.homeo_lform.proofs.FormLaw.{form_law}
 use Rattle.homeo_lform.proofs.Stays.{bounds_law}
 use Rattle.homeo_meaning.proofs.Within.{all_within, list_in}
 use Rattle.homeo_plan.specs.Template.{PlannedCall}
 use Rattle.homeo_plan.specs.Planned.{planned_at}
-use Rattle.homeo_plan.proofs.GroundForms.{form_run}
 use Rattle.homeo_plan.proofs.PlannedCalls.{KnownCall, known, planned_is}
 use Rattle.homeo_history.specs.Legal.{site_of, IsCallAt}
 use Rattle.homeo_history.proofs.ValueLists.{values_like}
@@ -34,13 +36,13 @@ unfolding meanings
 outcome_runs w None args db h = record { prints = refl; within = h; values = refl }
 outcome_runs w (Some t) args db h =
     let params : List ℕ = map (λ p. p.name.name) t.params in
-    let e = form_run (schema_of w) params args t.body (values_of db) in
+    let e : IsSameRun (exec (l_form (schema_of w) params args t.body) (whole (values_of db))) (run (schema_of w) params args t.body (values_of db)) = form_law (schema_of w) params args t.body (values_of db) in
     let after : ℕ → ℤ = (run (schema_of w) params args t.body (values_of db)).state.database in
     let all : AllWithin (schema_of w) after = bounds_law (schema_of w) params args t.body (values_of db) (all_within (schema_of w) db h) in
     record {
-      prints = sym (ap (λ (r : Run). r.prints) e);
+      prints = sym e.prints;
       within = list_in (schema_of w) db after h all;
-      values = values_like (schema_of w) db after h all ∙ sym (ap (λ (r : Run). r.state.database) e);
+      values = values_like (schema_of w) db after h all ∙ (λ i n. sym (e.database n) i);
     }
 
 -- ---- a client's call

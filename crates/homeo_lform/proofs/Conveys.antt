@@ -9,11 +9,14 @@ use Rattle.homeo_meaning.specs.Key.{words}
 use Rattle.homeo_meaning.specs.LowMeaning as M
 use Rattle.homeo_meaning.specs.Context.{Spot, Slot, Context, spot, field_cell, slots, fields, bind, slot_at}
 use Rattle.homeo_meaning.specs.Meaning.{State, Run, done, is_used, value, sum_value, product_value, passes, holds}
-use Rattle.homeo_meaning.specs.LForm.{Lifted, Made, both, one, read, visits, counted, read_chain, read_slot, literal_of, indexed_by, name_of, lift, lift_all, lift_test, lift_cond}
+use Rattle.homeo_meaning.specs.LForm.{Lifted, Made, both, one, in_front, guard, in_turn, read, visits, counted, read_chain, read_slot, literal_of, indexed_by, name_of, lift, lift_all, lift_test, lift_cond}
 use Rattle.homeo_meaning.specs.LowComputed as low
 use Rattle.homeo_meaning.specs.Computed.{has_some, has_none, is_given, Unless, OnSlots, CanAdd, CanVisit, CanValue, CanSum, CanProduct, CanPass, CanHold}
-use Rattle.homeo_lform.proofs.Lifts.{seen, seen_run, put_here, at_fresh, quiet, Alike, Lifts, alike_self, alike_then}
-use Rattle.homeo_lform.proofs.Loops.{seen_choice, loop_test, tested, add_term, adds}
+use Rattle.homeo_lform.proofs.Lifts.{seen, put_here, at_fresh, quiet, Alike, Lifts, alike_self, alike_then}
+use Rattle.homeo_lform.proofs.Loops.{loop_test, tested, add_term, adds}
+use Rattle.homeo_lform.specs.Fresh.{flags, TakesFrom}
+use Rattle.homeo_lform.proofs.Fresh.{Allows, turn_run}
+use Rattle.homeo_lform.proofs.Ends.{Told, told_low, told, Ready, ready_alike, goes_on, slot_told}
 use Rattle.homeo_lform.proofs.Values.{lifts, lifts_sum, lifts_product, lifts_test, lifts_cond, products, sums}
 
 -- the state after commands
@@ -33,6 +36,15 @@ alike_after n s x at v k = subst (Alike n s) (sym (ap (λ (r : M.Run). r.state) 
 pub means_after : {A V : Type 0} (n : ℕ) (s : M.State) (x : Lifted A) (at : A → M.State → V) (v : State → V) → Lifts n s x at v → (u : M.State) → Alike x.next (after x.before s) u → at x.phrase u ≡ v (seen s)
 unfolding words
 means_after n s x at v k u a = k.means u (subst (λ z. Alike x.next z u) (ap (λ (r : M.Run). r.state) k.runs) a)
+
+pub quiet_after : {A V : Type 0} (n : ℕ) (s : M.State) (x : Lifted A) (at : A → M.State → V) (v : State → V) → Lifts n s x at v → M.exec_all x.before s ≡ quiet (after x.before s)
+unfolding words
+quiet_after n s x at v k = k.runs ∙ ap quiet (sym (ap (λ (r : M.Run). r.state) k.runs))
+
+-- what counts where the call goes on
+pub unless_on : (v : Bool) (T : Type 0) → (v ≡ false → T) → Unless v T
+unless_on true T h = tt
+unless_on false T h = h refl
 
 pub literal_is_none : (k : ℤ) → None ≡ Some k → ⊥
 unfolding words
@@ -87,6 +99,25 @@ module _ (R P : ℤ → Type 0) where
   unfolding words
   split_all L.NoCommand ds s h = (tt, h)
   split_all (L.MoreCommand c cs) ds s h = let k = split_all cs ds (M.exec c s).state h.1 in ((h.0, k.0), k.1)
+
+  pub front_can : (cs : L.Commands) (c : L.Command) (s : M.State) → low.CanRun R P (in_front cs c) s → low.CanRunAll R P cs s × low.CanRun R P c (after cs s)
+  unfolding words
+  front_can L.NoCommand c s h = (tt, h)
+  front_can (L.MoreCommand b bs) c s h = let k = split_all (L.MoreCommand b bs) (one c) s h in (k.0, k.1.0)
+
+  pub guard_can : (g : Bool) (c : L.Command) (s : M.State) → low.CanRun R P (guard g c) s → low.CanRun R P c s
+  unfolding words
+  guard_can true c s h = h.1
+  guard_can false c s h = h
+
+  -- the commands of a slot, guarded or not
+  turn_can : (g : Bool) (before : L.Commands) (c : L.Command) (more : L.Commands) (s a : M.State) → M.exec_all before s ≡ quiet a → low.CanRunAll R P (in_turn g before c more) s
+      → low.CanRunAll R P before s × low.CanRun R P c (after before s) × low.CanRunAll R P more (turn_run g before c s a).state
+  unfolding words
+  turn_can true before c more s a e h = let k = front_can before c s (guard_can true (in_front before c) s h.0) in (k.0, k.1, h.1)
+  turn_can false before c more s a e h =
+      let k = split_all before (L.MoreCommand c more) s h in
+      (k.0, k.1.0, subst (λ z. low.CanRunAll R P more (M.exec c z).state) (ap (λ (r : M.Run). r.state) e) k.1.1)
 
   -- from the numbers of a lifting and of its phrase to those of the source
   abbrev pub Conveys : {A : Type 0} → ℕ → M.State → Lifted A → (A → M.State → Type 0) → (State → Type 0) → Type 0
@@ -175,13 +206,13 @@ module _ (R P : ℤ → Type 0) where
       abbrev Adding : State → List Slot → ℤ → Type 0
       Adding t all z = CanAdd R P (λ slot. Tests slot t) (λ slot. is_used t slot && p slot t) (λ slot. q slot t) all z
 
-      counts_can : (all : List Slot) (n m : ℕ) → n < m → (s : M.State) → low.CanRunAll R P (visits test (can_body n) all m).commands s → Adding (seen s) all (at_fresh n s)
+      counts_can : (all : List Slot) (n m : ℕ) → n < m → (s : M.State) → low.CanRunAll R P (visits false false test (can_body n) all m).commands s → Adding (seen s) all (at_fresh n s)
       unfolding words
       counts_can [] n m lt s h = tt
       counts_can (slot ∷ more) n m lt s h =
           let b = test slot m in
           let if_else : L.Command = L.If (loop_test slot b.phrase) (add_term n (term slot)) L.Skip in
-          let others = visits test (can_body n) more b.next in
+          let others = visits false false test (can_body n) more b.next in
           let runs = split_all b.before (L.MoreCommand if_else others.commands) s h in
           let a = after b.before s in
           let k = alike_after m s b M.holds (p slot) (tests slot m s) in
@@ -207,26 +238,31 @@ module _ (R P : ℤ → Type 0) where
           subst (λ z. Adding (seen s) all z) (put_here n s (pos 0)) (counts_can all n (suc n) (omega arith) a h.1)
 
     -- ---- loops of commands
-    module _ (body : Slot → ℕ → Made) (source : Slot → State → Run) (bodies : (slot : Slot) (m : ℕ) (s : M.State) → seen_run (M.exec (body slot m).command s) ≡ source slot (seen s)) (Bodies : Slot → State → Type 0) (body_cans : (slot : Slot) (m : ℕ) (s : M.State) → low.CanRun R P (body slot m).command s → Bodies slot (seen s)) where
-      pub visits_can : (all : List Slot) (m : ℕ) (s : M.State) → low.CanRunAll R P (visits test body all m).commands s → CanVisit R P Tests Bodies p source all (seen s)
+    module _ (b : Bool) (later : Bool) (may : Allows b later) (body : Slot → ℕ → Made) (source : Slot → State → Run)
+        (takes : (slot : Slot) (m : ℕ) (s : M.State) → TakesFrom (flags later) m (body slot m).next s (M.exec (body slot m).command s).state)
+        (bodies : (slot : Slot) (m : ℕ) (s : M.State) → Ready b m s → told_low b (M.exec (body slot m).command s) ≡ told (source slot (seen s)))
+        (Bodies : Slot → State → Type 0) (body_cans : (slot : Slot) (m : ℕ) (s : M.State) → Ready b m s → low.CanRun R P (body slot m).command s → Bodies slot (seen s)) where
+      pub visits_can : (all : List Slot) (g : Bool) (m : ℕ) (s : M.State) → Allows b g → Ready b m s → low.CanRunAll R P (visits g later test body all m).commands s → CanVisit R P Tests Bodies p source all (seen s)
       unfolding words
-      visits_can [] m s h = tt
-      visits_can (slot ∷ more) m s h =
-          let b = test slot m in
-          let c = body slot b.next in
-          let if_else : L.Command = L.If (loop_test slot b.phrase) c.command L.Skip in
-          let others = visits test body more c.next in
-          let runs = split_all b.before (L.MoreCommand if_else others.commands) s h in
-          let a = after b.before s in
-          let k = alike_after m s b M.holds (p slot) (tests slot m s) in
-          let passes_now = is_used (seen s) slot && p slot (seen s) in
-          let step : seen_run (M.exec if_else a) ≡ cond passes_now (source slot (seen s)) (done (seen s)) =
-          ap (λ v. seen_run (cond v (M.exec c.command a) (quiet a))) (tested_after slot m s)
-          ∙ seen_choice passes_now (M.exec c.command a) (quiet a)
-          ∙ ap₂ (λ (r : Run) t. cond passes_now r (done t)) (bodies slot b.next a ∙ ap (source slot) k.sees) k.sees in (
-            test_can slot m s c.command L.Skip runs.0 runs.1.0,
-            subst (Bodies slot) k.sees (body_cans slot b.next a runs.1.0.1),
-            subst (λ (r : Run). CanVisit R P Tests Bodies p source more r.state) step (visits_can more c.next (M.exec if_else a).state runs.1.1),
+      visits_can [] g m s hg ready h = tt
+      visits_can (slot ∷ more) g m s hg ready h =
+          let x = test slot m in
+          let c = body slot x.next in
+          let if_else : L.Command = L.If (loop_test slot x.phrase) c.command L.Skip in
+          let others = visits later later test body more c.next in
+          let k = tests slot m s in
+          let a = after x.before s in
+          let like = alike_after m s x M.holds (p slot) k in
+          let runs = turn_can g x.before if_else others.commands s a (quiet_after m s x M.holds (p slot) k) h in
+          let r = turn_run g x.before if_else s a in
+          let d : Run = cond (is_used (seen s) slot && p slot (seen s)) (source slot (seen s)) (done (seen s)) in
+          let first : told_low b r ≡ told d =
+          ap (λ z. told_low b (turn_run g x.before if_else s z)) (ap (λ (q : M.Run). q.state) k.runs) ∙ slot_told b test p tests later may body source takes bodies slot g m s hg ready in (
+            test_can slot m s c.command L.Skip runs.0 runs.1,
+            subst (Bodies slot) like.sees (body_cans slot x.next a (ready_alike b m x.next s a ready like k.grows) runs.1.1),
+            unless_on d.ended (CanVisit R P Tests Bodies p source more d.state) (λ on.
+                subst (CanVisit R P Tests Bodies p source more) (ap (λ (q : Told). q.state) first)
+                (visits_can more later c.next r.state may (goes_on b c.next r d (omega (arith, ready.room, k.grows, (takes slot x.next a).grows)) first on) runs.2)),
           )
 
   field_can : (o : Option ℤ) (all : List Slot) (f : Spot) (w : Context) (e : Expr) (x : Lifted L.Expr) (s : M.State) → ((k : ℤ) → o ≡ Some k → OnSlots all (Unless (is_given w e (seen s)) (CanValue R P w e (seen s)))) → (low.CanRunAll R P x.before s → low.CanValue R P x.phrase (after x.before s) → CanValue R P w e (seen s)) → low.CanRunAll R P (indexed_by o all f x).before s → OnSlots all (Unless (is_given w e (seen s)) (CanValue R P w e (seen s)))

@@ -1,4 +1,5 @@
 pub mod Conveys
+pub mod Ends
 pub mod Fields
 pub mod FormExample
 pub mod FormLaw
@@ -13,6 +14,8 @@ pub mod NamedWithin
 pub mod ObjectBounds
 pub mod SourceNumbers
 pub mod Stays
+pub mod Undone
 pub mod Values
 pub mod Wholes
 pub mod Writes
+pub mod Written

@@ -12,8 +12,9 @@ use Rattle.homeo_meaning.specs.LForm.{Lifted, both, one, in_front, plain, mapped
 abbrev pub seen : M.State → State
 seen s = record { database = λ x. s (M.BaseAt x); temps = λ x. s (M.TempAt (temp.Named x)) }
 
+-- a run that doesn't end the call
 abbrev pub seen_run : M.Run → Run
-seen_run r = record { state = seen r.state; prints = r.prints }
+seen_run r = record { state = seen r.state; prints = r.prints; ended = false }
 
 abbrev pub quiet : M.State → M.Run
 unfolding words

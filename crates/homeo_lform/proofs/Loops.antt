@@ -66,14 +66,14 @@ module _ (test : Slot → ℕ → Lifted L.Cond) (p : Slot → State → Bool) (
     abbrev total_of : State → List Slot → ℤ → ℤ
     total_of t all z = added (passes_at t) (λ slot. q slot t) all z
 
-    counts_all : (all : List Slot) (n m : ℕ) → n < m → (s : M.State) → Counts n m s (visits test (term_body n) all m) (total_of (seen s) all (at_fresh n s))
+    counts_all : (all : List Slot) (n m : ℕ) → n < m → (s : M.State) → Counts n m s (visits false false test (term_body n) all m) (total_of (seen s) all (at_fresh n s))
     unfolding words
     counts_all [] n m lt s = record { after = s; runs = refl; grows = omega arith; alike = alike_self n s; counts = refl }
     counts_all (slot ∷ more) n m lt s =
         let b = test slot m in
         let k = tests slot m s in
         let if_else : L.Command = L.If (loop_test slot b.phrase) (add_term n (term slot)) L.Skip in
-        let others = visits test (term_body n) more b.next in
+        let others = visits false false test (term_body n) more b.next in
         let one = adds n (term slot) k.after (q slot (seen s)) (passes_at (seen s) slot) (terms slot k.after ∙ ap (q slot) k.alike.sees) in
         let rest = counts_all more n b.next (omega (arith, k.grows)) one.after in
         let step : M.exec if_else k.after ≡ quiet one.after =
@@ -103,22 +103,3 @@ module _ (test : Slot → ℕ → Lifted L.Cond) (p : Slot → State → Bool) (
           alike = alike_then n n s a k.after (omega arith) (alike_put n n s (pos 0) (omega arith)) k.alike;
           means = λ u h. h.keeps n (omega (arith, k.grows)) ∙ k.counts ∙ ap (λ z. total_of (seen s) all z) (put_here n s (pos 0));
         }
-
-  -- ---- loops of commands
-  module _ (body : Slot → ℕ → Made) (source : Slot → State → Run) (bodies : (slot : Slot) (m : ℕ) (s : M.State) → seen_run (M.exec (body slot m).command s) ≡ source slot (seen s)) where
-    pub loop_does : (all : List Slot) (m : ℕ) (s : M.State) → seen_run (M.exec_all (visits test body all m).commands s) ≡ visit p source all (seen s)
-    unfolding words
-    loop_does [] m s = refl
-    loop_does (slot ∷ more) m s =
-        let b = test slot m in
-        let k = tests slot m s in
-        let c = body slot b.next in
-        let others = visits test body more c.next in
-        let if_else : L.Command = L.If (loop_test slot b.phrase) c.command L.Skip in
-        let step : seen_run (M.exec if_else k.after) ≡ cond (passes_at (seen s) slot) (source slot (seen s)) (done (seen s)) =
-        seen_choice (M.holds (loop_test slot b.phrase) k.after) (M.exec c.command k.after) (quiet k.after)
-        ∙ ap₂ (λ v (r : Run). cond v r (done (seen k.after))) (tested slot (p slot) m s b k) (bodies slot b.next k.after)
-        ∙ ap (λ t. cond (passes_at (seen s) slot) (source slot t) (done t)) k.alike.sees in
-        ap seen_run (quiet_both b.before (L.MoreCommand if_else others.commands) s k.after k.runs)
-        ∙ ap (after_prints (M.exec if_else k.after).prints) (loop_does more c.next (M.exec if_else k.after).state)
-        ∙ ap (λ (r : Run). after_prints r.prints (visit p source more r.state)) step

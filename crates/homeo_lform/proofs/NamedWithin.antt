@@ -1,8 +1,10 @@
 -- The L form of a call of an accepted workload names only objects and names that there are.
 use Rattle.std.proofs.Common.{◌≡◌, ℕ, zero, suc, ◌+◌, ◌*◌, ◌<◌, ◌≤◌, ◌==◌, Bool, true, false, cond, ◌||◌, List, [], ◌∷◌, ◌++◌, map, length, ℤ, Option, Some, None, refl, sym, subst, arith}
-use Rattle.std.specs.Prelude.{slice_get}
+use Rattle.std.specs.Prelude.{slice_get, nat_lt}
 use Rattle.std.specs.List.{flat_map}
 use Rattle.homeo_syntax.specs.declared.low.Temp.TheVariants as temp
+use Rattle.homeo_syntax.specs.declared.low.SplitName.{SplitName}
+use Rattle.homeo_syntax.specs.declared.low.SplitName.TheVariants as split
 use Rattle.homeo_syntax.specs.declared.phrase.Ident.{Ident}
 use Rattle.homeo_syntax.specs.Low as L
 use Rattle.homeo_syntax.specs.Source as s
@@ -20,7 +22,9 @@ use Rattle.homeo_meaning.specs.Bindings as b
 use Rattle.homeo_meaning.specs.Bindings.{Scope, row_relation}
 use Rattle.homeo_meaning.specs.Occurrences.{at, within, TakesField, Assigns, in_expr, in_exprs, in_test, in_cond, in_fields, in_command, in_commands}
 use Rattle.homeo_meaning.specs.ListRules.{is_in}
-use Rattle.homeo_meaning.specs.LForm.{Lifted, Made, both, one, in_front, joined, visits, counted, read_chain, read_slot, literal_of, indexed_by, name_of, lift, lift_all, lift_test, lift_cond, write_to, write_field, write_chain, write_at, write_by, Target, stored, lift_values, all_within, field_writes, fill_chain, as_one, clear, form, forms}
+use Rattle.homeo_meaning.specs.Aborts.{holds_abort, hold_abort}
+use Rattle.homeo_meaning.specs.LowWrites.{object_in, with_number, written, all_written}
+use Rattle.homeo_meaning.specs.LForm.{Lifted, Made, both, one, in_front, guard, in_turn, joined, visits, counted, read_chain, read_slot, literal_of, indexed_by, name_of, lift, lift_all, lift_test, lift_cond, write_to, write_field, write_chain, write_at, write_by, Target, stored, lift_values, all_within, field_writes, fill_chain, as_one, clear, form, forms, saves, restores, saved_in, body_by}
 use Rattle.homeo_meaning.specs.NumberRules.{range_bounds}
 use Rattle.homeo_meaning.specs.GlobalNames.{scope_of}
 use Rattle.homeo_meaning.specs.TransactionRules.{transaction_faults}
@@ -28,7 +32,7 @@ use Rattle.homeo_meaning.specs.Faults.{of_transaction}
 use Rattle.homeo_meaning.specs.Ground.{Ground}
 use Rattle.homeo_meaning.specs.CallForm.{body_form, ground_form}
 use Rattle.homeo_meaning.specs.Acceptance.{IsAccepted}
-use Rattle.homeo_meaning.specs.NamesWithin.{ExprWithin, ExprsWithin, TestWithin, CondWithin, NamesWithin, AllNamesWithin}
+use Rattle.homeo_meaning.specs.NamesWithin.{ObjectWithin, ExprWithin, ExprsWithin, TestWithin, CondWithin, NamesWithin, AllNamesWithin}
 use Rattle.homeo_meaning.proofs.FaultParts.{none_first, none_second, parts, declared_parts}
 use Rattle.homeo_lform.proofs.Known.{Clean, AllClean, clean_first, clean_second, body_clean, Numbered, object_taken, relation_taken, FieldNamed, field_named, AllNumbered, RowFieldNamed, row_field_named, AllFieldsNamed, all_fields_named, IsAmong, object_among, same_fields}
 use Rattle.homeo_lform.proofs.ObjectBounds.{Each, ForSome, each_first, relations_count, bounds_count}
@@ -149,6 +153,17 @@ module _ (sc : Scope) (objects names : ℕ) where
   front_in L.NoCommand c h k = k
   front_in (L.MoreCommand b bs) c h k = (h.0, both_in bs (one c) h.1 (k, tt))
 
+  turn_in : (g : Bool) (before : L.Commands) (c : L.Command) (more : L.Commands) → AllNamesWithin objects names before → In c
+      → AllNamesWithin objects names more → AllNamesWithin objects names (in_turn g before c more)
+  unfolding words
+  turn_in true before c more h k l = ((((tt, tt), tt), front_in before c h k, tt), l)
+  turn_in false before c more h k l = both_in before (L.MoreCommand c more) h (k, l)
+
+  guard_in : (g : Bool) (c : L.Command) → In c → In (guard g c)
+  unfolding words
+  guard_in true c h = (((tt, tt), tt), h, tt)
+  guard_in false c h = h
+
   joined_in : {A B C : Type 0} (P : A → Type 0) (Q : B → Type 0) (R : C → Type 0) (f : A → B → C) → ((a : A) (b : B) → P a → Q b → R (f a b))
       → (x : Lifted A) (y : ℕ → Lifted B) → Inside P x → ((m : ℕ) → Inside Q (y m)) → Inside R (joined f x y)
   unfolding words
@@ -162,14 +177,14 @@ module _ (sc : Scope) (objects names : ℕ) where
     visits_in : (test : Slot → ℕ → Lifted L.Cond) (body : Slot → ℕ → Made)
         → ((slot : Slot) (m : ℕ) → SlotBelow objects ds slot → Inside InCond (test slot m))
         → ((slot : Slot) (m : ℕ) → SlotBelow objects ds slot → In (body slot m).command)
-        → (all : List Slot) (n : ℕ) → Each (SlotBelow objects ds) all → AllNamesWithin objects names (visits test body all n).commands
+        → (all : List Slot) (g later : Bool) (n : ℕ) → Each (SlotBelow objects ds) all → AllNamesWithin objects names (visits g later test body all n).commands
     unfolding words
-    visits_in test body h k [] n below = tt
-    visits_in test body h k (slot ∷ more) n below =
+    visits_in test body h k [] g later n below = tt
+    visits_in test body h k (slot ∷ more) g later n below =
         let b = test slot n in
         let t = h slot n below.0 in
-        both_in b.before _ t.before
-        ((((used_below slot below.0, tt), t.phrase), k slot b.next below.0, tt), visits_in test body h k more (body slot b.next).next below.1)
+        turn_in g b.before _ _ t.before (((used_below slot below.0, tt), t.phrase), k slot b.next below.0, tt)
+        (visits_in test body h k more later later (body slot b.next).next below.1)
 
     counted_in : (test : Slot → ℕ → Lifted L.Cond) (term : Slot → L.Expr)
         → ((slot : Slot) (m : ℕ) → SlotBelow objects ds slot → Inside InCond (test slot m))
@@ -182,7 +197,7 @@ module _ (sc : Scope) (objects names : ℕ) where
               (L.Sum (L.MoreExpr (L.OfTemp (temp.Fresh n)) (L.MoreExpr (term slot) L.NoExpr)));
           next = m;
         } in
-        record { before = ((tt, tt), visits_in test body h (λ slot m is. (tt, (tt, (k slot is, tt)))) all (suc n) below); phrase = tt }
+        record { before = ((tt, tt), visits_in test body h (λ slot m is. (tt, (tt, (k slot is, tt)))) all false false (suc n) below); phrase = tt }
 
     read_chain_in : (f : Spot) (e : L.Expr) (t : ℕ) (all : List Slot) → f.place < length ds → InExpr e → Each (SlotBelow objects ds) all
         → In (read_chain f e t all)
@@ -350,7 +365,7 @@ module _ (sc : Scope) (objects names : ℕ) where
           form_in rows x d y.next h (clean_second sc (in_cond rows t) (in_command rows d) front) k.1,
           form_in rows x e (form x d y.next).next h (clean_second sc (in_cond rows t ++ in_command rows d) (in_command rows e) c) k.2,
         )
-    form_in rows x (s.Block cs) n h c k = forms_in rows x cs n h c k
+    form_in rows x (s.Block cs) n h c k = forms_in rows x false cs n h c k
     form_in rows x (s.SetField q i f e) n h c k =
         let named : FieldNamed sc q.name f.name = field_named sc rows q f (relation_taken sc rows q c.0) c.1.0 in
         write_by_in (fields x q.name) (literal_of (lift x i n).phrase) (slots x q.name) (spot (fields x q.name) f.name) (lift x i n) (lift x e)
@@ -363,12 +378,12 @@ module _ (sc : Scope) (objects names : ℕ) where
     form_in rows x (s.Foreach r q t cs) n h c k =
         let is : Numbered sc q.name = relation_taken sc rows q c.1.0 in
         let inner : List b.Row = within r q rows in
-        visits_in (fields x q.name) (λ slot. lift_cond (bind x r.name slot) t) (λ slot m. as_one (forms (bind x r.name slot) cs m))
+        visits_in (fields x q.name) (λ slot. lift_cond (bind x r.name slot) t) (λ slot m. as_one (forms (bind x r.name slot) false cs m))
         (λ slot m below. lift_cond_in inner (bind x r.name slot) t m (stands_in rows x r q slot h is below)
         (clean_first sc (in_cond inner t) (in_commands inner cs) c.1.1) k.2)
-        (λ slot m below. forms_in inner (bind x r.name slot) cs m (stands_in rows x r q slot h is below)
+        (λ slot m below. forms_in inner (bind x r.name slot) false cs m (stands_in rows x r q slot h is below)
         (clean_second sc (in_cond inner t) (in_commands inner cs) c.1.1) k.3)
-        (slots x q.name) n (h.all_slots q.name)
+        (slots x q.name) false (hold_abort cs) n (h.all_slots q.name)
     form_in rows x (s.Insert q fs t) n h c k =
         let is : Numbered sc q.name = relation_taken sc rows q c.0 in
         let named : AllFieldsNamed sc q.name fs = all_fields_named sc rows q fs is c.1.0 in
@@ -388,7 +403,7 @@ module _ (sc : Scope) (objects names : ℕ) where
         let is : Numbered sc q.name = relation_taken sc rows q c.1.0 in
         visits_in (fields x q.name) (λ slot. lift_cond (bind x r.name slot) t) clear
         (λ slot m below. lift_cond_in (within r q rows) (bind x r.name slot) t m (stands_in rows x r q slot h is below) c.1.1 k.2)
-        (λ slot m below. (used_below (fields x q.name) slot below, tt)) (slots x q.name) n (h.all_slots q.name)
+        (λ slot m below. (used_below (fields x q.name) slot below, tt)) (slots x q.name) false false n (h.all_slots q.name)
     form_in rows x (s.Update r q t f e) n h c k =
         let is : Numbered sc q.name = relation_taken sc rows q c.1.0 in
         let named : FieldNamed sc q.name f.name = field_named sc rows q f is c.1.1.0 in
@@ -400,16 +415,71 @@ module _ (sc : Scope) (objects names : ℕ) where
         write_in (spot slot.fields f.name) (field_cell slot f.name) (lift (bind x r.name slot) e m)
         (own_below (fields x q.name) slot f.name below (field_below rows x q.name f.name h named))
         (lift_in inner (bind x r.name slot) e m (stands_in rows x r q slot h is below) (clean_second sc (in_cond inner t) (in_expr inner e) c.1.1.1) k.4))
-        (slots x q.name) n (h.all_slots q.name)
+        (slots x q.name) false false n (h.all_slots q.name)
+    form_in rows x s.Abort n h c k = (tt, tt)
 
-    forms_in : (rows : List b.Row) (x : Context) (cs : s.Commands) (n : ℕ) → Stands sc objects rows x → AllClean sc (in_commands rows cs)
-        → EachInCommands (IsBelow names) cs → AllNamesWithin objects names (forms x cs n).commands
-    forms_in rows x s.NoCommand n h c k = tt
-    forms_in rows x (s.MoreCommand d cs) n h c k = (
-      form_in rows x d n h (clean_first sc (in_command rows d) (in_commands rows cs) c) k.0,
-      forms_in rows x cs (form x d n).next h
+    forms_in : (rows : List b.Row) (x : Context) (g : Bool) (cs : s.Commands) (n : ℕ) → Stands sc objects rows x → AllClean sc (in_commands rows cs)
+        → EachInCommands (IsBelow names) cs → AllNamesWithin objects names (forms x g cs n).commands
+    forms_in rows x g s.NoCommand n h c k = tt
+    forms_in rows x g (s.MoreCommand d cs) n h c k = (
+      guard_in g (form x d n).command (form_in rows x d n h (clean_first sc (in_command rows d) (in_commands rows cs) c) k.0),
+      forms_in rows x (g || holds_abort d) cs (form x d n).next h
           (clean_second sc (in_command rows d) (in_commands rows cs) c) k.1,
     )
+
+  -- ---- calls that can be ended
+  abbrev AllBelow : List ℕ → Type 0
+  AllBelow [] = Unit {0}
+  AllBelow (x ∷ xs) = (x < objects) × AllBelow xs
+
+  number_below : (n : ℕ) (xs : List ℕ) → n < objects → AllBelow xs → AllBelow (with_number n xs)
+  unfolding words
+  number_below n [] h k = (h, tt)
+  number_below n (m ∷ ms) h k = by_case (nat_lt n m) (n == m) (number_below n ms h k.1)
+    where
+      by_case : (p q : Bool) → AllBelow (with_number n ms) → AllBelow (cond p (n ∷ m ∷ ms) (cond q (m ∷ ms) (m ∷ with_number n ms)))
+      by_case true q ih = (h, k)
+      by_case false true ih = k
+      by_case false false ih = (k.0, ih)
+
+  name_below : (x : SplitName) (xs : List ℕ) → ObjectWithin objects names x → AllBelow xs → AllBelow (with_number (object_in x) xs)
+  unfolding words
+  name_below (split.Whole x) xs h k = number_below x xs h k
+  name_below (split.Base x) xs h k = number_below x xs h k
+  name_below (split.Delta x j) xs h k = number_below x xs h k
+
+  mutual
+    unfolding words
+
+    written_below : (c : L.Command) (xs : List ℕ) → In c → AllBelow xs → AllBelow (written c xs)
+    written_below L.Skip xs h k = k
+    written_below (L.Assign t e) xs h k = k
+    written_below (L.Write x e) xs h k = name_below x xs h.0 k
+    written_below (L.Print e) xs h k = k
+    written_below (L.Seq cs) xs h k = all_written_below cs xs h k
+    written_below (L.If t c d) xs h k = written_below d (written c xs) h.2 (written_below c xs h.1 k)
+
+    all_written_below : (cs : L.Commands) (xs : List ℕ) → AllNamesWithin objects names cs → AllBelow xs → AllBelow (all_written cs xs)
+    all_written_below L.NoCommand xs h k = k
+    all_written_below (L.MoreCommand c cs) xs h k = all_written_below cs (written c xs) h.1 (written_below c xs h.0 k)
+
+  saves_in : (n : ℕ) (xs : List ℕ) (more : L.Commands) → AllBelow xs → AllNamesWithin objects names more → AllNamesWithin objects names (saves n xs more)
+  unfolding words
+  saves_in n [] more h k = k
+  saves_in n (x ∷ xs) more h k = ((tt, h.0), saves_in (suc n) xs more h.1 k)
+
+  restores_in : (n : ℕ) (xs : List ℕ) → AllBelow xs → AllNamesWithin objects names (restores n xs)
+  unfolding words
+  restores_in n [] h = tt
+  restores_in n (x ∷ xs) h = ((h.0, tt), restores_in (suc n) xs h.1)
+
+  body_in : (v : Bool) (x : Context) (cs : s.Commands) → ((n : ℕ) → AllNamesWithin objects names (forms x false cs n).commands) → In (body_by v x cs)
+  unfolding words
+  body_in false x cs h = h 0
+  body_in true x cs h =
+      let saved = saved_in x cs in
+      let below : AllBelow saved = all_written_below (forms x false cs 0).commands [] (h 0) tt in
+      ((tt, tt), saves_in 1 saved _ below (h (1 + length saved), ((((tt, tt), tt), restores_in 1 saved below, tt), tt)))
 
 -- ---- a body of an accepted workload
 stands : (w : s.Workload) (params : List ℕ) (args : List ℤ) → Stands (scope_of w) (length (all_bounds (schema_of w))) [] (context (schema_of w) params args)
@@ -452,5 +522,6 @@ named_law w g a = by_case (slice_get w.transactions g.transaction) refl
         let clean : AllClean (scope_of w) (in_commands [] t.body) = body_clean (scope_of w) t
         (none_second (flat_map range_bounds t.params) (transaction_faults (scope_of w) t) faultless) in
         let below = each_at _ w.transactions g.transaction t a.well_formed.named.transactions e in
-        forms_in (scope_of w) (length (all_bounds (schema_of w))) (length w.names) []
-        (context (schema_of w) (map (λ p. p.name.name) t.params) g.args) t.body 0 (stands w (map (λ p. p.name.name) t.params) g.args) clean below.2
+        let x : Context = context (schema_of w) (map (λ p. p.name.name) t.params) g.args in
+        body_in (scope_of w) (length (all_bounds (schema_of w))) (length w.names) (hold_abort t.body) x t.body
+        (λ n. forms_in (scope_of w) (length (all_bounds (schema_of w))) (length w.names) [] x false t.body n (stands w (map (λ p. p.name.name) t.params) g.args) clean below.2)

@@ -2,12 +2,12 @@
 use Rattle.std.proofs.Common.{◌≡◌, ℕ, suc, ◌==◌, Bool, true, false, cond, ◌&&◌, List, [], ◌∷◌, ℤ, pos, Option, Some, None, refl, subst, arith, zero, ◌≤◌, length}
 use Rattle.std.proofs.lemmas.Int.{ints}
 use Rattle.std.proofs.lemmas.Bool.Decides.{nat_tests}
-use Rattle.homeo_syntax.specs.Source.{FieldValue, Command, Commands, Skip, Assign, Write, Print, If, Block, SetField, SetRow, Foreach, Insert, Delete, Update, NoCommand, MoreCommand}
+use Rattle.homeo_syntax.specs.Source.{FieldValue, Command, Commands, Skip, Assign, Write, Print, If, Block, SetField, SetRow, Foreach, Insert, Delete, Update, Abort, NoCommand, MoreCommand}
 use Rattle.homeo_meaning.specs.Key.{words}
 use Rattle.homeo_meaning.specs.Schema.{Declared, Schema}
 use Rattle.homeo_meaning.specs.Context.{Spot, Slot, Context, spot, cell, field_cell, object, slots, fields, bind, first_where, slot_at, context}
 use Rattle.homeo_meaning.specs.Bounds.{Bounds, IsIn, bounds_at, AllWithin}
-use Rattle.homeo_meaning.specs.Meaning.{State, Run, done, is_used, is_free, is_within, set_temp, set_object, write, write_field, write_slot, visit, Setting, settings, are_within, set_fields, fill, insert, value, holds, does, does_all, run}
+use Rattle.homeo_meaning.specs.Meaning.{State, Run, done, after_prints, then_do, is_used, is_free, is_within, set_temp, set_object, write, write_field, write_slot, visit, Setting, settings, are_within, set_fields, fill, insert, value, holds, does, does_all, run}
 use Rattle.homeo_lform.specs.inner.RowsFit.{Admits, RowsFit}
 use Rattle.homeo_lform.proofs.ObjectBounds.{Each, ForSome, each_first, SlotFits, all_at, slots_fit, object_admits, no_row_fits}
 
@@ -68,14 +68,21 @@ insert_stays w q xs t s h = go (are_within all) refl
     go false e = h
 
 -- ---- a loop
+-- what comes next keeps them where a run did
+then_stays : (w : Schema) (r : Run) (next : State → Run) → AllWithin w r.state.database → ((s : State) → AllWithin w s.database → AllWithin w (next s).state.database) → AllWithin w (then_do r next).state.database
+unfolding words
+then_stays w r next h k = go r.ended
+  where
+    go : (v : Bool) → AllWithin w (cond v r (after_prints r.prints (next r.state))).state.database
+    go true = h
+    go false = k r.state h
+
 visit_stays : (w : Schema) (P : Slot → Type 0) (test : Slot → State → Bool) (body : Slot → State → Run) → ((slot : Slot) (s : State) → P slot → AllWithin w s.database → AllWithin w (body slot s).state.database) → (all : List Slot) (s : State) → Each P all → AllWithin w s.database → AllWithin w (visit test body all s).state.database
 unfolding words
 visit_stays w P test body k [] s e h = h
-visit_stays w P test body k (slot ∷ more) s e h = visit_stays w P test body k more here.state e.1 (go (is_used s slot && test slot s))
+visit_stays w P test body k (slot ∷ more) s e h =
+    then_stays w (cond (is_used s slot && test slot s) (body slot s) (done s)) (visit test body more) (go (is_used s slot && test slot s)) (λ u i. visit_stays w P test body k more u e.1 i)
   where
-    here : Run
-    here = cond (is_used s slot && test slot s) (body slot s) (done s)
-
     go : (b : Bool) → AllWithin w (cond b (body slot s) (done s)).state.database
     go true = k slot s e.0 h
     go false = h
@@ -116,15 +123,23 @@ mutual
   stays w (Update r q b f e) s k h =
       visit_stays w.schema (SlotFits (all_at w.schema) (fields w q.name)) _ (λ slot a. done (write_field a slot f.name (value (bind w r.name slot) e a)))
       (λ slot a p i. write_stays w.schema a (spot slot.fields f.name) (field_cell slot f.name) (value (bind w r.name slot) e a) i (p.own f.name)) (slots w q.name) s (slots_fit w q.name) h
+  stays w Abort s k h = h
 
   all_stay : (w : Context) (cs : Commands) (s : State) → RowsFit w → AllWithin w.schema s.database → AllWithin w.schema (does_all w cs s).state.database
   all_stay w NoCommand s k h = h
-  all_stay w (MoreCommand c cs) s k h = all_stay w cs (does w c s).state k (stays w c s k h)
+  all_stay w (MoreCommand c cs) s k h = then_stays w.schema (does w c s) (does_all w cs) (stays w c s k h) (λ u i. all_stay w cs u k i)
 
 pub bounds_law : (x : Schema) (params : List ℕ) (args : List ℤ) (body : Commands) (database : ℕ → ℤ) → AllWithin x database → AllWithin x (run x params args body database).state.database
 unfolding words
 bounds_law x params args body database h =
-    all_stay (context x params args) body (record { database = database; temps = λ t. pos 0 }) (λ r f. no_row_fits x f) h
+    go after.ended (all_stay (context x params args) body (record { database = database; temps = λ t. pos 0 }) (λ r f. no_row_fits x f) h)
+  where
+    after : Run
+    after = does_all (context x params args) body (record { database = database; temps = λ t. pos 0 })
+
+    go : (v : Bool) → AllWithin x after.state.database → AllWithin x (cond v database after.state.database)
+    go true k = h
+    go false k = k
 
 pub past_end : (bs : List Bounds) (x : ℕ) → length bs ≤ x → bounds_at bs x ≡ record { lo = pos 0; hi = pos 0 }
 unfolding words

@@ -1,12 +1,13 @@
 -- The L form names whole objects only.
-use Rattle.std.proofs.Common.{ℕ, suc, List, [], ◌∷◌, map, ℤ, Option, Some, None}
+use Rattle.std.proofs.Common.{ℕ, suc, ◌+◌, Bool, true, false, ◌||◌, List, [], ◌∷◌, map, length, ℤ, Option, Some, None}
 use Rattle.std.specs.Prelude.{slice_get}
 use Rattle.homeo_syntax.specs.declared.low.Temp.TheVariants as temp
 use Rattle.homeo_syntax.specs.Low as L
-use Rattle.homeo_syntax.specs.Source.{Expr, Exprs, Literal, Name, Read, Sum, Product, Neg, Field, Row, Count, Total, NoExpr, MoreExpr, Test, Cond, True, Not, Comparison, NoTest, MoreTest, FieldValue, Command, Commands, Skip, Assign, Write, Print, If, Block, SetField, SetRow, Foreach, Insert, Delete, Update, NoCommand, MoreCommand, Transaction, Workload}
+use Rattle.homeo_syntax.specs.Source.{Expr, Exprs, Literal, Name, Read, Sum, Product, Neg, Field, Row, Count, Total, NoExpr, MoreExpr, Test, Cond, True, Not, Comparison, NoTest, MoreTest, FieldValue, Command, Commands, Skip, Assign, Write, Print, If, Block, SetField, SetRow, Foreach, Insert, Delete, Update, Abort, NoCommand, MoreCommand, Transaction, Workload}
 use Rattle.homeo_meaning.specs.Schema.{Declared, Schema, schema_of}
 use Rattle.homeo_meaning.specs.Context.{Spot, Slot, Context, spot, cell, field_cell, object, slots, fields, bind, slot_at, context}
-use Rattle.homeo_meaning.specs.LForm.{Lifted, Made, both, one, in_front, joined, visits, counted, read_chain, read_slot, literal_of, indexed_by, name_of, lift, lift_all, lift_test, lift_cond, write_to, write_field, write_chain, write_at, write_by, Target, stored, lift_values, all_within, field_writes, fill_chain, as_one, clear, form, forms, l_form}
+use Rattle.homeo_meaning.specs.Aborts.{holds_abort, hold_abort}
+use Rattle.homeo_meaning.specs.LForm.{Lifted, Made, both, one, in_front, guard, in_turn, joined, visits, counted, read_chain, read_slot, literal_of, indexed_by, name_of, lift, lift_all, lift_test, lift_cond, write_to, write_field, write_chain, write_at, write_by, Target, stored, lift_values, all_within, field_writes, fill_chain, as_one, clear, form, forms, saves, restores, saved_in, body_by, l_form}
 use Rattle.homeo_meaning.specs.Ground.{Ground}
 use Rattle.homeo_meaning.specs.CallForm.{body_form, ground_form}
 use Rattle.homeo_meaning.specs.Key.{words}
@@ -31,17 +32,27 @@ unfolding words
 joined_whole P Q R f h x y k l =
     record { before = both_whole x.before (y x.next).before k.before (l x.next).before; phrase = h x.phrase (y x.next).phrase k.phrase (l x.next).phrase }
 
-visits_whole : (test : Slot → ℕ → Lifted L.Cond) (body : Slot → ℕ → Made) → ((slot : Slot) (m : ℕ) → Whole IsWholeCond (test slot m)) → ((slot : Slot) (m : ℕ) → IsWhole (body slot m).command) → (all : List Slot) (n : ℕ) → AreWhole (visits test body all n).commands
+turn_whole : (g : Bool) (before : L.Commands) (c : L.Command) (more : L.Commands) → AreWhole before → IsWhole c → AreWhole more → AreWhole (in_turn g before c more)
 unfolding words
-visits_whole test body h k [] n = tt
-visits_whole test body h k (slot ∷ more) n =
+turn_whole true before c more h k l = ((((tt, tt), tt), front_whole before c h k, tt), l)
+turn_whole false before c more h k l = both_whole before (L.MoreCommand c more) h (k, l)
+
+guard_whole : (g : Bool) (c : L.Command) → IsWhole c → IsWhole (guard g c)
+unfolding words
+guard_whole true c h = (((tt, tt), tt), h, tt)
+guard_whole false c h = h
+
+visits_whole : (test : Slot → ℕ → Lifted L.Cond) (body : Slot → ℕ → Made) → ((slot : Slot) (m : ℕ) → Whole IsWholeCond (test slot m)) → ((slot : Slot) (m : ℕ) → IsWhole (body slot m).command) → (all : List Slot) (g later : Bool) (n : ℕ) → AreWhole (visits g later test body all n).commands
+unfolding words
+visits_whole test body h k [] g later n = tt
+visits_whole test body h k (slot ∷ more) g later n =
     let b = test slot n in
-    both_whole b.before _ (h slot n).before ((((tt, tt), (h slot n).phrase), k slot b.next, tt), visits_whole test body h k more (body slot b.next).next)
+    turn_whole g b.before _ _ (h slot n).before (((tt, tt), (h slot n).phrase), k slot b.next, tt) (visits_whole test body h k more later later (body slot b.next).next)
 
 counted_whole : (test : Slot → ℕ → Lifted L.Cond) (term : Slot → L.Expr) → ((slot : Slot) (m : ℕ) → Whole IsWholeCond (test slot m)) → ((slot : Slot) → IsWholeExpr (term slot)) → (all : List Slot) (n : ℕ) → Whole IsWholeExpr (counted test term all n)
 unfolding words
 counted_whole test term h k all n =
-    record { before = (tt, visits_whole test (λ slot m. record { command = L.Assign (temp.Fresh n) (L.Sum (L.MoreExpr (L.OfTemp (temp.Fresh n)) (L.MoreExpr (term slot) L.NoExpr))); next = m }) h (λ slot m. (tt, (k slot, tt))) all (suc n)); phrase = tt }
+    record { before = (tt, visits_whole test (λ slot m. record { command = L.Assign (temp.Fresh n) (L.Sum (L.MoreExpr (L.OfTemp (temp.Fresh n)) (L.MoreExpr (term slot) L.NoExpr))); next = m }) h (λ slot m. (tt, (k slot, tt))) all false false (suc n)); phrase = tt }
 
 read_chain_whole : (f : Spot) (e : L.Expr) (t : ℕ) (all : List Slot) → IsWholeExpr e → IsWhole (read_chain f e t all)
 unfolding words
@@ -158,28 +169,50 @@ mutual
       let x = lift_cond w b n in
       let h = cond_whole w b n in
       front_whole x.before _ h.before (h.phrase, form_whole w c x.next, form_whole w d (form w c x.next).next)
-  form_whole w (Block cs) n = forms_whole w cs n
+  form_whole w (Block cs) n = forms_whole w false cs n
   form_whole w (SetField q i f e) n =
       write_by_whole (literal_of (lift w i n).phrase) (slots w q.name) (spot (fields w q.name) f.name) (lift w i n) (lift w e) (lift_whole w i n) (lift_whole w e)
   form_whole w (SetRow r f e) n = write_whole (spot (w.rows r.name).fields f.name) (field_cell (w.rows r.name) f.name) (lift w e n) (lift_whole w e n)
   form_whole w (Foreach r q b body) n =
-      visits_whole (λ slot. lift_cond (bind w r.name slot) b) (λ slot m. as_one (forms (bind w r.name slot) body m)) (λ slot m. cond_whole (bind w r.name slot) b m) (λ slot m. forms_whole (bind w r.name slot) body m) (slots w q.name) n
+      visits_whole (λ slot. lift_cond (bind w r.name slot) b) (λ slot m. as_one (forms (bind w r.name slot) false body m)) (λ slot m. cond_whole (bind w r.name slot) b m) (λ slot m. forms_whole (bind w r.name slot) false body m) (slots w q.name) false (hold_abort body) n
   form_whole w (Insert q xs t) n =
       let x = lift_values w (fields w q.name) xs n in
       both_whole x.before _ (values_whole w (fields w q.name) xs n) ((within_whole x.phrase, fill_chain_whole x.phrase t.name (slots w q.name), tt), tt)
   form_whole w (Delete r q b) n =
-      visits_whole (λ slot. lift_cond (bind w r.name slot) b) clear (λ slot m. cond_whole (bind w r.name slot) b m) (λ slot m. (tt, tt)) (slots w q.name) n
+      visits_whole (λ slot. lift_cond (bind w r.name slot) b) clear (λ slot m. cond_whole (bind w r.name slot) b m) (λ slot m. (tt, tt)) (slots w q.name) false false n
   form_whole w (Update r q b f e) n =
       visits_whole (λ slot. lift_cond (bind w r.name slot) b) (λ slot m. write_field slot f.name (lift (bind w r.name slot) e m)) (λ slot m. cond_whole (bind w r.name slot) b m)
-      (λ slot m. write_whole (spot slot.fields f.name) (field_cell slot f.name) (lift (bind w r.name slot) e m) (lift_whole (bind w r.name slot) e m)) (slots w q.name) n
+      (λ slot m. write_whole (spot slot.fields f.name) (field_cell slot f.name) (lift (bind w r.name slot) e m) (lift_whole (bind w r.name slot) e m)) (slots w q.name) false false n
+  form_whole w Abort n = tt
 
-  forms_whole : (w : Context) (cs : Commands) (n : ℕ) → AreWhole (forms w cs n).commands
-  forms_whole w NoCommand n = tt
-  forms_whole w (MoreCommand c cs) n = (form_whole w c n, forms_whole w cs (form w c n).next)
+  forms_whole : (w : Context) (g : Bool) (cs : Commands) (n : ℕ) → AreWhole (forms w g cs n).commands
+  forms_whole w g NoCommand n = tt
+  forms_whole w g (MoreCommand c cs) n = (guard_whole g (form w c n).command (form_whole w c n), forms_whole w (g || holds_abort c) cs (form w c n).next)
+
+-- ---- calls that can be ended
+saves_whole : (n : ℕ) (xs : List ℕ) (more : L.Commands) → AreWhole more → AreWhole (saves n xs more)
+unfolding words
+saves_whole n [] more h = h
+saves_whole n (x ∷ xs) more h = (tt, saves_whole (suc n) xs more h)
+
+restores_whole : (n : ℕ) (xs : List ℕ) → AreWhole (restores n xs)
+unfolding words
+restores_whole n [] = tt
+restores_whole n (x ∷ xs) = ((tt, tt), restores_whole (suc n) xs)
 
 pub whole_law : (x : Schema) (params : List ℕ) (args : List ℤ) (body : Commands) → IsWhole (l_form x params args body)
 unfolding words
-whole_law x params args body = forms_whole (context x params args) body 0
+whole_law x params args body = by_case (hold_abort body)
+  where
+    w : Context
+    w = context x params args
+
+    by_case : (v : Bool) → IsWhole (body_by v w body)
+    by_case false = forms_whole w false body 0
+    by_case true =
+        let saved = saved_in w body in
+        let n = 1 + length saved in
+        (tt, saves_whole 1 saved _ (forms_whole w false body n, ((((tt, tt), tt), restores_whole 1 saved, tt), tt)))
 
 pub ground_whole : (w : Workload) (g : Ground) → IsWhole (ground_form w g)
 unfolding words

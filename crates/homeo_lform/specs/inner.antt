@@ -1,1 +1,2 @@
 pub mod RowsFit
+pub mod SourceWrites

@@ -9,12 +9,13 @@ ghost use Rattle.homeo_meaning.specs.Schema.{Schema, schema_of};
 ghost use Rattle.homeo_meaning.specs.Bounds.{AllWithin, all_bounds};
 ghost use Rattle.homeo_meaning.specs.Context.{Context, context};
 ghost use Rattle.homeo_meaning.specs.Meaning.{run};
+ghost use Rattle.homeo_meaning.specs.Aborts.{holds_abort};
 ghost use Rattle.homeo_meaning.specs.LForm.{form, l_form};
 ghost use Rattle.homeo_meaning.specs.LowMeaning.{Location, State, value, exec, whole};
 ghost use Rattle.homeo_meaning.specs.LowWeights.{weight, after, first_weights, is_light};
 ghost use Rattle.homeo_meaning.specs.SameRun.{IsSameRun};
 ghost use Rattle.homeo_lform.specs.Covers.{Covers};
-ghost use Rattle.homeo_lform.specs.Fresh.{TakesFrom};
+ghost use Rattle.homeo_lform.specs.Fresh.{flags, TakesFrom};
 ghost use Rattle.homeo_meaning.specs.Whole.{IsWhole};
 ghost use Rattle.homeo_meaning.specs.NamesWithin.{NamesWithin};
 ghost use Rattle.homeo_meaning.specs.Ground.{Ground};
@@ -45,10 +46,10 @@ pub fn form_names_only_what_exists()
 {}
 
 /// The L form of a command takes its fresh temporaries from the number that it is given on. Those below keep their
-/// values, and the next number is not below that one.
+/// values, but for the flag of a command that can end its call, and the next number is not below that one.
 pub fn fresh_temporaries_rise()
     ensures { (x : Context) (c : Command) (n : ℕ) (s : State) →
-        TakesFrom n (form x c n).next s (exec (form x c n).command s).state }
+        TakesFrom (flags (holds_abort c)) n (form x c n).next s (exec (form x c n).command s).state }
 {}
 
 /// A call keeps every object within its bounds, whatever its arguments and whatever names it uses.

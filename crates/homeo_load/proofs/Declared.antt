@@ -87,7 +87,8 @@ module _ (all : List Addition) where
   unfolding meaning words
   declared_none a =
       none_then_none (flat_map object_faults (load_of all).objects) _ objects_none
-      (none_then_none (flat_map (of_transaction (scope_of (load_of all))) (load_of all).transactions) _ transactions_none (clients_fine a eight))
+      (none_then_none (flat_map (of_transaction (scope_of (load_of all))) (load_of all).transactions) _ transactions_none
+      (none_then_none (flat_map of_client (load_of all).clients) _ (clients_fine a eight) refl))
 
   pub schedule_none : schedule_faults Run (scope_of (load_of all)) (load_of all).clients 0 (load_of all).schedule ≡ []
   unfolding meaning words

@@ -6,7 +6,8 @@ use Rattle.std.proofs.lemmas.Bool.Decides.{nat_tests}
 use Rattle.homeo_syntax.specs.Key.{words as syntax}
 use Rattle.homeo_syntax.specs.Source as s
 use Rattle.homeo_syntax.specs.declared.phrase.Ident.{Ident}
-use Rattle.homeo_syntax.specs.WellFormed.{Each, EachIdent, EachInCommands, IsBelow, IsWellFormed}
+use Rattle.homeo_syntax.specs.declared.token.Version.TheVariants.{First}
+use Rattle.homeo_syntax.specs.WellFormed.{Each, EachIdent, EachInCommands, IsBelow, IsWellFormed, HasCommands}
 use Rattle.homeo_load.specs.Key.{words}
 use Rattle.homeo_load.specs.Draws.{Addition}
 use Rattle.homeo_load.specs.Load.{ident, transaction_name, load_body, load_call, load_of, eight, dealt}
@@ -74,9 +75,13 @@ not_negative n = grind (arith, nat_tests)
 pub load_well_formed : (all : List Addition) → All IsAddition all → IsWellFormed (load_of all)
 unfolding syntax words
 load_well_formed all a = record {
+  form = First;
   version = refl;
   distinct = names_apart;
   spelled = names_spelled;
   named = each_named all a;
   sites = each_eight (λ j. pos 0 ≤ℤ pos (j % 4)) (λ j l. not_negative (j % 4));
+  weights = refl;
+  natural = tt;
+  aborts = each_eight (λ i. HasCommands First (load_body i)) (λ i l. (tt, (tt, tt)));
 }

@@ -7,6 +7,8 @@ use Rattle.std.proofs.lemmas.List.Elements.{All-nil, All-cons}
 use Rattle.std.proofs.lemmas.Bool.Decides.{nat_tests}
 use Rattle.homeo_syntax.specs.Key.{words as syntax}
 use Rattle.homeo_syntax.specs.Lexemes.{is_word, reserved, look_up}
+use Rattle.homeo_syntax.specs.declared.token.Version.TheVariants.{First}
+use Rattle.homeo_syntax.specs.Versions.{also_reserved}
 use Rattle.homeo_syntax.specs.WellFormed.{BeginsWithLetter, IsName, Each}
 use Rattle.homeo_load.specs.Load.{load_names}
 
@@ -58,60 +60,60 @@ pub names_apart : AllPairs Differs load_names
 names_apart = all_apart load_names refl
 
 -- ---- each a name
-spelled : (w : List ℕ) → BeginsWithLetter w → IsTrue (list_all is_word w) → nat_le (length w) 32 ≡ true → look_up reserved w ≡ None → IsName w
-spelled w first all short free = record { first = first; all = all; short = grind (arith, nat_tests); free = free }
+spelled : (w : List ℕ) → BeginsWithLetter w → IsTrue (list_all is_word w) → nat_le (length w) 32 ≡ true → look_up reserved w ≡ None → look_up (also_reserved First) w ≡ None → IsName First w
+spelled w first all short free also = record { first = first; all = all; short = grind (arith, nat_tests); free = free; also_free = also }
 
-pub names_spelled : Each IsName load_names
+pub names_spelled : Each (IsName First) load_names
 unfolding syntax
 names_spelled = (
-  spelled (codes "c0") refl refl refl refl,
+  spelled (codes "c0") refl refl refl refl refl,
   (
-    spelled (codes "c1") refl refl refl refl,
+    spelled (codes "c1") refl refl refl refl refl,
     (
-      spelled (codes "c2") refl refl refl refl,
+      spelled (codes "c2") refl refl refl refl refl,
       (
-        spelled (codes "c3") refl refl refl refl,
+        spelled (codes "c3") refl refl refl refl refl,
         (
-          spelled (codes "c4") refl refl refl refl,
+          spelled (codes "c4") refl refl refl refl refl,
           (
-            spelled (codes "c5") refl refl refl refl,
+            spelled (codes "c5") refl refl refl refl refl,
             (
-              spelled (codes "c6") refl refl refl refl,
+              spelled (codes "c6") refl refl refl refl refl,
               (
-                spelled (codes "c7") refl refl refl refl,
+                spelled (codes "c7") refl refl refl refl refl,
                 (
-                  spelled (codes "add0") refl refl refl refl,
+                  spelled (codes "add0") refl refl refl refl refl,
                   (
-                    spelled (codes "n") refl refl refl refl,
+                    spelled (codes "n") refl refl refl refl refl,
                     (
-                      spelled (codes "add1") refl refl refl refl,
+                      spelled (codes "add1") refl refl refl refl refl,
                       (
-                        spelled (codes "add2") refl refl refl refl,
+                        spelled (codes "add2") refl refl refl refl refl,
                         (
-                          spelled (codes "add3") refl refl refl refl,
+                          spelled (codes "add3") refl refl refl refl refl,
                           (
-                            spelled (codes "add4") refl refl refl refl,
+                            spelled (codes "add4") refl refl refl refl refl,
                             (
-                              spelled (codes "add5") refl refl refl refl,
+                              spelled (codes "add5") refl refl refl refl refl,
                               (
-                                spelled (codes "add6") refl refl refl refl,
+                                spelled (codes "add6") refl refl refl refl refl,
                                 (
-                                  spelled (codes "add7") refl refl refl refl,
+                                  spelled (codes "add7") refl refl refl refl refl,
                                   (
-                                    spelled (codes "w0") refl refl refl refl,
+                                    spelled (codes "w0") refl refl refl refl refl,
                                     (
-                                      spelled (codes "w1") refl refl refl refl,
+                                      spelled (codes "w1") refl refl refl refl refl,
                                       (
-                                        spelled (codes "w2") refl refl refl refl,
+                                        spelled (codes "w2") refl refl refl refl refl,
                                         (
-                                          spelled (codes "w3") refl refl refl refl,
+                                          spelled (codes "w3") refl refl refl refl refl,
                                           (
-                                            spelled (codes "w4") refl refl refl refl,
+                                            spelled (codes "w4") refl refl refl refl refl,
                                             (
-                                              spelled (codes "w5") refl refl refl refl,
+                                              spelled (codes "w5") refl refl refl refl refl,
                                               (
-                                                spelled (codes "w6") refl refl refl refl,
-                                                (spelled (codes "w7") refl refl refl refl, tt),
+                                                spelled (codes "w6") refl refl refl refl refl,
+                                                (spelled (codes "w7") refl refl refl refl refl, tt),
                                               ),
                                             ),
                                           ),

@@ -89,6 +89,7 @@ load_of all = record {
   clients = map (load_client all) eight;
   schedule = None;
   end = 0;
+  weights = [];
 }
 
 -- the workload of so many calls, drawn from a number on

@@ -5,8 +5,6 @@ mod calls;
 mod draws;
 pub mod laws;
 mod names;
-#[cfg(test)]
-mod tests;
 mod workload;
 
 pub use workload::accepted_load;

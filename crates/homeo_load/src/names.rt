@@ -1,48 +1,32 @@
 //! The names of a load.
 
-ghost use Rattle.std.specs.Prelude.{◌≡◌, ◌++◌, ◌∷◌, [], IfOk, OnOk};
+ghost use Rattle.std.specs.Prelude.{◌≡◌, map, IfOk};
 ghost use Rattle.homeo_load.specs.Load.{load_names};
 
 use homeo_syntax::{List, Memory, Text};
 use std::alloc::Global;
 
-fn push_name(list: &mut List<Text>, alloc: Global, text: &str) -> Result<(), Memory>
-    ensures { OnOk result (list.new.items ≡ list.old.items ++ text.now ∷ []) }
-{
-    list.push(Text::of(alloc, text)?)?;
-    Ok(())
-}
-
 /// The names in the order of their numbers: those of the objects, of the transactions with the parameter between the first two,
 /// and of the clients.
+const NAMES: [&str; 25] = [
+    "c0", "c1", "c2", "c3", "c4", "c5", "c6", "c7", "add0", "n", "add1", "add2", "add3", "add4",
+    "add5", "add6", "add7", "w0", "w1", "w2", "w3", "w4", "w5", "w6", "w7",
+];
+
+/// Copies of texts.
+fn copies(alloc: Global, texts: &[&str]) -> Result<List<Text>, Memory>
+    ensures { IfOk result (λ l. l.items ≡ map (λ text. text.now) texts.now) }
+{
+    let mut copies = List::new(alloc);
+    for text in texts {
+        copies.push(Text::of(alloc, text)?)?;
+    }
+    Ok(copies)
+}
+
+/// The names of a load.
 pub(crate) fn names(alloc: Global) -> Result<List<Text>, Memory>
     ensures { IfOk result (λ l. l.items ≡ load_names) }
 {
-    let mut list = List::new(alloc);
-    push_name(&mut list, alloc, "c0")?;
-    push_name(&mut list, alloc, "c1")?;
-    push_name(&mut list, alloc, "c2")?;
-    push_name(&mut list, alloc, "c3")?;
-    push_name(&mut list, alloc, "c4")?;
-    push_name(&mut list, alloc, "c5")?;
-    push_name(&mut list, alloc, "c6")?;
-    push_name(&mut list, alloc, "c7")?;
-    push_name(&mut list, alloc, "add0")?;
-    push_name(&mut list, alloc, "n")?;
-    push_name(&mut list, alloc, "add1")?;
-    push_name(&mut list, alloc, "add2")?;
-    push_name(&mut list, alloc, "add3")?;
-    push_name(&mut list, alloc, "add4")?;
-    push_name(&mut list, alloc, "add5")?;
-    push_name(&mut list, alloc, "add6")?;
-    push_name(&mut list, alloc, "add7")?;
-    push_name(&mut list, alloc, "w0")?;
-    push_name(&mut list, alloc, "w1")?;
-    push_name(&mut list, alloc, "w2")?;
-    push_name(&mut list, alloc, "w3")?;
-    push_name(&mut list, alloc, "w4")?;
-    push_name(&mut list, alloc, "w5")?;
-    push_name(&mut list, alloc, "w6")?;
-    push_name(&mut list, alloc, "w7")?;
-    Ok(list)
+    copies(alloc, &NAMES)
 }

@@ -110,7 +110,7 @@ fn clients(alloc: Global, start: u64, calls: u32) -> Result<List<Client>, Memory
 }
 
 #[tactic(auto, unfolding(crate::specs::Key::words, homeo_syntax::specs::Key::words))]
-pub(crate) fn load(alloc: Global, start: u64, calls: u32) -> Result<Workload, Memory>
+fn load(alloc: Global, start: u64, calls: u32) -> Result<Workload, Memory>
     ensures { IfOk result (λ w. plain_workload w ≡ load_workload start calls) }
 {
     let names = names(alloc)?;
@@ -127,6 +127,7 @@ pub(crate) fn load(alloc: Global, start: u64, calls: u32) -> Result<Workload, Me
         clients,
         schedule: None,
         end: 0,
+        weights: List::new(alloc),
     })
 }
 

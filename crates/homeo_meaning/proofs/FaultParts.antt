@@ -6,7 +6,7 @@ use Rattle.homeo_meaning.specs.Key.{words}
 use Rattle.homeo_meaning.specs.TransactionRules.{each}
 use Rattle.homeo_meaning.specs.GlobalNames.{global_names, duplicate, scope_of}
 use Rattle.homeo_meaning.specs.GlobalNames.{SitedCall, sited_calls}
-use Rattle.homeo_meaning.specs.NumberRules.{object_faults, site_count_faults, slot_faults, too_many_objects, makings, passes_limit, ground_calls, limit_faults}
+use Rattle.homeo_meaning.specs.NumberRules.{object_faults, site_weight_faults, site_count_faults, slot_faults, too_many_objects, makings, passes_limit, ground_calls, limit_faults}
 use Rattle.homeo_meaning.specs.CallRules.{client_faults, schedule_faults}
 use Rattle.homeo_meaning.specs.SizeRules.{size_faults, print_faults, weight_faults, row_faults}
 use Rattle.homeo_meaning.specs.Faults.{of_relation, of_transaction, declared_faults, text_faults, form_faults, faults}
@@ -49,17 +49,26 @@ pub record NoDeclaredFault (w : s.Workload) : Type 0 where
   pub relations : flat_map of_relation w.relations ≡ []
   pub transactions : flat_map (of_transaction (scope_of w)) w.transactions ≡ []
   pub clients : flat_map (client_faults w.sites (scope_of w) w.transactions) w.clients ≡ []
+  pub weights : site_weight_faults w.sites w.weights ≡ []
 
 pub declared_parts : (w : s.Workload) → declared_faults w ≡ [] → NoDeclaredFault w
 unfolding words
-declared_parts w e3 =
+declared_parts w e4 =
     let a = flat_map object_faults w.objects in
     let b = flat_map of_relation w.relations in
     let c = flat_map (of_transaction (scope_of w)) w.transactions in
     let d = flat_map (client_faults w.sites (scope_of w) w.transactions) w.clients in
+    let f = site_weight_faults w.sites w.weights in
+    let e3 = none_first (a ++ b ++ c ++ d) f e4 in
     let e2 = none_first (a ++ b ++ c) d e3 in
     let e1 = none_first (a ++ b) c e2 in
-    record { objects = none_first a b e1; relations = none_second a b e1; transactions = none_second (a ++ b) c e2; clients = none_second (a ++ b ++ c) d e3 }
+    record {
+      objects = none_first a b e1;
+      relations = none_second a b e1;
+      transactions = none_second (a ++ b) c e2;
+      clients = none_second (a ++ b ++ c) d e3;
+      weights = none_second (a ++ b ++ c ++ d) f e4;
+    }
 
 pub record NoLimitFault (w : s.Workload) : Type 0 where
   pub sites : site_count_faults w.sites ≡ []

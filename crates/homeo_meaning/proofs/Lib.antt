@@ -1,8 +1,10 @@
+pub mod AbortEquations
 pub mod AbsentItems
 pub mod FaultParts
 pub mod GroundCalls
 pub mod LightCalls
 pub mod Numbers
+pub mod RisingNumbers
 pub mod SomeValues
 pub mod Sound
 pub mod SoundRelations

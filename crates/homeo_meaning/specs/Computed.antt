@@ -1,7 +1,7 @@
 -- That the numbers of a program have properties: R each that stands in the text or is read, and P each that is computed.
--- In each branch and at each slot as if it were taken.
+-- In each branch and at each slot as if it were taken, but not behind the end of the call.
 use Rattle.std.specs.Prelude.{Bool, true, false, cond, ◌&&◌, List, [], ◌∷◌, ℤ, pos, ◌+ℤ◌, ◌*ℤ◌, neg_ℤ, Option, Some, None}
-use Rattle.homeo_syntax.specs.Source.{Expr, Exprs, Literal, Name, Read, Sum, Product, Neg, Field, Row, Count, Total, NoExpr, MoreExpr, Test, Cond, True, Not, Comparison, NoTest, MoreTest, FieldValue, Command, Commands, Skip, Assign, Write, Print, If, Block, SetField, SetRow, Foreach, Insert, Delete, Update, NoCommand, MoreCommand}
+use Rattle.homeo_syntax.specs.Source.{Expr, Exprs, Literal, Name, Read, Sum, Product, Neg, Field, Row, Count, Total, NoExpr, MoreExpr, Test, Cond, True, Not, Comparison, NoTest, MoreTest, FieldValue, Command, Commands, Skip, Assign, Write, Print, If, Block, SetField, SetRow, Foreach, Insert, Delete, Update, Abort, NoCommand, MoreCommand}
 use Rattle.homeo_meaning.specs.Key.{words}
 use Rattle.homeo_meaning.specs.Context.{Slot, Context, field_cell, slots, bind, slot_at}
 use Rattle.homeo_meaning.specs.Meaning.{State, Run, done, is_used, value, holds, set_object, write_field, does, does_all}
@@ -97,7 +97,7 @@ module _ (R P : ℤ → Type 0) where
   CanVisit Tests Bodies test body [] s = Unit {0}
   CanVisit Tests Bodies test body (slot ∷ more) s =
       let here : Run = cond (is_used s slot && test slot s) (body slot s) (done s) in
-      Tests slot s × Bodies slot s × CanVisit Tests Bodies test body more here.state
+      Tests slot s × Bodies slot s × Unless here.ended (CanVisit Tests Bodies test body more here.state)
 
   abbrev mutual
     unfolding words
@@ -118,7 +118,8 @@ module _ (R P : ℤ → Type 0) where
         CanVisit (λ slot. CanHold (bind x r.name slot) b) (λ slot s. Unit {0}) (λ slot. holds (bind x r.name slot) b) (λ slot s. done (set_object s slot.used (pos 0))) (slots x q.name) s
     CanRun x (Update r q b f e) s =
         CanVisit (λ slot. CanHold (bind x r.name slot) b) (λ slot. CanValue (bind x r.name slot) e) (λ slot. holds (bind x r.name slot) b) (λ slot s. done (write_field s slot f.name (value (bind x r.name slot) e s))) (slots x q.name) s
+    CanRun x Abort s = Unit {0}
 
     pub CanRunAll : Context → Commands → State → Type 0
     CanRunAll x NoCommand s = Unit {0}
-    CanRunAll x (MoreCommand c cs) s = CanRun x c s × CanRunAll x cs (does x c s).state
+    CanRunAll x (MoreCommand c cs) s = CanRun x c s × Unless (does x c s).ended (CanRunAll x cs (does x c s).state)

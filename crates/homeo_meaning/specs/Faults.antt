@@ -7,7 +7,7 @@ use Rattle.homeo_meaning.specs.Key.{words}
 use Rattle.homeo_meaning.specs.Bindings.{Scope}
 use Rattle.homeo_meaning.specs.TransactionRules.{each, transaction_faults}
 use Rattle.homeo_meaning.specs.GlobalNames.{global_names, duplicate, scope_of}
-use Rattle.homeo_meaning.specs.NumberRules.{object_faults, range_bounds, limit_faults}
+use Rattle.homeo_meaning.specs.NumberRules.{object_faults, range_bounds, site_weight_faults, limit_faults}
 use Rattle.homeo_meaning.specs.CallRules.{client_faults, schedule_faults}
 use Rattle.homeo_meaning.specs.SizeRules.{size_faults, print_faults, weight_faults, row_faults}
 use Rattle.homeo_meaning.specs.declared.call.Purpose.{Purpose}
@@ -25,7 +25,7 @@ abbrev pub of_transaction : Scope → s.Transaction → List Fault
 unfolding words
 of_transaction scope t = flat_map range_bounds t.params ++ transaction_faults scope t
 
--- bounds and names, of what is declared and called
+-- bounds, names and weights, of what is declared and called
 abbrev pub declared_faults : s.Workload → List Fault
 unfolding words
 declared_faults w =
@@ -33,6 +33,7 @@ declared_faults w =
     ++ flat_map of_relation w.relations
     ++ flat_map (of_transaction (scope_of w)) w.transactions
     ++ flat_map (client_faults w.sites (scope_of w) w.transactions) w.clients
+    ++ site_weight_faults w.sites w.weights
 
 -- names, bounds, counts and the schedule
 abbrev pub text_faults : Purpose → s.Workload → List Fault

@@ -1,12 +1,14 @@
 -- The L form of a call: what it does with whole objects, without relations, parameters and bounds.
-use Rattle.std.specs.Prelude.{ℕ, suc, List, [], ◌∷◌, ℤ, pos, Option, Some, None}
+use Rattle.std.specs.Prelude.{ℕ, suc, ◌+◌, Bool, true, false, ◌||◌, List, [], ◌∷◌, length, ℤ, pos, Option, Some, None}
 use Rattle.homeo_syntax.specs.declared.phrase.Compare.TheVariants as compare
 use Rattle.homeo_syntax.specs.declared.low.Temp.TheVariants as temp
 use Rattle.homeo_syntax.specs.declared.low.SplitName.TheVariants as split
 use Rattle.homeo_syntax.specs.Low as L
-use Rattle.homeo_syntax.specs.Source.{Expr, Exprs, Literal, Name, Read, Sum, Product, Neg, Field, Row, Count, Total, NoExpr, MoreExpr, Test, Cond, True, Not, Comparison, NoTest, MoreTest, FieldValue, Command, Commands, Skip, Assign, Write, Print, If, Block, SetField, SetRow, Foreach, Insert, Delete, Update, NoCommand, MoreCommand}
+use Rattle.homeo_syntax.specs.Source.{Expr, Exprs, Literal, Name, Read, Sum, Product, Neg, Field, Row, Count, Total, NoExpr, MoreExpr, Test, Cond, True, Not, Comparison, NoTest, MoreTest, FieldValue, Command, Commands, Skip, Assign, Write, Print, If, Block, SetField, SetRow, Foreach, Insert, Delete, Update, Abort, NoCommand, MoreCommand}
 use Rattle.homeo_meaning.specs.Key.{words}
 use Rattle.homeo_meaning.specs.Schema.{Declared, Schema}
+use Rattle.homeo_meaning.specs.Aborts.{holds_abort, hold_abort}
+use Rattle.homeo_meaning.specs.LowWrites.{all_written}
 use Rattle.homeo_meaning.specs.Context.{Spot, Slot, Context, spot, cell, field_cell, object, slots, fields, bind, slot_at, context}
 
 -- commands to run before, the lifted phrase, and the next number of a fresh temporary
@@ -55,6 +57,26 @@ abbrev pub one_test : L.Test → L.Cond
 unfolding words
 one_test t = L.MoreTest t L.NoTest
 
+-- where a call can be ended, the fresh temporary 0 is 1 from its end on
+abbrev pub flag : L.Expr
+unfolding words
+flag = fresh 0
+
+abbrev pub set_flag : ℤ → L.Command
+unfolding words
+set_flag v = L.Assign (temp.Fresh 0) (L.Literal v)
+
+-- a command that is not done where the call is ended
+abbrev pub unless_ended : L.Command → L.Command
+unfolding words
+unless_ended c = L.If (one_test (equal flag (pos 0))) c L.Skip
+
+-- so where it stands behind a command that can end the call
+abbrev pub guard : Bool → L.Command → L.Command
+unfolding words
+guard true c = unless_ended c
+guard false c = c
+
 -- within the bounds, and then more tests
 abbrev pub within : Spot → L.Expr → L.Cond → L.Cond
 unfolding words
@@ -75,16 +97,22 @@ abbrev pub joined : {A B C : Type 0} → (A → B → C) → Lifted A → (ℕ �
 unfolding words
 joined f x y = record { before = both x.before (y x.next).before; phrase = f x.phrase (y x.next).phrase; next = (y x.next).next }
 
--- the slots in rising order: a loop's tests and bodies
-abbrev pub visits : (Slot → ℕ → Lifted L.Cond) → (Slot → ℕ → Made) → List Slot → ℕ → AllMade
+-- the commands of a slot and then more commands: the slot's as they are, or as one that is not done where the call is ended
+abbrev pub in_turn : Bool → L.Commands → L.Command → L.Commands → L.Commands
 unfolding words
-visits test body [] n = record { commands = L.NoCommand; next = n }
-visits test body (slot ∷ more) n =
+in_turn true before c more = L.MoreCommand (unless_ended (in_front before c)) more
+in_turn false before c more = both before (L.MoreCommand c more)
+
+-- the slots in rising order: a loop's tests and bodies. Where a body can end the call, the slots after the first are guarded
+abbrev pub visits : Bool → Bool → (Slot → ℕ → Lifted L.Cond) → (Slot → ℕ → Made) → List Slot → ℕ → AllMade
+unfolding words
+visits guarded later test body [] n = record { commands = L.NoCommand; next = n }
+visits guarded later test body (slot ∷ more) n =
     let b = test slot n in
     let c = body slot b.next in
-    let others = visits test body more c.next in
+    let others = visits later later test body more c.next in
     record {
-      commands = both b.before (L.MoreCommand (L.If (L.MoreTest (equal (read slot.used) (pos 1)) b.phrase) c.command L.Skip) others.commands);
+      commands = in_turn guarded b.before (L.If (L.MoreTest (equal (read slot.used) (pos 1)) b.phrase) c.command L.Skip) others.commands;
       next = others.next;
     }
 
@@ -93,7 +121,7 @@ abbrev pub counted : (Slot → ℕ → Lifted L.Cond) → (Slot → L.Expr) → 
 unfolding words
 counted test term all n =
     let body : Slot → ℕ → Made = λ slot m. record { command = L.Assign (temp.Fresh n) (L.Sum (L.MoreExpr (fresh n) (L.MoreExpr (term slot) L.NoExpr))); next = m } in
-    let loop = visits test body all (suc n) in
+    let loop = visits false false test body all (suc n) in
     record { before = L.MoreCommand (L.Assign (temp.Fresh n) (L.Literal (pos 0))) loop.commands; phrase = fresh n; next = loop.next }
 
 -- the field of the slot that e names, put into a fresh temporary
@@ -213,10 +241,10 @@ abbrev pub as_one : AllMade → Made
 unfolding words
 as_one m = record { command = L.Seq m.commands; next = m.next }
 
--- the slots of a relation where b holds of the row
-abbrev pub loop : Context → ℕ → ℕ → Cond → (Slot → ℕ → Made) → ℕ → Made
+-- the slots of a relation where b holds of the row, with whether a body can end the call
+abbrev pub loop : Context → ℕ → ℕ → Cond → Bool → (Slot → ℕ → Made) → ℕ → Made
 unfolding words
-loop x r q b body n = as_one (visits (λ slot. lift_cond (bind x r slot) b) body (slots x q) n)
+loop x r q b ends body n = as_one (visits false ends (λ slot. lift_cond (bind x r slot) b) body (slots x q) n)
 
 abbrev pub clear : Slot → ℕ → Made
 unfolding words
@@ -279,21 +307,57 @@ abbrev mutual
   form x (Write o e) n = write_to (object x o.name) (object x o.name).place (lift x e n)
   form x (Print e) n = placed (lift x e n) L.Print
   form x (If b c d) n = chosen (lift_cond x b n) (form x c) (form x d)
-  form x (Block cs) n = as_one (forms x cs n)
+  form x (Block cs) n = as_one (forms x false cs n)
   form x (SetField q i f e) n = write_indexed (slots x q.name) (spot (fields x q.name) f.name) (lift x i n) (lift x e)
   form x (SetRow r f e) n = write_field (x.rows r.name) f.name (lift x e n)
-  form x (Foreach r q b body) n = loop x r.name q.name b (λ slot m. as_one (forms (bind x r.name slot) body m)) n
+  form x (Foreach r q b body) n = loop x r.name q.name b (hold_abort body) (λ slot m. as_one (forms (bind x r.name slot) false body m)) n
   form x (Insert q fs t) n = inserted (slots x q.name) t.name (lift_values x (fields x q.name) fs n)
-  form x (Delete r q b) n = loop x r.name q.name b clear n
-  form x (Update r q b f e) n = loop x r.name q.name b (λ slot m. write_field slot f.name (lift (bind x r.name slot) e m)) n
+  form x (Delete r q b) n = loop x r.name q.name b false clear n
+  form x (Update r q b f e) n = loop x r.name q.name b false (λ slot m. write_field slot f.name (lift (bind x r.name slot) e m)) n
+  form x Abort n = record { command = set_flag (pos 1); next = n }
 
-  -- the L forms of commands one after another
-  pub forms : Context → Commands → ℕ → AllMade
-  forms x NoCommand n = record { commands = L.NoCommand; next = n }
-  forms x (MoreCommand c cs) n =
-      record { commands = L.MoreCommand (form x c n).command (forms x cs (form x c n).next).commands; next = (forms x cs (form x c n).next).next }
+  -- the L forms of commands one after another, each guarded that stands behind a command that can end the call
+  pub forms : Context → Bool → Commands → ℕ → AllMade
+  forms x guarded NoCommand n = record { commands = L.NoCommand; next = n }
+  forms x guarded (MoreCommand c cs) n =
+      let first = form x c n in
+      let others = forms x (guarded || holds_abort c) cs first.next in
+      record { commands = L.MoreCommand (guard guarded first.command) others.commands; next = others.next }
+
+-- ---- calls that can be ended
+-- each object saved in a fresh temporary, the first of them in that of number n, and then more commands
+abbrev pub saves : ℕ → List ℕ → L.Commands → L.Commands
+unfolding words
+saves n [] more = more
+saves n (x ∷ xs) more = L.MoreCommand (L.Assign (temp.Fresh n) (read x)) (saves (suc n) xs more)
+
+-- each object set to what was saved of it
+abbrev pub restores : ℕ → List ℕ → L.Commands
+unfolding words
+restores n [] = L.NoCommand
+restores n (x ∷ xs) = L.MoreCommand (L.Write (split.Whole x) (fresh n)) (restores (suc n) xs)
+
+-- where the call is ended, its writes are undone
+abbrev pub undo : List ℕ → L.Command
+unfolding words
+undo saved = L.If (one_test (equal flag (pos 1))) (L.Seq (restores 1 saved)) L.Skip
+
+-- the objects that some write in the L form of a body names
+abbrev pub saved_in : Context → Commands → List ℕ
+unfolding words
+saved_in x body = all_written (forms x false body 0).commands []
+
+abbrev pub undoing : List ℕ → L.Commands → L.Command
+unfolding words
+undoing saved body = L.Seq (L.MoreCommand (set_flag (pos 0)) (saves 1 saved (L.MoreCommand (L.Seq body) (one (undo saved)))))
+
+-- the L form of a body: where it can end its call, the flag and the saved objects come before it, and the undoing behind it
+abbrev pub body_by : Bool → Context → Commands → L.Command
+unfolding words
+body_by false x body = L.Seq (forms x false body 0).commands
+body_by true x body = let saved = saved_in x body in undoing saved (forms x false body (1 + length saved)).commands
 
 -- the L form of a call of a transaction with these parameters and this body
 abbrev pub l_form : Schema → List ℕ → List ℤ → Commands → L.Command
 unfolding words
-l_form x params args body = L.Seq (forms (context x params args) body 0).commands
+l_form x params args body = body_by (hold_abort body) (context x params args) body

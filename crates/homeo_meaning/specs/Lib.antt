@@ -1,3 +1,4 @@
+pub mod Aborts
 pub mod Acceptance
 pub mod Bindings
 pub mod Bounds
@@ -18,6 +19,7 @@ pub mod LowComputed
 pub mod LowMeaning
 pub mod LowSizes
 pub mod LowWeights
+pub mod LowWrites
 pub mod Meaning
 pub mod NameRules
 pub mod NamesWithin

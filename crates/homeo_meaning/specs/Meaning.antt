@@ -1,9 +1,9 @@
 -- What the source language means.
-use Rattle.std.specs.Prelude.{ℕ, suc, ◌==◌, Bool, true, cond, not, ◌&&◌, List, [], ◌∷◌, ◌++◌, ℤ, pos, ◌+ℤ◌, ◌*ℤ◌, neg_ℤ, int_lt, int_le, Option, Some, None}
+use Rattle.std.specs.Prelude.{ℕ, suc, ◌==◌, Bool, true, false, cond, not, ◌&&◌, List, [], ◌∷◌, ◌++◌, ℤ, pos, ◌+ℤ◌, ◌*ℤ◌, neg_ℤ, int_lt, int_le, Option, Some, None}
 use Rattle.std.specs.Ordering.{int_eq}
 use Rattle.homeo_syntax.specs.declared.phrase.Compare.{Compare}
 use Rattle.homeo_syntax.specs.declared.phrase.Compare.TheVariants.{Less, LessEqual, Equal}
-use Rattle.homeo_syntax.specs.Source.{Expr, Exprs, Literal, Name, Read, Sum, Product, Neg, Field, Row, Count, Total, NoExpr, MoreExpr, Test, Cond, True, Not, Comparison, NoTest, MoreTest, FieldValue, Command, Commands, Skip, Assign, Write, Print, If, Block, SetField, SetRow, Foreach, Insert, Delete, Update, NoCommand, MoreCommand}
+use Rattle.homeo_syntax.specs.Source.{Expr, Exprs, Literal, Name, Read, Sum, Product, Neg, Field, Row, Count, Total, NoExpr, MoreExpr, Test, Cond, True, Not, Comparison, NoTest, MoreTest, FieldValue, Command, Commands, Skip, Assign, Write, Print, If, Block, SetField, SetRow, Foreach, Insert, Delete, Update, Abort, NoCommand, MoreCommand}
 use Rattle.homeo_meaning.specs.Key.{words}
 use Rattle.homeo_meaning.specs.Schema.{Declared, Schema}
 use Rattle.homeo_meaning.specs.Context.{Spot, Slot, Context, spot, cell, field_cell, object, slots, fields, bind, first_where, slot_at, context}
@@ -13,10 +13,11 @@ pub record State : Type 0 where
   pub database : ℕ → ℤ
   pub temps : ℕ → ℤ
 
--- what a run leaves and prints
+-- what a run leaves and prints, and whether the call is ended
 pub record Run : Type 0 where
   pub state : State
   pub prints : List ℤ
+  pub ended : Bool
 
 -- the function with one value changed
 abbrev pub changed : (ℕ → ℤ) → ℕ → ℤ → ℕ → ℤ
@@ -94,12 +95,17 @@ abbrev mutual
 -- ---- commands
 abbrev pub done : State → Run
 unfolding words
-done s = record { state = s; prints = [] }
+done s = record { state = s; prints = []; ended = false }
 
 -- more prints in front of a run's
 abbrev pub after_prints : List ℤ → Run → Run
 unfolding words
-after_prints ps r = record { state = r.state; prints = ps ++ r.prints }
+after_prints ps r = record { state = r.state; prints = ps ++ r.prints; ended = r.ended }
+
+-- a run, and then what comes next, unless the call is ended
+abbrev pub then_do : Run → (State → Run) → Run
+unfolding words
+then_do r next = cond r.ended r (after_prints r.prints (next r.state))
 
 abbrev pub set_temp : State → ℕ → ℤ → State
 unfolding words
@@ -127,13 +133,11 @@ unfolding words
 write_slot s f None v = s
 write_slot s f (Some slot) v = write s f (cell slot f) v
 
--- the slots in rising order, each tested on the present state
+-- the slots in rising order until the call is ended, each tested on the present state
 abbrev pub visit : (Slot → State → Bool) → (Slot → State → Run) → List Slot → State → Run
 unfolding words
 visit test body [] s = done s
-visit test body (slot ∷ more) s =
-    let here : Run = cond (is_used s slot && test slot s) (body slot s) (done s) in
-    after_prints here.prints (visit test body more here.state)
+visit test body (slot ∷ more) s = then_do (cond (is_used s slot && test slot s) (body slot s) (done s)) (visit test body more)
 
 -- the slots of a relation where b holds of the row
 abbrev pub visit_all : Context → ℕ → ℕ → Cond → (Slot → State → Run) → State → Run
@@ -174,12 +178,12 @@ insert all fs t s = cond (are_within fs) (fill fs t s (first_where (is_free s) a
 abbrev mutual
   unfolding words
 
-  -- what a command leaves and prints
+  -- what a command leaves and prints, and whether it ends the call
   pub does : Context → Command → State → Run
   does x Skip s = done s
   does x (Assign t e) s = done (set_temp s t.name (value x e s))
   does x (Write o e) s = done (write s (object x o.name) (object x o.name).place (value x e s))
-  does x (Print e) s = record { state = s; prints = value x e s ∷ [] }
+  does x (Print e) s = record { state = s; prints = value x e s ∷ []; ended = false }
   does x (If b c d) s = cond (holds x b s) (does x c s) (does x d s)
   does x (Block cs) s = does_all x cs s
   does x (SetField q i f e) s = done (write_slot s (spot (fields x q.name) f.name) (slot_at (value x i s) (slots x q.name)) (value x e s))
@@ -189,13 +193,25 @@ abbrev mutual
   does x (Delete r q b) s = visit_all x r.name q.name b (λ slot s. done (set_object s slot.used (pos 0))) s
   does x (Update r q b f e) s =
       visit_all x r.name q.name b (λ slot s. done (write_field s slot f.name (value (bind x r.name slot) e s))) s
+  does x Abort s = record { state = s; prints = []; ended = true }
 
-  -- commands one after another
+  -- commands one after another, until the call is ended
   pub does_all : Context → Commands → State → Run
   does_all x NoCommand s = done s
-  does_all x (MoreCommand c cs) s = after_prints (does x c s).prints (does_all x cs (does x c s).state)
+  does_all x (MoreCommand c cs) s = then_do (does x c s) (does_all x cs)
+
+-- at the end of a call that is ended, the objects are as they were before it
+abbrev pub settled : (ℕ → ℤ) → Run → Run
+unfolding words
+settled before r =
+    record {
+      state = record { database = cond r.ended before r.state.database; temps = r.state.temps };
+      prints = r.prints;
+      ended = r.ended;
+    }
 
 -- a transaction's body, from temporaries 0
 abbrev pub run : Schema → List ℕ → List ℤ → Commands → (ℕ → ℤ) → Run
 unfolding words
-run x params args body database = does_all (context x params args) body (record { database = database; temps = λ t. pos 0 })
+run x params args body database =
+    settled database (does_all (context x params args) body (record { database = database; temps = λ t. pos 0 }))

@@ -1,7 +1,7 @@
 -- The rules of bounds, and of how much may be declared.
-use Rattle.std.specs.Prelude.{ℕ, ◌+◌, ◌*◌, nat_le, nat_lt, map, slice_get, ℤ, int_lt, int_le, pos, neg_ℤ, Bool, true, false, ◌&&◌, ◌||◌, List, [], ◌∷◌, ◌++◌, length, Option, Some, None, ◌==◌, if◌then◌else◌}
+use Rattle.std.specs.Prelude.{ℕ, ◌+◌, ◌*◌, nat_le, nat_lt, map, slice_get, ℤ, int_lt, int_le, pos, neg_ℤ, Bool, true, false, not, ◌&&◌, ◌||◌, List, [], ◌∷◌, ◌++◌, length, Option, Some, None, ◌==◌, if◌then◌else◌}
 use Rattle.std.specs.Ordering.{int_eq}
-use Rattle.std.specs.List.{list_any, flat_map, sum_by}
+use Rattle.std.specs.List.{list_any, list_all, flat_map, sum_by}
 use Rattle.homeo_syntax.specs.Source as s
 use Rattle.homeo_syntax.specs.declared.phrase.Ident.{Ident}
 use Rattle.homeo_syntax.specs.declared.phrase.Number.{Number}
@@ -12,7 +12,7 @@ use Rattle.homeo_meaning.specs.ListRules.{when, fault, number_fault, each}
 use Rattle.homeo_meaning.specs.Schema.{nat_of}
 use Rattle.homeo_meaning.specs.GlobalNames.{SitedCall, sited_calls}
 use Rattle.homeo_meaning.specs.declared.rules.Fault.{Fault}
-use Rattle.homeo_meaning.specs.declared.rules.Phase.TheVariants.{Bounds, Limits}
+use Rattle.homeo_meaning.specs.declared.rules.Phase.TheVariants.{Arity, Bounds, Limits}
 
 -- ---- bounds
 -- no bound is larger than 10^12, with or without sign
@@ -60,6 +60,30 @@ arguments_outside i (d ∷ ds) args = argument_outside d (slice_get args i) ++ a
 abbrev pub site_faults : Number → Number → List Fault
 unfolding words
 site_faults sites site = when (int_le sites.value site.value) (number_fault Bounds site)
+
+-- ---- weights
+-- no weight is larger than 1,000
+abbrev pub largest_weight : ℤ
+largest_weight = pos 1000
+
+abbrev pub too_heavy : Number → List Fault
+unfolding words
+too_heavy n = when (int_lt largest_weight n.value) (number_fault Bounds n)
+
+abbrev pub is_weightless : Number → Bool
+is_weightless n = int_eq n.value (pos 0)
+
+-- where there are weights, there are as many as sites, and one that isn't 0
+abbrev pub weight_list_faults : Number → List Number → List Fault
+unfolding words
+weight_list_faults sites [] = []
+weight_list_faults sites (n ∷ ns) =
+    when (not (int_eq (pos (length (n ∷ ns))) sites.value)) (number_fault Arity n)
+    ++ when (list_all is_weightless (n ∷ ns)) (number_fault Bounds n)
+
+abbrev pub site_weight_faults : Number → List Number → List Fault
+unfolding words
+site_weight_faults sites ns = weight_list_faults sites ns ++ flat_map too_heavy ns
 
 -- ---- limits
 -- from 1 to 16 sites

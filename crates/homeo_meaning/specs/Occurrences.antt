@@ -1,7 +1,7 @@
 -- A transaction's text as the list of the occurrences of names in it, in the order of the text.
 use Rattle.std.specs.Prelude.{List, [], ◌∷◌, ◌++◌, map}
 use Rattle.homeo_syntax.specs.declared.phrase.Ident.{Ident}
-use Rattle.homeo_syntax.specs.Source.{FieldValue, Expr, Exprs, Literal, Name, Read, Sum, Product, Neg, Field, Row, Count, Total, NoExpr, MoreExpr, Test, Cond, True, Not, Comparison, NoTest, MoreTest, Command, Commands, Skip, Assign, Write, Print, If, Block, SetField, SetRow, Foreach, Insert, Delete, Update, NoCommand, MoreCommand}
+use Rattle.homeo_syntax.specs.Source.{FieldValue, Expr, Exprs, Literal, Name, Read, Sum, Product, Neg, Field, Row, Count, Total, NoExpr, MoreExpr, Test, Cond, True, Not, Comparison, NoTest, MoreTest, Command, Commands, Skip, Assign, Write, Print, If, Block, SetField, SetRow, Foreach, Insert, Delete, Update, Abort, NoCommand, MoreCommand}
 use Rattle.homeo_meaning.specs.Key.{words}
 use Rattle.homeo_meaning.specs.Bindings as b
 
@@ -84,6 +84,7 @@ abbrev mutual
   in_command rows (Insert q fs t) = at rows (TakesRelation q) ∷ at rows (FillsFields q (map (λ f. f.field) fs)) ∷ in_fields rows fs ++ at rows (Assigns t) ∷ []
   in_command rows (Delete r q t) = at rows (DeclaresRow r) ∷ at rows (TakesRelation q) ∷ in_cond (within r q rows) t
   in_command rows (Update r q t f e) = at rows (DeclaresRow r) ∷ at rows (TakesRelation q) ∷ at rows (NamesField q f) ∷ in_cond (within r q rows) t ++ in_expr (within r q rows) e
+  in_command rows Abort = []
 
   pub in_commands : List b.Row → Commands → List Occurrence
   in_commands rows NoCommand = []

@@ -2,12 +2,14 @@
 //! and the rules that an accepted workload meets. Of code there are the types alone.
 #![tactic(auto)]
 
+mod aborts;
 mod accepted;
 mod call;
 mod database;
 pub mod padded;
 mod rules;
 
+pub use aborts::{hold_abort, holds_abort};
 pub use accepted::Accepted;
 pub use call::{CallId, GroundCall, Purpose};
 pub use database::Database;

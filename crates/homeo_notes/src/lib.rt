@@ -8,8 +8,6 @@ mod board;
 mod holder;
 mod rule;
 mod steps;
-#[cfg(test)]
-mod tests;
 
 pub use blank::{Blank, Memory, Naming};
 pub use board::Board;

@@ -2,28 +2,20 @@
 use Rattle.homeo_meaning.specs.Key.{words as meaning_words}
 use Rattle.std.proofs.Common.{◌≡◌, ℕ, List, map, slice_get, ℤ, Option, Some, None, sym, subst}
 use Rattle.homeo_syntax.specs.Source as s
-use Rattle.homeo_meaning.specs.Bounds.{AllWithin}
+use Rattle.homeo_meaning.specs.Bounds.{IsIn, all_bounds, bounds_at}
 use Rattle.homeo_meaning.specs.CallForm.{body_form, ground_form}
-use Rattle.homeo_meaning.specs.Context.{context}
 use Rattle.homeo_meaning.specs.Ground.{Ground}
 use Rattle.homeo_meaning.specs.LForm.{l_form}
 use Rattle.homeo_meaning.specs.LowMeaning as M
-use Rattle.homeo_meaning.specs.Meaning.{Run, run}
-use Rattle.homeo_meaning.specs.Schema.{Schema, schema_of}
+use Rattle.homeo_meaning.specs.Meaning.{run}
+use Rattle.homeo_meaning.specs.SameRun.{IsSameRun}
+use Rattle.homeo_meaning.specs.Schema.{schema_of}
 use Rattle.homeo_meaning.specs.Whole.{IsWhole}
-use Rattle.homeo_lform.proofs.Forms.{forms_do}
-use Rattle.homeo_lform.proofs.Lifts.{seen_run}
+use Rattle.homeo_lform.proofs.FormLaw.{form_law}
 use Rattle.homeo_lform.proofs.Stays.{bounds_law}
 use Rattle.homeo_lform.proofs.Wholes.{whole_law}
 use Rattle.homeo_plan.specs.Key.{words}
 use Rattle.homeo_plan.specs.Replay.{Stays}
-
--- what the L form of a call does to the database, and what it prints
-pub form_run :
-    (x : Schema) (params : List ℕ) (args : List ℤ) (body : s.Commands) (v : ℕ → ℤ) →
-    seen_run (M.exec (l_form x params args body) (M.whole v)) ≡ run x params args body v
-unfolding words meaning_words
-form_run x params args body v = forms_do (context x params args) body 0 (M.whole v)
 
 body_whole : (w : s.Workload) (t : Option s.Transaction) (args : List ℤ) → IsWhole (body_form w t args)
 unfolding words meaning_words
@@ -39,8 +31,8 @@ unfolding words meaning_words
 body_stays w None args v h = h
 body_stays w (Some t) args v h =
     let params : List ℕ = map (λ p. p.name.name) t.params in
-    subst (λ (r : Run). AllWithin (schema_of w) r.state.database) (sym (form_run (schema_of w) params args t.body v))
-    (bounds_law (schema_of w) params args t.body v h)
+    let same : IsSameRun (M.exec (l_form (schema_of w) params args t.body) (M.whole v)) (run (schema_of w) params args t.body v) = form_law (schema_of w) params args t.body v in
+    λ n. subst (IsIn (bounds_at (all_bounds (schema_of w)) n)) (sym (same.database n)) (bounds_law (schema_of w) params args t.body v h n)
 
 pub ground_stays : (w : s.Workload) (g : Ground) → Stays (schema_of w) (ground_form w g)
 unfolding meaning_words

@@ -1,6 +1,6 @@
 -- What the treaties of a workload are made of: its ground calls with their L forms, and at a base their template and policy
 -- (this project's rule).
-use Rattle.std.specs.Prelude.{ℕ, List, map, replicate, ℤ}
+use Rattle.std.specs.Prelude.{ℕ, List, map, ℤ}
 use Rattle.std.specs.Option.{option_map_or}
 use Rattle.homeo_syntax.specs.Source as s
 use Rattle.homeo_syntax.specs.Low.{Command, Skip}
@@ -12,6 +12,7 @@ use Rattle.homeo_meaning.specs.CallForm.{ground_form}
 use Rattle.homeo_plan.specs.Key.{words}
 use Rattle.homeo_plan.specs.Template.{PlannedCall, shifted, Clause, Template, template}
 use Rattle.homeo_plan.specs.Config.{Config, split_by}
+use Rattle.homeo_plan.specs.Shares.{shares}
 
 -- how many sites
 abbrev pub sites_of : s.Workload → ℕ
@@ -43,10 +44,10 @@ abbrev pub template_at : s.Workload → List ℤ → Template
 unfolding words
 template_at w base = template (sites_of w) (values_of base) (planned w)
 
--- the shares that the sites have of a clause: 1 each
+-- the shares that the sites have of a clause: by the workload's weights, and without any 1 each
 abbrev pub shares_of : s.Workload → Clause → List ℕ
 unfolding words
-shares_of w c = replicate (sites_of w) 1
+shares_of w c = shares (sites_of w) w.weights (planned w) c
 
 -- the configuration of each round that begins at a base
 abbrev pub policy : s.Workload → List ℤ → Config

@@ -1,8 +1,7 @@
--- The command of the tests can be run and transformed, and its split database folded.
-use Rattle.std.proofs.Common.{◌≡◌, ℕ, zero, suc, ◌-◌, ◌^◌, ◌<◌, ◌≤◌, true, List, [], ◌∷◌, ◌++◌, map, length, pos, FitsSigned, w64, sym, ap, ap₂, ◌∙◌, subst, arith}
+-- One command of the tests can be run, the other transformed too, and their split database folded.
+use Rattle.std.proofs.Common.{◌≡◌, ℕ, zero, suc, ◌^◌, ◌<◌, ◌≤◌, true, List, [], ◌∷◌, map, length, pos, FitsSigned, w64, sym, ap, ap₂, ◌∙◌, subst, arith}
 use Rattle.std.proofs.lemmas.Int.{fits_signed_from_abs}
 use Rattle.std.proofs.lemmas.List.{length-map}
-use Rattle.homeo_syntax.specs.Listed.{Listed}
 use Rattle.homeo_syntax.specs.Low.{Command}
 use Rattle.homeo_meaning.specs.Key.{words as meaning_words}
 use Rattle.homeo_meaning.specs.LowMeaning.{State, BaseAt, location_of, exec}
@@ -17,7 +16,7 @@ use Rattle.homeo_split.specs.States.{state_with, state_of, AgreeOnNames}
 use Rattle.homeo_split.specs.declared.split.Split.{Split}
 use Rattle.homeo_split.proofs.Copies.{lengths}
 use Rattle.homeo_delta.specs.Folding.{SumsFit}
-use Rattle.homeo_plan_tests.specs.inner.SplitExample.{raise, base, deltas, IsStart}
+use Rattle.homeo_plan_tests.specs.inner.SplitExample.{raise, raise_own, base, deltas, IsStart}
 
 pub raise-whole : (c : Command) → c ≡ raise → IsWhole c
 unfolding meaning_words
@@ -43,6 +42,14 @@ has_sites s c is e = ap₂ has_places (start_shape s is) e
 pub can_shift : (s : Split) (c : Command) → IsStart s → c ≡ shifted → can_exec limit c (state_of s) ≡ true
 unfolding words meaning_words split_words
 can_shift s c is e = ap₂ (can_exec limit) e (start_is s is)
+
+pub own_places : (s : Split) (c : Command) → IsStart s → c ≡ raise_own → has_places (shape_of s) c ≡ true
+unfolding meaning_words split_words
+own_places s c is e = ap₂ has_places (start_shape s is) e
+
+pub own_runs : (s : Split) (c : Command) → IsStart s → c ≡ raise_own → can_exec limit c (state_of s) ≡ true
+unfolding meaning_words split_words
+own_runs s c is e = ap₂ (can_exec limit) e (start_is s is)
 
 -- ---- folds
 sums_fit :
@@ -97,9 +104,3 @@ pub raised_sums :
 raised_sums old new c is e agree shape =
     let same : (exec c (state_of old)).state ≡ after = ap₂ (λ d st. (exec d st).state) e (start_is old is) in
     sums_fit new after (λ x. agree x ∙ ap (λ (st : State). st (location_of x)) same) (shape ∙ start_shape old is) after_fits
-
--- what a list holds after one more push
-pub pushed :
-    {A : Type 0} (old new : Listed A) (before : List A) (x : A) → old.items ≡ before →
-    new ≡ record { items = old.items ++ x ∷ []; spare = old.spare - 1 } → new.items ≡ before ++ x ∷ []
-pushed {A} old new before x e h = ap (λ (l : Listed A). l.items) h ∙ ap (λ (l : List A). l ++ x ∷ []) e

@@ -1,2 +1,7 @@
+pub mod AtomExample
 pub mod CallExample
+pub mod Object
+pub mod ObjectExample
+pub mod ResidualExample
+pub mod SlackExample
 pub mod SplitExample

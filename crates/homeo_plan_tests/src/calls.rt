@@ -10,44 +10,18 @@ ghost use Rattle.homeo_ground.specs.Grounding.{IsCalled};
 ghost use Rattle.homeo_delta.specs.Folding.{SumsFit};
 ghost use Rattle.homeo_plan_tests.specs.inner.CallExample.{IsUndivided};
 
+use crate::texts::{TWICE, accepted};
 use homeo_context::Declarations;
 use homeo_delta::{fold, transform};
 use homeo_desugar::desugar;
 use homeo_eval::initial;
 use homeo_ground::Grounding;
-use homeo_meaning::{Accepted, Database, GroundCall, Purpose};
-use homeo_reader::{ReadRefusal, read};
-use homeo_rules::{RuleRefusal, accept};
+use homeo_meaning::{Accepted, Database, GroundCall};
 use homeo_split::{Split, eval_l};
 use homeo_syntax::{List, Memory};
-use std::alloc::{AllocError, Global};
+use std::alloc::Global;
 use std::process::Abort;
 use std::test::Fail;
-
-/// The second write reads what the first one wrote.
-pub(crate) const TWICE: &str = "workload 1
-sites 2
-object x in 0..10 = 5
-transaction twice() { write(x = read(x) + 1); write(x = read(x) + 1) }
-client a at 0 { twice() }
-schedule a
-end
-";
-
-/// Reads a text that is accepted.
-pub(crate) fn accepted(rt: &impl Abort, alloc: Global, text: &str) -> Result<Accepted, Fail> {
-    assert!(rt; text.len() <= 1_048_576);
-    let workload = match read(alloc, text.as_bytes()) {
-        Ok(workload) => workload,
-        Err(ReadRefusal::Memory) => return Err(Fail::from(AllocError)),
-        Err(ReadRefusal::Refused(refusal)) => panic!(rt; "refused {refusal:?}"),
-    };
-    match accept(alloc, workload, Purpose::Steps) {
-        Ok(w) => Ok(w),
-        Err(RuleRefusal::Memory) => Err(Fail::from(AllocError)),
-        Err(RuleRefusal::Refused(refusal)) => panic!(rt; "refused {refusal:?}"),
-    }
-}
 
 fn zeros(alloc: Global, count: usize) -> Result<Database, Memory>
     ensures { IfOk result (λ d. d.items ≡ replicate count (pos 0)) }

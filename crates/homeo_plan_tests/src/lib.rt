@@ -1,4 +1,4 @@
-//! Tests of the crates of plans, on values made here and on a text.
+//! Tests of the crates of plans and of those below them, on values made here and on texts.
 #![tactic(auto)]
 
 #[cfg(test)]
@@ -6,10 +6,32 @@ mod calls;
 #[cfg(test)]
 mod copies;
 #[cfg(test)]
+mod effects;
+#[cfg(test)]
+mod formulas;
+#[cfg(test)]
 mod joint_tables;
+#[cfg(test)]
+mod needs;
+#[cfg(test)]
+mod numbering;
+#[cfg(test)]
+mod object;
+#[cfg(test)]
+mod residual;
+#[cfg(test)]
+mod rounds;
 #[cfg(test)]
 mod sites;
 #[cfg(test)]
+mod slacks;
+#[cfg(test)]
+mod splits;
+#[cfg(test)]
 mod tables;
+#[cfg(test)]
+mod templates;
+#[cfg(test)]
+mod texts;
 #[cfg(test)]
 mod walks;

@@ -4,7 +4,9 @@ ghost use Rattle.std.specs.Prelude.{◌≡◌, [], ◌∷◌, IfOk};
 ghost use Rattle.homeo_syntax.specs.LowView.{plain_lexpr, plain_lcommand};
 ghost use Rattle.homeo_plan_tests.specs.inner.SplitExample.{next, raise, IsStart};
 
+use crate::object::pair;
 use homeo_delta::{fold, transform};
+use homeo_meaning::Database;
 use homeo_split::{Split, eval_l};
 use homeo_syntax::{LCommand, LExpr, List, Memory, SplitName};
 use std::alloc::Global;
@@ -13,10 +15,7 @@ use std::test::Fail;
 fn next(alloc: Global) -> Result<LExpr, Memory>
     ensures { IfOk result (λ e. plain_lexpr e ≡ next) }
 {
-    let mut terms = List::new(alloc);
-    terms.push(LExpr::Read(SplitName::Whole(0)))?;
-    terms.push(LExpr::Literal(1))?;
-    Ok(LExpr::Sum(terms))
+    pair(alloc, LExpr::Read(SplitName::Whole(0)), LExpr::Literal(1))
 }
 
 /// Object 0 is raised by 1 and printed.
@@ -33,22 +32,23 @@ fn raise(alloc: Global) -> Result<LCommand, Memory>
     Ok(LCommand::Seq { commands })
 }
 
-fn pair(alloc: Global, first: i64, second: i64) -> Result<List<i64>, Memory>
-    ensures { IfOk result (λ l. l.items ≡ first ∷ second ∷ []) }
+fn values(alloc: Global, first: i64, second: i64) -> Result<Database, Memory>
+    ensures { IfOk result (λ v. v.items ≡ first ∷ second ∷ []) }
 {
-    let mut pair = List::new(alloc);
-    pair.push(first)?;
-    pair.push(second)?;
-    Ok(pair)
+    let mut values = List::new(alloc);
+    values.push(first)?;
+    values.push(second)?;
+    Ok(values)
 }
 
-fn start(alloc: Global) -> Result<Split, Memory>
+/// Two objects at two sites.
+pub(crate) fn start(alloc: Global) -> Result<Split, Memory>
     ensures { IfOk result IsStart }
 {
-    let base = pair(alloc, 5, 7)?;
+    let base = values(alloc, 5, 7)?;
     let mut deltas = List::new(alloc);
-    deltas.push(pair(alloc, 2, -1)?)?;
-    deltas.push(pair(alloc, 3, 4)?)?;
+    deltas.push(values(alloc, 2, -1)?)?;
+    deltas.push(values(alloc, 3, 4)?)?;
     Ok(Split { base, deltas })
 }
 

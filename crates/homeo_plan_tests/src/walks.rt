@@ -11,7 +11,8 @@ ghost use Rattle.homeo_split.specs.CanExec.{limit, can_exec};
 ghost use Rattle.homeo_split.specs.States.{state_of};
 ghost use Rattle.homeo_ground.specs.Grounding.{IsCalled};
 
-use crate::calls::{TWICE, accepted, first, undivided};
+use crate::calls::{first, undivided};
+use crate::texts::{TWICE, accepted};
 use homeo_context::Declarations;
 use homeo_delta::transform;
 use homeo_desugar::desugar;

@@ -10,7 +10,7 @@ use Rattle.homeo_syntax.specs.declared.phrase.Ident.{Ident}
 use Rattle.homeo_syntax.specs.declared.phrase.Expr.{Expr}
 use Rattle.homeo_syntax.specs.declared.phrase.Cond.{Cond}
 use Rattle.homeo_syntax.specs.declared.command.FieldValue.{FieldValue}
-use Rattle.homeo_syntax.specs.declared.command.Command.{Command, Skip, Assign, Write, Print, If, Block, SetField, SetRow, Foreach, Insert, Delete, Update}
+use Rattle.homeo_syntax.specs.declared.command.Command.{Command, Skip, Assign, Write, Print, If, Block, SetField, SetRow, Foreach, Insert, Delete, Update, Abort}
 use Rattle.homeo_syntax.proofs.SourceViews as v
 use Rattle.homeo_print.specs.declared.phrases.Position.TheVariants as position
 use Rattle.homeo_print.specs.Key.{words}
@@ -36,6 +36,10 @@ rows_are row relation test = refl
 pub of_Skip : command_kinds (plain_command Skip) ≡ mark_of mark.Skip
 unfolding words
 of_Skip = ap command_kinds v.plain_Skip
+
+pub of_Abort : command_kinds (plain_command Abort) ≡ mark_of mark.Abort
+unfolding words
+of_Abort = ap command_kinds v.plain_Abort
 
 pub of_Assign : (x : Ident) (e : Expr) → command_kinds (plain_command (Assign x e)) ≡ kind.Name x.name ∷ kind.Fixed mark.Assign ∷ whole e
 unfolding words
@@ -137,4 +141,4 @@ pub commands_more : (cs : List Command) (i : ℕ) (c : Command) → i < length c
 unfolding words
 commands_more cs i c within is = led_more mark.Semicolon (λ (c : Command). command_kinds (plain_command c)) cs i c within is
 
-pub ruleset command_steps = (append_assoc, setting_is, rows_are, of_Skip, of_Assign, of_Write, of_Print, of_If, of_Block, of_SetField, of_SetRow, of_Foreach, of_Insert, of_Delete, of_Update, settings_more, commands_more)
+pub ruleset command_steps = (append_assoc, setting_is, rows_are, of_Skip, of_Assign, of_Write, of_Print, of_If, of_Block, of_SetField, of_SetRow, of_Foreach, of_Insert, of_Delete, of_Update, of_Abort, settings_more, commands_more)

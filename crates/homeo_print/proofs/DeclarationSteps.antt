@@ -1,5 +1,5 @@
 -- The tokens of each kind of declaration as it is made.
-use Rattle.std.proofs.Common.{◌≡◌, ℕ, pos, Option, Some, None, ◌+◌, ◌<◌, List, [], ◌∷◌, ◌++◌, length, map, take, get_or, append_assoc, append-nil, refl, sym, ap, ◌∙◌}
+use Rattle.std.proofs.Common.{◌≡◌, ℕ, false, ◌==◌, pos, Option, Some, None, ◌+◌, ◌<◌, List, [], ◌∷◌, ◌++◌, length, map, take, get_or, append_assoc, append-nil, refl, sym, ap, ◌∙◌, arith}
 use Rattle.std.specs.List.{flat_map}
 use Rattle.std.proofs.lemmas.List.{take_more, map-append}
 use Rattle.std.proofs.lemmas.Grind.{flat_map-append}
@@ -18,7 +18,7 @@ use Rattle.homeo_syntax.specs.declared.workload.Call.{Call}
 use Rattle.homeo_syntax.specs.declared.workload.Client.{Client}
 use Rattle.homeo_syntax.specs.declared.workload.Workload.{Workload}
 use Rattle.homeo_print.specs.Key.{words}
-use Rattle.homeo_print.specs.TokensOf.{Kinds, name_of, mark_of, value_of, number_of, separated, commands_kinds, range_kinds, decl_kinds, object_kinds, relation_kinds, transaction_kinds, call_kinds, client_kinds, schedule_kinds, head_kinds, workload_kinds}
+use Rattle.homeo_print.specs.TokensOf.{Kinds, name_of, mark_of, value_of, number_of, separated, commands_kinds, range_kinds, decl_kinds, object_kinds, relation_kinds, transaction_kinds, call_kinds, client_kinds, schedule_kinds, weights_kinds, head_kinds, workload_kinds}
 use Rattle.homeo_print.proofs.Behind.{numbers_behind, decls_behind, calls_behind}
 use Rattle.homeo_print.proofs.Listed.{flat_more}
 use Rattle.homeo_print.proofs.CommandSteps.{led_all, led_viewed, led_more}
@@ -73,12 +73,30 @@ schedule_none = refl
 pub no_schedule : (out : Kinds) (xs : Option (Listed Ident)) → xs ≡ None → out ≡ out ++ schedule_kinds (plain_schedule xs)
 no_schedule out xs e = sym (append-nil out) ∙ ap (λ l. out ++ l) (sym schedule_none) ∙ ap (λ o. out ++ schedule_kinds (plain_schedule o)) (sym e)
 
-pub head_is : (version : ℕ) (sites : Number) → head_kinds version sites ≡ kind.Fixed mark.Workload ∷ (value_of (pos version) ++ kind.Fixed mark.Sites ∷ number_of sites)
+pub no_weights : (out : Kinds) (ns : List Number) → length ns ≡ 0 → out ≡ out ++ weights_kinds ns
 unfolding words
-head_is version sites = refl
+no_weights out [] e = sym (append-nil out)
+no_weights out (n ∷ ns) e = absurd (omega (arith, e))
+
+weights_are : (ns : List Number) → false ≡ (length ns == 0) → weights_kinds ns ≡ kind.Fixed mark.Weights ∷ separated mark.Comma (map number_of ns)
+unfolding words
+weights_are [] ne = let no : ⊥ = cc in absurd no
+weights_are (n ∷ ns) ne = refl
+
+pub some_weights : (out marked all : Kinds) (ns : List Number) → false ≡ (length ns == 0) → marked ≡ out ++ mark_of mark.Weights → all ≡ marked ++ separated mark.Comma (map number_of ns) → all ≡ out ++ weights_kinds ns
+unfolding words
+some_weights out marked all ns ne m p =
+    p ∙ ap (λ (l : Kinds). l ++ separated mark.Comma (map number_of ns)) m
+    ∙ append_assoc out (mark_of mark.Weights) (separated mark.Comma (map number_of ns))
+    ∙ ap (λ (l : Kinds). out ++ l) (sym (weights_are ns ne))
+
+pub head_is : (version : ℕ) (sites : Number) (weights : List Number) → head_kinds version sites weights
+    ≡ kind.Fixed mark.Workload ∷ (value_of (pos version) ++ kind.Fixed mark.Sites ∷ (number_of sites ++ weights_kinds weights))
+unfolding words
+head_is version sites weights = refl
 
 pub workload_is : (w : Workload) → workload_kinds (plain_workload w)
-    ≡ head_kinds w.version w.sites ++ (flat_map object_kinds w.objects.items ++ (flat_map relation_kinds (map plain_relation w.relations.items) ++ (flat_map transaction_kinds (map plain_transaction w.transactions.items)
+    ≡ head_kinds w.version w.sites w.weights.items ++ (flat_map object_kinds w.objects.items ++ (flat_map relation_kinds (map plain_relation w.relations.items) ++ (flat_map transaction_kinds (map plain_transaction w.transactions.items)
     ++ (flat_map client_kinds (map plain_client w.clients.items) ++ (schedule_kinds (plain_schedule w.schedule) ++ mark_of mark.End)))))
 unfolding words syntax
 workload_is w = refl

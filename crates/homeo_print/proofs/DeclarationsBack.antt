@@ -1,5 +1,5 @@
 -- Declarations and whole workloads are spelled again by what is printed for them.
-use Rattle.std.proofs.Common.{◌≡◌, ℕ, zero, suc, ℤ, pos, Bool, true, List, [], ◌∷◌, ◌++◌, refl, sym, ap, ◌∙◌, inl, inr}
+use Rattle.std.proofs.Common.{◌≡◌, ℕ, zero, suc, ℤ, pos, Bool, true, List, [], ◌∷◌, ◌++◌, refl, sym, ap, map, ◌∙◌, inl, inr}
 use Rattle.std.specs.Prelude.{◌&&◌, None, neg_ℤ}
 use Rattle.std.proofs.lemmas.Bool.{eq-eqb}
 use Rattle.homeo_syntax.specs.declared.token.Mark.TheVariants as mark
@@ -7,11 +7,14 @@ use Rattle.homeo_syntax.specs.declared.token.Kind.{Kind}
 use Rattle.homeo_syntax.specs.declared.token.Kind.TheVariants as kind
 use Rattle.homeo_syntax.specs.declared.token.Token.{Token}
 use Rattle.homeo_syntax.specs.declared.phrase.Number.{Number}
-use Rattle.homeo_syntax.specs.Grammar.{alt, seq, as_value, Means}
+use Rattle.homeo_syntax.specs.declared.token.Version.{Version}
+use Rattle.homeo_syntax.specs.declared.token.Version.TheVariants.{First, Second}
+use Rattle.homeo_syntax.specs.Versions.{version_number}
+use Rattle.homeo_syntax.specs.Grammar.{alt, seq, as_value, Means, Spells}
 use Rattle.homeo_syntax.specs.Rules as rules
 use Rattle.homeo_syntax.specs.Rules.{Rule, rule, value_in, number_at, minus_number, offset_of}
 use Rattle.homeo_print.specs.Key.{words}
-use Rattle.homeo_print.specs.TokensOf.{Kinds, value_of, number_of, object_kinds, decl_kinds, relation_kinds, transaction_kinds, call_kinds, client_kinds, schedule_kinds, workload_kinds}
+use Rattle.homeo_print.specs.TokensOf.{Kinds, value_of, number_of, object_kinds, decl_kinds, relation_kinds, transaction_kinds, call_kinds, client_kinds, schedule_kinds, separated, weights_kinds, workload_kinds}
 use Rattle.homeo_print.specs.Offsets.{number_without, object_without, decl_without, relation_without, transaction_without, call_without, client_without, schedule_without, without_offsets}
 use Rattle.homeo_print.proofs.Atoms.{kinds_of, atoms, mark_skipped, number_taken, value_taken, mark_taken}
 use Rattle.homeo_print.proofs.Claims.{Meaning, Claim, Back, claim_token, claim_seq, claim_as, claim_left, claim_right, claim_part, claim_kinds, back_offset, back_seq, back_as, back_alt, back_part, back_nothing, back_lead, back_closed, back_many, back_listed, back_separated}
@@ -96,11 +99,11 @@ back_relation =
     (back_lead mark.Relation (back_seq back_ident (back_lead mark.OpenBracket (back_seq back_number (back_lead mark.CloseBracket
     (back_lead mark.Open (back_closed mark.Close (back_part (back_listed mark.Comma back_decl))))))))))
 
-back_transaction : (n : ℕ) → Back (Means rule n) rules.transaction transaction_without transaction_kinds
+back_transaction : (n : ℕ) (v : Version) → Back (Means rule n) (rules.transaction v) transaction_without transaction_kinds
 unfolding words
-back_transaction n =
+back_transaction n v =
     back_part (back_as _ transaction_without transaction_kinds (λ x. refl) (λ x. refl)
-    (back_lead mark.Transaction (back_seq back_ident (back_lead mark.Open (back_seq (back_closed mark.Close (back_part (back_separated mark.Comma back_decl))) (back_block n))))))
+    (back_lead mark.Transaction (back_seq back_ident (back_lead mark.Open (back_seq (back_closed mark.Close (back_part (back_separated mark.Comma back_decl))) (back_block n v))))))
 
 back_invocation : {M : Meaning} → Back M rules.invocation call_without call_kinds
 unfolding words
@@ -121,12 +124,28 @@ back_schedule =
     (back_as _ schedule_without schedule_kinds (λ x. refl) (λ x. refl) (back_lead mark.Schedule (back_many back_ident)))
     (back_nothing None schedule_without schedule_kinds refl))
 
-back_head : {M : Meaning} → Back M rules.head number_without (λ n. kind.Fixed mark.Workload ∷ kind.Number (pos 1) ∷ kind.Fixed mark.Sites ∷ number_of n)
-back_head = back_part (back_lead mark.Workload (back_lead_number 1 (back_lead mark.Sites back_number)))
+-- what is printed may be told by what is spelled
+back_kinds : {M : Meaning} {A : Type 0} {g : Rule A} {w : A → A} {p : A → Kinds} → (q : A → Kinds) → ((a : A) (ts : List Token) → Spells M g a ts → p a ≡ q a) → Back M g w p → Back M g w q
+back_kinds q same x = record { of = λ a ts s f. claim_kinds (same a ts s) (x.of a ts s f) }
+
+some_weights : (M : Meaning) (ns : List Number) (ts : List Token) → Spells M (rules.lead mark.Weights (rules.listed mark.Comma rules.number)) ns ts →
+    kind.Fixed mark.Weights ∷ separated mark.Comma (map number_of ns) ≡ weights_kinds ns
+unfolding words
+some_weights M [] ts s = let e = s.2 ∙ s.1.4.2 in let no : ⊥ = cc in absurd no
+some_weights M (n ∷ ns) ts s = refl
+
+back_weights : {M : Meaning} → (v : Version) → Back M (rules.weights v) (map number_without) weights_kinds
+unfolding words
+back_weights {M} First = back_part (back_nothing [] (map number_without) weights_kinds refl)
+back_weights {M} Second = back_part (back_kinds weights_kinds (some_weights M) (back_lead mark.Weights (back_listed mark.Comma back_number)))
+
+back_head : {M : Meaning} → (v : Version) →
+    Back M (rules.head v) (λ p. (number_without p.0, map number_without p.1)) (λ p. kind.Fixed mark.Workload ∷ kind.Number (pos (version_number v)) ∷ kind.Fixed mark.Sites ∷ (number_of p.0 ++ weights_kinds p.1))
+back_head v = back_part (back_lead mark.Workload (back_lead_number (version_number v) (back_lead mark.Sites (back_seq back_number (back_weights v)))))
 
 -- Each workload is spelled again by what is printed for it.
-pub back_workload : (n : ℕ) (names : List (List ℕ)) → Back (Means rule n) (rules.workload names) without_offsets workload_kinds
+pub back_workload : (n : ℕ) (v : Version) (names : List (List ℕ)) → Back (Means rule n) (rules.workload v names) without_offsets workload_kinds
 unfolding words
-back_workload n names =
+back_workload n v names =
     back_as _ without_offsets workload_kinds (λ x. refl) (λ x. refl)
-    (back_seq back_head (back_seq (back_many back_object) (back_seq (back_many back_relation) (back_seq (back_many (back_transaction n)) (back_seq (back_many back_client) (back_seq back_schedule (back_offset mark.End)))))))
+    (back_seq (back_head v) (back_seq (back_many back_object) (back_seq (back_many back_relation) (back_seq (back_many (back_transaction n v)) (back_seq (back_many back_client) (back_seq back_schedule (back_offset mark.End)))))))

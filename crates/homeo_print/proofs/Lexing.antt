@@ -10,13 +10,15 @@ use Rattle.homeo_syntax.specs.declared.token.Mark.{Mark}
 use Rattle.homeo_syntax.specs.declared.token.Mark.TheVariants as mark
 use Rattle.homeo_syntax.specs.declared.token.Kind.{Kind}
 use Rattle.homeo_syntax.specs.declared.token.Kind.TheVariants as kind
-use Rattle.homeo_syntax.specs.Lexemes.{Name, Number, Fixed, is_letter, is_digit, is_word, value_after, number_value, look_up, reserved, double_symbols, single_symbols, longest, symbol_lexeme, word_as, word_lexeme, number_lexeme, lexeme_of}
+use Rattle.homeo_syntax.specs.declared.token.Version.{Version}
+use Rattle.homeo_syntax.specs.Versions.{is_later}
+use Rattle.homeo_syntax.specs.Lexemes.{Lexeme, Name, Number, Fixed, is_letter, is_digit, is_word, value_after, number_value, look_up, reserved, double_symbols, single_symbols, longest, symbol_lexeme, word_as, word_lexeme, number_lexeme, lexeme_of}
 use Rattle.homeo_syntax.specs.WellFormed.{IsName, BeginsWithLetter}
 use Rattle.homeo_syntax.specs.Marks.{mark_text}
 use Rattle.homeo_print.specs.declared.layout.Before.{Before}
 use Rattle.homeo_print.specs.declared.layout.Before.TheVariants as before
 use Rattle.homeo_print.specs.Key.{words}
-use Rattle.homeo_print.specs.Printed.{lexeme_in, CanStand}
+use Rattle.homeo_print.specs.Printed.{CanStand}
 use Rattle.homeo_print.specs.Layout.{token_text, mark_sort, sort_of, after}
 
 -- ---- bytes that would go on with what stands before
@@ -88,9 +90,9 @@ word_lexes x w rest letter all short h =
 within_32 : (n : ℕ) → n ≤ 32 → nat_lt 32 n ≡ false
 within_32 n h = grind (arith, nat_tests)
 
-name_lexes : (w rest : List ℕ) → IsName w → BeginsWithout in_word rest → lexeme_of (w ++ rest) ≡ Some (Name w, length w)
-name_lexes [] rest name h = absurd name.first
-name_lexes (x ∷ w) rest name h =
+name_lexes : (v : Version) (w rest : List ℕ) → IsName v w → BeginsWithout in_word rest → lexeme_of (w ++ rest) ≡ Some (Name w, length w)
+name_lexes v [] rest name h = absurd name.first
+name_lexes v (x ∷ w) rest name h =
     word_lexes x w rest name.first name.all (within_32 (length (x ∷ w)) name.short) (no_word rest h)
     ∙ ap (λ o. Some (word_as (x ∷ w) o, length (x ∷ w))) name.free
 
@@ -171,8 +173,20 @@ dot_lexes [] h = refl
 dot_lexes (y ∷ rest) h = ap (λ (b : Bool). longest (if (b && true) then Some mark.Dots else None) (Some mark.Dot)) h
 
 -- ---- marks
-pub mark_lexes : (b : Before) (m : Mark) (rest : List ℕ) → BeginsWithout (glues (after b (mark_sort m))) rest → lexeme_of (mark_text m ++ rest) ≡ Some (Fixed m, length (mark_text m))
+-- a mark, or the name that it is before the version is looked at
+abbrev pub raw_mark : Mark → Lexeme
+raw_mark m = if is_later m then Name (mark_text m) else Fixed m
+
+-- a word that no version reserves always
+later_lexes : (w rest : List ℕ) → BeginsWithLetter w → list_all is_word w ≡ true → nat_lt 32 (length w) ≡ false → look_up reserved w ≡ None → BeginsWithout in_word rest
+    → lexeme_of (w ++ rest) ≡ Some (Name w, length w)
+later_lexes [] rest letter all short free h = absurd letter
+later_lexes (x ∷ w) rest letter all short free h = word_lexes x w rest letter all short (no_word rest h) ∙ ap (λ o. Some (word_as (x ∷ w) o, length (x ∷ w))) free
+
+pub mark_lexes : (b : Before) (m : Mark) (rest : List ℕ) → BeginsWithout (glues (after b (mark_sort m))) rest → lexeme_of (mark_text m ++ rest) ≡ Some (raw_mark m, length (mark_text m))
 unfolding words
+mark_lexes b mark.Weights rest h = later_lexes (mark_text mark.Weights) rest refl refl refl refl h
+mark_lexes b mark.Abort rest h = later_lexes (mark_text mark.Abort) rest refl refl refl refl h
 mark_lexes b mark.Assign rest h = refl
 mark_lexes b mark.Dots rest h = refl
 mark_lexes b mark.LessEqual rest h = refl
@@ -193,11 +207,17 @@ mark_lexes b mark.Semicolon rest h = lone 59 mark.Semicolon rest refl (λ y. ref
 mark_lexes b m rest h = reserved_lexes (mark_text m) rest m refl refl refl refl h
 
 -- ---- tokens
-pub token_lexes : (names : List (List ℕ)) (b : Before) (k : Kind) (rest : List ℕ) → CanStand names k → BeginsWithout (glues (after b (sort_of k))) rest
-    → lexeme_of (token_text names k ++ rest) ≡ Some (lexeme_in names k, length (token_text names k))
+-- a token as a lexeme before the version is looked at
+abbrev pub raw_in : List (List ℕ) → Kind → Lexeme
+raw_in names (kind.Name n) = Name (get_or names n [])
+raw_in names (kind.Number n) = Number n
+raw_in names (kind.Fixed m) = raw_mark m
+
+pub token_lexes : (v : Version) (names : List (List ℕ)) (b : Before) (k : Kind) (rest : List ℕ) → CanStand v names k → BeginsWithout (glues (after b (sort_of k))) rest
+    → lexeme_of (token_text names k ++ rest) ≡ Some (raw_in names k, length (token_text names k))
 unfolding words
-token_lexes names b (kind.Name n) rest can h = name_lexes (get_or names n []) rest can.1 h
-token_lexes names b (kind.Number n) rest can h =
+token_lexes v names b (kind.Name n) rest can h = name_lexes v (get_or names n []) rest can.1 h
+token_lexes v names b (kind.Number n) rest can h =
     ap (λ (z : ℤ). lexeme_of (decimal (unsigned_abs z) ++ rest)) can.value ∙ number_lexes can.size rest can.short h
     ∙ ap (λ (z : ℤ). Some (Number z, length (decimal (unsigned_abs z)))) (sym can.value)
-token_lexes names b (kind.Fixed m) rest can h = mark_lexes b m rest h
+token_lexes v names b (kind.Fixed m) rest can h = mark_lexes b m rest h

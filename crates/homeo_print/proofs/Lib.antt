@@ -9,6 +9,7 @@ pub mod DeclarationsBack
 pub mod Deeper
 pub mod ExpressionsBack
 pub mod FormulaSteps
+mod LaterMarks
 pub mod Laying
 pub mod Lexing
 pub mod Listed

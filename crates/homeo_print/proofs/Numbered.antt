@@ -5,6 +5,8 @@ use Rattle.homeo_syntax.specs.declared.token.Mark.{Mark}
 use Rattle.homeo_syntax.specs.declared.token.Kind.{Kind}
 use Rattle.homeo_syntax.specs.declared.token.Kind.TheVariants as kind
 use Rattle.homeo_syntax.specs.declared.token.Token.{Token}
+use Rattle.homeo_syntax.specs.declared.token.Version.{Version}
+use Rattle.homeo_syntax.specs.Versions.{CanMark}
 use Rattle.homeo_syntax.specs.Lexemes.{Lexeme, Name, Number, Fixed}
 use Rattle.homeo_syntax.specs.Tokens.{Scanned, with_lexeme, names_after, names_of, kind_in, tokens_in}
 use Rattle.homeo_syntax.specs.Rules.{is_natural_value}
@@ -21,37 +23,37 @@ lexeme_again names (Number n) h = refl
 lexeme_again names (Fixed m) h = refl
 
 -- a token whose lexeme has it as its kind, and that can stand in a text
-pub record Stands (names : List (List ℕ)) (k : Kind) : Type 0 where
+pub record Stands (v : Version) (names : List (List ℕ)) (k : Kind) : Type 0 where
   pub again : kind_in names (lexeme_in names k) ≡ k
-  pub can : CanStand names k
+  pub can : CanStand v names k
 
-lexeme_stands : (names : List (List ℕ)) (l : Lexeme) → InAll names l → IsSpelled l → CanStand names (kind_in names l)
-lexeme_stands names (Name w) h k = (place_below w names h, subst IsName (sym (at_place w names h)) k)
-lexeme_stands names (Number n) h k = k
-lexeme_stands names (Fixed m) h k = tt
+lexeme_stands : (v : Version) (names : List (List ℕ)) (l : Lexeme) → InAll names l → IsSpelled v l → CanStand v names (kind_in names l)
+lexeme_stands v names (Name w) h k = (place_below w names h, subst (IsName v) (sym (at_place w names h)) k)
+lexeme_stands v names (Number n) h k = k
+lexeme_stands v names (Fixed m) h k = k
 
-pub mark_stands : (names : List (List ℕ)) (m : Mark) → Stands names (kind.Fixed m)
-mark_stands names m = record { again = refl; can = tt }
+pub mark_stands : (v : Version) (names : List (List ℕ)) (m : Mark) → CanMark v m → Stands v names (kind.Fixed m)
+mark_stands v names m can = record { again = refl; can = can }
 
-each_stands : (names : List (List ℕ)) (ts : List Scanned) → AllIn names ts → AllSpelled ts → Each (Stands names) (kinds_of (tokens_in names ts))
+each_stands : (v : Version) (names : List (List ℕ)) (ts : List Scanned) → AllIn names ts → AllSpelled v ts → Each (Stands v names) (kinds_of (tokens_in names ts))
 unfolding syntax_words
-each_stands names [] h k = tt
-each_stands names (t ∷ ts) h k =
-    (record { again = ap (kind_in names) (lexeme_again names t.lexeme h.0); can = lexeme_stands names t.lexeme h.0 k.0 }, each_stands names ts h.1 k.1)
+each_stands v names [] h k = tt
+each_stands v names (t ∷ ts) h k =
+    (record { again = ap (kind_in names) (lexeme_again names t.lexeme h.0); can = lexeme_stands v names t.lexeme h.0 k.0 }, each_stands v names ts h.1 k.1)
 
 -- the tokens of a text
-pub text_stands : (ts : List Scanned) → AllSpelled ts → Each (Stands (names_of ts)) (kinds_of (tokens_in (names_of ts) ts))
-text_stands ts k = each_stands (names_of ts) ts (all_among ts []) k
+pub text_stands : (v : Version) (ts : List Scanned) → AllSpelled v ts → Each (Stands v (names_of ts)) (kinds_of (tokens_in (names_of ts) ts))
+text_stands v ts k = each_stands v (names_of ts) ts (all_among ts []) k
 
-natural : (names : List (List ℕ)) (k : Kind) → CanStand names k → Natural k
-natural names (kind.Name n) h = tt
-natural names (kind.Number n) h = ap is_natural_value h.value
-natural names (kind.Fixed m) h = tt
+natural : (v : Version) (names : List (List ℕ)) (k : Kind) → CanStand v names k → Natural k
+natural v names (kind.Name n) h = tt
+natural v names (kind.Number n) h = ap is_natural_value h.value
+natural v names (kind.Fixed m) h = tt
 
-pub each_natural : (names : List (List ℕ)) (ts : List Token) → Each (Stands names) (kinds_of ts) → Fine ts
+pub each_natural : (v : Version) (names : List (List ℕ)) (ts : List Token) → Each (Stands v names) (kinds_of ts) → Fine ts
 unfolding syntax_words
-each_natural names [] h = tt
-each_natural names (t ∷ ts) h = (natural names t.kind h.0.can, each_natural names ts h.1)
+each_natural v names [] h = tt
+each_natural v names (t ∷ ts) h = (natural v names t.kind h.0.can, each_natural v names ts h.1)
 
 -- ---- a fact of each name and number, and so of each token
 atom_each : (P : Kind → Type 0) (k : Kind) (ks : List Kind) → P k → Each P ks → Each P (with_atom k ks)
@@ -65,28 +67,28 @@ unfolding syntax_words
 each_atom P [] h = tt
 each_atom P (k ∷ ks) h = atom_each P k (atoms ks) h.0 (each_atom P ks h.1)
 
-atom_parts : (P : Kind → Type 0) (k : Kind) (ks : List Kind) → ((m : Mark) → P (kind.Fixed m)) → Each P (with_atom k ks) → P k × Each P ks
+atom_parts : (P Q : Kind → Type 0) (k : Kind) (ks : List Kind) → ((m : Mark) → Q (kind.Fixed m) → P (kind.Fixed m)) → Q k → Each P (with_atom k ks) → P k × Each P ks
 unfolding syntax_words
-atom_parts P (kind.Name n) ks m h = (h.0, h.1)
-atom_parts P (kind.Number n) ks m h = (h.0, h.1)
-atom_parts P (kind.Fixed f) ks m h = (m f, h)
+atom_parts P Q (kind.Name n) ks m q h = (h.0, h.1)
+atom_parts P Q (kind.Number n) ks m q h = (h.0, h.1)
+atom_parts P Q (kind.Fixed f) ks m q h = (m f q, h)
 
-pub each_of_atoms : (P : Kind → Type 0) (ks : List Kind) → ((m : Mark) → P (kind.Fixed m)) → Each P (atoms ks) → Each P ks
+pub each_of_atoms : (P Q : Kind → Type 0) (ks : List Kind) → ((m : Mark) → Q (kind.Fixed m) → P (kind.Fixed m)) → Each Q ks → Each P (atoms ks) → Each P ks
 unfolding syntax_words
-each_of_atoms P [] m h = tt
-each_of_atoms P (k ∷ ks) m h =
-    let r = atom_parts P k (atoms ks) m h in
-    (r.0, each_of_atoms P ks m r.1)
+each_of_atoms P Q [] m q h = tt
+each_of_atoms P Q (k ∷ ks) m q h =
+    let r = atom_parts P Q k (atoms ks) m q.0 h in
+    (r.0, each_of_atoms P Q ks m q.1 r.1)
 
-pub each_can : (names : List (List ℕ)) (ks : List Kind) → Each (Stands names) ks → Each (CanStand names) ks
+pub each_can : (v : Version) (names : List (List ℕ)) (ks : List Kind) → Each (Stands v names) ks → Each (CanStand v names) ks
 unfolding syntax_words
-each_can names [] h = tt
-each_can names (k ∷ ks) h = (h.0.can, each_can names ks h.1)
+each_can v names [] h = tt
+each_can v names (k ∷ ks) h = (h.0.can, each_can v names ks h.1)
 
-pub kinds_again : (names : List (List ℕ)) (ks : List Kind) → Each (Stands names) ks → map (kind_in names) (map (lexeme_in names) ks) ≡ ks
+pub kinds_again : (v : Version) (names : List (List ℕ)) (ks : List Kind) → Each (Stands v names) ks → map (kind_in names) (map (lexeme_in names) ks) ≡ ks
 unfolding syntax_words
-kinds_again names [] h = refl
-kinds_again names (k ∷ ks) h = ap (λ (x : Kind). x ∷ map (kind_in names) (map (lexeme_in names) ks)) h.0.again ∙ ap (λ (x : List Kind). k ∷ x) (kinds_again names ks h.1)
+kinds_again v names [] h = refl
+kinds_again v names (k ∷ ks) h = ap (λ (x : Kind). x ∷ map (kind_in names) (map (lexeme_in names) ks)) h.0.again ∙ ap (λ (x : List Kind). k ∷ x) (kinds_again v names ks h.1)
 
 abbrev pub lexemes_of : List Scanned → List Lexeme
 lexemes_of ts = map (λ (t : Scanned). t.lexeme) ts

@@ -4,6 +4,8 @@ use Rattle.std.specs.List.{flat_map}
 use Rattle.homeo_syntax.specs.Key.{words as syntax_words}
 use Rattle.homeo_syntax.specs.declared.token.Mark.TheVariants as mark
 use Rattle.homeo_syntax.specs.declared.token.Kind.TheVariants as kind
+use Rattle.homeo_syntax.specs.declared.token.Version.{Version}
+use Rattle.homeo_syntax.specs.declared.token.Version.TheVariants.{First, Second}
 use Rattle.homeo_syntax.specs.declared.phrase.Ident.{Ident}
 use Rattle.homeo_syntax.specs.Source as s
 use Rattle.homeo_syntax.specs.SourceView.{commands}
@@ -45,9 +47,9 @@ unfolding words
 field_value_step expr = back_part (back_as _ field_without setting_kinds (λ x. refl) (λ x. refl) (back_seq back_ident (back_lead mark.Equal expr)))
 
 -- ---- commands
-block_step : {M : Meaning} → Back M (call Command) command_without command_kinds → Back M rules.block commands_without (λ cs. braced (commands_kinds cs))
+block_step : {M : Meaning} → (v : Version) → Back M (call (Command v)) command_without command_kinds → Back M (rules.block v) commands_without (λ cs. braced (commands_kinds cs))
 unfolding words syntax_words
-block_step command =
+block_step v command =
     back_part (back_lead mark.OpenBrace (back_closed mark.CloseBrace
     (back_alt
     (back_as (λ p. commands (p.0 ∷ p.1)) commands_without commands_kinds (λ p. commands_same (p.0 ∷ p.1)) (λ p. ap (λ (x : Kinds). command_kinds p.0 ++ x) (commands_are p.1))
@@ -62,24 +64,29 @@ insert_kinds relation into fields =
     ap (λ (x : Kinds). name_of relation ++ kind.Fixed mark.Open ∷ x)
     (sym (append_assoc (separated mark.Comma (map setting_kinds fields)) (kind.Fixed mark.Close ∷ []) (kind.Fixed mark.Into ∷ name_of into)))
 
-command_step : {M : Meaning} → Back M rules.expr expr_without (expr_at Alone) → Back M rules.cond cond_without cond_kinds → Back M (call Command) command_without command_kinds → Back M rules.command command_without command_kinds
+common_step : {M : Meaning} → (v : Version) → Back M rules.expr expr_without (expr_at Alone) → Back M rules.cond cond_without cond_kinds → Back M (call (Command v)) command_without command_kinds → Back M (rules.common_command v) command_without command_kinds
 unfolding words syntax_words
-command_step expr cond command =
+common_step v expr cond command =
     back_alt (back_as (λ p. s.Skip) command_without command_kinds (λ x. refl) (λ x. refl) (back_fixed mark.Skip))
-    (back_alt (back_as s.Block command_without command_kinds (λ x. refl) (λ x. refl) (block_step command))
+    (back_alt (back_as s.Block command_without command_kinds (λ x. refl) (λ x. refl) (block_step v command))
     (back_alt (back_named (setting_step expr))
     (back_alt (back_as (λ p. s.Write p.0 p.1) command_without command_kinds (λ x. refl) (λ x. refl) (back_lead mark.Write (back_lead mark.Open (back_seq back_ident (back_lead mark.Equal (back_closed mark.Close expr))))))
     (back_alt (back_as s.Print command_without command_kinds (λ x. refl) (λ x. refl) (back_lead mark.Print (back_lead mark.Open (back_closed mark.Close expr))))
     (back_alt (back_as (λ p. s.If p.0 p.1.0 p.1.1) command_without command_kinds (λ x. refl) (λ x. refl) (back_lead mark.If (back_seq cond (back_lead mark.Then (back_seq command (back_lead mark.Else command))))))
-    (back_alt (back_as (λ p. s.Foreach p.0.0 p.0.1.0 p.0.1.1 p.1) command_without command_kinds (λ x. refl) (λ x. refl) (back_lead mark.Foreach (back_seq (back_visit cond) (block_step command))))
+    (back_alt (back_as (λ p. s.Foreach p.0.0 p.0.1.0 p.0.1.1 p.1) command_without command_kinds (λ x. refl) (λ x. refl) (back_lead mark.Foreach (back_seq (back_visit cond) (block_step v command))))
     (back_alt (back_as (λ p. s.Insert p.0 p.1.0 p.1.1) command_without command_kinds (λ x. refl) (λ x. ap (λ (k : Kinds). kind.Fixed mark.Insert ∷ k) (insert_kinds x.0 x.1.1 x.1.0))
     (back_lead mark.Insert (back_seq back_ident (back_lead mark.Open (back_seq (back_part (back_listed mark.Comma (field_value_step expr))) (back_lead mark.Close (back_lead mark.Into back_ident)))))))
     (back_alt (back_as (λ p. s.Delete p.0 p.1.0 p.1.1) command_without command_kinds (λ x. refl) (λ x. refl) (back_lead mark.Delete (back_visit cond)))
     (back_as (λ p. s.Update p.0.0 p.0.1.0 p.0.1.1 p.1.field p.1.value) command_without command_kinds (λ x. refl) (λ x. refl) (back_lead mark.Update (back_seq (back_visit cond) (back_lead mark.Set (field_value_step expr)))))))))))))
 
-pub back_command : (n : ℕ) → Back (Means rule n) (call Command) command_without command_kinds
-back_command zero = never Command command_without command_kinds
-back_command (suc n) = back_called n Command (command_step (back_expr n) (back_cond n) (back_command n))
+command_step : {M : Meaning} → (v : Version) → Back M rules.expr expr_without (expr_at Alone) → Back M rules.cond cond_without cond_kinds → Back M (call (Command v)) command_without command_kinds → Back M (rules.command v) command_without command_kinds
+unfolding words
+command_step First expr cond command = common_step First expr cond command
+command_step Second expr cond command = back_alt (back_as (λ p. s.Abort) command_without command_kinds (λ x. refl) (λ x. refl) (back_fixed mark.Abort)) (common_step Second expr cond command)
 
-pub back_block : (n : ℕ) → Back (Means rule n) rules.block commands_without (λ cs. braced (commands_kinds cs))
-back_block n = block_step (back_command n)
+pub back_command : (n : ℕ) (v : Version) → Back (Means rule n) (call (Command v)) command_without command_kinds
+back_command zero v = never (Command v) command_without command_kinds
+back_command (suc n) v = back_called n (Command v) (command_step v (back_expr n) (back_cond n) (back_command n v))
+
+pub back_block : (n : ℕ) (v : Version) → Back (Means rule n) (rules.block v) commands_without (λ cs. braced (commands_kinds cs))
+back_block n v = block_step v (back_command n v)

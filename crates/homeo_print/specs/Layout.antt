@@ -29,6 +29,7 @@ mark_sort mark.Transaction = sort.Line
 mark_sort mark.Client = sort.Line
 mark_sort mark.Schedule = sort.Line
 mark_sort mark.End = sort.Line
+mark_sort mark.Weights = sort.Line
 mark_sort mark.Read = sort.Call
 mark_sort mark.Write = sort.Call
 mark_sort mark.Print = sort.Call

@@ -63,6 +63,7 @@ abbrev mutual
   command_without (s.Insert relation fields into) = s.Insert (ident_without relation) (map field_without fields) (ident_without into)
   command_without (s.Delete row relation test) = s.Delete (ident_without row) (ident_without relation) (cond_without test)
   command_without (s.Update row relation test field e) = s.Update (ident_without row) (ident_without relation) (cond_without test) (ident_without field) (expr_without e)
+  command_without s.Abort = s.Abort
 
   pub commands_without : s.Commands → s.Commands
   commands_without s.NoCommand = s.NoCommand
@@ -110,6 +111,7 @@ without_offsets w = record {
   clients = map client_without w.clients;
   schedule = schedule_without w.schedule;
   end = 0;
+  weights = map number_without w.weights;
 }
 
 -- The workloads differ in offsets at most.

@@ -1,11 +1,13 @@
 -- What a printed text is read as.
 use Rattle.std.specs.Prelude.{◌≡◌, ◌<◌, ℕ, List, [], map, length, get_or, Ok}
+use Rattle.homeo_syntax.specs.declared.token.Version.{Version}
 use Rattle.homeo_syntax.specs.declared.token.Kind.{Kind}
 use Rattle.homeo_syntax.specs.declared.token.Kind.TheVariants as kind
 use Rattle.homeo_syntax.specs.Source as s
 use Rattle.homeo_syntax.specs.Lexemes.{Lexeme, Name, Number, Fixed}
 use Rattle.homeo_syntax.specs.Tokens.{Scanned, IsClean, scanned_of}
 use Rattle.homeo_syntax.specs.WellFormed.{IsName, IsShort, Each}
+use Rattle.homeo_syntax.specs.Versions.{version_number, CanMark}
 use Rattle.homeo_print.specs.Key.{words}
 use Rattle.homeo_print.specs.TokensOf.{workload_kinds}
 
@@ -22,12 +24,13 @@ pub record ScansAs (names : List (List ℕ)) (ks : List Kind) (text : List ℕ) 
   pub lexemes : scanned_of text ≡ Ok scanned
   pub same : map (λ t. t.lexeme) scanned ≡ map (lexeme_in names) ks
 
--- a name among the names, that a text can have, and a number that a text can have
-abbrev pub CanStand : List (List ℕ) → Kind → Type 0
-CanStand names (kind.Name n) = (n < length names) × IsName (get_or names n [])
-CanStand names (kind.Number n) = IsShort n
-CanStand names (kind.Fixed m) = Unit {0}
+-- a name among the names, that a text in the version can have, a number that a text can have, and a mark of the version
+abbrev pub CanStand : Version → List (List ℕ) → Kind → Type 0
+CanStand v names (kind.Name n) = (n < length names) × IsName v (get_or names n [])
+CanStand v names (kind.Number n) = IsShort n
+CanStand v names (kind.Fixed m) = CanMark v m
 
-abbrev pub IsPrintable : s.Workload → Type 0
-unfolding words
-IsPrintable w = Each (CanStand w.names) (workload_kinds w)
+pub record IsPrintable (w : s.Workload) : Type 0 where
+  pub form : Version
+  pub version : w.version ≡ version_number form
+  pub stands : Each (CanStand form w.names) (workload_kinds w)

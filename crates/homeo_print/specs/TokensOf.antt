@@ -158,6 +158,7 @@ abbrev mutual
   command_kinds (s.Delete row relation test) = kind.Fixed mark.Delete ∷ rows_kinds row relation test
   command_kinds (s.Update row relation test field e) =
       kind.Fixed mark.Update ∷ (rows_kinds row relation test ++ kind.Fixed mark.Set ∷ (name_of field ++ kind.Fixed mark.Equal ∷ expr_kinds e))
+  command_kinds s.Abort = mark_of mark.Abort
 
   pub commands_kinds : s.Commands → Kinds
   commands_kinds s.NoCommand = []
@@ -205,15 +206,22 @@ unfolding words
 schedule_kinds None = []
 schedule_kinds (Some xs) = kind.Fixed mark.Schedule ∷ flat_map name_of xs
 
-abbrev pub head_kinds : ℕ → Number → Kinds
+-- the weights, where there are some
+abbrev pub weights_kinds : List Number → Kinds
 unfolding words
-head_kinds version sites = kind.Fixed mark.Workload ∷ kind.Number (pos version) ∷ kind.Fixed mark.Sites ∷ number_of sites
+weights_kinds [] = []
+weights_kinds (n ∷ ns) = kind.Fixed mark.Weights ∷ separated mark.Comma (map number_of (n ∷ ns))
+
+abbrev pub head_kinds : ℕ → Number → List Number → Kinds
+unfolding words
+head_kinds version sites weights =
+    kind.Fixed mark.Workload ∷ kind.Number (pos version) ∷ kind.Fixed mark.Sites ∷ (number_of sites ++ weights_kinds weights)
 
 -- the tokens of a workload, in order
 abbrev pub workload_kinds : s.Workload → Kinds
 unfolding words
 workload_kinds w =
-    head_kinds w.version w.sites
+    head_kinds w.version w.sites w.weights
     ++ (flat_map object_kinds w.objects
     ++ (flat_map relation_kinds w.relations
     ++ (flat_map transaction_kinds w.transactions

@@ -165,6 +165,10 @@ fn push_command(out: &mut Pieces, c: &Command) -> Result<(), Memory>
             push_expr(out, value, Position::Alone)?;
             Ok(())
         }
+        Command::Abort => {
+            out.mark(Mark::Abort)?;
+            Ok(())
+        }
     }
 }
 

@@ -5,7 +5,7 @@ ghost use Rattle.std.specs.Prelude.{◌≡◌, ◌++◌, map, IfOk, OnOk};
 ghost use Rattle.std.specs.List.{flat_map};
 ghost use Rattle.homeo_syntax.specs.SourceView.{plain_relation, plain_transaction, plain_call, plain_client, plain_schedule, plain_workload};
 ghost use Rattle.homeo_syntax.specs.declared.token.Mark.TheVariants.{Comma, Semicolon};
-ghost use Rattle.homeo_print.specs.TokensOf.{name_of, number_of, separated, range_kinds, decl_kinds, object_kinds, relation_kinds, transaction_kinds, call_kinds, client_kinds, schedule_kinds, head_kinds, workload_kinds};
+ghost use Rattle.homeo_print.specs.TokensOf.{name_of, number_of, separated, range_kinds, decl_kinds, object_kinds, relation_kinds, transaction_kinds, call_kinds, client_kinds, schedule_kinds, weights_kinds, head_kinds, workload_kinds};
 
 use crate::commands::push_commands;
 use crate::pieces::Pieces;
@@ -219,14 +219,27 @@ fn push_schedule(out: &mut Pieces, schedule: &Option<List<Ident>>) -> Result<(),
     }
 }
 
-/// Puts the version and the number of sites behind the tokens.
-fn push_head(out: &mut Pieces, version: u8, sites: Number) -> Result<(), Memory>
-    ensures pushed { OnOk result (out.new ≡ out.old ++ head_kinds version sites) }
+/// Puts the weights behind the tokens, where there are some.
+fn push_weights(out: &mut Pieces, weights: &[Number]) -> Result<(), Memory>
+    ensures pushed { OnOk result (out.new ≡ out.old ++ weights_kinds weights.now) }
+{
+    if weights.is_empty() {
+        return Ok(());
+    }
+    out.mark(Mark::Weights)?;
+    push_numbers(out, weights)?;
+    Ok(())
+}
+
+/// Puts the version, the number of sites and their weights behind the tokens.
+fn push_head(out: &mut Pieces, version: u8, sites: Number, weights: &[Number]) -> Result<(), Memory>
+    ensures pushed { OnOk result (out.new ≡ out.old ++ head_kinds version sites weights.now) }
 {
     out.mark(Mark::Workload)?;
     out.value(version as i64)?;
     out.mark(Mark::Sites)?;
     push_number(out, sites)?;
+    push_weights(out, weights)?;
     Ok(())
 }
 
@@ -235,7 +248,7 @@ pub fn pieces_of(alloc: Global, w: &Workload) -> Result<Pieces, Memory>
     ensures tokens { IfOk result (λ pieces. pieces ≡ workload_kinds (plain_workload w.now)) }
 {
     let mut out = Pieces::new(alloc);
-    push_head(&mut out, w.version, w.sites)?;
+    push_head(&mut out, w.version, w.sites, w.weights.as_slice())?;
     push_objects(&mut out, w.objects.as_slice())?;
     push_relations(&mut out, w.relations.as_slice())?;
     push_transactions(&mut out, w.transactions.as_slice())?;

@@ -59,7 +59,8 @@ fn mark_sort(mark: Mark) -> Sort
         | Mark::Transaction
         | Mark::Client
         | Mark::Schedule
-        | Mark::End => Sort::Line,
+        | Mark::End
+        | Mark::Weights => Sort::Line,
         Mark::Read | Mark::Write | Mark::Print | Mark::Count | Mark::Sum => Sort::Call,
         Mark::Minus => Sort::Minus,
         Mark::Open | Mark::OpenBracket => Sort::Opening,
@@ -93,7 +94,8 @@ fn mark_sort(mark: Mark) -> Sort
         | Mark::Used
         | Mark::And
         | Mark::Not
-        | Mark::True => Sort::Word,
+        | Mark::True
+        | Mark::Abort => Sort::Word,
     }
 }
 

@@ -6,6 +6,8 @@ use Rattle.homeo_syntax.specs.declared.token.Mark.TheVariants as mark
 use Rattle.homeo_syntax.specs.declared.token.Kind.{Kind}
 use Rattle.homeo_syntax.specs.declared.token.Kind.TheVariants as kind
 use Rattle.homeo_syntax.specs.declared.token.Token.{Token}
+use Rattle.homeo_syntax.specs.declared.token.Version.{Version}
+use Rattle.homeo_syntax.specs.declared.token.Version.TheVariants.{First, Second}
 use Rattle.homeo_syntax.specs.declared.phrase.Ident.{Ident}
 use Rattle.homeo_syntax.specs.declared.phrase.Number.{Number}
 use Rattle.homeo_syntax.specs.declared.workload.ObjectDecl.{ObjectDecl}
@@ -16,7 +18,7 @@ use Rattle.homeo_syntax.specs.Rules.{Command, Rule, Deep, Tree, rule, lead, clos
 use Rattle.homeo_reader.specs.inner.Engine.{Calls, Reading, ◌>>=◌, read, calls_at, empty, exists, begins, first_is}
 use Rattle.homeo_reader.specs.inner.Reading.{mark_read, if_marked, on_marked, opt_of, opt_read}
 use Rattle.homeo_reader.specs.inner.Commands.{block_read}
-use Rattle.homeo_reader.specs.inner.Declarations.{top, signed_read, signed_by, signed_do, range_read, range_do, object_rest, next_object_read, next_object_do, objects_read, after_first, decl_read, decl_do, first_decl_read, first_decl_by, first_decl_do, next_decl_read, next_decl_do, other_decls_read, fields_read, fields_do, relation_rest, next_relation_read, next_relation_do, relations_read, parameters_read, parameters_do, transaction_rest, next_transaction_read, next_transaction_do, transactions_read, first_argument_read, first_argument_by, first_argument_do, next_argument_read, next_argument_do, other_arguments_read, arguments_read, arguments_do, invocation_read, invocation_do, first_invocation_read, first_invocation_by, first_invocation_do, next_invocation_read, next_invocation_do, other_invocations_read, invocations_read, invocations_do, calls_read, calls_do, client_rest, next_client_read, next_client_do, clients_read, next_name_read, next_name_by, next_name_do, names_read, schedule_read, schedule_do, head_read, head_do, workload_read, workload_do}
+use Rattle.homeo_reader.specs.inner.Declarations.{top, signed_read, signed_by, signed_do, range_read, range_do, object_rest, next_object_read, next_object_do, objects_read, after_first, decl_read, decl_do, first_decl_read, first_decl_by, first_decl_do, next_decl_read, next_decl_do, other_decls_read, fields_read, fields_do, relation_rest, next_relation_read, next_relation_do, relations_read, parameters_read, parameters_do, transaction_rest, next_transaction_read, next_transaction_do, transactions_read, first_argument_read, first_argument_by, first_argument_do, next_argument_read, next_argument_do, other_arguments_read, arguments_read, arguments_do, invocation_read, invocation_do, first_invocation_read, first_invocation_by, first_invocation_do, next_invocation_read, next_invocation_do, other_invocations_read, invocations_read, invocations_do, calls_read, calls_do, client_rest, next_client_read, next_client_do, clients_read, next_name_read, next_name_by, next_name_do, names_read, schedule_read, schedule_do, next_weight_read, next_weight_do, other_weights_read, weights_read, weights_do, head_read, head_do, workload_read, workload_do}
 use Rattle.homeo_reader.proofs.Flat.{read_then, reads, reads_part, flat, bind_assoc}
 use Rattle.homeo_reader.proofs.Lists.{opt_lead, opt_as, mapped}
 use Rattle.homeo_reader.proofs.CommandSteps.{begins_same}
@@ -63,8 +65,8 @@ object_body = seq ident (lead mark.In (seq range (lead mark.Equal signed)))
 abbrev object_of : Ident × ((Number × Number) × Number) → ObjectDecl
 object_of p = record { name = p.0; lo = p.1.0.0; hi = p.1.0.1; start = p.1.1 }
 
-abbrev transaction_body : Rule (Ident × (List RangeDecl × s.Commands))
-transaction_body = seq ident (lead mark.Open (seq (closed parameters mark.Close) block))
+abbrev transaction_body : Version → Rule (Ident × (List RangeDecl × s.Commands))
+transaction_body v = seq ident (lead mark.Open (seq (closed parameters mark.Close) (block v)))
 
 abbrev transaction_of : Ident × (List RangeDecl × s.Commands) → s.Transaction
 transaction_of p = record { name = p.0; params = p.1.0; body = p.1.1 }
@@ -141,11 +143,11 @@ pub parameters_reads : (ts : List Token) → parameters_read ts ≡ parameters_d
 unfolding parameters_read parameters_do first_decl_read other_decls_read
 parameters_reads ts = separated_reads mark.Comma _ refl ts
 
-pub next_transaction_reads : (ts : List Token) → next_transaction_read ts ≡ next_transaction_do ts
+pub next_transaction_reads : (v : Version) (ts : List Token) → next_transaction_read v ts ≡ next_transaction_do v ts
 unfolding next_transaction_read next_transaction_do transaction_rest parameters_read block_read read_then
-next_transaction_reads ts =
-    lead_rest top transaction_of mark.Transaction transaction_body transaction_rest (some_block ((calls_at rule limit).exists Command))
-    (λ r. flat top transaction_body r (λ x. Ok (transaction_of x.0, x.1))) ts
+next_transaction_reads v ts =
+    lead_rest top transaction_of mark.Transaction (transaction_body v) (transaction_rest v) (some_block ((calls_at rule limit).exists (Command v)))
+    (λ r. flat top (transaction_body v) r (λ x. Ok (transaction_of x.0, x.1))) ts
 
 pub next_client_reads : (ts : List Token) → next_client_read ts ≡ next_client_do ts
 unfolding next_client_read next_client_do client_rest calls_read read_then
@@ -216,13 +218,23 @@ pub schedule_reads : (ts : List Token) → schedule_read ts ≡ schedule_do ts
 unfolding schedule_read schedule_do names_read read
 schedule_reads ts = opt_lead top mark.Schedule (many ident) refl ts
 
-pub head_reads : (ts : List Token) → head_read ts ≡ head_do ts
-unfolding head_read head_do read_then
-head_reads ts = reads_part top _ ts
+pub next_weight_reads : (ts : List Token) → next_weight_read ts ≡ next_weight_do ts
+unfolding next_weight_read next_weight_do read
+next_weight_reads ts = opt_lead top mark.Comma number refl ts
 
-pub workload_reads : (names : List (List ℕ)) (ts : List Token) → workload_read names ts ≡ workload_do names ts
+pub weights_reads : (v : Version) (ts : List Token) → weights_read v ts ≡ weights_do v ts
+unfolding weights_read weights_do other_weights_read read_then
+weights_reads First ts = reads_part top _ ts
+weights_reads Second ts = reads_part top _ ts
+
+pub head_reads : (v : Version) (ts : List Token) → head_read v ts ≡ head_do v ts
+unfolding head_read head_do weights_read read_then
+head_reads First ts = reads_part top _ ts
+head_reads Second ts = reads_part top _ ts
+
+pub workload_reads : (v : Version) (names : List (List ℕ)) (ts : List Token) → workload_read v names ts ≡ workload_do v names ts
 unfolding workload_read workload_do head_read objects_read relations_read transactions_read clients_read schedule_read read_then
-workload_reads names ts = reads top (workload names) ts
+workload_reads v names ts = reads top (workload v names) ts
 
 abbrev pub semi_invocation : Rule s.Call
 semi_invocation = lead mark.Semicolon invocation
@@ -232,3 +244,6 @@ comma_decl = lead mark.Comma decl
 
 abbrev pub comma_argument : Rule Number
 comma_argument = lead mark.Comma signed
+
+abbrev pub comma_weight : Rule Number
+comma_weight = lead mark.Comma number

@@ -9,6 +9,9 @@ use Rattle.homeo_syntax.specs.declared.token.Mark.TheVariants as mark
 use Rattle.homeo_syntax.specs.declared.token.Kind.{Kind}
 use Rattle.homeo_syntax.specs.declared.token.Kind.TheVariants as kind
 use Rattle.homeo_syntax.specs.declared.token.Token.{Token}
+use Rattle.homeo_syntax.specs.declared.token.Version.{Version}
+use Rattle.homeo_syntax.specs.declared.token.Version.TheVariants.{First, Second}
+use Rattle.homeo_syntax.specs.declared.phrase.Number.{Number}
 use Rattle.homeo_syntax.specs.declared.phrase.Ident.{Ident}
 use Rattle.homeo_syntax.specs.Source as s
 use Rattle.homeo_syntax.specs.SourceView.{exprs, tests, commands}
@@ -16,7 +19,8 @@ use Rattle.homeo_syntax.specs.Classes.{name_class}
 use Rattle.homeo_syntax.specs.Grammar.{call, takes, Means}
 use Rattle.homeo_syntax.specs.Rules as rules
 use Rattle.homeo_syntax.specs.Rules.{Deep, Factor, Test, Command, Tree, Rule, rule, limit, fixed, lead, closed, name_in, value_in, is_natural, is_natural_value, product_of, sum_of}
-use Rattle.homeo_syntax.specs.WellFormed.{Each, EachInExpr, EachInExprs, EachInTest, EachInCond, EachInCommand, EachInCommands, EachInFields, InSchedule, EachIdent, IsBelow}
+use Rattle.homeo_syntax.specs.WellFormed.{Each, EachInExpr, EachInExprs, EachInTest, EachInCond, EachInCommand, EachInCommands, EachInFields, InSchedule, EachIdent, IsBelow, HasWeights}
+use Rattle.homeo_syntax.specs.Versions.{version_number}
 use Rattle.homeo_reader.proofs.Keeps.{Sound, Meaning, Every, sound_token, sound_nothing, sound_seq, sound_alt, sound_part, sound_as, sound_many, sound_lead, sound_closed}
 
 -- a name's place is below this number
@@ -33,7 +37,7 @@ natural_value : (z : ℤ) → is_natural_value z ≡ true → pos 0 ≤ℤ z
 natural_value (pos n) h = search std_rules
 natural_value (negsuc n) h = let no : ⊥ = cc in absurd no
 
-each_of : {A : Type 0} → (P Q : A → Type 0) → ((a : A) → P a → Q a) → (all : List A) → Every P all → Each Q all
+pub each_of : {A : Type 0} → (P Q : A → Type 0) → ((a : A) → P a → Q a) → (all : List A) → Every P all → Each Q all
 unfolding words
 each_of P Q h [] e = tt
 each_of P Q h (a ∷ all) e = (h a e.0, each_of P Q h all e.1)
@@ -71,7 +75,7 @@ each_fields B (f ∷ fs) h = (h.0.0, h.0.1, each_fields B fs h.1)
 abbrev Phrase : (Ident → Type 0) → (c : Deep) → Tree c → Type 0
 Phrase B Factor = EachInExpr B
 Phrase B Test = EachInTest B
-Phrase B Command = EachInCommand B
+Phrase B (Command v) = EachInCommand B
 
 abbrev IsRelation : (Ident → Type 0) → s.RelationDecl → Type 0
 IsRelation B r = B r.name × Each (λ (f : RangeDecl). B f.name) r.fields
@@ -85,11 +89,16 @@ IsClient B c = B c.name × Each (λ (k : s.Call). B k.name) c.calls
 abbrev IsSite : s.Client → Type 0
 IsSite c = pos 0 ≤ℤ c.site.value
 
-pub record IsKept (n : ℕ) (names : List (List ℕ)) (w : s.Workload) : Type 0 where
-  pub version : w.version ≡ 1
+abbrev IsWeight : Number → Type 0
+IsWeight x = pos 0 ≤ℤ x.value
+
+pub record IsKept (n : ℕ) (v : Version) (names : List (List ℕ)) (w : s.Workload) : Type 0 where
+  pub version : w.version ≡ version_number v
   pub names_are : w.names ≡ names
   pub named : EachIdent (IsBelow n) w
   pub sites : Each IsSite w.clients
+  pub weights : HasWeights v w.weights
+  pub natural : Each IsWeight w.weights
 
 module _ (n : ℕ) (M : Meaning) (hyp : (c : Deep) → Sound M (λ t. Named n t.kind) (call c) (Phrase (IsBelow n) c)) where
   abbrev F : Token → Type 0
@@ -171,14 +180,14 @@ module _ (n : ℕ) (M : Meaning) (hyp : (c : Deep) → Sound M (λ t. Named n t.
       (sound_as M F _ _ _ (EachInTest B) (sound_seq M F _ _ E _ expr_kept (sound_seq M F _ _ (λ u. Unit {0}) E (anything _) expr_kept))
       (λ p h. (h.0, h.1.1))))
 
-  block_kept : Sound M F rules.block (EachInCommands B)
+  block_kept : (v : Version) → Sound M F (rules.block v) (EachInCommands B)
   unfolding words
-  block_kept =
+  block_kept v =
       sound_part M F _ (EachInCommands B) (sound_lead M F mark.OpenBrace _ (EachInCommands B) (sound_closed M F mark.CloseBrace _ (EachInCommands B)
       (sound_alt M F _ _ (EachInCommands B)
       (sound_as M F _ _ _ (EachInCommands B)
-      (sound_seq M F _ _ (EachInCommand B) (Every (EachInCommand B)) (hyp Command)
-      (sound_many M F _ (EachInCommand B) (sound_lead M F mark.Semicolon _ (EachInCommand B) (hyp Command)))) (λ p h. each_commands B (p.0 ∷ p.1) h))
+      (sound_seq M F _ _ (EachInCommand B) (Every (EachInCommand B)) (hyp (Command v))
+      (sound_many M F _ (EachInCommand B) (sound_lead M F mark.Semicolon _ (EachInCommand B) (hyp (Command v))))) (λ p h. each_commands B (p.0 ∷ p.1) h))
       (sound_nothing M F s.NoCommand (EachInCommands B) tt))))
 
   -- with each name before it
@@ -207,11 +216,11 @@ module _ (n : ℕ) (M : Meaning) (hyp : (c : Deep) → Sound M (λ t. Named n t.
   field_values_kept : Sound M F rules.field_values (Every (λ f. B f.field × E f.value))
   field_values_kept = sound_part M F _ _ (listed_kept mark.Comma rules.field_value (λ f. B f.field × E f.value) field_value_kept)
 
-  command_kept : Sound M F rules.command (EachInCommand B)
+  common_kept : (v : Version) → Sound M F (rules.common_command v) (EachInCommand B)
   unfolding words
-  command_kept =
+  common_kept v =
       sound_alt M F _ _ (EachInCommand B) (sound_as M F _ _ (λ u. Unit {0}) (EachInCommand B) (anything _) (λ a h. tt))
-      (sound_alt M F _ _ (EachInCommand B) (sound_as M F s.Block _ (EachInCommands B) (EachInCommand B) block_kept (λ a h. h))
+      (sound_alt M F _ _ (EachInCommand B) (sound_as M F s.Block _ (EachInCommands B) (EachInCommand B) (block_kept v) (λ a h. h))
       (sound_alt M F _ _ (EachInCommand B)
       (sound_as M F _ _ _ (EachInCommand B) (sound_seq M F _ _ B (λ f. (x : Ident) → B x → EachInCommand B (f x)) ident_kept setting_kept)
       (λ p h. h.1 p.0 h.0))
@@ -227,10 +236,10 @@ module _ (n : ℕ) (M : Meaning) (hyp : (c : Deep) → Sound M (λ t. Named n t.
       (sound_lead M F mark.If _ _
       (sound_seq M F _ _ (EachInCond B) _ cond_kept
       (sound_lead M F mark.Then _ _
-      (sound_seq M F _ _ (EachInCommand B) (EachInCommand B) (hyp Command) (sound_lead M F mark.Else _ (EachInCommand B) (hyp Command))))))
+      (sound_seq M F _ _ (EachInCommand B) (EachInCommand B) (hyp (Command v)) (sound_lead M F mark.Else _ (EachInCommand B) (hyp (Command v)))))))
       (λ p h. (h.0, h.1.0, h.1.1)))
       (sound_alt M F _ _ (EachInCommand B)
-      (sound_as M F _ _ _ (EachInCommand B) (sound_lead M F mark.Foreach _ _ (sound_seq M F _ _ _ (EachInCommands B) visit_kept block_kept))
+      (sound_as M F _ _ _ (EachInCommand B) (sound_lead M F mark.Foreach _ _ (sound_seq M F _ _ _ (EachInCommands B) visit_kept (block_kept v)))
       (λ p h. (h.0.0, h.0.1.0, h.0.1.1, h.1)))
       (sound_alt M F _ _ (EachInCommand B) (sound_as M F _ _ _ (EachInCommand B)
       (sound_lead M F mark.Insert _ _
@@ -244,10 +253,16 @@ module _ (n : ℕ) (M : Meaning) (hyp : (c : Deep) → Sound M (λ t. Named n t.
       (sound_lead M F mark.Update _ _ (sound_seq M F _ _ _ (λ f. B f.field × E f.value) visit_kept (sound_lead M F mark.Set _ _ field_value_kept)))
       (λ p h. (h.0.0, h.0.1.0, h.0.1.1, h.1.0, h.1.1)))))))))))
 
+  command_kept : (v : Version) → Sound M F (rules.command v) (EachInCommand B)
+  unfolding words
+  command_kept First = common_kept First
+  command_kept Second =
+      sound_alt M F _ _ (EachInCommand B) (sound_as M F _ _ (λ u. Unit {0}) (EachInCommand B) (anything _) (λ a h. tt)) (common_kept Second)
+
   pub rule_kept : (c : Deep) → Sound M F (rule c) (Phrase B c)
   rule_kept Factor = factor_kept
   rule_kept Test = test_kept
-  rule_kept Command = command_kept
+  rule_kept (Command v) = command_kept v
 
   object_kept : Sound M F rules.object (λ o. B o.name)
   object_kept =
@@ -275,13 +290,13 @@ module _ (n : ℕ) (M : Meaning) (hyp : (c : Deep) → Sound M (λ t. Named n t.
   parameters_kept : Sound M F rules.parameters (Every (λ p. B p.name))
   parameters_kept = sound_part M F _ _ (separated_kept mark.Comma rules.decl (λ p. B p.name) decl_kept)
 
-  transaction_kept : Sound M F rules.transaction (IsTransaction B)
-  transaction_kept =
+  transaction_kept : (v : Version) → Sound M F (rules.transaction v) (IsTransaction B)
+  transaction_kept v =
       sound_part M F _ _ (sound_as M F _ _ _ (IsTransaction B)
       (sound_lead M F mark.Transaction _ _
       (sound_seq M F _ _ B _ ident_kept
       (sound_lead M F mark.Open _ _
-      (sound_seq M F _ _ (Every (λ p. B p.name)) (EachInCommands B) (sound_closed M F mark.Close _ _ parameters_kept) block_kept))))
+      (sound_seq M F _ _ (Every (λ p. B p.name)) (EachInCommands B) (sound_closed M F mark.Close _ _ parameters_kept) (block_kept v)))))
       (λ p h. (h.0, each_of (λ p. B p.name) (λ p. B p.name) (λ a x. x) p.1.0 h.1.0, h.1.1)))
 
   invocation_kept : Sound M F rules.invocation (λ k. B k.name)
@@ -307,14 +322,38 @@ module _ (n : ℕ) (M : Meaning) (hyp : (c : Deep) → Sound M (λ t. Named n t.
       (sound_as M F _ _ (Every B) (InSchedule B) (sound_lead M F mark.Schedule _ _ (sound_many M F _ B ident_kept)) (λ a h. each_of B B (λ x y. y) a h))
       (sound_nothing M F None (InSchedule B) tt))
 
-  pub workload_kept : (names : List (List ℕ)) → Sound M F (rules.workload names) (IsKept n names)
+  weights_kept : (v : Version) → Sound M F (rules.weights v) (λ ns. HasWeights v ns × Every IsWeight ns)
+  weights_kept First = sound_part M F _ _ (sound_nothing M F [] (λ ns. HasWeights First ns × Every IsWeight ns) (refl, tt))
+  weights_kept Second =
+      sound_part M F _ _ (sound_lead M F mark.Weights _ _
+      (sound_as M F _ _ _ (λ ns. HasWeights Second ns × Every IsWeight ns)
+      (sound_seq M F _ _ IsWeight (Every IsWeight) number_kept (sound_many M F _ IsWeight (sound_lead M F mark.Comma _ IsWeight number_kept)))
+      (λ p h. (tt, h))))
+
+  weaker : {X : Type 0} → (g : Rule X) (P Q : X → Type 0) → Sound M F g P → ((a : X) → P a → Q a) → Sound M F g Q
+  weaker g P Q p h = record { of = λ a ts s f. h a (p.of a ts s f) }
+
+  abbrev IsHead : Version → Number × List Number → Type 0
+  IsHead v p = HasWeights v p.1 × Every IsWeight p.1
+
+  head_kept : (v : Version) → Sound M F (rules.head v) (IsHead v)
+  head_kept v =
+      sound_part M F _ (IsHead v) (sound_lead M F mark.Workload _ (IsHead v)
+      (sound_as M F _ _ (λ p. Unit {0} × IsHead v p.1) (IsHead v)
+      (sound_seq M F _ _ (λ u. Unit {0}) (IsHead v) (anything _)
+      (sound_lead M F mark.Sites _ (IsHead v)
+      (weaker _ (λ p. Unit {0} × (HasWeights v p.1 × Every IsWeight p.1)) (IsHead v)
+      (sound_seq M F _ _ (λ u. Unit {0}) (λ ns. HasWeights v ns × Every IsWeight ns) (anything _) (weights_kept v)) (λ p h. h.1))))
+      (λ p h. h.1)))
+
+  pub workload_kept : (v : Version) (names : List (List ℕ)) → Sound M F (rules.workload v names) (IsKept n v names)
   unfolding words
-  workload_kept names =
-      sound_as M F _ _ _ (IsKept n names)
-      (sound_seq M F _ _ (λ u. Unit {0}) _ (anything _)
+  workload_kept v names =
+      sound_as M F _ _ _ (IsKept n v names)
+      (sound_seq M F _ _ (IsHead v) _ (head_kept v)
       (sound_seq M F _ _ (Every (λ o. B o.name)) _ (sound_many M F _ _ object_kept)
       (sound_seq M F _ _ (Every (IsRelation B)) _ (sound_many M F _ _ relation_kept)
-      (sound_seq M F _ _ (Every (IsTransaction B)) _ (sound_many M F _ _ transaction_kept)
+      (sound_seq M F _ _ (Every (IsTransaction B)) _ (sound_many M F _ _ (transaction_kept v))
       (sound_seq M F _ _ (Every (λ c. IsClient B c × IsSite c)) _ (sound_many M F _ _ client_kept)
       (sound_seq M F _ _ (InSchedule B) (λ u. Unit {0}) schedule_kept (anything _)))))))
       (λ p h. record {
@@ -328,6 +367,8 @@ module _ (n : ℕ) (M : Meaning) (hyp : (c : Deep) → Sound M (λ t. Named n t.
           schedule = h.1.1.1.1.1.0;
         };
         sites = each_of (λ c. IsClient B c × IsSite c) IsSite (λ a x. x.1) p.1.1.1.1.0 h.1.1.1.1.0;
+        weights = h.0.0;
+        natural = each_of IsWeight IsWeight (λ a x. x) p.0.1 h.0.1;
       })
 
 kept_at : (n d : ℕ) (c : Deep) → Sound (Means rule d) (λ t. Named n t.kind) (call c) (Phrase (IsBelow n) c)
@@ -335,5 +376,5 @@ kept_at n zero c = record { of = λ a ts s f. absurd s }
 kept_at n (suc d) c = record { of = λ a ts s f. (rule_kept n (Means rule d) (kept_at n d) c).of a ts s f }
 
 -- The identifiers of a workload of tokens whose names are below n are below n.
-pub workload_named : (n : ℕ) (names : List (List ℕ)) → Sound (Means rule limit) (λ t. Named n t.kind) (rules.workload names) (IsKept n names)
-workload_named n names = workload_kept n (Means rule limit) (kept_at n limit) names
+pub workload_named : (n : ℕ) (v : Version) (names : List (List ℕ)) → Sound (Means rule limit) (λ t. Named n t.kind) (rules.workload v names) (IsKept n v names)
+workload_named n v names = workload_kept n (Means rule limit) (kept_at n limit) v names

@@ -1,3 +1,4 @@
+pub mod Aborts
 pub mod Bools
 pub mod CommandSteps
 pub mod Complete

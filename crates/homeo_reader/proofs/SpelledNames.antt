@@ -8,34 +8,36 @@ use Rattle.std.proofs.Math.ListN.{get_or-append}
 use Rattle.std.proofs.Math.Seq.{get_or-append_seam}
 use Rattle.homeo_syntax.specs.Key.{words}
 use Rattle.homeo_syntax.specs.Source as s
+use Rattle.homeo_syntax.specs.declared.token.Version.{Version}
 use Rattle.homeo_syntax.specs.Lexemes.{Lexeme, Name, Number, Fixed}
-use Rattle.homeo_syntax.specs.Tokens.{Scanned, scanned_of, with_lexeme, names_after, names_of, kind_in, tokens_in}
+use Rattle.homeo_syntax.specs.Tokens.{Scanned, version_of, scanned_of, with_lexeme, names_after, names_of, kind_in, tokens_in}
 use Rattle.homeo_syntax.specs.Rules.{IsWorkload}
 use Rattle.homeo_syntax.specs.Reads.{Reads}
 use Rattle.homeo_syntax.specs.WellFormed.{IsName, Each, EachIdent, IsBelow, IsWellFormed}
 use Rattle.homeo_syntax.proofs.Spelling.{IsSpelled, AllSpelled, scanned_spelled}
 use Rattle.homeo_syntax.proofs.Names.{bytes_same, InAll, AllIn, all_among, place_below}
+use Rattle.homeo_reader.proofs.Aborts.{workload_aborts}
 use Rattle.homeo_reader.proofs.Keeps.{Fine}
 use Rattle.homeo_reader.proofs.Kept.{Named, IsKept, workload_named}
 
 -- ---- spelling
-each_last : (names : List (List ℕ)) (w : List ℕ) → Each IsName names → IsName w → Each IsName (names ++ w ∷ [])
+each_last : (v : Version) (names : List (List ℕ)) (w : List ℕ) → Each (IsName v) names → IsName v w → Each (IsName v) (names ++ w ∷ [])
 unfolding words
-each_last [] w h k = (k, tt)
-each_last (n ∷ names) w h k = (h.0, each_last names w h.1 k)
+each_last v [] w h k = (k, tt)
+each_last v (n ∷ names) w h k = (h.0, each_last v names w h.1 k)
 
-spelled_name : (names : List (List ℕ)) (w : List ℕ) (b : Bool) → Each IsName names → IsName w → Each IsName (if b then names else names ++ w ∷ [])
-spelled_name names w true h k = h
-spelled_name names w false h k = each_last names w h k
+spelled_name : (v : Version) (names : List (List ℕ)) (w : List ℕ) (b : Bool) → Each (IsName v) names → IsName v w → Each (IsName v) (if b then names else names ++ w ∷ [])
+spelled_name v names w true h k = h
+spelled_name v names w false h k = each_last v names w h k
 
-spelled_lexeme : (names : List (List ℕ)) (l : Lexeme) → Each IsName names → IsSpelled l → Each IsName (with_lexeme names l)
-spelled_lexeme names (Name w) h k = spelled_name names w (list_any (bytes_eq w) names) h k
-spelled_lexeme names (Number n) h k = h
-spelled_lexeme names (Fixed m) h k = h
+spelled_lexeme : (v : Version) (names : List (List ℕ)) (l : Lexeme) → Each (IsName v) names → IsSpelled v l → Each (IsName v) (with_lexeme names l)
+spelled_lexeme v names (Name w) h k = spelled_name v names w (list_any (bytes_eq w) names) h k
+spelled_lexeme v names (Number n) h k = h
+spelled_lexeme v names (Fixed m) h k = h
 
-spelled_after : (ts : List Scanned) (names : List (List ℕ)) → Each IsName names → AllSpelled ts → Each IsName (names_after names ts)
-spelled_after [] names h k = h
-spelled_after (t ∷ ts) names h k = spelled_after ts (with_lexeme names t.lexeme) (spelled_lexeme names t.lexeme h k.0) k.1
+spelled_after : (v : Version) (ts : List Scanned) (names : List (List ℕ)) → Each (IsName v) names → AllSpelled v ts → Each (IsName v) (names_after names ts)
+spelled_after v [] names h k = h
+spelled_after v (t ∷ ts) names h k = spelled_after v ts (with_lexeme names t.lexeme) (spelled_lexeme v names t.lexeme h k.0) k.1
 
 -- ---- distinct
 abbrev Distinct : List (List ℕ) → Type 0
@@ -92,21 +94,25 @@ fine_tokens all (t ∷ ts) h = (go t.lexeme h.0, fine_tokens all ts h.1)
     go (Fixed m) h = tt
 
 -- ---- well formed
-names_ok : (text : List ℕ) (scanned : List Scanned) → scanned_of text ≡ Ok scanned → Each IsName (names_of scanned)
+names_ok : (text : List ℕ) (scanned : List Scanned) → scanned_of text ≡ Ok scanned → Each (IsName (version_of scanned)) (names_of scanned)
 unfolding words
-names_ok text scanned e = spelled_after scanned [] tt (scanned_spelled text scanned e)
+names_ok text scanned e = spelled_after (version_of scanned) scanned [] tt (scanned_spelled text scanned e)
 
-kept : (text : List ℕ) (w : s.Workload) → (r : Reads text w) → IsKept (length (names_of r.scanned)) (names_of r.scanned) w
+kept : (text : List ℕ) (w : s.Workload) → (r : Reads text w) → IsKept (length (names_of r.scanned)) (version_of r.scanned) (names_of r.scanned) w
 unfolding IsWorkload
-kept text w r = (workload_named (length (names_of r.scanned)) (names_of r.scanned)).of w (tokens_in (names_of r.scanned) r.scanned) r.spells (fine_tokens (names_of r.scanned) r.scanned (all_among r.scanned []))
+kept text w r = (workload_named (length (names_of r.scanned)) (version_of r.scanned) (names_of r.scanned)).of w (tokens_in (names_of r.scanned) r.scanned) r.spells (fine_tokens (names_of r.scanned) r.scanned (all_among r.scanned []))
 
 pub well_formed : (text : List ℕ) (w : s.Workload) → Reads text w → IsWellFormed w
 well_formed text w r =
     let k = kept text w r in
     record {
+      form = version_of r.scanned;
       version = k.version;
       distinct = subst Distinct (sym k.names_are) (distinct_after r.scanned [] distinct_none);
-      spelled = subst (Each IsName) (sym k.names_are) (names_ok text r.scanned r.lexemes);
+      spelled = subst (Each (IsName (version_of r.scanned))) (sym k.names_are) (names_ok text r.scanned r.lexemes);
       named = subst (λ (l : List (List ℕ)). EachIdent (IsBelow (length l)) w) (sym k.names_are) k.named;
       sites = k.sites;
+      weights = k.weights;
+      natural = k.natural;
+      aborts = workload_aborts (version_of r.scanned) (names_of r.scanned) w (tokens_in (names_of r.scanned) r.scanned) r.spells;
     }

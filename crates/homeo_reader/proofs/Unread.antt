@@ -2,11 +2,13 @@
 use Rattle.std.proofs.Common.{◌≡◌, ℕ, Bool, true, false, List, [], ◌∷◌, refl, subst, ap, ◌∙◌, sym, inl, inr, not, ◌+◌, length, map, cond}
 use Rattle.std.specs.Prelude.{Option, Some, None, Result, Ok, Err, IfOk, position, ◌&&◌}
 use Rattle.std.specs.List.{list_all, position_from}
+use Rattle.std.specs.Result.{result_map_both}
 use Rattle.std.proofs.lemmas.Iterator.Adapters.{position_from-zero}
 use Rattle.homeo_syntax.specs.declared.token.Token.{Token}
+use Rattle.homeo_syntax.specs.declared.token.Version.{Version}
 use Rattle.homeo_syntax.specs.declared.workload.Refusal.{Refusal}
 use Rattle.homeo_syntax.specs.Source as s
-use Rattle.homeo_syntax.specs.Tokens.{is_good, IsClean, Scanned, scanned_of, names_of, tokens_in}
+use Rattle.homeo_syntax.specs.Tokens.{is_good, IsClean, Scanned, version_of, in_version, scanned_of, names_of, tokens_in}
 use Rattle.homeo_syntax.specs.Rules.{IsWorkload}
 use Rattle.homeo_syntax.specs.Reads.{Reads, IsUnread, offset_at}
 use Rattle.homeo_syntax.specs.WellFormed.{IsWellFormed}
@@ -35,8 +37,8 @@ same_scan a b x p q = cc
 pub one_reading : (text : List ℕ) (v w : s.Workload) → Reads text v → Reads text w → v ≡ w
 one_reading text v w p q =
     let e = same_scan q.scanned p.scanned (scanned_of text) q.lexemes p.lexemes in
-    one_workload (names_of p.scanned) (tokens_in (names_of p.scanned) p.scanned) v w p.spells
-    (subst (λ (x : List Scanned). IsWorkload (names_of x) w (tokens_in (names_of x) x)) e q.spells)
+    one_workload (version_of p.scanned) (names_of p.scanned) (tokens_in (names_of p.scanned) p.scanned) v w p.spells
+    (subst (λ (x : List Scanned). IsWorkload (version_of x) (names_of x) w (tokens_in (names_of x) x)) e q.spells)
 
 abbrev is_bad : ℕ → Bool
 is_bad b = not (is_good b)
@@ -70,8 +72,8 @@ unread text r w (inl f) p = bad_text text r.offset f.at p.clean
 unread text r w (inr (inl f)) p = let a = f.at in let b = p.lexemes in cc
 unread text r w (inr (inr f)) p =
     let e = same_scan p.scanned f.scanned (scanned_of text) p.lexemes f.lexemes in
-    no_phrase (IsWorkload (names_of f.scanned)) (tokens_in (names_of f.scanned) f.scanned) f.fault f.stuck w
-    (subst (λ (x : List Scanned). IsWorkload (names_of x) w (tokens_in (names_of x) x)) e p.spells)
+    no_phrase (IsWorkload (version_of f.scanned) (names_of f.scanned)) (tokens_in (names_of f.scanned) f.scanned) f.fault f.stuck w
+    (subst (λ (x : List Scanned). IsWorkload (version_of x) (names_of x) w (tokens_in (names_of x) x)) e p.spells)
 
 same_parts : (r q : Refusal) → r.code ≡ q.code → r.offset ≡ q.offset → r ≡ q
 same_parts r q c o =
@@ -97,8 +99,8 @@ one_refusal text r q (inr (inl f)) (inr (inr g)) = let a = f.at in let b = g.lex
 one_refusal text r q (inr (inr f)) (inr (inl g)) = let a = g.at in let b = f.lexemes in let no : ⊥ = cc in absurd no
 one_refusal text r q (inr (inr f)) (inr (inr g)) =
     let e = same_scan g.scanned f.scanned (scanned_of text) g.lexemes f.lexemes in
-    let k = one_fault (IsWorkload (names_of f.scanned)) (tokens_in (names_of f.scanned) f.scanned) f.fault g.fault f.stuck
-    (subst (λ (x : List Scanned). IsFault (IsWorkload (names_of x)) (tokens_in (names_of x) x) g.fault) e g.stuck) in
+    let k = one_fault (IsWorkload (version_of f.scanned) (names_of f.scanned)) (tokens_in (names_of f.scanned) f.scanned) f.fault g.fault f.stuck
+    (subst (λ (x : List Scanned). IsFault (IsWorkload (version_of x) (names_of x)) (tokens_in (names_of x) x) g.fault) e g.stuck) in
     same_parts r q (f.code ∙ sym g.code) (f.at ∙ ap (offset_at (length text)) k ∙ sym g.at)
 
 -- ---- what the functions of the reader return
@@ -106,25 +108,25 @@ pub read_well_formed : (text : List ℕ) (x : Result Workload ReadRefusal) → R
 read_well_formed text (Ok w) p = well_formed text (plain_workload w) p
 read_well_formed text (Err e) p = tt
 
-pub refused_at : (names : List (List ℕ)) (ts rest : List Token) (end offset : ℕ) (x : ReadRefusal) → x ≡ Refused (record { code = 4; offset = offset }) →
-    offset ≡ offset_at end rest → IsFault (IsWorkload names) ts rest → ParsesExactly names ts end (Err x)
-refused_at names ts rest end offset x e o f =
-    subst (λ (x : ReadRefusal). ParsesExactly names ts end (Err x)) (sym e) (rest, f, ap (λ (n : ℕ). record { code = 4; offset = n }) o)
+pub refused_at : (v : Version) (names : List (List ℕ)) (ts rest : List Token) (end offset : ℕ) (x : ReadRefusal) → x ≡ Refused (record { code = 4; offset = offset }) →
+    offset ≡ offset_at end rest → IsFault (IsWorkload v names) ts rest → ParsesExactly v names ts end (Err x)
+refused_at v names ts rest end offset x e o f =
+    subst (λ (x : ReadRefusal). ParsesExactly v names ts end (Err x)) (sym e) (rest, f, ap (λ (n : ℕ). record { code = 4; offset = n }) o)
 
-pub fault_refused : (names : List (List ℕ)) (ts rest : List Token) (end offset : ℕ) (f : Fault) (x : ReadRefusal) →
-    Gives plain_workload (Err f) rest (workload_read names ts) → (f ≡ fault.Memory → x ≡ Memory) →
-    (f ≡ fault.Stuck → x ≡ Refused (record { code = 4; offset = offset })) → offset ≡ offset_at end rest → ParsesExactly names ts end (Err x)
-fault_refused names ts rest end offset fault.Memory x g m k o = subst (λ (x : ReadRefusal). ParsesExactly names ts end (Err x)) (sym (m refl)) tt
-fault_refused names ts rest end offset fault.Stuck x g m k o = refused_at names ts rest end offset x (k refl) o (at_fault names ts rest g)
+pub fault_refused : (v : Version) (names : List (List ℕ)) (ts rest : List Token) (end offset : ℕ) (f : Fault) (x : ReadRefusal) →
+    Gives plain_workload (Err f) rest (workload_read v names ts) → (f ≡ fault.Memory → x ≡ Memory) →
+    (f ≡ fault.Stuck → x ≡ Refused (record { code = 4; offset = offset })) → offset ≡ offset_at end rest → ParsesExactly v names ts end (Err x)
+fault_refused v names ts rest end offset fault.Memory x g m k o = subst (λ (x : ReadRefusal). ParsesExactly v names ts end (Err x)) (sym (m refl)) tt
+fault_refused v names ts rest end offset fault.Stuck x g m k o = refused_at v names ts rest end offset x (k refl) o (at_fault v names ts rest g)
 
 pub no_token : (text : List ℕ) (offset : ℕ) (x : ReadRefusal) (e : ScanError) → x ≡ Refused (record { code = 3; offset = offset }) → Stops text e →
     e ≡ scan.At offset → position (λ b. not (is_good b)) text ≡ None → ReadsExactly text (Err x)
 no_token text offset x e h stops is clean =
     subst (λ (x : ReadRefusal). ReadsExactly text (Err x)) (sym h)
-    (inr (inl (record { code = refl; clean = clean_text text clean; at = subst (Stops text) is stops })))
+    (inr (inl (record { code = refl; clean = clean_text text clean; at = ap (result_map_both in_version (λ at. at)) (subst (Stops text) is stops) })))
 
 parsed_with : (text : List ℕ) (scanned : List Scanned) (x : Result Workload ReadRefusal) → IsClean text → scanned_of text ≡ Ok scanned →
-    ParsesExactly (names_of scanned) (tokens_in (names_of scanned) scanned) (length text) x → ReadsExactly text x
+    ParsesExactly (version_of scanned) (names_of scanned) (tokens_in (names_of scanned) scanned) (length text) x → ReadsExactly text x
 parsed_with text scanned (Ok w) clean e p = record { clean = clean; scanned = scanned; lexemes = e; spells = p }
 parsed_with text scanned (Err Memory) clean e p = tt
 parsed_with text scanned (Err (Refused r)) clean e p =
@@ -138,15 +140,16 @@ parsed_with text scanned (Err (Refused r)) clean e p =
       at = ap (λ (r : Refusal). r.offset) p.2;
     }))
 
-pub parsed : (text : List ℕ) (items written : List Written) (names : List (List ℕ)) (numbered tokens : List Token) (x : Result Workload ReadRefusal) →
+pub parsed : (text : List ℕ) (items written lent : List Written) (v : Version) (names : List (List ℕ)) (numbered tokens : List Token) (x : Result Workload ReadRefusal) →
     position (λ b. not (is_good b)) text ≡ None →
     scanned_of text ≡ Ok (map plain_scanned items) → written ≡ items → names ≡ names_of (map plain_scanned written) →
-    numbered ≡ tokens_in (names_of (map plain_scanned written)) (map plain_scanned written) → tokens ≡ numbered → ParsesExactly names tokens (length text) x →
+    numbered ≡ tokens_in (names_of (map plain_scanned written)) (map plain_scanned written) → tokens ≡ numbered → lent ≡ items → v ≡ version_of (map plain_scanned lent) → ParsesExactly v names tokens (length text) x →
     ReadsExactly text x
-parsed text items written names numbered tokens x clean e w n t u p =
+parsed text items written lent v names numbered tokens x clean e w n t u l o p =
     let all : names ≡ names_of (map plain_scanned items) = n ∙ ap (λ (l : List Written). names_of (map plain_scanned l)) w in
     let each : tokens ≡ tokens_in (names_of (map plain_scanned items)) (map plain_scanned items) = u ∙ t
     ∙ ap (λ (l : List Written). tokens_in (names_of (map plain_scanned l)) (map plain_scanned l)) w in
     parsed_with text (map plain_scanned items) x (clean_text text clean) e
-    (subst (λ (ts : List Token). ParsesExactly (names_of (map plain_scanned items)) ts (length text) x) each
-    (subst (λ (l : List (List ℕ)). ParsesExactly l tokens (length text) x) all p))
+    (subst (λ (ts : List Token). ParsesExactly (version_of (map plain_scanned items)) (names_of (map plain_scanned items)) ts (length text) x) each
+    (subst (λ (l : List (List ℕ)). ParsesExactly (version_of (map plain_scanned items)) l tokens (length text) x) all
+    (subst (λ (v : Version). ParsesExactly v names tokens (length text) x) (o ∙ ap (λ (l : List Written). version_of (map plain_scanned l)) l) p)))

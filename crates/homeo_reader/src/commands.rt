@@ -4,20 +4,34 @@ ghost use Rattle.std.specs.Prelude.{◌≡◌, ◌<◌, option_map, IfOk, IfErr}
 ghost use Rattle.homeo_syntax.specs.Source as s;
 ghost use Rattle.homeo_syntax.specs.SourceView.{plain_cond, plain_command};
 ghost use Rattle.homeo_reader.specs.inner.Reading.{Gives};
-ghost use Rattle.homeo_reader.specs.inner.Commands.{command_views, block_view, command_read, if_read, foreach_read, next_command_read, commands_read, block_read};
+ghost use Rattle.homeo_reader.specs.inner.Commands.{command_views, block_view, abort_read, command_read, if_read, foreach_read, next_command_read, commands_read, block_read};
 
 use crate::conditions::Visit;
 use crate::parser::{Fault, Parser, list_of};
-use homeo_syntax::{Command, Cond, Kind, List, Mark};
+use homeo_syntax::{Command, Cond, Kind, List, Mark, Version};
 use std::alloc::Global;
 
 impl<'a> Parser<'a> {
+    /// Takes `abort`, which begins no command of version 1.
+    #[tactic(auto, using(homeo_syntax::proofs::SourceViews::command_views), unfolding(crate::specs::inner::Commands::abort_read))]
+    fn abort(&mut self, version: Version) -> Result<Command, Fault>
+        ensures { Gives plain_command result self.new.rest.now (abort_read version self.old.rest.now) }
+    {
+        match version {
+            Version::First => Err(Fault::Stuck),
+            Version::Second => {
+                self.expect(Mark::Abort)?;
+                Ok(Command::Abort)
+            }
+        }
+    }
+
     /// Takes a command. Neither it nor what is in it goes deeper than the room.
     #[cycle(command)]
     #[tactic(auto, using(crate::proofs::CommandSteps::command_reads, homeo_syntax::proofs::SourceViews::command_views), unfolding(crate::specs::inner::Commands::command_do, crate::specs::inner::Commands::command_by))]
-    fn command(&mut self, alloc: Global, room: u32) -> Result<Command, Fault>
+    fn command(&mut self, alloc: Global, version: Version, room: u32) -> Result<Command, Fault>
         requires { 0 < room }
-        ensures { Gives plain_command result self.new.rest.now (command_read room self.old.rest.now) }
+        ensures { Gives plain_command result self.new.rest.now (command_read version room self.old.rest.now) }
     {
         match self.rest.split_first() {
             Some((t, rest)) => match t.kind {
@@ -25,8 +39,9 @@ impl<'a> Parser<'a> {
                     self.rest = rest;
                     Ok(Command::Skip)
                 }
+                Kind::Fixed(Mark::Abort) => self.abort(version),
                 Kind::Fixed(Mark::OpenBrace) => {
-                    let commands = self.block(alloc, room - 1)?;
+                    let commands = self.block(alloc, version, room - 1)?;
                     Ok(Command::Block { commands })
                 }
                 Kind::Name(_) if room > 1 => {
@@ -51,11 +66,11 @@ impl<'a> Parser<'a> {
                 }
                 Kind::Fixed(Mark::If) if room > 1 => {
                     self.rest = rest;
-                    self.choice_after_if(alloc, room - 1)
+                    self.choice_after_if(alloc, version, room - 1)
                 }
                 Kind::Fixed(Mark::Foreach) if room > 1 => {
                     self.rest = rest;
-                    self.body_after_foreach(alloc, room - 1)
+                    self.body_after_foreach(alloc, version, room - 1)
                 }
                 Kind::Fixed(Mark::Insert) if room > 1 => {
                     self.rest = rest;
@@ -78,31 +93,41 @@ impl<'a> Parser<'a> {
     /// What follows `if`.
     #[cycle(command)]
     #[tactic(auto, unfolding(crate::specs::inner::Commands::if_read))]
-    fn choice_after_if(&mut self, alloc: Global, room: u32) -> Result<Command, Fault>
+    fn choice_after_if(
+        &mut self,
+        alloc: Global,
+        version: Version,
+        room: u32,
+    ) -> Result<Command, Fault>
         requires { 0 < room }
-        ensures { Gives plain_command result self.new.rest.now (if_read room self.old.rest.now) }
+        ensures { Gives plain_command result self.new.rest.now (if_read version room self.old.rest.now) }
     {
         let test = self.cond(alloc, room)?;
         self.expect(Mark::Then)?;
-        let yes = self.command(alloc, room)?;
+        let yes = self.command(alloc, version, room)?;
         self.expect(Mark::Else)?;
-        let no = self.command(alloc, room)?;
+        let no = self.command(alloc, version, room)?;
         choice(alloc, test, yes, no)
     }
 
     /// What follows `foreach`.
     #[cycle(command)]
     #[tactic(auto, using(homeo_syntax::proofs::SourceViews::command_views), unfolding(crate::specs::inner::Commands::foreach_read))]
-    fn body_after_foreach(&mut self, alloc: Global, room: u32) -> Result<Command, Fault>
+    fn body_after_foreach(
+        &mut self,
+        alloc: Global,
+        version: Version,
+        room: u32,
+    ) -> Result<Command, Fault>
         requires { 0 < room }
-        ensures { Gives plain_command result self.new.rest.now (foreach_read room self.old.rest.now) }
+        ensures { Gives plain_command result self.new.rest.now (foreach_read version room self.old.rest.now) }
     {
         let Visit {
             name,
             relation,
             test,
         } = self.visit(alloc, room)?;
-        let body = self.block(alloc, room)?;
+        let body = self.block(alloc, version, room)?;
         Ok(Command::Foreach {
             row: name,
             relation,
@@ -114,12 +139,17 @@ impl<'a> Parser<'a> {
     /// A command after a semicolon, if one comes next.
     #[cycle(command)]
     #[tactic(auto, using(crate::proofs::CommandSteps::next_command_reads), unfolding(crate::specs::inner::Commands::next_command_do))]
-    fn next_command(&mut self, alloc: Global, room: u32) -> Result<Option<Command>, Fault>
+    fn next_command(
+        &mut self,
+        alloc: Global,
+        version: Version,
+        room: u32,
+    ) -> Result<Option<Command>, Fault>
         requires { 0 < room }
-        ensures { Gives (option_map plain_command) result self.new.rest.now (next_command_read room self.old.rest.now) }
+        ensures { Gives (option_map plain_command) result self.new.rest.now (next_command_read version room self.old.rest.now) }
     {
         if self.takes(Mark::Semicolon) {
-            let command = self.command(alloc, room)?;
+            let command = self.command(alloc, version, room)?;
             Ok(Some(command))
         } else {
             Ok(None)
@@ -128,12 +158,17 @@ impl<'a> Parser<'a> {
 
     /// The commands that go on with a list.
     #[cycle(command)]
-    fn commands(&mut self, alloc: Global, room: u32) -> Result<Vec<Command>, Fault>
+    fn commands(
+        &mut self,
+        alloc: Global,
+        version: Version,
+        room: u32,
+    ) -> Result<Vec<Command>, Fault>
         requires { 0 < room }
-        ensures { Gives (λ v. command_views v.items) result self.new.rest.now (commands_read room self.old.rest.now) }
+        ensures { Gives (λ v. command_views v.items) result self.new.rest.now (commands_read version room self.old.rest.now) }
     {
         let mut items = Vec::new(alloc);
-        'more: while let Some(item) = self.next_command(alloc, room)? {
+        'more: while let Some(item) = self.next_command(alloc, version, room)? {
             items.push(item)?;
         }
         Ok(items)
@@ -142,8 +177,13 @@ impl<'a> Parser<'a> {
     /// A block, which is empty where no phrase may go deeper.
     #[cycle(command)]
     #[tactic(auto, using(crate::proofs::CommandSteps::block_reads), unfolding(crate::specs::inner::Commands::block_do, homeo_syntax::specs::Key::words))]
-    pub fn block(&mut self, alloc: Global, room: u32) -> Result<List<Command>, Fault>
-        ensures { Gives block_view result self.new.rest.now (block_read room self.old.rest.now) }
+    pub fn block(
+        &mut self,
+        alloc: Global,
+        version: Version,
+        room: u32,
+    ) -> Result<List<Command>, Fault>
+        ensures { Gives block_view result self.new.rest.now (block_read version room self.old.rest.now) }
     {
         self.expect(Mark::OpenBrace)?;
         if self.takes(Mark::CloseBrace) {
@@ -152,8 +192,8 @@ impl<'a> Parser<'a> {
         if room == 0 {
             return Err(Fault::Stuck);
         }
-        let first = self.command(alloc, room)?;
-        let others = self.commands(alloc, room)?;
+        let first = self.command(alloc, version, room)?;
+        let others = self.commands(alloc, version, room)?;
         self.expect(Mark::CloseBrace)?;
         list_of(first, others)
     }

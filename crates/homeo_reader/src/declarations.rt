@@ -6,7 +6,7 @@ ghost use Rattle.homeo_reader.specs.inner.Reading.{Gives, same};
 ghost use Rattle.homeo_reader.specs.inner.Declarations.{relation_views, transaction_views, object_rest, next_object_read, objects_read, decl_read, first_decl_read, next_decl_read, other_decls_read, fields_read, relation_rest, next_relation_read, relations_read, parameters_read, transaction_rest, next_transaction_read, transactions_read};
 
 use crate::parser::{Fault, Parser, list_of};
-use homeo_syntax::{Kind, List, Mark, ObjectDecl, RangeDecl, RelationDecl, Transaction};
+use homeo_syntax::{Kind, List, Mark, ObjectDecl, RangeDecl, RelationDecl, Transaction, Version};
 use std::alloc::Global;
 
 /// How deep phrases may go.
@@ -176,24 +176,32 @@ impl<'a> Parser<'a> {
 
     /// What follows `transaction`.
     #[tactic(auto, using(homeo_syntax::proofs::SourceViews::workload_views), unfolding(crate::specs::inner::Declarations::transaction_rest, homeo_syntax::specs::Rules::limit))]
-    fn transaction_after_word(&mut self, alloc: Global) -> Result<Transaction, Fault>
-        ensures { Gives plain_transaction result self.new.rest.now (transaction_rest self.old.rest.now) }
+    fn transaction_after_word(
+        &mut self,
+        alloc: Global,
+        version: Version,
+    ) -> Result<Transaction, Fault>
+        ensures { Gives plain_transaction result self.new.rest.now (transaction_rest version self.old.rest.now) }
     {
         let name = self.name()?;
         self.expect(Mark::Open)?;
         let params = self.parameters(alloc)?;
         self.expect(Mark::Close)?;
-        let body = self.block(alloc, LIMIT)?;
+        let body = self.block(alloc, version, LIMIT)?;
         Ok(Transaction { name, params, body })
     }
 
     /// A transaction, if one comes next.
     #[tactic(auto, using(crate::proofs::DeclarationSteps::next_transaction_reads), unfolding(crate::specs::inner::Declarations::next_transaction_do))]
-    fn next_transaction(&mut self, alloc: Global) -> Result<Option<Transaction>, Fault>
-        ensures { Gives (option_map plain_transaction) result self.new.rest.now (next_transaction_read self.old.rest.now) }
+    fn next_transaction(
+        &mut self,
+        alloc: Global,
+        version: Version,
+    ) -> Result<Option<Transaction>, Fault>
+        ensures { Gives (option_map plain_transaction) result self.new.rest.now (next_transaction_read version self.old.rest.now) }
     {
         if self.takes(Mark::Transaction) {
-            let transaction = self.transaction_after_word(alloc)?;
+            let transaction = self.transaction_after_word(alloc, version)?;
             Ok(Some(transaction))
         } else {
             Ok(None)
@@ -201,11 +209,15 @@ impl<'a> Parser<'a> {
     }
 
     /// The transactions, as many as come.
-    pub fn transactions(&mut self, alloc: Global) -> Result<List<Transaction>, Fault>
-        ensures { Gives (λ l. transaction_views l.items) result self.new.rest.now (transactions_read self.old.rest.now) }
+    pub fn transactions(
+        &mut self,
+        alloc: Global,
+        version: Version,
+    ) -> Result<List<Transaction>, Fault>
+        ensures { Gives (λ l. transaction_views l.items) result self.new.rest.now (transactions_read version self.old.rest.now) }
     {
         let mut items = List::new(alloc);
-        'more: while let Some(item) = self.next_transaction(alloc)? {
+        'more: while let Some(item) = self.next_transaction(alloc, version)? {
             items.push(item)?;
         }
         Ok(items)

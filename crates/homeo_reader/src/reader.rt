@@ -8,8 +8,8 @@ ghost use Rattle.homeo_syntax.specs.WellFormed.{IsWellFormed};
 ghost use Rattle.homeo_reader.specs.inner.Exact.{ReadsExactly, ParsesExactly};
 
 use crate::parser::{Fault, Parser};
-use homeo_syntax::{List, Refusal, Text, Token, Workload};
-use homeo_tokens::{Numbered, ScanError, first_bad_byte, number_names, scan};
+use homeo_syntax::{List, Refusal, Text, Token, Version, Workload};
+use homeo_tokens::{Numbered, ScanError, first_bad_byte, number_names, scan, version_of};
 use std::alloc::Global;
 
 /// Why no workload was read.
@@ -51,17 +51,18 @@ fn refusal_after(fault: Fault, offset: u64) -> ReadRefusal
     }
 }
 
-/// The workload with these names that all of the tokens are, of a text that ends at this offset.
+/// The workload of this version with these names that all of the tokens are, of a text that ends at this offset.
 fn parse(
     alloc: Global,
+    version: Version,
     tokens: &[Token],
     names: List<Text>,
     end: u64,
 ) -> Result<Workload, ReadRefusal>
-    ensures { ParsesExactly names.items tokens.now end result }
+    ensures { ParsesExactly version names.items tokens.now end result }
 {
     let mut parser = Parser { rest: tokens };
-    let parsed = parser.workload(alloc, names);
+    let parsed = parser.workload(alloc, version, names);
     let rest = parser.rest;
     match parsed {
         Ok(workload) => {
@@ -95,10 +96,11 @@ fn read_exactly(alloc: Global, bytes: &[u8]) -> Result<Workload, ReadRefusal>
         Err(ScanError::Memory) => return Err(ReadRefusal::Memory),
         Err(ScanError::At(offset)) => return Err(refused(NO_TOKEN, offset as u64)),
     };
+    let version = version_of(scanned.as_slice());
     match number_names(alloc, scanned.as_slice()) {
         Ok(numbered) => {
             let Numbered { tokens, names } = numbered;
-            parse(alloc, tokens.as_slice(), names, bytes.len() as u64)
+            parse(alloc, version, tokens.as_slice(), names, bytes.len() as u64)
         }
         Err(_) => Err(ReadRefusal::Memory),
     }

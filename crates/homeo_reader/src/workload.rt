@@ -3,10 +3,11 @@
 ghost use Rattle.std.specs.Prelude.{◌≡◌, Ok};
 ghost use Rattle.homeo_syntax.specs.SourceView.{plain_schedule, plain_workload};
 ghost use Rattle.homeo_reader.specs.inner.Reading.{Gives, same, number_is_read, offset_read};
-ghost use Rattle.homeo_reader.specs.inner.Declarations.{next_name_read, names_read, schedule_read, head_read, workload_read};
+ghost use Rattle.homeo_syntax.specs.Versions.{version_number};
+ghost use Rattle.homeo_reader.specs.inner.Declarations.{next_name_read, names_read, schedule_read, next_weight_read, other_weights_read, weights_read, head_view, head_read, workload_read};
 
-use crate::parser::{Fault, Parser};
-use homeo_syntax::{Ident, Kind, List, Mark, Number, Text, Workload};
+use crate::parser::{Fault, Parser, list_of};
+use homeo_syntax::{Ident, Kind, List, Mark, Number, Text, Version, Workload};
 use std::alloc::Global;
 
 impl<'a> Parser<'a> {
@@ -71,13 +72,13 @@ impl<'a> Parser<'a> {
         }
     }
 
-    /// Takes the version of the text, which is 1.
-    fn version(&mut self) -> Result<(), Fault>
-        ensures { Gives same result self.new.rest.now (number_is_read 1 self.old.rest.now) }
+    /// Takes the number of a version.
+    fn number_of(&mut self, version: Version) -> Result<(), Fault>
+        ensures { Gives same result self.new.rest.now (number_is_read (version_number version) self.old.rest.now) }
     {
         match self.rest.split_first() {
             Some((t, rest)) => match t.kind {
-                Kind::Number(1) => {
+                Kind::Number(n) if n == version.number() as i64 => {
                     self.rest = rest;
                     Ok(())
                 }
@@ -87,32 +88,78 @@ impl<'a> Parser<'a> {
         }
     }
 
-    /// The number of sites, with what stands before it.
-    #[tactic(auto, using(crate::proofs::DeclarationSteps::head_reads), unfolding(crate::specs::inner::Declarations::head_do))]
-    fn head(&mut self) -> Result<Number, Fault>
-        ensures { Gives same result self.new.rest.now (head_read self.old.rest.now) }
+    /// A weight after a comma, if one comes next.
+    #[tactic(auto, using(crate::proofs::DeclarationSteps::next_weight_reads), unfolding(crate::specs::inner::Declarations::next_weight_do))]
+    fn next_weight(&mut self) -> Result<Option<Number>, Fault>
+        ensures { Gives same result self.new.rest.now (next_weight_read self.old.rest.now) }
     {
-        self.expect(Mark::Workload)?;
-        self.version()?;
-        self.expect(Mark::Sites)?;
-        let sites = self.number()?;
-        Ok(sites)
+        if self.takes(Mark::Comma) {
+            let weight = self.number()?;
+            Ok(Some(weight))
+        } else {
+            Ok(None)
+        }
     }
 
-    /// A workload with these names.
-    #[tactic(auto, using(crate::proofs::DeclarationSteps::workload_reads, homeo_syntax::proofs::SourceViews::workload_views), unfolding(crate::specs::inner::Declarations::workload_do))]
-    pub fn workload(&mut self, alloc: Global, names: List<Text>) -> Result<Workload, Fault>
-        ensures { Gives plain_workload result self.new.rest.now (workload_read names.items self.old.rest.now) }
+    /// The weights that go on with a list.
+    fn other_weights(&mut self, alloc: Global) -> Result<Vec<Number>, Fault>
+        ensures { Gives (λ v. v.items) result self.new.rest.now (other_weights_read self.old.rest.now) }
     {
-        let sites = self.head()?;
+        let mut items = Vec::new(alloc);
+        'more: while let Some(item) = self.next_weight()? {
+            items.push(item)?;
+        }
+        Ok(items)
+    }
+
+    /// The weights of the sites, which version 1 has none of.
+    #[tactic(auto, using(crate::proofs::DeclarationSteps::weights_reads), unfolding(crate::specs::inner::Declarations::weights_do))]
+    fn weights(&mut self, alloc: Global, version: Version) -> Result<List<Number>, Fault>
+        ensures { Gives (λ l. l.items) result self.new.rest.now (weights_read version self.old.rest.now) }
+    {
+        match version {
+            Version::First => Ok(List::new(alloc)),
+            Version::Second => {
+                self.expect(Mark::Weights)?;
+                let first = self.number()?;
+                let others = self.other_weights(alloc)?;
+                list_of(first, others)
+            }
+        }
+    }
+
+    /// The number of sites and their weights, with what stands before.
+    #[tactic(auto, using(crate::proofs::DeclarationSteps::head_reads), unfolding(crate::specs::inner::Declarations::head_do))]
+    fn head(&mut self, alloc: Global, version: Version) -> Result<(Number, List<Number>), Fault>
+        ensures { Gives head_view result self.new.rest.now (head_read version self.old.rest.now) }
+    {
+        self.expect(Mark::Workload)?;
+        self.number_of(version)?;
+        self.expect(Mark::Sites)?;
+        let sites = self.number()?;
+        let weights = self.weights(alloc, version)?;
+        Ok((sites, weights))
+    }
+
+    /// A workload of this version with these names.
+    #[tactic(auto, using(crate::proofs::DeclarationSteps::workload_reads, homeo_syntax::proofs::SourceViews::workload_views), unfolding(crate::specs::inner::Declarations::workload_do))]
+    pub fn workload(
+        &mut self,
+        alloc: Global,
+        version: Version,
+        names: List<Text>,
+    ) -> Result<Workload, Fault>
+        ensures { Gives plain_workload result self.new.rest.now (workload_read version names.items self.old.rest.now) }
+    {
+        let (sites, weights) = self.head(alloc, version)?;
         let objects = self.objects(alloc)?;
         let relations = self.relations(alloc)?;
-        let transactions = self.transactions(alloc)?;
+        let transactions = self.transactions(alloc, version)?;
         let clients = self.clients(alloc)?;
         let schedule = self.schedule(alloc)?;
         let end = self.offset_of(Mark::End)?;
         Ok(Workload {
-            version: 1,
+            version: version.number(),
             names,
             sites,
             objects,
@@ -121,6 +168,7 @@ impl<'a> Parser<'a> {
             clients,
             schedule,
             end,
+            weights,
         })
     }
 }

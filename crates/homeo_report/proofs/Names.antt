@@ -8,6 +8,7 @@ use Rattle.std.proofs.lemmas.Bool.Decides.{nat_tests}
 use Rattle.homeo_syntax.specs.Key.{words as syntax}
 use Rattle.homeo_syntax.specs.Source as s
 use Rattle.homeo_syntax.specs.Lexemes.{is_word}
+use Rattle.homeo_syntax.specs.declared.token.Version.{Version}
 use Rattle.homeo_syntax.specs.WellFormed.{IsName, Each, IsBelow, IsWellFormed}
 use Rattle.homeo_syntax.specs.declared.phrase.Ident.{Ident}
 use Rattle.homeo_syntax.specs.declared.workload.ObjectDecl.{ObjectDecl}
@@ -33,16 +34,16 @@ word_no_newline b h = grind (arith, nat_tests)
 word_no_space : (b : ℕ) → is_word b ≡ true → is_not 32 b ≡ true
 word_no_space b h = grind (arith, nat_tests)
 
-names_pass : (p : ℕ → Bool) → ((b : ℕ) → is_word b ≡ true → p b ≡ true) → (names : List (List ℕ)) → Each IsName names → (i : ℕ) → list_all p (unwrap_or (slice_get names i) []) ≡ true
+names_pass : (p : ℕ → Bool) → ((b : ℕ) → is_word b ≡ true → p b ≡ true) → (v : Version) (names : List (List ℕ)) → Each (IsName v) names → (i : ℕ) → list_all p (unwrap_or (slice_get names i) []) ≡ true
 unfolding syntax
-names_pass p f [] h i = refl
-names_pass p f (n ∷ names) h zero = all_weaker is_word p n f h.0.all
-names_pass p f (n ∷ names) h (suc i) = names_pass p f names h.1 i
+names_pass p f v [] h i = refl
+names_pass p f v (n ∷ names) h zero = all_weaker is_word p n f h.0.all
+names_pass p f v (n ∷ names) h (suc i) = names_pass p f v names h.1 i
 
 pub plain_names : (w : s.Workload) → IsWellFormed w → HasPlainNames w
 plain_names w well = record {
-  no_newline = names_pass (is_not 10) word_no_newline w.names well.spelled;
-  no_space = names_pass (is_not 32) word_no_space w.names well.spelled;
+  no_newline = names_pass (is_not 10) word_no_newline well.form w.names well.spelled;
+  no_space = names_pass (is_not 32) word_no_space well.form w.names well.spelled;
 }
 
 -- ---- distinct items

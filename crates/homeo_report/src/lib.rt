@@ -6,8 +6,6 @@ pub mod laws;
 mod objects;
 mod rounds;
 mod summaries;
-#[cfg(test)]
-mod tests;
 
 pub use rounds::report;
 pub use summaries::summary;

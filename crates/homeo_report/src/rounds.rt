@@ -132,7 +132,7 @@ fn push_rounds(out: &mut Vec<u8>, w: &Workload, rounds: &[Round]) -> Result<u64,
     Ok(calls)
 }
 
-pub(crate) fn report_of(alloc: Global, history: &History, w: &Workload) -> Result<Vec<u8>, Memory>
+fn report_of(alloc: Global, history: &History, w: &Workload) -> Result<Vec<u8>, Memory>
     requires { CanReport (plain_workload w.now) (plain_history history.now) }
     ensures { IfOk result (λ bytes.
         bytes.items ≡ report (plain_workload w.now) (plain_history history.now)) }

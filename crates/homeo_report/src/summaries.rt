@@ -91,7 +91,7 @@ fn totals_of(rounds: &[Round]) -> Result<Totals, Memory>
     Ok(all)
 }
 
-pub(crate) fn summary_of(alloc: Global, history: &History, w: &Workload) -> Result<Vec<u8>, Memory>
+fn summary_of(alloc: Global, history: &History, w: &Workload) -> Result<Vec<u8>, Memory>
     requires { CanReport (plain_workload w.now) (plain_history history.now) }
     ensures { IfOk result (λ bytes. bytes.items ≡ summary (plain_workload w.now) (plain_history history.now)) }
 {

@@ -7,6 +7,7 @@ use Rattle.homeo_syntax.specs.Source as s
 use Rattle.homeo_syntax.specs.SourceView.{plain_relation, plain_transaction, plain_client, plain_schedule, plain_workload}
 use Rattle.homeo_syntax.specs.WellFormed.{Each, IsBelow, InSchedule, EachInCommands, IsWellFormed}
 use Rattle.homeo_syntax.specs.declared.phrase.Ident.{Ident}
+use Rattle.homeo_syntax.specs.declared.phrase.Number.{Number}
 use Rattle.homeo_syntax.specs.declared.workload.ObjectDecl.{ObjectDecl}
 use Rattle.homeo_syntax.specs.declared.workload.RangeDecl.{RangeDecl}
 use Rattle.homeo_syntax.specs.declared.workload.RelationDecl.{RelationDecl}
@@ -17,7 +18,7 @@ use Rattle.homeo_meaning.specs.Key.{words as meaning_words}
 use Rattle.homeo_meaning.specs.Bindings.{Scope}
 use Rattle.homeo_meaning.specs.TransactionRules.{each}
 use Rattle.homeo_meaning.specs.GlobalNames.{GlobalName, numbered_from, global_names, duplicate, field_names, scope_of, sited_calls, sited_calls_of, called}
-use Rattle.homeo_meaning.specs.NumberRules.{object_faults, site_count_faults, slot_faults, object_making, relation_making, makings, too_many_objects, passes_limit, limit_faults, distinct_after, ground_calls}
+use Rattle.homeo_meaning.specs.NumberRules.{object_faults, site_weight_faults, site_count_faults, slot_faults, object_making, relation_making, makings, too_many_objects, passes_limit, limit_faults, distinct_after, ground_calls}
 use Rattle.homeo_meaning.specs.CallRules.{client_faults, schedule_faults}
 use Rattle.homeo_meaning.specs.SizeRules.{size_faults, print_faults, weight_faults, row_faults}
 use Rattle.homeo_meaning.specs.Faults.{of_relation, of_transaction, declared_faults, text_faults, form_faults, faults}
@@ -119,9 +120,15 @@ entered-all w n t0 t1 t2 t3 t4 os rs ts cs formed en e0 eo er et ec e1 e2 e3 e4 
     }
 
 -- ---- what is declared and called
-pub declared-along : (w : Workload) (sc : Scope) (best : Option Fault) (os : List ObjectDecl) (qs : List RelationDecl) (ts us : List Transaction) (cs : List Client) → sc ≡ scope_of (plain_workload w) → os ≡ w.objects.items → qs ≡ w.relations.items → ts ≡ w.transactions.items → us ≡ w.transactions.items → cs ≡ w.clients.items → along_all (client_faults_of w.sites sc us) (along_all (transaction_faults_of sc) (along_all relation_faults_of (along_all object_faults best os) qs) ts) cs ≡ keep_all best (declared_faults (plain_workload w))
+abbrev declared_without : s.Workload → List Fault
+unfolding meaning_words
+declared_without p =
+    flat_map object_faults p.objects ++ flat_map of_relation p.relations ++ flat_map (of_transaction (scope_of p)) p.transactions
+    ++ flat_map (client_faults p.sites (scope_of p) p.transactions) p.clients
+
+without-along : (w : Workload) (sc : Scope) (best : Option Fault) (os : List ObjectDecl) (qs : List RelationDecl) (ts us : List Transaction) (cs : List Client) → sc ≡ scope_of (plain_workload w) → os ≡ w.objects.items → qs ≡ w.relations.items → ts ≡ w.transactions.items → us ≡ w.transactions.items → cs ≡ w.clients.items → along_all (client_faults_of w.sites sc us) (along_all (transaction_faults_of sc) (along_all relation_faults_of (along_all object_faults best os) qs) ts) cs ≡ keep_all best (declared_without (plain_workload w))
 unfolding words meaning_words syntax_words
-declared-along w sc best os qs ts us cs es eo eq et eu ec =
+without-along w sc best os qs ts us cs es eo eq et eu ec =
     let p : s.Workload = plain_workload w in
     let a : List Fault = flat_map object_faults w.objects.items in
     let b : List Fault = flat_map of_relation p.relations in
@@ -138,6 +145,13 @@ declared-along w sc best os qs ts us cs es eo eq et eu ec =
     keep_all-append best a b
     ∙ all-mapped plain_relation of_relation (keep_all best a) w.relations.items
     ∙ ap (λ o. along_all relation_faults_of o w.relations.items) (all-along object_faults best w.objects.items))))
+
+pub declared-along : (w : Workload) (sc : Scope) (best : Option Fault) (os : List ObjectDecl) (qs : List RelationDecl) (ts us : List Transaction) (cs : List Client) (ns : List Number) → sc ≡ scope_of (plain_workload w) → os ≡ w.objects.items → qs ≡ w.relations.items → ts ≡ w.transactions.items → us ≡ w.transactions.items → cs ≡ w.clients.items → ns ≡ w.weights.items
+    → keep_all (along_all (client_faults_of w.sites sc us) (along_all (transaction_faults_of sc) (along_all relation_faults_of (along_all object_faults best os) qs) ts) cs) (site_weight_faults w.sites ns) ≡ keep_all best (declared_faults (plain_workload w))
+unfolding words meaning_words syntax_words
+declared-along w sc best os qs ts us cs ns es eo eq et eu ec en =
+    (λ i. keep_all (without-along w sc best os qs ts us cs es eo eq et eu ec i) (site_weight_faults w.sites (en i)))
+    ∙ sym (keep_all-append best (declared_without (plain_workload w)) (site_weight_faults w.sites w.weights.items))
 
 -- ---- limits
 makings-plain : (qs : List RelationDecl) → map making_of qs ≡ map relation_making (map plain_relation qs)

@@ -16,6 +16,7 @@ pub mod OneDecides
 pub mod Phases
 pub mod Printings
 pub mod RowsAlong
+pub mod SiteWeights
 pub mod SizesAlong
 pub mod Steps
 pub mod Tallied

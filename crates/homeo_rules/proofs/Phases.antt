@@ -1,7 +1,8 @@
 -- The faults of the text come in earlier phases than those of the L forms, so that one of the text's decides where there is one.
 use Rattle.std.proofs.Common.{◌≡◌, ℕ, ◌+◌, ◌<◌, ◌≤◌, pos, neg_ℤ, Bool, true, false, cond, ◌&&◌, ◌||◌, ◌==◌, List, [], ◌∷◌, ◌++◌, map, Option, Some, None, length, refl, ap, subst, ◌∙◌, arith}
 use Rattle.std.specs.Prelude.{nat_le, nat_lt, slice_get, int_lt, int_le, is_some, not}
-use Rattle.std.specs.List.{flat_map, sum_by}
+use Rattle.std.specs.List.{flat_map, sum_by, list_all}
+use Rattle.std.specs.Ordering.{int_eq}
 use Rattle.std.proofs.lemmas.Bool.Decides.{nat_tests}
 use Rattle.homeo_syntax.specs.Source as s
 use Rattle.homeo_syntax.specs.declared.phrase.Ident.{Ident}
@@ -14,7 +15,7 @@ use Rattle.homeo_meaning.specs.Occurrences.{Mark, Occurrence, DeclaresRow, Takes
 use Rattle.homeo_meaning.specs.NameRules.{when, fault, number_fault, declares_row, takes_object, takes_relation, takes_value, field_of, takes_field, fills_all, fills_fields, assigns, judge_mark, judge}
 use Rattle.homeo_meaning.specs.TransactionRules.{is_in, each_from, each, local_of, temporaries, body_faults, parameter_fault, transaction_faults}
 use Rattle.homeo_meaning.specs.GlobalNames.{SitedCall, global_names, duplicate, scope_of, sited_calls}
-use Rattle.homeo_meaning.specs.NumberRules.{largest_bound, too_large, crossed, range_faults, outside, object_faults, range_bounds, argument_outside, arguments_outside, site_faults, site_count_faults, slot_faults, makings, made, too_many_objects, passes_limit, ground_calls, limit_faults}
+use Rattle.homeo_meaning.specs.NumberRules.{largest_weight, too_heavy, is_weightless, weight_list_faults, site_weight_faults, largest_bound, too_large, crossed, range_faults, outside, object_faults, range_bounds, argument_outside, arguments_outside, site_faults, site_count_faults, slot_faults, makings, made, too_many_objects, passes_limit, ground_calls, limit_faults}
 use Rattle.homeo_meaning.specs.CallRules.{times, call_count, params_of, call_faults, client_faults, scheduled, order_faults, is_short, end_fault, needs_order, has_calls, schedule_faults}
 use Rattle.homeo_meaning.specs.SizeRules.{too_large as too_large_call, size_faults, prints_too_much, print_faults, heavy_call, weight_faults, too_many_rows, row_faults, makes_tables}
 use Rattle.homeo_meaning.specs.CallForm.{call_form}
@@ -228,6 +229,20 @@ relation_early q =
     let names : List Ident = map (λ (d : RangeDecl). d.name) q.fields in
     both 0 7 (flat_map range_bounds q.fields) (each duplicate names) (all_of 0 7 range_bounds (λ d. range_early d.lo d.hi) q.fields) (duplicates_early names)
 
+weight_list_early : (sites : Number) (ns : List Number) → Early (weight_list_faults sites ns)
+unfolding words
+weight_list_early sites [] = tt
+weight_list_early sites (n ∷ ns) =
+    both 0 7 (when (not (int_eq (pos (length (n ∷ ns))) sites.value)) (number_fault F.Arity n)) (when (list_all is_weightless (n ∷ ns)) (number_fault F.Bounds n))
+    (if_so 0 7 (not (int_eq (pos (length (n ∷ ns))) sites.value)) (number_fault F.Arity n) (omega arith, omega arith, tt))
+    (if_so 0 7 (list_all is_weightless (n ∷ ns)) (number_fault F.Bounds n) (bounds_early n))
+
+weights_early : (sites : Number) (ns : List Number) → Early (site_weight_faults sites ns)
+unfolding words
+weights_early sites ns =
+    both 0 7 (weight_list_faults sites ns) (flat_map too_heavy ns) (weight_list_early sites ns)
+    (all_of 0 7 too_heavy (λ n. if_so 0 7 (int_lt largest_weight n.value) (number_fault F.Bounds n) (bounds_early n)) ns)
+
 declared_early : (w : s.Workload) → Early (declared_faults w)
 unfolding words
 declared_early w =
@@ -235,7 +250,9 @@ declared_early w =
     let b : List Fault = flat_map of_relation w.relations in
     let c : List Fault = flat_map (of_transaction (scope_of w)) w.transactions in
     let d : List Fault = flat_map (client_faults w.sites (scope_of w) w.transactions) w.clients in
-    both 0 7 (a ++ b ++ c) d (both 0 7 (a ++ b) c (both 0 7 a b (all_of 0 7 object_faults object_early w.objects) (all_of 0 7 of_relation relation_early w.relations)) (all_of 0 7 (of_transaction (scope_of w)) (transaction_early (scope_of w)) w.transactions)) (all_of 0 7 (client_faults w.sites (scope_of w) w.transactions) (client_early w.sites (scope_of w) w.transactions) w.clients)
+    both 0 7 (a ++ b ++ c ++ d) (site_weight_faults w.sites w.weights)
+    (both 0 7 (a ++ b ++ c) d (both 0 7 (a ++ b) c (both 0 7 a b (all_of 0 7 object_faults object_early w.objects) (all_of 0 7 of_relation relation_early w.relations)) (all_of 0 7 (of_transaction (scope_of w)) (transaction_early (scope_of w)) w.transactions)) (all_of 0 7 (client_faults w.sites (scope_of w) w.transactions) (client_early w.sites (scope_of w) w.transactions) w.clients))
+    (weights_early w.sites w.weights)
 
 passing_early : {A : Type 0} (most : ℕ) (name : A → Ident) (xs : List A) → Early (each (passes_limit most name) xs)
 unfolding words

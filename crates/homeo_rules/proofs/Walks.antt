@@ -49,7 +49,7 @@ pub plain-Block : (cs : Listed Command) → plain_command (C.Block cs) ≡ s.Blo
 unfolding words
 plain-Block cs = v.plain_Block cs
 
-pub ruleset views = (v.plain_Literal, v.plain_Name, v.plain_Read, plain-Sum, plain-Product, v.plain_Neg, v.plain_Field, v.plain_Row, v.plain_Count, v.plain_Total, v.plain_True, v.plain_Not, v.plain_Compare, plain-Cond, v.plain_Skip, v.plain_Assign, v.plain_Write, v.plain_Print, v.plain_If, plain-Block, v.plain_SetField, v.plain_SetRow, plain-Foreach, plain-Insert, v.plain_Delete, v.plain_Update)
+pub ruleset views = (v.plain_Literal, v.plain_Name, v.plain_Read, plain-Sum, plain-Product, v.plain_Neg, v.plain_Field, v.plain_Row, v.plain_Count, v.plain_Total, v.plain_True, v.plain_Not, v.plain_Compare, plain-Cond, v.plain_Skip, v.plain_Assign, v.plain_Write, v.plain_Print, v.plain_If, plain-Block, v.plain_SetField, v.plain_SetRow, plain-Foreach, plain-Insert, v.plain_Delete, v.plain_Update, v.plain_Abort)
 
 -- the fields that an insert names
 pub named-plain : (fs : List FieldValue) → map (λ f. f.field) (plain_fields fs) ≡ named_fields fs
@@ -171,6 +171,10 @@ pub in-Update : (rows : List Row) (r q : Ident) (t : s.Cond) (f : Ident) (e : s.
 unfolding meaning_words
 in-Update rows r q t f e = refl
 
+pub in-Abort : (rows : List Row) → in_command rows s.Abort ≡ []
+unfolding meaning_words
+in-Abort rows = refl
+
 -- a list of exprs
 pub along-exprs : (s : Scope) (rows : List Row) (k : Standing) (xs : List Expr) → follow s k (in_exprs rows (plain_exprs xs)) ≡ along_exprs s rows k xs
 unfolding words syntax_words meaning_words
@@ -207,4 +211,4 @@ along-commands s rows k (x ∷ xs) = follow-append s k (in_command rows (plain_c
 pub end-commands : (s : Scope) (rows : List Row) (k start : Standing) (xs : List Command) (i : ℕ) → length xs ≤ i → along_commands s rows k (drop i xs) ≡ along_commands s rows start xs → k ≡ follow s start (in_commands rows (plain_commands xs))
 end-commands s rows k start xs i h e = ap (along_commands s rows k) (sym (drop_all i xs h)) ∙ e ∙ sym (along-commands s rows start xs)
 
-pub ruleset walks = (views, follow-none, follow-one, follow-append, in-Literal, in-Name, in-Read, in-Sum, in-Product, in-Neg, in-Field, in-Row, in-Count, in-Total, in-True, in-Not, in-Comparison, in-Skip, in-Assign, in-Write, in-Print, in-If, in-Block, in-SetField, in-SetRow, in-Foreach, in-Insert, in-Delete, in-Update, along-exprs, along-tests, along-values, along-commands, named-plain)
+pub ruleset walks = (views, follow-none, follow-one, follow-append, in-Literal, in-Name, in-Read, in-Sum, in-Product, in-Neg, in-Field, in-Row, in-Count, in-Total, in-True, in-Not, in-Comparison, in-Skip, in-Assign, in-Write, in-Print, in-If, in-Block, in-SetField, in-SetRow, in-Foreach, in-Insert, in-Delete, in-Update, in-Abort, along-exprs, along-tests, along-values, along-commands, named-plain)

@@ -90,6 +90,7 @@ mutual
   targets_of n rows (s.Delete r q t) h = (tt, (tt, no_targets_cond n (within r q rows) t))
   targets_of n rows (s.Update r q t f e) h =
       (tt, (tt, (tt, both n (in_cond (within r q rows) t) (in_expr (within r q rows) e) (no_targets_cond n (within r q rows) t) (no_targets n (within r q rows) e))))
+  targets_of n rows s.Abort h = tt
 
   targets : (n : ℕ) (rows : List m.Row) (cs : s.Commands) → EachInCommands (IsBelow n) cs → TargetsWithin n (in_commands rows cs)
   targets n rows s.NoCommand h = tt

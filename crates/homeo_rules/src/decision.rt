@@ -10,7 +10,7 @@ ghost use Rattle.homeo_meaning.specs.CallRules.{schedule_faults};
 ghost use Rattle.homeo_meaning.specs.Faults.{declared_faults, faults};
 ghost use Rattle.homeo_rules.specs.inner.Scopes.{scope_in};
 ghost use Rattle.homeo_ground.specs.Sited.{sited};
-ghost use Rattle.homeo_rules.specs.inner.Decided.{NamesGlobals, faults_with_names};
+ghost use Rattle.homeo_rules.specs.inner.Decided.{NamesGlobals, name_fault, faults_with_names};
 
 use crate::forms::check_forms;
 use crate::names::field_table::FieldTable;
@@ -25,6 +25,7 @@ use crate::rules::limits::{
 use crate::rules::objects::check_object_count;
 use crate::rules::relations::{check_all_slots, check_relations};
 use crate::rules::schedule::check_schedule;
+use crate::rules::site_weights::check_site_weights;
 use crate::sited::sited_calls;
 use crate::transaction::check_transactions;
 use homeo_ground::{SitedCall, number_clients};
@@ -45,7 +46,7 @@ fn global_names(alloc: Global, w: &Workload) -> Result<Items, Memory>
     Ok(items)
 }
 
-/// With the faults of declarations, transactions and clients.
+/// With the faults of declarations, transactions, clients and weights.
 fn declared(
     alloc: Global,
     w: &Workload,
@@ -60,13 +61,14 @@ fn declared(
     let best = check_relations(alloc, w.relations.as_slice(), best)?;
     let names = w.names.as_slice().len();
     let best = check_transactions(alloc, w.transactions.as_slice(), scope, names, best)?;
-    Ok(check_clients(
+    let best = check_clients(
         w.clients.as_slice(),
         w.sites,
         scope,
         w.transactions.as_slice(),
         best,
-    ))
+    );
+    Ok(check_site_weights(w.sites, w.weights.as_slice(), best))
 }
 
 /// With the faults of how many there are of each.
@@ -135,6 +137,56 @@ fn text(
     schedule(alloc, purpose, w, scope, best)
 }
 
+/// The fault that decides, with the calls and the fault that decides among those of the global names.
+fn with_calls(
+    alloc: Global,
+    purpose: Purpose,
+    w: &Workload,
+    scope: &Scope<'_>,
+    calls: &[SitedCall<'_>],
+    grounds: &[SitedCall<'_>],
+    best: Option<Fault>,
+) -> Result<Option<Fault>, Memory>
+    requires formed { IsWellFormed (plain_workload w.now) }
+    requires names { scope_in scope.now ≡ scope_of (plain_workload w.now) }
+    requires sited { map sited calls.now ≡ sited_calls (plain_workload w.now) }
+    requires grounds { map sited grounds.now ≡ ground_calls (plain_workload w.now) }
+    requires best { best ≡ name_fault (plain_workload w.now) }
+    ensures { IfOk result (λ b. b ≡ keep_all None (faults purpose (plain_workload w.now))) }
+{
+    let best = text(alloc, purpose, w, scope, calls, grounds, best)?;
+    match best {
+        Some(_) => Ok(best),
+        None => check_forms(alloc, purpose, w, scope, calls, grounds),
+    }
+}
+
+/// The fault that decides, with the scope of the global names and the fault that decides among theirs.
+fn in_scope(
+    alloc: Global,
+    purpose: Purpose,
+    w: &Workload,
+    scope: &Scope<'_>,
+    best: Option<Fault>,
+) -> Result<Option<Fault>, Memory>
+    requires formed { IsWellFormed (plain_workload w.now) }
+    requires names { scope_in scope.now ≡ scope_of (plain_workload w.now) }
+    requires best { best ≡ name_fault (plain_workload w.now) }
+    ensures { IfOk result (λ b. b ≡ keep_all None (faults purpose (plain_workload w.now))) }
+{
+    let calls = sited_calls(alloc, w.clients.as_slice())?;
+    let numbered = number_clients(alloc, w.clients.as_slice())?;
+    with_calls(
+        alloc,
+        purpose,
+        w,
+        scope,
+        calls.as_slice(),
+        numbered.calls.as_slice(),
+        best,
+    )
+}
+
 /// The fault that decides, if there is one.
 pub fn decide(alloc: Global, purpose: Purpose, w: &Workload) -> Result<Option<Fault>, Memory>
     requires { IsWellFormed (plain_workload w.now) }
@@ -146,20 +198,5 @@ pub fn decide(alloc: Global, purpose: Purpose, w: &Workload) -> Result<Option<Fa
         items: items.as_slice(),
         relations: &fields,
     };
-    let calls = sited_calls(alloc, w.clients.as_slice())?;
-    let numbered = number_clients(alloc, w.clients.as_slice())?;
-    let grounds = numbered.calls.as_slice();
-    let best = text(
-        alloc,
-        purpose,
-        w,
-        &scope,
-        calls.as_slice(),
-        grounds,
-        items.best(),
-    )?;
-    match best {
-        Some(_) => Ok(best),
-        None => check_forms(alloc, purpose, w, &scope, calls.as_slice(), grounds),
-    }
+    in_scope(alloc, purpose, w, &scope, items.best())
 }

@@ -9,4 +9,5 @@ pub mod objects;
 pub mod prints;
 pub mod relations;
 pub mod schedule;
+pub mod site_weights;
 pub mod sizes;

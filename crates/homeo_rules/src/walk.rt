@@ -130,7 +130,7 @@ fn walk_command(
     ensures { OnOk result (k.new ≡ follow (scope_in scope.now) k.old (in_command (rows_of rows.now) (plain_command c.now))) }
 {
     match c {
-        Command::Skip => {}
+        Command::Skip | Command::Abort => {}
         Command::Assign { target, value } => {
             walk_expr(value, scope, rows, k);
             k.assigns(scope, rows, *target);

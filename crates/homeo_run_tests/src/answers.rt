@@ -7,39 +7,22 @@ ghost use Rattle.homeo_report.specs.Report.{CanReport};
 ghost use Rattle.homeo_cluster.specs.Passes.{AreAll};
 ghost use Rattle.homeo_cluster.specs.Places.{line_count};
 
-use crate::gates::{Hold, Holds, call};
-use crate::texts::{THREE_AND_ONE, THREE_EACH};
+use crate::gates::{Holds, call};
+use crate::texts::{THREE_AND_ONE, THREE_EACH, accepted_shop};
 use homeo_build::Compiled;
 use homeo_build::compile::compile;
 use homeo_cluster::{ClientPass, Cluster, ClusterNaming, Gate, OpenGate, blank_for, run_clients};
 use homeo_history::{Answer, Entry, History, Path};
-use homeo_meaning::{Accepted, Purpose};
+use homeo_meaning::Accepted;
 use homeo_notes::Blank;
-use homeo_reader::{ReadRefusal, read};
 use homeo_report::report;
-use homeo_rules::{RuleRefusal, accept};
 use homeo_syntax::{List, Memory};
-use std::alloc::{AllocError, Global};
+use std::alloc::Global;
 use std::marker::Brand;
 use std::process::Abort;
 use std::sync::{Arc, Wait};
 use std::test::Fail;
 use std::thread::Threads;
-
-// Reads a text that is accepted.
-fn accepted(rt: &impl Abort, alloc: Global, text: &str) -> Result<Accepted, Fail> {
-    assert!(rt; text.len() <= 1_048_576);
-    let workload = match read(alloc, text.as_bytes()) {
-        Ok(workload) => workload,
-        Err(ReadRefusal::Memory) => return Err(Fail::from(AllocError)),
-        Err(ReadRefusal::Refused(refusal)) => panic!(rt; "refused {refusal:?}"),
-    };
-    match accept(alloc, workload, Purpose::Run) {
-        Ok(w) => Ok(w),
-        Err(RuleRefusal::Memory) => Err(Fail::from(AllocError)),
-        Err(RuleRefusal::Refused(refusal)) => panic!(rt; "refused {refusal:?}"),
-    }
-}
 
 // What all clients were answered, and the history of what was done.
 #[derive(Drop)]
@@ -196,7 +179,8 @@ fn assert_answers_stand(rt: &impl Abort, day: &Day, many: usize) -> Result<(), F
 #[test]
 fn calls_of_one_thread_are_reported_in_their_order(rt: HostRuntime) -> Result<(), Fail> {
     let alloc = rt.alloc();
-    let compiled = Arc::new(alloc, compile(alloc, accepted(&rt, alloc, THREE_AND_ONE)?)?)?;
+    let w = accepted_shop(&rt, alloc, THREE_AND_ONE)?;
+    let compiled = Arc::new(alloc, compile(alloc, w)?)?;
     let day = run_in_order(&rt, alloc, &compiled, &[0, 0, 1, 0])?;
     assert_answers_stand(&rt, &day, 4)?;
     let told = report(alloc, &day.history, compiled.workload())?;
@@ -222,17 +206,8 @@ rounds 2 calls 4
 #[test]
 fn answers_stand_in_the_history(rt: HostRuntime) -> Result<(), Fail> {
     let alloc = rt.alloc();
-    let gate = Holds::new([
-        Hold {
-            call: call(0, 3),
-            until: call(1, 3),
-        },
-        Hold {
-            call: call(1, 3),
-            until: call(0, 3),
-        },
-    ]);
-    let w = accepted(&rt, alloc, THREE_EACH)?;
+    let gate = Holds::third_calls();
+    let w = accepted_shop(&rt, alloc, THREE_EACH)?;
     let day = run_day(&rt, alloc, w, &gate)?;
     assert!(rt; !gate.was_late(&rt));
     assert_answers_stand(&rt, &day, 6)?;

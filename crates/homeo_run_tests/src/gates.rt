@@ -48,6 +48,20 @@ impl Holds {
         }
     }
 
+    /// Holds the third calls of both clients, each until the other is inside.
+    pub fn third_calls() -> Holds {
+        Holds::new([
+            Hold {
+                call: call(0, 3),
+                until: call(1, 3),
+            },
+            Hold {
+                call: call(1, 3),
+                until: call(0, 3),
+            },
+        ])
+    }
+
     /// Whether a call was held for all turns.
     pub fn was_late<R: Wait>(&self, rt: &R) -> bool {
         self.inside.lock(rt).late

@@ -2,7 +2,49 @@
 
 use crate::output::output;
 use homeo_cluster::OpenGate;
+use homeo_load::accepted_load;
+use homeo_syntax::Workload;
+use std::alloc::Global;
 use std::test::Fail;
+
+/// For each object the sum of the numbers that a load's calls add to it.
+fn sums(alloc: Global, w: &Workload) -> Result<Vec<i64>, Fail> {
+    let mut sums = vec![in alloc; 0i64; 8]?;
+    for client in w.clients.as_slice() {
+        for call in client.calls.as_slice() {
+            let name = call.name.name as usize;
+            let object = if name == 8 {
+                0
+            } else {
+                name.checked_sub(9).ok_or("a name")?
+            };
+            let number = call.args.as_slice().first().ok_or("a number")?.value;
+            let sum = sums.get_mut(object).ok_or("an object")?;
+            *sum = sum.checked_add(number).ok_or("a sum")?;
+        }
+    }
+    Ok(sums)
+}
+
+#[test]
+fn one_call_adds_eight_to_the_fifth_object(rt: HostRuntime) -> Result<(), Fail> {
+    let w = accepted_load(rt.alloc(), 1, 1)?;
+    let sums = sums(rt.alloc(), w.workload())?;
+    assert_eq!(rt; sums.as_slice(), [0, 0, 0, 0, 8, 0, 0, 0].as_slice());
+    Ok(())
+}
+
+#[test]
+fn the_largest_load_has_the_sums_of_a_plain_loop(rt: HostRuntime) -> Result<(), Fail> {
+    let w = accepted_load(rt.alloc(), 7, 20_000)?;
+    let sums = sums(rt.alloc(), w.workload())?;
+    let wanted = [12581, 12764, 12141, 12682, 12462, 12748, 12271, 12390];
+    assert_eq!(rt; sums.as_slice(), wanted.as_slice());
+    for client in w.workload().clients.as_slice() {
+        assert_eq!(rt; client.calls.as_slice().len(), 2500);
+    }
+    Ok(())
+}
 
 /// A text that no command accepts, and that a load doesn't read.
 const UNREAD: &str = "this is not read";

@@ -2,24 +2,19 @@
 
 use crate::gates::{Hold, Holds, HoldsFirst, call};
 use crate::output::{output, run_words};
-use crate::texts::{IN_ORDER, ONE_SITE, SHORT_ORDER, THREE_AND_ONE, THREE_AND_TWO, THREE_EACH};
+use crate::texts::{
+    IN_ORDER, ONE_SITE, SHORT_ORDER, THREE_AND_ONE, THREE_AND_TWO, THREE_EACH, shop,
+};
 use homeo::Status;
 use homeo_cluster::OpenGate;
 use std::test::Fail;
 
 #[test]
 fn of_two_calls_that_break_at_once_one_closes_the_round(rt: HostRuntime) -> Result<(), Fail> {
-    let gate = Holds::new([
-        Hold {
-            call: call(0, 3),
-            until: call(1, 3),
-        },
-        Hold {
-            call: call(1, 3),
-            until: call(0, 3),
-        },
-    ]);
-    let output = output(&rt, rt.alloc(), &["run"], THREE_EACH, &gate)?;
+    let alloc = rt.alloc();
+    let gate = Holds::third_calls();
+    let text = shop(alloc, THREE_EACH)?;
+    let output = output(&rt, alloc, &["run"], text.as_str(), &gate)?;
     assert!(rt; !gate.was_late(&rt));
     let first_closes = b"round 0
 site 0
@@ -72,7 +67,8 @@ fn a_local_call_needs_no_other_sites_lock(rt: HostRuntime) -> Result<(), Fail> {
             until: call(1, 2),
         },
     ]);
-    let output = output(&rt, rt.alloc(), &["run"], THREE_AND_TWO, &gate)?;
+    let text = shop(rt.alloc(), THREE_AND_TWO)?;
+    let output = output(&rt, rt.alloc(), &["run"], text.as_str(), &gate)?;
     assert!(rt; !gate.was_late(&rt));
     let report = b"round 0
 site 0
@@ -97,7 +93,8 @@ rounds 2 calls 5
 #[test]
 fn calls_of_one_site_are_not_inside_together(rt: HostRuntime) -> Result<(), Fail> {
     let gate = HoldsFirst::new();
-    let output = output(&rt, rt.alloc(), &["run"], ONE_SITE, &gate)?;
+    let text = shop(rt.alloc(), ONE_SITE)?;
+    let output = output(&rt, rt.alloc(), &["run"], text.as_str(), &gate)?;
     assert!(rt; !gate.were_together(&rt));
     assert_eq!(rt; gate.calls(&rt), 2);
     let a_first = b"round 0
@@ -127,11 +124,13 @@ rounds 1 calls 2
 fn clients_need_no_schedule(rt: HostRuntime) -> Result<(), Fail> {
     let alloc = rt.alloc();
     let last_lines = b"database\nstock = 1\nrounds 2 calls 4\n";
-    for text in [THREE_AND_ONE, IN_ORDER] {
-        let output = output(&rt, alloc, &["run"], text, &OpenGate)?;
+    for clients in [THREE_AND_ONE, IN_ORDER] {
+        let text = shop(alloc, clients)?;
+        let output = output(&rt, alloc, &["run"], text.as_str(), &OpenGate)?;
         assert!(rt; output.as_slice().ends_with(last_lines.as_slice()));
     }
-    let refused = run_words(&rt, alloc, &["steps"], THREE_AND_ONE, &OpenGate)?;
+    let text = shop(alloc, THREE_AND_ONE)?;
+    let refused = run_words(&rt, alloc, &["steps"], text.as_str(), &OpenGate)?;
     assert_eq!(rt; refused.status, Status::Refused);
     assert_eq!(rt;
         refused.complaint.as_slice(),
@@ -142,7 +141,8 @@ fn clients_need_no_schedule(rt: HostRuntime) -> Result<(), Fail> {
 
 #[test]
 fn a_schedule_is_checked_where_it_is_not_used(rt: HostRuntime) -> Result<(), Fail> {
-    let refused = run_words(&rt, rt.alloc(), &["run"], SHORT_ORDER, &OpenGate)?;
+    let text = shop(rt.alloc(), SHORT_ORDER)?;
+    let refused = run_words(&rt, rt.alloc(), &["run"], text.as_str(), &OpenGate)?;
     assert_eq!(rt; refused.status, Status::Refused);
     assert_eq!(rt; refused.output.as_slice(), b"".as_slice());
     assert_eq!(rt;

@@ -1,63 +1,67 @@
-//! Texts of two clients that buy from a stock of five, of which each of two sites may sell two by itself.
+//! Texts of two clients that buy from one stock, and reading texts.
+
+use homeo_meaning::{Accepted, Purpose};
+use homeo_reader::{ReadRefusal, read};
+use homeo_rules::{RuleRefusal, accept};
+use std::alloc::{AllocError, Global};
+use std::process::Abort;
+use std::test::Fail;
+
+/// A stock of five, of which each of two sites may sell two by itself.
+const STOCK: &str = "workload 1
+sites 2
+object stock in 0..10 = 5
+transaction buy(n in 1..3) { s := read(stock); if n <= s then { write(stock = s - n); print(1) } else print(0) }
+";
 
 /// Each client buys three, at a site of its own.
-pub const THREE_EACH: &str = "workload 1
-sites 2
-object stock in 0..10 = 5
-transaction buy(n in 1..3) { s := read(stock); if n <= s then { write(stock = s - n); print(1) } else print(0) }
-client a at 0 { buy(1); buy(1); buy(1) }
-client b at 1 { buy(1); buy(1); buy(1) }
-end
-";
+pub const THREE_EACH: &str =
+    "client a at 0 { buy(1); buy(1); buy(1) }\nclient b at 1 { buy(1); buy(1); buy(1) }\n";
 
 /// The second client buys two.
-pub const THREE_AND_TWO: &str = "workload 1
-sites 2
-object stock in 0..10 = 5
-transaction buy(n in 1..3) { s := read(stock); if n <= s then { write(stock = s - n); print(1) } else print(0) }
-client a at 0 { buy(1); buy(1); buy(1) }
-client b at 1 { buy(1); buy(1) }
-end
-";
+pub const THREE_AND_TWO: &str =
+    "client a at 0 { buy(1); buy(1); buy(1) }\nclient b at 1 { buy(1); buy(1) }\n";
 
 /// Each client buys one, at one site.
-pub const ONE_SITE: &str = "workload 1
-sites 2
-object stock in 0..10 = 5
-transaction buy(n in 1..3) { s := read(stock); if n <= s then { write(stock = s - n); print(1) } else print(0) }
-client a at 0 { buy(1) }
-client b at 0 { buy(1) }
-end
-";
+pub const ONE_SITE: &str = "client a at 0 { buy(1) }\nclient b at 0 { buy(1) }\n";
 
 /// The second client buys one.
-pub const THREE_AND_ONE: &str = "workload 1
-sites 2
-object stock in 0..10 = 5
-transaction buy(n in 1..3) { s := read(stock); if n <= s then { write(stock = s - n); print(1) } else print(0) }
-client a at 0 { buy(1); buy(1); buy(1) }
-client b at 1 { buy(1) }
-end
-";
+pub const THREE_AND_ONE: &str =
+    "client a at 0 { buy(1); buy(1); buy(1) }\nclient b at 1 { buy(1) }\n";
 
 /// The same with a schedule.
-pub const IN_ORDER: &str = "workload 1
-sites 2
-object stock in 0..10 = 5
-transaction buy(n in 1..3) { s := read(stock); if n <= s then { write(stock = s - n); print(1) } else print(0) }
-client a at 0 { buy(1); buy(1); buy(1) }
-client b at 1 { buy(1) }
-schedule a a b a
-end
-";
+pub const IN_ORDER: &str =
+    "client a at 0 { buy(1); buy(1); buy(1) }\nclient b at 1 { buy(1) }\nschedule a a b a\n";
 
 /// The same with a schedule that leaves a call out.
-pub const SHORT_ORDER: &str = "workload 1
-sites 2
-object stock in 0..10 = 5
-transaction buy(n in 1..3) { s := read(stock); if n <= s then { write(stock = s - n); print(1) } else print(0) }
-client a at 0 { buy(1); buy(1); buy(1) }
-client b at 1 { buy(1) }
-schedule a a b
-end
-";
+pub const SHORT_ORDER: &str =
+    "client a at 0 { buy(1); buy(1); buy(1) }\nclient b at 1 { buy(1) }\nschedule a a b\n";
+
+/// The text with these clients.
+pub fn shop(alloc: Global, clients: &str) -> Result<String, Fail> {
+    let mut text = String::from_str(alloc, STOCK)?;
+    text.push_str(clients)?;
+    text.push_str("end\n")?;
+    Ok(text)
+}
+
+/// Reads a text that is accepted.
+pub fn accepted(rt: &impl Abort, alloc: Global, text: &str) -> Result<Accepted, Fail> {
+    assert!(rt; text.len() <= 1_048_576);
+    let workload = match read(alloc, text.as_bytes()) {
+        Ok(workload) => workload,
+        Err(ReadRefusal::Memory) => return Err(Fail::from(AllocError)),
+        Err(ReadRefusal::Refused(refusal)) => panic!(rt; "refused {refusal:?}"),
+    };
+    match accept(alloc, workload, Purpose::Run) {
+        Ok(w) => Ok(w),
+        Err(RuleRefusal::Memory) => Err(Fail::from(AllocError)),
+        Err(RuleRefusal::Refused(refusal)) => panic!(rt; "refused {refusal:?}"),
+    }
+}
+
+/// Reads the text with these clients.
+pub fn accepted_shop(rt: &impl Abort, alloc: Global, clients: &str) -> Result<Accepted, Fail> {
+    let text = shop(alloc, clients)?;
+    accepted(rt, alloc, text.as_str())
+}

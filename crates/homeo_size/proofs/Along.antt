@@ -1,5 +1,5 @@
 -- The definitions along the code's lists, as equations, which code rewrites by.
-use Rattle.std.proofs.Common.{◌≡◌, ℕ, ◌+◌, ◌<◌, ◌≤◌, ◌==◌, cond, ℤ, pos, Some, None, List, [], ◌∷◌, map, drop, take, get_or, length, refl, sym, ap, arith, add-one, drop_of_length-le, take_all, ◌-◌}
+use Rattle.std.proofs.Common.{false, ◌≡◌, ℕ, ◌+◌, ◌<◌, ◌≤◌, ◌==◌, cond, ℤ, pos, Some, None, List, [], ◌∷◌, map, drop, take, get_or, length, refl, sym, ap, arith, add-one, drop_of_length-le, take_all, ◌-◌}
 use Rattle.std.proofs.lemmas.List.{length-map}
 use Rattle.std.proofs.Math.Seq.{drop-cons}
 use Rattle.std.specs.Ordering.{int_eq}
@@ -215,11 +215,11 @@ pub field_setting_is : (x : Setting) (r f : ℕ) (e : s.Expr) (slot : context.Sl
 unfolding words
 field_setting_is x r f e slot z = refl
 
-pub each_after_is : (x : Setting) (r : ℕ) (cs : s.Commands) (slot : context.Slot) (z : Store) → each_after x r cs slot z ≡ after_all (bound x r slot) cs z
+pub each_after_is : (x : Setting) (r : ℕ) (cs : s.Commands) (slot : context.Slot) (z : Store) → each_after x r cs slot z ≡ after_all (bound x r slot) false cs z
 unfolding words
 each_after_is x r cs slot z = refl
 
-pub each_measured_is : (x : Setting) (r : ℕ) (cs : s.Commands) (slot : context.Slot) (z : Store) → each_measured x r cs slot z ≡ (all_measured (bound x r slot) cs z none).all
+pub each_measured_is : (x : Setting) (r : ℕ) (cs : s.Commands) (slot : context.Slot) (z : Store) → each_measured x r cs slot z ≡ (all_measured (bound x r slot) false cs z none).all
 unfolding words
 each_measured_is x r cs slot z = refl
 

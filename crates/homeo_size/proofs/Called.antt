@@ -16,14 +16,15 @@ use Rattle.homeo_meaning.specs.Bounds.{Bounds, all_bounds}
 use Rattle.homeo_meaning.specs.Schema.{Schema}
 use Rattle.homeo_meaning.specs.Context as context
 use Rattle.homeo_meaning.specs.Context.{Context, object, slots, fields, arguments_of}
-use Rattle.homeo_meaning.specs.LForm.{forms, l_form}
+use Rattle.homeo_meaning.specs.Aborts.{hold_abort}
+use Rattle.homeo_meaning.specs.LForm.{l_form}
 use Rattle.homeo_meaning.specs.LowSizes.{first_extents, call_extent, command_extent, rows, prints_in}
 use Rattle.homeo_meaning.specs.LowWeights.{first_weights}
 use Rattle.homeo_meaning.specs.LowWeights.{weight_at}
 use Rattle.homeo_size.specs.inner.Key.{words}
 use Rattle.homeo_size.specs.inner.Laid.{capped_weight, outside}
 use Rattle.homeo_size.specs.Measured.{IsMeasure}
-use Rattle.homeo_size.specs.inner.Measuring.{all_measured}
+use Rattle.homeo_size.specs.inner.Writing.{body_measured}
 use Rattle.homeo_size.specs.inner.Nodes.{commands_nodes}
 use Rattle.homeo_size.specs.inner.Numbers.{weight_cap}
 use Rattle.homeo_size.specs.inner.Parts.{single, unwritten, none}
@@ -36,10 +37,10 @@ use Rattle.homeo_size.specs.declared.extents.Kept.{Kept}
 use Rattle.homeo_size.specs.declared.measures.Measure.{Measure}
 use Rattle.homeo_size.proofs.Heaviest.{heaviest, light_is}
 use Rattle.homeo_size.proofs.Lifting.{seen}
-use Rattle.homeo_size.proofs.LiftedCommands.{body_is}
+use Rattle.homeo_size.proofs.Undone.{body_is}
 use Rattle.homeo_size.proofs.LiftedPhrases.{setting_for}
 use Rattle.homeo_size.proofs.Low.{Extents}
-use Rattle.homeo_size.proofs.NodeLaw.{Same, commands_have}
+use Rattle.homeo_size.proofs.NodeLaw.{Same, form_has}
 use Rattle.homeo_size.proofs.NodeSizes.{command_size, first_least}
 use Rattle.homeo_size.proofs.PrintLaw.{body_prints}
 use Rattle.homeo_size.proofs.Tables.{sizes_with, store_with}
@@ -98,32 +99,32 @@ module _ (x : Schema) (params : List ℕ) (args : List ℤ) (body : s.Commands) 
   abbrev w : Context
   w = context.context x params args
 
-  measured_call : (objects : List Extent) (m : Measure) → objects ≡ map (unwritten sites) (map capped_weight (all_bounds x)) → m ≡ (all_measured se body (store_with (sizes_with sites objects []) []) none).all → IsMeasure x sites (l_form x params args body) m
+  measured_call : (objects : List Extent) (m : Measure) → objects ≡ map (unwritten sites) (map capped_weight (all_bounds x)) → m ≡ body_measured (hold_abort body) se body (store_with (sizes_with sites objects []) []) → IsMeasure x sites (l_form x params args body) m
   unfolding words meaning_words
   measured_call objects m o is =
       let start : Store = store_with (sizes_with sites (map (unwritten sites) (map capped_weight (all_bounds x))) []) [] in
       is_measure x sites (l_form x params args body) m
       (is
-      ∙ (λ i. (all_measured (setting_is x params args arguments sites a i) body (store_with (sizes_with sites (o i) []) []) none).all)
-      ∙ sym (body_is sites w body (first x sites) start (first_sees x sites))
-      ∙ measured_told sites (L.Seq (forms w body 0).commands) (first x sites) (first_extents sites) (first_weights x) (λ p. refl))
+      ∙ (λ i. body_measured (hold_abort body) (setting_is x params args arguments sites a i) body (store_with (sizes_with sites (o i) []) []))
+      ∙ sym (body_is sites (hold_abort body) w body (first x sites) start refl (first_sees x sites))
+      ∙ measured_told sites (l_form x params args body) (first x sites) (first_extents sites) (first_weights x) (λ p. refl))
 
   too_large : 2000000 < commands_nodes se body 1 → 2000000 < (call_extent sites (l_form x params args body)).size
   unfolding words meaning_words
   too_large big =
       let same : Same se w = record { slots' = λ q. ap (λ (z : Setting). z.slots q) (setting_is x params args arguments sites a); arguments' = a } in
-      let nodes = commands_have se w same body 0 1 in
+      let nodes = form_has se w same body in
       let size = command_size sites (l_form x params args body) (first_extents sites) (first_least sites) in
       omega (arith, big, nodes, size)
 
 -- a call of a transaction, as the code has its parts
-pub transaction_measured : (x : Schema) (t : Transaction) (args : List Number) (params : List RangeDecl) (cs : List Command) (given arguments : List (Option ℤ)) (objects temps : List Extent) (log : List Kept) (sites : ℕ) (m : Measure) → params ≡ t.params.items → cs ≡ t.body.items → given ≡ arguments → temps ≡ [] → log ≡ [] → ((n : ℕ) → get_or arguments n None ≡ arguments_of (map (λ p. p.name.name) params) (map (λ a. a.value) args) n) → objects ≡ map (unwritten sites) (map capped_weight (all_bounds x)) → m ≡ (all_measured (setting_of x given [] sites) (commands (map plain_command cs)) (store_with (sizes_with sites objects temps) log) none).all → IsMeasure x sites (l_form x (map (λ p. p.name.name) t.params.items) (map (λ a. a.value) args) (plain_transaction t).body) m
+pub transaction_measured : (x : Schema) (t : Transaction) (args : List Number) (params : List RangeDecl) (cs : List Command) (given arguments : List (Option ℤ)) (objects temps : List Extent) (log : List Kept) (sites : ℕ) (m : Measure) → params ≡ t.params.items → cs ≡ t.body.items → given ≡ arguments → temps ≡ [] → log ≡ [] → ((n : ℕ) → get_or arguments n None ≡ arguments_of (map (λ p. p.name.name) params) (map (λ a. a.value) args) n) → objects ≡ map (unwritten sites) (map capped_weight (all_bounds x)) → m ≡ body_measured (hold_abort (commands (map plain_command cs))) (setting_of x given [] sites) (commands (map plain_command cs)) (store_with (sizes_with sites objects temps) log) → IsMeasure x sites (l_form x (map (λ p. p.name.name) t.params.items) (map (λ a. a.value) args) (plain_transaction t).body) m
 unfolding tree_words
 transaction_measured x t args params cs given arguments objects temps log sites m p b g e n a o is =
     measured_call x (map (λ p. p.name.name) t.params.items) (map (λ a. a.value) args) (plain_transaction t).body arguments sites
     (λ k. a k ∙ ap (λ ps. arguments_of (map (λ p. p.name.name) ps) (map (λ a. a.value) args) k) p)
     objects m o
-    (is ∙ (λ i. (all_measured (setting_of x (g i) [] sites) (commands (map plain_command (b i))) (store_with (sizes_with sites objects (e i)) (n i)) none).all))
+    (is ∙ (λ i. body_measured (hold_abort (commands (map plain_command (b i)))) (setting_of x (g i) [] sites) (commands (map plain_command (b i))) (store_with (sizes_with sites objects (e i)) (n i))))
 
 pub transaction_large : (x : Schema) (t : Transaction) (args : List Number) (params : List RangeDecl) (cs : List Command) (given arguments : List (Option ℤ)) (sites n : ℕ) → params ≡ t.params.items → cs ≡ t.body.items → given ≡ arguments → ((n : ℕ) → get_or arguments n None ≡ arguments_of (map (λ p. p.name.name) params) (map (λ a. a.value) args) n) → n ≡ commands_nodes (setting_of x given [] sites) (commands (map plain_command cs)) 1 → 2000000 < n → 2000000 < (call_extent sites (l_form x (map (λ p. p.name.name) t.params.items) (map (λ a. a.value) args) (plain_transaction t).body)).size
 unfolding tree_words

@@ -1,14 +1,15 @@
 -- The definitions form by form and along lists, as equations, which code rewrites by.
-use Rattle.std.proofs.Common.{◌≡◌, ℕ, suc, ℤ, pos, List, [], ◌∷◌, length, Option, Some, None, refl}
+use Rattle.std.proofs.Common.{◌≡◌, ℕ, suc, Bool, true, false, ◌||◌, ℤ, pos, List, [], ◌∷◌, length, Option, Some, None, refl}
 use Rattle.homeo_syntax.specs.Key.{words as tree_words}
 use Rattle.homeo_syntax.specs.Source as s
 use Rattle.homeo_syntax.specs.SourceView.{exprs, tests, commands}
 use Rattle.homeo_syntax.specs.declared.phrase.Ident.{Ident}
 use Rattle.homeo_syntax.specs.declared.phrase.Compare.{Compare}
+use Rattle.homeo_meaning.specs.Aborts.{holds_abort, hold_abort}
 use Rattle.homeo_meaning.specs.Context.{Spot, Slot, cell, field_cell, slot_at, spot}
 use Rattle.homeo_meaning.specs.Schema.{Declared}
 use Rattle.homeo_size.specs.inner.Key.{words}
-use Rattle.homeo_size.specs.inner.Measuring.{Filled, chain_raised, field_raised, slot_raised, chain_writing, slot_writing, field_writing, values_lifted, fillings, slot_filling, chain_filling, into_sized, slot_filled, chain_filled, inserted, inserting, cleared, row_set, row_setting, field_set, field_setting, after, after_all, visits, measured, all_measured, each_after, each_measured}
+use Rattle.homeo_size.specs.inner.Measuring.{Filled, chain_raised, field_raised, slot_raised, chain_writing, slot_writing, field_writing, values_lifted, fillings, slot_filling, chain_filling, into_sized, slot_filled, chain_filled, inserted, inserting, cleared, row_set, row_setting, field_set, field_setting, unless_ended, guard, guard_after, before_turn, in_turn, after, after_all, visits, measured, all_measured, each_after, each_measured}
 use Rattle.homeo_size.specs.inner.Parts.{literal, nothing, no_factor, beside, plus, times, around, summed, compared, truth, greater, written, empty, valued, writing, chosen, none, with_one, placed, within_tests, is_equal, guarded}
 use Rattle.homeo_size.specs.inner.Sizing.{Sizes, Setting, bound, name_sized, slot_sized, chain_sized, chain_measured, field_sized, field_lifted, missing_at, missing, literal_in, term_sized, added, total_sized, used_test, sized, sum_sized, product_sized, test_sized, tests_sized, lifted, all_lifted, test_lifted, tests_lifted, total_of, total_visits, total_lifted}
 use Rattle.homeo_size.specs.inner.Store.{Store, set_entry, raise_entry, closed, since, reopened, joined, visited}
@@ -227,21 +228,21 @@ pub tests_lifted_more : (x : Setting) (z : Sizes) (b : Before) (e : s.Test) (es 
 unfolding words tree_words
 tests_lifted_more x z b e es = refl
 
-pub after_end : (x : Setting) (y : Store) → after_all x (commands []) y ≡ y
+pub after_end : (x : Setting) (g : Bool) (y : Store) → after_all x g (commands []) y ≡ y
 unfolding words tree_words
-after_end x y = refl
+after_end x g y = refl
 
-pub after_more : (x : Setting) (y : Store) (c : s.Command) (cs : List s.Command) → after_all x (commands (c ∷ cs)) y ≡ after_all x (commands cs) (after x c y)
+pub after_more : (x : Setting) (g : Bool) (y : Store) (c : s.Command) (cs : List s.Command) → after_all x g (commands (c ∷ cs)) y ≡ after_all x (g || holds_abort c) (commands cs) (guard_after g (length y.log) (after x c y))
 unfolding words tree_words
-after_more x y c cs = refl
+after_more x g y c cs = refl
 
-pub measured_end : (x : Setting) (y : Store) (b : Before) → all_measured x (commands []) y b ≡ b
+pub measured_end : (x : Setting) (g : Bool) (y : Store) (b : Before) → all_measured x g (commands []) y b ≡ b
 unfolding words tree_words
-measured_end x y b = refl
+measured_end x g y b = refl
 
-pub measured_more : (x : Setting) (y : Store) (b : Before) (c : s.Command) (cs : List s.Command) → all_measured x (commands (c ∷ cs)) y b ≡ all_measured x (commands cs) (after x c y) (with_one b (measured x c y))
+pub measured_more : (x : Setting) (g : Bool) (y : Store) (b : Before) (c : s.Command) (cs : List s.Command) → all_measured x g (commands (c ∷ cs)) y b ≡ all_measured x (g || holds_abort c) (commands cs) (guard_after g (length y.log) (after x c y)) (with_one b (guard g (measured x c y)))
 unfolding words tree_words
-measured_more x y b c cs = refl
+measured_more x g y b c cs = refl
 
 pub values_end : (x : Setting) (z : Sizes) (b : Before) → values_lifted x [] z b ≡ b
 unfolding words
@@ -351,13 +352,22 @@ pub visited_more : (g : Slot → Store → Store) (y : Store) (slot : Slot) (mor
 unfolding words
 visited_more g y slot more = refl
 
-pub visits_end : (x : Setting) (r : ℕ) (c : s.Cond) (body : Slot → Store → Measure) (g : Slot → Store → Store) (y : Store) (b : Before) → visits x r c body g [] y b ≡ b
+pub visits_end : (x : Setting) (r : ℕ) (c : s.Cond) (h later : Bool) (body : Slot → Store → Measure) (g : Slot → Store → Store) (y : Store) (b : Before) → visits x r c h later body g [] y b ≡ b
 unfolding words
-visits_end x r c body g y b = refl
+visits_end x r c h later body g y b = refl
 
-pub visits_more : (x : Setting) (r : ℕ) (c : s.Cond) (body : Slot → Store → Measure) (g : Slot → Store → Store) (y : Store) (b : Before) (slot : Slot) (more : List Slot) → visits x r c body g (slot ∷ more) y b ≡ visits x r c body g more (closed (length y.log) (g slot y)) (with_one (tests_lifted (bound x r slot) c y.sizes b) (chosen (around (tests_sized (bound x r slot) c y.sizes (used_test slot y.sizes))) (body slot y) empty))
+pub visits_more : (x : Setting) (r : ℕ) (c : s.Cond) (h later : Bool) (body : Slot → Store → Measure) (g : Slot → Store → Store) (y : Store) (b : Before) (slot : Slot) (more : List Slot) → visits x r c h later body g (slot ∷ more) y b ≡ visits x r c later later body g more (closed (length y.log) (g slot y)) (in_turn h b (tests_lifted (bound x r slot) c y.sizes (before_turn h b)) (chosen (around (tests_sized (bound x r slot) c y.sizes (used_test slot y.sizes))) (body slot y) empty))
 unfolding words
-visits_more x r c body g y b slot more = refl
+visits_more x r c h later body g y b slot more = refl
+
+-- what is not guarded
+pub turn_begins : (b : Before) → before_turn false b ≡ b
+unfolding words
+turn_begins b = refl
+
+pub turn_ends : (b lifted : Before) (m : Measure) → in_turn false b lifted m ≡ with_one lifted m
+unfolding words
+turn_ends b lifted m = refl
 
 -- ---- commands
 
@@ -401,11 +411,11 @@ pub measured_If : (x : Setting) (y : Store) (q : s.Cond) (c d : s.Command) → m
 unfolding words
 measured_If x y q c d = refl
 
-pub after_Block : (x : Setting) (y : Store) (cs : s.Commands) → after x (s.Block cs) y ≡ after_all x cs y
+pub after_Block : (x : Setting) (y : Store) (cs : s.Commands) → after x (s.Block cs) y ≡ after_all x false cs y
 unfolding words
 after_Block x y cs = refl
 
-pub measured_Block : (x : Setting) (y : Store) (cs : s.Commands) → measured x (s.Block cs) y ≡ (all_measured x cs y none).all
+pub measured_Block : (x : Setting) (y : Store) (cs : s.Commands) → measured x (s.Block cs) y ≡ (all_measured x false cs y none).all
 unfolding words
 measured_Block x y cs = refl
 
@@ -429,7 +439,7 @@ pub after_Foreach : (x : Setting) (y : Store) (r q : Ident) (c : s.Cond) (cs : s
 unfolding words
 after_Foreach x y r q c cs = refl
 
-pub measured_Foreach : (x : Setting) (y : Store) (r q : Ident) (c : s.Cond) (cs : s.Commands) → measured x (s.Foreach r q c cs) y ≡ (visits x r.name c (each_measured x r.name cs) (each_after x r.name cs) (x.slots q.name) y none).all
+pub measured_Foreach : (x : Setting) (y : Store) (r q : Ident) (c : s.Cond) (cs : s.Commands) → measured x (s.Foreach r q c cs) y ≡ (visits x r.name c false (hold_abort cs) (each_measured x r.name cs) (each_after x r.name cs) (x.slots q.name) y none).all
 unfolding words
 measured_Foreach x y r q c cs = refl
 
@@ -445,7 +455,7 @@ pub after_Delete : (x : Setting) (y : Store) (r q : Ident) (c : s.Cond) → afte
 unfolding words
 after_Delete x y r q c = refl
 
-pub measured_Delete : (x : Setting) (y : Store) (r q : Ident) (c : s.Cond) → measured x (s.Delete r q c) y ≡ (visits x r.name c (λ slot u. writing x.sites (literal (pos 0))) (cleared x.sites) (x.slots q.name) y none).all
+pub measured_Delete : (x : Setting) (y : Store) (r q : Ident) (c : s.Cond) → measured x (s.Delete r q c) y ≡ (visits x r.name c false false (λ slot u. writing x.sites (literal (pos 0))) (cleared x.sites) (x.slots q.name) y none).all
 unfolding words
 measured_Delete x y r q c = refl
 
@@ -453,9 +463,17 @@ pub after_Update : (x : Setting) (y : Store) (r q : Ident) (c : s.Cond) (f : Ide
 unfolding words
 after_Update x y r q c f e = refl
 
-pub measured_Update : (x : Setting) (y : Store) (r q : Ident) (c : s.Cond) (f : Ident) (e : s.Expr) → measured x (s.Update r q c f e) y ≡ (visits x r.name c (field_setting x r.name f.name e) (field_set x r.name f.name e) (x.slots q.name) y none).all
+pub measured_Update : (x : Setting) (y : Store) (r q : Ident) (c : s.Cond) (f : Ident) (e : s.Expr) → measured x (s.Update r q c f e) y ≡ (visits x r.name c false false (field_setting x r.name f.name e) (field_set x r.name f.name e) (x.slots q.name) y none).all
 unfolding words
 measured_Update x y r q c f e = refl
+
+pub after_Abort : (x : Setting) (y : Store) → after x s.Abort y ≡ y
+unfolding words
+after_Abort x y = refl
+
+pub measured_Abort : (x : Setting) (y : Store) → measured x s.Abort y ≡ valued (literal (pos 1))
+unfolding words
+measured_Abort x y = refl
 
 pub raised_literal : (v : ℤ) (all : List Slot) (f : Spot) (w : Extent) (y : Store) → field_raised (Some v) all f w y ≡ slot_raised f w (slot_at v all) y
 unfolding words
@@ -483,6 +501,6 @@ pub ruleset chains = (chain_end, chain_more, chain_measured_end, chain_measured_
 
 pub ruleset totals = (total_end, total_more, visits_of_end, visits_of_more, visits_first, total_first)
 
-pub ruleset loops = (visited_end, visited_more, visits_end, visits_more)
+pub ruleset loops = (visited_end, visited_more, visits_end, visits_more, turn_begins, turn_ends)
 
-pub ruleset steps = (after_Skip, measured_Skip, after_Assign, measured_Assign, after_Write, measured_Write, after_Print, measured_Print, after_If, measured_If, after_Block, measured_Block, after_SetField, measured_SetField, after_SetRow, measured_SetRow, after_Foreach, measured_Foreach, after_Insert, measured_Insert, after_Delete, measured_Delete, after_Update, measured_Update, raised_literal, raised_chain, writing_literal, writing_chain)
+pub ruleset steps = (after_Skip, measured_Skip, after_Assign, measured_Assign, after_Write, measured_Write, after_Print, measured_Print, after_If, measured_If, after_Block, measured_Block, after_SetField, measured_SetField, after_SetRow, measured_SetRow, after_Foreach, measured_Foreach, after_Insert, measured_Insert, after_Delete, measured_Delete, after_Update, measured_Update, after_Abort, measured_Abort, raised_literal, raised_chain, writing_literal, writing_chain)

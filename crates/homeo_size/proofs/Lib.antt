@@ -11,6 +11,7 @@ pub mod Branching
 pub mod Lifting
 pub mod LiftedPhrases
 pub mod Writes
+pub mod Fresh
 pub mod LiftedCommands
 pub mod Layouts
 pub mod LayoutNames
@@ -20,3 +21,7 @@ pub mod NodeSizes
 pub mod PrintEquations
 pub mod PrintLaw
 pub mod Called
+pub mod WriteEquations
+pub mod CommandSteps
+pub mod SavedObjects
+pub mod Undone

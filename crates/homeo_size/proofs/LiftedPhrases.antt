@@ -130,7 +130,7 @@ module _ (sites : ℕ) where
     unfolding words
     measured_from s all t b = total_measured (λ slot. p slot s (used_test slot s)) (λ slot. counts slot s) f all s t b
 
-    counts_all : (all : List Slot) (n m : ℕ) → n < m → (v : Extents) → Counts n m v (visits test (term_body n) all m) (total_sized f all (seen v) (at_fresh n v)) (measured_from (seen v) all (at_fresh n v))
+    counts_all : (all : List Slot) (n m : ℕ) → n < m → (v : Extents) → Counts n m v (visits false false test (term_body n) all m) (total_sized f all (seen v) (at_fresh n v)) (measured_from (seen v) all (at_fresh n v))
     unfolding words meaning_words
     counts_all [] n m lt v = record { after = v; leaves = refl; grows = omega arith; alike = alike_self n v; totals = refl; tells = λ b. refl }
     counts_all (slot ∷ more) n m lt v =
@@ -142,7 +142,7 @@ module _ (sites : ℕ) where
         let one : Adds n a u sum = adds n a sum in
         let rest = counts_all more n b.next (omega (arith, k.grows)) u in
         let if_else : L.Command = L.If (L.MoreTest (equal (read slot.used) (pos 1)) b.phrase) (term_body n slot b.next).command L.Skip in
-        let others = visits test (term_body n) more b.next in
+        let others = visits false false test (term_body n) more b.next in
         let same : seen u ≡ seen v = one.alike.sees ∙ k.alike.sees in
         let sum_is : sum ≡ added (at_fresh n v) (term_sized f slot (seen v)) = ap₂ added (k.alike.keeps n lt) (terms slot a ∙ ap (term_sized f slot) k.alike.sees) in
         let total_is : at_fresh n u ≡ greater (added (at_fresh n v) (term_sized f slot (seen v))) (at_fresh n v) = one.total ∙ ap₂ greater sum_is (k.alike.keeps n lt) in

@@ -141,8 +141,12 @@ pub command_Update : (x : Setting) (r q : Ident) (c : s.Cond) (f : Ident) (e : s
 unfolding words
 command_Update x r q c f e = refl
 
+pub command_Abort : (x : Setting) → command_nodes x s.Abort ≡ 2
+unfolding words
+command_Abort x = refl
+
 pub ruleset phrases = (nodes_Literal, nodes_Name, nodes_Read, nodes_Sum, nodes_Product, nodes_Neg, nodes_Field, nodes_Row, nodes_Count, nodes_Total, test_True, test_Not, test_Comparison)
 
 pub ruleset lists = (all_end, all_more, tests_end, tests_more, values_end, values_more, commands_end, commands_more)
 
-pub ruleset steps = (command_Skip, command_Assign, command_Write, command_Print, command_If, command_Block, command_SetField, command_SetRow, command_Foreach, command_Insert, command_Delete, command_Update)
+pub ruleset steps = (command_Skip, command_Assign, command_Write, command_Print, command_If, command_Block, command_SetField, command_SetRow, command_Foreach, command_Insert, command_Delete, command_Update, command_Abort)

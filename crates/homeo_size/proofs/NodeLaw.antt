@@ -1,14 +1,15 @@
 -- The count of nodes is no more than an L form has, and that is no more than its size.
-use Rattle.std.proofs.Common.{◌≡◌, ℕ, suc, ◌+◌, ◌*◌, ◌≤◌, List, [], ◌∷◌, length, ℤ, pos, Option, Some, None, refl, sym, ap, ap₂, ◌∙◌, subst, arith}
+use Rattle.std.proofs.Common.{◌≡◌, ℕ, suc, Bool, true, false, ◌||◌, ◌+◌, ◌*◌, ◌≤◌, List, [], ◌∷◌, length, ℤ, pos, Option, Some, None, refl, sym, ap, ap₂, ◌∙◌, subst, arith}
 use Rattle.std.proofs.Math.Nat.{mul-le-mul_left}
 use Rattle.std.proofs.lemmas.Int.{clamps}
 use Rattle.homeo_syntax.specs.declared.low.Temp.TheVariants as temp
 use Rattle.homeo_syntax.specs.declared.low.SplitName.TheVariants as split
 use Rattle.homeo_syntax.specs.Low as L
-use Rattle.homeo_syntax.specs.Source.{Expr, Exprs, Literal, Name, Read, Sum, Product, Neg, Field, Row, Count, Total, NoExpr, MoreExpr, Test, Cond, True, Not, Comparison, NoTest, MoreTest, FieldValue, Command, Commands, Skip, Assign, Write, Print, If, Block, SetField, SetRow, Foreach, Insert, Delete, Update, NoCommand, MoreCommand}
+use Rattle.homeo_syntax.specs.Source.{Expr, Exprs, Literal, Name, Read, Sum, Product, Neg, Field, Row, Count, Total, NoExpr, MoreExpr, Test, Cond, True, Not, Comparison, NoTest, MoreTest, FieldValue, Command, Commands, Skip, Assign, Write, Print, If, Block, SetField, SetRow, Foreach, Insert, Delete, Update, Abort, NoCommand, MoreCommand}
 use Rattle.homeo_meaning.specs.Key.{words as meaning_words}
 use Rattle.homeo_meaning.specs.Schema.{Declared}
 use Rattle.homeo_meaning.specs.Context.{Spot, Slot, Context, spot, cell, field_cell, object, slots, fields, bind, slot_at}
+use Rattle.homeo_meaning.specs.Aborts.{holds_abort, hold_abort}
 use Rattle.homeo_meaning.specs.LForm as form
 use Rattle.homeo_meaning.specs.LForm.{Lifted, Made, AllMade, both, one, in_front, equal, read, fresh, name_of, read_chain, read_slot, literal_of, indexed_by, write_chain, write_at, write_by, visits, counted, pair, Pair, Target, stored, all_within, field_writes, fill_chain, lift, lift_all, lift_test, lift_cond, lift_values}
 use Rattle.homeo_size.specs.inner.Key.{words}
@@ -109,16 +110,26 @@ indexed_same o p e all f x n h = subst (λ q. Has (indexed_by o all f x) of_expr
 more_visits : (l n m : ℕ) → suc l * n ≡ n + l * n
 more_visits l n m = omega arith
 
-visits_have : (test : Slot → ℕ → Lifted L.Cond) (body : Slot → ℕ → Made) (n : ℕ) → ((slot : Slot) (m k : ℕ) → n ≤ of_commands (test slot m).before + (of_tests (test slot m).phrase + of_command (body slot k).command)) → (all : List Slot) (m : ℕ) → length all * (1 + n) ≤ of_commands (visits test body all m).commands
+of_turn : (g : Bool) (before : L.Commands) (c : L.Command) (more : L.Commands) → of_commands before + (of_command c + of_commands more) ≤ of_commands (form.in_turn g before c more)
 unfolding meaning_words
-visits_have test body n h [] m = omega arith
-visits_have test body n h (slot ∷ more) m =
+of_turn true before c more = let e = of_front before c in omega (arith, e)
+of_turn false before c more = let e = of_both before (L.MoreCommand c more) in omega (arith, e)
+
+of_guard : (g : Bool) (c : L.Command) → of_command c ≤ of_command (form.guard g c)
+unfolding meaning_words
+of_guard true c = omega arith
+of_guard false c = omega arith
+
+visits_have : (g later : Bool) (test : Slot → ℕ → Lifted L.Cond) (body : Slot → ℕ → Made) (n : ℕ) → ((slot : Slot) (m k : ℕ) → n ≤ of_commands (test slot m).before + (of_tests (test slot m).phrase + of_command (body slot k).command)) → (all : List Slot) (m : ℕ) → length all * (1 + n) ≤ of_commands (visits g later test body all m).commands
+unfolding meaning_words
+visits_have g later test body n h [] m = omega arith
+visits_have g later test body n h (slot ∷ more) m =
     let b = test slot m in
     let c = body slot b.next in
-    let rest = visits_have test body n h more c.next in
-    let others : L.Commands = (visits test body more c.next).commands in
+    let rest = visits_have later later test body n h more c.next in
+    let others : L.Commands = (visits later later test body more c.next).commands in
     let if_else : L.Command = L.If (L.MoreTest (equal (read slot.used) (pos 1)) b.phrase) c.command L.Skip in
-    let e = of_both b.before (L.MoreCommand if_else others) in
+    let e = of_turn g b.before if_else others in
     let k = h slot m b.next in
     let s = more_visits (length more) (1 + n) 0 in
     omega (arith, rest, e, k, s)
@@ -164,8 +175,8 @@ module _ (x : Setting) where
   unfolding meaning_words
   counted_has test term all m n h =
       let body : Slot → ℕ → Made = λ slot k. record { command = L.Assign (temp.Fresh m) (L.Sum (L.MoreExpr (fresh m) (L.MoreExpr (term slot) L.NoExpr))); next = k } in
-      let v = visits_have test body n (λ slot k i. let g = h slot k in omega (arith, g)) all (suc m) in
-      let k = visit_le all n (of_commands (visits test body all (suc m)).commands) v in
+      let v = visits_have false false test body n (λ slot k i. let g = h slot k in omega (arith, g)) all (suc m) in
+      let k = visit_le all n (of_commands (visits false false test body all (suc m)).commands) v in
       omega (arith, k)
 
   mutual
@@ -306,11 +317,11 @@ module _ (x : Setting) where
       omega (arith, k, chain, same, least, e)
 
   -- ---- loops
-  loop_has : (w : Context) (h : Same w) (r q : ℕ) (c : Cond) (body : Slot → ℕ → Made) (m n k : ℕ) → k ≤ tests_nodes x c 0 + m → ((slot : Slot) (i : ℕ) → m ≤ of_command (body slot i).command) → visit_nodes (x.slots q) k ≤ of_command (form.loop w r q c body n).command
+  loop_has : (w : Context) (h : Same w) (r q : ℕ) (c : Cond) (ends : Bool) (body : Slot → ℕ → Made) (m n k : ℕ) → k ≤ tests_nodes x c 0 + m → ((slot : Slot) (i : ℕ) → m ≤ of_command (body slot i).command) → visit_nodes (x.slots q) k ≤ of_command (form.loop w r q c ends body n).command
   unfolding words meaning_words
-  loop_has w h r q c body m n k le has =
-      let v = visits_have (λ slot. lift_cond (bind w r slot) c) body k (λ slot i j. one_visit slot i j) (slots w q) n in
-      subst (λ l. visit_nodes l k ≤ of_command (form.loop w r q c body n).command) (sym (h.slots' q)) (visit_le (slots w q) k (of_commands (visits (λ slot. lift_cond (bind w r slot) c) body (slots w q) n).commands) v)
+  loop_has w h r q c ends body m n k le has =
+      let v = visits_have false ends (λ slot. lift_cond (bind w r slot) c) body k (λ slot i j. one_visit slot i j) (slots w q) n in
+      subst (λ l. visit_nodes l k ≤ of_command (form.loop w r q c ends body n).command) (sym (h.slots' q)) (visit_le (slots w q) k (of_commands (visits false ends (λ slot. lift_cond (bind w r slot) c) body (slots w q) n).commands) v)
     where
       one_visit : (slot : Slot) (i j : ℕ) → k ≤ of_commands (lift_cond (bind w r slot) c i).before + (of_tests (lift_cond (bind w r slot) c i).phrase + of_command (body slot j).command)
       one_visit slot i j =
@@ -336,21 +347,21 @@ module _ (x : Setting) where
         let front = of_front y.before (L.If y.phrase p.command q.command) in
         let fewer = few_le (command_nodes x c + command_nodes x d) (command_nodes x c + command_nodes x d) (omega arith) in
         few_le (tests_nodes x b 0 + few (command_nodes x c + command_nodes x d)) _ (omega (arith, t, k, l, front, fewer))
-    command_has w h (Block cs) n = commands_have w h cs n 1
+    command_has w h (Block cs) n = commands_have w h false cs n 1
     command_has w h (SetField q i f e) n =
         subst (λ l. write_nodes (literal_in x i) l (nodes x i) (nodes x e) ≤ of_command (form.form w (SetField q i f e) n).command) (sym (h.slots' q.name))
         (by_same (literal_of (lift w i n).phrase) (literal_in x i) (literal_same w h i n) (slots w q.name) (spot (fields w q.name) f.name) (lift w i n) (lift w e) (nodes x i) (nodes x e) (expr_has w h i n) (λ k. expr_has w h e k))
     command_has w h (SetRow r f e) n = placed_has of_expr (form.guarded (spot (w.rows r.name).fields f.name) (field_cell (w.rows r.name) f.name)) (guarded_has (spot (w.rows r.name).fields f.name) (field_cell (w.rows r.name) f.name)) (lift w e n) (nodes x e) (expr_has w h e n)
     command_has w h (Foreach r q c cs) n =
-        loop_has w h r.name q.name c (λ slot m. form.as_one (form.forms (bind w r.name slot) cs m)) (commands_nodes x cs 0) n (few (tests_nodes x c 0 + commands_nodes x cs 0)) (few_le (tests_nodes x c 0 + commands_nodes x cs 0) _ (omega arith))
-        (λ slot i. let k = commands_have (bind w r.name slot) (bound_same w r.name slot h) cs i 0 in omega (arith, k))
+        loop_has w h r.name q.name c (hold_abort cs) (λ slot m. form.as_one (form.forms (bind w r.name slot) false cs m)) (commands_nodes x cs 0) n (few (tests_nodes x c 0 + commands_nodes x cs 0)) (few_le (tests_nodes x c 0 + commands_nodes x cs 0) _ (omega arith))
+        (λ slot i. let k = commands_have (bind w r.name slot) (bound_same w r.name slot h) false cs i 0 in omega (arith, k))
     command_has w h (Insert q fs t) n =
         subst (λ l. values_nodes x fs (few (1 + length l * few (1 + length fs))) ≤ of_command (form.form w (Insert q fs t) n).command) (sym (h.slots' q.name))
         (insert_has w h (fields w q.name) fs (slots w q.name) t.name n)
     command_has w h (Delete r q c) n =
-        loop_has w h r.name q.name c form.clear 0 n (tests_nodes x c 0) (omega arith) (λ slot i. omega arith)
+        loop_has w h r.name q.name c false form.clear 0 n (tests_nodes x c 0) (omega arith) (λ slot i. omega arith)
     command_has w h (Update r q c f e) n =
-        loop_has w h r.name q.name c (λ slot m. form.write_field slot f.name (lift (bind w r.name slot) e m)) (nodes x e) n (few (tests_nodes x c 0 + nodes x e)) (few_le (tests_nodes x c 0 + nodes x e) _ (omega arith))
+        loop_has w h r.name q.name c false (λ slot m. form.write_field slot f.name (lift (bind w r.name slot) e m)) (nodes x e) n (few (tests_nodes x c 0 + nodes x e)) (few_le (tests_nodes x c 0 + nodes x e) _ (omega arith))
         (λ slot i. sets slot i)
       where
         sets : (slot : Slot) (i : ℕ) → nodes x e ≤ of_command (form.write_field slot f.name (lift (bind w r.name slot) e i)).command
@@ -359,11 +370,35 @@ module _ (x : Setting) where
             let a = guarded_has (spot slot.fields f.name) 0 (lift (bind w r.name slot) e i).phrase in
             let front = of_front (lift (bind w r.name slot) e i).before (form.guarded (spot slot.fields f.name) (field_cell slot f.name) (lift (bind w r.name slot) e i).phrase) in
             omega (arith, k, a, front)
+    command_has w h Abort n = omega arith
 
-    pub commands_have : (w : Context) (h : Same w) (cs : Commands) (n a : ℕ) → commands_nodes x cs a ≤ a + of_commands (form.forms w cs n).commands
-    commands_have w h NoCommand n a = omega arith
-    commands_have w h (MoreCommand c cs) n a =
+    pub commands_have : (w : Context) (h : Same w) (g : Bool) (cs : Commands) (n a : ℕ) → commands_nodes x cs a ≤ a + of_commands (form.forms w g cs n).commands
+    commands_have w h g NoCommand n a = omega arith
+    commands_have w h g (MoreCommand c cs) n a =
         let k = command_has w h c n in
-        let l = commands_have w h cs (form.form w c n).next (few (a + command_nodes x c)) in
+        let l = commands_have w h (g || holds_abort c) cs (form.form w c n).next (few (a + command_nodes x c)) in
         let fewer = few_le (a + command_nodes x c) (a + command_nodes x c) (omega arith) in
-        omega (arith, k, l, fewer)
+        let e = of_guard g (form.form w c n).command in
+        omega (arith, k, l, fewer, e)
+
+  -- ---- what stands round a body that can end its call
+  saves_have : (n : ℕ) (xs : List ℕ) (more : L.Commands) → of_commands more ≤ of_commands (form.saves n xs more)
+  unfolding meaning_words
+  saves_have n [] more = omega arith
+  saves_have n (o ∷ xs) more = let e = saves_have (suc n) xs more in omega (arith, e)
+
+  undoing_has : (saved : List ℕ) (body : L.Commands) → 1 + of_commands body ≤ of_command (form.undoing saved body)
+  unfolding meaning_words
+  undoing_has saved body = let e = saves_have 1 saved (L.MoreCommand (L.Seq body) (one (form.undo saved))) in omega (arith, e)
+
+  body_has : (w : Context) (h : Same w) (b : Bool) (cs : Commands) → commands_nodes x cs 1 ≤ of_command (form.body_by b w cs)
+  unfolding meaning_words
+  body_has w h false cs = commands_have w h false cs 0 1
+  body_has w h true cs =
+      let saved : List ℕ = form.saved_in w cs in
+      let e = commands_have w h false cs (1 + length saved) 1 in
+      let f = undoing_has saved (form.forms w false cs (1 + length saved)).commands in
+      omega (arith, e, f)
+
+  pub form_has : (w : Context) (h : Same w) (cs : Commands) → commands_nodes x cs 1 ≤ of_command (form.body_by (hold_abort cs) w cs)
+  form_has w h cs = body_has w h (hold_abort cs) cs

@@ -56,6 +56,10 @@ pub prints_Update : (x : Setting) (r q : Ident) (c : s.Cond) (f : Ident) (e : s.
 unfolding words
 prints_Update x r q c f e = refl
 
+pub prints_Abort : (x : Setting) → prints x s.Abort ≡ 0
+unfolding words
+prints_Abort x = refl
+
 pub all_end : (x : Setting) (n : ℕ) → all_prints x (commands []) n ≡ n
 unfolding words tree_words
 all_end x n = refl
@@ -64,6 +68,6 @@ pub all_more : (x : Setting) (n : ℕ) (c : s.Command) (cs : List s.Command) →
 unfolding words tree_words
 all_more x n c cs = refl
 
-pub ruleset steps = (prints_Skip, prints_Assign, prints_Write, prints_Print, prints_If, prints_Block, prints_SetField, prints_SetRow, prints_Foreach, prints_Insert, prints_Delete, prints_Update)
+pub ruleset steps = (prints_Skip, prints_Assign, prints_Write, prints_Print, prints_If, prints_Block, prints_SetField, prints_SetRow, prints_Foreach, prints_Insert, prints_Delete, prints_Update, prints_Abort)
 
 pub ruleset lists = (all_end, all_more)

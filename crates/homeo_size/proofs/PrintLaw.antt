@@ -1,13 +1,14 @@
 -- The count of print commands is that of the L form: liftings print nothing, and a loop's body stands once for each slot.
-use Rattle.std.proofs.Common.{◌≡◌, ℕ, suc, ◌+◌, ◌*◌, List, [], ◌∷◌, length, ℤ, pos, Option, Some, None, refl, sym, ap, ap₂, ◌∙◌, arith}
+use Rattle.std.proofs.Common.{◌≡◌, ℕ, suc, Bool, true, false, ◌||◌, ◌+◌, ◌*◌, List, [], ◌∷◌, length, ℤ, pos, Option, Some, None, refl, sym, ap, ap₂, ◌∙◌, arith}
 use Rattle.std.proofs.lemmas.Int.{clamps}
 use Rattle.homeo_syntax.specs.declared.low.Temp.TheVariants as temp
 use Rattle.homeo_syntax.specs.declared.low.SplitName.TheVariants as split
 use Rattle.homeo_syntax.specs.Low as L
-use Rattle.homeo_syntax.specs.Source.{Expr, Exprs, Literal, Name, Read, Sum, Product, Neg, Field, Row, Count, Total, NoExpr, MoreExpr, Test, Cond, True, Not, Comparison, NoTest, MoreTest, FieldValue, Command, Commands, Skip, Assign, Write, Print, If, Block, SetField, SetRow, Foreach, Insert, Delete, Update, NoCommand, MoreCommand}
+use Rattle.homeo_syntax.specs.Source.{Expr, Exprs, Literal, Name, Read, Sum, Product, Neg, Field, Row, Count, Total, NoExpr, MoreExpr, Test, Cond, True, Not, Comparison, NoTest, MoreTest, FieldValue, Command, Commands, Skip, Assign, Write, Print, If, Block, SetField, SetRow, Foreach, Insert, Delete, Update, Abort, NoCommand, MoreCommand}
 use Rattle.homeo_meaning.specs.Key.{words as meaning_words}
 use Rattle.homeo_meaning.specs.Schema.{Declared}
 use Rattle.homeo_meaning.specs.Context.{Spot, Slot, Context, spot, field_cell, object, slots, fields, bind, slot_at}
+use Rattle.homeo_meaning.specs.Aborts.{holds_abort, hold_abort}
 use Rattle.homeo_meaning.specs.LForm as form
 use Rattle.homeo_meaning.specs.LForm.{Lifted, Made, both, one, in_front, equal, read, fresh, read_chain, literal_of, indexed_by, write_chain, write_at, write_by, visits, counted, pair, Target, all_within, field_writes, fill_chain, lift, lift_all, lift_test, lift_cond, lift_values}
 use Rattle.homeo_meaning.specs.LowSizes.{prints_in, prints_in_all}
@@ -58,20 +59,29 @@ indexed_quiet None all f x h = stored_quiet x.before (read_chain f x.phrase x.ne
 more_prints : (l p : ℕ) → suc l * p ≡ p + l * p
 more_prints l p = omega arith
 
-visits_print : (test : Slot → ℕ → Lifted L.Cond) (body : Slot → ℕ → Made) (p : ℕ) → ((slot : Slot) (m : ℕ) → Quiet (test slot m)) → ((slot : Slot) (m : ℕ) → prints_in (body slot m).command ≡ p) → (all : List Slot) (m : ℕ) → prints_in_all (visits test body all m).commands ≡ length all * p
+turn_prints : (g : Bool) (before : L.Commands) (c : L.Command) (more : L.Commands) → prints_in_all before ≡ 0 → prints_in_all (form.in_turn g before c more) ≡ prints_in c + prints_in_all more
 unfolding meaning_words
-visits_print test body p h k [] m = omega arith
-visits_print test body p h k (slot ∷ more) m =
+turn_prints true before c more h = let e = front_prints before c h in omega (arith, e)
+turn_prints false before c more h = let e = both_print before (L.MoreCommand c more) in omega (arith, e, h)
+
+guard_prints : (g : Bool) (c : L.Command) → prints_in (form.guard g c) ≡ prints_in c
+unfolding meaning_words
+guard_prints true c = omega arith
+guard_prints false c = refl
+
+visits_print : (g later : Bool) (test : Slot → ℕ → Lifted L.Cond) (body : Slot → ℕ → Made) (p : ℕ) → ((slot : Slot) (m : ℕ) → Quiet (test slot m)) → ((slot : Slot) (m : ℕ) → prints_in (body slot m).command ≡ p) → (all : List Slot) (m : ℕ) → prints_in_all (visits g later test body all m).commands ≡ length all * p
+unfolding meaning_words
+visits_print g later test body p h k [] m = omega arith
+visits_print g later test body p h k (slot ∷ more) m =
     let b = test slot m in
     let c = body slot b.next in
-    let others : L.Commands = (visits test body more c.next).commands in
+    let others : L.Commands = (visits later later test body more c.next).commands in
     let if_else : L.Command = L.If (L.MoreTest (equal (read slot.used) (pos 1)) b.phrase) c.command L.Skip in
-    let rest = visits_print test body p h k more c.next in
-    let e = both_print b.before (L.MoreCommand if_else others) in
-    let quiet = h slot m in
+    let rest = visits_print later later test body p h k more c.next in
+    let e = turn_prints g b.before if_else others (h slot m) in
     let one' = k slot b.next in
     let s = more_prints (length more) p in
-    omega (arith, rest, e, quiet, one', s)
+    omega (arith, rest, e, one', s)
 
 no_prints : (l : ℕ) → l * 0 ≡ 0
 no_prints l = omega arith
@@ -79,7 +89,7 @@ no_prints l = omega arith
 counted_quiet : (test : Slot → ℕ → Lifted L.Cond) (term : Slot → L.Expr) (all : List Slot) (n : ℕ) → ((slot : Slot) (m : ℕ) → Quiet (test slot m)) → Quiet (counted test term all n)
 unfolding meaning_words
 counted_quiet test term all n h =
-    let v = visits_print test (λ slot m. record { command = L.Assign (temp.Fresh n) (L.Sum (L.MoreExpr (fresh n) (L.MoreExpr (term slot) L.NoExpr))); next = m }) 0 h (λ slot m. refl) all (suc n) in
+    let v = visits_print false false test (λ slot m. record { command = L.Assign (temp.Fresh n) (L.Sum (L.MoreExpr (fresh n) (L.MoreExpr (term slot) L.NoExpr))); next = m }) 0 h (λ slot m. refl) all (suc n) in
     let z = no_prints (length all) in
     omega (arith, v, z)
 
@@ -161,10 +171,10 @@ insert_quiet w ds fs all t n =
     let chain = fill_chain_quiet x.phrase t all in
     stored_quiet x.before (L.If (all_within x.phrase) (fill_chain x.phrase t all) (L.Assign (temp.Named t) (L.Literal (pos 0)))) (values_quiet w ds fs n) (omega (arith, chain))
 
-loop_quiet : (w : Context) (r q : ℕ) (c : Cond) (body : Slot → ℕ → Made) (n : ℕ) → ((slot : Slot) (m : ℕ) → prints_in (body slot m).command ≡ 0) → prints_in (form.loop w r q c body n).command ≡ 0
+loop_quiet : (w : Context) (r q : ℕ) (c : Cond) (body : Slot → ℕ → Made) (n : ℕ) → ((slot : Slot) (m : ℕ) → prints_in (body slot m).command ≡ 0) → prints_in (form.loop w r q c false body n).command ≡ 0
 unfolding meaning_words
 loop_quiet w r q c body n h =
-    visits_print (λ slot. lift_cond (bind w r slot) c) body 0 (λ slot m. cond_quiet (bind w r slot) c m) h (slots w q) n ∙ no_prints (length (slots w q))
+    visits_print false false (λ slot. lift_cond (bind w r slot) c) body 0 (λ slot m. cond_quiet (bind w r slot) c m) h (slots w q) n ∙ no_prints (length (slots w q))
 
 -- ---- all commands, where x has the slots of the context
 module _ (x : Setting) where
@@ -183,6 +193,7 @@ module _ (x : Setting) where
     exact (Insert q fs t) = 0
     exact (Delete r q c) = 0
     exact (Update r q c f e) = 0
+    exact Abort = 0
 
     exact_all : Commands → ℕ
     exact_all NoCommand = 0
@@ -204,21 +215,22 @@ module _ (x : Setting) where
         let p = form.form w c y.next in
         let q = form.form w d p.next in
         front_prints y.before (L.If y.phrase p.command q.command) (cond_quiet w b n) ∙ ap₂ ◌+◌ (command_exact w h c y.next) (command_exact w h d p.next)
-    command_exact w h (Block cs) n = commands_exact w h cs n
+    command_exact w h (Block cs) n = commands_exact w h false cs n
     command_exact w h (SetField q i f e) n =
         by_quiet (literal_of (lift w i n).phrase) (slots w q.name) (spot (fields w q.name) f.name) (lift w i n) (lift w e) (expr_quiet w i n) (expr_quiet w e)
     command_exact w h (SetRow r f e) n = write_quiet (spot (w.rows r.name).fields f.name) (field_cell (w.rows r.name) f.name) (lift w e n) (expr_quiet w e n)
     command_exact w h (Foreach r q c cs) n =
-        visits_print (λ slot. lift_cond (bind w r.name slot) c) (λ slot m. form.as_one (form.forms (bind w r.name slot) cs m)) (exact_all cs) (λ slot m. cond_quiet (bind w r.name slot) c m) (λ slot m. commands_exact (bind w r.name slot) h cs m) (slots w q.name) n
+        visits_print false (hold_abort cs) (λ slot. lift_cond (bind w r.name slot) c) (λ slot m. form.as_one (form.forms (bind w r.name slot) false cs m)) (exact_all cs) (λ slot m. cond_quiet (bind w r.name slot) c m) (λ slot m. commands_exact (bind w r.name slot) h false cs m) (slots w q.name) n
         ∙ ap (λ l. length l * exact_all cs) (sym (h q.name))
     command_exact w h (Insert q fs t) n = insert_quiet w (fields w q.name) fs (slots w q.name) t.name n
     command_exact w h (Delete r q c) n = loop_quiet w r.name q.name c form.clear n (λ slot m. refl)
     command_exact w h (Update r q c f e) n =
         loop_quiet w r.name q.name c (λ slot m. form.write_field slot f.name (lift (bind w r.name slot) e m)) n (λ slot m. write_quiet (spot slot.fields f.name) (field_cell slot f.name) (lift (bind w r.name slot) e m) (expr_quiet (bind w r.name slot) e m))
+    command_exact w h Abort n = refl
 
-    commands_exact : (w : Context) (h : HasSlots w) (cs : Commands) (n : ℕ) → prints_in_all (form.forms w cs n).commands ≡ exact_all cs
-    commands_exact w h NoCommand n = refl
-    commands_exact w h (MoreCommand c cs) n = ap₂ ◌+◌ (command_exact w h c n) (commands_exact w h cs (form.form w c n).next)
+    commands_exact : (w : Context) (h : HasSlots w) (g : Bool) (cs : Commands) (n : ℕ) → prints_in_all (form.forms w g cs n).commands ≡ exact_all cs
+    commands_exact w h g NoCommand n = refl
+    commands_exact w h g (MoreCommand c cs) n = ap₂ ◌+◌ (guard_prints g (form.form w c n).command ∙ command_exact w h c n) (commands_exact w h (g || holds_abort c) cs (form.form w c n).next)
 
   capped_product : (l p : ℕ) → print_cap (l * print_cap p) ≡ print_cap (l * p)
   capped_product l p = sym (cap_product 1000001 l (print_cap p)) ∙ ap (λ k. print_cap (print_cap l * k)) (again p) ∙ cap_product 1000001 l p
@@ -244,6 +256,7 @@ module _ (x : Setting) where
     command_capped (Insert q fs t) = refl
     command_capped (Delete r q c) = refl
     command_capped (Update r q c f e) = refl
+    command_capped Abort = refl
 
     commands_capped : (cs : Commands) (k : ℕ) → all_prints x cs (print_cap k) ≡ print_cap (k + exact_all cs)
     commands_capped NoCommand k = ap print_cap (plus_none k)
@@ -259,6 +272,31 @@ module _ (x : Setting) where
         assoc : (a b c : ℕ) → (a + b) + c ≡ a + (b + c)
         assoc a b c = omega arith
 
-  pub body_prints : (w : Context) (h : HasSlots w) (cs : Commands) → all_prints x cs 0 ≡ print_cap (prints_in (L.Seq (form.forms w cs 0).commands))
+  -- ---- what stands round a body that can end its call
+  saves_print : (n : ℕ) (xs : List ℕ) (more : L.Commands) → prints_in_all (form.saves n xs more) ≡ prints_in_all more
+  unfolding meaning_words
+  saves_print n [] more = refl
+  saves_print n (o ∷ xs) more = let e = saves_print (suc n) xs more in omega (arith, e)
+
+  restores_print : (n : ℕ) (xs : List ℕ) → prints_in_all (form.restores n xs) ≡ 0
+  unfolding meaning_words
+  restores_print n [] = refl
+  restores_print n (o ∷ xs) = let e = restores_print (suc n) xs in omega (arith, e)
+
+  undoing_prints : (saved : List ℕ) (body : L.Commands) → prints_in (form.undoing saved body) ≡ prints_in_all body
+  unfolding meaning_words
+  undoing_prints saved body =
+      let e = saves_print 1 saved (L.MoreCommand (L.Seq body) (one (form.undo saved))) in
+      let f = restores_print 1 saved in
+      omega (arith, e, f)
+
+  body_exact : (w : Context) (h : HasSlots w) (b : Bool) (cs : Commands) → prints_in (form.body_by b w cs) ≡ exact_all cs
+  unfolding meaning_words
+  body_exact w h false cs = commands_exact w h false cs 0
+  body_exact w h true cs =
+      let saved : List ℕ = form.saved_in w cs in
+      undoing_prints saved (form.forms w false cs (1 + length saved)).commands ∙ commands_exact w h false cs (1 + length saved)
+
+  pub body_prints : (w : Context) (h : HasSlots w) (cs : Commands) → all_prints x cs 0 ≡ print_cap (prints_in (form.body_by (hold_abort cs) w cs))
   unfolding words meaning_words
-  body_prints w h cs = commands_capped cs 0 ∙ ap print_cap (zero_plus (exact_all cs) ∙ sym (commands_exact w h cs 0))
+  body_prints w h cs = commands_capped cs 0 ∙ ap print_cap (zero_plus (exact_all cs) ∙ sym (body_exact w h (hold_abort cs) cs))

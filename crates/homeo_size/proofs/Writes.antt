@@ -209,7 +209,7 @@ module _ (sites : ℕ) where
   targets_filled [] u = []
   targets_filled (x ∷ xs) u = target_filled x u ∷ targets_filled xs u
 
-  values_lifts : (w : Context) (ds : List Declared) (xs : List FieldValue) (n : ℕ) (v : Extents) → Lifts sites n v (lift_values w ds xs n) targets_filled (fillings (setting_for sites w) ds xs) (values_lifted (setting_for sites w) xs)
+  pub values_lifts : (w : Context) (ds : List Declared) (xs : List FieldValue) (n : ℕ) (v : Extents) → Lifts sites n v (lift_values w ds xs n) targets_filled (fillings (setting_for sites w) ds xs) (values_lifted (setting_for sites w) xs)
   unfolding words meaning_words
   values_lifts w ds [] n v = plain_lifts sites _ n v targets_filled (fillings (setting_for sites w) ds []) (λ u. refl)
   values_lifts w ds (f ∷ more) n v =

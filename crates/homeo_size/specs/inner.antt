@@ -9,3 +9,4 @@ pub mod Sizing
 pub mod Slots
 pub mod Store
 pub mod Tables
+pub mod Writing

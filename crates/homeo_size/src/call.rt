@@ -13,6 +13,7 @@ use crate::frame::Frame;
 use crate::layout::Layout;
 use crate::measures::Measure;
 use crate::nodes::TOO_MANY;
+use homeo_meaning::hold_abort;
 use homeo_syntax::{Memory, Number, Transaction};
 use std::alloc::Global;
 
@@ -51,15 +52,24 @@ pub fn measure(
         rows: &[],
         sites,
     };
-    if frame.commands_nodes(t.body.as_slice(), 1) >= TOO_MANY {
+    let body = t.body.as_slice();
+    if frame.commands_nodes(body, 1) >= TOO_MANY {
         return Ok(None);
     }
+    let begins = Extents {
+        objects: first_extents(alloc, layout.weights(), sites)?,
+        temps: Vec::new(alloc),
+        log: Vec::new(alloc),
+        sites,
+    };
     let mut extents = Extents {
         objects: first_extents(alloc, layout.weights(), sites)?,
         temps: Vec::new(alloc),
         log: Vec::new(alloc),
         sites,
     };
-    let all = extents.measure_commands(alloc, t.body.as_slice(), &frame)?;
-    Ok(Some(all.all))
+    let all = extents.measure_commands(alloc, body, &frame)?;
+    let saved = frame.saved(alloc, body)?;
+    let ends = hold_abort(body);
+    Ok(Some(begins.undoing(ends, saved.as_slice(), all.all)))
 }

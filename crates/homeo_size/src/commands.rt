@@ -1,20 +1,32 @@
 //! How large commands are, and the names' extents after them.
 
-ghost use Rattle.std.specs.Prelude.{◌≡◌, map, IfOk, OnOk};
+ghost use Rattle.std.specs.Prelude.{false, ◌≡◌, ◌||◌, map, IfOk, OnOk};
 ghost use Rattle.homeo_syntax.specs.SourceView.{commands, plain_field, plain_command};
+ghost use Rattle.homeo_meaning.specs.Aborts.{holds_abort};
 ghost use Rattle.homeo_size.specs.inner.Parts.{none};
 ghost use Rattle.homeo_size.specs.inner.Measuring.{after, after_all, measured, all_measured, values_lifted, fillings};
 ghost use Rattle.homeo_size.specs.inner.Tables.{plain_filled, sizes_in, store_in, setting};
 
 use crate::chains::{Filled, chain_writing, slot_writing};
-use crate::extent::{NOTHING, around, within_tests, written};
+use crate::extent::{NOTHING, around, literal, within_tests, written};
 use crate::extents::{Entry, Extents};
 use crate::frame::Frame;
-use crate::measures::{Before, EMPTY, Measure, NONE, chosen, guarded, placed, valued, with_one};
+use crate::measures::{
+    Before, EMPTY, Measure, NONE, before_turn, chosen, guard, guarded, in_turn, placed, valued,
+    with_one,
+};
 use crate::rows::with_row;
 use crate::slot::slot_at;
+use homeo_meaning::{hold_abort, holds_abort};
 use homeo_syntax::{Command, FieldValue, Memory};
 use std::alloc::Global;
+
+/// Whether what comes behind a command is guarded.
+fn guards_more(guarded: bool, c: &Command) -> bool
+    ensures { result ≡ (guarded || holds_abort (plain_command c.now)) }
+{
+    guarded || holds_abort(c)
+}
 
 impl Extents {
     /// The values of an insert: each is assigned to a temporary behind its lifting.
@@ -129,15 +141,19 @@ impl Extents {
                 test,
                 body,
             } => {
+                let later = hold_abort(body.as_slice());
+                let mut guarded = false;
                 let mut all = NONE;
                 for slot in frame.slots(relation.name) {
                     let rows = with_row(alloc, frame.rows, row.name, *slot)?;
                     let inner = frame.bound(rows.as_slice(), row.name, *slot);
-                    let test = self.visit(alloc, test, *slot, &inner, &mut all)?;
+                    let mut before = before_turn(guarded, all);
+                    let test = self.visit(alloc, test, *slot, &inner, &mut before)?;
                     let start = self.log.len();
                     let body = self.measure_commands(alloc, body.as_slice(), &inner)?;
                     self.close(alloc, start)?;
-                    all = with_one(all, chosen(around(test), body.all, EMPTY));
+                    all = in_turn(guarded, all, before, chosen(around(test), body.all, EMPTY));
+                    guarded = later;
                 }
                 Ok(all.all)
             }
@@ -179,6 +195,7 @@ impl Extents {
                 frame.slots(relation.name),
                 frame,
             ),
+            Command::Abort => Ok(valued(literal(1))),
         }
     }
 
@@ -191,15 +208,19 @@ impl Extents {
         cs: &[Command],
         frame: &Frame<'_>,
     ) -> Result<Before, Memory>
-        ensures measure { IfOk result (λ b. b ≡ all_measured (setting frame.now)
+        ensures measure { IfOk result (λ b. b ≡ all_measured (setting frame.now) false
             (commands (map plain_command cs.now)) (store_in self.old) none) }
-        ensures store { OnOk result (store_in self.new ≡ after_all (setting frame.now)
+        ensures store { OnOk result (store_in self.new ≡ after_all (setting frame.now) false
             (commands (map plain_command cs.now)) (store_in self.old)) }
     {
         let mut all = NONE;
+        let mut guarded = false;
         for c in cs {
+            let start = self.log.len();
             let one = self.measure_command(alloc, c, frame)?;
-            all = with_one(all, one);
+            self.guard(alloc, guarded, start)?;
+            all = with_one(all, guard(guarded, one));
+            guarded = guards_more(guarded, c);
         }
         Ok(all)
     }

@@ -3,6 +3,7 @@
 ghost use Rattle.std.specs.Prelude.{◌≡◌, ◌≤◌, length, map, IfOk, OnOk};
 ghost use Rattle.homeo_size.specs.inner.Sizing.{name_sized, slot_sized};
 ghost use Rattle.homeo_size.specs.inner.Store.{entry_sized, with_entry, kept_in, set_entry, raise_entry, back_to, since, restored, raised, touched, closed, reopened, higher, joined};
+ghost use Rattle.homeo_size.specs.inner.Measuring.{guard_after};
 ghost use Rattle.homeo_size.specs.inner.Tables.{sizes_in, store_in};
 
 use crate::extent::{Extent, SINGLE, greater, unwritten};
@@ -183,6 +184,18 @@ impl Extents {
         let changed = self.since(alloc, start)?;
         self.take_back(start)?;
         self.raise_all(changed.as_slice())
+    }
+
+    /// Ends a command that began there, guarded or not.
+    #[tactic(auto, unfolding(crate::specs::inner::Key::words))]
+    pub(crate) fn guard(&mut self, alloc: Global, guarded: bool, start: usize) -> Result<(), Memory>
+        ensures { OnOk result (store_in self.new ≡ guard_after guarded start (store_in self.old)) }
+    {
+        if guarded {
+            self.close(alloc, start)
+        } else {
+            Ok(())
+        }
     }
 
     /// Ends a first branch, and begins the second where the first began. Gives what the first changed.

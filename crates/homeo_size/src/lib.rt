@@ -16,7 +16,9 @@ mod numbers;
 mod phrases;
 mod prints;
 mod rows;
+mod saved;
 mod slot;
+mod undoing;
 
 pub use call::measure;
 pub use layout::Layout;

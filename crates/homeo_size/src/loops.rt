@@ -1,6 +1,6 @@
 //! Loops over the slots of a relation whose bodies are no commands of the text.
 
-ghost use Rattle.std.specs.Prelude.{◌≡◌, pos, map, IfOk, OnOk};
+ghost use Rattle.std.specs.Prelude.{false, ◌≡◌, pos, map, IfOk, OnOk};
 ghost use Rattle.homeo_syntax.specs.SourceView.{plain_cond, plain_expr};
 ghost use Rattle.homeo_size.specs.inner.Parts.{literal, writing, none};
 ghost use Rattle.homeo_size.specs.inner.Measuring.{cleared, row_set, row_setting, field_set, field_setting, visits};
@@ -49,7 +49,7 @@ impl Extents {
         slots: &[Slot<'_>],
         frame: &Frame<'_>,
     ) -> Result<Measure, Memory>
-        ensures measure { IfOk result (λ m. m ≡ (visits (setting frame.now) row (plain_cond test.now)
+        ensures measure { IfOk result (λ m. m ≡ (visits (setting frame.now) row (plain_cond test.now) false false
             (λ slot y. writing frame.now.sites (literal (pos 0))) (cleared frame.now.sites) (map plain_slot slots.now) (store_in self.old) none).all) }
         ensures store { OnOk result (store_in self.new ≡
             visited (cleared frame.now.sites) (map plain_slot slots.now) (store_in self.old)) }
@@ -108,7 +108,7 @@ impl Extents {
         slots: &[Slot<'_>],
         frame: &Frame<'_>,
     ) -> Result<Measure, Memory>
-        ensures measure { IfOk result (λ m. m ≡ (visits (setting frame.now) row (plain_cond test.now)
+        ensures measure { IfOk result (λ m. m ≡ (visits (setting frame.now) row (plain_cond test.now) false false
             (field_setting (setting frame.now) row field (plain_expr value.now)) (field_set (setting frame.now) row field (plain_expr value.now)) (map plain_slot slots.now) (store_in self.old) none).all) }
         ensures store { OnOk result (store_in self.new ≡
             visited (field_set (setting frame.now) row field (plain_expr value.now)) (map plain_slot slots.now) (store_in self.old)) }

@@ -2,9 +2,10 @@
 
 ghost use Rattle.std.specs.Prelude.{◌≡◌};
 ghost use Rattle.homeo_size.specs.inner.Parts.{valued, writing, guarded, chosen, followed, with_one, placed};
+ghost use Rattle.homeo_size.specs.inner.Measuring.{unless_ended, guard, before_turn, in_turn};
 ghost use Rattle.homeo_context.specs.Slots.{plain_spot};
 
-use crate::extent::{Extent, NOTHING, around, within_tests};
+use crate::extent::{Extent, NOTHING, SINGLE, around, is_equal, within_tests};
 use crate::numbers::capped;
 use homeo_context::Spot;
 
@@ -124,5 +125,45 @@ pub(crate) fn placed(before: Before, command: Measure) -> Measure
         followed(before.all, command)
     } else {
         command
+    }
+}
+
+/// The measure of a command that is not done where the call is ended.
+#[tactic(auto, unfolding(crate::specs::inner::Key::words))]
+pub(crate) fn unless_ended(command: Measure) -> Measure
+    ensures { result ≡ unless_ended command }
+{
+    chosen(is_equal(SINGLE, 0), command, EMPTY)
+}
+
+/// The measure of a command, guarded or not.
+#[tactic(auto, unfolding(crate::specs::inner::Key::words))]
+pub(crate) fn guard(guarded: bool, command: Measure) -> Measure
+    ensures { result ≡ guard guarded command }
+{
+    if guarded {
+        unless_ended(command)
+    } else {
+        command
+    }
+}
+
+/// What stands before the liftings of a slot's test: the visits so far, or nothing where the slot is guarded.
+#[tactic(auto, unfolding(crate::specs::inner::Key::words))]
+pub(crate) fn before_turn(guarded: bool, visits: Before) -> Before
+    ensures { result ≡ before_turn guarded visits }
+{
+    if guarded { NONE } else { visits }
+}
+
+/// The visits with that of one more slot, behind the liftings of its test.
+#[tactic(auto, unfolding(crate::specs::inner::Key::words))]
+pub(crate) fn in_turn(guarded: bool, visits: Before, lifted: Before, visit: Measure) -> Before
+    ensures { result ≡ in_turn guarded visits lifted visit }
+{
+    if guarded {
+        with_one(visits, unless_ended(placed(lifted, visit)))
+    } else {
+        with_one(lifted, visit)
     }
 }

@@ -163,6 +163,7 @@ impl Frame<'_> {
     {
         match c {
             Command::Skip => 1,
+            Command::Abort => 2,
             Command::Assign { value, .. }
             | Command::Write { value, .. }
             | Command::Print { value }

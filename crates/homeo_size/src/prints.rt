@@ -49,7 +49,8 @@ impl Frame<'_> {
             | Command::SetRow { .. }
             | Command::Insert { .. }
             | Command::Delete { .. }
-            | Command::Update { .. } => 0,
+            | Command::Update { .. }
+            | Command::Abort => 0,
         }
     }
 

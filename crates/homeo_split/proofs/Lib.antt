@@ -1,7 +1,6 @@
 pub mod CommandSteps
 pub mod Copies
 pub mod Equations
-pub mod Example
 pub mod Numbers
 pub mod SmallCommands
 pub mod States

@@ -11,6 +11,3 @@ mod state;
 
 pub use runs::eval_l;
 pub use split::Split;
-
-#[cfg(test)]
-mod tests;

@@ -22,6 +22,15 @@ long_number : scanned_of (codes "0 1234567890123456789") ≡ Err 2
 unfolding scanned_from
 long_number = refl
 
+-- words of version 2 are names in version 1
+first_version : scanned_of (codes "workload 1 abort") ≡ Ok (record { lexeme = Fixed mark.Workload; offset = 0 } ∷ record { lexeme = Number (pos 1); offset = 9 } ∷ record { lexeme = Name (codes "abort"); offset = 11 } ∷ [])
+unfolding scanned_from
+first_version = refl
+
+second_version : scanned_of (codes "workload 02 weights") ≡ Ok (record { lexeme = Fixed mark.Workload; offset = 0 } ∷ record { lexeme = Number (pos 2); offset = 9 } ∷ record { lexeme = Fixed mark.Weights; offset = 12 } ∷ [])
+unfolding scanned_from
+second_version = refl
+
 numbered : tokens_in (codes "b" ∷ codes "a" ∷ []) (record { lexeme = Name (codes "a"); offset = 7 } ∷ record { lexeme = Name (codes "b"); offset = 9 } ∷ []) ≡ record { kind = kind.Name 1; offset = 7 } ∷ record { kind = kind.Name 0; offset = 9 } ∷ []
 numbered = refl
 

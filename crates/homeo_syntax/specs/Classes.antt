@@ -54,6 +54,8 @@ number_of mark.Used = 44
 number_of mark.And = 45
 number_of mark.Not = 46
 number_of mark.True = 47
+number_of mark.Weights = 48
+number_of mark.Abort = 49
 
 -- the class of all names
 abbrev pub name_class : ℕ

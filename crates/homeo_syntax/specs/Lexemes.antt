@@ -22,7 +22,7 @@ abbrev pub is_word : ℕ → Bool
 is_word b = is_letter b || is_digit b || b == 95
 
 -- ---- what stands for itself
--- the words that are no names
+-- the words that are no names in any version
 abbrev pub reserved : List Mark
 reserved =
     mark.Workload ∷ mark.Sites ∷ mark.Object ∷ mark.In ∷ mark.Relation ∷ mark.Transaction ∷ mark.Client ∷ mark.At ∷

@@ -5,6 +5,8 @@ use Rattle.homeo_syntax.specs.declared.token.Mark.TheVariants as mark
 use Rattle.homeo_syntax.specs.declared.token.Kind.{Kind}
 use Rattle.homeo_syntax.specs.declared.token.Kind.TheVariants as kind
 use Rattle.homeo_syntax.specs.declared.token.Token.{Token}
+use Rattle.homeo_syntax.specs.declared.token.Version.{Version}
+use Rattle.homeo_syntax.specs.declared.token.Version.TheVariants.{First, Second}
 use Rattle.homeo_syntax.specs.declared.phrase.Ident.{Ident}
 use Rattle.homeo_syntax.specs.declared.phrase.Number.{Number}
 use Rattle.homeo_syntax.specs.declared.phrase.Compare.{Compare}
@@ -14,18 +16,19 @@ use Rattle.homeo_syntax.specs.declared.workload.RangeDecl.{RangeDecl}
 use Rattle.homeo_syntax.specs.Source as s
 use Rattle.homeo_syntax.specs.SourceView.{exprs, tests, commands}
 use Rattle.homeo_syntax.specs.Classes.{number_of, name_class, number_class}
+use Rattle.homeo_syntax.specs.Versions.{version_number}
 use Rattle.homeo_syntax.specs.Grammar.{Grammar, token, nothing, call, seq, alt, many, part, as_value, Spells, Means}
 
 -- The phrases that count for the depth.
 pub data Deep : Type 0 where
   Factor : Deep
   Test : Deep
-  Command : Deep
+  Command : Version → Deep
 
 abbrev pub Tree : Deep → Type 0
 Tree Factor = s.Expr
 Tree Test = s.Test
-Tree Command = s.Command
+Tree (Command v) = s.Command
 
 abbrev pub Rule : Type 0 → Type 1
 Rule A = Grammar Deep Tree A
@@ -164,10 +167,10 @@ test =
 
 -- ---- commands
 -- block = "{" [command {";" command}] "}"
-abbrev pub block : Rule s.Commands
-block =
+abbrev pub block : Version → Rule s.Commands
+block v =
     part (lead mark.OpenBrace (closed
-    (alt (as_value (λ p. commands (p.0 ∷ p.1)) (seq (call Command) (many (lead mark.Semicolon (call Command))))) (nothing s.NoCommand))
+    (alt (as_value (λ p. commands (p.0 ∷ p.1)) (seq (call (Command v)) (many (lead mark.Semicolon (call (Command v)))))) (nothing s.NoCommand))
     mark.CloseBrace))
 
 -- setting = ":=" expr | "[" expr "]" "." name ":=" expr | "." name ":=" expr, behind the name that is set
@@ -185,26 +188,31 @@ field_value = part (as_value (λ p. record { field = p.0; value = p.1 }) (seq id
 abbrev pub field_values : Rule (List s.FieldValue)
 field_values = part (listed mark.Comma field_value)
 
--- command = "skip" | block | name setting | "write" "(" name "=" expr ")" | "print" "(" expr ")"
+-- common_command = "skip" | block | name setting | "write" "(" name "=" expr ")" | "print" "(" expr ")"
 --         | "if" cond "then" command "else" command | "foreach" visit block
 --         | "insert" name "(" field_values ")" "into" name | "delete" visit | "update" visit "set" field_value
-abbrev pub command : Rule s.Command
-command =
+abbrev pub common_command : Version → Rule s.Command
+common_command v =
     alt (as_value (λ p. s.Skip) (fixed mark.Skip))
-    (alt (as_value s.Block block)
+    (alt (as_value s.Block (block v))
     (alt (as_value (λ p. p.1 p.0) (seq ident setting))
     (alt (as_value (λ p. s.Write p.0 p.1) (lead mark.Write (lead mark.Open (seq ident (lead mark.Equal (closed expr mark.Close))))))
     (alt (as_value s.Print (lead mark.Print (lead mark.Open (closed expr mark.Close))))
-    (alt (as_value (λ p. s.If p.0 p.1.0 p.1.1) (lead mark.If (seq cond (lead mark.Then (seq (call Command) (lead mark.Else (call Command)))))))
-    (alt (as_value (λ p. s.Foreach p.0.0 p.0.1.0 p.0.1.1 p.1) (lead mark.Foreach (seq visit block)))
+    (alt (as_value (λ p. s.If p.0 p.1.0 p.1.1) (lead mark.If (seq cond (lead mark.Then (seq (call (Command v)) (lead mark.Else (call (Command v))))))))
+    (alt (as_value (λ p. s.Foreach p.0.0 p.0.1.0 p.0.1.1 p.1) (lead mark.Foreach (seq visit (block v))))
     (alt (as_value (λ p. s.Insert p.0 p.1.0 p.1.1) (lead mark.Insert (seq ident (lead mark.Open (seq field_values (lead mark.Close (lead mark.Into ident)))))))
     (alt (as_value (λ p. s.Delete p.0 p.1.0 p.1.1) (lead mark.Delete visit))
     (as_value (λ p. s.Update p.0.0 p.0.1.0 p.0.1.1 p.1.field p.1.value) (lead mark.Update (seq visit (lead mark.Set field_value))))))))))))
 
+-- command = "abort" | common_command in version 2, and common_command in version 1
+abbrev pub command : Version → Rule s.Command
+command First = common_command First
+command Second = alt (as_value (λ p. s.Abort) (fixed mark.Abort)) (common_command Second)
+
 abbrev pub rule : (c : Deep) → Rule (Tree c)
 rule Factor = factor
 rule Test = test
-rule Command = command
+rule (Command v) = command v
 
 -- ---- declarations
 abbrev pub minus_number : ℕ → Number → Number
@@ -243,10 +251,10 @@ abbrev pub parameters : Rule (List RangeDecl)
 parameters = part (separated mark.Comma decl)
 
 -- transaction = "transaction" name "(" parameters ")" block
-abbrev pub transaction : Rule s.Transaction
-transaction =
+abbrev pub transaction : Version → Rule s.Transaction
+transaction v =
     part (as_value (λ p. record { name = p.0; params = p.1.0; body = p.1.1 })
-    (lead mark.Transaction (seq ident (lead mark.Open (seq (closed parameters mark.Close) block)))))
+    (lead mark.Transaction (seq ident (lead mark.Open (seq (closed parameters mark.Close) (block v))))))
 
 -- arguments = [signed {"," signed}]
 abbrev pub arguments : Rule (List Number)
@@ -275,30 +283,36 @@ client =
 abbrev pub schedule : Rule (Option (List Ident))
 schedule = part (alt (as_value (λ xs. Some xs) (lead mark.Schedule (many ident))) (nothing None))
 
--- head = "workload" "1" "sites" number
-abbrev pub head : Rule Number
-head = part (lead mark.Workload (lead_number 1 (lead mark.Sites number)))
+-- weights = "weights" number {"," number} in version 2, and nothing in version 1
+abbrev pub weights : Version → Rule (List Number)
+weights First = part (nothing [])
+weights Second = part (lead mark.Weights (listed mark.Comma number))
+
+-- head = "workload" version "sites" number weights
+abbrev pub head : Version → Rule (Number × List Number)
+head v = part (lead mark.Workload (lead_number (version_number v) (lead mark.Sites (seq number (weights v)))))
 
 -- workload = head {object} {relation} {transaction} {client} schedule "end"
-abbrev pub workload : List (List ℕ) → Rule s.Workload
-workload names =
+abbrev pub workload : Version → List (List ℕ) → Rule s.Workload
+workload v names =
     as_value (λ p. record {
-      version = 1;
+      version = version_number v;
       names = names;
-      sites = p.0;
+      sites = p.0.0;
       objects = p.1.0;
       relations = p.1.1.0;
       transactions = p.1.1.1.0;
       clients = p.1.1.1.1.0;
       schedule = p.1.1.1.1.1.0;
       end = p.1.1.1.1.1.1;
+      weights = p.0.1;
     })
-    (seq head (seq (many object) (seq (many relation) (seq (many transaction) (seq (many client) (seq schedule (offset_of mark.End)))))))
+    (seq (head v) (seq (many object) (seq (many relation) (seq (many (transaction v)) (seq (many client) (seq schedule (offset_of mark.End)))))))
 
 -- how deep phrases may go
 unfoldable pub limit : ℕ
 limit = 32
 
--- The tokens are a workload with these names.
-unfoldable pub IsWorkload : List (List ℕ) → s.Workload → List Token → Type 0
-IsWorkload names w ts = Spells (Means rule limit) (workload names) w ts
+-- The tokens are a workload in this version with these names.
+unfoldable pub IsWorkload : Version → List (List ℕ) → s.Workload → List Token → Type 0
+IsWorkload v names w ts = Spells (Means rule limit) (workload v names) w ts

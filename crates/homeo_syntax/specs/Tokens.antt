@@ -1,11 +1,18 @@
 -- The tokens of a text.
-use Rattle.std.specs.Prelude.{ℕ, zero, suc, ◌+◌, ◌-◌, ◌||◌, ◌&&◌, nat_le, Bool, IsTrue, List, [], ◌∷◌, ◌++◌, Option, Some, None, Result, Ok, Err, if◌then◌else◌, map}
+use Rattle.std.specs.Prelude.{ℕ, zero, suc, ◌+◌, ◌-◌, ◌||◌, ◌&&◌, nat_le, pos, Bool, true, false, IsTrue, List, [], ◌∷◌, ◌++◌, Option, Some, None, Result, Ok, Err, if◌then◌else◌, map}
 use Rattle.std.specs.List.{list_all, list_any, position_or_len}
+use Rattle.std.specs.Ordering.{int_eq}
+use Rattle.std.specs.Result.{result_map_both}
 use Rattle.std.specs.Str.{bytes_eq}
 use Rattle.homeo_syntax.specs.declared.token.Kind.{Kind}
 use Rattle.homeo_syntax.specs.declared.token.Kind.TheVariants as kind
 use Rattle.homeo_syntax.specs.declared.token.Token.{Token}
-use Rattle.homeo_syntax.specs.Lexemes.{Lexeme, Name, Number, Fixed, is_space, lexeme_of}
+use Rattle.homeo_syntax.specs.declared.token.Mark.{Mark}
+use Rattle.homeo_syntax.specs.declared.token.Mark.TheVariants as mark
+use Rattle.homeo_syntax.specs.declared.token.Version.{Version}
+use Rattle.homeo_syntax.specs.declared.token.Version.TheVariants.{First, Second}
+use Rattle.homeo_syntax.specs.Lexemes.{Lexeme, Name, Number, Fixed, is_space, look_up, word_as, lexeme_of}
+use Rattle.homeo_syntax.specs.Versions.{also_reserved}
 
 -- ---- bytes
 -- printing ASCII, or a space
@@ -40,8 +47,45 @@ scanned_from zero at (b ∷ bytes) =
     if is_space b then scanned_from 0 (at + 1) bytes
     else found at (lexeme_of (b ∷ bytes)) (λ more. scanned_from more (at + 1) bytes)
 
+-- ---- versions
+abbrev pub is_workload : Mark → Bool
+is_workload mark.Workload = true
+is_workload _ = false
+
+-- a text that begins with these two is in version 2
+abbrev pub begins_second : Lexeme → Lexeme → Bool
+begins_second (Fixed m) (Number n) = is_workload m && int_eq n (pos 2)
+begins_second (Fixed m) (Name w) = false
+begins_second (Fixed m) (Fixed n) = false
+begins_second (Name w) b = false
+begins_second (Number n) b = false
+
+-- version 2 where the first lexeme is `workload` and the second a number of value 2, and else version 1
+abbrev pub version_of : List Scanned → Version
+version_of [] = First
+version_of (t ∷ []) = First
+version_of (t ∷ (u ∷ ts)) = if begins_second t.lexeme u.lexeme then Second else First
+
+-- a word is a mark where its version reserves it
+abbrev pub lexeme_in : Version → Lexeme → Lexeme
+lexeme_in v (Name w) = word_as w (look_up (also_reserved v) w)
+lexeme_in v (Number n) = Number n
+lexeme_in v (Fixed m) = Fixed m
+
+abbrev pub scanned_in : Version → Scanned → Scanned
+scanned_in v t = record { lexeme = lexeme_in v t.lexeme; offset = t.offset }
+
+-- each as its text's version has it
+abbrev pub in_version : List Scanned → List Scanned
+in_version ts = map (scanned_in (version_of ts)) ts
+
+-- the lexemes of a text whose version isn't looked at
+abbrev pub unversioned : List ℕ → Result (List Scanned) ℕ
+unversioned text = scanned_from 0 0 text
+
+-- the lexemes of a text
 abbrev pub scanned_of : List ℕ → Result (List Scanned) ℕ
-scanned_of text = scanned_from 0 0 text
+scanned_of text = result_map_both in_version (λ at. at) (unversioned text)
 
 -- ---- names
 -- the names, and this one behind them if it is not there

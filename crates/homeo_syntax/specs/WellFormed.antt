@@ -2,22 +2,27 @@
 use Rattle.std.specs.Prelude.{◌≡◌, ◌≢◌, ◌<◌, ◌≤◌, ◌^◌, ℕ, ℤ, pos, ◌≤ℤ◌, ⊤, IsTrue, List, [], ◌∷◌, length, AllPairs, Option, Some, None}
 use Rattle.std.specs.List.{list_all}
 use Rattle.homeo_syntax.specs.declared.phrase.Ident.{Ident}
+use Rattle.homeo_syntax.specs.declared.phrase.Number.{Number}
+use Rattle.homeo_syntax.specs.declared.token.Version.{Version}
+use Rattle.homeo_syntax.specs.declared.token.Version.TheVariants.{First, Second}
 use Rattle.homeo_syntax.specs.declared.workload.ObjectDecl.{ObjectDecl}
 use Rattle.homeo_syntax.specs.declared.workload.RangeDecl.{RangeDecl}
 use Rattle.homeo_syntax.specs.Key.{words}
 use Rattle.homeo_syntax.specs.Source as s
 use Rattle.homeo_syntax.specs.Lexemes.{is_letter, is_word, reserved, look_up}
+use Rattle.homeo_syntax.specs.Versions.{version_number, also_reserved}
 
 abbrev pub BeginsWithLetter : List ℕ → Type 0
 BeginsWithLetter [] = ⊥
 BeginsWithLetter (b ∷ bytes) = IsTrue (is_letter b)
 
--- A letter, and then letters, digits and _; of at most 32 bytes, and no reserved word.
-pub record IsName (w : List ℕ) : Type 0 where
+-- A letter, and then letters, digits and _; of at most 32 bytes, and no word that the version reserves.
+pub record IsName (v : Version) (w : List ℕ) : Type 0 where
   pub first : BeginsWithLetter w
   pub all : IsTrue (list_all is_word w)
   pub short : length w ≤ 32
   pub free : look_up reserved w ≡ None
+  pub also_free : look_up (also_reserved v) w ≡ None
 
 -- a number of at most 18 digits, without a sign
 pub record IsShort (n : ℤ) : Type 0 where
@@ -80,6 +85,7 @@ abbrev mutual
   EachInCommand P (s.Insert relation fields into) = P relation × EachInFields P fields × P into
   EachInCommand P (s.Delete row relation test) = P row × P relation × EachInCond P test
   EachInCommand P (s.Update row relation test field e) = P row × P relation × EachInCond P test × P field × EachInExpr P e
+  EachInCommand P s.Abort = ⊤
 
   pub EachInCommands : (Ident → Type 0) → s.Commands → Type 0
   EachInCommands P s.NoCommand = ⊤
@@ -98,17 +104,57 @@ pub record EachIdent (P : Ident → Type 0) (w : s.Workload) : Type 0 where
   pub clients : Each (λ (c : s.Client). P c.name × Each (λ (k : s.Call). P k.name) c.calls) w.clients
   pub schedule : InSchedule P w.schedule
 
+-- ---- what a version has
+abbrev pub CanAbort : Version → Type 0
+CanAbort First = ⊥
+CanAbort Second = ⊤
+
+abbrev mutual
+  unfolding words
+
+  -- the version has the command: only version 2 has `abort`
+  pub HasCommand : Version → s.Command → Type 0
+  HasCommand v s.Skip = ⊤
+  HasCommand v (s.Assign target e) = ⊤
+  HasCommand v (s.Write object e) = ⊤
+  HasCommand v (s.Print e) = ⊤
+  HasCommand v (s.If test c d) = HasCommand v c × HasCommand v d
+  HasCommand v (s.Block cs) = HasCommands v cs
+  HasCommand v (s.SetField relation index field e) = ⊤
+  HasCommand v (s.SetRow row field e) = ⊤
+  HasCommand v (s.Foreach row relation test body) = HasCommands v body
+  HasCommand v (s.Insert relation fields into) = ⊤
+  HasCommand v (s.Delete row relation test) = ⊤
+  HasCommand v (s.Update row relation test field e) = ⊤
+  HasCommand v s.Abort = CanAbort v
+
+  pub HasCommands : Version → s.Commands → Type 0
+  HasCommands v s.NoCommand = ⊤
+  HasCommands v (s.MoreCommand c cs) = HasCommand v c × HasCommands v cs
+
 -- ---- well formed
 abbrev pub IsBelow : ℕ → Ident → Type 0
 IsBelow n x = x.name < n
 
+-- there are weights in version 2, and none in version 1
+abbrev pub HasWeights : Version → List Number → Type 0
+HasWeights First ns = ns ≡ []
+HasWeights Second [] = ⊥
+HasWeights Second (n ∷ ns) = ⊤
+
 pub record IsWellFormed (w : s.Workload) : Type 0 where
-  -- a version that the grammar takes
-  pub version : w.version ≡ 1
+  -- a version that there is
+  pub form : Version
+  pub version : w.version ≡ version_number form
   -- no name stands twice
   pub distinct : AllPairs (λ a b. a ≢ b) w.names
-  pub spelled : Each IsName w.names
+  pub spelled : Each (IsName form) w.names
   -- each identifier is the place of a name
   pub named : EachIdent (IsBelow (length w.names)) w
   -- no client's site is negative
   pub sites : Each (λ (c : s.Client). pos 0 ≤ℤ c.site.value) w.clients
+  -- there are weights in version 2 alone, and none of them is negative
+  pub weights : HasWeights form w.weights
+  pub natural : Each (λ (n : Number). pos 0 ≤ℤ n.value) w.weights
+  -- `abort` is in version 2 alone
+  pub aborts : Each (λ (t : s.Transaction). HasCommands form t.body) w.transactions

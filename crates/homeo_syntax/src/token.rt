@@ -2,6 +2,7 @@
 
 ghost use Rattle.std.specs.Prelude.{◌≡◌};
 ghost use Rattle.homeo_syntax.specs.Marks.{mark_text};
+ghost use Rattle.homeo_syntax.specs.Versions.{version_number};
 
 /// A symbol or a reserved word.
 #[derive(Clone, Copy, Debug, PartialEq, Eq)]
@@ -71,6 +72,8 @@ pub enum Mark {
     And,
     Not,
     True,
+    Weights,
+    Abort,
 }
 
 impl Mark {
@@ -127,6 +130,29 @@ impl Mark {
             Mark::And => b"and",
             Mark::Not => b"not",
             Mark::True => b"true",
+            Mark::Weights => b"weights",
+            Mark::Abort => b"abort",
+        }
+    }
+}
+
+/// A version of the language of texts.
+#[derive(Clone, Copy, Debug, PartialEq, Eq)]
+pub enum Version {
+    /// Version 1: slack is shared evenly.
+    First,
+    /// Version 2: slack is shared by weights, and `weights` and `abort` are no names.
+    Second,
+}
+
+impl Version {
+    /// The number after the word `workload`.
+    pub fn number(self) -> u8
+        ensures { result ≡ version_number self }
+    {
+        match self {
+            Version::First => 1,
+            Version::Second => 2,
         }
     }
 }

@@ -5,6 +5,7 @@ use Rattle.std.proofs.lemmas.List.Kept.{AllPairs-cons}
 use Rattle.homeo_syntax.specs.Key.{words as tree_words}
 use Rattle.homeo_syntax.specs.Listed.{Listed}
 use Rattle.homeo_syntax.specs.Source as s
+use Rattle.homeo_syntax.specs.declared.token.Version.TheVariants.{First}
 use Rattle.homeo_syntax.specs.WellFormed.{IsName, EachIdent, IsBelow}
 use Rattle.homeo_meaning.specs.Key.{words as meaning_words}
 use Rattle.homeo_meaning.specs.Acceptance.{IsAccepted}
@@ -56,21 +57,21 @@ names_differ =
     (AllPairs-cons Differs (codes "amount") (codes "cashier" ∷ []) (differs_from_cashier (codes "amount") amount_is_not_cashier)
     (AllPairs-cons Differs (codes "cashier") [] (all_none (Differs (codes "cashier"))) no_pairs)))
 
-named_stock : IsName (codes "stock")
+named_stock : IsName First (codes "stock")
 unfolding tree_words
-named_stock = record { first = refl; all = refl; short = omega arith; free = refl }
+named_stock = record { first = refl; all = refl; short = omega arith; free = refl; also_free = refl }
 
-named_sell : IsName (codes "sell")
+named_sell : IsName First (codes "sell")
 unfolding tree_words
-named_sell = record { first = refl; all = refl; short = omega arith; free = refl }
+named_sell = record { first = refl; all = refl; short = omega arith; free = refl; also_free = refl }
 
-named_amount : IsName (codes "amount")
+named_amount : IsName First (codes "amount")
 unfolding tree_words
-named_amount = record { first = refl; all = refl; short = omega arith; free = refl }
+named_amount = record { first = refl; all = refl; short = omega arith; free = refl; also_free = refl }
 
-named_cashier : IsName (codes "cashier")
+named_cashier : IsName First (codes "cashier")
 unfolding tree_words
-named_cashier = record { first = refl; all = refl; short = omega arith; free = refl }
+named_cashier = record { first = refl; all = refl; short = omega arith; free = refl; also_free = refl }
 
 below : (n : ℕ) → n ≤ 3 → n < 4
 below n h = omega arith
@@ -104,11 +105,15 @@ pub example-accepted : IsAccepted example
 unfolding tree_words
 example-accepted = record {
   well_formed = record {
+    form = First;
     version = refl;
     distinct = names_differ;
     spelled = (named_stock, (named_sell, (named_amount, (named_cashier, tt))));
     named = each_named;
     sites = (not_negative, tt);
+    weights = refl;
+    natural = tt;
+    aborts = ((tt, (tt, tt)), tt);
   };
   rules = no_faults;
 }

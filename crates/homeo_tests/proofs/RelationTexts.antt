@@ -23,7 +23,7 @@ abbrev relation : ℕ → ℕ → ℤ → List RangeDecl → s.RelationDecl
 relation n o slots fields = record { name = id n o; slots = num slots (o + 1); fields = fields }
 
 abbrev workload : List ObjectDecl → List s.RelationDecl → List s.Transaction → List s.Client → s.Workload
-workload objects relations ts cs = record { version = 1; names = []; sites = num (pos 2) 5; objects = objects; relations = relations; transactions = ts; clients = cs; schedule = None; end = 999 }
+workload objects relations ts cs = record { version = 1; names = []; sites = num (pos 2) 5; objects = objects; relations = relations; transactions = ts; clients = cs; schedule = None; end = 999; weights = [] }
 
 -- an object, a relation with two fields and one with one, a transaction with one parameter and this body, a client
 abbrev body : List s.Command → s.Workload

@@ -49,7 +49,7 @@ abbrev pub client : ℕ → ℕ → ℤ → List s.Call → s.Client
 client n o site cs = record { name = id n o; site = num site (o + 1); calls = cs }
 
 abbrev workload : ℤ → List ObjectDecl → List s.Transaction → List s.Client → Option (List Ident) → s.Workload
-workload sites objects ts cs order = record { version = 1; names = []; sites = num sites 5; objects = objects; relations = []; transactions = ts; clients = cs; schedule = order; end = 999 }
+workload sites objects ts cs order = record { version = 1; names = []; sites = num sites 5; objects = objects; relations = []; transactions = ts; clients = cs; schedule = order; end = 999; weights = [] }
 
 -- one object, one client with one call of a transaction with this body
 abbrev body : List s.Command → s.Workload

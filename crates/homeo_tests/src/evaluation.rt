@@ -129,6 +129,7 @@ fn workload(alloc: Global) -> Result<Workload, Memory>
         clients,
         schedule: None,
         end: 0,
+        weights: List::new(alloc),
     })
 }
 

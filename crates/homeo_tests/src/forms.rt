@@ -1,4 +1,4 @@
-//! The calls of workloads with relations, each run by itself and by its L form.
+//! The calls of workloads with relations, and of those that end themselves, each run by itself and by its L form.
 
 ghost use Rattle.std.specs.Prelude.{◌≡◌, [], All, map, IfOk};
 ghost use Rattle.homeo_syntax.specs.SourceView.{plain_workload};
@@ -8,6 +8,7 @@ ghost use Rattle.homeo_meaning.specs.Ground.{plain_ground};
 ghost use Rattle.homeo_meaning.specs.Schema.{schema_of};
 ghost use Rattle.homeo_ground.specs.Grounding.{IsCalled};
 
+use crate::texts::{ENDED, LIMITED_SLOTS};
 use homeo_context::Declarations;
 use homeo_desugar::desugar;
 use homeo_eval::{eval, initial};
@@ -16,20 +17,10 @@ use homeo_meaning::{Accepted, Database, GroundCall, Purpose};
 use homeo_reader::{ReadRefusal, read};
 use homeo_rules::{RuleRefusal, accept};
 use homeo_split::{Split, eval_l};
-use homeo_syntax::{List, Memory};
+use homeo_syntax::{List, Memory, Prints};
 use std::alloc::{AllocError, Global};
 use std::process::Abort;
 use std::test::Fail;
-
-/// Each call looks for a slot past the last one and fills one of the four, until none is left.
-const LIMITED_SLOTS: &str = "workload 1
-sites 1
-relation R[4] (f in 0..9)
-transaction p() { print(R[4].f); R[4].f := 3; insert R (f = 7) into s; print(s) }
-client a at 0 { p(); p(); p(); p(); p() }
-schedule a a a a a
-end
-";
 
 /// Orders are taken while a slot is free, paid for, shipped and counted: by each command and each expression over rows.
 const ORDERS: &str = "workload 1
@@ -61,6 +52,32 @@ schedule shop shop web shop shop
 end
 ";
 
+/// Calls end themselves behind an insertion, in a loop behind a choice, and behind all else.
+const TAKEN_BACK: &str = "workload 2
+sites 2
+weights 1, 1
+object stock in 0..20 = 20
+relation orders[2] (amount in 0..9)
+transaction order(n in 1..5) {
+  insert orders (amount = n) into place;
+  write(stock = read(stock) - n);
+  if place = 0 then { print(-1); abort } else print(read(stock))
+}
+transaction age() {
+  foreach o of orders when 0 < o.amount {
+    print(o.amount);
+    if o.amount < 3 then abort else o.amount := o.amount - 1;
+    print(0)
+  };
+  print(5)
+}
+transaction look() { delete o of orders when true; print(count(o of orders when true)); abort }
+client shop at 0 { order(5); age(); look() }
+client web at 1 { order(1) }
+schedule shop shop shop web
+end
+";
+
 /// Reads a text that is accepted.
 fn accepted(rt: &impl Abort, alloc: Global, text: &str) -> Result<Accepted, Fail> {
     assert!(rt; text.len() <= 1_048_576);
@@ -88,7 +105,7 @@ fn whole(alloc: Global, database: &Database) -> Result<Split, Memory>
     })
 }
 
-/// Runs a ground call on a database, by itself and by its L form, and compares what they print and leave.
+/// Runs a ground call on a database, by itself and by its L form, compares what they print and leave, and gives the prints.
 fn run_both(
     rt: &impl Abort,
     alloc: Global,
@@ -96,7 +113,7 @@ fn run_both(
     declared: &Declarations,
     call: &GroundCall,
     database: &mut Database,
-) -> Result<(), Fail>
+) -> Result<Prints, Fail>
     requires declared { declared.now ≡ declarations (plain_workload w.now) }
     requires called { IsCalled (plain_workload w.now) (plain_ground call.now) }
     requires within { IsWithin (schema_of (plain_workload w.now)) database.old.items }
@@ -109,10 +126,10 @@ fn run_both(
     let prints = eval(alloc, w, call.transaction, call.args.as_slice(), database)?;
     assert_eq!(rt; printed.as_slice(), prints.as_slice());
     assert_eq!(rt; split.base.as_slice(), database.as_slice());
-    Ok(())
+    Ok(prints)
 }
 
-/// Runs the ground calls one after another.
+/// Runs the ground calls one after another, and gives the prints of each.
 fn run_round(
     rt: &impl Abort,
     alloc: Global,
@@ -120,16 +137,17 @@ fn run_round(
     declared: &Declarations,
     calls: &[GroundCall],
     database: &mut Database,
-) -> Result<(), Fail>
+) -> Result<Vec<Prints>, Fail>
     requires declared { declared.now ≡ declarations (plain_workload w.now) }
     requires called { All (IsCalled (plain_workload w.now)) (map plain_ground calls.now) }
     requires within { IsWithin (schema_of (plain_workload w.now)) database.old.items }
     ensures within { IsWithin (schema_of (plain_workload w.now)) database.new.items }
 {
+    let mut logs = Vec::new(alloc);
     for call in calls {
-        run_both(rt, alloc, w, declared, call, database)?;
+        logs.push(run_both(rt, alloc, w, declared, call, database)?)?;
     }
-    Ok(())
+    Ok(logs)
 }
 
 /// Runs a workload's ground calls from its first database on, the given number of times, and gives the last database.
@@ -143,7 +161,7 @@ fn run_rounds(
     let grounding = Grounding::of(alloc, w)?;
     let mut database = initial(alloc, w)?;
     for _ in 0..rounds {
-        run_round(rt, alloc, w, &declared, grounding.calls(), &mut database)?;
+        let _logs = run_round(rt, alloc, w, &declared, grounding.calls(), &mut database)?;
     }
     Ok(database)
 }
@@ -163,5 +181,33 @@ fn orders_are_taken_paid_and_shipped(rt: HostRuntime) -> Result<(), Fail> {
     let w = accepted(&rt, alloc, ORDERS)?;
     let database = run_rounds(&rt, alloc, &w, 3)?;
     assert_eq!(rt; database.as_slice(), [0, 1, 1, 2, 0, 1, 4, 0].as_slice());
+    Ok(())
+}
+
+#[test]
+fn a_call_that_ends_itself_writes_nothing(rt: HostRuntime) -> Result<(), Fail> {
+    let alloc = rt.alloc();
+    let w = accepted(&rt, alloc, TAKEN_BACK)?;
+    let database = run_rounds(&rt, alloc, &w, 3)?;
+    assert_eq!(rt; database.as_slice(), [14, 1, 4, 1, 1].as_slice());
+    Ok(())
+}
+
+#[test]
+fn a_call_that_ends_itself_keeps_its_prints(rt: HostRuntime) -> Result<(), Fail> {
+    let alloc = rt.alloc();
+    let w = accepted(&rt, alloc, ENDED)?;
+    let declared = Declarations::of(alloc, &w)?;
+    let grounding = Grounding::of(alloc, &w)?;
+    let mut database = initial(alloc, &w)?;
+    let logs = run_round(&rt, alloc, &w, &declared, grounding.calls(), &mut database)?;
+    match logs.as_slice() {
+        [whole, ended] => {
+            assert_eq!(rt; whole.as_slice(), [3, 9].as_slice());
+            assert_eq!(rt; ended.as_slice(), [1].as_slice());
+        }
+        _ => panic!(rt; "two logs"),
+    }
+    assert_eq!(rt; database.as_slice(), [3].as_slice());
     Ok(())
 }

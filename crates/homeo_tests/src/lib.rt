@@ -1,5 +1,5 @@
-//! Whole runs of the top call, over sources and sinks in memory, and the calls of small workloads one by one, also by
-//! their L forms.
+//! Tests of whole runs of the top call, over sources and sinks in memory, of the calls of small workloads one by one, also by
+//! their L forms, and of words and streams.
 #![tactic(auto)]
 
 #[cfg(test)]
@@ -19,6 +19,10 @@ mod runs;
 #[cfg(test)]
 mod sizes;
 #[cfg(test)]
+mod streams;
+#[cfg(test)]
 mod texts;
 #[cfg(test)]
 mod values;
+#[cfg(test)]
+mod words;

@@ -1,6 +1,7 @@
 //! Outputs of commands on small texts, beside those that `faults` compares.
 
 use crate::runs::{check, plain};
+use crate::texts::{ENDED, LIMITED_SLOTS, ONE_WRITER, WEIGHTED_STOCK};
 use homeo::Status;
 use std::test::Fail;
 
@@ -24,8 +25,23 @@ fn calls_are_reported_with_their_rounds(rt: HostRuntime) -> Result<(), Fail> {
         ),
         // each call takes the next row of a relation, until none is free
         (
-            "workload 1\nsites 1\nrelation R[4] (f in 0..9)\ntransaction p() { print(R[4].f); R[4].f := 3; insert R (f = 7) into s; print(s) }\nclient a at 0 { p(); p(); p(); p(); p() }\nschedule a a a a a\nend\n",
+            LIMITED_SLOTS,
             "round 0\nsite 0\nclose 0 clause 0 sum 1 bound 0\na 1 p(): 0 1\nround 1\nsite 0\nclose 0 clause 1 sum 1 bound 0\na 2 p(): 0 2\nround 2\nsite 0\nclose 0 clause 2 sum 1 bound 0\na 3 p(): 0 3\nround 3\nsite 0\nclose 0 clause 3 sum 1 bound 0\na 4 p(): 0 4\nround 4\nsite 0\na 5 p(): 0 0\ndatabase\nR.0.used = 1\nR.0.f = 7\nR.1.used = 1\nR.1.f = 7\nR.2.used = 1\nR.2.f = 7\nR.3.used = 1\nR.3.f = 7\nrounds 5 calls 5\n",
+        ),
+        // site 0 sells three of a slack of four
+        (
+            WEIGHTED_STOCK,
+            "round 0\nsite 0\na 1 buy(1): 1\na 2 buy(1): 1\na 3 buy(1): 1\nsite 1\nb 1 buy(1): 1\ndatabase\nstock = 1\nrounds 1 calls 4\n",
+        ),
+        // the one site that writes has all of the slack
+        (
+            ONE_WRITER,
+            "round 0\nsite 0\na 1 raise():\na 2 show(): 6\na 3 raise():\na 4 show(): 7\nsite 1\ndatabase\nx = 7\nrounds 1 calls 4\n",
+        ),
+        // a call that ends itself keeps its prints alone
+        (
+            ENDED,
+            "round 0\nsite 0\nsite 1\nclose 0 clause 5 sum 1 bound 0\na 1 t(1): 3 9\nround 1\nsite 0\na 2 t(2): 1\nsite 1\ndatabase\nx = 3\nrounds 2 calls 2\n",
         ),
     ] {
         let given = plain(&["steps"], text);
@@ -63,6 +79,16 @@ fn treaties_are_written(rt: HostRuntime) -> Result<(), Fail> {
         (
             "workload 1\nsites 2\nobject x in 0..10 = 5\nobject y in 0..10 = 7\ntransaction t() { if not (read(x) <= 2 and read(y) <= 2) then print(1) else print(0) }\nclient a at 0 { t() }\nend\n",
             "clauses 1\n0 slack 2 bounds 1 1 form -1*x@0 -1*x@1\nfreezes 0\n",
+        ),
+        // slacks that are shared by weights
+        (
+            WEIGHTED_STOCK,
+            "clauses 2\n0 slack 4 bounds 3 1 form -1*stock@0 -1*stock@1\n1 slack 6 bounds 4 2 form 1*stock@0 1*stock@1\nfreezes 0\n",
+        ),
+        // a site that doesn't write has nothing of the slack
+        (
+            ONE_WRITER,
+            "clauses 2\n0 slack 6 bounds 6 0 form -1*x@0 -1*x@1\n1 slack 4 bounds 4 0 form 1*x@0 1*x@1\nfreezes 1\n2 x@1\n",
         ),
     ] {
         let given = plain(&["treaty"], text);

@@ -34,7 +34,29 @@ fn a_faulty_text_is_refused(rt: HostRuntime) -> Result<(), Fail> {
     for (text, complaint) in [
         ("", "refused E4 at 0\n"),
         (NOTHING_BEHIND_THE_HEAD, "refused E4 at 19\n"),
-        ("workload 2\nsites 1\nend\n", "refused E4 at 9\n"),
+        ("workload 2\nsites 1\nend\n", "refused E4 at 19\n"),
+        ("workload 3\nsites 1\nend\n", "refused E4 at 9\n"),
+        (
+            "workload 1\nsites 2\nweights 3, 1\nend\n",
+            "refused E4 at 19\n",
+        ),
+        (
+            "workload 2\nsites 2\nweights 3\nend\n",
+            "refused E8 at 27\n",
+        ),
+        (
+            "workload 2\nsites 2\nweights 3, 1001\nend\n",
+            "refused E9 at 30\n",
+        ),
+        (
+            "workload 2\nsites 2\nweights 0, 0\nend\n",
+            "refused E9 at 27\n",
+        ),
+        // in version 1 `abort` is a name
+        (
+            "workload 1\nsites 2\nobject x in 0..9 = 4\ntransaction t(n in 1..5) { write(x = read(x) - n); print(read(x)); if read(x) < 2 then abort else skip; print(9) }\nclient a at 0 { t(1); t(2) }\nschedule a a\nend\n",
+            "refused E4 at 133\n",
+        ),
         ("workload 1\n\0", "refused E1 at 11\n"),
         ("workload 1\nsites 0\nend\n", "refused E13 at 17\n"),
         ("workload 1\nsites 17\nend\n", "refused E13 at 17\n"),

@@ -3,10 +3,12 @@
 ghost use Rattle.std.specs.Prelude.{◌≡◌, ◌<◌, ◌≤◌, ◌^◌, ℕ, length, option_map, EachIndex, IsTrue, slice_index, pos};
 ghost use Rattle.std.specs.List.{prefix_len};
 ghost use Rattle.homeo_syntax.specs.Lexemes as spec;
+ghost use Rattle.homeo_syntax.specs.Tokens as tokens;
+ghost use Rattle.homeo_syntax.specs.Versions.{also_reserved};
 ghost use Rattle.homeo_tokens.specs.Views.{plain_lexeme};
 ghost use Rattle.homeo_tokens.specs.inner.Lexemes.{plain_found, fixed, symbol_lexeme};
 
-use homeo_syntax::Mark;
+use homeo_syntax::{Mark, Version};
 
 /// A token before names have numbers: a name as the text spells it, a number of at most 18 digits, or a mark.
 #[derive(Clone, Copy, Debug)]
@@ -16,7 +18,7 @@ pub enum Lexeme<'a> {
     Fixed(Mark),
 }
 
-/// The words that are no names.
+/// The words that are no names in any version.
 const RESERVED: [Mark; 31] = [
     Mark::Workload,
     Mark::Sites,
@@ -50,6 +52,9 @@ const RESERVED: [Mark; 31] = [
     Mark::Not,
     Mark::True,
 ];
+
+/// The words that are no names in version 2, beside these.
+const LATER_RESERVED: [Mark; 2] = [Mark::Weights, Mark::Abort];
 
 /// The symbols of two bytes.
 const DOUBLE_SYMBOLS: [Mark; 3] = [Mark::Assign, Mark::Dots, Mark::LessEqual];
@@ -182,6 +187,51 @@ fn number(digits: &[u8]) -> i64
         value = value * 10 + (*d - b'0') as u64;
     }
     value as i64
+}
+
+/// Whether a text that begins with these two tokens is in version 2.
+pub fn begins_second(first: Lexeme<'_>, second: Lexeme<'_>) -> bool
+    ensures { result ≡ tokens.begins_second (plain_lexeme first.entry) (plain_lexeme second.entry) }
+{
+    match first {
+        Lexeme::Fixed(mark) => match second {
+            Lexeme::Number(n) => is_workload(mark) && n == 2,
+            _ => false,
+        },
+        _ => false,
+    }
+}
+
+fn is_workload(mark: Mark) -> bool
+    ensures { result ≡ tokens.is_workload mark }
+{
+    match mark {
+        Mark::Workload => true,
+        _ => false,
+    }
+}
+
+/// The words that are no names in this version, beside those that never are.
+fn also_reserved(version: Version) -> &'static [Mark]
+    ensures { result.now ≡ also_reserved version }
+{
+    match version {
+        Version::First => &[],
+        Version::Second => &LATER_RESERVED,
+    }
+}
+
+/// The token as a version has it: a word is a mark where the version reserves it.
+pub fn lexeme_in<'a>(version: Version, lexeme: Lexeme<'a>) -> Lexeme<'a>
+    ensures { plain_lexeme result ≡ tokens.lexeme_in version (plain_lexeme lexeme.entry) }
+{
+    match lexeme {
+        Lexeme::Name(word) => match look_up(also_reserved(version), word.as_bytes()) {
+            Some(mark) => Lexeme::Fixed(mark),
+            None => lexeme,
+        },
+        Lexeme::Number(_) | Lexeme::Fixed(_) => lexeme,
+    }
 }
 
 /// The token that the text begins with, the longest that fits, and its length in bytes.

@@ -7,4 +7,4 @@ mod scanner;
 
 pub use lexeme::Lexeme;
 pub use numbering::{Numbered, number_names};
-pub use scanner::{ScanError, Scanned, first_bad_byte, scan};
+pub use scanner::{ScanError, Scanned, first_bad_byte, scan, version_of};

@@ -1,11 +1,13 @@
 //! The tokens of a text, before names have numbers (this project's rule).
 
 ghost use Rattle.std.specs.Prelude.{◌≡◌, ◌≤◌, length, map, not, position, Ok, Err, IfOk, IfErr};
-ghost use Rattle.homeo_syntax.specs.Tokens.{is_good, scanned_of};
+ghost use Rattle.homeo_syntax.specs.Tokens.{is_good, version_of, scanned_in, unversioned, scanned_of};
+ghost use Rattle.homeo_syntax.specs.declared.token.Version.TheVariants.{Second};
 ghost use Rattle.homeo_tokens.specs.Views.{plain_scanned};
 ghost use Rattle.homeo_tokens.specs.Scans.{Stops};
 
-use crate::lexeme::{Lexeme, first_lexeme, is_space};
+use crate::lexeme::{Lexeme, begins_second, first_lexeme, is_space, lexeme_in};
+use homeo_syntax::Version;
 use std::alloc::{AllocError, AllocFailed, Global};
 
 /// A token before names have numbers, and the offset of its first byte in the text, in bytes from 0.
@@ -60,7 +62,7 @@ pub fn first_bad_byte(text: &[u8]) -> Option<usize>
     text.iter().position(|b| !is_good(*b))
 }
 
-/// The tokens of a text, in time in proportion to its length.
+/// The tokens of a text, in time in proportion to its length. What version the text is in, its first two tokens tell.
 ///
 /// # Errors
 ///
@@ -68,6 +70,46 @@ pub fn first_bad_byte(text: &[u8]) -> Option<usize>
 /// when out of memory.
 pub fn scan(alloc: Global, text: &[u8]) -> Result<Vec<Scanned<'_>>, ScanError>
     ensures tokens { IfOk result (λ v. scanned_of text.now ≡ Ok (map plain_scanned v.items)) }
+    ensures few { IfOk result (λ v. length v.items ≤ length text.now) }
+    ensures stops { IfErr result (Stops text.now) }
+{
+    let tokens = scan_words(alloc, text)?;
+    match version_of(tokens.as_slice()) {
+        Version::First => Ok(tokens),
+        Version::Second => in_second(alloc, tokens.as_slice()),
+    }
+}
+
+/// The version of a text with these tokens.
+pub fn version_of(tokens: &[Scanned<'_>]) -> Version
+    ensures { result ≡ version_of (map plain_scanned tokens.now) }
+{
+    if tokens.len() > 1 && begins_second(tokens[0].lexeme, tokens[1].lexeme) {
+        Version::Second
+    } else {
+        Version::First
+    }
+}
+
+/// The tokens as version 2 has them: with marks for the words that it reserves alone.
+fn in_second<'a>(alloc: Global, tokens: &[Scanned<'a>]) -> Result<Vec<Scanned<'a>>, ScanError>
+    ensures tokens { IfOk result (λ v. map plain_scanned v.items ≡ map (scanned_in Second) (map plain_scanned tokens.now)) }
+    ensures few { IfOk result (λ v. length v.items ≡ length tokens.now) }
+    ensures memory { IfErr result (λ e. e ≡ ScanError.Memory) }
+{
+    let mut made = Vec::new(alloc);
+    for token in tokens {
+        made.push(Scanned {
+            lexeme: lexeme_in(Version::Second, token.lexeme),
+            offset: token.offset,
+        })?;
+    }
+    Ok(made)
+}
+
+/// The tokens of a text, where the words that only some version reserves are names.
+fn scan_words(alloc: Global, text: &[u8]) -> Result<Vec<Scanned<'_>>, ScanError>
+    ensures tokens { IfOk result (λ v. unversioned text.now ≡ Ok (map plain_scanned v.items)) }
     ensures few { IfOk result (λ v. length v.items ≤ length text.now) }
     ensures stops { IfErr result (Stops text.now) }
 {

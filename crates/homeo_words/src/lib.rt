@@ -6,7 +6,5 @@ pub mod laws;
 mod line;
 mod numeral;
 mod reading;
-#[cfg(test)]
-mod tests;
 
 pub use command::Command;

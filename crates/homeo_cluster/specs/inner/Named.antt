@@ -13,4 +13,5 @@ no_workload = record {
   clients = [];
   schedule = None;
   end = 0;
+  weights = [];
 }

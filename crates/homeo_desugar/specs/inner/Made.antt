@@ -1,12 +1,12 @@
 -- What the code has made so far, and what it adds to that.
-use Rattle.std.specs.Prelude.{◌≡◌, ◌≤◌, ℕ, suc, pos, map, List, All, length}
+use Rattle.std.specs.Prelude.{◌≡◌, ◌≤◌, ℕ, suc, Bool, pos, map, List, All, length}
 use Rattle.homeo_syntax.specs.Low as L
 use Rattle.homeo_syntax.specs.declared.low.Temp.TheVariants as temp
 use Rattle.homeo_syntax.specs.declared.low.SplitName.TheVariants as split
 use Rattle.homeo_syntax.specs.declared.workload.RangeDecl.{RangeDecl}
 use Rattle.homeo_meaning.specs.Context.{Slot}
 use Rattle.homeo_syntax.specs.LowView.{low_commands, plain_lcommand}
-use Rattle.homeo_meaning.specs.LForm.{Lifted, Made, AllMade, Target, both, one, field_writes}
+use Rattle.homeo_meaning.specs.LForm.{Lifted, Made, AllMade, Target, both, one, in_turn, field_writes}
 use Rattle.homeo_desugar.specs.inner.Key.{words}
 use Rattle.homeo_desugar.specs.inner.Settings.{plain_spot}
 use Rattle.homeo_desugar.specs.declared.making.Making.{Making}
@@ -26,6 +26,11 @@ pub record IsLifted {A : Type 0} (old new : Making) (x : Lifted A) (made_phrase 
 pub record IsAdded (old new : Making) (x : AllMade) : Type 0 where
   pub commands : made new ≡ both (made old) x.commands
   pub next : new.next ≡ x.next
+
+-- the commands of a slot stand behind those that were there, guarded or not
+pub record IsTurned (g : Bool) (old new : Making) (v : Lifted L.Command) : Type 0 where
+  pub commands : made new ≡ both (made old) (in_turn g v.before v.phrase L.NoCommand)
+  pub next : new.next ≡ v.next
 
 pub record IsFormed (after : ℕ) (x : Made) (formed : L.Command) : Type 0 where
   pub command : formed ≡ x.command

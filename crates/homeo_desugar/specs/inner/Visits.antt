@@ -1,5 +1,5 @@
 -- What a loop over slots makes at each of them.
-use Rattle.std.specs.Prelude.{ℕ, pos, Option, Some, None}
+use Rattle.std.specs.Prelude.{ℕ, pos, false, Option, Some, None}
 use Rattle.homeo_syntax.specs.Low as L
 use Rattle.homeo_syntax.specs.declared.low.Temp.TheVariants as temp
 use Rattle.homeo_syntax.specs.Source.{Expr, Commands}
@@ -34,4 +34,12 @@ updating x row f e slot n = write_field slot f (lift (bind x row slot) e n)
 -- what `foreach` makes of a slot: its body
 abbrev pub running : Context → ℕ → Commands → Slot → ℕ → Made
 unfolding words
-running x row body slot n = as_one (forms (bind x row slot) body n)
+running x row body slot n = as_one (forms (bind x row slot) false body n)
+
+-- the commands of a slot: those of its test's lifting, and then the choice
+abbrev pub visit_of : (Slot → ℕ → Lifted L.Cond) → (Slot → ℕ → Made) → Slot → ℕ → Lifted L.Command
+unfolding words
+visit_of test body slot n =
+    let b = test slot n in
+    let c = body slot b.next in
+    record { before = b.before; phrase = L.If (L.MoreTest (equal (read slot.used) (pos 1)) b.phrase) c.command L.Skip; next = c.next }

@@ -1,8 +1,8 @@
 -- Whether each number that a run computes is at most b in size, with the partial sums and products from left to right.
--- In each branch and at each slot as if it were taken.
-use Rattle.std.specs.Prelude.{ℕ, ℤ, pos, ◌+ℤ◌, ◌*ℤ◌, neg_ℤ, Bool, true, cond, ◌&&◌, nat_le, List, [], ◌∷◌, Option, Some, None}
+-- In each branch and at each slot as if it were taken, but not behind the end of the call.
+use Rattle.std.specs.Prelude.{ℕ, ℤ, pos, ◌+ℤ◌, ◌*ℤ◌, neg_ℤ, Bool, true, cond, ◌&&◌, ◌||◌, nat_le, List, [], ◌∷◌, Option, Some, None}
 use Rattle.std.specs.Int.RustNames.{unsigned_abs}
-use Rattle.homeo_syntax.specs.Source.{Expr, Exprs, Literal, Name, Read, Sum, Product, Neg, Field, Row, Count, Total, NoExpr, MoreExpr, Test, Cond, True, Not, Comparison, NoTest, MoreTest, FieldValue, Command, Commands, Skip, Assign, Write, Print, If, Block, SetField, SetRow, Foreach, Insert, Delete, Update, NoCommand, MoreCommand}
+use Rattle.homeo_syntax.specs.Source.{Expr, Exprs, Literal, Name, Read, Sum, Product, Neg, Field, Row, Count, Total, NoExpr, MoreExpr, Test, Cond, True, Not, Comparison, NoTest, MoreTest, FieldValue, Command, Commands, Skip, Assign, Write, Print, If, Block, SetField, SetRow, Foreach, Insert, Delete, Update, Abort, NoCommand, MoreCommand}
 use Rattle.homeo_meaning.specs.Key.{words}
 use Rattle.homeo_meaning.specs.Small.{is_small}
 use Rattle.homeo_meaning.specs.Context.{Slot, Context, field_cell, slots, bind, slot_at}
@@ -74,7 +74,7 @@ unfolding words
 visits_fit tests bodies test body [] s = true
 visits_fit tests bodies test body (slot ∷ more) s =
     let here : Run = cond (is_used s slot && test slot s) (body slot s) (done s) in
-    tests slot s && (bodies slot s && visits_fit tests bodies test body more here.state)
+    tests slot s && (bodies slot s && (here.ended || visits_fit tests bodies test body more here.state))
 
 abbrev mutual
   unfolding words
@@ -95,7 +95,8 @@ abbrev mutual
       visits_fit (λ slot. cond_fits b (bind x r.name slot) t) (λ slot u. true) (λ slot. holds (bind x r.name slot) t) (λ slot u. done (set_object u slot.used (pos 0))) (slots x q.name) s
   can_run b x (Update r q t f e) s =
       visits_fit (λ slot. cond_fits b (bind x r.name slot) t) (λ slot. expr_fits b (bind x r.name slot) e) (λ slot. holds (bind x r.name slot) t) (λ slot u. done (write_field u slot f.name (value (bind x r.name slot) e u))) (slots x q.name) s
+  can_run b x Abort s = true
 
   pub can_run_all : ℕ → Context → Commands → State → Bool
   can_run_all b x NoCommand s = true
-  can_run_all b x (MoreCommand c cs) s = can_run b x c s && can_run_all b x cs (does x c s).state
+  can_run_all b x (MoreCommand c cs) s = can_run b x c s && ((does x c s).ended || can_run_all b x cs (does x c s).state)

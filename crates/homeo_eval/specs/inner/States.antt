@@ -1,5 +1,5 @@
 -- The states and runs that the code's values stand for.
-use Rattle.std.specs.Prelude.{◌≡◌, ◌≤◌, ℕ, ℤ, pos, true, List, length}
+use Rattle.std.specs.Prelude.{◌≡◌, ◌≤◌, ℕ, ℤ, pos, Bool, true, List, length}
 use Rattle.homeo_context.specs.declared.context.Context as code_context
 use Rattle.homeo_context.specs.Contexts.{plain_context}
 use Rattle.homeo_eval.specs.declared.state.State as code
@@ -14,9 +14,9 @@ abbrev pub state_of : code.State → State
 unfolding words
 state_of s = record { database = values_of s.database.items; temps = values_of s.temps.items }
 
-abbrev pub run_of : State → List ℤ → Run
+abbrev pub run_of : State → List ℤ → Bool → Run
 unfolding words
-run_of s prints = record { state = s; prints = prints }
+run_of s prints ended = record { state = s; prints = prints; ended = ended }
 
 -- a state has a value for each object, and the rows in force are slots, or past all objects
 pub record Serves (x : code_context.Context) (s : code.State) : Type 0 where

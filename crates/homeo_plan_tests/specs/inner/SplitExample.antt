@@ -1,15 +1,20 @@
--- A small command and a small split database, which tests take.
+-- Two small commands and a small split database, which tests take.
 use Rattle.std.specs.Prelude.{◌≡◌, ℤ, pos, negsuc, List, [], ◌∷◌, map}
-use Rattle.homeo_syntax.specs.declared.low.SplitName.TheVariants.{Whole}
-use Rattle.homeo_syntax.specs.Low.{Expr, Literal, Read, Sum, NoExpr, MoreExpr, Command, Write, Print, Seq, NoCommand, MoreCommand}
+use Rattle.homeo_syntax.specs.declared.low.SplitName.TheVariants.{Whole, Base, Delta}
+use Rattle.homeo_syntax.specs.Low.{Expr, Literal, Read, Command, Write, Print, Seq, NoCommand, MoreCommand}
 use Rattle.homeo_split.specs.declared.split.Split.{Split}
+use Rattle.homeo_plan_tests.specs.inner.Object.{pair_of, sum_of, joined}
 
 abbrev pub next : Expr
-next = Sum (MoreExpr (Read (Whole 0)) (MoreExpr (Literal (pos 1)) NoExpr))
+next = pair_of (Read (Whole 0)) (Literal (pos 1))
 
 -- `x := x + 1; print x`
 abbrev pub raise : Command
 raise = Seq (MoreCommand (Write (Whole 0) next) (MoreCommand (Print (Read (Whole 0))) NoCommand))
+
+-- `x@0 := x@0 + 1 + base(x); print base(x) + x@0 + x@1`
+abbrev pub raise_own : Command
+raise_own = Seq (MoreCommand (Write (Delta 0 0) (sum_of (Read (Delta 0 0)) (Literal (pos 1)) (Read (Base 0)))) (MoreCommand (Print joined) NoCommand))
 
 abbrev pub base : List ℤ
 base = pos 5 ∷ pos 7 ∷ []

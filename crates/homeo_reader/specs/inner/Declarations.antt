@@ -4,6 +4,8 @@ use Rattle.homeo_syntax.specs.declared.token.Mark.TheVariants as mark
 use Rattle.homeo_syntax.specs.declared.token.Kind.{Kind}
 use Rattle.homeo_syntax.specs.declared.token.Kind.TheVariants as kind
 use Rattle.homeo_syntax.specs.declared.token.Token.{Token}
+use Rattle.homeo_syntax.specs.declared.token.Version.{Version}
+use Rattle.homeo_syntax.specs.declared.token.Version.TheVariants.{First, Second}
 use Rattle.homeo_syntax.specs.declared.phrase.Ident.{Ident}
 use Rattle.homeo_syntax.specs.declared.phrase.Number.{Number}
 use Rattle.homeo_syntax.specs.declared.workload.ObjectDecl.{ObjectDecl}
@@ -16,6 +18,8 @@ use Rattle.homeo_syntax.specs.Source as s
 use Rattle.homeo_syntax.specs.SourceView.{plain_call, plain_relation, plain_transaction, plain_client}
 use Rattle.homeo_syntax.specs.Grammar.{many}
 use Rattle.homeo_syntax.specs.Rules as rules
+use Rattle.homeo_syntax.specs.Versions.{version_number}
+use Rattle.homeo_syntax.specs.Listed.{Listed}
 use Rattle.homeo_syntax.specs.Rules.{Deep, Tree, rule, lead, minus_number, limit}
 use Rattle.homeo_reader.specs.inner.Engine.{Calls, Reading, ◌>>=◌, read, calls_at}
 use Rattle.homeo_reader.specs.inner.Commands.{block_read}
@@ -32,6 +36,10 @@ transaction_views ts = map plain_transaction ts
 
 abbrev pub client_views : List Client → List s.Client
 client_views cs = map plain_client cs
+
+-- the number of sites, and the weights
+abbrev pub head_view : Number × Listed Number → Number × List Number
+head_view p = (p.0, p.1.items)
 
 abbrev pub top : Calls Deep Tree
 top = calls_at rule limit
@@ -73,11 +81,11 @@ relations_read ts = read top (many rules.relation) ts
 unfoldable pub parameters_read : List Token → Reading (List RangeDecl)
 parameters_read ts = read top rules.parameters ts
 
-unfoldable pub next_transaction_read : List Token → Reading (Option s.Transaction)
-next_transaction_read ts = opt_read top rules.transaction ts
+unfoldable pub next_transaction_read : Version → List Token → Reading (Option s.Transaction)
+next_transaction_read v ts = opt_read top (rules.transaction v) ts
 
-unfoldable pub transactions_read : List Token → Reading (List s.Transaction)
-transactions_read ts = read top (many rules.transaction) ts
+unfoldable pub transactions_read : Version → List Token → Reading (List s.Transaction)
+transactions_read v ts = read top (many (rules.transaction v)) ts
 
 unfoldable pub first_argument_read : List Token → Reading (Option Number)
 first_argument_read ts = opt_read top rules.signed ts
@@ -124,11 +132,20 @@ names_read ts = read top (many rules.ident) ts
 unfoldable pub schedule_read : List Token → Reading (Option (List Ident))
 schedule_read ts = read top rules.schedule ts
 
-unfoldable pub head_read : List Token → Reading Number
-head_read ts = read top rules.head ts
+unfoldable pub next_weight_read : List Token → Reading (Option Number)
+next_weight_read ts = opt_read top (lead mark.Comma rules.number) ts
 
-unfoldable pub workload_read : List (List ℕ) → List Token → Reading s.Workload
-workload_read names ts = read top (rules.workload names) ts
+unfoldable pub other_weights_read : List Token → Reading (List Number)
+other_weights_read ts = read top (many (lead mark.Comma rules.number)) ts
+
+unfoldable pub weights_read : Version → List Token → Reading (List Number)
+weights_read v ts = read top (rules.weights v) ts
+
+unfoldable pub head_read : Version → List Token → Reading (Number × List Number)
+head_read v ts = read top (rules.head v) ts
+
+unfoldable pub workload_read : Version → List (List ℕ) → List Token → Reading s.Workload
+workload_read v names ts = read top (rules.workload v names) ts
 
 -- ---- the same, step by step
 unfoldable pub signed_by : Kind → Token → List Token → Reading Number
@@ -187,13 +204,13 @@ unfoldable pub parameters_do : List Token → Reading (List RangeDecl)
 parameters_do ts = first_decl_read ts >>= λ x. after_first other_decls_read x.0 x.1
 
 -- what follows `transaction`
-unfoldable pub transaction_rest : List Token → Reading s.Transaction
-transaction_rest ts =
-    ident_read ts >>= λ a. mark_read mark.Open a.1 >>= λ b. parameters_read b.1 >>= λ c. mark_read mark.Close c.1 >>= λ d. block_read limit d.1 >>= λ e.
+unfoldable pub transaction_rest : Version → List Token → Reading s.Transaction
+transaction_rest v ts =
+    ident_read ts >>= λ a. mark_read mark.Open a.1 >>= λ b. parameters_read b.1 >>= λ c. mark_read mark.Close c.1 >>= λ d. block_read v limit d.1 >>= λ e.
     Ok (record { name = a.0; params = c.0; body = e.0 }, e.1)
 
-unfoldable pub next_transaction_do : List Token → Reading (Option s.Transaction)
-next_transaction_do ts = if_marked mark.Transaction ts (λ r. transaction_rest r >>= λ x. Ok (Some x.0, x.1)) (Ok (None, ts))
+unfoldable pub next_transaction_do : Version → List Token → Reading (Option s.Transaction)
+next_transaction_do v ts = if_marked mark.Transaction ts (λ r. transaction_rest v r >>= λ x. Ok (Some x.0, x.1)) (Ok (None, ts))
 
 unfoldable pub first_argument_by : Kind → Token → List Token → Reading (Option Number)
 first_argument_by (kind.Fixed mark.Minus) t ts = signed_read (t ∷ ts) >>= λ x. Ok (Some x.0, x.1)
@@ -252,11 +269,20 @@ next_name_do (t ∷ ts) = next_name_by t.kind t ts
 unfoldable pub schedule_do : List Token → Reading (Option (List Ident))
 schedule_do ts = if_marked mark.Schedule ts (λ r. names_read r >>= λ x. Ok (Some x.0, x.1)) (Ok (None, ts))
 
-unfoldable pub head_do : List Token → Reading Number
-head_do ts = mark_read mark.Workload ts >>= λ a. number_is_read 1 a.1 >>= λ b. mark_read mark.Sites b.1 >>= λ c. number_read c.1 >>= λ d. Ok (d.0, d.1)
+unfoldable pub next_weight_do : List Token → Reading (Option Number)
+next_weight_do ts = if_marked mark.Comma ts (λ r. number_read r >>= λ x. Ok (Some x.0, x.1)) (Ok (None, ts))
 
-unfoldable pub workload_do : List (List ℕ) → List Token → Reading s.Workload
-workload_do names ts =
-    head_read ts >>= λ a. objects_read a.1 >>= λ b. relations_read b.1 >>= λ c. transactions_read c.1 >>= λ d. clients_read d.1 >>= λ e.
+unfoldable pub weights_do : Version → List Token → Reading (List Number)
+weights_do First ts = Ok ([], ts)
+weights_do Second ts = mark_read mark.Weights ts >>= λ a. number_read a.1 >>= λ b. other_weights_read b.1 >>= λ c. Ok (b.0 ∷ c.0, c.1)
+
+unfoldable pub head_do : Version → List Token → Reading (Number × List Number)
+head_do v ts =
+    mark_read mark.Workload ts >>= λ a. number_is_read (version_number v) a.1 >>= λ b. mark_read mark.Sites b.1 >>= λ c. number_read c.1 >>= λ d.
+    weights_read v d.1 >>= λ e. Ok ((d.0, e.0), e.1)
+
+unfoldable pub workload_do : Version → List (List ℕ) → List Token → Reading s.Workload
+workload_do v names ts =
+    head_read v ts >>= λ a. objects_read a.1 >>= λ b. relations_read b.1 >>= λ c. transactions_read v c.1 >>= λ d. clients_read d.1 >>= λ e.
     schedule_read e.1 >>= λ f. offset_read mark.End f.1 >>= λ g.
-    Ok (record { version = 1; names = names; sites = a.0; objects = b.0; relations = c.0; transactions = d.0; clients = e.0; schedule = f.0; end = g.0 }, g.1)
+    Ok (record { version = version_number v; names = names; sites = a.0.0; objects = b.0; relations = c.0; transactions = d.0; clients = e.0; schedule = f.0; end = g.0; weights = a.0.1 }, g.1)

@@ -1,6 +1,7 @@
 -- What the reader returns.
 use Rattle.std.specs.Prelude.{◌≡◌, ℕ, List, Result, Ok, Err}
 use Rattle.homeo_syntax.specs.declared.token.Token.{Token}
+use Rattle.homeo_syntax.specs.declared.token.Version.{Version}
 use Rattle.homeo_syntax.specs.declared.workload.Workload.{Workload}
 use Rattle.homeo_syntax.specs.SourceView.{plain_workload}
 use Rattle.homeo_syntax.specs.Grammar.{IsFault}
@@ -15,9 +16,9 @@ ReadsExactly text (Ok w) = Reads text (plain_workload w)
 ReadsExactly text (Err Memory) = Unit {0}
 ReadsExactly text (Err (Refused r)) = IsUnread text r
 
--- The same of tokens with names.
-abbrev pub ParsesExactly : List (List ℕ) → List Token → ℕ → Result Workload ReadRefusal → Type 0
-ParsesExactly names ts end (Ok w) = IsWorkload names (plain_workload w) ts
-ParsesExactly names ts end (Err Memory) = Unit {0}
-ParsesExactly names ts end (Err (Refused r)) =
-    (fault : List Token) × IsFault (IsWorkload names) ts fault × (r ≡ record { code = 4; offset = offset_at end fault })
+-- The same of tokens in a version with names.
+abbrev pub ParsesExactly : Version → List (List ℕ) → List Token → ℕ → Result Workload ReadRefusal → Type 0
+ParsesExactly v names ts end (Ok w) = IsWorkload v names (plain_workload w) ts
+ParsesExactly v names ts end (Err Memory) = Unit {0}
+ParsesExactly v names ts end (Err (Refused r)) =
+    (fault : List Token) × IsFault (IsWorkload v names) ts fault × (r ≡ record { code = 4; offset = offset_at end fault })

@@ -23,10 +23,11 @@ classes = record { starts = starts_of; goes_on = goes_on_of }
     starts_of : Deep → List ℕ
     starts_of Factor = factor_starts
     starts_of Test = number_of mark.True ∷ number_of mark.Not ∷ factor_starts
-    starts_of Command = number_of mark.Skip ∷ number_of mark.OpenBrace ∷ name_class ∷ number_of mark.Write ∷ number_of mark.Print ∷ number_of mark.If
-        ∷ number_of mark.Foreach ∷ number_of mark.Insert ∷ number_of mark.Delete ∷ number_of mark.Update ∷ []
+    -- no text of version 1 has the mark `abort`, but it does no harm here
+    starts_of (Command v) = number_of mark.Abort ∷ number_of mark.Skip ∷ number_of mark.OpenBrace ∷ name_class ∷ number_of mark.Write ∷ number_of mark.Print
+        ∷ number_of mark.If ∷ number_of mark.Foreach ∷ number_of mark.Insert ∷ number_of mark.Delete ∷ number_of mark.Update ∷ []
 
     goes_on_of : Deep → List ℕ
     goes_on_of Factor = name_goes_on
     goes_on_of Test = expr_goes_on
-    goes_on_of Command = number_of mark.And ∷ expr_goes_on
+    goes_on_of (Command v) = number_of mark.And ∷ expr_goes_on

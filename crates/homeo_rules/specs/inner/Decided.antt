@@ -1,5 +1,5 @@
 -- The steps in which the fault that decides is found.
-use Rattle.std.specs.Prelude.{◌≡◌, List, [], ◌++◌, map, None}
+use Rattle.std.specs.Prelude.{◌≡◌, List, [], ◌++◌, map, Option, None}
 use Rattle.homeo_syntax.specs.Source as s
 use Rattle.homeo_meaning.specs.GlobalNames.{global_names, duplicate, scope_of}
 use Rattle.homeo_meaning.specs.TransactionRules.{each}
@@ -13,10 +13,14 @@ use Rattle.homeo_rules.specs.inner.Key.{words}
 use Rattle.homeo_rules.specs.inner.Scopes.{item_at}
 use Rattle.homeo_rules.specs.inner.Items.{Items}
 
+-- the fault that decides among those of the global names
+abbrev pub name_fault : s.Workload → Option Fault
+name_fault w = keep_all None (each duplicate (map (λ d. d.name) (global_names w)))
+
 -- the table of a workload's global names, and the fault that decides with theirs
 pub record NamesGlobals (w : s.Workload) (t : Items) : Type 0 where
   pub items : item_at t.items ≡ (scope_of w).item
-  pub kept : t.best ≡ keep_all None (each duplicate (map (λ d. d.name) (global_names w)))
+  pub kept : t.best ≡ name_fault w
 
 -- the faults of the text that need the global names
 abbrev pub faults_with_names : Purpose → s.Workload → List Fault

@@ -1,10 +1,11 @@
 -- The measures of commands, and the tables after them.
-use Rattle.std.specs.Prelude.{ℕ, suc, List, [], ◌∷◌, length, ℤ, pos, Option, Some, None}
-use Rattle.homeo_syntax.specs.Source.{Expr, Cond, FieldValue, Command, Commands, Skip, Assign, Write, Print, If, Block, SetField, SetRow, Foreach, Insert, Delete, Update, NoCommand, MoreCommand}
+use Rattle.std.specs.Prelude.{ℕ, suc, Bool, true, false, ◌||◌, List, [], ◌∷◌, length, ℤ, pos, Option, Some, None}
+use Rattle.homeo_syntax.specs.Source.{Expr, Cond, FieldValue, Command, Commands, Skip, Assign, Write, Print, If, Block, SetField, SetRow, Foreach, Insert, Delete, Update, Abort, NoCommand, MoreCommand}
+use Rattle.homeo_meaning.specs.Aborts.{holds_abort, hold_abort}
 use Rattle.homeo_meaning.specs.Context.{Spot, Slot, spot, cell, field_cell, slot_at}
 use Rattle.homeo_meaning.specs.Schema.{Declared}
 use Rattle.homeo_size.specs.inner.Key.{words}
-use Rattle.homeo_size.specs.inner.Parts.{literal, nothing, around, greater, written, empty, valued, writing, chosen, none, with_one, placed, within_tests, is_equal, guarded}
+use Rattle.homeo_size.specs.inner.Parts.{literal, single, nothing, around, greater, written, empty, valued, writing, chosen, none, with_one, placed, within_tests, is_equal, guarded}
 use Rattle.homeo_size.specs.inner.Sizing.{Sizes, Setting, bound, literal_in, sized, tests_sized, visit_sized, lifted, tests_lifted}
 use Rattle.homeo_size.specs.inner.Store.{Store, set_entry, raise_entry, closed, reopened, branched, visited}
 use Rattle.homeo_size.specs.declared.extent.Extent.{Extent}
@@ -138,6 +139,34 @@ abbrev pub field_setting : Setting → ℕ → ℕ → Expr → Slot → Store �
 unfolding words
 field_setting x r f e slot z = row_setting (bound x r slot) slot f e z
 
+-- ---- commands that are not done where the call is ended
+-- the flag that tells has the extent of its literals
+abbrev pub unless_ended : Measure → Measure
+unfolding words
+unless_ended m = chosen (is_equal single (pos 0)) m empty
+
+abbrev pub guard : Bool → Measure → Measure
+unfolding words
+guard true m = unless_ended m
+guard false m = m
+
+-- the tables after such a command, which begins where the log has n entries
+abbrev pub guard_after : Bool → ℕ → Store → Store
+unfolding words
+guard_after true n z = closed n z
+guard_after false n z = z
+
+-- the liftings of a slot's test stand behind the visits before it, or alone
+abbrev pub before_turn : Bool → Before → Before
+unfolding words
+before_turn true b = none
+before_turn false b = b
+
+abbrev pub in_turn : Bool → Before → Before → Measure → Before
+unfolding words
+in_turn true b lifted m = with_one b (unless_ended (placed lifted m))
+in_turn false b lifted m = with_one lifted m
+
 -- ---- commands
 abbrev mutual
   unfolding words
@@ -148,26 +177,28 @@ abbrev mutual
   after x (Write o e) z = raise_entry z (Entry.Object (x.object o.name).place) (written x.sites (sized x e z.sizes))
   after x (Print e) z = z
   after x (If b c d) z = branched (after x c) (after x d) z
-  after x (Block cs) z = after_all x cs z
+  after x (Block cs) z = after_all x false cs z
   after x (SetField q i f e) z =
       field_raised (literal_in x i) (x.slots q.name) (spot (x.fields q.name) f.name) (written x.sites (sized x e z.sizes)) z
   after x (SetRow r f e) z = row_set x (x.rows r.name) f.name e z
-  after x (Foreach r q b cs) z = visited (λ slot. after_all (bound x r.name slot) cs) (x.slots q.name) z
+  after x (Foreach r q b cs) z = visited (λ slot. after_all (bound x r.name slot) false cs) (x.slots q.name) z
   after x (Insert q fs t) z = inserted x.sites (fillings x (x.fields q.name) fs z.sizes) (x.slots q.name) t.name z
   after x (Delete r q b) z = visited (cleared x.sites) (x.slots q.name) z
   after x (Update r q b f e) z = visited (field_set x r.name f.name e) (x.slots q.name) z
+  after x Abort z = z
 
-  pub after_all : Setting → Commands → Store → Store
-  after_all x NoCommand z = z
-  after_all x (MoreCommand c cs) z = after_all x cs (after x c z)
+  -- each guarded that stands behind a command that can end the call
+  pub after_all : Setting → Bool → Commands → Store → Store
+  after_all x g NoCommand z = z
+  after_all x g (MoreCommand c cs) z = after_all x (g || holds_abort c) cs (guard_after g (length z.log) (after x c z))
 
--- a loop's visits, where a body's measure at a slot and the tables after it are told
-abbrev pub visits : Setting → ℕ → Cond → (Slot → Store → Measure) → (Slot → Store → Store) → List Slot → Store → Before → Before
+-- a loop's visits, where a body's measure at a slot and the tables after it are told: the first guarded or not, and the others
+abbrev pub visits : Setting → ℕ → Cond → Bool → Bool → (Slot → Store → Measure) → (Slot → Store → Store) → List Slot → Store → Before → Before
 unfolding words
-visits x r c body f [] z b = b
-visits x r c body f (slot ∷ more) z b =
-    visits x r c body f more (closed (length z.log) (f slot z))
-    (with_one (tests_lifted (bound x r slot) c z.sizes b) (chosen (around (visit_sized x r c slot z.sizes)) (body slot z) empty))
+visits x r c g later body f [] z b = b
+visits x r c g later body f (slot ∷ more) z b =
+    visits x r c later later body f more (closed (length z.log) (f slot z))
+    (in_turn g b (tests_lifted (bound x r slot) c z.sizes (before_turn g b)) (chosen (around (visit_sized x r c slot z.sizes)) (body slot z) empty))
 
 abbrev mutual
   unfolding words
@@ -179,29 +210,31 @@ abbrev mutual
   measured x (Print e) z = placed (lifted x e z.sizes none) (valued (sized x e z.sizes))
   measured x (If b c d) z =
       placed (tests_lifted x b z.sizes none) (chosen (around (tests_sized x b z.sizes nothing)) (measured x c z) (measured x d (reopened (length z.log) (after x c z))))
-  measured x (Block cs) z = (all_measured x cs z none).all
+  measured x (Block cs) z = (all_measured x false cs z none).all
   measured x (SetField q i f e) z =
       field_writing (literal_in x i) (x.slots q.name) x.sites (spot (x.fields q.name) f.name) (sized x i z.sizes) (sized x e z.sizes) (lifted x e z.sizes none) (lifted x e z.sizes (lifted x i z.sizes none))
   measured x (SetRow r f e) z = row_setting x (x.rows r.name) f.name e z
   measured x (Foreach r q b cs) z =
-      (visits x r.name b (λ slot y. (all_measured (bound x r.name slot) cs y none).all) (λ slot. after_all (bound x r.name slot) cs) (x.slots q.name) z none).all
+      (visits x r.name b false (hold_abort cs) (λ slot y. (all_measured (bound x r.name slot) false cs y none).all) (λ slot. after_all (bound x r.name slot) false cs) (x.slots q.name) z none).all
   measured x (Insert q fs t) z =
       inserting x.sites (fillings x (x.fields q.name) fs z.sizes) (x.slots q.name) z.sizes (values_lifted x fs z.sizes none)
   measured x (Delete r q b) z =
-      (visits x r.name b (λ slot y. writing x.sites (literal (pos 0))) (cleared x.sites) (x.slots q.name) z none).all
+      (visits x r.name b false false (λ slot y. writing x.sites (literal (pos 0))) (cleared x.sites) (x.slots q.name) z none).all
   measured x (Update r q b f e) z =
-      (visits x r.name b (field_setting x r.name f.name e) (field_set x r.name f.name e) (x.slots q.name) z none).all
+      (visits x r.name b false false (field_setting x r.name f.name e) (field_set x r.name f.name e) (x.slots q.name) z none).all
+  measured x Abort z = valued (literal (pos 1))
 
   -- after the commands before them
-  pub all_measured : Setting → Commands → Store → Before → Before
-  all_measured x NoCommand z b = b
-  all_measured x (MoreCommand c cs) z b = all_measured x cs (after x c z) (with_one b (measured x c z))
+  pub all_measured : Setting → Bool → Commands → Store → Before → Before
+  all_measured x g NoCommand z b = b
+  all_measured x g (MoreCommand c cs) z b =
+      all_measured x (g || holds_abort c) cs (guard_after g (length z.log) (after x c z)) (with_one b (guard g (measured x c z)))
 
 -- ---- the body of a foreach at a slot
 abbrev pub each_after : Setting → ℕ → Commands → Slot → Store → Store
 unfolding words
-each_after x r cs slot = after_all (bound x r slot) cs
+each_after x r cs slot = after_all (bound x r slot) false cs
 
 abbrev pub each_measured : Setting → ℕ → Commands → Slot → Store → Measure
 unfolding words
-each_measured x r cs slot z = (all_measured (bound x r slot) cs z none).all
+each_measured x r cs slot z = (all_measured (bound x r slot) false cs z none).all

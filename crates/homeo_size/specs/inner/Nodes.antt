@@ -1,6 +1,6 @@
 -- How many nodes an L form has at least, told without visiting a slot, each number up to a cap.
 use Rattle.std.specs.Prelude.{ℕ, ◌+◌, ◌*◌, min, List, [], ◌∷◌, length, ℤ, Option, Some, None}
-use Rattle.homeo_syntax.specs.Source.{Expr, Exprs, Literal, Name, Read, Sum, Product, Neg, Field, Row, Count, Total, NoExpr, MoreExpr, Test, Cond, True, Not, Comparison, NoTest, MoreTest, FieldValue, Command, Commands, Skip, Assign, Write, Print, If, Block, SetField, SetRow, Foreach, Insert, Delete, Update, NoCommand, MoreCommand}
+use Rattle.homeo_syntax.specs.Source.{Expr, Exprs, Literal, Name, Read, Sum, Product, Neg, Field, Row, Count, Total, NoExpr, MoreExpr, Test, Cond, True, Not, Comparison, NoTest, MoreTest, FieldValue, Command, Commands, Skip, Assign, Write, Print, If, Block, SetField, SetRow, Foreach, Insert, Delete, Update, Abort, NoCommand, MoreCommand}
 use Rattle.homeo_meaning.specs.Context.{Slot, slot_at}
 use Rattle.homeo_size.specs.inner.Key.{words}
 use Rattle.homeo_size.specs.inner.Sizing.{Setting, literal_in}
@@ -81,6 +81,7 @@ abbrev mutual
   command_nodes x (Insert q fs t) = values_nodes x fs (few (1 + length (x.slots q.name) * few (1 + length fs)))
   command_nodes x (Delete r q c) = visit_nodes (x.slots q.name) (tests_nodes x c 0)
   command_nodes x (Update r q c f e) = visit_nodes (x.slots q.name) (few (tests_nodes x c 0 + nodes x e))
+  command_nodes x Abort = 2
 
   pub commands_nodes : Setting → Commands → ℕ → ℕ
   commands_nodes x NoCommand n = n

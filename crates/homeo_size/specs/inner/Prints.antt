@@ -1,6 +1,6 @@
 -- How many print commands an L form has, told without visiting a slot, each number up to a cap.
 use Rattle.std.specs.Prelude.{ℕ, ◌+◌, ◌*◌, min, length}
-use Rattle.homeo_syntax.specs.Source.{Command, Commands, Skip, Assign, Write, Print, If, Block, SetField, SetRow, Foreach, Insert, Delete, Update, NoCommand, MoreCommand}
+use Rattle.homeo_syntax.specs.Source.{Command, Commands, Skip, Assign, Write, Print, If, Block, SetField, SetRow, Foreach, Insert, Delete, Update, Abort, NoCommand, MoreCommand}
 use Rattle.homeo_size.specs.inner.Key.{words}
 use Rattle.homeo_size.specs.inner.Sizing.{Setting}
 
@@ -23,6 +23,7 @@ abbrev mutual
   prints x (Insert q fs t) = 0
   prints x (Delete r q c) = 0
   prints x (Update r q c f e) = 0
+  prints x Abort = 0
 
   -- with those before them
   pub all_prints : Setting → Commands → ℕ → ℕ

@@ -42,4 +42,5 @@ example = record {
   clients = cashier ∷ [];
   schedule = None;
   end = 0;
+  weights = [];
 }

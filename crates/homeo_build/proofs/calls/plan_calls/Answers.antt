@@ -64,19 +64,19 @@ loop-i-preserved c =
     c.index-commands-i.is is in
     record {
       atoms =
-          grown plain_atoms (of_call w (atoms_of k b)) planned.atoms.items _ c.in_ok-atoms.field-0.atoms calls.result.now i call within is
-          c.in_ok-push.ensures.items so_far.atoms
-          (c.in_ok-atoms.ensures.atoms ∙ ap (λ (d : Command). true_cond b (row_at (table d) (whole b)).formula) command);
+          grown plain_atoms (of_call w (atoms_of k b)) planned.atoms.items _ c.in_ok-plan.plan.atoms calls.result.now i call within is
+          c.in_ok-push.ensures.atoms so_far.atoms
+          (c.in_ok-plan.ensures.atoms ∙ ap (λ (d : Command). true_cond b (row_at (table d) (whole b)).formula) command);
       needs =
-          grown (λ f. f.deltas.items) (of_call w (needs_of k b)) planned.needs.items _ c.in_ok-atoms.field-0.needs calls.result.now i call within is
-          c.in_ok-push-2.ensures.items so_far.needs
-          (c.in_ok-atoms.ensures.needs ∙ ap (λ (d : Command). needs call.site b (row_at (table d) (whole b)).residual) command);
+          grown (λ f. f.deltas.items) (of_call w (needs_of k b)) planned.needs.items _ c.in_ok-plan.plan.needs calls.result.now i call within is
+          c.in_ok-push.ensures.needs so_far.needs
+          (c.in_ok-plan.ensures.needs ∙ ap (λ (d : Command). needs call.site b (row_at (table d) (whole b)).residual) command);
       residuals =
-          grown sited_residual (of_call w (residual_at k b)) planned.residuals.items _ c.in_ok-atoms.field-0.residual calls.result.now i call within is
-          (ap (λ l. l.items) c.in_ok-push-3.ensures.ok) so_far.residuals
+          grown sited_residual (of_call w (residual_at k b)) planned.residuals.items _ c.in_ok-plan.plan.residual calls.result.now i call within is
+          c.in_ok-push.ensures.residuals so_far.residuals
           (λ at. record {
-            site = c.in_ok-atoms.ensures.site at;
-            residual = (c.in_ok-atoms.ensures.residual ∙ ap (λ (d : Command). (row_at (table d) (whole b)).residual) command) at;
+            site = c.in_ok-plan.ensures.site at;
+            residual = (c.in_ok-plan.ensures.residual ∙ ap (λ (d : Command). (row_at (table d) (whole b)).residual) command) at;
           });
     }
 

@@ -1,11 +1,17 @@
 -- The commands have their forms in the context of the call.
-use Rattle.std.proofs.Common.{map, arith, ◌∙◌}
+use Rattle.std.proofs.Common.{◌≡◌, ◌+◌, false, [], map, length, sym, ap, subst, arith, ◌∙◌}
 use Rattle.homeo_syntax.specs.LowView.{low_commands, plain_lcommand}
 use Rattle.homeo_syntax.specs.SourceView.{commands, plain_command}
 use Rattle.homeo_syntax.proofs.LowViews.{low_Seq}
 use Rattle.homeo_meaning.specs.Key.{words as meaning_words}
+use Rattle.std.proofs.lemmas.Result.{IfOk-weaker}
+use Rattle.homeo_meaning.specs.LowWrites.{all_written}
+use Rattle.homeo_meaning.specs.LForm.{forms, undoing}
+use Rattle.homeo_context.specs.Contexts.{call_context}
+use Rattle.homeo_desugar.specs.inner.Made.{AreFormed}
+use Rattle.homeo_desugar.specs.inner.Settings.{absent}
 use Rattle.homeo_desugar.specs.inner.Key.{words}
-use Rattle.homeo_desugar.proofs.Looking.{body_formed}
+use Rattle.homeo_desugar.proofs.Looking.{frame_context, plain_body, undone_body}
 use Rattle.homeo_desugar.proofs.call.form_body.Goals as goal
 
 pub overflow_cast-frame : goal.overflow_cast-frame
@@ -21,8 +27,35 @@ form_all-requires c =
     let few = c.requires.objects in
     record { fits = record { schema = c.requires; rows = λ n. omega (arith, past, few) } }
 
+pub form_all-requires-2 : goal.form_all-requires-2
+unfolding words
+form_all-requires-2 c =
+    let past = c.object_count.ensures in
+    let few = c.requires.objects in
+    record { fits = record { schema = c.requires; rows = λ n. omega (arith, past, few) } }
+
+pub returns-then-not-hold_abort : goal.returns-then-not-hold_abort
+unfolding words meaning_words
+returns-then-not-hold_abort c =
+    let d = c.args.declared.now in
+    let given = c.args.arguments.now in
+    low_Seq c.in_ok-commands.commands
+    ∙ plain_body (call_context d given) _ (commands (map plain_command c.args.body.now)) _ (low_commands (map plain_lcommand c.in_ok-commands.commands.items)) (frame_context d given c.object_count.result c.object_count.ensures) (sym c.hold_abort.ensures ∙ c.if-not-hold_abort.true) c.in_ok-commands.ensures
+
 pub returns : goal.returns
 unfolding words meaning_words
 returns c =
-    low_Seq c.in_ok-commands.commands
-    ∙ body_formed c.args.declared.now c.args.arguments.now c.object_count.result (commands (map plain_command c.args.body.now)) _ (low_commands (map plain_lcommand c.in_ok-commands.commands.items)) c.object_count.ensures c.in_ok-commands.ensures
+    let d = c.args.declared.now in
+    let given = c.args.arguments.now in
+    let cs = commands (map plain_command c.args.body.now) in
+    let context = frame_context d given c.object_count.result c.object_count.ensures in
+    let plain = low_commands (map plain_lcommand c.in_ok-commands.commands.items) in
+    let made = low_commands (map plain_lcommand c.in_ok-commands-2.commands.items) in
+    let saved = c.in_ok-saved.saved.items in
+    let found : saved ≡ all_written plain [] = c.in_ok-saved.ensures ∙ ap (λ cs. all_written (low_commands (map plain_lcommand cs)) []) c.as_slice.ensures in
+    let count : c.in_ok-next.next ≡ 1 + length saved = c.in_ok-next.ensures ∙ ap (λ l. 1 + length l) c.as_slice-2.ensures.value in
+    let formed = subst (λ n. AreFormed c.form_all-2.new.next (forms (record { schema = d.schema; arguments = (call_context d given).arguments; rows = λ n. absent c.object_count.result }) false cs n) made) count c.in_ok-commands-2.ensures in
+    IfOk-weaker c.undoing.result _ _
+    (λ r h. undone_body (call_context d given) _ cs c.form_all.new.next c.form_all-2.new.next plain made saved (plain_lcommand r) context (sym c.hold_abort.ensures ∙ c.if-not-hold_abort.false) c.in_ok-commands.ensures found formed
+    (h ∙ ap (λ l. undoing l made) c.as_slice-3.ensures.value))
+    c.undoing.ensures

@@ -1,13 +1,12 @@
 -- One slot more is put in front of the chain.
-use Rattle.std.proofs.Common.{◌≡◌, ◌-◌, pos, w64, to_z, of_z, rules, sym, ap, ◌∙◌, arith}
+use Rattle.std.proofs.Common.{◌-◌, pos, sym, ap, ◌∙◌, arith}
 use Rattle.homeo_syntax.specs.Low as L
 use Rattle.homeo_syntax.specs.LowView.{plain_lexpr, plain_lcond, plain_lcommand}
 use Rattle.homeo_syntax.specs.declared.low.Temp.TheVariants as temp
 use Rattle.homeo_syntax.proofs.LowViews.{low_Assign, low_Literal}
 use Rattle.homeo_meaning.specs.Key.{words as meaning_words}
 use Rattle.homeo_meaning.specs.Context.{cell}
-use Rattle.homeo_meaning.specs.LForm.{read, equal, one_test, read_chain}
-use Rattle.homeo_meaning.proofs.Numbers.{kept_is}
+use Rattle.homeo_meaning.specs.LForm.{read, read_chain}
 use Rattle.homeo_desugar.specs.inner.Settings.{plain_spot}
 use Rattle.homeo_desugar.proofs.SlotChains.{read_more}
 use Rattle.homeo_desugar.proofs.SlotLists.{none_after, all_after, cell_fits}
@@ -28,13 +27,11 @@ cell-requires c =
 
 pub loop-number-preserved : goal.loop-number-preserved
 loop-number-preserved c =
-    let number : to_z w64 (of_z w64 c.from.result) ≡ pos (c.loop-number.number - 1) = kept_is c.from.result (pos (c.loop-number.number - 1)) (search rules) c.from.ensures in
-    let test = c.in_ok-test.ensures ∙ ap one_test (c.equal.ensures ∙ (λ i. equal (c.in_ok-copy.ensures i) (number i))) in
     let value = c.read-value.ensures ∙ ap read (c.cell.ensures ∙ ap (λ s. cell s (plain_spot c.args.field)) c.slot.ensures) in
     record {
       within = omega (arith, c.loop-number.invariant.within);
       chain =
-          read_more c.args.slots c.loop-number.number (plain_spot c.args.field) (plain_lexpr c.args.index.now) c.args.target (plain_lcond c.in_ok-test.test) _ (plain_lcommand c.loop-number.chain) (plain_lcommand c.in_ok-chain.chain) c.loop-number-test.true c.loop-number.invariant.within c.in_ok-chain.ensures test (low_Assign _ _ ∙ ap (L.Assign (temp.Fresh c.args.target)) value) c.loop-number.invariant.chain;
+          read_more c.args.slots c.loop-number.number (plain_spot c.args.field) (plain_lexpr c.args.index.now) c.args.target (plain_lcond c.in_ok-test.test) _ (plain_lcommand c.loop-number.chain) (plain_lcommand c.in_ok-chain.chain) c.loop-number-test.true c.loop-number.invariant.within c.in_ok-chain.ensures c.in_ok-test.ensures (low_Assign _ _ ∙ ap (L.Assign (temp.Fresh c.args.target)) value) c.loop-number.invariant.chain;
     }
 
 pub returns : goal.returns

@@ -1,13 +1,12 @@
 -- One slot more is put in front of the chain.
-use Rattle.std.proofs.Common.{◌≡◌, ◌-◌, pos, w64, to_z, of_z, rules, sym, ap, ◌∙◌, arith}
+use Rattle.std.proofs.Common.{◌-◌, sym, ap, ◌∙◌, arith}
 use Rattle.homeo_syntax.specs.Low as L
 use Rattle.homeo_syntax.specs.LowView.{plain_lexpr, plain_lcond, plain_lcommand}
 use Rattle.homeo_syntax.specs.declared.low.SplitName.TheVariants as split
-use Rattle.homeo_syntax.proofs.LowViews.{low_Skip, low_Write}
+use Rattle.homeo_syntax.proofs.LowViews.{low_Skip}
 use Rattle.homeo_meaning.specs.Key.{words as meaning_words}
 use Rattle.homeo_meaning.specs.Context.{cell}
-use Rattle.homeo_meaning.specs.LForm.{equal, one_test, write_chain}
-use Rattle.homeo_meaning.proofs.Numbers.{kept_is}
+use Rattle.homeo_meaning.specs.LForm.{write_chain}
 use Rattle.homeo_desugar.specs.inner.Settings.{plain_spot}
 use Rattle.homeo_desugar.proofs.SlotChains.{write_more}
 use Rattle.homeo_desugar.proofs.SlotLists.{none_after, all_after, cell_fits}
@@ -26,13 +25,11 @@ cell-requires c =
 
 pub loop-number-preserved : goal.loop-number-preserved
 loop-number-preserved c =
-    let number : to_z w64 (of_z w64 c.from.result) ≡ pos (c.loop-number.number - 1) = kept_is c.from.result (pos (c.loop-number.number - 1)) (search rules) c.from.ensures in
-    let test = c.in_ok-test.ensures ∙ ap one_test (c.equal.ensures ∙ (λ i. equal (c.in_ok-copy.ensures i) (number i))) in
     let here = c.cell.ensures ∙ ap (λ s. cell s (plain_spot c.args.field)) c.slot.ensures in
     record {
       within = omega (arith, c.loop-number.invariant.within);
       chain =
-          write_more c.args.slots c.loop-number.number (plain_spot c.args.field) (plain_lexpr c.args.index.now) (plain_lexpr c.args.value.now) (plain_lcond c.in_ok-test.test) _ (plain_lcommand c.loop-number.chain) (plain_lcommand c.in_ok-chain.chain) c.loop-number-test.true c.loop-number.invariant.within c.in_ok-chain.ensures test (low_Write _ _ ∙ (λ i. L.Write (split.Whole (here i)) (c.in_ok-value.ensures i))) c.loop-number.invariant.chain;
+          write_more c.args.slots c.loop-number.number (plain_spot c.args.field) (plain_lexpr c.args.index.now) (plain_lexpr c.args.value.now) (plain_lcond c.in_ok-test.test) (plain_lcommand c.in_ok-write.write) (plain_lcommand c.loop-number.chain) (plain_lcommand c.in_ok-chain.chain) c.loop-number-test.true c.loop-number.invariant.within c.in_ok-chain.ensures c.in_ok-test.ensures (c.in_ok-write.ensures ∙ ap (λ o. L.Write (split.Whole o) (plain_lexpr c.args.value.now)) here) c.loop-number.invariant.chain;
     }
 
 pub returns : goal.returns

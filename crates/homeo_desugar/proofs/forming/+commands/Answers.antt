@@ -1,5 +1,5 @@
 -- Each command has the form that the definition says, part by part.
-use Rattle.std.proofs.Common.{ℕ, map, refl, sym, ap, ◌∙◌, subst, rules}
+use Rattle.std.proofs.Common.{◌≡◌, ℕ, false, ◌||◌, map, refl, sym, ap, ◌∙◌, subst, rules}
 use Rattle.std.proofs.lemmas.Result.{IfOk-weaker}
 use Rattle.homeo_syntax.specs.Key.{words as tree_words}
 use Rattle.homeo_syntax.specs.Source as s
@@ -7,46 +7,82 @@ use Rattle.homeo_syntax.specs.Low as L
 use Rattle.homeo_syntax.specs.SourceView.{commands, plain_expr, plain_cond, plain_command, plain_field}
 use Rattle.homeo_syntax.specs.LowView.{low_commands, plain_lcond, plain_lcommand}
 use Rattle.homeo_syntax.specs.declared.command.Command.TheViews.{the_lemmas}
-use Rattle.homeo_syntax.proofs.SourceViews.{plain_Skip, plain_Assign, plain_Write, plain_Print, plain_If, plain_Block, plain_SetField, plain_SetRow, plain_Foreach, plain_Insert, plain_Delete, plain_Update}
-use Rattle.homeo_syntax.proofs.LowViews.{low_Seq, low_Skip}
+use Rattle.homeo_syntax.proofs.SourceViews.{plain_Skip, plain_Assign, plain_Write, plain_Print, plain_If, plain_Block, plain_SetField, plain_SetRow, plain_Foreach, plain_Insert, plain_Delete, plain_Update, plain_Abort}
+use Rattle.homeo_syntax.proofs.LowViews.{low_Seq, low_Skip, low_If}
 use Rattle.homeo_meaning.specs.Key.{words as meaning_words}
 use Rattle.homeo_meaning.specs.Schema.{declared_range}
 use Rattle.homeo_meaning.specs.Context.{Slot, bind, slots, fields, object}
-use Rattle.homeo_meaning.specs.LForm.{Lifted, both, lift, lift_cond, visits, clear, form, forms}
+use Rattle.homeo_meaning.specs.Aborts.{holds_abort, hold_abort}
+use Rattle.homeo_meaning.specs.LForm.{Lifted, both, lift, lift_cond, visits, guard, as_one, clear, form, forms}
 use Rattle.homeo_desugar.specs.inner.Key.{words}
-use Rattle.homeo_desugar.specs.inner.Settings.{setting, plain_slot, plain_slots, plain_spot, Fits}
-use Rattle.homeo_desugar.specs.inner.Visits.{updating, running}
-use Rattle.homeo_desugar.proofs.Forms.{loop_formed, or_skip, indexed_as, inserted_as, written_as, set_as, looped_as, chosen_formed, forms_step, forms_end, forms_in, command_formed}
-use Rattle.homeo_desugar.proofs.Makings.{visits_begin, visit_step, visits_done}
+use Rattle.homeo_desugar.specs.inner.Made.{IsLifted, IsTurned, IsFormed}
+use Rattle.homeo_desugar.specs.inner.Settings.{setting, plain_slot, plain_slots, slot_of, plain_spot, Fits}
+use Rattle.homeo_desugar.specs.inner.Visits.{updating, running, visit_of}
+use Rattle.homeo_desugar.proofs.Forms.{loop_formed, or_skip, indexed_as, inserted_as, written_as, set_as, looped_as, ends_as, chosen_formed, forms_step, forms_end, forms_in, command_formed}
+use Rattle.homeo_desugar.proofs.Makings.{visits_begin, visit_made, turn_plain, turn_guarded, turn_step, visits_done}
 use Rattle.homeo_desugar.proofs.Rows.{bind_fits}
 use Rattle.homeo_desugar.proofs.SlotLists.{slot_is_low}
+use Rattle.homeo_desugar.specs.declared.making.Making.{Making}
 use Rattle.homeo_desugar.proofs.forming.+commands.Goals as goal
+use Rattle.homeo_desugar.proofs.forming.+commands.Goals.{form_all-then-guarded, form_all-else-guarded}
 
-pub foreach-loop-number-init : goal.foreach-loop-number-init
-foreach-loop-number-init t c = visits_begin _ _ c.args.slots c.from-out.result
-
-pub foreach-lift_visit-requires : goal.foreach-lift_visit-requires
-foreach-lift_visit-requires t c =
-    let low = slot_is_low c.args.slots c.loop-number.number c.slot-slot.result c.loop-number-test.true c.requires.slots c.slot-slot.ensures in
+pub visit-lift_visit-requires : goal.visit-lift_visit-requires
+visit-lift_visit-requires t c =
+    let low = slot_is_low c.args.slots c.args.number c.slot-slot.result c.requires.within c.requires.slots c.slot-slot.ensures in
     record { fits = subst Fits (sym c.bind-inner.ensures) (bind_fits (setting c.args.frame.now) c.args.row (plain_slot c.slot-slot.result) c.requires.fits low) }
 
-pub foreach-form_all-requires : goal.foreach-form_all-requires
-foreach-form_all-requires t c =
-    let low = slot_is_low c.args.slots c.loop-number.number c.slot-slot.result c.loop-number-test.true c.requires.slots c.slot-slot.ensures in
+pub visit-form_all-requires : goal.visit-form_all-requires
+visit-form_all-requires t c =
+    let low = slot_is_low c.args.slots c.args.number c.slot-slot.result c.requires.within c.requires.slots c.slot-slot.ensures in
     (search (rules, the_lemmas), subst Fits (sym c.bind-inner.ensures) (bind_fits (setting c.args.frame.now) c.args.row (plain_slot c.slot-slot.result) c.requires.fits low))
 
-pub foreach-loop-number-preserved : goal.foreach-loop-number-preserved
+pub visit-returns : goal.visit-returns
 unfolding words meaning_words
-foreach-loop-number-preserved t c =
+visit-returns t c =
     let x = setting c.args.frame.now in
     let inner = setting c.bind-inner.result in
     let slot = plain_slot c.slot-slot.result in
-    let body = commands (map plain_command c.args.body.now) in
-    let test = plain_lcond c.in_ok-test.test in
+    let cs = commands (map plain_command c.args.body.now) in
+    let old = c.args.out.now in
     let mid = c.lift_visit.new.out in
-    let formed = forms_in (bind x c.args.row slot) inner body _ mid.next (low_commands (map plain_lcommand c.in_ok-commands.commands.items)) c.bind-inner.ensures c.in_ok-commands.ensures in
-    let choice = or_skip test _ _ c.in_ok-choice.ensures in
-    visit_step x inner c.args.row c.loop-number.number (plain_cond c.args.test.now) (running x c.args.row body) c.args.slots c.slot-slot.result c.from-out.result c.loop-number.out mid c.push.new.self test _ _ _ c.loop-number-test.true c.slot-slot.ensures c.bind-inner.ensures c.in_ok-test.ensures (low_Seq c.in_ok-commands.commands ∙ ap L.Seq formed.commands) (c.in_ok-push.ensures.next ∙ formed.next) choice c.in_ok-push.ensures.pushed c.loop-number.invariant
+    let new : Making = record { commands = mid.commands; next = c.form_all.new.next } in
+    let test = plain_lcond c.in_ok-test.test in
+    let formed = forms_in (bind x c.args.row slot) inner cs _ mid.next (low_commands (map plain_lcommand c.in_ok-commands.commands.items)) c.bind-inner.ensures c.in_ok-commands.ensures in
+    IfOk-weaker c.choice.result _ _
+    (λ r h. subst (λ z. IsLifted old new (visit_of (λ slot. lift_cond (bind x c.args.row slot) (plain_cond c.args.test.now)) (running x c.args.row cs) z old.next) (plain_lcommand r)) c.slot-slot.ensures
+    (visit_made x inner c.args.row (plain_cond c.args.test.now) (running x c.args.row cs) slot old mid new test _ (plain_lcommand r) c.bind-inner.ensures c.in_ok-test.ensures (low_Seq c.in_ok-commands.commands ∙ ap L.Seq formed.commands) formed.next refl (or_skip test _ _ h)))
+    c.choice.ensures
+
+pub take_turn-returns-in_ok-push : goal.take_turn-returns-in_ok-push
+unfolding words
+take_turn-returns-in_ok-push t c =
+    let x = setting c.args.frame.now in
+    let tests : Slot → ℕ → Lifted L.Cond = λ slot. lift_cond (bind x c.args.row slot) (plain_cond c.args.test.now) in
+    let body = running x c.args.row (commands (map plain_command c.args.body.now)) in
+    let slot = slot_of c.args.slots c.args.number in
+    let now = c.args.out.now in
+    let start = c.from-here.result in
+    let here = c.visit.new.out in
+    let choice = plain_lcommand c.in_ok-choice.choice in
+    let lifted : IsLifted start here (visit_of tests body slot now.next) choice = subst (λ n. IsLifted start here (visit_of tests body slot n) choice) c.from-here.ensures.next c.in_ok-choice.ensures in
+    subst (λ g. IsTurned g now c.push.new.self (visit_of tests body slot now.next)) (sym c.if-guarded.true)
+    (turn_guarded now start here c.push.new.self (visit_of tests body slot now.next) choice (plain_lcommand c.in_ok-all.all) (plain_lcommand c.in_ok-guarded.guarded) c.from-here.ensures.empty lifted c.in_ok-all.ensures c.in_ok-guarded.ensures c.in_ok-push.ensures.pushed c.in_ok-push.ensures.next)
+
+pub take_turn-returns-in_ok-push-2 : goal.take_turn-returns-in_ok-push-2
+take_turn-returns-in_ok-push-2 t c =
+    let x = setting c.args.frame.now in
+    let v = visit_of (λ slot. lift_cond (bind x c.args.row slot) (plain_cond c.args.test.now)) (running x c.args.row (commands (map plain_command c.args.body.now))) (slot_of c.args.slots c.args.number) c.args.out.now.next in
+    subst (λ g. IsTurned g c.args.out.now c.push-else-guarded.new.self v) (sym c.if-guarded.false)
+    (turn_plain c.args.out.now c.visit-else-guarded.new.out c.push-else-guarded.new.self v (plain_lcommand c.in_ok-choice-2.choice) c.in_ok-choice-2.ensures c.in_ok-push-2.ensures.pushed c.in_ok-push-2.ensures.next)
+
+pub foreach-loop-number-init : goal.foreach-loop-number-init
+foreach-loop-number-init t c = visits_begin _ _ _ _ c.args.slots c.from-out.result
+
+pub foreach-loop-number-preserved : goal.foreach-loop-number-preserved
+foreach-loop-number-preserved t c =
+    let x = setting c.args.frame.now in
+    let body = running x c.args.row (commands (map plain_command c.args.body.now)) in
+    turn_step c.loop-number.guarded c.hold_abort-later.result x c.args.row c.loop-number.number (plain_cond c.args.test.now) body c.args.slots c.from-out.result c.loop-number.out c.take_turn.new.out _ c.loop-number-test.true c.in_ok-take_turn.ensures c.loop-number.invariant
 
 pub foreach-returns : goal.foreach-returns
 unfolding words
@@ -54,7 +90,9 @@ foreach-returns t c =
     let x = setting c.args.frame.now in
     let tests : Slot → ℕ → Lifted L.Cond = λ slot. lift_cond (bind x c.args.row slot) (plain_cond c.args.test.now) in
     let body = running x c.args.row (commands (map plain_command c.args.body.now)) in
-    loop_formed c.from-out.result c.loop-number.out c.args.next.now (visits tests body (plain_slots c.args.slots)) _ c.from-out.ensures.empty c.from-out.ensures.next (visits_done _ _ c.args.slots c.loop-number.number c.from-out.result c.loop-number.out _ c.loop-number-test.false c.loop-number.invariant) (low_Seq c.loop-number.out.commands)
+    let made_all = loop_formed c.from-out.result c.loop-number.out c.args.next.now (visits false c.hold_abort-later.result tests body (plain_slots c.args.slots)) _ c.from-out.ensures.empty c.from-out.ensures.next
+    (visits_done _ _ _ _ c.args.slots c.loop-number.number c.from-out.result c.loop-number.out _ c.loop-number-test.false c.loop-number.invariant) (low_Seq c.loop-number.out.commands) in
+    ends_as c.hold_abort-later.result (hold_abort (commands (map plain_command c.args.body.now))) tests body (plain_slots c.args.slots) c.loop-number.out.next c.args.next.now _ c.hold_abort-later.ensures made_all
 
 pub form-returns-in-Skip : goal.form-returns-in-Skip
 unfolding meaning_words
@@ -85,18 +123,18 @@ form-returns-in-Write t c =
     (λ r h. command_formed x after n c.args.c.now (s.Write o e) (plain_lcommand r) (ap plain_command c.in-Write.is ∙ plain_Write o c.in-Write.value) (written_as (plain_spot c.object-object.result) (object x o.name) c.object-object.result.place after (lift x e n) (plain_lcommand r) c.object-object.ensures (ap (λ b. b.place) c.object-object.ensures) h))
     c.write_to.ensures
 
-pub form-returns-in_ok-chosen-in-If : goal.form-returns-in_ok-chosen-in-If
+pub form-returns-in_ok-no-in-If : goal.form-returns-in_ok-no-in-If
 unfolding words meaning_words
-form-returns-in_ok-chosen-in-If t c =
+form-returns-in_ok-no-in-If t c =
     let x = setting c.args.frame.now in
     let n = c.args.next.now in
     let b = plain_cond c.in-If.test in
     let yes = plain_command c.deref.result.now in
     let no = plain_command c.deref-in-If.result.now in
-    let after = c.form-in-If.new.next in
+    let after = c.form_boxed-in-If.new.next in
     let seen = ap plain_command c.in-If.is ∙ plain_If c.in-If.test c.in-If.yes c.in-If.no ∙ sym (λ i. s.If b (plain_command (c.deref.ensures i)) (plain_command (c.deref-in-If.ensures i))) in
     IfOk-weaker c.in_front.result _ _
-    (λ r h. command_formed x after n c.args.c.now (s.If b yes no) (plain_lcommand r) seen (chosen_formed c.from-out.result c.lift_cond.new.out n c.form.new.next after (lift_cond x b) (form x yes) (form x no) (plain_lcond c.in_ok-test-in-If.test) (plain_lcommand c.in_ok-yes-in-If.yes) (plain_lcommand c.in_ok-no-in-If.no) _ (plain_lcommand r) c.from-out.ensures.empty c.from-out.ensures.next c.in_ok-test-in-If.ensures c.in_ok-yes-in-If.ensures c.in_ok-no-in-If.ensures c.in_ok-chosen-in-If.ensures h))
+    (λ r h. command_formed x after n c.args.c.now (s.If b yes no) (plain_lcommand r) seen (chosen_formed c.from-out.result c.lift_cond.new.out n c.form_boxed.new.next after (lift_cond x b) (form x yes) (form x no) (plain_lcond c.in_ok-test-in-If.test) (plain_lcommand c.in_ok-yes-in-If.yes.value) (plain_lcommand c.in_ok-no-in-If.no.value) _ (plain_lcommand r) c.from-out.ensures.empty c.from-out.ensures.next c.in_ok-test-in-If.ensures c.in_ok-yes-in-If.ensures c.in_ok-no-in-If.ensures (low_If _ _ _) h))
     c.in_front.ensures
 
 pub form-returns-in_ok-commands-in-Block : goal.form-returns-in_ok-commands-in-Block
@@ -145,7 +183,7 @@ form-returns-in-Foreach t c =
     let after = c.foreach.new.next in
     let seen = ap plain_command c.in-Foreach.is ∙ plain_Foreach row q c.in-Foreach.test c.in-Foreach.body ∙ sym (ap (λ l. s.Foreach row q b (commands (map plain_command l))) c.as_slice-in-Foreach.ensures) in
     IfOk-weaker c.foreach.result _ _
-    (λ r h. command_formed x after n c.args.c.now (s.Foreach row q b body) (plain_lcommand r) seen (looped_as (λ slot. lift_cond (bind x row.name slot) b) (running x row.name body) (plain_slots c.slots-slots-in-Foreach.result) (slots x q.name) after n (plain_lcommand r) c.slots-slots-in-Foreach.ensures.slots h))
+    (λ r h. command_formed x after n c.args.c.now (s.Foreach row q b body) (plain_lcommand r) seen (looped_as (hold_abort body) (λ slot. lift_cond (bind x row.name slot) b) (running x row.name body) (plain_slots c.slots-slots-in-Foreach.result) (slots x q.name) after n (plain_lcommand r) c.slots-slots-in-Foreach.ensures.slots h))
     c.foreach.ensures
 
 pub form-returns-in-Insert : goal.form-returns-in-Insert
@@ -172,7 +210,7 @@ form-returns-in-Delete t c =
     let b = plain_cond c.in-Delete.test in
     let after = c.delete.new.next in
     IfOk-weaker c.delete.result _ _
-    (λ r h. command_formed x after n c.args.c.now (s.Delete row q b) (plain_lcommand r) (ap plain_command c.in-Delete.is ∙ plain_Delete row q c.in-Delete.test) (looped_as (λ slot. lift_cond (bind x row.name slot) b) clear (plain_slots c.slots-slots-in-Delete.result) (slots x q.name) after n (plain_lcommand r) c.slots-slots-in-Delete.ensures.slots h))
+    (λ r h. command_formed x after n c.args.c.now (s.Delete row q b) (plain_lcommand r) (ap plain_command c.in-Delete.is ∙ plain_Delete row q c.in-Delete.test) (looped_as false (λ slot. lift_cond (bind x row.name slot) b) clear (plain_slots c.slots-slots-in-Delete.result) (slots x q.name) after n (plain_lcommand r) c.slots-slots-in-Delete.ensures.slots h))
     c.delete.ensures
 
 pub form-returns-in-Update : goal.form-returns-in-Update
@@ -187,19 +225,30 @@ form-returns-in-Update t c =
     let e = plain_expr c.in-Update.value in
     let after = c.update.new.next in
     IfOk-weaker c.update.result _ _
-    (λ r h. command_formed x after n c.args.c.now (s.Update row q b f e) (plain_lcommand r) (ap plain_command c.in-Update.is ∙ plain_Update row q c.in-Update.test f c.in-Update.value) (looped_as (λ slot. lift_cond (bind x row.name slot) b) (updating x row.name f.name e) (plain_slots c.slots-slots-in-Update.result) (slots x q.name) after n (plain_lcommand r) c.slots-slots-in-Update.ensures.slots h))
+    (λ r h. command_formed x after n c.args.c.now (s.Update row q b f e) (plain_lcommand r) (ap plain_command c.in-Update.is ∙ plain_Update row q c.in-Update.test f c.in-Update.value) (looped_as false (λ slot. lift_cond (bind x row.name slot) b) (updating x row.name f.name e) (plain_slots c.slots-slots-in-Update.result) (slots x q.name) after n (plain_lcommand r) c.slots-slots-in-Update.ensures.slots h))
     c.update.ensures
+
+pub form-returns-in-Abort : goal.form-returns-in-Abort
+unfolding meaning_words
+form-returns-in-Abort t c =
+    command_formed (setting c.args.frame.now) c.args.next.now c.args.next.now c.args.c.now s.Abort _ (ap plain_command c.in-Abort.is ∙ plain_Abort) (record { command = c.set_flag.ensures; next = refl })
 
 pub form_all-loop-c-init : goal.form_all-loop-c-init
 unfolding tree_words meaning_words
 form_all-loop-c-init t c =
-    let whole = forms (setting c.args.frame.now) (commands (map plain_command c.args.cs.now)) c.args.next.now in
+    let whole = forms (setting c.args.frame.now) false (commands (map plain_command c.args.cs.now)) c.args.next.now in
     record { commands = ap (λ l. both (low_commands (map plain_lcommand l.items)) whole.commands) c.new-formed.ensures; next = refl }
 
 pub form_all-loop-c-preserved : goal.form_all-loop-c-preserved
 form_all-loop-c-preserved t c =
-    forms_step (setting c.args.frame.now) c.args.cs.now c.loop-c.c-index c.loop-c.next _ c.c-item.result c.in_ok-one.one c.loop-c.formed.items c.push.new.self.items _ c.loop-c-test.true c.c-item.is c.in_ok-one.ensures (ap (λ l. l.items) c.in_ok-push.ensures.ok) c.loop-c.invariant
+    let here = holds_abort (plain_command c.c-item.result) in
+    let next : c.if-guarded.guarded ≡ c.loop-c.guarded || here = elim c.if-guarded.branch [
+      | form_all-then-guarded w ↦ (w.guarded-is ∙ w.if-guarded.true ∙ sym (ap (λ v. v || here) w.if-guarded.true))
+      | form_all-else-guarded w ↦ (w.guarded-is ∙ w.holds_abort-guarded.ensures ∙ sym (ap (λ v. v || here) w.if-guarded.false))
+    ] in
+    forms_step (setting c.args.frame.now) c.loop-c.guarded c.if-guarded.guarded c.args.cs.now c.loop-c.c-index c.loop-c.next _ c.c-item.result (plain_lcommand c.in_ok-one.one) (guard c.loop-c.guarded (plain_lcommand c.in_ok-one.one)) c.in_ok-guard.field-0 c.loop-c.formed.items c.push.new.self.items _
+    c.loop-c-test.true c.c-item.is c.in_ok-one.ensures refl c.in_ok-guard.ensures (ap (λ l. l.items) c.in_ok-push.ensures.ok) next c.loop-c.invariant
 
 pub form_all-returns : goal.form_all-returns
 form_all-returns t c =
-    forms_end (setting c.args.frame.now) c.args.cs.now c.loop-c.c-index c.loop-c.next (low_commands (map plain_lcommand c.loop-c.formed.items)) _ c.loop-c-test.false c.loop-c.invariant
+    forms_end (setting c.args.frame.now) c.loop-c.guarded c.args.cs.now c.loop-c.c-index c.loop-c.next (low_commands (map plain_lcommand c.loop-c.formed.items)) _ c.loop-c-test.false c.loop-c.invariant

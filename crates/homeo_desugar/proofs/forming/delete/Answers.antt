@@ -1,5 +1,5 @@
 -- One slot more is cleared.
-use Rattle.std.proofs.Common.{ℕ, pos, sym, ap, ◌∙◌, subst}
+use Rattle.std.proofs.Common.{false, ℕ, pos, sym, ap, ◌∙◌, subst}
 use Rattle.homeo_syntax.specs.Low as L
 use Rattle.homeo_syntax.specs.SourceView.{plain_cond}
 use Rattle.homeo_syntax.specs.LowView.{plain_lcond}
@@ -17,7 +17,7 @@ use Rattle.homeo_desugar.proofs.SlotLists.{slot_is_low}
 use Rattle.homeo_desugar.proofs.forming.delete.Goals as goal
 
 pub loop-number-init : goal.loop-number-init
-loop-number-init c = visits_begin _ _ c.args.slots c.from-out.result
+loop-number-init c = visits_begin _ _ _ _ c.args.slots c.from-out.result
 
 pub lift_visit-requires : goal.lift_visit-requires
 lift_visit-requires c =
@@ -36,4 +36,4 @@ pub returns : goal.returns
 unfolding words
 returns c =
     let tests : Slot → ℕ → Lifted L.Cond = λ slot. lift_cond (bind (setting c.args.frame.now) c.args.row slot) (plain_cond c.args.test.now) in
-    loop_formed c.from-out.result c.loop-number.out c.args.next.now (visits tests clear (plain_slots c.args.slots)) _ c.from-out.ensures.empty c.from-out.ensures.next (visits_done _ _ c.args.slots c.loop-number.number c.from-out.result c.loop-number.out _ c.loop-number-test.false c.loop-number.invariant) (low_Seq c.loop-number.out.commands)
+    loop_formed c.from-out.result c.loop-number.out c.args.next.now (visits false false tests clear (plain_slots c.args.slots)) _ c.from-out.ensures.empty c.from-out.ensures.next (visits_done _ _ _ _ c.args.slots c.loop-number.number c.from-out.result c.loop-number.out _ c.loop-number-test.false c.loop-number.invariant) (low_Seq c.loop-number.out.commands)

@@ -52,9 +52,7 @@ returns c =
     let f = spot (map declared_range c.args.slots.fields.now) c.args.name in
     let i = plain_lexpr c.in_ok-index.index in
     let v = plain_lexpr c.in_ok-value.value in
-    let test = c.in_ok-test.ensures ∙ ap (λ b. within b v L.NoTest) c.field-field.ensures.is in
-    let chain = c.in_ok-chain.ensures ∙ ap (λ b. write_chain b i v all) c.field-field.ensures.is in
-    let write = c.in_ok-write.ensures ∙ (λ j. L.If (test j) (chain j) (low_Skip j)) in
+    let write = c.in_ok-write.ensures ∙ ap (λ b. L.If (within b v L.NoTest) (write_chain b i v all) L.Skip) c.field-field.ensures.is in
     IfOk-weaker c.in_front.result _ _
     (λ r h. write_by_chain c.from-out.result c.lift.new.out c.lift-2.new.out c.args.next.now (lift x (plain_expr c.args.index.now)) (lift x (plain_expr c.args.value.now)) all f i v _ (plain_lcommand r) c.from-out.ensures.empty c.from-out.ensures.next c.in_ok-index.ensures c.in_ok-value.ensures (sym c.in_default.is ∙ c.literal_of.ensures) write h)
     c.in_front.ensures

@@ -1,5 +1,5 @@
 -- The slots so far and those that are left are all.
-use Rattle.std.proofs.Common.{◌-◌}
+use Rattle.std.proofs.Common.{false, ◌-◌}
 use Rattle.homeo_syntax.specs.SourceView.{plain_expr, plain_cond}
 use Rattle.homeo_meaning.specs.Context.{bind}
 use Rattle.homeo_meaning.specs.LForm.{visits, lift_cond}
@@ -10,4 +10,4 @@ use Rattle.homeo_desugar.proofs.forming.update.Given as goal
 
 abbrev pub invariant-loop-number : goal.invariant-loop-number
 invariant-loop-number l =
-    VisitsLeft l.initial.out l.out (visits (λ slot. lift_cond (bind (setting l.frame) l.row slot) (plain_cond l.test)) (updating (setting l.frame) l.row l.name (plain_expr l.value)) (slots_after l.slots l.number (l.slots.count - l.number)) l.out.next) (visits (λ slot. lift_cond (bind (setting l.frame) l.row slot) (plain_cond l.test)) (updating (setting l.frame) l.row l.name (plain_expr l.value)) (plain_slots l.slots) l.initial.out.next)
+    VisitsLeft l.initial.out l.out (visits false false (λ slot. lift_cond (bind (setting l.frame) l.row slot) (plain_cond l.test)) (updating (setting l.frame) l.row l.name (plain_expr l.value)) (slots_after l.slots l.number (l.slots.count - l.number)) l.out.next) (visits false false (λ slot. lift_cond (bind (setting l.frame) l.row slot) (plain_cond l.test)) (updating (setting l.frame) l.row l.name (plain_expr l.value)) (plain_slots l.slots) l.initial.out.next)

@@ -25,7 +25,7 @@ use Rattle.homeo_desugar.proofs.SlotLists.{low_used, slot_is_low}
 use Rattle.homeo_desugar.proofs.lifting.+phrases.Goals as goal
 
 pub add_slots-loop-number-init : goal.add_slots-loop-number-init
-add_slots-loop-number-init t c = visits_begin _ _ c.args.slots c.args.out.now
+add_slots-loop-number-init t c = visits_begin _ _ _ _ c.args.slots c.args.out.now
 
 pub add_slots-lift_visit-requires : goal.add_slots-lift_visit-requires
 add_slots-lift_visit-requires t c =
@@ -43,7 +43,7 @@ add_slots-loop-number-preserved t c =
     visit_step (setting c.args.frame.now) (setting c.bind.result) c.args.row c.loop-number.number (plain_cond c.args.test.now) (adding c.args.total (term_of c.args.field)) c.args.slots c.slot-slot.result c.args.out.now c.loop-number.out c.lift_visit.new.out c.push.new.self (plain_lcond c.in_ok-test.test) (plain_lcommand c.in_ok-add.add) _ _ c.loop-number-test.true c.slot-slot.ensures c.bind.ensures c.in_ok-test.ensures yes c.in_ok-push.ensures.next choice c.in_ok-push.ensures.pushed c.loop-number.invariant
 
 pub add_slots-returns : goal.add_slots-returns
-add_slots-returns t c = visits_done _ _ c.args.slots c.loop-number.number c.args.out.now c.loop-number.out _ c.loop-number-test.false c.loop-number.invariant
+add_slots-returns t c = visits_done _ _ _ _ c.args.slots c.loop-number.number c.args.out.now c.loop-number.out _ c.loop-number-test.false c.loop-number.invariant
 
 pub counted-returns : goal.counted-returns
 unfolding words

@@ -1,5 +1,5 @@
 -- What is lifted so far and what the rest is lifted to are all that there is.
-use Rattle.std.proofs.Common.{◌-◌, map, drop}
+use Rattle.std.proofs.Common.{false, ◌-◌, map, drop}
 use Rattle.homeo_syntax.specs.Low.{NoExpr}
 use Rattle.homeo_syntax.specs.SourceView.{exprs, tests, plain_expr, plain_test, plain_cond}
 use Rattle.homeo_syntax.specs.LowView.{low_exprs, low_tests, plain_lexpr, plain_ltest}
@@ -21,4 +21,4 @@ invariant-lift_tests-loop-t l =
 
 abbrev pub invariant-add_slots-loop-number : goal.invariant-add_slots-loop-number
 invariant-add_slots-loop-number l =
-    VisitsLeft l.initial.out l.out (visits (λ slot. lift_cond (bind (setting l.frame) l.row slot) (plain_cond l.test)) (adding l.total (term_of l.field)) (slots_after l.slots l.number (l.slots.count - l.number)) l.out.next) (visits (λ slot. lift_cond (bind (setting l.frame) l.row slot) (plain_cond l.test)) (adding l.total (term_of l.field)) (plain_slots l.slots) l.initial.out.next)
+    VisitsLeft l.initial.out l.out (visits false false (λ slot. lift_cond (bind (setting l.frame) l.row slot) (plain_cond l.test)) (adding l.total (term_of l.field)) (slots_after l.slots l.number (l.slots.count - l.number)) l.out.next) (visits false false (λ slot. lift_cond (bind (setting l.frame) l.row slot) (plain_cond l.test)) (adding l.total (term_of l.field)) (plain_slots l.slots) l.initial.out.next)

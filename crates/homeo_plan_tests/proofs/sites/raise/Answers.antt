@@ -6,7 +6,7 @@ use Rattle.homeo_syntax.specs.LowView.{low_commands, plain_lcommand}
 use Rattle.homeo_syntax.specs.declared.low.LExpr.{Read}
 use Rattle.homeo_syntax.specs.declared.low.SplitName.TheVariants.{Whole}
 use Rattle.homeo_syntax.proofs.LowViews.{low_Read, low_Write, low_Print, low_Seq}
-use Rattle.homeo_plan_tests.proofs.SplitExample.{pushed}
+use Rattle.homeo_plan_tests.proofs.Pushes.{pushed}
 use Rattle.homeo_plan_tests.proofs.sites.raise.Goals as goal
 
 pub returns : goal.returns

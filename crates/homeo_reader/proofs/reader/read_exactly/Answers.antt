@@ -11,7 +11,7 @@ returns-in-Err-At c =
 
 pub returns-in-Ok-number_names : goal.returns-in-Ok-number_names
 returns-in-Ok-number_names c =
-    parsed c.args.bytes.now c.in-Ok.scanned.items c.as_slice.result.now c.in-Ok-number_names.numbered.names.items c.in-Ok-number_names.numbered.tokens.items
+    parsed c.args.bytes.now c.in-Ok.scanned.items c.as_slice-2.result.now c.as_slice.result.now c.version_of-version.result c.in-Ok-number_names.numbered.names.items c.in-Ok-number_names.numbered.tokens.items
     c.as_slice-in-Ok-number_names.result.now c.parse.result
-    (sym c.in_default.ensures) c.in-Ok.ensures.tokens c.as_slice.ensures.value c.in-Ok-number_names.ensures.names c.in-Ok-number_names.ensures.tokens
-    c.as_slice-in-Ok-number_names.ensures.value c.parse.ensures
+    (sym c.in_default.ensures) c.in-Ok.ensures.tokens c.as_slice-2.ensures.value c.in-Ok-number_names.ensures.names c.in-Ok-number_names.ensures.tokens
+    c.as_slice-in-Ok-number_names.ensures.value c.as_slice.ensures.value c.version_of-version.ensures c.parse.ensures

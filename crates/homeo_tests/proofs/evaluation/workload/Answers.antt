@@ -29,4 +29,5 @@ returns c =
       clients = plain_clients i;
       schedule = None;
       end = 0;
+      weights = (c.new-2.ensures i).items;
     }

@@ -22,7 +22,7 @@ abbrev pub decreases-body_after_foreach : goal.decreases-body_after_foreach
 decreases-body_after_foreach l = 8 * l.room + 4
 
 abbrev pub invariant-commands-more : goal.invariant-commands-more
-invariant-commands-more l = with_front (command_views l.items.items) (commands_read l.room l.self.rest.now) ≡ commands_read l.room l.initial.self.rest.now
+invariant-commands-more l = with_front (command_views l.items.items) (commands_read l.version l.room l.self.rest.now) ≡ commands_read l.version l.room l.initial.self.rest.now
 
 abbrev pub decreases-commands-more : goal.decreases-commands-more
 decreases-commands-more l = length l.self.rest.now

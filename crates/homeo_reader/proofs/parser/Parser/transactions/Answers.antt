@@ -9,17 +9,17 @@ use Rattle.homeo_reader.proofs.parser.Parser.transactions.Goals as goal
 pub more-preserved : goal.more-preserved
 unfolding transactions_read next_transaction_read
 more-preserved c =
-    goes_on limit (each plain_transaction) transaction refl _ _ _ _ _ _ _ c.in_ok-item.ensures c.in-Some.is
+    goes_on limit (each plain_transaction) (transaction c.args.version) refl _ _ _ _ _ _ _ c.in_ok-item.ensures c.in-Some.is
     (pushed _ _ _ _ c.in_ok-push.ensures.ok) c.more.invariant
 
 pub more-smaller : goal.more-smaller
 unfolding next_transaction_read
-more-smaller c = fewer limit (each plain_transaction) transaction refl _ _ _ _ c.in_ok-item.ensures c.in-Some.is
+more-smaller c = fewer limit (each plain_transaction) (transaction c.args.version) refl _ _ _ _ c.in_ok-item.ensures c.in-Some.is
 
 pub returns : goal.returns
 unfolding transactions_read next_transaction_read
-returns c = ends limit (each plain_transaction) transaction refl _ _ _ _ _ c.in_ok-item.ensures c.in_default.is c.more.invariant
+returns c = ends limit (each plain_transaction) (transaction c.args.version) refl _ _ _ _ _ c.in_ok-item.ensures c.in_default.is c.more.invariant
 
 pub returns-in_err-item : goal.returns-in_err-item
 unfolding transactions_read next_transaction_read
-returns-in_err-item c = fails limit (each plain_transaction) transaction refl _ _ _ _ _ _ _ c.in_err-item.ensures c.from_residual.ensures.1 c.more.invariant
+returns-in_err-item c = fails limit (each plain_transaction) (transaction c.args.version) refl _ _ _ _ _ _ _ c.in_err-item.ensures c.from_residual.ensures.1 c.more.invariant

@@ -1,6 +1,7 @@
 -- What is left, after what has been measured, is as large as the whole.
-use Rattle.std.proofs.Common.{◌≡◌, map, drop}
+use Rattle.std.proofs.Common.{◌≡◌, false, map, drop}
 use Rattle.homeo_syntax.specs.SourceView.{commands, plain_command, plain_cond}
+use Rattle.homeo_meaning.specs.Aborts.{hold_abort}
 use Rattle.homeo_size.specs.inner.Measuring.{after_all, all_measured, visits, each_after, each_measured}
 use Rattle.homeo_size.specs.inner.Parts.{none}
 use Rattle.homeo_size.specs.inner.Store.{visited}
@@ -14,8 +15,8 @@ invariant-measure_commands-loop-c l =
     let rest = commands (map plain_command (drop l.c-index l.cs)) in
     let whole = commands (map plain_command l.cs) in
     record {
-      measure : all_measured x rest (store_in l.self) l.all ≡ all_measured x whole (store_in l.initial.self) none;
-      store : after_all x rest (store_in l.self) ≡ after_all x whole (store_in l.initial.self);
+      measure : all_measured x l.guarded rest (store_in l.self) l.all ≡ all_measured x false whole (store_in l.initial.self) none;
+      store : after_all x l.guarded rest (store_in l.self) ≡ after_all x false whole (store_in l.initial.self);
     }
 
 abbrev pub invariant-measure_command-loop-slot : goal.invariant-measure_command-loop-slot
@@ -25,6 +26,6 @@ invariant-measure_command-loop-slot l =
     let whole = map plain_slot l.slot-items in
     let cs = commands (map plain_command l.body.items) in
     record {
-      measure : visits x l.row.name (plain_cond l.test) (each_measured x l.row.name cs) (each_after x l.row.name cs) rest (store_in l.self) l.all ≡ visits x l.row.name (plain_cond l.test) (each_measured x l.row.name cs) (each_after x l.row.name cs) whole (store_in l.initial.self) none;
+      measure : visits x l.row.name (plain_cond l.test) l.guarded l.later (each_measured x l.row.name cs) (each_after x l.row.name cs) rest (store_in l.self) l.all ≡ visits x l.row.name (plain_cond l.test) false (hold_abort cs) (each_measured x l.row.name cs) (each_after x l.row.name cs) whole (store_in l.initial.self) none;
       store : visited (each_after x l.row.name cs) rest (store_in l.self) ≡ visited (each_after x l.row.name cs) whole (store_in l.initial.self);
     }

@@ -1,5 +1,5 @@
 -- The visits so far, and those that are left, are all visits.
-use Rattle.std.proofs.Common.{◌≡◌, pos, map, drop}
+use Rattle.std.proofs.Common.{false, ◌≡◌, pos, map, drop}
 use Rattle.homeo_syntax.specs.SourceView.{plain_cond}
 use Rattle.homeo_size.specs.inner.Measuring.{cleared, visits}
 use Rattle.homeo_size.specs.inner.Parts.{literal, writing, none}
@@ -17,6 +17,6 @@ invariant-loop-slot l =
     let whole = map plain_slot l.slots in
     let body : Slot → Store → Measure = λ slot y. writing l.frame.sites (literal (pos 0)) in
     record {
-      measure : visits x l.row (plain_cond l.test) body (cleared l.frame.sites) rest (store_in l.self) l.all ≡ visits x l.row (plain_cond l.test) body (cleared l.frame.sites) whole (store_in l.initial.self) none;
+      measure : visits x l.row (plain_cond l.test) false false body (cleared l.frame.sites) rest (store_in l.self) l.all ≡ visits x l.row (plain_cond l.test) false false body (cleared l.frame.sites) whole (store_in l.initial.self) none;
       store : visited (cleared l.frame.sites) rest (store_in l.self) ≡ visited (cleared l.frame.sites) whole (store_in l.initial.self);
     }

@@ -1,0 +1,68 @@
+"""Which program a script runs, and how: nothing is built without a word, and what a script has started ends with the script."""
+import contextlib
+import os
+import pathlib
+import shutil
+import signal
+import subprocess
+import sys
+
+ROOT = pathlib.Path(__file__).resolve().parent.parent
+BUILT = ROOT / ".build" / "homeo"
+# The seconds that a group has to end by itself.
+PATIENCE = 5
+
+
+def listing():
+    """What ./homeo lists of the files that the program is made of."""
+    rt = shutil.which("rt")
+    files = [*([rt] if rt else []), "crates.txt", "crates"]
+    words = ["find", "-H", *files, "-regex", "crates/[^/]*/out", "-prune", "-o", "!", "-type", "d", "-printf", r"%p %i %s %T@ %C@\n"]
+    return (f"{rt}\n" if rt else "").encode() + subprocess.run(words, cwd=ROOT, capture_output=True).stdout
+
+
+def is_current():
+    """Whether .build/homeo is there, and the files that it was made of are as they were."""
+    try:
+        return os.access(BUILT, os.X_OK) and (ROOT / ".build" / "listing").read_bytes() == listing()
+    except OSError:
+        return False
+
+
+def chosen(given=None):
+    """The program that is given, or else that of $HOMEO, or else .build/homeo, which is built first where it isn't current."""
+    found = given or os.environ.get("HOMEO")
+    if found:
+        if not shutil.which(found):
+            sys.exit(f"{pathlib.Path(sys.argv[0]).name}: there is no program {found}")
+        return found
+    if not is_current():
+        say = "the program isn't there, or its sources have changed: ./homeo looks, and builds it where it has to, in one to two minutes"
+        print(f"{pathlib.Path(sys.argv[0]).name}: {say} (or give a program by --program PATH)", file=sys.stderr, flush=True)
+        built = run([str(ROOT / "homeo"), "steps"], input=b"workload 1 sites 1 end", stdout=subprocess.DEVNULL)
+        if built.returncode:
+            sys.exit(built.returncode)
+    return str(BUILT)
+
+
+def end(started):
+    """Ends a group of processes: asked first, and then made to."""
+    for way in (signal.SIGTERM, signal.SIGKILL):
+        with contextlib.suppress(ProcessLookupError):
+            os.killpg(started.pid, way)
+        with contextlib.suppress(subprocess.TimeoutExpired):
+            started.wait(PATIENCE)
+
+
+def run(words, input=None, timeout=None, **how):
+    """As `subprocess.run`, in a group of its own, which ends where this process is ended, or after so many seconds."""
+    for each in (signal.SIGTERM, signal.SIGHUP):
+        if signal.getsignal(each) == signal.SIG_DFL:
+            signal.signal(each, lambda number, _: sys.exit(128 + number))
+    with subprocess.Popen(words, stdin=subprocess.PIPE, start_new_session=True, **how) as started:
+        try:
+            output, complaint = started.communicate(input, timeout)
+        except BaseException:
+            end(started)
+            raise
+    return subprocess.CompletedProcess(words, started.returncode, output, complaint)

@@ -1,0 +1,115 @@
+//! What a residual does at its own site, and how it runs there.
+
+use crate::object::base;
+use crate::residual::{plan, residual};
+use homeo_effect::{Program, TreatyIndex, effects};
+use homeo_syntax::{LCommand, LExpr, List, Prints, SplitName, Temp};
+use std::test::Fail;
+
+/// The terms of a sum.
+fn terms(e: &LExpr) -> Option<&[LExpr]> {
+    match e {
+        LExpr::Sum(es) => Some(es.as_slice()),
+        _ => None,
+    }
+}
+
+fn is_number(e: &LExpr, number: i64) -> bool {
+    match e {
+        LExpr::Literal(n) => *n == number,
+        _ => false,
+    }
+}
+
+fn is_own(e: &LExpr) -> bool {
+    match e {
+        LExpr::Read(x) => *x == SplitName::Delta { object: 0, site: 0 },
+        _ => false,
+    }
+}
+
+fn is_temporary(e: &LExpr) -> bool {
+    match e {
+        LExpr::Temp(t) => *t == Temp::Named(7),
+        _ => false,
+    }
+}
+
+/// Five, the own delta and 0.
+fn is_joined(e: &LExpr) -> bool {
+    match terms(e) {
+        Some([base, here, there]) => is_number(base, 5) && is_own(here) && is_number(there, 0),
+        _ => false,
+    }
+}
+
+/// Temporary 7 and -1.
+fn is_less(e: &LExpr) -> bool {
+    match terms(e) {
+        Some([temporary, one]) => is_temporary(temporary) && is_number(one, -1),
+        _ => false,
+    }
+}
+
+/// That, -5 and 0.
+fn is_lowered(e: &LExpr) -> bool {
+    match terms(e) {
+        Some([less, base, there]) => is_less(less) && is_number(base, -5) && is_number(there, 0),
+        _ => false,
+    }
+}
+
+#[test]
+fn what_is_fixed_at_a_site_is_put_in(rt: HostRuntime) -> Result<(), Fail> {
+    let residual = residual(rt.alloc())?;
+    let base = base(rt.alloc(), 5)?;
+    let plan = plan(rt.alloc())?;
+    let index = TreatyIndex::of(rt.alloc(), &plan, 0)?;
+    let effects = effects(rt.alloc(), &residual, &index, &base)?;
+    match effects.commands.as_slice() {
+        [
+            LCommand::Assign {
+                target,
+                value: assigned,
+            },
+            LCommand::Write {
+                target: name,
+                value: written,
+            },
+            LCommand::Print { value: printed },
+        ] => {
+            assert!(rt; *target == Temp::Named(7));
+            assert!(rt; is_joined(assigned));
+            assert!(rt; *name == SplitName::Delta { object: 0, site: 0 });
+            assert!(rt; is_lowered(written));
+            assert!(rt; is_number(printed, 1));
+        }
+        _ => panic!(rt; "three commands"),
+    }
+    assert_eq!(rt; effects.clauses.as_slice(), [0, 1].as_slice());
+    assert_eq!(rt; effects.freezes.as_slice(), [].as_slice());
+    Ok(())
+}
+
+/// Whatever the temporaries hold: 5 and 2 less 1, less 5, are left of the delta.
+#[test]
+fn a_program_runs_on_the_deltas_of_its_site(rt: HostRuntime) -> Result<(), Fail> {
+    let residual = residual(rt.alloc())?;
+    let base = base(rt.alloc(), 5)?;
+    let plan = plan(rt.alloc())?;
+    let index = TreatyIndex::of(rt.alloc(), &plan, 0)?;
+    let effects = effects(rt.alloc(), &residual, &index, &base)?;
+    let program = Program::of(rt.alloc(), 0, effects.commands.as_slice())?;
+    let mut deltas = [2];
+    let mut temporaries = vec![in rt.alloc(); 9; program.temporaries as usize]?;
+    let mut prints: Prints = List::new(rt.alloc());
+    prints.reserve(program.prints as u64)?;
+    program.run(
+        deltas.as_mut_slice(),
+        temporaries.as_mut_slice(),
+        &mut prints,
+    );
+    assert_eq!(rt; deltas.as_slice(), [1].as_slice());
+    assert_eq!(rt; prints.as_slice(), [1].as_slice());
+    Ok(())
+}

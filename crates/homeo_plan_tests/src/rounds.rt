@@ -1,0 +1,132 @@
+//! The plan of the first round of a workload.
+
+ghost use Rattle.homeo_syntax.specs.SourceView.{plain_workload};
+ghost use Rattle.homeo_meaning.specs.Schema.{schema_of};
+
+use crate::texts::{ONE_WRITER, TWICE, WEIGHTED, accepted};
+use homeo_build::Compiled;
+use homeo_build::compile::compile;
+use homeo_build::shares::shares;
+use homeo_build::treaties::treaties;
+use homeo_eval::initial;
+use homeo_meaning::Accepted;
+use homeo_plan::{Clause, Delta, RoundPlan, Term};
+use homeo_syntax::{List, Memory, Numbers};
+use std::alloc::Global;
+use std::test::Fail;
+
+/// The plan of the round that begins at the starting values.
+fn first_plan(alloc: Global, c: &Compiled) -> Result<RoundPlan, Memory> {
+    let base = initial(alloc, c.workload())?;
+    treaties(alloc, c, &base, None)
+}
+
+fn plan_of(alloc: Global, w: Accepted) -> Result<RoundPlan, Memory> {
+    let compiled = compile(alloc, w)?;
+    first_plan(alloc, &compiled)
+}
+
+fn term(site: u32, factor: i128) -> Term {
+    Term {
+        delta: Delta { object: 0, site },
+        factor,
+    }
+}
+
+/// The factor times the sum of both sites' deltas is at most the slack, which is split into these bounds.
+fn is_shared(
+    clause: &Clause,
+    bounds: &List<i128>,
+    factor: i128,
+    slack: i128,
+    split: &[i128],
+) -> bool {
+    clause.terms.as_slice() == [term(0, factor), term(1, factor)].as_slice()
+        && clause.slack == slack
+        && bounds.as_slice() == split
+}
+
+/// Both writes are bounded, the second on what the first one wrote.
+fn bounds_both_writes(plan: &RoundPlan) -> bool {
+    match (
+        plan.template.clauses.as_slice(),
+        plan.config.bounds.as_slice(),
+    ) {
+        ([low, high, second_low, second_high], [a, b, c, d]) => {
+            is_shared(low, a, -1, 6, [3, 3].as_slice())
+                && is_shared(high, b, 1, 4, [2, 2].as_slice())
+                && is_shared(second_low, c, -1, 7, [3, 4].as_slice())
+                && is_shared(second_high, d, 1, 3, [1, 2].as_slice())
+        }
+        _ => false,
+    }
+}
+
+fn has_one_residual(plan: &RoundPlan, site: u32) -> bool {
+    match plan.residuals.as_slice() {
+        [residual] => residual.site == site,
+        _ => false,
+    }
+}
+
+#[test]
+fn a_second_write_is_bounded_on_what_the_first_one_wrote(rt: HostRuntime) -> Result<(), Fail> {
+    let alloc = rt.alloc();
+    let w = accepted(&rt, alloc, TWICE)?;
+    let plan = plan_of(alloc, w)?;
+    assert_eq!(rt; plan.base.as_slice(), [5].as_slice());
+    assert_eq!(rt; plan.template.sites, 2);
+    assert!(rt; bounds_both_writes(&plan));
+    assert_eq!(rt; plan.template.freezes.as_slice().len(), 0);
+    assert!(rt; has_one_residual(&plan, 0));
+    Ok(())
+}
+
+/// The first bounds follow the weights 3 and 1.
+fn has_weighted_bounds(plan: &RoundPlan) -> bool {
+    match (
+        plan.template.clauses.as_slice(),
+        plan.config.bounds.as_slice(),
+    ) {
+        ([enough, room], [a, b]) => {
+            is_shared(enough, a, -1, 4, [3, 1].as_slice())
+                && is_shared(room, b, 1, 6, [4, 2].as_slice())
+        }
+        _ => false,
+    }
+}
+
+#[test]
+fn slacks_are_shared_by_weights(rt: HostRuntime) -> Result<(), Fail> {
+    let alloc = rt.alloc();
+    let w = accepted(&rt, alloc, WEIGHTED)?;
+    let plan = plan_of(alloc, w)?;
+    assert!(rt; has_weighted_bounds(&plan));
+    Ok(())
+}
+
+/// The shares of the clauses of the round that begins at the starting values.
+fn first_shares(alloc: Global, c: &Compiled) -> Result<Vec<Numbers>, Memory> {
+    let plan = first_plan(alloc, c)?;
+    shares(alloc, c, &plan.template)
+}
+
+fn shares_of(alloc: Global, w: Accepted) -> Result<Vec<Numbers>, Memory> {
+    let compiled = compile(alloc, w)?;
+    first_shares(alloc, &compiled)
+}
+
+#[test]
+fn a_site_that_does_not_write_has_no_share(rt: HostRuntime) -> Result<(), Fail> {
+    let alloc = rt.alloc();
+    let w = accepted(&rt, alloc, ONE_WRITER)?;
+    let shares = shares_of(alloc, w)?;
+    match shares.as_slice() {
+        [low, high] => {
+            assert_eq!(rt; low.as_slice(), [1, 0].as_slice());
+            assert_eq!(rt; high.as_slice(), [1, 0].as_slice());
+        }
+        _ => panic!(rt; "two clauses"),
+    }
+    Ok(())
+}

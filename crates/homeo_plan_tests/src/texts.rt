@@ -1,0 +1,57 @@
+//! Reading texts, and one that several tests take.
+
+use homeo_meaning::{Accepted, Purpose};
+use homeo_reader::{ReadRefusal, read};
+use homeo_rules::{RuleRefusal, accept};
+use std::alloc::{AllocError, Global};
+use std::process::Abort;
+use std::test::Fail;
+
+/// The second write reads what the first one wrote.
+pub(crate) const TWICE: &str = "workload 1
+sites 2
+object x in 0..10 = 5
+transaction twice() { write(x = read(x) + 1); write(x = read(x) + 1) }
+client a at 0 { twice() }
+schedule a
+end
+";
+
+/// Site 0 has three quarters of each slack.
+pub(crate) const WEIGHTED: &str = "workload 2
+sites 2
+weights 3, 1
+object stock in 0..10 = 5
+transaction buy(n in 1..3) { s := read(stock); if n <= s then { write(stock = s - n); print(1) } else print(0) }
+client a at 0 { buy(1); buy(1); buy(1) }
+client b at 1 { buy(1) }
+schedule a a b a
+end
+";
+
+/// Only site 0 writes.
+pub(crate) const ONE_WRITER: &str = "workload 2
+sites 2
+weights 1, 1
+object x in 0..10 = 5
+transaction show() { print(read(x)) }
+transaction raise() { write(x = read(x) + 1) }
+client a at 0 { raise(); show(); raise(); show() }
+schedule a a a a
+end
+";
+
+/// Reads a text that is accepted.
+pub(crate) fn accepted(rt: &impl Abort, alloc: Global, text: &str) -> Result<Accepted, Fail> {
+    assert!(rt; text.len() <= 1_048_576);
+    let workload = match read(alloc, text.as_bytes()) {
+        Ok(workload) => workload,
+        Err(ReadRefusal::Memory) => return Err(Fail::from(AllocError)),
+        Err(ReadRefusal::Refused(refusal)) => panic!(rt; "refused {refusal:?}"),
+    };
+    match accept(alloc, workload, Purpose::Steps) {
+        Ok(w) => Ok(w),
+        Err(RuleRefusal::Memory) => Err(Fail::from(AllocError)),
+        Err(RuleRefusal::Refused(refusal)) => panic!(rt; "refused {refusal:?}"),
+    }
+}

@@ -1,0 +1,2 @@
+pub mod FirstCalls
+pub mod SiteSteps

@@ -1,4 +1,0 @@
-pub mod FirstCalls
-pub mod Pushes
-pub mod ResidualExample
-pub mod SiteSteps

@@ -1,0 +1,48 @@
+-- One more command is measured, and a delete.
+use Rattle.std.proofs.Common.{◌≡◌, ℕ, ◌+◌, ◌<◌, Bool, false, ◌||◌, List, [], ◌∷◌, drop, get_or, length, map, pos, refl, sym, ap, ◌∙◌}
+use Rattle.homeo_syntax.specs.Key.{words as tree_words}
+use Rattle.homeo_syntax.specs.SourceView.{commands, plain_cond, plain_command}
+use Rattle.homeo_syntax.specs.declared.phrase.Cond.{Cond}
+use Rattle.homeo_syntax.specs.declared.phrase.Ident.{Ident}
+use Rattle.homeo_syntax.specs.declared.command.Command.{Command, Delete}
+use Rattle.homeo_syntax.proofs.SourceViews.{plain_Delete}
+use Rattle.homeo_meaning.specs.Aborts.{holds_abort}
+use Rattle.homeo_meaning.specs.Context.{Slot}
+use Rattle.homeo_size.specs.inner.Key.{words}
+use Rattle.homeo_size.specs.inner.Measuring.{cleared, guard, guard_after, after, after_all, visits, measured, all_measured}
+use Rattle.homeo_size.specs.inner.Parts.{literal, writing, none, with_one}
+use Rattle.homeo_size.specs.inner.Sizing.{Setting}
+use Rattle.homeo_size.specs.inner.Store.{Store}
+use Rattle.homeo_size.specs.declared.measures.Before.{Before}
+use Rattle.homeo_size.specs.declared.measures.Measure.{Measure}
+use Rattle.homeo_size.proofs.Along.{item_next}
+use Rattle.homeo_size.proofs.Equations.{after_more, measured_more, measured_Delete}
+
+-- the commands that are left begin with the one that is next
+front : (cs : List Command) (i : ℕ) (d c : Command) → i < length cs → c ≡ get_or cs i d → commands (map plain_command (drop i cs)) ≡ commands (plain_command c ∷ map plain_command (drop (i + 1) cs))
+front cs i d c h is = ap (λ l. commands (map plain_command l)) (item_next cs i d h) ∙ ap (λ e. commands (plain_command e ∷ map plain_command (drop (i + 1) cs))) (sym is)
+
+-- the store behind a command, and whether the next is guarded
+module _ (x : Setting) (cs : List Command) (i : ℕ) (d c : Command) (h : i < length cs) (is : c ≡ get_or cs i d) (g g' : Bool) (n : ℕ) (y y1 y2 : Store) (left : y1 ≡ after x (plain_command c) y) (at : n ≡ length y.log) (ends : y2 ≡ guard_after g n y1) (more : g' ≡ (g || holds_abort (plain_command c))) where
+  stored : y2 ≡ guard_after g (length y.log) (after x (plain_command c) y)
+  stored = ends ∙ (λ j. guard_after g (at j) (left j))
+
+  pub store_on : after_all x g' (commands (map plain_command (drop (i + 1) cs))) y2 ≡ after_all x g (commands (map plain_command (drop i cs))) y
+  store_on =
+      (λ j. after_all x (more j) (commands (map plain_command (drop (i + 1) cs))) (stored j))
+      ∙ sym (after_more x g y (plain_command c) (map plain_command (drop (i + 1) cs)))
+      ∙ ap (λ l. after_all x g l y) (sym (front cs i d c h is))
+
+  pub measure_on : (b b' : Before) (m m' : Measure) → m ≡ measured x (plain_command c) y → m' ≡ guard g m → b' ≡ with_one b m'
+      → all_measured x g' (commands (map plain_command (drop (i + 1) cs))) y2 b' ≡ all_measured x g (commands (map plain_command (drop i cs))) y b
+  measure_on b b' m m' one guarded joined =
+      (λ j. all_measured x (more j) (commands (map plain_command (drop (i + 1) cs))) (stored j) ((joined ∙ ap (with_one b) (guarded ∙ ap (guard g) one)) j))
+      ∙ sym (measured_more x g y b (plain_command c) (map plain_command (drop (i + 1) cs)))
+      ∙ ap (λ l. all_measured x g l y b) (sym (front cs i d c h is))
+
+pub delete_measured : (x : Setting) (n : ℕ) (y : Store) (c : Command) (r q : Ident) (t : Cond) (all : List Slot) → c ≡ Delete r q t → n ≡ x.sites → all ≡ x.slots q.name
+    → (visits x r.name (plain_cond t) false false (λ slot u. writing n (literal (pos 0))) (cleared n) all y none).all ≡ measured x (plain_command c) y
+delete_measured x n y c r q t all is sites slots =
+    (λ j. (visits x r.name (plain_cond t) false false (λ slot u. writing (sites j) (literal (pos 0))) (cleared (sites j)) (slots j) y none).all)
+    ∙ sym (measured_Delete x y r q (plain_cond t))
+    ∙ ap (λ k. measured x k y) (sym (ap plain_command is ∙ plain_Delete r q t))

@@ -1,4 +1,0 @@
-pub mod AtomExample
-pub mod ObjectExample
-pub mod Pushes
-pub mod SlackExample

@@ -1,3 +1,0 @@
-pub mod AtomExample
-pub mod ObjectExample
-pub mod SlackExample
