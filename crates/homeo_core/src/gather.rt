@@ -81,9 +81,9 @@ impl Gather {
     }
 }
 
-/// Adds to each value the delta at its place, if there is one.
+/// Adds to each value the delta at its place, if there is one. It takes no memory; each sum fits i64.
 #[tactic(auto, using(crate::proofs::Added::added))]
-fn add_deltas(values: &mut [i64], deltas: &[i64])
+pub fn add_deltas(values: &mut [i64], deltas: &[i64])
     requires { All (FitsSigned w64) (plus_deltas values.old deltas.now) }
     ensures { values.new ≡ plus_deltas values.old deltas.now }
 {
