@@ -11,7 +11,7 @@ use Rattle.homeo_linear.specs.contracts.places.PlacePartialEq.TheImpl.{ghosts}
 use Rattle.homeo_linear.specs.declared.places.Place.{Place}
 use Rattle.homeo_linear.specs.declared.places.Place.TheVariants.{Named, Fresh, Base, Delta}
 use Rattle.homeo_linear.specs.inner.Key.{words}
-use Rattle.homeo_linear.specs.inner.Places.{plain_place}
+use Rattle.homeo_linear.specs.Places.{plain_place}
 use Rattle.homeo_linear.specs.inner.Terms.{term_form}
 
 abbrev pub is_at : Location → Place → Bool

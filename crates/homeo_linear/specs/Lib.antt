@@ -1,1 +1,4 @@
+pub mod Checked
+pub mod Places
+pub mod Standing
 pub mod inner

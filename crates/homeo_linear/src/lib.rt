@@ -1,6 +1,7 @@
-//! Linear forms at a base: the atoms of formulas, and what residuals need of other sites.
+//! Linear forms at a base: of expressions, the atoms of formulas, and what residuals need of other sites.
 #![tactic(auto)]
 
+mod checked;
 mod comparisons;
 mod conditions;
 mod deltas;
@@ -15,5 +16,11 @@ mod residuals;
 mod standing;
 mod terms;
 
+pub use checked::checked_form;
+pub use deltas::joined as joined_deltas;
+pub use following::{push_written, remote_of};
+pub use form::Form;
 pub use formulas::atoms;
+pub use places::{Place, place_of, place_of_temp};
 pub use residuals::needs;
+pub use standing::Standing;

@@ -1,21 +1,26 @@
-//! Where a residual sets a value.
+//! Where a command sets a value.
 
 ghost use Rattle.std.specs.Prelude.{◌≡◌};
 ghost use Rattle.homeo_meaning.specs.LowMeaning.{TempAt, location_of};
-ghost use Rattle.homeo_linear.specs.inner.Places.{plain_place};
+ghost use Rattle.homeo_linear.specs.Places.{plain_place};
 
 use homeo_syntax::{SplitName, Temp};
 
 /// A temporary of the text or a fresh one, the base's value of an object, or a delta of one. A whole object is its base.
 #[derive(Clone, Copy, PartialEq, Eq, Hash)]
-pub(crate) enum Place {
+pub enum Place {
+    /// A temporary, by the number of its name.
     Named(u32),
+    /// A temporary that analysis made, by its number.
     Fresh(u32),
+    /// The base's value of an object.
     Base(u32),
+    /// An object's delta of a site.
     Delta { object: u32, site: u32 },
 }
 
-pub(crate) fn place_of_temp(t: Temp) -> Place
+/// Where a temporary stands.
+pub fn place_of_temp(t: Temp) -> Place
     ensures { plain_place result ≡ TempAt t }
 {
     match t {
@@ -24,8 +29,9 @@ pub(crate) fn place_of_temp(t: Temp) -> Place
     }
 }
 
+/// Where a named value stands.
 #[tactic(auto, unfolding(homeo_meaning::specs::Key::words))]
-pub(crate) fn place_of(name: SplitName) -> Place
+pub fn place_of(name: SplitName) -> Place
     ensures { plain_place result ≡ location_of name }
 {
     match name {
