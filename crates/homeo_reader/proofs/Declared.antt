@@ -87,8 +87,18 @@ three_tokens v names w ts h =
     let two = one.4.1 in
     let three = two.4.1 in
     omega (
-      arith, ap length h.1.2, length-append h.1.0 h.1.1, ap length one.2, length-append one.0 one.1, ap length one.3.1, ap length two.2,
-      length-append two.0 two.1, ap length two.3.1, ap length three.2, length-append three.0 three.1, ap length three.3.1
+      arith,
+      ap length h.1.2,
+      length-append h.1.0 h.1.1,
+      ap length one.2,
+      length-append one.0 one.1,
+      ap length one.3.1,
+      ap length two.2,
+      length-append two.0 two.1,
+      ap length two.3.1,
+      ap length three.2,
+      length-append three.0 three.1,
+      ap length three.3.1,
     )
 
 -- ---- what comes behind ends with one token
@@ -174,10 +184,10 @@ declarations_stand v names others a b front last t more h ends k =
     let fronts : front ≡ p.front ++ end.body = same_front front (p.front ++ end.body) last end.last whole in
     let tokens : p.front ++ (end.body ++ t ∷ more) ≡ q.front ++ q.rest = sym (append_assoc p.front end.body (t ∷ more)) ∙ ap (λ l. l ++ t ∷ more) (sym fronts) ∙ q.cut in
     let one = read_complete classes calls_there (Means rule limit) known (declared v) (decides_declared v) p.value p.front (end.body ++ t ∷ more) p.declares
-        (clear_body v end.body more end.last t ends (subst (Clear (on v)) end.are (clear_called v p.calls p.rest p.then))) in
+    (clear_body v end.body more end.last t ends (subst (Clear (on v)) end.are (clear_called v p.calls p.rest p.then))) in
     let two = read_complete classes calls_there (Means rule limit) known (declared v) (decides_declared v) q.value q.front q.rest q.declares (clear_called v q.calls q.rest q.then) in
     let same : p.value ≡ q.value = one_value (read calls_there (declared v) (q.front ++ q.rest)) p.value q.value (end.body ++ t ∷ more) q.rest
-        (ap (read calls_there (declared v)) (sym tokens) ∙ one) two in
+    (ap (read calls_there (declared v)) (sym tokens) ∙ one) two in
     record {
       version = p.version ∙ sym q.version;
       sites = p.sites ∙ ap (λ (d : Declared). d.0.0) same ∙ sym q.sites;

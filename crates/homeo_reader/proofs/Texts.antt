@@ -93,9 +93,11 @@ end_scanned (b ∷ line) at h = go (is_blank b) refl h (λ k. end_scanned line (
         (is_end line ≡ true → (t : Scanned) × (t.lexeme ≡ Fixed mark.End) × (scanned_from 0 (at + 1) line ≡ Ok (t ∷ []))) →
         (t : Scanned) × (t.lexeme ≡ Fixed mark.End) × (scanned_from 0 at (b ∷ line) ≡ Ok (t ∷ []))
     go true e k more =
-        let rest = more k in
-        (rest.0, rest.1,
-        ap (λ v. if v then scanned_from 0 (at + 1) line else found at (lexeme_of (b ∷ line)) (λ more. scanned_from more (at + 1) line)) (blank_space b e) ∙ rest.2)
+        let rest = more k in (
+          rest.0,
+          rest.1,
+          ap (λ v. if v then scanned_from 0 (at + 1) line else found at (lexeme_of (b ∷ line)) (λ more. scanned_from more (at + 1) line)) (blank_space b e) ∙ rest.2,
+        )
     go false e k more =
         let w = end_word (b ∷ line) k in
         (record { lexeme = Fixed mark.End; offset = at }, refl, ap (scanned_from 0 at) w.are ∙ word_scanned w.rest at w.blank)
@@ -149,7 +151,10 @@ enough : (w : s.Workload) (kept : List Scanned) (last : Scanned) → Spelled w (
 enough w kept last h =
     let ts = kept ++ last ∷ [] in
     omega (
-      arith, three_tokens (version_of ts) (names_of ts) w (tokens_in (names_of ts) ts) h, length-map ts (token_in (names_of ts)), length-append kept (last ∷ [])
+      arith,
+      three_tokens (version_of ts) (names_of ts) w (tokens_in (names_of ts) ts) h,
+      length-map ts (token_in (names_of ts)),
+      length-append kept (last ∷ []),
     )
 
 -- texts with the same tokens up to the last one of the one, which end the declarations there
@@ -176,7 +181,7 @@ words_stand kept last first others a b ats bts ats_are bts_are one two ends =
     let many : 2 ≤ length front = enough a front (scanned_in v last) (subst (Spelled a) head_is one) in
     let enough_words : 2 ≤ length kept = omega (arith, many, length-map kept (scanned_in v)) in
     let batch_is : bts ≡ front ++ scanned_in v first ∷ map (scanned_in v) others =
-        bts_are ∙ ap (λ u. map (scanned_in u) (kept ++ first ∷ others)) (version_same kept (first ∷ others) (last ∷ []) enough_words) ∙ map-append (scanned_in v) kept (first ∷ others) in
+    bts_are ∙ ap (λ u. map (scanned_in u) (kept ++ first ∷ others)) (version_same kept (first ∷ others) (last ∷ []) enough_words) ∙ map-append (scanned_in v) kept (first ∷ others) in
     tokens_stand front (scanned_in v last) (scanned_in v first) (map (scanned_in v) others) a b (subst (Spelled a) head_is one) (subst (Spelled b) batch_is two)
     (λ names. ends_class v names first ends)
 
@@ -186,12 +191,12 @@ texts_stand lines line frame a b first others head ends begins word batch =
     let head_words = versioned (unversioned (whole_lines lines ++ (line ++ newline ∷ []))) head.scanned head.lexemes in
     let batch_words = versioned (unversioned (whole_lines lines ++ frame)) batch.scanned batch.lexemes in
     let one = split (scanned_from 0 0 (whole_lines lines)) (scanned_from 0 (0 + size) (line ++ newline ∷ [])) head_words.words
-        (sym (scan_lines lines (line ++ newline ∷ []) 0) ∙ head_words.words_are) in
+    (sym (scan_lines lines (line ++ newline ∷ []) 0) ∙ head_words.words_are) in
     let two = split (scanned_from 0 0 (whole_lines lines)) (scanned_from 0 (0 + size) frame) batch_words.words (sym (scan_lines lines frame 0) ∙ batch_words.words_are) in
     let start : two.first ≡ one.first = same_ok (scanned_from 0 0 (whole_lines lines)) two.first one.first two.first_are one.first_are in
     let end = end_scanned line (0 + size) ends in
     let last : one.second ≡ end.0 ∷ [] = same_ok (scanned_from 0 (0 + size) (line ++ newline ∷ [])) one.second (end.0 ∷ []) one.second_are
-        (scan_line line [] 0 (0 + size) (omega arith) ∙ ap (λ r. and_then r (scanned_from 0 (0 + size + (length line + 1)) [])) end.2 ∙ nothing_more (end.0 ∷ []) (0 + size + (length line + 1))) in
+    (scan_line line [] 0 (0 + size) (omega arith) ∙ ap (λ r. and_then r (scanned_from 0 (0 + size + (length line + 1)) [])) end.2 ∙ nothing_more (end.0 ∷ []) (0 + size + (length line + 1))) in
     let at_zero : size ≡ 0 + size = omega arith in
     let behind : two.second ≡ first ∷ others = same_ok (scanned_from 0 (0 + size) frame) two.second (first ∷ others) two.second_are (ap (λ n. scanned_from 0 n frame) (sym at_zero) ∙ begins) in
     words_stand one.first end.0 first others a b head.scanned batch.scanned
