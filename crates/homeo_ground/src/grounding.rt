@@ -64,11 +64,7 @@ impl Grounding {
     /// # Errors
     ///
     /// `Memory` when out of memory.
-    pub fn of(
-        alloc: Global,
-        w: &Accepted,
-        declared: &Declarations,
-    ) -> Result<Grounding, Memory>
+    pub fn of(alloc: Global, w: &Accepted, declared: &Declarations) -> Result<Grounding, Memory>
         requires { declared.now ≡ declarations (plain_workload w.now) }
         ensures table { IfOk result (λ g. g ≡ grounding (plain_workload w.now)) }
         ensures calls { IfOk result (λ g. g.calls ≡ grounds (plain_workload w.now)) }

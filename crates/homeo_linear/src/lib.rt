@@ -10,7 +10,6 @@ mod form;
 mod formulas;
 mod items;
 mod numbers;
-mod places;
 mod residuals;
 mod standing;
 mod terms;
