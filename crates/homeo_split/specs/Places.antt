@@ -1,8 +1,8 @@
--- What a place of the code stands for.
+-- The location that a place stands for.
 use Rattle.homeo_syntax.specs.declared.low.Temp.TheVariants as temps
 use Rattle.homeo_meaning.specs.LowMeaning.{Location, TempAt, BaseAt, DeltaAt}
-use Rattle.homeo_linear.specs.declared.places.Place.{Place}
-use Rattle.homeo_linear.specs.declared.places.Place.TheVariants.{Named, Fresh, Base, Delta}
+use Rattle.homeo_split.specs.declared.places.Place.{Place}
+use Rattle.homeo_split.specs.declared.places.Place.TheVariants.{Named, Fresh, Base, Delta}
 
 abbrev pub plain_place : Place → Location
 plain_place (Named n) = TempAt (temps.Named n)
