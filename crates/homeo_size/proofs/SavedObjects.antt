@@ -5,7 +5,7 @@ use Rattle.homeo_meaning.specs.Key.{words as meaning_words}
 use Rattle.homeo_meaning.specs.Context.{Spot, Slot, Context, spot, slots, fields, bind, slot_at}
 use Rattle.homeo_meaning.specs.Schema.{Declared}
 use Rattle.homeo_meaning.specs.LForm.{saved_in}
-use Rattle.homeo_lform.specs.inner.SourceWrites as source
+use Rattle.homeo_lform.specs.SourceWrites as source
 use Rattle.homeo_lform.proofs.Written.{forms_written}
 use Rattle.homeo_size.specs.inner.Key.{words}
 use Rattle.homeo_size.specs.inner.Sizing.{literal_in, missing, missing_at}
