@@ -1,6 +1,6 @@
 -- What stands before the clients is read the same, whatever comes behind it.
-use Rattle.std.proofs.Common.{◌≡◌, ◌⊎◌, ℕ, ◌≤◌, ◌+◌, Bool, true, false, List, [], ◌∷◌, ◌++◌, length, Option, refl, sym, ap, subst, ◌∙◌, append_assoc, append-nil, length-append, arith, inl, inr, true≢false}
-use Rattle.std.specs.Prelude.{Result, Ok, Err}
+use Rattle.std.proofs.Common.{◌≡◌, ℕ, ◌≤◌, true, false, List, [], ◌∷◌, ◌++◌, length, Option, refl, sym, ap, subst, ◌∙◌, append_assoc, append-nil, length-append, arith, inl, inr, true≢false}
+use Rattle.std.specs.Prelude.{Ok, Err}
 use Rattle.homeo_syntax.specs.declared.token.Mark.TheVariants as mark
 use Rattle.homeo_syntax.specs.declared.token.Token.{Token}
 use Rattle.homeo_syntax.specs.declared.token.Version.{Version}
@@ -9,13 +9,13 @@ use Rattle.homeo_syntax.specs.declared.phrase.Ident.{Ident}
 use Rattle.homeo_syntax.specs.declared.phrase.Number.{Number}
 use Rattle.homeo_syntax.specs.declared.workload.ObjectDecl.{ObjectDecl}
 use Rattle.homeo_syntax.specs.Classes.{class_of, number_of}
-use Rattle.homeo_syntax.specs.Grammar.{Grammar, seq, many, Repeats, Spells, Means, has}
-use Rattle.homeo_syntax.specs.Rules.{Deep, Tree, Rule, rule, workload, head, object, relation, transaction, client, schedule, offset_of, limit, IsWorkload}
+use Rattle.homeo_syntax.specs.Grammar.{seq, many, Spells, Means, has}
+use Rattle.homeo_syntax.specs.Rules.{Deep, Tree, Rule, rule, head, object, relation, transaction, client, schedule, offset_of, limit, IsWorkload}
 use Rattle.homeo_syntax.specs.Source as s
 use Rattle.homeo_syntax.specs.Versions.{version_number}
 use Rattle.homeo_reader.specs.inner.Engine.{Reading, Calls, calls_at, read, goes_on, starts, apart, decides}
 use Rattle.homeo_reader.specs.inner.FirstTokens.{classes}
-use Rattle.homeo_reader.specs.Stands.{EndsDeclarations, SameDeclarations, DeclarationsStand}
+use Rattle.homeo_reader.specs.Stands.{EndsDeclarations, DeclarationsStand}
 use Rattle.homeo_reader.proofs.Words.{Clear, Known}
 use Rattle.homeo_reader.proofs.Complete.{read_complete, known_at, word_clear}
 use Rattle.homeo_reader.proofs.Decided.{decided}
@@ -87,8 +87,18 @@ three_tokens v names w ts h =
     let two = one.4.1 in
     let three = two.4.1 in
     omega (
-      arith, ap length h.1.2, length-append h.1.0 h.1.1, ap length one.2, length-append one.0 one.1, ap length one.3.1, ap length two.2,
-      length-append two.0 two.1, ap length two.3.1, ap length three.2, length-append three.0 three.1, ap length three.3.1
+      arith,
+      ap length h.1.2,
+      length-append h.1.0 h.1.1,
+      ap length one.2,
+      length-append one.0 one.1,
+      ap length one.3.1,
+      ap length two.2,
+      length-append two.0 two.1,
+      ap length two.3.1,
+      ap length three.2,
+      length-append three.0 three.1,
+      ap length three.3.1,
     )
 
 -- ---- what comes behind ends with one token
@@ -174,10 +184,10 @@ declarations_stand v names others a b front last t more h ends k =
     let fronts : front ≡ p.front ++ end.body = same_front front (p.front ++ end.body) last end.last whole in
     let tokens : p.front ++ (end.body ++ t ∷ more) ≡ q.front ++ q.rest = sym (append_assoc p.front end.body (t ∷ more)) ∙ ap (λ l. l ++ t ∷ more) (sym fronts) ∙ q.cut in
     let one = read_complete classes calls_there (Means rule limit) known (declared v) (decides_declared v) p.value p.front (end.body ++ t ∷ more) p.declares
-        (clear_body v end.body more end.last t ends (subst (Clear (on v)) end.are (clear_called v p.calls p.rest p.then))) in
+    (clear_body v end.body more end.last t ends (subst (Clear (on v)) end.are (clear_called v p.calls p.rest p.then))) in
     let two = read_complete classes calls_there (Means rule limit) known (declared v) (decides_declared v) q.value q.front q.rest q.declares (clear_called v q.calls q.rest q.then) in
     let same : p.value ≡ q.value = one_value (read calls_there (declared v) (q.front ++ q.rest)) p.value q.value (end.body ++ t ∷ more) q.rest
-        (ap (read calls_there (declared v)) (sym tokens) ∙ one) two in
+    (ap (read calls_there (declared v)) (sym tokens) ∙ one) two in
     record {
       version = p.version ∙ sym q.version;
       sites = p.sites ∙ ap (λ (d : Declared). d.0.0) same ∙ sym q.sites;

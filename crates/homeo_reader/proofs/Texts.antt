@@ -1,18 +1,16 @@
 -- Texts with one beginning.
-use Rattle.std.proofs.Common.{◌≡◌, ◌∙◌, ◌⊎◌, ℕ, zero, suc, ◌+◌, ◌-◌, ◌≤◌, ◌==◌, Bool, true, false, ◌&&◌, ◌||◌, cond, List, [], ◌∷◌, ◌++◌, length, take, drop, map, refl, sym, ap, ap₂, subst, arith, append_assoc, inl, inr, length-append}
+use Rattle.std.proofs.Common.{◌≡◌, ◌∙◌, ℕ, ◌+◌, ◌≤◌, ◌==◌, Bool, true, false, ◌&&◌, ◌||◌, cond, List, [], ◌∷◌, ◌++◌, length, take, drop, map, refl, sym, ap, ap₂, subst, arith, inl, inr, length-append}
 use Rattle.std.proofs.lemmas.List.{append-nil, map-append, length-map, take-append-drop}
 use Rattle.std.proofs.lemmas.Bool.{eqb-true}
-use Rattle.std.specs.Prelude.{Option, Some, None, Result, Ok, Err, if◌then◌else◌, nat_eq, codes}
+use Rattle.std.specs.Prelude.{Result, Ok, Err, if◌then◌else◌, nat_eq, codes}
 use Rattle.std.specs.Cmp.Lexicographic.{same_text}
 use Rattle.std.specs.List.{take_while, list_all, starts_with}
 use Rattle.std.specs.Result.{result_map_both}
 use Rattle.std.proofs.lemmas.List.Sums.{take_while-cons}
 use Rattle.homeo_syntax.specs.declared.token.Mark.TheVariants as mark
-use Rattle.homeo_syntax.specs.declared.token.Token.{Token}
 use Rattle.homeo_syntax.specs.declared.token.Version.{Version}
 use Rattle.homeo_syntax.specs.Classes.{class_of}
-use Rattle.homeo_syntax.specs.Lexemes.{Lexeme, Fixed, is_space, is_word, word_lexeme, lexeme_of}
-use Rattle.homeo_syntax.specs.Reads.{Reads}
+use Rattle.homeo_syntax.specs.Lexemes.{Fixed, is_space, is_word, word_lexeme, lexeme_of}
 use Rattle.homeo_syntax.specs.Rules.{IsWorkload}
 use Rattle.homeo_syntax.specs.Source as s
 use Rattle.homeo_syntax.specs.Tokens.{Scanned, version_of, lexeme_in, scanned_in, in_version, unversioned, scanned_from, found, in_front, names_of, kind_in, token_in, tokens_in}
@@ -93,9 +91,11 @@ end_scanned (b ∷ line) at h = go (is_blank b) refl h (λ k. end_scanned line (
         (is_end line ≡ true → (t : Scanned) × (t.lexeme ≡ Fixed mark.End) × (scanned_from 0 (at + 1) line ≡ Ok (t ∷ []))) →
         (t : Scanned) × (t.lexeme ≡ Fixed mark.End) × (scanned_from 0 at (b ∷ line) ≡ Ok (t ∷ []))
     go true e k more =
-        let rest = more k in
-        (rest.0, rest.1,
-        ap (λ v. if v then scanned_from 0 (at + 1) line else found at (lexeme_of (b ∷ line)) (λ more. scanned_from more (at + 1) line)) (blank_space b e) ∙ rest.2)
+        let rest = more k in (
+          rest.0,
+          rest.1,
+          ap (λ v. if v then scanned_from 0 (at + 1) line else found at (lexeme_of (b ∷ line)) (λ more. scanned_from more (at + 1) line)) (blank_space b e) ∙ rest.2,
+        )
     go false e k more =
         let w = end_word (b ∷ line) k in
         (record { lexeme = Fixed mark.End; offset = at }, refl, ap (scanned_from 0 at) w.are ∙ word_scanned w.rest at w.blank)
@@ -126,17 +126,17 @@ unfolding scanned_from
 nothing_more ts at = ap Ok (append-nil ts)
 
 -- tokens before they are as their version has them
-record Versioned (x : Result (List Scanned) ℕ) (all : List Scanned) : Type 0 where
-  words : List Scanned
-  words_are : x ≡ Ok words
-  are : all ≡ in_version words
+pub record Versioned (x : Result (List Scanned) ℕ) (all : List Scanned) : Type 0 where
+  pub words : List Scanned
+  pub words_are : x ≡ Ok words
+  pub are : all ≡ in_version words
 
-versioned : (x : Result (List Scanned) ℕ) (all : List Scanned) → result_map_both in_version (λ at. at) x ≡ Ok all → Versioned x all
+pub versioned : (x : Result (List Scanned) ℕ) (all : List Scanned) → result_map_both in_version (λ at. at) x ≡ Ok all → Versioned x all
 versioned (Ok ts) all e = record { words = ts; words_are = refl; are = let h : in_version ts ≡ all = cc in sym h }
 versioned (Err at) all e = absurd (cc)
 
 -- two tokens tell the version, whatever comes behind them
-version_same : (ts us vs : List Scanned) → 2 ≤ length ts → version_of (ts ++ us) ≡ version_of (ts ++ vs)
+pub version_same : (ts us vs : List Scanned) → 2 ≤ length ts → version_of (ts ++ us) ≡ version_of (ts ++ vs)
 version_same [] us vs le = absurd (omega arith)
 version_same (t ∷ []) us vs le = absurd (omega arith)
 version_same (t ∷ (u ∷ ts)) us vs le = refl
@@ -149,7 +149,10 @@ enough : (w : s.Workload) (kept : List Scanned) (last : Scanned) → Spelled w (
 enough w kept last h =
     let ts = kept ++ last ∷ [] in
     omega (
-      arith, three_tokens (version_of ts) (names_of ts) w (tokens_in (names_of ts) ts) h, length-map ts (token_in (names_of ts)), length-append kept (last ∷ [])
+      arith,
+      three_tokens (version_of ts) (names_of ts) w (tokens_in (names_of ts) ts) h,
+      length-map ts (token_in (names_of ts)),
+      length-append kept (last ∷ []),
     )
 
 -- texts with the same tokens up to the last one of the one, which end the declarations there
@@ -176,7 +179,7 @@ words_stand kept last first others a b ats bts ats_are bts_are one two ends =
     let many : 2 ≤ length front = enough a front (scanned_in v last) (subst (Spelled a) head_is one) in
     let enough_words : 2 ≤ length kept = omega (arith, many, length-map kept (scanned_in v)) in
     let batch_is : bts ≡ front ++ scanned_in v first ∷ map (scanned_in v) others =
-        bts_are ∙ ap (λ u. map (scanned_in u) (kept ++ first ∷ others)) (version_same kept (first ∷ others) (last ∷ []) enough_words) ∙ map-append (scanned_in v) kept (first ∷ others) in
+    bts_are ∙ ap (λ u. map (scanned_in u) (kept ++ first ∷ others)) (version_same kept (first ∷ others) (last ∷ []) enough_words) ∙ map-append (scanned_in v) kept (first ∷ others) in
     tokens_stand front (scanned_in v last) (scanned_in v first) (map (scanned_in v) others) a b (subst (Spelled a) head_is one) (subst (Spelled b) batch_is two)
     (λ names. ends_class v names first ends)
 
@@ -186,12 +189,12 @@ texts_stand lines line frame a b first others head ends begins word batch =
     let head_words = versioned (unversioned (whole_lines lines ++ (line ++ newline ∷ []))) head.scanned head.lexemes in
     let batch_words = versioned (unversioned (whole_lines lines ++ frame)) batch.scanned batch.lexemes in
     let one = split (scanned_from 0 0 (whole_lines lines)) (scanned_from 0 (0 + size) (line ++ newline ∷ [])) head_words.words
-        (sym (scan_lines lines (line ++ newline ∷ []) 0) ∙ head_words.words_are) in
+    (sym (scan_lines lines (line ++ newline ∷ []) 0) ∙ head_words.words_are) in
     let two = split (scanned_from 0 0 (whole_lines lines)) (scanned_from 0 (0 + size) frame) batch_words.words (sym (scan_lines lines frame 0) ∙ batch_words.words_are) in
     let start : two.first ≡ one.first = same_ok (scanned_from 0 0 (whole_lines lines)) two.first one.first two.first_are one.first_are in
     let end = end_scanned line (0 + size) ends in
     let last : one.second ≡ end.0 ∷ [] = same_ok (scanned_from 0 (0 + size) (line ++ newline ∷ [])) one.second (end.0 ∷ []) one.second_are
-        (scan_line line [] 0 (0 + size) (omega arith) ∙ ap (λ r. and_then r (scanned_from 0 (0 + size + (length line + 1)) [])) end.2 ∙ nothing_more (end.0 ∷ []) (0 + size + (length line + 1))) in
+    (scan_line line [] 0 (0 + size) (omega arith) ∙ ap (λ r. and_then r (scanned_from 0 (0 + size + (length line + 1)) [])) end.2 ∙ nothing_more (end.0 ∷ []) (0 + size + (length line + 1))) in
     let at_zero : size ≡ 0 + size = omega arith in
     let behind : two.second ≡ first ∷ others = same_ok (scanned_from 0 (0 + size) frame) two.second (first ∷ others) two.second_are (ap (λ n. scanned_from 0 n frame) (sym at_zero) ∙ begins) in
     words_stand one.first end.0 first others a b head.scanned batch.scanned
