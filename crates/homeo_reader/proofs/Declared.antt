@@ -1,6 +1,6 @@
 -- What stands before the clients is read the same, whatever comes behind it.
-use Rattle.std.proofs.Common.{◌≡◌, ◌⊎◌, ℕ, ◌≤◌, ◌+◌, Bool, true, false, List, [], ◌∷◌, ◌++◌, length, Option, refl, sym, ap, subst, ◌∙◌, append_assoc, append-nil, length-append, arith, inl, inr, true≢false}
-use Rattle.std.specs.Prelude.{Result, Ok, Err}
+use Rattle.std.proofs.Common.{◌≡◌, ℕ, ◌≤◌, true, false, List, [], ◌∷◌, ◌++◌, length, Option, refl, sym, ap, subst, ◌∙◌, append_assoc, append-nil, length-append, arith, inl, inr, true≢false}
+use Rattle.std.specs.Prelude.{Ok, Err}
 use Rattle.homeo_syntax.specs.declared.token.Mark.TheVariants as mark
 use Rattle.homeo_syntax.specs.declared.token.Token.{Token}
 use Rattle.homeo_syntax.specs.declared.token.Version.{Version}
@@ -9,13 +9,13 @@ use Rattle.homeo_syntax.specs.declared.phrase.Ident.{Ident}
 use Rattle.homeo_syntax.specs.declared.phrase.Number.{Number}
 use Rattle.homeo_syntax.specs.declared.workload.ObjectDecl.{ObjectDecl}
 use Rattle.homeo_syntax.specs.Classes.{class_of, number_of}
-use Rattle.homeo_syntax.specs.Grammar.{Grammar, seq, many, Repeats, Spells, Means, has}
-use Rattle.homeo_syntax.specs.Rules.{Deep, Tree, Rule, rule, workload, head, object, relation, transaction, client, schedule, offset_of, limit, IsWorkload}
+use Rattle.homeo_syntax.specs.Grammar.{seq, many, Spells, Means, has}
+use Rattle.homeo_syntax.specs.Rules.{Deep, Tree, Rule, rule, head, object, relation, transaction, client, schedule, offset_of, limit, IsWorkload}
 use Rattle.homeo_syntax.specs.Source as s
 use Rattle.homeo_syntax.specs.Versions.{version_number}
 use Rattle.homeo_reader.specs.inner.Engine.{Reading, Calls, calls_at, read, goes_on, starts, apart, decides}
 use Rattle.homeo_reader.specs.inner.FirstTokens.{classes}
-use Rattle.homeo_reader.specs.Stands.{EndsDeclarations, SameDeclarations, DeclarationsStand}
+use Rattle.homeo_reader.specs.Stands.{EndsDeclarations, DeclarationsStand}
 use Rattle.homeo_reader.proofs.Words.{Clear, Known}
 use Rattle.homeo_reader.proofs.Complete.{read_complete, known_at, word_clear}
 use Rattle.homeo_reader.proofs.Decided.{decided}

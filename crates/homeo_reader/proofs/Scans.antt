@@ -1,12 +1,10 @@
 -- Lexemes of lines: no lexeme goes past a newline.
-use Rattle.std.proofs.Common.{◌≡◌, ◌∙◌, ℕ, zero, suc, ◌+◌, ◌-◌, ◌≤◌, ◌==◌, Bool, true, false, cond, List, [], ◌∷◌, ◌++◌, length, refl, sym, ap, subst, arith, append_assoc, true≢false, ◌&&◌, length-append}
+use Rattle.std.proofs.Common.{◌≡◌, ◌∙◌, ℕ, zero, suc, ◌+◌, ◌-◌, ◌≤◌, ◌==◌, Bool, true, false, cond, List, [], ◌∷◌, ◌++◌, length, refl, sym, ap, arith, append_assoc, ◌&&◌, length-append}
 use Rattle.std.specs.Prelude.{Option, Some, None, Result, Ok, Err, if◌then◌else◌}
-use Rattle.std.specs.List.{take_while, find}
-use Rattle.std.specs.Str.{bytes_eq}
+use Rattle.std.specs.List.{take_while}
 use Rattle.std.proofs.lemmas.List.Sums.{take_while-cons}
 use Rattle.homeo_syntax.specs.declared.token.Mark.{Mark}
 use Rattle.homeo_syntax.specs.declared.token.Mark.TheVariants as mark
-use Rattle.homeo_syntax.specs.Marks.{mark_text}
 use Rattle.homeo_syntax.specs.Lexemes.{Lexeme, is_space, is_letter, is_digit, is_word, look_up, double_symbols, single_symbols, longest, symbol_lexeme, word_lexeme, number_lexeme, lexeme_of}
 use Rattle.homeo_syntax.specs.Tokens.{Scanned, scanned_from, found, in_front}
 use Rattle.homeo_tokens.proofs.Steps.{lexeme_sized}

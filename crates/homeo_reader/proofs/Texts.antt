@@ -1,18 +1,16 @@
 -- Texts with one beginning.
-use Rattle.std.proofs.Common.{◌≡◌, ◌∙◌, ◌⊎◌, ℕ, zero, suc, ◌+◌, ◌-◌, ◌≤◌, ◌==◌, Bool, true, false, ◌&&◌, ◌||◌, cond, List, [], ◌∷◌, ◌++◌, length, take, drop, map, refl, sym, ap, ap₂, subst, arith, append_assoc, inl, inr, length-append}
+use Rattle.std.proofs.Common.{◌≡◌, ◌∙◌, ℕ, ◌+◌, ◌≤◌, ◌==◌, Bool, true, false, ◌&&◌, ◌||◌, cond, List, [], ◌∷◌, ◌++◌, length, take, drop, map, refl, sym, ap, ap₂, subst, arith, inl, inr, length-append}
 use Rattle.std.proofs.lemmas.List.{append-nil, map-append, length-map, take-append-drop}
 use Rattle.std.proofs.lemmas.Bool.{eqb-true}
-use Rattle.std.specs.Prelude.{Option, Some, None, Result, Ok, Err, if◌then◌else◌, nat_eq, codes}
+use Rattle.std.specs.Prelude.{Result, Ok, Err, if◌then◌else◌, nat_eq, codes}
 use Rattle.std.specs.Cmp.Lexicographic.{same_text}
 use Rattle.std.specs.List.{take_while, list_all, starts_with}
 use Rattle.std.specs.Result.{result_map_both}
 use Rattle.std.proofs.lemmas.List.Sums.{take_while-cons}
 use Rattle.homeo_syntax.specs.declared.token.Mark.TheVariants as mark
-use Rattle.homeo_syntax.specs.declared.token.Token.{Token}
 use Rattle.homeo_syntax.specs.declared.token.Version.{Version}
 use Rattle.homeo_syntax.specs.Classes.{class_of}
-use Rattle.homeo_syntax.specs.Lexemes.{Lexeme, Fixed, is_space, is_word, word_lexeme, lexeme_of}
-use Rattle.homeo_syntax.specs.Reads.{Reads}
+use Rattle.homeo_syntax.specs.Lexemes.{Fixed, is_space, is_word, word_lexeme, lexeme_of}
 use Rattle.homeo_syntax.specs.Rules.{IsWorkload}
 use Rattle.homeo_syntax.specs.Source as s
 use Rattle.homeo_syntax.specs.Tokens.{Scanned, version_of, lexeme_in, scanned_in, in_version, unversioned, scanned_from, found, in_front, names_of, kind_in, token_in, tokens_in}
@@ -128,17 +126,17 @@ unfolding scanned_from
 nothing_more ts at = ap Ok (append-nil ts)
 
 -- tokens before they are as their version has them
-record Versioned (x : Result (List Scanned) ℕ) (all : List Scanned) : Type 0 where
-  words : List Scanned
-  words_are : x ≡ Ok words
-  are : all ≡ in_version words
+pub record Versioned (x : Result (List Scanned) ℕ) (all : List Scanned) : Type 0 where
+  pub words : List Scanned
+  pub words_are : x ≡ Ok words
+  pub are : all ≡ in_version words
 
-versioned : (x : Result (List Scanned) ℕ) (all : List Scanned) → result_map_both in_version (λ at. at) x ≡ Ok all → Versioned x all
+pub versioned : (x : Result (List Scanned) ℕ) (all : List Scanned) → result_map_both in_version (λ at. at) x ≡ Ok all → Versioned x all
 versioned (Ok ts) all e = record { words = ts; words_are = refl; are = let h : in_version ts ≡ all = cc in sym h }
 versioned (Err at) all e = absurd (cc)
 
 -- two tokens tell the version, whatever comes behind them
-version_same : (ts us vs : List Scanned) → 2 ≤ length ts → version_of (ts ++ us) ≡ version_of (ts ++ vs)
+pub version_same : (ts us vs : List Scanned) → 2 ≤ length ts → version_of (ts ++ us) ≡ version_of (ts ++ vs)
 version_same [] us vs le = absurd (omega arith)
 version_same (t ∷ []) us vs le = absurd (omega arith)
 version_same (t ∷ (u ∷ ts)) us vs le = refl
