@@ -57,14 +57,25 @@ pub(crate) fn output_of<R: Threads + Wait + Sync, S: Source, G: Gate>(
     ensures unread { most_read command ≡ 0 → source.new ≡ source.old }
     ensures no_fault { most_read command ≡ 0 → IsErrOf result Stop.ReadFault → ⊥ }
 {
-    let output = match command {
-        Command::Steps => steps_report(alloc, text_of(alloc, source, Purpose::Steps)?)?,
-        Command::Run => run_report(rt, alloc, text_of(alloc, source, Purpose::Run)?, gate)?,
-        Command::Tables => tables(alloc, text_of(alloc, source, Purpose::Tables)?)?,
-        Command::Treaty => treaty(alloc, text_of(alloc, source, Purpose::Treaty)?)?,
-        Command::Load { number, calls } => load(rt, alloc, number, calls, gate)?,
-    };
-    Ok(output)
+    match command {
+        Command::Steps => {
+            let w = text_of(alloc, source, Purpose::Steps)?;
+            Ok(steps_report(alloc, w)?)
+        }
+        Command::Run => {
+            let w = text_of(alloc, source, Purpose::Run)?;
+            Ok(run_report(rt, alloc, w, gate)?)
+        }
+        Command::Tables => {
+            let w = text_of(alloc, source, Purpose::Tables)?;
+            Ok(tables(alloc, w)?)
+        }
+        Command::Treaty => {
+            let w = text_of(alloc, source, Purpose::Treaty)?;
+            Ok(treaty(alloc, w)?)
+        }
+        Command::Load { number, calls } => Ok(load(rt, alloc, number, calls, gate)?),
+    }
 }
 
 /// The workload as which the source's text is accepted for a purpose.
