@@ -9,9 +9,11 @@ use Rattle.homeo_meaning.specs.declared.call.Purpose.{Purpose}
 use Rattle.homeo_meaning.specs.declared.call.Purpose.TheVariants as purpose
 use Rattle.homeo_meaning.specs.Key.{words as meanings}
 use Rattle.homeo_meaning.specs.Verdict.{IsRefused, text_limit}
+use Rattle.homeo_session.specs.Streams.{IsServed, Stops}
+use Rattle.homeo_session.proofs.Streaming.{not_both}
 use Rattle.homeo_words.specs.declared.command.Command.{Command}
 use Rattle.homeo_words.specs.declared.command.Command.TheVariants as c
-use Rattle.homeo.specs.Outcome.{CanBeDone, IsMade, IsRefusal, IsRefusedUnder, OfText, TellsText}
+use Rattle.homeo.specs.Outcome.{CanBeDone, IsMade, IsRefusal, IsRefusedUnder, OfStream, OfText, TellsText}
 
 -- ---- what was told and what was given
 -- a source that told its bytes gave them
@@ -58,6 +60,12 @@ text_not_refused p old new Holds text r o told refused =
 text_doable : (p : Purpose) (left : Option (List ℕ)) (r : Refusal) → TellsText p left → ((text : List ℕ) → left ≡ Some text → IsRefused text p r) → ⊥
 text_doable p left r (text, w, told, accepted) refused = accepted_not_refused text p w r accepted (refused text told)
 
+-- ---- streams
+stream_not_refused : (old new : Option (List ℕ)) (output bytes out : List ℕ) (r : Refusal) → OfStream old new (λ given. IsServed given output) → old ≡ Some bytes → Stops bytes out r → ⊥
+stream_not_refused old new output bytes out r o told stops =
+    let same : bytes ≡ o.bytes = told_is_given old new bytes o.bytes told o.read in
+    not_both o.bytes output out r o.holds (subst (λ x. Stops x out r) same stops)
+
 -- ---- commands
 -- where the output was made, no refused bytes were told
 pub made_not_refused : (command : Command) (old new : Option (List ℕ)) (output bytes : List ℕ) (r : Refusal) → IsMade command old new output → old ≡ Some bytes → IsRefusal command bytes r → ⊥
@@ -65,6 +73,7 @@ made_not_refused c.Steps old new output bytes r made told refused = text_not_ref
 made_not_refused c.Run old new output bytes r made told refused = text_not_refused purpose.Run old new _ bytes r made told refused
 made_not_refused c.Tables old new output bytes r made told refused = text_not_refused purpose.Tables old new _ bytes r made told refused
 made_not_refused c.Treaty old new output bytes r made told refused = text_not_refused purpose.Treaty old new _ bytes r made told refused
+made_not_refused c.Serve old new output bytes r made told (out, stops) = stream_not_refused old new output bytes out r made told stops
 made_not_refused (c.Load number calls) old new output bytes r made told refused = refused
 
 -- what can be done isn't refused
@@ -73,4 +82,5 @@ doable_not_refused c.Steps left r can refused = text_doable purpose.Steps left r
 doable_not_refused c.Run left r can refused = text_doable purpose.Run left r can refused.1
 doable_not_refused c.Tables left r can refused = text_doable purpose.Tables left r can refused.1
 doable_not_refused c.Treaty left r can refused = text_doable purpose.Treaty left r can refused.1
+doable_not_refused c.Serve left r (bytes, told, none) refused = let stops = refused.1 bytes told in none stops.0 r stops.1
 doable_not_refused (c.Load number calls) left r can refused = refused.0 refl

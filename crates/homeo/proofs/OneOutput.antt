@@ -12,12 +12,14 @@ use Rattle.homeo_order.specs.Order.{scheduled_calls}
 use Rattle.homeo_print.specs.Tables.{tables_text}
 use Rattle.homeo_print.specs.Treaties.{treaty_text}
 use Rattle.homeo_report.specs.Report.{report}
+use Rattle.homeo_session.specs.Streams.{IsServed}
+use Rattle.homeo_session.proofs.Streaming.{one_served}
 use Rattle.homeo_words.specs.Command.{Say}
 use Rattle.homeo_words.specs.declared.command.Command.{Command}
 use Rattle.homeo_words.specs.declared.command.Command.TheVariants as c
 use Rattle.homeo_words.proofs.OneCommand.{one_command}
 use Rattle.homeo.specs.Laws.{OneOutput}
-use Rattle.homeo.specs.Outcome.{IsMade, IsScheduledReport, OfText}
+use Rattle.homeo.specs.Outcome.{IsMade, IsScheduledReport, OfStream, OfText}
 use Rattle.homeo.proofs.Decided.{told_is_given}
 
 -- the schedule determines the history, and so the report
@@ -37,11 +39,18 @@ one_of_text p bytes output output' Output one o o' =
     let same : o'.workload ≡ o.workload = one_accepted o.text p p o'.workload o.workload (subst (λ x. Accepts x p o'.workload) text o'.accepted) o.accepted in
     one o.workload o.holds (subst (λ (w : s.Workload). Output w output') same o'.holds)
 
+-- so have the bytes of a stream
+one_of_stream : (bytes output output' : List ℕ) → OfStream (Some bytes) (Some []) (λ given. IsServed given output) → OfStream (Some bytes) (Some []) (λ given. IsServed given output') → output ≡ output'
+one_of_stream bytes output output' o o' =
+    let same : o'.bytes ≡ o.bytes = sym (told_is_given (Some bytes) (Some []) bytes o'.bytes refl o'.read) ∙ told_is_given (Some bytes) (Some []) bytes o.bytes refl o.read in
+    one_served o.bytes output output' o.holds (subst (λ x. IsServed x output') same o'.holds)
+
 one_made : (command : Command) (bytes output output' : List ℕ) → (command ≡ c.Run → ⊥) → IsMade command (Some bytes) (Some []) output → IsMade command (Some bytes) (Some []) output' → output ≡ output'
 one_made c.Steps bytes output output' other o o' = one_of_text purpose.Steps bytes output output' (λ w x. IsScheduledReport w x) (λ w r r'. one_report w output output' r r') o o'
 one_made c.Run bytes output output' other o o' = absurd (other refl)
 one_made c.Tables bytes output output' other o o' = one_of_text purpose.Tables bytes output output' (λ w x. x ≡ tables_text w) (λ w is is'. is ∙ sym is') o o'
 one_made c.Treaty bytes output output' other o o' = one_of_text purpose.Treaty bytes output output' (λ w x. x ≡ treaty_text w) (λ w is is'. is ∙ sym is') o o'
+one_made c.Serve bytes output output' other o o' = one_of_stream bytes output output' o o'
 one_made (c.Load number calls) bytes output output' other o o' = o.determined ∙ sym o'.determined
 
 pub one_output : OneOutput

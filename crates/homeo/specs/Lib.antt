@@ -1,4 +1,5 @@
 pub mod Command
 pub mod Laws
 pub mod Outcome
+pub mod Serving
 pub mod inner

@@ -18,11 +18,12 @@ use Rattle.homeo_print.specs.Tables.{tables_text}
 use Rattle.homeo_print.specs.Treaties.{treaty_text}
 use Rattle.homeo_report.specs.Report.{report}
 use Rattle.homeo_report.specs.Summary.{summary}
+use Rattle.homeo_session.specs.Streams.{IsServed, Stops}
 use Rattle.homeo_load.specs.Load.{load_workload}
 use Rattle.homeo_load.specs.Output.{load_summary}
 use Rattle.homeo_words.specs.Command.{Say}
 use Rattle.homeo_words.specs.declared.command.Command.{Command}
-use Rattle.homeo_words.specs.declared.command.Command.TheVariants.{Steps, Run, Tables, Treaty, Load}
+use Rattle.homeo_words.specs.declared.command.Command.TheVariants.{Steps, Run, Tables, Treaty, Serve, Load}
 use Rattle.homeo.specs.Command.{most_read}
 
 -- ---- what is made of a workload
@@ -54,12 +55,19 @@ pub record OfText (p : Purpose) (left left' : Option (List ℕ)) (Holds : s.Work
   pub accepted : Accepts text p workload
   pub holds : Holds workload
 
+-- the source was read to its end, and of what it gave this holds
+pub record OfStream (left left' : Option (List ℕ)) (Holds : List ℕ → Type 0) : Type 0 where
+  pub bytes : List ℕ
+  pub read : GaveAll left left' bytes
+  pub holds : Holds bytes
+
 -- the output of a command on what its source gave
 abbrev pub IsMade : Command → (left left' : Option (List ℕ)) → List ℕ → Type 0
 IsMade Steps left left' output = OfText purpose.Steps left left' (λ w. IsScheduledReport w output)
 IsMade Run left left' output = OfText purpose.Run left left' (λ w. IsReport w output)
 IsMade Tables left left' output = OfText purpose.Tables left left' (λ w. output ≡ tables_text w)
 IsMade Treaty left left' output = OfText purpose.Treaty left left' (λ w. output ≡ treaty_text w)
+IsMade Serve left left' output = OfStream left left' (λ bytes. IsServed bytes output)
 IsMade (Load number calls) left left' output = IsLoadOutput number calls output
 
 -- ---- what is refused under a command, and what can be done, a line for each
@@ -69,11 +77,16 @@ IsRefusal Steps text r = IsRefused text purpose.Steps r
 IsRefusal Run text r = IsRefused text purpose.Run r
 IsRefusal Tables text r = IsRefused text purpose.Tables r
 IsRefusal Treaty text r = IsRefused text purpose.Treaty r
+IsRefusal Serve bytes r = (out : List ℕ) × Stops bytes out r
 IsRefusal (Load number calls) bytes r = ⊥
 
 -- the source tells a text that is accepted for this purpose
 abbrev pub TellsText : Purpose → Option (List ℕ) → Type 0
 TellsText p left = (text : List ℕ) × (w : s.Workload) × (left ≡ Some text) × Accepts text p w
+
+-- the source tells a stream that stops no session
+abbrev pub TellsStream : Option (List ℕ) → Type 0
+TellsStream left = (bytes : List ℕ) × (left ≡ Some bytes) × ((out : List ℕ) (r : Refusal) → Stops bytes out r → ⊥)
 
 -- what the source tells can be done under a command
 abbrev pub CanBeDone : Command → Option (List ℕ) → Type 0
@@ -81,6 +94,7 @@ CanBeDone Steps left = TellsText purpose.Steps left
 CanBeDone Run left = TellsText purpose.Run left
 CanBeDone Tables left = TellsText purpose.Tables left
 CanBeDone Treaty left = TellsText purpose.Treaty left
+CanBeDone Serve left = TellsStream left
 CanBeDone (Load number calls) left = ⊤
 
 -- a command that reads refuses so what the source told

@@ -5,6 +5,7 @@ mod clients;
 pub mod laws;
 mod load;
 mod output;
+mod serve;
 mod status;
 mod stop;
 mod tables;

@@ -1,12 +1,13 @@
 //! What each command makes of what its source gives.
 
-ghost use Rattle.std.specs.Prelude.{◌≡◌, ◌+◌, ◌≤◌, ℕ, List, [], Some, length, IfOk, IsErrOf};
+ghost use Rattle.std.specs.Prelude.{◌≡◌, ◌≢◌, ◌+◌, ◌≤◌, ℕ, List, [], Some, length, IfOk, IsErrOf};
 ghost use Rattle.homeo_io.specs.Faults.{Rose};
 ghost use Rattle.homeo_io.specs.Moved.{GaveAtMost};
 ghost use Rattle.homeo_syntax.specs.declared.workload.Refusal.{Refusal};
 ghost use Rattle.homeo_syntax.specs.SourceView.{plain_workload};
 ghost use Rattle.homeo_syntax.specs.WellFormed.{IsWellFormed};
 ghost use Rattle.homeo_meaning.specs.declared.call.Purpose.TheVariants as purpose;
+ghost use Rattle.homeo_words.specs.declared.command.Command.TheVariants as commands;
 ghost use Rattle.homeo_meaning.specs.Faults.{faults};
 ghost use Rattle.homeo_meaning.specs.Verdict.{Accepts, IsRefused, text_limit};
 ghost use Rattle.homeo.specs.Command.{most_read};
@@ -48,7 +49,8 @@ pub(crate) fn output_of<R: Threads + Wait + Sync, S: Source, G: Gate>(
     source: &mut S,
     gate: &G,
 ) -> Result<Vec<u8>, Stop>
-    requires { HasFewCalls command }
+    requires few { HasFewCalls command }
+    requires whole { command ≢ commands.Serve }
     ensures made { IfOk result (λ bytes. IsMade command (S.left source.old) (S.left source.new) bytes.items) }
     ensures no_usage { IsErrOf result Stop.Usage → ⊥ }
     ensures refused { (r : Refusal) → IsErrOf result (Stop.Refused r) → IsRefusedUnder command (S.left source.old) r }
@@ -74,6 +76,7 @@ pub(crate) fn output_of<R: Threads + Wait + Sync, S: Source, G: Gate>(
             let w = text_of(alloc, source, Purpose::Treaty)?;
             Ok(treaty(alloc, w)?)
         }
+        Command::Serve => unreachable!(),
         Command::Load { number, calls } => Ok(load(rt, alloc, number, calls, gate)?),
     }
 }

@@ -7,11 +7,14 @@ ghost use Rattle.homeo_syntax.specs.declared.workload.Refusal.{Refusal};
 ghost use Rattle.homeo_accept.specs.RefusalLine.{refusal_line};
 ghost use Rattle.homeo_words.specs.Command.{IsCommand, Say};
 ghost use Rattle.homeo_words.specs.declared.command.Command.{Command};
+ghost use Rattle.homeo_words.specs.declared.command.Command.TheVariants as commands;
 ghost use Rattle.homeo.specs.Command.{ReadNothing, line_of, most_read};
 ghost use Rattle.homeo.specs.Outcome.{CanBeDone, IsCutOff, IsDone, IsMade, IsRefusal, IsRefusedUnder, IsToldRefusal, TellsDoable, TellsRefused, TookLine};
+ghost use Rattle.homeo.specs.Serving.{Serves};
 ghost use Rattle.homeo.specs.inner.Called.{HasFewCalls};
 
 use crate::output::output_of;
+use crate::serve::{Ending, serve_source};
 use crate::status::{MEMORY_LINE, READ_FAULT_LINE, Status, USAGE_LINE, WRITE_FAULT_LINE};
 use crate::stop::Stop;
 use homeo_accept::refusal_line;
@@ -29,11 +32,13 @@ use std::thread::Threads;
 /// - `run` runs the calls of each client of a text in work of its own, and writes the report;
 /// - `tables` writes the symbolic tables of a text's ground calls, and their joint table;
 /// - `treaty` writes the treaties at a text's initial database;
+/// - `serve` takes a stream's first frame as its head and each further one as a batch of calls, whose report it writes before it
+///   reads on;
 /// - `load NUMBER CALLS` reads nothing. It makes a workload of so many calls from the number, runs it as `run` does, and writes its
 ///   summary.
 ///
 /// The words don't include the program's name. The output goes to `out`, which is offered bytes only when the whole output
-/// has been made. A fault of `complaints` changes no status. Under `run` and `load` it may wait for locks and workers, and the
+/// has been made, or under `serve` all answers to what was read. A fault of `complaints` changes no status. Under `run` and `load` it may wait for locks and workers, and the
 /// gate is told of each call.
 pub fn run<R: Threads + Wait + Sync, S: Source, O: Sink, E: Sink, G: Gate>(
     rt: &R,
@@ -51,7 +56,7 @@ pub fn run<R: Threads + Wait + Sync, S: Source, O: Sink, E: Sink, G: Gate>(
     // Status 2, exactly where what the source tells is refused under the command. The complaint names code and offset.
     ensures refused { result ≡ Status.Refused → IsToldRefusal words.now.items (S.left source.old)
         (E.taken complaints.old) (E.taken complaints.new) (E.faults complaints.old) (E.faults complaints.new) }
-    ensures refused_exactly { TellsRefused words.now.items (S.left source.old) → result ≢ Status.ReadFault
+    ensures refused_exactly { TellsRefused words.now.items (S.left source.old) → result ≢ Status.ReadFault → result ≢ Status.WriteFault
         → (result ≡ Status.Refused) ⊎ (result ≡ Status.Memory) }
 
     // What was read, at every status: at most what the command takes, and what is left is a suffix of what was left.
@@ -64,9 +69,12 @@ pub fn run<R: Threads + Wait + Sync, S: Source, O: Sink, E: Sink, G: Gate>(
     ensures read_fault { result ≡ Status.ReadFault → Rose (S.faults source.old) (S.faults source.new) }
     ensures write_fault { result ≡ Status.WriteFault → Rose (O.faults out.old) (O.faults out.new) }
 
-    // What `out` took: nothing, a prefix of the output, or exactly the output.
-    ensures untouched { result ≢ Status.Done → result ≢ Status.WriteFault → out.new ≡ out.old }
-    ensures cut_off { result ≡ Status.WriteFault → IsCutOff words.now.items
+    // What `out` took: nothing, a prefix of the output, or exactly the output. Under `serve` answers are written as their frames end,
+    // and each status tells which.
+    ensures untouched { ¬ Say words.now.items commands.Serve → result ≢ Status.Done → result ≢ Status.WriteFault → out.new ≡ out.old }
+    ensures served { Say words.now.items commands.Serve → Serves result
+        (S.left source.old) (S.left source.new) (O.taken out.old) (O.taken out.new) }
+    ensures cut_off { ¬ Say words.now.items commands.Serve → result ≡ Status.WriteFault → IsCutOff words.now.items
         (S.left source.old) (S.left source.new) (O.taken out.old) (O.taken out.new) }
     ensures done { result ≡ Status.Done → IsDone words.now.items
         (S.left source.old) (S.left source.new) (O.taken out.old) (O.taken out.new) }
@@ -80,7 +88,10 @@ pub fn run<R: Threads + Wait + Sync, S: Source, O: Sink, E: Sink, G: Gate>(
         → (result ≡ Status.Done) ⊎ (result ≡ Status.Memory) }
 {
     match Command::of(alloc, words) {
-        Ok(Some(command)) => run_command(rt, alloc, command, source, out, complaints, gate),
+        Ok(Some(command)) => match command {
+            Command::Serve => serve(alloc, source, out, complaints),
+            _ => run_command(rt, alloc, command, source, out, complaints, gate),
+        },
         Ok(None) => complain(alloc, Stop::Usage, complaints),
         Err(_) => complain(alloc, Stop::Memory, complaints),
     }
@@ -96,7 +107,8 @@ fn run_command<R: Threads + Wait + Sync, S: Source, O: Sink, E: Sink, G: Gate>(
     complaints: &mut E,
     gate: &G,
 ) -> Status
-    requires { HasFewCalls command }
+    requires few { HasFewCalls command }
+    requires whole { command ≢ commands.Serve }
     ensures no_usage { result ≢ Status.Usage }
     ensures refused { result ≡ Status.Refused → (r : Refusal) × IsRefusedUnder command (S.left source.old) r
         × TookLine (E.taken complaints.old) (E.taken complaints.new) (E.faults complaints.old) (E.faults complaints.new) (refusal_line r) }
@@ -126,6 +138,39 @@ fn run_command<R: Threads + Wait + Sync, S: Source, O: Sink, E: Sink, G: Gate>(
             }
         },
         Err(stop) => complain(alloc, stop, complaints),
+    }
+}
+
+/// Answers the batches that the source gives.
+fn serve<S: Source, O: Sink, E: Sink>(
+    alloc: Global,
+    source: &mut S,
+    out: &mut O,
+    complaints: &mut E,
+) -> Status
+    ensures no_usage { result ≢ Status.Usage }
+    ensures refused { result ≡ Status.Refused → (r : Refusal) × IsRefusedUnder commands.Serve (S.left source.old) r
+        × TookLine (E.taken complaints.old) (E.taken complaints.new) (E.faults complaints.old) (E.faults complaints.new) (refusal_line r) }
+    ensures refused_exactly { (bytes : List ℕ) (r : Refusal) → S.left source.old ≡ Some bytes → IsRefusal commands.Serve bytes r
+        → result ≢ Status.ReadFault → result ≢ Status.WriteFault → (result ≡ Status.Refused) ⊎ (result ≡ Status.Memory) }
+    ensures gave { GaveAtMost (S.left source.old) (S.left source.new) (most_read commands.Serve) }
+    ensures read_fault { result ≡ Status.ReadFault → Rose (S.faults source.old) (S.faults source.new) }
+    ensures write_fault { result ≡ Status.WriteFault → Rose (O.faults out.old) (O.faults out.new) }
+    ensures served { Serves result (S.left source.old) (S.left source.new) (O.taken out.old) (O.taken out.new) }
+    ensures complaint { result ≢ Status.Refused → TookLine
+        (E.taken complaints.old) (E.taken complaints.new) (E.faults complaints.old) (E.faults complaints.new) (line_of result) }
+    ensures complete { CanBeDone commands.Serve (S.left source.old) → result ≢ Status.ReadFault → result ≢ Status.WriteFault
+        → (result ≡ Status.Done) ⊎ (result ≡ Status.Memory) }
+{
+    match serve_source(alloc, source, out) {
+        Ending::Done => Status::Done,
+        Ending::Stopped(refusal) => complain(alloc, Stop::Refused(refusal), complaints),
+        Ending::Memory => complain(alloc, Stop::Memory, complaints),
+        Ending::ReadFault => complain(alloc, Stop::ReadFault, complaints),
+        Ending::WriteFault => {
+            say(complaints, WRITE_FAULT_LINE);
+            Status::WriteFault
+        }
     }
 }
 
