@@ -1,0 +1,5 @@
+use Rattle.homeo_session.proofs.EndLines.{before_last}
+use Rattle.homeo_session.proofs.line.without_last_line.Goals as goal
+
+pub returns : goal.returns
+returns c = before_last c.args.frame.now c.requires c.last_line_at.result c.last_line_at.ensures.within c.last_line_at.ensures.line

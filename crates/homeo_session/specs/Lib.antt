@@ -1,0 +1,6 @@
+pub mod Batches
+pub mod Frames
+pub mod Key
+pub mod Laws
+pub mod Streams
+pub mod inner
