@@ -1,5 +1,5 @@
 -- What the words of a command say of its numbers, and that they are one command.
-use Rattle.std.proofs.Common.{◌≡◌, ℕ, List, subst}
+use Rattle.std.proofs.Common.{ℕ, List, subst}
 use Rattle.homeo_words.specs.Command.{Say}
 use Rattle.homeo_words.specs.declared.command.Command.{Command}
 use Rattle.homeo_words.specs.declared.command.Command.TheVariants as c

@@ -1,5 +1,5 @@
 -- What a source told is what it gave, and what is refused under a command neither is made an output of nor can be done.
-use Rattle.std.proofs.Common.{◌≡◌, ◌≤◌, ◌+◌, ◌∙◌, ◌++◌, ℕ, List, [], ◌∷◌, Some, None, length, refl, sym, ap, subst, arith, append-nil, length-append, inl, inr}
+use Rattle.std.proofs.Common.{◌≡◌, ◌≤◌, ◌+◌, ◌∙◌, ◌++◌, ℕ, List, Some, None, length, refl, sym, ap, subst, arith, append-nil, length-append, inl}
 use Rattle.std.specs.declared.option.Option.{Option}
 use Rattle.homeo_io.specs.Moved.{Gave, GaveAll}
 use Rattle.homeo_syntax.specs.declared.workload.Refusal.{Refusal}

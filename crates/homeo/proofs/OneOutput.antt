@@ -1,5 +1,5 @@
 -- Words have one output on the same bytes.
-use Rattle.std.proofs.Common.{◌≡◌, ◌∙◌, ◌++◌, refl, ℕ, List, [], Some, sym, ap, subst, append-nil}
+use Rattle.std.proofs.Common.{◌≡◌, ◌∙◌, refl, ℕ, List, [], Some, sym, ap, subst}
 use Rattle.homeo_syntax.specs.Source as s
 use Rattle.homeo_accept.proofs.Decided.{one_accepted}
 use Rattle.homeo_history.specs.Key.{words as histories}

@@ -1,15 +1,14 @@
 -- What serving keeps from piece to piece.
-use Rattle.std.proofs.Common.{◌≡◌, ◌∙◌, ◌⊎◌, ◌+◌, ◌-◌, ◌<◌, ◌≤◌, ℕ, Bool, true, false, List, [], ◌∷◌, ◌++◌, length, take, drop, refl, sym, ap, subst, arith, append_assoc, append-nil, length-append, inl, inr, None, Some}
+use Rattle.std.proofs.Common.{◌≡◌, ◌∙◌, ◌⊎◌, ◌+◌, ◌-◌, ◌<◌, ◌≤◌, ℕ, false, List, [], ◌∷◌, ◌++◌, length, take, refl, sym, ap, subst, arith, append-nil, length-append, inl, inr, None, Some}
 use Rattle.std.specs.declared.option.Option.{Option}
-use Rattle.std.specs.Io.KnownBytes.{Consumes, Appends, Keeps, IsAtEnd}
-use Rattle.std.proofs.KnownBytes.{Appends-trans, Appends-nil, Consumes-trans, Consumes-kept, Consumes-nil}
-use Rattle.homeo_io.specs.Faults.{Rose}
+use Rattle.std.specs.Io.KnownBytes.{Consumes, Appends}
+use Rattle.std.proofs.KnownBytes.{Consumes-trans}
 use Rattle.homeo_io.specs.Moved.{GaveAtMost}
 use Rattle.homeo_syntax.specs.declared.workload.Refusal.{Refusal}
 use Rattle.homeo_session.proofs.Streaming.{fronts, behind, stops_there}
 use Rattle.homeo_session.proofs.Taking.{nothing_taken}
 use Rattle.homeo_session.specs.Streams.{State, SessionValue, begun, IsAfter, IsStopped, stream_limit}
-use Rattle.homeo.specs.Command.{piece_limit, most_read}
+use Rattle.homeo.specs.Command.{piece_limit}
 use Rattle.homeo.specs.Serving.{AnswersEarly}
 
 pub record HasServed {S O : Type 0} (left : S → Option (List ℕ)) (faults : S → ℕ) (taken : O → Option (List ℕ)) (failed : O → ℕ)

@@ -1,11 +1,10 @@
 -- What serving a stream says of the command.
-use Rattle.std.proofs.Common.{◌≡◌, ◌⊎◌, ◌∙◌, ◌++◌, ℕ, List, [], ◌∷◌, None, Some, refl, sym, ap, subst, append_assoc, append-nil, inl, inr}
-use Rattle.std.specs.Prelude.{◌≢◌}
+use Rattle.std.proofs.Common.{◌≡◌, ◌⊎◌, ◌∙◌, ◌++◌, ℕ, List, ◌∷◌, None, Some, sym, ap, subst, append_assoc, append-nil, inl, inr}
 use Rattle.std.specs.declared.option.Option.{Option}
-use Rattle.std.specs.Io.KnownBytes.{Consumes, IsAtEnd}
+use Rattle.std.specs.Io.KnownBytes.{Consumes}
 use Rattle.homeo_io.specs.Moved.{TookExactly}
 use Rattle.homeo_syntax.specs.declared.workload.Refusal.{Refusal}
-use Rattle.homeo_session.specs.Streams.{IsStopped, IsServed, EndRefuses, Stops}
+use Rattle.homeo_session.specs.Streams.{IsStopped, EndRefuses, Stops}
 use Rattle.homeo_words.specs.declared.command.Command.TheVariants as c
 use Rattle.homeo.specs.Command.{most_read}
 use Rattle.homeo.specs.Outcome.{CanBeDone, IsMade, IsRefusal, IsRefusedUnder}

@@ -1,5 +1,5 @@
 -- What the words of a command say of its numbers.
-use Rattle.std.specs.Prelude.{◌≤◌, ℕ, ⊤}
+use Rattle.std.specs.Prelude.{◌≤◌, ⊤}
 use Rattle.homeo_words.specs.declared.command.Command.{Command}
 use Rattle.homeo_words.specs.declared.command.Command.TheVariants.{Steps, Run, Tables, Treaty, Serve, Load}
 

@@ -1,4 +1,4 @@
-use Rattle.std.proofs.Common.{◌≡◌, ◌∙◌, refl, sym, ap, subst, Some}
+use Rattle.std.proofs.Common.{◌≡◌, ◌∙◌, refl, Some}
 use Rattle.homeo_syntax.specs.declared.workload.Refusal.{Refusal}
 use Rattle.homeo.specs.declared.serve.Ending.{Ending}
 use Rattle.homeo.specs.declared.serve.Ending.TheVariants as e

@@ -1,12 +1,10 @@
-use Rattle.std.proofs.Common.{rules, ◌≡◌, ◌∙◌, ◌++◌, ◌+◌, ◌-◌, ◌<◌, ◌≤◌, ℕ, List, [], length, take, drop, Option, None, Some, is_some, refl, sym, ap, subst, arith, append-nil, append_assoc, length-append, inl, inr}
-use Rattle.std.proofs.lemmas.List.{length-take-le}
-use Rattle.std.proofs.KnownBytes.{Appends-trans, Appends-nil, Consumes-trans, Consumes-kept, Consumes-nil}
+use Rattle.std.proofs.Common.{rules, ◌≡◌, ◌∙◌, ◌++◌, ℕ, List, [], take, Option, Some, is_some, sym, ap, subst, arith, inl, inr}
+use Rattle.std.proofs.KnownBytes.{Appends-trans, Appends-nil, Consumes-trans, Consumes-nil}
 use Rattle.homeo_io.specs.Moved.{TookExactly, TookPrefix}
 use Rattle.homeo_syntax.specs.declared.workload.Refusal.{Refusal}
-use Rattle.homeo_session.specs.Streams.{State, SessionValue, IsAfter, IsStopped, IsServed}
 use Rattle.homeo.specs.declared.serve.Ending.{Ending}
 use Rattle.homeo.specs.declared.serve.Ending.TheVariants as e
-use Rattle.homeo.proofs.Served.{HasServed, whole_early, piece_early, end_gave, falls, stop_late, owed, not_stopped, begins_early, read_piece}
+use Rattle.homeo.proofs.Served.{whole_early, piece_early, end_gave, falls, stop_late, owed, begins_early, read_piece}
 use Rattle.homeo.proofs.serve.serve_source.Goals as goal
 
 same_stop : (r q : Refusal) → ◌≡◌ {A = Ending} (e.Stopped r) (e.Stopped q) → Some r ≡ Some q

@@ -1,4 +1,4 @@
-use Rattle.std.proofs.Common.{◌≡◌, [], None, Some, refl, sym, subst}
+use Rattle.std.proofs.Common.{[], refl, subst}
 use Rattle.std.proofs.KnownBytes.{Appends-nil, Consumes-nil}
 use Rattle.homeo_words.proofs.OneCommand.{one_command}
 use Rattle.homeo_words.specs.Command.{Say}
