@@ -1,0 +1,4 @@
+pub mod Peaks
+pub mod Prefixes
+pub mod Raised
+pub mod RoomSteps
