@@ -1,5 +1,5 @@
 -- What is kept of a clause: the peaks of the sites, and what the slack leaves above them.
-use Rattle.std.specs.Prelude.{◌≡◌, ℕ, List, [], ◌∷◌, ℤ, ◌-ℤ◌}
+use Rattle.std.specs.Prelude.{◌≡◌, ◌<◌, ℕ, List, length, slice_index_or, ℤ, ◌-ℤ◌}
 use Rattle.homeo_plan.specs.Template.{Clause}
 use Rattle.homeo_plan.specs.Config.{total}
 use Rattle.homeo_forecast.specs.Peaks.{peaks}
@@ -11,8 +11,7 @@ pub record HasRoom (k : ℕ) (vs : List Visit) (c : Clause) (r : Room) : Type 0 
   pub peaks_are : r.peaks.items ≡ peaks k vs c
   pub room_is : r.room ≡ c.slack -ℤ total (peaks k vs c)
 
-abbrev pub HaveRooms : ℕ → List Visit → List Clause → List Room → Type 0
-HaveRooms k vs [] [] = Unit {0}
-HaveRooms k vs [] (r ∷ rs) = ⊥
-HaveRooms k vs (c ∷ cs) [] = ⊥
-HaveRooms k vs (c ∷ cs) (r ∷ rs) = HasRoom k vs c r × HaveRooms k vs cs rs
+-- so for each of a list of clauses, at its place
+pub record HaveRooms (k : ℕ) (vs : List Visit) (cs : List Clause) (rs : List Room) : Type 0 where
+  pub count : length rs ≡ length cs
+  pub each : (n : ℕ) (c : Clause) (r : Room) → n < length cs → HasRoom k vs (slice_index_or cs n c) (slice_index_or rs n r)
