@@ -1,7 +1,7 @@
 -- The peaks of a clause after one visit more.
 use Rattle.homeo_meaning.specs.Key.{words as meaning_words}
 use Rattle.homeo_plan.specs.Key.{words}
-use Rattle.std.proofs.Common.{◌≡◌, ℕ, zero, suc, ◌+◌, ◌-◌, ◌<◌, ◌≤◌, ◌==◌, Bool, true, false, cond, List, [], ◌∷◌, ◌++◌, length, ℤ, pos, int_lt, ◌+ℤ◌, ◌-ℤ◌, ◌≤ℤ◌, refl, sym, ap, ap₂, subst, ◌∙◌, arith, slice_index_or}
+use Rattle.std.proofs.Common.{◌≡◌, ℕ, zero, suc, ◌+◌, ◌-◌, ◌<◌, ◌≤◌, ◌==◌, Bool, true, false, cond, List, [], ◌∷◌, ◌++◌, length, ℤ, pos, int_lt, ◌+ℤ◌, ◌-ℤ◌, ◌*ℤ◌, ◌≤ℤ◌, refl, sym, ap, ap₂, subst, ◌∙◌, arith, slice_index_or}
 use Rattle.std.proofs.Math.ListN.{set}
 use Rattle.std.specs.Int.{int_max}
 use Rattle.std.proofs.lemmas.Int.{ints}
@@ -10,9 +10,10 @@ use Rattle.homeo_plan.specs.Joined.{Deltas}
 use Rattle.homeo_plan.specs.declared.forms.Term.{Term}
 use Rattle.homeo_plan.specs.Template.{Clause}
 use Rattle.homeo_plan.specs.Config.{total}
+use Rattle.homeo_plan.specs.Local.{no_deltas}
 use Rattle.homeo_plan.specs.Treaty.{site_sum}
 use Rattle.homeo_forecast.specs.Peaks.{peak, peaks_from, peaks, peak_bounds}
-use Rattle.homeo_forecast.specs.Visits.{Visit}
+use Rattle.homeo_forecast.specs.Visits.{Visit, after, after_all}
 use Rattle.homeo_forecast.proofs.Peaks.{max_below, max_left, max_right, peak_positive}
 
 pub antisym : (a b : ℤ) → a ≤ℤ b → b ≤ℤ a → a ≡ b
@@ -100,3 +101,61 @@ unfolding words meaning_words
 total_set [] j n d lt = absurd (omega arith)
 total_set (m ∷ ns) zero n d lt = omega (arith, ints)
 total_set (m ∷ ns) (suc j) n d lt = let rest = total_set ns j n d (omega arith) in omega (arith, ints)
+
+set_same : (ns : List ℤ) (j : ℕ) (d n : ℤ) → slice_index_or ns j d ≡ n → set ns j n ≡ ns
+set_same [] zero d n e = refl
+set_same [] (suc j) d n e = refl
+set_same (m ∷ ns) zero d n e = ap (λ z. z ∷ ns) (sym e)
+set_same (m ∷ ns) (suc j) d n e = ap (λ l. m ∷ l) (set_same ns j d n e)
+
+-- a sum that isn't above its site's peak changes no peak
+pub peaks_idle :
+    (k : ℕ) (vs : List Visit) (v : Visit) (c : Clause) → v.site < k → site_sum v.site c.terms v.deltas ≤ℤ peak c.terms v.site vs →
+    peaks k (vs ++ v ∷ []) c ≡ peaks k vs c
+unfolding words meaning_words
+peaks_idle k vs v c lt low =
+    peaks_push c.terms vs v 0 k v.site (omega arith) lt
+    ∙ ap (λ n. set (peaks_from c.terms vs 0 k) v.site n) (lower (site_sum v.site c.terms v.deltas) (peak c.terms v.site vs) low)
+    ∙ set_same (peaks_from c.terms vs 0 k) v.site (pos 0) (peak c.terms v.site vs) (peak_at c.terms vs 0 k v.site v.site (pos 0) (omega arith) lt)
+  where
+    lower : (a b : ℤ) → a ≤ℤ b → int_max a b ≡ b
+    lower a b h = go (int_lt b a) refl
+      where
+        go : (u : Bool) → int_lt b a ≡ u → cond u a b ≡ b
+        go true e = omega (arith, ints, e)
+        go false e = refl
+
+-- ---- the last deltas of a site
+zero_sum : (i : ℕ) (ts : List Term) → site_sum i ts no_deltas ≡ pos 0
+unfolding words
+zero_sum i [] = refl
+zero_sum i (t ∷ ts) = go (t.delta.site == i) (zero_sum i ts)
+  where
+    times : (z : ℤ) → z *ℤ pos 0 ≡ pos 0
+    times z = omega (arith, ints)
+
+    go : (b : Bool) → site_sum i ts no_deltas ≡ pos 0 → cond b (t.factor *ℤ pos 0) (pos 0) +ℤ site_sum i ts no_deltas ≡ pos 0
+    go true h = let z = times t.factor in omega (arith, ints, z, h)
+    go false h = omega (arith, ints, h)
+
+last_below :
+    (ts : List Term) (i : ℕ) (d : ℕ → Deltas) (vs : List Visit) (n : ℤ) → site_sum i ts (d i) ≤ℤ n → peak ts i vs ≤ℤ n →
+    site_sum i ts (after_all d vs i) ≤ℤ n
+unfolding words meaning_words
+last_below ts i d [] n h low = h
+last_below ts i d (v ∷ vs) n h low = last_below ts i (after d v) vs n (new (v.site == i) low) (rest (v.site == i) low)
+  where
+    new : (b : Bool) → cond b (int_max (site_sum i ts v.deltas) (peak ts i vs)) (peak ts i vs) ≤ℤ n → site_sum i ts (cond b v.deltas (d i)) ≤ℤ n
+    new true g = trans (site_sum i ts v.deltas) (int_max (site_sum i ts v.deltas) (peak ts i vs)) n (max_left (site_sum i ts v.deltas) (peak ts i vs)) g
+    new false g = h
+
+    rest : (b : Bool) → cond b (int_max (site_sum i ts v.deltas) (peak ts i vs)) (peak ts i vs) ≤ℤ n → peak ts i vs ≤ℤ n
+    rest true g = trans (peak ts i vs) (int_max (site_sum i ts v.deltas) (peak ts i vs)) n (max_right (site_sum i ts v.deltas) (peak ts i vs)) g
+    rest false g = g
+
+-- the sum over what a site has after visits isn't above its peak
+pub last_low : (ts : List Term) (i : ℕ) (vs : List Visit) → site_sum i ts (after_all (λ j. no_deltas) vs i) ≤ℤ peak ts i vs
+last_low ts i vs =
+    let zero = zero_sum i ts in
+    let high = peak_positive ts i vs in
+    last_below ts i (λ j. no_deltas) vs (peak ts i vs) (omega (arith, ints, zero, high)) (omega (arith, ints))

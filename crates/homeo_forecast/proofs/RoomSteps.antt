@@ -2,10 +2,11 @@
 use Rattle.homeo_meaning.specs.Key.{words as meaning_words}
 use Rattle.homeo_plan.specs.Key.{words as plan_words}
 use Rattle.homeo_forecast.specs.Key.{words}
-use Rattle.std.proofs.Common.{◌≡◌, ℕ, zero, suc, ◌+◌, ◌<◌, ◌==◌, Bool, true, false, cond, List, [], ◌∷◌, ◌++◌, length, ℤ, pos, int_lt, int_le, ◌+ℤ◌, ◌-ℤ◌, ◌≤ℤ◌, ◌<ℤ◌, Option, Some, None, replicate, refl, sym, ap, ap₂, subst, ◌∙◌, arith, slice_index_or}
+use Rattle.std.proofs.Common.{◌≡◌, ℕ, zero, suc, ◌+◌, ◌<◌, ◌^◌, ◌==◌, Bool, true, false, cond, List, [], ◌∷◌, ◌++◌, length, ℤ, pos, int_lt, int_le, ◌+ℤ◌, ◌-ℤ◌, ◌≤ℤ◌, ◌<ℤ◌, Option, Some, None, replicate, refl, sym, ap, ap₂, subst, ◌∙◌, arith, slice_index_or, FitsSigned}
 use Rattle.std.proofs.Math.ListN.{set}
-use Rattle.std.specs.Int.{int_max}
-use Rattle.std.proofs.lemmas.Int.{ints}
+use Rattle.std.specs.Int.{int_max, w128}
+use Rattle.std.specs.Int.RustNames.{unsigned_abs}
+use Rattle.std.proofs.lemmas.Int.{ints, fits_signed_from_abs}
 use Rattle.homeo_plan.specs.Template.{Clause}
 use Rattle.homeo_plan.specs.declared.forms.Term.{Term}
 use Rattle.homeo_plan.specs.Config.{total}
@@ -82,7 +83,7 @@ module _ (k : ℕ) (vs : List Visit) (c : Clause) (v : Visit) (site : ℕ) (sum 
       let same : peaks k (vs ++ v ∷ []) c ≡ r.peaks.items = raised ∙ ap (λ n. set r.peaks.items site n) (m ∙ sym (old_is d)) ∙ set_same r.peaks.items site d in
       let t = raised_total in
       let e = room.room_is in
-      record { peaks_are = sym same; room_is = omega (arith, ints) }
+      record { peaks_are = sym same; room_is = omega (arith, ints); small = room.small }
 
   pub lower_fits : (d : ℤ) → sum ≤ℤ slice_index_or r.peaks.items site d → pos 0 ≤ℤ r.room → total (peaks k (vs ++ v ∷ []) c) ≤ℤ c.slack
   lower_fits d h low = let e = (lower d h).room_is in omega (arith, ints)
@@ -104,7 +105,7 @@ module _ (k : ℕ) (vs : List Visit) (c : Clause) (v : Visit) (site : ℕ) (sum 
       let below : slice_index_or r.peaks.items site d ≤ℤ sum = omega (arith, ints) in
       let m : int_max sum (peak c.terms site vs) ≡ sum = max_high sum (peak c.terms site vs) (subst (λ z. z ≤ℤ sum) p below) in
       let t = higher_total d h in
-      record { peaks_are = are ∙ ap (λ n. set r.peaks.items site n) (sym m) ∙ sym raised; room_is = omega (arith, ints) }
+      record { peaks_are = are ∙ ap (λ n. set r.peaks.items site n) (sym m) ∙ sym raised; room_is = omega (arith, ints); small = room.small }
 
   pub higher_fits : (d : ℤ) → slice_index_or r.peaks.items site d <ℤ sum → (sum -ℤ slice_index_or r.peaks.items site d) ≤ℤ r.room → total (peaks k (vs ++ v ∷ []) c) ≤ℤ c.slack
   higher_fits d h low = let t = higher_total d h in omega (arith, ints)
@@ -146,12 +147,12 @@ unfolding plan_words
 zero_total zero = refl
 zero_total (suc k) = let rest = zero_total k in omega (arith, ints)
 
-pub new_room : (k : ℕ) (c : Clause) (r : Room) → r.peaks.items ≡ replicate k (pos 0) → r.room ≡ c.slack → HasRoom k [] c r
+pub new_room : (k : ℕ) (c : Clause) (r : Room) → r.peaks.items ≡ replicate k (pos 0) → r.room ≡ c.slack → c.slack <ℤ pos (2 ^ 127) → HasRoom k [] c r
 unfolding plan_words
-new_room k c r are is_slack =
+new_room k c r are is_slack small =
     let same = zero_peaks c.terms 0 k in
     let none = ap total (sym same) ∙ zero_total k in
-    record { peaks_are = are ∙ same; room_is = omega (arith, ints, none, is_slack) }
+    record { peaks_are = are ∙ same; room_is = omega (arith, ints, none, is_slack); small = small }
 
 -- ---- bounds
 pub bounds_are :
@@ -197,3 +198,31 @@ is_open k vs c site r room fit lt =
           (peak_positive c.terms site vs);
       room = omega (arith, ints, left, fit);
     }
+
+-- the bound of site 0 fits i128
+pub bound_fits :
+    (k : ℕ) (vs : List Visit) (c : Clause) (r : Room) → HasRoom k vs c r → total (peaks k vs c) ≤ℤ c.slack → 0 < k →
+    (0 < length r.peaks.items) × FitsSigned w128 (r.room +ℤ slice_index_or r.peaks.items 0 (pos 0))
+unfolding plan_words
+bound_fits zero vs c r room fit some = absurd (omega arith)
+bound_fits (suc k) vs c r room fit some =
+    let open = is_open (suc k) vs c 0 r room fit some in
+    let first : slice_index_or r.peaks.items 0 (pos 0) ≡ peak c.terms 0 vs = ap (λ ns. slice_index_or ns 0 (pos 0)) room.peaks_are in
+    let others = total_positive c.terms vs 1 k in
+    let left = room.room_is in
+    let low = open.low in
+    let z = open.room in
+    let s = room.small in
+    (open.there, fits_between (r.room +ℤ slice_index_or r.peaks.items 0 (pos 0)) (omega (arith, ints, low, z)) (omega (arith, ints, first, others, left, s)))
+  where
+    total_positive : (ts : List Term) (us : List Visit) (i n : ℕ) → pos 0 ≤ℤ total (peaks_from ts us i n)
+    unfolding plan_words
+    total_positive ts us i zero = omega (arith, ints)
+    total_positive ts us i (suc n) =
+        let one = peak_positive ts i us in let rest = total_positive ts us (suc i) n in omega (arith, ints, one, rest)
+
+    fits_between : (n : ℤ) → pos 0 ≤ℤ n → n <ℤ pos (2 ^ 127) → FitsSigned w128 n
+    fits_between n low high = fits_signed_from_abs w128 n (size n low high)
+      where
+        size : (m : ℤ) → pos 0 ≤ℤ m → m <ℤ pos (2 ^ 127) → unsigned_abs m < 2 ^ 127
+        size m low high = omega (arith, ints, low, high)
