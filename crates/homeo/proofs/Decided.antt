@@ -65,6 +65,7 @@ made_not_refused c.Steps old new output bytes r made told refused = text_not_ref
 made_not_refused c.Run old new output bytes r made told refused = text_not_refused purpose.Run old new _ bytes r made told refused
 made_not_refused c.Tables old new output bytes r made told refused = text_not_refused purpose.Tables old new _ bytes r made told refused
 made_not_refused c.Treaty old new output bytes r made told refused = text_not_refused purpose.Treaty old new _ bytes r made told refused
+made_not_refused c.Forecast old new output bytes r made told refused = text_not_refused purpose.Steps old new _ bytes r made told refused
 made_not_refused (c.Load number calls) old new output bytes r made told refused = refused
 
 -- what can be done isn't refused
@@ -73,4 +74,5 @@ doable_not_refused c.Steps left r can refused = text_doable purpose.Steps left r
 doable_not_refused c.Run left r can refused = text_doable purpose.Run left r can refused.1
 doable_not_refused c.Tables left r can refused = text_doable purpose.Tables left r can refused.1
 doable_not_refused c.Treaty left r can refused = text_doable purpose.Treaty left r can refused.1
+doable_not_refused c.Forecast left r can refused = text_doable purpose.Steps left r can refused.1
 doable_not_refused (c.Load number calls) left r can refused = refused.0 refl

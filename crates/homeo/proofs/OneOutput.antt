@@ -2,6 +2,8 @@
 use Rattle.std.proofs.Common.{◌≡◌, ◌∙◌, ◌++◌, refl, ℕ, List, [], Some, sym, ap, subst, append-nil}
 use Rattle.homeo_syntax.specs.Source as s
 use Rattle.homeo_accept.proofs.Decided.{one_accepted}
+use Rattle.homeo_forecast.specs.Text.{IsForecastText}
+use Rattle.homeo_forecast.proofs.OneText.{one_forecast_text}
 use Rattle.homeo_history.specs.Key.{words as histories}
 use Rattle.homeo_history.proofs.OneHistories.{one_history}
 use Rattle.homeo_meaning.specs.declared.call.Purpose.{Purpose}
@@ -42,6 +44,9 @@ one_made c.Steps bytes output output' other o o' = one_of_text purpose.Steps byt
 one_made c.Run bytes output output' other o o' = absurd (other refl)
 one_made c.Tables bytes output output' other o o' = one_of_text purpose.Tables bytes output output' (λ w x. x ≡ tables_text w) (λ w is is'. is ∙ sym is') o o'
 one_made c.Treaty bytes output output' other o o' = one_of_text purpose.Treaty bytes output output' (λ w x. x ≡ treaty_text w) (λ w is is'. is ∙ sym is') o o'
+one_made c.Forecast bytes output output' other o o' =
+    one_of_text purpose.Steps bytes output output' (λ w x. IsForecastText w (initial w) (scheduled_calls w) x)
+    (λ w is is'. one_forecast_text w (initial w) (scheduled_calls w) output output' is is') o o'
 one_made (c.Load number calls) bytes output output' other o o' = o.determined ∙ sym o'.determined
 
 pub one_output : OneOutput

@@ -8,6 +8,7 @@ use Rattle.homeo_syntax.specs.declared.workload.Refusal.{Refusal}
 use Rattle.homeo_syntax.specs.Source as s
 use Rattle.homeo_meaning.specs.declared.call.Purpose.{Purpose}
 use Rattle.homeo_meaning.specs.declared.call.Purpose.TheVariants as purpose
+use Rattle.homeo_meaning.specs.Initial.{initial}
 use Rattle.homeo_meaning.specs.Verdict.{Accepts, IsRefused}
 use Rattle.homeo_accept.specs.RefusalLine.{refusal_line}
 use Rattle.homeo_history.specs.History.{History}
@@ -18,11 +19,12 @@ use Rattle.homeo_print.specs.Tables.{tables_text}
 use Rattle.homeo_print.specs.Treaties.{treaty_text}
 use Rattle.homeo_report.specs.Report.{report}
 use Rattle.homeo_report.specs.Summary.{summary}
+use Rattle.homeo_forecast.specs.Text.{IsForecastText}
 use Rattle.homeo_load.specs.Load.{load_workload}
 use Rattle.homeo_load.specs.Output.{load_summary}
 use Rattle.homeo_words.specs.Command.{Say}
 use Rattle.homeo_words.specs.declared.command.Command.{Command}
-use Rattle.homeo_words.specs.declared.command.Command.TheVariants.{Steps, Run, Tables, Treaty, Load}
+use Rattle.homeo_words.specs.declared.command.Command.TheVariants.{Steps, Run, Tables, Treaty, Forecast, Load}
 use Rattle.homeo.specs.Command.{most_read}
 
 -- ---- what is made of a workload
@@ -60,6 +62,7 @@ IsMade Steps left left' output = OfText purpose.Steps left left' (λ w. IsSchedu
 IsMade Run left left' output = OfText purpose.Run left left' (λ w. IsReport w output)
 IsMade Tables left left' output = OfText purpose.Tables left left' (λ w. output ≡ tables_text w)
 IsMade Treaty left left' output = OfText purpose.Treaty left left' (λ w. output ≡ treaty_text w)
+IsMade Forecast left left' output = OfText purpose.Steps left left' (λ w. IsForecastText w (initial w) (scheduled_calls w) output)
 IsMade (Load number calls) left left' output = IsLoadOutput number calls output
 
 -- ---- what is refused under a command, and what can be done, a line for each
@@ -69,6 +72,7 @@ IsRefusal Steps text r = IsRefused text purpose.Steps r
 IsRefusal Run text r = IsRefused text purpose.Run r
 IsRefusal Tables text r = IsRefused text purpose.Tables r
 IsRefusal Treaty text r = IsRefused text purpose.Treaty r
+IsRefusal Forecast text r = IsRefused text purpose.Steps r
 IsRefusal (Load number calls) bytes r = ⊥
 
 -- the source tells a text that is accepted for this purpose
@@ -81,6 +85,7 @@ CanBeDone Steps left = TellsText purpose.Steps left
 CanBeDone Run left = TellsText purpose.Run left
 CanBeDone Tables left = TellsText purpose.Tables left
 CanBeDone Treaty left = TellsText purpose.Treaty left
+CanBeDone Forecast left = TellsText purpose.Steps left
 CanBeDone (Load number calls) left = ⊤
 
 -- a command that reads refuses so what the source told

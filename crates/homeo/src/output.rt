@@ -21,6 +21,7 @@ use crate::treaty::treaty;
 use homeo_accept::{TextRefusal, accepted};
 use homeo_build::compile::compile;
 use homeo_cluster::Gate;
+use homeo_forecast::scheduled_forecast;
 use homeo_io::{ReadError, Source, read_all};
 use homeo_meaning::{Accepted, Purpose};
 use homeo_report::report;
@@ -62,6 +63,7 @@ pub(crate) fn output_of<R: Threads + Wait + Sync, S: Source, G: Gate>(
         Command::Run => run_report(rt, alloc, text_of(alloc, source, Purpose::Run)?, gate)?,
         Command::Tables => tables(alloc, text_of(alloc, source, Purpose::Tables)?)?,
         Command::Treaty => treaty(alloc, text_of(alloc, source, Purpose::Treaty)?)?,
+        Command::Forecast => scheduled_forecast(alloc, text_of(alloc, source, Purpose::Steps)?)?,
         Command::Load { number, calls } => load(rt, alloc, number, calls, gate)?,
     };
     Ok(output)

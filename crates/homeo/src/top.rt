@@ -29,6 +29,7 @@ use std::thread::Threads;
 /// - `run` runs the calls of each client of a text in work of its own, and writes the report;
 /// - `tables` writes the symbolic tables of a text's ground calls, and their joint table;
 /// - `treaty` writes the treaties at a text's initial database;
+/// - `forecast` writes how far the calls of a text go in the order of its schedule without a cleanup, and what stops the next one;
 /// - `load NUMBER CALLS` reads nothing. It makes a workload of so many calls from the number, runs it as `run` does, and writes its
 ///   summary.
 ///

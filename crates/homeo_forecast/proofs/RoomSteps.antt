@@ -206,17 +206,16 @@ pub bound_fits :
 unfolding plan_words
 bound_fits zero vs c r room fit some = absurd (omega arith)
 bound_fits (suc k) vs c r room fit some =
-    let open = is_open (suc k) vs c 0 r room fit some in
+    let ready = is_open (suc k) vs c 0 r room fit some in
     let first : slice_index_or r.peaks.items 0 (pos 0) ≡ peak c.terms 0 vs = ap (λ ns. slice_index_or ns 0 (pos 0)) room.peaks_are in
     let others = total_positive c.terms vs 1 k in
     let left = room.room_is in
-    let low = open.low in
-    let z = open.room in
+    let low = ready.low in
+    let z = ready.room in
     let s = room.small in
-    (open.there, fits_between (r.room +ℤ slice_index_or r.peaks.items 0 (pos 0)) (omega (arith, ints, low, z)) (omega (arith, ints, first, others, left, s)))
+    (ready.there, fits_between (r.room +ℤ slice_index_or r.peaks.items 0 (pos 0)) (omega (arith, ints, low, z)) (omega (arith, ints, first, others, left, s)))
   where
     total_positive : (ts : List Term) (us : List Visit) (i n : ℕ) → pos 0 ≤ℤ total (peaks_from ts us i n)
-    unfolding plan_words
     total_positive ts us i zero = omega (arith, ints)
     total_positive ts us i (suc n) =
         let one = peak_positive ts i us in let rest = total_positive ts us (suc i) n in omega (arith, ints, one, rest)

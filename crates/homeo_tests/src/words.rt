@@ -20,6 +20,7 @@ fn each_command_has_its_words(rt: HostRuntime) -> Result<(), Fail> {
     assert_eq!(rt; command_of(alloc, &["run"])?, Some(Command::Run));
     assert_eq!(rt; command_of(alloc, &["tables"])?, Some(Command::Tables));
     assert_eq!(rt; command_of(alloc, &["treaty"])?, Some(Command::Treaty));
+    assert_eq!(rt; command_of(alloc, &["forecast"])?, Some(Command::Forecast));
     Ok(())
 }
 

@@ -7,11 +7,11 @@ use Rattle.clap.specs.declared.parser.matches.ArgMatches.{ArgMatches}
 use Rattle.clap.specs.declared.parser.matches.Found.{Found}
 use Rattle.clap.proofs.WalkLemmas.{first_value-rows}
 use Rattle.homeo_words.specs.declared.command.Command.{Command}
-use Rattle.homeo_words.specs.declared.command.Command.TheVariants.{Steps, Run, Tables, Treaty, Load}
+use Rattle.homeo_words.specs.declared.command.Command.TheVariants.{Steps, Run, Tables, Treaty, Forecast, Load}
 use Rattle.homeo_words.specs.Command.{SayLoad, Say}
 use Rattle.homeo_words.specs.inner.App.{homeo}
 use Rattle.homeo_words.proofs.Loads.{load_words, begins_with_digit}
-use Rattle.homeo_words.proofs.Taken.{name_in, value_in, TakesWord, TakesLoad, steps_taken, run_taken, tables_taken, treaty_taken, load_taken}
+use Rattle.homeo_words.proofs.Taken.{name_in, value_in, TakesWord, TakesLoad, steps_taken, run_taken, tables_taken, treaty_taken, forecast_taken, load_taken}
 
 -- one word that is no `load`, or the three words of a load
 pub record IsOneWord (words : List Text) : Type 0 where
@@ -47,6 +47,7 @@ all_taken words Steps said = inl (record { word = codes "steps"; words_are = sym
 all_taken words Run said = inl (record { word = codes "run"; words_are = sym said; taken = run_taken; other = λ e. cc })
 all_taken words Tables said = inl (record { word = codes "tables"; words_are = sym said; taken = tables_taken; other = λ e. cc })
 all_taken words Treaty said = inl (record { word = codes "treaty"; words_are = sym said; taken = treaty_taken; other = λ e. cc })
+all_taken words Forecast said = inl (record { word = codes "forecast"; words_are = sym said; taken = forecast_taken; other = λ e. cc })
 all_taken words (Load number calls) said = inr (taken_load words number calls said)
 
 pub words_taken : (words : List Text) → IsTaken words → takes homeo words ≡ true

@@ -5,7 +5,7 @@ use Rattle.std.specs.List.{list_all}
 use Rattle.std.proofs.lemmas.Bool.Decides.{nat_tests}
 use Rattle.homeo_syntax.specs.Lexemes.{is_digit}
 use Rattle.homeo_words.specs.declared.command.Command.{Command}
-use Rattle.homeo_words.specs.declared.command.Command.TheVariants.{Steps, Run, Tables, Treaty, Load}
+use Rattle.homeo_words.specs.declared.command.Command.TheVariants.{Steps, Run, Tables, Treaty, Forecast, Load}
 use Rattle.homeo_words.specs.Numeral.{IsNumeral}
 use Rattle.homeo_words.specs.Command.{Say}
 
@@ -25,6 +25,7 @@ load_numbers n d Steps said = cc
 load_numbers n d Run said = cc
 load_numbers n d Tables said = cc
 load_numbers n d Treaty said = cc
+load_numbers n d Forecast said = cc
 load_numbers n d (Load number calls) said =
     let all = said.said in
     let first : said.first ≡ n = cc in

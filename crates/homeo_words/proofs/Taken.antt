@@ -37,6 +37,10 @@ pub treaty_taken : TakesWord (codes "treaty")
 unfolding clap_on_literals
 treaty_taken = record { taken = refl; name = refl }
 
+pub forecast_taken : TakesWord (codes "forecast")
+unfolding clap_on_literals
+forecast_taken = record { taken = refl; name = refl }
+
 -- ---- a load
 abbrev found : Text → Text → Option (Text × List Row)
 found n c = subcommand_of homeo (load_words n c)

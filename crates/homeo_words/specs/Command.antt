@@ -2,7 +2,7 @@
 use Rattle.std.specs.Prelude.{◌≡◌, ℕ, List, [], ◌∷◌, codes}
 use Rattle.homeo_words.specs.Numeral.{IsNumeral}
 use Rattle.homeo_words.specs.declared.command.Command.{Command}
-use Rattle.homeo_words.specs.declared.command.Command.TheVariants.{Steps, Run, Tables, Treaty, Load}
+use Rattle.homeo_words.specs.declared.command.Command.TheVariants.{Steps, Run, Tables, Treaty, Forecast, Load}
 
 -- `load`, a number below 2 ^ 64, and how many calls, from 1 to 20,000
 pub record SayLoad (words : List (List ℕ)) (number calls : ℕ) : Type 0 where
@@ -18,6 +18,7 @@ Say words Steps = words ≡ codes "steps" ∷ []
 Say words Run = words ≡ codes "run" ∷ []
 Say words Tables = words ≡ codes "tables" ∷ []
 Say words Treaty = words ≡ codes "treaty" ∷ []
+Say words Forecast = words ≡ codes "forecast" ∷ []
 Say words (Load number calls) = SayLoad words number calls
 
 -- the words are a command

@@ -22,6 +22,8 @@ pub enum Command {
     Tables,
     /// Writes the treaties at the initial database.
     Treaty,
+    /// Writes how far the calls of the schedule go from the initial database without a cleanup.
+    Forecast,
     /// Makes the load that starts at a number and has so many calls, from 1 to 20,000, runs it as `Run` does, and writes the
     /// summary.
     Load { number: u64, calls: u32 },
@@ -40,6 +42,8 @@ impl Command {
             Some(Command::Tables)
         } else if word == "treaty" {
             Some(Command::Treaty)
+        } else if word == "forecast" {
+            Some(Command::Forecast)
         } else {
             None
         }

@@ -30,6 +30,7 @@ pub(crate) fn command_line<'a>(alloc: Global) -> Result<Command<'a>, Memory>
         .subcommand(Command::new(alloc, "run"))?
         .subcommand(Command::new(alloc, "tables"))?
         .subcommand(Command::new(alloc, "treaty"))?
+        .subcommand(Command::new(alloc, "forecast"))?
         .subcommand(load(alloc)?)?;
     Ok(homeo)
 }

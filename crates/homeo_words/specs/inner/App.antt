@@ -18,5 +18,5 @@ with_word app word = with_subcommand app (new_app word).top
 abbrev pub homeo : App
 homeo =
     with_subcommand
-    (with_word (with_word (with_word (with_word empty (codes "steps")) (codes "run")) (codes "tables")) (codes "treaty"))
+    (with_word (with_word (with_word (with_word (with_word empty (codes "steps")) (codes "run")) (codes "tables")) (codes "treaty")) (codes "forecast"))
     load.top

@@ -20,4 +20,8 @@ returns c =
     ≡ with_word (with_word (with_word (with_word empty (codes "steps")) (codes "run")) (codes "tables")) (codes "treaty") =
     c.in_ok-subcommand-4.ensures.shape (search rules)
     ∙ ap₂ with_subcommand tables_is (ap (λ (a : App). a.top) c.new-5.ensures.app) in
-    c.in_ok-homeo.ensures.shape c.in_ok-load.ensures.local ∙ ap₂ with_subcommand treaty_is (ap (λ (a : App). a.top) c.in_ok-load.ensures.app)
+    let forecast_is : app_of c.in_ok-subcommand-5.field-0
+    ≡ with_word (with_word (with_word (with_word (with_word empty (codes "steps")) (codes "run")) (codes "tables")) (codes "treaty")) (codes "forecast") =
+    c.in_ok-subcommand-5.ensures.shape (search rules)
+    ∙ ap₂ with_subcommand treaty_is (ap (λ (a : App). a.top) c.new-6.ensures.app) in
+    c.in_ok-homeo.ensures.shape c.in_ok-load.ensures.local ∙ ap₂ with_subcommand forecast_is (ap (λ (a : App). a.top) c.in_ok-load.ensures.app)
