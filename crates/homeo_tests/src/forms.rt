@@ -152,7 +152,7 @@ fn run_rounds(
     rounds: usize,
 ) -> Result<Database, Fail> {
     let declared = Declarations::of(alloc, w)?;
-    let grounding = Grounding::of(alloc, w)?;
+    let grounding = Grounding::of(alloc, w, &declared)?;
     let mut database = initial(alloc, w)?;
     for _ in 0..rounds {
         let _logs = run_round(rt, alloc, w, &declared, grounding.calls(), &mut database)?;
@@ -192,7 +192,7 @@ fn a_call_that_ends_itself_keeps_its_prints(rt: HostRuntime) -> Result<(), Fail>
     let alloc = rt.alloc();
     let w = accepted(&rt, alloc, ENDED)?;
     let declared = Declarations::of(alloc, &w)?;
-    let grounding = Grounding::of(alloc, &w)?;
+    let grounding = Grounding::of(alloc, &w, &declared)?;
     let mut database = initial(alloc, &w)?;
     let logs = run_round(&rt, alloc, &w, &declared, grounding.calls(), &mut database)?;
     match logs.as_slice() {
