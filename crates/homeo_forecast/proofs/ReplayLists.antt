@@ -149,7 +149,8 @@ module _
       where
         here : i ≡ site → AreDeltas base (after x v i) (get_or (set (site_lists old) site deltas) i [])
         here e =
-            let q : (v.site == i) ≡ true = grind (arith, nat_tests, at, e) in
+            let same : v.site ≡ i = at ∙ sym e in
+            let q : (v.site == i) ≡ true = grind (arith, nat_tests) in
             subst (λ b. AreDeltas base (cond b v.deltas (x i)) (get_or (set (site_lists old) site deltas) i [])) (sym q)
             (subst (AreDeltas base v.deltas)
             (sym (ap (λ j. get_or (set (site_lists old) site deltas) j []) e

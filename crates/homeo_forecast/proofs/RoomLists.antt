@@ -28,18 +28,18 @@ each_there P [] n d lt h = absurd (omega arith)
 each_there P (x ∷ xs) zero d lt h = h.0
 each_there P (x ∷ xs) (suc n) d lt h = each_there P xs n d (omega arith) h.1
 
-set_count : {X : Type 0} (xs : List X) (n : ℕ) (x : X) → length (set xs n x) ≡ length xs
+pub set_count : {X : Type 0} (xs : List X) (n : ℕ) (x : X) → length (set xs n x) ≡ length xs
 set_count [] zero x = refl
 set_count [] (suc n) x = refl
 set_count (y ∷ xs) zero x = refl
 set_count (y ∷ xs) (suc n) x = ap suc (set_count xs n x)
 
-set_here : {X : Type 0} (xs : List X) (n : ℕ) (x d : X) → n < length xs → get_or (set xs n x) n d ≡ x
+pub set_here : {X : Type 0} (xs : List X) (n : ℕ) (x d : X) → n < length xs → get_or (set xs n x) n d ≡ x
 set_here [] n x d lt = absurd (omega arith)
 set_here (y ∷ xs) zero x d lt = refl
 set_here (y ∷ xs) (suc n) x d lt = set_here xs n x d (omega arith)
 
-set_apart : {X : Type 0} (xs : List X) (n m : ℕ) (x d : X) → (m ≡ n → ⊥) → get_or (set xs n x) m d ≡ get_or xs m d
+pub set_apart : {X : Type 0} (xs : List X) (n m : ℕ) (x d : X) → (m ≡ n → ⊥) → get_or (set xs n x) m d ≡ get_or xs m d
 set_apart [] zero m x d apart = refl
 set_apart [] (suc n) m x d apart = refl
 set_apart (y ∷ xs) zero zero x d apart = absurd (apart refl)
@@ -52,7 +52,7 @@ unfolding plan_words
 member_last m y [] h = ⊎_elim (λ e. inr e) (λ none. absurd none) h
 member_last m y (x ∷ xs) h = ⊎_elim (λ e. inl (inl e)) (λ rest. ⊎_elim (λ i. inl (inr i)) (λ e. inr e) (member_last m y xs rest)) h
 
-same_number : (m n : ℕ) → (m ≡ n) ⊎ (m ≡ n → ⊥)
+pub same_number : (m n : ℕ) → (m ≡ n) ⊎ (m ≡ n → ⊥)
 same_number m n = go (m == n) refl
   where
     go : (b : Bool) → (m == n) ≡ b → (m ≡ n) ⊎ (m ≡ n → ⊥)

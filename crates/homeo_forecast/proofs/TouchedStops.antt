@@ -33,10 +33,10 @@ pub among_some :
     ((m : ℕ) (d : X) → m < length xs → f (n + m) ≡ g (n + m) (get_or xs m d)) → Each (λ x. test x ≡ false → (m : ℕ) → g m x ≡ None) xs →
     first_among f (numbers_where test n xs) ≡ first_from g n xs
 unfolding words plan_words effect_words
-among_some g test f n [] agree idle = refl
-among_some g test f n (x ∷ xs) agree idle = go (test x) refl (among_some g test f (suc n) xs next idle.1)
+among_some {X} g test f n [] agree idle = refl
+among_some {X} g test f n (x ∷ xs) agree idle = go (test x) refl (among_some g test f (suc n) xs next idle.1)
   where
-    next : (m : ℕ) (d : _) → m < length xs → f (suc n + m) ≡ g (suc n + m) (get_or xs m d)
+    next : (m : ℕ) (d : X) → m < length xs → f (suc n + m) ≡ g (suc n + m) (get_or xs m d)
     next m d lt =
         let e : suc n + m ≡ n + suc m = omega arith in
         ap f e ∙ agree (suc m) d (omega arith) ∙ ap (λ j. g j (get_or xs m d)) (sym e)

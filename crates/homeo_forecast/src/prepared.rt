@@ -15,7 +15,8 @@ ghost use Rattle.homeo_site.specs.inner.OwnPrograms.{RunsAs};
 ghost use Rattle.homeo_forecast.specs.inner.Prepared.{IsPrepared};
 
 use crate::programs::{indexes, programs};
-use homeo_build::{Compiled, treaties};
+use homeo_build::Compiled;
+use homeo_build::treaties::treaties;
 use homeo_effect::{Program, TreatyIndex};
 use homeo_meaning::{CallId, Database};
 use homeo_plan::RoundPlan;
