@@ -18,7 +18,7 @@ const AT: &str = " at ";
 ///
 /// `Memory` when out of memory.
 pub fn refusal_line(alloc: Global, refusal: Refusal) -> Result<String, Memory>
-    ensures { IfOk result (λ line. line.chars ≡ refusal_line refusal) }
+    ensures { IfOk result (λ line. line.bytes ≡ refusal_line refusal) }
 {
     let Refusal { code, offset } = refusal;
     let line = format!(in alloc; "{REFUSED}{code}{AT}{offset}\n")?;

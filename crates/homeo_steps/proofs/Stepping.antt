@@ -100,6 +100,11 @@ named_next w order i name whole is within at =
     let all : All (λ (x : Ident). place_of (client_names w) x.name < length w.clients) order = subst (All (λ (x : Ident). place_of (client_names w) x.name < length w.clients)) (sym is) whole.named in
     subst (λ (x : Ident). place_of (client_names w) x.name < length w.clients) (sym at) (all i name within)
 
+pub client_there : (w : s.Workload) (order : List Ident) (i : ℕ) (name : Ident) (client : ℕ) → IsWholeOrder w → order ≡ order_of w.schedule → i < length order → name ≡ get_or order i name
+    → client ≡ place_of (client_names w) name.name → client < length w.clients
+client_there w order i name client whole is within at place =
+    subst (λ (k : ℕ). k < length w.clients) (sym place) (named_next w order i name whole is within at)
+
 cut_at : (order : List Ident) (i : ℕ) (name : Ident) → i < length order → name ≡ get_or order i name → take i order ++ name ∷ drop (i + 1) order ≡ order
 cut_at order i name within at =
     let here : drop i order ≡ name ∷ drop (i + 1) order = grind (arith, common_steps) in
