@@ -47,3 +47,14 @@ none_left f ns k le so_far = sym (so_far ∙ ap (first_among f) (past ns k le))
     past [] (suc m) le = refl
     past (n ∷ ms) zero le = absurd (omega arith)
     past (n ∷ ms) (suc m) le = past ms m (omega arith)
+
+-- ---- the first of two
+pub found_first : (o : Option code.Stop) (a b : Option Stop) → is_some o ≡ true → option_map plain_stop o ≡ a → option_map plain_stop o ≡ first_of a b
+unfolding words
+found_first None a b some e = cc
+found_first (Some s) a b some e = ap (λ q. first_of q b) e
+
+pub none_first : (o : Option code.Stop) (a b : Option Stop) → is_some o ≡ false → option_map plain_stop o ≡ a → b ≡ first_of a b
+unfolding words
+none_first None a b none e = ap (λ q. first_of q b) e
+none_first (Some s) a b none e = cc

@@ -11,7 +11,7 @@ ghost use Rattle.homeo_plan.specs.Each.{Each};
 ghost use Rattle.homeo_plan.specs.Joined.{alone};
 ghost use Rattle.homeo_plan.specs.PlanView.{plain_clause, plain_config, plain_template};
 ghost use Rattle.homeo_plan.specs.Planned.{sites_of, template_at};
-ghost use Rattle.homeo_plan.specs.Template.{Clause};
+ghost use Rattle.homeo_plan.specs.Template.{Clause as PlainClause};
 ghost use Rattle.homeo_split.specs.CanExec.{limit, can_exec_all};
 ghost use Rattle.homeo_effect.specs.OwnState.{own_state};
 ghost use Rattle.homeo_effect.specs.Program.{plain_program, set_after_all, prints_of_all};
@@ -130,7 +130,7 @@ fn new_rooms(alloc: Global, sites: u32, clauses: &[Clause]) -> Result<Vec<Room>,
 /// The configuration that the peaks give.
 fn config_of(alloc: Global, rooms: &[Room]) -> Result<Config, Memory>
     requires { CanBound rooms.now }
-    ensures { (k : ℕ) (vs : List Visit) (cs : List Clause) → HaveRooms k vs cs rooms.now → IfOk result (λ c. plain_config c ≡ peak_config k vs cs) }
+    ensures { (k : ℕ) (vs : List Visit) (cs : List PlainClause) → HaveRooms k vs cs rooms.now → IfOk result (λ c. plain_config c ≡ peak_config k vs cs) }
 {
     let mut bounds = homeo_syntax::List::new(alloc);
     for room in rooms {
@@ -201,7 +201,7 @@ impl Replay {
     /// The configuration that the peaks so far give.
     pub(crate) fn config(&self, alloc: Global) -> Result<Config, Memory>
         requires { CanBound self.now.rooms.items }
-        ensures { (k : ℕ) (vs : List Visit) (cs : List Clause) → HaveRooms k vs cs self.now.rooms.items →
+        ensures { (k : ℕ) (vs : List Visit) (cs : List PlainClause) → HaveRooms k vs cs self.now.rooms.items →
             IfOk result (λ c. plain_config c ≡ peak_config k vs cs) }
     {
         config_of(alloc, self.rooms.as_slice())
