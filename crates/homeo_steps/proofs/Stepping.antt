@@ -13,11 +13,12 @@ use Rattle.homeo_syntax.specs.declared.phrase.Ident.{Ident}
 use Rattle.homeo_syntax.specs.declared.workload.Workload.{Workload}
 use Rattle.homeo_meaning.specs.declared.call.CallId.{CallId}
 use Rattle.homeo_meaning.specs.CallRules.{times}
+use Rattle.homeo_meaning.specs.Initial.{initial}
 use Rattle.homeo_meaning.specs.Declarations.{place_of}
 use Rattle.homeo_history.specs.Answers.{Answer}
 use Rattle.homeo_history.specs.Follows.{Follows}
 use Rattle.homeo_history.specs.History.{History}
-use Rattle.homeo_history.specs.Legal.{IsLegalFrom, call_count}
+use Rattle.homeo_history.specs.Legal.{IsFull, IsLegalFrom, call_count}
 use Rattle.homeo_history.specs.Key.{words as histories}
 use Rattle.homeo_core.specs.CoreView.{CoreValue, core_at, core_history, start_of, next_call, GoesOnBy, IsStep}
 use Rattle.homeo_core.specs.Key.{words as cores}
@@ -181,3 +182,8 @@ none_yet v base x is follows =
       counted = λ n less. ap (λ (y : CoreValue). slice_index_or y.counts (place_of (client_names w) n) 0) is ∙ none_made w.clients (place_of (client_names w) n);
       follows = follows;
     }
+
+-- a history of all calls that is legal from the initial database is full
+pub full_from : (w : s.Workload) (base : List ℤ) (h : History) → base ≡ initial w → IsLegalFrom w base (map (λ (c : s.Client). length c.calls) w.clients) h → IsFull w h
+unfolding histories
+full_from w base h is legal = subst (λ (b : List ℤ). IsLegalFrom w b (map (λ (c : s.Client). length c.calls) w.clients) h) is legal
