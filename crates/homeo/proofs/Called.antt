@@ -11,6 +11,7 @@ few_calls words c.Steps said = tt
 few_calls words c.Run said = tt
 few_calls words c.Tables said = tt
 few_calls words c.Treaty said = tt
+few_calls words (c.Wire number) said = tt
 few_calls words (c.Load number calls) said = said.calls_are.to_most
 
 -- what holds of a command that the words are holds of each that they are

@@ -17,6 +17,7 @@ use Rattle.homeo_words.specs.declared.command.Command.{Command}
 use Rattle.homeo_words.specs.declared.command.Command.TheVariants as c
 use Rattle.homeo_words.proofs.OneCommand.{one_command}
 use Rattle.homeo.specs.Laws.{OneOutput}
+use Rattle.homeo.specs.Wired.{IsWireReport}
 use Rattle.homeo.specs.Outcome.{IsMade, IsScheduledReport, OfText}
 use Rattle.homeo.proofs.Decided.{told_is_given}
 
@@ -42,6 +43,7 @@ one_made c.Steps bytes output output' other o o' = one_of_text purpose.Steps byt
 one_made c.Run bytes output output' other o o' = absurd (other refl)
 one_made c.Tables bytes output output' other o o' = one_of_text purpose.Tables bytes output output' (λ w x. x ≡ tables_text w) (λ w is is'. is ∙ sym is') o o'
 one_made c.Treaty bytes output output' other o o' = one_of_text purpose.Treaty bytes output output' (λ w x. x ≡ treaty_text w) (λ w is is'. is ∙ sym is') o o'
+one_made (c.Wire number) bytes output output' other o o' = one_of_text purpose.Run bytes output output' (λ w x. IsWireReport w number x) (λ w r r'. r.reported ∙ sym r'.reported) o o'
 one_made (c.Load number calls) bytes output output' other o o' = o.determined ∙ sym o'.determined
 
 pub one_output : OneOutput

@@ -3,7 +3,7 @@ use Rattle.std.specs.Prelude.{◌≡◌, ◌+◌, ℕ, List, [], codes}
 use Rattle.homeo_meaning.specs.Verdict.{text_limit}
 use Rattle.homeo_words.specs.Command.{Say}
 use Rattle.homeo_words.specs.declared.command.Command.{Command}
-use Rattle.homeo_words.specs.declared.command.Command.TheVariants.{Steps, Run, Tables, Treaty, Load}
+use Rattle.homeo_words.specs.declared.command.Command.TheVariants.{Steps, Run, Tables, Treaty, Wire, Load}
 use Rattle.homeo.specs.declared.status.Status.{Status}
 use Rattle.homeo.specs.declared.status.Status.TheVariants.{Done, Usage, Refused, Memory, ReadFault, WriteFault}
 
@@ -13,6 +13,7 @@ most_read Steps = text_limit + 1
 most_read Run = text_limit + 1
 most_read Tables = text_limit + 1
 most_read Treaty = text_limit + 1
+most_read (Wire number) = text_limit + 1
 most_read (Load number calls) = 0
 
 -- the words are no command that reads anything
@@ -22,7 +23,7 @@ ReadNothing words = (c : Command) → Say words c → most_read c ≡ 0
 -- the line of a status; that of a refusal has more to say
 abbrev pub line_of : Status → List ℕ
 line_of Done = []
-line_of Usage = codes "usage: homeo steps or run or tables or treaty or load NUMBER CALLS\n"
+line_of Usage = codes "usage: homeo steps or run or tables or treaty or wire NUMBER or load NUMBER CALLS\n"
 line_of Refused = []
 line_of Memory = codes "out of memory\n"
 line_of ReadFault = codes "read fault\n"

@@ -2,3 +2,4 @@ pub mod Command
 pub mod Laws
 pub mod Outcome
 pub mod inner
+pub mod Wired

@@ -1,6 +1,6 @@
 -- What each command makes of what its source gives, what it refuses, and what a run did to its source, output and complaints,
 -- where they tell their bytes.
-use Rattle.std.specs.Prelude.{◌≡◌, ◌≢◌, ◌⊎◌, ℕ, ⊤, List, Some}
+use Rattle.std.specs.Prelude.{◌≡◌, ◌≢◌, ◌≤◌, ◌⊎◌, ℕ, ⊤, List, Some, length}
 use Rattle.std.specs.declared.option.Option.{Option}
 use Rattle.homeo_io.specs.Faults.{Rose}
 use Rattle.homeo_io.specs.Moved.{GaveAll, TookExactly, TookPrefix}
@@ -22,8 +22,10 @@ use Rattle.homeo_load.specs.Load.{load_workload}
 use Rattle.homeo_load.specs.Output.{load_summary}
 use Rattle.homeo_words.specs.Command.{Say}
 use Rattle.homeo_words.specs.declared.command.Command.{Command}
-use Rattle.homeo_words.specs.declared.command.Command.TheVariants.{Steps, Run, Tables, Treaty, Load}
+use Rattle.homeo_words.specs.declared.command.Command.TheVariants.{Steps, Run, Tables, Treaty, Wire, Load}
 use Rattle.homeo.specs.Command.{most_read}
+use Rattle.homeo_wire.specs.Drive.{calls_in}
+use Rattle.homeo.specs.Wired.{IsWireReport, HasExcess}
 
 -- ---- what is made of a workload
 -- the report of a history that is legal for the workload and has all calls of each client
@@ -60,6 +62,7 @@ IsMade Steps left left' output = OfText purpose.Steps left left' (λ w. IsSchedu
 IsMade Run left left' output = OfText purpose.Run left left' (λ w. IsReport w output)
 IsMade Tables left left' output = OfText purpose.Tables left left' (λ w. output ≡ tables_text w)
 IsMade Treaty left left' output = OfText purpose.Treaty left left' (λ w. output ≡ treaty_text w)
+IsMade (Wire number) left left' output = OfText purpose.Run left left' (λ w. IsWireReport w number output)
 IsMade (Load number calls) left left' output = IsLoadOutput number calls output
 
 -- ---- what is refused under a command, and what can be done, a line for each
@@ -69,11 +72,16 @@ IsRefusal Steps text r = IsRefused text purpose.Steps r
 IsRefusal Run text r = IsRefused text purpose.Run r
 IsRefusal Tables text r = IsRefused text purpose.Tables r
 IsRefusal Treaty text r = IsRefused text purpose.Treaty r
+IsRefusal (Wire number) text r = IsRefused text purpose.Run r ⊎ HasExcess text r
 IsRefusal (Load number calls) bytes r = ⊥
 
 -- the source tells a text that is accepted for this purpose
 abbrev pub TellsText : Purpose → Option (List ℕ) → Type 0
 TellsText p left = (text : List ℕ) × (w : s.Workload) × (left ≡ Some text) × Accepts text p w
+
+-- the source tells a text that is accepted and has at most 200 calls
+abbrev pub TellsFewCalls : Option (List ℕ) → Type 0
+TellsFewCalls left = (text : List ℕ) × (w : s.Workload) × (left ≡ Some text) × Accepts text purpose.Run w × (length (calls_in w) ≤ 200)
 
 -- what the source tells can be done under a command
 abbrev pub CanBeDone : Command → Option (List ℕ) → Type 0
@@ -81,6 +89,7 @@ CanBeDone Steps left = TellsText purpose.Steps left
 CanBeDone Run left = TellsText purpose.Run left
 CanBeDone Tables left = TellsText purpose.Tables left
 CanBeDone Treaty left = TellsText purpose.Treaty left
+CanBeDone (Wire number) left = TellsFewCalls left
 CanBeDone (Load number calls) left = ⊤
 
 -- a command that reads refuses so what the source told

@@ -18,6 +18,7 @@ use crate::load::load;
 use crate::stop::Stop;
 use crate::tables::tables;
 use crate::treaty::treaty;
+use crate::wire::wire;
 use homeo_accept::{TextRefusal, accepted};
 use homeo_build::compile::compile;
 use homeo_cluster::Gate;
@@ -62,6 +63,7 @@ pub(crate) fn output_of<R: Threads + Wait + Sync, S: Source, G: Gate>(
         Command::Run => run_report(rt, alloc, text_of(alloc, source, Purpose::Run)?, gate)?,
         Command::Tables => tables(alloc, text_of(alloc, source, Purpose::Tables)?)?,
         Command::Treaty => treaty(alloc, text_of(alloc, source, Purpose::Treaty)?)?,
+        Command::Wire { number } => wire(alloc, text_of(alloc, source, Purpose::Run)?, number)?,
         Command::Load { number, calls } => load(rt, alloc, number, calls, gate)?,
     };
     Ok(output)

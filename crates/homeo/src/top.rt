@@ -29,6 +29,8 @@ use std::thread::Threads;
 /// - `run` runs the calls of each client of a text in work of its own, and writes the report;
 /// - `tables` writes the symbolic tables of a text's ground calls, and their joint table;
 /// - `treaty` writes the treaties at a text's initial database;
+/// - `wire NUMBER` runs the calls of a text at nodes that send each other packets, by the events that the number chooses, and writes
+///   the report of the calls that were made;
 /// - `load NUMBER CALLS` reads nothing. It makes a workload of so many calls from the number, runs it as `run` does, and writes its
 ///   summary.
 ///

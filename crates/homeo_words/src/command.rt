@@ -22,6 +22,8 @@ pub enum Command {
     Tables,
     /// Writes the treaties at the initial database.
     Treaty,
+    /// Runs the calls at nodes that send each other packets, by the events that a number chooses, and writes the report.
+    Wire { number: u64 },
     /// Makes the load that starts at a number and has so many calls, from 1 to 20,000, runs it as `Run` does, and writes the
     /// summary.
     Load { number: u64, calls: u32 },
@@ -43,6 +45,14 @@ impl Command {
         } else {
             None
         }
+    }
+
+    /// The command of the word behind `wire`.
+    pub(crate) fn wire(number: &str) -> Option<Command>
+        ensures { (c : Command) → (result ≡ Some c) ↔ Say (codes "wire" ∷ number.now ∷ []) c }
+    {
+        let number = numeral(number, 0, u64::MAX)?;
+        Some(Command::Wire { number })
     }
 
     /// The command of the two words behind `load`.
