@@ -1,8 +1,9 @@
 -- The events that a number chooses, as the code makes them: what is left of a list of events once the first of them were made.
 use Rattle.homeo_syntax.specs.Key.{words as source_words}
 use Rattle.homeo_wire.specs.Key.{words}
-use Rattle.std.proofs.Common.{◌≡◌, ℕ, zero, suc, ◌+◌, ◌<◌, ◌≤◌, get_or, nat_lt, List, [], ◌∷◌, ◌++◌, map, length, take, drop, Bool, true, false, cond, Option, Some, None, refl, sym, ap, subst, ◌∙◌, arith, slice_set}
-use Rattle.std.specs.Prelude.{slice_get, ◌||◌, option_map}
+use Rattle.std.proofs.Common.{◌≡◌, ℕ, zero, suc, ◌+◌, ◌<◌, ◌≤◌, get_or, nat_lt, List, [], ◌∷◌, ◌++◌, map, length, take, drop, Bool, true, false, cond, Option, Some, None, Result, Ok, Err, refl, sym, ap, subst, ◌∙◌, arith, slice_set}
+use Rattle.std.specs.Prelude.{slice_get, ◌||◌, option_map, OnOk}
+use Rattle.std.proofs.lemmas.Bool.Decides.{nat_tests}
 use Rattle.std.specs.List.{range_with_len, list_any, flat_map}
 use Rattle.std.proofs.lemmas.List.{length-append, length-map}
 use Rattle.std.proofs.lemmas.List.FromFn.{map-range_with_len_more}
@@ -11,7 +12,7 @@ use Rattle.homeo_syntax.specs.SourceView.{plain_call, plain_client}
 use Rattle.homeo_syntax.specs.declared.workload.Client.{Client}
 use Rattle.homeo_syntax.specs.declared.workload.Call.{Call as CallText}
 use Rattle.homeo_plan.specs.Planned.{sites_of}
-use Rattle.homeo_history.proofs.Lists.{get_map}
+use Rattle.homeo_history.proofs.Lists.{get_map, range_more}
 use Rattle.homeo_draws.specs.Draws.{next_state, drawn}
 use Rattle.homeo_wire.specs.declared.events.Event.{Event}
 use Rattle.homeo_wire.specs.declared.events.Event.TheVariants.{Call, Deliver}
@@ -98,15 +99,8 @@ module _ (test : ℕ → Bool) where
       or_three true b c = refl
       or_three false b c = refl
 
-  range_more : (a n : ℕ) → range_with_len a (n + 1) ≡ range_with_len a n ++ (a + n) ∷ []
-  range_more a n = sym (map_same (range_with_len a (n + 1))) ∙ map-range_with_len_more (λ x. x) a n (a + n) refl ∙ ap (λ xs. xs ++ (a + n) ∷ []) (map_same (range_with_len a n))
-    where
-      map_same : (xs : List ℕ) → map (λ x. x) xs ≡ xs
-      map_same [] = refl
-      map_same (x ∷ xs) = ap (λ l. x ∷ l) (map_same xs)
-
   pub none_next : (i : ℕ) → list_any test (range_with_len 0 i) ≡ false → test i ≡ false → list_any test (range_with_len 0 (i + 1)) ≡ false
-  none_next i none no = ap (list_any test) (range_more 0 i) ∙ any_append (range_with_len 0 i) i ∙ (λ k. none k || no k)
+  none_next i none no = ap (list_any test) (ap (range_with_len 0) (let h : i + 1 ≡ suc i = omega arith in h) ∙ range_more 0 i) ∙ any_append (range_with_len 0 i) i ∙ (λ k. none k || no k)
 
   any_from : (a n i : ℕ) → i < n → test (a + i) ≡ true → list_any test (range_with_len a n) ≡ true
   any_from a zero i lt yes = absurd (omega (arith, lt))
@@ -122,6 +116,14 @@ module _ (test : ℕ → Bool) where
   any_here n i lt yes = any_from 0 n i lt yes
 
 -- ---- the calls of all clients
+append_none : {X : Type 0} (xs : List X) → xs ++ [] ≡ xs
+append_none [] = refl
+append_none (x ∷ xs) = ap (λ l. x ∷ l) (append_none xs)
+
+assoc : {X : Type 0} (xs ys zs : List X) → xs ++ (ys ++ zs) ≡ (xs ++ ys) ++ zs
+assoc [] ys zs = refl
+assoc (x ∷ xs) ys zs = ap (λ l. x ∷ l) (assoc xs ys zs)
+
 abbrev pub calls_of : List Client → List s.Call
 calls_of clients = flat_map (λ (client : s.Client). client.calls) (map plain_client clients)
 
@@ -130,17 +132,9 @@ unfolding source_words
 calls_suc [] i client lt e = absurd (omega (arith, lt))
 calls_suc (c ∷ clients) zero client lt e =
     (calls_of clients, (ap (λ (x : Client). map plain_call x.calls.items ++ calls_of clients) (sym e), ap (λ (x : Client). map plain_call x.calls.items ++ []) (sym e) ∙ append_none (map plain_call client.calls.items)))
-  where
-    append_none : (xs : List s.Call) → xs ++ [] ≡ xs
-    append_none [] = refl
-    append_none (x ∷ xs) = ap (λ l. x ∷ l) (append_none xs)
 calls_suc (c ∷ clients) (suc i) client lt e =
     let h = calls_suc clients i client (omega (arith, lt)) e in
     (h.0, (ap (λ l. map plain_call c.calls.items ++ l) h.1.0 ∙ assoc (map plain_call c.calls.items) (calls_of (take i clients)) (map plain_call client.calls.items ++ h.0), ap (λ l. map plain_call c.calls.items ++ l) h.1.1 ∙ assoc (map plain_call c.calls.items) (calls_of (take i clients)) (map plain_call client.calls.items)))
-  where
-    assoc : (xs ys zs : List s.Call) → xs ++ (ys ++ zs) ≡ (xs ++ ys) ++ zs
-    assoc [] ys zs = refl
-    assoc (x ∷ xs) ys zs = ap (λ l. x ∷ l) (assoc xs ys zs)
 
 pub calls_next : (clients : List Client) (i : ℕ) (client : Client) → i < length clients → client ≡ get_or clients i client → length (calls_of (take (i + 1) clients)) ≡ length (calls_of (take i clients)) + length client.calls.items
 calls_next clients i client lt e =
@@ -166,3 +160,22 @@ call_among clients i client lt e place call here =
     ap (λ l. slice_get l (length (calls_of (take i clients)) + place)) h.1.0
     ∙ get_past_left (calls_of (take i clients)) (map plain_call client.calls.items ++ h.0) place
     ∙ get_in_left (map plain_call client.calls.items) h.0 place (plain_call call) (get_map plain_call client.calls.items place call here)
+
+pub on_ok_map : {T E : Type 0} (r : Result T E) (P Q : Type 0) → (P → Q) → OnOk r P → OnOk r Q
+on_ok_map (Ok x) P Q f h = f h
+on_ok_map (Err e) P Q f h = tt
+
+-- ---- a count that is left, and what is missing of a count
+pub lacks_some : (left count all : ℕ) → left + count ≡ all → 0 < left → nat_lt count all ≡ true
+lacks_some left count all sum some = by (nat_lt count all) refl
+  where
+    by : (t : Bool) → nat_lt count all ≡ t → nat_lt count all ≡ true
+    by true e = e
+    by false e = absurd (let lt : count < all = omega (arith, sum, some) in let never : ⊥ = grind (arith, nat_tests) in never)
+
+pub lacks_none : (left count all : ℕ) → left + count ≡ all → (0 < left → ⊥) → nat_lt count all ≡ false
+lacks_none left count all sum none = by (nat_lt count all) refl
+  where
+    by : (t : Bool) → nat_lt count all ≡ t → nat_lt count all ≡ false
+    by false e = e
+    by true e = absurd (let lt : count < all = grind (arith, nat_tests) in none (omega (arith, lt, sum)))

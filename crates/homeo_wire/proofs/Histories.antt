@@ -7,22 +7,23 @@ use Rattle.std.specs.Prelude.{slice_get, find, filter, ◌==◌}
 use Rattle.std.proofs.lemmas.List.{length-map, map-append, take-map}
 use Rattle.homeo_history.specs.History.{Round, History}
 use Rattle.homeo_site.specs.SiteState.{SiteState}
-use Rattle.homeo_core.specs.Joined.{gathered}
+use Rattle.homeo_core.specs.Joined.{plus_deltas, gathered}
 use Rattle.homeo_wire.specs.declared.node.Left.{Left}
 use Rattle.homeo_wire.specs.declared.node.Node.{Node}
 use Rattle.homeo_wire.specs.Nodes as n
 use Rattle.homeo_wire.specs.Read.{ran_in, rounds_left, sites_in}
 use Rattle.homeo_wire.specs.WireView.{plain_left, plain_journal}
 use Rattle.homeo_wire.proofs.Places.{test_true, test_false, cond_true, cond_false}
+use Rattle.homeo_wire.proofs.StateLists.{take_past}
 
 -- ---- the first items and one more
+take_suc : {X : Type 0} (xs : List X) (i : ℕ) (x : X) → i < length xs → x ≡ get_or xs i x → take (suc i) xs ≡ take i xs ++ x ∷ []
+take_suc [] i x lt e = absurd (omega (arith, lt))
+take_suc (y ∷ xs) zero x lt e = ap (λ z. z ∷ []) (sym e)
+take_suc (y ∷ xs) (suc i) x lt e = ap (λ l. y ∷ l) (take_suc xs i x (omega (arith, lt)) e)
+
 pub take_next : {X : Type 0} (xs : List X) (i : ℕ) (x : X) → i < length xs → x ≡ get_or xs i x → take (i + 1) xs ≡ take i xs ++ x ∷ []
-take_next xs i x lt e = ap (λ m. take m xs) (let h : i + 1 ≡ suc i = omega arith in h) ∙ by xs i lt e
-  where
-    by : (ys : List _) (k : ℕ) → k < length ys → x ≡ get_or ys k x → take (suc k) ys ≡ take k ys ++ x ∷ []
-    by [] k lt e = absurd (omega (arith, lt))
-    by (y ∷ ys) zero lt e = ap (λ z. z ∷ []) (sym e)
-    by (y ∷ ys) (suc k) lt e = ap (λ l. y ∷ l) (by ys k (omega (arith, lt)) e)
+take_next xs i x lt e = ap (λ m. take m xs) (let h : i + 1 ≡ suc i = omega arith in h) ∙ take_suc xs i x lt e
 
 pub long_take : {X : Type 0} (xs : List X) (i : ℕ) → i < length xs → length (take i xs) ≡ i
 long_take [] i lt = absurd (omega (arith, lt))
@@ -30,10 +31,6 @@ long_take (x ∷ xs) zero lt = refl
 long_take (x ∷ xs) (suc i) lt = ap suc (long_take xs i (omega (arith, lt)))
 
 -- ---- rounds that a node has left
-pub round_of : List n.Journal → ℕ → n.Left → Round
-unfolding words
-round_of js k l = record { base = l.base; segments = map (ran_in k) js; closing = Some l.closing }
-
 left_append : (js : List n.Journal) (k m : ℕ) (left : List n.Left) (l : n.Left) → m ≡ k + length left → rounds_left js k (left ++ l ∷ []) ≡ rounds_left js k left ++ record { base = l.base; segments = map (ran_in m) js; closing = Some l.closing } ∷ []
 unfolding words
 left_append js k m [] l e = ap (λ j. record { base = l.base; segments = map (ran_in j) js; closing = Some l.closing } ∷ []) (let h : k ≡ m = omega (arith, e) in h)
@@ -53,17 +50,13 @@ unfolding core_words
 gathered_append base [] ys = refl
 gathered_append base (x ∷ xs) ys = gathered_append _ xs ys
 
+cond_append : {X : Type 0} (t : Bool) (x : X) (all some more : List X) → all ≡ some ++ more → cond t (x ∷ all) all ≡ cond t (x ∷ some) some ++ more
+cond_append true x all some more e = ap (λ l. x ∷ l) e
+cond_append false x all some more e = e
+
 filter_append : {X : Type 0} (test : X → Bool) (xs ys : List X) → filter test (xs ++ ys) ≡ filter test xs ++ filter test ys
 filter_append test [] ys = refl
-filter_append test (x ∷ xs) ys = by (test x) refl
-  where
-    by : (t : Bool) → test x ≡ t → cond (test x) (x ∷ filter test (xs ++ ys)) (filter test (xs ++ ys)) ≡ cond (test x) (x ∷ filter test xs) (filter test xs) ++ filter test ys
-    by true e =
-        cond_true (test x) (x ∷ filter test (xs ++ ys)) (filter test (xs ++ ys)) e ∙ ap (λ l. x ∷ l) (filter_append test xs ys)
-        ∙ ap (λ l. l ++ filter test ys) (sym (cond_true (test x) (x ∷ filter test xs) (filter test xs) e))
-    by false e =
-        cond_false (test x) (x ∷ filter test (xs ++ ys)) (filter test (xs ++ ys)) e ∙ filter_append test xs ys
-        ∙ ap (λ l. l ++ filter test ys) (sym (cond_false (test x) (x ∷ filter test xs) (filter test xs) e))
+filter_append test (x ∷ xs) ys = cond_append (test x) x (filter test (xs ++ ys)) (filter test xs) (filter test ys) (filter_append test xs ys)
 
 -- one node more
 pub last_more : (base : List ℤ) (round : ℕ) (nodes : List Node) (i : ℕ) (x : Node) → i < length nodes → x ≡ get_or nodes i x → gathered base (sites_in round (map plain_journal (take (i + 1) nodes))) ≡ gathered (gathered base (sites_in round (map plain_journal (take i nodes)))) (sites_in round (plain_journal x ∷ []))
@@ -76,13 +69,14 @@ last_more base round nodes i x lt e =
     ∙ gathered_append base (filter (λ (y : SiteState). y.round == round) (map (λ (j : n.Journal). j.site) (map plain_journal (take i nodes)))) (filter (λ (y : SiteState). y.round == round) (x.site.state ∷ []))
 
 -- ---- the first node that is in the last round
+find_suc : (test : n.Journal → Bool) (nodes : List Node) (i : ℕ) (x : Node) → i < length nodes → x ≡ get_or nodes i x → test (plain_journal x) ≡ false → find test (map plain_journal (drop i nodes)) ≡ find test (map plain_journal (drop (suc i) nodes))
+find_suc test [] i x lt e no = absurd (omega (arith, lt))
+find_suc test (y ∷ nodes) zero x lt e no =
+    cond_false (test (plain_journal y)) (Some (plain_journal y)) (find test (map plain_journal nodes)) (ap (λ z. test (plain_journal z)) (sym e) ∙ no)
+find_suc test (y ∷ nodes) (suc i) x lt e no = find_suc test nodes i x (omega (arith, lt)) e no
+
 pub find_next : (test : n.Journal → Bool) (nodes : List Node) (i : ℕ) (x : Node) → i < length nodes → x ≡ get_or nodes i x → test (plain_journal x) ≡ false → find test (map plain_journal (drop i nodes)) ≡ find test (map plain_journal (drop (i + 1) nodes))
-find_next test nodes i x lt e no = by nodes i lt e ∙ ap (λ k. find test (map plain_journal (drop k nodes))) (let h : suc i ≡ i + 1 = omega arith in h)
-  where
-    by : (ys : List Node) (k : ℕ) → k < length ys → x ≡ get_or ys k x → find test (map plain_journal (drop k ys)) ≡ find test (map plain_journal (drop (suc k) ys))
-    by [] k lt e = absurd (omega (arith, lt))
-    by (y ∷ ys) zero lt e = cond_false (test (plain_journal y)) (Some (plain_journal y)) (find test (map plain_journal ys)) (ap (λ z. test (plain_journal z)) (sym e) ∙ no)
-    by (y ∷ ys) (suc k) lt e = by ys k (omega (arith, lt)) e
+find_next test nodes i x lt e no = find_suc test nodes i x lt e no ∙ ap (λ k. find test (map plain_journal (drop k nodes))) (let h : suc i ≡ i + 1 = omega arith in h)
 
 pub find_here : (test : n.Journal → Bool) (nodes : List Node) (i : ℕ) (x : Node) → i < length nodes → x ≡ get_or nodes i x → test (plain_journal x) ≡ true → find test (map plain_journal (drop i nodes)) ≡ Some (plain_journal x)
 find_here test [] i x lt e yes = absurd (omega (arith, lt))
@@ -95,3 +89,27 @@ find_end test [] zero le = refl
 find_end test [] (suc i) le = refl
 find_end test (y ∷ nodes) zero le = absurd (omega (arith, le))
 find_end test (y ∷ nodes) (suc i) le = find_end test nodes i (omega (arith, le))
+
+-- ---- one node
+pub one_in : (values : List ℤ) (round : ℕ) (x : Node) → x.site.state.round ≡ round → gathered values (sites_in round (plain_journal x ∷ [])) ≡ plus_deltas values x.site.state.deltas
+unfolding words core_words
+one_in values round x same =
+    ap (gathered values) (cond_true (eqb x.site.state.round round) (x.site.state ∷ []) [] (test_true x.site.state.round round same))
+
+pub one_out : (values : List ℤ) (round : ℕ) (x : Node) → (x.site.state.round ≡ round → ⊥) → gathered values (sites_in round (plain_journal x ∷ [])) ≡ values
+unfolding words core_words
+one_out values round x other =
+    ap (gathered values) (cond_false (eqb x.site.state.round round) (x.site.state ∷ []) [] (test_false x.site.state.round round other))
+
+pub last_none : (base : List ℤ) (round : ℕ) (nodes : List Node) → base ≡ gathered base (sites_in round (map plain_journal (take 0 nodes)))
+unfolding words core_words
+last_none base round [] = refl
+last_none base round (x ∷ nodes) = refl
+
+pub last_all : (base : List ℤ) (round : ℕ) (nodes : List Node) (i : ℕ) → length nodes ≤ i → gathered base (sites_in round (map plain_journal (take i nodes))) ≡ gathered base (sites_in round (map plain_journal nodes))
+last_all base round nodes i le = ap (λ ns. gathered base (sites_in round (map plain_journal ns))) (take_past nodes i le)
+
+pub left_none : (js : List n.Journal) (left : List Left) → [] ≡ rounds_left js 0 (map plain_left (take 0 left))
+unfolding words
+left_none js [] = refl
+left_none js (l ∷ left) = refl

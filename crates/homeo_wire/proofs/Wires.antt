@@ -48,7 +48,7 @@ use Rattle.homeo_wire.specs.WireView.{plain_packet, plain_step, plain_left, plai
 use Rattle.homeo_wire.proofs.Courses.{caught_up, up_here, up_behind, sites_then}
 use Rattle.homeo_wire.proofs.Happening.{IsHeld}
 use Rattle.homeo_wire.proofs.NodeViews.{idle_is, received_other, received_own}
-use Rattle.homeo_wire.proofs.Places.{map_set_same, test_true, test_false, is_true, cond_true, cond_false}
+use Rattle.homeo_wire.proofs.Places.{map_set, map_set_same, test_true, test_false, is_true, cond_true, cond_false}
 use Rattle.homeo_wire.proofs.Reading.{read_is, counts_are, last_is, first_then, base_up}
 use Rattle.homeo_wire.proofs.Ready.{ready, can_take}
 use Rattle.homeo_wire.proofs.Sending.{Sent, sent_at}
@@ -74,13 +74,8 @@ module _ (nodes : List Node) (before after : List Packet) (i : ℕ) (x x' : Node
       (λ k. record { nodes = (map_set_plain k); packets = r.sends k })
       ∙ ap (λ o. (n.reacts (world_of nodes before) i o f).world) (sym there)
     where
-      set_map : (xs : List Node) (k : ℕ) (y : Node) → map plain_node (slice_set xs k y) ≡ slice_set (map plain_node xs) k (plain_node y)
-      set_map [] k y = refl
-      set_map (z ∷ xs) zero y = refl
-      set_map (z ∷ xs) (suc k) y = ap (λ l. plain_node z ∷ l) (set_map xs k y)
-
       map_set_plain : map plain_node (slice_set nodes i x') ≡ slice_set (map plain_node nodes) i (f (plain_node x)).node
-      map_set_plain = set_map nodes i x' ∙ ap (slice_set (map plain_node nodes) i) r.node
+      map_set_plain = map_set plain_node nodes i x' ∙ ap (slice_set (map plain_node nodes) i) r.node
 
   pub reacted_step : plain_step s ≡ (n.at_node (world_of nodes before) i f).step
   unfolding words

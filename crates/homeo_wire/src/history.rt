@@ -144,10 +144,18 @@ fn last_values(
     ensures { IfOk result (λ d. d.items ≡ gathered base.now (sites_in round (map plain_journal nodes.now))) }
 {
     let mut sum = Vec::from_slice(alloc, base)?;
-    for node in nodes {
-        add_node(sum.as_mut_slice(), node, round);
-    }
+    add_nodes(sum.as_mut_slice(), nodes, round);
     Ok(List::from_vec(sum))
+}
+
+/// Adds the deltas of the nodes that are in a round to values.
+fn add_nodes(values: &mut [i64], nodes: &[Node], round: u64)
+    requires { LastFits values.old round (map plain_journal nodes.now) }
+    ensures { values.new ≡ gathered values.old (sites_in round (map plain_journal nodes.now)) }
+{
+    for node in nodes {
+        add_node(values, node, round);
+    }
 }
 
 /// The history by a node that is in the last round.

@@ -2,6 +2,7 @@
 
 ghost use Rattle.std.specs.Prelude.{◌≡◌, ◌+◌, ◌<◌, Some, All, length, map, replicate, slice_get, slice_index_or, IfOk, OnOk, OnErr};
 ghost use Rattle.homeo_syntax.specs.SourceView.{plain_workload};
+ghost use Rattle.homeo_meaning.specs.Acceptance.{IsAccepted};
 ghost use Rattle.homeo_meaning.specs.Bounds.{IsWithin};
 ghost use Rattle.homeo_meaning.specs.Initial.{initial};
 ghost use Rattle.homeo_meaning.specs.Schema.{schema_of};
@@ -194,12 +195,14 @@ impl Wire {
 fn first_nodes(alloc: Global, c: &Arc<Compiled>) -> Result<Vec<Node>, Memory>
     ensures nodes { IfOk result (λ n. map plain_node n.items ≡ (at_start (plain_workload c.now.value)).nodes) }
     ensures each { IfOk result (λ n. All (IsNode c.now.value) n.items) }
+    ensures accepted { IsAccepted (plain_workload c.now.value) }
 {
+    let clients = client_count(c.workload());
     let base = initial(alloc, c.workload())?;
     let plan = plan_at(alloc, c, &base)?;
     let mut nodes = Vec::new(alloc);
     for site in 0..site_count(c.workload()) {
-        let node = first_node(alloc, c, &plan, &base, site)?;
+        let node = first_node(alloc, c, &plan, &base, clients, site)?;
         nodes.push(node)?;
     }
     Ok(nodes)
@@ -211,19 +214,21 @@ fn first_node(
     c: &Arc<Compiled>,
     plan: &Arc<RoundPlan>,
     base: &Database,
+    clients: u64,
     site: u32,
 ) -> Result<Node, Memory>
     requires plan { IsPlanOf (plain_workload c.now.value) plan.now.value.base.items plan.now.value }
     requires policy { plain_config plan.now.value.config ≡ policy (plain_workload c.now.value) plan.now.value.base.items }
     requires at { plan.now.value.base.items ≡ initial (plain_workload c.now.value) }
     requires base { base.now.items ≡ initial (plain_workload c.now.value) }
+    requires clients { clients ≡ length (plain_workload c.now.value).clients }
     requires site { site < sites_of (plain_workload c.now.value) }
     ensures node { IfOk result (λ n. plain_node n ≡ in_round (plain_workload c.now.value) (first_journal (plain_workload c.now.value) site)) }
     ensures is { IfOk result (IsNode c.now.value) }
 {
     let start = SiteStart::new(alloc, c, plan, site, 0)?;
     let base = copy_values(alloc, base.as_slice())?;
-    let made = no_calls(alloc, client_count(c.workload()))?;
+    let made = no_calls(alloc, clients)?;
     let states = no_states(alloc, site_count(c.workload()))?;
     Ok(Node {
         site: Site::begin(start),
