@@ -18,6 +18,7 @@ use Rattle.homeo_wire.specs.declared.events.Event.{Event}
 use Rattle.homeo_wire.specs.declared.events.Event.TheVariants.{Call, Deliver}
 use Rattle.homeo_wire.specs.Drive.{chosen_event, turns, all_to, to_sites, sweeps, call_of_each, has_left, until_made}
 use Rattle.homeo_wire.specs.Nodes.{Node, Packet, Reaction, World, reacts, at_node, calls, delivers, happens, after}
+use Rattle.homeo_wire.proofs.StateLists.{take_past}
 use Rattle.homeo_wire.proofs.Wires.{after_append}
 
 -- ---- lists of events
@@ -31,7 +32,7 @@ module _ (w : s.Workload) where
   one_more f x y z i is then =
       then ∙ ap (λ v. (happens w v (f i)).world) is
       ∙ sym (after_append w (map f (range_with_len 0 i)) (f i ∷ []) x)
-      ∙ ap (λ es. after w es x) (sym (map-range_with_len_more f 0 i i refl))
+      ∙ ap (λ es. after w es x) (sym (map-range_with_len_more f 0 i i (let h : 0 + i ≡ i = omega arith in h)))
 
   pub turn_next : (x y : World) (state n : ℕ) → y ≡ after w (chosen_event w x (drawn (next_state state)) (drawn (next_state (next_state state)))) x → after w (turns w x state (suc n)) x ≡ after w (turns w y (next_state (next_state state)) n) y
   unfolding words
@@ -100,20 +101,23 @@ module _ (test : ℕ → Bool) where
       or_three false b c = refl
 
   pub none_next : (i : ℕ) → list_any test (range_with_len 0 i) ≡ false → test i ≡ false → list_any test (range_with_len 0 (i + 1)) ≡ false
-  none_next i none no = ap (list_any test) (ap (range_with_len 0) (let h : i + 1 ≡ suc i = omega arith in h) ∙ range_more 0 i) ∙ any_append (range_with_len 0 i) i ∙ (λ k. none k || no k)
+  none_next i none fails =
+      let last : test (0 + i) ≡ false = ap test (let h : 0 + i ≡ i = omega arith in h) ∙ fails in
+      ap (list_any test) (ap (range_with_len 0) (let h : i + 1 ≡ suc i = omega arith in h) ∙ range_more 0 i)
+      ∙ any_append (range_with_len 0 i) (0 + i) ∙ (λ k. none k || last k)
 
   any_from : (a n i : ℕ) → i < n → test (a + i) ≡ true → list_any test (range_with_len a n) ≡ true
-  any_from a zero i lt yes = absurd (omega (arith, lt))
-  any_from a (suc n) zero lt yes = ap (λ t. t || list_any test (range_with_len (a + 1) n)) (ap test (let h : a ≡ a + zero = omega arith in h) ∙ yes)
-  any_from a (suc n) (suc i) lt yes =
-      ap (λ t. test a || t) (any_from (a + 1) n i (omega (arith, lt)) (ap test (let h : (a + 1) + i ≡ a + suc i = omega arith in h) ∙ yes)) ∙ or_true (test a)
+  any_from a zero i lt passes = absurd (omega (arith, lt))
+  any_from a (suc n) zero lt passes = ap (λ t. t || list_any test (range_with_len (a + 1) n)) (ap test (let h : a ≡ a + zero = omega arith in h) ∙ passes)
+  any_from a (suc n) (suc i) lt passes =
+      ap (λ t. test a || t) (any_from (a + 1) n i (omega (arith, lt)) (ap test (let h : (a + 1) + i ≡ a + suc i = omega arith in h) ∙ passes)) ∙ or_true (test a)
     where
       or_true : (t : Bool) → (t || true) ≡ true
       or_true true = refl
       or_true false = refl
 
   pub any_here : (n i : ℕ) → i < n → test i ≡ true → list_any test (range_with_len 0 n) ≡ true
-  any_here n i lt yes = any_from 0 n i lt yes
+  any_here n i lt passes = any_from 0 n i lt (ap test (let h : 0 + i ≡ i = omega arith in h) ∙ passes)
 
 -- ---- the calls of all clients
 append_none : {X : Type 0} (xs : List X) → xs ++ [] ≡ xs
@@ -145,8 +149,9 @@ calls_next clients i client lt e =
     ∙ ap (λ k. length (calls_of (take i clients)) + k) (length-map client.calls.items plain_call)
 
 get_past_left : {X : Type 0} (xs ys : List X) (i : ℕ) → slice_get (xs ++ ys) (length xs + i) ≡ slice_get ys i
-get_past_left [] ys i = refl
-get_past_left (x ∷ xs) ys i = get_past_left xs ys i
+get_past_left [] ys i = ap (slice_get ys) (let h : 0 + i ≡ i = omega arith in h)
+get_past_left (x ∷ xs) ys i =
+    ap (slice_get (x ∷ (xs ++ ys))) (let h : suc (length xs) + i ≡ suc (length xs + i) = omega arith in h) ∙ get_past_left xs ys i
 
 get_in_left : {X : Type 0} (xs ys : List X) (i : ℕ) (x : X) → slice_get xs i ≡ Some x → slice_get (xs ++ ys) i ≡ Some x
 get_in_left [] ys i x e = absurd (cc)
@@ -179,3 +184,10 @@ lacks_none left count all sum none = by (nat_lt count all) refl
     by : (t : Bool) → nat_lt count all ≡ t → nat_lt count all ≡ false
     by false e = e
     by true e = absurd (let lt : count < all = grind (arith, nat_tests) in none (omega (arith, lt, sum)))
+
+pub calls_none : (clients : List Client) → 0 ≡ length (calls_of (take 0 clients))
+calls_none [] = refl
+calls_none (c ∷ clients) = refl
+
+pub calls_all : (clients : List Client) (i : ℕ) → length clients ≤ i → calls_of (take i clients) ≡ calls_of clients
+calls_all clients i le = ap calls_of (take_past clients i le)

@@ -48,7 +48,7 @@ left_next js left i l lt e =
 gathered_append : (base : List ℤ) (xs ys : List SiteState) → gathered base (xs ++ ys) ≡ gathered (gathered base xs) ys
 unfolding core_words
 gathered_append base [] ys = refl
-gathered_append base (x ∷ xs) ys = gathered_append _ xs ys
+gathered_append base (x ∷ xs) ys = gathered_append (plus_deltas base x.deltas) xs ys
 
 cond_append : {X : Type 0} (t : Bool) (x : X) (all some more : List X) → all ≡ some ++ more → cond t (x ∷ all) all ≡ cond t (x ∷ some) some ++ more
 cond_append true x all some more e = ap (λ l. x ∷ l) e
@@ -70,19 +70,19 @@ last_more base round nodes i x lt e =
 
 -- ---- the first node that is in the last round
 find_suc : (test : n.Journal → Bool) (nodes : List Node) (i : ℕ) (x : Node) → i < length nodes → x ≡ get_or nodes i x → test (plain_journal x) ≡ false → find test (map plain_journal (drop i nodes)) ≡ find test (map plain_journal (drop (suc i) nodes))
-find_suc test [] i x lt e no = absurd (omega (arith, lt))
-find_suc test (y ∷ nodes) zero x lt e no =
-    cond_false (test (plain_journal y)) (Some (plain_journal y)) (find test (map plain_journal nodes)) (ap (λ z. test (plain_journal z)) (sym e) ∙ no)
-find_suc test (y ∷ nodes) (suc i) x lt e no = find_suc test nodes i x (omega (arith, lt)) e no
+find_suc test [] i x lt e fails = absurd (omega (arith, lt))
+find_suc test (y ∷ nodes) zero x lt e fails =
+    cond_false (test (plain_journal y)) (Some (plain_journal y)) (find test (map plain_journal nodes)) (ap (λ z. test (plain_journal z)) (sym e) ∙ fails)
+find_suc test (y ∷ nodes) (suc i) x lt e fails = find_suc test nodes i x (omega (arith, lt)) e fails
 
 pub find_next : (test : n.Journal → Bool) (nodes : List Node) (i : ℕ) (x : Node) → i < length nodes → x ≡ get_or nodes i x → test (plain_journal x) ≡ false → find test (map plain_journal (drop i nodes)) ≡ find test (map plain_journal (drop (i + 1) nodes))
-find_next test nodes i x lt e no = find_suc test nodes i x lt e no ∙ ap (λ k. find test (map plain_journal (drop k nodes))) (let h : suc i ≡ i + 1 = omega arith in h)
+find_next test nodes i x lt e fails = find_suc test nodes i x lt e fails ∙ ap (λ k. find test (map plain_journal (drop k nodes))) (let h : suc i ≡ i + 1 = omega arith in h)
 
 pub find_here : (test : n.Journal → Bool) (nodes : List Node) (i : ℕ) (x : Node) → i < length nodes → x ≡ get_or nodes i x → test (plain_journal x) ≡ true → find test (map plain_journal (drop i nodes)) ≡ Some (plain_journal x)
-find_here test [] i x lt e yes = absurd (omega (arith, lt))
-find_here test (y ∷ nodes) zero x lt e yes =
-    cond_true (test (plain_journal y)) (Some (plain_journal y)) (find test (map plain_journal nodes)) (ap (λ z. test (plain_journal z)) (sym e) ∙ yes) ∙ ap (λ z. Some (plain_journal z)) (sym e)
-find_here test (y ∷ nodes) (suc i) x lt e yes = find_here test nodes i x (omega (arith, lt)) e yes
+find_here test [] i x lt e passes = absurd (omega (arith, lt))
+find_here test (y ∷ nodes) zero x lt e passes =
+    cond_true (test (plain_journal y)) (Some (plain_journal y)) (find test (map plain_journal nodes)) (ap (λ z. test (plain_journal z)) (sym e) ∙ passes) ∙ ap (λ z. Some (plain_journal z)) (sym e)
+find_here test (y ∷ nodes) (suc i) x lt e passes = find_here test nodes i x (omega (arith, lt)) e passes
 
 pub find_end : (test : n.Journal → Bool) (nodes : List Node) (i : ℕ) → length nodes ≤ i → find test (map plain_journal (drop i nodes)) ≡ None
 find_end test [] zero le = refl

@@ -101,6 +101,7 @@ module _ (work : Workload) (nodes : List Node) (packets : List Packet) (wire : I
   held = subst (IsHeld w) (sym wire.reached) (reached_holds w wire.events wire.accepted)
 
   pub one_base_here : HasOneBase x
+  unfolding words
   one_base_here = subst HasOneBase (sym wire.reached) (one_base w wire.events wire.accepted)
 
   pub count_is : length nodes ≡ sites_of w
@@ -215,7 +216,7 @@ module _ (w : s.Workload) (x : n.World) (accepted : IsAccepted w) (h : IsHeld w 
       closed_at true true e f =
           let same = is_true b.call.client client f in
           sym (ap (λ k. slice_index_or (slice_set made k b.call.seq) client 0) same ∙ index_set_same made client b.call.seq 0 (subst (λ k. client < k) (sym many) (client_lt w home client own)))
-      closed_at true false e f = sym (index_set_other made b.call.client client b.call.seq 0 (λ same. not_both same f))
+      closed_at true false e f = sym (index_set_other made b.call.client client b.call.seq 0 (λ same. not_both (sym same) f))
         where
           not_both : b.call.client ≡ client → (b.call.client == client) ≡ false → ⊥
           not_both same f = let g : eqb b.call.client client ≡ true = test_true b.call.client client same in cc
@@ -282,7 +283,7 @@ module _ (w : s.Workload) (x : n.World) (accepted : IsAccepted w) (h : IsHeld w 
 
 -- ---- what the history is read by
 module _ (work : Workload) (nodes : List Node) (packets : List Packet) (wire : IsWire work nodes packets) where
-  journals_here : journals (world_of nodes packets) ≡ map plain_journal nodes
+  pub journals_here : journals (world_of nodes packets) ≡ map plain_journal nodes
   unfolding words
   journals_here = map_map (λ (m : n.Node). m.journal) plain_node nodes
 
@@ -350,6 +351,7 @@ called_base w client x = by (n.is_running x.mode && nat_lt (slice_index_or x.jou
 
 module _ (work : Workload) (nodes : List Node) (packets : List Packet) (wire : IsWire work nodes packets) (client home : ℕ) (own : IsClientAt (plain_workload work) home client) (p : Node) (here : slice_get nodes home ≡ Some p) where
   pub call_own : IsClientAt (plain_workload p.site.work) p.site.state.number client
+  unfolding words
   call_own =
       subst (λ (v : Workload). IsClientAt (plain_workload v) p.site.state.number client) (sym (node_at work nodes packets wire home p here).work_is) (subst (λ k. IsClientAt (plain_workload work) k client) (sym (ready_at work nodes packets wire home p here).number) own)
 
@@ -385,7 +387,7 @@ module _ (work : Workload) (nodes : List Node) (packets : List Packet) (wire : I
   delivered = delivery_is (plain_workload work) (world_of nodes packets) site k (plain_packet q) (get_map plain_packet packets k q sent)
 
   -- of another round
-  pub other_round : {E : Type 0} (s : Step) → plain_step s ≡ n.Ignored → (n.round_of (plain_packet q) ≡ p.site.state.round → ⊥) → HasHappened {E} work nodes packets (Deliver site k) (slice_set nodes site p) packets (Ok s)
+  pub other_round : {E : Type 0} (s : Step) → plain_step s ≡ n.Ignored → (n.round_of (plain_packet q) ≡ p.site.state.round → ⊥) → HasHappened {E = E} work nodes packets (Deliver site k) (slice_set nodes site p) packets (Ok s)
   unfolding words
   other_round s answer other =
       reacts_by work nodes packets wire (Deliver site k) site p here (n.received (plain_workload work) (plain_packet q)) delivered (Ok s) p packets (idle_is (n.received (plain_workload work) (plain_packet q) (plain_node p)) p p packets s n.Ignored (received_other (plain_workload work) (plain_packet q) (plain_node p) other) refl answer) tt tt (node_at work nodes packets wire site p here)
@@ -400,3 +402,13 @@ module _ (work : Workload) (nodes : List Node) (packets : List Packet) (wire : I
 pub begun_wire : (work : Workload) (nodes : List Node) → IsAccepted (plain_workload work) → map plain_node nodes ≡ (n.at_start (plain_workload work)).nodes → All (IsNode work) nodes → IsWire work nodes []
 unfolding words
 begun_wire work nodes accepted are each = record { accepted = accepted; each = each; events = []; reached = λ k. record { nodes = are k; packets = [] } }
+
+-- the node that stands at a place
+pub read_at : (nodes : List Node) (packets : List Packet) (i : ℕ) (p : Node) (m : n.Node) → slice_get nodes i ≡ Some p → slice_get (world_of nodes packets).nodes i ≡ Some m → plain_node p ≡ m
+unfolding words
+read_at nodes packets i p m here there = let is = get_map plain_node nodes i p here in cc
+
+-- a node in its own place
+pub same_world : (nodes : List Node) (packets : List Packet) (i : ℕ) (p : Node) → slice_get nodes i ≡ Some p → world_of (slice_set nodes i p) packets ≡ world_of nodes packets
+unfolding words
+same_world nodes packets i p here = λ k. record { nodes = map_set_same plain_node nodes i p p here refl k; packets = map plain_packet packets }

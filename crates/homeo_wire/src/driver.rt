@@ -78,10 +78,13 @@ fn turn(alloc: Global, wire: &mut Wire, draws: &mut Draws) -> Result<(), Memory>
 {
     let p = draws.draw();
     let q = draws.draw();
-    if let Some(event) = chosen_event(wire, p, q) {
-        wire.event(alloc, event)?;
+    match chosen_event(wire, p, q) {
+        Some(event) => {
+            wire.event(alloc, event)?;
+            Ok(())
+        }
+        None => Ok(()),
     }
-    Ok(())
 }
 
 /// The event that two draws choose: a call in one of four cases and where nothing was sent, and else a delivery.

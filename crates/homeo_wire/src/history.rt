@@ -168,10 +168,11 @@ fn history_by(alloc: Global, nodes: &[Node], node: &Node) -> Result<History, Mem
 {
     let left = node.left.as_slice();
     let base = node.base.as_slice();
+    let closed = left.len();
     let mut rounds = rounds_left(alloc, nodes, left)?;
     let round = Round {
         base: copy_values(alloc, base)?,
-        segments: ran_by_all(alloc, nodes, left.len())?,
+        segments: ran_by_all(alloc, nodes, closed)?,
         closing: None,
     };
     rounds.push(round)?;

@@ -82,7 +82,8 @@ impl Wire {
 
     /// Lends the workload.
     pub fn workload(&self) -> &Accepted
-        ensures { result.now ≡ self.now.work }
+        ensures work { result.now ≡ self.now.work }
+        ensures accepted { IsAccepted (plain_workload self.now.work) }
     {
         self.compiled.workload()
     }

@@ -15,7 +15,7 @@ use Rattle.homeo_wire.proofs.driver.call_of_each.Goals as goal
 pub event-requires : goal.event-requires
 unfolding words
 event-requires c =
-    let count : c.client_count.result ≡ length (plain_workload c.args.wire.now.work).clients = c.client_count.ensures.count ∙ ap (λ v. length (plain_workload v).clients) c.workload.ensures in
+    let count : c.client_count-client-end.result ≡ length (plain_workload c.args.wire.now.work).clients = c.client_count-client-end.ensures.count ∙ ap (λ v. length (plain_workload v).clients) c.workload.ensures.work in
     subst (λ v. c.loop-client.client < length (plain_workload v).clients) (sym c.loop-client.invariant.work) (omega (arith, c.loop-client-test.true, count))
 
 pub loop-client-preserved : goal.loop-client-preserved
@@ -32,7 +32,7 @@ loop-client-preserved c =
 pub returns-clause-world : goal.returns-clause-world
 returns-clause-world c =
     let w = plain_workload c.args.wire.now.work in
-    let count : c.client_count.result ≡ length w.clients = c.client_count.ensures.count ∙ ap (λ v. length (plain_workload v).clients) c.workload.ensures in
+    let count : c.client_count-client-end.result ≡ length w.clients = c.client_count-client-end.ensures.count ∙ ap (λ v. length (plain_workload v).clients) c.workload.ensures.work in
     let all : c.loop-client.client ≡ length w.clients = omega (arith, c.loop-client-test.false, c.loop-client.auto.client-end, count) in
     let same : plain_workload c.loop-client.wire.work ≡ w = ap plain_workload c.loop-client.invariant.work in
     on_ok_map c.sweeps.result _ _ (λ e. each_then w c.args.wire.now.world c.loop-client.wire.world c.sweeps.new.wire.world c.loop-client.client all c.loop-client.invariant.world (e ∙ ap (λ v. after v (sweeps v c.loop-client.wire.world 3) c.loop-client.wire.world) same)) c.sweeps.ensures.world

@@ -16,7 +16,7 @@ pub event-requires : goal.event-requires
 unfolding words
 event-requires c =
     let many = c.loop-packet.invariant.many in
-    let sent = c.sent.ensures in
+    let sent = c.sent-packet-end.ensures in
     (subst (λ v. c.args.site < sites_of (plain_workload v)) (sym c.loop-packet.invariant.work) c.requires, omega (arith, c.loop-packet-test.true, many, sent))
 
 pub loop-packet-preserved : goal.loop-packet-preserved
@@ -36,5 +36,5 @@ pub returns-clause-world : goal.returns-clause-world
 unfolding words
 returns-clause-world c =
     let w = plain_workload c.args.wire.now.work in
-    let all : c.loop-packet.packet ≡ length c.args.wire.now.world.packets = omega (arith, c.loop-packet-test.false, c.loop-packet.auto.packet-end, c.sent.ensures) in
+    let all : c.loop-packet.packet ≡ length c.args.wire.now.world.packets = omega (arith, c.loop-packet-test.false, c.loop-packet.auto.packet-end, c.sent-packet-end.ensures) in
     c.loop-packet.invariant.world ∙ ap (λ k. after w (map (λ packet. Deliver c.args.site packet) (range_with_len 0 k)) c.args.wire.now.world) all

@@ -18,7 +18,7 @@ loop-site-init c = record { work = refl; rest = λ n e. let same : n ≡ sites_o
 
 pub deliver_all-requires : goal.deliver_all-requires
 deliver_all-requires c =
-    let count : c.site_count.result ≡ sites_of (plain_workload c.args.wire.now.work) = c.site_count.ensures.count ∙ ap (λ v. sites_of (plain_workload v)) c.workload.ensures in
+    let count : c.site_count-site-end.result ≡ sites_of (plain_workload c.args.wire.now.work) = c.site_count-site-end.ensures.count ∙ ap (λ v. sites_of (plain_workload v)) c.workload.ensures.work in
     subst (λ v. c.loop-site.site < sites_of (plain_workload v)) (sym c.loop-site.invariant.work) (omega (arith, c.loop-site-test.true, count))
 
 pub loop-site-preserved : goal.loop-site-preserved
@@ -38,5 +38,5 @@ loop-site-preserved c =
 pub returns-clause-world : goal.returns-clause-world
 unfolding words
 returns-clause-world c =
-    let count : c.site_count.result ≡ sites_of (plain_workload c.args.wire.now.work) = c.site_count.ensures.count ∙ ap (λ v. sites_of (plain_workload v)) c.workload.ensures in
+    let count : c.site_count-site-end.result ≡ sites_of (plain_workload c.args.wire.now.work) = c.site_count-site-end.ensures.count ∙ ap (λ v. sites_of (plain_workload v)) c.workload.ensures.work in
     c.loop-site.invariant.rest 0 (omega (arith, c.loop-site-test.false, c.loop-site.auto.site-end, count))

@@ -9,8 +9,8 @@ use Rattle.homeo_wire.specs.Read.{ran_in, rounds_left, sites_in}
 use Rattle.homeo_wire.specs.WireView.{plain_left, plain_journal}
 use Rattle.homeo_wire.proofs.history.history_by.Goals as goal
 
-pub last_values-requires-clause-fits : goal.last_values-requires-clause-fits
-last_values-requires-clause-fits c =
+pub last_values-requires : goal.last_values-requires
+last_values-requires c =
     let js = map plain_journal c.args.nodes.now in
     subst (λ v. LastFits v c.round.result js) (sym (c.as_slice-base.ensures ∙ c.requires.base)) (subst (λ r. LastFits c.args.node.now.site.state.base r js) (sym c.round.ensures) c.requires.fits)
 
@@ -19,10 +19,10 @@ unfolding histories words
 returns c =
     let js = map plain_journal c.args.nodes.now in
     let x = c.args.node.now in
-    let long = c.len.ensures ∙ ap length c.as_slice-left.ensures ∙ c.requires.rounds in
-    let base = c.in_ok-base.ensures ∙ c.as_slice-base.ensures ∙ c.requires.base in
+    let long = c.len-closed.ensures ∙ ap length c.as_slice-left.ensures ∙ c.requires.rounds in
+    let base = c.in_ok-copy_values.ensures ∙ c.as_slice-base.ensures ∙ c.requires.base in
     let left = c.in_ok-rounds.ensures ∙ ap (λ ls. rounds_left js 0 (map plain_left ls)) c.as_slice-left.ensures in
-    let segments = c.in_ok-segments.ensures ∙ ap (λ r. map (ran_in r) js) long in
+    let segments = c.in_ok-ran_by_all.ensures ∙ ap (λ r. map (ran_in r) js) long in
     let rounds =
     ap (λ l. map plain_round l.items) c.in_ok-push.ensures.ok ∙ map-append plain_round c.in_ok-rounds.rounds.items (_ ∷ [])
     ∙ (λ k. left k ++ record { base = base k; segments = segments k; closing = None } ∷ []) in

@@ -19,7 +19,7 @@ loop-i-preserved c =
     let before = c.loop-i.rounds.items in
     ap (λ l. map plain_round l.items) c.in_ok-push.ensures.ok
     ∙ map-append plain_round before (_ ∷ [])
-    ∙ (λ k. c.loop-i.invariant k ++ record { base = (c.in_ok-base.ensures ∙ c.as_slice.ensures) k; segments = c.in_ok-segments.ensures k; closing = Some (c.in_ok-closing.ensures k) } ∷ [])
+    ∙ (λ k. c.loop-i.invariant k ++ record { base = (c.in_ok-copy_values.ensures ∙ c.as_slice.ensures) k; segments = c.in_ok-ran_by_all.ensures k; closing = Some (c.in_ok-copy_closing.ensures k) } ∷ [])
     ∙ sym (left_next js c.args.left.now c.loop-i.i c.i-item.result c.loop-i-test.true c.i-item.is)
 
 pub returns : goal.returns

@@ -40,7 +40,7 @@ loop-site-preserved c =
       nodes =
           ap (map plain_node) more ∙ map-append plain_node before (c.in_ok-node.node ∷ [])
           ∙ (λ j. c.loop-site.invariant.nodes j ++ c.in_ok-node.ensures.node j ∷ [])
-          ∙ sym (map-range_with_len_more (λ k. n.in_round w (n.first_journal w k)) 0 site site refl);
+          ∙ sym (map-range_with_len_more (λ k. n.in_round w (n.first_journal w k)) 0 site site (let h : 0 + site ≡ site = omega arith in h));
       each = subst (All (IsNode c.args.c.now.value)) (sym more) (All-push (IsNode c.args.c.now.value) before c.in_ok-node.node c.loop-site.invariant.each c.in_ok-node.ensures.is);
     }
 
@@ -48,6 +48,6 @@ pub returns-clause-nodes : goal.returns-clause-nodes
 unfolding words
 returns-clause-nodes c =
     let w = plain_workload c.args.c.now.value in
-    let count : c.site_count.result ≡ sites_of w = c.site_count.ensures.count ∙ ap (λ v. sites_of (plain_workload v)) (c.workload-3.ensures ∙ c.deref-4.ensures) in
+    let count : c.site_count-site-end.result ≡ sites_of w = c.site_count-site-end.ensures.count ∙ ap (λ v. sites_of (plain_workload v)) (c.workload-3.ensures ∙ c.deref-4.ensures) in
     let end : c.loop-site.site ≡ sites_of w = omega (arith, c.loop-site-test.false, c.loop-site.auto.site-end, count) in
     c.loop-site.invariant.nodes ∙ ap (λ k. map (λ site. n.in_round w (n.first_journal w site)) (range_with_len 0 k)) end

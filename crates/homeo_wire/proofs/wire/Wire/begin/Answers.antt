@@ -16,11 +16,11 @@ invariant_of-result c =
     let work = c.args.c.value in
     let none : c.new.result.items ≡ [] = ap (λ (l : Listed Packet). l.items) c.new.ensures in
     subst (IsWire work c.in_ok-nodes.nodes.items) (sym none)
-    (begun_wire work c.in_ok-nodes.nodes.items (subst (λ v. IsAccepted (plain_workload v)) c.deref.ensures c.in_ok-nodes.ensures.accepted) (c.in_ok-nodes.ensures.nodes ∙ ap (λ v. (n.at_start (plain_workload v)).nodes) c.deref.ensures) (subst (λ v. All (IsNode v) c.in_ok-nodes.nodes.items) c.deref.ensures c.in_ok-nodes.ensures.each))
+    (begun_wire work c.in_ok-nodes.nodes.items (c.in_ok-nodes.ensures.accepted) c.in_ok-nodes.ensures.nodes c.in_ok-nodes.ensures.each)
 
 pub returns : goal.returns
 unfolding words
 returns c =
-    let nodes = c.in_ok-nodes.ensures.nodes ∙ ap (λ v. (n.at_start (plain_workload v)).nodes) c.deref.ensures in
+    let nodes = c.in_ok-nodes.ensures.nodes in
     let none : map plain_packet c.new.result.items ≡ [] = ap (λ (l : Listed Packet). map plain_packet l.items) c.new.ensures in
     λ j. record { work = c.args.c.value; world = record { nodes = nodes j; packets = none j } }

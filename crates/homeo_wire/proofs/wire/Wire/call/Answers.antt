@@ -1,5 +1,5 @@
 use Rattle.homeo_wire.specs.Key.{words}
-use Rattle.std.proofs.Common.{◌≡◌, ◌<◌, length, Some, refl, sym, ap, subst, ◌∙◌, slice_set}
+use Rattle.std.proofs.Common.{◌≡◌, ◌<◌, length, Some, refl, sym, ap, subst, ◌∙◌, arith, slice_set}
 use Rattle.std.specs.Prelude.{slice_get, IfOk, OnOk}
 use Rattle.std.proofs.lemmas.Option.{slice_get_read}
 use Rattle.homeo_syntax.specs.SourceView.{plain_workload}
@@ -20,8 +20,10 @@ index_mut-requires c =
     let w = plain_workload f.compiled.value in
     let wire : IsWire f.compiled.value f.nodes.items f.packets.items = c.self.invariant in
     let home = c.site_of-home.result in
-    let own : IsClientAt w home c.args.client = subst (λ (v : Workload). IsClientAt (plain_workload v) home c.args.client) (c.workload.ensures ∙ c.deref.ensures) c.site_of-home.ensures in
-    subst (λ m. home < m) (sym (count_is f.compiled.value f.nodes.items f.packets.items wire)) (client_below w home c.args.client wire.accepted own)
+    let own : IsClientAt w home c.args.client = subst (λ (v : Workload). IsClientAt (plain_workload v) home c.args.client) (c.workload-w.ensures ∙ c.deref.ensures) c.site_of-home.ensures in
+    let lt : home < length f.nodes.items = subst (λ m. home < m) (sym (count_is f.compiled.value f.nodes.items f.packets.items wire)) (client_below w home c.args.client wire.accepted own) in
+    let ok = f.nodes.ok.0 in
+    omega (arith, lt, ok)
 
 pub call-requires-clause-client : goal.call-requires-clause-client
 call-requires-clause-client c =
@@ -29,7 +31,7 @@ call-requires-clause-client c =
     let w = plain_workload f.compiled.value in
     let wire : IsWire f.compiled.value f.nodes.items f.packets.items = c.self.invariant in
     let home = c.site_of-home.result in
-    let own : IsClientAt w home c.args.client = subst (λ (v : Workload). IsClientAt (plain_workload v) home c.args.client) (c.workload.ensures ∙ c.deref.ensures) c.site_of-home.ensures in
+    let own : IsClientAt w home c.args.client = subst (λ (v : Workload). IsClientAt (plain_workload v) home c.args.client) (c.workload-w.ensures ∙ c.deref.ensures) c.site_of-home.ensures in
     let lt : home < length f.nodes.items = subst (λ m. home < m) (sym (count_is f.compiled.value f.nodes.items f.packets.items wire)) (client_below w home c.args.client wire.accepted own) in
     let p = c.index_mut.result.now in
     let here : slice_get f.nodes.items home ≡ Some p = slice_get_read f.nodes.items _ home p refl lt c.index_mut.ensures.value in
@@ -41,7 +43,7 @@ call-requires-clause-made c =
     let w = plain_workload f.compiled.value in
     let wire : IsWire f.compiled.value f.nodes.items f.packets.items = c.self.invariant in
     let home = c.site_of-home.result in
-    let own : IsClientAt w home c.args.client = subst (λ (v : Workload). IsClientAt (plain_workload v) home c.args.client) (c.workload.ensures ∙ c.deref.ensures) c.site_of-home.ensures in
+    let own : IsClientAt w home c.args.client = subst (λ (v : Workload). IsClientAt (plain_workload v) home c.args.client) (c.workload-w.ensures ∙ c.deref.ensures) c.site_of-home.ensures in
     let lt : home < length f.nodes.items = subst (λ m. home < m) (sym (count_is f.compiled.value f.nodes.items f.packets.items wire)) (client_below w home c.args.client wire.accepted own) in
     let p = c.index_mut.result.now in
     let here : slice_get f.nodes.items home ≡ Some p = slice_get_read f.nodes.items _ home p refl lt c.index_mut.ensures.value in
@@ -53,11 +55,11 @@ call-requires-clause-count c =
     let w = plain_workload f.compiled.value in
     let wire : IsWire f.compiled.value f.nodes.items f.packets.items = c.self.invariant in
     let home = c.site_of-home.result in
-    let own : IsClientAt w home c.args.client = subst (λ (v : Workload). IsClientAt (plain_workload v) home c.args.client) (c.workload.ensures ∙ c.deref.ensures) c.site_of-home.ensures in
+    let own : IsClientAt w home c.args.client = subst (λ (v : Workload). IsClientAt (plain_workload v) home c.args.client) (c.workload-w.ensures ∙ c.deref.ensures) c.site_of-home.ensures in
     let lt : home < length f.nodes.items = subst (λ m. home < m) (sym (count_is f.compiled.value f.nodes.items f.packets.items wire)) (client_below w home c.args.client wire.accepted own) in
     let p = c.index_mut.result.now in
     let here : slice_get f.nodes.items home ≡ Some p = slice_get_read f.nodes.items _ home p refl lt c.index_mut.ensures.value in
-    c.call_count-count.ensures.count ∙ ap (λ (v : Workload). call_count (plain_workload v) c.args.client) ((c.workload.ensures ∙ c.deref.ensures) ∙ sym (node_at f.compiled.value f.nodes.items f.packets.items wire home p here).work_is)
+    c.call_count-count.ensures.count ∙ ap (λ (v : Workload). call_count (plain_workload v) c.args.client) ((c.workload-w.ensures ∙ c.deref.ensures) ∙ sym (node_at f.compiled.value f.nodes.items f.packets.items wire home p here).work_is)
 
 pub invariant_of-self : goal.invariant_of-self
 invariant_of-self c =
@@ -65,7 +67,7 @@ invariant_of-self c =
     let w = plain_workload f.compiled.value in
     let wire : IsWire f.compiled.value f.nodes.items f.packets.items = c.self.invariant in
     let home = c.site_of-home.result in
-    let own : IsClientAt w home c.args.client = subst (λ (v : Workload). IsClientAt (plain_workload v) home c.args.client) (c.workload.ensures ∙ c.deref.ensures) c.site_of-home.ensures in
+    let own : IsClientAt w home c.args.client = subst (λ (v : Workload). IsClientAt (plain_workload v) home c.args.client) (c.workload-w.ensures ∙ c.deref.ensures) c.site_of-home.ensures in
     let lt : home < length f.nodes.items = subst (λ m. home < m) (sym (count_is f.compiled.value f.nodes.items f.packets.items wire)) (client_below w home c.args.client wire.accepted own) in
     let p = c.index_mut.result.now in
     let here : slice_get f.nodes.items home ≡ Some p = slice_get_read f.nodes.items _ home p refl lt c.index_mut.ensures.value in
@@ -78,7 +80,7 @@ returns-clause-step c =
     let w = plain_workload f.compiled.value in
     let wire : IsWire f.compiled.value f.nodes.items f.packets.items = c.self.invariant in
     let home = c.site_of-home.result in
-    let own : IsClientAt w home c.args.client = subst (λ (v : Workload). IsClientAt (plain_workload v) home c.args.client) (c.workload.ensures ∙ c.deref.ensures) c.site_of-home.ensures in
+    let own : IsClientAt w home c.args.client = subst (λ (v : Workload). IsClientAt (plain_workload v) home c.args.client) (c.workload-w.ensures ∙ c.deref.ensures) c.site_of-home.ensures in
     let lt : home < length f.nodes.items = subst (λ m. home < m) (sym (count_is f.compiled.value f.nodes.items f.packets.items wire)) (client_below w home c.args.client wire.accepted own) in
     let p = c.index_mut.result.now in
     let here : slice_get f.nodes.items home ≡ Some p = slice_get_read f.nodes.items _ home p refl lt c.index_mut.ensures.value in
@@ -91,7 +93,7 @@ returns-clause-world c =
     let w = plain_workload f.compiled.value in
     let wire : IsWire f.compiled.value f.nodes.items f.packets.items = c.self.invariant in
     let home = c.site_of-home.result in
-    let own : IsClientAt w home c.args.client = subst (λ (v : Workload). IsClientAt (plain_workload v) home c.args.client) (c.workload.ensures ∙ c.deref.ensures) c.site_of-home.ensures in
+    let own : IsClientAt w home c.args.client = subst (λ (v : Workload). IsClientAt (plain_workload v) home c.args.client) (c.workload-w.ensures ∙ c.deref.ensures) c.site_of-home.ensures in
     let lt : home < length f.nodes.items = subst (λ m. home < m) (sym (count_is f.compiled.value f.nodes.items f.packets.items wire)) (client_below w home c.args.client wire.accepted own) in
     let p = c.index_mut.result.now in
     let here : slice_get f.nodes.items home ≡ Some p = slice_get_read f.nodes.items _ home p refl lt c.index_mut.ensures.value in
@@ -104,7 +106,7 @@ returns-clause-unchanged c =
     let w = plain_workload f.compiled.value in
     let wire : IsWire f.compiled.value f.nodes.items f.packets.items = c.self.invariant in
     let home = c.site_of-home.result in
-    let own : IsClientAt w home c.args.client = subst (λ (v : Workload). IsClientAt (plain_workload v) home c.args.client) (c.workload.ensures ∙ c.deref.ensures) c.site_of-home.ensures in
+    let own : IsClientAt w home c.args.client = subst (λ (v : Workload). IsClientAt (plain_workload v) home c.args.client) (c.workload-w.ensures ∙ c.deref.ensures) c.site_of-home.ensures in
     let lt : home < length f.nodes.items = subst (λ m. home < m) (sym (count_is f.compiled.value f.nodes.items f.packets.items wire)) (client_below w home c.args.client wire.accepted own) in
     let p = c.index_mut.result.now in
     let here : slice_get f.nodes.items home ≡ Some p = slice_get_read f.nodes.items _ home p refl lt c.index_mut.ensures.value in
@@ -117,7 +119,7 @@ returns-clause-one_base c =
     let w = plain_workload f.compiled.value in
     let wire : IsWire f.compiled.value f.nodes.items f.packets.items = c.self.invariant in
     let home = c.site_of-home.result in
-    let own : IsClientAt w home c.args.client = subst (λ (v : Workload). IsClientAt (plain_workload v) home c.args.client) (c.workload.ensures ∙ c.deref.ensures) c.site_of-home.ensures in
+    let own : IsClientAt w home c.args.client = subst (λ (v : Workload). IsClientAt (plain_workload v) home c.args.client) (c.workload-w.ensures ∙ c.deref.ensures) c.site_of-home.ensures in
     let lt : home < length f.nodes.items = subst (λ m. home < m) (sym (count_is f.compiled.value f.nodes.items f.packets.items wire)) (client_below w home c.args.client wire.accepted own) in
     let p = c.index_mut.result.now in
     let here : slice_get f.nodes.items home ≡ Some p = slice_get_read f.nodes.items _ home p refl lt c.index_mut.ensures.value in
