@@ -1,7 +1,7 @@
 -- The events that a number chooses, as the code makes them: what is left of a list of events once the first of them were made.
 use Rattle.homeo_syntax.specs.Key.{words as source_words}
 use Rattle.homeo_wire.specs.Key.{words}
-use Rattle.std.proofs.Common.{◌≡◌, ℕ, zero, suc, ◌+◌, ◌<◌, ◌≤◌, get_or, nat_lt, List, [], ◌∷◌, ◌++◌, map, length, take, drop, Bool, true, false, cond, Option, Some, None, Result, Ok, Err, refl, sym, ap, subst, ◌∙◌, arith, slice_set}
+use Rattle.std.proofs.Common.{◌≡◌, ℕ, zero, suc, ◌+◌, ◌*◌, ◌<◌, ◌≤◌, get_or, nat_lt, List, [], ◌∷◌, ◌++◌, map, length, take, drop, Bool, true, false, cond, Option, Some, None, Result, Ok, Err, refl, sym, ap, subst, ◌∙◌, arith, slice_set}
 use Rattle.std.specs.Prelude.{slice_get, ◌||◌, option_map, OnOk}
 use Rattle.std.proofs.lemmas.Bool.Decides.{nat_tests}
 use Rattle.std.specs.List.{range_with_len, list_any, flat_map}
@@ -9,15 +9,16 @@ use Rattle.std.proofs.lemmas.List.{length-append, length-map}
 use Rattle.std.proofs.lemmas.List.FromFn.{map-range_with_len_more}
 use Rattle.homeo_syntax.specs.Source as s
 use Rattle.homeo_syntax.specs.SourceView.{plain_call, plain_client}
+use Rattle.homeo_syntax.specs.declared.phrase.Ident.{Ident}
 use Rattle.homeo_syntax.specs.declared.workload.Client.{Client}
 use Rattle.homeo_syntax.specs.declared.workload.Call.{Call as CallText}
 use Rattle.homeo_plan.specs.Planned.{sites_of}
-use Rattle.homeo_history.proofs.Lists.{get_map, range_more}
+use Rattle.homeo_history.proofs.Lists.{get_map, get_lt, range_more}
 use Rattle.homeo_draws.specs.Draws.{next_state, drawn}
 use Rattle.homeo_wire.specs.declared.events.Event.{Event}
 use Rattle.homeo_wire.specs.declared.events.Event.TheVariants.{Call, Deliver}
-use Rattle.homeo_wire.specs.Drive.{chosen_event, turns, all_to, to_sites, sweeps, call_of_each, has_left, until_made}
-use Rattle.homeo_wire.specs.Nodes.{Node, Packet, Reaction, World, reacts, at_node, calls, delivers, happens, after}
+use Rattle.homeo_wire.specs.Drive.{calls_in, excess, drive, chosen_event, turns, all_to, to_sites, sweeps, call_of_each, has_left, until_made}
+use Rattle.homeo_wire.specs.Nodes.{Node, Packet, Reaction, World, reacts, at_node, calls, delivers, happens, after, at_start, reached}
 use Rattle.homeo_wire.proofs.StateLists.{take_past}
 use Rattle.homeo_wire.proofs.Wires.{after_append}
 
@@ -64,6 +65,20 @@ module _ (w : s.Workload) where
   unfolding words
   made_end x n left =
       ap (λ t. after w (cond t (call_of_each w x ++ until_made w (after w (call_of_each w x) x) n) []) x) left
+
+  pub driven : (number calls : ℕ) (x y : World) → calls ≡ length (calls_in w) → x ≡ after w (turns w (at_start w) number (16 * calls + 16)) (at_start w) → y ≡ after w (until_made w x (calls + 1)) x → y ≡ reached w (drive w number)
+  unfolding words
+  driven number calls x y same is then =
+      then ∙ ap (λ k. after w (until_made w x (k + 1)) x) same
+      ∙ sym (and_then (turns w (at_start w) number (16 * length (calls_in w) + 16)) (λ z. until_made w z (length (calls_in w) + 1)) (at_start w) x (is ∙ ap (λ k. after w (turns w (at_start w) number (16 * k + 16)) (at_start w)) same))
+
+  past_none : (o : Option s.Call) (name : Ident) → slice_get (calls_in w) 200 ≡ o → option_map (λ (c : s.Call). c.name) o ≡ Some name → length (calls_in w) ≤ 200 → ⊥
+  past_none None name e f few = absurd (cc)
+  past_none (Some call) name e f few = let lt = get_lt (calls_in w) 200 call e in omega (arith, few, lt)
+
+  pub too_many : (name : Ident) → option_map (λ (c : s.Call). c.name) (excess w) ≡ Some name → length (calls_in w) ≤ 200 → ⊥
+  unfolding words
+  too_many name e few = past_none (slice_get (calls_in w) 200) name refl e few
 
   -- ---- packets may only become more
   reacts_more : (x : World) (i : ℕ) (o : Option Node) (f : Node → Reaction) → length x.packets ≤ length (reacts x i o f).world.packets
