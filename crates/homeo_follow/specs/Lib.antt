@@ -1,0 +1,3 @@
+pub mod Expanded
+pub mod Follow
+pub mod Key
