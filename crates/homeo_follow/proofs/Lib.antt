@@ -1,1 +1,4 @@
+pub mod Deltas
+pub mod Expansions
+pub mod Terms
 pub mod Walked
