@@ -6,7 +6,7 @@ use Rattle.homeo_syntax.specs.Low as L
 use Rattle.homeo_meaning.specs.Key.{words}
 use Rattle.homeo_meaning.specs.LowMeaning as M
 use Rattle.homeo_meaning.specs.Context.{Slot}
-use Rattle.homeo_meaning.specs.Meaning.{State, Run, done, after_prints, is_used, added, visit}
+use Rattle.homeo_meaning.specs.Meaning.{State, is_used, added}
 use Rattle.homeo_meaning.specs.LForm.{Lifted, Made, AllMade, visits, counted, equal, read, fresh}
 use Rattle.homeo_lform.proofs.Lifts.{seen, seen_run, quiet, at_fresh, Alike, Lifts, quiet_both, alike_self, alike_then, alike_below, alike_put, put_here}
 

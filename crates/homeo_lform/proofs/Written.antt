@@ -1,6 +1,6 @@
 -- The objects that an L form writes are found along the source, whatever its fresh temporaries; and a command keeps each
 -- object that it doesn't write.
-use Rattle.std.proofs.Common.{◌≡◌, ℕ, suc, ◌==◌, Bool, true, false, cond, ◌||◌, List, [], ◌∷◌, ℤ, pos, Option, Some, None, refl, sym, ap, ◌∙◌, subst, arith}
+use Rattle.std.proofs.Common.{◌≡◌, ℕ, suc, ◌==◌, Bool, true, false, cond, ◌||◌, List, [], ◌∷◌, ℤ, Option, Some, None, refl, sym, ap, ◌∙◌, arith}
 use Rattle.std.specs.Prelude.{nat_lt}
 use Rattle.std.proofs.lemmas.Bool.{false≢true}
 use Rattle.std.proofs.lemmas.Bool.Decides.{nat_tests}
@@ -15,8 +15,8 @@ use Rattle.homeo_meaning.specs.Schema.{Declared}
 use Rattle.homeo_meaning.specs.Context.{Spot, Slot, Context, spot, cell, field_cell, object, slots, fields, bind, slot_at}
 use Rattle.homeo_meaning.specs.LowMeaning as M
 use Rattle.homeo_meaning.specs.LowWrites.{object_in, with_number, written, all_written}
-use Rattle.homeo_meaning.specs.LForm.{Lifted, Made, both, one, in_front, guard, in_turn, joined, visits, counted, read_chain, read_slot, literal_of, indexed_by, name_of, lift, lift_all, lift_test, lift_cond, within, write_to, write_field, write_chain, write_at, write_by, stored, lift_values, Target, field_writes, fill_chain, as_one, clear, form, forms}
-use Rattle.homeo_lform.specs.inner.SourceWrites.{absent_zero, given_field, given, at_each, at_slot, by_index, filled, writes, all_writes}
+use Rattle.homeo_meaning.specs.LForm.{Lifted, Made, both, one, in_front, guard, in_turn, visits, counted, read_chain, read_slot, literal_of, indexed_by, name_of, lift, lift_all, lift_test, lift_cond, write_to, write_field, write_chain, write_at, write_by, stored, lift_values, field_writes, fill_chain, as_one, clear, form, forms}
+use Rattle.homeo_lform.specs.SourceWrites.{absent_zero, given_field, given, at_each, at_slot, by_index, filled, writes, all_writes}
 use Rattle.homeo_lform.proofs.Writes.{fill_end}
 
 -- ---- lists of commands

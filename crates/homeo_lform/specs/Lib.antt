@@ -1,3 +1,4 @@
 pub mod Covers
 pub mod Fresh
+pub mod SourceWrites
 pub mod inner

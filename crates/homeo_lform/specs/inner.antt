@@ -1,2 +1,1 @@
 pub mod RowsFit
-pub mod SourceWrites

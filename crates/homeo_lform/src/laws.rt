@@ -1,6 +1,6 @@
 //! What is true of the L forms of all calls, and of the calls themselves.
 
-ghost use Rattle.std.specs.Prelude.{◌≡◌, ◌≤◌, ℕ, ℤ, List, length, pos, true};
+ghost use Rattle.std.specs.Prelude.{◌≡◌, ◌≤◌, ℕ, ℤ, List, [], length, pos, true};
 ghost use Rattle.std.specs.Int.RustNames.{unsigned_abs};
 ghost use Rattle.homeo_syntax.specs.Low as low_syntax;
 ghost use Rattle.homeo_syntax.specs.Low.{Expr};
@@ -10,12 +10,13 @@ ghost use Rattle.homeo_meaning.specs.Bounds.{AllWithin, all_bounds};
 ghost use Rattle.homeo_meaning.specs.Context.{Context, context};
 ghost use Rattle.homeo_meaning.specs.Meaning.{run};
 ghost use Rattle.homeo_meaning.specs.Aborts.{holds_abort};
-ghost use Rattle.homeo_meaning.specs.LForm.{form, l_form};
+ghost use Rattle.homeo_meaning.specs.LForm.{form, l_form, saved_in};
 ghost use Rattle.homeo_meaning.specs.LowMeaning.{Location, State, value, exec, whole};
 ghost use Rattle.homeo_meaning.specs.LowWeights.{weight, after, first_weights, is_light};
 ghost use Rattle.homeo_meaning.specs.SameRun.{IsSameRun};
 ghost use Rattle.homeo_lform.specs.Covers.{Covers};
 ghost use Rattle.homeo_lform.specs.Fresh.{flags, TakesFrom};
+ghost use Rattle.homeo_lform.specs.SourceWrites.{all_writes};
 ghost use Rattle.homeo_meaning.specs.Whole.{IsWhole};
 ghost use Rattle.homeo_meaning.specs.NamesWithin.{NamesWithin};
 ghost use Rattle.homeo_meaning.specs.Ground.{Ground};
@@ -50,6 +51,12 @@ pub fn form_names_only_what_exists()
 pub fn fresh_temporaries_rise()
     ensures { (x : Context) (c : Command) (n : ℕ) (s : State) →
         TakesFrom (flags (holds_abort c)) n (form x c n).next s (exec (form x c n).command s).state }
+{}
+
+/// The objects that a call saves before a body that can end it, which are those that the L form of the body writes, are
+/// found along the source, in rising order and each once, whatever temporaries the form takes.
+pub fn saved_objects_are_found_along_the_source()
+    ensures { (x : Context) (body : Commands) → saved_in x body ≡ all_writes x body [] }
 {}
 
 /// A call keeps every object within its bounds, whatever its arguments and whatever names it uses.
