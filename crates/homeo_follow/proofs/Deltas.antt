@@ -28,24 +28,28 @@ or_swap true false c = refl
 or_swap false true c = refl
 or_swap false false c = refl
 
-or_move : (a b c : Bool) → (a || (b || c)) ≡ ((b || a) || c)
+pub or_move : (a b c : Bool) → (a || (b || c)) ≡ ((b || a) || c)
 or_move true true c = refl
 or_move true false c = refl
 or_move false true c = refl
 or_move false false c = refl
 
-has_add : (d e : Delta) (ds : List Delta) → has d (add_delta e ds) ≡ (same_delta d e || has d ds)
+-- a test of the deltas passes for one of them where it did, or for the one that was put to them
+pub any_add : (q : Delta → Bool) (e : Delta) (ds : List Delta) → list_any q (add_delta e ds) ≡ (q e || list_any q ds)
 unfolding plan_words
-has_add d e [] = refl
-has_add d e (x ∷ xs) = go (same_delta e x) refl (delta_before e x) (has_add d e xs)
+any_add q e [] = refl
+any_add q e (x ∷ xs) = go (same_delta e x) refl (delta_before e x) (any_add q e xs)
   where
     go :
-        (v : Bool) → same_delta e x ≡ v → (w : Bool) → has d (add_delta e xs) ≡ (same_delta d e || has d xs) →
-        has d (cond v (x ∷ xs) (cond w (e ∷ x ∷ xs) (x ∷ add_delta e xs))) ≡ (same_delta d e || (same_delta d x || has d xs))
+        (v : Bool) → same_delta e x ≡ v → (w : Bool) → list_any q (add_delta e xs) ≡ (q e || list_any q xs) →
+        list_any q (cond v (x ∷ xs) (cond w (e ∷ x ∷ xs) (x ∷ add_delta e xs))) ≡ (q e || (q x || list_any q xs))
     go true p w ih =
-        or_again (same_delta d x) (has d xs) ∙ ap (λ y. same_delta d y || (same_delta d x || has d xs)) (sym (same_delta_is e x p))
+        or_again (q x) (list_any q xs) ∙ ap (λ y. q y || (q x || list_any q xs)) (sym (same_delta_is e x p))
     go false p true ih = refl
-    go false p false ih = ap (λ b. same_delta d x || b) ih ∙ or_swap (same_delta d x) (same_delta d e) (has d xs)
+    go false p false ih = ap (λ b. q x || b) ih ∙ or_swap (q x) (q e) (list_any q xs)
+
+has_add : (d e : Delta) (ds : List Delta) → has d (add_delta e ds) ≡ (same_delta d e || has d ds)
+has_add d e ds = any_add (same_delta d) e ds
 
 pub has_adds : (d : Delta) (ds es : List Delta) → has d (add_deltas ds es) ≡ (has d ds || has d es)
 unfolding plan_words
@@ -192,6 +196,10 @@ has_term d (t ∷ ts) s c = go (same_delta t.delta d) refl (has_term d ts s.1 c.
         ap (λ b. b || has d (deltas_of ts)) (turned ∙ q) ∙ none (factor d ts) t.factor e c.0
     go false q ih = ap (λ b. b || has d (deltas_of ts)) (turned ∙ q) ∙ ih ∙ ap not (other (factor d ts))
 
+pub and_or : (a b c : Bool) → (a && (b || c)) ≡ ((a && b) || (a && c))
+and_or true b c = refl
+and_or false b c = refl
+
 -- ---- those of other sites
 pub has_remote : (i : ℕ) (d : Delta) (ds : List Delta) → has d (remote i ds) ≡ (not (d.site == i) && has d ds)
 unfolding plan_words
@@ -235,3 +243,13 @@ ordered_remote i (d ∷ ds) o = go (d.site == i) (ordered_remote i ds o.1)
     go : (v : Bool) → Ordered (remote i ds) → Ordered (cond v (remote i ds) (d ∷ remote i ds))
     go true ih = ih
     go false ih = (after_remote i d ds o.0, ih)
+
+pub remote_puts : (i : ℕ) (ds es : List Delta) → Ordered es → remote i (add_deltas ds es) ≡ add_deltas (remote i ds) (remote i es)
+remote_puts i ds es o =
+    same_deltas (remote i (add_deltas ds es)) (add_deltas (remote i ds) (remote i es)) (ordered_remote i (add_deltas ds es) (ordered_adds ds es o))
+    (ordered_adds (remote i ds) (remote i es) (ordered_remote i es o))
+    (λ d.
+    has_remote i d (add_deltas ds es)
+    ∙ ap (λ b. not (d.site == i) && b) (has_adds d ds es)
+    ∙ and_or (not (d.site == i)) (has d ds) (has d es)
+    ∙ sym (has_adds d (remote i ds) (remote i es) ∙ ap₂ ◌||◌ (has_remote i d ds) (has_remote i d es)))

@@ -16,7 +16,7 @@ use Rattle.homeo_plan.proofs.Sums.{sum_same, sum_at}
 use Rattle.homeo_follow.specs.Expanded.{terms_from, deltas_from, expanded_terms, expanded_deltas, expanded}
 use Rattle.homeo_follow.specs.Follow.{object_delta, object_form}
 use Rattle.homeo_follow.proofs.Terms.{AllCount, OfEach, count_adds, count_scale, each_adds, each_scale, same_terms, factor_append, each_append, sorted_append}
-use Rattle.homeo_follow.proofs.Deltas.{has, has_adds, has_append, After, Ordered, ordered_adds, each_puts, same_deltas, ordered_terms, has_term}
+use Rattle.homeo_follow.proofs.Deltas.{has, has_adds, has_append, After, Ordered, ordered_adds, each_puts, same_deltas, ordered_terms, has_term, and_or}
 
 -- ---- lists over whole objects
 abbrev pub IsObject : Delta → Type 0
@@ -35,7 +35,7 @@ unfolding words plan_words
 object_is d h = λ i. record { object = d.object; site = h i }
 
 -- ---- one object at its sites
-factor_from : (d : Delta) (j n x : ℕ) (f : ℤ) → factor d (terms_from j n x f) ≡ sum_from j n (λ m. at_delta (delta_of x m) f d)
+pub factor_from : (d : Delta) (j n x : ℕ) (f : ℤ) → factor d (terms_from j n x f) ≡ sum_from j n (λ m. at_delta (delta_of x m) f d)
 unfolding words plan_words
 factor_from d j zero x f = refl
 factor_from d j (suc n) x f = ap (λ z. at_delta (delta_of x j) f d +ℤ z) (factor_from d (suc j) n x f)
@@ -81,9 +81,9 @@ factor_expanded d k [] h = nothing (nat_lt d.site k)
 factor_expanded d k (t ∷ ts) h =
     factor_append d (terms_from 0 k t.delta.object t.factor) (expanded_terms k ts)
     ∙ ap₂ ◌+ℤ◌
-      (factor_from d 0 k t.delta.object t.factor ∙ at_site d k t.delta.object t.factor
-      ∙ ap (λ e. cond (nat_lt d.site k) (at_delta e t.factor (object_delta d.object)) (pos 0)) (sym (object_is t.delta h.0)))
-      (factor_expanded d k ts h.1)
+    (factor_from d 0 k t.delta.object t.factor ∙ at_site d k t.delta.object t.factor
+    ∙ ap (λ e. cond (nat_lt d.site k) (at_delta e t.factor (object_delta d.object)) (pos 0)) (sym (object_is t.delta h.0)))
+    (factor_expanded d k ts h.1)
     ∙ same_sum (nat_lt d.site k) (at_delta t.delta t.factor (object_delta d.object)) (factor (object_delta d.object) ts)
 
 -- ---- order
@@ -194,10 +194,6 @@ has_expanded d k ds h o =
     split : (b : Bool) (z : ℤ) → not (int_eq (cond b z (pos 0)) (pos 0)) ≡ (b && not (int_eq z (pos 0)))
     split true z = refl
     split false z = refl
-
-and_or : (a b c : Bool) → (a && (b || c)) ≡ ((a && b) || (a && c))
-and_or true b c = refl
-and_or false b c = refl
 
 pub expanded_puts : (k : ℕ) (ds es : List Delta) → Each IsObject ds → Ordered ds → Each IsObject es → Ordered es → expanded_deltas k (add_deltas ds es) ≡ add_deltas (expanded_deltas k ds) (expanded_deltas k es)
 expanded_puts k ds es h o g p =
@@ -315,7 +311,7 @@ tidy_multiply a b s t = go (is_pure a) (is_pure b)
     go false false = tidy_mix a b s t
 
 -- the same in three parts
-linear_is : (a b : Linear) → a.constant ≡ b.constant → a.terms ≡ b.terms → a.mixed ≡ b.mixed → a ≡ b
+pub linear_is : (a b : Linear) → a.constant ≡ b.constant → a.terms ≡ b.terms → a.mixed ≡ b.mixed → a ≡ b
 linear_is a b c t m = λ i. record { constant = c i; terms = t i; mixed = m i }
 
 pub expanded_add : (k : ℕ) (a b : Linear) → IsTidy a → IsTidy b → expanded k (add_forms a b) ≡ add_forms (expanded k a) (expanded k b)
@@ -358,11 +354,11 @@ unfolding words plan_words
 pure_expanded k a l = ap₂ ◌&&◌ (no_terms k a.terms l) (no_deltas k a.mixed l)
 
 pub expanded_multiply : (k : ℕ) (a b : Linear) → 1 ≤ k → IsTidy a → IsTidy b → expanded k (multiply_forms a b) ≡ multiply_forms (expanded k a) (expanded k b)
-unfolding plan_words
+unfolding words plan_words
 expanded_multiply k a b l s t =
     go (is_pure a) (is_pure b)
     ∙ ap₂ (λ u v. cond u (scale_form a.constant (expanded k b)) (cond v (scale_form b.constant (expanded k a)) (mix_forms (expanded k a) (expanded k b))))
-      (sym (pure_expanded k a l)) (sym (pure_expanded k b l))
+    (sym (pure_expanded k a l)) (sym (pure_expanded k b l))
   where
     go : (u v : Bool) → expanded k (cond u (scale_form a.constant b) (cond v (scale_form b.constant a) (mix_forms a b))) ≡
         cond u (scale_form a.constant (expanded k b)) (cond v (scale_form b.constant (expanded k a)) (mix_forms (expanded k a) (expanded k b)))

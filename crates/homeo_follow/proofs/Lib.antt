@@ -1,4 +1,9 @@
 pub mod Deltas
 pub mod Expansions
+pub mod Needed
+pub mod PlannedAtoms
+pub mod Residuals
+pub mod Simulated
+pub mod Standing
 pub mod Terms
 pub mod Walked

@@ -177,7 +177,7 @@ module _ (base : ℕ → ℤ) where
         ∙ ap₂ (cond (passes_by f t)) (failed_cleared c) (failed_test_cleared t)
 
   -- ---- the atoms of a formula at the base
-  at_base : whole base ≡ constants f
+  pub at_base : whole base ≡ constants f
   unfolding plan_words meaning_words
   at_base = fun_ext at
     where

@@ -1,3 +1,4 @@
 pub mod Expanded
 pub mod Follow
 pub mod Key
+pub mod Lines
