@@ -30,7 +30,7 @@ pub record IsTidy (a : Linear) : Type 0 where
   pub ordered : Ordered a.mixed
   pub mixed : Each IsObject a.mixed
 
-object_is : (d : Delta) → IsObject d → d ≡ object_delta d.object
+pub object_is : (d : Delta) → IsObject d → d ≡ object_delta d.object
 unfolding words plan_words
 object_is d h = λ i. record { object = d.object; site = h i }
 
@@ -337,7 +337,7 @@ expanded_mix k a b s t =
     (expanded_puts k (support a) (support b) (support_objects a s) (support_ordered a s) (support_objects b t) (support_ordered b t)
     ∙ ap₂ add_deltas (expanded_support k a s) (expanded_support k b t))
 
-no_terms : (k : ℕ) (ts : List Term) → 1 ≤ k → is_empty (expanded_terms k ts) ≡ is_empty ts
+pub no_terms : (k : ℕ) (ts : List Term) → 1 ≤ k → is_empty (expanded_terms k ts) ≡ is_empty ts
 unfolding words plan_words
 no_terms k [] l = refl
 no_terms zero (t ∷ ts) l = absurd (omega (arith, l))

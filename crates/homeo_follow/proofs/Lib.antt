@@ -5,5 +5,7 @@ pub mod PlannedAtoms
 pub mod Residuals
 pub mod Simulated
 pub mod Standing
+pub mod Templated
 pub mod Terms
 pub mod Walked
+pub mod Weighed

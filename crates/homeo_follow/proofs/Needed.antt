@@ -107,7 +107,7 @@ module _ (k i : ℕ) where
 
 -- ---- prints
 -- in order, and at the one site
-record AreObjects (ds : List plan.Delta) : Type 0 where
+pub record AreObjects (ds : List plan.Delta) : Type 0 where
   pub objects : Each IsObject ds
   pub ordered : Ordered ds
 
@@ -268,3 +268,11 @@ needs_are_followed k b p inside w =
     ∙ ap₂ (λ ps xs. print_remote i ps (written_needs i r.forms (put_written i xs []))) s.prints.same s.written
     ∙ ap (print_remote i (map (expanded k) q.prints)) (away_written k i inside b r.forms q.forms s.forms.own s.forms.tidy_objects q.written)
     ∙ away_printed k i q.prints (write_needs b q.forms q.written) s.prints.tidy (objects_written k i inside b r.forms q.forms s.forms.own s.forms.tidy_objects q.written)
+
+pub objects_needed : (k : ℕ) (b : ℕ → ℤ) (p : PlannedCall) → p.site < k → IsWhole p.command → AreObjects (needed b (followed b p.command))
+unfolding words
+objects_needed k b p inside w =
+    let q : Followed = followed b p.command in
+    let s : Follows k p.site inside b (follow (shifted k p) (base_forms b)) q = follows k p.site inside b p.command w (base_forms b) (object_forms b) (stands_at_base k p.site inside b) in
+    objects_printed k p.site q.prints (write_needs b q.forms q.written) s.prints.tidy
+    (objects_written k p.site inside b (follow (shifted k p) (base_forms b)).forms q.forms s.forms.own s.forms.tidy_objects q.written)
