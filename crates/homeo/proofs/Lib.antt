@@ -1,8 +1,6 @@
-pub mod Accepting
 pub mod Bounded
+pub mod Called
 pub mod Decided
 pub mod Gathering
 pub mod OneOutput
-pub mod Scheduling
-pub mod Stepping
 pub mod Tabulating

@@ -1,3 +1,3 @@
-pub mod Scheduled
-pub mod Stepped
+pub mod Called
+pub mod Key
 pub mod Tabulated

@@ -4,15 +4,12 @@
 mod clients;
 pub mod laws;
 mod load;
-mod order;
 mod output;
 mod status;
-mod steps;
 mod stop;
 mod tables;
 mod top;
 mod treaty;
-mod work;
 
 pub use status::Status;
 pub use top::run;

@@ -1,4 +1,5 @@
 mod Adding
+mod CheckedSteps
 mod Comparing
 mod FormParts
 mod FormSteps

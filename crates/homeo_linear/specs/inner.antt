@@ -3,6 +3,4 @@ pub mod Items
 pub mod Kept
 pub mod Key
 pub mod Order
-pub mod Places
-pub mod Standing
 pub mod Terms

@@ -97,7 +97,11 @@ fn collected(alloc: Global, deltas: &[Delta]) -> Result<Vec<Delta>, Memory>
 
 /// The deltas in order, each once. It doesn't matter in which order they are added, so that they are sorted first, unless
 /// they are in order.
-pub(crate) fn joined(alloc: Global, deltas: Vec<Delta>) -> Result<Vec<Delta>, Memory>
+///
+/// # Errors
+///
+/// `Memory` when out of memory.
+pub fn joined(alloc: Global, deltas: Vec<Delta>) -> Result<Vec<Delta>, Memory>
     ensures { IfOk result (λ v. v.items ≡ add_deltas deltas.items []) }
 {
     if are_joined(deltas.as_slice()) {

@@ -7,12 +7,12 @@ ghost use Rattle.homeo_meaning.specs.Serial.{values_of};
 ghost use Rattle.homeo_plan.specs.FormSizes.{CanForm, CanSum, CanProduct};
 ghost use Rattle.homeo_plan.specs.Linear.{constant_form, base_forms, form, sum_form, product_form};
 ghost use Rattle.homeo_plan.specs.Limit.{form_limit};
-ghost use Rattle.homeo_linear.specs.inner.Standing.{forms_of};
+ghost use Rattle.homeo_linear.specs.Standing.{forms_of};
 
 use crate::form::{Form, Total};
 use crate::items::{Item, item_of};
-use crate::places::{place_of, place_of_temp};
 use crate::standing::Standing;
+use homeo_split::{place_of, place_of_temp};
 use homeo_syntax::{LExpr, Memory};
 use std::alloc::Global;
 

@@ -11,15 +11,15 @@ ghost use Rattle.homeo_plan.specs.Linear.{add_deltas, base_forms, support};
 ghost use Rattle.homeo_plan.specs.Needs.{remote, written_needs, add_written, needs, IsStraightOne, IsStraight};
 ghost use Rattle.homeo_plan.specs.Limit.{form_limit};
 ghost use Rattle.homeo_linear.specs.inner.Following.{needs_of, Followed};
-ghost use Rattle.homeo_linear.specs.inner.Places.{plain_place};
-ghost use Rattle.homeo_linear.specs.inner.Standing.{forms_of};
+ghost use Rattle.homeo_split.specs.Places.{plain_place};
+ghost use Rattle.homeo_linear.specs.Standing.{forms_of};
 
 use crate::deltas::joined;
 use crate::expressions::form;
 use crate::form::Form;
-use crate::places::{Place, place_of, place_of_temp};
 use crate::standing::Standing;
 use homeo_plan::Delta;
+use homeo_split::{Place, place_of, place_of_temp};
 use homeo_syntax::{LCommand, LExpr, Memory, SplitName, Temp};
 use std::alloc::Global;
 
@@ -87,7 +87,7 @@ impl<'a> Following<'a> {
     {
         let form = form(alloc, &self.standing, value)?;
         self.standing.set(place_of(target), form)?;
-        push_name(&mut self.written, target)
+        push_written(&mut self.written, target)
     }
 
     fn print(&mut self, alloc: Global, value: &LExpr) -> Result<(), Memory>
@@ -142,8 +142,12 @@ fn place_of_delta(delta: &Delta) -> Place
     }
 }
 
-/// The deltas of other sites in a form.
-fn remote_of(alloc: Global, site: u32, form: &Form) -> Result<Vec<Delta>, Memory>
+/// The deltas of other sites than this one in a form, mixed or not, in order.
+///
+/// # Errors
+///
+/// `Memory` when out of memory.
+pub fn remote_of(alloc: Global, site: u32, form: &Form) -> Result<Vec<Delta>, Memory>
     ensures { IfOk result (λ v. v.items ≡ remote site (support form.now)) }
 {
     let deltas = form.support(alloc)?;
@@ -168,9 +172,13 @@ fn is_remote(delta: &Delta, site: u32) -> bool
     delta.site != site
 }
 
-/// Puts a delta that is written behind the others.
+/// Puts a delta that is written behind the others. Another name isn't put there.
+///
+/// # Errors
+///
+/// `Memory` when out of memory.
 #[tactic(auto, unfolding(homeo_plan::specs::Key::words))]
-fn push_name(written: &mut Vec<Delta>, name: SplitName) -> Result<(), Memory>
+pub fn push_written(written: &mut Vec<Delta>, name: SplitName) -> Result<(), Memory>
     ensures { OnOk result (add_deltas written.new.items [] ≡ add_written name (add_deltas written.old.items [])) }
 {
     match name {

@@ -1,6 +1,6 @@
 //! Linear forms, their sums and products.
 
-ghost use Rattle.std.specs.Prelude.{◌≡◌, pos, IfOk};
+ghost use Rattle.std.specs.Prelude.{◌≡◌, ◌↔◌, IsTrue, pos, IfOk};
 ghost use Rattle.homeo_meaning.specs.Small.{IsSmall};
 ghost use Rattle.homeo_plan.specs.FormSizes.{Numbers};
 ghost use Rattle.homeo_plan.specs.Linear.{constant_form, delta_form, add_forms, scale_form, multiply_forms, mix_forms, is_pure, support};
@@ -10,7 +10,7 @@ ghost use Rattle.homeo_linear.specs.inner.Order.{InOrder};
 ghost use Rattle.homeo_linear.specs.inner.Terms.{term_form};
 
 use crate::deltas::{self, push_deltas_of};
-use crate::numbers::{added, multiplied};
+use crate::numbers::{added, are_small, is_small_number, multiplied};
 use crate::terms;
 use homeo_plan::{Delta, Linear, Term};
 use homeo_syntax::{List, Memory};
@@ -23,7 +23,7 @@ const LEAST_ROOM: usize = 1024;
 /// A linear form in the making: the constant and the terms added up. The terms and the mixed deltas are in order, each
 /// delta once, and no factor is 0.
 #[derive(Drop)]
-pub(crate) struct Form {
+pub struct Form {
     constant: i128,
     terms: Vec<Term>,
     mixed: Vec<Delta>,
@@ -54,7 +54,7 @@ impl Form {
     }
 
     /// The form of a value.
-    pub(crate) fn value(alloc: Global, n: i64) -> Form
+    pub fn value(alloc: Global, n: i64) -> Form
         ensures { result ≡ constant_form n }
     {
         Form::number(alloc, n as i128)
@@ -83,8 +83,12 @@ impl Form {
         })
     }
 
-    /// The other form put into this one.
-    pub(crate) fn plus(self, alloc: Global, other: &Form) -> Result<Form, Memory>
+    /// The sum with another form, which is put into this one.
+    ///
+    /// # Errors
+    ///
+    /// `Memory` when out of memory.
+    pub fn plus(self, alloc: Global, other: &Form) -> Result<Form, Memory>
         requires small { Numbers (IsSmall form_limit) self }
         requires other_small { Numbers (IsSmall form_limit) other.now }
         ensures { IfOk result (λ f. f ≡ add_forms other.now self) }
@@ -94,7 +98,11 @@ impl Form {
     }
 
     /// The form with its numbers multiplied.
-    pub(crate) fn times(&self, alloc: Global, factor: i128) -> Result<Form, Memory>
+    ///
+    /// # Errors
+    ///
+    /// `Memory` when out of memory.
+    pub fn times(&self, alloc: Global, factor: i128) -> Result<Form, Memory>
         requires factor { IsSmall form_limit factor }
         requires small { Numbers (IsSmall form_limit) self.now }
         ensures { IfOk result (λ f. f ≡ scale_form factor self.now) }
@@ -142,6 +150,17 @@ impl Form {
         self.terms.as_slice().is_empty() && self.mixed.as_slice().is_empty()
     }
 
+    /// Whether neither the constant nor a factor is above 4 * 10^18 in size.
+    pub fn is_small(&self) -> bool
+        ensures { IsTrue result ↔ Numbers (IsSmall form_limit) self.now }
+    {
+        if is_small_number(self.constant) {
+            are_small(self.terms.as_slice())
+        } else {
+            false
+        }
+    }
+
     /// Each delta of the form, mixed or not, in order.
     pub(crate) fn support(&self, alloc: Global) -> Result<Vec<Delta>, Memory>
         ensures value { IfOk result (λ v. v.items ≡ support self.now) }
@@ -152,13 +171,15 @@ impl Form {
         deltas::joined(alloc, deltas)
     }
 
-    pub(crate) fn constant(&self) -> i128
+    /// The value where all deltas are 0.
+    pub fn constant(&self) -> i128
         ensures { result ≡ self.now.constant }
     {
         self.constant
     }
 
-    pub(crate) fn into_linear(self) -> Linear
+    /// The form as plain data.
+    pub fn into_linear(self) -> Linear
         ensures { plain_linear result ≡ self }
     {
         Linear {

@@ -1,6 +1,7 @@
-//! Linear forms at a base: the atoms of formulas, and what residuals need of other sites.
+//! Linear forms at a base: of expressions, the atoms of formulas, and what residuals need of other sites.
 #![tactic(auto)]
 
+mod checked;
 mod comparisons;
 mod conditions;
 mod deltas;
@@ -10,10 +11,14 @@ mod form;
 mod formulas;
 mod items;
 mod numbers;
-mod places;
 mod residuals;
 mod standing;
 mod terms;
 
+pub use checked::checked_form;
+pub use deltas::joined as joined_deltas;
+pub use following::{push_written, remote_of};
+pub use form::Form;
 pub use formulas::atoms;
 pub use residuals::needs;
+pub use standing::Standing;

@@ -1,9 +1,12 @@
 //! Sums and products of the numbers of forms.
 
-ghost use Rattle.std.specs.Prelude.{◌≡◌, ◌+ℤ◌, ◌*ℤ◌};
+ghost use Rattle.std.specs.Prelude.{◌≡◌, ◌↔◌, IsTrue, ◌+ℤ◌, ◌*ℤ◌};
 ghost use Rattle.homeo_meaning.specs.Small.{IsSmall};
+ghost use Rattle.homeo_plan.specs.Each.{Each};
 ghost use Rattle.homeo_plan.specs.Limit.{form_limit};
 ghost use Rattle.homeo_linear.specs.inner.Terms.{sum_limit};
+
+use homeo_plan::Term;
 
 /// The second may be a sum of many.
 pub(crate) fn added(a: i128, b: i128) -> i128
@@ -20,4 +23,23 @@ pub(crate) fn multiplied(a: i128, b: i128) -> i128
     ensures { result ≡ a *ℤ b }
 {
     a * b
+}
+
+/// Whether a number is at most 4 * 10^18 in size.
+pub(crate) fn is_small_number(n: i128) -> bool
+    ensures { IsTrue result ↔ IsSmall form_limit n }
+{
+    -4000000000000000000 <= n && n <= 4000000000000000000
+}
+
+/// Whether each factor is so.
+pub(crate) fn are_small(terms: &[Term]) -> bool
+    ensures { IsTrue result ↔ Each (λ t. IsSmall form_limit t.factor) terms.now }
+{
+    for term in terms {
+        if !is_small_number(term.factor) {
+            return false;
+        }
+    }
+    true
 }

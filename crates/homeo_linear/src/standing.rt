@@ -7,14 +7,14 @@ ghost use Rattle.homeo_meaning.specs.Small.{IsSmall};
 ghost use Rattle.homeo_plan.specs.FormSizes.{Numbers};
 ghost use Rattle.homeo_plan.specs.Limit.{form_limit};
 ghost use Rattle.homeo_plan.specs.Linear.{base_forms, add_forms, scale_form};
-ghost use Rattle.homeo_linear.specs.inner.Places.{plain_place};
-ghost use Rattle.homeo_linear.specs.inner.Standing.{forms_of};
+ghost use Rattle.homeo_split.specs.Places.{plain_place};
+ghost use Rattle.homeo_linear.specs.Standing.{forms_of};
 
 use crate::form::{Form, Total};
 use crate::numbers::multiplied;
-use crate::places::Place;
 use homeo_meaning::padded::item_or;
 use homeo_plan::{Delta, Term};
+use homeo_split::Place;
 use homeo_syntax::Memory;
 use std::alloc::Global;
 use std::collections::HashMap;
@@ -22,13 +22,14 @@ use std::collections::HashMap;
 /// The forms at places that were set. At the others there is what a round begins with: temporaries are 0, bases are the
 /// numbers of the base, and each delta is itself.
 #[derive(Drop)]
-pub(crate) struct Standing<'a> {
+pub struct Standing<'a> {
     base: &'a [i64],
     set: HashMap<Place, Form>,
 }
 
 impl<'a> Standing<'a> {
-    pub(crate) fn new(alloc: Global, base: &'a [i64]) -> Standing<'a>
+    /// What stands as a round begins: nothing is set.
+    pub fn new(alloc: Global, base: &'a [i64]) -> Standing<'a>
         ensures { forms_of result ≡ base_forms (values_of base.now) }
     {
         Standing {
@@ -37,7 +38,12 @@ impl<'a> Standing<'a> {
         }
     }
 
-    pub(crate) fn set(&mut self, place: Place, form: Form) -> Result<(), Memory>
+    /// Sets the form at a place.
+    ///
+    /// # Errors
+    ///
+    /// `Memory` when out of memory.
+    pub fn set(&mut self, place: Place, form: Form) -> Result<(), Memory>
         ensures { OnOk result (forms_of self.new ≡ put (forms_of self.old) (plain_place place) form) }
     {
         self.set.insert(place, form)?;
@@ -45,7 +51,11 @@ impl<'a> Standing<'a> {
     }
 
     /// A copy of the form at a place.
-    pub(crate) fn form_at(&self, alloc: Global, place: Place) -> Result<Form, Memory>
+    ///
+    /// # Errors
+    ///
+    /// `Memory` when out of memory.
+    pub fn form_at(&self, alloc: Global, place: Place) -> Result<Form, Memory>
         ensures { IfOk result (λ f. f ≡ forms_of self.now (plain_place place)) }
     {
         match self.set.get(&place) {

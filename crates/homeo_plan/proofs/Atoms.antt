@@ -114,7 +114,7 @@ int_eq_is_not : (x y : ℤ) → int_eq x y ≡ false → x ≡ y → ⊥
 unfolding words meaning_words
 int_eq_is_not x y h e = true≢false (sym (int_eq_of x y e) ∙ h)
 
-true_comparison_holds :
+pub true_comparison_holds :
     (op : Compare) (a b : Linear) (s : State) (x y : ℤ) → Is a s x → Is b s y → Each (AtomHolds s) (true_comparison op a b) →
     compared op x y ≡ true
 unfolding words meaning_words
@@ -125,7 +125,7 @@ true_comparison_holds Equal a b s x y hx hy h =
     let q = gap b a (pos 0) s y x hy hx h.1.0 in
     int_eq_of x y (omega (arith, ints))
 
-false_comparison_holds :
+pub false_comparison_holds :
     (op : Compare) (v : Bool) (a b : Linear) (s : State) (x y : ℤ) → Is a s x → Is b s y →
     Each (AtomHolds s) (false_comparison op v a b) → compared op x y ≡ false
 unfolding words meaning_words
@@ -137,13 +137,13 @@ false_comparison_holds Equal false a b s x y hx hy h =
     let p = gap b a (pos 1) s y x hy hx h.0 in int_ne_of x y (λ e. omega (arith, ints))
 
 -- ---- at the base
-true_below : (op : Compare) (a b : Linear) → compared op a.constant b.constant ≡ true → Each IsBelowAtBase (true_comparison op a b)
+pub true_below : (op : Compare) (a b : Linear) → compared op a.constant b.constant ≡ true → Each IsBelowAtBase (true_comparison op a b)
 unfolding words meaning_words
 true_below Less a b h = (omega (arith, ints), tt)
 true_below LessEqual a b h = (omega (arith, ints), tt)
 true_below Equal a b h = let e = int_eq_is a.constant b.constant h in (omega (arith, ints), (omega (arith, ints), tt))
 
-false_below :
+pub false_below :
     (op : Compare) (a b : Linear) → compared op a.constant b.constant ≡ false →
     Each IsBelowAtBase (false_comparison op (int_lt a.constant b.constant) a b)
 unfolding words meaning_words
@@ -158,22 +158,22 @@ false_below Equal a b h = go (int_lt a.constant b.constant) refl
         (omega (arith, ints), tt)
 
 -- ---- whole formulas
-not_true : (v : Bool) → not v ≡ true → v ≡ false
+pub not_true : (v : Bool) → not v ≡ true → v ≡ false
 unfolding words meaning_words
 not_true true e = sym e
 not_true false e = refl
 
-not_false : (v : Bool) → not v ≡ false → v ≡ true
+pub not_false : (v : Bool) → not v ≡ false → v ≡ true
 unfolding words meaning_words
 not_false true e = refl
 not_false false e = sym e
 
-both_parts : (u v : Bool) → (u && v) ≡ true → (u ≡ true) × (v ≡ true)
+pub both_parts : (u v : Bool) → (u && v) ≡ true → (u ≡ true) × (v ≡ true)
 unfolding words meaning_words
 both_parts true v e = (refl, e)
 both_parts false v e = absurd (true≢false (sym e))
 
-never : (u : Bool) → (u && false) ≡ false
+pub never : (u : Bool) → (u && false) ≡ false
 unfolding words meaning_words
 never true = refl
 never false = refl

@@ -21,7 +21,7 @@ unfolding words meaning_words
 both_true true v e = (refl, e)
 both_true false v e = absurd (true≢false (sym e))
 
-same_terms_is : (ts us : List Term) → same_terms ts us ≡ true → ts ≡ us
+pub same_terms_is : (ts us : List Term) → same_terms ts us ≡ true → ts ≡ us
 unfolding words meaning_words
 same_terms_is [] [] e = refl
 same_terms_is [] (u ∷ us) e = absurd (true≢false (sym e))

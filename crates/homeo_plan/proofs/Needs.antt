@@ -45,7 +45,7 @@ each_written P i f d (e ∷ ds) m h =
     ⊎_elim (λ q. subst (λ z. Each P (remote i (support (f (DeltaAt z.object z.site))))) q k.0) (λ n. each_written P i f d ds n k.1) m
 
 module _ (i : ℕ) (s s' : State) (own : (x : ℕ) → s (DeltaAt x i) ≡ s' (DeltaAt x i)) where
-  support_agrees : (ds : List Delta) → Each (ZeroInBoth s s') (remote i ds) → Each (Agrees s s') ds
+  pub support_agrees : (ds : List Delta) → Each (ZeroInBoth s s') (remote i ds) → Each (Agrees s s') ds
   unfolding words meaning_words
   support_agrees [] h = tt
   support_agrees (d ∷ ds) h = go (d.site == i) refl (support_agrees ds) h
@@ -59,11 +59,11 @@ module _ (i : ℕ) (s s' : State) (own : (x : ℕ) → s (DeltaAt x i) ≡ s' (D
       go false q ih h = (h.0.here ∙ sym h.0.there, ih h.1)
 
   -- an own delta is the same in both, unless it was written
-  abbrev IsSameUnlessWritten : State → State → List Delta → ℕ → Type 0
+  abbrev pub IsSameUnlessWritten : State → State → List Delta → ℕ → Type 0
   unfolding words meaning_words
   IsSameUnlessWritten u u' ds x = (u (DeltaAt x i) ≡ u' (DeltaAt x i)) ⊎ Member (delta_of x i) ds
 
-  put_tracks :
+  pub put_tracks :
       (f : Forms) (u u' : State) (p : Location) (a : Linear) (v v' : ℤ) → TracksAll f s s' u u' → Tracks a s s' v v' →
       TracksAll (put f p a) s s' (put u p v) (put u' p v')
   unfolding words meaning_words
@@ -73,7 +73,7 @@ module _ (i : ℕ) (s s' : State) (own : (x : ℕ) → s (DeltaAt x i) ≡ s' (D
       go true = k
       go false = h q
 
-  still_same :
+  pub still_same :
       (u u' : State) (x j : ℕ) (v v' : ℤ) (ds : List Delta) (y : ℕ) → IsSameUnlessWritten u u' ds y →
       IsSameUnlessWritten (put u (DeltaAt x j) v) (put u' (DeltaAt x j) v') (add_delta (delta_of x j) ds) y
   unfolding words meaning_words

@@ -6,8 +6,8 @@ ghost use Rattle.homeo_syntax.specs.Lexemes as spec;
 ghost use Rattle.homeo_syntax.specs.Marks.{mark_text};
 ghost use Rattle.homeo_syntax.specs.Tokens as tokens;
 ghost use Rattle.homeo_syntax.specs.Versions.{also_reserved};
-ghost use Rattle.homeo_tokens.specs.Views.{plain_lexeme};
-ghost use Rattle.homeo_tokens.specs.inner.Lexemes.{plain_found, fixed, symbol_lexeme};
+ghost use Rattle.homeo_tokens.specs.Views.{plain_lexeme, plain_found};
+ghost use Rattle.homeo_tokens.specs.inner.Lexemes.{fixed, symbol_lexeme};
 
 use homeo_syntax::{Mark, Version};
 

@@ -8,7 +8,7 @@ use Rattle.homeo_meaning.specs.Small.{IsSmall}
 use Rattle.homeo_plan.specs.FormSizes.{Numbers}
 use Rattle.homeo_plan.specs.Linear.{constant_form}
 use Rattle.homeo_plan.specs.Limit.{form_limit}
-use Rattle.homeo_linear.specs.inner.Standing.{forms_of}
+use Rattle.homeo_linear.specs.Standing.{forms_of}
 use Rattle.homeo_linear.proofs.FormSteps.{one_is_small, sum_can, product_can, neg_can, neg_small, literal_form, temp_form, read_form, sum_is_form, product_is_form, neg_form, sum_step, sum_next, sum_stop, product_step, product_next, product_stop}
 use Rattle.homeo_linear.proofs.ItemForms.{item_read, item_negated, negated_small}
 use Rattle.homeo_linear.proofs.expressions.+expressions.Goals as goal

@@ -5,7 +5,7 @@ use Rattle.homeo_meaning.specs.Small.{IsSmall}
 use Rattle.homeo_plan.specs.FormSizes.{CanSum, CanProduct}
 use Rattle.homeo_plan.specs.Linear.{constant_form, sum_form, product_form}
 use Rattle.homeo_plan.specs.Limit.{form_limit}
-use Rattle.homeo_linear.specs.inner.Standing.{forms_of}
+use Rattle.homeo_linear.specs.Standing.{forms_of}
 use Rattle.homeo_linear.proofs.expressions.+expressions.Given as goal
 
 abbrev pub invariant-sum-loop-e : goal.invariant-sum-loop-e

@@ -7,8 +7,8 @@ use Rattle.homeo_linear.proofs.following.Following.write.Goals as goal
 
 pub returns : goal.returns
 returns c =
-    on_ok_weaker c.push_name.result
+    on_ok_weaker c.push_written.result
     (λ h. wrote c.args.self.now
-    (record { site = c.args.self.now.site; standing = c.set.new.self; written = c.push_name.new.written; prints = c.args.self.now.prints })
+    (record { site = c.args.self.now.site; standing = c.set.new.self; written = c.push_written.new.written; prints = c.args.self.now.prints })
     (plain_lexpr c.args.value.now) c.in_ok-form.form c.in_ok-form.ensures refl c.args.target _ c.place_of.ensures h refl
-    c.in_ok-set.ensures) c.push_name.ensures
+    c.in_ok-set.ensures) c.push_written.ensures

@@ -6,7 +6,7 @@ use Rattle.homeo_meaning.specs.Small.{IsSmall}
 use Rattle.homeo_plan.specs.FormSizes.{Numbers}
 use Rattle.homeo_plan.specs.Limit.{form_limit}
 use Rattle.homeo_plan.specs.Linear.{base_forms, add_forms}
-use Rattle.homeo_linear.specs.inner.Standing.{forms_of}
+use Rattle.homeo_linear.specs.Standing.{forms_of}
 use Rattle.homeo_linear.proofs.Stands.{stands-set, stands-unset}
 use Rattle.homeo_linear.proofs.standing.Standing.add_at.Goals as goal
 

@@ -3,7 +3,7 @@ use Rattle.std.proofs.Common.{◌∙◌}
 use Rattle.std.proofs.lemmas.Result.{IfOk-weaker}
 use Rattle.homeo_meaning.specs.Serial.{values_of}
 use Rattle.homeo_plan.specs.Linear.{base_forms}
-use Rattle.homeo_linear.specs.inner.Standing.{forms_of}
+use Rattle.homeo_linear.specs.Standing.{forms_of}
 use Rattle.homeo_linear.proofs.Stands.{stands-set, stands-unset}
 use Rattle.homeo_linear.proofs.standing.Standing.form_at.Goals as goal
 

@@ -1,7 +1,7 @@
 -- The form stands at the place.
 use Rattle.homeo_meaning.specs.Serial.{values_of}
 use Rattle.homeo_plan.specs.Linear.{base_forms}
-use Rattle.homeo_linear.specs.inner.Standing.{forms_of}
+use Rattle.homeo_linear.specs.Standing.{forms_of}
 use Rattle.homeo_linear.proofs.Stands.{stands-put}
 use Rattle.homeo_linear.proofs.standing.Standing.set.Goals as goal
 

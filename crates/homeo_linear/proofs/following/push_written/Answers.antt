@@ -1,0 +1,7 @@
+-- A delta is one more.
+use Rattle.homeo_linear.proofs.Needing.{written_more}
+use Rattle.homeo_linear.proofs.following.push_written.Goals as goal
+
+pub returns-in_ok-push-in-Delta : goal.returns-in_ok-push-in-Delta
+returns-in_ok-push-in-Delta c =
+    written_more c.args.written.now.items c.push.new.self.items c.args.name _ c.in_ok-push-in-Delta.ensures.items c.in-Delta.is
