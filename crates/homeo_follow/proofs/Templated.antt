@@ -53,6 +53,10 @@ same_behind n x y f g ts us e =
     int_is : (a c : ℤ) → int_eq a c ≡ true → a ≡ c
     int_is a c h = grind (arith, ints, h)
 
+and_same : (b p q : Bool) → (b ≡ true → p ≡ q) → (b && p) ≡ (b && q)
+and_same true p q h = h refl
+and_same false p q h = refl
+
 same_expanded : (k : ℕ) (ts us : List Term) → 1 ≤ k → OfEach IsObject ts → OfEach IsObject us → same_terms (expanded_terms k ts) (expanded_terms k us) ≡ same_terms ts us
 unfolding words plan_words
 same_expanded zero ts us l h g = absurd (omega (arith, l))
@@ -60,7 +64,8 @@ same_expanded (suc n) [] [] l h g = refl
 same_expanded (suc n) [] (u ∷ us) l h g = refl
 same_expanded (suc n) (t ∷ ts) [] l h g = refl
 same_expanded (suc n) (t ∷ ts) (u ∷ us) l h g =
-    go (same_term one two) refl (same_expanded (suc n) ts us l h.1 g.1)
+    and_same (same_term one two) (same_terms (terms_from 1 n t.delta.object t.factor ++ expanded_terms (suc n) ts) (terms_from 1 n u.delta.object u.factor ++ expanded_terms (suc n) us)) (same_terms ts us)
+    (λ e. same_behind n t.delta.object u.delta.object t.factor u.factor (expanded_terms (suc n) ts) (expanded_terms (suc n) us) e ∙ same_expanded (suc n) ts us l h.1 g.1)
     ∙ ap (λ b. b && same_terms ts us) (ap₂ same_term (sym (at t h.0)) (sym (at u g.0)))
   where
     one : Term
@@ -71,15 +76,6 @@ same_expanded (suc n) (t ∷ ts) (u ∷ us) l h g =
 
     at : (v : Term) → IsObject v.delta → v ≡ record { delta = delta_of v.delta.object 0; factor = v.factor }
     at v o = λ i. record { delta = object_is v.delta o i; factor = v.factor }
-
-    go :
-        (b : Bool) → same_term one two ≡ b → same_terms (expanded_terms (suc n) ts) (expanded_terms (suc n) us) ≡ same_terms ts us →
-        (same_term one two && same_terms (terms_from 1 n t.delta.object t.factor ++ expanded_terms (suc n) ts) (terms_from 1 n u.delta.object u.factor ++ expanded_terms (suc n) us)) ≡
-        (same_term one two && same_terms ts us)
-    go true e ih =
-        ap (λ b. same_term one two && b)
-        (same_behind n t.delta.object u.delta.object t.factor u.factor (expanded_terms (suc n) ts) (expanded_terms (suc n) us) e ∙ ih)
-    go false e ih = ap (λ b. b && _) e ∙ sym (ap (λ b. b && same_terms ts us) e)
 
 -- ---- the clauses of atoms
 abbrev AreObjectClauses : List Clause → Type 0
@@ -156,12 +152,6 @@ module _ (k : ℕ) (b : ℕ → ℤ) where
       ∙ sym (map-append (expanded k) (followed b g.command).atoms (followed_atoms b gs))
 
   module _ (d : Delta) where
-    x : Delta
-    x = object_delta d.object
-
-    within : Bool
-    within = nat_lt d.site k
-
     swapped : (u v w : Bool) → (u && (v && w)) ≡ (v && (u && w))
     swapped true true w = refl
     swapped true false w = refl

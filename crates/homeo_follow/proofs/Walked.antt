@@ -189,6 +189,9 @@ module _ (base : ℕ → ℤ) where
   value_at_base : (e : Expr) → value e (whole base) ≡ (form f e).constant
   value_at_base e = ap (value e) at_base ∙ value_constant f e
 
+  pub holds_at_base : (c : Cond) → holds c (whole base) ≡ holds_by f c
+  holds_at_base c = ap (holds c) at_base ∙ holds_constant f c
+
   passes_at_base : (t : Test) → passes t (whole base) ≡ passes_by f t
   passes_at_base t = ap (passes t) at_base ∙ passes_constant f t
 
@@ -206,7 +209,7 @@ module _ (base : ℕ → ℤ) where
     failed_test_is (Comparison op a b) =
         ap₂ (λ m n. false_comparison op (int_lt m n) (form f a) (form f b)) (value_at_base a) (value_at_base b)
 
-    passed_is : (c : Cond) → true_cond base c ≡ passed f c
+    pub passed_is : (c : Cond) → true_cond base c ≡ passed f c
     passed_is NoTest = refl
     passed_is (MoreTest t c) = ap₂ ◌++◌ (passed_test_is t) (passed_is c)
 
