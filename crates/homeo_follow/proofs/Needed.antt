@@ -270,7 +270,7 @@ needs_are_followed k b p inside w =
     ∙ away_printed k i q.prints (write_needs b q.forms q.written) s.prints.tidy (objects_written k i inside b r.forms q.forms s.forms.own s.forms.tidy_objects q.written)
 
 pub objects_needed : (k : ℕ) (b : ℕ → ℤ) (p : PlannedCall) → p.site < k → IsWhole p.command → AreObjects (needed b (followed b p.command))
-unfolding words
+unfolding words plan_words
 objects_needed k b p inside w =
     let q : Followed = followed b p.command in
     let s : Follows k p.site inside b (follow (shifted k p) (base_forms b)) q = follows k p.site inside b p.command w (base_forms b) (object_forms b) (stands_at_base k p.site inside b) in
