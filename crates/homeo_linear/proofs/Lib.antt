@@ -1,7 +1,6 @@
 mod Adding
 mod CheckedSteps
 mod Comparing
-mod Coursing
 mod FormParts
 mod FormSteps
 mod ItemForms

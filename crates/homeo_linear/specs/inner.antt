@@ -1,4 +1,3 @@
-pub mod Course
 pub mod Following
 pub mod Items
 pub mod Kept

@@ -4,7 +4,6 @@
 mod checked;
 mod comparisons;
 mod conditions;
-mod course;
 mod deltas;
 mod expressions;
 mod following;
