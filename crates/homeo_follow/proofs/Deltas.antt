@@ -1,6 +1,6 @@
 -- Lists of deltas in order, each once: which deltas are there says all of one.
 use Rattle.homeo_plan.specs.Key.{words as plan_words}
-use Rattle.std.proofs.Common.{◌≡◌, ℕ, ◌==◌, Bool, true, false, cond, not, ◌||◌, ◌&&◌, List, [], ◌∷◌, ◌++◌, ℤ, pos, ◌+ℤ◌, refl, sym, ap, ap₂, ◌∙◌, subst, true≢false, arith}
+use Rattle.std.proofs.Common.{◌≡◌, ℕ, ◌==◌, Bool, true, false, cond, not, ◌||◌, ◌&&◌, List, [], ◌∷◌, ◌++◌, ℤ, pos, ◌+ℤ◌, refl, sym, ap, ap₂, ◌∙◌, true≢false, arith}
 use Rattle.std.specs.List.{list_any}
 use Rattle.std.specs.Ordering.{int_eq}
 use Rattle.std.proofs.lemmas.Int.{ints}
@@ -10,7 +10,7 @@ use Rattle.homeo_plan.specs.declared.forms.Delta.{Delta}
 use Rattle.homeo_plan.specs.declared.forms.Term.{Term}
 use Rattle.homeo_plan.specs.Linear.{same_delta, delta_before, add_delta, add_deltas, deltas_of}
 use Rattle.homeo_plan.specs.Needs.{remote}
-use Rattle.homeo_plan.proofs.Factors.{at_delta, factor, same_delta_is, same_delta_refl, before_is_other, before_trans, before_total}
+use Rattle.homeo_plan.proofs.Factors.{factor, same_delta_is, same_delta_refl, before_is_other, before_trans, before_total}
 use Rattle.homeo_plan.proofs.Order.{Above, Sorted, none_above}
 use Rattle.homeo_follow.proofs.Terms.{AllCount}
 

@@ -9,14 +9,14 @@ use Rattle.homeo_plan.specs.Each.{Each}
 use Rattle.homeo_plan.specs.Split.{sum_from}
 use Rattle.homeo_plan.specs.declared.forms.Delta.{Delta}
 use Rattle.homeo_plan.specs.declared.forms.Term.{Term}
-use Rattle.homeo_plan.specs.Linear.{delta_of, same_delta, delta_before, Linear, constant_form, add_deltas, add_terms, scale_terms, deltas_of, add_forms, scale_form, is_empty, is_pure, support, mix_forms, multiply_forms}
+use Rattle.homeo_plan.specs.Linear.{delta_of, Linear, constant_form, add_deltas, add_terms, scale_terms, deltas_of, add_forms, scale_form, is_empty, is_pure, support, mix_forms, multiply_forms}
 use Rattle.homeo_plan.proofs.Factors.{at_delta, factor, add_terms_factor, scale_terms_factor}
 use Rattle.homeo_plan.proofs.Order.{Above, Sorted, sorted_adds, sorted_scale}
 use Rattle.homeo_plan.proofs.Sums.{sum_same, sum_at}
 use Rattle.homeo_follow.specs.Expanded.{terms_from, deltas_from, expanded_terms, expanded_deltas, expanded}
 use Rattle.homeo_follow.specs.Follow.{object_delta, object_form}
 use Rattle.homeo_follow.proofs.Terms.{AllCount, OfEach, count_adds, count_scale, each_adds, each_scale, same_terms, factor_append, each_append, sorted_append}
-use Rattle.homeo_follow.proofs.Deltas.{has, has_adds, has_append, After, Ordered, ordered_adds, each_puts, same_deltas, ordered_terms, has_term, and_or}
+use Rattle.homeo_follow.proofs.Deltas.{has, has_adds, After, Ordered, ordered_adds, each_puts, same_deltas, ordered_terms, has_term, and_or}
 
 -- ---- lists over whole objects
 abbrev pub IsObject : Delta → Type 0

@@ -2,30 +2,30 @@
 use Rattle.homeo_meaning.specs.Key.{words as meaning_words}
 use Rattle.homeo_plan.specs.Key.{words as plan_words}
 use Rattle.homeo_follow.specs.Key.{words}
-use Rattle.std.proofs.Common.{◌≡◌, ℕ, ◌==◌, ◌<◌, Bool, true, false, cond, not, ◌||◌, ◌&&◌, List, [], ◌∷◌, ◌++◌, map, ℤ, pos, negsuc, ◌+ℤ◌, ◌*ℤ◌, refl, sym, ap, ap₂, ◌∙◌, subst, arith}
+use Rattle.std.proofs.Common.{◌≡◌, ℕ, ◌==◌, ◌<◌, Bool, true, false, cond, not, ◌||◌, ◌&&◌, List, [], ◌∷◌, ◌++◌, map, ℤ, pos, negsuc, ◌+ℤ◌, ◌*ℤ◌, refl, sym, ap, ap₂, ◌∙◌, arith}
 use Rattle.std.specs.List.{list_any}
 use Rattle.std.specs.Ordering.{int_eq}
 use Rattle.std.proofs.lemmas.Int.{ints}
 use Rattle.std.proofs.lemmas.Bool.Decides.{nat_tests}
 use Rattle.homeo_syntax.specs.declared.low.SplitName.TheVariants.{Whole, Base, Delta}
 use Rattle.homeo_syntax.specs.Low.{Command, Commands, Skip, Assign, Write, Print, Seq, If, NoCommand, MoreCommand}
-use Rattle.homeo_meaning.specs.LowMeaning.{BaseAt, DeltaAt, State, holds, exec, whole}
+use Rattle.homeo_meaning.specs.LowMeaning.{BaseAt, DeltaAt, holds, exec, whole}
 use Rattle.homeo_meaning.specs.Whole.{IsWhole, AreWhole}
 use Rattle.homeo_plan.specs.Each.{Each}
 use Rattle.homeo_plan.specs.Split.{shift_cond, shift, shift_all}
 use Rattle.homeo_plan.specs.Table.{Row, test_before, otherwise, last_row, walk_before, walk_all_before}
 use Rattle.homeo_plan.specs.declared.forms.Delta as plan
-use Rattle.homeo_plan.specs.Linear.{delta_of, same_delta, Linear, add_delta, add_deltas, deltas_of, support, add_forms, scale_form, delta_form, Forms, base_forms, form}
+use Rattle.homeo_plan.specs.Linear.{delta_of, same_delta, Linear, add_delta, add_deltas, deltas_of, support, add_forms, scale_form, delta_form, Forms, base_forms}
 use Rattle.homeo_plan.specs.Needs.{remote, written_needs, needs_from, needs}
 use Rattle.homeo_plan.specs.Template.{PlannedCall, shifted, needs_of}
-use Rattle.homeo_plan.proofs.Factors.{at_delta, factor, add_terms_factor, scale_terms_factor, same_delta_is}
+use Rattle.homeo_plan.proofs.Factors.{factor, add_terms_factor, scale_terms_factor, same_delta_is}
 use Rattle.homeo_plan.proofs.Tables.{row_at_walk}
-use Rattle.homeo_follow.specs.Expanded.{expanded_terms, expanded_deltas, expanded}
+use Rattle.homeo_follow.specs.Expanded.{expanded_deltas, expanded}
 use Rattle.homeo_follow.specs.Follow.{holds_by, passed, failed, Followed, asked, follow, follow_all, object_form, object_forms, followed, gain, print_needs, write_needs, needed}
 use Rattle.homeo_follow.proofs.Walked.{constants, holds_constant, state_after, at_base}
 use Rattle.homeo_follow.proofs.Deltas.{has, has_adds, any_add, or_move, Ordered, ordered_adds, each_puts, same_deltas, has_term, has_remote, ordered_remote, remote_puts}
 use Rattle.homeo_follow.proofs.Expansions.{IsObject, IsTidy, tidy_object, tidy_scale, tidy_add, ordered_expanded, expanded_puts, expanded_add, expanded_times, expanded_support, sorted_expanded, count_expanded, support_objects, support_ordered}
-use Rattle.homeo_follow.proofs.Standing.{others, IsOwn, own_begins, stands_at_base, or_false}
+use Rattle.homeo_follow.proofs.Standing.{IsOwn, own_begins, stands_at_base, or_false}
 use Rattle.homeo_follow.proofs.Simulated.{Follows, follows}
 use Rattle.homeo_follow.proofs.PlannedAtoms.{no_temps}
 

@@ -6,23 +6,22 @@ use Rattle.std.proofs.Common.{◌≡◌, ℕ, ◌==◌, ◌<◌, Bool, true, fal
 use Rattle.std.proofs.lemmas.Int.{ints}
 use Rattle.std.proofs.lemmas.Bool.Decides.{nat_tests}
 use Rattle.homeo_syntax.specs.declared.low.SplitName.TheVariants.{Whole, Base, Delta}
-use Rattle.homeo_syntax.specs.Low.{Expr, Command, Commands, Skip, Assign, Write, Print, Seq, If, NoCommand, MoreCommand}
+use Rattle.homeo_syntax.specs.Low.{Command, Commands, Skip, Assign, Write, Print, Seq, If, NoCommand, MoreCommand}
 use Rattle.homeo_meaning.specs.LowMeaning.{Location, TempAt, BaseAt, DeltaAt, State, Run, location_of, same_location, put, value, holds, exec, exec_all, after_prints, whole}
 use Rattle.homeo_meaning.specs.Whole.{IsWhole, AreWhole}
 use Rattle.homeo_plan.specs.Each.{Each}
-use Rattle.homeo_plan.specs.Split.{IsKept, Follows, sum_from, fold_state, shift_cond, shift, shift_all}
+use Rattle.homeo_plan.specs.Split.{Follows, sum_from, fold_state, shift_cond, shift, shift_all}
 use Rattle.homeo_plan.specs.Table.{Row, test_before, otherwise, last_row, walk_before, walk_all_before}
 use Rattle.homeo_plan.specs.Joined.{Deltas, alone}
-use Rattle.homeo_plan.specs.Linear.{Linear, constant_form, Forms, base_forms, form, form_value, IsZeroAt}
+use Rattle.homeo_plan.specs.Linear.{Linear, Forms, base_forms, form, form_value, IsZeroAt}
 use Rattle.homeo_plan.specs.Template.{PlannedCall, shifted, base_row}
-use Rattle.homeo_plan.specs.Local.{local_prints, local_deltas}
 use Rattle.homeo_plan.proofs.Shift.{shift_follows}
-use Rattle.homeo_plan.proofs.Sums.{sum_same, sum_zero, sum_pick}
+use Rattle.homeo_plan.proofs.Sums.{sum_same, sum_pick}
 use Rattle.homeo_plan.proofs.Tables.{row_at_walk}
 use Rattle.homeo_plan.proofs.Tracked.{Is, Tracks, TracksAll, tracks, tracks_constant}
 use Rattle.homeo_follow.specs.Follow.{holds_by, passed, failed, Followed, asked, follow, follow_all, object_form, object_forms, followed}
-use Rattle.homeo_follow.specs.Lines.{line, IsUnmixed, RunsByLines}
-use Rattle.homeo_follow.proofs.Walked.{constants, holds_constant, state_after, state_after_all, at_base}
+use Rattle.homeo_follow.specs.Lines.{IsUnmixed, RunsByLines}
+use Rattle.homeo_follow.proofs.Walked.{constants, holds_constant, state_after, at_base}
 use Rattle.homeo_follow.proofs.Standing.{Stands, stands_at_base}
 use Rattle.homeo_follow.proofs.Simulated as sim
 use Rattle.homeo_follow.proofs.PlannedAtoms.{no_temps}

@@ -2,7 +2,7 @@
 use Rattle.homeo_meaning.specs.Key.{words as meaning_words}
 use Rattle.homeo_plan.specs.Key.{words as plan_words}
 use Rattle.homeo_follow.specs.Key.{words}
-use Rattle.std.proofs.Common.{◌≡◌, ℕ, ◌<◌, ◌≤◌, Bool, true, false, cond, not, ◌&&◌, List, [], ◌∷◌, ◌++◌, map, ℤ, pos, negsuc, int_lt, refl, sym, ap, ap₂, ◌∙◌, subst, arith}
+use Rattle.std.proofs.Common.{◌≡◌, ℕ, ◌<◌, ◌≤◌, Bool, true, false, cond, not, ◌&&◌, List, [], ◌∷◌, ◌++◌, map, ℤ, pos, negsuc, int_lt, refl, sym, ap, ap₂, ◌∙◌, arith}
 use Rattle.std.proofs.lemmas.List.{map-append}
 use Rattle.homeo_syntax.specs.declared.phrase.Compare.{Compare}
 use Rattle.homeo_syntax.specs.declared.phrase.Compare.TheVariants.{Less, LessEqual, Equal}
@@ -14,7 +14,7 @@ use Rattle.homeo_plan.specs.Split.{shift_expr, shift_exprs, shift_test, shift_co
 use Rattle.homeo_plan.specs.Linear.{Linear, constant_form, add_forms, scale_form, multiply_forms, Forms, form, sum_form, product_form}
 use Rattle.homeo_plan.specs.Atoms.{difference, true_comparison, false_comparison}
 use Rattle.homeo_follow.specs.Expanded.{expanded}
-use Rattle.homeo_follow.specs.Follow.{passes_by, holds_by, passed_test, failed_test, passed, failed, Followed, asked, and_then, follow, follow_all}
+use Rattle.homeo_follow.specs.Follow.{passes_by, holds_by, passed_test, failed_test, passed, failed, Followed, asked, follow, follow_all}
 use Rattle.homeo_plan.specs.Each.{Each}
 use Rattle.homeo_follow.proofs.Terms.{each_append}
 use Rattle.homeo_follow.proofs.Expansions.{IsTidy, tidy_constant, tidy_add, tidy_scale, tidy_multiply, expanded_add, expanded_times, expanded_multiply}

@@ -2,7 +2,7 @@
 use Rattle.homeo_meaning.specs.Key.{words as meaning_words}
 use Rattle.homeo_plan.specs.Key.{words as plan_words}
 use Rattle.homeo_follow.specs.Key.{words}
-use Rattle.std.proofs.Common.{◌≡◌, ℕ, zero, suc, ◌==◌, ◌+◌, ◌<◌, ◌≤◌, nat_lt, Bool, true, false, cond, ◌||◌, ◌&&◌, List, [], ◌∷◌, ◌++◌, ℤ, pos, negsuc, ◌+ℤ◌, ◌*ℤ◌, refl, sym, ap, ap₂, ◌∙◌, subst, arith}
+use Rattle.std.proofs.Common.{◌≡◌, ℕ, zero, suc, ◌==◌, ◌+◌, ◌<◌, ◌≤◌, Bool, true, false, cond, ◌||◌, ◌&&◌, [], ℤ, pos, negsuc, ◌+ℤ◌, ◌*ℤ◌, refl, sym, ap, ap₂, ◌∙◌, subst, arith}
 use Rattle.std.proofs.lemmas.Int.{ints}
 use Rattle.std.proofs.lemmas.Bool.Decides.{nat_tests}
 use Rattle.homeo_syntax.specs.declared.low.Temp.{Temp}
@@ -11,7 +11,7 @@ use Rattle.homeo_syntax.specs.Low.{Expr, Exprs, Read, Sum, Neg, NoExpr, MoreExpr
 use Rattle.homeo_meaning.specs.LowMeaning.{TempAt, BaseAt, DeltaAt, same_temp, put}
 use Rattle.homeo_plan.specs.Split.{sum_from, delta_reads, other_deltas, shift_read}
 use Rattle.homeo_plan.specs.declared.forms.Delta.{Delta}
-use Rattle.homeo_plan.specs.Linear.{delta_of, Linear, constant_form, delta_form, add_forms, scale_form, add_deltas, Forms, base_forms, form, sum_form, scale_terms}
+use Rattle.homeo_plan.specs.Linear.{delta_of, Linear, constant_form, delta_form, add_forms, scale_form, Forms, base_forms, form, sum_form, scale_terms}
 use Rattle.homeo_plan.proofs.Factors.{at_delta, factor, add_terms_factor, scale_terms_factor}
 use Rattle.homeo_plan.proofs.Order.{Sorted, sorted_adds}
 use Rattle.homeo_plan.proofs.Sums.{sum_same, sum_add, sum_pick}

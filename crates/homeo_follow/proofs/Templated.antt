@@ -1,29 +1,27 @@
 -- The template of ground calls is that of their commands over whole objects.
 use Rattle.homeo_plan.specs.Key.{words as plan_words}
 use Rattle.homeo_follow.specs.Key.{words}
-use Rattle.std.proofs.Common.{◌≡◌, ℕ, zero, suc, ◌==◌, ◌<◌, ◌≤◌, nat_lt, Bool, true, false, cond, not, ◌||◌, ◌&&◌, List, [], ◌∷◌, ◌++◌, map, ℤ, neg_ℤ, refl, sym, ap, ap₂, ◌∙◌, subst, arith}
+use Rattle.std.proofs.Common.{◌≡◌, ℕ, zero, suc, ◌==◌, ◌<◌, ◌≤◌, nat_lt, Bool, true, false, cond, not, ◌||◌, ◌&&◌, List, [], ◌∷◌, ◌++◌, map, ℤ, neg_ℤ, refl, sym, ap, ap₂, ◌∙◌, arith}
 use Rattle.std.specs.List.{list_any}
 use Rattle.std.specs.Ordering.{int_eq}
 use Rattle.std.proofs.lemmas.Int.{ints}
 use Rattle.std.proofs.lemmas.List.{map-append}
 use Rattle.std.proofs.lemmas.Bool.{and_parts}
-use Rattle.std.proofs.lemmas.Bool.Decides.{nat_tests}
 use Rattle.homeo_meaning.specs.Whole.{IsWhole}
 use Rattle.homeo_plan.specs.Each.{Each}
 use Rattle.homeo_plan.specs.declared.forms.Delta.{Delta}
 use Rattle.homeo_plan.specs.declared.forms.Term.{Term}
 use Rattle.homeo_plan.specs.Linear.{delta_of, same_delta, Linear, add_deltas, is_empty, base_forms}
-use Rattle.homeo_plan.specs.Needs.{remote}
 use Rattle.homeo_plan.specs.Template.{PlannedCall, atoms_of, needs_of, Clause, clause_of, same_term, same_terms, same_clause, with_clause, clauses_from, joined, put_all, template}
 use Rattle.homeo_plan.proofs.Factors.{same_delta_is, same_delta_refl}
 use Rattle.homeo_follow.specs.Expanded.{terms_from, expanded_terms, expanded_deltas, expanded}
-use Rattle.homeo_follow.specs.Follow.{object_delta, object_forms, Followed, followed, needed}
+use Rattle.homeo_follow.specs.Follow.{object_delta, object_forms, followed, needed}
 use Rattle.homeo_follow.specs.ObjectTemplate.{expanded_clause, followed_atoms, has_object, is_frozen, IsByObjects}
 use Rattle.homeo_follow.proofs.Terms.{OfEach, each_append}
 use Rattle.homeo_follow.proofs.Deltas.{has, has_adds, has_remote, or_move, and_or}
 use Rattle.homeo_follow.proofs.Expansions.{IsObject, IsTidy, object_is, has_expanded, no_terms}
 use Rattle.homeo_follow.proofs.Standing.{stands_at_base}
-use Rattle.homeo_follow.proofs.Simulated.{Follows, follows}
+use Rattle.homeo_follow.proofs.Simulated.{follows}
 use Rattle.homeo_follow.proofs.PlannedAtoms.{atoms_are_followed}
 use Rattle.homeo_follow.proofs.Needed.{AreObjects, objects_needed, needs_are_followed}
 

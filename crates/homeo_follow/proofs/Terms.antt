@@ -1,13 +1,13 @@
 -- Lists of terms in order and without zeros: the factors say all of one.
 use Rattle.homeo_plan.specs.Key.{words as plan_words}
-use Rattle.std.proofs.Common.{◌≡◌, Bool, true, false, cond, List, [], ◌∷◌, ◌++◌, ℤ, pos, ◌+ℤ◌, ◌*ℤ◌, refl, sym, ap, ap₂, ◌∙◌, subst, true≢false, arith}
+use Rattle.std.proofs.Common.{◌≡◌, Bool, true, false, cond, List, [], ◌∷◌, ◌++◌, ℤ, pos, ◌+ℤ◌, ◌*ℤ◌, refl, sym, ap, ap₂, ◌∙◌, true≢false, arith}
 use Rattle.std.proofs.lemmas.Int.{ints}
 use Rattle.std.specs.Ordering.{int_eq}
 use Rattle.homeo_plan.specs.Each.{Each}
 use Rattle.homeo_plan.specs.declared.forms.Delta.{Delta}
 use Rattle.homeo_plan.specs.declared.forms.Term.{Term}
 use Rattle.homeo_plan.specs.Linear.{same_delta, delta_before, with_term, add_term, add_terms, scale_terms}
-use Rattle.homeo_plan.proofs.Factors.{at_delta, factor, same_delta_is, same_delta_refl, before_is_other, before_total}
+use Rattle.homeo_plan.proofs.Factors.{at_delta, factor, same_delta_is, before_total}
 use Rattle.homeo_plan.proofs.Order.{Above, Sorted, above_before, none_above, head_factor}
 
 -- ---- factors that aren't 0

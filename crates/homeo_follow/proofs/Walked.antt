@@ -2,7 +2,7 @@
 use Rattle.homeo_meaning.specs.Key.{words as meaning_words}
 use Rattle.homeo_plan.specs.Key.{words as plan_words}
 use Rattle.homeo_follow.specs.Key.{words}
-use Rattle.std.proofs.Common.{◌≡◌, ℕ, Bool, true, false, cond, not, ◌&&◌, List, [], ◌∷◌, ◌++◌, ℤ, pos, negsuc, ◌+ℤ◌, ◌*ℤ◌, neg_ℤ, int_lt, refl, sym, ap, ap₂, ◌∙◌, append_assoc, append-nil, arith}
+use Rattle.std.proofs.Common.{◌≡◌, ℕ, Bool, true, false, cond, not, ◌&&◌, ◌++◌, ℤ, pos, ◌+ℤ◌, ◌*ℤ◌, int_lt, refl, sym, ap, ap₂, ◌∙◌, append_assoc, append-nil, arith}
 use mathlib.Core.Path.{fun_ext}
 use Rattle.std.proofs.lemmas.Int.{ints}
 use Rattle.homeo_syntax.specs.Low.{Expr, Exprs, Literal, OfTemp, Read, Sum, Product, Neg, NoExpr, MoreExpr, Test, Cond, True, Not, Comparison, NoTest, MoreTest, Command, Commands, Skip, Assign, Write, Print, Seq, If, NoCommand, MoreCommand}
@@ -10,10 +10,10 @@ use Rattle.homeo_meaning.specs.Meaning.{compared}
 use Rattle.homeo_meaning.specs.LowMeaning.{Location, TempAt, BaseAt, DeltaAt, State, location_of, same_location, put, value, sum_value, product_value, passes, holds, exec, exec_all, whole}
 use Rattle.homeo_plan.specs.Linear.{Linear, constant_form, add_forms, scale_form, multiply_forms, is_pure, mix_forms, Forms, base_forms, form, sum_form, product_form}
 use Rattle.homeo_plan.specs.Atoms.{true_comparison, false_comparison, true_test, false_test, true_cond, false_cond}
-use Rattle.homeo_plan.specs.Table.{Row, replace, replace_test, replace_cond, both, set_before, print_before, test_before, otherwise, clear, clear_test, clear_cond, last_row, walk_before, walk_all_before, walk}
+use Rattle.homeo_plan.specs.Table.{Row, replace_test, replace_cond, both, test_before, otherwise, clear_test, clear_cond, last_row, walk_before, walk_all_before, walk}
 use Rattle.homeo_plan.proofs.Replaced.{form_replace}
 use Rattle.homeo_plan.proofs.Cleared.{form_clear}
-use Rattle.homeo_follow.specs.Follow.{passes_by, holds_by, passed_test, failed_test, passed, failed, Followed, nothing, asked, and_then, follow, follow_all}
+use Rattle.homeo_follow.specs.Follow.{passes_by, holds_by, passed_test, failed_test, passed, failed, asked, follow, follow_all}
 
 -- ---- what stands at the base is the constants of the forms
 abbrev pub constants : Forms → State

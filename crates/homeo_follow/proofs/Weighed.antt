@@ -2,7 +2,7 @@
 use Rattle.homeo_meaning.specs.Key.{words as meaning_words}
 use Rattle.homeo_plan.specs.Key.{words as plan_words}
 use Rattle.homeo_follow.specs.Key.{words}
-use Rattle.std.proofs.Common.{◌≡◌, ℕ, ◌+◌, ◌*◌, ◌≤◌, max, Bool, true, false, cond, ◌&&◌, ℤ, pos, ◌+ℤ◌, refl, sym, subst, arith}
+use Rattle.std.proofs.Common.{◌≡◌, ℕ, ◌+◌, ◌*◌, ◌≤◌, max, Bool, true, false, cond, ℤ, pos, ◌+ℤ◌, arith}
 use Rattle.std.specs.Int.RustNames.{unsigned_abs}
 use Rattle.std.proofs.lemmas.Bool.{and_parts}
 use Rattle.homeo_syntax.specs.Low.{Expr, Exprs, Literal, OfTemp, Read, Sum, Product, Neg, NoExpr, MoreExpr, Test, Cond, True, Not, Comparison, NoTest, MoreTest, Command, Commands, Skip, Assign, Write, Print, Seq, If, NoCommand, MoreCommand}
@@ -11,14 +11,13 @@ use Rattle.homeo_meaning.specs.LowMeaning.{Location, TempAt, BaseAt, DeltaAt, lo
 use Rattle.homeo_meaning.specs.LowWeights.{weight, sum_weight, product_weight, after, after_all, is_light_expr, is_light_test, is_light_cond, is_light, are_light, first_weights, weight_at}
 use Rattle.homeo_meaning.specs.Schema.{Schema}
 use Rattle.homeo_meaning.specs.Small.{IsSmall}
-use Rattle.homeo_plan.specs.declared.forms.Delta.{Delta}
 use Rattle.homeo_plan.specs.Linear.{Linear, constant_form, add_forms, multiply_forms, same_delta, Forms, form, sum_form, product_form}
-use Rattle.homeo_plan.specs.FormSizes.{Numbers, CanForm, CanSum, CanProduct, CanTest, CanCond}
+use Rattle.homeo_plan.specs.FormSizes.{CanForm, CanSum, CanProduct, CanTest, CanCond}
 use Rattle.homeo_plan.proofs.Sizes.{Within, numbers, wider, within_constant, within_add, within_negated, within_multiply}
 use Rattle.homeo_plan.proofs.Made.{Made, one_weight, one_product, one_mul, factor_le}
 use Rattle.homeo_plan.proofs.MadeTests.{weight_small, subtract}
 use Rattle.homeo_plan.proofs.SmallForms.{size_at, one_at}
-use Rattle.homeo_follow.specs.Follow.{holds_by, passed, failed, Followed, asked, follow, follow_all, object_delta, object_form, object_forms}
+use Rattle.homeo_follow.specs.Follow.{holds_by, passed, failed, asked, follow, follow_all, object_delta, object_form, object_forms}
 use Rattle.homeo_follow.specs.FollowSizes.{AreNumbers, CanBeFollowed, CanAllBeFollowed}
 
 module _ (b : ℕ) where

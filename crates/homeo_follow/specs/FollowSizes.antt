@@ -6,7 +6,7 @@ use Rattle.homeo_meaning.specs.LowMeaning.{Location}
 use Rattle.homeo_plan.specs.Linear.{Forms}
 use Rattle.homeo_plan.specs.FormSizes.{Numbers, CanForm, CanCond}
 use Rattle.homeo_follow.specs.Key.{words}
-use Rattle.homeo_follow.specs.Follow.{holds_by, follow, follow_all}
+use Rattle.homeo_follow.specs.Follow.{holds_by, follow}
 
 module _ (P : ℤ → Type 0) where
   -- the numbers of the forms at each place

@@ -1,5 +1,5 @@
 -- What a local step prints and leaves, by the forms of the command that is followed.
-use Rattle.std.specs.Prelude.{◌≡◌, ℕ, List, [], map, ℤ, ◌+ℤ◌}
+use Rattle.std.specs.Prelude.{◌≡◌, ℕ, [], map, ℤ, ◌+ℤ◌}
 use Rattle.homeo_meaning.specs.LowMeaning.{BaseAt}
 use Rattle.homeo_plan.specs.Each.{Each}
 use Rattle.homeo_plan.specs.Linear.{Linear, form_value}
