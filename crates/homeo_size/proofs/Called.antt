@@ -27,7 +27,7 @@ use Rattle.homeo_size.specs.Measured.{IsMeasure}
 use Rattle.homeo_size.specs.inner.Writing.{body_measured}
 use Rattle.homeo_size.specs.inner.Nodes.{commands_nodes}
 use Rattle.homeo_size.specs.inner.Numbers.{weight_cap}
-use Rattle.homeo_size.specs.inner.Parts.{single, unwritten, none}
+use Rattle.homeo_size.specs.inner.Parts.{single, unwritten}
 use Rattle.homeo_size.specs.inner.Prints.{all_prints}
 use Rattle.homeo_size.specs.inner.Sizing.{Setting}
 use Rattle.homeo_size.specs.inner.Store.{Store}

@@ -1,6 +1,5 @@
 -- One more command is measured, and a delete.
-use Rattle.std.proofs.Common.{◌≡◌, ℕ, ◌+◌, ◌<◌, Bool, false, ◌||◌, List, [], ◌∷◌, drop, get_or, length, map, pos, refl, sym, ap, ◌∙◌}
-use Rattle.homeo_syntax.specs.Key.{words as tree_words}
+use Rattle.std.proofs.Common.{◌≡◌, ℕ, ◌+◌, ◌<◌, Bool, false, ◌||◌, List, ◌∷◌, drop, get_or, length, map, pos, sym, ap, ◌∙◌}
 use Rattle.homeo_syntax.specs.SourceView.{commands, plain_cond, plain_command}
 use Rattle.homeo_syntax.specs.declared.phrase.Cond.{Cond}
 use Rattle.homeo_syntax.specs.declared.phrase.Ident.{Ident}
@@ -8,7 +7,6 @@ use Rattle.homeo_syntax.specs.declared.command.Command.{Command, Delete}
 use Rattle.homeo_syntax.proofs.SourceViews.{plain_Delete}
 use Rattle.homeo_meaning.specs.Aborts.{holds_abort}
 use Rattle.homeo_meaning.specs.Context.{Slot}
-use Rattle.homeo_size.specs.inner.Key.{words}
 use Rattle.homeo_size.specs.inner.Measuring.{cleared, guard, guard_after, after, after_all, visits, measured, all_measured}
 use Rattle.homeo_size.specs.inner.Parts.{literal, writing, none, with_one}
 use Rattle.homeo_size.specs.inner.Sizing.{Setting}

@@ -1,5 +1,5 @@
 -- The definitions form by form and along lists, as equations, which code rewrites by.
-use Rattle.std.proofs.Common.{◌≡◌, ℕ, suc, Bool, true, false, ◌||◌, ℤ, pos, List, [], ◌∷◌, length, Option, Some, None, refl}
+use Rattle.std.proofs.Common.{◌≡◌, ℕ, suc, Bool, false, ◌||◌, ℤ, pos, List, [], ◌∷◌, length, Option, Some, None, refl}
 use Rattle.homeo_syntax.specs.Key.{words as tree_words}
 use Rattle.homeo_syntax.specs.Source as s
 use Rattle.homeo_syntax.specs.SourceView.{exprs, tests, commands}
@@ -9,7 +9,7 @@ use Rattle.homeo_meaning.specs.Aborts.{holds_abort, hold_abort}
 use Rattle.homeo_meaning.specs.Context.{Spot, Slot, cell, field_cell, slot_at, spot}
 use Rattle.homeo_meaning.specs.Schema.{Declared}
 use Rattle.homeo_size.specs.inner.Key.{words}
-use Rattle.homeo_size.specs.inner.Measuring.{Filled, chain_raised, field_raised, slot_raised, chain_writing, slot_writing, field_writing, values_lifted, fillings, slot_filling, chain_filling, into_sized, slot_filled, chain_filled, inserted, inserting, cleared, row_set, row_setting, field_set, field_setting, unless_ended, guard, guard_after, before_turn, in_turn, after, after_all, visits, measured, all_measured, each_after, each_measured}
+use Rattle.homeo_size.specs.inner.Measuring.{Filled, chain_raised, field_raised, slot_raised, chain_writing, slot_writing, field_writing, values_lifted, fillings, slot_filling, chain_filling, into_sized, slot_filled, chain_filled, inserted, inserting, cleared, row_set, row_setting, field_set, field_setting, guard, guard_after, before_turn, in_turn, after, after_all, visits, measured, all_measured, each_after, each_measured}
 use Rattle.homeo_size.specs.inner.Parts.{literal, nothing, no_factor, beside, plus, times, around, summed, compared, truth, greater, written, empty, valued, writing, chosen, none, with_one, placed, within_tests, is_equal, guarded}
 use Rattle.homeo_size.specs.inner.Sizing.{Sizes, Setting, bound, name_sized, slot_sized, chain_sized, chain_measured, field_sized, field_lifted, missing_at, missing, literal_in, term_sized, added, total_sized, used_test, sized, sum_sized, product_sized, test_sized, tests_sized, lifted, all_lifted, test_lifted, tests_lifted, total_of, total_visits, total_lifted}
 use Rattle.homeo_size.specs.inner.Store.{Store, set_entry, raise_entry, closed, since, reopened, joined, visited}

@@ -5,10 +5,9 @@ use Rattle.std.proofs.lemmas.Bool.Decides.{nat_tests}
 use Rattle.homeo_syntax.specs.declared.low.Temp.TheVariants as temp
 use Rattle.homeo_syntax.specs.declared.low.SplitName.TheVariants as split
 use Rattle.homeo_syntax.specs.Low as L
-use Rattle.homeo_syntax.specs.Source.{FieldValue, Command, Commands, Skip, Assign, Write, Print, If, Block, SetField, SetRow, Foreach, Insert, Delete, Update, Abort, NoCommand, MoreCommand}
+use Rattle.homeo_syntax.specs.Source.{Command, Commands, Skip, Assign, Write, Print, If, Block, SetField, SetRow, Foreach, Insert, Delete, Update, Abort, NoCommand, MoreCommand}
 use Rattle.homeo_meaning.specs.Key.{words as meaning_words}
 use Rattle.homeo_meaning.specs.Aborts.{holds_abort, hold_abort}
-use Rattle.homeo_meaning.specs.LowMeaning.{TempAt, BaseAt, put}
 use Rattle.homeo_meaning.specs.Context.{Spot, Slot, Context, spot, cell, field_cell, object, slots, fields, bind, slot_at}
 use Rattle.homeo_meaning.specs.LForm.{Lifted, Made, one_test, equal, read, set_flag, unless_ended, guard, in_turn, joined, in_front, within, guarded, write_field, write_chain, write_at, write_by, pair, visits, Target, all_within, field_writes, fill_chain, lift, lift_cond, lift_values, literal_of, as_one, clear, form, forms}
 use Rattle.homeo_size.specs.inner.Key.{words}
@@ -19,7 +18,7 @@ use Rattle.homeo_size.specs.declared.measures.Before.{Before}
 use Rattle.homeo_size.proofs.Branching.{greater_same}
 use Rattle.homeo_size.proofs.Lifting.{at_fresh, Lifts, after_both, after_front, joined_lifts}
 use Rattle.homeo_size.proofs.LiftedPhrases.{setting_for, conds, lifts, lifts_cond}
-use Rattle.homeo_size.proofs.Low.{Extents, low_sized, low_tests, low_after, low_after_all}
+use Rattle.homeo_size.proofs.Low.{Extents, low_sized, low_after, low_after_all}
 use Rattle.homeo_size.proofs.Writes.{pair_sized, values_lifts}
 
 abbrev pub Keeps : ℕ → Extents → Extents → Type 0

@@ -1,5 +1,5 @@
 -- Every L form is measured as the pass tells.
-use Rattle.std.proofs.Common.{◌≡◌, ℕ, ◌≤◌, Bool, true, false, cond, ◌||◌, arith, List, [], ◌∷◌, length, pos, refl, sym, ap, ap₂, ◌∙◌}
+use Rattle.std.proofs.Common.{◌≡◌, ℕ, Bool, true, false, ◌||◌, arith, List, [], ◌∷◌, length, pos, refl, sym, ap, ap₂, ◌∙◌}
 use Rattle.std.proofs.lemmas.Bool.{false≢true}
 use Rattle.homeo_syntax.specs.declared.low.Temp.TheVariants as temp
 use Rattle.homeo_syntax.specs.Low as L
@@ -20,7 +20,7 @@ use Rattle.homeo_size.specs.declared.extents.Entry.TheVariants.{Object, Temp}
 use Rattle.homeo_size.specs.declared.measures.Before.{Before}
 use Rattle.homeo_size.specs.declared.measures.Measure.{Measure}
 use Rattle.homeo_size.proofs.Branching.{greater_again, greater_turned, greater_sizes, Keeps, keeps_self, keeps_then, set_keeps, closes, reopens, joins}
-use Rattle.homeo_size.proofs.Lifting.{seen, at_fresh, after_both, measured_both, after_front, measured_front, alike_self}
+use Rattle.homeo_size.proofs.Lifting.{seen, at_fresh, measured_both, after_front, measured_front, alike_self}
 use Rattle.homeo_size.proofs.LiftedPhrases.{setting_for, literal_is, lifts, lifts_cond}
 use Rattle.homeo_size.proofs.Fresh.{Takes, Allows, allows_left, allows_right, Ready, ready_then, guard_keeps, row_takes, turn_after, turn_leaves, if_else, visit_keeps, form_takes, forms_take}
 use Rattle.homeo_size.proofs.Low.{Extents, low_sized, low_tests, low_after, low_after_all, low_measured, low_measured_all}

@@ -1,5 +1,5 @@
 -- The objects that the pass tells are those that the L form of a body writes.
-use Rattle.std.proofs.Common.{◌≡◌, ℕ, false, List, [], ◌∷◌, ℤ, Option, Some, None, refl, sym, ap, ap₂, ◌∙◌}
+use Rattle.std.proofs.Common.{◌≡◌, ℕ, false, List, [], ◌∷◌, ℤ, Option, Some, None, refl, ap, ◌∙◌}
 use Rattle.homeo_syntax.specs.Source.{Expr, Literal, Name, Read, Sum, Product, Neg, Field, Row, Count, Total, FieldValue, Command, Commands, Skip, Assign, Write, Print, If, Block, SetField, SetRow, Foreach, Insert, Delete, Update, Abort, NoCommand, MoreCommand}
 use Rattle.homeo_meaning.specs.Key.{words as meaning_words}
 use Rattle.homeo_meaning.specs.Context.{Spot, Slot, Context, spot, slots, fields, bind, slot_at}

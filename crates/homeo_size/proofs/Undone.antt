@@ -1,5 +1,5 @@
 -- What stands round a body that can end its call is measured as the pass tells.
-use Rattle.std.proofs.Common.{◌≡◌, ℕ, suc, ◌+◌, ◌<◌, ◌≤◌, Bool, true, false, List, [], ◌∷◌, length, pos, refl, sym, ap, ap₂, ◌∙◌, arith}
+use Rattle.std.proofs.Common.{◌≡◌, ℕ, suc, ◌+◌, ◌≤◌, Bool, true, false, List, [], ◌∷◌, length, pos, refl, sym, ap, ◌∙◌, arith}
 use Rattle.std.proofs.lemmas.Bool.{false≢true}
 use Rattle.homeo_syntax.specs.declared.low.Temp.TheVariants as temp
 use Rattle.homeo_syntax.specs.declared.low.SplitName.TheVariants as split
@@ -18,12 +18,11 @@ use Rattle.homeo_size.specs.inner.Sizing.{Sizes, Setting}
 use Rattle.homeo_size.specs.inner.Store.{Store}
 use Rattle.homeo_size.specs.inner.Writing.{saves_measured, restores_measured, undoing, body_measured}
 use Rattle.homeo_size.specs.declared.measures.Before.{Before}
-use Rattle.homeo_size.specs.declared.measures.Measure.{Measure}
 use Rattle.homeo_size.proofs.Fresh.{Keeps, Ready, forms_take}
 use Rattle.homeo_size.proofs.LiftedCommands.{none_ends, forms_do}
 use Rattle.homeo_size.proofs.LiftedPhrases.{setting_for}
 use Rattle.homeo_size.proofs.Lifting.{seen, at_fresh, Alike, alike_self, alike_then, alike_put, put_here}
-use Rattle.homeo_size.proofs.Low.{Extents, low_sized, low_tests, low_after, low_after_all, low_measured, low_measured_all}
+use Rattle.homeo_size.proofs.Low.{Extents, low_tests, low_after, low_after_all, low_measured, low_measured_all}
 use Rattle.homeo_size.proofs.SavedObjects.{saved_same}
 
 module _ (sites : ℕ) where

@@ -1,10 +1,9 @@
 -- The objects that a call writes, form by form and along lists, as equations, which code rewrites by.
-use Rattle.std.proofs.Common.{◌≡◌, ℕ, Bool, true, false, ℤ, List, [], ◌∷◌, Option, Some, None, refl, sym, ap, ◌∙◌}
+use Rattle.std.proofs.Common.{◌≡◌, ℕ, Bool, true, false, List, [], ◌∷◌, refl, ap}
 use Rattle.homeo_syntax.specs.Key.{words as tree_words}
 use Rattle.homeo_syntax.specs.Source as s
 use Rattle.homeo_syntax.specs.SourceView.{commands}
 use Rattle.homeo_syntax.specs.declared.phrase.Ident.{Ident}
-use Rattle.homeo_meaning.specs.Aborts.{hold_abort}
 use Rattle.homeo_meaning.specs.Context.{Spot, Slot, spot, cell, field_cell}
 use Rattle.homeo_meaning.specs.LowWrites.{with_number}
 use Rattle.homeo_meaning.specs.Schema.{Declared}
