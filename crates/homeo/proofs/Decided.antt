@@ -1,35 +1,19 @@
--- A text is not both accepted and refused, and what a source told is what it gave.
+-- What a source told is what it gave, and a text isn't both refused and made an output of.
 use Rattle.std.proofs.Common.{Bool, true, false, ◌≡◌, ◌≤◌, ◌+◌, ◌∙◌, ◌++◌, ◌==◌, ℕ, cond, List, [], ◌∷◌, get_or, Some, None, length, refl, sym, ap, subst, arith, append-nil, length-append, inl, inr}
 use Rattle.std.specs.declared.option.Option.{Option}
 use Rattle.homeo_io.specs.Moved.{Gave, GaveAll}
 use Rattle.homeo_syntax.specs.declared.workload.Refusal.{Refusal}
-use Rattle.homeo_syntax.specs.Source as s
-use Rattle.homeo_syntax.specs.Reads.{Reads, IsUnread}
-use Rattle.homeo_reader.proofs.Unread.{one_reading, unread}
+use Rattle.homeo_accept.proofs.Decided.{accepted_not_refused}
 use Rattle.homeo_meaning.specs.declared.call.Purpose.{Purpose}
 use Rattle.homeo_meaning.specs.declared.call.Purpose.TheVariants.{Steps, Run, Tables, Treaty}
-use Rattle.homeo_meaning.specs.declared.rules.Fault.{Fault}
-use Rattle.homeo_meaning.specs.Faults.{faults, IsFaultIn, IsRefusedBy}
 use Rattle.homeo_meaning.specs.Key.{words as meanings}
-use Rattle.homeo_meaning.specs.Verdict.{Accepts, IsRefused, text_limit}
+use Rattle.homeo_meaning.specs.Verdict.{IsRefused, text_limit}
 use Rattle.homeo.specs.Command.{ReadFor, reader_of}
 use Rattle.homeo.specs.Outcome.{IsMade, IsRefusedAt, TellsRefused, TellsAccepted}
 use Rattle.homeo_words.specs.Command.{SayLoad}
 use Rattle.homeo_words.specs.declared.command.Command.{Command}
 use Rattle.homeo_words.specs.declared.command.Command.TheVariants as c
 use Rattle.homeo_words.proofs.OneCommand.{one_command}
-
--- no fault is in an empty list
-none_there : (all : List Fault) (f : Fault) → all ≡ [] → IsFaultIn f all → ⊥
-none_there all f none there = subst (IsFaultIn f) none there
-
-pub accepted_not_refused : (text : List ℕ) (purpose : Purpose) (w : s.Workload) (r : Refusal) → Accepts text purpose w → IsRefused text purpose r → ⊥
-unfolding meanings
-accepted_not_refused text purpose w r a (inl long) = omega (arith, a.short, long.long)
-accepted_not_refused text purpose w r a (inr (short, inl fault)) = unread text r w fault a.reads
-accepted_not_refused text purpose w r a (inr (short, inr broken)) =
-    let same : w ≡ broken.workload = one_reading text w broken.workload a.reads broken.reads in
-    none_there (faults purpose broken.workload) broken.refused.fault (subst (λ v. faults purpose v ≡ []) same a.sound) broken.refused.decides.there
 
 -- a source that told its bytes gave them
 pub told_is_given : (old new : Option (List ℕ)) (text bytes : List ℕ) → old ≡ Some text → GaveAll old new bytes → text ≡ bytes
@@ -104,13 +88,3 @@ pub refused_not_accepted : (words : List (List ℕ)) (old : Option (List ℕ)) (
 refused_not_accepted words old r (q, asked', refused) (p, text, w, asked, told, accepted) =
     let same : q ≡ p = one_purpose words q p asked' asked in
     accepted_not_refused text p w r accepted (subst (λ p. IsRefused text p r) same (refused text told))
-
--- what the reader refuses is refused
-pub refuses_unread : (text : List ℕ) (purpose : Purpose) (r : Refusal) → length text ≤ text_limit → IsUnread text r → IsRefused text purpose r
-unfolding meanings
-refuses_unread text purpose r short unread = inr (short, inl unread)
-
--- what breaks a rule is refused
-pub refuses_broken : (text : List ℕ) (purpose : Purpose) (w : s.Workload) (r : Refusal) → length text ≤ text_limit → Reads text w → IsRefusedBy purpose w r → IsRefused text purpose r
-unfolding meanings
-refuses_broken text purpose w r short reads by = inr (short, inr (record { workload = w; reads = reads; refused = by }))

@@ -11,7 +11,7 @@ use Rattle.homeo_words.specs.declared.command.Command.{Command}
 use Rattle.homeo_words.specs.declared.command.Command.TheVariants as c
 use Rattle.homeo_words.proofs.OneCommand.{one_command}
 use Rattle.homeo.specs.Laws.{OneLoadOutput, OneOutput}
-use Rattle.homeo.specs.Order.{scheduled_calls}
+use Rattle.homeo_order.specs.Order.{scheduled_calls}
 use Rattle.homeo.specs.Outcome.{IsOutput, IsScheduledReport}
 use Rattle.homeo_meaning.specs.declared.call.Purpose.{Purpose}
 use Rattle.homeo_meaning.specs.declared.call.Purpose.TheVariants.{Steps, Run, Tables, Treaty}

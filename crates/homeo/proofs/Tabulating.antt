@@ -39,7 +39,7 @@ use Rattle.homeo_print.specs.Tables.{call_table, table_text}
 use Rattle.homeo_print.proofs.OneMore.{views_more, numbered_more}
 use Rattle.homeo.specs.Key.{words}
 use Rattle.homeo.specs.inner.Tabulated.{HasFewRows, calls_text}
-use Rattle.homeo.proofs.Accepting.{few_from}
+use Rattle.homeo_order.proofs.Accepting.{few_from}
 
 -- ---- each call names a transaction
 abbrev IsNamed : s.Workload → SitedCall → Type 0

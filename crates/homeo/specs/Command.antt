@@ -1,7 +1,5 @@
 -- What commands read their texts for, and the lines that go to the complaints.
-use Rattle.std.specs.Prelude.{◌≡◌, ℕ, List, [], ◌∷◌, ◌++◌, codes}
-use Rattle.std.specs.Fmt.{decimal}
-use Rattle.homeo_syntax.specs.declared.workload.Refusal.{Refusal as AnyRefusal}
+use Rattle.std.specs.Prelude.{◌≡◌, ℕ, List, [], ◌∷◌, codes}
 use Rattle.homeo_meaning.specs.declared.call.Purpose.{Purpose}
 use Rattle.homeo_meaning.specs.declared.call.Purpose.TheVariants as purpose
 use Rattle.homeo_words.specs.Command.{Say, SayLoad}
@@ -33,10 +31,6 @@ line_of Refused = []
 line_of Memory = codes "out of memory\n"
 line_of ReadFault = codes "read fault\n"
 line_of WriteFault = codes "write fault\n"
-
--- the line of a refusal, with a newline at its end
-abbrev pub refusal_line : AnyRefusal → List ℕ
-refusal_line r = codes "refused E" ++ (decimal r.code ++ (codes " at " ++ (decimal r.offset ++ codes "\n")))
 
 -- the number that a program ends with
 abbrev pub number_of : Status → ℕ

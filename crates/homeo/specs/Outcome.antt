@@ -18,8 +18,9 @@ use Rattle.homeo_report.specs.Summary.{summary}
 use Rattle.homeo_load.specs.Load.{load_workload}
 use Rattle.homeo_load.specs.Output.{load_summary}
 use Rattle.homeo_words.specs.Command.{SayLoad}
-use Rattle.homeo.specs.Command.{ReadFor, refusal_line}
-use Rattle.homeo.specs.Order.{scheduled_calls}
+use Rattle.homeo_accept.specs.RefusalLine.{refusal_line}
+use Rattle.homeo_order.specs.Order.{scheduled_calls}
+use Rattle.homeo.specs.Command.{ReadFor}
 
 -- ---- what is made of a text
 -- the report of a history that is legal for the workload and has all calls of each client

@@ -1,3 +1,1 @@
-pub mod Scheduled
-pub mod Stepped
 pub mod Tabulated

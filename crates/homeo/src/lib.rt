@@ -4,10 +4,8 @@
 mod clients;
 pub mod laws;
 mod load;
-mod order;
 mod output;
 mod status;
-mod steps;
 mod stop;
 mod tables;
 mod top;

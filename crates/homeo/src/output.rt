@@ -6,20 +6,20 @@ ghost use Rattle.homeo_syntax.specs.SourceView.{plain_workload};
 ghost use Rattle.homeo_syntax.specs.WellFormed.{IsWellFormed};
 ghost use Rattle.homeo_meaning.specs.declared.call.Purpose.TheVariants as purpose;
 ghost use Rattle.homeo_meaning.specs.Faults.{faults};
-ghost use Rattle.homeo_meaning.specs.Verdict.{Accepts, IsRefused, text_limit};
+ghost use Rattle.homeo_meaning.specs.Verdict.{IsRefused, text_limit};
 ghost use Rattle.homeo.specs.Outcome.{IsReport, IsScheduledReport, IsOutput, IsOutputOf};
 
 use crate::clients::clients;
-use crate::steps::steps;
 use crate::stop::Stop;
 use crate::tables::tables;
 use crate::treaty::treaty;
+use homeo_accept::{TextRefusal, accepted};
 use homeo_build::compile::compile;
 use homeo_cluster::Gate;
+use homeo_eval::initial;
 use homeo_meaning::{Accepted, Purpose};
-use homeo_reader::{ReadRefusal, read};
 use homeo_report::report;
-use homeo_rules::{RuleRefusal, accept};
+use homeo_steps::steps_from;
 use homeo_syntax::Memory;
 use std::alloc::Global;
 use std::sync::{Arc, Wait};
@@ -38,28 +38,10 @@ pub fn output_of<R: Threads + Wait + Sync, G: Gate>(
     ensures refused { (r : Refusal) → IsErrOf result (Stop.Refused r) → IsRefused text.now purpose r }
     ensures no_other { (IsErrOf result Stop.Usage → ⊥) × (IsErrOf result Stop.ReadFault → ⊥) }
 {
-    let accepted = accept_text(alloc, text, purpose)?;
-    let output = make(rt, alloc, purpose, accepted, gate)?;
-    Ok(output)
-}
-
-// The workload as which a text is accepted.
-fn accept_text(alloc: Global, text: &[u8], purpose: Purpose) -> Result<Accepted, Stop>
-    requires { length text.now ≤ text_limit }
-    ensures well_formed { IfOk result (λ w. IsWellFormed (plain_workload w)) }
-    ensures accepted { IfOk result (λ w. Accepts text.now purpose (plain_workload w)) }
-    ensures refused { (r : Refusal) → IsErrOf result (Stop.Refused r) → IsRefused text.now purpose r }
-    ensures no_other { (IsErrOf result Stop.Usage → ⊥) × (IsErrOf result Stop.ReadFault → ⊥) }
-{
-    let workload = match read(alloc, text) {
-        Ok(workload) => workload,
-        Err(ReadRefusal::Refused(refusal)) => return Err(Stop::Refused(refusal)),
-        Err(ReadRefusal::Memory) => return Err(Stop::Memory),
-    };
-    match accept(alloc, workload, purpose) {
-        Ok(accepted) => Ok(accepted),
-        Err(RuleRefusal::Refused(refusal)) => Err(Stop::Refused(refusal)),
-        Err(RuleRefusal::Memory) => Err(Stop::Memory),
+    match accepted(alloc, text, purpose) {
+        Ok(w) => Ok(make(rt, alloc, purpose, w, gate)?),
+        Err(TextRefusal::Refused(refusal)) => Err(Stop::Refused(refusal)),
+        Err(TextRefusal::Memory) => Err(Stop::Memory),
     }
 }
 
@@ -90,7 +72,8 @@ fn steps_report(alloc: Global, w: Accepted) -> Result<Vec<u8>, Memory>
     ensures { IfOk result (λ bytes. IsScheduledReport (plain_workload w) bytes.items) }
 {
     let compiled = Arc::new(alloc, compile(alloc, w)?)?;
-    let history = steps(alloc, &compiled)?;
+    let base = initial(alloc, compiled.workload())?;
+    let history = steps_from(alloc, &compiled, base)?;
     report(alloc, &history, compiled.workload())
 }
 

@@ -6,12 +6,6 @@ ghost use Rattle.homeo.specs.Command.{number_of};
 /// What is said of words that are no command.
 pub const USAGE_LINE: &str = "usage: homeo steps or run or tables or treaty or load NUMBER CALLS\n";
 
-/// What the line of a refusal begins with, before the code's number.
-pub const REFUSED: &str = "refused E";
-
-/// What stands between a refusal's code and its offset.
-pub const AT: &str = " at ";
-
 /// What is said where memory is wanting.
 pub const MEMORY_LINE: &str = "out of memory\n";
 

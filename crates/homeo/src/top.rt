@@ -6,16 +6,16 @@ ghost use Rattle.homeo_io.specs.Moved.{GaveAtMost, TookExactly, TookPrefix};
 ghost use Rattle.homeo_syntax.specs.declared.workload.Refusal.{Refusal};
 ghost use Rattle.homeo_meaning.specs.Verdict.{text_limit};
 ghost use Rattle.homeo_words.specs.Command.{IsCommand};
-ghost use Rattle.homeo.specs.Command.{AsksLoad, line_of, refusal_line};
+ghost use Rattle.homeo_accept.specs.RefusalLine.{refusal_line};
+ghost use Rattle.homeo.specs.Command.{AsksLoad, line_of};
 ghost use Rattle.homeo.specs.Outcome.{TellsRefused, TellsAccepted, IsRefusedAt, IsRefusedFor, IsMade, IsMadeOfText, IsDone, IsCutOff, TookLine, IsToldRefusal};
 
 use crate::load::load;
 use crate::output::output_of;
-use crate::status::{
-    AT, MEMORY_LINE, READ_FAULT_LINE, REFUSED, Status, USAGE_LINE, WRITE_FAULT_LINE,
-};
+use crate::status::{MEMORY_LINE, READ_FAULT_LINE, Status, USAGE_LINE, WRITE_FAULT_LINE};
 use crate::stop::Stop;
 use crate::work::Work;
+use homeo_accept::refusal_line;
 use homeo_cluster::Gate;
 use homeo_io::{Failed, ReadError, Sink, Source, read_all, write_all};
 use homeo_meaning::Purpose;
@@ -180,9 +180,7 @@ fn complain<E: Sink>(alloc: Global, stop: Stop, complaints: &mut E) -> Status
             say(complaints, USAGE_LINE);
             Status::Usage
         }
-        Stop::Refused(Refusal { code, offset }) => match format!(in alloc;
-            "{REFUSED}{code}{AT}{offset}\n"
-        ) {
+        Stop::Refused(refusal) => match refusal_line(alloc, refusal) {
             Ok(line) => {
                 say(complaints, line.as_str());
                 Status::Refused

@@ -79,7 +79,7 @@ fn ground_commands(
     ensures grounds { IfOk result (λ made. made.0.calls ≡ grounds (plain_workload w.now)) }
     ensures commands { IfOk result (λ made. map plain_lcommand made.1.items ≡ transformed (plain_workload w.now)) }
 {
-    let calls = Grounding::of(alloc, w)?;
+    let calls = Grounding::of(alloc, w, declared)?;
     let commands = transform_calls(alloc, w, declared, site_count(w), calls.calls())?;
     Ok((calls, commands))
 }

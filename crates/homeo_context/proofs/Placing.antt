@@ -11,7 +11,7 @@ use Rattle.homeo_context.specs.declared.declarations.Placed.{Placed}
 use Rattle.homeo_meaning.specs.Key.{words}
 use Rattle.homeo_meaning.specs.Schema.{Relation, declared_range, declared_relation, nat_of}
 use Rattle.homeo_meaning.specs.Context.{object_count}
-use Rattle.homeo_context.specs.inner.Placed.{placed_relation, StandFrom, HasSlots}
+use Rattle.homeo_context.specs.Placed.{placed_relation, StandFrom, HasSlots}
 use Rattle.homeo_meaning.proofs.SoundRelations.{SlotsFit}
 use Rattle.homeo_meaning.proofs.SoundRules.{all_none, all_more, all_head, all_tail}
 use Rattle.homeo_meaning.proofs.TakenItems.{take_next, map_twice}

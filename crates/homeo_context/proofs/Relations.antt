@@ -7,7 +7,7 @@ use Rattle.homeo_meaning.specs.Key.{words}
 use Rattle.homeo_meaning.specs.Schema.{declared_object, declared_range}
 use Rattle.homeo_meaning.specs.Context.{slots_from, find_slots, find_fields}
 use Rattle.homeo_meaning.specs.Declarations.{place_from, place_of}
-use Rattle.homeo_context.specs.inner.Placed.{placed_relation, StandFrom}
+use Rattle.homeo_context.specs.Placed.{placed_relation, StandFrom}
 
 -- what is found of the relation of a name
 pub record Found (k : ℕ) (rs : List Placed) (n : ℕ) (r : Placed) : Type 0 where

@@ -9,7 +9,7 @@ use Rattle.homeo_syntax.specs.SourceView.{plain_relation, plain_transaction, pla
 use Rattle.homeo_meaning.specs.Key.{words}
 use Rattle.homeo_meaning.specs.Schema.{declared_object, declared_relation}
 use Rattle.homeo_context.specs.declared.declarations.Placed.{Placed}
-use Rattle.homeo_context.specs.inner.Placed.{placed_relation}
+use Rattle.homeo_context.specs.Placed.{placed_relation}
 use Rattle.homeo_meaning.specs.Declarations.{declarations, place_from}
 
 pub no_names : (names places : List ℕ) (k n : ℕ) → places ≡ [] → length names ≤ k → get_or places n k ≡ place_from k (drop k names) n

@@ -1,3 +1,4 @@
 pub mod Contexts
+pub mod Placed
+pub mod Places
 pub mod Slots
-pub mod inner

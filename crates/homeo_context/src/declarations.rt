@@ -5,14 +5,14 @@ ghost use Rattle.homeo_syntax.specs.SourceView.{plain_relation, plain_workload};
 ghost use Rattle.homeo_meaning.specs.Schema.{declared_range, declared_relation};
 ghost use Rattle.homeo_meaning.specs.Declarations.{declarations, place_of};
 ghost use Rattle.homeo_meaning.specs.Context.{spot, find_slots, find_fields, object_count};
-ghost use Rattle.homeo_context.specs.inner.Placed.{placed_relation, StandFrom, HasSlots};
+ghost use Rattle.homeo_context.specs.Placed.{placed_relation, StandFrom, HasSlots};
 ghost use Rattle.homeo_context.specs.Slots.{plain_spot, slots_of, IsCounted, IsNumbered};
 
 use crate::slots::Slots;
 use crate::spot::Spot;
 use homeo_meaning::Accepted;
 use homeo_meaning::padded::{item_or, put};
-use homeo_syntax::{Memory, ObjectDecl, RangeDecl, RelationDecl, Transaction};
+use homeo_syntax::{Memory, ObjectDecl, RangeDecl, RelationDecl, Transaction, Workload};
 use std::alloc::Global;
 use std::marker::Model;
 
@@ -25,7 +25,7 @@ pub struct Places {
 
 impl Model for Places {
     ghost use Rattle.std.specs.Prelude.{ℕ, List};
-    ghost use Rattle.homeo_context.specs.inner.Places.{IsTable};
+    ghost use Rattle.homeo_context.specs.Places.{IsTable};
 
     ghost Value = { List ℕ };
 
@@ -57,7 +57,7 @@ impl Model for Declarations {
     ghost use Rattle.std.specs.Prelude.{map};
     ghost use Rattle.homeo_meaning.specs.Schema.{declared_object};
     ghost use Rattle.homeo_meaning.specs.Declarations.{Declarations};
-    ghost use Rattle.homeo_context.specs.inner.Placed.{placed_relation, ArePlaced};
+    ghost use Rattle.homeo_context.specs.Placed.{placed_relation, ArePlaced};
 
     ghost Value = { Declarations };
 
@@ -104,7 +104,7 @@ impl Places {
 }
 
 impl Declarations {
-    /// Makes the places of a workload's names.
+    /// Makes the places of an accepted workload's names.
     ///
     /// # Errors
     ///
@@ -112,7 +112,21 @@ impl Declarations {
     pub fn of(alloc: Global, w: &Accepted) -> Result<Declarations, Memory>
         ensures { IfOk result (λ n. n ≡ declarations (plain_workload w.now)) }
     {
-        let workload = w.workload();
+        Declarations::of_workload(alloc, w.workload())
+    }
+
+    /// Makes the places of a workload's names. Each relation has from 1 to 64 slots, and the objects, with those of the
+    /// relations, are no more than a workload may have.
+    ///
+    /// # Errors
+    ///
+    /// `Memory` where memory is wanting.
+    pub fn of_workload(alloc: Global, workload: &Workload) -> Result<Declarations, Memory>
+        requires slots { All HasSlots workload.now.relations.items }
+        requires few { object_count (length workload.now.objects.items)
+            (map declared_relation (map plain_relation workload.now.relations.items)) ≤ 1024 }
+        ensures { IfOk result (λ n. n ≡ declarations (plain_workload workload.now)) }
+    {
         let objects = workload.objects.as_slice();
         let relations = place_relations(alloc, objects.len(), workload.relations.as_slice())?;
         let relation_names = relation_names(alloc, relations.as_slice())?;

@@ -1,6 +1,6 @@
 -- Deltas added to values one after another.
 use Rattle.homeo_core.specs.Key.{words}
-use Rattle.std.proofs.Common.{◌≡◌, ℕ, zero, suc, ◌<◌, List, [], ◌∷◌, length, take, get_or, ℤ, pos, ◌+ℤ◌, refl, sym, ap, subst, arith, slice_set, FitsSigned}
+use Rattle.std.proofs.Common.{◌≡◌, ℕ, zero, suc, ◌<◌, ◌≤◌, min, List, [], ◌∷◌, length, take, get_or, ℤ, pos, ◌+ℤ◌, refl, sym, ap, subst, arith, slice_set, FitsSigned}
 use Rattle.std.specs.Prelude.{All}
 use Rattle.std.specs.Int.{w64}
 use Rattle.homeo_core.specs.Joined.{plus_deltas}
@@ -19,6 +19,15 @@ plus_next [] (d ∷ deltas) (suc i) lt = refl
 plus_next (v ∷ values) (d ∷ deltas) zero lt = ap (λ l. (v +ℤ d) ∷ l) (plus_none values)
 plus_next (v ∷ values) (d ∷ deltas) (suc i) lt = ap (λ l. (v +ℤ d) ∷ l) (plus_next values deltas i (omega (arith, lt)))
 
+-- deltas beyond the values change nothing
+pub plus_taken : (values deltas : List ℤ) (n : ℕ) → min (length values) (length deltas) ≤ n → plus_deltas values (take n deltas) ≡ plus_deltas values deltas
+unfolding words
+plus_taken [] deltas n le = refl
+plus_taken (v ∷ values) [] zero le = refl
+plus_taken (v ∷ values) [] (suc n) le = refl
+plus_taken (v ∷ values) (d ∷ deltas) zero le = absurd (omega (arith, le))
+plus_taken (v ∷ values) (d ∷ deltas) (suc n) le = ap (λ l. (v +ℤ d) ∷ l) (plus_taken values deltas n (omega (arith, le)))
+
 pub plus_here : (values deltas : List ℤ) (i : ℕ) → i < length deltas → i < length values → get_or (plus_deltas values (take i deltas)) i (pos 0) +ℤ get_or deltas i (pos 0) ≡ get_or (plus_deltas values deltas) i (pos 0)
 unfolding words
 plus_here values [] i lt inside = absurd (omega (arith, lt))
@@ -31,4 +40,4 @@ fits_here values deltas i all lt inside =
     let long : i < length values = omega (arith, inside, plus_length values (take i deltas)) in
     subst (FitsSigned w64) (sym (plus_here values deltas i lt long)) (all i (pos 0) (omega (arith, long, plus_length values deltas)))
 
-pub ruleset added = (plus_none, plus_next, fits_here)
+pub ruleset added = (plus_none, plus_next, plus_taken, plus_length, fits_here)

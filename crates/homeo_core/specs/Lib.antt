@@ -5,3 +5,4 @@ pub mod inner
 pub mod Joined
 pub mod Key
 pub mod Laws
+pub mod Tried

@@ -1,4 +1,3 @@
 pub mod Books
 pub mod SiteLists
 pub mod Starts
-pub mod Tried

@@ -1,6 +1,6 @@
 //! The database of a round, gathered from its sites.
 
-ghost use Rattle.std.specs.Prelude.{◌≡◌, ◌+◌, ◌<◌, ◌≤◌, ◌^◌, ◌+ℤ◌, pos, All, length, slice_index_or, slice_set, IfOk, FitsSigned};
+ghost use Rattle.std.specs.Prelude.{◌≡◌, ◌+◌, ◌<◌, ◌≤◌, ◌^◌, All, IfOk, FitsSigned};
 ghost use Rattle.std.specs.Int.{w64};
 ghost use Rattle.homeo_core.specs.Joined.{plus_deltas};
 
@@ -81,23 +81,14 @@ impl Gather {
     }
 }
 
-/// Adds to each value the delta at its place, if there is one.
+/// Adds to each value the delta at its place, if there is one. It takes no memory; each sum fits i64.
 #[tactic(auto, using(crate::proofs::Added::added))]
-fn add_deltas(values: &mut [i64], deltas: &[i64])
+pub fn add_deltas(values: &mut [i64], deltas: &[i64])
     requires { All (FitsSigned w64) (plus_deltas values.old deltas.now) }
     ensures { values.new ≡ plus_deltas values.old deltas.now }
 {
-    for (i, delta) in deltas.iter().enumerate() {
-        add_at(values, i, *delta);
-    }
-}
-
-/// Adds a delta to the value at a place, if there is one.
-fn add_at(values: &mut [i64], place: usize, delta: i64)
-    requires { place < length values.old → FitsSigned w64 (slice_index_or values.old place (pos 0) +ℤ delta) }
-    ensures { values.new ≡ slice_set values.old place (slice_index_or values.old place (pos 0) +ℤ delta) }
-{
-    if place < values.len() {
-        values[place] += delta;
+    let count = values.len().min(deltas.len());
+    for i in 0..count {
+        values[i] += deltas[i];
     }
 }

@@ -10,6 +10,7 @@ mod prepared;
 mod rounds;
 mod steps;
 
-pub use gather::Gather;
+pub use gather::{Gather, add_deltas};
+pub use local::{Tried, try_call};
 pub use prepared::{Prepared, plan_at};
 pub use steps::Core;

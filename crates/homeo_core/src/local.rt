@@ -3,7 +3,7 @@
 ghost use Rattle.std.specs.Prelude.{◌≡◌, IfOk, OnOk, OnErr};
 ghost use Rattle.homeo_syntax.specs.SourceView.{plain_workload};
 ghost use Rattle.homeo_history.specs.Legal.{IsCallAt};
-ghost use Rattle.homeo_core.specs.inner.Tried.{IsTried, after_try};
+ghost use Rattle.homeo_core.specs.Tried.{IsTried, after_try};
 
 use homeo_meaning::CallId;
 use homeo_plan::Broken;
@@ -13,16 +13,21 @@ use std::alloc::Global;
 
 /// What a site did with a call.
 #[derive(Drop)]
-pub(crate) enum Tried {
+pub enum Tried {
     /// The site made it, and it printed this.
     Made(Prints),
     /// It breaks this first of the site's treaty, and the site is as it was.
     Refused(Broken),
 }
 
-/// Makes a call at its site where it keeps the site's treaty. After its attempt nothing can fail.
+/// Makes a call at its site where it keeps the site's treaty; else the site stays as it is, and so it does where there is no
+/// memory. After the attempt nothing can fail.
+///
+/// # Errors
+///
+/// `Memory` when out of memory.
 #[tactic(auto, unfolding(homeo_site::specs::Key::words, crate::specs::Key::words))]
-pub(crate) fn try_call(alloc: Global, site: &mut Site, call: CallId) -> Result<Tried, Memory>
+pub fn try_call(alloc: Global, site: &mut Site, call: CallId) -> Result<Tried, Memory>
     requires { IsCallAt (plain_workload site.old.work) site.old.state.number call }
     ensures tried { IfOk result (IsTried (plain_workload site.old.work) site.old.state call) }
     ensures state { IfOk result (λ t. site.new.state ≡ after_try (plain_workload site.old.work) site.old.state call t) }

@@ -7,8 +7,8 @@ ghost use Rattle.homeo_effect.specs.Localized.{literal_sum, literal_product, sum
 ghost use Rattle.homeo_effect.specs.inner.Literals.{literal_of};
 ghost use Rattle.homeo_effect.specs.inner.Alone.{Fits, SumFits, ProductFits, NegationFits};
 
-use crate::numbers::{minus, plus, times};
 use homeo_meaning::padded::item_or;
+use homeo_split::{minus, plus, times};
 use homeo_syntax::{LExpr, List, Memory, SplitName};
 use std::alloc::Global;
 

@@ -9,7 +9,6 @@ mod latest;
 pub mod laws;
 mod making;
 mod numbering;
-mod numbers;
 mod program;
 mod running;
 mod site_effects;

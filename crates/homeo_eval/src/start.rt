@@ -5,7 +5,7 @@ ghost use Rattle.homeo_syntax.specs.SourceView.{plain_workload};
 ghost use Rattle.homeo_meaning.specs.Schema.{nat_of, declared_range, schema_of};
 ghost use Rattle.homeo_meaning.specs.Bounds.{IsWithin};
 ghost use Rattle.homeo_meaning.specs.Initial.{nearest_zero, slot_starts, initial};
-ghost use Rattle.homeo_context.specs.inner.Placed.{HasSlots};
+ghost use Rattle.homeo_context.specs.Placed.{HasSlots};
 
 use homeo_meaning::{Accepted, Database};
 use homeo_syntax::{List, Memory, RangeDecl, RelationDecl};

@@ -57,35 +57,21 @@ fn ground_calls(
     Ok(made)
 }
 
-/// The ground calls of calls of a workload.
-fn workload_calls(
-    alloc: Global,
-    w: &Accepted,
-    calls: &[SitedCall<'_>],
-) -> Result<Vec<GroundCall>, Memory>
-    requires sites { All (λ c. IsSite c.site) calls.now }
-    requires few { length (declarations (plain_workload w.now)).transactions < 2 ^ 32 }
-    ensures { IfOk result (λ made. map plain_ground made.items ≡
-        map (ground_by (declarations (plain_workload w.now)).transactions) (map sited calls.now)) }
-{
-    let numbering = Declarations::of(alloc, w)?;
-    ground_calls(alloc, &numbering, calls)
-}
-
 impl Grounding {
     /// Finds the distinct ground calls of a workload, in about the time that its calls and their
-    /// arguments take.
+    /// arguments take. `declared` has the places of the workload's names.
     ///
     /// # Errors
     ///
     /// `Memory` when out of memory.
-    pub fn of(alloc: Global, w: &Accepted) -> Result<Grounding, Memory>
+    pub fn of(alloc: Global, w: &Accepted, declared: &Declarations) -> Result<Grounding, Memory>
+        requires { declared.now ≡ declarations (plain_workload w.now) }
         ensures table { IfOk result (λ g. g ≡ grounding (plain_workload w.now)) }
         ensures calls { IfOk result (λ g. g.calls ≡ grounds (plain_workload w.now)) }
         ensures called { IfOk result (λ g. All (IsCalled (plain_workload w.now)) g.calls) }
     {
         let numbered = number_clients(alloc, w.workload().clients.as_slice())?;
-        let calls = workload_calls(alloc, w, numbered.calls.as_slice())?;
+        let calls = ground_calls(alloc, declared, numbered.calls.as_slice())?;
         Ok(Grounding {
             calls,
             places: numbered.places,

@@ -14,9 +14,9 @@ use Rattle.homeo_plan.specs.Linear.{Forms, scale_form, form}
 use Rattle.homeo_plan.specs.Limit.{form_limit}
 use Rattle.homeo_linear.specs.declared.items.Item.{Item}
 use Rattle.homeo_linear.specs.declared.items.Item.TheVariants as items
-use Rattle.homeo_linear.specs.declared.places.Place.{Place}
+use Rattle.homeo_split.specs.declared.places.Place.{Place}
 use Rattle.homeo_linear.specs.inner.Items.{IsMade, IsItem}
-use Rattle.homeo_linear.specs.Places.{plain_place}
+use Rattle.homeo_split.specs.Places.{plain_place}
 use Rattle.homeo_linear.proofs.FormSteps.{small_form, temp_form, read_form}
 
 -- ---- what stands at a place

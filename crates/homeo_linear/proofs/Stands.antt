@@ -1,35 +1,22 @@
 -- What a map of places gives for each location.
-use Rattle.std.proofs.Common.{rules, ◌≡◌, ℕ, Bool, true, false, cond, Option, Some, None, ℤ, pos, negsuc, refl, sym, ap, ◌∙◌, subst}
+use Rattle.std.proofs.Common.{◌≡◌, ℕ, Bool, true, false, cond, Option, Some, None, ℤ, pos, negsuc, refl, sym, ap, ◌∙◌, subst}
 use Rattle.std.specs.HashMap.{HashMap, get, get_by}
 use Rattle.std.specs.Option.{unwrap_or}
-use Rattle.homeo_syntax.specs.declared.low.Temp.TheVariants as temps
 use Rattle.homeo_meaning.specs.Key.{words as meaning_words}
-use Rattle.homeo_meaning.specs.LowMeaning.{Location, TempAt, BaseAt, DeltaAt, same_location, put}
+use Rattle.homeo_meaning.specs.LowMeaning.{same_location, put}
 use Rattle.homeo_plan.specs.Key.{words as plan_words}
 use Rattle.homeo_plan.specs.Linear.{Linear, Forms, base_forms, scale_form}
-use Rattle.homeo_linear.specs.contracts.places.PlacePartialEq.TheImpl.{ghosts}
-use Rattle.homeo_linear.specs.declared.places.Place.{Place}
-use Rattle.homeo_linear.specs.declared.places.Place.TheVariants.{Named, Fresh, Base, Delta}
+use Rattle.homeo_split.specs.contracts.places.PlacePartialEq.TheImpl.{ghosts}
+use Rattle.homeo_split.specs.declared.places.Place.{Place}
+use Rattle.homeo_split.specs.declared.places.Place.TheVariants.{Delta}
 use Rattle.homeo_linear.specs.inner.Key.{words}
-use Rattle.homeo_linear.specs.Places.{plain_place}
+use Rattle.homeo_split.specs.Places.{plain_place}
+use Rattle.homeo_split.proofs.SamePlaces.{is_at, at_each_place, same-places}
 use Rattle.homeo_linear.specs.inner.Terms.{term_form}
-
-abbrev pub is_at : Location → Place → Bool
-is_at l p = same_location l (plain_place p)
 
 choice : (b : Bool) (v d : Linear) (o : Option Linear) → unwrap_or (cond b (Some v) o) d ≡ cond b v (unwrap_or o d)
 choice true v d o = refl
 choice false v d o = refl
-
-at_each_place : (P : Location → Type 0) → ((p : Place) → P (plain_place p)) → (l : Location) → P l
-at_each_place P h (TempAt (temps.Named n)) = h (Named n)
-at_each_place P h (TempAt (temps.Fresh n)) = h (Fresh n)
-at_each_place P h (BaseAt x) = h (Base x)
-at_each_place P h (DeltaAt x j) = h (Delta x j)
-
-same-places : (a b : Place) → ghosts.eq a b ≡ is_at (plain_place a) b
-unfolding meaning_words
-same-places a b = search rules
 
 pub stands-put :
     {S : Type 0} (g : Forms) (m n : HashMap Place Linear S) (k : Place) (v : Linear) →

@@ -1,4 +1,3 @@
 pub mod Checked
-pub mod Places
 pub mod Standing
 pub mod inner

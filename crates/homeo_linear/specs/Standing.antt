@@ -5,7 +5,7 @@ use Rattle.homeo_meaning.specs.LowMeaning.{same_location}
 use Rattle.homeo_meaning.specs.Serial.{values_of}
 use Rattle.homeo_plan.specs.Linear.{Forms, base_forms}
 use Rattle.homeo_linear.specs.declared.standing.Standing.{Standing}
-use Rattle.homeo_linear.specs.Places.{plain_place}
+use Rattle.homeo_split.specs.Places.{plain_place}
 
 unfoldable pub forms_of : Standing → Forms
 forms_of s l = unwrap_or (get_by (λ p. same_location l (plain_place p)) s.set) (base_forms (values_of s.base.now) l)

@@ -11,8 +11,8 @@ ghost use Rattle.homeo_linear.specs.Standing.{forms_of};
 
 use crate::form::{Form, Total};
 use crate::items::{Item, item_of};
-use crate::places::{place_of, place_of_temp};
 use crate::standing::Standing;
+use homeo_split::{place_of, place_of_temp};
 use homeo_syntax::{LExpr, Memory};
 use std::alloc::Global;
 

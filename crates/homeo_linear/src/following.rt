@@ -11,15 +11,15 @@ ghost use Rattle.homeo_plan.specs.Linear.{add_deltas, base_forms, support};
 ghost use Rattle.homeo_plan.specs.Needs.{remote, written_needs, add_written, needs, IsStraightOne, IsStraight};
 ghost use Rattle.homeo_plan.specs.Limit.{form_limit};
 ghost use Rattle.homeo_linear.specs.inner.Following.{needs_of, Followed};
-ghost use Rattle.homeo_linear.specs.Places.{plain_place};
+ghost use Rattle.homeo_split.specs.Places.{plain_place};
 ghost use Rattle.homeo_linear.specs.Standing.{forms_of};
 
 use crate::deltas::joined;
 use crate::expressions::form;
 use crate::form::Form;
-use crate::places::{Place, place_of, place_of_temp};
 use crate::standing::Standing;
 use homeo_plan::Delta;
+use homeo_split::{Place, place_of, place_of_temp};
 use homeo_syntax::{LCommand, LExpr, Memory, SplitName, Temp};
 use std::alloc::Global;
 

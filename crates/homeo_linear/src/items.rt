@@ -5,7 +5,7 @@ ghost use Rattle.homeo_syntax.specs.Low.{Neg};
 ghost use Rattle.homeo_syntax.specs.LowView.{plain_lexpr};
 ghost use Rattle.homeo_linear.specs.inner.Items.{IsItem};
 
-use crate::places::{Place, place_of, place_of_temp};
+use homeo_split::{Place, place_of, place_of_temp};
 use homeo_syntax::LExpr;
 
 /// An item of a sum: what stands at a place, that with its sign turned, or another expression.

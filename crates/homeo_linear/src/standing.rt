@@ -7,14 +7,14 @@ ghost use Rattle.homeo_meaning.specs.Small.{IsSmall};
 ghost use Rattle.homeo_plan.specs.FormSizes.{Numbers};
 ghost use Rattle.homeo_plan.specs.Limit.{form_limit};
 ghost use Rattle.homeo_plan.specs.Linear.{base_forms, add_forms, scale_form};
-ghost use Rattle.homeo_linear.specs.Places.{plain_place};
+ghost use Rattle.homeo_split.specs.Places.{plain_place};
 ghost use Rattle.homeo_linear.specs.Standing.{forms_of};
 
 use crate::form::{Form, Total};
 use crate::numbers::multiplied;
-use crate::places::Place;
 use homeo_meaning::padded::item_or;
 use homeo_plan::{Delta, Term};
+use homeo_split::Place;
 use homeo_syntax::Memory;
 use std::alloc::Global;
 use std::collections::HashMap;

@@ -10,7 +10,7 @@ use Rattle.homeo_meaning.specs.CallRules.{schedule_faults}
 use Rattle.homeo_meaning.specs.Faults.{declared_faults, text_faults, form_faults, faults}
 use Rattle.homeo_meaning.specs.declared.call.Purpose.TheVariants.{Run}
 use Rattle.homeo_load.specs.Key.{words}
-use Rattle.homeo_load.specs.Draws.{Addition, additions}
+use Rattle.homeo_load.specs.Additions.{Addition, additions}
 use Rattle.homeo_load.specs.Load.{load_of, load_workload}
 use Rattle.homeo_load.proofs.DrawnAdditions.{IsAddition, additions_fit, additions_length}
 use Rattle.homeo_load.proofs.Declared.{names_once, declared_none, schedule_none}

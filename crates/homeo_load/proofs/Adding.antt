@@ -6,7 +6,7 @@ use Rattle.homeo_meaning.specs.Key.{words as meaning}
 use Rattle.homeo_meaning.specs.Meaning.{State, changed, set_object}
 use Rattle.homeo_meaning.specs.Serial.{Outcome, values_of, values_from, database_like, outcome_at, transaction_named}
 use Rattle.homeo_load.specs.Key.{words}
-use Rattle.homeo_load.specs.Draws.{Addition}
+use Rattle.homeo_load.specs.Additions.{Addition}
 use Rattle.homeo_load.specs.Load.{transaction_name, load_of, eight}
 use Rattle.homeo_load.proofs.Cases.{by_eight}
 

@@ -12,7 +12,7 @@ use Rattle.homeo_meaning.specs.declared.call.CallId.{CallId}
 use Rattle.homeo_history.specs.Key.{words as histories}
 use Rattle.homeo_history.specs.Legal.{numbers_of}
 use Rattle.homeo_load.specs.Key.{words}
-use Rattle.homeo_load.specs.Draws.{Addition}
+use Rattle.homeo_load.specs.Additions.{Addition}
 use Rattle.homeo_load.specs.Load.{load_call, load_of, eight, dealt}
 use Rattle.homeo_load.proofs.Cases.{by_eight}
 use Rattle.homeo_load.proofs.Dealt.{dealt_sum, one_takes, length_sum}

@@ -4,7 +4,7 @@ use Rattle.std.specs.Prelude.{All, ◌==◌, sum_by}
 use Rattle.std.proofs.lemmas.List.Elements.{All-nil, All-cons, All-head, All-tail}
 use Rattle.std.proofs.lemmas.List.Sums.{sum_by-cons}
 use Rattle.homeo_load.specs.Key.{words}
-use Rattle.homeo_load.specs.Draws.{Addition}
+use Rattle.homeo_load.specs.Additions.{Addition}
 use Rattle.homeo_load.specs.Load.{eight, dealt}
 use Rattle.homeo_load.proofs.Cases.{by_eight}
 use Rattle.homeo_load.proofs.DrawnAdditions.{IsAddition}

@@ -13,7 +13,7 @@ use Rattle.homeo_meaning.specs.Faults.{of_transaction, declared_faults}
 use Rattle.homeo_meaning.specs.declared.call.Purpose.TheVariants.{Run}
 use Rattle.homeo_meaning.specs.declared.rules.Fault.{Fault}
 use Rattle.homeo_load.specs.Key.{words}
-use Rattle.homeo_load.specs.Draws.{Addition}
+use Rattle.homeo_load.specs.Additions.{Addition}
 use Rattle.homeo_load.specs.Load.{number, load_call, load_client, load_of, eight, dealt}
 use Rattle.homeo_load.proofs.Cases.{by_eight, by_nine}
 use Rattle.homeo_load.proofs.DrawnAdditions.{IsAddition}

@@ -3,7 +3,8 @@ use Rattle.std.proofs.Common.{◌≡◌, ℕ, zero, suc, ◌<◌, ◌≤◌, len
 use Rattle.std.specs.Prelude.{All}
 use Rattle.std.proofs.lemmas.List.Elements.{All-nil, All-cons}
 use Rattle.homeo_load.specs.Key.{words}
-use Rattle.homeo_load.specs.Draws.{Addition, next_state, drawn, chosen, additions}
+use Rattle.homeo_draws.specs.Draws.{next_state, drawn}
+use Rattle.homeo_load.specs.Additions.{Addition, chosen, additions}
 
 -- an object from 0 to 7, a number from 1 to 9
 pub record IsAddition (a : Addition) : Type 0 where

@@ -8,7 +8,7 @@ use Rattle.homeo_meaning.specs.LowWeights.{first_weights, is_light}
 use Rattle.homeo_meaning.specs.GlobalNames.{SitedCall}
 use Rattle.homeo_meaning.specs.SizeRules.{extent_of, heaviest}
 use Rattle.homeo_load.specs.Key.{words}
-use Rattle.homeo_load.specs.Draws.{Addition}
+use Rattle.homeo_load.specs.Additions.{Addition}
 use Rattle.homeo_load.specs.Load.{ident, transaction_name, load_of}
 use Rattle.homeo_load.proofs.Cases.{by_eight, by_nine}
 

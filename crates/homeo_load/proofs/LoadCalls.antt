@@ -9,7 +9,7 @@ use Rattle.homeo_meaning.specs.Key.{words as meaning}
 use Rattle.homeo_meaning.specs.Serial.{arguments}
 use Rattle.homeo_meaning.specs.GlobalNames.{SitedCall, sited_calls_of, sited_calls}
 use Rattle.homeo_load.specs.Key.{words}
-use Rattle.homeo_load.specs.Draws.{Addition}
+use Rattle.homeo_load.specs.Additions.{Addition}
 use Rattle.homeo_load.specs.Load.{load_call, load_client, load_of, eight, dealt}
 use Rattle.homeo_load.proofs.DrawnAdditions.{IsAddition}
 use Rattle.homeo_load.proofs.Dealt.{dealt_fit, dealt_sum, length_sum}

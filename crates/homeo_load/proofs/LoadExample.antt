@@ -4,7 +4,8 @@ use Rattle.std.specs.Fmt.{digits}
 use Rattle.homeo_print.specs.Key.{words as printed}
 use Rattle.homeo_report.specs.Key.{words as reported}
 use Rattle.homeo_load.specs.Key.{words}
-use Rattle.homeo_load.specs.Draws.{next_state, drawn, additions}
+use Rattle.homeo_draws.specs.Draws.{next_state, drawn}
+use Rattle.homeo_load.specs.Additions.{additions}
 use Rattle.homeo_load.specs.Output.{load_summary}
 
 first_draw : drawn (next_state 1) ≡ 1817669548

@@ -7,7 +7,8 @@ use Rattle.std.proofs.lemmas.List.FromFn.{map-range_with_len_more}
 use Rattle.homeo_syntax.specs.Listed.{Listed}
 use Rattle.homeo_syntax.specs.Source as s
 use Rattle.homeo_load.specs.Key.{words}
-use Rattle.homeo_load.specs.Draws.{Addition, next_state, next_addition, additions}
+use Rattle.homeo_draws.specs.Draws.{next_state}
+use Rattle.homeo_load.specs.Additions.{Addition, next_addition, additions}
 use Rattle.homeo_load.specs.Load.{load_call, dealt}
 
 put : (b : Bool) (x : Addition) (rest : List Addition) → map load_call (cond b (x ∷ rest) rest) ≡ cond b (load_call x ∷ []) [] ++ map load_call rest

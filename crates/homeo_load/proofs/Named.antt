@@ -9,7 +9,7 @@ use Rattle.homeo_syntax.specs.declared.phrase.Ident.{Ident}
 use Rattle.homeo_syntax.specs.declared.token.Version.TheVariants.{First}
 use Rattle.homeo_syntax.specs.WellFormed.{Each, EachIdent, EachInCommands, IsBelow, IsWellFormed, HasCommands}
 use Rattle.homeo_load.specs.Key.{words}
-use Rattle.homeo_load.specs.Draws.{Addition}
+use Rattle.homeo_load.specs.Additions.{Addition}
 use Rattle.homeo_load.specs.Load.{ident, transaction_name, load_body, load_call, load_of, eight, dealt}
 use Rattle.homeo_load.proofs.DrawnAdditions.{IsAddition}
 use Rattle.homeo_load.proofs.Dealt.{dealt_fit}

@@ -15,7 +15,7 @@ use Rattle.homeo_report.specs.Key.{words as reported}
 use Rattle.homeo_report.specs.Report.{object_lines}
 use Rattle.homeo_report.specs.Summary.{summary}
 use Rattle.homeo_load.specs.Key.{words}
-use Rattle.homeo_load.specs.Draws.{Addition, additions}
+use Rattle.homeo_load.specs.Additions.{Addition, additions}
 use Rattle.homeo_load.specs.Load.{load_object_names, load_of, load_workload}
 use Rattle.homeo_load.specs.Sums.{added_to}
 use Rattle.homeo_load.specs.Output.{HasOutput, load_summary}

@@ -10,7 +10,7 @@ use Rattle.homeo_meaning.specs.Serial.{Outcome, SerialRun, call_outcome, serial}
 use Rattle.homeo_history.specs.Key.{words as histories}
 use Rattle.homeo_history.specs.History.{Entry, Closing, Round}
 use Rattle.homeo_history.specs.Legal.{entries_of, HasMerges, ClosesWith, RunsTo, base_or, AreSerial}
-use Rattle.homeo_load.specs.Draws.{Addition}
+use Rattle.homeo_load.specs.Additions.{Addition}
 use Rattle.homeo_load.specs.Load.{load_of}
 use Rattle.homeo_load.proofs.DrawnAdditions.{IsAddition}
 use Rattle.homeo_load.proofs.Adding.{database_of, same_database}

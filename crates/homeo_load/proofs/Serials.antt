@@ -7,7 +7,7 @@ use Rattle.homeo_meaning.specs.Key.{words as meaning}
 use Rattle.homeo_meaning.specs.declared.call.CallId.{CallId}
 use Rattle.homeo_meaning.specs.Serial.{Outcome, SerialRun, outcome_of, call_outcome, serial}
 use Rattle.homeo_load.specs.Key.{words}
-use Rattle.homeo_load.specs.Draws.{Addition}
+use Rattle.homeo_load.specs.Additions.{Addition}
 use Rattle.homeo_load.specs.Load.{load_call, load_of}
 use Rattle.homeo_load.specs.Sums.{added_to}
 use Rattle.homeo_load.proofs.DrawnAdditions.{IsAddition}

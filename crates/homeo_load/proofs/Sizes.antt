@@ -17,7 +17,7 @@ use Rattle.homeo_meaning.specs.NumberRules.{limit_faults, ground_calls, passes_l
 use Rattle.homeo_meaning.specs.SizeRules.{extent_of, heaviest, too_large, size_faults, prints_too_much, print_faults, heavy_call, weight_faults, row_faults}
 use Rattle.homeo_meaning.specs.declared.call.Purpose.TheVariants.{Run}
 use Rattle.homeo_load.specs.Key.{words}
-use Rattle.homeo_load.specs.Draws.{Addition}
+use Rattle.homeo_load.specs.Additions.{Addition}
 use Rattle.homeo_load.specs.Load.{load_of}
 use Rattle.homeo_load.proofs.DrawnAdditions.{IsAddition}
 use Rattle.homeo_load.proofs.Forms.{load_extent, extent_at, prints_at, light_at}

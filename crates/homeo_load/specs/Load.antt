@@ -6,7 +6,7 @@ use Rattle.homeo_syntax.specs.declared.phrase.Number.{Number}
 use Rattle.homeo_syntax.specs.declared.workload.ObjectDecl.{ObjectDecl}
 use Rattle.homeo_syntax.specs.declared.workload.RangeDecl.{RangeDecl}
 use Rattle.homeo_load.specs.Key.{words}
-use Rattle.homeo_load.specs.Draws.{Addition, additions}
+use Rattle.homeo_load.specs.Additions.{Addition, additions}
 
 -- ---- names: c0 to c7 are 0 to 7, add0 is 8, n is 9, add1 to add7 are 10 to 16, w0 to w7 are 17 to 24
 abbrev pub load_object_names : List (List ℕ)

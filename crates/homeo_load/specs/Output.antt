@@ -6,7 +6,7 @@ use Rattle.homeo_print.specs.Names.{heading}
 use Rattle.homeo_report.specs.Report.{object_lines}
 use Rattle.homeo_report.specs.Summary.{prints_of}
 use Rattle.homeo_load.specs.Key.{words}
-use Rattle.homeo_load.specs.Draws.{Addition, additions}
+use Rattle.homeo_load.specs.Additions.{Addition, additions}
 use Rattle.homeo_load.specs.Load.{load_object_names}
 use Rattle.homeo_load.specs.Sums.{sums}
 

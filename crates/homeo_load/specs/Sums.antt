@@ -1,7 +1,7 @@
 -- What a load adds to each object.
 use Rattle.std.specs.Prelude.{ℕ, ◌==◌, cond, ℤ, pos, List, map, sum_by}
 use Rattle.homeo_load.specs.Key.{words}
-use Rattle.homeo_load.specs.Draws.{Addition}
+use Rattle.homeo_load.specs.Additions.{Addition}
 use Rattle.homeo_load.specs.Load.{eight}
 
 -- what an addition adds to object i

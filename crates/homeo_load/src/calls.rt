@@ -2,10 +2,11 @@
 
 ghost use Rattle.std.specs.Prelude.{◌≡◌, ◌<◌, map, IfOk, OnOk, [], ◌∷◌, ◌++◌, cond};
 ghost use Rattle.homeo_syntax.specs.SourceView.{plain_call};
-ghost use Rattle.homeo_load.specs.Draws.{additions};
+ghost use Rattle.homeo_load.specs.Additions.{additions};
 ghost use Rattle.homeo_load.specs.Load.{ident, number, transaction_name, load_call, dealt};
 
-use crate::draws::{Addition, Draws};
+use crate::additions::{Addition, next_addition};
+use homeo_draws::Draws;
 use homeo_syntax::{Call, Ident, List, Memory, Number};
 use std::alloc::Global;
 
@@ -74,7 +75,7 @@ pub(crate) fn calls_of(
     let mut draws = Draws { state: start };
     let mut list = List::new(alloc);
     for k in 0..calls {
-        let a = draws.addition();
+        let a = next_addition(&mut draws);
         push_if(&mut list, alloc, k % COUNT == client, a)?;
     }
     Ok(list)

@@ -5,7 +5,7 @@ ghost use Rattle.homeo_meaning.specs.Acceptance.{IsAccepted};
 ghost use Rattle.homeo_history.specs.History.{History};
 ghost use Rattle.homeo_history.specs.Legal.{IsFull};
 ghost use Rattle.homeo_report.specs.Summary.{summary};
-ghost use Rattle.homeo_load.specs.Draws.{additions};
+ghost use Rattle.homeo_load.specs.Additions.{additions};
 ghost use Rattle.homeo_load.specs.Load.{load_workload};
 ghost use Rattle.homeo_load.specs.Output.{HasOutput, load_summary};
 

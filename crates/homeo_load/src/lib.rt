@@ -1,8 +1,8 @@
 //! The generated load: a workload made from a number, and what its runs leave.
 #![tactic(auto)]
 
+mod additions;
 mod calls;
-mod draws;
 pub mod laws;
 mod names;
 mod workload;

@@ -3,7 +3,7 @@
 ghost use Rattle.std.specs.Prelude.{◌≡◌, ◌≤◌, ◌<◌, map, IfOk};
 ghost use Rattle.homeo_syntax.specs.SourceView.{plain_client, plain_transaction, plain_workload};
 ghost use Rattle.homeo_meaning.specs.Acceptance.{IsAccepted};
-ghost use Rattle.homeo_load.specs.Draws.{additions};
+ghost use Rattle.homeo_load.specs.Additions.{additions};
 ghost use Rattle.homeo_load.specs.Load.{load_object, load_transaction, load_client, load_workload, eight};
 
 use crate::calls::{COUNT, calls_of, ident, number, transaction_name};

@@ -81,7 +81,7 @@ fn run_workload(alloc: Global, w: &Accepted) -> Result<Split, Fail>
     ensures { IfOk result SumsFit }
 {
     let declared = Declarations::of(alloc, w)?;
-    let grounding = Grounding::of(alloc, w)?;
+    let grounding = Grounding::of(alloc, w, &declared)?;
     let call = first(w, grounding.calls())?;
     let database = initial(alloc, w)?;
     Ok(run_first(alloc, w, &declared, call, &database, 0)?)

@@ -1,8 +1,7 @@
 //! Reading texts, and one that several tests take.
 
+use homeo_accept::TextRefusal;
 use homeo_meaning::{Accepted, Purpose};
-use homeo_reader::{ReadRefusal, read};
-use homeo_rules::{RuleRefusal, accept};
 use std::alloc::{AllocError, Global};
 use std::process::Abort;
 use std::test::Fail;
@@ -44,14 +43,9 @@ end
 /// Reads a text that is accepted.
 pub(crate) fn accepted(rt: &impl Abort, alloc: Global, text: &str) -> Result<Accepted, Fail> {
     assert!(rt; text.len() <= 1_048_576);
-    let workload = match read(alloc, text.as_bytes()) {
-        Ok(workload) => workload,
-        Err(ReadRefusal::Memory) => return Err(Fail::from(AllocError)),
-        Err(ReadRefusal::Refused(refusal)) => panic!(rt; "refused {refusal:?}"),
-    };
-    match accept(alloc, workload, Purpose::Steps) {
+    match homeo_accept::accepted(alloc, text.as_bytes(), Purpose::Steps) {
         Ok(w) => Ok(w),
-        Err(RuleRefusal::Memory) => Err(Fail::from(AllocError)),
-        Err(RuleRefusal::Refused(refusal)) => panic!(rt; "refused {refusal:?}"),
+        Err(TextRefusal::Memory) => Err(Fail::from(AllocError)),
+        Err(TextRefusal::Refused(refusal)) => panic!(rt; "refused {refusal:?}"),
     }
 }

@@ -78,7 +78,7 @@ fn take_by_call(
 /// The row that a workload's first ground call takes so, at the starting values.
 fn take_first(alloc: Global, w: &Accepted) -> Result<Taken, Fail> {
     let declared = Declarations::of(alloc, w)?;
-    let grounding = Grounding::of(alloc, w)?;
+    let grounding = Grounding::of(alloc, w, &declared)?;
     let call = first(w, grounding.calls())?;
     let database = initial(alloc, w)?;
     Ok(take_by_call(alloc, w, &declared, call, &database)?)

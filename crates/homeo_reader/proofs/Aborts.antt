@@ -1,5 +1,5 @@
 -- The commands of a workload are those of its version.
-use Rattle.std.proofs.Common.{ℕ, zero, suc, List, [], ◌∷◌, refl}
+use Rattle.std.proofs.Common.{ℕ, zero, suc, List, [], ◌∷◌}
 use Rattle.homeo_syntax.specs.Key.{words}
 use Rattle.homeo_syntax.specs.declared.token.Mark.TheVariants as mark
 use Rattle.homeo_syntax.specs.declared.token.Token.{Token}

@@ -14,7 +14,7 @@ use Rattle.homeo_syntax.specs.declared.token.Version.{Version}
 use Rattle.homeo_syntax.specs.declared.token.Version.TheVariants.{First, Second}
 use Rattle.homeo_syntax.specs.Grammar.{Grammar, call, many, Spells, Means, takes, has}
 use Rattle.homeo_reader.specs.inner.Engine.{Reading, ◌>>=◌, read, calls_at, Calls, Classes, empty, exists, begins, first_is}
-use Rattle.homeo_syntax.specs.Rules.{Rule, Command, rule, command, common_command, field_value, lead}
+use Rattle.homeo_syntax.specs.Rules.{Rule, Command, rule, common_command, field_value, lead}
 use Rattle.homeo_reader.specs.inner.FirstTokens.{classes}
 use Rattle.homeo_syntax.specs.Source as s
 use Rattle.homeo_syntax.specs.SourceView.{commands, plain_expr, plain_field}

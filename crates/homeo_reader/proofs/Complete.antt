@@ -28,7 +28,7 @@ clear_within xs ys (t ∷ z) w c = λ h. c (has_within xs ys (class_of t.kind) w
 module _ {Call : Type 0} {Value : Call → Type 0} (cl : Classes Call) (cs : Calls Call Value) (M : (c : Call) → Value c → List Token → Type 0)
     (known : Known cl cs M) where
   -- what a phrase begins with is clear of what is apart from it
-  word_clear : {X : Type 0} → (g : Grammar Call Value X) (xs : List ℕ) (a : X) (w z : List Token) → Spells M g a w → apart xs (starts cl g) ≡ true →
+  pub word_clear : {X : Type 0} → (g : Grammar Call Value X) (xs : List ℕ) (a : X) (w z : List Token) → Spells M g a w → apart xs (starts cl g) ≡ true →
       (empty g ≡ true → Clear xs z) → Clear xs (w ++ z)
   word_clear g xs a [] z s d c = c (empty_word cl cs M known g a s)
   word_clear g xs a (t ∷ w) z s d c =

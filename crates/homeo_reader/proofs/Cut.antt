@@ -45,7 +45,7 @@ same_tokens names more (t ∷ ts) h =
     ∙ ap (λ (us : List Token). token_in names t ∷ us) (same_tokens names more ts h.1)
 
 -- the tokens of the whole text are those of its beginning, and others
-whole_tokens : (ts more : List Scanned) → tokens_in (names_of (ts ++ more)) (ts ++ more) ≡ tokens_in (names_of ts) ts ++ tokens_in (names_of (ts ++ more)) more
+pub whole_tokens : (ts more : List Scanned) → tokens_in (names_of (ts ++ more)) (ts ++ more) ≡ tokens_in (names_of ts) ts ++ tokens_in (names_of (ts ++ more)) more
 whole_tokens ts more =
     map-append (token_in (names_of (ts ++ more))) ts more
     ∙ ap (λ (us : List Token). us ++ tokens_in (names_of (ts ++ more)) more)

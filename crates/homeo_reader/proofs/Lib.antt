@@ -19,3 +19,6 @@ pub mod SpelledNames
 pub mod Top
 pub mod Unread
 pub mod Cut
+pub mod Declared
+pub mod Scans
+pub mod Texts

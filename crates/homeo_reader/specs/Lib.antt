@@ -1,2 +1,4 @@
 pub mod Cut
+pub mod Lines
+pub mod Stands
 pub mod inner

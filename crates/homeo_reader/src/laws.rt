@@ -6,6 +6,7 @@ ghost use Rattle.homeo_syntax.specs.Reads.{Reads, IsUnread};
 ghost use Rattle.homeo_syntax.specs.WellFormed.{IsWellFormed};
 ghost use Rattle.homeo_syntax.specs.declared.workload.Refusal.{Refusal};
 ghost use Rattle.homeo_reader.specs.Cut.{IsCutShort};
+ghost use Rattle.homeo_reader.specs.Stands.{DeclarationsStand, TextsStand};
 
 /// No text reads as two workloads.
 pub fn one_reading()
@@ -32,4 +33,15 @@ pub fn one_refusal()
 pub fn cut_texts()
     ensures { (text cut : List ℕ) (w : s.Workload) → Reads text w → IsCutShort text cut
         → IsUnread cut (record { code = 4; offset = length cut }) }
+{}
+
+/// Where clients, a schedule or the end come in the place of a workload's last token, the declarations stay.
+pub fn declarations_stand()
+    ensures { DeclarationsStand }
+{}
+
+/// Where an ending that begins with `client`, `schedule` or `end` stands in the place of a text's last line, which is `end`,
+/// the declarations stay.
+pub fn texts_stand()
+    ensures { TextsStand }
 {}

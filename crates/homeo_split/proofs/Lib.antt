@@ -2,6 +2,7 @@ pub mod CommandSteps
 pub mod Copies
 pub mod Equations
 pub mod Numbers
+pub mod SamePlaces
 pub mod SmallCommands
 pub mod States
 pub mod Steps

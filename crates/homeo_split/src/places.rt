@@ -1,60 +1,42 @@
-//! Whether a split database has the places that a command writes.
+//! Where a command sets a value, as a key of maps.
 
-ghost use Rattle.std.specs.Prelude.{◌≡◌, map};
-ghost use Rattle.homeo_syntax.specs.LowView.{low_commands, plain_lcommand};
-ghost use Rattle.homeo_syntax.specs.declared.low.SplitName.TheVariants.{Delta};
-ghost use Rattle.homeo_split.specs.Shape.{shape_of, has_place, has_places, has_places_all};
+ghost use Rattle.std.specs.Prelude.{◌≡◌};
+ghost use Rattle.homeo_meaning.specs.LowMeaning.{TempAt, location_of};
+ghost use Rattle.homeo_split.specs.Places.{plain_place};
 
-use crate::split::Split;
-use homeo_syntax::{LCommand, SplitName};
+use homeo_syntax::{SplitName, Temp};
 
-impl Split {
-    /// Whether each place that a command writes is there.
-    #[cycle(places)]
-    #[tactic(auto, using(homeo_syntax::proofs::LowViews::low_command_views, crate::proofs::CommandSteps::places))]
-    pub fn has_places(&self, c: &LCommand) -> bool
-        ensures { result ≡ has_places (shape_of self.now) (plain_lcommand c.now) }
-    {
-        match c {
-            LCommand::Skip => true,
-            LCommand::Assign { .. } => true,
-            LCommand::Write { target, .. } => self.has_place(*target),
-            LCommand::Print { .. } => true,
-            LCommand::If { yes, no, .. } => self.has_places(yes) && self.has_places(no),
-            LCommand::Seq { commands } => self.has_places_all(commands.as_slice()),
-        }
+/// A temporary of the text or a fresh one, the base's value of an object, or a delta of one. A whole object is its base.
+#[derive(Clone, Copy, PartialEq, Eq, Hash)]
+pub enum Place {
+    /// A temporary, by the number of its name.
+    Named(u32),
+    /// A temporary that analysis made, by its number.
+    Fresh(u32),
+    /// The base's value of an object.
+    Base(u32),
+    /// An object's delta of a site.
+    Delta { object: u32, site: u32 },
+}
+
+/// The place of a temporary.
+pub fn place_of_temp(t: Temp) -> Place
+    ensures { plain_place result ≡ TempAt t }
+{
+    match t {
+        Temp::Named(name) => Place::Named(name),
+        Temp::Fresh(number) => Place::Fresh(number),
     }
+}
 
-    #[cycle(places)]
-    fn has_places_all(&self, cs: &[LCommand]) -> bool
-        ensures { result ≡ has_places_all (shape_of self.now) (low_commands (map plain_lcommand cs.now)) }
-    {
-        for c in cs {
-            if !self.has_places(c) {
-                return false;
-            }
-        }
-        true
-    }
-
-    #[tactic(auto, unfolding(crate::specs::Key::words))]
-    fn has_place(&self, x: SplitName) -> bool
-        ensures { result ≡ has_place (shape_of self.now) x }
-    {
-        match x {
-            SplitName::Whole(object) => (object as usize) < self.base.as_slice().len(),
-            SplitName::Base(object) => (object as usize) < self.base.as_slice().len(),
-            SplitName::Delta { object, site } => self.has_delta(object as usize, site as usize),
-        }
-    }
-
-    #[tactic(auto, unfolding(crate::specs::Key::words))]
-    fn has_delta(&self, object: usize, site: usize) -> bool
-        ensures { result ≡ has_place (shape_of self.now) (Delta object site) }
-    {
-        match self.deltas.as_slice().get(site) {
-            Some(deltas) => object < deltas.as_slice().len(),
-            None => false,
-        }
+/// The place of a name.
+#[tactic(auto, unfolding(homeo_meaning::specs::Key::words))]
+pub fn place_of(name: SplitName) -> Place
+    ensures { plain_place result ≡ location_of name }
+{
+    match name {
+        SplitName::Whole(object) => Place::Base(object),
+        SplitName::Base(object) => Place::Base(object),
+        SplitName::Delta { object, site } => Place::Delta { object, site },
     }
 }

@@ -5,6 +5,7 @@ ghost use Rattle.homeo_meaning.specs.LowMeaning.{TempAt, DeltaAt, location_of, p
 ghost use Rattle.homeo_split.specs.inner.States.{plain_state, state_shape};
 ghost use Rattle.homeo_split.specs.Shape.{has_place};
 
+use crate::reads::Reads;
 use homeo_meaning::padded::{item_or, put};
 use homeo_syntax::{Memory, SplitName, Temp};
 
@@ -17,11 +18,15 @@ pub(crate) struct State {
     pub(crate) fresh: Vec<i64>,
 }
 
-impl State {
+impl Reads for State {
+    ghost use Rattle.std.specs.Prelude.{◌≡◌};
+    ghost use Rattle.homeo_meaning.specs.LowMeaning.{TempAt, location_of};
+    ghost use Rattle.homeo_split.specs.inner.States.{plain_state};
+
+    ghost values = { λ s. plain_state s };
+
     #[tactic(auto, unfolding(crate::specs::Key::words))]
-    pub(crate) fn temp(&self, t: Temp) -> i64
-        ensures { result ≡ plain_state self.now (TempAt t) }
-    {
+    fn temp(&self, t: Temp) -> i64 {
         match t {
             Temp::Named(n) => item_or(self.named.as_slice(), n as usize, 0),
             Temp::Fresh(n) => item_or(self.fresh.as_slice(), n as usize, 0),
@@ -29,16 +34,16 @@ impl State {
     }
 
     #[tactic(auto, unfolding(crate::specs::Key::words, homeo_meaning::specs::Key::words))]
-    pub(crate) fn read(&self, x: SplitName) -> i64
-        ensures { result ≡ plain_state self.now (location_of x) }
-    {
+    fn read(&self, x: SplitName) -> i64 {
         match x {
             SplitName::Whole(object) => item_or(self.base.as_slice(), object as usize, 0),
             SplitName::Base(object) => item_or(self.base.as_slice(), object as usize, 0),
             SplitName::Delta { object, site } => self.delta(object as usize, site as usize),
         }
     }
+}
 
+impl State {
     /// Sets a temporary.
     pub(crate) fn assign(&mut self, t: Temp, v: i64) -> Result<(), Memory>
         ensures shape { state_shape self.new ≡ state_shape self.old }

@@ -1,33 +1,19 @@
 -- What a map of places has at each location.
-use Rattle.std.proofs.Common.{rules, Bor, ◌≡◌, Bool, true, false, cond, Option, Some, None, List, [], ◌∷◌, refl, sym, ap, ap₂, ◌∙◌, subst}
+use Rattle.std.proofs.Common.{Bor, ◌≡◌, Bool, true, false, cond, Option, Some, None, List, [], ◌∷◌, refl, sym, ap, ap₂, ◌∙◌, subst}
 use Rattle.std.specs.HashMap.{HashMap, get, get_by}
 use Rattle.std.specs.List.{AllZip}
 use Rattle.std.specs.Map.{lookup}
 use Rattle.std.specs.Option.{option_map, option_copied}
-use Rattle.homeo_syntax.specs.declared.low.Temp.TheVariants as temps
 use Rattle.homeo_meaning.specs.Key.{words as meaning_words}
-use Rattle.homeo_meaning.specs.LowMeaning.{Location, TempAt, BaseAt, DeltaAt, same_location, put}
-use Rattle.homeo_table.specs.contracts.places.PlacePartialEq.TheImpl.{ghosts}
-use Rattle.homeo_table.specs.declared.places.Place.{Place}
-use Rattle.homeo_table.specs.declared.places.Place.TheVariants.{Named, Fresh, Base, Delta}
-use Rattle.homeo_table.specs.inner.Places.{plain_place}
-
-abbrev pub is_at : Location → Place → Bool
-is_at l p = same_location l (plain_place p)
+use Rattle.homeo_meaning.specs.LowMeaning.{same_location, put}
+use Rattle.homeo_split.specs.contracts.places.PlacePartialEq.TheImpl.{ghosts}
+use Rattle.homeo_split.specs.declared.places.Place.{Place}
+use Rattle.homeo_split.specs.Places.{plain_place}
+use Rattle.homeo_split.proofs.SamePlaces.{is_at, at_each_place, same-places}
 
 map-choice : {X Y : Type 0} (f : X → Y) (b : Bool) (v : X) (o : Option X) → option_map f (cond b (Some v) o) ≡ cond b (Some (f v)) (option_map f o)
 map-choice f true v o = refl
 map-choice f false v o = refl
-
-at_each_place : (P : Location → Type 0) → ((p : Place) → P (plain_place p)) → (l : Location) → P l
-at_each_place P h (TempAt (temps.Named n)) = h (Named n)
-at_each_place P h (TempAt (temps.Fresh n)) = h (Fresh n)
-at_each_place P h (BaseAt x) = h (Base x)
-at_each_place P h (DeltaAt x j) = h (Delta x j)
-
-pub same-places : (a b : Place) → ghosts.eq a b ≡ is_at (plain_place a) b
-unfolding meaning_words
-same-places a b = search rules
 
 pub bound-put :
     {X Y S : Type 0} (f : X → Y) (m n : HashMap Place X S) (k : Place) (v : X) → ((q : Place) → get ghosts.eq n q ≡ cond (ghosts.eq k q) (Some v) (get ghosts.eq m q)) →

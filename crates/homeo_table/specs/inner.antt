@@ -2,7 +2,6 @@ pub mod Bindings
 pub mod Branches
 pub mod Key
 pub mod Makings
-pub mod Places
 pub mod Shared
 pub mod Substitution
 pub mod Walks

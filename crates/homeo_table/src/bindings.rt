@@ -4,11 +4,11 @@ ghost use Rattle.std.specs.Prelude.{◌≡◌, Some, None, IfOk, OnOk};
 ghost use Rattle.std.specs.Option.{option_map};
 ghost use Rattle.homeo_meaning.specs.LowMeaning.{put};
 ghost use Rattle.homeo_table.specs.inner.Bindings.{bound};
-ghost use Rattle.homeo_table.specs.inner.Places.{plain_place};
+ghost use Rattle.homeo_split.specs.Places.{plain_place};
 ghost use Rattle.homeo_table.specs.inner.Shared.{plain_shared};
 
-use crate::places::Place;
 use crate::shared::Shared;
+use homeo_split::Place;
 use homeo_syntax::Memory;
 use std::alloc::Global;
 use std::collections::HashMap;

@@ -8,8 +8,8 @@ ghost use Rattle.homeo_table.specs.inner.Branches.{left_of, left_before, rows_of
 ghost use Rattle.homeo_table.specs.inner.Makings.{completed};
 
 use crate::making::Making;
-use crate::places::{place_of, place_of_temp};
 use homeo_plan::Row;
+use homeo_split::{place_of, place_of_temp};
 use homeo_syntax::{LCommand, LCond, Memory};
 use std::alloc::Global;
 

@@ -4,9 +4,7 @@
 
 mod bindings;
 mod branches;
-mod evaluation;
 mod making;
-mod places;
 mod selection;
 mod shared;
 mod sides;

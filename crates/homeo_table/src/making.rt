@@ -9,15 +9,13 @@ ghost use Rattle.homeo_split.specs.CanExec.{limit, cond_fits};
 ghost use Rattle.homeo_split.specs.States.{state_of};
 ghost use Rattle.homeo_table.specs.inner.Bindings.{bound};
 ghost use Rattle.homeo_table.specs.inner.Makings.{completed, command_before};
-ghost use Rattle.homeo_table.specs.inner.Places.{plain_place};
+ghost use Rattle.homeo_split.specs.Places.{plain_place};
 ghost use Rattle.homeo_table.specs.inner.Substitution.{substituted, substituted_test, substituted_cond};
 
 use crate::bindings::Bindings;
-use crate::evaluation::holds;
-use crate::places::Place;
 use crate::substitution::{condition, shared_value, test};
 use homeo_plan::Row;
-use homeo_split::Split;
+use homeo_split::{Place, Split, holds};
 use homeo_syntax::{LCommand, LCond, LExpr, LTest, List, Memory};
 use std::alloc::Global;
 

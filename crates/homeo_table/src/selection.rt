@@ -8,9 +8,8 @@ ghost use Rattle.homeo_plan.specs.Table.{last_row, row_at};
 ghost use Rattle.homeo_split.specs.CanExec.{limit, cond_fits};
 ghost use Rattle.homeo_split.specs.States.{state_of};
 
-use crate::evaluation::holds;
 use homeo_plan::Row;
-use homeo_split::Split;
+use homeo_split::{Split, holds};
 
 /// The place, from 0, of the one row whose formula holds at a split database, where temporaries are 0. It takes no
 /// memory.

@@ -7,7 +7,7 @@ ghost use Rattle.homeo_table.specs.inner.Bindings.{bound};
 ghost use Rattle.homeo_table.specs.inner.Substitution.{substituted};
 
 use crate::bindings::Bindings;
-use crate::places::{place_of, place_of_temp};
+use homeo_split::{place_of, place_of_temp};
 use homeo_syntax::{LExpr, List, Memory, SplitName, Temp};
 use std::alloc::Global;
 

@@ -8,9 +8,9 @@ ghost use Rattle.homeo_table.specs.inner.Shared.{plain_shared};
 ghost use Rattle.homeo_table.specs.inner.Substitution.{substituted, substituted_test, substituted_cond};
 
 use crate::bindings::Bindings;
-use crate::places::{place_of, place_of_temp};
 use crate::shared::Shared;
 use crate::sides::side;
+use homeo_split::{place_of, place_of_temp};
 use homeo_syntax::{LCond, LExpr, LTest, List, Memory, SplitName, Temp};
 use std::alloc::Global;
 use std::rc::Rc;

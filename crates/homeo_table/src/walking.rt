@@ -14,9 +14,8 @@ ghost use Rattle.homeo_table.specs.inner.Walks.{CanFollow, Goes, in_order};
 
 use crate::branches::push_all;
 use crate::making::Making;
-use crate::places::{place_of, place_of_temp};
 use homeo_plan::Row;
-use homeo_split::Split;
+use homeo_split::{Split, place_of, place_of_temp};
 use homeo_syntax::{LCommand, Memory};
 use std::alloc::Global;
 

@@ -9,13 +9,12 @@ ghost use Rattle.homeo_meaning.specs.Schema.{schema_of};
 ghost use Rattle.homeo_ground.specs.Grounding.{IsCalled};
 
 use crate::texts::{ENDED, LIMITED_SLOTS};
+use homeo_accept::TextRefusal;
 use homeo_context::Declarations;
 use homeo_desugar::desugar;
 use homeo_eval::{eval, initial};
 use homeo_ground::Grounding;
 use homeo_meaning::{Accepted, Database, GroundCall, Purpose};
-use homeo_reader::{ReadRefusal, read};
-use homeo_rules::{RuleRefusal, accept};
 use homeo_split::{Split, eval_l};
 use homeo_syntax::{List, Memory, Prints};
 use std::alloc::{AllocError, Global};
@@ -81,15 +80,10 @@ end
 /// Reads a text that is accepted.
 fn accepted(rt: &impl Abort, alloc: Global, text: &str) -> Result<Accepted, Fail> {
     assert!(rt; text.len() <= 1_048_576);
-    let workload = match read(alloc, text.as_bytes()) {
-        Ok(workload) => workload,
-        Err(ReadRefusal::Memory) => return Err(Fail::from(AllocError)),
-        Err(ReadRefusal::Refused(refusal)) => panic!(rt; "refused {refusal:?}"),
-    };
-    match accept(alloc, workload, Purpose::Steps) {
+    match homeo_accept::accepted(alloc, text.as_bytes(), Purpose::Steps) {
         Ok(w) => Ok(w),
-        Err(RuleRefusal::Memory) => Err(Fail::from(AllocError)),
-        Err(RuleRefusal::Refused(refusal)) => panic!(rt; "refused {refusal:?}"),
+        Err(TextRefusal::Memory) => Err(Fail::from(AllocError)),
+        Err(TextRefusal::Refused(refusal)) => panic!(rt; "refused {refusal:?}"),
     }
 }
 
@@ -158,7 +152,7 @@ fn run_rounds(
     rounds: usize,
 ) -> Result<Database, Fail> {
     let declared = Declarations::of(alloc, w)?;
-    let grounding = Grounding::of(alloc, w)?;
+    let grounding = Grounding::of(alloc, w, &declared)?;
     let mut database = initial(alloc, w)?;
     for _ in 0..rounds {
         let _logs = run_round(rt, alloc, w, &declared, grounding.calls(), &mut database)?;
@@ -198,7 +192,7 @@ fn a_call_that_ends_itself_keeps_its_prints(rt: HostRuntime) -> Result<(), Fail>
     let alloc = rt.alloc();
     let w = accepted(&rt, alloc, ENDED)?;
     let declared = Declarations::of(alloc, &w)?;
-    let grounding = Grounding::of(alloc, &w)?;
+    let grounding = Grounding::of(alloc, &w, &declared)?;
     let mut database = initial(alloc, &w)?;
     let logs = run_round(&rt, alloc, &w, &declared, grounding.calls(), &mut database)?;
     match logs.as_slice() {

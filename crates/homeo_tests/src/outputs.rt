@@ -28,6 +28,41 @@ fn calls_are_reported_with_their_rounds(rt: HostRuntime) -> Result<(), Fail> {
             LIMITED_SLOTS,
             "round 0\nsite 0\nclose 0 clause 0 sum 1 bound 0\na 1 p(): 0 1\nround 1\nsite 0\nclose 0 clause 1 sum 1 bound 0\na 2 p(): 0 2\nround 2\nsite 0\nclose 0 clause 2 sum 1 bound 0\na 3 p(): 0 3\nround 3\nsite 0\nclose 0 clause 3 sum 1 bound 0\na 4 p(): 0 4\nround 4\nsite 0\na 5 p(): 0 0\ndatabase\nR.0.used = 1\nR.0.f = 7\nR.1.used = 1\nR.1.f = 7\nR.2.used = 1\nR.2.f = 7\nR.3.used = 1\nR.3.f = 7\nrounds 5 calls 5\n",
         ),
+        // one site, whose own treaty is the whole one
+        (
+            "workload 1\nsites 1\nobject stock in 0..10 = 5\ntransaction buy(n in 1..3) { s := read(stock); if n <= s then { write(stock = s - n); print(1) } else print(0) }\nclient a at 0 { buy(1); buy(1); buy(1); buy(1) }\nclient b at 0 { buy(1) }\nschedule a a b a a\nend\n",
+            "round 0\nsite 0\na 1 buy(1): 1\na 2 buy(1): 1\nb 1 buy(1): 1\na 3 buy(1): 1\nclose 0 clause 0 sum 5 bound 4\na 4 buy(1): 1\nround 1\nsite 0\ndatabase\nstock = 0\nrounds 2 calls 5\n",
+        ),
+        // a write of a constant moves what the other site may not
+        (
+            "workload 1\nsites 2\nobject stock in 0..10 = 1\ntransaction fill() { if read(stock) < 2 then write(stock = 9) else skip }\nclient a at 0 { fill() }\nclient b at 1 { fill() }\nschedule a b\nend\n",
+            "round 0\nsite 0\nsite 1\nclose 0 clause 0 sum 8 bound 0\na 1 fill():\nround 1\nsite 0\nsite 1\nb 1 fill():\ndatabase\nstock = 9\nrounds 2 calls 2\n",
+        ),
+        // what one site alone writes and prints is local
+        (
+            "workload 1\nsites 2\nobject x in 0..10 = 5\ntransaction show() { print(read(x)) }\ntransaction raise() { write(x = read(x) + 1) }\nclient a at 0 { raise(); show(); raise(); show() }\nschedule a a a a\nend\n",
+            "round 0\nsite 0\na 1 raise():\na 2 show(): 6\na 3 raise():\na 4 show(): 7\nsite 1\ndatabase\nx = 7\nrounds 1 calls 4\n",
+        ),
+        // a write past a bound changes nothing, and breaks nothing
+        (
+            "workload 1\nsites 1\nobject x in 0..10 = 10\ntransaction raise() { write(x = read(x) + 1) }\nclient a at 0 { raise() }\nschedule a\nend\n",
+            "round 0\nsite 0\na 1 raise():\ndatabase\nx = 10\nrounds 1 calls 1\n",
+        ),
+        // two writes of one call have a clause each
+        (
+            "workload 1\nsites 2\nobject x in 0..10 = 5\ntransaction twice() { write(x = read(x) + 1); write(x = read(x) + 1) }\nclient a at 0 { twice() }\nschedule a\nend\n",
+            "round 0\nsite 0\nsite 1\nclose 0 clause 3 sum 2 bound 1\na 1 twice():\nround 1\nsite 0\nsite 1\ndatabase\nx = 7\nrounds 2 calls 1\n",
+        ),
+        // a call that prints what it wrote
+        (
+            "workload 1\nsites 2\nobject x in 0..3 = 2\ntransaction up() { write(x = read(x) + 1); print(read(x)) }\nclient a at 0 { up() }\nclient b at 1 { up() }\nschedule b a\nend\n",
+            "round 0\nsite 0\nsite 1\nclose 1 clause 1 sum 1 bound 0\nb 1 up(): 3\nround 1\nsite 0\na 1 up(): 3\nsite 1\ndatabase\nx = 3\nrounds 2 calls 2\n",
+        ),
+        // 8,192 ways through a call, of which one is walked
+        (
+            "workload 1\nsites 1\nobject x in 0..9 = 5\ntransaction t() { if read(x) < 1 then print(1) else print(0); if read(x) < 1 then print(1) else print(0); if read(x) < 1 then print(1) else print(0); if read(x) < 1 then print(1) else print(0); if read(x) < 1 then print(1) else print(0); if read(x) < 1 then print(1) else print(0); if read(x) < 1 then print(1) else print(0); if read(x) < 1 then print(1) else print(0); if read(x) < 1 then print(1) else print(0); if read(x) < 1 then print(1) else print(0); if read(x) < 1 then print(1) else print(0); if read(x) < 1 then print(1) else print(0); if read(x) < 1 then print(1) else print(0) }\nclient a at 0 { t() }\nschedule a\nend\n",
+            "round 0\nsite 0\na 1 t(): 0 0 0 0 0 0 0 0 0 0 0 0 0\ndatabase\nx = 5\nrounds 1 calls 1\n",
+        ),
         // site 0 sells three of a slack of four
         (
             WEIGHTED_STOCK,
@@ -79,6 +114,16 @@ fn treaties_are_written(rt: HostRuntime) -> Result<(), Fail> {
         (
             "workload 1\nsites 2\nobject x in 0..10 = 5\nobject y in 0..10 = 7\ntransaction t() { if not (read(x) <= 2 and read(y) <= 2) then print(1) else print(0) }\nclient a at 0 { t() }\nend\n",
             "clauses 1\n0 slack 2 bounds 1 1 form -1*x@0 -1*x@1\nfreezes 0\n",
+        ),
+        // an object that starts at its bound has no slack
+        (
+            "workload 1\nsites 1\nobject x in 0..10 = 10\ntransaction raise() { write(x = read(x) + 1) }\nclient a at 0 { raise() }\nschedule a\nend\n",
+            "clauses 1\n0 slack 0 bounds 0 form -1*x@0\nfreezes 0\n",
+        ),
+        // each write has its bounds as clauses
+        (
+            "workload 1\nsites 2\nobject x in 0..10 = 5\ntransaction twice() { write(x = read(x) + 1); write(x = read(x) + 1) }\nclient a at 0 { twice() }\nschedule a\nend\n",
+            "clauses 4\n0 slack 6 bounds 3 3 form -1*x@0 -1*x@1\n1 slack 4 bounds 2 2 form 1*x@0 1*x@1\n2 slack 7 bounds 3 4 form -1*x@0 -1*x@1\n3 slack 3 bounds 1 2 form 1*x@0 1*x@1\nfreezes 0\n",
         ),
         // slacks that are shared by weights
         (

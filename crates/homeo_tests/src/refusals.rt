@@ -57,6 +57,26 @@ fn a_faulty_text_is_refused(rt: HostRuntime) -> Result<(), Fail> {
             "workload 1\nsites 2\nobject x in 0..9 = 4\ntransaction t(n in 1..5) { write(x = read(x) - n); print(read(x)); if read(x) < 2 then abort else skip; print(9) }\nclient a at 0 { t(1); t(2) }\nschedule a a\nend\n",
             "refused E4 at 133\n",
         ),
+        // a schedule that ends before the calls do
+        (
+            "workload 1\nsites 2\nobject stock in 0..10 = 5\ntransaction buy(n in 1..3) { s := read(stock); if n <= s then { write(stock = s - n); print(1) } else print(0) }\nclient a at 0 { buy(1); buy(1); buy(1) }\nclient b at 1 { buy(1) }\nschedule a a b\nend\n",
+            "refused E14 at 239\n",
+        ),
+        // an argument past its range stands before that
+        (
+            "workload 1\nsites 2\nobject stock in 0..10 = 5\ntransaction buy(n in 1..3) { s := read(stock); if n <= s then { write(stock = s - n); print(1) } else print(0) }\nclient a at 0 { buy(1); buy(1); buy(1) }\nclient b at 1 { buy(4) }\nschedule a a b a\nend\n",
+            "refused E9 at 219\n",
+        ),
+        // and a name that stands twice before a name that is not there
+        (
+            "workload 1\nsites 2\nobject stock in 0..10 = 5\ntransaction buy(n in 1..3) { s := read(stock); if n <= s then { write(stock = s - n); print(1) } else print(0) }\nclient a at 0 { buy(1); buy(1); buy(1) }\nclient a at 1 { sell(1) }\nschedule a a b a\nend\n",
+            "refused E5 at 206\n",
+        ),
+        // a call that is too large
+        (
+            "workload 1\nsites 1\ntransaction grow() { t := 1; t := t + t; t := t + t; t := t + t; t := t + t; t := t + t; t := t + t; t := t + t; t := t + t; t := t + t; t := t + t; t := t + t; t := t + t; t := t + t; t := t + t; t := t + t; t := t + t }\nclient a at 0 { grow() }\nschedule a\nend\n",
+            "refused E11 at 257\n",
+        ),
         ("workload 1\n\0", "refused E1 at 11\n"),
         ("workload 1\nsites 0\nend\n", "refused E13 at 17\n"),
         ("workload 1\nsites 17\nend\n", "refused E13 at 17\n"),
@@ -132,6 +152,12 @@ fn a_text_past_a_limit_is_refused(rt: HostRuntime) -> Result<(), Fail> {
         ("steps", calls.as_str(), "refused E13 at 80060\n"),
         ("run", prints.as_str(), "refused E11 at 78942\n"),
         ("treaty", spaces.as_str(), "refused E2 at 1048576\n"),
+        // under `tables` alone the rows of a call are counted
+        (
+            "tables",
+            "workload 1\nsites 1\nobject x in 0..9 = 5\ntransaction t() { if read(x) < 1 then print(1) else print(0); if read(x) < 1 then print(1) else print(0); if read(x) < 1 then print(1) else print(0); if read(x) < 1 then print(1) else print(0); if read(x) < 1 then print(1) else print(0); if read(x) < 1 then print(1) else print(0); if read(x) < 1 then print(1) else print(0); if read(x) < 1 then print(1) else print(0); if read(x) < 1 then print(1) else print(0); if read(x) < 1 then print(1) else print(0); if read(x) < 1 then print(1) else print(0); if read(x) < 1 then print(1) else print(0); if read(x) < 1 then print(1) else print(0) }\nclient a at 0 { t() }\nschedule a\nend\n",
+            "refused E12 at 647\n",
+        ),
     ] {
         let words = [command];
         let given = Given {

@@ -1,4 +1,4 @@
-mod Front
+pub mod Front
 pub mod Names
 pub mod Steps
 pub mod Versions

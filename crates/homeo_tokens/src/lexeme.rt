@@ -1,12 +1,13 @@
 //! The token that a text begins with (this project's rule).
 
-ghost use Rattle.std.specs.Prelude.{◌≡◌, ◌<◌, ◌≤◌, ◌^◌, ℕ, length, option_map, EachIndex, IsTrue, slice_index, pos};
+ghost use Rattle.std.specs.Prelude.{◌≡◌, ◌<◌, ◌≤◌, ◌^◌, ℕ, length, option_map, EachIndex, IsTrue, slice_index, pos, bytes_eq, ◌∷◌, []};
 ghost use Rattle.std.specs.List.{prefix_len};
 ghost use Rattle.homeo_syntax.specs.Lexemes as spec;
+ghost use Rattle.homeo_syntax.specs.Marks.{mark_text};
 ghost use Rattle.homeo_syntax.specs.Tokens as tokens;
 ghost use Rattle.homeo_syntax.specs.Versions.{also_reserved};
-ghost use Rattle.homeo_tokens.specs.Views.{plain_lexeme};
-ghost use Rattle.homeo_tokens.specs.inner.Lexemes.{plain_found, fixed, symbol_lexeme};
+ghost use Rattle.homeo_tokens.specs.Views.{plain_lexeme, plain_found};
+ghost use Rattle.homeo_tokens.specs.inner.Lexemes.{fixed, symbol_lexeme};
 
 use homeo_syntax::{Mark, Version};
 
@@ -18,64 +19,43 @@ pub enum Lexeme<'a> {
     Fixed(Mark),
 }
 
-/// The words that are no names in any version.
-const RESERVED: [Mark; 31] = [
-    Mark::Workload,
+/// The words that are no names in any version, by their first letters.
+const WORDS_IN_A: [Mark; 2] = [Mark::At, Mark::And];
+
+const WORDS_IN_C: [Mark; 2] = [Mark::Client, Mark::Count];
+
+const WORDS_IN_D: [Mark; 1] = [Mark::Delete];
+
+const WORDS_IN_E: [Mark; 2] = [Mark::End, Mark::Else];
+
+const WORDS_IN_F: [Mark; 1] = [Mark::Foreach];
+
+const WORDS_IN_I: [Mark; 4] = [Mark::In, Mark::If, Mark::Insert, Mark::Into];
+
+const WORDS_IN_N: [Mark; 1] = [Mark::Not];
+
+const WORDS_IN_O: [Mark; 2] = [Mark::Object, Mark::Of];
+
+const WORDS_IN_P: [Mark; 1] = [Mark::Print];
+
+const WORDS_IN_R: [Mark; 2] = [Mark::Relation, Mark::Read];
+
+const WORDS_IN_S: [Mark; 5] = [
     Mark::Sites,
-    Mark::Object,
-    Mark::In,
-    Mark::Relation,
-    Mark::Transaction,
-    Mark::Client,
-    Mark::At,
     Mark::Schedule,
-    Mark::End,
-    Mark::If,
-    Mark::Then,
-    Mark::Else,
     Mark::Skip,
-    Mark::Write,
-    Mark::Read,
-    Mark::Print,
-    Mark::Foreach,
-    Mark::Of,
-    Mark::When,
-    Mark::Insert,
-    Mark::Into,
-    Mark::Delete,
-    Mark::Update,
     Mark::Set,
-    Mark::Count,
     Mark::Sum,
-    Mark::Used,
-    Mark::And,
-    Mark::Not,
-    Mark::True,
 ];
+
+const WORDS_IN_T: [Mark; 3] = [Mark::Transaction, Mark::Then, Mark::True];
+
+const WORDS_IN_U: [Mark; 2] = [Mark::Update, Mark::Used];
+
+const WORDS_IN_W: [Mark; 3] = [Mark::Workload, Mark::Write, Mark::When];
 
 /// The words that are no names in version 2, beside these.
 const LATER_RESERVED: [Mark; 2] = [Mark::Weights, Mark::Abort];
-
-/// The symbols of two bytes.
-const DOUBLE_SYMBOLS: [Mark; 3] = [Mark::Assign, Mark::Dots, Mark::LessEqual];
-
-/// The symbols of one byte.
-const SINGLE_SYMBOLS: [Mark; 14] = [
-    Mark::Less,
-    Mark::Equal,
-    Mark::Plus,
-    Mark::Minus,
-    Mark::Star,
-    Mark::Open,
-    Mark::Close,
-    Mark::OpenBracket,
-    Mark::CloseBracket,
-    Mark::OpenBrace,
-    Mark::CloseBrace,
-    Mark::Comma,
-    Mark::Semicolon,
-    Mark::Dot,
-];
 
 /// The most bytes of a name.
 const LONGEST_NAME: usize = 32;
@@ -108,30 +88,77 @@ fn is_word(b: u8) -> bool
     is_letter(b) || is_digit(b) || b == b'_'
 }
 
+/// Whether a mark is spelled so. Most are told apart by their lengths.
+fn is_spelled(mark: Mark, text: &[u8]) -> bool
+    ensures { result ≡ bytes_eq text.now (mark_text mark) }
+{
+    let word = mark.text();
+    text.len() == word.len() && text == word
+}
+
 /// The mark among these that is spelled so.
 fn look_up(marks: &[Mark], text: &[u8]) -> Option<Mark>
     ensures { result ≡ spec.look_up marks.now text.now }
 {
-    marks.iter().copied().find(|mark| text == mark.text())
+    marks.iter().copied().find(|mark| is_spelled(*mark, text))
 }
 
 /// The mark of a reserved word.
 fn reserved_word(text: &[u8]) -> Option<Mark>
     ensures { result ≡ spec.look_up spec.reserved text.now }
 {
-    look_up(&RESERVED, text)
+    match text.first() {
+        Some(b'a') => look_up(&WORDS_IN_A, text),
+        Some(b'c') => look_up(&WORDS_IN_C, text),
+        Some(b'd') => look_up(&WORDS_IN_D, text),
+        Some(b'e') => look_up(&WORDS_IN_E, text),
+        Some(b'f') => look_up(&WORDS_IN_F, text),
+        Some(b'i') => look_up(&WORDS_IN_I, text),
+        Some(b'n') => look_up(&WORDS_IN_N, text),
+        Some(b'o') => look_up(&WORDS_IN_O, text),
+        Some(b'p') => look_up(&WORDS_IN_P, text),
+        Some(b'r') => look_up(&WORDS_IN_R, text),
+        Some(b's') => look_up(&WORDS_IN_S, text),
+        Some(b't') => look_up(&WORDS_IN_T, text),
+        Some(b'u') => look_up(&WORDS_IN_U, text),
+        Some(b'w') => look_up(&WORDS_IN_W, text),
+        _ => None,
+    }
 }
 
-fn double_symbol(text: &[u8]) -> Option<Mark>
-    ensures { result ≡ spec.look_up spec.double_symbols text.now }
+/// The symbol of two bytes.
+fn double_symbol(first: u8, second: u8) -> Option<Mark>
+    ensures { result ≡ spec.look_up spec.double_symbols (first ∷ second ∷ []) }
 {
-    look_up(&DOUBLE_SYMBOLS, text)
+    match (first, second) {
+        (b':', b'=') => Some(Mark::Assign),
+        (b'.', b'.') => Some(Mark::Dots),
+        (b'<', b'=') => Some(Mark::LessEqual),
+        _ => None,
+    }
 }
 
-fn single_symbol(text: &[u8]) -> Option<Mark>
-    ensures { result ≡ spec.look_up spec.single_symbols text.now }
+/// The symbol of one byte.
+fn single_symbol(byte: u8) -> Option<Mark>
+    ensures { result ≡ spec.look_up spec.single_symbols (byte ∷ []) }
 {
-    look_up(&SINGLE_SYMBOLS, text)
+    match byte {
+        b'<' => Some(Mark::Less),
+        b'=' => Some(Mark::Equal),
+        b'+' => Some(Mark::Plus),
+        b'-' => Some(Mark::Minus),
+        b'*' => Some(Mark::Star),
+        b'(' => Some(Mark::Open),
+        b')' => Some(Mark::Close),
+        b'[' => Some(Mark::OpenBracket),
+        b']' => Some(Mark::CloseBracket),
+        b'{' => Some(Mark::OpenBrace),
+        b'}' => Some(Mark::CloseBrace),
+        b',' => Some(Mark::Comma),
+        b';' => Some(Mark::Semicolon),
+        b'.' => Some(Mark::Dot),
+        _ => None,
+    }
 }
 
 /// The symbol that the text begins with, the longest that fits, and its length in bytes.
@@ -140,11 +167,11 @@ fn symbol(text: &[u8]) -> Option<(Mark, usize)>
     ensures { option_map fixed result ≡ symbol_lexeme text.now }
 {
     if text.len() > 1 {
-        if let Some(mark) = double_symbol(&text[..2]) {
+        if let Some(mark) = double_symbol(text[0], text[1]) {
             return Some((mark, 2));
         }
     }
-    let mark = single_symbol(&text[..1])?;
+    let mark = single_symbol(text[0])?;
     Some((mark, 1))
 }
 

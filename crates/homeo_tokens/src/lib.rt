@@ -5,6 +5,6 @@ mod lexeme;
 mod numbering;
 mod scanner;
 
-pub use lexeme::Lexeme;
+pub use lexeme::{Lexeme, first_lexeme, is_space};
 pub use numbering::{Numbered, number_names};
 pub use scanner::{ScanError, Scanned, first_bad_byte, scan, version_of};

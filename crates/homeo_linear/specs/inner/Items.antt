@@ -7,8 +7,8 @@ use Rattle.homeo_plan.specs.Linear.{Linear, Forms, scale_form, form}
 use Rattle.homeo_plan.specs.Limit.{form_limit}
 use Rattle.homeo_linear.specs.declared.items.Item.{Item}
 use Rattle.homeo_linear.specs.declared.items.Item.TheVariants.{Read, Negated, Other}
-use Rattle.homeo_linear.specs.declared.places.Place.{Place}
-use Rattle.homeo_linear.specs.Places.{plain_place}
+use Rattle.homeo_split.specs.declared.places.Place.{Place}
+use Rattle.homeo_split.specs.Places.{plain_place}
 
 -- the form of an expression is made of that at a place
 pub record IsMade (of : Linear → Linear) (e : Expr) (p : Place) : Type 0 where

@@ -5,7 +5,7 @@ use Rattle.std.specs.Option.{option_map}
 use Rattle.homeo_syntax.specs.Low.{Expr}
 use Rattle.homeo_meaning.specs.LowMeaning.{Location, same_location}
 use Rattle.homeo_table.specs.declared.bindings.Bindings.{Bindings}
-use Rattle.homeo_table.specs.inner.Places.{plain_place}
+use Rattle.homeo_split.specs.Places.{plain_place}
 use Rattle.homeo_table.specs.inner.Shared.{plain_shared}
 
 unfoldable pub bound : Bindings → Location → Option Expr

@@ -1,6 +1,6 @@
 use Rattle.std.proofs.Common.{◌≡◌, drop, map}
 use Rattle.homeo_meaning.specs.Context.{object_count}
-use Rattle.homeo_context.specs.inner.Placed.{placed_relation, StandFrom}
+use Rattle.homeo_context.specs.Placed.{placed_relation, StandFrom}
 use Rattle.homeo_context.proofs.declarations.count_objects.Given as goal
 
 abbrev pub invariant-loop-relation : goal.invariant-loop-relation

@@ -7,7 +7,7 @@ use Rattle.homeo_syntax.specs.SourceView.{plain_relation}
 use Rattle.homeo_meaning.specs.Key.{words}
 use Rattle.homeo_meaning.specs.Schema.{nat_of, declared_relation}
 use Rattle.homeo_meaning.specs.Context.{object_count}
-use Rattle.homeo_context.specs.inner.Placed.{placed_relation, StandFrom, HasSlots}
+use Rattle.homeo_context.specs.Placed.{placed_relation, StandFrom, HasSlots}
 use Rattle.homeo_context.proofs.Placing.{slots_are, next_few, place_step}
 use Rattle.homeo_meaning.proofs.TakenItems.{map_twice}
 use Rattle.homeo_context.proofs.declarations.place_relations.Goals as goal

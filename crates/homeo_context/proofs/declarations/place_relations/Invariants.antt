@@ -2,7 +2,7 @@ use Rattle.std.proofs.Common.{◌≡◌, map, take}
 use Rattle.homeo_syntax.specs.SourceView.{plain_relation}
 use Rattle.homeo_meaning.specs.Schema.{declared_relation}
 use Rattle.homeo_meaning.specs.Context.{object_count}
-use Rattle.homeo_context.specs.inner.Placed.{placed_relation, StandFrom}
+use Rattle.homeo_context.specs.Placed.{placed_relation, StandFrom}
 use Rattle.homeo_context.proofs.declarations.place_relations.Given as goal
 
 abbrev pub invariant-loop-relation : goal.invariant-loop-relation

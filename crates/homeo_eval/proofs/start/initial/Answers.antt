@@ -6,7 +6,7 @@ use Rattle.homeo_meaning.specs.Key.{words}
 use Rattle.homeo_meaning.specs.Schema.{declared_relation, schema_of}
 use Rattle.homeo_meaning.specs.Bounds.{IsWithin}
 use Rattle.homeo_meaning.specs.Initial.{relation_starts}
-use Rattle.homeo_context.specs.inner.Placed.{HasSlots}
+use Rattle.homeo_context.specs.Placed.{HasSlots}
 use Rattle.homeo_context.proofs.Placing.{have_slots}
 use Rattle.homeo_meaning.proofs.Sound.{sound}
 use Rattle.homeo_eval.proofs.StartLists.{relation_next}

@@ -1,7 +1,7 @@
 -- The calls so far, and those that are left, are all.
 use Rattle.std.proofs.Common.{◌≡◌, ◌-◌, ◌++◌, map}
 use Rattle.homeo_syntax.specs.SourceView.{plain_call}
-use Rattle.homeo_load.specs.Draws.{additions}
+use Rattle.homeo_load.specs.Additions.{additions}
 use Rattle.homeo_load.specs.Load.{load_call, dealt}
 use Rattle.homeo_load.proofs.calls.calls_of.Given as goal
 

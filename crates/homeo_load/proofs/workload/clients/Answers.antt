@@ -1,6 +1,6 @@
 use Rattle.std.proofs.Common.{◌-◌}
 use Rattle.homeo_syntax.specs.SourceView.{plain_client}
-use Rattle.homeo_load.specs.Draws.{additions}
+use Rattle.homeo_load.specs.Additions.{additions}
 use Rattle.homeo_load.specs.Load.{load_client}
 use Rattle.homeo_load.proofs.Making.{place_more}
 use Rattle.homeo_load.proofs.workload.clients.Goals as goal

@@ -2,7 +2,7 @@
 use Rattle.std.proofs.Common.{◌≡◌, map}
 use Rattle.std.specs.List.{range_with_len}
 use Rattle.homeo_syntax.specs.SourceView.{plain_client}
-use Rattle.homeo_load.specs.Draws.{additions}
+use Rattle.homeo_load.specs.Additions.{additions}
 use Rattle.homeo_load.specs.Load.{load_client}
 use Rattle.homeo_load.proofs.workload.clients.Given as goal
 

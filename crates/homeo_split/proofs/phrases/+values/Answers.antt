@@ -6,35 +6,34 @@ use Rattle.homeo_syntax.proofs.LowViews.{low_Neg}
 use Rattle.homeo_split.specs.CanExec.{limit, sum_fits, product_fits}
 use Rattle.homeo_meaning.specs.LowMeaning.{value, sum_value, product_value}
 use Rattle.homeo_meaning.specs.Small.{is_small}
-use Rattle.homeo_split.specs.inner.States.{plain_state}
 use Rattle.homeo_split.proofs.Equations.{value_Neg}
 use Rattle.homeo_meaning.proofs.Numbers.{kept_is}
 use Rattle.homeo_split.proofs.Steps.{sum_step, sum_stop, product_step, product_stop}
 use Rattle.homeo_split.proofs.phrases.+values.Goals as goal
 
 pub value-returns-in-Neg : goal.value-returns-in-Neg
-value-returns-in-Neg t c =
-    let s = plain_state c.args.state.now in
+value-returns-in-Neg g t c =
+    let s = g.S.Reads.values c.args.state.now in
     let part = kept_is c.value.result _ (search rules) c.value.ensures ∙ ap (λ e. value (plain_lexpr e) s) c.deref.ensures in
-    kept_is c.negated.result _ (search rules) (c.negated.ensures ∙ ap neg_ℤ part)
+    kept_is c.minus.result _ (search rules) (c.minus.ensures ∙ ap neg_ℤ part)
     ∙ sym (ap (λ e. value (plain_lexpr e) s) c.in-Neg.is ∙ ap (λ e. value e s) (low_Neg c.in-Neg.e) ∙ value_Neg s (plain_lexpr c.in-Neg.e.value))
 
 pub sum-value-requires : goal.sum-value-requires
-sum-value-requires t c =
-    (search (rules, the_lemmas), (sum_step c.args.es.now c.loop-e.e-index c.e-item.result c.loop-e-test.true c.e-item.is c.loop-e.invariant.fits).first)
+sum-value-requires g t c =
+    λ κs lives. (search (rules, the_lemmas), (lives, (sum_step c.args.es.now c.loop-e.e-index c.e-item.result c.loop-e-test.true c.e-item.is c.loop-e.invariant.fits).first))
 
-pub sum-added-total-requires : goal.sum-added-total-requires
-sum-added-total-requires t c =
+pub sum-plus-total-requires : goal.sum-plus-total-requires
+sum-plus-total-requires g t c =
     let k = sum_step c.args.es.now c.loop-e.e-index c.e-item.result c.loop-e-test.true c.e-item.is c.loop-e.invariant.fits in
     let e = kept_is c.value.result _ (search rules) c.value.ensures in
     subst (λ v. is_small limit (to_z w64 c.loop-e.total-bits +ℤ v) ≡ true) (sym e) k.small
 
 pub sum-loop-e-preserved : goal.sum-loop-e-preserved
-sum-loop-e-preserved t c =
+sum-loop-e-preserved g t c =
     let k = sum_step c.args.es.now c.loop-e.e-index c.e-item.result c.loop-e-test.true c.e-item.is c.loop-e.invariant.fits in
     let e = kept_is c.value.result _ (search rules) c.value.ensures in
-    let n = kept_is c.added-total.result _ (search rules) (c.added-total.ensures ∙ ap (λ v. to_z w64 c.loop-e.total-bits +ℤ v) e) in
-    let s = plain_state c.args.state.now in
+    let n = kept_is c.plus-total.result _ (search rules) (c.plus-total.ensures ∙ ap (λ v. to_z w64 c.loop-e.total-bits +ℤ v) e) in
+    let s = g.S.Reads.values c.args.state.now in
     let rest = low_exprs (map plain_lexpr (drop (c.loop-e.e-index + 1) c.args.es.now)) in
     record {
       fits = subst (λ n. sum_fits limit n rest s ≡ true) (sym n) k.rest;
@@ -42,24 +41,24 @@ sum-loop-e-preserved t c =
     }
 
 pub sum-returns : goal.sum-returns
-sum-returns t c = sum_stop _ _ c.args.es.now c.loop-e.e-index c.loop-e-test.false ∙ c.loop-e.invariant.left
+sum-returns g t c = sum_stop _ _ c.args.es.now c.loop-e.e-index c.loop-e-test.false ∙ c.loop-e.invariant.left
 
 pub product-value-requires : goal.product-value-requires
-product-value-requires t c =
-    (search (rules, the_lemmas), (product_step c.args.es.now c.loop-e.e-index c.e-item.result c.loop-e-test.true c.e-item.is c.loop-e.invariant.fits).first)
+product-value-requires g t c =
+    λ κs lives. (search (rules, the_lemmas), (lives, (product_step c.args.es.now c.loop-e.e-index c.e-item.result c.loop-e-test.true c.e-item.is c.loop-e.invariant.fits).first))
 
-pub product-multiplied-total-requires : goal.product-multiplied-total-requires
-product-multiplied-total-requires t c =
+pub product-times-total-requires : goal.product-times-total-requires
+product-times-total-requires g t c =
     let k = product_step c.args.es.now c.loop-e.e-index c.e-item.result c.loop-e-test.true c.e-item.is c.loop-e.invariant.fits in
     let e = kept_is c.value.result _ (search rules) c.value.ensures in
     subst (λ v. is_small limit (to_z w64 c.loop-e.total-bits *ℤ v) ≡ true) (sym e) k.small
 
 pub product-loop-e-preserved : goal.product-loop-e-preserved
-product-loop-e-preserved t c =
+product-loop-e-preserved g t c =
     let k = product_step c.args.es.now c.loop-e.e-index c.e-item.result c.loop-e-test.true c.e-item.is c.loop-e.invariant.fits in
     let e = kept_is c.value.result _ (search rules) c.value.ensures in
-    let n = kept_is c.multiplied-total.result _ (search rules) (c.multiplied-total.ensures ∙ ap (λ v. to_z w64 c.loop-e.total-bits *ℤ v) e) in
-    let s = plain_state c.args.state.now in
+    let n = kept_is c.times-total.result _ (search rules) (c.times-total.ensures ∙ ap (λ v. to_z w64 c.loop-e.total-bits *ℤ v) e) in
+    let s = g.S.Reads.values c.args.state.now in
     let rest = low_exprs (map plain_lexpr (drop (c.loop-e.e-index + 1) c.args.es.now)) in
     record {
       fits = subst (λ n. product_fits limit n rest s ≡ true) (sym n) k.rest;
@@ -67,4 +66,4 @@ product-loop-e-preserved t c =
     }
 
 pub product-returns : goal.product-returns
-product-returns t c = product_stop _ _ c.args.es.now c.loop-e.e-index c.loop-e-test.false ∙ c.loop-e.invariant.left
+product-returns g t c = product_stop _ _ c.args.es.now c.loop-e.e-index c.loop-e-test.false ∙ c.loop-e.invariant.left

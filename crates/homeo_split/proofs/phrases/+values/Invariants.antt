@@ -3,12 +3,11 @@ use Rattle.std.proofs.Common.{◌≡◌, true, pos, map, drop}
 use Rattle.homeo_syntax.specs.LowView.{low_exprs, plain_lexpr}
 use Rattle.homeo_split.specs.CanExec.{limit, sum_fits, product_fits}
 use Rattle.homeo_meaning.specs.LowMeaning.{sum_value, product_value}
-use Rattle.homeo_split.specs.inner.States.{plain_state}
 use Rattle.homeo_split.proofs.phrases.+values.Given as goal
 
 abbrev pub invariant-sum-loop-e : goal.invariant-sum-loop-e
-invariant-sum-loop-e l =
-    let s = plain_state l.state in
+invariant-sum-loop-e g l =
+    let s = g.S.Reads.values l.state in
     let rest = low_exprs (map plain_lexpr (drop l.e-index l.es)) in
     record {
       fits : sum_fits limit l.total rest s ≡ true;
@@ -16,8 +15,8 @@ invariant-sum-loop-e l =
     }
 
 abbrev pub invariant-product-loop-e : goal.invariant-product-loop-e
-invariant-product-loop-e l =
-    let s = plain_state l.state in
+invariant-product-loop-e g l =
+    let s = g.S.Reads.values l.state in
     let rest = low_exprs (map plain_lexpr (drop l.e-index l.es)) in
     record {
       fits : product_fits limit l.total rest s ≡ true;

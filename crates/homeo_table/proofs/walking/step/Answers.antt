@@ -6,7 +6,7 @@ use Rattle.homeo_syntax.proofs.LowViews.{low_Skip, low_Assign, low_Write, low_Pr
 use Rattle.homeo_split.specs.States.{state_of}
 use Rattle.homeo_table.specs.inner.Bindings.{bound}
 use Rattle.homeo_table.specs.inner.Makings.{completed}
-use Rattle.homeo_table.specs.inner.Places.{plain_place}
+use Rattle.homeo_split.specs.Places.{plain_place}
 use Rattle.homeo_table.specs.inner.Walks.{after, in_order}
 use Rattle.homeo_table.proofs.Held.{no_temps}
 use Rattle.homeo_table.proofs.WalkSteps.{pushed, pushed-all, less-one, less-all, less-branch, on_ok_both, sets-Assign, sets-Write, goes-set, goes-Skip, goes-Print, goes-Seq, asks, goes-If}

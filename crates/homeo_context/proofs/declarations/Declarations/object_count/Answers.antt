@@ -3,7 +3,7 @@ use Rattle.std.proofs.Common.{◌≡◌}
 use Rattle.std.proofs.lemmas.List.{length-map}
 use Rattle.homeo_meaning.specs.Context.{object_count}
 use Rattle.homeo_meaning.specs.Schema.{declared_object}
-use Rattle.homeo_context.specs.inner.Placed.{placed_relation, StandFrom}
+use Rattle.homeo_context.specs.Placed.{placed_relation, StandFrom}
 use Rattle.homeo_context.proofs.declarations.Declarations.object_count.Goals as goal
 
 pub count_objects-requires : goal.count_objects-requires

@@ -5,7 +5,7 @@ use Rattle.std.specs.Option.{unwrap_or}
 use Rattle.homeo_meaning.specs.Serial.{values_of}
 use Rattle.homeo_plan.specs.Linear.{base_forms}
 use Rattle.homeo_linear.specs.Standing.{forms_of}
-use Rattle.homeo_linear.proofs.Stands.{is_at}
+use Rattle.homeo_split.proofs.SamePlaces.{is_at}
 use Rattle.homeo_linear.proofs.standing.Standing.new.Goals as goal
 
 pub returns : goal.returns

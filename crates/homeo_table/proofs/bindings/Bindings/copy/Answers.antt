@@ -1,7 +1,8 @@
 -- The same expressions at the same places.
 use Rattle.homeo_table.specs.inner.Bindings.{bound}
 use Rattle.homeo_table.specs.inner.Shared.{plain_shared}
-use Rattle.homeo_table.proofs.Bound.{is_at, bound-same}
+use Rattle.homeo_split.proofs.SamePlaces.{is_at}
+use Rattle.homeo_table.proofs.Bound.{bound-same}
 use Rattle.homeo_table.proofs.bindings.Bindings.copy.Goals as goal
 
 pub returns : goal.returns

@@ -4,7 +4,7 @@ use Rattle.std.specs.Map.{lookup}
 use Rattle.std.specs.Option.{option_map}
 use Rattle.homeo_table.specs.inner.Bindings.{bound}
 use Rattle.homeo_table.specs.inner.Shared.{plain_shared}
-use Rattle.homeo_table.proofs.Bound.{is_at}
+use Rattle.homeo_split.proofs.SamePlaces.{is_at}
 use Rattle.homeo_table.proofs.bindings.Bindings.new.Goals as goal
 
 pub returns : goal.returns

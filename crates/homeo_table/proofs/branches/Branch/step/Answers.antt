@@ -6,7 +6,7 @@ use Rattle.homeo_syntax.proofs.LowViews.{low_Skip, low_Assign, low_Write, low_Pr
 use Rattle.homeo_plan.specs.Table.{last_row, set_before, test_before, otherwise, before}
 use Rattle.homeo_table.specs.inner.Branches.{left_before, left_of, rows_of, rows_of_all}
 use Rattle.homeo_table.specs.inner.Makings.{completed, command_before}
-use Rattle.homeo_table.specs.inner.Places.{plain_place}
+use Rattle.homeo_split.specs.Places.{plain_place}
 use Rattle.homeo_table.proofs.Following.{less-before, less-Seq, less-If, over-Skip, over-Assign, over-Write, over-Print, over-Seq, rows-through, rows-front, rows-both, pushed-left, branches-push}
 use Rattle.homeo_table.proofs.branches.Branch.step.Goals as goal
 

@@ -1,0 +1,8 @@
+//! What holds of accepted and of refused texts.
+
+ghost use Rattle.homeo_accept.specs.Laws.{NotBoth};
+
+/// No text is both accepted and refused for one purpose.
+pub fn not_both()
+    ensures { NotBoth }
+{}
