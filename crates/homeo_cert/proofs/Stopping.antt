@@ -1,5 +1,5 @@
 -- Where following stops: at the first of more faults, or at one behind none.
-use Rattle.std.proofs.Common.{◌≡◌, List, [], ◌∷◌, ◌++◌, Result, Ok, Err, IsErrAnd, refl, sym, ap, ◌∙◌, subst, append-nil}
+use Rattle.std.proofs.Common.{◌≡◌, List, [], ◌∷◌, ◌++◌, Result, Ok, Err, IsErrAnd, OnOk, refl, sym, ap, ◌∙◌, subst, append-nil}
 use Rattle.homeo_cert.specs.declared.fault.Fault.{Fault}
 use Rattle.homeo_cert.specs.declared.fault.Stop.{Stop}
 use Rattle.homeo_cert.specs.declared.fault.Stop.TheVariants as stop
@@ -32,3 +32,12 @@ memory_stops fs e q = subst (StopsAt fs) (sym q) tt
 pub stop_with : {A : Type 0} (fs : List Fault) (r : Result A Stop) (e : Stop) → IsErrAnd r (λ x. x ≡ e) → StopsAt fs e → Finds fs r
 stop_with fs (Ok a) e h s = absurd h
 stop_with fs (Err x) e h s = subst (StopsAt fs) (sym h) s
+
+-- what is true of the value in any case
+pub on_ok_always : {A E P : Type 0} (r : Result A E) → P → OnOk r P
+on_ok_always (Ok a) p = p
+on_ok_always (Err e) p = tt
+
+pub on_ok_as : {A E P Q : Type 0} (r : Result A E) → (P → Q) → OnOk r P → OnOk r Q
+on_ok_as (Ok a) f p = f p
+on_ok_as (Err e) f p = tt

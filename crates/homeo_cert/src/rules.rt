@@ -54,23 +54,11 @@ impl<'a> Rules<'a> {
         requires { IsSmall form_limit form.now.constant }
         ensures { Finds (no_clause (plain_rules self.now) (plain_linear form.now)) result }
     {
-        if form.terms.as_slice().is_empty() || self.has_clause(form) {
+        if form.terms.as_slice().is_empty() || has_clause(self.clauses, form) {
             Ok(())
         } else {
             Err(Stop::Fault(Fault::NoClause))
         }
-    }
-
-    fn has_clause(&self, form: &Linear) -> bool
-        requires { IsSmall form_limit form.now.constant }
-        ensures { result ≡ list_any (keeps (plain_linear form.now)) (map plain_clause self.now.clauses.now) }
-    {
-        for clause in self.clauses {
-            if keeps(form, clause) {
-                return true;
-            }
-        }
-        false
     }
 
     /// That left - right + more is kept at most 0.
@@ -153,6 +141,19 @@ fn is_same(a: &Delta, b: &Delta) -> bool
     ensures { result ≡ same_delta a.now b.now }
 {
     a.object == b.object && a.site == b.site
+}
+
+/// Whether one of the clauses keeps the form at most 0.
+fn has_clause(clauses: &[Clause], form: &Linear) -> bool
+    requires { IsSmall form_limit form.now.constant }
+    ensures { result ≡ list_any (keeps (plain_linear form.now)) (map plain_clause clauses.now) }
+{
+    for clause in clauses {
+        if keeps(form, clause) {
+            return true;
+        }
+    }
+    false
 }
 
 /// Whether a clause keeps the form at most 0.

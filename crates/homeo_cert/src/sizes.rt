@@ -59,7 +59,9 @@ pub(crate) fn difference(
     ensures small { IfOk result (λ a. IsSmall form_limit a.constant) }
 {
     let negated = right.times(alloc, -1)?;
-    let gap = small(negated.plus(alloc, left)?)?;
-    let form = small(gap.plus(alloc, &Form::value(alloc, more))?)?;
+    let apart = negated.plus(alloc, left)?;
+    let gap = small(apart)?;
+    let raised = gap.plus(alloc, &Form::value(alloc, more))?;
+    let form = small(raised)?;
     Ok(form.into_linear())
 }
