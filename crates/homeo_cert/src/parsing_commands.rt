@@ -130,7 +130,10 @@ fn temporary(nodes: &mut Nodes, levels: u32) -> Option<Temp>
     if levels == 0 {
         return None;
     }
-    match nodes.next()? {
+    let Some(node) = nodes.next() else {
+        return None;
+    };
+    match node {
         Node::Temp(t) => Some(t),
         _ => None,
     }

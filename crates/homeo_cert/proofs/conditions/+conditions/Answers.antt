@@ -10,9 +10,8 @@ use Rattle.homeo_cert.specs.Key.{words}
 use Rattle.homeo_cert.specs.Met.{at_zero, met_in_test}
 use Rattle.homeo_cert.specs.Followed.{too_large}
 use Rattle.homeo_cert.specs.inner.Compares.{Give, kept_in_test}
-use Rattle.homeo_cert.specs.inner.Stops.{StopsAt}
 use Rattle.homeo_cert.proofs.RuleSteps.{is_false, is_true}
-use Rattle.homeo_cert.proofs.Stopping.{stop_with}
+use Rattle.homeo_cert.proofs.Stopping.{stop_with, stops_as}
 use Rattle.homeo_cert.proofs.TestSteps.{true_gives, not_gives, tests_start, next_test, last_test, test_stops, test_goes_on, fails_small, fails_holds, fails_give, tests_small, tests_hold, tests_give}
 use Rattle.homeo_cert.proofs.conditions.+conditions.Goals as goal
 
@@ -22,7 +21,7 @@ test-returns-in_err-tested-in-Not-clause-faults t c =
     let f = forms_of c.args.standing.now in
     let is : plain_ltest c.args.t.now ≡ Not (plain_lcond c.in-Not.c) = ap plain_ltest c.in-Not.is ∙ low_Not c.in-Not.c in
     stop_with _ c.from_residual.result _ c.from_residual.ensures.1
-    (subst (λ x. StopsAt (too_large (met_in_test f x)) _) (sym is) c.in_err-tested-in-Not.ensures.faults)
+    (stops_as _ _ _ (ap (λ x. too_large (met_in_test f x)) (sym is)) c.in_err-tested-in-Not.ensures.faults)
 
 pub test-returns-in-True-clause-faults : goal.test-returns-in-True-clause-faults
 unfolding words

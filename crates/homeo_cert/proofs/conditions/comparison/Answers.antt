@@ -5,9 +5,8 @@ use Rattle.homeo_linear.specs.Standing.{forms_of}
 use Rattle.homeo_cert.specs.Key.{words}
 use Rattle.homeo_cert.specs.Met.{met}
 use Rattle.homeo_cert.specs.Followed.{too_large}
-use Rattle.homeo_cert.specs.inner.Stops.{StopsAt}
 use Rattle.homeo_cert.proofs.LargeNumbers.{large_behind, large_in_front, none_large}
-use Rattle.homeo_cert.proofs.Stopping.{stop_with}
+use Rattle.homeo_cert.proofs.Stopping.{stop_with, stops_as}
 use Rattle.homeo_cert.proofs.TestSteps.{comparison_passes, comparison_gives}
 use Rattle.homeo_cert.proofs.conditions.comparison.Goals as goal
 
@@ -23,7 +22,7 @@ unfolding words
 returns-in_err-right-clause-faults c =
     let f = forms_of c.args.standing.now in
     stop_with _ c.from_residual-in_err-right.result _ c.from_residual-in_err-right.ensures.1
-    (subst (λ l. StopsAt l _) (sym (large_behind (met f (plain_lexpr c.args.left.now)) (met f (plain_lexpr c.args.right.now)) c.in_ok-left.ensures.faults))
+    (stops_as _ _ _ (sym (large_behind (met f (plain_lexpr c.args.left.now)) (met f (plain_lexpr c.args.right.now)) c.in_ok-left.ensures.faults))
     c.in_err-right.ensures.faults)
 
 pub returns-clause-faults : goal.returns-clause-faults

@@ -11,10 +11,9 @@ use Rattle.homeo_cert.specs.Key.{words}
 use Rattle.homeo_cert.specs.Met.{numbers}
 use Rattle.homeo_cert.specs.Kept.{atom, gap, form_of}
 use Rattle.homeo_cert.specs.Followed.{too_large}
-use Rattle.homeo_cert.specs.inner.Stops.{StopsAt}
 use Rattle.homeo_cert.proofs.LargeNumbers.{large_behind, large_in_front, none_large}
 use Rattle.homeo_cert.proofs.MetSmall.{negated}
-use Rattle.homeo_cert.proofs.Stopping.{stop_with}
+use Rattle.homeo_cert.proofs.Stopping.{stop_with, stops_as}
 use Rattle.homeo_cert.proofs.sizes.difference.Goals as goal
 
 pub times-requires-clause-factor : goal.times-requires-clause-factor
@@ -30,8 +29,8 @@ unfolding words
 returns-in_err-gap-clause-faults c =
     let a = atom c.args.left.now c.args.right.now c.args.more in
     let is : c.in_ok-apart.apart ≡ gap a = c.in_ok-apart.ensures ∙ ap (add_forms c.args.left.now) c.in_ok-negated.ensures in
-    stop_with _ c.from_residual.result _ c.from_residual.ensures.1
-    (large_in_front (numbers (gap a)) (numbers (form_of a)) _ (subst (λ (f : Linear). StopsAt (too_large (numbers f)) _) is c.in_err-gap.ensures.faults))
+    stop_with _ c.from_residual-in_err-gap.result _ c.from_residual-in_err-gap.ensures.1
+    (large_in_front (numbers (gap a)) (numbers (form_of a)) _ (stops_as _ _ _ (ap (λ (f : Linear). too_large (numbers f)) is) c.in_err-gap.ensures.faults))
 
 pub plus-requires-2-clause-other_small : goal.plus-requires-2-clause-other_small
 unfolding plan_words
@@ -48,8 +47,8 @@ returns-in_err-form-clause-faults c =
     let whole : c.in_ok-raised.raised ≡ form_of a = c.in_ok-raised.ensures ∙ ap₂ add_forms value (c.in_ok-gap.ensures.form ∙ is) in
     let none : too_large (numbers (gap a)) ≡ [] = ap (λ (f : Linear). too_large (numbers f)) (sym is) ∙ c.in_ok-gap.ensures.faults in
     stop_with _ c.from_residual-in_err-form.result _ c.from_residual-in_err-form.ensures.1
-    (subst (λ l. StopsAt l _) (sym (large_behind (numbers (gap a)) (numbers (form_of a)) none))
-    (subst (λ (f : Linear). StopsAt (too_large (numbers f)) _) whole c.in_err-form.ensures.faults))
+    (stops_as _ _ _ (sym (large_behind (numbers (gap a)) (numbers (form_of a)) none))
+    (stops_as _ _ _ (ap (λ (f : Linear). too_large (numbers f)) whole) c.in_err-form.ensures.faults))
 
 pub returns-clause-faults : goal.returns-clause-faults
 unfolding words plan_words

@@ -6,9 +6,9 @@ use Rattle.homeo_syntax.proofs.LowViews.{low_Skip, low_Seq, low_If}
 use Rattle.homeo_cert.specs.Key.{words}
 use Rattle.homeo_cert.specs.Followed.{faults}
 use Rattle.homeo_cert.specs.inner.Follows.{Follows, rules_in, forms_in}
-use Rattle.homeo_cert.specs.inner.Stops.{StopsAt, Finds}
+use Rattle.homeo_cert.specs.inner.Stops.{Finds}
 use Rattle.homeo_cert.proofs.FollowSteps.{commands_start, command_stops, command_goes_on, commands_faultless, commands_followed, next_command, last_command, skip_follows, seq_follows, if_stops, yes_finds, no_finds, yes_follows, no_follows}
-use Rattle.homeo_cert.proofs.Stopping.{stop_with, on_ok_as}
+use Rattle.homeo_cert.proofs.Stopping.{stop_with, stops_as, on_ok_as}
 use Rattle.homeo_cert.proofs.following.Following.+following.Goals as goal
 
 pub follow-returns-in-Skip-clause-faults : goal.follow-returns-in-Skip-clause-faults
@@ -43,7 +43,7 @@ follow-returns-in_err-branch-in-If-clause-faults t c =
     let is : plain_lcommand c.args.command.now ≡ If (plain_lcond c.in-If.test) (plain_lcommand c.in-If.yes.value) (plain_lcommand c.in-If.no.value) =
         ap plain_lcommand c.in-If.is ∙ low_If c.in-If.test c.in-If.yes c.in-If.no in
     stop_with _ c.from_residual.result _ c.from_residual.ensures.1
-    (subst (λ x. StopsAt (faults (rules_in s) x (forms_in s)) _) (sym is)
+    (stops_as _ _ _ (ap (λ x. faults (rules_in s) x (forms_in s)) (sym is))
     (if_stops (plain_lcond c.in-If.test) (plain_lcommand c.in-If.yes.value) (plain_lcommand c.in-If.no.value) s _ c.in_err-branch-in-If.ensures.faults))
 
 pub follow_all-loop-command-init : goal.follow_all-loop-command-init

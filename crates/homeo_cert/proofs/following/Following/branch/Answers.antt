@@ -7,9 +7,8 @@ use Rattle.homeo_cert.specs.Kept.{kept}
 use Rattle.homeo_cert.specs.Followed.{too_large, atom_faults}
 use Rattle.homeo_cert.specs.inner.Compares.{atoms_of, AreSmall}
 use Rattle.homeo_cert.specs.inner.Follows.{rules_in, forms_in}
-use Rattle.homeo_cert.specs.inner.Stops.{StopsAt}
 use Rattle.homeo_cert.proofs.FlatSteps.{flat_stops, flat_goes_on, flat_ends, flat_twice, each_here}
-use Rattle.homeo_cert.proofs.Stopping.{stop_with, stop_sooner, stop_later, none_in_both}
+use Rattle.homeo_cert.proofs.Stopping.{stop_with, stops_as, stop_sooner, stop_later, none_in_both}
 use Rattle.homeo_cert.proofs.following.Following.branch.Goals as goal
 
 pub returns-in_err-tested-clause-faults : goal.returns-in_err-tested-clause-faults
@@ -34,7 +33,7 @@ returns-in_err-keep_compared-clause-faults c =
         flat_twice (atom_faults (rules_in s)) atoms_of cs ∙ ap (flat_map (atom_faults (rules_in s))) c.in_ok-tested.ensures.kept.atoms in
     stop_with _ c.from_residual-in_err-keep_compared.result _ c.from_residual-in_err-keep_compared.ensures.1
     (stop_later (too_large (met_in_cond (forms_in s) b)) (flat_map (atom_faults (rules_in s)) (kept (forms_in s) b)) _ c.in_ok-tested.ensures.faults
-    (subst (λ fs. StopsAt fs _) all
+    (stops_as _ _ _ all
     (flat_stops f cs c.loop-compared.compared-index c.compared-item.result c.loop-compared-test.true c.compared-item.is c.loop-compared.invariant _ c.in_err-keep_compared.ensures)))
 
 pub loop-compared-preserved : goal.loop-compared-preserved

@@ -6,8 +6,8 @@ use Rattle.homeo_cert.specs.Met.{numbers}
 use Rattle.homeo_cert.specs.Kept.{atom, gap, form_of}
 use Rattle.homeo_cert.specs.Followed.{too_large, not_frozen, no_clause}
 use Rattle.homeo_cert.specs.inner.RulesView.{plain_rules}
-use Rattle.homeo_cert.specs.inner.Stops.{StopsAt, Finds}
-use Rattle.homeo_cert.proofs.Stopping.{stop_with, stop_sooner, stop_later, finds_later}
+use Rattle.homeo_cert.specs.inner.Stops.{Finds}
+use Rattle.homeo_cert.proofs.Stopping.{stop_with, stops_as, stop_sooner, stop_later, finds_later}
 use Rattle.homeo_cert.proofs.rules.Rules.keep.Goals as goal
 
 pub returns-in_err-form : goal.returns-in_err-form
@@ -26,7 +26,7 @@ returns-in_err-freeze c =
     let mixed = c.as_slice.ensures ∙ ap (λ (f : Linear). f.mixed) c.in_ok-form.ensures.form in
     stop_with _ c.from_residual-in_err-freeze.result _ c.from_residual-in_err-freeze.ensures.1
     (stop_later (too_large (numbers (gap a) ++ numbers (form_of a))) (not_frozen r (form_of a).mixed ++ no_clause r (form_of a)) _ c.in_ok-form.ensures.faults
-    (stop_sooner (not_frozen r (form_of a).mixed) (no_clause r (form_of a)) _ (subst (λ ds. StopsAt (not_frozen r ds) _) mixed c.in_err-freeze.ensures)))
+    (stop_sooner (not_frozen r (form_of a).mixed) (no_clause r (form_of a)) _ (stops_as _ _ _ (ap (not_frozen r) mixed) c.in_err-freeze.ensures)))
 
 pub returns : goal.returns
 unfolding words
