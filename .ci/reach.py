@@ -3,6 +3,7 @@
 
 .ci/reach.py              prints the figures, and the files of specs/ that no public contract reaches
 .ci/reach.py --misplaced  prints each definition of specs/ that no public contract reaches, and each of specs/inner/ that one does
+.ci/reach.py --inner      prints each definition of specs/inner/ that a caller has to believe, and each line that takes one from another crate
 .ci/reach.py DEFINITION   prints by which names a definition, as homeo_meaning.specs.Weights.number_weight, is reached
 
 A line counts if it is no comment, no import, no `mod` line and not blank. Lines are counted by definition: a `data` or `record`
@@ -15,6 +16,9 @@ Reached are the definitions that are named in
   `specs.declared`;
 - the body, equations or type of a definition that is reached.
 What stands in specs/formers belongs to the type of its name. `.inner` in a path is nothing special: a definition there can be reached.
+
+What a caller has to believe is what is reached without the invariants of types: an invariant says what a crate keeps of its own
+fields, so it may name a definition of specs/inner/, and nothing else that is public may.
 
 It is read by names, and not by the prover, so it is right to a few lines in a hundred: a variable that is spelled as an imported
 name counts as that name, of a name behind a dot only the front counts, unless that is a module, and an operator of this project's
@@ -181,8 +185,8 @@ def exported(root, crate):
 class Promise:
     """A text with clauses or ghost items, what it is of, and the imports under which it is read."""
 
-    def __init__(self, crate, owner, name, text, imports):
-        self.crate, self.owner, self.name, self.text, self.imports = crate, owner, name, text, imports
+    def __init__(self, crate, owner, name, text, imports, is_invariant=False):
+        self.crate, self.owner, self.name, self.text, self.imports, self.is_invariant = crate, owner, name, text, imports, is_invariant
 
 
 def promises_of(root, crate):
@@ -214,8 +218,10 @@ def promises_of(root, crate):
             elif of:
                 inside = items_of(body)
                 local = Imports("\n".join(imports + [it[0].strip() for it in inside if re.match(r"\s*ghost\s+use\b", it[0])]))
-                ghost = " ".join(it[0] for it in inside if re.match(r"\s*(?:pub\s+)?ghost\b(?!\s+use)", it[0]))
-                ghosts[of["type"]].append(Promise(crate, of["type"], f"impl {of['trait'] or ''}", ghost, local))
+                for is_invariant in (False, True):
+                    word = "invariant" if is_invariant else "(?!use|invariant)"
+                    ghost = " ".join(it[0] for it in inside if re.match(r"\s*(?:pub\s+)?ghost\s+" + word, it[0]))
+                    ghosts[of["type"]].append(Promise(crate, of["type"], f"impl {of['trait'] or ''}", ghost, local, is_invariant))
                 if of["type"] in names or of["trait"] in names or is_open:
                     for inner, _, clauses in inside:
                         method = re.search(r"\bfn\s+(\w+)", inner)
@@ -264,7 +270,7 @@ class Reach:
         """The definitions that belong to a type by their place."""
         return [it for path, module in self.modules.items() if ".specs.formers." in path for it in module.own]
 
-    def reached(self, promises, with_formers=False):
+    def reached(self, promises, with_formers=False, with_invariants=True):
         """What these promises reach: each definition with the one that named it."""
         found, types, left = {}, set(), []
 
@@ -274,9 +280,9 @@ class Reach:
                 left.append((thing.text, self.modules[thing.module].imports, self.modules[thing.module], thing))
             elif isinstance(thing, tuple) and thing not in types:
                 types.add(thing)
-                left.extend((it.text, it.imports, None, by) for it in self.ghosts.get(thing, []))
+                left.extend((it.text, it.imports, None, by) for it in self.ghosts.get(thing, []) if with_invariants or not it.is_invariant)
 
-        for it in promises:
+        for it in promises if with_invariants else [it for it in promises if not it.is_invariant]:
             for thing in self.named(it.text, it.imports):
                 add(thing, it)
         for it in self.formers() if with_formers else []:
@@ -292,6 +298,10 @@ class Reach:
 
     def of_all(self):
         return self.reached(self.public, with_formers=True)
+
+    def of_callers(self):
+        """What the callers of public contracts have to believe."""
+        return self.reached(self.public, with_invariants=False)
 
 
 def lines_of(definitions):
@@ -341,8 +351,27 @@ def misplaced(reach):
     return [f"{'unreached' if it not in found else 'reached'}: {it.module}.{it.name}" for it in every if (it in found) == (".specs.inner." in it.module)]
 
 
+def inner_reached(reach):
+    """Each definition of specs/inner/ that a caller has to believe."""
+    return sorted(f"{it.module}.{it.name}" for it in reach.of_callers() if ".specs.inner." in it.module)
+
+
+def inner_taken(reach):
+    """Each line of a crate that takes a definition from another crate's specs/inner/."""
+    taken = []
+    for crate in reach.crates:
+        for file in sorted(it for folder in ("src", "specs", "proofs") for it in (reach.root / "crates" / crate / folder).rglob("*.*t*")):
+            for found in re.finditer(r"\bRattle\.(\w+)\.specs\.inner\.\w+", file.read_text()):
+                if found[1] != crate:
+                    taken.append(f"{file.relative_to(reach.root)}: {found[0]}")
+    return taken
+
+
 def main():
     reach = Reach(ROOT)
+    if sys.argv[1:] == ["--inner"]:
+        print("\n".join([*inner_reached(reach), *inner_taken(reach)]))
+        return
     if sys.argv[1:] == ["--misplaced"]:
         print("\n".join(misplaced(reach)))
         return

@@ -21,7 +21,7 @@ import reach
 DOCUMENT = ROOT / "docs" / "THEOREM.md"
 TOP = ROOT / "crates" / "homeo" / "src" / "top.rt"
 HEART = [
-    ("homeo/specs/Outcome.antt", "what a command makes of a text, and what it is to be done"),
+    ("homeo/specs/Outcome.antt", "what each command makes and refuses, and what it is to be done"),
     ("homeo_meaning/specs/Verdict.antt", "which texts are accepted"),
     ("homeo_history/specs/History.antt", "rounds, entries and closing calls, as data"),
     ("homeo_history/specs/Legal.antt", "which histories are legal, in five parts"),

@@ -1,4 +1,5 @@
 pub mod Bounded
+pub mod Called
 pub mod Decided
 pub mod Gathering
 pub mod OneOutput

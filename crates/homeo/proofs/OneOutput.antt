@@ -1,20 +1,24 @@
--- A text has one output under a command.
-use Rattle.std.proofs.Common.{◌≡◌, ◌≢◌, ◌∙◌, refl, ℕ, List, [], sym, ap, subst}
+-- Words have one output on the same bytes.
+use Rattle.std.proofs.Common.{◌≡◌, ◌∙◌, ◌++◌, refl, ℕ, List, [], Some, sym, ap, subst, append-nil}
 use Rattle.homeo_syntax.specs.Source as s
-use Rattle.homeo_reader.proofs.Unread.{one_reading}
+use Rattle.homeo_accept.proofs.Decided.{one_accepted}
 use Rattle.homeo_history.specs.Key.{words as histories}
 use Rattle.homeo_history.proofs.OneHistories.{one_history}
+use Rattle.homeo_meaning.specs.declared.call.Purpose.{Purpose}
+use Rattle.homeo_meaning.specs.declared.call.Purpose.TheVariants as purpose
 use Rattle.homeo_meaning.specs.Initial.{initial}
+use Rattle.homeo_meaning.specs.Verdict.{Accepts}
+use Rattle.homeo_order.specs.Order.{scheduled_calls}
+use Rattle.homeo_print.specs.Tables.{tables_text}
+use Rattle.homeo_print.specs.Treaties.{treaty_text}
 use Rattle.homeo_report.specs.Report.{report}
-use Rattle.homeo_load.specs.Output.{load_summary}
+use Rattle.homeo_words.specs.Command.{Say}
 use Rattle.homeo_words.specs.declared.command.Command.{Command}
 use Rattle.homeo_words.specs.declared.command.Command.TheVariants as c
 use Rattle.homeo_words.proofs.OneCommand.{one_command}
-use Rattle.homeo.specs.Laws.{OneLoadOutput, OneOutput}
-use Rattle.homeo_order.specs.Order.{scheduled_calls}
-use Rattle.homeo.specs.Outcome.{IsOutput, IsScheduledReport}
-use Rattle.homeo_meaning.specs.declared.call.Purpose.{Purpose}
-use Rattle.homeo_meaning.specs.declared.call.Purpose.TheVariants.{Steps, Run, Tables, Treaty}
+use Rattle.homeo.specs.Laws.{OneOutput}
+use Rattle.homeo.specs.Outcome.{IsMade, IsScheduledReport, OfText}
+use Rattle.homeo.proofs.Decided.{told_is_given}
 
 -- the schedule determines the history, and so the report
 one_report : (w : s.Workload) (output output' : List ℕ) → IsScheduledReport w output → IsScheduledReport w output' → output ≡ output'
@@ -24,26 +28,24 @@ one_report w output output' r r' =
     one_history w (initial w) _ r.made.history r'.made.history (scheduled_calls w) r.made.full r'.made.full r.follows r'.follows in
     r.made.reported ∙ ap (report w) same ∙ sym r'.made.reported
 
-one_for : (p : Purpose) (w : s.Workload) (output output' : List ℕ) → p ≢ Run → IsOutput p w output → IsOutput p w output' → output ≡ output'
-one_for Steps w output output' other r r' = one_report w output output' r r'
-one_for Run w output output' other r r' = absurd (other refl)
-one_for Tables w output output' other is is' = is ∙ sym is'
-one_for Treaty w output output' other is is' = is ∙ sym is'
+-- a workload has one output where each of its outputs is the same, and so has the text that reads as it
+one_of_text : (p : Purpose) (bytes output output' : List ℕ) (Output : s.Workload → List ℕ → Type 0)
+    → ((w : s.Workload) → Output w output → Output w output' → output ≡ output')
+    → OfText p (Some bytes) (Some []) (λ w. Output w output) → OfText p (Some bytes) (Some []) (λ w. Output w output') → output ≡ output'
+one_of_text p bytes output output' Output one o o' =
+    let text : o'.text ≡ o.text = sym (told_is_given (Some bytes) (Some []) bytes o'.text refl o'.read) ∙ told_is_given (Some bytes) (Some []) bytes o.text refl o.read in
+    let same : o'.workload ≡ o.workload = one_accepted o.text p p o'.workload o.workload (subst (λ x. Accepts x p o'.workload) text o'.accepted) o.accepted in
+    one o.workload o.holds (subst (λ (w : s.Workload). Output w output') same o'.holds)
+
+one_made : (command : Command) (bytes output output' : List ℕ) → (command ≡ c.Run → ⊥) → IsMade command (Some bytes) (Some []) output → IsMade command (Some bytes) (Some []) output' → output ≡ output'
+one_made c.Steps bytes output output' other o o' = one_of_text purpose.Steps bytes output output' (λ w x. IsScheduledReport w x) (λ w r r'. one_report w output output' r r') o o'
+one_made c.Run bytes output output' other o o' = absurd (other refl)
+one_made c.Tables bytes output output' other o o' = one_of_text purpose.Tables bytes output output' (λ w x. x ≡ tables_text w) (λ w is is'. is ∙ sym is') o o'
+one_made c.Treaty bytes output output' other o o' = one_of_text purpose.Treaty bytes output output' (λ w x. x ≡ treaty_text w) (λ w is is'. is ∙ sym is') o o'
+one_made (c.Load number calls) bytes output output' other o o' = o.determined ∙ sym o'.determined
 
 pub one_output : OneOutput
-one_output p text output output' other o o' =
-    let same : o'.workload ≡ o.workload = one_reading text o'.workload o.workload o'.accepted.reads o.accepted.reads in
-    one_for p o.workload output output' other o.made (subst (λ (w : s.Workload). IsOutput p w output') same o'.made)
-
--- the words determine the two numbers of a load
-abbrev summary_of : Command → List ℕ
-summary_of c.Steps = []
-summary_of c.Run = []
-summary_of c.Tables = []
-summary_of c.Treaty = []
-summary_of (c.Load number calls) = load_summary number calls
-
-pub one_load_output : OneLoadOutput
-one_load_output words output output' o o' =
-    let same = one_command words (c.Load o.number o.calls) (c.Load o'.number o'.calls) o.asked o'.asked in
-    o.made.determined ∙ ap summary_of same ∙ sym o'.made.determined
+one_output words bytes output output' other (command, said, made) (command', said', made') =
+    let same : command' ≡ command = one_command words command' command said' said in
+    one_made command bytes output output' (λ is. other (subst (Say words) is said)) made
+    (subst (λ (d : Command). IsMade d (Some bytes) (Some []) output') same made')

@@ -37,7 +37,7 @@ use Rattle.homeo_plan.proofs.PlannedCalls.{every_both, every_distinct}
 use Rattle.homeo_plan.proofs.RowCounts.{rows_shift}
 use Rattle.homeo_print.specs.Tables.{call_table, table_text}
 use Rattle.homeo_print.proofs.OneMore.{views_more, numbered_more}
-use Rattle.homeo.specs.Key.{words}
+use Rattle.homeo.specs.inner.Key.{words}
 use Rattle.homeo.specs.inner.Tabulated.{HasFewRows, calls_text}
 use Rattle.homeo_order.proofs.Accepting.{few_from}
 

@@ -1,27 +1,23 @@
--- What commands read their texts for, and the lines that go to the complaints.
-use Rattle.std.specs.Prelude.{◌≡◌, ℕ, List, [], ◌∷◌, codes}
-use Rattle.homeo_meaning.specs.declared.call.Purpose.{Purpose}
-use Rattle.homeo_meaning.specs.declared.call.Purpose.TheVariants as purpose
-use Rattle.homeo_words.specs.Command.{Say, SayLoad}
+-- How much each command reads, and the lines that go to the complaints.
+use Rattle.std.specs.Prelude.{◌≡◌, ◌+◌, ℕ, List, [], codes}
+use Rattle.homeo_meaning.specs.Verdict.{text_limit}
+use Rattle.homeo_words.specs.Command.{Say}
 use Rattle.homeo_words.specs.declared.command.Command.{Command}
-use Rattle.homeo_words.specs.declared.command.Command.TheVariants.{Steps, Run, Tables, Treaty}
+use Rattle.homeo_words.specs.declared.command.Command.TheVariants.{Steps, Run, Tables, Treaty, Load}
 use Rattle.homeo.specs.declared.status.Status.{Status}
 use Rattle.homeo.specs.declared.status.Status.TheVariants.{Done, Usage, Refused, Memory, ReadFault, WriteFault}
 
--- the command that reads a text for a purpose
-abbrev pub reader_of : Purpose → Command
-reader_of purpose.Steps = Steps
-reader_of purpose.Run = Run
-reader_of purpose.Tables = Tables
-reader_of purpose.Treaty = Treaty
+-- the most bytes that a command takes of its source: of a text the limit, and one that tells that it is longer
+abbrev pub most_read : Command → ℕ
+most_read Steps = text_limit + 1
+most_read Run = text_limit + 1
+most_read Tables = text_limit + 1
+most_read Treaty = text_limit + 1
+most_read (Load number calls) = 0
 
--- the words are the command that reads a text for this purpose
-abbrev pub ReadFor : List (List ℕ) → Purpose → Type 0
-ReadFor words p = Say words (reader_of p)
-
--- the words are a load
-abbrev pub AsksLoad : List (List ℕ) → Type 0
-AsksLoad words = (number : ℕ) × (calls : ℕ) × SayLoad words number calls
+-- the words are no command that reads anything
+abbrev pub ReadNothing : List (List ℕ) → Type 0
+ReadNothing words = (c : Command) → Say words c → most_read c ≡ 0
 
 -- the line of a status; that of a refusal has more to say
 abbrev pub line_of : Status → List ℕ

@@ -1,28 +1,31 @@
--- What is made of a text or a load, and what a run did to its source, output and complaints, where they tell their bytes.
-use Rattle.std.specs.Prelude.{◌≡◌, ◌⊎◌, ℕ, List, Some}
+-- What each command makes of what its source gives, what it refuses, and what a run did to its source, output and complaints,
+-- where they tell their bytes.
+use Rattle.std.specs.Prelude.{◌≡◌, ◌≢◌, ◌⊎◌, ℕ, ⊤, List, Some}
 use Rattle.std.specs.declared.option.Option.{Option}
 use Rattle.homeo_io.specs.Faults.{Rose}
 use Rattle.homeo_io.specs.Moved.{GaveAll, TookExactly, TookPrefix}
 use Rattle.homeo_syntax.specs.declared.workload.Refusal.{Refusal}
 use Rattle.homeo_syntax.specs.Source as s
 use Rattle.homeo_meaning.specs.declared.call.Purpose.{Purpose}
-use Rattle.homeo_meaning.specs.declared.call.Purpose.TheVariants.{Steps, Run, Tables, Treaty}
+use Rattle.homeo_meaning.specs.declared.call.Purpose.TheVariants as purpose
 use Rattle.homeo_meaning.specs.Verdict.{Accepts, IsRefused}
+use Rattle.homeo_accept.specs.RefusalLine.{refusal_line}
 use Rattle.homeo_history.specs.History.{History}
 use Rattle.homeo_history.specs.Legal.{IsFull}
 use Rattle.homeo_history.specs.Follows.{Follows}
+use Rattle.homeo_order.specs.Order.{scheduled_calls}
 use Rattle.homeo_print.specs.Tables.{tables_text}
 use Rattle.homeo_print.specs.Treaties.{treaty_text}
 use Rattle.homeo_report.specs.Report.{report}
 use Rattle.homeo_report.specs.Summary.{summary}
 use Rattle.homeo_load.specs.Load.{load_workload}
 use Rattle.homeo_load.specs.Output.{load_summary}
-use Rattle.homeo_words.specs.Command.{SayLoad}
-use Rattle.homeo_accept.specs.RefusalLine.{refusal_line}
-use Rattle.homeo_order.specs.Order.{scheduled_calls}
-use Rattle.homeo.specs.Command.{ReadFor}
+use Rattle.homeo_words.specs.Command.{Say}
+use Rattle.homeo_words.specs.declared.command.Command.{Command}
+use Rattle.homeo_words.specs.declared.command.Command.TheVariants.{Steps, Run, Tables, Treaty, Load}
+use Rattle.homeo.specs.Command.{most_read}
 
--- ---- what is made of a text
+-- ---- what is made of a workload
 -- the report of a history that is legal for the workload and has all calls of each client
 pub record IsReport (w : s.Workload) (output : List ℕ) : Type 0 where
   pub history : History
@@ -34,20 +37,6 @@ pub record IsScheduledReport (w : s.Workload) (output : List ℕ) : Type 0 where
   pub made : IsReport w output
   pub follows : Follows w made.history (scheduled_calls w)
 
--- the output on a workload that is read for this purpose
-abbrev pub IsOutput : Purpose → s.Workload → List ℕ → Type 0
-IsOutput Steps w output = IsScheduledReport w output
-IsOutput Run w output = IsReport w output
-IsOutput Tables w output = output ≡ tables_text w
-IsOutput Treaty w output = output ≡ treaty_text w
-
--- the text is accepted for this purpose as a workload, and this is the output on it
-pub record IsOutputOf (purpose : Purpose) (text output : List ℕ) : Type 0 where
-  pub workload : s.Workload
-  pub accepted : Accepts text purpose workload
-  pub made : IsOutput purpose workload output
-
--- ---- what is made of a load
 -- The summary of a full history of the load that starts at this number and has so many calls. All of these have one summary,
 -- which the two numbers determine.
 pub record IsLoadOutput (number calls : ℕ) (output : List ℕ) : Type 0 where
@@ -56,57 +45,76 @@ pub record IsLoadOutput (number calls : ℕ) (output : List ℕ) : Type 0 where
   pub summarized : output ≡ summary (load_workload number calls) history
   pub determined : output ≡ load_summary number calls
 
--- ---- what the source told
--- the words are a command that reads a text, and the source tells one that is refused under it
-abbrev pub TellsRefused : List (List ℕ) → Option (List ℕ) → Type 0
-TellsRefused words left =
-    (p : Purpose) × (text : List ℕ) × (r : Refusal) × ReadFor words p × (left ≡ Some text) × IsRefused text p r
-
--- the words are a command that reads a text, and the source tells one that is accepted under it
-abbrev pub TellsAccepted : List (List ℕ) → Option (List ℕ) → Type 0
-TellsAccepted words left =
-    (p : Purpose) × (text : List ℕ) × (w : s.Workload) × ReadFor words p × (left ≡ Some text) × Accepts text p w
-
--- the text that the source told is refused so where it is read for this purpose
-abbrev pub IsRefusedFor : Purpose → Option (List ℕ) → Refusal → Type 0
-IsRefusedFor p old r = (text : List ℕ) → old ≡ Some text → IsRefused text p r
-
--- the words are a command that reads a text, and the text that the source told is refused so under it
-abbrev pub IsRefusedAt : List (List ℕ) → Option (List ℕ) → Refusal → Type 0
-IsRefusedAt words old r = (p : Purpose) × ReadFor words p × IsRefusedFor p old r
-
--- ---- what was done
--- the source was read to its end for this purpose, and this is the output on the text that it gave
-pub record IsMadeOfText (purpose : Purpose) (left left' : Option (List ℕ)) (output : List ℕ) : Type 0 where
+-- ---- what is made under a command, a line for each
+-- the source was read to its end, it gave a text that is accepted for this purpose as a workload, and of that this holds
+pub record OfText (p : Purpose) (left left' : Option (List ℕ)) (Holds : s.Workload → Type 0) : Type 0 where
   pub text : List ℕ
   pub read : GaveAll left left' text
-  pub made : IsOutputOf purpose text output
+  pub workload : s.Workload
+  pub accepted : Accepts text p workload
+  pub holds : Holds workload
 
--- the words are a load, and this is its output
-pub record IsMadeOfLoad (words : List (List ℕ)) (output : List ℕ) : Type 0 where
-  pub number : ℕ
-  pub calls : ℕ
-  pub asked : SayLoad words number calls
-  pub made : IsLoadOutput number calls output
+-- the output of a command on what its source gave
+abbrev pub IsMade : Command → (left left' : Option (List ℕ)) → List ℕ → Type 0
+IsMade Steps left left' output = OfText purpose.Steps left left' (λ w. IsScheduledReport w output)
+IsMade Run left left' output = OfText purpose.Run left left' (λ w. IsReport w output)
+IsMade Tables left left' output = OfText purpose.Tables left left' (λ w. output ≡ tables_text w)
+IsMade Treaty left left' output = OfText purpose.Treaty left left' (λ w. output ≡ treaty_text w)
+IsMade (Load number calls) left left' output = IsLoadOutput number calls output
 
--- what the command that the words are makes of the text that the source gave, or of no text
-abbrev pub IsMade : List (List ℕ) → (left left' : Option (List ℕ)) → List ℕ → Type 0
-IsMade words left left' output =
-    ((p : Purpose) × ReadFor words p × IsMadeOfText p left left' output) ⊎ IsMadeOfLoad words output
+-- ---- what is refused under a command, and what can be done, a line for each
+-- these bytes are refused so under a command
+abbrev pub IsRefusal : Command → List ℕ → Refusal → Type 0
+IsRefusal Steps text r = IsRefused text purpose.Steps r
+IsRefusal Run text r = IsRefused text purpose.Run r
+IsRefusal Tables text r = IsRefused text purpose.Tables r
+IsRefusal Treaty text r = IsRefused text purpose.Treaty r
+IsRefusal (Load number calls) bytes r = ⊥
 
+-- the source tells a text that is accepted for this purpose
+abbrev pub TellsText : Purpose → Option (List ℕ) → Type 0
+TellsText p left = (text : List ℕ) × (w : s.Workload) × (left ≡ Some text) × Accepts text p w
+
+-- what the source tells can be done under a command
+abbrev pub CanBeDone : Command → Option (List ℕ) → Type 0
+CanBeDone Steps left = TellsText purpose.Steps left
+CanBeDone Run left = TellsText purpose.Run left
+CanBeDone Tables left = TellsText purpose.Tables left
+CanBeDone Treaty left = TellsText purpose.Treaty left
+CanBeDone (Load number calls) left = ⊤
+
+-- a command that reads refuses so what the source told
+abbrev pub IsRefusedUnder : Command → Option (List ℕ) → Refusal → Type 0
+IsRefusedUnder c left r = (most_read c ≢ 0) × ((bytes : List ℕ) → left ≡ Some bytes → IsRefusal c bytes r)
+
+-- ---- the same of the command that the words are
+-- the words are a command under which what the source tells is refused
+abbrev pub TellsRefused : List (List ℕ) → Option (List ℕ) → Type 0
+TellsRefused words left =
+    (c : Command) × (bytes : List ℕ) × (r : Refusal) × Say words c × (left ≡ Some bytes) × IsRefusal c bytes r
+
+-- the words are a command under which what the source tells can be done
+abbrev pub TellsDoable : List (List ℕ) → Option (List ℕ) → Type 0
+TellsDoable words left = (c : Command) × Say words c × CanBeDone c left
+
+-- the words are a command, and this is its output on what the source gave
+abbrev pub IsOutput : List (List ℕ) → (left left' : Option (List ℕ)) → List ℕ → Type 0
+IsOutput words left left' output = (c : Command) × Say words c × IsMade c left left' output
+
+-- ---- what was done
 -- the output was made, and the sink took exactly it
 abbrev pub IsDone : List (List ℕ) → (left left' taken taken' : Option (List ℕ)) → Type 0
-IsDone words left left' taken taken' = (output : List ℕ) × IsMade words left left' output × TookExactly taken taken' output
+IsDone words left left' taken taken' = (output : List ℕ) × IsOutput words left left' output × TookExactly taken taken' output
 
 -- the output was made, and the sink took a prefix of it
 abbrev pub IsCutOff : List (List ℕ) → (left left' taken taken' : Option (List ℕ)) → Type 0
-IsCutOff words left left' taken taken' = (output : List ℕ) × IsMade words left left' output × TookPrefix taken taken' output
+IsCutOff words left left' taken taken' = (output : List ℕ) × IsOutput words left left' output × TookPrefix taken taken' output
 
 -- the sink took exactly the line, or its count of faults rose and it took a prefix
 abbrev pub TookLine : (old new : Option (List ℕ)) → (before now : ℕ) → List ℕ → Type 0
 TookLine old new before now line = TookExactly old new line ⊎ (TookPrefix old new line × Rose before now)
 
--- the text was refused, and code and offset were told
+-- what the source told was refused under the command that the words are, and code and offset were told
 abbrev pub IsToldRefusal : List (List ℕ) → (left taken taken' : Option (List ℕ)) → (before now : ℕ) → Type 0
 IsToldRefusal words left taken taken' before now =
-    (r : Refusal) × IsRefusedAt words left r × TookLine taken taken' before now (refusal_line r)
+    (c : Command) × (r : Refusal) × Say words c × IsRefusedUnder c left r × TookLine taken taken' before now (refusal_line r)

@@ -1,14 +1,10 @@
 //! What holds of outputs.
 
-ghost use Rattle.homeo.specs.Laws.{OneLoadOutput, OneOutput};
+ghost use Rattle.homeo.specs.Laws.{OneOutput};
 
-/// Two outputs of a command on one text are equal, but for those of `run`, whose threads may make the calls in any order. Under
-/// `steps` the schedule tells their order, and two legal histories that follow one list of calls are equal.
+/// Two outputs of a command on the same bytes are equal, but for those of `run`, whose threads may make the calls in any order.
+/// Under `steps` the schedule tells their order, and two legal histories that follow one list of calls are equal; a load's output
+/// is a function of its words, whichever calls met in which round.
 pub fn outputs_are_one()
     ensures { OneOutput }
-{}
-
-/// Two outputs of a load under the same words are equal: they are a function of the words, whichever calls met in which round.
-pub fn load_outputs_are_one()
-    ensures { OneLoadOutput }
 {}

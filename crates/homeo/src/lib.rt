@@ -10,7 +10,6 @@ mod stop;
 mod tables;
 mod top;
 mod treaty;
-mod work;
 
 pub use status::Status;
 pub use top::run;

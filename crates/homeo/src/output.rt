@@ -1,67 +1,113 @@
-//! What is made of a text.
+//! What each command makes of what its source gives.
 
-ghost use Rattle.std.specs.Prelude.{◌≡◌, ◌≤◌, [], length, IfOk, IsErrOf};
+ghost use Rattle.std.specs.Prelude.{◌≡◌, ◌+◌, ◌≤◌, ℕ, List, [], Some, length, IfOk, IsErrOf};
+ghost use Rattle.homeo_io.specs.Faults.{Rose};
+ghost use Rattle.homeo_io.specs.Moved.{GaveAtMost};
 ghost use Rattle.homeo_syntax.specs.declared.workload.Refusal.{Refusal};
 ghost use Rattle.homeo_syntax.specs.SourceView.{plain_workload};
 ghost use Rattle.homeo_syntax.specs.WellFormed.{IsWellFormed};
 ghost use Rattle.homeo_meaning.specs.declared.call.Purpose.TheVariants as purpose;
 ghost use Rattle.homeo_meaning.specs.Faults.{faults};
-ghost use Rattle.homeo_meaning.specs.Verdict.{IsRefused, text_limit};
-ghost use Rattle.homeo.specs.Outcome.{IsReport, IsScheduledReport, IsOutput, IsOutputOf};
+ghost use Rattle.homeo_meaning.specs.Verdict.{Accepts, IsRefused, text_limit};
+ghost use Rattle.homeo.specs.Command.{most_read};
+ghost use Rattle.homeo.specs.Outcome.{IsMade, IsRefusedUnder, IsReport, IsScheduledReport, OfText};
+ghost use Rattle.homeo.specs.inner.Called.{HasFewCalls};
 
 use crate::clients::clients;
+use crate::load::load;
 use crate::stop::Stop;
 use crate::tables::tables;
 use crate::treaty::treaty;
 use homeo_accept::{TextRefusal, accepted};
 use homeo_build::compile::compile;
 use homeo_cluster::Gate;
-use homeo_eval::initial;
+use homeo_io::{ReadError, Source, read_all};
 use homeo_meaning::{Accepted, Purpose};
 use homeo_report::report;
-use homeo_steps::steps_from;
-use homeo_syntax::Memory;
+use homeo_steps::steps;
+use homeo_syntax::{Memory, Refusal};
+use homeo_words::Command;
 use std::alloc::Global;
 use std::sync::{Arc, Wait};
 use std::thread::Threads;
 
-/// The output on a text that is read for a purpose.
-pub fn output_of<R: Threads + Wait + Sync, G: Gate>(
+/// The most bytes that a text may have.
+const TEXT_LIMIT: usize = 1_048_576;
+
+/// What is told where a text has more bytes.
+const TOO_LONG: Refusal = Refusal {
+    code: 2,
+    offset: 1_048_576,
+};
+
+/// The whole output of a command on what its source gives.
+pub(crate) fn output_of<R: Threads + Wait + Sync, S: Source, G: Gate>(
     rt: &R,
     alloc: Global,
-    purpose: Purpose,
-    text: &[u8],
+    command: Command,
+    source: &mut S,
     gate: &G,
 ) -> Result<Vec<u8>, Stop>
+    requires { HasFewCalls command }
+    ensures made { IfOk result (λ bytes. IsMade command (S.left source.old) (S.left source.new) bytes.items) }
+    ensures no_usage { IsErrOf result Stop.Usage → ⊥ }
+    ensures refused { (r : Refusal) → IsErrOf result (Stop.Refused r) → IsRefusedUnder command (S.left source.old) r }
+    ensures fault { IsErrOf result Stop.ReadFault → Rose (S.faults source.old) (S.faults source.new) }
+    ensures gave { GaveAtMost (S.left source.old) (S.left source.new) (most_read command) }
+    ensures unread { most_read command ≡ 0 → source.new ≡ source.old }
+    ensures no_fault { most_read command ≡ 0 → IsErrOf result Stop.ReadFault → ⊥ }
+{
+    match command {
+        Command::Steps => {
+            let w = text_of(alloc, source, Purpose::Steps)?;
+            Ok(steps_report(alloc, w)?)
+        }
+        Command::Run => {
+            let w = text_of(alloc, source, Purpose::Run)?;
+            Ok(run_report(rt, alloc, w, gate)?)
+        }
+        Command::Tables => {
+            let w = text_of(alloc, source, Purpose::Tables)?;
+            Ok(tables(alloc, w)?)
+        }
+        Command::Treaty => {
+            let w = text_of(alloc, source, Purpose::Treaty)?;
+            Ok(treaty(alloc, w)?)
+        }
+        Command::Load { number, calls } => Ok(load(rt, alloc, number, calls, gate)?),
+    }
+}
+
+/// The workload as which the source's text is accepted for a purpose.
+fn text_of<S: Source>(alloc: Global, source: &mut S, purpose: Purpose) -> Result<Accepted, Stop>
+    ensures well_formed { IfOk result (λ w. IsWellFormed (plain_workload w)) }
+    ensures sound { IfOk result (λ w. faults purpose (plain_workload w) ≡ []) }
+    ensures read { IfOk result (λ w. OfText purpose (S.left source.old) (S.left source.new) (λ v. v ≡ plain_workload w)) }
+    ensures no_usage { IsErrOf result Stop.Usage → ⊥ }
+    ensures refused { (r : Refusal) → IsErrOf result (Stop.Refused r) → (text : List ℕ) → S.left source.old ≡ Some text → IsRefused text purpose r }
+    ensures fault { IsErrOf result Stop.ReadFault → Rose (S.faults source.old) (S.faults source.new) }
+    ensures gave { GaveAtMost (S.left source.old) (S.left source.new) (text_limit + 1) }
+{
+    match read_all(alloc, source, TEXT_LIMIT) {
+        Ok(text) => accept_text(alloc, &text, purpose),
+        Err(ReadError::Fault) => Err(Stop::ReadFault),
+        Err(ReadError::TooLong { .. }) => Err(Stop::Refused(TOO_LONG)),
+        Err(ReadError::Memory) => Err(Stop::Memory),
+    }
+}
+
+// The workload as which a text is accepted, or the stop.
+fn accept_text(alloc: Global, text: &[u8], purpose: Purpose) -> Result<Accepted, Stop>
     requires { length text.now ≤ text_limit }
-    ensures made { IfOk result (λ bytes. IsOutputOf purpose text.now bytes.items) }
+    ensures well_formed { IfOk result (λ w. IsWellFormed (plain_workload w)) }
+    ensures accepted { IfOk result (λ w. Accepts text.now purpose (plain_workload w)) }
     ensures refused { (r : Refusal) → IsErrOf result (Stop.Refused r) → IsRefused text.now purpose r }
     ensures no_other { (IsErrOf result Stop.Usage → ⊥) × (IsErrOf result Stop.ReadFault → ⊥) }
 {
     match accepted(alloc, text, purpose) {
-        Ok(w) => Ok(make(rt, alloc, purpose, w, gate)?),
+        Ok(accepted) => Ok(accepted),
         Err(TextRefusal::Refused(refusal)) => Err(Stop::Refused(refusal)),
         Err(TextRefusal::Memory) => Err(Stop::Memory),
-    }
-}
-
-// The output on a workload that is accepted for a purpose.
-fn make<R: Threads + Wait + Sync, G: Gate>(
-    rt: &R,
-    alloc: Global,
-    purpose: Purpose,
-    w: Accepted,
-    gate: &G,
-) -> Result<Vec<u8>, Memory>
-    requires well_formed { IsWellFormed (plain_workload w) }
-    requires sound { faults purpose (plain_workload w) ≡ [] }
-    ensures { IfOk result (λ bytes. IsOutput purpose (plain_workload w) bytes.items) }
-{
-    match purpose {
-        Purpose::Steps => steps_report(alloc, w),
-        Purpose::Run => run_report(rt, alloc, w, gate),
-        Purpose::Tables => tables(alloc, w),
-        Purpose::Treaty => treaty(alloc, w),
     }
 }
 
@@ -72,8 +118,7 @@ fn steps_report(alloc: Global, w: Accepted) -> Result<Vec<u8>, Memory>
     ensures { IfOk result (λ bytes. IsScheduledReport (plain_workload w) bytes.items) }
 {
     let compiled = Arc::new(alloc, compile(alloc, w)?)?;
-    let base = initial(alloc, compiled.workload())?;
-    let history = steps_from(alloc, &compiled, base)?;
+    let history = steps(alloc, &compiled)?;
     report(alloc, &history, compiled.workload())
 }
 

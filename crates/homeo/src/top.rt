@@ -1,46 +1,36 @@
 //! The top call, with its promise: words, a source, an output and complaints.
 
-ghost use Rattle.std.specs.Prelude.{◌≡◌, ◌≢◌, ◌⊎◌, ◌+◌, ◌↔◌, IfOk, OnOk, IsOk, IsErrOf};
+ghost use Rattle.std.specs.Prelude.{◌≡◌, ◌≢◌, ◌⊎◌, ◌↔◌, ℕ, List, Some};
 ghost use Rattle.homeo_io.specs.Faults.{Rose};
 ghost use Rattle.homeo_io.specs.Moved.{GaveAtMost, TookExactly, TookPrefix};
 ghost use Rattle.homeo_syntax.specs.declared.workload.Refusal.{Refusal};
-ghost use Rattle.homeo_meaning.specs.Verdict.{text_limit};
-ghost use Rattle.homeo_words.specs.Command.{IsCommand};
 ghost use Rattle.homeo_accept.specs.RefusalLine.{refusal_line};
-ghost use Rattle.homeo.specs.Command.{AsksLoad, line_of};
-ghost use Rattle.homeo.specs.Outcome.{TellsRefused, TellsAccepted, IsRefusedAt, IsRefusedFor, IsMade, IsMadeOfText, IsDone, IsCutOff, TookLine, IsToldRefusal};
+ghost use Rattle.homeo_words.specs.Command.{IsCommand, Say};
+ghost use Rattle.homeo_words.specs.declared.command.Command.{Command};
+ghost use Rattle.homeo.specs.Command.{ReadNothing, line_of, most_read};
+ghost use Rattle.homeo.specs.Outcome.{CanBeDone, IsCutOff, IsDone, IsMade, IsRefusal, IsRefusedUnder, IsToldRefusal, TellsDoable, TellsRefused, TookLine};
+ghost use Rattle.homeo.specs.inner.Called.{HasFewCalls};
 
-use crate::load::load;
 use crate::output::output_of;
 use crate::status::{MEMORY_LINE, READ_FAULT_LINE, Status, USAGE_LINE, WRITE_FAULT_LINE};
 use crate::stop::Stop;
-use crate::work::Work;
 use homeo_accept::refusal_line;
 use homeo_cluster::Gate;
-use homeo_io::{Failed, ReadError, Sink, Source, read_all, write_all};
-use homeo_meaning::Purpose;
-use homeo_syntax::{List, Refusal, Text};
+use homeo_io::{Failed, Sink, Source, write_all};
+use homeo_syntax::Text;
 use homeo_words::Command;
 use std::alloc::Global;
 use std::sync::Wait;
 use std::thread::Threads;
 
-/// The most bytes that a text may have.
-const TEXT_LIMIT: usize = 1_048_576;
-
-/// What is told where a text has more bytes.
-const TOO_LONG: Refusal = Refusal {
-    code: 2,
-    offset: 1_048_576,
-};
-
-/// Runs the command that the words are, on the text that the source gives, which `load` doesn't read:
+/// Runs the command that the words are, on what the source gives:
 ///
-/// - `steps` runs the calls one after another in the order of the schedule, and writes the report;
-/// - `run` runs the calls of each client in work of its own, and writes the report;
-/// - `tables` writes the symbolic tables of the ground calls, and their joint table;
-/// - `treaty` writes the treaties at the initial database;
-/// - `load NUMBER CALLS` makes a workload of so many calls from the number, runs it as `run` does, and writes its summary.
+/// - `steps` runs the calls of a text one after another in the order of its schedule, and writes the report;
+/// - `run` runs the calls of each client of a text in work of its own, and writes the report;
+/// - `tables` writes the symbolic tables of a text's ground calls, and their joint table;
+/// - `treaty` writes the treaties at a text's initial database;
+/// - `load NUMBER CALLS` reads nothing. It makes a workload of so many calls from the number, runs it as `run` does, and writes its
+///   summary.
 ///
 /// The words don't include the program's name. The output goes to `out`, which is offered bytes only when the whole output
 /// has been made. A fault of `complaints` changes no status. Under `run` and `load` it may wait for locks and workers, and the
@@ -48,26 +38,27 @@ const TOO_LONG: Refusal = Refusal {
 pub fn run<R: Threads + Wait + Sync, S: Source, O: Sink, E: Sink, G: Gate>(
     rt: &R,
     alloc: Global,
-    words: &List<Text>,
+    words: &homeo_syntax::List<Text>,
     source: &mut S,
     out: &mut O,
     complaints: &mut E,
     gate: &G,
 ) -> Status
-    // Status 1, exactly where the words are no command, but for want of memory. Nothing is read.
+    // Status 1, exactly where the words are no command, but for want of memory.
     ensures usage { result ≡ Status.Usage → ¬ IsCommand words.now.items }
     ensures usage_exactly { ¬ IsCommand words.now.items → (result ≡ Status.Usage) ⊎ (result ≡ Status.Memory) }
-    ensures usage_reads_nothing { ¬ IsCommand words.now.items → source.new ≡ source.old }
 
-    // Status 2, exactly where the text is refused. The complaint names code and offset.
+    // Status 2, exactly where what the source tells is refused under the command. The complaint names code and offset.
     ensures refused { result ≡ Status.Refused → IsToldRefusal words.now.items (S.left source.old)
         (E.taken complaints.old) (E.taken complaints.new) (E.faults complaints.old) (E.faults complaints.new) }
-    ensures refused_exactly { TellsRefused words.now.items (S.left source.old)
-        → ¬ Rose (S.faults source.old) (S.faults source.new)
+    ensures refused_exactly { TellsRefused words.now.items (S.left source.old) → result ≢ Status.ReadFault
         → (result ≡ Status.Refused) ⊎ (result ≡ Status.Memory) }
 
-    // What was read, at every status: at most the limit and one byte, and what is left is a suffix of what was left.
-    ensures gave { GaveAtMost (S.left source.old) (S.left source.new) (text_limit + 1) }
+    // What was read, at every status: at most what the command takes, and what is left is a suffix of what was left.
+    ensures gave { (c : Command) → Say words.now.items c → GaveAtMost (S.left source.old) (S.left source.new) (most_read c) }
+    // Where that is nothing, and where the words are no command, the source isn't touched and its faults are no reason to stop.
+    ensures unread { ReadNothing words.now.items → source.new ≡ source.old }
+    ensures unhindered { ReadNothing words.now.items → result ≢ Status.ReadFault }
 
     // Statuses 4 and 5, only where the count of faults rose in this call.
     ensures read_fault { result ≡ Status.ReadFault → Rose (S.faults source.old) (S.faults source.new) }
@@ -84,17 +75,49 @@ pub fn run<R: Threads + Wait + Sync, S: Source, O: Sink, E: Sink, G: Gate>(
     ensures complaint { result ≢ Status.Refused → TookLine
         (E.taken complaints.old) (E.taken complaints.new) (E.faults complaints.old) (E.faults complaints.new) (line_of result) }
 
-    // Right words, an accepted text and no fault.
-    ensures complete { TellsAccepted words.now.items (S.left source.old)
-        → ¬ Rose (S.faults source.old) (S.faults source.new) → ¬ Rose (O.faults out.old) (O.faults out.new)
-        → (result ≡ Status.Done) ⊎ (result ≡ Status.Memory) }
-
-    // Under `load` no text is read, and right words suffice.
-    ensures load_reads_nothing { AsksLoad words.now.items → source.new ≡ source.old }
-    ensures load_complete { AsksLoad words.now.items → ¬ Rose (O.faults out.old) (O.faults out.new)
+    // Right words, what can be done under them, and no fault.
+    ensures complete { TellsDoable words.now.items (S.left source.old) → result ≢ Status.ReadFault → result ≢ Status.WriteFault
         → (result ≡ Status.Done) ⊎ (result ≡ Status.Memory) }
 {
-    match make_output(rt, alloc, words, source, gate) {
+    match Command::of(alloc, words) {
+        Ok(Some(command)) => run_command(rt, alloc, command, source, out, complaints, gate),
+        Ok(None) => complain(alloc, Stop::Usage, complaints),
+        Err(_) => complain(alloc, Stop::Memory, complaints),
+    }
+}
+
+/// Runs a command on what the source gives.
+fn run_command<R: Threads + Wait + Sync, S: Source, O: Sink, E: Sink, G: Gate>(
+    rt: &R,
+    alloc: Global,
+    command: Command,
+    source: &mut S,
+    out: &mut O,
+    complaints: &mut E,
+    gate: &G,
+) -> Status
+    requires { HasFewCalls command }
+    ensures no_usage { result ≢ Status.Usage }
+    ensures refused { result ≡ Status.Refused → (r : Refusal) × IsRefusedUnder command (S.left source.old) r
+        × TookLine (E.taken complaints.old) (E.taken complaints.new) (E.faults complaints.old) (E.faults complaints.new) (refusal_line r) }
+    ensures refused_exactly { (bytes : List ℕ) (r : Refusal) → S.left source.old ≡ Some bytes → IsRefusal command bytes r
+        → result ≢ Status.ReadFault → (result ≡ Status.Refused) ⊎ (result ≡ Status.Memory) }
+    ensures gave { GaveAtMost (S.left source.old) (S.left source.new) (most_read command) }
+    ensures unread { most_read command ≡ 0 → source.new ≡ source.old }
+    ensures unhindered { most_read command ≡ 0 → result ≢ Status.ReadFault }
+    ensures read_fault { result ≡ Status.ReadFault → Rose (S.faults source.old) (S.faults source.new) }
+    ensures write_fault { result ≡ Status.WriteFault → Rose (O.faults out.old) (O.faults out.new) }
+    ensures untouched { result ≢ Status.Done → result ≢ Status.WriteFault → out.new ≡ out.old }
+    ensures cut_off { result ≡ Status.WriteFault → (output : List ℕ)
+        × IsMade command (S.left source.old) (S.left source.new) output × TookPrefix (O.taken out.old) (O.taken out.new) output }
+    ensures done { result ≡ Status.Done → (output : List ℕ)
+        × IsMade command (S.left source.old) (S.left source.new) output × TookExactly (O.taken out.old) (O.taken out.new) output }
+    ensures complaint { result ≢ Status.Refused → TookLine
+        (E.taken complaints.old) (E.taken complaints.new) (E.faults complaints.old) (E.faults complaints.new) (line_of result) }
+    ensures complete { CanBeDone command (S.left source.old) → result ≢ Status.ReadFault → result ≢ Status.WriteFault
+        → (result ≡ Status.Done) ⊎ (result ≡ Status.Memory) }
+{
+    match output_of(rt, alloc, command, source, gate) {
         Ok(output) => match write_all(out, &output) {
             Ok(()) => Status::Done,
             Err(Failed) => {
@@ -103,56 +126,6 @@ pub fn run<R: Threads + Wait + Sync, S: Source, O: Sink, E: Sink, G: Gate>(
             }
         },
         Err(stop) => complain(alloc, stop, complaints),
-    }
-}
-
-// Makes the whole output, and writes nothing.
-fn make_output<R: Threads + Wait + Sync, S: Source, G: Gate>(
-    rt: &R,
-    alloc: Global,
-    words: &List<Text>,
-    source: &mut S,
-    gate: &G,
-) -> Result<Vec<u8>, Stop>
-    ensures output { IfOk result (λ bytes. IsMade words.now.items (S.left source.old) (S.left source.new) bytes.items) }
-    ensures command { OnOk result (IsCommand words.now.items) }
-    ensures usage { IsErrOf result Stop.Usage → ¬ IsCommand words.now.items }
-    ensures usage_exactly { ¬ IsCommand words.now.items → IsErrOf result Stop.Usage ⊎ IsErrOf result Stop.Memory }
-    ensures unread { ¬ IsCommand words.now.items → source.new ≡ source.old }
-    ensures refused { (r : Refusal) → IsErrOf result (Stop.Refused r) → IsRefusedAt words.now.items (S.left source.old) r }
-    ensures fault { IsErrOf result Stop.ReadFault → Rose (S.faults source.old) (S.faults source.new) }
-    ensures gave { GaveAtMost (S.left source.old) (S.left source.new) (text_limit + 1) }
-    ensures load_unread { AsksLoad words.now.items → source.new ≡ source.old }
-    ensures load_made { AsksLoad words.now.items → IsOk result ⊎ IsErrOf result Stop.Memory }
-{
-    let Some(command) = Command::of(alloc, words)? else {
-        return Err(Stop::Usage);
-    };
-    match Work::of(command) {
-        Work::Text(purpose) => text_output(rt, alloc, purpose, source, gate),
-        Work::Load { number, calls } => Ok(load(rt, alloc, number, calls, gate)?),
-    }
-}
-
-// Reads the text for a purpose, and makes the whole output on it.
-fn text_output<R: Threads + Wait + Sync, S: Source, G: Gate>(
-    rt: &R,
-    alloc: Global,
-    purpose: Purpose,
-    source: &mut S,
-    gate: &G,
-) -> Result<Vec<u8>, Stop>
-    ensures output { IfOk result (λ bytes. IsMadeOfText purpose (S.left source.old) (S.left source.new) bytes.items) }
-    ensures no_usage { IsErrOf result Stop.Usage → ⊥ }
-    ensures refused { (r : Refusal) → IsErrOf result (Stop.Refused r) → IsRefusedFor purpose (S.left source.old) r }
-    ensures fault { IsErrOf result Stop.ReadFault → Rose (S.faults source.old) (S.faults source.new) }
-    ensures gave { GaveAtMost (S.left source.old) (S.left source.new) (text_limit + 1) }
-{
-    match read_all(alloc, source, TEXT_LIMIT) {
-        Ok(text) => output_of(rt, alloc, purpose, &text, gate),
-        Err(ReadError::Fault) => Err(Stop::ReadFault),
-        Err(ReadError::TooLong { .. }) => Err(Stop::Refused(TOO_LONG)),
-        Err(ReadError::Memory) => Err(Stop::Memory),
     }
 }
 
@@ -166,7 +139,7 @@ fn say<E: Sink>(complaints: &mut E, line: &str)
 // Writes the line of a stop.
 fn complain<E: Sink>(alloc: Global, stop: Stop, complaints: &mut E) -> Status
     ensures usage { (stop ≡ Stop.Usage) ↔ (result ≡ Status.Usage) }
-    ensures fault { result ≡ Status.ReadFault → stop ≡ Stop.ReadFault }
+    ensures fault { (stop ≡ Stop.ReadFault) ↔ (result ≡ Status.ReadFault) }
     ensures refused { result ≡ Status.Refused → (r : Refusal) × (stop ≡ Stop.Refused r)
         × TookLine (E.taken complaints.old) (E.taken complaints.new) (E.faults complaints.old) (E.faults complaints.new) (refusal_line r) }
     ensures complaint { result ≢ Status.Refused → TookLine

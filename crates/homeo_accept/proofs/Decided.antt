@@ -23,6 +23,10 @@ accepted_not_refused text purpose w r a (inr (short, inr broken)) =
     let same : w ≡ broken.workload = one_reading text w broken.workload a.reads broken.reads in
     none_there (faults purpose broken.workload) broken.refused.fault (subst (λ v. faults purpose v ≡ []) same a.sound) broken.refused.decides.there
 
+-- a text is accepted as one workload
+pub one_accepted : (text : List ℕ) (p q : Purpose) (v w : s.Workload) → Accepts text p v → Accepts text q w → v ≡ w
+one_accepted text p q v w a b = one_reading text v w a.reads b.reads
+
 -- what the reader refuses is refused
 pub refuses_unread : (text : List ℕ) (purpose : Purpose) (r : Refusal) → length text ≤ text_limit → IsUnread text r → IsRefused text purpose r
 unfolding meanings

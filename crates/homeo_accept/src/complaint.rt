@@ -1,6 +1,7 @@
 //! The line of a refusal.
 
 ghost use Rattle.std.specs.Prelude.{◌≡◌, IfOk};
+ghost use Rattle.std.specs.String.{string_bytes};
 ghost use Rattle.homeo_accept.specs.RefusalLine.{refusal_line};
 
 use homeo_syntax::{Memory, Refusal};
@@ -18,7 +19,7 @@ const AT: &str = " at ";
 ///
 /// `Memory` when out of memory.
 pub fn refusal_line(alloc: Global, refusal: Refusal) -> Result<String, Memory>
-    ensures { IfOk result (λ line. line.chars ≡ refusal_line refusal) }
+    ensures { IfOk result (λ line. string_bytes line ≡ refusal_line refusal) }
 {
     let Refusal { code, offset } = refusal;
     let line = format!(in alloc; "{REFUSED}{code}{AT}{offset}\n")?;

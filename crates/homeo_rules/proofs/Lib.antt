@@ -1,6 +1,5 @@
 pub mod Agrees
 pub mod AlongCalls
-pub mod BodiesMeasured
 pub mod Callings
 pub mod CallsMeasured
 pub mod Counts

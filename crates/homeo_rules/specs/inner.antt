@@ -1,5 +1,4 @@
 pub mod Along
-pub mod Bodies
 pub mod Callers
 pub mod Counting
 pub mod Decided

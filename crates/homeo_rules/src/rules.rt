@@ -1,6 +1,5 @@
 //! The rules, a file for those of one thing.
 
-pub mod bodies;
 pub mod bounds;
 pub mod calls;
 pub mod distinct;

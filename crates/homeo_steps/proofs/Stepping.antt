@@ -13,11 +13,12 @@ use Rattle.homeo_syntax.specs.declared.phrase.Ident.{Ident}
 use Rattle.homeo_syntax.specs.declared.workload.Workload.{Workload}
 use Rattle.homeo_meaning.specs.declared.call.CallId.{CallId}
 use Rattle.homeo_meaning.specs.CallRules.{times}
+use Rattle.homeo_meaning.specs.Initial.{initial}
 use Rattle.homeo_meaning.specs.Declarations.{place_of}
 use Rattle.homeo_history.specs.Answers.{Answer}
 use Rattle.homeo_history.specs.Follows.{Follows}
 use Rattle.homeo_history.specs.History.{History}
-use Rattle.homeo_history.specs.Legal.{IsLegalFrom, call_count}
+use Rattle.homeo_history.specs.Legal.{IsFull, IsLegalFrom, call_count}
 use Rattle.homeo_history.specs.Key.{words as histories}
 use Rattle.homeo_core.specs.CoreView.{CoreValue, core_at, core_history, start_of, next_call, GoesOnBy, IsStep}
 use Rattle.homeo_core.specs.Key.{words as cores}
@@ -98,6 +99,11 @@ named_next : (w : s.Workload) (order : List Ident) (i : ℕ) (name : Ident) → 
 named_next w order i name whole is within at =
     let all : All (λ (x : Ident). place_of (client_names w) x.name < length w.clients) order = subst (All (λ (x : Ident). place_of (client_names w) x.name < length w.clients)) (sym is) whole.named in
     subst (λ (x : Ident). place_of (client_names w) x.name < length w.clients) (sym at) (all i name within)
+
+pub client_there : (w : s.Workload) (order : List Ident) (i : ℕ) (name : Ident) (client : ℕ) → IsWholeOrder w → order ≡ order_of w.schedule → i < length order → name ≡ get_or order i name
+    → client ≡ place_of (client_names w) name.name → client < length w.clients
+client_there w order i name client whole is within at place =
+    subst (λ (k : ℕ). k < length w.clients) (sym place) (named_next w order i name whole is within at)
 
 cut_at : (order : List Ident) (i : ℕ) (name : Ident) → i < length order → name ≡ get_or order i name → take i order ++ name ∷ drop (i + 1) order ≡ order
 cut_at order i name within at =
@@ -181,3 +187,8 @@ none_yet v base x is follows =
       counted = λ n less. ap (λ (y : CoreValue). slice_index_or y.counts (place_of (client_names w) n) 0) is ∙ none_made w.clients (place_of (client_names w) n);
       follows = follows;
     }
+
+-- a history of all calls that is legal from the initial database is full
+pub full_from : (w : s.Workload) (base : List ℤ) (h : History) → base ≡ initial w → IsLegalFrom w base (map (λ (c : s.Client). length c.calls) w.clients) h → IsFull w h
+unfolding histories
+full_from w base h is legal = subst (λ (b : List ℤ). IsLegalFrom w b (map (λ (c : s.Client). length c.calls) w.clients) h) is legal

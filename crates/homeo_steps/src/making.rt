@@ -9,18 +9,35 @@ ghost use Rattle.homeo_meaning.specs.Faults.{faults};
 ghost use Rattle.homeo_meaning.specs.Schema.{schema_of};
 ghost use Rattle.homeo_history.specs.Follows.{Follows};
 ghost use Rattle.homeo_history.specs.HistoryView.{plain_history};
-ghost use Rattle.homeo_history.specs.Legal.{IsLegalFrom};
+ghost use Rattle.homeo_history.specs.Legal.{IsFull, IsLegalFrom};
 ghost use Rattle.homeo_order.specs.Order.{scheduled_calls};
 ghost use Rattle.homeo_report.specs.Report.{CanReport};
 
 use homeo_build::Compiled;
 use homeo_core::Core;
+use homeo_eval::initial;
 use homeo_history::History;
 use homeo_meaning::Database;
 use homeo_order::{client_places, order};
 use homeo_syntax::Memory;
 use std::alloc::Global;
 use std::sync::Arc;
+
+/// Makes all calls of a workload that is accepted for `steps`, from its initial database on, in the order of the schedule.
+///
+/// # Errors
+///
+/// `Memory` when out of memory.
+pub fn steps(alloc: Global, c: &Arc<Compiled>) -> Result<History, Memory>
+    requires well_formed { IsWellFormed (plain_workload c.now.value) }
+    requires sound { faults purpose.Steps (plain_workload c.now.value) ≡ [] }
+    ensures full { IfOk result (λ h. IsFull (plain_workload c.now.value) (plain_history h)) }
+    ensures follows { let w = plain_workload c.now.value in IfOk result (λ h. Follows w (plain_history h) (scheduled_calls w)) }
+    ensures reportable { IfOk result (λ h. CanReport (plain_workload c.now.value) (plain_history h)) }
+{
+    let base = initial(alloc, c.workload())?;
+    steps_from(alloc, c, base)
+}
 
 /// Makes all calls of a workload that is accepted for `steps`, from a database on that is within its bounds, in the order of
 /// the schedule: each name stands for the next call of its client.

@@ -6,7 +6,7 @@ use Rattle.homeo_meaning.specs.CallForm.{ground_form}
 use Rattle.homeo_meaning.specs.Ground.{Ground}
 use Rattle.homeo_meaning.specs.LowSizes.{rows}
 use Rattle.homeo_print.specs.Tables.{call_table, table_text}
-use Rattle.homeo.specs.Key.{words}
+use Rattle.homeo.specs.inner.Key.{words}
 
 -- its table has as many rows as it may have
 abbrev pub HasFewRows : s.Workload → Ground → Type 0

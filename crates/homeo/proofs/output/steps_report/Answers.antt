@@ -2,19 +2,25 @@ use Rattle.std.proofs.Common.{◌≡◌, ◌∙◌, sym, ap, subst}
 use Rattle.std.proofs.lemmas.Result.{IfOk-weaker}
 use Rattle.homeo_syntax.specs.Source as s
 use Rattle.homeo_syntax.specs.SourceView.{plain_workload}
+use Rattle.homeo_syntax.specs.WellFormed.{IsWellFormed}
+use Rattle.homeo_meaning.specs.declared.call.Purpose.TheVariants.{Steps}
+use Rattle.homeo_meaning.specs.Faults.{faults}
 use Rattle.homeo_history.specs.Follows.{Follows}
 use Rattle.homeo_history.specs.HistoryView.{plain_history}
 use Rattle.homeo_history.specs.Legal.{IsFull}
+use Rattle.homeo_order.specs.Order.{scheduled_calls}
 use Rattle.homeo_report.specs.Report.{report}
-use Rattle.homeo.specs.Order.{scheduled_calls}
-use Rattle.homeo.specs.inner.Scheduled.{IsWholeOrder}
-use Rattle.homeo.proofs.Accepting.{whole_order}
 use Rattle.homeo.proofs.output.steps_report.Goals as goal
 
-pub steps-requires : goal.steps-requires
-steps-requires c =
+pub steps-requires-clause-well_formed : goal.steps-requires-clause-well_formed
+steps-requires-clause-well_formed c =
     let same : plain_workload c.in_ok-compiled.compiled.value ≡ plain_workload c.args.w = ap plain_workload c.in_ok-compiled.ensures.ok ∙ c.in_ok-compile.ensures in
-    subst IsWholeOrder (sym same) (whole_order (plain_workload c.args.w) c.requires.well_formed c.requires.sound)
+    subst IsWellFormed (sym same) c.requires.well_formed
+
+pub steps-requires-clause-sound : goal.steps-requires-clause-sound
+steps-requires-clause-sound c =
+    let same : plain_workload c.in_ok-compiled.compiled.value ≡ plain_workload c.args.w = ap plain_workload c.in_ok-compiled.ensures.ok ∙ c.in_ok-compile.ensures in
+    ap (faults Steps) same ∙ c.requires.sound
 
 pub returns : goal.returns
 returns c =

@@ -13,7 +13,7 @@ use Rattle.homeo_plan.specs.Template.{shifted}
 use Rattle.homeo_joint.specs.Counts.{plain_table}
 use Rattle.homeo_print.specs.Key.{words as texts}
 use Rattle.homeo_print.specs.Tables.{call_table, table_text}
-use Rattle.homeo.specs.Key.{words}
+use Rattle.homeo.specs.inner.Key.{words}
 use Rattle.homeo.specs.inner.Tabulated.{HasFewRows, calls_text}
 use Rattle.homeo.proofs.Tabulating.{as_many, command_is, few_here, rows_counted, texts_more, tables_more}
 use Rattle.homeo.proofs.tables.push_calls.Goals as goal

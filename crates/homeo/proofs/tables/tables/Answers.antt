@@ -5,7 +5,7 @@ use Rattle.homeo_meaning.specs.Ground.{grounds}
 use Rattle.homeo_joint.specs.Counts.{plain_table}
 use Rattle.homeo_print.specs.Key.{words as texts}
 use Rattle.homeo_print.specs.Tables.{call_table, joint_text, tables_text}
-use Rattle.homeo.specs.Key.{words}
+use Rattle.homeo.specs.inner.Key.{words}
 use Rattle.homeo.specs.inner.Tabulated.{HasFewRows, calls_text}
 use Rattle.homeo.proofs.Tabulating.{tables_are_few, grounds_few}
 use Rattle.homeo.proofs.tables.tables.Goals as goal

@@ -1,4 +1,4 @@
-use Rattle.std.proofs.Common.{◌≡◌, ◌∙◌, ℕ, ℤ, List, [], length, map, Result, Ok, Err, IfOk, get_or, ap, subst}
+use Rattle.std.proofs.Common.{◌≡◌, ◌∙◌, ◌<◌, ℕ, ℤ, List, [], length, map, Result, Ok, Err, IfOk, get_or, ap, sym, subst, arith}
 use Rattle.homeo_syntax.specs.Source as s
 use Rattle.homeo_syntax.specs.SourceView.{plain_workload}
 use Rattle.homeo_syntax.specs.declared.list.Memory.{Memory}
@@ -18,7 +18,7 @@ use Rattle.homeo_order.specs.Order.{client_names, order_of, scheduled_calls}
 use Rattle.homeo_order.specs.Scheduled.{IsWholeOrder}
 use Rattle.homeo_steps.specs.inner.Stepped.{HasMade}
 use Rattle.homeo_order.proofs.Accepting.{whole_order}
-use Rattle.homeo_steps.proofs.Stepping.{none_yet, read_again, left_next, made_next, all_made, is_full, does_follow}
+use Rattle.homeo_steps.proofs.Stepping.{none_yet, read_again, client_there, left_next, made_next, all_made, is_full, does_follow}
 use Rattle.homeo_steps.proofs.making.steps_from.Goals as goal
 
 abbrev none : Ident
@@ -45,6 +45,35 @@ loop-name-init c =
     let same : c.in_ok-try_clone.field-0.value ≡ c.args.c.now.value = c.in_ok-try_clone.ensures in
     none_yet c.args.c.now.value c.args.base.items c.in_ok-core.core (c.in_ok-core.ensures.core ∙ ap (λ (v : Workload). core_at v c.args.base.items) same)
     (subst (λ (v : Workload). Follows (plain_workload v) (core_history c.in_ok-core.core) []) same c.in_ok-core.ensures.follows)
+
+pub overflow_cast-get : goal.overflow_cast-get
+overflow_cast-get c =
+    let w = plain_workload c.args.c.now.value in
+    let names : List Ident = c.order-name-items.result.now in
+    let i = c.loop-name.name-index in
+    let name : Ident = get_or names i none in
+    let work : c.workload-w.result.now ≡ c.args.c.now.value = c.workload-w.ensures.value ∙ c.workload.ensures ∙ c.deref.ensures in
+    let order : names ≡ order_of w.schedule = c.order-name-items.ensures ∙ ap (λ (v : Workload). order_of (plain_workload v).schedule) work in
+    let clients : c.in_ok-clients.clients ≡ client_names w = c.in_ok-clients.ensures ∙ ap (λ (v : Workload). client_names (plain_workload v)) work in
+    let place : c.get.result ≡ place_of (client_names w) name.name = c.get.ensures ∙ ap (λ (ns : List ℕ). place_of ns name.name) clients in
+    let whole : IsWholeOrder w = whole_order w c.requires.well_formed c.requires.sound in
+    let there : c.get.result < length w.clients = client_there w names i name c.get.result whole order c.loop-name-test.true (read_again names i none c.loop-name-test.true) place in
+    let few = whole.few in
+    omega (arith, there, few)
+
+pub step-requires-clause-exists : goal.step-requires-clause-exists
+step-requires-clause-exists c =
+    let w = plain_workload c.args.c.now.value in
+    let names : List Ident = c.order-name-items.result.now in
+    let i = c.loop-name.name-index in
+    let name : Ident = get_or names i none in
+    let work : c.workload-w.result.now ≡ c.args.c.now.value = c.workload-w.ensures.value ∙ c.workload.ensures ∙ c.deref.ensures in
+    let order : names ≡ order_of w.schedule = c.order-name-items.ensures ∙ ap (λ (v : Workload). order_of (plain_workload v).schedule) work in
+    let clients : c.in_ok-clients.clients ≡ client_names w = c.in_ok-clients.ensures ∙ ap (λ (v : Workload). client_names (plain_workload v)) work in
+    let place : c.get.result ≡ place_of (client_names w) name.name = c.get.ensures ∙ ap (λ (ns : List ℕ). place_of ns name.name) clients in
+    let whole : IsWholeOrder w = whole_order w c.requires.well_formed c.requires.sound in
+    let there : c.get.result < length w.clients = client_there w names i name c.get.result whole order c.loop-name-test.true (read_again names i none c.loop-name-test.true) place in
+    subst (λ (v : s.Workload). c.get.result < length v.clients) (sym c.loop-name.invariant.work) there
 
 pub step-requires-clause-left : goal.step-requires-clause-left
 step-requires-clause-left c =

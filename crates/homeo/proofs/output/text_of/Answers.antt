@@ -1,6 +1,6 @@
 use Rattle.std.proofs.Common.{ap, Err}
 use Rattle.homeo.proofs.Decided.{refuses_long}
-use Rattle.homeo.proofs.top.text_output.Goals as goal
+use Rattle.homeo.proofs.output.text_of.Goals as goal
 
 pub returns-in-Err-TooLong-clause-refused : goal.returns-in-Err-TooLong-clause-refused
 returns-in-Err-TooLong-clause-refused g c = λ r is text told.
