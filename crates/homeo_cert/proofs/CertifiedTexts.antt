@@ -30,7 +30,7 @@ use Rattle.homeo_cert.specs.Certified.{certificate_of}
 use Rattle.homeo_cert.specs.Nesting.{nesting}
 use Rattle.homeo_cert.specs.Text.{text_of}
 use Rattle.homeo_cert.specs.Verdict.{IsVerdictOn}
-use Rattle.homeo_cert.proofs.Keeps.{Sound, sound_as}
+use Rattle.homeo_reader.proofs.Keeps.{Sound, sound_as}
 use Rattle.homeo_cert.proofs.CertificatesInShape.{few_number, count_few, only_valid}
 use Rattle.homeo_cert.proofs.GroundsInShape.{calls_in_shape}
 use Rattle.homeo_cert.proofs.TextNesting.{any, fine, ground_nests}

@@ -12,7 +12,7 @@ use Rattle.homeo_syntax.specs.SourceView.{exprs, tests, commands}
 use Rattle.homeo_syntax.specs.Grammar.{call, Means}
 use Rattle.homeo_syntax.specs.Rules as rules
 use Rattle.homeo_syntax.specs.Rules.{Deep, Factor, Test, Command, Tree, Rule, rule, limit, product_of, sum_of, IsWorkload}
-use Rattle.homeo_cert.proofs.Keeps.{Sound, Meaning, Every, Fine, sound_token, sound_nothing, sound_seq, sound_alt, sound_part, sound_as, sound_many, sound_lead, sound_closed}
+use Rattle.homeo_reader.proofs.Keeps.{Sound, Meaning, Every, Fine, sound_token, sound_nothing, sound_seq, sound_alt, sound_part, sound_as, sound_many, sound_lead, sound_closed}
 use Rattle.homeo_cert.proofs.FormNesting.{expr_depth, exprs_depth, test_depth, cond_depth, values_depth, command_depth, commands_depth}
 
 abbrev pub depth_of : (c : Deep) → Tree c → ℕ

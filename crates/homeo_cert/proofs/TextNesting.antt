@@ -19,7 +19,7 @@ use Rattle.homeo_meaning.proofs.Sound.{sound}
 use Rattle.homeo_meaning.proofs.SoundRelations.{SlotsFit}
 use Rattle.homeo_cert.specs.Key.{words}
 use Rattle.homeo_cert.specs.Nesting.{nesting}
-use Rattle.homeo_cert.proofs.Keeps.{Sound, Every, Fine, sound_seq, sound_part, sound_as, sound_many, sound_lead}
+use Rattle.homeo_reader.proofs.Keeps.{Sound, Every, Fine, sound_seq, sound_part, sound_as, sound_many, sound_lead}
 use Rattle.homeo_cert.proofs.FormNesting.{AllFew, commands_depth, l_form_nests}
 use Rattle.homeo_cert.proofs.TextDepth.{depth_of, means_within, block_within}
 
