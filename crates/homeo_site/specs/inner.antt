@@ -1,6 +1,3 @@
 pub mod Failures
-pub mod OwnPrograms
 pub mod OwnRound
-pub mod OwnTreaty
 pub mod Ready
-pub mod Standing
