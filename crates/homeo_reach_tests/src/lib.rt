@@ -1,0 +1,7 @@
+//! Tests of what is reached beyond one run.
+#![tactic(auto)]
+
+#[cfg(test)]
+mod sessions;
+#[cfg(test)]
+mod wires;
