@@ -15,7 +15,8 @@ use Rattle.homeo_plan.specs.Linear.{delta_of, Linear, constant_form, delta_form,
 use Rattle.homeo_plan.specs.Atoms.{difference, true_comparison, false_comparison, true_test, false_test, true_cond, false_cond}
 use Rattle.homeo_plan.specs.Each.{Each}
 use Rattle.homeo_plan.specs.Holding.{IsOn, AtomHolds}
-use Rattle.homeo_plan.proofs.Tracked.{Is, TracksAll, tracks, is_add, is_scale}
+use Rattle.homeo_plan.proofs.Tracked.{tracks, is_add, is_scale}
+use Rattle.homeo_plan.specs.Tracking.{Is, TracksAll, IsBelowAtBase}
 
 pub base_is_on : (b : ℕ → ℤ) → IsOn b (whole b)
 unfolding words meaning_words
@@ -59,9 +60,6 @@ form_at_base b e =
     form_is b (whole b) (base_is_on b) e (each_zero_at_base b _)
     ∙ ap (λ r. (form (base_forms b) e).constant +ℤ r) (terms_at_base b (form (base_forms b) e).terms)
     ∙ omega (arith, ints)
-
-abbrev pub IsBelowAtBase : Linear → Type 0
-IsBelowAtBase a = a.constant ≤ℤ pos 0
 
 pub each_append : {X : Type 0} (P : X → Type 0) (xs ys : List X) → Each P (xs ++ ys) → Each P xs × Each P ys
 unfolding words meaning_words

@@ -13,8 +13,8 @@ use Rattle.homeo_plan.specs.Linear.{same_delta, Linear, add_deltas, is_empty, te
 use Rattle.homeo_plan.specs.Holding.{AtomHolds}
 use Rattle.homeo_plan.specs.Template.{PlannedCall, atoms_of, needs_of, Clause, clause_of, same_term, same_terms, same_clause, with_clause, clauses_from, joined, put_all, template, Covers}
 use Rattle.homeo_plan.proofs.Tracked.{same_delta_is, each_add_deltas}
-use Rattle.homeo_plan.proofs.Atoms.{IsBelowAtBase, each_append, int_eq_is}
-use Rattle.homeo_plan.proofs.SiteSums.{ClauseHolds}
+use Rattle.homeo_plan.proofs.Atoms.{each_append, int_eq_is}
+use Rattle.homeo_plan.specs.Tracking.{IsBelowAtBase, ClauseHolds}
 
 both_true : (u v : Bool) → (u && v) ≡ true → (u ≡ true) × (v ≡ true)
 unfolding words meaning_words

@@ -22,7 +22,8 @@ use Rattle.homeo_plan.proofs.Tables.{row_at_walk, walk_residual, row_is_unique, 
 use Rattle.homeo_plan.proofs.Atoms.{true_cond_holds, true_cond_below}
 use Rattle.homeo_plan.proofs.Needs.{residual_same}
 use Rattle.homeo_plan.proofs.Straight.{walk_straight}
-use Rattle.homeo_plan.proofs.SiteSums.{ClauseHolds, clauses_hold, freezes_hold}
+use Rattle.homeo_plan.proofs.SiteSums.{clauses_hold, freezes_hold}
+use Rattle.homeo_plan.specs.Tracking.{ClauseHolds}
 use Rattle.homeo_plan.proofs.Covering.{atoms_hold, each_member, each_map}
 
 pub join_is_on : (k : ℕ) (b : ℕ → ℤ) (d : ℕ → Deltas) → IsOn b (join k b d)

@@ -21,10 +21,10 @@ use Rattle.homeo_plan.proofs.Sizes.{Within, numbers, wider, within_constant, wit
 use Rattle.homeo_plan.proofs.Others.{others_from, IsBit, others_bit, shape_within}
 use Rattle.homeo_plan.proofs.WholeReads.{Own, Holds, Part, before_own}
 
-one_mul : (m n : ℕ) → 1 ≤ m → 1 ≤ n → 1 ≤ m * n
+pub one_mul : (m n : ℕ) → 1 ≤ m → 1 ≤ n → 1 ≤ m * n
 one_mul m n p q = omega (arith, mul-le 1 1 m n p q)
 
-factor_le : (a k : ℕ) → 1 ≤ k → a ≤ a * k
+pub factor_le : (a k : ℕ) → 1 ≤ k → a ≤ a * k
 factor_le a k p = omega (arith, mul-le a 1 a k (omega arith) p)
 
 module _ (w : Location → ℕ) (ones : (p : Location) → 1 ≤ w p) where

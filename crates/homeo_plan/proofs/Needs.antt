@@ -10,7 +10,8 @@ use Rattle.homeo_plan.specs.Each.{Member, Each}
 use Rattle.homeo_plan.specs.declared.forms.Delta.{Delta}
 use Rattle.homeo_plan.specs.Linear.{delta_of, same_delta, delta_before, Linear, add_delta, support, Forms, base_forms, form}
 use Rattle.homeo_plan.specs.Needs.{remote, written_needs, needs_from, needs, IsStraight}
-use Rattle.homeo_plan.proofs.Tracked.{same_delta_is, each_add_deltas, Agrees, Tracks, TracksAll, tracks, same_by_support}
+use Rattle.homeo_plan.proofs.Tracked.{same_delta_is, each_add_deltas, tracks, same_by_support}
+use Rattle.homeo_plan.specs.Tracking.{Agrees, Tracks, TracksAll, IsSameUnlessWritten}
 use Rattle.homeo_plan.specs.Holding.{IsOn, ZeroInBoth, SameOwn}
 use Rattle.homeo_plan.proofs.Atoms.{start_tracks}
 
@@ -58,11 +59,6 @@ module _ (i : ℕ) (s s' : State) (own : (x : ℕ) → s (DeltaAt x i) ≡ s' (D
           (subst (λ j. s (DeltaAt d.object j) ≡ s' (DeltaAt d.object j)) (sym e) (own d.object), ih h)
       go false q ih h = (h.0.here ∙ sym h.0.there, ih h.1)
 
-  -- an own delta is the same in both, unless it was written
-  abbrev pub IsSameUnlessWritten : State → State → List Delta → ℕ → Type 0
-  unfolding words meaning_words
-  IsSameUnlessWritten u u' ds x = (u (DeltaAt x i) ≡ u' (DeltaAt x i)) ⊎ Member (delta_of x i) ds
-
   pub put_tracks :
       (f : Forms) (u u' : State) (p : Location) (a : Linear) (v v' : ℤ) → TracksAll f s s' u u' → Tracks a s s' v v' →
       TracksAll (put f p a) s s' (put u p v) (put u' p v')
@@ -74,8 +70,8 @@ module _ (i : ℕ) (s s' : State) (own : (x : ℕ) → s (DeltaAt x i) ≡ s' (D
       go false = h q
 
   pub still_same :
-      (u u' : State) (x j : ℕ) (v v' : ℤ) (ds : List Delta) (y : ℕ) → IsSameUnlessWritten u u' ds y →
-      IsSameUnlessWritten (put u (DeltaAt x j) v) (put u' (DeltaAt x j) v') (add_delta (delta_of x j) ds) y
+      (u u' : State) (x j : ℕ) (v v' : ℤ) (ds : List Delta) (y : ℕ) → IsSameUnlessWritten i u u' ds y →
+      IsSameUnlessWritten i (put u (DeltaAt x j) v) (put u' (DeltaAt x j) v') (add_delta (delta_of x j) ds) y
   unfolding words meaning_words
   still_same u u' x j v v' ds y h = go ((x == y) && (j == i)) refl
     where
@@ -87,7 +83,7 @@ module _ (i : ℕ) (s s' : State) (own : (x : ℕ) → s (DeltaAt x i) ≡ s' (D
 
   same_own :
       (cs : Commands) (f : Forms) (ds : List Delta) (u u' : State) → IsStraight cs → TracksAll f s s' u u' →
-      ((x : ℕ) → IsSameUnlessWritten u u' ds x) → Each (ZeroInBoth s s') (needs_from i f ds cs) →
+      ((x : ℕ) → IsSameUnlessWritten i u u' ds x) → Each (ZeroInBoth s s') (needs_from i f ds cs) →
       SameOwn i (exec_all cs u) (exec_all cs u')
   unfolding words meaning_words
   same_own NoCommand f ds u u' st t w z =

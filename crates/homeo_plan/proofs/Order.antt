@@ -20,7 +20,7 @@ unfolding words
 Sorted [] = Unit {0}
 Sorted (t ∷ ts) = Above t.delta ts × Sorted ts
 
-above_before : (c d : Delta) (ts : List Term) → delta_before c d ≡ true → Above d ts → Above c ts
+pub above_before : (c d : Delta) (ts : List Term) → delta_before c d ≡ true → Above d ts → Above c ts
 unfolding words
 above_before c d [] h a = tt
 above_before c d (t ∷ ts) h a = (before_trans c d t.delta h a.0, above_before c d ts h a.1)
@@ -82,7 +82,7 @@ sorted_scale n (t ∷ ts) s =
     sorted_with t.delta (n *ℤ t.factor) (scale_terms n ts) (above_scale t.delta n ts s.0) (sorted_scale n ts s.1)
 
 -- ---- where the terms are in order, a delta's factor is that of its term
-none_above : (d : Delta) (ts : List Term) → Above d ts → factor d ts ≡ pos 0
+pub none_above : (d : Delta) (ts : List Term) → Above d ts → factor d ts ≡ pos 0
 unfolding words
 none_above d [] a = refl
 none_above d (t ∷ ts) a = go (same_delta t.delta d) refl (none_above d ts a.1)
@@ -93,7 +93,7 @@ none_above d (t ∷ ts) a = go (same_delta t.delta d) refl (none_above d ts a.1)
         absurd (true≢false (sym e ∙ before_is_other d t.delta a.0))
     go false q ih = omega (arith, ints, ih)
 
-head_factor : (t : Term) (ts : List Term) → Above t.delta ts → factor t.delta (t ∷ ts) ≡ t.factor
+pub head_factor : (t : Term) (ts : List Term) → Above t.delta ts → factor t.delta (t ∷ ts) ≡ t.factor
 unfolding words
 head_factor t ts a =
     ap (λ v. cond v t.factor (pos 0) +ℤ factor t.delta ts) (same_delta_refl t.delta)

@@ -14,6 +14,7 @@ use Rattle.homeo_plan.specs.Linear.{terms_value, IsZeroAt}
 use Rattle.homeo_plan.specs.Template.{Clause}
 use Rattle.homeo_plan.specs.Config.{Config, total, Fits}
 use Rattle.homeo_plan.specs.Treaty.{site_sum, bound_at, KeepsClauses, KeepsFreezes}
+use Rattle.homeo_plan.specs.Tracking.{ClauseHolds}
 use Rattle.homeo_plan.proofs.Sums.{sum_zero, sum_add, sum_le_below, sum_next, sum_at}
 
 terms_split : (k : ℕ) (b : ℕ → ℤ) (d : ℕ → Deltas) (ts : List Term) → terms_value ts (join k b d) ≡ sum_from 0 k (λ i. site_sum i ts (d i))
@@ -32,10 +33,6 @@ unfolding words meaning_words
 total_is [] = refl
 total_is (n ∷ ns) =
     ap (λ r. n +ℤ r) (total_is ns ∙ sym (sum_next 0 (length ns) (λ i. bound_at (n ∷ ns) i)))
-
-abbrev pub ClauseHolds : State → Clause → Type 0
-unfolding words meaning_words
-ClauseHolds s c = terms_value c.terms s ≤ℤ c.slack
 
 pub clauses_hold :
     (k : ℕ) (b : ℕ → ℤ) (d : ℕ → Deltas) (cs : List Clause) (bounds : Config) → Fits k cs bounds →

@@ -35,7 +35,7 @@ size_at [] n v h = grind (arith, ints, h.0, h.1)
 size_at (b ∷ bs) zero v h = in_size b v h
 size_at (b ∷ bs) (suc n) v h = size_at bs n v h
 
-one_at : (bs : List Bounds) (n : ℕ) → 1 ≤ weight_at bs n
+pub one_at : (bs : List Bounds) (n : ℕ) → 1 ≤ weight_at bs n
 unfolding meaning_words
 one_at [] n = omega arith
 one_at (b ∷ bs) zero = omega arith

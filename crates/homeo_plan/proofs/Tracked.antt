@@ -11,6 +11,7 @@ use Rattle.homeo_plan.specs.declared.forms.Delta.{Delta}
 use Rattle.homeo_plan.specs.declared.forms.Term.{Term}
 use Rattle.homeo_plan.specs.Linear.{same_delta, delta_before, Linear, add_delta, add_deltas, with_term, add_term, add_terms, scale_terms, deltas_of, constant_form, add_forms, scale_form, is_empty, is_pure, support, mix_forms, multiply_forms, Forms, form, sum_form, product_form, terms_value, form_value, IsZeroAt}
 use Rattle.homeo_plan.specs.Each.{Each}
+use Rattle.homeo_plan.specs.Tracking.{Agrees, Is, Differ, Tracks, TracksAll}
 use Rattle.homeo_plan.proofs.WholeNumbers.{dist, dist_left, dist2, mul_comm_z}
 
 -- ---- deltas
@@ -90,10 +91,6 @@ scale_terms_value n (t ∷ ts) s =
     ∙ ap (λ r. ((n *ℤ t.factor) *ℤ at s t.delta) +ℤ r) (scale_terms_value n ts s)
     ∙ dist2 n t.factor (at s t.delta) (terms_value ts s)
 
-abbrev pub Agrees : State → State → Delta → Type 0
-unfolding words meaning_words
-Agrees s s' d = s (DeltaAt d.object d.site) ≡ s' (DeltaAt d.object d.site)
-
 terms_agree : (ts : List Term) (s s' : State) → Each (Agrees s s') (deltas_of ts) → terms_value ts s ≡ terms_value ts s'
 unfolding words meaning_words
 terms_agree [] s s' h = refl
@@ -104,16 +101,6 @@ unfolding words meaning_words
 terms_zero [] s h = refl
 terms_zero (t ∷ ts) s h =
     ap₂ (λ x r. (t.factor *ℤ x) +ℤ r) h.0 (terms_zero ts s h.1) ∙ omega (arith, ints)
-
--- ---- a number that is the value of a form where the mixed deltas are 0
-abbrev pub Is : Linear → State → ℤ → Type 0
-unfolding words meaning_words
-Is a s x = Each (IsZeroAt s) a.mixed → x ≡ form_value a s
-
--- two numbers that differ as the form does, where the mixed deltas are the same
-abbrev pub Differ : Linear → State → State → ℤ → ℤ → Type 0
-unfolding words meaning_words
-Differ a s s' x x' = Each (Agrees s s') a.mixed → x +ℤ form_value a s' ≡ x' +ℤ form_value a s
 
 is_empty_is : {X : Type 0} (xs : List X) → is_empty xs ≡ true → xs ≡ []
 unfolding words meaning_words
@@ -200,12 +187,6 @@ differ_mix a b s s' x x' y y' hx hy h =
     let m = each_add_deltas (Agrees s s') (support a) (support b) h in
     ap (λ r. r +ℤ form_value (mix_forms a b) s) (ap₂ ◌*ℤ◌ (same_by_support a s s' x x' hx m.0) (same_by_support b s s' y y' hy m.1))
 
--- a number in each of two states, and what the form says of both
-pub record Tracks (a : Linear) (s s' : State) (x x' : ℤ) : Type 0 where
-  pub here : Is a s x
-  pub there : Is a s' x'
-  pub apart : Differ a s s' x x'
-
 differ_multiply : (a b : Linear) (s s' : State) (x x' y y' : ℤ) → Tracks a s s' x x' → Tracks b s s' y y' → Differ (multiply_forms a b) s s' (x *ℤ y) (x' *ℤ y')
 unfolding words meaning_words
 differ_multiply a b s s' x x' y y' hx hy = go (is_pure a) refl (is_pure b) refl
@@ -276,11 +257,6 @@ tracks_negation a s s' x x' hx =
     }
 
 -- ---- expressions
--- two states whose values the forms track, from two states at the start
-abbrev pub TracksAll : Forms → State → State → State → State → Type 0
-unfolding words meaning_words
-TracksAll f s s' u u' = (p : Location) → Tracks (f p) s s' (u p) (u' p)
-
 module _ (f : Forms) (s s' u u' : State) (h : TracksAll f s s' u u') where
   mutual
     unfolding words meaning_words
