@@ -5,7 +5,7 @@ use Rattle.std.specs.Int.RustNames.{unsigned_abs}
 use Rattle.std.proofs.lemmas.Int.{ints}
 use Rattle.homeo_syntax.specs.Source as s
 use Rattle.homeo_meaning.specs.Key.{words as meanings}
-use Rattle.homeo_meaning.specs.Acceptance.{limit as largest, IsAccepted}
+use Rattle.homeo_meaning.specs.Acceptance.{weight_limit as largest, IsAccepted}
 use Rattle.homeo_meaning.specs.Bounds.{AllWithin, IsWithin}
 use Rattle.homeo_meaning.specs.CallForm.{ground_form}
 use Rattle.homeo_meaning.specs.Calls.{IsGroundCall}
@@ -32,7 +32,7 @@ use Rattle.homeo_plan.proofs.Straight.{walk_straight}
 use Rattle.homeo_plan.proofs.Sums.{sum_zero}
 use Rattle.homeo_plan.proofs.Tables.{row_at_walk}
 use Rattle.homeo_plan.proofs.Wider.{wider_forms}
-use Rattle.homeo_split.specs.CanExec.{limit, can_exec}
+use Rattle.homeo_split.specs.CanExec.{run_limit, can_exec}
 use Rattle.homeo_delta.specs.SmallParts.{HasSmallParts}
 use Rattle.homeo_delta.proofs.SmallShifts.{runs_law}
 use Rattle.homeo_build.specs.inner.Planning.{CanPlan}
@@ -78,11 +78,11 @@ module _
     computes : CanRun (IsSmall largest) (IsSmall largest) (ground_form w g) (fold_state k (whole b))
     computes = fold_numbers w g k (whole b) accepted called (no_temps b) fold_within
 
-    few : largest + k * most ≤ limit
+    few : largest + k * most ≤ run_limit
     unfolding k plans
     few = let n = (sites_few w accepted).few in omega (arith, n)
 
-    runs : can_exec limit (shift k g.site (ground_form w g)) (whole b) ≡ true
+    runs : can_exec run_limit (shift k g.site (ground_form w g)) (whole b) ≡ true
     unfolding k
     runs = runs_law k g.site most largest (ground_form w g) (whole b) site (omega arith) few (ground_whole w g) parts computes
 

@@ -21,7 +21,7 @@ use Rattle.homeo_plan.specs.Planned.{sites_of, planned_call, planned, transforme
 use Rattle.homeo_plan.specs.Shares.{names_delta, writes, writes_all, is_written, takes_part}
 use Rattle.homeo_plan.specs.Template.{PlannedCall, shifted, Clause}
 use Rattle.homeo_build.specs.Key.{words}
-use Rattle.homeo_build.specs.inner.Written.{delta_at, can_write, AreWritten}
+use Rattle.homeo_build.specs.Written.{delta_at, can_write, AreWritten}
 use Rattle.homeo_build.proofs.Grown.{map_map}
 
 -- ---- truth values

@@ -1,3 +1,4 @@
 pub mod Key
 pub mod Plan
+pub mod Written
 pub mod inner

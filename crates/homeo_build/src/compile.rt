@@ -10,7 +10,7 @@ ghost use Rattle.homeo_ground.specs.Grounding.{grounding};
 ghost use Rattle.homeo_plan.specs.Planned.{sites_of, planned_call, transformed};
 ghost use Rattle.homeo_plan.specs.Template.{shifted};
 ghost use Rattle.homeo_build.specs.inner.Planning.{CanCompile};
-ghost use Rattle.homeo_build.specs.inner.Written.{AreWritten};
+ghost use Rattle.homeo_build.specs.Written.{AreWritten};
 
 use crate::compiled::Compiled;
 use crate::sites::site_count;

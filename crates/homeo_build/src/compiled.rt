@@ -10,7 +10,7 @@ ghost use Rattle.homeo_ground.specs.Grounding.{grounding};
 ghost use Rattle.homeo_plan.specs.PlanView.{plain_clause};
 ghost use Rattle.homeo_plan.specs.Planned.{sites_of, planned, transformed};
 ghost use Rattle.homeo_plan.specs.Shares.{takes_part};
-ghost use Rattle.homeo_build.specs.inner.Written.{AreWritten};
+ghost use Rattle.homeo_build.specs.Written.{AreWritten};
 
 use homeo_context::Declarations;
 use homeo_ground::Grounding;
@@ -41,7 +41,7 @@ impl Model for Compiled {
     ghost use Rattle.homeo_meaning.specs.Declarations.{declarations};
     ghost use Rattle.homeo_ground.specs.Grounding.{grounding};
     ghost use Rattle.homeo_plan.specs.Planned.{transformed};
-    ghost use Rattle.homeo_build.specs.inner.Written.{AreWritten};
+    ghost use Rattle.homeo_build.specs.Written.{AreWritten};
 
     ghost Value = { Workload };
 

@@ -6,7 +6,7 @@ ghost use Rattle.homeo_syntax.specs.SourceView.{plain_workload};
 ghost use Rattle.homeo_meaning.specs.Ground.{plain_ground, grounds};
 ghost use Rattle.homeo_plan.specs.Planned.{transformed};
 ghost use Rattle.homeo_plan.specs.Shares.{names_delta, writes, writes_all};
-ghost use Rattle.homeo_build.specs.inner.Written.{delta_at, can_write, AreWritten};
+ghost use Rattle.homeo_build.specs.Written.{delta_at, can_write, AreWritten};
 
 use crate::sites::site_count;
 use homeo_meaning::padded::put;

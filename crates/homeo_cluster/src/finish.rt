@@ -8,7 +8,7 @@ ghost use Rattle.homeo_meaning.specs.Schema.{schema_of};
 ghost use Rattle.homeo_plan.specs.Planned.{sites_of};
 ghost use Rattle.homeo_history.specs.HistoryView.{plain_segment, plain_history};
 ghost use Rattle.homeo_core.specs.Joined.{AreJoined, gathered, history_of, segments_of};
-ghost use Rattle.homeo_core.specs.inner.SiteLists.{AreAt};
+ghost use Rattle.homeo_core.specs.SiteLists.{AreAt};
 ghost use Rattle.homeo_assembly.specs.Laws.{IsAssembled};
 ghost use Rattle.homeo_cluster.specs.inner.Cells.{cells_of, book_lists, book_state};
 ghost use Rattle.homeo_cluster.specs.Passes.{AreAll, logs_of};

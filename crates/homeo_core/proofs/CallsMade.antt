@@ -16,7 +16,7 @@ use Rattle.homeo_history.proofs.CallRuns.{site_is}
 use Rattle.homeo_site.specs.SiteState.{SiteState, KeepsCall, step_values, step_finding}
 use Rattle.homeo_site.specs.SiteView.{SiteValue}
 use Rattle.homeo_core.specs.Joined.{BookState, AreJoined}
-use Rattle.homeo_core.specs.inner.SiteLists.{states}
+use Rattle.homeo_core.specs.SiteLists.{states}
 use Rattle.homeo_core.proofs.GatheredSites.{states_at, states_count, states_set}
 
 -- nothing fails where the treaty is kept

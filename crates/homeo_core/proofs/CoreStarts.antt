@@ -25,7 +25,7 @@ use Rattle.homeo_site.specs.SiteView.{SiteValue}
 use Rattle.homeo_site.proofs.SitesHold.{begun_holds}
 use Rattle.homeo_core.specs.CoreView.{CoreHolds, begun_sites, core_at, core_history}
 use Rattle.homeo_core.specs.Joined.{BookState, IsInRound, rounds_of}
-use Rattle.homeo_core.specs.inner.SiteLists.{AreOf}
+use Rattle.homeo_core.specs.SiteLists.{AreOf}
 use Rattle.homeo_core.proofs.GatheredSites.{length_same}
 
 -- ---- the sites

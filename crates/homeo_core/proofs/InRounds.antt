@@ -15,7 +15,7 @@ use Rattle.homeo_meaning.proofs.Within.{all_within}
 use Rattle.homeo_plan.proofs.GroundNumbers.{values_small}
 use Rattle.homeo_site.specs.SiteState.{SiteState}
 use Rattle.homeo_core.specs.Joined.{BookState, AreJoined}
-use Rattle.homeo_core.specs.inner.SiteLists.{AreAt}
+use Rattle.homeo_core.specs.SiteLists.{AreAt}
 
 pub at_round : (w : s.Workload) (start : List ℤ) (b : BookState) (sites : List SiteState) → AreJoined w start b sites → AreAt (length b.closed) b.base sites
 unfolding words

@@ -8,7 +8,7 @@ use Rattle.std.proofs.lemmas.List.{map-append}
 use Rattle.homeo_syntax.specs.declared.workload.Workload.{Workload}
 use Rattle.homeo_site.specs.SiteView.{StartValue}
 use Rattle.homeo_history.proofs.Lists.{set_cases}
-use Rattle.homeo_core.specs.inner.Starts.{start_after, AreStarts, waits}
+use Rattle.homeo_core.specs.Starts.{start_after, AreStarts, waits}
 use Rattle.homeo_core.proofs.SitesOfClients.{same_length}
 
 pub no_start : (starts : List (Option StartValue)) (n : ℕ) (d : Option StartValue) → slice_get (map waits starts) n ≡ Some true → slice_index_or starts n d ≡ None → ⊥

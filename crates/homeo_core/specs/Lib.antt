@@ -1,8 +1,10 @@
+pub mod Books
 pub mod CoreView
 pub mod Events
 pub mod GatherView
-pub mod inner
 pub mod Joined
 pub mod Key
 pub mod Laws
+pub mod SiteLists
+pub mod Starts
 pub mod Tried

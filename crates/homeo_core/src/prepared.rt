@@ -14,7 +14,7 @@ ghost use Rattle.homeo_history.specs.Follows.{site_or_zero};
 ghost use Rattle.homeo_history.specs.HistoryView.{plain_segment, plain_closing, plain_round, plain_answer};
 ghost use Rattle.homeo_site.specs.SiteState.{renewed};
 ghost use Rattle.homeo_core.specs.Events.{closing_on};
-ghost use Rattle.homeo_core.specs.inner.Starts.{AreStarts, waits};
+ghost use Rattle.homeo_core.specs.Starts.{AreStarts, waits};
 
 use crate::clients::{site_count, site_of};
 use crate::gather::Gather;
@@ -55,7 +55,7 @@ impl Model for Prepared {
 
     ghost use Rattle.homeo_history.specs.Answers.{closing_answer};
     ghost use Rattle.homeo_history.specs.HistoryView.{plain_segment, plain_closing, plain_answer};
-    ghost use Rattle.homeo_core.specs.inner.Starts.{AreStarts, waits};
+    ghost use Rattle.homeo_core.specs.Starts.{AreStarts, waits};
 
     ghost view = { λ p. record {
       work = p.compiled.value;

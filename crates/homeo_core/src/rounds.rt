@@ -11,8 +11,8 @@ ghost use Rattle.homeo_site.specs.SiteState.{renewed};
 ghost use Rattle.homeo_core.specs.CoreView.{start_of};
 ghost use Rattle.homeo_core.specs.Events.{BreaksCall, closing_of, next_base, after_closing};
 ghost use Rattle.homeo_core.specs.Joined.{AreJoined, gathered, segments_of};
-ghost use Rattle.homeo_core.specs.inner.Books.{book_of};
-ghost use Rattle.homeo_core.specs.inner.SiteLists.{states, AreOf, AreAt};
+ghost use Rattle.homeo_core.specs.Books.{book_of};
+ghost use Rattle.homeo_core.specs.SiteLists.{states, AreOf, AreAt};
 
 use crate::gather::Gather;
 use crate::prepared::Prepared;

@@ -15,8 +15,8 @@ ghost use Rattle.homeo_history.specs.Legal.{IsCallAt, call_count, IsLegalFrom};
 ghost use Rattle.homeo_core.specs.CoreView.{begun_sites, core_at, core_history, start_of, next_call, GoesOnBy, IsMade, IsStep};
 ghost use Rattle.homeo_core.specs.Events.{OneMore};
 ghost use Rattle.homeo_core.specs.Joined.{AreJoined};
-ghost use Rattle.homeo_core.specs.inner.Books.{book_of};
-ghost use Rattle.homeo_core.specs.inner.SiteLists.{states, AreOf};
+ghost use Rattle.homeo_core.specs.Books.{book_of};
+ghost use Rattle.homeo_core.specs.SiteLists.{states, AreOf};
 
 use crate::clients::{call_count, client_count, site_count, site_of};
 use crate::local::{Tried, try_call};
@@ -53,8 +53,8 @@ impl Model for Core {
 
     ghost coded = { Prim.hlevel (codes, workload.the_row.coded) };
 
-    ghost use Rattle.homeo_core.specs.inner.Books.{book_of};
-    ghost use Rattle.homeo_core.specs.inner.SiteLists.{states, AreOf};
+    ghost use Rattle.homeo_core.specs.Books.{book_of};
+    ghost use Rattle.homeo_core.specs.SiteLists.{states, AreOf};
 
     ghost view = { λ c. record {
       work = c.compiled.value;

@@ -12,7 +12,7 @@ use Rattle.homeo_meaning.specs.Small.{is_small}
 use Rattle.homeo_plan.specs.Key.{words}
 use Rattle.homeo_plan.specs.Split.{sum_from, delta_reads, other_deltas, shift_read}
 use Rattle.homeo_split.specs.Key.{words as split_words}
-use Rattle.homeo_split.specs.CanExec.{limit, expr_fits, sum_fits}
+use Rattle.homeo_split.specs.CanExec.{run_limit, expr_fits, sum_fits}
 use Rattle.homeo_delta.specs.SmallParts.{HasSmallParts}
 use Rattle.homeo_delta.proofs.SmallSums.{abs_add, abs_part, sum_small}
 
@@ -27,11 +27,11 @@ abs_middle x y z = grind (arith, ints)
 pub both : {u v : Bool} → u ≡ true → v ≡ true → (u && v) ≡ true
 both e f = ap₂ ◌&&◌ e f
 
-module _ (k i a b : ℕ) (site : i < k) (within : b + k * a ≤ limit) where
-  pub fits : (v : ℤ) → unsigned_abs v ≤ b + k * a → is_small limit v ≡ true
+module _ (k i a b : ℕ) (site : i < k) (within : b + k * a ≤ run_limit) where
+  pub fits : (v : ℤ) → unsigned_abs v ≤ b + k * a → is_small run_limit v ≡ true
   unfolding meaning_words
   fits v h =
-      let small : unsigned_abs v ≤ limit = omega arith in
+      let small : unsigned_abs v ≤ run_limit = omega arith in
       grind (arith, nat_tests, small)
 
   parts_fit : a ≤ k * a
@@ -53,14 +53,14 @@ module _ (k i a b : ℕ) (site : i < k) (within : b + k * a ≤ limit) where
     -- ---- a read
     one_read :
         (j : ℕ) (p : ℤ) (es : Exprs) → unsigned_abs p ≤ b + k * a → unsigned_abs (s (DeltaAt x j)) ≤ b + k * a →
-        sum_fits limit (p +ℤ s (DeltaAt x j)) es s ≡ true → sum_fits limit p (MoreExpr (Read (Delta x j)) es) s ≡ true
+        sum_fits run_limit (p +ℤ s (DeltaAt x j)) es s ≡ true → sum_fits run_limit p (MoreExpr (Read (Delta x j)) es) s ≡ true
     unfolding words meaning_words split_words
     one_read j p es sum delta rest = both (fits p sum) (both (fits (s (DeltaAt x j)) delta) rest)
 
     -- the sum so far has the own delta, and those from site j on are still to be added
     reads_past_own :
         (n j : ℕ) (p : ℤ) → i < j → j + n ≤ k → unsigned_abs (p +ℤ sum_from j n (λ l. s (DeltaAt x l))) ≤ b →
-        sum_fits limit p (delta_reads x j n) s ≡ true
+        sum_fits run_limit p (delta_reads x j n) s ≡ true
     unfolding words meaning_words split_words
     reads_past_own zero j p past le total =
         let same : p +ℤ pos 0 ≡ p = omega (arith, ints) in
@@ -80,7 +80,7 @@ module _ (k i a b : ℕ) (site : i < k) (within : b + k * a ≤ limit) where
     -- it doesn't have the own delta yet
     reads_up_to_own :
         (n j q : ℕ) (p : ℤ) → j ≤ i → i < j + n → j + n ≤ k → unsigned_abs p ≤ q → q + n * a ≤ a + k * a →
-        unsigned_abs (p +ℤ sum_from j n (λ l. s (DeltaAt x l))) ≤ b → sum_fits limit p (delta_reads x j n) s ≡ true
+        unsigned_abs (p +ℤ sum_from j n (λ l. s (DeltaAt x l))) ≤ b → sum_fits run_limit p (delta_reads x j n) s ≡ true
     unfolding words meaning_words split_words
     reads_up_to_own zero j q p up lt le small room total = absurd (never up lt)
       where
@@ -101,8 +101,8 @@ module _ (k i a b : ℕ) (site : i < k) (within : b + k * a ≤ limit) where
 
         go :
             (v : Bool) → (i == j) ≡ v →
-            (suc j ≤ i → unsigned_abs (p +ℤ s (DeltaAt x j)) ≤ q + a → sum_fits limit (p +ℤ s (DeltaAt x j)) (delta_reads x (suc j) n) s ≡ true) →
-            sum_fits limit p (delta_reads x j (suc n)) s ≡ true
+            (suc j ≤ i → unsigned_abs (p +ℤ s (DeltaAt x j)) ≤ q + a → sum_fits run_limit (p +ℤ s (DeltaAt x j)) (delta_reads x (suc j) n) s ≡ true) →
+            sum_fits run_limit p (delta_reads x j (suc n)) s ≡ true
         go true e ih =
             let same : i ≡ j = grind (arith, nat_tests) in
             let rest_small : unsigned_abs (sum_from (suc j) n (λ l. s (DeltaAt x l))) ≤ n * a =
@@ -117,7 +117,7 @@ module _ (k i a b : ℕ) (site : i < k) (within : b + k * a ≤ limit) where
             one_read j p (delta_reads x (suc j) n) sum (omega (arith, parts_fit))
             (ih before (omega (arith, small, abs_add p (s (DeltaAt x j)))))
 
-    pub read_fits : expr_fits limit (shift_read k (Whole x)) s ≡ true
+    pub read_fits : expr_fits run_limit (shift_read k (Whole x)) s ≡ true
     unfolding words meaning_words split_words
     read_fits =
         let none : pos 0 +ℤ s (BaseAt x) ≡ s (BaseAt x) = omega (arith, ints) in
@@ -131,8 +131,8 @@ module _ (k i a b : ℕ) (site : i < k) (within : b + k * a ≤ limit) where
     -- ---- a write
     one_taken :
         (j q : ℕ) (p : ℤ) (es : Exprs) → j < k → i ≢ j → unsigned_abs p ≤ q → q ≤ b + k * a →
-        (unsigned_abs (p +ℤ neg_ℤ (s (DeltaAt x j))) ≤ q + a → sum_fits limit (p +ℤ neg_ℤ (s (DeltaAt x j))) es s ≡ true) →
-        sum_fits limit p (MoreExpr (Neg (Read (Delta x j))) es) s ≡ true
+        (unsigned_abs (p +ℤ neg_ℤ (s (DeltaAt x j))) ≤ q + a → sum_fits run_limit (p +ℤ neg_ℤ (s (DeltaAt x j))) es s ≡ true) →
+        sum_fits run_limit p (MoreExpr (Neg (Read (Delta x j))) es) s ≡ true
     unfolding words meaning_words split_words
     one_taken j q p es lt apart small room rest =
         let delta : unsigned_abs (s (DeltaAt x j)) ≤ a = other_small j lt apart in
@@ -144,20 +144,20 @@ module _ (k i a b : ℕ) (site : i < k) (within : b + k * a ≤ limit) where
     -- the place of the own delta is past, and the deltas from site j on are still to be taken off
     taken_past_own :
         (n j q : ℕ) (p : ℤ) → i < j → j + n ≤ k → unsigned_abs p ≤ q → q + n * a ≤ b + k * a →
-        sum_fits limit p (other_deltas i x j n) s ≡ true
+        sum_fits run_limit p (other_deltas i x j n) s ≡ true
     unfolding words meaning_words split_words
     taken_past_own zero j q p past le small room = fits p (omega (arith, small, room))
     taken_past_own (suc n) j q p past le small room =
         let other : (i == j) ≡ false = grind (arith, nat_tests, past) in
         let rest : Exprs = other_deltas i x (suc j) n in
-        subst (λ (v : Bool). sum_fits limit p (cond v rest (MoreExpr (Neg (Read (Delta x j))) rest)) s ≡ true) (sym other)
+        subst (λ (v : Bool). sum_fits run_limit p (cond v rest (MoreExpr (Neg (Read (Delta x j))) rest)) s ≡ true) (sym other)
         (one_taken j q p rest (omega (arith, le)) (omega (arith, past)) small (omega (arith, room))
         (λ next. taken_past_own n (suc j) (q + a) (p +ℤ neg_ℤ (s (DeltaAt x j))) (omega (arith, past)) (omega (arith, le)) next (omega (arith, room))))
 
     -- it isn't reached yet
     taken_up_to_own :
         (n j q : ℕ) (p : ℤ) → j ≤ i → i < j + n → j + n ≤ k → unsigned_abs p ≤ q → q + n * a ≤ (b + a) + k * a →
-        sum_fits limit p (other_deltas i x j n) s ≡ true
+        sum_fits run_limit p (other_deltas i x j n) s ≡ true
     unfolding words meaning_words split_words
     taken_up_to_own zero j q p up lt le small room = absurd (never up lt)
       where
@@ -173,8 +173,8 @@ module _ (k i a b : ℕ) (site : i < k) (within : b + k * a ≤ limit) where
         go :
             (v : Bool) → (i == j) ≡ v →
             (suc j ≤ i → unsigned_abs (p +ℤ neg_ℤ (s (DeltaAt x j))) ≤ q + a →
-            sum_fits limit (p +ℤ neg_ℤ (s (DeltaAt x j))) (other_deltas i x (suc j) n) s ≡ true) →
-            sum_fits limit p (cond v (other_deltas i x (suc j) n) (MoreExpr (Neg (Read (Delta x j))) (other_deltas i x (suc j) n))) s ≡ true
+            sum_fits run_limit (p +ℤ neg_ℤ (s (DeltaAt x j))) (other_deltas i x (suc j) n) s ≡ true) →
+            sum_fits run_limit p (cond v (other_deltas i x (suc j) n) (MoreExpr (Neg (Read (Delta x j))) (other_deltas i x (suc j) n))) s ≡ true
         go true e ih =
             let same : i ≡ j = grind (arith, nat_tests) in
             taken_past_own n (suc j) q p (omega arith) (omega (arith, le)) small (omega (arith, room))
@@ -183,8 +183,8 @@ module _ (k i a b : ℕ) (site : i < k) (within : b + k * a ≤ limit) where
             one_taken j q p (other_deltas i x (suc j) n) (omega (arith, le)) (omega arith) small (omega (arith, room)) (ih before)
 
     pub write_fits :
-        (e : Expr) → expr_fits limit e s ≡ true → unsigned_abs (value e s) ≤ b →
-        expr_fits limit (Sum (MoreExpr e (MoreExpr (Neg (Read (Base x))) (other_deltas i x 0 k)))) s ≡ true
+        (e : Expr) → expr_fits run_limit e s ≡ true → unsigned_abs (value e s) ≤ b →
+        expr_fits run_limit (Sum (MoreExpr e (MoreExpr (Neg (Read (Base x))) (other_deltas i x 0 k)))) s ≡ true
     unfolding words meaning_words split_words
     write_fits e fit small =
         let base : unsigned_abs (s (BaseAt x)) ≤ a = base_small in

@@ -8,7 +8,7 @@ use Rattle.homeo_meaning.specs.Key.{words as meaning_words}
 use Rattle.homeo_meaning.specs.LowMeaning.{BaseAt, DeltaAt, State}
 use Rattle.homeo_plan.specs.Key.{words}
 use Rattle.homeo_plan.specs.Split.{sum_from, fold_state}
-use Rattle.homeo_split.specs.CanExec.{limit}
+use Rattle.homeo_split.specs.CanExec.{run_limit}
 use Rattle.homeo_split.specs.States.{state_of}
 use Rattle.homeo_split.specs.declared.split.Split.{Split}
 use Rattle.homeo_delta.specs.Folding.{folded_of, SumsFit}
@@ -87,7 +87,7 @@ module _ (k i a b : ℕ) (site : i < k) (s : State) (small : HasSmallParts k i a
       go false e = below_own n (grind (arith, nat_tests))
 
 pub sums_law :
-    (i a b : ℕ) (s : Split) → i < length s.deltas.items → b + length s.deltas.items * a ≤ limit →
+    (i a b : ℕ) (s : Split) → i < length s.deltas.items → b + length s.deltas.items * a ≤ run_limit →
     HasSmallParts (length s.deltas.items) i a b (state_of s) → SumsFit s
 sums_law i a b s site within small n x le lt =
     let sum = sum_so_far (length s.deltas.items) i a b site (state_of s) small x n le in

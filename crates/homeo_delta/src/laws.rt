@@ -8,7 +8,7 @@ ghost use Rattle.homeo_meaning.specs.NamesWithin.{NamesWithin};
 ghost use Rattle.homeo_meaning.specs.Small.{IsSmall};
 ghost use Rattle.homeo_meaning.specs.Whole.{IsWhole};
 ghost use Rattle.homeo_plan.specs.Split.{fold_state, shift};
-ghost use Rattle.homeo_split.specs.CanExec.{limit, can_exec};
+ghost use Rattle.homeo_split.specs.CanExec.{run_limit, can_exec};
 ghost use Rattle.homeo_split.specs.Shape.{Shape, has_places};
 ghost use Rattle.homeo_split.specs.States.{state_of};
 ghost use Rattle.homeo_split.specs.declared.split.Split.{Split};
@@ -20,9 +20,9 @@ ghost use Rattle.homeo_delta.specs.SmallParts.{HasSmallParts};
 /// is at most a, and b + sites * a is at most the largest value of a run. Of the site's own deltas nothing is asked. What
 /// the command leaves has parts as small again.
 pub fn transformed_commands_can_run()
-    ensures runs { (sites site a b : ℕ) (c : Command) (s : State) → site < sites → 1 ≤ b → b + sites * a ≤ limit →
+    ensures runs { (sites site a b : ℕ) (c : Command) (s : State) → site < sites → 1 ≤ b → b + sites * a ≤ run_limit →
         IsWhole c → HasSmallParts sites site a b s → CanRun (IsSmall b) (IsSmall b) c (fold_state sites s) →
-        can_exec limit (shift sites site c) s ≡ true }
+        can_exec run_limit (shift sites site c) s ≡ true }
     ensures leaves { (sites site a b : ℕ) (c : Command) (s : State) → site < sites → 1 ≤ b →
         IsWhole c → HasSmallParts sites site a b s → CanRun (IsSmall b) (IsSmall b) c (fold_state sites s) →
         HasSmallParts sites site a b (exec (shift sites site c) s).state }
@@ -30,7 +30,7 @@ pub fn transformed_commands_can_run()
 
 /// A split database whose parts are so small can be folded.
 pub fn small_parts_can_be_folded()
-    ensures { (site a b : ℕ) (s : Split) → site < length s.deltas.items → b + length s.deltas.items * a ≤ limit →
+    ensures { (site a b : ℕ) (s : Split) → site < length s.deltas.items → b + length s.deltas.items * a ≤ run_limit →
         HasSmallParts (length s.deltas.items) site a b (state_of s) → SumsFit s }
 {}
 

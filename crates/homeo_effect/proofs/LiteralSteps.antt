@@ -10,7 +10,7 @@ use Rattle.homeo_meaning.specs.LowMeaning.{State}
 use Rattle.homeo_meaning.specs.Small.{is_small}
 use Rattle.homeo_meaning.proofs.Steps.{drop_next, drop_none}
 use Rattle.homeo_split.specs.Key.{words as split_words}
-use Rattle.homeo_split.specs.CanExec.{limit, sum_fits, product_fits}
+use Rattle.homeo_split.specs.CanExec.{run_limit, sum_fits, product_fits}
 use Rattle.homeo_effect.specs.Key.{words}
 use Rattle.homeo_effect.specs.Localized.{literal_sum, literal_product}
 use Rattle.homeo_effect.specs.inner.Alone.{SumFits, ProductFits}
@@ -29,12 +29,12 @@ first_product_small b (l.MoreExpr e es) s n h = (and_parts (is_small b n) _ h).0
 
 -- n and k, and then the rest
 pub record SumStep (n k : ℤ) (es : List LExpr) (i : ℕ) : Type 0 where
-  pub small : is_small limit (n +ℤ k) ≡ true
+  pub small : is_small run_limit (n +ℤ k) ≡ true
   pub fits : SumFits (n +ℤ k) (low_exprs (map plain_lexpr (drop (i + 1) es)))
   pub same : literal_sum (n +ℤ k) (low_exprs (map plain_lexpr (drop (i + 1) es))) ≡ literal_sum n (low_exprs (map plain_lexpr (drop i es)))
 
 pub record ProductStep (n k : ℤ) (es : List LExpr) (i : ℕ) : Type 0 where
-  pub small : is_small limit (n *ℤ k) ≡ true
+  pub small : is_small run_limit (n *ℤ k) ≡ true
   pub fits : ProductFits (n *ℤ k) (low_exprs (map plain_lexpr (drop (i + 1) es)))
   pub same : literal_product (n *ℤ k) (low_exprs (map plain_lexpr (drop (i + 1) es))) ≡ literal_product n (low_exprs (map plain_lexpr (drop i es)))
 
@@ -48,9 +48,9 @@ module _ (es : List LExpr) (i : ℕ) (e : LExpr) (h : i < length es) (p : e ≡ 
   sum_step n k q f =
       let rest = low_exprs (map plain_lexpr (drop (i + 1) es)) in
       let is = next ∙ ap (λ d. l.MoreExpr d rest) (literal_is (plain_lexpr e) k q) in
-      let g : sum_fits limit n (l.MoreExpr (l.Literal k) rest) f.0 ≡ true = subst (λ ts. sum_fits limit n ts f.0 ≡ true) is f.1 in
-      let more = (and_parts (is_small limit k) _ (and_parts (is_small limit n) _ g).1).1 in
-      record { small = first_small limit rest f.0 (n +ℤ k) more; fits = (f.0, more); same = ap (literal_sum n) (sym is) }
+      let g : sum_fits run_limit n (l.MoreExpr (l.Literal k) rest) f.0 ≡ true = subst (λ ts. sum_fits run_limit n ts f.0 ≡ true) is f.1 in
+      let more = (and_parts (is_small run_limit k) _ (and_parts (is_small run_limit n) _ g).1).1 in
+      record { small = first_small run_limit rest f.0 (n +ℤ k) more; fits = (f.0, more); same = ap (literal_sum n) (sym is) }
 
   pub sum_ends : (n : ℤ) → None ≡ literal_of (plain_lexpr e) → None ≡ literal_sum n (low_exprs (map plain_lexpr (drop i es)))
   sum_ends n q = sym (ap (literal_sum n) next ∙ no_sum (plain_lexpr e) _ n q)
@@ -60,9 +60,9 @@ module _ (es : List LExpr) (i : ℕ) (e : LExpr) (h : i < length es) (p : e ≡ 
   product_step n k q f =
       let rest = low_exprs (map plain_lexpr (drop (i + 1) es)) in
       let is = next ∙ ap (λ d. l.MoreExpr d rest) (literal_is (plain_lexpr e) k q) in
-      let g : product_fits limit n (l.MoreExpr (l.Literal k) rest) f.0 ≡ true = subst (λ ts. product_fits limit n ts f.0 ≡ true) is f.1 in
-      let more = (and_parts (is_small limit k) _ (and_parts (is_small limit n) _ g).1).1 in
-      record { small = first_product_small limit rest f.0 (n *ℤ k) more; fits = (f.0, more); same = ap (literal_product n) (sym is) }
+      let g : product_fits run_limit n (l.MoreExpr (l.Literal k) rest) f.0 ≡ true = subst (λ ts. product_fits run_limit n ts f.0 ≡ true) is f.1 in
+      let more = (and_parts (is_small run_limit k) _ (and_parts (is_small run_limit n) _ g).1).1 in
+      record { small = first_product_small run_limit rest f.0 (n *ℤ k) more; fits = (f.0, more); same = ap (literal_product n) (sym is) }
 
   pub product_ends : (n : ℤ) → None ≡ literal_of (plain_lexpr e) → None ≡ literal_product n (low_exprs (map plain_lexpr (drop i es)))
   product_ends n q = sym (ap (literal_product n) next ∙ no_product (plain_lexpr e) _ n q)

@@ -14,7 +14,7 @@ use Rattle.homeo_plan.specs.Key.{words as plan_words}
 use Rattle.homeo_plan.specs.Joined.{Deltas, alone}
 use Rattle.homeo_plan.specs.Needs.{IsStraightOne, IsStraight}
 use Rattle.homeo_split.specs.Key.{words as split_words}
-use Rattle.homeo_split.specs.CanExec.{limit, can_exec, can_exec_all}
+use Rattle.homeo_split.specs.CanExec.{run_limit, can_exec, can_exec_all}
 use Rattle.homeo_effect.specs.Key.{words}
 use Rattle.homeo_effect.specs.Localized.{local_command, localized}
 use Rattle.homeo_effect.specs.Touched.{with_delta, written, WritesOwn}
@@ -106,12 +106,12 @@ module _ (b : ℕ → ℤ) (i : ℕ) where
 
   pub each_fits :
       (cs : List LCommand) (s : State) → IsStraight (low_commands (map plain_lcommand cs)) → WritesOwn i (low_commands (map plain_lcommand cs)) →
-      IsAlone b i s → can_exec_all limit (low_commands (map plain_lcommand cs)) s ≡ true → All (λ c. CommandFits b i (plain_lcommand c)) cs
+      IsAlone b i s → can_exec_all run_limit (low_commands (map plain_lcommand cs)) s ≡ true → All (λ c. CommandFits b i (plain_lcommand c)) cs
   unfolding words plan_words split_words tree_words
   each_fits [] s st w a h = All-nil (λ c. CommandFits b i (plain_lcommand c))
   each_fits (c ∷ cs) s st w a h =
       let own = one_own i (plain_lcommand c) (low_commands (map plain_lcommand cs)) st.0 w in
-      let parts = and_parts (can_exec limit (plain_lcommand c) s) _ h in
+      let parts = and_parts (can_exec run_limit (plain_lcommand c) s) _ h in
       All-cons (λ d. CommandFits b i (plain_lcommand d)) c cs (s, a, parts.0)
       (each_fits cs (exec (plain_lcommand c) s).state st.1 own.1 (stays_alone (plain_lcommand c) s st.0 own.0 a) parts.1)
 

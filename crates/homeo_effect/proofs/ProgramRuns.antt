@@ -11,7 +11,7 @@ use Rattle.homeo_plan.specs.Key.{words as plan_words}
 use Rattle.homeo_plan.specs.declared.forms.Delta.{Delta}
 use Rattle.homeo_plan.specs.Each.{Each}
 use Rattle.homeo_split.specs.Key.{words as split_words}
-use Rattle.homeo_split.specs.CanExec.{limit, can_exec, can_exec_all}
+use Rattle.homeo_split.specs.CanExec.{run_limit, can_exec, can_exec_all}
 use Rattle.homeo_effect.specs.Key.{words}
 use Rattle.homeo_effect.specs.OwnState.{own_state}
 use Rattle.homeo_effect.specs.Program.{plain_step, plain_steps, set_after, set_after_all, prints_of, prints_of_all}
@@ -70,13 +70,13 @@ module _ (steps : List Step) (k : ℕ) (step : Step) (lt : k < length steps) (is
       (subst (λ ss. Within deltas (written (plain_steps i n ss))) front o) (subst (λ ss. prints_of_all ss ≤ spare) front p)
 
   parts :
-      (i n : ℕ) (s : State) → can_exec_all limit (plain_steps i n (drop k steps)) s ≡ true →
-      (can_exec limit (plain_step i n step) s ≡ true) ×
-      (can_exec_all limit (plain_steps i (set_after n step) (drop (k + 1) steps)) (exec (plain_step i n step) s).state ≡ true)
+      (i n : ℕ) (s : State) → can_exec_all run_limit (plain_steps i n (drop k steps)) s ≡ true →
+      (can_exec run_limit (plain_step i n step) s ≡ true) ×
+      (can_exec_all run_limit (plain_steps i (set_after n step) (drop (k + 1) steps)) (exec (plain_step i n step) s).state ≡ true)
   unfolding words split_words
-  parts i n s h = and_parts (can_exec limit (plain_step i n step) s) _ (subst (λ ss. can_exec_all limit (plain_steps i n ss) s ≡ true) front h)
+  parts i n s h = and_parts (can_exec run_limit (plain_step i n step) s) _ (subst (λ ss. can_exec_all run_limit (plain_steps i n ss) s ≡ true) front h)
 
-  pub step_fits : (i n : ℕ) (s : State) → can_exec_all limit (plain_steps i n (drop k steps)) s ≡ true → can_exec limit (plain_step i n step) s ≡ true
+  pub step_fits : (i n : ℕ) (s : State) → can_exec_all run_limit (plain_steps i n (drop k steps)) s ≡ true → can_exec run_limit (plain_step i n step) s ≡ true
   step_fits i n s h = (parts i n s h).0
 
   -- ---- what is left
@@ -105,11 +105,11 @@ module _ (steps : List Step) (k : ℕ) (step : Step) (lt : k < length steps) (is
 
   pub fits_left :
       (i n m : ℕ) → m ≡ set_after n step → (s s' : State) (ps ps' : List ℤ) → run_of s' ps' ≡ after_prints ps (exec (plain_step i n step) s) →
-      can_exec_all limit (plain_steps i n (drop k steps)) s ≡ true → can_exec_all limit (plain_steps i m (drop (k + 1) steps)) s' ≡ true
+      can_exec_all run_limit (plain_steps i n (drop k steps)) s ≡ true → can_exec_all run_limit (plain_steps i m (drop (k + 1) steps)) s' ≡ true
   unfolding meaning_words
   fits_left i n m e s s' ps ps' ran h =
-      ap (λ m. can_exec_all limit (plain_steps i m (drop (k + 1) steps)) s') e
-      ∙ ap (λ (r : Run). can_exec_all limit (plain_steps i (set_after n step) (drop (k + 1) steps)) r.state) ran ∙ (parts i n s h).1
+      ap (λ m. can_exec_all run_limit (plain_steps i m (drop (k + 1) steps)) s') e
+      ∙ ap (λ (r : Run). can_exec_all run_limit (plain_steps i (set_after n step) (drop (k + 1) steps)) r.state) ran ∙ (parts i n s h).1
 
   pub runs_left :
       (i n m : ℕ) → m ≡ set_after n step → (s s' : State) (ps ps' : List ℤ) → run_of s' ps' ≡ after_prints ps (exec (plain_step i n step) s) →

@@ -5,7 +5,7 @@ ghost use Rattle.homeo_meaning.specs.LowMeaning.{exec_all};
 ghost use Rattle.homeo_meaning.specs.Serial.{values_of};
 ghost use Rattle.homeo_plan.specs.Holding.{SameOwn};
 ghost use Rattle.homeo_plan.specs.Joined.{alone};
-ghost use Rattle.homeo_split.specs.CanExec.{limit, can_exec_all};
+ghost use Rattle.homeo_split.specs.CanExec.{run_limit, can_exec_all};
 ghost use Rattle.homeo_effect.specs.Counts.{assignment_count, print_count};
 ghost use Rattle.homeo_effect.specs.EffectsView.{plain_all};
 ghost use Rattle.homeo_effect.specs.OwnCommands.{are_own};
@@ -41,8 +41,8 @@ impl Program {
             (exec_all (plain_program p) (own_state site deltas temporaries))
             (exec_all (plain_all commands.now) (alone b site (values_of deltas)))) }
         ensures can_run { IfOk result (λ p. (b : ℕ → ℤ) (deltas temporaries : List ℤ) →
-            can_exec_all limit (plain_all commands.now) (alone b site (values_of deltas)) ≡ true →
-            can_exec_all limit (plain_program p) (own_state site deltas temporaries) ≡ true) }
+            can_exec_all run_limit (plain_all commands.now) (alone b site (values_of deltas)) ≡ true →
+            can_exec_all run_limit (plain_program p) (own_state site deltas temporaries) ≡ true) }
     {
         let mut numbering = Numbering::new(alloc);
         for command in commands {

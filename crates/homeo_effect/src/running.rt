@@ -4,7 +4,7 @@ ghost use Rattle.std.specs.Prelude.{◌≡◌, ℕ, ◌<◌, ◌≤◌, ◌-◌,
 ghost use Rattle.homeo_meaning.specs.LowMeaning.{DeltaAt, after_prints, exec, exec_all};
 ghost use Rattle.homeo_meaning.specs.Serial.{values_of};
 ghost use Rattle.homeo_plan.specs.Each.{Each};
-ghost use Rattle.homeo_split.specs.CanExec.{limit, can_exec, can_exec_all};
+ghost use Rattle.homeo_split.specs.CanExec.{run_limit, can_exec, can_exec_all};
 ghost use Rattle.homeo_effect.specs.OwnState.{own_state};
 ghost use Rattle.homeo_effect.specs.Program.{plain_program, plain_step, plain_steps, set_after, set_after_all, prints_of, prints_of_all};
 ghost use Rattle.homeo_effect.specs.Touched.{written};
@@ -24,7 +24,7 @@ fn run_step(
     prints: &mut Prints,
 ) -> usize
     requires place { HasPlace set (length deltas.old) (length temporaries.old) prints.old.spare step.now }
-    requires small { can_exec limit (plain_step site set step.now) (own_state site deltas.old temporaries.old) ≡ true }
+    requires small { can_exec run_limit (plain_step site set step.now) (own_state site deltas.old temporaries.old) ≡ true }
     ensures set { result ≡ set_after set step.now }
     ensures deltas { length deltas.new ≡ length deltas.old }
     ensures temporaries { length temporaries.new ≡ length temporaries.old }
@@ -62,7 +62,7 @@ fn run_steps(
     requires temporaries { set_after_all 0 steps.now ≤ length temporaries.old }
     requires objects { Each (λ d. d.object < length deltas.old) (written (plain_steps site 0 steps.now)) }
     requires spare { prints_of_all steps.now ≤ prints.old.spare }
-    requires small { can_exec_all limit (plain_steps site 0 steps.now) (own_state site deltas.old temporaries.old) ≡ true }
+    requires small { can_exec_all run_limit (plain_steps site 0 steps.now) (own_state site deltas.old temporaries.old) ≡ true }
     ensures deltas { length deltas.new ≡ length deltas.old }
     ensures temporaries { length temporaries.new ≡ length temporaries.old }
     ensures spare { prints.new.spare ≡ prints.old.spare - prints_of_all steps.now }
@@ -85,7 +85,7 @@ impl Program {
         requires temporaries { set_after_all 0 self.now.steps.items ≤ length temporaries.old }
         requires objects { Each (λ d. d.object < length deltas.old) (written (plain_program self.now)) }
         requires spare { prints_of_all self.now.steps.items ≤ prints.old.spare }
-        requires small { can_exec_all limit (plain_program self.now) (own_state self.now.site deltas.old temporaries.old) ≡ true }
+        requires small { can_exec_all run_limit (plain_program self.now) (own_state self.now.site deltas.old temporaries.old) ≡ true }
         ensures prints { prints.new.items ≡ prints.old.items ++
             (exec_all (plain_program self.now) (own_state self.now.site deltas.old temporaries.old)).prints }
         ensures deltas { (x : ℕ) → values_of deltas.new x ≡

@@ -6,7 +6,7 @@ ghost use Rattle.homeo_meaning.specs.Serial.{values_of};
 ghost use Rattle.homeo_plan.specs.Joined.{Deltas, alone};
 ghost use Rattle.homeo_plan.specs.Needs.{IsStraight};
 ghost use Rattle.homeo_plan.specs.PlanView.{plain_residual};
-ghost use Rattle.homeo_split.specs.CanExec.{limit, can_exec_all};
+ghost use Rattle.homeo_split.specs.CanExec.{run_limit, can_exec_all};
 ghost use Rattle.homeo_effect.specs.EffectsView.{plain_all, plain_commands};
 ghost use Rattle.homeo_effect.specs.Localized.{localized};
 ghost use Rattle.homeo_effect.specs.OwnCommands.{are_own};
@@ -48,7 +48,7 @@ pub fn commands_at_site(
 ) -> Result<List<LCommand>, Memory>
     requires straight { IsStraight (plain_residual residual.now) }
     requires own { WritesOwn residual.now.site (plain_residual residual.now) }
-    requires small { can_exec_all limit (plain_residual residual.now) (whole (values_of base.now.items)) ≡ true }
+    requires small { can_exec_all run_limit (plain_residual residual.now) (whole (values_of base.now.items)) ≡ true }
     ensures commands { IfOk result (λ cs. plain_all cs.items ≡
         localized (values_of base.now.items) residual.now.site (plain_residual residual.now)) }
     ensures count { IfOk result (λ cs. length cs.items ≡ length residual.now.commands.items) }
@@ -56,8 +56,8 @@ pub fn commands_at_site(
         exec_all (plain_all cs.items) (alone (values_of base.now.items) residual.now.site x) ≡
         exec_all (plain_residual residual.now) (alone (values_of base.now.items) residual.now.site x)) }
     ensures can_run { IfOk result (λ cs. (x : Deltas) →
-        can_exec_all limit (plain_residual residual.now) (alone (values_of base.now.items) residual.now.site x) ≡ true →
-        can_exec_all limit (plain_all cs.items) (alone (values_of base.now.items) residual.now.site x) ≡ true) }
+        can_exec_all run_limit (plain_residual residual.now) (alone (values_of base.now.items) residual.now.site x) ≡ true →
+        can_exec_all run_limit (plain_all cs.items) (alone (values_of base.now.items) residual.now.site x) ≡ true) }
     ensures own { IfOk result (λ cs. are_own residual.now.site (plain_all cs.items) ≡ true) }
     ensures straight { IfOk result (λ cs. IsStraight (plain_all cs.items)) }
     ensures written { IfOk result (λ cs. written (plain_all cs.items) ≡ written (plain_residual residual.now)) }
@@ -85,7 +85,7 @@ pub fn effects(
     requires site { residual.now.site ≡ index.now.site }
     requires straight { IsStraight (plain_residual residual.now) }
     requires own { WritesOwn residual.now.site (plain_residual residual.now) }
-    requires small { can_exec_all limit (plain_residual residual.now) (whole (values_of base.now.items)) ≡ true }
+    requires small { can_exec_all run_limit (plain_residual residual.now) (whole (values_of base.now.items)) ≡ true }
     ensures commands { IfOk result (λ e. plain_commands e ≡
         localized (values_of base.now.items) residual.now.site (plain_residual residual.now)) }
     ensures count { IfOk result (λ e. length e.commands.items ≡ length residual.now.commands.items) }
@@ -97,8 +97,8 @@ pub fn effects(
         exec_all (plain_commands e) (alone (values_of base.now.items) residual.now.site x) ≡
         exec_all (plain_residual residual.now) (alone (values_of base.now.items) residual.now.site x)) }
     ensures can_run { IfOk result (λ e. (x : Deltas) →
-        can_exec_all limit (plain_residual residual.now) (alone (values_of base.now.items) residual.now.site x) ≡ true →
-        can_exec_all limit (plain_commands e) (alone (values_of base.now.items) residual.now.site x) ≡ true) }
+        can_exec_all run_limit (plain_residual residual.now) (alone (values_of base.now.items) residual.now.site x) ≡ true →
+        can_exec_all run_limit (plain_commands e) (alone (values_of base.now.items) residual.now.site x) ≡ true) }
     ensures own { IfOk result (λ e. are_own residual.now.site (plain_commands e) ≡ true) }
     ensures straight { IfOk result (λ e. IsStraight (plain_commands e)) }
     ensures written { IfOk result (λ e. written (plain_commands e) ≡ written (plain_residual residual.now)) }

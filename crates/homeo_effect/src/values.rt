@@ -3,7 +3,7 @@
 ghost use Rattle.std.specs.Prelude.{◌≡◌, true};
 ghost use Rattle.homeo_syntax.specs.LowView.{plain_lexpr};
 ghost use Rattle.homeo_meaning.specs.LowMeaning.{value};
-ghost use Rattle.homeo_split.specs.CanExec.{limit, expr_fits};
+ghost use Rattle.homeo_split.specs.CanExec.{run_limit, expr_fits};
 ghost use Rattle.homeo_effect.specs.OwnState.{own_state};
 
 use homeo_meaning::padded::item_or;
@@ -49,7 +49,7 @@ impl Reads for Own<'_> {
 
 /// The value of an expression on a site's deltas and temporaries.
 pub(crate) fn value_at(e: &LExpr, site: u32, deltas: &[i64], temporaries: &[i64]) -> i64
-    requires { expr_fits limit (plain_lexpr e.now) (own_state site deltas.now temporaries.now) ≡ true }
+    requires { expr_fits run_limit (plain_lexpr e.now) (own_state site deltas.now temporaries.now) ≡ true }
     ensures { result ≡ value (plain_lexpr e.now) (own_state site deltas.now temporaries.now) }
 {
     value(

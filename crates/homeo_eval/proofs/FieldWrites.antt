@@ -9,7 +9,7 @@ use Rattle.homeo_meaning.specs.Bounds.{all_bounds}
 use Rattle.homeo_meaning.specs.Context.{Spot, Slot, Context, spot, cell, field_cell, object, slots, fields, slot_at}
 use Rattle.homeo_meaning.specs.Meaning.{State, write, write_field, write_slot}
 use Rattle.homeo_eval.specs.inner.CanRun.{on_slots, on_slot}
-use Rattle.homeo_lform.specs.inner.RowsFit.{Admits}
+use Rattle.homeo_lform.specs.RowsFit.{Admits}
 use Rattle.homeo_context.specs.Slots.{plain_spot, plain_slot, slots_of}
 use Rattle.homeo_eval.specs.inner.States.{IsZeroPast}
 use Rattle.homeo_lform.proofs.ObjectBounds.{ForSome, each_first, SlotFits, all_at, slots_fit, object_admits}

@@ -8,7 +8,7 @@ use Rattle.homeo_meaning.specs.Key.{words}
 use Rattle.homeo_meaning.specs.Bounds.{all_bounds}
 use Rattle.homeo_meaning.specs.Context.{Slot, bind}
 use Rattle.homeo_meaning.specs.Declarations.{Declarations}
-use Rattle.homeo_lform.specs.inner.RowsFit.{RowsFit}
+use Rattle.homeo_lform.specs.RowsFit.{RowsFit}
 use Rattle.homeo_context.specs.Slots.{plain_slot}
 use Rattle.homeo_context.specs.Contexts.{call_context, rows_of, plain_context}
 use Rattle.homeo_lform.proofs.ObjectBounds.{bounds_count, no_row_fits}

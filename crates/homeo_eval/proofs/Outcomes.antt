@@ -20,7 +20,7 @@ use Rattle.homeo_meaning.specs.Small.{IsSmall}
 use Rattle.homeo_meaning.specs.Computed.{CanRunAll}
 use Rattle.homeo_eval.specs.inner.BodyRuns.{run_in, body_run}
 use Rattle.homeo_eval.specs.inner.CanRun.{can_run_all}
-use Rattle.homeo_meaning.specs.Acceptance.{limit, IsLightBody}
+use Rattle.homeo_meaning.specs.Acceptance.{weight_limit, IsLightBody}
 use Rattle.homeo_meaning.specs.Calls.{IsGroundCall}
 use Rattle.homeo_meaning.specs.Declarations.{Declarations, declarations, place_from, place_of}
 use Rattle.homeo_eval.specs.inner.States.{run_of}
@@ -63,24 +63,24 @@ context_is w params args given g = λ i. with_arguments (schema_of w) (sym g i)
 
 -- what is known of a body whose L form is light
 pub record BodyRuns (x : Schema) (params : List ℕ) (args : List ℤ) (body : s.Commands) (db : List ℤ) : Type 0 where
-  pub small : CanRunAll (IsSmall limit) (IsSmall limit) (context x params args) body (start db)
-  pub can : can_run_all limit (context x params args) body (start db) ≡ true
+  pub small : CanRunAll (IsSmall weight_limit) (IsSmall weight_limit) (context x params args) body (start db)
+  pub can : can_run_all weight_limit (context x params args) body (start db) ≡ true
   pub within : IsWithin x (database_like db (run_in (context x params args) body db).state.database)
 
-pub body_runs : (x : Schema) (params : List ℕ) (args : List ℤ) (body : s.Commands) (db : List ℤ) → IsWithin x db → is_light limit (l_form x params args body) (first_weights x) ≡ true → BodyRuns x params args body db
+pub body_runs : (x : Schema) (params : List ℕ) (args : List ℤ) (body : s.Commands) (db : List ℤ) → IsWithin x db → is_light weight_limit (l_form x params args body) (first_weights x) ≡ true → BodyRuns x params args body db
 unfolding words
 body_runs x params args body db within light =
     let all : AllWithin x (values_of db) = all_within x db within in
-    let small = (light_law limit x params args body (values_of db) all light).program in
+    let small = (light_law weight_limit x params args body (values_of db) all light).program in
     record {
       small = small;
-      can = runs_fit (IsSmall limit) limit (context x params args) body (start db) small;
+      can = runs_fit (IsSmall weight_limit) weight_limit (context x params args) body (start db) small;
       within = list_in x db (run_in (context x params args) body db).state.database within (bounds_law x params args body (values_of db) all);
     }
 
 -- what stands of the transaction at a place, for its body cs, with these arguments on the database db
 pub record TransactionRuns (w : s.Workload) (place : ℕ) (args : List ℤ) (d : Declarations) (given : List Argument) (cs : s.Commands) (db : List ℤ) : Type 0 where
-  pub can : can_run_all limit (call_context d given) cs (start db) ≡ true
+  pub can : can_run_all weight_limit (call_context d given) cs (start db) ≡ true
   pub within : IsWithin d.schema db
   pub after : IsWithin d.schema (database_like db (body_run d given cs db).state.database)
   pub outcome : record { prints = (body_run d given cs db).prints; database = database_like db (body_run d given cs db).state.database } ≡ outcome_at w (slice_get w.transactions place) args db
@@ -90,10 +90,10 @@ unfolding words
 own_body w t place args given db e g light within =
     let params : List ℕ = map (λ p. p.name.name) t.params in
     let x = context_is w t.params args given g in
-    let l : is_light limit (l_form (schema_of w) params args t.body) (first_weights (schema_of w)) ≡ true = subst (λ o. IsLightBody w o args) e light in
+    let l : is_light weight_limit (l_form (schema_of w) params args t.body) (first_weights (schema_of w)) ≡ true = subst (λ o. IsLightBody w o args) e light in
     let runs = body_runs (schema_of w) params args t.body db within l in
     record {
-      can = subst (λ x. can_run_all limit x t.body (start db) ≡ true) x runs.can;
+      can = subst (λ x. can_run_all weight_limit x t.body (start db) ≡ true) x runs.can;
       within = within;
       after = subst (λ x. IsWithin (schema_of w) (database_like db (run_in x t.body db).state.database)) x runs.within;
       outcome = sym (ap (λ o. outcome_at w o args db) e ∙ (λ i. record { prints = (run_in (x i) t.body db).prints; database = database_like db (run_in (x i) t.body db).state.database }));

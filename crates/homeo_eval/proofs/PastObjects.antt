@@ -9,7 +9,7 @@ use Rattle.homeo_meaning.specs.Schema.{Schema}
 use Rattle.homeo_meaning.specs.Bounds.{Bounds, all_bounds, IsIn}
 use Rattle.homeo_meaning.specs.Context.{Spot, Slot, Context, cell, slots, fields, first_where}
 use Rattle.homeo_meaning.specs.Meaning.{State, settings, is_within, are_within, is_free}
-use Rattle.homeo_lform.specs.inner.RowsFit.{Admits}
+use Rattle.homeo_lform.specs.RowsFit.{Admits}
 use Rattle.homeo_eval.specs.inner.States.{IsZeroPast}
 use Rattle.homeo_eval.specs.inner.Settings.{plain_setting}
 use Rattle.homeo_lform.proofs.ObjectBounds.{Each, ForSome, each_first, SlotFits, all_at, slots_fit}

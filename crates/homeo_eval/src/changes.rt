@@ -4,7 +4,7 @@ ghost use Rattle.std.specs.Prelude.{◌≡◌, ◌&&◌, true, length};
 ghost use Rattle.homeo_syntax.specs.SourceView.{plain_cond, plain_expr};
 ghost use Rattle.homeo_meaning.specs.Context.{spot, object, slots, fields, bind, slot_at};
 ghost use Rattle.homeo_meaning.specs.Meaning.{done, is_used, value, holds, write, write_field, write_slot, visit};
-ghost use Rattle.homeo_meaning.specs.Acceptance.{limit};
+ghost use Rattle.homeo_meaning.specs.Acceptance.{weight_limit};
 ghost use Rattle.homeo_eval.specs.inner.CanRun.{on_slots, on_slot, expr_fits, cond_fits, visits_fit};
 ghost use Rattle.homeo_eval.specs.inner.States.{state_of, Serves};
 ghost use Rattle.homeo_context.specs.Slots.{plain_slot};
@@ -24,7 +24,7 @@ pub(crate) fn is_visited(
     context: &Context,
     state: &State,
 ) -> bool
-    requires { cond_fits limit (bind (plain_context context.now) row (plain_slot slot.now)) (plain_cond test.now)
+    requires { cond_fits weight_limit (bind (plain_context context.now) row (plain_slot slot.now)) (plain_cond test.now)
         (state_of state.now) ≡ true }
     ensures { result ≡ (is_used (state_of state.now) (plain_slot slot.now) &&
         holds (bind (plain_context context.now) row (plain_slot slot.now)) (plain_cond test.now) (state_of state.now)) }
@@ -42,7 +42,7 @@ pub(crate) fn is_visited(
 
 /// Clears the used slots at which a condition holds of the row. Their fields stay.
 pub(crate) fn delete(test: &Cond, row: u32, relation: u32, context: &Context, state: &mut State)
-    requires { visits_fit (cond_fits_at limit (plain_context context.now) row (plain_cond test.now)) can_clear
+    requires { visits_fit (cond_fits_at weight_limit (plain_context context.now) row (plain_cond test.now)) can_clear
         (holds_at (plain_context context.now) row (plain_cond test.now)) clears
         (slots (plain_context context.now) relation) (state_of state.old) ≡ true }
     ensures places { length state.new.database.items ≡ length state.old.database.items }
@@ -60,7 +60,7 @@ pub(crate) fn delete(test: &Cond, row: u32, relation: u32, context: &Context, st
 
 /// The value of an expression, with a row at this slot.
 fn value_at(e: &Expr, slot: &Slot, row: u32, context: &Context, state: &State) -> i64
-    requires { expr_fits limit (bind (plain_context context.now) row (plain_slot slot.now)) (plain_expr e.now)
+    requires { expr_fits weight_limit (bind (plain_context context.now) row (plain_slot slot.now)) (plain_expr e.now)
         (state_of state.now) ≡ true }
     ensures { result ≡ value (bind (plain_context context.now) row (plain_slot slot.now)) (plain_expr e.now)
         (state_of state.now) }
@@ -84,8 +84,8 @@ pub(crate) fn update(
     state: &mut State,
 )
     requires serves { Serves context.now state.old }
-    requires fits { visits_fit (cond_fits_at limit (plain_context context.now) row (plain_cond test.now))
-        (value_fits_at limit (plain_context context.now) row (plain_expr e.now))
+    requires fits { visits_fit (cond_fits_at weight_limit (plain_context context.now) row (plain_cond test.now))
+        (value_fits_at weight_limit (plain_context context.now) row (plain_expr e.now))
         (holds_at (plain_context context.now) row (plain_cond test.now))
         (writes_at (plain_context context.now) row field (plain_expr e.now))
         (slots (plain_context context.now) relation) (state_of state.old) ≡ true }
@@ -116,10 +116,10 @@ pub(crate) fn set_field(
 )
     requires serves { Serves context.now state.old }
     requires index { on_slots (slots (plain_context context.now) relation)
-        (expr_fits limit (plain_context context.now) (plain_expr index.now) (state_of state.old)) ≡ true }
+        (expr_fits weight_limit (plain_context context.now) (plain_expr index.now) (state_of state.old)) ≡ true }
     requires value { on_slot (slot_at (value (plain_context context.now) (plain_expr index.now) (state_of state.old))
         (slots (plain_context context.now) relation))
-        (expr_fits limit (plain_context context.now) (plain_expr e.now) (state_of state.old)) ≡ true }
+        (expr_fits weight_limit (plain_context context.now) (plain_expr e.now) (state_of state.old)) ≡ true }
     ensures places { length state.new.database.items ≡ length state.old.database.items }
     ensures set { state_of state.new ≡ write_slot (state_of state.old)
         (spot (fields (plain_context context.now) relation) field)

@@ -4,7 +4,7 @@ ghost use Rattle.std.specs.Prelude.{◌≡◌, true, map, length, IfOk};
 ghost use Rattle.homeo_syntax.specs.SourceView.{commands, plain_command, plain_cond};
 ghost use Rattle.homeo_meaning.specs.Context.{slots};
 ghost use Rattle.homeo_meaning.specs.Meaning.{after_prints, visit, does, does_all};
-ghost use Rattle.homeo_meaning.specs.Acceptance.{limit};
+ghost use Rattle.homeo_meaning.specs.Acceptance.{weight_limit};
 ghost use Rattle.homeo_eval.specs.inner.CanRun.{visits_fit, can_run, can_run_all};
 ghost use Rattle.homeo_eval.specs.inner.States.{state_of, run_of, Serves};
 ghost use Rattle.homeo_context.specs.Contexts.{plain_context};
@@ -29,8 +29,8 @@ fn foreach(
     prints: &mut List<i64>,
 ) -> Result<bool, Memory>
     requires serves { Serves context.now state.old }
-    requires fits { visits_fit (cond_fits_at limit (plain_context context.now) row (plain_cond test.now))
-        (can_run_at limit (plain_context context.now) row (commands (map plain_command body.now.items)))
+    requires fits { visits_fit (cond_fits_at weight_limit (plain_context context.now) row (plain_cond test.now))
+        (can_run_at weight_limit (plain_context context.now) row (commands (map plain_command body.now.items)))
         (holds_at (plain_context context.now) row (plain_cond test.now))
         (does_at (plain_context context.now) row (commands (map plain_command body.now.items)))
         (slots (plain_context context.now) relation) (state_of state.old) ≡ true }
@@ -68,7 +68,7 @@ pub(crate) fn run(
     prints: &mut List<i64>,
 ) -> Result<bool, Memory>
     requires serves { Serves context.now state.old }
-    requires runs { can_run limit (plain_context context.now) (plain_command c.now) (state_of state.old) ≡ true }
+    requires runs { can_run weight_limit (plain_context context.now) (plain_command c.now) (state_of state.old) ≡ true }
     ensures places { length state.new.database.items ≡ length state.old.database.items }
     ensures run { IfOk result (λ ended. run_of (state_of state.new) prints.new.items ended ≡ after_prints prints.old.items
         (does (plain_context context.now) (plain_command c.now) (state_of state.old))) }
@@ -162,7 +162,7 @@ pub(crate) fn run_all(
     prints: &mut List<i64>,
 ) -> Result<bool, Memory>
     requires serves { Serves context.now state.old }
-    requires runs { can_run_all limit (plain_context context.now) (commands (map plain_command cs.now))
+    requires runs { can_run_all weight_limit (plain_context context.now) (commands (map plain_command cs.now))
         (state_of state.old) ≡ true }
     ensures places { length state.new.database.items ≡ length state.old.database.items }
     ensures run { IfOk result (λ ended. run_of (state_of state.new) prints.new.items ended ≡ after_prints prints.old.items

@@ -5,7 +5,7 @@ ghost use Rattle.homeo_syntax.specs.SourceView.{plain_field};
 ghost use Rattle.homeo_meaning.specs.Schema.{declared_range};
 ghost use Rattle.homeo_meaning.specs.Context.{slots, fields, first_where};
 ghost use Rattle.homeo_meaning.specs.Meaning.{is_free, are_within, set_fields, settings, fill, insert};
-ghost use Rattle.homeo_meaning.specs.Acceptance.{limit};
+ghost use Rattle.homeo_meaning.specs.Acceptance.{weight_limit};
 ghost use Rattle.homeo_eval.specs.inner.CanRun.{values_fit};
 ghost use Rattle.homeo_eval.specs.inner.States.{state_of, Serves};
 ghost use Rattle.homeo_context.specs.Slots.{plain_slot, slots_of, IsCounted};
@@ -30,7 +30,7 @@ fn settings(
     context: &Context,
     state: &State,
 ) -> Result<Vec<Setting>, Memory>
-    requires { values_fit limit (plain_context context.now) (map plain_field values.now) (state_of state.now) ≡ true }
+    requires { values_fit weight_limit (plain_context context.now) (map plain_field values.now) (state_of state.now) ≡ true }
     ensures { IfOk result (λ r. map plain_setting r.items ≡ settings (plain_context context.now)
         (map declared_range slots.now.fields.now) (map plain_field values.now) (state_of state.now)) }
 {
@@ -90,7 +90,7 @@ pub(crate) fn insert(
     state: &mut State,
 ) -> Result<(), Memory>
     requires serves { Serves context.now state.old }
-    requires fits { values_fit limit (plain_context context.now) (map plain_field values.now) (state_of state.old) ≡ true }
+    requires fits { values_fit weight_limit (plain_context context.now) (map plain_field values.now) (state_of state.old) ≡ true }
     ensures places { length state.new.database.items ≡ length state.old.database.items }
     ensures set { OnOk result (state_of state.new ≡ insert (slots (plain_context context.now) relation)
         (settings (plain_context context.now) (fields (plain_context context.now) relation) (map plain_field values.now)

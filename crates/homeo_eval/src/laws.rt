@@ -2,7 +2,7 @@
 
 ghost use Rattle.std.specs.Prelude.{◌≡◌, ℕ, ℤ, List, map, Some, slice_get};
 ghost use Rattle.homeo_syntax.specs.Source as s;
-ghost use Rattle.homeo_meaning.specs.Acceptance.{limit, IsAccepted};
+ghost use Rattle.homeo_meaning.specs.Acceptance.{weight_limit, IsAccepted};
 ghost use Rattle.homeo_meaning.specs.Bounds.{IsWithin};
 ghost use Rattle.homeo_meaning.specs.Calls.{IsGroundCall};
 ghost use Rattle.homeo_meaning.specs.Computed.{CanRunAll};
@@ -17,6 +17,6 @@ pub fn values_fit()
     ensures { (w : s.Workload) (transaction : ℕ) (args : List ℤ) (t : s.Transaction) (database : List ℤ) →
         IsAccepted w → IsGroundCall w transaction args → slice_get w.transactions transaction ≡ Some t →
         IsWithin (schema_of w) database →
-        CanRunAll (IsSmall limit) (IsSmall limit) (context (schema_of w) (map (λ p. p.name.name) t.params) args)
+        CanRunAll (IsSmall weight_limit) (IsSmall weight_limit) (context (schema_of w) (map (λ p. p.name.name) t.params) args)
         t.body (start database) }
 {}

@@ -3,7 +3,7 @@
 ghost use Rattle.std.specs.Prelude.{◌≡◌, ◌+ℤ◌, ◌*ℤ◌, neg_ℤ, pos, true, map};
 ghost use Rattle.homeo_syntax.specs.SourceView.{exprs, tests, plain_expr, plain_test, plain_cond};
 ghost use Rattle.homeo_meaning.specs.Meaning.{added, compared, value, sum_value, product_value, passes, holds};
-ghost use Rattle.homeo_meaning.specs.Acceptance.{limit};
+ghost use Rattle.homeo_meaning.specs.Acceptance.{weight_limit};
 ghost use Rattle.homeo_meaning.specs.Small.{is_small};
 ghost use Rattle.homeo_eval.specs.inner.CanRun.{adding_fits, expr_fits, sum_fits, product_fits, test_fits, cond_fits};
 ghost use Rattle.homeo_eval.specs.inner.States.{state_of};
@@ -24,7 +24,7 @@ enum Term {
 
 #[tactic(auto, using(homeo_meaning::proofs::Numbers::sizes))]
 fn plus(a: i64, b: i64) -> i64
-    requires { is_small limit (a +ℤ b) ≡ true }
+    requires { is_small weight_limit (a +ℤ b) ≡ true }
     ensures { result ≡ a +ℤ b }
 {
     a + b
@@ -32,7 +32,7 @@ fn plus(a: i64, b: i64) -> i64
 
 #[tactic(auto, using(homeo_meaning::proofs::Numbers::sizes))]
 fn times(a: i64, b: i64) -> i64
-    requires { is_small limit (a *ℤ b) ≡ true }
+    requires { is_small weight_limit (a *ℤ b) ≡ true }
     ensures { result ≡ a *ℤ b }
 {
     a * b
@@ -40,7 +40,7 @@ fn times(a: i64, b: i64) -> i64
 
 #[tactic(auto, using(homeo_meaning::proofs::Numbers::sizes))]
 fn negated(a: i64) -> i64
-    requires { is_small limit (neg_ℤ a) ≡ true }
+    requires { is_small weight_limit (neg_ℤ a) ≡ true }
     ensures { result ≡ neg_ℤ a }
 {
     -a
@@ -71,7 +71,7 @@ fn term_at(term: Term, slot: &Slot, state: &State) -> i64
 #[cycle(phrases)]
 #[tactic(auto, using(homeo_syntax::proofs::Measures::phrase_parts, std::proofs::lemmas::Bool::and_parts, homeo_syntax::proofs::SourceViews::phrase_views), unfolding(homeo_meaning::specs::Key::words))]
 pub(crate) fn value(e: &Expr, context: &Context, state: &State) -> i64
-    requires { expr_fits limit (plain_context context.now) (plain_expr e.now) (state_of state.now) ≡ true }
+    requires { expr_fits weight_limit (plain_context context.now) (plain_expr e.now) (state_of state.now) ≡ true }
     ensures { result ≡ value (plain_context context.now) (plain_expr e.now) (state_of state.now) }
 {
     match e {
@@ -120,7 +120,7 @@ pub(crate) fn value(e: &Expr, context: &Context, state: &State) -> i64
 #[cycle(phrases)]
 #[tactic(auto, using(crate::proofs::Equations::sums, homeo_meaning::proofs::Steps::steps))]
 fn sum(es: &[Expr], context: &Context, state: &State) -> i64
-    requires { sum_fits limit (plain_context context.now) (exprs (map plain_expr es.now)) (state_of state.now)
+    requires { sum_fits weight_limit (plain_context context.now) (exprs (map plain_expr es.now)) (state_of state.now)
         (pos 0) ≡ true }
     ensures { result ≡ sum_value (plain_context context.now) (exprs (map plain_expr es.now)) (state_of state.now)
         (pos 0) }
@@ -135,7 +135,7 @@ fn sum(es: &[Expr], context: &Context, state: &State) -> i64
 #[cycle(phrases)]
 #[tactic(auto, using(crate::proofs::Equations::products, homeo_meaning::proofs::Steps::steps))]
 fn product(es: &[Expr], context: &Context, state: &State) -> i64
-    requires { product_fits limit (plain_context context.now) (exprs (map plain_expr es.now)) (state_of state.now)
+    requires { product_fits weight_limit (plain_context context.now) (exprs (map plain_expr es.now)) (state_of state.now)
         (pos 1) ≡ true }
     ensures { result ≡ product_value (plain_context context.now) (exprs (map plain_expr es.now)) (state_of state.now)
         (pos 1) }
@@ -151,8 +151,8 @@ fn product(es: &[Expr], context: &Context, state: &State) -> i64
 #[cycle(phrases)]
 fn total(test: &Cond, row: u32, slots: &Slots, term: Term, context: &Context, state: &State) -> i64
     requires counted { IsCounted slots.now }
-    requires fits { adding_fits limit
-        (row_fits limit (plain_context context.now) row (plain_cond test.now) (state_of state.now))
+    requires fits { adding_fits weight_limit
+        (row_fits weight_limit (plain_context context.now) row (plain_cond test.now) (state_of state.now))
         (counts (plain_context context.now) row (plain_cond test.now) (state_of state.now))
         (term_of term (state_of state.now)) (slots_of slots.now) (pos 0) ≡ true }
     ensures { result ≡ added (counts (plain_context context.now) row (plain_cond test.now) (state_of state.now))
@@ -178,7 +178,7 @@ fn total(test: &Cond, row: u32, slots: &Slots, term: Term, context: &Context, st
 #[cycle(phrases)]
 #[tactic(auto, using(homeo_syntax::proofs::Measures::phrase_parts, std::proofs::lemmas::Bool::and_parts, homeo_syntax::proofs::SourceViews::phrase_views), unfolding(homeo_meaning::specs::Key::words))]
 fn passes(t: &Test, context: &Context, state: &State) -> bool
-    requires { test_fits limit (plain_context context.now) (plain_test t.now) (state_of state.now) ≡ true }
+    requires { test_fits weight_limit (plain_context context.now) (plain_test t.now) (state_of state.now) ≡ true }
     ensures { result ≡ passes (plain_context context.now) (plain_test t.now) (state_of state.now) }
 {
     match t {
@@ -196,7 +196,7 @@ fn passes(t: &Test, context: &Context, state: &State) -> bool
 #[cycle(phrases)]
 #[tactic(auto, using(homeo_syntax::proofs::Measures::phrase_parts, std::proofs::lemmas::Bool::and_parts, homeo_syntax::proofs::SourceViews::phrase_views), unfolding(homeo_meaning::specs::Key::words))]
 pub(crate) fn holds(c: &Cond, context: &Context, state: &State) -> bool
-    requires { cond_fits limit (plain_context context.now) (plain_cond c.now) (state_of state.now) ≡ true }
+    requires { cond_fits weight_limit (plain_context context.now) (plain_cond c.now) (state_of state.now) ≡ true }
     ensures { result ≡ holds (plain_context context.now) (plain_cond c.now) (state_of state.now) }
 {
     all_pass(c.tests.as_slice(), context, state)
@@ -205,7 +205,7 @@ pub(crate) fn holds(c: &Cond, context: &Context, state: &State) -> bool
 #[cycle(phrases)]
 #[tactic(auto, using(crate::proofs::Equations::conjunctions, homeo_meaning::proofs::Steps::steps))]
 fn all_pass(ts: &[Test], context: &Context, state: &State) -> bool
-    requires { cond_fits limit (plain_context context.now) (tests (map plain_test ts.now)) (state_of state.now) ≡ true }
+    requires { cond_fits weight_limit (plain_context context.now) (tests (map plain_test ts.now)) (state_of state.now) ≡ true }
     ensures { result ≡ holds (plain_context context.now) (tests (map plain_test ts.now)) (state_of state.now) }
 {
     for t in ts {

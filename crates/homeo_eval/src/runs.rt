@@ -6,7 +6,7 @@ ghost use Rattle.homeo_meaning.specs.Schema.{schema_of};
 ghost use Rattle.homeo_meaning.specs.Bounds.{IsWithin};
 ghost use Rattle.homeo_meaning.specs.Calls.{CallExists, IsGroundCall, ground_outcome};
 ghost use Rattle.homeo_meaning.specs.Declarations.{declarations};
-ghost use Rattle.homeo_meaning.specs.Acceptance.{limit, IsLightBody};
+ghost use Rattle.homeo_meaning.specs.Acceptance.{weight_limit, IsLightBody};
 ghost use Rattle.homeo_eval.specs.inner.BodyRuns.{body_run};
 ghost use Rattle.homeo_eval.specs.inner.CanRun.{can_run_all};
 ghost use Rattle.homeo_context.specs.Contexts.{call_context};
@@ -35,7 +35,7 @@ fn run_body(
     base: &mut Database,
 ) -> Result<Prints, Memory>
     requires within { IsWithin declared.now.schema base.old.items }
-    requires runs { can_run_all limit (call_context declared.now arguments.now)
+    requires runs { can_run_all weight_limit (call_context declared.now arguments.now)
         (commands (map plain_command body.now)) (start base.old.items) ≡ true }
     requires after { IsWithin declared.now.schema (database_like base.old.items (body_run declared.now arguments.now
         (commands (map plain_command body.now)) base.old.items).state.database) }

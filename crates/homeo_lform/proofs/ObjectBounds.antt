@@ -7,7 +7,7 @@ use Rattle.homeo_meaning.specs.Schema.{Declared, Relation, Schema}
 use Rattle.homeo_meaning.specs.Context.{Spot, Slot, Context, spot_from, spot, cell, field_cell, object, slots_from, find_slots, slots, find_fields, fields, first_where, object_count}
 use Rattle.homeo_meaning.specs.Bounds.{Bounds, bounds_of, slot_bounds, relation_bounds, all_bounds, IsIn, bounds_at}
 use Rattle.homeo_meaning.specs.Meaning.{is_within}
-use Rattle.homeo_lform.specs.inner.RowsFit.{Admits}
+use Rattle.homeo_lform.specs.RowsFit.{Admits}
 
 abbrev pub Each : {X : Type 0} → (X → Type 0) → List X → Type 0
 Each P [] = Unit {0}

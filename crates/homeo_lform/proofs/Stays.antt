@@ -8,7 +8,7 @@ use Rattle.homeo_meaning.specs.Schema.{Declared, Schema}
 use Rattle.homeo_meaning.specs.Context.{Spot, Slot, Context, spot, cell, field_cell, object, slots, fields, bind, first_where, slot_at, context}
 use Rattle.homeo_meaning.specs.Bounds.{Bounds, IsIn, bounds_at, AllWithin}
 use Rattle.homeo_meaning.specs.Meaning.{State, Run, done, after_prints, then_do, is_used, is_free, is_within, set_temp, set_object, write, write_field, write_slot, visit, Setting, settings, are_within, set_fields, fill, insert, value, holds, does, does_all, run}
-use Rattle.homeo_lform.specs.inner.RowsFit.{Admits, RowsFit}
+use Rattle.homeo_lform.specs.RowsFit.{Admits, RowsFit}
 use Rattle.homeo_lform.proofs.ObjectBounds.{Each, ForSome, each_first, SlotFits, all_at, slots_fit, object_admits, no_row_fits}
 
 changed_stays : (w : Schema) (s : State) (x : ℕ) (v : ℤ) → AllWithin w s.database → IsIn (all_at w x) v → AllWithin w (set_object s x v).database

@@ -1,4 +1,4 @@
 pub mod Covers
 pub mod Fresh
+pub mod RowsFit
 pub mod SourceWrites
-pub mod inner

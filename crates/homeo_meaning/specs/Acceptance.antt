@@ -10,13 +10,13 @@ use Rattle.homeo_meaning.specs.CallForm.{body_form}
 use Rattle.homeo_meaning.specs.Faults.{faults}
 
 -- the largest weight of an expression
-abbrev pub limit : ℕ
-limit = 10 ^ 18
+abbrev pub weight_limit : ℕ
+weight_limit = 10 ^ 18
 
--- no expression of the L form of a call with this body and these arguments weighs more than the limit
+-- no expression of the L form of a call with this body and these arguments weighs more than the weight_limit
 abbrev pub IsLightBody : s.Workload → Option s.Transaction → List ℤ → Type 0
 unfolding words
-IsLightBody w t args = is_light limit (body_form w t args) (first_weights (schema_of w)) ≡ true
+IsLightBody w t args = is_light weight_limit (body_form w t args) (first_weights (schema_of w)) ≡ true
 
 -- well formed, and without a fault when it is read to be run
 pub record IsAccepted (w : s.Workload) : Type 0 where

@@ -2,7 +2,7 @@
 use Rattle.std.proofs.Common.{◌≡◌, ℕ, true, arith, ◌<◌, List, ℤ, ◌+◌, ◌*◌}
 use Rattle.homeo_syntax.specs.Source as s
 use Rattle.homeo_meaning.specs.Key.{words as meaning_words}
-use Rattle.homeo_meaning.specs.Acceptance.{limit, IsAccepted}
+use Rattle.homeo_meaning.specs.Acceptance.{weight_limit, IsAccepted}
 use Rattle.homeo_meaning.specs.Bounds.{IsWithin}
 use Rattle.homeo_meaning.specs.CallForm.{ground_form}
 use Rattle.homeo_meaning.specs.LowWeights.{first_weights, is_light}
@@ -25,10 +25,10 @@ use Rattle.homeo_meaning.specs.LowMeaning.{whole}
 pub accepted_forms :
     (w : s.Workload) (g : Ground) (k i : ℕ) (base : List ℤ) → IsAccepted w → IsGroundCall w g.transaction g.args →
     IsWithin (schema_of w) base → i < k →
-    HasSmallForms (2 * limit + 1) (values_of base) (walk (shift k i (ground_form w g)) (whole (values_of base)))
+    HasSmallForms (2 * weight_limit + 1) (values_of base) (walk (shift k i (ground_form w g)) (whole (values_of base)))
 unfolding meaning_words
 accepted_forms w g k i base accepted ground within inside =
-    let light : is_light limit (ground_form w g) (first_weights (schema_of w)) ≡ true = ground_call_light w g.transaction g.args (sound w accepted) ground in
+    let light : is_light weight_limit (ground_form w g) (first_weights (schema_of w)) ≡ true = ground_call_light w g.transaction g.args (sound w accepted) ground in
     let all = all_within (schema_of w) base within in
-    let small : (n : ℕ) → IsSmall limit (values_of base n) = λ n. omega (arith, values_small w accepted (values_of base) all n) in
-    small_forms limit (schema_of w) k i (ground_form w g) (values_of base) inside (ground_whole w g) all small light
+    let small : (n : ℕ) → IsSmall weight_limit (values_of base n) = λ n. omega (arith, values_small w accepted (values_of base) all n) in
+    small_forms weight_limit (schema_of w) k i (ground_form w g) (values_of base) inside (ground_whole w g) all small light

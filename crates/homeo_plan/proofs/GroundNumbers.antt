@@ -6,7 +6,7 @@ use mathlib.Core.Path.{fun_ext}
 use Rattle.std.specs.Int.RustNames.{unsigned_abs}
 use Rattle.homeo_syntax.specs.Source as s
 use Rattle.homeo_meaning.specs.declared.call.Purpose.TheVariants.{Run}
-use Rattle.homeo_meaning.specs.Acceptance.{limit, IsAccepted, IsLightBody}
+use Rattle.homeo_meaning.specs.Acceptance.{weight_limit, IsAccepted, IsLightBody}
 use Rattle.homeo_meaning.specs.Bounds.{AllWithin, all_bounds}
 use Rattle.homeo_meaning.specs.CallForm.{body_form, ground_form}
 use Rattle.homeo_meaning.specs.Calls.{IsGroundCall}
@@ -34,15 +34,15 @@ values_small w accepted values all n =
 
 body_numbers :
     (w : s.Workload) (t : Option s.Transaction) (args : List ℤ) (values : ℕ → ℤ) → AllWithin (schema_of w) values →
-    IsLightBody w t args → CanRun (IsSmall limit) (IsSmall limit) (body_form w t args) (whole values)
+    IsLightBody w t args → CanRun (IsSmall weight_limit) (IsSmall weight_limit) (body_form w t args) (whole values)
 unfolding meaning_words
 body_numbers w None args values all light = tt
 body_numbers w (Some t) args values all light =
-    (light_law limit (schema_of w) (map (λ p. p.name.name) t.params) args t.body values all light).form
+    (light_law weight_limit (schema_of w) (map (λ p. p.name.name) t.params) args t.body values all light).form
 
 pub ground_numbers :
     (w : s.Workload) (g : Ground) → IsAccepted w → IsGroundCall w g.transaction g.args → (values : ℕ → ℤ) →
-    AllWithin (schema_of w) values → CanRun (IsSmall limit) (IsSmall limit) (ground_form w g) (whole values)
+    AllWithin (schema_of w) values → CanRun (IsSmall weight_limit) (IsSmall weight_limit) (ground_form w g) (whole values)
 unfolding meaning_words
 ground_numbers w g accepted ground values all =
     body_numbers w (slice_get w.transactions g.transaction) g.args values all
@@ -57,7 +57,7 @@ fold_whole k u none (DeltaAt x j) = refl
 
 pub fold_numbers :
     (w : s.Workload) (g : Ground) (k : ℕ) (u : State) → IsAccepted w → IsGroundCall w g.transaction g.args → HasNoTemps u →
-    AllWithin (schema_of w) (λ x. fold_state k u (BaseAt x)) → CanRun (IsSmall limit) (IsSmall limit) (ground_form w g) (fold_state k u)
+    AllWithin (schema_of w) (λ x. fold_state k u (BaseAt x)) → CanRun (IsSmall weight_limit) (IsSmall weight_limit) (ground_form w g) (fold_state k u)
 fold_numbers w g k u accepted ground none all =
-    subst (CanRun (IsSmall limit) (IsSmall limit) (ground_form w g)) (fun_ext (fold_whole k u none))
+    subst (CanRun (IsSmall weight_limit) (IsSmall weight_limit) (ground_form w g)) (fun_ext (fold_whole k u none))
     (ground_numbers w g accepted ground (λ x. fold_state k u (BaseAt x)) all)

@@ -11,7 +11,7 @@ use Rattle.homeo_syntax.specs.Source.{Workload}
 use Rattle.homeo_syntax.specs.declared.low.SplitName.TheVariants.{Base, Delta}
 use Rattle.homeo_syntax.specs.declared.low.Temp.TheVariants.{Named, Fresh}
 use Rattle.homeo_meaning.specs.Key.{words as meaning_words}
-use Rattle.homeo_meaning.specs.Acceptance.{limit as largest, IsAccepted}
+use Rattle.homeo_meaning.specs.Acceptance.{weight_limit as largest, IsAccepted}
 use Rattle.homeo_meaning.specs.Bounds.{AllWithin, IsWithin, all_bounds}
 use Rattle.homeo_meaning.specs.CallForm.{ground_form}
 use Rattle.homeo_meaning.specs.Calls.{IsGroundCall}
@@ -31,7 +31,7 @@ use Rattle.homeo_plan.proofs.GroundForms.{ground_whole}
 use Rattle.homeo_plan.proofs.GroundNumbers.{values_small, fold_numbers}
 use Rattle.homeo_plan.proofs.SameFolds.{same_folds}
 use Rattle.homeo_split.specs.Key.{words as split_words}
-use Rattle.homeo_split.specs.CanExec.{limit, can_exec}
+use Rattle.homeo_split.specs.CanExec.{run_limit, can_exec}
 use Rattle.homeo_split.specs.Shape.{Shape, shape_of, has_places}
 use Rattle.homeo_split.specs.States.{state_with, state_of, AgreeOnNames}
 use Rattle.homeo_split.specs.declared.split.Split.{Split}
@@ -115,14 +115,14 @@ module _
     computes : CanRun (IsSmall largest) (IsSmall largest) (ground_form w g) (fold_state 2 (started database))
     computes = fold_numbers w g 2 (started database) accepted called (no_temps database) fold_within
 
-    runs : can_exec limit (shift 2 i (ground_form w g)) (started database) ≡ true
+    runs : can_exec run_limit (shift 2 i (ground_form w g)) (started database) ≡ true
     runs = runs_law 2 i most largest (ground_form w g) (started database) site (omega arith) (omega arith) (ground_whole w g) parts computes
 
     left : HasSmallParts 2 i most largest (exec (shift 2 i (ground_form w g)) (started database)).state
     left = leaves_law 2 i most largest (ground_form w g) (started database) site (omega arith) (ground_whole w g) parts computes
 
-    pub can_run : (s : Split) (c : Command) → IsUndivided database s → c ≡ shift 2 i (ground_form w g) → can_exec limit c (state_of s) ≡ true
-    can_run s c is e = ap₂ (can_exec limit) e (start_is database s is) ∙ runs
+    pub can_run : (s : Split) (c : Command) → IsUndivided database s → c ≡ shift 2 i (ground_form w g) → can_exec run_limit c (state_of s) ≡ true
+    can_run s c is e = ap₂ (can_exec run_limit) e (start_is database s is) ∙ runs
 
     pub has_sites : (s : Split) (c : Command) → IsUndivided database s → c ≡ shift 2 i (ground_form w g) → has_places (shape_of s) c ≡ true
     unfolding meaning_words
@@ -153,5 +153,5 @@ module _
         let sites : length new.deltas.items ≡ 2 =
         sym (length-map new.deltas.items (λ d. length d.items)) ∙ ap (λ (h : Shape). length h.deltas) (shape ∙ start_shape database old is) in
         sums_law i most largest new (subst (λ n. i < n) (sym sites) site)
-        (subst (λ n. largest + n * most ≤ limit) (sym sites) (omega arith))
+        (subst (λ n. largest + n * most ≤ run_limit) (sym sites) (omega arith))
         (subst (λ n. HasSmallParts n i most largest (state_of new)) (sym sites) new_parts)

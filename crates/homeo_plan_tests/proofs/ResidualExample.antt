@@ -10,7 +10,7 @@ use Rattle.homeo_plan.specs.Joined.{alone}
 use Rattle.homeo_plan.specs.Needs.{IsStraight}
 use Rattle.homeo_plan.specs.PlanView.{plain_residual}
 use Rattle.homeo_split.specs.Key.{words as split_words}
-use Rattle.homeo_split.specs.CanExec.{limit, can_exec_all}
+use Rattle.homeo_split.specs.CanExec.{run_limit, can_exec_all}
 use Rattle.homeo_effect.specs.Key.{words}
 use Rattle.homeo_effect.specs.Touched.{written, WritesOwn}
 use Rattle.homeo_plan_tests.specs.inner.ResidualExample.{base, deltas, example, IsExample}
@@ -23,11 +23,11 @@ example_own : WritesOwn 0 example
 unfolding plan_words words
 example_own = (refl, tt)
 
-example_small : can_exec_all limit example (whole (values_of base)) ≡ true
+example_small : can_exec_all run_limit example (whole (values_of base)) ≡ true
 unfolding split_words meaning_words
 example_small = refl
 
-example_runs : can_exec_all limit example (alone (values_of base) 0 (values_of deltas)) ≡ true
+example_runs : can_exec_all run_limit example (alone (values_of base) 0 (values_of deltas)) ≡ true
 unfolding split_words meaning_words plan_words
 example_runs = refl
 
@@ -42,12 +42,12 @@ module _ (r : Residual) (is : IsExample r) where
   pub own : WritesOwn r.site (plain_residual r)
   own = subst (λ i. WritesOwn i (plain_residual r)) (sym is.site) (subst (WritesOwn 0) (sym is.commands) example_own)
 
-  pub small : (b : List ℤ) → b ≡ base → can_exec_all limit (plain_residual r) (whole (values_of b)) ≡ true
-  small b e = ap₂ (λ cs b. can_exec_all limit cs (whole (values_of b))) is.commands e ∙ example_small
+  pub small : (b : List ℤ) → b ≡ base → can_exec_all run_limit (plain_residual r) (whole (values_of b)) ≡ true
+  small b e = ap₂ (λ cs b. can_exec_all run_limit cs (whole (values_of b))) is.commands e ∙ example_small
 
-  pub runs : (b d : List ℤ) → b ≡ base → d ≡ deltas → can_exec_all limit (plain_residual r) (alone (values_of b) r.site (values_of d)) ≡ true
+  pub runs : (b d : List ℤ) → b ≡ base → d ≡ deltas → can_exec_all run_limit (plain_residual r) (alone (values_of b) r.site (values_of d)) ≡ true
   runs b d e f =
-      (λ i. can_exec_all limit (is.commands i) (alone (values_of (e i)) (is.site i) (values_of (f i)))) ∙ example_runs
+      (λ i. can_exec_all run_limit (is.commands i) (alone (values_of (e i)) (is.site i) (values_of (f i)))) ∙ example_runs
 
   pub within : (n : ℕ) → 0 < n → Each (λ d. d.object < n) (written (plain_residual r))
   within n h = subst (λ cs. Each (λ d. d.object < n) (written cs)) (sym is.commands) (example_within n h)

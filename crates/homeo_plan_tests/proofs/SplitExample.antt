@@ -10,7 +10,7 @@ use Rattle.homeo_plan.specs.Key.{words}
 use Rattle.homeo_plan.specs.Split.{fold_state, shift}
 use Rattle.homeo_plan.proofs.SameFolds.{same_folds}
 use Rattle.homeo_split.specs.Key.{words as split_words}
-use Rattle.homeo_split.specs.CanExec.{limit, can_exec}
+use Rattle.homeo_split.specs.CanExec.{run_limit, can_exec}
 use Rattle.homeo_split.specs.Shape.{Shape, shape_of, has_places}
 use Rattle.homeo_split.specs.States.{state_with, state_of, AgreeOnNames}
 use Rattle.homeo_split.specs.declared.split.Split.{Split}
@@ -39,17 +39,17 @@ pub has_sites : (s : Split) (c : Command) → IsStart s → c ≡ shifted → ha
 unfolding words meaning_words split_words
 has_sites s c is e = ap₂ has_places (start_shape s is) e
 
-pub can_shift : (s : Split) (c : Command) → IsStart s → c ≡ shifted → can_exec limit c (state_of s) ≡ true
+pub can_shift : (s : Split) (c : Command) → IsStart s → c ≡ shifted → can_exec run_limit c (state_of s) ≡ true
 unfolding words meaning_words split_words
-can_shift s c is e = ap₂ (can_exec limit) e (start_is s is)
+can_shift s c is e = ap₂ (can_exec run_limit) e (start_is s is)
 
 pub own_places : (s : Split) (c : Command) → IsStart s → c ≡ raise_own → has_places (shape_of s) c ≡ true
 unfolding meaning_words split_words
 own_places s c is e = ap₂ has_places (start_shape s is) e
 
-pub own_runs : (s : Split) (c : Command) → IsStart s → c ≡ raise_own → can_exec limit c (state_of s) ≡ true
+pub own_runs : (s : Split) (c : Command) → IsStart s → c ≡ raise_own → can_exec run_limit c (state_of s) ≡ true
 unfolding meaning_words split_words
-own_runs s c is e = ap₂ (can_exec limit) e (start_is s is)
+own_runs s c is e = ap₂ (can_exec run_limit) e (start_is s is)
 
 -- ---- folds
 sums_fit :

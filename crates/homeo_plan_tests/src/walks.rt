@@ -7,7 +7,7 @@ ghost use Rattle.homeo_meaning.specs.Bounds.{IsWithin};
 ghost use Rattle.homeo_meaning.specs.Declarations.{declarations};
 ghost use Rattle.homeo_meaning.specs.Ground.{plain_ground};
 ghost use Rattle.homeo_meaning.specs.Schema.{schema_of};
-ghost use Rattle.homeo_split.specs.CanExec.{limit, can_exec};
+ghost use Rattle.homeo_split.specs.CanExec.{run_limit, can_exec};
 ghost use Rattle.homeo_split.specs.States.{state_of};
 ghost use Rattle.homeo_ground.specs.Grounding.{IsCalled};
 
@@ -42,7 +42,7 @@ struct Taken {
 }
 
 fn take(alloc: Global, c: &LCommand, base: &Split) -> Result<Taken, Memory>
-    requires { can_exec limit (plain_lcommand c.now) (state_of base.now) ≡ true }
+    requires { can_exec run_limit (plain_lcommand c.now) (state_of base.now) ≡ true }
 {
     let rows = table(alloc, c)?;
     let place = row_at(rows.as_slice(), base);

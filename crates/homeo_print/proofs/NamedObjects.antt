@@ -17,7 +17,7 @@ use Rattle.homeo_syntax.specs.declared.workload.Workload.{Workload}
 use Rattle.homeo_meaning.specs.Schema.{nat_of}
 use Rattle.homeo_print.specs.Key.{words}
 use Rattle.homeo_print.specs.Names.{name_text, declared_names, field_name, field_names, slot_names, relation_names, object_names, name_at}
-use Rattle.homeo_print.specs.inner.Objects.{bytes_of}
+use Rattle.homeo_print.specs.Objects.{bytes_of}
 use Rattle.homeo_print.proofs.OneMore.{range_push}
 
 -- ---- declared objects

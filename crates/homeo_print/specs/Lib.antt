@@ -1,8 +1,8 @@
-pub mod inner
 pub mod Calls
 pub mod Key
 pub mod Layout
 pub mod Names
+pub mod Objects
 pub mod Offsets
 pub mod Print
 pub mod Printed
@@ -10,3 +10,4 @@ pub mod ReadingBack
 pub mod Tables
 pub mod TokensOf
 pub mod Treaties
+pub mod inner

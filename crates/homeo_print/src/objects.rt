@@ -22,7 +22,7 @@ pub struct ObjectNames {
 
 impl Model for ObjectNames {
     ghost use Rattle.std.specs.Prelude.{ℕ, List, Vec, map};
-    ghost use Rattle.homeo_print.specs.inner.Objects.{bytes_of};
+    ghost use Rattle.homeo_print.specs.Objects.{bytes_of};
 
     ghost Value = { List (List ℕ) };
 

@@ -1,5 +1,6 @@
 pub mod Agrees
 pub mod AlongCalls
+pub mod BodiesMeasured
 pub mod Callings
 pub mod CallsMeasured
 pub mod Counts

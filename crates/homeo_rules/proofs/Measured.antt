@@ -23,7 +23,7 @@ use Rattle.homeo_rules.specs.inner.Scopes.{scope_in}
 use Rattle.homeo_ground.specs.Sited.{values, sited}
 use Rattle.homeo_rules.specs.inner.Sizes.{IsSetUp, workload_of, transaction_place, told_size, IsMeasuredBody, IsMeasuredAs, IsTold}
 use Rattle.homeo_ground.specs.declared.sited.SitedCall.{SitedCall}
-use Rattle.homeo_rules.specs.declared.rules.sizes.Measuring.{Measuring}
+use Rattle.homeo_rules.specs.declared.rules.bodies.Measuring.{Measuring}
 
 some-plain : (ts : List Transaction) (k : ℕ) (t d : Transaction) → k < length ts → t ≡ slice_index_or ts k d → slice_get (map plain_transaction ts) k ≡ Some (plain_transaction t)
 some-plain [] k t d h e = absurd (omega arith)

@@ -27,7 +27,7 @@ use Rattle.homeo_meaning.specs.declared.rules.Item.{Item}
 use Rattle.homeo_meaning.specs.declared.rules.Item.TheVariants as I
 use Rattle.homeo_meaning.specs.declared.rules.Phase.TheVariants.{Size}
 use Rattle.homeo_ground.specs.declared.sited.SitedCall.{SitedCall}
-use Rattle.homeo_rules.specs.declared.rules.sizes.Measuring.{Measuring}
+use Rattle.homeo_rules.specs.declared.rules.bodies.Measuring.{Measuring}
 use Rattle.homeo_rules.specs.inner.Printing.{capped_prints, prints_too_much_in, counted_prints, Printed, print_one, print_all}
 use Rattle.homeo_rules.specs.inner.Scopes.{scope_in}
 use Rattle.homeo_ground.specs.Sited.{sited}

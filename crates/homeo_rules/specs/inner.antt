@@ -1,4 +1,5 @@
 pub mod Along
+pub mod Bodies
 pub mod Callers
 pub mod Counting
 pub mod Decided

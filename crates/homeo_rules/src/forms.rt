@@ -14,10 +14,9 @@ ghost use Rattle.homeo_ground.specs.Sited.{sited};
 ghost use Rattle.homeo_rules.specs.inner.Sizes.{IsSetUp, workload_of, call_of, AreTold, AreMeasured};
 
 use crate::names::scope::Scope;
+use crate::rules::bodies::Measuring;
 use crate::rules::prints::check_prints;
-use crate::rules::sizes::{
-    MeasuredCall, Measuring, check_rows, check_sizes, check_weights, measure_calls,
-};
+use crate::rules::sizes::{MeasuredCall, check_rows, check_sizes, check_weights, measure_calls};
 use homeo_ground::SitedCall;
 use homeo_meaning::{Fault, Purpose};
 use homeo_size::Layout;

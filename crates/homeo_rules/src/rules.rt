@@ -1,5 +1,6 @@
 //! The rules, a file for those of one thing.
 
+pub mod bodies;
 pub mod bounds;
 pub mod calls;
 pub mod distinct;

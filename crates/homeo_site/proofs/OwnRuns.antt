@@ -11,7 +11,7 @@ use Rattle.homeo_plan.specs.Key.{words as plan_words}
 use Rattle.homeo_plan.specs.Joined.{Deltas, alone}
 use Rattle.homeo_plan.specs.Planned.{sites_of, planned_at, template_at, policy}
 use Rattle.homeo_plan.specs.Template.{Template, base_row}
-use Rattle.homeo_split.specs.CanExec.{limit, can_exec_all}
+use Rattle.homeo_split.specs.CanExec.{run_limit, can_exec_all}
 use Rattle.homeo_effect.specs.Key.{words as effect_words}
 use Rattle.homeo_effect.specs.OwnState.{own_state}
 use Rattle.homeo_effect.specs.Program.{plain_program}
@@ -95,10 +95,10 @@ module _
     abbrev t : Template
     t = template_at w x.base
 
-    pub can_run : (kept : List ℤ) → can_exec_all limit (plain_program p) (own_state p.site x.deltas kept) ≡ true
+    pub can_run : (kept : List ℤ) → can_exec_all run_limit (plain_program p) (own_state p.site x.deltas kept) ≡ true
     unfolding words
     can_run kept =
-        subst (λ i. can_exec_all limit (plain_program p) (own_state i x.deltas kept) ≡ true) (sym own.site)
+        subst (λ i. can_exec_all run_limit (plain_program p) (own_state i x.deltas kept) ≡ true) (sym own.site)
         (own.small x.deltas kept (step_runs w x accepted ready call at))
 
     pub run_prints :

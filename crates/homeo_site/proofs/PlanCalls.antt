@@ -17,7 +17,7 @@ use Rattle.homeo_plan.specs.PlanView.{plain_residual}
 use Rattle.homeo_plan.specs.Template.{PlannedCall, base_row}
 use Rattle.homeo_plan.proofs.Covering.{each_member}
 use Rattle.homeo_plan.proofs.PlannedCalls.{all_sites_below}
-use Rattle.homeo_split.specs.CanExec.{limit, can_exec_all}
+use Rattle.homeo_split.specs.CanExec.{run_limit, can_exec_all}
 use Rattle.homeo_build.specs.Key.{words as build_words}
 use Rattle.homeo_build.specs.Plan.{SitedResidual, sited_residual, residual_at, IsPlanOf}
 use Rattle.homeo_effect.specs.Touched.{written, WritesOwn}
@@ -69,7 +69,7 @@ plan_count w p plan =
 pub record CanKeep (base : List ℤ) (r : Residual) : Type 0 where
   pub straight : IsStraight (plain_residual r)
   pub own : WritesOwn r.site (plain_residual r)
-  pub small : can_exec_all limit (plain_residual r) (whole (values_of base)) ≡ true
+  pub small : can_exec_all run_limit (plain_residual r) (whole (values_of base)) ≡ true
   pub objects : Each (λ d. d.object < length base) (written (plain_residual r))
 
 pub commands_are : (w : s.Workload) (base : List ℤ) (g : PlannedCall) (r : Residual) → sited_residual r ≡ residual_at (sites_of w) (values_of base) g →
@@ -95,7 +95,7 @@ can_keep w p n r accepted plan h =
           subst (λ j. WritesOwn j (plain_residual r)) (site_is w base h.call r h.is)
           (subst (WritesOwn h.call.site) same (writes_own w base h.call h.member));
       small =
-          subst (λ cs. can_exec_all limit cs (whole (values_of base)) ≡ true) same
+          subst (λ cs. can_exec_all run_limit cs (whole (values_of base)) ≡ true) same
           (base_runs w base h.call accepted plan.within h.member below);
       objects =
           subst (λ cs. Each (λ d. d.object < length base) (written cs)) same

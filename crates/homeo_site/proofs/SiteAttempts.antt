@@ -31,7 +31,7 @@ use Rattle.homeo_site.specs.SiteState.{SiteState, SiteHolds, KeepsCall, step_pri
 use Rattle.homeo_site.specs.SiteView.{StartValue, SiteValue}
 use Rattle.homeo_site.specs.declared.attempts.Change.{Change}
 use Rattle.homeo_site.specs.inner.Ready.{IsReady, with_deltas}
-use Rattle.homeo_site.specs.inner.Standing.{IsSite, state_in}
+use Rattle.homeo_site.specs.Standing.{IsSite, state_in}
 use Rattle.homeo_site.proofs.LocalSteps.{ready}
 use Rattle.homeo_site.proofs.SitesHold.{local_holds}
 use Rattle.homeo_site.proofs.SiteViews.{value_in}

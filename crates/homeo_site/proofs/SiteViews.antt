@@ -16,7 +16,7 @@ use Rattle.homeo_site.specs.Attempts.{step_commands, IsRoom, IsEmptyCopy}
 use Rattle.homeo_site.specs.SiteState.{SiteHolds, begun}
 use Rattle.homeo_site.specs.SiteView.{StartValue, SiteValue}
 use Rattle.homeo_site.specs.declared.attempts.Room.{Room}
-use Rattle.homeo_site.specs.inner.Standing.{IsStart, IsSite, state_in}
+use Rattle.homeo_site.specs.Standing.{IsStart, IsSite, state_in}
 use Rattle.homeo_site.proofs.SitesHold.{begun_holds}
 
 -- the value of a site with these parts

@@ -10,7 +10,7 @@ use Rattle.std.proofs.lemmas.List.Elements.{All-head, All-tail}
 use Rattle.homeo_syntax.specs.Source as s
 use Rattle.homeo_meaning.specs.Key.{words as meaning_words}
 use Rattle.homeo_meaning.specs.declared.call.CallId.{CallId}
-use Rattle.homeo_meaning.specs.Acceptance.{limit as largest, IsAccepted}
+use Rattle.homeo_meaning.specs.Acceptance.{weight_limit as largest, IsAccepted}
 use Rattle.homeo_meaning.specs.Bounds.{AllWithin, IsWithin}
 use Rattle.homeo_meaning.specs.CallForm.{ground_form}
 use Rattle.homeo_meaning.specs.Calls.{IsGroundCall}
@@ -39,7 +39,7 @@ use Rattle.homeo_plan.proofs.Replays.{planned_whole, planned_covers}
 use Rattle.homeo_plan.proofs.Tables.{row_at_walk}
 use Rattle.homeo_ground.specs.Grounding.{IsCalled}
 use Rattle.homeo_ground.proofs.Called.{are_called}
-use Rattle.homeo_split.specs.CanExec.{limit, can_exec, can_exec_all}
+use Rattle.homeo_split.specs.CanExec.{run_limit, can_exec, can_exec_all}
 use Rattle.homeo_delta.specs.SmallParts.{HasSmallParts}
 use Rattle.homeo_delta.proofs.SmallShifts.{runs_law}
 use Rattle.homeo_history.specs.Legal.{IsCallAt}
@@ -124,25 +124,25 @@ module _
           (λ j l. only_keeps k (template_at w base) (policy w base) i own fits meets j) g (planned_covers w base g member)
           (subst (λ j. j < k) (sym at_site) site) (planned_whole w g member)).row
 
-      call_runs : can_exec limit (shifted k g) here ≡ true
+      call_runs : can_exec run_limit (shifted k g) here ≡ true
       unfolding plan_words
       call_runs =
           let m : IsMade w g = is_made w g accepted member in
           let few : k ≤ 16 = few_sites w accepted in
           let most_all : k * most ≤ 16 * most = mul-le k most 16 most few (omega arith) in
-          let room : largest + k * most ≤ limit = omega arith in
+          let room : largest + k * most ≤ run_limit = omega arith in
           let command : ground_form w m.from ≡ g.command = ap (λ (c : PlannedCall). c.command) m.is in
           let computes : CanRun (IsSmall largest) (IsSmall largest) g.command (fold_state k here) =
           subst (λ c. CanRun (IsSmall largest) (IsSmall largest) c (fold_state k here)) command
           (fold_numbers w m.from k here accepted m.called (no_temps b i own) fold_within) in
-          subst (λ j. can_exec limit (shift k j g.command) here ≡ true) (sym at_site)
+          subst (λ j. can_exec run_limit (shift k j g.command) here ≡ true) (sym at_site)
           (runs_law k i most largest g.command here site (omega arith) room (planned_whole w g member) small_parts computes)
 
       -- the residual can be run at the site alone
-      pub alone_runs : can_exec_all limit (base_row k b g).residual here ≡ true
+      pub alone_runs : can_exec_all run_limit (base_row k b g).residual here ≡ true
       alone_runs =
-          subst (λ (r : Row). can_exec_all limit r.residual here ≡ true)
-          (sym (row_at_walk (shifted k g) here (no_temps b i own)) ∙ same_row) (residual_runs limit (shifted k g) here call_runs)
+          subst (λ (r : Row). can_exec_all run_limit r.residual here ≡ true)
+          (sym (row_at_walk (shifted k g) here (no_temps b i own)) ∙ same_row) (residual_runs run_limit (shifted k g) here call_runs)
 
 -- ---- on the base, before any call
 base_is_alone : (b : ℕ → ℤ) (i : ℕ) → alone b i no_deltas ≡ whole b
@@ -164,10 +164,10 @@ no_change b = fun_ext (λ n. omega (arith, ints))
 
 pub base_runs :
     (w : s.Workload) (base : List ℤ) (g : PlannedCall) → IsAccepted w → IsWithin (schema_of w) base → Member g (planned w) →
-    g.site < sites_of w → can_exec_all limit (base_row (sites_of w) (values_of base) g).residual (whole (values_of base)) ≡ true
+    g.site < sites_of w → can_exec_all run_limit (base_row (sites_of w) (values_of base) g).residual (whole (values_of base)) ≡ true
 unfolding history_words
 base_runs w base g accepted within member site =
-    subst (λ s. can_exec_all limit (base_row (sites_of w) (values_of base) g).residual s ≡ true) (base_is_alone (values_of base) g.site)
+    subst (λ s. can_exec_all run_limit (base_row (sites_of w) (values_of base) g).residual s ≡ true) (base_is_alone (values_of base) g.site)
     (alone_runs w base g.site no_deltas accepted within site
     (zero_keeps (sites_of w) (template_at w base) (policy w base) g.site (policy_fits w base accepted))
     (subst (AllWithin (schema_of w)) (no_change (values_of base)) (all_within (schema_of w) base within)) g member refl)
@@ -175,7 +175,7 @@ base_runs w base g accepted within member site =
 -- ---- a call of a site
 pub step_runs :
     (w : s.Workload) (x : SiteState) → IsAccepted w → IsReady w x → (call : CallId) → IsCallAt w x.number call →
-    can_exec_all limit (base_row (sites_of w) (values_of x.base) (planned_at w call)).residual
+    can_exec_all run_limit (base_row (sites_of w) (values_of x.base) (planned_at w call)).residual
     (alone (values_of x.base) x.number (values_of x.deltas)) ≡ true
 step_runs w x accepted h call at =
     alone_runs w x.base x.number (values_of x.deltas) accepted h.within h.site h.meets h.all (planned_at w call)

@@ -2,7 +2,7 @@
 use Rattle.std.proofs.Common.{ℕ, ◌+◌, ◌*◌, ◌<◌, Bool, true, false, cond, List, [], ◌∷◌, ◌++◌, map, ℤ, refl, sym, subst}
 use Rattle.std.specs.List.{list_any}
 use Rattle.homeo_syntax.specs.Source as s
-use Rattle.homeo_meaning.specs.Acceptance.{limit as largest, IsAccepted}
+use Rattle.homeo_meaning.specs.Acceptance.{weight_limit as largest, IsAccepted}
 use Rattle.homeo_meaning.specs.Bounds.{IsWithin}
 use Rattle.homeo_meaning.specs.Key.{words as meaning_words}
 use Rattle.homeo_meaning.specs.LowMeaning.{whole}

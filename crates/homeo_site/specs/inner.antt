@@ -3,4 +3,3 @@ pub mod OwnPrograms
 pub mod OwnRound
 pub mod OwnTreaty
 pub mod Ready
-pub mod Standing

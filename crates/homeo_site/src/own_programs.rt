@@ -8,7 +8,7 @@ ghost use Rattle.homeo_plan.specs.Each.{Each};
 ghost use Rattle.homeo_plan.specs.Needs.{IsStraight};
 ghost use Rattle.homeo_plan.specs.Planned.{planned};
 ghost use Rattle.homeo_plan.specs.PlanView.{plain_residual};
-ghost use Rattle.homeo_split.specs.CanExec.{limit, can_exec_all};
+ghost use Rattle.homeo_split.specs.CanExec.{run_limit, can_exec_all};
 ghost use Rattle.homeo_build.specs.Plan.{IsPlanOf};
 ghost use Rattle.homeo_effect.specs.Touched.{written, WritesOwn};
 ghost use Rattle.homeo_site.specs.inner.OwnPrograms.{RunsAs, AreOwnPrograms, IsSomePlan};
@@ -23,7 +23,7 @@ use std::alloc::Global;
 fn own_program(alloc: Global, residual: &Residual, base: &Database) -> Result<Program, Memory>
     requires straight { IsStraight (plain_residual residual.now) }
     requires own { WritesOwn residual.now.site (plain_residual residual.now) }
-    requires small { can_exec_all limit (plain_residual residual.now) (whole (values_of base.now.items)) ≡ true }
+    requires small { can_exec_all run_limit (plain_residual residual.now) (whole (values_of base.now.items)) ≡ true }
     requires objects { Each (λ d. d.object < length base.now.items) (written (plain_residual residual.now)) }
     ensures { IfOk result (RunsAs (values_of base.now.items) residual.now.site (length base.now.items) (plain_residual residual.now)) }
 {

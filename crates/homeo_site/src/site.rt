@@ -32,7 +32,7 @@ impl Model for Site {
     ghost use Rattle.std.specs.Coded.{codes};
     ghost use Rattle.homeo_syntax.specs.contracts.workload.Workload as workload;
     ghost use Rattle.homeo_site.specs.SiteView.{SiteValue};
-    ghost use Rattle.homeo_site.specs.inner.Standing.{IsSite, state_in};
+    ghost use Rattle.homeo_site.specs.Standing.{IsSite, state_in};
 
     ghost Value = { SiteValue };
 

@@ -28,7 +28,7 @@ impl Model for SiteStart {
     ghost use Rattle.std.specs.Coded.{codes};
     ghost use Rattle.homeo_syntax.specs.contracts.workload.Workload as workload;
     ghost use Rattle.homeo_site.specs.SiteView.{StartValue};
-    ghost use Rattle.homeo_site.specs.inner.Standing.{IsStart};
+    ghost use Rattle.homeo_site.specs.Standing.{IsStart};
 
     ghost Value = { StartValue };
 

@@ -7,8 +7,8 @@ use Rattle.homeo_meaning.specs.LowMeaning.{State, TempAt, location_of, value, pa
 use Rattle.homeo_split.specs.Key.{words}
 
 -- the most that a value of a run may be in size
-abbrev pub limit : ℕ
-limit = 2 * 10 ^ 18
+abbrev pub run_limit : ℕ
+run_limit = 2 * 10 ^ 18
 
 abbrev mutual
   unfolding words

@@ -4,7 +4,7 @@ ghost use Rattle.std.specs.Prelude.{◌≡◌, pos, true, map};
 ghost use Rattle.homeo_syntax.specs.LowView.{low_exprs, low_tests, plain_lexpr, plain_ltest, plain_lcond};
 ghost use Rattle.homeo_meaning.specs.Meaning.{compared};
 ghost use Rattle.homeo_meaning.specs.LowMeaning.{value, sum_value, product_value, passes, holds};
-ghost use Rattle.homeo_split.specs.CanExec.{limit, expr_fits, sum_fits, product_fits, test_fits, cond_fits};
+ghost use Rattle.homeo_split.specs.CanExec.{run_limit, expr_fits, sum_fits, product_fits, test_fits, cond_fits};
 
 use crate::arithmetic::{minus, plus, times};
 use crate::reads::Reads;
@@ -21,11 +21,11 @@ fn compared(op: Compare, left: i64, right: i64) -> bool
     }
 }
 
-/// The value of an expression on what is read, where each number on the way is within the limit of runs.
+/// The value of an expression on what is read, where each number on the way is within the run_limit of runs.
 #[cycle(values)]
 #[tactic(auto, using(homeo_syntax::proofs::Measures::low_expr_parts, std::proofs::lemmas::Bool::and_parts, homeo_syntax::proofs::LowViews::low_phrase_views), unfolding(crate::specs::Key::words, homeo_meaning::specs::Key::words))]
 pub fn value<S: Reads>(e: &LExpr, state: &S) -> i64
-    requires { expr_fits limit (plain_lexpr e.now) (S.values state.now) ≡ true }
+    requires { expr_fits run_limit (plain_lexpr e.now) (S.values state.now) ≡ true }
     ensures { result ≡ value (plain_lexpr e.now) (S.values state.now) }
 {
     match e {
@@ -41,7 +41,7 @@ pub fn value<S: Reads>(e: &LExpr, state: &S) -> i64
 #[cycle(values)]
 #[tactic(auto, using(crate::proofs::Equations::sums, homeo_meaning::proofs::Steps::steps))]
 fn sum<S: Reads>(es: &[LExpr], state: &S) -> i64
-    requires { sum_fits limit (pos 0) (low_exprs (map plain_lexpr es.now)) (S.values state.now) ≡ true }
+    requires { sum_fits run_limit (pos 0) (low_exprs (map plain_lexpr es.now)) (S.values state.now) ≡ true }
     ensures { result ≡ sum_value (pos 0) (low_exprs (map plain_lexpr es.now)) (S.values state.now) }
 {
     let mut total = 0;
@@ -54,7 +54,7 @@ fn sum<S: Reads>(es: &[LExpr], state: &S) -> i64
 #[cycle(values)]
 #[tactic(auto, using(crate::proofs::Equations::products, homeo_meaning::proofs::Steps::steps))]
 fn product<S: Reads>(es: &[LExpr], state: &S) -> i64
-    requires { product_fits limit (pos 1) (low_exprs (map plain_lexpr es.now)) (S.values state.now) ≡ true }
+    requires { product_fits run_limit (pos 1) (low_exprs (map plain_lexpr es.now)) (S.values state.now) ≡ true }
     ensures { result ≡ product_value (pos 1) (low_exprs (map plain_lexpr es.now)) (S.values state.now) }
 {
     let mut total = 1;
@@ -67,7 +67,7 @@ fn product<S: Reads>(es: &[LExpr], state: &S) -> i64
 #[cycle(conditions)]
 #[tactic(auto, using(homeo_syntax::proofs::Measures::low_test_parts, std::proofs::lemmas::Bool::and_parts, homeo_syntax::proofs::LowViews::low_phrase_views), unfolding(crate::specs::Key::words, homeo_meaning::specs::Key::words))]
 fn passes<S: Reads>(t: &LTest, state: &S) -> bool
-    requires { test_fits limit (plain_ltest t.now) (S.values state.now) ≡ true }
+    requires { test_fits run_limit (plain_ltest t.now) (S.values state.now) ≡ true }
     ensures { result ≡ passes (plain_ltest t.now) (S.values state.now) }
 {
     match t {
@@ -82,11 +82,11 @@ fn passes<S: Reads>(t: &LTest, state: &S) -> bool
 }
 
 /// Whether each test of a condition passes on what is read. The tests are taken in order, up to the first that fails, and each number
-/// on the way is within the limit of runs.
+/// on the way is within the run_limit of runs.
 #[cycle(conditions)]
 #[tactic(auto, using(homeo_syntax::proofs::Measures::low_test_parts, std::proofs::lemmas::Bool::and_parts, homeo_syntax::proofs::LowViews::low_phrase_views), unfolding(crate::specs::Key::words, homeo_meaning::specs::Key::words))]
 pub fn holds<S: Reads>(c: &LCond, state: &S) -> bool
-    requires { cond_fits limit (plain_lcond c.now) (S.values state.now) ≡ true }
+    requires { cond_fits run_limit (plain_lcond c.now) (S.values state.now) ≡ true }
     ensures { result ≡ holds (plain_lcond c.now) (S.values state.now) }
 {
     all_pass(c.tests.as_slice(), state)
@@ -95,7 +95,7 @@ pub fn holds<S: Reads>(c: &LCond, state: &S) -> bool
 #[cycle(conditions)]
 #[tactic(auto, using(crate::proofs::Equations::conjunctions, homeo_meaning::proofs::Steps::steps))]
 fn all_pass<S: Reads>(ts: &[LTest], state: &S) -> bool
-    requires { cond_fits limit (low_tests (map plain_ltest ts.now)) (S.values state.now) ≡ true }
+    requires { cond_fits run_limit (low_tests (map plain_ltest ts.now)) (S.values state.now) ≡ true }
     ensures { result ≡ holds (low_tests (map plain_ltest ts.now)) (S.values state.now) }
 {
     for t in ts {

@@ -3,7 +3,7 @@
 ghost use Rattle.std.specs.Prelude.{◌≡◌, true, map, IfOk, OnOk, OnErr};
 ghost use Rattle.homeo_syntax.specs.LowView.{plain_lcommand};
 ghost use Rattle.homeo_meaning.specs.LowMeaning.{exec};
-ghost use Rattle.homeo_split.specs.CanExec.{limit, can_exec};
+ghost use Rattle.homeo_split.specs.CanExec.{run_limit, can_exec};
 ghost use Rattle.homeo_split.specs.States.{state_of, AgreeOnNames};
 ghost use Rattle.homeo_split.specs.Shape.{shape_of, has_places};
 
@@ -50,7 +50,7 @@ fn listed_all(alloc: Global, vectors: Vec<Vec<i64>>) -> Result<List<Database>, M
 /// `Memory` where memory is wanting: the database is then unchanged.
 pub fn eval_l(alloc: Global, c: &LCommand, database: &mut Split) -> Result<Prints, Memory>
     requires places { has_places (shape_of database.old) (plain_lcommand c.now) ≡ true }
-    requires small { can_exec limit (plain_lcommand c.now) (state_of database.old) ≡ true }
+    requires small { can_exec run_limit (plain_lcommand c.now) (state_of database.old) ≡ true }
     ensures prints { IfOk result (λ p. p.items ≡
         (exec (plain_lcommand c.now) (state_of database.old)).prints) }
     ensures database { OnOk result (AgreeOnNames (state_of database.new)

@@ -11,7 +11,7 @@ use Rattle.homeo_meaning.specs.LowMeaning.{Location, TempAt, State, location_of,
 use Rattle.homeo_plan.specs.Key.{words as plan_words}
 use Rattle.homeo_plan.specs.Table.{HasNoTemps}
 use Rattle.homeo_split.specs.Key.{words as split_words}
-use Rattle.homeo_split.specs.CanExec.{limit, expr_fits, sum_fits, product_fits, test_fits, cond_fits}
+use Rattle.homeo_split.specs.CanExec.{run_limit, expr_fits, sum_fits, product_fits, test_fits, cond_fits}
 use Rattle.homeo_table.specs.inner.Key.{words}
 use Rattle.homeo_table.specs.inner.Substitution.{substituted, substituted_all, substituted_test, substituted_cond}
 use Rattle.homeo_table.specs.inner.Walks.{value_or, after, fits_if}
@@ -72,12 +72,12 @@ module _ (b : Location → Option Expr) (s : State) (temps : HasNoTemps s) where
 
   -- ---- fitting
   module _ (fits : (l : Location) → fits_if (b l) s ≡ true) where
-    fits-temp : (o : Option Expr) → fits_if o s ≡ true → expr_fits limit (unwrap_or o (Literal (pos 0))) s ≡ true
+    fits-temp : (o : Option Expr) → fits_if o s ≡ true → expr_fits run_limit (unwrap_or o (Literal (pos 0))) s ≡ true
     unfolding split_words meaning_words
     fits-temp None h = refl
     fits-temp (Some e) h = h
 
-    fits-read : (o : Option Expr) (x : SplitName) → fits_if o s ≡ true → is_small limit (value_or (s (location_of x)) o s) ≡ true → expr_fits limit (unwrap_or o (Read x)) s ≡ true
+    fits-read : (o : Option Expr) (x : SplitName) → fits_if o s ≡ true → is_small run_limit (value_or (s (location_of x)) o s) ≡ true → expr_fits run_limit (unwrap_or o (Read x)) s ≡ true
     unfolding split_words
     fits-read None x h k = k
     fits-read (Some e) x h k = h
@@ -85,7 +85,7 @@ module _ (b : Location → Option Expr) (s : State) (temps : HasNoTemps s) where
     mutual
       unfolding words meaning_words split_words
 
-      pub fits-after : (e : Expr) → expr_fits limit e (after b s) ≡ true → expr_fits limit (substituted b e) s ≡ true
+      pub fits-after : (e : Expr) → expr_fits run_limit e (after b s) ≡ true → expr_fits run_limit (substituted b e) s ≡ true
       fits-after (Literal n) h = h
       fits-after (OfTemp t) h = fits-temp (b (TempAt t)) (fits (TempAt t))
       fits-after (Read x) h = fits-read (b (location_of x)) x (fits (location_of x)) h
@@ -93,25 +93,25 @@ module _ (b : Location → Option Expr) (s : State) (temps : HasNoTemps s) where
       fits-after (Product es) h = product-fits-after es (pos 1) h
       fits-after (Neg e) h =
           let k = and_parts _ _ h in
-          ap₂ ◌&&◌ (fits-after e k.0) (ap (λ v. is_small limit (neg_ℤ v)) (value-after e) ∙ k.1)
+          ap₂ ◌&&◌ (fits-after e k.0) (ap (λ v. is_small run_limit (neg_ℤ v)) (value-after e) ∙ k.1)
 
-      sum-fits-after : (es : Exprs) (n : ℤ) → sum_fits limit n es (after b s) ≡ true → sum_fits limit n (substituted_all b es) s ≡ true
+      sum-fits-after : (es : Exprs) (n : ℤ) → sum_fits run_limit n es (after b s) ≡ true → sum_fits run_limit n (substituted_all b es) s ≡ true
       sum-fits-after NoExpr n h = h
       sum-fits-after (MoreExpr e es) n h =
           let k = and_parts _ _ h in
           let m = and_parts _ _ k.1 in
           ap₂ ◌&&◌ k.0
           (ap₂ ◌&&◌ (fits-after e m.0)
-          (ap (λ v. sum_fits limit (n +ℤ v) (substituted_all b es) s) (value-after e) ∙ sum-fits-after es (n +ℤ value e (after b s)) m.1))
+          (ap (λ v. sum_fits run_limit (n +ℤ v) (substituted_all b es) s) (value-after e) ∙ sum-fits-after es (n +ℤ value e (after b s)) m.1))
 
-      product-fits-after : (es : Exprs) (n : ℤ) → product_fits limit n es (after b s) ≡ true → product_fits limit n (substituted_all b es) s ≡ true
+      product-fits-after : (es : Exprs) (n : ℤ) → product_fits run_limit n es (after b s) ≡ true → product_fits run_limit n (substituted_all b es) s ≡ true
       product-fits-after NoExpr n h = h
       product-fits-after (MoreExpr e es) n h =
           let k = and_parts _ _ h in
           let m = and_parts _ _ k.1 in
           ap₂ ◌&&◌ k.0
           (ap₂ ◌&&◌ (fits-after e m.0)
-          (ap (λ v. product_fits limit (n *ℤ v) (substituted_all b es) s) (value-after e) ∙ product-fits-after es (n *ℤ value e (after b s)) m.1))
+          (ap (λ v. product_fits run_limit (n *ℤ v) (substituted_all b es) s) (value-after e) ∙ product-fits-after es (n *ℤ value e (after b s)) m.1))
 
     where-passes : (v : Bool) (x y : Bool) → (x ≡ true → y ≡ true) → cond v x true ≡ true → cond v y true ≡ true
     where-passes true x y f h = f h
@@ -120,25 +120,25 @@ module _ (b : Location → Option Expr) (s : State) (temps : HasNoTemps s) where
     mutual
       unfolding words meaning_words split_words
 
-      test-fits-after : (t : Test) → test_fits limit t (after b s) ≡ true → test_fits limit (substituted_test b t) s ≡ true
+      test-fits-after : (t : Test) → test_fits run_limit t (after b s) ≡ true → test_fits run_limit (substituted_test b t) s ≡ true
       test-fits-after True h = refl
       test-fits-after (Not c) h = cond-fits-after c h
       test-fits-after (Comparison op l r) h =
           let k = and_parts _ _ h in
           ap₂ ◌&&◌ (fits-after l k.0) (fits-after r k.1)
 
-      pub cond-fits-after : (c : Cond) → cond_fits limit c (after b s) ≡ true → cond_fits limit (substituted_cond b c) s ≡ true
+      pub cond-fits-after : (c : Cond) → cond_fits run_limit c (after b s) ≡ true → cond_fits run_limit (substituted_cond b c) s ≡ true
       cond-fits-after NoTest h = refl
       cond-fits-after (MoreTest t c) h =
           let k = and_parts _ _ h in
           ap₂ ◌&&◌ (test-fits-after t k.0)
-          (ap (λ v. cond v (cond_fits limit (substituted_cond b c) s) true) (passes-after t)
-          ∙ where-passes (passes t (after b s)) (cond_fits limit c (after b s)) (cond_fits limit (substituted_cond b c) s) (cond-fits-after c) k.1)
+          (ap (λ v. cond v (cond_fits run_limit (substituted_cond b c) s) true) (passes-after t)
+          ∙ where-passes (passes t (after b s)) (cond_fits run_limit c (after b s)) (cond_fits run_limit (substituted_cond b c) s) (cond-fits-after c) k.1)
 
-    fits-chosen : (v : Bool) (e : Expr) (o : Option Expr) → expr_fits limit (substituted b e) s ≡ true → fits_if o s ≡ true → fits_if (cond v (Some (substituted b e)) o) s ≡ true
+    fits-chosen : (v : Bool) (e : Expr) (o : Option Expr) → expr_fits run_limit (substituted b e) s ≡ true → fits_if o s ≡ true → fits_if (cond v (Some (substituted b e)) o) s ≡ true
     fits-chosen true e o h k = h
     fits-chosen false e o h k = k
 
-    pub fits-put : (p : Location) (e : Expr) → expr_fits limit e (after b s) ≡ true → (l : Location) → fits_if (put b p (Some (substituted b e)) l) s ≡ true
+    pub fits-put : (p : Location) (e : Expr) → expr_fits run_limit e (after b s) ≡ true → (l : Location) → fits_if (put b p (Some (substituted b e)) l) s ≡ true
     unfolding meaning_words
     fits-put p e h l = fits-chosen (same_location p l) e (b l) (fits-after e h) (fits l)

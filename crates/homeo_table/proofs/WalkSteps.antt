@@ -13,7 +13,7 @@ use Rattle.homeo_meaning.specs.LowMeaning.{Location, TempAt, State, location_of,
 use Rattle.homeo_plan.specs.Key.{words as plan_words}
 use Rattle.homeo_plan.specs.Table.{Row, set_before, test_before, otherwise, clear_row, last_row, walk, walk_before, walk_all_before, HasNoTemps}
 use Rattle.homeo_split.specs.Key.{words as split_words}
-use Rattle.homeo_split.specs.CanExec.{limit, expr_fits, cond_fits, can_exec, can_exec_all}
+use Rattle.homeo_split.specs.CanExec.{run_limit, expr_fits, cond_fits, can_exec, can_exec_all}
 use Rattle.homeo_table.specs.inner.Key.{words}
 use Rattle.homeo_table.specs.inner.Branches.{size, size_all}
 use Rattle.homeo_table.specs.inner.Makings.{command_before}
@@ -69,8 +69,8 @@ walk-all [] cs s r = refl
 walk-all (d ∷ ds) cs s r = ap (walk_before d s) (walk-all ds cs (exec d s).state r)
 
 can-all :
-    (ds cs : List Command) (s : State) → can_exec_all limit (low_commands ds) s ≡ true →
-    can_exec_all limit (low_commands cs) (exec_all (low_commands ds) s).state ≡ true → can_exec_all limit (low_commands (ds ++ cs)) s ≡ true
+    (ds cs : List Command) (s : State) → can_exec_all run_limit (low_commands ds) s ≡ true →
+    can_exec_all run_limit (low_commands cs) (exec_all (low_commands ds) s).state ≡ true → can_exec_all run_limit (low_commands (ds ++ cs)) s ≡ true
 unfolding split_words meaning_words tree_words
 can-all [] cs s h k = k
 can-all (d ∷ ds) cs s h k =
@@ -80,7 +80,7 @@ can-all (d ∷ ds) cs s h k =
 -- ---- one command, form by form
 -- it sets place p to e
 pub record Sets (k : Command) (p : Location) (e : Expr) (s : State) : Type 0 where
-  pub can : can_exec limit k s ≡ expr_fits limit e s
+  pub can : can_exec run_limit k s ≡ expr_fits run_limit e s
   pub state : (exec k s).state ≡ put s p (value e s)
   pub walk : (r : Row) → walk_before k s r ≡ set_before k p e r
 
@@ -88,7 +88,7 @@ pub sets-Assign : (k : Command) (t : Temp) (e : Expr) (p : Location) (s : State)
 unfolding plan_words meaning_words split_words
 sets-Assign k t e p s h w =
     record {
-      can = ap (λ k. can_exec limit k s) h;
+      can = ap (λ k. can_exec run_limit k s) h;
       state = ap (λ k. (exec k s).state) h ∙ ap (λ p. put s p (value e s)) (sym w);
       walk = λ r. ap (λ k. walk_before k s r) h ∙ ap₂ (λ k p. set_before k p e r) (sym h) (sym w);
     }
@@ -97,22 +97,22 @@ pub sets-Write : (k : Command) (x : SplitName) (e : Expr) (p : Location) (s : St
 unfolding plan_words meaning_words split_words
 sets-Write k x e p s h w =
     record {
-      can = ap (λ k. can_exec limit k s) h;
+      can = ap (λ k. can_exec run_limit k s) h;
       state = ap (λ k. (exec k s).state) h ∙ ap (λ p. put s p (value e s)) (sym w);
       walk = λ r. ap (λ k. walk_before k s r) h ∙ ap₂ (λ k p. set_before k p e r) (sym h) (sym w);
     }
 
 -- it does what command d does, where condition c is asked first
 pub record Takes (k d : Command) (c : Cond) (s : State) : Type 0 where
-  pub can : can_exec limit k s ≡ true → can_exec limit d s ≡ true
+  pub can : can_exec run_limit k s ≡ true → can_exec run_limit d s ≡ true
   pub state : (exec k s).state ≡ (exec d s).state
   pub walk : (r : Row) → walk_before k s r ≡ test_before c (walk_before d s r)
 
 choice :
-    (k : Command) (b : Cond) (c d : Command) (s : State) → k ≡ If b c d → can_exec limit k s ≡ true →
-    (cond_fits limit b s ≡ true) × (cond (holds b s) (can_exec limit c s) (can_exec limit d s) ≡ true)
+    (k : Command) (b : Cond) (c d : Command) (s : State) → k ≡ If b c d → can_exec run_limit k s ≡ true →
+    (cond_fits run_limit b s ≡ true) × (cond (holds b s) (can_exec run_limit c s) (can_exec run_limit d s) ≡ true)
 unfolding split_words
-choice k b c d s h can = and_parts _ _ (ap (λ k. can_exec limit k s) (sym h) ∙ can)
+choice k b c d s h can = and_parts _ _ (ap (λ k. can_exec run_limit k s) (sym h) ∙ can)
 
 pub takes :
     (v : Bool) (k : Command) (b : Cond) (c d : Command) (s : State) → k ≡ If b c d → holds b s ≡ v →
@@ -120,14 +120,14 @@ pub takes :
 unfolding plan_words meaning_words
 takes true k b c d s h is =
     record {
-      can = λ can. ap (λ v. cond v (can_exec limit c s) (can_exec limit d s)) (sym is) ∙ (choice k b c d s h can).1;
+      can = λ can. ap (λ v. cond v (can_exec run_limit c s) (can_exec run_limit d s)) (sym is) ∙ (choice k b c d s h can).1;
       state = ap (λ k. (exec k s).state) h ∙ ap (λ v. (cond v (exec c s) (exec d s)).state) is;
       walk = λ r. ap (λ k. walk_before k s r) h
           ∙ ap (λ v. cond v (test_before b (walk_before c s r)) (test_before (otherwise b) (walk_before d s r))) is;
     }
 takes false k b c d s h is =
     record {
-      can = λ can. ap (λ v. cond v (can_exec limit c s) (can_exec limit d s)) (sym is) ∙ (choice k b c d s h can).1;
+      can = λ can. ap (λ v. cond v (can_exec run_limit c s) (can_exec run_limit d s)) (sym is) ∙ (choice k b c d s h can).1;
       state = ap (λ k. (exec k s).state) h ∙ ap (λ v. (cond v (exec c s) (exec d s)).state) is;
       walk = λ r. ap (λ k. walk_before k s r) h
           ∙ ap (λ v. cond v (test_before b (walk_before c s r)) (test_before (otherwise b) (walk_before d s r))) is;
@@ -136,7 +136,7 @@ takes false k b c d s h is =
 -- ---- one command in front of those that are left
 module _ (f f' : Row → Row) (b b' : Location → Option Expr) (s : State) (temps : HasNoTemps s) (k : Command) (cs : List Command) (can : CanFollow b (k ∷ cs) s) where
   -- the first command can be executed, and the others after it
-  parts : (can_exec limit k (after b s) ≡ true) × (can_exec_all limit (low_commands cs) (exec k (after b s)).state ≡ true)
+  parts : (can_exec run_limit k (after b s) ≡ true) × (can_exec_all run_limit (low_commands cs) (exec k (after b s)).state ≡ true)
   unfolding split_words tree_words
   parts = and_parts _ _ can.commands
 
@@ -150,7 +150,7 @@ module _ (f f' : Row → Row) (b b' : Location → Option Expr) (s : State) (tem
         can = record {
           expressions = λ l. ap (λ (b : Location → Option Expr). fits_if (b l) s) h
               ∙ fits-put b s temps can.expressions p e (sym sets.can ∙ parts.0) l;
-          commands = ap (can_exec_all limit (low_commands cs)) same ∙ parts.1;
+          commands = ap (can_exec_all run_limit (low_commands cs)) same ∙ parts.1;
         };
         row = ap₂ (λ (f : Row → Row) (st : State). f (walk_all_before (low_commands cs) st last_row)) g same
             ∙ ap f (sym (sets.walk (walk_all_before (low_commands cs) (exec k (after b s)).state last_row)));
@@ -162,7 +162,7 @@ module _ (f f' : Row → Row) (b b' : Location → Option Expr) (s : State) (tem
       record {
         can = record {
           expressions = can.expressions;
-          commands = ap (λ k. can_exec_all limit (low_commands cs) (exec k (after b s)).state) (sym h) ∙ parts.1;
+          commands = ap (λ k. can_exec_all run_limit (low_commands cs) (exec k (after b s)).state) (sym h) ∙ parts.1;
         };
         row = ap (λ k. walked f b (k ∷ cs) s) (sym h);
       }
@@ -174,7 +174,7 @@ module _ (f f' : Row → Row) (b b' : Location → Option Expr) (s : State) (tem
       record {
         can = record {
           expressions = λ l. ap (λ (b : Location → Option Expr). fits_if (b l) s) w ∙ can.expressions l;
-          commands = ap (can_exec_all limit (low_commands cs)) same ∙ parts.1;
+          commands = ap (can_exec_all run_limit (low_commands cs)) same ∙ parts.1;
         };
         row = ap₂ (λ (f : Row → Row) b. walked f b cs s) g w ∙ ap (λ k. f (command_before k (walk_all_before (low_commands cs) (after b s) last_row))) h
             ∙ ap (λ k. walked f b (k ∷ cs) s) (sym h);
@@ -186,15 +186,15 @@ module _ (f f' : Row → Row) (b b' : Location → Option Expr) (s : State) (tem
       record {
         can = record {
           expressions = can.expressions;
-          commands = ap (λ es. can_exec_all limit (low_commands es) (after b s)) w
-              ∙ can-all ds cs (after b s) (ap (λ k. can_exec limit k (after b s)) (sym h) ∙ parts.0)
-              (ap (λ k. can_exec_all limit (low_commands cs) (exec k (after b s)).state) (sym h) ∙ parts.1);
+          commands = ap (λ es. can_exec_all run_limit (low_commands es) (after b s)) w
+              ∙ can-all ds cs (after b s) (ap (λ k. can_exec run_limit k (after b s)) (sym h) ∙ parts.0)
+              (ap (λ k. can_exec_all run_limit (low_commands cs) (exec k (after b s)).state) (sym h) ∙ parts.1);
         };
         row = ap (λ es. walked f b es s) w ∙ ap f (walk-all ds cs (after b s) last_row) ∙ ap (λ k. walked f b (k ∷ cs) s) (sym h);
       }
 
   module _ (t : Cond) (c d : Command) (is : k ≡ If t c d) where
-    pub asks : cond_fits limit (substituted_cond b t) s ≡ true
+    pub asks : cond_fits run_limit (substituted_cond b t) s ≡ true
     asks = cond-fits-after b s temps can.expressions t (choice k t c d (after b s) is parts.0).0
 
     pub goes-If :
@@ -207,8 +207,8 @@ module _ (f f' : Row → Row) (b b' : Location → Option Expr) (s : State) (tem
         record {
           can = record {
             expressions = λ l. ap (λ (b : Location → Option Expr). fits_if (b l) s) h ∙ can.expressions l;
-            commands = ap₂ (λ b es. can_exec_all limit (low_commands es) (after b s)) h e
-                ∙ ap₂ ◌&&◌ (next.can parts.0) (ap (can_exec_all limit rest) (sym next.state) ∙ parts.1);
+            commands = ap₂ (λ b es. can_exec_all run_limit (low_commands es) (after b s)) h e
+                ∙ ap₂ ◌&&◌ (next.can parts.0) (ap (can_exec_all run_limit rest) (sym next.state) ∙ parts.1);
           };
           row = ap₂ (λ b es. walked f' b es s) h e
               ∙ ap (λ (f : Row → Row). walked f b (cond v c d ∷ cs) s) (g ∙ ap (λ v. λ r. f (test_before (cond v t (otherwise t)) r)) is-v)
@@ -219,13 +219,13 @@ module _ (f f' : Row → Row) (b b' : Location → Option Expr) (s : State) (tem
 -- ---- the first command and the last
 pub goes-first :
     (f : Row → Row) (b : Location → Option Expr) (c : Command) (cs : List Command) (s : State) → f ≡ clear_row → b ≡ (λ l. None) → cs ≡ c ∷ [] →
-    can_exec limit c s ≡ true → Goes clear_row f (λ l. None) b (c ∷ []) cs s
+    can_exec run_limit c s ≡ true → Goes clear_row f (λ l. None) b (c ∷ []) cs s
 unfolding split_words tree_words
 goes-first f b c cs s g h e can =
     record {
       can = record {
         expressions = λ l. ap (λ (b : Location → Option Expr). fits_if (b l) s) h;
-        commands = ap₂ (λ b cs. can_exec_all limit (low_commands cs) (after b s)) h e ∙ ap (λ v. v && true) can;
+        commands = ap₂ (λ b cs. can_exec_all run_limit (low_commands cs) (after b s)) h e ∙ ap (λ v. v && true) can;
       };
       row = ap₂ (λ (f : Row → Row) b. walked f b cs s) g h ∙ ap (λ cs. walked clear_row (λ l. None) cs s) e;
     }

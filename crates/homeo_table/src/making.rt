@@ -5,7 +5,7 @@ ghost use Rattle.homeo_syntax.specs.LowView.{plain_lexpr, plain_ltest, plain_lco
 ghost use Rattle.homeo_meaning.specs.LowMeaning.{put, holds};
 ghost use Rattle.homeo_plan.specs.PlanView.{plain_row};
 ghost use Rattle.homeo_plan.specs.Table.{last_row, set_before, test_before, otherwise, clear_row};
-ghost use Rattle.homeo_split.specs.CanExec.{limit, cond_fits};
+ghost use Rattle.homeo_split.specs.CanExec.{run_limit, cond_fits};
 ghost use Rattle.homeo_split.specs.States.{state_of};
 ghost use Rattle.homeo_table.specs.inner.Bindings.{bound};
 ghost use Rattle.homeo_table.specs.inner.Makings.{completed, command_before};
@@ -105,7 +105,7 @@ impl Making {
         test: &LCond,
         base: &Split,
     ) -> Result<bool, Memory>
-        requires { cond_fits limit (substituted_cond (bound self.old.bindings) (plain_lcond test.now)) (state_of base.now) ≡ true }
+        requires { cond_fits run_limit (substituted_cond (bound self.old.bindings) (plain_lcond test.now)) (state_of base.now) ≡ true }
         ensures taken { IfOk result (λ yes. yes ≡ holds (substituted_cond (bound self.old.bindings) (plain_lcond test.now)) (state_of base.now)) }
         ensures row { IfOk result (λ yes. completed self.new ≡
             (λ r. completed self.old (test_before (cond yes (plain_lcond test.now) (otherwise (plain_lcond test.now))) r))) }

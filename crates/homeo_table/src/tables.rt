@@ -8,7 +8,7 @@ ghost use Rattle.homeo_meaning.specs.LowSizes.{rows};
 ghost use Rattle.homeo_plan.specs.Joint.{HasOneRow};
 ghost use Rattle.homeo_plan.specs.PlanView.{plain_row};
 ghost use Rattle.homeo_plan.specs.Table.{row_at, table};
-ghost use Rattle.homeo_split.specs.CanExec.{limit, cond_fits, can_exec};
+ghost use Rattle.homeo_split.specs.CanExec.{run_limit, cond_fits, can_exec};
 ghost use Rattle.homeo_split.specs.declared.split.Split.{Split};
 ghost use Rattle.homeo_split.specs.States.{state_of};
 
@@ -37,8 +37,8 @@ pub fn table(alloc: Global, c: &LCommand) -> Result<Vec<Row>, Memory>
     ensures one { IfOk result (λ rows. (base : Split) → HasOneRow (state_of base) (map plain_row rows.items)) }
     ensures means { IfOk result (λ rows. (base : Split) → let s = state_of base in
         exec_all (row_at (map plain_row rows.items) s).residual s ≡ exec (plain_lcommand c.now) s) }
-    ensures small { IfOk result (λ rows. (base : Split) → can_exec limit (plain_lcommand c.now) (state_of base) ≡ true →
-        All (λ r. cond_fits limit (plain_row r).formula (state_of base) ≡ true) rows.items) }
+    ensures small { IfOk result (λ rows. (base : Split) → can_exec run_limit (plain_lcommand c.now) (state_of base) ≡ true →
+        All (λ r. cond_fits run_limit (plain_row r).formula (state_of base) ≡ true) rows.items) }
     ensures count { IfOk result (λ t. length t.items ≡ rows (plain_lcommand c.now)) }
 {
     let mut rows = Vec::new(alloc);

@@ -5,7 +5,7 @@ ghost use Rattle.homeo_syntax.specs.LowView.{low_commands, plain_lcommand};
 ghost use Rattle.homeo_meaning.specs.LowMeaning.{holds, exec, exec_all};
 ghost use Rattle.homeo_plan.specs.PlanView.{plain_row};
 ghost use Rattle.homeo_plan.specs.Table.{row_at, table, walk};
-ghost use Rattle.homeo_split.specs.CanExec.{limit, can_exec};
+ghost use Rattle.homeo_split.specs.CanExec.{run_limit, can_exec};
 ghost use Rattle.homeo_split.specs.States.{state_of};
 ghost use Rattle.homeo_table.specs.inner.Bindings.{bound};
 ghost use Rattle.homeo_table.specs.inner.Branches.{size_all};
@@ -32,7 +32,7 @@ use std::alloc::Global;
 ///
 /// `Memory` when out of memory.
 pub fn walk(alloc: Global, c: &LCommand, base: &Split) -> Result<Row, Memory>
-    requires { can_exec limit (plain_lcommand c.now) (state_of base.now) ≡ true }
+    requires { can_exec run_limit (plain_lcommand c.now) (state_of base.now) ≡ true }
     ensures walked { IfOk result (λ r. plain_row r ≡ walk (plain_lcommand c.now) (state_of base.now)) }
     ensures row { IfOk result (λ r. plain_row r ≡ row_at (table (plain_lcommand c.now)) (state_of base.now)) }
     ensures holds { IfOk result (λ r. holds (plain_row r).formula (state_of base.now) ≡ true) }

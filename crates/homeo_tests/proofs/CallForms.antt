@@ -17,7 +17,7 @@ use Rattle.homeo_syntax.specs.declared.low.Temp.TheVariants.{Named, Fresh}
 use Rattle.homeo_meaning.specs.CallForm.{body_form, ground_form}
 use Rattle.homeo_ground.specs.Grounding.{IsCalled}
 use Rattle.homeo_split.specs.Key.{words as split_words}
-use Rattle.homeo_split.specs.CanExec.{limit, can_exec}
+use Rattle.homeo_split.specs.CanExec.{run_limit, can_exec}
 use Rattle.homeo_split.specs.States.{state_with}
 use Rattle.homeo_split.proofs.SmallCommands.{small_law}
 
@@ -32,7 +32,7 @@ whole_at database (DeltaAt n site) = refl
 whole_is : (database : List ℤ) → whole (values_of database) ≡ state_with database [] [] []
 whole_is database = λ i p. whole_at database p i
 
-body_runs : (w : s.Workload) (t : s.Transaction) (args database : List ℤ) → IsLightBody w (Some t) args → IsWithin (schema_of w) database → can_exec limit (l_form (schema_of w) (map (λ p. p.name.name) t.params) args t.body) (whole (values_of database)) ≡ true
+body_runs : (w : s.Workload) (t : s.Transaction) (args database : List ℤ) → IsLightBody w (Some t) args → IsWithin (schema_of w) database → can_exec run_limit (l_form (schema_of w) (map (λ p. p.name.name) t.params) args t.body) (whole (values_of database)) ≡ true
 unfolding meaning_words
 body_runs w t args database light within =
     let x = schema_of w in
@@ -41,15 +41,15 @@ body_runs w t args database light within =
     small_law (10 ^ 18) (l_form x params args t.body) (whole (values_of database)) (omega arith) small.form
 
 form_runs : (w : s.Workload) (g : Ground) (database : List ℤ) (o : Option s.Transaction) → IsLightBody w o g.args → IsWithin (schema_of w) database →
-    can_exec limit (body_form w o g.args) (whole (values_of database)) ≡ true
+    can_exec run_limit (body_form w o g.args) (whole (values_of database)) ≡ true
 unfolding meaning_words split_words
 form_runs w g database None light within = refl
 form_runs w g database (Some t) light within = body_runs w t g.args database light within
 
 pub form_can_run : (w : s.Workload) (g : Ground) (c : Command) (database : List ℤ) → IsCalled w g → c ≡ ground_form w g → IsWithin (schema_of w) database →
-    can_exec limit c (state_with database [] [] []) ≡ true
+    can_exec run_limit c (state_with database [] [] []) ≡ true
 unfolding meaning_words
 form_can_run w g c database called is within =
-    ap (can_exec limit c) (sym (whole_is database))
-    ∙ ap (λ c. can_exec limit c (whole (values_of database))) is
+    ap (can_exec run_limit c) (sym (whole_is database))
+    ∙ ap (λ c. can_exec run_limit c (whole (values_of database))) is
     ∙ form_runs w g database (slice_get w.transactions g.transaction) called.light within

@@ -11,7 +11,7 @@ use Rattle.homeo_plan.specs.Needs.{IsStraight}
 use Rattle.homeo_plan.specs.Planned.{sites_of}
 use Rattle.homeo_plan.specs.SmallForms.{HasSmallForms}
 use Rattle.homeo_plan.specs.Table.{table, row_at}
-use Rattle.homeo_split.specs.CanExec.{limit, can_exec}
+use Rattle.homeo_split.specs.CanExec.{run_limit, can_exec}
 
 -- some client makes the ground call, and its site is one of the workload's
 pub record CanCompile (w : s.Workload) (g : Ground) : Type 0 where
@@ -20,6 +20,6 @@ pub record CanCompile (w : s.Workload) (g : Ground) : Type 0 where
 
 -- at a base without deltas a command can be run, and its row there has small forms and a residual without branches
 pub record CanPlan (c : Command) (base : List ℤ) : Type 0 where
-  pub runs : can_exec limit c (whole (values_of base)) ≡ true
+  pub runs : can_exec run_limit c (whole (values_of base)) ≡ true
   pub small : HasSmallForms form_limit (values_of base) (row_at (table c) (whole (values_of base)))
   pub straight : IsStraight (row_at (table c) (whole (values_of base))).residual

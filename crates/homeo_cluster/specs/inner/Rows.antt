@@ -13,7 +13,7 @@ use Rattle.homeo_site.specs.SiteState.{SiteState, renewed}
 use Rattle.homeo_core.specs.GatherView.{PreparedValue}
 use Rattle.homeo_core.specs.Events.{closing_of, next_base}
 use Rattle.homeo_core.specs.Joined.{BookState, segments_of}
-use Rattle.homeo_core.specs.inner.SiteLists.{first_from}
+use Rattle.homeo_core.specs.SiteLists.{first_from}
 use Rattle.homeo_assembly.specs.Events.{Renews}
 use Rattle.homeo_cluster.specs.inner.Cells.{CellValue, site_lists}
 use Rattle.homeo_cluster.specs.Places.{kept_line, at_line, bases_line}

@@ -8,7 +8,7 @@ use Rattle.homeo_meaning.specs.Bounds.{all_bounds}
 use Rattle.homeo_meaning.specs.Context.{Spot}
 use Rattle.homeo_meaning.specs.Meaning.{State, Run, is_within}
 use Rattle.homeo_meaning.specs.Serial.{values_of}
-use Rattle.homeo_lform.specs.inner.RowsFit.{RowsFit}
+use Rattle.homeo_lform.specs.RowsFit.{RowsFit}
 
 abbrev pub state_of : code.State → State
 unfolding words

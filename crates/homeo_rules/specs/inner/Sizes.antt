@@ -14,7 +14,7 @@ use Rattle.homeo_size.specs.declared.measures.Measure.{Measure}
 use Rattle.homeo_rules.specs.inner.Scopes.{scope_in}
 use Rattle.homeo_ground.specs.Sited.{sited}
 use Rattle.homeo_rules.specs.declared.rules.sizes.MeasuredCall.{MeasuredCall}
-use Rattle.homeo_rules.specs.declared.rules.sizes.Measuring.{Measuring}
+use Rattle.homeo_rules.specs.declared.rules.bodies.Measuring.{Measuring}
 
 abbrev pub workload_of : Measuring → s.Workload
 workload_of m = plain_workload m.workload.now

@@ -12,7 +12,7 @@ ghost use Rattle.homeo_rules.specs.inner.Sizes.{IsSetUp, workload_of};
 
 use crate::deciding::at_name;
 use crate::names::scope::Scope;
-use crate::rules::sizes::Measuring;
+use crate::rules::bodies::Measuring;
 use homeo_ground::SitedCall;
 use homeo_meaning::{Fault, Item, Phase};
 use homeo_size::{TOO_MANY_PRINTS, count_prints};

@@ -1,23 +1,22 @@
 //! How large the L forms of the ground calls are, how heavy, and their tables.
 
-ghost use Rattle.std.specs.Prelude.{◌≡◌, ◌+◌, ◌*◌, ◌||◌, [], not, map, min, nat_le, nat_lt, slice_get, IfOk};
+ghost use Rattle.std.specs.Prelude.{◌≡◌, ◌+◌, ◌*◌, ◌||◌, [], not, map, min, nat_le, nat_lt, IfOk, OnOk};
 ghost use Rattle.std.specs.List.{flat_map};
 ghost use Rattle.homeo_rules.specs.inner.Deciding.{keep_all};
 ghost use Rattle.homeo_meaning.specs.NameRules.{when, fault};
 ghost use Rattle.homeo_meaning.specs.TransactionRules.{each};
-ghost use Rattle.homeo_meaning.specs.CallForm.{body_form};
 ghost use Rattle.homeo_meaning.specs.SizeRules.{extent_of, too_large, heavy_call, too_many_rows};
 ghost use Rattle.homeo_meaning.specs.declared.rules.Phase.TheVariants.{Size, Weight, Rows};
-ghost use Rattle.homeo_ground.specs.Sited.{values, sited};
-ghost use Rattle.homeo_rules.specs.inner.Scopes.{scope_in};
-ghost use Rattle.homeo_rules.specs.inner.Sizes.{IsSetUp, workload_of, transaction_place, call_of, told_size, IsMeasuredBody, IsMeasuredAs, IsTold, AreTold, AreMeasured, is_too_large, known};
+ghost use Rattle.homeo_ground.specs.Sited.{sited};
+ghost use Rattle.homeo_rules.specs.inner.Bodies.{AreBodies};
+ghost use Rattle.homeo_rules.specs.inner.Sizes.{IsSetUp, workload_of, call_of, told_size, IsTold, AreTold, AreMeasured, is_too_large, known};
 
 use crate::deciding::at_name;
-use crate::names::scope::Scope;
+use crate::rules::bodies::{Bodies, Measuring};
 use homeo_ground::SitedCall;
-use homeo_meaning::{Fault, Item, Phase};
-use homeo_size::{BEYOND, Layout, Measure, TOO_HEAVY, measure};
-use homeo_syntax::{Ident, Memory, Number, Workload};
+use homeo_meaning::{Fault, Phase};
+use homeo_size::{BEYOND, Measure, TOO_HEAVY};
+use homeo_syntax::{Ident, Memory};
 use std::alloc::Global;
 
 /// The largest size of a ground call.
@@ -35,14 +34,6 @@ const MOST_ROWS: u64 = 4_096;
 /// The most rows times sizes together.
 const MOST_ROWS_TOGETHER: u64 = 8_000_000;
 
-/// What is told of a call that has no body.
-const NOTHING: Measure = Measure {
-    size: 1,
-    depth: 0,
-    weight: 0,
-    rows: 1,
-};
-
 /// What is told of a call that is too large, or that comes after calls that are too large together.
 const UNMEASURED: Measure = Measure {
     size: BEYOND,
@@ -50,15 +41,6 @@ const UNMEASURED: Measure = Measure {
     weight: TOO_HEAVY,
     rows: BEYOND,
 };
-
-/// What calls are measured in, the same for each call.
-#[derive(Clone, Copy)]
-pub struct Measuring<'a, 'b> {
-    pub scope: Scope<'a>,
-    pub workload: &'a Workload,
-    pub layout: &'b Layout<'a>,
-    pub sites: u64,
-}
 
 /// A ground call with its measure. There is none where it is larger than all calls may be together, with those before it.
 #[derive(Clone, Copy)]
@@ -81,62 +63,23 @@ fn capped_product(a: u64, b: u64) -> u64
     BEYOND.min(a.saturating_mul(b))
 }
 
-/// The measure of the transaction of a number, with these arguments.
-fn measure_at(
-    alloc: Global,
-    place: usize,
-    args: &[Number],
-    measuring: &Measuring<'_, '_>,
-) -> Result<Option<Measure>, Memory>
-    requires { IsSetUp measuring.now }
-    ensures { IfOk result (IsMeasuredBody (workload_of measuring.now)
-        (slice_get (workload_of measuring.now).transactions place) (values args.now)) }
-{
-    match measuring.workload.transactions.as_slice().get(place) {
-        Some(t) => measure(alloc, t, args, measuring.layout, measuring.sites),
-        None => Ok(Some(NOTHING)),
-    }
-}
-
-/// The number of the transaction that a name names.
-fn transaction_place(scope: Scope<'_>, name: u32) -> Option<usize>
-    ensures { result ≡ transaction_place ((scope_in scope.entry).item name) }
-{
-    match scope.item(name) {
-        Some(Item::Transaction(place)) => Some(place),
-        _ => None,
-    }
-}
-
-/// The measure of a call.
-fn measure_call(
-    alloc: Global,
-    call: SitedCall<'_>,
-    measuring: &Measuring<'_, '_>,
-) -> Result<Option<Measure>, Memory>
-    requires { IsSetUp measuring.now }
-    ensures { IfOk result (IsMeasuredAs (workload_of measuring.now) (sited call.entry)) }
-{
-    match transaction_place(measuring.scope, call.name.name) {
-        Some(place) => measure_at(alloc, place, call.args, measuring),
-        None => Ok(Some(NOTHING)),
-    }
-}
-
 /// Measures a call, unless those before it are too large together already: then what comes is a fault, however large.
 fn measure_after(
     alloc: Global,
     total: u64,
     call: SitedCall<'_>,
     measuring: &Measuring<'_, '_>,
+    bodies: &mut Bodies,
 ) -> Result<Option<Measure>, Memory>
-    requires { IsSetUp measuring.now }
-    ensures { IfOk result (IsTold (workload_of measuring.now) total (sited call.entry)) }
+    requires set_up { IsSetUp measuring.now }
+    requires bodies { AreBodies (workload_of measuring.now) bodies.old }
+    ensures bodies { OnOk result (AreBodies (workload_of measuring.now) bodies.new) }
+    ensures told { IfOk result (IsTold (workload_of measuring.now) total (sited call.entry)) }
 {
     if total > LARGEST_TOGETHER {
         return Ok(None);
     }
-    measure_call(alloc, call, measuring)
+    bodies.measure(alloc, call, measuring)
 }
 
 /// The measure, or what stands for that of a call that is not measured.
@@ -149,7 +92,7 @@ fn known(measure: Option<Measure>) -> Measure
     }
 }
 
-/// Measures each call once.
+/// Measures each call, those of one transaction with the same arguments once.
 pub fn measure_calls<'a>(
     alloc: Global,
     calls: &[SitedCall<'a>],
@@ -161,8 +104,9 @@ pub fn measure_calls<'a>(
 {
     let mut total = 0;
     let mut all = Vec::new(alloc);
+    let mut bodies = Bodies::new(alloc);
     for call in calls {
-        let measure = measure_after(alloc, total, *call, measuring)?;
+        let measure = measure_after(alloc, total, *call, measuring, &mut bodies)?;
         total = capped_sum(total, known(measure).size);
         all.push(MeasuredCall {
             call: *call,

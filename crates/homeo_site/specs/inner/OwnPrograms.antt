@@ -11,7 +11,7 @@ use Rattle.homeo_plan.specs.Each.{Each}
 use Rattle.homeo_plan.specs.Joined.{alone}
 use Rattle.homeo_plan.specs.Planned.{sites_of}
 use Rattle.homeo_plan.specs.Template.{PlannedCall, base_row}
-use Rattle.homeo_split.specs.CanExec.{limit, can_exec_all}
+use Rattle.homeo_split.specs.CanExec.{run_limit, can_exec_all}
 use Rattle.homeo_build.specs.Plan.{IsPlanOf}
 use Rattle.homeo_effect.specs.Counts.{assignment_count, print_count}
 use Rattle.homeo_effect.specs.OwnState.{own_state}
@@ -29,8 +29,8 @@ pub record RunsAs (b : ℕ → ℤ) (i count : ℕ) (cs : Commands) (p : Program
   pub set : set_after_all 0 p.steps.items ≡ assignment_count cs
   pub printed : prints_of_all p.steps.items ≡ print_count cs
   pub objects : Each (λ d. d.object < count) (written (plain_program p))
-  pub small : (x kept : List ℤ) → can_exec_all limit cs (alone b i (values_of x)) ≡ true →
-      can_exec_all limit (plain_program p) (own_state i x kept) ≡ true
+  pub small : (x kept : List ℤ) → can_exec_all run_limit cs (alone b i (values_of x)) ≡ true →
+      can_exec_all run_limit (plain_program p) (own_state i x kept) ≡ true
   pub same_prints : (x kept : List ℤ) →
       (exec_all (plain_program p) (own_state i x kept)).prints ≡ (exec_all cs (alone b i (values_of x))).prints
   pub same_deltas : (x kept : List ℤ) (n : ℕ) →

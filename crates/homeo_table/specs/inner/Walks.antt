@@ -6,7 +6,7 @@ use Rattle.homeo_syntax.specs.Low.{Expr, Command}
 use Rattle.homeo_syntax.specs.LowView.{low_commands, plain_lcommand}
 use Rattle.homeo_meaning.specs.LowMeaning.{Location, State, value}
 use Rattle.homeo_plan.specs.Table.{Row, last_row, walk_all_before}
-use Rattle.homeo_split.specs.CanExec.{limit, expr_fits, can_exec_all}
+use Rattle.homeo_split.specs.CanExec.{run_limit, expr_fits, can_exec_all}
 
 -- the value of an expression at s, or n where there is none
 abbrev pub value_or : ℤ → Option Expr → State → ℤ
@@ -20,12 +20,12 @@ after b s l = value_or (s l) (b l) s
 -- an expression, if there is one, can be evaluated at s
 abbrev pub fits_if : Option Expr → State → Bool
 fits_if None s = true
-fits_if (Some e) s = expr_fits limit e s
+fits_if (Some e) s = expr_fits run_limit e s
 
 -- commands can be followed from the state where these expressions stand
 pub record CanFollow (b : Location → Option Expr) (cs : List Command) (s : State) : Type 0 where
   pub expressions : (l : Location) → fits_if (b l) s ≡ true
-  pub commands : can_exec_all limit (low_commands cs) (after b s) ≡ true
+  pub commands : can_exec_all run_limit (low_commands cs) (after b s) ≡ true
 
 -- the row of these commands' walk from the state where these expressions stand, made whole by f
 abbrev pub walked : (Row → Row) → (Location → Option Expr) → List Command → State → Row

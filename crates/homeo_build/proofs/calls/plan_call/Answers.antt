@@ -9,13 +9,13 @@ use Rattle.homeo_plan.specs.Limit.{form_limit}
 use Rattle.homeo_plan.specs.Linear.{base_forms}
 use Rattle.homeo_plan.specs.Needs.{needs, IsStraight}
 use Rattle.homeo_plan.specs.Table.{Row, table, row_at}
-use Rattle.homeo_split.specs.CanExec.{limit, can_exec}
+use Rattle.homeo_split.specs.CanExec.{run_limit, can_exec}
 use Rattle.homeo_build.proofs.Undivided.{undivided}
 use Rattle.homeo_build.proofs.calls.plan_call.Goals as goal
 
 pub walk-requires : goal.walk-requires
 walk-requires c =
-    ap (can_exec limit (plain_lcommand c.args.command.now)) (undivided c.args.split.now c.requires.undivided) ∙ c.requires.can.runs
+    ap (can_exec run_limit (plain_lcommand c.args.command.now)) (undivided c.args.split.now c.requires.undivided) ∙ c.requires.can.runs
 
 pub atoms-requires-clause-holds : goal.atoms-requires-clause-holds
 atoms-requires-clause-holds c =

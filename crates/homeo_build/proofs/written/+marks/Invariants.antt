@@ -1,7 +1,7 @@
 use Rattle.std.proofs.Common.{map, take}
 use Rattle.homeo_syntax.specs.LowView.{low_commands, plain_lcommand}
 use Rattle.homeo_plan.specs.Shares.{writes_all}
-use Rattle.homeo_build.specs.inner.Written.{delta_at}
+use Rattle.homeo_build.specs.Written.{delta_at}
 use Rattle.homeo_build.proofs.WrittenDeltas.{Marked}
 use Rattle.homeo_build.proofs.written.+marks.Given as goal
 

@@ -1,7 +1,7 @@
 use Rattle.std.proofs.Common.{map, ap, ◌∙◌, arith}
 use Rattle.std.proofs.lemmas.List.{map_push}
 use Rattle.homeo_syntax.specs.SourceView.{plain_workload}
-use Rattle.homeo_build.specs.inner.Written.{delta_at}
+use Rattle.homeo_build.specs.Written.{delta_at}
 use Rattle.homeo_build.proofs.WrittenDeltas.{tell_begin, tell_more, tell_all, all_written, same_count}
 use Rattle.homeo_build.proofs.written.written_objects.Goals as goal
 

@@ -1,7 +1,7 @@
 use Rattle.homeo_site.specs.SiteView.{StartValue}
 use Rattle.homeo_core.specs.Key.{words}
 use Rattle.std.proofs.Common.{sym, ap, subst, map, ◌≡◌, suc, ◌+◌, Some, [], ◌∷◌, ◌++◌, true, length, replicate, ◌∙◌, arith}
-use Rattle.homeo_core.specs.inner.Starts.{AreStarts, waits, start_after}
+use Rattle.homeo_core.specs.Starts.{AreStarts, waits, start_after}
 use Rattle.homeo_core.proofs.StartsOfSites.{no_starts, starts_more, waiting_more, waiting_count}
 use Rattle.homeo_core.proofs.prepared.starts_after.Goals as goal
 

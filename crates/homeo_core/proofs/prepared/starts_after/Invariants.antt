@@ -1,6 +1,6 @@
 -- The starts so far are those of the first sites.
 use Rattle.std.proofs.Common.{◌≡◌, true, map, replicate}
-use Rattle.homeo_core.specs.inner.Starts.{AreStarts, waits}
+use Rattle.homeo_core.specs.Starts.{AreStarts, waits}
 use Rattle.homeo_core.proofs.prepared.starts_after.Given as goal
 
 abbrev pub invariant-loop-site : goal.invariant-loop-site

@@ -16,8 +16,8 @@ use Rattle.homeo_core.specs.CoreView.{start_of}
 use Rattle.homeo_core.specs.Events.{closing_on}
 use Rattle.homeo_core.specs.GatherView.{GatherValue, PreparedValue}
 use Rattle.homeo_core.specs.Joined.{BookState, gathered, segments_of}
-use Rattle.homeo_core.specs.inner.Books.{book_of}
-use Rattle.homeo_core.specs.inner.SiteLists.{states, AreAt}
+use Rattle.homeo_core.specs.Books.{book_of}
+use Rattle.homeo_core.specs.SiteLists.{states, AreAt}
 use Rattle.homeo_core.proofs.GatheredSites.{states_count, length_same}
 use Rattle.homeo_core.proofs.InRounds.{at_round, all_fit}
 use Rattle.homeo_core.proofs.OpenRound.{first_within, whole_within}

@@ -5,7 +5,7 @@ use Rattle.homeo_site.specs.SiteView.{SiteValue}
 use Rattle.homeo_core.specs.Key.{words}
 use Rattle.homeo_core.specs.GatherView.{GatherValue}
 use Rattle.homeo_core.specs.Joined.{plus_deltas, gathered}
-use Rattle.homeo_core.specs.inner.SiteLists.{states}
+use Rattle.homeo_core.specs.SiteLists.{states}
 use Rattle.homeo_core.proofs.GatheredSites.{states_at, states_count, gathered_next, take_whole}
 use Rattle.homeo_core.proofs.rounds.gather_all.Goals as goal
 

@@ -1,7 +1,7 @@
 -- The deltas of the sites so far are added.
 use Rattle.std.proofs.Common.{◌≡◌, take}
 use Rattle.homeo_core.specs.Joined.{gathered}
-use Rattle.homeo_core.specs.inner.SiteLists.{states}
+use Rattle.homeo_core.specs.SiteLists.{states}
 use Rattle.homeo_core.proofs.rounds.gather_all.Given as goal
 
 abbrev pub invariant-loop-site : goal.invariant-loop-site

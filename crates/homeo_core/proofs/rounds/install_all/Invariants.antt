@@ -2,7 +2,7 @@
 use Rattle.std.proofs.Common.{◌≡◌, false, map, length, replicate}
 use Rattle.homeo_site.specs.SiteState.{renewed}
 use Rattle.homeo_core.specs.Joined.{segments_of}
-use Rattle.homeo_core.specs.inner.SiteLists.{states, AreOf, first_from}
+use Rattle.homeo_core.specs.SiteLists.{states, AreOf, first_from}
 use Rattle.homeo_core.proofs.rounds.install_all.Given as goal
 
 abbrev pub invariant-loop-i : goal.invariant-loop-i

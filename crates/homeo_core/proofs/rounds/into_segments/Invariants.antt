@@ -2,7 +2,7 @@
 use Rattle.std.proofs.Common.{◌≡◌, map}
 use Rattle.homeo_history.specs.HistoryView.{plain_segment}
 use Rattle.homeo_core.specs.Joined.{segments_of}
-use Rattle.homeo_core.specs.inner.SiteLists.{states}
+use Rattle.homeo_core.specs.SiteLists.{states}
 use Rattle.homeo_core.proofs.rounds.into_segments.Given as goal
 
 abbrev pub invariant-loop-site : goal.invariant-loop-site

@@ -5,7 +5,7 @@ use Rattle.homeo_site.specs.SiteState.{begun}
 use Rattle.std.proofs.lemmas.List.Elements.{All-push}
 use Rattle.std.proofs.Common.{sym, ap, subst, ◌≡◌, suc, ◌+◌, [], ◌∷◌, ◌++◌, ◌∙◌, arith}
 use Rattle.homeo_core.specs.Key.{words}
-use Rattle.homeo_core.specs.inner.SiteLists.{states, AreOf}
+use Rattle.homeo_core.specs.SiteLists.{states, AreOf}
 use Rattle.homeo_core.proofs.CoreStarts.{none_of, begun_more}
 use Rattle.homeo_core.proofs.steps.begin_sites.Goals as goal
 

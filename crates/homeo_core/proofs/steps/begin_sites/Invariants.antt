@@ -1,7 +1,7 @@
 -- The sites so far have begun.
 use Rattle.std.proofs.Common.{◌≡◌}
 use Rattle.homeo_core.specs.CoreView.{begun_sites}
-use Rattle.homeo_core.specs.inner.SiteLists.{states, AreOf}
+use Rattle.homeo_core.specs.SiteLists.{states, AreOf}
 use Rattle.homeo_core.proofs.steps.begin_sites.Given as goal
 
 abbrev pub invariant-loop-site : goal.invariant-loop-site

@@ -16,8 +16,8 @@ use Rattle.homeo_core.specs.Key.{words}
 use Rattle.homeo_core.specs.CoreView.{start_of, book_after, sites_after, answer_to}
 use Rattle.homeo_core.specs.Events.{BreaksCall, closing_of, next_base, after_closing}
 use Rattle.homeo_core.specs.Joined.{BookState, AreJoined}
-use Rattle.homeo_core.specs.inner.Books.{book_of}
-use Rattle.homeo_core.specs.inner.SiteLists.{states}
+use Rattle.homeo_core.specs.Books.{book_of}
+use Rattle.homeo_core.specs.SiteLists.{states}
 use Rattle.homeo_core.specs.Tried.{IsTried, after_try}
 use Rattle.homeo_core.proofs.CallsMade.{none_where_kept, home_is, home_lt, states_stay, on_err, on_err_map, if_ok}
 use Rattle.homeo_core.proofs.GatheredSites.{states_at, states_set}

@@ -5,15 +5,15 @@ use Rattle.homeo_syntax.specs.LowView.{plain_lexpr}
 use Rattle.homeo_syntax.proofs.LowViews.{low_Literal, low_Neg}
 use Rattle.homeo_meaning.specs.Small.{is_small}
 use Rattle.homeo_meaning.proofs.Numbers.{kept_is}
-use Rattle.homeo_split.specs.CanExec.{limit}
+use Rattle.homeo_split.specs.CanExec.{run_limit}
 use Rattle.homeo_effect.proofs.Literals.{negation_small, negated_Some, negated_None}
 use Rattle.homeo_effect.proofs.expressions.negated.Goals as goal
 
 pub minus-requires : goal.minus-requires
 minus-requires c =
     let n = kept_is c.in-Some.n _ (search rules) refl in
-    subst (λ v. is_small limit (neg_ℤ v) ≡ true) (sym n)
-    (negation_small limit (plain_lexpr c.args.e) c.in-Some.n c.requires.0 c.in-Some.ensures c.requires.1)
+    subst (λ v. is_small run_limit (neg_ℤ v) ≡ true) (sym n)
+    (negation_small run_limit (plain_lexpr c.args.e) c.in-Some.n c.requires.0 c.in-Some.ensures c.requires.1)
 
 pub returns-in-Some : goal.returns-in-Some
 returns-in-Some c =

@@ -3,7 +3,7 @@ use Rattle.std.proofs.Common.{rules, ◌≡◌, ◌+◌, ◌*ℤ◌, true, w64, 
 use Rattle.homeo_syntax.specs.LowView.{low_exprs, plain_lexpr}
 use Rattle.homeo_meaning.specs.Small.{is_small}
 use Rattle.homeo_meaning.proofs.Numbers.{kept_is}
-use Rattle.homeo_split.specs.CanExec.{limit}
+use Rattle.homeo_split.specs.CanExec.{run_limit}
 use Rattle.homeo_effect.specs.Localized.{literal_product}
 use Rattle.homeo_effect.specs.inner.Alone.{ProductFits}
 use Rattle.homeo_effect.proofs.LiteralSteps.{product_step, product_ends, product_done}
@@ -13,7 +13,7 @@ pub times-product-requires : goal.times-product-requires
 times-product-requires c =
     let step = product_step c.args.factors.now c.loop-factor.factor-index c.factor-item.result c.loop-factor-test.true c.factor-item.is _ c.in-Some.n c.in-Some.ensures c.loop-factor.invariant.fits in
     let n = kept_is c.in-Some.n _ (search rules) refl in
-    subst (λ v. is_small limit (to_z w64 c.loop-factor.product-bits *ℤ v) ≡ true) (sym n) step.small
+    subst (λ v. is_small run_limit (to_z w64 c.loop-factor.product-bits *ℤ v) ≡ true) (sym n) step.small
 
 pub returns-in-None : goal.returns-in-None
 returns-in-None c =

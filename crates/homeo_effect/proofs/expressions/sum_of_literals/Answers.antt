@@ -3,7 +3,7 @@ use Rattle.std.proofs.Common.{rules, ◌≡◌, ◌+◌, ◌+ℤ◌, true, w64, 
 use Rattle.homeo_syntax.specs.LowView.{low_exprs, plain_lexpr}
 use Rattle.homeo_meaning.specs.Small.{is_small}
 use Rattle.homeo_meaning.proofs.Numbers.{kept_is}
-use Rattle.homeo_split.specs.CanExec.{limit}
+use Rattle.homeo_split.specs.CanExec.{run_limit}
 use Rattle.homeo_effect.specs.Localized.{literal_sum}
 use Rattle.homeo_effect.specs.inner.Alone.{SumFits}
 use Rattle.homeo_effect.proofs.LiteralSteps.{sum_step, sum_ends, sum_done}
@@ -13,7 +13,7 @@ pub plus-sum-requires : goal.plus-sum-requires
 plus-sum-requires c =
     let step = sum_step c.args.terms.now c.loop-term.term-index c.term-item.result c.loop-term-test.true c.term-item.is _ c.in-Some.n c.in-Some.ensures c.loop-term.invariant.fits in
     let n = kept_is c.in-Some.n _ (search rules) refl in
-    subst (λ v. is_small limit (to_z w64 c.loop-term.sum-bits +ℤ v) ≡ true) (sym n) step.small
+    subst (λ v. is_small run_limit (to_z w64 c.loop-term.sum-bits +ℤ v) ≡ true) (sym n) step.small
 
 pub returns-in-None : goal.returns-in-None
 returns-in-None c =

@@ -1,7 +1,7 @@
 -- Each kind of step.
 use Rattle.std.proofs.Common.{rules, ◌<◌, length, ap, ◌∙◌}
 use Rattle.homeo_meaning.proofs.Numbers.{kept_is}
-use Rattle.homeo_split.specs.CanExec.{limit}
+use Rattle.homeo_split.specs.CanExec.{run_limit}
 use Rattle.homeo_effect.specs.OwnState.{own_state}
 use Rattle.homeo_effect.specs.inner.Places.{run_of}
 use Rattle.homeo_effect.proofs.StepRuns.{done, set_place, set_fits, set_next, set_spare, set_run, write_place, write_fits, write_next, write_spare, write_run, print_place, print_fits, print_next, print_spare, print_run}
@@ -9,7 +9,7 @@ use Rattle.homeo_effect.proofs.running.run_step.Goals as goal
 
 -- ---- a temporary is set
 pub value_at-number-requires : goal.value_at-number-requires
-value_at-number-requires c = set_fits c.args.step.now c.in-Set.e c.in-Set.is limit c.args.site c.args.set _ c.requires.small
+value_at-number-requires c = set_fits c.args.step.now c.in-Set.e c.in-Set.is run_limit c.args.site c.args.set _ c.requires.small
 
 pub bounds-temporaries-set : goal.bounds-temporaries-set
 bounds-temporaries-set c = set_place c.args.step.now c.in-Set.e c.in-Set.is c.args.set _ _ _ c.requires.place
@@ -39,7 +39,7 @@ returns-in-Set-clause-run c =
 -- ---- a delta is written
 pub value_at-number-requires-in-Write : goal.value_at-number-requires-in-Write
 value_at-number-requires-in-Write c =
-    write_fits c.args.step.now c.in-Write.object c.in-Write.e c.in-Write.is limit c.args.site c.args.set _ c.requires.small
+    write_fits c.args.step.now c.in-Write.object c.in-Write.e c.in-Write.is run_limit c.args.site c.args.set _ c.requires.small
 
 pub bounds-deltas-object : goal.bounds-deltas-object
 bounds-deltas-object c = write_place c.args.step.now c.in-Write.object c.in-Write.e c.in-Write.is c.args.set _ _ _ c.requires.place
@@ -58,7 +58,7 @@ returns-in-Write-clause-run c =
 
 -- ---- a number is printed
 pub value_at-number-requires-in-Print : goal.value_at-number-requires-in-Print
-value_at-number-requires-in-Print c = print_fits c.args.step.now c.in-Print.e c.in-Print.is limit c.args.site c.args.set _ c.requires.small
+value_at-number-requires-in-Print c = print_fits c.args.step.now c.in-Print.e c.in-Print.is run_limit c.args.site c.args.set _ c.requires.small
 
 pub returns-in-Print-clause-set : goal.returns-in-Print-clause-set
 returns-in-Print-clause-set c = print_next c.args.step.now c.in-Print.e c.in-Print.is c.args.set

@@ -7,7 +7,7 @@ use Rattle.homeo_meaning.specs.Serial.{values_of}
 use Rattle.homeo_plan.specs.Joined.{alone}
 use Rattle.homeo_plan.specs.Needs.{IsStraight}
 use Rattle.homeo_plan.specs.PlanView.{plain_residual}
-use Rattle.homeo_split.specs.CanExec.{limit, can_exec_all}
+use Rattle.homeo_split.specs.CanExec.{run_limit, can_exec_all}
 use Rattle.homeo_effect.specs.Localized.{local_command}
 use Rattle.homeo_effect.specs.OwnCommands.{are_own}
 use Rattle.homeo_effect.specs.Touched.{written}
@@ -49,8 +49,8 @@ pub returns-clause-can_run : goal.returns-clause-can_run
 returns-clause-can_run c x h =
     let b = values_of c.args.base.now.items in
     let site = c.args.residual.now.site in
-    ap (λ cs. can_exec_all limit cs (alone b site x)) (commands_are c)
-    ∙ can_too b site limit (plain_residual c.args.residual.now) (alone b site x) c.requires.straight c.requires.own (alone_is_alone b site x) h
+    ap (λ cs. can_exec_all run_limit cs (alone b site x)) (commands_are c)
+    ∙ can_too b site run_limit (plain_residual c.args.residual.now) (alone b site x) c.requires.straight c.requires.own (alone_is_alone b site x) h
 
 pub returns-clause-straight : goal.returns-clause-straight
 returns-clause-straight c =

@@ -1,7 +1,7 @@
 use Rattle.std.proofs.Common.{◌≡◌, true, pos, ◌&&◌, length, refl, sym, ap, subst, ◌∙◌}
 use Rattle.homeo_syntax.specs.SourceView.{plain_cond}
 use Rattle.homeo_meaning.specs.Key.{words}
-use Rattle.homeo_meaning.specs.Acceptance.{limit}
+use Rattle.homeo_meaning.specs.Acceptance.{weight_limit}
 use Rattle.homeo_meaning.specs.Context.{Slot, bind}
 use Rattle.homeo_meaning.specs.Meaning.{done, is_used, holds, visit, set_object}
 use Rattle.homeo_eval.specs.inner.CanRun.{cond_fits, visits_fit}
@@ -21,7 +21,7 @@ loop-number-init c =
     let s = state_of c.args.state.now in
     record {
       places = refl;
-      fits = subst (λ l. visits_fit (cond_fits_at limit x c.args.row d) (can_clear) (holds_at x c.args.row d) (clears) l s ≡ true) (sym (left_all t ∙ c.relation-slots.ensures.slots)) c.requires;
+      fits = subst (λ l. visits_fit (cond_fits_at weight_limit x c.args.row d) (can_clear) (holds_at x c.args.row d) (clears) l s ≡ true) (sym (left_all t ∙ c.relation-slots.ensures.slots)) c.requires;
       left = refl;
     }
 
@@ -33,8 +33,8 @@ is_visited-requires c =
     let i = c.loop-number.number in
     let s = state_of c.loop-number.state in
     let slot = slot_is t i c.slot-slot.result c.slot-slot.ensures.number c.slot-slot.ensures.used c.slot-slot.ensures.fields in
-    let step = visit_step (cond_fits_at limit x c.args.row d) (can_clear) (holds_at x c.args.row d) (clears) t i s c.loop-number-test.true c.loop-number.invariant.fits in
-    ap (λ z. cond_fits limit (bind x c.args.row z) d s) slot ∙ step.tested
+    let step = visit_step (cond_fits_at weight_limit x c.args.row d) (can_clear) (holds_at x c.args.row d) (clears) t i s c.loop-number-test.true c.loop-number.invariant.fits in
+    ap (λ z. cond_fits weight_limit (bind x c.args.row z) d s) slot ∙ step.tested
 
 pub loop-number-preserved : goal.loop-number-preserved
 unfolding words
@@ -45,14 +45,14 @@ loop-number-preserved c =
     let i = c.loop-number.number in
     let s = state_of c.loop-number.state in
     let slot = slot_is t i c.slot-slot.result c.slot-slot.ensures.number c.slot-slot.ensures.used c.slot-slot.ensures.fields in
-    let step = visit_step (cond_fits_at limit x c.args.row d) (can_clear) (holds_at x c.args.row d) (clears) t i s c.loop-number-test.true c.loop-number.invariant.fits in
+    let step = visit_step (cond_fits_at weight_limit x c.args.row d) (can_clear) (holds_at x c.args.row d) (clears) t i s c.loop-number-test.true c.loop-number.invariant.fits in
     let visited = c.is_visited.ensures ∙ ap (λ z. is_used s z && holds (bind x c.args.row z) d s) slot in
     let after = state_of c.if-is_visited.state in
     let ran : done after ≡ here_of (holds_at x c.args.row d) (clears) (slot_of t i) s = elim c.if-is_visited.branch [
       | then-is_visited w ↦ (ap (λ z. done (state_of z)) w.state-is ∙ ap done (w.set.ensures.set ∙ ap (λ (z : Slot). set_object s z.used (pos 0)) slot) ∙ sym (here_visited (holds_at x c.args.row d) (clears) (slot_of t i) s c.is_visited.result visited w.if-is_visited.true))
       | else-is_visited w ↦ (ap (λ z. done (state_of z)) w.state-is ∙ sym (here_passed (holds_at x c.args.row d) (clears) (slot_of t i) s c.is_visited.result visited w.if-is_visited.false))
     ] in
-    let next = quiet_step (cond_fits_at limit x c.args.row d) (can_clear) (holds_at x c.args.row d) (clears) t i s after step ran in
+    let next = quiet_step (cond_fits_at weight_limit x c.args.row d) (can_clear) (holds_at x c.args.row d) (clears) t i s after step ran in
     record {
       places = elim c.if-is_visited.branch [
         | then-is_visited w ↦ ap (λ z. length z.database.items) w.state-is ∙ w.set.ensures.places ∙ c.loop-number.invariant.places

@@ -1,6 +1,6 @@
 use Rattle.std.proofs.Common.{◌&&◌, sym, ap, ◌∙◌}
 use Rattle.homeo_syntax.specs.SourceView.{plain_cond}
-use Rattle.homeo_meaning.specs.Acceptance.{limit}
+use Rattle.homeo_meaning.specs.Acceptance.{weight_limit}
 use Rattle.homeo_meaning.specs.Context.{bind}
 use Rattle.homeo_meaning.specs.Meaning.{holds}
 use Rattle.homeo_eval.specs.inner.CanRun.{cond_fits}
@@ -13,7 +13,7 @@ use Rattle.homeo_eval.proofs.changes.is_visited.Goals as goal
 pub holds-requires : goal.holds-requires
 holds-requires c =
     let inner = context_bound c.args.context.now c.with.result c.args.row c.args.slot.now c.with.ensures.declared c.with.ensures.arguments c.with.ensures.rows in
-    ap (λ x. cond_fits limit x (plain_cond c.args.test.now) (state_of c.args.state.now)) inner ∙ c.requires
+    ap (λ x. cond_fits weight_limit x (plain_cond c.args.test.now) (state_of c.args.state.now)) inner ∙ c.requires
 
 pub returns : goal.returns
 returns c =

@@ -1,7 +1,7 @@
 use Rattle.std.proofs.Common.{rules, ◌≡◌, length, Some, sym, ap, ◌∙◌}
 use Rattle.homeo_syntax.specs.SourceView.{plain_expr}
 use Rattle.homeo_meaning.specs.Key.{words}
-use Rattle.homeo_meaning.specs.Acceptance.{limit}
+use Rattle.homeo_meaning.specs.Acceptance.{weight_limit}
 use Rattle.homeo_meaning.specs.Context.{spot, slots, fields, slot_at}
 use Rattle.homeo_meaning.specs.Meaning.{value}
 use Rattle.homeo_eval.specs.inner.CanRun.{expr_fits}
@@ -23,7 +23,7 @@ returns-then-slots-eq0-clause-set c =
 
 pub value-requires : goal.value-requires
 value-requires c =
-    some_here c.relation-slots.result _ (expr_fits limit (plain_context c.args.context.now) (plain_expr c.args.index.now) (state_of c.args.state.now)) c.relation-slots.ensures.slots c.if-slots-eq0.false c.requires.index
+    some_here c.relation-slots.result _ (expr_fits weight_limit (plain_context c.args.context.now) (plain_expr c.args.index.now) (state_of c.args.state.now)) c.relation-slots.ensures.slots c.if-slots-eq0.false c.requires.index
 
 pub value-v-requires : goal.value-v-requires
 value-v-requires c =
@@ -33,7 +33,7 @@ value-v-requires c =
     let i = value x (plain_expr c.args.index.now) s in
     let index = kept_is c.value.result _ (search rules) c.value.ensures in
     let found : slot_at i all ≡ Some (plain_slot c.in-Some.slot) = sym (c.in-Some.ensures ∙ (λ j. slot_at (index j) (c.relation-slots.ensures.slots j))) in
-    slot_fits_value i all (plain_slot c.in-Some.slot) (expr_fits limit x (plain_expr c.args.e.now) s) found c.requires.value
+    slot_fits_value i all (plain_slot c.in-Some.slot) (expr_fits weight_limit x (plain_expr c.args.e.now) s) found c.requires.value
 
 pub write_field-requires : goal.write_field-requires
 unfolding words

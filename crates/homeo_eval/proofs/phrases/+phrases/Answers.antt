@@ -3,7 +3,7 @@ use Rattle.homeo_syntax.specs.SourceView.{exprs, tests, plain_expr, plain_test, 
 use Rattle.homeo_syntax.specs.declared.phrase.Expr.{the_lemmas}
 use Rattle.homeo_syntax.proofs.SourceViews.{plain_Total, plain_conjunction}
 use Rattle.homeo_meaning.specs.Key.{words}
-use Rattle.homeo_meaning.specs.Acceptance.{limit}
+use Rattle.homeo_meaning.specs.Acceptance.{weight_limit}
 use Rattle.homeo_meaning.specs.Context.{bind}
 use Rattle.homeo_meaning.specs.Meaning.{is_used, added, value, sum_value, product_value, holds}
 use Rattle.homeo_meaning.specs.Small.{is_small}
@@ -27,7 +27,7 @@ pub sum-plus-total-requires : goal.sum-plus-total-requires
 sum-plus-total-requires t c =
     let k = sum_step c.args.es.now c.loop-e.e-index c.e-item.result c.loop-e-test.true c.e-item.is c.loop-e.invariant.fits in
     let e = kept_is c.value.result _ (search rules) c.value.ensures in
-    subst (λ v. is_small limit (to_z w64 c.loop-e.total-bits +ℤ v) ≡ true) (sym e) k.small
+    subst (λ v. is_small weight_limit (to_z w64 c.loop-e.total-bits +ℤ v) ≡ true) (sym e) k.small
 
 pub sum-loop-e-preserved : goal.sum-loop-e-preserved
 sum-loop-e-preserved t c =
@@ -38,7 +38,7 @@ sum-loop-e-preserved t c =
     let s = state_of c.args.state.now in
     let rest = exprs (map plain_expr (drop (c.loop-e.e-index + 1) c.args.es.now)) in
     record {
-      fits = subst (λ n. sum_fits limit x rest s n ≡ true) (sym n) k.rest;
+      fits = subst (λ n. sum_fits weight_limit x rest s n ≡ true) (sym n) k.rest;
       left = ap (λ n. sum_value x rest s n) n ∙ k.same ∙ c.loop-e.invariant.left;
     }
 
@@ -53,7 +53,7 @@ pub product-times-total-requires : goal.product-times-total-requires
 product-times-total-requires t c =
     let k = product_step c.args.es.now c.loop-e.e-index c.e-item.result c.loop-e-test.true c.e-item.is c.loop-e.invariant.fits in
     let e = kept_is c.value.result _ (search rules) c.value.ensures in
-    subst (λ v. is_small limit (to_z w64 c.loop-e.total-bits *ℤ v) ≡ true) (sym e) k.small
+    subst (λ v. is_small weight_limit (to_z w64 c.loop-e.total-bits *ℤ v) ≡ true) (sym e) k.small
 
 pub product-loop-e-preserved : goal.product-loop-e-preserved
 product-loop-e-preserved t c =
@@ -64,7 +64,7 @@ product-loop-e-preserved t c =
     let s = state_of c.args.state.now in
     let rest = exprs (map plain_expr (drop (c.loop-e.e-index + 1) c.args.es.now)) in
     record {
-      fits = subst (λ n. product_fits limit x rest s n ≡ true) (sym n) k.rest;
+      fits = subst (λ n. product_fits weight_limit x rest s n ≡ true) (sym n) k.rest;
       left = ap (λ n. product_value x rest s n) n ∙ k.same ∙ c.loop-e.invariant.left;
     }
 
@@ -80,7 +80,7 @@ total-loop-number-init t c =
     let x = plain_context c.args.context.now in
     let s = state_of c.args.state.now in
     let d = plain_cond c.args.test.now in
-    record { fits = subst (λ l. adding_fits limit (row_fits limit x c.args.row d s) (counts x c.args.row d s) (term_of c.args.term s) l (pos 0) ≡ true) (sym (left_all c.args.slots.now)) c.requires.fits; left = refl }
+    record { fits = subst (λ l. adding_fits weight_limit (row_fits weight_limit x c.args.row d s) (counts x c.args.row d s) (term_of c.args.term s) l (pos 0) ≡ true) (sym (left_all c.args.slots.now)) c.requires.fits; left = refl }
 
 pub total-all_pass-requires : goal.total-all_pass-requires
 total-all_pass-requires t c =
@@ -88,11 +88,11 @@ total-all_pass-requires t c =
     let s = state_of c.args.state.now in
     let d = plain_cond c.args.test.now in
     let i = c.loop-number.number in
-    let step = add_step limit (row_fits limit x c.args.row d s) (counts x c.args.row d s) (term_of c.args.term s) c.args.slots.now i _ c.loop-number-test.true c.loop-number.invariant.fits in
+    let step = add_step weight_limit (row_fits weight_limit x c.args.row d s) (counts x c.args.row d s) (term_of c.args.term s) c.args.slots.now i _ c.loop-number-test.true c.loop-number.invariant.fits in
     let slot = slot_is c.args.slots.now i c.slot-slot.result c.slot-slot.ensures.number c.slot-slot.ensures.used c.slot-slot.ensures.fields in
     let inner = context_bound c.args.context.now c.with.result c.args.row c.slot-slot.result c.with.ensures.declared c.with.ensures.arguments c.with.ensures.rows ∙ ap (bind x c.args.row) slot in
     let test = ap (λ l. tests (map plain_test l)) c.as_slice.ensures ∙ sym (plain_conjunction c.args.test.now) in
-    (search (rules, the_lemmas), (λ j. cond_fits limit (inner j) (test j) s) ∙ step.tested)
+    (search (rules, the_lemmas), (λ j. cond_fits weight_limit (inner j) (test j) s) ∙ step.tested)
 
 pub total-plus-total-requires : goal.total-plus-total-requires
 total-plus-total-requires t c =
@@ -100,10 +100,10 @@ total-plus-total-requires t c =
     let s = state_of c.args.state.now in
     let d = plain_cond c.args.test.now in
     let i = c.loop-number.number in
-    let step = add_step limit (row_fits limit x c.args.row d s) (counts x c.args.row d s) (term_of c.args.term s) c.args.slots.now i _ c.loop-number-test.true c.loop-number.invariant.fits in
+    let step = add_step weight_limit (row_fits weight_limit x c.args.row d s) (counts x c.args.row d s) (term_of c.args.term s) c.args.slots.now i _ c.loop-number-test.true c.loop-number.invariant.fits in
     let slot = slot_is c.args.slots.now i c.slot-slot.result c.slot-slot.ensures.number c.slot-slot.ensures.used c.slot-slot.ensures.fields in
     let term = kept_is c.term_at.result _ (search rules) (c.term_at.ensures ∙ ap (term_of c.args.term s) slot) in
-    subst (λ v. is_small limit (to_z w64 c.loop-number.total-bits +ℤ v) ≡ true) (sym term) step.small
+    subst (λ v. is_small weight_limit (to_z w64 c.loop-number.total-bits +ℤ v) ≡ true) (sym term) step.small
 
 pub total-loop-number-preserved : goal.total-loop-number-preserved
 total-loop-number-preserved t c =
@@ -113,7 +113,7 @@ total-loop-number-preserved t c =
     let i = c.loop-number.number in
     let n = to_z w64 c.loop-number.total-bits in
     let term : ℤ = term_of c.args.term s (slot_of c.args.slots.now i) in
-    let step = add_step limit (row_fits limit x c.args.row d s) (counts x c.args.row d s) (term_of c.args.term s) c.args.slots.now i n c.loop-number-test.true c.loop-number.invariant.fits in
+    let step = add_step weight_limit (row_fits weight_limit x c.args.row d s) (counts x c.args.row d s) (term_of c.args.term s) c.args.slots.now i n c.loop-number-test.true c.loop-number.invariant.fits in
     let slot = slot_is c.args.slots.now i c.slot-slot.result c.slot-slot.ensures.number c.slot-slot.ensures.used c.slot-slot.ensures.fields in
     let used = c.is_used.ensures ∙ ap (is_used s) slot in
     let here = slot_of c.args.slots.now i in
@@ -139,7 +139,7 @@ total-loop-number-preserved t c =
           )
     ] in
     record {
-      fits = subst (λ v. adding_fits limit (row_fits limit x c.args.row d s) (counts x c.args.row d s) (term_of c.args.term s) (left c.args.slots.now (i + 1)) v ≡ true) (sym total) step.rest;
+      fits = subst (λ v. adding_fits weight_limit (row_fits weight_limit x c.args.row d s) (counts x c.args.row d s) (term_of c.args.term s) (left c.args.slots.now (i + 1)) v ≡ true) (sym total) step.rest;
       left = ap (added (counts x c.args.row d s) (term_of c.args.term s) (left c.args.slots.now (i + 1))) total ∙ step.same ∙ c.loop-number.invariant.left;
     }
 
@@ -154,8 +154,8 @@ total-returns t c =
 pub value-total-requires-in-Total : goal.value-total-requires-in-Total
 unfolding words
 value-total-requires-in-Total t c =
-    let fits = sym (ap (λ e. expr_fits limit (plain_context c.args.context.now) e (state_of c.args.state.now)) (ap plain_expr c.in-Total.is ∙ plain_Total c.in-Total.row c.in-Total.field c.in-Total.relation c.in-Total.test)) ∙ c.requires in
-    (search (rules, the_lemmas), (c.relation-slots-in-Total.ensures.counted, total_fits limit _ _ (state_of c.args.state.now) c.in-Total.field.name c.field-in-Total.result.place c.relation-slots-in-Total.result _ (pos 0) c.relation-slots-in-Total.ensures.slots (ap (λ f. f.place) c.field-in-Total.ensures) fits))
+    let fits = sym (ap (λ e. expr_fits weight_limit (plain_context c.args.context.now) e (state_of c.args.state.now)) (ap plain_expr c.in-Total.is ∙ plain_Total c.in-Total.row c.in-Total.field c.in-Total.relation c.in-Total.test)) ∙ c.requires in
+    (search (rules, the_lemmas), (c.relation-slots-in-Total.ensures.counted, total_fits weight_limit _ _ (state_of c.args.state.now) c.in-Total.field.name c.field-in-Total.result.place c.relation-slots-in-Total.result _ (pos 0) c.relation-slots-in-Total.ensures.slots (ap (λ f. f.place) c.field-in-Total.ensures) fits))
 
 pub value-returns-in-Total : goal.value-returns-in-Total
 unfolding words

@@ -1,6 +1,6 @@
 use Rattle.std.proofs.Common.{◌≡◌, true, pos, map, drop}
 use Rattle.homeo_syntax.specs.SourceView.{exprs, tests, plain_expr, plain_test, plain_cond}
-use Rattle.homeo_meaning.specs.Acceptance.{limit}
+use Rattle.homeo_meaning.specs.Acceptance.{weight_limit}
 use Rattle.homeo_meaning.specs.Meaning.{added, sum_value, product_value, holds}
 use Rattle.homeo_eval.specs.inner.CanRun.{adding_fits, sum_fits, product_fits, cond_fits}
 use Rattle.homeo_context.specs.Contexts.{plain_context}
@@ -15,7 +15,7 @@ invariant-sum-loop-e l =
     let s = state_of l.state in
     let rest = exprs (map plain_expr (drop l.e-index l.es)) in
     record {
-      fits : sum_fits limit x rest s l.total ≡ true;
+      fits : sum_fits weight_limit x rest s l.total ≡ true;
       left : sum_value x rest s l.total ≡ sum_value x (exprs (map plain_expr l.es)) s (pos 0);
     }
 
@@ -25,7 +25,7 @@ invariant-product-loop-e l =
     let s = state_of l.state in
     let rest = exprs (map plain_expr (drop l.e-index l.es)) in
     record {
-      fits : product_fits limit x rest s l.total ≡ true;
+      fits : product_fits weight_limit x rest s l.total ≡ true;
       left : product_value x rest s l.total ≡ product_value x (exprs (map plain_expr l.es)) s (pos 1);
     }
 
@@ -35,7 +35,7 @@ invariant-all_pass-loop-t l =
     let s = state_of l.state in
     let rest = tests (map plain_test (drop l.t-index l.ts)) in
     record {
-      fits : cond_fits limit x rest s ≡ true;
+      fits : cond_fits weight_limit x rest s ≡ true;
       left : holds x rest s ≡ holds x (tests (map plain_test l.ts)) s;
     }
 
@@ -45,6 +45,6 @@ invariant-total-loop-number l =
     let s = state_of l.state in
     let c = plain_cond l.test in
     record {
-      fits : adding_fits limit (row_fits limit x l.row c s) (counts x l.row c s) (term_of l.term s) (left l.slots l.number) l.total ≡ true;
+      fits : adding_fits weight_limit (row_fits weight_limit x l.row c s) (counts x l.row c s) (term_of l.term s) (left l.slots l.number) l.total ≡ true;
       left : added (counts x l.row c s) (term_of l.term s) (left l.slots l.number) l.total ≡ added (counts x l.row c s) (term_of l.term s) (left l.slots 0) (pos 0);
     }

@@ -2,11 +2,11 @@ use Rattle.std.proofs.Common.{rules, ◌≡◌, map, length, refl, ap, sym, subs
 use Rattle.homeo_syntax.specs.SourceView.{commands, plain_command}
 use Rattle.homeo_syntax.specs.Source.{Commands}
 use Rattle.homeo_meaning.specs.Key.{words}
-use Rattle.homeo_meaning.specs.Acceptance.{limit}
+use Rattle.homeo_meaning.specs.Acceptance.{weight_limit}
 use Rattle.homeo_meaning.specs.Bounds.{all_bounds, IsWithin}
 use Rattle.homeo_eval.specs.inner.CanRun.{can_run_all}
 use Rattle.homeo_meaning.specs.Meaning.{after_prints, does_all}
-use Rattle.homeo_lform.specs.inner.RowsFit.{RowsFit}
+use Rattle.homeo_lform.specs.RowsFit.{RowsFit}
 use Rattle.homeo_context.specs.Contexts.{call_context, plain_context}
 use Rattle.homeo_eval.specs.inner.States.{state_of}
 use Rattle.homeo_eval.proofs.InForce.{context_outside, call_rows_fit}
@@ -46,8 +46,8 @@ pub run_all-requires-clause-runs : goal.run_all-requires-clause-runs
 unfolding words
 run_all-requires-clause-runs c =
     let e = (goal.at.run_all-requires-clause-runs c).After-new-prints in
-    ap (λ x. can_run_all limit x (body e) (state_with e.in_ok-copied.field-0.items e.new.result.items)) (context_is e)
-    ∙ ap (can_run_all limit (call_context e.args.declared.now e.args.arguments.now) (body e)) (sym (body_starts e.args.base.now.items _ _ (copied e) e.new.ensures.items))
+    ap (λ x. can_run_all weight_limit x (body e) (state_with e.in_ok-copied.field-0.items e.new.result.items)) (context_is e)
+    ∙ ap (can_run_all weight_limit (call_context e.args.declared.now e.args.arguments.now) (body e)) (sym (body_starts e.args.base.now.items _ _ (copied e) e.new.ensures.items))
     ∙ c.requires.runs
 
 pub returns-clause-prints : goal.returns-clause-prints

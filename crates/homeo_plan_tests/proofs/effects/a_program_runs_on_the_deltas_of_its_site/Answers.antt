@@ -3,7 +3,7 @@ use Rattle.std.proofs.Common.{◌≡◌, ◌<◌, ◌^◌, true, length, sym, ap
 use Rattle.homeo_meaning.specs.Serial.{values_of}
 use Rattle.homeo_plan.specs.Each.{Each}
 use Rattle.homeo_plan.specs.Joined.{alone}
-use Rattle.homeo_split.specs.CanExec.{limit, can_exec_all}
+use Rattle.homeo_split.specs.CanExec.{run_limit, can_exec_all}
 use Rattle.homeo_effect.specs.EffectsView.{plain_all}
 use Rattle.homeo_effect.specs.OwnState.{own_state}
 use Rattle.homeo_effect.specs.Program.{plain_program}
@@ -37,7 +37,7 @@ run-requires-clause-small g c =
     let d = c.as_mut_slice.result.now in
     let residual_runs = runs c.in_ok-residual.residual is c.in_ok-base.base.items d c.in_ok-base.ensures c.as_mut_slice.ensures.value in
     let commands_run = c.in_ok-effects.ensures.can_run (values_of d) residual_runs in
-    let given_run = subst (λ cs. can_exec_all limit (plain_all cs) (alone b c.in_ok-residual.residual.site (values_of d)) ≡ true) (sym c.as_slice.ensures) commands_run in
-    let at_site = subst (λ i. can_exec_all limit (plain_all c.as_slice.result.now) (alone b i (values_of d)) ≡ true) is.site given_run in
-    ap (λ i. can_exec_all limit (plain_program c.in_ok-program.program) (own_state i d c.as_mut_slice-2.result.now)) c.in_ok-program.ensures.site
+    let given_run = subst (λ cs. can_exec_all run_limit (plain_all cs) (alone b c.in_ok-residual.residual.site (values_of d)) ≡ true) (sym c.as_slice.ensures) commands_run in
+    let at_site = subst (λ i. can_exec_all run_limit (plain_all c.as_slice.result.now) (alone b i (values_of d)) ≡ true) is.site given_run in
+    ap (λ i. can_exec_all run_limit (plain_program c.in_ok-program.program) (own_state i d c.as_mut_slice-2.result.now)) c.in_ok-program.ensures.site
     ∙ c.in_ok-program.ensures.can_run b d c.as_mut_slice-2.result.now at_site

@@ -5,7 +5,7 @@ use Rattle.homeo_meaning.specs.Serial.{values_of}
 use Rattle.homeo_plan.specs.Each.{Each}
 use Rattle.homeo_plan.specs.Joined.{alone}
 use Rattle.homeo_plan.specs.PlanView.{plain_residual}
-use Rattle.homeo_split.specs.CanExec.{limit, can_exec_all}
+use Rattle.homeo_split.specs.CanExec.{run_limit, can_exec_all}
 use Rattle.homeo_effect.specs.Counts.{assignment_count, print_count}
 use Rattle.homeo_effect.specs.EffectsView.{plain_all}
 use Rattle.homeo_effect.specs.Touched.{written}
@@ -30,7 +30,7 @@ returns c =
       printed = sym P.prints ∙ printed;
       objects =
           subst (λ ds. Each (λ d. d.object < length c.args.base.now.items) ds) (sym (P.written ∙ ap written same ∙ E.written)) c.requires.objects;
-      small = λ x kept h. P.can_run b x kept (ap (λ ds. can_exec_all limit ds (alone b i (values_of x))) same ∙ E.can_run (values_of x) h);
+      small = λ x kept h. P.can_run b x kept (ap (λ ds. can_exec_all run_limit ds (alone b i (values_of x))) same ∙ E.can_run (values_of x) h);
       same_prints =
           λ x kept. (P.means b x kept).prints
           ∙ ap (λ ds. (exec_all ds (alone b i (values_of x))).prints) same ∙ ap (λ (r : Run). r.prints) (E.means (values_of x));

@@ -3,7 +3,7 @@ use Rattle.std.proofs.Common.{rules, ◌≡◌, ◌+◌, ◌+ℤ◌, ◌*ℤ◌,
 use Rattle.homeo_syntax.specs.LowView.{low_exprs, plain_lexpr}
 use Rattle.homeo_syntax.specs.declared.low.LExpr.{the_lemmas}
 use Rattle.homeo_syntax.proofs.LowViews.{low_Neg}
-use Rattle.homeo_split.specs.CanExec.{limit, sum_fits, product_fits}
+use Rattle.homeo_split.specs.CanExec.{run_limit, sum_fits, product_fits}
 use Rattle.homeo_meaning.specs.LowMeaning.{value, sum_value, product_value}
 use Rattle.homeo_meaning.specs.Small.{is_small}
 use Rattle.homeo_split.proofs.Equations.{value_Neg}
@@ -26,7 +26,7 @@ pub sum-plus-total-requires : goal.sum-plus-total-requires
 sum-plus-total-requires g t c =
     let k = sum_step c.args.es.now c.loop-e.e-index c.e-item.result c.loop-e-test.true c.e-item.is c.loop-e.invariant.fits in
     let e = kept_is c.value.result _ (search rules) c.value.ensures in
-    subst (λ v. is_small limit (to_z w64 c.loop-e.total-bits +ℤ v) ≡ true) (sym e) k.small
+    subst (λ v. is_small run_limit (to_z w64 c.loop-e.total-bits +ℤ v) ≡ true) (sym e) k.small
 
 pub sum-loop-e-preserved : goal.sum-loop-e-preserved
 sum-loop-e-preserved g t c =
@@ -36,7 +36,7 @@ sum-loop-e-preserved g t c =
     let s = g.S.Reads.values c.args.state.now in
     let rest = low_exprs (map plain_lexpr (drop (c.loop-e.e-index + 1) c.args.es.now)) in
     record {
-      fits = subst (λ n. sum_fits limit n rest s ≡ true) (sym n) k.rest;
+      fits = subst (λ n. sum_fits run_limit n rest s ≡ true) (sym n) k.rest;
       left = ap (λ n. sum_value n rest s) n ∙ k.same ∙ c.loop-e.invariant.left;
     }
 
@@ -51,7 +51,7 @@ pub product-times-total-requires : goal.product-times-total-requires
 product-times-total-requires g t c =
     let k = product_step c.args.es.now c.loop-e.e-index c.e-item.result c.loop-e-test.true c.e-item.is c.loop-e.invariant.fits in
     let e = kept_is c.value.result _ (search rules) c.value.ensures in
-    subst (λ v. is_small limit (to_z w64 c.loop-e.total-bits *ℤ v) ≡ true) (sym e) k.small
+    subst (λ v. is_small run_limit (to_z w64 c.loop-e.total-bits *ℤ v) ≡ true) (sym e) k.small
 
 pub product-loop-e-preserved : goal.product-loop-e-preserved
 product-loop-e-preserved g t c =
@@ -61,7 +61,7 @@ product-loop-e-preserved g t c =
     let s = g.S.Reads.values c.args.state.now in
     let rest = low_exprs (map plain_lexpr (drop (c.loop-e.e-index + 1) c.args.es.now)) in
     record {
-      fits = subst (λ n. product_fits limit n rest s ≡ true) (sym n) k.rest;
+      fits = subst (λ n. product_fits run_limit n rest s ≡ true) (sym n) k.rest;
       left = ap (λ n. product_value n rest s) n ∙ k.same ∙ c.loop-e.invariant.left;
     }
 

@@ -3,7 +3,7 @@ use Rattle.std.proofs.Common.{◌++◌, map, length, ap, ◌∙◌}
 use Rattle.homeo_syntax.specs.LowView.{plain_lcommand}
 use Rattle.homeo_meaning.specs.LowMeaning.{location_of, exec}
 use Rattle.homeo_split.specs.Key.{words}
-use Rattle.homeo_split.specs.CanExec.{limit, can_exec}
+use Rattle.homeo_split.specs.CanExec.{run_limit, can_exec}
 use Rattle.homeo_split.specs.States.{state_with}
 use Rattle.homeo_split.specs.Shape.{has_places}
 use Rattle.homeo_split.proofs.CommandSteps.{left_state, left_prints}
@@ -23,7 +23,7 @@ unfolding words
 run-requires-clause-runs c =
     let base = c.in_ok-copied.ensures ∙ c.as_slice.ensures in
     let deltas = c.in_ok-copied_all.ensures ∙ ap (map (λ d. d.items)) c.as_slice-2.ensures in
-    (λ i. can_exec limit (plain_lcommand c.args.c.now) (state_with (base i) (deltas i) (c.new.ensures.items i) (c.new-2.ensures.items i))) ∙ c.requires.small
+    (λ i. can_exec run_limit (plain_lcommand c.args.c.now) (state_with (base i) (deltas i) (c.new.ensures.items i) (c.new-2.ensures.items i))) ∙ c.requires.small
 
 pub returns-clause-prints : goal.returns-clause-prints
 unfolding words

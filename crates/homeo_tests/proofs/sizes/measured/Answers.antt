@@ -7,13 +7,12 @@ use Rattle.homeo_syntax.specs.declared.workload.RelationDecl.{RelationDecl}
 use Rattle.homeo_meaning.specs.Key.{words as meaning_words}
 use Rattle.homeo_meaning.specs.Schema.{declared_range, nat_of}
 use Rattle.homeo_size.specs.Layout.{relation_of, HasFewObjects, schema_with}
-use Rattle.homeo_size.specs.inner.Laid.{relation_size}
 use Rattle.homeo_tests.proofs.sizes.measured.Goals as goal
 
 few : (d : ObjectDecl) (r : RelationDecl) (rs : List RelationDecl) (slots : ℕ) → rs ≡ r ∷ [] → r.slots.value ≡ pos slots → length r.fields.items ≡ 1 → slots ≤ 64 → HasFewObjects (schema_with (d ∷ []) rs)
 unfolding tree_words meaning_words
 few d r rs slots is s f h =
-    let size : relation_size (relation_of r) ≡ slots * 2 = ap₂ (λ v n. nat_of v * (1 + n)) s (length-map r.fields.items declared_range ∙ f) in
+    let size : (relation_of r).slots * (1 + length (relation_of r).fields) ≡ slots * 2 = ap₂ (λ v n. nat_of v * (1 + n)) s (length-map r.fields.items declared_range ∙ f) in
     let all : 1 + relation_size (relation_of r) ≤ 1024 = omega (arith, size, h) in
     subst (λ l. HasFewObjects (schema_with (d ∷ []) l)) (sym is) all
 

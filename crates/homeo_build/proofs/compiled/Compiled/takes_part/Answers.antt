@@ -3,7 +3,7 @@ use Rattle.homeo_syntax.specs.SourceView.{plain_workload}
 use Rattle.homeo_syntax.specs.declared.workload.Workload.{Workload}
 use Rattle.homeo_plan.specs.PlanView.{plain_clause}
 use Rattle.homeo_plan.specs.declared.forms.Term.{Term}
-use Rattle.homeo_build.specs.inner.Written.{AreWritten}
+use Rattle.homeo_build.specs.Written.{AreWritten}
 use Rattle.homeo_build.proofs.WrittenDeltas.{row_there, row_tells, on_written, on_here, on_elsewhere, none_take, some_at, part_taken, no_part}
 use Rattle.homeo_build.proofs.compiled.Compiled.takes_part.Goals as goal
 use Rattle.homeo_build.proofs.compiled.Compiled.takes_part.Goals.{else-term-site-via-then-term-site+else-item_or, else-term-site-via-else-term-site}

@@ -10,7 +10,7 @@ use Rattle.homeo_history.specs.Legal.{IsClientAt}
 use Rattle.homeo_site.specs.SiteState.{SiteState}
 use Rattle.homeo_core.specs.Events.{BreaksCall, closing_of}
 use Rattle.homeo_core.specs.Joined.{BookState}
-use Rattle.homeo_core.specs.inner.Books.{book_of}
+use Rattle.homeo_core.specs.Books.{book_of}
 use Rattle.homeo_assembly.specs.Events.{InHand}
 use Rattle.homeo_assembly.specs.Facts.{BookLists}
 use Rattle.homeo_assembly.specs.Written.{written}

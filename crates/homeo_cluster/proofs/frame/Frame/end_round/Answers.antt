@@ -22,8 +22,8 @@ use Rattle.homeo_site.specs.SiteState.{SiteState}
 use Rattle.homeo_core.specs.Events.{BreaksCall, closing_of, next_base, after_closing}
 use Rattle.homeo_core.specs.GatherView.{PreparedValue}
 use Rattle.homeo_core.specs.Joined.{BookState, AreJoined, segments_of}
-use Rattle.homeo_core.specs.inner.Books.{book_of}
-use Rattle.homeo_core.specs.inner.SiteLists.{AreAt, first_from}
+use Rattle.homeo_core.specs.Books.{book_of}
+use Rattle.homeo_core.specs.SiteLists.{AreAt, first_from}
 use Rattle.homeo_core.proofs.ClosingCalls.{next_within}
 use Rattle.homeo_core.proofs.GatheredSites.{from_all, length_same}
 use Rattle.homeo_core.proofs.InRounds.{at_round}

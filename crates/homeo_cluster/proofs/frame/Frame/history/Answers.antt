@@ -11,7 +11,7 @@ use Rattle.homeo_meaning.specs.Schema.{schema_of}
 use Rattle.homeo_history.specs.HistoryView.{plain_segment, plain_round, plain_history}
 use Rattle.homeo_history.specs.declared.history.Round.{Round}
 use Rattle.homeo_core.specs.Joined.{BookState, AreJoined, gathered, history_of, segments_of}
-use Rattle.homeo_core.specs.inner.SiteLists.{AreAt}
+use Rattle.homeo_core.specs.SiteLists.{AreAt}
 use Rattle.homeo_core.proofs.InRounds.{at_round}
 use Rattle.homeo_cluster.specs.inner.Cells.{CellValue, BookValue, book_state}
 use Rattle.homeo_cluster.specs.inner.Meets.{site_states}

@@ -9,7 +9,7 @@ use Rattle.homeo_history.proofs.Lists.{get_map}
 use Rattle.homeo_site.specs.SiteState.{SiteState}
 use Rattle.homeo_core.specs.GatherView.{PreparedValue}
 use Rattle.homeo_core.specs.Joined.{segments_of}
-use Rattle.homeo_core.specs.inner.SiteLists.{first_from}
+use Rattle.homeo_core.specs.SiteLists.{first_from}
 use Rattle.homeo_core.proofs.GatheredSites.{from_next, from_at, same_in}
 use Rattle.homeo_cluster.specs.inner.Cells.{CellValue}
 use Rattle.homeo_cluster.specs.Places.{at_line, bases_line}

@@ -10,7 +10,7 @@ use Rattle.homeo_history.specs.HistoryView.{plain_segment, plain_closing}
 use Rattle.homeo_core.specs.Key.{words}
 use Rattle.homeo_core.specs.Events.{closing_on}
 use Rattle.homeo_core.specs.GatherView.{GatherValue}
-use Rattle.homeo_core.specs.inner.Starts.{AreStarts, waits}
+use Rattle.homeo_core.specs.Starts.{AreStarts, waits}
 use Rattle.homeo_core.proofs.StartsOfSites.{as_many}
 use Rattle.homeo_core.proofs.gather.Gather.prepare.Goals as goal
 

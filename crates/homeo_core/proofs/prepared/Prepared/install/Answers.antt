@@ -1,5 +1,5 @@
 use Rattle.homeo_site.specs.Key.{words as site_words}
-use Rattle.homeo_core.specs.inner.Starts.{start_after, waits}
+use Rattle.homeo_core.specs.Starts.{start_after, waits}
 use Rattle.homeo_core.specs.Key.{words}
 use Rattle.homeo_site.specs.SiteView.{SiteValue, StartValue}
 use Rattle.homeo_site.specs.SiteState.{begun}

@@ -11,8 +11,8 @@ use Rattle.homeo_history.specs.Legal.{IsLegalFrom}
 use Rattle.homeo_history.specs.declared.history.Round.{Round}
 use Rattle.homeo_core.specs.Key.{words}
 use Rattle.homeo_core.specs.CoreView.{CoreValue, CoreHolds, begun_sites, core_at, core_history}
-use Rattle.homeo_core.specs.inner.Books.{book_of}
-use Rattle.homeo_core.specs.inner.SiteLists.{states}
+use Rattle.homeo_core.specs.Books.{book_of}
+use Rattle.homeo_core.specs.SiteLists.{states}
 use Rattle.homeo_core.proofs.CoreStarts.{core_begins, follows_none}
 use Rattle.homeo_core.proofs.CoreSteps.{is_legal}
 use Rattle.homeo_core.proofs.steps.Core.begin_at.Goals as goal

@@ -14,8 +14,8 @@ use Rattle.homeo_site.specs.SiteState.{SiteState}
 use Rattle.homeo_core.specs.Key.{words}
 use Rattle.homeo_core.specs.CoreView.{CoreValue, CoreHolds, core_history, start_of}
 use Rattle.homeo_core.specs.Joined.{BookState, gathered, segments_of}
-use Rattle.homeo_core.specs.inner.Books.{book_of}
-use Rattle.homeo_core.specs.inner.SiteLists.{states, AreAt}
+use Rattle.homeo_core.specs.Books.{book_of}
+use Rattle.homeo_core.specs.SiteLists.{states, AreAt}
 use Rattle.homeo_core.proofs.CoreSteps.{is_legal}
 use Rattle.homeo_core.proofs.InRounds.{at_round, all_fit}
 use Rattle.homeo_core.proofs.OpenRound.{first_within, whole_within}

@@ -11,8 +11,8 @@ use Rattle.homeo_core.specs.Key.{words}
 use Rattle.homeo_core.specs.CoreView.{CoreValue, CoreHolds, core_history, start_of, next_call, IsMade, IsStep, GoesOnBy}
 use Rattle.homeo_core.specs.Events.{OneMore}
 use Rattle.homeo_core.specs.Joined.{BookState}
-use Rattle.homeo_core.specs.inner.Books.{book_of}
-use Rattle.homeo_core.specs.inner.SiteLists.{states, AreOf}
+use Rattle.homeo_core.specs.Books.{book_of}
+use Rattle.homeo_core.specs.SiteLists.{states, AreOf}
 use Rattle.homeo_core.proofs.CoreSteps.{can_call, is_legal, whole_slice, counted, IsStepped, taken}
 use Rattle.homeo_core.proofs.steps.Core.step.Goals as goal
 

@@ -4,7 +4,7 @@ use Rattle.homeo_meaning.specs.LowMeaning.{exec_all}
 use Rattle.homeo_meaning.specs.Serial.{values_of}
 use Rattle.homeo_plan.specs.Holding.{SameOwn}
 use Rattle.homeo_plan.specs.Joined.{alone}
-use Rattle.homeo_split.specs.CanExec.{limit, can_exec_all}
+use Rattle.homeo_split.specs.CanExec.{run_limit, can_exec_all}
 use Rattle.homeo_effect.specs.EffectsView.{plain_all}
 use Rattle.homeo_effect.specs.OwnState.{own_state}
 use Rattle.homeo_effect.specs.Touched.{written}
@@ -74,5 +74,5 @@ returns-clause-can_run c b deltas temporaries h =
     c.loop-command.invariant.same in
     let s = alone b site (values_of deltas) in
     let s' = own_state site deltas temporaries in
-    subst (λ cs. can_exec_all limit cs s' ≡ true) (sym is)
-    (can_too site limit (plain_all c.args.commands.now) nothing_set 0 s s' c.requires.own (begins site b deltas temporaries) h)
+    subst (λ cs. can_exec_all run_limit cs s' ≡ true) (sym is)
+    (can_too site run_limit (plain_all c.args.commands.now) nothing_set 0 s s' c.requires.own (begins site b deltas temporaries) h)

@@ -1,6 +1,6 @@
 use Rattle.std.proofs.Common.{sym, ◌∙◌}
 use Rattle.homeo_rules.proofs.Measured.{call-measured, no-call-measured}
-use Rattle.homeo_rules.proofs.rules.sizes.measure_call.Goals as goal
+use Rattle.homeo_rules.proofs.rules.bodies.measure_call.Goals as goal
 
 pub returns-in-Some : goal.returns-in-Some
 returns-in-Some c =

@@ -1,5 +1,5 @@
 use Rattle.homeo_rules.proofs.Measured.{there, not-there, body-measured, no-body-measured}
-use Rattle.homeo_rules.proofs.rules.sizes.measure_at.Goals as goal
+use Rattle.homeo_rules.proofs.rules.bodies.measure_at.Goals as goal
 
 pub returns-in-Some : goal.returns-in-Some
 returns-in-Some c =
