@@ -12,6 +12,8 @@ few_calls words c.Run said = tt
 few_calls words c.Tables said = tt
 few_calls words c.Treaty said = tt
 few_calls words c.Serve said = tt
+few_calls words c.Forecast said = tt
+few_calls words (c.Wire number) said = tt
 few_calls words (c.Load number calls) said = said.calls_are.to_most
 
 -- what holds of a command that the words are holds of each that they are

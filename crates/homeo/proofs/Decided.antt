@@ -1,19 +1,24 @@
 -- What a source told is what it gave, and what is refused under a command neither is made an output of nor can be done.
-use Rattle.std.proofs.Common.{◌≡◌, ◌≤◌, ◌+◌, ◌∙◌, ◌++◌, ℕ, List, Some, None, length, refl, sym, ap, subst, arith, append-nil, length-append, inl}
+use Rattle.std.proofs.Common.{◌≡◌, ◌≤◌, ◌+◌, ◌∙◌, ◌++◌, ℕ, List, [], ◌∷◌, Some, None, length, refl, sym, ap, subst, arith, append-nil, length-append, inl, inr}
+use Rattle.std.specs.Prelude.{◌⊎◌}
 use Rattle.std.specs.declared.option.Option.{Option}
 use Rattle.homeo_io.specs.Moved.{Gave, GaveAll}
 use Rattle.homeo_syntax.specs.declared.workload.Refusal.{Refusal}
 use Rattle.homeo_syntax.specs.Source as s
-use Rattle.homeo_accept.proofs.Decided.{accepted_not_refused}
+use Rattle.homeo_accept.proofs.Decided.{accepted_not_refused, one_accepted}
+use Rattle.homeo_history.proofs.Lists.{get_lt}
+use Rattle.homeo_wire.specs.Drive.{calls_in}
+use Rattle.homeo_wire.specs.Key.{words as wire_words}
 use Rattle.homeo_meaning.specs.declared.call.Purpose.{Purpose}
 use Rattle.homeo_meaning.specs.declared.call.Purpose.TheVariants as purpose
 use Rattle.homeo_meaning.specs.Key.{words as meanings}
-use Rattle.homeo_meaning.specs.Verdict.{IsRefused, text_limit}
 use Rattle.homeo_session.specs.Streams.{IsServed, Stops}
 use Rattle.homeo_session.proofs.Streaming.{not_both}
 use Rattle.homeo_words.specs.declared.command.Command.{Command}
 use Rattle.homeo_words.specs.declared.command.Command.TheVariants as c
-use Rattle.homeo.specs.Outcome.{CanBeDone, IsMade, IsRefusal, IsRefusedUnder, OfStream, OfText, TellsText}
+use Rattle.homeo_meaning.specs.Verdict.{Accepts, IsRefused, text_limit}
+use Rattle.homeo.specs.Outcome.{CanBeDone, IsMade, IsRefusal, IsRefusedUnder, OfStream, OfText, TellsFewCalls, TellsText}
+use Rattle.homeo.specs.Wired.{HasExcess, IsExcess, IsWireReport}
 
 -- ---- what was told and what was given
 -- a source that told its bytes gave them
@@ -66,6 +71,27 @@ stream_not_refused old new output bytes out r o told stops =
     let same : bytes ≡ o.bytes = told_is_given old new bytes o.bytes told o.read in
     not_both o.bytes output out r o.holds (subst (λ x. Stops x out r) same stops)
 
+-- ---- texts with too many calls
+-- a workload with few calls has none that is too many
+few_not_many : (w : s.Workload) (r : Refusal) → length (calls_in w) ≤ 200 → IsExcess w r → ⊥
+unfolding wire_words
+few_not_many w r few many = let lt = get_lt (calls_in w) 200 many.call many.past in omega (arith, few, lt)
+
+text_not_many : (old new : Option (List ℕ)) (number : ℕ) (output text : List ℕ) (r : Refusal) → OfText purpose.Run old new (λ w. IsWireReport w number output) → old ≡ Some text → HasExcess text r → ⊥
+text_not_many old new number output text r o told many =
+    let same : text ≡ o.text = told_is_given old new text o.text told o.read in
+    let is : many.workload ≡ o.workload = one_accepted o.text purpose.Run purpose.Run many.workload o.workload (subst (λ x. Accepts x purpose.Run many.workload) same many.accepted) o.accepted in
+    few_not_many o.workload r o.holds.few (subst (λ (w : s.Workload). IsExcess w r) is many.excess_is)
+
+few_not_refused : (left : Option (List ℕ)) (r : Refusal) → TellsFewCalls left → ((text : List ℕ) → left ≡ Some text → IsRefused text purpose.Run r ⊎ HasExcess text r) → ⊥
+few_not_refused left r (text, w, told, accepted, few) refused = by (refused text told)
+  where
+    by : IsRefused text purpose.Run r ⊎ HasExcess text r → ⊥
+    by (inl rule) = accepted_not_refused text purpose.Run w r accepted rule
+    by (inr many) =
+        let is : many.workload ≡ w = one_accepted text purpose.Run purpose.Run many.workload w many.accepted accepted in
+        few_not_many w r few (subst (λ (v : s.Workload). IsExcess v r) is many.excess_is)
+
 -- ---- commands
 -- where the output was made, no refused bytes were told
 pub made_not_refused : (command : Command) (old new : Option (List ℕ)) (output bytes : List ℕ) (r : Refusal) → IsMade command old new output → old ≡ Some bytes → IsRefusal command bytes r → ⊥
@@ -74,6 +100,9 @@ made_not_refused c.Run old new output bytes r made told refused = text_not_refus
 made_not_refused c.Tables old new output bytes r made told refused = text_not_refused purpose.Tables old new _ bytes r made told refused
 made_not_refused c.Treaty old new output bytes r made told refused = text_not_refused purpose.Treaty old new _ bytes r made told refused
 made_not_refused c.Serve old new output bytes r made told (out, stops) = stream_not_refused old new output bytes out r made told stops
+made_not_refused c.Forecast old new output bytes r made told refused = text_not_refused purpose.Steps old new _ bytes r made told refused
+made_not_refused (c.Wire number) old new output bytes r made told (inl rule) = text_not_refused purpose.Run old new _ bytes r made told rule
+made_not_refused (c.Wire number) old new output bytes r made told (inr many) = text_not_many old new number output bytes r made told many
 made_not_refused (c.Load number calls) old new output bytes r made told refused = refused
 
 -- what can be done isn't refused
@@ -83,4 +112,6 @@ doable_not_refused c.Run left r can refused = text_doable purpose.Run left r can
 doable_not_refused c.Tables left r can refused = text_doable purpose.Tables left r can refused.1
 doable_not_refused c.Treaty left r can refused = text_doable purpose.Treaty left r can refused.1
 doable_not_refused c.Serve left r (bytes, told, none) refused = let stops = refused.1 bytes told in none stops.0 r stops.1
+doable_not_refused c.Forecast left r can refused = text_doable purpose.Steps left r can refused.1
+doable_not_refused (c.Wire number) left r can refused = few_not_refused left r can refused.1
 doable_not_refused (c.Load number calls) left r can refused = refused.0 refl

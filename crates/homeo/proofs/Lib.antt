@@ -6,3 +6,4 @@ pub mod OneOutput
 pub mod Served
 pub mod Sessions
 pub mod Tabulating
+pub mod Texts

@@ -2,6 +2,8 @@
 use Rattle.std.proofs.Common.{◌≡◌, ◌∙◌, refl, ℕ, List, [], Some, sym, ap, subst}
 use Rattle.homeo_syntax.specs.Source as s
 use Rattle.homeo_accept.proofs.Decided.{one_accepted}
+use Rattle.homeo_forecast.specs.Text.{IsForecastText}
+use Rattle.homeo_forecast.proofs.OneText.{one_forecast_text}
 use Rattle.homeo_history.specs.Key.{words as histories}
 use Rattle.homeo_history.proofs.OneHistories.{one_history}
 use Rattle.homeo_meaning.specs.declared.call.Purpose.{Purpose}
@@ -20,6 +22,7 @@ use Rattle.homeo_words.specs.declared.command.Command.TheVariants as c
 use Rattle.homeo_words.proofs.OneCommand.{one_command}
 use Rattle.homeo.specs.Laws.{OneOutput}
 use Rattle.homeo.specs.Outcome.{IsMade, IsScheduledReport, OfStream, OfText}
+use Rattle.homeo.specs.Wired.{IsWireReport}
 use Rattle.homeo.proofs.Decided.{told_is_given}
 
 -- the schedule determines the history, and so the report
@@ -51,6 +54,10 @@ one_made c.Run bytes output output' other o o' = absurd (other refl)
 one_made c.Tables bytes output output' other o o' = one_of_text purpose.Tables bytes output output' (λ w x. x ≡ tables_text w) (λ w is is'. is ∙ sym is') o o'
 one_made c.Treaty bytes output output' other o o' = one_of_text purpose.Treaty bytes output output' (λ w x. x ≡ treaty_text w) (λ w is is'. is ∙ sym is') o o'
 one_made c.Serve bytes output output' other o o' = one_of_stream bytes output output' o o'
+one_made c.Forecast bytes output output' other o o' =
+    one_of_text purpose.Steps bytes output output' (λ w x. IsForecastText w (initial w) (scheduled_calls w) x)
+    (λ w is is'. one_forecast_text w (initial w) (scheduled_calls w) output output' is is') o o'
+one_made (c.Wire number) bytes output output' other o o' = one_of_text purpose.Run bytes output output' (λ w x. IsWireReport w number x) (λ w r r'. r.reported ∙ sym r'.reported) o o'
 one_made (c.Load number calls) bytes output output' other o o' = o.determined ∙ sym o'.determined
 
 pub one_output : OneOutput

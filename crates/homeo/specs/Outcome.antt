@@ -1,6 +1,6 @@
 -- What each command makes of what its source gives, what it refuses, and what a run did to its source, output and complaints,
 -- where they tell their bytes.
-use Rattle.std.specs.Prelude.{◌≡◌, ◌≢◌, ◌⊎◌, ℕ, ⊤, List, Some}
+use Rattle.std.specs.Prelude.{◌≡◌, ◌≢◌, ◌≤◌, ◌⊎◌, ℕ, ⊤, List, Some, length}
 use Rattle.std.specs.declared.option.Option.{Option}
 use Rattle.homeo_io.specs.Faults.{Rose}
 use Rattle.homeo_io.specs.Moved.{GaveAll, TookExactly, TookPrefix}
@@ -8,6 +8,7 @@ use Rattle.homeo_syntax.specs.declared.workload.Refusal.{Refusal}
 use Rattle.homeo_syntax.specs.Source as s
 use Rattle.homeo_meaning.specs.declared.call.Purpose.{Purpose}
 use Rattle.homeo_meaning.specs.declared.call.Purpose.TheVariants as purpose
+use Rattle.homeo_meaning.specs.Initial.{initial}
 use Rattle.homeo_meaning.specs.Verdict.{Accepts, IsRefused}
 use Rattle.homeo_accept.specs.RefusalLine.{refusal_line}
 use Rattle.homeo_history.specs.History.{History}
@@ -19,12 +20,15 @@ use Rattle.homeo_print.specs.Treaties.{treaty_text}
 use Rattle.homeo_report.specs.Report.{report}
 use Rattle.homeo_report.specs.Summary.{summary}
 use Rattle.homeo_session.specs.Streams.{IsServed, Stops}
+use Rattle.homeo_forecast.specs.Text.{IsForecastText}
+use Rattle.homeo_wire.specs.Drive.{calls_in}
 use Rattle.homeo_load.specs.Load.{load_workload}
 use Rattle.homeo_load.specs.Output.{load_summary}
 use Rattle.homeo_words.specs.Command.{Say}
 use Rattle.homeo_words.specs.declared.command.Command.{Command}
-use Rattle.homeo_words.specs.declared.command.Command.TheVariants.{Steps, Run, Tables, Treaty, Serve, Load}
+use Rattle.homeo_words.specs.declared.command.Command.TheVariants.{Steps, Run, Tables, Treaty, Serve, Forecast, Wire, Load}
 use Rattle.homeo.specs.Command.{most_read}
+use Rattle.homeo.specs.Wired.{HasExcess, IsWireReport}
 
 -- ---- what is made of a workload
 -- the report of a history that is legal for the workload and has all calls of each client
@@ -68,6 +72,8 @@ IsMade Run left left' output = OfText purpose.Run left left' (λ w. IsReport w o
 IsMade Tables left left' output = OfText purpose.Tables left left' (λ w. output ≡ tables_text w)
 IsMade Treaty left left' output = OfText purpose.Treaty left left' (λ w. output ≡ treaty_text w)
 IsMade Serve left left' output = OfStream left left' (λ bytes. IsServed bytes output)
+IsMade Forecast left left' output = OfText purpose.Steps left left' (λ w. IsForecastText w (initial w) (scheduled_calls w) output)
+IsMade (Wire number) left left' output = OfText purpose.Run left left' (λ w. IsWireReport w number output)
 IsMade (Load number calls) left left' output = IsLoadOutput number calls output
 
 -- ---- what is refused under a command, and what can be done, a line for each
@@ -78,6 +84,8 @@ IsRefusal Run text r = IsRefused text purpose.Run r
 IsRefusal Tables text r = IsRefused text purpose.Tables r
 IsRefusal Treaty text r = IsRefused text purpose.Treaty r
 IsRefusal Serve bytes r = (out : List ℕ) × Stops bytes out r
+IsRefusal Forecast text r = IsRefused text purpose.Steps r
+IsRefusal (Wire number) text r = IsRefused text purpose.Run r ⊎ HasExcess text r
 IsRefusal (Load number calls) bytes r = ⊥
 
 -- the source tells a text that is accepted for this purpose
@@ -88,6 +96,10 @@ TellsText p left = (text : List ℕ) × (w : s.Workload) × (left ≡ Some text)
 abbrev pub TellsStream : Option (List ℕ) → Type 0
 TellsStream left = (bytes : List ℕ) × (left ≡ Some bytes) × ((out : List ℕ) (r : Refusal) → Stops bytes out r → ⊥)
 
+-- the source tells a text that is accepted and has at most 200 calls
+abbrev pub TellsFewCalls : Option (List ℕ) → Type 0
+TellsFewCalls left = (text : List ℕ) × (w : s.Workload) × (left ≡ Some text) × Accepts text purpose.Run w × (length (calls_in w) ≤ 200)
+
 -- what the source tells can be done under a command
 abbrev pub CanBeDone : Command → Option (List ℕ) → Type 0
 CanBeDone Steps left = TellsText purpose.Steps left
@@ -95,6 +107,8 @@ CanBeDone Run left = TellsText purpose.Run left
 CanBeDone Tables left = TellsText purpose.Tables left
 CanBeDone Treaty left = TellsText purpose.Treaty left
 CanBeDone Serve left = TellsStream left
+CanBeDone Forecast left = TellsText purpose.Steps left
+CanBeDone (Wire number) left = TellsFewCalls left
 CanBeDone (Load number calls) left = ⊤
 
 -- a command that reads refuses so what the source told

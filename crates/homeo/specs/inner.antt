@@ -1,3 +1,4 @@
 pub mod Called
 pub mod Key
 pub mod Tabulated
+pub mod Texts

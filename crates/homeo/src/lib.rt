@@ -11,6 +11,7 @@ mod stop;
 mod tables;
 mod top;
 mod treaty;
+mod wire;
 
 pub use status::Status;
 pub use top::run;

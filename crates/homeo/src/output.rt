@@ -13,15 +13,18 @@ ghost use Rattle.homeo_meaning.specs.Verdict.{Accepts, IsRefused, text_limit};
 ghost use Rattle.homeo.specs.Command.{most_read};
 ghost use Rattle.homeo.specs.Outcome.{IsMade, IsRefusedUnder, IsReport, IsScheduledReport, OfText};
 ghost use Rattle.homeo.specs.inner.Called.{HasFewCalls};
+ghost use Rattle.homeo.specs.inner.Texts.{Excludes, IsOnText, Makes, purpose_of};
 
 use crate::clients::clients;
 use crate::load::load;
 use crate::stop::Stop;
 use crate::tables::tables;
 use crate::treaty::treaty;
+use crate::wire::wire;
 use homeo_accept::{TextRefusal, accepted};
 use homeo_build::compile::compile;
 use homeo_cluster::Gate;
+use homeo_forecast::scheduled_forecast;
 use homeo_io::{ReadError, Source, read_all};
 use homeo_meaning::{Accepted, Purpose};
 use homeo_report::report;
@@ -60,24 +63,52 @@ pub(crate) fn output_of<R: Threads + Wait + Sync, S: Source, G: Gate>(
     ensures no_fault { most_read command ≡ 0 → IsErrOf result Stop.ReadFault → ⊥ }
 {
     match command {
-        Command::Steps => {
-            let w = text_of(alloc, source, Purpose::Steps)?;
-            Ok(steps_report(alloc, w)?)
-        }
-        Command::Run => {
-            let w = text_of(alloc, source, Purpose::Run)?;
-            Ok(run_report(rt, alloc, w, gate)?)
-        }
-        Command::Tables => {
-            let w = text_of(alloc, source, Purpose::Tables)?;
-            Ok(tables(alloc, w)?)
-        }
-        Command::Treaty => {
-            let w = text_of(alloc, source, Purpose::Treaty)?;
-            Ok(treaty(alloc, w)?)
-        }
         Command::Serve => unreachable!(),
         Command::Load { number, calls } => Ok(load(rt, alloc, number, calls, gate)?),
+        _ => {
+            let w = text_of(alloc, source, purpose_of(command))?;
+            made_of(rt, alloc, command, w, gate)
+        }
+    }
+}
+
+/// What a text is read for under a command that reads one.
+fn purpose_of(command: Command) -> Purpose
+    requires { IsOnText command }
+    ensures { result ≡ purpose_of command }
+{
+    match command {
+        Command::Steps | Command::Forecast => Purpose::Steps,
+        Command::Run | Command::Wire { .. } => Purpose::Run,
+        Command::Tables => Purpose::Tables,
+        Command::Treaty => Purpose::Treaty,
+        Command::Serve | Command::Load { .. } => unreachable!(),
+    }
+}
+
+/// The whole output of a command on a workload that is accepted for its purpose.
+fn made_of<R: Threads + Wait + Sync, G: Gate>(
+    rt: &R,
+    alloc: Global,
+    command: Command,
+    w: Accepted,
+    gate: &G,
+) -> Result<Vec<u8>, Stop>
+    requires text { IsOnText command }
+    requires well_formed { IsWellFormed (plain_workload w) }
+    requires sound { faults (purpose_of command) (plain_workload w) ≡ [] }
+    ensures made { IfOk result (λ bytes. Makes command (plain_workload w) bytes.items) }
+    ensures refused { (r : Refusal) → IsErrOf result (Stop.Refused r) → Excludes command (plain_workload w) r }
+    ensures no_other { (IsErrOf result Stop.Usage → ⊥) × (IsErrOf result Stop.ReadFault → ⊥) }
+{
+    match command {
+        Command::Steps => Ok(steps_report(alloc, w)?),
+        Command::Run => Ok(run_report(rt, alloc, w, gate)?),
+        Command::Tables => Ok(tables(alloc, w)?),
+        Command::Treaty => Ok(treaty(alloc, w)?),
+        Command::Forecast => Ok(scheduled_forecast(alloc, w)?),
+        Command::Wire { number } => wire(alloc, w, number),
+        Command::Serve | Command::Load { .. } => unreachable!(),
     }
 }
 

@@ -34,12 +34,15 @@ use std::thread::Threads;
 /// - `treaty` writes the treaties at a text's initial database;
 /// - `serve` takes a stream's first frame as its head and each further one as a batch of calls, whose report it writes before it
 ///   reads on;
+/// - `forecast` writes how far the calls of a text go in the order of its schedule without a cleanup, and what stops the next one;
+/// - `wire NUMBER` runs the calls of a text at nodes that send each other packets, by the events that the number chooses, and writes
+///   the report of the calls that were made;
 /// - `load NUMBER CALLS` reads nothing. It makes a workload of so many calls from the number, runs it as `run` does, and writes its
 ///   summary.
 ///
 /// The words don't include the program's name. The output goes to `out`, which is offered bytes only when the whole output
-/// has been made, or under `serve` all answers to what was read. A fault of `complaints` changes no status. Under `run` and `load` it may wait for locks and workers, and the
-/// gate is told of each call.
+/// has been made, or under `serve` all answers to what was read. A fault of `complaints` changes no status. Under `run` and
+/// `load` it may wait for locks and workers, and the gate is told of each call.
 pub fn run<R: Threads + Wait + Sync, S: Source, O: Sink, E: Sink, G: Gate>(
     rt: &R,
     alloc: Global,

@@ -7,18 +7,24 @@ use Rattle.clap.specs.declared.parser.matches.ArgMatches.{ArgMatches}
 use Rattle.clap.specs.declared.parser.matches.Found.{Found}
 use Rattle.clap.proofs.WalkLemmas.{first_value-rows}
 use Rattle.homeo_words.specs.declared.command.Command.{Command}
-use Rattle.homeo_words.specs.declared.command.Command.TheVariants.{Steps, Run, Tables, Treaty, Serve, Load}
-use Rattle.homeo_words.specs.Command.{SayLoad, Say}
+use Rattle.homeo_words.specs.declared.command.Command.TheVariants.{Steps, Run, Tables, Treaty, Serve, Forecast, Wire, Load}
 use Rattle.homeo_words.specs.inner.App.{homeo}
-use Rattle.homeo_words.proofs.Loads.{load_words, begins_with_digit}
-use Rattle.homeo_words.proofs.Taken.{name_in, value_in, TakesWord, TakesLoad, steps_taken, run_taken, tables_taken, treaty_taken, serve_taken, load_taken}
+use Rattle.homeo_words.specs.Command.{SayLoad, SayWire, Say}
+use Rattle.homeo_words.proofs.Loads.{load_words, wire_words, begins_with_digit}
+use Rattle.homeo_words.proofs.Taken.{name_in, value_in, TakesWord, TakesLoad, TakesWire, steps_taken, run_taken, tables_taken, treaty_taken, serve_taken, forecast_taken, wire_taken, load_taken}
 
--- one word that is no `load`, or the three words of a load
+-- one word that is no `load` and no `wire`, the two words of a wire, or the three words of a load
 pub record IsOneWord (words : List Text) : Type 0 where
   pub word : Text
   pub words_are : word ∷ [] ≡ words
   pub taken : TakesWord word
-  pub other : word ≢ codes "load"
+  pub no_load : word ≢ codes "load"
+  pub no_wire : word ≢ codes "wire"
+
+pub record IsWireWords (words : List Text) : Type 0 where
+  pub number : Text
+  pub words_are : wire_words number ≡ words
+  pub taken : TakesWire number
 
 pub record IsLoadWords (words : List Text) : Type 0 where
   pub number : Text
@@ -27,7 +33,16 @@ pub record IsLoadWords (words : List Text) : Type 0 where
   pub taken : TakesLoad number calls
 
 abbrev pub IsTaken : List Text → Type 0
-IsTaken words = IsOneWord words ⊎ IsLoadWords words
+IsTaken words = IsOneWord words ⊎ (IsWireWords words ⊎ IsLoadWords words)
+
+taken_wire : (words : List Text) (number : ℕ) → SayWire words number → IsWireWords words
+taken_wire words number said =
+    let n = begins_with_digit 0 18446744073709551615 said.first number said.number_is in
+    record {
+      number = said.first;
+      words_are = sym said.said;
+      taken = subst TakesWire n.is (wire_taken n.first n.rest n.low n.high);
+    }
 
 taken_load : (words : List Text) (number calls : ℕ) → SayLoad words number calls → IsLoadWords words
 taken_load words number calls said =
@@ -43,16 +58,22 @@ taken_load words number calls said =
     }
 
 pub all_taken : (words : List Text) (c : Command) → Say words c → IsTaken words
-all_taken words Steps said = inl (record { word = codes "steps"; words_are = sym said; taken = steps_taken; other = λ e. cc })
-all_taken words Run said = inl (record { word = codes "run"; words_are = sym said; taken = run_taken; other = λ e. cc })
-all_taken words Tables said = inl (record { word = codes "tables"; words_are = sym said; taken = tables_taken; other = λ e. cc })
-all_taken words Treaty said = inl (record { word = codes "treaty"; words_are = sym said; taken = treaty_taken; other = λ e. cc })
-all_taken words Serve said = inl (record { word = codes "serve"; words_are = sym said; taken = serve_taken; other = λ e. cc })
-all_taken words (Load number calls) said = inr (taken_load words number calls said)
+all_taken words Steps said = inl (record { word = codes "steps"; words_are = sym said; taken = steps_taken; no_load = λ e. cc; no_wire = λ e. cc })
+all_taken words Run said = inl (record { word = codes "run"; words_are = sym said; taken = run_taken; no_load = λ e. cc; no_wire = λ e. cc })
+all_taken words Tables said = inl (record { word = codes "tables"; words_are = sym said; taken = tables_taken; no_load = λ e. cc; no_wire = λ e. cc })
+all_taken words Treaty said = inl (record { word = codes "treaty"; words_are = sym said; taken = treaty_taken; no_load = λ e. cc; no_wire = λ e. cc })
+all_taken words Serve said = inl (record { word = codes "serve"; words_are = sym said; taken = serve_taken; no_load = λ e. cc; no_wire = λ e. cc })
+all_taken words Forecast said = inl (record { word = codes "forecast"; words_are = sym said; taken = forecast_taken; no_load = λ e. cc; no_wire = λ e. cc })
+all_taken words (Wire number) said = inr (inl (taken_wire words number said))
+all_taken words (Load number calls) said = inr (inr (taken_load words number calls said))
 
 pub words_taken : (words : List Text) → IsTaken words → takes homeo words ≡ true
 words_taken words (inl one) = subst (λ ws. takes homeo ws ≡ true) one.words_are one.taken.taken
-words_taken words (inr load) = subst (λ ws. takes homeo ws ≡ true) load.words_are load.taken.0
+words_taken words (inr (inl wire)) = subst (λ ws. takes homeo ws ≡ true) wire.words_are wire.taken.0
+words_taken words (inr (inr load)) = subst (λ ws. takes homeo ws ≡ true) load.words_are load.taken.0
+
+apart : codes "wire" ≢ codes "load"
+apart = λ e. cc
 
 -- ---- what the matches tell
 abbrev pub text_of : Bor Text → Text
@@ -79,7 +100,10 @@ pub some_name : (words : List Text) (found : Option (Text × List Row)) → foun
 some_name words found same (inl one) none =
     let e : None ≡ Some one.word = none ∙ ap name_in same ∙ ap (λ ws. name_in (subcommand_of homeo ws)) (sym one.words_are) ∙ one.taken.name in
     cc
-some_name words found same (inr load) none =
+some_name words found same (inr (inl wire)) none =
+    let e : None ≡ Some (codes "wire") = none ∙ ap name_in same ∙ ap (λ ws. name_in (subcommand_of homeo ws)) (sym wire.words_are) ∙ wire.taken.1 in
+    cc
+some_name words found same (inr (inr load)) none =
     let e : None ≡ Some (codes "load") = none ∙ ap name_in same ∙ ap (λ ws. name_in (subcommand_of homeo ws)) (sym load.words_are) ∙ load.taken.1 in
     cc
 
@@ -97,9 +121,18 @@ module _ (words : List Text) (found : Option (Text × List Row)) (same : found �
       let e : Some name ≡ Some (codes "load") = named ∙ ap name_in (same_load load) ∙ load.taken.1 in
       cc
 
-  pub plain_words : IsTaken words → name ≢ codes "load" → name ∷ [] ≡ words
-  plain_words (inl one) other = ap (λ w. let ws : List Text = w ∷ [] in ws) (one_name one) ∙ one.words_are
-  plain_words (inr load) other = absurd (other (load_name load))
+  same_wire : (wire : IsWireWords words) → found ≡ subcommand_of homeo (wire_words wire.number)
+  same_wire wire = same ∙ ap (subcommand_of homeo) (sym wire.words_are)
+
+  wire_name : (wire : IsWireWords words) → name ≡ codes "wire"
+  wire_name wire =
+      let e : Some name ≡ Some (codes "wire") = named ∙ ap name_in (same_wire wire) ∙ wire.taken.1 in
+      cc
+
+  pub plain_words : IsTaken words → name ≢ codes "load" → name ≢ codes "wire" → name ∷ [] ≡ words
+  plain_words (inl one) no_load no_wire = ap (λ w. let ws : List Text = w ∷ [] in ws) (one_name one) ∙ one.words_are
+  plain_words (inr (inl wire)) no_load no_wire = absurd (no_wire (wire_name wire))
+  plain_words (inr (inr load)) no_load no_wire = absurd (no_load (load_name load))
 
   -- the words of a load, and the two values that were found
   pub record LoadFound : Type 0 where
@@ -110,8 +143,9 @@ module _ (words : List Text) (found : Option (Text × List Row)) (same : found �
     pub calls_found : value_in (codes "CALLS") found ≡ Some (Some calls)
 
   pub load_found : IsTaken words → name ≡ codes "load" → LoadFound
-  load_found (inl one) is = absurd (one.other (sym (one_name one) ∙ is))
-  load_found (inr load) is = record {
+  load_found (inl one) is = absurd (one.no_load (sym (one_name one) ∙ is))
+  load_found (inr (inl wire)) is = absurd (apart (sym (wire_name wire) ∙ is))
+  load_found (inr (inr load)) is = record {
     number = load.number;
     calls = load.calls;
     words_are = load.words_are;
@@ -125,3 +159,23 @@ module _ (words : List Text) (found : Option (Text × List Row)) (same : found �
       let e : n ≡ l.number = cc in
       let f : c ≡ l.calls = cc in
       (λ t. Some (load_words (e t) (f t))) ∙ ap Some l.words_are
+
+  -- the words of a wire, and the value that was found
+  pub record WireFound : Type 0 where
+    pub number : Text
+    pub words_are : wire_words number ≡ words
+    pub number_found : value_in (codes "NUMBER") found ≡ Some (Some number)
+
+  pub wire_found : IsTaken words → name ≡ codes "wire" → WireFound
+  wire_found (inl one) is = absurd (one.no_wire (sym (one_name one) ∙ is))
+  wire_found (inr (inl wire)) is = record {
+    number = wire.number;
+    words_are = wire.words_are;
+    number_found = ap (value_in (codes "NUMBER")) (same_wire wire) ∙ wire.taken.2;
+  }
+  wire_found (inr (inr load)) is = absurd (apart (sym is ∙ load_name load))
+
+  pub wire_said : (l : WireFound) (n : Text) → Some n ≡ Some l.number → Some (wire_words n) ≡ Some words
+  wire_said l n number =
+      let e : n ≡ l.number = cc in
+      (λ t. Some (wire_words (e t))) ∙ ap Some l.words_are

@@ -1,11 +1,11 @@
--- Three words that are a load.
+-- Three words that are a load, and two that are a wire.
 use Rattle.std.proofs.Common.{◌≡◌, ◌≤◌, ℕ, Bool, true, false, List, [], ◌∷◌, codes, subst, refl, arith}
 use Rattle.std.specs.Prelude.{◌&&◌, nat_le}
 use Rattle.std.specs.List.{list_all}
 use Rattle.std.proofs.lemmas.Bool.Decides.{nat_tests}
 use Rattle.homeo_syntax.specs.Lexemes.{is_digit}
 use Rattle.homeo_words.specs.declared.command.Command.{Command}
-use Rattle.homeo_words.specs.declared.command.Command.TheVariants.{Steps, Run, Tables, Treaty, Serve, Load}
+use Rattle.homeo_words.specs.declared.command.Command.TheVariants.{Steps, Run, Tables, Treaty, Serve, Forecast, Wire, Load}
 use Rattle.homeo_words.specs.Numeral.{IsNumeral}
 use Rattle.homeo_words.specs.Command.{Say}
 
@@ -26,6 +26,8 @@ load_numbers n d Run said = cc
 load_numbers n d Tables said = cc
 load_numbers n d Treaty said = cc
 load_numbers n d Serve said = cc
+load_numbers n d Forecast said = cc
+load_numbers n d (Wire number) said = let all = said.said in cc
 load_numbers n d (Load number calls) said =
     let all = said.said in
     let first : said.first ≡ n = cc in
@@ -37,6 +39,28 @@ load_numbers n d (Load number calls) said =
       number_is = subst (λ w. IsNumeral 0 18446744073709551615 w number) first said.number_is;
       calls_are = subst (λ w. IsNumeral 1 20000 w calls) second said.calls_are;
     }
+
+abbrev pub wire_words : List ℕ → List (List ℕ)
+wire_words n = codes "wire" ∷ n ∷ []
+
+-- the number of a command that two words are
+pub record IsWire (n : List ℕ) (c : Command) : Type 0 where
+  pub number : ℕ
+  pub is : Wire number ≡ c
+  pub number_is : IsNumeral 0 18446744073709551615 n number
+
+pub wire_number : (n : List ℕ) (c : Command) → Say (wire_words n) c → IsWire n c
+wire_number n Steps said = cc
+wire_number n Run said = cc
+wire_number n Tables said = cc
+wire_number n Treaty said = cc
+wire_number n Serve said = cc
+wire_number n Forecast said = cc
+wire_number n (Wire number) said =
+    let all = said.said in
+    let first : said.first ≡ n = cc in
+    record { number = number; is = refl; number_is = subst (λ w. IsNumeral 0 18446744073709551615 w number) first said.number_is }
+wire_number n (Load number calls) said = let all = said.said in cc
 
 -- ---- a number begins with a digit
 pub record BeginsWithDigit (word : List ℕ) : Type 0 where

@@ -4,7 +4,7 @@ use Rattle.std.specs.Prelude.{option_map}
 use Rattle.clap.specs.Words.{Row, Text, first_of, is_simple, subcommand_of, takes}
 use Rattle.clap.proofs.OnLiterals.{clap_on_literals}
 use Rattle.homeo_words.specs.inner.App.{homeo}
-use Rattle.homeo_words.proofs.Loads.{load_words}
+use Rattle.homeo_words.proofs.Loads.{load_words, wire_words}
 
 pub simple : is_simple homeo ≡ true
 simple = refl
@@ -41,6 +41,42 @@ pub serve_taken : TakesWord (codes "serve")
 unfolding clap_on_literals
 serve_taken = record { taken = refl; name = refl }
 
+pub forecast_taken : TakesWord (codes "forecast")
+unfolding clap_on_literals
+forecast_taken = record { taken = refl; name = refl }
+
+-- ---- a wire
+by_ten : (P : ℕ → Type 0) → P 0 → P 1 → P 2 → P 3 → P 4 → P 5 → P 6 → P 7 → P 8 → P 9 → (i : ℕ) → i ≤ 9 → P i
+by_ten P a b c d e f g h i j zero l = a
+by_ten P a b c d e f g h i j (suc zero) l = b
+by_ten P a b c d e f g h i j (suc (suc zero)) l = c
+by_ten P a b c d e f g h i j (suc (suc (suc zero))) l = d
+by_ten P a b c d e f g h i j (suc (suc (suc (suc zero)))) l = e
+by_ten P a b c d e f g h i j (suc (suc (suc (suc (suc zero))))) l = f
+by_ten P a b c d e f g h i j (suc (suc (suc (suc (suc (suc zero)))))) l = g
+by_ten P a b c d e f g h i j (suc (suc (suc (suc (suc (suc (suc zero))))))) l = h
+by_ten P a b c d e f g h i j (suc (suc (suc (suc (suc (suc (suc (suc zero)))))))) l = i
+by_ten P a b c d e f g h i j (suc (suc (suc (suc (suc (suc (suc (suc (suc zero))))))))) l = j
+by_ten P a b c d e f g h i j (suc (suc (suc (suc (suc (suc (suc (suc (suc (suc k)))))))))) l = absurd (omega arith)
+
+-- clap takes the words of a wire, and finds the name and the number
+abbrev pub TakesWire : Text → Type 0
+TakesWire n =
+    (takes homeo (wire_words n) ≡ true) × (name_in (subcommand_of homeo (wire_words n)) ≡ Some (codes "wire"))
+    × (value_in (codes "NUMBER") (subcommand_of homeo (wire_words n)) ≡ Some (Some n))
+
+wire_from : (n : Text) (i : ℕ) → i ≤ 9 → TakesWire ((i + 48) ∷ n)
+unfolding clap_on_literals
+wire_from n =
+    by_ten (λ i. TakesWire ((i + 48) ∷ n))
+    (refl, refl, refl) (refl, refl, refl) (refl, refl, refl) (refl, refl, refl) (refl, refl, refl)
+    (refl, refl, refl) (refl, refl, refl) (refl, refl, refl) (refl, refl, refl) (refl, refl, refl)
+
+pub wire_taken : (d : ℕ) (n : Text) → 48 ≤ d → d ≤ 57 → TakesWire (d ∷ n)
+wire_taken d n low high =
+    let at : (d - 48) + 48 ≡ d = omega (arith, low) in
+    subst (λ x. TakesWire (x ∷ n)) at (wire_from n (d - 48) (omega (arith, high)))
+
 -- ---- a load
 abbrev found : Text → Text → Option (Text × List Row)
 found n c = subcommand_of homeo (load_words n c)
@@ -54,19 +90,6 @@ TakesLoad n c =
 -- the same of a second word whose first byte is the digit j
 abbrev TakesDigit : Text → Text → ℕ → Type 0
 TakesDigit n c j = TakesLoad n ((j + 48) ∷ c)
-
-by_ten : (P : ℕ → Type 0) → P 0 → P 1 → P 2 → P 3 → P 4 → P 5 → P 6 → P 7 → P 8 → P 9 → (i : ℕ) → i ≤ 9 → P i
-by_ten P a b c d e f g h i j zero l = a
-by_ten P a b c d e f g h i j (suc zero) l = b
-by_ten P a b c d e f g h i j (suc (suc zero)) l = c
-by_ten P a b c d e f g h i j (suc (suc (suc zero))) l = d
-by_ten P a b c d e f g h i j (suc (suc (suc (suc zero)))) l = e
-by_ten P a b c d e f g h i j (suc (suc (suc (suc (suc zero))))) l = f
-by_ten P a b c d e f g h i j (suc (suc (suc (suc (suc (suc zero)))))) l = g
-by_ten P a b c d e f g h i j (suc (suc (suc (suc (suc (suc (suc zero))))))) l = h
-by_ten P a b c d e f g h i j (suc (suc (suc (suc (suc (suc (suc (suc zero)))))))) l = i
-by_ten P a b c d e f g h i j (suc (suc (suc (suc (suc (suc (suc (suc (suc zero))))))))) l = j
-by_ten P a b c d e f g h i j (suc (suc (suc (suc (suc (suc (suc (suc (suc (suc k)))))))))) l = absurd (omega arith)
 
 from_48 : (n c : Text) (j : ℕ) → j ≤ 9 → TakesDigit (48 ∷ n) c j
 unfolding clap_on_literals

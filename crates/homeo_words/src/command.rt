@@ -24,6 +24,10 @@ pub enum Command {
     Treaty,
     /// Answers the batches that the source gives.
     Serve,
+    /// Writes how far the calls of the schedule go from the initial database without a cleanup, and what stops the next one.
+    Forecast,
+    /// Runs the calls at nodes that send each other packets, by the events that a number chooses, and writes the report.
+    Wire { number: u64 },
     /// Makes the load that starts at a number and has so many calls, from 1 to 20,000, runs it as `Run` does, and writes the
     /// summary.
     Load { number: u64, calls: u32 },
@@ -44,9 +48,19 @@ impl Command {
             Some(Command::Treaty)
         } else if word == "serve" {
             Some(Command::Serve)
+        } else if word == "forecast" {
+            Some(Command::Forecast)
         } else {
             None
         }
+    }
+
+    /// The command of the word behind `wire`.
+    pub(crate) fn wire(number: &str) -> Option<Command>
+        ensures { (c : Command) → (result ≡ Some c) ↔ Say (codes "wire" ∷ number.now ∷ []) c }
+    {
+        let number = numeral(number, 0, u64::MAX)?;
+        Some(Command::Wire { number })
     }
 
     /// The command of the two words behind `load`.

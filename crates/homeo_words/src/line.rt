@@ -3,11 +3,21 @@
 ghost use Rattle.std.specs.Prelude.{◌≡◌, IfOk, false};
 ghost use Rattle.clap.specs.Words.{app_of};
 ghost use Rattle.clap.specs.declared.builder.command.Command.TheViews.{out-Command as fields_of};
-ghost use Rattle.homeo_words.specs.inner.App.{homeo, load};
+ghost use Rattle.homeo_words.specs.inner.App.{homeo, load, wire};
 
 use clap::{Arg, Command};
 use homeo_syntax::Memory;
 use std::alloc::Global;
+
+/// `wire` with its number.
+fn wire<'a>(alloc: Global) -> Result<Command<'a>, Memory>
+    ensures app { IfOk result (λ c. app_of c ≡ wire) }
+    ensures local { IfOk result (λ c. (fields_of c).has_globals ≡ false) }
+{
+    let number = Arg::new(alloc, "NUMBER").required(true);
+    let wire = Command::new(alloc, "wire").arg(number)?;
+    Ok(wire)
+}
 
 /// `load` with its two numbers.
 fn load<'a>(alloc: Global) -> Result<Command<'a>, Memory>
@@ -31,6 +41,8 @@ pub(crate) fn command_line<'a>(alloc: Global) -> Result<Command<'a>, Memory>
         .subcommand(Command::new(alloc, "tables"))?
         .subcommand(Command::new(alloc, "treaty"))?
         .subcommand(Command::new(alloc, "serve"))?
+        .subcommand(Command::new(alloc, "forecast"))?
+        .subcommand(wire(alloc)?)?
         .subcommand(load(alloc)?)?;
     Ok(homeo)
 }

@@ -65,6 +65,8 @@ fn are_same(words: &[&str], others: &[&str]) -> bool
 enum Said<'a> {
     /// One word.
     Plain(&'a str),
+    /// `wire` and a word.
+    Wire { number: &'a str },
     /// `load` and two words.
     Load { number: &'a str, calls: &'a str },
 }
@@ -80,6 +82,9 @@ impl<'a> Said<'a> {
             let number = arguments.get_str("NUMBER")?;
             let calls = arguments.get_str("CALLS")?;
             Some(Said::Load { number, calls })
+        } else if name == "wire" {
+            let number = arguments.get_str("NUMBER")?;
+            Some(Said::Wire { number })
         } else {
             Some(Said::Plain(name))
         }
@@ -91,6 +96,7 @@ impl<'a> Said<'a> {
     {
         match self {
             Said::Plain(word) => are_same(words, &[word]),
+            Said::Wire { number } => are_same(words, &["wire", number]),
             Said::Load { number, calls } => are_same(words, &["load", number, calls]),
         }
     }
@@ -100,6 +106,7 @@ impl<'a> Said<'a> {
     {
         match self {
             Said::Plain(word) => Command::named(word),
+            Said::Wire { number } => Command::wire(number),
             Said::Load { number, calls } => Command::load(number, calls),
         }
     }

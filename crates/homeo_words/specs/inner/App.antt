@@ -8,6 +8,9 @@ argument id = record (new_rule id) { required = true }
 abbrev pub load : App
 load = with_rule (with_rule (new_app (codes "load")) (argument (codes "NUMBER"))) (argument (codes "CALLS"))
 
+abbrev pub wire : App
+wire = with_rule (new_app (codes "wire")) (argument (codes "NUMBER"))
+
 -- the words don't include the program's name
 abbrev pub empty : App
 empty = record { top = record (new_app (codes "homeo")).top { no_binary_name = true }; subs = [] }
@@ -18,5 +21,7 @@ with_word app word = with_subcommand app (new_app word).top
 abbrev pub homeo : App
 homeo =
     with_subcommand
-    (with_word (with_word (with_word (with_word (with_word empty (codes "steps")) (codes "run")) (codes "tables")) (codes "treaty")) (codes "serve"))
+    (with_subcommand
+    (with_word (with_word (with_word (with_word (with_word (with_word empty (codes "steps")) (codes "run")) (codes "tables")) (codes "treaty")) (codes "serve")) (codes "forecast"))
+    wire.top)
     load.top

@@ -1,7 +1,7 @@
 use Rattle.std.proofs.Common.{rules, ap, ap₂, codes, true, ◌≡◌, ◌∙◌}
 use Rattle.clap.specs.Words.{App, app_of, with_subcommand}
 use Rattle.clap.specs.Simple.{app_of_fields}
-use Rattle.homeo_words.specs.inner.App.{empty, with_word}
+use Rattle.homeo_words.specs.inner.App.{empty, with_word, wire}
 use Rattle.homeo_words.proofs.line.command_line.Goals as goal
 
 pub returns : goal.returns
@@ -24,4 +24,11 @@ returns c =
     ≡ with_word (with_word (with_word (with_word (with_word empty (codes "steps")) (codes "run")) (codes "tables")) (codes "treaty")) (codes "serve") =
     c.in_ok-subcommand-5.ensures.shape (search rules)
     ∙ ap₂ with_subcommand treaty_is (ap (λ (a : App). a.top) c.new-6.ensures.app) in
-    c.in_ok-homeo.ensures.shape c.in_ok-load.ensures.local ∙ ap₂ with_subcommand serve_is (ap (λ (a : App). a.top) c.in_ok-load.ensures.app)
+    let forecast_is : app_of c.in_ok-subcommand-6.field-0
+    ≡ with_word (with_word (with_word (with_word (with_word (with_word empty (codes "steps")) (codes "run")) (codes "tables")) (codes "treaty")) (codes "serve")) (codes "forecast") =
+    c.in_ok-subcommand-6.ensures.shape (search rules)
+    ∙ ap₂ with_subcommand serve_is (ap (λ (a : App). a.top) c.new-7.ensures.app) in
+    let wire_is : app_of c.in_ok-subcommand-7.field-0
+    ≡ with_subcommand (with_word (with_word (with_word (with_word (with_word (with_word empty (codes "steps")) (codes "run")) (codes "tables")) (codes "treaty")) (codes "serve")) (codes "forecast")) wire.top =
+    c.in_ok-subcommand-7.ensures.shape c.in_ok-wire.ensures.local ∙ ap₂ with_subcommand forecast_is (ap (λ (a : App). a.top) c.in_ok-wire.ensures.app) in
+    c.in_ok-homeo.ensures.shape c.in_ok-load.ensures.local ∙ ap₂ with_subcommand wire_is (ap (λ (a : App). a.top) c.in_ok-load.ensures.app)

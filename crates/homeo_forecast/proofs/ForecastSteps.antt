@@ -1,0 +1,98 @@
+-- What is kept of a list of calls gives its forecast.
+use Rattle.std.proofs.Common.{◌≡◌, ℕ, zero, suc, ◌+◌, ◌<◌, ◌≤◌, true, false, List, [], ◌∷◌, ◌++◌, length, get_or, take, replicate, slice_get, ℤ, pos, Option, Some, None, is_some, option_map, refl, sym, ap, ap₂, ◌∙◌, subst, arith}
+use Rattle.std.proofs.lemmas.List.{take_more}
+use Rattle.std.proofs.lemmas.Option.{slice_get-get_or}
+use Rattle.homeo_syntax.specs.Source as s
+use Rattle.homeo_meaning.specs.declared.call.CallId.{CallId}
+use Rattle.homeo_meaning.specs.Acceptance.{IsAccepted}
+use Rattle.homeo_meaning.specs.Calls.{CallExists}
+use Rattle.homeo_plan.specs.Config.{Config}
+use Rattle.homeo_plan.specs.Each.{Each}
+use Rattle.homeo_plan.specs.Planned.{sites_of, template_at}
+use Rattle.homeo_plan.specs.PlanView.{plain_template}
+use Rattle.homeo_plan.specs.Template.{Clause, Template}
+use Rattle.homeo_plan.proofs.Policy.{some_sites}
+use Rattle.homeo_forecast.specs.Forecast.{IsForecast}
+use Rattle.homeo_forecast.specs.Peaks.{Stop, first_stop, peak_config}
+use Rattle.homeo_forecast.specs.View.{plain_stop}
+use Rattle.homeo_forecast.specs.Visits.{Visit, visits, next_visit}
+use Rattle.homeo_forecast.specs.declared.outlook.Stop as code
+use Rattle.homeo_forecast.specs.declared.prepared.Prepared.{Prepared}
+use Rattle.homeo_forecast.specs.declared.replay.Replay.{Replay}
+use Rattle.homeo_forecast.specs.declared.rooms.Room.{Room}
+use Rattle.homeo_forecast.specs.inner.Prepared.{IsPrepared}
+use Rattle.homeo_forecast.specs.inner.Replays.{site_lists, IsReplay, IsSomeReplay, CanBound}
+use Rattle.homeo_forecast.specs.inner.Rooms.{HaveRooms}
+use Rattle.homeo_forecast.proofs.Peaks.{served_peaks}
+use Rattle.homeo_forecast.proofs.Prefixes.{forecasts_stand}
+use Rattle.homeo_forecast.proofs.ReplayLists.{begun}
+use Rattle.homeo_forecast.proofs.RoomLists.{all_taken}
+
+-- ---- what is prepared
+pub rebased : (w : s.Workload) (base : List ℤ) (p : Prepared) → IsPrepared w base p → IsPrepared w p.plan.value.base.items p
+rebased w base p h = subst (λ b. IsPrepared w b p) (sym h.plan.base) h
+
+pub begun_at :
+    (w : s.Workload) (base : List ℤ) (p : Prepared) (r : Replay) → IsPrepared w base p →
+    site_lists r ≡ replicate p.plan.value.template.sites (replicate (length p.plan.value.base.items) (pos 0)) →
+    HaveRooms p.plan.value.template.sites [] (plain_template p.plan.value.template).clauses r.rooms.items → IsReplay w base [] r
+begun_at w base p r h lists rooms =
+    begun w base r h.accepted
+    (lists ∙ ap₂ (λ k n. replicate k (replicate n (pos 0))) h.plan.sites (ap length h.plan.base))
+    (subst (λ k. HaveRooms k [] (template_at w base).clauses r.rooms.items) h.plan.sites
+    (subst (λ (t : Template). HaveRooms p.plan.value.template.sites [] t.clauses r.rooms.items) h.plan.template rooms))
+
+pub some_replay : (w : s.Workload) (base : List ℤ) (p : Prepared) (calls : List CallId) (r : Replay) → IsPrepared w base p → IsReplay w base calls r →
+    IsSomeReplay w p.plan.value.base.items r
+some_replay w base p calls r h is = record { calls = calls; is = subst (λ b. IsReplay w b calls r) (sym h.plan.base) is }
+
+-- ---- a list
+there : {X : Type 0} (xs : List X) (n : ℕ) (d : X) → n < length xs → slice_get xs n ≡ Some (get_or xs n d)
+there xs n d lt = slice_get-get_or xs n d lt
+
+module _ (w : s.Workload) (base : List ℤ) (calls : List CallId) (accepted : IsAccepted w) (exist : Each (λ call. CallExists w call) calls) where
+  abbrev k : ℕ
+  k = sites_of w
+
+  abbrev t : Template
+  t = template_at w base
+
+  pub can_bound : (before : List CallId) (r : Replay) → IsReplay w base before r → CanBound r.rooms.items
+  can_bound before r h = record {
+    sites = k;
+    visits = visits w base before;
+    clauses = t.clauses;
+    some = some_sites w accepted;
+    rooms = h.rooms;
+    fit = (served_peaks k t (visits w base before) h.served).0;
+  }
+
+  pub kept_on : (n : ℕ) (d : CallId) (r : Replay) → n < length calls → IsReplay w base (take n calls ++ get_or calls n d ∷ []) r → IsReplay w base (take (n + 1) calls) r
+  kept_on n d r lt h = subst (λ cs. IsReplay w base cs r) (sym (take_more calls n d lt)) h
+
+  pub stopped_there :
+      (n : ℕ) (d : CallId) (r : Replay) (rooms : List Room) (config : Config) (o : Option code.Stop) → n < length calls → IsReplay w base (take n calls) r →
+      is_some o ≡ true → option_map plain_stop o ≡ first_stop k t (visits w base (take n calls)) (next_visit w base (take n calls) (get_or calls n d)) →
+      ((j : ℕ) (vs : List Visit) (cs : List Clause) → HaveRooms j vs cs rooms → config ≡ peak_config j vs cs) → rooms ≡ r.rooms.items →
+      IsForecast w base calls n config (option_map plain_stop o)
+  stopped_there n d r rooms config o lt h some is bounds same = go o some is
+    where
+      config_is : config ≡ peak_config k (visits w base (take n calls)) t.clauses
+      config_is = bounds k (visits w base (take n calls)) t.clauses (subst (HaveRooms k (visits w base (take n calls)) t.clauses) (sym same) h.rooms)
+
+      go : (p : Option code.Stop) → is_some p ≡ true → option_map plain_stop p ≡ first_stop k t (visits w base (take n calls)) (next_visit w base (take n calls) (get_or calls n d)) →
+          IsForecast w base calls n config (option_map plain_stop p)
+      go None q e = cc
+      go (Some f) q e =
+          subst (λ c. IsForecast w base calls n c (Some (plain_stop f))) (sym config_is)
+          ((forecasts_stand w base calls n accepted exist h.served (omega (arith, lt))).1 (get_or calls n d) (plain_stop f) (there calls n d lt) (sym e))
+
+  pub all_kept :
+      (n : ℕ) (r : Replay) (config : Config) → length calls ≤ n → n ≤ length calls → IsReplay w base (take n calls) r →
+      ((j : ℕ) (vs : List Visit) (cs : List Clause) → HaveRooms j vs cs r.rooms.items → config ≡ peak_config j vs cs) →
+      IsForecast w base calls (length calls) config None
+  all_kept n r config le ge h bounds =
+      let same : n ≡ length calls = omega (arith, le, ge) in
+      let whole : IsReplay w base (take (length calls) calls) r = subst (λ m. IsReplay w base (take m calls) r) same h in
+      subst (λ c. IsForecast w base calls (length calls) c None) (sym (bounds k (visits w base (take (length calls) calls)) t.clauses whole.rooms))
+      ((forecasts_stand w base calls (length calls) accepted exist whole.served (omega arith)).0 refl)

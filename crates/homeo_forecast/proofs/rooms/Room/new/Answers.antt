@@ -1,0 +1,11 @@
+use Rattle.std.proofs.Common.{◌≡◌, ◌∙◌, ◌^◌, ◌<ℤ◌, pos, arith, subst, to_z, of_z}
+use Rattle.std.specs.Int.{w128}
+use Rattle.std.proofs.lemmas.Int.{ints}
+use Rattle.homeo_forecast.proofs.RoomSteps.{new_room}
+use Rattle.homeo_forecast.proofs.rooms.Room.new.Goals as goal
+
+pub returns : goal.returns
+returns c = λ cl is.
+    let whole : to_z w128 (of_z w128 c.args.slack) ≡ c.args.slack = omega (arith, ints, c.ranges.slack) in
+    let small : c.args.slack <ℤ pos (2 ^ 127) = omega (arith, ints, c.ranges.slack) in
+    new_room c.args.sites cl _ c.in_ok-peaks.ensures (whole ∙ is) (subst (λ z. z <ℤ pos (2 ^ 127)) is small)

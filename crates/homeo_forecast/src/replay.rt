@@ -1,0 +1,209 @@
+//! Calls, replayed one after another.
+
+ghost use Rattle.std.specs.Prelude.{◌≡◌, ◌+◌, ◌<◌, ◌≤◌, ◌^◌, ◌++◌, ◌∷◌, [], ℕ, ℤ, List, All, Some, None, IsSome, true, length, map, pos, replicate, option_map, IfOk, OnOk, OnErr};
+ghost use Rattle.homeo_syntax.specs.Low.{Commands};
+ghost use Rattle.homeo_syntax.specs.SourceView.{plain_workload};
+ghost use Rattle.homeo_meaning.specs.Calls.{CallExists};
+ghost use Rattle.homeo_meaning.specs.LowMeaning.{DeltaAt, exec_all};
+ghost use Rattle.homeo_meaning.specs.Serial.{values_of};
+ghost use Rattle.homeo_meaning.specs.declared.call.CallId.{CallId};
+ghost use Rattle.homeo_plan.specs.Each.{Each};
+ghost use Rattle.homeo_plan.specs.Joined.{alone};
+ghost use Rattle.homeo_plan.specs.PlanView.{plain_clause, plain_config, plain_template};
+ghost use Rattle.homeo_plan.specs.Planned.{sites_of, template_at};
+ghost use Rattle.homeo_plan.specs.Template.{Clause as PlainClause};
+ghost use Rattle.homeo_split.specs.CanExec.{run_limit, can_exec_all};
+ghost use Rattle.homeo_effect.specs.OwnState.{own_state};
+ghost use Rattle.homeo_effect.specs.Program.{plain_program, set_after_all, prints_of_all};
+ghost use Rattle.homeo_effect.specs.Touched.{written};
+ghost use Rattle.homeo_site.specs.inner.OwnPrograms.{RunsAs};
+ghost use Rattle.homeo_forecast.specs.Peaks.{first_stop, peak_config};
+ghost use Rattle.homeo_forecast.specs.View.{plain_stop};
+ghost use Rattle.homeo_forecast.specs.Visits.{Visit, visits, next_visit};
+ghost use Rattle.homeo_forecast.specs.inner.Prepared.{IsPrepared};
+ghost use Rattle.homeo_forecast.specs.inner.Replays.{IsReplay, IsSomeReplay, CanBound};
+ghost use Rattle.homeo_forecast.specs.inner.Raising.{CanTest};
+ghost use Rattle.homeo_forecast.specs.inner.Rooms.{HaveRooms};
+ghost use Rattle.homeo_forecast.specs.inner.Stops.{first_of, first_among, clause_stop_at, freeze_stop_at};
+
+use crate::outlook::Stop;
+use crate::prepared::Prepared;
+use crate::raising::raise_all;
+use crate::rooms::Room;
+use crate::stops::{first_frozen, first_spent};
+use homeo_build::Compiled;
+use homeo_effect::Program;
+use homeo_meaning::CallId;
+use homeo_plan::{Clause, Config, RoundPlan, Template};
+use homeo_syntax::Memory;
+use std::alloc::Global;
+
+/// What calls have left so far: the deltas of each site, and the room in each clause.
+#[derive(Drop)]
+pub(crate) struct Replay {
+    pub deltas: Vec<Vec<i64>>,
+    pub rooms: Vec<Room>,
+}
+
+/// Runs a program on its site's deltas.
+fn run(alloc: Global, program: &Program, deltas: &mut Vec<i64>) -> Result<(), Memory>
+    requires temporaries { set_after_all 0 program.now.steps.items ≡ program.now.temporaries }
+    requires prints { prints_of_all program.now.steps.items ≡ program.now.prints }
+    requires objects { Each (λ d. d.object < length deltas.old.items) (written (plain_program program.now)) }
+    requires small { (kept : List ℤ) → can_exec_all run_limit (plain_program program.now) (own_state program.now.site deltas.old.items kept) ≡ true }
+    ensures count { OnOk result (length deltas.new.items ≡ length deltas.old.items) }
+    ensures deltas { (b : ℕ → ℤ) (i count : ℕ) (cs : Commands) → RunsAs b i count cs program.now → (n : ℕ) → OnOk result
+        (values_of deltas.new.items n ≡ (exec_all cs (alone b i (values_of deltas.old.items))).state (DeltaAt n i)) }
+{
+    let mut temporaries = vec![in alloc; 0; program.temporaries as usize]?;
+    let mut prints = homeo_syntax::List::new(alloc);
+    prints.reserve(u64::from(program.prints))?;
+    program.run(
+        deltas.as_mut_slice(),
+        temporaries.as_mut_slice(),
+        &mut prints,
+    );
+    Ok(())
+}
+
+/// The first stop among the clauses and freezes of these numbers.
+fn first_stop(
+    alloc: Global,
+    template: &Template,
+    rooms: &[Room],
+    clauses: &[u32],
+    freezes: &[u32],
+    site: u32,
+    deltas: &[i64],
+) -> Result<Option<Stop>, Memory>
+    requires clauses { All (λ n. n < length template.now.clauses.items) clauses.now }
+    requires freezes { let t = template.now in All (λ n. (length t.clauses.items ≤ n) × (n < length t.clauses.items + length t.freezes.items)) freezes.now }
+    requires can { CanTest (plain_template template.now).clauses rooms.now site deltas.now }
+    ensures { (k : ℕ) (vs : List Visit) (v : Visit) → HaveRooms k vs (plain_template template.now).clauses rooms.now → v.site ≡ site → site < k →
+        v.deltas ≡ values_of deltas.now → let t = plain_template template.now in IfOk result (λ o. option_map plain_stop o ≡
+        first_of (first_among (clause_stop_at k (vs ++ v ∷ []) t.clauses) clauses.now)
+        (first_among (freeze_stop_at (length t.clauses) site (values_of deltas.now) t.freezes) freezes.now)) }
+{
+    let all = template.clauses.as_slice();
+    let stop = first_spent(alloc, all, rooms, clauses, site, deltas)?;
+    if stop.is_some() {
+        return Ok(stop);
+    }
+    let first = all.len();
+    Ok(first_frozen(
+        template.freezes.as_slice(),
+        first,
+        freezes,
+        site,
+        deltas,
+    ))
+}
+
+/// A 0 for each object, for each site.
+fn no_deltas(alloc: Global, sites: u32, objects: usize) -> Result<Vec<Vec<i64>>, Memory>
+    ensures { IfOk result (λ ds. map (λ d. d.items) ds.items ≡ replicate sites (replicate objects (pos 0))) }
+{
+    let mut deltas = Vec::new(alloc);
+    for _ in 0..sites {
+        deltas.push(zeros(alloc, objects)?)?;
+    }
+    Ok(deltas)
+}
+
+fn zeros(alloc: Global, count: usize) -> Result<Vec<i64>, Memory>
+    ensures { IfOk result (λ z. z.items ≡ replicate count (pos 0)) }
+{
+    Ok(vec![in alloc; 0; count]?)
+}
+
+/// A room for each clause, where no site has made a call.
+fn new_rooms(alloc: Global, sites: u32, clauses: &[Clause]) -> Result<Vec<Room>, Memory>
+    ensures { IfOk result (λ rs. HaveRooms sites [] (map plain_clause clauses.now) rs.items) }
+{
+    let mut rooms = Vec::new(alloc);
+    for clause in clauses {
+        rooms.push(Room::new(alloc, sites, clause.slack)?)?;
+    }
+    Ok(rooms)
+}
+
+/// The configuration that the peaks give.
+fn config_of(alloc: Global, rooms: &[Room]) -> Result<Config, Memory>
+    requires { CanBound rooms.now }
+    ensures { (k : ℕ) (vs : List Visit) (cs : List PlainClause) → HaveRooms k vs cs rooms.now → IfOk result (λ c. plain_config c ≡ peak_config k vs cs) }
+{
+    let mut bounds = homeo_syntax::List::new(alloc);
+    for room in rooms {
+        bounds.push(room.bounds(alloc)?)?;
+    }
+    Ok(Config { bounds })
+}
+
+impl Replay {
+    /// Before any call, at the base of a plan.
+    pub(crate) fn begin(alloc: Global, plan: &RoundPlan) -> Result<Replay, Memory>
+        ensures deltas { IfOk result (λ r. map (λ d. d.items) r.deltas.items ≡
+            replicate plan.now.template.sites (replicate (length plan.now.base.items) (pos 0))) }
+        ensures rooms { IfOk result (λ r. HaveRooms plan.now.template.sites [] (plain_template plan.now.template).clauses r.rooms.items) }
+    {
+        let template = &plan.template;
+        let deltas = no_deltas(alloc, template.sites, plan.base.as_slice().len())?;
+        let rooms = new_rooms(alloc, template.sites, template.clauses.as_slice())?;
+        Ok(Replay { deltas, rooms })
+    }
+
+    /// Makes one call more, unless something stops it: this is then answered, and the rooms stay as they were.
+    pub(crate) fn call(
+        &mut self,
+        alloc: Global,
+        c: &Compiled,
+        prepared: &Prepared,
+        call: CallId,
+    ) -> Result<Option<Stop>, Memory>
+        requires prepared { IsPrepared (plain_workload c.now) prepared.now.plan.value.base.items prepared.now }
+        requires exists { CallExists (plain_workload c.now) call }
+        requires replay { IsSomeReplay (plain_workload c.now) prepared.now.plan.value.base.items self.old }
+        ensures kept { (before : List CallId) → let w = plain_workload c.now in let base = prepared.now.plan.value.base.items in
+            IsReplay w base before self.old → IfOk result (λ o. o ≡ None → IsReplay w base (before ++ call ∷ []) self.new) }
+        ensures stop { (before : List CallId) → let w = plain_workload c.now in let base = prepared.now.plan.value.base.items in
+            IsReplay w base before self.old → IfOk result (λ o. option_map plain_stop o ≡
+            first_stop (sites_of w) (template_at w base) (visits w base before) (next_visit w base before call)) }
+        ensures rooms { IfOk result (λ o. IsSome o → self.new.rooms ≡ self.old.rooms) }
+    {
+        let program = prepared.program(c, call);
+        let site = program.site;
+        let (clauses, freezes) = prepared.touched(alloc, c, call, site)?;
+        run(alloc, program, &mut self.deltas[site as usize])?;
+        let deltas = self.deltas[site as usize].as_slice();
+        let template = &prepared.plan.template;
+        let stop = first_stop(
+            alloc,
+            template,
+            self.rooms.as_slice(),
+            clauses.as_slice(),
+            freezes.as_slice(),
+            site,
+            deltas,
+        )?;
+        if stop.is_some() {
+            return Ok(stop);
+        }
+        raise_all(
+            self.rooms.as_mut_slice(),
+            template.clauses.as_slice(),
+            clauses.as_slice(),
+            site,
+            deltas,
+        );
+        Ok(None)
+    }
+
+    /// The configuration that the peaks so far give.
+    pub(crate) fn config(&self, alloc: Global) -> Result<Config, Memory>
+        requires { CanBound self.now.rooms.items }
+        ensures { (k : ℕ) (vs : List Visit) (cs : List PlainClause) → HaveRooms k vs cs self.now.rooms.items →
+            IfOk result (λ c. plain_config c ≡ peak_config k vs cs) }
+    {
+        config_of(alloc, self.rooms.as_slice())
+    }
+}

@@ -1,0 +1,42 @@
+use Rattle.homeo_wire.specs.Key.{words}
+use Rattle.std.proofs.Common.{◌≡◌, ◌<◌, ◌≤◌, ◌+◌, zero, suc, [], ◌∷◌, length, map, Some, None, true, false, refl, sym, ap, subst, ◌∙◌, arith}
+use Rattle.std.specs.List.{range_with_len}
+use Rattle.std.specs.Prelude.{IfSome, IfOk, OnOk}
+use Rattle.homeo_syntax.specs.SourceView.{plain_workload}
+use Rattle.homeo_plan.specs.Planned.{sites_of}
+use Rattle.homeo_draws.specs.Draws.{next_state, drawn}
+use Rattle.homeo_wire.specs.declared.events.Event.TheVariants.{Call, Deliver}
+use Rattle.homeo_wire.specs.Drive.{turns, chosen_event, all_to, to_sites, sweeps, call_of_each, until_made, has_left, lacks}
+use Rattle.homeo_wire.specs.Nodes.{after, happens}
+use Rattle.homeo_wire.specs.WireView.{CanHappen}
+use Rattle.homeo_wire.proofs.Driving.{one_more, turn_next, site_next, sweep_next, each_then, made_next, made_end, packets_more, none_next, any_here}
+use Rattle.homeo_wire.proofs.driver.sweep.Goals as goal
+
+pub loop-site-init : goal.loop-site-init
+loop-site-init c = record { work = refl; rest = λ n e. let same : n ≡ sites_of (plain_workload c.args.wire.now.work) = omega (arith, e) in
+    ap (λ k. after (plain_workload c.args.wire.now.work) (to_sites (plain_workload c.args.wire.now.work) c.args.wire.now.world 0 k) c.args.wire.now.world) same }
+
+pub deliver_all-requires : goal.deliver_all-requires
+deliver_all-requires c =
+    let count : c.site_count-site-end.result ≡ sites_of (plain_workload c.args.wire.now.work) = c.site_count-site-end.ensures.count ∙ ap (λ v. sites_of (plain_workload v)) c.workload.ensures.work in
+    subst (λ v. c.loop-site.site < sites_of (plain_workload v)) (sym c.loop-site.invariant.work) (omega (arith, c.loop-site-test.true, count))
+
+pub loop-site-preserved : goal.loop-site-preserved
+loop-site-preserved c =
+    let w = plain_workload c.args.wire.now.work in
+    let x = c.loop-site.wire.world in
+    let y = c.deliver_all.new.wire.world in
+    let site = c.loop-site.site in
+    let same : plain_workload c.loop-site.wire.work ≡ w = ap plain_workload c.loop-site.invariant.work in
+    let is : y ≡ after w (all_to x site) x = c.in_ok-deliver_all.ensures.world ∙ ap (λ v. after v (all_to x site) x) same in record {
+      work = c.in_ok-deliver_all.ensures.work ∙ c.loop-site.invariant.work;
+      rest = λ n e.
+          ap (λ k. after w (to_sites w y k n) y) (let h : site + 1 ≡ suc site = omega arith in h) ∙ sym (site_next w x y site n is)
+          ∙ c.loop-site.invariant.rest (suc n) (omega (arith, e));
+    }
+
+pub returns-clause-world : goal.returns-clause-world
+unfolding words
+returns-clause-world c =
+    let count : c.site_count-site-end.result ≡ sites_of (plain_workload c.args.wire.now.work) = c.site_count-site-end.ensures.count ∙ ap (λ v. sites_of (plain_workload v)) c.workload.ensures.work in
+    c.loop-site.invariant.rest 0 (omega (arith, c.loop-site-test.false, c.loop-site.auto.site-end, count))

@@ -1,0 +1,26 @@
+use Rattle.homeo_wire.specs.Key.{words}
+use Rattle.std.proofs.Common.{◌≡◌, [], map, refl, sym, ap, subst, ◌∙◌}
+use Rattle.std.specs.Prelude.{All}
+use Rattle.homeo_syntax.specs.Listed.{Listed}
+use Rattle.homeo_syntax.specs.SourceView.{plain_workload}
+use Rattle.homeo_meaning.specs.Acceptance.{IsAccepted}
+use Rattle.homeo_wire.specs.declared.events.Packet.{Packet}
+use Rattle.homeo_wire.specs.inner.Standing.{IsNode, IsWire}
+use Rattle.homeo_wire.specs.Nodes as n
+use Rattle.homeo_wire.specs.WireView.{plain_node, plain_packet}
+use Rattle.homeo_wire.proofs.Wires.{begun_wire}
+use Rattle.homeo_wire.proofs.wire.Wire.begin.Goals as goal
+
+pub invariant_of-result : goal.invariant_of-result
+invariant_of-result c =
+    let work = c.args.c.value in
+    let none : c.new.result.items ≡ [] = ap (λ (l : Listed Packet). l.items) c.new.ensures in
+    subst (IsWire work c.in_ok-nodes.nodes.items) (sym none)
+    (begun_wire work c.in_ok-nodes.nodes.items (c.in_ok-nodes.ensures.accepted) c.in_ok-nodes.ensures.nodes c.in_ok-nodes.ensures.each)
+
+pub returns : goal.returns
+unfolding words
+returns c =
+    let nodes = c.in_ok-nodes.ensures.nodes in
+    let none : map plain_packet c.new.result.items ≡ [] = ap (λ (l : Listed Packet). map plain_packet l.items) c.new.ensures in
+    λ j. record { work = c.args.c.value; world = record { nodes = nodes j; packets = none j } }

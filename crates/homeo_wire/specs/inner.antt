@@ -1,0 +1,4 @@
+pub mod Driving
+pub mod Reactions
+pub mod Ready
+pub mod Standing
