@@ -9,7 +9,7 @@ use std::test::Fail;
 
 #[test]
 fn other_words_are_no_command(rt: HostRuntime) -> Result<(), Fail> {
-    let usage = "usage: homeo steps or run or tables or treaty or serve or load NUMBER CALLS\n";
+    let usage = "usage: homeo steps or run or tables or treaty or serve or forecast or wire NUMBER or load NUMBER CALLS\n";
     let lists: [&'static [&'static str]; 10] = [
         &[],
         &["step"],

@@ -1,5 +1,5 @@
 -- What `clap` finds in the words of a command.
-use Rattle.std.proofs.Common.{◌≡◌, ◌≢◌, ◌∙◌, ℕ, true, List, Option, Some, None, [], ◌∷◌, codes, refl, sym, ap, subst, inl, inr}
+use Rattle.std.proofs.Common.{arith, get_or, ◌≡◌, ◌≢◌, ◌∙◌, ℕ, true, List, Option, Some, None, [], ◌∷◌, codes, refl, sym, ap, subst, inl, inr}
 use Rattle.std.specs.Prelude.{◌⊎◌, option_map}
 use Rattle.std.specs.Borrow.{Bor}
 use Rattle.clap.specs.Words.{Row, Text, first_of, first_value, rows_of, subcommand_of, subcommand_name_of, subcommand_rows_of, takes}
@@ -73,7 +73,9 @@ words_taken words (inr (inl wire)) = subst (λ ws. takes homeo ws ≡ true) wire
 words_taken words (inr (inr load)) = subst (λ ws. takes homeo ws ≡ true) load.words_are load.taken.0
 
 apart : codes "wire" ≢ codes "load"
-apart = λ e. cc
+apart = λ e.
+    let first : 119 ≡ 108 = ap (λ word. get_or word 0 0) e in
+    omega (arith, first)
 
 -- ---- what the matches tell
 abbrev pub text_of : Bor Text → Text
