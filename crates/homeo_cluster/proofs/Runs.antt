@@ -33,7 +33,7 @@ pub record HaveRun (w : s.Workload) (before after : List PassValue) : Type 0 whe
 
 have_run : (w : s.Workload) (before after : List PassValue) → length after ≡ length before → EachRan w before after → HaveRun w before after
 have_run w [] [] long each = record {
-  finished = record { same = refl; left = All-nil (λ (p : PassValue). p.left ≡ 0) };
+  finished = record { same = refl; left = All-nil (λ (p : PassValue). p.left ≡ 0); logs = λ i e l. (each i e l).log };
   answers = All-nil (HasAllAnswers w);
 }
 have_run w [] (q ∷ after) long each = absurd (omega (arith, long))
@@ -44,6 +44,7 @@ have_run w (p ∷ before) (q ∷ after) long each =
       finished = record {
         same = ap (λ (ns : List ℕ). q.client ∷ ns) rest.finished.same ∙ ap (λ (n : ℕ). n ∷ map (λ (x : PassValue). x.client) before) first.client;
         left = All-cons (λ (x : PassValue). x.left ≡ 0) q after first.left rest.finished.left;
+        logs = λ i e l. (each i e l).log;
       };
       answers = All-cons (HasAllAnswers w) q after first.answers rest.answers;
     }

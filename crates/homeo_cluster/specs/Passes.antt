@@ -1,6 +1,7 @@
 -- What contracts see of a client's pass, and what a call does to it (this project's rule).
-use Rattle.std.specs.Prelude.{◌≡◌, ℕ, suc, ◌+◌, ◌<◌, List, [], ◌∷◌, ◌++◌, map, length, Some, All, slice_get}
+use Rattle.std.specs.Prelude.{◌≡◌, ℕ, suc, ◌+◌, ◌<◌, List, [], ◌∷◌, ◌++◌, map, length, Some, All, slice_get, slice_index_or}
 use Rattle.std.specs.List.{range_with_len}
+use mathlib.Core.List.{IsPrefix}
 use Rattle.homeo_syntax.specs.Source as s
 use Rattle.homeo_meaning.specs.declared.call.CallId.{CallId}
 use Rattle.homeo_notes.specs.Lines.{Held, IsOwner, HasSeen, list_at}
@@ -61,10 +62,11 @@ pub record AreBegun (w : s.Workload) (passes : List PassValue) : Type 0 where
   pub all : AreAll w passes
   pub logs : All (λ (p : PassValue). p.log ≡ []) passes
 
--- the same passes in the same order, and none has a call left
+-- the same passes in the same order; none has a call left, and each log goes on where it was
 pub record AreFinished (before after : List PassValue) : Type 0 where
   pub same : map (λ (p : PassValue). p.client) after ≡ map (λ (p : PassValue). p.client) before
   pub left : All (λ (p : PassValue). p.left ≡ 0) after
+  pub logs : (i : ℕ) (e : PassValue) → i < length before → IsPrefix (slice_index_or before i e).log (slice_index_or after i e).log
 
 -- the client got an answer to each of its calls
 abbrev pub HasAllAnswers : s.Workload → PassValue → Type 0
