@@ -1,7 +1,7 @@
 //! Outputs of commands on small texts, beside those that `faults` compares.
 
 use crate::runs::{check, plain};
-use crate::texts::{ENDED, LIMITED_SLOTS, ONE_WRITER, WEIGHTED_STOCK};
+use crate::texts::{ENDED, LIMITED_SLOTS, ONE_WRITER, STOCK, WEIGHTED_STOCK};
 use homeo::Status;
 use std::test::Fail;
 
@@ -140,4 +140,37 @@ fn treaties_are_written(rt: HostRuntime) -> Result<(), Fail> {
         check(&rt, rt.alloc(), given, Status::Done, treaties, "")?;
     }
     Ok(())
+}
+
+#[test]
+fn forecasts_are_written(rt: HostRuntime) -> Result<(), Fail> {
+    for (text, forecast) in [
+        // every call is served by bounds that differ from the even ones
+        (
+            "workload 1\nsites 2\nobject stock in 0..10 = 5\ntransaction buy(n in 1..3) { s := read(stock); if n <= s then { write(stock = s - n); print(1) } else print(0) }\nclient a at 0 { buy(1); buy(1); buy(1) }\nclient b at 1 { buy(1) }\nschedule a a b a\nend\n",
+            "kept 4 of 4\n0 bounds 3 1\n1 bounds 6 0\nstop none\n",
+        ),
+        // one call more than any bounds serve
+        (
+            "workload 1\nsites 2\nobject stock in 0..10 = 5\ntransaction buy(n in 1..3) { s := read(stock); if n <= s then { write(stock = s - n); print(1) } else print(0) }\nclient a at 0 { buy(1); buy(1); buy(1) }\nclient b at 1 { buy(1); buy(1) }\nschedule a a b a b\nend\n",
+            "kept 4 of 5\n0 bounds 3 1\n1 bounds 6 0\nstop b 2 clause 0 peaks 3 2 slack 4\n",
+        ),
+        // what the other site prints may not move
+        (
+            "workload 1\nsites 2\nobject x in 0..10 = 5\ntransaction show() { print(read(x)) }\ntransaction raise() { write(x = read(x) + 1) }\nclient a at 0 { show() }\nclient b at 1 { raise(); raise() }\nschedule b a b\nend\n",
+            "kept 0 of 3\n0 bounds 6 0\n1 bounds 4 0\nstop b 1 freeze 2 x@1 value 1\n",
+        ),
+    ] {
+        let given = plain(&["forecast"], text);
+        check(&rt, rt.alloc(), given, Status::Done, forecast, "")?;
+    }
+    Ok(())
+}
+
+#[test]
+fn rounds_by_packets_are_reported(rt: HostRuntime) -> Result<(), Fail> {
+    let given = plain(&["wire", "1"], STOCK);
+    let report =
+        "round 0\nsite 0\na 1 buy(1): 1\na 2 buy(1): 1\nsite 1\nb 1 buy(1): 1\nclose 0 clause 0 sum 3 bound 2\na 3 buy(1): 1\nround 1\nsite 0\nsite 1\ndatabase\nstock = 1\nrounds 2 calls 4\n";
+    check(&rt, rt.alloc(), given, Status::Done, report, "")
 }

@@ -9,8 +9,9 @@ use std::test::Fail;
 
 #[test]
 fn other_words_are_no_command(rt: HostRuntime) -> Result<(), Fail> {
-    let usage = "usage: homeo steps or run or tables or treaty or serve or forecast or wire NUMBER or load NUMBER CALLS\n";
-    let lists: [&'static [&'static str]; 10] = [
+    let usage =
+        "usage: homeo steps or run or tables or treaty or serve or forecast or wire NUMBER or load NUMBER CALLS\n";
+    let lists: [&'static [&'static str]; 13] = [
         &[],
         &["step"],
         &["steps", "x"],
@@ -19,6 +20,9 @@ fn other_words_are_no_command(rt: HostRuntime) -> Result<(), Fail> {
         &["load", "1"],
         &["load", "1", "0"],
         &["load", "1", "20001"],
+        &["forecast", "1"],
+        &["wire"],
+        &["wire", "x"],
         &["--help"],
         &[""],
     ];
@@ -166,5 +170,15 @@ fn a_text_past_a_limit_is_refused(rt: HostRuntime) -> Result<(), Fail> {
         };
         check(&rt, alloc, given, Status::Refused, "", complaint)?;
     }
-    Ok(())
+    // under `wire` alone a text has at most 200 calls
+    let many = called(alloc, "skip", 0, 200)?;
+    let given = plain(&["wire", "1"], many.as_str());
+    check(
+        &rt,
+        alloc,
+        given,
+        Status::Refused,
+        "",
+        "refused E18 at 860\n",
+    )
 }
