@@ -1,7 +1,7 @@
 #!/usr/bin/env python3
 """How much of the definitions in specs/ the public contracts reach: what a reader has to believe.
 
-.ci/reach.py              prints the figures, and the files of specs/ that no public contract reaches
+.ci/reach.py              prints the figures, and the files of specs/ that no public contract reaches and no other crate names
 .ci/reach.py --misplaced  prints each definition of specs/ that no public contract reaches, and each of specs/inner/ that one does
 .ci/reach.py --inner      prints each definition of specs/inner/ that a caller has to believe, and each line that takes one from another crate
 .ci/reach.py DEFINITION   prints by which names a definition, as homeo_meaning.specs.Weights.number_weight, is reached
@@ -312,15 +312,30 @@ def lines_of(definitions):
     return collections.Counter({module: len(its) for module, its in lines.items()})
 
 
+def sources(reach):
+    """The text of each source file, with its crate."""
+    for crate in reach.crates:
+        for folder in ("src", "specs", "proofs"):
+            for file in sorted((reach.root / "crates" / crate / folder).rglob("*.*t*")):
+                yield crate, file, file.read_text()
+
+
+def cited(reach):
+    """The modules of specs/ that another crate's sources name: what lemmas say of a definition is of use where its body is handed on."""
+    return {found[0] for crate, _, text in sources(reach) for found in re.finditer(r"\bRattle\.(\w+)\.specs\.[A-Z]\w*", text) if found[1] != crate}
+
+
 def table(reach):
-    """The figures, crate by crate, and the files of specs/, without specs/inner/, of which no public contract reaches a line."""
+    """The figures, crate by crate, and the files of specs/, without specs/inner/, of which no public contract reaches a line, and that no
+    other crate names."""
     reached, rows, unreached = lines_of(reach.of_all()), collections.defaultdict(lambda: [0, 0, 0, 0]), []
+    others = cited(reach)
     for path, module in reach.modules.items():
         whole, is_inner = lines_of(module.own)[path], ".specs.inner." in path
         for name in (module.crate, "all"):
             rows[name][2 * is_inner] += whole
             rows[name][2 * is_inner + 1] += reached[path]
-        if whole and not is_inner and not reached[path]:
+        if whole and not is_inner and not reached[path] and path not in others:
             unreached.append(str(module.file.relative_to(reach.root)))
     said = [f"{'definitions, in lines':24}{'specs':>10}{'reached':>10}{'inner':>10}{'reached':>10}"]
     said += ["".join([f"{name:24}", *(f"{it:>10}" for it in rows[name])]) for name in [*reach.crates, "all"]]
@@ -358,13 +373,8 @@ def inner_reached(reach):
 
 def inner_taken(reach):
     """Each line of a crate that takes a definition from another crate's specs/inner/."""
-    taken = []
-    for crate in reach.crates:
-        for file in sorted(it for folder in ("src", "specs", "proofs") for it in (reach.root / "crates" / crate / folder).rglob("*.*t*")):
-            for found in re.finditer(r"\bRattle\.(\w+)\.specs\.inner\.\w+", file.read_text()):
-                if found[1] != crate:
-                    taken.append(f"{file.relative_to(reach.root)}: {found[0]}")
-    return taken
+    inner = re.compile(r"\bRattle\.(\w+)\.specs\.inner\.\w+")
+    return [f"{file.relative_to(reach.root)}: {found[0]}" for crate, file, text in sources(reach) for found in inner.finditer(text) if found[1] != crate]
 
 
 def main():
