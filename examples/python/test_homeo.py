@@ -5,6 +5,7 @@ import random
 import unittest
 
 import homeo
+import session
 
 EXAMPLES = pathlib.Path(__file__).resolve().parent.parent
 SHOP = """transaction order(customer in 1..999, n in 1..9) {
@@ -87,6 +88,22 @@ class Tests(unittest.TestCase):
         found = kept.run([("a", "sell(4)"), ("b", "sell(6)"), ("a", "sell(5)")])
         self.assertEqual(sorted(it[2:] for it in self.prints(found)), [("sell", [4], [4]), ("sell", [5], [5]), ("sell", [6], [0])])
         self.assertEqual(kept.values, {"stock": 3})
+
+    def test_session(self):
+        kept = shop()
+        kept.run([("berlin", "order(7, 2)"), ("paris", "order(8, 3)"), ("berlin", "ship(7)")])
+        with session.Session(kept) as open_shop:
+            # the slot that was freed is the next one taken, and what was there before is still there
+            first = open_shop.run([("paris", "order(9, 5)"), ("paris", "order(10, 1)")])
+            self.assertEqual([it[4] for it in self.prints(first)], [[1], [3]])
+            with self.assertRaises(homeo.Refused) as refused:
+                open_shop.run([("web", "order(1000, 1)")])
+            self.assertEqual((refused.exception.args[0], refused.exception.args[2]), ("E9", "client web at 2 { order(1000, 1) }"))
+            second = open_shop.run([("web", "ship(8)"), ("berlin", "restock(2)")])
+            self.assertEqual(sorted(self.prints(second)), [("berlin", 1, "restock", [2], []), ("web", 1, "ship", [8], [])])
+        self.assertEqual(kept.values, {"stock": 31})
+        third = kept.run([("web", "order(11, 1)")])
+        self.assertEqual((self.prints(third), kept.values), ([("web", 1, "order", [11, 1], [2])], {"stock": 30}))
 
     def test_reports(self):
         for file in sorted(EXAMPLES.glob("*.expected")):
