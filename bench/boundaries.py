@@ -24,8 +24,8 @@ END = "end\n"
 
 
 def refusing(code):
-    """The commands under which texts are refused with this code: only tables are refused for their rows."""
-    return ("tables",) if code == "E12" else COMMANDS
+    """The commands under which texts are refused with this code: for their rows under `tables` alone, for their calls under `wire`."""
+    return {"E12": ("tables",), "E18": ("wire 1",)}.get(code, COMMANDS)
 
 
 def begin(sites):
