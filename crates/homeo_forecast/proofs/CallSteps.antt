@@ -24,7 +24,7 @@ use Rattle.homeo_split.specs.CanExec.{run_limit, can_exec_all}
 use Rattle.homeo_effect.specs.Key.{words as effect_words}
 use Rattle.homeo_effect.specs.Touched.{written, touched_clauses, touched_freezes}
 use Rattle.homeo_effect.proofs.Untouched.{clause_stays, own_delta_stays}
-use Rattle.homeo_site.specs.inner.OwnTreaty.{own_terms, SumsFit}
+use Rattle.homeo_site.specs.OwnTreaty.{own_terms, SumsFit}
 use Rattle.homeo_site.proofs.StepFindings.{residual_straight}
 use Rattle.homeo_forecast.specs.Forecast.{IsServed, CanServe}
 use Rattle.homeo_forecast.specs.Peaks.{peak, PeaksFit, first_stop}

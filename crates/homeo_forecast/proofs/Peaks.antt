@@ -61,10 +61,11 @@ peak_reached ts i (v ∷ vs) = go (v.site == i) refl (peak_reached ts i vs)
         (u : Bool) → (v.site == i) ≡ u → Each (λ v. v.site ≡ i → site_sum i ts v.deltas ≤ℤ peak ts i vs) vs →
         (v.site ≡ i → site_sum i ts v.deltas ≤ℤ cond u high (peak ts i vs))
         × Each (λ (w : Visit). w.site ≡ i → site_sum i ts w.deltas ≤ℤ cond u high (peak ts i vs)) vs
-    go true e h =
-        (λ at. max_left (site_sum i ts v.deltas) (peak ts i vs),
-        each_map (λ (w : Visit). w.site ≡ i → site_sum i ts w.deltas ≤ℤ peak ts i vs) (λ (w : Visit). w.site ≡ i → site_sum i ts w.deltas ≤ℤ high)
-            (λ w f at. let r = max_right (site_sum i ts v.deltas) (peak ts i vs) in let s = f at in omega (arith, ints)) vs h)
+    go true e h = (
+      λ at. max_left (site_sum i ts v.deltas) (peak ts i vs),
+      each_map (λ (w : Visit). w.site ≡ i → site_sum i ts w.deltas ≤ℤ peak ts i vs) (λ (w : Visit). w.site ≡ i → site_sum i ts w.deltas ≤ℤ high)
+          (λ w f at. let r = max_right (site_sum i ts v.deltas) (peak ts i vs) in let s = f at in omega (arith, ints)) vs h,
+    )
     go false e h = (λ at. absurd (grind (arith, nat_tests)), h)
 
 -- and it is the least such number
@@ -103,8 +104,8 @@ clause_fits :
 unfolding words meaning_words
 clause_fits k vs c b fits keeps =
     let below = total_below c.terms vs b 0 (λ j m e. peak_least c.terms m vs (bound_at b j) (bound_positive b j fits.not_negative)
-        (each_map (λ (v : Visit). site_sum v.site c.terms v.deltas ≤ℤ bound_at b v.site) (λ (v : Visit). v.site ≡ m → site_sum m c.terms v.deltas ≤ℤ bound_at b j)
-        (λ v h at. let there : v.site ≡ j = omega arith in subst (λ n. site_sum n c.terms v.deltas ≤ℤ bound_at b j) at (subst (λ n. site_sum v.site c.terms v.deltas ≤ℤ bound_at b n) there h)) vs keeps)) in
+    (each_map (λ (v : Visit). site_sum v.site c.terms v.deltas ≤ℤ bound_at b v.site) (λ (v : Visit). v.site ≡ m → site_sum m c.terms v.deltas ≤ℤ bound_at b j)
+    (λ v h at. let there : v.site ≡ j = omega arith in subst (λ n. site_sum n c.terms v.deltas ≤ℤ bound_at b j) at (subst (λ n. site_sum v.site c.terms v.deltas ≤ℤ bound_at b n) there h)) vs keeps)) in
     subst (λ n. total (peaks_from c.terms vs 0 n) ≤ℤ c.slack) fits.count (subst (λ n. total (peaks_from c.terms vs 0 (length b)) ≤ℤ n) fits.sums below)
 
 pub served_fits :
@@ -113,11 +114,12 @@ pub served_fits :
 unfolding words meaning_words
 served_fits k vs [] bs fits keeps = tt
 served_fits k vs (c ∷ cs) [] fits keeps = absurd fits
-served_fits k vs (c ∷ cs) (b ∷ bs) fits keeps =
-    (clause_fits k vs c b fits.0
-    (each_map (λ (v : Visit). KeepsClauses v.site v.deltas (c ∷ cs) (b ∷ bs)) (λ (v : Visit). site_sum v.site c.terms v.deltas ≤ℤ bound_at b v.site) (λ v h. h.0) vs keeps),
-    served_fits k vs cs bs fits.1
-    (each_map (λ (v : Visit). KeepsClauses v.site v.deltas (c ∷ cs) (b ∷ bs)) (λ (v : Visit). KeepsClauses v.site v.deltas cs bs) (λ v h. h.1) vs keeps))
+served_fits k vs (c ∷ cs) (b ∷ bs) fits keeps = (
+  clause_fits k vs c b fits.0
+      (each_map (λ (v : Visit). KeepsClauses v.site v.deltas (c ∷ cs) (b ∷ bs)) (λ (v : Visit). site_sum v.site c.terms v.deltas ≤ℤ bound_at b v.site) (λ v h. h.0) vs keeps),
+  served_fits k vs cs bs fits.1
+      (each_map (λ (v : Visit). KeepsClauses v.site v.deltas (c ∷ cs) (b ∷ bs)) (λ (v : Visit). KeepsClauses v.site v.deltas cs bs) (λ v h. h.1) vs keeps),
+)
 
 -- ---- the peaks, with the rest at site 0, serve
 pub peaks_count : (ts : List Term) (vs : List Visit) (i k : ℕ) → length (peaks_from ts vs i k) ≡ k
@@ -186,36 +188,40 @@ fits_serve k vs [] some sited fit = (tt, none vs)
     none (w ∷ ws) = (tt, none ws)
 fits_serve k vs (c ∷ cs) some sited fit =
     let more = fits_serve k vs cs some sited fit.1 in
-    let here = clause_served k vs c vs fit.0 sited (each_for (λ i (v : Visit). v.site ≡ i → site_sum i c.terms v.deltas ≤ℤ peak c.terms i vs) vs (λ i. peak_reached c.terms i vs)) in
-    ((peak_fits k vs c some fit.0, more.0),
-    each_with (λ (v : Visit). site_sum v.site c.terms v.deltas ≤ℤ bound_at (peak_bounds k vs c) v.site)
-        (λ (v : Visit). KeepsClauses v.site v.deltas cs (peak_config k vs cs))
-        (λ (v : Visit). KeepsClauses v.site v.deltas (c ∷ cs) (peak_config k vs (c ∷ cs)))
-        (λ v h r. (h, r)) vs here more.1)
+    let here = clause_served k vs c vs fit.0 sited (each_for (λ i (v : Visit). v.site ≡ i → site_sum i c.terms v.deltas ≤ℤ peak c.terms i vs) vs (λ i. peak_reached c.terms i vs)) in (
+      (peak_fits k vs c some fit.0, more.0),
+      each_with (λ (v : Visit). site_sum v.site c.terms v.deltas ≤ℤ bound_at (peak_bounds k vs c) v.site)
+          (λ (v : Visit). KeepsClauses v.site v.deltas cs (peak_config k vs cs))
+          (λ (v : Visit). KeepsClauses v.site v.deltas (c ∷ cs) (peak_config k vs (c ∷ cs)))
+          (λ v h r. (h, r)) vs here more.1,
+    )
 
 -- ---- the laws
 pub served_peaks : (k : ℕ) (t : Template) (vs : List Visit) → IsServed k t vs → PeaksFit k vs t.clauses × KeepFreezes vs t.freezes
 unfolding words meaning_words
-served_peaks k t vs s =
-    (served_fits k vs t.clauses s.config s.fits
-    (each_map (λ (v : Visit). Treaty t s.config v.site v.deltas) (λ (v : Visit). KeepsClauses v.site v.deltas t.clauses s.config) (λ v h. h.clauses) vs s.serves),
-    each_map (λ (v : Visit). Treaty t s.config v.site v.deltas) (λ (v : Visit). KeepsFreezes v.site v.deltas t.freezes) (λ v h. h.freezes) vs s.serves)
+served_peaks k t vs s = (
+  served_fits k vs t.clauses s.config s.fits
+      (each_map (λ (v : Visit). Treaty t s.config v.site v.deltas) (λ (v : Visit). KeepsClauses v.site v.deltas t.clauses s.config) (λ v h. h.clauses) vs s.serves),
+  each_map (λ (v : Visit). Treaty t s.config v.site v.deltas) (λ (v : Visit). KeepsFreezes v.site v.deltas t.freezes) (λ v h. h.freezes) vs s.serves,
+)
 
 peaks_served :
     (k : ℕ) (t : Template) (vs : List Visit) → 0 < k → AreSited k vs → PeaksFit k vs t.clauses → KeepFreezes vs t.freezes →
     Fits k t.clauses (peak_config k vs t.clauses) × Serves t (peak_config k vs t.clauses) vs
 unfolding words meaning_words
 peaks_served k t vs some sited fit frozen =
-    let both = fits_serve k vs t.clauses some sited fit in
-    (both.0,
-    each_with (λ (v : Visit). KeepsClauses v.site v.deltas t.clauses (peak_config k vs t.clauses)) (λ (v : Visit). KeepsFreezes v.site v.deltas t.freezes)
-        (λ (v : Visit). Treaty t (peak_config k vs t.clauses) v.site v.deltas) (λ v h f. record { clauses = h; freezes = f }) vs both.1 frozen)
+    let both = fits_serve k vs t.clauses some sited fit in (
+      both.0,
+      each_with (λ (v : Visit). KeepsClauses v.site v.deltas t.clauses (peak_config k vs t.clauses)) (λ (v : Visit). KeepsFreezes v.site v.deltas t.freezes)
+          (λ (v : Visit). Treaty t (peak_config k vs t.clauses) v.site v.deltas) (λ v h f. record { clauses = h; freezes = f }) vs both.1 frozen,
+    )
 
 pub served_exactly : ServedExactly
-served_exactly k t vs some sited =
-    (served_peaks k t vs,
-    λ h. let made = peaks_served k t vs some sited h.0 h.1 in
-    record { config = peak_config k vs t.clauses; fits = made.0; serves = made.1 })
+served_exactly k t vs some sited = (
+  served_peaks k t vs,
+  λ h. let made = peaks_served k t vs some sited h.0 h.1 in
+      record { config = peak_config k vs t.clauses; fits = made.0; serves = made.1 },
+)
 
 pub peaks_serve : PeaksServe
 peaks_serve k t vs some sited s = let h = served_peaks k t vs s in peaks_served k t vs some sited h.0 h.1
@@ -291,12 +297,13 @@ stop_tells n k vs v (c ∷ cs) ds = go (stop_tells (suc n) k vs v cs ds) (int_le
 pub served_on : ServedOn
 unfolding words meaning_words
 served_on k t vs v some sited s =
-    let tells = stop_tells 0 k (vs ++ v ∷ []) v t.clauses t.freezes in
-    (λ none.
-        let fit = tells.none none in
-        let frozen = append_each (λ (v : Visit). KeepsFreezes v.site v.deltas t.freezes) vs (v ∷ []) (served_peaks k t vs s).1 (fit.1, tt) in
-        let made = peaks_served k t (vs ++ v ∷ []) some sited fit.0 frozen in
-        record { config = peak_config k (vs ++ v ∷ []) t.clauses; fits = made.0; serves = made.1 },
-    λ b is served.
-        let h = served_peaks k t (vs ++ v ∷ []) served in
-        tells.some b is (h.0, (each_append (λ (v : Visit). KeepsFreezes v.site v.deltas t.freezes) vs (v ∷ []) h.1).1.0))
+    let tells = stop_tells 0 k (vs ++ v ∷ []) v t.clauses t.freezes in (
+      λ none.
+          let fit = tells.none none in
+          let frozen = append_each (λ (v : Visit). KeepsFreezes v.site v.deltas t.freezes) vs (v ∷ []) (served_peaks k t vs s).1 (fit.1, tt) in
+          let made = peaks_served k t (vs ++ v ∷ []) some sited fit.0 frozen in
+          record { config = peak_config k (vs ++ v ∷ []) t.clauses; fits = made.0; serves = made.1 },
+      λ b is served.
+          let h = served_peaks k t (vs ++ v ∷ []) served in
+          tells.some b is (h.0, (each_append (λ (v : Visit). KeepsFreezes v.site v.deltas t.freezes) vs (v ∷ []) h.1).1.0),
+    )

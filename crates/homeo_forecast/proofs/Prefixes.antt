@@ -108,26 +108,27 @@ module _ (w : s.Workload) (base : List ℤ) (calls : List CallId) (n : ℕ) (acc
       let v = next_visit w base (take n calls) call in
       let prefix : take m calls ≡ (take n calls ++ call ∷ []) ++ l.rest = l.are ∙ ap (λ x. (take n calls ++ x ∷ []) ++ l.rest) same in
       let parts : visits w base (take m calls) ≡ (vs ++ v ∷ []) ++ visits_from w base (after_all (λ i. no_deltas) (visits w base (take n calls ++ call ∷ []))) l.rest =
-          ap (visits w base) prefix ∙ visits_append w base (λ i. no_deltas) (take n calls ++ call ∷ []) l.rest
-          ∙ ap (λ us. us ++ visits_from w base (after_all (λ i. no_deltas) (visits w base (take n calls ++ call ∷ []))) l.rest) (next_is w base (take n calls) call) in
+      ap (visits w base) prefix ∙ visits_append w base (λ i. no_deltas) (take n calls ++ call ∷ []) l.rest
+      ∙ ap (λ us. us ++ visits_from w base (after_all (λ i. no_deltas) (visits w base (take n calls ++ call ∷ []))) l.rest) (next_is w base (take n calls) call) in
       let first : IsServed k t (vs ++ v ∷ []) = served_first k t (vs ++ v ∷ []) _ (subst (IsServed k t) parts more) in
       let sited : AreSited k (vs ++ v ∷ []) = append_each (λ (v : Visit). v.site < k) vs (v ∷ []) first_sited
-          (site_below w call accepted (each_at (λ call. CallExists w call) calls n call there exist), tt) in
+      (site_below w call accepted (each_at (λ call. CallExists w call) calls n call there exist), tt) in
       (served_on k t vs v (some_sites w accepted) sited served).1 b is first
 
 pub forecasts_stand : ForecastsStand
 unfolding words
 forecasts_stand w base calls n accepted exist served le =
-    let made = peaks_serve (sites_of w) (template_at w base) (visits w base (take n calls)) (some_sites w accepted) (first_sited w base calls n accepted exist) served in
-    (λ e. record { within = le; config_is = refl; fits = made.0; serves = made.1; longest = λ m lt small. absurd (omega arith); stop_is = e },
-    λ call b there is. record {
-      within = le;
-      config_is = refl;
-      fits = made.0;
-      serves = made.1;
-      longest = stopped w base calls n accepted exist call b there served is;
-      stop_is = (call, there, is);
-    })
+    let made = peaks_serve (sites_of w) (template_at w base) (visits w base (take n calls)) (some_sites w accepted) (first_sited w base calls n accepted exist) served in (
+      λ e. record { within = le; config_is = refl; fits = made.0; serves = made.1; longest = λ m lt small. absurd (omega arith); stop_is = e },
+      λ call b there is. record {
+        within = le;
+        config_is = refl;
+        fits = made.0;
+        serves = made.1;
+        longest = stopped w base calls n accepted exist call b there served is;
+        stop_is = (call, there, is);
+      },
+    )
 
 -- ---- one forecast
 order : (n m : ℕ) → (n < m) ⊎ ((m < n) ⊎ (n ≡ m))

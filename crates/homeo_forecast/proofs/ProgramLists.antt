@@ -20,7 +20,7 @@ use Rattle.homeo_build.specs.Key.{words as build_words}
 use Rattle.homeo_build.specs.Plan.{SitedResidual, IsPlanOf}
 use Rattle.homeo_effect.specs.Indexed.{Indexed}
 use Rattle.homeo_effect.specs.declared.program.Program.{Program}
-use Rattle.homeo_site.specs.inner.OwnPrograms.{RunsAs}
+use Rattle.homeo_site.specs.OwnPrograms.{RunsAs}
 use Rattle.homeo_site.proofs.PlanCalls.{HasCall, plan_count, commands_are}
 use Rattle.homeo_forecast.specs.inner.Prepared.{RunsFor, ArePrograms, AreIndexes}
 use Rattle.homeo_forecast.proofs.RoomLists.{all_taken}

@@ -25,8 +25,8 @@ trans a b c h k = omega (arith, ints)
 max_swap : (a b c : ℤ) → int_max a (int_max b c) ≡ int_max b (int_max a c)
 max_swap a b c =
     let left : (x y z : ℤ) → int_max x (int_max y z) ≤ℤ int_max y (int_max x z) = λ x y z.
-        max_below x (int_max y z) (int_max y (int_max x z)) (trans x (int_max x z) (int_max y (int_max x z)) (max_left x z) (max_right y (int_max x z)))
-        (max_below y z (int_max y (int_max x z)) (max_left y (int_max x z)) (trans z (int_max x z) (int_max y (int_max x z)) (max_right x z) (max_right y (int_max x z)))) in
+    max_below x (int_max y z) (int_max y (int_max x z)) (trans x (int_max x z) (int_max y (int_max x z)) (max_left x z) (max_right y (int_max x z)))
+    (max_below y z (int_max y (int_max x z)) (max_left y (int_max x z)) (trans z (int_max x z) (int_max y (int_max x z)) (max_right x z) (max_right y (int_max x z)))) in
     antisym (int_max a (int_max b c)) (int_max b (int_max a c)) (left a b c) (left b a c)
 
 -- a higher sum is the peak, and a lower one leaves it

@@ -8,7 +8,7 @@ use Rattle.homeo_plan.specs.Joined.{Deltas}
 use Rattle.homeo_plan.specs.Treaty.{site_sum}
 use Rattle.homeo_site.specs.Key.{words as site_words}
 use Rattle.homeo_site.specs.declared.own_treaty.OwnTerm.{OwnTerm}
-use Rattle.homeo_site.specs.inner.OwnTreaty.{own_terms, own_sum, SumsFit}
+use Rattle.homeo_site.specs.OwnTreaty.{own_terms, own_sum, SumsFit}
 use Rattle.homeo_site.proofs.OwnTerms.{own_sum_is}
 use Rattle.homeo_forecast.specs.inner.Sums.{CanSum}
 

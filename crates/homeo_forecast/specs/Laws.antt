@@ -48,8 +48,8 @@ ForecastsStand =
     Each (λ call. CallExists w call) calls → CanServe w base (take n calls) → n ≤ length calls →
     (n ≡ length calls → IsForecast w base calls n (peak_config (sites_of w) (visits w base (take n calls)) (template_at w base).clauses) None)
     × ((call : CallId) (b : Stop) → slice_get calls n ≡ Some call →
-        first_stop (sites_of w) (template_at w base) (visits w base (take n calls)) (next_visit w base (take n calls) call) ≡ Some b →
-        IsForecast w base calls n (peak_config (sites_of w) (visits w base (take n calls)) (template_at w base).clauses) (Some b))
+    first_stop (sites_of w) (template_at w base) (visits w base (take n calls)) (next_visit w base (take n calls) call) ≡ Some b →
+    IsForecast w base calls n (peak_config (sites_of w) (visits w base (take n calls)) (template_at w base).clauses) (Some b))
 
 -- there is one forecast
 abbrev pub OneForecast : Type 0

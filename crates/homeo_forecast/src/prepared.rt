@@ -11,7 +11,7 @@ ghost use Rattle.homeo_plan.specs.Planned.{sites_of, planned_at, template_at};
 ghost use Rattle.homeo_plan.specs.Template.{base_row};
 ghost use Rattle.homeo_build.specs.Plan.{IsPlanOf};
 ghost use Rattle.homeo_effect.specs.Touched.{written, touched_clauses, touched_freezes};
-ghost use Rattle.homeo_site.specs.inner.OwnPrograms.{RunsAs};
+ghost use Rattle.homeo_site.specs.OwnPrograms.{RunsAs};
 ghost use Rattle.homeo_forecast.specs.inner.Prepared.{IsPrepared};
 
 use crate::programs::{indexes, programs};

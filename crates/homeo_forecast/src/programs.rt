@@ -11,7 +11,7 @@ ghost use Rattle.homeo_plan.specs.PlanView.{plain_residual, plain_template};
 ghost use Rattle.homeo_split.specs.CanExec.{run_limit, can_exec_all};
 ghost use Rattle.homeo_build.specs.Plan.{IsPlanOf};
 ghost use Rattle.homeo_effect.specs.Touched.{written, WritesOwn};
-ghost use Rattle.homeo_site.specs.inner.OwnPrograms.{RunsAs, IsSomePlan};
+ghost use Rattle.homeo_site.specs.OwnPrograms.{RunsAs, IsSomePlan};
 ghost use Rattle.homeo_forecast.specs.inner.Prepared.{ArePrograms, AreIndexes};
 
 use homeo_effect::{Program, TreatyIndex, commands_at_site};
@@ -61,7 +61,10 @@ fn can_be_numbered(template: &Template) -> bool
 
 /// The index of a plan's template for each site. A plan with 2^32 clauses and freezes or more is answered as one for which memory
 /// is short.
-pub(crate) fn indexes(alloc: Global, plan: &Arc<RoundPlan, Global>) -> Result<List<TreatyIndex>, Memory>
+pub(crate) fn indexes(
+    alloc: Global,
+    plan: &Arc<RoundPlan, Global>,
+) -> Result<List<TreatyIndex>, Memory>
     ensures { IfOk result (λ xs. AreIndexes plan.now.value.template.sites (plain_template plan.now.value.template) xs.items) }
 {
     if !can_be_numbered(&plan.template) {

@@ -16,7 +16,7 @@ ghost use Rattle.homeo_split.specs.CanExec.{run_limit, can_exec_all};
 ghost use Rattle.homeo_effect.specs.OwnState.{own_state};
 ghost use Rattle.homeo_effect.specs.Program.{plain_program, set_after_all, prints_of_all};
 ghost use Rattle.homeo_effect.specs.Touched.{written};
-ghost use Rattle.homeo_site.specs.inner.OwnPrograms.{RunsAs};
+ghost use Rattle.homeo_site.specs.OwnPrograms.{RunsAs};
 ghost use Rattle.homeo_forecast.specs.Peaks.{first_stop, peak_config};
 ghost use Rattle.homeo_forecast.specs.View.{plain_stop};
 ghost use Rattle.homeo_forecast.specs.Visits.{Visit, visits, next_visit};
@@ -90,13 +90,7 @@ fn first_stop(
         return Ok(stop);
     }
     let first = all.len();
-    Ok(first_frozen(
-        template.freezes.as_slice(),
-        first,
-        freezes,
-        site,
-        deltas,
-    ))
+    Ok(first_frozen(template.freezes.as_slice(), first, freezes, site, deltas))
 }
 
 /// A 0 for each object, for each site.

@@ -137,7 +137,12 @@ impl Room {
     }
 
     /// The peaks, with that of a site risen to a sum.
-    fn risen(&self, alloc: Global, site: usize, sum: i128) -> Result<homeo_syntax::List<i128>, Memory>
+    fn risen(
+        &self,
+        alloc: Global,
+        site: usize,
+        sum: i128,
+    ) -> Result<homeo_syntax::List<i128>, Memory>
         requires { site < length self.now.peaks.items }
         ensures { IfOk result (λ l. l.items ≡ slice_set self.now.peaks.items site sum) }
     {

@@ -5,7 +5,7 @@ use Rattle.homeo_site.specs.Key.{words}
 use Rattle.homeo_plan.specs.Joined.{Deltas}
 use Rattle.homeo_site.specs.declared.own_treaty.OwnClause as code
 use Rattle.homeo_site.specs.inner.Failures.{sum_failure, first_of, first_failure, own_failure}
-use Rattle.homeo_site.specs.inner.OwnTreaty.{own_sum, plain_own}
+use Rattle.homeo_site.specs.OwnTreaty.{own_sum, plain_own}
 
 at_place : (f : ℕ → Option Broken) (ns : List ℕ) (k d : ℕ) → k < length ns →
     first_failure f (drop k ns) ≡ first_of (f (get_or ns k d)) (first_failure f (drop (suc k) ns))

@@ -13,7 +13,7 @@ use Rattle.homeo_plan.specs.Joined.{Deltas}
 use Rattle.homeo_site.specs.Key.{words}
 use Rattle.homeo_site.specs.declared.own_treaty.OwnClause as code
 use Rattle.homeo_site.specs.inner.Failures.{first_of}
-use Rattle.homeo_site.specs.inner.OwnTreaty.{OwnClause, plain_own, own_clauses, SumsFit}
+use Rattle.homeo_site.specs.OwnTreaty.{OwnClause, plain_own, own_clauses, SumsFit}
 
 own_count : (i : ℕ) (cs : List Clause) (bs : Config) → length (own_clauses i cs bs) ≡ length cs
 unfolding words

@@ -17,7 +17,7 @@ use Rattle.homeo_plan.specs.Planned.{template_at}
 use Rattle.homeo_plan.specs.Template.{Clause}
 use Rattle.homeo_plan.proofs.GroundNumbers.{values_small}
 use Rattle.homeo_site.specs.Key.{words}
-use Rattle.homeo_site.specs.inner.OwnTreaty.{SumsFit, own_terms, OwnClause, own_clauses}
+use Rattle.homeo_site.specs.OwnTreaty.{SumsFit, own_terms, OwnClause, own_clauses}
 use Rattle.homeo_site.proofs.Limits.{few_values}
 use Rattle.homeo_site.proofs.LocalSteps.{no_delta_past}
 use Rattle.homeo_site.proofs.OwnSums.{own_rises, own_factors, sums_fit}

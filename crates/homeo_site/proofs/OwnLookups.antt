@@ -22,7 +22,7 @@ use Rattle.homeo_effect.specs.Touched.{WritesOwn}
 use Rattle.homeo_effect.specs.declared.program.Program.{Program}
 use Rattle.homeo_history.specs.Legal.{IsCallAt}
 use Rattle.homeo_site.specs.Key.{words}
-use Rattle.homeo_site.specs.inner.OwnPrograms.{IsKeptFor, AreOwnPrograms}
+use Rattle.homeo_site.specs.OwnPrograms.{IsKeptFor, AreOwnPrograms}
 use Rattle.homeo_site.proofs.CallsOfSites.{call_site}
 use Rattle.homeo_site.proofs.PlanCalls.{plan_call, plan_count, commands_are}
 use Rattle.homeo_site.proofs.WrittenObjects.{writes_own}

@@ -15,7 +15,7 @@ use Rattle.homeo_plan.specs.Treaty.{site_sum, bound_at}
 use Rattle.homeo_plan.specs.declared.templates.Clause as code
 use Rattle.homeo_site.specs.Key.{words}
 use Rattle.homeo_site.specs.declared.own_treaty.OwnTerm.{OwnTerm}
-use Rattle.homeo_site.specs.inner.OwnTreaty.{own_terms, own_sum, SumsFit, OwnClause, plain_own, own_clauses}
+use Rattle.homeo_site.specs.OwnTreaty.{own_terms, own_sum, SumsFit, OwnClause, plain_own, own_clauses}
 use Rattle.homeo_site.specs.declared.own_treaty.OwnClause as code_own
 
 -- a site's sum is that of its own terms

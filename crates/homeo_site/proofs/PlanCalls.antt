@@ -23,7 +23,7 @@ use Rattle.homeo_build.specs.Plan.{SitedResidual, sited_residual, residual_at, I
 use Rattle.homeo_effect.specs.Touched.{written, WritesOwn}
 use Rattle.homeo_effect.specs.declared.program.Program.{Program}
 use Rattle.homeo_site.specs.Key.{words}
-use Rattle.homeo_site.specs.inner.OwnPrograms.{RunsAs, IsKeptFor, AreOwnPrograms}
+use Rattle.homeo_site.specs.OwnPrograms.{RunsAs, IsKeptFor, AreOwnPrograms}
 use Rattle.homeo_site.proofs.StepFindings.{residual_straight}
 use Rattle.homeo_site.proofs.StepsRun.{base_runs}
 use Rattle.homeo_site.proofs.WrittenObjects.{writes_own, writes_objects}

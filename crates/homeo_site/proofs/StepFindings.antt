@@ -31,7 +31,7 @@ use Rattle.homeo_site.specs.Key.{words}
 use Rattle.homeo_site.specs.SiteState.{SiteState, step_values, step_finding}
 use Rattle.homeo_site.specs.inner.Failures.{sum_failure, freeze_failure, freeze_failure_from, failure_from, failure_at, first_of, first_failure, own_failure, own_freeze_failure}
 use Rattle.homeo_site.specs.inner.Ready.{IsReady}
-use Rattle.homeo_site.specs.inner.OwnTreaty.{own_sum, own_clauses}
+use Rattle.homeo_site.specs.OwnTreaty.{own_sum, own_clauses}
 use Rattle.homeo_site.proofs.CallsOfSites.{call_site}
 use Rattle.homeo_site.proofs.FirstFailures.{first_of_both, clauses_first}
 use Rattle.homeo_site.proofs.OwnTerms.{own_sum_is}

@@ -1,5 +1,3 @@
 pub mod Failures
-pub mod OwnPrograms
 pub mod OwnRound
-pub mod OwnTreaty
 pub mod Ready

@@ -11,7 +11,7 @@ ghost use Rattle.homeo_plan.specs.PlanView.{plain_residual};
 ghost use Rattle.homeo_split.specs.CanExec.{run_limit, can_exec_all};
 ghost use Rattle.homeo_build.specs.Plan.{IsPlanOf};
 ghost use Rattle.homeo_effect.specs.Touched.{written, WritesOwn};
-ghost use Rattle.homeo_site.specs.inner.OwnPrograms.{RunsAs, AreOwnPrograms, IsSomePlan};
+ghost use Rattle.homeo_site.specs.OwnPrograms.{RunsAs, AreOwnPrograms, IsSomePlan};
 
 use homeo_effect::{Program, commands_at_site};
 use homeo_meaning::Database;

@@ -14,8 +14,8 @@ ghost use Rattle.homeo_effect.specs.Touched.{written, touched_clauses, touched_f
 ghost use Rattle.homeo_site.specs.Attempts.{step_commands};
 ghost use Rattle.homeo_site.specs.SiteState.{step_prints, step_deltas, step_finding};
 ghost use Rattle.homeo_site.specs.inner.Failures.{first_of, first_failure, own_failure, own_freeze_failure};
-ghost use Rattle.homeo_site.specs.inner.OwnPrograms.{RunsAs};
-ghost use Rattle.homeo_site.specs.inner.OwnTreaty.{own_clauses, SumsFit};
+ghost use Rattle.homeo_site.specs.OwnPrograms.{RunsAs};
+ghost use Rattle.homeo_site.specs.OwnTreaty.{own_clauses, SumsFit};
 ghost use Rattle.homeo_site.specs.inner.Ready.{IsReady, with_deltas};
 
 use crate::own_programs::own_programs;

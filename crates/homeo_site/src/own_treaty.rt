@@ -7,7 +7,7 @@ ghost use Rattle.homeo_meaning.specs.Serial.{values_of};
 ghost use Rattle.homeo_plan.specs.PlanView.{plain_clause, plain_config, plain_template};
 ghost use Rattle.homeo_plan.specs.Treaty.{bound_at};
 ghost use Rattle.homeo_site.specs.inner.Failures.{sum_failure, freeze_failure, first_failure, own_failure, own_freeze_failure};
-ghost use Rattle.homeo_site.specs.inner.OwnTreaty.{own_terms, own_sum, SumsFit, plain_own, own_clauses};
+ghost use Rattle.homeo_site.specs.OwnTreaty.{own_terms, own_sum, SumsFit, plain_own, own_clauses};
 
 use homeo_effect::TreatyIndex;
 use homeo_meaning::padded::item_or;

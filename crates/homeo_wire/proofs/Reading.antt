@@ -211,7 +211,8 @@ module _ (w : s.Workload) (js : List Journal) (ps : List Packet) (b : BookState)
       let is : n ≡ r = omega (arith, same) in
       ap (λ m. map (ran_in m) js) is
       ∙ same_list (map (ran_in r) js) q.segments (length-map js (ran_in r) ∙ long ∙ sym (All-get (λ (x : Round). length x.segments ≡ sites_of w) b.closed r q course.joined.book.segments e)) (λ i x y f g. let was = get_map_back (ran_in r) js i x f in
-          sym was.1.1 ∙ ran_closed i was.0 was.1.0 r q e ∙ segment_at q.segments i y g)
+      sym was.1.1 ∙ ran_closed i was.0 was.1.0 r q e ∙ segment_at q.segments i y g)
+
   open_segments : map (ran_in top) js ≡ segments_of sites
   unfolding core_words
   open_segments =

@@ -134,12 +134,7 @@ fn add_node(values: &mut [i64], node: &Node, round: u64)
 }
 
 /// A base with the deltas of the nodes that are in a round.
-fn last_values(
-    alloc: Global,
-    nodes: &[Node],
-    round: u64,
-    base: &[i64],
-) -> Result<Database, Memory>
+fn last_values(alloc: Global, nodes: &[Node], round: u64, base: &[i64]) -> Result<Database, Memory>
     requires fits { LastFits base.now round (map plain_journal nodes.now) }
     ensures { IfOk result (λ d. d.items ≡ gathered base.now (sites_in round (map plain_journal nodes.now))) }
 {

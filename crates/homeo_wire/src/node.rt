@@ -218,12 +218,7 @@ impl Node {
 
     /// Chooses the call that closes the round, where the node is the round's arbiter and hasn't chosen one.
     #[tactic(auto, unfolding(crate::specs::Key::words))]
-    fn choose(
-        &mut self,
-        b: Breach,
-        sites: u32,
-        packets: &mut List<Packet>,
-    ) -> Result<Step, Memory>
+    fn choose(&mut self, b: Breach, sites: u32, packets: &mut List<Packet>) -> Result<Step, Memory>
         requires sites { sites ≡ sites_of (plain_workload self.old.site.work) }
         requires some { 0 < sites }
         ensures reaction { IfOk result (IsReaction (taken (plain_workload self.old.site.work) (plain_node self.old) (Want b))

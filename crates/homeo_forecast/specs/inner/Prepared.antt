@@ -9,7 +9,7 @@ use Rattle.homeo_plan.specs.Template.{PlannedCall, Template, base_row}
 use Rattle.homeo_build.specs.Plan.{IsPlanOf}
 use Rattle.homeo_effect.specs.Indexed.{Indexed}
 use Rattle.homeo_effect.specs.declared.program.Program.{Program}
-use Rattle.homeo_site.specs.inner.OwnPrograms.{RunsAs}
+use Rattle.homeo_site.specs.OwnPrograms.{RunsAs}
 use Rattle.homeo_forecast.specs.declared.prepared.Prepared.{Prepared}
 
 -- what a ground call runs at its site

@@ -9,7 +9,7 @@ use Rattle.homeo_plan.specs.Config.{Config}
 use Rattle.homeo_plan.specs.Treaty.{site_sum, bound_at}
 use Rattle.homeo_plan.specs.Linear.{delta_of}
 use Rattle.homeo_site.specs.Key.{words}
-use Rattle.homeo_site.specs.inner.OwnTreaty.{OwnClause, own_sum}
+use Rattle.homeo_site.specs.OwnTreaty.{OwnClause, own_sum}
 
 -- a sum above the bound fails
 abbrev pub sum_failure : ℕ → ℤ → ℤ → Option Broken

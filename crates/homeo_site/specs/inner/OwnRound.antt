@@ -9,8 +9,8 @@ use Rattle.homeo_build.specs.Plan.{IsPlanOf}
 use Rattle.homeo_effect.specs.Indexed.{Indexed}
 use Rattle.homeo_effect.specs.declared.program.Program.{Program}
 use Rattle.homeo_site.specs.declared.own_treaty.OwnClause as code
-use Rattle.homeo_site.specs.inner.OwnPrograms.{AreOwnPrograms}
-use Rattle.homeo_site.specs.inner.OwnTreaty.{plain_own, own_clauses}
+use Rattle.homeo_site.specs.OwnPrograms.{AreOwnPrograms}
+use Rattle.homeo_site.specs.OwnTreaty.{plain_own, own_clauses}
 
 -- the plan is that of the round, with bounds by the policy, and the site keeps its part of it, and an index over its treaty
 pub record IsOwnRound

@@ -54,16 +54,16 @@ loop-number-preserved c = λ k vs v rooms at lt are.
     let below : n < length plain = place_below cs n c.index-clauses-place.result there c.index-clauses-place.is in
     let whole : to_z w128 (of_z w128 c.site_sum-sum.result) ≡ c.site_sum-sum.result = omega (arith, ints, c.site_sum-sum.type_inv) in
     let terms : (d : Clause) → c.as_slice.result.now ≡ (get_or plain n d).terms =
-        λ d. c.as_slice.ensures ∙ ap (λ (q : code.Clause). q.terms.items) (sym c.index-clauses-place.is)
-            ∙ sym (ap (λ (e : Clause). e.terms) (clause_there cs n c.index-clauses-place.result there c.index-clauses-place.is d)) in
+    λ d. c.as_slice.ensures ∙ ap (λ (q : code.Clause). q.terms.items) (sym c.index-clauses-place.is)
+    ∙ sym (ap (λ (e : Clause). e.terms) (clause_there cs n c.index-clauses-place.result there c.index-clauses-place.is d)) in
     let sums : (d : Clause) → c.site_sum-sum.result ≡ site_sum c.args.site (get_or plain n d).terms v.deltas =
-        λ d. c.site_sum-sum.ensures ∙ ap (λ ts. site_sum c.args.site ts (values_of c.args.deltas.now)) (terms d)
-            ∙ ap (λ x. site_sum c.args.site (get_or plain n d).terms x) (sym are) in
+    λ d. c.site_sum-sum.ensures ∙ ap (λ ts. site_sum c.args.site ts (values_of c.args.deltas.now)) (terms d)
+    ∙ ap (λ x. site_sum c.args.site (get_or plain n d).terms x) (sym are) in
     let has : (d : Clause) → HasRoom k (vs ++ v ∷ []) (get_or plain n d) c.raise.new.self =
-        λ d. ⊎_elim
-            (λ old. c.raise.ensures.raised k vs (get_or plain n d) v old at lt (whole ∙ sums d))
-            (λ new. c.raise.ensures.again k vs (get_or plain n d) v new at lt (whole ∙ sums d))
-            (some.each n d R below) in
+    λ d. ⊎_elim
+    (λ old. c.raise.ensures.raised k vs (get_or plain n d) v old at lt (whole ∙ sums d))
+    (λ new. c.raise.ensures.again k vs (get_or plain n d) v new at lt (whole ∙ sums d))
+    (some.each n d R below) in
     one_raised k vs v plain c.args.numbers.now c.loop-number.number-index n 0 c.loop-number.rooms c.raise.new.self some c.loop-number-test.true refl below has
 
 pub returns : goal.returns

@@ -3,7 +3,7 @@ use Rattle.std.proofs.Common.{take}
 use Rattle.homeo_syntax.specs.Source.{Workload}
 use Rattle.homeo_plan.specs.Planned.{planned}
 use Rattle.homeo_build.specs.Plan.{IsPlanOf}
-use Rattle.homeo_site.specs.inner.OwnPrograms.{AreOwnPrograms}
+use Rattle.homeo_site.specs.OwnPrograms.{AreOwnPrograms}
 use Rattle.homeo_site.proofs.own_programs.own_programs.Given as goal
 
 abbrev pub invariant-loop-residual : goal.invariant-loop-residual

@@ -2,7 +2,7 @@ use Rattle.std.proofs.Common.{◌≡◌, true, false, map, is_some, sym, ◌∙�
 use Rattle.homeo_meaning.specs.Serial.{values_of}
 use Rattle.homeo_site.specs.declared.own_treaty.OwnClause.{OwnClause}
 use Rattle.homeo_site.specs.inner.Failures.{own_failure}
-use Rattle.homeo_site.specs.inner.OwnTreaty.{SumsFit, plain_own}
+use Rattle.homeo_site.specs.OwnTreaty.{SumsFit, plain_own}
 use Rattle.homeo_site.proofs.FailureSteps.{found_some, passed_none, none_left, clause_at}
 use Rattle.homeo_site.proofs.own_treaty.first_clause.Goals as goal
 

@@ -1,7 +1,7 @@
 use Rattle.std.proofs.Common.{◌≡◌, map, drop}
 use Rattle.homeo_meaning.specs.Serial.{values_of}
 use Rattle.homeo_site.specs.inner.Failures.{first_failure, own_failure}
-use Rattle.homeo_site.specs.inner.OwnTreaty.{plain_own}
+use Rattle.homeo_site.specs.OwnTreaty.{plain_own}
 use Rattle.homeo_site.proofs.own_treaty.first_clause.Given as goal
 
 abbrev pub invariant-loop-number : goal.invariant-loop-number

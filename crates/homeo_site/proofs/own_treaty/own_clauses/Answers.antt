@@ -4,7 +4,7 @@ use Rattle.std.proofs.lemmas.Int.{to_z-of_z}
 use Rattle.homeo_syntax.specs.Listed.{Listed}
 use Rattle.homeo_plan.specs.PlanView.{plain_config}
 use Rattle.homeo_site.specs.declared.own_treaty.OwnClause.{OwnClause}
-use Rattle.homeo_site.specs.inner.OwnTreaty.{own_terms}
+use Rattle.homeo_site.specs.OwnTreaty.{own_terms}
 use Rattle.homeo_site.proofs.OwnTerms.{clause_pushed}
 use Rattle.homeo_site.proofs.own_treaty.own_clauses.Goals as goal
 

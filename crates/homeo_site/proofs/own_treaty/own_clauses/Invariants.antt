@@ -1,6 +1,6 @@
 use Rattle.std.proofs.Common.{◌≡◌, map, take}
 use Rattle.homeo_plan.specs.PlanView.{plain_clause, plain_config}
-use Rattle.homeo_site.specs.inner.OwnTreaty.{plain_own, own_clauses}
+use Rattle.homeo_site.specs.OwnTreaty.{plain_own, own_clauses}
 use Rattle.homeo_site.proofs.own_treaty.own_clauses.Given as goal
 
 abbrev pub invariant-loop-n : goal.invariant-loop-n

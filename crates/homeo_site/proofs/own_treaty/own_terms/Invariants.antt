@@ -1,5 +1,5 @@
 use Rattle.std.proofs.Common.{◌≡◌, take}
-use Rattle.homeo_site.specs.inner.OwnTreaty.{own_terms}
+use Rattle.homeo_site.specs.OwnTreaty.{own_terms}
 use Rattle.homeo_site.proofs.own_treaty.own_terms.Given as goal
 
 abbrev pub invariant-loop-term : goal.invariant-loop-term

@@ -15,7 +15,6 @@ use Rattle.homeo_wire.specs.WireView.{CanHappen}
 use Rattle.homeo_wire.proofs.Driving.{one_more, turn_next, site_next, sweep_next, each_then, made_next, made_end, packets_more, none_next, any_here}
 use Rattle.homeo_wire.proofs.driver.chosen_event.Goals as goal
 
-
 pub nonzero_rem-result : goal.nonzero_rem-result
 nonzero_rem-result c =
     let some = some_sites (plain_workload c.args.wire.now.work) c.workload-w.ensures.accepted in

@@ -13,8 +13,11 @@ use Rattle.homeo_wire.proofs.Driving.{one_more, turn_next, site_next, sweep_next
 use Rattle.homeo_wire.proofs.driver.sweep.Goals as goal
 
 pub loop-site-init : goal.loop-site-init
-loop-site-init c = record { work = refl; rest = λ n e. let same : n ≡ sites_of (plain_workload c.args.wire.now.work) = omega (arith, e) in
-    ap (λ k. after (plain_workload c.args.wire.now.work) (to_sites (plain_workload c.args.wire.now.work) c.args.wire.now.world 0 k) c.args.wire.now.world) same }
+loop-site-init c = record {
+  work = refl;
+  rest = λ n e. let same : n ≡ sites_of (plain_workload c.args.wire.now.work) = omega (arith, e) in
+      ap (λ k. after (plain_workload c.args.wire.now.work) (to_sites (plain_workload c.args.wire.now.work) c.args.wire.now.world 0 k) c.args.wire.now.world) same;
+}
 
 pub deliver_all-requires : goal.deliver_all-requires
 deliver_all-requires c =

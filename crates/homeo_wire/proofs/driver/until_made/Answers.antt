@@ -13,8 +13,11 @@ use Rattle.homeo_wire.proofs.Driving.{one_more, turn_next, site_next, sweep_next
 use Rattle.homeo_wire.proofs.driver.until_made.Goals as goal
 
 pub loop-init : goal.loop-init
-loop-init c = record { work = refl; rest = λ n e. let same : n ≡ c.args.count = omega (arith, e) in
-    ap (λ k. after (plain_workload c.args.wire.now.work) (until_made (plain_workload c.args.wire.now.work) c.args.wire.now.world k) c.args.wire.now.world) same }
+loop-init c = record {
+  work = refl;
+  rest = λ n e. let same : n ≡ c.args.count = omega (arith, e) in
+      ap (λ k. after (plain_workload c.args.wire.now.work) (until_made (plain_workload c.args.wire.now.work) c.args.wire.now.world k) c.args.wire.now.world) same;
+}
 
 pub returns-then-not-has_left-clause-world : goal.returns-then-not-has_left-clause-world
 returns-then-not-has_left-clause-world c =

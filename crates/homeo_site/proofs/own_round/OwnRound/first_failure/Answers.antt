@@ -7,7 +7,7 @@ use Rattle.homeo_plan.specs.declared.round.RoundPlan.{RoundPlan}
 use Rattle.homeo_site.specs.SiteView.{StartValue}
 use Rattle.homeo_site.specs.declared.own_treaty.OwnClause as code
 use Rattle.homeo_site.specs.inner.Failures.{first_of, first_failure, own_failure, own_freeze_failure}
-use Rattle.homeo_site.specs.inner.OwnTreaty.{OwnClause, plain_own, own_clauses, SumsFit}
+use Rattle.homeo_site.specs.OwnTreaty.{OwnClause, plain_own, own_clauses, SumsFit}
 use Rattle.homeo_site.proofs.OwnChecks.{numbers_there, fits_there, first_found, second_is, template_count, template_freezes}
 use Rattle.homeo_site.proofs.own_round.OwnRound.first_failure.Goals as goal
 

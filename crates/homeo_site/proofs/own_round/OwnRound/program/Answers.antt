@@ -9,7 +9,7 @@ use Rattle.homeo_plan.specs.Template.{base_row}
 use Rattle.homeo_history.specs.Legal.{IsCallAt}
 use Rattle.homeo_site.specs.Key.{words}
 use Rattle.homeo_site.specs.SiteView.{StartValue}
-use Rattle.homeo_site.specs.inner.OwnPrograms.{RunsAs, IsKeptFor}
+use Rattle.homeo_site.specs.OwnPrograms.{RunsAs, IsKeptFor}
 use Rattle.homeo_site.proofs.OwnLookups.{place_within, kept_at, not_lost}
 use Rattle.homeo_site.proofs.own_round.OwnRound.program.Goals as goal
 
