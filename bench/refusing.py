@@ -1,15 +1,34 @@
 """Runs the built program under a library that is loaded before the C library: what bench/refuse-memory and bench/refuse-io share."""
 import argparse
 import collections
+import itertools
 import multiprocessing
 import os
 import pathlib
+import re
 import subprocess
 import sys
 
 ROOT = pathlib.Path(__file__).resolve().parent.parent
 TIMEOUT = 60
 Ran = collections.namedtuple("Ran", "status output said counted")
+# A head and four batches, one of them refused, the last one without a newline. A read of 4,096 bytes ends at most one of them.
+STREAM = b"".join([
+    b"workload 1\nsites 2\nobject stock in 0..10 = 5\n",
+    b"transaction buy(n in 1..3) { s := read(stock); if n <= s then { write(stock = s - n); print(1) } else print(0) }\nend\n",
+    *(b" " * 4_000 + it for it in [
+        b"client a at 0 { buy(1); buy(1) }\nschedule a a\nend\n",
+        b"client c at 5 { buy(1) }\nschedule c\nend\n",
+        b"client b at 1 { buy(3) }\nschedule b\nend\n",
+        b"client a at 0 { buy(1) }\nschedule a\nend",
+    ]),
+])
+
+
+def beginnings(words, whole):
+    """What a run may have written that can't go on: nothing, or under `serve` the answers of some first batches."""
+    answers = re.findall(rb"(?:.*\n)*?(?:rounds|refused) .*\n", whole) if words[0] == "serve" else []
+    return list(itertools.accumulate(answers, initial=b""))
 
 
 class Shim:

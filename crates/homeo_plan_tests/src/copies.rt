@@ -1,6 +1,9 @@
 //! Copies of the types of plans.
 
-use homeo_plan::{Atom, AtomSet, Clause, Config, Delta, Linear, LocalTreaty, Row, Template, Term};
+use homeo_plan::{
+    Atom, AtomSet, Clause, Config, Delta, FreezeSet, JointRow, Linear, LocalTreaty, Residual, Row,
+    Template, Term,
+};
 use homeo_syntax::{LCommand, LCond, LExpr, List};
 use std::test::Fail;
 
@@ -48,6 +51,23 @@ fn a_row_is_copied(rt: HostRuntime) -> Result<(), Fail> {
             }
         )
     );
+    Ok(())
+}
+
+#[test]
+fn picks_freezes_and_residuals_are_copied(rt: HostRuntime) -> Result<(), Fail> {
+    let picks = List::from_vec([2, 0].to_vec(rt.alloc())?);
+    let copy = JointRow { picks }.copy(rt.alloc())?;
+    assert_eq!(rt; copy.picks.as_slice(), [2, 0].as_slice());
+    let delta = Delta { object: 2, site: 1 };
+    let deltas = List::from_vec([delta].to_vec(rt.alloc())?);
+    let copy = FreezeSet { deltas }.copy(rt.alloc())?;
+    assert_eq!(rt; copy.deltas.as_slice(), [delta].as_slice());
+    let mut commands = List::new(rt.alloc());
+    commands.push(LCommand::Skip)?;
+    let copy = Residual { site: 3, commands }.copy(rt.alloc())?;
+    assert_eq!(rt; copy.site, 3);
+    assert!(rt; matches!(copy.commands.as_slice(), [LCommand::Skip]));
     Ok(())
 }
 

@@ -1,4 +1,6 @@
-//! Gates that wait in turns: each takes the gate's own lock, reads what was noted there and lets it go.
+//! Gates that wait in turns, where each takes the gate's own lock, reads what was noted there and lets it go; and one that counts.
+
+ghost use Rattle.std.specs.Prelude.{◌<◌, IfSome};
 
 use homeo_cluster::Gate;
 use homeo_meaning::CallId;
@@ -159,6 +161,66 @@ impl Gate for HoldsFirst {
     fn inside<R: Wait>(&self, rt: &R, _site: u32, _client: u32, _seq: u64) {
         if self.enter(rt) == 1 {
             self.hold(rt);
+        }
+    }
+}
+
+/// Of eight clients how often each of three calls has come inside at its client's site, and how many calls came elsewhere.
+#[derive(Drop)]
+struct Calls {
+    times: [u64; 24],
+    elsewhere: u64,
+}
+
+/// Counts each call that is inside. Client 0 is at site 0, client 1 at site 1 and so on, and behind the last site at site 0 again.
+#[derive(Drop)]
+pub struct CountsCalls {
+    sites: u32,
+    calls: Mutex<Calls>,
+}
+
+impl CountsCalls {
+    pub fn new(sites: u32) -> CountsCalls {
+        CountsCalls {
+            sites,
+            calls: Mutex::new(Calls {
+                times: [0; 24],
+                elsewhere: 0,
+            }),
+        }
+    }
+
+    /// How often each call has come inside at its client's site: of client 0 call 1, 2 and 3, then of client 1.
+    pub fn times<R: Wait>(&self, rt: &R) -> [u64; 24] {
+        self.calls.lock(rt).times
+    }
+
+    /// How many calls came inside at another site, or are past those that are counted.
+    pub fn elsewhere<R: Wait>(&self, rt: &R) -> u64 {
+        self.calls.lock(rt).elsewhere
+    }
+
+    /// Where a call is counted.
+    fn place(&self, site: u32, client: u32, seq: u64) -> Option<usize>
+        ensures { IfSome result (λ place. place < 24) }
+    {
+        let client_site = client.checked_rem(self.sites)?;
+        let call = (seq as usize).checked_sub(1)?;
+        if client_site == site && client < 8 && call < 3 {
+            Some(client as usize * 3 + call)
+        } else {
+            None
+        }
+    }
+}
+
+impl Gate for CountsCalls {
+    fn inside<R: Wait>(&self, rt: &R, site: u32, client: u32, seq: u64) {
+        let place = self.place(site, client, seq);
+        let mut calls = self.calls.lock(rt);
+        match place {
+            Some(place) => calls.times[place] = calls.times[place].saturating_add(1),
+            None => calls.elsewhere = calls.elsewhere.saturating_add(1),
         }
     }
 }

@@ -7,6 +7,8 @@ mod answers;
 #[cfg(test)]
 mod boards;
 #[cfg(test)]
+mod effects;
+#[cfg(test)]
 mod gates;
 #[cfg(test)]
 mod loads;

@@ -1,5 +1,6 @@
 //! Generated loads. Their sums are those of a plain loop over the draws, in another language.
 
+use crate::gates::CountsCalls;
 use crate::output::output;
 use homeo_cluster::OpenGate;
 use homeo_load::accepted_load;
@@ -49,21 +50,27 @@ fn the_largest_load_has_the_sums_of_a_plain_loop(rt: HostRuntime) -> Result<(), 
 /// A text that no command accepts, and that a load doesn't read.
 const UNREAD: &str = "this is not read";
 
+/// Two calls of each client.
 #[test]
-fn a_load_of_one_call_adds_to_one_object(rt: HostRuntime) -> Result<(), Fail> {
-    let output = output(&rt, rt.alloc(), &["load", "1", "1"], UNREAD, &OpenGate)?;
-    let summary = b"calls 1
-prints 1
+fn a_load_makes_each_call_once_at_its_clients_site(rt: HostRuntime) -> Result<(), Fail> {
+    let gate = CountsCalls::new(4);
+    let output = output(&rt, rt.alloc(), &["load", "1", "16"], UNREAD, &gate)?;
+    let summary = b"calls 16
+prints 16
 c0 = 0
-c1 = 0
-c2 = 0
-c3 = 0
-c4 = 8
+c1 = 25
+c2 = 7
+c3 = 1
+c4 = 35
 c5 = 0
-c6 = 0
-c7 = 0
+c6 = 6
+c7 = 4
 ";
     assert_eq!(rt; output.as_slice(), summary.as_slice());
+    for calls in gate.times(&rt).as_slice().chunks(3) {
+        assert_eq!(rt; calls, [1, 1, 0].as_slice());
+    }
+    assert_eq!(rt; gate.elsewhere(&rt), 0);
     Ok(())
 }
 

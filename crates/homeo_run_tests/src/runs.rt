@@ -1,6 +1,6 @@
 //! Two clients that buy from one stock.
 
-use crate::gates::{Hold, Holds, HoldsFirst, call};
+use crate::gates::{CountsCalls, Hold, Holds, HoldsFirst, call};
 use crate::output::{output, run_words};
 use crate::texts::{
     IN_ORDER, ONE_SITE, SHORT_ORDER, THREE_AND_ONE, THREE_AND_TWO, THREE_EACH, shop,
@@ -120,14 +120,18 @@ rounds 1 calls 2
     Ok(())
 }
 
+/// The third call of the first client breaks its treaty, and is made again.
 #[test]
 fn clients_need_no_schedule(rt: HostRuntime) -> Result<(), Fail> {
     let alloc = rt.alloc();
     let last_lines = b"database\nstock = 1\nrounds 2 calls 4\n";
     for clients in [THREE_AND_ONE, IN_ORDER] {
         let text = shop(alloc, clients)?;
-        let output = output(&rt, alloc, &["run"], text.as_str(), &OpenGate)?;
+        let gate = CountsCalls::new(2);
+        let output = output(&rt, alloc, &["run"], text.as_str(), &gate)?;
         assert!(rt; output.as_slice().ends_with(last_lines.as_slice()));
+        assert!(rt; gate.times(&rt).as_slice().starts_with(&[1, 1, 1, 1, 0, 0]));
+        assert_eq!(rt; gate.elsewhere(&rt), 0);
     }
     let text = shop(alloc, THREE_AND_ONE)?;
     let refused = run_words(&rt, alloc, &["steps"], text.as_str(), &OpenGate)?;

@@ -2,19 +2,38 @@
 
 ghost use Rattle.std.specs.Prelude.{◌≡◌, ◌<◌, ◌≤◌, length, slice_index_or, IfOk};
 ghost use Rattle.homeo_syntax.specs.SourceView.{plain_workload};
+ghost use Rattle.homeo_history.specs.HistoryView.{plain_history};
 ghost use Rattle.homeo_history.specs.Legal.{call_count};
+ghost use Rattle.homeo_report.specs.Report.{CanReport};
 
 use crate::texts::{THREE_AND_ONE, accepted_shop};
 use homeo_build::Compiled;
 use homeo_build::compile::compile;
 use homeo_core::Core;
-use homeo_history::{Answer, Path};
+use homeo_history::{Answer, History, Path};
 use homeo_plan::Broken;
+use homeo_report::report;
 use homeo_syntax::{List, Memory};
 use std::alloc::Global;
-use std::process::Abort;
 use std::sync::Arc;
 use std::test::Fail;
+
+/// The report of these calls.
+const REPORT: &str = "round 0
+site 0
+a 1 buy(1): 1
+a 2 buy(1): 1
+site 1
+b 1 buy(1): 1
+close 0 clause 0 sum 3 bound 2
+a 3 buy(1): 1
+round 1
+site 0
+site 1
+database
+stock = 1
+rounds 2 calls 4
+";
 
 /// Makes a client's next call, and makes it again where memory was refused: the core is as it was then.
 fn step_again(alloc: Global, core: &mut Core, client: u32) -> Result<Answer, Memory>
@@ -31,6 +50,7 @@ fn step_again(alloc: Global, core: &mut Core, client: u32) -> Result<Answer, Mem
 /// Makes the next call of each of these clients, of the first two.
 fn step_all(alloc: Global, core: &mut Core, order: &[u32]) -> Result<List<Answer>, Fail>
     requires { 2 ≤ length (plain_workload core.old.work).clients }
+    ensures { OnOk result (core.new.work ≡ core.old.work) }
 {
     let mut answers = List::new(alloc);
     for client in order {
@@ -50,24 +70,43 @@ fn client_count(c: &Compiled) -> u64
     c.workload().workload().clients.as_slice().len() as u64
 }
 
-/// The core of the text with two clients.
-fn core_of(rt: &impl Abort, alloc: Global, clients: &str) -> Result<Core, Fail>
-    ensures { IfOk result (λ core. 2 ≤ length (plain_workload core.work).clients) }
+/// A core of a workload with two clients.
+fn core_of(alloc: Global, c: &Arc<Compiled>) -> Result<Core, Fail>
+    ensures work { IfOk result (λ core. core.work ≡ c.now.value) }
+    ensures clients { IfOk result (λ core. 2 ≤ length (plain_workload core.work).clients) }
 {
-    let w = accepted_shop(rt, alloc, clients)?;
-    let c = compile(alloc, w)?;
-    if client_count(&c) < 2 {
+    if client_count(c) < 2 {
         return Err(Fail::from("two clients"));
     }
-    let shared = Arc::new(alloc, c)?;
-    Ok(Core::begin(alloc, shared)?)
+    Ok(Core::begin(alloc, Arc::try_clone(c)?)?)
+}
+
+/// What calls were answered, and their history.
+#[derive(Drop)]
+struct Made {
+    answers: List<Answer>,
+    history: History,
+}
+
+/// Makes the next call of each of these clients, from the starting values on.
+fn make_all(alloc: Global, c: &Arc<Compiled>, order: &[u32]) -> Result<Made, Fail>
+    ensures reportable { IfOk result (λ made. CanReport (plain_workload c.now.value) (plain_history made.history)) }
+{
+    let mut core = core_of(alloc, c)?;
+    let answers = step_all(alloc, &mut core, order)?;
+    let history = core.finish(alloc)?;
+    Ok(Made { answers, history })
 }
 
 #[test]
 fn a_call_that_breaks_its_treaty_closes_the_round(rt: HostRuntime) -> Result<(), Fail> {
-    let mut core = core_of(&rt, rt.alloc(), THREE_AND_ONE)?;
-    let answers = step_all(rt.alloc(), &mut core, [0, 0, 1, 0].as_slice())?;
-    match answers.as_slice() {
+    let alloc = rt.alloc();
+    let c = Arc::new(
+        alloc,
+        compile(alloc, accepted_shop(&rt, alloc, THREE_AND_ONE)?)?,
+    )?;
+    let made = make_all(alloc, &c, &[0, 0, 1, 0])?;
+    match made.answers.as_slice() {
         [first, _, other, last] => {
             assert_eq!(rt; first.prints.as_slice(), [1].as_slice());
             assert!(rt; first.path == Path::Local);
@@ -87,9 +126,7 @@ fn a_call_that_breaks_its_treaty_closes_the_round(rt: HostRuntime) -> Result<(),
         }
         _ => panic!(rt; "four answers"),
     }
-    let history = core.finish(rt.alloc())?;
-    assert_eq!(rt; history.last.as_slice(), [1].as_slice());
-    match history.rounds.as_slice() {
+    match made.history.rounds.as_slice() {
         [closed, open] => {
             assert_eq!(rt; closed.base.as_slice(), [5].as_slice());
             assert!(rt; closed.closing.is_some());
@@ -98,5 +135,7 @@ fn a_call_that_breaks_its_treaty_closes_the_round(rt: HostRuntime) -> Result<(),
         }
         _ => panic!(rt; "two rounds"),
     }
+    let text = report(alloc, &made.history, c.workload())?;
+    assert_eq!(rt; text.as_slice(), REPORT.as_bytes());
     Ok(())
 }

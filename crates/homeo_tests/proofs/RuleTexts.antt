@@ -1,5 +1,6 @@
 -- Workloads whose faults are known.
 use Rattle.std.proofs.Common.{◌≡◌, ℕ, ◌+◌, ℤ, pos, neg_ℤ, List, [], ◌∷◌, Option, Some, None, refl}
+use Rattle.std.specs.Prelude.{if◌then◌else◌}
 use Rattle.homeo_syntax.specs.Key.{words as syntax_words}
 use Rattle.homeo_syntax.specs.Source as s
 use Rattle.homeo_syntax.specs.SourceView.{commands, exprs, tests}
@@ -14,8 +15,7 @@ use Rattle.homeo_meaning.specs.TransactionRules.{each}
 use Rattle.homeo_meaning.specs.LForm.{l_form}
 use Rattle.homeo_meaning.specs.LowSizes.{prints_in}
 use Rattle.homeo_meaning.specs.Schema.{schema_of}
-use Rattle.homeo_meaning.specs.Faults.{faults}
-use Rattle.homeo_rules.specs.inner.Deciding.{keep_all}
+use Rattle.homeo_meaning.specs.Faults.{faults, comes_before}
 use Rattle.homeo_meaning.specs.declared.call.Purpose.{Purpose}
 use Rattle.homeo_meaning.specs.declared.call.Purpose.TheVariants.{Steps, Run}
 use Rattle.homeo_meaning.specs.GlobalNames.{SitedCall}
@@ -59,8 +59,18 @@ body cs = workload (pos 2) (x ∷ []) (transaction cs ∷ []) (client 3 800 (pos
 abbrev ordered : Option (List Ident) → s.Workload
 ordered order = workload (pos 2) (x ∷ []) (transaction [] ∷ []) (client 3 800 (pos 0) (call 2 810 ∷ []) ∷ []) order
 
+-- of a fault so far and of another one, the one that decides: the earlier, and the first of equals
+abbrev pub earlier : Option Fault → Fault → Fault
+earlier None g = g
+earlier (Some f) g = if comes_before g f then g else f
+
+-- of a list behind it
+abbrev pub earliest : Option Fault → List Fault → Option Fault
+earliest found [] = found
+earliest found (f ∷ fs) = earliest (Some (earlier found f)) fs
+
 abbrev pub decided : Purpose → s.Workload → Option Fault
-decided purpose w = keep_all None (faults purpose w)
+decided purpose w = earliest None (faults purpose w)
 
 abbrev pub one : s.Expr
 one = s.Literal (pos 1)

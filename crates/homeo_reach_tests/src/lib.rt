@@ -1,0 +1,5 @@
+//! Tests of what is reached beyond one run.
+#![tactic(auto)]
+
+#[cfg(test)]
+mod sessions;

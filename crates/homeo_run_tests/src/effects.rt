@@ -1,0 +1,111 @@
+//! What the first call of a text does at its own site, and what of the site's treaty it touches.
+
+ghost use Rattle.std.specs.Prelude.{◌≡◌};
+ghost use Rattle.homeo_syntax.specs.SourceView.{plain_workload};
+ghost use Rattle.homeo_meaning.specs.Acceptance.{IsAccepted};
+ghost use Rattle.homeo_build.specs.Plan.{IsPlanOf};
+ghost use Rattle.homeo_print.specs.Names.{object_names};
+
+use crate::texts::{THREE_AND_ONE, accepted, accepted_shop};
+use homeo_build::Compiled;
+use homeo_build::compile::compile;
+use homeo_build::treaties::treaties;
+use homeo_effect::{SiteEffects, TreatyIndex, effects};
+use homeo_eval::initial;
+use homeo_meaning::{Accepted, Database};
+use homeo_plan::{RoundPlan, Row};
+use homeo_print::{ObjectNames, print_row};
+use homeo_syntax::{LCommand, LCond, List, Memory, Workload};
+use std::alloc::Global;
+use std::sync::Arc;
+use std::test::Fail;
+
+/// The first client prints what the second one raises.
+const SHOWN: &str = "workload 1
+sites 2
+object x in 0..10 = 5
+transaction show() { print(read(x)) }
+transaction raise() { write(x = read(x) + 1) }
+client a at 0 { show() }
+client b at 1 { raise(); raise() }
+schedule b a b
+end
+";
+
+/// What the first ground call does at its own site, in a round that begins at a base.
+fn first_effects(
+    alloc: Global,
+    c: &Compiled,
+    base: &Database,
+    plan: &Arc<RoundPlan>,
+) -> Result<SiteEffects, Fail>
+    requires accepted { IsAccepted (plain_workload c.now) }
+    requires plan { IsPlanOf (plain_workload c.now) base.now.items plan.now.value }
+{
+    let template = &plan.template;
+    if template.clauses.as_slice().len() > 9 || template.freezes.as_slice().len() > 9 {
+        return Err(Fail::from("a small treaty"));
+    }
+    match plan.residuals.as_slice() {
+        [residual, ..] => {
+            let index = TreatyIndex::of(alloc, plan, residual.site)?;
+            Ok(effects(alloc, residual, &index, base)?)
+        }
+        _ => Err(Fail::from("a call")),
+    }
+}
+
+/// The commands as those of a row without tests.
+fn printed(alloc: Global, w: &Workload, commands: List<LCommand>) -> Result<Vec<u8>, Memory> {
+    let objects = ObjectNames::of(alloc, w)?;
+    let formula = LCond {
+        tests: List::new(alloc),
+    };
+    let row = Row {
+        formula,
+        residual: commands,
+    };
+    let mut out = Vec::new(alloc);
+    print_row(&mut out, w, &objects, 0, &row)?;
+    Ok(out)
+}
+
+/// The commands that the first ground call is at its own site in the round that begins at the starting values, as a text, and the
+/// numbers of the clauses and freezes that it touches.
+#[derive(Drop)]
+struct Touched {
+    text: Vec<u8>,
+    clauses: List<u32>,
+    freezes: List<u32>,
+}
+
+fn touched(alloc: Global, w: Accepted) -> Result<Touched, Fail> {
+    let base = initial(alloc, &w)?;
+    let compiled = compile(alloc, w)?;
+    let plan = Arc::new(alloc, treaties(alloc, &compiled, &base, None)?)?;
+    let SiteEffects {
+        commands,
+        clauses,
+        freezes,
+    } = first_effects(alloc, &compiled, &base, &plan)?;
+    let text = printed(alloc, compiled.workload().workload(), commands)?;
+    Ok(Touched {
+        text,
+        clauses,
+        freezes,
+    })
+}
+
+#[test]
+fn a_call_touches_what_it_writes_at_its_site(rt: HostRuntime) -> Result<(), Fail> {
+    let alloc = rt.alloc();
+    let sale = touched(alloc, accepted_shop(&rt, alloc, THREE_AND_ONE)?)?;
+    let commands = b"do { s = 5 + stock@0 + 0; write(stock@0 = (s + -1) + -5 + 0); print(1) }\n";
+    assert!(rt; sale.text.as_slice().ends_with(commands.as_slice()));
+    assert_eq!(rt; sale.clauses.as_slice(), [0, 1].as_slice());
+    assert_eq!(rt; sale.freezes.as_slice(), [].as_slice());
+    let print = touched(alloc, accepted(&rt, alloc, SHOWN)?)?;
+    assert_eq!(rt; print.clauses.as_slice(), [].as_slice());
+    assert_eq!(rt; print.freezes.as_slice(), [].as_slice());
+    Ok(())
+}
