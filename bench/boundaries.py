@@ -14,7 +14,7 @@ import string
 Boundary = collections.namedtuple("Boundary", "name code within past")
 
 # The commands that read a text.
-COMMANDS = ("steps", "run", "tables", "treaty")
+COMMANDS = ("steps", "run", "tables", "treaty", "forecast")
 # The limits.
 MOST_BYTES, MOST_SITES, MOST_SLOTS, MOST_OBJECTS, MOST_TRANSACTIONS, MOST_CLIENTS = 1_048_576, 16, 64, 1_024, 256, 64
 MOST_CALLS, MOST_DIFFERENT, MOST_DIGITS, LONGEST_NAME, GREATEST_BOUND, MOST_DEEP = 20_000, 1_024, 18, 32, 10**12, 32
