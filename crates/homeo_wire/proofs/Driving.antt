@@ -1,7 +1,7 @@
 -- The events that a number chooses, as the code makes them: what is left of a list of events once the first of them were made.
 use Rattle.homeo_syntax.specs.Key.{words as source_words}
 use Rattle.homeo_wire.specs.Key.{words}
-use Rattle.std.proofs.Common.{◌≡◌, ℕ, zero, suc, ◌+◌, ◌*◌, ◌<◌, ◌≤◌, get_or, nat_lt, List, [], ◌∷◌, ◌++◌, map, length, take, drop, Bool, true, false, cond, Option, Some, None, Result, Ok, Err, refl, sym, ap, subst, ◌∙◌, arith, slice_set}
+use Rattle.std.proofs.Common.{◌≡◌, ℕ, zero, suc, ◌+◌, ◌*◌, ◌<◌, ◌≤◌, get_or, nat_lt, List, [], ◌∷◌, ◌++◌, map, length, take, Bool, true, false, cond, Option, Some, None, Result, Ok, Err, refl, sym, ap, ◌∙◌, arith}
 use Rattle.std.specs.Prelude.{slice_get, ◌||◌, option_map, OnOk}
 use Rattle.std.proofs.lemmas.Bool.Decides.{nat_tests}
 use Rattle.std.specs.List.{range_with_len, list_any, flat_map}
@@ -18,7 +18,7 @@ use Rattle.homeo_draws.specs.Draws.{next_state, drawn}
 use Rattle.homeo_wire.specs.declared.events.Event.{Event}
 use Rattle.homeo_wire.specs.declared.events.Event.TheVariants.{Call, Deliver}
 use Rattle.homeo_wire.specs.Drive.{calls_in, excess, drive, chosen_event, turns, all_to, to_sites, sweeps, call_of_each, has_left, until_made}
-use Rattle.homeo_wire.specs.Nodes.{Node, Packet, Reaction, World, reacts, at_node, calls, delivers, happens, after, at_start, reached}
+use Rattle.homeo_wire.specs.Nodes.{Node, Packet, Reaction, World, reacts, calls, delivers, happens, after, at_start, reached}
 use Rattle.homeo_wire.proofs.StateLists.{take_past}
 use Rattle.homeo_wire.proofs.Wires.{after_append}
 
@@ -193,12 +193,12 @@ lacks_some left count all sum some = by (nat_lt count all) refl
     by true e = e
     by false e = absurd (let lt : count < all = omega (arith, sum, some) in let never : ⊥ = grind (arith, nat_tests) in never)
 
-pub lacks_none : (left count all : ℕ) → left + count ≡ all → (0 < left → ⊥) → nat_lt count all ≡ false
+pub lacks_none : (left count all : ℕ) → left + count ≡ all → left ≤ 0 → nat_lt count all ≡ false
 lacks_none left count all sum none = by (nat_lt count all) refl
   where
     by : (t : Bool) → nat_lt count all ≡ t → nat_lt count all ≡ false
     by false e = e
-    by true e = absurd (let lt : count < all = grind (arith, nat_tests) in none (omega (arith, lt, sum)))
+    by true e = absurd (let lt : count < all = grind (arith, nat_tests) in omega (arith, lt, sum, none))
 
 pub calls_none : (clients : List Client) → 0 ≡ length (calls_of (take 0 clients))
 calls_none [] = refl

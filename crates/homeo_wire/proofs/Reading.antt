@@ -3,8 +3,8 @@ use Rattle.homeo_history.specs.Key.{words as histories}
 use Rattle.homeo_site.specs.Key.{words as site_words}
 use Rattle.homeo_core.specs.Key.{words as core_words}
 use Rattle.homeo_wire.specs.Key.{words}
-use Rattle.std.proofs.Common.{inl, inr, ◌≡◌, ℕ, zero, suc, ◌+◌, ◌<◌, ◌≤◌, max, List, [], ◌∷◌, ◌++◌, map, length, replicate, take, Bool, true, false, cond, eqb, ℤ, pos, ◌+ℤ◌, Option, Some, None, refl, sym, ap, subst, ◌∙◌, arith, slice_index_or}
-use Rattle.std.specs.Prelude.{slice_get, All, ◌==◌, find, filter, ◌⊎◌}
+use Rattle.std.proofs.Common.{inl, inr, ◌≡◌, ℕ, zero, suc, ◌+◌, ◌<◌, ◌≤◌, List, [], ◌∷◌, ◌++◌, map, length, replicate, take, Bool, true, false, cond, eqb, ℤ, pos, ◌+ℤ◌, Some, None, refl, sym, ap, subst, ◌∙◌, arith, slice_index_or}
+use Rattle.std.specs.Prelude.{slice_get, ◌==◌, find, filter, ◌⊎◌}
 use Rattle.std.specs.List.{range_with_len}
 use Rattle.std.specs.Option.{option_map_or}
 use Rattle.std.proofs.lemmas.Int.{ints}
@@ -12,15 +12,15 @@ use Rattle.std.proofs.lemmas.List.{append-nil, length-map, length_push, map-appe
 use mathlib.Core.Logic.{⊎_elim}
 use Rattle.homeo_syntax.specs.Source as s
 use Rattle.homeo_plan.specs.Planned.{sites_of}
-use Rattle.homeo_history.specs.History.{Entry, Round, History}
-use Rattle.homeo_history.specs.Legal.{calls_of, numbers_of, IsInOrder}
+use Rattle.homeo_history.specs.History.{Entry, Round}
+use Rattle.homeo_history.specs.Legal.{calls_of, numbers_of}
 use Rattle.homeo_history.specs.Merge.{segment_of}
 use Rattle.homeo_history.proofs.Lists.{All-get, get_index, get_past, get_some, get_lt, get_end, get_left, get_map, get_map_back, map_map}
-use Rattle.homeo_site.specs.SiteState.{SiteState, renewed}
+use Rattle.homeo_site.specs.SiteState.{SiteState}
 use Rattle.homeo_core.specs.Joined.{BookState, segments_of, plus_deltas, gathered, rounds_of}
 use Rattle.homeo_core.specs.Joined as core
 use Rattle.homeo_core.specs.Events.{closing_on}
-use Rattle.homeo_wire.specs.Nodes.{Packet, Left, Journal, folded, closed}
+use Rattle.homeo_wire.specs.Nodes.{Packet, Left, Journal, folded}
 use Rattle.homeo_wire.specs.Read.{last_round, ran_in, rounds_left, history_by, history_of, counts_in}
 use Rattle.homeo_wire.proofs.Courses.{Turn, caught_up, site_then, sites_then, up_here, up_behind, AreLeft, left_long, left_at, JournalHolds, Course}
 use Rattle.homeo_wire.proofs.Places.{same_or_not, test_true, test_false, is_true, cond_true, cond_false, same_list, map_same}

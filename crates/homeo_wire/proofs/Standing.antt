@@ -2,8 +2,8 @@
 use Rattle.homeo_history.specs.Key.{words as histories}
 use Rattle.homeo_core.specs.Key.{words as core_words}
 use Rattle.homeo_wire.specs.Key.{words}
-use Rattle.std.proofs.Common.{inl, inr, ◌≡◌, ℕ, suc, ◌<◌, List, map, length, ℤ, Some, refl, sym, ap, subst, ◌∙◌, arith}
-use Rattle.std.specs.Prelude.{slice_get, ◌⊎◌}
+use Rattle.std.proofs.Common.{◌≡◌, ℕ, suc, ◌<◌, List, length, Some, sym, ap, subst, ◌∙◌, arith}
+use Rattle.std.specs.Prelude.{slice_get}
 use Rattle.std.proofs.lemmas.List.{length-map}
 use mathlib.Core.Logic.{⊎_elim}
 use Rattle.homeo_syntax.specs.Source as s
@@ -21,7 +21,7 @@ use Rattle.homeo_core.proofs.Joining.{joining}
 use Rattle.homeo_wire.proofs.Courses.{sites_then}
 use Rattle.homeo_wire.proofs.Happening.{IsHeld, events_hold}
 use Rattle.homeo_wire.proofs.Reading.{read_is, counts_are, base_behind, base_up}
-use Rattle.homeo_wire.proofs.Settling.{journals_of, Holds, IsBehind, up_or_behind}
+use Rattle.homeo_wire.proofs.Settling.{journals_of, up_or_behind}
 use Rattle.homeo_wire.proofs.Starting.{start_holds}
 
 pub reached_holds : (w : s.Workload) (events : List Event) → IsAccepted w → IsHeld w (reached w events)

@@ -3,11 +3,11 @@ use Rattle.homeo_history.specs.Key.{words as histories}
 use Rattle.homeo_site.specs.Key.{words as site_words}
 use Rattle.homeo_core.specs.Key.{words as core_words}
 use Rattle.homeo_wire.specs.Key.{words}
-use Rattle.std.proofs.Common.{inl, inr, ◌≡◌, ℕ, zero, suc, ◌+◌, ◌<◌, ◌≤◌, get_or, nat_lt, eqb, List, [], ◌∷◌, ◌++◌, map, length, take, Bool, true, false, cond, ℤ, Option, Some, None, Result, Ok, Err, refl, sym, ap, subst, ◌∙◌, arith, slice_index_or, slice_set, FitsSigned}
+use Rattle.std.proofs.Common.{◌≡◌, ℕ, suc, ◌<◌, ◌≤◌, nat_lt, eqb, List, [], ◌∷◌, ◌++◌, map, length, take, Bool, true, false, cond, ℤ, Option, Some, None, Result, Ok, Err, refl, sym, ap, subst, ◌∙◌, arith, slice_index_or, slice_set, FitsSigned}
 use Rattle.std.specs.Int.{w64}
-use Rattle.std.specs.Prelude.{All, slice_get, ◌&&◌, ◌==◌, ◌⊎◌, IfOk, OnOk, OnErr}
+use Rattle.std.specs.Prelude.{All, slice_get, ◌&&◌, ◌==◌, IfOk, OnOk, OnErr}
 use Rattle.std.proofs.lemmas.Bool.Decides.{nat_tests}
-use Rattle.std.proofs.lemmas.List.{length-map, map-append}
+use Rattle.std.proofs.lemmas.List.{length-map}
 use mathlib.Core.Logic.{⊎_elim}
 use Rattle.homeo_syntax.specs.Source as s
 use Rattle.homeo_syntax.specs.SourceView.{plain_workload}
@@ -17,7 +17,7 @@ use Rattle.homeo_meaning.specs.Bounds.{IsWithin}
 use Rattle.homeo_meaning.specs.Initial.{initial}
 use Rattle.homeo_meaning.specs.Schema.{schema_of}
 use Rattle.homeo_plan.specs.Planned.{sites_of}
-use Rattle.homeo_history.specs.Legal.{IsClientAt, IsLegal, client_site, call_count}
+use Rattle.homeo_history.specs.Legal.{IsClientAt, call_count}
 use Rattle.homeo_history.proofs.ClientAnswers.{client_at, one_site}
 use Rattle.homeo_history.proofs.Exists.{client_lt}
 use Rattle.homeo_syntax.specs.Listed.{Listed}
@@ -26,7 +26,6 @@ use Rattle.homeo_history.proofs.Lists.{All-get, get_lt, get_map, map_map, index_
 use Rattle.homeo_history.specs.History.{History}
 use Rattle.homeo_site.specs.SiteState.{SiteState, step_finding}
 use Rattle.homeo_core.specs.Joined.{gathered}
-use Rattle.homeo_core.specs.Joined as core
 use Rattle.homeo_core.proofs.GatheredSites.{all_set}
 use Rattle.homeo_core.proofs.InRounds.{all_fit}
 use Rattle.homeo_core.proofs.OpenRound.{first_within, whole_within}
@@ -40,21 +39,20 @@ use Rattle.homeo_wire.specs.declared.events.Step.{Step}
 use Rattle.homeo_wire.specs.declared.node.Node.{Node}
 use Rattle.homeo_wire.specs.inner.Ready.{CanTake, IsFrom, IsReady, counted_by}
 use Rattle.homeo_wire.specs.inner.Reactions.{IsReaction}
-use Rattle.homeo_wire.specs.inner.Standing.{world_of, IsNode, IsWire, LastFits, IsOwn, CanRead}
+use Rattle.homeo_wire.specs.inner.Standing.{IsNode, IsWire, LastFits, IsOwn, CanRead}
 use Rattle.homeo_wire.specs.Laws.{HasOneBase}
 use Rattle.homeo_wire.specs.Nodes as n
 use Rattle.homeo_wire.specs.Read.{last_round, sites_in, journals, history_in, counts_in}
-use Rattle.homeo_wire.specs.WireView.{plain_packet, plain_step, plain_left, plain_journal, plain_node}
+use Rattle.homeo_wire.specs.WireView.{plain_packet, plain_step, plain_left, plain_journal, plain_node, world_of}
 use Rattle.homeo_wire.proofs.Courses.{caught_up, up_here, up_behind, sites_then}
 use Rattle.homeo_wire.proofs.Happening.{IsHeld}
 use Rattle.homeo_wire.proofs.NodeViews.{idle_is, received_other, received_own}
-use Rattle.homeo_wire.proofs.Places.{map_set, map_set_same, test_true, test_false, is_true, cond_true, cond_false}
+use Rattle.homeo_wire.proofs.Places.{map_set, map_set_same, test_true, is_true}
 use Rattle.homeo_wire.proofs.Reading.{read_is, counts_are, last_is, first_then, base_up}
 use Rattle.homeo_wire.proofs.Ready.{ready, can_take}
 use Rattle.homeo_wire.proofs.Sending.{Sent, sent_at}
-use Rattle.homeo_wire.proofs.Settling.{journals_of, Holds, IsBehind, up_or_behind}
-use Rattle.homeo_wire.proofs.Standing.{reached_holds, legal_here, one_base}
-use Rattle.homeo_wire.proofs.Talking.{Since}
+use Rattle.homeo_wire.proofs.Settling.{journals_of, IsBehind, up_or_behind}
+use Rattle.homeo_wire.proofs.Standing.{reached_holds, one_base}
 
 -- ---- lists of events
 pub after_append : (w : s.Workload) (events more : List Event) (x : n.World) → n.after w (events ++ more) x ≡ n.after w more (n.after w events x)

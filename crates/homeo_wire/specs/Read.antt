@@ -8,7 +8,7 @@ use Rattle.homeo_history.specs.Legal.{calls_of, numbers_of}
 use Rattle.homeo_site.specs.SiteState.{SiteState}
 use Rattle.homeo_core.specs.Joined.{gathered}
 use Rattle.homeo_wire.specs.Key.{words}
-use Rattle.homeo_wire.specs.Nodes.{Left, Journal, Node, World}
+use Rattle.homeo_wire.specs.Nodes.{Left, Journal, World}
 
 -- the greatest round of any node
 abbrev pub last_round : List Journal → ℕ

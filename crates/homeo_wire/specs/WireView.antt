@@ -50,6 +50,10 @@ plain_node x = record {
   states = map plain_state x.states.items;
 }
 
+abbrev pub world_of : List Node → List Packet → n.World
+unfolding words
+world_of nodes packets = record { nodes = map plain_node nodes; packets = map plain_packet packets }
+
 -- the workload, and the nodes with all packets
 pub record WireValue : Type 0 where
   pub work : Workload

@@ -56,7 +56,8 @@ impl Model for Wire {
 
     ghost coded = { Prim.hlevel (codes, workload.the_row.coded) };
 
-    ghost use Rattle.homeo_wire.specs.inner.Standing.{world_of, IsWire};
+    ghost use Rattle.homeo_wire.specs.WireView.{world_of};
+    ghost use Rattle.homeo_wire.specs.inner.Standing.{IsWire};
 
     ghost view = { λ x. record { work = x.compiled.value; world = world_of x.nodes.items x.packets.items } };
 

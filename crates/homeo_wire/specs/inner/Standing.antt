@@ -11,11 +11,7 @@ use Rattle.homeo_wire.specs.declared.node.Node.{Node}
 use Rattle.homeo_wire.specs.Key.{words}
 use Rattle.homeo_wire.specs.Nodes as n
 use Rattle.homeo_wire.specs.Read.{last_round, sites_in}
-use Rattle.homeo_wire.specs.WireView.{plain_packet, plain_journal, plain_node}
-
-abbrev pub world_of : List Node → List Packet → n.World
-unfolding words
-world_of nodes packets = record { nodes = map plain_node nodes; packets = map plain_packet packets }
+use Rattle.homeo_wire.specs.WireView.{plain_journal, world_of}
 
 -- the node is one of this workload, and its base is its site's
 pub record IsNode (work : Workload) (x : Node) : Type 0 where

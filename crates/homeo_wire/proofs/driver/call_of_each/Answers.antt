@@ -1,15 +1,10 @@
 use Rattle.homeo_wire.specs.Key.{words}
-use Rattle.std.proofs.Common.{◌≡◌, ◌<◌, ◌≤◌, ◌+◌, zero, suc, [], ◌∷◌, length, map, Some, None, true, false, refl, sym, ap, subst, ◌∙◌, arith}
-use Rattle.std.specs.List.{range_with_len}
-use Rattle.std.specs.Prelude.{IfSome, IfOk, OnOk}
+use Rattle.std.proofs.Common.{◌≡◌, ◌<◌, length, refl, sym, ap, subst, ◌∙◌, arith}
 use Rattle.homeo_syntax.specs.SourceView.{plain_workload}
-use Rattle.homeo_plan.specs.Planned.{sites_of}
-use Rattle.homeo_draws.specs.Draws.{next_state, drawn}
-use Rattle.homeo_wire.specs.declared.events.Event.TheVariants.{Call, Deliver}
-use Rattle.homeo_wire.specs.Drive.{turns, chosen_event, all_to, to_sites, sweeps, call_of_each, until_made, has_left, lacks}
+use Rattle.homeo_wire.specs.declared.events.Event.TheVariants.{Call}
+use Rattle.homeo_wire.specs.Drive.{sweeps}
 use Rattle.homeo_wire.specs.Nodes.{after, happens}
-use Rattle.homeo_wire.specs.WireView.{CanHappen}
-use Rattle.homeo_wire.proofs.Driving.{one_more, on_ok_map, turn_next, site_next, sweep_next, each_then, made_next, made_end, packets_more, none_next, any_here}
+use Rattle.homeo_wire.proofs.Driving.{one_more, on_ok_map, each_then}
 use Rattle.homeo_wire.proofs.driver.call_of_each.Goals as goal
 
 pub event-requires : goal.event-requires
@@ -17,6 +12,10 @@ unfolding words
 event-requires c =
     let count : c.client_count-client-end.result ≡ length (plain_workload c.args.wire.now.work).clients = c.client_count-client-end.ensures.count ∙ ap (λ v. length (plain_workload v).clients) c.workload.ensures.work in
     subst (λ v. c.loop-client.client < length (plain_workload v).clients) (sym c.loop-client.invariant.work) (omega (arith, c.loop-client-test.true, count))
+
+pub loop-client-init : goal.loop-client-init
+unfolding words
+loop-client-init c = record { work = refl; world = refl }
 
 pub loop-client-preserved : goal.loop-client-preserved
 loop-client-preserved c =

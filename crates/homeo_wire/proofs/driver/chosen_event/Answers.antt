@@ -1,18 +1,9 @@
 use Rattle.homeo_wire.specs.Key.{words}
-use Rattle.std.proofs.Common.{◌≡◌, ◌<◌, ◌≤◌, ◌+◌, ◌/◌, ◌%◌, zero, suc, [], ◌∷◌, length, map, Some, None, true, false, refl, sym, ap, subst, ◌∙◌, arith}
-use Rattle.std.specs.List.{range_with_len}
-use Rattle.std.specs.Prelude.{IfSome, IfOk, OnOk}
-use Rattle.std.specs.Option.{option_to_list}
+use Rattle.std.proofs.Common.{◌≡◌, ◌<◌, ◌/◌, ap, ◌∙◌, arith}
 use Rattle.std.proofs.Math.Nat.{mod-lt}
 use Rattle.homeo_syntax.specs.SourceView.{plain_workload}
 use Rattle.homeo_plan.specs.Planned.{sites_of}
 use Rattle.homeo_plan.proofs.Policy.{some_sites}
-use Rattle.homeo_draws.specs.Draws.{next_state, drawn}
-use Rattle.homeo_wire.specs.declared.events.Event.TheVariants.{Call, Deliver}
-use Rattle.homeo_wire.specs.Drive.{turns, chosen_event, all_to, to_sites, sweeps, call_of_each, until_made, has_left, lacks}
-use Rattle.homeo_wire.specs.Nodes.{after, happens}
-use Rattle.homeo_wire.specs.WireView.{CanHappen}
-use Rattle.homeo_wire.proofs.Driving.{one_more, turn_next, site_next, sweep_next, each_then, made_next, made_end, packets_more, none_next, any_here}
 use Rattle.homeo_wire.proofs.driver.chosen_event.Goals as goal
 
 pub nonzero_rem-result : goal.nonzero_rem-result

@@ -1,9 +1,10 @@
 use Rattle.homeo_syntax.specs.Key.{words as source_words}
 use Rattle.homeo_wire.specs.Key.{words}
-use Rattle.std.proofs.Common.{◌≡◌, ◌≤◌, ◌<◌, ◌+◌, ◌-◌, length, take, get_or, Some, List, sym, ap, subst, ◌∙◌, arith}
+use Rattle.std.proofs.Common.{◌≡◌, ◌<◌, ◌+◌, ◌-◌, length, take, get_or, Some, sym, ap, ◌∙◌, arith}
 use Rattle.std.specs.Prelude.{slice_get, option_map}
 use Rattle.homeo_syntax.specs.Source as s
-use Rattle.homeo_syntax.specs.SourceView.{plain_call, plain_workload}
+use Rattle.homeo_syntax.specs.SourceView.{plain_workload}
+use Rattle.homeo_syntax.specs.declared.workload.Call.{Call as CallText}
 use Rattle.homeo_wire.specs.Drive.{calls_in}
 use Rattle.homeo_wire.proofs.Driving.{calls_of, calls_next, calls_none, calls_all, call_among}
 use Rattle.homeo_wire.proofs.StateLists.{get_read}
@@ -21,7 +22,7 @@ loop-client-preserved c =
     let few = c.loop-client.invariant.few in
     let long : length c.as_slice-calls.result.now ≡ length c.client-item.result.calls.items = ap length c.as_slice-calls.ensures in
     let room = c.if-calls-room.false in
-    record { counted = omega (arith, next, counted, long, c.len.ensures); few = omega (arith, few, room, c.len.ensures) }
+    record { counted = omega (arith, next, counted, long); few = omega (arith, few, room) }
 
 pub returns-then-calls-room-clause-excess : goal.returns-then-calls-room-clause-excess
 unfolding words source_words
@@ -33,11 +34,12 @@ returns-then-calls-room-clause-excess c =
     let counted = c.loop-client.invariant.counted in
     let few = c.loop-client.invariant.few in
     let long : length c.as_slice-calls.result.now ≡ length client.calls.items = ap length c.as_slice-calls.ensures in
-    let lt : 200 - c.loop-client.count < length client.calls.items = omega (arith, long, c.if-calls-room.true, c.len.ensures) in
+    let lt : 200 - c.loop-client.count < length client.calls.items = omega (arith, long, c.if-calls-room.true) in
     let here : slice_get client.calls.items (200 - c.loop-client.count) ≡ Some call = get_read client.calls.items (200 - c.loop-client.count) call lt (c.index-calls-room.is ∙ ap (λ l. get_or l (200 - c.loop-client.count) call) c.as_slice-calls.ensures) in
     let place : length (calls_of (take i xs)) + (200 - c.loop-client.count) ≡ 200 = omega (arith, counted, few) in
     let all : calls_of xs ≡ calls_in (plain_workload c.args.w.now) = ap calls_of (c.as_slice-client-items.ensures ∙ ap (λ w. w.clients.items) c.workload.ensures.value) in
     ap (option_map (λ (k : s.Call). k.name)) (ap (λ l. slice_get l 200) (sym all) ∙ ap (slice_get (calls_of xs)) (sym place) ∙ call_among xs i client c.loop-client-test.true c.client-item.is (200 - c.loop-client.count) call here)
+    ∙ ap (λ (k : CallText). Some k.name) c.index-calls-room.is
 
 pub returns-clause-counted : goal.returns-clause-counted
 unfolding words source_words

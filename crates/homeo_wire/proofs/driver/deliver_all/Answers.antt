@@ -1,15 +1,11 @@
 use Rattle.homeo_wire.specs.Key.{words}
-use Rattle.std.proofs.Common.{◌≡◌, ◌<◌, ◌≤◌, ◌+◌, zero, suc, [], ◌∷◌, length, map, Some, None, true, false, refl, sym, ap, subst, ◌∙◌, arith}
+use Rattle.std.proofs.Common.{◌≡◌, ◌<◌, length, map, refl, sym, ap, subst, ◌∙◌, arith}
 use Rattle.std.specs.List.{range_with_len}
-use Rattle.std.specs.Prelude.{IfSome, IfOk, OnOk}
 use Rattle.homeo_syntax.specs.SourceView.{plain_workload}
 use Rattle.homeo_plan.specs.Planned.{sites_of}
-use Rattle.homeo_draws.specs.Draws.{next_state, drawn}
-use Rattle.homeo_wire.specs.declared.events.Event.TheVariants.{Call, Deliver}
-use Rattle.homeo_wire.specs.Drive.{turns, chosen_event, all_to, to_sites, sweeps, call_of_each, until_made, has_left, lacks}
+use Rattle.homeo_wire.specs.declared.events.Event.TheVariants.{Deliver}
 use Rattle.homeo_wire.specs.Nodes.{after, happens}
-use Rattle.homeo_wire.specs.WireView.{CanHappen}
-use Rattle.homeo_wire.proofs.Driving.{one_more, turn_next, site_next, sweep_next, each_then, made_next, made_end, packets_more, none_next, any_here}
+use Rattle.homeo_wire.proofs.Driving.{one_more, packets_more}
 use Rattle.homeo_wire.proofs.driver.deliver_all.Goals as goal
 
 pub event-requires : goal.event-requires
@@ -18,6 +14,10 @@ event-requires c =
     let many = c.loop-packet.invariant.many in
     let sent = c.sent-packet-end.ensures in
     (subst (λ v. c.args.site < sites_of (plain_workload v)) (sym c.loop-packet.invariant.work) c.requires, omega (arith, c.loop-packet-test.true, many, sent))
+
+pub loop-packet-init : goal.loop-packet-init
+unfolding words
+loop-packet-init c = record { work = refl; world = refl; many = omega arith }
 
 pub loop-packet-preserved : goal.loop-packet-preserved
 loop-packet-preserved c =

@@ -1,16 +1,12 @@
 use Rattle.homeo_wire.specs.Key.{words}
-use Rattle.std.proofs.Common.{◌≡◌, ◌≤◌, ◌+◌, ◌*◌, length, Some, sym, ap, subst, ◌∙◌, arith}
+use Rattle.std.proofs.Common.{◌≡◌, ◌+◌, ◌*◌, length, Some, ap, subst, ◌∙◌}
 use Rattle.std.specs.Prelude.{IfErr, IfOk, option_map}
 use Rattle.std.proofs.lemmas.Result.{IfOk-weaker}
 use Rattle.homeo_syntax.specs.Source as s
 use Rattle.homeo_syntax.specs.SourceView.{plain_workload}
-use Rattle.homeo_meaning.specs.Bounds.{IsWithin}
-use Rattle.homeo_meaning.specs.Schema.{schema_of}
-use Rattle.homeo_history.specs.HistoryView.{plain_history}
-use Rattle.homeo_history.specs.Legal.{IsLegal}
-use Rattle.homeo_wire.specs.Drive.{calls_in, excess, turns, until_made, drive}
-use Rattle.homeo_wire.specs.Nodes.{after, at_start, reached}
-use Rattle.homeo_wire.specs.Read.{history_in, counts_in}
+use Rattle.homeo_wire.specs.Drive.{calls_in, excess, turns, until_made}
+use Rattle.homeo_wire.specs.Nodes.{after, at_start}
+use Rattle.homeo_wire.specs.Read.{history_in}
 use Rattle.homeo_wire.specs.WireView.{WireValue}
 use Rattle.homeo_wire.proofs.Driving.{driven, too_many}
 use Rattle.homeo_wire.proofs.driver.drive.Goals as goal

@@ -1,4 +1,4 @@
-use Rattle.std.proofs.Common.{◌≡◌, sym, ap, subst, ◌∙◌, FitsSigned}
+use Rattle.std.proofs.Common.{sym, ap, subst, ◌∙◌, FitsSigned}
 use Rattle.std.specs.Int.{w64}
 use Rattle.std.specs.Prelude.{All}
 use Rattle.homeo_core.specs.Joined.{plus_deltas}

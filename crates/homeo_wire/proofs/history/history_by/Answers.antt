@@ -1,6 +1,6 @@
 use Rattle.homeo_history.specs.Key.{words as histories}
 use Rattle.homeo_wire.specs.Key.{words}
-use Rattle.std.proofs.Common.{◌≡◌, [], ◌∷◌, ◌++◌, None, map, length, sym, ap, subst, ◌∙◌}
+use Rattle.std.proofs.Common.{[], ◌∷◌, ◌++◌, None, map, length, sym, ap, subst, ◌∙◌}
 use Rattle.std.proofs.lemmas.List.{map-append}
 use Rattle.homeo_history.specs.HistoryView.{plain_round}
 use Rattle.homeo_core.specs.Joined.{gathered}
@@ -12,14 +12,14 @@ use Rattle.homeo_wire.proofs.history.history_by.Goals as goal
 pub last_values-requires : goal.last_values-requires
 last_values-requires c =
     let js = map plain_journal c.args.nodes.now in
-    subst (λ v. LastFits v c.round.result js) (sym (c.as_slice-base.ensures ∙ c.requires.base)) (subst (λ r. LastFits c.args.node.now.site.state.base r js) (sym c.round.ensures) c.requires.fits)
+    record { fits = subst (λ v. LastFits v c.round.result js) (sym (c.as_slice-base.ensures ∙ c.requires.base)) (subst (λ r. LastFits c.args.node.now.site.state.base r js) (sym c.round.ensures) c.requires.fits) }
 
 pub returns : goal.returns
 unfolding histories words
 returns c =
     let js = map plain_journal c.args.nodes.now in
     let x = c.args.node.now in
-    let long = c.len-closed.ensures ∙ ap length c.as_slice-left.ensures ∙ c.requires.rounds in
+    let long = ap length c.as_slice-left.ensures ∙ c.requires.rounds in
     let base = c.in_ok-copy_values.ensures ∙ c.as_slice-base.ensures ∙ c.requires.base in
     let left = c.in_ok-rounds.ensures ∙ ap (λ ls. rounds_left js 0 (map plain_left ls)) c.as_slice-left.ensures in
     let segments = c.in_ok-ran_by_all.ensures ∙ ap (λ r. map (ran_in r) js) long in

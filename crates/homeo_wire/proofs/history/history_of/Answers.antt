@@ -1,10 +1,10 @@
 use Rattle.homeo_history.specs.Key.{words as histories}
 use Rattle.homeo_wire.specs.Key.{words}
-use Rattle.std.proofs.Common.{◌≡◌, ◌+◌, [], map, drop, length, None, Some, eqb, refl, sym, ap, subst, ◌∙◌, arith}
-use Rattle.std.specs.Prelude.{find, ◌==◌, IfOk, slice_get}
+use Rattle.std.proofs.Common.{◌≡◌, [], map, sym, ap, ◌∙◌}
+use Rattle.std.specs.Prelude.{◌==◌}
 use Rattle.std.specs.Option.{option_map_or}
 use Rattle.std.proofs.lemmas.Result.{IfOk-weaker}
-use Rattle.homeo_history.specs.HistoryView.{plain_round, plain_history}
+use Rattle.homeo_history.specs.HistoryView.{plain_round}
 use Rattle.homeo_wire.specs.Nodes.{Journal}
 use Rattle.homeo_wire.specs.Read.{last_round, history_by}
 use Rattle.homeo_wire.specs.WireView.{plain_journal}

@@ -1,6 +1,6 @@
 use Rattle.homeo_history.specs.Key.{words as histories}
 use Rattle.homeo_wire.specs.Key.{words}
-use Rattle.std.proofs.Common.{◌≡◌, ◌+◌, [], ◌∷◌, ◌++◌, Some, map, take, length, sym, ap, subst, ◌∙◌, arith}
+use Rattle.std.proofs.Common.{[], ◌∷◌, ◌++◌, Some, map, sym, ap, ◌∙◌}
 use Rattle.std.proofs.lemmas.List.{map-append}
 use Rattle.homeo_history.specs.HistoryView.{plain_round}
 use Rattle.homeo_wire.specs.Read.{rounds_left}
@@ -20,7 +20,7 @@ loop-i-preserved c =
     ap (λ l. map plain_round l.items) c.in_ok-push.ensures.ok
     ∙ map-append plain_round before (_ ∷ [])
     ∙ (λ k. c.loop-i.invariant k ++ record { base = (c.in_ok-copy_values.ensures ∙ c.as_slice.ensures) k; segments = c.in_ok-ran_by_all.ensures k; closing = Some (c.in_ok-copy_closing.ensures k) } ∷ [])
-    ∙ sym (left_next js c.args.left.now c.loop-i.i c.i-item.result c.loop-i-test.true c.i-item.is)
+    ∙ sym (left_next js c.args.left.now c.loop-i.i c.index-left-i.result c.loop-i-test.true c.index-left-i.is)
 
 pub returns : goal.returns
 returns c = c.loop-i.invariant ∙ ap (λ ls. rounds_left (map plain_journal c.args.nodes.now) 0 (map plain_left ls)) (take_past c.args.left.now c.loop-i.i c.loop-i-test.false)

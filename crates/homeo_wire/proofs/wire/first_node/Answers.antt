@@ -1,13 +1,12 @@
 use Rattle.homeo_site.specs.Key.{words as site_words}
 use Rattle.homeo_wire.specs.Key.{words}
-use Rattle.std.proofs.Common.{◌≡◌, [], map, length, replicate, None, false, refl, sym, ap, subst, ◌∙◌}
+use Rattle.std.proofs.Common.{◌≡◌, map, length, replicate, None, false, sym, ap, ◌∙◌}
 use Rattle.homeo_syntax.specs.SourceView.{plain_workload}
 use Rattle.homeo_syntax.specs.Listed.{Listed}
 use Rattle.homeo_plan.specs.Planned.{sites_of}
 use Rattle.homeo_site.specs.SiteState.{SiteState, begun}
 use Rattle.homeo_site.specs.SiteView.{SiteValue, StartValue}
 use Rattle.homeo_meaning.specs.Initial.{initial}
-use Rattle.homeo_wire.specs.Nodes as n
 use Rattle.homeo_wire.specs.declared.node.Left.{Left}
 use Rattle.homeo_wire.specs.declared.breach.Mode.TheVariants.{Running}
 use Rattle.homeo_wire.specs.WireView.{plain_left, plain_state}

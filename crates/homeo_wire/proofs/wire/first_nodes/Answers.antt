@@ -1,5 +1,5 @@
 use Rattle.homeo_wire.specs.Key.{words}
-use Rattle.std.proofs.Common.{◌≡◌, ◌+◌, suc, [], ◌∷◌, ◌++◌, length, map, refl, sym, ap, subst, ◌∙◌, arith}
+use Rattle.std.proofs.Common.{◌≡◌, ◌+◌, [], ◌∷◌, ◌++◌, length, map, sym, ap, subst, ◌∙◌, arith}
 use Rattle.std.specs.Prelude.{All}
 use Rattle.std.specs.List.{range_with_len}
 use Rattle.std.proofs.lemmas.List.{map-append}
@@ -8,7 +8,6 @@ use Rattle.std.proofs.lemmas.List.FromFn.{map-range_with_len_more}
 use Rattle.homeo_syntax.specs.SourceView.{plain_workload}
 use Rattle.homeo_plan.specs.Planned.{sites_of}
 use Rattle.homeo_meaning.specs.Initial.{initial}
-use Rattle.homeo_wire.specs.declared.node.Node.{Node}
 use Rattle.homeo_wire.specs.inner.Standing.{IsNode}
 use Rattle.homeo_wire.specs.Nodes as n
 use Rattle.homeo_wire.specs.WireView.{plain_node}

@@ -1,13 +1,11 @@
 use Rattle.homeo_core.specs.Key.{words as core_words}
 use Rattle.homeo_wire.specs.Key.{words}
-use Rattle.std.proofs.Common.{◌≡◌, List, ◌++◌, ◌∷◌, [], refl, sym, ap, subst, ◌∙◌}
+use Rattle.std.proofs.Common.{◌≡◌, refl, ap, subst, ◌∙◌}
 use Rattle.homeo_syntax.specs.SourceView.{plain_workload}
-use Rattle.homeo_core.specs.declared.local.Tried.{Tried}
 use Rattle.homeo_core.specs.Tried.{IsTried, after_try}
 use Rattle.homeo_core.proofs.CallsMade.{on_err}
-use Rattle.homeo_wire.specs.inner.Reactions.{IsReaction}
 use Rattle.homeo_wire.specs.Nodes as n
-use Rattle.homeo_site.specs.SiteState.{SiteState, step_finding}
+use Rattle.homeo_site.specs.SiteState.{SiteState}
 use Rattle.homeo_wire.specs.declared.events.Packet.TheVariants as packet
 use Rattle.homeo_wire.specs.WireView.{plain_packet, plain_node}
 use Rattle.homeo_wire.proofs.NodeViews.{made_call, wanted_call, same_view}

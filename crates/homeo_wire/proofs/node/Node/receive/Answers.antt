@@ -1,5 +1,5 @@
 use Rattle.homeo_wire.specs.Key.{words}
-use Rattle.std.proofs.Common.{◌≡◌, ◌++◌, ◌<◌, List, map, refl, sym, ap, subst, ◌∙◌, arith}
+use Rattle.std.proofs.Common.{◌≡◌, ◌++◌, ◌<◌, map, sym, ap, subst, ◌∙◌, arith}
 use Rattle.std.specs.Prelude.{IfOk}
 use Rattle.std.proofs.lemmas.List.{append-nil}
 use Rattle.homeo_syntax.specs.SourceView.{plain_workload}
@@ -7,7 +7,7 @@ use Rattle.homeo_wire.specs.declared.breach.Breach.{Breach}
 use Rattle.homeo_wire.specs.inner.Ready.{CanTake, IsFrom}
 use Rattle.homeo_wire.specs.inner.Reactions.{IsReaction}
 use Rattle.homeo_wire.specs.Nodes as n
-use Rattle.homeo_wire.specs.WireView.{plain_packet, plain_step, plain_node}
+use Rattle.homeo_wire.specs.WireView.{plain_packet, plain_node}
 use Rattle.homeo_wire.proofs.NodeViews.{if_more, state_sends}
 use Rattle.homeo_wire.proofs.node.Node.receive.Goals as goal
 

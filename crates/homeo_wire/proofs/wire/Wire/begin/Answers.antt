@@ -1,13 +1,9 @@
 use Rattle.homeo_wire.specs.Key.{words}
-use Rattle.std.proofs.Common.{◌≡◌, [], map, refl, sym, ap, subst, ◌∙◌}
-use Rattle.std.specs.Prelude.{All}
+use Rattle.std.proofs.Common.{◌≡◌, [], map, sym, ap, subst}
 use Rattle.homeo_syntax.specs.Listed.{Listed}
-use Rattle.homeo_syntax.specs.SourceView.{plain_workload}
-use Rattle.homeo_meaning.specs.Acceptance.{IsAccepted}
 use Rattle.homeo_wire.specs.declared.events.Packet.{Packet}
-use Rattle.homeo_wire.specs.inner.Standing.{IsNode, IsWire}
-use Rattle.homeo_wire.specs.Nodes as n
-use Rattle.homeo_wire.specs.WireView.{plain_node, plain_packet}
+use Rattle.homeo_wire.specs.inner.Standing.{IsWire}
+use Rattle.homeo_wire.specs.WireView.{plain_packet}
 use Rattle.homeo_wire.proofs.Wires.{begun_wire}
 use Rattle.homeo_wire.proofs.wire.Wire.begin.Goals as goal
 

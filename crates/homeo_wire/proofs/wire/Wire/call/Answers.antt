@@ -1,4 +1,3 @@
-use Rattle.homeo_wire.specs.Key.{words}
 use Rattle.std.proofs.Common.{◌≡◌, ◌<◌, length, Some, refl, sym, ap, subst, ◌∙◌, arith, slice_set}
 use Rattle.std.specs.Prelude.{slice_get, IfOk, OnOk}
 use Rattle.std.proofs.lemmas.Option.{slice_get_read}
@@ -8,9 +7,9 @@ use Rattle.homeo_history.specs.Legal.{IsClientAt, call_count}
 use Rattle.homeo_assembly.proofs.ClientsAtSites.{client_below}
 use Rattle.homeo_core.proofs.CallsMade.{on_err_map}
 use Rattle.homeo_wire.specs.declared.events.Event.TheVariants.{Call}
-use Rattle.homeo_wire.specs.inner.Standing.{world_of, IsWire}
+use Rattle.homeo_wire.specs.inner.Standing.{IsWire}
 use Rattle.homeo_wire.specs.Nodes.{happens}
-use Rattle.homeo_wire.specs.WireView.{WireValue, plain_step}
+use Rattle.homeo_wire.specs.WireView.{WireValue, plain_step, world_of}
 use Rattle.homeo_wire.proofs.Wires.{count_is, node_at, one_base_here, call_own, call_made, call_happens}
 use Rattle.homeo_wire.proofs.wire.Wire.call.Goals as goal
 

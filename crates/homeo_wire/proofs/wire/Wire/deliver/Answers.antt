@@ -1,10 +1,9 @@
 use Rattle.homeo_wire.specs.Key.{words}
-use Rattle.std.proofs.Common.{rules, ◌≡◌, ◌<◌, length, map, Some, Ok, get_or, refl, sym, ap, subst, ◌∙◌, arith, slice_set}
+use Rattle.std.proofs.Common.{rules, ◌≡◌, ◌<◌, length, Some, get_or, refl, sym, ap, subst, ◌∙◌, arith, slice_set}
 use Rattle.std.specs.Prelude.{slice_get, IfOk, OnOk}
 use Rattle.std.proofs.lemmas.List.{length-map}
 use Rattle.std.proofs.lemmas.Option.{slice_get_read}
 use Rattle.homeo_syntax.specs.SourceView.{plain_workload}
-use Rattle.homeo_syntax.specs.declared.workload.Workload.{Workload}
 use Rattle.homeo_plan.specs.Planned.{sites_of}
 use Rattle.homeo_plan.specs.Planned.{sites_of}
 use Rattle.homeo_plan.specs.Planned.{sites_of}
@@ -12,11 +11,11 @@ use Rattle.homeo_core.proofs.CallsMade.{on_err_map}
 use Rattle.homeo_wire.specs.declared.events.Event.TheVariants.{Deliver}
 use Rattle.homeo_wire.specs.declared.events.Step.TheVariants.{Ignored}
 use Rattle.homeo_wire.specs.inner.Ready.{CanTake, IsFrom}
-use Rattle.homeo_wire.specs.inner.Standing.{world_of, IsWire}
+use Rattle.homeo_wire.specs.inner.Standing.{IsWire}
 use Rattle.homeo_wire.specs.Laws.{HasOneBase}
 use Rattle.homeo_wire.specs.Nodes.{happens, round_of}
 use Rattle.homeo_wire.specs.Nodes as n
-use Rattle.homeo_wire.specs.WireView.{WireValue, plain_packet, plain_step, plain_state, plain_left, plain_node}
+use Rattle.homeo_wire.specs.WireView.{WireValue, plain_packet, plain_step, plain_state, plain_left, plain_node, world_of}
 use Rattle.homeo_wire.proofs.Wires.{count_is, ready_at, takes_at, from_at, node_at, one_base_here, other_round, own_round, same_world}
 use Rattle.homeo_wire.proofs.wire.Wire.deliver.Goals as goal
 
@@ -78,7 +77,7 @@ returns-then-round-clause-step c =
     let site = c.args.site in
     let k = c.args.packet in
     let sent_lt : k < length packets = subst (λ m. k < m) (length-map packets plain_packet) (subst (λ (v : WireValue). k < length v.world.packets) (sym c.self.view_is) c.requires.packet) in
-    let q = c.index-as_slice-packet.result.now in
+    let q = c.index-as_slice-packet.result in
     let sent : slice_get packets k ≡ Some q = slice_get_read packets _ k q refl sent_lt (c.index-as_slice-packet.is ∙ ap (λ xs. get_or xs k q) c.as_slice.ensures) in
     let below : site < sites_of w = subst (λ (v : WireValue). site < sites_of (plain_workload v.work)) (sym c.self.view_is) c.requires.site in
     let lt : site < length nodes = subst (λ m. site < m) (sym (count_is work nodes packets wire)) below in
@@ -88,7 +87,7 @@ returns-then-round-clause-step c =
     let node = node_at work nodes packets wire site p here in
     let long : length p.left.items ≡ p.site.state.round = sym (length-map p.left.items plain_left) ∙ ready.rounds in
     let other : round_of (plain_packet q) ≡ p.site.state.round → ⊥ = λ e. c.if-round.true (c.round.ensures ∙ e ∙ sym long ∙ sym c.round-2.ensures.left) in
-    let h = other_round work nodes packets wire site k q sent p here Ignored refl other in
+    let h = other_round work nodes packets wire site k q sent p here {E = Unit {0}} Ignored refl other in
     subst (λ (v : WireValue). n.Ignored ≡ (happens (plain_workload v.work) v.world (Deliver site k)).step) c.self.view_is h.step
 
 pub returns-then-round-clause-world : goal.returns-then-round-clause-world
@@ -103,7 +102,7 @@ returns-then-round-clause-world c =
     let site = c.args.site in
     let k = c.args.packet in
     let sent_lt : k < length packets = subst (λ m. k < m) (length-map packets plain_packet) (subst (λ (v : WireValue). k < length v.world.packets) (sym c.self.view_is) c.requires.packet) in
-    let q = c.index-as_slice-packet.result.now in
+    let q = c.index-as_slice-packet.result in
     let sent : slice_get packets k ≡ Some q = slice_get_read packets _ k q refl sent_lt (c.index-as_slice-packet.is ∙ ap (λ xs. get_or xs k q) c.as_slice.ensures) in
     let below : site < sites_of w = subst (λ (v : WireValue). site < sites_of (plain_workload v.work)) (sym c.self.view_is) c.requires.site in
     let lt : site < length nodes = subst (λ m. site < m) (sym (count_is work nodes packets wire)) below in
@@ -113,7 +112,7 @@ returns-then-round-clause-world c =
     let node = node_at work nodes packets wire site p here in
     let long : length p.left.items ≡ p.site.state.round = sym (length-map p.left.items plain_left) ∙ ready.rounds in
     let other : round_of (plain_packet q) ≡ p.site.state.round → ⊥ = λ e. c.if-round.true (c.round.ensures ∙ e ∙ sym long ∙ sym c.round-2.ensures.left) in
-    let h = other_round work nodes packets wire site k q sent p here Ignored refl other in
+    let h = other_round work nodes packets wire site k q sent p here {E = Unit {0}} Ignored refl other in
     subst (λ (v : WireValue). world_of (slice_set nodes site p) packets ≡ (happens (plain_workload v.work) v.world (Deliver site k)).world) c.self.view_is h.world
 
 pub returns-then-round-clause-one_base : goal.returns-then-round-clause-one_base
@@ -157,6 +156,7 @@ returns-in_err-packet-clause-one_base c =
     subst HasOneBase (sym (same_world nodes packets site p here)) (one_base_here work nodes packets wire)
 
 pub receive-requires-clause-work : goal.receive-requires-clause-work
+unfolding words
 receive-requires-clause-work c =
     let f = c.self.inside in
     let work = f.compiled.value in
@@ -177,6 +177,7 @@ receive-requires-clause-work c =
     node.work_is
 
 pub receive-requires-clause-base : goal.receive-requires-clause-base
+unfolding words
 receive-requires-clause-base c =
     let f = c.self.inside in
     let work = f.compiled.value in
@@ -268,7 +269,7 @@ receive-requires-clause-from c =
     let site = c.args.site in
     let k = c.args.packet in
     let sent_lt : k < length packets = subst (λ m. k < m) (length-map packets plain_packet) (subst (λ (v : WireValue). k < length v.world.packets) (sym c.self.view_is) c.requires.packet) in
-    let q = c.index-as_slice-packet.result.now in
+    let q = c.index-as_slice-packet.result in
     let sent : slice_get packets k ≡ Some q = slice_get_read packets _ k q refl sent_lt (c.index-as_slice-packet.is ∙ ap (λ xs. get_or xs k q) c.as_slice.ensures) in
     let copy = c.in_ok-packet.packet in
     let same : plain_packet copy ≡ plain_packet q = c.in_ok-packet.ensures in
@@ -286,7 +287,7 @@ receive-requires-clause-can c =
     let site = c.args.site in
     let k = c.args.packet in
     let sent_lt : k < length packets = subst (λ m. k < m) (length-map packets plain_packet) (subst (λ (v : WireValue). k < length v.world.packets) (sym c.self.view_is) c.requires.packet) in
-    let q = c.index-as_slice-packet.result.now in
+    let q = c.index-as_slice-packet.result in
     let sent : slice_get packets k ≡ Some q = slice_get_read packets _ k q refl sent_lt (c.index-as_slice-packet.is ∙ ap (λ xs. get_or xs k q) c.as_slice.ensures) in
     let below : site < sites_of w = subst (λ (v : WireValue). site < sites_of (plain_workload v.work)) (sym c.self.view_is) c.requires.site in
     let lt : site < length nodes = subst (λ m. site < m) (sym (count_is work nodes packets wire)) below in
@@ -312,7 +313,7 @@ invariant_of-self-2 c =
     let site = c.args.site in
     let k = c.args.packet in
     let sent_lt : k < length packets = subst (λ m. k < m) (length-map packets plain_packet) (subst (λ (v : WireValue). k < length v.world.packets) (sym c.self.view_is) c.requires.packet) in
-    let q = c.index-as_slice-packet.result.now in
+    let q = c.index-as_slice-packet.result in
     let sent : slice_get packets k ≡ Some q = slice_get_read packets _ k q refl sent_lt (c.index-as_slice-packet.is ∙ ap (λ xs. get_or xs k q) c.as_slice.ensures) in
     let below : site < sites_of w = subst (λ (v : WireValue). site < sites_of (plain_workload v.work)) (sym c.self.view_is) c.requires.site in
     let lt : site < length nodes = subst (λ m. site < m) (sym (count_is work nodes packets wire)) below in
@@ -339,7 +340,7 @@ returns-clause-step c =
     let site = c.args.site in
     let k = c.args.packet in
     let sent_lt : k < length packets = subst (λ m. k < m) (length-map packets plain_packet) (subst (λ (v : WireValue). k < length v.world.packets) (sym c.self.view_is) c.requires.packet) in
-    let q = c.index-as_slice-packet.result.now in
+    let q = c.index-as_slice-packet.result in
     let sent : slice_get packets k ≡ Some q = slice_get_read packets _ k q refl sent_lt (c.index-as_slice-packet.is ∙ ap (λ xs. get_or xs k q) c.as_slice.ensures) in
     let below : site < sites_of w = subst (λ (v : WireValue). site < sites_of (plain_workload v.work)) (sym c.self.view_is) c.requires.site in
     let lt : site < length nodes = subst (λ m. site < m) (sym (count_is work nodes packets wire)) below in
@@ -366,7 +367,7 @@ returns-clause-world c =
     let site = c.args.site in
     let k = c.args.packet in
     let sent_lt : k < length packets = subst (λ m. k < m) (length-map packets plain_packet) (subst (λ (v : WireValue). k < length v.world.packets) (sym c.self.view_is) c.requires.packet) in
-    let q = c.index-as_slice-packet.result.now in
+    let q = c.index-as_slice-packet.result in
     let sent : slice_get packets k ≡ Some q = slice_get_read packets _ k q refl sent_lt (c.index-as_slice-packet.is ∙ ap (λ xs. get_or xs k q) c.as_slice.ensures) in
     let below : site < sites_of w = subst (λ (v : WireValue). site < sites_of (plain_workload v.work)) (sym c.self.view_is) c.requires.site in
     let lt : site < length nodes = subst (λ m. site < m) (sym (count_is work nodes packets wire)) below in
@@ -393,7 +394,7 @@ returns-clause-unchanged c =
     let site = c.args.site in
     let k = c.args.packet in
     let sent_lt : k < length packets = subst (λ m. k < m) (length-map packets plain_packet) (subst (λ (v : WireValue). k < length v.world.packets) (sym c.self.view_is) c.requires.packet) in
-    let q = c.index-as_slice-packet.result.now in
+    let q = c.index-as_slice-packet.result in
     let sent : slice_get packets k ≡ Some q = slice_get_read packets _ k q refl sent_lt (c.index-as_slice-packet.is ∙ ap (λ xs. get_or xs k q) c.as_slice.ensures) in
     let below : site < sites_of w = subst (λ (v : WireValue). site < sites_of (plain_workload v.work)) (sym c.self.view_is) c.requires.site in
     let lt : site < length nodes = subst (λ m. site < m) (sym (count_is work nodes packets wire)) below in
@@ -420,7 +421,7 @@ returns-clause-one_base c =
     let site = c.args.site in
     let k = c.args.packet in
     let sent_lt : k < length packets = subst (λ m. k < m) (length-map packets plain_packet) (subst (λ (v : WireValue). k < length v.world.packets) (sym c.self.view_is) c.requires.packet) in
-    let q = c.index-as_slice-packet.result.now in
+    let q = c.index-as_slice-packet.result in
     let sent : slice_get packets k ≡ Some q = slice_get_read packets _ k q refl sent_lt (c.index-as_slice-packet.is ∙ ap (λ xs. get_or xs k q) c.as_slice.ensures) in
     let below : site < sites_of w = subst (λ (v : WireValue). site < sites_of (plain_workload v.work)) (sym c.self.view_is) c.requires.site in
     let lt : site < length nodes = subst (λ m. site < m) (sym (count_is work nodes packets wire)) below in

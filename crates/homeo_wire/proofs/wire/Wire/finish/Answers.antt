@@ -1,7 +1,6 @@
 use Rattle.homeo_history.specs.Key.{words as histories}
 use Rattle.homeo_wire.specs.Key.{words}
 use Rattle.std.proofs.Common.{◌≡◌, map, sym, ap, subst, ◌∙◌}
-use Rattle.std.specs.Prelude.{IfOk}
 use Rattle.std.proofs.lemmas.Result.{IfOk-weaker}
 use Rattle.homeo_syntax.specs.SourceView.{plain_workload}
 use Rattle.homeo_meaning.specs.Bounds.{IsWithin}
@@ -9,10 +8,10 @@ use Rattle.homeo_meaning.specs.Schema.{schema_of}
 use Rattle.homeo_history.specs.History.{History}
 use Rattle.homeo_history.specs.HistoryView.{plain_history}
 use Rattle.homeo_history.specs.Legal.{IsLegal}
-use Rattle.homeo_wire.specs.inner.Standing.{CanRead, IsWire, world_of}
+use Rattle.homeo_wire.specs.inner.Standing.{CanRead, IsWire}
 use Rattle.homeo_wire.specs.Read as read
 use Rattle.homeo_wire.specs.Read.{history_in, counts_in}
-use Rattle.homeo_wire.specs.WireView.{WireValue, plain_journal}
+use Rattle.homeo_wire.specs.WireView.{WireValue, plain_journal, world_of}
 use Rattle.homeo_wire.proofs.Standing.{legal_here}
 use Rattle.homeo_wire.proofs.Wires.{can_read, held, journals_here, last_within}
 use Rattle.homeo_wire.proofs.wire.Wire.finish.Goals as goal

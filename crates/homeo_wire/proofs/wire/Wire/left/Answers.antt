@@ -1,4 +1,3 @@
-use Rattle.homeo_history.specs.Key.{words as histories}
 use Rattle.homeo_wire.specs.Key.{words}
 use Rattle.std.proofs.Common.{◌≡◌, ◌<◌, ◌≤◌, ◌+◌, ◌-◌, length, map, get_or, Some, refl, sym, ap, subst, ◌∙◌, arith, slice_index_or}
 use Rattle.std.specs.Prelude.{slice_get}
@@ -9,9 +8,9 @@ use Rattle.homeo_history.specs.Legal.{IsClientAt, call_count}
 use Rattle.homeo_history.proofs.Lists.{get_map}
 use Rattle.homeo_assembly.proofs.ClientsAtSites.{client_below}
 use Rattle.homeo_wire.specs.inner.Ready.{counted_by}
-use Rattle.homeo_wire.specs.inner.Standing.{world_of, IsWire}
+use Rattle.homeo_wire.specs.inner.Standing.{IsWire}
 use Rattle.homeo_wire.specs.Read.{last_round, history_in, counts_in}
-use Rattle.homeo_wire.specs.WireView.{WireValue, plain_journal, plain_node}
+use Rattle.homeo_wire.specs.WireView.{WireValue, plain_journal, plain_node, world_of}
 use Rattle.homeo_wire.proofs.Wires.{count_is, held, call_made, counted_is, counts_exist, journals_here}
 use Rattle.homeo_wire.proofs.wire.Wire.left.Goals as goal
 
@@ -26,7 +25,7 @@ bounds-nodes-site_of c =
     let same : c.workload-w.result.now ≡ work = c.workload-w.ensures ∙ c.deref.ensures in
     let own : IsClientAt w home client = subst (λ (v : Workload). IsClientAt (plain_workload v) home client) same c.site_of.ensures in
     let lt : home < length f.nodes.items = subst (λ m. home < m) (sym (count_is work f.nodes.items f.packets.items wire)) (client_below w home client wire.accepted own) in
-    subst (λ xs. home < length xs) (sym c.as_slice.ensures.value) lt
+    subst (λ xs. home < length xs) (sym c.as_slice-nodes.ensures.value) lt
 
 pub counted-counted-requires : goal.counted-counted-requires
 counted-counted-requires c =
@@ -39,8 +38,8 @@ counted-counted-requires c =
     let same : c.workload-w.result.now ≡ work = c.workload-w.ensures ∙ c.deref.ensures in
     let own : IsClientAt w home client = subst (λ (v : Workload). IsClientAt (plain_workload v) home client) same c.site_of.ensures in
     let lt : home < length f.nodes.items = subst (λ m. home < m) (sym (count_is work f.nodes.items f.packets.items wire)) (client_below w home client wire.accepted own) in
-    let p = c.index-nodes-site_of.result.now in
-    let here : slice_get f.nodes.items home ≡ Some p = slice_get_read f.nodes.items _ home p refl lt (c.index-nodes-site_of.is ∙ ap (λ xs. get_or xs home p) c.as_slice.ensures.value) in
+    let p = c.index-nodes-site_of.result in
+    let here : slice_get f.nodes.items home ≡ Some p = slice_get_read f.nodes.items _ home p refl lt (c.index-nodes-site_of.is ∙ ap (λ xs. get_or xs home p) c.as_slice-nodes.ensures.value) in
     let exists : client < length w.clients = subst (λ (v : WireValue). client < length (plain_workload v.work).clients) (sym c.self.view_is) c.requires in
     call_made work f.nodes.items f.packets.items wire client home own p here exists
 
@@ -56,11 +55,11 @@ overflow_sub-result c =
     let same : c.workload-w.result.now ≡ work = c.workload-w.ensures ∙ c.deref.ensures in
     let own : IsClientAt w home client = subst (λ (v : Workload). IsClientAt (plain_workload v) home client) same c.site_of.ensures in
     let lt : home < length f.nodes.items = subst (λ m. home < m) (sym (count_is work f.nodes.items f.packets.items wire)) (client_below w home client wire.accepted own) in
-    let p = c.index-nodes-site_of.result.now in
-    let here : slice_get f.nodes.items home ≡ Some p = slice_get_read f.nodes.items _ home p refl lt (c.index-nodes-site_of.is ∙ ap (λ xs. get_or xs home p) c.as_slice.ensures.value) in
+    let p = c.index-nodes-site_of.result in
+    let here : slice_get f.nodes.items home ≡ Some p = slice_get_read f.nodes.items _ home p refl lt (c.index-nodes-site_of.is ∙ ap (λ xs. get_or xs home p) c.as_slice-nodes.ensures.value) in
     let exists : client < length w.clients = subst (λ (v : WireValue). client < length (plain_workload v.work).clients) (sym c.self.view_is) c.requires in
     let counted : c.counted-counted.result ≡ slice_index_or (counts_in w (history_in (world_of f.nodes.items f.packets.items)).rounds) client 0 =
-    c.counted-counted.ensures ∙ ap (λ k. counted_by k client (plain_node p) p.mode) (c.last_round.ensures ∙ ap (λ xs. last_round (map plain_journal xs)) c.as_slice.ensures.value ∙ ap last_round (sym (journals_here work f.nodes.items f.packets.items wire)))
+    c.counted-counted.ensures ∙ ap (λ k. counted_by k client (plain_node p) p.mode) (c.last_round.ensures ∙ ap (λ xs. last_round (map plain_journal xs)) c.as_slice-nodes.ensures.value ∙ ap last_round (sym (journals_here work f.nodes.items f.packets.items wire)))
     ∙ counted_is w (world_of f.nodes.items f.packets.items) wire.accepted (held work f.nodes.items f.packets.items wire) client home own (plain_node p) (get_map plain_node f.nodes.items home p here) in
     let count : c.call_count.result ≡ call_count w client = c.call_count.ensures.count ∙ ap (λ (v : Workload). call_count (plain_workload v) client) same in
     let few : slice_index_or (counts_in w (history_in (world_of f.nodes.items f.packets.items)).rounds) client 0 ≤ call_count w client = counts_exist w (world_of f.nodes.items f.packets.items) wire.accepted (held work f.nodes.items f.packets.items wire) client in
@@ -78,11 +77,11 @@ returns c =
     let same : c.workload-w.result.now ≡ work = c.workload-w.ensures ∙ c.deref.ensures in
     let own : IsClientAt w home client = subst (λ (v : Workload). IsClientAt (plain_workload v) home client) same c.site_of.ensures in
     let lt : home < length f.nodes.items = subst (λ m. home < m) (sym (count_is work f.nodes.items f.packets.items wire)) (client_below w home client wire.accepted own) in
-    let p = c.index-nodes-site_of.result.now in
-    let here : slice_get f.nodes.items home ≡ Some p = slice_get_read f.nodes.items _ home p refl lt (c.index-nodes-site_of.is ∙ ap (λ xs. get_or xs home p) c.as_slice.ensures.value) in
+    let p = c.index-nodes-site_of.result in
+    let here : slice_get f.nodes.items home ≡ Some p = slice_get_read f.nodes.items _ home p refl lt (c.index-nodes-site_of.is ∙ ap (λ xs. get_or xs home p) c.as_slice-nodes.ensures.value) in
     let exists : client < length w.clients = subst (λ (v : WireValue). client < length (plain_workload v.work).clients) (sym c.self.view_is) c.requires in
     let counted : c.counted-counted.result ≡ slice_index_or (counts_in w (history_in (world_of f.nodes.items f.packets.items)).rounds) client 0 =
-    c.counted-counted.ensures ∙ ap (λ k. counted_by k client (plain_node p) p.mode) (c.last_round.ensures ∙ ap (λ xs. last_round (map plain_journal xs)) c.as_slice.ensures.value ∙ ap last_round (sym (journals_here work f.nodes.items f.packets.items wire)))
+    c.counted-counted.ensures ∙ ap (λ k. counted_by k client (plain_node p) p.mode) (c.last_round.ensures ∙ ap (λ xs. last_round (map plain_journal xs)) c.as_slice-nodes.ensures.value ∙ ap last_round (sym (journals_here work f.nodes.items f.packets.items wire)))
     ∙ counted_is w (world_of f.nodes.items f.packets.items) wire.accepted (held work f.nodes.items f.packets.items wire) client home own (plain_node p) (get_map plain_node f.nodes.items home p here) in
     let count : c.call_count.result ≡ call_count w client = c.call_count.ensures.count ∙ ap (λ (v : Workload). call_count (plain_workload v) client) same in
     let few : slice_index_or (counts_in w (history_in (world_of f.nodes.items f.packets.items)).rounds) client 0 ≤ call_count w client = counts_exist w (world_of f.nodes.items f.packets.items) wire.accepted (held work f.nodes.items f.packets.items wire) client in

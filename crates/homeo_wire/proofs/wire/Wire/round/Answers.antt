@@ -17,6 +17,7 @@ index-requires c =
     omega (arith, lt, ok)
 
 pub returns : goal.returns
+unfolding words
 returns c = λ m there.
     let f = c.self.inside in
     let lt : c.args.site < length f.nodes.items = subst (λ k. c.args.site < k) (sym (count_is f.compiled.value f.nodes.items f.packets.items c.self.invariant)) (subst (λ (v : WireValue). c.args.site < sites_of (plain_workload v.work)) (sym c.self.view_is) c.requires) in
