@@ -20,6 +20,12 @@ fn each_command_has_its_words(rt: HostRuntime) -> Result<(), Fail> {
     assert_eq!(rt; command_of(alloc, &["run"])?, Some(Command::Run));
     assert_eq!(rt; command_of(alloc, &["tables"])?, Some(Command::Tables));
     assert_eq!(rt; command_of(alloc, &["treaty"])?, Some(Command::Treaty));
+    assert_eq!(rt; command_of(alloc, &["serve"])?, Some(Command::Serve));
+    assert_eq!(rt; command_of(alloc, &["forecast"])?, Some(Command::Forecast));
+    assert_eq!(rt;
+        command_of(alloc, &["wire", "07"])?,
+        Some(Command::Wire { number: 7 })
+    );
     Ok(())
 }
 
@@ -46,6 +52,8 @@ fn other_words_are_no_command(rt: HostRuntime) -> Result<(), Fail> {
     assert_eq!(rt; command_of(alloc, &["load", "-1", "1"])?, None);
     assert_eq!(rt; command_of(alloc, &["load", "1"])?, None);
     assert_eq!(rt; command_of(alloc, &["load", "1", "1", "1"])?, None);
+    assert_eq!(rt; command_of(alloc, &["wire"])?, None);
+    assert_eq!(rt; command_of(alloc, &["wire", "1", "1"])?, None);
     Ok(())
 }
 
@@ -64,5 +72,6 @@ fn other_numbers_are_no_command(rt: HostRuntime) -> Result<(), Fail> {
     assert_eq!(rt; command_of(alloc, &["load", "+1", "1"])?, None);
     assert_eq!(rt; command_of(alloc, &["load", "1", "0"])?, None);
     assert_eq!(rt; command_of(alloc, &["load", "1", "20001"])?, None);
+    assert_eq!(rt; command_of(alloc, &["wire", "18446744073709551616"])?, None);
     Ok(())
 }
