@@ -9,7 +9,7 @@ use std::test::Fail;
 /// load reads no text.
 type Case = (&'static [&'static str], &'static str, &'static str, usize);
 
-const CASES: [Case; 5] = [
+const CASES: [Case; 7] = [
     (&["steps"], STOCK, STOCK_REPORT, 1),
     // one client, so its calls meet in one order
     (
@@ -28,6 +28,18 @@ const CASES: [Case; 5] = [
         &["treaty"],
         "workload 1\nsites 2\nobject x in 0..10 = 5\ntransaction t() { if read(x) = 3 then print(1) else print(0) }\nclient a at 0 { t() }\nend\n",
         "clauses 1\n0 slack 1 bounds 0 1 form -1*x@0 -1*x@1\nfreezes 0\n",
+        16,
+    ),
+    (
+        &["forecast"],
+        "workload 1\nsites 2\nobject x in 0..10 = 9\ntransaction t() { write(x = read(x) + 1) }\nclient a at 0 { t(); t() }\nschedule a a\nend\n",
+        "kept 0 of 2\n0 bounds 10 0\n1 bounds 0 0\nstop a 1 clause 1 peaks 1 0 slack 0\n",
+        16,
+    ),
+    (
+        &["wire", "1"],
+        "workload 1\nsites 2\nobject x in 0..10 = 9\ntransaction t() { write(x = read(x) + 1) }\nclient a at 0 { t() }\nclient b at 1 { t() }\nend\n",
+        "round 0\nsite 0\nsite 1\nclose 1 clause 1 sum 1 bound 0\nb 1 t():\nround 1\nsite 0\na 1 t():\nsite 1\ndatabase\nx = 10\nrounds 2 calls 2\n",
         16,
     ),
     (
