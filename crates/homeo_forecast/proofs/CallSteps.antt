@@ -1,5 +1,5 @@
 -- One call more, behind calls that a fitting configuration serves: it can be run, its sums can be computed, and what stops it.
-use Rattle.std.proofs.Common.{◌≡◌, ◌⊎◌, ℕ, ◌<◌, ◌≤◌, true, List, [], ◌∷◌, ◌++◌, length, get_or, All, ℤ, pos, ◌+ℤ◌, ◌≤ℤ◌, None, refl, sym, ap, ◌∙◌, subst, arith}
+use Rattle.std.proofs.Common.{◌≡◌, ℕ, ◌<◌, true, List, [], ◌∷◌, ◌++◌, length, get_or, ℤ, pos, ◌+ℤ◌, ◌≤ℤ◌, None, refl, sym, subst}
 use Rattle.homeo_syntax.specs.Source as s
 use Rattle.homeo_meaning.specs.declared.call.CallId.{CallId}
 use Rattle.homeo_meaning.specs.Acceptance.{IsAccepted}
@@ -11,9 +11,9 @@ use Rattle.homeo_plan.specs.Key.{words as plan_words}
 use Rattle.homeo_plan.specs.declared.forms.Delta.{Delta}
 use Rattle.homeo_plan.specs.Each.{Each, Member}
 use Rattle.homeo_plan.specs.Joined.{Deltas, alone}
-use Rattle.homeo_plan.specs.Local.{no_deltas, local_deltas}
+use Rattle.homeo_plan.specs.Local.{no_deltas}
 use Rattle.homeo_plan.specs.Needs.{IsStraight}
-use Rattle.homeo_plan.specs.Planned.{sites_of, planned, planned_at, template_at}
+use Rattle.homeo_plan.specs.Planned.{sites_of, planned_at, template_at}
 use Rattle.homeo_plan.specs.Template.{PlannedCall, Clause, Template, base_row}
 use Rattle.homeo_plan.specs.Treaty.{site_sum}
 use Rattle.homeo_plan.proofs.Atoms.{append_each}
@@ -21,17 +21,16 @@ use Rattle.homeo_plan.proofs.Covering.{each_map}
 use Rattle.homeo_plan.proofs.PlannedCalls.{planned_member}
 use Rattle.homeo_plan.proofs.Policy.{some_sites}
 use Rattle.homeo_split.specs.CanExec.{run_limit, can_exec_all}
-use Rattle.homeo_effect.specs.Key.{words as effect_words}
 use Rattle.homeo_effect.specs.Touched.{written, touched_clauses, touched_freezes}
 use Rattle.homeo_effect.proofs.Untouched.{clause_stays, own_delta_stays}
 use Rattle.homeo_site.specs.OwnTreaty.{own_terms, SumsFit}
 use Rattle.homeo_site.proofs.StepFindings.{residual_straight}
 use Rattle.homeo_forecast.specs.Forecast.{IsServed, CanServe}
-use Rattle.homeo_forecast.specs.Peaks.{peak, PeaksFit, first_stop}
-use Rattle.homeo_forecast.specs.Visits.{Visit, visit, after_all, visits, next_visit}
+use Rattle.homeo_forecast.specs.Peaks.{PeaksFit, first_stop}
+use Rattle.homeo_forecast.specs.Visits.{Visit, after_all, visits, next_visit}
 use Rattle.homeo_forecast.specs.Laws.{AreSited}
 use Rattle.homeo_forecast.specs.declared.rooms.Room.{Room}
-use Rattle.homeo_forecast.specs.inner.Rooms.{HasRoom, HaveRooms}
+use Rattle.homeo_forecast.specs.inner.Rooms.{HasRoom}
 use Rattle.homeo_forecast.specs.inner.Stops.{clause_stop_at, freeze_stop_at, first_of, first_among}
 use Rattle.homeo_forecast.specs.inner.Sums.{CanSum}
 use Rattle.homeo_forecast.proofs.Peaks.{served_on, served_peaks}

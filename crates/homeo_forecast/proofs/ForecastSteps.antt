@@ -1,5 +1,5 @@
 -- What is kept of a list of calls gives its forecast.
-use Rattle.std.proofs.Common.{◌≡◌, ℕ, zero, suc, ◌+◌, ◌<◌, ◌≤◌, true, false, List, [], ◌∷◌, ◌++◌, length, get_or, take, replicate, slice_get, ℤ, pos, Option, Some, None, is_some, option_map, refl, sym, ap, ap₂, ◌∙◌, subst, arith}
+use Rattle.std.proofs.Common.{◌≡◌, ℕ, ◌+◌, ◌<◌, ◌≤◌, true, List, [], ◌∷◌, ◌++◌, length, get_or, take, replicate, slice_get, ℤ, pos, Option, Some, None, is_some, option_map, refl, sym, ap, ap₂, ◌∙◌, subst, arith}
 use Rattle.std.proofs.lemmas.List.{take_more}
 use Rattle.std.proofs.lemmas.Option.{slice_get-get_or}
 use Rattle.homeo_syntax.specs.Source as s
@@ -13,7 +13,7 @@ use Rattle.homeo_plan.specs.PlanView.{plain_template}
 use Rattle.homeo_plan.specs.Template.{Clause, Template}
 use Rattle.homeo_plan.proofs.Policy.{some_sites}
 use Rattle.homeo_forecast.specs.Forecast.{IsForecast}
-use Rattle.homeo_forecast.specs.Peaks.{Stop, first_stop, peak_config}
+use Rattle.homeo_forecast.specs.Peaks.{first_stop, peak_config}
 use Rattle.homeo_forecast.specs.View.{plain_stop}
 use Rattle.homeo_forecast.specs.Visits.{Visit, visits, next_visit}
 use Rattle.homeo_forecast.specs.declared.outlook.Stop as code
@@ -42,9 +42,23 @@ begun_at w base p r h lists rooms =
     (subst (λ k. HaveRooms k [] (template_at w base).clauses r.rooms.items) h.plan.sites
     (subst (λ (t : Template). HaveRooms p.plan.value.template.sites [] t.clauses r.rooms.items) h.plan.template rooms))
 
+pub on_plan : (w : s.Workload) (base : List ℤ) (p : Prepared) (calls : List CallId) (r : Replay) → IsPrepared w base p → IsReplay w base calls r →
+    IsReplay w p.plan.value.base.items calls r
+on_plan w base p calls r h is = subst (λ b. IsReplay w b calls r) (sym h.plan.base) is
+
+pub off_plan : (w : s.Workload) (base : List ℤ) (p : Prepared) (calls : List CallId) (r : Replay) → IsPrepared w base p →
+    IsReplay w p.plan.value.base.items calls r → IsReplay w base calls r
+off_plan w base p calls r h is = subst (λ b. IsReplay w b calls r) h.plan.base is
+
 pub some_replay : (w : s.Workload) (base : List ℤ) (p : Prepared) (calls : List CallId) (r : Replay) → IsPrepared w base p → IsReplay w base calls r →
     IsSomeReplay w p.plan.value.base.items r
-some_replay w base p calls r h is = record { calls = calls; is = subst (λ b. IsReplay w b calls r) (sym h.plan.base) is }
+some_replay w base p calls r h is = record { calls = calls; is = on_plan w base p calls r h is }
+
+pub same_stop : (w : s.Workload) (base : List ℤ) (p : Prepared) (before : List CallId) (call : CallId) → IsPrepared w base p →
+    first_stop (sites_of w) (template_at w p.plan.value.base.items) (visits w p.plan.value.base.items before) (next_visit w p.plan.value.base.items before call)
+    ≡ first_stop (sites_of w) (template_at w base) (visits w base before) (next_visit w base before call)
+same_stop w base p before call h =
+    ap (λ b. first_stop (sites_of w) (template_at w b) (visits w b before) (next_visit w b before call)) h.plan.base
 
 -- ---- a list
 there : {X : Type 0} (xs : List X) (n : ℕ) (d : X) → n < length xs → slice_get xs n ≡ Some (get_or xs n d)
@@ -88,11 +102,11 @@ module _ (w : s.Workload) (base : List ℤ) (calls : List CallId) (accepted : Is
           ((forecasts_stand w base calls n accepted exist h.served (omega (arith, lt))).1 (get_or calls n d) (plain_stop f) (there calls n d lt) (sym e))
 
   pub all_kept :
-      (n : ℕ) (r : Replay) (config : Config) → length calls ≤ n → n ≤ length calls → IsReplay w base (take n calls) r →
+      (n : ℕ) (r : Replay) (config : Config) → length calls ≤ n → IsReplay w base (take n calls) r →
       ((j : ℕ) (vs : List Visit) (cs : List Clause) → HaveRooms j vs cs r.rooms.items → config ≡ peak_config j vs cs) →
       IsForecast w base calls (length calls) config None
-  all_kept n r config le ge h bounds =
-      let same : n ≡ length calls = omega (arith, le, ge) in
-      let whole : IsReplay w base (take (length calls) calls) r = subst (λ m. IsReplay w base (take m calls) r) same h in
+  all_kept n r config le h bounds =
+      let same : take n calls ≡ take (length calls) calls = all_taken calls n le ∙ sym (all_taken calls (length calls) (omega arith)) in
+      let whole : IsReplay w base (take (length calls) calls) r = subst (λ cs. IsReplay w base cs r) same h in
       subst (λ c. IsForecast w base calls (length calls) c None) (sym (bounds k (visits w base (take (length calls) calls)) t.clauses whole.rooms))
       ((forecasts_stand w base calls (length calls) accepted exist whole.served (omega arith)).0 refl)

@@ -17,3 +17,4 @@ pub mod SumFits
 pub mod TermSums
 pub mod TextSteps
 pub mod TouchedStops
+pub mod Touching

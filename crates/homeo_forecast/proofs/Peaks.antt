@@ -1,7 +1,7 @@
 -- A fitting configuration serves visits exactly where the peaks fit and all freezes hold.
 use Rattle.homeo_meaning.specs.Key.{words as meaning_words}
 use Rattle.homeo_plan.specs.Key.{words}
-use Rattle.std.proofs.Common.{◌≡◌, ℕ, zero, suc, ◌+◌, ◌<◌, ◌==◌, Bool, true, false, cond, not, ◌&&◌, List, [], ◌∷◌, ◌++◌, length, ℤ, pos, int_le, int_lt, ◌+ℤ◌, ◌-ℤ◌, ◌≤ℤ◌, Option, Some, None, refl, sym, ap, subst, ◌∙◌, arith, slice_index_or}
+use Rattle.std.proofs.Common.{◌≡◌, ℕ, zero, suc, ◌+◌, ◌<◌, ◌==◌, Bool, true, false, cond, not, ◌&&◌, List, [], ◌∷◌, ◌++◌, length, ℤ, pos, int_le, int_lt, ◌≤ℤ◌, Option, Some, None, refl, sym, ap, subst, arith}
 use Rattle.std.specs.Int.{int_max}
 use Rattle.std.specs.Ordering.{int_eq}
 use Rattle.std.proofs.lemmas.Int.{ints}
@@ -16,7 +16,7 @@ use Rattle.homeo_plan.specs.Treaty.{site_sum, bound_at, KeepsClauses, KeepsFreez
 use Rattle.homeo_plan.proofs.Atoms.{each_append, append_each}
 use Rattle.homeo_plan.proofs.Covering.{each_map}
 use Rattle.homeo_forecast.specs.Forecast.{Serves, IsServed}
-use Rattle.homeo_forecast.specs.Peaks.{peak, peaks_from, peaks, peak_bounds, peak_config, PeaksFit, KeepFreezes, Stop, Spent, Frozen, frozen_from, stop_from, first_stop}
+use Rattle.homeo_forecast.specs.Peaks.{peak, peaks_from, peaks, peak_bounds, peak_config, PeaksFit, KeepFreezes, Stop, Spent, Frozen, frozen_from, stop_from}
 use Rattle.homeo_forecast.specs.Visits.{Visit}
 use Rattle.homeo_forecast.specs.Laws.{AreSited, ServedExactly, PeaksServe, ServedOn, ServedFirst}
 

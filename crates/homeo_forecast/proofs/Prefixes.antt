@@ -1,28 +1,27 @@
 -- The longest prefix of a list of calls that some configuration serves.
 use Rattle.homeo_meaning.specs.Key.{words as meaning_words}
 use Rattle.homeo_plan.specs.Key.{words}
-use Rattle.std.proofs.Common.{◌≡◌, ◌⊎◌, ℕ, zero, suc, ◌+◌, ◌-◌, ◌<◌, ◌≤◌, List, [], ◌∷◌, ◌++◌, length, take, drop, get_or, ℤ, Option, Some, None, All, refl, sym, ap, subst, ◌∙◌, arith, inl, inr, append_assoc}
+use Rattle.std.proofs.Common.{◌≡◌, ◌⊎◌, ℕ, zero, suc, ◌<◌, ◌≤◌, List, [], ◌∷◌, ◌++◌, length, take, ℤ, Option, Some, None, refl, sym, ap, subst, ◌∙◌, arith, inl, inr}
 use Rattle.std.specs.Prelude.{slice_get}
 use Rattle.homeo_syntax.specs.Source as s
 use Rattle.homeo_meaning.specs.declared.call.CallId.{CallId}
 use Rattle.homeo_meaning.specs.Acceptance.{IsAccepted}
 use Rattle.homeo_meaning.specs.Calls.{CallExists}
-use Rattle.homeo_meaning.specs.Serial.{values_of}
-use Rattle.homeo_plan.specs.Each.{Each, Member}
+use Rattle.homeo_plan.specs.Each.{Each}
 use Rattle.homeo_plan.specs.Joined.{Deltas}
 use Rattle.homeo_plan.specs.Template.{PlannedCall, Template}
-use Rattle.homeo_plan.specs.Config.{Config, Fits}
+use Rattle.homeo_plan.specs.Config.{Config}
 use Rattle.homeo_plan.specs.Local.{no_deltas}
 use Rattle.homeo_plan.specs.Planned.{sites_of, planned, planned_at, template_at}
 use Rattle.homeo_plan.proofs.Atoms.{append_each}
 use Rattle.homeo_plan.proofs.Policy.{some_sites}
 use Rattle.homeo_plan.proofs.Covering.{each_member}
 use Rattle.homeo_plan.proofs.PlannedCalls.{planned_member, all_sites_below}
-use Rattle.homeo_forecast.specs.Forecast.{Serves, IsServed, CanServe, IsForecast}
-use Rattle.homeo_forecast.specs.Peaks.{peak_config, Stop, first_stop}
+use Rattle.homeo_forecast.specs.Forecast.{IsServed, CanServe, IsForecast}
+use Rattle.homeo_forecast.specs.Peaks.{Stop, first_stop}
 use Rattle.homeo_forecast.specs.Visits.{Visit, visit, after, after_all, visits_from, visits, next_visit}
 use Rattle.homeo_forecast.specs.Laws.{AreSited, ForecastsStand, OneForecast}
-use Rattle.homeo_forecast.proofs.Peaks.{served_exactly, peaks_serve, served_first, served_on}
+use Rattle.homeo_forecast.proofs.Peaks.{peaks_serve, served_first, served_on}
 
 -- ---- visits of lists one after another
 visits_append :

@@ -1,7 +1,6 @@
 -- What sites have after calls that a fitting configuration serves: their treaties, and bases plus deltas within bounds.
-use Rattle.homeo_meaning.specs.Key.{words as meaning_words}
 use Rattle.homeo_plan.specs.Key.{words}
-use Rattle.std.proofs.Common.{◌≡◌, ℕ, ◌<◌, ◌==◌, Bool, true, false, cond, List, [], ◌∷◌, ℤ, pos, ◌+ℤ◌, refl, sym, ap, subst, ◌∙◌, arith}
+use Rattle.std.proofs.Common.{◌≡◌, ℕ, ◌<◌, ◌==◌, Bool, true, false, cond, List, [], ◌∷◌, ℤ, ◌+ℤ◌, refl, subst, arith}
 use mathlib.Core.Path.{fun_ext}
 use Rattle.std.proofs.lemmas.Int.{ints}
 use Rattle.std.proofs.lemmas.Bool.Decides.{nat_tests}
@@ -14,16 +13,16 @@ use Rattle.homeo_meaning.specs.Schema.{schema_of}
 use Rattle.homeo_meaning.specs.Serial.{values_of}
 use Rattle.homeo_meaning.proofs.Within.{all_within}
 use Rattle.homeo_plan.specs.Config.{Config, Fits}
-use Rattle.homeo_plan.specs.Each.{Each, Member}
-use Rattle.homeo_plan.specs.Joined.{Deltas, with_site}
+use Rattle.homeo_plan.specs.Each.{Each}
+use Rattle.homeo_plan.specs.Joined.{Deltas}
 use Rattle.homeo_plan.specs.Local.{no_deltas, local_deltas}
-use Rattle.homeo_plan.specs.Planned.{sites_of, planned, planned_at, template_at}
-use Rattle.homeo_plan.specs.Template.{PlannedCall, Template}
+use Rattle.homeo_plan.specs.Planned.{sites_of, planned_at, template_at}
+use Rattle.homeo_plan.specs.Template.{PlannedCall}
 use Rattle.homeo_plan.specs.Treaty.{Treaty}
 use Rattle.homeo_plan.proofs.OwnWithin.{zero_keeps}
 use Rattle.homeo_plan.proofs.PlannedCalls.{planned_member}
 use Rattle.homeo_forecast.specs.Forecast.{Serves}
-use Rattle.homeo_forecast.specs.Visits.{Visit, visit, after, after_all, visits_from, visits}
+use Rattle.homeo_forecast.specs.Visits.{visit, after, after_all, visits_from, visits}
 use Rattle.homeo_forecast.proofs.Prefixes.{site_below}
 use Rattle.homeo_forecast.proofs.Running.{stays_within}
 

@@ -1,5 +1,6 @@
 -- Rooms at their places, and rooms of which some have taken one visit more.
-use Rattle.std.proofs.Common.{◌≡◌, ◌⊎◌, inl, inr, ⊎_elim, ℕ, zero, suc, ◌+◌, ◌<◌, ◌≤◌, ◌==◌, Bool, true, false, cond, List, [], ◌∷◌, ◌++◌, map, length, get_or, take, All, ℤ, pos, ◌≤ℤ◌, refl, sym, ap, ◌∙◌, subst, arith}
+use Rattle.std.proofs.Common.{◌≡◌, ◌⊎◌, inl, inr, ⊎_elim, ℕ, zero, suc, ◌+◌, ◌<◌, ◌≤◌, ◌==◌, Bool, true, false, List, [], ◌∷◌, ◌++◌, map, length, get_or, take, ℤ, pos, ◌+ℤ◌, ◌≤ℤ◌, FitsSigned, refl, sym, ap, ◌∙◌, subst, arith}
+use Rattle.std.specs.Int.{w128}
 use Rattle.std.proofs.Math.ListN.{set}
 use Rattle.std.proofs.lemmas.List.{take_more, length-map, get_or-map}
 use Rattle.std.proofs.lemmas.Bool.Decides.{nat_tests}
@@ -9,17 +10,17 @@ use Rattle.homeo_plan.specs.Each.{Each, Member}
 use Rattle.homeo_plan.specs.Config.{total}
 use Rattle.homeo_plan.specs.PlanView.{plain_clause}
 use Rattle.homeo_plan.specs.Template.{Clause}
-use Rattle.homeo_plan.specs.Treaty.{site_sum}
 use Rattle.homeo_plan.specs.declared.templates.Clause as code
 use Rattle.homeo_forecast.specs.Key.{words}
-use Rattle.homeo_forecast.specs.Peaks.{Stop, peaks, PeaksFit}
+use Rattle.homeo_forecast.specs.Peaks.{peaks, PeaksFit}
 use Rattle.homeo_forecast.specs.Visits.{Visit}
 use Rattle.homeo_forecast.specs.declared.rooms.Room.{Room}
 use Rattle.homeo_forecast.specs.inner.Raising.{CanTest, CanRaise, SomeRaised}
+use Rattle.homeo_forecast.specs.inner.Replays.{CanBound}
 use Rattle.homeo_forecast.specs.inner.Rooms.{HasRoom, HaveRooms}
 use Rattle.homeo_forecast.specs.inner.Stops.{clause_stop, clause_stop_at}
 use Rattle.homeo_forecast.specs.inner.Sums.{CanSum}
-use Rattle.homeo_forecast.proofs.RoomSteps.{IsOpen, is_open}
+use Rattle.homeo_forecast.proofs.RoomSteps.{IsOpen, is_open, bound_fits}
 
 -- ---- lists
 pub each_there : {X : Type 0} (P : X → Type 0) (xs : List X) (n : ℕ) (d : X) → n < length xs → Each P xs → P (get_or xs n d)
@@ -176,3 +177,20 @@ all_taken [] zero le = refl
 all_taken [] (suc n) le = refl
 all_taken (x ∷ xs) zero le = absurd (omega arith)
 all_taken (x ∷ xs) (suc n) le = ap (λ l. x ∷ l) (all_taken xs n (omega arith))
+
+-- ---- rooms at their places, whatever their clauses are
+pub room_at :
+    (k : ℕ) (vs : List Visit) (cs : List Clause) (rs : List Room) (n : ℕ) (d : Clause) (r : Room) → HaveRooms k vs cs rs → n < length rs →
+    r ≡ get_or rs n r → HasRoom k vs (get_or cs n d) r
+room_at k vs cs rs n d r have lt is =
+    subst (HasRoom k vs (get_or cs n d)) (sym is) (have.each n d r (omega (arith, lt, have.count)))
+
+pub bound_there :
+    (rs : List Room) (n : ℕ) (r : Room) → CanBound rs → n < length rs → r ≡ get_or rs n r →
+    (0 < length r.peaks.items) × FitsSigned w128 (r.room +ℤ get_or r.peaks.items 0 (pos 0))
+unfolding plan_words
+bound_there rs n r can lt is =
+    let below : n < length can.clauses = omega (arith, lt, can.rooms.count) in
+    let none : Clause = record { terms = []; slack = pos 0 } in
+    bound_fits can.sites can.visits (get_or can.clauses n none) r (room_at can.sites can.visits can.clauses rs n none r can.rooms lt is)
+    (each_there (λ (d : Clause). total (peaks can.sites can.visits d) ≤ℤ d.slack) can.clauses n none below can.fit) can.some

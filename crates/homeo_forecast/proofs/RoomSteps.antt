@@ -2,7 +2,7 @@
 use Rattle.homeo_meaning.specs.Key.{words as meaning_words}
 use Rattle.homeo_plan.specs.Key.{words as plan_words}
 use Rattle.homeo_forecast.specs.Key.{words}
-use Rattle.std.proofs.Common.{◌≡◌, ℕ, zero, suc, ◌+◌, ◌<◌, ◌^◌, ◌==◌, Bool, true, false, cond, List, [], ◌∷◌, ◌++◌, length, ℤ, pos, int_lt, int_le, ◌+ℤ◌, ◌-ℤ◌, ◌≤ℤ◌, ◌<ℤ◌, Option, Some, None, replicate, refl, sym, ap, ap₂, subst, ◌∙◌, arith, slice_index_or, FitsSigned}
+use Rattle.std.proofs.Common.{◌≡◌, ℕ, zero, suc, ◌<◌, ◌^◌, Bool, true, false, cond, List, [], ◌∷◌, ◌++◌, length, ℤ, pos, int_lt, int_le, ◌+ℤ◌, ◌-ℤ◌, ◌≤ℤ◌, ◌<ℤ◌, Some, None, replicate, refl, sym, ap, ap₂, subst, ◌∙◌, arith, slice_index_or, FitsSigned}
 use Rattle.std.proofs.Math.ListN.{set}
 use Rattle.std.specs.Int.{int_max, w128}
 use Rattle.std.specs.Int.RustNames.{unsigned_abs}
@@ -16,8 +16,8 @@ use Rattle.homeo_forecast.specs.Visits.{Visit}
 use Rattle.homeo_forecast.specs.declared.rooms.Room.{Room}
 use Rattle.homeo_forecast.specs.inner.Rooms.{HasRoom}
 use Rattle.homeo_forecast.specs.inner.Stops.{clause_stop}
-use Rattle.homeo_forecast.proofs.Peaks.{max_left, max_right, peaks_count, peak_positive}
-use Rattle.homeo_forecast.proofs.Raised.{peaks_push, peak_own, peak_at, total_set, antisym, trans}
+use Rattle.homeo_forecast.proofs.Peaks.{max_left, peaks_count, peak_positive}
+use Rattle.homeo_forecast.proofs.Raised.{peaks_push, peak_own, peak_at, total_set}
 
 at_most : (a b : ℤ) → a ≤ℤ b → int_le a b ≡ true
 at_most a b h = grind (arith, ints)

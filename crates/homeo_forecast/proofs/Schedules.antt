@@ -1,10 +1,11 @@
 -- The calls of a schedule that names each client as often as it has calls: there they are, and how they are counted.
-use Rattle.std.proofs.Common.{◌≡◌, ⊎_elim, ◌⊎◌, inl, inr, ℕ, zero, suc, ◌+◌, ◌<◌, ◌≤◌, ◌==◌, Bool, true, false, cond, List, [], ◌∷◌, ◌++◌, map, length, get_or, take, replicate, slice_get, Option, Some, None, All, refl, sym, ap, ap₂, ◌∙◌, subst, append_assoc, arith}
+use Rattle.std.proofs.Common.{◌≡◌, ⊎_elim, ℕ, zero, suc, ◌+◌, ◌<◌, ◌≤◌, ◌==◌, ◌^◌, Bool, true, false, cond, List, [], ◌∷◌, ◌++◌, length, get_or, take, replicate, slice_get, Option, Some, None, refl, sym, ap, ap₂, ◌∙◌, subst, append_assoc, arith}
 use Rattle.std.specs.Prelude.{IsSome}
 use Rattle.std.specs.Option.{option_and_then, option_map_or}
 use Rattle.std.proofs.Math.ListN.{set}
 use Rattle.std.proofs.lemmas.Bool.Decides.{nat_tests}
-use Rattle.std.proofs.lemmas.List.{length-map, length-append, length-replicate, get_or-map, get_or-append-add, take_more}
+use Rattle.std.proofs.lemmas.List.{length-map, length-append, length-replicate, length-take-le, get_or-map, get_or-append-add, take_more}
+use Rattle.std.proofs.lemmas.List.Sums.{sum_by-cons}
 use Rattle.std.proofs.lemmas.Option.{slice_get-get_or}
 use Rattle.homeo_syntax.specs.Source as s
 use Rattle.homeo_syntax.specs.declared.phrase.Ident.{Ident}
@@ -21,7 +22,7 @@ use Rattle.homeo_order.specs.Key.{words as order_words}
 use Rattle.homeo_order.specs.Order.{calls_from, client_names, order_of, scheduled_calls}
 use Rattle.homeo_order.specs.Scheduled.{IsWholeOrder}
 use Rattle.homeo_order.proofs.Scheduling.{named_there, times-snoc, past_the_last, some_is, has_left, calls_from-snoc}
-use Rattle.homeo_forecast.proofs.RoomLists.{set_count, set_here, set_apart, same_number}
+use Rattle.homeo_forecast.proofs.RoomLists.{set_count, set_here, set_apart, same_number, all_taken}
 
 -- ---- the client of a name
 pub record ItsClient (w : s.Workload) (n : ℕ) : Type 0 where
@@ -89,7 +90,7 @@ pub record HasCounted (w : s.Workload) (before : List Ident) (calls : List CallI
   pub count : length made ≡ length w.clients
   pub made_are : (k : ℕ) (c : s.Client) → slice_get w.clients k ≡ Some c → get_or made k 0 ≡ times c.name.name before
 
-zero_at : (n k : ℕ) → get_or (replicate n 0) k 0 ≡ 0
+zero_at : (n k : ℕ) → ◌≡◌ {A = ℕ} (get_or (replicate n 0) k 0) 0
 zero_at zero k = refl
 zero_at (suc n) zero = refl
 zero_at (suc n) (suc k) = zero_at n k
@@ -145,3 +146,48 @@ module _ (w : s.Workload) (order : IsWholeOrder w) (before : List Ident) (x : Id
               let same : x.name ≡ c.name.name = grind (arith, nat_tests) in
               absurd (apart (sym (order.placed k c found) ∙ ap (place_of (client_names w)) (sym same)))
           differ false q = refl
+
+-- ---- the next name of a schedule
+times_at_most : (n : ℕ) (xs : List Ident) → times n xs ≤ length xs
+times_at_most n [] = omega arith
+times_at_most n (x ∷ xs) =
+    let more : times n (x ∷ xs) ≡ cond (x.name == n) 1 0 + times n xs = sum_by-cons (λ (y : Ident). cond (y.name == n) 1 0) x xs in
+    omega (arith, more, one (x.name == n), times_at_most n xs)
+  where
+    one : (b : Bool) → cond b 1 0 ≤ 1
+    one true = omega arith
+    one false = omega arith
+
+module _ (w : s.Workload) (order : IsWholeOrder w) (names : List Ident) (all : names ≡ order_of w.schedule) (i : ℕ) (d : Ident) (lt : i < length names) where
+  abbrev x : Ident
+  x = get_or names i d
+
+  pub name_there : place_of (client_names w) x.name < length w.clients
+  name_there =
+      subst (λ (l : List Ident). place_of (client_names w) (get_or l i d).name < length w.clients) (sym all)
+      (order.named i d (subst (λ (l : List Ident). i < length l) all lt))
+
+  pub name_small : place_of (client_names w) x.name < 2 ^ 32
+  name_small = let few = order.few in omega (arith, name_there, few)
+
+  module _ (calls : List CallId) (made : List ℕ) (counted : HasCounted w (take i names) calls made) where
+    pub next_there : place_of (client_names w) x.name < length made
+    next_there = made_there w order (take i names) x calls made counted name_there
+
+    pub next_small : suc (get_or made (place_of (client_names w) x.name) 0) ≤ length names
+    next_small =
+        let first : length (take i names) ≡ i = length-take-le i names (omega (arith, lt)) in
+        omega (arith, count_there w order (take i names) x calls made counted name_there, times_at_most x.name (take i names), first)
+
+    pub name_counted : (next : ℕ) (call : CallId) (new : List CallId) → next ≡ get_or made (place_of (client_names w) x.name) 0 + 1 →
+        call ≡ record { client = place_of (client_names w) x.name; seq = next } → new ≡ calls ++ call ∷ [] →
+        HasCounted w (take (i + 1) names) new (set made (place_of (client_names w) x.name) next)
+    name_counted next call new is_next is_call are =
+        subst (λ (l : List Ident). HasCounted w l new (set made (place_of (client_names w) x.name) next)) (sym (take_more names i d lt))
+        (one_counted w order (take i names) x calls made counted name_there next call new (omega (arith, is_next)) is_call are)
+
+pub all_counted : (w : s.Workload) (names : List Ident) (i : ℕ) (calls : List CallId) (made : List ℕ) → names ≡ order_of w.schedule → length names ≤ i →
+    HasCounted w (take i names) calls made → calls ≡ scheduled_calls w
+unfolding order_words
+all_counted w names i calls made all le counted =
+    counted.calls_are ∙ ap (calls_from (client_names w) []) (all_taken names i le ∙ all)

@@ -58,3 +58,12 @@ pub none_first : (o : Option code.Stop) (a b : Option Stop) → is_some o ≡ fa
 unfolding words
 none_first None a b none e = ap (λ q. first_of q b) e
 none_first (Some s) a b none e = cc
+
+-- ---- whether there is one
+pub none_is : {X : Type 0} (o : Option X) → is_some o ≡ false → o ≡ None
+none_is None e = refl
+none_is (Some x) e = cc
+
+pub some_is_not : {X : Type 0} (o : Option X) → is_some o ≡ true → o ≡ None → ⊥
+some_is_not None e none = cc
+some_is_not (Some x) e none = cc

@@ -1,11 +1,10 @@
 -- Where a site's own terms can be summed, so can its part of all terms.
-use Rattle.std.proofs.Common.{◌≡◌, ℕ, zero, suc, ◌<◌, ◌==◌, Bool, true, false, cond, List, [], ◌∷◌, length, get_or, take, ℤ, ◌*ℤ◌, All, refl, sym, ap, ◌∙◌, subst, FitsSigned, arith}
+use Rattle.std.proofs.Common.{◌≡◌, ℕ, zero, suc, ◌==◌, Bool, true, false, cond, List, [], ◌∷◌, length, take, ◌*ℤ◌, All, refl, sym, ap, ◌∙◌, subst, FitsSigned, arith}
 use Rattle.std.specs.Int.{w128}
 use Rattle.std.proofs.lemmas.Bool.Decides.{nat_tests}
 use Rattle.std.proofs.lemmas.List.Elements.{All-nil, All-cons, All-head, All-tail}
 use Rattle.homeo_plan.specs.declared.forms.Term.{Term}
 use Rattle.homeo_plan.specs.Joined.{Deltas}
-use Rattle.homeo_plan.specs.Treaty.{site_sum}
 use Rattle.homeo_site.specs.Key.{words as site_words}
 use Rattle.homeo_site.specs.declared.own_treaty.OwnTerm.{OwnTerm}
 use Rattle.homeo_site.specs.OwnTreaty.{own_terms, own_sum, SumsFit}
@@ -37,7 +36,7 @@ own_products :
     All (λ (t : Term). t.delta.site ≡ i → FitsSigned w128 (t.factor *ℤ x t.delta.object)) ts
 unfolding site_words
 own_products i x [] h = All-nil (λ (t : Term). t.delta.site ≡ i → FitsSigned w128 (t.factor *ℤ x t.delta.object))
-own_products i x (t ∷ ts) h = go (t.delta.site == i) refl h
+own_products i x (t ∷ ts) h = go (t.delta.site == i) refl h (λ g. own_products i x ts g)
   where
     one : OwnTerm
     one = record { object = t.delta.object; factor = t.factor }
@@ -48,9 +47,11 @@ own_products i x (t ∷ ts) h = go (t.delta.site == i) refl h
     Q : Term → Type 0
     Q u = u.delta.site ≡ i → FitsSigned w128 (u.factor *ℤ x u.delta.object)
 
-    go : (v : Bool) → (t.delta.site == i) ≡ v → All P (cond v (one ∷ own_terms i ts) (own_terms i ts)) → All Q (t ∷ ts)
-    go true e g = All-cons Q t ts (λ at. All-head P one (own_terms i ts) g) (own_products i x ts (All-tail P one (own_terms i ts) g))
-    go false e g = All-cons Q t ts (λ at. absurd (grind (arith, nat_tests))) (own_products i x ts g)
+    go :
+        (v : Bool) → (t.delta.site == i) ≡ v → All P (cond v (one ∷ own_terms i ts) (own_terms i ts)) →
+        (All P (own_terms i ts) → All Q ts) → All Q (t ∷ ts)
+    go true e g rest = All-cons Q t ts (λ at. All-head P one (own_terms i ts) g) (rest (All-tail P one (own_terms i ts) g))
+    go false e g rest = All-cons Q t ts (λ at. absurd (grind (arith, nat_tests))) (rest g)
 
 pub can_sum : (i : ℕ) (ts : List Term) (x : Deltas) → SumsFit (own_terms i ts) x → CanSum i ts x
 can_sum i ts x fits = record {

@@ -24,7 +24,6 @@ pub record IsServed (k : ℕ) (t : Template) (vs : List Visit) : Type 0 where
 
 -- some fitting configuration serves these calls
 abbrev pub CanServe : s.Workload → List ℤ → List CallId → Type 0
-unfolding words
 CanServe w base calls = IsServed (sites_of w) (template_at w base) (visits w base calls)
 
 -- how far the list goes: so many calls are served by this configuration, no more by any, and why

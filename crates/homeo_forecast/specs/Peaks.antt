@@ -1,5 +1,5 @@
 -- The peaks of the sites in a clause, and what stops one visit more (this project's rule).
-use Rattle.std.specs.Prelude.{◌≡◌, ◌≤◌, ℕ, zero, suc, ◌==◌, cond, List, [], ◌∷◌, ◌++◌, ℤ, pos, int_le, ◌-ℤ◌, ◌≤ℤ◌, ◌&&◌, not, Option, Some, None}
+use Rattle.std.specs.Prelude.{ℕ, zero, suc, ◌==◌, cond, List, [], ◌∷◌, ◌++◌, ℤ, pos, int_le, ◌-ℤ◌, ◌≤ℤ◌, ◌&&◌, not, Option, Some, None}
 use Rattle.std.specs.Int.{int_max}
 use Rattle.std.specs.Ordering.{int_eq}
 use Rattle.homeo_plan.specs.Key.{words}

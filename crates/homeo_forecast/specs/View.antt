@@ -1,5 +1,4 @@
 -- What a value of the types of forecasts stands for.
-use Rattle.std.specs.Prelude.{ℤ, Option}
 use Rattle.homeo_forecast.specs.declared.outlook.Stop as code
 use Rattle.homeo_forecast.specs.declared.outlook.Stop.TheVariants as code_stop
 use Rattle.homeo_forecast.specs.Peaks.{Stop, Spent, Frozen}

@@ -116,7 +116,7 @@ fn new_rooms(alloc: Global, sites: u32, clauses: &[Clause]) -> Result<Vec<Room>,
 {
     let mut rooms = Vec::new(alloc);
     for clause in clauses {
-        rooms.push(Room::new(alloc, sites, clause.slack)?)?;
+        rooms.push(Room::new(alloc, sites, clause)?)?;
     }
     Ok(rooms)
 }
@@ -167,8 +167,8 @@ impl Replay {
         let program = prepared.program(c, call);
         let site = program.site;
         let (clauses, freezes) = prepared.touched(alloc, c, call, site)?;
-        run(alloc, program, &mut self.deltas[site as usize])?;
-        let deltas = self.deltas[site as usize].as_slice();
+        let deltas = &mut self.deltas[site as usize];
+        run(alloc, program, deltas)?;
         let template = &prepared.plan.template;
         let stop = first_stop(
             alloc,
@@ -177,7 +177,7 @@ impl Replay {
             clauses.as_slice(),
             freezes.as_slice(),
             site,
-            deltas,
+            deltas.as_slice(),
         )?;
         if stop.is_some() {
             return Ok(stop);
@@ -187,7 +187,7 @@ impl Replay {
             template.clauses.as_slice(),
             clauses.as_slice(),
             site,
-            deltas,
+            deltas.as_slice(),
         );
         Ok(None)
     }

@@ -3,7 +3,8 @@
 ghost use Rattle.std.specs.Prelude.{◌≡◌, ◌≤◌, ◌<◌, ◌-ℤ◌, ◌+ℤ◌, ◌≤ℤ◌, ◌<ℤ◌, ◌++◌, slice_set, ◌∷◌, [], ℕ, ℤ, List, pos, length, true, false, slice_index_or, option_map, replicate, IfOk, FitsSigned};
 ghost use Rattle.std.specs.Int.{w128};
 ghost use Rattle.homeo_plan.specs.Config.{total};
-ghost use Rattle.homeo_plan.specs.Template.{Clause};
+ghost use Rattle.homeo_plan.specs.PlanView.{plain_clause};
+ghost use Rattle.homeo_plan.specs.Template.{Clause as PlainClause};
 ghost use Rattle.homeo_plan.specs.Treaty.{site_sum};
 ghost use Rattle.homeo_forecast.specs.Peaks.{Spent, peaks, peak_bounds};
 ghost use Rattle.homeo_forecast.specs.Visits.{Visit};
@@ -12,6 +13,7 @@ ghost use Rattle.homeo_forecast.specs.inner.Rooms.{HasRoom};
 ghost use Rattle.homeo_forecast.specs.inner.Stops.{clause_stop};
 
 use crate::outlook::Stop;
+use homeo_plan::Clause;
 use homeo_syntax::Memory;
 use std::alloc::Global;
 
@@ -76,9 +78,9 @@ impl Room {
         requires site { site < length self.now.peaks.items }
         requires low { pos 0 ≤ℤ slice_index_or self.now.peaks.items site (pos 0) }
         requires room { pos 0 ≤ℤ self.now.room }
-        ensures fits { (k : ℕ) (vs : List Visit) (c : Clause) (v : Visit) → HasRoom k vs c self.now → v.site ≡ site → site < k →
+        ensures fits { (k : ℕ) (vs : List Visit) (c : PlainClause) (v : Visit) → HasRoom k vs c self.now → v.site ≡ site → site < k →
             sum ≡ site_sum site c.terms v.deltas → result ≡ true → total (peaks k (vs ++ v ∷ []) c) ≤ℤ c.slack }
-        ensures over { (k : ℕ) (vs : List Visit) (c : Clause) (v : Visit) → HasRoom k vs c self.now → v.site ≡ site → site < k →
+        ensures over { (k : ℕ) (vs : List Visit) (c : PlainClause) (v : Visit) → HasRoom k vs c self.now → v.site ≡ site → site < k →
             sum ≡ site_sum site c.terms v.deltas → result ≡ false → total (peaks k (vs ++ v ∷ []) c) ≤ℤ c.slack → ⊥ }
     {
         let peak = self.peaks[site];
@@ -93,9 +95,9 @@ impl Room {
         requires site { site < length self.old.peaks.items }
         requires low { pos 0 ≤ℤ slice_index_or self.old.peaks.items site (pos 0) }
         requires room { pos 0 ≤ℤ self.old.room }
-        ensures raised { (k : ℕ) (vs : List Visit) (c : Clause) (v : Visit) → HasRoom k vs c self.old → v.site ≡ site → site < k →
+        ensures raised { (k : ℕ) (vs : List Visit) (c : PlainClause) (v : Visit) → HasRoom k vs c self.old → v.site ≡ site → site < k →
             sum ≡ site_sum site c.terms v.deltas → HasRoom k (vs ++ v ∷ []) c self.new }
-        ensures again { (k : ℕ) (vs : List Visit) (c : Clause) (v : Visit) → HasRoom k (vs ++ v ∷ []) c self.old → v.site ≡ site → site < k →
+        ensures again { (k : ℕ) (vs : List Visit) (c : PlainClause) (v : Visit) → HasRoom k (vs ++ v ∷ []) c self.old → v.site ≡ site → site < k →
             sum ≡ site_sum site c.terms v.deltas → HasRoom k (vs ++ v ∷ []) c self.new }
     {
         let peak = self.peaks[site];
@@ -106,12 +108,15 @@ impl Room {
         put(&mut self.peaks, site, sum);
     }
 
-    /// Of a clause with this slack, where no site has made a call.
-    pub(crate) fn new(alloc: Global, sites: u32, slack: i128) -> Result<Room, Memory>
-        ensures { (c : Clause) → slack ≡ c.slack → IfOk result (HasRoom sites [] c) }
+    /// Of a clause, where no site has made a call.
+    pub(crate) fn new(alloc: Global, sites: u32, clause: &Clause) -> Result<Room, Memory>
+        ensures { IfOk result (HasRoom sites [] (plain_clause clause.now)) }
     {
         let peaks = zeros(alloc, sites as usize)?;
-        Ok(Room { peaks, room: slack })
+        Ok(Room {
+            peaks,
+            room: clause.slack,
+        })
     }
 
     /// What stops a call after which a site has this sum in the clause of this number, with this slack.
@@ -126,7 +131,7 @@ impl Room {
         requires site { site < length self.now.peaks.items }
         requires low { pos 0 ≤ℤ slice_index_or self.now.peaks.items site (pos 0) }
         requires room { pos 0 ≤ℤ self.now.room }
-        ensures { (k : ℕ) (vs : List Visit) (c : Clause) (v : Visit) → HasRoom k vs c self.now → slack ≡ c.slack → v.site ≡ site → site < k →
+        ensures { (k : ℕ) (vs : List Visit) (c : PlainClause) (v : Visit) → HasRoom k vs c self.now → slack ≡ c.slack → v.site ≡ site → site < k →
             sum ≡ site_sum site c.terms v.deltas → IfOk result (λ o. option_map plain_stop o ≡ clause_stop k (vs ++ v ∷ []) clause c) }
     {
         if self.has(site, sum) {
@@ -155,7 +160,7 @@ impl Room {
     pub(crate) fn bounds(&self, alloc: Global) -> Result<homeo_syntax::List<i128>, Memory>
         requires site { 0 < length self.now.peaks.items }
         requires fits { FitsSigned w128 (self.now.room +ℤ slice_index_or self.now.peaks.items 0 (pos 0)) }
-        ensures { (k : ℕ) (vs : List Visit) (c : Clause) → HasRoom k vs c self.now → IfOk result (λ l. l.items ≡ peak_bounds k vs c) }
+        ensures { (k : ℕ) (vs : List Visit) (c : PlainClause) → HasRoom k vs c self.now → IfOk result (λ l. l.items ≡ peak_bounds k vs c) }
     {
         let first = self.first_bound();
         let bounds = self.risen(alloc, 0, first)?;

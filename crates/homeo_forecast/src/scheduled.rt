@@ -1,6 +1,6 @@
 //! The calls of a schedule, and their forecast.
 
-ghost use Rattle.std.specs.Prelude.{◌≡◌, [], replicate, IfOk};
+ghost use Rattle.std.specs.Prelude.{◌≡◌, ◌+◌, ◌<◌, ◌^◌, [], length, replicate, slice_index_or, slice_set, IfOk};
 ghost use Rattle.homeo_syntax.specs.SourceView.{plain_workload};
 ghost use Rattle.homeo_syntax.specs.WellFormed.{IsWellFormed};
 ghost use Rattle.homeo_meaning.specs.Faults.{faults};
@@ -28,13 +28,25 @@ fn scheduled(alloc: Global, w: &Workload) -> Result<Vec<CallId>, Memory>
     let mut calls = Vec::new(alloc);
     for name in order(w) {
         let client = clients.get(name.name);
-        made[client] += 1;
+        let seq = count(&mut made, client);
         calls.push(CallId {
             client: client as u32,
-            seq: made[client],
+            seq,
         })?;
     }
     Ok(calls)
+}
+
+/// Counts one call more of a client, and gives how many of its calls there are then.
+fn count(made: &mut Vec<u64>, client: usize) -> u64
+    requires there { client < length made.old.items }
+    requires fits { slice_index_or made.old.items client 0 + 1 < 2 ^ 64 }
+    ensures number { result ≡ slice_index_or made.old.items client 0 + 1 }
+    ensures counted { made.new.items ≡ slice_set made.old.items client result }
+{
+    let seq = made[client] + 1;
+    made[client] = seq;
+    seq
 }
 
 /// A 0 for each of so many clients.

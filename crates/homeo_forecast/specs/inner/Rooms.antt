@@ -1,5 +1,5 @@
 -- What is kept of a clause: the peaks of the sites, and what the slack leaves above them.
-use Rattle.std.specs.Prelude.{◌≡◌, ◌<◌, ◌^◌, ℕ, List, length, slice_index_or, ℤ, pos, ◌-ℤ◌, ◌<ℤ◌}
+use Rattle.std.specs.Prelude.{◌≡◌, ◌<◌, ◌^◌, ℕ, List, length, slice_index_or, pos, ◌-ℤ◌, ◌<ℤ◌}
 use Rattle.homeo_plan.specs.Template.{Clause}
 use Rattle.homeo_plan.specs.Config.{total}
 use Rattle.homeo_forecast.specs.Peaks.{peaks}

@@ -1,5 +1,5 @@
 -- What stops a visit at one clause or freeze, and the first of several that does.
-use Rattle.std.specs.Prelude.{ℕ, ◌==◌, ◌-◌, cond, List, [], ◌∷◌, slice_index_or, ℤ, pos, int_le, ◌&&◌, not, Option, Some, None}
+use Rattle.std.specs.Prelude.{ℕ, ◌==◌, ◌-◌, cond, List, [], ◌∷◌, slice_index_or, pos, int_le, ◌&&◌, not, Option, Some, None}
 use Rattle.std.specs.Ordering.{int_eq}
 use Rattle.homeo_plan.specs.declared.forms.Delta.{Delta}
 use Rattle.homeo_plan.specs.Config.{total}

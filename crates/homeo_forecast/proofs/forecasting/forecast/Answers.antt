@@ -1,2 +1,85 @@
-use Rattle.homeo_forecast.proofs.ForecastSteps as steps
+-- What the calls so far leave gives the forecast, where one stops or where they end.
+use Rattle.std.proofs.Common.{◌∙◌, ◌++◌, ◌∷◌, List, [], take, length, get_or, replicate, pos, Global, sym, ap, subst}
+use Rattle.std.specs.Prelude.{Vec}
+use Rattle.homeo_syntax.specs.SourceView.{plain_workload}
+use Rattle.homeo_meaning.specs.declared.call.CallId.{CallId}
+use Rattle.homeo_meaning.specs.Calls.{CallExists}
+use Rattle.homeo_plan.specs.PlanView.{plain_template}
+use Rattle.homeo_plan.specs.declared.round.RoundPlan.{RoundPlan}
+use Rattle.homeo_forecast.specs.declared.rooms.Room.{Room}
+use Rattle.homeo_forecast.specs.inner.Replays.{CanBound}
+use Rattle.homeo_forecast.specs.inner.Rooms.{HaveRooms}
+use Rattle.homeo_forecast.proofs.ForecastSteps.{rebased, begun_at, on_plan, off_plan, some_replay, same_stop, can_bound, kept_on, stopped_there, all_kept}
+use Rattle.homeo_forecast.proofs.RoomLists.{each_there}
+use Rattle.homeo_forecast.proofs.StopSteps.{none_is}
 use Rattle.homeo_forecast.proofs.forecasting.forecast.Goals as goal
+
+abbrev none : CallId
+none = record { client = 0; seq = 0 }
+
+pub loop-kept-init : goal.loop-kept-init
+loop-kept-init c =
+    let w = plain_workload c.args.c.now in
+    let base = c.args.base.now.items in
+    let p = c.in_ok-prepared.prepared in
+    let r = c.in_ok-replay.replay in
+    let same = c.deref.ensures in
+    begun_at w base p r c.in_ok-prepared.ensures
+    (c.in_ok-replay.ensures.deltas ∙ ap (λ (q : RoundPlan). replicate q.template.sites (replicate (length q.base.items) (pos 0))) same)
+    (subst (λ (q : RoundPlan). HaveRooms q.template.sites [] (plain_template q.template).clauses r.rooms.items) same c.in_ok-replay.ensures.rooms)
+
+pub call-requires-clause-prepared : goal.call-requires-clause-prepared
+call-requires-clause-prepared c =
+    rebased (plain_workload c.args.c.now) c.args.base.now.items c.in_ok-prepared.prepared c.in_ok-prepared.ensures
+
+pub call-requires-clause-exists : goal.call-requires-clause-exists
+call-requires-clause-exists c =
+    each_there (λ call. CallExists (plain_workload c.args.c.now) call) c.args.calls.now c.loop-kept.kept none c.loop-kept-test.true c.requires.exist
+
+pub call-requires-clause-replay : goal.call-requires-clause-replay
+call-requires-clause-replay c =
+    some_replay (plain_workload c.args.c.now) c.args.base.now.items c.in_ok-prepared.prepared _ c.loop-kept.replay c.in_ok-prepared.ensures c.loop-kept.invariant
+
+pub config-requires : goal.config-requires
+config-requires c =
+    let same = c.in_ok-stop.ensures.rooms (sym c.if-is_some.ensures) in
+    subst CanBound (sym (ap (λ (v : Vec Room Global). v.items) same))
+    (can_bound (plain_workload c.args.c.now) c.args.base.now.items c.args.calls.now c.in_ok-prepared.ensures.accepted c.requires.exist _ c.loop-kept.replay
+    c.loop-kept.invariant)
+
+pub returns-then-is_some : goal.returns-then-is_some
+returns-then-is_some c =
+    let w = plain_workload c.args.c.now in
+    let base = c.args.base.now.items in
+    let calls : List CallId = c.args.calls.now in
+    let p = c.in_ok-prepared.prepared in
+    let n = c.loop-kept.kept in
+    let r = c.loop-kept.replay in
+    let same = c.in_ok-stop.ensures.rooms (sym c.if-is_some.ensures) in
+    stopped_there w base calls c.in_ok-prepared.ensures.accepted c.requires.exist n none r c.call.new.self.rooms.items _ c.in_ok-stop.stop
+    c.loop-kept-test.true c.loop-kept.invariant (sym c.if-is_some.ensures)
+    (c.in_ok-stop.ensures.stop (take n calls) (on_plan w base p (take n calls) r c.in_ok-prepared.ensures c.loop-kept.invariant)
+    ∙ same_stop w base p (take n calls) (get_or calls n none) c.in_ok-prepared.ensures)
+    c.in_ok-config.ensures (ap (λ (v : Vec Room Global). v.items) same)
+
+pub loop-kept-preserved : goal.loop-kept-preserved
+loop-kept-preserved c =
+    let w = plain_workload c.args.c.now in
+    let base = c.args.base.now.items in
+    let calls : List CallId = c.args.calls.now in
+    let p = c.in_ok-prepared.prepared in
+    let n = c.loop-kept.kept in
+    kept_on w base calls c.in_ok-prepared.ensures.accepted c.requires.exist n none c.call.new.self c.loop-kept-test.true
+    (off_plan w base p (take n calls ++ get_or calls n none ∷ []) c.call.new.self c.in_ok-prepared.ensures
+    (c.in_ok-stop.ensures.kept (take n calls) (on_plan w base p (take n calls) c.loop-kept.replay c.in_ok-prepared.ensures c.loop-kept.invariant)
+    (none_is c.in_ok-stop.stop (sym c.if-is_some.ensures))))
+
+pub config-requires-2 : goal.config-requires-2
+config-requires-2 c =
+    can_bound (plain_workload c.args.c.now) c.args.base.now.items c.args.calls.now c.in_ok-prepared.ensures.accepted c.requires.exist _ c.loop-kept.replay
+    c.loop-kept.invariant
+
+pub returns : goal.returns
+returns c =
+    all_kept (plain_workload c.args.c.now) c.args.base.now.items c.args.calls.now c.in_ok-prepared.ensures.accepted c.requires.exist c.loop-kept.kept
+    c.loop-kept.replay _ c.loop-kept-test.false c.loop-kept.invariant c.in_ok-config-2.ensures

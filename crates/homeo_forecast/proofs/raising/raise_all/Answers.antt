@@ -6,7 +6,6 @@ use Rattle.homeo_plan.specs.PlanView.{plain_clause}
 use Rattle.homeo_plan.specs.Template.{Clause}
 use Rattle.homeo_plan.specs.Treaty.{site_sum}
 use Rattle.homeo_plan.specs.declared.templates.Clause as code
-use Rattle.homeo_forecast.specs.Visits.{Visit}
 use Rattle.homeo_forecast.specs.inner.Raising.{SomeRaised}
 use Rattle.homeo_forecast.specs.inner.Rooms.{HasRoom}
 use Rattle.homeo_forecast.specs.inner.Sums.{CanSum}

@@ -1,5 +1,4 @@
 use Rattle.std.proofs.Common.{sym, ◌∙◌, ◌++◌, ◌∷◌, [], map}
-use Rattle.homeo_meaning.specs.Serial.{values_of}
 use Rattle.homeo_plan.specs.PlanView.{plain_clause}
 use Rattle.homeo_forecast.specs.inner.Stops.{clause_stop_at}
 use Rattle.homeo_forecast.proofs.RoomLists.{room_there, stop_there, sum_there, open_there}

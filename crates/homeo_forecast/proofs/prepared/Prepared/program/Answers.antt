@@ -1,4 +1,4 @@
-use Rattle.std.proofs.Common.{◌<◌, List, length, get_or, sym, subst}
+use Rattle.std.proofs.Common.{◌≡◌, ◌<◌, List, length, get_or, sym, subst}
 use Rattle.homeo_syntax.specs.SourceView.{plain_workload}
 use Rattle.homeo_effect.specs.declared.program.Program.{Program}
 use Rattle.homeo_forecast.proofs.ProgramLists.{program_below, program_there}
@@ -14,4 +14,5 @@ pub returns : goal.returns
 returns c =
     let p = c.args.self.now in
     program_there (plain_workload c.args.c.now) p.plan.value.base.items c.place-place.result p.programs.items c.requires.prepared.programs c.place-place.ensures.within
-    c.args.call _ c.place-place.ensures.place ?
+    c.args.call c.index-as_slice-place.result c.place-place.ensures.place
+    (subst (λ (l : List Program). c.index-as_slice-place.result ≡ get_or l c.place-place.result c.index-as_slice-place.result) c.as_slice.ensures c.index-as_slice-place.is)

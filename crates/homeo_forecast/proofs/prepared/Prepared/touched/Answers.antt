@@ -1,12 +1,11 @@
--- The commands are those of the call's residual, and the index is over the treaty of its site.
-use Rattle.std.proofs.Common.{◌≡◌, ◌<◌, List, map, length, slice_get, sym, ap, ap₂, ◌∙◌, subst}
-use Rattle.homeo_syntax.specs.LowView.{low_commands, plain_lcommand}
+-- The commands are those of the call's residual, and the index is that of its site.
+use Rattle.std.proofs.Common.{◌≡◌, ◌<◌, List, length, get_or, sym, ap, ◌∙◌, subst}
 use Rattle.homeo_syntax.specs.SourceView.{plain_workload}
-use Rattle.homeo_plan.specs.Planned.{sites_of, planned_at, template_at}
 use Rattle.homeo_plan.specs.declared.round.RoundPlan.{RoundPlan}
 use Rattle.homeo_plan.specs.declared.rows.Residual.{Residual}
-use Rattle.homeo_effect.specs.Touched.{written, WritesOwn, touched_clauses, touched_freezes}
-use Rattle.homeo_site.proofs.OwnLookups.{residual_within, residual_is}
+use Rattle.homeo_effect.specs.Indexed.{Indexed}
+use Rattle.homeo_site.proofs.OwnLookups.{residual_within}
+use Rattle.homeo_forecast.proofs.Touching.{index_below, writes_there, clauses_there, freezes_there}
 use Rattle.homeo_forecast.proofs.prepared.Prepared.touched.Goals as goal
 
 pub bounds-as_slice-place : goal.bounds-as_slice-place
@@ -18,7 +17,40 @@ bounds-as_slice-place c =
     (residual_within w p n c.requires.prepared.plan c.place-place.ensures.within)
 
 pub bounds-as_slice-site : goal.bounds-as_slice-site
-bounds-as_slice-site c = ?
+bounds-as_slice-site c =
+    subst (λ (l : List Indexed). c.args.site < length l) (sym c.as_slice-2.ensures)
+    (index_below (plain_workload c.args.c.now) c.args.self.now c.requires.prepared c.args.call c.requires.exists c.args.site c.requires.site)
 
 pub clauses_touched-requires : goal.clauses_touched-requires
-clauses_touched-requires c = ?
+clauses_touched-requires c =
+    writes_there (plain_workload c.args.c.now) c.args.self.now c.requires.prepared c.args.call c.requires.exists c.args.site c.requires.site
+    c.place-place.result c.place-place.ensures.within c.place-place.ensures.place c.as_slice.result.now c.index-as_slice-place.result
+    c.as_slice-commands.result.now (c.as_slice.ensures ∙ ap (λ (q : RoundPlan). q.residuals.items) c.deref.ensures) c.index-as_slice-place.is
+    c.as_slice-commands.ensures c.index-as_slice-site.result
+    (subst (λ (l : List Indexed). c.index-as_slice-site.result ≡ get_or l c.args.site c.index-as_slice-site.result) c.as_slice-2.ensures c.index-as_slice-site.is)
+
+pub freezes_touched-requires : goal.freezes_touched-requires
+freezes_touched-requires c =
+    writes_there (plain_workload c.args.c.now) c.args.self.now c.requires.prepared c.args.call c.requires.exists c.args.site c.requires.site
+    c.place-place.result c.place-place.ensures.within c.place-place.ensures.place c.as_slice.result.now c.index-as_slice-place.result
+    c.as_slice-commands.result.now (c.as_slice.ensures ∙ ap (λ (q : RoundPlan). q.residuals.items) c.deref.ensures) c.index-as_slice-place.is
+    c.as_slice-commands.ensures c.index-as_slice-site.result
+    (subst (λ (l : List Indexed). c.index-as_slice-site.result ≡ get_or l c.args.site c.index-as_slice-site.result) c.as_slice-2.ensures c.index-as_slice-site.is)
+
+pub returns-clause-clauses : goal.returns-clause-clauses
+returns-clause-clauses c =
+    c.in_ok-clauses.ensures
+    ∙ clauses_there (plain_workload c.args.c.now) c.args.self.now c.requires.prepared c.args.call c.requires.exists c.args.site c.requires.site
+    c.place-place.result c.place-place.ensures.within c.place-place.ensures.place c.as_slice.result.now c.index-as_slice-place.result
+    c.as_slice-commands.result.now (c.as_slice.ensures ∙ ap (λ (q : RoundPlan). q.residuals.items) c.deref.ensures) c.index-as_slice-place.is
+    c.as_slice-commands.ensures c.index-as_slice-site.result
+    (subst (λ (l : List Indexed). c.index-as_slice-site.result ≡ get_or l c.args.site c.index-as_slice-site.result) c.as_slice-2.ensures c.index-as_slice-site.is)
+
+pub returns-clause-freezes : goal.returns-clause-freezes
+returns-clause-freezes c =
+    c.in_ok-freezes.ensures
+    ∙ freezes_there (plain_workload c.args.c.now) c.args.self.now c.requires.prepared c.args.call c.requires.exists c.args.site c.requires.site
+    c.place-place.result c.place-place.ensures.within c.place-place.ensures.place c.as_slice.result.now c.index-as_slice-place.result
+    c.as_slice-commands.result.now (c.as_slice.ensures ∙ ap (λ (q : RoundPlan). q.residuals.items) c.deref.ensures) c.index-as_slice-place.is
+    c.as_slice-commands.ensures c.index-as_slice-site.result
+    (subst (λ (l : List Indexed). c.index-as_slice-site.result ≡ get_or l c.args.site c.index-as_slice-site.result) c.as_slice-2.ensures c.index-as_slice-site.is)

@@ -1,11 +1,13 @@
-use Rattle.std.proofs.Common.{◌≡◌, ◌∙◌, ◌^◌, ◌<ℤ◌, pos, arith, subst, to_z, of_z}
+use Rattle.std.proofs.Common.{◌≡◌, ◌^◌, ◌<ℤ◌, pos, arith, to_z, of_z}
 use Rattle.std.specs.Int.{w128}
 use Rattle.std.proofs.lemmas.Int.{ints}
+use Rattle.homeo_plan.specs.PlanView.{plain_clause}
 use Rattle.homeo_forecast.proofs.RoomSteps.{new_room}
 use Rattle.homeo_forecast.proofs.rooms.Room.new.Goals as goal
 
 pub returns : goal.returns
-returns c = λ cl is.
-    let whole : to_z w128 (of_z w128 c.args.slack) ≡ c.args.slack = omega (arith, ints, c.ranges.slack) in
-    let small : c.args.slack <ℤ pos (2 ^ 127) = omega (arith, ints, c.ranges.slack) in
-    new_room c.args.sites cl _ c.in_ok-peaks.ensures (whole ∙ is) (subst (λ z. z <ℤ pos (2 ^ 127)) is small)
+returns c =
+    let slack = c.args.clause.now.slack in
+    let whole : to_z w128 (of_z w128 slack) ≡ slack = omega (arith, ints, c.ranges) in
+    let small : slack <ℤ pos (2 ^ 127) = omega (arith, ints, c.ranges) in
+    new_room c.args.sites (plain_clause c.args.clause.now) _ c.in_ok-peaks.ensures whole small
