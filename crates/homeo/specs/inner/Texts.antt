@@ -1,5 +1,5 @@
 -- The commands on a text: what a text is read for under each, and what each makes of a workload, or refuses.
-use Rattle.std.specs.Prelude.{◌≡◌, ℕ, ⊤, ⊥, List}
+use Rattle.std.specs.Prelude.{◌≡◌, ℕ, ⊤, List}
 use Rattle.homeo_syntax.specs.declared.workload.Refusal.{Refusal}
 use Rattle.homeo_syntax.specs.Source as s
 use Rattle.homeo_meaning.specs.Initial.{initial}

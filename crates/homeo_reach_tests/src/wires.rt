@@ -1,0 +1,173 @@
+//! Two nodes that close a round by packets.
+
+ghost use Rattle.std.specs.Prelude.{◌≡◌, IfOk, IsTrue};
+ghost use Rattle.homeo_syntax.specs.SourceView.{plain_workload};
+ghost use Rattle.homeo_wire.specs.WireView.{CanHappen};
+
+use homeo_accept::{TextRefusal, accepted};
+use homeo_build::Compiled;
+use homeo_build::compile::compile;
+use homeo_core::clients::{client_count, site_count};
+use homeo_meaning::{Accepted, Purpose};
+use homeo_plan::Broken;
+use homeo_report::report;
+use homeo_wire::{Event, Step, Wire, count_calls, drive};
+use std::alloc::{AllocError, Global};
+use std::process::Abort;
+use std::sync::Arc;
+use std::test::Fail;
+
+/// Two clients at two sites buy from a stock of five.
+const SHOP: &str = "workload 1
+sites 2
+object stock in 0..10 = 5
+transaction buy(n in 1..3) { s := read(stock); if n <= s then { write(stock = s - n); print(1) } else print(0) }
+client a at 0 { buy(1); buy(1); buy(1) }
+client b at 1 { buy(1) }
+end
+";
+
+/// The report where a's third call closes the first round.
+const REPORT: &str = "round 0
+site 0
+a 1 buy(1): 1
+a 2 buy(1): 1
+site 1
+b 1 buy(1): 1
+close 0 clause 0 sum 3 bound 2
+a 3 buy(1): 1
+round 1
+site 0
+site 1
+database
+stock = 1
+rounds 2 calls 4
+";
+
+fn accepted_text(rt: &impl Abort, alloc: Global, text: &str) -> Result<Accepted, Fail> {
+    assert!(rt; text.len() <= 1_048_576);
+    match accepted(alloc, text.as_bytes(), Purpose::Run) {
+        Ok(w) => Ok(w),
+        Err(TextRefusal::Memory) => Err(Fail::from(AllocError)),
+        Err(TextRefusal::Refused(refusal)) => panic!(rt; "refused {refusal:?}"),
+    }
+}
+
+fn compiled(rt: &impl Abort, alloc: Global, text: &str) -> Result<Arc<Compiled>, Fail> {
+    let w = accepted_text(rt, alloc, text)?;
+    let c = compile(alloc, w)?;
+    Ok(Arc::new(alloc, c)?)
+}
+
+/// Whether the client that an event is of, or the site and the packet, is there.
+#[tactic(auto, unfolding(homeo_wire::specs::Key::words))]
+fn can_happen(wire: &Wire, event: Event) -> bool
+    ensures { IsTrue result → CanHappen (plain_workload wire.now.work) wire.now.world event }
+{
+    match event {
+        Event::Call { client } => u64::from(client) < client_count(wire.workload()),
+        Event::Deliver { site, packet } => site < site_count(wire.workload())
+            && packet < wire.sent(),
+    }
+}
+
+fn happen(alloc: Global, wire: &mut Wire, event: Event) -> Result<Step, Fail> {
+    if !can_happen(wire, event) {
+        return Err(Fail::from("nothing that is there"));
+    }
+    Ok(wire.event(alloc, event)?)
+}
+
+/// Makes a call that keeps the treaty and prints 1.
+fn buy(rt: &impl Abort, alloc: Global, wire: &mut Wire, client: u32) -> Result<(), Fail> {
+    match happen(alloc, wire, Event::Call { client })? {
+        Step::Kept(prints) => assert_eq!(rt; prints.as_slice(), [1].as_slice()),
+        _ => panic!(rt; "a call that keeps the treaty"),
+    }
+    Ok(())
+}
+
+/// Whether a packet is taken that comes to a site.
+fn is_taken(alloc: Global, wire: &mut Wire, site: u32, packet: u64) -> Result<bool, Fail> {
+    match happen(alloc, wire, Event::Deliver { site, packet })? {
+        Step::Taken => Ok(true),
+        Step::Ignored => Ok(false),
+        _ => Err(Fail::from("a packet came")),
+    }
+}
+
+/// The round of a site, and the first value of its base.
+fn round_and_base(wire: &Wire, site: u32) -> Result<(u64, Option<i64>), Fail> {
+    if site >= site_count(wire.workload()) {
+        return Err(Fail::from("no such site"));
+    }
+    Ok((
+        wire.round(site),
+        wire.base(site).as_slice().first().copied(),
+    ))
+}
+
+/// How many calls of the first client aren't in the history.
+fn left_of_first(wire: &Wire) -> Result<u64, Fail> {
+    if client_count(wire.workload()) == 0 {
+        return Err(Fail::from("no client"));
+    }
+    Ok(wire.left(0))
+}
+
+#[test]
+fn two_nodes_close_a_round_by_packets(rt: HostRuntime) -> Result<(), Fail> {
+    let c = compiled(&rt, rt.alloc(), SHOP)?;
+    let mut wire = Wire::begin(rt.alloc(), Arc::try_clone(&c)?)?;
+    for client in [0, 0, 1] {
+        buy(&rt, rt.alloc(), &mut wire, client)?;
+    }
+    let broken = match happen(rt.alloc(), &mut wire, Event::Call { client: 0 })? {
+        Step::Wanted(broken) => broken,
+        _ => panic!(rt; "a call that breaks the treaty"),
+    };
+    assert!(rt;
+        broken
+            == Broken {
+                clause: 0,
+                sum: 3,
+                bound: 2
+            }
+    );
+    for (site, packet, taken) in [
+        (0, 0, true),
+        (1, 1, true),
+        (1, 1, false),
+        (0, 1, true),
+        (0, 2, true),
+    ] {
+        assert_eq!(rt; is_taken(rt.alloc(), &mut wire, site, packet)?, taken);
+    }
+    assert!(rt; round_and_base(&wire, 0)? == (1, Some(1)));
+    match happen(rt.alloc(), &mut wire, Event::Call { client: 1 })? {
+        Step::Held => {}
+        _ => panic!(rt; "site 1 is stopped"),
+    }
+    assert!(rt; is_taken(rt.alloc(), &mut wire, 1, 3)?);
+    assert!(rt; round_and_base(&wire, 1)? == (1, Some(1)));
+    assert_eq!(rt; left_of_first(&wire)?, 0);
+    let history = wire.finish(rt.alloc())?;
+    let text = report(rt.alloc(), &history, c.workload())?;
+    assert_eq!(rt; text.as_slice(), REPORT.as_bytes());
+    Ok(())
+}
+
+#[test]
+fn a_number_chooses_events_that_make_all_calls(rt: HostRuntime) -> Result<(), Fail> {
+    for number in [1, 2] {
+        let c = compiled(&rt, rt.alloc(), SHOP)?;
+        match count_calls(c.workload()) {
+            Ok(calls) => assert_eq!(rt; calls, 4),
+            Err(_) => panic!(rt; "four calls"),
+        }
+        let history = drive(rt.alloc(), c, number)?;
+        assert_eq!(rt; history.rounds.as_slice().len(), 2);
+        assert_eq!(rt; history.last.as_slice(), [1].as_slice());
+    }
+    Ok(())
+}
