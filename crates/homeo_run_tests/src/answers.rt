@@ -15,7 +15,7 @@ use homeo_cluster::{ClientPass, Cluster, ClusterNaming, Gate, OpenGate, blank_fo
 use homeo_history::{Answer, Entry, History, Path};
 use homeo_meaning::Accepted;
 use homeo_notes::Blank;
-use homeo_report::{report, summary};
+use homeo_report::report;
 use homeo_syntax::{List, Memory};
 use std::alloc::Global;
 use std::marker::Brand;
@@ -200,11 +200,6 @@ stock = 1
 rounds 2 calls 4
 ";
     assert_eq!(rt; told.as_slice(), expected.as_slice());
-    let summed = summary(alloc, &day.history, compiled.workload())?;
-    assert_eq!(rt;
-        summed.as_slice(),
-        b"calls 4\nprints 4\nstock = 1\n".as_slice()
-    );
     Ok(())
 }
 

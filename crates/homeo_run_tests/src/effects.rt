@@ -2,21 +2,21 @@
 
 ghost use Rattle.std.specs.Prelude.{◌≡◌};
 ghost use Rattle.homeo_syntax.specs.SourceView.{plain_workload};
-ghost use Rattle.homeo_meaning.specs.Acceptance.{IsAccepted};
 ghost use Rattle.homeo_build.specs.Plan.{IsPlanOf};
 ghost use Rattle.homeo_print.specs.Names.{object_names};
 
-use crate::texts::{THREE_AND_ONE, accepted, accepted_shop};
+use crate::texts::{THREE_AND_ONE, accepted, shop};
 use homeo_build::Compiled;
 use homeo_build::compile::compile;
-use homeo_build::treaties::treaties;
+use homeo_core::plan_at;
 use homeo_effect::{SiteEffects, TreatyIndex, effects};
 use homeo_eval::initial;
-use homeo_meaning::{Accepted, Database};
+use homeo_meaning::Database;
 use homeo_plan::{RoundPlan, Row};
 use homeo_print::{ObjectNames, print_row};
 use homeo_syntax::{LCommand, LCond, List, Memory, Workload};
 use std::alloc::Global;
+use std::process::Abort;
 use std::sync::Arc;
 use std::test::Fail;
 
@@ -39,9 +39,9 @@ fn first_effects(
     base: &Database,
     plan: &Arc<RoundPlan>,
 ) -> Result<SiteEffects, Fail>
-    requires accepted { IsAccepted (plain_workload c.now) }
     requires plan { IsPlanOf (plain_workload c.now) base.now.items plan.now.value }
 {
+    let _workload = c.workload().workload();
     let template = &plan.template;
     if template.clauses.as_slice().len() > 9 || template.freezes.as_slice().len() > 9 {
         return Err(Fail::from("a small treaty"));
@@ -70,41 +70,49 @@ fn printed(alloc: Global, w: &Workload, commands: List<LCommand>) -> Result<Vec<
     Ok(out)
 }
 
+/// That of the round that begins at the starting values.
+fn effects_at_start(alloc: Global, c: &Compiled) -> Result<SiteEffects, Fail> {
+    let base = initial(alloc, c.workload())?;
+    let plan = plan_at(alloc, c, &base)?;
+    first_effects(alloc, c, &base, &plan)
+}
+
 /// The commands that the first ground call is at its own site in the round that begins at the starting values, as a text, and the
 /// numbers of the clauses and freezes that it touches.
 #[derive(Drop)]
-struct Touched {
+struct Touch {
     text: Vec<u8>,
     clauses: List<u32>,
     freezes: List<u32>,
 }
 
-fn touched(alloc: Global, w: Accepted) -> Result<Touched, Fail> {
-    let base = initial(alloc, &w)?;
-    let compiled = compile(alloc, w)?;
-    let plan = Arc::new(alloc, treaties(alloc, &compiled, &base, None)?)?;
-    let SiteEffects {
-        commands,
-        clauses,
-        freezes,
-    } = first_effects(alloc, &compiled, &base, &plan)?;
-    let text = printed(alloc, compiled.workload().workload(), commands)?;
-    Ok(Touched {
+fn first_touched(alloc: Global, c: &Compiled) -> Result<Touch, Fail> {
+    let effects = effects_at_start(alloc, c)?;
+    let text = printed(alloc, c.workload().workload(), effects.commands)?;
+    Ok(Touch {
         text,
-        clauses,
-        freezes,
+        clauses: effects.clauses,
+        freezes: effects.freezes,
     })
+}
+
+/// That of a text.
+fn touched(rt: &impl Abort, alloc: Global, text: &str) -> Result<Touch, Fail> {
+    let w = accepted(rt, alloc, text)?;
+    let c = compile(alloc, w)?;
+    first_touched(alloc, &c)
 }
 
 #[test]
 fn a_call_touches_what_it_writes_at_its_site(rt: HostRuntime) -> Result<(), Fail> {
     let alloc = rt.alloc();
-    let sale = touched(alloc, accepted_shop(&rt, alloc, THREE_AND_ONE)?)?;
-    let commands = b"do { s = 5 + stock@0 + 0; write(stock@0 = (s + -1) + -5 + 0); print(1) }\n";
+    let text = shop(alloc, THREE_AND_ONE)?;
+    let sale = touched(&rt, alloc, text.as_str())?;
+    let commands = b"do { s := 5 + stock@0 + 0; write(stock@0 = (s + -1) + -5 + 0); print(1) }\n";
     assert!(rt; sale.text.as_slice().ends_with(commands.as_slice()));
     assert_eq!(rt; sale.clauses.as_slice(), [0, 1].as_slice());
     assert_eq!(rt; sale.freezes.as_slice(), [].as_slice());
-    let print = touched(alloc, accepted(&rt, alloc, SHOWN)?)?;
+    let print = touched(&rt, alloc, SHOWN)?;
     assert_eq!(rt; print.clauses.as_slice(), [].as_slice());
     assert_eq!(rt; print.freezes.as_slice(), [].as_slice());
     Ok(())

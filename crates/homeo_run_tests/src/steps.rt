@@ -1,6 +1,6 @@
 //! Calls of two clients at two sites, made by a core.
 
-ghost use Rattle.std.specs.Prelude.{◌≡◌, ◌<◌, ◌≤◌, length, slice_index_or, IfOk};
+ghost use Rattle.std.specs.Prelude.{◌≡◌, ◌<◌, ◌≤◌, length, slice_index_or, IfOk, OnOk};
 ghost use Rattle.homeo_syntax.specs.SourceView.{plain_workload};
 ghost use Rattle.homeo_history.specs.HistoryView.{plain_history};
 ghost use Rattle.homeo_history.specs.Legal.{call_count};
@@ -12,9 +12,10 @@ use homeo_build::compile::compile;
 use homeo_core::Core;
 use homeo_history::{Answer, History, Path};
 use homeo_plan::Broken;
-use homeo_report::report;
+use homeo_report::{report, summary};
 use homeo_syntax::{List, Memory};
 use std::alloc::Global;
+use std::process::Abort;
 use std::sync::Arc;
 use std::test::Fail;
 
@@ -71,6 +72,7 @@ fn client_count(c: &Compiled) -> u64
 }
 
 /// A core of a workload with two clients.
+#[tactic(auto, unfolding(homeo_core::specs::Key::words))]
 fn core_of(alloc: Global, c: &Arc<Compiled>) -> Result<Core, Fail>
     ensures work { IfOk result (λ core. core.work ≡ c.now.value) }
     ensures clients { IfOk result (λ core. 2 ≤ length (plain_workload core.work).clients) }
@@ -98,15 +100,18 @@ fn make_all(alloc: Global, c: &Arc<Compiled>, order: &[u32]) -> Result<Made, Fai
     Ok(Made { answers, history })
 }
 
-#[test]
-fn a_call_that_breaks_its_treaty_closes_the_round(rt: HostRuntime) -> Result<(), Fail> {
-    let alloc = rt.alloc();
-    let c = Arc::new(
-        alloc,
-        compile(alloc, accepted_shop(&rt, alloc, THREE_AND_ONE)?)?,
-    )?;
-    let made = make_all(alloc, &c, &[0, 0, 1, 0])?;
-    match made.answers.as_slice() {
+/// The report and the summary of a history.
+fn told(alloc: Global, c: &Compiled, history: &History) -> Result<(Vec<u8>, Vec<u8>), Memory>
+    requires { CanReport (plain_workload c.now) (plain_history history.now) }
+{
+    let reported = report(alloc, history, c.workload())?;
+    let summed = summary(alloc, history, c.workload())?;
+    Ok((reported, summed))
+}
+
+/// The first client's third call closes the first round.
+fn check_answers(rt: &impl Abort, answers: &[Answer]) {
+    match answers {
         [first, _, other, last] => {
             assert_eq!(rt; first.prints.as_slice(), [1].as_slice());
             assert!(rt; first.path == Path::Local);
@@ -126,7 +131,12 @@ fn a_call_that_breaks_its_treaty_closes_the_round(rt: HostRuntime) -> Result<(),
         }
         _ => panic!(rt; "four answers"),
     }
-    match made.history.rounds.as_slice() {
+}
+
+/// The second round begins at what the first one left.
+fn check_rounds(rt: &impl Abort, history: &History) {
+    assert_eq!(rt; history.last.as_slice(), [1].as_slice());
+    match history.rounds.as_slice() {
         [closed, open] => {
             assert_eq!(rt; closed.base.as_slice(), [5].as_slice());
             assert!(rt; closed.closing.is_some());
@@ -135,7 +145,26 @@ fn a_call_that_breaks_its_treaty_closes_the_round(rt: HostRuntime) -> Result<(),
         }
         _ => panic!(rt; "two rounds"),
     }
-    let text = report(alloc, &made.history, c.workload())?;
-    assert_eq!(rt; text.as_slice(), REPORT.as_bytes());
+}
+
+fn compiled_shop(rt: &impl Abort, alloc: Global, clients: &str) -> Result<Arc<Compiled>, Fail> {
+    let w = accepted_shop(rt, alloc, clients)?;
+    let c = compile(alloc, w)?;
+    Ok(Arc::new(alloc, c)?)
+}
+
+#[test]
+fn a_call_that_breaks_its_treaty_closes_the_round(rt: HostRuntime) -> Result<(), Fail> {
+    let alloc = rt.alloc();
+    let c = compiled_shop(&rt, alloc, THREE_AND_ONE)?;
+    let made = make_all(alloc, &c, &[0, 0, 1, 0])?;
+    check_answers(&rt, made.answers.as_slice());
+    check_rounds(&rt, &made.history);
+    let (reported, summed) = told(alloc, &c, &made.history)?;
+    assert_eq!(rt; reported.as_slice(), REPORT.as_bytes());
+    assert_eq!(rt;
+        summed.as_slice(),
+        b"calls 4\nprints 4\nstock = 1\n".as_slice()
+    );
     Ok(())
 }
