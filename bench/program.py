@@ -37,7 +37,7 @@ def chosen(given=None):
             sys.exit(f"{pathlib.Path(sys.argv[0]).name}: there is no program {found}")
         return found
     if not is_current():
-        say = "the program isn't there, or its sources have changed: ./homeo looks, and builds it where it has to, in one to two minutes"
+        say = "the program isn't there, or its sources have changed: ./homeo looks, and builds it where it has to, in some two minutes"
         print(f"{pathlib.Path(sys.argv[0]).name}: {say} (or give a program by --program PATH)", file=sys.stderr, flush=True)
         built = run([str(ROOT / "homeo"), "steps"], input=b"workload 1 sites 1 end", stdout=subprocess.DEVNULL)
         if built.returncode:
