@@ -1,6 +1,7 @@
 mod Adding
 mod CheckedSteps
 mod Comparing
+mod Coursing
 mod FormParts
 mod FormSteps
 mod ItemForms

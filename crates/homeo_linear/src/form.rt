@@ -6,6 +6,7 @@ ghost use Rattle.homeo_plan.specs.FormSizes.{Numbers};
 ghost use Rattle.homeo_plan.specs.Linear.{constant_form, delta_form, add_forms, scale_form, multiply_forms, mix_forms, is_pure, support};
 ghost use Rattle.homeo_plan.specs.PlanView.{plain_linear};
 ghost use Rattle.homeo_plan.specs.Limit.{form_limit};
+ghost use Rattle.homeo_follow.specs.Follow.{object_form};
 ghost use Rattle.homeo_linear.specs.inner.Order.{InOrder};
 ghost use Rattle.homeo_linear.specs.inner.Terms.{term_form};
 
@@ -68,6 +69,22 @@ impl Form {
         terms.push(Term { delta, factor: 1 })?;
         Ok(Form {
             constant: 0,
+            terms,
+            mixed: Vec::new(alloc),
+        })
+    }
+
+    /// The form of an object with this base, which is whole.
+    pub(crate) fn object(alloc: Global, base: i64, object: u32) -> Result<Form, Memory>
+        ensures { IfOk result (λ f. f ≡ object_form base object) }
+    {
+        let mut terms = Vec::new(alloc);
+        terms.push(Term {
+            delta: Delta { object, site: 0 },
+            factor: 1,
+        })?;
+        Ok(Form {
+            constant: base as i128,
             terms,
             mixed: Vec::new(alloc),
         })

@@ -4,6 +4,7 @@
 mod checked;
 mod comparisons;
 mod conditions;
+mod course;
 mod deltas;
 mod expressions;
 mod following;

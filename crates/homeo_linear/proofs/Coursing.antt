@@ -1,0 +1,90 @@
+-- One command followed behind others.
+use Rattle.homeo_plan.specs.Key.{words as plan_words}
+use Rattle.homeo_follow.specs.Key.{words}
+use Rattle.homeo_syntax.specs.Key.{words as tree_words}
+use Rattle.std.proofs.Common.{◌≡◌, ℕ, ◌+◌, ◌<◌, ◌≤◌, Bool, true, false, cond, List, [], ◌∷◌, ◌++◌, map, drop, get_or, length, refl, sym, ap, ap₂, ◌∙◌, subst, append_assoc, append-nil}
+use Rattle.homeo_syntax.specs.Low as l
+use Rattle.homeo_syntax.specs.LowView.{low_commands, plain_lcommand}
+use Rattle.homeo_syntax.specs.declared.low.LCommand.{LCommand}
+use Rattle.homeo_meaning.proofs.Steps.{drop_next, drop_none}
+use Rattle.homeo_meaning.specs.Small.{IsSmall}
+use Rattle.homeo_plan.specs.Limit.{form_limit}
+use Rattle.homeo_plan.specs.Linear.{Linear, Forms}
+use Rattle.homeo_follow.specs.Follow.{passed, failed, holds_by, Followed, nothing, and_then, asked, follow, follow_all}
+use Rattle.homeo_follow.specs.FollowSizes.{CanBeFollowed, CanAllBeFollowed}
+use Rattle.homeo_linear.specs.inner.Kept.{kept_cond}
+
+pub then_nothing : (q : Followed) → q ≡ and_then q (nothing q.forms)
+unfolding words
+then_nothing q = λ i. record { atoms = sym (append-nil q.atoms) i; prints = sym (append-nil q.prints) i; written = sym (append-nil q.written) i; forms = q.forms }
+
+pub then_assoc : (p q r : Followed) → and_then (and_then p q) r ≡ and_then p (and_then q r)
+unfolding words
+then_assoc p q r = λ i. record { atoms = append_assoc p.atoms q.atoms r.atoms i; prints = append_assoc p.prints q.prints r.prints i; written = append_assoc p.written q.written r.written i; forms = r.forms }
+
+-- new forms, and nothing else
+pub then_forms : (p q : Followed) (f : Forms) → q.atoms ≡ p.atoms → q.prints ≡ p.prints → q.written ≡ p.written → q.forms ≡ f → q ≡ and_then p (nothing f)
+unfolding words
+then_forms p q f a b c d =
+    λ i. record { atoms = (a ∙ sym (append-nil p.atoms)) i; prints = (b ∙ sym (append-nil p.prints)) i; written = (c ∙ sym (append-nil p.written)) i; forms = d i }
+
+-- atoms that are asked, and then the rest
+asked_then : (p r : Followed) (fs : List Linear) (f : Forms) → and_then (and_then p (asked fs (nothing f))) r ≡ and_then p (asked fs r)
+unfolding words
+asked_then p r fs f =
+    then_assoc p (asked fs (nothing f)) r
+    ∙ ap (and_then p) (λ i. record { atoms = ap (λ l. l ++ r.atoms) (append-nil fs) i; prints = r.prints; written = r.written; forms = r.forms })
+
+-- a condition that was asked, and the branch that is taken
+module _ (p m n : Followed) (f : Forms) (t : l.Cond) (c d : l.Command) (holds : Bool) (is : holds ≡ holds_by f t) (asking : m ≡ and_then p (asked (kept_cond f t) (nothing f))) where
+  pub yes_taken : true ≡ holds → n ≡ and_then m (follow c f) → n ≡ and_then p (follow (l.If t c d) f)
+  unfolding words
+  yes_taken h e =
+      let held : holds_by f t ≡ true = sym (h ∙ is) in
+      e ∙ ap (λ q. and_then q (follow c f)) asking ∙ asked_then p (follow c f) (kept_cond f t) f
+      ∙ ap (λ b. and_then p (asked (cond b (passed f t) (failed f t)) (follow c f))) held
+      ∙ sym (ap (λ b. and_then p (cond b (asked (passed f t) (follow c f)) (asked (failed f t) (follow d f)))) held)
+
+  pub no_taken : false ≡ holds → n ≡ and_then m (follow d f) → n ≡ and_then p (follow (l.If t c d) f)
+  unfolding words
+  no_taken h e =
+      let held : holds_by f t ≡ false = sym (h ∙ is) in
+      e ∙ ap (λ q. and_then q (follow d f)) asking ∙ asked_then p (follow d f) (kept_cond f t) f
+      ∙ ap (λ b. and_then p (asked (cond b (passed f t) (failed f t)) (follow d f))) held
+      ∙ sym (ap (λ b. and_then p (cond b (asked (passed f t) (follow c f)) (asked (failed f t) (follow d f)))) held)
+
+-- ---- one command after another
+abbrev pub left : List LCommand → ℕ → l.Commands
+left cs i = low_commands (map plain_lcommand (drop i cs))
+
+-- what is followed of a whole list, where those from number i on are left
+pub record Along (q whole : Followed) (cs : List LCommand) (i : ℕ) : Type 0 where
+  pub can : CanAllBeFollowed (IsSmall form_limit) q.forms (left cs i)
+  pub same : and_then q (follow_all (left cs i) q.forms) ≡ whole
+
+pub along_first : (q whole : Followed) (cs : List LCommand) (i : ℕ) (c : LCommand) → i < length cs → c ≡ get_or cs i c → Along q whole cs i → CanBeFollowed (IsSmall form_limit) q.forms (plain_lcommand c)
+unfolding words tree_words
+along_first q whole cs i c h p s =
+    (subst (λ z. CanAllBeFollowed (IsSmall form_limit) q.forms (low_commands z)) (drop_next plain_lcommand cs i c h p) s.can).0
+
+pub along_next :
+    (q r whole : Followed) (cs : List LCommand) (i : ℕ) (c : LCommand) → i < length cs → c ≡ get_or cs i c → Along q whole cs i →
+    r ≡ and_then q (follow (plain_lcommand c) q.forms) → Along r whole cs (i + 1)
+unfolding words tree_words
+along_next q r whole cs i c h p s e =
+    let next = drop_next plain_lcommand cs i c h p in
+    let forms : r.forms ≡ (follow (plain_lcommand c) q.forms).forms = ap (λ (z : Followed). z.forms) e in
+    record {
+      can = subst (λ f. CanAllBeFollowed (IsSmall form_limit) f (left cs (i + 1))) (sym forms)
+          (subst (λ z. CanAllBeFollowed (IsSmall form_limit) q.forms (low_commands z)) next s.can).1;
+      same =
+          ap (λ (z : Followed). and_then z (follow_all (left cs (i + 1)) z.forms)) e
+          ∙ then_assoc q (follow (plain_lcommand c) q.forms) (follow_all (left cs (i + 1)) (follow (plain_lcommand c) q.forms).forms)
+          ∙ sym (ap (λ z. and_then q (follow_all (low_commands z) q.forms)) next)
+          ∙ s.same;
+    }
+
+pub along_end : (q whole : Followed) (cs : List LCommand) (i : ℕ) → length cs ≤ i → Along q whole cs i → q ≡ whole
+unfolding words tree_words
+along_end q whole cs i h s =
+    then_nothing q ∙ sym (ap (λ z. and_then q (follow_all (low_commands z) q.forms)) (drop_none plain_lcommand cs i h)) ∙ s.same
