@@ -1,27 +1,42 @@
 //! Commands over whole objects, followed along the branch that they take at a base.
 
-ghost use Rattle.std.specs.Prelude.{◌≡◌, ◌∷◌, [], ◌++◌, map, IfOk, OnOk};
-ghost use Rattle.homeo_syntax.specs.Low.{Command, Assign, Write, Print, If};
+ghost use Rattle.std.specs.Prelude.{◌≡◌, ℕ, [], ◌++◌, map, IfOk, OnOk};
+ghost use Rattle.homeo_syntax.specs.Low.{Assign, Write, Print};
 ghost use Rattle.homeo_syntax.specs.LowView.{low_commands, plain_lexpr, plain_lcond, plain_lcommand};
+ghost use Rattle.homeo_meaning.specs.LowMeaning.{BaseAt};
 ghost use Rattle.homeo_meaning.specs.Serial.{values_of};
 ghost use Rattle.homeo_meaning.specs.Small.{IsSmall};
-ghost use Rattle.homeo_plan.specs.FormSizes.{CanForm, CanCond};
+ghost use Rattle.homeo_plan.specs.FormSizes.{Numbers, CanForm, CanCond};
 ghost use Rattle.homeo_plan.specs.Limit.{form_limit};
-ghost use Rattle.homeo_plan.specs.PlanView.{plain_atom};
-ghost use Rattle.homeo_follow.specs.Follow.{nothing, and_then, asked, passed, failed, holds_by, follow, follow_all, object_forms, object_of};
-ghost use Rattle.homeo_follow.specs.FollowSizes.{CanBeFollowed, CanAllBeFollowed};
+ghost use Rattle.homeo_plan.specs.Linear.{add_deltas, support};
+ghost use Rattle.homeo_plan.specs.PlanView.{plain_atoms};
+ghost use Rattle.homeo_follow.specs.Follow.{nothing, and_then, asked, holds_by, follow, follow_all, object_delta, object_forms, object_of, followed, gain, print_needs, write_needs, needed};
+ghost use Rattle.homeo_follow.specs.FollowSizes.{AreNumbers, CanBeFollowed, CanAllBeFollowed};
 ghost use Rattle.homeo_linear.specs.Standing.{forms_of};
 ghost use Rattle.homeo_linear.specs.inner.Course.{followed_so};
 ghost use Rattle.homeo_linear.specs.inner.Kept.{kept_cond};
 
 use crate::conditions::{condition, push_all};
+use crate::deltas::joined;
 use crate::expressions::form;
 use crate::form::Form;
 use crate::standing::Standing;
-use homeo_plan::Atom;
-use homeo_split::{place_of, place_of_temp};
-use homeo_syntax::{LCommand, LCond, LExpr, Memory, SplitName, Temp};
+use homeo_meaning::Database;
+use homeo_meaning::padded::item_or;
+use homeo_plan::{Atom, AtomSet, Delta, FreezeSet};
+use homeo_split::{Place, place_of, place_of_temp};
+use homeo_syntax::{LCommand, LCond, LExpr, List, Memory, SplitName, Temp};
 use std::alloc::Global;
+
+/// What a command over whole objects asks and needs at a base, whichever site runs it. An object stands for its deltas at all
+/// sites, by the delta that it has at site 0.
+#[derive(Drop)]
+pub struct Followed {
+    /// What its tests ask, in their order.
+    pub atoms: AtomSet,
+    /// What it depends on, so that the deltas of other sites have to be 0 there.
+    pub needs: FreezeSet,
+}
 
 /// A command, as far as it was followed.
 #[derive(Drop)]
@@ -29,7 +44,8 @@ pub(crate) struct Course<'a> {
     standing: Standing<'a>,
     atoms: Vec<Atom>,
     prints: Vec<Form>,
-    written: Vec<u32>,
+    /// The objects written, as they were written, each by its delta at the one site.
+    written: Vec<Delta>,
 }
 
 impl<'a> Course<'a> {
@@ -74,7 +90,7 @@ impl<'a> Course<'a> {
     {
         let form = form(alloc, &self.standing, value)?;
         self.standing.set(place_of(target), form)?;
-        self.written.push(object_of(target))?;
+        self.written.push(delta_of(target))?;
         Ok(())
     }
 
@@ -89,15 +105,16 @@ impl<'a> Course<'a> {
     }
 }
 
-/// The object that a name names.
-#[tactic(auto, unfolding(homeo_follow::specs::Key::words))]
-fn object_of(name: SplitName) -> u32
-    ensures { result ≡ object_of name }
+/// The delta that stands for the object that a name names.
+#[tactic(auto, unfolding(homeo_plan::specs::Key::words, homeo_follow::specs::Key::words))]
+fn delta_of(name: SplitName) -> Delta
+    ensures { result ≡ object_delta (object_of name) }
 {
-    match name {
+    let object = match name {
         SplitName::Whole(object) | SplitName::Base(object) => object,
         SplitName::Delta { object, site: _ } => object,
-    }
+    };
+    Delta { object, site: 0 }
 }
 
 /// Follows a command.
@@ -136,5 +153,108 @@ fn follow_all(alloc: Global, commands: &[LCommand], course: &mut Course<'_>) -> 
     for command in commands {
         follow(alloc, command, course)?;
     }
+    Ok(())
+}
+
+/// Follows a command over whole objects along the branch that it takes at a base (this project's rule): an object is its base
+/// with its delta, which stands for its deltas at all sites. The command is followed by forms alone, and none is made of its
+/// transform.
+///
+/// No constant and no factor that is met in the forms of its tests, in their differences, in what it assigns, writes and
+/// prints and in what it leaves may be above 4 * 10^18 in size, with partial sums and products from left to right, and no number
+/// of the base.
+///
+/// # Errors
+///
+/// `Memory` when out of memory.
+pub fn followed(alloc: Global, command: &LCommand, base: &Database) -> Result<Followed, Memory>
+    requires can { CanBeFollowed (IsSmall form_limit) (object_forms (values_of base.now.items)) (plain_lcommand command.now) }
+    requires left { AreNumbers (IsSmall form_limit) (followed (values_of base.now.items) (plain_lcommand command.now)).forms }
+    requires base { (x : ℕ) → IsSmall form_limit (values_of base.now.items x) }
+    ensures atoms { IfOk result (λ r. plain_atoms r.atoms ≡ (followed (values_of base.now.items) (plain_lcommand command.now)).atoms) }
+    ensures needs { IfOk result (λ r. r.needs.deltas.items ≡
+        needed (values_of base.now.items) (followed (values_of base.now.items) (plain_lcommand command.now))) }
+{
+    let mut course = Course::new(alloc, base.as_slice());
+    follow(alloc, command, &mut course)?;
+    let Course {
+        standing,
+        atoms,
+        prints,
+        written,
+    } = course;
+    let needed = needed(alloc, base.as_slice(), &standing, written, prints)?;
+    Ok(Followed {
+        atoms: AtomSet {
+            atoms: List::from_vec(atoms),
+        },
+        needs: FreezeSet {
+            deltas: List::from_vec(needed),
+        },
+    })
+}
+
+/// What the forms of prints, and the gains of the objects written, depend on.
+fn needed(
+    alloc: Global,
+    base: &[i64],
+    standing: &Standing,
+    written: Vec<Delta>,
+    prints: Vec<Form>,
+) -> Result<Vec<Delta>, Memory>
+    requires left { AreNumbers (IsSmall form_limit) (forms_of standing.now) }
+    requires base { (x : ℕ) → IsSmall form_limit (values_of base.now x) }
+    ensures { IfOk result (λ v. v.items ≡
+        print_needs prints.items (write_needs (values_of base.now) (forms_of standing.now) (map (λ d. d.object) written.items))) }
+{
+    let mut prints = prints;
+    let written = joined(alloc, written)?;
+    let mut needed = gained(alloc, base, standing, written.as_slice())?;
+    while let Some(form) = prints.pop() {
+        push_support(alloc, &mut needed, &form)?;
+    }
+    joined(alloc, needed)
+}
+
+/// What the gains of these objects depend on, in no order, and each delta as often as it is needed.
+fn gained(
+    alloc: Global,
+    base: &[i64],
+    standing: &Standing,
+    written: &[Delta],
+) -> Result<Vec<Delta>, Memory>
+    requires left { AreNumbers (IsSmall form_limit) (forms_of standing.now) }
+    requires base { (x : ℕ) → IsSmall form_limit (values_of base.now x) }
+    ensures { IfOk result (λ v. add_deltas v.items [] ≡
+        write_needs (values_of base.now) (forms_of standing.now) (map (λ d. d.object) written.now)) }
+{
+    let mut needed = Vec::new(alloc);
+    let mut place = written.len();
+    while place > 0 {
+        place -= 1;
+        let gain = gain(alloc, base, standing, written[place].object)?;
+        push_support(alloc, &mut needed, &gain)?;
+    }
+    Ok(needed)
+}
+
+/// What an object gains where the form that stands for it is written to it.
+fn gain(alloc: Global, base: &[i64], standing: &Standing, object: u32) -> Result<Form, Memory>
+    requires left { Numbers (IsSmall form_limit) (forms_of standing.now (BaseAt object)) }
+    requires base { IsSmall form_limit (values_of base.now object) }
+    ensures { IfOk result (λ f. f ≡ gain (values_of base.now object) object (forms_of standing.now (BaseAt object))) }
+{
+    let written = standing.form_at(alloc, Place::Base(object))?;
+    let before = Form::object(alloc, item_or(base, object as usize, 0), object)?;
+    let lost = before.times(alloc, -1)?;
+    written.plus(alloc, &lost)
+}
+
+/// Puts each delta of a form behind the others.
+fn push_support(alloc: Global, deltas: &mut Vec<Delta>, form: &Form) -> Result<(), Memory>
+    ensures { OnOk result (deltas.new.items ≡ deltas.old.items ++ support form.now) }
+{
+    let more = form.support(alloc)?;
+    deltas.extend_from_slice(more.as_slice())?;
     Ok(())
 }

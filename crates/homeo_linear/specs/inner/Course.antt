@@ -6,4 +6,4 @@ use Rattle.homeo_linear.specs.Standing.{forms_of}
 use Rattle.homeo_linear.specs.declared.course.Course.{Course}
 
 abbrev pub followed_so : Course → Followed
-followed_so c = record { atoms = map plain_atom c.atoms.items; prints = c.prints.items; written = c.written.items; forms = forms_of c.standing }
+followed_so c = record { atoms = map plain_atom c.atoms.items; prints = c.prints.items; written = map (λ d. d.object) c.written.items; forms = forms_of c.standing }
