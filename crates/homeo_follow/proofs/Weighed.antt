@@ -2,27 +2,62 @@
 use Rattle.homeo_meaning.specs.Key.{words as meaning_words}
 use Rattle.homeo_plan.specs.Key.{words as plan_words}
 use Rattle.homeo_follow.specs.Key.{words}
-use Rattle.std.proofs.Common.{◌≡◌, ℕ, ◌+◌, ◌*◌, ◌≤◌, max, Bool, true, false, cond, ℤ, pos, ◌+ℤ◌, arith}
+use Rattle.std.proofs.Common.{◌≡◌, ℕ, ◌+◌, ◌*◌, ◌≤◌, max, Bool, true, false, cond, List, [], ◌∷◌, ℤ, pos, ◌+ℤ◌, arith}
 use Rattle.std.specs.Int.RustNames.{unsigned_abs}
 use Rattle.std.proofs.lemmas.Bool.{and_parts}
 use Rattle.homeo_syntax.specs.Low.{Expr, Exprs, Literal, OfTemp, Read, Sum, Product, Neg, NoExpr, MoreExpr, Test, Cond, True, Not, Comparison, NoTest, MoreTest, Command, Commands, Skip, Assign, Write, Print, Seq, If, NoCommand, MoreCommand}
-use Rattle.homeo_meaning.specs.Bounds.{all_bounds, AllWithin}
+use Rattle.homeo_syntax.specs.Source as s
+use Rattle.homeo_meaning.specs.Acceptance.{weight_limit, IsAccepted}
+use Rattle.homeo_meaning.specs.Bounds.{all_bounds, AllWithin, IsWithin}
+use Rattle.homeo_meaning.specs.CallForm.{ground_form}
+use Rattle.homeo_meaning.specs.Calls.{IsGroundCall}
+use Rattle.homeo_meaning.specs.Ground.{Ground}
 use Rattle.homeo_meaning.specs.LowMeaning.{Location, TempAt, BaseAt, DeltaAt, location_of, same_location, put}
 use Rattle.homeo_meaning.specs.LowWeights.{weight, sum_weight, product_weight, after, after_all, is_light_expr, is_light_test, is_light_cond, is_light, are_light, first_weights, weight_at}
-use Rattle.homeo_meaning.specs.Schema.{Schema}
+use Rattle.homeo_meaning.specs.Schema.{Schema, schema_of}
+use Rattle.homeo_meaning.specs.Serial.{values_of}
 use Rattle.homeo_meaning.specs.Small.{IsSmall}
+use Rattle.homeo_meaning.proofs.LightCalls.{ground_call_light}
+use Rattle.homeo_meaning.proofs.Sound.{sound}
+use Rattle.homeo_meaning.proofs.Within.{all_within}
+use Rattle.homeo_plan.specs.Limit.{form_limit}
+use Rattle.homeo_plan.proofs.GroundNumbers.{values_small}
+use Rattle.homeo_plan.specs.Each.{Each}
+use Rattle.homeo_plan.specs.declared.forms.Term.{Term}
 use Rattle.homeo_plan.specs.Linear.{Linear, constant_form, add_forms, multiply_forms, same_delta, Forms, form, sum_form, product_form}
-use Rattle.homeo_plan.specs.FormSizes.{CanForm, CanSum, CanProduct, CanTest, CanCond}
+use Rattle.homeo_plan.specs.FormSizes.{Numbers, CanForm, CanSum, CanProduct, CanSubtract, CanTest, CanCond}
 use Rattle.homeo_plan.proofs.Sizes.{Within, numbers, wider, within_constant, within_add, within_negated, within_multiply}
 use Rattle.homeo_plan.proofs.Made.{Made, one_weight, one_product, one_mul, factor_le}
 use Rattle.homeo_plan.proofs.MadeTests.{weight_small, subtract}
 use Rattle.homeo_plan.proofs.SmallForms.{size_at, one_at}
-use Rattle.homeo_follow.specs.Follow.{holds_by, passed, failed, asked, follow, follow_all, object_delta, object_form, object_forms}
+use Rattle.homeo_follow.specs.Follow.{holds_by, passed, failed, asked, follow, follow_all, object_delta, object_form, object_forms, followed}
 use Rattle.homeo_follow.specs.FollowSizes.{AreNumbers, CanBeFollowed, CanAllBeFollowed}
 
-module _ (b : ℕ) where
+module _ (b limit : ℕ) (fits : 2 * b + 1 ≤ limit) where
   abbrev P : ℤ → Type 0
-  P = IsSmall (2 * b + 1)
+  P = IsSmall limit
+
+  small_wider : (z : ℤ) → IsSmall (2 * b + 1) z → P z
+  unfolding meaning_words
+  small_wider z h = omega (arith, fits, h)
+
+  each_wider : (ts : List Term) → Each (λ t. IsSmall (2 * b + 1) t.factor) ts → Each (λ t. P t.factor) ts
+  unfolding plan_words
+  each_wider [] h = tt
+  each_wider (t ∷ ts) h = (small_wider t.factor h.0, each_wider ts h.1)
+
+  numbers_wider : (a : Linear) → Numbers (IsSmall (2 * b + 1)) a → Numbers P a
+  numbers_wider a h = record { constant = small_wider a.constant h.constant; factors = each_wider a.terms h.factors }
+
+  apart : (x y : Linear) → Within b x → Within b y → CanSubtract P x y
+  apart x y v w =
+      let s = subtract b x y v w in
+      record {
+        negated = numbers_wider _ s.negated;
+        apart = numbers_wider _ s.apart;
+        or_less = numbers_wider _ s.or_less;
+        more = numbers_wider _ s.more;
+      }
 
   -- the weights v bound the forms f, and none of these is larger than b
   pub record Weighs (v : Location → ℕ) (f : Forms) : Type 0 where
@@ -37,13 +72,13 @@ module _ (b : ℕ) where
       pub make : (e : Expr) → weight e v ≤ b → Made (CanForm P f e) (weight e v) (form f e)
       make (Literal n) l =
           let w = within_constant (weight (Literal n) v) n (omega arith) in
-          record { can = numbers (2 * b + 1) (weight (Literal n) v) (constant_form n) (omega (arith, l)) w; within = w }
+          record { can = numbers limit (weight (Literal n) v) (constant_form n) (omega (arith, l, fits)) w; within = w }
       make (OfTemp t) l =
           let w = h.within (TempAt t) in
-          record { can = numbers (2 * b + 1) (v (TempAt t)) (f (TempAt t)) (omega (arith, l)) w; within = w }
+          record { can = numbers limit (v (TempAt t)) (f (TempAt t)) (omega (arith, l, fits)) w; within = w }
       make (Read x) l =
           let w = h.within (location_of x) in
-          record { can = numbers (2 * b + 1) (v (location_of x)) (f (location_of x)) (omega (arith, l)) w; within = w }
+          record { can = numbers limit (v (location_of x)) (f (location_of x)) (omega (arith, l, fits)) w; within = w }
       make (Sum es) l =
           let r = sum_make es (constant_form (pos 0)) 0 (within_constant 0 (pos 0) (omega arith)) (omega (arith, l)) in
           record { can = r.can; within = wider (weight (Sum es) v) (0 + sum_weight es v) _ (omega arith) r.within }
@@ -53,18 +88,18 @@ module _ (b : ℕ) where
       make (Neg e) l =
           let r = make e l in
           let w = within_negated (weight e v) (form f e) r.within in
-          record { can = (r.can, numbers (2 * b + 1) (weight e v) _ (omega (arith, l)) w); within = w }
+          record { can = (r.can, numbers limit (weight e v) _ (omega (arith, l, fits)) w); within = w }
 
       sum_make :
           (es : Exprs) (a : Linear) (m : ℕ) → Within m a → m + sum_weight es v ≤ b →
           Made (CanSum P f a es) (m + sum_weight es v) (sum_form f a es)
       sum_make NoExpr a m w l =
-          record { can = numbers (2 * b + 1) m a (omega (arith, l)) w; within = wider (m + 0) m a (omega arith) w }
+          record { can = numbers limit m a (omega (arith, l, fits)) w; within = wider (m + 0) m a (omega arith) w }
       sum_make (MoreExpr e es) a m w l =
           let x = make e (omega (arith, l)) in
           let r = sum_make es (add_forms (form f e) a) (weight e v + m) (within_add (weight e v) m (form f e) a x.within w) (omega (arith, l)) in
           record {
-            can = (numbers (2 * b + 1) m a (omega (arith, l)) w, x.can, r.can);
+            can = (numbers limit m a (omega (arith, l, fits)) w, x.can, r.can);
             within = wider (m + (weight e v + sum_weight es v)) (weight e v + m + sum_weight es v) _ (omega arith) r.within;
           }
 
@@ -72,7 +107,7 @@ module _ (b : ℕ) where
           (es : Exprs) (a : Linear) (m : ℕ) → Within m a → 1 ≤ m → m * product_weight es v ≤ b →
           Made (CanProduct P f a es) (m * product_weight es v) (product_form f a es)
       product_make NoExpr a m w one l =
-          record { can = numbers (2 * b + 1) m a (omega (arith, l)) w; within = wider (m * 1) m a (omega arith) w }
+          record { can = numbers limit m a (omega (arith, l, fits)) w; within = wider (m * 1) m a (omega arith) w }
       product_make (MoreExpr e es) a m w one l =
           let we = weight e v in
           let rest = product_weight es v in
@@ -86,7 +121,7 @@ module _ (b : ℕ) where
           product_make es (multiply_forms a (form f e)) (m * we) (within_multiply m we a (form f e) w x.within) (one_mul m we one one_e)
           (omega (arith, l, same)) in
           record {
-            can = (numbers (2 * b + 1) m a (omega (arith, l, part)) w, x.can, r.can);
+            can = (numbers limit m a (omega (arith, l, part, fits)) w, x.can, r.can);
             within = wider (m * (we * rest)) ((m * we) * rest) _ (omega (arith, same)) r.within;
           }
 
@@ -105,7 +140,7 @@ module _ (b : ℕ) where
           let parts = and_parts (is_light_expr b x v) _ l in
           let p = made x parts.0 in
           let q = made y parts.1 in
-          (p.can, q.can, subtract b _ _ p.within q.within, subtract b _ _ q.within p.within)
+          (p.can, q.can, apart _ _ p.within q.within, apart _ _ q.within p.within)
 
       pub made_cond : (c : Cond) → is_light_cond b c v ≡ true → CanCond P f c
       made_cond NoTest l = tt
@@ -205,7 +240,7 @@ module _ (b : ℕ) where
 
   are_numbers : (v : Location → ℕ) (f : Forms) → Weighs v f → AreNumbers P f
   unfolding words
-  are_numbers v f h p = numbers (2 * b + 1) b (f p) (omega arith) (h.small p)
+  are_numbers v f h p = numbers limit b (f p) (omega (arith, fits)) (h.small p)
 
   pub followed_small :
       1 ≤ b → (x : Schema) (c : Command) (base : ℕ → ℤ) → AllWithin x base → ((n : ℕ) → IsSmall b (base n)) → is_light b c (first_weights x) ≡ true →
@@ -213,3 +248,15 @@ module _ (b : ℕ) where
   followed_small one x c base h small l =
       let r = goes c (first_weights x) (object_forms base) (begins one x base h small) l in
       (r.can, are_numbers (after c (first_weights x)) (follow c (object_forms base)).forms r.weighs)
+
+-- the L form of a ground call of an accepted workload is light
+pub accepted_small :
+    (w : s.Workload) (g : Ground) (base : List ℤ) → IsAccepted w → IsGroundCall w g.transaction g.args → IsWithin (schema_of w) base →
+    CanBeFollowed (IsSmall form_limit) (object_forms (values_of base)) (ground_form w g) ×
+    AreNumbers (IsSmall form_limit) (followed (values_of base) (ground_form w g)).forms
+unfolding words meaning_words
+accepted_small w g base accepted called within =
+    let all = all_within (schema_of w) base within in
+    followed_small weight_limit form_limit (omega arith) (omega arith) (schema_of w) (ground_form w g) (values_of base) all
+    (λ n. omega (arith, values_small w accepted (values_of base) all n))
+    (ground_call_light w g.transaction g.args (sound w accepted) called)

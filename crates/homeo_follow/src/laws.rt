@@ -2,13 +2,20 @@
 
 ghost use Rattle.std.specs.Prelude.{◌≡◌, ℕ, ◌+◌, ◌*◌, ◌<◌, ◌≤◌, true, List, map, ℤ};
 ghost use Rattle.homeo_syntax.specs.Low.{Command};
-ghost use Rattle.homeo_meaning.specs.Bounds.{AllWithin};
+ghost use Rattle.homeo_syntax.specs.Source.{Workload};
+ghost use Rattle.homeo_meaning.specs.Acceptance.{IsAccepted};
+ghost use Rattle.homeo_meaning.specs.Bounds.{AllWithin, IsWithin};
+ghost use Rattle.homeo_meaning.specs.CallForm.{ground_form};
+ghost use Rattle.homeo_meaning.specs.Calls.{IsGroundCall};
+ghost use Rattle.homeo_meaning.specs.Ground.{Ground};
 ghost use Rattle.homeo_meaning.specs.LowWeights.{first_weights, is_light};
-ghost use Rattle.homeo_meaning.specs.Schema.{Schema};
+ghost use Rattle.homeo_meaning.specs.Schema.{Schema, schema_of};
+ghost use Rattle.homeo_meaning.specs.Serial.{values_of};
 ghost use Rattle.homeo_meaning.specs.Small.{IsSmall};
 ghost use Rattle.homeo_meaning.specs.Whole.{IsWhole};
 ghost use Rattle.homeo_plan.specs.Each.{Each};
 ghost use Rattle.homeo_plan.specs.Joined.{Deltas};
+ghost use Rattle.homeo_plan.specs.Limit.{form_limit};
 ghost use Rattle.homeo_plan.specs.Needs.{remote};
 ghost use Rattle.homeo_plan.specs.Template.{PlannedCall, atoms_of, needs_of};
 ghost use Rattle.homeo_follow.specs.Expanded.{expanded, expanded_deltas};
@@ -48,4 +55,13 @@ pub fn light_commands_are_followed_by_small_forms()
         ((n : ℕ) → IsSmall b (base n)) → is_light b c (first_weights x) ≡ true →
         CanBeFollowed (IsSmall (2 * b + 1)) (object_forms base) c ×
         AreNumbers (IsSmall (2 * b + 1)) (follow c (object_forms base)).forms }
+{}
+
+/// Each constant and each factor met as the L form of a ground call of an accepted workload is followed, at a base within
+/// bounds, is at most 4 * 10^18 in size, and so is each that is left.
+pub fn accepted_calls_are_followed_by_small_forms()
+    ensures { (w : Workload) (g : Ground) (base : List ℤ) → IsAccepted w → IsGroundCall w g.transaction g.args →
+        IsWithin (schema_of w) base →
+        CanBeFollowed (IsSmall form_limit) (object_forms (values_of base)) (ground_form w g) ×
+        AreNumbers (IsSmall form_limit) (followed (values_of base) (ground_form w g)).forms }
 {}

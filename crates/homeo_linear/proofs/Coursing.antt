@@ -6,11 +6,15 @@ use Rattle.std.proofs.Common.{◌≡◌, ℕ, ◌+◌, ◌<◌, ◌≤◌, Bool,
 use Rattle.homeo_syntax.specs.Low as l
 use Rattle.homeo_syntax.specs.LowView.{low_commands, plain_lcommand}
 use Rattle.homeo_syntax.specs.declared.low.LCommand.{LCommand}
+use Rattle.homeo_syntax.specs.declared.low.SplitName.{SplitName}
+use Rattle.homeo_syntax.specs.declared.low.Temp.{Temp}
+use Rattle.homeo_meaning.specs.LowMeaning.{Location, TempAt, location_of, put}
 use Rattle.homeo_meaning.proofs.Steps.{drop_next, drop_none}
 use Rattle.homeo_meaning.specs.Small.{IsSmall}
 use Rattle.homeo_plan.specs.Limit.{form_limit}
-use Rattle.homeo_plan.specs.Linear.{Linear, Forms}
-use Rattle.homeo_follow.specs.Follow.{passed, failed, holds_by, Followed, nothing, and_then, asked, follow, follow_all}
+use Rattle.homeo_plan.specs.declared.forms.Delta.{Delta}
+use Rattle.homeo_plan.specs.Linear.{Linear, Forms, form}
+use Rattle.homeo_follow.specs.Follow.{passed, failed, holds_by, Followed, nothing, and_then, asked, object_of, object_delta, follow, follow_all}
 use Rattle.homeo_follow.specs.FollowSizes.{CanBeFollowed, CanAllBeFollowed}
 use Rattle.homeo_linear.specs.inner.Kept.{kept_cond}
 
@@ -27,6 +31,51 @@ pub then_forms : (p q : Followed) (f : Forms) → q.atoms ≡ p.atoms → q.prin
 unfolding words
 then_forms p q f a b c d =
     λ i. record { atoms = (a ∙ sym (append-nil p.atoms)) i; prints = (b ∙ sym (append-nil p.prints)) i; written = (c ∙ sym (append-nil p.written)) i; forms = d i }
+
+-- new atoms, and nothing else
+pub asked_is :
+    (p q : Followed) (fs : List Linear) → q.atoms ≡ p.atoms ++ fs → q.prints ≡ p.prints → q.written ≡ p.written → q.forms ≡ p.forms →
+    q ≡ and_then p (asked fs (nothing p.forms))
+unfolding words
+asked_is p q fs a b c d =
+    λ i. record {
+      atoms = (a ∙ sym (ap (λ l. p.atoms ++ l) (append-nil fs))) i;
+      prints = (b ∙ sym (append-nil p.prints)) i;
+      written = (c ∙ sym (append-nil p.written)) i;
+      forms = d i;
+    }
+
+pub assigned :
+    (p q : Followed) (t : Temp) (e : l.Expr) (k : Location) (a : Linear) → q.atoms ≡ p.atoms → q.prints ≡ p.prints → q.written ≡ p.written →
+    k ≡ TempAt t → a ≡ form p.forms e → q.forms ≡ put p.forms k a → q ≡ and_then p (follow (l.Assign t e) p.forms)
+unfolding words
+assigned p q t e k a x y z pk pa f =
+    then_forms p q (put p.forms (TempAt t) (form p.forms e)) x y z (f ∙ ap₂ (put p.forms) pk pa)
+
+pub wrote :
+    (p q : Followed) (n : SplitName) (e : l.Expr) (k : Location) (a : Linear) (d : Delta) → q.atoms ≡ p.atoms → q.prints ≡ p.prints →
+    q.written ≡ p.written ++ d.object ∷ [] → d ≡ object_delta (object_of n) → k ≡ location_of n → a ≡ form p.forms e →
+    q.forms ≡ put p.forms k a → q ≡ and_then p (follow (l.Write n e) p.forms)
+unfolding words plan_words
+wrote p q n e k a d x y z pd pk pa f =
+    λ i. record {
+      atoms = (x ∙ sym (append-nil p.atoms)) i;
+      prints = (y ∙ sym (append-nil p.prints)) i;
+      written = (z ∙ ap (λ (m : Delta). p.written ++ m.object ∷ []) pd) i;
+      forms = (f ∙ ap₂ (put p.forms) pk pa) i;
+    }
+
+pub printed :
+    (p q : Followed) (e : l.Expr) (a : Linear) → q.atoms ≡ p.atoms → q.prints ≡ p.prints ++ a ∷ [] → q.written ≡ p.written →
+    a ≡ form p.forms e → q.forms ≡ p.forms → q ≡ and_then p (follow (l.Print e) p.forms)
+unfolding words
+printed p q e a x y z pa f =
+    λ i. record {
+      atoms = (x ∙ sym (append-nil p.atoms)) i;
+      prints = (y ∙ ap (λ b. p.prints ++ b ∷ []) pa) i;
+      written = (z ∙ sym (append-nil p.written)) i;
+      forms = f i;
+    }
 
 -- atoms that are asked, and then the rest
 asked_then : (p r : Followed) (fs : List Linear) (f : Forms) → and_then (and_then p (asked fs (nothing f))) r ≡ and_then p (asked fs r)

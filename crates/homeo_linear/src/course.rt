@@ -167,7 +167,7 @@ fn follow_all(alloc: Global, commands: &[LCommand], course: &mut Course<'_>) -> 
 /// # Errors
 ///
 /// `Memory` when out of memory.
-pub fn followed(alloc: Global, command: &LCommand, base: &Database) -> Result<Followed, Memory>
+pub fn follow_at(alloc: Global, command: &LCommand, base: &Database) -> Result<Followed, Memory>
     requires can { CanBeFollowed (IsSmall form_limit) (object_forms (values_of base.now.items)) (plain_lcommand command.now) }
     requires left { AreNumbers (IsSmall form_limit) (followed (values_of base.now.items) (plain_lcommand command.now)).forms }
     requires base { (x : ℕ) → IsSmall form_limit (values_of base.now.items x) }

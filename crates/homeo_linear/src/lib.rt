@@ -18,7 +18,7 @@ mod standing;
 mod terms;
 
 pub use checked::checked_form;
-pub use course::{Followed, followed};
+pub use course::{Followed, follow_at};
 pub use deltas::joined as joined_deltas;
 pub use expanding::{atoms_at_sites, needs_elsewhere};
 pub use following::{push_written, remote_of};
