@@ -6,8 +6,7 @@ use Rattle.homeo_meaning.specs.Ground.{plain_ground}
 use Rattle.homeo_meaning.specs.LowMeaning.{whole}
 use Rattle.homeo_meaning.specs.Serial.{values_of}
 use Rattle.homeo_plan.specs.Key.{words as plans}
-use Rattle.homeo_plan.specs.Atoms.{true_cond}
-use Rattle.homeo_plan.specs.Needs.{needs}
+use Rattle.homeo_plan.specs.Needs.{remote}
 use Rattle.homeo_plan.specs.PlanView.{plain_atoms}
 use Rattle.homeo_plan.specs.Planned.{sites_of}
 use Rattle.homeo_plan.specs.Table.{table, row_at}
@@ -15,6 +14,10 @@ use Rattle.homeo_plan.specs.Template.{shifted, atoms_of, needs_of}
 use Rattle.homeo_build.specs.Key.{words}
 use Rattle.homeo_build.specs.Plan.{sited_residual, residual_at}
 use Rattle.homeo_build.specs.inner.Planning.{CanPlan}
+use Rattle.homeo_follow.specs.Expanded.{expanded, expanded_deltas}
+use Rattle.homeo_meaning.specs.CallForm.{ground_form}
+use Rattle.homeo_build.proofs.Following.{small_forms, small_base, followed_here, followed_count, atoms_are, needs_are}
+use Rattle.homeo_build.proofs.FormsMade.{form_here}
 use Rattle.homeo_build.proofs.GroundCalls.{of_call, of_all, commands_are, can_here}
 use Rattle.homeo_build.proofs.Grown.{grown, same_length, same_place}
 use Rattle.homeo_build.proofs.Planning.{can_plan}
@@ -28,6 +31,13 @@ bounds-commands-i c =
     let are = commands_are w calls.result.now commands.result.now calls.ensures commands.ensures in
     let count = same_length plain_lcommand (of_call w (shifted (sites_of w))) commands.result.now calls.result.now are in
     omega (arith, count, c.loop-i-test.true)
+
+pub follow_forms-requires-clause-forms : goal.follow_forms-requires-clause-forms
+follow_forms-requires-clause-forms c = ?
+
+pub follow_forms-requires-clause-base : goal.follow_forms-requires-clause-base
+follow_forms-requires-clause-base c =
+    small_base (plain_workload c.args.c.now) c.args.split.now.base.items c.requires.accepted c.requires.within
 
 pub plan_call-requires-clause-can : goal.plan_call-requires-clause-can
 plan_call-requires-clause-can c =
