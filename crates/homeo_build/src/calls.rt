@@ -22,7 +22,6 @@ ghost use Rattle.homeo_build.specs.inner.Followed.{IsSmallAlong, AreFollowed};
 ghost use Rattle.homeo_build.specs.inner.Planning.{CanPlan};
 
 use crate::compiled::Compiled;
-use crate::forms::Forms;
 use crate::sites::site_count;
 use homeo_linear::{Followed, atoms_at_sites, follow_at, needs_elsewhere};
 use homeo_meaning::{Database, GroundCall};
@@ -139,12 +138,13 @@ pub(crate) fn plan_calls(alloc: Global, c: &Compiled, split: &Split) -> Result<C
         residuals_at (plain_workload c.now) split.now.base.items) }
 {
     let sites = site_count(c.workload());
-    let Forms { forms, places } = c.forms();
+    let forms = c.forms();
     let commands = c.commands();
-    let followed = follow_forms(alloc, forms.as_slice(), &split.base)?;
+    let followed = follow_forms(alloc, forms.forms.as_slice(), &split.base)?;
     let mut planned = CallPlans::new(alloc);
     for (i, call) in c.calls().iter().enumerate() {
-        let form = &followed[places[i]];
+        let place = forms.places[i];
+        let form = &followed[place];
         let plan = plan_call(alloc, call, &commands[i], form, sites, split)?;
         planned.push(plan)?;
     }

@@ -34,7 +34,8 @@ impl Forms {
         requires placed { slice_index_or self.now.places.items call 0 < length self.now.forms.items }
         ensures { slice_get (map plain_lcommand self.now.forms.items) (slice_index_or self.now.places.items call 0) ≡ Some (plain_lcommand result.now) }
     {
-        &self.forms.as_slice()[self.places[call]]
+        let place = self.places[call];
+        &self.forms.as_slice()[place]
     }
 }
 
