@@ -3,11 +3,10 @@
 ghost use Rattle.std.specs.Prelude.{◌≡◌, map, IfOk};
 ghost use Rattle.homeo_syntax.specs.LowView.{plain_lcommand};
 ghost use Rattle.homeo_syntax.specs.SourceView.{plain_workload};
-ghost use Rattle.homeo_meaning.specs.Acceptance.{IsAccepted};
 ghost use Rattle.homeo_meaning.specs.Declarations.{declarations};
 ghost use Rattle.homeo_meaning.specs.Ground.{plain_ground, grounds};
 ghost use Rattle.homeo_ground.specs.Grounding.{grounding};
-ghost use Rattle.homeo_plan.specs.Planned.{sites_of, transformed};
+ghost use Rattle.homeo_plan.specs.Planned.{transformed};
 ghost use Rattle.homeo_build.specs.Forms.{AreForms};
 ghost use Rattle.homeo_build.specs.Written.{AreWritten};
 

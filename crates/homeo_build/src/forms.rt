@@ -1,10 +1,9 @@
 //! The L forms of ground calls, once for each transaction with arguments.
 
-ghost use Rattle.std.specs.Prelude.{◌≡◌, ◌<◌, [], length, map, slice_get, slice_index_or, Some, IfOk, OnOk};
+ghost use Rattle.std.specs.Prelude.{◌≡◌, ◌<◌, [], All, length, map, slice_get, slice_index_or, Some, IfOk, OnOk};
 ghost use Rattle.homeo_syntax.specs.LowView.{plain_lcommand};
 ghost use Rattle.homeo_syntax.specs.Source as s;
 ghost use Rattle.homeo_syntax.specs.SourceView.{plain_workload};
-ghost use Rattle.homeo_meaning.specs.Acceptance.{IsAccepted};
 ghost use Rattle.homeo_meaning.specs.CallForm.{ground_form};
 ghost use Rattle.homeo_meaning.specs.Declarations.{declarations};
 ghost use Rattle.homeo_meaning.specs.Ground.{plain_ground, grounds};
@@ -110,8 +109,8 @@ pub(crate) fn forms_of(
     declared: &Declarations,
     calls: &[GroundCall],
 ) -> Result<Forms, Memory>
-    requires accepted { IsAccepted (plain_workload w.now) }
     requires declared { declared.now ≡ declarations (plain_workload w.now) }
+    requires called { All (IsCalled (plain_workload w.now)) (map plain_ground calls.now) }
     requires calls { map plain_ground calls.now ≡ grounds (plain_workload w.now) }
     ensures { IfOk result (λ f. AreForms (plain_workload w.now) (map plain_lcommand f.forms.items) f.places.items) }
 {

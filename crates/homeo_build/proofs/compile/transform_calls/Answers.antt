@@ -41,8 +41,8 @@ transform-requires-clause-whole c =
 pub transform-requires-clause-site : goal.transform-requires-clause-site
 transform-requires-clause-site c =
     let w = plain_workload c.args.w.now in
-    let can = can_here w c.args.calls.now c.loop-i.i c.call-item.result c.site_count.ensures.accepted c.requires.calls c.loop-i-test.true c.call-item.is in
-    subst (λ k. c.call-item.result.site < k) (sym c.site_count.ensures.sites) can.site
+    let can = can_here w c.args.calls.now c.loop-i.i c.call-item.result c.site_count-sites.ensures.accepted c.requires.calls c.loop-i-test.true c.call-item.is in
+    subst (λ k. c.call-item.result.site < k) (sym c.site_count-sites.ensures.sites) can.site
 
 pub loop-i-preserved : goal.loop-i-preserved
 unfolding words
@@ -56,7 +56,7 @@ loop-i-preserved c =
     let form = one_placed (map plain_lcommand forms.forms.items) _ (plain_lcommand c.form.result.now) (ground_form w (plain_ground call)) c.form.ensures h.at in
     grown plain_lcommand (of_call w (shifted (sites_of w))) c.loop-i.commands.items _ _ c.args.calls.now c.loop-i.i call c.loop-i-test.true c.call-item.is
     (ap (λ l. l.items) c.in_ok-push.ensures.ok) c.loop-i.invariant
-    (c.in_ok-transform.ensures.form ∙ ap₂ (λ n f. shift n call.site f) c.site_count.ensures.sites form)
+    (c.in_ok-transform.ensures.form ∙ ap₂ (λ n f. shift n call.site f) c.site_count-sites.ensures.sites form)
 
 pub returns : goal.returns
 unfolding words
