@@ -2,7 +2,7 @@
 use Rattle.homeo_plan.specs.Key.{words as plan_words}
 use Rattle.homeo_follow.specs.Key.{words}
 use Rattle.homeo_syntax.specs.Key.{words as tree_words}
-use Rattle.std.proofs.Common.{◌≡◌, ℕ, ◌+◌, ◌<◌, ◌≤◌, Bool, true, false, cond, List, [], ◌∷◌, ◌++◌, map, drop, get_or, length, ℤ, refl, sym, ap, ap₂, ◌∙◌, subst, append_assoc, append-nil, Box, Global}
+use Rattle.std.proofs.Common.{◌≡◌, ℕ, ◌+◌, ◌<◌, ◌≤◌, Bool, true, false, cond, List, [], ◌∷◌, ◌++◌, map, drop, get_or, length, ℤ, sym, ap, ap₂, ◌∙◌, subst, append_assoc, append-nil, Box, Global}
 use Rattle.homeo_syntax.specs.Low as l
 use Rattle.homeo_syntax.specs.LowView.{low_commands, plain_lexpr, plain_lcond, plain_lcommand}
 use Rattle.homeo_syntax.specs.Listed.{Listed}

@@ -1,19 +1,17 @@
 -- Each kind of command, and one more of a list.
-use Rattle.std.proofs.Common.{rules, true, false, map, sym, ap, ◌∙◌, subst, refl}
+use Rattle.std.proofs.Common.{rules, map, sym, ap, ◌∙◌, subst}
 use Rattle.std.proofs.lemmas.Result.{on_ok_weaker}
-use Rattle.homeo_syntax.specs.LowView.{low_commands, plain_lexpr, plain_lcond, plain_lcommand}
+use Rattle.homeo_syntax.specs.LowView.{low_commands, plain_lcond, plain_lcommand}
 use Rattle.homeo_syntax.specs.declared.low.LCommand.{the_lemmas}
-use Rattle.homeo_syntax.specs.Low as l
 use Rattle.homeo_syntax.proofs.LowViews.{low_Skip, low_Assign, low_Write, low_Print, low_Seq, low_If}
 use Rattle.homeo_meaning.specs.Small.{IsSmall}
 use Rattle.homeo_plan.specs.Limit.{form_limit}
 use Rattle.homeo_follow.specs.Key.{words}
-use Rattle.homeo_follow.specs.Follow.{holds_by, and_then, Followed, follow, follow_all}
-use Rattle.homeo_follow.specs.FollowSizes.{CanBeFollowed, CanAllBeFollowed}
+use Rattle.homeo_follow.specs.Follow.{and_then, Followed, follow, follow_all}
+use Rattle.homeo_follow.specs.FollowSizes.{CanAllBeFollowed}
 use Rattle.homeo_linear.specs.Standing.{forms_of}
 use Rattle.homeo_linear.specs.inner.Course.{followed_so}
-use Rattle.homeo_linear.specs.inner.Kept.{kept_cond}
-use Rattle.homeo_linear.proofs.Coursing.{then_nothing, assign_can, write_can, print_can, seq_can, if_can, branch_can, branch_followed, asked_forms, yes_taken, no_taken, Along, along_first, along_next, along_end}
+use Rattle.homeo_linear.proofs.Coursing.{then_nothing, assign_can, write_can, print_can, seq_can, if_can, branch_can, branch_followed, asked_forms, yes_taken, no_taken, along_first, along_next, along_end}
 use Rattle.homeo_linear.proofs.course.+commands.Goals as goal
 
 pub follow-returns-in-Skip : goal.follow-returns-in-Skip
@@ -52,10 +50,11 @@ pub follow-print-requires : goal.follow-print-requires
 follow-print-requires t c = print_can (forms_of c.args.course.now.standing) c.args.command.now c.requires c.in-Print.value c.in-Print.is
 
 pub follow-follow_all-requires : goal.follow-follow_all-requires
-follow-follow_all-requires t c =
-    (search (rules, the_lemmas),
-    subst (λ l. CanAllBeFollowed (IsSmall form_limit) (forms_of c.args.course.now.standing) (low_commands (map plain_lcommand l))) (sym c.as_slice.ensures)
-    (seq_can (forms_of c.args.course.now.standing) c.args.command.now c.requires c.in-Seq.commands c.in-Seq.is))
+follow-follow_all-requires t c = (
+  search (rules, the_lemmas),
+  subst (λ l. CanAllBeFollowed (IsSmall form_limit) (forms_of c.args.course.now.standing) (low_commands (map plain_lcommand l))) (sym c.as_slice.ensures)
+      (seq_can (forms_of c.args.course.now.standing) c.args.command.now c.requires c.in-Seq.commands c.in-Seq.is),
+)
 
 pub follow-ask-requires : goal.follow-ask-requires
 follow-ask-requires t c =
@@ -66,18 +65,20 @@ follow-follow-requires t c =
     let p : Followed = followed_so c.args.course.now in
     let asked = c.in_ok-ask-in-If.ensures in
     let stay = asked_forms p (followed_so c.ask.new.self) _ p.forms asked.asked in
-    let can = if_can p.forms c.args.command.now c.requires c.in-If.test c.in-If.yes c.in-If.no c.in-If.is in
-    (search (rules, the_lemmas),
-    branch_can (followed_so c.ask.new.self) p.forms c.deref.result.now c.in-If.yes.value stay c.deref.ensures (can.yes (sym asked.holds ∙ c.if-branch.true)))
+    let can = if_can p.forms c.args.command.now c.requires c.in-If.test c.in-If.yes c.in-If.no c.in-If.is in (
+      search (rules, the_lemmas),
+      branch_can (followed_so c.ask.new.self) p.forms c.deref.result.now c.in-If.yes.value stay c.deref.ensures (can.yes (sym asked.holds ∙ c.if-branch.true)),
+    )
 
 pub follow-follow-requires-else-branch : goal.follow-follow-requires-else-branch
 follow-follow-requires-else-branch t c =
     let p : Followed = followed_so c.args.course.now in
     let asked = c.in_ok-ask-in-If.ensures in
     let stay = asked_forms p (followed_so c.ask.new.self) _ p.forms asked.asked in
-    let can = if_can p.forms c.args.command.now c.requires c.in-If.test c.in-If.yes c.in-If.no c.in-If.is in
-    (search (rules, the_lemmas),
-    branch_can (followed_so c.ask.new.self) p.forms c.deref-else-branch.result.now c.in-If.no.value stay c.deref-else-branch.ensures (can.no (sym asked.holds ∙ c.if-branch.false)))
+    let can = if_can p.forms c.args.command.now c.requires c.in-If.test c.in-If.yes c.in-If.no c.in-If.is in (
+      search (rules, the_lemmas),
+      branch_can (followed_so c.ask.new.self) p.forms c.deref-else-branch.result.now c.in-If.no.value stay c.deref-else-branch.ensures (can.no (sym asked.holds ∙ c.if-branch.false)),
+    )
 
 pub follow-returns-in-Seq : goal.follow-returns-in-Seq
 unfolding words
@@ -115,10 +116,11 @@ follow-returns-else-branch t c =
 
 pub follow_all-follow-requires : goal.follow_all-follow-requires
 follow_all-follow-requires t c =
-    let whole = and_then (followed_so c.args.course.now) (follow_all (low_commands (map plain_lcommand c.args.commands.now)) (forms_of c.args.course.now.standing)) in
-    (search (rules, the_lemmas),
-    along_first (followed_so c.loop-command.course) whole c.args.commands.now c.loop-command.command-index c.command-item.result c.loop-command-test.true
-    c.command-item.is c.loop-command.invariant)
+    let whole = and_then (followed_so c.args.course.now) (follow_all (low_commands (map plain_lcommand c.args.commands.now)) (forms_of c.args.course.now.standing)) in (
+      search (rules, the_lemmas),
+      along_first (followed_so c.loop-command.course) whole c.args.commands.now c.loop-command.command-index c.command-item.result c.loop-command-test.true
+          c.command-item.is c.loop-command.invariant,
+    )
 
 pub follow_all-loop-command-preserved : goal.follow_all-loop-command-preserved
 follow_all-loop-command-preserved t c =

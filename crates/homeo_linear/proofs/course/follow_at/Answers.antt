@@ -1,14 +1,10 @@
 -- The command is followed from the base on.
-use Rattle.std.proofs.Common.{◌≡◌, map, sym, ap, ◌∙◌, subst}
+use Rattle.std.proofs.Common.{map, ap, ◌∙◌}
 use Rattle.homeo_syntax.specs.LowView.{plain_lcommand}
 use Rattle.homeo_meaning.specs.Serial.{values_of}
-use Rattle.homeo_meaning.specs.Small.{IsSmall}
-use Rattle.homeo_plan.specs.Limit.{form_limit}
 use Rattle.homeo_plan.specs.PlanView.{plain_atom}
 use Rattle.homeo_follow.specs.Key.{words}
-use Rattle.homeo_follow.specs.Follow.{Followed, nothing, and_then, follow, object_forms, followed, needed}
-use Rattle.homeo_follow.specs.FollowSizes.{AreNumbers, CanBeFollowed}
-use Rattle.homeo_linear.specs.Standing.{forms_of}
+use Rattle.homeo_follow.specs.Follow.{Followed, needed}
 use Rattle.homeo_linear.specs.inner.Course.{followed_so}
 use Rattle.homeo_linear.proofs.Coursing.{begins_at, followed_whole, left_forms}
 use Rattle.homeo_linear.proofs.course.follow_at.Goals as goal
