@@ -140,10 +140,12 @@ pub(crate) fn plan_calls(alloc: Global, c: &Compiled, split: &Split) -> Result<C
     let sites = site_count(c.workload());
     let forms = c.forms();
     let commands = c.commands();
-    let followed = follow_forms(alloc, forms.forms.as_slice(), &split.base)?;
+    let made = follow_forms(alloc, forms.forms.as_slice(), &split.base)?;
+    let followed = made.as_slice();
+    let places = forms.places.as_slice();
     let mut planned = CallPlans::new(alloc);
     for (i, call) in c.calls().iter().enumerate() {
-        let place = forms.places[i];
+        let place = places[i];
         let form = &followed[place];
         let plan = plan_call(alloc, call, &commands[i], form, sites, split)?;
         planned.push(plan)?;

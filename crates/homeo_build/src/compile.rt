@@ -60,9 +60,10 @@ fn compile_parts(alloc: Global, w: &Accepted) -> Result<Parts, Memory>
 {
     let declared = Declarations::of(alloc, w)?;
     let calls = Grounding::of(alloc, w, &declared)?;
-    let forms = forms_of(alloc, w, &declared, calls.calls())?;
-    let commands = transform_calls(alloc, w, &forms, calls.calls())?;
-    let written = written_objects(alloc, w, calls.calls(), commands.as_slice())?;
+    let grounds = calls.calls();
+    let forms = forms_of(alloc, w, &declared, grounds)?;
+    let commands = transform_calls(alloc, w, &forms, grounds)?;
+    let written = written_objects(alloc, w, grounds, commands.as_slice())?;
     Ok(Parts {
         declared,
         calls,

@@ -33,8 +33,10 @@ impl Forms {
         requires placed { slice_index_or self.now.places.items call 0 < length self.now.forms.items }
         ensures { slice_get (map plain_lcommand self.now.forms.items) (slice_index_or self.now.places.items call 0) ≡ Some (plain_lcommand result.now) }
     {
-        let place = self.places[call];
-        &self.forms.as_slice()[place]
+        let places = self.places.as_slice();
+        let forms = self.forms.as_slice();
+        let place = places[call];
+        &forms[place]
     }
 }
 
