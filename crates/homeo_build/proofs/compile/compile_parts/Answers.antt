@@ -1,4 +1,4 @@
-use Rattle.std.proofs.Common.{◌∙◌, All, sym, subst}
+use Rattle.std.proofs.Common.{All, sym, subst}
 use Rattle.homeo_syntax.specs.SourceView.{plain_workload}
 use Rattle.homeo_ground.specs.Grounding.{IsCalled}
 use Rattle.homeo_build.proofs.compile.compile_parts.Goals as goal

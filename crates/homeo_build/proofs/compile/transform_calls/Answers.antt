@@ -1,4 +1,4 @@
-use Rattle.std.proofs.Common.{◌<◌, ◌∙◌, map, sym, ap, ap₂, subst, length, arith}
+use Rattle.std.proofs.Common.{◌<◌, ◌∙◌, map, sym, ap, ap₂, subst, arith}
 use Rattle.std.proofs.lemmas.List.{length-map}
 use Rattle.homeo_syntax.specs.LowView.{plain_lcommand}
 use Rattle.homeo_syntax.specs.SourceView.{plain_workload}
