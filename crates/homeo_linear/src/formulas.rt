@@ -14,6 +14,7 @@ ghost use Rattle.homeo_plan.specs.PlanView.{plain_atoms};
 ghost use Rattle.homeo_plan.specs.Limit.{form_limit};
 
 use crate::conditions::condition;
+use crate::standing::Standing;
 use homeo_meaning::Database;
 use homeo_plan::AtomSet;
 use homeo_syntax::{LCond, List, Memory};
@@ -37,7 +38,8 @@ pub fn atoms(alloc: Global, formula: &LCond, base: &Database) -> Result<AtomSet,
     ensures means { IfOk result (λ a. (s : State) → IsOn (values_of base.now.items) s →
         Each (AtomHolds s) (plain_atoms a) → holds (plain_lcond formula.now) s ≡ true) }
 {
-    let kept = condition(alloc, base.as_slice(), formula)?;
+    let standing = Standing::new(alloc, base.as_slice());
+    let kept = condition(alloc, &standing, formula)?;
     Ok(AtomSet {
         atoms: List::from_vec(kept.atoms),
     })

@@ -1,10 +1,27 @@
 -- They are those of the formula, so the law of atoms is about them.
-use Rattle.std.proofs.Common.{ap}
+use Rattle.std.proofs.Common.{map, sym, ap, ◌∙◌, subst}
 use Rattle.homeo_syntax.specs.LowView.{plain_lcond}
-use Rattle.homeo_linear.proofs.Keeping.{atoms_mean}
+use Rattle.homeo_meaning.specs.Small.{IsSmall}
+use Rattle.homeo_meaning.specs.Serial.{values_of}
+use Rattle.homeo_plan.specs.FormSizes.{CanCond}
+use Rattle.homeo_plan.specs.Limit.{form_limit}
+use Rattle.homeo_plan.specs.Linear.{base_forms}
+use Rattle.homeo_plan.specs.PlanView.{plain_atom}
+use Rattle.homeo_linear.specs.Standing.{forms_of}
+use Rattle.homeo_linear.proofs.Keeping.{atoms_at_base, atoms_mean}
 use Rattle.homeo_linear.proofs.formulas.atoms.Goals as goal
+
+pub condition-requires : goal.condition-requires
+condition-requires c =
+    subst (λ f. CanCond (IsSmall form_limit) f (plain_lcond c.args.formula.now))
+    (sym (c.new-standing.ensures ∙ ap (λ l. base_forms (values_of l)) c.as_slice.ensures)) c.requires.small
+
+pub returns-clause-atoms : goal.returns-clause-atoms
+returns-clause-atoms c =
+    ap (λ v. map plain_atom v.items) c.from_vec.ensures ∙ c.in_ok-kept.ensures.atoms
+    ∙ atoms_at_base c.args.base.now.items c.as_slice.result.now (forms_of c.new-standing.result) (plain_lcond c.args.formula.now) c.as_slice.ensures c.new-standing.ensures c.requires.holds
 
 pub returns-clause-means : goal.returns-clause-means
 returns-clause-means c =
-    atoms_mean c.args.base.now.items c.as_slice.result.now (plain_lcond c.args.formula.now) c.in_ok-kept.kept.atoms.items c.from_vec.result.items
-    c.as_slice.ensures c.requires.holds c.in_ok-kept.ensures.atoms (ap (λ v. v.items) c.from_vec.ensures)
+    atoms_mean c.args.base.now.items c.as_slice.result.now (forms_of c.new-standing.result) (plain_lcond c.args.formula.now) c.in_ok-kept.kept.atoms.items c.from_vec.result.items
+    c.as_slice.ensures c.new-standing.ensures c.requires.holds c.in_ok-kept.ensures.atoms (ap (λ v. v.items) c.from_vec.ensures)
