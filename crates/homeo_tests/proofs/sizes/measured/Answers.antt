@@ -13,7 +13,7 @@ few : (d : ObjectDecl) (r : RelationDecl) (rs : List RelationDecl) (slots : ℕ)
 unfolding tree_words meaning_words
 few d r rs slots is s f h =
     let size : (relation_of r).slots * (1 + length (relation_of r).fields) ≡ slots * 2 = ap₂ (λ v n. nat_of v * (1 + n)) s (length-map r.fields.items declared_range ∙ f) in
-    let all : 1 + relation_size (relation_of r) ≤ 1024 = omega (arith, size, h) in
+    let all : 1 + (relation_of r).slots * (1 + length (relation_of r).fields) ≤ 1024 = subst (λ n. 1 + n ≤ 1024) (sym size) (omega (arith, h)) in
     subst (λ l. HasFewObjects (schema_with (d ∷ []) l)) (sym is) all
 
 pub of-requires : goal.of-requires
