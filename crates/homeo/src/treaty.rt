@@ -27,7 +27,7 @@ pub fn treaty(alloc: Global, w: Accepted) -> Result<Vec<u8>, Memory>
 }
 
 /// The plan of the round that begins at the initial database.
-fn first_plan(alloc: Global, c: &Compiled) -> Result<RoundPlan, Memory>
+pub(crate) fn first_plan(alloc: Global, c: &Compiled) -> Result<RoundPlan, Memory>
     ensures template { IfOk result (λ p. plain_template p.template ≡
         template_at (plain_workload c.now) (initial (plain_workload c.now))) }
     ensures config { IfOk result (λ p. plain_config p.config ≡ policy (plain_workload c.now) (initial (plain_workload c.now))) }
