@@ -16,7 +16,7 @@ ghost use Rattle.homeo_cert.specs.inner.Follows.{Follows, FollowsAll, rules_in, 
 ghost use Rattle.homeo_cert.specs.inner.RulesView.{plain_rules};
 
 use crate::calls::Call;
-use crate::certificate::Certificate;
+use crate::reading::Certificate;
 use crate::conditions::condition;
 use crate::fault::Stop;
 use crate::rules::Rules;
