@@ -32,7 +32,8 @@ pub(crate) fn list<T: Written>(alloc: Global, items: &[T]) -> Result<Value, Memo
 {
     let mut values = Vec::with_capacity(alloc, items.len())?;
     for item in items {
-        values.push(item.value(alloc)?)?;
+        let value = item.value(alloc)?;
+        values.push(value)?;
     }
     Ok(Value::Array(values))
 }
