@@ -9,10 +9,10 @@ use Rattle.homeo_syntax.specs.declared.low.Temp as t
 use Rattle.homeo_syntax.specs.declared.low.SplitName.{SplitName}
 use Rattle.homeo_syntax.specs.declared.low.LExpr.{LExpr, Literal, Temp, Read, Sum, Product, Neg}
 use Rattle.homeo_syntax.specs.declared.low.LTest.{LTest, True, Not, Compare}
-use Rattle.homeo_syntax.specs.declared.low.LCond.{LCond}
+use Rattle.homeo_syntax.specs.declared.low.LCond.{LCond, out-LCond}
 use Rattle.homeo_syntax.specs.declared.low.LCommand.{LCommand, Skip, Assign, Write, Print, Seq, If}
 use Rattle.homeo_syntax.specs.LowView.{low_exprs, low_tests, low_commands, plain_lexpr, plain_ltest, plain_lcond, plain_lcommand}
-use Rattle.homeo_syntax.proofs.LowViews.{low_Literal, low_Temp, low_Read, low_Sum, low_Product, low_Neg, low_True, low_Not, low_Compare, low_Skip, low_Assign, low_Write, low_Print, low_Seq, low_If}
+use Rattle.homeo_syntax.proofs.LowViews.{low_Literal, low_Temp, low_Read, low_Sum, low_Product, low_Neg, low_True, low_Not, low_Compare, low_conjunction, low_Skip, low_Assign, low_Write, low_Print, low_Seq, low_If}
 use Rattle.homeo_meaning.proofs.Steps.{drop_next, drop_none}
 use Rattle.homeo_cert.specs.Key.{words}
 use Rattle.homeo_cert.specs.declared.nodes.Node.{Node}
@@ -41,7 +41,7 @@ expr_items es = exprs_counted (map plain_lexpr es) ∙ length-map es plain_lexpr
 command_items : (cs : List LCommand) → command_count (low_commands (map plain_lcommand cs)) ≡ length cs
 command_items cs = commands_counted (map plain_lcommand cs) ∙ length-map cs plain_lcommand
 
-pub test_items : (ts : List LTest) → test_count (low_tests (map plain_ltest ts)) ≡ length ts
+test_items : (ts : List LTest) → test_count (low_tests (map plain_ltest ts)) ≡ length ts
 test_items ts = tests_counted (map plain_ltest ts) ∙ length-map ts plain_ltest
 
 -- ---- each kind
@@ -83,7 +83,13 @@ pub list_Compare : (op : Comparison) (a : LExpr) (b : LExpr) → test_nodes (pla
 unfolding words
 list_Compare op a b = ap test_nodes (low_Compare op a b)
 
-pub ruleset test_listings = (list_True, list_Not, list_Compare, append_assoc)
+pub tests_in : (c : LCond) → test_count (plain_lcond c) ≡ length (out-LCond c).tests.items
+tests_in c = ap test_count (low_conjunction c) ∙ test_items (out-LCond c).tests.items
+
+pub list_tests : (c : LCond) → cond_nodes (plain_lcond c) ≡ cond_nodes (low_tests (map plain_ltest (out-LCond c).tests.items))
+list_tests c = ap cond_nodes (low_conjunction c)
+
+pub ruleset test_listings = (list_True, list_Not, list_Compare, tests_in, list_tests, append_assoc)
 
 pub list_Skip : command_nodes (plain_lcommand Skip) ≡ node.Skip ∷ []
 unfolding words
@@ -151,3 +157,10 @@ none_left before all now left p so = sym (append_nil now) ∙ ap (λ l. now ++ l
     append_nil : {A : Type 0} (xs : List A) → xs ++ [] ≡ xs
     append_nil [] = refl
     append_nil (x ∷ xs) = ap (λ l. x ∷ l) (append_nil xs)
+
+-- ---- the first node, and what stands behind it
+pub one_alone : {A : Type 0} (before new all : List A) (x : A) → new ≡ before ++ x ∷ [] → all ≡ x ∷ [] → new ≡ before ++ all
+one_alone before new all x e p = e ∙ ap (λ l. before ++ l) (sym p)
+
+pub one_then : {A : Type 0} (before mid new rest all : List A) (x : A) → mid ≡ before ++ x ∷ [] → all ≡ x ∷ rest → new ≡ mid ++ rest → new ≡ before ++ all
+one_then before mid new rest all x e p q = q ∙ ap (λ l. l ++ rest) e ∙ append_assoc before (x ∷ []) rest ∙ ap (λ l. before ++ l) (sym p)

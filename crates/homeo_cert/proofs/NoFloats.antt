@@ -21,9 +21,9 @@ use Rattle.homeo_cert.specs.Text.{delta_data, term_data, clause_data, call_data,
 abbrev HasNone : Data → Type 0
 HasNone d = has_float d ≡ false
 
-in_list : {A : Type 0} (f : A → Data) → ((a : A) → HasNone (f a)) → (as : List A) → HasNone (list_data (map f as))
+in_list : {A : Type 0} (f : A → Data) → ((x : A) → HasNone (f x)) → (xs : List A) → HasNone (list_data (map f xs))
 in_list f h [] = refl
-in_list f h (a ∷ as) = ap₂ ◌||◌ (h a) (in_list f h as)
+in_list f h (x ∷ xs) = ap₂ ◌||◌ (h x) (in_list f h xs)
 
 in_whole : (n : ℤ) → HasNone (whole_data n)
 in_whole (pos n) = refl

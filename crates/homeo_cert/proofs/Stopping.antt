@@ -38,3 +38,8 @@ on_ok_as (Err e) f p = tt
 
 pub stops_as : (fs gs : List Fault) (e : Stop) → fs ≡ gs → StopsAt fs e → StopsAt gs e
 stops_as fs gs e q h = subst (λ l. StopsAt l e) q h
+
+-- an answer with what follows of it
+pub if_ok_as : {A E : Type 0} {P Q : A → Type 0} (r : Result A E) → ((a : A) → P a → Q a) → IfOk r P → IfOk r Q
+if_ok_as (Ok a) f p = f a p
+if_ok_as (Err e) f p = tt

@@ -1,5 +1,6 @@
 -- What a writer answers that may write at most 16,777,216 bytes: the text, or how long it would be.
-use Rattle.std.specs.Prelude.{◌≡◌, ℕ, ◌≤◌, ◌<◌, List, length, Result, MatchResult, Vec, Global}
+use Rattle.std.specs.Prelude.{◌≡◌, ℕ, ◌≤◌, ◌<◌, List, length, Result, MatchResult, Vec}
+use Rattle.std.specs.Global.{Global}
 use Rattle.homeo_cert.specs.declared.writing.CertError.{CertError}
 use Rattle.homeo_cert.specs.declared.writing.CertError.TheVariants as error
 
@@ -9,12 +10,12 @@ most_bytes = 16777216
 
 -- the text, which isn't too long
 pub record IsWhole (text : List ℕ) (bytes : List ℕ) : Type 0 where
-  pub text : bytes ≡ text
+  pub same : bytes ≡ text
   pub short : length text ≤ most_bytes
 
 -- how long the text is, which is too long
-pub record IsTooLong (text : List ℕ) (bytes : ℕ) : Type 0 where
-  pub bytes : bytes ≡ length text
+pub record IsTooLong (text : List ℕ) (n : ℕ) : Type 0 where
+  pub count : n ≡ length text
   pub long : most_bytes < length text
 
 abbrev pub IsUnwritten : List ℕ → CertError → Type 0

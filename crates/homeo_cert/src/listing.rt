@@ -142,6 +142,7 @@ fn push_command(nodes: &mut Vec<Node>, c: &LCommand) -> Result<(), Memory>
 }
 
 /// The node of an `if`, and those of its condition.
+#[tactic(auto, using(crate::proofs::Listings::test_listings))]
 fn push_if(nodes: &mut Vec<Node>, test: &LCond) -> Result<(), Memory>
     ensures { OnOk result (nodes.new.items ≡ nodes.old.items ++ If (test_count (plain_lcond test.now)) ∷ cond_nodes (plain_lcond test.now)) }
 {

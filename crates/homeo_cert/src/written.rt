@@ -18,17 +18,17 @@ use std::alloc::Global;
 
 /// What has a JSON value.
 pub(crate) trait Written {
-    /// The value as data.
-    ghost data: { Self → Data };
+    /// What the value is.
+    ghost json: { Self → Data };
 
     /// Makes the value.
     fn value(&self, alloc: Global) -> Result<Value, Memory>
-        ensures { IfOk result (λ v. view v ≡ data self.now) };
+        ensures { IfOk result (λ v. view v ≡ json self.now) };
 }
 
 /// A list of values.
 pub(crate) fn list<T: Written>(alloc: Global, items: &[T]) -> Result<Value, Memory>
-    ensures { IfOk result (λ v. view v ≡ list_data (map T.Written.data items.now)) }
+    ensures { IfOk result (λ v. view v ≡ list_data (map T.Written.json items.now)) }
 {
     let mut values = Vec::with_capacity(alloc, items.len())?;
     for item in items {
@@ -39,7 +39,7 @@ pub(crate) fn list<T: Written>(alloc: Global, items: &[T]) -> Result<Value, Memo
 }
 
 impl Written for i64 {
-    ghost data = { whole_data };
+    ghost json = { whole_data };
 
     fn value(&self, _alloc: Global) -> Result<Value, Memory> {
         Ok(Value::from(*self))
@@ -48,7 +48,7 @@ impl Written for i64 {
 
 /// A number of 64 bits. No plan has a larger one.
 impl Written for i128 {
-    ghost data = { whole_data };
+    ghost json = { whole_data };
 
     fn value(&self, _alloc: Global) -> Result<Value, Memory> {
         match Number::from_i128(*self) {
@@ -59,7 +59,7 @@ impl Written for i128 {
 }
 
 impl Written for List<i128> {
-    ghost data = { λ (l : Listed ℤ). wholes_data l.items };
+    ghost json = { λ (l : Listed ℤ). wholes_data l.items };
 
     fn value(&self, alloc: Global) -> Result<Value, Memory> {
         list(alloc, self.as_slice())
@@ -67,7 +67,7 @@ impl Written for List<i128> {
 }
 
 impl Written for Delta {
-    ghost data = { delta_data };
+    ghost json = { delta_data };
 
     fn value(&self, alloc: Global) -> Result<Value, Memory> {
         Ok(json!(in alloc; [self.object, self.site])?)
@@ -75,7 +75,7 @@ impl Written for Delta {
 }
 
 impl Written for Term {
-    ghost data = { term_data };
+    ghost json = { term_data };
 
     fn value(&self, alloc: Global) -> Result<Value, Memory> {
         let factor = self.factor.value(alloc)?;
@@ -84,7 +84,7 @@ impl Written for Term {
 }
 
 impl Written for Clause {
-    ghost data = { λ (c : Clause). clause_data (plain_clause c) };
+    ghost json = { λ (c : Clause). clause_data (plain_clause c) };
 
     fn value(&self, alloc: Global) -> Result<Value, Memory> {
         let slack = self.slack.value(alloc)?;
@@ -94,7 +94,7 @@ impl Written for Clause {
 }
 
 impl Written for Node {
-    ghost data = { node_data };
+    ghost json = { node_data };
 
     #[tactic(auto, unfolding(crate::specs::Key::words))]
     fn value(&self, alloc: Global) -> Result<Value, Memory> {

@@ -9,8 +9,8 @@ pub push_exprs-loop-e-preserved : goal.push_exprs-loop-e-preserved
 push_exprs-loop-e-preserved t c =
     let all = c.args.es.now in
     let i = c.loop-e.e-index in
-    one_more _ _ c.loop-e.nodes.items _ (expr_nodes (plain_lexpr c.e-item.result)) _ (exprs_nodes (low_exprs (map plain_lexpr (drop (i + 1) all)))) (c.in_ok-push.ensures)
+    one_more c.args.nodes.now.items (exprs_nodes (low_exprs (map plain_lexpr c.args.es.now))) c.loop-e.nodes.items _ (expr_nodes (plain_lexpr c.e-item.result)) _ (exprs_nodes (low_exprs (map plain_lexpr (drop (i + 1) all)))) c.in_ok-push_expr.ensures
     (exprs_next all i c.e-item.result c.loop-e-test.true c.e-item.is) c.loop-e.invariant
 
 pub push_exprs-returns : goal.push_exprs-returns
-push_exprs-returns t c = none_left _ _ _ _ (exprs_none c.args.es.now c.loop-e.e-index c.loop-e-test.false) c.loop-e.invariant
+push_exprs-returns t c = none_left c.args.nodes.now.items (exprs_nodes (low_exprs (map plain_lexpr c.args.es.now))) _ _ (exprs_none c.args.es.now c.loop-e.e-index c.loop-e-test.false) c.loop-e.invariant

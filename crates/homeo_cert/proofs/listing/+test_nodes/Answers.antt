@@ -9,8 +9,8 @@ pub push_tests-loop-t-preserved : goal.push_tests-loop-t-preserved
 push_tests-loop-t-preserved t c =
     let all = c.args.ts.now in
     let i = c.loop-t.t-index in
-    one_more _ _ c.loop-t.nodes.items _ (test_nodes (plain_ltest c.t-item.result)) _ (cond_nodes (low_tests (map plain_ltest (drop (i + 1) all)))) (c.in_ok-push.ensures)
+    one_more c.args.nodes.now.items (cond_nodes (low_tests (map plain_ltest c.args.ts.now))) c.loop-t.nodes.items _ (test_nodes (plain_ltest c.t-item.result)) _ (cond_nodes (low_tests (map plain_ltest (drop (i + 1) all)))) c.in_ok-push_test.ensures
     (tests_next all i c.t-item.result c.loop-t-test.true c.t-item.is) c.loop-t.invariant
 
 pub push_tests-returns : goal.push_tests-returns
-push_tests-returns t c = none_left _ _ _ _ (tests_none c.args.ts.now c.loop-t.t-index c.loop-t-test.false) c.loop-t.invariant
+push_tests-returns t c = none_left c.args.nodes.now.items (cond_nodes (low_tests (map plain_ltest c.args.ts.now))) _ _ (tests_none c.args.ts.now c.loop-t.t-index c.loop-t-test.false) c.loop-t.invariant

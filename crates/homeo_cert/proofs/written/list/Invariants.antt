@@ -4,4 +4,4 @@ use Rattle.serde_json.specs.View.{view}
 use Rattle.homeo_cert.proofs.written.list.Given as goal
 
 abbrev pub invariant-loop-item : goal.invariant-loop-item
-invariant-loop-item g l = map view l.values.items ≡ map g.T.Written.data (take l.item-index l.items)
+invariant-loop-item g l = map view l.values.items ≡ map g.T.Written.json (take l.item-index l.items)
