@@ -37,8 +37,8 @@ sections_are w p base bounds calls clauses freezes plan h =
     ∙ ap (λ x. sections (wholes_data p.base.items) x calls clauses freezes p.template.sites) bounds_now
     ∙ ap (λ x. sections (wholes_data p.base.items) (list_data (map wholes_data (plain_config p.config))) x clauses freezes p.template.sites) calls_now
     ∙ ap (λ x. sections (wholes_data p.base.items) (list_data (map wholes_data (plain_config p.config)))
-      (list_data (map call_data (map (certified_call (sites_of w)) (planned w)))) x freezes p.template.sites) clauses_now
+    (list_data (map call_data (map (certified_call (sites_of w)) (planned w)))) x freezes p.template.sites) clauses_now
     ∙ ap (λ x. sections (wholes_data p.base.items) (list_data (map wholes_data (plain_config p.config)))
-      (list_data (map call_data (map (certified_call (sites_of w)) (planned w)))) (list_data (map clause_data t.clauses)) x p.template.sites) freezes_now
+    (list_data (map call_data (map (certified_call (sites_of w)) (planned w)))) (list_data (map clause_data t.clauses)) x p.template.sites) freezes_now
     ∙ ap (λ x. sections (wholes_data p.base.items) (list_data (map wholes_data (plain_config p.config)))
-      (list_data (map call_data (map (certified_call (sites_of w)) (planned w)))) (list_data (map clause_data t.clauses)) (list_data (map delta_data t.freezes)) x) plan.sites
+    (list_data (map call_data (map (certified_call (sites_of w)) (planned w)))) (list_data (map clause_data t.clauses)) (list_data (map delta_data t.freezes)) x) plan.sites

@@ -13,12 +13,12 @@ returns c =
     let p = c.args.p.now in
     if_ok_as c.joined.result
     (λ v e. e ∙ sections_are (plain_workload c.args.c.now) p (view c.in_ok-base.base) (view c.in_ok-bounds.bounds) (view c.in_ok-calls.calls)
-      (view c.in_ok-clauses.clauses) (view c.in_ok-freezes.freezes) c.requires
-      (record {
-        base_is = c.in_ok-base.ensures ∙ ap wholes_data c.as_slice.ensures;
-        bounds_are = c.in_ok-bounds.ensures ∙ ap (λ l. list_data (map (λ b. wholes_data b.items) l)) c.as_slice-2.ensures;
-        calls_are = c.in_ok-calls.ensures;
-        clauses_are = c.in_ok-clauses.ensures ∙ ap (λ l. list_data (map (λ x. clause_data (plain_clause x)) l)) c.as_slice-3.ensures;
-        freezes_are = c.in_ok-freezes.ensures ∙ ap (λ l. list_data (map delta_data l)) c.as_slice-4.ensures;
-      }))
+    (view c.in_ok-clauses.clauses) (view c.in_ok-freezes.freezes) c.requires
+    (record {
+      base_is = c.in_ok-base.ensures ∙ ap wholes_data c.as_slice.ensures;
+      bounds_are = c.in_ok-bounds.ensures ∙ ap (λ l. list_data (map (λ b. wholes_data b.items) l)) c.as_slice-2.ensures;
+      calls_are = c.in_ok-calls.ensures;
+      clauses_are = c.in_ok-clauses.ensures ∙ ap (λ l. list_data (map (λ x. clause_data (plain_clause x)) l)) c.as_slice-3.ensures;
+      freezes_are = c.in_ok-freezes.ensures ∙ ap (λ l. list_data (map delta_data l)) c.as_slice-4.ensures;
+    }))
     c.joined.ensures
