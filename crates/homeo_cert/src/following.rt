@@ -16,9 +16,9 @@ ghost use Rattle.homeo_cert.specs.inner.Follows.{Follows, FollowsAll, rules_in, 
 ghost use Rattle.homeo_cert.specs.inner.RulesView.{plain_rules};
 
 use crate::calls::Call;
-use crate::certificate::Certificate;
 use crate::conditions::condition;
 use crate::fault::Stop;
+use crate::reading::Certificate;
 use crate::rules::Rules;
 use crate::sizes::form_of;
 use homeo_linear::{Standing, joined_deltas, push_written};

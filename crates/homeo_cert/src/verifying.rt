@@ -8,10 +8,10 @@ ghost use Rattle.homeo_cert.specs.Verdict.{IsVerdictOn, fits_slack, misfits, at_
 ghost use Rattle.homeo_cert.specs.declared.verdict.Verdict.TheVariants as verdict;
 ghost use Rattle.homeo_cert.specs.inner.CertificateView.{plain_certificate};
 
-use crate::certificate::{Certificate, read_certificate};
 use crate::fault::{Fault, Stop};
 use crate::following::follow_call;
 use crate::parsing::parse;
+use crate::reading::{Certificate, read_certificate};
 use crate::verdict::Verdict;
 use homeo_plan::Clause;
 use homeo_syntax::Memory;
