@@ -15,7 +15,6 @@ use Rattle.homeo_syntax.specs.LowView.{low_exprs, low_tests, low_commands, plain
 use Rattle.homeo_syntax.proofs.LowViews.{low_Literal, low_Temp, low_Read, low_Sum, low_Product, low_Neg, low_True, low_Not, low_Compare, low_conjunction, low_Skip, low_Assign, low_Write, low_Print, low_Seq, low_If}
 use Rattle.homeo_meaning.proofs.Steps.{drop_next, drop_none}
 use Rattle.homeo_cert.specs.Key.{words}
-use Rattle.homeo_cert.specs.declared.nodes.Node.{Node}
 use Rattle.homeo_cert.specs.declared.nodes.Node.TheVariants as node
 use Rattle.homeo_cert.specs.Nodes.{name_node, write_node, expr_count, test_count, command_count, expr_nodes, exprs_nodes, test_nodes, cond_nodes, command_nodes, commands_nodes}
 

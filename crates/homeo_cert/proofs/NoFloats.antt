@@ -1,8 +1,7 @@
 -- The data of a certificate has no float.
-use Rattle.std.proofs.Common.{◌≡◌, ℕ, List, [], ◌∷◌, ◌||◌, false, map, ℤ, pos, negsuc, codes, refl, ap₂, ◌∙◌}
+use Rattle.std.proofs.Common.{◌≡◌, ℕ, List, [], ◌∷◌, ◌||◌, false, map, ℤ, pos, negsuc, codes, refl, ap₂}
 use Rattle.serde_json.specs.Data.{Data}
-use Rattle.serde_json.specs.View.{items_of}
-use Rattle.serde_json.specs.Written.{has_float, items_have_float}
+use Rattle.serde_json.specs.Written.{has_float}
 use Rattle.homeo_syntax.specs.declared.phrase.Compare.{Compare}
 use Rattle.homeo_syntax.specs.declared.phrase.Compare.TheVariants.{Less, LessEqual, Equal}
 use Rattle.homeo_syntax.specs.declared.low.Temp.{Temp}

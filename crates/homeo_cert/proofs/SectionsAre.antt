@@ -1,5 +1,5 @@
 -- The object of a plan's parts is its certificate.
-use Rattle.std.proofs.Common.{◌≡◌, map, pos, sym, ap, ◌∙◌}
+use Rattle.std.proofs.Common.{◌≡◌, map, sym, ap, ◌∙◌}
 use Rattle.serde_json.specs.Data.{Data}
 use Rattle.homeo_syntax.specs.Source as s
 use Rattle.homeo_plan.specs.declared.round.RoundPlan.{RoundPlan}

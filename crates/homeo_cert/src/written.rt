@@ -4,7 +4,7 @@ ghost use Rattle.std.specs.Prelude.{◌≡◌, [], ◌∷◌, map, ℤ, pos, IfO
 ghost use Rattle.homeo_syntax.specs.Listed.{Listed};
 ghost use Rattle.homeo_plan.specs.PlanView.{plain_clause};
 ghost use Rattle.homeo_plan.specs.declared.templates.Clause.{Clause};
-ghost use Rattle.serde_json.specs.Data.{Data, string};
+ghost use Rattle.serde_json.specs.Data.{Data};
 ghost use Rattle.serde_json.specs.View.{view};
 ghost use Rattle.homeo_cert.specs.Json.{whole_data, wholes_data, list_data, named, node_data, temp_data, compare_data};
 ghost use Rattle.homeo_cert.specs.Text.{delta_data, term_data, clause_data};

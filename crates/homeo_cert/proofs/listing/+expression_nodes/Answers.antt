@@ -1,5 +1,5 @@
 -- One more of a list, and the end.
-use Rattle.std.proofs.Common.{◌+◌, map, drop, refl}
+use Rattle.std.proofs.Common.{◌+◌, map, drop}
 use Rattle.homeo_syntax.specs.LowView.{low_exprs, plain_lexpr}
 use Rattle.homeo_cert.specs.Nodes.{exprs_nodes, expr_nodes}
 use Rattle.homeo_cert.proofs.Listings.{exprs_next, exprs_none, one_more, none_left}

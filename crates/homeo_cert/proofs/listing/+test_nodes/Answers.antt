@@ -1,5 +1,5 @@
 -- One more of a list, and the end.
-use Rattle.std.proofs.Common.{◌+◌, map, drop, refl}
+use Rattle.std.proofs.Common.{◌+◌, map, drop}
 use Rattle.homeo_syntax.specs.LowView.{low_tests, plain_ltest}
 use Rattle.homeo_cert.specs.Nodes.{cond_nodes, test_nodes}
 use Rattle.homeo_cert.proofs.Listings.{tests_next, tests_none, one_more, none_left}
