@@ -62,13 +62,6 @@ fn bounds_both_writes(plan: &RoundPlan) -> bool {
     }
 }
 
-fn has_one_residual(plan: &RoundPlan, site: u32) -> bool {
-    match plan.residuals.as_slice() {
-        [residual] => residual.site == site,
-        _ => false,
-    }
-}
-
 #[test]
 fn a_second_write_is_bounded_on_what_the_first_one_wrote(rt: HostRuntime) -> Result<(), Fail> {
     let alloc = rt.alloc();
@@ -78,7 +71,6 @@ fn a_second_write_is_bounded_on_what_the_first_one_wrote(rt: HostRuntime) -> Res
     assert_eq!(rt; plan.template.sites, 2);
     assert!(rt; bounds_both_writes(&plan));
     assert_eq!(rt; plan.template.freezes.as_slice().len(), 0);
-    assert!(rt; has_one_residual(&plan, 0));
     Ok(())
 }
 

@@ -12,5 +12,6 @@ mod site;
 mod start;
 
 pub use attempts::{Change, Outcome, Room};
+pub use own_programs::OwnCall;
 pub use site::Site;
 pub use start::SiteStart;

@@ -18,13 +18,14 @@ ghost use Rattle.homeo_site.specs.inner.OwnPrograms.{RunsAs};
 ghost use Rattle.homeo_site.specs.inner.OwnTreaty.{own_clauses, SumsFit};
 ghost use Rattle.homeo_site.specs.inner.Ready.{IsReady, with_deltas};
 
-use crate::own_programs::own_programs;
+use crate::own_programs::{OwnCall, no_calls};
 use crate::own_treaty::{OwnClause, first_clause, first_freeze, own_clauses, own_index};
 use homeo_build::Compiled;
+use homeo_build::residuals::residual;
 use homeo_effect::{Program, TreatyIndex};
 use homeo_meaning::CallId;
 use homeo_plan::{Broken, RoundPlan};
-use homeo_syntax::{List, Memory, Prints};
+use homeo_syntax::{LCommand, List, Memory, Prints};
 use std::alloc::Global;
 use std::marker::Model;
 use std::sync::Arc;
@@ -38,7 +39,7 @@ pub(crate) struct OwnRound {
     site: u32,
     round: u64,
     clauses: List<OwnClause>,
-    programs: List<Option<Program>>,
+    calls: Vec<Option<Arc<OwnCall, Global>>>,
     index: TreatyIndex,
 }
 
@@ -85,7 +86,7 @@ impl OwnRound {
         // its rules hold
         let _workload = compiled.workload().workload();
         let clauses = own_clauses(alloc, plan.template.clauses.as_slice(), &plan.config, site)?;
-        let programs = own_programs(alloc, plan, site)?;
+        let calls = no_calls(alloc, compiled.calls().len())?;
         let index = own_index(alloc, plan, site)?;
         Ok(OwnRound {
             compiled: Arc::try_clone(compiled)?,
@@ -93,7 +94,7 @@ impl OwnRound {
             site,
             round,
             clauses,
-            programs,
+            calls,
             index,
         })
     }
@@ -110,18 +111,24 @@ impl OwnRound {
         self.round
     }
 
-    /// Lends what the site runs for a call of one of its clients, in constant time.
-    pub(crate) fn program(&self, call: CallId) -> &Program
-        requires { IsCallAt (plain_workload self.now.work) self.now.number call }
-        ensures { let w = plain_workload self.now.work in let base = self.now.base in
-            RunsAs (values_of base) self.now.number (length base)
-            (base_row (sites_of w) (values_of base) (planned_at w call)).residual result.now }
+    /// What the site runs for a call of one of its clients. It is made at the first attempt of its ground call in the round.
+    pub(crate) fn own_call(&mut self, alloc: Global, call: CallId) -> Result<Arc<OwnCall, Global>, Memory>
+        requires { IsCallAt (plain_workload self.old.work) self.old.number call }
+        ensures same { self.new ≡ self.old }
+        ensures commands { let w = plain_workload self.old.work in let base = self.old.base in
+            IfOk result (λ o. low_commands (map plain_lcommand o.value.commands.items) ≡ (base_row (sites_of w) (values_of base) (planned_at w call)).residual) }
+        ensures runs { let w = plain_workload self.old.work in let base = self.old.base in
+            IfOk result (λ o. RunsAs (values_of base) self.old.number (length base)
+            (base_row (sites_of w) (values_of base) (planned_at w call)).residual o.value.program) }
     {
         let place = self.compiled.place(call) as usize;
-        match &self.programs.as_slice()[place] {
-            Some(program) => program,
-            None => unreachable!(),
+        if let Some(own) = &self.calls[place] {
+            return Ok(Arc::try_clone(own)?);
         }
+        let residual = residual(alloc, &self.compiled, &self.plan.base, place)?;
+        let own = Arc::new(alloc, OwnCall::of(alloc, residual, &self.plan.base)?)?;
+        self.calls[place] = Some(Arc::try_clone(&own)?);
+        Ok(own)
     }
 
     /// What of the treaty a call of one of the site's clients touches: the numbers of the clauses with a term on a delta that it
@@ -129,7 +136,7 @@ impl OwnRound {
     pub(crate) fn touched(
         &self,
         alloc: Global,
-        call: CallId,
+        commands: &[LCommand],
     ) -> Result<(List<u32>, List<u32>), Memory>
         requires { IsCallAt (plain_workload self.now.work) self.now.number call }
         ensures clauses { let w = plain_workload self.now.work in let base = self.now.base in
@@ -139,8 +146,6 @@ impl OwnRound {
             IfOk result (λ r. r.1.items ≡ touched_freezes
             (written (base_row (sites_of w) (values_of base) (planned_at w call)).residual) (template_at w base)) }
     {
-        let place = self.compiled.place(call) as usize;
-        let commands = self.plan.residuals.as_slice()[place].commands.as_slice();
         let clauses = self.index.clauses_touched(alloc, commands)?;
         let freezes = self.index.freezes_touched(alloc, commands)?;
         Ok((clauses, freezes))
@@ -177,7 +182,7 @@ impl OwnRound {
     /// numbers of the clauses and freezes must be those of what the call touches. It takes no memory.
     pub(crate) fn run(
         &self,
-        call: CallId,
+        program: &Program,
         clauses: &[u32],
         freezes: &[u32],
         deltas: &mut [i64],
@@ -201,7 +206,6 @@ impl OwnRound {
         ensures prints { prints.new.items ≡ prints.old.items ++
             step_prints (plain_workload self.now.work) (with_deltas self.now deltas.old) call }
     {
-        let program = self.program(call);
         program.run(deltas, temporaries, prints);
         self.first_failure(clauses, freezes, deltas)
     }
