@@ -1,9 +1,11 @@
 -- The next call has its form.
-use Rattle.std.proofs.Common.{map}
+use Rattle.std.proofs.Common.{◌<◌, length, map, sym, ap, ◌∙◌, subst, arith}
+use Rattle.std.proofs.lemmas.List.{get_or-map, length-map}
 use Rattle.homeo_syntax.specs.LowView.{plain_lcommand}
 use Rattle.homeo_syntax.specs.SourceView.{plain_workload}
+use Rattle.homeo_meaning.specs.Ground.{plain_ground}
+use Rattle.homeo_ground.specs.Grounding.{IsCalled}
 use Rattle.homeo_build.proofs.FormsMade.{made_each, have_none, have_next, have_all}
-use Rattle.homeo_build.proofs.GroundCalls.{can_here}
 use Rattle.homeo_build.proofs.forms.forms_of.Goals as goal
 
 pub loop-call-init : goal.loop-call-init
@@ -16,8 +18,13 @@ loop-call-init c =
 
 pub place-requires-clause-called : goal.place-requires-clause-called
 place-requires-clause-called c =
-    (can_here (plain_workload c.args.w.now) c.args.calls.now c.loop-call.call-index c.call-item.result c.requires.accepted c.requires.calls
-    c.loop-call-test.true c.call-item.is).called
+    let calls = c.args.calls.now in
+    let i = c.loop-call.call-index in
+    let call = c.call-item.result in
+    let within = c.loop-call-test.true in
+    let here : i < length (map plain_ground calls) = omega (arith, length-map calls plain_ground, within) in
+    subst (IsCalled (plain_workload c.args.w.now)) (get_or-map plain_ground calls i call (plain_ground call) within ∙ ap plain_ground (sym c.call-item.is))
+    (c.requires.called i (plain_ground call) here)
 
 pub loop-call-preserved : goal.loop-call-preserved
 loop-call-preserved c =
