@@ -1,6 +1,6 @@
 -- What is asked and needed along the L forms of ground calls.
-use Rattle.std.proofs.Common.{◌≡◌, ℕ, zero, suc, ◌+◌, ◌<◌, List, [], ◌∷◌, map, Some, length, get_or, ℤ, sym, ap, ◌∙◌, subst, arith}
-use Rattle.std.specs.Prelude.{slice_get}
+use Rattle.std.proofs.Common.{◌≡◌, ℕ, zero, suc, ◌<◌, List, [], ◌∷◌, map, Some, length, get_or, ℤ, sym, ap, ap₂, ◌∙◌, subst, arith}
+use Rattle.std.specs.Prelude.{slice_get, slice_index_or}
 use Rattle.homeo_syntax.specs.Low.{Command}
 use Rattle.homeo_syntax.specs.Source as s
 use Rattle.homeo_meaning.specs.Key.{words as meanings}
@@ -70,7 +70,7 @@ pub record FollowedHere (b : ℕ → ℤ) (f : Command) (m : Followed) : Type 0 
   pub atoms : plain_atoms m.atoms ≡ (followed b f).atoms
   pub needs : m.needs.deltas.items ≡ needed b (followed b f)
 
-pub followed_here :
+followed_here :
     (b : ℕ → ℤ) (fs : List Command) (made : List Followed) (n : ℕ) (m : Followed) (f : Command) → AreFollowed b fs made → n < length made →
     m ≡ get_or made n m → slice_get fs n ≡ Some f → FollowedHere b f m
 followed_here b fs made n m f are l is at =
@@ -79,8 +79,26 @@ followed_here b fs made n m f are l is at =
       needs = same_placed (λ (x : Followed). x.needs.deltas.items) (λ c. needed b (followed b c)) made fs n m f are.needs l is at;
     }
 
-pub followed_count : (b : ℕ → ℤ) (fs : List Command) (made : List Followed) → AreFollowed b fs made → length made ≡ length fs
+followed_count : (b : ℕ → ℤ) (fs : List Command) (made : List Followed) → AreFollowed b fs made → length made ≡ length fs
 followed_count b fs made are = same_length (λ (x : Followed). plain_atoms x.atoms) (λ c. (followed b c).atoms) made fs are.atoms
+
+-- so where the lists are lent, and the place stands at a number
+module _
+    (b : ℕ → ℤ) (fs : List Command) (made lent : List Followed) (places ps : List ℕ) (i : ℕ) (are : AreFollowed b fs made) (same : lent ≡ made)
+    (placed : ps ≡ places) (below : slice_index_or places i 0 < length fs)
+  where
+    within : slice_index_or places i 0 < length made
+    within = omega (arith, below, followed_count b fs made are)
+
+    pub followed_within : slice_index_or ps i 0 < length lent
+    followed_within =
+        subst (λ (l : List Followed). slice_index_or ps i 0 < length l) (sym same)
+        (subst (λ (ns : List ℕ). slice_index_or ns i 0 < length made) (sym placed) within)
+
+    pub followed_there : (m : Followed) (f : Command) → m ≡ get_or lent (slice_index_or ps i 0) m → slice_get fs (slice_index_or places i 0) ≡ Some f → FollowedHere b f m
+    followed_there m f is at =
+        followed_here b fs made (slice_index_or places i 0) m f are within
+        (is ∙ ap₂ (λ (l : List Followed) (ns : List ℕ). get_or l (slice_index_or ns i 0) m) same placed) at
 
 -- ---- a ground call
 module _ (w : s.Workload) (g : Ground) (b : ℕ → ℤ) (site : g.site < sites_of w) where

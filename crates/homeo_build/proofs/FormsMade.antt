@@ -5,7 +5,7 @@ use Rattle.std.specs.Ordering.{int_eq}
 use Rattle.std.specs.Cmp.Lexicographic.{pointwise}
 use Rattle.std.proofs.lemmas.Int.{ints}
 use Rattle.std.proofs.lemmas.Bool.Decides.{nat_tests}
-use Rattle.std.proofs.lemmas.List.{map_push, map-append, take_more, take_all, length-map}
+use Rattle.std.proofs.lemmas.List.{map_push, take_more, take_all, length-map}
 use Rattle.homeo_syntax.specs.Low.{Command}
 use Rattle.homeo_syntax.specs.LowView.{plain_lcommand}
 use Rattle.homeo_syntax.specs.Source as s
@@ -37,6 +37,21 @@ pub placed_map : {X Y : Type 0} (f : X → Y) (xs : List X) (n : ℕ) (x : X) �
 placed_map f [] n x l p = absurd (omega (arith, l))
 placed_map f (z ∷ xs) zero x l p = ap (λ y. Some (f y)) (sym p)
 placed_map f (z ∷ xs) (suc n) x l p = placed_map f xs n x (omega (arith, l)) p
+
+-- the form whose place stands at a number, where both lists are lent
+module _
+    (forms fs : List LCommand) (places ps : List ℕ) (n : ℕ) (lent : fs ≡ forms) (placed : ps ≡ places)
+    (below : slice_index_or places n 0 < length forms)
+  where
+    pub form_below : slice_index_or ps n 0 < length fs
+    form_below =
+        subst (λ (l : List LCommand). slice_index_or ps n 0 < length l) (sym lent)
+        (subst (λ (ns : List ℕ). slice_index_or ns n 0 < length forms) (sym placed) below)
+
+    pub form_found : (x : LCommand) → x ≡ get_or fs (slice_index_or ps n 0) x → slice_get (map plain_lcommand forms) (slice_index_or places n 0) ≡ Some (plain_lcommand x)
+    form_found x is =
+        placed_map plain_lcommand forms (slice_index_or places n 0) x below
+        (is ∙ ap₂ (λ (l : List LCommand) (ns : List ℕ). get_or l (slice_index_or ns n 0) x) lent placed)
 
 pub one_placed : {X : Type 0} (xs : List X) (n : ℕ) (x y : X) → slice_get xs n ≡ Some x → slice_get xs n ≡ Some y → x ≡ y
 one_placed xs n x y p q = cc
@@ -97,6 +112,10 @@ made_each w [] (f ∷ fs) h = absurd h
 made_each w (b ∷ bs) [] h = absurd h
 made_each w (b ∷ bs) (f ∷ fs) h = (record { call = ground_to b; made = h.0.made; is = h.0.is }, made_each w bs fs h.1)
 
+body_alike : (w : s.Workload) (b k : Body) → b.transaction ≡ k.transaction → b.args.items ≡ k.args.items → ground_form w (ground_to b) ≡ ground_form w (ground_to k)
+unfolding meanings
+body_alike w b k p q = ap₂ (λ n xs. body_form w (slice_get w.transactions n) xs) p q
+
 -- ---- a body that is put to those before it
 module _ (w : s.Workload) (g : Ground) (b : Body) (transaction : b.transaction ≡ g.transaction) (args : b.args.items ≡ g.args) where
   alike : ground_form w (ground_to b) ≡ ground_form w g
@@ -125,11 +144,7 @@ module _ (w : s.Workload) (g : Ground) (b : Body) (transaction : b.transaction �
   found_form found fs j k h at same =
       let names : b.transaction ≡ k.transaction = nat_same b.transaction k.transaction (and_first (b.transaction == k.transaction) (pointwise int_eq b.args.items k.args.items) same) in
       let values : b.args.items ≡ k.args.items = numbers_same b.args.items k.args.items (and_second (b.transaction == k.transaction) (pointwise int_eq b.args.items k.args.items) same) in
-      form_at w found fs j k h at ∙ ap Some (sym (body_alike names values) ∙ alike)
-    where
-      body_alike : b.transaction ≡ k.transaction → b.args.items ≡ k.args.items → ground_form w (ground_to b) ≡ ground_form w (ground_to k)
-      unfolding meanings
-      body_alike p q = ap₂ (λ n xs. body_form w (slice_get w.transactions n) xs) p q
+      form_at w found fs j k h at ∙ ap Some (sym (body_alike w b k names values) ∙ alike)
 
 -- ---- ground calls with the places of their forms
 have_more : (w : s.Workload) (fs more : List Command) (gs : List Ground) (ns : List ℕ) → StayPlaced fs more → HaveForms w fs gs ns → HaveForms w more gs ns

@@ -3,11 +3,10 @@
 ghost use Rattle.std.specs.Prelude.{◌≡◌, map, IfOk};
 ghost use Rattle.homeo_syntax.specs.LowView.{plain_lcommand};
 ghost use Rattle.homeo_syntax.specs.SourceView.{plain_workload};
-ghost use Rattle.homeo_meaning.specs.Acceptance.{IsAccepted};
 ghost use Rattle.homeo_meaning.specs.Declarations.{declarations};
 ghost use Rattle.homeo_meaning.specs.Ground.{plain_ground, grounds};
 ghost use Rattle.homeo_ground.specs.Grounding.{grounding};
-ghost use Rattle.homeo_plan.specs.Planned.{sites_of, transformed};
+ghost use Rattle.homeo_plan.specs.Planned.{transformed};
 ghost use Rattle.homeo_build.specs.Forms.{AreForms};
 ghost use Rattle.homeo_build.specs.Written.{AreWritten};
 
@@ -61,9 +60,10 @@ fn compile_parts(alloc: Global, w: &Accepted) -> Result<Parts, Memory>
 {
     let declared = Declarations::of(alloc, w)?;
     let calls = Grounding::of(alloc, w, &declared)?;
-    let forms = forms_of(alloc, w, &declared, calls.calls())?;
-    let commands = transform_calls(alloc, w, &forms, calls.calls())?;
-    let written = written_objects(alloc, w, calls.calls(), commands.as_slice())?;
+    let grounds = calls.calls();
+    let forms = forms_of(alloc, w, &declared, grounds)?;
+    let commands = transform_calls(alloc, w, &forms, grounds)?;
+    let written = written_objects(alloc, w, grounds, commands.as_slice())?;
     Ok(Parts {
         declared,
         calls,

@@ -1,10 +1,9 @@
 //! The L forms of ground calls, once for each transaction with arguments.
 
-ghost use Rattle.std.specs.Prelude.{◌≡◌, ◌<◌, [], length, map, slice_get, slice_index_or, Some, IfOk, OnOk};
+ghost use Rattle.std.specs.Prelude.{◌≡◌, ◌<◌, [], All, length, map, slice_get, slice_index_or, Some, IfOk, OnOk};
 ghost use Rattle.homeo_syntax.specs.LowView.{plain_lcommand};
 ghost use Rattle.homeo_syntax.specs.Source as s;
 ghost use Rattle.homeo_syntax.specs.SourceView.{plain_workload};
-ghost use Rattle.homeo_meaning.specs.Acceptance.{IsAccepted};
 ghost use Rattle.homeo_meaning.specs.CallForm.{ground_form};
 ghost use Rattle.homeo_meaning.specs.Declarations.{declarations};
 ghost use Rattle.homeo_meaning.specs.Ground.{plain_ground, grounds};
@@ -34,8 +33,10 @@ impl Forms {
         requires placed { slice_index_or self.now.places.items call 0 < length self.now.forms.items }
         ensures { slice_get (map plain_lcommand self.now.forms.items) (slice_index_or self.now.places.items call 0) ≡ Some (plain_lcommand result.now) }
     {
-        let place = self.places[call];
-        &self.forms.as_slice()[place]
+        let places = self.places.as_slice();
+        let forms = self.forms.as_slice();
+        let place = places[call];
+        &forms[place]
     }
 }
 
@@ -110,8 +111,8 @@ pub(crate) fn forms_of(
     declared: &Declarations,
     calls: &[GroundCall],
 ) -> Result<Forms, Memory>
-    requires accepted { IsAccepted (plain_workload w.now) }
     requires declared { declared.now ≡ declarations (plain_workload w.now) }
+    requires called { All (IsCalled (plain_workload w.now)) (map plain_ground calls.now) }
     requires calls { map plain_ground calls.now ≡ grounds (plain_workload w.now) }
     ensures { IfOk result (λ f. AreForms (plain_workload w.now) (map plain_lcommand f.forms.items) f.places.items) }
 {

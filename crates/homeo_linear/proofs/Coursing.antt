@@ -2,20 +2,26 @@
 use Rattle.homeo_plan.specs.Key.{words as plan_words}
 use Rattle.homeo_follow.specs.Key.{words}
 use Rattle.homeo_syntax.specs.Key.{words as tree_words}
-use Rattle.std.proofs.Common.{◌≡◌, ℕ, ◌+◌, ◌<◌, ◌≤◌, Bool, true, false, cond, List, [], ◌∷◌, ◌++◌, map, drop, get_or, length, refl, sym, ap, ap₂, ◌∙◌, subst, append_assoc, append-nil}
+use Rattle.std.proofs.Common.{◌≡◌, ℕ, ◌+◌, ◌<◌, ◌≤◌, Bool, true, false, cond, List, [], ◌∷◌, ◌++◌, map, drop, get_or, length, ℤ, sym, ap, ap₂, ◌∙◌, subst, append_assoc, append-nil, Box, Global}
 use Rattle.homeo_syntax.specs.Low as l
-use Rattle.homeo_syntax.specs.LowView.{low_commands, plain_lcommand}
-use Rattle.homeo_syntax.specs.declared.low.LCommand.{LCommand}
+use Rattle.homeo_syntax.specs.LowView.{low_commands, plain_lexpr, plain_lcond, plain_lcommand}
+use Rattle.homeo_syntax.specs.Listed.{Listed}
+use Rattle.homeo_syntax.specs.declared.low.LCommand.{LCommand, Assign, Write, Print, Seq, If}
+use Rattle.homeo_syntax.specs.declared.low.LCond.{LCond}
+use Rattle.homeo_syntax.specs.declared.low.LExpr.{LExpr}
+use Rattle.homeo_syntax.proofs.LowViews.{low_Assign, low_Write, low_Print, low_Seq, low_If}
 use Rattle.homeo_syntax.specs.declared.low.SplitName.{SplitName}
 use Rattle.homeo_syntax.specs.declared.low.Temp.{Temp}
 use Rattle.homeo_meaning.specs.LowMeaning.{Location, TempAt, location_of, put}
 use Rattle.homeo_meaning.proofs.Steps.{drop_next, drop_none}
+use Rattle.homeo_meaning.specs.Serial.{values_of}
 use Rattle.homeo_meaning.specs.Small.{IsSmall}
+use Rattle.homeo_plan.specs.FormSizes.{CanForm, CanCond}
 use Rattle.homeo_plan.specs.Limit.{form_limit}
 use Rattle.homeo_plan.specs.declared.forms.Delta.{Delta}
 use Rattle.homeo_plan.specs.Linear.{Linear, Forms, form}
-use Rattle.homeo_follow.specs.Follow.{passed, failed, holds_by, Followed, nothing, and_then, asked, object_of, object_delta, follow, follow_all}
-use Rattle.homeo_follow.specs.FollowSizes.{CanBeFollowed, CanAllBeFollowed}
+use Rattle.homeo_follow.specs.Follow.{passed, failed, holds_by, Followed, nothing, and_then, asked, object_of, object_delta, object_forms, follow, follow_all, followed}
+use Rattle.homeo_follow.specs.FollowSizes.{AreNumbers, CanBeFollowed, CanAllBeFollowed}
 use Rattle.homeo_linear.specs.inner.Kept.{kept_cond}
 
 pub then_nothing : (q : Followed) → q ≡ and_then q (nothing q.forms)
@@ -102,6 +108,56 @@ module _ (p m n : Followed) (f : Forms) (t : l.Cond) (c d : l.Command) (holds : 
       ∙ ap (λ b. and_then p (asked (cond b (passed f t) (failed f t)) (follow d f))) held
       ∙ sym (ap (λ b. and_then p (cond b (asked (passed f t) (follow c f)) (asked (failed f t) (follow d f)))) held)
 
+-- ---- what is asked of each kind of command
+module _ (f : Forms) (x : LCommand) (h : CanBeFollowed (IsSmall form_limit) f (plain_lcommand x)) where
+  pub assign_can : (t : Temp) (e : LExpr) → x ≡ Assign t e → CanForm (IsSmall form_limit) f (plain_lexpr e)
+  unfolding words
+  assign_can t e p = subst (CanBeFollowed (IsSmall form_limit) f) (ap plain_lcommand p ∙ low_Assign t e) h
+
+  pub write_can : (n : SplitName) (e : LExpr) → x ≡ Write n e → CanForm (IsSmall form_limit) f (plain_lexpr e)
+  unfolding words
+  write_can n e p = subst (CanBeFollowed (IsSmall form_limit) f) (ap plain_lcommand p ∙ low_Write n e) h
+
+  pub print_can : (e : LExpr) → x ≡ Print e → CanForm (IsSmall form_limit) f (plain_lexpr e)
+  unfolding words
+  print_can e p = subst (CanBeFollowed (IsSmall form_limit) f) (ap plain_lcommand p ∙ low_Print e) h
+
+  pub seq_can : (cs : Listed LCommand) → x ≡ Seq cs → CanAllBeFollowed (IsSmall form_limit) f (low_commands (map plain_lcommand cs.items))
+  unfolding words
+  seq_can cs p = subst (CanBeFollowed (IsSmall form_limit) f) (ap plain_lcommand p ∙ low_Seq cs) h
+
+  -- of a condition, and of the branch that is taken
+  pub record IfCan (b : LCond) (c d : Box LCommand Global) : Type 0 where
+    pub test : CanCond (IsSmall form_limit) f (plain_lcond b)
+    pub yes : holds_by f (plain_lcond b) ≡ true → CanBeFollowed (IsSmall form_limit) f (plain_lcommand c.value)
+    pub no : holds_by f (plain_lcond b) ≡ false → CanBeFollowed (IsSmall form_limit) f (plain_lcommand d.value)
+
+  pub if_can : (b : LCond) (c d : Box LCommand Global) → x ≡ If b c d → IfCan b c d
+  unfolding words
+  if_can b c d p =
+      let k : CanBeFollowed (IsSmall form_limit) f (l.If (plain_lcond b) (plain_lcommand c.value) (plain_lcommand d.value)) =
+      subst (CanBeFollowed (IsSmall form_limit) f) (ap plain_lcommand p ∙ low_If b c d) h in
+      record { test = k.0; yes = k.1; no = k.2 }
+
+-- the forms stay as a condition is asked
+pub asked_forms : (p m : Followed) (fs : List Linear) (f : Forms) → m ≡ and_then p (asked fs (nothing f)) → m.forms ≡ f
+unfolding words
+asked_forms p m fs f e = ap (λ (q : Followed). q.forms) e
+
+-- of a branch, where the forms stayed
+pub branch_can :
+    (m : Followed) (f : Forms) (x y : LCommand) → m.forms ≡ f → x ≡ y → CanBeFollowed (IsSmall form_limit) f (plain_lcommand y) →
+    CanBeFollowed (IsSmall form_limit) m.forms (plain_lcommand x)
+branch_can m f x y stay is h =
+    subst (λ (g : Forms). CanBeFollowed (IsSmall form_limit) g (plain_lcommand x)) (sym stay)
+    (subst (λ (z : LCommand). CanBeFollowed (IsSmall form_limit) f (plain_lcommand z)) (sym is) h)
+
+pub branch_followed :
+    (m n : Followed) (f : Forms) (x y : LCommand) → m.forms ≡ f → x ≡ y → n ≡ and_then m (follow (plain_lcommand x) m.forms) →
+    n ≡ and_then m (follow (plain_lcommand y) f)
+branch_followed m n f x y stay is h =
+    h ∙ ap₂ (λ (z : LCommand) (g : Forms). and_then m (follow (plain_lcommand z) g)) is stay
+
 -- ---- one command after another
 abbrev pub left : List LCommand → ℕ → l.Commands
 left cs i = low_commands (map plain_lcommand (drop i cs))
@@ -137,3 +193,19 @@ pub along_end : (q whole : Followed) (cs : List LCommand) (i : ℕ) → length c
 unfolding words tree_words
 along_end q whole cs i h s =
     then_nothing q ∙ sym (ap (λ z. and_then q (follow_all (low_commands z) q.forms)) (drop_none plain_lcommand cs i h)) ∙ s.same
+
+-- ---- from a base on
+module _ (p q : Followed) (xs db : List ℤ) (c : l.Command) (begun : p ≡ nothing (object_forms (values_of xs))) (same : xs ≡ db) where
+  at_base : p ≡ nothing (object_forms (values_of db))
+  at_base = begun ∙ ap (λ l. nothing (object_forms (values_of l))) same
+
+  pub begins_at : CanBeFollowed (IsSmall form_limit) (object_forms (values_of db)) c → CanBeFollowed (IsSmall form_limit) p.forms c
+  unfolding words
+  begins_at h = subst (λ (r : Followed). CanBeFollowed (IsSmall form_limit) r.forms c) (sym at_base) h
+
+  pub followed_whole : q ≡ and_then p (follow c p.forms) → q ≡ followed (values_of db) c
+  unfolding words
+  followed_whole e = e ∙ ap (λ (r : Followed). and_then r (follow c r.forms)) at_base
+
+  pub left_forms : q ≡ and_then p (follow c p.forms) → AreNumbers (IsSmall form_limit) (followed (values_of db) c).forms → AreNumbers (IsSmall form_limit) q.forms
+  left_forms e h = subst (λ (r : Followed). AreNumbers (IsSmall form_limit) r.forms) (sym (followed_whole e)) h

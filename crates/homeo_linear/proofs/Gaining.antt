@@ -1,13 +1,19 @@
 -- What a command depends on that was followed: its prints, and the gains of the objects that it writes.
+use Rattle.homeo_meaning.specs.Key.{words as meaning_words}
 use Rattle.homeo_plan.specs.Key.{words as plan_words}
 use Rattle.homeo_follow.specs.Key.{words as follow_words}
-use Rattle.std.proofs.Common.{◌≡◌, ℕ, ◌+◌, ◌-◌, ◌<◌, ◌≤◌, Bool, ◌||◌, List, [], ◌∷◌, ◌++◌, map, drop, get_or, length, ℤ, refl, sym, ap, ap₂, ◌∙◌, add-one, arith}
+use Rattle.std.proofs.Common.{◌≡◌, ℕ, ◌+◌, ◌*◌, ◌-◌, ◌<◌, ◌≤◌, Bool, ◌||◌, List, [], ◌∷◌, ◌++◌, map, drop, get_or, length, ℤ, negsuc, ◌*ℤ◌, refl, sym, ap, ap₂, ◌∙◌, add-one, arith}
 use Rattle.std.specs.List.{list_any}
 use Rattle.std.proofs.Math.Seq.{drop-cons}
+use Rattle.std.specs.Int.RustNames.{unsigned_abs}
+use Rattle.std.proofs.lemmas.Int.{unsigned_abs-mul}
 use Rattle.homeo_meaning.specs.LowMeaning.{BaseAt}
+use Rattle.homeo_meaning.specs.Small.{IsSmall}
+use Rattle.homeo_plan.specs.FormSizes.{Numbers}
+use Rattle.homeo_plan.specs.Limit.{form_limit}
 use Rattle.homeo_plan.specs.declared.forms.Delta.{Delta}
-use Rattle.homeo_plan.specs.Linear.{Linear, Forms, add_delta, add_deltas, support}
-use Rattle.homeo_follow.specs.Follow.{gain, print_needs, write_needs}
+use Rattle.homeo_plan.specs.Linear.{Linear, Forms, add_delta, add_deltas, scale_form, support}
+use Rattle.homeo_follow.specs.Follow.{object_form, gain, print_needs, write_needs}
 use Rattle.homeo_follow.proofs.Deltas.{any_add}
 use Rattle.homeo_linear.specs.inner.Key.{words}
 use Rattle.homeo_linear.specs.inner.Order.{InOrder}
@@ -101,3 +107,14 @@ prints_popped ps qs a es fs p q =
 pub prints_end : (ps : List Linear) (es ws : List Delta) → ps ≡ [] → print_needs ps es ≡ ws → es ≡ ws
 unfolding follow_words
 prints_end ps es ws p h = sym (ap (λ l. print_needs l es) p) ∙ h
+
+-- ---- an object as it was
+pub object_small : (n : ℤ) (x : ℕ) → IsSmall form_limit n → Numbers (IsSmall form_limit) (object_form n x)
+unfolding plan_words follow_words meaning_words
+object_small n x h = record { constant = h; factors = (omega arith, tt) }
+
+pub lost_small : (n : ℤ) (x : ℕ) → IsSmall form_limit n → Numbers (IsSmall form_limit) (scale_form (negsuc 0) (object_form n x))
+unfolding plan_words follow_words meaning_words
+lost_small n x h =
+    let size : unsigned_abs (negsuc 0 *ℤ n) ≡ unsigned_abs (negsuc 0) * unsigned_abs n = unsigned_abs-mul (negsuc 0) n in
+    record { constant = omega (arith, size, h); factors = (omega arith, tt) }

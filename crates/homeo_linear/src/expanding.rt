@@ -64,22 +64,32 @@ fn terms_at_sites(alloc: Global, terms: &[Term], sites: u32) -> Result<Vec<Term>
 {
     let mut all = Vec::new(alloc);
     for term in terms {
-        push_terms(&mut all, term.delta.object, term.factor, sites)?;
+        push_terms(&mut all, term, sites)?;
     }
     Ok(all)
 }
 
-/// Puts the terms of an object behind the others.
-fn push_terms(terms: &mut Vec<Term>, object: u32, factor: i128, sites: u32) -> Result<(), Memory>
-    ensures { OnOk result (terms.new.items ≡ terms.old.items ++ terms_from 0 sites object factor) }
+/// Puts the terms of a term's object behind the others, by its factor.
+fn push_terms(terms: &mut Vec<Term>, term: &Term, sites: u32) -> Result<(), Memory>
+    ensures { OnOk result (terms.new.items ≡ terms.old.items ++ terms_from 0 sites term.now.delta.object term.now.factor) }
 {
     for site in 0..sites {
-        terms.push(Term {
-            delta: Delta { object, site },
-            factor,
-        })?;
+        terms.push(at_site(term, site))?;
     }
     Ok(())
+}
+
+/// The term of the same object at a site.
+fn at_site(term: &Term, site: u32) -> Term
+    ensures { result ≡ record { delta = record { object = term.now.delta.object; site = site }; factor = term.now.factor } }
+{
+    Term {
+        delta: Delta {
+            object: term.delta.object,
+            site,
+        },
+        factor: term.factor,
+    }
 }
 
 fn deltas_at_sites(alloc: Global, deltas: &[Delta], sites: u32) -> Result<Vec<Delta>, Memory>

@@ -8,10 +8,10 @@ ghost use Rattle.homeo_plan.specs.PlanView.{plain_linear};
 ghost use Rattle.homeo_plan.specs.Limit.{form_limit};
 ghost use Rattle.homeo_follow.specs.Follow.{object_form};
 ghost use Rattle.homeo_linear.specs.inner.Order.{InOrder};
-ghost use Rattle.homeo_linear.specs.inner.Terms.{term_form};
+ghost use Rattle.homeo_linear.specs.inner.Terms.{term_form, beside};
 
 use crate::deltas::{self, push_deltas_of};
-use crate::numbers::{added, are_small, is_small_number, multiplied};
+use crate::numbers::{added, are_small, is_small_number, multiplied, widened};
 use crate::terms;
 use homeo_plan::{Delta, Linear, Term};
 use homeo_syntax::{List, Memory};
@@ -78,13 +78,17 @@ impl Form {
     pub(crate) fn object(alloc: Global, base: i64, object: u32) -> Result<Form, Memory>
         ensures { IfOk result (λ f. f ≡ object_form base object) }
     {
+        Form::delta_beside(alloc, widened(base), Delta { object, site: 0 })
+    }
+
+    /// The form of a delta and a constant.
+    fn delta_beside(alloc: Global, constant: i128, delta: Delta) -> Result<Form, Memory>
+        ensures { IfOk result (λ f. f ≡ beside constant delta) }
+    {
         let mut terms = Vec::new(alloc);
-        terms.push(Term {
-            delta: Delta { object, site: 0 },
-            factor: 1,
-        })?;
+        terms.push(Term { delta, factor: 1 })?;
         Ok(Form {
-            constant: base as i128,
+            constant,
             terms,
             mixed: Vec::new(alloc),
         })

@@ -1,5 +1,5 @@
 -- What each ground call brings.
-use Rattle.std.proofs.Common.{◌≡◌, ◌<◌, List, map, length, sym, ap, ap₂, subst, ◌∙◌, arith}
+use Rattle.std.proofs.Common.{rules, ◌≡◌, ℕ, ◌<◌, List, map, length, sym, ap, ap₂, subst, ◌∙◌, arith}
 use Rattle.homeo_syntax.specs.Low.{Command}
 use Rattle.homeo_syntax.specs.LowView.{plain_lcommand}
 use Rattle.homeo_syntax.specs.SourceView.{plain_workload}
@@ -20,7 +20,7 @@ use Rattle.homeo_build.specs.Key.{words}
 use Rattle.homeo_build.specs.Plan.{sited_residual, residual_at}
 use Rattle.homeo_build.specs.inner.Followed.{IsSmallAlong, AreFollowed}
 use Rattle.homeo_build.specs.inner.Planning.{CanPlan}
-use Rattle.homeo_build.proofs.Following.{small_forms, small_base, followed_here, followed_count, atoms_are, needs_are}
+use Rattle.homeo_build.proofs.Following.{small_forms, small_base, followed_within, followed_there, atoms_are, needs_are}
 use Rattle.homeo_build.proofs.FormsMade.{form_here}
 use Rattle.homeo_build.proofs.GroundCalls.{of_call, of_all, commands_are, can_here}
 use Rattle.homeo_build.proofs.Grown.{grown, same_length, same_place}
@@ -52,20 +52,30 @@ pub bounds-places-i : goal.bounds-places-i
 bounds-places-i c =
     let calls = c.calls-call-items in
     let forms = c.forms-forms in
-    (form_here (plain_workload c.args.c.now) (map plain_lcommand forms.result.now.forms.items) forms.result.now.places.items calls.result.now c.loop-i.i
-    c.call-item.result forms.ensures calls.ensures c.loop-i-test.true c.call-item.is).within
+    let here =
+    form_here (plain_workload c.args.c.now) (map plain_lcommand forms.result.now.forms.items) forms.result.now.places.items calls.result.now c.loop-i.i
+    c.call-item.result forms.ensures calls.ensures c.loop-i-test.true c.call-item.is in
+    subst (λ (ps : List ℕ). c.loop-i.i < length ps) (sym c.as_slice-places.ensures.value) here.within
 
 pub bounds-followed-place : goal.bounds-followed-place
 bounds-followed-place c =
     let calls = c.calls-call-items in
     let forms = c.forms-forms in
     let b = values_of c.args.split.now.base.items in
-    let made = c.in_ok-followed.followed.items in
-    let are = subst (λ (l : List LCommand). AreFollowed b (map plain_lcommand l) made) c.as_slice.ensures c.in_ok-followed.ensures in
+    let fs = map plain_lcommand forms.result.now.forms.items in
+    let made = c.in_ok-made.made.items in
+    let are = subst (λ (l : List LCommand). AreFollowed b (map plain_lcommand l) made) c.as_slice.ensures c.in_ok-made.ensures in
     let here =
-    form_here (plain_workload c.args.c.now) (map plain_lcommand forms.result.now.forms.items) forms.result.now.places.items calls.result.now c.loop-i.i
+    form_here (plain_workload c.args.c.now) fs forms.result.now.places.items calls.result.now c.loop-i.i
     c.call-item.result forms.ensures calls.ensures c.loop-i-test.true c.call-item.is in
-    omega (arith, here.below, followed_count b (map plain_lcommand forms.result.now.forms.items) made are)
+    followed_within b fs made c.as_slice-followed.result.now forms.result.now.places.items c.as_slice-places.result.now c.loop-i.i are
+    c.as_slice-followed.ensures.value c.as_slice-places.ensures.value here.below
+
+pub offset_bounds-followed-place : goal.offset_bounds-followed-place
+offset_bounds-followed-place c =
+    let h = bounds-followed-place c in
+    let k = c.as_slice-followed.type_inv in
+    search rules
 
 pub plan_call-requires-clause-can : goal.plan_call-requires-clause-can
 plan_call-requires-clause-can c =
@@ -103,10 +113,13 @@ loop-i-preserved c =
     same_place plain_lcommand (of_call w (shifted k)) commands.result.now calls.result.now i c.index-commands-i.result call are within
     c.index-commands-i.is is in
     let fs = map plain_lcommand forms.result.now.forms.items in
-    let made = c.in_ok-followed.followed.items in
-    let followed = subst (λ (l : List LCommand). AreFollowed b (map plain_lcommand l) made) c.as_slice.ensures c.in_ok-followed.ensures in
+    let made = c.in_ok-made.made.items in
+    let followed = subst (λ (l : List LCommand). AreFollowed b (map plain_lcommand l) made) c.as_slice.ensures c.in_ok-made.ensures in
     let here = form_here w fs forms.result.now.places.items calls.result.now i call forms.ensures calls.ensures within is in
-    let form = followed_here b fs made _ c.index-followed-place.result (ground_form w g) followed (bounds-followed-place c) c.index-followed-place.is here.at in
+    let form =
+    followed_there b fs made c.as_slice-followed.result.now forms.result.now.places.items c.as_slice-places.result.now i followed
+    c.as_slice-followed.ensures.value c.as_slice-places.ensures.value here.below c.index-followed-place.result (ground_form w g)
+    c.index-followed-place.is here.at in
     let site = (can_here w calls.result.now i call c.requires.accepted calls.ensures within is).site in
     let sites : c.site_count-sites.result ≡ k = c.site_count-sites.ensures.sites ∙ ap (λ x. sites_of (plain_workload x)) c.workload.ensures in
     record {

@@ -1,5 +1,5 @@
 -- The last print that is left is taken.
-use Rattle.std.proofs.Common.{◌≡◌, [], map, sym, ap, ◌∙◌}
+use Rattle.std.proofs.Common.{[], map, sym, ap, ◌∙◌}
 use Rattle.std.proofs.lemmas.List.{nil_from_length}
 use Rattle.std.proofs.lemmas.Result.{IfOk-weaker}
 use Rattle.homeo_meaning.specs.Serial.{values_of}
@@ -11,7 +11,7 @@ use Rattle.homeo_linear.proofs.course.needed.Goals as goal
 
 pub loop-form-preserved : goal.loop-form-preserved
 loop-form-preserved c =
-    prints_popped c.loop-form.prints.items c.pop.new.self.items _ c.loop-form.needed.items _ c.in-Some.ensures.items c.in_ok-push_support-in-Some.ensures
+    prints_popped c.loop-form.prints.items c.pop.new.self.items _ c.loop-form.needed.items _ c.in-Some.ensures.items c.in_ok-push_support.ensures
     ∙ c.loop-form.invariant
 
 pub returns : goal.returns

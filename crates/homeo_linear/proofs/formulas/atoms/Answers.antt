@@ -14,14 +14,14 @@ use Rattle.homeo_linear.proofs.formulas.atoms.Goals as goal
 pub condition-requires : goal.condition-requires
 condition-requires c =
     subst (λ f. CanCond (IsSmall form_limit) f (plain_lcond c.args.formula.now))
-    (sym (c.standing.ensures ∙ ap (λ l. base_forms (values_of l)) c.as_slice.ensures)) c.requires.small
+    (sym (c.new-standing.ensures ∙ ap (λ l. base_forms (values_of l)) c.as_slice.ensures)) c.requires.small
 
 pub returns-clause-atoms : goal.returns-clause-atoms
 returns-clause-atoms c =
     ap (λ v. map plain_atom v.items) c.from_vec.ensures ∙ c.in_ok-kept.ensures.atoms
-    ∙ atoms_at_base c.args.base.now.items c.as_slice.result.now (forms_of c.standing.result) (plain_lcond c.args.formula.now) c.as_slice.ensures c.standing.ensures c.requires.holds
+    ∙ atoms_at_base c.args.base.now.items c.as_slice.result.now (forms_of c.new-standing.result) (plain_lcond c.args.formula.now) c.as_slice.ensures c.new-standing.ensures c.requires.holds
 
 pub returns-clause-means : goal.returns-clause-means
 returns-clause-means c =
-    atoms_mean c.args.base.now.items c.as_slice.result.now (forms_of c.standing.result) (plain_lcond c.args.formula.now) c.in_ok-kept.kept.atoms.items c.from_vec.result.items
-    c.as_slice.ensures c.standing.ensures c.requires.holds c.in_ok-kept.ensures.atoms (ap (λ v. v.items) c.from_vec.ensures)
+    atoms_mean c.args.base.now.items c.as_slice.result.now (forms_of c.new-standing.result) (plain_lcond c.args.formula.now) c.in_ok-kept.kept.atoms.items c.from_vec.result.items
+    c.as_slice.ensures c.new-standing.ensures c.requires.holds c.in_ok-kept.ensures.atoms (ap (λ v. v.items) c.from_vec.ensures)

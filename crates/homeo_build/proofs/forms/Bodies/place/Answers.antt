@@ -1,11 +1,9 @@
 -- A form that is new is made, and that of an earlier call stands at its place.
-use Rattle.std.proofs.Common.{sym, ap, ◌∙◌, List, map}
+use Rattle.std.proofs.Common.{sym, ap, ◌∙◌, map}
 use Rattle.std.specs.List.{list_any}
-use Rattle.homeo_syntax.specs.Low.{Command}
 use Rattle.homeo_syntax.specs.LowView.{plain_lcommand}
 use Rattle.homeo_syntax.specs.SourceView.{plain_workload}
 use Rattle.homeo_meaning.specs.Ground.{plain_ground}
-use Rattle.homeo_build.specs.inner.Bodies.{HaveBodies}
 use Rattle.homeo_build.proofs.FormsMade.{stay_pushed, same_body, put_new, put_old, found_form}
 use Rattle.homeo_build.proofs.forms.Bodies.place.Goals as goal
 

@@ -1,9 +1,8 @@
 -- The form stands at the name, whose object is written.
-use Rattle.std.proofs.Common.{◌++◌, ◌∷◌, [], map, refl, ap, ◌∙◌}
+use Rattle.std.proofs.Common.{map, refl, ap, ◌∙◌}
 use Rattle.std.proofs.lemmas.List.{map_push}
 use Rattle.homeo_syntax.specs.LowView.{plain_lexpr}
 use Rattle.homeo_plan.specs.declared.forms.Delta.{Delta}
-use Rattle.homeo_follow.specs.Key.{words}
 use Rattle.homeo_linear.specs.inner.Course.{followed_so}
 use Rattle.homeo_linear.proofs.Coursing.{wrote}
 use Rattle.homeo_linear.proofs.course.Course.write.Goals as goal
