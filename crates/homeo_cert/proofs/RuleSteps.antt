@@ -1,0 +1,59 @@
+-- Deltas that are frozen one after another, and clauses that keep a form.
+use Rattle.std.proofs.Common.{◌≡◌, ℕ, suc, ◌+◌, ◌<◌, ◌≤◌, Bool, true, false, not, cond, ◌||◌, List, [], ◌∷◌, ◌++◌, map, drop, get_or, length, refl, sym, ap, ◌∙◌, subst, add-one, drop_of_length-le}
+use Rattle.std.specs.List.{list_any}
+use Rattle.std.proofs.Math.Seq.{drop-cons}
+use Rattle.homeo_meaning.proofs.Steps.{drop_next, drop_none}
+use Rattle.homeo_plan.specs.declared.forms.Delta.{Delta}
+use Rattle.homeo_plan.specs.declared.templates.Clause.{Clause}
+use Rattle.homeo_plan.specs.Linear.{same_delta, Linear}
+use Rattle.homeo_plan.specs.PlanView.{plain_clause}
+use Rattle.homeo_cert.specs.Key.{words}
+use Rattle.homeo_cert.specs.declared.fault.Fault.{Fault}
+use Rattle.homeo_cert.specs.declared.fault.Fault.TheVariants.{NotFrozen}
+use Rattle.homeo_cert.specs.declared.fault.Stop.TheVariants as stop
+use Rattle.homeo_cert.specs.Followed.{Rules, not_frozen, keeps}
+use Rattle.homeo_cert.specs.inner.Stops.{StopsAt}
+
+pub is_false : (v : Bool) → not v ≡ true → v ≡ false
+is_false true n = sym n
+is_false false n = refl
+
+pub is_true : (v : Bool) → not v ≡ false → v ≡ true
+is_true true n = refl
+is_true false n = sym n
+
+module _ (r : Rules) (ds : List Delta) (i : ℕ) where
+  module _ (d : Delta) (l : i < length ds) (e : d ≡ get_or ds i d) (so : not_frozen r (drop i ds) ≡ not_frozen r ds) where
+    front : drop i ds ≡ d ∷ drop (i + 1) ds
+    front = rw add-one (drop-cons ds i d l ∙ ap (λ y. y ∷ drop (suc i) ds) (sym e))
+
+    split : (v : Bool) → v ≡ list_any (same_delta d) r.freezes → cond v [] (NotFrozen d ∷ []) ++ not_frozen r (drop (i + 1) ds) ≡ not_frozen r ds
+    unfolding words
+    split v h = ap (λ w. cond w [] (NotFrozen d ∷ []) ++ not_frozen r (drop (i + 1) ds)) h ∙ sym (ap (not_frozen r) front) ∙ so
+
+    pub freeze_stops : (v : Bool) → not v ≡ true → v ≡ list_any (same_delta d) r.freezes → StopsAt (not_frozen r ds) (stop.Fault (NotFrozen d))
+    freeze_stops v n h = (not_frozen r (drop (i + 1) ds), sym (ap (λ w. cond w [] (NotFrozen d ∷ []) ++ not_frozen r (drop (i + 1) ds)) (sym (is_false v n)) ∙ split v h))
+
+    pub freeze_goes_on : (v : Bool) → not v ≡ false → v ≡ list_any (same_delta d) r.freezes → not_frozen r (drop (i + 1) ds) ≡ not_frozen r ds
+    freeze_goes_on v n h = ap (λ w. cond w [] (NotFrozen d ∷ []) ++ not_frozen r (drop (i + 1) ds)) (sym (is_true v n)) ∙ split v h
+
+  pub freeze_ends : length ds ≤ i → not_frozen r (drop i ds) ≡ not_frozen r ds → not_frozen r ds ≡ []
+  unfolding words
+  freeze_ends l so = sym so ∙ ap (not_frozen r) (drop_of_length-le ds l)
+
+module _ (a : Linear) (cs : List Clause) (i : ℕ) where
+  abbrev Kept : List Clause → Bool
+  Kept xs = list_any (keeps a) (map plain_clause xs)
+
+  module _ (c : Clause) (l : i < length cs) (e : c ≡ get_or cs i c) (so : Kept (drop i cs) ≡ Kept cs) (v : Bool) (is : v ≡ keeps a (plain_clause c)) where
+    next : (v || Kept (drop (i + 1) cs)) ≡ Kept cs
+    next = ap (λ w. w || Kept (drop (i + 1) cs)) is ∙ sym (ap (list_any (keeps a)) (drop_next plain_clause cs i c l e)) ∙ so
+
+    pub clause_found : v ≡ true → true ≡ Kept cs
+    clause_found h = ap (λ w. w || Kept (drop (i + 1) cs)) (sym h) ∙ next
+
+    pub clause_passed : v ≡ false → Kept (drop (i + 1) cs) ≡ Kept cs
+    clause_passed h = ap (λ w. w || Kept (drop (i + 1) cs)) (sym h) ∙ next
+
+  pub no_clause_left : length cs ≤ i → Kept (drop i cs) ≡ Kept cs → false ≡ Kept cs
+  no_clause_left l so = sym (ap (list_any (keeps a)) (drop_none plain_clause cs i l)) ∙ so

@@ -1,0 +1,109 @@
+-- The first fault of a certificate, and what is said of its bytes.
+use Rattle.std.proofs.Common.{◌≡◌, ℕ, suc, ◌+◌, ◌<◌, ◌≤◌, Bool, true, false, cond, List, [], ◌∷◌, ◌++◌, map, drop, get_or, length, ℤ, refl, sym, ap, ap₂, ◌∙◌, subst, add-one}
+use Rattle.homeo_meaning.specs.Serial.{values_of}
+use Rattle.homeo_meaning.proofs.Steps.{drop_next, drop_none}
+use Rattle.homeo_plan.specs.Key.{words as plan_words}
+use Rattle.homeo_plan.specs.Config.{Config}
+use Rattle.homeo_plan.specs.Each.{Each}
+use Rattle.homeo_plan.specs.Template.{Clause}
+use Rattle.homeo_cert.specs.Key.{words}
+use Rattle.homeo_cert.specs.declared.calls.Call as code
+use Rattle.homeo_cert.specs.declared.fault.Fault.{Fault}
+use Rattle.homeo_cert.specs.declared.fault.Fault.TheVariants.{TooLarge, NotFrozen, NoClause, ForeignWrite}
+use Rattle.homeo_cert.specs.declared.fault.Stop.TheVariants as stop
+use Rattle.homeo_cert.specs.declared.verdict.Verdict.{Verdict}
+use Rattle.homeo_cert.specs.declared.verdict.Verdict.TheVariants as verdict
+use Rattle.homeo_cert.specs.Certificate.{Call, Certificate}
+use Rattle.homeo_cert.specs.Followed.{call_faults}
+use Rattle.homeo_cert.specs.Shape.{InShape}
+use Rattle.homeo_cert.specs.Text.{certificate_data, IsJsonOf}
+use Rattle.homeo_cert.specs.Verdict.{fits_slack, misfits, at_call, faults_from, first_of_all, verdict_of, IsOfCertificate, IsVerdictOn}
+use Rattle.homeo_cert.specs.inner.CertificateView.{plain_call}
+use Rattle.homeo_cert.specs.inner.Stops.{StopsAt}
+use Rattle.homeo_cert.proofs.SmallMet.{each_append}
+
+pub first_of_some : (ms fs : List Verdict) (n : ℕ) → first_of_all ms ≡ verdict.Bounds n → first_of_all (ms ++ fs) ≡ verdict.Bounds n
+unfolding words
+first_of_some [] fs n e = absurd cc
+first_of_some (v ∷ ms) fs n e = e
+
+pub first_of_none : (ms fs : List Verdict) → ms ≡ [] → first_of_all (ms ++ fs) ≡ first_of_all fs
+first_of_none ms fs e = ap (λ l. first_of_all (l ++ fs)) e
+
+-- ---- a certificate's verdict isn't one on bytes that are none
+abbrev OfCertificate : Verdict → Type 0
+OfCertificate verdict.Json = ⊥
+OfCertificate verdict.Shape = ⊥
+OfCertificate v = Unit {0}
+
+misfits_are : (n : ℕ) (cs : List Clause) (bs : Config) → Each OfCertificate (misfits n cs bs)
+unfolding words plan_words
+misfits_are n [] bs = tt
+misfits_are n (c ∷ cs) [] = tt
+misfits_are n (c ∷ cs) (b ∷ bs) = go (fits_slack c b) (misfits_are (suc n) cs bs)
+  where
+    go : (v : Bool) → Each OfCertificate (misfits (suc n) cs bs) → Each OfCertificate (cond v (misfits (suc n) cs bs) (verdict.Bounds n ∷ []))
+    go true h = h
+    go false h = (tt, tt)
+
+faults_are : (n : ℕ) (fs : List Fault) → Each OfCertificate (map (at_call n) fs)
+unfolding words plan_words
+faults_are n [] = tt
+faults_are n (TooLarge ∷ fs) = (tt, faults_are n fs)
+faults_are n (NotFrozen d ∷ fs) = (tt, faults_are n fs)
+faults_are n (NoClause ∷ fs) = (tt, faults_are n fs)
+faults_are n (ForeignWrite ∷ fs) = (tt, faults_are n fs)
+
+all_are : (n : ℕ) (c : Certificate) (gs : List Call) → Each OfCertificate (faults_from n c gs)
+unfolding words plan_words
+all_are n c [] = tt
+all_are n c (g ∷ gs) = each_append OfCertificate (map (at_call n) (call_faults c g)) (faults_from (suc n) c gs) (faults_are n (call_faults c g)) (all_are (suc n) c gs)
+
+first_is : (vs : List Verdict) → Each OfCertificate vs → OfCertificate (first_of_all vs)
+unfolding words plan_words
+first_is [] h = tt
+first_is (v ∷ vs) h = h.0
+
+on_bytes : (bytes : List ℕ) (v : Verdict) → OfCertificate v → IsOfCertificate bytes v → IsVerdictOn bytes v
+unfolding words
+on_bytes bytes verdict.Valid o h = h
+on_bytes bytes verdict.Json o h = absurd o
+on_bytes bytes verdict.Shape o h = absurd o
+on_bytes bytes (verdict.Bounds n) o h = h
+on_bytes bytes (verdict.Size n) o h = h
+on_bytes bytes (verdict.Freeze n d) o h = h
+on_bytes bytes (verdict.Clause n) o h = h
+on_bytes bytes (verdict.Foreign n) o h = h
+
+pub verdict_on : (bytes : List ℕ) (c : Certificate) (v : Verdict) → InShape c → IsJsonOf bytes (certificate_data c) → v ≡ verdict_of c → IsVerdictOn bytes v
+unfolding words
+verdict_on bytes c v shape json e =
+    let ms = misfits 0 c.clauses c.bounds in
+    let fs = faults_from 0 c c.calls in
+    let o = first_is (ms ++ fs) (each_append OfCertificate ms fs (misfits_are 0 c.clauses c.bounds) (all_are 0 c c.calls)) in
+    on_bytes bytes v (subst OfCertificate (sym e) o) (record { certificate = c; shape = shape; json = json; verdict = e })
+
+-- ---- calls that are judged one after another
+module _ (c : Certificate) (gs : List code.Call) (i n : ℕ) where
+  abbrev pub CallsSoFar : Type 0
+  CallsSoFar = faults_from n c (map plain_call (drop i gs)) ≡ faults_from 0 c (map plain_call gs)
+
+  module _ (g : code.Call) (l : i < length gs) (e : g ≡ get_or gs i g) (so : CallsSoFar) where
+    split : map (at_call n) (call_faults c (plain_call g)) ++ faults_from (suc n) c (map plain_call (drop (i + 1) gs)) ≡ faults_from 0 c (map plain_call gs)
+    unfolding words
+    split = sym (ap (faults_from n c) (drop_next plain_call gs i g l e)) ∙ so
+
+    pub call_stops : (f : Fault) (v : Verdict) → StopsAt (call_faults c (plain_call g)) (stop.Fault f) → v ≡ at_call n f → v ≡ first_of_all (faults_from 0 c (map plain_call gs))
+    unfolding words
+    call_stops f v h e =
+        e ∙ ap (λ fs. first_of_all (map (at_call n) fs ++ faults_from (suc n) c (map plain_call (drop (i + 1) gs)))) (sym h.1) ∙ ap first_of_all split
+
+    pub call_goes_on : (m : ℕ) → m ≡ n + 1 → call_faults c (plain_call g) ≡ [] → faults_from m c (map plain_call (drop (i + 1) gs)) ≡ faults_from 0 c (map plain_call gs)
+    call_goes_on m e h =
+        let k : m ≡ suc n = e ∙ add-one n in
+        ap (λ j. faults_from j c (map plain_call (drop (i + 1) gs))) k
+        ∙ ap (λ fs. map (at_call n) fs ++ faults_from (suc n) c (map plain_call (drop (i + 1) gs))) (sym h) ∙ split
+
+  pub calls_end : length gs ≤ i → CallsSoFar → verdict.Valid ≡ first_of_all (faults_from 0 c (map plain_call gs))
+  unfolding words
+  calls_end l so = ap first_of_all (sym (ap (faults_from n c) (drop_none plain_call gs i l)) ∙ so)

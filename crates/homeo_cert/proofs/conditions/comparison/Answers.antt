@@ -1,0 +1,38 @@
+-- The forms of both sides, one after the other.
+use Rattle.std.proofs.Common.{◌≡◌, ◌++◌, [], ◌∷◌, sym, ap, ◌∙◌, refl, subst}
+use Rattle.homeo_syntax.specs.LowView.{plain_lexpr}
+use Rattle.homeo_linear.specs.Standing.{forms_of}
+use Rattle.homeo_cert.specs.Key.{words}
+use Rattle.homeo_cert.specs.Met.{met}
+use Rattle.homeo_cert.specs.Followed.{too_large}
+use Rattle.homeo_cert.proofs.LargeNumbers.{large_behind, large_in_front, none_large}
+use Rattle.homeo_cert.proofs.Stopping.{stop_with, stops_as}
+use Rattle.homeo_cert.proofs.TestSteps.{comparison_passes, comparison_gives}
+use Rattle.homeo_cert.proofs.conditions.comparison.Goals as goal
+
+pub returns-in_err-left-clause-faults : goal.returns-in_err-left-clause-faults
+unfolding words
+returns-in_err-left-clause-faults c =
+    let f = forms_of c.args.standing.now in
+    stop_with _ c.from_residual.result _ c.from_residual.ensures.1
+    (large_in_front (met f (plain_lexpr c.args.left.now)) (met f (plain_lexpr c.args.right.now)) _ c.in_err-left.ensures.faults)
+
+pub returns-in_err-right-clause-faults : goal.returns-in_err-right-clause-faults
+unfolding words
+returns-in_err-right-clause-faults c =
+    let f = forms_of c.args.standing.now in
+    stop_with _ c.from_residual-in_err-right.result _ c.from_residual-in_err-right.ensures.1
+    (stops_as _ _ _ (sym (large_behind (met f (plain_lexpr c.args.left.now)) (met f (plain_lexpr c.args.right.now)) c.in_ok-left.ensures.faults))
+    c.in_err-right.ensures.faults)
+
+pub returns-clause-faults : goal.returns-clause-faults
+unfolding words
+returns-clause-faults c =
+    let f = forms_of c.args.standing.now in
+    none_large (met f (plain_lexpr c.args.left.now)) (met f (plain_lexpr c.args.right.now)) c.in_ok-left.ensures.faults c.in_ok-right.ensures.faults
+
+pub returns-clause-holds : goal.returns-clause-holds
+returns-clause-holds c = ?
+
+pub returns-clause-kept : goal.returns-clause-kept
+returns-clause-kept c = ?

@@ -1,0 +1,103 @@
+//! Deltas, read from JSON values.
+
+ghost use Rattle.std.specs.Prelude.{◌≡◌, ◌<◌, ◌-◌, ◌↔◌, ◌∷◌, [], length, slice_index_or, IsTrue, IfOk, option_map, map};
+ghost use Rattle.serde_json.specs.View.{view};
+ghost use Rattle.homeo_plan.specs.Each.{Each};
+ghost use Rattle.homeo_plan.specs.Linear.{delta_before};
+ghost use Rattle.homeo_plan.specs.declared.forms.Delta.{Delta as DeltaRecord};
+ghost use Rattle.homeo_cert.specs.Json.{list_data};
+ghost use Rattle.homeo_cert.specs.Shape.{DeltaInShape, Rise};
+ghost use Rattle.homeo_cert.specs.Text.{delta_data};
+ghost use Rattle.homeo_cert.specs.inner.Reading.{IsRead, AreFreezes};
+
+use crate::extents::Extents;
+use crate::items::items;
+use crate::numbers::number_below;
+use homeo_plan::Delta;
+use homeo_syntax::Memory;
+use serde_json::Value;
+use std::alloc::Global;
+
+/// A delta: a list of its object and its site.
+fn read_delta(value: &Value, extents: Extents) -> Option<Delta>
+    ensures { IsRead (DeltaInShape extents.objects extents.sites) delta_data (view value.now) result }
+{
+    let items = items(value)?;
+    if items.len() == 2 {
+        delta_of(&items[0], &items[1], extents)
+    } else {
+        None
+    }
+}
+
+/// The delta of an object and a site.
+pub(crate) fn delta_of(object: &Value, site: &Value, extents: Extents) -> Option<Delta>
+    ensures { IsRead (DeltaInShape extents.objects extents.sites) delta_data (list_data (view object.now ∷ view site.now ∷ [])) result }
+{
+    let object = number_below(object, extents.objects)?;
+    let site = number_below(site, extents.sites)?;
+    Some(Delta { object, site })
+}
+
+/// A list of deltas.
+fn read_deltas(alloc: Global, value: &Value, extents: Extents) -> Result<Option<Vec<Delta>>, Memory>
+    ensures { IfOk result (λ o. IsRead (Each (DeltaInShape extents.objects extents.sites)) (λ ds. list_data (map delta_data ds)) (view value.now) (option_map (λ l. l.items) o)) }
+{
+    let Some(items) = items(value) else {
+        return Ok(None);
+    };
+    let mut deltas = Vec::with_capacity(alloc, items.len())?;
+    for item in items {
+        match read_delta(item, extents) {
+            Some(d) => deltas.push(d)?,
+            None => return Ok(None),
+        }
+    }
+    Ok(Some(deltas))
+}
+
+/// A list of deltas in rising order, each once.
+pub(crate) fn read_freezes(
+    alloc: Global,
+    value: &Value,
+    extents: Extents,
+) -> Result<Option<Vec<Delta>>, Memory>
+    ensures { IfOk result (λ o. IsRead (AreFreezes extents.objects extents.sites) (λ ds. list_data (map delta_data ds)) (view value.now) (option_map (λ l. l.items) o)) }
+{
+    let Some(deltas) = read_deltas(alloc, value, extents)? else {
+        return Ok(None);
+    };
+    if rise(deltas.as_slice()) {
+        Ok(Some(deltas))
+    } else {
+        Ok(None)
+    }
+}
+
+/// Whether deltas rise, each once.
+fn rise(deltas: &[Delta]) -> bool
+    ensures { IsTrue result ↔ Rise deltas.now }
+{
+    for place in 1..deltas.len() {
+        if !leads(deltas, place) {
+            return false;
+        }
+    }
+    true
+}
+
+/// Whether the delta at a place stands behind the one before it.
+fn leads(deltas: &[Delta], place: usize) -> bool
+    requires { (0 < place) × (place < length deltas.now) }
+    ensures { (x y : DeltaRecord) → result ≡ delta_before (slice_index_or deltas.now (place - 1) x) (slice_index_or deltas.now place y) }
+{
+    is_before(deltas[place - 1], deltas[place])
+}
+
+/// The order is by object, and then by site.
+#[tactic(auto, unfolding(homeo_plan::specs::Key::words))]
+pub(crate) fn is_before(a: Delta, b: Delta) -> bool
+    ensures { result ≡ delta_before a b }
+{
+    a.object < b.object || (a.object == b.object && a.site < b.site)
+}

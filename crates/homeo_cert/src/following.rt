@@ -1,0 +1,155 @@
+//! Calls that are followed along the branch that they take where all deltas are 0.
+
+ghost use Rattle.std.specs.Prelude.{◌≡◌, ◌++◌, [], map, OnOk, IfOk};
+ghost use Rattle.std.specs.List.{flat_map};
+ghost use Rattle.homeo_syntax.specs.LowView.{low_commands, plain_lexpr, plain_lcond, plain_lcommand};
+ghost use Rattle.homeo_syntax.specs.Low.{Assign, Write, Print};
+ghost use Rattle.homeo_meaning.specs.LowMeaning.{DeltaAt, holds};
+ghost use Rattle.homeo_meaning.specs.Serial.{values_of};
+ghost use Rattle.homeo_plan.specs.Linear.{base_forms};
+ghost use Rattle.homeo_cert.specs.Met.{at_zero, met_in_cond};
+ghost use Rattle.homeo_cert.specs.Kept.{kept};
+ghost use Rattle.homeo_cert.specs.Followed.{too_large, not_frozen, remote_deltas, atom_faults, faults, all_faults, forms_after, written};
+ghost use Rattle.homeo_cert.specs.inner.Stops.{Finds};
+ghost use Rattle.homeo_cert.specs.inner.Follows.{Follows, FollowsAll, rules_in, forms_in, written_in};
+ghost use Rattle.homeo_cert.specs.inner.RulesView.{plain_rules};
+
+use crate::conditions::condition;
+use crate::fault::Stop;
+use crate::rules::Rules;
+use crate::sizes::form_of;
+use homeo_linear::{Standing, joined_deltas, push_written, remote_of};
+use homeo_split::{Place, place_of, place_of_temp};
+use homeo_plan::Delta;
+use homeo_syntax::{LCommand, LCond, LExpr, SplitName, Temp};
+use std::alloc::Global;
+
+/// A call, as far as it was followed.
+#[derive(Drop)]
+pub(crate) struct Following<'a> {
+    rules: Rules<'a>,
+    standing: Standing<'a>,
+    /// The deltas written, as they were written.
+    written: Vec<Delta>,
+}
+
+impl<'a> Following<'a> {
+    #[tactic(auto, unfolding(homeo_plan::specs::Key::words))]
+    fn new(alloc: Global, rules: Rules<'a>, base: &'a [i64]) -> Following<'a>
+        ensures rules { rules_in result ≡ plain_rules rules.entry }
+        ensures forms { forms_in result ≡ base_forms (values_of base.now) }
+        ensures written { written_in result ≡ [] }
+    {
+        Following {
+            rules,
+            standing: Standing::new(alloc, base),
+            written: Vec::new(alloc),
+        }
+    }
+
+    /// Follows a command.
+    #[cycle(following)]
+    #[tactic(auto, using(homeo_syntax::proofs::Measures::low_command_parts, homeo_syntax::proofs::LowViews::low_command_views))]
+    fn follow(&mut self, alloc: Global, command: &LCommand) -> Result<(), Stop>
+        ensures faults { Finds (faults (rules_in self.old) (plain_lcommand command.now) (forms_in self.old)) result }
+        ensures after { OnOk result (Follows (plain_lcommand command.now) self.old self.new) }
+    {
+        match command {
+            LCommand::Skip => Ok(()),
+            LCommand::Assign { target, value } => self.assign(alloc, *target, value),
+            LCommand::Write { target, value } => self.write(alloc, *target, value),
+            LCommand::Print { value } => self.print(alloc, value),
+            LCommand::Seq { commands } => self.follow_all(alloc, commands.as_slice()),
+            LCommand::If { test, yes, no } => {
+                if self.branch(alloc, test)? {
+                    self.follow(alloc, yes)
+                } else {
+                    self.follow(alloc, no)
+                }
+            }
+        }
+    }
+
+    #[cycle(following)]
+    #[tactic(auto, using(homeo_syntax::proofs::Measures::low_command_parts))]
+    fn follow_all(&mut self, alloc: Global, commands: &[LCommand]) -> Result<(), Stop>
+        ensures faults { Finds (all_faults (rules_in self.old) (low_commands (map plain_lcommand commands.now)) (forms_in self.old)) result }
+        ensures after { OnOk result (FollowsAll (low_commands (map plain_lcommand commands.now)) self.old self.new) }
+    {
+        for command in commands {
+            self.follow(alloc, command)?;
+        }
+        Ok(())
+    }
+
+    fn assign(&mut self, alloc: Global, target: Temp, value: &LExpr) -> Result<(), Stop>
+        ensures faults { Finds (faults (rules_in self.old) (Assign target (plain_lexpr value.now)) (forms_in self.old)) result }
+        ensures after { OnOk result (Follows (Assign target (plain_lexpr value.now)) self.old self.new) }
+    {
+        let form = form_of(alloc, &self.standing, value)?;
+        self.standing.set(place_of_temp(target), form)?;
+        Ok(())
+    }
+
+    fn write(&mut self, alloc: Global, target: SplitName, value: &LExpr) -> Result<(), Stop>
+        ensures faults { Finds (faults (rules_in self.old) (Write target (plain_lexpr value.now)) (forms_in self.old)) result }
+        ensures after { OnOk result (Follows (Write target (plain_lexpr value.now)) self.old self.new) }
+    {
+        self.rules.own(target)?;
+        let form = form_of(alloc, &self.standing, value)?;
+        self.standing.set(place_of(target), form)?;
+        push_written(&mut self.written, target)?;
+        Ok(())
+    }
+
+    fn print(&mut self, alloc: Global, value: &LExpr) -> Result<(), Stop>
+        ensures faults { Finds (faults (rules_in self.old) (Print (plain_lexpr value.now)) (forms_in self.old)) result }
+        ensures after { OnOk result (Follows (Print (plain_lexpr value.now)) self.old self.new) }
+    {
+        let form = form_of(alloc, &self.standing, value)?;
+        let remote = remote_of(alloc, self.rules.site, &form)?;
+        self.rules.freeze(remote.as_slice())
+    }
+
+    /// Whether the first branch is taken. Its test is kept as it is.
+    fn branch(&self, alloc: Global, test: &LCond) -> Result<bool, Stop>
+        ensures faults { Finds
+            (too_large (met_in_cond (forms_in self.now) (plain_lcond test.now))
+                ++ flat_map (atom_faults (rules_in self.now)) (kept (forms_in self.now) (plain_lcond test.now))) result }
+        ensures taken { IfOk result (λ b. b ≡ holds (plain_lcond test.now) (at_zero (forms_in self.now))) }
+    {
+        let tested = condition(alloc, &self.standing, test)?;
+        for compared in &tested.compared {
+            self.rules.keep_compared(alloc, compared)?;
+        }
+        Ok(tested.holds)
+    }
+
+    /// That the deltas written depend on no delta of another site.
+    fn end(self, alloc: Global) -> Result<(), Stop>
+        ensures { Finds (flat_map (λ d. not_frozen (rules_in self.entry) (remote_deltas (rules_in self.entry) (forms_in self.entry (DeltaAt d.object d.site))))
+            (written_in self.entry)) result }
+    {
+        let written = joined_deltas(alloc, self.written)?;
+        for delta in &written {
+            let place = Place::Delta { object: delta.object, site: delta.site };
+            let form = self.standing.form_at(alloc, place)?;
+            let remote = remote_of(alloc, self.rules.site, &form)?;
+            self.rules.freeze(remote.as_slice())?;
+        }
+        Ok(())
+    }
+}
+
+/// The first fault of a call, if it has one.
+pub(crate) fn follow_call(alloc: Global, rules: Rules, base: &[i64], command: &LCommand) -> Result<(), Stop>
+    ensures { Finds
+        (faults (plain_rules rules.entry) (plain_lcommand command.now) (base_forms (values_of base.now))
+            ++ flat_map (λ d. not_frozen (plain_rules rules.entry) (remote_deltas (plain_rules rules.entry)
+                    (forms_after (plain_lcommand command.now) (base_forms (values_of base.now)) (DeltaAt d.object d.site))))
+                (written (plain_lcommand command.now) (base_forms (values_of base.now)) [])) result }
+{
+    let mut following = Following::new(alloc, rules, base);
+    following.follow(alloc, command)?;
+    following.end(alloc)
+}

@@ -1,0 +1,171 @@
+//! What is asked of a call: the faults of its steps.
+
+ghost use Rattle.std.specs.Prelude.{◌≡◌, map};
+ghost use Rattle.std.specs.List.{flat_map, list_any};
+ghost use Rattle.homeo_meaning.specs.Small.{IsSmall};
+ghost use Rattle.homeo_plan.specs.FormSizes.{Numbers};
+ghost use Rattle.homeo_plan.specs.Limit.{form_limit};
+ghost use Rattle.homeo_plan.specs.Linear.{same_delta};
+ghost use Rattle.homeo_plan.specs.PlanView.{plain_clause, plain_linear};
+ghost use Rattle.homeo_plan.specs.Template.{same_terms};
+ghost use Rattle.homeo_cert.specs.Kept.{atom, kept_true, kept_false};
+ghost use Rattle.homeo_cert.specs.Followed.{not_frozen, no_clause, foreign, atom_faults, keeps};
+ghost use Rattle.homeo_cert.specs.inner.Compares.{AreSmall, atoms_of};
+ghost use Rattle.homeo_cert.specs.inner.Stops.{Finds};
+ghost use Rattle.homeo_cert.specs.inner.RulesView.{plain_rules};
+
+use crate::conditions::Compared;
+use crate::fault::{Fault, Stop};
+use crate::sizes::difference;
+use homeo_linear::Form;
+use homeo_plan::{Clause, Delta, Linear, Term};
+use homeo_syntax::{Compare, SplitName};
+use std::alloc::Global;
+
+/// The site of a call, and what the treaties ask.
+#[derive(Clone, Copy)]
+pub(crate) struct Rules<'a> {
+    pub(crate) site: u32,
+    pub(crate) clauses: &'a [Clause],
+    pub(crate) freezes: &'a [Delta],
+}
+
+impl<'a> Rules<'a> {
+    /// That each of the deltas is frozen.
+    pub(crate) fn freeze(&self, deltas: &[Delta]) -> Result<(), Stop>
+        ensures { Finds (not_frozen (plain_rules self.now) deltas.now) result }
+    {
+        for delta in deltas {
+            if !self.is_frozen(delta) {
+                return Err(Stop::Fault(Fault::NotFrozen(*delta)));
+            }
+        }
+        Ok(())
+    }
+
+    fn is_frozen(&self, delta: &Delta) -> bool
+        ensures { result ≡ list_any (same_delta delta.now) self.now.freezes.now }
+    {
+        self.freezes.iter().any(|frozen| is_same(delta, frozen))
+    }
+
+    /// That a clause keeps the form at most 0, if it has terms.
+    fn keep_form(&self, form: &Linear) -> Result<(), Stop>
+        requires { IsSmall form_limit form.now.constant }
+        ensures { Finds (no_clause (plain_rules self.now) (plain_linear form.now)) result }
+    {
+        if form.terms.as_slice().is_empty() || has_clause(self.clauses, form) {
+            Ok(())
+        } else {
+            Err(Stop::Fault(Fault::NoClause))
+        }
+    }
+
+    /// That left - right + more is kept at most 0.
+    fn keep(&self, alloc: Global, left: &Form, right: &Form, more: i64) -> Result<(), Stop>
+        requires left { Numbers (IsSmall form_limit) left.now }
+        requires right { Numbers (IsSmall form_limit) right.now }
+        requires more { IsSmall form_limit more }
+        ensures { Finds (atom_faults (plain_rules self.now) (atom left.now right.now more)) result }
+    {
+        let form = difference(alloc, left, right, more)?;
+        self.freeze(form.mixed.as_slice())?;
+        self.keep_form(&form)
+    }
+
+    /// That a comparison is kept as it is where all deltas are 0.
+    pub(crate) fn keep_compared(&self, alloc: Global, c: &Compared) -> Result<(), Stop>
+        requires { AreSmall c.now }
+        ensures { Finds (flat_map (atom_faults (plain_rules self.now)) (atoms_of c.now)) result }
+    {
+        if c.holds {
+            self.keep_true(alloc, c.op, &c.left, &c.right)
+        } else {
+            self.keep_false(alloc, c.op, &c.left, &c.right)
+        }
+    }
+
+    fn keep_true(&self, alloc: Global, op: Compare, left: &Form, right: &Form) -> Result<(), Stop>
+        requires left { Numbers (IsSmall form_limit) left.now }
+        requires right { Numbers (IsSmall form_limit) right.now }
+        ensures { Finds (flat_map (atom_faults (plain_rules self.now)) (kept_true op left.now right.now)) result }
+    {
+        match op {
+            Compare::Less => self.keep(alloc, left, right, 1),
+            Compare::LessEqual => self.keep(alloc, left, right, 0),
+            Compare::Equal => {
+                self.keep(alloc, left, right, 0)?;
+                self.keep(alloc, right, left, 0)
+            }
+        }
+    }
+
+    fn keep_false(&self, alloc: Global, op: Compare, left: &Form, right: &Form) -> Result<(), Stop>
+        requires left { Numbers (IsSmall form_limit) left.now }
+        requires right { Numbers (IsSmall form_limit) right.now }
+        ensures { Finds (flat_map (atom_faults (plain_rules self.now)) (kept_false op left.now right.now)) result }
+    {
+        match op {
+            Compare::Less => self.keep(alloc, right, left, 0),
+            Compare::LessEqual => self.keep(alloc, right, left, 1),
+            Compare::Equal => {
+                if left.constant() < right.constant() {
+                    self.keep(alloc, left, right, 1)
+                } else {
+                    self.keep(alloc, right, left, 1)
+                }
+            }
+        }
+    }
+
+    /// That a delta of the call's site is written.
+    pub(crate) fn own(&self, target: SplitName) -> Result<(), Stop>
+        ensures { Finds (foreign (plain_rules self.now) target) result }
+    {
+        match target {
+            SplitName::Delta { object: _, site } => {
+                if site == self.site {
+                    Ok(())
+                } else {
+                    Err(Stop::Fault(Fault::ForeignWrite))
+                }
+            }
+            SplitName::Whole(_) => Err(Stop::Fault(Fault::ForeignWrite)),
+            SplitName::Base(_) => Err(Stop::Fault(Fault::ForeignWrite)),
+        }
+    }
+}
+
+#[tactic(auto, unfolding(homeo_plan::specs::Key::words))]
+fn is_same(a: &Delta, b: &Delta) -> bool
+    ensures { result ≡ same_delta a.now b.now }
+{
+    a.object == b.object && a.site == b.site
+}
+
+/// Whether one of the clauses keeps the form at most 0.
+fn has_clause(clauses: &[Clause], form: &Linear) -> bool
+    requires { IsSmall form_limit form.now.constant }
+    ensures { result ≡ list_any (keeps (plain_linear form.now)) (map plain_clause clauses.now) }
+{
+    for clause in clauses {
+        if keeps(form, clause) {
+            return true;
+        }
+    }
+    false
+}
+
+/// Whether a clause keeps the form at most 0.
+fn keeps(form: &Linear, clause: &Clause) -> bool
+    requires { IsSmall form_limit form.now.constant }
+    ensures { result ≡ keeps (plain_linear form.now) (plain_clause clause.now) }
+{
+    same_terms(form.terms.as_slice(), clause.terms.as_slice()) && clause.slack <= -form.constant
+}
+
+fn same_terms(some: &[Term], others: &[Term]) -> bool
+    ensures { result ≡ same_terms some.now others.now }
+{
+    some == others
+}

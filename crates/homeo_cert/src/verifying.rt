@@ -1,0 +1,141 @@
+//! The verdict on bytes.
+
+ghost use Rattle.std.specs.Prelude.{◌≡◌, ◌≤◌, ◌+◌, [], length, map, IfOk, MatchOption, option_map};
+ghost use Rattle.serde_json.specs.View.{view};
+ghost use Rattle.homeo_plan.specs.Config.{total};
+ghost use Rattle.homeo_plan.specs.PlanView.{plain_clause};
+ghost use Rattle.homeo_cert.specs.Shape.{InShape};
+ghost use Rattle.homeo_cert.specs.Text.{certificate_data};
+ghost use Rattle.homeo_cert.specs.Verdict.{IsVerdictOn, fits_slack, misfits, at_call, faults_from, first_of_all, verdict_of};
+ghost use Rattle.homeo_cert.specs.declared.verdict.Verdict.TheVariants as verdict;
+ghost use Rattle.homeo_cert.specs.inner.CertificateView.{plain_certificate};
+ghost use Rattle.homeo_cert.specs.inner.Reading.{IsRead};
+
+use crate::certificate::{Certificate, read_certificate};
+use crate::fault::{Fault, Stop};
+use crate::following::follow_call;
+use crate::parsing::parse;
+use crate::rules::Rules;
+use crate::verdict::Verdict;
+use homeo_plan::Clause;
+use homeo_syntax::Memory;
+use serde_json::Value;
+use std::alloc::Global;
+
+/// The verdict on at most 16,777,216 bytes (this project's rule): the first fault of the certificate that they are, or `Valid`.
+/// A certificate that is valid is sound: where all treaties hold, each site runs its calls alone as if it had the deltas of all
+/// sites.
+///
+/// # Errors
+///
+/// `Memory` when out of memory.
+pub fn verify(alloc: Global, bytes: &[u8]) -> Result<Verdict, Memory>
+    requires { length bytes.now ≤ 16777216 }
+    ensures { IfOk result (λ v. IsVerdictOn bytes.now v) }
+{
+    let Some(value) = parse(alloc, bytes)? else {
+        return Ok(Verdict::Json);
+    };
+    match certificate_in(alloc, value)? {
+        Some(certificate) => judge(alloc, &certificate),
+        None => Ok(Verdict::Shape),
+    }
+}
+
+/// The certificate that the value is, which is let go then.
+fn certificate_in(alloc: Global, value: Value) -> Result<Option<Certificate>, Memory>
+    ensures { IfOk result (λ o. IsRead InShape certificate_data (view value) (option_map plain_certificate o)) }
+{
+    read_certificate(alloc, &value)
+}
+
+/// The verdict on a certificate in shape.
+fn judge(alloc: Global, c: &Certificate) -> Result<Verdict, Memory>
+    ensures { IfOk result (λ v. v ≡ verdict_of (plain_certificate c.now)) }
+{
+    match misfit(c.clauses.as_slice(), c.bounds.as_slice())? {
+        Some(clause) => Ok(Verdict::Bounds { clause }),
+        None => judge_calls(alloc, c),
+    }
+}
+
+/// The number of the first clause whose bounds don't fit.
+fn misfit(clauses: &[Clause], bounds: &[Vec<i64>]) -> Result<Option<u32>, Memory>
+    ensures { IfOk result (λ o. MatchOption o
+        (misfits 0 (map plain_clause clauses.now) (map (λ b. b.items) bounds.now) ≡ [])
+        (λ n. first_of_all (misfits 0 (map plain_clause clauses.now) (map (λ b. b.items) bounds.now)) ≡ verdict.Bounds n)) }
+{
+    let mut clauses = clauses;
+    let mut bounds = bounds;
+    let mut number = 0;
+    while let Some((clause, more_clauses)) = clauses.split_first() {
+        let Some((row, more_bounds)) = bounds.split_first() else {
+            return Ok(None);
+        };
+        if !fits(clause, row.as_slice()) {
+            return Ok(Some(number));
+        }
+        number = next(number)?;
+        clauses = more_clauses;
+        bounds = more_bounds;
+    }
+    Ok(None)
+}
+
+/// The next number. No text has so many items that there is none.
+fn next(number: u32) -> Result<u32, Memory>
+    ensures { IfOk result (λ n. n ≡ number + 1) }
+{
+    if number < u32::MAX { Ok(number + 1) } else { Err(Memory) }
+}
+
+/// Whether no bound is negative, and they sum to the clause's slack.
+fn fits(clause: &Clause, bounds: &[i64]) -> bool
+    ensures { result ≡ fits_slack (plain_clause clause.now) bounds.now }
+{
+    bounds.iter().all(|bound| 0 <= *bound) && total(bounds) == clause.slack
+}
+
+fn total(bounds: &[i64]) -> i128
+    ensures { result ≡ total bounds.now }
+{
+    let mut sum = 0;
+    for bound in bounds {
+        sum += *bound as i128;
+    }
+    sum
+}
+
+/// The first fault of the calls, one after another.
+fn judge_calls(alloc: Global, c: &Certificate) -> Result<Verdict, Memory>
+    ensures { IfOk result (λ v. v ≡ first_of_all (faults_from 0 (plain_certificate c.now) (plain_certificate c.now).calls)) }
+{
+    let mut number = 0;
+    for call in &c.calls {
+        let rules = Rules {
+            site: call.site,
+            clauses: c.clauses.as_slice(),
+            freezes: c.freezes.as_slice(),
+        };
+        match follow_call(alloc, rules, c.base.as_slice(), &call.command) {
+            Ok(()) => {}
+            Err(Stop::Fault(fault)) => return Ok(of_call(number, fault)),
+            Err(Stop::Memory) => return Err(Memory),
+        }
+        number = next(number)?;
+    }
+    Ok(Verdict::Valid)
+}
+
+/// The verdict of a fault of a call.
+#[tactic(auto, unfolding(crate::specs::Key::words))]
+fn of_call(call: u32, fault: Fault) -> Verdict
+    ensures { result ≡ at_call call fault }
+{
+    match fault {
+        Fault::TooLarge => Verdict::Size { call },
+        Fault::NotFrozen(delta) => Verdict::Freeze { call, delta },
+        Fault::NoClause => Verdict::Clause { call },
+        Fault::ForeignWrite => Verdict::Foreign { call },
+    }
+}
