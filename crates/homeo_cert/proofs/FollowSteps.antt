@@ -5,17 +5,18 @@ use Rattle.homeo_syntax.specs.Key.{words as tree_words}
 use Rattle.homeo_syntax.specs.declared.low.LCommand.{LCommand}
 use Rattle.homeo_syntax.specs.Low.{Cond, Command, Commands, Skip, Seq, If, NoCommand, MoreCommand}
 use Rattle.homeo_syntax.specs.LowView.{low_commands, plain_lcommand}
-use Rattle.homeo_meaning.specs.LowMeaning.{holds}
+use Rattle.homeo_meaning.specs.LowMeaning.{DeltaAt, holds}
 use Rattle.homeo_meaning.proofs.Steps.{drop_next, drop_none}
 use Rattle.homeo_plan.specs.declared.forms.Delta.{Delta}
-use Rattle.homeo_plan.specs.Linear.{Forms}
+use Rattle.homeo_plan.specs.Linear.{Forms, base_forms}
 use Rattle.homeo_cert.specs.Key.{words}
 use Rattle.homeo_cert.specs.declared.fault.Fault.{Fault}
 use Rattle.homeo_cert.specs.declared.fault.Stop.{Stop}
 use Rattle.homeo_cert.specs.declared.following.Following.{Following}
+use Rattle.homeo_cert.specs.Certificate.{Call, Certificate, base_of}
 use Rattle.homeo_cert.specs.Met.{at_zero, met_in_cond}
 use Rattle.homeo_cert.specs.Kept.{kept}
-use Rattle.homeo_cert.specs.Followed.{too_large, atom_faults, faults, all_faults, forms_after, forms_after_all, written, all_written}
+use Rattle.homeo_cert.specs.Followed.{Rules, too_large, not_frozen, atom_faults, remote_deltas, faults, all_faults, forms_after, forms_after_all, written, all_written, rules_of, call_faults}
 use Rattle.homeo_cert.specs.inner.Follows.{Follows, FollowsAll, rules_in, forms_in, written_in}
 use Rattle.homeo_cert.specs.inner.Stops.{StopsAt, Finds}
 use Rattle.homeo_cert.proofs.Stopping.{stop_sooner, stop_later, none_in_both, finds_later}
@@ -126,3 +127,30 @@ module _ (b : Cond) (c d : Command) (before : Following) where
           forms = f.forms ∙ ap (λ w. cond w (forms_after c (forms_in before)) (forms_after d (forms_in before))) t;
           written = f.written ∙ ap (λ w. cond w (written c (forms_in before) (written_in before)) (written d (forms_in before) (written_in before))) t;
         }
+
+-- ---- a call
+-- the faults of what was written
+abbrev pub end_faults : Rules → Forms → List Delta → List Fault
+end_faults r f ds = flat_map (λ d. not_frozen r (remote_deltas r (f (DeltaAt d.object d.site)))) ds
+
+module _ (c : Certificate) (g : Call) (start : Following) (rules : rules_in start ≡ rules_of c g) (forms : forms_in start ≡ base_forms (base_of c)) where
+  same_faults : faults (rules_in start) g.command (forms_in start) ≡ faults (rules_of c g) g.command (base_forms (base_of c))
+  same_faults = ap₂ (λ r f. faults r g.command f) rules forms
+
+  after_call : List Fault
+  after_call = end_faults (rules_of c g) (forms_after g.command (base_forms (base_of c))) (written g.command (base_forms (base_of c)) [])
+
+  pub call_stops_in : (e : Stop) → StopsAt (faults (rules_in start) g.command (forms_in start)) e → StopsAt (call_faults c g) e
+  unfolding words after_call
+  call_stops_in e h = stop_sooner (faults (rules_of c g) g.command (base_forms (base_of c))) after_call e (subst (λ l. StopsAt l e) same_faults h)
+
+  pub call_ends :
+      written_in start ≡ [] → (after : Following) → faults (rules_in start) g.command (forms_in start) ≡ [] → Follows g.command start after →
+      {A : Type 0} (r : Result A Stop) → Finds (end_faults (rules_in after) (forms_in after) (written_in after)) r → Finds (call_faults c g) r
+  unfolding words after_call
+  call_ends none after no follows r h =
+      let p : rules_in after ≡ rules_of c g = follows.rules ∙ rules in
+      let q : forms_in after ≡ forms_after g.command (base_forms (base_of c)) = follows.forms ∙ ap (forms_after g.command) forms in
+      let w : written_in after ≡ written g.command (base_forms (base_of c)) [] = follows.written ∙ ap₂ (written g.command) forms none in
+      finds_later (faults (rules_of c g) g.command (base_forms (base_of c))) after_call r (sym same_faults ∙ no)
+      (subst (λ l. Finds l r) (λ i. end_faults (p i) (q i) (w i)) h)

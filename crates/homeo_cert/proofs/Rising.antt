@@ -1,5 +1,7 @@
 -- Deltas that rise: each stands behind the one before it.
-use Rattle.std.proofs.Common.{◌≡◌, ℕ, zero, suc, ◌+◌, ◌-◌, ◌<◌, ◌≤◌, true, List, [], ◌∷◌, length, slice_index_or, arith}
+use Rattle.std.proofs.Common.{◌≡◌, ℕ, zero, suc, ◌+◌, ◌-◌, ◌<◌, ◌≤◌, Bool, true, false, List, [], ◌∷◌, length, slice_index_or, sym, ap, ap₂, ◌∙◌, ⊎_elim, true≢false, arith}
+use Rattle.std.proofs.lemmas.List.{get_or_default}
+use Rattle.std.proofs.lemmas.Bool.{cases_lt}
 use Rattle.homeo_plan.specs.Key.{words as plan_words}
 use Rattle.homeo_plan.specs.declared.forms.Delta.{Delta}
 use Rattle.homeo_plan.specs.Each.{Each}
@@ -32,3 +34,24 @@ rising [] h k x y l = absurd (omega (arith, l))
 rising (d ∷ []) h k x y l = absurd (omega (arith, l))
 rising (d ∷ e ∷ ds) h zero x y l = h.0.0
 rising (d ∷ e ∷ ds) h (suc k) x y l = rising (e ∷ ds) h.1 k x y (omega (arith, l))
+
+-- the delta at place n stands behind the one before it, or it doesn't
+module _ (ds : List Delta) (n : ℕ) (d e : Delta) (v : Bool) (some : 1 ≤ n) (l : n < length ds) (is : v ≡ delta_before (slice_index_or ds (n - 1) d) (slice_index_or ds n e)) where
+  pub rise_more : v ≡ true → RiseBelow n ds → RiseBelow (n + 1) ds
+  rise_more t h = λ k x y s. ⊎_elim (h k x y) (here k x y s) (cases_lt (suc k) n)
+    where
+      here : (k : ℕ) (x y : Delta) → suc k < n + 1 → n ≤ suc k → delta_before (slice_index_or ds k x) (slice_index_or ds (suc k) y) ≡ true
+      here k x y s m =
+          let p : k ≡ n - 1 = omega (arith, s, m) in
+          let q : suc k ≡ n = omega (arith, s, m) in
+          ap₂ delta_before (get_or_default ds k x d (omega (arith, q, l)) ∙ ap (λ j. slice_index_or ds j d) p)
+          (get_or_default ds (suc k) y e (omega (arith, q, l)) ∙ ap (λ j. slice_index_or ds j e) q)
+          ∙ sym is ∙ t
+
+  pub rise_stops : v ≡ false → Rise ds → ⊥
+  rise_stops f r =
+      let q : suc (n - 1) ≡ n = omega (arith, some) in
+      true≢false (sym (rising ds r (n - 1) d e (omega (arith, q, l))) ∙ ap (λ j. delta_before (slice_index_or ds (n - 1) d) (slice_index_or ds j e)) q ∙ sym is ∙ f)
+
+pub rise_ends : (ds : List Delta) (n : ℕ) → length ds ≤ n → RiseBelow n ds → Rise ds
+rise_ends ds n l h = all_rise ds (λ k x y s. h k x y (omega (arith, s, l)))

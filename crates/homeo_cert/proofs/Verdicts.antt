@@ -1,9 +1,10 @@
 -- The first fault of a certificate, and what is said of its bytes.
-use Rattle.std.proofs.Common.{◌≡◌, ℕ, suc, ◌+◌, ◌<◌, ◌≤◌, Bool, true, false, cond, List, [], ◌∷◌, ◌++◌, map, drop, get_or, length, ℤ, refl, sym, ap, ap₂, ◌∙◌, subst, add-one}
+use Rattle.std.proofs.Common.{◌≡◌, ℕ, suc, ◌+◌, ◌<◌, ◌≤◌, Bool, true, false, cond, List, [], ◌∷◌, ◌++◌, map, drop, get_or, length, ℤ, pos, ◌+ℤ◌, refl, sym, ap, ap₂, ◌∙◌, subst, add-one, drop_of_length-le}
+use Rattle.std.proofs.Math.Seq.{drop-cons}
 use Rattle.homeo_meaning.specs.Serial.{values_of}
 use Rattle.homeo_meaning.proofs.Steps.{drop_next, drop_none}
 use Rattle.homeo_plan.specs.Key.{words as plan_words}
-use Rattle.homeo_plan.specs.Config.{Config}
+use Rattle.homeo_plan.specs.Config.{Config, total}
 use Rattle.homeo_plan.specs.Each.{Each}
 use Rattle.homeo_plan.specs.Template.{Clause}
 use Rattle.homeo_cert.specs.Key.{words}
@@ -107,3 +108,39 @@ module _ (c : Certificate) (gs : List code.Call) (i n : ℕ) where
   pub calls_end : length gs ≤ i → CallsSoFar → verdict.Valid ≡ first_of_all (faults_from 0 c (map plain_call gs))
   unfolding words
   calls_end l so = ap first_of_all (sym (ap (faults_from n c) (drop_none plain_call gs i l)) ∙ so)
+
+-- ---- clauses whose bounds are looked at one after another
+pub no_misfit_left : (n : ℕ) (cs : List Clause) (bs : Config) → cs ≡ [] → misfits n cs bs ≡ []
+unfolding words
+no_misfit_left n cs bs e = ap (λ l. misfits n l bs) e
+
+pub no_row_left : (n : ℕ) (cs : List Clause) (bs : Config) → bs ≡ [] → misfits n cs bs ≡ []
+unfolding words
+no_row_left n cs bs e = ap (misfits n cs) e ∙ go cs
+  where
+    go : (cs : List Clause) → misfits n cs [] ≡ []
+    go [] = refl
+    go (c ∷ cs) = refl
+
+module _ (n : ℕ) (c : Clause) (cs all : List Clause) (b : List ℤ) (bs rows : Config) (clauses : all ≡ c ∷ cs) (bounds : rows ≡ b ∷ bs) where
+  here : misfits n all rows ≡ cond (fits_slack c b) (misfits (suc n) cs bs) (verdict.Bounds n ∷ [])
+  unfolding words
+  here = ap₂ (misfits n) clauses bounds
+
+  pub misfit_here : (v : Bool) → v ≡ fits_slack c b → v ≡ false → first_of_all (misfits n all rows) ≡ verdict.Bounds n
+  unfolding words
+  misfit_here v is h = ap first_of_all here ∙ ap (λ w. first_of_all (cond w (misfits (suc n) cs bs) (verdict.Bounds n ∷ []))) (sym is ∙ h)
+
+  pub misfit_further : (v : Bool) → v ≡ fits_slack c b → v ≡ true → (m : ℕ) → m ≡ n + 1 → misfits m cs bs ≡ misfits n all rows
+  misfit_further v is h m e =
+      let k : m ≡ suc n = e ∙ add-one n in
+      ap (λ j. misfits j cs bs) k ∙ sym (here ∙ ap (λ w. cond w (misfits (suc n) cs bs) (verdict.Bounds n ∷ [])) (sym is ∙ h))
+
+-- the sum of the bounds from a place on
+pub total_next : (bs : List ℤ) (i : ℕ) (b d : ℤ) → i < length bs → b ≡ get_or bs i d → total (drop i bs) ≡ b +ℤ total (drop (i + 1) bs)
+unfolding plan_words
+total_next bs i b d l e = rw add-one (ap total (drop-cons bs i d l ∙ ap (λ y. y ∷ drop (suc i) bs) (sym e)))
+
+pub total_none : (bs : List ℤ) (i : ℕ) → length bs ≤ i → total (drop i bs) ≡ pos 0
+unfolding plan_words
+total_none bs i l = ap total (drop_of_length-le bs l)

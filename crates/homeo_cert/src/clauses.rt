@@ -5,7 +5,6 @@ ghost use Rattle.serde_json.specs.View.{view};
 ghost use Rattle.homeo_plan.specs.Each.{Each};
 ghost use Rattle.homeo_plan.specs.Linear.{delta_before, deltas_of};
 ghost use Rattle.homeo_plan.specs.PlanView.{plain_clause};
-ghost use Rattle.homeo_plan.specs.declared.forms.Delta.{Delta as DeltaRecord};
 ghost use Rattle.homeo_cert.specs.Json.{list_data, whole_data, wholes_data};
 ghost use Rattle.homeo_cert.specs.Shape.{TermInShape, ClauseInShape, BoundsInShape, Rise};
 ghost use Rattle.homeo_cert.specs.Text.{term_data, clause_data};
@@ -72,19 +71,11 @@ fn terms_rise(terms: &[Term]) -> bool
     ensures { IsTrue result ↔ Rise (deltas_of terms.now) }
 {
     for place in 1..terms.len() {
-        if !leads(terms, place) {
+        if !is_before(terms[place - 1].delta, terms[place].delta) {
             return false;
         }
     }
     true
-}
-
-/// Whether the delta of the term at a place stands behind that of the one before it.
-fn leads(terms: &[Term], place: usize) -> bool
-    requires { (0 < place) × (place < length terms.now) }
-    ensures { (x y : DeltaRecord) → result ≡ delta_before (slice_index_or (deltas_of terms.now) (place - 1) x) (slice_index_or (deltas_of terms.now) place y) }
-{
-    is_before(terms[place - 1].delta, terms[place].delta)
 }
 
 /// A clause: its slack and its terms, whose deltas rise.

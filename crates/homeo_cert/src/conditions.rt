@@ -48,7 +48,7 @@ fn comparison(
 {
     let left = form_of(alloc, standing, left)?;
     let right = form_of(alloc, standing, right)?;
-    let holds = is_true(op, left.constant(), right.constant());
+    let holds = is_true(op, &left, &right);
     let mut compared = Vec::new(alloc);
     compared.push(Compared {
         op,
@@ -59,13 +59,15 @@ fn comparison(
     Ok(Tested { holds, compared })
 }
 
-fn is_true(op: Compare, left: i128, right: i128) -> bool
-    ensures { result ≡ compared op left right }
+/// Whether the comparison is true where all deltas are 0.
+#[tactic(auto, unfolding(homeo_meaning::specs::Key::words))]
+fn is_true(op: Compare, left: &Form, right: &Form) -> bool
+    ensures { result ≡ compared op left.now.constant right.now.constant }
 {
     match op {
-        Compare::Less => left < right,
-        Compare::LessEqual => left <= right,
-        Compare::Equal => left == right,
+        Compare::Less => left.constant() < right.constant(),
+        Compare::LessEqual => left.constant() <= right.constant(),
+        Compare::Equal => left.constant() == right.constant(),
     }
 }
 

@@ -4,7 +4,6 @@ ghost use Rattle.std.specs.Prelude.{◌≡◌, ◌<◌, ◌-◌, ◌↔◌, ◌�
 ghost use Rattle.serde_json.specs.View.{view};
 ghost use Rattle.homeo_plan.specs.Each.{Each};
 ghost use Rattle.homeo_plan.specs.Linear.{delta_before};
-ghost use Rattle.homeo_plan.specs.declared.forms.Delta.{Delta as DeltaRecord};
 ghost use Rattle.homeo_cert.specs.Json.{list_data};
 ghost use Rattle.homeo_cert.specs.Shape.{DeltaInShape, Rise};
 ghost use Rattle.homeo_cert.specs.Text.{delta_data};
@@ -79,19 +78,11 @@ fn rise(deltas: &[Delta]) -> bool
     ensures { IsTrue result ↔ Rise deltas.now }
 {
     for place in 1..deltas.len() {
-        if !leads(deltas, place) {
+        if !is_before(deltas[place - 1], deltas[place]) {
             return false;
         }
     }
     true
-}
-
-/// Whether the delta at a place stands behind the one before it.
-fn leads(deltas: &[Delta], place: usize) -> bool
-    requires { (0 < place) × (place < length deltas.now) }
-    ensures { (x y : DeltaRecord) → result ≡ delta_before (slice_index_or deltas.now (place - 1) x) (slice_index_or deltas.now place y) }
-{
-    is_before(deltas[place - 1], deltas[place])
 }
 
 /// The order is by object, and then by site.

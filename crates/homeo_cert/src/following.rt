@@ -9,11 +9,14 @@ ghost use Rattle.homeo_meaning.specs.Serial.{values_of};
 ghost use Rattle.homeo_plan.specs.Linear.{base_forms};
 ghost use Rattle.homeo_cert.specs.Met.{at_zero, met_in_cond};
 ghost use Rattle.homeo_cert.specs.Kept.{kept};
-ghost use Rattle.homeo_cert.specs.Followed.{too_large, not_frozen, remote_deltas, atom_faults, faults, all_faults, forms_after, written};
+ghost use Rattle.homeo_cert.specs.Followed.{too_large, not_frozen, remote_deltas, atom_faults, faults, all_faults, call_faults};
+ghost use Rattle.homeo_cert.specs.inner.CertificateView.{plain_call, plain_certificate};
 ghost use Rattle.homeo_cert.specs.inner.Stops.{Finds};
 ghost use Rattle.homeo_cert.specs.inner.Follows.{Follows, FollowsAll, rules_in, forms_in, written_in};
 ghost use Rattle.homeo_cert.specs.inner.RulesView.{plain_rules};
 
+use crate::calls::Call;
+use crate::certificate::Certificate;
 use crate::conditions::condition;
 use crate::fault::Stop;
 use crate::rules::Rules;
@@ -142,14 +145,15 @@ impl<'a> Following<'a> {
 }
 
 /// The first fault of a call, if it has one.
-pub(crate) fn follow_call(alloc: Global, rules: Rules, base: &[i64], command: &LCommand) -> Result<(), Stop>
-    ensures { Finds
-        (faults (plain_rules rules.entry) (plain_lcommand command.now) (base_forms (values_of base.now))
-            ++ flat_map (λ d. not_frozen (plain_rules rules.entry) (remote_deltas (plain_rules rules.entry)
-                    (forms_after (plain_lcommand command.now) (base_forms (values_of base.now)) (DeltaAt d.object d.site))))
-                (written (plain_lcommand command.now) (base_forms (values_of base.now)) [])) result }
+pub(crate) fn follow_call(alloc: Global, c: &Certificate, call: &Call) -> Result<(), Stop>
+    ensures { Finds (call_faults (plain_certificate c.now) (plain_call call.now)) result }
 {
-    let mut following = Following::new(alloc, rules, base);
-    following.follow(alloc, command)?;
+    let rules = Rules {
+        site: call.site,
+        clauses: c.clauses.as_slice(),
+        freezes: c.freezes.as_slice(),
+    };
+    let mut following = Following::new(alloc, rules, c.base.as_slice());
+    following.follow(alloc, &call.command)?;
     following.end(alloc)
 }

@@ -15,7 +15,6 @@ use crate::certificate::{Certificate, read_certificate};
 use crate::fault::{Fault, Stop};
 use crate::following::follow_call;
 use crate::parsing::parse;
-use crate::rules::Rules;
 use crate::verdict::Verdict;
 use homeo_plan::Clause;
 use homeo_syntax::Memory;
@@ -112,12 +111,7 @@ fn judge_calls(alloc: Global, c: &Certificate) -> Result<Verdict, Memory>
 {
     let mut number = 0;
     for call in &c.calls {
-        let rules = Rules {
-            site: call.site,
-            clauses: c.clauses.as_slice(),
-            freezes: c.freezes.as_slice(),
-        };
-        match follow_call(alloc, rules, c.base.as_slice(), &call.command) {
+        match follow_call(alloc, c, call) {
             Ok(()) => {}
             Err(Stop::Fault(fault)) => return Ok(of_call(number, fault)),
             Err(Stop::Memory) => return Err(Memory),

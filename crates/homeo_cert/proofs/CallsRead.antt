@@ -1,0 +1,53 @@
+-- Calls, read from the parts of a JSON object.
+use Rattle.std.proofs.Common.{◌≡◌, ℕ, ◌<◌, List, [], ◌∷◌, ◌++◌, map, pos, Some, sym, ap, ap₂, ◌∙◌, subst, append-nil}
+use Rattle.std.specs.Prelude.{codes}
+use Rattle.serde_json.specs.Data.{Data, object, member, no_members}
+use Rattle.homeo_syntax.specs.Low.{Command}
+use Rattle.homeo_plan.specs.Each.{Each}
+use Rattle.homeo_cert.specs.declared.nodes.Node.{Node}
+use Rattle.homeo_cert.specs.Certificate.{Call}
+use Rattle.homeo_cert.specs.Json.{whole_data, list_data, node_data}
+use Rattle.homeo_cert.specs.Nodes.{command_nodes}
+use Rattle.homeo_cert.specs.Shape.{NodeInShape, CallInShape}
+use Rattle.homeo_cert.specs.Text.{call_data}
+use Rattle.homeo_cert.specs.inner.Parse.{parse_command}
+use Rattle.homeo_cert.proofs.NodesInShape.{nodes_in_shape}
+use Rattle.homeo_cert.proofs.OneCertificate.{list_back, node_back, node_same, each_same, value_at}
+use Rattle.homeo_cert.proofs.ParseSound.{command_sound}
+use Rattle.homeo_cert.proofs.Unique.{read_command}
+
+abbrev pub call_object : Data → Data → Data
+call_object c s = object (member (codes "command") c (member (codes "site") s no_members))
+
+module _ (n k : ℕ) (d c s : Data) (is : call_object c s ≡ d) where
+  command_is : (g : Call) → call_data g ≡ d → list_data (map node_data (command_nodes g.command)) ≡ c
+  command_is g e = ap (value_at 0) (e ∙ sym is)
+
+  site_is : (g : Call) → call_data g ≡ d → whole_data (pos g.site) ≡ s
+  site_is g e = ap (value_at 1) (e ∙ sym is)
+
+  pub no_site : ((y : ℕ) → y < k → whole_data (pos y) ≡ s → ⊥) → (g : Call) → CallInShape n k g → call_data g ≡ d → ⊥
+  no_site h g shape e = h g.site shape.site (site_is g e)
+
+  pub no_nodes : ((ns : List Node) → Each (NodeInShape n k) ns → list_data (map node_data ns) ≡ c → ⊥) → (g : Call) → CallInShape n k g → call_data g ≡ d → ⊥
+  no_nodes h g shape e = h (command_nodes g.command) (nodes_in_shape n k g.command shape.command) (command_is g e)
+
+  module _ (ns : List Node) (each : Each (NodeInShape n k) ns) (nodes : list_data (map node_data ns) ≡ c) where
+    same_nodes : (g : Call) → call_data g ≡ d → command_nodes g.command ≡ ns
+    same_nodes g e =
+        sym (each_same node_back node_data node_same (command_nodes g.command)) ∙ ap (λ x. map node_back (list_back x)) (command_is g e ∙ sym nodes)
+        ∙ each_same node_back node_data node_same ns
+
+    pub no_command : ((x : Command) → parse_command 1000 ns ≡ Some (x, []) → ⊥) → (g : Call) → CallInShape n k g → call_data g ≡ d → ⊥
+    no_command h g shape e =
+        h g.command
+        (subst (λ l. parse_command 1000 l ≡ Some (g.command, [])) (append-nil (command_nodes g.command) ∙ same_nodes g e)
+        (read_command n k 1000 g.command [] shape.command shape.nesting))
+
+    pub call_read :
+        (x : Command) → parse_command 1000 ns ≡ Some (x, []) → (y : ℕ) → y < k → whole_data (pos y) ≡ s →
+        CallInShape n k (record { site = y; command = x }) × (call_data (record { site = y; command = x }) ≡ d)
+    call_read x p y l site =
+        let got = command_sound n k 1000 ns x [] each p in
+        (record { site = l; command = got.good.0; nesting = got.good.1 },
+        ap₂ call_object (ap (λ l. list_data (map node_data l)) (sym (append-nil (command_nodes x)) ∙ sym got.is) ∙ nodes) site ∙ is)
