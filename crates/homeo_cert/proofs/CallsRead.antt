@@ -12,7 +12,7 @@ use Rattle.homeo_cert.specs.Shape.{NodeInShape, CallInShape}
 use Rattle.homeo_cert.specs.Text.{call_data}
 use Rattle.homeo_cert.specs.inner.Parse.{parse_command}
 use Rattle.homeo_cert.proofs.NodesInShape.{nodes_in_shape}
-use Rattle.homeo_cert.proofs.OneCertificate.{list_back, node_back, node_same, each_same, value_at}
+use Rattle.homeo_cert.proofs.OneCertificate.{value_at, same_nodes}
 use Rattle.homeo_cert.proofs.ParseSound.{command_sound}
 use Rattle.homeo_cert.proofs.Unique.{read_command}
 
@@ -33,15 +33,13 @@ module _ (n k : ℕ) (d c s : Data) (is : call_object c s ≡ d) where
   no_nodes h g shape e = h (command_nodes g.command) (nodes_in_shape n k g.command shape.command) (command_is g e)
 
   module _ (ns : List Node) (each : Each (NodeInShape n k) ns) (nodes : list_data (map node_data ns) ≡ c) where
-    same_nodes : (g : Call) → call_data g ≡ d → command_nodes g.command ≡ ns
-    same_nodes g e =
-        sym (each_same node_back node_data node_same (command_nodes g.command)) ∙ ap (λ x. map node_back (list_back x)) (command_is g e ∙ sym nodes)
-        ∙ each_same node_back node_data node_same ns
+    nodes_are : (g : Call) → call_data g ≡ d → command_nodes g.command ≡ ns
+    nodes_are g e = same_nodes (command_nodes g.command) ns (command_is g e ∙ sym nodes)
 
     pub no_command : ((x : Command) → parse_command 1000 ns ≡ Some (x, []) → ⊥) → (g : Call) → CallInShape n k g → call_data g ≡ d → ⊥
     no_command h g shape e =
         h g.command
-        (subst (λ l. parse_command 1000 l ≡ Some (g.command, [])) (append-nil (command_nodes g.command) ∙ same_nodes g e)
+        (subst (λ l. parse_command 1000 l ≡ Some (g.command, [])) (append-nil (command_nodes g.command) ∙ nodes_are g e)
         (read_command n k 1000 g.command [] shape.command shape.nesting))
 
     pub call_read :

@@ -1,12 +1,16 @@
 -- Deltas that are frozen one after another, and clauses that keep a form.
-use Rattle.std.proofs.Common.{◌≡◌, ℕ, suc, ◌+◌, ◌<◌, ◌≤◌, Bool, true, false, not, cond, ◌||◌, List, [], ◌∷◌, ◌++◌, map, drop, get_or, length, refl, sym, ap, ◌∙◌, subst, add-one, drop_of_length-le}
+use Rattle.std.proofs.Common.{◌≡◌, ℕ, suc, ◌+◌, ◌<◌, ◌≤◌, Bool, true, false, not, cond, ◌||◌, ◌&&◌, List, [], ◌∷◌, ◌++◌, map, drop, get_or, length, refl, sym, ap, ap₂, ◌∙◌, subst, add-one, drop_of_length-le}
 use Rattle.std.specs.List.{list_any}
 use Rattle.std.proofs.Math.Seq.{drop-cons}
 use Rattle.homeo_meaning.proofs.Steps.{drop_next, drop_none}
+use Rattle.std.specs.Cmp.Lexicographic.{pointwise}
+use Rattle.homeo_plan.specs.Key.{words as plan_words}
 use Rattle.homeo_plan.specs.declared.forms.Delta.{Delta}
+use Rattle.homeo_plan.specs.declared.forms.Term.{Term}
 use Rattle.homeo_plan.specs.declared.templates.Clause.{Clause}
 use Rattle.homeo_plan.specs.Linear.{same_delta, Linear}
 use Rattle.homeo_plan.specs.PlanView.{plain_clause}
+use Rattle.homeo_plan.specs.Template.{same_term, same_terms}
 use Rattle.homeo_cert.specs.Key.{words}
 use Rattle.homeo_cert.specs.declared.fault.Fault.{Fault}
 use Rattle.homeo_cert.specs.declared.fault.Fault.TheVariants.{NotFrozen}
@@ -57,3 +61,11 @@ module _ (a : Linear) (cs : List Clause) (i : ℕ) where
 
   pub no_clause_left : length cs ≤ i → Kept (drop i cs) ≡ Kept cs → false ≡ Kept cs
   no_clause_left l so = sym (ap (list_any (keeps a)) (drop_none plain_clause cs i l)) ∙ so
+
+-- terms that are compared one after another
+pub pointwise_same : (E : Term → Term → Bool) → ((a b : Term) → E a b ≡ same_term a b) → (xs ys : List Term) → pointwise E xs ys ≡ same_terms xs ys
+unfolding plan_words
+pointwise_same E h [] [] = refl
+pointwise_same E h [] (y ∷ ys) = refl
+pointwise_same E h (x ∷ xs) [] = refl
+pointwise_same E h (x ∷ xs) (y ∷ ys) = ap₂ ◌&&◌ (h x y) (pointwise_same E h xs ys)

@@ -22,7 +22,7 @@ pub loop-item-preserved : goal.loop-item-preserved
 loop-item-preserved c =
     let n = c.loop-item.item-index in
     let got = subst (IsRead (ClauseInShape c.args.extents.objects c.args.extents.sites) clause_data (view c.item-item.result)) (ap (option_map plain_clause) c.in-Some-2.is) c.in_ok-c.ensures in
-    subst (λ l. Front (ClauseInShape c.args.extents.objects c.args.extents.sites) clause_data view c.in-Some.items.now (n + 1) (map plain_clause (l))) (sym c.in_ok-push-in-Some.ensures.items)
+    subst (λ l. Front (ClauseInShape c.args.extents.objects c.args.extents.sites) clause_data view c.in-Some.items.now (n + 1) (map plain_clause (l))) (sym c.in_ok-push-in-Some-2.ensures.items)
     (subst (Front (ClauseInShape c.args.extents.objects c.args.extents.sites) clause_data view c.in-Some.items.now (n + 1)) (sym (map-append plain_clause c.loop-item.clauses.items (c.in-Some-2.c ∷ []))) (front_more (ClauseInShape c.args.extents.objects c.args.extents.sites) clause_data view c.in-Some.items.now n (map plain_clause (c.loop-item.clauses.items)) (plain_clause c.in-Some-2.c) c.item-item.result c.loop-item-test.true
     c.loop-item.invariant got.0 (got.1 ∙ ap view c.item-item.is)))
 

@@ -20,9 +20,9 @@ returns-in-None c =
 pub loop-item-preserved : goal.loop-item-preserved
 loop-item-preserved c =
     let n = c.loop-item.item-index in
-    let got = c.in-Some-2.ensures in
-    subst (λ l. Front (TermInShape c.args.extents.objects c.args.extents.sites) term_data view c.in-Some.items.now (n + 1) (l)) (sym c.in_ok-push-in-Some.ensures.items)
-    ((front_more (TermInShape c.args.extents.objects c.args.extents.sites) term_data view c.in-Some.items.now n (c.loop-item.terms.items) c.in-Some-2.t c.item-item.result c.loop-item-test.true
+    let got = c.in-Some-read_term.ensures in
+    subst (λ l. Front (TermInShape c.args.extents.objects c.args.extents.sites) term_data view c.in-Some.items.now (n + 1) (l)) (sym c.in_ok-push-in-Some-read_term.ensures.items)
+    ((front_more (TermInShape c.args.extents.objects c.args.extents.sites) term_data view c.in-Some.items.now n (c.loop-item.terms.items) c.in-Some-read_term.t c.item-item.result c.loop-item-test.true
     c.loop-item.invariant got.0 (got.1 ∙ ap view c.item-item.is)))
 
 pub returns : goal.returns

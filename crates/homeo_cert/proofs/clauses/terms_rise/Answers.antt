@@ -1,8 +1,10 @@
 -- The delta of the term at a place stands behind that of the one before it, or not.
 use Rattle.std.proofs.Common.{◌≡◌, ◌-◌, refl, sym, ap, ap₂, ◌∙◌, length, arith}
-use Rattle.std.proofs.Math.ListN.{length-map, get_or-map}
+use Rattle.std.proofs.Math.ListN.{get_or-map}
+use Rattle.std.proofs.lemmas.List.{length-map}
 use Rattle.std.proofs.lemmas.Bool.{false≢true}
 use Rattle.homeo_plan.specs.Key.{words as plan_words}
+use Rattle.homeo_plan.specs.declared.forms.Term.{Term}
 use Rattle.homeo_plan.specs.Linear.{delta_before, deltas_of}
 use Rattle.homeo_cert.proofs.Rising.{rise_more, rise_stops, rise_ends}
 use Rattle.homeo_cert.proofs.clauses.terms_rise.Goals as goal
@@ -14,8 +16,8 @@ returns-then-not-is_before c =
     let n = c.loop-place.place in
     (λ t. absurd (false≢true t),
     λ r. absurd (rise_stops (deltas_of ts) n _ _ c.is_before.result c.loop-place.auto.place
-        (omega (arith, length-map (λ t. t.delta) ts, c.loop-place-test.true))
-        (c.is_before.ensures ∙ ap₂ delta_before (sym (get_or-map (λ t. t.delta) ts (n - 1) _)) (sym (get_or-map (λ t. t.delta) ts n _))) c.if-not-is_before.true r))
+        (omega (arith, length-map ts (λ (t : Term). t.delta), c.loop-place-test.true))
+        (c.is_before.ensures ∙ ap₂ delta_before (sym (get_or-map (λ (t : Term). t.delta) ts (n - 1) _)) (sym (get_or-map (λ (t : Term). t.delta) ts n _))) c.if-not-is_before.true r))
 
 pub loop-place-preserved : goal.loop-place-preserved
 unfolding plan_words
@@ -23,11 +25,11 @@ loop-place-preserved c =
     let ts = c.args.terms.now in
     let n = c.loop-place.place in
     rise_more (deltas_of ts) n _ _ c.is_before.result c.loop-place.auto.place
-    (omega (arith, length-map (λ t. t.delta) ts, c.loop-place-test.true))
-    (c.is_before.ensures ∙ ap₂ delta_before (sym (get_or-map (λ t. t.delta) ts (n - 1) _)) (sym (get_or-map (λ t. t.delta) ts n _))) c.if-not-is_before.false c.loop-place.invariant
+    (omega (arith, length-map ts (λ (t : Term). t.delta), c.loop-place-test.true))
+    (c.is_before.ensures ∙ ap₂ delta_before (sym (get_or-map (λ (t : Term). t.delta) ts (n - 1) _)) (sym (get_or-map (λ (t : Term). t.delta) ts n _))) c.if-not-is_before.false c.loop-place.invariant
 
 pub returns : goal.returns
 unfolding plan_words
 returns c =
     let ts = c.args.terms.now in
-    (λ t. rise_ends (deltas_of ts) c.loop-place.place (omega (arith, length-map (λ t. t.delta) ts, c.loop-place-test.false)) c.loop-place.invariant, λ r. refl)
+    (λ t. rise_ends (deltas_of ts) c.loop-place.place (omega (arith, length-map ts (λ (t : Term). t.delta), c.loop-place-test.false)) c.loop-place.invariant, λ r. refl)

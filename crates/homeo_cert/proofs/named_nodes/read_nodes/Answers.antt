@@ -20,9 +20,9 @@ returns-in-None c =
 pub loop-item-preserved : goal.loop-item-preserved
 loop-item-preserved c =
     let n = c.loop-item.item-index in
-    let got = c.in-Some-2.ensures in
-    subst (λ l. Front (NodeInShape c.args.extents.objects c.args.extents.sites) node_data view c.in-Some.items.now (n + 1) (l)) (sym c.in_ok-push-in-Some.ensures.items)
-    ((front_more (NodeInShape c.args.extents.objects c.args.extents.sites) node_data view c.in-Some.items.now n (c.loop-item.nodes.items) c.in-Some-2.n c.item-item.result c.loop-item-test.true
+    let got = c.in-Some-read_node.ensures in
+    subst (λ l. Front (NodeInShape c.args.extents.objects c.args.extents.sites) node_data view c.in-Some.items.now (n + 1) (l)) (sym c.in_ok-push-in-Some-read_node.ensures.items)
+    ((front_more (NodeInShape c.args.extents.objects c.args.extents.sites) node_data view c.in-Some.items.now n (c.loop-item.nodes.items) c.in-Some-read_node.n c.item-item.result c.loop-item-test.true
     c.loop-item.invariant got.0 (got.1 ∙ ap view c.item-item.is)))
 
 pub returns : goal.returns

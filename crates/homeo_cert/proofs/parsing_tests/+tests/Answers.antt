@@ -1,5 +1,5 @@
 -- Each kind of test, and one more of them.
-use Rattle.std.proofs.Common.{rules, ◌≡◌, suc, map, Some, ◌+◌, ◌-◌, [], ◌∷◌, sym, ap, ap₂, ◌∙◌, subst, arith, refl}
+use Rattle.std.proofs.Common.{rules, ◌≡◌, suc, map, IfOk, Some, option_map, ◌+◌, ◌-◌, [], ◌∷◌, sym, ap, ap₂, ◌∙◌, subst, arith, refl}
 use Rattle.std.proofs.lemmas.List.{map-append}
 use Rattle.homeo_syntax.specs.Low.{True, Not}
 use Rattle.homeo_syntax.specs.LowView.{plain_ltest, low_tests}
@@ -70,3 +70,9 @@ tests-returns t c =
     c.loop.invariant
     ∙ ap (λ k. with_read (map plain_ltest c.loop.tests.items) (many (parse_test c.args.levels) k c.loop.nodes)) n
     ∙ with_all (parse_test c.args.levels) (map plain_ltest c.loop.tests.items) c.loop.nodes
+
+pub test-returns-in-Comparison : goal.test-returns-in-Comparison
+unfolding words
+test-returns-in-Comparison t c =
+    subst (λ p. IfOk c.comparison.result (λ o. Gives p (option_map plain_ltest o) c.comparison.new.nodes))
+    (sym (first_of parse_test c.args.levels _ _ c.args.nodes.now c.next.new.self (omega arith) c.in-Some.ensures c.in-Comparison.is)) c.comparison.ensures
