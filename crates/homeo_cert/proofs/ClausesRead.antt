@@ -17,7 +17,7 @@ use Rattle.homeo_cert.proofs.OneCertificate.{value_at, same_terms}
 abbrev clause_object : Data → Data → Data
 clause_object s t = object (member (codes "slack") s (member (codes "terms") t no_members))
 
-abbrev of_parts : ℤ → List Term → Clause
+abbrev pub of_parts : ℤ → List Term → Clause
 of_parts slack ts = record { terms = ts; slack = slack }
 
 module _

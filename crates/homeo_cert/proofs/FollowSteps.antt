@@ -17,7 +17,7 @@ use Rattle.homeo_cert.specs.Certificate.{Call, Certificate, base_of}
 use Rattle.homeo_cert.specs.Met.{at_zero, met_in_cond}
 use Rattle.homeo_cert.specs.Kept.{kept}
 use Rattle.homeo_cert.specs.Followed.{Rules, too_large, not_frozen, atom_faults, remote_deltas, faults, all_faults, forms_after, forms_after_all, written, all_written, rules_of, call_faults}
-use Rattle.homeo_cert.specs.inner.Follows.{Follows, FollowsAll, rules_in, forms_in, written_in}
+use Rattle.homeo_cert.specs.inner.Follows.{Follows, FollowsAll, rules_in, forms_in, written_in, written_faults}
 use Rattle.homeo_cert.specs.inner.Stops.{StopsAt, Finds}
 use Rattle.homeo_cert.proofs.Stopping.{stop_sooner, stop_later, none_in_both, finds_later}
 
@@ -130,7 +130,7 @@ module _ (b : Cond) (c d : Command) (before : Following) where
 
 -- ---- a call
 -- the faults of what was written
-abbrev pub end_faults : Rules → Forms → List Delta → List Fault
+abbrev end_faults : Rules → Forms → List Delta → List Fault
 end_faults r f ds = flat_map (λ d. not_frozen r (remote_deltas r (f (DeltaAt d.object d.site)))) ds
 
 module _ (c : Certificate) (g : Call) (start : Following) (rules : rules_in start ≡ rules_of c g) (forms : forms_in start ≡ base_forms (base_of c)) where
@@ -146,7 +146,7 @@ module _ (c : Certificate) (g : Call) (start : Following) (rules : rules_in star
 
   pub call_ends :
       written_in start ≡ [] → (after : Following) → faults (rules_in start) g.command (forms_in start) ≡ [] → Follows g.command start after →
-      {A : Type 0} (r : Result A Stop) → Finds (end_faults (rules_in after) (forms_in after) (written_in after)) r → Finds (call_faults c g) r
+      {A : Type 0} (r : Result A Stop) → Finds (flat_map (written_faults after) (written_in after)) r → Finds (call_faults c g) r
   unfolding words after_call
   call_ends none after no follows r h =
       let p : rules_in after ≡ rules_of c g = follows.rules ∙ rules in

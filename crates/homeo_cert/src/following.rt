@@ -4,15 +4,15 @@ ghost use Rattle.std.specs.Prelude.{◌≡◌, ◌++◌, [], map, OnOk, IfOk};
 ghost use Rattle.std.specs.List.{flat_map};
 ghost use Rattle.homeo_syntax.specs.LowView.{low_commands, plain_lexpr, plain_lcond, plain_lcommand};
 ghost use Rattle.homeo_syntax.specs.Low.{Assign, Write, Print};
-ghost use Rattle.homeo_meaning.specs.LowMeaning.{DeltaAt, holds};
+ghost use Rattle.homeo_meaning.specs.LowMeaning.{holds};
 ghost use Rattle.homeo_meaning.specs.Serial.{values_of};
 ghost use Rattle.homeo_plan.specs.Linear.{base_forms};
 ghost use Rattle.homeo_cert.specs.Met.{at_zero, met_in_cond};
 ghost use Rattle.homeo_cert.specs.Kept.{kept};
-ghost use Rattle.homeo_cert.specs.Followed.{too_large, not_frozen, remote_deltas, atom_faults, faults, all_faults, call_faults};
+ghost use Rattle.homeo_cert.specs.Followed.{too_large, atom_faults, faults, all_faults, call_faults};
 ghost use Rattle.homeo_cert.specs.inner.CertificateView.{plain_call, plain_certificate};
 ghost use Rattle.homeo_cert.specs.inner.Stops.{Finds};
-ghost use Rattle.homeo_cert.specs.inner.Follows.{Follows, FollowsAll, rules_in, forms_in, written_in};
+ghost use Rattle.homeo_cert.specs.inner.Follows.{Follows, FollowsAll, rules_in, forms_in, written_in, written_faults};
 ghost use Rattle.homeo_cert.specs.inner.RulesView.{plain_rules};
 
 use crate::calls::Call;
@@ -21,7 +21,7 @@ use crate::conditions::condition;
 use crate::fault::Stop;
 use crate::rules::Rules;
 use crate::sizes::form_of;
-use homeo_linear::{Standing, joined_deltas, push_written, remote_of};
+use homeo_linear::{Standing, joined_deltas, push_written};
 use homeo_split::{Place, place_of, place_of_temp};
 use homeo_plan::Delta;
 use homeo_syntax::{LCommand, LCond, LExpr, SplitName, Temp};
@@ -110,8 +110,7 @@ impl<'a> Following<'a> {
         ensures after { OnOk result (Follows (Print (plain_lexpr value.now)) self.old self.new) }
     {
         let form = form_of(alloc, &self.standing, value)?;
-        let remote = remote_of(alloc, self.rules.site, &form)?;
-        self.rules.freeze(remote.as_slice())
+        self.rules.freeze_remote(alloc, &form)
     }
 
     /// Whether the first branch is taken. Its test is kept as it is.
@@ -130,15 +129,16 @@ impl<'a> Following<'a> {
 
     /// That the deltas written depend on no delta of another site.
     fn end(self, alloc: Global) -> Result<(), Stop>
-        ensures { Finds (flat_map (λ d. not_frozen (rules_in self.entry) (remote_deltas (rules_in self.entry) (forms_in self.entry (DeltaAt d.object d.site))))
-            (written_in self.entry)) result }
+        ensures { Finds (flat_map (written_faults self.entry) (written_in self.entry)) result }
     {
         let written = joined_deltas(alloc, self.written)?;
         for delta in &written {
-            let place = Place::Delta { object: delta.object, site: delta.site };
+            let place = Place::Delta {
+                object: delta.object,
+                site: delta.site,
+            };
             let form = self.standing.form_at(alloc, place)?;
-            let remote = remote_of(alloc, self.rules.site, &form)?;
-            self.rules.freeze(remote.as_slice())?;
+            self.rules.freeze_remote(alloc, &form)?;
         }
         Ok(())
     }

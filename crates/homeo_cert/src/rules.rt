@@ -9,7 +9,7 @@ ghost use Rattle.homeo_plan.specs.Linear.{same_delta};
 ghost use Rattle.homeo_plan.specs.PlanView.{plain_clause, plain_linear};
 ghost use Rattle.homeo_plan.specs.Template.{same_terms};
 ghost use Rattle.homeo_cert.specs.Kept.{atom, kept_true, kept_false};
-ghost use Rattle.homeo_cert.specs.Followed.{not_frozen, no_clause, foreign, atom_faults, keeps};
+ghost use Rattle.homeo_cert.specs.Followed.{not_frozen, remote_deltas, no_clause, foreign, atom_faults, keeps};
 ghost use Rattle.homeo_cert.specs.inner.Compares.{AreSmall, atoms_of};
 ghost use Rattle.homeo_cert.specs.inner.Stops.{Finds};
 ghost use Rattle.homeo_cert.specs.inner.RulesView.{plain_rules};
@@ -17,7 +17,7 @@ ghost use Rattle.homeo_cert.specs.inner.RulesView.{plain_rules};
 use crate::conditions::Compared;
 use crate::fault::{Fault, Stop};
 use crate::sizes::difference;
-use homeo_linear::Form;
+use homeo_linear::{Form, remote_of};
 use homeo_plan::{Clause, Delta, Linear, Term};
 use homeo_syntax::{Compare, SplitName};
 use std::alloc::Global;
@@ -32,7 +32,7 @@ pub(crate) struct Rules<'a> {
 
 impl<'a> Rules<'a> {
     /// That each of the deltas is frozen.
-    pub(crate) fn freeze(&self, deltas: &[Delta]) -> Result<(), Stop>
+    fn freeze(&self, deltas: &[Delta]) -> Result<(), Stop>
         ensures { Finds (not_frozen (plain_rules self.now) deltas.now) result }
     {
         for delta in deltas {
@@ -41,6 +41,14 @@ impl<'a> Rules<'a> {
             }
         }
         Ok(())
+    }
+
+    /// That each delta of another site in the form is frozen.
+    pub(crate) fn freeze_remote(&self, alloc: Global, form: &Form) -> Result<(), Stop>
+        ensures { Finds (not_frozen (plain_rules self.now) (remote_deltas (plain_rules self.now) form.now)) result }
+    {
+        let remote = remote_of(alloc, self.site, form)?;
+        self.freeze(remote.as_slice())
     }
 
     fn is_frozen(&self, delta: &Delta) -> bool

@@ -1,10 +1,12 @@
 -- What following a command leaves.
 use Rattle.std.specs.Prelude.{◌≡◌, List, []}
 use Rattle.homeo_syntax.specs.Low.{Command, Commands}
+use Rattle.homeo_meaning.specs.LowMeaning.{DeltaAt}
 use Rattle.homeo_plan.specs.declared.forms.Delta.{Delta}
 use Rattle.homeo_plan.specs.Linear.{Forms, add_deltas}
 use Rattle.homeo_linear.specs.Standing.{forms_of}
-use Rattle.homeo_cert.specs.Followed.{Rules, forms_after, forms_after_all, written, all_written}
+use Rattle.homeo_cert.specs.declared.fault.Fault.{Fault}
+use Rattle.homeo_cert.specs.Followed.{Rules, not_frozen, remote_deltas, forms_after, forms_after_all, written, all_written}
 use Rattle.homeo_cert.specs.declared.following.Following.{Following}
 use Rattle.homeo_cert.specs.inner.RulesView.{plain_rules}
 
@@ -28,3 +30,7 @@ pub record FollowsAll (cs : Commands) (before after : Following) : Type 0 where
   pub rules : rules_in after ≡ rules_in before
   pub forms : forms_in after ≡ forms_after_all cs (forms_in before)
   pub written : written_in after ≡ all_written cs (forms_in before) (written_in before)
+
+-- a delta that was written depends on deltas of other sites that aren't frozen
+abbrev pub written_faults : Following → Delta → List Fault
+written_faults s d = not_frozen (rules_in s) (remote_deltas (rules_in s) (forms_in s (DeltaAt d.object d.site)))

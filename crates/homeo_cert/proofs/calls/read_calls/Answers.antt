@@ -6,7 +6,7 @@ use Rattle.homeo_cert.specs.Shape.{CallInShape}
 use Rattle.homeo_cert.specs.Text.{call_data}
 use Rattle.homeo_cert.specs.inner.CertificateView.{plain_call}
 use Rattle.homeo_cert.specs.inner.Reading.{IsRead}
-use Rattle.homeo_cert.proofs.ReadLists.{Front, front_none, front_more, front_all, none_if, list_read}
+use Rattle.homeo_cert.proofs.ReadLists.{Front, front_none, front_more, front_all, none_if, list_read, same_length}
 use Rattle.homeo_cert.proofs.calls.read_calls.Goals as goal
 
 pub loop-item-init : goal.loop-item-init
@@ -37,3 +37,10 @@ returns c =
     let same = ap length front.1 in
     let few : length gs ≤ 1024 = grind (arith, nat_tests, same, length-map gs call_data, length-map items view) in
     (record { few = few; in_shape = got.0 }, got.1)
+
+pub returns-then-items-gt1024 : goal.returns-then-items-gt1024
+returns-then-items-gt1024 c = λ gs are e.
+    let items = c.in-Some.items.now in
+    let same = same_length (map call_data gs) (map view items) (view c.args.value.now) e c.in-Some.ensures in
+    let few = are.few in
+    absurd (grind (arith, nat_tests, same, few, length-map gs call_data, length-map items view))

@@ -32,7 +32,15 @@ returns-clause-faults c =
     none_large (met f (plain_lexpr c.args.left.now)) (met f (plain_lexpr c.args.right.now)) c.in_ok-left.ensures.faults c.in_ok-right.ensures.faults
 
 pub returns-clause-holds : goal.returns-clause-holds
-returns-clause-holds c = ?
+returns-clause-holds c =
+    let f = forms_of c.args.standing.now in
+    c.is_true.ensures
+    ∙ comparison_passes f c.args.op (plain_lexpr c.args.left.now) (plain_lexpr c.args.right.now) c.in_ok-left.left c.in_ok-right.right
+    c.in_ok-left.ensures.form c.in_ok-right.ensures.form
 
 pub returns-clause-kept : goal.returns-clause-kept
-returns-clause-kept c = ?
+returns-clause-kept c =
+    let f = forms_of c.args.standing.now in
+    let new = c.in_ok-push.ensures in
+    let h : _ = comparison_gives f c.args.op (plain_lexpr c.args.left.now) (plain_lexpr c.args.right.now) in
+    ?

@@ -1,5 +1,5 @@
 -- The form, and then the deltas of other sites in it.
-use Rattle.std.proofs.Common.{◌∙◌, ap, refl, subst}
+use Rattle.std.proofs.Common.{refl, subst}
 use Rattle.homeo_syntax.specs.LowView.{plain_lexpr}
 use Rattle.homeo_plan.specs.Linear.{form}
 use Rattle.homeo_cert.specs.Key.{words}
@@ -23,10 +23,9 @@ unfolding words
 returns-clause-faults c =
     let s = c.args.self.now in
     let e = plain_lexpr c.args.value.now in
-    let deltas = c.as_slice.ensures ∙ c.in_ok-remote.ensures ∙ ap (remote_deltas (rules_in s)) c.in_ok-form.ensures.form in
-    finds_later (too_large (met (forms_in s) e)) (not_frozen (rules_in s) (remote_deltas (rules_in s) (form (forms_in s) e))) c.freeze.result c.in_ok-form.ensures.faults
-    (subst (λ ds. Finds (not_frozen (rules_in s) ds) c.freeze.result) deltas c.freeze.ensures)
+    finds_later (too_large (met (forms_in s) e)) (not_frozen (rules_in s) (remote_deltas (rules_in s) (form (forms_in s) e))) c.freeze_remote.result c.in_ok-form.ensures.faults
+    (subst (λ a. Finds (not_frozen (rules_in s) (remote_deltas (rules_in s) a)) c.freeze_remote.result) c.in_ok-form.ensures.form c.freeze_remote.ensures)
 
 pub returns-clause-after : goal.returns-clause-after
 unfolding words
-returns-clause-after c = on_ok_always c.freeze.result (record { rules = refl; forms = refl; written = refl })
+returns-clause-after c = on_ok_always c.freeze_remote.result (record { rules = refl; forms = refl; written = refl })

@@ -1,0 +1,35 @@
+-- One more delta that was written.
+use Rattle.std.proofs.Common.{◌≡◌, ap, sym, ◌∙◌, subst, refl}
+use Rattle.std.specs.List.{flat_map}
+use Rattle.homeo_cert.specs.Followed.{not_frozen, remote_deltas}
+use Rattle.homeo_cert.specs.inner.Follows.{rules_in, written_in, written_faults}
+use Rattle.homeo_cert.specs.inner.Stops.{Finds}
+use Rattle.homeo_cert.proofs.FlatSteps.{flat_stops, flat_goes_on, flat_ends}
+use Rattle.homeo_cert.proofs.Stopping.{stop_with, stops_as}
+use Rattle.homeo_cert.proofs.following.Following.end.Goals as goal
+
+pub loop-delta-init : goal.loop-delta-init
+loop-delta-init c = refl
+
+pub returns-in_err-freeze_remote : goal.returns-in_err-freeze_remote
+returns-in_err-freeze_remote c =
+    let s = c.args.self in
+    let ds = c.in_ok-written.written.items in
+    let here = ap (λ a. not_frozen (rules_in s) (remote_deltas (rules_in s) a)) c.in_ok-form.ensures in
+    stop_with _ c.from_residual-in_err-freeze_remote.result _ c.from_residual-in_err-freeze_remote.ensures.1
+    (stops_as _ _ _ (ap (flat_map (written_faults s)) c.in_ok-written.ensures)
+    (flat_stops (written_faults s) ds c.loop-delta.delta-index c.delta-item.result c.loop-delta-test.true c.delta-item.is c.loop-delta.invariant _
+    (stops_as _ _ _ here c.in_err-freeze_remote.ensures)))
+
+pub loop-delta-preserved : goal.loop-delta-preserved
+loop-delta-preserved c =
+    let s = c.args.self in
+    let here = ap (λ a. not_frozen (rules_in s) (remote_deltas (rules_in s) a)) c.in_ok-form.ensures in
+    flat_goes_on (written_faults s) c.in_ok-written.written.items c.loop-delta.delta-index c.delta-item.result c.loop-delta-test.true c.delta-item.is c.loop-delta.invariant
+    (sym here ∙ c.in_ok-freeze_remote.ensures)
+
+pub returns : goal.returns
+returns c =
+    let s = c.args.self in
+    ap (flat_map (written_faults s)) (sym c.in_ok-written.ensures)
+    ∙ flat_ends (written_faults s) c.in_ok-written.written.items c.loop-delta.delta-index c.loop-delta-test.false c.loop-delta.invariant
