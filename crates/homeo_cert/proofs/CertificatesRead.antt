@@ -2,7 +2,6 @@
 use Rattle.std.proofs.Common.{◌≡◌, ℕ, List, map, length, ℤ, pos, sym, ap, ◌∙◌, subst}
 use Rattle.std.proofs.lemmas.List.{length-map}
 use Rattle.serde_json.specs.Data.{Data}
-use Rattle.homeo_meaning.specs.Schema.{nat_of}
 use Rattle.homeo_plan.specs.declared.forms.Delta.{Delta}
 use Rattle.homeo_plan.specs.Config.{Config}
 use Rattle.homeo_plan.specs.Each.{Each}
@@ -12,7 +11,7 @@ use Rattle.homeo_cert.specs.Json.{whole_data, list_data, wholes_data}
 use Rattle.homeo_cert.specs.Shape.{DeltaInShape, ClauseInShape, CallInShape, InShape}
 use Rattle.homeo_cert.specs.Text.{delta_data, clause_data, call_data, certificate_data}
 use Rattle.homeo_cert.specs.inner.Reading.{AreFreezes, AreCalls, parts_data}
-use Rattle.homeo_cert.proofs.OneCertificate.{num_back, whole_back, same_wholes, value_at}
+use Rattle.homeo_cert.proofs.OneCertificate.{same_naturals, same_wholes, value_at}
 use Rattle.homeo_cert.proofs.ReadLists.{same_length}
 
 module _ (d b s g c f k v : Data) (is : parts_data b s g c f k v ≡ d) (m : ℕ) (sites : whole_data (pos m) ≡ k) (ns : List ℤ) (base : wholes_data ns ≡ b) (n : ℕ) (count : n ≡ length ns) where
@@ -20,8 +19,7 @@ module _ (d b s g c f k v : Data) (is : parts_data b s g c f k v ≡ d) (m : ℕ
   part x e i = ap (value_at i) (e ∙ sym is)
 
   same_sites : (x : Certificate) → certificate_data x ≡ d → x.sites ≡ m
-  unfolding num_back
-  same_sites x e = ap (λ y. nat_of (whole_back y)) (part x e 5 ∙ sym sites)
+  same_sites x e = same_naturals x.sites m (part x e 5 ∙ sym sites)
 
   same_objects : (x : Certificate) → certificate_data x ≡ d → length x.base ≡ n
   same_objects x e = ap length (same_wholes x.base ns (part x e 0 ∙ sym base)) ∙ sym count

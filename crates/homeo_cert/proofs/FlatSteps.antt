@@ -15,10 +15,10 @@ module _ {X : Type 0} (f : X → List Fault) (xs : List X) (i : ℕ) where
   abbrev pub FlatSoFar : Type 0
   FlatSoFar = flat_map f (drop i xs) ≡ flat_map f xs
 
-  module _ (x : X) (l : i < length xs) (e : x ≡ get_or xs i x) (so : FlatSoFar) where
+  module _ (x z : X) (l : i < length xs) (e : x ≡ get_or xs i z) (so : FlatSoFar) where
     split : f x ++ flat_map f (drop (i + 1) xs) ≡ flat_map f xs
     split =
-        let front : drop i xs ≡ x ∷ drop (i + 1) xs = rw add-one (drop-cons xs i x l ∙ ap (λ y. y ∷ drop (suc i) xs) (sym e)) in
+        let front : drop i xs ≡ x ∷ drop (i + 1) xs = rw add-one (drop-cons xs i z l ∙ ap (λ y. y ∷ drop (suc i) xs) (sym e)) in
         sym (ap (flat_map f) front) ∙ so
 
     pub flat_stops : (s : Stop) → StopsAt (f x) s → StopsAt (flat_map f xs) s

@@ -1,21 +1,24 @@
 -- Deltas that are frozen one after another, and clauses that keep a form.
-use Rattle.std.proofs.Common.{◌≡◌, ℕ, suc, ◌+◌, ◌<◌, ◌≤◌, Bool, true, false, not, cond, ◌||◌, ◌&&◌, List, [], ◌∷◌, ◌++◌, map, drop, get_or, length, refl, sym, ap, ap₂, ◌∙◌, subst, add-one, drop_of_length-le}
+use Rattle.std.proofs.Common.{◌≡◌, ℕ, suc, ◌+◌, ◌<◌, ◌≤◌, Bool, true, false, not, cond, ◌||◌, ◌&&◌, List, [], ◌∷◌, ◌++◌, map, drop, get_or, length, pos, arith, refl, sym, ap, ap₂, ◌∙◌, subst, add-one, drop_of_length-le}
 use Rattle.std.specs.List.{list_any}
 use Rattle.std.proofs.Math.Seq.{drop-cons}
+use Rattle.homeo_meaning.specs.Key.{words as meaning_words}
+use Rattle.homeo_meaning.specs.Small.{IsSmall}
 use Rattle.homeo_meaning.proofs.Steps.{drop_next, drop_none}
 use Rattle.std.specs.Cmp.Lexicographic.{pointwise}
 use Rattle.homeo_plan.specs.Key.{words as plan_words}
 use Rattle.homeo_plan.specs.declared.forms.Delta.{Delta}
 use Rattle.homeo_plan.specs.declared.forms.Term.{Term}
 use Rattle.homeo_plan.specs.declared.templates.Clause.{Clause}
-use Rattle.homeo_plan.specs.Linear.{same_delta, Linear}
+use Rattle.homeo_plan.specs.Limit.{form_limit}
+use Rattle.homeo_plan.specs.Linear.{same_delta, Linear, is_empty}
 use Rattle.homeo_plan.specs.PlanView.{plain_clause}
 use Rattle.homeo_plan.specs.Template.{same_term, same_terms}
 use Rattle.homeo_cert.specs.Key.{words}
 use Rattle.homeo_cert.specs.declared.fault.Fault.{Fault}
-use Rattle.homeo_cert.specs.declared.fault.Fault.TheVariants.{NotFrozen}
+use Rattle.homeo_cert.specs.declared.fault.Fault.TheVariants.{NotFrozen, NoClause}
 use Rattle.homeo_cert.specs.declared.fault.Stop.TheVariants as stop
-use Rattle.homeo_cert.specs.Followed.{Rules, not_frozen, keeps}
+use Rattle.homeo_cert.specs.Followed.{Rules, not_frozen, keeps, no_clause}
 use Rattle.homeo_cert.specs.inner.Stops.{StopsAt}
 
 pub is_false : (v : Bool) → not v ≡ true → v ≡ false
@@ -27,19 +30,19 @@ is_true true n = refl
 is_true false n = sym n
 
 module _ (r : Rules) (ds : List Delta) (i : ℕ) where
-  module _ (d : Delta) (l : i < length ds) (e : d ≡ get_or ds i d) (so : not_frozen r (drop i ds) ≡ not_frozen r ds) where
+  module _ (d z : Delta) (l : i < length ds) (e : d ≡ get_or ds i z) (so : not_frozen r (drop i ds) ≡ not_frozen r ds) (v : Bool) (is : v ≡ list_any (same_delta d) r.freezes) where
     front : drop i ds ≡ d ∷ drop (i + 1) ds
-    front = rw add-one (drop-cons ds i d l ∙ ap (λ y. y ∷ drop (suc i) ds) (sym e))
+    front = rw add-one (drop-cons ds i z l ∙ ap (λ y. y ∷ drop (suc i) ds) (sym e))
 
-    split : (v : Bool) → v ≡ list_any (same_delta d) r.freezes → cond v [] (NotFrozen d ∷ []) ++ not_frozen r (drop (i + 1) ds) ≡ not_frozen r ds
+    split : cond v [] (NotFrozen d ∷ []) ++ not_frozen r (drop (i + 1) ds) ≡ not_frozen r ds
     unfolding words
-    split v h = ap (λ w. cond w [] (NotFrozen d ∷ []) ++ not_frozen r (drop (i + 1) ds)) h ∙ sym (ap (not_frozen r) front) ∙ so
+    split = ap (λ w. cond w [] (NotFrozen d ∷ []) ++ not_frozen r (drop (i + 1) ds)) is ∙ sym (ap (not_frozen r) front) ∙ so
 
-    pub freeze_stops : (v : Bool) → not v ≡ true → v ≡ list_any (same_delta d) r.freezes → StopsAt (not_frozen r ds) (stop.Fault (NotFrozen d))
-    freeze_stops v n h = (not_frozen r (drop (i + 1) ds), sym (ap (λ w. cond w [] (NotFrozen d ∷ []) ++ not_frozen r (drop (i + 1) ds)) (sym (is_false v n)) ∙ split v h))
+    pub freeze_stops : v ≡ false → StopsAt (not_frozen r ds) (stop.Fault (NotFrozen d))
+    freeze_stops h = (not_frozen r (drop (i + 1) ds), sym (ap (λ w. cond w [] (NotFrozen d ∷ []) ++ not_frozen r (drop (i + 1) ds)) (sym h) ∙ split))
 
-    pub freeze_goes_on : (v : Bool) → not v ≡ false → v ≡ list_any (same_delta d) r.freezes → not_frozen r (drop (i + 1) ds) ≡ not_frozen r ds
-    freeze_goes_on v n h = ap (λ w. cond w [] (NotFrozen d ∷ []) ++ not_frozen r (drop (i + 1) ds)) (sym (is_true v n)) ∙ split v h
+    pub freeze_goes_on : v ≡ true → not_frozen r (drop (i + 1) ds) ≡ not_frozen r ds
+    freeze_goes_on h = ap (λ w. cond w [] (NotFrozen d ∷ []) ++ not_frozen r (drop (i + 1) ds)) (sym h) ∙ split
 
   pub freeze_ends : length ds ≤ i → not_frozen r (drop i ds) ≡ not_frozen r ds → not_frozen r ds ≡ []
   unfolding words
@@ -69,3 +72,40 @@ pointwise_same E h [] [] = refl
 pointwise_same E h [] (y ∷ ys) = refl
 pointwise_same E h (x ∷ xs) [] = refl
 pointwise_same E h (x ∷ xs) (y ∷ ys) = ap₂ ◌&&◌ (h x y) (pointwise_same E h xs ys)
+
+-- ---- the clause of a form
+no_terms : (ts : List Term) → length ts ≡ 0 → is_empty ts ≡ true
+no_terms [] h = refl
+no_terms (t ∷ ts) h = absurd (omega (arith, h))
+
+some_terms : (ts : List Term) → (length ts ≡ 0 → ⊥) → is_empty ts ≡ false
+some_terms [] h = absurd (h refl)
+some_terms (t ∷ ts) h = refl
+
+module _ (r : Rules) (a : Linear) where
+  pub without_terms : length a.terms ≡ 0 → no_clause r a ≡ []
+  unfolding words
+  without_terms h = ap (λ e. cond e [] (cond (list_any (keeps a) r.clauses) [] (NoClause ∷ []))) (no_terms a.terms h)
+
+  module _ (v : Bool) (is : v ≡ list_any (keeps a) r.clauses) where
+    pub has_its_clause : v ≡ true → no_clause r a ≡ []
+    unfolding words
+    has_its_clause h = go (is_empty a.terms)
+      where
+        go : (e : Bool) → cond e [] (cond (list_any (keeps a) r.clauses) [] (NoClause ∷ [])) ≡ []
+        go true = refl
+        go false = ap (λ w. cond w [] (NoClause ∷ [])) (sym is ∙ h)
+
+    pub lacks_its_clause : (length a.terms ≡ 0 → ⊥) → v ≡ false → StopsAt (no_clause r a) (stop.Fault NoClause)
+    unfolding words
+    lacks_its_clause some h =
+        ([], ap (λ e. cond e [] (cond (list_any (keeps a) r.clauses) [] (NoClause ∷ []))) (some_terms a.terms some) ∙ ap (λ w. cond w [] (NoClause ∷ [])) (sym is ∙ h))
+
+-- what is added to a difference
+pub zero_is_small : IsSmall form_limit (pos 0)
+unfolding meaning_words
+zero_is_small = omega arith
+
+pub one_is_small : IsSmall form_limit (pos 1)
+unfolding meaning_words
+one_is_small = omega arith

@@ -1,5 +1,5 @@
 -- The first fault of a certificate, and what is said of its bytes.
-use Rattle.std.proofs.Common.{◌≡◌, ℕ, suc, ◌+◌, ◌<◌, ◌≤◌, Bool, true, false, cond, List, [], ◌∷◌, ◌++◌, map, drop, get_or, length, ℤ, pos, ◌+ℤ◌, refl, sym, ap, ap₂, ◌∙◌, subst, add-one, drop_of_length-le}
+use Rattle.std.proofs.Common.{◌≡◌, ℕ, suc, ◌+◌, ◌<◌, ◌≤◌, Bool, true, false, cond, List, [], ◌∷◌, ◌++◌, map, drop, get_or, length, ℤ, pos, ◌+ℤ◌, refl, sym, ap, ap₂, ◌∙◌, subst, add-one, drop_of_length-le, arith}
 use Rattle.std.proofs.Math.Seq.{drop-cons}
 use Rattle.homeo_meaning.specs.Serial.{values_of}
 use Rattle.homeo_meaning.proofs.Steps.{drop_next, drop_none}
@@ -144,3 +144,7 @@ total_next bs i b d l e = rw add-one (ap total (drop-cons bs i d l ∙ ap (λ y.
 pub total_none : (bs : List ℤ) (i : ℕ) → length bs ≤ i → total (drop i bs) ≡ pos 0
 unfolding plan_words
 total_none bs i l = ap total (drop_of_length-le bs l)
+
+pub none_mapped : {X Y : Type 0} (f : X → Y) (xs : List X) → length xs ≡ 0 → map f xs ≡ []
+none_mapped f [] h = refl
+none_mapped f (x ∷ xs) h = absurd (omega (arith, h))

@@ -14,7 +14,7 @@ ghost use Rattle.homeo_cert.specs.inner.Compares.{AreSmall, atoms_of};
 ghost use Rattle.homeo_cert.specs.inner.Stops.{Finds};
 ghost use Rattle.homeo_cert.specs.inner.RulesView.{plain_rules};
 
-use crate::conditions::Compared;
+use crate::conditions::{Compared, is_true};
 use crate::fault::{Fault, Stop};
 use crate::sizes::difference;
 use homeo_linear::{Form, remote_of};
@@ -62,7 +62,10 @@ impl<'a> Rules<'a> {
         requires { IsSmall form_limit form.now.constant }
         ensures { Finds (no_clause (plain_rules self.now) (plain_linear form.now)) result }
     {
-        if form.terms.as_slice().is_empty() || has_clause(self.clauses, form) {
+        if form.terms.as_slice().is_empty() {
+            return Ok(());
+        }
+        if has_clause(self.clauses, form) {
             Ok(())
         } else {
             Err(Stop::Fault(Fault::NoClause))
@@ -117,7 +120,7 @@ impl<'a> Rules<'a> {
             Compare::Less => self.keep(alloc, right, left, 0),
             Compare::LessEqual => self.keep(alloc, right, left, 1),
             Compare::Equal => {
-                if left.constant() < right.constant() {
+                if is_true(Compare::Less, left, right) {
                     self.keep(alloc, left, right, 1)
                 } else {
                     self.keep(alloc, right, left, 1)

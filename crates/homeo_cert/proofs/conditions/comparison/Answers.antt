@@ -3,6 +3,7 @@ use Rattle.std.proofs.Common.{◌≡◌, ◌++◌, [], ◌∷◌, sym, ap, ◌�
 use Rattle.homeo_syntax.specs.LowView.{plain_lexpr}
 use Rattle.homeo_linear.specs.Standing.{forms_of}
 use Rattle.homeo_cert.specs.Key.{words}
+use Rattle.homeo_cert.specs.declared.conditions.Compared.{Compared}
 use Rattle.homeo_cert.specs.Met.{met}
 use Rattle.homeo_cert.specs.Followed.{too_large}
 use Rattle.homeo_cert.proofs.LargeNumbers.{large_behind, large_in_front, none_large}
@@ -34,13 +35,13 @@ returns-clause-faults c =
 pub returns-clause-holds : goal.returns-clause-holds
 returns-clause-holds c =
     let f = forms_of c.args.standing.now in
-    c.is_true.ensures
+    c.is_true-holds.ensures
     ∙ comparison_passes f c.args.op (plain_lexpr c.args.left.now) (plain_lexpr c.args.right.now) c.in_ok-left.left c.in_ok-right.right
     c.in_ok-left.ensures.form c.in_ok-right.ensures.form
 
 pub returns-clause-kept : goal.returns-clause-kept
 returns-clause-kept c =
-    let f = forms_of c.args.standing.now in
-    let new = c.in_ok-push.ensures in
-    let h : _ = comparison_gives f c.args.op (plain_lexpr c.args.left.now) (plain_lexpr c.args.right.now) in
-    ?
+    let one : Compared = record { op = c.args.op; left = c.in_ok-left.left; right = c.in_ok-right.right; holds = c.is_true-holds.result } in
+    comparison_gives (forms_of c.args.standing.now) c.args.op (plain_lexpr c.args.left.now) (plain_lexpr c.args.right.now) one c.push.new.self.items
+    (c.in_ok-push.ensures.items ∙ ap (λ l. l ++ one ∷ []) c.new-compared.ensures.items) refl c.in_ok-left.ensures.form c.in_ok-right.ensures.form (returns-clause-holds c)
+    (record { left = c.in_ok-left.ensures.small; right = c.in_ok-right.ensures.small })

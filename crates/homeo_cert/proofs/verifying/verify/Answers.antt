@@ -1,11 +1,11 @@
 -- What was parsed, and what was read.
-use Rattle.std.proofs.Common.{IfOk, sym, ap, ◌∙◌}
+use Rattle.std.proofs.Common.{sym, subst}
 use Rattle.std.proofs.lemmas.Result.{IfOk-weaker}
 use Rattle.std.proofs.lemmas.Option.{MatchOption-at_some, MatchOption-at_none}
 use Rattle.serde_json.specs.View.{view}
 use Rattle.homeo_cert.specs.Key.{words}
 use Rattle.homeo_cert.specs.Shape.{InShape}
-use Rattle.homeo_cert.specs.Text.{certificate_data}
+use Rattle.homeo_cert.specs.Text.{certificate_data, IsJsonOf}
 use Rattle.homeo_cert.specs.inner.CertificateView.{plain_certificate}
 use Rattle.homeo_cert.proofs.ReadLists.{read_some, read_none}
 use Rattle.homeo_cert.proofs.Verdicts.{verdict_on}
@@ -13,11 +13,20 @@ use Rattle.homeo_cert.proofs.verifying.verify.Goals as goal
 
 pub returns-in_default : goal.returns-in_default
 unfolding words
-returns-in_default c = let h = c.in_ok-value.ensures in let d = c.in_default in ?
+returns-in_default c = MatchOption-at_none _ _ c.in_default.is c.in_ok-value.ensures
 
 pub returns-in-Some-2 : goal.returns-in-Some-2
-returns-in-Some-2 c = let h = c.in_ok-value.ensures in let i = c.in-Some.is in ?
+returns-in-Some-2 c =
+    let bytes = c.args.bytes.now in
+    let json = MatchOption-at_some _ (λ v. IsJsonOf bytes (view v)) c.in-Some.value c.in-Some.is c.in_ok-value.ensures in
+    let got = read_some InShape certificate_data (view c.in-Some.value) plain_certificate c.in_ok-certificate.field-0 c.in-Some-2.certificate c.in-Some-2.is c.in_ok-certificate.ensures in
+    IfOk-weaker c.judge.result _ _
+    (λ v h. verdict_on bytes (plain_certificate c.in-Some-2.certificate) v got.0 (subst (IsJsonOf bytes) (sym got.1) json) h) c.judge.ensures
 
 pub returns-in-None : goal.returns-in-None
 unfolding words
-returns-in-None c = ?
+returns-in-None c = record {
+  value = view c.in-Some.value;
+  json = MatchOption-at_some _ (λ v. IsJsonOf c.args.bytes.now (view v)) c.in-Some.value c.in-Some.is c.in_ok-value.ensures;
+  none = read_none InShape certificate_data (view c.in-Some.value) plain_certificate c.in_ok-certificate.field-0 c.in-None.is c.in_ok-certificate.ensures;
+}

@@ -34,11 +34,11 @@ returns-in_err-keep_compared-clause-faults c =
     stop_with _ c.from_residual-in_err-keep_compared.result _ c.from_residual-in_err-keep_compared.ensures.1
     (stop_later (too_large (met_in_cond (forms_in s) b)) (flat_map (atom_faults (rules_in s)) (kept (forms_in s) b)) _ c.in_ok-tested.ensures.faults
     (stops_as _ _ _ all
-    (flat_stops f cs c.loop-compared.compared-index c.compared-item.result c.loop-compared-test.true c.compared-item.is c.loop-compared.invariant _ c.in_err-keep_compared.ensures)))
+    (flat_stops f cs c.loop-compared.compared-index c.compared-item.result c.compared-item.result c.loop-compared-test.true c.compared-item.is c.loop-compared.invariant _ c.in_err-keep_compared.ensures)))
 
 pub loop-compared-preserved : goal.loop-compared-preserved
 loop-compared-preserved c =
-    flat_goes_on (λ c. flat_map (atom_faults (rules_in _)) (atoms_of c)) c.in_ok-tested.tested.compared.items c.loop-compared.compared-index c.compared-item.result
+    flat_goes_on (λ x. flat_map (atom_faults (rules_in c.args.self.now)) (atoms_of x)) c.in_ok-tested.tested.compared.items c.loop-compared.compared-index c.compared-item.result c.compared-item.result
     c.loop-compared-test.true c.compared-item.is c.loop-compared.invariant c.in_ok-keep_compared.ensures
 
 pub returns-clause-faults : goal.returns-clause-faults

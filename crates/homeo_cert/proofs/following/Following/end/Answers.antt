@@ -1,6 +1,7 @@
 -- One more delta that was written.
-use Rattle.std.proofs.Common.{◌≡◌, ap, sym, ◌∙◌, subst, refl}
+use Rattle.std.proofs.Common.{◌≡◌, get_or, ap, sym, ◌∙◌, subst, refl}
 use Rattle.std.specs.List.{flat_map}
+use Rattle.homeo_plan.specs.declared.forms.Delta.{Delta}
 use Rattle.homeo_cert.specs.Followed.{not_frozen, remote_deltas}
 use Rattle.homeo_cert.specs.inner.Follows.{rules_in, written_in, written_faults}
 use Rattle.homeo_cert.specs.inner.Stops.{Finds}
@@ -15,17 +16,20 @@ pub returns-in_err-freeze_remote : goal.returns-in_err-freeze_remote
 returns-in_err-freeze_remote c =
     let s = c.args.self in
     let ds = c.in_ok-written.written.items in
+    let zero : Delta = record { object = 0; site = 0 } in
     let here = ap (λ a. not_frozen (rules_in s) (remote_deltas (rules_in s) a)) c.in_ok-form.ensures in
     stop_with _ c.from_residual-in_err-freeze_remote.result _ c.from_residual-in_err-freeze_remote.ensures.1
     (stops_as _ _ _ (ap (flat_map (written_faults s)) c.in_ok-written.ensures)
-    (flat_stops (written_faults s) ds c.loop-delta.delta-index c.delta-item.result c.loop-delta-test.true c.delta-item.is c.loop-delta.invariant _
+    (flat_stops (written_faults s) ds c.loop-delta.delta-index (get_or ds c.loop-delta.delta-index zero) zero c.loop-delta-test.true refl c.loop-delta.invariant _
     (stops_as _ _ _ here c.in_err-freeze_remote.ensures)))
 
 pub loop-delta-preserved : goal.loop-delta-preserved
 loop-delta-preserved c =
     let s = c.args.self in
+    let ds = c.in_ok-written.written.items in
+    let zero : Delta = record { object = 0; site = 0 } in
     let here = ap (λ a. not_frozen (rules_in s) (remote_deltas (rules_in s) a)) c.in_ok-form.ensures in
-    flat_goes_on (written_faults s) c.in_ok-written.written.items c.loop-delta.delta-index c.delta-item.result c.loop-delta-test.true c.delta-item.is c.loop-delta.invariant
+    flat_goes_on (written_faults s) ds c.loop-delta.delta-index (get_or ds c.loop-delta.delta-index zero) zero c.loop-delta-test.true refl c.loop-delta.invariant
     (sym here ∙ c.in_ok-freeze_remote.ensures)
 
 pub returns : goal.returns
