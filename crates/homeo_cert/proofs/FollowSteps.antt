@@ -148,9 +148,9 @@ module _ (c : Certificate) (g : Call) (start : Following) (rules : rules_in star
       written_in start ≡ [] → (after : Following) → faults (rules_in start) g.command (forms_in start) ≡ [] → Follows g.command start after →
       {A : Type 0} (r : Result A Stop) → Finds (flat_map (written_faults after) (written_in after)) r → Finds (call_faults c g) r
   unfolding words after_call
-  call_ends none after no follows r h =
+  call_ends none after clean follows r h =
       let p : rules_in after ≡ rules_of c g = follows.rules ∙ rules in
       let q : forms_in after ≡ forms_after g.command (base_forms (base_of c)) = follows.forms ∙ ap (forms_after g.command) forms in
       let w : written_in after ≡ written g.command (base_forms (base_of c)) [] = follows.written ∙ ap₂ (written g.command) forms none in
-      finds_later (faults (rules_of c g) g.command (base_forms (base_of c))) after_call r (sym same_faults ∙ no)
+      finds_later (faults (rules_of c g) g.command (base_forms (base_of c))) after_call r (sym same_faults ∙ clean)
       (subst (λ l. Finds l r) (λ i. end_faults (p i) (q i) (w i)) h)

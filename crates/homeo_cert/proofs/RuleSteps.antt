@@ -75,10 +75,12 @@ pointwise_same E h (x ∷ xs) (y ∷ ys) = ap₂ ◌&&◌ (h x y) (pointwise_sam
 
 -- ---- the clause of a form
 no_terms : (ts : List Term) → length ts ≡ 0 → is_empty ts ≡ true
+unfolding plan_words
 no_terms [] h = refl
 no_terms (t ∷ ts) h = absurd (omega (arith, h))
 
 some_terms : (ts : List Term) → (length ts ≡ 0 → ⊥) → is_empty ts ≡ false
+unfolding plan_words
 some_terms [] h = absurd (h refl)
 some_terms (t ∷ ts) h = refl
 

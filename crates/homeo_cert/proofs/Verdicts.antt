@@ -1,5 +1,9 @@
 -- The first fault of a certificate, and what is said of its bytes.
-use Rattle.std.proofs.Common.{◌≡◌, ℕ, suc, ◌+◌, ◌<◌, ◌≤◌, Bool, true, false, cond, List, [], ◌∷◌, ◌++◌, map, drop, get_or, length, ℤ, pos, ◌+ℤ◌, refl, sym, ap, ap₂, ◌∙◌, subst, add-one, drop_of_length-le, arith}
+use Rattle.std.proofs.Common.{◌≡◌, ℕ, suc, ◌+◌, ◌<◌, ◌≤◌, Bool, true, false, cond, List, [], ◌∷◌, ◌++◌, map, drop, get_or, length, ℤ, pos, ◌+ℤ◌, refl, sym, ap, ap₂, ◌∙◌, subst, add-one, drop_of_length-le, arith, eqb, SFits, to_z, of_z}
+use Rattle.std.specs.Int.{w128}
+use Rattle.std.specs.Ordering.{int_eq}
+use Rattle.std.proofs.lemmas.Int.{to_z-of_z}
+use Rattle.std.proofs.lemmas.Bool.Decides.{same_from_decides, Decides-eqb, Decides-int_eq}
 use Rattle.std.proofs.Math.Seq.{drop-cons}
 use Rattle.homeo_meaning.specs.Serial.{values_of}
 use Rattle.homeo_meaning.proofs.Steps.{drop_next, drop_none}
@@ -148,3 +152,10 @@ total_none bs i l = ap total (drop_of_length-le bs l)
 pub none_mapped : {X Y : Type 0} (f : X → Y) (xs : List X) → length xs ≡ 0 → map f xs ≡ []
 none_mapped f [] h = refl
 none_mapped f (x ∷ xs) h = absurd (omega (arith, h))
+
+-- numbers of 128 bits are the same where their bits are
+pub bits_same : (x y : ℤ) → SFits w128 x → SFits w128 y → eqb (of_z w128 x) (of_z w128 y) ≡ int_eq x y
+bits_same x y f g =
+    same_from_decides (eqb (of_z w128 x) (of_z w128 y)) (int_eq x y)
+    (λ h. sym (to_z-of_z w128 x f) ∙ ap (to_z w128) ((Decides-eqb (of_z w128 x) (of_z w128 y)).0 h) ∙ to_z-of_z w128 y g,
+    λ e. (Decides-eqb (of_z w128 x) (of_z w128 y)).1 (ap (of_z w128) e)) (Decides-int_eq x y)

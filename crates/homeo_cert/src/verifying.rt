@@ -1,6 +1,7 @@
 //! The verdict on bytes.
 
-ghost use Rattle.std.specs.Prelude.{◌≡◌, ◌≤◌, ◌+◌, [], length, map, IfOk, MatchOption, option_map};
+ghost use Rattle.std.specs.Prelude.{◌≡◌, ◌≤◌, ◌+◌, true, false, [], length, map, pos, int_le, IfOk, MatchOption, option_map};
+ghost use Rattle.std.specs.List.{list_all};
 ghost use Rattle.serde_json.specs.View.{view};
 ghost use Rattle.homeo_plan.specs.Config.{total};
 ghost use Rattle.homeo_plan.specs.PlanView.{plain_clause};
@@ -92,17 +93,24 @@ fn next(number: u32) -> Result<u32, Memory>
 fn fits(clause: &Clause, bounds: &[i64]) -> bool
     ensures { result ≡ fits_slack (plain_clause clause.now) bounds.now }
 {
-    bounds.iter().all(|bound| 0 <= *bound) && total(bounds) == clause.slack
+    match total(bounds) {
+        Some(sum) => sum == clause.slack,
+        None => false,
+    }
 }
 
-fn total(bounds: &[i64]) -> i128
-    ensures { result ≡ total bounds.now }
+/// The sum of bounds, if none is negative.
+fn total(bounds: &[i64]) -> Option<i128>
+    ensures { MatchOption result (list_all (int_le (pos 0)) bounds.now ≡ false) (λ n. (list_all (int_le (pos 0)) bounds.now ≡ true) × (n ≡ total bounds.now)) }
 {
     let mut sum = 0;
     for bound in bounds {
+        if *bound < 0 {
+            return None;
+        }
         sum += *bound as i128;
     }
-    sum
+    Some(sum)
 }
 
 /// The first fault of the calls, one after another.

@@ -35,7 +35,7 @@ follow-returns-in-Seq-clause-after t c =
     let s = c.args.self.now in
     let is : plain_lcommand c.args.command.now ≡ Seq (low_commands (map plain_lcommand c.as_slice.result.now)) =
         ap plain_lcommand c.in-Seq.is ∙ low_Seq c.in-Seq.commands ∙ ap (λ l. Seq (low_commands (map plain_lcommand l))) (sym c.as_slice.ensures) in
-    on_ok_as c.follow_all.result (λ f. subst (λ x. Follows x s _) (sym is) (seq_follows _ s _ f)) c.follow_all.ensures.after
+    on_ok_as c.follow_all.result (λ f. subst (λ x. Follows x s c.follow_all.new.self) (sym is) (seq_follows (low_commands (map plain_lcommand c.as_slice.result.now)) s c.follow_all.new.self f)) c.follow_all.ensures.after
 
 pub follow-returns-in_err-branch-in-If-clause-faults : goal.follow-returns-in_err-branch-in-If-clause-faults
 follow-returns-in_err-branch-in-If-clause-faults t c =

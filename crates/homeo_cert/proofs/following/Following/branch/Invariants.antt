@@ -8,4 +8,4 @@ use Rattle.homeo_cert.proofs.following.Following.branch.Given as goal
 
 abbrev pub invariant-loop-compared : goal.invariant-loop-compared
 invariant-loop-compared l =
-    FlatSoFar (λ c. flat_map (atom_faults (rules_in l.self)) (atoms_of c)) l.tested.compared.items l.compared-index
+    FlatSoFar (λ c. flat_map (atom_faults (rules_in l.self)) (atoms_of c)) l.compared-items l.compared-index

@@ -15,18 +15,18 @@ loop-delta-init c = refl
 pub returns-in_err-freeze_remote : goal.returns-in_err-freeze_remote
 returns-in_err-freeze_remote c =
     let s = c.args.self in
-    let ds = c.in_ok-written.written.items in
+    let ds = c.deref-delta-items.result.now in
     let zero : Delta = record { object = 0; site = 0 } in
     let here = ap (λ a. not_frozen (rules_in s) (remote_deltas (rules_in s) a)) c.in_ok-form.ensures in
     stop_with _ c.from_residual-in_err-freeze_remote.result _ c.from_residual-in_err-freeze_remote.ensures.1
-    (stops_as _ _ _ (ap (flat_map (written_faults s)) c.in_ok-written.ensures)
+    (stops_as _ _ _ (ap (flat_map (written_faults s)) (c.deref-delta-items.ensures.value ∙ c.in_ok-written.ensures))
     (flat_stops (written_faults s) ds c.loop-delta.delta-index (get_or ds c.loop-delta.delta-index zero) zero c.loop-delta-test.true refl c.loop-delta.invariant _
     (stops_as _ _ _ here c.in_err-freeze_remote.ensures)))
 
 pub loop-delta-preserved : goal.loop-delta-preserved
 loop-delta-preserved c =
     let s = c.args.self in
-    let ds = c.in_ok-written.written.items in
+    let ds = c.deref-delta-items.result.now in
     let zero : Delta = record { object = 0; site = 0 } in
     let here = ap (λ a. not_frozen (rules_in s) (remote_deltas (rules_in s) a)) c.in_ok-form.ensures in
     flat_goes_on (written_faults s) ds c.loop-delta.delta-index (get_or ds c.loop-delta.delta-index zero) zero c.loop-delta-test.true refl c.loop-delta.invariant
@@ -35,5 +35,5 @@ loop-delta-preserved c =
 pub returns : goal.returns
 returns c =
     let s = c.args.self in
-    ap (flat_map (written_faults s)) (sym c.in_ok-written.ensures)
-    ∙ flat_ends (written_faults s) c.in_ok-written.written.items c.loop-delta.delta-index c.loop-delta-test.false c.loop-delta.invariant
+    ap (flat_map (written_faults s)) (sym (c.deref-delta-items.ensures.value ∙ c.in_ok-written.ensures))
+    ∙ flat_ends (written_faults s) c.deref-delta-items.result.now c.loop-delta.delta-index c.loop-delta-test.false c.loop-delta.invariant

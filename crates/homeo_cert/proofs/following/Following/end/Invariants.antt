@@ -4,4 +4,4 @@ use Rattle.homeo_cert.proofs.FlatSteps.{FlatSoFar}
 use Rattle.homeo_cert.proofs.following.Following.end.Given as goal
 
 abbrev pub invariant-loop-delta : goal.invariant-loop-delta
-invariant-loop-delta l = FlatSoFar (written_faults l.fn.self) l.written.items l.delta-index
+invariant-loop-delta l = FlatSoFar (written_faults l.fn.self) l.delta-items l.delta-index
