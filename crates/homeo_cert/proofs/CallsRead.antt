@@ -16,18 +16,12 @@ use Rattle.homeo_cert.proofs.OneCertificate.{value_at, same_nodes}
 use Rattle.homeo_cert.proofs.ParseSound.{command_sound}
 use Rattle.homeo_cert.proofs.Unique.{read_command}
 
-abbrev pub call_object : Data → Data → Data
+abbrev call_object : Data → Data → Data
 call_object c s = object (member (codes "command") c (member (codes "site") s no_members))
 
 module _ (n k : ℕ) (d c s : Data) (is : call_object c s ≡ d) where
   command_is : (g : Call) → call_data g ≡ d → list_data (map node_data (command_nodes g.command)) ≡ c
   command_is g e = ap (value_at 0) (e ∙ sym is)
-
-  site_is : (g : Call) → call_data g ≡ d → whole_data (pos g.site) ≡ s
-  site_is g e = ap (value_at 1) (e ∙ sym is)
-
-  pub no_site : ((y : ℕ) → y < k → whole_data (pos y) ≡ s → ⊥) → (g : Call) → CallInShape n k g → call_data g ≡ d → ⊥
-  no_site h g shape e = h g.site shape.site (site_is g e)
 
   pub no_nodes : ((ns : List Node) → Each (NodeInShape n k) ns → list_data (map node_data ns) ≡ c → ⊥) → (g : Call) → CallInShape n k g → call_data g ≡ d → ⊥
   no_nodes h g shape e = h (command_nodes g.command) (nodes_in_shape n k g.command shape.command) (command_is g e)

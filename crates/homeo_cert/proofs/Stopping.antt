@@ -22,13 +22,6 @@ finds_later fs gs r q h = subst (λ l. Finds (l ++ gs) r) (sym q) h
 pub finds_one : {A : Type 0} (fs : List Fault) (r : Result A Stop) → Finds fs r → Finds (fs ++ []) r
 finds_one fs r h = subst (λ l. Finds l r) (sym (append-nil fs)) h
 
-pub finds_as : {A : Type 0} (fs gs : List Fault) (r : Result A Stop) → fs ≡ gs → Finds fs r → Finds gs r
-finds_as fs gs r e h = subst (λ l. Finds l r) e h
-
--- memory stops anywhere
-pub memory_stops : (fs : List Fault) (e : Stop) → e ≡ stop.Memory → StopsAt fs e
-memory_stops fs e q = subst (StopsAt fs) (sym q) tt
-
 -- what stopped is passed on
 pub stop_with : {A : Type 0} (fs : List Fault) (r : Result A Stop) (e : Stop) → IsErrAnd r (λ x. x ≡ e) → StopsAt fs e → Finds fs r
 stop_with fs (Ok a) e h s = absurd h

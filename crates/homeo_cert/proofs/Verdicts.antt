@@ -1,8 +1,9 @@
 -- The first fault of a certificate, and what is said of its bytes.
-use Rattle.std.proofs.Common.{◌≡◌, ℕ, suc, ◌+◌, ◌<◌, ◌≤◌, Bool, true, false, cond, List, [], ◌∷◌, ◌++◌, map, drop, get_or, length, ℤ, pos, ◌+ℤ◌, refl, sym, ap, ap₂, ◌∙◌, subst, add-one, drop_of_length-le, arith, eqb, SFits, to_z, of_z}
+use Rattle.std.proofs.Common.{◌≡◌, ℕ, suc, ◌+◌, ◌<◌, ◌≤◌, Bool, true, false, cond, List, [], ◌∷◌, ◌++◌, map, drop, get_or, length, ℤ, pos, ◌+ℤ◌, refl, sym, ap, ap₂, ◌∙◌, subst, add-one, drop_of_length-le, arith, eqb, ◌&&◌, int_le, int_lt, SFits, to_z, of_z}
 use Rattle.std.specs.Int.{w128}
 use Rattle.std.specs.Ordering.{int_eq}
-use Rattle.std.proofs.lemmas.Int.{to_z-of_z}
+use Rattle.std.specs.List.{list_all}
+use Rattle.std.proofs.lemmas.Int.{ints, to_z-of_z}
 use Rattle.std.proofs.lemmas.Bool.Decides.{same_from_decides, Decides-eqb, Decides-int_eq}
 use Rattle.std.proofs.Math.Seq.{drop-cons}
 use Rattle.homeo_meaning.specs.Serial.{values_of}
@@ -159,3 +160,22 @@ bits_same x y f g =
     same_from_decides (eqb (of_z w128 x) (of_z w128 y)) (int_eq x y)
     (λ h. sym (to_z-of_z w128 x f) ∙ ap (to_z w128) ((Decides-eqb (of_z w128 x) (of_z w128 y)).0 h) ∙ to_z-of_z w128 y g,
     λ e. (Decides-eqb (of_z w128 x) (of_z w128 y)).1 (ap (of_z w128) e)) (Decides-int_eq x y)
+
+natural_if : (z : ℤ) → int_lt z (pos 0) ≡ false → int_le (pos 0) z ≡ true
+natural_if z h = grind (arith, ints)
+
+negative_if : (z : ℤ) → int_lt z (pos 0) ≡ true → int_le (pos 0) z ≡ false
+negative_if z h = grind (arith, ints)
+
+module _ (bs : List ℤ) (i : ℕ) (l : i < length bs) where
+  all_from : list_all (int_le (pos 0)) (drop i bs) ≡ (int_le (pos 0) (get_or bs i (pos 0)) && list_all (int_le (pos 0)) (drop (i + 1) bs))
+  all_from = rw add-one (ap (list_all (int_le (pos 0))) (drop-cons bs i (pos 0) l))
+
+  pub natural_next : int_lt (get_or bs i (pos 0)) (pos 0) ≡ false → list_all (int_le (pos 0)) (drop i bs) ≡ list_all (int_le (pos 0)) (drop (i + 1) bs)
+  natural_next h = all_from ∙ ap (λ v. v && list_all (int_le (pos 0)) (drop (i + 1) bs)) (natural_if (get_or bs i (pos 0)) h)
+
+  pub natural_stops : int_lt (get_or bs i (pos 0)) (pos 0) ≡ true → list_all (int_le (pos 0)) (drop i bs) ≡ false
+  natural_stops h = all_from ∙ ap (λ v. v && list_all (int_le (pos 0)) (drop (i + 1) bs)) (negative_if (get_or bs i (pos 0)) h)
+
+pub natural_none : (bs : List ℤ) (i : ℕ) → length bs ≤ i → list_all (int_le (pos 0)) (drop i bs) ≡ true
+natural_none bs i l = ap (list_all (int_le (pos 0))) (drop_of_length-le bs l)

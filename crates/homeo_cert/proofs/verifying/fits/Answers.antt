@@ -1,6 +1,7 @@
 -- A negative bound, or the sum.
 use Rattle.std.proofs.Common.{rules, ◌≡◌, ◌&&◌, sym, ap, ap₂, ◌∙◌}
 use Rattle.std.specs.Ordering.{int_eq}
+use Rattle.homeo_plan.specs.Config.{total}
 use Rattle.homeo_cert.specs.Key.{words}
 use Rattle.homeo_cert.proofs.Verdicts.{bits_same}
 use Rattle.homeo_cert.proofs.verifying.fits.Goals as goal
@@ -13,4 +14,4 @@ returns-in-Some c =
 
 pub returns-in-None : goal.returns-in-None
 unfolding words
-returns-in-None c = ap (λ v. v && _) (sym c.in-None.ensures)
+returns-in-None c = ap (λ v. v && int_eq (total c.args.bounds.now) c.args.clause.now.slack) (sym c.in-None.ensures)

@@ -10,7 +10,7 @@ returns-in-Err-Fault c =
     let d = plain_certificate c.args.c.now in
     let stops = rw c.in-Err-Fault.field-0-is at c.in-Err-Fault.ensures in
     call_stops d c.deref-call-items.result.now c.loop-call.call-index c.loop-call.number c.call-item.result c.loop-call-test.true c.call-item.is
-    c.loop-call.invariant c.in-Err-Fault.fault c.of_call.result stops c.of_call.ensures
+    c.loop-call.invariant c.in-Err-Fault.fault c.of_call.result stops (rw c.in-Err-Fault.field-0-is at c.of_call.ensures)
     ∙ ap (λ l. first_of_all (faults_from 0 d (map plain_call l))) c.deref-call-items.ensures.value
 
 pub loop-call-preserved : goal.loop-call-preserved

@@ -81,3 +81,51 @@ follow_all-returns-clause-after t c =
     let all = low_commands (map plain_lcommand cs) in
     commands_followed c.args.self.now c.loop-command.self all
     (last_command c.args.self.now c.loop-command.self cs c.loop-command.command-index all c.loop-command-test.false c.loop-command.invariant)
+
+pub follow-returns-then-branch-clause-faults : goal.follow-returns-then-branch-clause-faults
+follow-returns-then-branch-clause-faults t c =
+    let s = c.args.self.now in
+    let b = plain_lcond c.in-If.test in
+    let yes = plain_lcommand c.in-If.yes.value in
+    let no = plain_lcommand c.in-If.no.value in
+    let is : plain_lcommand c.args.command.now ≡ If b yes no = ap plain_lcommand c.in-If.is ∙ low_If c.in-If.test c.in-If.yes c.in-If.no in
+    let test = c.in_ok-branch-in-If.ensures in
+    subst (λ x. Finds (faults (rules_in s) x (forms_in s)) c.follow.result) (sym is)
+    (yes_finds b yes no s c.in_ok-branch-in-If.field-0 test.taken c.follow.result test.faults c.if-branch.true
+    (subst (λ x. Finds (faults (rules_in s) (plain_lcommand x) (forms_in s)) c.follow.result) c.deref.ensures c.follow.ensures.faults))
+
+pub follow-returns-then-branch-clause-after : goal.follow-returns-then-branch-clause-after
+follow-returns-then-branch-clause-after t c =
+    let s = c.args.self.now in
+    let b = plain_lcond c.in-If.test in
+    let yes = plain_lcommand c.in-If.yes.value in
+    let no = plain_lcommand c.in-If.no.value in
+    let is : plain_lcommand c.args.command.now ≡ If b yes no = ap plain_lcommand c.in-If.is ∙ low_If c.in-If.test c.in-If.yes c.in-If.no in
+    let test = c.in_ok-branch-in-If.ensures in
+    on_ok_as c.follow.result
+    (λ f. subst (λ x. Follows x s c.follow.new.self) (sym is)
+    (yes_follows b yes no s c.in_ok-branch-in-If.field-0 test.taken c.follow.new.self c.if-branch.true (subst (λ x. Follows (plain_lcommand x) s c.follow.new.self) c.deref.ensures f))) c.follow.ensures.after
+
+pub follow-returns-else-branch-clause-faults : goal.follow-returns-else-branch-clause-faults
+follow-returns-else-branch-clause-faults t c =
+    let s = c.args.self.now in
+    let b = plain_lcond c.in-If.test in
+    let yes = plain_lcommand c.in-If.yes.value in
+    let no = plain_lcommand c.in-If.no.value in
+    let is : plain_lcommand c.args.command.now ≡ If b yes no = ap plain_lcommand c.in-If.is ∙ low_If c.in-If.test c.in-If.yes c.in-If.no in
+    let test = c.in_ok-branch-in-If.ensures in
+    subst (λ x. Finds (faults (rules_in s) x (forms_in s)) c.follow-else-branch.result) (sym is)
+    (no_finds b yes no s c.in_ok-branch-in-If.field-0 test.taken c.follow-else-branch.result test.faults c.if-branch.false
+    (subst (λ x. Finds (faults (rules_in s) (plain_lcommand x) (forms_in s)) c.follow-else-branch.result) c.deref-else-branch.ensures c.follow-else-branch.ensures.faults))
+
+pub follow-returns-else-branch-clause-after : goal.follow-returns-else-branch-clause-after
+follow-returns-else-branch-clause-after t c =
+    let s = c.args.self.now in
+    let b = plain_lcond c.in-If.test in
+    let yes = plain_lcommand c.in-If.yes.value in
+    let no = plain_lcommand c.in-If.no.value in
+    let is : plain_lcommand c.args.command.now ≡ If b yes no = ap plain_lcommand c.in-If.is ∙ low_If c.in-If.test c.in-If.yes c.in-If.no in
+    let test = c.in_ok-branch-in-If.ensures in
+    on_ok_as c.follow-else-branch.result
+    (λ f. subst (λ x. Follows x s c.follow-else-branch.new.self) (sym is)
+    (no_follows b yes no s c.in_ok-branch-in-If.field-0 test.taken c.follow-else-branch.new.self c.if-branch.false (subst (λ x. Follows (plain_lcommand x) s c.follow-else-branch.new.self) c.deref-else-branch.ensures f))) c.follow-else-branch.ensures.after
