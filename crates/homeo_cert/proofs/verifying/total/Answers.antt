@@ -1,5 +1,5 @@
 -- One more bound, or the first that is negative.
-use Rattle.std.proofs.Common.{rules, arith, ◌≡◌, ◌+ℤ◌, get_or, pos, refl, w64, SFits, to_z, of_z, int_lt, sym, ap, ◌∙◌, subst}
+use Rattle.std.proofs.Common.{rules, arith, ◌≡◌, ◌+ℤ◌, get_or, pos, false, refl, w64, SFits, to_z, of_z, int_lt, sym, ap, ◌∙◌, subst}
 use Rattle.std.specs.Int.{w128}
 use Rattle.std.proofs.lemmas.Int.{ints, to_z-of_z}
 use Rattle.homeo_cert.proofs.Verdicts.{total_next, total_none, natural_next, natural_stops, natural_none}
