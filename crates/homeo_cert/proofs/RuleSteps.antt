@@ -1,10 +1,11 @@
 -- Deltas that are frozen one after another, and clauses that keep a form.
-use Rattle.std.proofs.Common.{◌≡◌, ℕ, suc, ◌+◌, ◌<◌, ◌≤◌, Bool, true, false, not, cond, ◌||◌, ◌&&◌, List, [], ◌∷◌, ◌++◌, map, drop, get_or, length, pos, arith, refl, sym, ap, ap₂, ◌∙◌, subst, add-one, drop_of_length-le}
+use Rattle.std.proofs.Common.{◌≡◌, ℕ, suc, ◌+◌, ◌<◌, ◌≤◌, Bool, true, false, not, cond, ◌||◌, ◌&&◌, List, [], ◌∷◌, ◌++◌, map, drop, get_or, length, pos, eqb, arith, refl, sym, ap, ap₂, ◌∙◌, subst, add-one, drop_of_length-le}
 use Rattle.std.specs.List.{list_any}
 use Rattle.std.proofs.Math.Seq.{drop-cons}
 use Rattle.homeo_meaning.specs.Key.{words as meaning_words}
 use Rattle.homeo_meaning.specs.Small.{IsSmall}
 use Rattle.homeo_meaning.proofs.Steps.{drop_next, drop_none}
+use Rattle.std.proofs.lemmas.Bool.Decides.{nat_tests}
 use Rattle.std.specs.Cmp.Lexicographic.{pointwise}
 use Rattle.homeo_plan.specs.Key.{words as plan_words}
 use Rattle.homeo_plan.specs.declared.forms.Delta.{Delta}
@@ -111,3 +112,15 @@ zero_is_small = omega arith
 pub one_is_small : IsSmall form_limit (pos 1)
 unfolding meaning_words
 one_is_small = omega arith
+
+-- a delta among others, told by a test that has them the other way round
+same_either_way : (d e : Delta) → same_delta d e ≡ same_delta e d
+unfolding plan_words
+same_either_way d e = ap₂ ◌&&◌ (turned d.object e.object) (turned d.site e.site)
+  where
+    turned : (m n : ℕ) → eqb m n ≡ eqb n m
+    turned m n = grind (arith, nat_tests)
+
+pub frozen_is : (E : Delta → Bool) (d : Delta) → ((e : Delta) → E e ≡ same_delta e d) → (ds : List Delta) → list_any E ds ≡ list_any (same_delta d) ds
+frozen_is E d h [] = refl
+frozen_is E d h (e ∷ es) = ap₂ ◌||◌ (h e ∙ same_either_way e d) (frozen_is E d h es)

@@ -5,7 +5,7 @@ use homeo_syntax::Memory;
 use std::alloc::{AllocError, AllocFailed};
 
 /// What is at fault in a call.
-#[derive(Clone, Copy, Debug, PartialEq, Eq)]
+#[derive(Clone, Copy)]
 pub enum Fault {
     /// A number of a form is above 4 * 10^18 in size.
     TooLarge,
@@ -18,7 +18,7 @@ pub enum Fault {
 }
 
 /// Why following a call stops.
-#[derive(Clone, Copy, Debug, PartialEq, Eq)]
+#[derive(Clone, Copy)]
 pub(crate) enum Stop {
     Fault(Fault),
     Memory,

@@ -5,7 +5,6 @@ ghost use Rattle.std.specs.List.{flat_map, list_any};
 ghost use Rattle.homeo_meaning.specs.Small.{IsSmall};
 ghost use Rattle.homeo_plan.specs.FormSizes.{Numbers};
 ghost use Rattle.homeo_plan.specs.Limit.{form_limit};
-ghost use Rattle.homeo_plan.specs.Linear.{same_delta};
 ghost use Rattle.homeo_plan.specs.PlanView.{plain_clause, plain_linear};
 ghost use Rattle.homeo_plan.specs.Template.{same_terms};
 ghost use Rattle.homeo_cert.specs.Kept.{atom, kept_true, kept_false};
@@ -36,7 +35,7 @@ impl<'a> Rules<'a> {
         ensures { Finds (not_frozen (plain_rules self.now) deltas.now) result }
     {
         for delta in deltas {
-            if !self.is_frozen(delta) {
+            if !self.freezes.contains(delta) {
                 return Err(Stop::Fault(Fault::NotFrozen(*delta)));
             }
         }
@@ -49,12 +48,6 @@ impl<'a> Rules<'a> {
     {
         let remote = remote_of(alloc, self.site, form)?;
         self.freeze(remote.as_slice())
-    }
-
-    fn is_frozen(&self, delta: &Delta) -> bool
-        ensures { result ≡ list_any (same_delta delta.now) self.now.freezes.now }
-    {
-        self.freezes.iter().any(|frozen| is_same(delta, frozen))
     }
 
     /// That a clause keeps the form at most 0, if it has terms.
@@ -145,13 +138,6 @@ impl<'a> Rules<'a> {
             SplitName::Base(_) => Err(Stop::Fault(Fault::ForeignWrite)),
         }
     }
-}
-
-#[tactic(auto, unfolding(homeo_plan::specs::Key::words))]
-fn is_same(a: &Delta, b: &Delta) -> bool
-    ensures { result ≡ same_delta a.now b.now }
-{
-    a.object == b.object && a.site == b.site
 }
 
 /// Whether one of the clauses keeps the form at most 0.

@@ -1,16 +1,12 @@
 //! The verdict on bytes.
 
-ghost use Rattle.std.specs.Prelude.{◌≡◌, ◌≤◌, ◌+◌, true, false, [], length, map, pos, int_le, IfOk, MatchOption, option_map};
+ghost use Rattle.std.specs.Prelude.{◌≡◌, ◌≤◌, ◌+◌, true, false, [], length, map, pos, int_le, IfOk, MatchOption};
 ghost use Rattle.std.specs.List.{list_all};
-ghost use Rattle.serde_json.specs.View.{view};
 ghost use Rattle.homeo_plan.specs.Config.{total};
 ghost use Rattle.homeo_plan.specs.PlanView.{plain_clause};
-ghost use Rattle.homeo_cert.specs.Shape.{InShape};
-ghost use Rattle.homeo_cert.specs.Text.{certificate_data};
 ghost use Rattle.homeo_cert.specs.Verdict.{IsVerdictOn, fits_slack, misfits, at_call, faults_from, first_of_all, verdict_of};
 ghost use Rattle.homeo_cert.specs.declared.verdict.Verdict.TheVariants as verdict;
 ghost use Rattle.homeo_cert.specs.inner.CertificateView.{plain_certificate};
-ghost use Rattle.homeo_cert.specs.inner.Reading.{IsRead};
 
 use crate::certificate::{Certificate, read_certificate};
 use crate::fault::{Fault, Stop};
@@ -19,7 +15,6 @@ use crate::parsing::parse;
 use crate::verdict::Verdict;
 use homeo_plan::Clause;
 use homeo_syntax::Memory;
-use serde_json::Value;
 use std::alloc::Global;
 
 /// The verdict on at most 16,777,216 bytes (this project's rule): the first fault of the certificate that they are, or `Valid`.
@@ -36,17 +31,12 @@ pub fn verify(alloc: Global, bytes: &[u8]) -> Result<Verdict, Memory>
     let Some(value) = parse(alloc, bytes)? else {
         return Ok(Verdict::Json);
     };
-    match certificate_in(alloc, value)? {
+    let read = read_certificate(alloc, &value)?;
+    drop(value);
+    match read {
         Some(certificate) => judge(alloc, &certificate),
         None => Ok(Verdict::Shape),
     }
-}
-
-/// The certificate that the value is, which is let go then.
-fn certificate_in(alloc: Global, value: Value) -> Result<Option<Certificate>, Memory>
-    ensures { IfOk result (λ o. IsRead InShape certificate_data (view value) (option_map plain_certificate o)) }
-{
-    read_certificate(alloc, &value)
 }
 
 /// The verdict on a certificate in shape.

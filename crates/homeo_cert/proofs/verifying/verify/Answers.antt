@@ -15,18 +15,18 @@ pub returns-in_default : goal.returns-in_default
 unfolding words
 returns-in_default c = MatchOption-at_none _ _ c.in_default.is c.in_ok-value.ensures
 
-pub returns-in-Some-2 : goal.returns-in-Some-2
-returns-in-Some-2 c =
+pub returns-in-Some-read : goal.returns-in-Some-read
+returns-in-Some-read c =
     let bytes = c.args.bytes.now in
     let json = MatchOption-at_some _ (λ v. IsJsonOf bytes (view v)) c.in-Some.value c.in-Some.is c.in_ok-value.ensures in
-    let got = read_some InShape certificate_data (view c.in-Some.value) plain_certificate c.in_ok-certificate.field-0 c.in-Some-2.certificate c.in-Some-2.is c.in_ok-certificate.ensures in
+    let got = read_some InShape certificate_data (view c.in-Some.value) plain_certificate c.in_ok-read.read c.in-Some-read.certificate c.in-Some-read.is c.in_ok-read.ensures in
     IfOk-weaker c.judge.result _ _
-    (λ v h. verdict_on bytes (plain_certificate c.in-Some-2.certificate) v got.0 (subst (IsJsonOf bytes) (sym got.1) json) h) c.judge.ensures
+    (λ v h. verdict_on bytes (plain_certificate c.in-Some-read.certificate) v got.0 (subst (IsJsonOf bytes) (sym got.1) json) h) c.judge.ensures
 
 pub returns-in-None : goal.returns-in-None
 unfolding words
 returns-in-None c = record {
   value = view c.in-Some.value;
   json = MatchOption-at_some _ (λ v. IsJsonOf c.args.bytes.now (view v)) c.in-Some.value c.in-Some.is c.in_ok-value.ensures;
-  none = read_none InShape certificate_data (view c.in-Some.value) plain_certificate c.in_ok-certificate.field-0 c.in-None.is c.in_ok-certificate.ensures;
+  none = read_none InShape certificate_data (view c.in-Some.value) plain_certificate c.in_ok-read.read c.in-None.is c.in_ok-read.ensures;
 }
