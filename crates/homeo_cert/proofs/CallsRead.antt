@@ -1,5 +1,5 @@
 -- Calls, read from the parts of a JSON object.
-use Rattle.std.proofs.Common.{◌≡◌, ℕ, ◌<◌, List, [], ◌∷◌, ◌++◌, map, pos, Some, sym, ap, ap₂, ◌∙◌, subst, append-nil}
+use Rattle.std.proofs.Common.{◌≡◌, ℕ, ◌<◌, List, [], map, pos, Some, sym, ap, ap₂, ◌∙◌, subst, append-nil}
 use Rattle.std.specs.Prelude.{codes}
 use Rattle.serde_json.specs.Data.{Data, object, member, no_members}
 use Rattle.homeo_syntax.specs.Low.{Command}
@@ -40,6 +40,7 @@ module _ (n k : ℕ) (d c s : Data) (is : call_object c s ≡ d) where
         (x : Command) → parse_command 1000 ns ≡ Some (x, []) → (y : ℕ) → y < k → whole_data (pos y) ≡ s →
         CallInShape n k (record { site = y; command = x }) × (call_data (record { site = y; command = x }) ≡ d)
     call_read x p y l site =
-        let got = command_sound n k 1000 ns x [] each p in
-        (record { site = l; command = got.good.0; nesting = got.good.1 },
-        ap₂ call_object (ap (λ l. list_data (map node_data l)) (sym (append-nil (command_nodes x)) ∙ sym got.is) ∙ nodes) site ∙ is)
+        let got = command_sound n k 1000 ns x [] each p in (
+          record { site = l; command = got.good.0; nesting = got.good.1 },
+          ap₂ call_object (ap (λ l. list_data (map node_data l)) (sym (append-nil (command_nodes x)) ∙ sym got.is) ∙ nodes) site ∙ is,
+        )

@@ -1,5 +1,5 @@
 -- Commands that are followed one after another.
-use Rattle.std.proofs.Common.{◌≡◌, ℕ, ◌+◌, ◌<◌, ◌≤◌, Bool, true, false, cond, List, [], ◌∷◌, ◌++◌, map, drop, get_or, length, Result, refl, sym, ap, ap₂, ◌∙◌, subst, append_assoc}
+use Rattle.std.proofs.Common.{◌≡◌, ℕ, ◌+◌, ◌<◌, ◌≤◌, Bool, true, false, cond, List, [], ◌++◌, map, drop, get_or, length, Result, refl, sym, ap, ap₂, ◌∙◌, subst, append_assoc}
 use Rattle.std.specs.List.{flat_map}
 use Rattle.homeo_syntax.specs.Key.{words as tree_words}
 use Rattle.homeo_syntax.specs.declared.low.LCommand.{LCommand}
@@ -19,7 +19,7 @@ use Rattle.homeo_cert.specs.Kept.{kept}
 use Rattle.homeo_cert.specs.Followed.{Rules, too_large, not_frozen, atom_faults, remote_deltas, faults, all_faults, forms_after, forms_after_all, written, all_written, rules_of, call_faults}
 use Rattle.homeo_cert.specs.inner.Follows.{Follows, FollowsAll, rules_in, forms_in, written_in, written_faults}
 use Rattle.homeo_cert.specs.inner.Stops.{StopsAt, Finds}
-use Rattle.homeo_cert.proofs.Stopping.{stop_sooner, stop_later, none_in_both, finds_later}
+use Rattle.homeo_cert.proofs.Stopping.{stop_sooner, finds_later}
 
 -- ---- lists of commands
 -- the commands so far have no fault, and s is what stands after them

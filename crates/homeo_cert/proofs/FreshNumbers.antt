@@ -9,7 +9,7 @@ use Rattle.homeo_meaning.specs.Key.{words}
 use Rattle.homeo_meaning.specs.Schema.{Declared, Schema}
 use Rattle.homeo_meaning.specs.Aborts.{holds_abort, hold_abort}
 use Rattle.homeo_meaning.specs.Context.{Spot, Slot, Context, spot, cell, field_cell, object, slots, fields, bind, slot_at, context}
-use Rattle.homeo_meaning.specs.LForm.{Lifted, Made, AllMade, both, one, in_front, read, fresh, equal, within, plain, mapped, joined, visits, counted, read_chain, read_slot, literal_of, indexed_by, name_of, lift, lift_all, lift_test, lift_cond, placed, guarded, write_to, write_field, write_chain, Pair, pair, write_at, write_by, as_one, loop, clear, Target, stored, lift_values, all_within, field_writes, fill_chain, inserted, form, forms, flag, set_flag, unless_ended, guard, in_turn, saves, restores, undo, saved_in, undoing, body_by, l_form}
+use Rattle.homeo_meaning.specs.LForm.{Lifted, Made, AllMade, both, one, in_front, read, fresh, equal, within, plain, mapped, joined, visits, counted, read_chain, read_slot, literal_of, indexed_by, name_of, lift, lift_all, lift_test, lift_cond, placed, guarded, write_to, write_field, write_chain, Pair, pair, write_at, write_by, as_one, loop, clear, Target, stored, lift_values, all_within, field_writes, fill_chain, inserted, form, forms, unless_ended, guard, in_turn, saves, restores, undo, saved_in, undoing, body_by, l_form}
 use Rattle.homeo_cert.specs.Key.{words as cert_words}
 use Rattle.homeo_cert.proofs.FreshBelow.{ExprBelow, ExprsBelow, TestBelow, CondBelow, FreshBelow, AllFreshBelow}
 

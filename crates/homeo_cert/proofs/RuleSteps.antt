@@ -1,5 +1,5 @@
 -- Deltas that are frozen one after another, and clauses that keep a form.
-use Rattle.std.proofs.Common.{◌≡◌, ℕ, suc, ◌+◌, ◌<◌, ◌≤◌, Bool, true, false, not, cond, ◌||◌, ◌&&◌, List, [], ◌∷◌, ◌++◌, map, drop, get_or, length, pos, eqb, arith, refl, sym, ap, ap₂, ◌∙◌, subst, add-one, drop_of_length-le}
+use Rattle.std.proofs.Common.{◌≡◌, ℕ, suc, ◌+◌, ◌<◌, ◌≤◌, Bool, true, false, not, cond, ◌||◌, ◌&&◌, List, [], ◌∷◌, ◌++◌, map, drop, get_or, length, pos, eqb, arith, refl, sym, ap, ap₂, ◌∙◌, add-one, drop_of_length-le}
 use Rattle.std.specs.List.{list_any}
 use Rattle.std.proofs.Math.Seq.{drop-cons}
 use Rattle.homeo_meaning.specs.Key.{words as meaning_words}
@@ -16,7 +16,6 @@ use Rattle.homeo_plan.specs.Linear.{same_delta, Linear, is_empty}
 use Rattle.homeo_plan.specs.PlanView.{plain_clause}
 use Rattle.homeo_plan.specs.Template.{same_term, same_terms}
 use Rattle.homeo_cert.specs.Key.{words}
-use Rattle.homeo_cert.specs.declared.fault.Fault.{Fault}
 use Rattle.homeo_cert.specs.declared.fault.Fault.TheVariants.{NotFrozen, NoClause}
 use Rattle.homeo_cert.specs.declared.fault.Stop.TheVariants as stop
 use Rattle.homeo_cert.specs.Followed.{Rules, not_frozen, keeps, no_clause}

@@ -9,7 +9,7 @@ use Rattle.homeo_syntax.specs.Low.{Expr, Test, Cond, True, Not, Comparison, NoTe
 use Rattle.homeo_syntax.specs.LowView.{low_tests, plain_ltest}
 use Rattle.homeo_meaning.specs.Key.{words as meaning_words}
 use Rattle.homeo_meaning.specs.Meaning.{compared}
-use Rattle.homeo_meaning.specs.LowMeaning.{passes, holds, value}
+use Rattle.homeo_meaning.specs.LowMeaning.{passes, holds}
 use Rattle.homeo_meaning.proofs.Steps.{drop_next, drop_none}
 use Rattle.homeo_plan.specs.Key.{words as plan_words}
 use Rattle.homeo_plan.specs.Each.{Each}
@@ -153,6 +153,6 @@ module _ (f : Forms) where
     unfolding words meaning_words plan_words
     comparison_gives c cs e o p q h small =
         let all : atoms_of c ≡ kept_in_test f (Comparison op a b) =
-            ap₂ (λ v x. cond v (kept_true x c.left c.right) (kept_false x c.left c.right)) h o
-            ∙ ap₂ (λ x y. cond (passes (Comparison op a b) (at_zero f)) (kept_true op x y) (kept_false op x y)) p q in
+        ap₂ (λ v x. cond v (kept_true x c.left c.right) (kept_false x c.left c.right)) h o
+        ∙ ap₂ (λ x y. cond (passes (Comparison op a b) (at_zero f)) (kept_true op x y) (kept_false op x y)) p q in
         subst (λ l. Give l (kept_in_test f (Comparison op a b))) (sym e) (record { atoms = append-nil (atoms_of c) ∙ all; small = (small, tt) })

@@ -6,7 +6,6 @@ use Rattle.std.specs.List.{list_all}
 use Rattle.std.proofs.lemmas.Int.{ints, to_z-of_z}
 use Rattle.std.proofs.lemmas.Bool.Decides.{same_from_decides, Decides-eqb, Decides-int_eq}
 use Rattle.std.proofs.Math.Seq.{drop-cons}
-use Rattle.homeo_meaning.specs.Serial.{values_of}
 use Rattle.homeo_meaning.proofs.Steps.{drop_next, drop_none}
 use Rattle.homeo_plan.specs.Key.{words as plan_words}
 use Rattle.homeo_plan.specs.Config.{Config, total}
@@ -157,9 +156,10 @@ none_mapped f (x ∷ xs) h = absurd (omega (arith, h))
 -- numbers of 128 bits are the same where their bits are
 pub bits_same : (x y : ℤ) → SFits w128 x → SFits w128 y → eqb (of_z w128 x) (of_z w128 y) ≡ int_eq x y
 bits_same x y f g =
-    same_from_decides (eqb (of_z w128 x) (of_z w128 y)) (int_eq x y)
-    (λ h. sym (to_z-of_z w128 x f) ∙ ap (to_z w128) ((Decides-eqb (of_z w128 x) (of_z w128 y)).0 h) ∙ to_z-of_z w128 y g,
-    λ e. (Decides-eqb (of_z w128 x) (of_z w128 y)).1 (ap (of_z w128) e)) (Decides-int_eq x y)
+    same_from_decides (eqb (of_z w128 x) (of_z w128 y)) (int_eq x y) (
+      λ h. sym (to_z-of_z w128 x f) ∙ ap (to_z w128) ((Decides-eqb (of_z w128 x) (of_z w128 y)).0 h) ∙ to_z-of_z w128 y g,
+      λ e. (Decides-eqb (of_z w128 x) (of_z w128 y)).1 (ap (of_z w128) e),
+    ) (Decides-int_eq x y)
 
 natural_if : (z : ℤ) → int_lt z (pos 0) ≡ false → int_le (pos 0) z ≡ true
 natural_if z h = grind (arith, ints)

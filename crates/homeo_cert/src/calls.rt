@@ -45,7 +45,11 @@ fn read_call(alloc: Global, value: &Value, extents: Extents) -> Result<Option<Ca
 }
 
 /// A list of at most 1,024 calls.
-pub(crate) fn read_calls(alloc: Global, value: &Value, extents: Extents) -> Result<Option<Vec<Call>>, Memory>
+pub(crate) fn read_calls(
+    alloc: Global,
+    value: &Value,
+    extents: Extents,
+) -> Result<Option<Vec<Call>>, Memory>
     ensures { IfOk result (λ o. IsRead (AreCalls extents.objects extents.sites) (λ gs. list_data (map call_data gs)) (view value.now) (option_map (λ l. map plain_call l.items) o)) }
 {
     let Some(items) = items(value) else {

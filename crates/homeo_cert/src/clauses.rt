@@ -108,7 +108,11 @@ fn rising_clause(slack: i64, terms: Vec<Term>) -> Option<Clause>
 }
 
 /// A list of clauses.
-pub(crate) fn read_clauses(alloc: Global, value: &Value, extents: Extents) -> Result<Option<Vec<Clause>>, Memory>
+pub(crate) fn read_clauses(
+    alloc: Global,
+    value: &Value,
+    extents: Extents,
+) -> Result<Option<Vec<Clause>>, Memory>
     ensures { IfOk result (λ o. IsRead (Each (ClauseInShape extents.objects extents.sites)) (λ cs. list_data (map clause_data cs)) (view value.now) (option_map (λ l. map plain_clause l.items) o)) }
 {
     let Some(items) = items(value) else {
@@ -139,7 +143,11 @@ fn read_bounds(alloc: Global, value: &Value, sites: u32) -> Result<Option<Vec<i6
 }
 
 /// A list of them.
-pub(crate) fn read_all_bounds(alloc: Global, value: &Value, sites: u32) -> Result<Option<Vec<Vec<i64>>>, Memory>
+pub(crate) fn read_all_bounds(
+    alloc: Global,
+    value: &Value,
+    sites: u32,
+) -> Result<Option<Vec<Vec<i64>>>, Memory>
     ensures { IfOk result (λ o. IsRead (Each (BoundsInShape sites)) (λ bs. list_data (map wholes_data bs)) (view value.now) (option_map (λ l. map (λ b. b.items) l.items) o)) }
 {
     let Some(items) = items(value) else {

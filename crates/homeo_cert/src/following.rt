@@ -22,8 +22,8 @@ use crate::fault::Stop;
 use crate::rules::Rules;
 use crate::sizes::form_of;
 use homeo_linear::{Standing, joined_deltas, push_written};
-use homeo_split::{Place, place_of, place_of_temp};
 use homeo_plan::Delta;
+use homeo_split::{Place, place_of, place_of_temp};
 use homeo_syntax::{LCommand, LCond, LExpr, SplitName, Temp};
 use std::alloc::Global;
 
@@ -117,7 +117,7 @@ impl<'a> Following<'a> {
     fn branch(&self, alloc: Global, test: &LCond) -> Result<bool, Stop>
         ensures faults { Finds
             (too_large (met_in_cond (forms_in self.now) (plain_lcond test.now))
-                ++ flat_map (atom_faults (rules_in self.now)) (kept (forms_in self.now) (plain_lcond test.now))) result }
+            ++ flat_map (atom_faults (rules_in self.now)) (kept (forms_in self.now) (plain_lcond test.now))) result }
         ensures taken { IfOk result (λ b. b ≡ holds (plain_lcond test.now) (at_zero (forms_in self.now))) }
     {
         let tested = condition(alloc, &self.standing, test)?;

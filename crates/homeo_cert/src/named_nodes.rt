@@ -8,10 +8,10 @@ ghost use Rattle.homeo_cert.specs.Json.{list_data, node_data};
 ghost use Rattle.homeo_cert.specs.Shape.{NodeInShape};
 ghost use Rattle.homeo_cert.specs.inner.Reading.{IsRead, IsBare};
 
-use crate::nodes::Node;
 use crate::deltas::delta_of;
 use crate::extents::Extents;
 use crate::items::items;
+use crate::nodes::Node;
 use crate::numbers::{count, number_below, temp_number, whole};
 use homeo_syntax::{Compare, Memory, Temp};
 use serde_json::Value;

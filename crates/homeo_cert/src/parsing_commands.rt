@@ -82,7 +82,7 @@ fn choice(
 ) -> Result<Option<LCommand>, Memory>
     ensures { IfOk result (λ o. Gives
         (then (many (parse_test levels) count nodes.old)
-            (λ ts rest. then (parse_command levels rest) (λ c last. seen (If (low_tests ts) c) (parse_command levels last))))
+        (λ ts rest. then (parse_command levels rest) (λ c last. seen (If (low_tests ts) c) (parse_command levels last))))
         (option_map plain_lcommand o) nodes.new) }
 {
     let Some(tests) = tests(alloc, nodes, count, levels)? else {

@@ -76,7 +76,11 @@ fn misfit(clauses: &[Clause], bounds: &[Vec<i64>]) -> Result<Option<u32>, Memory
 fn next(number: u32) -> Result<u32, Memory>
     ensures { IfOk result (λ n. n ≡ number + 1) }
 {
-    if number < u32::MAX { Ok(number + 1) } else { Err(Memory) }
+    if number < u32::MAX {
+        Ok(number + 1)
+    } else {
+        Err(Memory)
+    }
 }
 
 /// Whether no bound is negative, and they sum to the clause's slack.

@@ -21,7 +21,7 @@ returns-in-Some-3 c =
     let n = c.args.extents.objects in
     let k = c.args.extents.sites in
     let got = read_some (Each (NodeInShape n k)) (λ ns. list_data (map node_data ns)) (view c.in-Some.command.now) _
-        c.in_ok-nodes.field-0 c.in-Some-2.nodes c.in-Some-2.is c.in_ok-nodes.ensures in
+    c.in_ok-nodes.field-0 c.in-Some-2.nodes c.in-Some-2.is c.in_ok-nodes.ensures in
     let is = subst (λ o. IsWhole c.as_slice.result.now (option_map plain_lcommand o)) c.in-Some-3.is c.in_ok-command.ensures in
     call_read n k (view c.args.value.now) (view c.in-Some.command.now) (view c.in-Some.site.now) c.in-Some.ensures c.in-Some-2.nodes.items got.0 got.1
     (plain_lcommand c.in-Some-3.command) (subst (λ l. parse_command 1000 l ≡ Some (plain_lcommand c.in-Some-3.command, [])) c.as_slice.ensures.value is)
@@ -32,7 +32,7 @@ returns c =
     let n = c.args.extents.objects in
     let k = c.args.extents.sites in
     let got = read_some (Each (NodeInShape n k)) (λ ns. list_data (map node_data ns)) (view c.in-Some.command.now) _
-        c.in_ok-nodes.field-0 c.in-Some-2.nodes c.in-Some-2.is c.in_ok-nodes.ensures in
+    c.in_ok-nodes.field-0 c.in-Some-2.nodes c.in-Some-2.is c.in_ok-nodes.ensures in
     let none = subst (λ o. IsWhole c.as_slice.result.now (option_map plain_lcommand o)) c.in-None.is c.in_ok-command.ensures in
     no_command n k (view c.args.value.now) (view c.in-Some.command.now) (view c.in-Some.site.now) c.in-Some.ensures c.in-Some-2.nodes.items got.0 got.1
     (subst (λ l. (x : Command) → parse_command 1000 l ≡ Some (x, []) → ⊥) c.as_slice.ensures.value none)

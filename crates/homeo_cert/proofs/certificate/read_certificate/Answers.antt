@@ -1,5 +1,5 @@
 -- What depends on how many objects and sites there are.
-use Rattle.std.proofs.Common.{◌≡◌, map, length, arith, ◌∙◌}
+use Rattle.std.proofs.Common.{map, arith, ◌∙◌}
 use Rattle.std.proofs.lemmas.List.{length-map}
 use Rattle.std.proofs.lemmas.Bool.Decides.{nat_tests}
 use Rattle.serde_json.specs.View.{view}

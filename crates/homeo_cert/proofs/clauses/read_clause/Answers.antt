@@ -16,10 +16,10 @@ returns-in-Some-2 c =
     let n = c.args.extents.objects in
     let k = c.args.extents.sites in
     let got = read_some (Each (TermInShape n k)) (λ ts. list_data (map term_data ts)) (view c.in-Some.list.now) _
-        c.in_ok-terms.field-0 c.in-Some-2.terms c.in-Some-2.is c.in_ok-terms.ensures in
+    c.in_ok-terms.field-0 c.in-Some-2.terms c.in-Some-2.is c.in_ok-terms.ensures in
     let slack = c.in-Some-whole.slack in
     let ts = c.in-Some-2.terms.items in
     let rising = subst (λ z. MatchOption c.rising_clause.result (Rise (deltas_of ts) → ⊥) (λ x. Rise (deltas_of ts) × (plain_clause x ≡ of_parts z ts)))
-        (kept_is slack slack (search rules) refl) c.rising_clause.ensures in
+    (kept_is slack slack (search rules) refl) c.rising_clause.ensures in
     clause_read n k (view c.args.value.now) (view c.in-Some.slack.now) (view c.in-Some.list.now) c.in-Some.ensures
     slack c.in-Some-whole.ensures.0 c.in-Some-whole.ensures.1 ts got.0 got.1 c.rising_clause.result rising

@@ -10,6 +10,6 @@ pub returns-else-items-eq3 : goal.returns-else-items-eq3
 returns-else-items-eq3 c = λ x p e.
     let items = c.in_ok-items.items.now in
     let l : length (map whole_data (pos x.delta.object ∷ pos x.delta.site ∷ x.factor ∷ [])) ≡ length (map view items) =
-        same_length (map whole_data (pos x.delta.object ∷ pos x.delta.site ∷ x.factor ∷ [])) (map view items) (view c.args.value.now) e c.in_ok-items.ensures in
+    same_length (map whole_data (pos x.delta.object ∷ pos x.delta.site ∷ x.factor ∷ [])) (map view items) (view c.args.value.now) e c.in_ok-items.ensures in
     let m = length-map items view in
     absurd (grind (arith, nat_tests, l, m))

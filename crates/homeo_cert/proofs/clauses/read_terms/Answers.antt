@@ -1,9 +1,7 @@
-use Rattle.std.proofs.Common.{◌+◌, [], ◌∷◌, ◌++◌, map, Option, Some, None, option_map, sym, ap, ◌∙◌, subst, refl}
-use Rattle.std.proofs.lemmas.List.{map-append}
+use Rattle.std.proofs.Common.{◌+◌, map, Some, None, sym, ap, ◌∙◌, subst}
 use Rattle.serde_json.specs.View.{view}
 use Rattle.homeo_cert.specs.Shape.{TermInShape}
 use Rattle.homeo_cert.specs.Text.{term_data}
-use Rattle.homeo_cert.specs.inner.Reading.{IsRead}
 use Rattle.homeo_cert.proofs.ReadLists.{Front, front_none, front_more, front_all, none_if, list_read}
 use Rattle.homeo_cert.proofs.clauses.read_terms.Goals as goal
 

@@ -1,5 +1,4 @@
 -- The items so far are read.
-use Rattle.std.proofs.Common.{map}
 use Rattle.serde_json.specs.View.{view}
 use Rattle.homeo_cert.specs.Shape.{TermInShape}
 use Rattle.homeo_cert.specs.Text.{term_data}

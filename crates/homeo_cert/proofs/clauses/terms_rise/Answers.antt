@@ -1,5 +1,5 @@
 -- The delta of the term at a place stands behind that of the one before it, or not.
-use Rattle.std.proofs.Common.{◌≡◌, ◌-◌, refl, sym, ap, ap₂, ◌∙◌, length, arith}
+use Rattle.std.proofs.Common.{◌-◌, refl, sym, ap₂, ◌∙◌, arith}
 use Rattle.std.proofs.Math.ListN.{get_or-map}
 use Rattle.std.proofs.lemmas.List.{length-map}
 use Rattle.std.proofs.lemmas.Bool.{false≢true}
@@ -13,11 +13,12 @@ pub returns-then-not-is_before : goal.returns-then-not-is_before
 unfolding plan_words
 returns-then-not-is_before c =
     let ts = c.args.terms.now in
-    let n = c.loop-place.place in
-    (λ t. absurd (false≢true t),
-    λ r. absurd (rise_stops (deltas_of ts) n _ _ c.is_before.result c.loop-place.auto.place
-        (omega (arith, length-map ts (λ (t : Term). t.delta), c.loop-place-test.true))
-        (c.is_before.ensures ∙ ap₂ delta_before (sym (get_or-map (λ (t : Term). t.delta) ts (n - 1) _)) (sym (get_or-map (λ (t : Term). t.delta) ts n _))) c.if-not-is_before.true r))
+    let n = c.loop-place.place in (
+      λ t. absurd (false≢true t),
+      λ r. absurd (rise_stops (deltas_of ts) n _ _ c.is_before.result c.loop-place.auto.place
+          (omega (arith, length-map ts (λ (t : Term). t.delta), c.loop-place-test.true))
+          (c.is_before.ensures ∙ ap₂ delta_before (sym (get_or-map (λ (t : Term). t.delta) ts (n - 1) _)) (sym (get_or-map (λ (t : Term). t.delta) ts n _))) c.if-not-is_before.true r),
+    )
 
 pub loop-place-preserved : goal.loop-place-preserved
 unfolding plan_words

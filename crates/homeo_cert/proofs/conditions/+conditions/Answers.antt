@@ -1,5 +1,5 @@
 -- Each kind of test, and one more test of a condition.
-use Rattle.std.proofs.Common.{◌≡◌, ◌+◌, [], map, drop, not, sym, ap, ◌∙◌, refl, subst}
+use Rattle.std.proofs.Common.{◌≡◌, ◌+◌, map, drop, not, sym, ap, ◌∙◌, subst}
 use Rattle.homeo_syntax.specs.Low.{Not}
 use Rattle.homeo_syntax.specs.LowView.{low_tests, plain_ltest, plain_lcond}
 use Rattle.homeo_syntax.proofs.LowViews.{low_True, low_Not}

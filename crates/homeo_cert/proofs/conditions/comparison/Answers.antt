@@ -1,11 +1,10 @@
 -- The forms of both sides, one after the other.
-use Rattle.std.proofs.Common.{◌≡◌, ◌++◌, [], ◌∷◌, sym, ap, ◌∙◌, refl, subst}
+use Rattle.std.proofs.Common.{◌++◌, [], ◌∷◌, sym, ap, ◌∙◌, refl}
 use Rattle.homeo_syntax.specs.LowView.{plain_lexpr}
 use Rattle.homeo_linear.specs.Standing.{forms_of}
 use Rattle.homeo_cert.specs.Key.{words}
 use Rattle.homeo_cert.specs.declared.conditions.Compared.{Compared}
 use Rattle.homeo_cert.specs.Met.{met}
-use Rattle.homeo_cert.specs.Followed.{too_large}
 use Rattle.homeo_cert.proofs.LargeNumbers.{large_behind, large_in_front, none_large}
 use Rattle.homeo_cert.proofs.Stopping.{stop_with, stops_as}
 use Rattle.homeo_cert.proofs.TestSteps.{comparison_passes, comparison_gives}

@@ -10,6 +10,6 @@ pub returns-else-items-eq2 : goal.returns-else-items-eq2
 returns-else-items-eq2 c = λ x p e.
     let items = c.in_ok-items.items.now in
     let l : length (map whole_data (pos x.object ∷ pos x.site ∷ [])) ≡ length (map view items) =
-        same_length (map whole_data (pos x.object ∷ pos x.site ∷ [])) (map view items) (view c.args.value.now) e c.in_ok-items.ensures in
+    same_length (map whole_data (pos x.object ∷ pos x.site ∷ [])) (map view items) (view c.args.value.now) e c.in_ok-items.ensures in
     let m = length-map items view in
     absurd (grind (arith, nat_tests, l, m))

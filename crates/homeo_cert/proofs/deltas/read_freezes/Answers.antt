@@ -11,6 +11,6 @@ use Rattle.homeo_cert.proofs.deltas.read_freezes.Goals as goal
 pub returns-else-rise : goal.returns-else-rise
 returns-else-rise c = λ ds are e.
     let got = read_some (Each (DeltaInShape c.args.extents.objects c.args.extents.sites)) (λ ds. list_data (map delta_data ds)) (view c.args.value.now) _
-        c.in_ok-deltas.field-0 c.in-Some.deltas c.in-Some.is c.in_ok-deltas.ensures in
+    c.in_ok-deltas.field-0 c.in-Some.deltas c.in-Some.is c.in_ok-deltas.ensures in
     let same : ds ≡ c.as_slice.result.now = same_deltas ds c.in-Some.deltas.items (e ∙ sym got.1) ∙ sym c.as_slice.ensures.value in
     true≢false (sym (c.rise.ensures.1 (subst Rise same are.rise)) ∙ c.if-rise.false)

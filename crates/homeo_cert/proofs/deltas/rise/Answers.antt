@@ -1,13 +1,14 @@
 -- The delta at a place stands behind the one before it, or not.
-use Rattle.std.proofs.Common.{refl, sym}
+use Rattle.std.proofs.Common.{refl}
 use Rattle.std.proofs.lemmas.Bool.{false≢true}
 use Rattle.homeo_cert.proofs.Rising.{rise_more, rise_stops, rise_ends}
 use Rattle.homeo_cert.proofs.deltas.rise.Goals as goal
 
 pub returns-then-not-is_before : goal.returns-then-not-is_before
-returns-then-not-is_before c =
-    (λ t. absurd (false≢true t),
-    λ r. absurd (rise_stops c.args.deltas.now c.loop-place.place _ _ c.is_before.result c.loop-place.auto.place c.loop-place-test.true c.is_before.ensures c.if-not-is_before.true r))
+returns-then-not-is_before c = (
+  λ t. absurd (false≢true t),
+  λ r. absurd (rise_stops c.args.deltas.now c.loop-place.place _ _ c.is_before.result c.loop-place.auto.place c.loop-place-test.true c.is_before.ensures c.if-not-is_before.true r),
+)
 
 pub loop-place-preserved : goal.loop-place-preserved
 loop-place-preserved c =

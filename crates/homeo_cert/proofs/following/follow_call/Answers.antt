@@ -1,5 +1,5 @@
 -- The command's faults, and then those of what it wrote.
-use Rattle.std.proofs.Common.{◌≡◌, map, ap, ◌∙◌, sym}
+use Rattle.std.proofs.Common.{◌≡◌, map, ap, ◌∙◌}
 use Rattle.homeo_meaning.specs.Serial.{values_of}
 use Rattle.homeo_plan.specs.Linear.{base_forms}
 use Rattle.homeo_plan.specs.PlanView.{plain_clause}

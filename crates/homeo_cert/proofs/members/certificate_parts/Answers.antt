@@ -8,7 +8,7 @@ use Rattle.homeo_cert.proofs.members.certificate_parts.Goals as goal
 pub returns-in_err-calls : goal.returns-in_err-calls
 returns-in_err-calls c =
     let whole : object (members_view c.iter-members.result) ≡ view c.args.value.now =
-        object_is (view c.args.value.now) (members_view c.iter-members.result) (ap (λ es. Some (members_view es)) c.iter-members.ensures.rest ∙ c.in_ok-as_object.ensures) in
+    object_is (view c.args.value.now) (members_view c.iter-members.result) (ap (λ es. Some (members_view es)) c.iter-members.ensures.rest ∙ c.in_ok-as_object.ensures) in
     is_none _ _ _ c.from_residual-in_err-calls.ensures
     (λ b s g l f k v e.
     let all = same_members _ _ _ e whole in
@@ -17,7 +17,7 @@ returns-in_err-calls c =
 pub returns-in_err-freezes : goal.returns-in_err-freezes
 returns-in_err-freezes c =
     let whole : object (members_view c.iter-members.result) ≡ view c.args.value.now =
-        object_is (view c.args.value.now) (members_view c.iter-members.result) (ap (λ es. Some (members_view es)) c.iter-members.ensures.rest ∙ c.in_ok-as_object.ensures) in
+    object_is (view c.args.value.now) (members_view c.iter-members.result) (ap (λ es. Some (members_view es)) c.iter-members.ensures.rest ∙ c.in_ok-as_object.ensures) in
     is_none _ _ _ c.from_residual-in_err-freezes.ensures
     (λ b s g l f k v e.
     let all = same_members _ _ _ e whole in
@@ -27,7 +27,7 @@ returns-in_err-freezes c =
 pub returns-in_err-version : goal.returns-in_err-version
 returns-in_err-version c =
     let whole : object (members_view c.iter-members.result) ≡ view c.args.value.now =
-        object_is (view c.args.value.now) (members_view c.iter-members.result) (ap (λ es. Some (members_view es)) c.iter-members.ensures.rest ∙ c.in_ok-as_object.ensures) in
+    object_is (view c.args.value.now) (members_view c.iter-members.result) (ap (λ es. Some (members_view es)) c.iter-members.ensures.rest ∙ c.in_ok-as_object.ensures) in
     is_none _ _ _ c.from_residual-in_err-version.ensures
     (λ b s g l f k v e.
     let all = same_members _ _ _ e whole in

@@ -1,4 +1,4 @@
-use Rattle.std.proofs.Common.{◌∷◌, map, ap, ◌∙◌, sym, arith}
+use Rattle.std.proofs.Common.{map, ap, ◌∙◌, sym, arith}
 use Rattle.std.proofs.lemmas.List.{length-map}
 use Rattle.serde_json.specs.View.{view}
 use Rattle.homeo_cert.specs.Json.{list_data}

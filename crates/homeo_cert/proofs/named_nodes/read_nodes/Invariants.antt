@@ -1,5 +1,4 @@
 -- The items so far are read.
-use Rattle.std.proofs.Common.{map}
 use Rattle.serde_json.specs.View.{view}
 use Rattle.homeo_cert.specs.Json.{node_data}
 use Rattle.homeo_cert.specs.Shape.{NodeInShape}

@@ -1,8 +1,8 @@
 -- Each kind of command, and one more of them.
-use Rattle.std.proofs.Common.{rules, ◌≡◌, suc, map, IfOk, Some, option_map, ◌+◌, ◌-◌, [], ◌∷◌, sym, ap, ap₂, ◌∙◌, subst, arith, refl}
+use Rattle.std.proofs.Common.{rules, ◌≡◌, suc, map, IfOk, Some, option_map, ◌+◌, ◌-◌, [], ◌∷◌, sym, ap, ap₂, ◌∙◌, subst, arith}
 use Rattle.std.proofs.lemmas.List.{map-append}
 use Rattle.homeo_syntax.specs.declared.low.SplitName.TheVariants as split
-use Rattle.homeo_syntax.specs.Low.{Skip, Write, Print, Seq}
+use Rattle.homeo_syntax.specs.Low.{Write, Print, Seq}
 use Rattle.homeo_syntax.specs.LowView.{plain_lcommand, plain_lexpr, low_commands}
 use Rattle.homeo_syntax.proofs.LowViews.{low_command_views}
 use Rattle.homeo_cert.specs.Key.{words}

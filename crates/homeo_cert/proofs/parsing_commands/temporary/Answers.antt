@@ -1,4 +1,4 @@
-use Rattle.std.proofs.Common.{◌≡◌, Some, ap, ◌∙◌, arith, refl}
+use Rattle.std.proofs.Common.{arith}
 use Rattle.homeo_cert.specs.Key.{words}
 use Rattle.homeo_cert.specs.inner.Parse.{parse_temp}
 use Rattle.homeo_cert.proofs.ParseSteps.{no_temp_without_nodes, no_temp_without_levels, first_of, other_temp}

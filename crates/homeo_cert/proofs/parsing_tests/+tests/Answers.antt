@@ -1,7 +1,7 @@
 -- Each kind of test, and one more of them.
-use Rattle.std.proofs.Common.{rules, ◌≡◌, suc, map, IfOk, Some, option_map, ◌+◌, ◌-◌, [], ◌∷◌, sym, ap, ap₂, ◌∙◌, subst, arith, refl}
+use Rattle.std.proofs.Common.{rules, ◌≡◌, suc, map, IfOk, Some, option_map, ◌+◌, ◌-◌, [], ◌∷◌, sym, ap, ap₂, ◌∙◌, subst, arith}
 use Rattle.std.proofs.lemmas.List.{map-append}
-use Rattle.homeo_syntax.specs.Low.{True, Not}
+use Rattle.homeo_syntax.specs.Low.{Not}
 use Rattle.homeo_syntax.specs.LowView.{plain_ltest, low_tests}
 use Rattle.homeo_syntax.proofs.LowViews.{low_phrase_views}
 use Rattle.homeo_cert.specs.Key.{words}

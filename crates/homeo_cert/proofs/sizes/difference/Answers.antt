@@ -1,5 +1,5 @@
 -- left - right, and then more: the numbers of both are looked at, one after the other.
-use Rattle.std.proofs.Common.{rules, arith, ◌≡◌, ◌++◌, [], sym, ap, ap₂, ◌∙◌, refl, subst}
+use Rattle.std.proofs.Common.{rules, arith, ◌≡◌, [], sym, ap, ap₂, ◌∙◌, refl, subst}
 use Rattle.homeo_meaning.specs.Key.{words as meaning_words}
 use Rattle.homeo_meaning.specs.Small.{IsSmall}
 use Rattle.homeo_meaning.proofs.Numbers.{kept_is}

@@ -1,5 +1,5 @@
 -- A negative bound, or the sum.
-use Rattle.std.proofs.Common.{rules, ◌≡◌, ◌&&◌, sym, ap, ap₂, ◌∙◌}
+use Rattle.std.proofs.Common.{rules, ◌&&◌, sym, ap, ap₂, ◌∙◌}
 use Rattle.std.specs.Ordering.{int_eq}
 use Rattle.homeo_plan.specs.Config.{total}
 use Rattle.homeo_cert.specs.Key.{words}

@@ -1,5 +1,5 @@
 -- A clause that doesn't fit, or else the calls.
-use Rattle.std.proofs.Common.{◌≡◌, map, sym, ap, ap₂, ◌∙◌}
+use Rattle.std.proofs.Common.{map, sym, ap, ap₂, ◌∙◌}
 use Rattle.std.proofs.lemmas.Result.{IfOk-weaker}
 use Rattle.std.proofs.lemmas.Option.{MatchOption-at_some, MatchOption-at_none}
 use Rattle.homeo_plan.specs.PlanView.{plain_clause}

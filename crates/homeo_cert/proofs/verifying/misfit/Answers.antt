@@ -1,5 +1,5 @@
 -- The first clause fits its bounds, or not.
-use Rattle.std.proofs.Common.{◌≡◌, ◌∷◌, map, sym, ap, ◌∙◌}
+use Rattle.std.proofs.Common.{map, sym, ap, ◌∙◌}
 use Rattle.homeo_plan.specs.PlanView.{plain_clause}
 use Rattle.homeo_cert.specs.Verdict.{fits_slack, first_of_all}
 use Rattle.homeo_cert.proofs.ReadLists.{row}

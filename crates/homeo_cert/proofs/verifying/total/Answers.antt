@@ -1,5 +1,5 @@
 -- One more bound, or the first that is negative.
-use Rattle.std.proofs.Common.{rules, arith, ◌≡◌, ◌+ℤ◌, get_or, pos, false, refl, w64, SFits, to_z, of_z, int_lt, sym, ap, ◌∙◌, subst}
+use Rattle.std.proofs.Common.{rules, arith, ◌≡◌, ◌+ℤ◌, get_or, pos, false, refl, w64, SFits, to_z, of_z, int_lt, sym, ap, ◌∙◌}
 use Rattle.std.specs.Int.{w128}
 use Rattle.std.proofs.lemmas.Int.{ints, to_z-of_z}
 use Rattle.homeo_cert.proofs.Verdicts.{total_next, total_none, natural_next, natural_stops, natural_none}
@@ -23,7 +23,7 @@ loop-bound-preserved c =
     let wide : SFits w128 b = grind (arith, ints, rules) in
     let fits : SFits w128 (s +ℤ b) = grind (arith, ints, rules) in
     let is : to_z w128 (of_z w128 (s +ℤ to_z w128 (of_z w128 (to_z w64 (of_z w64 b))))) ≡ s +ℤ b =
-        ap (λ z. to_z w128 (of_z w128 (s +ℤ to_z w128 (of_z w128 z)))) kept ∙ ap (λ z. to_z w128 (of_z w128 (s +ℤ z))) (to_z-of_z w128 b wide) ∙ to_z-of_z w128 (s +ℤ b) fits in
+    ap (λ z. to_z w128 (of_z w128 (s +ℤ to_z w128 (of_z w128 z)))) kept ∙ ap (λ z. to_z w128 (of_z w128 (s +ℤ z))) (to_z-of_z w128 b wide) ∙ to_z-of_z w128 (s +ℤ b) fits in
     let so = c.loop-bound.invariant in
     record {
       sum = rw is (omega (arith, ints, next, so.sum));

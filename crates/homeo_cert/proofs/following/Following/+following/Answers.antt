@@ -1,6 +1,6 @@
 -- Each kind of command, and one more command.
-use Rattle.std.proofs.Common.{◌≡◌, ◌+◌, [], map, drop, sym, ap, ap₂, ◌∙◌, refl, subst}
-use Rattle.homeo_syntax.specs.Low.{Skip, Seq, If}
+use Rattle.std.proofs.Common.{◌≡◌, ◌+◌, map, drop, sym, ap, ◌∙◌, subst}
+use Rattle.homeo_syntax.specs.Low.{Seq, If}
 use Rattle.homeo_syntax.specs.LowView.{low_commands, plain_lcommand, plain_lcond}
 use Rattle.homeo_syntax.proofs.LowViews.{low_Skip, low_Seq, low_If}
 use Rattle.homeo_cert.specs.Key.{words}
@@ -27,21 +27,21 @@ unfolding words
 follow-returns-in-Seq-clause-faults t c =
     let s = c.args.self.now in
     let is : plain_lcommand c.args.command.now ≡ Seq (low_commands (map plain_lcommand c.as_slice.result.now)) =
-        ap plain_lcommand c.in-Seq.is ∙ low_Seq c.in-Seq.commands ∙ ap (λ l. Seq (low_commands (map plain_lcommand l))) (sym c.as_slice.ensures) in
+    ap plain_lcommand c.in-Seq.is ∙ low_Seq c.in-Seq.commands ∙ ap (λ l. Seq (low_commands (map plain_lcommand l))) (sym c.as_slice.ensures) in
     subst (λ x. Finds (faults (rules_in s) x (forms_in s)) c.follow_all.result) (sym is) c.follow_all.ensures.faults
 
 pub follow-returns-in-Seq-clause-after : goal.follow-returns-in-Seq-clause-after
 follow-returns-in-Seq-clause-after t c =
     let s = c.args.self.now in
     let is : plain_lcommand c.args.command.now ≡ Seq (low_commands (map plain_lcommand c.as_slice.result.now)) =
-        ap plain_lcommand c.in-Seq.is ∙ low_Seq c.in-Seq.commands ∙ ap (λ l. Seq (low_commands (map plain_lcommand l))) (sym c.as_slice.ensures) in
+    ap plain_lcommand c.in-Seq.is ∙ low_Seq c.in-Seq.commands ∙ ap (λ l. Seq (low_commands (map plain_lcommand l))) (sym c.as_slice.ensures) in
     on_ok_as c.follow_all.result (λ f. subst (λ x. Follows x s c.follow_all.new.self) (sym is) (seq_follows (low_commands (map plain_lcommand c.as_slice.result.now)) s c.follow_all.new.self f)) c.follow_all.ensures.after
 
 pub follow-returns-in_err-branch-in-If-clause-faults : goal.follow-returns-in_err-branch-in-If-clause-faults
 follow-returns-in_err-branch-in-If-clause-faults t c =
     let s = c.args.self.now in
     let is : plain_lcommand c.args.command.now ≡ If (plain_lcond c.in-If.test) (plain_lcommand c.in-If.yes.value) (plain_lcommand c.in-If.no.value) =
-        ap plain_lcommand c.in-If.is ∙ low_If c.in-If.test c.in-If.yes c.in-If.no in
+    ap plain_lcommand c.in-If.is ∙ low_If c.in-If.test c.in-If.yes c.in-If.no in
     stop_with _ c.from_residual.result _ c.from_residual.ensures.1
     (stops_as _ _ _ (ap (λ x. faults (rules_in s) x (forms_in s)) (sym is))
     (if_stops (plain_lcond c.in-If.test) (plain_lcommand c.in-If.yes.value) (plain_lcommand c.in-If.no.value) s _ c.in_err-branch-in-If.ensures.faults))

@@ -1,5 +1,5 @@
 -- The forms of all tests, and then the comparisons that keep them.
-use Rattle.std.proofs.Common.{◌≡◌, List, [], ap, sym, ◌∙◌, subst}
+use Rattle.std.proofs.Common.{◌≡◌, List, ap, sym, ◌∙◌, subst}
 use Rattle.std.specs.List.{flat_map}
 use Rattle.homeo_syntax.specs.LowView.{plain_lcond}
 use Rattle.homeo_plan.specs.Each.{Each}
@@ -33,7 +33,7 @@ returns-in_err-keep_compared-clause-faults c =
     let f : Compared → List Fault = λ x. flat_map (atom_faults (rules_in s)) (atoms_of x) in
     let cs = c.deref-compared-items.result.now in
     let all : flat_map f cs ≡ flat_map (atom_faults (rules_in s)) (kept (forms_in s) b) =
-        flat_twice (atom_faults (rules_in s)) atoms_of cs ∙ ap (flat_map (atom_faults (rules_in s))) (ap (flat_map atoms_of) c.deref-compared-items.ensures.value ∙ c.in_ok-tested.ensures.kept.atoms) in
+    flat_twice (atom_faults (rules_in s)) atoms_of cs ∙ ap (flat_map (atom_faults (rules_in s))) (ap (flat_map atoms_of) c.deref-compared-items.ensures.value ∙ c.in_ok-tested.ensures.kept.atoms) in
     stop_with _ c.from_residual-in_err-keep_compared.result _ c.from_residual-in_err-keep_compared.ensures.1
     (stop_later (too_large (met_in_cond (forms_in s) b)) (flat_map (atom_faults (rules_in s)) (kept (forms_in s) b)) _ c.in_ok-tested.ensures.faults
     (stops_as _ _ _ all
@@ -51,6 +51,6 @@ returns-clause-faults c =
     let f : Compared → List Fault = λ x. flat_map (atom_faults (rules_in s)) (atoms_of x) in
     let cs = c.deref-compared-items.result.now in
     let all : flat_map f cs ≡ flat_map (atom_faults (rules_in s)) (kept (forms_in s) b) =
-        flat_twice (atom_faults (rules_in s)) atoms_of cs ∙ ap (flat_map (atom_faults (rules_in s))) (ap (flat_map atoms_of) c.deref-compared-items.ensures.value ∙ c.in_ok-tested.ensures.kept.atoms) in
+    flat_twice (atom_faults (rules_in s)) atoms_of cs ∙ ap (flat_map (atom_faults (rules_in s))) (ap (flat_map atoms_of) c.deref-compared-items.ensures.value ∙ c.in_ok-tested.ensures.kept.atoms) in
     none_in_both (too_large (met_in_cond (forms_in s) b)) (flat_map (atom_faults (rules_in s)) (kept (forms_in s) b)) c.in_ok-tested.ensures.faults
     (sym all ∙ flat_ends f cs c.loop-compared.compared-index c.loop-compared-test.false c.loop-compared.invariant)

@@ -1,10 +1,9 @@
 -- One more delta that was written.
-use Rattle.std.proofs.Common.{◌≡◌, get_or, ap, sym, ◌∙◌, subst, refl}
+use Rattle.std.proofs.Common.{get_or, ap, sym, ◌∙◌, refl}
 use Rattle.std.specs.List.{flat_map}
 use Rattle.homeo_plan.specs.declared.forms.Delta.{Delta}
 use Rattle.homeo_cert.specs.Followed.{not_frozen, remote_deltas}
-use Rattle.homeo_cert.specs.inner.Follows.{rules_in, written_in, written_faults}
-use Rattle.homeo_cert.specs.inner.Stops.{Finds}
+use Rattle.homeo_cert.specs.inner.Follows.{rules_in, written_faults}
 use Rattle.homeo_cert.proofs.FlatSteps.{flat_stops, flat_goes_on, flat_ends}
 use Rattle.homeo_cert.proofs.Stopping.{stop_with, stops_as}
 use Rattle.homeo_cert.proofs.following.Following.end.Goals as goal

@@ -1,5 +1,5 @@
 -- The form's numbers, then its mixed deltas, then its clause.
-use Rattle.std.proofs.Common.{rules, ◌≡◌, ◌++◌, [], refl, sym, ap, ◌∙◌, subst}
+use Rattle.std.proofs.Common.{rules, ◌++◌, refl, sym, ap, ◌∙◌, subst}
 use Rattle.homeo_meaning.proofs.Numbers.{kept_is}
 use Rattle.homeo_plan.specs.Linear.{Linear}
 use Rattle.homeo_cert.specs.Key.{words}

@@ -1,7 +1,6 @@
 -- What keeps each kind of comparison.
-use Rattle.std.proofs.Common.{◌≡◌, ◌++◌, [], ◌∷◌, pos, cond, ap, sym, ◌∙◌, subst}
+use Rattle.std.proofs.Common.{◌++◌, [], pos, ap, sym, subst}
 use Rattle.std.specs.List.{flat_map}
-use Rattle.homeo_syntax.specs.declared.phrase.Compare.TheVariants.{Equal}
 use Rattle.homeo_cert.specs.Key.{words}
 use Rattle.homeo_cert.specs.Kept.{atom, kept_true}
 use Rattle.homeo_cert.specs.Followed.{atom_faults}

@@ -1,5 +1,5 @@
 -- A delta of the call's site, or not.
-use Rattle.std.proofs.Common.{rules, ◌≡◌, ◌==◌, Bool, true, false, cond, List, [], ◌∷◌, sym, ap, ◌∙◌, refl}
+use Rattle.std.proofs.Common.{rules, ◌≡◌, ◌==◌, true, false, cond, [], ◌∷◌, ap, ◌∙◌}
 use Rattle.homeo_cert.specs.Key.{words}
 use Rattle.homeo_cert.specs.Followed.{foreign}
 use Rattle.homeo_cert.specs.declared.fault.Fault.TheVariants.{ForeignWrite}
