@@ -8,9 +8,10 @@ use Rattle.homeo_cert.specs.declared.nodes.Node.{Node}
 use Rattle.homeo_cert.specs.Certificate.{Call}
 use Rattle.homeo_cert.specs.Json.{whole_data, list_data, node_data}
 use Rattle.homeo_cert.specs.Nodes.{command_nodes}
-use Rattle.homeo_cert.specs.Shape.{NodeInShape, CallInShape}
+use Rattle.homeo_cert.specs.Shape.{CallInShape}
 use Rattle.homeo_cert.specs.Text.{call_data}
 use Rattle.homeo_cert.specs.inner.Parse.{parse_command}
+use Rattle.homeo_cert.specs.inner.NodeShapes.{NodeInShape}
 use Rattle.homeo_cert.proofs.NodesInShape.{nodes_in_shape}
 use Rattle.homeo_cert.proofs.OneCertificate.{value_at, same_nodes}
 use Rattle.homeo_cert.proofs.ParseSound.{command_sound}

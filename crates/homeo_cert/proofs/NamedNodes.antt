@@ -10,9 +10,10 @@ use Rattle.homeo_cert.specs.declared.nodes.Node.{Node}
 use Rattle.homeo_cert.specs.declared.nodes.Node.TheVariants as node
 use Rattle.homeo_cert.specs.Key.{words}
 use Rattle.homeo_cert.specs.Json.{whole_data, list_data, node_data}
-use Rattle.homeo_cert.specs.Shape.{NodeInShape, DeltaInShape}
+use Rattle.homeo_cert.specs.Shape.{DeltaInShape}
 use Rattle.homeo_cert.specs.Text.{delta_data}
 use Rattle.homeo_cert.specs.inner.Reading.{IsRead, IsBare}
+use Rattle.homeo_cert.specs.inner.NodeShapes.{NodeInShape}
 use Rattle.homeo_cert.proofs.ReadLists.{same_list, list_head, list_tail}
 
 -- a name and numbers

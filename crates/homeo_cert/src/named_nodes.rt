@@ -5,8 +5,8 @@ ghost use Rattle.serde_json.specs.Data.{string};
 ghost use Rattle.serde_json.specs.View.{view};
 ghost use Rattle.homeo_plan.specs.Each.{Each};
 ghost use Rattle.homeo_cert.specs.Json.{list_data, node_data};
-ghost use Rattle.homeo_cert.specs.Shape.{NodeInShape};
 ghost use Rattle.homeo_cert.specs.inner.Reading.{IsRead, IsBare};
+ghost use Rattle.homeo_cert.specs.inner.NodeShapes.{NodeInShape};
 
 use crate::deltas::delta_of;
 use crate::extents::Extents;

@@ -5,8 +5,8 @@ use Rattle.homeo_syntax.specs.Low.{Command}
 use Rattle.homeo_syntax.specs.LowView.{plain_lcommand}
 use Rattle.homeo_plan.specs.Each.{Each}
 use Rattle.homeo_cert.specs.Json.{list_data, node_data}
-use Rattle.homeo_cert.specs.Shape.{NodeInShape}
 use Rattle.homeo_cert.specs.inner.Parse.{parse_command, IsWhole}
+use Rattle.homeo_cert.specs.inner.NodeShapes.{NodeInShape}
 use Rattle.homeo_cert.proofs.CallsRead.{no_nodes, no_command, call_read}
 use Rattle.homeo_cert.proofs.ReadLists.{read_some, read_none}
 use Rattle.homeo_cert.proofs.calls.read_call.Goals as goal

@@ -1,7 +1,7 @@
 use Rattle.std.proofs.Common.{◌+◌, map, Some, None, sym, ap, ◌∙◌, subst}
 use Rattle.serde_json.specs.View.{view}
 use Rattle.homeo_cert.specs.Json.{node_data}
-use Rattle.homeo_cert.specs.Shape.{NodeInShape}
+use Rattle.homeo_cert.specs.inner.NodeShapes.{NodeInShape}
 use Rattle.homeo_cert.proofs.ReadLists.{Front, front_none, front_more, front_all, none_if, list_read}
 use Rattle.homeo_cert.proofs.named_nodes.read_nodes.Goals as goal
 

@@ -1,7 +1,7 @@
 -- The items so far are read.
 use Rattle.serde_json.specs.View.{view}
 use Rattle.homeo_cert.specs.Json.{node_data}
-use Rattle.homeo_cert.specs.Shape.{NodeInShape}
+use Rattle.homeo_cert.specs.inner.NodeShapes.{NodeInShape}
 use Rattle.homeo_cert.proofs.ReadLists.{Front}
 use Rattle.homeo_cert.proofs.named_nodes.read_nodes.Given as goal
 
