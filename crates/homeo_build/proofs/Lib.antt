@@ -1,4 +1,6 @@
 pub mod FewSites
+pub mod Following
+pub mod FormsMade
 pub mod GroundCalls
 pub mod Grown
 pub mod PlanParts

@@ -5,7 +5,7 @@ use Rattle.std.specs.List.{list_any}
 use Rattle.std.proofs.lemmas.Bool.{cases_lt, eqb-true, eqb-false, eq-eqb, ne_eqb}
 use Rattle.std.proofs.lemmas.List.{take_more, take_all, map_push, length-map, get_or-map}
 use Rattle.homeo_syntax.specs.LowView.{low_commands, plain_lcommand}
-use Rattle.homeo_syntax.specs.Low.{Expr, Cond, Command, Commands, Skip, Assign, Write, Print, Seq, If}
+use Rattle.homeo_syntax.specs.Low.{Expr, Cond, Command, Skip, Assign, Write, Print, Seq, If}
 use Rattle.homeo_syntax.specs.declared.low.Temp.{Temp}
 use Rattle.homeo_syntax.specs.Source as s
 use Rattle.homeo_syntax.specs.declared.low.LCommand.{LCommand}

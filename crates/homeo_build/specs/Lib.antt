@@ -1,3 +1,4 @@
+pub mod Forms
 pub mod Key
 pub mod Plan
 pub mod Written

@@ -1,2 +1,4 @@
+pub mod Bodies
+pub mod Followed
 pub mod Planning
 pub mod Sharing

@@ -10,8 +10,10 @@ ghost use Rattle.homeo_ground.specs.Grounding.{grounding};
 ghost use Rattle.homeo_plan.specs.PlanView.{plain_clause};
 ghost use Rattle.homeo_plan.specs.Planned.{sites_of, planned, transformed};
 ghost use Rattle.homeo_plan.specs.Shares.{takes_part};
+ghost use Rattle.homeo_build.specs.Forms.{AreForms};
 ghost use Rattle.homeo_build.specs.Written.{AreWritten};
 
+use crate::forms::Forms;
 use homeo_context::Declarations;
 use homeo_ground::Grounding;
 use homeo_meaning::padded::item_or;
@@ -21,13 +23,15 @@ use homeo_syntax::{LCommand, List};
 use std::marker::Model;
 
 /// An accepted workload with what is fixed for all its rounds: the places of its names; its distinct ground calls, each where it
-/// is first called, in the order of the text; which of them each call is; and the delta transform of the L form of each, at the
-/// call's site; and at each site the objects whose deltas some of them can write.
+/// is first called, in the order of the text; which of them each call is; their L forms, once for each transaction with
+/// arguments; the delta transform of that of each, at the call's site; and at each site the objects whose deltas some of them can
+/// write.
 #[derive(Drop)]
 pub struct Compiled {
     workload: Accepted,
     declared: Declarations,
     calls: Grounding,
+    forms: Forms,
     commands: List<LCommand>,
     written: Vec<Vec<bool>>,
 }
@@ -41,6 +45,7 @@ impl Model for Compiled {
     ghost use Rattle.homeo_meaning.specs.Declarations.{declarations};
     ghost use Rattle.homeo_ground.specs.Grounding.{grounding};
     ghost use Rattle.homeo_plan.specs.Planned.{transformed};
+    ghost use Rattle.homeo_build.specs.Forms.{AreForms};
     ghost use Rattle.homeo_build.specs.Written.{AreWritten};
 
     ghost Value = { Workload };
@@ -52,21 +57,24 @@ impl Model for Compiled {
     ghost invariant = { λ c. (c.calls ≡ grounding (plain_workload c.workload))
         × (map plain_lcommand c.commands.items ≡ transformed (plain_workload c.workload))
         × (c.declared ≡ declarations (plain_workload c.workload))
-        × AreWritten (plain_workload c.workload) (map (λ row. row.items) c.written.items) };
+        × AreWritten (plain_workload c.workload) (map (λ row. row.items) c.written.items)
+        × AreForms (plain_workload c.workload) (map plain_lcommand c.forms.forms.items) c.forms.places.items };
 }
 
 impl Compiled {
-    /// Takes a workload with the places of its names, its ground calls, their transformed commands, and what these can write. It
-    /// takes no memory.
+    /// Takes a workload with the places of its names, its ground calls, their L forms, their transformed commands, and what these
+    /// can write. It takes no memory.
     pub fn new(
         workload: Accepted,
         declared: Declarations,
         calls: Grounding,
+        forms: Forms,
         commands: List<LCommand>,
         written: Vec<Vec<bool>>,
     ) -> Compiled
         requires declared { declared ≡ declarations (plain_workload workload) }
         requires calls { calls ≡ grounding (plain_workload workload) }
+        requires forms { AreForms (plain_workload workload) (map plain_lcommand forms.forms.items) forms.places.items }
         requires commands { map plain_lcommand commands.items ≡ transformed (plain_workload workload) }
         requires written { AreWritten (plain_workload workload) (map (λ row. row.items) written.items) }
         ensures { plain_workload result ≡ plain_workload workload }
@@ -75,6 +83,7 @@ impl Compiled {
             workload,
             declared,
             calls,
+            forms,
             commands,
             written,
         }
@@ -99,6 +108,13 @@ impl Compiled {
         ensures { map plain_ground result.now ≡ grounds (plain_workload self.now) }
     {
         self.calls.calls()
+    }
+
+    /// Lends the L forms of the ground calls.
+    pub(crate) fn forms(&self) -> &Forms
+        ensures { AreForms (plain_workload self.now) (map plain_lcommand result.now.forms.items) result.now.places.items }
+    {
+        &self.forms
     }
 
     /// Lends the transformed commands, one for each ground call.

@@ -4,6 +4,7 @@
 mod calls;
 pub mod compile;
 mod compiled;
+mod forms;
 pub mod laws;
 pub mod shares;
 mod sites;
@@ -11,3 +12,4 @@ pub mod treaties;
 mod written;
 
 pub use compiled::Compiled;
+pub use forms::Forms;

@@ -28,7 +28,7 @@ unfolding plan_words
 before_not_same d e h = grind (arith, nat_tests)
 
 -- ---- whether a delta is there
-abbrev has : Delta → List Delta → Bool
+abbrev pub has : Delta → List Delta → Bool
 has d ds = list_any (same_delta d) ds
 
 or_again : (b c : Bool) → (b || c) ≡ (b || (b || c))
@@ -41,13 +41,13 @@ or_swap true false c = refl
 or_swap false true c = refl
 or_swap false false c = refl
 
-or_move : (a b c : Bool) → (a || (b || c)) ≡ ((b || a) || c)
+pub or_move : (a b c : Bool) → (a || (b || c)) ≡ ((b || a) || c)
 or_move true true c = refl
 or_move true false c = refl
 or_move false true c = refl
 or_move false false c = refl
 
-or_none : (b : Bool) → (b || false) ≡ b
+pub or_none : (b : Bool) → (b || false) ≡ b
 or_none true = refl
 or_none false = refl
 
@@ -64,7 +64,7 @@ has_add d e (x ∷ xs) = go (same_delta e x) refl (delta_before e x) (has_add d 
     go false p true ih = refl
     go false p false ih = ap (λ b. same_delta d x || b) ih ∙ or_swap (same_delta d x) (same_delta d e) (has d xs)
 
-has_adds : (d : Delta) (ds es : List Delta) → has d (add_deltas ds es) ≡ (has d ds || has d es)
+pub has_adds : (d : Delta) (ds es : List Delta) → has d (add_deltas ds es) ≡ (has d ds || has d es)
 unfolding plan_words
 has_adds d [] es = refl
 has_adds d (x ∷ xs) es =
@@ -93,7 +93,7 @@ same_rest d e x ds es p a b h = go (same_delta x d) refl
     go false q =
         sym (ap (λ b. b || has x ds) q) ∙ h ∙ ap (λ b. b || has x es) (ap (same_delta x) (sym p) ∙ q)
 
-same_deltas : (ds es : List Delta) → InOrder ds → InOrder es → ((d : Delta) → has d ds ≡ has d es) → ds ≡ es
+pub same_deltas : (ds es : List Delta) → InOrder ds → InOrder es → ((d : Delta) → has d ds ≡ has d es) → ds ≡ es
 unfolding words
 same_deltas [] [] o p h = refl
 same_deltas [] (e ∷ es) o p h = absurd (true≢false (sym (h e ∙ ap (λ b. b || has e es) (same_self e))))

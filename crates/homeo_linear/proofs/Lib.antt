@@ -1,8 +1,11 @@
 mod Adding
+mod AtSites
 mod CheckedSteps
 mod Comparing
+mod Coursing
 mod FormParts
 mod FormSteps
+mod Gaining
 mod ItemForms
 mod JoinedDeltas
 mod JoinedTerms

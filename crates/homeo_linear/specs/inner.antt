@@ -1,3 +1,4 @@
+pub mod Course
 pub mod Following
 pub mod Items
 pub mod Kept

@@ -1,28 +1,28 @@
-//! Conditions and their tests at a base.
+//! Conditions and their tests, where the forms of what stands at each place are known.
 
 ghost use Rattle.std.specs.Prelude.{◌≡◌, ◌++◌, map, IfOk, OnOk};
 ghost use Rattle.homeo_syntax.specs.LowView.{low_tests, plain_ltest, plain_lcond};
-ghost use Rattle.homeo_meaning.specs.LowMeaning.{passes, holds, whole};
-ghost use Rattle.homeo_meaning.specs.Serial.{values_of};
 ghost use Rattle.homeo_meaning.specs.Small.{IsSmall};
 ghost use Rattle.homeo_plan.specs.FormSizes.{CanTest, CanCond};
-ghost use Rattle.homeo_plan.specs.Linear.{base_forms};
 ghost use Rattle.homeo_plan.specs.PlanView.{plain_atom};
 ghost use Rattle.homeo_plan.specs.Limit.{form_limit};
+ghost use Rattle.homeo_follow.specs.Follow.{passes_by, holds_by};
+ghost use Rattle.homeo_linear.specs.Standing.{forms_of};
 ghost use Rattle.homeo_linear.specs.inner.Kept.{kept_test, kept_cond};
 
 use crate::comparisons::{Kept, comparison};
-use crate::expressions::form_at_base;
+use crate::expressions::form;
+use crate::standing::Standing;
 use homeo_plan::Atom;
 use homeo_syntax::{LCond, LTest, Memory};
 use std::alloc::Global;
 
 #[cycle(conditions)]
 #[tactic(auto, using(homeo_syntax::proofs::Measures::low_test_parts, homeo_syntax::proofs::LowViews::low_phrase_views))]
-fn test(alloc: Global, base: &[i64], t: &LTest) -> Result<Kept, Memory>
-    requires { CanTest (IsSmall form_limit) (base_forms (values_of base.now)) (plain_ltest t.now) }
-    ensures holds { IfOk result (λ k. k.holds ≡ passes (plain_ltest t.now) (whole (values_of base.now))) }
-    ensures atoms { IfOk result (λ k. map plain_atom k.atoms.items ≡ kept_test (values_of base.now) (plain_ltest t.now)) }
+fn test(alloc: Global, standing: &Standing, t: &LTest) -> Result<Kept, Memory>
+    requires { CanTest (IsSmall form_limit) (forms_of standing.now) (plain_ltest t.now) }
+    ensures holds { IfOk result (λ k. k.holds ≡ passes_by (forms_of standing.now) (plain_ltest t.now)) }
+    ensures atoms { IfOk result (λ k. map plain_atom k.atoms.items ≡ kept_test (forms_of standing.now) (plain_ltest t.now)) }
 {
     match t {
         LTest::True => Ok(Kept {
@@ -30,15 +30,15 @@ fn test(alloc: Global, base: &[i64], t: &LTest) -> Result<Kept, Memory>
             atoms: Vec::new(alloc),
         }),
         LTest::Not(c) => {
-            let kept = condition(alloc, base, c)?;
+            let kept = condition(alloc, standing, c)?;
             Ok(Kept {
                 holds: !kept.holds,
                 atoms: kept.atoms,
             })
         }
         LTest::Compare { op, left, right } => {
-            let left = form_at_base(alloc, base, left)?;
-            let right = form_at_base(alloc, base, right)?;
+            let left = form(alloc, standing, left)?;
+            let right = form(alloc, standing, right)?;
             comparison(alloc, *op, &left, &right)
         }
     }
@@ -47,24 +47,24 @@ fn test(alloc: Global, base: &[i64], t: &LTest) -> Result<Kept, Memory>
 /// Of a condition that holds at the base the atoms of all its tests, and of another those of its first test that fails.
 #[cycle(conditions)]
 #[tactic(auto, using(homeo_syntax::proofs::Measures::low_test_parts, homeo_syntax::proofs::LowViews::low_phrase_views))]
-pub(crate) fn condition(alloc: Global, base: &[i64], c: &LCond) -> Result<Kept, Memory>
-    requires { CanCond (IsSmall form_limit) (base_forms (values_of base.now)) (plain_lcond c.now) }
-    ensures holds { IfOk result (λ k. k.holds ≡ holds (plain_lcond c.now) (whole (values_of base.now))) }
-    ensures atoms { IfOk result (λ k. map plain_atom k.atoms.items ≡ kept_cond (values_of base.now) (plain_lcond c.now)) }
+pub(crate) fn condition(alloc: Global, standing: &Standing, c: &LCond) -> Result<Kept, Memory>
+    requires { CanCond (IsSmall form_limit) (forms_of standing.now) (plain_lcond c.now) }
+    ensures holds { IfOk result (λ k. k.holds ≡ holds_by (forms_of standing.now) (plain_lcond c.now)) }
+    ensures atoms { IfOk result (λ k. map plain_atom k.atoms.items ≡ kept_cond (forms_of standing.now) (plain_lcond c.now)) }
 {
-    tests(alloc, base, c.tests.as_slice())
+    tests(alloc, standing, c.tests.as_slice())
 }
 
 #[cycle(conditions)]
 #[tactic(auto, using(homeo_syntax::proofs::Measures::low_test_parts))]
-fn tests(alloc: Global, base: &[i64], ts: &[LTest]) -> Result<Kept, Memory>
-    requires { CanCond (IsSmall form_limit) (base_forms (values_of base.now)) (low_tests (map plain_ltest ts.now)) }
-    ensures holds { IfOk result (λ k. k.holds ≡ holds (low_tests (map plain_ltest ts.now)) (whole (values_of base.now))) }
-    ensures atoms { IfOk result (λ k. map plain_atom k.atoms.items ≡ kept_cond (values_of base.now) (low_tests (map plain_ltest ts.now))) }
+fn tests(alloc: Global, standing: &Standing, ts: &[LTest]) -> Result<Kept, Memory>
+    requires { CanCond (IsSmall form_limit) (forms_of standing.now) (low_tests (map plain_ltest ts.now)) }
+    ensures holds { IfOk result (λ k. k.holds ≡ holds_by (forms_of standing.now) (low_tests (map plain_ltest ts.now))) }
+    ensures atoms { IfOk result (λ k. map plain_atom k.atoms.items ≡ kept_cond (forms_of standing.now) (low_tests (map plain_ltest ts.now))) }
 {
     let mut atoms = Vec::new(alloc);
     for t in ts {
-        let kept = test(alloc, base, t)?;
+        let kept = test(alloc, standing, t)?;
         if !kept.holds {
             return Ok(kept);
         }
@@ -73,7 +73,8 @@ fn tests(alloc: Global, base: &[i64], ts: &[LTest]) -> Result<Kept, Memory>
     Ok(Kept { holds: true, atoms })
 }
 
-fn push_all(atoms: &mut Vec<Atom>, more: Vec<Atom>) -> Result<(), Memory>
+/// Puts atoms behind the others.
+pub(crate) fn push_all(atoms: &mut Vec<Atom>, more: Vec<Atom>) -> Result<(), Memory>
     ensures { OnOk result (map plain_atom atoms.new.items ≡ map plain_atom atoms.old.items ++ map plain_atom more.items) }
 {
     for atom in more {

@@ -3,9 +3,8 @@
 ghost use Rattle.std.specs.Prelude.{◌≡◌, pos, map, IfOk};
 ghost use Rattle.homeo_syntax.specs.LowView.{low_exprs, plain_lexpr};
 ghost use Rattle.homeo_meaning.specs.Small.{IsSmall};
-ghost use Rattle.homeo_meaning.specs.Serial.{values_of};
 ghost use Rattle.homeo_plan.specs.FormSizes.{CanForm, CanSum, CanProduct};
-ghost use Rattle.homeo_plan.specs.Linear.{constant_form, base_forms, form, sum_form, product_form};
+ghost use Rattle.homeo_plan.specs.Linear.{constant_form, form, sum_form, product_form};
 ghost use Rattle.homeo_plan.specs.Limit.{form_limit};
 ghost use Rattle.homeo_linear.specs.Standing.{forms_of};
 
@@ -67,13 +66,4 @@ fn product(alloc: Global, standing: &Standing, es: &[LExpr]) -> Result<Form, Mem
         total = total.by(alloc, &part)?;
     }
     Ok(total)
-}
-
-/// The form of an expression at a base.
-pub(crate) fn form_at_base(alloc: Global, base: &[i64], e: &LExpr) -> Result<Form, Memory>
-    requires { CanForm (IsSmall form_limit) (base_forms (values_of base.now)) (plain_lexpr e.now) }
-    ensures { IfOk result (λ f. f ≡ form (base_forms (values_of base.now)) (plain_lexpr e.now)) }
-{
-    let standing = Standing::new(alloc, base);
-    form(alloc, &standing, e)
 }

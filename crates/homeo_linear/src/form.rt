@@ -6,11 +6,12 @@ ghost use Rattle.homeo_plan.specs.FormSizes.{Numbers};
 ghost use Rattle.homeo_plan.specs.Linear.{constant_form, delta_form, add_forms, scale_form, multiply_forms, mix_forms, is_pure, support};
 ghost use Rattle.homeo_plan.specs.PlanView.{plain_linear};
 ghost use Rattle.homeo_plan.specs.Limit.{form_limit};
+ghost use Rattle.homeo_follow.specs.Follow.{object_form};
 ghost use Rattle.homeo_linear.specs.inner.Order.{InOrder};
-ghost use Rattle.homeo_linear.specs.inner.Terms.{term_form};
+ghost use Rattle.homeo_linear.specs.inner.Terms.{term_form, beside};
 
 use crate::deltas::{self, push_deltas_of};
-use crate::numbers::{added, are_small, is_small_number, multiplied};
+use crate::numbers::{added, are_small, is_small_number, multiplied, widened};
 use crate::terms;
 use homeo_plan::{Delta, Linear, Term};
 use homeo_syntax::{List, Memory};
@@ -68,6 +69,26 @@ impl Form {
         terms.push(Term { delta, factor: 1 })?;
         Ok(Form {
             constant: 0,
+            terms,
+            mixed: Vec::new(alloc),
+        })
+    }
+
+    /// The form of an object with this base, which is whole.
+    pub(crate) fn object(alloc: Global, base: i64, object: u32) -> Result<Form, Memory>
+        ensures { IfOk result (λ f. f ≡ object_form base object) }
+    {
+        Form::delta_beside(alloc, widened(base), Delta { object, site: 0 })
+    }
+
+    /// The form of a delta and a constant.
+    fn delta_beside(alloc: Global, constant: i128, delta: Delta) -> Result<Form, Memory>
+        ensures { IfOk result (λ f. f ≡ beside constant delta) }
+    {
+        let mut terms = Vec::new(alloc);
+        terms.push(Term { delta, factor: 1 })?;
+        Ok(Form {
+            constant,
             terms,
             mixed: Vec::new(alloc),
         })

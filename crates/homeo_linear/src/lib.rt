@@ -4,7 +4,9 @@
 mod checked;
 mod comparisons;
 mod conditions;
+mod course;
 mod deltas;
+mod expanding;
 mod expressions;
 mod following;
 mod form;
@@ -16,7 +18,9 @@ mod standing;
 mod terms;
 
 pub use checked::checked_form;
+pub use course::{Followed, follow_at};
 pub use deltas::joined as joined_deltas;
+pub use expanding::{atoms_at_sites, needs_elsewhere};
 pub use following::{push_written, remote_of};
 pub use form::Form;
 pub use formulas::atoms;

@@ -25,6 +25,13 @@ pub(crate) fn multiplied(a: i128, b: i128) -> i128
     a * b
 }
 
+/// A value as a number of forms.
+pub(crate) fn widened(n: i64) -> i128
+    ensures { result ≡ n }
+{
+    n as i128
+}
+
 /// Whether a number is at most 4 * 10^18 in size.
 pub(crate) fn is_small_number(n: i128) -> bool
     ensures { IsTrue result ↔ IsSmall form_limit n }

@@ -8,7 +8,8 @@ ghost use Rattle.homeo_plan.specs.FormSizes.{Numbers};
 ghost use Rattle.homeo_plan.specs.Limit.{form_limit};
 ghost use Rattle.homeo_plan.specs.Linear.{base_forms, add_forms, scale_form};
 ghost use Rattle.homeo_split.specs.Places.{plain_place};
-ghost use Rattle.homeo_linear.specs.Standing.{forms_of};
+ghost use Rattle.homeo_follow.specs.Follow.{object_forms};
+ghost use Rattle.homeo_linear.specs.Standing.{first_forms, forms_of};
 
 use crate::form::{Form, Total};
 use crate::numbers::multiplied;
@@ -20,10 +21,11 @@ use std::alloc::Global;
 use std::collections::HashMap;
 
 /// The forms at places that were set. At the others there is what a round begins with: temporaries are 0, bases are the
-/// numbers of the base, and each delta is itself.
+/// numbers of the base, and each delta is itself; or, where objects are whole, each is its base with its delta at the one site.
 #[derive(Drop)]
 pub struct Standing<'a> {
     base: &'a [i64],
+    are_whole: bool,
     set: HashMap<Place, Form>,
 }
 
@@ -34,6 +36,18 @@ impl<'a> Standing<'a> {
     {
         Standing {
             base,
+            are_whole: false,
+            set: HashMap::new(alloc),
+        }
+    }
+
+    /// What stands as a round begins, where objects are whole.
+    pub fn of_objects(alloc: Global, base: &'a [i64]) -> Standing<'a>
+        ensures { forms_of result ≡ object_forms (values_of base.now) }
+    {
+        Standing {
+            base,
+            are_whole: true,
             set: HashMap::new(alloc),
         }
     }
@@ -60,7 +74,7 @@ impl<'a> Standing<'a> {
     {
         match self.set.get(&place) {
             Some(form) => form.copy(alloc),
-            None => base_form(alloc, self.base, place),
+            None => self.first_form(alloc, place),
         }
     }
 
@@ -72,7 +86,7 @@ impl<'a> Standing<'a> {
     {
         match self.set.get(&place) {
             Some(form) => total.plus(alloc, form),
-            None => add_base(self.base, place, total),
+            None => self.add_first(alloc, place, total),
         }
     }
 
@@ -93,7 +107,62 @@ impl<'a> Standing<'a> {
                 let negated = form.times(alloc, -1)?;
                 total.plus(alloc, &negated)
             }
-            None => subtract_base(self.base, place, total),
+            None => self.subtract_first(alloc, place, total),
+        }
+    }
+
+    /// The form at a place where nothing is set.
+    fn first_form(&self, alloc: Global, place: Place) -> Result<Form, Memory>
+        ensures { IfOk result (λ f. f ≡ first_forms self.now.are_whole (values_of self.now.base.now) (plain_place place)) }
+    {
+        if self.are_whole {
+            object_form(alloc, self.base, place)
+        } else {
+            base_form(alloc, self.base, place)
+        }
+    }
+
+    /// That form put into a sum.
+    fn add_first(&self, alloc: Global, place: Place, total: Total) -> Result<Total, Memory>
+        requires small { Numbers (IsSmall form_limit) total }
+        requires place_small { Numbers (IsSmall form_limit) (first_forms self.now.are_whole (values_of self.now.base.now) (plain_place place)) }
+        ensures { IfOk result (λ f. f ≡ add_forms (first_forms self.now.are_whole (values_of self.now.base.now) (plain_place place)) total) }
+    {
+        if self.are_whole {
+            let form = object_form(alloc, self.base, place)?;
+            total.plus(alloc, &form)
+        } else {
+            add_base(self.base, place, total)
+        }
+    }
+
+    /// Its negative put into a sum.
+    fn subtract_first(&self, alloc: Global, place: Place, total: Total) -> Result<Total, Memory>
+        requires small { Numbers (IsSmall form_limit) total }
+        requires place_small { Numbers (IsSmall form_limit) (first_forms self.now.are_whole (values_of self.now.base.now) (plain_place place)) }
+        requires negated_small { Numbers (IsSmall form_limit) (scale_form (negsuc 0) (first_forms self.now.are_whole (values_of self.now.base.now) (plain_place place))) }
+        ensures { IfOk result (λ f. f ≡ add_forms (scale_form (negsuc 0) (first_forms self.now.are_whole (values_of self.now.base.now) (plain_place place))) total) }
+    {
+        if self.are_whole {
+            let form = object_form(alloc, self.base, place)?;
+            let negated = form.times(alloc, -1)?;
+            total.plus(alloc, &negated)
+        } else {
+            subtract_base(self.base, place, total)
+        }
+    }
+}
+
+/// The form at a place as a round begins, where objects are whole.
+#[tactic(auto, unfolding(homeo_plan::specs::Key::words, homeo_follow::specs::Key::words))]
+fn object_form(alloc: Global, base: &[i64], place: Place) -> Result<Form, Memory>
+    ensures { IfOk result (λ f. f ≡ object_forms (values_of base.now) (plain_place place)) }
+{
+    match place {
+        Place::Named(_) | Place::Fresh(_) | Place::Delta { .. } => Ok(Form::number(alloc, 0)),
+        Place::Base(object) => {
+            let value = item_or(base, object as usize, 0);
+            Form::object(alloc, value, object)
         }
     }
 }

@@ -1,14 +1,14 @@
 -- What keeps a comparison, test or condition as it is at a base.
-use Rattle.std.specs.Prelude.{ℕ, cond, List, ℤ, negsuc, int_lt}
+use Rattle.std.specs.Prelude.{cond, List, negsuc, int_lt}
 use Rattle.homeo_syntax.specs.declared.phrase.Compare.{Compare}
 use Rattle.homeo_syntax.specs.Low.{Test, Cond}
 use Rattle.homeo_meaning.specs.Meaning.{compared}
-use Rattle.homeo_meaning.specs.LowMeaning.{passes, holds, whole}
 use Rattle.homeo_meaning.specs.Small.{IsSmall}
-use Rattle.homeo_plan.specs.Atoms.{true_comparison, false_comparison, true_test, false_test, true_cond, false_cond}
+use Rattle.homeo_plan.specs.Atoms.{true_comparison, false_comparison}
 use Rattle.homeo_plan.specs.FormSizes.{Numbers}
-use Rattle.homeo_plan.specs.Linear.{Linear, add_forms, scale_form}
+use Rattle.homeo_plan.specs.Linear.{Linear, Forms, add_forms, scale_form}
 use Rattle.homeo_plan.specs.Limit.{form_limit}
+use Rattle.homeo_follow.specs.Follow.{passes_by, holds_by, passed_test, failed_test, passed, failed}
 
 -- the numbers met in the difference of two forms are small
 pub record AreApart (a b : Linear) : Type 0 where
@@ -22,8 +22,8 @@ abbrev pub kept_comparison : Compare → Linear → Linear → List Linear
 kept_comparison op a b =
     cond (compared op a.constant b.constant) (true_comparison op a b) (false_comparison op (int_lt a.constant b.constant) a b)
 
-abbrev pub kept_test : (ℕ → ℤ) → Test → List Linear
-kept_test b t = cond (passes t (whole b)) (true_test b t) (false_test b t)
+abbrev pub kept_test : Forms → Test → List Linear
+kept_test f t = cond (passes_by f t) (passed_test f t) (failed_test f t)
 
-abbrev pub kept_cond : (ℕ → ℤ) → Cond → List Linear
-kept_cond b c = cond (holds c (whole b)) (true_cond b c) (false_cond b c)
+abbrev pub kept_cond : Forms → Cond → List Linear
+kept_cond f c = cond (holds_by f c) (passed f c) (failed f c)

@@ -4,6 +4,7 @@ use Rattle.std.specs.Ordering.{int_eq}
 use Rattle.homeo_meaning.specs.Small.{IsSmall}
 use Rattle.homeo_plan.specs.Each.{Each}
 use Rattle.homeo_plan.specs.Linear.{Linear, deltas_of, with_term}
+use Rattle.homeo_plan.specs.declared.forms.Delta.{Delta}
 use Rattle.homeo_plan.specs.declared.forms.Term.{Term}
 use Rattle.homeo_plan.specs.Limit.{form_limit}
 use Rattle.homeo_linear.specs.inner.Key.{words}
@@ -43,3 +44,8 @@ pub record AreJoined (ts : List Term) : Type 0 where
 abbrev pub term_form : Term → Linear
 unfolding words
 term_form t = record { constant = pos 0; terms = t ∷ []; mixed = [] }
+
+-- a delta and a constant
+abbrev pub beside : ℤ → Delta → Linear
+unfolding words
+beside n d = record { constant = n; terms = record { delta = d; factor = pos 1 } ∷ []; mixed = [] }

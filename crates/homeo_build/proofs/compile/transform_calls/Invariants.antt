@@ -6,7 +6,7 @@ use Rattle.homeo_plan.specs.Template.{shifted}
 use Rattle.homeo_build.proofs.GroundCalls.{of_call}
 use Rattle.homeo_build.proofs.compile.transform_calls.Given as goal
 
-abbrev pub invariant-loop-call : goal.invariant-loop-call
-invariant-loop-call l =
+abbrev pub invariant-loop-i : goal.invariant-loop-i
+invariant-loop-i l =
     map plain_lcommand l.commands.items ≡
-    map (of_call (plain_workload l.w) (shifted (sites_of (plain_workload l.w)))) (take l.call-index l.calls)
+    map (of_call (plain_workload l.w) (shifted (sites_of (plain_workload l.w)))) (take l.i l.calls)

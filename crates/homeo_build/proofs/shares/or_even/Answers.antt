@@ -1,4 +1,4 @@
-use Rattle.std.proofs.Common.{sym, ◌∙◌}
+use Rattle.std.proofs.Common.{◌∙◌}
 use Rattle.std.proofs.lemmas.Result.{IfOk-weaker}
 use Rattle.homeo_build.proofs.SiteShares.{even_shares, own_shares}
 use Rattle.homeo_build.proofs.shares.or_even.Goals as goal

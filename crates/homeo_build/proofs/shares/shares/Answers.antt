@@ -1,10 +1,10 @@
-use Rattle.std.proofs.Common.{map, ap, sym, subst, ◌∙◌}
+use Rattle.std.proofs.Common.{map, ap, ◌∙◌}
 use Rattle.std.proofs.lemmas.List.{take_all}
 use Rattle.homeo_syntax.specs.SourceView.{plain_workload}
 use Rattle.homeo_plan.specs.Config.{natural_list}
 use Rattle.homeo_plan.specs.PlanView.{plain_clause}
 use Rattle.homeo_plan.specs.Planned.{sites_of, shares_of}
-use Rattle.homeo_build.proofs.SiteShares.{natural_back, lists_more, can_more, can_none, can_of}
+use Rattle.homeo_build.proofs.SiteShares.{lists_more, can_more, can_none}
 use Rattle.homeo_build.proofs.shares.shares.Goals as goal
 
 pub loop-clause-init : goal.loop-clause-init

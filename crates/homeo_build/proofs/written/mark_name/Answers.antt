@@ -1,4 +1,3 @@
-use Rattle.std.proofs.Common.{sym, subst, inl, inr}
 use Rattle.std.proofs.lemmas.Result.{on_ok_weaker}
 use Rattle.homeo_build.proofs.WrittenDeltas.{delta_marks, marks_away, marks_undivided}
 use Rattle.homeo_build.proofs.written.mark_name.Goals as goal

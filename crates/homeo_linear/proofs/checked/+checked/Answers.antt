@@ -2,7 +2,7 @@
 use Rattle.std.proofs.Common.{rules, sym, ap, ◌∙◌, subst, refl}
 use Rattle.homeo_syntax.specs.Low as l
 use Rattle.homeo_syntax.specs.LowView.{plain_lexpr}
-use Rattle.homeo_syntax.proofs.LowViews.{low_Literal, low_Temp, low_Read, low_Sum, low_Product, low_Neg}
+use Rattle.homeo_syntax.proofs.LowViews.{low_Literal, low_Temp, low_Read, low_Neg}
 use Rattle.homeo_meaning.proofs.Numbers.{kept_is}
 use Rattle.homeo_meaning.specs.Small.{IsSmall}
 use Rattle.homeo_plan.specs.FormSizes.{Numbers}

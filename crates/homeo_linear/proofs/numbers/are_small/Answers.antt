@@ -1,4 +1,4 @@
-use Rattle.std.proofs.Common.{rules, slice_index_or, subst, sym, refl}
+use Rattle.std.proofs.Common.{rules, subst, sym, refl}
 use Rattle.std.specs.Int.{w128}
 use Rattle.std.proofs.lemmas.Int.{to_z-of_z}
 use Rattle.homeo_meaning.specs.Small.{IsSmall}

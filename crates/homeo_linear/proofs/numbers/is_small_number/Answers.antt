@@ -1,6 +1,5 @@
-use Rattle.std.proofs.Common.{rules, arith, IsTrue, refl}
+use Rattle.std.proofs.Common.{rules, arith}
 use Rattle.std.proofs.lemmas.Int.{ints}
-use Rattle.std.proofs.lemmas.Bool.Decides.{nat_tests}
 use Rattle.homeo_meaning.specs.Key.{words as meaning_words}
 use Rattle.homeo_linear.proofs.numbers.is_small_number.Goals as goal
 

@@ -2,8 +2,7 @@
 use Rattle.std.proofs.Common.{◌∙◌}
 use Rattle.std.proofs.lemmas.Result.{IfOk-weaker}
 use Rattle.homeo_meaning.specs.Serial.{values_of}
-use Rattle.homeo_plan.specs.Linear.{base_forms}
-use Rattle.homeo_linear.specs.Standing.{forms_of}
+use Rattle.homeo_linear.specs.Standing.{first_forms, forms_of}
 use Rattle.homeo_linear.proofs.Stands.{stands-set, stands-unset}
 use Rattle.homeo_linear.proofs.standing.Standing.form_at.Goals as goal
 
@@ -11,12 +10,12 @@ pub returns-in-Some : goal.returns-in-Some
 unfolding forms_of
 returns-in-Some c =
     IfOk-weaker c.copy.result _ _
-    (λ r h. h ∙ stands-set (base_forms (values_of c.args.self.now.base.now)) c.args.self.now.set c.args.place c.in-Some.form.now c.in-Some.ensures.value)
+    (λ r h. h ∙ stands-set (first_forms c.args.self.now.are_whole (values_of c.args.self.now.base.now)) c.args.self.now.set c.args.place c.in-Some.form.now c.in-Some.ensures.value)
     c.copy.ensures
 
 pub returns-in-None : goal.returns-in-None
 unfolding forms_of
 returns-in-None c =
-    IfOk-weaker c.base_form.result _ _
-    (λ r h. h ∙ stands-unset (base_forms (values_of c.args.self.now.base.now)) c.args.self.now.set c.args.place c.in-None.ensures.value)
-    c.base_form.ensures
+    IfOk-weaker c.first_form.result _ _
+    (λ r h. h ∙ stands-unset (first_forms c.args.self.now.are_whole (values_of c.args.self.now.base.now)) c.args.self.now.set c.args.place c.in-None.ensures.value)
+    c.first_form.ensures

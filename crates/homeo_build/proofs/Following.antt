@@ -1,0 +1,111 @@
+-- What is asked and needed along the L forms of ground calls.
+use Rattle.std.proofs.Common.{◌≡◌, ℕ, zero, suc, ◌<◌, List, [], ◌∷◌, map, Some, length, get_or, ℤ, sym, ap, ap₂, ◌∙◌, subst, arith}
+use Rattle.std.specs.Prelude.{slice_get, slice_index_or}
+use Rattle.homeo_syntax.specs.Low.{Command}
+use Rattle.homeo_syntax.specs.Source as s
+use Rattle.homeo_meaning.specs.Key.{words as meanings}
+use Rattle.homeo_meaning.specs.Acceptance.{IsAccepted}
+use Rattle.homeo_meaning.specs.Bounds.{IsWithin}
+use Rattle.homeo_meaning.specs.CallForm.{ground_form}
+use Rattle.homeo_meaning.specs.Ground.{Ground}
+use Rattle.homeo_meaning.specs.Schema.{schema_of}
+use Rattle.homeo_meaning.specs.Serial.{values_of}
+use Rattle.homeo_meaning.specs.Small.{IsSmall}
+use Rattle.homeo_meaning.proofs.Within.{all_within}
+use Rattle.homeo_plan.specs.Key.{words as plans}
+use Rattle.homeo_plan.specs.Each.{Each}
+use Rattle.homeo_plan.specs.Limit.{form_limit}
+use Rattle.homeo_plan.specs.Needs.{remote}
+use Rattle.homeo_plan.specs.PlanView.{plain_atoms}
+use Rattle.homeo_plan.specs.Planned.{sites_of, planned_call}
+use Rattle.homeo_plan.specs.Template.{atoms_of, needs_of}
+use Rattle.homeo_plan.proofs.GroundForms.{ground_whole}
+use Rattle.homeo_plan.proofs.GroundNumbers.{values_small}
+use Rattle.homeo_follow.specs.Expanded.{expanded, expanded_deltas}
+use Rattle.homeo_follow.specs.Follow.{followed, needed}
+use Rattle.homeo_follow.proofs.Needed.{needs_are_followed}
+use Rattle.homeo_follow.proofs.PlannedAtoms.{atoms_are_followed}
+use Rattle.homeo_follow.proofs.Weighed.{accepted_small}
+use Rattle.homeo_linear.specs.declared.course.Followed.{Followed}
+use Rattle.homeo_build.specs.Forms.{IsCallForm}
+use Rattle.homeo_build.specs.inner.Followed.{IsSmallAlong, AreFollowed}
+use Rattle.homeo_build.proofs.FormsMade.{placed_map, one_placed}
+use Rattle.homeo_build.proofs.Grown.{same_length}
+
+-- ---- numbers along forms
+module _ (w : s.Workload) (base : List ℤ) (accepted : IsAccepted w) (within : IsWithin (schema_of w) base) where
+  small_form : (f : Command) → IsCallForm w f → IsSmallAlong (values_of base) f
+  small_form f h =
+      let r = accepted_small w h.call base accepted h.made within in
+      subst (IsSmallAlong (values_of base)) (sym h.is) (record { can = r.0; left = r.1 })
+
+  pub small_forms : (fs : List Command) → Each (IsCallForm w) fs → Each (IsSmallAlong (values_of base)) fs
+  unfolding plans
+  small_forms [] h = tt
+  small_forms (f ∷ fs) h = (small_form f h.0, small_forms fs h.1)
+
+  pub small_base : (x : ℕ) → IsSmall form_limit (values_of base x)
+  unfolding meanings
+  small_base x = omega (arith, values_small w accepted (values_of base) (all_within (schema_of w) base within) x)
+
+pub each_here : {X Y : Type 0} (P : Y → Type 0) (f : X → Y) (xs : List X) (i : ℕ) (x : X) → Each P (map f xs) → i < length xs → x ≡ get_or xs i x → P (f x)
+unfolding plans
+each_here P f [] i x h l p = absurd (omega (arith, l))
+each_here P f (z ∷ xs) zero x h l p = subst (λ y. P (f y)) (sym p) h.0
+each_here P f (z ∷ xs) (suc i) x h l p = each_here P f xs i x h.1 (omega (arith, l)) p
+
+-- ---- what is followed of the form at a place
+placed_of : {X Y : Type 0} (f : X → Y) (xs : List X) (n : ℕ) (x : X) → slice_get xs n ≡ Some x → slice_get (map f xs) n ≡ Some (f x)
+placed_of f [] n x h = cc
+placed_of f (z ∷ xs) zero x h = let same : z ≡ x = cc in ap (λ y. Some (f y)) same
+placed_of f (z ∷ xs) (suc n) x h = placed_of f xs n x h
+
+same_placed :
+    {X Y Z : Type 0} (f : X → Z) (g : Y → Z) (xs : List X) (ys : List Y) (n : ℕ) (x : X) (y : Y) → map f xs ≡ map g ys → n < length xs →
+    x ≡ get_or xs n x → slice_get ys n ≡ Some y → f x ≡ g y
+same_placed f g xs ys n x y same l p h =
+    one_placed (map f xs) n (f x) (g y) (placed_map f xs n x l p) (ap (λ zs. slice_get zs n) same ∙ placed_of g ys n y h)
+
+pub record FollowedHere (b : ℕ → ℤ) (f : Command) (m : Followed) : Type 0 where
+  pub atoms : plain_atoms m.atoms ≡ (followed b f).atoms
+  pub needs : m.needs.deltas.items ≡ needed b (followed b f)
+
+followed_here :
+    (b : ℕ → ℤ) (fs : List Command) (made : List Followed) (n : ℕ) (m : Followed) (f : Command) → AreFollowed b fs made → n < length made →
+    m ≡ get_or made n m → slice_get fs n ≡ Some f → FollowedHere b f m
+followed_here b fs made n m f are l is at =
+    record {
+      atoms = same_placed (λ (x : Followed). plain_atoms x.atoms) (λ c. (followed b c).atoms) made fs n m f are.atoms l is at;
+      needs = same_placed (λ (x : Followed). x.needs.deltas.items) (λ c. needed b (followed b c)) made fs n m f are.needs l is at;
+    }
+
+followed_count : (b : ℕ → ℤ) (fs : List Command) (made : List Followed) → AreFollowed b fs made → length made ≡ length fs
+followed_count b fs made are = same_length (λ (x : Followed). plain_atoms x.atoms) (λ c. (followed b c).atoms) made fs are.atoms
+
+-- so where the lists are lent, and the place stands at a number
+module _
+    (b : ℕ → ℤ) (fs : List Command) (made lent : List Followed) (places ps : List ℕ) (i : ℕ) (are : AreFollowed b fs made) (same : lent ≡ made)
+    (placed : ps ≡ places) (below : slice_index_or places i 0 < length fs)
+  where
+    within : slice_index_or places i 0 < length made
+    within = omega (arith, below, followed_count b fs made are)
+
+    pub followed_within : slice_index_or ps i 0 < length lent
+    followed_within =
+        subst (λ (l : List Followed). slice_index_or ps i 0 < length l) (sym same)
+        (subst (λ (ns : List ℕ). slice_index_or ns i 0 < length made) (sym placed) within)
+
+    pub followed_there : (m : Followed) (f : Command) → m ≡ get_or lent (slice_index_or ps i 0) m → slice_get fs (slice_index_or places i 0) ≡ Some f → FollowedHere b f m
+    followed_there m f is at =
+        followed_here b fs made (slice_index_or places i 0) m f are within
+        (is ∙ ap₂ (λ (l : List Followed) (ns : List ℕ). get_or l (slice_index_or ns i 0) m) same placed) at
+
+-- ---- a ground call
+module _ (w : s.Workload) (g : Ground) (b : ℕ → ℤ) (site : g.site < sites_of w) where
+  pub atoms_are : map (expanded (sites_of w)) (followed b (ground_form w g)).atoms ≡ atoms_of (sites_of w) b (planned_call w g)
+  unfolding plans
+  atoms_are = sym (atoms_are_followed (sites_of w) b (planned_call w g) site (ground_whole w g))
+
+  pub needs_are : remote g.site (expanded_deltas (sites_of w) (needed b (followed b (ground_form w g)))) ≡ needs_of (sites_of w) b (planned_call w g)
+  unfolding plans
+  needs_are = sym (needs_are_followed (sites_of w) b (planned_call w g) site (ground_whole w g))

@@ -1,0 +1,11 @@
+pub mod Deltas
+pub mod Expansions
+pub mod Needed
+pub mod PlannedAtoms
+pub mod Residuals
+pub mod Simulated
+pub mod Standing
+pub mod Templated
+pub mod Terms
+pub mod Walked
+pub mod Weighed

@@ -1,0 +1,6 @@
+pub mod Expanded
+pub mod Follow
+pub mod FollowSizes
+pub mod Key
+pub mod Lines
+pub mod ObjectTemplate

@@ -1,0 +1,15 @@
+-- Its atoms are asked.
+use Rattle.std.proofs.Common.{◌++◌, map, refl, ap, ◌∙◌}
+use Rattle.homeo_syntax.specs.LowView.{plain_lcond}
+use Rattle.homeo_plan.specs.PlanView.{plain_atom}
+use Rattle.homeo_linear.specs.Standing.{forms_of}
+use Rattle.homeo_linear.specs.inner.Course.{followed_so}
+use Rattle.homeo_linear.specs.inner.Kept.{kept_cond}
+use Rattle.homeo_linear.proofs.Coursing.{asked_is}
+use Rattle.homeo_linear.proofs.course.Course.ask.Goals as goal
+
+pub returns-clause-asked : goal.returns-clause-asked
+returns-clause-asked c =
+    let old = c.args.self.now in
+    asked_is (followed_so old) _ (kept_cond (forms_of old.standing) (plain_lcond c.args.test.now))
+    (c.in_ok-push_all.ensures ∙ ap (λ l. map plain_atom old.atoms.items ++ l) c.in_ok-kept.ensures.atoms) refl refl refl

@@ -1,0 +1,28 @@
+-- The gain of one more object.
+use Rattle.std.proofs.Common.{arith}
+use Rattle.homeo_follow.specs.Key.{words}
+use Rattle.homeo_meaning.specs.Serial.{values_of}
+use Rattle.homeo_meaning.specs.LowMeaning.{BaseAt}
+use Rattle.homeo_linear.specs.Standing.{forms_of}
+use Rattle.homeo_linear.proofs.Gaining.{gains_end, gains_place}
+use Rattle.homeo_linear.proofs.course.gained.Goals as goal
+
+pub loop-place-init : goal.loop-place-init
+loop-place-init c = record {
+  within = omega arith;
+  needed = gains_end (values_of c.args.base.now) (forms_of c.args.standing.now) c.args.written.now c.new-needed.result.items c.new-needed.ensures.items;
+}
+
+pub gain-requires-clause-left : goal.gain-requires-clause-left
+unfolding words
+gain-requires-clause-left c = c.requires.left (BaseAt _)
+
+pub gain-requires-clause-base : goal.gain-requires-clause-base
+gain-requires-clause-base c = c.requires.base _
+
+pub loop-place-preserved : goal.loop-place-preserved
+loop-place-preserved c = record {
+  within = omega (arith, c.loop-place.invariant.within);
+  needed = gains_place (values_of c.args.base.now) (forms_of c.args.standing.now) c.args.written.now c.loop-place.needed.items _ c.loop-place.place
+      _ _ c.loop-place-test.true c.loop-place.invariant.within c.in_ok-gain.ensures c.in_ok-push_support.ensures c.loop-place.invariant.needed;
+}

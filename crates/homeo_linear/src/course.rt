@@ -1,0 +1,260 @@
+//! Commands over whole objects, followed along the branch that they take at a base.
+
+ghost use Rattle.std.specs.Prelude.{◌≡◌, ℕ, [], ◌++◌, map, IfOk, OnOk};
+ghost use Rattle.homeo_syntax.specs.Low.{Assign, Write, Print};
+ghost use Rattle.homeo_syntax.specs.LowView.{low_commands, plain_lexpr, plain_lcond, plain_lcommand};
+ghost use Rattle.homeo_meaning.specs.LowMeaning.{BaseAt};
+ghost use Rattle.homeo_meaning.specs.Serial.{values_of};
+ghost use Rattle.homeo_meaning.specs.Small.{IsSmall};
+ghost use Rattle.homeo_plan.specs.FormSizes.{Numbers, CanForm, CanCond};
+ghost use Rattle.homeo_plan.specs.Limit.{form_limit};
+ghost use Rattle.homeo_plan.specs.Linear.{add_deltas, support};
+ghost use Rattle.homeo_plan.specs.PlanView.{plain_atoms};
+ghost use Rattle.homeo_follow.specs.Follow.{nothing, and_then, asked, holds_by, follow, follow_all, object_delta, object_forms, object_of, followed, gain, print_needs, write_needs, needed};
+ghost use Rattle.homeo_follow.specs.FollowSizes.{AreNumbers, CanBeFollowed, CanAllBeFollowed};
+ghost use Rattle.homeo_linear.specs.Standing.{forms_of};
+ghost use Rattle.homeo_linear.specs.inner.Course.{followed_so};
+ghost use Rattle.homeo_linear.specs.inner.Kept.{kept_cond};
+
+use crate::conditions::{condition, push_all};
+use crate::deltas::joined;
+use crate::expressions::form;
+use crate::form::Form;
+use crate::standing::Standing;
+use homeo_meaning::Database;
+use homeo_meaning::padded::item_or;
+use homeo_plan::{Atom, AtomSet, Delta, FreezeSet};
+use homeo_split::{Place, place_of, place_of_temp};
+use homeo_syntax::{LCommand, LCond, LExpr, List, Memory, SplitName, Temp};
+use std::alloc::Global;
+
+/// What a command over whole objects asks and needs at a base, whichever site runs it. An object stands for its deltas at all
+/// sites, by the delta that it has at site 0.
+#[derive(Drop)]
+pub struct Followed {
+    /// What its tests ask, in their order.
+    pub atoms: AtomSet,
+    /// What it depends on, so that the deltas of other sites have to be 0 there.
+    pub needs: FreezeSet,
+}
+
+/// A command, as far as it was followed.
+#[derive(Drop)]
+pub(crate) struct Course<'a> {
+    standing: Standing<'a>,
+    atoms: Vec<Atom>,
+    prints: Vec<Form>,
+    /// The objects written, as they were written, each by its delta at the one site.
+    written: Vec<Delta>,
+}
+
+impl<'a> Course<'a> {
+    /// Where nothing was followed.
+    pub(crate) fn new(alloc: Global, base: &'a [i64]) -> Course<'a>
+        ensures { followed_so result ≡ nothing (object_forms (values_of base.now)) }
+    {
+        Course {
+            standing: Standing::of_objects(alloc, base),
+            atoms: Vec::new(alloc),
+            prints: Vec::new(alloc),
+            written: Vec::new(alloc),
+        }
+    }
+
+    /// Whether a condition holds at the base, after its atoms are asked.
+    fn ask(&mut self, alloc: Global, test: &LCond) -> Result<bool, Memory>
+        requires { CanCond (IsSmall form_limit) (forms_of self.old.standing) (plain_lcond test.now) }
+        ensures holds { IfOk result (λ holds. holds ≡ holds_by (forms_of self.old.standing) (plain_lcond test.now)) }
+        ensures asked { OnOk result (followed_so self.new ≡ and_then (followed_so self.old)
+            (asked (kept_cond (forms_of self.old.standing) (plain_lcond test.now)) (nothing (forms_of self.old.standing)))) }
+    {
+        let kept = condition(alloc, &self.standing, test)?;
+        let holds = kept.holds;
+        push_all(&mut self.atoms, kept.atoms)?;
+        Ok(holds)
+    }
+
+    fn assign(&mut self, alloc: Global, target: Temp, value: &LExpr) -> Result<(), Memory>
+        requires { CanForm (IsSmall form_limit) (forms_of self.old.standing) (plain_lexpr value.now) }
+        ensures { OnOk result (followed_so self.new ≡
+            and_then (followed_so self.old) (follow (Assign target (plain_lexpr value.now)) (forms_of self.old.standing))) }
+    {
+        let form = form(alloc, &self.standing, value)?;
+        self.standing.set(place_of_temp(target), form)
+    }
+
+    fn write(&mut self, alloc: Global, target: SplitName, value: &LExpr) -> Result<(), Memory>
+        requires { CanForm (IsSmall form_limit) (forms_of self.old.standing) (plain_lexpr value.now) }
+        ensures { OnOk result (followed_so self.new ≡
+            and_then (followed_so self.old) (follow (Write target (plain_lexpr value.now)) (forms_of self.old.standing))) }
+    {
+        let form = form(alloc, &self.standing, value)?;
+        self.standing.set(place_of(target), form)?;
+        self.written.push(delta_of(target))?;
+        Ok(())
+    }
+
+    fn print(&mut self, alloc: Global, value: &LExpr) -> Result<(), Memory>
+        requires { CanForm (IsSmall form_limit) (forms_of self.old.standing) (plain_lexpr value.now) }
+        ensures { OnOk result (followed_so self.new ≡
+            and_then (followed_so self.old) (follow (Print (plain_lexpr value.now)) (forms_of self.old.standing))) }
+    {
+        let form = form(alloc, &self.standing, value)?;
+        self.prints.push(form)?;
+        Ok(())
+    }
+}
+
+/// The delta that stands for the object that a name names.
+#[tactic(auto, unfolding(homeo_plan::specs::Key::words, homeo_follow::specs::Key::words))]
+fn delta_of(name: SplitName) -> Delta
+    ensures { result ≡ object_delta (object_of name) }
+{
+    let object = match name {
+        SplitName::Whole(object) | SplitName::Base(object) => object,
+        SplitName::Delta { object, site: _ } => object,
+    };
+    Delta { object, site: 0 }
+}
+
+/// Follows a command.
+#[cycle(commands)]
+pub(crate) fn follow(
+    alloc: Global,
+    command: &LCommand,
+    course: &mut Course<'_>,
+) -> Result<(), Memory>
+    requires { CanBeFollowed (IsSmall form_limit) (forms_of course.old.standing) (plain_lcommand command.now) }
+    ensures { OnOk result (followed_so course.new ≡
+        and_then (followed_so course.old) (follow (plain_lcommand command.now) (forms_of course.old.standing))) }
+{
+    match command {
+        LCommand::Skip => Ok(()),
+        LCommand::Assign { target, value } => course.assign(alloc, *target, value),
+        LCommand::Write { target, value } => course.write(alloc, *target, value),
+        LCommand::Print { value } => course.print(alloc, value),
+        LCommand::Seq { commands } => follow_all(alloc, commands.as_slice(), course),
+        LCommand::If { test, yes, no } => {
+            if course.ask(alloc, test)? {
+                follow(alloc, yes, course)
+            } else {
+                follow(alloc, no, course)
+            }
+        }
+    }
+}
+
+#[cycle(commands)]
+fn follow_all(alloc: Global, commands: &[LCommand], course: &mut Course<'_>) -> Result<(), Memory>
+    requires { CanAllBeFollowed (IsSmall form_limit) (forms_of course.old.standing) (low_commands (map plain_lcommand commands.now)) }
+    ensures { OnOk result (followed_so course.new ≡
+        and_then (followed_so course.old) (follow_all (low_commands (map plain_lcommand commands.now)) (forms_of course.old.standing))) }
+{
+    for command in commands {
+        follow(alloc, command, course)?;
+    }
+    Ok(())
+}
+
+/// Follows a command over whole objects along the branch that it takes at a base (this project's rule): an object is its base
+/// with its delta, which stands for its deltas at all sites. The command is followed by forms alone, and none is made of its
+/// transform.
+///
+/// No constant and no factor that is met in the forms of its tests, in their differences, in what it assigns, writes and
+/// prints and in what it leaves may be above 4 * 10^18 in size, with partial sums and products from left to right, and no number
+/// of the base.
+///
+/// # Errors
+///
+/// `Memory` when out of memory.
+pub fn follow_at(alloc: Global, command: &LCommand, base: &Database) -> Result<Followed, Memory>
+    requires can { CanBeFollowed (IsSmall form_limit) (object_forms (values_of base.now.items)) (plain_lcommand command.now) }
+    requires left { AreNumbers (IsSmall form_limit) (followed (values_of base.now.items) (plain_lcommand command.now)).forms }
+    requires base { (x : ℕ) → IsSmall form_limit (values_of base.now.items x) }
+    ensures atoms { IfOk result (λ r. plain_atoms r.atoms ≡ (followed (values_of base.now.items) (plain_lcommand command.now)).atoms) }
+    ensures needs { IfOk result (λ r. r.needs.deltas.items ≡
+        needed (values_of base.now.items) (followed (values_of base.now.items) (plain_lcommand command.now))) }
+{
+    let mut course = Course::new(alloc, base.as_slice());
+    follow(alloc, command, &mut course)?;
+    let Course {
+        standing,
+        atoms,
+        prints,
+        written,
+    } = course;
+    let needed = needed(alloc, base.as_slice(), &standing, written, prints)?;
+    Ok(Followed {
+        atoms: AtomSet {
+            atoms: List::from_vec(atoms),
+        },
+        needs: FreezeSet {
+            deltas: List::from_vec(needed),
+        },
+    })
+}
+
+/// What the forms of prints, and the gains of the objects written, depend on.
+fn needed(
+    alloc: Global,
+    base: &[i64],
+    standing: &Standing,
+    written: Vec<Delta>,
+    prints: Vec<Form>,
+) -> Result<Vec<Delta>, Memory>
+    requires left { AreNumbers (IsSmall form_limit) (forms_of standing.now) }
+    requires base { (x : ℕ) → IsSmall form_limit (values_of base.now x) }
+    ensures { IfOk result (λ v. v.items ≡
+        print_needs prints.items (write_needs (values_of base.now) (forms_of standing.now) (map (λ d. d.object) written.items))) }
+{
+    let mut prints = prints;
+    let written = joined(alloc, written)?;
+    let mut needed = gained(alloc, base, standing, written.as_slice())?;
+    while let Some(form) = prints.pop() {
+        push_support(alloc, &mut needed, &form)?;
+    }
+    joined(alloc, needed)
+}
+
+/// What the gains of these objects depend on, in no order, and each delta as often as it is needed.
+fn gained(
+    alloc: Global,
+    base: &[i64],
+    standing: &Standing,
+    written: &[Delta],
+) -> Result<Vec<Delta>, Memory>
+    requires left { AreNumbers (IsSmall form_limit) (forms_of standing.now) }
+    requires base { (x : ℕ) → IsSmall form_limit (values_of base.now x) }
+    ensures { IfOk result (λ v. add_deltas v.items [] ≡
+        write_needs (values_of base.now) (forms_of standing.now) (map (λ d. d.object) written.now)) }
+{
+    let mut needed = Vec::new(alloc);
+    let mut place = written.len();
+    while place > 0 {
+        place -= 1;
+        let gain = gain(alloc, base, standing, written[place].object)?;
+        push_support(alloc, &mut needed, &gain)?;
+    }
+    Ok(needed)
+}
+
+/// What an object gains where the form that stands for it is written to it.
+fn gain(alloc: Global, base: &[i64], standing: &Standing, object: u32) -> Result<Form, Memory>
+    requires left { Numbers (IsSmall form_limit) (forms_of standing.now (BaseAt object)) }
+    requires base { IsSmall form_limit (values_of base.now object) }
+    ensures { IfOk result (λ f. f ≡ gain (values_of base.now object) object (forms_of standing.now (BaseAt object))) }
+{
+    let written = standing.form_at(alloc, Place::Base(object))?;
+    let before = Form::object(alloc, item_or(base, object as usize, 0), object)?;
+    let lost = before.times(alloc, -1)?;
+    written.plus(alloc, &lost)
+}
+
+/// Puts each delta of a form behind the others.
+fn push_support(alloc: Global, deltas: &mut Vec<Delta>, form: &Form) -> Result<(), Memory>
+    ensures { OnOk result (deltas.new.items ≡ deltas.old.items ++ support form.now) }
+{
+    let more = form.support(alloc)?;
+    deltas.extend_from_slice(more.as_slice())?;
+    Ok(())
+}
