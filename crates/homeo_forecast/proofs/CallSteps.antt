@@ -32,7 +32,7 @@ use Rattle.homeo_forecast.specs.Laws.{AreSited}
 use Rattle.homeo_forecast.specs.declared.rooms.Room.{Room}
 use Rattle.homeo_forecast.specs.inner.Rooms.{HasRoom}
 use Rattle.homeo_forecast.specs.inner.Stops.{clause_stop_at, freeze_stop_at, first_of, first_among}
-use Rattle.homeo_forecast.specs.inner.Sums.{CanSum}
+use Rattle.homeo_forecast.specs.inner.Sums.{terms_at, CanSum}
 use Rattle.homeo_forecast.proofs.Peaks.{served_on, served_peaks}
 use Rattle.homeo_forecast.proofs.Prefixes.{next_is, site_below, visits_sited}
 use Rattle.homeo_forecast.proofs.Raised.{last_low}
@@ -87,9 +87,9 @@ module _
     all_within_after = stays_within w base served.config g.site x accepted within served.fits below ready.meets ready.all g (planned_member w call exists) refl
 
     -- the sums after it can be computed
-    pub call_sums : Each (λ (c : Clause). CanSum g.site c.terms v.deltas) t.clauses
+    pub call_sums : Each (λ (c : Clause). CanSum (terms_at g.site c.terms) v.deltas) t.clauses
     call_sums =
-        each_map (λ (c : Clause). SumsFit (own_terms g.site c.terms) v.deltas) (λ (c : Clause). CanSum g.site c.terms v.deltas)
+        each_map (λ (c : Clause). SumsFit (own_terms g.site c.terms) v.deltas) (λ (c : Clause). CanSum (terms_at g.site c.terms) v.deltas)
         (λ c h. can_sum g.site c.terms v.deltas h) t.clauses (sums_fit_here w base g.site v.deltas accepted within all_within_after)
 
     straight : IsStraight (base_row k (values_of base) g).residual

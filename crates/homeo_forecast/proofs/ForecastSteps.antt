@@ -26,7 +26,7 @@ use Rattle.homeo_forecast.specs.inner.Rooms.{HaveRooms}
 use Rattle.homeo_forecast.proofs.Peaks.{served_peaks}
 use Rattle.homeo_forecast.proofs.Prefixes.{forecasts_stand}
 use Rattle.homeo_forecast.proofs.ReplayLists.{begun}
-use Rattle.homeo_forecast.proofs.RoomLists.{all_taken}
+use Rattle.homeo_forecast.proofs.Lists.{all_taken}
 
 -- ---- what is prepared
 pub rebased : (w : s.Workload) (base : List ℤ) (p : Prepared) → IsPrepared w base p → IsPrepared w p.plan.value.base.items p

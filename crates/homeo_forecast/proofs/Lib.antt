@@ -1,6 +1,7 @@
 pub mod CallEnds
 pub mod CallSteps
 pub mod ForecastSteps
+pub mod Lists
 pub mod OneText
 pub mod Peaks
 pub mod Prefixes

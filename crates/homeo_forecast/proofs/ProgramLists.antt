@@ -23,7 +23,7 @@ use Rattle.homeo_effect.specs.declared.program.Program.{Program}
 use Rattle.homeo_site.specs.OwnPrograms.{RunsAs}
 use Rattle.homeo_site.proofs.PlanCalls.{HasCall, plan_count, commands_are}
 use Rattle.homeo_forecast.specs.inner.Prepared.{RunsFor, ArePrograms, AreIndexes}
-use Rattle.homeo_forecast.proofs.RoomLists.{all_taken}
+use Rattle.homeo_forecast.proofs.Lists.{all_taken}
 
 -- ---- programs, one more at a time
 pub runs_for :

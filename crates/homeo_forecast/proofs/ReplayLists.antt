@@ -28,22 +28,11 @@ use Rattle.homeo_forecast.specs.declared.rooms.Room.{Room}
 use Rattle.homeo_forecast.specs.inner.Replays.{site_lists, AreDeltas, IsReplay}
 use Rattle.homeo_forecast.specs.inner.Rooms.{HasRoom, HaveRooms}
 use Rattle.homeo_forecast.proofs.Prefixes.{next_is}
-use Rattle.homeo_forecast.proofs.RoomLists.{set_count, set_here, set_apart, same_number}
+use Rattle.homeo_forecast.proofs.Lists.{set_count, set_here, set_apart, same_number, same_there}
 
 -- ---- lists, one item more at a time
 pub one_more_same : {X : Type 0} (n : ℕ) (x : X) → replicate n x ++ x ∷ [] ≡ replicate (n + 1) x
 one_more_same n x = replicate-append-replicate n 1 x
-
-pub same_there : {X : Type 0} (n i : ℕ) (x d : X) → i < n → get_or (replicate n x) i d ≡ x
-same_there zero i x d lt = absurd (omega arith)
-same_there (suc n) zero x d lt = refl
-same_there (suc n) (suc i) x d lt = same_there n i x d (omega arith)
-
-pub map_set : {X Y : Type 0} (f : X → Y) (xs : List X) (n : ℕ) (x : X) → map f (set xs n x) ≡ set (map f xs) n (f x)
-map_set f [] zero x = refl
-map_set f [] (suc n) x = refl
-map_set f (y ∷ xs) zero x = refl
-map_set f (y ∷ xs) (suc n) x = ap (λ l. f y ∷ l) (map_set f xs n x)
 
 -- ---- rooms
 pub no_rooms : (k : ℕ) (vs : List Visit) (rs : List Room) → rs ≡ [] → HaveRooms k vs [] rs

@@ -2,22 +2,26 @@
 use Rattle.homeo_meaning.specs.Key.{words as meaning_words}
 use Rattle.homeo_plan.specs.Key.{words as plan_words}
 use Rattle.homeo_forecast.specs.Key.{words}
-use Rattle.std.proofs.Common.{◌≡◌, ℕ, zero, suc, ◌<◌, ◌^◌, Bool, true, false, cond, List, [], ◌∷◌, ◌++◌, length, ℤ, pos, int_lt, int_le, ◌+ℤ◌, ◌-ℤ◌, ◌≤ℤ◌, ◌<ℤ◌, Some, None, replicate, refl, sym, ap, ap₂, subst, ◌∙◌, arith, slice_index_or, FitsSigned}
+use Rattle.std.proofs.Common.{◌≡◌, ℕ, zero, suc, ◌<◌, ◌^◌, Bool, true, false, cond, List, [], ◌∷◌, ◌++◌, length, ℤ, pos, int_lt, int_le, ◌+ℤ◌, ◌-ℤ◌, ◌≤ℤ◌, ◌<ℤ◌, Some, None, replicate, refl, sym, ap, ap₂, subst, ◌∙◌, arith, slice_index_or, FitsSigned, Global}
+use Rattle.std.specs.Prelude.{Vec}
 use Rattle.std.proofs.Math.ListN.{set}
 use Rattle.std.specs.Int.{int_max, w128}
 use Rattle.std.specs.Int.RustNames.{unsigned_abs}
 use Rattle.std.proofs.lemmas.Int.{ints, fits_signed_from_abs}
 use Rattle.homeo_plan.specs.Template.{Clause}
 use Rattle.homeo_plan.specs.declared.forms.Term.{Term}
+use Rattle.homeo_plan.specs.Joined.{Deltas}
 use Rattle.homeo_plan.specs.Config.{total}
 use Rattle.homeo_plan.specs.Treaty.{site_sum}
 use Rattle.homeo_forecast.specs.Peaks.{Spent, peak, peaks_from, peaks, peak_bounds}
 use Rattle.homeo_forecast.specs.Visits.{Visit}
 use Rattle.homeo_forecast.specs.declared.rooms.Room.{Room}
-use Rattle.homeo_forecast.specs.inner.Rooms.{HasRoom}
+use Rattle.homeo_forecast.specs.inner.Rooms.{HasRoom, IsOpen}
 use Rattle.homeo_forecast.specs.inner.Stops.{clause_stop}
+use Rattle.homeo_forecast.specs.inner.Sums.{own_at, AreOwnTerms, term_sum}
 use Rattle.homeo_forecast.proofs.Peaks.{max_left, peaks_count, peak_positive}
 use Rattle.homeo_forecast.proofs.Raised.{peaks_push, peak_own, peak_at, total_set}
+use Rattle.homeo_forecast.proofs.TermSums.{own_sum_is}
 
 at_most : (a b : ℤ) → a ≤ℤ b → int_le a b ≡ true
 at_most a b h = grind (arith, ints)
@@ -83,7 +87,7 @@ module _ (k : ℕ) (vs : List Visit) (c : Clause) (v : Visit) (site : ℕ) (sum 
       let same : peaks k (vs ++ v ∷ []) c ≡ r.peaks.items = raised ∙ ap (λ n. set r.peaks.items site n) (m ∙ sym (old_is d)) ∙ set_same r.peaks.items site d in
       let t = raised_total in
       let e = room.room_is in
-      record { peaks_are = sym same; room_is = omega (arith, ints); small = room.small }
+      record { own_are = room.own_are; slack_is = room.slack_is; peaks_are = sym same; room_is = omega (arith, ints); small = room.small }
 
   pub lower_fits : (d : ℤ) → sum ≤ℤ slice_index_or r.peaks.items site d → pos 0 ≤ℤ r.room → total (peaks k (vs ++ v ∷ []) c) ≤ℤ c.slack
   lower_fits d h low = let e = (lower d h).room_is in omega (arith, ints)
@@ -98,14 +102,20 @@ module _ (k : ℕ) (vs : List Visit) (c : Clause) (v : Visit) (site : ℕ) (sum 
       let e = room.room_is in
       omega (arith, ints)
 
-  pub higher : (d : ℤ) (q : Room) → slice_index_or r.peaks.items site d <ℤ sum → q.peaks.items ≡ set r.peaks.items site sum →
+  pub higher : (d : ℤ) (q : Room) → slice_index_or r.peaks.items site d <ℤ sum → q.own.items ≡ r.own.items → q.slack ≡ r.slack → q.peaks.items ≡ set r.peaks.items site sum →
       q.room ≡ r.room -ℤ (sum -ℤ slice_index_or r.peaks.items site d) → HasRoom k (vs ++ v ∷ []) c q
-  higher d q h are left =
+  higher d q h own slack are left =
       let p = old_is d in
       let below : slice_index_or r.peaks.items site d ≤ℤ sum = omega (arith, ints) in
       let m : int_max sum (peak c.terms site vs) ≡ sum = max_high sum (peak c.terms site vs) (subst (λ z. z ≤ℤ sum) p below) in
       let t = higher_total d h in
-      record { peaks_are = are ∙ ap (λ n. set r.peaks.items site n) (sym m) ∙ sym raised; room_is = omega (arith, ints); small = room.small }
+      record {
+        own_are = subst (AreOwnTerms k c.terms) (sym own) room.own_are;
+        slack_is = slack ∙ room.slack_is;
+        peaks_are = are ∙ ap (λ n. set r.peaks.items site n) (sym m) ∙ sym raised;
+        room_is = omega (arith, ints);
+        small = room.small;
+      }
 
   pub higher_fits : (d : ℤ) → slice_index_or r.peaks.items site d <ℤ sum → (sum -ℤ slice_index_or r.peaks.items site d) ≤ℤ r.room → total (peaks k (vs ++ v ∷ []) c) ≤ℤ c.slack
   higher_fits d h low = let t = higher_total d h in omega (arith, ints)
@@ -130,11 +140,18 @@ module _ (k : ℕ) (vs : List Visit) (c : Clause) (v : Visit) (site : ℕ) (sum 
 
   pub spent_stops :
       (total (peaks k (vs ++ v ∷ []) c) ≤ℤ c.slack → ⊥) → pos 0 ≤ℤ r.room → (n : ℕ) (ps : List ℤ) (slack : ℤ) →
-      ps ≡ set r.peaks.items site sum → slack ≡ c.slack → Some (Spent n ps slack) ≡ clause_stop k (vs ++ v ∷ []) n c
+      ps ≡ set r.peaks.items site sum → slack ≡ r.slack → Some (Spent n ps slack) ≡ clause_stop k (vs ++ v ∷ []) n c
   unfolding words
   spent_stops over low n ps slack are is_slack =
-      ap₂ (λ l z. Some (Spent n l z)) (are ∙ sym (over_peaks over low)) is_slack
+      ap₂ (λ l z. Some (Spent n l z)) (are ∙ sym (over_peaks over low)) (is_slack ∙ room.slack_is)
       ∙ sym (ap (λ b. cond b None (Some (Spent n (peaks k (vs ++ v ∷ []) c) c.slack))) (not_at_most (total (peaks k (vs ++ v ∷ []) c)) c.slack over))
+
+-- ---- a site's sum
+pub sum_at :
+    (k : ℕ) (ts : List Term) (own : List (Vec Term Global)) (site : ℕ) (x y : Deltas) → AreOwnTerms k ts own → site < k → y ≡ x →
+    term_sum (own_at own site) x ≡ site_sum site ts y
+sum_at k ts own site x y are lt same =
+    ap (λ us. term_sum us x) (are.each site lt) ∙ own_sum_is site ts x ∙ ap (site_sum site ts) (sym same)
 
 -- ---- no visit
 zero_peaks : (ts : List Term) (i k : ℕ) → replicate k (pos 0) ≡ peaks_from ts [] i k
@@ -147,12 +164,13 @@ unfolding plan_words
 zero_total zero = refl
 zero_total (suc k) = let rest = zero_total k in omega (arith, ints)
 
-pub new_room : (k : ℕ) (c : Clause) (r : Room) → r.peaks.items ≡ replicate k (pos 0) → r.room ≡ c.slack → c.slack <ℤ pos (2 ^ 127) → HasRoom k [] c r
+pub new_room : (k : ℕ) (c : Clause) (r : Room) → AreOwnTerms k c.terms r.own.items → r.slack ≡ c.slack → r.peaks.items ≡ replicate k (pos 0) → r.room ≡ c.slack →
+    c.slack <ℤ pos (2 ^ 127) → HasRoom k [] c r
 unfolding plan_words
-new_room k c r are is_slack small =
+new_room k c r own slack are is_slack small =
     let same = zero_peaks c.terms 0 k in
     let none = ap total (sym same) ∙ zero_total k in
-    record { peaks_are = are ∙ same; room_is = omega (arith, ints, none, is_slack); small = small }
+    record { own_are = own; slack_is = slack; peaks_are = are ∙ same; room_is = omega (arith, ints, none, is_slack); small = small }
 
 -- ---- bounds
 pub bounds_are :
@@ -181,16 +199,12 @@ low_again k vs c v site sum r room at lt is d =
     subst (λ z. sum ≤ℤ z) (sym (there ∙ own)) (subst (λ z. z ≤ℤ int_max (site_sum v.site c.terms v.deltas) (peak c.terms v.site vs)) (sym sums) most)
 
 -- ---- what is asked of a room where the peaks fit
-pub record IsOpen (site : ℕ) (r : Room) : Type 0 where
-  pub there : site < length r.peaks.items
-  pub low : pos 0 ≤ℤ slice_index_or r.peaks.items site (pos 0)
-  pub room : pos 0 ≤ℤ r.room
-
 pub is_open : (k : ℕ) (vs : List Visit) (c : Clause) (site : ℕ) (r : Room) → HasRoom k vs c r → total (peaks k vs c) ≤ℤ c.slack → site < k → IsOpen site r
 unfolding plan_words
 is_open k vs c site r room fit lt =
     let left = room.room_is in
     record {
+      own = subst (λ n. site < n) (sym room.own_are.count) lt;
       there = subst (λ n. site < n) (sym (ap length room.peaks_are ∙ peaks_count c.terms vs 0 k)) lt;
       low =
           subst (λ z. pos 0 ≤ℤ z)

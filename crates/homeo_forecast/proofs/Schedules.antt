@@ -22,7 +22,7 @@ use Rattle.homeo_order.specs.Key.{words as order_words}
 use Rattle.homeo_order.specs.Order.{calls_from, client_names, order_of, scheduled_calls}
 use Rattle.homeo_order.specs.Scheduled.{IsWholeOrder}
 use Rattle.homeo_order.proofs.Scheduling.{named_there, times-snoc, past_the_last, some_is, has_left, calls_from-snoc}
-use Rattle.homeo_forecast.proofs.RoomLists.{set_count, set_here, set_apart, same_number, all_taken}
+use Rattle.homeo_forecast.proofs.Lists.{set_count, set_here, set_apart, same_number, all_taken}
 
 -- ---- the client of a name
 pub record ItsClient (w : s.Workload) (n : ℕ) : Type 0 where

@@ -76,19 +76,19 @@ fn first_stop(
     site: u32,
     deltas: &[i64],
 ) -> Result<Option<Stop>, Memory>
-    requires clauses { All (λ n. n < length template.now.clauses.items) clauses.now }
+    requires clauses { All (λ n. n < length rooms.now) clauses.now }
     requires freezes { let t = template.now in All (λ n. (length t.clauses.items ≤ n) × (n < length t.clauses.items + length t.freezes.items)) freezes.now }
-    requires can { CanTest (plain_template template.now).clauses rooms.now site deltas.now }
+    requires can { CanTest rooms.now site deltas.now }
     ensures { (k : ℕ) (vs : List Visit) (v : Visit) → HaveRooms k vs (plain_template template.now).clauses rooms.now → v.site ≡ site → site < k →
         v.deltas ≡ values_of deltas.now → let t = plain_template template.now in IfOk result (λ o. option_map plain_stop o ≡
         first_of (first_among (clause_stop_at k (vs ++ v ∷ []) t.clauses) clauses.now)
         (first_among (freeze_stop_at (length t.clauses) site (values_of deltas.now) t.freezes) freezes.now)) }
 {
-    let all = template.clauses.as_slice();
-    let stop = first_spent(alloc, all, rooms, clauses, site, deltas)?;
+    let stop = first_spent(alloc, rooms, clauses, site, deltas)?;
     if stop.is_some() {
         return Ok(stop);
     }
+    let all = template.clauses.as_slice();
     let first = all.len();
     Ok(first_frozen(template.freezes.as_slice(), first, freezes, site, deltas))
 }
@@ -169,10 +169,9 @@ impl Replay {
         let (clauses, freezes) = prepared.touched(alloc, c, call, site)?;
         let deltas = &mut self.deltas[site as usize];
         run(alloc, program, deltas)?;
-        let template = &prepared.plan.template;
         let stop = first_stop(
             alloc,
-            template,
+            &prepared.plan.template,
             self.rooms.as_slice(),
             clauses.as_slice(),
             freezes.as_slice(),
@@ -184,7 +183,6 @@ impl Replay {
         }
         raise_all(
             self.rooms.as_mut_slice(),
-            template.clauses.as_slice(),
             clauses.as_slice(),
             site,
             deltas.as_slice(),

@@ -1,7 +1,8 @@
-//! The peaks of the sites, and what the slacks of the clauses leave above them.
+//! Each site's own terms of the clauses, the peaks of the sites, and what the slacks leave above them.
 
-ghost use Rattle.std.specs.Prelude.{◌≡◌, ◌≤◌, ◌<◌, ◌-ℤ◌, ◌+ℤ◌, ◌≤ℤ◌, ◌<ℤ◌, ◌++◌, slice_set, ◌∷◌, [], ℕ, ℤ, List, pos, length, true, false, slice_index_or, option_map, replicate, IfOk, FitsSigned};
+ghost use Rattle.std.specs.Prelude.{◌≡◌, ◌<◌, ◌-ℤ◌, ◌+ℤ◌, ◌≤ℤ◌, ◌<ℤ◌, ◌++◌, slice_set, ◌∷◌, [], ℕ, ℤ, List, pos, length, true, false, slice_index_or, option_map, replicate, IfOk, FitsSigned};
 ghost use Rattle.std.specs.Int.{w128};
+ghost use Rattle.homeo_meaning.specs.Serial.{values_of};
 ghost use Rattle.homeo_plan.specs.Config.{total};
 ghost use Rattle.homeo_plan.specs.PlanView.{plain_clause};
 ghost use Rattle.homeo_plan.specs.Template.{Clause as PlainClause};
@@ -9,17 +10,22 @@ ghost use Rattle.homeo_plan.specs.Treaty.{site_sum};
 ghost use Rattle.homeo_forecast.specs.Peaks.{Spent, peaks, peak_bounds};
 ghost use Rattle.homeo_forecast.specs.Visits.{Visit};
 ghost use Rattle.homeo_forecast.specs.View.{plain_stop};
-ghost use Rattle.homeo_forecast.specs.inner.Rooms.{HasRoom};
+ghost use Rattle.homeo_forecast.specs.inner.Rooms.{HasRoom, IsOpen};
 ghost use Rattle.homeo_forecast.specs.inner.Stops.{clause_stop};
+ghost use Rattle.homeo_forecast.specs.inner.Sums.{own_at, term_sum, CanSum};
 
 use crate::outlook::Stop;
-use homeo_plan::Clause;
+use crate::sums::{own_terms, term_sum};
+use homeo_plan::{Clause, Term};
 use homeo_syntax::Memory;
 use std::alloc::Global;
 
-/// What is kept of a clause: the peaks of the sites, and what the slack leaves above them.
+/// What is kept of a clause: the terms on the deltas of each site, the slack, the peaks of the sites, and what the slack leaves
+/// above them.
 #[derive(Drop)]
 pub(crate) struct Room {
+    pub own: Vec<Vec<Term>>,
+    pub slack: i128,
     pub peaks: Vec<i128>,
     pub room: i128,
 }
@@ -75,9 +81,7 @@ fn spent(clause: u32, peaks: homeo_syntax::List<i128>, slack: i128) -> Stop
 impl Room {
     /// Whether the peak of a site can rise to a sum.
     pub(crate) fn has(&self, site: usize, sum: i128) -> bool
-        requires site { site < length self.now.peaks.items }
-        requires low { pos 0 ≤ℤ slice_index_or self.now.peaks.items site (pos 0) }
-        requires room { pos 0 ≤ℤ self.now.room }
+        requires { IsOpen site self.now }
         ensures fits { (k : ℕ) (vs : List Visit) (c : PlainClause) (v : Visit) → HasRoom k vs c self.now → v.site ≡ site → site < k →
             sum ≡ site_sum site c.terms v.deltas → result ≡ true → total (peaks k (vs ++ v ∷ []) c) ≤ℤ c.slack }
         ensures over { (k : ℕ) (vs : List Visit) (c : PlainClause) (v : Visit) → HasRoom k vs c self.now → v.site ≡ site → site < k →
@@ -92,9 +96,7 @@ impl Room {
 
     /// Raises the peak of a site to a sum where this is higher.
     pub(crate) fn raise(&mut self, site: usize, sum: i128)
-        requires site { site < length self.old.peaks.items }
-        requires low { pos 0 ≤ℤ slice_index_or self.old.peaks.items site (pos 0) }
-        requires room { pos 0 ≤ℤ self.old.room }
+        requires { IsOpen site self.old }
         ensures raised { (k : ℕ) (vs : List Visit) (c : PlainClause) (v : Visit) → HasRoom k vs c self.old → v.site ≡ site → site < k →
             sum ≡ site_sum site c.terms v.deltas → HasRoom k (vs ++ v ∷ []) c self.new }
         ensures again { (k : ℕ) (vs : List Visit) (c : PlainClause) (v : Visit) → HasRoom k (vs ++ v ∷ []) c self.old → v.site ≡ site → site < k →
@@ -112,33 +114,42 @@ impl Room {
     pub(crate) fn new(alloc: Global, sites: u32, clause: &Clause) -> Result<Room, Memory>
         ensures { IfOk result (HasRoom sites [] (plain_clause clause.now)) }
     {
+        let own = own_terms(alloc, sites, clause.terms.as_slice())?;
         let peaks = zeros(alloc, sites as usize)?;
         Ok(Room {
+            own,
+            slack: clause.slack,
             peaks,
             room: clause.slack,
         })
     }
 
-    /// What stops a call after which a site has this sum in the clause of this number, with this slack.
+    /// A site's sum over its deltas.
+    pub(crate) fn sum(&self, site: usize, deltas: &[i64]) -> i128
+        requires site { site < length self.now.own.items }
+        requires fits { CanSum (own_at self.now.own.items site) (values_of deltas.now) }
+        ensures { result ≡ term_sum (own_at self.now.own.items site) (values_of deltas.now) }
+    {
+        term_sum(self.own[site].as_slice(), deltas)
+    }
+
+    /// What stops a call after which a site has this sum in the clause of this number.
     pub(crate) fn stop(
         &self,
         alloc: Global,
         clause: u32,
-        slack: i128,
         site: usize,
         sum: i128,
     ) -> Result<Option<Stop>, Memory>
-        requires site { site < length self.now.peaks.items }
-        requires low { pos 0 ≤ℤ slice_index_or self.now.peaks.items site (pos 0) }
-        requires room { pos 0 ≤ℤ self.now.room }
-        ensures { (k : ℕ) (vs : List Visit) (c : PlainClause) (v : Visit) → HasRoom k vs c self.now → slack ≡ c.slack → v.site ≡ site → site < k →
+        requires { IsOpen site self.now }
+        ensures { (k : ℕ) (vs : List Visit) (c : PlainClause) (v : Visit) → HasRoom k vs c self.now → v.site ≡ site → site < k →
             sum ≡ site_sum site c.terms v.deltas → IfOk result (λ o. option_map plain_stop o ≡ clause_stop k (vs ++ v ∷ []) clause c) }
     {
         if self.has(site, sum) {
             return Ok(None);
         }
         let peaks = self.risen(alloc, site, sum)?;
-        Ok(Some(spent(clause, peaks, slack)))
+        Ok(Some(spent(clause, peaks, self.slack)))
     }
 
     /// The peaks, with that of a site risen to a sum.

@@ -1,62 +1,56 @@
 //! What stops a call, of the clauses and freezes that it touches.
 
-ghost use Rattle.std.specs.Prelude.{◌≡◌, ◌+◌, ◌<◌, ◌≤◌, ◌≤ℤ◌, ◌++◌, ◌∷◌, [], ℕ, List, pos, All, length, map, option_map, slice_index_or, IfOk};
+ghost use Rattle.std.specs.Prelude.{◌≡◌, ◌+◌, ◌<◌, ◌≤◌, ◌++◌, ◌∷◌, [], ℕ, List, All, length, option_map, IfOk};
 ghost use Rattle.homeo_meaning.specs.Serial.{values_of};
-ghost use Rattle.homeo_plan.specs.PlanView.{plain_clause};
+ghost use Rattle.homeo_plan.specs.Template.{Clause as PlainClause};
 ghost use Rattle.homeo_forecast.specs.View.{plain_stop};
 ghost use Rattle.homeo_forecast.specs.Visits.{Visit};
 ghost use Rattle.homeo_forecast.specs.inner.Raising.{CanTest};
-ghost use Rattle.homeo_forecast.specs.inner.Rooms.{HasRoom, HaveRooms};
+ghost use Rattle.homeo_forecast.specs.inner.Rooms.{HasRoom, HaveRooms, IsOpen};
 ghost use Rattle.homeo_forecast.specs.inner.Stops.{clause_stop, clause_stop_at, freeze_stop, freeze_stop_at, first_among};
-ghost use Rattle.homeo_forecast.specs.inner.Sums.{CanSum};
+ghost use Rattle.homeo_forecast.specs.inner.Sums.{own_at, CanSum};
 
 use crate::outlook::Stop;
 use crate::rooms::Room;
-use crate::sums::site_sum;
 use homeo_meaning::padded::item_or;
-use homeo_plan::{Clause, Delta};
+use homeo_plan::Delta;
 use homeo_syntax::Memory;
 use std::alloc::Global;
 
-/// What stops a call at a clause of this number, after which its site has these deltas.
+/// What stops a call at the clause of this number, after which its site has these deltas.
 fn clause_stop(
     alloc: Global,
-    clause: &Clause,
     room: &Room,
     number: u32,
     site: u32,
     deltas: &[i64],
 ) -> Result<Option<Stop>, Memory>
-    requires sums { CanSum site clause.now.terms.items (values_of deltas.now) }
-    requires site { site < length room.now.peaks.items }
-    requires low { pos 0 ≤ℤ slice_index_or room.now.peaks.items site (pos 0) }
-    requires room { pos 0 ≤ℤ room.now.room }
-    ensures { (k : ℕ) (vs : List Visit) (v : Visit) → HasRoom k vs (plain_clause clause.now) room.now → v.site ≡ site → site < k →
-        v.deltas ≡ values_of deltas.now →
-        IfOk result (λ o. option_map plain_stop o ≡ clause_stop k (vs ++ v ∷ []) number (plain_clause clause.now)) }
+    requires open { IsOpen site room.now }
+    requires fits { CanSum (own_at room.now.own.items site) (values_of deltas.now) }
+    ensures { (k : ℕ) (vs : List Visit) (v : Visit) (c : PlainClause) → HasRoom k vs c room.now → v.site ≡ site → site < k →
+        v.deltas ≡ values_of deltas.now → IfOk result (λ o. option_map plain_stop o ≡ clause_stop k (vs ++ v ∷ []) number c) }
 {
-    let sum = site_sum(clause.terms.as_slice(), site, deltas);
-    room.stop(alloc, number, clause.slack, site as usize, sum)
+    let sum = room.sum(site as usize, deltas);
+    room.stop(alloc, number, site as usize, sum)
 }
 
 /// The first stop among the clauses of these numbers.
 pub(crate) fn first_spent(
     alloc: Global,
-    clauses: &[Clause],
     rooms: &[Room],
     numbers: &[u32],
     site: u32,
     deltas: &[i64],
 ) -> Result<Option<Stop>, Memory>
-    requires numbers { All (λ n. n < length clauses.now) numbers.now }
-    requires can { CanTest (map plain_clause clauses.now) rooms.now site deltas.now }
-    ensures { (k : ℕ) (vs : List Visit) (v : Visit) → HaveRooms k vs (map plain_clause clauses.now) rooms.now → v.site ≡ site → site < k →
+    requires numbers { All (λ n. n < length rooms.now) numbers.now }
+    requires can { CanTest rooms.now site deltas.now }
+    ensures { (k : ℕ) (vs : List Visit) (v : Visit) (cs : List PlainClause) → HaveRooms k vs cs rooms.now → v.site ≡ site → site < k →
         v.deltas ≡ values_of deltas.now →
-        IfOk result (λ o. option_map plain_stop o ≡ first_among (clause_stop_at k (vs ++ v ∷ []) (map plain_clause clauses.now)) numbers.now) }
+        IfOk result (λ o. option_map plain_stop o ≡ first_among (clause_stop_at k (vs ++ v ∷ []) cs) numbers.now) }
 {
     for number in numbers {
         let place = *number as usize;
-        let stop = clause_stop(alloc, &clauses[place], &rooms[place], *number, site, deltas)?;
+        let stop = clause_stop(alloc, &rooms[place], *number, site, deltas)?;
         if stop.is_some() {
             return Ok(stop);
         }

@@ -7,24 +7,25 @@ use Rattle.homeo_forecast.specs.Peaks.{PeaksFit}
 use Rattle.homeo_forecast.specs.Visits.{Visit}
 use Rattle.homeo_forecast.specs.declared.rooms.Room.{Room}
 use Rattle.homeo_forecast.specs.inner.Rooms.{HasRoom, HaveRooms}
-use Rattle.homeo_forecast.specs.inner.Sums.{CanSum}
+use Rattle.homeo_forecast.specs.inner.Sums.{terms_at, CanSum}
 
 -- the visits so far fit, and the site's sums can be computed
-pub record CanTest (cs : List Clause) (rs : List Room) (site : ℕ) (deltas : List ℤ) : Type 0 where
+pub record CanTest (rs : List Room) (site : ℕ) (deltas : List ℤ) : Type 0 where
   pub sites : ℕ
   pub visits : List Visit
-  pub rooms : HaveRooms sites visits cs rs
+  pub clauses : List Clause
+  pub rooms : HaveRooms sites visits clauses rs
   pub below : site < sites
-  pub fit : PeaksFit sites visits cs
-  pub sums : Each (λ c. CanSum site c.terms (values_of deltas)) cs
+  pub fit : PeaksFit sites visits clauses
+  pub sums : Each (λ c. CanSum (terms_at site c.terms) (values_of deltas)) clauses
 
 -- and one visit more fits, with these deltas at this site
-pub record CanRaise (cs : List Clause) (rs : List Room) (site : ℕ) (deltas : List ℤ) : Type 0 where
-  pub test : CanTest cs rs site deltas
+pub record CanRaise (rs : List Room) (site : ℕ) (deltas : List ℤ) : Type 0 where
+  pub test : CanTest rs site deltas
   pub visit : Visit
   pub at : visit.site ≡ site
   pub are : visit.deltas ≡ values_of deltas
-  pub fit : PeaksFit test.sites (test.visits ++ visit ∷ []) cs
+  pub fit : PeaksFit test.sites (test.visits ++ visit ∷ []) test.clauses
 
 -- the rooms of these numbers have taken the visit v
 pub record SomeRaised (k : ℕ) (vs : List Visit) (v : Visit) (cs : List Clause) (ns : List ℕ) (rs : List Room) : Type 0 where

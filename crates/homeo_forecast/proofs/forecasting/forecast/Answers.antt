@@ -10,7 +10,7 @@ use Rattle.homeo_forecast.specs.declared.rooms.Room.{Room}
 use Rattle.homeo_forecast.specs.inner.Replays.{CanBound}
 use Rattle.homeo_forecast.specs.inner.Rooms.{HaveRooms}
 use Rattle.homeo_forecast.proofs.ForecastSteps.{rebased, begun_at, on_plan, off_plan, some_replay, same_stop, can_bound, kept_on, stopped_there, all_kept}
-use Rattle.homeo_forecast.proofs.RoomLists.{each_there}
+use Rattle.homeo_forecast.proofs.Lists.{each_there}
 use Rattle.homeo_forecast.proofs.StopSteps.{none_is}
 use Rattle.homeo_forecast.proofs.forecasting.forecast.Goals as goal
 

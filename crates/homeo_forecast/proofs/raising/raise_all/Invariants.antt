@@ -1,6 +1,6 @@
-use Rattle.std.proofs.Common.{◌≡◌, ◌<◌, ℕ, List, map, take}
+use Rattle.std.proofs.Common.{◌≡◌, ◌<◌, ℕ, List, take}
 use Rattle.homeo_meaning.specs.Serial.{values_of}
-use Rattle.homeo_plan.specs.PlanView.{plain_clause}
+use Rattle.homeo_plan.specs.Template.{Clause}
 use Rattle.homeo_forecast.specs.Visits.{Visit}
 use Rattle.homeo_forecast.specs.inner.Raising.{SomeRaised}
 use Rattle.homeo_forecast.specs.inner.Rooms.{HaveRooms}
@@ -8,5 +8,5 @@ use Rattle.homeo_forecast.proofs.raising.raise_all.Given as goal
 
 abbrev pub invariant-loop-number : goal.invariant-loop-number
 invariant-loop-number l =
-    (k : ℕ) (vs : List Visit) (v : Visit) → HaveRooms k vs (map plain_clause l.clauses) l.initial.rooms → v.site ≡ l.site → l.site < k →
-    v.deltas ≡ values_of l.deltas → SomeRaised k vs v (map plain_clause l.clauses) (take l.number-index l.numbers) l.rooms
+    (k : ℕ) (vs : List Visit) (v : Visit) (cs : List Clause) → HaveRooms k vs cs l.initial.rooms → v.site ≡ l.site → l.site < k →
+    v.deltas ≡ values_of l.deltas → SomeRaised k vs v cs (take l.number-index l.numbers) l.rooms

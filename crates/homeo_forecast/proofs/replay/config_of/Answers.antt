@@ -3,7 +3,8 @@ use Rattle.homeo_syntax.specs.Listed.{Listed}
 use Rattle.homeo_plan.specs.Template.{Clause}
 use Rattle.homeo_forecast.specs.Peaks.{peak_config}
 use Rattle.homeo_forecast.proofs.ReplayLists.{no_config, one_bounds}
-use Rattle.homeo_forecast.proofs.RoomLists.{room_at, bound_there, all_taken}
+use Rattle.homeo_forecast.proofs.Lists.{all_taken}
+use Rattle.homeo_forecast.proofs.RoomLists.{room_at, bound_there}
 use Rattle.homeo_forecast.proofs.replay.config_of.Goals as goal
 
 none : Clause

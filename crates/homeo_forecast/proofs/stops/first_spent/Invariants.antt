@@ -1,6 +1,6 @@
-use Rattle.std.proofs.Common.{◌≡◌, ◌<◌, ◌++◌, ◌∷◌, [], ℕ, List, map, drop}
+use Rattle.std.proofs.Common.{◌≡◌, ◌<◌, ◌++◌, ◌∷◌, [], ℕ, List, drop}
 use Rattle.homeo_meaning.specs.Serial.{values_of}
-use Rattle.homeo_plan.specs.PlanView.{plain_clause}
+use Rattle.homeo_plan.specs.Template.{Clause}
 use Rattle.homeo_forecast.specs.Visits.{Visit}
 use Rattle.homeo_forecast.specs.inner.Rooms.{HaveRooms}
 use Rattle.homeo_forecast.specs.inner.Stops.{first_among, clause_stop_at}
@@ -8,7 +8,6 @@ use Rattle.homeo_forecast.proofs.stops.first_spent.Given as goal
 
 abbrev pub invariant-loop-number : goal.invariant-loop-number
 invariant-loop-number l =
-    (k : ℕ) (vs : List Visit) (v : Visit) → HaveRooms k vs (map plain_clause l.clauses) l.rooms → v.site ≡ l.site → l.site < k →
+    (k : ℕ) (vs : List Visit) (v : Visit) (cs : List Clause) → HaveRooms k vs cs l.rooms → v.site ≡ l.site → l.site < k →
     v.deltas ≡ values_of l.deltas →
-    first_among (clause_stop_at k (vs ++ v ∷ []) (map plain_clause l.clauses)) l.numbers ≡
-    first_among (clause_stop_at k (vs ++ v ∷ []) (map plain_clause l.clauses)) (drop l.number-index l.numbers)
+    first_among (clause_stop_at k (vs ++ v ∷ []) cs) l.numbers ≡ first_among (clause_stop_at k (vs ++ v ∷ []) cs) (drop l.number-index l.numbers)
