@@ -3,11 +3,12 @@ use Rattle.homeo_history.specs.Key.{words as histories}
 use Rattle.homeo_site.specs.Key.{words as site_words}
 use Rattle.homeo_core.specs.Key.{words as core_words}
 use Rattle.homeo_wire.specs.Key.{words}
-use Rattle.std.proofs.Common.{◌≡◌, ℕ, suc, ◌<◌, ◌≤◌, nat_lt, eqb, List, [], ◌∷◌, ◌++◌, map, length, take, Bool, true, false, cond, ℤ, Option, Some, None, Result, Ok, Err, refl, sym, ap, subst, ◌∙◌, arith, slice_index_or, slice_set, FitsSigned}
+use Rattle.std.proofs.Common.{◌≡◌, ℕ, suc, ◌<◌, ◌≤◌, nat_lt, eqb, List, [], ◌∷◌, ◌++◌, map, length, get_or, take, Bool, true, false, cond, ℤ, Option, Some, None, Result, Ok, Err, refl, sym, ap, subst, ◌∙◌, arith, slice_index_or, slice_set, FitsSigned}
 use Rattle.std.specs.Int.{w64}
 use Rattle.std.specs.Prelude.{All, slice_get, ◌&&◌, ◌==◌, IfOk, OnOk, OnErr}
 use Rattle.std.proofs.lemmas.Bool.Decides.{nat_tests}
 use Rattle.std.proofs.lemmas.List.{length-map}
+use Rattle.std.proofs.lemmas.Option.{slice_get_read}
 use mathlib.Core.Logic.{⊎_elim}
 use Rattle.homeo_syntax.specs.Source as s
 use Rattle.homeo_syntax.specs.SourceView.{plain_workload}
@@ -20,6 +21,7 @@ use Rattle.homeo_plan.specs.Planned.{sites_of}
 use Rattle.homeo_history.specs.Legal.{IsClientAt, call_count}
 use Rattle.homeo_history.proofs.ClientAnswers.{client_at, one_site}
 use Rattle.homeo_history.proofs.Exists.{client_lt}
+use Rattle.homeo_assembly.proofs.ClientsAtSites.{client_below}
 use Rattle.homeo_syntax.specs.Listed.{Listed}
 use Rattle.homeo_plan.specs.declared.treaty.Broken.{Broken}
 use Rattle.homeo_history.proofs.Lists.{All-get, get_lt, get_map, map_map, index_set_same, index_set_other}
@@ -43,7 +45,7 @@ use Rattle.homeo_wire.specs.inner.Standing.{IsNode, IsWire, LastFits, IsOwn, Can
 use Rattle.homeo_wire.specs.Laws.{HasOneBase}
 use Rattle.homeo_wire.specs.Nodes as n
 use Rattle.homeo_wire.specs.Read.{last_round, sites_in, journals, history_in, counts_in}
-use Rattle.homeo_wire.specs.WireView.{plain_packet, plain_step, plain_left, plain_journal, plain_node, world_of}
+use Rattle.homeo_wire.specs.WireView.{WireValue, plain_packet, plain_step, plain_left, plain_journal, plain_node, world_of}
 use Rattle.homeo_wire.proofs.Courses.{caught_up, up_here, up_behind, sites_then}
 use Rattle.homeo_wire.proofs.Happening.{IsHeld}
 use Rattle.homeo_wire.proofs.NodeViews.{idle_is, received_other, received_own}
@@ -155,6 +157,48 @@ pub wire_by :
     OnErr r (world_of nodes' packets' ≡ world_of nodes packets) → IsWire work nodes' packets'
 wire_by work nodes packets wire e nodes' packets' (Ok t) each ok err = wire_after work nodes packets wire e nodes' packets' each ok
 wire_by work nodes packets wire e nodes' packets' (Err f) each ok err = wire_same work nodes packets wire nodes' packets' each err
+
+-- ---- a place
+-- the node that stands at it
+pub record Stands (work : Workload) (nodes : List Node) (i : ℕ) (p : Node) : Type 0 where
+  pub here : slice_get nodes i ≡ Some p
+  pub ready : IsReady (plain_workload work) i (plain_node p)
+  pub node : IsNode work p
+  pub rounds : length p.left.items ≡ p.site.state.round
+
+pub node_stands : (work : Workload) (nodes : List Node) (packets : List Packet) → IsWire work nodes packets → (i : ℕ) (p : Node) → i < length nodes → p ≡ get_or nodes i p → Stands work nodes i p
+unfolding words
+node_stands work nodes packets wire i p lt is =
+    let here : slice_get nodes i ≡ Some p = slice_get_read nodes _ i p refl lt is in
+    let ready = ready_at work nodes packets wire i p here in
+    record {
+      here = here;
+      ready = ready;
+      node = node_at work nodes packets wire i p here;
+      rounds = sym (length-map p.left.items plain_left) ∙ ready.rounds;
+    }
+
+-- the site of a client
+pub home_below : (work : Workload) (nodes : List Node) (packets : List Packet) → IsWire work nodes packets → (client home : ℕ) → IsClientAt (plain_workload work) home client → home < length nodes
+home_below work nodes packets wire client home own =
+    subst (λ m. home < m) (sym (count_is work nodes packets wire)) (client_below (plain_workload work) home client wire.accepted own)
+
+-- the value that contracts see
+abbrev value_of : Workload → List Node → List Packet → WireValue
+value_of work nodes packets = record { work = work; world = world_of nodes packets }
+
+module _ (work : Workload) (nodes : List Node) (packets : List Packet) (wire : IsWire work nodes packets) (v : WireValue) (seen : value_of work nodes packets ≡ v) where
+  pub site_below : (i : ℕ) → i < sites_of (plain_workload v.work) → i < length nodes
+  site_below i lt =
+      subst (λ m. i < m) (sym (count_is work nodes packets wire)) (subst (λ (u : WireValue). i < sites_of (plain_workload u.work)) (sym seen) lt)
+
+  pub packet_below : (k : ℕ) → k < length v.world.packets → k < length packets
+  unfolding words
+  packet_below k lt =
+      subst (λ m. k < m) (length-map packets plain_packet) (subst (λ (u : WireValue). k < length u.world.packets) (sym seen) lt)
+
+  pub packet_at : (k : ℕ) (q : Packet) → k < length v.world.packets → q ≡ get_or packets k q → slice_get packets k ≡ Some q
+  packet_at k q lt is = slice_get_read packets _ k q refl (packet_below k lt) is
 
 -- ---- how many calls of a client stand in the history
 module _ (w : s.Workload) (x : n.World) (accepted : IsAccepted w) (h : IsHeld w x) where
@@ -301,10 +345,10 @@ module _ (work : Workload) (nodes : List Node) (packets : List Packet) (wire : I
   }
 
 -- ---- what an event has made of nodes and packets, by the answer
-pub record HasHappened {E : Type 0} (work : Workload) (nodes : List Node) (packets : List Packet) (e : Event) (nodes' : List Node) (packets' : List Packet) (r : Result Step E) : Type 0 where
-  pub step : IfOk r (λ s. plain_step s ≡ (n.happens (plain_workload work) (world_of nodes packets) e).step)
-  pub world : OnOk r (world_of nodes' packets' ≡ (n.happens (plain_workload work) (world_of nodes packets) e).world)
-  pub unchanged : OnErr r (world_of nodes' packets' ≡ world_of nodes packets)
+pub record HasHappened {E : Type 0} (work : Workload) (x : n.World) (e : Event) (nodes' : List Node) (packets' : List Packet) (r : Result Step E) : Type 0 where
+  pub step : IfOk r (λ s. plain_step s ≡ (n.happens (plain_workload work) x e).step)
+  pub world : OnOk r (world_of nodes' packets' ≡ (n.happens (plain_workload work) x e).world)
+  pub unchanged : OnErr r (world_of nodes' packets' ≡ x)
   pub wire : IsWire work nodes' packets'
 
 module _ (work : Workload) (nodes : List Node) (packets : List Packet) (wire : IsWire work nodes packets) (e : Event) (i : ℕ) (p : Node) (here : slice_get nodes i ≡ Some p) (f : n.Node → n.Reaction) (is : n.happens (plain_workload work) (world_of nodes packets) e ≡ n.at_node (world_of nodes packets) i f) where
@@ -316,7 +360,7 @@ module _ (work : Workload) (nodes : List Node) (packets : List Packet) (wire : I
       nodes_same : map plain_node (slice_set nodes i y) ≡ map plain_node nodes
       nodes_same = map_set_same plain_node nodes i p y here same
 
-  pub reacts_by : {E : Type 0} (r : Result Step E) (y : Node) (packets' : List Packet) → IfOk r (IsReaction (f (plain_node p)) y packets packets') → OnErr r (plain_node y ≡ plain_node p) → OnErr r (packets' ≡ packets) → IsNode work y → HasHappened work nodes packets e (slice_set nodes i y) packets' r
+  pub reacts_by : {E : Type 0} (r : Result Step E) (y : Node) (packets' : List Packet) → IfOk r (IsReaction (f (plain_node p)) y packets packets') → OnErr r (plain_node y ≡ plain_node p) → OnErr r (packets' ≡ packets) → IsNode work y → HasHappened work (world_of nodes packets) e (slice_set nodes i y) packets' r
   reacts_by (Ok s) y packets' reaction unchanged unsent node =
       let world = reacted_world nodes packets packets' i p y f s here reaction ∙ ap (λ (h : n.Happened). h.world) (sym is) in
       record {
@@ -373,7 +417,7 @@ module _ (work : Workload) (nodes : List Node) (packets : List Packet) (wire : I
         ∙ ap (λ (x : n.Node). x.journal.site.base) (sym unchanged);
   }
 
-  pub call_happens : {E : Type 0} (r : Result Step E) (y : Node) (packets' : List Packet) → IfOk r (IsReaction (n.called (plain_workload p.site.work) client (plain_node p)) y packets packets') → OnErr r (plain_node y ≡ plain_node p) → OnErr r (packets' ≡ packets) → y.site.work ≡ p.site.work → y.base ≡ p.base → HasHappened work nodes packets (Call client) (slice_set nodes home y) packets' r
+  pub call_happens : {E : Type 0} (r : Result Step E) (y : Node) (packets' : List Packet) → IfOk r (IsReaction (n.called (plain_workload p.site.work) client (plain_node p)) y packets packets') → OnErr r (plain_node y ≡ plain_node p) → OnErr r (packets' ≡ packets) → y.site.work ≡ p.site.work → y.base ≡ p.base → HasHappened work (world_of nodes packets) (Call client) (slice_set nodes home y) packets' r
   call_happens r y packets' reaction unchanged unsent same base =
       let is = (node_at work nodes packets wire home p here).work_is in
       reacts_by work nodes packets wire (Call client) home p here (n.called (plain_workload work) client) (call_is (plain_workload work) (world_of nodes packets) client home own) r y packets' (subst (λ (v : Workload). IfOk r (IsReaction (n.called (plain_workload v) client (plain_node p)) y packets packets')) is reaction) unchanged unsent (node_of r y packets' reaction unchanged same base)
@@ -385,13 +429,13 @@ module _ (work : Workload) (nodes : List Node) (packets : List Packet) (wire : I
   delivered = delivery_is (plain_workload work) (world_of nodes packets) site k (plain_packet q) (get_map plain_packet packets k q sent)
 
   -- of another round
-  pub other_round : {E : Type 0} (s : Step) → plain_step s ≡ n.Ignored → (n.round_of (plain_packet q) ≡ p.site.state.round → ⊥) → HasHappened {E = E} work nodes packets (Deliver site k) (slice_set nodes site p) packets (Ok s)
+  pub other_round : {E : Type 0} (s : Step) → plain_step s ≡ n.Ignored → (n.round_of (plain_packet q) ≡ p.site.state.round → ⊥) → HasHappened {E = E} work (world_of nodes packets) (Deliver site k) (slice_set nodes site p) packets (Ok s)
   unfolding words
   other_round s answer other =
       reacts_by work nodes packets wire (Deliver site k) site p here (n.received (plain_workload work) (plain_packet q)) delivered (Ok s) p packets (idle_is (n.received (plain_workload work) (plain_packet q) (plain_node p)) p p packets s n.Ignored (received_other (plain_workload work) (plain_packet q) (plain_node p) other) refl answer) tt tt (node_at work nodes packets wire site p here)
 
   -- of the node's round
-  pub own_round : {E : Type 0} (r : Result Step E) (y : Node) (packets' : List Packet) (copy : Packet) → plain_packet copy ≡ plain_packet q → n.round_of (plain_packet q) ≡ p.site.state.round → IfOk r (IsReaction (n.taken (plain_workload work) (plain_node p) (plain_packet copy)) y packets packets') → OnErr r (plain_node y ≡ plain_node p) → OnErr r (packets' ≡ packets) → y.site.work ≡ p.site.work → y.base.items ≡ y.site.state.base → HasHappened work nodes packets (Deliver site k) (slice_set nodes site y) packets' r
+  pub own_round : {E : Type 0} (r : Result Step E) (y : Node) (packets' : List Packet) (copy : Packet) → plain_packet copy ≡ plain_packet q → n.round_of (plain_packet q) ≡ p.site.state.round → IfOk r (IsReaction (n.taken (plain_workload work) (plain_node p) (plain_packet copy)) y packets packets') → OnErr r (plain_node y ≡ plain_node p) → OnErr r (packets' ≡ packets) → y.site.work ≡ p.site.work → y.base.items ≡ y.site.state.base → HasHappened work (world_of nodes packets) (Deliver site k) (slice_set nodes site y) packets' r
   unfolding words
   own_round r y packets' copy same round reaction unchanged unsent work_same base =
       reacts_by work nodes packets wire (Deliver site k) site p here (n.received (plain_workload work) (plain_packet q)) delivered r y packets' (subst (λ x. IfOk r (IsReaction x y packets packets')) (ap (n.taken (plain_workload work) (plain_node p)) same ∙ sym (received_own (plain_workload work) (plain_packet q) (plain_node p) round)) reaction) unchanged unsent (record { work_is = work_same ∙ (node_at work nodes packets wire site p here).work_is; base_is = base })

@@ -1,4 +1,5 @@
 pub mod Driving
+pub mod Planning
 pub mod Reactions
 pub mod Ready
 pub mod Standing

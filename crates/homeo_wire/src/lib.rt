@@ -8,6 +8,7 @@ mod events;
 mod history;
 pub mod laws;
 mod node;
+mod planner;
 mod states;
 mod wire;
 

@@ -14,8 +14,8 @@ ghost use Rattle.homeo_wire.specs.inner.Ready.{CanSettle, CanTake, IsFrom, count
 use crate::breach::{Breach, Mode};
 use crate::closing::{Next, close};
 use crate::events::{Packet, Step};
+use crate::planner::Planner;
 use crate::states::{copy_values, has_state, states_with};
-use homeo_build::Compiled;
 use homeo_core::{Tried, try_call};
 use homeo_history::{Closing, Segment};
 use homeo_meaning::{CallId, Database};
@@ -23,7 +23,6 @@ use homeo_site::Site;
 use homeo_syntax::{List, Memory};
 use std::alloc::Global;
 use std::mem;
-use std::sync::Arc;
 
 /// A round that a node has left: its base, what the node itself ran in it, and the call that closed it.
 #[derive(Drop)]
@@ -157,27 +156,28 @@ impl Node {
     pub(crate) fn receive(
         &mut self,
         alloc: Global,
-        c: &Arc<Compiled>,
+        planner: &mut Planner,
         sites: u32,
         packet: Packet,
         packets: &mut List<Packet>,
     ) -> Result<Step, Memory>
-        requires work { self.old.site.work ≡ c.now.value }
-        requires accepted { IsAccepted (plain_workload c.now.value) }
+        requires work { self.old.site.work ≡ planner.old }
+        requires accepted { IsAccepted (plain_workload planner.old) }
         requires base { self.old.base.items ≡ self.old.site.state.base }
-        requires own { self.old.site.state.number < sites_of (plain_workload c.now.value) }
+        requires own { self.old.site.state.number < sites_of (plain_workload planner.old) }
         requires round { self.old.site.state.round < 2 ^ 63 }
-        requires sites { sites ≡ sites_of (plain_workload c.now.value) }
+        requires sites { sites ≡ sites_of (plain_workload planner.old) }
         requires some { 0 < sites }
         requires states { length self.old.states.items ≡ sites }
         requires from { IsFrom sites (plain_packet packet) }
-        requires can { CanTake (plain_workload c.now.value) (plain_node self.old) (plain_packet packet) }
-        ensures reaction { IfOk result (IsReaction (taken (plain_workload c.now.value) (plain_node self.old) (plain_packet packet))
+        requires can { CanTake (plain_workload planner.old) (plain_node self.old) (plain_packet packet) }
+        ensures reaction { IfOk result (IsReaction (taken (plain_workload planner.old) (plain_node self.old) (plain_packet packet))
             self.new packets.old.items packets.new.items) }
         ensures unchanged { OnErr result (plain_node self.new ≡ plain_node self.old) }
         ensures unsent { OnErr result (packets.new.items ≡ packets.old.items) }
         ensures work { self.new.site.work ≡ self.old.site.work }
         ensures base { self.new.base.items ≡ self.new.site.state.base }
+        ensures planner { planner.new ≡ planner.old }
     {
         match packet {
             Packet::Want {
@@ -206,13 +206,13 @@ impl Node {
                     call,
                     broken,
                 };
-                self.stop(alloc, c, breach, packets)
+                self.stop(alloc, planner, breach, packets)
             }
             Packet::State {
                 round,
                 site,
                 deltas,
-            } => self.keep(alloc, c, round, site, deltas.as_slice()),
+            } => self.keep(alloc, planner, round, site, deltas.as_slice()),
         }
     }
 
@@ -246,23 +246,24 @@ impl Node {
     fn stop(
         &mut self,
         alloc: Global,
-        c: &Arc<Compiled>,
+        planner: &mut Planner,
         b: Breach,
         packets: &mut List<Packet>,
     ) -> Result<Step, Memory>
-        requires work { self.old.site.work ≡ c.now.value }
-        requires accepted { IsAccepted (plain_workload c.now.value) }
+        requires work { self.old.site.work ≡ planner.old }
+        requires accepted { IsAccepted (plain_workload planner.old) }
         requires base { self.old.base.items ≡ self.old.site.state.base }
-        requires own { self.old.site.state.number < sites_of (plain_workload c.now.value) }
+        requires own { self.old.site.state.number < sites_of (plain_workload planner.old) }
         requires round { self.old.site.state.round < 2 ^ 63 }
-        requires states { length self.old.states.items ≡ sites_of (plain_workload c.now.value) }
-        requires can { CanTake (plain_workload c.now.value) (plain_node self.old) (Stop b) }
-        ensures reaction { IfOk result (IsReaction (taken (plain_workload c.now.value) (plain_node self.old) (Stop b))
+        requires states { length self.old.states.items ≡ sites_of (plain_workload planner.old) }
+        requires can { CanTake (plain_workload planner.old) (plain_node self.old) (Stop b) }
+        ensures reaction { IfOk result (IsReaction (taken (plain_workload planner.old) (plain_node self.old) (Stop b))
             self.new packets.old.items packets.new.items) }
         ensures unchanged { OnErr result (plain_node self.new ≡ plain_node self.old) }
         ensures unsent { OnErr result (packets.new.items ≡ packets.old.items) }
         ensures work { self.new.site.work ≡ self.old.site.work }
         ensures base { self.new.base.items ≡ self.new.site.state.base }
+        ensures planner { planner.new ≡ planner.old }
     {
         match self.mode {
             Mode::Stopped(_) => Ok(Step::Ignored),
@@ -272,7 +273,7 @@ impl Node {
                 let deltas = copy_values(alloc, self.site.deltas())?;
                 let states = states_with(alloc, self.states.as_slice(), site, deltas.as_slice())?;
                 packets.reserve(1)?;
-                self.settle(alloc, c, Mode::Stopped(b), states)?;
+                self.settle(alloc, planner, Mode::Stopped(b), states)?;
                 push_packet(
                     packets,
                     Packet::State {
@@ -290,29 +291,30 @@ impl Node {
     fn keep(
         &mut self,
         alloc: Global,
-        c: &Arc<Compiled>,
+        planner: &mut Planner,
         round: u64,
         site: u32,
         deltas: &[i64],
     ) -> Result<Step, Memory>
-        requires work { self.old.site.work ≡ c.now.value }
-        requires accepted { IsAccepted (plain_workload c.now.value) }
+        requires work { self.old.site.work ≡ planner.old }
+        requires accepted { IsAccepted (plain_workload planner.old) }
         requires base { self.old.base.items ≡ self.old.site.state.base }
-        requires own { self.old.site.state.number < sites_of (plain_workload c.now.value) }
+        requires own { self.old.site.state.number < sites_of (plain_workload planner.old) }
         requires round { self.old.site.state.round < 2 ^ 63 }
         requires kept { site < length self.old.states.items }
-        requires can { CanTake (plain_workload c.now.value) (plain_node self.old) (State round site deltas.now) }
-        ensures reaction { IfOk result (λ s. (plain_node self.new ≡ (taken (plain_workload c.now.value) (plain_node self.old) (State round site deltas.now)).node)
-            × (plain_step s ≡ (taken (plain_workload c.now.value) (plain_node self.old) (State round site deltas.now)).step)) }
+        requires can { CanTake (plain_workload planner.old) (plain_node self.old) (State round site deltas.now) }
+        ensures reaction { IfOk result (λ s. (plain_node self.new ≡ (taken (plain_workload planner.old) (plain_node self.old) (State round site deltas.now)).node)
+            × (plain_step s ≡ (taken (plain_workload planner.old) (plain_node self.old) (State round site deltas.now)).step)) }
         ensures unchanged { OnErr result (plain_node self.new ≡ plain_node self.old) }
         ensures work { self.new.site.work ≡ self.old.site.work }
         ensures base { self.new.base.items ≡ self.new.site.state.base }
+        ensures planner { planner.new ≡ planner.old }
     {
         if has_state(self.states.as_slice(), site) {
             return Ok(Step::Ignored);
         }
         let states = states_with(alloc, self.states.as_slice(), site, deltas)?;
-        self.settle(alloc, c, self.mode, states)?;
+        self.settle(alloc, planner, self.mode, states)?;
         Ok(Step::Taken)
     }
 
@@ -324,24 +326,25 @@ impl Node {
     fn settle(
         &mut self,
         alloc: Global,
-        c: &Arc<Compiled>,
+        planner: &mut Planner,
         mode: Mode,
         states: Vec<Option<Database>>,
     ) -> Result<(), Memory>
-        requires work { self.old.site.work ≡ c.now.value }
-        requires accepted { IsAccepted (plain_workload c.now.value) }
+        requires work { self.old.site.work ≡ planner.old }
+        requires accepted { IsAccepted (plain_workload planner.old) }
         requires base { self.old.base.items ≡ self.old.site.state.base }
-        requires own { self.old.site.state.number < sites_of (plain_workload c.now.value) }
+        requires own { self.old.site.state.number < sites_of (plain_workload planner.old) }
         requires round { self.old.site.state.round < 2 ^ 63 }
-        requires can { CanSettle (plain_workload c.now.value) (plain_node self.old).journal mode (map plain_state states.items) }
-        ensures node { OnOk result (plain_node self.new ≡ settled (plain_workload c.now.value)
+        requires can { CanSettle (plain_workload planner.old) (plain_node self.old).journal mode (map plain_state states.items) }
+        ensures node { OnOk result (plain_node self.new ≡ settled (plain_workload planner.old)
             (placed (plain_node self.old) mode (map plain_state states.items))) }
         ensures unchanged { OnErr result (plain_node self.new ≡ plain_node self.old) }
         ensures work { self.new.site.work ≡ self.old.site.work }
         ensures base { self.new.base.items ≡ self.new.site.state.base }
+        ensures planner { planner.new ≡ planner.old }
     {
         match mode {
-            Mode::Stopped(b) => match close(alloc, c, self, b, states.as_slice())? {
+            Mode::Stopped(b) => match close(alloc, planner, self, b, states.as_slice())? {
                 Some(next) => {
                     self.left.reserve(1)?;
                     self.go_on(b, next);

@@ -23,6 +23,7 @@ use crate::breach::Mode;
 use crate::events::{Event, Packet, Step};
 use crate::history::{history_of, last_round};
 use crate::node::Node;
+use crate::planner::Planner;
 use crate::states::{copy_values, no_states};
 use homeo_build::Compiled;
 use homeo_core::clients::{call_count, client_count, site_count, site_of};
@@ -42,7 +43,7 @@ use std::sync::Arc;
 /// this project's).
 #[derive(Drop)]
 pub struct Wire {
-    compiled: Arc<Compiled>,
+    planner: Planner,
     nodes: Vec<Node>,
     packets: List<Packet>,
 }
@@ -59,9 +60,9 @@ impl Model for Wire {
     ghost use Rattle.homeo_wire.specs.WireView.{world_of};
     ghost use Rattle.homeo_wire.specs.inner.Standing.{IsWire};
 
-    ghost view = { λ x. record { work = x.compiled.value; world = world_of x.nodes.items x.packets.items } };
+    ghost view = { λ x. record { work = x.planner; world = world_of x.nodes.items x.packets.items } };
 
-    ghost invariant = { λ x. IsWire x.compiled.value x.nodes.items x.packets.items };
+    ghost invariant = { λ x. IsWire x.planner x.nodes.items x.packets.items };
 }
 
 impl Wire {
@@ -75,7 +76,7 @@ impl Wire {
     {
         let nodes = first_nodes(alloc, &c)?;
         Ok(Wire {
-            compiled: c,
+            planner: Planner::new(c),
             nodes,
             packets: List::new(alloc),
         })
@@ -86,7 +87,7 @@ impl Wire {
         ensures work { result.now ≡ self.now.work }
         ensures accepted { IsAccepted (plain_workload self.now.work) }
     {
-        self.compiled.workload()
+        self.planner.compiled().workload()
     }
 
     /// Lets an event happen: a client that there is makes its next call, or a packet that was sent comes to a site that there is.
@@ -117,7 +118,7 @@ impl Wire {
         ensures unchanged { OnErr result (self.new ≡ self.old) }
         ensures one_base { HasOneBase self.new.world }
     {
-        let w = self.compiled.workload();
+        let w = self.planner.compiled().workload();
         let home = site_of(w, client);
         let count = call_count(w, client);
         self.nodes[home as usize].call(alloc, client, count, &mut self.packets)
@@ -133,14 +134,14 @@ impl Wire {
         ensures unchanged { OnErr result (self.new ≡ self.old) }
         ensures one_base { HasOneBase self.new.world }
     {
-        let sites = site_count(self.compiled.workload());
+        let sites = site_count(self.planner.compiled().workload());
         let sent = &self.packets.as_slice()[packet as usize];
         let node = &mut self.nodes[site as usize];
         if sent.round() != node.round() {
             return Ok(Step::Ignored);
         }
         let packet = sent.copy(alloc)?;
-        node.receive(alloc, &self.compiled, sites, packet, &mut self.packets)
+        node.receive(alloc, &mut self.planner, sites, packet, &mut self.packets)
     }
 
     /// How many packets were sent. It takes no memory.
@@ -172,7 +173,7 @@ impl Wire {
         ensures { result + slice_index_or (counts_in (plain_workload self.now.work) (history_in self.now.world).rounds) client 0
             ≡ call_count (plain_workload self.now.work) client }
     {
-        let w = self.compiled.workload();
+        let w = self.planner.compiled().workload();
         let nodes = self.nodes.as_slice();
         let counted = nodes[site_of(w, client) as usize].counted(client, last_round(nodes));
         call_count(w, client) - counted

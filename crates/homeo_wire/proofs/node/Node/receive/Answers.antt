@@ -14,7 +14,7 @@ use Rattle.homeo_wire.proofs.node.Node.receive.Goals as goal
 pub stop-requires-clause-can : goal.stop-requires-clause-can
 unfolding words
 stop-requires-clause-can c =
-    subst (CanTake (plain_workload c.args.c.now.value) (plain_node c.args.self.now)) (ap plain_packet c.in-Stop.is) c.requires.can
+    subst (CanTake (plain_workload c.args.planner.now) (plain_node c.args.self.now)) (ap plain_packet c.in-Stop.is) c.requires.can
 
 pub keep-requires-clause-kept : goal.keep-requires-clause-kept
 unfolding words
@@ -26,12 +26,12 @@ keep-requires-clause-kept c =
 pub keep-requires-clause-can : goal.keep-requires-clause-can
 unfolding words
 keep-requires-clause-can c =
-    subst (λ d. CanTake (plain_workload c.args.c.now.value) (plain_node c.args.self.now) (n.State c.in-State.round c.in-State.site d)) (sym c.as_slice.ensures) (subst (CanTake (plain_workload c.args.c.now.value) (plain_node c.args.self.now)) (ap plain_packet c.in-State.is) c.requires.can)
+    subst (λ d. CanTake (plain_workload c.args.planner.now) (plain_node c.args.self.now) (n.State c.in-State.round c.in-State.site d)) (sym c.as_slice.ensures) (subst (CanTake (plain_workload c.args.planner.now) (plain_node c.args.self.now)) (ap plain_packet c.in-State.is) c.requires.can)
 
 pub returns-in-Want-clause-reaction : goal.returns-in-Want-clause-reaction
 unfolding words
 returns-in-Want-clause-reaction c =
-    let w = plain_workload c.args.c.now.value in
+    let w = plain_workload c.args.planner.now in
     let old = plain_node c.args.self.now in
     let b : Breach = record { round = c.in-Want.round; site = c.in-Want.site; call = c.in-Want.call; broken = c.in-Want.broken } in
     subst (λ r. IfOk c.choose.result (IsReaction r c.choose.new.self c.args.packets.now.items c.choose.new.packets.items)) (ap (λ v. n.taken (plain_workload v) old (n.Want b)) c.requires.work ∙ ap (n.taken w old) (sym (ap plain_packet c.in-Want.is))) c.choose.ensures.reaction
@@ -39,14 +39,14 @@ returns-in-Want-clause-reaction c =
 pub returns-in-Stop-clause-reaction : goal.returns-in-Stop-clause-reaction
 unfolding words
 returns-in-Stop-clause-reaction c =
-    let w = plain_workload c.args.c.now.value in
+    let w = plain_workload c.args.planner.now in
     let old = plain_node c.args.self.now in
     subst (λ r. IfOk c.stop.result (IsReaction r c.stop.new.self c.args.packets.now.items c.stop.new.packets.items)) (ap (n.taken w old) (sym (ap plain_packet c.in-Stop.is))) c.stop.ensures.reaction
 
 pub returns-in-State-clause-reaction : goal.returns-in-State-clause-reaction
 unfolding words
 returns-in-State-clause-reaction c =
-    let w = plain_workload c.args.c.now.value in
+    let w = plain_workload c.args.planner.now in
     let old = plain_node c.args.self.now in
     let packet = n.State c.in-State.round c.in-State.site c.as_slice.result.now in
     let is : n.taken w old packet ≡ n.taken w old (plain_packet c.args.packet) = ap (λ d. n.taken w old (n.State c.in-State.round c.in-State.site d)) c.as_slice.ensures ∙ ap (n.taken w old) (sym (ap plain_packet c.in-State.is)) in

@@ -19,34 +19,34 @@ use Rattle.homeo_wire.proofs.wire.Wire.finish.Goals as goal
 pub history_of-requires : goal.history_of-requires
 history_of-requires c =
     let f = c.self.inside in
-    subst CanRead (sym c.as_slice.ensures.value) (can_read f.compiled.value f.nodes.items f.packets.items c.self.invariant)
+    subst CanRead (sym c.as_slice.ensures.value) (can_read f.planner f.nodes.items f.packets.items c.self.invariant)
 
 pub returns-clause-history : goal.returns-clause-history
 unfolding words
 returns-clause-history c =
     let f = c.self.inside in
-    let w = plain_workload f.compiled.value in
-    let wire : IsWire f.compiled.value f.nodes.items f.packets.items = c.self.invariant in
+    let w = plain_workload f.planner in
+    let wire : IsWire f.planner f.nodes.items f.packets.items = c.self.invariant in
     let x = world_of f.nodes.items f.packets.items in
-    let is : read.history_of (map plain_journal c.as_slice.result.now) ≡ history_in x = ap (λ xs. read.history_of (map plain_journal xs)) c.as_slice.ensures.value ∙ ap read.history_of (sym (journals_here f.compiled.value f.nodes.items f.packets.items wire)) in
+    let is : read.history_of (map plain_journal c.as_slice.result.now) ≡ history_in x = ap (λ xs. read.history_of (map plain_journal xs)) c.as_slice.ensures.value ∙ ap read.history_of (sym (journals_here f.planner f.nodes.items f.packets.items wire)) in
     IfOk-weaker c.history_of.result _ _ (λ h same. same ∙ is ∙ ap (λ (v : WireValue). history_in v.world) c.self.view_is) c.history_of.ensures
 
 pub returns-clause-legal : goal.returns-clause-legal
 unfolding words histories
 returns-clause-legal c =
     let f = c.self.inside in
-    let w = plain_workload f.compiled.value in
-    let wire : IsWire f.compiled.value f.nodes.items f.packets.items = c.self.invariant in
+    let w = plain_workload f.planner in
+    let wire : IsWire f.planner f.nodes.items f.packets.items = c.self.invariant in
     let x = world_of f.nodes.items f.packets.items in
-    let is : read.history_of (map plain_journal c.as_slice.result.now) ≡ history_in x = ap (λ xs. read.history_of (map plain_journal xs)) c.as_slice.ensures.value ∙ ap read.history_of (sym (journals_here f.compiled.value f.nodes.items f.packets.items wire)) in
-    IfOk-weaker c.history_of.result _ _ (λ h same. subst (λ (v : WireValue). IsLegal (plain_workload v.work) (counts_in (plain_workload v.work) (plain_history h).rounds) (plain_history h)) c.self.view_is (subst (λ g. IsLegal w (counts_in w g.rounds) g) (sym (same ∙ is)) (legal_here w x wire.accepted (held f.compiled.value f.nodes.items f.packets.items wire)))) c.history_of.ensures
+    let is : read.history_of (map plain_journal c.as_slice.result.now) ≡ history_in x = ap (λ xs. read.history_of (map plain_journal xs)) c.as_slice.ensures.value ∙ ap read.history_of (sym (journals_here f.planner f.nodes.items f.packets.items wire)) in
+    IfOk-weaker c.history_of.result _ _ (λ h same. subst (λ (v : WireValue). IsLegal (plain_workload v.work) (counts_in (plain_workload v.work) (plain_history h).rounds) (plain_history h)) c.self.view_is (subst (λ g. IsLegal w (counts_in w g.rounds) g) (sym (same ∙ is)) (legal_here w x wire.accepted (held f.planner f.nodes.items f.packets.items wire)))) c.history_of.ensures
 
 pub returns-clause-within : goal.returns-clause-within
 unfolding words histories
 returns-clause-within c =
     let f = c.self.inside in
-    let w = plain_workload f.compiled.value in
-    let wire : IsWire f.compiled.value f.nodes.items f.packets.items = c.self.invariant in
+    let w = plain_workload f.planner in
+    let wire : IsWire f.planner f.nodes.items f.packets.items = c.self.invariant in
     let x = world_of f.nodes.items f.packets.items in
-    let is : read.history_of (map plain_journal c.as_slice.result.now) ≡ history_in x = ap (λ xs. read.history_of (map plain_journal xs)) c.as_slice.ensures.value ∙ ap read.history_of (sym (journals_here f.compiled.value f.nodes.items f.packets.items wire)) in
-    IfOk-weaker c.history_of.result _ _ (λ h same. subst (λ (v : WireValue). IsWithin (schema_of (plain_workload v.work)) (plain_history h).last) c.self.view_is (subst (λ (g : History). IsWithin (schema_of w) g.last) (sym (same ∙ is)) (last_within w x wire.accepted (held f.compiled.value f.nodes.items f.packets.items wire)))) c.history_of.ensures
+    let is : read.history_of (map plain_journal c.as_slice.result.now) ≡ history_in x = ap (λ xs. read.history_of (map plain_journal xs)) c.as_slice.ensures.value ∙ ap read.history_of (sym (journals_here f.planner f.nodes.items f.packets.items wire)) in
+    IfOk-weaker c.history_of.result _ _ (λ h same. subst (λ (v : WireValue). IsWithin (schema_of (plain_workload v.work)) (plain_history h).last) c.self.view_is (subst (λ (g : History). IsWithin (schema_of w) g.last) (sym (same ∙ is)) (last_within w x wire.accepted (held f.planner f.nodes.items f.packets.items wire)))) c.history_of.ensures

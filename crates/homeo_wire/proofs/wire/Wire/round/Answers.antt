@@ -12,7 +12,7 @@ use Rattle.homeo_wire.proofs.wire.Wire.round.Goals as goal
 pub index-requires : goal.index-requires
 index-requires c =
     let f = c.self.inside in
-    let lt : c.args.site < length f.nodes.items = subst (λ k. c.args.site < k) (sym (count_is f.compiled.value f.nodes.items f.packets.items c.self.invariant)) (subst (λ (v : WireValue). c.args.site < sites_of (plain_workload v.work)) (sym c.self.view_is) c.requires) in
+    let lt : c.args.site < length f.nodes.items = subst (λ k. c.args.site < k) (sym (count_is f.planner f.nodes.items f.packets.items c.self.invariant)) (subst (λ (v : WireValue). c.args.site < sites_of (plain_workload v.work)) (sym c.self.view_is) c.requires) in
     let ok = f.nodes.ok.0 in
     omega (arith, lt, ok)
 
@@ -20,7 +20,7 @@ pub returns : goal.returns
 unfolding words
 returns c = λ m there.
     let f = c.self.inside in
-    let lt : c.args.site < length f.nodes.items = subst (λ k. c.args.site < k) (sym (count_is f.compiled.value f.nodes.items f.packets.items c.self.invariant)) (subst (λ (v : WireValue). c.args.site < sites_of (plain_workload v.work)) (sym c.self.view_is) c.requires) in
+    let lt : c.args.site < length f.nodes.items = subst (λ k. c.args.site < k) (sym (count_is f.planner f.nodes.items f.packets.items c.self.invariant)) (subst (λ (v : WireValue). c.args.site < sites_of (plain_workload v.work)) (sym c.self.view_is) c.requires) in
     let p = c.index.result.now in
     let here : slice_get f.nodes.items c.args.site ≡ Some p = slice_get_read f.nodes.items _ c.args.site p refl lt c.index.ensures in
     let is : plain_node p ≡ m = read_at f.nodes.items f.packets.items c.args.site p m here (subst (λ (v : WireValue). slice_get v.world.nodes c.args.site ≡ Some m) (sym c.self.view_is) there) in

@@ -1,0 +1,89 @@
+//! The starts of sites in the rounds that they go on to.
+
+ghost use Rattle.std.specs.Prelude.{◌≡◌, ◌<◌, IfOk};
+ghost use Rattle.homeo_syntax.specs.SourceView.{plain_workload};
+ghost use Rattle.homeo_meaning.specs.Bounds.{IsWithin};
+ghost use Rattle.homeo_meaning.specs.Schema.{schema_of};
+ghost use Rattle.homeo_plan.specs.Planned.{sites_of};
+
+use homeo_build::Compiled;
+use homeo_core::plan_at;
+use homeo_meaning::Database;
+use homeo_plan::RoundPlan;
+use homeo_site::SiteStart;
+use homeo_syntax::Memory;
+use std::alloc::Global;
+use std::marker::Model;
+use std::sync::Arc;
+
+/// A workload with the plan that was made last for one of its rounds. All nodes that go on to a round have one base, so the plan
+/// that the first of them makes serves the others.
+#[derive(Drop)]
+pub(crate) struct Planner {
+    compiled: Arc<Compiled>,
+    last: Option<Arc<RoundPlan>>,
+}
+
+impl Model for Planner {
+    ghost use Rattle.std.specs.Prelude.{IfSome};
+    ghost use Rattle.homeo_syntax.specs.declared.workload.Workload.{Workload};
+    ghost use Rattle.homeo_syntax.specs.contracts.workload.Workload.{the_row};
+    ghost use Rattle.homeo_syntax.specs.SourceView.{plain_workload};
+    ghost use Rattle.homeo_wire.specs.inner.Planning.{IsPlan};
+
+    ghost Value = { Workload };
+
+    ghost coded = { the_row.coded };
+
+    ghost view = { λ p. p.compiled.value };
+
+    ghost invariant = { λ p. IfSome p.last (λ plan. IsPlan (plain_workload p.compiled.value) plan.value) };
+}
+
+impl Planner {
+    /// A planner that has made no plan. It takes no memory.
+    pub(crate) fn new(compiled: Arc<Compiled>) -> Planner
+        ensures { result ≡ compiled.value }
+    {
+        Planner {
+            compiled,
+            last: None,
+        }
+    }
+
+    /// Lends the workload with what is fixed for all its rounds.
+    pub(crate) fn compiled(&self) -> &Compiled
+        ensures { result.now ≡ self.now }
+    {
+        &self.compiled
+    }
+
+    /// The start of a site in the round of this number, which begins at a base within the workload's bounds. The plan is made where
+    /// the one made last is of another base.
+    ///
+    /// # Errors
+    ///
+    /// `Memory` when out of memory.
+    pub(crate) fn start(
+        &mut self,
+        alloc: Global,
+        base: &Database,
+        site: u32,
+        round: u64,
+    ) -> Result<SiteStart, Memory>
+        requires within { IsWithin (schema_of (plain_workload self.old)) base.now.items }
+        requires site { site < sites_of (plain_workload self.old) }
+        ensures start { IfOk result (λ s. s ≡ record { work = self.old; number = site; round = round; base = base.now.items }) }
+        ensures planner { self.new ≡ self.old }
+    {
+        if let Some(plan) = &self.last {
+            if plan.base.as_slice() == base.as_slice() {
+                return SiteStart::new(alloc, &self.compiled, plan, site, round);
+            }
+        }
+        let plan = plan_at(alloc, &self.compiled, base)?;
+        let start = SiteStart::new(alloc, &self.compiled, &plan, site, round)?;
+        self.last = Some(plan);
+        Ok(start)
+    }
+}
