@@ -4,7 +4,7 @@ use Rattle.homeo_syntax.specs.LowView.{plain_lcommand}
 use Rattle.homeo_plan.specs.PlanView.{plain_clause}
 use Rattle.homeo_cert.specs.Certificate as spec
 use Rattle.homeo_cert.specs.declared.calls.Call.{Call}
-use Rattle.homeo_cert.specs.declared.certificate.Certificate.{Certificate}
+use Rattle.homeo_cert.specs.declared.reading.Certificate.{Certificate}
 
 abbrev pub plain_call : Call → spec.Call
 plain_call c = record { site = c.site; command = plain_lcommand c.command }

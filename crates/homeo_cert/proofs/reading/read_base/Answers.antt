@@ -6,7 +6,7 @@ use Rattle.homeo_cert.specs.Json.{wholes_data}
 use Rattle.homeo_cert.specs.Shape.{IsWord}
 use Rattle.homeo_cert.proofs.OneCertificate.{same_wholes}
 use Rattle.homeo_cert.proofs.ReadLists.{read_some}
-use Rattle.homeo_cert.proofs.certificate.read_base.Goals as goal
+use Rattle.homeo_cert.proofs.reading.read_base.Goals as goal
 
 pub returns-then-len-gt1024 : goal.returns-then-len-gt1024
 returns-then-len-gt1024 c = λ ns is e.

@@ -11,7 +11,7 @@ use Rattle.homeo_cert.specs.Text.{clause_data}
 use Rattle.homeo_cert.specs.inner.Reading.{IsBase}
 use Rattle.homeo_cert.proofs.CertificatesRead.{no_clauses, no_freezes, no_calls, no_rows}
 use Rattle.homeo_cert.proofs.ReadLists.{row, read_some, read_none}
-use Rattle.homeo_cert.proofs.certificate.read_certificate.Goals as goal
+use Rattle.homeo_cert.proofs.reading.read_certificate.Goals as goal
 
 pub returns-in_default-3 : goal.returns-in_default-3
 returns-in_default-3 c =
