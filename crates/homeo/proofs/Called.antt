@@ -13,6 +13,8 @@ few_calls words c.Tables said = tt
 few_calls words c.Treaty said = tt
 few_calls words c.Serve said = tt
 few_calls words c.Forecast said = tt
+few_calls words c.Certify said = tt
+few_calls words c.Verify said = tt
 few_calls words (c.Wire number) said = tt
 few_calls words (c.Load number calls) said = said.calls_are.to_most
 

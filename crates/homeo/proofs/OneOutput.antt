@@ -20,6 +20,8 @@ use Rattle.homeo_words.specs.Command.{Say}
 use Rattle.homeo_words.specs.declared.command.Command.{Command}
 use Rattle.homeo_words.specs.declared.command.Command.TheVariants as c
 use Rattle.homeo_words.proofs.OneCommand.{one_command}
+use Rattle.homeo_cert.proofs.OneVerdict.{one_verdict}
+use Rattle.homeo.specs.Certified.{unended, verdict_text, IsCertificateLine, IsVerdictLine}
 use Rattle.homeo.specs.Laws.{OneOutput}
 use Rattle.homeo.specs.Outcome.{IsMade, IsScheduledReport, OfStream, OfText}
 use Rattle.homeo.specs.Wired.{IsWireReport}
@@ -48,6 +50,14 @@ one_of_stream bytes output output' o o' =
     let same : o'.bytes ≡ o.bytes = sym (told_is_given (Some bytes) (Some []) bytes o'.bytes refl o'.read) ∙ told_is_given (Some bytes) (Some []) bytes o.bytes refl o.read in
     one_served o.bytes output output' o.holds (subst (λ x. IsServed x output') same o'.holds)
 
+-- bytes have one verdict, and a verdict one line
+one_verdict_line : (bytes output output' : List ℕ) → OfStream (Some bytes) (Some []) (λ given. IsVerdictLine given output) → OfStream (Some bytes) (Some []) (λ given. IsVerdictLine given output') → output ≡ output'
+one_verdict_line bytes output output' o o' =
+    let same : o'.bytes ≡ o.bytes = sym (told_is_given (Some bytes) (Some []) bytes o'.bytes refl o'.read) ∙ told_is_given (Some bytes) (Some []) bytes o.bytes refl o.read in
+    let line = o.holds in
+    let line' = subst (λ x. IsVerdictLine x output') same o'.holds in
+    line.line ∙ ap verdict_text (one_verdict (unended o.bytes) line.verdict line'.verdict line.on_bytes line'.on_bytes) ∙ sym line'.line
+
 one_made : (command : Command) (bytes output output' : List ℕ) → (command ≡ c.Run → ⊥) → IsMade command (Some bytes) (Some []) output → IsMade command (Some bytes) (Some []) output' → output ≡ output'
 one_made c.Steps bytes output output' other o o' = one_of_text purpose.Steps bytes output output' (λ w x. IsScheduledReport w x) (λ w r r'. one_report w output output' r r') o o'
 one_made c.Run bytes output output' other o o' = absurd (other refl)
@@ -57,6 +67,8 @@ one_made c.Serve bytes output output' other o o' = one_of_stream bytes output ou
 one_made c.Forecast bytes output output' other o o' =
     one_of_text purpose.Steps bytes output output' (λ w x. IsForecastText w (initial w) (scheduled_calls w) x)
     (λ w is is'. one_forecast_text w (initial w) (scheduled_calls w) output output' is is') o o'
+one_made c.Certify bytes output output' other o o' = one_of_text purpose.Treaty bytes output output' (λ w x. IsCertificateLine w x) (λ w is is'. is.line ∙ sym is'.line) o o'
+one_made c.Verify bytes output output' other o o' = one_verdict_line bytes output output' o o'
 one_made (c.Wire number) bytes output output' other o o' = one_of_text purpose.Run bytes output output' (λ w x. IsWireReport w number x) (λ w r r'. r.reported ∙ sym r'.reported) o o'
 one_made (c.Load number calls) bytes output output' other o o' = o.determined ∙ sym o'.determined
 

@@ -1,5 +1,5 @@
 -- What holds of a text and its workload under a command holds of the command.
-use Rattle.std.proofs.Common.{◌≡◌, ◌≢◌, ◌+◌, ◌∙◌, ℕ, List, refl, sym, subst, arith, inl, inr}
+use Rattle.std.proofs.Common.{◌≡◌, ◌≢◌, ◌+◌, ◌∙◌, ℕ, List, refl, sym, subst, arith, inr}
 use Rattle.std.specs.declared.option.Option.{Option}
 use Rattle.homeo_syntax.specs.declared.workload.Refusal.{Refusal}
 use Rattle.homeo_syntax.specs.Source as s
@@ -12,16 +12,18 @@ use Rattle.homeo.specs.Outcome.{IsMade, IsRefusal, IsRefusedUnder, OfText}
 use Rattle.homeo.specs.inner.Texts.{Excludes, IsOnText, Makes, purpose_of}
 use Rattle.homeo.proofs.Decided.{told_is_given}
 
--- the commands but two read a text
-pub on_text : (command : Command) → command ≢ c.Serve → ((number calls : ℕ) → command ≢ c.Load number calls) → IsOnText command
-on_text c.Steps no_serve no_load = tt
-on_text c.Run no_serve no_load = tt
-on_text c.Tables no_serve no_load = tt
-on_text c.Treaty no_serve no_load = tt
-on_text c.Serve no_serve no_load = absurd (no_serve refl)
-on_text c.Forecast no_serve no_load = tt
-on_text (c.Wire number) no_serve no_load = tt
-on_text (c.Load number calls) no_serve no_load = absurd (no_load number calls refl)
+-- the commands but three read a text
+pub on_text : (command : Command) → command ≢ c.Serve → command ≢ c.Verify → ((number calls : ℕ) → command ≢ c.Load number calls) → IsOnText command
+on_text c.Steps no_serve no_verify no_load = tt
+on_text c.Run no_serve no_verify no_load = tt
+on_text c.Tables no_serve no_verify no_load = tt
+on_text c.Treaty no_serve no_verify no_load = tt
+on_text c.Serve no_serve no_verify no_load = absurd (no_serve refl)
+on_text c.Forecast no_serve no_verify no_load = tt
+on_text c.Certify no_serve no_verify no_load = tt
+on_text c.Verify no_serve no_verify no_load = absurd (no_verify refl)
+on_text (c.Wire number) no_serve no_verify no_load = tt
+on_text (c.Load number calls) no_serve no_verify no_load = absurd (no_load number calls refl)
 
 pub read_text : (command : Command) → IsOnText command → most_read command ≡ text_limit + 1
 read_text c.Steps on = refl
@@ -30,6 +32,8 @@ read_text c.Tables on = refl
 read_text c.Treaty on = refl
 read_text c.Serve on = absurd on
 read_text c.Forecast on = refl
+read_text c.Certify on = refl
+read_text c.Verify on = absurd on
 read_text (c.Wire number) on = refl
 read_text (c.Load number calls) on = absurd on
 
@@ -46,6 +50,8 @@ made_of_text c.Tables left left' output on o = o
 made_of_text c.Treaty left left' output on o = o
 made_of_text c.Serve left left' output on o = absurd on
 made_of_text c.Forecast left left' output on o = o
+made_of_text c.Certify left left' output on o = o
+made_of_text c.Verify left left' output on o = absurd on
 made_of_text (c.Wire number) left left' output on o = o
 made_of_text (c.Load number calls) left left' output on o = absurd on
 
@@ -56,6 +62,8 @@ excluded_as_text c.Tables text w r accepted excluded = absurd excluded
 excluded_as_text c.Treaty text w r accepted excluded = absurd excluded
 excluded_as_text c.Serve text w r accepted excluded = absurd excluded
 excluded_as_text c.Forecast text w r accepted excluded = absurd excluded
+excluded_as_text c.Certify text w r accepted excluded = inr (record { workload = w; accepted = accepted; uncertified = excluded })
+excluded_as_text c.Verify text w r accepted excluded = absurd excluded
 excluded_as_text (c.Wire number) text w r accepted excluded = inr (record { workload = w; accepted = accepted; excess_is = excluded })
 excluded_as_text (c.Load number calls) text w r accepted excluded = absurd excluded
 

@@ -4,7 +4,8 @@ use Rattle.homeo_meaning.specs.Verdict.{text_limit}
 use Rattle.homeo_session.specs.Streams.{stream_limit}
 use Rattle.homeo_words.specs.Command.{Say}
 use Rattle.homeo_words.specs.declared.command.Command.{Command}
-use Rattle.homeo_words.specs.declared.command.Command.TheVariants.{Steps, Run, Tables, Treaty, Serve, Forecast, Wire, Load}
+use Rattle.homeo_words.specs.declared.command.Command.TheVariants.{Steps, Run, Tables, Treaty, Serve, Forecast, Certify, Verify, Wire, Load}
+use Rattle.homeo.specs.Certified.{certificate_limit}
 use Rattle.homeo.specs.declared.status.Status.{Status}
 use Rattle.homeo.specs.declared.status.Status.TheVariants.{Done, Usage, Refused, Memory, ReadFault, WriteFault}
 
@@ -21,6 +22,8 @@ most_read Tables = text_limit + 1
 most_read Treaty = text_limit + 1
 most_read Serve = stream_limit + piece_limit
 most_read Forecast = text_limit + 1
+most_read Certify = text_limit + 1
+most_read Verify = certificate_limit + 2
 most_read (Wire number) = text_limit + 1
 most_read (Load number calls) = 0
 
@@ -31,7 +34,7 @@ ReadNothing words = (c : Command) → Say words c → most_read c ≡ 0
 -- the line of a status; that of a refusal has more to say
 abbrev pub line_of : Status → List ℕ
 line_of Done = []
-line_of Usage = codes "usage: homeo steps or run or tables or treaty or serve or forecast or wire NUMBER or load NUMBER CALLS\n"
+line_of Usage = codes "usage: homeo steps or run or tables or treaty or serve or forecast or certify or verify or wire NUMBER or load NUMBER CALLS\n"
 line_of Refused = []
 line_of Memory = codes "out of memory\n"
 line_of ReadFault = codes "read fault\n"

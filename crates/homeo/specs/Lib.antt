@@ -1,3 +1,4 @@
+pub mod Certified
 pub mod Command
 pub mod Laws
 pub mod Outcome

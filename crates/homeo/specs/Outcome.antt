@@ -26,7 +26,8 @@ use Rattle.homeo_load.specs.Load.{load_workload}
 use Rattle.homeo_load.specs.Output.{load_summary}
 use Rattle.homeo_words.specs.Command.{Say}
 use Rattle.homeo_words.specs.declared.command.Command.{Command}
-use Rattle.homeo_words.specs.declared.command.Command.TheVariants.{Steps, Run, Tables, Treaty, Serve, Forecast, Wire, Load}
+use Rattle.homeo_words.specs.declared.command.Command.TheVariants.{Steps, Run, Tables, Treaty, Serve, Forecast, Certify, Verify, Wire, Load}
+use Rattle.homeo.specs.Certified.{certificate_limit, first_certificate, unended, IsCertificateLine, IsUncertified, IsUnverified, IsVerdictLine}
 use Rattle.homeo.specs.Command.{most_read}
 use Rattle.homeo.specs.Wired.{HasExcess, IsWireReport}
 
@@ -73,10 +74,18 @@ IsMade Tables left left' output = OfText purpose.Tables left left' (λ w. output
 IsMade Treaty left left' output = OfText purpose.Treaty left left' (λ w. output ≡ treaty_text w)
 IsMade Serve left left' output = OfStream left left' (λ bytes. IsServed bytes output)
 IsMade Forecast left left' output = OfText purpose.Steps left left' (λ w. IsForecastText w (initial w) (scheduled_calls w) output)
+IsMade Certify left left' output = OfText purpose.Treaty left left' (λ w. IsCertificateLine w output)
+IsMade Verify left left' output = OfStream left left' (λ bytes. IsVerdictLine bytes output)
 IsMade (Wire number) left left' output = OfText purpose.Run left left' (λ w. IsWireReport w number output)
 IsMade (Load number calls) left left' output = IsLoadOutput number calls output
 
 -- ---- what is refused under a command, and what can be done, a line for each
+-- an accepted text whose certificate is too long
+pub record HasLongCertificate (text : List ℕ) (r : Refusal) : Type 0 where
+  pub workload : s.Workload
+  pub accepted : Accepts text purpose.Treaty workload
+  pub uncertified : IsUncertified workload r
+
 -- these bytes are refused so under a command
 abbrev pub IsRefusal : Command → List ℕ → Refusal → Type 0
 IsRefusal Steps text r = IsRefused text purpose.Steps r
@@ -85,6 +94,8 @@ IsRefusal Tables text r = IsRefused text purpose.Tables r
 IsRefusal Treaty text r = IsRefused text purpose.Treaty r
 IsRefusal Serve bytes r = (out : List ℕ) × Stops bytes out r
 IsRefusal Forecast text r = IsRefused text purpose.Steps r
+IsRefusal Certify text r = IsRefused text purpose.Treaty r ⊎ HasLongCertificate text r
+IsRefusal Verify bytes r = IsUnverified bytes r
 IsRefusal (Wire number) text r = IsRefused text purpose.Run r ⊎ HasExcess text r
 IsRefusal (Load number calls) bytes r = ⊥
 
@@ -100,6 +111,15 @@ TellsStream left = (bytes : List ℕ) × (left ≡ Some bytes) × ((out : List �
 abbrev pub TellsFewCalls : Option (List ℕ) → Type 0
 TellsFewCalls left = (text : List ℕ) × (w : s.Workload) × (left ≡ Some text) × Accepts text purpose.Run w × (length (calls_in w) ≤ 200)
 
+-- the source tells a text that is accepted and whose certificate is short enough
+abbrev pub TellsCertified : Option (List ℕ) → Type 0
+TellsCertified left =
+    (text : List ℕ) × (w : s.Workload) × (left ≡ Some text) × Accepts text purpose.Treaty w × (length (first_certificate w) ≤ certificate_limit)
+
+-- the source tells so few bytes as a certificate may have
+abbrev pub TellsFewBytes : Option (List ℕ) → Type 0
+TellsFewBytes left = (bytes : List ℕ) × (left ≡ Some bytes) × (length (unended bytes) ≤ certificate_limit)
+
 -- what the source tells can be done under a command
 abbrev pub CanBeDone : Command → Option (List ℕ) → Type 0
 CanBeDone Steps left = TellsText purpose.Steps left
@@ -108,6 +128,8 @@ CanBeDone Tables left = TellsText purpose.Tables left
 CanBeDone Treaty left = TellsText purpose.Treaty left
 CanBeDone Serve left = TellsStream left
 CanBeDone Forecast left = TellsText purpose.Steps left
+CanBeDone Certify left = TellsCertified left
+CanBeDone Verify left = TellsFewBytes left
 CanBeDone (Wire number) left = TellsFewCalls left
 CanBeDone (Load number calls) left = ⊤
 

@@ -1,6 +1,7 @@
 //! The top call: a text is read, checked, run and answered by a report.
 #![tactic(auto)]
 
+mod certify;
 mod clients;
 pub mod laws;
 mod load;
@@ -11,6 +12,7 @@ mod stop;
 mod tables;
 mod top;
 mod treaty;
+mod verify;
 mod wire;
 
 pub use status::Status;

@@ -15,11 +15,13 @@ ghost use Rattle.homeo.specs.Outcome.{IsMade, IsRefusedUnder, IsReport, IsSchedu
 ghost use Rattle.homeo.specs.inner.Called.{HasFewCalls};
 ghost use Rattle.homeo.specs.inner.Texts.{Excludes, IsOnText, Makes, purpose_of};
 
+use crate::certify::certify;
 use crate::clients::clients;
 use crate::load::load;
 use crate::stop::Stop;
 use crate::tables::tables;
 use crate::treaty::treaty;
+use crate::verify::verdict;
 use crate::wire::wire;
 use homeo_accept::{TextRefusal, accepted};
 use homeo_build::compile::compile;
@@ -64,6 +66,7 @@ pub(crate) fn output_of<R: Threads + Wait + Sync, S: Source, G: Gate>(
 {
     match command {
         Command::Serve => unreachable!(),
+        Command::Verify => verdict(alloc, source),
         Command::Load { number, calls } => Ok(load(rt, alloc, number, calls, gate)?),
         _ => {
             let w = text_of(alloc, source, purpose_of(command))?;
@@ -81,8 +84,8 @@ fn purpose_of(command: Command) -> Purpose
         Command::Steps | Command::Forecast => Purpose::Steps,
         Command::Run | Command::Wire { .. } => Purpose::Run,
         Command::Tables => Purpose::Tables,
-        Command::Treaty => Purpose::Treaty,
-        Command::Serve | Command::Load { .. } => unreachable!(),
+        Command::Treaty | Command::Certify => Purpose::Treaty,
+        Command::Serve | Command::Verify | Command::Load { .. } => unreachable!(),
     }
 }
 
@@ -107,8 +110,9 @@ fn made_of<R: Threads + Wait + Sync, G: Gate>(
         Command::Tables => Ok(tables(alloc, w)?),
         Command::Treaty => Ok(treaty(alloc, w)?),
         Command::Forecast => Ok(scheduled_forecast(alloc, w)?),
+        Command::Certify => certify(alloc, w),
         Command::Wire { number } => wire(alloc, w, number),
-        Command::Serve | Command::Load { .. } => unreachable!(),
+        Command::Serve | Command::Verify | Command::Load { .. } => unreachable!(),
     }
 }
 

@@ -5,7 +5,7 @@ ghost use Rattle.homeo.specs.Command.{number_of};
 
 /// What is said of words that are no command.
 pub const USAGE_LINE: &str =
-    "usage: homeo steps or run or tables or treaty or serve or forecast or wire NUMBER or load NUMBER CALLS\n";
+    "usage: homeo steps or run or tables or treaty or serve or forecast or certify or verify or wire NUMBER or load NUMBER CALLS\n";
 
 /// What is said where memory is wanting.
 pub const MEMORY_LINE: &str = "out of memory\n";

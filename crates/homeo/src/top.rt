@@ -35,6 +35,8 @@ use std::thread::Threads;
 /// - `serve` takes a stream's first frame as its head and each further one as a batch of calls, whose report it writes before it
 ///   reads on;
 /// - `forecast` writes how far the calls of a text go in the order of its schedule without a cleanup, and what stops the next one;
+/// - `certify` writes the certificate of the treaties at a text's initial database, and a newline;
+/// - `verify` writes the verdict on a certificate;
 /// - `wire NUMBER` runs the calls of a text at nodes that send each other packets, by the events that the number chooses, and writes
 ///   the report of the calls that were made;
 /// - `load NUMBER CALLS` reads nothing. It makes a workload of so many calls from the number, runs it as `run` does, and writes its

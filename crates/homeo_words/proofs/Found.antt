@@ -7,11 +7,11 @@ use Rattle.clap.specs.declared.parser.matches.ArgMatches.{ArgMatches}
 use Rattle.clap.specs.declared.parser.matches.Found.{Found}
 use Rattle.clap.proofs.WalkLemmas.{first_value-rows}
 use Rattle.homeo_words.specs.declared.command.Command.{Command}
-use Rattle.homeo_words.specs.declared.command.Command.TheVariants.{Steps, Run, Tables, Treaty, Serve, Forecast, Wire, Load}
+use Rattle.homeo_words.specs.declared.command.Command.TheVariants.{Steps, Run, Tables, Treaty, Serve, Forecast, Certify, Verify, Wire, Load}
 use Rattle.homeo_words.specs.inner.App.{homeo}
 use Rattle.homeo_words.specs.Command.{SayLoad, SayWire, Say}
 use Rattle.homeo_words.proofs.Loads.{load_words, wire_words, begins_with_digit}
-use Rattle.homeo_words.proofs.Taken.{name_in, value_in, TakesWord, TakesLoad, TakesWire, steps_taken, run_taken, tables_taken, treaty_taken, serve_taken, forecast_taken, wire_taken, load_taken}
+use Rattle.homeo_words.proofs.Taken.{name_in, value_in, TakesWord, TakesLoad, TakesWire, steps_taken, run_taken, tables_taken, treaty_taken, serve_taken, forecast_taken, certify_taken, verify_taken, wire_taken, load_taken}
 
 -- one word that is no `load` and no `wire`, the two words of a wire, or the three words of a load
 pub record IsOneWord (words : List Text) : Type 0 where
@@ -64,6 +64,8 @@ all_taken words Tables said = inl (record { word = codes "tables"; words_are = s
 all_taken words Treaty said = inl (record { word = codes "treaty"; words_are = sym said; taken = treaty_taken; no_load = λ e. cc; no_wire = λ e. cc })
 all_taken words Serve said = inl (record { word = codes "serve"; words_are = sym said; taken = serve_taken; no_load = λ e. cc; no_wire = λ e. cc })
 all_taken words Forecast said = inl (record { word = codes "forecast"; words_are = sym said; taken = forecast_taken; no_load = λ e. cc; no_wire = λ e. cc })
+all_taken words Certify said = inl (record { word = codes "certify"; words_are = sym said; taken = certify_taken; no_load = λ e. cc; no_wire = λ e. cc })
+all_taken words Verify said = inl (record { word = codes "verify"; words_are = sym said; taken = verify_taken; no_load = λ e. cc; no_wire = λ e. cc })
 all_taken words (Wire number) said = inr (inl (taken_wire words number said))
 all_taken words (Load number calls) said = inr (inr (taken_load words number calls said))
 

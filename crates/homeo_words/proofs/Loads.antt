@@ -5,7 +5,7 @@ use Rattle.std.specs.List.{list_all}
 use Rattle.std.proofs.lemmas.Bool.Decides.{nat_tests}
 use Rattle.homeo_syntax.specs.Lexemes.{is_digit}
 use Rattle.homeo_words.specs.declared.command.Command.{Command}
-use Rattle.homeo_words.specs.declared.command.Command.TheVariants.{Steps, Run, Tables, Treaty, Serve, Forecast, Wire, Load}
+use Rattle.homeo_words.specs.declared.command.Command.TheVariants.{Steps, Run, Tables, Treaty, Serve, Forecast, Certify, Verify, Wire, Load}
 use Rattle.homeo_words.specs.Numeral.{IsNumeral}
 use Rattle.homeo_words.specs.Command.{Say}
 
@@ -27,6 +27,8 @@ load_numbers n d Tables said = cc
 load_numbers n d Treaty said = cc
 load_numbers n d Serve said = cc
 load_numbers n d Forecast said = cc
+load_numbers n d Certify said = cc
+load_numbers n d Verify said = cc
 load_numbers n d (Wire number) said = let all = said.said in cc
 load_numbers n d (Load number calls) said =
     let all = said.said in
@@ -56,6 +58,8 @@ wire_number n Tables said = cc
 wire_number n Treaty said = cc
 wire_number n Serve said = cc
 wire_number n Forecast said = cc
+wire_number n Certify said = cc
+wire_number n Verify said = cc
 wire_number n (Wire number) said =
     let all = said.said in
     let first : said.first ≡ n = cc in

@@ -45,6 +45,14 @@ pub forecast_taken : TakesWord (codes "forecast")
 unfolding clap_on_literals
 forecast_taken = record { taken = refl; name = refl }
 
+pub certify_taken : TakesWord (codes "certify")
+unfolding clap_on_literals
+certify_taken = record { taken = refl; name = refl }
+
+pub verify_taken : TakesWord (codes "verify")
+unfolding clap_on_literals
+verify_taken = record { taken = refl; name = refl }
+
 -- ---- a wire
 by_ten : (P : ℕ → Type 0) → P 0 → P 1 → P 2 → P 3 → P 4 → P 5 → P 6 → P 7 → P 8 → P 9 → (i : ℕ) → i ≤ 9 → P i
 by_ten P a b c d e f g h i j zero l = a

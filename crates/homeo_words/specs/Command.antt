@@ -2,7 +2,7 @@
 use Rattle.std.specs.Prelude.{◌≡◌, ℕ, List, [], ◌∷◌, codes}
 use Rattle.homeo_words.specs.Numeral.{IsNumeral}
 use Rattle.homeo_words.specs.declared.command.Command.{Command}
-use Rattle.homeo_words.specs.declared.command.Command.TheVariants.{Steps, Run, Tables, Treaty, Serve, Forecast, Wire, Load}
+use Rattle.homeo_words.specs.declared.command.Command.TheVariants.{Steps, Run, Tables, Treaty, Serve, Forecast, Certify, Verify, Wire, Load}
 
 -- `load`, a number below 2 ^ 64, and how many calls, from 1 to 20,000
 pub record SayLoad (words : List (List ℕ)) (number calls : ℕ) : Type 0 where
@@ -26,6 +26,8 @@ Say words Tables = words ≡ codes "tables" ∷ []
 Say words Treaty = words ≡ codes "treaty" ∷ []
 Say words Serve = words ≡ codes "serve" ∷ []
 Say words Forecast = words ≡ codes "forecast" ∷ []
+Say words Certify = words ≡ codes "certify" ∷ []
+Say words Verify = words ≡ codes "verify" ∷ []
 Say words (Wire number) = SayWire words number
 Say words (Load number calls) = SayLoad words number calls
 

@@ -26,6 +26,10 @@ pub enum Command {
     Serve,
     /// Writes how far the calls of the schedule go from the initial database without a cleanup, and what stops the next one.
     Forecast,
+    /// Writes the certificate of the round that begins at the initial database.
+    Certify,
+    /// Writes the verdict on a certificate.
+    Verify,
     /// Runs the calls at nodes that send each other packets, by the events that a number chooses, and writes the report.
     Wire { number: u64 },
     /// Makes the load that starts at a number and has so many calls, from 1 to 20,000, runs it as `Run` does, and writes the
@@ -50,6 +54,10 @@ impl Command {
             Some(Command::Serve)
         } else if word == "forecast" {
             Some(Command::Forecast)
+        } else if word == "certify" {
+            Some(Command::Certify)
+        } else if word == "verify" {
+            Some(Command::Verify)
         } else {
             None
         }

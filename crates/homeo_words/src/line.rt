@@ -42,6 +42,8 @@ pub(crate) fn command_line<'a>(alloc: Global) -> Result<Command<'a>, Memory>
         .subcommand(Command::new(alloc, "treaty"))?
         .subcommand(Command::new(alloc, "serve"))?
         .subcommand(Command::new(alloc, "forecast"))?
+        .subcommand(Command::new(alloc, "certify"))?
+        .subcommand(Command::new(alloc, "verify"))?
         .subcommand(wire(alloc)?)?
         .subcommand(load(alloc)?)?;
     Ok(homeo)

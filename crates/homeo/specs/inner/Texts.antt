@@ -10,7 +10,8 @@ use Rattle.homeo_print.specs.Tables.{tables_text}
 use Rattle.homeo_print.specs.Treaties.{treaty_text}
 use Rattle.homeo_forecast.specs.Text.{IsForecastText}
 use Rattle.homeo_words.specs.declared.command.Command.{Command}
-use Rattle.homeo_words.specs.declared.command.Command.TheVariants.{Steps, Run, Tables, Treaty, Serve, Forecast, Wire, Load}
+use Rattle.homeo_words.specs.declared.command.Command.TheVariants.{Steps, Run, Tables, Treaty, Serve, Forecast, Certify, Verify, Wire, Load}
+use Rattle.homeo.specs.Certified.{IsCertificateLine, IsUncertified}
 use Rattle.homeo.specs.Outcome.{IsReport, IsScheduledReport}
 use Rattle.homeo.specs.Wired.{IsExcess, IsWireReport}
 
@@ -22,6 +23,8 @@ IsOnText Tables = ⊤
 IsOnText Treaty = ⊤
 IsOnText Serve = ⊥
 IsOnText Forecast = ⊤
+IsOnText Certify = ⊤
+IsOnText Verify = ⊥
 IsOnText (Wire number) = ⊤
 IsOnText (Load number calls) = ⊥
 
@@ -30,6 +33,7 @@ abbrev pub purpose_of : Command → Purpose
 purpose_of Run = purpose.Run
 purpose_of Tables = purpose.Tables
 purpose_of Treaty = purpose.Treaty
+purpose_of Certify = purpose.Treaty
 purpose_of (Wire number) = purpose.Run
 purpose_of _ = purpose.Steps
 
@@ -40,10 +44,12 @@ Makes Run w output = IsReport w output
 Makes Tables w output = output ≡ tables_text w
 Makes Treaty w output = output ≡ treaty_text w
 Makes Forecast w output = IsForecastText w (initial w) (scheduled_calls w) output
+Makes Certify w output = IsCertificateLine w output
 Makes (Wire number) w output = IsWireReport w number output
 Makes _ w output = ⊥
 
 -- a workload that is accepted for the command's purpose is refused so
 abbrev pub Excludes : Command → s.Workload → Refusal → Type 0
+Excludes Certify w r = IsUncertified w r
 Excludes (Wire number) w r = IsExcess w r
 Excludes _ w r = ⊥

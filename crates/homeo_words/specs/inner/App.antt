@@ -22,6 +22,6 @@ abbrev pub homeo : App
 homeo =
     with_subcommand
     (with_subcommand
-    (with_word (with_word (with_word (with_word (with_word (with_word empty (codes "steps")) (codes "run")) (codes "tables")) (codes "treaty")) (codes "serve")) (codes "forecast"))
+    (with_word (with_word (with_word (with_word (with_word (with_word (with_word (with_word empty (codes "steps")) (codes "run")) (codes "tables")) (codes "treaty")) (codes "serve")) (codes "forecast")) (codes "certify")) (codes "verify"))
     wire.top)
     load.top

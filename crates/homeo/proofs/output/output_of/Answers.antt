@@ -1,4 +1,4 @@
-use Rattle.std.proofs.Common.{◌≡◌, sym, subst}
+use Rattle.std.proofs.Common.{sym, subst}
 use Rattle.std.proofs.lemmas.Result.{IfOk-weaker}
 use Rattle.homeo_io.specs.Moved.{GaveAtMost}
 use Rattle.homeo_syntax.specs.SourceView.{plain_workload}
@@ -9,7 +9,7 @@ pub returns-in_ok-w-in_default : goal.returns-in_ok-w-in_default
 returns-in_ok-w-in_default g c =
     let command = c.args.command in
     let w = plain_workload c.in_ok-w-in_default.w in
-    let on = on_text command c.in_default.not-Serve c.in_default.not-Load in
+    let on = on_text command c.in_default.not-Serve c.in_default.not-Verify c.in_default.not-Load in
     let read = c.in_ok-w-in_default.ensures.read in
     record {
       made = IfOk-weaker c.made_of.result _ _ (λ bytes makes. made_of_workload command _ _ _ w bytes.items on c.purpose_of.ensures read makes) c.made_of.ensures.made;

@@ -28,7 +28,15 @@ returns c =
     ≡ with_word (with_word (with_word (with_word (with_word (with_word empty (codes "steps")) (codes "run")) (codes "tables")) (codes "treaty")) (codes "serve")) (codes "forecast") =
     c.in_ok-subcommand-6.ensures.shape (search rules)
     ∙ ap₂ with_subcommand serve_is (ap (λ (a : App). a.top) c.new-7.ensures.app) in
-    let wire_is : app_of c.in_ok-subcommand-7.field-0
-    ≡ with_subcommand (with_word (with_word (with_word (with_word (with_word (with_word empty (codes "steps")) (codes "run")) (codes "tables")) (codes "treaty")) (codes "serve")) (codes "forecast")) wire.top =
-    c.in_ok-subcommand-7.ensures.shape c.in_ok-wire.ensures.local ∙ ap₂ with_subcommand forecast_is (ap (λ (a : App). a.top) c.in_ok-wire.ensures.app) in
+    let certify_is : app_of c.in_ok-subcommand-7.field-0
+    ≡ with_word (with_word (with_word (with_word (with_word (with_word (with_word empty (codes "steps")) (codes "run")) (codes "tables")) (codes "treaty")) (codes "serve")) (codes "forecast")) (codes "certify") =
+    c.in_ok-subcommand-7.ensures.shape (search rules)
+    ∙ ap₂ with_subcommand forecast_is (ap (λ (a : App). a.top) c.new-8.ensures.app) in
+    let verify_is : app_of c.in_ok-subcommand-8.field-0
+    ≡ with_word (with_word (with_word (with_word (with_word (with_word (with_word (with_word empty (codes "steps")) (codes "run")) (codes "tables")) (codes "treaty")) (codes "serve")) (codes "forecast")) (codes "certify")) (codes "verify") =
+    c.in_ok-subcommand-8.ensures.shape (search rules)
+    ∙ ap₂ with_subcommand certify_is (ap (λ (a : App). a.top) c.new-9.ensures.app) in
+    let wire_is : app_of c.in_ok-subcommand-9.field-0
+    ≡ with_subcommand (with_word (with_word (with_word (with_word (with_word (with_word (with_word (with_word empty (codes "steps")) (codes "run")) (codes "tables")) (codes "treaty")) (codes "serve")) (codes "forecast")) (codes "certify")) (codes "verify")) wire.top =
+    c.in_ok-subcommand-9.ensures.shape c.in_ok-wire.ensures.local ∙ ap₂ with_subcommand verify_is (ap (λ (a : App). a.top) c.in_ok-wire.ensures.app) in
     c.in_ok-homeo.ensures.shape c.in_ok-load.ensures.local ∙ ap₂ with_subcommand wire_is (ap (λ (a : App). a.top) c.in_ok-load.ensures.app)
