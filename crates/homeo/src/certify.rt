@@ -1,6 +1,6 @@
 //! The certificate of a workload's first round.
 
-ghost use Rattle.std.specs.Prelude.{◌≡◌, IfOk, IsErrOf};
+ghost use Rattle.std.specs.Prelude.{◌≡◌, ◌++◌, codes, IfOk, IsErrOf};
 ghost use Rattle.homeo_syntax.specs.declared.workload.Refusal.{Refusal};
 ghost use Rattle.homeo_syntax.specs.SourceView.{plain_workload};
 ghost use Rattle.homeo.specs.Certified.{IsCertificateLine, IsUncertified};
@@ -10,7 +10,7 @@ use crate::treaty::first_plan;
 use homeo_build::compile::compile;
 use homeo_cert::{CertError, certificate};
 use homeo_meaning::Accepted;
-use homeo_syntax::Refusal;
+use homeo_syntax::{Memory, Refusal};
 use std::alloc::Global;
 
 /// What is told where a certificate is too long.
@@ -28,11 +28,16 @@ pub(crate) fn certify(alloc: Global, w: Accepted) -> Result<Vec<u8>, Stop>
     let compiled = compile(alloc, w)?;
     let plan = first_plan(alloc, &compiled)?;
     match certificate(alloc, &compiled, &plan) {
-        Ok(mut text) => {
-            text.push(b'\n')?;
-            Ok(text)
-        }
+        Ok(text) => Ok(ended(text)?),
         Err(CertError::TooLong { .. }) => Err(Stop::Refused(LONG_CERTIFICATE)),
         Err(CertError::Memory) => Err(Stop::Memory),
     }
+}
+
+/// A line of this text.
+fn ended(mut text: Vec<u8>) -> Result<Vec<u8>, Memory>
+    ensures { IfOk result (λ line. line.items ≡ text.items ++ codes "\n") }
+{
+    text.push(b'\n')?;
+    Ok(text)
 }
