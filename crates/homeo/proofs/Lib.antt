@@ -7,3 +7,4 @@ pub mod Served
 pub mod Sessions
 pub mod Tabulating
 pub mod Texts
+pub mod Verdicts

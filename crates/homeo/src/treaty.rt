@@ -5,6 +5,7 @@ ghost use Rattle.homeo_syntax.specs.SourceView.{plain_workload};
 ghost use Rattle.homeo_meaning.specs.Initial.{initial};
 ghost use Rattle.homeo_plan.specs.PlanView.{plain_template, plain_config};
 ghost use Rattle.homeo_plan.specs.Planned.{template_at, policy};
+ghost use Rattle.homeo_build.specs.Plan.{IsPlanOf};
 ghost use Rattle.homeo_print.specs.Treaties.{template_text, treaty_text};
 
 use homeo_build::Compiled;
@@ -31,6 +32,7 @@ pub(crate) fn first_plan(alloc: Global, c: &Compiled) -> Result<RoundPlan, Memor
     ensures template { IfOk result (λ p. plain_template p.template ≡
         template_at (plain_workload c.now) (initial (plain_workload c.now))) }
     ensures config { IfOk result (λ p. plain_config p.config ≡ policy (plain_workload c.now) (initial (plain_workload c.now))) }
+    ensures plan { IfOk result (IsPlanOf (plain_workload c.now) (initial (plain_workload c.now))) }
     ensures bounds { IfOk result (λ p. length (plain_config p.config) ≡ length (plain_template p.template).clauses) }
 {
     let base = initial(alloc, c.workload())?;
