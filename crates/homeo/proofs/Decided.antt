@@ -1,5 +1,5 @@
 -- What a source told is what it gave, and what is refused under a command neither is made an output of nor can be done.
-use Rattle.std.proofs.Common.{◌≡◌, ◌≤◌, ◌+◌, ◌∙◌, ◌++◌, ℕ, List, [], ◌∷◌, Some, None, length, refl, sym, ap, subst, arith, append-nil, length-append, inl, inr}
+use Rattle.std.proofs.Common.{◌≡◌, ◌≤◌, ◌+◌, ◌∙◌, ◌++◌, ℕ, List, Some, None, length, refl, sym, ap, subst, arith, append-nil, length-append, inl, inr}
 use Rattle.std.specs.Prelude.{◌⊎◌}
 use Rattle.std.specs.declared.option.Option.{Option}
 use Rattle.homeo_io.specs.Moved.{Gave, GaveAll}
@@ -30,7 +30,7 @@ told_is_given (Some xs) (Some ys) text bytes e g =
     let same : xs ≡ text = cc in
     sym same ∙ g.gave ∙ ap (λ l. bytes ++ l) g.at_end ∙ append-nil bytes
 
-told_is_long : (old new : Option (List ℕ)) (text : List ℕ) (n : ℕ) → old ≡ Some text → Gave old new n → n ≤ length text
+pub told_is_long : (old new : Option (List ℕ)) (text : List ℕ) (n : ℕ) → old ≡ Some text → Gave old new n → n ≤ length text
 told_is_long None new text n e g = absurd (cc)
 told_is_long (Some xs) None text n e g = absurd g.2
 told_is_long (Some xs) (Some ys) text n e g =

@@ -70,7 +70,10 @@ fn verdict_line(alloc: Global, verdict: Verdict) -> Result<String, Memory>
         Verdict::Shape => String::from_str(alloc, "invalid shape\n")?,
         Verdict::Bounds { clause } => format!(in alloc; "invalid bounds {clause}\n")?,
         Verdict::Size { call } => format!(in alloc; "invalid size {call}\n")?,
-        Verdict::Freeze { call, delta } => format!(in alloc; "invalid freeze {call} {} {}\n", delta.object, delta.site)?,
+        Verdict::Freeze { call, delta } => format!(in alloc;
+            "invalid freeze {call} {} {}\n",
+            delta.object, delta.site
+        )?,
         Verdict::Clause { call } => format!(in alloc; "invalid clause {call}\n")?,
         Verdict::Foreign { call } => format!(in alloc; "invalid foreign {call}\n")?,
     };

@@ -1,4 +1,4 @@
-use Rattle.std.proofs.Common.{◌≡◌, sym, subst}
+use Rattle.std.proofs.Common.{sym, subst}
 use Rattle.std.proofs.lemmas.Result.{IfOk-weaker}
 use Rattle.homeo_io.specs.Moved.{GaveAtMost}
 use Rattle.homeo_syntax.specs.SourceView.{plain_workload}
