@@ -28,6 +28,7 @@ unfolding words meaning_words
 small-slack a small = omega (arith, small, abs_neg a.constant)
 
 each_set : (P : Linear → Type 0) (sets : List AtomSet) → All (λ s. Each P (plain_atoms s)) sets → Each (Each P) (map plain_atoms sets)
+unfolding words
 each_set P [] all = tt
 each_set P (s ∷ sets) all = (All-head (λ s. Each P (plain_atoms s)) s sets all, each_set P sets (All-tail (λ s. Each P (plain_atoms s)) s sets all))
 
