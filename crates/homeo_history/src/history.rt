@@ -1,12 +1,8 @@
 //! The history of a run.
 
-ghost use Rattle.std.specs.Prelude.{◌≡◌, [], map, replicate, option_map, IfOk};
-ghost use Rattle.homeo_history.specs.HistoryView.{plain_segment, plain_closing, plain_round};
-
 use homeo_meaning::{CallId, Database};
 use homeo_plan::Broken;
-use homeo_syntax::{List, Memory, Prints};
-use std::alloc::Global;
+use homeo_syntax::{List, Prints};
 
 /// A call that was made, and what it printed, in order.
 #[derive(Drop)]
@@ -43,42 +39,4 @@ pub struct Round {
 pub struct History {
     pub rounds: List<Round>,
     pub last: Database,
-}
-
-/// Segments with no entries, one for each of so many sites.
-#[tactic(auto, using(crate::proofs::HistoryViews::history_views, std::proofs::lemmas::Grind::common_steps))]
-fn empty_segments(alloc: Global, sites: usize) -> Result<List<Segment>, Memory>
-    ensures { IfOk result (λ s. map plain_segment s.items ≡ replicate sites []) }
-{
-    let mut segments = List::new(alloc);
-    for _ in 0..sites {
-        let entries = List::new(alloc);
-        segments.push(Segment { entries })?;
-    }
-    Ok(segments)
-}
-
-impl Round {
-    /// A round of so many sites in which no site made a call by itself: its closing call, if it has one, is its
-    /// only call. Fails where memory runs out.
-    #[tactic(auto, using(crate::proofs::HistoryViews::history_views))]
-    pub fn without_entries(
-        alloc: Global,
-        base: Database,
-        sites: usize,
-        closing: Option<Closing>,
-    ) -> Result<Round, Memory>
-        ensures { IfOk result (λ r. plain_round r ≡ record {
-          base = base.items;
-          segments = replicate sites [];
-          closing = option_map plain_closing closing;
-        }) }
-    {
-        let segments = empty_segments(alloc, sites)?;
-        Ok(Round {
-            base,
-            segments,
-            closing,
-        })
-    }
 }

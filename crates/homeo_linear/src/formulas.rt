@@ -7,11 +7,12 @@ ghost use Rattle.homeo_meaning.specs.Serial.{values_of};
 ghost use Rattle.homeo_meaning.specs.Small.{IsSmall};
 ghost use Rattle.homeo_plan.specs.Atoms.{true_cond};
 ghost use Rattle.homeo_plan.specs.Each.{Each};
-ghost use Rattle.homeo_plan.specs.FormSizes.{CanCond};
+ghost use Rattle.homeo_plan.specs.FormSizes.{CanCond, Numbers};
 ghost use Rattle.homeo_plan.specs.Holding.{IsOn, AtomHolds};
 ghost use Rattle.homeo_plan.specs.Linear.{base_forms};
 ghost use Rattle.homeo_plan.specs.PlanView.{plain_atoms};
 ghost use Rattle.homeo_plan.specs.Limit.{form_limit};
+ghost use Rattle.homeo_plan.specs.Tracking.{IsBelowAtBase};
 
 use crate::conditions::condition;
 use crate::standing::Standing;
@@ -35,6 +36,8 @@ pub fn atoms(alloc: Global, formula: &LCond, base: &Database) -> Result<AtomSet,
     requires holds { holds (plain_lcond formula.now) (whole (values_of base.now.items)) ≡ true }
     requires small { CanCond (IsSmall form_limit) (base_forms (values_of base.now.items)) (plain_lcond formula.now) }
     ensures atoms { IfOk result (λ a. plain_atoms a ≡ true_cond (values_of base.now.items) (plain_lcond formula.now)) }
+    ensures below { IfOk result (λ a. Each IsBelowAtBase (plain_atoms a)) }
+    ensures small { IfOk result (λ a. Each (Numbers (IsSmall form_limit)) (plain_atoms a)) }
     ensures means { IfOk result (λ a. (s : State) → IsOn (values_of base.now.items) s →
         Each (AtomHolds s) (plain_atoms a) → holds (plain_lcond formula.now) s ≡ true) }
 {

@@ -8,16 +8,6 @@ use homeo_syntax::{List, Memory};
 use std::alloc::Global;
 use std::test::Fail;
 
-#[test]
-fn a_round_has_a_segment_for_each_site(rt: HostRuntime) -> Result<(), Fail> {
-    let base = List::from_vec([7].to_vec(rt.alloc())?);
-    let round = Round::without_entries(rt.alloc(), base, 2, None)?;
-    assert_eq!(rt; round.base.as_slice(), [7].as_slice());
-    assert_eq!(rt; round.segments.as_slice().len(), 2);
-    assert!(rt; round.closing.is_none());
-    Ok(())
-}
-
 fn segment(alloc: Global, client: u32, calls: u64) -> Result<Segment, Memory> {
     let mut entries = List::new(alloc);
     for seq in 1..=calls {

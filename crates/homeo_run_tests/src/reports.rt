@@ -50,6 +50,20 @@ fn entry(alloc: Global, client: u32, prints: &[i64]) -> Result<Entry, Fail> {
     })
 }
 
+/// A round of two sites at which no call was made but the closing one.
+fn quiet(alloc: Global, closing: Option<Closing>) -> Result<Round, Fail> {
+    let mut segments = List::new(alloc);
+    for _ in 0..2 {
+        let entries = List::new(alloc);
+        segments.push(Segment { entries })?;
+    }
+    Ok(Round {
+        base: List::new(alloc),
+        segments,
+        closing,
+    })
+}
+
 /// A round that a call closes which prints these numbers, and an open one.
 fn closed_and_open(alloc: Global, prints: &[i64]) -> Result<List<Round>, Fail> {
     let closing = Closing {
@@ -62,8 +76,8 @@ fn closed_and_open(alloc: Global, prints: &[i64]) -> Result<List<Round>, Fail> {
         },
     };
     let mut rounds = List::new(alloc);
-    rounds.push(Round::without_entries(alloc, List::new(alloc), 2, Some(closing))?)?;
-    rounds.push(Round::without_entries(alloc, List::new(alloc), 2, None)?)?;
+    rounds.push(quiet(alloc, Some(closing))?)?;
+    rounds.push(quiet(alloc, None)?)?;
     Ok(rounds)
 }
 

@@ -3,4 +3,4 @@ pub mod Freezing
 pub mod Keys
 pub mod Negation
 pub mod Ordered
-pub mod SmallSlacks
+pub mod Slacks

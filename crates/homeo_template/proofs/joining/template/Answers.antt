@@ -6,7 +6,7 @@ use Rattle.homeo_plan.specs.declared.templates.FreezeSet.{FreezeSet}
 use Rattle.homeo_template.specs.InOrder.{AreInOrder}
 use Rattle.homeo_template.proofs.Appending.{template_of}
 use Rattle.homeo_template.proofs.Ordered.{put-in_order}
-use Rattle.homeo_template.proofs.SmallSlacks.{small-slacks}
+use Rattle.homeo_template.proofs.Slacks.{have-slack, small-slacks}
 use Rattle.homeo_template.proofs.joining.template.Goals as goal
 
 pub returns-clause-value : goal.returns-clause-value
@@ -14,6 +14,9 @@ returns-clause-value c = template_of _ _ _ _ c.in_ok-clauses.ensures c.in_ok-fre
 
 pub returns-clause-small : goal.returns-clause-small
 returns-clause-small c = small-slacks c.args.sets.now _ c.requires.small c.in_ok-clauses.ensures
+
+pub returns-clause-slack : goal.returns-clause-slack
+returns-clause-slack c = λ below. have-slack c.args.sets.now _ below c.in_ok-clauses.ensures
 
 pub returns-clause-order : goal.returns-clause-order
 returns-clause-order c =
