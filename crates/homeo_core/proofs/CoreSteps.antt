@@ -18,6 +18,9 @@ use Rattle.homeo_site.specs.SiteState.{SiteState, KeepsCall, step_values, step_f
 use Rattle.homeo_core.specs.CoreView.{CoreValue, CoreHolds, core_history, start_of, next_call, book_after, sites_after, answer_to, IsMade, IsStep, GoesOnBy}
 use Rattle.homeo_core.specs.Events.{OneMore, IsAfter}
 use Rattle.homeo_core.specs.Joined.{BookState, AreJoined, rounds_of, history_of}
+use Rattle.homeo_core.specs.Books.{book_of}
+use Rattle.homeo_core.specs.SiteLists.{states}
+use Rattle.homeo_core.specs.declared.steps.Core.TheInside.{Inside}
 use Rattle.homeo_core.proofs.ClosingCalls.{core_cleanup}
 use Rattle.homeo_core.proofs.Following.{follows_local, follows_cleanup}
 use Rattle.homeo_core.proofs.Joining.{joining}
@@ -58,6 +61,9 @@ module _ (w : s.Workload) (start : List ℤ) (b : BookState) (sites : List SiteS
       (goes m.site m.here (step_finding w m.site call) refl)))
 
 -- ---- the whole core
+abbrev pub core_of : Inside → CoreValue
+core_of f = record { work = f.compiled.value; book = book_of f.closed.items f.base.items; sites = states f.sites.items; counts = f.counts.items }
+
 pub record IsStepped (x : CoreValue) (client : ℕ) (a : Answer) (x' : CoreValue) : Type 0 where
   pub holds : CoreHolds x'
   pub answered : OneMore a (rounds_of x.book x.sites) (rounds_of x'.book x'.sites)
@@ -65,21 +71,21 @@ pub record IsStepped (x : CoreValue) (client : ℕ) (a : Answer) (x' : CoreValue
   pub legal : IsLegalFrom (plain_workload x.work) (start_of x.book) x'.counts (core_history x')
   pub start : start_of x'.book ≡ start_of x.book
 
-pub can_call : (x : CoreValue) (client home : ℕ) → IsClientAt (plain_workload x.work) home client → slice_index_or x.counts client 0 < call_count (plain_workload x.work) client → IsCallAt (plain_workload x.work) home (next_call x client)
+next_call_at : (x : CoreValue) (client home : ℕ) → IsClientAt (plain_workload x.work) home client → slice_index_or x.counts client 0 < call_count (plain_workload x.work) client → IsCallAt (plain_workload x.work) home (next_call x client)
 unfolding words
-can_call x client home at left = is_call_at (plain_workload x.work) home (next_call x client) at (omega arith) (omega (arith, left))
+next_call_at x client home at left = is_call_at (plain_workload x.work) home (next_call x client) at (omega arith) (omega (arith, left))
 
-abbrev pub counted : CoreValue → ℕ → BookState → List SiteState → CoreValue
+abbrev counted : CoreValue → ℕ → BookState → List SiteState → CoreValue
 unfolding words
 counted x client b' sites' = record { work = x.work; book = b'; sites = sites'; counts = slice_set x.counts client (suc (slice_index_or x.counts client 0)) }
 
-pub stepped : (x : CoreValue) (client home : ℕ) (a : Answer) (b' : BookState) (sites' : List SiteState) → CoreHolds x → client < length x.counts → IsClientAt (plain_workload x.work) home client → slice_index_or x.counts client 0 < call_count (plain_workload x.work) client → IsMade (plain_workload x.work) x.book x.sites home (next_call x client) a b' sites' → IsStepped x client a (counted x client b' sites')
+stepped : (x : CoreValue) (client home : ℕ) (a : Answer) (b' : BookState) (sites' : List SiteState) → CoreHolds x → client < length x.counts → IsClientAt (plain_workload x.work) home client → slice_index_or x.counts client 0 < call_count (plain_workload x.work) client → IsMade (plain_workload x.work) x.book x.sites home (next_call x client) a b' sites' → IsStepped x client a (counted x client b' sites')
 unfolding words
 stepped x client home a b' sites' holds lt at left made =
     let w : s.Workload = plain_workload x.work in
     let call : CallId = next_call x client in
     let n : ℕ = slice_index_or x.counts client 0 in
-    let g = made_goes w (start_of x.book) x.book x.sites home call holds.accepted holds.joined (can_call x client home at left) a b' sites' made in
+    let g = made_goes w (start_of x.book) x.book x.sites home call holds.accepted holds.joined (next_call_at x client home at left) a b' sites' made in
     let client_is : a.client ≡ client = g.client in
     let seq_is : a.seq ≡ suc n = g.seq in
     let seq_next : a.seq ≡ suc (slice_index_or x.counts a.client 0) = seq_is ∙ ap (λ c. suc (slice_index_or x.counts c 0)) (sym client_is) in
@@ -111,20 +117,28 @@ whole_slice len old new same count = subst (λ n. take n (new ++ drop (length ne
     go (x ∷ new) [] e = absurd (omega (arith, e))
     go (x ∷ new) (y ∷ old) e = ap (λ l. x ∷ l) (go new old (omega (arith, e)))
 
--- ---- a step as the code makes it: of the core as it lies in memory
-pub record IsTaken (x : CoreValue) (client home last : ℕ) (b' : BookState) (sites' : List SiteState) (x' : CoreValue) : Type 0 where
+-- ---- a step as the code makes it
+pub record IsNext (x : CoreValue) (client home last : ℕ) : Type 0 where
   pub lt : client < length x.counts
   pub last_is : last ≡ slice_index_or x.counts client 0
   pub at : IsClientAt (plain_workload x.work) home client
   pub left : slice_index_or x.counts client 0 < call_count (plain_workload x.work) client
-  pub new : x' ≡ counted x client b' sites'
 
-pub taken : (x : CoreValue) (client home last : ℕ) (a : Answer) (b' : BookState) (sites' : List SiteState) (x' : CoreValue) → CoreHolds x → IsTaken x client home last b' sites' x' → IsMade (plain_workload x.work) x.book x.sites home (record { client = client; seq = last + 1 }) a b' sites' → IsStepped x client a x' × IsStep x client a x'
+next_seq : (x : CoreValue) (client home last : ℕ) → IsNext x client home last → suc (slice_index_or x.counts client 0) ≡ last + 1
+next_seq x client home last n = let e = n.last_is in omega (arith, e)
+
+pub can_call : (x : CoreValue) (client home last : ℕ) → IsNext x client home last → IsCallAt (plain_workload x.work) home (record { client = client; seq = last + 1 })
 unfolding words
-taken x client home last a b' sites' x' holds t made =
-    let next : suc (slice_index_or x.counts client 0) ≡ last + 1 = let e = t.last_is in omega (arith, e) in
-    let made' : IsMade (plain_workload x.work) x.book x.sites home (next_call x client) a b' sites' = subst (λ n. IsMade (plain_workload x.work) x.book x.sites home (record { client = client; seq = n }) a b' sites') (sym next) made in
-    let step : IsStep x client a (counted x client b' sites') = record { home = home; at_home = t.at; made = made'; work = refl; counts = refl } in (
-      subst (IsStepped x client a) (sym t.new) (stepped x client home a b' sites' holds t.lt t.at t.left made'),
-      subst (IsStep x client a) (sym t.new) step,
+can_call x client home last n = subst (λ m. IsCallAt (plain_workload x.work) home (record { client = client; seq = m })) (next_seq x client home last n) (next_call_at x client home n.at n.left)
+
+pub taken : (x : CoreValue) (client home last : ℕ) (a : Answer) (b' : BookState) (sites' now : List SiteState) → CoreHolds x → IsNext x client home last → now ≡ sites' → IsMade (plain_workload x.work) x.book x.sites home (record { client = client; seq = last + 1 }) a b' sites' → let x' : CoreValue = record { work = x.work; book = b'; sites = now; counts = slice_set x.counts client (last + 1) } in IsStepped x client a x' × IsStep x client a x'
+unfolding words
+taken x client home last a b' sites' now holds n same made =
+    let next : suc (slice_index_or x.counts client 0) ≡ last + 1 = next_seq x client home last n in
+    let new : counted x client b' sites' ≡ record { work = x.work; book = b'; sites = now; counts = slice_set x.counts client (last + 1) } =
+    (λ j. record { work = x.work; book = b'; sites = sym same j; counts = slice_set x.counts client (next j) }) in
+    let made' : IsMade (plain_workload x.work) x.book x.sites home (next_call x client) a b' sites' = subst (λ m. IsMade (plain_workload x.work) x.book x.sites home (record { client = client; seq = m }) a b' sites') (sym next) made in
+    let step : IsStep x client a (counted x client b' sites') = record { home = home; at_home = n.at; made = made'; work = refl; counts = refl } in (
+      subst (IsStepped x client a) new (stepped x client home a b' sites' holds n.lt n.at n.left made'),
+      subst (IsStep x client a) new step,
     )

@@ -1,4 +1,4 @@
-use Rattle.std.proofs.Common.{◌≡◌, ℕ, true, [], ◌∷◌, ◌++◌, Some, length, map, take, replicate, sym, ap, subst, ◌∙◌}
+use Rattle.std.proofs.Common.{◌≡◌, true, [], ◌∷◌, ◌++◌, Some, length, map, take, replicate, sym, ap, subst, ◌∙◌}
 use Rattle.std.proofs.lemmas.List.{length-map, map-append}
 use Rattle.homeo_syntax.specs.Listed.{Listed}
 use Rattle.homeo_syntax.specs.SourceView.{plain_workload}
@@ -22,14 +22,19 @@ use Rattle.homeo_core.proofs.GatheredSites.{states_count, length_same}
 use Rattle.homeo_core.proofs.InRounds.{at_round, all_fit}
 use Rattle.homeo_core.proofs.OpenRound.{first_within, whole_within}
 use Rattle.homeo_core.proofs.rounds.close_round.Goals as goal
+use Rattle.homeo_core.proofs.rounds.close_round.Goals.{After-as_slice, After-install_all}
+
+-- as many rounds are closed as before the call
+count : (c : After-as_slice) → length c.as_slice.result.now ≡ length c.args.closed.now.items
+unfolding words
+count c = ap length (c.as_slice.ensures ∙ ap (λ (l : Listed Round). l.items) c.in_ok-reserve.ensures.ok)
 
 pub gather_all-requires-clause-at : goal.gather_all-requires-clause-at
 unfolding words
 gather_all-requires-clause-at c =
     let w = plain_workload c.args.c.now.value in
     let b : BookState = book_of c.args.closed.now.items c.args.base.now.items in
-    let same : length c.as_slice.result.now ≡ length c.args.closed.now.items = ap length (c.as_slice.ensures ∙ ap (λ (l : Listed Round). l.items) c.in_ok-reserve.ensures.ok) in
-    subst (λ n. AreAt n c.args.base.now.items (states c.args.sites.now)) (length-map c.args.closed.now.items plain_round ∙ sym same)
+    subst (λ n. AreAt n c.args.base.now.items (states c.args.sites.now)) (length-map c.args.closed.now.items plain_round ∙ sym (count (goal.at.gather_all-requires-clause-at c).After-as_slice))
     (at_round w (start_of b) b (states c.args.sites.now) c.requires.joined)
 
 pub gather_all-requires-clause-fits : goal.gather_all-requires-clause-fits
@@ -58,9 +63,8 @@ unfolding words
 install_all-requires-clause-at c =
     let w = plain_workload c.args.c.now.value in
     let b : BookState = book_of c.args.closed.now.items c.args.base.now.items in
-    let same : length c.as_slice.result.now ≡ length c.args.closed.now.items = ap length (c.as_slice.ensures ∙ ap (λ (l : Listed Round). l.items) c.in_ok-reserve.ensures.ok) in
     let round : c.in_ok-prepared.prepared.round ≡ length b.closed =
-    ap (λ (p : PreparedValue). p.round) c.in_ok-prepared.ensures ∙ ap (λ (g : GatherValue). g.round) c.in_ok-gather.ensures ∙ same ∙ sym (length-map c.args.closed.now.items plain_round) in
+    ap (λ (p : PreparedValue). p.round) c.in_ok-prepared.ensures ∙ ap (λ (g : GatherValue). g.round) c.in_ok-gather.ensures ∙ count (goal.at.install_all-requires-clause-at c).After-as_slice ∙ sym (length-map c.args.closed.now.items plain_round) in
     let base : c.in_ok-prepared.prepared.base ≡ b.base =
     ap (λ (p : PreparedValue). p.base) c.in_ok-prepared.ensures ∙ ap (λ (g : GatherValue). g.base) c.in_ok-gather.ensures in
     subst (λ n. AreAt n c.in_ok-prepared.prepared.base (states c.args.sites.now)) (sym round)
@@ -80,23 +84,28 @@ install_all-requires-clause-waiting c =
     ap (λ (p : PreparedValue). p.waiting) c.in_ok-prepared.ensures
     ∙ ap (λ n. replicate n true) (sym c.requires.joined.round.count ∙ states_count c.args.sites.now)
 
+-- ---- what it is closed by
+closing : (c : After-install_all) → c.install_all.new.prepared.closing ≡ closing_on (plain_workload c.args.c.now.value) (gathered c.args.base.now.items (states c.args.sites.now)) (site_or_zero (plain_workload c.args.c.now.value) c.args.call) c.args.call c.args.broken
+unfolding words
+closing c =
+    let w = plain_workload c.args.c.now.value in
+    ap (λ (p : PreparedValue). p.closing) c.install_all.ensures.prepared ∙ ap (λ (p : PreparedValue). p.closing) c.in_ok-prepared.ensures
+    ∙ ap (λ (g : GatherValue). closing_on w g.sum (site_or_zero w c.args.call) c.args.call c.args.broken) c.in_ok-gather.ensures
+
 pub returns-clause-book : goal.returns-clause-book
 unfolding words
 returns-clause-book c =
     let w = plain_workload c.args.c.now.value in
     let call = c.args.call in
-    let home : ℕ = site_or_zero w call in
     let b : BookState = book_of c.args.closed.now.items c.args.base.now.items in
     let sum : c.in_ok-gather.gather.sum ≡ gathered c.args.base.now.items (states c.args.sites.now) = ap (λ (g : GatherValue). g.sum) c.in_ok-gather.ensures in
     let base : c.install_all.new.prepared.base ≡ c.args.base.now.items =
     ap (λ (p : PreparedValue). p.base) c.install_all.ensures.prepared ∙ ap (λ (p : PreparedValue). p.base) c.in_ok-prepared.ensures ∙ ap (λ (g : GatherValue). g.base) c.in_ok-gather.ensures in
     let segments : c.install_all.new.prepared.segments ≡ segments_of (states c.args.sites.now) = ap (λ (p : PreparedValue). p.segments) c.install_all.ensures.prepared in
-    let closing : c.install_all.new.prepared.closing ≡ closing_on w (gathered c.args.base.now.items (states c.args.sites.now)) home call c.args.broken =
-    ap (λ (p : PreparedValue). p.closing) c.install_all.ensures.prepared ∙ ap (λ (p : PreparedValue). p.closing) c.in_ok-prepared.ensures ∙ ap (λ d. closing_on w d home call c.args.broken) sum in
     let next : c.closed-round.result.1.items ≡ (call_outcome w call (gathered c.args.base.now.items (states c.args.sites.now))).database =
     c.closed-round.ensures.next ∙ ap (λ (p : PreparedValue). p.next) c.install_all.ensures.prepared ∙ ap (λ (p : PreparedValue). p.next) c.in_ok-prepared.ensures
     ∙ ap (λ d. (call_outcome w call d).database) sum in
-    let round = c.closed-round.ensures.round ∙ (λ j. record { base = base j; segments = segments j; closing = Some (closing j) }) in
+    let round = c.closed-round.ensures.round ∙ (λ j. record { base = base j; segments = segments j; closing = Some (closing (goal.at.returns-clause-book c).After-install_all j) }) in
     let reserved : c.reserve.new.self.items ≡ c.args.closed.now.items = ap (λ (l : Listed Round). l.items) c.in_ok-reserve.ensures.ok in
     let rounds =
     ap (map plain_round) c.push_reserved.ensures
@@ -115,13 +124,6 @@ returns-clause-sites c =
 pub returns-clause-answer : goal.returns-clause-answer
 unfolding words
 returns-clause-answer c =
-    let w = plain_workload c.args.c.now.value in
-    let call = c.args.call in
-    let home : ℕ = site_or_zero w call in
-    let same : length c.as_slice.result.now ≡ length c.args.closed.now.items = ap length (c.as_slice.ensures ∙ ap (λ (l : Listed Round). l.items) c.in_ok-reserve.ensures.ok) in
     let round : c.install_all.new.prepared.round ≡ length c.args.closed.now.items =
-    ap (λ (p : PreparedValue). p.round) c.install_all.ensures.prepared ∙ ap (λ (p : PreparedValue). p.round) c.in_ok-prepared.ensures ∙ ap (λ (g : GatherValue). g.round) c.in_ok-gather.ensures ∙ same in
-    let sum : c.in_ok-gather.gather.sum ≡ gathered c.args.base.now.items (states c.args.sites.now) = ap (λ (g : GatherValue). g.sum) c.in_ok-gather.ensures in
-    let closing : c.install_all.new.prepared.closing ≡ closing_on w (gathered c.args.base.now.items (states c.args.sites.now)) home call c.args.broken =
-    ap (λ (p : PreparedValue). p.closing) c.install_all.ensures.prepared ∙ ap (λ (p : PreparedValue). p.closing) c.in_ok-prepared.ensures ∙ ap (λ d. closing_on w d home call c.args.broken) sum in
-    c.closed-round.ensures.answer ∙ (λ j. closing_answer (round j) (closing j))
+    ap (λ (p : PreparedValue). p.round) c.install_all.ensures.prepared ∙ ap (λ (p : PreparedValue). p.round) c.in_ok-prepared.ensures ∙ ap (λ (g : GatherValue). g.round) c.in_ok-gather.ensures ∙ count (goal.at.returns-clause-answer c).After-as_slice in
+    c.closed-round.ensures.answer ∙ (λ j. closing_answer (round j) (closing (goal.at.returns-clause-answer c).After-install_all j))

@@ -16,67 +16,50 @@ use Rattle.homeo_core.specs.SiteLists.{states}
 use Rattle.homeo_core.proofs.CoreStarts.{core_begins, follows_none}
 use Rattle.homeo_core.proofs.CoreSteps.{is_legal}
 use Rattle.homeo_core.proofs.steps.Core.begin_at.Goals as goal
+use Rattle.homeo_core.proofs.steps.Core.begin_at.Goals.{After-new}
+
+-- ---- the core that begins
+abbrev begun : After-new → CoreValue
+begun c = record { work = c.args.c.value; book = book_of c.new.result.items c.args.base.items; sites = states c.in_ok-sites.sites.items; counts = c.in_ok-counts.counts.items }
+
+work_is : (c : After-new) → c.workload.result.now ≡ c.args.c.value
+work_is c = c.workload.ensures ∙ c.deref-2.ensures
+
+is_begun : (c : After-new) → begun c ≡ core_at c.args.c.value c.args.base.items
+unfolding words
+is_begun c =
+    let w : Workload = c.args.c.value in
+    let closed : c.new.result.items ≡ [] = ap (λ (l : Listed Round). l.items) c.new.ensures in
+    let plan : IsPlanOf (plain_workload w) c.args.base.items c.in_ok-plan.plan.value = subst (λ (v : Workload). IsPlanOf (plain_workload v) c.args.base.items c.in_ok-plan.plan.value) c.deref.ensures c.in_ok-plan.ensures.plan in
+    let sites : states c.in_ok-sites.sites.items ≡ begun_sites (sites_of (plain_workload w)) c.args.base.items =
+    c.in_ok-sites.ensures.states ∙ (λ j. begun_sites (sites_of (plain_workload w)) (plan.base j)) in
+    let zeros : c.in_ok-counts.counts.items ≡ replicate (length (plain_workload w).clients) 0 =
+    c.in_ok-counts.ensures.counts ∙ ap (λ (v : Workload). replicate (length (plain_workload v).clients) 0) (work_is c) in
+    (λ j. record { work = w; book = book_of (closed j) c.args.base.items; sites = sites j; counts = zeros j })
+
+holds : (c : After-new) → CoreHolds (core_at c.args.c.value c.args.base.items)
+unfolding words
+holds c =
+    let accepted : IsAccepted (plain_workload c.args.c.value) = subst (λ (v : Workload). IsAccepted (plain_workload v)) (work_is c) c.in_ok-counts.ensures.accepted in
+    core_begins c.args.c.value c.args.base.items accepted c.requires.within
 
 pub invariant_of-result : goal.invariant_of-result
 unfolding words
 invariant_of-result c =
-    let w : Workload = c.args.c.value in
-    let closed : c.new.result.items ≡ [] = ap (λ (l : Listed Round). l.items) c.new.ensures in
-    let plan : IsPlanOf (plain_workload w) c.args.base.items c.in_ok-plan.plan.value = subst (λ (v : Workload). IsPlanOf (plain_workload v) c.args.base.items c.in_ok-plan.plan.value) c.deref.ensures c.in_ok-plan.ensures.plan in
-    let begun : states c.in_ok-sites.sites.items ≡ begun_sites (sites_of (plain_workload w)) c.args.base.items =
-    c.in_ok-sites.ensures.states ∙ (λ j. begun_sites (sites_of (plain_workload w)) (plan.base j)) in
-    let here : c.workload.result.now ≡ w = c.workload.ensures ∙ c.deref-2.ensures in
-    let zeros : c.in_ok-counts.counts.items ≡ replicate (length (plain_workload w).clients) 0 =
-    c.in_ok-counts.ensures.counts ∙ ap (λ (v : Workload). replicate (length (plain_workload v).clients) 0) here in
-    let x : CoreValue = record { work = w; book = book_of c.new.result.items c.args.base.items; sites = states c.in_ok-sites.sites.items; counts = c.in_ok-counts.counts.items } in
-    let same : x ≡ core_at w c.args.base.items = (λ j. record { work = w; book = book_of (closed j) c.args.base.items; sites = begun j; counts = zeros j }) in
-    let accepted : IsAccepted (plain_workload w) = subst (λ (v : Workload). IsAccepted (plain_workload v)) here c.in_ok-counts.ensures.accepted in
-    let holds : CoreHolds (core_at w c.args.base.items) = core_begins w c.args.base.items accepted c.requires.within in
-    (c.in_ok-sites.ensures.of, subst CoreHolds (sym same) holds)
+    let e = (goal.at.invariant_of-result c).After-new in
+    (c.in_ok-sites.ensures.of, subst CoreHolds (sym (is_begun e)) (holds e))
 
 pub returns-clause-core : goal.returns-clause-core
 unfolding words
-returns-clause-core c =
-    let w : Workload = c.args.c.value in
-    let closed : c.new.result.items ≡ [] = ap (λ (l : Listed Round). l.items) c.new.ensures in
-    let plan : IsPlanOf (plain_workload w) c.args.base.items c.in_ok-plan.plan.value = subst (λ (v : Workload). IsPlanOf (plain_workload v) c.args.base.items c.in_ok-plan.plan.value) c.deref.ensures c.in_ok-plan.ensures.plan in
-    let begun : states c.in_ok-sites.sites.items ≡ begun_sites (sites_of (plain_workload w)) c.args.base.items =
-    c.in_ok-sites.ensures.states ∙ (λ j. begun_sites (sites_of (plain_workload w)) (plan.base j)) in
-    let here : c.workload.result.now ≡ w = c.workload.ensures ∙ c.deref-2.ensures in
-    let zeros : c.in_ok-counts.counts.items ≡ replicate (length (plain_workload w).clients) 0 =
-    c.in_ok-counts.ensures.counts ∙ ap (λ (v : Workload). replicate (length (plain_workload v).clients) 0) here in
-    let x : CoreValue = record { work = w; book = book_of c.new.result.items c.args.base.items; sites = states c.in_ok-sites.sites.items; counts = c.in_ok-counts.counts.items } in
-    let same : x ≡ core_at w c.args.base.items = (λ j. record { work = w; book = book_of (closed j) c.args.base.items; sites = begun j; counts = zeros j }) in
-    same
+returns-clause-core c = is_begun (goal.at.returns-clause-core c).After-new
 
 pub returns-clause-legal : goal.returns-clause-legal
 unfolding words histories
 returns-clause-legal c =
-    let w : Workload = c.args.c.value in
-    let closed : c.new.result.items ≡ [] = ap (λ (l : Listed Round). l.items) c.new.ensures in
-    let plan : IsPlanOf (plain_workload w) c.args.base.items c.in_ok-plan.plan.value = subst (λ (v : Workload). IsPlanOf (plain_workload v) c.args.base.items c.in_ok-plan.plan.value) c.deref.ensures c.in_ok-plan.ensures.plan in
-    let begun : states c.in_ok-sites.sites.items ≡ begun_sites (sites_of (plain_workload w)) c.args.base.items =
-    c.in_ok-sites.ensures.states ∙ (λ j. begun_sites (sites_of (plain_workload w)) (plan.base j)) in
-    let here : c.workload.result.now ≡ w = c.workload.ensures ∙ c.deref-2.ensures in
-    let zeros : c.in_ok-counts.counts.items ≡ replicate (length (plain_workload w).clients) 0 =
-    c.in_ok-counts.ensures.counts ∙ ap (λ (v : Workload). replicate (length (plain_workload v).clients) 0) here in
-    let x : CoreValue = record { work = w; book = book_of c.new.result.items c.args.base.items; sites = states c.in_ok-sites.sites.items; counts = c.in_ok-counts.counts.items } in
-    let same : x ≡ core_at w c.args.base.items = (λ j. record { work = w; book = book_of (closed j) c.args.base.items; sites = begun j; counts = zeros j }) in
-    let accepted : IsAccepted (plain_workload w) = subst (λ (v : Workload). IsAccepted (plain_workload v)) here c.in_ok-counts.ensures.accepted in
-    let holds : CoreHolds (core_at w c.args.base.items) = core_begins w c.args.base.items accepted c.requires.within in
-    subst (λ (v : CoreValue). IsLegalFrom (plain_workload w) c.args.base.items v.counts (core_history v)) (sym same) (is_legal (core_at w c.args.base.items) holds)
+    let e = (goal.at.returns-clause-legal c).After-new in
+    subst (λ (v : CoreValue). IsLegalFrom (plain_workload c.args.c.value) c.args.base.items v.counts (core_history v)) (sym (is_begun e)) (is_legal (core_at c.args.c.value c.args.base.items) (holds e))
 
 pub returns-clause-follows : goal.returns-clause-follows
 unfolding words
 returns-clause-follows c =
-    let w : Workload = c.args.c.value in
-    let closed : c.new.result.items ≡ [] = ap (λ (l : Listed Round). l.items) c.new.ensures in
-    let plan : IsPlanOf (plain_workload w) c.args.base.items c.in_ok-plan.plan.value = subst (λ (v : Workload). IsPlanOf (plain_workload v) c.args.base.items c.in_ok-plan.plan.value) c.deref.ensures c.in_ok-plan.ensures.plan in
-    let begun : states c.in_ok-sites.sites.items ≡ begun_sites (sites_of (plain_workload w)) c.args.base.items =
-    c.in_ok-sites.ensures.states ∙ (λ j. begun_sites (sites_of (plain_workload w)) (plan.base j)) in
-    let here : c.workload.result.now ≡ w = c.workload.ensures ∙ c.deref-2.ensures in
-    let zeros : c.in_ok-counts.counts.items ≡ replicate (length (plain_workload w).clients) 0 =
-    c.in_ok-counts.ensures.counts ∙ ap (λ (v : Workload). replicate (length (plain_workload v).clients) 0) here in
-    let x : CoreValue = record { work = w; book = book_of c.new.result.items c.args.base.items; sites = states c.in_ok-sites.sites.items; counts = c.in_ok-counts.counts.items } in
-    let same : x ≡ core_at w c.args.base.items = (λ j. record { work = w; book = book_of (closed j) c.args.base.items; sites = begun j; counts = zeros j }) in
-    subst (λ (v : CoreValue). Follows (plain_workload w) (core_history v) []) (sym same) (follows_none w c.args.base.items)
+    subst (λ (v : CoreValue). Follows (plain_workload c.args.c.value) (core_history v) []) (sym (is_begun (goal.at.returns-clause-follows c).After-new)) (follows_none c.args.c.value c.args.base.items)

@@ -13,92 +13,66 @@ use Rattle.homeo_history.specs.declared.history.Round.{Round}
 use Rattle.homeo_site.specs.SiteState.{SiteState}
 use Rattle.homeo_core.specs.Key.{words}
 use Rattle.homeo_core.specs.CoreView.{CoreValue, CoreHolds, core_history, start_of}
-use Rattle.homeo_core.specs.Joined.{BookState, gathered, segments_of}
-use Rattle.homeo_core.specs.Books.{book_of}
+use Rattle.homeo_core.specs.Joined.{gathered, segments_of}
 use Rattle.homeo_core.specs.SiteLists.{states, AreAt}
-use Rattle.homeo_core.proofs.CoreSteps.{is_legal}
+use Rattle.homeo_core.proofs.CoreSteps.{core_of, is_legal}
 use Rattle.homeo_core.proofs.InRounds.{at_round, all_fit}
 use Rattle.homeo_core.proofs.OpenRound.{first_within, whole_within}
 use Rattle.homeo_core.proofs.steps.Core.finish.Goals as goal
+use Rattle.homeo_core.proofs.steps.Core.finish.Goals.{In_ok-push}
 
 pub gathered_values-requires-clause-at : goal.gathered_values-requires-clause-at
 unfolding words
 gathered_values-requires-clause-at c =
-    let f = c.self.inside in
-    let b : BookState = book_of f.closed.items f.base.items in
-    let x : CoreValue = record { work = f.compiled.value; book = b; sites = states f.sites.items; counts = f.counts.items } in
-    let w = plain_workload x.work in
+    let x : CoreValue = core_of c.self.inside in
     let holds : CoreHolds x = c.self.invariant.1 in
-    let view : x ≡ c.args.self = c.self.view_is in
-    let sites : states c.as_slice-2.result.now ≡ states f.sites.items = ap states c.as_slice-2.ensures.value in
-    let round : length b.closed ≡ length c.as_slice.result.now = length-map f.closed.items plain_round ∙ sym (ap length c.as_slice.ensures) in
-    subst (λ (l : List SiteState). AreAt (length c.as_slice.result.now) f.base.items l) (sym sites)
-    (subst (λ n. AreAt n f.base.items x.sites) round (at_round w (start_of b) b x.sites holds.joined))
+    let round : length x.book.closed ≡ length c.as_slice.result.now = length-map c.self.inside.closed.items plain_round ∙ sym (ap length c.as_slice.ensures) in
+    subst (λ (l : List SiteState). AreAt (length c.as_slice.result.now) x.book.base l) (sym (ap states c.as_slice-2.ensures.value))
+    (subst (λ n. AreAt n x.book.base x.sites) round (at_round (plain_workload x.work) (start_of x.book) x.book x.sites holds.joined))
 
 pub gathered_values-requires-clause-fits : goal.gathered_values-requires-clause-fits
 unfolding words
 gathered_values-requires-clause-fits c n =
-    let f = c.self.inside in
-    let b : BookState = book_of f.closed.items f.base.items in
-    let x : CoreValue = record { work = f.compiled.value; book = b; sites = states f.sites.items; counts = f.counts.items } in
+    let x : CoreValue = core_of c.self.inside in
     let w = plain_workload x.work in
     let holds : CoreHolds x = c.self.invariant.1 in
-    let view : x ≡ c.args.self = c.self.view_is in
-    let sites : states c.as_slice-2.result.now ≡ states f.sites.items = ap states c.as_slice-2.ensures.value in
-    subst (λ (l : List SiteState). All (FitsSigned w64) (gathered f.base.items (take n l))) (sym sites)
-    (all_fit w (gathered f.base.items (take n x.sites)) holds.accepted (first_within w (start_of b) b x.sites holds.accepted holds.joined n))
+    subst (λ (l : List SiteState). All (FitsSigned w64) (gathered x.book.base (take n l))) (sym (ap states c.as_slice-2.ensures.value))
+    (all_fit w (gathered x.book.base (take n x.sites)) holds.accepted (first_within w (start_of x.book) x.book x.sites holds.accepted holds.joined n))
+
+-- ---- the history that is handed out
+last_is : (c : In_ok-push) → c.in_ok-last.last.items ≡ gathered c.self.inside.base.items (states c.self.inside.sites.items)
+unfolding words
+last_is c = c.in_ok-last.ensures ∙ ap (gathered c.self.inside.base.items) (ap states c.as_slice-2.ensures.value)
+
+history_is : (c : In_ok-push) → plain_history (record { rounds = c.push.new.self; last = c.in_ok-last.last }) ≡ core_history (core_of c.self.inside)
+unfolding words histories
+history_is c =
+    let f = c.self.inside in
+    let rounds : c.push.new.self.items ≡ f.closed.items ++ record { base = f.base; segments = c.in_ok-segments.segments; closing = None } ∷ [] = ap (λ (l : Listed Round). l.items) c.in_ok-push.ensures.ok in
+    let segments : map plain_segment c.in_ok-segments.segments.items ≡ segments_of (states f.sites.items) = c.in_ok-segments.ensures in
+    (λ j. record {
+      rounds = (ap (map plain_round) rounds ∙ map-append plain_round f.closed.items (record { base = f.base; segments = c.in_ok-segments.segments; closing = None } ∷ []) ∙ (λ k. map plain_round f.closed.items ++ record { base = f.base.items; segments = segments k; closing = None } ∷ [])) j;
+      last = last_is c j;
+    })
 
 pub returns-clause-history : goal.returns-clause-history
 unfolding words histories
-returns-clause-history c =
-    let f = c.self.inside in
-    let b : BookState = book_of f.closed.items f.base.items in
-    let x : CoreValue = record { work = f.compiled.value; book = b; sites = states f.sites.items; counts = f.counts.items } in
-    let w = plain_workload x.work in
-    let holds : CoreHolds x = c.self.invariant.1 in
-    let view : x ≡ c.args.self = c.self.view_is in
-    let sites : states c.as_slice-2.result.now ≡ states f.sites.items = ap states c.as_slice-2.ensures.value in
-    let rounds : c.push.new.self.items ≡ f.closed.items ++ record { base = f.base; segments = c.in_ok-segments.segments; closing = None } ∷ [] = ap (λ (l : Listed Round). l.items) c.in_ok-push.ensures.ok in
-    let segments : map plain_segment c.in_ok-segments.segments.items ≡ segments_of (states f.sites.items) = c.in_ok-segments.ensures in
-    let last : c.in_ok-last.last.items ≡ gathered f.base.items (states f.sites.items) = c.in_ok-last.ensures ∙ ap (gathered f.base.items) sites in
-    let history : plain_history (record { rounds = c.push.new.self; last = c.in_ok-last.last }) ≡ core_history x =
-    (λ j. record {
-      rounds = (ap (map plain_round) rounds ∙ map-append plain_round f.closed.items (record { base = f.base; segments = c.in_ok-segments.segments; closing = None } ∷ []) ∙ (λ k. map plain_round f.closed.items ++ record { base = f.base.items; segments = segments k; closing = None } ∷ [])) j;
-      last = last j;
-    }) in
-    history ∙ ap core_history view
+returns-clause-history c = history_is (goal.at.returns-clause-history c).In_ok-push ∙ ap core_history c.self.view_is
 
 pub returns-clause-legal : goal.returns-clause-legal
 unfolding words histories
 returns-clause-legal c =
-    let f = c.self.inside in
-    let b : BookState = book_of f.closed.items f.base.items in
-    let x : CoreValue = record { work = f.compiled.value; book = b; sites = states f.sites.items; counts = f.counts.items } in
-    let w = plain_workload x.work in
-    let holds : CoreHolds x = c.self.invariant.1 in
-    let view : x ≡ c.args.self = c.self.view_is in
-    let sites : states c.as_slice-2.result.now ≡ states f.sites.items = ap states c.as_slice-2.ensures.value in
-    let rounds : c.push.new.self.items ≡ f.closed.items ++ record { base = f.base; segments = c.in_ok-segments.segments; closing = None } ∷ [] = ap (λ (l : Listed Round). l.items) c.in_ok-push.ensures.ok in
-    let segments : map plain_segment c.in_ok-segments.segments.items ≡ segments_of (states f.sites.items) = c.in_ok-segments.ensures in
-    let last : c.in_ok-last.last.items ≡ gathered f.base.items (states f.sites.items) = c.in_ok-last.ensures ∙ ap (gathered f.base.items) sites in
-    let history : plain_history (record { rounds = c.push.new.self; last = c.in_ok-last.last }) ≡ core_history x =
-    (λ j. record {
-      rounds = (ap (map plain_round) rounds ∙ map-append plain_round f.closed.items (record { base = f.base; segments = c.in_ok-segments.segments; closing = None } ∷ []) ∙ (λ k. map plain_round f.closed.items ++ record { base = f.base.items; segments = segments k; closing = None } ∷ [])) j;
-      last = last j;
-    }) in
-    subst (λ (v : CoreValue). IsLegalFrom (plain_workload v.work) (start_of v.book) v.counts (plain_history (record { rounds = c.push.new.self; last = c.in_ok-last.last }))) view
-    (subst (IsLegalFrom w (start_of b) x.counts) (sym history) (is_legal x holds))
+    let x : CoreValue = core_of c.self.inside in
+    let history = history_is (goal.at.returns-clause-legal c).In_ok-push in
+    subst (λ (v : CoreValue). IsLegalFrom (plain_workload v.work) (start_of v.book) v.counts (plain_history (record { rounds = c.push.new.self; last = c.in_ok-last.last }))) c.self.view_is
+    (subst (IsLegalFrom (plain_workload x.work) (start_of x.book) x.counts) (sym history) (is_legal x c.self.invariant.1))
 
 pub returns-clause-within : goal.returns-clause-within
 unfolding words histories
 returns-clause-within c =
-    let f = c.self.inside in
-    let b : BookState = book_of f.closed.items f.base.items in
-    let x : CoreValue = record { work = f.compiled.value; book = b; sites = states f.sites.items; counts = f.counts.items } in
+    let x : CoreValue = core_of c.self.inside in
     let w = plain_workload x.work in
     let holds : CoreHolds x = c.self.invariant.1 in
-    let view : x ≡ c.args.self = c.self.view_is in
-    let sites : states c.as_slice-2.result.now ≡ states f.sites.items = ap states c.as_slice-2.ensures.value in
-    let last : c.in_ok-last.last.items ≡ gathered f.base.items (states f.sites.items) = c.in_ok-last.ensures ∙ ap (gathered f.base.items) sites in
-    subst (λ (v : CoreValue). IsWithin (schema_of (plain_workload v.work)) c.in_ok-last.last.items) view
-    (subst (IsWithin (schema_of w)) (sym last) (whole_within w (start_of b) b x.sites holds.accepted holds.joined))
+    let last = last_is (goal.at.returns-clause-within c).In_ok-push in
+    subst (λ (v : CoreValue). IsWithin (schema_of (plain_workload v.work)) c.in_ok-last.last.items) c.self.view_is
+    (subst (IsWithin (schema_of w)) (sym last) (whole_within w (start_of x.book) x.book x.sites holds.accepted holds.joined))
