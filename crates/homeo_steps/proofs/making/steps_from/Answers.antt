@@ -20,6 +20,7 @@ use Rattle.homeo_steps.specs.inner.Stepped.{HasMade}
 use Rattle.homeo_order.proofs.Accepting.{whole_order}
 use Rattle.homeo_steps.proofs.Stepping.{none_yet, read_again, client_there, left_next, made_next, all_made, is_full, does_follow}
 use Rattle.homeo_steps.proofs.making.steps_from.Goals as goal
+use Rattle.homeo_steps.proofs.making.steps_from.Goals.{After-get, After-finish}
 
 abbrev none : Ident
 none = record { name = 0; offset = 0 }
@@ -46,77 +47,65 @@ loop-name-init c =
     none_yet c.args.c.now.value c.args.base.items c.in_ok-core.core (c.in_ok-core.ensures.core ∙ ap (λ (v : Workload). core_at v c.args.base.items) same)
     (subst (λ (v : Workload). Follows (plain_workload v) (core_history c.in_ok-core.core) []) same c.in_ok-core.ensures.follows)
 
+-- ---- the client that the next name of the schedule stands for
+abbrev name_at : After-get → Ident
+name_at c = get_or c.order-name-items.result.now c.loop-name.name-index none
+
+order_is : (c : After-get) → c.order-name-items.result.now ≡ order_of (plain_workload c.args.c.now.value).schedule
+order_is c = c.order-name-items.ensures ∙ ap (λ (v : Workload). order_of (plain_workload v).schedule) (c.workload-w.ensures.value ∙ c.workload.ensures ∙ c.deref.ensures)
+
+place_is : (c : After-get) → c.get.result ≡ place_of (client_names (plain_workload c.args.c.now.value)) (name_at c).name
+place_is c =
+    let clients : c.in_ok-clients.clients ≡ client_names (plain_workload c.args.c.now.value) =
+    c.in_ok-clients.ensures ∙ ap (λ (v : Workload). client_names (plain_workload v)) (c.workload-w.ensures.value ∙ c.workload.ensures ∙ c.deref.ensures) in
+    c.get.ensures ∙ ap (λ (ns : List ℕ). place_of ns (name_at c).name) clients
+
+whole : (c : After-get) → IsWholeOrder (plain_workload c.args.c.now.value)
+whole c = whole_order (plain_workload c.args.c.now.value) c.requires.well_formed c.requires.sound
+
+read : (c : After-get) → name_at c ≡ get_or c.order-name-items.result.now c.loop-name.name-index (name_at c)
+read c = read_again c.order-name-items.result.now c.loop-name.name-index none c.loop-name-test.true
+
+there : (c : After-get) → c.get.result < length (plain_workload c.args.c.now.value).clients
+there c =
+    client_there (plain_workload c.args.c.now.value) c.order-name-items.result.now c.loop-name.name-index (name_at c) c.get.result (whole c) (order_is c) c.loop-name-test.true (read c) (place_is c)
+
 pub overflow_cast-get : goal.overflow_cast-get
 overflow_cast-get c =
-    let w = plain_workload c.args.c.now.value in
-    let names : List Ident = c.order-name-items.result.now in
-    let i = c.loop-name.name-index in
-    let name : Ident = get_or names i none in
-    let work : c.workload-w.result.now ≡ c.args.c.now.value = c.workload-w.ensures.value ∙ c.workload.ensures ∙ c.deref.ensures in
-    let order : names ≡ order_of w.schedule = c.order-name-items.ensures ∙ ap (λ (v : Workload). order_of (plain_workload v).schedule) work in
-    let clients : c.in_ok-clients.clients ≡ client_names w = c.in_ok-clients.ensures ∙ ap (λ (v : Workload). client_names (plain_workload v)) work in
-    let place : c.get.result ≡ place_of (client_names w) name.name = c.get.ensures ∙ ap (λ (ns : List ℕ). place_of ns name.name) clients in
-    let whole : IsWholeOrder w = whole_order w c.requires.well_formed c.requires.sound in
-    let there : c.get.result < length w.clients = client_there w names i name c.get.result whole order c.loop-name-test.true (read_again names i none c.loop-name-test.true) place in
-    let few = whole.few in
-    omega (arith, there, few)
+    let e = (goal.at.overflow_cast-get c).After-get in
+    let below = there e in
+    let few = (whole e).few in
+    omega (arith, below, few)
 
 pub step-requires-clause-exists : goal.step-requires-clause-exists
 step-requires-clause-exists c =
-    let w = plain_workload c.args.c.now.value in
-    let names : List Ident = c.order-name-items.result.now in
-    let i = c.loop-name.name-index in
-    let name : Ident = get_or names i none in
-    let work : c.workload-w.result.now ≡ c.args.c.now.value = c.workload-w.ensures.value ∙ c.workload.ensures ∙ c.deref.ensures in
-    let order : names ≡ order_of w.schedule = c.order-name-items.ensures ∙ ap (λ (v : Workload). order_of (plain_workload v).schedule) work in
-    let clients : c.in_ok-clients.clients ≡ client_names w = c.in_ok-clients.ensures ∙ ap (λ (v : Workload). client_names (plain_workload v)) work in
-    let place : c.get.result ≡ place_of (client_names w) name.name = c.get.ensures ∙ ap (λ (ns : List ℕ). place_of ns name.name) clients in
-    let whole : IsWholeOrder w = whole_order w c.requires.well_formed c.requires.sound in
-    let there : c.get.result < length w.clients = client_there w names i name c.get.result whole order c.loop-name-test.true (read_again names i none c.loop-name-test.true) place in
-    subst (λ (v : s.Workload). c.get.result < length v.clients) (sym c.loop-name.invariant.work) there
+    subst (λ (v : s.Workload). c.get.result < length v.clients) (sym c.loop-name.invariant.work) (there (goal.at.step-requires-clause-exists c).After-get)
 
 pub step-requires-clause-left : goal.step-requires-clause-left
 step-requires-clause-left c =
-    let w = plain_workload c.args.c.now.value in
-    let names : List Ident = c.order-name-items.result.now in
-    let i = c.loop-name.name-index in
-    let name : Ident = get_or names i none in
-    let work : c.workload-w.result.now ≡ c.args.c.now.value = c.workload-w.ensures.value ∙ c.workload.ensures ∙ c.deref.ensures in
-    let order : names ≡ order_of w.schedule = c.order-name-items.ensures ∙ ap (λ (v : Workload). order_of (plain_workload v).schedule) work in
-    let clients : c.in_ok-clients.clients ≡ client_names w = c.in_ok-clients.ensures ∙ ap (λ (v : Workload). client_names (plain_workload v)) work in
-    let place : c.get.result ≡ place_of (client_names w) name.name = c.get.ensures ∙ ap (λ (ns : List ℕ). place_of ns name.name) clients in
-    left_next w c.args.base.items c.loop-name.core names i name c.get.result c.loop-name.invariant (whole_order w c.requires.well_formed c.requires.sound) order c.loop-name-test.true (read_again names i none c.loop-name-test.true) place
+    let e = (goal.at.step-requires-clause-left c).After-get in
+    left_next (plain_workload c.args.c.now.value) c.args.base.items c.loop-name.core c.order-name-items.result.now c.loop-name.name-index (name_at e) c.get.result c.loop-name.invariant (whole e) (order_is e) c.loop-name-test.true (read e) (place_is e)
 
 pub loop-name-preserved : goal.loop-name-preserved
 loop-name-preserved c =
-    let w = plain_workload c.args.c.now.value in
-    let names : List Ident = c.order-name-items.result.now in
-    let i = c.loop-name.name-index in
-    let name : Ident = get_or names i none in
-    let work : c.workload-w.result.now ≡ c.args.c.now.value = c.workload-w.ensures.value ∙ c.workload.ensures ∙ c.deref.ensures in
-    let order : names ≡ order_of w.schedule = c.order-name-items.ensures ∙ ap (λ (v : Workload). order_of (plain_workload v).schedule) work in
-    let clients : c.in_ok-clients.clients ≡ client_names w = c.in_ok-clients.ensures ∙ ap (λ (v : Workload). client_names (plain_workload v)) work in
-    let place : c.get.result ≡ place_of (client_names w) name.name = c.get.ensures ∙ ap (λ (ns : List ℕ). place_of ns name.name) clients in
-    made_next w c.args.base.items c.loop-name.core c.step.new.self _ names i name c.get.result c.loop-name.invariant (whole_order w c.requires.well_formed c.requires.sound) order c.loop-name-test.true (read_again names i none c.loop-name-test.true) place
+    let e = (goal.at.loop-name-preserved c).After-get in
+    made_next (plain_workload c.args.c.now.value) c.args.base.items c.loop-name.core c.step.new.self _ c.order-name-items.result.now c.loop-name.name-index (name_at e) c.get.result c.loop-name.invariant (whole e) (order_is e) c.loop-name-test.true (read e) (place_is e)
     c.in_ok-step.ensures.step c.in_ok-step.ensures.start c.in_ok-step.ensures.follows
+
+-- ---- after the last name
+made : (c : After-finish) → HasMade (plain_workload c.args.c.now.value) c.args.base.items (order_of (plain_workload c.args.c.now.value).schedule) c.loop-name.core
+made c =
+    let work : c.workload-w.result.now ≡ c.args.c.now.value = c.workload-w.ensures.value ∙ c.workload.ensures ∙ c.deref.ensures in
+    let order : c.order-name-items.result.now ≡ order_of (plain_workload c.args.c.now.value).schedule = c.order-name-items.ensures ∙ ap (λ (v : Workload). order_of (plain_workload v).schedule) work in
+    all_made (plain_workload c.args.c.now.value) c.args.base.items c.loop-name.core _ c.loop-name.name-index c.loop-name.invariant order c.loop-name-test.false
 
 pub returns-clause-legal : goal.returns-clause-legal
 returns-clause-legal c =
     let w = plain_workload c.args.c.now.value in
-    let work : c.workload-w.result.now ≡ c.args.c.now.value = c.workload-w.ensures.value ∙ c.workload.ensures ∙ c.deref.ensures in
-    let order : c.order-name-items.result.now ≡ order_of w.schedule = c.order-name-items.ensures ∙ ap (λ (v : Workload). order_of (plain_workload v).schedule) work in
-    full w c.args.base.items c.loop-name.core c.finish.result (whole_order w c.requires.well_formed c.requires.sound) (all_made w c.args.base.items c.loop-name.core _ c.loop-name.name-index c.loop-name.invariant order c.loop-name-test.false) c.finish.ensures.legal
+    full w c.args.base.items c.loop-name.core c.finish.result (whole_order w c.requires.well_formed c.requires.sound) (made (goal.at.returns-clause-legal c).After-finish) c.finish.ensures.legal
 
 pub returns-clause-follows : goal.returns-clause-follows
-returns-clause-follows c =
-    let w = plain_workload c.args.c.now.value in
-    let work : c.workload-w.result.now ≡ c.args.c.now.value = c.workload-w.ensures.value ∙ c.workload.ensures ∙ c.deref.ensures in
-    let order : c.order-name-items.result.now ≡ order_of w.schedule = c.order-name-items.ensures ∙ ap (λ (v : Workload). order_of (plain_workload v).schedule) work in
-    follows w c.args.base.items c.loop-name.core c.finish.result (all_made w c.args.base.items c.loop-name.core _ c.loop-name.name-index c.loop-name.invariant order c.loop-name-test.false) c.finish.ensures.history
+returns-clause-follows c = follows (plain_workload c.args.c.now.value) c.args.base.items c.loop-name.core c.finish.result (made (goal.at.returns-clause-follows c).After-finish) c.finish.ensures.history
 
 pub returns-clause-reportable : goal.returns-clause-reportable
-returns-clause-reportable c =
-    let w = plain_workload c.args.c.now.value in
-    let work : c.workload-w.result.now ≡ c.args.c.now.value = c.workload-w.ensures.value ∙ c.workload.ensures ∙ c.deref.ensures in
-    let order : c.order-name-items.result.now ≡ order_of w.schedule = c.order-name-items.ensures ∙ ap (λ (v : Workload). order_of (plain_workload v).schedule) work in
-    reportable w c.args.base.items c.loop-name.core c.finish.result (all_made w c.args.base.items c.loop-name.core _ c.loop-name.name-index c.loop-name.invariant order c.loop-name-test.false) c.finish.ensures.within
+returns-clause-reportable c = reportable (plain_workload c.args.c.now.value) c.args.base.items c.loop-name.core c.finish.result (made (goal.at.returns-clause-reportable c).After-finish) c.finish.ensures.within
