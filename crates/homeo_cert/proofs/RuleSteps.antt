@@ -1,20 +1,15 @@
 -- Deltas that are frozen one after another, and clauses that keep a form.
-use Rattle.std.proofs.Common.{◌≡◌, ℕ, suc, ◌+◌, ◌<◌, ◌≤◌, Bool, true, false, not, cond, ◌||◌, ◌&&◌, List, [], ◌∷◌, ◌++◌, map, drop, get_or, length, pos, eqb, arith, refl, sym, ap, ap₂, ◌∙◌, add-one, drop_of_length-le}
+use Rattle.std.proofs.Common.{◌≡◌, ℕ, suc, ◌+◌, ◌<◌, ◌≤◌, Bool, true, false, not, cond, ◌||◌, ◌&&◌, List, [], ◌∷◌, ◌++◌, drop, get_or, length, pos, eqb, arith, refl, sym, ap, ap₂, ◌∙◌, add-one, drop_of_length-le}
 use Rattle.std.specs.List.{list_any}
 use Rattle.std.proofs.Math.Seq.{drop-cons}
 use Rattle.homeo_meaning.specs.Key.{words as meaning_words}
 use Rattle.homeo_meaning.specs.Small.{IsSmall}
-use Rattle.homeo_meaning.proofs.Steps.{drop_next, drop_none}
 use Rattle.std.proofs.lemmas.Bool.Decides.{nat_tests}
-use Rattle.std.specs.Cmp.Lexicographic.{pointwise}
 use Rattle.homeo_plan.specs.Key.{words as plan_words}
 use Rattle.homeo_plan.specs.declared.forms.Delta.{Delta}
 use Rattle.homeo_plan.specs.declared.forms.Term.{Term}
-use Rattle.homeo_plan.specs.declared.templates.Clause.{Clause}
 use Rattle.homeo_plan.specs.Limit.{form_limit}
 use Rattle.homeo_plan.specs.Linear.{same_delta, Linear, is_empty}
-use Rattle.homeo_plan.specs.PlanView.{plain_clause}
-use Rattle.homeo_plan.specs.Template.{same_term, same_terms}
 use Rattle.homeo_cert.specs.Key.{words}
 use Rattle.homeo_cert.specs.declared.fault.Fault.TheVariants.{NotFrozen, NoClause}
 use Rattle.homeo_cert.specs.declared.fault.Stop.TheVariants as stop
@@ -47,31 +42,6 @@ module _ (r : Rules) (ds : List Delta) (i : ℕ) where
   pub freeze_ends : length ds ≤ i → not_frozen r (drop i ds) ≡ not_frozen r ds → not_frozen r ds ≡ []
   unfolding words
   freeze_ends l so = sym so ∙ ap (not_frozen r) (drop_of_length-le ds l)
-
-module _ (a : Linear) (cs : List Clause) (i : ℕ) where
-  abbrev Kept : List Clause → Bool
-  Kept xs = list_any (keeps a) (map plain_clause xs)
-
-  module _ (c : Clause) (l : i < length cs) (e : c ≡ get_or cs i c) (so : Kept (drop i cs) ≡ Kept cs) (v : Bool) (is : v ≡ keeps a (plain_clause c)) where
-    next : (v || Kept (drop (i + 1) cs)) ≡ Kept cs
-    next = ap (λ w. w || Kept (drop (i + 1) cs)) is ∙ sym (ap (list_any (keeps a)) (drop_next plain_clause cs i c l e)) ∙ so
-
-    pub clause_found : v ≡ true → true ≡ Kept cs
-    clause_found h = ap (λ w. w || Kept (drop (i + 1) cs)) (sym h) ∙ next
-
-    pub clause_passed : v ≡ false → Kept (drop (i + 1) cs) ≡ Kept cs
-    clause_passed h = ap (λ w. w || Kept (drop (i + 1) cs)) (sym h) ∙ next
-
-  pub no_clause_left : length cs ≤ i → Kept (drop i cs) ≡ Kept cs → false ≡ Kept cs
-  no_clause_left l so = sym (ap (list_any (keeps a)) (drop_none plain_clause cs i l)) ∙ so
-
--- terms that are compared one after another
-pub pointwise_same : (E : Term → Term → Bool) → ((a b : Term) → E a b ≡ same_term a b) → (xs ys : List Term) → pointwise E xs ys ≡ same_terms xs ys
-unfolding plan_words
-pointwise_same E h [] [] = refl
-pointwise_same E h [] (y ∷ ys) = refl
-pointwise_same E h (x ∷ xs) [] = refl
-pointwise_same E h (x ∷ xs) (y ∷ ys) = ap₂ ◌&&◌ (h x y) (pointwise_same E h xs ys)
 
 -- ---- the clause of a form
 no_terms : (ts : List Term) → length ts ≡ 0 → is_empty ts ≡ true

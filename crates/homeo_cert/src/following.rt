@@ -21,6 +21,7 @@ use crate::fault::Stop;
 use crate::reading::Certificate;
 use crate::rules::Rules;
 use crate::sizes::form_of;
+use crate::table::ClauseTable;
 use homeo_linear::{Standing, joined_deltas, push_written};
 use homeo_plan::Delta;
 use homeo_split::{Place, place_of, place_of_temp};
@@ -144,13 +145,19 @@ impl<'a> Following<'a> {
     }
 }
 
-/// The first fault of a call, if it has one.
-pub(crate) fn follow_call(alloc: Global, c: &Certificate, call: &Call) -> Result<(), Stop>
+/// The first fault of a call, if it has one. The table is that of the certificate's clauses.
+pub(crate) fn follow_call(
+    alloc: Global,
+    c: &Certificate,
+    table: &ClauseTable,
+    call: &Call,
+) -> Result<(), Stop>
+    requires { table.now ≡ (plain_certificate c.now).clauses }
     ensures { Finds (call_faults (plain_certificate c.now) (plain_call call.now)) result }
 {
     let rules = Rules {
         site: call.site,
-        clauses: c.clauses.as_slice(),
+        clauses: table,
         freezes: c.freezes.as_slice(),
     };
     let mut following = Following::new(alloc, rules, c.base.as_slice());

@@ -1,14 +1,13 @@
 //! What is asked of a call: the faults of its steps.
 
-ghost use Rattle.std.specs.Prelude.{◌≡◌, map};
-ghost use Rattle.std.specs.List.{flat_map, list_any};
+ghost use Rattle.std.specs.Prelude.{◌≡◌};
+ghost use Rattle.std.specs.List.{flat_map};
 ghost use Rattle.homeo_meaning.specs.Small.{IsSmall};
 ghost use Rattle.homeo_plan.specs.FormSizes.{Numbers};
 ghost use Rattle.homeo_plan.specs.Limit.{form_limit};
-ghost use Rattle.homeo_plan.specs.PlanView.{plain_clause, plain_linear};
-ghost use Rattle.homeo_plan.specs.Template.{same_terms};
+ghost use Rattle.homeo_plan.specs.PlanView.{plain_linear};
 ghost use Rattle.homeo_cert.specs.Kept.{atom, kept_true, kept_false};
-ghost use Rattle.homeo_cert.specs.Followed.{not_frozen, remote_deltas, no_clause, foreign, atom_faults, keeps};
+ghost use Rattle.homeo_cert.specs.Followed.{not_frozen, remote_deltas, no_clause, foreign, atom_faults};
 ghost use Rattle.homeo_cert.specs.inner.Compares.{AreSmall, atoms_of};
 ghost use Rattle.homeo_cert.specs.inner.Stops.{Finds};
 ghost use Rattle.homeo_cert.specs.inner.RulesView.{plain_rules};
@@ -16,8 +15,9 @@ ghost use Rattle.homeo_cert.specs.inner.RulesView.{plain_rules};
 use crate::conditions::{Compared, is_true};
 use crate::fault::{Fault, Stop};
 use crate::sizes::difference;
+use crate::table::ClauseTable;
 use homeo_linear::{Form, remote_of};
-use homeo_plan::{Clause, Delta, Linear, Term};
+use homeo_plan::{Delta, Linear};
 use homeo_syntax::{Compare, SplitName};
 use std::alloc::Global;
 
@@ -25,7 +25,7 @@ use std::alloc::Global;
 #[derive(Clone, Copy)]
 pub(crate) struct Rules<'a> {
     pub(crate) site: u32,
-    pub(crate) clauses: &'a [Clause],
+    pub(crate) clauses: &'a ClauseTable<'a>,
     pub(crate) freezes: &'a [Delta],
 }
 
@@ -51,14 +51,14 @@ impl<'a> Rules<'a> {
     }
 
     /// That a clause keeps the form at most 0, if it has terms.
-    fn keep_form(&self, form: &Linear) -> Result<(), Stop>
+    fn keep_form(&self, alloc: Global, form: &Linear) -> Result<(), Stop>
         requires { IsSmall form_limit form.now.constant }
         ensures { Finds (no_clause (plain_rules self.now) (plain_linear form.now)) result }
     {
         if form.terms.as_slice().is_empty() {
             return Ok(());
         }
-        if has_clause(self.clauses, form) {
+        if self.clauses.keeps(alloc, form)? {
             Ok(())
         } else {
             Err(Stop::Fault(Fault::NoClause))
@@ -74,7 +74,7 @@ impl<'a> Rules<'a> {
     {
         let form = difference(alloc, left, right, more)?;
         self.freeze(form.mixed.as_slice())?;
-        self.keep_form(&form)
+        self.keep_form(alloc, &form)
     }
 
     /// That a comparison is kept as it is where all deltas are 0.
@@ -138,31 +138,4 @@ impl<'a> Rules<'a> {
             SplitName::Base(_) => Err(Stop::Fault(Fault::ForeignWrite)),
         }
     }
-}
-
-/// Whether one of the clauses keeps the form at most 0.
-fn has_clause(clauses: &[Clause], form: &Linear) -> bool
-    requires { IsSmall form_limit form.now.constant }
-    ensures { result ≡ list_any (keeps (plain_linear form.now)) (map plain_clause clauses.now) }
-{
-    for clause in clauses {
-        if keeps(form, clause) {
-            return true;
-        }
-    }
-    false
-}
-
-/// Whether a clause keeps the form at most 0.
-fn keeps(form: &Linear, clause: &Clause) -> bool
-    requires { IsSmall form_limit form.now.constant }
-    ensures { result ≡ keeps (plain_linear form.now) (plain_clause clause.now) }
-{
-    same_terms(form.terms.as_slice(), clause.terms.as_slice()) && clause.slack <= -form.constant
-}
-
-fn same_terms(some: &[Term], others: &[Term]) -> bool
-    ensures { result ≡ same_terms some.now others.now }
-{
-    some == others
 }

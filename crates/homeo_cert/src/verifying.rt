@@ -12,6 +12,7 @@ use crate::fault::{Fault, Stop};
 use crate::following::follow_call;
 use crate::parsing::parse;
 use crate::reading::{Certificate, read_certificate};
+use crate::table::ClauseTable;
 use crate::verdict::Verdict;
 use homeo_plan::Clause;
 use homeo_syntax::Memory;
@@ -111,9 +112,10 @@ fn total(bounds: &[i64]) -> Option<i128>
 fn judge_calls(alloc: Global, c: &Certificate) -> Result<Verdict, Memory>
     ensures { IfOk result (λ v. v ≡ first_of_all (faults_from 0 (plain_certificate c.now) (plain_certificate c.now).calls)) }
 {
+    let table = ClauseTable::of(alloc, c.clauses.as_slice())?;
     let mut number = 0;
     for call in &c.calls {
-        match follow_call(alloc, c, call) {
+        match follow_call(alloc, c, &table, call) {
             Ok(()) => {}
             Err(Stop::Fault(fault)) => return Ok(of_call(number, fault)),
             Err(Stop::Memory) => return Err(Memory),

@@ -1,8 +1,6 @@
 -- What the rules of the code ask.
-use Rattle.std.specs.Prelude.{map}
-use Rattle.homeo_plan.specs.PlanView.{plain_clause}
 use Rattle.homeo_cert.specs.Followed as followed
 use Rattle.homeo_cert.specs.declared.rules.Rules.{Rules}
 
 abbrev pub plain_rules : Rules → followed.Rules
-plain_rules r = record { site = r.site; clauses = map plain_clause r.clauses.now; freezes = r.freezes.now }
+plain_rules r = record { site = r.site; clauses = r.clauses.now; freezes = r.freezes.now }

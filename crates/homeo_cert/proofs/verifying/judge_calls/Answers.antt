@@ -1,9 +1,13 @@
 -- The next call has a fault, or not.
 use Rattle.std.proofs.Common.{map, ap, ◌∙◌}
+use Rattle.homeo_plan.specs.PlanView.{plain_clause}
 use Rattle.homeo_cert.specs.Verdict.{faults_from, first_of_all}
 use Rattle.homeo_cert.specs.inner.CertificateView.{plain_call, plain_certificate}
 use Rattle.homeo_cert.proofs.Verdicts.{call_stops, call_goes_on, calls_end}
 use Rattle.homeo_cert.proofs.verifying.judge_calls.Goals as goal
+
+pub follow_call-requires : goal.follow_call-requires
+follow_call-requires c = c.in_ok-table.ensures ∙ ap (map plain_clause) c.as_slice.ensures.value
 
 pub returns-in-Err-Fault : goal.returns-in-Err-Fault
 returns-in-Err-Fault c =

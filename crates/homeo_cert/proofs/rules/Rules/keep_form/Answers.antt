@@ -11,12 +11,12 @@ returns-then-is_empty c =
     let l = ap length c.as_slice.ensures in
     without_terms (plain_rules c.args.self.now) (plain_linear c.args.form.now) (grind (arith, nat_tests, l))
 
-pub returns-then-has_clause : goal.returns-then-has_clause
-returns-then-has_clause c =
-    has_its_clause (plain_rules c.args.self.now) (plain_linear c.args.form.now) c.has_clause.result c.has_clause.ensures c.if-has_clause.true
+pub returns-then-branch : goal.returns-then-branch
+returns-then-branch c =
+    has_its_clause (plain_rules c.args.self.now) (plain_linear c.args.form.now) c.in_ok-keeps.field-0 c.in_ok-keeps.ensures c.if-branch.true
 
-pub returns-else-has_clause : goal.returns-else-has_clause
-returns-else-has_clause c =
+pub returns-else-branch : goal.returns-else-branch
+returns-else-branch c =
     let l = ap length c.as_slice.ensures in
-    lacks_its_clause (plain_rules c.args.self.now) (plain_linear c.args.form.now) c.has_clause.result c.has_clause.ensures (λ none. absurd (grind (arith, nat_tests, l, none)))
-    c.if-has_clause.false
+    lacks_its_clause (plain_rules c.args.self.now) (plain_linear c.args.form.now) c.in_ok-keeps.field-0 c.in_ok-keeps.ensures (λ none. absurd (grind (arith, nat_tests, l, none)))
+    c.if-branch.false
