@@ -63,6 +63,7 @@ pub fn treaties(
         base: List::from_vec(values),
         template,
         config,
+        residuals: List::new(alloc),
     })
 }
 
