@@ -4,6 +4,7 @@
 backquote stands before the place of the refusal. Each text has a schedule, so that it may be read under each command. A text at the
 limit is accepted under all of them; one past it is refused under those that `refusing` gives, and accepted under the others.
 
+`certified()` gives a text whose certificate is as long as it may be, and one whose certificate has a byte more.
 `joint_texts()` gives those at the limit of the joint table, which refuses nothing. `long_texts()` gives texts of 1 MB that are refused
 under each command, for one thing again and again, or for a fault behind as much as may stand before it.
 """
@@ -19,7 +20,7 @@ COMMANDS = ("steps", "run", "tables", "treaty", "forecast")
 MOST_BYTES, MOST_SITES, MOST_SLOTS, MOST_OBJECTS, MOST_TRANSACTIONS, MOST_CLIENTS = 1_048_576, 16, 64, 1_024, 256, 64
 MOST_CALLS, MOST_DIFFERENT, MOST_DIGITS, LONGEST_NAME, GREATEST_BOUND, MOST_DEEP = 20_000, 1_024, 18, 32, 10**12, 32
 MOST_SIZE, MOST_SIZES, MOST_DEPTH, MOST_PRINTS, MOST_ROWS, MOST_ROWS_TIMES_SIZES = 200_000, 2_000_000, 1_000, 1_000_000, 4_096, 8_000_000
-GREATEST_WEIGHT = 1_000
+GREATEST_WEIGHT, MOST_CERTIFICATE = 1_000, 16_777_216
 END = "end\n"
 
 
@@ -332,3 +333,23 @@ def long_texts():
     for kind in (repeated, twice, late):
         for name, code, text in kind():
             yield name, code, text.encode("latin-1")
+
+
+# ---- certificates
+def certified():
+    """The first transaction prints many numbers, and is called with 13 arguments; the second one fills up what is left."""
+    calls, many, digits = 13, 34_600, 18
+    a_print, a_call = len(',["print"],["lit",]'), len('{"command":[["seq",34600]],"site":0},')
+    room = MOST_CERTIFICATE - len('{"base":[],"bounds":[],"calls":[],"clauses":[],"freezes":[],"sites":1,"version":1}')
+    room -= calls * (a_call + many * (a_print + digits)) + len('{"command":[["seq",1000]],"site":0}')
+    more = (room - 3 * a_print - 3) // (a_print + digits)
+    left = room - more * (a_print + digits) - 3 * a_print
+
+    def text(left):
+        printed = [digits] * more + [left // 3, (left + 1) // 3, (left + 2) // 3]
+        first, second = (joined(f"print({'1' * it})" for it in counts) for counts in ([digits] * many, printed))
+        client = "; ".join([*(f"t({n})" for n in range(1, calls + 1)), "u()"])
+        transactions = f"transaction t(n in 1..{calls}) {{ {first} }}\ntransaction u() {{ {second} }}\n"
+        return (begin(1) + transactions + f"client a at 0 {{ {client} }}\n" + END).encode()
+
+    return text(left), text(left + 1)
