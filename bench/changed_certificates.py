@@ -48,6 +48,25 @@ def share_slacks(value):
         pass
 
 
+def change_number(value, draws):
+    """Another number within its range, where the certificate stays one: what it then says has to be looked at."""
+    call = draws.choice(value["calls"])
+    nodes = [it for it in call["command"] if it[0] in ("lit", "delta", "write")]
+    kind = draws.randrange(6)
+    if kind == 0:
+        call["site"] = draws.randrange(value["sites"])
+    elif kind == 1 and value["freezes"]:
+        value["freezes"].remove(draws.choice(value["freezes"]))
+    elif kind == 2 and value["clauses"]:
+        draws.choice(value["clauses"])["slack"] += draws.choice([-1, 1, 2])
+        share_slacks(value)
+    elif kind == 3 and value["base"]:
+        value["base"][draws.randrange(len(value["base"]))] += draws.choice([-1, 1, 3])
+    elif nodes:
+        node = draws.choice(nodes)
+        node[-1] = draws.choice(NUMBERS) * draws.choice([1, -1]) if node[0] == "lit" else draws.randrange(value["sites"])
+
+
 def change_bytes(text, draws):
     place, byte = draws.randrange(len(text)), bytes([draws.choice(BYTES)])
     rest = [text[place:], text[place + 1 :], byte + text[place:], byte + text[place + 1 :], b""]
@@ -56,10 +75,12 @@ def change_bytes(text, draws):
 
 def changed(text, seed):
     draws = random.Random(seed)
-    if draws.random() < 0.2:
+    if draws.random() < 0.15:
         return change_bytes(text, draws)
     value = json.loads(text)
     for _ in range(draws.choice([1, 1, 2])):
+        change_number(value, draws)
+    if draws.random() < 0.5:
         change_item(*draws.choice(places(value)), draws)
     if draws.random() < 0.3:
         share_slacks(value)
