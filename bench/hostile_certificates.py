@@ -94,23 +94,21 @@ def repeated(small):
     yield "a long number", b"1" * MOST, "invalid json"
     yield "a long fraction", b"0." + b"1" * (MOST - 2), "invalid shape"
     yield "a long exponent", b"1e" + b"0" * (MOST - 3) + b"1", "invalid shape"
-    yield "zeros", b"[" + b"0," * (MOST // 2 - 1) + b"0]", "invalid shape"
+    yield "zeros", b"[" + b"0," * (MOST // 2 - 2) + b"0]", "invalid shape"
 
 
 def wide():
-    """Many of what is looked through, and long forms."""
+    """A long list, and what takes longer than its bytes say: long forms, and many clauses or freezes under many calls for them."""
     yield "a sum of 1,000,000 numbers", printed(["sum", 1_000_000], *[["lit", 1]] * 1_000_000), "valid"
-    deltas = [["delta", x, j] for x in range(1_024) for j in range(16)]
     own = [["delta", x, 0] for x in range(1_024)]
-    yield "a sum of each object's delta again and again", certificate([["print"], ["sum", 600 * 1_024], *own * 600], base=[0] * 1_024), "valid"
-    backwards = own[::-1]
-    yield "the same backwards", certificate([["print"], ["sum", 600 * 1_024], *backwards * 600], base=[0] * 1_024), "valid"
-    frozen = [it[1:] for it in deltas]
-    nodes = [["seq", 300_000], *[["print"], ["delta", 1_023, 15]] * 300_000]
-    yield "prints of the last frozen delta", certificate(nodes, base=[0] * 1_024, sites=16, freezes=frozen), "valid"
+    for name, deltas in (("in order", own), ("backwards", own[::-1])):
+        yield f"a sum of the deltas of 1,024 objects, {name}", certificate([["print"], ["sum", 1_024], *deltas], base=[0] * 1_024), "valid"
+    frozen = [[x, j] for x in range(1_024) for j in range(16)]
+    nodes = [["seq", 1_000], *[["print"], ["delta", 1_023, 15]] * 1_000]
+    yield "1,000 prints of the last of 16,384 frozen deltas", certificate(nodes, base=[0] * 1_024, sites=16, freezes=frozen), "valid"
     test = [["if", 1], ["<="], ["delta", 0, 0], ["lit", 3], ["skip"], ["skip"]]
-    clauses = [*[clause(0, (0, 0, 2))] * 100_000, clause(3, (0, 0, 1))]
-    yield "tests that the last clause keeps", certificate([["seq", 100_000], *test * 100_000], clauses=clauses), "valid"
+    clauses = [*[clause(0, (0, 0, 2))] * 5_000, clause(3, (0, 0, 1))]
+    yield "1,000 tests that the last of 5,001 clauses keeps", certificate([["seq", 1_000], *test * 1_000], clauses=clauses), "valid"
 
 
 def certificates(small):
