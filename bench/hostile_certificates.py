@@ -22,6 +22,13 @@ def clause(slack, *terms):
     return {"slack": slack, "terms": terms}
 
 
+# A small one that is valid.
+SMALL = certificate(
+    [["if", 1], ["<="], ["delta", 0, 0], ["lit", 3], ["write", 0, 0], ["neg"], ["delta", 0, 0], ["skip"]], clauses=[clause(3, (0, 0, 1))]
+)
+
+
+# ---- what they are of
 def deep():
     """Nodes within one another, and JSON values that are."""
     for kind, opened in (("signs", [["neg"]]), ("sums", [["sum", 1]])):
@@ -79,22 +86,29 @@ def numbered():
     yield "the largest factor", certificate([["skip"]], clauses=[clause(3, (0, 0, most))]), "valid"
 
 
-def repeated(small):
+def repeated():
     """Keys and spaces again and again, strings and numbers as long as there may be bytes."""
-    keys = b'"version":1,' * ((MOST - len(small)) // 12)
-    yield "a key again and again", small[:1] + keys + small[1:], "valid"
-    yield "a key with another value first", b'{"version":2,' + small[1:], "valid"
-    yield "a key with another value last", small[:-1] + b',"version":2}', "invalid shape"
+    keys = b'"version":1,' * ((MOST - len(SMALL)) // 12)
+    yield "a key again and again", SMALL[:1] + keys + SMALL[1:], "valid"
+    yield "a key with another value first", b'{"version":2,' + SMALL[1:], "valid"
+    yield "a key with another value last", SMALL[:-1] + b',"version":2}', "invalid shape"
     others = ",".join(f'"{it:x}":0' for it in range(1_200_000)).encode()
     yield "a million keys", b"{" + others + b"}", "invalid shape"
     yield "spaces", b" " * MOST, "invalid json"
-    yield "spaces around", b" " * ((MOST - len(small)) // 2) + small + b"\n" * ((MOST - len(small)) // 2), "valid"
+    yield "spaces around", b" " * ((MOST - len(SMALL)) // 2) + SMALL + b"\n" * ((MOST - len(SMALL)) // 2), "valid"
     yield "a long string", b'"' + b"a" * (MOST - 2) + b'"', "invalid shape"
     yield "a string without an end", b'"' + b"\\\\" * (MOST // 2 - 1), "invalid json"
     yield "a long number", b"1" * MOST, "invalid json"
     yield "a long fraction", b"0." + b"1" * (MOST - 2), "invalid shape"
     yield "a long exponent", b"1e" + b"0" * (MOST - 3) + b"1", "invalid shape"
     yield "zeros", b"[" + b"0," * (MOST // 2 - 2) + b"0]", "invalid shape"
+
+
+def cut():
+    """The small one, and each beginning of it."""
+    yield "a small one", SMALL, "valid"
+    for length in range(len(SMALL)):
+        yield f"{length} of {len(SMALL)} bytes", SMALL[:length], "invalid json"
 
 
 def wide():
@@ -111,12 +125,11 @@ def wide():
     yield "1,000 tests that the last of 5,001 clauses keeps", certificate([["seq", 1_000], *test * 1_000], clauses=clauses), "valid"
 
 
-def certificates(small):
-    """All of them; `small` is a valid one."""
+def certificates():
+    """All of them."""
     yield from deep()
     yield from counted()
     yield from numbered()
-    yield from repeated(small)
-    for length in range(len(small)):
-        yield f"{length} of {len(small)} bytes", small[:length], "invalid json"
+    yield from repeated()
+    yield from cut()
     yield from wide()
