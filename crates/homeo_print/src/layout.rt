@@ -11,7 +11,7 @@ use std::alloc::Global;
 
 /// How a token stands beside others.
 #[derive(Clone, Copy, Debug, PartialEq, Eq)]
-pub enum Sort {
+pub(crate) enum Sort {
     /// A reserved word that begins a line.
     Line,
     /// A word or a symbol with a space at each side.
@@ -35,7 +35,7 @@ pub enum Sort {
 
 /// What stands in front of the next token.
 #[derive(Clone, Copy, Debug, PartialEq, Eq)]
-pub enum Before {
+pub(crate) enum Before {
     /// Nothing, an opening bracket, `..` or a sign: what the next token follows at once.
     Tight,
     /// `.`
@@ -212,7 +212,7 @@ fn push_token(text: &mut Vec<u8>, names: &[Text], piece: Piece) -> Result<(), Me
 }
 
 /// The text of tokens, with these names.
-pub fn text_of(alloc: Global, names: &[Text], pieces: &[Piece]) -> Result<Vec<u8>, Memory>
+pub(crate) fn text_of(alloc: Global, names: &[Text], pieces: &[Piece]) -> Result<Vec<u8>, Memory>
     ensures text { IfOk result (λ text. text.items ≡ printed names.now (map kind_of pieces.now)) }
 {
     let mut text = Vec::new(alloc);

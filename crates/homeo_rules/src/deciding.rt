@@ -11,7 +11,7 @@ use homeo_syntax::{Ident, Number};
 
 /// The place of a phase in the order in which phases are tried, from 0.
 #[tactic(auto, unfolding(homeo_meaning::specs::Key::words))]
-pub fn rank(phase: Phase) -> u8
+pub(crate) fn rank(phase: Phase) -> u8
     ensures { result ≡ rank phase }
 {
     match phase {
@@ -30,7 +30,7 @@ pub fn rank(phase: Phase) -> u8
 
 /// The number of a phase's refusals, as 5 of `E5`.
 #[tactic(auto, unfolding(homeo_meaning::specs::Key::words))]
-pub fn code(phase: Phase) -> u8
+pub(crate) fn code(phase: Phase) -> u8
     ensures { result ≡ code phase }
 {
     match phase {
@@ -58,7 +58,7 @@ fn comes_before(f: Fault, g: Fault) -> bool
 
 /// The one of two that decides.
 #[tactic(auto, unfolding(homeo_meaning::specs::Key::words))]
-pub fn keep(best: Option<Fault>, fault: Fault) -> Option<Fault>
+pub(crate) fn keep(best: Option<Fault>, fault: Fault) -> Option<Fault>
     ensures { result ≡ keep best fault }
 {
     match best {
@@ -75,7 +75,7 @@ pub fn keep(best: Option<Fault>, fault: Fault) -> Option<Fault>
 
 /// With a fault that stands at a name.
 #[tactic(auto, unfolding(homeo_meaning::specs::Key::words))]
-pub fn at_name(best: Option<Fault>, phase: Phase, x: Ident) -> Option<Fault>
+pub(crate) fn at_name(best: Option<Fault>, phase: Phase, x: Ident) -> Option<Fault>
     ensures { result ≡ keep_all best (fault phase x) }
 {
     keep(
@@ -89,7 +89,7 @@ pub fn at_name(best: Option<Fault>, phase: Phase, x: Ident) -> Option<Fault>
 
 /// With a fault that stands at a number.
 #[tactic(auto, unfolding(homeo_meaning::specs::Key::words))]
-pub fn at_number(best: Option<Fault>, phase: Phase, n: Number) -> Option<Fault>
+pub(crate) fn at_number(best: Option<Fault>, phase: Phase, n: Number) -> Option<Fault>
     ensures { result ≡ keep_all best (number_fault phase n) }
 {
     keep(

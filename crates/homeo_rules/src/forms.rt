@@ -101,7 +101,7 @@ fn check_weights_and_rows(
 }
 
 /// The fault that decides, of those that the L forms have for the purpose, where the text has none.
-pub fn check_forms<'a>(
+pub(crate) fn check_forms<'a>(
     alloc: Global,
     purpose: Purpose,
     w: &'a Workload,

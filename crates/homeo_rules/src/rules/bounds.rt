@@ -75,7 +75,7 @@ fn check_declared(d: RangeDecl, best: Option<Fault>) -> Option<Fault>
 }
 
 /// The bounds and first values of objects.
-pub fn check_objects(ds: &[ObjectDecl], best: Option<Fault>) -> Option<Fault>
+pub(crate) fn check_objects(ds: &[ObjectDecl], best: Option<Fault>) -> Option<Fault>
     ensures { result ≡ along_all object_faults best ds.now }
 {
     let mut best = best;
@@ -86,7 +86,7 @@ pub fn check_objects(ds: &[ObjectDecl], best: Option<Fault>) -> Option<Fault>
 }
 
 /// The bounds of parameters or of fields.
-pub fn check_ranges(ds: &[RangeDecl], best: Option<Fault>) -> Option<Fault>
+pub(crate) fn check_ranges(ds: &[RangeDecl], best: Option<Fault>) -> Option<Fault>
     ensures { result ≡ along_all range_bounds best ds.now }
 {
     let mut best = best;
@@ -108,7 +108,11 @@ fn check_argument(d: RangeDecl, args: &[Number], place: usize, best: Option<Faul
 }
 
 /// Each argument within the bounds of its parameter.
-pub fn check_arguments(ds: &[RangeDecl], args: &[Number], best: Option<Fault>) -> Option<Fault>
+pub(crate) fn check_arguments(
+    ds: &[RangeDecl],
+    args: &[Number],
+    best: Option<Fault>,
+) -> Option<Fault>
     ensures { result ≡ along_arguments best 0 ds.now args.now }
 {
     let mut best = best;
@@ -120,7 +124,7 @@ pub fn check_arguments(ds: &[RangeDecl], args: &[Number], best: Option<Fault>) -
 
 /// The site of a client is one that there is.
 #[tactic(auto, using(crate::proofs::Steps::keeping), unfolding(homeo_meaning::specs::Key::words))]
-pub fn check_site(sites: Number, site: Number, best: Option<Fault>) -> Option<Fault>
+pub(crate) fn check_site(sites: Number, site: Number, best: Option<Fault>) -> Option<Fault>
     ensures { result ≡ keep_all best (site_faults sites site) }
 {
     if sites.value <= site.value {

@@ -90,7 +90,7 @@ fn check_client(
 }
 
 /// All clients.
-pub fn check_clients(
+pub(crate) fn check_clients(
     cs: &[Client],
     sites: Number,
     scope: &Scope<'_>,

@@ -93,7 +93,11 @@ fn check_list(sites: Number, weights: &[Number], best: Option<Fault>) -> Option<
 }
 
 /// The weights of the sites, which a workload may have none of.
-pub fn check_site_weights(sites: Number, weights: &[Number], best: Option<Fault>) -> Option<Fault>
+pub(crate) fn check_site_weights(
+    sites: Number,
+    weights: &[Number],
+    best: Option<Fault>,
+) -> Option<Fault>
     ensures { result ≡ keep_all best (site_weight_faults sites weights.now) }
 {
     let best = check_list(sites, weights, best);
