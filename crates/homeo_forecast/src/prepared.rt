@@ -27,9 +27,9 @@ use std::sync::Arc;
 /// The plan at a base, what is run for each ground call, and for each site which clauses and freezes stand on each of its deltas.
 #[derive(Drop)]
 pub(crate) struct Prepared {
-    pub plan: Arc<RoundPlan, Global>,
-    pub programs: List<Program>,
-    pub indexes: List<TreatyIndex>,
+    pub(crate) plan: Arc<RoundPlan, Global>,
+    pub(crate) programs: List<Program>,
+    pub(crate) indexes: List<TreatyIndex>,
 }
 
 /// The plan at a base, to be shared.

@@ -9,8 +9,8 @@ use homeo_draws::Draws;
 /// One call: a number from 1 to 9, added to an object from 0 to 7.
 #[derive(Clone, Copy)]
 pub(crate) struct Addition {
-    pub object: u32,
-    pub number: u32,
+    pub(crate) object: u32,
+    pub(crate) number: u32,
 }
 
 /// The addition that the next two draws choose.

@@ -83,7 +83,7 @@ fn push_made(out: &mut Vec<u8>, w: &Workload, id: CallId) -> Result<(), Memory>
 }
 
 /// Appends the line of an entry.
-pub fn push_entry(out: &mut Vec<u8>, w: &Workload, entry: &Entry) -> Result<(), Memory>
+pub(crate) fn push_entry(out: &mut Vec<u8>, w: &Workload, entry: &Entry) -> Result<(), Memory>
     ensures { OnOk result (out.new.items
         ≡ out.old.items ++ entry_line (plain_workload w.now) (plain_entry entry.now)) }
 {

@@ -27,9 +27,9 @@ use std::mem;
 /// A round that a node has left: its base, what the node itself ran in it, and the call that closed it.
 #[derive(Drop)]
 pub(crate) struct Left {
-    pub base: Database,
-    pub segment: Segment,
-    pub closing: Closing,
+    pub(crate) base: Database,
+    pub(crate) segment: Segment,
+    pub(crate) closing: Closing,
 }
 
 /// A node: its site, with the base of its round; the rounds that it has left; of each client the number of the last call that
@@ -37,13 +37,13 @@ pub(crate) struct Left {
 /// the round's arbiter; and the states that it keeps.
 #[derive(Drop)]
 pub(crate) struct Node {
-    pub site: Site,
-    pub base: Database,
-    pub left: List<Left>,
-    pub made: Vec<u64>,
-    pub mode: Mode,
-    pub decided: bool,
-    pub states: Vec<Option<Database>>,
+    pub(crate) site: Site,
+    pub(crate) base: Database,
+    pub(crate) left: List<Left>,
+    pub(crate) made: Vec<u64>,
+    pub(crate) mode: Mode,
+    pub(crate) decided: bool,
+    pub(crate) states: Vec<Option<Database>>,
 }
 
 impl Node {
