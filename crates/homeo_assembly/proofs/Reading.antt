@@ -7,31 +7,31 @@ use Rattle.std.proofs.lemmas.List.Elements.{All-head, All-tail}
 use Rattle.homeo_history.specs.Answers.{Answer}
 use Rattle.homeo_history.specs.declared.answer.Path.{Path}
 use Rattle.homeo_history.specs.declared.answer.Path.TheVariants.{Local, Cleanup}
-use Rattle.homeo_assembly.specs.Written.{natural, joined, upper, lower, head_of, written, read, ReadBack}
+use Rattle.homeo_assembly.specs.Written.{natural, from_two, upper, lower, head_of, written, read, ReadBack}
 
 -- ---- a number
-abbrev joined_naturals : ℕ → ℤ → ℕ
-joined_naturals q r = q * 18446744073709551616 + natural r
+abbrev natural_from_two : ℕ → ℤ → ℕ
+natural_from_two q r = q * 18446744073709551616 + natural r
 
-parts_joined : (n : ℕ) → joined_naturals (n / 18446744073709551616) (pos (n % 18446744073709551616)) ≡ n
+parts_again : (n : ℕ) → natural_from_two (n / 18446744073709551616) (pos (n % 18446744073709551616)) ≡ n
 unfolding words
-parts_joined n = omega arith
+parts_again n = omega arith
 
 shifted_back : (r : ℕ) → (pos r -ℤ pos 9223372036854775808) +ℤ pos 9223372036854775808 ≡ pos r
 shifted_back r = omega (arith, ints)
 
-natural_joined :
+number_parts_again :
     (n : ℕ) →
-    joined_naturals (n / 18446744073709551616)
+    natural_from_two (n / 18446744073709551616)
     ((pos (n % 18446744073709551616) -ℤ pos 9223372036854775808) +ℤ pos 9223372036854775808) ≡ n
-natural_joined n = ap (joined_naturals (n / 18446744073709551616)) (shifted_back (n % 18446744073709551616)) ∙ parts_joined n
+number_parts_again n = ap (natural_from_two (n / 18446744073709551616)) (shifted_back (n % 18446744073709551616)) ∙ parts_again n
 
-pub number_again : (z : ℤ) → joined (upper z) (lower z) ≡ z
+pub number_again : (z : ℤ) → from_two (upper z) (lower z) ≡ z
 unfolding words
-number_again (pos n) = ap pos (natural_joined n)
-number_again (negsuc n) = ap negsuc (natural_joined n)
+number_again (pos n) = ap pos (number_parts_again n)
+number_again (negsuc n) = ap negsuc (number_parts_again n)
 
-pub natural_again : (n : ℕ) → natural (joined (upper (pos n)) (lower (pos n))) ≡ n
+pub natural_again : (n : ℕ) → natural (from_two (upper (pos n)) (lower (pos n))) ≡ n
 unfolding words
 natural_again n = ap natural (number_again (pos n))
 

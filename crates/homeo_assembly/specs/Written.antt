@@ -21,10 +21,10 @@ unfolding words
 natural (pos n) = n
 natural (negsuc n) = 0
 
-abbrev pub joined : ℤ → ℤ → ℤ
+abbrev pub from_two : ℤ → ℤ → ℤ
 unfolding words
-joined (pos q) r = pos (q * 18446744073709551616 + natural (r +ℤ pos 9223372036854775808))
-joined (negsuc q) r = negsuc (q * 18446744073709551616 + natural (r +ℤ pos 9223372036854775808))
+from_two (pos q) r = pos (q * 18446744073709551616 + natural (r +ℤ pos 9223372036854775808))
+from_two (negsuc q) r = negsuc (q * 18446744073709551616 + natural (r +ℤ pos 9223372036854775808))
 
 abbrev pub two : ℤ → List ℤ
 unfolding words
@@ -49,7 +49,7 @@ written a = head_of a.seq a.site a.round a.path ++ a.prints
 -- ---- back again
 abbrev pub at : List ℤ → ℕ → ℤ
 unfolding words
-at e i = joined (slice_index_or e i (pos 0)) (slice_index_or e (i + 1) (pos 0))
+at e i = from_two (slice_index_or e i (pos 0)) (slice_index_or e (i + 1) (pos 0))
 
 abbrev pub read_path : ℤ → List ℤ → Path
 unfolding words

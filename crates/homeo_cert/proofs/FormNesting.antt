@@ -8,7 +8,7 @@ use Rattle.homeo_syntax.specs.Source.{Expr, Exprs, Literal, Name, Read, Sum, Pro
 use Rattle.homeo_meaning.specs.Schema.{Declared, Schema}
 use Rattle.homeo_meaning.specs.Aborts.{holds_abort, hold_abort}
 use Rattle.homeo_meaning.specs.Context.{Spot, Slot, Context, spot, cell, field_cell, object, slots, fields, bind, slot_at, context}
-use Rattle.homeo_meaning.specs.LForm.{Lifted, Made, both, one, in_front, joined, visits, counted, read_chain, read_slot, literal_of, indexed_by, name_of, lift, lift_all, lift_test, lift_cond, write_to, write_field, write_chain, write_at, write_by, Target, stored, lift_values, all_within, field_writes, fill_chain, as_one, clear, guard, in_turn, saves, restores, undo, saved_in, undoing, body_by, form, forms, l_form}
+use Rattle.homeo_meaning.specs.LForm.{Lifted, Made, both, one, in_front, combined, visits, counted, read_chain, read_slot, literal_of, indexed_by, name_of, lift, lift_all, lift_test, lift_cond, write_to, write_field, write_chain, write_at, write_by, Target, stored, lift_values, all_within, field_writes, fill_chain, as_one, clear, guard, in_turn, saves, restores, undo, saved_in, undoing, body_by, form, forms, l_form}
 use Rattle.homeo_meaning.specs.Key.{words}
 use Rattle.homeo_cert.specs.Key.{words as cert_words}
 use Rattle.homeo_cert.specs.Nesting.{expr_nesting, exprs_nesting, test_nesting, cond_nesting, nesting, all_nesting}
@@ -86,11 +86,11 @@ front_nests n (L.MoreCommand b bs) c h k =
     let last : all_nesting (one c) ≤ n = omega (arith, k) in
     let r = both_nests n bs (one c) (omega (arith, h)) last in omega (arith, h, r)
 
-joined_nests :
+combined_nests :
     {A B C : Type 0} (a : A → ℕ) (b : B → ℕ) (c : C → ℕ) (f : A → B → C) (n p q r : ℕ) → ((x : A) (y : B) → a x ≤ p → b y ≤ q → c (f x y) ≤ r) →
-    (x : Lifted A) (y : ℕ → Lifted B) → Nests a n p x → ((m : ℕ) → Nests b n q (y m)) → Nests c n r (joined f x y)
+    (x : Lifted A) (y : ℕ → Lifted B) → Nests a n p x → ((m : ℕ) → Nests b n q (y m)) → Nests c n r (combined f x y)
 unfolding words
-joined_nests a b c f n p q r h x y k l =
+combined_nests a b c f n p q r h x y k l =
     record {
       before = both_nests n x.before (y x.next).before k.before (l x.next).before;
       phrase = h x.phrase (y x.next).phrase k.phrase (l x.next).phrase;
@@ -221,20 +221,20 @@ mutual
   exprs_nest : (w : Context) (few : AllFew w) (es : Exprs) (n m : ℕ) → room (exprs_depth es) ≤ n → Nests exprs_nesting n (exprs_depth es) (lift_all w es m)
   exprs_nest w few NoExpr n m l = record { before = omega arith; phrase = omega arith }
   exprs_nest w few (MoreExpr e es) n m l =
-      joined_nests expr_nesting exprs_nesting exprs_nesting L.MoreExpr n (expr_depth e) (exprs_depth es) (max (expr_depth e) (exprs_depth es))
+      combined_nests expr_nesting exprs_nesting exprs_nesting L.MoreExpr n (expr_depth e) (exprs_depth es) (max (expr_depth e) (exprs_depth es))
       (λ a b h k. omega (arith, h, k)) (lift w e m) (lift_all w es) (lift_nests w few e n m (omega (arith, l))) (λ j. exprs_nest w few es n j (omega (arith, l)))
 
   test_nests : (w : Context) (few : AllFew w) (t : Test) (n m : ℕ) → room (test_depth t) ≤ n → Nests test_nesting n (test_depth t) (lift_test w t m)
   test_nests w few True n m l = record { before = omega arith; phrase = omega arith }
   test_nests w few (Not c) n m l = let h = cond_nests w few c n m (omega (arith, l)) in let p = h.phrase in record { before = h.before; phrase = omega (arith, p) }
   test_nests w few (Comparison op a b) n m l =
-      joined_nests expr_nesting expr_nesting test_nesting (L.Comparison op) n (expr_depth a) (expr_depth b) (suc (max (expr_depth a) (expr_depth b)))
+      combined_nests expr_nesting expr_nesting test_nesting (L.Comparison op) n (expr_depth a) (expr_depth b) (suc (max (expr_depth a) (expr_depth b)))
       (λ x y h k. omega (arith, h, k)) (lift w a m) (lift w b) (lift_nests w few a n m (omega (arith, l))) (λ j. lift_nests w few b n j (omega (arith, l)))
 
   cond_nests : (w : Context) (few : AllFew w) (c : Cond) (n m : ℕ) → room (cond_depth c) ≤ n → Nests cond_nesting n (cond_depth c) (lift_cond w c m)
   cond_nests w few NoTest n m l = record { before = omega arith; phrase = omega arith }
   cond_nests w few (MoreTest t c) n m l =
-      joined_nests test_nesting cond_nesting cond_nesting L.MoreTest n (test_depth t) (cond_depth c) (max (test_depth t) (cond_depth c))
+      combined_nests test_nesting cond_nesting cond_nesting L.MoreTest n (test_depth t) (cond_depth c) (max (test_depth t) (cond_depth c))
       (λ a b h k. omega (arith, h, k)) (lift_test w t m) (lift_cond w c) (test_nests w few t n m (omega (arith, l))) (λ j. cond_nests w few c n j (omega (arith, l)))
 
 -- ---- commands

@@ -9,7 +9,7 @@ use Rattle.homeo_meaning.specs.Key.{words}
 use Rattle.homeo_meaning.specs.Schema.{Declared, Schema}
 use Rattle.homeo_meaning.specs.Aborts.{holds_abort, hold_abort}
 use Rattle.homeo_meaning.specs.Context.{Spot, Slot, Context, spot, cell, field_cell, object, slots, fields, bind, slot_at, context}
-use Rattle.homeo_meaning.specs.LForm.{Lifted, Made, AllMade, both, one, in_front, read, fresh, equal, within, plain, mapped, joined, visits, counted, read_chain, read_slot, literal_of, indexed_by, name_of, lift, lift_all, lift_test, lift_cond, placed, guarded, write_to, write_field, write_chain, Pair, pair, write_at, write_by, as_one, loop, clear, Target, stored, lift_values, all_within, field_writes, fill_chain, inserted, form, forms, unless_ended, guard, in_turn, saves, restores, undo, saved_in, undoing, body_by, l_form}
+use Rattle.homeo_meaning.specs.LForm.{Lifted, Made, AllMade, both, one, in_front, read, fresh, equal, within, plain, mapped, combined, visits, counted, read_chain, read_slot, literal_of, indexed_by, name_of, lift, lift_all, lift_test, lift_cond, placed, guarded, write_to, write_field, write_chain, Pair, pair, write_at, write_by, as_one, loop, clear, Target, stored, lift_values, all_within, field_writes, fill_chain, inserted, form, forms, unless_ended, guard, in_turn, saves, restores, undo, saved_in, undoing, body_by, l_form}
 use Rattle.homeo_cert.specs.Key.{words as cert_words}
 use Rattle.homeo_cert.proofs.FreshBelow.{ExprBelow, ExprsBelow, TestBelow, CondBelow, FreshBelow, AllFreshBelow}
 
@@ -136,10 +136,10 @@ module _ (b : ℕ) (flag_below : 0 < b) where
   unfolding words
   mapped_takes P Q f g n x h = record { grows = h.grows; count = h.count; before = h.before; phrase = λ l. g x.phrase (h.phrase l) }
 
-  joined_takes : {A B C : Type 0} (P : A → Type 0) (Q : B → Type 0) (R : C → Type 0) (f : A → B → C) → ((a : A) (c : B) → P a → Q c → R (f a c)) →
-      (n : ℕ) (x : Lifted A) (y : ℕ → Lifted B) → Takes P n x → ((m : ℕ) → Takes Q m (y m)) → Takes R n (joined f x y)
+  combined_takes : {A B C : Type 0} (P : A → Type 0) (Q : B → Type 0) (R : C → Type 0) (f : A → B → C) → ((a : A) (c : B) → P a → Q c → R (f a c)) →
+      (n : ℕ) (x : Lifted A) (y : ℕ → Lifted B) → Takes P n x → ((m : ℕ) → Takes Q m (y m)) → Takes R n (combined f x y)
   unfolding words
-  joined_takes P Q R f g n x y h k =
+  combined_takes P Q R f g n x y h k =
       let o = k x.next in
       let up = o.grows in let c = o.count in let here = h.grows in let d = h.count in
       let e = both_count x.before (y x.next).before in
@@ -253,18 +253,18 @@ module _ (b : ℕ) (flag_below : 0 < b) where
     exprs_take : (w : Context) (es : Exprs) (n : ℕ) → Takes (ExprsBelow b) n (lift_all w es n)
     exprs_take w NoExpr n = plain_takes (ExprsBelow b) L.NoExpr n tt
     exprs_take w (MoreExpr e es) n =
-        joined_takes (ExprBelow b) (ExprsBelow b) (ExprsBelow b) L.MoreExpr (λ a c h k. (h, k)) n (lift w e n) (lift_all w es) (lift_takes w e n) (λ m. exprs_take w es m)
+        combined_takes (ExprBelow b) (ExprsBelow b) (ExprsBelow b) L.MoreExpr (λ a c h k. (h, k)) n (lift w e n) (lift_all w es) (lift_takes w e n) (λ m. exprs_take w es m)
 
     test_takes : (w : Context) (t : Test) (n : ℕ) → Takes (TestBelow b) n (lift_test w t n)
     test_takes w True n = plain_takes (TestBelow b) L.True n tt
     test_takes w (Not c) n = mapped_takes (CondBelow b) (TestBelow b) L.Not (λ a h. h) n (lift_cond w c n) (cond_takes w c n)
     test_takes w (Comparison op a d) n =
-        joined_takes (ExprBelow b) (ExprBelow b) (TestBelow b) (L.Comparison op) (λ x y h k. (h, k)) n (lift w a n) (lift w d) (lift_takes w a n) (λ m. lift_takes w d m)
+        combined_takes (ExprBelow b) (ExprBelow b) (TestBelow b) (L.Comparison op) (λ x y h k. (h, k)) n (lift w a n) (lift w d) (lift_takes w a n) (λ m. lift_takes w d m)
 
     cond_takes : (w : Context) (c : Cond) (n : ℕ) → Takes (CondBelow b) n (lift_cond w c n)
     cond_takes w NoTest n = plain_takes (CondBelow b) L.NoTest n tt
     cond_takes w (MoreTest t c) n =
-        joined_takes (TestBelow b) (CondBelow b) (CondBelow b) L.MoreTest (λ x y h k. (h, k)) n (lift_test w t n) (lift_cond w c) (test_takes w t n) (λ m. cond_takes w c m)
+        combined_takes (TestBelow b) (CondBelow b) (CondBelow b) L.MoreTest (λ x y h k. (h, k)) n (lift_test w t n) (lift_cond w c) (test_takes w t n) (λ m. cond_takes w c m)
 
   -- ---- commands
   placed_makes : {A : Type 0} (P : A → Type 0) (f : A → L.Command) → ((a : A) → P a → FreshBelow b (f a)) → (n : ℕ) (x : Lifted A) → Takes P n x → Makes n (placed x f)
@@ -302,8 +302,8 @@ module _ (b : ℕ) (flag_below : 0 < b) where
       record { grows = omega (arith, g, e); count = omega (arith, c, e); below = m.below }
   by_makes None all f n x y h k lit =
       placed_makes (λ (p : Pair L.Expr). ExprBelow b p.index × ExprBelow b p.value) (λ p. L.If (within f p.value L.NoTest) (write_chain f p.index p.value all) L.Skip)
-      (λ p l. (((tt, l.1), ((l.1, tt), tt)), write_chain_below f p.index p.value all l.0 l.1, tt)) n (joined pair x y)
-      (joined_takes (ExprBelow b) (ExprBelow b) (λ (p : Pair L.Expr). ExprBelow b p.index × ExprBelow b p.value) pair (λ a c i j. (i, j)) n x y h k)
+      (λ p l. (((tt, l.1), ((l.1, tt), tt)), write_chain_below f p.index p.value all l.0 l.1, tt)) n (combined pair x y)
+      (combined_takes (ExprBelow b) (ExprBelow b) (λ (p : Pair L.Expr). ExprBelow b p.index × ExprBelow b p.value) pair (λ a c i j. (i, j)) n x y h k)
 
   one_makes : (n : ℕ) (x : AllMade) → AllMakes n x → Makes n (as_one x)
   unfolding words cert_words
@@ -333,7 +333,7 @@ module _ (b : ℕ) (flag_below : 0 < b) where
   unfolding words cert_words
   values_take w ds [] n = plain_takes TargetsBelow [] n tt
   values_take w ds (f ∷ more) n =
-      joined_takes (λ (t : Target). t.temp < b) TargetsBelow TargetsBelow ◌∷◌ (λ a c h k. (h, k)) n (stored (spot ds f.field.name) (lift w f.value n)) (lift_values w ds more)
+      combined_takes (λ (t : Target). t.temp < b) TargetsBelow TargetsBelow ◌∷◌ (λ a c h k. (h, k)) n (stored (spot ds f.field.name) (lift w f.value n)) (lift_values w ds more)
       (stored_takes (spot ds f.field.name) n (lift w f.value n) (lift_takes w f.value n)) (λ m. values_take w ds more m)
 
   all_within_below : (xs : List Target) → TargetsBelow xs → CondBelow b (all_within xs)

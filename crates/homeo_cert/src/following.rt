@@ -22,7 +22,7 @@ use crate::reading::Certificate;
 use crate::rules::Rules;
 use crate::sizes::form_of;
 use crate::table::ClauseTable;
-use homeo_linear::{Standing, joined_deltas, push_written};
+use homeo_linear::{Standing, deltas_in_order, push_written};
 use homeo_plan::Delta;
 use homeo_split::{Place, place_of, place_of_temp};
 use homeo_syntax::{LCommand, LCond, LExpr, SplitName, Temp};
@@ -132,7 +132,7 @@ impl<'a> Following<'a> {
     fn end(self, alloc: Global) -> Result<(), Stop>
         ensures { Finds (flat_map (written_faults self.entry) (written_in self.entry)) result }
     {
-        let written = joined_deltas(alloc, self.written)?;
+        let written = deltas_in_order(alloc, self.written)?;
         for delta in &written {
             let place = Place::Delta {
                 object: delta.object,

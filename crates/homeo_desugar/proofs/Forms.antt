@@ -18,12 +18,12 @@ use Rattle.homeo_meaning.specs.Key.{words as meaning_words}
 use Rattle.homeo_meaning.specs.Schema.{Declared}
 use Rattle.homeo_meaning.specs.Context.{Spot, Slot, Context, slot_at, cell, spot}
 use Rattle.homeo_meaning.specs.Aborts.{holds_abort}
-use Rattle.homeo_meaning.specs.LForm.{Lifted, Made, AllMade, Pair, Target, both, one, in_front, guard, joined, visits, literal_of, lift, placed, within, write_chain, pair, write_to, write_field, write_at, write_by, write_indexed, stored, lift_values, all_within, fill_chain, inserted, chosen, as_one, form, forms}
+use Rattle.homeo_meaning.specs.LForm.{Lifted, Made, AllMade, Pair, Target, both, one, in_front, guard, combined, visits, literal_of, lift, placed, within, write_chain, pair, write_to, write_field, write_at, write_by, write_indexed, stored, lift_values, all_within, fill_chain, inserted, chosen, as_one, form, forms}
 use Rattle.homeo_desugar.specs.inner.Key.{words}
 use Rattle.homeo_desugar.specs.inner.Made.{made, IsLifted, IsAdded, IsFormed, AreFormed, AreWithin, plain_target}
 use Rattle.homeo_desugar.specs.declared.making.Making.{Making}
 use Rattle.homeo_desugar.specs.declared.making.Target as code
-use Rattle.homeo_desugar.proofs.Makings.{Leaves, both_none, both_both, made_push, lifted_joined, leaves_step}
+use Rattle.homeo_desugar.proofs.Makings.{Leaves, both_none, both_both, made_push, lifted_combined, leaves_step}
 
 -- ---- a command behind a lifting
 -- what is made from nothing is the lifting's
@@ -76,9 +76,9 @@ pub write_by_chain : (start mid out : Making) (n : ℕ) (x : ℕ → Lifted L.Ex
 unfolding meaning_words
 write_by_chain start mid out n x y all f i v c r e first h k none is front =
     let dynamic : None ≡ literal_of (x start.next).phrase = none ∙ ap literal_of h.phrase in
-    let both_lifted : IsLifted start out (joined pair (x start.next) y) (pair i v) = lifted_joined pair start mid out (x start.next) y i v (pair i v) refl h k in
+    let both_lifted : IsLifted start out (combined pair (x start.next) y) (pair i v) = lifted_combined pair start mid out (x start.next) y i v (pair i v) refl h k in
     let by_none : IsFormed out.next (write_by None all f (x start.next) y) r =
-    placed_formed (λ (p : Pair L.Expr). L.If (within f p.value L.NoTest) (write_chain f p.index p.value all) L.Skip) start out start.next (λ m. joined pair (x m) y) (pair i v) c r e refl both_lifted is front in
+    placed_formed (λ (p : Pair L.Expr). L.If (within f p.value L.NoTest) (write_chain f p.index p.value all) L.Skip) start out start.next (λ m. combined pair (x m) y) (pair i v) c r e refl both_lifted is front in
     let by_literal : IsFormed out.next (write_indexed all f (x start.next) y) r = subst (λ o. IsFormed out.next (write_by o all f (x start.next) y) r) dynamic by_none in
     subst (λ m. IsFormed out.next (write_indexed all f (x m) y) r) first by_literal
 
@@ -95,11 +95,11 @@ stored_lifted f old mid new x e t c target h taken next pushed is same =
       next = next ∙ ap suc h.next;
     }
 
-values_next : (x : Context) (ds : List Declared) (vs : List FieldValue) (i n : ℕ) (v : FieldValue) → i < length vs → v ≡ get_or vs i v → lift_values x ds (map plain_field (drop i vs)) n ≡ joined ◌∷◌ (stored (spot ds v.field.name) (lift x (plain_expr v.value) n)) (lift_values x ds (map plain_field (drop (i + 1) vs)))
+values_next : (x : Context) (ds : List Declared) (vs : List FieldValue) (i n : ℕ) (v : FieldValue) → i < length vs → v ≡ get_or vs i v → lift_values x ds (map plain_field (drop i vs)) n ≡ combined ◌∷◌ (stored (spot ds v.field.name) (lift x (plain_expr v.value) n)) (lift_values x ds (map plain_field (drop (i + 1) vs)))
 unfolding meaning_words tree_words
 values_next x ds vs i n v h is =
     let front : drop i vs ≡ get_or vs i v ∷ drop (i + 1) vs = rw add-one (drop-cons vs i v h) in
-    ap (λ l. lift_values x ds (map plain_field l) n) front ∙ ap (λ (d : FieldValue). joined ◌∷◌ (stored (spot ds d.field.name) (lift x (plain_expr d.value) n)) (lift_values x ds (map plain_field (drop (i + 1) vs)))) (sym is)
+    ap (λ l. lift_values x ds (map plain_field l) n) front ∙ ap (λ (d : FieldValue). combined ◌∷◌ (stored (spot ds d.field.name) (lift x (plain_expr d.value) n)) (lift_values x ds (map plain_field (drop (i + 1) vs)))) (sym is)
 
 -- one value more
 pub values_step : (x : Context) (ds : List Declared) (vs : List FieldValue) (i : ℕ) (v : FieldValue) (old now new : Making) (before after : List code.Target) (target : code.Target) (whole : Lifted (List Target)) → i < length vs → v ≡ get_or vs i v →

@@ -15,7 +15,7 @@ use Rattle.homeo_syntax.specs.LowView.{low_exprs, low_tests, low_commands, plain
 use Rattle.homeo_meaning.specs.Key.{words as meaning_words}
 use Rattle.homeo_meaning.specs.Schema.{Declared}
 use Rattle.homeo_meaning.specs.Context.{Spot, Slot, Context, slots, fields, spot, slot_at, bind}
-use Rattle.homeo_meaning.specs.LForm.{Lifted, Made, AllMade, both, one, in_front, unless_ended, in_turn, within, plain, mapped, joined, visits, counted, equal, read, fresh, literal_of, read_slot, read_chain, indexed_by, indexed, lift, lift_all, lift_test, lift_cond}
+use Rattle.homeo_meaning.specs.LForm.{Lifted, Made, AllMade, both, one, in_front, unless_ended, in_turn, within, plain, mapped, combined, visits, counted, equal, read, fresh, literal_of, read_slot, read_chain, indexed_by, indexed, lift, lift_all, lift_test, lift_cond}
 use Rattle.homeo_desugar.specs.inner.Key.{words}
 use Rattle.homeo_desugar.specs.inner.Made.{made, IsLifted, IsAdded, IsTurned, IsTested, both_tests}
 use Rattle.homeo_desugar.specs.inner.Settings.{plain_slot, plain_slots, slots_after, slot_of}
@@ -104,9 +104,9 @@ unfolding meaning_words
 lifted_mapped f old new x a b e h = record { phrase = e ∙ ap f h.phrase; commands = h.commands; next = h.next }
 
 -- one after the other
-pub lifted_joined : {A B C : Type 0} (f : A → B → C) (old mid new : Making) (x : Lifted A) (y : ℕ → Lifted B) (a : A) (b : B) (c : C) → c ≡ f a b → IsLifted old mid x a → IsLifted mid new (y mid.next) b → IsLifted old new (joined f x y) c
+pub lifted_combined : {A B C : Type 0} (f : A → B → C) (old mid new : Making) (x : Lifted A) (y : ℕ → Lifted B) (a : A) (b : B) (c : C) → c ≡ f a b → IsLifted old mid x a → IsLifted mid new (y mid.next) b → IsLifted old new (combined f x y) c
 unfolding meaning_words
-lifted_joined {A} {B} {C} f old mid new x y a b c e h k =
+lifted_combined {A} {B} {C} f old mid new x y a b c e h k =
     let k' : IsLifted mid new (y x.next) b = subst (λ n. IsLifted mid new (y n) b) h.next k in
     record {
       phrase = e ∙ ap (λ (p : A). f p b) h.phrase ∙ ap (f x.phrase) k'.phrase;
@@ -147,7 +147,7 @@ pub record Leaves {A : Type 0} (old now : Making) (before here : A) (put : A →
 
 -- the first of what is left is lifted
 pub leaves_step : {A B : Type 0} (f : B → A → A) (put : A → A → A) (old now new : Making) (before here later : A) (x : Lifted B) (y : ℕ → Lifted A) (b : B) (whole : Lifted A) →
-    ((a : A) → put later a ≡ put here (f b a)) → IsLifted now new x b → Leaves old now before here put (joined f x y) whole → Leaves old new before later put (y new.next) whole
+    ((a : A) → put later a ≡ put here (f b a)) → IsLifted now new x b → Leaves old now before here put (combined f x y) whole → Leaves old new before later put (y new.next) whole
 unfolding meaning_words
 leaves_step {A} f put old now new before here later x y b whole more h l =
     subst (λ n. Leaves old new before later put (y n) whole) (sym h.next) (record {
@@ -166,21 +166,21 @@ unfolding meaning_words
 conds_end old now before here whole l = record { tests = sym (tests_none here) ∙ l.phrase; commands = sym (both_none (made now)) ∙ l.commands; next = l.next }
 
 -- the first of what is left of a list
-pub exprs_next : (x : Context) (es : List Expr) (i n : ℕ) (e : Expr) → i < length es → e ≡ get_or es i e → lift_all x (exprs (map plain_expr (drop i es))) n ≡ joined L.MoreExpr (lift x (plain_expr e) n) (lift_all x (exprs (map plain_expr (drop (i + 1) es))))
+pub exprs_next : (x : Context) (es : List Expr) (i n : ℕ) (e : Expr) → i < length es → e ≡ get_or es i e → lift_all x (exprs (map plain_expr (drop i es))) n ≡ combined L.MoreExpr (lift x (plain_expr e) n) (lift_all x (exprs (map plain_expr (drop (i + 1) es))))
 unfolding meaning_words tree_words
 exprs_next x es i n e h is =
     let front : drop i es ≡ get_or es i e ∷ drop (i + 1) es = rw add-one (drop-cons es i e h) in
-    ap (λ l. lift_all x (exprs (map plain_expr l)) n) front ∙ ap (λ d. joined L.MoreExpr (lift x (plain_expr d) n) (lift_all x (exprs (map plain_expr (drop (i + 1) es))))) (sym is)
+    ap (λ l. lift_all x (exprs (map plain_expr l)) n) front ∙ ap (λ d. combined L.MoreExpr (lift x (plain_expr d) n) (lift_all x (exprs (map plain_expr (drop (i + 1) es))))) (sym is)
 
 pub exprs_past : (x : Context) (es : List Expr) (i n : ℕ) → length es ≤ i → lift_all x (exprs (map plain_expr (drop i es))) n ≡ plain L.NoExpr n
 unfolding meaning_words tree_words
 exprs_past x es i n h = ap (λ l. lift_all x (exprs (map plain_expr l)) n) (drop_all i es h)
 
-pub tests_next : (x : Context) (ts : List Test) (i n : ℕ) (t : Test) → i < length ts → t ≡ get_or ts i t → lift_cond x (tests (map plain_test (drop i ts))) n ≡ joined L.MoreTest (lift_test x (plain_test t) n) (lift_cond x (tests (map plain_test (drop (i + 1) ts))))
+pub tests_next : (x : Context) (ts : List Test) (i n : ℕ) (t : Test) → i < length ts → t ≡ get_or ts i t → lift_cond x (tests (map plain_test (drop i ts))) n ≡ combined L.MoreTest (lift_test x (plain_test t) n) (lift_cond x (tests (map plain_test (drop (i + 1) ts))))
 unfolding meaning_words tree_words
 tests_next x ts i n t h is =
     let front : drop i ts ≡ get_or ts i t ∷ drop (i + 1) ts = rw add-one (drop-cons ts i t h) in
-    ap (λ l. lift_cond x (tests (map plain_test l)) n) front ∙ ap (λ d. joined L.MoreTest (lift_test x (plain_test d) n) (lift_cond x (tests (map plain_test (drop (i + 1) ts))))) (sym is)
+    ap (λ l. lift_cond x (tests (map plain_test l)) n) front ∙ ap (λ d. combined L.MoreTest (lift_test x (plain_test d) n) (lift_cond x (tests (map plain_test (drop (i + 1) ts))))) (sym is)
 
 pub tests_past : (x : Context) (ts : List Test) (i n : ℕ) → length ts ≤ i → lift_cond x (tests (map plain_test (drop i ts))) n ≡ plain L.NoTest n
 unfolding meaning_words tree_words

@@ -12,7 +12,7 @@ use Rattle.homeo_plan.specs.Each.{Each}
 use Rattle.homeo_plan.specs.declared.forms.Delta.{Delta}
 use Rattle.homeo_plan.specs.declared.forms.Term.{Term}
 use Rattle.homeo_plan.specs.Linear.{delta_of, same_delta, Linear, add_deltas, is_empty, base_forms}
-use Rattle.homeo_plan.specs.Template.{PlannedCall, atoms_of, needs_of, Clause, clause_of, same_term, same_terms, same_clause, with_clause, clauses_from, joined, put_all, template}
+use Rattle.homeo_plan.specs.Template.{PlannedCall, atoms_of, needs_of, Clause, clause_of, same_term, same_terms, same_clause, with_clause, clauses_from, atoms_of_sets, put_all, template}
 use Rattle.homeo_plan.proofs.Factors.{same_delta_is, same_delta_refl}
 use Rattle.homeo_follow.specs.Expanded.{terms_from, expanded_terms, expanded_deltas, expanded}
 use Rattle.homeo_follow.specs.Follow.{object_delta, object_forms, followed, needed}
@@ -142,11 +142,11 @@ module _ (k : ℕ) (b : ℕ → ℤ) where
       each_append IsTidy (followed b g.command).atoms (followed_atoms b gs)
       (follows k g.site h.0.0 b g.command h.0.1 (base_forms b) (object_forms b) (stands_at_base k g.site h.0.0 b)).atoms.tidy (tidy_atoms gs h.1)
 
-  joined_atoms : (gs : List PlannedCall) → Each IsPlanned gs → joined (map (atoms_of k b) gs) ≡ map (expanded k) (followed_atoms b gs)
+  atoms_are : (gs : List PlannedCall) → Each IsPlanned gs → atoms_of_sets (map (atoms_of k b) gs) ≡ map (expanded k) (followed_atoms b gs)
   unfolding words plan_words
-  joined_atoms [] h = refl
-  joined_atoms (g ∷ gs) h =
-      ap₂ ◌++◌ (atoms_are_followed k b g h.0.0 h.0.1) (joined_atoms gs h.1)
+  atoms_are [] h = refl
+  atoms_are (g ∷ gs) h =
+      ap₂ ◌++◌ (atoms_are_followed k b g h.0.0 h.0.1) (atoms_are gs h.1)
       ∙ sym (map-append (expanded k) (followed b g.command).atoms (followed_atoms b gs))
 
   module _ (d : Delta) where
@@ -187,13 +187,13 @@ module _ (k : ℕ) (b : ℕ → ℤ) where
     frozen : (gs : List PlannedCall) → Each IsPlanned gs → has d (template k b gs).freezes ≡ (nat_lt d.site k && is_frozen b gs d.object d.site)
     unfolding words plan_words
     frozen gs h =
-        let mixed : List (List Delta) = map (λ a. a.mixed) (joined (map (atoms_of k b) gs)) in
+        let mixed : List (List Delta) = map (λ a. a.mixed) (atoms_of_sets (map (atoms_of k b) gs)) in
         has_all d (map (needs_of k b) gs) (put_all mixed [])
         ∙ ap₂ ◌||◌
         (any_needs gs h ∙ any_and (nat_lt d.site k) (λ g. not (d.site == g.site) && has_object d.object (needed b (followed b g.command))) gs)
         (has_all d mixed []
         ∙ ap (λ c. c || false)
-        (ap (λ l. list_any (has d) (map (λ a. a.mixed) l)) (joined_atoms gs h)
+        (ap (λ l. list_any (has d) (map (λ a. a.mixed) l)) (atoms_are gs h)
         ∙ any_mixed (followed_atoms b gs) (tidy_atoms gs h)
         ∙ any_and (nat_lt d.site k) (λ a. has_object d.object a.mixed) (followed_atoms b gs)))
         ∙ both (nat_lt d.site k) (list_any (λ a. has_object d.object a.mixed) (followed_atoms b gs))
@@ -203,6 +203,6 @@ module _ (k : ℕ) (b : ℕ → ℤ) where
   unfolding words plan_words
   by_objects some gs h =
       record {
-        clauses = ap (clauses_from []) (joined_atoms gs h) ∙ clauses_expanded k some (followed_atoms b gs) [] (tidy_atoms gs h) tt;
+        clauses = ap (clauses_from []) (atoms_are gs h) ∙ clauses_expanded k some (followed_atoms b gs) [] (tidy_atoms gs h) tt;
         freezes = λ d. frozen d gs h;
       }

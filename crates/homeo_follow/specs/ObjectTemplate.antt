@@ -3,7 +3,7 @@ use Rattle.std.specs.Prelude.{◌≡◌, ℕ, ◌==◌, nat_lt, Bool, not, ◌||
 use Rattle.std.specs.List.{list_any}
 use Rattle.homeo_plan.specs.declared.forms.Delta.{Delta}
 use Rattle.homeo_plan.specs.Linear.{Linear, same_delta}
-use Rattle.homeo_plan.specs.Template.{PlannedCall, Clause, clauses_from, joined, template}
+use Rattle.homeo_plan.specs.Template.{PlannedCall, Clause, clauses_from, atoms_of_sets, template}
 use Rattle.homeo_follow.specs.Key.{words}
 use Rattle.homeo_follow.specs.Expanded.{expanded_terms}
 use Rattle.homeo_follow.specs.Follow.{object_delta, followed, needed}
@@ -16,7 +16,7 @@ expanded_clause k c = record { terms = expanded_terms k c.terms; slack = c.slack
 -- the atoms of the commands of ground calls, one call after another
 abbrev pub followed_atoms : (ℕ → ℤ) → List PlannedCall → List Linear
 unfolding words
-followed_atoms b gs = joined (map (λ g. (followed b g.command).atoms) gs)
+followed_atoms b gs = atoms_of_sets (map (λ g. (followed b g.command).atoms) gs)
 
 -- an object is one of these
 abbrev pub has_object : ℕ → List Delta → Bool

@@ -10,10 +10,10 @@ use Rattle.homeo_meaning.specs.Key.{words}
 use Rattle.homeo_meaning.specs.LowMeaning as M
 use Rattle.homeo_meaning.specs.Context.{Spot, Slot, Context, spot, cell, field_cell, object, slots, fields, bind, slot_at}
 use Rattle.homeo_meaning.specs.Meaning.{State, value, holds}
-use Rattle.homeo_meaning.specs.LForm.{Lifted, Made, one_test, equal, read, flag, set_flag, unless_ended, guard, in_turn, joined, in_front, within, guarded, write_field, write_chain, write_at, write_by, pair, visits, Target, all_within, field_writes, fill_chain, lift, lift_cond, lift_values, literal_of, as_one, clear, form, forms}
+use Rattle.homeo_meaning.specs.LForm.{Lifted, Made, one_test, equal, read, flag, set_flag, unless_ended, guard, in_turn, combined, in_front, within, guarded, write_field, write_chain, write_at, write_by, pair, visits, Target, all_within, field_writes, fill_chain, lift, lift_cond, lift_values, literal_of, as_one, clear, form, forms}
 use Rattle.homeo_meaning.specs.Aborts.{holds_abort, hold_abort}
 use Rattle.homeo_lform.specs.Fresh.{flags, TakesFrom}
-use Rattle.homeo_lform.proofs.Lifts.{at_fresh, quiet, Lifts, quiet_both, quiet_then, quiet_front, joined_lifts}
+use Rattle.homeo_lform.proofs.Lifts.{at_fresh, quiet, Lifts, quiet_both, quiet_then, quiet_front, combined_lifts}
 use Rattle.homeo_lform.proofs.Loops.{loop_test}
 use Rattle.homeo_lform.proofs.Values.{lifts, lifts_cond}
 use Rattle.homeo_lform.proofs.Writes.{fill_end, lifts_values, pair_value}
@@ -111,8 +111,8 @@ by_takes (Some k) all g x y i v f n s h l =
     let r = at_takes (slot_at k all) g f x.next y v l s in
     record { grows = omega (arith, h.grows, r.grows); keeps = λ j le lt. r.keeps j le (omega (arith, h.grows)) }
 by_takes None all g x y i v f n s h l =
-    front_takes pair_value (λ t. pair (i t) (v t)) f n s (joined pair x y) (L.If (within g (y x.next).phrase L.NoTest) (write_chain g x.phrase (y x.next).phrase all) L.Skip)
-    (joined_lifts pair pair M.value M.value pair_value i v (λ a b u. refl) n s x y h l)
+    front_takes pair_value (λ t. pair (i t) (v t)) f n s (combined pair x y) (L.If (within g (y x.next).phrase L.NoTest) (write_chain g x.phrase (y x.next).phrase all) L.Skip)
+    (combined_lifts pair pair M.value M.value pair_value i v (λ a b u. refl) n s x y h l)
     (if_none (within g (y x.next).phrase L.NoTest) (write_chain g x.phrase (y x.next).phrase all) L.Skip (write_chain_none g x.phrase (y x.next).phrase all) (λ a j. refl))
 
 -- ---- the commands of a slot, guarded or not

@@ -6,7 +6,7 @@ use Rattle.homeo_syntax.specs.Low as L
 use Rattle.homeo_meaning.specs.Key.{words}
 use Rattle.homeo_meaning.specs.LowMeaning as M
 use Rattle.homeo_meaning.specs.Meaning.{State, Run}
-use Rattle.homeo_meaning.specs.LForm.{Lifted, both, one, in_front, plain, mapped, joined}
+use Rattle.homeo_meaning.specs.LForm.{Lifted, both, one, in_front, plain, mapped, combined}
 
 -- the source's state in a state of L
 abbrev pub seen : M.State → State
@@ -105,9 +105,9 @@ unfolding words
 mapped_lifts f g at at' v h n s x k =
     record { after = k.after; runs = k.runs; grows = k.grows; alike = k.alike; means = λ u l. h x.phrase u ∙ ap g (k.means u l) }
 
-pub joined_lifts : {A B C V W Z : Type 0} (f : A → B → C) (g : V → W → Z) (at : A → M.State → V) (at' : B → M.State → W) (at'' : C → M.State → Z) (v : State → V) (v' : State → W) → ((a : A) (b : B) (u : M.State) → at'' (f a b) u ≡ g (at a u) (at' b u)) → (n : ℕ) (s : M.State) (x : Lifted A) (y : ℕ → Lifted B) → Lifts n s x at v → ((m : ℕ) (a : M.State) → Lifts m a (y m) at' v') → Lifts n s (joined f x y) at'' (λ t. g (v t) (v' t))
+pub combined_lifts : {A B C V W Z : Type 0} (f : A → B → C) (g : V → W → Z) (at : A → M.State → V) (at' : B → M.State → W) (at'' : C → M.State → Z) (v : State → V) (v' : State → W) → ((a : A) (b : B) (u : M.State) → at'' (f a b) u ≡ g (at a u) (at' b u)) → (n : ℕ) (s : M.State) (x : Lifted A) (y : ℕ → Lifted B) → Lifts n s x at v → ((m : ℕ) (a : M.State) → Lifts m a (y m) at' v') → Lifts n s (combined f x y) at'' (λ t. g (v t) (v' t))
 unfolding words
-joined_lifts f g at at' at'' v v' h n s x y k l =
+combined_lifts f g at at' at'' v v' h n s x y k l =
     let r = l x.next k.after in
     record {
       after = r.after;

@@ -24,7 +24,7 @@ use Rattle.homeo_meaning.specs.Occurrences.{at, within, TakesField, Assigns, in_
 use Rattle.homeo_meaning.specs.ListRules.{is_in}
 use Rattle.homeo_meaning.specs.Aborts.{holds_abort, hold_abort}
 use Rattle.homeo_meaning.specs.LowWrites.{object_in, with_number, written, all_written}
-use Rattle.homeo_meaning.specs.LForm.{Lifted, Made, both, one, in_front, guard, in_turn, joined, visits, counted, read_chain, read_slot, literal_of, indexed_by, name_of, lift, lift_all, lift_test, lift_cond, write_to, write_field, write_chain, write_at, write_by, Target, stored, lift_values, all_within, field_writes, fill_chain, as_one, clear, form, forms, saves, restores, saved_in, body_by}
+use Rattle.homeo_meaning.specs.LForm.{Lifted, Made, both, one, in_front, guard, in_turn, combined, visits, counted, read_chain, read_slot, literal_of, indexed_by, name_of, lift, lift_all, lift_test, lift_cond, write_to, write_field, write_chain, write_at, write_by, Target, stored, lift_values, all_within, field_writes, fill_chain, as_one, clear, form, forms, saves, restores, saved_in, body_by}
 use Rattle.homeo_meaning.specs.NumberRules.{range_bounds}
 use Rattle.homeo_meaning.specs.GlobalNames.{scope_of}
 use Rattle.homeo_meaning.specs.TransactionRules.{transaction_faults}
@@ -164,10 +164,10 @@ module _ (sc : Scope) (objects names : ℕ) where
   guard_in true c h = (((tt, tt), tt), h, tt)
   guard_in false c h = h
 
-  joined_in : {A B C : Type 0} (P : A → Type 0) (Q : B → Type 0) (R : C → Type 0) (f : A → B → C) → ((a : A) (b : B) → P a → Q b → R (f a b))
-      → (x : Lifted A) (y : ℕ → Lifted B) → Inside P x → ((m : ℕ) → Inside Q (y m)) → Inside R (joined f x y)
+  combined_in : {A B C : Type 0} (P : A → Type 0) (Q : B → Type 0) (R : C → Type 0) (f : A → B → C) → ((a : A) (b : B) → P a → Q b → R (f a b))
+      → (x : Lifted A) (y : ℕ → Lifted B) → Inside P x → ((m : ℕ) → Inside Q (y m)) → Inside R (combined f x y)
   unfolding words
-  joined_in P Q R f h x y k l =
+  combined_in P Q R f h x y k l =
       record { before = both_in x.before (y x.next).before k.before (l x.next).before; phrase = h x.phrase (y x.next).phrase k.phrase (l x.next).phrase }
 
   module _ (ds : List Declared) where
@@ -257,7 +257,7 @@ module _ (sc : Scope) (objects names : ℕ) where
         → EachInExprs (IsBelow names) es → Inside (ExprsWithin objects names) (lift_all x es n)
     lift_all_in rows x s.NoExpr n h c k = record { before = tt; phrase = tt }
     lift_all_in rows x (s.MoreExpr e es) n h c k =
-        joined_in InExpr (ExprsWithin objects names) (ExprsWithin objects names) L.MoreExpr (λ a b p q. (p, q)) (lift x e n) (lift_all x es)
+        combined_in InExpr (ExprsWithin objects names) (ExprsWithin objects names) L.MoreExpr (λ a b p q. (p, q)) (lift x e n) (lift_all x es)
         (lift_in rows x e n h (clean_first sc (in_expr rows e) (in_exprs rows es) c) k.0)
         (λ m. lift_all_in rows x es m h (clean_second sc (in_expr rows e) (in_exprs rows es) c) k.1)
 
@@ -266,7 +266,7 @@ module _ (sc : Scope) (objects names : ℕ) where
     lift_test_in rows x s.True n h c k = record { before = tt; phrase = tt }
     lift_test_in rows x (s.Not t) n h c k = let l = lift_cond_in rows x t n h c k in record { before = l.before; phrase = l.phrase }
     lift_test_in rows x (s.Comparison op d e) n h c k =
-        joined_in InExpr InExpr (TestWithin objects names) (L.Comparison op) (λ a b p q. (p, q)) (lift x d n) (lift x e)
+        combined_in InExpr InExpr (TestWithin objects names) (L.Comparison op) (λ a b p q. (p, q)) (lift x d n) (lift x e)
         (lift_in rows x d n h (clean_first sc (in_expr rows d) (in_expr rows e) c) k.0)
         (λ m. lift_in rows x e m h (clean_second sc (in_expr rows d) (in_expr rows e) c) k.1)
 
@@ -274,7 +274,7 @@ module _ (sc : Scope) (objects names : ℕ) where
         → EachInCond (IsBelow names) t → Inside InCond (lift_cond x t n)
     lift_cond_in rows x s.NoTest n h c k = record { before = tt; phrase = tt }
     lift_cond_in rows x (s.MoreTest t ts) n h c k =
-        joined_in (TestWithin objects names) InCond InCond L.MoreTest (λ a b p q. (p, q)) (lift_test x t n) (lift_cond x ts)
+        combined_in (TestWithin objects names) InCond InCond L.MoreTest (λ a b p q. (p, q)) (lift_test x t n) (lift_cond x ts)
         (lift_test_in rows x t n h (clean_first sc (in_test rows t) (in_cond rows ts) c) k.0)
         (λ m. lift_cond_in rows x ts m h (clean_second sc (in_test rows t) (in_cond rows ts) c) k.1)
 
@@ -336,7 +336,7 @@ module _ (sc : Scope) (objects names : ℕ) where
   values_in rows x q (f ∷ fs) n h named c k =
       let ds = fields x q in
       let value : Inside InExpr (lift x f.value n) = lift_in rows x f.value n h (clean_first sc (in_expr rows f.value) (in_fields rows fs) c) k.1 in
-      joined_in (λ (t : Target). t.field.place < length ds) (TargetsBelow ds) (TargetsBelow ds) ◌∷◌ (λ a b p q. (p, q))
+      combined_in (λ (t : Target). t.field.place < length ds) (TargetsBelow ds) (TargetsBelow ds) ◌∷◌ (λ a b p q. (p, q))
       (stored (spot ds f.field.name) (lift x f.value n)) (lift_values x ds fs)
       (record { before = both_in (lift x f.value n).before _ value.before ((tt, value.phrase), tt); phrase = field_below rows x q f.field.name h named.0 })
       (λ m. values_in rows x q fs m h named.1 (clean_second sc (in_expr rows f.value) (in_fields rows fs) c) k.2)

@@ -7,7 +7,7 @@ use Rattle.homeo_syntax.specs.Source.{Expr, Exprs, Literal, Name, Read, Sum, Pro
 use Rattle.homeo_meaning.specs.Schema.{Declared, Schema, schema_of}
 use Rattle.homeo_meaning.specs.Context.{Spot, Slot, Context, spot, cell, field_cell, object, slots, fields, bind, slot_at, context}
 use Rattle.homeo_meaning.specs.Aborts.{holds_abort, hold_abort}
-use Rattle.homeo_meaning.specs.LForm.{Lifted, Made, both, one, in_front, guard, in_turn, joined, visits, counted, read_chain, read_slot, literal_of, indexed_by, name_of, lift, lift_all, lift_test, lift_cond, write_to, write_field, write_chain, write_at, write_by, Target, stored, lift_values, all_within, field_writes, fill_chain, as_one, clear, form, forms, saves, restores, saved_in, body_by, l_form}
+use Rattle.homeo_meaning.specs.LForm.{Lifted, Made, both, one, in_front, guard, in_turn, combined, visits, counted, read_chain, read_slot, literal_of, indexed_by, name_of, lift, lift_all, lift_test, lift_cond, write_to, write_field, write_chain, write_at, write_by, Target, stored, lift_values, all_within, field_writes, fill_chain, as_one, clear, form, forms, saves, restores, saved_in, body_by, l_form}
 use Rattle.homeo_meaning.specs.Ground.{Ground}
 use Rattle.homeo_meaning.specs.CallForm.{body_form, ground_form}
 use Rattle.homeo_meaning.specs.Key.{words}
@@ -27,9 +27,9 @@ unfolding words
 front_whole L.NoCommand c h k = k
 front_whole (L.MoreCommand b bs) c h k = (h.0, both_whole bs (one c) h.1 (k, tt))
 
-joined_whole : {A B C : Type 0} (P : A → Type 0) (Q : B → Type 0) (R : C → Type 0) (f : A → B → C) → ((a : A) (b : B) → P a → Q b → R (f a b)) → (x : Lifted A) (y : ℕ → Lifted B) → Whole P x → ((m : ℕ) → Whole Q (y m)) → Whole R (joined f x y)
+combined_whole : {A B C : Type 0} (P : A → Type 0) (Q : B → Type 0) (R : C → Type 0) (f : A → B → C) → ((a : A) (b : B) → P a → Q b → R (f a b)) → (x : Lifted A) (y : ℕ → Lifted B) → Whole P x → ((m : ℕ) → Whole Q (y m)) → Whole R (combined f x y)
 unfolding words
-joined_whole P Q R f h x y k l =
+combined_whole P Q R f h x y k l =
     record { before = both_whole x.before (y x.next).before k.before (l x.next).before; phrase = h x.phrase (y x.next).phrase k.phrase (l x.next).phrase }
 
 turn_whole : (g : Bool) (before : L.Commands) (c : L.Command) (more : L.Commands) → AreWhole before → IsWhole c → AreWhole more → AreWhole (in_turn g before c more)
@@ -96,18 +96,18 @@ mutual
   exprs_whole : (w : Context) (es : Exprs) (n : ℕ) → Whole AreWholeExprs (lift_all w es n)
   exprs_whole w NoExpr n = record { before = tt; phrase = tt }
   exprs_whole w (MoreExpr e es) n =
-      joined_whole IsWholeExpr AreWholeExprs AreWholeExprs L.MoreExpr (λ a b h k. (h, k)) (lift w e n) (lift_all w es) (lift_whole w e n) (exprs_whole w es)
+      combined_whole IsWholeExpr AreWholeExprs AreWholeExprs L.MoreExpr (λ a b h k. (h, k)) (lift w e n) (lift_all w es) (lift_whole w e n) (exprs_whole w es)
 
   test_whole : (w : Context) (t : Test) (n : ℕ) → Whole IsWholeTest (lift_test w t n)
   test_whole w True n = record { before = tt; phrase = tt }
   test_whole w (Not c) n = let h = cond_whole w c n in record { before = h.before; phrase = h.phrase }
   test_whole w (Comparison op a b) n =
-      joined_whole IsWholeExpr IsWholeExpr IsWholeTest (L.Comparison op) (λ p q h k. (h, k)) (lift w a n) (lift w b) (lift_whole w a n) (lift_whole w b)
+      combined_whole IsWholeExpr IsWholeExpr IsWholeTest (L.Comparison op) (λ p q h k. (h, k)) (lift w a n) (lift w b) (lift_whole w a n) (lift_whole w b)
 
   cond_whole : (w : Context) (c : Cond) (n : ℕ) → Whole IsWholeCond (lift_cond w c n)
   cond_whole w NoTest n = record { before = tt; phrase = tt }
   cond_whole w (MoreTest t c) n =
-      joined_whole IsWholeTest IsWholeCond IsWholeCond L.MoreTest (λ a b h k. (h, k)) (lift_test w t n) (lift_cond w c) (test_whole w t n) (cond_whole w c)
+      combined_whole IsWholeTest IsWholeCond IsWholeCond L.MoreTest (λ a b h k. (h, k)) (lift_test w t n) (lift_cond w c) (test_whole w t n) (cond_whole w c)
 
 -- ---- commands
 write_whole : (b : Spot) (x : ℕ) (e : Lifted L.Expr) → Whole IsWholeExpr e → IsWhole (write_to b x e).command

@@ -11,7 +11,7 @@ use Rattle.homeo_meaning.specs.Schema.{Declared}
 use Rattle.homeo_meaning.specs.Context.{Spot, Slot, Context, spot, cell, first_where, slot_at}
 use Rattle.homeo_meaning.specs.Meaning.{State, Run, done, set_temp, set_object, is_free, is_within, write, write_slot, Setting, settings, are_within, fill, insert, value}
 use Rattle.homeo_meaning.specs.LForm.{Lifted, Pair, pair, one, fresh, placed, within, guarded, write_to, write_chain, write_at, write_indexed, Target, stored, lift, lift_values, all_within, field_writes, fill_chain, inserted}
-use Rattle.homeo_lform.proofs.Lifts.{seen, seen_run, quiet, at_fresh, Lifts, quiet_then, quiet_front, alike_self, plain_lifts, joined_lifts, stored_lifts}
+use Rattle.homeo_lform.proofs.Lifts.{seen, seen_run, quiet, at_fresh, Lifts, quiet_then, quiet_front, alike_self, plain_lifts, combined_lifts, stored_lifts}
 use Rattle.homeo_lform.proofs.Values.{lifts}
 
 -- a lifting in front of a command that does what the source does with the value
@@ -104,7 +104,7 @@ write_indexed_does all f i v y h n s before (L.Literal k) next x =
     ∙ ap (λ z. done (write_slot (seen s) f (slot_at z all) (v (seen s)))) (x.means x.after (alike_self next x.after))
 write_indexed_does all f i v y h n s before e next x =
     placed_does pair_value (λ t. pair (i t) (v t)) (λ p. L.If (within f p.value L.NoTest) (write_chain f p.index p.value all) L.Skip) (λ p t. done (write_slot t f (slot_at p.index all) p.value)) (chain_does all f) n s _
-    (joined_lifts pair pair M.value M.value pair_value i v (λ a b u. refl) n s (record { before = before; phrase = e; next = next }) y x h)
+    (combined_lifts pair pair M.value M.value pair_value i v (λ a b u. refl) n s (record { before = before; phrase = e; next = next }) y x h)
 
 -- ---- an insert
 abbrev pub target_value : Target → M.State → Setting
@@ -121,7 +121,7 @@ unfolding words
 lifts_values w ds [] n s = plain_lifts _ n s target_values (settings w ds []) (λ u. refl)
 lifts_values w ds (f ∷ more) n s =
     let k = lifts w f.value n s in
-    joined_lifts ◌∷◌ ◌∷◌ target_value target_values target_values (λ t. setting (value w f.value t)) (settings w ds more) (λ a b u. refl) n s
+    combined_lifts ◌∷◌ ◌∷◌ target_value target_values target_values (λ t. setting (value w f.value t)) (settings w ds more) (λ a b u. refl) n s
     (stored (spot ds f.field.name) (lift w f.value n)) (lift_values w ds more)
     (stored_lifts M.value (value w f.value) target_value (λ t. setting (value w f.value t)) n s (lift w f.value n) (L.Assign (temp.Fresh (lift w f.value n).next) (lift w f.value n).phrase)
     _ setting (M.value (lift w f.value n).phrase k.after) k refl (λ u. refl) (ap setting (k.means k.after (alike_self (lift w f.value n).next k.after))))

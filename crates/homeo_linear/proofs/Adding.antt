@@ -15,7 +15,7 @@ use Rattle.homeo_plan.specs.declared.forms.Term.{Term}
 use Rattle.homeo_plan.specs.Limit.{form_limit}
 use Rattle.homeo_linear.specs.inner.Key.{words}
 use Rattle.homeo_linear.specs.inner.Order.{InOrder, BeginsBehind, IsPlace, begins_with}
-use Rattle.homeo_linear.specs.inner.Terms.{AreWithin, AreSmall, AreJoined, sum_limit, add_at}
+use Rattle.homeo_linear.specs.inner.Terms.{AreWithin, AreSmall, AreAddedUp, sum_limit, add_at}
 use Rattle.homeo_linear.proofs.Orders.{before_is_other, before_is_one_way, before_total, Above, above_before, each_at, take_drop, begins_at, begins_past, place_end, place_after, place_below}
 use Rattle.homeo_linear.proofs.Widths.{abs_add}
 
@@ -383,17 +383,17 @@ pub scaled_end : (n : ℤ) (out ts : List Term) (i : ℕ) → length ts ≤ i �
 unfolding plan_words
 scaled_end n out ts i l = sym (ap (λ r. out ++ scale_terms n r) (drop_of_length-le ts l) ∙ append-nil out)
 
--- ---- terms that are joined already
+-- ---- terms that are added up already
 no_rest : (ts : List Term) → drop (length ts) ts ≡ []
 no_rest [] = refl
 no_rest (t ∷ ts) = no_rest ts
 
-pub none_left_joined : (ts : List Term) → AreJoined (drop (length ts) ts)
+pub none_left_added_up : (ts : List Term) → AreAddedUp (drop (length ts) ts)
 unfolding words plan_words
-none_left_joined ts = subst AreJoined (sym (no_rest ts)) (record { order = tt; counts = tt })
+none_left_added_up ts = subst AreAddedUp (sym (no_rest ts)) (record { order = tt; counts = tt })
 
 lead_of : (ts : List Term) (n : ℕ) (x : Term) → n < length ts → true ≡ not (int_eq (get_or ts n x).factor (pos 0)) →
-    (suc n < length ts → true ≡ delta_before (get_or ts n x).delta (get_or ts (suc n) x).delta) → AreJoined (drop (suc n) ts) → AreJoined (drop n ts)
+    (suc n < length ts → true ≡ delta_before (get_or ts n x).delta (get_or ts (suc n) x).delta) → AreAddedUp (drop (suc n) ts) → AreAddedUp (drop n ts)
 unfolding words plan_words
 lead_of [] n x l c b o = absurd (omega (arith, l))
 lead_of (t ∷ []) zero x l c b o = record { order = (tt, tt); counts = (is_not (int_eq t.factor (pos 0)) c, tt) }
@@ -407,8 +407,8 @@ lead_of (t ∷ ts) (suc n) x l c b o = lead_of ts n x (omega (arith, l)) c (λ k
 
 pub leads_at :
     (ts : List Term) (n : ℕ) (x : Term) → n < length ts → true ≡ not (int_eq (get_or ts n x).factor (pos 0)) →
-    (n + 1 < length ts → true ≡ delta_before (get_or ts n x).delta (get_or ts (n + 1) x).delta) → AreJoined (drop (n + 1) ts) → AreJoined (drop n ts)
+    (n + 1 < length ts → true ≡ delta_before (get_or ts n x).delta (get_or ts (n + 1) x).delta) → AreAddedUp (drop (n + 1) ts) → AreAddedUp (drop n ts)
 leads_at ts n x l c b o =
     let e : n + 1 ≡ suc n = omega arith in
     lead_of ts n x l c
-    (λ k. b (omega (arith, k)) ∙ ap (λ m. delta_before (get_or ts n x).delta (get_or ts m x).delta) e) (subst (λ m. AreJoined (drop m ts)) e o)
+    (λ k. b (omega (arith, k)) ∙ ap (λ m. delta_before (get_or ts n x).delta (get_or ts m x).delta) e) (subst (λ m. AreAddedUp (drop m ts)) e o)

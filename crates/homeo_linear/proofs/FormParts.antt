@@ -11,11 +11,11 @@ use Rattle.homeo_plan.specs.declared.forms.Term.{Term}
 use Rattle.homeo_plan.specs.Limit.{form_limit}
 use Rattle.homeo_linear.specs.inner.Key.{words}
 use Rattle.homeo_linear.specs.inner.Order.{InOrder}
-use Rattle.homeo_linear.specs.inner.Terms.{AreSmall, AreJoined, term_form}
+use Rattle.homeo_linear.specs.inner.Terms.{AreSmall, AreAddedUp, term_form}
 use Rattle.homeo_linear.proofs.Orders.{in_order_adds}
 use Rattle.homeo_linear.proofs.Adding.{order_adds, order_scale}
-use Rattle.homeo_linear.proofs.JoinedDeltas.{in_order_joined as deltas_joined, adds_append as deltas_append, adds_swap as deltas_swap}
-use Rattle.homeo_linear.proofs.JoinedTerms.{count_adds, count_scale, in_order_joined as terms_joined, adds_append as terms_append}
+use Rattle.homeo_linear.proofs.DeltasInOrder.{in_order_kept as deltas_kept, adds_append as deltas_append, adds_swap as deltas_swap}
+use Rattle.homeo_linear.proofs.TermsAddedUp.{count_adds, count_scale, in_order_kept as terms_kept, adds_append as terms_append}
 
 abbrev pub form_of : ℤ → List Term → List Delta → Linear
 form_of n ts ds = record { constant = n; terms = ts; mixed = ds }
@@ -24,41 +24,41 @@ pub same_form : (m n : ℤ) (ts us : List Term) (ds es : List Delta) → m ≡ n
 same_form m n ts us ds es p q r = λ i. form_of (p i) (q i) (r i)
 
 abbrev pub AreInOrder : List Term → List Delta → Type 0
-AreInOrder ts ds = AreJoined ts × InOrder ds
+AreInOrder ts ds = AreAddedUp ts × InOrder ds
 
-no_terms : AreJoined []
+no_terms : AreAddedUp []
 unfolding words plan_words
 no_terms = record { order = tt; counts = tt }
 
 pub none_in_order : (ts : List Term) (ds : List Delta) → ts ≡ [] → ds ≡ [] → AreInOrder ts ds
 unfolding words
-none_in_order ts ds p q = (subst AreJoined (sym p) no_terms, subst InOrder (sym q) tt)
+none_in_order ts ds p q = (subst AreAddedUp (sym p) no_terms, subst InOrder (sym q) tt)
 
 pub one_in_order :
     (d : Delta) (ts us : List Term) (ds : List Delta) → us ≡ [] → ts ≡ us ++ record { delta = d; factor = pos 1 } ∷ [] → ds ≡ [] → AreInOrder ts ds
 unfolding words plan_words
 one_in_order d ts us ds n p q = (
-  subst AreJoined (sym (p ∙ ap (λ l. l ++ record { delta = d; factor = pos 1 } ∷ []) n)) (record { order = (tt, tt); counts = (refl, tt) }),
+  subst AreAddedUp (sym (p ∙ ap (λ l. l ++ record { delta = d; factor = pos 1 } ∷ []) n)) (record { order = (tt, tt); counts = (refl, tt) }),
   subst InOrder (sym q) tt,
 )
 
-pub joined_in_order : (ts us : List Term) (ds es : List Delta) → us ≡ add_terms ts [] → es ≡ add_deltas ds [] → AreInOrder us es
+pub sum_in_order : (ts us : List Term) (ds es : List Delta) → us ≡ add_terms ts [] → es ≡ add_deltas ds [] → AreInOrder us es
 unfolding words plan_words
-joined_in_order ts us ds es p q = (
-  subst AreJoined (sym p) (record { order = order_adds ts [] tt; counts = count_adds ts [] tt }),
+sum_in_order ts us ds es p q = (
+  subst AreAddedUp (sym p) (record { order = order_adds ts [] tt; counts = count_adds ts [] tt }),
   subst InOrder (sym q) (in_order_adds ds [] tt),
 )
 
 pub multiple_in_order :
     (n : ℤ) (ts us xs : List Term) (ds es ys : List Delta) → us ≡ scale_terms n xs → xs ≡ ts → es ≡ ys → ys ≡ ds → AreInOrder ts ds → AreInOrder us es
 multiple_in_order n ts us xs ds es ys p p' q q' o = (
-  subst AreJoined (sym (p ∙ ap (scale_terms n) p')) (record { order = order_scale n ts o.0.order; counts = count_scale n ts }),
+  subst AreAddedUp (sym (p ∙ ap (scale_terms n) p')) (record { order = order_scale n ts o.0.order; counts = count_scale n ts }),
   subst InOrder (sym (q ∙ q')) o.1,
 )
 
 pub mix_in_order : (ts : List Term) (ds es : List Delta) → ts ≡ [] → es ≡ add_deltas ds [] → AreInOrder ts es
 unfolding words
-mix_in_order ts ds es p q = (subst AreJoined (sym p) no_terms, subst InOrder (sym q) (in_order_adds ds [] tt))
+mix_in_order ts ds es p q = (subst AreAddedUp (sym p) no_terms, subst InOrder (sym q) (in_order_adds ds [] tt))
 
 -- ---- small numbers
 pub small_terms : (a : Linear) (n : ℤ) (ts xs : List Term) (ds : List Delta) → form_of n ts ds ≡ a → xs ≡ ts → Numbers (IsSmall form_limit) a → AreSmall xs
@@ -98,7 +98,7 @@ delta_is d ts us ds n p q =
 -- a sum of one form
 pub total_of : (a : Linear) (n z : ℤ) (ts : List Term) (ds : List Delta) → form_of n ts ds ≡ a → z ≡ n → AreInOrder ts ds → form_of z (add_terms ts []) (add_deltas ds []) ≡ a
 total_of a n z ts ds e c o =
-    same_form z n (add_terms ts []) ts (add_deltas ds []) ds c (sym (terms_joined ts o.0.order o.0.counts)) (sym (deltas_joined ds o.1)) ∙ e
+    same_form z n (add_terms ts []) ts (add_deltas ds []) ds c (sym (terms_kept ts o.0.order o.0.counts)) (sym (deltas_kept ds o.1)) ∙ e
 
 pub total_none : (z : ℤ) (ts : List Term) (ds : List Delta) → z ≡ pos 0 → ts ≡ [] → ds ≡ [] → form_of z (add_terms ts []) (add_deltas ds []) ≡ constant_form (pos 0)
 unfolding plan_words
@@ -137,7 +137,7 @@ multiple_is a k k' n z ts us xs ds es ys e c w p p' q q' =
 
 -- deltas put into others that are in order
 pub put_into : (ds es fs xs : List Delta) → fs ≡ add_deltas xs [] → xs ≡ ds ++ es → InOrder ds → fs ≡ add_deltas es ds
-put_into ds es fs xs p q o = p ∙ ap (λ l. add_deltas l []) q ∙ deltas_append ds es [] ∙ ap (add_deltas es) (sym (deltas_joined ds o))
+put_into ds es fs xs p q o = p ∙ ap (λ l. add_deltas l []) q ∙ deltas_append ds es [] ∙ ap (add_deltas es) (sym (deltas_kept ds o))
 
 pub mix_is :
     (a b : Linear) (m n z : ℤ) (us vs : List Term) (fs gs : List Delta) (ts : List Term) (es ds ys ws : List Delta) → form_of m us fs ≡ a → form_of n vs gs ≡ b →

@@ -17,7 +17,7 @@ use Rattle.homeo_follow.specs.Follow.{object_form, gain, print_needs, write_need
 use Rattle.homeo_follow.proofs.Deltas.{any_add}
 use Rattle.homeo_linear.specs.inner.Key.{words}
 use Rattle.homeo_linear.specs.inner.Order.{InOrder}
-use Rattle.homeo_linear.proofs.JoinedDeltas.{has, or_move, or_none, has_adds, same_deltas, adds_append}
+use Rattle.homeo_linear.proofs.DeltasInOrder.{has, or_move, or_none, has_adds, same_deltas, adds_append}
 use Rattle.homeo_linear.proofs.Orders.{in_order_adds}
 
 -- the objects that deltas stand for

@@ -30,7 +30,7 @@ use Rattle.homeo_linear.specs.declared.following.Following.{Following}
 use Rattle.homeo_linear.specs.inner.Following.{adds, needs_of, Followed}
 use Rattle.homeo_linear.specs.inner.Key.{words}
 use Rattle.homeo_linear.specs.Standing.{forms_of}
-use Rattle.homeo_linear.proofs.JoinedDeltas.{adds_append}
+use Rattle.homeo_linear.proofs.DeltasInOrder.{adds_append}
 
 -- ---- remote deltas
 module _ (i : ℕ) (out ds : List Delta) (n : ℕ) (x : Delta) (h : n < length ds) where

@@ -17,7 +17,7 @@ ghost use Rattle.homeo_linear.specs.inner.Course.{followed_so};
 ghost use Rattle.homeo_linear.specs.inner.Kept.{kept_cond};
 
 use crate::conditions::{condition, push_all};
-use crate::deltas::joined;
+use crate::deltas::in_order;
 use crate::expressions::form;
 use crate::form::Form;
 use crate::standing::Standing;
@@ -208,12 +208,12 @@ fn needed(
         print_needs prints.items (write_needs (values_of base.now) (forms_of standing.now) (map (λ d. d.object) written.items))) }
 {
     let mut prints = prints;
-    let written = joined(alloc, written)?;
+    let written = in_order(alloc, written)?;
     let mut needed = gained(alloc, base, standing, written.as_slice())?;
     while let Some(form) = prints.pop() {
         push_support(alloc, &mut needed, &form)?;
     }
-    joined(alloc, needed)
+    in_order(alloc, needed)
 }
 
 /// What the gains of these objects depend on, in no order, and each delta as often as it is needed.

@@ -71,7 +71,7 @@ fn leads(deltas: &[Delta], place: usize) -> bool
 }
 
 /// Whether the deltas are in order, each once.
-fn are_joined(deltas: &[Delta]) -> bool
+fn are_in_order(deltas: &[Delta]) -> bool
     ensures { IsTrue result → InOrder deltas.now }
 {
     let mut place = deltas.len();
@@ -101,10 +101,10 @@ fn collected(alloc: Global, deltas: &[Delta]) -> Result<Vec<Delta>, Memory>
 /// # Errors
 ///
 /// `Memory` when out of memory.
-pub fn joined(alloc: Global, deltas: Vec<Delta>) -> Result<Vec<Delta>, Memory>
+pub fn in_order(alloc: Global, deltas: Vec<Delta>) -> Result<Vec<Delta>, Memory>
     ensures { IfOk result (λ v. v.items ≡ add_deltas deltas.items []) }
 {
-    if are_joined(deltas.as_slice()) {
+    if are_in_order(deltas.as_slice()) {
         return Ok(deltas);
     }
     let mut sorted = deltas;

@@ -93,9 +93,9 @@ unfolding words
 mapped f x = record { before = x.before; phrase = f x.phrase; next = x.next }
 
 -- two phrases from left to right
-abbrev pub joined : {A B C : Type 0} → (A → B → C) → Lifted A → (ℕ → Lifted B) → Lifted C
+abbrev pub combined : {A B C : Type 0} → (A → B → C) → Lifted A → (ℕ → Lifted B) → Lifted C
 unfolding words
-joined f x y = record { before = both x.before (y x.next).before; phrase = f x.phrase (y x.next).phrase; next = (y x.next).next }
+combined f x y = record { before = both x.before (y x.next).before; phrase = f x.phrase (y x.next).phrase; next = (y x.next).next }
 
 -- the commands of a slot and then more commands: the slot's as they are, or as one that is not done where the call is ended
 abbrev pub in_turn : Bool → L.Commands → L.Command → L.Commands → L.Commands
@@ -179,16 +179,16 @@ abbrev mutual
 
   pub lift_all : Context → Exprs → ℕ → Lifted L.Exprs
   lift_all x NoExpr n = plain L.NoExpr n
-  lift_all x (MoreExpr e es) n = joined L.MoreExpr (lift x e n) (lift_all x es)
+  lift_all x (MoreExpr e es) n = combined L.MoreExpr (lift x e n) (lift_all x es)
 
   pub lift_test : Context → Test → ℕ → Lifted L.Test
   lift_test x True n = plain L.True n
   lift_test x (Not c) n = mapped L.Not (lift_cond x c n)
-  lift_test x (Comparison op a b) n = joined (L.Comparison op) (lift x a n) (lift x b)
+  lift_test x (Comparison op a b) n = combined (L.Comparison op) (lift x a n) (lift x b)
 
   pub lift_cond : Context → Cond → ℕ → Lifted L.Cond
   lift_cond x NoTest n = plain L.NoTest n
-  lift_cond x (MoreTest t c) n = joined L.MoreTest (lift_test x t n) (lift_cond x c)
+  lift_cond x (MoreTest t c) n = combined L.MoreTest (lift_test x t n) (lift_cond x c)
 
 -- ---- commands
 -- the commands of a lifting and then the command of its phrase
@@ -231,7 +231,7 @@ abbrev pub write_by : Option ℤ → List Slot → Spot → Lifted L.Expr → (�
 unfolding words
 write_by (Some v) all f x y = write_at (slot_at v all) f x.next y
 write_by None all f x y =
-    placed (joined pair x y) (λ p. L.If (within f p.value L.NoTest) (write_chain f p.index p.value all) L.Skip)
+    placed (combined pair x y) (λ p. L.If (within f p.value L.NoTest) (write_chain f p.index p.value all) L.Skip)
 
 abbrev pub write_indexed : List Slot → Spot → Lifted L.Expr → (ℕ → Lifted L.Expr) → Made
 unfolding words
@@ -263,7 +263,7 @@ stored f x =
 abbrev pub lift_values : Context → List Declared → List FieldValue → ℕ → Lifted (List Target)
 unfolding words
 lift_values x ds [] n = plain [] n
-lift_values x ds (f ∷ more) n = joined ◌∷◌ (stored (spot ds f.field.name) (lift x f.value n)) (lift_values x ds more)
+lift_values x ds (f ∷ more) n = combined ◌∷◌ (stored (spot ds f.field.name) (lift x f.value n)) (lift_values x ds more)
 
 abbrev pub all_within : List Target → L.Cond
 unfolding words

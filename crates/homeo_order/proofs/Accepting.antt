@@ -135,18 +135,18 @@ absent_before before (d ∷ cs) zero c none found =
 absent_before before (d ∷ cs) (suc k) c none found =
     let later = absent_before (before ++ d.name ∷ []) cs k c (none_second (duplicate before d.name) (each_from duplicate (before ++ d.name ∷ []) (map (λ (c : s.Client). c.name) cs)) none) found in
     let cut = list_any-append (λ (m : ℕ). m == c.name.name) (map (λ (y : Ident). y.name) before) (d.name.name ∷ []) in
-    let joined : map (λ (y : Ident). y.name) (before ++ d.name ∷ []) ≡ map (λ (y : Ident). y.name) before ++ d.name.name ∷ [] = map-append (λ (y : Ident). y.name) before (d.name ∷ []) in
+    let appended : map (λ (y : Ident). y.name) (before ++ d.name ∷ []) ≡ map (λ (y : Ident). y.name) before ++ d.name.name ∷ [] = map-append (λ (y : Ident). y.name) before (d.name ∷ []) in
     (or_false (list_any (λ (m : ℕ). m == c.name.name) (map (λ (y : Ident). y.name) before)) (list_any (λ (m : ℕ). m == c.name.name) (d.name.name ∷ []))
-    (sym cut ∙ ap (list_any (λ (m : ℕ). m == c.name.name)) (sym joined) ∙ later)).0
+    (sym cut ∙ ap (list_any (λ (m : ℕ). m == c.name.name)) (sym appended) ∙ later)).0
 
 -- the last of the names before isn't the one that comes after
 last_differs : (before : List Ident) (d : Ident) (n : ℕ) → is_in n (map (λ (y : Ident). y.name) (before ++ d ∷ [])) ≡ false → (d.name == n) ≡ false
 unfolding meanings
 last_differs before d n none =
     let cut = list_any-append (λ (m : ℕ). m == n) (map (λ (y : Ident). y.name) before) (d.name ∷ []) in
-    let joined : map (λ (y : Ident). y.name) (before ++ d ∷ []) ≡ map (λ (y : Ident). y.name) before ++ d.name ∷ [] = map-append (λ (y : Ident). y.name) before (d ∷ []) in
+    let appended : map (λ (y : Ident). y.name) (before ++ d ∷ []) ≡ map (λ (y : Ident). y.name) before ++ d.name ∷ [] = map-append (λ (y : Ident). y.name) before (d ∷ []) in
     let last = (or_false (list_any (λ (m : ℕ). m == n) (map (λ (y : Ident). y.name) before)) (list_any (λ (m : ℕ). m == n) (d.name ∷ []))
-    (sym cut ∙ ap (list_any (λ (m : ℕ). m == n)) (sym joined) ∙ none)).1 in
+    (sym cut ∙ ap (list_any (λ (m : ℕ). m == n)) (sym appended) ∙ none)).1 in
     (or_false (d.name == n) false last).0
 
 same_name : (n : ℕ) → (n == n) ≡ true
@@ -248,8 +248,8 @@ most_times w k c before (x ∷ xs) found is none most =
     let more = raised (x.name == c.name.name) (times c.name.name before) (length c.calls) most differs in
     let snoc = times-snoc c.name.name before x in omega (arith, more, snoc) in
     let whole = most_times w k c (before ++ x ∷ []) xs found is (none_second (order_rule w before x) (each_from (order_rule w) (before ++ x ∷ []) xs) none) next in
-    let joined = ap (times c.name.name) (append_assoc before (x ∷ []) xs) in
-    omega (arith, whole, joined)
+    let appended = ap (times c.name.name) (append_assoc before (x ∷ []) xs) in
+    omega (arith, whole, appended)
 
 not_short : (cs : List s.Client) (xs : List Ident) (k : ℕ) (c : s.Client) → list_any (λ (c : s.Client). nat_lt (times c.name.name xs) (length c.calls)) cs ≡ false → slice_get cs k ≡ Some c → length c.calls ≤ times c.name.name xs
 not_short [] xs k c none found = absurd (cc)

@@ -4,7 +4,7 @@ use Rattle.std.proofs.Common.{Bool, true, false, cond, List, [], ◌∷◌, ◌+
 use Rattle.std.specs.List.{list_any}
 use Rattle.homeo_plan.specs.Each.{Each}
 use Rattle.homeo_plan.specs.Linear.{Linear, is_empty}
-use Rattle.homeo_plan.specs.Template.{Clause, clause_of, same_clause, with_clause, clauses_from, joined}
+use Rattle.homeo_plan.specs.Template.{Clause, clause_of, same_clause, with_clause, clauses_from, atoms_of_sets}
 use Rattle.homeo_plan.proofs.Atoms.{append_each}
 
 module _ (P : Linear → Type 0) (Q : Clause → Type 0) (gives : (a : Linear) → P a → Q (clause_of a)) where
@@ -23,7 +23,7 @@ module _ (P : Linear → Type 0) (Q : Clause → Type 0) (gives : (a : Linear) �
   each_from cs [] here all = all
   each_from cs (a ∷ more) here all = each_from (with_clause cs a) more here.1 (with_one cs a here.0 all)
 
-pub each_joined : (P : Linear → Type 0) (sets : List (List Linear)) → Each (Each P) sets → Each P (joined sets)
+pub each_of_sets : (P : Linear → Type 0) (sets : List (List Linear)) → Each (Each P) sets → Each P (atoms_of_sets sets)
 unfolding words
-each_joined P [] all = tt
-each_joined P (atoms ∷ more) all = append_each P atoms (joined more) all.0 (each_joined P more all.1)
+each_of_sets P [] all = tt
+each_of_sets P (atoms ∷ more) all = append_each P atoms (atoms_of_sets more) all.0 (each_of_sets P more all.1)

@@ -11,7 +11,7 @@ use Rattle.homeo_plan.specs.declared.forms.Delta.{Delta}
 use Rattle.homeo_plan.specs.declared.forms.Term.{Term}
 use Rattle.homeo_plan.specs.Linear.{same_delta, Linear, add_deltas, is_empty, terms_value, IsZeroAt}
 use Rattle.homeo_plan.specs.Holding.{AtomHolds}
-use Rattle.homeo_plan.specs.Template.{PlannedCall, atoms_of, needs_of, Clause, clause_of, same_term, same_terms, same_clause, with_clause, clauses_from, joined, put_all, template, Covers}
+use Rattle.homeo_plan.specs.Template.{PlannedCall, atoms_of, needs_of, Clause, clause_of, same_term, same_terms, same_clause, with_clause, clauses_from, atoms_of_sets, put_all, template, Covers}
 use Rattle.homeo_plan.proofs.Tracked.{same_delta_is, each_add_deltas}
 use Rattle.homeo_plan.proofs.Atoms.{each_append, int_eq_is}
 use Rattle.homeo_plan.specs.Tracking.{IsBelowAtBase, ClauseHolds}
@@ -74,11 +74,11 @@ from_clauses P cs (a ∷ more) h =
 
 from_all_atoms :
     (P : Linear → Type 0) (k : ℕ) (b : ℕ → ℤ) (g : PlannedCall) (gs : List PlannedCall) → Member g gs →
-    Each P (joined (map (atoms_of k b) gs)) → Each P (atoms_of k b g)
+    Each P (atoms_of_sets (map (atoms_of k b) gs)) → Each P (atoms_of k b g)
 unfolding words meaning_words
 from_all_atoms P k b g [] m h = absurd m
 from_all_atoms P k b g (e ∷ gs) m h =
-    let p = each_append P (atoms_of k b e) (joined (map (atoms_of k b) gs)) h in
+    let p = each_append P (atoms_of k b e) (atoms_of_sets (map (atoms_of k b) gs)) h in
     ⊎_elim (λ q. subst (λ z. Each P (atoms_of k b z)) q p.0) (λ n. from_all_atoms P k b g gs n p.1) m
 
 from_put_all : (P : Delta → Type 0) (lists : List (List Delta)) (out : List Delta) → Each P (put_all lists out) → Each (Each P) lists × Each P out
@@ -139,7 +139,7 @@ unfolding words meaning_words
 template_covers k b gs g m =
     let cs = (template k b gs).clauses in
     let ds = (template k b gs).freezes in
-    let atoms = joined (map (atoms_of k b) gs) in
+    let atoms = atoms_of_sets (map (atoms_of k b) gs) in
     let frozen = from_put_all (λ d. Member d ds) (map (needs_of k b) gs) (put_all (map (λ a. a.mixed) atoms) []) (each_in ds ds (λ d q. q)) in
     let mixed = from_put_all (λ d. Member d ds) (map (λ a. a.mixed) atoms) [] frozen.1 in
     record {

@@ -2,7 +2,7 @@
 -- clauses, which deltas are frozen, and in which order both stand, is this project's rule.
 use Rattle.std.specs.Prelude.{◌≡◌, ℕ, Bool, true, false, cond, ◌&&◌, List, [], ◌∷◌, ◌++◌, map, ℤ, neg_ℤ}
 use Rattle.std.specs.Ordering.{int_eq}
-use Rattle.std.specs.List.{list_any}
+use Rattle.std.specs.List.{flat_map, list_any}
 use Rattle.homeo_syntax.specs.Low.{Command}
 use Rattle.homeo_meaning.specs.LowMeaning.{whole}
 use Rattle.homeo_plan.specs.Key.{words}
@@ -82,11 +82,10 @@ unfolding words
 clauses_from cs [] = cs
 clauses_from cs (a ∷ more) = clauses_from (with_clause cs a) more
 
--- lists one after another
-abbrev pub joined : List (List Linear) → List Linear
+-- the atoms of each set, one set after another
+abbrev pub atoms_of_sets : List (List Linear) → List Linear
 unfolding words
-joined [] = []
-joined (atoms ∷ more) = atoms ++ joined more
+atoms_of_sets sets = flat_map (λ atoms. atoms) sets
 
 -- lists of deltas put into the others, one after another
 abbrev pub put_all : List (List Delta) → List Delta → List Delta
@@ -103,8 +102,8 @@ pub record Template : Type 0 where
 abbrev pub join_sets : List (List Linear) → List (List Delta) → Template
 unfolding words
 join_sets sets needed = record {
-  clauses = clauses_from [] (joined sets);
-  freezes = put_all needed (put_all (map (λ a. a.mixed) (joined sets)) []);
+  clauses = clauses_from [] (atoms_of_sets sets);
+  freezes = put_all needed (put_all (map (λ a. a.mixed) (atoms_of_sets sets)) []);
 }
 
 -- of ground calls, for k sites at a base

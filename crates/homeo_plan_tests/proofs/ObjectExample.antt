@@ -11,7 +11,7 @@ use Rattle.homeo_plan.specs.FormSizes.{Numbers, CanForm, CanSubtract, CanCond, C
 use Rattle.homeo_plan.specs.Linear.{Linear, Forms, base_forms, constant_form, delta_of, delta_form, form}
 use Rattle.homeo_plan.specs.Needs.{IsStraight}
 use Rattle.homeo_plan.specs.Limit.{form_limit}
-use Rattle.homeo_plan_tests.specs.inner.Object.{joined}
+use Rattle.homeo_plan_tests.specs.inner.Object.{object_sum}
 use Rattle.homeo_plan_tests.specs.inner.ObjectExample.{base, at_most_five, printed}
 
 pub formula_holds : (c : Cond) (b : List ℤ) → c ≡ at_most_five → b ≡ base → holds c (whole (values_of b)) ≡ true
@@ -48,16 +48,16 @@ small_delta : (site : ℕ) → Numbers (IsSmall form_limit) (delta_form (delta_o
 unfolding words meaning_words
 small_delta site = record { constant = small_is form_limit (pos 0) refl; factors = (small_is form_limit (pos 1) refl, tt) }
 
-joined_small : CanForm (IsSmall form_limit) forms joined
+object_sum_small : CanForm (IsSmall form_limit) forms object_sum
 unfolding words meaning_words
-joined_small = (
+object_sum_small = (
   small_constant (pos 0) refl,
   small_constant (pos 2) refl,
   (small_constant (pos 2) refl, small_delta 0, (small_first (pos 2) refl, small_delta 1, small_both (pos 2) (pos 1) refl refl)),
 )
 
 -- ---- the formula
-there : CanSubtract (IsSmall form_limit) (form forms joined) (constant_form (pos 5))
+there : CanSubtract (IsSmall form_limit) (form forms object_sum) (constant_form (pos 5))
 unfolding words meaning_words
 there = record {
   negated = small_constant (negsuc 4) refl;
@@ -66,7 +66,7 @@ there = record {
   more = small_both (negsuc 1) (pos 1) refl refl;
 }
 
-back : CanSubtract (IsSmall form_limit) (constant_form (pos 5)) (form forms joined)
+back : CanSubtract (IsSmall form_limit) (constant_form (pos 5)) (form forms object_sum)
 unfolding words meaning_words
 back = record {
   negated = small_both (negsuc 1) (negsuc 0) refl refl;
@@ -77,7 +77,7 @@ back = record {
 
 at_most_five_small : CanCond (IsSmall form_limit) forms at_most_five
 unfolding words meaning_words
-at_most_five_small = ((joined_small, small_constant (pos 5) refl, there, back), tt)
+at_most_five_small = ((object_sum_small, small_constant (pos 5) refl, there, back), tt)
 
 pub formula_small :
     (c : Cond) (b : List ℤ) → c ≡ at_most_five → b ≡ base → CanCond (IsSmall form_limit) (base_forms (values_of b)) c
@@ -92,7 +92,7 @@ residual_straight cs e = subst IsStraight (sym e) (tt, tt)
 
 printed_small : CanFollow (IsSmall form_limit) forms printed
 unfolding words meaning_words
-printed_small = (joined_small, tt)
+printed_small = (object_sum_small, tt)
 
 pub residual_small :
     (cs : Commands) (b : List ℤ) → cs ≡ printed → b ≡ base → CanFollow (IsSmall form_limit) (base_forms (values_of b)) cs

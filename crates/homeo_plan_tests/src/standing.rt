@@ -1,7 +1,7 @@
 //! Forms of what stands at places.
 
-use crate::object::joined;
-use homeo_linear::{Form, Standing, checked_form, joined_deltas, push_written, remote_of};
+use crate::object::object_sum;
+use homeo_linear::{Form, Standing, checked_form, deltas_in_order, push_written, remote_of};
 use homeo_plan::{Delta, Term};
 use homeo_split::Place;
 use homeo_syntax::SplitName;
@@ -36,7 +36,7 @@ fn a_form_is_found_where_it_was_set(rt: HostRuntime) -> Result<(), Fail> {
     let alloc = rt.alloc();
     let base = [7];
     let mut standing = Standing::new(alloc, base.as_slice());
-    let object = joined(alloc)?;
+    let object = object_sum(alloc)?;
     let form = checked_form(alloc, &standing, &object)?.ok_or("small numbers")?;
     let others = remote_of(alloc, 0, &form)?;
     assert_eq!(rt; others.as_slice(), [at(1)].as_slice());
@@ -61,7 +61,7 @@ fn written_deltas_stand_in_order(rt: HostRuntime) -> Result<(), Fail> {
     ] {
         push_written(&mut written, name)?;
     }
-    let deltas = joined_deltas(alloc, written)?;
+    let deltas = deltas_in_order(alloc, written)?;
     assert_eq!(rt; deltas.as_slice(), [at(0), at(1)].as_slice());
     Ok(())
 }

@@ -110,10 +110,10 @@ entered-all w n t0 t1 t2 t3 t4 os rs ts cs formed en e0 eo er et ec e1 e2 e3 e4 
     let s4 : t4 ≡ along (along (along (along start o) r) t) c =
     e4 ∙ (λ i. along_names (λ d. d.name) I.Client 0 (s3 i) (ec i)) ∙ along-numbered (λ (d : Client). d.name) I.Client 0 (along (along (along start o) r) t) w.clients.items
     ∙ ap (λ l. along (along (along (along start o) r) t) (numbered_from I.Client 0 l)) (names-plain plain_client (λ d. d.name) (λ d. d.name) (λ x. refl) w.clients.items) in
-    let joined : along (along (along (along start o) r) t) c ≡ along start (global_names p) =
+    let one_after_another : along (along (along (along start o) r) t) c ≡ along start (global_names p) =
     sym (along-append start ((o ++ r) ++ t) c ∙ ap (λ z. along z c) (along-append start (o ++ r) t ∙ ap (λ z. along z t) (along-append start o r))) in
     let whole : Along (length w.names.items) [] start (along start (global_names p)) (global_names p) = table_is (length w.names.items) None (global_names p) (all-named p formed) in
-    let e : t4 ≡ along start (global_names p) = s4 ∙ joined in
+    let e : t4 ≡ along start (global_names p) = s4 ∙ one_after_another in
     record {
       items = ap (λ (u : Items). item_at u.items) e ∙ (λ i m. whole.agree m i);
       kept = ap (λ (u : Items). u.best) e ∙ whole.best;

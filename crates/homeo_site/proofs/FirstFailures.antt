@@ -19,11 +19,11 @@ use Rattle.homeo_site.specs.inner.Failures.{sum_failure, frozen_failure, freeze_
 pub first_of_both : (f : ℕ → Option Broken) (ms ns : List ℕ) → first_failure f (ms ++ ns) ≡ first_of (first_failure f ms) (first_failure f ns)
 unfolding words
 first_of_both f [] ns = refl
-first_of_both f (m ∷ ms) ns = ap (first_of (f m)) (first_of_both f ms ns) ∙ sym (joined (f m) (first_failure f ms) (first_failure f ns))
+first_of_both f (m ∷ ms) ns = ap (first_of (f m)) (first_of_both f ms ns) ∙ sym (first_of_three (f m) (first_failure f ms) (first_failure f ns))
   where
-    joined : (a b c : Option Broken) → first_of (first_of a b) c ≡ first_of a (first_of b c)
-    joined None b c = refl
-    joined (Some g) b c = refl
+    first_of_three : (a b c : Option Broken) → first_of (first_of a b) c ≡ first_of a (first_of b c)
+    first_of_three None b c = refl
+    first_of_three (Some g) b c = refl
 
 at_most : (a b : ℤ) → a ≤ℤ b → int_le a b ≡ true
 at_most a b h = grind (arith, ints)

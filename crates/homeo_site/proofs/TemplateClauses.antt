@@ -16,7 +16,7 @@ use Rattle.homeo_plan.specs.Linear.{Linear, is_empty}
 use Rattle.homeo_plan.specs.Planned.{sites_of, planned_call, planned, template_at}
 use Rattle.homeo_plan.specs.SmallForms.{HasSmallForms}
 use Rattle.homeo_plan.specs.Table.{walk}
-use Rattle.homeo_plan.specs.Template.{PlannedCall, shifted, base_row, atoms_of, Clause, clause_of, same_clause, with_clause, clauses_from, joined}
+use Rattle.homeo_plan.specs.Template.{PlannedCall, shifted, base_row, atoms_of, Clause, clause_of, same_clause, with_clause, clauses_from, atoms_of_sets}
 use Rattle.homeo_plan.proofs.AcceptedForms.{accepted_forms}
 use Rattle.homeo_plan.proofs.Atoms.{append_each}
 use Rattle.homeo_plan.proofs.Covering.{each_in}
@@ -78,14 +78,14 @@ module _ (w : s.Workload) (base : List ℤ) (accepted : IsAccepted w) (within : 
 
   all_tidy :
       (gs : List PlannedCall) → Each (λ g. Member g (planned w)) gs → Each (λ g. g.site < k) gs →
-      Each GivesTidy (joined (map (atoms_of k b) gs))
+      Each GivesTidy (atoms_of_sets (map (atoms_of k b) gs))
   unfolding plan_words
   all_tidy [] ms ls = tt
   all_tidy (g ∷ gs) ms ls =
-      append_each GivesTidy (atoms_of k b g) (joined (map (atoms_of k b) gs)) (call_tidy g ms.0 ls.0) (all_tidy gs ms.1 ls.1)
+      append_each GivesTidy (atoms_of k b g) (atoms_of_sets (map (atoms_of k b) gs)) (call_tidy g ms.0 ls.0) (all_tidy gs ms.1 ls.1)
 
   pub template_tidy : Each IsTidy (template_at w base).clauses
   unfolding plan_words
   template_tidy =
-      tidy_from [] (joined (map (atoms_of k b) (planned w)))
+      tidy_from [] (atoms_of_sets (map (atoms_of k b) (planned w)))
       (all_tidy (planned w) (each_in (planned w) (planned w) (λ g m. m)) (all_sites_below w accepted)) tt

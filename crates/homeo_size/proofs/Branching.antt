@@ -1,4 +1,4 @@
--- Branches: taken back the tables are as before, and joined they are the greater of both.
+-- Branches: taken back the tables are as before, and after both they are the greater.
 use Rattle.std.proofs.Common.{◌≡◌, ℕ, ◌==◌, max, Bool, true, false, cond, List, [], ◌∷◌, ◌++◌, map, length, take, drop, refl, sym, ap, ap₂, ◌∙◌, subst, arith, append_assoc, append-nil}
 use Rattle.std.proofs.Math.Seq.{take-append_seam, drop-append_seam}
 use Rattle.std.proofs.lemmas.Bool.Decides.{nat_tests}
@@ -7,7 +7,7 @@ use Rattle.std.proofs.lemmas.Int.{clamps}
 use Rattle.homeo_size.specs.inner.Key.{words}
 use Rattle.homeo_size.specs.inner.Parts.{greater}
 use Rattle.homeo_size.specs.inner.Sizing.{Sizes}
-use Rattle.homeo_size.specs.inner.Store.{Store, entry_sized, with_entry, kept_in, set_entry, raise_entry, taken_back, back_to, since, restored, raised, touched, closed, reopened, higher, joined}
+use Rattle.homeo_size.specs.inner.Store.{Store, entry_sized, with_entry, kept_in, set_entry, raise_entry, taken_back, back_to, since, restored, raised, touched, closed, reopened, higher, both_branches}
 use Rattle.homeo_size.specs.declared.extent.Extent.{Extent}
 use Rattle.homeo_size.specs.declared.extents.Entry.{Entry}
 use Rattle.homeo_size.specs.declared.extents.Entry.TheVariants.{Object, Temp}
@@ -317,20 +317,20 @@ module _ (y z u : Store) (h : Keeps y z) (k : Keeps (logged y (entries h.extra))
       ∙ ap₂ greater (sym one) (sym two)
       ∙ sym (entry_greater z.sizes u.sizes f)
 
-  joined_is : joined (length y.log) (since (length y.log) z) u ≡ restored (map (kept_in (greater_sizes u.sizes z.sizes)) all) y
+  both_branches_are : both_branches (length y.log) (since (length y.log) z) u ≡ restored (map (kept_in (greater_sizes u.sizes z.sizes)) all) y
   unfolding words first
-  joined_is =
+  both_branches_are =
       let first_branch : restored (since (length y.log) z) (back_to (length y.log) u) ≡ first = ap₂ restored (since_is y z h) (back_is y u whole) in
       let second_branch : since (length y.log) u ≡ map (kept_in u.sizes) all = since_is y u whole ∙ ap (map (kept_in u.sizes)) all_is in
       ap₂ (λ v l. restored (map (higher v.sizes) l) (back_to (length y.log) v)) first_branch second_branch
       ∙ ap₂ restored (ap (λ s. map (higher s) (map (kept_in u.sizes) all)) first_is ∙ greater_kept u.sizes z.sizes all) (back_is y first (restored_keeps (map (kept_in z.sizes) (entries h.extra)) y))
 
-  logged_joins : Ends y (joined (length y.log) (since (length y.log) z) u) (greater_sizes z.sizes u.sizes)
+  logged_joins : Ends y (both_branches (length y.log) (since (length y.log) z) u) (greater_sizes z.sizes u.sizes)
   logged_joins = record {
-    sizes = ap (λ u. u.sizes) joined_is
+    sizes = ap (λ u. u.sizes) both_branches_are
         ∙ each_entry _ _ (λ f. restored_is (greater_sizes u.sizes z.sizes) all y f ∙ both_at f (is_in f all) refl);
-    keeps = subst (Keeps y) (sym joined_is) (restored_keeps (map (kept_in (greater_sizes u.sizes z.sizes)) all) y);
+    keeps = subst (Keeps y) (sym both_branches_are) (restored_keeps (map (kept_in (greater_sizes u.sizes z.sizes)) all) y);
   }
 
-pub joins : (y z u : Store) → Keeps y z → Keeps (reopened (length y.log) z) u → Ends y (joined (length y.log) (since (length y.log) z) u) (greater_sizes z.sizes u.sizes)
+pub joins : (y z u : Store) → Keeps y z → Keeps (reopened (length y.log) z) u → Ends y (both_branches (length y.log) (since (length y.log) z) u) (greater_sizes z.sizes u.sizes)
 joins y z u h k = logged_joins y z u h (subst (λ r. Keeps r u) (reopened_is y z h) k)

@@ -12,7 +12,7 @@ use Rattle.homeo_size.specs.inner.Key.{words}
 use Rattle.homeo_size.specs.inner.Measuring.{Filled, chain_raised, field_raised, slot_raised, chain_writing, slot_writing, field_writing, values_lifted, fillings, slot_filling, chain_filling, into_sized, slot_filled, chain_filled, inserted, inserting, cleared, row_set, row_setting, field_set, field_setting, guard, guard_after, before_turn, in_turn, after, after_all, visits, measured, all_measured, each_after, each_measured}
 use Rattle.homeo_size.specs.inner.Parts.{literal, nothing, no_factor, beside, plus, times, around, summed, compared, truth, greater, written, empty, valued, writing, chosen, none, with_one, placed, within_tests, is_equal, guarded}
 use Rattle.homeo_size.specs.inner.Sizing.{Sizes, Setting, bound, name_sized, slot_sized, chain_sized, chain_measured, field_sized, field_lifted, missing_at, missing, literal_in, term_sized, added, total_sized, used_test, sized, sum_sized, product_sized, test_sized, tests_sized, lifted, all_lifted, test_lifted, tests_lifted, total_of, total_visits, total_lifted}
-use Rattle.homeo_size.specs.inner.Store.{Store, set_entry, raise_entry, closed, since, reopened, joined, visited}
+use Rattle.homeo_size.specs.inner.Store.{Store, set_entry, raise_entry, closed, since, reopened, both_branches, visited}
 use Rattle.homeo_size.specs.declared.extent.Extent.{Extent}
 use Rattle.homeo_size.specs.declared.extents.Entry.TheVariants as Entry
 use Rattle.homeo_size.specs.declared.measures.Before.{Before}
@@ -403,7 +403,7 @@ pub measured_Print : (x : Setting) (y : Store) (e : s.Expr) → measured x (s.Pr
 unfolding words
 measured_Print x y e = refl
 
-pub after_If : (x : Setting) (y : Store) (q : s.Cond) (c d : s.Command) → after x (s.If q c d) y ≡ joined (length y.log) (since (length y.log) (after x c y)) (after x d (reopened (length y.log) (after x c y)))
+pub after_If : (x : Setting) (y : Store) (q : s.Cond) (c d : s.Command) → after x (s.If q c d) y ≡ both_branches (length y.log) (since (length y.log) (after x c y)) (after x d (reopened (length y.log) (after x c y)))
 unfolding words
 after_If x y q c d = refl
 

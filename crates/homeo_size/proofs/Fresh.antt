@@ -9,14 +9,14 @@ use Rattle.homeo_syntax.specs.Source.{Command, Commands, Skip, Assign, Write, Pr
 use Rattle.homeo_meaning.specs.Key.{words as meaning_words}
 use Rattle.homeo_meaning.specs.Aborts.{holds_abort, hold_abort}
 use Rattle.homeo_meaning.specs.Context.{Spot, Slot, Context, spot, cell, field_cell, object, slots, fields, bind, slot_at}
-use Rattle.homeo_meaning.specs.LForm.{Lifted, Made, one_test, equal, read, set_flag, unless_ended, guard, in_turn, joined, in_front, within, guarded, write_field, write_chain, write_at, write_by, pair, visits, Target, all_within, field_writes, fill_chain, lift, lift_cond, lift_values, literal_of, as_one, clear, form, forms}
+use Rattle.homeo_meaning.specs.LForm.{Lifted, Made, one_test, equal, read, set_flag, unless_ended, guard, in_turn, combined, in_front, within, guarded, write_field, write_chain, write_at, write_by, pair, visits, Target, all_within, field_writes, fill_chain, lift, lift_cond, lift_values, literal_of, as_one, clear, form, forms}
 use Rattle.homeo_size.specs.inner.Key.{words}
 use Rattle.homeo_size.specs.inner.Parts.{literal, single, greater}
 use Rattle.homeo_size.specs.inner.Sizing.{Sizes, sized, lifted, tests_sized, tests_lifted}
 use Rattle.homeo_size.specs.declared.extent.Extent.{Extent}
 use Rattle.homeo_size.specs.declared.measures.Before.{Before}
 use Rattle.homeo_size.proofs.Branching.{greater_same}
-use Rattle.homeo_size.proofs.Lifting.{at_fresh, Lifts, after_both, after_front, joined_lifts}
+use Rattle.homeo_size.proofs.Lifting.{at_fresh, Lifts, after_both, after_front, combined_lifts}
 use Rattle.homeo_size.proofs.LiftedPhrases.{setting_for, conds, lifts, lifts_cond}
 use Rattle.homeo_size.proofs.Low.{Extents, low_sized, low_after, low_after_all}
 use Rattle.homeo_size.proofs.Writes.{pair_sized, values_lifts}
@@ -124,8 +124,8 @@ module _ (sites : ℕ) where
       let t = at_takes (slot_at k all) g x.next y r counts l v in
       record { grows = omega (arith, h.grows, t.grows); keeps = λ j lt. t.keeps j (omega (arith, h.grows, lt)) }
   by_takes None all g x y q r before counts n v h l =
-      front_takes (pair_sized sites) (λ s. pair (q s) (r s)) (λ s b. counts s (before s b)) n v (joined pair x y) (L.If (within g (y x.next).phrase L.NoTest) (write_chain g x.phrase (y x.next).phrase all) L.Skip)
-      (joined_lifts sites pair pair low_sized low_sized (pair_sized sites) q r before counts (λ a b u. refl) n v x y h l)
+      front_takes (pair_sized sites) (λ s. pair (q s) (r s)) (λ s b. counts s (before s b)) n v (combined pair x y) (L.If (within g (y x.next).phrase L.NoTest) (write_chain g x.phrase (y x.next).phrase all) L.Skip)
+      (combined_lifts sites pair pair low_sized low_sized (pair_sized sites) q r before counts (λ a b u. refl) n v x y h l)
       (if_none (within g (y x.next).phrase L.NoTest) (write_chain g x.phrase (y x.next).phrase all) L.Skip (write_chain_none g x.phrase (y x.next).phrase all) (λ a j. refl))
 
   -- ---- the commands of a slot, guarded or not

@@ -13,7 +13,7 @@ use Rattle.homeo_size.specs.inner.Sizing.{Sizes, Setting, name_sized, slot_sized
 use Rattle.homeo_size.specs.declared.extent.Extent.{Extent}
 use Rattle.homeo_size.specs.declared.measures.Before.{Before}
 use Rattle.homeo_size.proofs.Branching.{greater_same}
-use Rattle.homeo_size.proofs.Lifting.{seen, at_fresh, Alike, Lifts, after_both, measured_both, alike_self, alike_then, alike_below, alike_put, put_here, plain_lifts, mapped_lifts, joined_lifts, stored_lifts}
+use Rattle.homeo_size.proofs.Lifting.{seen, at_fresh, Alike, Lifts, after_both, measured_both, alike_self, alike_then, alike_below, alike_put, put_here, plain_lifts, mapped_lifts, combined_lifts, stored_lifts}
 use Rattle.homeo_size.proofs.Low.{Extents, low_sized, low_sum, low_product, low_test, low_tests, low_cond, low_after, low_after_all, low_measured, low_measured_all}
 
 -- the setting of a context
@@ -223,21 +223,21 @@ module _ (sites : ℕ) where
     pub lifts_sum : (w : Context) (es : Exprs) (n : ℕ) (v : Extents) → Lifts sites n v (lift_all w es n) sums (sum_sized (se w) es) (all_lifted (se w) es)
     lifts_sum w NoExpr n v = plain_lifts sites _ n v sums (sum_sized (se w) NoExpr) (λ u. refl)
     lifts_sum w (MoreExpr e es) n v =
-        joined_lifts sites L.MoreExpr (λ z g a. g (plus a z)) low_sized sums sums (sized (se w) e) (sum_sized (se w) es) (lifted (se w) e) (all_lifted (se w) es) (λ a b u. refl) n v (lift w e n) (lift_all w es) (lifts w e n v) (lifts_sum w es)
+        combined_lifts sites L.MoreExpr (λ z g a. g (plus a z)) low_sized sums sums (sized (se w) e) (sum_sized (se w) es) (lifted (se w) e) (all_lifted (se w) es) (λ a b u. refl) n v (lift w e n) (lift_all w es) (lifts w e n v) (lifts_sum w es)
 
     pub lifts_product : (w : Context) (es : Exprs) (n : ℕ) (v : Extents) → Lifts sites n v (lift_all w es n) products (product_sized (se w) es) (all_lifted (se w) es)
     lifts_product w NoExpr n v = plain_lifts sites _ n v products (product_sized (se w) NoExpr) (λ u. refl)
     lifts_product w (MoreExpr e es) n v =
-        joined_lifts sites L.MoreExpr (λ z g a. g (times a z)) low_sized products products (sized (se w) e) (product_sized (se w) es) (lifted (se w) e) (all_lifted (se w) es) (λ a b u. refl) n v (lift w e n) (lift_all w es) (lifts w e n v) (lifts_product w es)
+        combined_lifts sites L.MoreExpr (λ z g a. g (times a z)) low_sized products products (sized (se w) e) (product_sized (se w) es) (lifted (se w) e) (all_lifted (se w) es) (λ a b u. refl) n v (lift w e n) (lift_all w es) (lifts w e n v) (lifts_product w es)
 
     pub lifts_test : (w : Context) (t : Test) (n : ℕ) (v : Extents) → Lifts sites n v (lift_test w t n) low_test (test_sized (se w) t) (test_lifted (se w) t)
     lifts_test w True n v = plain_lifts sites _ n v low_test (test_sized (se w) True) (λ u. refl)
     lifts_test w (Not c) n v =
         mapped_lifts sites L.Not (λ g. around (around (g nothing))) conds low_test (tests_sized (se w) c) (tests_lifted (se w) c) (λ a u. refl) n v (lift_cond w c n) (lifts_cond w c n v)
     lifts_test w (Comparison op a b) n v =
-        joined_lifts sites (L.Comparison op) compared low_sized low_sized low_test (sized (se w) a) (sized (se w) b) (lifted (se w) a) (lifted (se w) b) (λ a b u. refl) n v (lift w a n) (lift w b) (lifts w a n v) (lifts w b)
+        combined_lifts sites (L.Comparison op) compared low_sized low_sized low_test (sized (se w) a) (sized (se w) b) (lifted (se w) a) (lifted (se w) b) (λ a b u. refl) n v (lift w a n) (lift w b) (lifts w a n v) (lifts w b)
 
     pub lifts_cond : (w : Context) (c : Cond) (n : ℕ) (v : Extents) → Lifts sites n v (lift_cond w c n) conds (tests_sized (se w) c) (tests_lifted (se w) c)
     lifts_cond w NoTest n v = plain_lifts sites _ n v conds (tests_sized (se w) NoTest) (λ u. refl)
     lifts_cond w (MoreTest t c) n v =
-        joined_lifts sites L.MoreTest (λ z g a. g (beside a z)) low_test conds conds (test_sized (se w) t) (tests_sized (se w) c) (test_lifted (se w) t) (tests_lifted (se w) c) (λ a b u. refl) n v (lift_test w t n) (lift_cond w c) (lifts_test w t n v) (lifts_cond w c)
+        combined_lifts sites L.MoreTest (λ z g a. g (beside a z)) low_test conds conds (test_sized (se w) t) (tests_sized (se w) c) (test_lifted (se w) t) (tests_lifted (se w) c) (λ a b u. refl) n v (lift_test w t n) (lift_cond w c) (lifts_test w t n v) (lifts_cond w c)

@@ -5,7 +5,7 @@ use Rattle.homeo_syntax.specs.declared.low.Temp.TheVariants as temp
 use Rattle.homeo_syntax.specs.Low as L
 use Rattle.homeo_meaning.specs.Key.{words as meaning_words}
 use Rattle.homeo_meaning.specs.LowMeaning.{TempAt, BaseAt, put}
-use Rattle.homeo_meaning.specs.LForm.{Lifted, both, one, in_front, plain, mapped, joined}
+use Rattle.homeo_meaning.specs.LForm.{Lifted, both, one, in_front, plain, mapped, combined}
 use Rattle.homeo_size.specs.inner.Key.{words}
 use Rattle.homeo_size.specs.inner.Parts.{none, with_one, placed}
 use Rattle.homeo_size.specs.inner.Sizing.{Sizes}
@@ -108,9 +108,9 @@ unfolding words meaning_words
 mapped_lifts sites f g at at' r counts h n v x k =
     record { after = k.after; leaves = k.leaves; grows = k.grows; alike = k.alike; tells = k.tells; means = λ u l. h x.phrase u ∙ ap g (k.means u l) }
 
-pub joined_lifts : {A B C R Q P : Type 0} (sites : ℕ) (f : A → B → C) (g : R → Q → P) (at : A → Extents → R) (at' : B → Extents → Q) (at'' : C → Extents → P) (r : Sizes → R) (q : Sizes → Q) (counts counts' : Sizes → Before → Before) → ((a : A) (b : B) (u : Extents) → at'' (f a b) u ≡ g (at a u) (at' b u)) → (n : ℕ) (v : Extents) (x : Lifted A) (y : ℕ → Lifted B) → Lifts sites n v x at r counts → ((m : ℕ) (a : Extents) → Lifts sites m a (y m) at' q counts') → Lifts sites n v (joined f x y) at'' (λ s. g (r s) (q s)) (λ s b. counts' s (counts s b))
+pub combined_lifts : {A B C R Q P : Type 0} (sites : ℕ) (f : A → B → C) (g : R → Q → P) (at : A → Extents → R) (at' : B → Extents → Q) (at'' : C → Extents → P) (r : Sizes → R) (q : Sizes → Q) (counts counts' : Sizes → Before → Before) → ((a : A) (b : B) (u : Extents) → at'' (f a b) u ≡ g (at a u) (at' b u)) → (n : ℕ) (v : Extents) (x : Lifted A) (y : ℕ → Lifted B) → Lifts sites n v x at r counts → ((m : ℕ) (a : Extents) → Lifts sites m a (y m) at' q counts') → Lifts sites n v (combined f x y) at'' (λ s. g (r s) (q s)) (λ s b. counts' s (counts s b))
 unfolding words meaning_words
-joined_lifts sites f g at at' at'' r q counts counts' h n v x y k l =
+combined_lifts sites f g at at' at'' r q counts counts' h n v x y k l =
     let m = l x.next k.after in
     record {
       after = m.after;

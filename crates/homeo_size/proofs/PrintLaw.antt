@@ -34,9 +34,9 @@ front_prints (L.MoreCommand b bs) c h = let e = both_print bs (one c) in omega (
 abbrev Quiet : {A : Type 0} → Lifted A → Type 0
 Quiet x = prints_in_all x.before ≡ 0
 
-joined_quiet : {A B C : Type 0} (f : A → B → C) (x : Lifted A) (y : ℕ → Lifted B) → Quiet x → ((m : ℕ) → Quiet (y m)) → Quiet (form.joined f x y)
+combined_quiet : {A B C : Type 0} (f : A → B → C) (x : Lifted A) (y : ℕ → Lifted B) → Quiet x → ((m : ℕ) → Quiet (y m)) → Quiet (form.combined f x y)
 unfolding meaning_words
-joined_quiet f x y h k =
+combined_quiet f x y h k =
     let e = both_print x.before (y x.next).before in
     let l = k x.next in
     omega (arith, e, h, l)
@@ -110,16 +110,16 @@ mutual
 
   exprs_quiet : (w : Context) (es : Exprs) (n : ℕ) → Quiet (lift_all w es n)
   exprs_quiet w NoExpr n = refl
-  exprs_quiet w (MoreExpr e es) n = joined_quiet L.MoreExpr (lift w e n) (lift_all w es) (expr_quiet w e n) (exprs_quiet w es)
+  exprs_quiet w (MoreExpr e es) n = combined_quiet L.MoreExpr (lift w e n) (lift_all w es) (expr_quiet w e n) (exprs_quiet w es)
 
   test_quiet : (w : Context) (t : Test) (n : ℕ) → Quiet (lift_test w t n)
   test_quiet w True n = refl
   test_quiet w (Not c) n = cond_quiet w c n
-  test_quiet w (Comparison op a b) n = joined_quiet (L.Comparison op) (lift w a n) (lift w b) (expr_quiet w a n) (expr_quiet w b)
+  test_quiet w (Comparison op a b) n = combined_quiet (L.Comparison op) (lift w a n) (lift w b) (expr_quiet w a n) (expr_quiet w b)
 
   cond_quiet : (w : Context) (c : Cond) (n : ℕ) → Quiet (lift_cond w c n)
   cond_quiet w NoTest n = refl
-  cond_quiet w (MoreTest t c) n = joined_quiet L.MoreTest (lift_test w t n) (lift_cond w c) (test_quiet w t n) (cond_quiet w c)
+  cond_quiet w (MoreTest t c) n = combined_quiet L.MoreTest (lift_test w t n) (lift_cond w c) (test_quiet w t n) (cond_quiet w c)
 
 -- ---- commands that print nothing
 write_chain_quiet : (f : Spot) (i e : L.Expr) (all : List Slot) → prints_in (write_chain f i e all) ≡ 0
@@ -141,14 +141,14 @@ unfolding meaning_words
 by_quiet (Some v) all f x y h k = at_quiet (slot_at v all) f x.next y k
 by_quiet None all f x y h k =
     let chain = write_chain_quiet f x.phrase (y x.next).phrase all in
-    let front = front_prints (both x.before (y x.next).before) (L.If (form.within f (y x.next).phrase L.NoTest) (write_chain f x.phrase (y x.next).phrase all) L.Skip) (joined_quiet pair x y h k) in
+    let front = front_prints (both x.before (y x.next).before) (L.If (form.within f (y x.next).phrase L.NoTest) (write_chain f x.phrase (y x.next).phrase all) L.Skip) (combined_quiet pair x y h k) in
     omega (arith, chain, front)
 
 values_quiet : (w : Context) (ds : List Declared) (fs : List FieldValue) (n : ℕ) → Quiet (lift_values w ds fs n)
 unfolding meaning_words
 values_quiet w ds [] n = refl
 values_quiet w ds (f ∷ fs) n =
-    joined_quiet ◌∷◌ (form.stored (spot ds f.field.name) (lift w f.value n)) (lift_values w ds fs)
+    combined_quiet ◌∷◌ (form.stored (spot ds f.field.name) (lift w f.value n)) (lift_values w ds fs)
     (stored_quiet (lift w f.value n).before (L.Assign (temp.Fresh (lift w f.value n).next) (lift w f.value n).phrase) (expr_quiet w f.value n) refl) (values_quiet w ds fs)
 
 writes_quiet : (slot : Slot) (xs : List Target) (cs : L.Commands) → prints_in_all cs ≡ 0 → prints_in_all (field_writes slot xs cs) ≡ 0

@@ -22,7 +22,7 @@ use Rattle.homeo_size.specs.declared.extents.Entry.TheVariants.{Object, Temp}
 use Rattle.homeo_size.specs.declared.measures.Before.{Before}
 use Rattle.homeo_size.specs.declared.measures.Measure.{Measure}
 use Rattle.homeo_size.proofs.Branching.{greater_same, greater_turned, greater_moved, greater_sizes, same_entry, same_is, entry_changed, each_entry, entry_greater, Keeps, keeps_self, keeps_then, set_keeps, closes}
-use Rattle.homeo_size.proofs.Lifting.{seen, at_fresh, Lifts, after_both, measured_both, after_front, measured_front, alike_self, plain_lifts, joined_lifts, stored_lifts}
+use Rattle.homeo_size.proofs.Lifting.{seen, at_fresh, Lifts, after_both, measured_both, after_front, measured_front, alike_self, plain_lifts, combined_lifts, stored_lifts}
 use Rattle.homeo_size.proofs.LiftedPhrases.{setting_for, lifts}
 use Rattle.homeo_size.proofs.Low.{Extents, low_sized, low_tests, low_cond, low_after, low_after_all, low_measured, low_measured_all}
 
@@ -191,8 +191,8 @@ module _ (sites : ℕ) where
       (λ p. L.If (within f p.value L.NoTest) (write_chain f p.index p.value all) L.Skip)
       (λ p y. chain_raised f (written sites p.value) all y)
       (λ p. chosen (around (within_tests f p.value nothing)) (chain_writing sites p.index p.value all) empty)
-      (chain_does all f) n v (form.joined pair x w)
-      (joined_lifts sites pair pair low_sized low_sized pair_sized q r before counts (λ a b u. refl) n v x w h g) y e
+      (chain_does all f) n v (form.combined pair x w)
+      (combined_lifts sites pair pair low_sized low_sized pair_sized q r before counts (λ a b u. refl) n v x w h g) y e
 
   pub field_does : (o p : Option ℤ) → o ≡ p → (all : List Slot) (f : Spot) (q r : Sizes → Extent) (before counts : Sizes → Before → Before) (n : ℕ) (x : Lifted L.Expr) (w : ℕ → Lifted L.Expr) (v : Extents) → Lifts sites n v x low_sized q before → ((m : ℕ) (a : Extents) → Lifts sites m a (w m) low_sized r counts) → (y : Store) → seen v ≡ y.sizes → Does sites (write_by o all f x w).command v y (field_raised p all f (written sites (r y.sizes)) y) (field_writing p all sites f (q y.sizes) (r y.sizes) (counts y.sizes none) (counts y.sizes (before y.sizes none)))
   field_does o p same all f q r before counts n x w v h g y e =
@@ -217,7 +217,7 @@ module _ (sites : ℕ) where
       let x : Lifted L.Expr = lift w f.value n in
       let value : Sizes → Extent = sized (setting_for sites w) f.value in
       let is = k.means k.after (alike_self x.next k.after) in
-      joined_lifts sites ◌∷◌ ◌∷◌ target_filled targets_filled targets_filled (λ s. filling (value s)) (fillings (setting_for sites w) ds more) (λ s b. with_one (lifted (setting_for sites w) f.value s b) (valued (value s))) (values_lifted (setting_for sites w) more) (λ a b u. refl) n v
+      combined_lifts sites ◌∷◌ ◌∷◌ target_filled targets_filled targets_filled (λ s. filling (value s)) (fillings (setting_for sites w) ds more) (λ s b. with_one (lifted (setting_for sites w) f.value s b) (valued (value s))) (values_lifted (setting_for sites w) more) (λ a b u. refl) n v
       (stored (spot ds f.field.name) x) (lift_values w ds more)
       (stored_lifts sites low_sized value target_filled (λ s. filling (value s)) (lifted (setting_for sites w) f.value) (λ s. valued (value s)) n v x (L.Assign (temp.Fresh x.next) x.phrase)
       _ filling (low_sized x.phrase k.after) k refl (ap valued is) (λ u. refl) (ap filling is))

@@ -2,7 +2,7 @@
 
 ghost use Rattle.std.specs.Prelude.{◌≡◌, ◌≤◌, length, map, IfOk, OnOk};
 ghost use Rattle.homeo_size.specs.inner.Sizing.{name_sized, slot_sized};
-ghost use Rattle.homeo_size.specs.inner.Store.{entry_sized, with_entry, kept_in, set_entry, raise_entry, back_to, since, restored, raised, touched, closed, reopened, higher, joined};
+ghost use Rattle.homeo_size.specs.inner.Store.{entry_sized, with_entry, kept_in, set_entry, raise_entry, back_to, since, restored, raised, touched, closed, reopened, higher, both_branches};
 ghost use Rattle.homeo_size.specs.inner.Measuring.{guard_after};
 ghost use Rattle.homeo_size.specs.inner.Tables.{sizes_in, store_in};
 
@@ -235,7 +235,7 @@ impl Extents {
     /// of both, so that branches within branches do not double it.
     #[tactic(auto, unfolding(crate::specs::inner::Key::words))]
     pub(crate) fn join(&mut self, alloc: Global, start: usize, first: &[Kept]) -> Result<(), Memory>
-        ensures { OnOk result (store_in self.new ≡ joined start first.now (store_in self.old)) }
+        ensures { OnOk result (store_in self.new ≡ both_branches start first.now (store_in self.old)) }
     {
         let second = self.since(alloc, start)?;
         self.take_back(start)?;

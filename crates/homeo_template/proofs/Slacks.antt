@@ -11,9 +11,9 @@ use Rattle.homeo_plan.specs.PlanView.{plain_atoms}
 use Rattle.homeo_plan.specs.Each.{Each}
 use Rattle.homeo_plan.specs.Limit.{form_limit}
 use Rattle.homeo_plan.specs.Linear.{Linear}
-use Rattle.homeo_plan.specs.Template.{Clause, clause_of, clauses_from, joined}
+use Rattle.homeo_plan.specs.Template.{Clause, clause_of, clauses_from, atoms_of_sets}
 use Rattle.homeo_plan.specs.Tracking.{IsBelowAtBase}
-use Rattle.homeo_plan.proofs.AtomClauses.{each_from, each_joined}
+use Rattle.homeo_plan.proofs.AtomClauses.{each_from, each_of_sets}
 use Rattle.homeo_plan.proofs.Policy.{slacks_from}
 use Rattle.homeo_template.proofs.Negation.{abs_neg}
 
@@ -32,8 +32,8 @@ unfolding words
 each_set P [] all = tt
 each_set P (s ∷ sets) all = (All-head (λ s. Each P (plain_atoms s)) s sets all, each_set P sets (All-tail (λ s. Each P (plain_atoms s)) s sets all))
 
-all_atoms : (P : Linear → Type 0) (sets : List AtomSet) → All (λ s. Each P (plain_atoms s)) sets → Each P (joined (map plain_atoms sets))
-all_atoms P sets all = each_joined P (map plain_atoms sets) (each_set P sets all)
+all_atoms : (P : Linear → Type 0) (sets : List AtomSet) → All (λ s. Each P (plain_atoms s)) sets → Each P (atoms_of_sets (map plain_atoms sets))
+all_atoms P sets all = each_of_sets P (map plain_atoms sets) (each_set P sets all)
 
 none-small : Each HasSmallSlack []
 unfolding words
@@ -41,12 +41,12 @@ none-small = tt
 
 pub small-slacks :
     (sets : List AtomSet) (cs : List Clause) → All (λ s. Each HasSmallConstant (plain_atoms s)) sets →
-    cs ≡ clauses_from [] (joined (map plain_atoms sets)) → Each HasSmallSlack cs
+    cs ≡ clauses_from [] (atoms_of_sets (map plain_atoms sets)) → Each HasSmallSlack cs
 small-slacks sets cs small e =
     subst (λ cs. Each HasSmallSlack cs) (sym e)
-    (each_from HasSmallConstant HasSmallSlack small-slack [] (joined (map plain_atoms sets)) (all_atoms HasSmallConstant sets small) none-small)
+    (each_from HasSmallConstant HasSmallSlack small-slack [] (atoms_of_sets (map plain_atoms sets)) (all_atoms HasSmallConstant sets small) none-small)
 
 pub have-slack :
     (sets : List AtomSet) (cs : List Clause) → All (λ s. Each IsBelowAtBase (plain_atoms s)) sets →
-    cs ≡ clauses_from [] (joined (map plain_atoms sets)) → HaveSlack cs
-have-slack sets cs below e = subst HaveSlack (sym e) (slacks_from (joined (map plain_atoms sets)) (all_atoms IsBelowAtBase sets below))
+    cs ≡ clauses_from [] (atoms_of_sets (map plain_atoms sets)) → HaveSlack cs
+have-slack sets cs below e = subst HaveSlack (sym e) (slacks_from (atoms_of_sets (map plain_atoms sets)) (all_atoms IsBelowAtBase sets below))

@@ -36,7 +36,7 @@ unfolding words
 AllCount ts = Each (λ t. int_eq t.factor (pos 0) ≡ false) ts
 
 -- in order, each delta once, and no factor is 0
-pub record AreJoined (ts : List Term) : Type 0 where
+pub record AreAddedUp (ts : List Term) : Type 0 where
   pub order : InOrder (deltas_of ts)
   pub counts : AllCount ts
 

@@ -94,15 +94,15 @@ unfolding words
 higher s k = record { entry = k.entry; extent = greater k.extent (entry_sized s k.entry) }
 
 -- after the second branch, where these are the entries of the first as it left them
-abbrev pub joined : ℕ → List Kept → Store → Store
+abbrev pub both_branches : ℕ → List Kept → Store → Store
 unfolding words
-joined n first z =
+both_branches n first z =
     let y : Store = restored first (back_to n z) in
     restored (map (higher y.sizes) (since n z)) (back_to n y)
 
 abbrev pub branched : (Store → Store) → (Store → Store) → Store → Store
 unfolding words
-branched f g z = joined (length z.log) (since (length z.log) (f z)) (g (reopened (length z.log) (f z)))
+branched f g z = both_branches (length z.log) (since (length z.log) (f z)) (g (reopened (length z.log) (f z)))
 
 -- a branch for each slot, one after another
 abbrev pub visited : (Slot → Store → Store) → List Slot → Store → Store

@@ -19,7 +19,7 @@ use Rattle.homeo_desugar.specs.inner.Key.{words}
 use Rattle.homeo_desugar.specs.inner.Made.{both_tests}
 use Rattle.homeo_desugar.specs.inner.Settings.{setting, plain_slot, plain_slots, IsLow, Fits}
 use Rattle.homeo_desugar.specs.inner.Visits.{adding, added, term_of}
-use Rattle.homeo_desugar.proofs.Makings.{Leaves, both_exprs, lifted_plain, lifted_mapped, lifted_joined, expr_lifted, test_lifted, cond_lifted, visit_lifted, exprs_step, exprs_past, exprs_end, tests_step, tests_past, conds_end, pushed_after, visits_begin, visit_step, visits_done, counted_lifted, counted_as, indexed_lifted, indexed_as}
+use Rattle.homeo_desugar.proofs.Makings.{Leaves, both_exprs, lifted_plain, lifted_mapped, lifted_combined, expr_lifted, test_lifted, cond_lifted, visit_lifted, exprs_step, exprs_past, exprs_end, tests_step, tests_past, conds_end, pushed_after, visits_begin, visit_step, visits_done, counted_lifted, counted_as, indexed_lifted, indexed_as}
 use Rattle.homeo_desugar.proofs.Rows.{bind_fits}
 use Rattle.homeo_desugar.proofs.SlotLists.{low_used, slot_is_low}
 use Rattle.homeo_desugar.proofs.lifting.+phrases.Goals as goal
@@ -182,7 +182,7 @@ lift_test-returns-in_ok-right-in-Compare t c =
     let a = plain_expr c.in-Compare.left in
     let b = plain_expr c.in-Compare.right in
     let old = c.args.out.now in
-    test_lifted x old c.lift-in-Compare.new.out c.args.t.now (s.Comparison op a b) _ (ap plain_test c.in-Compare.is ∙ plain_Compare op c.in-Compare.left c.in-Compare.right) (lifted_joined (L.Comparison op) old c.lift.new.out c.lift-in-Compare.new.out (lift x a old.next) (lift x b) _ _ _ (low_Compare op c.in_ok-left-in-Compare.left c.in_ok-right-in-Compare.right) c.in_ok-left-in-Compare.ensures c.in_ok-right-in-Compare.ensures)
+    test_lifted x old c.lift-in-Compare.new.out c.args.t.now (s.Comparison op a b) _ (ap plain_test c.in-Compare.is ∙ plain_Compare op c.in-Compare.left c.in-Compare.right) (lifted_combined (L.Comparison op) old c.lift.new.out c.lift-in-Compare.new.out (lift x a old.next) (lift x b) _ _ _ (low_Compare op c.in_ok-left-in-Compare.left c.in_ok-right-in-Compare.right) c.in_ok-left-in-Compare.ensures c.in_ok-right-in-Compare.ensures)
 
 pub lift_tests-loop-t-preserved : goal.lift_tests-loop-t-preserved
 lift_tests-loop-t-preserved t c =

@@ -12,5 +12,5 @@ unfolding tree_words
 returns c =
     let one = pushed c.new-commands.result c.push.new.self [] _ (ap (λ l. l.items) c.new-commands.ensures) c.in_ok-push.ensures.ok in
     ap (λ cs. low_commands (map plain_lcommand cs)) one
-    ∙ (λ i. l.MoreCommand (low_Print c.in_ok-joined.field-0 i) l.NoCommand)
-    ∙ ap (λ e. l.MoreCommand (l.Print e) l.NoCommand) c.in_ok-joined.ensures
+    ∙ (λ i. l.MoreCommand (low_Print c.in_ok-object_sum.field-0 i) l.NoCommand)
+    ∙ ap (λ e. l.MoreCommand (l.Print e) l.NoCommand) c.in_ok-object_sum.ensures

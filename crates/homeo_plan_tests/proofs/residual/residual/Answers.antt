@@ -16,7 +16,7 @@ returns-clause-example c =
     let one = pushed c.new-commands.result c.push.new.self [] _ (ap (λ l. l.items) c.new-commands.ensures) c.in_ok-push.ensures.ok in
     let two = pushed c.push.new.self c.push-2.new.self _ _ one c.in_ok-push-2.ensures.ok in
     let three = pushed c.push-2.new.self c.push-3.new.self _ _ two c.in_ok-push-3.ensures.ok in
-    let assign = low_Assign (Named 7) c.in_ok-joined.field-0 ∙ ap (l.Assign (Named 7)) c.in_ok-joined.ensures in
+    let assign = low_Assign (Named 7) c.in_ok-object_sum.field-0 ∙ ap (l.Assign (Named 7)) c.in_ok-object_sum.ensures in
     let write = low_Write (Delta 0 0) c.in_ok-lowered.field-0 ∙ ap (l.Write (Delta 0 0)) c.in_ok-lowered.ensures in
     let print = low_Print (Literal (pos 1)) ∙ ap l.Print (low_Literal (pos 1)) in
     record {

@@ -112,17 +112,17 @@ same_deltas (d ∷ ds) (e ∷ es) o p h = go (same_delta d e) refl (delta_before
         absurd (true≢false (sym (ap (λ b. b || has e es) (same_self e)) ∙ sym (h e) ∙ ap₂ ◌||◌ (before_not_same e d s) (above_none e ds (above_before e d ds s o.0))))
 
 -- ---- what they are put together
-joined_by : (ds es : List Delta) → InOrder es → ((d : Delta) → has d es ≡ has d ds) → es ≡ add_deltas ds []
+same_by : (ds es : List Delta) → InOrder es → ((d : Delta) → has d es ≡ has d ds) → es ≡ add_deltas ds []
 unfolding words
-joined_by ds es o h = same_deltas es (add_deltas ds []) o (in_order_adds ds [] tt) (λ d. h d ∙ sym (has_adds d ds [] ∙ or_none (has d ds)))
+same_by ds es o h = same_deltas es (add_deltas ds []) o (in_order_adds ds [] tt) (λ d. h d ∙ sym (has_adds d ds [] ∙ or_none (has d ds)))
 
-pub in_order_joined : (ds : List Delta) → InOrder ds → ds ≡ add_deltas ds []
-in_order_joined ds o = joined_by ds ds o (λ d. refl)
+pub in_order_kept : (ds : List Delta) → InOrder ds → ds ≡ add_deltas ds []
+in_order_kept ds o = same_by ds ds o (λ d. refl)
 
-pub permuted_joined : (ds es : List Delta) → IsPermutation ds es → add_deltas es [] ≡ add_deltas ds []
+pub permuted_same : (ds es : List Delta) → IsPermutation ds es → add_deltas es [] ≡ add_deltas ds []
 unfolding words
-permuted_joined ds es p =
-    joined_by ds (add_deltas es []) (in_order_adds es [] tt)
+permuted_same ds es p =
+    same_by ds (add_deltas es []) (in_order_adds es [] tt)
     (λ d. has_adds d es [] ∙ or_none (has d es) ∙ sym (list_any-IsPermutation (same_delta d) ds es p))
 
 pub adds_swap : (ds es : List Delta) → InOrder ds → InOrder es → add_deltas ds es ≡ add_deltas es ds
@@ -140,9 +140,9 @@ no_rest : (ds : List Delta) → drop (length ds) ds ≡ []
 no_rest [] = refl
 no_rest (d ∷ ds) = no_rest ds
 
-pub none_left_in_order : (ds : List Delta) → InOrder (drop (length ds) ds)
+pub no_delta_left : (ds : List Delta) → InOrder (drop (length ds) ds)
 unfolding words
-none_left_in_order ds = subst InOrder (sym (no_rest ds)) tt
+no_delta_left ds = subst InOrder (sym (no_rest ds)) tt
 
 lead_of : (ds : List Delta) (n : ℕ) (x : Delta) → n < length ds → (suc n < length ds → true ≡ delta_before (get_or ds n x) (get_or ds (suc n) x)) →
     InOrder (drop (suc n) ds) → InOrder (drop n ds)

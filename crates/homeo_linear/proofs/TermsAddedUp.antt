@@ -20,7 +20,7 @@ use Rattle.homeo_linear.specs.inner.Order.{InOrder}
 use Rattle.homeo_linear.specs.inner.Terms.{AllCount, AreSmall}
 use Rattle.homeo_linear.proofs.Orders.{Above, above_before, before_total, each_at}
 use Rattle.homeo_linear.proofs.Adding.{order_adds}
-use Rattle.homeo_linear.proofs.JoinedDeltas.{same_is, same_self, before_not_same}
+use Rattle.homeo_linear.proofs.DeltasInOrder.{same_is, same_self, before_not_same}
 
 -- ---- numbers
 none_left : (f : ℤ) → int_eq f (pos 0) ≡ true → f ≡ pos 0
@@ -202,18 +202,18 @@ count_scale n [] = tt
 count_scale n (t ∷ ts) = count_with t.delta (n *ℤ t.factor) (scale_terms n ts) (count_scale n ts)
 
 -- ---- what they are put together
-joined_by : (ts us : List Term) → InOrder (deltas_of us) → AllCount us → ((d : Delta) → factor_at d us ≡ factor_at d ts) → us ≡ add_terms ts []
+same_by : (ts us : List Term) → InOrder (deltas_of us) → AllCount us → ((d : Delta) → factor_at d us ≡ factor_at d ts) → us ≡ add_terms ts []
 unfolding words plan_words
-joined_by ts us o c h =
+same_by ts us o c h =
     same_terms us (add_terms ts []) o (order_adds ts [] tt) c (count_adds ts [] tt) (λ d. h d ∙ sym (at_adds d ts [] ∙ zero_add (factor_at d ts)))
 
-pub in_order_joined : (ts : List Term) → InOrder (deltas_of ts) → AllCount ts → ts ≡ add_terms ts []
-in_order_joined ts o c = joined_by ts ts o c (λ d. refl)
+pub in_order_kept : (ts : List Term) → InOrder (deltas_of ts) → AllCount ts → ts ≡ add_terms ts []
+in_order_kept ts o c = same_by ts ts o c (λ d. refl)
 
-pub permuted_joined : (ts us : List Term) → IsPermutation ts us → add_terms us [] ≡ add_terms ts []
+pub permuted_same : (ts us : List Term) → IsPermutation ts us → add_terms us [] ≡ add_terms ts []
 unfolding words plan_words
-permuted_joined ts us p =
-    joined_by ts (add_terms us []) (order_adds us [] tt) (count_adds us [] tt)
+permuted_same ts us p =
+    same_by ts (add_terms us []) (order_adds us [] tt) (count_adds us [] tt)
     (λ d. at_adds d us [] ∙ zero_add (factor_at d us) ∙ at_permuted d ts us p)
 
 pub adds_append : (ts us vs : List Term) → add_terms (ts ++ us) vs ≡ add_terms us (add_terms ts vs)
