@@ -15,7 +15,7 @@ use Rattle.homeo_history.specs.Answers.{Answer}
 use Rattle.homeo_history.specs.Legal.{IsClientAt, IsCallAt, call_count, calls_of, IsInOrder, IsLegalFrom}
 use Rattle.homeo_history.proofs.Exists.{is_call_at}
 use Rattle.homeo_site.specs.SiteState.{SiteState, KeepsCall, step_values, step_finding}
-use Rattle.homeo_core.specs.CoreView.{CoreValue, CoreHolds, core_history, start_of, next_call, book_after, sites_after, answer_to, IsMade, IsStep, GoesOnBy}
+use Rattle.homeo_core.specs.CoreView.{CoreValue, CoreHolds, core_history, start_of, next_call, book_after, sites_after, answer_to, IsCallMade, IsStep, GoesOnBy}
 use Rattle.homeo_core.specs.Events.{OneMore, IsAfter}
 use Rattle.homeo_core.specs.Joined.{BookState, AreJoined, rounds_of, history_of}
 use Rattle.homeo_core.specs.Books.{book_of}
@@ -53,7 +53,7 @@ module _ (w : s.Workload) (start : List ℤ) (b : BookState) (sites : List SiteS
     seq = refl;
   }
 
-  pub made_goes : (a : Answer) (b' : BookState) (sites' : List SiteState) → IsMade w b sites home call a b' sites' → Goes a b' sites'
+  pub made_goes : (a : Answer) (b' : BookState) (sites' : List SiteState) → IsCallMade w b sites home call a b' sites' → Goes a b' sites'
   made_goes a b' sites' m =
       subst (λ v. Goes v b' sites') (sym m.answer)
       (subst (λ v. Goes (answer_to w b sites home m.site call (step_finding w m.site call)) v sites') (sym m.rounds)
@@ -79,7 +79,7 @@ abbrev counted : CoreValue → ℕ → BookState → List SiteState → CoreValu
 unfolding words
 counted x client b' sites' = record { work = x.work; book = b'; sites = sites'; counts = slice_set x.counts client (suc (slice_index_or x.counts client 0)) }
 
-stepped : (x : CoreValue) (client home : ℕ) (a : Answer) (b' : BookState) (sites' : List SiteState) → CoreHolds x → client < length x.counts → IsClientAt (plain_workload x.work) home client → slice_index_or x.counts client 0 < call_count (plain_workload x.work) client → IsMade (plain_workload x.work) x.book x.sites home (next_call x client) a b' sites' → IsStepped x client a (counted x client b' sites')
+stepped : (x : CoreValue) (client home : ℕ) (a : Answer) (b' : BookState) (sites' : List SiteState) → CoreHolds x → client < length x.counts → IsClientAt (plain_workload x.work) home client → slice_index_or x.counts client 0 < call_count (plain_workload x.work) client → IsCallMade (plain_workload x.work) x.book x.sites home (next_call x client) a b' sites' → IsStepped x client a (counted x client b' sites')
 unfolding words
 stepped x client home a b' sites' holds lt at left made =
     let w : s.Workload = plain_workload x.work in
@@ -131,13 +131,13 @@ pub can_call : (x : CoreValue) (client home last : ℕ) → IsNext x client home
 unfolding words
 can_call x client home last n = subst (λ m. IsCallAt (plain_workload x.work) home (record { client = client; seq = m })) (next_seq x client home last n) (next_call_at x client home n.at n.left)
 
-pub taken : (x : CoreValue) (client home last : ℕ) (a : Answer) (b' : BookState) (sites' now : List SiteState) → CoreHolds x → IsNext x client home last → now ≡ sites' → IsMade (plain_workload x.work) x.book x.sites home (record { client = client; seq = last + 1 }) a b' sites' → let x' : CoreValue = record { work = x.work; book = b'; sites = now; counts = slice_set x.counts client (last + 1) } in IsStepped x client a x' × IsStep x client a x'
+pub taken : (x : CoreValue) (client home last : ℕ) (a : Answer) (b' : BookState) (sites' now : List SiteState) → CoreHolds x → IsNext x client home last → now ≡ sites' → IsCallMade (plain_workload x.work) x.book x.sites home (record { client = client; seq = last + 1 }) a b' sites' → let x' : CoreValue = record { work = x.work; book = b'; sites = now; counts = slice_set x.counts client (last + 1) } in IsStepped x client a x' × IsStep x client a x'
 unfolding words
 taken x client home last a b' sites' now holds n same made =
     let next : suc (slice_index_or x.counts client 0) ≡ last + 1 = next_seq x client home last n in
     let new : counted x client b' sites' ≡ record { work = x.work; book = b'; sites = now; counts = slice_set x.counts client (last + 1) } =
     (λ j. record { work = x.work; book = b'; sites = sym same j; counts = slice_set x.counts client (next j) }) in
-    let made' : IsMade (plain_workload x.work) x.book x.sites home (next_call x client) a b' sites' = subst (λ m. IsMade (plain_workload x.work) x.book x.sites home (record { client = client; seq = m }) a b' sites') (sym next) made in
+    let made' : IsCallMade (plain_workload x.work) x.book x.sites home (next_call x client) a b' sites' = subst (λ m. IsCallMade (plain_workload x.work) x.book x.sites home (record { client = client; seq = m }) a b' sites') (sym next) made in
     let step : IsStep x client a (counted x client b' sites') = record { home = home; at_home = n.at; made = made'; work = refl; counts = refl } in (
       subst (IsStepped x client a) new (stepped x client home a b' sites' holds n.lt n.at n.left made'),
       subst (IsStep x client a) new step,

@@ -82,7 +82,7 @@ answer_to w b sites home x call (Some broken) = closing_answer (length b.closed)
 
 -- a call was made over these rounds and sites, with this answer: it closed the round exactly where its local step at the site
 -- home breaks the site's treaty
-pub record IsMade (w : s.Workload) (b : BookState) (sites : List SiteState) (home : ℕ) (call : CallId) (a : Answer)
+pub record IsCallMade (w : s.Workload) (b : BookState) (sites : List SiteState) (home : ℕ) (call : CallId) (a : Answer)
     (b' : BookState) (sites' : List SiteState) : Type 0 where
   pub site : SiteState
   pub here : slice_get sites home ≡ Some site
@@ -94,7 +94,7 @@ pub record IsMade (w : s.Workload) (b : BookState) (sites : List SiteState) (hom
 pub record IsStep (x : CoreValue) (client : ℕ) (a : Answer) (x' : CoreValue) : Type 0 where
   pub home : ℕ
   pub at_home : IsClientAt (plain_workload x.work) home client
-  pub made : IsMade (plain_workload x.work) x.book x.sites home (next_call x client) a x'.book x'.sites
+  pub made : IsCallMade (plain_workload x.work) x.book x.sites home (next_call x client) a x'.book x'.sites
   pub work : x'.work ≡ x.work
   pub counts : x'.counts ≡ slice_set x.counts client (suc (slice_index_or x.counts client 0))
 

@@ -13,7 +13,7 @@ use Rattle.homeo_history.specs.History.{Entry, Closing, Round}
 use Rattle.homeo_history.specs.Merge.{segment_of}
 use Rattle.homeo_plan.specs.declared.treaty.Broken.{Broken}
 use Rattle.homeo_history.specs.declared.answer.Path.{Path}
-use Rattle.homeo_history.specs.Answers.{Answer, called, local_answer, closing_answer, local_answers, answers_of_round, answers_of, answers_to, answered_entry, IsMade, IsAnswerIn}
+use Rattle.homeo_history.specs.Answers.{Answer, called, local_answer, closing_answer, local_answers, answers_of_round, answers_of, answers_to, answered_entry, IsAnswerMade, IsAnswerIn}
 use Rattle.homeo_history.specs.declared.answer.Path.TheVariants.{Local, Cleanup}
 use Rattle.homeo_history.proofs.ClientAnswers.{same_client, all_of_round, all_answers}
 use Rattle.homeo_history.specs.Legal.{numbers_of}
@@ -108,13 +108,13 @@ module _ (client : ℕ) (rounds : List Round) (log : List Answer) (is : log ≡ 
           let equal : a ≡ b = one_of log numbered a b here in_log (ap (λ (i : CallId). i.seq) (sym h)) in
           no_other_path c.broken (sym path ∙ ap (λ (x : Answer). x.path) equal)
 
-  is_made : (a : Answer) (r : Round) → Contains log a → a.client ≡ client → slice_get rounds a.round ≡ Some r → (path : Path) → a.path ≡ path → HasStood r a path → IsMade r a path
+  is_answer_made : (a : Answer) (r : Round) → Contains log a → a.client ≡ client → slice_get rounds a.round ≡ Some r → (path : Path) → a.path ≡ path → HasStood r a path → IsAnswerMade r a path
   unfolding words HasStood
-  is_made a r here own stands Local e h = (h, not_closing a r here own e stands r.closing refl)
-  is_made a r here own stands (Cleanup broken) e h = h
+  is_answer_made a r here own stands Local e h = (h, not_closing a r here own e stands r.closing refl)
+  is_answer_made a r here own stands (Cleanup broken) e h = h
 
   is_answer : (a : Answer) → Contains log a → a.client ≡ client → Stands rounds a → IsAnswerIn rounds a
-  is_answer a here own h = record { round = h.round; stands = h.stands; made = is_made a h.round here own h.stands a.path refl h.made }
+  is_answer a here own h = record { round = h.round; stands = h.stands; made = is_answer_made a h.round here own h.stands a.path refl h.made }
 
   pub each_is : All (IsAnswerIn rounds) log
   unfolding words

@@ -67,15 +67,15 @@ answered_entry a = record { call = called a; prints = a.prints }
 
 -- where a site ran the call by itself, the call stands in the site's segment and does not close the round; where the answer
 -- came from a cleanup, the call closes the round, with the same finding
-abbrev pub IsMade : Round → Answer → Path → Type 0
+abbrev pub IsAnswerMade : Round → Answer → Path → Type 0
 unfolding words
-IsMade r a Local =
+IsAnswerMade r a Local =
     Contains (segment_of r.segments a.site) (answered_entry a) × IfSome r.closing (λ c. c.entry.call ≡ called a → ⊥)
-IsMade r a (Cleanup broken) =
+IsAnswerMade r a (Cleanup broken) =
     r.closing ≡ Some (record { site = a.site; entry = answered_entry a; broken = broken })
 
 -- it is made so in its round of these
 pub record IsAnswerIn (rounds : List Round) (a : Answer) : Type 0 where
   pub round : Round
   pub stands : slice_get rounds a.round ≡ Some round
-  pub made : IsMade round a a.path
+  pub made : IsAnswerMade round a a.path

@@ -52,21 +52,21 @@ use Rattle.homeo_site.proofs.Limits.{few_sites}
 use Rattle.homeo_site.proofs.WalkRuns.{residual_runs}
 
 -- ---- a planned call is a ground call of some client
-pub record IsMade (w : s.Workload) (g : PlannedCall) : Type 0 where
+pub record HasGroundCall (w : s.Workload) (g : PlannedCall) : Type 0 where
   pub from : Ground
   pub is : planned_call w from ≡ g
   pub called : IsGroundCall w from.transaction from.args
 
-made_among : (w : s.Workload) (gs : List Ground) (g : PlannedCall) → All (IsCalled w) gs → Member g (map (planned_call w) gs) → IsMade w g
+made_among : (w : s.Workload) (gs : List Ground) (g : PlannedCall) → All (IsCalled w) gs → Member g (map (planned_call w) gs) → HasGroundCall w g
 unfolding plan_words
 made_among w [] g h m = absurd m
 made_among w (from ∷ gs) g h m =
     ⊎_elim (λ q. record { from = from; is = q; called = (All-head (IsCalled w) from gs h).made })
     (λ n. made_among w gs g (All-tail (IsCalled w) from gs h) n) m
 
-pub is_made : (w : s.Workload) (g : PlannedCall) → IsAccepted w → Member g (planned w) → IsMade w g
+pub has_ground_call : (w : s.Workload) (g : PlannedCall) → IsAccepted w → Member g (planned w) → HasGroundCall w g
 unfolding plan_words
-is_made w g accepted m = made_among w (grounds w) g (are_called w accepted) m
+has_ground_call w g accepted m = made_among w (grounds w) g (are_called w accepted) m
 
 -- ---- a site alone
 no_temps : (b : ℕ → ℤ) (i : ℕ) (x : Deltas) → HasNoTemps (alone b i x)
@@ -127,7 +127,7 @@ module _
       call_runs : can_exec run_limit (shifted k g) here ≡ true
       unfolding plan_words
       call_runs =
-          let m : IsMade w g = is_made w g accepted member in
+          let m : HasGroundCall w g = has_ground_call w g accepted member in
           let few : k ≤ 16 = few_sites w accepted in
           let most_all : k * most ≤ 16 * most = mul-le k most 16 most few (omega arith) in
           let room : largest + k * most ≤ run_limit = omega arith in

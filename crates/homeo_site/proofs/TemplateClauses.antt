@@ -24,7 +24,7 @@ use Rattle.homeo_plan.proofs.Order.{Sorted}
 use Rattle.homeo_plan.proofs.PlannedCalls.{all_sites_below}
 use Rattle.homeo_plan.proofs.Tables.{row_at_walk}
 use Rattle.homeo_site.proofs.OrderedAtoms.{IsOrdered, true_ordered}
-use Rattle.homeo_site.proofs.StepsRun.{IsMade, is_made}
+use Rattle.homeo_site.proofs.StepsRun.{HasGroundCall, has_ground_call}
 
 -- the largest factor
 abbrev pub factor_limit : ℕ
@@ -68,7 +68,7 @@ module _ (w : s.Workload) (base : List ℤ) (accepted : IsAccepted w) (within : 
   call_tidy : (g : PlannedCall) → Member g (planned w) → g.site < k → Each GivesTidy (atoms_of k b g)
   unfolding plan_words meaning_words
   call_tidy g m lt =
-      let made : IsMade w g = is_made w g accepted m in
+      let made : HasGroundCall w g = has_ground_call w g accepted m in
       let forms : HasSmallForms factor_limit b (walk (shifted k (planned_call w made.from)) (whole b)) =
       accepted_forms w made.from k made.from.site base accepted made.called within (subst (λ (c : PlannedCall). c.site < k) (sym made.is) lt) in
       let row : HasSmallForms factor_limit b (base_row k b g) =

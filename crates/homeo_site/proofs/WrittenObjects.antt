@@ -28,7 +28,7 @@ use Rattle.homeo_delta.proofs.ShiftedPlaces.{places_law}
 use Rattle.homeo_effect.specs.Key.{words as effect_words}
 use Rattle.homeo_effect.specs.Touched.{written, WritesOwn}
 use Rattle.homeo_effect.proofs.OwnWrites.{walk_writes_own}
-use Rattle.homeo_site.proofs.StepsRun.{IsMade, is_made}
+use Rattle.homeo_site.proofs.StepsRun.{HasGroundCall, has_ground_call}
 
 module _ (h : Shape) where
   -- the places that the row's residual writes are there
@@ -121,8 +121,8 @@ module _ (w : s.Workload) (base : List ℤ) (g : PlannedCall) (member : Member g
       h : Shape
       h = record { base = length base; deltas = replicate (suc g.site) (length base) }
 
-      made : IsMade w g
-      made = is_made w g accepted member
+      made : HasGroundCall w g
+      made = has_ground_call w g accepted member
 
       named : NamesWithin (length (all_bounds (schema_of w))) (length w.names) g.command
       named =

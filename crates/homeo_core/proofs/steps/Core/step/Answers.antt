@@ -7,7 +7,7 @@ use Rattle.homeo_history.specs.HistoryView.{plain_answer}
 use Rattle.homeo_history.specs.Legal.{IsClientAt, call_count, IsLegalFrom}
 use Rattle.homeo_site.specs.SiteView.{SiteValue}
 use Rattle.homeo_core.specs.Key.{words}
-use Rattle.homeo_core.specs.CoreView.{CoreValue, CoreHolds, core_history, start_of, IsMade, IsStep}
+use Rattle.homeo_core.specs.CoreView.{CoreValue, CoreHolds, core_history, start_of, IsCallMade, IsStep}
 use Rattle.homeo_core.specs.Books.{book_of}
 use Rattle.homeo_core.specs.SiteLists.{states, AreOf}
 use Rattle.homeo_core.proofs.CoreSteps.{core_of, can_call, is_legal, whole_slice, IsNext, IsStepped, taken}
@@ -71,7 +71,7 @@ has_stepped : (c : In_ok-answer) → IsNext (core_of c.self.inside) c.args.clien
 unfolding words
 has_stepped c next =
     let x : CoreValue = core_of c.self.inside in
-    let made = subst (λ l. IsMade (plain_workload x.work) x.book l c.site_of-home.result (record { client = c.args.client; seq = c.index-last.result.now + 1 }) (plain_answer c.in_ok-answer.answer) (after c).book (states c.make_call.new.sites)) (ap states c.as_mut_slice.ensures.value) c.in_ok-answer.ensures.made in
+    let made = subst (λ l. IsCallMade (plain_workload x.work) x.book l c.site_of-home.result (record { client = c.args.client; seq = c.index-last.result.now + 1 }) (plain_answer c.in_ok-answer.answer) (after c).book (states c.make_call.new.sites)) (ap states c.as_mut_slice.ensures.value) c.in_ok-answer.ensures.made in
     subst (Stepped c) c.self.view_is
     (taken x c.args.client c.site_of-home.result c.index-last.result.now (plain_answer c.in_ok-answer.answer) (after c).book (states c.make_call.new.sites) (after c).sites c.self.invariant.1 next (ap states (whole c)) made)
 
