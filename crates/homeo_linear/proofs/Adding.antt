@@ -9,12 +9,12 @@ use Rattle.homeo_meaning.specs.Key.{words as meaning_words}
 use Rattle.homeo_meaning.specs.Small.{IsSmall}
 use Rattle.homeo_plan.specs.Key.{words as plan_words}
 use Rattle.homeo_plan.specs.Each.{Each}
-use Rattle.homeo_plan.specs.Linear.{same_delta, delta_before, deltas_of, with_term, add_term, add_terms, scale_terms}
+use Rattle.homeo_plan.specs.Linear.{AreInOrder, same_delta, delta_before, deltas_of, with_term, add_term, add_terms, scale_terms}
 use Rattle.homeo_plan.specs.declared.forms.Delta.{Delta}
 use Rattle.homeo_plan.specs.declared.forms.Term.{Term}
 use Rattle.homeo_plan.specs.Limit.{form_limit}
 use Rattle.homeo_linear.specs.inner.Key.{words}
-use Rattle.homeo_linear.specs.inner.Order.{InOrder, BeginsBehind, IsPlace, begins_with}
+use Rattle.homeo_linear.specs.inner.Order.{BeginsBehind, IsPlace, begins_with}
 use Rattle.homeo_linear.specs.inner.Terms.{AreWithin, AreSmall, AreAddedUp, sum_limit, add_at}
 use Rattle.homeo_linear.proofs.Orders.{before_is_other, before_is_one_way, before_total, Above, above_before, each_at, take_drop, begins_at, begins_past, place_end, place_after, place_below}
 use Rattle.homeo_linear.proofs.Widths.{abs_add}
@@ -55,7 +55,7 @@ pushed_end ts ds ws i l h = sym (append-nil ds) ∙ sym (ap (λ r. ds ++ deltas_
 
 -- ---- places
 pub term_place_after :
-    (d : Delta) (ts : List Term) (p : ℕ) (t : Term) → InOrder (deltas_of ts) → 0 < p → p ≤ length ts → true ≡ delta_before (get_or ts (p - 1) t).delta d →
+    (d : Delta) (ts : List Term) (p : ℕ) (t : Term) → AreInOrder (deltas_of ts) → 0 < p → p ≤ length ts → true ≡ delta_before (get_or ts (p - 1) t).delta d →
     BeginsBehind d (drop p (deltas_of ts)) → IsPlace d (deltas_of ts) p
 term_place_after d ts p t o m l h b =
     place_after d (deltas_of ts) p t.delta o m (omega (arith, l, length_deltas ts)) (h ∙ ap (λ e. delta_before e d) (sym (delta_at ts (p - 1) t (omega (arith, m, l))))) b
@@ -235,33 +235,33 @@ unfolding plan_words
 above_scale c n [] a = tt
 above_scale c n (t ∷ ts) a = above_with c t.delta (n *ℤ t.factor) (scale_terms n ts) a.0 (above_scale c n ts a.1)
 
-order_with : (d : Delta) (f : ℤ) (ts : List Term) → Above d (deltas_of ts) → InOrder (deltas_of ts) → InOrder (deltas_of (with_term d f ts))
-unfolding words plan_words
+order_with : (d : Delta) (f : ℤ) (ts : List Term) → Above d (deltas_of ts) → AreInOrder (deltas_of ts) → AreInOrder (deltas_of (with_term d f ts))
+unfolding plan_words
 order_with d f ts a o = go (int_eq f (pos 0))
   where
-    go : (v : Bool) → InOrder (deltas_of (cond v ts (record { delta = d; factor = f } ∷ ts)))
+    go : (v : Bool) → AreInOrder (deltas_of (cond v ts (record { delta = d; factor = f } ∷ ts)))
     go true = o
     go false = (a, o)
 
-order_add : (d : Delta) (f : ℤ) (ts : List Term) → InOrder (deltas_of ts) → InOrder (deltas_of (add_term d f ts))
-unfolding words plan_words
+order_add : (d : Delta) (f : ℤ) (ts : List Term) → AreInOrder (deltas_of ts) → AreInOrder (deltas_of (add_term d f ts))
+unfolding plan_words
 order_add d f [] o = order_with d f [] tt tt
 order_add d f (t ∷ ts) o = go (same_delta d t.delta) refl (delta_before d t.delta) refl (order_add d f ts o.1)
   where
     go :
-        (v : Bool) → same_delta d t.delta ≡ v → (w : Bool) → delta_before d t.delta ≡ w → InOrder (deltas_of (add_term d f ts)) →
-        InOrder (deltas_of (cond v (with_term t.delta (f +ℤ t.factor) ts) (cond w (with_term d f (t ∷ ts)) (t ∷ add_term d f ts))))
+        (v : Bool) → same_delta d t.delta ≡ v → (w : Bool) → delta_before d t.delta ≡ w → AreInOrder (deltas_of (add_term d f ts)) →
+        AreInOrder (deltas_of (cond v (with_term t.delta (f +ℤ t.factor) ts) (cond w (with_term d f (t ∷ ts)) (t ∷ add_term d f ts))))
     go true p w q ih = order_with t.delta (f +ℤ t.factor) ts o.0 o.1
     go false p true q ih = order_with d f (t ∷ ts) (q, above_before d t.delta (deltas_of ts) q o.0) o
     go false p false q ih = (above_add t.delta d f ts (before_total d t.delta p q) o.0, ih)
 
-pub order_adds : (ts us : List Term) → InOrder (deltas_of us) → InOrder (deltas_of (add_terms ts us))
+pub order_adds : (ts us : List Term) → AreInOrder (deltas_of us) → AreInOrder (deltas_of (add_terms ts us))
 unfolding plan_words
 order_adds [] us o = o
 order_adds (t ∷ ts) us o = order_adds ts (add_term t.delta t.factor us) (order_add t.delta t.factor us o)
 
-pub order_scale : (n : ℤ) (ts : List Term) → InOrder (deltas_of ts) → InOrder (deltas_of (scale_terms n ts))
-unfolding words plan_words
+pub order_scale : (n : ℤ) (ts : List Term) → AreInOrder (deltas_of ts) → AreInOrder (deltas_of (scale_terms n ts))
+unfolding plan_words
 order_scale n [] o = tt
 order_scale n (t ∷ ts) o =
     order_with t.delta (n *ℤ t.factor) (scale_terms n ts) (above_scale t.delta n ts o.0) (order_scale n ts o.1)
@@ -318,14 +318,14 @@ limit_wider f h = wider form_limit sum_limit f (omega arith) h
 
 -- ---- all of them
 pub record AddStep (ts us ws : List Term) (i : ℕ) : Type 0 where
-  pub order : InOrder (deltas_of us)
+  pub order : AreInOrder (deltas_of us)
   pub within : AreWithin (i * form_limit) us
   pub left : add_terms (drop i ts) us ≡ ws
 
 pub add_start : (ts us : List Term) → us ≡ [] → AddStep ts us (add_terms ts []) 0
 unfolding words plan_words
 add_start ts us p = record {
-  order = subst (λ l. InOrder (deltas_of l)) (sym p) tt;
+  order = subst (λ l. AreInOrder (deltas_of l)) (sym p) tt;
   within = subst (AreWithin 0) (sym p) tt;
   left = ap (add_terms ts) p;
 }
@@ -339,7 +339,7 @@ add_step ts us vs ws i x l s e k =
     let next : drop i ts ≡ t ∷ drop (i + 1) ts = rw add-one (drop-cons ts i x l) in
     let more : form_limit + i * form_limit ≡ (i + 1) * form_limit = omega arith in
     record {
-      order = subst (λ l. InOrder (deltas_of l)) (sym e) (order_add t.delta t.factor us k.order);
+      order = subst (λ l. AreInOrder (deltas_of l)) (sym e) (order_add t.delta t.factor us k.order);
       within = subst (AreWithin ((i + 1) * form_limit)) (sym e)
           (subst (λ n. AreWithin n (add_term t.delta t.factor us)) more (within_add form_limit (i * form_limit) t.delta t.factor us (small_next ts i x l s) k.within));
       left = ap (add_terms (drop (i + 1) ts)) e ∙ sym (ap (λ l. add_terms l us) next) ∙ k.left;

@@ -5,10 +5,8 @@ use Rattle.std.specs.List.Sorted.{IsPermutation}
 use Rattle.std.proofs.lemmas.Bool.Decides.{nat_tests}
 use Rattle.std.proofs.lemmas.List.Sorted.{list_any-IsPermutation}
 use Rattle.homeo_plan.specs.Key.{words as plan_words}
-use Rattle.homeo_plan.specs.Linear.{same_delta, delta_before, add_delta, add_deltas}
+use Rattle.homeo_plan.specs.Linear.{AreInOrder, same_delta, delta_before, add_delta, add_deltas}
 use Rattle.homeo_plan.specs.declared.forms.Delta.{Delta}
-use Rattle.homeo_linear.specs.inner.Key.{words}
-use Rattle.homeo_linear.specs.inner.Order.{InOrder}
 use Rattle.homeo_linear.proofs.Orders.{Above, above_before, before_total, in_order_adds}
 
 -- ---- the same delta
@@ -93,8 +91,8 @@ same_rest d e x ds es p a b h = go (same_delta x d) refl
     go false q =
         sym (ap (λ b. b || has x ds) q) ∙ h ∙ ap (λ b. b || has x es) (ap (same_delta x) (sym p) ∙ q)
 
-pub same_deltas : (ds es : List Delta) → InOrder ds → InOrder es → ((d : Delta) → has d ds ≡ has d es) → ds ≡ es
-unfolding words
+pub same_deltas : (ds es : List Delta) → AreInOrder ds → AreInOrder es → ((d : Delta) → has d ds ≡ has d es) → ds ≡ es
+unfolding plan_words
 same_deltas [] [] o p h = refl
 same_deltas [] (e ∷ es) o p h = absurd (true≢false (sym (h e ∙ ap (λ b. b || has e es) (same_self e))))
 same_deltas (d ∷ ds) [] o p h = absurd (true≢false (sym (ap (λ b. b || has d ds) (same_self d)) ∙ h d))
@@ -112,20 +110,20 @@ same_deltas (d ∷ ds) (e ∷ es) o p h = go (same_delta d e) refl (delta_before
         absurd (true≢false (sym (ap (λ b. b || has e es) (same_self e)) ∙ sym (h e) ∙ ap₂ ◌||◌ (before_not_same e d s) (above_none e ds (above_before e d ds s o.0))))
 
 -- ---- what they are put together
-same_by : (ds es : List Delta) → InOrder es → ((d : Delta) → has d es ≡ has d ds) → es ≡ add_deltas ds []
-unfolding words
+same_by : (ds es : List Delta) → AreInOrder es → ((d : Delta) → has d es ≡ has d ds) → es ≡ add_deltas ds []
+unfolding plan_words
 same_by ds es o h = same_deltas es (add_deltas ds []) o (in_order_adds ds [] tt) (λ d. h d ∙ sym (has_adds d ds [] ∙ or_none (has d ds)))
 
-pub in_order_kept : (ds : List Delta) → InOrder ds → ds ≡ add_deltas ds []
+pub in_order_kept : (ds : List Delta) → AreInOrder ds → ds ≡ add_deltas ds []
 in_order_kept ds o = same_by ds ds o (λ d. refl)
 
 pub permuted_same : (ds es : List Delta) → IsPermutation ds es → add_deltas es [] ≡ add_deltas ds []
-unfolding words
+unfolding plan_words
 permuted_same ds es p =
     same_by ds (add_deltas es []) (in_order_adds es [] tt)
     (λ d. has_adds d es [] ∙ or_none (has d es) ∙ sym (list_any-IsPermutation (same_delta d) ds es p))
 
-pub adds_swap : (ds es : List Delta) → InOrder ds → InOrder es → add_deltas ds es ≡ add_deltas es ds
+pub adds_swap : (ds es : List Delta) → AreInOrder ds → AreInOrder es → add_deltas ds es ≡ add_deltas es ds
 adds_swap ds es o p =
     same_deltas (add_deltas ds es) (add_deltas es ds) (in_order_adds ds es p) (in_order_adds es ds o)
     (λ d. has_adds d ds es ∙ or_comm (has d ds) (has d es) ∙ sym (has_adds d es ds))
@@ -140,13 +138,13 @@ no_rest : (ds : List Delta) → drop (length ds) ds ≡ []
 no_rest [] = refl
 no_rest (d ∷ ds) = no_rest ds
 
-pub no_delta_left : (ds : List Delta) → InOrder (drop (length ds) ds)
-unfolding words
-no_delta_left ds = subst InOrder (sym (no_rest ds)) tt
+pub no_delta_left : (ds : List Delta) → AreInOrder (drop (length ds) ds)
+unfolding plan_words
+no_delta_left ds = subst AreInOrder (sym (no_rest ds)) tt
 
 lead_of : (ds : List Delta) (n : ℕ) (x : Delta) → n < length ds → (suc n < length ds → true ≡ delta_before (get_or ds n x) (get_or ds (suc n) x)) →
-    InOrder (drop (suc n) ds) → InOrder (drop n ds)
-unfolding words plan_words
+    AreInOrder (drop (suc n) ds) → AreInOrder (drop n ds)
+unfolding plan_words
 lead_of [] n x l b o = absurd (omega (arith, l))
 lead_of (d ∷ []) zero x l b o = (tt, tt)
 lead_of (d ∷ e ∷ es) zero x l b o =
@@ -155,7 +153,7 @@ lead_of (d ∷ e ∷ es) zero x l b o =
 lead_of (d ∷ ds) (suc n) x l b o = lead_of ds n x (omega (arith, l)) (λ k. b (omega (arith, k))) o
 
 pub leads_at : (ds : List Delta) (n : ℕ) (x : Delta) → n < length ds → (n + 1 < length ds → true ≡ delta_before (get_or ds n x) (get_or ds (n + 1) x)) →
-    InOrder (drop (n + 1) ds) → InOrder (drop n ds)
+    AreInOrder (drop (n + 1) ds) → AreInOrder (drop n ds)
 leads_at ds n x l b o =
     let e : n + 1 ≡ suc n = omega arith in
-    lead_of ds n x l (λ k. b (omega (arith, k)) ∙ ap (λ m. delta_before (get_or ds n x) (get_or ds m x)) e) (subst (λ m. InOrder (drop m ds)) e o)
+    lead_of ds n x l (λ k. b (omega (arith, k)) ∙ ap (λ m. delta_before (get_or ds n x) (get_or ds m x)) e) (subst (λ m. AreInOrder (drop m ds)) e o)

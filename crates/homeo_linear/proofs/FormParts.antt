@@ -5,12 +5,11 @@ use Rattle.std.proofs.lemmas.Bool.Decides.{nat_tests}
 use Rattle.homeo_meaning.specs.Small.{IsSmall}
 use Rattle.homeo_plan.specs.Key.{words as plan_words}
 use Rattle.homeo_plan.specs.FormSizes.{Numbers}
-use Rattle.homeo_plan.specs.Linear.{Linear, deltas_of, add_deltas, add_term, add_terms, scale_terms, constant_form, delta_form, add_forms, scale_form, multiply_forms, mix_forms, is_empty, is_pure, support}
+use Rattle.homeo_plan.specs.Linear.{AreInOrder, Linear, deltas_of, add_deltas, add_term, add_terms, scale_terms, constant_form, delta_form, add_forms, scale_form, multiply_forms, mix_forms, is_empty, is_pure, support}
 use Rattle.homeo_plan.specs.declared.forms.Delta.{Delta}
 use Rattle.homeo_plan.specs.declared.forms.Term.{Term}
 use Rattle.homeo_plan.specs.Limit.{form_limit}
 use Rattle.homeo_linear.specs.inner.Key.{words}
-use Rattle.homeo_linear.specs.inner.Order.{InOrder}
 use Rattle.homeo_linear.specs.inner.Terms.{AreSmall, AreAddedUp, term_form}
 use Rattle.homeo_linear.proofs.Orders.{in_order_adds}
 use Rattle.homeo_linear.proofs.Adding.{order_adds, order_scale}
@@ -23,42 +22,42 @@ form_of n ts ds = record { constant = n; terms = ts; mixed = ds }
 pub same_form : (m n : ℤ) (ts us : List Term) (ds es : List Delta) → m ≡ n → ts ≡ us → ds ≡ es → form_of m ts ds ≡ form_of n us es
 same_form m n ts us ds es p q r = λ i. form_of (p i) (q i) (r i)
 
-abbrev pub AreInOrder : List Term → List Delta → Type 0
-AreInOrder ts ds = AreAddedUp ts × InOrder ds
+abbrev pub AreFormParts : List Term → List Delta → Type 0
+AreFormParts ts ds = AreAddedUp ts × AreInOrder ds
 
 no_terms : AreAddedUp []
 unfolding words plan_words
 no_terms = record { order = tt; counts = tt }
 
-pub none_in_order : (ts : List Term) (ds : List Delta) → ts ≡ [] → ds ≡ [] → AreInOrder ts ds
-unfolding words
-none_in_order ts ds p q = (subst AreAddedUp (sym p) no_terms, subst InOrder (sym q) tt)
+pub none_in_order : (ts : List Term) (ds : List Delta) → ts ≡ [] → ds ≡ [] → AreFormParts ts ds
+unfolding plan_words
+none_in_order ts ds p q = (subst AreAddedUp (sym p) no_terms, subst AreInOrder (sym q) tt)
 
 pub one_in_order :
-    (d : Delta) (ts us : List Term) (ds : List Delta) → us ≡ [] → ts ≡ us ++ record { delta = d; factor = pos 1 } ∷ [] → ds ≡ [] → AreInOrder ts ds
+    (d : Delta) (ts us : List Term) (ds : List Delta) → us ≡ [] → ts ≡ us ++ record { delta = d; factor = pos 1 } ∷ [] → ds ≡ [] → AreFormParts ts ds
 unfolding words plan_words
 one_in_order d ts us ds n p q = (
   subst AreAddedUp (sym (p ∙ ap (λ l. l ++ record { delta = d; factor = pos 1 } ∷ []) n)) (record { order = (tt, tt); counts = (refl, tt) }),
-  subst InOrder (sym q) tt,
+  subst AreInOrder (sym q) tt,
 )
 
-pub sum_in_order : (ts us : List Term) (ds es : List Delta) → us ≡ add_terms ts [] → es ≡ add_deltas ds [] → AreInOrder us es
+pub sum_in_order : (ts us : List Term) (ds es : List Delta) → us ≡ add_terms ts [] → es ≡ add_deltas ds [] → AreFormParts us es
 unfolding words plan_words
 sum_in_order ts us ds es p q = (
   subst AreAddedUp (sym p) (record { order = order_adds ts [] tt; counts = count_adds ts [] tt }),
-  subst InOrder (sym q) (in_order_adds ds [] tt),
+  subst AreInOrder (sym q) (in_order_adds ds [] tt),
 )
 
 pub multiple_in_order :
-    (n : ℤ) (ts us xs : List Term) (ds es ys : List Delta) → us ≡ scale_terms n xs → xs ≡ ts → es ≡ ys → ys ≡ ds → AreInOrder ts ds → AreInOrder us es
+    (n : ℤ) (ts us xs : List Term) (ds es ys : List Delta) → us ≡ scale_terms n xs → xs ≡ ts → es ≡ ys → ys ≡ ds → AreFormParts ts ds → AreFormParts us es
 multiple_in_order n ts us xs ds es ys p p' q q' o = (
   subst AreAddedUp (sym (p ∙ ap (scale_terms n) p')) (record { order = order_scale n ts o.0.order; counts = count_scale n ts }),
-  subst InOrder (sym (q ∙ q')) o.1,
+  subst AreInOrder (sym (q ∙ q')) o.1,
 )
 
-pub mix_in_order : (ts : List Term) (ds es : List Delta) → ts ≡ [] → es ≡ add_deltas ds [] → AreInOrder ts es
-unfolding words
-mix_in_order ts ds es p q = (subst AreAddedUp (sym p) no_terms, subst InOrder (sym q) (in_order_adds ds [] tt))
+pub mix_in_order : (ts : List Term) (ds es : List Delta) → ts ≡ [] → es ≡ add_deltas ds [] → AreFormParts ts es
+unfolding plan_words
+mix_in_order ts ds es p q = (subst AreAddedUp (sym p) no_terms, subst AreInOrder (sym q) (in_order_adds ds [] tt))
 
 -- ---- small numbers
 pub small_terms : (a : Linear) (n : ℤ) (ts xs : List Term) (ds : List Delta) → form_of n ts ds ≡ a → xs ≡ ts → Numbers (IsSmall form_limit) a → AreSmall xs
@@ -96,7 +95,7 @@ delta_is d ts us ds n p q =
     same_form (pos 0) (pos 0) ts (record { delta = d; factor = pos 1 } ∷ []) ds [] refl (p ∙ ap (λ l. l ++ record { delta = d; factor = pos 1 } ∷ []) n) q
 
 -- a sum of one form
-pub total_of : (a : Linear) (n z : ℤ) (ts : List Term) (ds : List Delta) → form_of n ts ds ≡ a → z ≡ n → AreInOrder ts ds → form_of z (add_terms ts []) (add_deltas ds []) ≡ a
+pub total_of : (a : Linear) (n z : ℤ) (ts : List Term) (ds : List Delta) → form_of n ts ds ≡ a → z ≡ n → AreFormParts ts ds → form_of z (add_terms ts []) (add_deltas ds []) ≡ a
 total_of a n z ts ds e c o =
     same_form z n (add_terms ts []) ts (add_deltas ds []) ds c (sym (terms_kept ts o.0.order o.0.counts)) (sym (deltas_kept ds o.1)) ∙ e
 
@@ -136,12 +135,12 @@ multiple_is a k k' n z ts us xs ds es ys e c w p p' q q' =
     same_form z (k *ℤ n) us (scale_terms k ts) es ds c (p ∙ ap₂ scale_terms w p') (q ∙ q') ∙ ap (scale_form k) e
 
 -- deltas put into others that are in order
-pub put_into : (ds es fs xs : List Delta) → fs ≡ add_deltas xs [] → xs ≡ ds ++ es → InOrder ds → fs ≡ add_deltas es ds
+pub put_into : (ds es fs xs : List Delta) → fs ≡ add_deltas xs [] → xs ≡ ds ++ es → AreInOrder ds → fs ≡ add_deltas es ds
 put_into ds es fs xs p q o = p ∙ ap (λ l. add_deltas l []) q ∙ deltas_append ds es [] ∙ ap (add_deltas es) (sym (deltas_kept ds o))
 
 pub mix_is :
     (a b : Linear) (m n z : ℤ) (us vs : List Term) (fs gs : List Delta) (ts : List Term) (es ds ys ws : List Delta) → form_of m us fs ≡ a → form_of n vs gs ≡ b →
-    z ≡ m *ℤ n → ts ≡ [] → es ≡ add_deltas ys ds → ys ≡ ws → ws ≡ support b → ds ≡ support a → InOrder ds → InOrder ws → form_of z ts es ≡ mix_forms a b
+    z ≡ m *ℤ n → ts ≡ [] → es ≡ add_deltas ys ds → ys ≡ ws → ws ≡ support b → ds ≡ support a → AreInOrder ds → AreInOrder ws → form_of z ts es ≡ mix_forms a b
 unfolding plan_words
 mix_is a b m n z us vs fs gs ts es ds ys ws e f c p q y w d o r =
     same_form z (a.constant *ℤ b.constant) ts [] es (add_deltas (support a) (support b))
@@ -195,6 +194,6 @@ unfolding plan_words
 support_is a n ts xs ds es ys fs e p x q q' =
     p ∙ ap₂ (λ l m. add_deltas (deltas_of l) m) x (q ∙ q') ∙ ap support e
 
-pub support_in_order : (ds es : List Delta) → es ≡ add_deltas ds [] → InOrder es
-unfolding words
-support_in_order ds es p = subst InOrder (sym p) (in_order_adds ds [] tt)
+pub support_in_order : (ds es : List Delta) → es ≡ add_deltas ds [] → AreInOrder es
+unfolding plan_words
+support_in_order ds es p = subst AreInOrder (sym p) (in_order_adds ds [] tt)

@@ -12,11 +12,9 @@ use Rattle.homeo_meaning.specs.Small.{IsSmall}
 use Rattle.homeo_plan.specs.FormSizes.{Numbers}
 use Rattle.homeo_plan.specs.Limit.{form_limit}
 use Rattle.homeo_plan.specs.declared.forms.Delta.{Delta}
-use Rattle.homeo_plan.specs.Linear.{Linear, Forms, add_delta, add_deltas, scale_form, support}
+use Rattle.homeo_plan.specs.Linear.{AreInOrder, Linear, Forms, add_delta, add_deltas, scale_form, support}
 use Rattle.homeo_follow.specs.Follow.{object_form, gain, print_needs, write_needs}
 use Rattle.homeo_follow.proofs.Deltas.{any_add}
-use Rattle.homeo_linear.specs.inner.Key.{words}
-use Rattle.homeo_linear.specs.inner.Order.{InOrder}
 use Rattle.homeo_linear.proofs.DeltasInOrder.{has, or_move, or_none, has_adds, same_deltas, adds_append}
 use Rattle.homeo_linear.proofs.Orders.{in_order_adds}
 
@@ -51,8 +49,8 @@ module _ (b : ℕ → ℤ) (f : Forms) where
   gains_have d [] = refl
   gains_have d (x ∷ xs) = has_adds d (gained x) (write_needs b f xs) ∙ ap (λ v. has d (gained x) || v) (gains_have d xs)
 
-  gains_in_order : (xs : List ℕ) → InOrder (write_needs b f xs)
-  unfolding follow_words words
+  gains_in_order : (xs : List ℕ) → AreInOrder (write_needs b f xs)
+  unfolding follow_words plan_words
   gains_in_order [] = tt
   gains_in_order (x ∷ xs) = in_order_adds (gained x) (write_needs b f xs) (gains_in_order xs)
 

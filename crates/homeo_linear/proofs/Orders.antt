@@ -5,10 +5,10 @@ use Rattle.std.specs.List.{insert}
 use Rattle.std.proofs.lemmas.Bool.Decides.{nat_tests}
 use Rattle.homeo_plan.specs.Key.{words as plan_words}
 use Rattle.homeo_plan.specs.Each.{Each}
-use Rattle.homeo_plan.specs.Linear.{same_delta, delta_before, add_delta, add_deltas}
+use Rattle.homeo_plan.specs.Linear.{AreInOrder, same_delta, delta_before, add_delta, add_deltas}
 use Rattle.homeo_plan.specs.declared.forms.Delta.{Delta}
 use Rattle.homeo_linear.specs.inner.Key.{words}
-use Rattle.homeo_linear.specs.inner.Order.{InOrder, BeginsBehind, IsPlace, begins_with}
+use Rattle.homeo_linear.specs.inner.Order.{BeginsBehind, IsPlace, begins_with}
 
 -- ---- the order
 pub before_is_other : (d e : Delta) → delta_before e d ≡ true → same_delta d e ≡ false
@@ -37,8 +37,8 @@ each_at P [] n x l h = absurd (omega (arith, l))
 each_at P (y ∷ ys) zero x l h = h.0
 each_at P (y ∷ ys) (suc n) x l h = each_at P ys n x (omega (arith, l)) h.1
 
-before_all : (d : Delta) (ds : List Delta) (n : ℕ) (x : Delta) → InOrder ds → n < length ds → delta_before (get_or ds n x) d ≡ true → Each (λ e. delta_before e d ≡ true) (take (suc n) ds)
-unfolding words plan_words
+before_all : (d : Delta) (ds : List Delta) (n : ℕ) (x : Delta) → AreInOrder ds → n < length ds → delta_before (get_or ds n x) d ≡ true → Each (λ e. delta_before e d ≡ true) (take (suc n) ds)
+unfolding plan_words
 before_all d [] n x o l h = absurd (omega (arith, l))
 before_all d (e ∷ es) zero x o l h = (h, tt)
 before_all d (e ∷ es) (suc n) x o l h =
@@ -58,7 +58,7 @@ place_end d (e ∷ es) = place_end d es
 
 -- one stands before it, and so do those before that one
 pub place_after :
-    (d : Delta) (ds : List Delta) (p : ℕ) (x : Delta) → InOrder ds → 0 < p → p ≤ length ds → true ≡ delta_before (get_or ds (p - 1) x) d →
+    (d : Delta) (ds : List Delta) (p : ℕ) (x : Delta) → AreInOrder ds → 0 < p → p ≤ length ds → true ≡ delta_before (get_or ds (p - 1) x) d →
     BeginsBehind d (drop p ds) → IsPlace d ds p
 place_after d ds p x o m l h b =
     let e : suc (p - 1) ≡ p = omega (arith, m) in
@@ -108,18 +108,18 @@ above_add c d (e ∷ es) h a = go (same_delta d e) (delta_before d e) (above_add
     go false true ih = (h, a)
     go false false ih = (a.0, ih)
 
-pub in_order_add : (d : Delta) (ds : List Delta) → InOrder ds → InOrder (add_delta d ds)
-unfolding words plan_words
+pub in_order_add : (d : Delta) (ds : List Delta) → AreInOrder ds → AreInOrder (add_delta d ds)
+unfolding plan_words
 in_order_add d [] o = (tt, tt)
 in_order_add d (e ∷ es) o = go (same_delta d e) refl (delta_before d e) refl (in_order_add d es o.1)
   where
-    go : (v : Bool) → same_delta d e ≡ v → (w : Bool) → delta_before d e ≡ w → InOrder (add_delta d es) →
-        InOrder (cond v (e ∷ es) (cond w (d ∷ e ∷ es) (e ∷ add_delta d es)))
+    go : (v : Bool) → same_delta d e ≡ v → (w : Bool) → delta_before d e ≡ w → AreInOrder (add_delta d es) →
+        AreInOrder (cond v (e ∷ es) (cond w (d ∷ e ∷ es) (e ∷ add_delta d es)))
     go true p w q ih = o
     go false p true q ih = ((q, above_before d e es q o.0), o)
     go false p false q ih = (above_add e d es (before_total d e p q) o.0, ih)
 
-pub in_order_adds : (ds es : List Delta) → InOrder es → InOrder (add_deltas ds es)
+pub in_order_adds : (ds es : List Delta) → AreInOrder es → AreInOrder (add_deltas ds es)
 unfolding plan_words
 in_order_adds [] es o = o
 in_order_adds (d ∷ ds) es o = in_order_adds ds (add_delta d es) (in_order_add d es o)
@@ -171,17 +171,17 @@ delta_kept d ds xs ys n x y p h =
     sym (add_split d ds n q.before ∙ ap (λ l. take n ds ++ l) (there_already d (drop n ds) k) ∙ take_drop ds n)
 
 -- ---- all of them
-pub adds_start : (ds es : List Delta) → es ≡ [] → InOrder es × (add_deltas ds es ≡ add_deltas ds [])
-unfolding words
-adds_start ds es p = (subst InOrder (sym p) tt, ap (add_deltas ds) p)
+pub adds_start : (ds es : List Delta) → es ≡ [] → AreInOrder es × (add_deltas ds es ≡ add_deltas ds [])
+unfolding plan_words
+adds_start ds es p = (subst AreInOrder (sym p) tt, ap (add_deltas ds) p)
 
 pub adds_step :
-    (ds es fs ws : List Delta) (i : ℕ) (x : Delta) → i < length ds → InOrder es → fs ≡ add_delta (get_or ds i x) es → add_deltas (drop i ds) es ≡ ws →
-    InOrder fs × (add_deltas (drop (i + 1) ds) fs ≡ ws)
+    (ds es fs ws : List Delta) (i : ℕ) (x : Delta) → i < length ds → AreInOrder es → fs ≡ add_delta (get_or ds i x) es → add_deltas (drop i ds) es ≡ ws →
+    AreInOrder fs × (add_deltas (drop (i + 1) ds) fs ≡ ws)
 unfolding plan_words
 adds_step ds es fs ws i x l o e h =
     let next : drop i ds ≡ get_or ds i x ∷ drop (i + 1) ds = rw add-one (drop-cons ds i x l) in
-    (subst InOrder (sym e) (in_order_add (get_or ds i x) es o), ap (add_deltas (drop (i + 1) ds)) e ∙ sym (ap (λ l. add_deltas l es) next) ∙ h)
+    (subst AreInOrder (sym e) (in_order_add (get_or ds i x) es o), ap (add_deltas (drop (i + 1) ds)) e ∙ sym (ap (λ l. add_deltas l es) next) ∙ h)
 
 pub adds_end : (ds es ws : List Delta) (i : ℕ) → length ds ≤ i → add_deltas (drop i ds) es ≡ ws → es ≡ ws
 unfolding plan_words

@@ -11,12 +11,11 @@ use Rattle.std.proofs.lemmas.List.Sorted.{All-permutation, sum_by-IsPermutation}
 use Rattle.homeo_meaning.specs.Small.{IsSmall}
 use Rattle.homeo_plan.specs.Key.{words as plan_words}
 use Rattle.homeo_plan.specs.Each.{Each}
-use Rattle.homeo_plan.specs.Linear.{same_delta, delta_before, deltas_of, with_term, add_term, add_terms, scale_terms}
+use Rattle.homeo_plan.specs.Linear.{AreInOrder, same_delta, delta_before, deltas_of, with_term, add_term, add_terms, scale_terms}
 use Rattle.homeo_plan.specs.declared.forms.Delta.{Delta}
 use Rattle.homeo_plan.specs.declared.forms.Term.{Term}
 use Rattle.homeo_plan.specs.Limit.{form_limit}
 use Rattle.homeo_linear.specs.inner.Key.{words}
-use Rattle.homeo_linear.specs.inner.Order.{InOrder}
 use Rattle.homeo_linear.specs.inner.Terms.{AllCount, AreSmall}
 use Rattle.homeo_linear.proofs.Orders.{Above, above_before, before_total, each_at}
 use Rattle.homeo_linear.proofs.Adding.{order_adds}
@@ -150,7 +149,7 @@ missed : (t : Term) (ts us : List Term) → int_eq t.factor (pos 0) ≡ false �
 missed t ts us c a n h = left_over t.factor c (sym (first_at t ts a) ∙ h ∙ n)
 
 same_terms :
-    (ts us : List Term) → InOrder (deltas_of ts) → InOrder (deltas_of us) → AllCount ts → AllCount us → ((d : Delta) → factor_at d ts ≡ factor_at d us) → ts ≡ us
+    (ts us : List Term) → AreInOrder (deltas_of ts) → AreInOrder (deltas_of us) → AllCount ts → AllCount us → ((d : Delta) → factor_at d ts ≡ factor_at d us) → ts ≡ us
 unfolding words plan_words
 same_terms [] [] o p c k h = refl
 same_terms [] (u ∷ us) o p c k h = absurd (missed u us [] k.0 p.0 refl (sym (h u.delta)))
@@ -202,12 +201,12 @@ count_scale n [] = tt
 count_scale n (t ∷ ts) = count_with t.delta (n *ℤ t.factor) (scale_terms n ts) (count_scale n ts)
 
 -- ---- what they are put together
-same_by : (ts us : List Term) → InOrder (deltas_of us) → AllCount us → ((d : Delta) → factor_at d us ≡ factor_at d ts) → us ≡ add_terms ts []
+same_by : (ts us : List Term) → AreInOrder (deltas_of us) → AllCount us → ((d : Delta) → factor_at d us ≡ factor_at d ts) → us ≡ add_terms ts []
 unfolding words plan_words
 same_by ts us o c h =
     same_terms us (add_terms ts []) o (order_adds ts [] tt) c (count_adds ts [] tt) (λ d. h d ∙ sym (at_adds d ts [] ∙ zero_add (factor_at d ts)))
 
-pub in_order_kept : (ts : List Term) → InOrder (deltas_of ts) → AllCount ts → ts ≡ add_terms ts []
+pub in_order_kept : (ts : List Term) → AreInOrder (deltas_of ts) → AllCount ts → ts ≡ add_terms ts []
 in_order_kept ts o c = same_by ts ts o c (λ d. refl)
 
 pub permuted_same : (ts us : List Term) → IsPermutation ts us → add_terms us [] ≡ add_terms ts []

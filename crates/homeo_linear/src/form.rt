@@ -3,11 +3,10 @@
 ghost use Rattle.std.specs.Prelude.{◌≡◌, ◌↔◌, IsTrue, pos, IfOk};
 ghost use Rattle.homeo_meaning.specs.Small.{IsSmall};
 ghost use Rattle.homeo_plan.specs.FormSizes.{Numbers};
-ghost use Rattle.homeo_plan.specs.Linear.{constant_form, delta_form, add_forms, scale_form, multiply_forms, mix_forms, is_pure, support};
+ghost use Rattle.homeo_plan.specs.Linear.{AreInOrder, constant_form, delta_form, add_forms, scale_form, multiply_forms, mix_forms, is_pure, support};
 ghost use Rattle.homeo_plan.specs.PlanView.{plain_linear};
 ghost use Rattle.homeo_plan.specs.Limit.{form_limit};
 ghost use Rattle.homeo_follow.specs.Follow.{object_form};
-ghost use Rattle.homeo_linear.specs.inner.Order.{InOrder};
 ghost use Rattle.homeo_linear.specs.inner.Terms.{term_form, beside};
 
 use crate::deltas::{self, push_deltas_of};
@@ -31,15 +30,14 @@ pub struct Form {
 }
 
 impl Model for Form {
-    ghost use Rattle.homeo_plan.specs.Linear.{Linear};
-    ghost use Rattle.homeo_linear.specs.inner.Order.{InOrder};
+    ghost use Rattle.homeo_plan.specs.Linear.{Linear, AreInOrder};
     ghost use Rattle.homeo_linear.specs.inner.Terms.{AreAddedUp};
 
     ghost Value = { Linear };
 
     ghost view = { λ f. record { constant = f.constant; terms = f.terms.items; mixed = f.mixed.items } };
 
-    ghost invariant = { λ f. AreAddedUp f.terms.items × InOrder f.mixed.items };
+    ghost invariant = { λ f. AreAddedUp f.terms.items × AreInOrder f.mixed.items };
 }
 
 impl Form {
@@ -185,7 +183,7 @@ impl Form {
     /// Each delta of the form, mixed or not, in order.
     pub(crate) fn support(&self, alloc: Global) -> Result<Vec<Delta>, Memory>
         ensures value { IfOk result (λ v. v.items ≡ support self.now) }
-        ensures order { IfOk result (λ v. InOrder v.items) }
+        ensures order { IfOk result (λ v. AreInOrder v.items) }
     {
         let mut deltas = Vec::from_slice(alloc, self.mixed.as_slice())?;
         push_deltas_of(&mut deltas, self.terms.as_slice())?;

@@ -3,9 +3,9 @@
 ghost use Rattle.std.specs.Prelude.{◌≡◌, ◌<◌, ◌+◌, ◌+ℤ◌, ◌*ℤ◌, pos, not, length, drop, [], IsTrue, IfOk, OnOk};
 ghost use Rattle.std.specs.Ordering.{int_eq};
 ghost use Rattle.homeo_meaning.specs.Small.{IsSmall};
-ghost use Rattle.homeo_plan.specs.Linear.{same_delta, deltas_of, add_term, add_terms, scale_terms};
+ghost use Rattle.homeo_plan.specs.Linear.{AreInOrder, same_delta, deltas_of, add_term, add_terms, scale_terms};
 ghost use Rattle.homeo_plan.specs.Limit.{form_limit};
-ghost use Rattle.homeo_linear.specs.inner.Order.{InOrder, IsPlace, begins_with};
+ghost use Rattle.homeo_linear.specs.inner.Order.{IsPlace, begins_with};
 ghost use Rattle.homeo_linear.specs.inner.Terms.{AreWithin, AreSmall, AreAddedUp, sum_limit, add_at};
 
 use crate::deltas::is_before;
@@ -16,7 +16,7 @@ use std::alloc::Global;
 
 /// How many of the terms stand before a delta, looked for from the end: terms that come in order are put there.
 fn place(terms: &[Term], delta: Delta) -> usize
-    requires { InOrder (deltas_of terms.now) }
+    requires { AreInOrder (deltas_of terms.now) }
     ensures { IsPlace delta (deltas_of terms.now) result }
 {
     let mut place = terms.len();
@@ -97,7 +97,7 @@ fn add_factor(terms: &mut Vec<Term>, place: usize, more: &Term)
 
 /// Adds a term.
 fn add_term(terms: &mut Vec<Term>, term: &Term) -> Result<(), Memory>
-    requires order { InOrder (deltas_of terms.old.items) }
+    requires order { AreInOrder (deltas_of terms.old.items) }
     requires factor { IsSmall form_limit term.now.factor }
     requires small { AreWithin sum_limit terms.old.items }
     ensures { OnOk result (terms.new.items ≡ add_term term.now.delta term.now.factor terms.old.items) }

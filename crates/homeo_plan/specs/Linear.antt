@@ -6,6 +6,7 @@ use Rattle.homeo_syntax.specs.Low.{Expr, Exprs, Literal, OfTemp, Read, Sum, Prod
 use Rattle.homeo_meaning.specs.LowMeaning.{Location, TempAt, BaseAt, DeltaAt, State, location_of}
 use Rattle.homeo_plan.specs.declared.forms.Delta.{Delta}
 use Rattle.homeo_plan.specs.declared.forms.Term.{Term}
+use Rattle.homeo_plan.specs.Each.{Each}
 use Rattle.homeo_plan.specs.Key.{words}
 
 -- the delta of object x at site j
@@ -30,6 +31,12 @@ pub record Linear : Type 0 where
   pub mixed : List Delta
 
 -- ---- lists of deltas and of terms, in order, each delta once
+-- each delta is before all that follow it, by object and then by site: so each stands once
+abbrev pub AreInOrder : List Delta → Type 0
+unfolding words
+AreInOrder [] = Unit {0}
+AreInOrder (d ∷ ds) = Each (λ e. delta_before d e ≡ true) ds × AreInOrder ds
+
 -- a delta put into the others, unless it is there
 abbrev pub add_delta : Delta → List Delta → List Delta
 unfolding words

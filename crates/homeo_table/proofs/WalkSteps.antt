@@ -18,7 +18,7 @@ use Rattle.homeo_table.specs.inner.Key.{words}
 use Rattle.homeo_table.specs.inner.Branches.{size, size_all}
 use Rattle.homeo_table.specs.inner.Makings.{command_before}
 use Rattle.homeo_table.specs.inner.Substitution.{substituted, substituted_cond}
-use Rattle.homeo_table.specs.inner.Walks.{after, fits_if, CanFollow, walked, Goes, in_order}
+use Rattle.homeo_table.specs.inner.Walks.{after, fits_if, CanFollow, walked, Goes, to_come}
 use Rattle.homeo_table.proofs.Following.{size-some}
 use Rattle.homeo_table.proofs.Fitting.{holds-after, after-put, cond-fits-after, fits-put}
 
@@ -28,16 +28,16 @@ on_ok_both (Ok x) f p q = f p q
 on_ok_both (Err e) f p q = tt
 
 -- ---- what is left
-pub pushed : (cs ds : List (Bor LCommand)) (c : Bor LCommand) (k : Command) → ds ≡ cs ++ c ∷ [] → plain_lcommand c.now ≡ k → in_order ds ≡ k ∷ in_order cs
+pub pushed : (cs ds : List (Bor LCommand)) (c : Bor LCommand) (k : Command) → ds ≡ cs ++ c ∷ [] → plain_lcommand c.now ≡ k → to_come ds ≡ k ∷ to_come cs
 pushed cs ds c k h is =
-    ap in_order h ∙ ap reverse (map_push (λ c. plain_lcommand c.now) cs c) ∙ reverse-append (map (λ c. plain_lcommand c.now) cs) (plain_lcommand c.now ∷ [])
-    ∙ ap (λ k. k ∷ in_order cs) is
+    ap to_come h ∙ ap reverse (map_push (λ c. plain_lcommand c.now) cs c) ∙ reverse-append (map (λ c. plain_lcommand c.now) cs) (plain_lcommand c.now ∷ [])
+    ∙ ap (λ k. k ∷ to_come cs) is
 
 pub pushed-all :
     (cs ds : List (Bor LCommand)) (ks : List Command) →
-    map (λ c. plain_lcommand c.now) ds ≡ map (λ c. plain_lcommand c.now) cs ++ reverse ks → in_order ds ≡ ks ++ in_order cs
+    map (λ c. plain_lcommand c.now) ds ≡ map (λ c. plain_lcommand c.now) cs ++ reverse ks → to_come ds ≡ ks ++ to_come cs
 pushed-all cs ds ks h =
-    ap reverse h ∙ reverse-append (map (λ c. plain_lcommand c.now) cs) (reverse ks) ∙ ap (λ ks. ks ++ in_order cs) (reverse-reverse ks)
+    ap reverse h ∙ reverse-append (map (λ c. plain_lcommand c.now) cs) (reverse ks) ∙ ap (λ ks. ks ++ to_come cs) (reverse-reverse ks)
 
 -- ---- how much is left
 all-size : (ds cs : List Command) → size_all (low_commands (ds ++ cs)) ≡ size_all (low_commands ds) + size_all (low_commands cs)
@@ -237,6 +237,6 @@ first-walk c s = refl
 
 pub last-walk :
     (f : Row → Row) (b : Location → Option Expr) (cs : List (Bor LCommand)) (s : State) (r whole : Row) → cs ≡ [] → r ≡ f last_row →
-    walked f b (in_order cs) s ≡ whole → r ≡ whole
+    walked f b (to_come cs) s ≡ whole → r ≡ whole
 unfolding plan_words tree_words
-last-walk f b cs s r whole h e k = e ∙ sym (ap (λ cs. walked f b (in_order cs) s) h) ∙ k
+last-walk f b cs s r whole h e k = e ∙ sym (ap (λ cs. walked f b (to_come cs) s) h) ∙ k

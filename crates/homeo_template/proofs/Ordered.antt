@@ -4,9 +4,8 @@ use Rattle.std.proofs.Common.{◌≡◌, Bool, true, false, cond, List, [], ◌�
 use Rattle.std.proofs.lemmas.Bool.Decides.{nat_tests}
 use Rattle.homeo_plan.specs.declared.forms.Delta.{Delta}
 use Rattle.homeo_plan.specs.Each.{Each}
-use Rattle.homeo_plan.specs.Linear.{same_delta, delta_before, add_delta, add_deltas}
+use Rattle.homeo_plan.specs.Linear.{AreInOrder, same_delta, delta_before, add_delta, add_deltas}
 use Rattle.homeo_plan.specs.Template.{put_all}
-use Rattle.homeo_template.specs.InOrder.{AreInOrder}
 
 before-trans : (c d e : Delta) → delta_before c d ≡ true → delta_before d e ≡ true → delta_before c e ≡ true
 unfolding words
@@ -33,6 +32,10 @@ before-add c d (e ∷ ds) h all = go (same_delta d e) (delta_before d e) (before
     go true b rest = all
     go false true rest = (h, all)
     go false false rest = (all.0, rest)
+
+pub none-in_order : AreInOrder []
+unfolding words
+none-in_order = tt
 
 add-in_order : (d : Delta) (ds : List Delta) → AreInOrder ds → AreInOrder (add_delta d ds)
 unfolding words

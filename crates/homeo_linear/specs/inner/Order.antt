@@ -1,14 +1,9 @@
--- Lists of deltas in order, each once, and where a delta stands among them.
+-- Where a delta stands among others that are in order.
 use Rattle.std.specs.Prelude.{◌≡◌, ℕ, ◌≤◌, Bool, true, false, List, [], ◌∷◌, length, take, drop}
 use Rattle.homeo_plan.specs.Each.{Each}
 use Rattle.homeo_plan.specs.Linear.{same_delta, delta_before}
 use Rattle.homeo_plan.specs.declared.forms.Delta.{Delta}
 use Rattle.homeo_linear.specs.inner.Key.{words}
-
-abbrev pub InOrder : List Delta → Type 0
-unfolding words
-InOrder [] = Unit {0}
-InOrder (d ∷ ds) = Each (λ e. delta_before d e ≡ true) ds × InOrder ds
 
 -- the first of the deltas, if there is one, doesn't stand before d
 abbrev pub BeginsBehind : Delta → List Delta → Type 0

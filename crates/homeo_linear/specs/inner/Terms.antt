@@ -3,12 +3,11 @@ use Rattle.std.specs.Prelude.{◌≡◌, ℕ, zero, suc, ◌*◌, ◌^◌, false
 use Rattle.std.specs.Ordering.{int_eq}
 use Rattle.homeo_meaning.specs.Small.{IsSmall}
 use Rattle.homeo_plan.specs.Each.{Each}
-use Rattle.homeo_plan.specs.Linear.{Linear, deltas_of, with_term}
+use Rattle.homeo_plan.specs.Linear.{AreInOrder, Linear, deltas_of, with_term}
 use Rattle.homeo_plan.specs.declared.forms.Delta.{Delta}
 use Rattle.homeo_plan.specs.declared.forms.Term.{Term}
 use Rattle.homeo_plan.specs.Limit.{form_limit}
 use Rattle.homeo_linear.specs.inner.Key.{words}
-use Rattle.homeo_linear.specs.inner.Order.{InOrder}
 
 -- the factors are at most n in size
 abbrev pub AreWithin : ℕ → List Term → Type 0
@@ -37,7 +36,7 @@ AllCount ts = Each (λ t. int_eq t.factor (pos 0) ≡ false) ts
 
 -- in order, each delta once, and no factor is 0
 pub record AreAddedUp (ts : List Term) : Type 0 where
-  pub order : InOrder (deltas_of ts)
+  pub order : AreInOrder (deltas_of ts)
   pub counts : AllCount ts
 
 -- a term by itself

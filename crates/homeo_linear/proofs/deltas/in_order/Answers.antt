@@ -1,13 +1,12 @@
 -- They are in order, or it matters not that they are sorted.
 use Rattle.std.proofs.Common.{[], refl, ap, ◌∙◌, subst}
 use Rattle.std.proofs.lemmas.Result.{IfOk-weaker}
-use Rattle.homeo_plan.specs.Linear.{add_deltas}
-use Rattle.homeo_linear.specs.inner.Order.{InOrder}
+use Rattle.homeo_plan.specs.Linear.{AreInOrder, add_deltas}
 use Rattle.homeo_linear.proofs.DeltasInOrder.{in_order_kept, permuted_same}
 use Rattle.homeo_linear.proofs.deltas.in_order.Goals as goal
 
 pub returns-then-are_in_order : goal.returns-then-are_in_order
-returns-then-are_in_order c = in_order_kept c.args.deltas.items (subst InOrder c.as_slice.ensures.value (c.if-are_in_order.ensures refl))
+returns-then-are_in_order c = in_order_kept c.args.deltas.items (subst AreInOrder c.as_slice.ensures.value (c.if-are_in_order.ensures refl))
 
 pub returns : goal.returns
 returns c =

@@ -1,7 +1,7 @@
 -- The mixed deltas, and those of the terms.
 use Rattle.std.proofs.Common.{◌∙◌, subst, sym}
 use Rattle.std.proofs.lemmas.Result.{IfOk-weaker}
-use Rattle.homeo_linear.specs.inner.Order.{InOrder}
+use Rattle.homeo_plan.specs.Linear.{AreInOrder}
 use Rattle.homeo_linear.proofs.FormParts.{put_into, support_is, support_in_order}
 use Rattle.homeo_linear.proofs.form.Form.support.Goals as goal
 
@@ -10,7 +10,7 @@ returns-clause-value c =
     let from = c.in_ok-deltas.ensures.items ∙ c.as_slice.ensures.value in
     IfOk-weaker c.in_order.result _ _
     (λ v h. support_is c.args.self.now _ c.self.inside.terms.items _ c.self.inside.mixed.items _ _ v.items c.self.view_is
-    (put_into c.in_ok-deltas.deltas.items _ v.items _ h c.in_ok-push_deltas_of.ensures (subst InOrder (sym from) c.self.invariant.1))
+    (put_into c.in_ok-deltas.deltas.items _ v.items _ h c.in_ok-push_deltas_of.ensures (subst AreInOrder (sym from) c.self.invariant.1))
     c.as_slice-2.ensures.value c.in_ok-deltas.ensures.items c.as_slice.ensures.value) c.in_order.ensures
 
 pub returns-clause-order : goal.returns-clause-order
