@@ -2,7 +2,7 @@
 use Rattle.std.proofs.Common.{◌≡◌, ℕ, zero, suc, ◌+◌, ◌-◌, ◌<◌, ◌≤◌, Bool, true, false, List, [], ◌∷◌, length, slice_index_or, sym, ap, ap₂, ◌∙◌, ⊎_elim, true≢false, arith}
 use Rattle.std.proofs.lemmas.List.{get_or_default}
 use Rattle.std.proofs.lemmas.Bool.{cases_lt}
-use Rattle.homeo_plan.specs.Key.{words as plan_words}
+use Rattle.homeo_plan.specs.Key.{definitions as plan_definitions}
 use Rattle.homeo_plan.specs.declared.forms.Delta.{Delta}
 use Rattle.homeo_plan.specs.Each.{Each}
 use Rattle.homeo_plan.specs.Linear.{AreInOrder, delta_before}
@@ -13,12 +13,12 @@ abbrev pub AreInOrderBelow : ℕ → List Delta → Type 0
 AreInOrderBelow n ds = (k : ℕ) (x y : Delta) → suc k < n → delta_before (slice_index_or ds k x) (slice_index_or ds (suc k) y) ≡ true
 
 further : (d e : Delta) (ds : List Delta) → delta_before d e ≡ true → Each (λ x. delta_before e x ≡ true) ds → Each (λ x. delta_before d x ≡ true) ds
-unfolding plan_words
+unfolding plan_definitions
 further d e [] h k = tt
 further d e (x ∷ ds) h k = (before_trans d e x h k.0, further d e ds h k.1)
 
 pub all_in_order : (ds : List Delta) → AreInOrderBelow (length ds) ds → AreInOrder ds
-unfolding plan_words
+unfolding plan_definitions
 all_in_order [] h = tt
 all_in_order (d ∷ []) h = (tt, tt)
 all_in_order (d ∷ e ∷ ds) h =
@@ -27,7 +27,7 @@ all_in_order (d ∷ e ∷ ds) h =
     ((first, further d e ds first rest.0), rest)
 
 pub in_order_below : (ds : List Delta) → AreInOrder ds → AreInOrderBelow (length ds) ds
-unfolding plan_words
+unfolding plan_definitions
 in_order_below [] h k x y l = absurd (omega (arith, l))
 in_order_below (d ∷ []) h k x y l = absurd (omega (arith, l))
 in_order_below (d ∷ e ∷ ds) h zero x y l = h.0.0

@@ -86,7 +86,7 @@ fn are_in_order(deltas: &[Delta]) -> bool
 }
 
 /// The order is by object, and then by site.
-#[tactic(auto, unfolding(homeo_plan::specs::Key::words))]
+#[tactic(auto, unfolding(homeo_plan::specs::Key::definitions))]
 pub(crate) fn is_before(a: Delta, b: Delta) -> bool
     ensures { result ≡ delta_before a b }
 {

@@ -38,7 +38,7 @@ pub(crate) struct Following<'a> {
 }
 
 impl<'a> Following<'a> {
-    #[tactic(auto, unfolding(homeo_plan::specs::Key::words))]
+    #[tactic(auto, unfolding(homeo_plan::specs::Key::definitions))]
     fn new(alloc: Global, rules: Rules<'a>, base: &'a [i64]) -> Following<'a>
         ensures rules { rules_in result ≡ plain_rules rules.entry }
         ensures forms { forms_in result ≡ base_forms (values_of base.now) }

@@ -190,7 +190,7 @@ impl Core {
 }
 
 /// Makes a call at its site where it keeps the site's treaty, and else closes the round by it.
-#[tactic(auto, unfolding(crate::specs::Key::words))]
+#[tactic(auto, unfolding(crate::specs::Key::definitions))]
 fn make_call(
     alloc: Global,
     c: &Arc<Compiled>,

@@ -10,13 +10,13 @@ use Rattle.homeo_syntax.specs.Source as s
 use Rattle.homeo_meaning.specs.declared.call.CallId.{CallId}
 use Rattle.homeo_meaning.specs.Ground.{Ground, grounds, ground_of}
 use Rattle.homeo_meaning.specs.Serial.{values_of}
-use Rattle.homeo_plan.specs.Key.{words as plan_words}
+use Rattle.homeo_plan.specs.Key.{definitions as plan_definitions}
 use Rattle.homeo_plan.specs.declared.round.RoundPlan.{RoundPlan}
 use Rattle.homeo_plan.specs.declared.rows.Residual.{Residual}
 use Rattle.homeo_plan.specs.Planned.{sites_of, planned_call, planned, planned_at}
 use Rattle.homeo_plan.specs.PlanView.{plain_residual}
 use Rattle.homeo_plan.specs.Template.{PlannedCall, Template, base_row}
-use Rattle.homeo_build.specs.Key.{words as build_words}
+use Rattle.homeo_build.specs.Key.{definitions as build_definitions}
 use Rattle.homeo_build.specs.Plan.{SitedResidual, IsPlanOf}
 use Rattle.homeo_effect.specs.Indexed.{Indexed}
 use Rattle.homeo_effect.specs.declared.program.Program.{Program}
@@ -29,7 +29,7 @@ use Rattle.homeo_forecast.proofs.Lists.{all_taken}
 pub runs_for :
     (w : s.Workload) (base : List ℤ) (n : ℕ) (r : Residual) (p : Program) (h : HasCall w base (planned w) n r) →
     RunsAs (values_of base) r.site (length base) (plain_residual r) p → RunsFor w base h.call p
-unfolding build_words
+unfolding build_definitions
 runs_for w base n r p h is =
     let same : h.call.site ≡ r.site = sym (ap (λ (q : SitedResidual). q.site) h.is) in
     subst (λ i. RunsAs (values_of base) i (length base) (base_row (sites_of w) (values_of base) h.call).residual p) (sym same)
@@ -73,14 +73,14 @@ at_place R (x ∷ xs) (y ∷ ys) (suc n) a b h lt = at_place R xs ys n a b h.1 (
 
 module _ (w : s.Workload) (base : List ℤ) (n : ℕ) (ps : List Program) (are : ArePrograms w base (planned w) ps) (lt : n < length (grounds w)) where
   planned_below : n < length (planned w)
-  unfolding plan_words
+  unfolding plan_definitions
   planned_below = subst (λ m. n < m) (sym (length-map (grounds w) (planned_call w))) lt
 
   pub program_below : n < length ps
   program_below = subst (λ m. n < m) (sym (AllZip-long (RunsFor w base) (planned w) ps are)) planned_below
 
   pub program_there : (call : CallId) (p : Program) → slice_get (grounds w) n ≡ ground_of w call → p ≡ get_or ps n p → RunsFor w base (planned_at w call) p
-  unfolding plan_words nothing
+  unfolding plan_definitions nothing
   program_there call p ground at =
       let there : get_or (planned w) n nothing ≡ planned_at w call =
       planned_there w (grounds w) n ∙ ap (λ g. option_map_or (planned_call w) g nothing) ground in

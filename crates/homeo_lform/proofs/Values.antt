@@ -2,7 +2,7 @@
 use Rattle.std.proofs.Common.{◌≡◌, ℕ, not, ◌&&◌, ℤ, pos, ◌+ℤ◌, ◌*ℤ◌, neg_ℤ, Option, Some, None, refl}
 use Rattle.homeo_syntax.specs.Low as L
 use Rattle.homeo_syntax.specs.Source.{Expr, Exprs, Literal, Name, Read, Sum, Product, Neg, Field, Row, Count, Total, NoExpr, MoreExpr, Test, Cond, True, Not, Comparison, NoTest, MoreTest}
-use Rattle.homeo_meaning.specs.Key.{words}
+use Rattle.homeo_meaning.specs.Key.{definitions}
 use Rattle.homeo_meaning.specs.LowMeaning as M
 use Rattle.homeo_meaning.specs.Context.{Context, spot, field_cell, slots, fields, bind}
 use Rattle.homeo_meaning.specs.Meaning.{argument_or, compared, value, sum_value, product_value, passes, holds}
@@ -12,7 +12,7 @@ use Rattle.homeo_lform.proofs.Fields.{indexed_lifts}
 use Rattle.homeo_lform.proofs.Loops.{counted_lifts}
 
 name_value : (o : Option ℤ) (x : ℕ) (u : M.State) → M.value (name_of o x) u ≡ argument_or o ((seen u).temps x)
-unfolding words
+unfolding definitions
 name_value (Some v) x u = refl
 name_value None x u = refl
 
@@ -24,7 +24,7 @@ abbrev pub products : L.Exprs → M.State → ℤ → ℤ
 products es u k = M.product_value k es u
 
 mutual
-  unfolding words
+  unfolding definitions
 
   pub lifts : (w : Context) (e : Expr) (n : ℕ) (s : M.State) → Lifts n s (lift w e n) M.value (value w e)
   lifts w (Literal v) n s = plain_lifts _ n s M.value (value w (Literal v)) (λ u. refl)

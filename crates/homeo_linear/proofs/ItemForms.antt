@@ -8,7 +8,7 @@ use Rattle.homeo_syntax.specs.declared.low.LExpr.{LExpr, Temp, Read, Neg}
 use Rattle.homeo_syntax.proofs.LowViews.{low_Neg}
 use Rattle.homeo_meaning.specs.LowMeaning.{TempAt, location_of}
 use Rattle.homeo_meaning.specs.Small.{IsSmall}
-use Rattle.homeo_plan.specs.Key.{words as plan_words}
+use Rattle.homeo_plan.specs.Key.{definitions as plan_definitions}
 use Rattle.homeo_plan.specs.FormSizes.{Numbers, CanForm}
 use Rattle.homeo_plan.specs.Linear.{Forms, scale_form, form}
 use Rattle.homeo_plan.specs.Limit.{form_limit}
@@ -34,7 +34,7 @@ read_made e x p q r = stands_made (plain_lexpr e) p (λ f. sym (read_form f e x 
 
 -- ---- that with its sign turned
 pub negated_made : (e : l.Expr) (p : Place) → HasFormAt (λ a. a) e p → HasFormAt (scale_form (negsuc 0)) (l.Neg e) p
-unfolding plan_words
+unfolding plan_definitions
 negated_made e p m = record {
   made = λ f. ap (scale_form (negsuc 0)) (m.made f);
   small = λ f c. m.small f c.0;

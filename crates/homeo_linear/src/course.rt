@@ -106,7 +106,7 @@ impl<'a> Course<'a> {
 }
 
 /// The delta that stands for the object that a name names.
-#[tactic(auto, unfolding(homeo_plan::specs::Key::words, homeo_follow::specs::Key::words))]
+#[tactic(auto, unfolding(homeo_plan::specs::Key::definitions, homeo_follow::specs::Key::definitions))]
 fn delta_of(name: SplitName) -> Delta
     ensures { result ≡ object_delta (object_of name) }
 {

@@ -9,7 +9,7 @@ use homeo_syntax::Memory;
 use std::alloc::Global;
 
 /// The order is by object, and then by site.
-#[tactic(auto, unfolding(homeo_plan::specs::Key::words))]
+#[tactic(auto, unfolding(homeo_plan::specs::Key::definitions))]
 pub(crate) fn is_before(a: Delta, b: Delta) -> bool
     ensures { result ≡ delta_before a b }
 {
@@ -42,7 +42,7 @@ fn stands_at(deltas: &[Delta], place: usize, delta: Delta) -> bool
     }
 }
 
-#[tactic(auto, unfolding(homeo_plan::specs::Key::words))]
+#[tactic(auto, unfolding(homeo_plan::specs::Key::definitions))]
 fn is_same(found: &Delta, delta: Delta) -> bool
     ensures { result ≡ same_delta delta found.now }
 {

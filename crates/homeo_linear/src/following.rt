@@ -177,7 +177,7 @@ fn is_remote(delta: &Delta, site: u32) -> bool
 /// # Errors
 ///
 /// `Memory` when out of memory.
-#[tactic(auto, unfolding(homeo_plan::specs::Key::words))]
+#[tactic(auto, unfolding(homeo_plan::specs::Key::definitions))]
 pub fn push_written(written: &mut Vec<Delta>, name: SplitName) -> Result<(), Memory>
     ensures { OnOk result (add_deltas written.new.items [] ≡ add_written name (add_deltas written.old.items [])) }
 {

@@ -40,14 +40,14 @@ fn stands_at(terms: &[Term], place: usize, delta: Delta) -> bool
     }
 }
 
-#[tactic(auto, unfolding(homeo_plan::specs::Key::words))]
+#[tactic(auto, unfolding(homeo_plan::specs::Key::definitions))]
 fn is_of(term: &Term, delta: Delta) -> bool
     ensures { result ≡ same_delta delta term.now.delta }
 {
     delta == term.delta
 }
 
-#[tactic(auto, unfolding(homeo_plan::specs::Key::words))]
+#[tactic(auto, unfolding(homeo_plan::specs::Key::definitions))]
 fn counts(term: &Term) -> bool
     ensures { result ≡ not (int_eq term.now.factor (pos 0)) }
 {

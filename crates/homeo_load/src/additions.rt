@@ -14,7 +14,7 @@ pub(crate) struct Addition {
 }
 
 /// The addition that the next two draws choose.
-#[tactic(auto, unfolding(crate::specs::Key::words))]
+#[tactic(auto, unfolding(crate::specs::Key::definitions))]
 pub(crate) fn next_addition(draws: &mut Draws) -> Addition
     ensures state { draws.new.state ≡ next_state (next_state draws.old.state) }
     ensures object { result.object ≡ (next_addition draws.old.state).object }

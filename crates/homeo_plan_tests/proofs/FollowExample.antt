@@ -6,7 +6,7 @@ use Rattle.std.specs.Int.RustNames.{unsigned_abs}
 use Rattle.std.proofs.lemmas.Int.{ints}
 use Rattle.homeo_syntax.specs.Low.{Command}
 use Rattle.homeo_syntax.specs.Source.{Workload}
-use Rattle.homeo_meaning.specs.Key.{words as meaning_words}
+use Rattle.homeo_meaning.specs.Key.{definitions as meaning_definitions}
 use Rattle.homeo_meaning.specs.Acceptance.{weight_limit as largest, IsAccepted}
 use Rattle.homeo_meaning.specs.Bounds.{AllWithin, IsWithin}
 use Rattle.homeo_meaning.specs.CallForm.{ground_form}
@@ -18,7 +18,7 @@ use Rattle.homeo_meaning.specs.Schema.{schema_of}
 use Rattle.homeo_meaning.specs.Serial.{values_of}
 use Rattle.homeo_meaning.specs.Small.{IsSmall}
 use Rattle.homeo_meaning.proofs.Within.{all_within}
-use Rattle.homeo_plan.specs.Key.{words}
+use Rattle.homeo_plan.specs.Key.{definitions}
 use Rattle.homeo_plan.specs.Limit.{form_limit}
 use Rattle.homeo_plan.specs.Needs.{IsStraight}
 use Rattle.homeo_plan.specs.SmallForms.{HasSmallForms}
@@ -40,11 +40,11 @@ use Rattle.homeo_build.proofs.Undivided.{undivided}
 
 -- ---- a database that no site has written
 no_temps : (b : ℕ → ℤ) → HasNoTemps (whole b)
-unfolding words meaning_words
+unfolding definitions meaning_definitions
 no_temps b t = refl
 
 fold_base : (b : ℕ → ℤ) (x : ℕ) → fold_state 2 (whole b) (BaseAt x) ≡ b x
-unfolding words meaning_words
+unfolding definitions meaning_definitions
 fold_base b x = omega (arith, ints, sum_zero 0 2)
 
 pub state_is : (database : List ℤ) (s : Split) → s.base.items ≡ database → s.deltas.items ≡ [] → state_of s ≡ whole (values_of database)
@@ -63,7 +63,7 @@ module _
     small_values = values_small w accepted (values_of database) (all_within (schema_of w) database within)
 
     parts : HasSmallParts 2 i most largest (whole b)
-    unfolding meaning_words
+    unfolding meaning_definitions
     parts =
         record {
           fold = λ x. subst (λ v. unsigned_abs v ≤ largest) (sym (fold_base b x)) (omega (arith, small_values x));

@@ -14,7 +14,7 @@ use crate::phrases::Position;
 use homeo_syntax::{Compare, Ident, LCond, LExpr, LTest, Memory, SplitName, Temp, Workload};
 
 /// Appends a temporary.
-#[tactic(auto, unfolding(crate::specs::Key::words))]
+#[tactic(auto, unfolding(crate::specs::Key::definitions))]
 pub(crate) fn push_temp(out: &mut Vec<u8>, w: &Workload, t: Temp) -> Result<(), Memory>
     ensures { OnOk result (out.new.items ≡ out.old.items ++ temp_text (plain_workload w.now) t) }
 {

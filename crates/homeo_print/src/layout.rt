@@ -48,7 +48,7 @@ pub(crate) enum Before {
     Apart,
 }
 
-#[tactic(auto, unfolding(crate::specs::Key::words))]
+#[tactic(auto, unfolding(crate::specs::Key::definitions))]
 fn mark_sort(mark: Mark) -> Sort
     ensures sort { result ≡ mark_sort mark }
 {
@@ -99,7 +99,7 @@ fn mark_sort(mark: Mark) -> Sort
     }
 }
 
-#[tactic(auto, unfolding(crate::specs::Key::words))]
+#[tactic(auto, unfolding(crate::specs::Key::definitions))]
 fn sort_of(piece: Piece) -> Sort
     ensures sort { result ≡ sort_of (kind_of piece) }
 {
@@ -110,7 +110,7 @@ fn sort_of(piece: Piece) -> Sort
     }
 }
 
-#[tactic(auto, unfolding(crate::specs::Key::words))]
+#[tactic(auto, unfolding(crate::specs::Key::definitions))]
 fn loose_gap(before: Before) -> &'static [u8]
     ensures text { result.now ≡ loose_gap before }
 {
@@ -120,7 +120,7 @@ fn loose_gap(before: Before) -> &'static [u8]
     }
 }
 
-#[tactic(auto, unfolding(crate::specs::Key::words))]
+#[tactic(auto, unfolding(crate::specs::Key::definitions))]
 fn name_gap(before: Before) -> &'static [u8]
     ensures text { result.now ≡ name_gap before }
 {
@@ -130,7 +130,7 @@ fn name_gap(before: Before) -> &'static [u8]
     }
 }
 
-#[tactic(auto, unfolding(crate::specs::Key::words))]
+#[tactic(auto, unfolding(crate::specs::Key::definitions))]
 fn opening_gap(before: Before) -> &'static [u8]
     ensures text { result.now ≡ opening_gap before }
 {
@@ -140,7 +140,7 @@ fn opening_gap(before: Before) -> &'static [u8]
     }
 }
 
-#[tactic(auto, unfolding(crate::specs::Key::words))]
+#[tactic(auto, unfolding(crate::specs::Key::definitions))]
 fn dot_gap(before: Before) -> &'static [u8]
     ensures text { result.now ≡ dot_gap before }
 {
@@ -151,7 +151,7 @@ fn dot_gap(before: Before) -> &'static [u8]
 }
 
 /// What stands in front of a token.
-#[tactic(auto, unfolding(crate::specs::Key::words))]
+#[tactic(auto, unfolding(crate::specs::Key::definitions))]
 fn gap(before: Before, sort: Sort) -> &'static [u8]
     ensures text { result.now ≡ gap before sort }
 {
@@ -165,7 +165,7 @@ fn gap(before: Before, sort: Sort) -> &'static [u8]
     }
 }
 
-#[tactic(auto, unfolding(crate::specs::Key::words))]
+#[tactic(auto, unfolding(crate::specs::Key::definitions))]
 fn after_minus(before: Before) -> Before
     ensures state { result ≡ after_minus before }
 {
@@ -176,7 +176,7 @@ fn after_minus(before: Before) -> Before
 }
 
 /// What a token leaves for the next one.
-#[tactic(auto, unfolding(crate::specs::Key::words))]
+#[tactic(auto, unfolding(crate::specs::Key::definitions))]
 fn after(before: Before, sort: Sort) -> Before
     ensures state { result ≡ after before sort }
 {
@@ -200,7 +200,7 @@ fn name_text(names: &[Text], index: u32) -> &[u8]
 }
 
 /// Puts a token behind a text.
-#[tactic(auto, unfolding(crate::specs::Key::words))]
+#[tactic(auto, unfolding(crate::specs::Key::definitions))]
 fn push_token(text: &mut Vec<u8>, names: &[Text], piece: Piece) -> Result<(), Memory>
     ensures pushed { OnOk result (text.new.items ≡ text.old.items ++ token_text names.now (kind_of piece)) }
 {

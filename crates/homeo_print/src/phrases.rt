@@ -19,7 +19,7 @@ pub(crate) enum Position {
     Signed,
 }
 
-#[tactic(auto, unfolding(crate::specs::Key::words))]
+#[tactic(auto, unfolding(crate::specs::Key::definitions))]
 fn comparison_mark(op: Compare) -> Mark
     ensures mark { result ≡ comparison_mark op }
 {
@@ -49,7 +49,7 @@ fn sign_of(e: &Expr) -> Mark
 }
 
 /// Puts `row.field` behind the tokens.
-#[tactic(auto, unfolding(crate::specs::Key::words))]
+#[tactic(auto, unfolding(crate::specs::Key::definitions))]
 pub(crate) fn push_row_field(out: &mut Pieces, row: Ident, field: Ident) -> Result<(), Memory>
     ensures pushed { OnOk result (out.new ≡ out.old ++ row_field row field) }
 {
@@ -60,7 +60,7 @@ pub(crate) fn push_row_field(out: &mut Pieces, row: Ident, field: Ident) -> Resu
 }
 
 /// Puts `of relation when` behind the tokens.
-#[tactic(auto, unfolding(crate::specs::Key::words))]
+#[tactic(auto, unfolding(crate::specs::Key::definitions))]
 pub(crate) fn push_chosen_of(out: &mut Pieces, relation: Ident) -> Result<(), Memory>
     ensures pushed { OnOk result (out.new ≡ out.old ++ chosen_of relation) }
 {

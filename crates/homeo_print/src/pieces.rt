@@ -49,7 +49,7 @@ impl Pieces {
         self.pieces.as_slice()
     }
 
-    #[tactic(auto, unfolding(crate::specs::Key::words))]
+    #[tactic(auto, unfolding(crate::specs::Key::definitions))]
     fn push(&mut self, piece: Piece) -> Result<(), Memory>
         ensures pushed { OnOk result (self.new ≡ self.old ++ kind_of piece ∷ []) }
     {
@@ -58,7 +58,7 @@ impl Pieces {
     }
 
     /// Puts a mark behind the tokens.
-    #[tactic(auto, unfolding(crate::specs::Key::words))]
+    #[tactic(auto, unfolding(crate::specs::Key::definitions))]
     pub(crate) fn mark(&mut self, mark: Mark) -> Result<(), Memory>
         ensures pushed { OnOk result (self.new ≡ self.old ++ mark_of mark) }
     {
@@ -66,7 +66,7 @@ impl Pieces {
     }
 
     /// Puts a name behind the tokens.
-    #[tactic(auto, unfolding(crate::specs::Key::words))]
+    #[tactic(auto, unfolding(crate::specs::Key::definitions))]
     pub(crate) fn name(&mut self, name: Ident) -> Result<(), Memory>
         ensures pushed { OnOk result (self.new ≡ self.old ++ name_of name) }
     {
@@ -74,7 +74,7 @@ impl Pieces {
     }
 
     /// Puts a number behind the tokens, and its sign in front of it where it is negative.
-    #[tactic(auto, unfolding(crate::specs::Key::words))]
+    #[tactic(auto, unfolding(crate::specs::Key::definitions))]
     pub(crate) fn value(&mut self, value: i64) -> Result<(), Memory>
         ensures pushed { OnOk result (self.new ≡ self.old ++ value_of value) }
     {

@@ -176,7 +176,7 @@ impl<'a> Parser<'a> {
 
     /// A block, which is empty where no phrase may go deeper.
     #[cycle(command)]
-    #[tactic(auto, using(crate::proofs::CommandSteps::block_reads), unfolding(crate::specs::inner::Commands::block_do, homeo_syntax::specs::Key::words))]
+    #[tactic(auto, using(crate::proofs::CommandSteps::block_reads), unfolding(crate::specs::inner::Commands::block_do, homeo_syntax::specs::Key::definitions))]
     pub(crate) fn block(
         &mut self,
         alloc: Global,

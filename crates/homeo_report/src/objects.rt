@@ -8,7 +8,7 @@ use homeo_print::{ObjectNames, push_bytes, push_signed};
 use homeo_syntax::Memory;
 
 /// Appends the line of an object.
-#[tactic(auto, unfolding(crate::specs::Key::words))]
+#[tactic(auto, unfolding(crate::specs::Key::definitions))]
 fn push_line(
     out: &mut Vec<u8>,
     names: &ObjectNames,

@@ -73,7 +73,7 @@ impl Checker {
     }
 
     /// What a name stands for here: a global name, or else a row variable, or else a local.
-    #[tactic(auto, unfolding(homeo_meaning::specs::Key::words))]
+    #[tactic(auto, unfolding(homeo_meaning::specs::Key::definitions))]
     fn binding(&self, scope: &Scope<'_>, rows: &Rows<'_>, name: u32) -> Binding
         ensures { result ≡ binding (scope_in scope.now) (local_at self.now.locals) (rows_of rows.now) name }
     {

@@ -10,7 +10,7 @@ use homeo_meaning::{Fault, Phase};
 use homeo_syntax::{Ident, Number};
 
 /// The place of a phase in the order in which phases are tried, from 0.
-#[tactic(auto, unfolding(homeo_meaning::specs::Key::words))]
+#[tactic(auto, unfolding(homeo_meaning::specs::Key::definitions))]
 pub(crate) fn rank(phase: Phase) -> u8
     ensures { result ≡ rank phase }
 {
@@ -29,7 +29,7 @@ pub(crate) fn rank(phase: Phase) -> u8
 }
 
 /// The number of a phase's refusals, as 5 of `E5`.
-#[tactic(auto, unfolding(homeo_meaning::specs::Key::words))]
+#[tactic(auto, unfolding(homeo_meaning::specs::Key::definitions))]
 pub(crate) fn code(phase: Phase) -> u8
     ensures { result ≡ code phase }
 {
@@ -48,7 +48,7 @@ pub(crate) fn code(phase: Phase) -> u8
 }
 
 /// Whether a fault is of an earlier phase, or of the same phase at a lesser offset.
-#[tactic(auto, unfolding(homeo_meaning::specs::Key::words))]
+#[tactic(auto, unfolding(homeo_meaning::specs::Key::definitions))]
 fn comes_before(f: Fault, g: Fault) -> bool
     ensures { result ≡ comes_before f g }
 {
@@ -57,7 +57,7 @@ fn comes_before(f: Fault, g: Fault) -> bool
 }
 
 /// The one of two that decides.
-#[tactic(auto, unfolding(homeo_meaning::specs::Key::words))]
+#[tactic(auto, unfolding(homeo_meaning::specs::Key::definitions))]
 pub(crate) fn keep(best: Option<Fault>, fault: Fault) -> Option<Fault>
     ensures { result ≡ keep best fault }
 {
@@ -74,7 +74,7 @@ pub(crate) fn keep(best: Option<Fault>, fault: Fault) -> Option<Fault>
 }
 
 /// With a fault that stands at a name.
-#[tactic(auto, unfolding(homeo_meaning::specs::Key::words))]
+#[tactic(auto, unfolding(homeo_meaning::specs::Key::definitions))]
 pub(crate) fn at_name(best: Option<Fault>, phase: Phase, x: Ident) -> Option<Fault>
     ensures { result ≡ keep_all best (fault phase x) }
 {
@@ -88,7 +88,7 @@ pub(crate) fn at_name(best: Option<Fault>, phase: Phase, x: Ident) -> Option<Fau
 }
 
 /// With a fault that stands at a number.
-#[tactic(auto, unfolding(homeo_meaning::specs::Key::words))]
+#[tactic(auto, unfolding(homeo_meaning::specs::Key::definitions))]
 pub(crate) fn at_number(best: Option<Fault>, phase: Phase, n: Number) -> Option<Fault>
     ensures { result ≡ keep_all best (number_fault phase n) }
 {

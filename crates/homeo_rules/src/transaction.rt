@@ -63,7 +63,7 @@ pub(crate) fn check_transactions(
     Ok(best)
 }
 
-#[tactic(auto, unfolding(crate::specs::inner::Key::words))]
+#[tactic(auto, unfolding(crate::specs::inner::Key::definitions))]
 fn check_one(
     alloc: Global,
     t: &Transaction,

@@ -10,7 +10,7 @@ use Rattle.homeo_syntax.specs.Source as s
 use Rattle.homeo_syntax.specs.declared.low.LCommand.{LCommand}
 use Rattle.homeo_meaning.specs.declared.call.CallId.{CallId}
 use Rattle.homeo_meaning.specs.Ground.{Ground, grounds, ground_of}
-use Rattle.homeo_plan.specs.Key.{words as plan_words}
+use Rattle.homeo_plan.specs.Key.{definitions as plan_definitions}
 use Rattle.homeo_meaning.specs.Serial.{values_of}
 use Rattle.homeo_plan.specs.declared.round.RoundPlan.{RoundPlan}
 use Rattle.homeo_plan.specs.declared.rows.Residual.{Residual}
@@ -21,7 +21,7 @@ use Rattle.homeo_build.specs.Plan.{IsPlanOf}
 use Rattle.homeo_effect.specs.Touched.{WritesOwn}
 use Rattle.homeo_effect.specs.declared.program.Program.{Program}
 use Rattle.homeo_history.specs.Legal.{IsCallAt}
-use Rattle.homeo_site.specs.Key.{words}
+use Rattle.homeo_site.specs.Key.{definitions}
 use Rattle.homeo_site.specs.OwnPrograms.{IsKeptFor, AreOwnPrograms}
 use Rattle.homeo_site.proofs.CallsOfSites.{call_site}
 use Rattle.homeo_site.proofs.PlanCalls.{plan_call, plan_count, commands_are}
@@ -46,7 +46,7 @@ at_place R (x ∷ xs) (y ∷ ys) (suc n) a b h lt = at_place R xs ys n a b h.1 (
 pub place_within :
     (w : s.Workload) (base : List ℤ) (i n : ℕ) (os : List (Option Program)) → AreOwnPrograms w base i (planned w) os →
     n < length (grounds w) → n < length os
-unfolding words plan_words
+unfolding definitions plan_definitions
 place_within w base i n os h lt =
     subst (λ m. n < m)
     (sym (AllZip-long (IsKeptFor w base i) (planned w) os h ∙ length-map (grounds w) (planned_call w))) lt
@@ -55,7 +55,7 @@ pub kept_at :
     (w : s.Workload) (base : List ℤ) (i n : ℕ) (call : CallId) (os : List (Option Program)) (o : Option Program) →
     AreOwnPrograms w base i (planned w) os → n < length (grounds w) → slice_get (grounds w) n ≡ ground_of w call → o ≡ get_or os n o →
     IsKeptFor w base i (planned_at w call) o
-unfolding words plan_words nothing
+unfolding definitions plan_definitions nothing
 kept_at w base i n call os o h lt ground at =
     let count : n < length (planned w) = subst (λ m. n < m) (sym (length-map (grounds w) (planned_call w))) lt in
     let there : get_or (planned w) n nothing ≡ planned_at w call =
@@ -67,13 +67,13 @@ kept_at w base i n call os o h lt ground at =
 -- a call of the site is kept
 pub not_lost :
     (w : s.Workload) (base : List ℤ) (i : ℕ) (call : CallId) → IsCallAt w i call → IsKeptFor w base i (planned_at w call) None → ⊥
-unfolding words
+unfolding definitions
 not_lost w base i call at h = h (call_site w i call at)
 
 -- ---- residuals
 pub residual_within :
     (w : s.Workload) (p : RoundPlan) (n : ℕ) → IsPlanOf w p.base.items p → n < length (grounds w) → n < length p.residuals.items
-unfolding plan_words
+unfolding plan_definitions
 residual_within w p n plan lt = subst (λ m. n < m) (sym (plan_count w p plan ∙ length-map (grounds w) (planned_call w))) lt
 
 pub residual_is :
@@ -81,7 +81,7 @@ pub residual_is :
     IsPlanOf w p.base.items p → n < length (grounds w) → slice_get (grounds w) n ≡ ground_of w call → rs ≡ p.residuals.items →
     r ≡ get_or rs n r → cs ≡ (get_or rs n r).commands.items →
     low_commands (map plain_lcommand cs) ≡ (base_row (sites_of w) (values_of p.base.items) (planned_at w call)).residual
-unfolding plan_words nothing
+unfolding plan_definitions nothing
 residual_is w p n call rs r cs plan lt ground same at are =
     let within : n < length rs = subst (λ (l : List Residual). n < length l) (sym same) (residual_within w p n plan lt) in
     let h = plan_call w p rs n r plan same within at in

@@ -7,7 +7,7 @@ use Rattle.homeo_syntax.specs.Source as s
 use Rattle.homeo_meaning.specs.Acceptance.{IsAccepted}
 use Rattle.homeo_meaning.specs.LowMeaning.{whole}
 use Rattle.homeo_meaning.specs.Serial.{values_of}
-use Rattle.homeo_plan.specs.Key.{words as plan_words}
+use Rattle.homeo_plan.specs.Key.{definitions as plan_definitions}
 use Rattle.homeo_plan.specs.declared.round.RoundPlan.{RoundPlan}
 use Rattle.homeo_plan.specs.declared.rows.Residual.{Residual}
 use Rattle.homeo_plan.specs.Each.{Each, Member}
@@ -18,11 +18,11 @@ use Rattle.homeo_plan.specs.Template.{PlannedCall, base_row}
 use Rattle.homeo_plan.proofs.Covering.{each_member}
 use Rattle.homeo_plan.proofs.PlannedCalls.{all_sites_below}
 use Rattle.homeo_split.specs.CanExec.{run_limit, can_exec_all}
-use Rattle.homeo_build.specs.Key.{words as build_words}
+use Rattle.homeo_build.specs.Key.{definitions as build_definitions}
 use Rattle.homeo_build.specs.Plan.{SitedResidual, sited_residual, residual_at, IsPlanOf}
 use Rattle.homeo_effect.specs.Touched.{written, WritesOwn}
 use Rattle.homeo_effect.specs.declared.program.Program.{Program}
-use Rattle.homeo_site.specs.Key.{words}
+use Rattle.homeo_site.specs.Key.{definitions}
 use Rattle.homeo_site.specs.OwnPrograms.{RunsAs, IsKeptFor, AreOwnPrograms}
 use Rattle.homeo_site.proofs.StepFindings.{residual_straight}
 use Rattle.homeo_site.proofs.StepsRun.{base_runs}
@@ -41,7 +41,7 @@ find_call :
     (w : s.Workload) (base : List ℤ) (rs : List Residual) (gs : List PlannedCall) (n : ℕ) (r : Residual) →
     map sited_residual rs ≡ map (residual_at (sites_of w) (values_of base)) gs → n < length rs → r ≡ get_or rs n r →
     HasCall w base gs n r
-unfolding plan_words
+unfolding plan_definitions
 find_call w base [] gs n r e lt at = absurd (omega arith)
 find_call w base (q ∷ rs) [] n r e lt at = cc
 find_call w base (q ∷ rs) (g ∷ gs) zero r e lt at =
@@ -55,12 +55,12 @@ find_call w base (q ∷ rs) (g ∷ gs) (suc n) r e lt at =
 pub plan_call :
     (w : s.Workload) (p : RoundPlan) (rs : List Residual) (n : ℕ) (r : Residual) → IsPlanOf w p.base.items p →
     rs ≡ p.residuals.items → n < length rs → r ≡ get_or rs n r → HasCall w p.base.items (planned w) n r
-unfolding build_words
+unfolding build_definitions
 plan_call w p rs n r plan same lt at =
     find_call w p.base.items rs (planned w) n r (ap (map sited_residual) same ∙ plan.residuals) lt at
 
 pub plan_count : (w : s.Workload) (p : RoundPlan) → IsPlanOf w p.base.items p → length p.residuals.items ≡ length (planned w)
-unfolding build_words
+unfolding build_definitions
 plan_count w p plan =
     sym (length-map p.residuals.items sited_residual) ∙ ap length plan.residuals
     ∙ length-map (planned w) (residual_at (sites_of w) (values_of p.base.items))
@@ -74,12 +74,12 @@ pub record CanKeep (base : List ℤ) (r : Residual) : Type 0 where
 
 pub commands_are : (w : s.Workload) (base : List ℤ) (g : PlannedCall) (r : Residual) → sited_residual r ≡ residual_at (sites_of w) (values_of base) g →
     (base_row (sites_of w) (values_of base) g).residual ≡ plain_residual r
-unfolding build_words
+unfolding build_definitions
 commands_are w base g r is = sym (ap (λ (q : SitedResidual). q.residual) is)
 
 site_is : (w : s.Workload) (base : List ℤ) (g : PlannedCall) (r : Residual) → sited_residual r ≡ residual_at (sites_of w) (values_of base) g →
     g.site ≡ r.site
-unfolding build_words
+unfolding build_definitions
 site_is w base g r is = sym (ap (λ (q : SitedResidual). q.site) is)
 
 pub can_keep :
@@ -106,7 +106,7 @@ can_keep w p n r accepted plan h =
 pub kept_here :
     (w : s.Workload) (base : List ℤ) (i n : ℕ) (r : Residual) (p : Program) (h : HasCall w base (planned w) n r) →
     r.site ≡ i → RunsAs (values_of base) r.site (length base) (plain_residual r) p → IsKeptFor w base i h.call (Some p)
-unfolding words
+unfolding definitions
 kept_here w base i n r p h here is =
     subst (λ cs. RunsAs (values_of base) i (length base) cs p) (sym (commands_are w base h.call r h.is))
     (subst (λ j. RunsAs (values_of base) j (length base) (plain_residual r) p) here is)
@@ -114,14 +114,14 @@ kept_here w base i n r p h here is =
 pub kept_elsewhere :
     (w : s.Workload) (base : List ℤ) (i n : ℕ) (r : Residual) (h : HasCall w base (planned w) n r) → (r.site ≡ i → ⊥) →
     IsKeptFor w base i h.call None
-unfolding words
+unfolding definitions
 kept_elsewhere w base i n r h other e = other (sym (site_is w base h.call r h.is) ∙ e)
 
 pub one_more_kept :
     (w : s.Workload) (base : List ℤ) (i n : ℕ) (r : Residual) (old new : List (Option Program)) (o : Option Program)
     (h : HasCall w base (planned w) n r) → AreOwnPrograms w base i (take n (planned w)) old → IsKeptFor w base i h.call o →
     new ≡ old ++ o ∷ [] → AreOwnPrograms w base i (take (n + 1) (planned w)) new
-unfolding words
+unfolding definitions
 one_more_kept w base i n r old new o h so_far kept e =
     subst (λ (gs : List PlannedCall). AllZip (IsKeptFor w base i) gs new)
     (ap (λ (g : PlannedCall). take n (planned w) ++ g ∷ []) (sym (h.place h.call)) ∙ sym (take_more (planned w) n h.call h.there))
@@ -129,7 +129,7 @@ one_more_kept w base i n r old new o h so_far kept e =
     (all_zipped_more (IsKeptFor w base i) (take n (planned w)) old h.call o so_far kept))
 
 pub none_kept : (w : s.Workload) (base : List ℤ) (i : ℕ) (os : List (Option Program)) → os ≡ [] → AreOwnPrograms w base i [] os
-unfolding words
+unfolding definitions
 none_kept w base i os e = subst (λ (l : List (Option Program)). AllZip (IsKeptFor w base i) [] l) (sym e) tt
 
 pub all_kept :

@@ -18,7 +18,7 @@ use Rattle.homeo_effect.specs.OwnState.{own_state}
 use Rattle.homeo_effect.specs.Program.{plain_program, set_after_all, prints_of_all}
 use Rattle.homeo_effect.specs.Touched.{written}
 use Rattle.homeo_effect.specs.declared.program.Program.{Program}
-use Rattle.homeo_site.specs.Key.{words}
+use Rattle.homeo_site.specs.Key.{definitions}
 
 -- from the same own deltas, whatever the temporaries were, the program of site i does on a base what the commands do there
 -- alone; it writes deltas of the first objects only
@@ -39,13 +39,13 @@ pub record RunsAs (b : ℕ → ℤ) (i count : ℕ) (cs : Commands) (p : Program
 
 -- so for the commands of a ground call of the site, and nothing for another
 abbrev pub IsKeptFor : s.Workload → List ℤ → ℕ → PlannedCall → Option Program → Type 0
-unfolding words
+unfolding definitions
 IsKeptFor w base i g o =
     MatchOption o (g.site ≢ i) (RunsAs (values_of base) i (length base) (base_row (sites_of w) (values_of base) g).residual)
 
 -- so for each
 abbrev pub AreOwnPrograms : s.Workload → List ℤ → ℕ → List PlannedCall → List (Option Program) → Type 0
-unfolding words
+unfolding definitions
 AreOwnPrograms w base i gs os = AllZip (IsKeptFor w base i) gs os
 
 -- the plan of some accepted workload

@@ -1,5 +1,5 @@
 -- Atoms and their clauses, one after another.
-use Rattle.homeo_plan.specs.Key.{words}
+use Rattle.homeo_plan.specs.Key.{definitions}
 use Rattle.std.proofs.Common.{◌≡◌, ℕ, zero, suc, ◌+◌, ◌<◌, ◌≤◌, List, [], ◌∷◌, ◌++◌, map, length, take, get_or, refl, sym, ap, ap₂, ◌∙◌, subst, arith}
 use Rattle.std.proofs.lemmas.List.{append_assoc, append-nil, take_more, take_all, map_push, map-append}
 use Rattle.homeo_plan.specs.declared.forms.Atom.{Atom}
@@ -12,59 +12,59 @@ use Rattle.homeo_plan.specs.Template.{Clause, Template, with_clause, clauses_fro
 
 -- ---- one more
 clauses_push : (cs : List Clause) (atoms : List Linear) (a : Linear) → clauses_from cs (atoms ++ a ∷ []) ≡ with_clause (clauses_from cs atoms) a
-unfolding words
+unfolding definitions
 clauses_push cs [] a = refl
 clauses_push cs (x ∷ atoms) a = clauses_push (with_clause cs x) atoms a
 
 clauses_append : (cs : List Clause) (atoms bs : List Linear) → clauses_from cs (atoms ++ bs) ≡ clauses_from (clauses_from cs atoms) bs
-unfolding words
+unfolding definitions
 clauses_append cs [] bs = refl
 clauses_append cs (x ∷ atoms) bs = clauses_append (with_clause cs x) atoms bs
 
 atoms_push : (sets : List (List Linear)) (s : List Linear) → atoms_of_sets (sets ++ s ∷ []) ≡ atoms_of_sets sets ++ s
-unfolding words
+unfolding definitions
 atoms_push [] s = append-nil s
 atoms_push (x ∷ sets) s = ap (λ l. x ++ l) (atoms_push sets s) ∙ sym (append_assoc x (atoms_of_sets sets) s)
 
 pub deltas_push : (ds es : List Delta) (d : Delta) → add_deltas (ds ++ d ∷ []) es ≡ add_delta d (add_deltas ds es)
-unfolding words
+unfolding definitions
 deltas_push [] es d = refl
 deltas_push (x ∷ ds) es d = deltas_push ds (add_delta x es) d
 
 put_push : (dss : List (List Delta)) (ds out : List Delta) → put_all (dss ++ ds ∷ []) out ≡ add_deltas ds (put_all dss out)
-unfolding words
+unfolding definitions
 put_push [] ds out = refl
 put_push (x ∷ dss) ds out = put_push dss ds (add_deltas x out)
 
 put_append : (dss ess : List (List Delta)) (out : List Delta) → put_all (dss ++ ess) out ≡ put_all ess (put_all dss out)
-unfolding words
+unfolding definitions
 put_append [] ess out = refl
 put_append (x ∷ dss) ess out = put_append dss ess (add_deltas x out)
 
 -- ---- nothing yet
 pub no-clauses : (cs : List Clause) → cs ≡ clauses_from cs []
-unfolding words
+unfolding definitions
 no-clauses cs = refl
 
 pub no-sets : [] ≡ clauses_from [] (atoms_of_sets [])
-unfolding words
+unfolding definitions
 no-sets = refl
 
 pub no-deltas : (es : List Delta) → es ≡ add_deltas [] es
-unfolding words
+unfolding definitions
 no-deltas es = refl
 
 pub nothing-put : (out : List Delta) → out ≡ put_all [] out
-unfolding words
+unfolding definitions
 nothing-put out = refl
 
 pub no-mixed : (out : List Delta) → out ≡ put_all (map (λ (a : Linear). a.mixed) (atoms_of_sets [])) out
-unfolding words
+unfolding definitions
 no-mixed out = refl
 
 -- ---- as the code goes on
 pub atom_at : (P : Linear → Type 0) (atoms : List Atom) (i : ℕ) (a : Atom) → Each P (map plain_atom atoms) → i < length atoms → a ≡ get_or atoms i a → P (plain_atom a)
-unfolding words
+unfolding definitions
 atom_at P [] i a all h is = absurd (omega (arith, h))
 atom_at P (x ∷ atoms) zero a all h is = subst (λ a. P (plain_atom a)) (sym is) all.0
 atom_at P (x ∷ atoms) (suc i) a all h is = atom_at P atoms i a all.1 (omega (arith, h)) is
@@ -131,5 +131,5 @@ pub template_of :
     (sets : List (List Linear)) (needed : List (List Delta)) (clauses : List Clause) (freezes : List Delta) →
     clauses ≡ clauses_from [] (atoms_of_sets sets) → freezes ≡ put_all needed (put_all (mixed (atoms_of_sets sets)) []) →
     let t : Template = record { clauses = clauses; freezes = freezes } in t ≡ join_sets sets needed
-unfolding words
+unfolding definitions
 template_of sets needed clauses freezes e f = λ i. let t : Template = record { clauses = e i; freezes = f i } in t

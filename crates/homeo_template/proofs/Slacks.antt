@@ -1,6 +1,6 @@
 -- Small constants give small slacks, and constants that are at most 0 give slacks that aren't negative.
-use Rattle.homeo_meaning.specs.Key.{words as meaning_words}
-use Rattle.homeo_plan.specs.Key.{words}
+use Rattle.homeo_meaning.specs.Key.{definitions as meaning_definitions}
+use Rattle.homeo_plan.specs.Key.{definitions}
 use Rattle.std.proofs.Common.{◌≡◌, List, [], ◌∷◌, map, subst, sym, arith}
 use Rattle.std.specs.List.{All}
 use Rattle.std.proofs.lemmas.List.Elements.{All-head, All-tail}
@@ -24,11 +24,11 @@ abbrev HasSmallSlack : Clause → Type 0
 HasSmallSlack c = IsSmall form_limit c.slack
 
 small-slack : (a : Linear) → HasSmallConstant a → HasSmallSlack (clause_of a)
-unfolding words meaning_words
+unfolding definitions meaning_definitions
 small-slack a small = omega (arith, small, abs_neg a.constant)
 
 each_set : (P : Linear → Type 0) (sets : List AtomSet) → All (λ s. Each P (plain_atoms s)) sets → Each (Each P) (map plain_atoms sets)
-unfolding words
+unfolding definitions
 each_set P [] all = tt
 each_set P (s ∷ sets) all = (All-head (λ s. Each P (plain_atoms s)) s sets all, each_set P sets (All-tail (λ s. Each P (plain_atoms s)) s sets all))
 
@@ -36,7 +36,7 @@ all_atoms : (P : Linear → Type 0) (sets : List AtomSet) → All (λ s. Each P 
 all_atoms P sets all = each_of_sets P (map plain_atoms sets) (each_set P sets all)
 
 none-small : Each HasSmallSlack []
-unfolding words
+unfolding definitions
 none-small = tt
 
 pub small-slacks :

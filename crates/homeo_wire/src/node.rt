@@ -57,7 +57,7 @@ impl Node {
 
     /// The number of the last call of one of its clients that stands in a history up to this round: where the node is behind, the
     /// call that closes its round counts too.
-    #[tactic(auto, unfolding(crate::specs::Key::words))]
+    #[tactic(auto, unfolding(crate::specs::Key::definitions))]
     pub(crate) fn counted(&self, client: u32, last: u64) -> u64
         requires { client < length self.now.made.items }
         ensures { result ≡ counted_by last client (plain_node self.now) self.now.mode }
@@ -217,7 +217,7 @@ impl Node {
     }
 
     /// Chooses the call that closes the round, where the node is the round's arbiter and hasn't chosen one.
-    #[tactic(auto, unfolding(crate::specs::Key::words))]
+    #[tactic(auto, unfolding(crate::specs::Key::definitions))]
     fn choose(&mut self, b: Breach, sites: u32, packets: &mut List<Packet>) -> Result<Step, Memory>
         requires sites { sites ≡ sites_of (plain_workload self.old.site.work) }
         requires some { 0 < sites }

@@ -21,7 +21,7 @@ const MOST_CALLS: usize = 20_000;
 const MOST_GROUND_CALLS: usize = 1024;
 
 /// From 1 to 16 sites.
-#[tactic(auto, using(crate::proofs::Steps::keeping), unfolding(homeo_meaning::specs::Key::words))]
+#[tactic(auto, using(crate::proofs::Steps::keeping), unfolding(homeo_meaning::specs::Key::definitions))]
 pub(crate) fn check_site_count(sites: Number, best: Option<Fault>) -> Option<Fault>
     ensures { result ≡ keep_all best (site_count_faults sites) }
 {
@@ -33,7 +33,7 @@ pub(crate) fn check_site_count(sites: Number, best: Option<Fault>) -> Option<Fau
 }
 
 /// At most 256 transactions.
-#[tactic(auto, using(crate::proofs::Steps::keeping), unfolding(homeo_meaning::specs::Key::words))]
+#[tactic(auto, using(crate::proofs::Steps::keeping), unfolding(homeo_meaning::specs::Key::definitions))]
 pub(crate) fn check_transaction_count(ts: &[Transaction], best: Option<Fault>) -> Option<Fault>
     ensures { result ≡ keep_all best (transaction_passing (slice_get ts.now 256)) }
 {
@@ -44,7 +44,7 @@ pub(crate) fn check_transaction_count(ts: &[Transaction], best: Option<Fault>) -
 }
 
 /// At most 64 clients.
-#[tactic(auto, using(crate::proofs::Steps::keeping), unfolding(homeo_meaning::specs::Key::words))]
+#[tactic(auto, using(crate::proofs::Steps::keeping), unfolding(homeo_meaning::specs::Key::definitions))]
 pub(crate) fn check_client_count(cs: &[Client], best: Option<Fault>) -> Option<Fault>
     ensures { result ≡ keep_all best (client_passing (slice_get cs.now 64)) }
 {
@@ -55,7 +55,7 @@ pub(crate) fn check_client_count(cs: &[Client], best: Option<Fault>) -> Option<F
 }
 
 /// At most 20,000 calls.
-#[tactic(auto, using(crate::proofs::Steps::keeping), unfolding(homeo_meaning::specs::Key::words))]
+#[tactic(auto, using(crate::proofs::Steps::keeping), unfolding(homeo_meaning::specs::Key::definitions))]
 pub(crate) fn check_call_count(calls: &[SitedCall<'_>], best: Option<Fault>) -> Option<Fault>
     ensures { result ≡ keep_all best (call_passing (slice_get calls.now 20000)) }
 {
@@ -66,7 +66,7 @@ pub(crate) fn check_call_count(calls: &[SitedCall<'_>], best: Option<Fault>) -> 
 }
 
 /// At most 1,024 distinct ground calls.
-#[tactic(auto, using(crate::proofs::Steps::keeping), unfolding(homeo_meaning::specs::Key::words))]
+#[tactic(auto, using(crate::proofs::Steps::keeping), unfolding(homeo_meaning::specs::Key::definitions))]
 pub(crate) fn check_ground_count(calls: &[SitedCall<'_>], best: Option<Fault>) -> Option<Fault>
     ensures { result ≡ keep_all best (call_passing (slice_get calls.now 1024)) }
 {

@@ -120,7 +120,7 @@ fn tallied(
 }
 
 /// With a fault of the schedule at the end of the text.
-#[tactic(auto, using(crate::proofs::Steps::keeping), unfolding(homeo_meaning::specs::Key::words))]
+#[tactic(auto, using(crate::proofs::Steps::keeping), unfolding(homeo_meaning::specs::Key::definitions))]
 fn at_end(end: u64, best: Option<Fault>) -> Option<Fault>
     ensures { result ≡ keep_all best (end_fault end) }
 {

@@ -8,7 +8,7 @@ use Rattle.homeo_meaning.specs.CallForm.{ground_form}
 use Rattle.homeo_meaning.specs.Ground.{plain_ground}
 use Rattle.homeo_meaning.specs.LowMeaning.{whole}
 use Rattle.homeo_meaning.specs.Serial.{values_of}
-use Rattle.homeo_plan.specs.Key.{words as plans}
+use Rattle.homeo_plan.specs.Key.{definitions as plan_definitions}
 use Rattle.homeo_plan.specs.Each.{Each}
 use Rattle.homeo_plan.specs.Needs.{remote}
 use Rattle.homeo_plan.specs.PlanView.{plain_atoms}
@@ -16,7 +16,7 @@ use Rattle.homeo_plan.specs.Planned.{sites_of}
 use Rattle.homeo_plan.specs.Table.{table, row_at}
 use Rattle.homeo_plan.specs.Template.{shifted, atoms_of, needs_of}
 use Rattle.homeo_follow.specs.Expanded.{expanded, expanded_deltas}
-use Rattle.homeo_build.specs.Key.{words}
+use Rattle.homeo_build.specs.Key.{definitions}
 use Rattle.homeo_build.specs.Plan.{sited_residual, residual_at}
 use Rattle.homeo_build.specs.inner.Followed.{IsSmallAlong, AreFollowed}
 use Rattle.homeo_build.specs.inner.Planning.{CanPlan}
@@ -93,7 +93,7 @@ plan_call-requires-clause-can c =
     (can_plan w (plain_ground call) base c.requires.accepted can.called.made c.requires.within can.site)
 
 pub loop-i-preserved : goal.loop-i-preserved
-unfolding plans words
+unfolding plan_definitions definitions
 loop-i-preserved c =
     let w = plain_workload c.args.c.now in
     let k = sites_of w in
@@ -155,7 +155,7 @@ returns-clause-needs c =
     c.loop-i.invariant.needs
 
 pub returns-clause-residuals : goal.returns-clause-residuals
-unfolding words
+unfolding definitions
 returns-clause-residuals c =
     let w = plain_workload c.args.c.now in
     let calls = c.calls-call-items in

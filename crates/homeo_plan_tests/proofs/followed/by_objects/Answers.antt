@@ -2,7 +2,7 @@
 use Rattle.std.proofs.Common.{sym, subst, arith}
 use Rattle.homeo_syntax.specs.Low.{Command}
 use Rattle.homeo_syntax.specs.SourceView.{plain_workload}
-use Rattle.homeo_meaning.specs.Key.{words as meaning_words}
+use Rattle.homeo_meaning.specs.Key.{definitions as meaning_definitions}
 use Rattle.homeo_meaning.specs.Ground.{plain_ground}
 use Rattle.homeo_meaning.specs.Schema.{schema_of}
 use Rattle.homeo_meaning.specs.Serial.{values_of}
@@ -28,7 +28,7 @@ follow_at-requires-clause-left c =
     c.workload-workload.ensures.accepted c.requires.called.made c.requires.within).1
 
 pub follow_at-requires-clause-base : goal.follow_at-requires-clause-base
-unfolding meaning_words
+unfolding meaning_definitions
 follow_at-requires-clause-base c =
     λ x. omega (
       arith,

@@ -1,6 +1,6 @@
 -- The residual is that of the definition.
 use Rattle.std.proofs.Common.{[], map, pos, refl, ap, ◌∙◌}
-use Rattle.homeo_syntax.specs.Key.{words as tree_words}
+use Rattle.homeo_syntax.specs.Key.{definitions as syntax_definitions}
 use Rattle.homeo_syntax.specs.Low as l
 use Rattle.homeo_syntax.specs.LowView.{low_commands, plain_lcommand}
 use Rattle.homeo_syntax.specs.declared.low.LExpr.{Literal}
@@ -11,7 +11,7 @@ use Rattle.homeo_plan_tests.proofs.Pushes.{pushed}
 use Rattle.homeo_plan_tests.proofs.residual.residual.Goals as goal
 
 pub returns-clause-example : goal.returns-clause-example
-unfolding tree_words
+unfolding syntax_definitions
 returns-clause-example c =
     let one = pushed c.new-commands.result c.push.new.self [] _ (ap (λ l. l.items) c.new-commands.ensures) c.in_ok-push.ensures.ok in
     let two = pushed c.push.new.self c.push-2.new.self _ _ one c.in_ok-push-2.ensures.ok in

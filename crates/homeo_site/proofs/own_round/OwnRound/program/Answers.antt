@@ -7,7 +7,7 @@ use Rattle.homeo_meaning.specs.Serial.{values_of}
 use Rattle.homeo_plan.specs.Planned.{sites_of, planned_at}
 use Rattle.homeo_plan.specs.Template.{base_row}
 use Rattle.homeo_history.specs.Legal.{IsCallAt}
-use Rattle.homeo_site.specs.Key.{words}
+use Rattle.homeo_site.specs.Key.{definitions}
 use Rattle.homeo_site.specs.SiteView.{StartValue}
 use Rattle.homeo_site.specs.OwnPrograms.{RunsAs, IsKeptFor}
 use Rattle.homeo_site.proofs.OwnLookups.{place_within, kept_at, not_lost}
@@ -37,7 +37,7 @@ unreachable-requires c =
     (kept_at w base in'.site n c.args.call in'.programs.items o c.self.invariant.programs within place is))
 
 pub returns : goal.returns
-unfolding words
+unfolding definitions
 returns c =
     let in' = c.self.inside in
     let w = plain_workload in'.compiled.value in

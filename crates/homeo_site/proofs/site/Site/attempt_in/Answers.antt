@@ -1,7 +1,7 @@
 -- The run on the room's deltas is the call's local step on the site's state.
 use Rattle.std.proofs.Common.{ℤ, refl, sym, ap, ◌∙◌}
 use Rattle.homeo_syntax.specs.Listed.{Listed}
-use Rattle.homeo_site.specs.Key.{words}
+use Rattle.homeo_site.specs.Key.{definitions}
 use Rattle.homeo_site.proofs.SiteAttempts.{ready_here, clauses_here, freezes_here, finding_here, deltas_here, enough_temporaries, enough_spare, all_prints, copies_fit, written_whole, change_is}
 use Rattle.homeo_site.proofs.site.Site.attempt_in.Goals as goal
 
@@ -43,7 +43,7 @@ copy_to_all-requires c =
     c.requires.answers
 
 pub returns-in-Some-clause-outcome : goal.returns-in-Some-clause-outcome
-unfolding words
+unfolding definitions
 returns-in-Some-clause-outcome c =
     sym
     (finding_here c.self.inside.own c.self.inside.deltas.items c.self.inside.segment c.args.self.now c.self.view_is c.as_mut_slice.result.now
@@ -51,11 +51,11 @@ returns-in-Some-clause-outcome c =
     ∙ sym c.run-failure.ensures.failure ∙ c.in-Some.is
 
 pub returns-in-Some-clause-answers : goal.returns-in-Some-clause-answers
-unfolding words
+unfolding definitions
 returns-in-Some-clause-answers c k d lt = (c.requires.answers k d lt).empty
 
 pub returns-in-None-clause-outcome : goal.returns-in-None-clause-outcome
-unfolding words
+unfolding definitions
 returns-in-None-clause-outcome c =
     let here = c.as_mut_slice.ensures.value ∙ c.into_vec-deltas.ensures ∙ c.requires.room.deltas in
     let whole =
@@ -74,5 +74,5 @@ returns-in-None-clause-outcome c =
     here c.args.call c.args.room.prints.items c.run-failure.new.prints.items c.requires.room.prints c.run-failure.ensures.prints)
 
 pub returns-in-None-clause-answers : goal.returns-in-None-clause-answers
-unfolding words
+unfolding definitions
 returns-in-None-clause-answers c k d lt = c.copy_to_all.ensures.copied k d lt ∙ c.as_slice-in-None.ensures
