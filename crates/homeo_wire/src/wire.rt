@@ -134,13 +134,13 @@ impl Wire {
         ensures unchanged { OnErr result (self.new ≡ self.old) }
         ensures one_base { HasOneBase self.new.world }
     {
-        let sites = site_count(self.planner.compiled().workload());
         let sent = &self.packets.as_slice()[packet as usize];
         let node = &mut self.nodes[site as usize];
         if sent.round() != node.round() {
             return Ok(Step::Ignored);
         }
         let packet = sent.copy(alloc)?;
+        let sites = site_count(self.planner.compiled().workload());
         node.receive(alloc, &mut self.planner, sites, packet, &mut self.packets)
     }
 
