@@ -9,7 +9,7 @@ use std::test::Fail;
 /// load reads no text.
 type Case = (&'static [&'static str], &'static str, &'static str, usize);
 
-const CASES: [Case; 7] = [
+const CASES: [Case; 9] = [
     (&["steps"], STOCK, STOCK_REPORT, 1),
     // one client, so its calls meet in one order
     (
@@ -34,6 +34,19 @@ const CASES: [Case; 7] = [
         &["forecast"],
         "workload 1\nsites 2\nobject x in 0..10 = 9\ntransaction t() { write(x = read(x) + 1) }\nclient a at 0 { t(); t() }\nschedule a a\nend\n",
         "kept 0 of 2\n0 bounds 10 0\n1 bounds 0 0\nstop a 1 clause 1 peaks 1 0 slack 0\n",
+        16,
+    ),
+    (
+        &["certify"],
+        "workload 1\nsites 1\nobject x in 0..9 = 5\ntransaction t() { print(1) }\nclient a at 0 { t() }\nend\n",
+        "{\"base\":[5],\"bounds\":[],\"calls\":[{\"command\":[[\"seq\",1],[\"print\"],[\"lit\",1]],\"site\":0}],\"clauses\":[],\"freezes\":[],\"sites\":1,\"version\":1}\n",
+        16,
+    ),
+    // its newline is read too
+    (
+        &["verify"],
+        "{\"base\":[9],\"bounds\":[],\"calls\":[{\"command\":[[\"print\"],[\"delta\",0,0]],\"site\":1}],\"clauses\":[],\"freezes\":[],\"sites\":2,\"version\":1}\n",
+        "invalid freeze 0 0 0\n",
         16,
     ),
     (

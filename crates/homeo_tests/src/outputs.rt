@@ -3,6 +3,7 @@
 use crate::runs::{check, plain};
 use crate::texts::{ENDED, LIMITED_SLOTS, ONE_WRITER, STOCK, WEIGHTED_STOCK};
 use homeo::Status;
+use std::alloc::Global;
 use std::test::Fail;
 
 #[test]
@@ -138,6 +139,102 @@ fn treaties_are_written(rt: HostRuntime) -> Result<(), Fail> {
     ] {
         let given = plain(&["treaty"], text);
         check(&rt, rt.alloc(), given, Status::Done, treaties, "")?;
+    }
+    Ok(())
+}
+
+/// A text, and its certificate.
+type Certified = (&'static str, &'static str);
+
+const CERTIFIED: [Certified; 3] = [
+    // nothing is declared
+    (
+        "workload 1\nsites 1\nend\n",
+        r#"{"base":[],"bounds":[],"calls":[],"clauses":[],"freezes":[],"sites":1,"version":1}"#,
+    ),
+    // an object that starts at its bound
+    (
+        "workload 1\nsites 1\nobject x in 0..10 = 10\ntransaction raise() { write(x = read(x) + 1) }\nclient a at 0 { raise() }\nschedule a\nend\n",
+        r#"{"base":[10],"bounds":[[0]],"calls":[{"command":[["seq",1],["if",2],["<="],["lit",0],["sum",2],["sum",2],["base",0],["delta",0,0],["lit",1],["<="],["sum",2],["sum",2],["base",0],["delta",0,0],["lit",1],["lit",10],["write",0,0],["sum",2],["sum",2],["sum",2],["base",0],["delta",0,0],["lit",1],["neg"],["base",0],["skip"]],"site":0}],"clauses":[{"slack":0,"terms":[[0,0,-1]]}],"freezes":[],"sites":1,"version":1}"#,
+    ),
+    // what the other site has of an object may not move
+    (
+        "workload 1\nsites 2\nobject a in 0..1 = 0\nobject x in 0..8 = 5\ntransaction turn(n in -9..-2) { write(x = read(x) + n); write(x = read(x) + read(a) - n) }\nclient c at 1 { turn(-2) }\nend\n",
+        r#"{"base":[0,5],"bounds":[[1,2],[2,3],[2,3],[1,2]],"calls":[{"command":[["seq",2],["if",2],["<="],["lit",0],["sum",2],["sum",3],["base",1],["delta",1,0],["delta",1,1],["lit",-2],["<="],["sum",2],["sum",3],["base",1],["delta",1,0],["delta",1,1],["lit",-2],["lit",8],["write",1,1],["sum",3],["sum",2],["sum",3],["base",1],["delta",1,0],["delta",1,1],["lit",-2],["neg"],["base",1],["neg"],["delta",1,0],["skip"],["if",2],["<="],["lit",0],["sum",3],["sum",3],["base",1],["delta",1,0],["delta",1,1],["sum",3],["base",0],["delta",0,0],["delta",0,1],["neg"],["lit",-2],["<="],["sum",3],["sum",3],["base",1],["delta",1,0],["delta",1,1],["sum",3],["base",0],["delta",0,0],["delta",0,1],["neg"],["lit",-2],["lit",8],["write",1,1],["sum",3],["sum",3],["sum",3],["base",1],["delta",1,0],["delta",1,1],["sum",3],["base",0],["delta",0,0],["delta",0,1],["neg"],["lit",-2],["neg"],["base",1],["neg"],["delta",1,0],["skip"]],"site":1}],"clauses":[{"slack":3,"terms":[[1,0,-1],[1,1,-1]]},{"slack":5,"terms":[[1,0,1],[1,1,1]]},{"slack":5,"terms":[[0,0,-1],[0,1,-1],[1,0,-1],[1,1,-1]]},{"slack":3,"terms":[[0,0,1],[0,1,1],[1,0,1],[1,1,1]]}],"freezes":[[0,0]],"sites":2,"version":1}"#,
+    ),
+];
+
+#[test]
+fn certificates_are_written_and_are_valid(rt: HostRuntime) -> Result<(), Fail> {
+    let alloc = rt.alloc();
+    for (text, certificate) in CERTIFIED {
+        let line = format!(in alloc; "{certificate}\n")?;
+        let given = plain(&["certify"], text);
+        check(&rt, alloc, given, Status::Done, line.as_str(), "")?;
+        // its newline is no part of it
+        for bytes in [line.as_str(), certificate] {
+            let given = plain(&["verify"], bytes);
+            check(&rt, alloc, given, Status::Done, "valid\n", "")?;
+        }
+    }
+    Ok(())
+}
+
+/// A certificate of two sites, whose second call is this command at site 1.
+fn certificate_of(alloc: Global, command: &str) -> Result<String, Fail> {
+    let mut text = String::from_str(
+        alloc,
+        r#"{"base":[9],"bounds":[[3,4]],"calls":[{"command":[["skip"]],"site":0},{"command":["#,
+    )?;
+    text.push_str(command)?;
+    text.push_str(
+        r#"],"site":1}],"clauses":[{"slack":7,"terms":[[0,1,1]]}],"freezes":[],"sites":2,"version":1}"#,
+    )?;
+    Ok(text)
+}
+
+#[test]
+fn calls_of_certificates_are_judged(rt: HostRuntime) -> Result<(), Fail> {
+    let alloc = rt.alloc();
+    for (command, verdict) in [
+        // a delta of its own site that is at most 7
+        (
+            r#"["if",1],["<="],["delta",0,1],["lit",7],["write",0,1],["lit",1],["skip"]"#,
+            "valid\n",
+        ),
+        // at most 6, which no clause keeps
+        (
+            r#"["if",1],["<="],["delta",0,1],["lit",6],["skip"],["skip"]"#,
+            "invalid clause 1\n",
+        ),
+        (
+            r#"["print"],["product",2],["lit",1000000000000000000],["lit",5]"#,
+            "invalid size 1\n",
+        ),
+        (r#"["print"],["delta",0,0]"#, "invalid freeze 1 0 0\n"),
+        (r#"["write",0,0],["lit",1]"#, "invalid foreign 1\n"),
+        // an object that isn't there
+        (r#"["print"],["base",1]"#, "invalid shape\n"),
+    ] {
+        let certificate = certificate_of(alloc, command)?;
+        let given = plain(&["verify"], certificate.as_str());
+        check(&rt, alloc, given, Status::Done, verdict, "")?;
+    }
+    Ok(())
+}
+
+#[test]
+fn other_bytes_are_judged(rt: HostRuntime) -> Result<(), Fail> {
+    for (bytes, verdict) in [
+        ("", "invalid json\n"),
+        ("{}\n\n", "invalid shape\n"),
+        (
+            r#"{"base":[],"bounds":[[0],[1]],"calls":[],"clauses":[{"slack":0,"terms":[]},{"slack":2,"terms":[]}],"freezes":[],"sites":1,"version":1}"#,
+            "invalid bounds 1\n",
+        ),
+    ] {
+        let given = plain(&["verify"], bytes);
+        check(&rt, rt.alloc(), given, Status::Done, verdict, "")?;
     }
     Ok(())
 }

@@ -10,8 +10,8 @@ use std::test::Fail;
 #[test]
 fn other_words_are_no_command(rt: HostRuntime) -> Result<(), Fail> {
     let usage =
-        "usage: homeo steps or run or tables or treaty or serve or forecast or wire NUMBER or load NUMBER CALLS\n";
-    let lists: [&'static [&'static str]; 13] = [
+        "usage: homeo steps or run or tables or treaty or serve or forecast or certify or verify or wire NUMBER or load NUMBER CALLS\n";
+    let lists: [&'static [&'static str]; 15] = [
         &[],
         &["step"],
         &["steps", "x"],
@@ -21,6 +21,8 @@ fn other_words_are_no_command(rt: HostRuntime) -> Result<(), Fail> {
         &["load", "1", "0"],
         &["load", "1", "20001"],
         &["forecast", "1"],
+        &["certify", "1"],
+        &["verify", "verify"],
         &["wire"],
         &["wire", "x"],
         &["--help"],
@@ -148,6 +150,8 @@ fn a_text_past_a_limit_is_refused(rt: HostRuntime) -> Result<(), Fail> {
     check(&rt, alloc, given, Status::Done, nothing_ran, "")?;
     let mut spaces = String::new(alloc);
     push_times(&mut spaces, " ", 1_048_577)?;
+    let mut more_spaces = String::new(alloc);
+    push_times(&mut more_spaces, spaces.as_str(), 16)?;
     let deeper = in_parentheses(alloc, 31)?;
     let calls = called(alloc, "skip", 0, 20_000)?;
     let prints = called(alloc, "print(1)", 50, 19_999)?;
@@ -156,6 +160,8 @@ fn a_text_past_a_limit_is_refused(rt: HostRuntime) -> Result<(), Fail> {
         ("steps", calls.as_str(), "refused E13 at 80060\n"),
         ("run", prints.as_str(), "refused E11 at 78942\n"),
         ("treaty", spaces.as_str(), "refused E2 at 1048576\n"),
+        ("certify", NOTHING_BEHIND_THE_HEAD, "refused E4 at 19\n"),
+        ("verify", more_spaces.as_str(), "refused E2 at 16777216\n"),
         // under `tables` alone the rows of a call are counted
         (
             "tables",

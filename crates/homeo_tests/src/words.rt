@@ -22,6 +22,8 @@ fn each_command_has_its_words(rt: HostRuntime) -> Result<(), Fail> {
     assert_eq!(rt; command_of(alloc, &["treaty"])?, Some(Command::Treaty));
     assert_eq!(rt; command_of(alloc, &["serve"])?, Some(Command::Serve));
     assert_eq!(rt; command_of(alloc, &["forecast"])?, Some(Command::Forecast));
+    assert_eq!(rt; command_of(alloc, &["certify"])?, Some(Command::Certify));
+    assert_eq!(rt; command_of(alloc, &["verify"])?, Some(Command::Verify));
     assert_eq!(rt;
         command_of(alloc, &["wire", "07"])?,
         Some(Command::Wire { number: 7 })
@@ -52,6 +54,7 @@ fn other_words_are_no_command(rt: HostRuntime) -> Result<(), Fail> {
     assert_eq!(rt; command_of(alloc, &["load", "-1", "1"])?, None);
     assert_eq!(rt; command_of(alloc, &["load", "1"])?, None);
     assert_eq!(rt; command_of(alloc, &["load", "1", "1", "1"])?, None);
+    assert_eq!(rt; command_of(alloc, &["certify", "steps"])?, None);
     assert_eq!(rt; command_of(alloc, &["wire"])?, None);
     assert_eq!(rt; command_of(alloc, &["wire", "1", "1"])?, None);
     Ok(())
