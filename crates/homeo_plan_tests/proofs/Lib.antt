@@ -1,5 +1,6 @@
 pub mod AtomExample
 pub mod CallExample
+pub mod FollowExample
 pub mod ObjectExample
 pub mod Pushes
 pub mod ResidualExample

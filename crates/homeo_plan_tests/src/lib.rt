@@ -8,6 +8,8 @@ mod copies;
 #[cfg(test)]
 mod effects;
 #[cfg(test)]
+mod followed;
+#[cfg(test)]
 mod formulas;
 #[cfg(test)]
 mod joint_tables;
@@ -27,6 +29,8 @@ mod sites;
 mod slacks;
 #[cfg(test)]
 mod splits;
+#[cfg(test)]
+mod standing;
 #[cfg(test)]
 mod tables;
 #[cfg(test)]

@@ -35,7 +35,7 @@ fn accepted_text(rt: &impl Abort, alloc: Global, text: &str) -> Result<Accepted,
     }
 }
 
-fn compiled(rt: &impl Abort, alloc: Global, text: &str) -> Result<Arc<Compiled>, Fail> {
+pub(crate) fn compiled(rt: &impl Abort, alloc: Global, text: &str) -> Result<Arc<Compiled>, Fail> {
     let w = accepted_text(rt, alloc, text)?;
     let c = compile(alloc, w)?;
     Ok(Arc::new(alloc, c)?)
