@@ -161,14 +161,15 @@ fn elsewhere(alloc: Global, objects: &[u32], site: u32) -> Result<Vec<Delta>, Me
     Ok(deltas)
 }
 
+/// A text, how many atoms its first call has, and the objects that it needs.
+type Case = (&'static str, usize, &'static [u32]);
+
+const CASES: [Case; 3] = [(TWICE, 4, &[]), (TURN, 4, &[0]), (PRODUCT, 1, &[0, 1])];
+
 #[test]
 fn whole_objects_give_what_the_row_does(rt: HostRuntime) -> Result<(), Fail> {
     let alloc = rt.alloc();
-    for (text, atoms, needed) in [
-        (TWICE, 4, [].as_slice()),
-        (TURN, 4, [0].as_slice()),
-        (PRODUCT, 1, [0, 1].as_slice()),
-    ] {
+    for (text, atoms, objects_needed) in CASES {
         let w = accepted(&rt, alloc, text)?;
         for site in 0..2 {
             let (row, objects) = asked(alloc, &w, site)?;
@@ -177,7 +178,7 @@ fn whole_objects_give_what_the_row_does(rt: HostRuntime) -> Result<(), Fail> {
                 are_same(row.atoms.atoms.as_slice(), objects.atoms.atoms.as_slice()),
                 "of {text} at {site}"
             );
-            let needed = elsewhere(alloc, needed, site)?;
+            let needed = elsewhere(alloc, objects_needed, site)?;
             assert_eq!(rt; row.needs.deltas.as_slice(), needed.as_slice());
             assert_eq!(rt; objects.needs.deltas.as_slice(), needed.as_slice());
         }

@@ -12,6 +12,13 @@ fn at(site: u32) -> Delta {
     Delta { object: 0, site }
 }
 
+fn thrice(site: u32) -> Term {
+    Term {
+        delta: at(site),
+        factor: 3,
+    }
+}
+
 /// Three times a form.
 fn tripled(alloc: Global, form: &Form) -> Result<Form, Fail> {
     if !form.is_small() {
@@ -37,11 +44,7 @@ fn a_form_is_found_where_it_was_set(rt: HostRuntime) -> Result<(), Fail> {
     let found = standing.form_at(alloc, Place::Fresh(0))?;
     let linear = found.into_linear();
     assert_eq!(rt; linear.constant, 21);
-    let term = |site| Term {
-        delta: at(site),
-        factor: 3,
-    };
-    assert_eq!(rt; linear.terms.as_slice(), [term(0), term(1)].as_slice());
+    assert_eq!(rt; linear.terms.as_slice(), [thrice(0), thrice(1)].as_slice());
     assert_eq!(rt; linear.mixed.as_slice().len(), 0);
     Ok(())
 }

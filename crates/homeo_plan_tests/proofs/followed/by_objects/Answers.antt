@@ -30,5 +30,8 @@ follow_at-requires-clause-left c =
 pub follow_at-requires-clause-base : goal.follow_at-requires-clause-base
 unfolding meaning_words
 follow_at-requires-clause-base c =
-    λ x. omega (arith, values_small (plain_workload c.args.w.now) c.workload-workload.ensures.accepted (values_of c.args.database.now.items)
-    (all_within (schema_of (plain_workload c.args.w.now)) c.args.database.now.items c.requires.within) x)
+    λ x. omega (
+      arith,
+      values_small (plain_workload c.args.w.now) c.workload-workload.ensures.accepted (values_of c.args.database.now.items)
+          (all_within (schema_of (plain_workload c.args.w.now)) c.args.database.now.items c.requires.within) x,
+    )
