@@ -118,7 +118,7 @@ fn by_objects(
 }
 
 /// What a workload's first call asks at one of two sites so, at the starting values: by its row, and by whole objects.
-fn asked(alloc: Global, w: &Accepted, site: u32) -> Result<(Asked, Asked), Fail>
+fn both_ways(alloc: Global, w: &Accepted, site: u32) -> Result<(Asked, Asked), Fail>
     requires { site < 2 }
 {
     let declared = Declarations::of(alloc, w)?;
@@ -172,7 +172,7 @@ fn whole_objects_give_what_the_row_does(rt: HostRuntime) -> Result<(), Fail> {
     for (text, atoms, objects_needed) in CASES {
         let w = accepted(&rt, alloc, text)?;
         for site in 0..2 {
-            let (row, objects) = asked(alloc, &w, site)?;
+            let (row, objects) = both_ways(alloc, &w, site)?;
             assert_eq!(rt; row.atoms.atoms.as_slice().len(), atoms, "of {text}");
             assert!(rt;
                 are_same(row.atoms.atoms.as_slice(), objects.atoms.atoms.as_slice()),
