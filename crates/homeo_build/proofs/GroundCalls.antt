@@ -32,6 +32,9 @@ of_calls w h calls are =
     sym (map_map plain_ground (λ g. h (planned_call w g)) calls) ∙ ap (map (λ g. h (planned_call w g))) are
     ∙ sym (map_map (planned_call w) h (grounds w))
 
+pub ground_below : (w : s.Workload) (calls : List GroundCall) (n : ℕ) → map plain_ground calls ≡ grounds w → n < length (grounds w) → n < length calls
+ground_below w calls n are within = omega (arith, ap length are, length-map calls plain_ground, within)
+
 -- once it is made of all of them
 pub of_all :
     {Z : Type 0} (w : s.Workload) (h : PlannedCall → Z) (made : List Z) (calls : List GroundCall) (i : ℕ) → length calls ≤ i →

@@ -38,11 +38,10 @@ unfolding words
 config_or policy None = policy
 config_or policy (Some given) = plain_config given
 
--- a workload's plan at a base of these values: its template there, bounds that fit it, and the residual of each ground call
+-- a workload's plan at a base of these values: its template there, and bounds that fit it
 pub record IsPlanOf (w : s.Workload) (values : List ℤ) (p : RoundPlan) : Type 0 where
   pub within : IsWithin (schema_of w) values
   pub base : p.base.items ≡ values
   pub sites : p.template.sites ≡ sites_of w
   pub template : plain_template p.template ≡ template_at w values
   pub fits : config.Fits (sites_of w) (template_at w values).clauses (plain_config p.config)
-  pub residuals : map sited_residual p.residuals.items ≡ residuals_at w values

@@ -6,6 +6,7 @@ pub mod compile;
 mod compiled;
 mod forms;
 pub mod laws;
+pub mod residuals;
 pub mod shares;
 mod sites;
 pub mod treaties;

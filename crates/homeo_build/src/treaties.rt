@@ -1,6 +1,6 @@
 //! The treaties of a round.
 
-ghost use Rattle.std.specs.Prelude.{◌≡◌, [], map, Some, IfOk};
+ghost use Rattle.std.specs.Prelude.{◌≡◌, Some, IfOk};
 ghost use Rattle.homeo_syntax.specs.SourceView.{plain_workload};
 ghost use Rattle.homeo_meaning.specs.Acceptance.{IsAccepted};
 ghost use Rattle.homeo_meaning.specs.Bounds.{IsWithin};
@@ -13,7 +13,7 @@ ghost use Rattle.homeo_plan.specs.PlanView.{plain_template, plain_config};
 ghost use Rattle.homeo_plan.specs.Planned.{sites_of, template_at, shares_of, policy};
 ghost use Rattle.homeo_plan.specs.declared.templates.Config.{Config};
 ghost use Rattle.homeo_template.specs.InOrder.{AreInOrder};
-ghost use Rattle.homeo_build.specs.Plan.{config_or, sited_residual, residuals_at, IsPlanOf};
+ghost use Rattle.homeo_build.specs.Plan.{config_or, IsPlanOf};
 
 use crate::calls::plan_calls;
 use crate::compiled::Compiled;
@@ -21,8 +21,7 @@ use crate::shares::shares;
 use crate::sites::site_count;
 use homeo_config::split_weighted;
 use homeo_meaning::Database;
-use homeo_plan::{Config, Residual, RoundPlan, Template};
-use homeo_split::Split;
+use homeo_plan::{Config, RoundPlan, Template};
 use homeo_syntax::{List, Memory};
 use homeo_template::template;
 use std::alloc::Global;
@@ -30,8 +29,7 @@ use std::alloc::Global;
 /// The plan of the round that begins at a base (Roy et al., SIGMOD 2015). Of each ground call the row of its symbolic table
 /// that holds there is found by following the branches that are taken, without the table; the template is made of the
 /// atoms of all these rows' formulas and of what their residuals need. The configuration is the given one, or else the
-/// policy, which splits each slack by the sites' shares of it (this project's rule). The plan has a copy of the base, and a residual for each
-/// ground call, in the order of `Compiled::calls`.
+/// policy, which splits each slack by the sites' shares of it (this project's rule). The plan has a copy of the base.
 ///
 /// The base must be within the workload's bounds, and a configuration that is given must fit the template: for each clause a
 /// bound for each site, none negative, which add up to the slack.
@@ -55,63 +53,31 @@ pub fn treaties(
     ensures config { IfOk result (λ p. plain_config p.config ≡ config_or (policy (plain_workload c.now) base.now.items) config) }
     ensures fits { IfOk result (λ p. Fits (sites_of (plain_workload c.now))
         (template_at (plain_workload c.now) base.now.items).clauses (plain_config p.config)) }
-    ensures residuals { IfOk result (λ p. map sited_residual p.residuals.items ≡ residuals_at (plain_workload c.now) base.now.items) }
     ensures plan { IfOk result (IsPlanOf (plain_workload c.now) base.now.items) }
 {
     let sites = site_count(c.workload());
-    let split = without_deltas(alloc, base)?;
-    let plan = plan_without_config(alloc, c, &split, sites)?;
-    let config = config_for(alloc, c, &plan.template, config)?;
-    let Split { base, deltas: _ } = split;
-    Ok(RoundPlan {
-        base,
-        template: plan.template,
-        config,
-        residuals: plan.residuals,
-    })
-}
-
-/// A plan that has no configuration yet.
-#[derive(Drop)]
-struct Unconfigured {
-    template: Template,
-    residuals: List<Residual>,
-}
-
-/// The template of what the ground calls bring, and their residuals, on a base without deltas.
-fn plan_without_config(
-    alloc: Global,
-    c: &Compiled,
-    split: &Split,
-    sites: u32,
-) -> Result<Unconfigured, Memory>
-    requires accepted { IsAccepted (plain_workload c.now) }
-    requires undivided { split.now.deltas.items ≡ [] }
-    requires within { IsWithin (schema_of (plain_workload c.now)) split.now.base.items }
-    ensures sites { IfOk result (λ p. p.template.sites ≡ sites) }
-    ensures template { IfOk result (λ p. plain_template p.template ≡ template_at (plain_workload c.now) split.now.base.items) }
-    ensures small { IfOk result (λ p. Each (λ c. IsSmall form_limit c.slack) (plain_template p.template).clauses) }
-    ensures order { IfOk result (λ p. AreInOrder p.template.freezes.items) }
-    ensures residuals { IfOk result (λ p. map sited_residual p.residuals.items ≡ residuals_at (plain_workload c.now) split.now.base.items) }
-{
-    let calls = plan_calls(alloc, c, split)?;
-    let template = template(alloc, calls.atoms.as_slice(), calls.needs.as_slice(), sites)?;
-    Ok(Unconfigured {
-        template,
-        residuals: calls.residuals,
-    })
-}
-
-/// A copy of a base that no site has written to.
-fn without_deltas(alloc: Global, base: &Database) -> Result<Split, Memory>
-    ensures base { IfOk result (λ s. s.base.items ≡ base.now.items) }
-    ensures deltas { IfOk result (λ s. s.deltas.items ≡ []) }
-{
+    let template = template_of(alloc, c, base, sites)?;
+    let config = config_for(alloc, c, &template, config)?;
     let values = Vec::from_slice(alloc, base.as_slice())?;
-    Ok(Split {
+    Ok(RoundPlan {
         base: List::from_vec(values),
-        deltas: List::new(alloc),
+        template,
+        config,
+        residuals: List::new(alloc),
     })
+}
+
+/// The template of what the ground calls bring.
+fn template_of(alloc: Global, c: &Compiled, base: &Database, sites: u32) -> Result<Template, Memory>
+    requires accepted { IsAccepted (plain_workload c.now) }
+    requires within { IsWithin (schema_of (plain_workload c.now)) base.now.items }
+    ensures sites { IfOk result (λ t. t.sites ≡ sites) }
+    ensures template { IfOk result (λ t. plain_template t ≡ template_at (plain_workload c.now) base.now.items) }
+    ensures small { IfOk result (λ t. Each (λ c. IsSmall form_limit c.slack) (plain_template t).clauses) }
+    ensures order { IfOk result (λ t. AreInOrder t.freezes.items) }
+{
+    let calls = plan_calls(alloc, c, base)?;
+    template(alloc, calls.atoms.as_slice(), calls.needs.as_slice(), sites)
 }
 
 /// The given configuration, or else the one by shares.

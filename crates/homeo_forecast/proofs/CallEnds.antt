@@ -5,7 +5,9 @@ use Rattle.std.proofs.Math.ListN.{set}
 use Rattle.std.specs.Prelude.{Vec}
 use Rattle.std.proofs.lemmas.List.{length-map, get_or-map, map-set}
 use Rattle.homeo_syntax.specs.Low.{Commands}
+use Rattle.homeo_syntax.specs.LowView.{low_commands, plain_lcommand}
 use Rattle.homeo_syntax.specs.Source as s
+use Rattle.homeo_syntax.specs.declared.low.LCommand.{LCommand}
 use Rattle.homeo_meaning.specs.declared.call.CallId.{CallId}
 use Rattle.homeo_meaning.specs.Acceptance.{IsAccepted}
 use Rattle.homeo_meaning.specs.Bounds.{IsWithin}
@@ -23,24 +25,29 @@ use Rattle.homeo_plan.specs.PlanView.{plain_clause, plain_template}
 use Rattle.homeo_plan.specs.declared.round.RoundPlan.{RoundPlan}
 use Rattle.homeo_plan.specs.declared.templates.Template as code
 use Rattle.homeo_plan.specs.Template.{PlannedCall, Clause, Template, base_row}
+use Rattle.homeo_plan.proofs.PlannedCalls.{planned_member}
 use Rattle.homeo_split.specs.CanExec.{run_limit, can_exec_all}
 use Rattle.homeo_effect.specs.Key.{words as effect_words}
 use Rattle.homeo_effect.specs.OwnState.{own_state}
 use Rattle.homeo_effect.specs.Program.{plain_program}
-use Rattle.homeo_effect.specs.Touched.{written, is_touched, is_among, touched_clauses, touched_freezes}
+use Rattle.homeo_effect.specs.Touched.{WritesOwn, written, is_touched, is_among, touched_clauses, touched_freezes}
 use Rattle.homeo_effect.specs.declared.program.Program.{Program}
+use Rattle.homeo_site.specs.OwnCalls.{RunsAs, IsOwnCall}
+use Rattle.homeo_site.specs.declared.own_calls.OwnCall.{OwnCall}
+use Rattle.homeo_site.proofs.WrittenObjects.{writes_own}
 use Rattle.homeo_forecast.specs.Peaks.{Stop, first_stop}
 use Rattle.homeo_forecast.specs.Visits.{Visit, after_all, visits, next_visit}
 use Rattle.homeo_forecast.specs.declared.replay.Replay.{Replay}
 use Rattle.homeo_forecast.specs.declared.rooms.Room.{Room}
 use Rattle.homeo_forecast.specs.declared.prepared.Prepared.{Prepared}
-use Rattle.homeo_forecast.specs.inner.Prepared.{RunsFor, IsPrepared}
+use Rattle.homeo_forecast.specs.inner.Prepared.{AreIndexes, IsPrepared}
 use Rattle.homeo_forecast.specs.inner.Raising.{CanTest, CanRaise, SomeRaised}
 use Rattle.homeo_forecast.specs.inner.Replays.{site_lists, AreDeltas, IsReplay}
 use Rattle.homeo_forecast.specs.inner.Rooms.{HaveRooms}
 use Rattle.homeo_forecast.specs.inner.Stops.{clause_stop_at, freeze_stop_at, first_of, first_among}
 use Rattle.homeo_forecast.specs.inner.Sums.{terms_at, CanSum}
 use Rattle.homeo_forecast.proofs.CallSteps as step
+use Rattle.homeo_forecast.proofs.Prefixes as prefixes
 use Rattle.homeo_forecast.proofs.ReplayLists.{goes_on}
 use Rattle.homeo_forecast.proofs.RoomLists.{all_raised}
 use Rattle.homeo_forecast.proofs.TouchedStops.{within_numbers}
@@ -60,6 +67,46 @@ call_here prepared exists at = record { accepted = prepared.accepted; within = p
 pub template_there :
     {w : s.Workload} {base : List ℤ} {p : Prepared} → IsPrepared w base p → (q : RoundPlan) → q ≡ p.plan.value → plain_template q.template ≡ template_at w base
 template_there prepared q is = ap (λ (r : RoundPlan). plain_template r.template) is ∙ prepared.plan.template
+
+-- what was made for a call, on a plan that is lent
+pub own_here :
+    {w : s.Workload} {call : CallId} {q plan : RoundPlan} {o made : OwnCall} → q ≡ plan → o ≡ made → IsOwnCall w q.base.items (planned_at w call) made →
+    IsOwnCall w plan.base.items (planned_at w call) o
+own_here {w} {call} {q} {plan} {o} {made} same is own =
+    subst (IsOwnCall w plan.base.items (planned_at w call)) (sym is)
+    (subst (λ (r : RoundPlan). IsOwnCall w r.base.items (planned_at w call) made) same own)
+
+module _
+    {w : s.Workload} {base : List ℤ} {call : CallId} {p : Prepared} {o : OwnCall} (prepared : IsPrepared w base p) (exists : CallExists w call)
+    (own : IsOwnCall w base (planned_at w call) o) (lent : List LCommand) (same : lent ≡ o.commands.items)
+  where
+    its_commands : low_commands (map plain_lcommand lent) ≡ (base_row (sites_of w) (values_of base) (planned_at w call)).residual
+    its_commands = ap (λ l. low_commands (map plain_lcommand l)) same ∙ own.commands
+
+    pub indexes_there : AreIndexes p.plan.value.template.sites (plain_template p.plan.value.template) p.indexes.items
+    indexes_there =
+        subst (λ k. AreIndexes k (plain_template p.plan.value.template) p.indexes.items) (sym prepared.plan.sites)
+        (subst (λ (u : Template). AreIndexes (sites_of w) u p.indexes.items) (sym prepared.plan.template) prepared.indexes)
+
+    pub site_indexed : o.program.site < p.plan.value.template.sites
+    site_indexed =
+        subst (λ k. o.program.site < k) (sym prepared.plan.sites)
+        (subst (λ i. i < sites_of w) (sym own.runs.site) (prefixes.site_below w call prepared.accepted exists))
+
+    pub own_written : WritesOwn o.program.site (low_commands (map plain_lcommand lent))
+    own_written =
+        subst (λ i. WritesOwn i (low_commands (map plain_lcommand lent))) (sym own.runs.site)
+        (subst (WritesOwn (planned_at w call).site) (sym its_commands) (writes_own w base (planned_at w call) (planned_member w call exists)))
+
+    pub clauses_are :
+        touched_clauses (written (low_commands (map plain_lcommand lent))) (plain_template p.plan.value.template) ≡
+        touched_clauses (written (base_row (sites_of w) (values_of base) (planned_at w call)).residual) (template_at w base)
+    clauses_are = ap₂ (λ cs (u : Template). touched_clauses (written cs) u) its_commands prepared.plan.template
+
+    pub freezes_are :
+        touched_freezes (written (low_commands (map plain_lcommand lent))) (plain_template p.plan.value.template) ≡
+        touched_freezes (written (base_row (sites_of w) (values_of base) (planned_at w call)).residual) (template_at w base)
+    freezes_are = ap₂ (λ cs (u : Template). touched_freezes (written cs) u) its_commands prepared.plan.template
 
 abbrev deltas_of : Replay → ℕ → List ℤ
 deltas_of r i = get_or (site_lists r) i []
@@ -99,11 +146,11 @@ module _
       list_there : u.items ≡ deltas_of old site
       list_there = ap (λ (d : Vec ℤ Global). d.items) is ∙ sym (get_or-map (λ (d : Vec ℤ Global). d.items) old.deltas.items site u [] site_there)
 
-      pub objects_there : (p : Program) → RunsFor w base g p → Each (λ d. d.object < length u.items) (written (plain_program p))
+      pub objects_there : (p : Program) → RunsAs (values_of base) g.site (length base) cs p → Each (λ d. d.object < length u.items) (written (plain_program p))
       objects_there p own =
           subst (λ n. Each (λ (d : Delta). d.object < n) (written (plain_program p))) (sym (ap length list_there ∙ start_are.count)) own.objects
 
-      pub can_run : (p : Program) → RunsFor w base g p → (temporaries : List ℤ) → can_exec_all run_limit (plain_program p) (own_state p.site u.items temporaries) ≡ true
+      pub can_run : (p : Program) → RunsAs (values_of base) g.site (length base) cs p → (temporaries : List ℤ) → can_exec_all run_limit (plain_program p) (own_state p.site u.items temporaries) ≡ true
       can_run p own temporaries =
           let runs : can_exec_all run_limit cs (alone (values_of base) g.site (values_of u.items)) ≡ true =
           subst (λ y. can_exec_all run_limit cs (alone (values_of base) g.site y) ≡ true) (sym (ap values_of list_there ∙ start_are.are))

@@ -1,11 +1,11 @@
 pub mod CallEnds
 pub mod CallSteps
 pub mod ForecastSteps
+pub mod IndexLists
 pub mod Lists
 pub mod OneText
 pub mod Peaks
 pub mod Prefixes
-pub mod ProgramLists
 pub mod Raised
 pub mod Ready
 pub mod ReplayLists

@@ -15,6 +15,7 @@ use crate::prepared::Prepared;
 use crate::replay::Replay;
 use homeo_build::Compiled;
 use homeo_meaning::{CallId, Database};
+use homeo_site::OwnCalls;
 use homeo_syntax::Memory;
 use std::alloc::Global;
 
@@ -40,9 +41,10 @@ pub fn forecast(
         (option_map plain_stop o.stop)) }
 {
     let prepared = Prepared::at(alloc, c, base)?;
+    let mut own_calls = OwnCalls::new(alloc, c)?;
     let mut replay = Replay::begin(alloc, &prepared.plan)?;
     for (kept, call) in calls.iter().enumerate() {
-        let stop = replay.call(alloc, c, &prepared, *call)?;
+        let stop = replay.call(alloc, c, &prepared, &mut own_calls, *call)?;
         if stop.is_some() {
             let config = replay.config(alloc)?;
             return Ok(Outlook {

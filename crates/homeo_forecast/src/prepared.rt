@@ -1,34 +1,29 @@
 //! What is made once for all calls of a list.
 
-ghost use Rattle.std.specs.Prelude.{◌≡◌, ◌<◌, length, map, IfOk};
+ghost use Rattle.std.specs.Prelude.{◌≡◌, ◌<◌, map, IfOk};
 ghost use Rattle.homeo_syntax.specs.LowView.{low_commands, plain_lcommand};
 ghost use Rattle.homeo_syntax.specs.SourceView.{plain_workload};
 ghost use Rattle.homeo_meaning.specs.Bounds.{IsWithin};
-ghost use Rattle.homeo_meaning.specs.Calls.{CallExists};
 ghost use Rattle.homeo_meaning.specs.Schema.{schema_of};
-ghost use Rattle.homeo_meaning.specs.Serial.{values_of};
-ghost use Rattle.homeo_plan.specs.Planned.{sites_of, planned_at, template_at};
-ghost use Rattle.homeo_plan.specs.Template.{base_row};
+ghost use Rattle.homeo_plan.specs.PlanView.{plain_template};
 ghost use Rattle.homeo_build.specs.Plan.{IsPlanOf};
-ghost use Rattle.homeo_effect.specs.Touched.{written, touched_clauses, touched_freezes};
-ghost use Rattle.homeo_site.specs.OwnPrograms.{RunsAs};
-ghost use Rattle.homeo_forecast.specs.inner.Prepared.{IsPrepared};
+ghost use Rattle.homeo_effect.specs.Touched.{WritesOwn, written, touched_clauses, touched_freezes};
+ghost use Rattle.homeo_forecast.specs.inner.Prepared.{AreIndexes, IsPrepared};
 
-use crate::programs::{indexes, programs};
+use crate::indexes::indexes;
 use homeo_build::Compiled;
 use homeo_build::treaties::treaties;
-use homeo_effect::{Program, TreatyIndex};
-use homeo_meaning::{CallId, Database};
+use homeo_effect::TreatyIndex;
+use homeo_meaning::Database;
 use homeo_plan::RoundPlan;
-use homeo_syntax::{List, Memory};
+use homeo_syntax::{LCommand, List, Memory};
 use std::alloc::Global;
 use std::sync::Arc;
 
-/// The plan at a base, what is run for each ground call, and for each site which clauses and freezes stand on each of its deltas.
+/// The plan at a base, and for each site which clauses and freezes stand on each of its deltas.
 #[derive(Drop)]
 pub(crate) struct Prepared {
     pub plan: Arc<RoundPlan, Global>,
-    pub programs: List<Program>,
     pub indexes: List<TreatyIndex>,
 }
 
@@ -50,48 +45,26 @@ impl Prepared {
         // its rules hold
         let _workload = c.workload().workload();
         let plan = plan_at(alloc, c, base)?;
-        let programs = programs(alloc, &plan)?;
         let indexes = indexes(alloc, &plan)?;
-        Ok(Prepared {
-            plan,
-            programs,
-            indexes,
-        })
+        Ok(Prepared { plan, indexes })
     }
 
-    /// Lends what is run for a call, in constant time.
-    pub(crate) fn program(&self, c: &Compiled, call: CallId) -> &Program
-        requires prepared { IsPrepared (plain_workload c.now) self.now.plan.value.base.items self.now }
-        requires exists { CallExists (plain_workload c.now) call }
-        ensures { let w = plain_workload c.now in let base = self.now.plan.value.base.items in
-            RunsAs (values_of base) (planned_at w call).site (length base)
-            (base_row (sites_of w) (values_of base) (planned_at w call)).residual result.now }
-    {
-        let place = c.place(call) as usize;
-        &self.programs.as_slice()[place]
-    }
-
-    /// What a call touches: the numbers of the clauses with a term on a delta that it writes, and those of the freezes that it
-    /// writes, rising. The site is that of the call.
+    /// What commands of a site touch: the numbers of the clauses with a term on a delta that they write, and those of the freezes
+    /// that they write, rising.
     pub(crate) fn touched(
         &self,
         alloc: Global,
-        c: &Compiled,
-        call: CallId,
+        commands: &[LCommand],
         site: u32,
     ) -> Result<(List<u32>, List<u32>), Memory>
-        requires prepared { IsPrepared (plain_workload c.now) self.now.plan.value.base.items self.now }
-        requires exists { CallExists (plain_workload c.now) call }
-        requires site { site ≡ (planned_at (plain_workload c.now) call).site }
-        ensures clauses { let w = plain_workload c.now in let base = self.now.plan.value.base.items in
-            IfOk result (λ r. r.0.items ≡ touched_clauses
-            (written (base_row (sites_of w) (values_of base) (planned_at w call)).residual) (template_at w base)) }
-        ensures freezes { let w = plain_workload c.now in let base = self.now.plan.value.base.items in
-            IfOk result (λ r. r.1.items ≡ touched_freezes
-            (written (base_row (sites_of w) (values_of base) (planned_at w call)).residual) (template_at w base)) }
+        requires indexes { let p = self.now.plan.value in AreIndexes p.template.sites (plain_template p.template) self.now.indexes.items }
+        requires site { site < self.now.plan.value.template.sites }
+        requires own { WritesOwn site (low_commands (map plain_lcommand commands.now)) }
+        ensures clauses { IfOk result (λ r. r.0.items ≡ touched_clauses
+            (written (low_commands (map plain_lcommand commands.now))) (plain_template self.now.plan.value.template)) }
+        ensures freezes { IfOk result (λ r. r.1.items ≡ touched_freezes
+            (written (low_commands (map plain_lcommand commands.now))) (plain_template self.now.plan.value.template)) }
     {
-        let place = c.place(call) as usize;
-        let commands = self.plan.residuals.as_slice()[place].commands.as_slice();
         let index = &self.indexes.as_slice()[site as usize];
         let clauses = index.clauses_touched(alloc, commands)?;
         let freezes = index.freezes_touched(alloc, commands)?;

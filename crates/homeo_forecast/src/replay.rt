@@ -16,7 +16,7 @@ ghost use Rattle.homeo_split.specs.CanExec.{run_limit, can_exec_all};
 ghost use Rattle.homeo_effect.specs.OwnState.{own_state};
 ghost use Rattle.homeo_effect.specs.Program.{plain_program, set_after_all, prints_of_all};
 ghost use Rattle.homeo_effect.specs.Touched.{written};
-ghost use Rattle.homeo_site.specs.OwnPrograms.{RunsAs};
+ghost use Rattle.homeo_site.specs.OwnCalls.{RunsAs, AreOwnCalls};
 ghost use Rattle.homeo_forecast.specs.Peaks.{first_stop, peak_config};
 ghost use Rattle.homeo_forecast.specs.View.{plain_stop};
 ghost use Rattle.homeo_forecast.specs.Visits.{Visit, visits, next_visit};
@@ -35,6 +35,7 @@ use homeo_build::Compiled;
 use homeo_effect::Program;
 use homeo_meaning::CallId;
 use homeo_plan::{Clause, Config, RoundPlan, Template};
+use homeo_site::OwnCalls;
 use homeo_syntax::Memory;
 use std::alloc::Global;
 
@@ -152,11 +153,14 @@ impl Replay {
         alloc: Global,
         c: &Compiled,
         prepared: &Prepared,
+        own_calls: &mut OwnCalls,
         call: CallId,
     ) -> Result<Option<Stop>, Memory>
         requires prepared { IsPrepared (plain_workload c.now) prepared.now.plan.value.base.items prepared.now }
         requires exists { CallExists (plain_workload c.now) call }
         requires replay { IsSomeReplay (plain_workload c.now) prepared.now.plan.value.base.items self.old }
+        requires made { AreOwnCalls (plain_workload c.now) prepared.now.plan.value.base.items own_calls.old }
+        ensures made { AreOwnCalls (plain_workload c.now) prepared.now.plan.value.base.items own_calls.new }
         ensures kept { (before : List CallId) → let w = plain_workload c.now in let base = prepared.now.plan.value.base.items in
             IsReplay w base before self.old → IfOk result (λ o. o ≡ None → IsReplay w base (before ++ call ∷ []) self.new) }
         ensures stop { (before : List CallId) → let w = plain_workload c.now in let base = prepared.now.plan.value.base.items in
@@ -164,11 +168,12 @@ impl Replay {
             first_stop (sites_of w) (template_at w base) (visits w base before) (next_visit w base before call)) }
         ensures rooms { IfOk result (λ o. IsSome o → self.new.rooms ≡ self.old.rooms) }
     {
-        let program = prepared.program(c, call);
-        let site = program.site;
-        let (clauses, freezes) = prepared.touched(alloc, c, call, site)?;
+        let made = own_calls.get(alloc, c, &prepared.plan.base, call)?;
+        let own = &*made;
+        let site = own.program.site;
+        let (clauses, freezes) = prepared.touched(alloc, own.commands.as_slice(), site)?;
         let deltas = &mut self.deltas[site as usize];
-        run(alloc, program, deltas)?;
+        run(alloc, &own.program, deltas)?;
         let stop = first_stop(
             alloc,
             &prepared.plan.template,

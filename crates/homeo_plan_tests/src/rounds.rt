@@ -6,12 +6,13 @@ ghost use Rattle.homeo_meaning.specs.Schema.{schema_of};
 use crate::texts::{ONE_WRITER, TWICE, WEIGHTED, accepted};
 use homeo_build::Compiled;
 use homeo_build::compile::compile;
+use homeo_build::residuals::residual;
 use homeo_build::shares::shares;
 use homeo_build::treaties::treaties;
 use homeo_eval::initial;
 use homeo_meaning::Accepted;
-use homeo_plan::{Clause, Delta, RoundPlan, Term};
-use homeo_syntax::{List, Memory, Numbers};
+use homeo_plan::{Clause, Delta, Residual, RoundPlan, Term};
+use homeo_syntax::{LCommand, List, Memory, Numbers, SplitName};
 use std::alloc::Global;
 use std::test::Fail;
 
@@ -62,13 +63,6 @@ fn bounds_both_writes(plan: &RoundPlan) -> bool {
     }
 }
 
-fn has_one_residual(plan: &RoundPlan, site: u32) -> bool {
-    match plan.residuals.as_slice() {
-        [residual] => residual.site == site,
-        _ => false,
-    }
-}
-
 #[test]
 fn a_second_write_is_bounded_on_what_the_first_one_wrote(rt: HostRuntime) -> Result<(), Fail> {
     let alloc = rt.alloc();
@@ -78,7 +72,47 @@ fn a_second_write_is_bounded_on_what_the_first_one_wrote(rt: HostRuntime) -> Res
     assert_eq!(rt; plan.template.sites, 2);
     assert!(rt; bounds_both_writes(&plan));
     assert_eq!(rt; plan.template.freezes.as_slice().len(), 0);
-    assert!(rt; has_one_residual(&plan, 0));
+    Ok(())
+}
+
+/// The residual of the first ground call, in the round that begins at the starting values.
+fn first_residual(alloc: Global, c: &Compiled) -> Result<Residual, Fail> {
+    if c.calls().is_empty() {
+        return Err(Fail::from("a call"));
+    }
+    let base = initial(alloc, c.workload())?;
+    Ok(residual(alloc, c, &base, 0)?)
+}
+
+fn residual_of(alloc: Global, w: Accepted) -> Result<Residual, Fail> {
+    let compiled = compile(alloc, w)?;
+    first_residual(alloc, &compiled)
+}
+
+/// Whether it writes the delta of the first object at site 0.
+fn writes_first(command: &LCommand) -> bool {
+    matches!(
+        command,
+        LCommand::Write {
+            target: SplitName::Delta { object: 0, site: 0 },
+            ..
+        }
+    )
+}
+
+#[test]
+fn a_residual_writes_deltas_of_its_site(rt: HostRuntime) -> Result<(), Fail> {
+    let alloc = rt.alloc();
+    let w = accepted(&rt, alloc, TWICE)?;
+    let residual = residual_of(alloc, w)?;
+    assert_eq!(rt; residual.site, 0);
+    match residual.commands.as_slice() {
+        [first, second] => {
+            assert!(rt; writes_first(first));
+            assert!(rt; writes_first(second));
+        }
+        _ => panic!(rt; "two writes"),
+    }
     Ok(())
 }
 

@@ -1,3 +1,2 @@
 pub mod FirstCalls
-pub mod FirstResidual
 pub mod SiteSteps

@@ -8,6 +8,7 @@ ghost use Rattle.homeo_print.specs.Names.{object_names};
 use crate::texts::{THREE_AND_ONE, accepted, shop};
 use homeo_build::Compiled;
 use homeo_build::compile::compile;
+use homeo_build::residuals::residual;
 use homeo_core::plan_at;
 use homeo_effect::{SiteEffects, TreatyIndex, effects};
 use homeo_eval::initial;
@@ -46,13 +47,12 @@ fn first_effects(
     if template.clauses.as_slice().len() > 9 || template.freezes.as_slice().len() > 9 {
         return Err(Fail::from("a small treaty"));
     }
-    match plan.residuals.as_slice() {
-        [residual, ..] => {
-            let index = TreatyIndex::of(alloc, plan, residual.site)?;
-            Ok(effects(alloc, residual, &index, base)?)
-        }
-        _ => Err(Fail::from("a call")),
+    if c.calls().is_empty() {
+        return Err(Fail::from("a call"));
     }
+    let residual = residual(alloc, c, base, 0)?;
+    let index = TreatyIndex::of(alloc, plan, residual.site)?;
+    Ok(effects(alloc, &residual, &index, base)?)
 }
 
 /// The commands as those of a row without tests.

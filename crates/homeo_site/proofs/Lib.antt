@@ -1,3 +1,4 @@
+pub mod AttemptRuns
 pub mod CallsOfSites
 pub mod FailureSteps
 pub mod FirstFailures

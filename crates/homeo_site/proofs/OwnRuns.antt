@@ -22,7 +22,7 @@ use Rattle.homeo_history.specs.Legal.{IsCallAt}
 use Rattle.homeo_site.specs.Key.{words}
 use Rattle.homeo_site.specs.SiteState.{SiteState, step_prints, step_values, step_deltas, step_finding}
 use Rattle.homeo_site.specs.inner.Failures.{first_of, first_failure, own_failure, own_freeze_failure}
-use Rattle.homeo_site.specs.OwnPrograms.{RunsAs}
+use Rattle.homeo_site.specs.OwnCalls.{RunsAs}
 use Rattle.homeo_site.specs.OwnTreaty.{OwnClause, SumsFit, own_clauses}
 use Rattle.homeo_site.specs.Attempts.{step_commands}
 use Rattle.homeo_site.specs.inner.Ready.{IsReady}

@@ -11,6 +11,7 @@ use Rattle.homeo_syntax.specs.SourceView.{plain_workload}
 use Rattle.homeo_meaning.specs.Key.{words as meaning_words}
 use Rattle.homeo_meaning.specs.declared.call.CallId.{CallId}
 use Rattle.homeo_meaning.specs.LowMeaning.{State, exec, exec_all}
+use Rattle.homeo_meaning.specs.Serial.{values_of}
 use Rattle.homeo_plan.specs.Key.{words as plan_words}
 use Rattle.homeo_plan.specs.Needs.{IsStraight}
 use Rattle.homeo_plan.specs.Planned.{planned_at, template_at, policy}
@@ -19,6 +20,7 @@ use Rattle.homeo_plan.proofs.PlannedCalls.{planned_member}
 use Rattle.homeo_effect.specs.Key.{words as effect_words}
 use Rattle.homeo_effect.specs.Counts.{assignment_count, print_count}
 use Rattle.homeo_effect.specs.Touched.{written, touched_clauses, touched_freezes}
+use Rattle.homeo_effect.specs.declared.program.Program.{Program}
 use Rattle.homeo_history.specs.Key.{words as history_words}
 use Rattle.homeo_history.specs.History as h
 use Rattle.homeo_history.specs.HistoryView.{plain_entry, plain_segment}
@@ -27,6 +29,7 @@ use Rattle.homeo_history.specs.declared.history.Entry.{Entry}
 use Rattle.homeo_history.specs.declared.history.Segment.{Segment}
 use Rattle.homeo_site.specs.Key.{words}
 use Rattle.homeo_site.specs.Attempts.{step_commands, IsChange, IsEmptyCopy}
+use Rattle.homeo_site.specs.OwnCalls.{RunsAs}
 use Rattle.homeo_site.specs.SiteState.{SiteState, SiteHolds, KeepsCall, step_prints, step_values, step_deltas, step_finding, local_entry, after_local}
 use Rattle.homeo_site.specs.SiteView.{StartValue, SiteValue}
 use Rattle.homeo_site.specs.declared.attempts.Change.{Change}
@@ -72,6 +75,19 @@ module _
     pub commands_here : step_commands (plain_workload v.work) (with_deltas v d) call ≡ step_commands (plain_workload u.work) u.state call
     unfolding words
     commands_here = ap (λ (y : SiteValue). step_commands (plain_workload y.work) y.state call) is
+
+    pub program_here :
+        (p : Program) →
+        RunsAs (values_of u.state.base) u.state.number (length u.state.base) (step_commands (plain_workload u.work) u.state call) p →
+        RunsAs (values_of v.base) v.number (length v.base) (step_commands (plain_workload v.work) (with_deltas v d) call) p
+    unfolding words
+    program_here p own =
+        subst
+        (λ (y : SiteValue). RunsAs (values_of y.state.base) y.state.number (length y.state.base) (step_commands (plain_workload y.work) y.state call) p)
+        (sym is) own
+
+    pub call_here : IsCallAt (plain_workload u.work) u.state.number call → IsCallAt (plain_workload v.work) v.number call
+    call_here at = subst (λ (y : SiteValue). IsCallAt (plain_workload y.work) y.state.number call) (sym is) at
 
     pub clauses_here :
         (ns : List ℕ) →

@@ -1,9 +1,10 @@
 -- What contracts see of a site, from what its parts hold.
-use Rattle.std.proofs.Common.{◌≡◌, ℕ, List, [], map, replicate, ℤ, pos, All, refl, sym, ap, ◌∙◌, subst, arith}
+use Rattle.std.proofs.Common.{◌≡◌, ℕ, List, [], length, map, replicate, ℤ, pos, All, refl, sym, ap, ◌∙◌, subst, arith}
 use Rattle.std.proofs.lemmas.List.Elements.{All-replicate}
 use Rattle.homeo_syntax.specs.Listed.{Listed}
 use Rattle.homeo_syntax.specs.SourceView.{plain_workload}
 use Rattle.homeo_meaning.specs.declared.call.CallId.{CallId}
+use Rattle.homeo_meaning.specs.Serial.{values_of}
 use Rattle.homeo_plan.specs.Planned.{template_at}
 use Rattle.homeo_effect.specs.Counts.{assignment_count, print_count}
 use Rattle.homeo_effect.specs.Touched.{written, touched_clauses, touched_freezes}
@@ -13,6 +14,7 @@ use Rattle.homeo_history.specs.declared.history.Entry.{Entry}
 use Rattle.homeo_history.specs.declared.history.Segment.{Segment}
 use Rattle.homeo_site.specs.Key.{words}
 use Rattle.homeo_site.specs.Attempts.{step_commands, IsRoom, IsEmptyCopy}
+use Rattle.homeo_site.specs.OwnCalls.{RunsAs}
 use Rattle.homeo_site.specs.SiteState.{SiteHolds, begun}
 use Rattle.homeo_site.specs.SiteView.{StartValue, SiteValue}
 use Rattle.homeo_site.specs.declared.attempts.Room.{Room}
@@ -77,15 +79,18 @@ spare_changed v x s t u same is =
 pub room_is :
     (v : StartValue) (x : List ℤ) (s : Segment) (u : SiteValue) (call : CallId) (r : Room) (temporaries prints : ℕ) → value_in v x s ≡ u →
     temporaries ≡ assignment_count (step_commands (plain_workload v.work) (state_in v x s) call) →
-    prints ≡ print_count (step_commands (plain_workload v.work) (state_in v x s) call) → r.call ≡ call → r.deltas.items ≡ x →
+    prints ≡ print_count (step_commands (plain_workload v.work) (state_in v x s) call) → r.call ≡ call →
+    RunsAs (values_of v.base) v.number (length v.base) (step_commands (plain_workload v.work) (state_in v x s) call) r.own.value.program →
+    r.deltas.items ≡ x →
     r.prints ≡ record { items = []; spare = prints } → r.temporaries.items ≡ replicate temporaries (pos 0) →
     r.clauses.items ≡ touched_clauses (written (step_commands (plain_workload v.work) (state_in v x s) call)) (template_at (plain_workload v.work) v.base) →
     r.freezes.items ≡ touched_freezes (written (step_commands (plain_workload v.work) (state_in v x s) call)) (template_at (plain_workload v.work) v.base) →
     IsRoom (plain_workload u.work) u.state call r
-room_is v x s u call r temporaries prints is assigned printed name deltas empty zeros clauses freezes =
+room_is v x s u call r temporaries prints is assigned printed name own deltas empty zeros clauses freezes =
     subst (λ (y : SiteValue). IsRoom (plain_workload y.work) y.state call r) is
     (record {
       call = name;
+      own = own;
       deltas = deltas;
       prints = ap (λ (l : Listed ℤ). l.items) empty;
       temporaries = zeros ∙ ap (λ n. replicate n (pos 0)) assigned;

@@ -1,5 +1,5 @@
 -- What an attempt of a call comes to, and the room that it takes.
-use Rattle.std.specs.Prelude.{◌≡◌, ◌≤◌, List, [], replicate, ℤ, pos, Some}
+use Rattle.std.specs.Prelude.{◌≡◌, ◌≤◌, List, [], length, replicate, ℤ, pos, Some}
 use Rattle.homeo_syntax.specs.Source as s
 use Rattle.homeo_syntax.specs.Low.{Commands}
 use Rattle.homeo_syntax.specs.Listed.{Listed}
@@ -10,6 +10,7 @@ use Rattle.homeo_plan.specs.Template.{base_row}
 use Rattle.homeo_effect.specs.Counts.{assignment_count, print_count}
 use Rattle.homeo_effect.specs.Touched.{written, touched_clauses, touched_freezes}
 use Rattle.homeo_site.specs.Key.{words}
+use Rattle.homeo_site.specs.OwnCalls.{RunsAs}
 use Rattle.homeo_site.specs.SiteState.{SiteState, KeepsCall, step_prints, step_deltas, step_finding}
 use Rattle.homeo_site.specs.declared.attempts.Change.{Change}
 use Rattle.homeo_site.specs.declared.attempts.Outcome.{Outcome}
@@ -35,10 +36,11 @@ abbrev pub step_commands : s.Workload → SiteState → CallId → Commands
 unfolding words
 step_commands w x call = (base_row (sites_of w) (values_of x.base) (planned_at w call)).residual
 
--- room for a call: the site's deltas, no prints, a 0 for each assignment, room for each print, and the numbers of what the
--- call touches of the template
+-- room for a call: what the site runs for it, the site's deltas, no prints, a 0 for each assignment, room for each print, and the
+-- numbers of what the call touches of the template
 pub record IsRoom (w : s.Workload) (x : SiteState) (id : CallId) (r : Room) : Type 0 where
   pub call : r.call ≡ id
+  pub own : RunsAs (values_of x.base) x.number (length x.base) (step_commands w x id) r.own.value.program
   pub deltas : r.deltas.items ≡ x.deltas
   pub prints : r.prints.items ≡ []
   pub temporaries : r.temporaries.items ≡ replicate (assignment_count (step_commands w x id)) (pos 0)

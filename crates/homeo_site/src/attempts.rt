@@ -1,8 +1,11 @@
 //! What attempts of calls come to, and the room that they take.
 
+use crate::own_calls::OwnCall;
 use homeo_meaning::{CallId, Database};
 use homeo_plan::Broken;
 use homeo_syntax::{List, Numbers, Prints};
+use std::alloc::Global;
+use std::sync::Arc;
 
 /// What the attempt of a call at its site comes to (Roy et al., SIGMOD 2015).
 #[derive(Drop)]
@@ -27,6 +30,8 @@ pub struct Change {
 #[derive(Drop)]
 pub struct Room {
     pub call: CallId,
+    /// What the site runs for it.
+    pub own: Arc<OwnCall, Global>,
     /// The site's deltas before the call, one for each object.
     pub deltas: Database,
     /// No prints, with room for those of the call.

@@ -5,12 +5,13 @@
 mod attempts;
 pub mod laws;
 mod lists;
-mod own_programs;
+mod own_calls;
 mod own_round;
 mod own_treaty;
 mod site;
 mod start;
 
 pub use attempts::{Change, Outcome, Room};
+pub use own_calls::{OwnCall, OwnCalls};
 pub use site::Site;
 pub use start::SiteStart;

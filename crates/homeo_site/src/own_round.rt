@@ -1,30 +1,25 @@
 //! What a site keeps of a round besides its deltas.
 
-ghost use Rattle.std.specs.Prelude.{◌≡◌, ◌+◌, ◌<◌, ◌≤◌, ◌++◌, All, length, IfOk};
+ghost use Rattle.std.specs.Prelude.{◌≡◌, ◌+◌, ◌<◌, ◌≤◌, All, length, map, IfOk};
+ghost use Rattle.homeo_syntax.specs.LowView.{low_commands, plain_lcommand};
 ghost use Rattle.homeo_syntax.specs.SourceView.{plain_workload};
-ghost use Rattle.homeo_meaning.specs.Acceptance.{IsAccepted};
 ghost use Rattle.homeo_meaning.specs.Serial.{values_of};
 ghost use Rattle.homeo_plan.specs.Planned.{sites_of, planned_at, template_at, policy};
 ghost use Rattle.homeo_plan.specs.PlanView.{plain_config};
-ghost use Rattle.homeo_plan.specs.Template.{base_row};
 ghost use Rattle.homeo_build.specs.Plan.{IsPlanOf};
 ghost use Rattle.homeo_history.specs.Legal.{IsCallAt};
-ghost use Rattle.homeo_effect.specs.Counts.{assignment_count, print_count};
-ghost use Rattle.homeo_effect.specs.Touched.{written, touched_clauses, touched_freezes};
-ghost use Rattle.homeo_site.specs.Attempts.{step_commands};
-ghost use Rattle.homeo_site.specs.SiteState.{step_prints, step_deltas, step_finding};
-ghost use Rattle.homeo_site.specs.inner.Failures.{first_of, first_failure, own_failure, own_freeze_failure};
-ghost use Rattle.homeo_site.specs.OwnPrograms.{RunsAs};
+ghost use Rattle.homeo_effect.specs.Touched.{WritesOwn, written, touched_clauses, touched_freezes};
+ghost use Rattle.homeo_site.specs.OwnCalls.{IsOwnCall};
 ghost use Rattle.homeo_site.specs.OwnTreaty.{own_clauses, SumsFit};
-ghost use Rattle.homeo_site.specs.inner.Ready.{IsReady, with_deltas};
+ghost use Rattle.homeo_site.specs.inner.Failures.{first_of, first_failure, own_failure, own_freeze_failure};
 
-use crate::own_programs::own_programs;
+use crate::own_calls::{OwnCall, OwnCalls};
 use crate::own_treaty::{OwnClause, first_clause, first_freeze, own_clauses, own_index};
 use homeo_build::Compiled;
-use homeo_effect::{Program, TreatyIndex};
+use homeo_effect::TreatyIndex;
 use homeo_meaning::CallId;
 use homeo_plan::{Broken, RoundPlan};
-use homeo_syntax::{List, Memory, Prints};
+use homeo_syntax::{LCommand, List, Memory};
 use std::alloc::Global;
 use std::marker::Model;
 use std::sync::Arc;
@@ -38,7 +33,7 @@ pub(crate) struct OwnRound {
     site: u32,
     round: u64,
     clauses: List<OwnClause>,
-    programs: List<Option<Program>>,
+    calls: OwnCalls,
     index: TreatyIndex,
 }
 
@@ -60,7 +55,7 @@ impl Model for OwnRound {
       base = r.plan.value.base.items;
     } };
 
-    ghost invariant = { λ r. IsOwnRound (plain_workload r.compiled.value) r.plan.value r.site r.clauses.items r.programs.items r.index };
+    ghost invariant = { λ r. IsOwnRound (plain_workload r.compiled.value) r.plan.value r.site r.clauses.items r.calls r.index };
 }
 
 impl OwnRound {
@@ -85,7 +80,7 @@ impl OwnRound {
         // its rules hold
         let _workload = compiled.workload().workload();
         let clauses = own_clauses(alloc, plan.template.clauses.as_slice(), &plan.config, site)?;
-        let programs = own_programs(alloc, plan, site)?;
+        let calls = OwnCalls::new(alloc, compiled)?;
         let index = own_index(alloc, plan, site)?;
         Ok(OwnRound {
             compiled: Arc::try_clone(compiled)?,
@@ -93,7 +88,7 @@ impl OwnRound {
             site,
             round,
             clauses,
-            programs,
+            calls,
             index,
         })
     }
@@ -110,44 +105,40 @@ impl OwnRound {
         self.round
     }
 
-    /// Lends what the site runs for a call of one of its clients, in constant time.
-    pub(crate) fn program(&self, call: CallId) -> &Program
-        requires { IsCallAt (plain_workload self.now.work) self.now.number call }
-        ensures { let w = plain_workload self.now.work in let base = self.now.base in
-            RunsAs (values_of base) self.now.number (length base)
-            (base_row (sites_of w) (values_of base) (planned_at w call)).residual result.now }
+    /// What the site runs for a call of one of its clients. It is made at the first attempt of its ground call in the round.
+    pub(crate) fn own_call(
+        &mut self,
+        alloc: Global,
+        call: CallId,
+    ) -> Result<Arc<OwnCall, Global>, Memory>
+        requires { IsCallAt (plain_workload self.old.work) self.old.number call }
+        ensures same { self.new ≡ self.old }
+        ensures call { let w = plain_workload self.old.work in
+            IfOk result (λ o. IsOwnCall w self.old.base (planned_at w call) o.value) }
     {
-        let place = self.compiled.place(call) as usize;
-        match &self.programs.as_slice()[place] {
-            Some(program) => program,
-            None => unreachable!(),
-        }
+        self.calls.get(alloc, &self.compiled, &self.plan.base, call)
     }
 
-    /// What of the treaty a call of one of the site's clients touches: the numbers of the clauses with a term on a delta that it
-    /// writes, and those of the freezes that it writes, rising.
+    /// What of the treaty commands of the site touch: the numbers of the clauses with a term on a delta that they write, and those
+    /// of the freezes that they write, rising.
     pub(crate) fn touched(
         &self,
         alloc: Global,
-        call: CallId,
+        commands: &[LCommand],
     ) -> Result<(List<u32>, List<u32>), Memory>
-        requires { IsCallAt (plain_workload self.now.work) self.now.number call }
-        ensures clauses { let w = plain_workload self.now.work in let base = self.now.base in
-            IfOk result (λ r. r.0.items ≡ touched_clauses
-            (written (base_row (sites_of w) (values_of base) (planned_at w call)).residual) (template_at w base)) }
-        ensures freezes { let w = plain_workload self.now.work in let base = self.now.base in
-            IfOk result (λ r. r.1.items ≡ touched_freezes
-            (written (base_row (sites_of w) (values_of base) (planned_at w call)).residual) (template_at w base)) }
+        requires { WritesOwn self.now.number (low_commands (map plain_lcommand commands.now)) }
+        ensures clauses { IfOk result (λ r. r.0.items ≡
+            touched_clauses (written (low_commands (map plain_lcommand commands.now))) (template_at (plain_workload self.now.work) self.now.base)) }
+        ensures freezes { IfOk result (λ r. r.1.items ≡
+            touched_freezes (written (low_commands (map plain_lcommand commands.now))) (template_at (plain_workload self.now.work) self.now.base)) }
     {
-        let place = self.compiled.place(call) as usize;
-        let commands = self.plan.residuals.as_slice()[place].commands.as_slice();
         let clauses = self.index.clauses_touched(alloc, commands)?;
         let freezes = self.index.freezes_touched(alloc, commands)?;
         Ok((clauses, freezes))
     }
 
-    /// The first that fails of clauses and freezes of these numbers.
-    fn first_failure(&self, clauses: &[u32], freezes: &[u32], deltas: &[i64]) -> Option<Broken>
+    /// The first that fails of clauses and freezes of these numbers, where the site has these deltas.
+    pub(crate) fn first_failure(&self, clauses: &[u32], freezes: &[u32], deltas: &[i64]) -> Option<Broken>
         requires clauses { All (λ n. n < length (template_at (plain_workload self.now.work) self.now.base).clauses) clauses.now }
         requires freezes { let t = template_at (plain_workload self.now.work) self.now.base in
             All (λ n. (length t.clauses ≤ n) × (n < length t.clauses + length t.freezes)) freezes.now }
@@ -171,38 +162,5 @@ impl OwnRound {
             self.site,
             deltas,
         )
-    }
-
-    /// Runs a call of one of the site's clients on the site's deltas, and gives what fails first of the treaty afterwards. The
-    /// numbers of the clauses and freezes must be those of what the call touches. It takes no memory.
-    pub(crate) fn run(
-        &self,
-        call: CallId,
-        clauses: &[u32],
-        freezes: &[u32],
-        deltas: &mut [i64],
-        temporaries: &mut [i64],
-        prints: &mut Prints,
-    ) -> Option<Broken>
-        requires accepted { IsAccepted (plain_workload self.now.work) }
-        requires ready { IsReady (plain_workload self.now.work) (with_deltas self.now deltas.old) }
-        requires call { IsCallAt (plain_workload self.now.work) self.now.number call }
-        requires clauses { clauses.now ≡
-            touched_clauses (written (step_commands (plain_workload self.now.work) (with_deltas self.now deltas.old) call))
-            (template_at (plain_workload self.now.work) self.now.base) }
-        requires freezes { freezes.now ≡
-            touched_freezes (written (step_commands (plain_workload self.now.work) (with_deltas self.now deltas.old) call))
-            (template_at (plain_workload self.now.work) self.now.base) }
-        requires temporaries { assignment_count (step_commands (plain_workload self.now.work) (with_deltas self.now deltas.old) call)
-            ≤ length temporaries.old }
-        requires spare { print_count (step_commands (plain_workload self.now.work) (with_deltas self.now deltas.old) call) ≤ prints.old.spare }
-        ensures failure { result ≡ step_finding (plain_workload self.now.work) (with_deltas self.now deltas.old) call }
-        ensures deltas { deltas.new ≡ step_deltas (plain_workload self.now.work) (with_deltas self.now deltas.old) call }
-        ensures prints { prints.new.items ≡ prints.old.items ++
-            step_prints (plain_workload self.now.work) (with_deltas self.now deltas.old) call }
-    {
-        let program = self.program(call);
-        program.run(deltas, temporaries, prints);
-        self.first_failure(clauses, freezes, deltas)
     }
 }

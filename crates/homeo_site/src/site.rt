@@ -137,16 +137,18 @@ impl Site {
         ensures copies { IfOk result (λ r. All (IsEmptyCopy (plain_workload self.old.work) self.old.state call) r.1.items) }
         ensures spare { OnOk result (1 ≤ self.new.spare) }
     {
-        let program = self.own.program(call);
-        let count = u64::from(program.prints);
-        let temporaries = zeros(alloc, program.temporaries as usize)?;
-        let (clauses, freezes) = self.own.touched(alloc, call)?;
+        let own = self.own.own_call(alloc, call)?;
+        let run = &*own;
+        let count = u64::from(run.program.prints);
+        let temporaries = zeros(alloc, run.program.temporaries as usize)?;
+        let (clauses, freezes) = self.own.touched(alloc, run.commands.as_slice())?;
         let deltas = Vec::from_slice(alloc, self.deltas.as_slice())?;
         let prints = empty_prints(alloc, count)?;
         let lists = empty_copies(alloc, copies, count)?;
         self.segment.entries.reserve(1)?;
         let room = Room {
             call,
+            own,
             deltas: List::from_vec(deltas),
             prints,
             temporaries,
@@ -172,6 +174,7 @@ impl Site {
     {
         let Room {
             call: _,
+            own,
             deltas,
             mut prints,
             temporaries,
@@ -180,13 +183,15 @@ impl Site {
         } = room;
         let mut deltas = deltas.into_vec();
         let mut temporaries = temporaries.into_vec();
-        let failure = self.own.run(
-            call,
-            clauses.as_slice(),
-            freezes.as_slice(),
+        own.program.run(
             deltas.as_mut_slice(),
             temporaries.as_mut_slice(),
             &mut prints,
+        );
+        let failure = self.own.first_failure(
+            clauses.as_slice(),
+            freezes.as_slice(),
+            deltas.as_slice(),
         );
         match failure {
             Some(broken) => Outcome::Breaks(broken),

@@ -4,17 +4,15 @@ use Rattle.homeo_meaning.specs.Serial.{values_of}
 use Rattle.homeo_plan.specs.PlanView.{plain_atoms}
 use Rattle.homeo_plan.specs.Planned.{sites_of}
 use Rattle.homeo_plan.specs.Template.{atoms_of, needs_of}
-use Rattle.homeo_build.specs.Plan.{sited_residual, residual_at}
 use Rattle.homeo_build.proofs.GroundCalls.{of_call}
 use Rattle.homeo_build.proofs.calls.plan_calls.Given as goal
 
 abbrev pub invariant-loop-i : goal.invariant-loop-i
 invariant-loop-i l =
     let w = plain_workload l.c in
-    let b = values_of l.split.base.items in
+    let b = values_of l.base.items in
     let calls = take l.i l.call-items in
     record {
-      atoms : map plain_atoms l.planned.atoms.items ≡ map (of_call w (atoms_of (sites_of w) b)) calls;
-      needs : map (λ f. f.deltas.items) l.planned.needs.items ≡ map (of_call w (needs_of (sites_of w) b)) calls;
-      residuals : map sited_residual l.planned.residuals.items ≡ map (of_call w (residual_at (sites_of w) b)) calls;
+      atoms : map plain_atoms l.atoms.items ≡ map (of_call w (atoms_of (sites_of w) b)) calls;
+      needs : map (λ f. f.deltas.items) l.needs.items ≡ map (of_call w (needs_of (sites_of w) b)) calls;
     }

@@ -6,6 +6,7 @@ use Rattle.homeo_meaning.specs.declared.call.CallId.{CallId}
 use Rattle.homeo_meaning.specs.Calls.{CallExists}
 use Rattle.homeo_plan.specs.PlanView.{plain_template}
 use Rattle.homeo_plan.specs.declared.round.RoundPlan.{RoundPlan}
+use Rattle.homeo_site.specs.OwnCalls.{AreOwnCalls}
 use Rattle.homeo_forecast.specs.declared.rooms.Room.{Room}
 use Rattle.homeo_forecast.specs.inner.Replays.{CanBound}
 use Rattle.homeo_forecast.specs.inner.Rooms.{HaveRooms}
@@ -24,9 +25,13 @@ loop-kept-init c =
     let p = c.in_ok-prepared.prepared in
     let r = c.in_ok-replay.replay in
     let same = c.deref.ensures in
-    begun_at w base p r c.in_ok-prepared.ensures
-    (c.in_ok-replay.ensures.deltas ∙ ap (λ (q : RoundPlan). replicate q.template.sites (replicate (length q.base.items) (pos 0))) same)
-    (subst (λ (q : RoundPlan). HaveRooms q.template.sites [] (plain_template q.template).clauses r.rooms.items) same c.in_ok-replay.ensures.rooms)
+    record {
+      replay =
+          begun_at w base p r c.in_ok-prepared.ensures
+          (c.in_ok-replay.ensures.deltas ∙ ap (λ (q : RoundPlan). replicate q.template.sites (replicate (length q.base.items) (pos 0))) same)
+          (subst (λ (q : RoundPlan). HaveRooms q.template.sites [] (plain_template q.template).clauses r.rooms.items) same c.in_ok-replay.ensures.rooms);
+      made = c.in_ok-own_calls.ensures base;
+    }
 
 pub call-requires-clause-prepared : goal.call-requires-clause-prepared
 call-requires-clause-prepared c =
@@ -38,14 +43,14 @@ call-requires-clause-exists c =
 
 pub call-requires-clause-replay : goal.call-requires-clause-replay
 call-requires-clause-replay c =
-    some_replay (plain_workload c.args.c.now) c.args.base.now.items c.in_ok-prepared.prepared _ c.loop-kept.replay c.in_ok-prepared.ensures c.loop-kept.invariant
+    some_replay (plain_workload c.args.c.now) c.args.base.now.items c.in_ok-prepared.prepared _ c.loop-kept.replay c.in_ok-prepared.ensures c.loop-kept.invariant.replay
 
 pub config-requires : goal.config-requires
 config-requires c =
     let same = c.in_ok-stop.ensures.rooms (sym c.if-is_some.ensures) in
     subst CanBound (sym (ap (λ (v : Vec Room Global). v.items) same))
     (can_bound (plain_workload c.args.c.now) c.args.base.now.items c.args.calls.now c.in_ok-prepared.ensures.accepted c.requires.exist _ c.loop-kept.replay
-    c.loop-kept.invariant)
+    c.loop-kept.invariant.replay)
 
 pub returns-then-is_some : goal.returns-then-is_some
 returns-then-is_some c =
@@ -57,8 +62,8 @@ returns-then-is_some c =
     let r = c.loop-kept.replay in
     let same = c.in_ok-stop.ensures.rooms (sym c.if-is_some.ensures) in
     stopped_there w base calls c.in_ok-prepared.ensures.accepted c.requires.exist n none r c.call.new.self.rooms.items _ c.in_ok-stop.stop
-    c.loop-kept-test.true c.loop-kept.invariant (sym c.if-is_some.ensures)
-    (c.in_ok-stop.ensures.stop (take n calls) (on_plan w base p (take n calls) r c.in_ok-prepared.ensures c.loop-kept.invariant)
+    c.loop-kept-test.true c.loop-kept.invariant.replay (sym c.if-is_some.ensures)
+    (c.in_ok-stop.ensures.stop (take n calls) (on_plan w base p (take n calls) r c.in_ok-prepared.ensures c.loop-kept.invariant.replay)
     ∙ same_stop w base p (take n calls) (get_or calls n none) c.in_ok-prepared.ensures)
     c.in_ok-config.ensures (ap (λ (v : Vec Room Global). v.items) same)
 
@@ -69,17 +74,25 @@ loop-kept-preserved c =
     let calls : List CallId = c.args.calls.now in
     let p = c.in_ok-prepared.prepared in
     let n = c.loop-kept.kept in
-    kept_on w base calls c.in_ok-prepared.ensures.accepted c.requires.exist n none c.call.new.self c.loop-kept-test.true
-    (off_plan w base p (take n calls ++ get_or calls n none ∷ []) c.call.new.self c.in_ok-prepared.ensures
-    (c.in_ok-stop.ensures.kept (take n calls) (on_plan w base p (take n calls) c.loop-kept.replay c.in_ok-prepared.ensures c.loop-kept.invariant)
-    (none_is c.in_ok-stop.stop (sym c.if-is_some.ensures))))
+    record {
+      replay =
+          kept_on w base calls c.in_ok-prepared.ensures.accepted c.requires.exist n none c.call.new.self c.loop-kept-test.true
+          (off_plan w base p (take n calls ++ get_or calls n none ∷ []) c.call.new.self c.in_ok-prepared.ensures
+          (c.in_ok-stop.ensures.kept (take n calls) (on_plan w base p (take n calls) c.loop-kept.replay c.in_ok-prepared.ensures c.loop-kept.invariant.replay)
+          (none_is c.in_ok-stop.stop (sym c.if-is_some.ensures))));
+      made = subst (λ b. AreOwnCalls w b c.call.new.own_calls) c.in_ok-prepared.ensures.plan.base c.in_ok-stop.ensures.made;
+    }
+
+pub call-requires-clause-made : goal.call-requires-clause-made
+call-requires-clause-made c =
+    subst (λ b. AreOwnCalls (plain_workload c.args.c.now) b c.loop-kept.own_calls) (sym c.in_ok-prepared.ensures.plan.base) c.loop-kept.invariant.made
 
 pub config-requires-2 : goal.config-requires-2
 config-requires-2 c =
     can_bound (plain_workload c.args.c.now) c.args.base.now.items c.args.calls.now c.in_ok-prepared.ensures.accepted c.requires.exist _ c.loop-kept.replay
-    c.loop-kept.invariant
+    c.loop-kept.invariant.replay
 
 pub returns : goal.returns
 returns c =
     all_kept (plain_workload c.args.c.now) c.args.base.now.items c.args.calls.now c.in_ok-prepared.ensures.accepted c.requires.exist c.loop-kept.kept
-    c.loop-kept.replay _ c.loop-kept-test.false c.loop-kept.invariant c.in_ok-config-2.ensures
+    c.loop-kept.replay _ c.loop-kept-test.false c.loop-kept.invariant.replay c.in_ok-config-2.ensures

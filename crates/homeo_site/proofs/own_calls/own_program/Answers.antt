@@ -10,7 +10,7 @@ use Rattle.homeo_effect.specs.Counts.{assignment_count, print_count}
 use Rattle.homeo_effect.specs.EffectsView.{plain_all}
 use Rattle.homeo_effect.specs.Touched.{written}
 use Rattle.homeo_effect.proofs.Counted.{localized_set, localized_print}
-use Rattle.homeo_forecast.proofs.programs.program.Goals as goal
+use Rattle.homeo_site.proofs.own_calls.own_program.Goals as goal
 
 pub returns : goal.returns
 returns c =

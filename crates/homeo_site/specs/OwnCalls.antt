@@ -1,24 +1,25 @@
--- What a site runs for the ground calls of its own clients.
-use Rattle.std.specs.Prelude.{◌≡◌, ◌≢◌, ℕ, ◌<◌, true, List, length, ℤ, Option, MatchOption}
+-- What sites run for ground calls.
+use Rattle.std.specs.Prelude.{◌≡◌, ℕ, ◌<◌, true, List, length, map, slice_get, ℤ, Option, Some, IfSome}
 use Rattle.std.specs.List.{AllZip}
+use Rattle.std.specs.declared.sync.Arc.{Arc}
 use Rattle.homeo_syntax.specs.Low.{Commands}
+use Rattle.homeo_syntax.specs.LowView.{low_commands, plain_lcommand}
 use Rattle.homeo_syntax.specs.Source as s
-use Rattle.homeo_meaning.specs.Acceptance.{IsAccepted}
 use Rattle.homeo_meaning.specs.LowMeaning.{DeltaAt, exec_all}
 use Rattle.homeo_meaning.specs.Serial.{values_of}
-use Rattle.homeo_plan.specs.declared.round.RoundPlan.{RoundPlan}
 use Rattle.homeo_plan.specs.Each.{Each}
 use Rattle.homeo_plan.specs.Joined.{alone}
-use Rattle.homeo_plan.specs.Planned.{sites_of}
+use Rattle.homeo_plan.specs.Planned.{sites_of, planned}
 use Rattle.homeo_plan.specs.Template.{PlannedCall, base_row}
 use Rattle.homeo_split.specs.CanExec.{run_limit, can_exec_all}
-use Rattle.homeo_build.specs.Plan.{IsPlanOf}
 use Rattle.homeo_effect.specs.Counts.{assignment_count, print_count}
 use Rattle.homeo_effect.specs.OwnState.{own_state}
 use Rattle.homeo_effect.specs.Program.{plain_program, set_after_all, prints_of_all}
 use Rattle.homeo_effect.specs.Touched.{written}
 use Rattle.homeo_effect.specs.declared.program.Program.{Program}
 use Rattle.homeo_site.specs.Key.{words}
+use Rattle.homeo_site.specs.declared.own_calls.OwnCall.{OwnCall}
+use Rattle.homeo_site.specs.declared.own_calls.OwnCalls.{OwnCalls}
 
 -- from the same own deltas, whatever the temporaries were, the program of site i does on a base what the commands do there
 -- alone; it writes deltas of the first objects only
@@ -37,19 +38,23 @@ pub record RunsAs (b : ℕ → ℤ) (i count : ℕ) (cs : Commands) (p : Program
       (exec_all (plain_program p) (own_state i x kept)).state (DeltaAt n i) ≡
       (exec_all cs (alone b i (values_of x))).state (DeltaAt n i)
 
--- so for the commands of a ground call of the site, and nothing for another
-abbrev pub IsKeptFor : s.Workload → List ℤ → ℕ → PlannedCall → Option Program → Type 0
-unfolding words
-IsKeptFor w base i g o =
-    MatchOption o (g.site ≢ i) (RunsAs (values_of base) i (length base) (base_row (sites_of w) (values_of base) g).residual)
+-- what is run for a planned call on a base: the commands of its residual, and a program that does at its site what these do
+pub record IsOwnCall (w : s.Workload) (base : List ℤ) (g : PlannedCall) (o : OwnCall) : Type 0 where
+  pub commands : low_commands (map plain_lcommand o.commands.items) ≡ (base_row (sites_of w) (values_of base) g).residual
+  pub runs : RunsAs (values_of base) g.site (length base) (base_row (sites_of w) (values_of base) g).residual o.program
 
--- so for each
-abbrev pub AreOwnPrograms : s.Workload → List ℤ → ℕ → List PlannedCall → List (Option Program) → Type 0
-unfolding words
-AreOwnPrograms w base i gs os = AllZip (IsKeptFor w base i) gs os
+-- so for the planned call at this number of a workload
+pub record IsGroundOwnCall (w : s.Workload) (base : List ℤ) (n : ℕ) (o : OwnCall) : Type 0 where
+  pub call : PlannedCall
+  pub there : slice_get (planned w) n ≡ Some call
+  pub own : IsOwnCall w base call o
 
--- the plan of some accepted workload
-pub record IsSomePlan (p : RoundPlan) : Type 0 where
-  pub work : s.Workload
-  pub accepted : IsAccepted work
-  pub plan : IsPlanOf work p.base.items p
+-- so, where it was made for a planned call
+abbrev pub IsMadeFor : {Z : Type 0} → s.Workload → List ℤ → PlannedCall → Option (Arc OwnCall Z) → Type 0
+unfolding words
+IsMadeFor w base g o = IfSome o (λ own. IsOwnCall w base g own.value)
+
+-- so for each ground call of a workload
+abbrev pub AreOwnCalls : s.Workload → List ℤ → OwnCalls → Type 0
+unfolding words
+AreOwnCalls w base o = AllZip (IsMadeFor w base) (planned w) o.calls.items

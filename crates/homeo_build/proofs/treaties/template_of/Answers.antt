@@ -5,19 +5,19 @@ use Rattle.homeo_plan.specs.PlanView.{plain_atoms, plain_template}
 use Rattle.homeo_plan.specs.declared.forms.AtomSet.{AtomSet}
 use Rattle.homeo_plan.specs.declared.templates.FreezeSet.{FreezeSet}
 use Rattle.homeo_build.proofs.PlanParts.{HasSmallConstants, template_is, small_sets}
-use Rattle.homeo_build.proofs.treaties.plan_without_config.Goals as goal
+use Rattle.homeo_build.proofs.treaties.template_of.Goals as goal
 
 pub template-requires : goal.template-requires
 template-requires c =
     record {
       small =
           subst (All (λ (s : AtomSet). HasSmallConstants (plain_atoms s))) (sym c.as_slice.ensures.value)
-          (small_sets (plain_workload c.args.c.now) c.args.split.now.base.items c.requires.accepted c.requires.within c.in_ok-calls.calls.atoms.items
+          (small_sets (plain_workload c.args.c.now) c.args.base.now.items c.requires.accepted c.requires.within c.in_ok-calls.calls.atoms.items
           c.in_ok-calls.ensures.atoms);
     }
 
 pub returns-clause-template : goal.returns-clause-template
 returns-clause-template c =
-    template_is (plain_workload c.args.c.now) c.args.split.now.base.items (plain_template c.in_ok-template.template) _ _ c.in_ok-template.ensures.value
+    template_is (plain_workload c.args.c.now) c.args.base.now.items (plain_template c.in_ok-template.template) _ _ c.in_ok-template.ensures.value
     (ap (map plain_atoms) c.as_slice.ensures.value ∙ c.in_ok-calls.ensures.atoms)
     (ap (map (λ (f : FreezeSet). f.deltas.items)) c.as_slice-2.ensures.value ∙ c.in_ok-calls.ensures.needs)

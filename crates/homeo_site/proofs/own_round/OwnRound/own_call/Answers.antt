@@ -1,0 +1,2 @@
+-- What is kept stays as it should.
+use Rattle.std.proofs.Common.{IfOk, sym, subst}
