@@ -1,5 +1,5 @@
 -- What was made for ground calls stands at their numbers.
-use Rattle.std.proofs.Common.{◌≡◌, ℕ, zero, suc, ◌<◌, List, [], ◌∷◌, map, length, get_or, replicate, set, slice_get, ℤ, Option, Some, None, refl, sym, ap, ◌∙◌, subst, arith}
+use Rattle.std.proofs.Common.{◌≡◌, ℕ, zero, suc, ◌<◌, List, [], ◌∷◌, map, length, get_or, replicate, slice_get, slice_set, ℤ, Option, Some, None, refl, sym, ap, ◌∙◌, subst, arith}
 use Rattle.std.specs.List.{AllZip}
 use Rattle.std.specs.Option.{option_map_or}
 use Rattle.std.specs.declared.sync.Arc.{Arc}
@@ -51,7 +51,7 @@ module _ {A B : Type 0} (R : A → B → Type 0) where
   at_place (z ∷ xs) (v ∷ ys) zero x y h e at = let same : z ≡ x = cc in subst (λ b. R x b) (sym at) (subst (λ a. R a v) same h.0)
   at_place (z ∷ xs) (v ∷ ys) (suc n) x y h e at = at_place xs ys n x y h.1 e at
 
-  set_place : (xs : List A) (ys : List B) (n : ℕ) (x : A) (y : B) → AllZip R xs ys → slice_get xs n ≡ Some x → R x y → AllZip R xs (set ys n y)
+  set_place : (xs : List A) (ys : List B) (n : ℕ) (x : A) (y : B) → AllZip R xs ys → slice_get xs n ≡ Some x → R x y → AllZip R xs (slice_set ys n y)
   set_place [] ys n x y h e r = cc
   set_place (z ∷ xs) [] n x y h e r = absurd h
   set_place (z ∷ xs) (v ∷ ys) zero x y h e r = let same : z ≡ x = cc in (subst (λ a. R a y) (sym same) r, h.1)
@@ -93,7 +93,7 @@ module _
         subst (λ (g : PlannedCall). IsOwnCall w base g o) same h.own
 
     pub made_more :
-        (own : Arc OwnCall Z) → IsOwnCall w base (planned_at w call) own.value → AllZip (IsMadeFor {Z} w base) (planned w) (set os n (Some own))
+        (own : Arc OwnCall Z) → IsOwnCall w base (planned_at w call) own.value → AllZip (IsMadeFor {Z} w base) (planned w) (slice_set os n (Some own))
     unfolding words
     made_more own h = set_place (IsMadeFor {Z} w base) (planned w) os n (planned_at w call) (Some own) made (planned_there w call n within place) h
 

@@ -1,6 +1,6 @@
 //! What sites run for ground calls.
 
-ghost use Rattle.std.specs.Prelude.{◌≡◌, ◌<◌, ℤ, List, None, true, length, replicate, IfOk};
+ghost use Rattle.std.specs.Prelude.{◌≡◌, ◌<◌, ℤ, List, Some, None, true, length, replicate, slice_set, IfOk};
 ghost use Rattle.homeo_syntax.specs.SourceView.{plain_workload};
 ghost use Rattle.homeo_meaning.specs.Bounds.{IsWithin};
 ghost use Rattle.homeo_meaning.specs.Calls.{CallExists};
@@ -82,6 +82,14 @@ fn none_made(alloc: Global, count: usize) -> Result<Vec<Option<Arc<OwnCall, Glob
     Ok(none)
 }
 
+/// Puts what was made into its place.
+fn put(calls: &mut Vec<Option<Arc<OwnCall, Global>>>, place: usize, own: Arc<OwnCall, Global>)
+    requires { place < length calls.old.items }
+    ensures { calls.new.items ≡ slice_set calls.old.items place (Some own) }
+{
+    calls[place] = Some(own);
+}
+
 impl OwnCalls {
     /// None yet, for the ground calls of a workload.
     ///
@@ -118,8 +126,10 @@ impl OwnCalls {
         if let Some(own) = &self.calls[place] {
             return Ok(Arc::try_clone(own)?);
         }
-        let own = Arc::new(alloc, own_call(alloc, c, base, place)?)?;
-        self.calls[place] = Some(Arc::try_clone(&own)?);
+        let made = own_call(alloc, c, base, place)?;
+        let own = Arc::new(alloc, made)?;
+        let kept = Arc::try_clone(&own)?;
+        put(&mut self.calls, place, kept);
         Ok(own)
     }
 }

@@ -1,6 +1,39 @@
 -- What was made stands at the place of the call's ground call, or is put there.
-use Rattle.std.proofs.Common.{sym, subst}
+use Rattle.std.proofs.Common.{Option, List, ◌≡◌, sym, ap, ◌∙◌, subst}
+use Rattle.std.specs.List.{AllZip}
 use Rattle.homeo_syntax.specs.SourceView.{plain_workload}
+use Rattle.homeo_plan.specs.Planned.{planned, planned_at}
 use Rattle.homeo_site.specs.Key.{words}
+use Rattle.homeo_site.specs.OwnCalls.{IsOwnCall, IsMadeFor}
+use Rattle.homeo_site.specs.declared.own_calls.OwnCall.{OwnCall}
 use Rattle.homeo_site.proofs.OwnLookups.{place_within, made_there, ground_call, made_more}
 use Rattle.homeo_site.proofs.own_calls.OwnCalls.get.Goals as goal
+
+pub bounds-self_calls-place : goal.bounds-self_calls-place
+unfolding words
+bounds-self_calls-place c =
+    place_within (plain_workload c.args.c.now) c.args.base.now.items c.args.call c.place-place.result c.place-place.ensures.within c.place-place.ensures.place
+    c.args.self.now.calls.items c.requires.made
+
+pub returns-in-Some-clause-own : goal.returns-in-Some-clause-own
+unfolding words
+returns-in-Some-clause-own c =
+    let w = plain_workload c.args.c.now in
+    let base = c.args.base.now.items in
+    let there =
+    made_there w base c.args.call c.place-place.result c.place-place.ensures.within c.place-place.ensures.place c.args.self.now.calls.items c.requires.made
+    c.index-place.result c.index-place.is in
+    subst (λ (o : OwnCall). IsOwnCall w base (planned_at w c.args.call) o) (sym c.in_ok-try_clone.ensures.value)
+    (subst (IsMadeFor w base (planned_at w c.args.call)) c.in-Some.is there)
+
+pub own_call-requires-clause-within : goal.own_call-requires-clause-within
+own_call-requires-clause-within c = c.requires.within
+
+pub own_call-requires-clause-number : goal.own_call-requires-clause-number
+own_call-requires-clause-number c = c.place-place.ensures.within
+
+pub put-requires : goal.put-requires
+unfolding words
+put-requires c =
+    place_within (plain_workload c.args.c.now) c.args.base.now.items c.args.call c.place-place.result c.place-place.ensures.within c.place-place.ensures.place
+    c.args.self.now.calls.items c.requires.made
