@@ -63,7 +63,6 @@ pub fn treaties(
         base: List::from_vec(values),
         template,
         config,
-        residuals: List::new(alloc),
     })
 }
 

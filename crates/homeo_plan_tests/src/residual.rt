@@ -77,7 +77,6 @@ pub(crate) fn plan(alloc: Global) -> Result<Arc<RoundPlan>, Memory>
             freezes: List::new(alloc),
         },
         config: Config { bounds },
-        residuals: List::new(alloc),
     };
     Ok(Arc::new(alloc, plan)?)
 }
