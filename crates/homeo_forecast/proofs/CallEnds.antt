@@ -32,8 +32,9 @@ use Rattle.homeo_effect.specs.OwnState.{own_state}
 use Rattle.homeo_effect.specs.Program.{plain_program}
 use Rattle.homeo_effect.specs.Touched.{WritesOwn, written, is_touched, is_among, touched_clauses, touched_freezes}
 use Rattle.homeo_effect.specs.declared.program.Program.{Program}
-use Rattle.homeo_site.specs.OwnCalls.{RunsAs, IsOwnCall}
+use Rattle.homeo_site.specs.OwnCalls.{RunsAs, IsOwnCall, AreOwnCalls}
 use Rattle.homeo_site.specs.declared.own_calls.OwnCall.{OwnCall}
+use Rattle.homeo_site.specs.declared.own_calls.OwnCalls.{OwnCalls}
 use Rattle.homeo_site.proofs.WrittenObjects.{writes_own}
 use Rattle.homeo_forecast.specs.Peaks.{Stop, first_stop}
 use Rattle.homeo_forecast.specs.Visits.{Visit, after_all, visits, next_visit}
@@ -75,6 +76,11 @@ pub own_here :
 own_here {w} {call} {q} {plan} {o} {made} same is own =
     subst (IsOwnCall w plan.base.items (planned_at w call)) (sym is)
     (subst (λ (r : RoundPlan). IsOwnCall w r.base.items (planned_at w call) made) same own)
+
+-- what was made so far, too
+pub still_made :
+    (w : s.Workload) (q plan : RoundPlan) (os : OwnCalls) → q ≡ plan → AreOwnCalls w q.base.items os → AreOwnCalls w plan.base.items os
+still_made w q plan os same made = subst (λ (r : RoundPlan). AreOwnCalls w r.base.items os) same made
 
 module _
     {w : s.Workload} {base : List ℤ} {call : CallId} {p : Prepared} {o : OwnCall} (prepared : IsPrepared w base p) (exists : CallExists w call)

@@ -160,7 +160,7 @@ impl Replay {
         requires exists { CallExists (plain_workload c.now) call }
         requires replay { IsSomeReplay (plain_workload c.now) prepared.now.plan.value.base.items self.old }
         requires made { AreOwnCalls (plain_workload c.now) prepared.now.plan.value.base.items own_calls.old }
-        ensures made { AreOwnCalls (plain_workload c.now) prepared.now.plan.value.base.items own_calls.new }
+        ensures made { OnOk result (AreOwnCalls (plain_workload c.now) prepared.now.plan.value.base.items own_calls.new) }
         ensures kept { (before : List CallId) → let w = plain_workload c.now in let base = prepared.now.plan.value.base.items in
             IsReplay w base before self.old → IfOk result (λ o. o ≡ None → IsReplay w base (before ++ call ∷ []) self.new) }
         ensures stop { (before : List CallId) → let w = plain_workload c.now in let base = prepared.now.plan.value.base.items in

@@ -1,6 +1,6 @@
 -- The run of what is kept for a call, on the deltas of an attempt, is the call's local step on the site's state.
 use Rattle.std.proofs.Common.{◌≡◌, ℕ, ◌+◌, ◌<◌, ◌≤◌, true, List, [], ◌++◌, length, replicate, ℤ, pos, All, Option, sym, ap, ◌∙◌, subst}
-use Rattle.homeo_syntax.specs.Source as s
+use Rattle.homeo_syntax.specs.Source.{Workload}
 use Rattle.homeo_syntax.specs.SourceView.{plain_workload}
 use Rattle.homeo_meaning.specs.declared.call.CallId.{CallId}
 use Rattle.homeo_meaning.specs.LowMeaning.{DeltaAt, exec_all}
@@ -34,7 +34,7 @@ module _
     (site : IsSite v x s) (at : IsCallAt (plain_workload u.work) u.state.number call) (p q : Program) (same : p ≡ q)
     (given : RunsAs (values_of u.state.base) u.state.number (length u.state.base) (step_commands (plain_workload u.work) u.state call) q)
   where
-    abbrev w : s.Workload
+    abbrev w : Workload
     w = plain_workload v.work
 
     abbrev y : SiteState

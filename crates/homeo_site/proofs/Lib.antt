@@ -13,6 +13,7 @@ pub mod OwnSums
 pub mod OwnTerms
 pub mod PlanCalls
 pub mod SiteAttempts
+pub mod SiteRooms
 pub mod SiteViews
 pub mod SitesHold
 pub mod StepFindings

@@ -58,22 +58,24 @@ same_state v x s t same =
     let segment : plain_segment t ≡ plain_segment s = ap (map plain_entry) same in
     λ j. record { number = v.number; round = v.round; base = v.base; deltas = x; segment = segment j }
 
-pub still_site : (v : StartValue) (x : List ℤ) (s t : Segment) → IsSite v x s → t.entries.items ≡ s.entries.items → IsSite v x t
-still_site v x s t is same =
-    record { accepted = is.accepted; holds = subst (SiteHolds (plain_workload v.work)) (sym (same_state v x s t same)) is.holds }
+pub still_site :
+    (v y : StartValue) (x : List ℤ) (s t : Segment) → IsSite v x s → y ≡ v → t.entries.items ≡ s.entries.items → IsSite y x t
+still_site v y x s t is own same =
+    subst (λ (z : StartValue). IsSite z x t) (sym own)
+    (record { accepted = is.accepted; holds = subst (SiteHolds (plain_workload v.work)) (sym (same_state v x s t same)) is.holds })
 
 -- the value with another spare
 abbrev pub with_spare : SiteValue → ℕ → SiteValue
 with_spare v n = record { work = v.work; state = v.state; spare = n }
 
 pub spare_changed :
-    (v : StartValue) (x : List ℤ) (s t : Segment) (u : SiteValue) → t.entries.items ≡ s.entries.items → value_in v x s ≡ u →
-    value_in v x t ≡ with_spare u t.entries.spare
-spare_changed v x s t u same is =
+    (v y : StartValue) (x : List ℤ) (s t : Segment) (u : SiteValue) → y ≡ v → t.entries.items ≡ s.entries.items → value_in v x s ≡ u →
+    value_in y x t ≡ with_spare u t.entries.spare
+spare_changed v y x s t u own same is =
     let state = same_state v x s t same in
     let here : value_in v x t ≡ with_spare (value_in v x s) t.entries.spare =
     λ j. record { work = v.work; state = state j; spare = t.entries.spare } in
-    here ∙ ap (λ (y : SiteValue). with_spare y t.entries.spare) is
+    ap (λ (z : StartValue). value_in z x t) own ∙ here ∙ ap (λ (z : SiteValue). with_spare z t.entries.spare) is
 
 -- ---- room
 pub room_is :

@@ -25,7 +25,7 @@ use std::marker::Model;
 use std::sync::Arc;
 
 /// A site's part of a round: what all sites share, the numbers of the site and of the round, the site's part of each clause,
-/// of each ground call of its clients what it runs, and which clauses and freezes stand on each of its deltas.
+/// what it runs for each ground call that its clients attempted, and which clauses and freezes stand on each of its deltas.
 #[derive(Drop)]
 pub(crate) struct OwnRound {
     compiled: Arc<Compiled, Global>,

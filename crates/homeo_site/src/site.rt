@@ -118,8 +118,9 @@ impl Site {
     }
 
     /// Takes room for an attempt of a call, and for so many copies of its prints: all the memory that the attempt, a commit
-    /// of its change, and the copies need. In the room stands which clauses and freezes the call touches. The call must be one
-    /// of a client of this site.
+    /// of its change, and the copies need. In the room stands what the site runs for the call, which is made at the first attempt
+    /// of its ground call in the round, and which clauses and freezes the call touches. The call must be one of a client of this
+    /// site.
     ///
     /// # Errors
     ///

@@ -41,9 +41,9 @@ impl Model for SiteStart {
 
 impl SiteStart {
     /// The part of the site of this number, from 0, in the round of this number. It shares the workload and the plan, and
-    /// keeps of the plan its own part alone: of each clause the terms on its deltas and its bound, of each ground call of
-    /// its clients what it runs, and for each of its deltas which clauses and freezes stand on it. That takes about the time
-    /// and the memory of the plan's length.
+    /// keeps of the plan its own part alone: of each clause the terms on its deltas and its bound, and for each of its deltas
+    /// which clauses and freezes stand on it. What it runs for a ground call of its clients is made at the call's first attempt.
+    /// That takes about the time and the memory of the plan's length, and a place for each ground call.
     ///
     /// The plan must be one of the workload, with the bounds of the policy, and the site one of the workload's.
     ///

@@ -2,7 +2,11 @@
 use Rattle.std.proofs.Common.{◌≡◌, ◌∙◌, length, refl, sym, ap, subst, option_map, arith}
 use Rattle.std.specs.Vec.{with_item, with_items}
 use Rattle.std.proofs.lemmas.List.{with_items_is}
+use Rattle.homeo_syntax.specs.SourceView.{plain_workload}
+use Rattle.homeo_meaning.specs.Bounds.{IsWithin}
+use Rattle.homeo_meaning.specs.Schema.{schema_of}
 use Rattle.homeo_plan.specs.PlanView.{plain_template}
+use Rattle.homeo_plan.specs.declared.round.RoundPlan.{RoundPlan}
 use Rattle.homeo_forecast.specs.View.{plain_stop}
 use Rattle.homeo_forecast.specs.declared.replay.Replay.{Replay}
 use Rattle.homeo_forecast.specs.inner.Raising.{SomeRaised}
@@ -150,3 +154,19 @@ returns-clause-stop c = λ before kept.
     ∙ ends.stop_there ran kept (option_map plain_stop c.in_ok-stop.stop) c.as_slice-3.result.now c.as_slice-4.result.now (plain_template c.deref-2.result.now.template)
     c.as_slice-2.result.now c.as_slice-5.result.now (c.as_slice-3.ensures ∙ c.in_ok-clauses.ensures.clauses ∙ ends.clauses_are c.requires.prepared c.requires.exists own c.as_slice.result.now c.as_slice.ensures) (c.as_slice-4.ensures ∙ c.in_ok-clauses.ensures.freezes ∙ ends.freezes_are c.requires.prepared c.requires.exists own c.as_slice.result.now c.as_slice.ensures)
     (ends.template_there c.requires.prepared c.deref-2.result.now c.deref-2.ensures) c.as_slice-2.ensures.value c.as_slice-5.ensures.value c.in_ok-stop.ensures
+
+pub get-requires-clause-within : goal.get-requires-clause-within
+get-requires-clause-within c =
+    subst (λ (q : RoundPlan). IsWithin (schema_of (plain_workload c.args.c.now)) q.base.items) (sym c.deref.ensures) c.requires.prepared.plan.within
+
+pub get-requires-clause-made : goal.get-requires-clause-made
+get-requires-clause-made c =
+    ends.still_made (plain_workload c.args.c.now) c.args.prepared.now.plan.value c.deref.result.now c.args.own_calls.now (sym c.deref.ensures) c.requires.made
+
+pub returns-then-is_some-clause-made : goal.returns-then-is_some-clause-made
+returns-then-is_some-clause-made c =
+    ends.still_made (plain_workload c.args.c.now) c.deref.result.now c.args.prepared.now.plan.value c.get.new.self c.deref.ensures c.in_ok-made.ensures.made
+
+pub returns-clause-made : goal.returns-clause-made
+returns-clause-made c =
+    ends.still_made (plain_workload c.args.c.now) c.deref.result.now c.args.prepared.now.plan.value c.get.new.self c.deref.ensures c.in_ok-made.ensures.made

@@ -1,5 +1,5 @@
 -- What was made stands at the place of the call's ground call, or is put there.
-use Rattle.std.proofs.Common.{Option, List, ◌≡◌, sym, ap, ◌∙◌, subst}
+use Rattle.std.proofs.Common.{sym, ◌∙◌, subst}
 use Rattle.std.specs.List.{AllZip}
 use Rattle.homeo_syntax.specs.SourceView.{plain_workload}
 use Rattle.homeo_plan.specs.Planned.{planned, planned_at}
@@ -22,8 +22,8 @@ returns-in-Some-clause-own c =
     let base = c.args.base.now.items in
     let there =
     made_there w base c.args.call c.place-place.result c.place-place.ensures.within c.place-place.ensures.place c.args.self.now.calls.items c.requires.made
-    c.index-place.result c.index-place.is in
-    subst (λ (o : OwnCall). IsOwnCall w base (planned_at w c.args.call) o) (sym c.in_ok-try_clone.ensures.value)
+    c.index-self_calls-place.result c.index-self_calls-place.is in
+    subst (λ (o : OwnCall). IsOwnCall w base (planned_at w c.args.call) o) (sym c.in_ok-try_clone.ensures)
     (subst (IsMadeFor w base (planned_at w c.args.call)) c.in-Some.is there)
 
 pub own_call-requires-clause-within : goal.own_call-requires-clause-within
@@ -37,3 +37,24 @@ unfolding words
 put-requires c =
     place_within (plain_workload c.args.c.now) c.args.base.now.items c.args.call c.place-place.result c.place-place.ensures.within c.place-place.ensures.place
     c.args.self.now.calls.items c.requires.made
+
+pub returns-clause-made : goal.returns-clause-made
+unfolding words
+returns-clause-made c =
+    let w = plain_workload c.args.c.now in
+    let base = c.args.base.now.items in
+    let own =
+    ground_call w base c.args.call c.place-place.result c.place-place.ensures.within c.place-place.ensures.place c.args.self.now.calls.items c.requires.made
+    c.in_ok-made.made c.in_ok-made.ensures in
+    subst (AllZip (IsMadeFor w base) (planned w)) (sym c.put.ensures)
+    (made_more w base c.args.call c.place-place.result c.place-place.ensures.within c.place-place.ensures.place c.args.self.now.calls.items c.requires.made
+    c.in_ok-kept.kept (subst (IsOwnCall w base (planned_at w c.args.call)) (sym (c.in_ok-kept.ensures ∙ c.in_ok-own.ensures)) own))
+
+pub returns-clause-own : goal.returns-clause-own
+returns-clause-own c =
+    let w = plain_workload c.args.c.now in
+    let base = c.args.base.now.items in
+    let own =
+    ground_call w base c.args.call c.place-place.result c.place-place.ensures.within c.place-place.ensures.place c.args.self.now.calls.items c.requires.made
+    c.in_ok-made.made c.in_ok-made.ensures in
+    subst (IsOwnCall w base (planned_at w c.args.call)) (sym c.in_ok-own.ensures) own
