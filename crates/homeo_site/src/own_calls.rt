@@ -21,7 +21,7 @@ use homeo_build::residuals::residual;
 use homeo_effect::{Program, commands_at_site};
 use homeo_meaning::{CallId, Database};
 use homeo_plan::Residual;
-use homeo_syntax::{LCommand, List, Memory};
+use homeo_syntax::{LCommand, Memory};
 use std::alloc::Global;
 use std::sync::Arc;
 
@@ -29,7 +29,7 @@ use std::sync::Arc;
 /// these do.
 #[derive(Drop)]
 pub struct OwnCall {
-    pub commands: List<LCommand>,
+    pub commands: homeo_syntax::List<LCommand>,
     pub program: Program,
 }
 

@@ -1,5 +1,5 @@
 -- What was made stands at the place of the call's ground call, or is put there.
-use Rattle.std.proofs.Common.{sym, ◌∙◌, subst}
+use Rattle.std.proofs.Common.{sym, ◌∙◌, subst, arith}
 use Rattle.std.specs.List.{AllZip}
 use Rattle.homeo_syntax.specs.SourceView.{plain_workload}
 use Rattle.homeo_plan.specs.Planned.{planned, planned_at}
@@ -9,11 +9,13 @@ use Rattle.homeo_site.specs.declared.own_calls.OwnCall.{OwnCall}
 use Rattle.homeo_site.proofs.OwnLookups.{place_within, made_there, ground_call, made_more}
 use Rattle.homeo_site.proofs.own_calls.OwnCalls.get.Goals as goal
 
-pub bounds-self_calls-place : goal.bounds-self_calls-place
+pub index-requires : goal.index-requires
 unfolding words
-bounds-self_calls-place c =
+index-requires c =
+    let within =
     place_within (plain_workload c.args.c.now) c.args.base.now.items c.args.call c.place-place.result c.place-place.ensures.within c.place-place.ensures.place
-    c.args.self.now.calls.items c.requires.made
+    c.args.self.now.calls.items c.requires.made in
+    omega (arith, within, c.args.self.now.calls.ok.0)
 
 pub returns-in-Some-clause-own : goal.returns-in-Some-clause-own
 unfolding words
@@ -22,7 +24,7 @@ returns-in-Some-clause-own c =
     let base = c.args.base.now.items in
     let there =
     made_there w base c.args.call c.place-place.result c.place-place.ensures.within c.place-place.ensures.place c.args.self.now.calls.items c.requires.made
-    c.index-self_calls-place.result c.index-self_calls-place.is in
+    c.index.result.now c.index.ensures in
     subst (λ (o : OwnCall). IsOwnCall w base (planned_at w c.args.call) o) (sym c.in_ok-try_clone.ensures)
     (subst (IsMadeFor w base (planned_at w c.args.call)) c.in-Some.is there)
 
