@@ -19,9 +19,8 @@ use Rattle.homeo_plan.proofs.PlannedCalls.{planned_member}
 use Rattle.homeo_effect.specs.Touched.{WritesOwn}
 use Rattle.homeo_history.specs.Legal.{IsCallAt}
 use Rattle.homeo_site.specs.Key.{words}
-use Rattle.homeo_site.specs.OwnCalls.{RunsAs, IsOwnCall, IsGroundOwnCall, IsMadeFor, AreOwnCalls}
+use Rattle.homeo_site.specs.OwnCalls.{RunsAs, IsOwnCall, IsGroundOwnCall, IsMadeFor}
 use Rattle.homeo_site.specs.declared.own_calls.OwnCall.{OwnCall}
-use Rattle.homeo_site.specs.declared.own_calls.OwnCalls.{OwnCalls}
 use Rattle.homeo_site.proofs.CallsOfSites.{call_site}
 use Rattle.homeo_site.proofs.WrittenObjects.{writes_own}
 
@@ -59,31 +58,31 @@ module _ {A B : Type 0} (R : A → B → Type 0) where
 
 -- ---- what was made
 module _ {Z : Type 0} (w : s.Workload) (base : List ℤ) where
-  none : (gs : List PlannedCall) → AllZip (IsMadeFor {Z} w base) gs (replicate (length gs) None)
+  none : (gs : List PlannedCall) → AllZip (IsMadeFor {Z = Z} w base) gs (replicate (length gs) None)
   unfolding words
   none [] = tt
   none (g ∷ gs) = (tt, none gs)
 
   pub none_made :
       (calls : List GroundCall) (os : List (Option (Arc OwnCall Z))) → map plain_ground calls ≡ grounds w → os ≡ replicate (length calls) None →
-      AllZip (IsMadeFor {Z} w base) (planned w) os
+      AllZip (IsMadeFor {Z = Z} w base) (planned w) os
   unfolding plan_words
   none_made calls os are e =
       let count : length calls ≡ length (planned w) =
       sym (length-map calls plain_ground) ∙ ap length are ∙ sym (length-map (grounds w) (planned_call w)) in
-      subst (λ l. AllZip (IsMadeFor {Z} w base) (planned w) l) (sym (e ∙ ap (λ n. replicate n None) count)) (none (planned w))
+      subst (λ l. AllZip (IsMadeFor {Z = Z} w base) (planned w) l) (sym (e ∙ ap (λ n. replicate n None) count)) (none (planned w))
 
 module _
     {Z : Type 0} (w : s.Workload) (base : List ℤ) (call : CallId) (n : ℕ) (within : n < length (grounds w))
-    (place : slice_get (grounds w) n ≡ ground_of w call) (os : List (Option (Arc OwnCall Z))) (made : AllZip (IsMadeFor {Z} w base) (planned w) os)
+    (place : slice_get (grounds w) n ≡ ground_of w call) (os : List (Option (Arc OwnCall Z))) (made : AllZip (IsMadeFor {Z = Z} w base) (planned w) os)
   where
     pub place_within : n < length os
     unfolding plan_words
     place_within =
-        subst (λ m. n < m) (sym (AllZip-long (IsMadeFor {Z} w base) (planned w) os made ∙ length-map (grounds w) (planned_call w))) within
+        subst (λ m. n < m) (sym (AllZip-long (IsMadeFor {Z = Z} w base) (planned w) os made ∙ length-map (grounds w) (planned_call w))) within
 
     pub made_there : (o : Option (Arc OwnCall Z)) → o ≡ get_or os n o → IsMadeFor w base (planned_at w call) o
-    made_there o at = at_place (IsMadeFor {Z} w base) (planned w) os n (planned_at w call) o made (planned_there w call n within place) at
+    made_there o at = at_place (IsMadeFor {Z = Z} w base) (planned w) os n (planned_at w call) o made (planned_there w call n within place) at
 
     pub ground_call : (o : OwnCall) → IsGroundOwnCall w base n o → IsOwnCall w base (planned_at w call) o
     ground_call o h =
@@ -93,9 +92,9 @@ module _
         subst (λ (g : PlannedCall). IsOwnCall w base g o) same h.own
 
     pub made_more :
-        (own : Arc OwnCall Z) → IsOwnCall w base (planned_at w call) own.value → AllZip (IsMadeFor {Z} w base) (planned w) (slice_set os n (Some own))
+        (own : Arc OwnCall Z) → IsOwnCall w base (planned_at w call) own.value → AllZip (IsMadeFor {Z = Z} w base) (planned w) (slice_set os n (Some own))
     unfolding words
-    made_more own h = set_place (IsMadeFor {Z} w base) (planned w) os n (planned_at w call) (Some own) made (planned_there w call n within place) h
+    made_more own h = set_place (IsMadeFor {Z = Z} w base) (planned w) os n (planned_at w call) (Some own) made (planned_there w call n within place) h
 
 -- ---- a call of a site
 module _ (w : s.Workload) (base : List ℤ) (i : ℕ) (call : CallId) (at : IsCallAt w i call) (o : OwnCall) (own : IsOwnCall w base (planned_at w call) o) where

@@ -20,7 +20,7 @@ use Rattle.homeo_split.specs.CanExec.{run_limit, can_exec_all}
 use Rattle.homeo_build.specs.Key.{words as build_words}
 use Rattle.homeo_build.specs.Plan.{SitedResidual, sited_residual, residual_at, residuals_at}
 use Rattle.homeo_effect.specs.Touched.{written, WritesOwn}
-use Rattle.homeo_site.specs.OwnCalls.{RunsAs, IsOwnCall, IsGroundOwnCall}
+use Rattle.homeo_site.specs.OwnCalls.{RunsAs, IsGroundOwnCall}
 use Rattle.homeo_site.specs.declared.own_calls.OwnCall.{OwnCall}
 use Rattle.homeo_site.proofs.StepFindings.{residual_straight}
 use Rattle.homeo_site.proofs.StepsRun.{base_runs}

@@ -1,19 +1,17 @@
 -- What each ground call brings.
-use Rattle.std.proofs.Common.{rules, ◌≡◌, ℕ, ◌<◌, List, map, length, sym, ap, ap₂, subst, ◌∙◌, arith}
+use Rattle.std.proofs.Common.{rules, ◌≡◌, ℕ, ◌<◌, List, map, length, sym, ap, ap₂, subst, ◌∙◌}
 use Rattle.homeo_syntax.specs.LowView.{plain_lcommand}
 use Rattle.homeo_syntax.specs.SourceView.{plain_workload}
 use Rattle.homeo_syntax.specs.declared.low.LCommand.{LCommand}
 use Rattle.homeo_meaning.specs.CallForm.{ground_form}
 use Rattle.homeo_meaning.specs.Ground.{plain_ground}
 use Rattle.homeo_meaning.specs.Serial.{values_of}
-use Rattle.homeo_plan.specs.Key.{words as plans}
 use Rattle.homeo_plan.specs.Each.{Each}
 use Rattle.homeo_plan.specs.Needs.{remote}
 use Rattle.homeo_plan.specs.PlanView.{plain_atoms}
 use Rattle.homeo_plan.specs.Planned.{sites_of}
 use Rattle.homeo_plan.specs.Template.{atoms_of, needs_of}
 use Rattle.homeo_follow.specs.Expanded.{expanded, expanded_deltas}
-use Rattle.homeo_build.specs.Key.{words}
 use Rattle.homeo_build.specs.inner.Followed.{IsSmallAlong, AreFollowed}
 use Rattle.homeo_build.proofs.Following.{small_forms, small_base, followed_within, followed_there, atoms_are, needs_are}
 use Rattle.homeo_build.proofs.FormsMade.{form_here}
