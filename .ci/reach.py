@@ -99,7 +99,7 @@ class Module:
                 self.own.append(now)
                 self.definitions[now.name] = now
             elif now is None:
-                # (of a block's head, as `unfolding words`)
+                # (of a block's head, as `unfolding definitions`)
                 heads.append((depth - 1, number, row))
             else:
                 now.add(number, row)

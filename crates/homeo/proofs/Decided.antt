@@ -8,10 +8,10 @@ use Rattle.homeo_syntax.specs.Source as s
 use Rattle.homeo_accept.proofs.Decided.{accepted_not_refused, one_accepted}
 use Rattle.homeo_history.proofs.Lists.{get_lt}
 use Rattle.homeo_wire.specs.Drive.{calls_in}
-use Rattle.homeo_wire.specs.Key.{words as wire_words}
+use Rattle.homeo_wire.specs.Key.{definitions as wire_definitions}
 use Rattle.homeo_meaning.specs.declared.call.Purpose.{Purpose}
 use Rattle.homeo_meaning.specs.declared.call.Purpose.TheVariants as purpose
-use Rattle.homeo_meaning.specs.Key.{words as meanings}
+use Rattle.homeo_meaning.specs.Key.{definitions as meaning_definitions}
 use Rattle.homeo_session.specs.Streams.{IsServed, Stops}
 use Rattle.homeo_session.proofs.Streaming.{not_both}
 use Rattle.homeo_words.specs.declared.command.Command.{Command}
@@ -40,7 +40,7 @@ told_is_long (Some xs) (Some ys) text n e g =
 -- a source that gave more than the limit told a text that is too long
 pub refuses_long : (old new : Option (List ℕ)) (text : List ℕ) (p : Purpose) (r : Refusal) → old ≡ Some text → Gave old new (text_limit + 1)
     → r ≡ record { code = 2; offset = text_limit } → IsRefused text p r
-unfolding meanings
+unfolding meaning_definitions
 refuses_long old new text p r e g is = inl (record { long = omega (arith, told_is_long old new text (text_limit + 1) e g); code = ap (λ x. x.code) is; offset = ap (λ x. x.offset) is })
 
 -- a source that gave all of a text that is refused told no other
@@ -75,7 +75,7 @@ stream_not_refused old new output bytes out r o told stops =
 -- ---- texts with too many calls
 -- a workload with few calls has none that is too many
 few_not_many : (w : s.Workload) (r : Refusal) → length (calls_in w) ≤ 200 → IsExcess w r → ⊥
-unfolding wire_words
+unfolding wire_definitions
 few_not_many w r few many = let lt = get_lt (calls_in w) 200 many.call many.past in omega (arith, few, lt)
 
 text_not_many : (old new : Option (List ℕ)) (number : ℕ) (output text : List ℕ) (r : Refusal) → OfText purpose.Run old new (λ w. IsWireReport w number output) → old ≡ Some text → HasExcess text r → ⊥

@@ -8,7 +8,7 @@ use Rattle.std.proofs.lemmas.Option.{get_or_from_slice_get}
 use Rattle.homeo_syntax.specs.Source as s
 use Rattle.homeo_history.specs.Answers.{Answer}
 use Rattle.homeo_history.specs.History.{History}
-use Rattle.homeo_history.specs.Key.{words as histories}
+use Rattle.homeo_history.specs.Key.{definitions as history_definitions}
 use Rattle.homeo_history.specs.Legal.{IsFull, IsLegal, call_count}
 use Rattle.homeo_history.proofs.Lists.{get_map, get_map_back}
 use Rattle.homeo_assembly.specs.Laws.{IsAssembled}
@@ -48,7 +48,7 @@ calls_at (c ∷ clients) (suc k) = calls_at clients k
 -- a client's pass has as many answers as the client has calls
 count_at : (w : s.Workload) (passes : List PassValue) (k : ℕ) → AreAll w passes → All (HasAllAnswers w) passes → k < length passes
     → get_or (map length (logs_of passes)) k 0 ≡ get_or (calls_each w) k 0
-unfolding histories calls_each
+unfolding history_definitions calls_each
 count_at w passes k all answered less =
     let found = at_place passes k less in
     let p : PassValue = found.0 in
@@ -71,6 +71,6 @@ all_counted w passes all answered =
 -- the history in which these answers stand is full
 pub full_history : (w : s.Workload) (before after : List PassValue) (h : History) → AreBegun w before → AreFinished before after
     → All (HasAllAnswers w) after → IsAssembled w (logs_of after) h → IsFull w h
-unfolding histories
+unfolding history_definitions
 full_history w before after h begun done answered made =
     subst (λ (counts : List ℕ). IsLegal w counts h) (all_counted w after (all_back w before after begun.all done) answered) made.legal

@@ -4,7 +4,7 @@ use Rattle.homeo_syntax.specs.Source as s
 use Rattle.homeo_accept.proofs.Decided.{one_accepted}
 use Rattle.homeo_forecast.specs.Text.{IsForecastText}
 use Rattle.homeo_forecast.proofs.OneText.{one_forecast_text}
-use Rattle.homeo_history.specs.Key.{words as histories}
+use Rattle.homeo_history.specs.Key.{definitions as history_definitions}
 use Rattle.homeo_history.proofs.OneHistories.{one_history}
 use Rattle.homeo_meaning.specs.declared.call.Purpose.{Purpose}
 use Rattle.homeo_meaning.specs.declared.call.Purpose.TheVariants as purpose
@@ -29,7 +29,7 @@ use Rattle.homeo.proofs.Decided.{told_is_given}
 
 -- the schedule determines the history, and so the report
 one_report : (w : s.Workload) (output output' : List ℕ) → IsScheduledReport w output → IsScheduledReport w output' → output ≡ output'
-unfolding histories
+unfolding history_definitions
 one_report w output output' r r' =
     let same : r.made.history ≡ r'.made.history =
     one_history w (initial w) _ r.made.history r'.made.history (scheduled_calls w) r.made.full r'.made.full r.follows r'.follows in

@@ -10,7 +10,7 @@ use Rattle.homeo_syntax.specs.Source as s
 use Rattle.homeo_syntax.specs.LowView.{plain_lcommand}
 use Rattle.homeo_syntax.specs.declared.low.LCommand.{LCommand}
 use Rattle.homeo_syntax.specs.Low.{Command, Commands, Skip, Assign, Write, Print, Seq, If, NoCommand, MoreCommand}
-use Rattle.homeo_meaning.specs.Key.{words as meanings}
+use Rattle.homeo_meaning.specs.Key.{definitions as meaning_definitions}
 use Rattle.homeo_meaning.specs.CallForm.{body_form, call_form, ground_form}
 use Rattle.homeo_meaning.specs.CallRules.{call_faults, client_faults}
 use Rattle.homeo_meaning.specs.Declarations.{declarations, place_of}
@@ -30,14 +30,14 @@ use Rattle.homeo_meaning.proofs.FaultParts.{none_first, none_second, parts, decl
 use Rattle.homeo_meaning.proofs.GroundCalls.{Every}
 use Rattle.homeo_meaning.proofs.SoundRules.{all_none, all_more, names_one, named-is}
 use Rattle.homeo_meaning.proofs.TransactionPlaces.{transaction_place}
-use Rattle.homeo_plan.specs.Key.{words as plans}
+use Rattle.homeo_plan.specs.Key.{definitions as plan_definitions}
 use Rattle.homeo_plan.specs.Planned.{sites_of, planned_call, planned, transformed}
 use Rattle.homeo_plan.specs.Template.{shifted}
 use Rattle.homeo_plan.proofs.PlannedCalls.{every_both, every_distinct}
 use Rattle.homeo_plan.proofs.RowCounts.{rows_shift}
 use Rattle.homeo_print.specs.Tables.{call_table, table_text}
 use Rattle.homeo_print.proofs.OneMore.{views_more, numbered_more}
-use Rattle.homeo.specs.inner.Key.{words}
+use Rattle.homeo.specs.inner.Key.{definitions}
 use Rattle.homeo.specs.inner.Tabulated.{HasFewRows, calls_text}
 use Rattle.homeo_order.proofs.Accepting.{few_from}
 
@@ -49,7 +49,7 @@ abbrev rule : s.Workload → s.Call → List Fault
 rule w call = call_faults w.transactions ((scope_of w).item call.name.name) call
 
 named_calls : (w : s.Workload) (client : s.Client) (calls : List s.Call) → flat_map (rule w) calls ≡ [] → Every (IsNamed w) (map (sited_call client) calls)
-unfolding meanings
+unfolding meaning_definitions
 named_calls w client [] none = tt
 named_calls w client (c ∷ cs) none = (
   names_one w c ((scope_of w).item c.name.name) (none_first (rule w c) (flat_map (rule w) cs) none),
@@ -58,7 +58,7 @@ named_calls w client (c ∷ cs) none = (
 
 named_clients :
     (w : s.Workload) (cs : List s.Client) → flat_map (client_faults w.sites (scope_of w) w.transactions) cs ≡ [] → Every (IsNamed w) (flat_map sited_calls_of cs)
-unfolding meanings
+unfolding meaning_definitions
 named_clients w [] none = tt
 named_clients w (c ∷ cs) none =
     let here : List Fault = client_faults w.sites (scope_of w) w.transactions c in
@@ -69,7 +69,7 @@ named_clients w (c ∷ cs) none =
 
 -- its L form is that of its ground call
 same_form : (w : s.Workload) (c : SitedCall) → IsNamed w c → call_form w c ≡ ground_form w (ground_of_sited w c)
-unfolding meanings
+unfolding meaning_definitions
 same_form w c n =
     let by_name : called w c.name ≡ slice_get w.transactions n.0 = ap (transaction_at w) n.1 in
     let by_place : slice_get w.transactions (place_of (declarations w).transactions c.name.name) ≡ slice_get w.transactions n.0 =
@@ -81,7 +81,7 @@ abbrev HasFew : s.Workload → SitedCall → Type 0
 HasFew w c = rows (call_form w c) ≤ 4096
 
 few_or_fault : (n : ℕ) (b : Bool) (fs : List Fault) (f : Fault) → when (nat_lt 4096 n || b) (f ∷ []) ≡ [] → n ≤ 4096
-unfolding meanings
+unfolding meaning_definitions
 few_or_fault n b fs f none = go (nat_lt 4096 n) refl none
   where
     go : (d : Bool) → nat_lt 4096 n ≡ d → when (d || b) (f ∷ []) ≡ [] → n ≤ 4096
@@ -89,7 +89,7 @@ few_or_fault n b fs f none = go (nat_lt 4096 n) refl none
     go false e none = grind (arith, nat_tests)
 
 few_rows : (w : s.Workload) (before cs : List SitedCall) → each_from (too_many_rows w) before cs ≡ [] → Every (HasFew w) cs
-unfolding meanings
+unfolding meaning_definitions
 few_rows w before [] none = tt
 few_rows w before (c ∷ cs) none =
     let more : List Fault = each_from (too_many_rows w) (before ++ c ∷ []) cs in (
@@ -99,14 +99,14 @@ few_rows w before (c ∷ cs) none =
 
 -- ---- all of them
 all_few : (w : s.Workload) (us : List SitedCall) → Every (IsNamed w) us → Every (HasFew w) us → All (HasFewRows w) (map (ground_of_sited w) us)
-unfolding meanings
+unfolding meaning_definitions
 all_few w [] named few = all_none (HasFewRows w)
 all_few w (u ∷ us) named few =
     all_more (HasFewRows w) (ground_of_sited w u) (map (ground_of_sited w) us) (subst (λ c. rows c ≤ 4096) (same_form w u named.0) few.0)
     (all_few w us named.1 few.1)
 
 pub tables_are_few : (w : s.Workload) → faults Tables w ≡ [] → All (HasFewRows w) (grounds w)
-unfolding meanings
+unfolding meaning_definitions
 tables_are_few w none =
     let all = parts Tables w none in
     let named : Every (IsNamed w) (ground_calls w) =
@@ -114,7 +114,7 @@ tables_are_few w none =
     all_few w (ground_calls w) named (few_rows w [] (ground_calls w) all.form.rows)
 
 pub grounds_few : (w : s.Workload) → faults Tables w ≡ [] → length (grounds w) ≤ 1024
-unfolding meanings
+unfolding meaning_definitions
 grounds_few w none =
     let limits = limit_parts w (parts Tables w none).text.limits in
     let few = few_from 1024 (λ (c : SitedCall). c.name) [] (ground_calls w) (omega arith) limits.grounds in
@@ -126,7 +126,7 @@ module _
     (grounds_are : map plain_ground calls ≡ grounds w) (transformed_are : map plain_lcommand commands ≡ transformed w)
   where
     pub as_many : length commands ≡ length calls
-    unfolding plans
+    unfolding plan_definitions
     as_many = omega (
       arith,
       length-map calls plain_ground,
@@ -140,7 +140,7 @@ module _
     pub command_is :
         (i : ℕ) (g : GroundCall) (c : LCommand) → i < length calls → g ≡ get_or calls i g → c ≡ get_or commands i c →
         plain_lcommand c ≡ shifted (sites_of w) (planned_call w (plain_ground g))
-    unfolding plans
+    unfolding plan_definitions
     command_is i g c within is_call is_command =
         let here : plain_ground g ≡ get_or (grounds w) i (plain_ground g) =
         ap plain_ground is_call ∙ sym (get_or-map plain_ground calls i g (plain_ground g) within) ∙ ap (λ l. get_or l i (plain_ground g)) grounds_are in
@@ -154,7 +154,7 @@ module _
         (get_or-map (planned_call w) (grounds w) i (plain_ground g) (planned_call w (plain_ground g)) few ∙ ap (planned_call w) (sym here))
 
 mutual
-  unfolding meanings
+  unfolding meaning_definitions
 
   -- no table is empty
   pub some_rows : (c : Command) → 1 ≤ rows c
@@ -172,7 +172,7 @@ mutual
 -- the table of a command of few rows has one, and not too many
 pub rows_counted :
     (w : s.Workload) (g : Ground) (c : Command) (n : ℕ) → HasFewRows w g → c ≡ shifted (sites_of w) (planned_call w g) → n ≡ rows c → (1 ≤ n) × (n < 2 ^ 32)
-unfolding plans
+unfolding plan_definitions
 rows_counted w g c n few is count =
     let same : rows c ≡ rows (ground_form w g) = ap rows is ∙ rows_shift (sites_of w) g.site (ground_form w g) in
     let some : 1 ≤ rows (ground_form w g) = some_rows (ground_form w g) in
@@ -183,7 +183,7 @@ pub texts_more :
     (w : s.Workload) (calls : List GroundCall) (i : ℕ) (g : GroundCall) → i < length calls → g ≡ get_or calls i g →
     calls_text w (map plain_ground (take (i + 1) calls)) ≡
     calls_text w (map plain_ground (take i calls)) ++ table_text w i (plain_ground g) (call_table w (plain_ground g))
-unfolding words
+unfolding definitions
 texts_more w calls i g within is = numbered_more (λ n g. table_text w n g (call_table w g)) plain_ground calls i g within is
 
 pub tables_more :

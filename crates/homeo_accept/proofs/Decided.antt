@@ -7,7 +7,7 @@ use Rattle.homeo_reader.proofs.Unread.{one_reading, unread}
 use Rattle.homeo_meaning.specs.declared.call.Purpose.{Purpose}
 use Rattle.homeo_meaning.specs.declared.rules.Fault.{Fault}
 use Rattle.homeo_meaning.specs.Faults.{faults, IsFaultIn, IsRefusedBy}
-use Rattle.homeo_meaning.specs.Key.{words as meanings}
+use Rattle.homeo_meaning.specs.Key.{definitions as meaning_definitions}
 use Rattle.homeo_meaning.specs.Verdict.{Accepts, IsRefused, text_limit}
 use Rattle.homeo_accept.specs.Laws.{NotBoth}
 
@@ -16,7 +16,7 @@ none_there : (all : List Fault) (f : Fault) → all ≡ [] → IsFaultIn f all �
 none_there all f none there = subst (IsFaultIn f) none there
 
 pub accepted_not_refused : NotBoth
-unfolding meanings
+unfolding meaning_definitions
 accepted_not_refused text purpose w r a (inl long) = omega (arith, a.short, long.long)
 accepted_not_refused text purpose w r a (inr (short, inl fault)) = unread text r w fault a.reads
 accepted_not_refused text purpose w r a (inr (short, inr broken)) =
@@ -29,10 +29,10 @@ one_accepted text p q v w a b = one_reading text v w a.reads b.reads
 
 -- what the reader refuses is refused
 pub refuses_unread : (text : List ℕ) (purpose : Purpose) (r : Refusal) → length text ≤ text_limit → IsUnread text r → IsRefused text purpose r
-unfolding meanings
+unfolding meaning_definitions
 refuses_unread text purpose r short unread = inr (short, inl unread)
 
 -- what breaks a rule is refused
 pub refuses_broken : (text : List ℕ) (purpose : Purpose) (w : s.Workload) (r : Refusal) → length text ≤ text_limit → Reads text w → IsRefusedBy purpose w r → IsRefused text purpose r
-unfolding meanings
+unfolding meaning_definitions
 refuses_broken text purpose w r short reads by = inr (short, inr (record { workload = w; reads = reads; refused = by }))

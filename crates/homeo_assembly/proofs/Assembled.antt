@@ -1,7 +1,7 @@
 -- Sites, book and clients whose lists are found equal make a legal history, in which the answers stand.
-use Rattle.homeo_history.specs.Key.{words as histories}
-use Rattle.homeo_core.specs.Key.{words as cores}
-use Rattle.homeo_assembly.specs.Key.{words}
+use Rattle.homeo_history.specs.Key.{definitions as history_definitions}
+use Rattle.homeo_core.specs.Key.{definitions as core_definitions}
+use Rattle.homeo_assembly.specs.Key.{definitions}
 use Rattle.std.proofs.Common.{◌≡◌, ℕ, zero, suc, ◌<◌, ◌≤◌, List, [], ◌∷◌, map, length, Option, Some, None, refl, sym, ap, subst, ◌∙◌, arith}
 use Rattle.std.specs.Prelude.{All, slice_get, slice_index_or}
 use Rattle.std.specs.List.{range_with_len}
@@ -98,7 +98,7 @@ module _ (w : s.Workload) (b : BookState) (l : BookLists) (cells : List Cell) (a
   }
 
   pub is_assembled : IsAssembled w asked (history_of b (states_of cells))
-  unfolding words histories cores
+  unfolding definitions history_definitions core_definitions
   is_assembled = record {
     legal =
         joining w (initial w) b (states_of cells) (map length asked) accepted (met_lists.joined w b l cells book sites met)
@@ -110,5 +110,5 @@ module _ (w : s.Workload) (b : BookState) (l : BookLists) (cells : List Cell) (a
   }
 
 pub assembly : Assembly
-unfolding words
+unfolding definitions
 assembly = is_assembled

@@ -1,8 +1,8 @@
 -- Each client of an accepted workload is at one of its sites.
-use Rattle.homeo_syntax.specs.Key.{words as syntax}
-use Rattle.homeo_meaning.specs.Key.{words as meanings}
-use Rattle.homeo_plan.specs.Key.{words as plans}
-use Rattle.homeo_history.specs.Key.{words as histories}
+use Rattle.homeo_syntax.specs.Key.{definitions as syntax_definitions}
+use Rattle.homeo_meaning.specs.Key.{definitions as meaning_definitions}
+use Rattle.homeo_plan.specs.Key.{definitions as plan_definitions}
+use Rattle.homeo_history.specs.Key.{definitions as history_definitions}
 use Rattle.std.proofs.Common.{◌≡◌, ℕ, zero, suc, ◌<◌, ℤ, pos, negsuc, ◌≤ℤ◌, ◌<ℤ◌, int_le, Bool, true, false, List, [], ◌∷◌, Option, Some, None, All, refl, subst, arith}
 use Rattle.std.specs.Prelude.{slice_get}
 use Rattle.std.specs.List.{flat_map}
@@ -25,12 +25,12 @@ use Rattle.homeo_history.specs.Legal.{IsClientAt}
 use Rattle.homeo_history.proofs.Lists.{All-get}
 
 none_when : (b : Bool) (f : Fault) → when b (f ∷ []) ≡ [] → b ≡ false
-unfolding meanings
+unfolding meaning_definitions
 none_when true f e = absurd (cc)
 none_when false f e = refl
 
 nat_lt : (site sites : ℤ) → pos 0 ≤ℤ site → int_le sites site ≡ false → nat_of site < nat_of sites
-unfolding meanings
+unfolding meaning_definitions
 nat_lt (pos m) (pos n) h e = let lt : pos m <ℤ pos n = omega (arith, ints, e) in omega (arith, ints, lt)
 nat_lt (pos m) (negsuc n) h e = absurd (omega (arith, ints, e))
 nat_lt (negsuc m) sites h e = absurd (omega (arith, ints, h))
@@ -38,7 +38,7 @@ nat_lt (negsuc m) sites h e = absurd (omega (arith, ints, h))
 not_negative :
     (cs : List s.Client) (i : ℕ) (c : s.Client) → formed.Each (λ (c : s.Client). pos 0 ≤ℤ c.site.value) cs →
     slice_get cs i ≡ Some c → pos 0 ≤ℤ c.site.value
-unfolding syntax
+unfolding syntax_definitions
 not_negative [] i c all e = absurd (cc)
 not_negative (x ∷ cs) zero c all e =
     let same : x ≡ c = cc in subst (λ (y : s.Client). pos 0 ≤ℤ y.site.value) same all.0
@@ -48,7 +48,7 @@ abbrev IsBelow : s.Workload → s.Client → Type 0
 IsBelow w c = int_le w.sites.value c.site.value ≡ false
 
 below : (w : s.Workload) (c : s.Client) → client_faults w.sites (scope_of w) w.transactions c ≡ [] → IsBelow w c
-unfolding meanings
+unfolding meaning_definitions
 below w c none =
     let calls : List Fault =
     flat_map (λ (call : s.Call). call_faults w.transactions ((scope_of w).item call.name.name) call) c.calls in
@@ -57,7 +57,7 @@ below w c none =
 site_lt :
     (w : s.Workload) (i : ℕ) (c : s.Client) → IsAccepted w → slice_get w.clients i ≡ Some c →
     nat_of c.site.value < sites_of w
-unfolding meanings plans
+unfolding meaning_definitions plan_definitions
 site_lt w i c accepted e =
     let faults : s.Client → List Fault = client_faults w.sites (scope_of w) w.transactions in
     let none : flat_map faults w.clients ≡ [] = (declared_parts w (parts Run w accepted.rules).text.declared).clients in
@@ -66,7 +66,7 @@ site_lt w i c accepted e =
     (All-get (IsBelow w) w.clients i c each e)
 
 pub client_below : (w : s.Workload) (site client : ℕ) → IsAccepted w → IsClientAt w site client → site < sites_of w
-unfolding histories
+unfolding history_definitions
 client_below w site client accepted at = go (slice_get w.clients client) refl at
   where
     go :

@@ -1,9 +1,9 @@
 -- Sites and book keep what they keep with a call that closes the round, and their lists are found equal again; and the book's
 -- start.
-use Rattle.homeo_history.specs.Key.{words as histories}
-use Rattle.homeo_site.specs.Key.{words as site_words}
-use Rattle.homeo_core.specs.Key.{words as cores}
-use Rattle.homeo_assembly.specs.Key.{words}
+use Rattle.homeo_history.specs.Key.{definitions as history_definitions}
+use Rattle.homeo_site.specs.Key.{definitions as site_definitions}
+use Rattle.homeo_core.specs.Key.{definitions as core_definitions}
+use Rattle.homeo_assembly.specs.Key.{definitions}
 use Rattle.std.proofs.Common.{◌≡◌, ℕ, ◌<◌, List, [], ◌∷◌, ◌++◌, map, length, ℤ, Some, refl, sym, ap, subst, ◌∙◌}
 use Rattle.std.specs.Prelude.{IsSome, slice_get}
 use Rattle.std.proofs.lemmas.List.{append-nil, map-append}
@@ -55,7 +55,7 @@ module _ (w : s.Workload) (b : BookState) (l l' : BookLists) (cells cells' : Lis
   begun_sites = map (renewed next) sites
 
   gone_on : IsAfter w (initial w) a b after sites begun_sites
-  unfolding cores
+  unfolding core_definitions
   gone_on =
       core_cleanup w (initial w) b sites home call broken accepted (met_lists.joined w b l cells old.book old.sites old.met)
       event
@@ -66,7 +66,7 @@ module _ (w : s.Workload) (b : BookState) (l l' : BookLists) (cells cells' : Lis
       (client i : ℕ) (c : Cell) → IsClientAt w i client → slice_get cells i ≡ Some c →
       answers_to client (answers_of 0 after.closed) ≡
       answers_to client (answers_of 0 (rounds_of b sites)) ++ answers_to client (a ∷ [])
-  unfolding histories site_words cores
+  unfolding history_definitions site_definitions core_definitions
   closed_more client i c own e =
       let closed : List Answer = answers_to client (answers_of 0 after.closed) in
       let begun_at : slice_get begun_sites i ≡ Some (renewed next c.site) =
@@ -77,7 +77,7 @@ module _ (w : s.Workload) (b : BookState) (l l' : BookLists) (cells cells' : Lis
       ∙ sym (with_open after begun_sites client) ∙ gone_on.answer client
 
   kept : (client : ℕ) → client < length w.clients → l'.kept client ≡ answers_to client (answers_of 0 after.closed)
-  unfolding words
+  unfolding definitions
   kept client lt =
       let at = has_site w client lt in
       let i : ℕ = at.0 in
@@ -95,7 +95,7 @@ module _ (w : s.Workload) (b : BookState) (l l' : BookLists) (cells cells' : Lis
       ∙ sym (closed_more client i c own cell.1)
 
   book : BookFacts w after l'
-  unfolding cores
+  unfolding core_definitions
   book = record {
     holds = gone_on.joined.book;
     bases =
@@ -109,7 +109,7 @@ module _ (w : s.Workload) (b : BookState) (l l' : BookLists) (cells cells' : Lis
   before i c' e = get_some cells i (subst (λ n. i < n) new.count (get_lt cells' i c' e))
 
   site_after : (i : ℕ) (c' : Cell) → slice_get cells' i ≡ Some c' → SiteFacts w c'.site c'.lists
-  unfolding words cores
+  unfolding definitions core_definitions
   site_after i c' e =
       let was = before i c' e in
       let c : Cell = was.0 in
@@ -118,7 +118,7 @@ module _ (w : s.Workload) (b : BookState) (l l' : BookLists) (cells cells' : Lis
       (site_renewal w next c.site a c.lists c'.lists accepted gone_on.joined.book.within facts (new.lists i c c' was.1 e))
 
   met : AreMet w l' cells'
-  unfolding words site_words
+  unfolding definitions site_definitions
   met = record {
     count = new.count ∙ old.met.count;
     numbers = λ i c' e. let was = before i c' e in
@@ -134,12 +134,12 @@ module _ (w : s.Workload) (b : BookState) (l l' : BookLists) (cells cells' : Lis
       record { book = book; sites = sites_after; met = met }
 
 pub cleanup_event : CleanupEvent
-unfolding words
+unfolding definitions
 cleanup_event = closed_in_hand
 
 -- ---- the start
 pub book_start : BookStart
-unfolding words histories
+unfolding definitions history_definitions
 book_start w accepted = record {
   holds = record {
     starts = refl;

@@ -1,6 +1,6 @@
 -- Sites and book whose lists are found equal are in one round, and each client's answers are those to its calls in the history.
-use Rattle.homeo_core.specs.Key.{words as cores}
-use Rattle.homeo_assembly.specs.Key.{words}
+use Rattle.homeo_core.specs.Key.{definitions as core_definitions}
+use Rattle.homeo_assembly.specs.Key.{definitions}
 use Rattle.std.proofs.Common.{◌≡◌, ℕ, suc, ◌+◌, ◌≤◌, List, [], ◌∷◌, ◌++◌, map, length, ℤ, Some, sym, ap, subst, ◌∙◌, arith}
 use Rattle.std.specs.Prelude.{All, slice_get}
 use Rattle.std.proofs.lemmas.List.{length-map, length_push}
@@ -29,7 +29,7 @@ module _ (w : s.Workload) (b : BookState) (l : BookLists) (cells : List Cell) (b
   facts_at i c e = All-get (λ (x : Cell). SiteFacts w x.site x.lists) cells i c sites e
 
   pub state_at : (i : ℕ) (c : Cell) → slice_get cells i ≡ Some c → slice_get (states_of cells) i ≡ Some c.site
-  unfolding words
+  unfolding definitions
   state_at i c e = get_map (λ (x : Cell). x.site) cells i c e
 
   -- ---- one round
@@ -55,7 +55,7 @@ module _ (w : s.Workload) (b : BookState) (l : BookLists) (cells : List Cell) (b
       }
 
   each_in_round : (i : ℕ) (x : SiteState) → slice_get (states_of cells) i ≡ Some x → IsInRound b i x
-  unfolding words
+  unfolding definitions
   each_in_round i x e =
       let cell = get_map_back (λ (c : Cell). c.site) cells i x e in subst (IsInRound b i) cell.1.1 (in_round i cell.0 cell.1.0)
 
@@ -65,7 +65,7 @@ module _ (w : s.Workload) (b : BookState) (l : BookLists) (cells : List Cell) (b
       sites
 
   pub joined : AreJoined w (initial w) b (states_of cells)
-  unfolding words
+  unfolding definitions
   joined = record {
     book = book.holds;
     holds = All-map (SiteHolds w) (λ (c : Cell). c.site) cells each_holds;
@@ -98,7 +98,7 @@ module _ (w : s.Workload) (b : BookState) (l : BookLists) (cells : List Cell) (b
   done_numbered client i c own e = ((facts_at i c e).serves client (at_own_number client i c own e)).numbered
 
   pub all_at_sites : IsAccepted w → All (IsAtSites w) rounds
-  unfolding cores
+  unfolding core_definitions
   all_at_sites accepted =
       All-push (IsAtSites w) b.closed (open_round b.base (states_of cells)) book.holds.at_sites
       (record { segments = calls_at w (initial w) b (states_of cells) accepted joined; closing = tt })

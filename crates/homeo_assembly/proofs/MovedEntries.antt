@@ -1,6 +1,6 @@
 -- While a round is closed, the answers to a site's entries go over to the closed ones one by one.
-use Rattle.homeo_history.specs.Key.{words as histories}
-use Rattle.homeo_assembly.specs.Key.{words}
+use Rattle.homeo_history.specs.Key.{definitions as history_definitions}
+use Rattle.homeo_assembly.specs.Key.{definitions}
 use Rattle.std.proofs.Common.{◌≡◌, ℕ, zero, suc, List, [], ◌∷◌, ◌++◌, map, take, Some, sym, ap, ◌∙◌, append_assoc}
 use Rattle.std.specs.Prelude.{slice_get}
 use Rattle.std.proofs.Math.Seq.{take-length}
@@ -16,7 +16,7 @@ take_next (x ∷ es) zero e h = let same : x ≡ e = cc in ap (λ y. y ∷ []) s
 take_next (x ∷ es) (suc k) e h = ap (λ l. x ∷ l) (take_next es k e h)
 
 pub moving : Moving
-unfolding words histories
+unfolding definitions history_definitions
 moving w x l facts =
     let moved : ℕ → List Entry → List Answer = λ client es. answers_to client (map (local_answer x.round x.number) es) in
     record {

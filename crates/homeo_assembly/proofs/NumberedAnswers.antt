@@ -1,6 +1,6 @@
 -- Answers to a client that are numbered 1, 2 and so on, and one more.
-use Rattle.homeo_history.specs.Key.{words as histories}
-use Rattle.homeo_assembly.specs.Key.{words}
+use Rattle.homeo_history.specs.Key.{definitions as history_definitions}
+use Rattle.homeo_assembly.specs.Key.{definitions}
 use Rattle.std.proofs.Common.{◌≡◌, ℕ, suc, ◌+◌, List, [], ◌∷◌, ◌++◌, map, length, Bool, true, false, cond, eqb, refl, sym, ap, subst, ◌∙◌, arith}
 use Rattle.std.specs.List.{range_with_len}
 use Rattle.std.proofs.lemmas.List.{append-nil, map-append, length_push}
@@ -33,7 +33,7 @@ numbered_if a done false next e = subst AreNumbered (sym (append-nil done)) e
 pub numbered_more :
     (w : s.Workload) (site client : ℕ) (a : Answer) (done : ℕ → List Answer) (new : List Answer) → IsClientAt w site client →
     IsNext w site a done → new ≡ done client ++ answers_to client (a ∷ []) → AreNumbered (done client) → AreNumbered new
-unfolding words histories
+unfolding definitions history_definitions
 numbered_more w site client a done new own next more e =
     subst AreNumbered (sym more) (numbered_if a (done client) (eqb a.client client) seq e)
   where

@@ -1,5 +1,5 @@
 -- An answer, written as numbers, reads back as it was.
-use Rattle.homeo_assembly.specs.Key.{words}
+use Rattle.homeo_assembly.specs.Key.{definitions}
 use Rattle.std.proofs.Common.{◌≡◌, ℕ, ◌+◌, ◌*◌, ◌/◌, ◌%◌, ℤ, pos, negsuc, ◌+ℤ◌, ◌-ℤ◌, List, [], ◌∷◌, ◌++◌, map, refl, ap, subst, ◌∙◌, arith}
 use Rattle.std.specs.Prelude.{All}
 use Rattle.std.proofs.lemmas.Int.{ints}
@@ -7,32 +7,32 @@ use Rattle.std.proofs.lemmas.List.Elements.{All-head, All-tail}
 use Rattle.homeo_history.specs.Answers.{Answer}
 use Rattle.homeo_history.specs.declared.answer.Path.{Path}
 use Rattle.homeo_history.specs.declared.answer.Path.TheVariants.{Local, Cleanup}
-use Rattle.homeo_assembly.specs.Written.{natural, joined, upper, lower, head_of, written, read, ReadBack}
+use Rattle.homeo_assembly.specs.Written.{natural, from_two, upper, lower, head_of, written, read, ReadBack}
 
 -- ---- a number
-abbrev joined_naturals : ℕ → ℤ → ℕ
-joined_naturals q r = q * 18446744073709551616 + natural r
+abbrev natural_from_two : ℕ → ℤ → ℕ
+natural_from_two q r = q * 18446744073709551616 + natural r
 
-parts_joined : (n : ℕ) → joined_naturals (n / 18446744073709551616) (pos (n % 18446744073709551616)) ≡ n
-unfolding words
-parts_joined n = omega arith
+parts_again : (n : ℕ) → natural_from_two (n / 18446744073709551616) (pos (n % 18446744073709551616)) ≡ n
+unfolding definitions
+parts_again n = omega arith
 
 shifted_back : (r : ℕ) → (pos r -ℤ pos 9223372036854775808) +ℤ pos 9223372036854775808 ≡ pos r
 shifted_back r = omega (arith, ints)
 
-natural_joined :
+number_parts_again :
     (n : ℕ) →
-    joined_naturals (n / 18446744073709551616)
+    natural_from_two (n / 18446744073709551616)
     ((pos (n % 18446744073709551616) -ℤ pos 9223372036854775808) +ℤ pos 9223372036854775808) ≡ n
-natural_joined n = ap (joined_naturals (n / 18446744073709551616)) (shifted_back (n % 18446744073709551616)) ∙ parts_joined n
+number_parts_again n = ap (natural_from_two (n / 18446744073709551616)) (shifted_back (n % 18446744073709551616)) ∙ parts_again n
 
-pub number_again : (z : ℤ) → joined (upper z) (lower z) ≡ z
-unfolding words
-number_again (pos n) = ap pos (natural_joined n)
-number_again (negsuc n) = ap negsuc (natural_joined n)
+pub number_again : (z : ℤ) → from_two (upper z) (lower z) ≡ z
+unfolding definitions
+number_again (pos n) = ap pos (number_parts_again n)
+number_again (negsuc n) = ap negsuc (number_parts_again n)
 
-pub natural_again : (n : ℕ) → natural (joined (upper (pos n)) (lower (pos n))) ≡ n
-unfolding words
+pub natural_again : (n : ℕ) → natural (from_two (upper (pos n)) (lower (pos n))) ≡ n
+unfolding definitions
 natural_again n = ap natural (number_again (pos n))
 
 -- ---- an answer
@@ -41,7 +41,7 @@ made_by a path =
     record { client = a.client; seq = a.seq; site = a.site; round = a.round; path = path; prints = a.prints }
 
 read_as : (path : Path) (a : Answer) → read a.client (head_of a.seq a.site a.round path ++ a.prints) ≡ made_by a path
-unfolding words
+unfolding definitions
 read_as Local a = λ i. record {
   client = a.client;
   seq = natural_again a.seq i;
@@ -60,7 +60,7 @@ read_as (Cleanup b) a = λ i. record {
 }
 
 pub read_written : (client : ℕ) (a : Answer) → a.client ≡ client → read client (written a) ≡ a
-unfolding words
+unfolding definitions
 read_written client a e = subst (λ c. read c (written a) ≡ a) e (read_as a.path a)
 
 -- ---- a client's answers
@@ -75,5 +75,5 @@ read_all client (a ∷ answers) all =
     λ i. here i ∷ rest i
 
 pub read_back : ReadBack
-unfolding words
+unfolding definitions
 read_back = read_all

@@ -1,7 +1,7 @@
 -- A site keeps what it keeps: with a local call, in the next round, and at the start.
-use Rattle.homeo_history.specs.Key.{words as histories}
-use Rattle.homeo_site.specs.Key.{words as site_words}
-use Rattle.homeo_assembly.specs.Key.{words}
+use Rattle.homeo_history.specs.Key.{definitions as history_definitions}
+use Rattle.homeo_site.specs.Key.{definitions as site_definitions}
+use Rattle.homeo_assembly.specs.Key.{definitions}
 use Rattle.std.proofs.Common.{◌≡◌, suc, ◌+◌, List, [], ◌∷◌, ◌++◌, map, length, Some, refl, sym, ap, subst, ◌∙◌, arith, append_assoc}
 use Rattle.std.specs.Prelude.{slice_get}
 use Rattle.std.proofs.lemmas.List.{append-nil, length_push}
@@ -18,7 +18,7 @@ use Rattle.homeo_assembly.proofs.NumberedAnswers.{numbered_more}
 
 -- ---- a local call
 pub local_event : LocalEvent
-unfolding words histories site_words
+unfolding definitions history_definitions site_definitions
 local_event w x call l l' accepted facts at keeps new =
     let entry : Entry = local_entry w x call in
     let a : Answer = local_answer x.round x.number entry in
@@ -40,7 +40,7 @@ local_event w x call l l' accepted facts at keeps new =
 
 -- ---- the next round
 pub site_renewal : SiteRenewal
-unfolding words histories site_words
+unfolding definitions history_definitions site_definitions
 site_renewal w base x a l l' accepted within facts new =
     let long : length (l.at ++ base ∷ []) ≡ length l.at + 1 = length_push l.at base in
     let now : length l'.at ≡ length (l.at ++ base ∷ []) = ap length new.at in
@@ -59,7 +59,7 @@ site_renewal w base x a l l' accepted within facts new =
 
 -- ---- the start
 pub site_start : SiteStart
-unfolding words histories site_words
+unfolding definitions history_definitions site_definitions
 site_start w site accepted lt = record {
   holds = begun_holds w site 0 (initial w) accepted lt (sound w accepted).starts;
   rounds = refl;

@@ -6,23 +6,23 @@ use Rattle.homeo_history.specs.History.{Entry}
 use Rattle.homeo_history.specs.Legal.{IsClientAt}
 use Rattle.homeo_site.specs.SiteState.{SiteState, renewed}
 use Rattle.homeo_core.specs.Joined.{BookState}
-use Rattle.homeo_assembly.specs.Key.{words}
+use Rattle.homeo_assembly.specs.Key.{definitions}
 use Rattle.homeo_assembly.specs.Facts.{SiteLists, SiteFacts, BookLists, BookFacts, Cell, AreMet}
 
 -- of the site's clients, the answer's own gets it at the end of its list, and no other list changes
 abbrev pub Gives : s.Workload → ℕ → Answer → (ℕ → List Answer) → (ℕ → List Answer) → Type 0
-unfolding words
+unfolding definitions
 Gives w site a old new =
     (client : ℕ) → IsClientAt w site client → new client ≡ old client ++ answers_to client (a ∷ [])
 
 -- the two hold the same for the site's clients
 abbrev pub Agree : s.Workload → ℕ → (ℕ → List Answer) → (ℕ → List Answer) → Type 0
-unfolding words
+unfolding definitions
 Agree w site old new = (client : ℕ) → IsClientAt w site client → new client ≡ old client
 
 -- the answer is the next one of its client, where this is a client of the site
 abbrev pub IsNext : s.Workload → ℕ → Answer → (ℕ → List Answer) → Type 0
-unfolding words
+unfolding definitions
 IsNext w site a done = IsClientAt w site a.client → a.seq ≡ suc (length (done a.client))
 
 -- ---- a local call
@@ -59,7 +59,7 @@ pub record InHand (w : s.Workload) (b : BookState) (l : BookLists) (cells : List
 -- ---- while a round is closed, the answers to a site's entries go over one by one
 -- the answers to the first k entries have come to the ends of the lists
 abbrev pub HasMoved : s.Workload → SiteState → ℕ → (ℕ → List Answer) → (ℕ → List Answer) → Type 0
-unfolding words
+unfolding definitions
 HasMoved w x k old now =
     (client : ℕ) → IsClientAt w x.number client →
     now client ≡ old client ++ answers_to client (map (local_answer x.round x.number) (take k x.segment))

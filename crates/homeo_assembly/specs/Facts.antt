@@ -9,7 +9,7 @@ use Rattle.homeo_history.specs.Answers.{Answer, local_answer, answers_of, answer
 use Rattle.homeo_history.specs.Legal.{IsClientAt}
 use Rattle.homeo_site.specs.SiteState.{SiteState, SiteHolds}
 use Rattle.homeo_core.specs.Joined.{BookState, BookHolds}
-use Rattle.homeo_assembly.specs.Key.{words}
+use Rattle.homeo_assembly.specs.Key.{definitions}
 
 -- ---- a site
 -- the bases of the rounds that the site has been in; for each client the answers that it gave it, and those of them that stand in
@@ -48,7 +48,7 @@ pub record Cell : Type 0 where
   pub lists : SiteLists
 
 abbrev pub states_of : List Cell → List SiteState
-unfolding words
+unfolding definitions
 states_of cells = map (λ c. c.site) cells
 
 -- there is a cell for each site, in order; each site has been in all rounds, and has of its clients in closed rounds what the

@@ -14,7 +14,7 @@ use Rattle.homeo_history.specs.Legal.{IsCallAt, IsLegal}
 use Rattle.homeo_site.specs.SiteState.{SiteState, KeepsCall, local_entry, after_local, begun, renewed}
 use Rattle.homeo_core.specs.Events.{BreaksCall, closing_of, next_base, after_closing}
 use Rattle.homeo_core.specs.Joined.{BookState, history_of}
-use Rattle.homeo_assembly.specs.Key.{words}
+use Rattle.homeo_assembly.specs.Key.{definitions}
 use Rattle.homeo_assembly.specs.Facts.{SiteLists, SiteFacts, BookLists, BookFacts, Cell, states_of, AreMet, AreAsked}
 use Rattle.homeo_assembly.specs.Events.{ExtendsDone, Renews, Closes, InHand, Moves, no_answers}
 
@@ -31,7 +31,7 @@ pub record IsAssembled (w : s.Workload) (asked : List (List Answer)) (h : Histor
 
 -- where the lists of sites, book and clients are found equal, the closed rounds and the sites make such a history
 abbrev pub Assembly : Type 0
-unfolding words
+unfolding definitions
 Assembly =
     (w : s.Workload) (b : BookState) (l : BookLists) (cells : List Cell) (asked : List (List Answer)) → IsAccepted w →
     BookFacts w b l → All (λ c. SiteFacts w c.site c.lists) cells → AreMet w l cells → AreAsked w cells asked →
@@ -40,7 +40,7 @@ Assembly =
 -- ---- what calls keep
 -- a local call keeps what its site keeps, where the site gives its answer
 abbrev pub LocalEvent : Type 0
-unfolding words
+unfolding definitions
 LocalEvent =
     (w : s.Workload) (x : SiteState) (call : CallId) (l l' : SiteLists) → IsAccepted w → SiteFacts w x l →
     IsCallAt w x.number call → KeepsCall w x call →
@@ -48,14 +48,14 @@ LocalEvent =
 
 -- a site keeps it in the next round
 abbrev pub SiteRenewal : Type 0
-unfolding words
+unfolding definitions
 SiteRenewal =
     (w : s.Workload) (base : List ℤ) (x : SiteState) (a : Answer) (l l' : SiteLists) → IsAccepted w →
     IsWithin (schema_of w) base → SiteFacts w x l → Renews w base x a l l' → SiteFacts w (renewed base x) l'
 
 -- and so do sites and book together, whose lists are then found equal again
 abbrev pub CleanupEvent : Type 0
-unfolding words
+unfolding definitions
 CleanupEvent =
     (w : s.Workload) (b : BookState) (l l' : BookLists) (cells cells' : List Cell) (home : ℕ) (call : CallId) (broken : Broken) →
     IsAccepted w → InHand w b l cells → BreaksCall w (states_of cells) home call broken →
@@ -64,18 +64,18 @@ CleanupEvent =
     InHand w (after_closing w b (states_of cells) home call broken) l' cells'
 
 abbrev pub Moving : Type 0
-unfolding words
+unfolding definitions
 Moving = (w : s.Workload) (x : SiteState) (l : SiteLists) → SiteFacts w x l → Moves w x l
 
 -- ---- the start: no answer, and one base
 abbrev pub SiteStart : Type 0
-unfolding words
+unfolding definitions
 SiteStart =
     (w : s.Workload) (site : ℕ) → IsAccepted w → site < sites_of w →
     SiteFacts w (begun site 0 (initial w)) (record { at = initial w ∷ []; done = no_answers; shut = no_answers })
 
 abbrev pub BookStart : Type 0
-unfolding words
+unfolding definitions
 BookStart =
     (w : s.Workload) → IsAccepted w →
     BookFacts w (record { closed = []; base = initial w }) (record { bases = initial w ∷ []; kept = no_answers })

@@ -3,11 +3,11 @@ use Rattle.std.proofs.Common.{◌≡◌, ◌≤◌, Bool, true, false, ◌||◌,
 use mir.Syntax.{w64}
 use Rattle.std.proofs.lemmas.Int.{ints, fits_signed_from_abs, to_z-of_z}
 use Rattle.homeo_syntax.specs.Source as s
-use Rattle.homeo_syntax.specs.Key.{words as syntax}
+use Rattle.homeo_syntax.specs.Key.{definitions as syntax_definitions}
 use Rattle.homeo_syntax.specs.SourceView.{plain_workload}
 use Rattle.homeo_syntax.specs.declared.phrase.Number.{Number}
 use Rattle.homeo_syntax.specs.declared.workload.Workload.{Workload}
-use Rattle.homeo_meaning.specs.Key.{words as meanings}
+use Rattle.homeo_meaning.specs.Key.{definitions as meaning_definitions}
 use Rattle.homeo_meaning.specs.Acceptance.{IsAccepted}
 use Rattle.homeo_meaning.specs.ListRules.{when, number_fault}
 use Rattle.homeo_meaning.specs.NumberRules.{site_count_faults}
@@ -15,7 +15,7 @@ use Rattle.homeo_meaning.specs.Schema.{nat_of}
 use Rattle.homeo_meaning.specs.declared.call.Purpose.TheVariants.{Run}
 use Rattle.homeo_meaning.specs.declared.rules.Phase.TheVariants.{Limits}
 use Rattle.homeo_meaning.proofs.FaultParts.{NoFault, parts, limit_parts}
-use Rattle.homeo_plan.specs.Key.{words as plans}
+use Rattle.homeo_plan.specs.Key.{definitions as plan_definitions}
 use Rattle.homeo_plan.specs.Planned.{sites_of}
 
 pub record IsFew (n : ℤ) : Type 0 where
@@ -23,7 +23,7 @@ pub record IsFew (n : ℤ) : Type 0 where
   pub few : n ≤ℤ pos 16
 
 few_number : (n : Number) → site_count_faults n ≡ [] → IsFew n.value
-unfolding meanings
+unfolding meaning_definitions
 few_number n none = go (int_lt n.value (pos 1)) (int_lt (pos 16) n.value) refl refl none
   where
     go :
@@ -54,16 +54,16 @@ read n h = to_z-of_z w64 n (fits_signed_from_abs w64 n (omega (arith, ints, h.so
 
 module _ (w lent : Workload) (same : lent ≡ w) (accepted : IsAccepted (plain_workload w)) where
   lent_few : IsFew lent.sites.value
-  unfolding syntax
+  unfolding syntax_definitions
   lent_few = subst (λ (v : Workload). IsFew v.sites.value) (sym same) (few_sites (plain_workload w) accepted)
 
   pub read_few : IsFew (to_z w64 (of_z w64 lent.sites.value))
   read_few = subst IsFew (sym (read lent.sites.value lent_few)) lent_few
 
   pub read_is : nat_of (to_z w64 (of_z w64 lent.sites.value)) ≡ sites_of (plain_workload w)
-  unfolding syntax plans
+  unfolding syntax_definitions plan_definitions
   read_is = ap nat_of (read lent.sites.value lent_few) ∙ ap (λ (v : Workload). nat_of v.sites.value) same
 
   pub some_sites : 1 ≤ sites_of (plain_workload w)
-  unfolding plans
+  unfolding plan_definitions
   some_sites = (sites_few (plain_workload w) accepted).some

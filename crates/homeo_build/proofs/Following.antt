@@ -3,7 +3,7 @@ use Rattle.std.proofs.Common.{◌≡◌, ℕ, zero, suc, ◌<◌, List, [], ◌�
 use Rattle.std.specs.Prelude.{slice_get, slice_index_or}
 use Rattle.homeo_syntax.specs.Low.{Command}
 use Rattle.homeo_syntax.specs.Source as s
-use Rattle.homeo_meaning.specs.Key.{words as meanings}
+use Rattle.homeo_meaning.specs.Key.{definitions as meaning_definitions}
 use Rattle.homeo_meaning.specs.Acceptance.{IsAccepted}
 use Rattle.homeo_meaning.specs.Bounds.{IsWithin}
 use Rattle.homeo_meaning.specs.CallForm.{ground_form}
@@ -12,7 +12,7 @@ use Rattle.homeo_meaning.specs.Schema.{schema_of}
 use Rattle.homeo_meaning.specs.Serial.{values_of}
 use Rattle.homeo_meaning.specs.Small.{IsSmall}
 use Rattle.homeo_meaning.proofs.Within.{all_within}
-use Rattle.homeo_plan.specs.Key.{words as plans}
+use Rattle.homeo_plan.specs.Key.{definitions as plan_definitions}
 use Rattle.homeo_plan.specs.Each.{Each}
 use Rattle.homeo_plan.specs.Limit.{form_limit}
 use Rattle.homeo_plan.specs.Needs.{remote}
@@ -40,16 +40,16 @@ module _ (w : s.Workload) (base : List ℤ) (accepted : IsAccepted w) (within : 
       subst (IsSmallAlong (values_of base)) (sym h.is) (record { can = r.0; left = r.1 })
 
   pub small_forms : (fs : List Command) → Each (IsCallForm w) fs → Each (IsSmallAlong (values_of base)) fs
-  unfolding plans
+  unfolding plan_definitions
   small_forms [] h = tt
   small_forms (f ∷ fs) h = (small_form f h.0, small_forms fs h.1)
 
   pub small_base : (x : ℕ) → IsSmall form_limit (values_of base x)
-  unfolding meanings
+  unfolding meaning_definitions
   small_base x = omega (arith, values_small w accepted (values_of base) (all_within (schema_of w) base within) x)
 
 pub each_here : {X Y : Type 0} (P : Y → Type 0) (f : X → Y) (xs : List X) (i : ℕ) (x : X) → Each P (map f xs) → i < length xs → x ≡ get_or xs i x → P (f x)
-unfolding plans
+unfolding plan_definitions
 each_here P f [] i x h l p = absurd (omega (arith, l))
 each_here P f (z ∷ xs) zero x h l p = subst (λ y. P (f y)) (sym p) h.0
 each_here P f (z ∷ xs) (suc i) x h l p = each_here P f xs i x h.1 (omega (arith, l)) p
@@ -103,9 +103,9 @@ module _
 -- ---- a ground call
 module _ (w : s.Workload) (g : Ground) (b : ℕ → ℤ) (site : g.site < sites_of w) where
   pub atoms_are : map (expanded (sites_of w)) (followed b (ground_form w g)).atoms ≡ atoms_of (sites_of w) b (planned_call w g)
-  unfolding plans
+  unfolding plan_definitions
   atoms_are = sym (atoms_are_followed (sites_of w) b (planned_call w g) site (ground_whole w g))
 
   pub needs_are : remote g.site (expanded_deltas (sites_of w) (needed b (followed b (ground_form w g)))) ≡ needs_of (sites_of w) b (planned_call w g)
-  unfolding plans
+  unfolding plan_definitions
   needs_are = sym (needs_are_followed (sites_of w) b (planned_call w g) site (ground_whole w g))

@@ -10,14 +10,14 @@ use Rattle.homeo_syntax.specs.Low.{Command}
 use Rattle.homeo_syntax.specs.LowView.{plain_lcommand}
 use Rattle.homeo_syntax.specs.Source as s
 use Rattle.homeo_syntax.specs.declared.low.LCommand.{LCommand}
-use Rattle.homeo_meaning.specs.Key.{words as meanings}
+use Rattle.homeo_meaning.specs.Key.{definitions as meaning_definitions}
 use Rattle.homeo_meaning.specs.CallForm.{body_form, ground_form}
 use Rattle.homeo_meaning.specs.Calls.{IsGroundCall}
 use Rattle.homeo_meaning.specs.Ground.{Ground, plain_ground, grounds}
 use Rattle.homeo_meaning.specs.declared.call.GroundCall.{GroundCall}
-use Rattle.homeo_plan.specs.Key.{words as plans}
+use Rattle.homeo_plan.specs.Key.{definitions as plan_definitions}
 use Rattle.homeo_plan.specs.Each.{Each}
-use Rattle.homeo_build.specs.Key.{words}
+use Rattle.homeo_build.specs.Key.{definitions}
 use Rattle.homeo_build.specs.Forms.{IsCallForm, HaveForms, AreForms}
 use Rattle.homeo_build.specs.inner.Bodies.{ground_to, IsFormTo, HaveBodies, StayPlaced}
 use Rattle.homeo_build.specs.declared.forms.Body.{Body}
@@ -106,20 +106,20 @@ form_at w (a ∷ bs) (f ∷ fs) zero b h e =
 form_at w (a ∷ bs) (f ∷ fs) (suc j) b h e = form_at w bs fs j b h.1 e
 
 pub made_each : (w : s.Workload) (bs : List Body) (fs : List Command) → HaveBodies w bs fs → Each (IsCallForm w) fs
-unfolding plans
+unfolding plan_definitions
 made_each w [] [] h = tt
 made_each w [] (f ∷ fs) h = absurd h
 made_each w (b ∷ bs) [] h = absurd h
 made_each w (b ∷ bs) (f ∷ fs) h = (record { call = ground_to b; made = h.0.made; is = h.0.is }, made_each w bs fs h.1)
 
 body_alike : (w : s.Workload) (b k : Body) → b.transaction ≡ k.transaction → b.args.items ≡ k.args.items → ground_form w (ground_to b) ≡ ground_form w (ground_to k)
-unfolding meanings
+unfolding meaning_definitions
 body_alike w b k p q = ap₂ (λ n xs. body_form w (slice_get w.transactions n) xs) p q
 
 -- ---- a body that is put to those before it
 module _ (w : s.Workload) (g : Ground) (b : Body) (transaction : b.transaction ≡ g.transaction) (args : b.args.items ≡ g.args) where
   alike : ground_form w (ground_to b) ≡ ground_form w g
-  unfolding meanings
+  unfolding meaning_definitions
   alike = ap₂ (λ n xs. body_form w (slice_get w.transactions n) xs) transaction args
 
   made_alike : IsGroundCall w g.transaction g.args → IsGroundCall w b.transaction b.args.items
@@ -148,21 +148,21 @@ module _ (w : s.Workload) (g : Ground) (b : Body) (transaction : b.transaction �
 
 -- ---- ground calls with the places of their forms
 have_more : (w : s.Workload) (fs more : List Command) (gs : List Ground) (ns : List ℕ) → StayPlaced fs more → HaveForms w fs gs ns → HaveForms w more gs ns
-unfolding words
+unfolding definitions
 have_more w fs more [] [] t h = tt
 have_more w fs more [] (n ∷ ns) t h = absurd h
 have_more w fs more (g ∷ gs) [] t h = absurd h
 have_more w fs more (g ∷ gs) (n ∷ ns) t h = (t n (ground_form w g) h.0, have_more w fs more gs ns t h.1)
 
 have_end : (w : s.Workload) (fs : List Command) (gs : List Ground) (ns : List ℕ) (g : Ground) (n : ℕ) → HaveForms w fs gs ns → slice_get fs n ≡ Some (ground_form w g) → HaveForms w fs (gs ++ g ∷ []) (ns ++ n ∷ [])
-unfolding words
+unfolding definitions
 have_end w fs [] [] g n h e = (e, tt)
 have_end w fs [] (m ∷ ns) g n h e = absurd h
 have_end w fs (f ∷ gs) [] g n h e = absurd h
 have_end w fs (f ∷ gs) (m ∷ ns) g n h e = (h.0, have_end w fs gs ns g n h.1 e)
 
 pub have_none : (w : s.Workload) (fs : List Command) (ns : List ℕ) → ns ≡ [] → HaveForms w fs [] ns
-unfolding words
+unfolding definitions
 have_none w fs ns p = subst (HaveForms w fs []) (sym p) tt
 
 -- one call more
@@ -186,14 +186,14 @@ have_all w fs calls i ns past are h =
     subst (λ l. HaveForms w fs l ns) (ap (map plain_ground) (take_all i calls past) ∙ are) h
 
 have_count : (w : s.Workload) (fs : List Command) (gs : List Ground) (ns : List ℕ) → HaveForms w fs gs ns → length gs ≡ length ns
-unfolding words
+unfolding definitions
 have_count w fs [] [] h = refl
 have_count w fs [] (n ∷ ns) h = absurd h
 have_count w fs (g ∷ gs) [] h = absurd h
 have_count w fs (g ∷ gs) (n ∷ ns) h = ap suc (have_count w fs gs ns h.1)
 
 have_at : (w : s.Workload) (fs : List Command) (gs : List Ground) (ns : List ℕ) (i : ℕ) (g : Ground) → HaveForms w fs gs ns → i < length gs → slice_get fs (slice_index_or ns i 0) ≡ Some (ground_form w (get_or gs i g))
-unfolding words
+unfolding definitions
 have_at w fs [] ns i g h l = absurd (omega (arith, l))
 have_at w fs (f ∷ gs) [] i g h l = absurd h
 have_at w fs (f ∷ gs) (n ∷ ns) zero g h l = h.0

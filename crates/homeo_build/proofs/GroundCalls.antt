@@ -4,7 +4,7 @@ use Rattle.std.proofs.lemmas.List.{get_or-map, length-map, take_all}
 use Rattle.homeo_syntax.specs.LowView.{plain_lcommand}
 use Rattle.homeo_syntax.specs.Source as s
 use Rattle.homeo_syntax.specs.declared.low.LCommand.{LCommand}
-use Rattle.homeo_meaning.specs.Key.{words as meanings}
+use Rattle.homeo_meaning.specs.Key.{definitions as meaning_definitions}
 use Rattle.homeo_meaning.specs.Acceptance.{IsAccepted}
 use Rattle.homeo_meaning.specs.GlobalNames.{SitedCall}
 use Rattle.homeo_meaning.specs.Ground.{Ground, plain_ground, ground_of_sited, grounds}
@@ -13,7 +13,7 @@ use Rattle.homeo_meaning.specs.declared.call.GroundCall.{GroundCall}
 use Rattle.homeo_meaning.proofs.GroundCalls.{Every}
 use Rattle.homeo_meaning.proofs.SoundRules.{all_none, all_more}
 use Rattle.homeo_ground.proofs.Called.{are_called}
-use Rattle.homeo_plan.specs.Key.{words as plans}
+use Rattle.homeo_plan.specs.Key.{definitions as plan_definitions}
 use Rattle.homeo_plan.specs.Planned.{sites_of, planned_call, planned, transformed}
 use Rattle.homeo_plan.specs.Template.{PlannedCall, shifted}
 use Rattle.homeo_plan.proofs.PlannedCalls.{StandsBelow, ground_sites_below}
@@ -27,7 +27,7 @@ of_call w h call = h (planned_call w (plain_ground call))
 pub of_calls :
     {Z : Type 0} (w : s.Workload) (h : PlannedCall → Z) (calls : List GroundCall) → map plain_ground calls ≡ grounds w →
     map (of_call w h) calls ≡ map h (planned w)
-unfolding plans
+unfolding plan_definitions
 of_calls w h calls are =
     sym (map_map plain_ground (λ g. h (planned_call w g)) calls) ∙ ap (map (λ g. h (planned_call w g))) are
     ∙ sym (map_map (planned_call w) h (grounds w))
@@ -44,18 +44,18 @@ of_all w h made calls i past are so_far = so_far ∙ ap (map (of_call w h)) (tak
 pub commands_are :
     (w : s.Workload) (calls : List GroundCall) (commands : List LCommand) → map plain_ground calls ≡ grounds w →
     map plain_lcommand commands ≡ transformed w → map plain_lcommand commands ≡ map (of_call w (shifted (sites_of w))) calls
-unfolding plans
+unfolding plan_definitions
 commands_are w calls commands are made = made ∙ sym (of_calls w (shifted (sites_of w)) calls are)
 
 -- ---- each can be compiled
 all_below : (w : s.Workload) (us : List SitedCall) → Every (StandsBelow (sites_of w)) us → All (λ (g : Ground). g.site < sites_of w) (map (ground_of_sited w) us)
-unfolding meanings
+unfolding meaning_definitions
 all_below w [] h = all_none (λ (g : Ground). g.site < sites_of w)
 all_below w (u ∷ us) h =
     all_more (λ (g : Ground). g.site < sites_of w) (ground_of_sited w u) (map (ground_of_sited w) us) h.0 (all_below w us h.1)
 
 pub can_compile : (w : s.Workload) → IsAccepted w → All (CanCompile w) (grounds w)
-unfolding meanings
+unfolding meaning_definitions
 can_compile w accepted k g lt =
     record {
       called = are_called w accepted k g lt;

@@ -8,7 +8,7 @@ use Rattle.homeo_meaning.specs.Ground.{Ground, grounds}
 use Rattle.homeo_meaning.specs.Schema.{schema_of}
 use Rattle.homeo_meaning.specs.Serial.{values_of}
 use Rattle.homeo_meaning.specs.Small.{IsSmall}
-use Rattle.homeo_plan.specs.Key.{words as plans}
+use Rattle.homeo_plan.specs.Key.{definitions as plan_definitions}
 use Rattle.homeo_plan.specs.Config as config
 use Rattle.homeo_plan.specs.Each.{Each}
 use Rattle.homeo_plan.specs.FormSizes.{Numbers}
@@ -22,7 +22,7 @@ use Rattle.homeo_plan.specs.declared.forms.Delta.{Delta}
 use Rattle.homeo_plan.specs.declared.templates.Config.{Config}
 use Rattle.homeo_plan.proofs.Covering.{each_map}
 use Rattle.homeo_plan.proofs.Policy.{slacks_law, policy_fits}
-use Rattle.homeo_build.specs.Key.{words}
+use Rattle.homeo_build.specs.Key.{definitions}
 use Rattle.homeo_build.specs.Plan.{config_or}
 use Rattle.homeo_build.specs.inner.Planning.{CanCompile, CanPlan}
 use Rattle.homeo_build.proofs.GroundCalls.{can_compile}
@@ -34,11 +34,11 @@ pub template_is :
     (w : s.Workload) (base : List ℤ) (t : Template) (sets : List (List Linear)) (needed : List (List Delta)) → t ≡ join_sets sets needed →
     sets ≡ map (atoms_of (sites_of w) (values_of base)) (planned w) → needed ≡ map (needs_of (sites_of w) (values_of base)) (planned w) →
     t ≡ template_at w base
-unfolding plans
+unfolding plan_definitions
 template_is w base t sets needed is sets_are needed_are = is ∙ ap₂ join_sets sets_are needed_are
 
 pub has_slack : (w : s.Workload) (base : List ℤ) (t : Template) → t ≡ template_at w base → config.HaveSlack t.clauses
-unfolding plans
+unfolding plan_definitions
 has_slack w base t is =
     subst (λ (u : Template). config.HaveSlack u.clauses) (sym is) (slacks_law (sites_of w) (values_of base) (planned w))
 
@@ -51,7 +51,7 @@ module _ (w : s.Workload) (base : List ℤ) (accepted : IsAccepted w) (within : 
   of_ground g = atoms_of (sites_of w) (values_of base) (planned_call w g)
 
   small_here : (g : Ground) → CanCompile w g → HasSmallConstants (of_ground g)
-  unfolding plans of_ground
+  unfolding plan_definitions of_ground
   small_here g can =
       let plan : CanPlan _ base = can_plan w g base accepted can.called.made within can.site in
       each_map (Numbers (IsSmall form_limit)) (λ (a : Linear). IsSmall form_limit a.constant) (λ a n. n.constant) (of_ground g) plan.small.atoms
@@ -62,7 +62,7 @@ module _ (w : s.Workload) (base : List ℤ) (accepted : IsAccepted w) (within : 
   pub small_sets :
       (sets : List AtomSet) → map plain_atoms sets ≡ map (atoms_of (sites_of w) (values_of base)) (planned w) →
       All (λ s. HasSmallConstants (plain_atoms s)) sets
-  unfolding plans of_ground
+  unfolding plan_definitions of_ground
   small_sets sets are i set lt =
       let gs = grounds w in
       let same : map plain_atoms sets ≡ map of_ground gs = are ∙ map_map (planned_call w) (atoms_of (sites_of w) (values_of base)) gs in
@@ -75,14 +75,14 @@ module _ (w : s.Workload) (base : List ℤ) (accepted : IsAccepted w) (within : 
 -- ---- configurations
 pub policy_is :
     (w : s.Workload) (base : List ℤ) (t : Template) → t ≡ template_at w base → config.split_by (shares_of w) t.clauses ≡ policy w base
-unfolding plans
+unfolding plan_definitions
 policy_is w base t is = ap (λ (u : Template). config.split_by (shares_of w) u.clauses) is
 
 pub config_fits :
     (w : s.Workload) (base : List ℤ) (made : Config) (given : Option Config) → IsAccepted w →
     ((c : Config) → given ≡ Some c → config.Fits (sites_of w) (template_at w base).clauses (plain_config c)) →
     plain_config made ≡ config_or (policy w base) given → config.Fits (sites_of w) (template_at w base).clauses (plain_config made)
-unfolding words
+unfolding definitions
 config_fits w base made None accepted fits is =
     subst (config.Fits (sites_of w) (template_at w base).clauses) (sym is) (policy_fits w base accepted)
 config_fits w base made (Some c) accepted fits is =

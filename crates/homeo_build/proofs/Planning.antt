@@ -4,7 +4,7 @@ use mathlib.Core.Path.{fun_ext}
 use Rattle.std.specs.Int.RustNames.{unsigned_abs}
 use Rattle.std.proofs.lemmas.Int.{ints}
 use Rattle.homeo_syntax.specs.Source as s
-use Rattle.homeo_meaning.specs.Key.{words as meanings}
+use Rattle.homeo_meaning.specs.Key.{definitions as meaning_definitions}
 use Rattle.homeo_meaning.specs.Acceptance.{weight_limit as largest, IsAccepted}
 use Rattle.homeo_meaning.specs.Bounds.{AllWithin, IsWithin}
 use Rattle.homeo_meaning.specs.CallForm.{ground_form}
@@ -16,7 +16,7 @@ use Rattle.homeo_meaning.specs.Schema.{schema_of}
 use Rattle.homeo_meaning.specs.Serial.{values_of}
 use Rattle.homeo_meaning.specs.Small.{IsSmall}
 use Rattle.homeo_meaning.proofs.Within.{all_within}
-use Rattle.homeo_plan.specs.Key.{words as plans}
+use Rattle.homeo_plan.specs.Key.{definitions as plan_definitions}
 use Rattle.homeo_plan.specs.Limit.{form_limit}
 use Rattle.homeo_plan.specs.Needs.{IsStraight}
 use Rattle.homeo_plan.specs.Planned.{sites_of, planned_call}
@@ -40,11 +40,11 @@ use Rattle.homeo_build.proofs.FewSites.{sites_few}
 
 -- ---- a base without deltas
 no_temps : (b : ℕ → ℤ) → HasNoTemps (whole b)
-unfolding plans meanings
+unfolding plan_definitions meaning_definitions
 no_temps b t = refl
 
 fold_base : (k : ℕ) (b : ℕ → ℤ) (x : ℕ) → fold_state k (whole b) (BaseAt x) ≡ b x
-unfolding plans meanings
+unfolding plan_definitions meaning_definitions
 fold_base k b x = omega (arith, ints, sum_zero 0 k)
 
 -- ---- a ground call at a base
@@ -63,7 +63,7 @@ module _
     small_values = values_small w accepted (values_of base) (all_within (schema_of w) base within)
 
     parts : HasSmallParts k g.site most largest (whole b)
-    unfolding meanings
+    unfolding meaning_definitions
     parts =
         record {
           fold = λ x. subst (λ v. unsigned_abs v ≤ largest) (sym (fold_base k b x)) (omega (arith, small_values x));
@@ -79,7 +79,7 @@ module _
     computes = fold_numbers w g k (whole b) accepted called (no_temps b) fold_within
 
     few : largest + k * most ≤ run_limit
-    unfolding k plans
+    unfolding k plan_definitions
     few = let n = (sites_few w accepted).few in omega (arith, n)
 
     runs : can_exec run_limit (shift k g.site (ground_form w g)) (whole b) ≡ true
@@ -96,7 +96,7 @@ module _
         (accepted_forms w g k g.site base accepted called within site)
 
     pub can_plan : CanPlan (shifted (sites_of w) (planned_call w g)) base
-    unfolding plans k b
+    unfolding plan_definitions k b
     can_plan =
         record {
           runs = runs;

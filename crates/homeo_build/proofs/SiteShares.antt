@@ -9,15 +9,15 @@ use Rattle.std.proofs.lemmas.List.FromFn.{map-range_with_len_more}
 use Rattle.std.proofs.lemmas.List.Sums.{sum_by-cons, sum_by_more}
 use Rattle.homeo_syntax.specs.Listed.{Listed}
 use Rattle.homeo_syntax.specs.Source as s
-use Rattle.homeo_syntax.specs.Key.{words as syntax}
+use Rattle.homeo_syntax.specs.Key.{definitions as syntax_definitions}
 use Rattle.homeo_syntax.specs.SourceView.{plain_workload}
 use Rattle.homeo_syntax.specs.WellFormed as formed
 use Rattle.homeo_syntax.specs.declared.phrase.Number.{Number}
 use Rattle.homeo_syntax.specs.declared.workload.Workload.{Workload}
 use Rattle.homeo_meaning.specs.Acceptance.{IsAccepted}
-use Rattle.homeo_meaning.specs.Key.{words as meanings}
+use Rattle.homeo_meaning.specs.Key.{definitions as meaning_definitions}
 use Rattle.homeo_meaning.specs.Schema.{nat_of}
-use Rattle.homeo_plan.specs.Key.{words as plans}
+use Rattle.homeo_plan.specs.Key.{definitions as plan_definitions}
 use Rattle.homeo_plan.specs.Config.{AreShares, CanShare, natural_list, split_each, split_by}
 use Rattle.homeo_plan.specs.Each.{Each}
 use Rattle.homeo_plan.specs.Planned.{sites_of, planned, shares_of}
@@ -32,22 +32,22 @@ use Rattle.homeo_plan.proofs.Shares.{IsLight, are_shares, even_without, weights_
 
 -- ---- natural numbers as numbers of the code
 pub back : (qs : List ℕ) → map nat_of (map pos qs) ≡ qs
-unfolding meanings
+unfolding meaning_definitions
 back [] = refl
 back (q ∷ qs) = ap (λ l. q ∷ l) (back qs)
 
 each_natural : (qs : List ℕ) → Each (λ n. pos 0 ≤ℤ n) (map pos qs)
-unfolding plans
+unfolding plan_definitions
 each_natural [] = tt
 each_natural (q ∷ qs) = (omega (arith, ints), each_natural qs)
 
 each_small : (qs : List ℕ) → Each (λ q. q ≤ 1000) qs → Each (λ n. n ≤ℤ pos 1000) (map pos qs)
-unfolding plans
+unfolding plan_definitions
 each_small [] h = tt
 each_small (q ∷ qs) h = let small = h.0 in (omega (arith, ints, small), each_small qs h.1)
 
 pub can_share : (w : s.Workload) (c : Clause) → IsAccepted w → CanShare (sites_of w) (map pos (shares_of w c))
-unfolding plans
+unfolding plan_definitions
 can_share w c accepted = record {
   are = subst (AreShares (sites_of w)) (sym (back (shares_of w c))) (are_shares (sites_of w) (some_sites w accepted) w.weights (planned w) c);
   natural = each_natural (shares_of w c);
@@ -99,11 +99,11 @@ ones_are zero = refl
 ones_are (suc k) = ap (λ l. pos 1 ∷ l) (ones_are k)
 
 pub even_shares : (k : ℕ) (items : List ℤ) (qs : List ℕ) → items ≡ map pos (replicate k 1) → true ≡ (sum qs == 0) → items ≡ map pos (or_even k qs)
-unfolding plans
+unfolding plan_definitions
 even_shares k items qs e none = e ∙ ap (λ b. map pos (if b then replicate k 1 else qs)) none
 
 pub own_shares : (k : ℕ) (items : List ℤ) (qs : List ℕ) → items ≡ map pos qs → false ≡ (sum qs == 0) → items ≡ map pos (or_even k qs)
-unfolding plans
+unfolding plan_definitions
 own_shares k items qs e some = e ∙ ap (λ b. map pos (if b then replicate k 1 else qs)) some
 
 -- ---- one site after another
@@ -124,14 +124,14 @@ shares_light w c items n accepted e = subst (Each (λ n. n ≤ℤ pos 1000)) (sy
 
 -- ---- weights
 natural_value : (z : ℤ) → pos 0 ≤ℤ z → z ≡ pos (nat_of z)
-unfolding meanings
+unfolding meaning_definitions
 natural_value (pos n) h = refl
 natural_value (negsuc n) h = absurd (omega (arith, ints, h))
 
 pub weight_here :
     (ns : List Number) (i : ℕ) (d : Number) → Each (λ n. pos 0 ≤ℤ n.value) ns → Each (λ n. n.value ≤ℤ pos 1000) ns → i < length ns →
     to_z w64 (of_z w64 (get_or ns i d).value) ≡ pos (weight_of ns i)
-unfolding plans
+unfolding plan_definitions
 weight_here ns i d natural small h =
     let low = each_at (λ (n : Number). pos 0 ≤ℤ n.value) ns i d natural h in
     let high = each_at (λ (n : Number). n.value ≤ℤ pos 1000) ns i d small h in
@@ -143,13 +143,13 @@ weight_here ns i d natural small h =
     weight_at (n ∷ ns) (suc i) d h = weight_at ns i d (omega (arith, h))
 
 pub weight_past : (ns : List Number) (i : ℕ) → length ns ≤ i → pos 0 ≡ pos (weight_of ns i)
-unfolding plans
+unfolding plan_definitions
 weight_past [] i h = refl
 weight_past (n ∷ ns) zero h = absurd (omega (arith, h))
 weight_past (n ∷ ns) (suc i) h = weight_past ns i (omega (arith, h))
 
 weight_low : (ns : List Number) (i : ℕ) → Each (λ n. n.value ≤ℤ pos 1000) ns → weight_of ns i ≤ 1000
-unfolding plans meanings
+unfolding plan_definitions meaning_definitions
 weight_low [] i h = omega arith
 weight_low (n ∷ ns) zero h = below n.value h.0
   where
@@ -164,12 +164,12 @@ weight_back ns i z small is =
     number_back z (omega (arith, ints, is)) (omega (arith, ints, is, low))
 
 natural_weights : (ns : List Number) → formed.Each (λ (n : Number). pos 0 ≤ℤ n.value) ns → Each (λ n. pos 0 ≤ℤ n.value) ns
-unfolding plans syntax
+unfolding plan_definitions syntax_definitions
 natural_weights [] h = tt
 natural_weights (n ∷ ns) h = (h.0, natural_weights ns h.1)
 
 small_weights : (ns : List Number) → Each (λ n. pos 0 ≤ℤ n.value) ns → Each IsLight ns → Each (λ n. n.value ≤ℤ pos 1000) ns
-unfolding plans meanings
+unfolding plan_definitions meaning_definitions
 small_weights [] h l = tt
 small_weights (n ∷ ns) h l = (below n.value h.0 l.0, small_weights ns h.1 l.1)
   where
@@ -180,7 +180,7 @@ small_weights (n ∷ ns) h l = (below n.value h.0 l.0, small_weights ns h.1 l.1)
 -- the weights of an accepted workload, as the code has them
 module _ (w lent : Workload) (accepted : IsAccepted (plain_workload w)) (same : lent ≡ w) (ns : List Number) (are : ns ≡ lent.weights.items) where
   weights_are : ns ≡ (plain_workload w).weights
-  unfolding syntax
+  unfolding syntax_definitions
   weights_are = are ∙ ap (λ (v : Workload). v.weights.items) same
 
   pub weights_natural : Each (λ n. pos 0 ≤ℤ n.value) ns
@@ -191,11 +191,11 @@ module _ (w lent : Workload) (accepted : IsAccepted (plain_workload w)) (same : 
       small_weights ns weights_natural (subst (Each IsLight) (sym weights_are) (weights_light (plain_workload w) accepted))
 
   pub taken : (k : ℕ) (gs : List PlannedCall) (c : Clause) (i : ℕ) (weight : ℤ) → true ≡ takes_part k gs c i → weight ≡ pos (weight_of ns i) → weight ≡ pos (own_share k (plain_workload w).weights gs c i)
-  unfolding plans
+  unfolding plan_definitions
   taken k gs c i weight part is = is ∙ ap (λ (ws : List Number). pos (weight_of ws i)) weights_are ∙ ap (λ b. pos (if b then weight_of (plain_workload w).weights i else 0)) part
 
   pub without_weights : length ns ≡ 0 → (c : Clause) (items : List ℤ) (k : ℕ) → k ≡ sites_of (plain_workload w) → items ≡ map pos (replicate k 1) → items ≡ map pos (shares_of (plain_workload w) c)
-  unfolding plans
+  unfolding plan_definitions
   without_weights none c items k all is =
       is ∙ ap (λ n. map pos (replicate n 1)) all
       ∙ ap (map pos) (sym (ap (λ (ws : List Number). shares (sites_of (plain_workload w)) ws (planned (plain_workload w)) c) (sym weights_are ∙ nil ns none) ∙ even_without (sites_of (plain_workload w)) (planned (plain_workload w)) c))
@@ -205,14 +205,14 @@ module _ (w lent : Workload) (accepted : IsAccepted (plain_workload w)) (same : 
       nil (n ∷ ns) e = absurd (omega (arith, e))
 
 pub left_out : (k : ℕ) (ws : List Number) (gs : List PlannedCall) (c : Clause) (i : ℕ) → false ≡ takes_part k gs c i → pos 0 ≡ pos (own_share k ws gs c i)
-unfolding plans
+unfolding plan_definitions
 left_out k ws gs c i part = ap (λ b. pos (if b then weight_of ws i else 0)) part
 
 -- the shares are those of the definition
 pub shares_done :
     (w : s.Workload) (c : Clause) (k : ℕ) (made items : List ℤ) → k ≡ sites_of w → items ≡ map pos (map (own_share (sites_of w) w.weights (planned w) c) (range_with_len 0 k)) →
     AreOrEven k items made → made ≡ map pos (shares_of w c)
-unfolding plans
+unfolding plan_definitions
 shares_done w c k made items all is or =
     or (map (own_share (sites_of w) w.weights (planned w) c) (range_with_len 0 k)) is
     ∙ ap (λ n. map pos (or_even n (map (own_share (sites_of w) w.weights (planned w) c) (range_with_len 0 n)))) all
@@ -228,7 +228,7 @@ lists_more w lent i c l before after within is here so_far pushed =
     ∙ ap (map (shares_of w)) (sym (map_push plain_clause (take i lent) c) ∙ ap (λ x. map plain_clause (take i lent ++ x ∷ [])) is ∙ ap (map plain_clause) (sym (take_more lent i c within)))
 
 each_push : (P : Listed ℤ → Type 0) (ls : List (Listed ℤ)) (l : Listed ℤ) → Each P ls → P l → Each P (ls ++ l ∷ [])
-unfolding plans
+unfolding plan_definitions
 each_push P [] l h k = (k, tt)
 each_push P (x ∷ ls) l h k = (h.0, each_push P ls l h.1 k)
 
@@ -236,7 +236,7 @@ pub can_more : (k : ℕ) (before after : List (Listed ℤ)) (l : Listed ℤ) →
 can_more k before after l h can pushed = subst (Each (λ (q : Listed ℤ). CanShare k q.items)) (sym pushed) (each_push (λ (q : Listed ℤ). CanShare k q.items) before l h can)
 
 pub can_none : (k : ℕ) (lists : List (Listed ℤ)) → lists ≡ [] → Each (λ (q : Listed ℤ). CanShare k q.items) lists
-unfolding plans
+unfolding plan_definitions
 can_none k lists e = subst (Each (λ (q : Listed ℤ). CanShare k q.items)) (sym e) tt
 
 pub can_of : (w : s.Workload) (c : Clause) (items : List ℤ) → IsAccepted w → items ≡ map pos (shares_of w c) → CanShare (sites_of w) items
@@ -245,7 +245,7 @@ can_of w c items accepted e = subst (CanShare (sites_of w)) (sym e) (can_share w
 pub own_back :
     (w : s.Workload) (c : Clause) (i : ℕ) (z : ℤ) → IsAccepted w → z ≡ pos (own_share (sites_of w) w.weights (planned w) c i) →
     to_z w64 (of_z w64 z) ≡ pos (own_share (sites_of w) w.weights (planned w) c i)
-unfolding plans
+unfolding plan_definitions
 own_back w c i z accepted is =
     let low = (own_small w c accepted (i ∷ [])).0 in
     number_back z (omega (arith, ints, is)) (omega (arith, ints, is, low)) ∙ is
@@ -263,5 +263,5 @@ can_all n k lent lists sites same h =
 pub by_shares :
     (w : s.Workload) (lists : List (Listed ℤ)) (cs : List Clause) → map natural_list lists ≡ map (shares_of w) cs →
     split_each (map natural_list lists) cs ≡ split_by (shares_of w) cs
-unfolding plans
+unfolding plan_definitions
 by_shares w lists cs same = ap (λ qs. split_each qs cs) same

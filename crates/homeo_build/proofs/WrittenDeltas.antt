@@ -11,16 +11,16 @@ use Rattle.homeo_syntax.specs.Source as s
 use Rattle.homeo_syntax.specs.declared.low.LCommand.{LCommand}
 use Rattle.homeo_syntax.specs.declared.low.SplitName.{SplitName}
 use Rattle.homeo_syntax.specs.declared.low.SplitName.TheVariants as split
-use Rattle.homeo_syntax.specs.Key.{words as syntax}
+use Rattle.homeo_syntax.specs.Key.{definitions as syntax_definitions}
 use Rattle.homeo_meaning.specs.Ground.{Ground, plain_ground, grounds}
 use Rattle.homeo_meaning.specs.declared.call.GroundCall.{GroundCall}
-use Rattle.homeo_plan.specs.Key.{words as plans}
+use Rattle.homeo_plan.specs.Key.{definitions as plan_definitions}
 use Rattle.homeo_plan.specs.declared.forms.Delta.{Delta}
 use Rattle.homeo_plan.specs.declared.forms.Term.{Term}
 use Rattle.homeo_plan.specs.Planned.{sites_of, planned_call, planned, transformed}
 use Rattle.homeo_plan.specs.Shares.{names_delta, writes, writes_all, is_written, takes_part}
 use Rattle.homeo_plan.specs.Template.{PlannedCall, shifted, Clause}
-use Rattle.homeo_build.specs.Key.{words}
+use Rattle.homeo_build.specs.Key.{definitions}
 use Rattle.homeo_build.specs.Written.{delta_at, can_write, AreWritten}
 use Rattle.homeo_build.proofs.Grown.{map_map}
 
@@ -65,7 +65,7 @@ and_true false b e = refl
 pub put_marks :
     (new old : List Bool) (object at site : ℕ) → ((x : ℕ) → get_or new x false ≡ (if object == x then true else get_or old x false)) → at ≡ site →
     Marked new old (λ x. names_delta (delta_at site x) (split.Delta object at))
-unfolding plans
+unfolding plan_definitions
 put_marks new old object at site put same x =
     put x ∙ put_one (object == x) (get_or old x false)
     ∙ ap (λ b. get_or old x false || b)
@@ -76,7 +76,7 @@ and_false true b e = e
 and_false false b e = refl
 
 pub marks_elsewhere : (row : List Bool) (object at site : ℕ) → (at == site) ≡ false → Marked row row (λ x. names_delta (delta_at site x) (split.Delta object at))
-unfolding plans
+unfolding plan_definitions
 marks_elsewhere row object at site differ =
     marks_none row (λ x. names_delta (delta_at site x) (split.Delta object at)) (λ x. and_false (x == object) (site == at) (same_number site at ∙ differ))
 
@@ -97,13 +97,13 @@ marks_away row object at site name is differ x =
 pub marks_undivided :
     (row : List Bool) (site : ℕ) (name : SplitName) → ((x : ℕ) × (name ≡ split.Whole x)) ⊎ ((x : ℕ) × (name ≡ split.Base x)) →
     Marked row row (λ x. names_delta (delta_at site x) name)
-unfolding plans
+unfolding plan_definitions
 marks_undivided row site name (inl w) = marks_none row (λ x. names_delta (delta_at site x) name) (λ x. ap (names_delta (delta_at site x)) w.1)
 marks_undivided row site name (inr w) = marks_none row (λ x. names_delta (delta_at site x) name) (λ x. ap (names_delta (delta_at site x)) w.1)
 
 -- ---- commands one after another
 low_push : (cs : List Command) (c : Command) (d : Delta) → writes_all d (low_commands (cs ++ c ∷ [])) ≡ (writes_all d (low_commands cs) || writes d c)
-unfolding plans syntax
+unfolding plan_definitions syntax_definitions
 low_push [] c d = or_none (writes d c)
 low_push (x ∷ cs) c d = ap (λ b. writes d x || b) (low_push cs c d) ∙ sym (or_again (writes d x) (writes_all d (low_commands cs)) (writes d c))
 
@@ -121,7 +121,7 @@ marks_more cs i site c new row old within is later first x =
 
 -- of no commands
 pub marks_begin : (row : List Bool) (site : ℕ) → Marked row row (λ x. writes_all (delta_at site x) (low_commands []))
-unfolding plans syntax
+unfolding plan_definitions syntax_definitions
 marks_begin row site = marks_none row (λ x. false) (λ x. refl)
 
 -- a command is what its view is
@@ -131,33 +131,33 @@ pub marks_of :
 marks_of new old site c l is marked x = marked x ∙ ap (λ d. get_or old x false || writes (delta_at site x) d) (sym is)
 
 pub marks_skip : (row : List Bool) (site : ℕ) → Marked row row (λ x. writes (delta_at site x) Skip)
-unfolding plans
+unfolding plan_definitions
 marks_skip row site = marks_none row (λ x. false) (λ x. refl)
 
 pub marks_assign : (row : List Bool) (site : ℕ) (t : Temp) (e : Expr) → Marked row row (λ x. writes (delta_at site x) (Assign t e))
-unfolding plans
+unfolding plan_definitions
 marks_assign row site t e = marks_none row (λ x. false) (λ x. refl)
 
 pub marks_print : (row : List Bool) (site : ℕ) (e : Expr) → Marked row row (λ x. writes (delta_at site x) (Print e))
-unfolding plans
+unfolding plan_definitions
 marks_print row site e = marks_none row (λ x. false) (λ x. refl)
 
 pub marks_write : (new old : List Bool) (site : ℕ) (name : SplitName) (e : Expr) → Marked new old (λ x. names_delta (delta_at site x) name) → Marked new old (λ x. writes (delta_at site x) (Write name e))
-unfolding plans
+unfolding plan_definitions
 marks_write new old site name e marked = marked
 
 pub marks_seq :
     (new old : List Bool) (site : ℕ) (cs lent : List LCommand) → lent ≡ cs →
     Marked new old (λ x. writes_all (delta_at site x) (low_commands (map plain_lcommand lent))) →
     Marked new old (λ x. writes (delta_at site x) (Seq (low_commands (map plain_lcommand cs))))
-unfolding plans
+unfolding plan_definitions
 marks_seq new old site cs lent same marked x = marked x ∙ ap (λ l. get_or old x false || writes_all (delta_at site x) (low_commands (map plain_lcommand l))) same
 
 pub marks_if :
     (new row old : List Bool) (site : ℕ) (b : Cond) (one other : LCommand) (lent_one lent_other : LCommand) → lent_one ≡ one → lent_other ≡ other →
     Marked new row (λ x. writes (delta_at site x) (plain_lcommand lent_other)) → Marked row old (λ x. writes (delta_at site x) (plain_lcommand lent_one)) →
     Marked new old (λ x. writes (delta_at site x) (If b (plain_lcommand one) (plain_lcommand other)))
-unfolding plans
+unfolding plan_definitions
 marks_if new row old site b one other lent_one lent_other y n later first x =
     marks_both new row old (λ x. writes (delta_at site x) (plain_lcommand lent_one)) (λ x. writes (delta_at site x) (plain_lcommand lent_other)) later first x
     ∙ ap₂ (λ c d. get_or old x false || (writes (delta_at site x) (plain_lcommand c) || writes (delta_at site x) (plain_lcommand d))) y n
@@ -166,7 +166,7 @@ marks_if new row old site b one other lent_one lent_other y n later first x =
 can_push :
     (is : List ℕ) (cs : List Command) (i : ℕ) (c : Command) (d : Delta) → length is ≡ length cs →
     can_write (is ++ i ∷ []) (cs ++ c ∷ []) d ≡ (can_write is cs d || ((i == d.site) && writes d c))
-unfolding words
+unfolding definitions
 can_push [] [] i c d e = or_none ((i == d.site) && writes d c)
 can_push [] (x ∷ cs) i c d e = absurd (omega (arith, e))
 can_push (j ∷ is) [] i c d e = absurd (omega (arith, e))
@@ -224,7 +224,7 @@ module _ (calls : List GroundCall) (commands : List LCommand) (i site : ℕ) (ca
       same (x ∷ xs) (suc i) d h = same xs i d (omega (arith, h))
 
 can_nothing : (d : Delta) → can_write [] [] d ≡ false
-unfolding words
+unfolding definitions
 can_nothing d = refl
 
 pub none_written : (calls : List GroundCall) (commands : List LCommand) (site : ℕ) (row : List Bool) → row ≡ [] → (x : ℕ) → get_or row x false ≡ written_by calls commands 0 site x
@@ -239,14 +239,14 @@ calls_done calls commands i site row count past so_far x =
 
 -- ---- all ground calls
 can_is_written : (k : ℕ) (gs : List PlannedCall) (d : Delta) → can_write (map (λ g. g.site) gs) (map (shifted k) gs) d ≡ is_written k gs d
-unfolding words plans
+unfolding definitions plan_definitions
 can_is_written k [] d = refl
 can_is_written k (g ∷ gs) d = ap (λ b. ((g.site == d.site) && writes d (shifted k g)) || b) (can_is_written k gs d)
 
 pub all_written :
     (w : s.Workload) (calls : List GroundCall) (commands : List LCommand) (d : Delta) → map plain_ground calls ≡ grounds w →
     map plain_lcommand commands ≡ transformed w → can_write (map site_in calls) (map plain_lcommand commands) d ≡ is_written (sites_of w) (planned w) d
-unfolding plans
+unfolding plan_definitions
 all_written w calls commands d are made =
     let sites : map site_in calls ≡ map (λ (g : PlannedCall). g.site) (planned w) =
     sym (map_map plain_ground (λ (g : Ground). g.site) calls) ∙ ap (map (λ (g : Ground). g.site)) are ∙ sym (map_map (planned_call w) (λ (g : PlannedCall). g.site) (grounds w)) in
@@ -255,7 +255,7 @@ all_written w calls commands d are made =
 pub same_count :
     (w : s.Workload) (calls : List GroundCall) (commands : List LCommand) → map plain_ground calls ≡ grounds w → map plain_lcommand commands ≡ transformed w →
     length commands ≡ length calls
-unfolding plans
+unfolding plan_definitions
 same_count w calls commands are made =
     omega (arith, length-map commands plain_lcommand, ap length made, length-map (planned w) (shifted (sites_of w)), length-map (grounds w) (planned_call w), ap length are, length-map calls plain_ground)
 
@@ -352,9 +352,9 @@ pub on_elsewhere : (w : s.Workload) (site : ℕ) (t : Term) → (t.delta.site �
 on_elsewhere w site t ne = ap (λ c. c && is_written (sites_of w) (planned w) t.delta) (ne_eqb t.delta.site site ne)
 
 pub part_taken : (w : s.Workload) (site : ℕ) (c : Clause) (lent : List Term) → lent ≡ c.terms → list_any (on_written w site) lent ≡ true → true ≡ takes_part (sites_of w) (planned w) c site
-unfolding plans
+unfolding plan_definitions
 part_taken w site c lent same e = sym e ∙ ap (list_any (on_written w site)) same
 
 pub no_part : (w : s.Workload) (site i : ℕ) (c : Clause) (lent : List Term) → lent ≡ c.terms → length lent ≤ i → list_any (on_written w site) (take i lent) ≡ false → false ≡ takes_part (sites_of w) (planned w) c site
-unfolding plans
+unfolding plan_definitions
 no_part w site i c lent same past e = sym e ∙ ap (list_any (on_written w site)) (take_all i lent past ∙ same)

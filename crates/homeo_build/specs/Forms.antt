@@ -6,7 +6,7 @@ use Rattle.homeo_meaning.specs.Calls.{IsGroundCall}
 use Rattle.homeo_meaning.specs.CallForm.{ground_form}
 use Rattle.homeo_meaning.specs.Ground.{Ground, grounds}
 use Rattle.homeo_plan.specs.Each.{Each}
-use Rattle.homeo_build.specs.Key.{words}
+use Rattle.homeo_build.specs.Key.{definitions}
 
 -- the L form of a ground call that some client makes
 pub record IsCallForm (w : s.Workload) (f : Command) : Type 0 where
@@ -16,7 +16,7 @@ pub record IsCallForm (w : s.Workload) (f : Command) : Type 0 where
 
 -- each of these ground calls has its own at its place
 abbrev pub HaveForms : s.Workload → List Command → List Ground → List ℕ → Type 0
-unfolding words
+unfolding definitions
 HaveForms w forms [] [] = Unit {0}
 HaveForms w forms [] (n ∷ ns) = ⊥
 HaveForms w forms (g ∷ gs) [] = ⊥

@@ -12,7 +12,7 @@ use Rattle.homeo_plan.specs.Config as config
 use Rattle.homeo_plan.specs.Template.{PlannedCall, base_row}
 use Rattle.homeo_plan.specs.Planned.{sites_of, planned, template_at}
 use Rattle.homeo_plan.specs.PlanView.{plain_residual, plain_template, plain_config}
-use Rattle.homeo_build.specs.Key.{words}
+use Rattle.homeo_build.specs.Key.{definitions}
 
 -- a residual with the site of its call
 pub record SitedResidual : Type 0 where
@@ -24,17 +24,17 @@ sited_residual r = record { site = r.site; residual = plain_residual r }
 
 -- of a ground call, for k sites: that of its row at the base
 abbrev pub residual_at : ℕ → (ℕ → ℤ) → PlannedCall → SitedResidual
-unfolding words
+unfolding definitions
 residual_at k b g = record { site = g.site; residual = (base_row k b g).residual }
 
 -- of each ground call of a workload, in their order
 abbrev pub residuals_at : s.Workload → List ℤ → List SitedResidual
-unfolding words
+unfolding definitions
 residuals_at w base = map (residual_at (sites_of w) (values_of base)) (planned w)
 
 -- the configuration that is given, or else the policy
 abbrev pub config_or : config.Config → Option Config → config.Config
-unfolding words
+unfolding definitions
 config_or policy None = policy
 config_or policy (Some given) = plain_config given
 

@@ -5,14 +5,14 @@ use Rattle.homeo_syntax.specs.Source as s
 use Rattle.homeo_plan.specs.declared.forms.Delta.{Delta}
 use Rattle.homeo_plan.specs.Planned.{sites_of, planned}
 use Rattle.homeo_plan.specs.Shares.{writes, is_written}
-use Rattle.homeo_build.specs.Key.{words}
+use Rattle.homeo_build.specs.Key.{definitions}
 
 abbrev pub delta_at : ℕ → ℕ → Delta
 delta_at i x = record { object = x; site = i }
 
 -- of commands at these sites one at the delta's site can write it
 abbrev pub can_write : List ℕ → List Command → Delta → Bool
-unfolding words
+unfolding definitions
 can_write [] cs d = false
 can_write (i ∷ is) [] d = false
 can_write (i ∷ is) (c ∷ cs) d = ((i == d.site) && writes d c) || can_write is cs d

@@ -12,7 +12,7 @@ ghost use Rattle.homeo_plan.specs.Limit.{form_limit};
 ghost use Rattle.homeo_plan.specs.PlanView.{plain_template, plain_config};
 ghost use Rattle.homeo_plan.specs.Planned.{sites_of, template_at, shares_of, policy};
 ghost use Rattle.homeo_plan.specs.declared.templates.Config.{Config};
-ghost use Rattle.homeo_template.specs.InOrder.{AreInOrder};
+ghost use Rattle.homeo_plan.specs.Linear.{AreInOrder};
 ghost use Rattle.homeo_build.specs.Plan.{config_or, IsPlanOf};
 
 use crate::calls::plan_calls;

@@ -6,7 +6,7 @@ use Rattle.homeo_syntax.specs.Source as s
 use Rattle.homeo_syntax.specs.declared.low.LCommand.{LCommand}
 use Rattle.homeo_meaning.specs.Ground.{plain_ground, grounds}
 use Rattle.homeo_meaning.specs.declared.call.GroundCall.{GroundCall}
-use Rattle.homeo_plan.specs.Key.{words as plan_words}
+use Rattle.homeo_plan.specs.Key.{definitions as plan_definitions}
 use Rattle.homeo_plan.specs.Planned.{sites_of, planned_call, planned, transformed}
 use Rattle.homeo_plan.specs.Template.{PlannedCall, shifted}
 use Rattle.homeo_build.proofs.Grown.{map_map}
@@ -18,7 +18,7 @@ of_call w h call = h (planned_call w (plain_ground call))
 of_calls :
     {Z : Type 0} (w : s.Workload) (h : PlannedCall → Z) (calls : List GroundCall) → map plain_ground calls ≡ grounds w →
     map (of_call w h) calls ≡ map h (planned w)
-unfolding plan_words
+unfolding plan_definitions
 of_calls w h calls are =
     sym (map_map plain_ground (λ g. h (planned_call w g)) calls) ∙ ap (map (λ g. h (planned_call w g))) are
     ∙ sym (map_map (planned_call w) h (grounds w))
@@ -32,5 +32,5 @@ of_all w h made calls i past are so_far = so_far ∙ ap (map (of_call w h)) (tak
 pub commands_are :
     (w : s.Workload) (calls : List GroundCall) (commands : List LCommand) → map plain_ground calls ≡ grounds w →
     map plain_lcommand commands ≡ transformed w → map plain_lcommand commands ≡ map (of_call w (shifted (sites_of w))) calls
-unfolding plan_words
+unfolding plan_definitions
 commands_are w calls commands are made = made ∙ sym (of_calls w (shifted (sites_of w)) calls are)

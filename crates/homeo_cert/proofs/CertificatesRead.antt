@@ -32,7 +32,7 @@ module _ (d b s g c f k v : Data) (is : parts_data b s g c f k v ≡ d) (m : ℕ
 
   pub no_freezes : ((ds : List Delta) → AreFreezes n m ds → list_data (map delta_data ds) ≡ f → ⊥) → (x : Certificate) → InShape x → certificate_data x ≡ d → ⊥
   no_freezes h x p e =
-      h x.freezes (record { in_shape = here (λ i j. Each (DeltaInShape i j) x.freezes) x e p.freezes; rise = p.rise }) (part x e 4)
+      h x.freezes (record { in_shape = here (λ i j. Each (DeltaInShape i j) x.freezes) x e p.freezes; order = p.order }) (part x e 4)
 
   pub no_calls : ((gs : List Call) → AreCalls n m gs → list_data (map call_data gs) ≡ g → ⊥) → (x : Certificate) → InShape x → certificate_data x ≡ d → ⊥
   no_calls h x p e =

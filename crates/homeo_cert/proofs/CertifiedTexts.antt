@@ -19,7 +19,7 @@ use Rattle.homeo_meaning.specs.Bounds.{IsWithin}
 use Rattle.homeo_meaning.specs.Ground.{Ground, grounds}
 use Rattle.homeo_meaning.specs.Schema.{schema_of}
 use Rattle.homeo_meaning.proofs.FaultParts.{NoFault, parts, limit_parts}
-use Rattle.homeo_plan.specs.Key.{words as plan_words}
+use Rattle.homeo_plan.specs.Key.{definitions as plan_definitions}
 use Rattle.homeo_plan.specs.Config.{Config, Fits}
 use Rattle.homeo_plan.specs.Each.{Each}
 use Rattle.homeo_plan.specs.Planned.{sites_of, planned_call, template_at}
@@ -104,12 +104,12 @@ text_names text w r =
 -- ---- certificates
 module _ (text : List ℕ) (w : s.Workload) (base : List ℤ) (reads : Reads text w) (short : length text ≤ 2 ^ 32) (accepted : IsAccepted w) where
   all_nest : (gs : List Ground) → Each (λ (g : PlannedCall). nesting g.command ≤ 998) (map (planned_call w) gs)
-  unfolding plan_words
+  unfolding plan_definitions
   all_nest [] = tt
   all_nest (g ∷ gs) = let n = ground_nests text w g reads accepted in (omega (arith, n), all_nest gs)
 
   few_sites : sites_of w ≤ 16
-  unfolding plan_words
+  unfolding plan_definitions
   few_sites =
       let p : NoFault Run w = parts Run w accepted.rules in
       (count_few w.sites.value (few_number w.sites (limit_parts w p.text.limits).sites)).few
@@ -117,7 +117,7 @@ module _ (text : List ℕ) (w : s.Workload) (base : List ℤ) (reads : Reads tex
   pub certified_is_valid :
       (config : Config) → IsWithin (schema_of w) base → Fits (sites_of w) (template_at w base).clauses config →
       (v : Verdict) → IsVerdictOn (text_of (certificate_of w base config)) v → v ≡ verdict.Valid
-  unfolding plan_words
+  unfolding plan_definitions
   certified_is_valid config within fits =
       let names = text_names text w reads in
       only_valid w base config accepted within fits

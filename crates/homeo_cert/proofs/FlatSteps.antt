@@ -3,7 +3,7 @@ use Rattle.std.proofs.Common.{◌≡◌, ℕ, zero, suc, ◌+◌, ◌<◌, ◌�
 use Rattle.std.specs.List.{flat_map}
 use Rattle.std.proofs.Math.Seq.{drop-cons}
 use Rattle.std.proofs.lemmas.List.Concat.{flat_map-append}
-use Rattle.homeo_plan.specs.Key.{words as plan_words}
+use Rattle.homeo_plan.specs.Key.{definitions as plan_definitions}
 use Rattle.homeo_plan.specs.Each.{Each}
 use Rattle.homeo_cert.specs.declared.fault.Fault.{Fault}
 use Rattle.homeo_cert.specs.declared.fault.Stop.{Stop}
@@ -37,7 +37,7 @@ flat_twice f g (x ∷ xs) =
     ap (λ fs. flat_map f (g x) ++ fs) (flat_twice f g xs) ∙ sym (flat_map-append f (g x) (flat_map g xs))
 
 pub each_here : {X : Type 0} (P : X → Type 0) (xs : List X) (i : ℕ) (x : X) → i < length xs → x ≡ get_or xs i x → Each P xs → P x
-unfolding plan_words
+unfolding plan_definitions
 each_here P [] i x l e h = absurd (omega (arith, l))
 each_here P (y ∷ ys) zero x l e h = subst P (sym e) h.0
 each_here P (y ∷ ys) (suc i) x l e h = each_here P ys i x (omega (arith, l)) e h.1

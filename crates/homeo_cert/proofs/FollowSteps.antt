@@ -1,7 +1,7 @@
 -- Commands that are followed one after another.
 use Rattle.std.proofs.Common.{◌≡◌, ℕ, ◌+◌, ◌<◌, ◌≤◌, Bool, true, false, cond, List, [], ◌++◌, map, drop, get_or, length, Result, refl, sym, ap, ap₂, ◌∙◌, subst, append_assoc}
 use Rattle.std.specs.List.{flat_map}
-use Rattle.homeo_syntax.specs.Key.{words as tree_words}
+use Rattle.homeo_syntax.specs.Key.{definitions as syntax_definitions}
 use Rattle.homeo_syntax.specs.declared.low.LCommand.{LCommand}
 use Rattle.homeo_syntax.specs.Low.{Cond, Command, Commands, Skip, Seq, If, NoCommand, MoreCommand}
 use Rattle.homeo_syntax.specs.LowView.{low_commands, plain_lcommand}
@@ -9,7 +9,7 @@ use Rattle.homeo_meaning.specs.LowMeaning.{DeltaAt, holds}
 use Rattle.homeo_meaning.proofs.Steps.{drop_next, drop_none}
 use Rattle.homeo_plan.specs.declared.forms.Delta.{Delta}
 use Rattle.homeo_plan.specs.Linear.{Forms, base_forms}
-use Rattle.homeo_cert.specs.Key.{words}
+use Rattle.homeo_cert.specs.Key.{definitions}
 use Rattle.homeo_cert.specs.declared.fault.Fault.{Fault}
 use Rattle.homeo_cert.specs.declared.fault.Stop.{Stop}
 use Rattle.homeo_cert.specs.declared.following.Following.{Following}
@@ -34,12 +34,12 @@ commands_start s all = record { faults = refl; rules = refl; forms = refl; writt
 
 module _ (before s : Following) (c : Command) (cs all : Commands) (so : CommandsSoFar before s (MoreCommand c cs) all) where
   pub command_stops : (e : Stop) → StopsAt (faults (rules_in s) c (forms_in s)) e → StopsAt (all_faults (rules_in before) all (forms_in before)) e
-  unfolding words
+  unfolding definitions
   command_stops e h =
       subst (λ l. StopsAt l e) (sym so.faults) (stop_sooner (faults (rules_in s) c (forms_in s)) (all_faults (rules_in s) cs (forms_after c (forms_in s))) e h)
 
   pub command_goes_on : (new : Following) → faults (rules_in s) c (forms_in s) ≡ [] → Follows c s new → CommandsSoFar before new cs all
-  unfolding words
+  unfolding definitions
   command_goes_on new none f = record {
     faults =
         so.faults ∙ ap (λ l. l ++ all_faults (rules_in s) cs (forms_after c (forms_in s))) none
@@ -51,31 +51,31 @@ module _ (before s : Following) (c : Command) (cs all : Commands) (so : Commands
 
 module _ (before s : Following) (all : Commands) (so : CommandsSoFar before s NoCommand all) where
   pub commands_faultless : all_faults (rules_in before) all (forms_in before) ≡ []
-  unfolding words
+  unfolding definitions
   commands_faultless = so.faults
 
   pub commands_followed : FollowsAll all before s
-  unfolding words
+  unfolding definitions
   commands_followed = record { rules = so.rules; forms = so.forms; written = so.written }
 
 pub next_command : (before s : Following) (cs : List LCommand) (i : ℕ) (c : LCommand) (all : Commands) → i < length cs → c ≡ get_or cs i c →
     CommandsSoFar before s (low_commands (map plain_lcommand (drop i cs))) all →
     CommandsSoFar before s (MoreCommand (plain_lcommand c) (low_commands (map plain_lcommand (drop (i + 1) cs)))) all
-unfolding tree_words
+unfolding syntax_definitions
 next_command before s cs i c all l e so = subst (λ x. CommandsSoFar before s (low_commands x) all) (drop_next plain_lcommand cs i c l e) so
 
 pub last_command : (before s : Following) (cs : List LCommand) (i : ℕ) (all : Commands) → length cs ≤ i →
     CommandsSoFar before s (low_commands (map plain_lcommand (drop i cs))) all → CommandsSoFar before s NoCommand all
-unfolding tree_words
+unfolding syntax_definitions
 last_command before s cs i all l so = subst (λ x. CommandsSoFar before s (low_commands x) all) (drop_none plain_lcommand cs i l) so
 
 -- ---- each kind of command
 pub skip_follows : (s : Following) → Follows Skip s s
-unfolding words
+unfolding definitions
 skip_follows s = record { rules = refl; forms = refl; written = refl }
 
 pub seq_follows : (cs : Commands) (before after : Following) → FollowsAll cs before after → Follows (Seq cs) before after
-unfolding words
+unfolding definitions
 seq_follows cs before after f = record { rules = f.rules; forms = f.forms; written = f.written }
 
 module _ (b : Cond) (c d : Command) (before : Following) where
@@ -88,7 +88,7 @@ module _ (b : Cond) (c d : Command) (before : Following) where
   of_branch v = cond v (faults (rules_in before) c (forms_in before)) (faults (rules_in before) d (forms_in before))
 
   if_faults : of_test ++ of_branch (holds b (at_zero (forms_in before))) ≡ faults (rules_in before) (If b c d) (forms_in before)
-  unfolding words
+  unfolding definitions
   if_faults = append_assoc (too_large (met_in_cond (forms_in before) b)) (flat_map (atom_faults (rules_in before)) (kept (forms_in before) b)) (of_branch (holds b (at_zero (forms_in before))))
 
   pub if_stops : (e : Stop) → StopsAt of_test e → StopsAt (faults (rules_in before) (If b c d) (forms_in before)) e
@@ -109,7 +109,7 @@ module _ (b : Cond) (c d : Command) (before : Following) where
     no_finds r none h k = branch_finds r none (subst (λ w. Finds (of_branch w) r) (sym h) k)
 
     pub yes_follows : (after : Following) → v ≡ true → Follows c before after → Follows (If b c d) before after
-    unfolding words
+    unfolding definitions
     yes_follows after h f =
         let t : true ≡ holds b (at_zero (forms_in before)) = sym h ∙ is in
         record {
@@ -119,7 +119,7 @@ module _ (b : Cond) (c d : Command) (before : Following) where
         }
 
     pub no_follows : (after : Following) → v ≡ false → Follows d before after → Follows (If b c d) before after
-    unfolding words
+    unfolding definitions
     no_follows after h f =
         let t : false ≡ holds b (at_zero (forms_in before)) = sym h ∙ is in
         record {
@@ -141,13 +141,13 @@ module _ (c : Certificate) (g : Call) (start : Following) (rules : rules_in star
   after_call = end_faults (rules_of c g) (forms_after g.command (base_forms (base_of c))) (written g.command (base_forms (base_of c)) [])
 
   pub call_stops_in : (e : Stop) → StopsAt (faults (rules_in start) g.command (forms_in start)) e → StopsAt (call_faults c g) e
-  unfolding words after_call
+  unfolding definitions after_call
   call_stops_in e h = stop_sooner (faults (rules_of c g) g.command (base_forms (base_of c))) after_call e (subst (λ l. StopsAt l e) same_faults h)
 
   pub call_ends :
       written_in start ≡ [] → (after : Following) → faults (rules_in start) g.command (forms_in start) ≡ [] → Follows g.command start after →
       {A : Type 0} (r : Result A Stop) → Finds (flat_map (written_faults after) (written_in after)) r → Finds (call_faults c g) r
-  unfolding words after_call
+  unfolding definitions after_call
   call_ends none after clean follows r h =
       let p : rules_in after ≡ rules_of c g = follows.rules ∙ rules in
       let q : forms_in after ≡ forms_after g.command (base_forms (base_of c)) = follows.forms ∙ ap (forms_after g.command) forms in

@@ -3,12 +3,12 @@ use Rattle.std.proofs.Common.{lit<, ◌≡◌, ℕ, suc, ◌<◌, ◌≤◌, ◌
 use Rattle.std.specs.Prelude.{slice_get, nat_lt}
 use Rattle.std.specs.List.{flat_map, sum_by}
 use Rattle.std.proofs.lemmas.Bool.Decides.{nat_tests}
-use Rattle.homeo_syntax.specs.Key.{words as tree_words}
+use Rattle.homeo_syntax.specs.Key.{definitions as syntax_definitions}
 use Rattle.homeo_syntax.specs.Source as s
 use Rattle.homeo_syntax.specs.declared.phrase.Ident.{Ident}
 use Rattle.homeo_syntax.specs.Low.{Skip, Assign, Write, Print, Seq, If, NoCommand, MoreCommand, Command, Commands}
 use Rattle.homeo_syntax.specs.WellFormed.{Each as Every}
-use Rattle.homeo_meaning.specs.Key.{words as meaning_words}
+use Rattle.homeo_meaning.specs.Key.{definitions as meaning_definitions}
 use Rattle.homeo_meaning.specs.declared.call.Purpose.TheVariants.{Run}
 use Rattle.homeo_meaning.specs.declared.rules.Fault.{Fault}
 use Rattle.homeo_meaning.specs.declared.rules.Phase.TheVariants.{Size}
@@ -41,13 +41,13 @@ use Rattle.homeo_lform.proofs.NamedWithin.{named_law}
 use Rattle.homeo_ground.specs.Grounding.{IsCalled}
 use Rattle.homeo_ground.proofs.Called.{are_called}
 use Rattle.homeo_ground.proofs.Limits.{each-append, distinct-each}
-use Rattle.homeo_plan.specs.Key.{words as plan_words}
+use Rattle.homeo_plan.specs.Key.{definitions as plan_definitions}
 use Rattle.homeo_plan.specs.Each.{Each}
 use Rattle.homeo_plan.specs.Planned.{sites_of, planned_call, planned}
 use Rattle.homeo_plan.specs.Template.{PlannedCall}
 use Rattle.homeo_plan.proofs.GroundForms.{ground_whole}
 use Rattle.homeo_plan.proofs.PlannedCalls.{all_sites_below}
-use Rattle.homeo_cert.specs.Key.{words}
+use Rattle.homeo_cert.specs.Key.{definitions}
 use Rattle.homeo_cert.specs.Certified.{certified_call}
 use Rattle.homeo_cert.specs.Nesting.{nesting}
 use Rattle.homeo_cert.specs.Shape.{CallInShape}
@@ -58,7 +58,7 @@ use Rattle.homeo_cert.proofs.ShiftNesting.{shifted_nests}
 
 -- ---- sizes
 size_small : (n : ℕ) (b c : Bool) (x : Ident) → when (nat_lt 200000 n || b || c) (fault Size x) ≡ [] → n ≤ 200000
-unfolding meaning_words
+unfolding meaning_definitions
 size_small n b c x e = go (nat_lt 200000 n) refl e
   where
     go : (v : Bool) → nat_lt 200000 n ≡ v → when (v || b || c) (fault Size x) ≡ [] → n ≤ 200000
@@ -70,7 +70,7 @@ module _ (w : s.Workload) where
   IsSized c = (extent_of w c).size ≤ 200000
 
   sized_from : (before cs : List SitedCall) → each_from (too_large (extent_of w)) before cs ≡ [] → Every IsSized cs
-  unfolding meaning_words tree_words
+  unfolding meaning_definitions syntax_definitions
   sized_from before [] e = tt
   sized_from before (c ∷ cs) e =
       let first : List Fault = too_large (extent_of w) before c in
@@ -82,13 +82,13 @@ module _ (w : s.Workload) where
   IsNamed c = called w c.name ≡ slice_get w.transactions (place_of (declarations w).transactions c.name.name)
 
   one_named : (c : s.Call) → call_faults w.transactions ((scope_of w).item c.name.name) c ≡ [] → called w c.name ≡ slice_get w.transactions (place_of (declarations w).transactions c.name.name)
-  unfolding meaning_words
+  unfolding meaning_definitions
   one_named c e =
       let k = names_one w c ((scope_of w).item c.name.name) e in
       ap (transaction_at w) k.1 ∙ sym (named-is w c.name.name k.0 k.1) ∙ sym (transaction_place w c.name.name)
 
   calls_named : (site : ℤ) (calls : List s.Call) → flat_map (λ (c : s.Call). call_faults w.transactions ((scope_of w).item c.name.name) c) calls ≡ [] → Every IsNamed (map (λ (c : s.Call). record { name = c.name; args = arguments c; site = site }) calls)
-  unfolding meaning_words tree_words
+  unfolding meaning_definitions syntax_definitions
   calls_named site [] e = tt
   calls_named site (c ∷ calls) e =
       let first : List Fault = call_faults w.transactions ((scope_of w).item c.name.name) c in
@@ -96,7 +96,7 @@ module _ (w : s.Workload) where
       (one_named c (none_first first rest e), calls_named site calls (none_second first rest e))
 
   clients_named : (cs : List s.Client) → flat_map (client_faults w.sites (scope_of w) w.transactions) cs ≡ [] → Every IsNamed (flat_map sited_calls_of cs)
-  unfolding meaning_words tree_words
+  unfolding meaning_definitions syntax_definitions
   clients_named [] e = tt
   clients_named (c ∷ cs) e =
       let faults : List Fault = flat_map (λ (call : s.Call). call_faults w.transactions ((scope_of w).item call.name.name) call) c.calls in
@@ -111,11 +111,11 @@ module _ (w : s.Workload) where
     clean = parts Run w accepted.rules
 
     all_sized : Every IsSized (ground_calls w)
-    unfolding meaning_words
+    unfolding meaning_definitions
     all_sized = sized_from [] (ground_calls w) clean.form.sizes
 
     all_named : Every IsNamed (ground_calls w)
-    unfolding meaning_words tree_words
+    unfolding meaning_definitions syntax_definitions
     all_named = distinct-each IsNamed (sited_calls w) [] (clients_named w.clients (declared_parts w clean.text.declared).clients) tt
 
     -- ---- ground calls
@@ -123,16 +123,16 @@ module _ (w : s.Workload) where
     IsSizedGround g = (call_extent (sites_of w) (ground_form w g)).size ≤ 200000
 
     one_ground : (c : SitedCall) → IsSized c → IsNamed c → IsSizedGround (ground_of_sited w c)
-    unfolding meaning_words plan_words
+    unfolding meaning_definitions plan_definitions
     one_ground c h e = subst (λ o. (call_extent (sites_of w) (body_form w o c.args)).size ≤ 200000) e h
 
     grounds_sized : (cs : List SitedCall) → Every IsSized cs → Every IsNamed cs → Each IsSizedGround (map (ground_of_sited w) cs)
-    unfolding meaning_words plan_words tree_words
+    unfolding meaning_definitions plan_definitions syntax_definitions
     grounds_sized [] h e = tt
     grounds_sized (c ∷ cs) h e = (one_ground c h.0 e.0, grounds_sized cs h.1 e.1)
 
     mutual
-      unfolding words meaning_words
+      unfolding definitions meaning_definitions
 
       assigns_size : (k : ℕ) (c : Command) (u : Location → Extent) → assigns c ≤ (command_extent k c u).size
       assigns_size k Skip u = omega arith
@@ -148,7 +148,7 @@ module _ (w : s.Workload) where
           let r = assigns_size k c u in let q = all_assigns_size k cs (sizes.after k c u) in omega (arith, r, q)
 
     few_fresh : (g : Ground) → IsSizedGround g → FreshBelow (2 ^ 32) (ground_form w g)
-    unfolding words meaning_words
+    unfolding definitions meaning_definitions
     few_fresh g z = by_case (slice_get w.transactions g.transaction) z
       where
         by_case : (o : Option s.Transaction) → (call_extent (sites_of w) (body_form w o g.args)).size ≤ 200000 → FreshBelow (2 ^ 32) (body_form w o g.args)
@@ -163,7 +163,7 @@ module _ (w : s.Workload) where
       ones = (covers_start (schema_of w) (values_of base) (all_within (schema_of w) base within)).one
 
       somes : (p : Location) → 1 ≤ (first_extents (sites_of w) p).size
-      unfolding meaning_words
+      unfolding meaning_definitions
       somes (TempAt t) = omega arith
       somes (BaseAt x) = omega arith
       somes (DeltaAt x j) = omega arith
@@ -174,7 +174,7 @@ module _ (w : s.Workload) where
       one_call :
           (g : Ground) → IsCalled w g → IsSizedGround g → g.site < sites_of w → IsFine (planned_call w g) →
           CallInShape (length base) (sites_of w) (certified_call (sites_of w) (planned_call w g))
-      unfolding words plan_words meaning_words
+      unfolding definitions plan_definitions meaning_definitions
       one_call g h z l f =
           let objects = length_in (all_bounds (schema_of w)) base within in
           let named = named_law w g accepted in
@@ -192,12 +192,12 @@ module _ (w : s.Workload) where
           (gs : List Ground) → All (IsCalled w) gs → Each IsSizedGround gs → Each (λ (g : PlannedCall). g.site < sites_of w) (map (planned_call w) gs) →
           Each IsFine (map (planned_call w) gs) →
           Each (CallInShape (length base) (sites_of w)) (map (certified_call (sites_of w)) (map (planned_call w) gs))
-      unfolding plan_words
+      unfolding plan_definitions
       all_calls [] h z l f = tt
       all_calls (g ∷ gs) h z l f =
           (one_call g (h 0 g (omega arith)) z.0 l.0 f.0, all_calls gs (λ i d b. h (suc i) d (omega (arith, b))) z.1 l.1 f.1)
 
       pub calls_in_shape : Each IsFine (planned w) → Each (CallInShape (length base) (sites_of w)) (map (certified_call (sites_of w)) (planned w))
-      unfolding plan_words meaning_words
+      unfolding plan_definitions meaning_definitions
       calls_in_shape f =
           all_calls (grounds w) (are_called w accepted) (grounds_sized (ground_calls w) all_sized all_named) (all_sites_below w accepted) f

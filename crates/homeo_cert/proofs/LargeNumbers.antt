@@ -7,7 +7,7 @@ use Rattle.homeo_meaning.specs.Small.{IsSmall, is_small}
 use Rattle.homeo_plan.specs.FormSizes.{Numbers, CanForm}
 use Rattle.homeo_plan.specs.Limit.{form_limit}
 use Rattle.homeo_plan.specs.Linear.{Linear, Forms}
-use Rattle.homeo_cert.specs.Key.{words}
+use Rattle.homeo_cert.specs.Key.{definitions}
 use Rattle.homeo_cert.specs.declared.fault.Fault.TheVariants.{TooLarge}
 use Rattle.homeo_cert.specs.declared.fault.Stop.{Stop}
 use Rattle.homeo_cert.specs.declared.fault.Stop.TheVariants as stop
@@ -21,7 +21,7 @@ abbrev all_small : List ℤ → Bool
 all_small ns = list_all (is_small form_limit) ns
 
 pub large_behind : (xs ys : List ℤ) → too_large xs ≡ [] → too_large (xs ++ ys) ≡ too_large ys
-unfolding words
+unfolding definitions
 large_behind xs ys h =
     ap (λ v. cond v [] (TooLarge ∷ [])) (list_all-append (is_small form_limit) xs ys ∙ ap (λ v. v && all_small ys) (is_true_if (all_small xs) TooLarge h))
 
@@ -29,7 +29,7 @@ pub none_large : (xs ys : List ℤ) → too_large xs ≡ [] → too_large ys ≡
 none_large xs ys h k = large_behind xs ys h ∙ k
 
 pub large_in_front : (xs ys : List ℤ) (e : Stop) → StopsAt (too_large xs) e → StopsAt (too_large (xs ++ ys)) e
-unfolding words
+unfolding definitions
 large_in_front xs ys e h =
     subst (λ w. StopsAt (cond w [] (TooLarge ∷ [])) e) (sym (list_all-append (is_small form_limit) xs ys)) (go (all_small xs) e h)
   where
@@ -39,7 +39,7 @@ large_in_front xs ys e h =
     go false e h = h
 
 large_if : (ns : List ℤ) → (all_small ns ≡ true → ⊥) → StopsAt (too_large ns) (stop.Fault TooLarge)
-unfolding words
+unfolding definitions
 large_if ns h = go (all_small ns) refl
   where
     go : (v : Bool) → all_small ns ≡ v → StopsAt (cond v [] (TooLarge ∷ [])) (stop.Fault TooLarge)

@@ -1,7 +1,7 @@
 -- The nodes of each kind of phrase and command, as they are listed.
 use Rattle.std.proofs.Common.{◌≡◌, ℕ, zero, suc, ◌+◌, ◌<◌, ◌≤◌, ℤ, Box, Global, List, [], ◌∷◌, ◌++◌, map, drop, get_or, length, refl, sym, ap, ◌∙◌, append_assoc, length-append}
 use Rattle.std.proofs.lemmas.List.{length-map}
-use Rattle.homeo_syntax.specs.Key.{words as syntax_words}
+use Rattle.homeo_syntax.specs.Key.{definitions as syntax_definitions}
 use Rattle.homeo_syntax.specs.Listed.{Listed}
 use Rattle.homeo_syntax.specs.Low as l
 use Rattle.homeo_syntax.specs.declared.phrase.Compare.{Compare as Comparison}
@@ -14,23 +14,23 @@ use Rattle.homeo_syntax.specs.declared.low.LCommand.{LCommand, Skip, Assign, Wri
 use Rattle.homeo_syntax.specs.LowView.{low_exprs, low_tests, low_commands, plain_lexpr, plain_ltest, plain_lcond, plain_lcommand}
 use Rattle.homeo_syntax.proofs.LowViews.{low_Literal, low_Temp, low_Read, low_Sum, low_Product, low_Neg, low_True, low_Not, low_Compare, low_conjunction, low_Skip, low_Assign, low_Write, low_Print, low_Seq, low_If}
 use Rattle.homeo_meaning.proofs.Steps.{drop_next, drop_none}
-use Rattle.homeo_cert.specs.Key.{words}
+use Rattle.homeo_cert.specs.Key.{definitions}
 use Rattle.homeo_cert.specs.declared.nodes.Node.TheVariants as node
 use Rattle.homeo_cert.specs.Nodes.{name_node, write_node, expr_count, test_count, command_count, expr_nodes, exprs_nodes, test_nodes, cond_nodes, command_nodes, commands_nodes}
 
 -- ---- how many
 pub exprs_counted : (es : List l.Expr) → expr_count (low_exprs es) ≡ length es
-unfolding words syntax_words
+unfolding definitions syntax_definitions
 exprs_counted [] = refl
 exprs_counted (e ∷ es) = ap suc (exprs_counted es)
 
 pub tests_counted : (ts : List l.Test) → test_count (low_tests ts) ≡ length ts
-unfolding words syntax_words
+unfolding definitions syntax_definitions
 tests_counted [] = refl
 tests_counted (e ∷ es) = ap suc (tests_counted es)
 
 pub commands_counted : (cs : List l.Command) → command_count (low_commands cs) ≡ length cs
-unfolding words syntax_words
+unfolding definitions syntax_definitions
 commands_counted [] = refl
 commands_counted (e ∷ es) = ap suc (commands_counted es)
 
@@ -45,41 +45,41 @@ test_items ts = tests_counted (map plain_ltest ts) ∙ length-map ts plain_ltest
 
 -- ---- each kind
 pub list_Literal : (n : ℤ) → expr_nodes (plain_lexpr (Literal n)) ≡ node.Literal n ∷ []
-unfolding words
+unfolding definitions
 list_Literal n = ap expr_nodes (low_Literal n)
 
 pub list_Temp : (u : t.Temp) → expr_nodes (plain_lexpr (Temp u)) ≡ node.Temp u ∷ []
-unfolding words
+unfolding definitions
 list_Temp u = ap expr_nodes (low_Temp u)
 
 pub list_Read : (x : SplitName) → expr_nodes (plain_lexpr (Read x)) ≡ name_node x ∷ []
-unfolding words
+unfolding definitions
 list_Read x = ap expr_nodes (low_Read x)
 
 pub list_Sum : (es : Listed LExpr) → expr_nodes (plain_lexpr (Sum es)) ≡ node.Sum (length es.items) ∷ exprs_nodes (low_exprs (map plain_lexpr es.items))
-unfolding words
+unfolding definitions
 list_Sum es = ap expr_nodes (low_Sum es) ∙ ap (λ n. node.Sum n ∷ exprs_nodes (low_exprs (map plain_lexpr es.items))) (expr_items es.items)
 
 pub list_Product : (es : Listed LExpr) → expr_nodes (plain_lexpr (Product es)) ≡ node.Product (length es.items) ∷ exprs_nodes (low_exprs (map plain_lexpr es.items))
-unfolding words
+unfolding definitions
 list_Product es = ap expr_nodes (low_Product es) ∙ ap (λ n. node.Product n ∷ exprs_nodes (low_exprs (map plain_lexpr es.items))) (expr_items es.items)
 
 pub list_Neg : (e : Box LExpr Global) → expr_nodes (plain_lexpr (Neg e)) ≡ node.Neg ∷ expr_nodes (plain_lexpr e.value)
-unfolding words
+unfolding definitions
 list_Neg e = ap expr_nodes (low_Neg e)
 
 pub ruleset expr_listings = (list_Literal, list_Temp, list_Read, list_Sum, list_Product, list_Neg, append_assoc)
 
 pub list_True : test_nodes (plain_ltest True) ≡ node.True ∷ []
-unfolding words
+unfolding definitions
 list_True = ap test_nodes low_True
 
 pub list_Not : (c : LCond) → test_nodes (plain_ltest (Not c)) ≡ node.Not (test_count (plain_lcond c)) ∷ cond_nodes (plain_lcond c)
-unfolding words
+unfolding definitions
 list_Not c = ap test_nodes (low_Not c)
 
 pub list_Compare : (op : Comparison) (a : LExpr) (b : LExpr) → test_nodes (plain_ltest (Compare op a b)) ≡ node.Comparison op ∷ (expr_nodes (plain_lexpr a) ++ expr_nodes (plain_lexpr b))
-unfolding words
+unfolding definitions
 list_Compare op a b = ap test_nodes (low_Compare op a b)
 
 pub tests_in : (c : LCond) → test_count (plain_lcond c) ≡ length (out-LCond c).tests.items
@@ -91,28 +91,28 @@ list_tests c = ap cond_nodes (low_conjunction c)
 pub ruleset test_listings = (list_True, list_Not, list_Compare, tests_in, list_tests, append_assoc)
 
 pub list_Skip : command_nodes (plain_lcommand Skip) ≡ node.Skip ∷ []
-unfolding words
+unfolding definitions
 list_Skip = ap command_nodes low_Skip
 
 pub list_Assign : (u : t.Temp) (e : LExpr) → command_nodes (plain_lcommand (Assign u e)) ≡ node.Assign ∷ node.Temp u ∷ expr_nodes (plain_lexpr e)
-unfolding words
+unfolding definitions
 list_Assign u e = ap command_nodes (low_Assign u e)
 
 pub list_Write : (x : SplitName) (e : LExpr) → command_nodes (plain_lcommand (Write x e)) ≡ write_node x ∷ expr_nodes (plain_lexpr e)
-unfolding words
+unfolding definitions
 list_Write x e = ap command_nodes (low_Write x e)
 
 pub list_Print : (e : LExpr) → command_nodes (plain_lcommand (Print e)) ≡ node.Print ∷ expr_nodes (plain_lexpr e)
-unfolding words
+unfolding definitions
 list_Print e = ap command_nodes (low_Print e)
 
 pub list_Seq : (cs : Listed LCommand) → command_nodes (plain_lcommand (Seq cs)) ≡ node.Seq (length cs.items) ∷ commands_nodes (low_commands (map plain_lcommand cs.items))
-unfolding words
+unfolding definitions
 list_Seq cs = ap command_nodes (low_Seq cs) ∙ ap (λ n. node.Seq n ∷ commands_nodes (low_commands (map plain_lcommand cs.items))) (command_items cs.items)
 
 pub list_If : (test : LCond) (c d : Box LCommand Global) →
     command_nodes (plain_lcommand (If test c d)) ≡ node.If (test_count (plain_lcond test)) ∷ (cond_nodes (plain_lcond test) ++ (command_nodes (plain_lcommand c.value) ++ command_nodes (plain_lcommand d.value)))
-unfolding words
+unfolding definitions
 list_If test c d = ap command_nodes (low_If test c d)
 
 pub ruleset command_listings = (list_Skip, list_Assign, list_Write, list_Print, list_Seq, list_If, append_assoc)
@@ -121,29 +121,29 @@ pub ruleset command_listings = (list_Skip, list_Assign, list_Write, list_Print, 
 -- what is listed, and then what is left
 pub exprs_next : (es : List LExpr) (i : ℕ) (e : LExpr) → i < length es → e ≡ get_or es i e →
     exprs_nodes (low_exprs (map plain_lexpr (drop i es))) ≡ expr_nodes (plain_lexpr e) ++ exprs_nodes (low_exprs (map plain_lexpr (drop (i + 1) es)))
-unfolding words syntax_words
+unfolding definitions syntax_definitions
 exprs_next es i e h p = ap (λ l. exprs_nodes (low_exprs l)) (drop_next plain_lexpr es i e h p)
 
 pub exprs_none : (es : List LExpr) (i : ℕ) → length es ≤ i → exprs_nodes (low_exprs (map plain_lexpr (drop i es))) ≡ []
-unfolding words syntax_words
+unfolding definitions syntax_definitions
 exprs_none es i h = ap (λ l. exprs_nodes (low_exprs l)) (drop_none plain_lexpr es i h)
 
 pub tests_next : (ts : List LTest) (i : ℕ) (t : LTest) → i < length ts → t ≡ get_or ts i t →
     cond_nodes (low_tests (map plain_ltest (drop i ts))) ≡ test_nodes (plain_ltest t) ++ cond_nodes (low_tests (map plain_ltest (drop (i + 1) ts)))
-unfolding words syntax_words
+unfolding definitions syntax_definitions
 tests_next ts i t h p = ap (λ l. cond_nodes (low_tests l)) (drop_next plain_ltest ts i t h p)
 
 pub tests_none : (ts : List LTest) (i : ℕ) → length ts ≤ i → cond_nodes (low_tests (map plain_ltest (drop i ts))) ≡ []
-unfolding words syntax_words
+unfolding definitions syntax_definitions
 tests_none ts i h = ap (λ l. cond_nodes (low_tests l)) (drop_none plain_ltest ts i h)
 
 pub commands_next : (cs : List LCommand) (i : ℕ) (c : LCommand) → i < length cs → c ≡ get_or cs i c →
     commands_nodes (low_commands (map plain_lcommand (drop i cs))) ≡ command_nodes (plain_lcommand c) ++ commands_nodes (low_commands (map plain_lcommand (drop (i + 1) cs)))
-unfolding words syntax_words
+unfolding definitions syntax_definitions
 commands_next cs i c h p = ap (λ l. commands_nodes (low_commands l)) (drop_next plain_lcommand cs i c h p)
 
 pub commands_none : (cs : List LCommand) (i : ℕ) → length cs ≤ i → commands_nodes (low_commands (map plain_lcommand (drop i cs))) ≡ []
-unfolding words syntax_words
+unfolding definitions syntax_definitions
 commands_none cs i h = ap (λ l. commands_nodes (low_commands l)) (drop_none plain_lcommand cs i h)
 
 -- what was listed after some nodes, with the first of what is left put behind it

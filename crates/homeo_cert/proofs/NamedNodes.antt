@@ -8,7 +8,7 @@ use Rattle.homeo_syntax.specs.declared.low.Temp.TheVariants.{Named, Fresh}
 use Rattle.homeo_plan.specs.declared.forms.Delta.{Delta}
 use Rattle.homeo_cert.specs.declared.nodes.Node.{Node}
 use Rattle.homeo_cert.specs.declared.nodes.Node.TheVariants as node
-use Rattle.homeo_cert.specs.Key.{words}
+use Rattle.homeo_cert.specs.Key.{definitions}
 use Rattle.homeo_cert.specs.Json.{whole_data, list_data, node_data}
 use Rattle.homeo_cert.specs.Shape.{DeltaInShape}
 use Rattle.homeo_cert.specs.Text.{delta_data}
@@ -30,7 +30,7 @@ named : (name : List ℕ) (ds : List Data) (m : Node) → node_data m ≡ NamedD
 named name ds m e l = record { name = name; numbers = ds; is = e; few = l }
 
 has_name : (m : Node) → HasName m
-unfolding words
+unfolding definitions
 has_name node.Skip = named (codes "skip") [] node.Skip refl (omega arith)
 has_name node.Assign = named (codes "assign") [] node.Assign refl (omega arith)
 has_name node.Print = named (codes "print") [] node.Print refl (omega arith)
@@ -86,7 +86,7 @@ module _ (n k : ℕ) where
   pub no_two :
       (s : List ℕ) (d e : Data) → ((x : Delta) → DeltaInShape n k x → delta_data x ≡ list_data (d ∷ e ∷ []) → ⊥) →
       (m : Node) → NodeInShape n k m → node_data m ≡ NamedData s (d ∷ e ∷ []) → ⊥
-  unfolding words
+  unfolding definitions
   no_two s d e h node.Skip shape q = absurd (omega (arith, counts_same (codes "skip") s [] (d ∷ e ∷ []) q))
   no_two s d e h node.Assign shape q = absurd (omega (arith, counts_same (codes "assign") s [] (d ∷ e ∷ []) q))
   no_two s d e h node.Print shape q = absurd (omega (arith, counts_same (codes "print") s [] (d ∷ e ∷ []) q))
@@ -110,7 +110,7 @@ module _ (n k : ℕ) where
       h (record { object = x; site = j }) (record { object = shape.0; site = shape.1 }) (ap list_data (numbers_of (codes "delta") s (whole_data (pos x) ∷ whole_data (pos j) ∷ []) (d ∷ e ∷ []) q))
 
   bare_in_shape : (s : List ℕ) (m : Node) → node_data m ≡ NamedData s [] → NodeInShape n k m
-  unfolding words
+  unfolding definitions
   bare_in_shape s node.Skip e = tt
   bare_in_shape s node.Assign e = tt
   bare_in_shape s node.Print e = tt

@@ -9,7 +9,7 @@ use Rattle.homeo_syntax.specs.declared.low.Temp.TheVariants.{Named, Fresh}
 use Rattle.homeo_plan.specs.declared.forms.Delta.{Delta}
 use Rattle.homeo_plan.specs.declared.forms.Term.{Term}
 use Rattle.homeo_plan.specs.Template.{Clause}
-use Rattle.homeo_cert.specs.Key.{words}
+use Rattle.homeo_cert.specs.Key.{definitions}
 use Rattle.homeo_cert.specs.declared.nodes.Node.{Node}
 use Rattle.homeo_cert.specs.declared.nodes.Node.TheVariants as node
 use Rattle.homeo_cert.specs.Certificate.{Call, Certificate}
@@ -35,18 +35,18 @@ in_named : (name : List ℕ) (ns : List ℤ) → HasNone (named name ns)
 in_named name ns = in_wholes ns
 
 in_compare : (op : Compare) → HasNone (compare_data op)
-unfolding words
+unfolding definitions
 in_compare Less = refl
 in_compare LessEqual = refl
 in_compare Equal = refl
 
 in_temp : (t : Temp) → HasNone (temp_data t)
-unfolding words
+unfolding definitions
 in_temp (Named n) = refl
 in_temp (Fresh n) = refl
 
 in_node : (n : Node) → HasNone (node_data n)
-unfolding words
+unfolding definitions
 in_node node.Skip = refl
 in_node node.Assign = refl
 in_node (node.Write x j) = refl

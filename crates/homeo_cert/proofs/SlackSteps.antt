@@ -10,7 +10,7 @@ use Rattle.std.specs.Map.{lookup}
 use Rattle.std.proofs.lemmas.Cmp.{nat_cmp_total, int_cmp_total, on_total, then_total, lists_total}
 use Rattle.std.proofs.lemmas.Bool.Decides.{nat_tests}
 use Rattle.std.proofs.lemmas.Int.{ints}
-use Rattle.homeo_plan.specs.Key.{words as plan_words}
+use Rattle.homeo_plan.specs.Key.{definitions as plan_definitions}
 use Rattle.homeo_plan.specs.Template.{Clause, same_term, same_terms}
 use Rattle.homeo_cert.specs.declared.table.TermKey.{TermKey}
 use Rattle.homeo_cert.specs.inner.Slacks.{term_of, key_cmp, Slacks, is_at_most, is_within, has_terms}
@@ -41,14 +41,14 @@ and-assoc true b c = refl
 and-assoc false b c = refl
 
 key_same : (a b : TermKey) → is_eq (key_cmp a b) ≡ same_term (term_of a) (term_of b)
-unfolding plan_words
+unfolding plan_definitions
 key_same a b =
     then_both (nat_cmp a.object b.object) _
     ∙ ap₂ ◌&&◌ (nat_same a.object b.object) (then_both (nat_cmp a.site b.site) (int_cmp a.factor b.factor) ∙ ap₂ ◌&&◌ (nat_same a.site b.site) (int_same a.factor b.factor))
     ∙ and-assoc (a.object == b.object) (a.site == b.site) (int_eq a.factor b.factor)
 
 pub keys_same : (xs ys : List TermKey) → is_eq (keys_cmp xs ys) ≡ same_terms (map term_of xs) (map term_of ys)
-unfolding plan_words
+unfolding plan_definitions
 keys_same [] [] = refl
 keys_same [] (y ∷ ys) = refl
 keys_same (x ∷ xs) [] = refl

@@ -2,19 +2,19 @@
 use Rattle.std.proofs.Common.{◌≡◌, ℕ, ◌+◌, ◌<◌, ◌≤◌, Bool, true, false, not, cond, ◌&&◌, List, [], ◌∷◌, ◌++◌, map, drop, get_or, length, refl, sym, ap, ap₂, ◌∙◌, subst, true≢false, append-nil, append_assoc}
 use Rattle.std.specs.List.{flat_map}
 use Rattle.std.proofs.lemmas.List.Concat.{flat_map-append}
-use Rattle.homeo_syntax.specs.Key.{words as tree_words}
+use Rattle.homeo_syntax.specs.Key.{definitions as syntax_definitions}
 use Rattle.homeo_syntax.specs.declared.phrase.Compare.{Compare}
 use Rattle.homeo_syntax.specs.declared.low.LTest.{LTest}
 use Rattle.homeo_syntax.specs.Low.{Expr, Test, Cond, True, Not, Comparison, NoTest, MoreTest}
 use Rattle.homeo_syntax.specs.LowView.{low_tests, plain_ltest}
-use Rattle.homeo_meaning.specs.Key.{words as meaning_words}
+use Rattle.homeo_meaning.specs.Key.{definitions as meaning_definitions}
 use Rattle.homeo_meaning.specs.Meaning.{compared}
 use Rattle.homeo_meaning.specs.LowMeaning.{passes, holds}
 use Rattle.homeo_meaning.proofs.Steps.{drop_next, drop_none}
-use Rattle.homeo_plan.specs.Key.{words as plan_words}
+use Rattle.homeo_plan.specs.Key.{definitions as plan_definitions}
 use Rattle.homeo_plan.specs.Each.{Each}
 use Rattle.homeo_plan.specs.Linear.{Linear, Forms, form}
-use Rattle.homeo_cert.specs.Key.{words}
+use Rattle.homeo_cert.specs.Key.{definitions}
 use Rattle.homeo_cert.specs.declared.fault.Stop.{Stop}
 use Rattle.homeo_cert.specs.declared.conditions.Compared.{Compared}
 use Rattle.homeo_cert.specs.Met.{at_zero, met_in_test, met_in_cond}
@@ -32,7 +32,7 @@ module _ (f : Forms) where
   kept_from ys c = cond (holds c (at_zero f)) (ys ++ true_cond f c) (false_cond f c)
 
   kept_more : (ys : List Atom) (t : Test) (c : Cond) → true ≡ passes t (at_zero f) → kept_from (ys ++ kept_in_test f t) c ≡ kept_from ys (MoreTest t c)
-  unfolding words meaning_words
+  unfolding definitions meaning_definitions
   kept_more ys t c h = go (passes t (at_zero f)) h
     where
       go : (v : Bool) → true ≡ v →
@@ -42,7 +42,7 @@ module _ (f : Forms) where
       go false e = absurd (true≢false e)
 
   kept_stop : (ys : List Atom) (t : Test) (c : Cond) → false ≡ passes t (at_zero f) → kept_in_test f t ≡ kept_from ys (MoreTest t c)
-  unfolding words meaning_words
+  unfolding definitions meaning_definitions
   kept_stop ys t c h = go (passes t (at_zero f)) h
     where
       go : (v : Bool) → false ≡ v →
@@ -52,11 +52,11 @@ module _ (f : Forms) where
       go false e = refl
 
   met_more : (t : Test) (c : Cond) → true ≡ passes t (at_zero f) → met_in_cond f (MoreTest t c) ≡ met_in_test f t ++ met_in_cond f c
-  unfolding words
+  unfolding definitions
   met_more t c h = ap (λ v. met_in_test f t ++ cond v (met_in_cond f c) []) (sym h)
 
   met_stop : (t : Test) (c : Cond) → false ≡ passes t (at_zero f) → met_in_cond f (MoreTest t c) ≡ met_in_test f t ++ []
-  unfolding words
+  unfolding definitions
   met_stop t c h = ap (λ v. met_in_test f t ++ cond v (met_in_cond f c) []) (sym h)
 
   -- the tests so far pass; the comparisons keep them, and none of their numbers is too large
@@ -67,18 +67,18 @@ module _ (f : Forms) where
     pub each : Each AreSmall cs
 
   pub tests_start : (cs : List Compared) (all : Cond) → cs ≡ [] → TestsSoFar cs all all
-  unfolding words plan_words
+  unfolding definitions plan_definitions
   tests_start cs all e = subst (λ l. TestsSoFar l all all) (sym e) (record { small = refl; holds = refl; atoms = refl; each = tt })
 
   module _ (cs : List Compared) (t : Test) (c all : Cond) (s : TestsSoFar cs (MoreTest t c) all) where
     pub test_stops : (e : Stop) → StopsAt (too_large (met_in_test f t)) e → StopsAt (too_large (met_in_cond f all)) e
-    unfolding words
+    unfolding definitions
     test_stops e h =
         subst (λ l. StopsAt l e) s.small (large_in_front (met_in_test f t) (cond (passes t (at_zero f)) (met_in_cond f c) []) e h)
 
     module _ (v : Bool) (more : List Compared) (none : too_large (met_in_test f t) ≡ []) (is : v ≡ passes t (at_zero f)) (give : Give more (kept_in_test f t)) where
       pub test_goes_on : v ≡ true → (new : List Compared) → new ≡ cs ++ more → TestsSoFar new c all
-      unfolding meaning_words
+      unfolding meaning_definitions
       test_goes_on h new e =
           let p : true ≡ passes t (at_zero f) = sym h ∙ is in
           subst (λ l. TestsSoFar l c all) (sym e) (record {
@@ -95,11 +95,11 @@ module _ (f : Forms) where
         was = sym fails ∙ is
 
         pub fails_small : too_large (met_in_cond f all) ≡ []
-        unfolding words
+        unfolding definitions
         fails_small = sym s.small ∙ ap too_large (met_stop t c was) ∙ none_large (met_in_test f t) [] none refl
 
         pub fails_holds : v ≡ holds all (at_zero f)
-        unfolding meaning_words
+        unfolding meaning_definitions
         fails_holds = fails ∙ ap (λ w. w && holds c (at_zero f)) was ∙ s.holds
 
         pub fails_give : Give more (kept f all)
@@ -107,35 +107,35 @@ module _ (f : Forms) where
 
   module _ (cs : List Compared) (all : Cond) (s : TestsSoFar cs NoTest all) where
     pub tests_small : too_large (met_in_cond f all) ≡ []
-    unfolding words
+    unfolding definitions
     tests_small = sym s.small
 
     pub tests_hold : true ≡ holds all (at_zero f)
-    unfolding meaning_words
+    unfolding meaning_definitions
     tests_hold = s.holds
 
     pub tests_give : Give cs (kept f all)
-    unfolding words meaning_words
+    unfolding definitions meaning_definitions
     tests_give = record { atoms = sym (append-nil (flat_map atoms_of cs)) ∙ s.atoms; small = s.each }
 
   -- the tests of a list, as far as they were looked at
   pub next_test : (cs : List Compared) (ts : List LTest) (i : ℕ) (t : LTest) (all : Cond) → i < length ts → t ≡ get_or ts i t →
       TestsSoFar cs (low_tests (map plain_ltest (drop i ts))) all → TestsSoFar cs (MoreTest (plain_ltest t) (low_tests (map plain_ltest (drop (i + 1) ts)))) all
-  unfolding tree_words
+  unfolding syntax_definitions
   next_test cs ts i t all l e s = subst (λ c. TestsSoFar cs (low_tests c) all) (drop_next plain_ltest ts i t l e) s
 
   pub last_test : (cs : List Compared) (ts : List LTest) (i : ℕ) (all : Cond) → length ts ≤ i → TestsSoFar cs (low_tests (map plain_ltest (drop i ts))) all →
       TestsSoFar cs NoTest all
-  unfolding tree_words
+  unfolding syntax_definitions
   last_test cs ts i all l s = subst (λ c. TestsSoFar cs (low_tests c) all) (drop_none plain_ltest ts i l) s
 
   -- ---- each kind of test
   pub true_gives : (cs : List Compared) → cs ≡ [] → Give cs (kept_in_test f True)
-  unfolding words meaning_words plan_words
+  unfolding definitions meaning_definitions plan_definitions
   true_gives cs e = subst (λ l. Give l (kept_in_test f True)) (sym e) (record { atoms = refl; small = tt })
 
   pub not_gives : (cs : List Compared) (c : Cond) → Give cs (kept f c) → Give cs (kept_in_test f (Not c))
-  unfolding words meaning_words
+  unfolding definitions meaning_definitions
   not_gives cs c g = record { atoms = g.atoms ∙ swap (holds c (at_zero f)) (true_cond f c) (false_cond f c); small = g.small }
     where
       swap : (v : Bool) (xs ys : List Atom) → cond v xs ys ≡ cond (not v) ys xs
@@ -144,13 +144,13 @@ module _ (f : Forms) where
 
   module _ (op : Compare) (a b : Expr) where
     pub comparison_passes : (m n : Linear) → m ≡ form f a → n ≡ form f b → compared op m.constant n.constant ≡ passes (Comparison op a b) (at_zero f)
-    unfolding meaning_words
+    unfolding meaning_definitions
     comparison_passes m n p q =
         ap₂ (λ (x y : Linear). compared op x.constant y.constant) p q ∙ ap₂ (compared op) (constant_is f a) (constant_is f b)
 
     pub comparison_gives : (c : Compared) (cs : List Compared) → cs ≡ c ∷ [] → c.op ≡ op → c.left ≡ form f a → c.right ≡ form f b →
         c.holds ≡ passes (Comparison op a b) (at_zero f) → AreSmall c → Give cs (kept_in_test f (Comparison op a b))
-    unfolding words meaning_words plan_words
+    unfolding definitions meaning_definitions plan_definitions
     comparison_gives c cs e o p q h small =
         let all : atoms_of c ≡ kept_in_test f (Comparison op a b) =
         ap₂ (λ v x. cond v (kept_true x c.left c.right) (kept_false x c.left c.right)) h o

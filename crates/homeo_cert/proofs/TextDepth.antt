@@ -1,7 +1,7 @@
 -- Phrases that may go n deep nest at most four times as deep.
 use Rattle.std.proofs.Common.{◌≤◌, ◌+◌, ◌*◌, ℕ, zero, suc, List, [], ◌∷◌, arith}
-use Rattle.homeo_syntax.specs.Key.{words}
-use Rattle.homeo_meaning.specs.Key.{words as meaning_words}
+use Rattle.homeo_syntax.specs.Key.{definitions}
+use Rattle.homeo_meaning.specs.Key.{definitions as meaning_definitions}
 use Rattle.homeo_syntax.specs.declared.token.Mark.TheVariants as mark
 use Rattle.homeo_syntax.specs.declared.token.Token.{Token}
 use Rattle.homeo_syntax.specs.declared.token.Version.{Version}
@@ -22,32 +22,32 @@ depth_of (Command v) = command_depth
 
 module _ (d : ℕ) where
   exprs_within : (es : List s.Expr) → Every (λ e. expr_depth e ≤ d) es → exprs_depth (exprs es) ≤ d
-  unfolding words meaning_words
+  unfolding definitions meaning_definitions
   exprs_within [] h = omega arith
   exprs_within (e ∷ es) h = let r = exprs_within es h.1 in let q = h.0 in omega (arith, r, q)
 
   tests_within : (ts : List s.Test) → Every (λ t. test_depth t ≤ d) ts → cond_depth (tests ts) ≤ d
-  unfolding words meaning_words
+  unfolding definitions meaning_definitions
   tests_within [] h = omega arith
   tests_within (t ∷ ts) h = let r = tests_within ts h.1 in let q = h.0 in omega (arith, r, q)
 
   commands_within : (cs : List s.Command) → Every (λ c. command_depth c ≤ d) cs → commands_depth (commands cs) ≤ d
-  unfolding words meaning_words
+  unfolding definitions meaning_definitions
   commands_within [] h = omega arith
   commands_within (c ∷ cs) h = let r = commands_within cs h.1 in let q = h.0 in omega (arith, r, q)
 
   values_within : (fs : List s.FieldValue) → Every (λ f. expr_depth f.value ≤ d) fs → values_depth fs ≤ d
-  unfolding meaning_words
+  unfolding meaning_definitions
   values_within [] h = omega arith
   values_within (f ∷ fs) h = let r = values_within fs h.1 in let q = h.0 in omega (arith, r, q)
 
 product_within : (d : ℕ) (e : s.Expr) (fs : List s.Expr) → expr_depth e ≤ d → Every (λ x. expr_depth x ≤ d) fs → expr_depth (product_of e fs) ≤ suc d
-unfolding words meaning_words
+unfolding definitions meaning_definitions
 product_within d e [] h k = omega (arith, h)
 product_within d e (f ∷ fs) h k = let r = exprs_within d (e ∷ f ∷ fs) (h, k) in omega (arith, r)
 
 sum_within : (d : ℕ) (e : s.Expr) (fs : List s.Expr) → expr_depth e ≤ d → Every (λ x. expr_depth x ≤ d) fs → expr_depth (sum_of e fs) ≤ suc d
-unfolding words meaning_words
+unfolding definitions meaning_definitions
 sum_within d e [] h k = omega (arith, h)
 sum_within d e (f ∷ fs) h k = let r = exprs_within d (e ∷ f ∷ fs) (h, k) in omega (arith, r)
 
@@ -82,7 +82,7 @@ module _ (d : ℕ) (M : Meaning) (hyp : (c : Deep) → Sound M (λ t. Unit {0}) 
   term_or_less = record { of = λ a ts s f. let r = term_within.of a ts s f in omega (arith, r) }
 
   expr_within : Sound M F rules.expr E
-  unfolding words meaning_words
+  unfolding definitions meaning_definitions
   expr_within =
       sound_part M F _ E (sound_as M F _ _ _ E
       (sound_seq M F _ _ T (Every T) term_or_less
@@ -106,7 +106,7 @@ module _ (d : ℕ) (M : Meaning) (hyp : (c : Deep) → Sound M (λ t. Unit {0}) 
   G e = expr_depth e ≤ d + 4
 
   after_name_within : Sound M F rules.after_name (λ f. (x : Ident) → G (f x))
-  unfolding words meaning_words
+  unfolding definitions meaning_definitions
   after_name_within =
       sound_part M F _ _
       (sound_alt M F _ _ _ (sound_as M F _ _ (λ p. E p.0 × Unit {0}) (λ f. (x : Ident) → G (f x))
@@ -116,7 +116,7 @@ module _ (d : ℕ) (M : Meaning) (hyp : (c : Deep) → Sound M (λ t. Unit {0}) 
       (sound_nothing M F s.Name (λ f. (x : Ident) → G (f x)) (λ x. omega arith))))
 
   factor_within : Sound M F rules.factor G
-  unfolding words meaning_words
+  unfolding definitions meaning_definitions
   factor_within =
       sound_alt M F _ _ G (sound_token M F _ _ _ _ G (λ t h f. omega arith))
       (sound_alt M F _ _ G (sound_as M F s.Neg _ (λ e. expr_depth e ≤ d) G (sound_lead M F mark.Minus _ _ (hyp Factor)) (λ a h. omega (arith, h)))
@@ -134,7 +134,7 @@ module _ (d : ℕ) (M : Meaning) (hyp : (c : Deep) → Sound M (λ t. Unit {0}) 
   H t = test_depth t ≤ d + 4
 
   test_within : Sound M F rules.test H
-  unfolding words meaning_words
+  unfolding definitions meaning_definitions
   test_within =
       sound_alt M F _ _ H (sound_as M F _ _ (λ u. Unit {0}) H (anything _) (λ a h. omega arith))
       (sound_alt M F _ _ H
@@ -145,7 +145,7 @@ module _ (d : ℕ) (M : Meaning) (hyp : (c : Deep) → Sound M (λ t. Unit {0}) 
       (λ p h. let r = h.0 in let q = h.1.1 in omega (arith, r, q))))
 
   pub block_within : (v : Version) → Sound M F (rules.block v) (λ cs. commands_depth cs ≤ d)
-  unfolding words meaning_words
+  unfolding definitions meaning_definitions
   block_within v =
       sound_part M F _ _ (sound_lead M F mark.OpenBrace _ _ (sound_closed M F mark.CloseBrace _ _
       (sound_alt M F _ _ (λ cs. commands_depth cs ≤ d)
@@ -158,7 +158,7 @@ module _ (d : ℕ) (M : Meaning) (hyp : (c : Deep) → Sound M (λ t. Unit {0}) 
   C c = command_depth c ≤ d + 4
 
   setting_within : Sound M F rules.setting (λ f. (x : Ident) → C (f x))
-  unfolding words meaning_words
+  unfolding definitions meaning_definitions
   setting_within =
       sound_part M F _ _
       (sound_alt M F _ _ _ (sound_as M F _ _ E (λ f. (x : Ident) → C (f x)) (sound_lead M F mark.Assign _ E expr_within)
@@ -183,7 +183,7 @@ module _ (d : ℕ) (M : Meaning) (hyp : (c : Deep) → Sound M (λ t. Unit {0}) 
       (λ p h. (h.0, h.1)))
 
   common_within : (v : Version) → Sound M F (rules.common_command v) C
-  unfolding words meaning_words
+  unfolding definitions meaning_definitions
   common_within v =
       sound_alt M F _ _ C (sound_as M F _ _ (λ u. Unit {0}) C (anything _) (λ a h. omega arith))
       (sound_alt M F _ _ C (sound_as M F s.Block _ (λ cs. commands_depth cs ≤ d) C (block_within v) (λ a h. omega (arith, h)))
@@ -219,7 +219,7 @@ module _ (d : ℕ) (M : Meaning) (hyp : (c : Deep) → Sound M (λ t. Unit {0}) 
       (λ p h. let r = h.0.1.1 in let q = h.1 in omega (arith, r, q)))))))))))
 
   command_within : (v : Version) → Sound M F (rules.command v) C
-  unfolding words meaning_words
+  unfolding definitions meaning_definitions
   command_within First = common_within First
   command_within Second =
       sound_alt M F _ _ C (sound_as M F _ _ (λ u. Unit {0}) C (anything _) (λ a h. omega arith)) (common_within Second)

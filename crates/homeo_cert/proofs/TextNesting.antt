@@ -9,7 +9,7 @@ use Rattle.homeo_syntax.specs.Grammar.{call, Means}
 use Rattle.homeo_syntax.specs.Reads.{Reads}
 use Rattle.homeo_syntax.specs.Rules as rules
 use Rattle.homeo_syntax.specs.Rules.{Deep, Rule, rule, limit, IsWorkload}
-use Rattle.homeo_meaning.specs.Key.{words as meaning_words}
+use Rattle.homeo_meaning.specs.Key.{definitions as meaning_definitions}
 use Rattle.homeo_meaning.specs.Acceptance.{IsAccepted}
 use Rattle.homeo_meaning.specs.CallForm.{body_form, ground_form}
 use Rattle.homeo_meaning.specs.Context.{slots_from, find_slots, context}
@@ -17,7 +17,7 @@ use Rattle.homeo_meaning.specs.Ground.{Ground}
 use Rattle.homeo_meaning.specs.Schema.{Declared, Relation, schema_of}
 use Rattle.homeo_meaning.proofs.Sound.{sound}
 use Rattle.homeo_meaning.proofs.SoundRelations.{SlotsFit}
-use Rattle.homeo_cert.specs.Key.{words}
+use Rattle.homeo_cert.specs.Key.{definitions}
 use Rattle.homeo_cert.specs.Nesting.{nesting}
 use Rattle.homeo_reader.proofs.Keeps.{Sound, Every, Fine, sound_seq, sound_part, sound_as, sound_many, sound_lead}
 use Rattle.homeo_cert.proofs.FormNesting.{AllFew, commands_depth, l_form_nests}
@@ -62,12 +62,12 @@ text_shallow text w r = (workload_within _ _).of w _ r.spells (fine _)
 
 -- ---- relations have at most 64 slots
 slots_length : (k first : ℕ) (fields : List Declared) (n : ℕ) → length (slots_from k first fields n) ≡ n
-unfolding meaning_words
+unfolding meaning_definitions
 slots_length k first fields zero = refl
 slots_length k first fields (suc n) = λ i. suc (slots_length (suc k) (first + (1 + length fields)) fields n i)
 
 few_slots : (first : ℕ) (rs : List Relation) (n : ℕ) → All SlotsFit rs → length (find_slots first rs n) ≤ 64
-unfolding meaning_words
+unfolding meaning_definitions
 few_slots first [] n h = omega arith
 few_slots first (r ∷ rs) n h =
     go (r.name == n) (h 0 r (omega arith)) (few_slots (first + r.slots * (1 + length r.fields)) rs n (λ i d l. h (suc i) d (omega (arith, l))))
@@ -85,7 +85,7 @@ every_at P (y ∷ ys) zero x h e = let same : y ≡ x = cc in subst P same h.0
 every_at P (y ∷ ys) (suc i) x h e = every_at P ys i x h.1 e
 
 pub ground_nests : (text : List ℕ) (w : s.Workload) (g : Ground) → Reads text w → IsAccepted w → nesting (ground_form w g) ≤ 855
-unfolding words meaning_words AllFew limit
+unfolding definitions meaning_definitions AllFew limit
 ground_nests text w g r accepted = by_case (slice_get w.transactions g.transaction) refl
   where
     by_case : (o : Option s.Transaction) → slice_get w.transactions g.transaction ≡ o → nesting (body_form w o g.args) ≤ 855

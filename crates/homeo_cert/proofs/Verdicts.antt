@@ -7,11 +7,11 @@ use Rattle.std.proofs.lemmas.Int.{ints, to_z-of_z}
 use Rattle.std.proofs.lemmas.Bool.Decides.{same_from_decides, Decides-eqb, Decides-int_eq}
 use Rattle.std.proofs.Math.Seq.{drop-cons}
 use Rattle.homeo_meaning.proofs.Steps.{drop_next, drop_none}
-use Rattle.homeo_plan.specs.Key.{words as plan_words}
+use Rattle.homeo_plan.specs.Key.{definitions as plan_definitions}
 use Rattle.homeo_plan.specs.Config.{Config, total}
 use Rattle.homeo_plan.specs.Each.{Each}
 use Rattle.homeo_plan.specs.Template.{Clause}
-use Rattle.homeo_cert.specs.Key.{words}
+use Rattle.homeo_cert.specs.Key.{definitions}
 use Rattle.homeo_cert.specs.declared.calls.Call as code
 use Rattle.homeo_cert.specs.declared.fault.Fault.{Fault}
 use Rattle.homeo_cert.specs.declared.fault.Fault.TheVariants.{TooLarge, NotFrozen, NoClause, ForeignWrite}
@@ -28,7 +28,7 @@ use Rattle.homeo_cert.specs.inner.Stops.{StopsAt}
 use Rattle.homeo_cert.proofs.SmallMet.{each_append}
 
 pub first_of_some : (ms fs : List Verdict) (n : ℕ) → first_of_all ms ≡ verdict.Bounds n → first_of_all (ms ++ fs) ≡ verdict.Bounds n
-unfolding words
+unfolding definitions
 first_of_some [] fs n e = absurd cc
 first_of_some (v ∷ ms) fs n e = e
 
@@ -42,7 +42,7 @@ OfCertificate verdict.Shape = ⊥
 OfCertificate v = Unit {0}
 
 misfits_are : (n : ℕ) (cs : List Clause) (bs : Config) → Each OfCertificate (misfits n cs bs)
-unfolding words plan_words
+unfolding definitions plan_definitions
 misfits_are n [] bs = tt
 misfits_are n (c ∷ cs) [] = tt
 misfits_are n (c ∷ cs) (b ∷ bs) = go (fits_slack c b) (misfits_are (suc n) cs bs)
@@ -52,7 +52,7 @@ misfits_are n (c ∷ cs) (b ∷ bs) = go (fits_slack c b) (misfits_are (suc n) c
     go false h = (tt, tt)
 
 faults_are : (n : ℕ) (fs : List Fault) → Each OfCertificate (map (at_call n) fs)
-unfolding words plan_words
+unfolding definitions plan_definitions
 faults_are n [] = tt
 faults_are n (TooLarge ∷ fs) = (tt, faults_are n fs)
 faults_are n (NotFrozen d ∷ fs) = (tt, faults_are n fs)
@@ -60,17 +60,17 @@ faults_are n (NoClause ∷ fs) = (tt, faults_are n fs)
 faults_are n (ForeignWrite ∷ fs) = (tt, faults_are n fs)
 
 all_are : (n : ℕ) (c : Certificate) (gs : List Call) → Each OfCertificate (faults_from n c gs)
-unfolding words plan_words
+unfolding definitions plan_definitions
 all_are n c [] = tt
 all_are n c (g ∷ gs) = each_append OfCertificate (map (at_call n) (call_faults c g)) (faults_from (suc n) c gs) (faults_are n (call_faults c g)) (all_are (suc n) c gs)
 
 first_is : (vs : List Verdict) → Each OfCertificate vs → OfCertificate (first_of_all vs)
-unfolding words plan_words
+unfolding definitions plan_definitions
 first_is [] h = tt
 first_is (v ∷ vs) h = h.0
 
 on_bytes : (bytes : List ℕ) (v : Verdict) → OfCertificate v → IsOfCertificate bytes v → IsVerdictOn bytes v
-unfolding words
+unfolding definitions
 on_bytes bytes verdict.Valid o h = h
 on_bytes bytes verdict.Json o h = absurd o
 on_bytes bytes verdict.Shape o h = absurd o
@@ -81,7 +81,7 @@ on_bytes bytes (verdict.Clause n) o h = h
 on_bytes bytes (verdict.Foreign n) o h = h
 
 pub verdict_on : (bytes : List ℕ) (c : Certificate) (v : Verdict) → InShape c → IsJsonOf bytes (certificate_data c) → v ≡ verdict_of c → IsVerdictOn bytes v
-unfolding words
+unfolding definitions
 verdict_on bytes c v shape json e =
     let ms = misfits 0 c.clauses c.bounds in
     let fs = faults_from 0 c c.calls in
@@ -95,11 +95,11 @@ module _ (c : Certificate) (gs : List code.Call) (i n : ℕ) where
 
   module _ (g : code.Call) (l : i < length gs) (e : g ≡ get_or gs i g) (so : CallsSoFar) where
     split : map (at_call n) (call_faults c (plain_call g)) ++ faults_from (suc n) c (map plain_call (drop (i + 1) gs)) ≡ faults_from 0 c (map plain_call gs)
-    unfolding words
+    unfolding definitions
     split = sym (ap (faults_from n c) (drop_next plain_call gs i g l e)) ∙ so
 
     pub call_stops : (f : Fault) (v : Verdict) → StopsAt (call_faults c (plain_call g)) (stop.Fault f) → v ≡ at_call n f → v ≡ first_of_all (faults_from 0 c (map plain_call gs))
-    unfolding words
+    unfolding definitions
     call_stops f v h e =
         e ∙ ap (λ fs. first_of_all (map (at_call n) fs ++ faults_from (suc n) c (map plain_call (drop (i + 1) gs)))) (sym h.1) ∙ ap first_of_all split
 
@@ -110,16 +110,16 @@ module _ (c : Certificate) (gs : List code.Call) (i n : ℕ) where
         ∙ ap (λ fs. map (at_call n) fs ++ faults_from (suc n) c (map plain_call (drop (i + 1) gs))) (sym h) ∙ split
 
   pub calls_end : length gs ≤ i → CallsSoFar → verdict.Valid ≡ first_of_all (faults_from 0 c (map plain_call gs))
-  unfolding words
+  unfolding definitions
   calls_end l so = ap first_of_all (sym (ap (faults_from n c) (drop_none plain_call gs i l)) ∙ so)
 
 -- ---- clauses whose bounds are looked at one after another
 pub no_misfit_left : (n : ℕ) (cs : List Clause) (bs : Config) → cs ≡ [] → misfits n cs bs ≡ []
-unfolding words
+unfolding definitions
 no_misfit_left n cs bs e = ap (λ l. misfits n l bs) e
 
 pub no_row_left : (n : ℕ) (cs : List Clause) (bs : Config) → bs ≡ [] → misfits n cs bs ≡ []
-unfolding words
+unfolding definitions
 no_row_left n cs bs e = ap (misfits n cs) e ∙ go cs
   where
     go : (cs : List Clause) → misfits n cs [] ≡ []
@@ -128,11 +128,11 @@ no_row_left n cs bs e = ap (misfits n cs) e ∙ go cs
 
 module _ (n : ℕ) (c : Clause) (cs all : List Clause) (b : List ℤ) (bs rows : Config) (clauses : all ≡ c ∷ cs) (bounds : rows ≡ b ∷ bs) where
   here : misfits n all rows ≡ cond (fits_slack c b) (misfits (suc n) cs bs) (verdict.Bounds n ∷ [])
-  unfolding words
+  unfolding definitions
   here = ap₂ (misfits n) clauses bounds
 
   pub misfit_here : (v : Bool) → v ≡ fits_slack c b → v ≡ false → first_of_all (misfits n all rows) ≡ verdict.Bounds n
-  unfolding words
+  unfolding definitions
   misfit_here v is h = ap first_of_all here ∙ ap (λ w. first_of_all (cond w (misfits (suc n) cs bs) (verdict.Bounds n ∷ []))) (sym is ∙ h)
 
   pub misfit_further : (v : Bool) → v ≡ fits_slack c b → v ≡ true → (m : ℕ) → m ≡ n + 1 → misfits m cs bs ≡ misfits n all rows
@@ -142,11 +142,11 @@ module _ (n : ℕ) (c : Clause) (cs all : List Clause) (b : List ℤ) (bs rows :
 
 -- the sum of the bounds from a place on
 pub total_next : (bs : List ℤ) (i : ℕ) (b d : ℤ) → i < length bs → b ≡ get_or bs i d → total (drop i bs) ≡ b +ℤ total (drop (i + 1) bs)
-unfolding plan_words
+unfolding plan_definitions
 total_next bs i b d l e = rw add-one (ap total (drop-cons bs i d l ∙ ap (λ y. y ∷ drop (suc i) bs) (sym e)))
 
 pub total_none : (bs : List ℤ) (i : ℕ) → length bs ≤ i → total (drop i bs) ≡ pos 0
-unfolding plan_words
+unfolding plan_definitions
 total_none bs i l = ap total (drop_of_length-le bs l)
 
 pub none_mapped : {X Y : Type 0} (f : X → Y) (xs : List X) → length xs ≡ 0 → map f xs ≡ []

@@ -3,10 +3,10 @@
 ghost use Rattle.std.specs.Prelude.{◌≡◌, ◌<◌, ◌-◌, ◌↔◌, ◌∷◌, [], length, slice_index_or, IsTrue, IfOk, MatchOption, option_map, map};
 ghost use Rattle.serde_json.specs.View.{view};
 ghost use Rattle.homeo_plan.specs.Each.{Each};
-ghost use Rattle.homeo_plan.specs.Linear.{delta_before, deltas_of};
+ghost use Rattle.homeo_plan.specs.Linear.{AreInOrder, delta_before, deltas_of};
 ghost use Rattle.homeo_plan.specs.PlanView.{plain_clause};
 ghost use Rattle.homeo_cert.specs.Json.{list_data, whole_data, wholes_data};
-ghost use Rattle.homeo_cert.specs.Shape.{TermInShape, ClauseInShape, BoundsInShape, Rise};
+ghost use Rattle.homeo_cert.specs.Shape.{TermInShape, ClauseInShape, BoundsInShape};
 ghost use Rattle.homeo_cert.specs.Text.{term_data, clause_data};
 ghost use Rattle.homeo_cert.specs.inner.Reading.{IsRead, IsFactor};
 
@@ -66,9 +66,9 @@ fn read_terms(alloc: Global, value: &Value, extents: Extents) -> Result<Option<V
     Ok(Some(terms))
 }
 
-/// Whether the deltas of terms rise, each once.
-fn terms_rise(terms: &[Term]) -> bool
-    ensures { IsTrue result ↔ Rise (deltas_of terms.now) }
+/// Whether the deltas of terms are in order, each once.
+fn terms_are_in_order(terms: &[Term]) -> bool
+    ensures { IsTrue result ↔ AreInOrder (deltas_of terms.now) }
 {
     for place in 1..terms.len() {
         if !is_before(terms[place - 1].delta, terms[place].delta) {
@@ -78,7 +78,7 @@ fn terms_rise(terms: &[Term]) -> bool
     true
 }
 
-/// A clause: its slack and its terms, whose deltas rise.
+/// A clause: its slack and its terms, whose deltas are in order.
 fn read_clause(alloc: Global, value: &Value, extents: Extents) -> Result<Option<Clause>, Memory>
     ensures { IfOk result (λ o. IsRead (ClauseInShape extents.objects extents.sites) clause_data (view value.now) (option_map plain_clause o)) }
 {
@@ -89,16 +89,16 @@ fn read_clause(alloc: Global, value: &Value, extents: Extents) -> Result<Option<
         return Ok(None);
     };
     match read_terms(alloc, list, extents)? {
-        Some(terms) => Ok(rising_clause(slack, terms)),
+        Some(terms) => Ok(clause_in_order(slack, terms)),
         None => Ok(None),
     }
 }
 
-/// The clause, if its terms rise.
-fn rising_clause(slack: i64, terms: Vec<Term>) -> Option<Clause>
-    ensures { MatchOption result (Rise (deltas_of terms.items) → ⊥) (λ c. Rise (deltas_of terms.items) × (plain_clause c ≡ record { terms = terms.items; slack = slack })) }
+/// The clause, if the deltas of its terms are in order.
+fn clause_in_order(slack: i64, terms: Vec<Term>) -> Option<Clause>
+    ensures { MatchOption result (AreInOrder (deltas_of terms.items) → ⊥) (λ c. AreInOrder (deltas_of terms.items) × (plain_clause c ≡ record { terms = terms.items; slack = slack })) }
 {
-    if !terms_rise(terms.as_slice()) {
+    if !terms_are_in_order(terms.as_slice()) {
         return None;
     }
     Some(Clause {

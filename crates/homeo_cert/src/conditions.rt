@@ -60,7 +60,7 @@ fn comparison(
 }
 
 /// Whether the comparison is true where all deltas are 0.
-#[tactic(auto, unfolding(homeo_meaning::specs::Key::words))]
+#[tactic(auto, unfolding(homeo_meaning::specs::Key::definitions))]
 pub(crate) fn is_true(op: Compare, left: &Form, right: &Form) -> bool
     ensures { result ≡ compared op left.now.constant right.now.constant }
 {

@@ -3,9 +3,9 @@
 ghost use Rattle.std.specs.Prelude.{◌≡◌, ◌<◌, ◌-◌, ◌↔◌, ◌∷◌, [], length, slice_index_or, IsTrue, IfOk, option_map, map};
 ghost use Rattle.serde_json.specs.View.{view};
 ghost use Rattle.homeo_plan.specs.Each.{Each};
-ghost use Rattle.homeo_plan.specs.Linear.{delta_before};
+ghost use Rattle.homeo_plan.specs.Linear.{AreInOrder, delta_before};
 ghost use Rattle.homeo_cert.specs.Json.{list_data};
-ghost use Rattle.homeo_cert.specs.Shape.{DeltaInShape, Rise};
+ghost use Rattle.homeo_cert.specs.Shape.{DeltaInShape};
 ghost use Rattle.homeo_cert.specs.Text.{delta_data};
 ghost use Rattle.homeo_cert.specs.inner.Reading.{IsRead, AreFreezes};
 
@@ -55,7 +55,7 @@ fn read_deltas(alloc: Global, value: &Value, extents: Extents) -> Result<Option<
     Ok(Some(deltas))
 }
 
-/// A list of deltas in rising order, each once.
+/// A list of deltas in order, each once.
 pub(crate) fn read_freezes(
     alloc: Global,
     value: &Value,
@@ -66,16 +66,16 @@ pub(crate) fn read_freezes(
     let Some(deltas) = read_deltas(alloc, value, extents)? else {
         return Ok(None);
     };
-    if rise(deltas.as_slice()) {
+    if are_in_order(deltas.as_slice()) {
         Ok(Some(deltas))
     } else {
         Ok(None)
     }
 }
 
-/// Whether deltas rise, each once.
-fn rise(deltas: &[Delta]) -> bool
-    ensures { IsTrue result ↔ Rise deltas.now }
+/// Whether deltas are in order, each once.
+fn are_in_order(deltas: &[Delta]) -> bool
+    ensures { IsTrue result ↔ AreInOrder deltas.now }
 {
     for place in 1..deltas.len() {
         if !is_before(deltas[place - 1], deltas[place]) {
@@ -86,7 +86,7 @@ fn rise(deltas: &[Delta]) -> bool
 }
 
 /// The order is by object, and then by site.
-#[tactic(auto, unfolding(homeo_plan::specs::Key::words))]
+#[tactic(auto, unfolding(homeo_plan::specs::Key::definitions))]
 pub(crate) fn is_before(a: Delta, b: Delta) -> bool
     ensures { result ≡ delta_before a b }
 {

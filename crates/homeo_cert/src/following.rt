@@ -22,7 +22,7 @@ use crate::reading::Certificate;
 use crate::rules::Rules;
 use crate::sizes::form_of;
 use crate::table::ClauseTable;
-use homeo_linear::{Standing, joined_deltas, push_written};
+use homeo_linear::{Standing, deltas_in_order, push_written};
 use homeo_plan::Delta;
 use homeo_split::{Place, place_of, place_of_temp};
 use homeo_syntax::{LCommand, LCond, LExpr, SplitName, Temp};
@@ -38,7 +38,7 @@ pub(crate) struct Following<'a> {
 }
 
 impl<'a> Following<'a> {
-    #[tactic(auto, unfolding(homeo_plan::specs::Key::words))]
+    #[tactic(auto, unfolding(homeo_plan::specs::Key::definitions))]
     fn new(alloc: Global, rules: Rules<'a>, base: &'a [i64]) -> Following<'a>
         ensures rules { rules_in result ≡ plain_rules rules.entry }
         ensures forms { forms_in result ≡ base_forms (values_of base.now) }
@@ -132,7 +132,7 @@ impl<'a> Following<'a> {
     fn end(self, alloc: Global) -> Result<(), Stop>
         ensures { Finds (flat_map (written_faults self.entry) (written_in self.entry)) result }
     {
-        let written = joined_deltas(alloc, self.written)?;
+        let written = deltas_in_order(alloc, self.written)?;
         for delta in &written {
             let place = Place::Delta {
                 object: delta.object,

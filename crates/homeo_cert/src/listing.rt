@@ -19,7 +19,7 @@ pub(crate) fn nodes_of(alloc: Global, c: &LCommand) -> Result<Vec<Node>, Memory>
 }
 
 /// The node of a name that is read.
-#[tactic(auto, unfolding(crate::specs::Key::words))]
+#[tactic(auto, unfolding(crate::specs::Key::definitions))]
 fn name_node(name: SplitName) -> Node
     ensures { result ≡ name_node name }
 {
@@ -30,7 +30,7 @@ fn name_node(name: SplitName) -> Node
 }
 
 /// The node of a name that is written.
-#[tactic(auto, unfolding(crate::specs::Key::words))]
+#[tactic(auto, unfolding(crate::specs::Key::definitions))]
 fn write_node(name: SplitName) -> Node
     ensures { result ≡ write_node name }
 {

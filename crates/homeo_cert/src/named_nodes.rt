@@ -41,7 +41,7 @@ fn named(name: &str, numbers: &[Value], extents: Extents) -> Option<Node>
 }
 
 /// A node without numbers.
-#[tactic(auto, unfolding(crate::specs::Key::words))]
+#[tactic(auto, unfolding(crate::specs::Key::definitions))]
 fn bare(name: &str) -> Option<Node>
     ensures { IsBare name.now result }
 {
@@ -59,7 +59,7 @@ fn bare(name: &str) -> Option<Node>
 }
 
 /// A node with one number.
-#[tactic(auto, unfolding(crate::specs::Key::words))]
+#[tactic(auto, unfolding(crate::specs::Key::definitions))]
 fn with_number(name: &str, n: &Value, extents: Extents) -> Option<Node>
     ensures { IsRead (NodeInShape extents.objects extents.sites) node_data (list_data (string name.now ∷ view n.now ∷ [])) result }
 {
@@ -78,7 +78,7 @@ fn with_number(name: &str, n: &Value, extents: Extents) -> Option<Node>
 }
 
 /// A node with an object and a site.
-#[tactic(auto, unfolding(crate::specs::Key::words))]
+#[tactic(auto, unfolding(crate::specs::Key::definitions))]
 fn with_delta(name: &str, object: &Value, site: &Value, extents: Extents) -> Option<Node>
     ensures { IsRead (NodeInShape extents.objects extents.sites) node_data
         (list_data (string name.now ∷ view object.now ∷ view site.now ∷ [])) result }

@@ -126,7 +126,7 @@ fn judge_calls(alloc: Global, c: &Certificate) -> Result<Verdict, Memory>
 }
 
 /// The verdict of a fault of a call.
-#[tactic(auto, unfolding(crate::specs::Key::words))]
+#[tactic(auto, unfolding(crate::specs::Key::definitions))]
 fn of_call(call: u32, fault: Fault) -> Verdict
     ensures { result ≡ at_call call fault }
 {

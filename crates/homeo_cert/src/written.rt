@@ -96,7 +96,7 @@ impl Written for Clause {
 impl Written for Node {
     ghost json = { node_data };
 
-    #[tactic(auto, unfolding(crate::specs::Key::words))]
+    #[tactic(auto, unfolding(crate::specs::Key::definitions))]
     fn value(&self, alloc: Global) -> Result<Value, Memory> {
         match *self {
             Node::Skip => bare(alloc, "skip"),
@@ -140,7 +140,7 @@ fn with_delta(alloc: Global, name: &str, object: u32, site: u32) -> Result<Value
     Ok(json!(in alloc; [name, object, site])?)
 }
 
-#[tactic(auto, unfolding(crate::specs::Key::words))]
+#[tactic(auto, unfolding(crate::specs::Key::definitions))]
 fn compare_value(alloc: Global, op: Compare) -> Result<Value, Memory>
     ensures { IfOk result (λ v. view v ≡ compare_data op) }
 {
@@ -151,7 +151,7 @@ fn compare_value(alloc: Global, op: Compare) -> Result<Value, Memory>
     }
 }
 
-#[tactic(auto, unfolding(crate::specs::Key::words))]
+#[tactic(auto, unfolding(crate::specs::Key::definitions))]
 fn temp_value(alloc: Global, t: Temp) -> Result<Value, Memory>
     ensures { IfOk result (λ v. view v ≡ temp_data t) }
 {
@@ -162,7 +162,7 @@ fn temp_value(alloc: Global, t: Temp) -> Result<Value, Memory>
 }
 
 /// A literal.
-#[tactic(auto, unfolding(crate::specs::Key::words))]
+#[tactic(auto, unfolding(crate::specs::Key::definitions))]
 fn literal_value(alloc: Global, n: i64) -> Result<Value, Memory>
     ensures { IfOk result (λ v. view v ≡ node_data (Literal n)) }
 {

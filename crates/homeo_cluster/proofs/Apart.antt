@@ -1,5 +1,5 @@
 -- The lines of a site's holder are apart.
-use Rattle.homeo_history.specs.Key.{words as histories}
+use Rattle.homeo_history.specs.Key.{definitions as history_definitions}
 use Rattle.std.proofs.Common.{◌≡◌, ℕ, zero, suc, ◌+◌, ◌*◌, ◌<◌, ◌≤◌, Bool, true, List, [], ◌∷◌, length, map, Some, refl, ap, ◌∙◌, arith}
 use Rattle.std.specs.Prelude.{slice_get, option_map}
 use Rattle.homeo_syntax.specs.Source as s
@@ -16,7 +16,7 @@ stands f (x ∷ xs) zero site e = (cc (e), omega arith)
 stands f (x ∷ xs) (suc i) site e = let rest = stands f xs i site e in (rest.0, omega (arith, rest.1))
 
 pub at_home : (w : s.Workload) (site client : ℕ) → IsClientAt w site client → (home_of w client ≡ site) × (client < length (homes w))
-unfolding places histories
+unfolding places history_definitions
 at_home w site client at = stands (λ (c : Client). nat_of c.site.value) w.clients client site at
 
 -- counted before a place, and from it on

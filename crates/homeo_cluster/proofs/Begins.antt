@@ -1,6 +1,6 @@
 -- The first passes, sites and book.
-use Rattle.homeo_site.specs.Key.{words as site_words}
-use Rattle.homeo_assembly.specs.Key.{words}
+use Rattle.homeo_site.specs.Key.{definitions as site_definitions}
+use Rattle.homeo_assembly.specs.Key.{definitions}
 use Rattle.std.proofs.Common.{◌≡◌, ◌≢◌, ℕ, zero, suc, ◌+◌, ◌^◌, ◌<◌, ◌≤◌, List, [], ◌∷◌, ◌++◌, map, length, Some, None, ℤ, refl, sym, ap, subst, ◌∙◌, ◌⊎◌, inl, inr, ⊎_elim, arith, length-append}
 use Rattle.std.specs.Prelude.{slice_get}
 use Rattle.std.proofs.lemmas.List.{get_or-replicate}
@@ -255,7 +255,7 @@ same_facts w x l m at done shut f = record {
 
 first_cell : SiteStart → (w : s.Workload) (work : Workload) (site : ℕ) (h : Held) → IsAccepted w → plain_workload work ≡ w → site < sites_of w → IsFirst w (initial w) site h
     → IsCell w record { site = record { work = work; state = begun site 0 (initial w); spare = 0 }; held = h }
-unfolding words site_words
+unfolding definitions site_definitions
 first_cell law w work site h accepted same lt first =
     let at = owned_list h (at_line w site) (initial w ∷ []) first.at in
     record {
@@ -290,7 +290,7 @@ first_cell_is law w work site base start v h accepted same lt is starts on first
 -- ---- the book's type holds
 pub first_book_is : BookStart → (w : s.Workload) (closed : List Round) (base : List ℤ) (h : Held) → IsAccepted w → closed ≡ [] → base ≡ initial w → IsRest w (initial w) (sites_of w) h
     → IsBook w record { closed = closed; base = base; held = h }
-unfolding words
+unfolding definitions
 first_book_is law w closed base h accepted none is rest =
     let bases = owned_list h (bases_line w) (initial w ∷ []) rest.bases in
     let f = law w accepted in

@@ -1,6 +1,6 @@
 -- The round is closed: sites and book hold again, over plain data.
-use Rattle.homeo_assembly.specs.Key.{words}
-use Rattle.homeo_site.specs.Key.{words as site_words}
+use Rattle.homeo_assembly.specs.Key.{definitions}
+use Rattle.homeo_site.specs.Key.{definitions as site_definitions}
 use Rattle.std.proofs.Common.{◌≡◌, ℕ, ◌<◌, List, [], ◌∷◌, ◌++◌, length, Some, sym, ap, subst, ◌∙◌}
 use Rattle.std.specs.Prelude.{ℤ, slice_get}
 use Rattle.std.proofs.lemmas.List.{length-map}
@@ -32,7 +32,7 @@ module _ (w : s.Workload) (next : List ℤ) (a : Answer) (before now : List Cell
   one i v v' e e' = gone.done i v v' (get_lt before i v e) e e'
 
   number_of : (i : ℕ) (v v' : CellValue) → slice_get before i ≡ Some v → slice_get now i ≡ Some v' → v'.site.state.number ≡ i
-  unfolding site_words
+  unfolding site_definitions
   number_of i v v' e e' = ap (λ (x : SiteState). x.number) (one i v v' e e').state ∙ numbers i v e
 
   site_is : (i : ℕ) (c c' : Cell) → slice_get (cells_of w before) i ≡ Some c → slice_get (cells_of w now) i ≡ Some c' → c'.site ≡ renewed next c.site
@@ -58,7 +58,7 @@ module _ (w : s.Workload) (next : List ℤ) (a : Answer) (before now : List Cell
       sym ((one i v.0 v'.0 v.1 v'.1.0).pairs client at) ∙ ap (λ (k : Cell). k.lists.shut client) v'.1.1
 
   pub closes : Closes w next a (cells_of w before) (cells_of w now) (book_lists w bb) (book_lists w b)
-  unfolding words
+  unfolding definitions
   closes = record {
     count = length-map now (cell_of w) ∙ gone.count ∙ sym (length-map before (cell_of w));
     bases = gone.bases ∙ ahead;
@@ -72,7 +72,7 @@ module _ (w : s.Workload) (next : List ℤ) (a : Answer) (before now : List Cell
       → next ≡ next_base w old (states_of (cells_of w before)) call
       → a ≡ closing_answer (length old.closed) (closing_of w old (states_of (cells_of w before)) home call broken)
       → book_state new ≡ after_closing w old (states_of (cells_of w before)) home call broken → new.held ≡ b → IsBook w new
-  unfolding words
+  unfolding definitions
   book_again home call broken old new accepted count hand breaks is_next is_answer state held =
       let after = cleanup_event w old (book_lists w bb) (book_lists w b) (cells_of w before) (cells_of w now) home call broken accepted hand breaks
       (subst (λ (x : List ℤ × Answer). Closes w x.0 x.1 (cells_of w before) (cells_of w now) (book_lists w bb) (book_lists w b)) (λ i. (is_next i, is_answer i)) closes) in

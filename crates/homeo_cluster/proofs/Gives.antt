@@ -1,6 +1,6 @@
 -- From lists of entries to lists of answers.
-use Rattle.homeo_history.specs.Key.{words as histories}
-use Rattle.homeo_site.specs.Key.{words as site_words}
+use Rattle.homeo_history.specs.Key.{definitions as history_definitions}
+use Rattle.homeo_site.specs.Key.{definitions as site_definitions}
 use Rattle.std.proofs.Common.{◌≡◌, ℕ, cond, [], ◌∷◌, ◌++◌, map, refl, sym, ap, subst, ◌∙◌, eq-eqb}
 use Rattle.std.proofs.lemmas.List.{append-nil, map-append}
 use mathlib.Core.Logic.{dite}
@@ -8,7 +8,7 @@ use native.Mathlib.Decide.{ℕ_discrete}
 use Rattle.homeo_notes.specs.Lines.{Held, Entry, list_at}
 use Rattle.homeo_syntax.specs.Source as s
 use Rattle.homeo_history.specs.Legal.{IsClientAt}
-use Rattle.homeo_assembly.specs.Key.{words}
+use Rattle.homeo_assembly.specs.Key.{definitions}
 use Rattle.homeo_history.specs.Answers.{Answer, answers_to}
 use Rattle.homeo_assembly.specs.Events.{Gives, Agree}
 use Rattle.homeo_assembly.specs.Written.{written, read}
@@ -19,7 +19,7 @@ use Rattle.homeo_cluster.specs.inner.Cells.{answers_at}
 use Rattle.homeo_cluster.proofs.Grows.{grew_same, grew_list_other}
 
 pub own_to : (client : ℕ) (a : Answer) → a.client ≡ client → answers_to client (a ∷ []) ≡ a ∷ []
-unfolding words histories site_words
+unfolding definitions history_definitions site_definitions
 own_to client a e = ap (λ b. cond b (a ∷ []) []) (eq-eqb a.client client e)
 
 -- the list of one line got the answer, which is its client's: so the client's answers did
@@ -34,7 +34,7 @@ gives_one h h' line a g =
 pub gives : (w : s.Workload) (site : ℕ) (h h' : Held) (line : ℕ → ℕ) (a : Answer)
     → ((c d : ℕ) → IsClientAt w site c → IsClientAt w site d → line c ≡ line d → c ≡ d) → IsClientAt w site a.client
     → Grew h h' (line a.client) (written a) → Gives w site a (λ c. answers_at h c (line c)) (λ c. answers_at h' c (line c))
-unfolding words histories site_words
+unfolding definitions history_definitions site_definitions
 gives w site h h' line a apart own g = λ c at. dite (ℕ_discrete c a.client)
     (λ same. subst (λ n. answers_at h' n (line n) ≡ answers_at h n (line n) ++ answers_to n (a ∷ [])) (sym same) (gives_one h h' (line a.client) a g))
     (λ other.
@@ -46,5 +46,5 @@ gives w site h h' line a apart own g = λ c at. dite (ℕ_discrete c a.client)
 pub agrees : (w : s.Workload) (site : ℕ) (h h' : Held) (line : ℕ → ℕ) (grown : ℕ) (e : Entry)
     → ((c : ℕ) → IsClientAt w site c → line c ≡ grown → ⊥)
     → Grew h h' grown e → Agree w site (λ c. answers_at h c (line c)) (λ c. answers_at h' c (line c))
-unfolding words histories site_words
+unfolding definitions history_definitions site_definitions
 agrees w site h h' line grown e apart g = λ c at. ap (map (read c)) (grew_list_other h h' grown (line c) e g (apart c at))

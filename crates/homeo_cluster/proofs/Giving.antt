@@ -1,5 +1,5 @@
 -- The answer to a closing call, at its client's site and at the others, over plain data.
-use Rattle.homeo_assembly.specs.Key.{words}
+use Rattle.homeo_assembly.specs.Key.{definitions}
 use Rattle.std.proofs.Common.{◌≡◌, ℕ, List, [], ◌∷◌, ◌++◌, map, refl, sym, ap, subst, ◌∙◌}
 use Rattle.std.proofs.lemmas.List.{append-nil}
 use Rattle.homeo_notes.specs.Lines.{Held, Entry, HasSeen, list_at, seen_at}
@@ -40,7 +40,7 @@ module _ (w : s.Workload) (site : ℕ) (a : Answer) where
       → Grew h1 h (shut_line w a.client) (written a) → HasSeen h (kept_line w a.client) (list_at h (shut_line w a.client))
       → Grew b0 b (kept_line w a.client) (written a) → HasSeen b (shut_line w a.client) (list_at b (kept_line w a.client))
       → IsGiven w site a h0 b0 h b
-  unfolding words
+  unfolding definitions
   given_here h0 h1 h b0 b own holds pairs book g1 seen1 g2 seen2 f seen =
       let lines : AreApart w site = apart w site in
       let e : Entry = written a in
@@ -63,7 +63,7 @@ module _ (w : s.Workload) (site : ℕ) (a : Answer) where
   -- at another site nothing came
   pub given_elsewhere : (h b : Held) → (IsClientAt w site a.client → ⊥) → HoldsAt w site h → ArePairs w site h b → KeepsEach w b
       → IsGiven w site a h b h b
-  unfolding words
+  unfolding definitions
   given_elsewhere h b away holds pairs book = record {
     done = λ d at. nothing d at (answers_at h d (done_line w d));
     shut = λ d at. nothing d at (answers_at h d (shut_line w d));

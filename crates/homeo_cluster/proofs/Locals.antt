@@ -1,6 +1,6 @@
 -- The local event, over plain data.
-use Rattle.homeo_history.specs.Key.{words as histories}
-use Rattle.homeo_site.specs.Key.{words as site_words}
+use Rattle.homeo_history.specs.Key.{definitions as history_definitions}
+use Rattle.homeo_site.specs.Key.{definitions as site_definitions}
 use Rattle.std.proofs.Common.{◌≡◌, ◌≢◌, ℕ, suc, ◌<◌, length, sym, ap, subst, ◌∙◌}
 use Rattle.std.proofs.lemmas.List.{length-map}
 use mathlib.Core.Logic.{dite}
@@ -14,7 +14,7 @@ use Rattle.homeo_meaning.specs.declared.call.CallId.{CallId}
 use Rattle.homeo_plan.specs.Planned.{sites_of}
 use Rattle.homeo_history.specs.Legal.{IsClientAt, IsCallAt}
 use Rattle.homeo_site.specs.SiteState.{SiteState, local_entry, after_local, KeepsCall}
-use Rattle.homeo_assembly.specs.Key.{words}
+use Rattle.homeo_assembly.specs.Key.{definitions}
 use Rattle.homeo_history.specs.Answers.{Answer, local_answer}
 use Rattle.homeo_assembly.specs.Events.{ExtendsDone}
 use Rattle.homeo_assembly.specs.Facts.{SiteFacts}
@@ -61,7 +61,7 @@ pub extends_done : (w : s.Workload) (x : SiteState) (call : CallId) (h h' : Held
     → call.seq ≡ suc (length (list_at h (done_line w call.client)))
     → Grew h h' (done_line w call.client) (written (local_answer x.round x.number (local_entry w x call)))
     → ExtendsDone w x (local_answer x.round x.number (local_entry w x call)) (site_lists w x.number h) (site_lists w x.number h')
-unfolding words histories site_words
+unfolding definitions history_definitions site_definitions
 extends_done w x call h h' own next g =
     let a : Answer = local_answer x.round x.number (local_entry w x call) in
     let lines : AreApart w x.number = apart w x.number in record {
@@ -78,7 +78,7 @@ pub cell_local : (w : s.Workload) (v v' : SiteValue) (h h' : Held) (call : CallI
     → Grew h h' (done_line w call.client) (written (local_answer v.state.round v.state.number (local_entry w v.state call)))
     → HasSeen h' (asked_line call.client) (list_at h' (done_line w call.client))
     → IsCell w (record { site = v'; held = h' })
-unfolding words histories site_words
+unfolding definitions history_definitions site_definitions
 cell_local w v v' h h' call accepted is at keeps work state next g seen =
     let e : Entry = written (local_answer v.state.round v.state.number (local_entry w v.state call)) in
     let own : IsClientAt w v.state.number call.client = client_at w call v.state.number at.at_site in

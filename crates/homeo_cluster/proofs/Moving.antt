@@ -1,5 +1,5 @@
 -- While the entries of one site go over into the book, over plain data.
-use Rattle.homeo_history.specs.Key.{words as histories}
+use Rattle.homeo_history.specs.Key.{definitions as history_definitions}
 use Rattle.std.proofs.Common.{◌≡◌, ◌≢◌, ℕ, suc, ◌+◌, ◌<◌, ◌≤◌, [], ◌∷◌, ◌++◌, length, map, take, drop, eqb, Some, refl, sym, ap, subst, ◌∙◌, arith}
 use Rattle.std.specs.Prelude.{slice_get}
 use Rattle.std.proofs.lemmas.List.{map-append, length-map, length-append, take-append-drop}
@@ -11,7 +11,7 @@ use Rattle.homeo_syntax.specs.Source as s
 use Rattle.homeo_history.specs.History.{Entry as Made}
 use Rattle.homeo_history.specs.Legal.{call_count, IsClientAt, IsCallAt}
 use Rattle.homeo_site.specs.SiteState.{SiteState}
-use Rattle.homeo_assembly.specs.Key.{words}
+use Rattle.homeo_assembly.specs.Key.{definitions}
 use Rattle.homeo_history.specs.Answers.{Answer, local_answer, answers_to}
 use Rattle.homeo_assembly.specs.Facts.{SiteFacts}
 use Rattle.homeo_assembly.specs.Written.{written, read}
@@ -103,7 +103,7 @@ moving_more w x h0 b0 h h' b b' k e facts own at g f seen_h seen_b is =
 -- none so far
 pub moving_none : (w : s.Workload) (x : SiteState) (h b : Held) → SiteFacts w x (site_lists w x.number h) → HoldsAt w x.number h → KeepsEach w b
     → ArePairs w x.number h b → IsMoving w x 0 h b h b
-unfolding words
+unfolding definitions
 moving_none w x h b facts holds book pairs = record {
   moved = (moving w x (site_lists w x.number h) facts).none;
   at = refl;
@@ -116,7 +116,7 @@ moving_none w x h b facts holds book pairs = record {
 -- what has gone over so far is no longer than all that was done
 moved_short : (w : s.Workload) (x : SiteState) (k : ℕ) (h0 b0 h b : Held) (client : ℕ) → SiteFacts w x (site_lists w x.number h0) → IsMoving w x k h0 b0 h b
     → IsClientAt w x.number client → length (list_at b (kept_line w client)) ≤ length (list_at h0 (done_line w client))
-unfolding words histories
+unfolding definitions history_definitions
 moved_short w x k h0 b0 h b client facts is own =
     let f : Made → Answer = local_answer x.round x.number in
     let first : length (list_at b (kept_line w client)) ≡ length (list_at h (shut_line w client)) =

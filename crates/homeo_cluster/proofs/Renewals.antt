@@ -1,6 +1,6 @@
 -- The cleanup event at one site, over plain data.
-use Rattle.homeo_history.specs.Key.{words as histories}
-use Rattle.homeo_site.specs.Key.{words as site_words}
+use Rattle.homeo_history.specs.Key.{definitions as history_definitions}
+use Rattle.homeo_site.specs.Key.{definitions as site_definitions}
 use Rattle.std.proofs.Common.{◌≡◌, ◌≢◌, ℕ, suc, ◌<◌, List, Some, sym, ap, subst}
 use Rattle.std.specs.Prelude.{ℤ, slice_get}
 use mathlib.Core.Logic.{dite}
@@ -15,7 +15,7 @@ use Rattle.homeo_syntax.specs.SourceView.{plain_workload}
 use Rattle.homeo_meaning.specs.Acceptance.{IsAccepted}
 use Rattle.homeo_meaning.specs.Bounds.{IsWithin}
 use Rattle.homeo_meaning.specs.Schema.{schema_of}
-use Rattle.homeo_assembly.specs.Key.{words}
+use Rattle.homeo_assembly.specs.Key.{definitions}
 use Rattle.homeo_history.specs.Answers.{Answer, local_answer}
 use Rattle.homeo_assembly.specs.Events.{HasMoved, Renews}
 use Rattle.homeo_assembly.specs.Facts.{SiteFacts}
@@ -36,7 +36,7 @@ pub moved_more : (w : s.Workload) (x : SiteState) (h0 h h' : Held) (k : ℕ) (e 
     → HasMoved w x k (site_lists w x.number h0).shut (site_lists w x.number h).shut
     → Grew h h' (shut_line w e.call.client) (written (local_answer x.round x.number e))
     → HasMoved w x (suc k) (site_lists w x.number h0).shut (site_lists w x.number h').shut
-unfolding words histories site_words
+unfolding definitions history_definitions site_definitions
 moved_more w x h0 h h' k e facts own at moved g =
     (moving w x (site_lists w x.number h0) facts).more k e (site_lists w x.number h).shut (site_lists w x.number h').shut at moved
     (gives w x.number h h' (shut_line w) (local_answer x.round x.number e) (apart w x.number).shut own g)
@@ -75,7 +75,7 @@ pub cell_renewed : (w : s.Workload) (v v' : SiteValue) (h h' : Held) (base : Lis
     → IsCell w (record { site = v; held = h }) → plain_workload v'.work ≡ w → v'.state ≡ renewed base v.state
     → Renews w base v.state a (site_lists w v.state.number h) (site_lists w v.state.number h') → HoldsAt w v.state.number h'
     → IsCell w (record { site = v'; held = h' })
-unfolding words site_words
+unfolding definitions site_definitions
 cell_renewed w v v' h h' base a accepted within is work state renews holds =
     let number : v'.state.number ≡ v.state.number = ap (λ (x : SiteState). x.number) state in record {
       work = work;

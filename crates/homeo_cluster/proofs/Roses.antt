@@ -1,5 +1,5 @@
 -- What the types keep stays where a holder has learnt something.
-use Rattle.homeo_assembly.specs.Key.{words}
+use Rattle.homeo_assembly.specs.Key.{definitions}
 use Rattle.std.proofs.Common.{◌≡◌, ℕ, List, [], map, sym, ap, subst, ◌∙◌}
 use Rattle.std.specs.Prelude.{ℤ}
 use Rattle.homeo_notes.specs.Lines.{Held, HasSeen, list_at}
@@ -72,5 +72,5 @@ rose_pass w client left log h h' is r = record {
 -- equal entries are equal answers
 pub log_is_done : (w : s.Workload) (client left : ℕ) (log : List Answer) (h k : Held) → IsPass w record { client = client; left = left; log = log; held = h }
     → list_at k (done_line w client) ≡ list_at h (asked_line client) → log ≡ answers_at k client (done_line w client)
-unfolding words
+unfolding definitions
 log_is_done w client left log h k is e = sym (ap (map (read client)) (e ∙ is.holds.asked) ∙ read_back client log is.logged.own)

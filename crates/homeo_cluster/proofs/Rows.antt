@@ -11,7 +11,7 @@ use Rattle.homeo_history.proofs.Lists.{get_lt, get_map, all_from_get, map_map}
 use Rattle.homeo_core.specs.Joined.{BookState, AreJoined}
 use Rattle.homeo_assembly.specs.Events.{InHand}
 use Rattle.homeo_assembly.specs.Facts.{Cell, BookLists, BookFacts, SiteFacts, states_of}
-use Rattle.homeo_assembly.specs.Key.{words}
+use Rattle.homeo_assembly.specs.Key.{definitions}
 use Rattle.homeo_assembly.proofs.MetLists as met_lists
 use Rattle.homeo_cluster.specs.inner.Cells.{CellValue, cell_of, cells_of}
 use Rattle.homeo_cluster.specs.inner.Meets.{AreNumbered, MetAt, MetShut, site_states}
@@ -48,7 +48,7 @@ numbers_still w vs vs' e all i c at =
     numbers_of_cells w vs all i (cell_of w c) here
 
 pub states_are : (w : s.Workload) (vs : List CellValue) → states_of (cells_of w vs) ≡ site_states vs
-unfolding words
+unfolding definitions
 states_are w vs = map_map (λ (c : Cell). c.site) (cell_of w) vs
 
 -- ---- all in hand

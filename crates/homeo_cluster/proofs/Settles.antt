@@ -1,6 +1,6 @@
 -- From what the meetings gave to the law of assembly, and to the last database.
-use Rattle.homeo_core.specs.Key.{words as cores}
-use Rattle.homeo_assembly.specs.Key.{words}
+use Rattle.homeo_core.specs.Key.{definitions as core_definitions}
+use Rattle.homeo_assembly.specs.Key.{definitions}
 use Rattle.std.specs.Int.{w64}
 use Rattle.std.specs.Prelude.{All}
 use Rattle.std.proofs.Common.{◌≡◌, ℕ, ◌<◌, List, [], ◌∷◌, ◌++◌, take, length, Some, slice_get, FitsSigned, refl, sym, ap, subst, ◌∙◌}
@@ -56,7 +56,7 @@ settled_all w vs b l passes book count numbers all at shut done =
 
 -- ---- all met
 same_states : (w : s.Workload) (vs : List CellValue) → states_of (cells_of w vs) ≡ site_states vs
-unfolding words
+unfolding definitions
 same_states w vs = map_map (λ (c : Cell). c.site) (cell_of w) vs
 
 pub states_again : (w : s.Workload) (vs vs' : List CellValue) → cells_of w vs' ≡ cells_of w vs → site_states vs' ≡ site_states vs
@@ -71,7 +71,7 @@ joined_of w vs b l logs all =
 pub assembled_of :
     (w : s.Workload) (vs : List CellValue) (b : BookState) (l : BookLists) (logs : List (List Answer)) → IsAccepted w →
     AreSettled w b l (cells_of w vs) logs → IsAssembled w logs (history_of b (site_states vs))
-unfolding words
+unfolding definitions
 assembled_of w vs b l logs accepted all =
     subst (λ sites. IsAssembled w logs (history_of b sites)) (same_states w vs) (assembly w b l (cells_of w vs) logs accepted all.book all.sites all.met all.asked)
 
@@ -95,6 +95,6 @@ pub states_long : (vs : List CellValue) → length (site_states vs) ≡ length v
 states_long vs = length-map vs (λ (c : CellValue). c.site.state)
 
 pub segments_more : (vs : List CellValue) (v : CellValue) → segments_of (site_states (vs ++ v ∷ [])) ≡ segments_of (site_states vs) ++ v.site.state.segment ∷ []
-unfolding cores
+unfolding core_definitions
 segments_more [] v = refl
 segments_more (x ∷ vs) v = ap (λ l. x.site.state.segment ∷ l) (segments_more vs v)

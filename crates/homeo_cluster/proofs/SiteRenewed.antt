@@ -1,5 +1,5 @@
 -- A site in the next round: its entries and the closing answer have gone over, and it has the next base, over plain data.
-use Rattle.homeo_assembly.specs.Key.{words}
+use Rattle.homeo_assembly.specs.Key.{definitions}
 use Rattle.std.proofs.Common.{◌≡◌, ◌≢◌, ℕ, List, [], ◌∷◌, ◌++◌, map, length, refl, sym, ap, subst, ◌∙◌}
 use Rattle.std.specs.Prelude.{ℤ}
 use Rattle.homeo_notes.specs.Lines.{Held, Entry, HasSeen, list_at}
@@ -65,20 +65,20 @@ module _ (w : s.Workload) (x : SiteState) (next : List ℤ) (a : Answer) (h0 h1 
   lines = apart w x.number
 
   done_is : (client : ℕ) → IsClientAt w x.number client → answers_at h3 client (done_line w client) ≡ answers_at h0 client (done_line w client) ++ answers_to client (a ∷ [])
-  unfolding words
+  unfolding definitions
   done_is client at =
       ap (map (read client)) (grew_list_other h2 h3 (at_line w x.number) (done_line w client) next grew (λ q. lines.at_done client at (sym q)))
       ∙ given.done client at
       ∙ ap (λ es. map (read client) es ++ answers_to client (a ∷ [])) (moved.done client at)
 
   shut_is : (client : ℕ) → IsClientAt w x.number client → answers_at h3 client (shut_line w client) ≡ answers_at h1 client (shut_line w client) ++ answers_to client (a ∷ [])
-  unfolding words
+  unfolding definitions
   shut_is client at =
       ap (map (read client)) (grew_list_other h2 h3 (at_line w x.number) (shut_line w client) next grew (λ q. lines.at_shut client at (sym q)))
       ∙ given.shut client at
 
   pub renews : Renews w next x a (site_lists w x.number h0) (site_lists w x.number h3)
-  unfolding words
+  unfolding definitions
   renews =
       let m = moving w x (site_lists w x.number h0) facts in record {
         next = is_next;

@@ -119,7 +119,7 @@ fn two_answers(call: CallId, site: u32, round: u64, copies: List<Prints>) -> (An
 }
 
 /// The answer to a call that a site made by itself.
-#[tactic(auto, using(homeo_history::proofs::HistoryViews::history_views), unfolding(homeo_history::specs::Key::words))]
+#[tactic(auto, using(homeo_history::proofs::HistoryViews::history_views), unfolding(homeo_history::specs::Key::definitions))]
 fn local_answer(call: CallId, site: u32, round: u64, prints: Prints) -> Answer
     ensures { plain_answer result ≡ local_answer round site (record { call = call; prints = prints.items }) }
 {

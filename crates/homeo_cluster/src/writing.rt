@@ -20,7 +20,7 @@ fn mirrored(n: i128) -> i128
 }
 
 /// How often 2^64 goes into a number from 0 on.
-#[tactic(auto, unfolding(homeo_assembly::specs::Key::words))]
+#[tactic(auto, unfolding(homeo_assembly::specs::Key::definitions))]
 fn quotient(n: i128) -> i64
     requires { pos 0 ≤ℤ n }
     ensures { result ≡ upper n }
@@ -29,7 +29,7 @@ fn quotient(n: i128) -> i64
 }
 
 /// How often 2^64 goes into a number, with the number's sign.
-#[tactic(auto, using(crate::proofs::BelowZero::upper_below), unfolding(homeo_assembly::specs::Key::words))]
+#[tactic(auto, using(crate::proofs::BelowZero::upper_below), unfolding(homeo_assembly::specs::Key::definitions))]
 fn upper(n: i128) -> i64
     ensures { result ≡ upper n }
 {
@@ -41,7 +41,7 @@ fn upper(n: i128) -> i64
 }
 
 /// What then remains, less 2^63.
-#[tactic(auto, unfolding(homeo_assembly::specs::Key::words))]
+#[tactic(auto, unfolding(homeo_assembly::specs::Key::definitions))]
 fn lower(n: i128) -> i64
     ensures { result ≡ lower n }
 {
@@ -53,7 +53,7 @@ fn lower(n: i128) -> i64
 }
 
 /// The answer to a call of this number that a site gave by itself, but for the prints.
-#[tactic(auto, unfolding(homeo_assembly::specs::Key::words))]
+#[tactic(auto, unfolding(homeo_assembly::specs::Key::definitions))]
 pub(crate) fn local_head(seq: u64, site: u32, round: u64) -> [i64; 7]
     ensures { result ≡ head_of seq site round Local }
 {
@@ -70,7 +70,7 @@ pub(crate) fn local_head(seq: u64, site: u32, round: u64) -> [i64; 7]
 }
 
 /// The answer to a call of this number that closed its round, but for the prints.
-#[tactic(auto, unfolding(homeo_assembly::specs::Key::words))]
+#[tactic(auto, unfolding(homeo_assembly::specs::Key::definitions))]
 pub(crate) fn closing_head(seq: u64, site: u32, round: u64, broken: Broken) -> [i64; 13]
     ensures { result ≡ head_of seq site round (Cleanup broken) }
 {

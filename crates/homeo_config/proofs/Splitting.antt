@@ -1,6 +1,6 @@
 -- Bounds of one clause after another, and in each of one site after another.
-use Rattle.homeo_meaning.specs.Key.{words as meaning_words}
-use Rattle.homeo_plan.specs.Key.{words}
+use Rattle.homeo_meaning.specs.Key.{definitions as meaning_definitions}
+use Rattle.homeo_plan.specs.Key.{definitions}
 use Rattle.std.proofs.Common.{◌≡◌, ℕ, zero, suc, ◌+◌, ◌-◌, ◌*◌, ◌/◌, ◌<◌, ◌≤◌, List, [], ◌∷◌, ◌++◌, map, length, sum, take, drop, get_or, ℤ, pos, negsuc, to_z, of_z, refl, sym, ap, ap₂, ◌∙◌, subst, arith}
 use mir.Syntax.{w128}
 use Rattle.std.specs.Prelude.{replicate}
@@ -19,7 +19,7 @@ use Rattle.homeo_plan.specs.Limit.{form_limit}
 
 -- ---- the bounds of a clause
 pub amount_small : (slack : ℤ) (amount : ℕ) → IsSmall form_limit slack → amount ≡ nat_of slack → amount ≤ form_limit
-unfolding meaning_words
+unfolding meaning_definitions
 amount_small (pos n) amount h e = omega (arith, h, e)
 amount_small (negsuc n) amount h e = omega (arith, e)
 
@@ -32,7 +32,7 @@ pub bounds_more :
     before ++ bounds_from n amount below (drop i shares) ≡ whole →
     bound ≡ pos (amount * (below + get_or shares i 0) / n - amount * below / n) → after ≡ before ++ bound ∷ [] →
     after ++ bounds_from n amount (below + get_or shares i 0) (drop (i + 1) shares) ≡ whole
-unfolding words
+unfolding definitions
 bounds_more n amount below i shares bound before after whole h e made pushed =
     let rest : List ℤ = bounds_from n amount (below + get_or shares i 0) (drop (i + 1) shares) in
     ap (λ l. l ++ rest) (pushed ∙ ap (λ b. before ++ b ∷ []) made)
@@ -44,7 +44,7 @@ pub bounds_all :
     (n amount below i : ℕ) (shares : List ℕ) (slack : ℤ) (made : List ℤ) → length shares ≤ i →
     made ++ bounds_from n amount below (drop i shares) ≡ bounds_from n amount 0 shares → n ≡ sum shares →
     amount ≡ nat_of slack → made ≡ split shares slack
-unfolding words
+unfolding definitions
 bounds_all n amount below i shares slack made h e all whole =
     sym (append-nil made) ∙ ap (λ qs. made ++ bounds_from n amount below qs) (sym (drop_all i shares h)) ∙ e
     ∙ ap₂ (λ n s. bounds_from n s 0 shares) all whole
@@ -53,22 +53,22 @@ bounds_all n amount below i shares slack made h e all whole =
 clause_at :
     (P : template.Clause → Type 0) (cs : List Clause) (i : ℕ) (c : Clause) → Each P (map plain_clause cs) → i < length cs →
     c ≡ get_or cs i c → P (plain_clause c)
-unfolding words
+unfolding definitions
 clause_at P [] i c all h is = absurd (omega (arith, h))
 clause_at P (x ∷ cs) zero c all h is = subst (λ c. P (plain_clause c)) (sym is) all.0
 clause_at P (x ∷ cs) (suc i) c all h is = clause_at P cs i c all.1 (omega (arith, h)) is
 
 slack_back : (slack : ℤ) → IsSmall form_limit slack → to_z w128 (of_z w128 slack) ≡ slack
-unfolding meaning_words
+unfolding meaning_definitions
 slack_back slack h = to_z-of_z w128 slack (fits_signed_from_abs w128 slack (omega (arith, h)))
 
 split-push : (f : template.Clause → List ℕ) (cs : List template.Clause) (c : template.Clause) → split_by f (cs ++ c ∷ []) ≡ split_by f cs ++ split (f c) c.slack ∷ []
-unfolding words
+unfolding definitions
 split-push f [] c = refl
 split-push f (x ∷ cs) c = ap (λ bs. split (f x) x.slack ∷ bs) (split-push f cs c)
 
 pub even-none : (k : ℕ) → [] ≡ even k []
-unfolding words
+unfolding definitions
 even-none k = refl
 
 pub even-whole :
@@ -95,7 +95,7 @@ module _ (clauses lent : List Clause) (i : ℕ) (c : Clause) (same : lent ≡ cl
       bounds.items ≡ split shares (to_z w128 (of_z w128 c.slack)) →
       map (λ (b : Listed ℤ). b.items) before ≡ even k (map plain_clause (take i lent)) → after ≡ before ++ bounds ∷ [] →
       map (λ (b : Listed ℤ). b.items) after ≡ even k (map plain_clause (take (i + 1) lent))
-  unfolding words
+  unfolding definitions
   even-more k ones shares bounds before after made lend split_is so_far pushed =
       let f = λ (c : template.Clause). let ns : List ℕ = replicate k 1 in ns in
       ap (map (λ (b : Listed ℤ). b.items)) pushed

@@ -1,6 +1,6 @@
 -- Bounds by a list of shares for each clause, one clause after another.
-use Rattle.homeo_plan.specs.Key.{words}
-use Rattle.homeo_meaning.specs.Key.{words as meaning_words}
+use Rattle.homeo_plan.specs.Key.{definitions}
+use Rattle.homeo_meaning.specs.Key.{definitions as meaning_definitions}
 use Rattle.std.proofs.Common.{◌≡◌, ℕ, zero, suc, ◌+◌, ◌*◌, ◌<◌, ◌≤◌, ◌^◌, List, [], ◌∷◌, ◌++◌, map, length, sum, take, get_or, ℤ, pos, negsuc, ◌≤ℤ◌, to_z, of_z, w64, refl, sym, ap, ap₂, ◌∙◌, subst, arith}
 use mir.Syntax.{w128}
 use Rattle.std.proofs.lemmas.Int.{ints, to_z-of_z, fits_signed_from_abs}
@@ -17,7 +17,7 @@ use Rattle.homeo_plan.proofs.Splits.{split_fits}
 
 -- ---- shares without a sign
 pub each_at : {X : Type 0} (P : X → Type 0) (xs : List X) (i : ℕ) (d : X) → Each P xs → i < length xs → P (get_or xs i d)
-unfolding words
+unfolding definitions
 each_at P [] i d all h = absurd (omega (arith, h))
 each_at P (x ∷ xs) zero d all h = all.0
 each_at P (x ∷ xs) (suc i) d all h = each_at P xs i d all.1 (omega (arith, h))
@@ -44,12 +44,12 @@ naturals_all shares i own h e = e ∙ ap (map nat_of) (take_all i shares h)
 
 -- ---- their sum
 nat_small : (z : ℤ) → z ≤ℤ pos 1000 → nat_of z ≤ 1000
-unfolding meaning_words
+unfolding meaning_definitions
 nat_small (pos n) h = omega (arith, ints, h)
 nat_small (negsuc n) h = omega arith
 
 sum_small : (shares : List ℤ) → Each (λ n. n ≤ℤ pos 1000) shares → sum (map nat_of shares) ≤ 1000 * length shares
-unfolding words
+unfolding definitions
 sum_small [] h = omega arith
 sum_small (z ∷ zs) h = omega (arith, sum_by-cons (λ x. x) (nat_of z) (map nat_of zs), nat_small z h.0, sum_small zs h.1)
 
@@ -81,14 +81,14 @@ module _ (sites : ℕ) (lists : List (Listed ℤ)) (i : ℕ) (l : Listed ℤ) (c
 split_push :
     (qs : List (List ℕ)) (cs : List template.Clause) (q : List ℕ) (c : template.Clause) → length qs ≡ length cs →
     split_each (qs ++ q ∷ []) (cs ++ c ∷ []) ≡ split_each qs cs ++ split q c.slack ∷ []
-unfolding words
+unfolding definitions
 split_push [] [] q c e = refl
 split_push [] (x ∷ cs) q c e = absurd (omega (arith, e))
 split_push (p ∷ qs) [] q c e = absurd (omega (arith, e))
 split_push (p ∷ qs) (x ∷ cs) q c e = ap (λ bs. split p x.slack ∷ bs) (split_push qs cs q c (omega (arith, e)))
 
 pub weighted_none : [] ≡ split_each [] []
-unfolding words
+unfolding definitions
 weighted_none = refl
 
 take_length : {X : Type 0} (xs : List X) (i : ℕ) → i ≤ length xs → length (take i xs) ≡ i
@@ -104,7 +104,7 @@ pub weighted_more :
     map (λ (b : Listed ℤ). b.items) before ≡ split_each (map natural_list (take i lists)) (map plain_clause (take i lent)) →
     after ≡ before ++ bounds ∷ [] →
     map (λ (b : Listed ℤ). b.items) after ≡ split_each (map natural_list (take (i + 1) lists)) (map plain_clause (take (i + 1) lent))
-unfolding words
+unfolding definitions
 weighted_more lists lent i l c shares slack bounds before after below within l_is c_is shares_are slack_is split_is so_far pushed =
     let qs : List (List ℕ) = map natural_list (take i lists) in
     let cs : List template.Clause = map plain_clause (take i lent) in
@@ -127,7 +127,7 @@ weighted_all lists clauses lent i made same count past e =
     e ∙ ap₂ (λ qs cs. split_each (map natural_list qs) (map plain_clause cs)) (take_all i lists past_lists) (take_all i lent past ∙ same)
 
 all_shares : (sites : ℕ) (lists : List (Listed ℤ)) → Each (λ (l : Listed ℤ). CanShare sites l.items) lists → Each (AreShares sites) (map natural_list lists)
-unfolding words
+unfolding definitions
 all_shares sites [] h = tt
 all_shares sites (l ∷ lists) h = (h.0.are, all_shares sites lists h.1)
 

@@ -3,7 +3,7 @@ use Rattle.std.proofs.Common.{◌≡◌, ℕ, suc, ◌+◌, ◌<◌, ◌≤◌, 
 use Rattle.std.proofs.Math.Seq.{drop-cons}
 use Rattle.std.proofs.lemmas.Bool.Decides.{nat_tests}
 use Rattle.homeo_syntax.specs.declared.workload.RangeDecl.{RangeDecl}
-use Rattle.homeo_meaning.specs.Key.{words}
+use Rattle.homeo_meaning.specs.Key.{definitions}
 use Rattle.homeo_meaning.specs.Schema.{declared_range}
 use Rattle.homeo_meaning.specs.Context.{Spot, spot_from}
 
@@ -14,7 +14,7 @@ abbrev rest_from : List RangeDecl → ℕ → ℕ → Spot
 rest_from fs i n = spot_from i (map declared_range (drop i fs)) n
 
 next : (fs : List RangeDecl) (i n : ℕ) (none : RangeDecl) → i < length fs → rest_from fs i n ≡ cond ((get_or fs i none).name.name == n) (spot_with i (get_or fs i none).lo.value (get_or fs i none).hi.value) (rest_from fs (i + 1) n)
-unfolding words
+unfolding definitions
 next fs i n none h =
     let front : drop i fs ≡ get_or fs i none ∷ drop (i + 1) fs = rw add-one (drop-cons fs i none h) in
     let number : suc i ≡ i + 1 = omega arith in
@@ -32,7 +32,7 @@ passed fs i n none h other =
     sym (next fs i n none h ∙ ap (λ b. cond b (spot_with i (get_or fs i none).lo.value (get_or fs i none).hi.value) (rest_from fs (i + 1) n)) e)
 
 pub ended : (fs : List RangeDecl) (i n : ℕ) → length fs ≤ i → i ≤ length fs → record { place = length fs; lo = pos 0; hi = pos 0 } ≡ spot_from i (map declared_range (drop i fs)) n
-unfolding words
+unfolding definitions
 ended fs i n h k =
     let same : length fs ≡ i = omega arith in
     ap (λ m. spot_with m (pos 0) (pos 0)) same ∙ sym (ap (λ l. spot_from i (map declared_range l) n) (drop_of_length-le fs h))

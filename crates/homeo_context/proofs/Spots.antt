@@ -3,7 +3,7 @@ use Rattle.std.proofs.Common.{◌≡◌, ℕ, suc, ◌+◌, ◌<◌, ◌≤◌, 
 use Rattle.std.specs.Prelude.{slice_get, option_map}
 use Rattle.std.proofs.lemmas.Option.{slice_get_past, slice_get-map, slice_get_read}
 use Rattle.homeo_syntax.specs.declared.workload.ObjectDecl.{ObjectDecl}
-use Rattle.homeo_meaning.specs.Key.{words}
+use Rattle.homeo_meaning.specs.Key.{definitions}
 use Rattle.homeo_meaning.specs.Schema.{Declared, declared_object}
 use Rattle.homeo_meaning.specs.Context.{Spot, spot_from, spot}
 use Rattle.homeo_meaning.specs.Declarations.{place_from}
@@ -18,7 +18,7 @@ spot_with p lo hi = record { place = p; lo = lo; hi = hi }
 
 -- the place of an object by its name
 pub object_place : (k n : ℕ) (ds : List ObjectDecl) → place_from k (map (λ d. d.name.name) ds) n ≡ (spot_from k (map declared_object ds) n).place
-unfolding words
+unfolding definitions
 object_place k n [] = refl
 object_place k n (d ∷ ds) =
     ap (cond (d.name.name == n) k) (object_place (suc k) n ds) ∙ sym (place_cond (d.name.name == n) (spot_with k d.lo.value d.hi.value) (spot_from (suc k) (map declared_object ds) n))
@@ -38,7 +38,7 @@ spot_place : (p q : ℕ) (lo hi : ℤ) → p ≡ q → spot_with p lo hi ≡ spo
 spot_place p q lo hi e = ap (λ k. spot_with k lo hi) e
 
 found_at : (b : Bool) (k n : ℕ) (d : Declared) (ds : List Declared) → (d.name == n) ≡ b → Found (suc k) n ds ⊎ Absent (suc k) n ds → Found k n (d ∷ ds) ⊎ Absent k n (d ∷ ds)
-unfolding words
+unfolding definitions
 found_at true k n d ds e h = inl (record {
   step = 0;
   declared = d;
@@ -53,7 +53,7 @@ found_at false k n d ds e h =
     h
 
 pub look : (k n : ℕ) (ds : List Declared) → Found k n ds ⊎ Absent k n ds
-unfolding words
+unfolding definitions
 look k n [] = inr (record { spot = spot_place k (k + 0) (pos 0) (pos 0) (omega arith) })
 look k n (d ∷ ds) = found_at (d.name == n) k n d ds refl (look (suc k) n ds)
 
@@ -63,7 +63,7 @@ pub record Kept (ds : List Declared) (n : ℕ) (d : Declared) : Type 0 where
   pub hi : (spot ds n).hi ≡ d.hi
 
 pub kept_some : (ds : List Declared) (n : ℕ) (d : Declared) → slice_get ds (spot ds n).place ≡ Some d → Kept ds n d
-unfolding words
+unfolding definitions
 kept_some ds n d h =
     ⊎_elim
     (λ f.
@@ -78,7 +78,7 @@ pub record Missing (ds : List Declared) (n : ℕ) : Type 0 where
   pub hi : (spot ds n).hi ≡ pos 0
 
 pub kept_none : (ds : List Declared) (n : ℕ) → slice_get ds (spot ds n).place ≡ None → Missing ds n
-unfolding words
+unfolding definitions
 kept_none ds n h =
     ⊎_elim
     (λ f.

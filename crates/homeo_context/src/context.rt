@@ -37,7 +37,7 @@ pub struct Context<'a> {
 }
 
 /// The slot of a row.
-#[tactic(auto, unfolding(homeo_meaning::specs::Key::words))]
+#[tactic(auto, unfolding(homeo_meaning::specs::Key::definitions))]
 fn find_row<'a>(rows: &BoundRows<'a>, name: u32) -> Slot<'a>
     ensures { plain_slot result ≡ rows_of rows.now name }
 {
@@ -81,7 +81,7 @@ impl<'a> Context<'a> {
     }
 
     /// The slot of a row.
-    #[tactic(auto, unfolding(homeo_meaning::specs::Key::words))]
+    #[tactic(auto, unfolding(homeo_meaning::specs::Key::definitions))]
     pub fn row(&self, name: u32) -> Slot<'a>
         ensures { plain_slot result ≡ (plain_context self.now).rows name }
     {
@@ -105,7 +105,7 @@ impl<'a> Context<'a> {
     }
 
     /// A parameter's argument, or else the other value.
-    #[tactic(auto, unfolding(homeo_meaning::specs::Key::words))]
+    #[tactic(auto, unfolding(homeo_meaning::specs::Key::definitions))]
     pub fn argument_or(&self, name: u32, other: i64) -> i64
         ensures { result ≡ argument_or ((plain_context self.now).arguments name) other }
     {
@@ -113,7 +113,7 @@ impl<'a> Context<'a> {
     }
 
     /// The object of a name.
-    #[tactic(auto, unfolding(homeo_meaning::specs::Key::words))]
+    #[tactic(auto, unfolding(homeo_meaning::specs::Key::definitions))]
     pub fn object(&self, name: u32) -> Spot
         ensures { plain_spot result ≡ object (plain_context self.now) name }
     {
@@ -121,7 +121,7 @@ impl<'a> Context<'a> {
     }
 
     /// The slots of the relation of a name.
-    #[tactic(auto, unfolding(homeo_meaning::specs::Key::words))]
+    #[tactic(auto, unfolding(homeo_meaning::specs::Key::definitions))]
     pub fn relation(&self, name: u32) -> Slots<'a>
         ensures slots { slots_of result ≡ slots (plain_context self.now) name }
         ensures fields { map declared_range result.fields.now ≡ fields (plain_context self.now) name }

@@ -21,7 +21,7 @@ pub struct Spot {
 
 impl Spot {
     /// Whether a value is within the bounds.
-    #[tactic(auto, unfolding(homeo_meaning::specs::Key::words))]
+    #[tactic(auto, unfolding(homeo_meaning::specs::Key::definitions))]
     pub fn admits(self, v: i64) -> bool
         ensures { result ≡ is_within (plain_spot self) v }
     {

@@ -1,5 +1,5 @@
 -- Deltas added to values one after another.
-use Rattle.homeo_core.specs.Key.{words}
+use Rattle.homeo_core.specs.Key.{definitions}
 use Rattle.std.proofs.Common.{◌≡◌, ℕ, zero, suc, ◌<◌, ◌≤◌, min, List, [], ◌∷◌, length, take, get_or, ℤ, pos, ◌+ℤ◌, refl, sym, ap, subst, arith, slice_set, FitsSigned}
 use Rattle.std.specs.Prelude.{All}
 use Rattle.std.specs.Int.{w64}
@@ -7,12 +7,12 @@ use Rattle.homeo_core.specs.Joined.{plus_deltas}
 use Rattle.homeo_core.proofs.Gathered.{plus_length}
 
 pub plus_none : (values : List ℤ) → values ≡ plus_deltas values []
-unfolding words
+unfolding definitions
 plus_none [] = refl
 plus_none (v ∷ values) = refl
 
 pub plus_next : (values deltas : List ℤ) (i : ℕ) → i < length deltas → slice_set (plus_deltas values (take i deltas)) i (get_or (plus_deltas values (take i deltas)) i (pos 0) +ℤ get_or deltas i (pos 0)) ≡ plus_deltas values (take (suc i) deltas)
-unfolding words
+unfolding definitions
 plus_next values [] i lt = absurd (omega (arith, lt))
 plus_next [] (d ∷ deltas) zero lt = refl
 plus_next [] (d ∷ deltas) (suc i) lt = refl
@@ -21,7 +21,7 @@ plus_next (v ∷ values) (d ∷ deltas) (suc i) lt = ap (λ l. (v +ℤ d) ∷ l)
 
 -- deltas beyond the values change nothing
 pub plus_taken : (values deltas : List ℤ) (n : ℕ) → min (length values) (length deltas) ≤ n → plus_deltas values (take n deltas) ≡ plus_deltas values deltas
-unfolding words
+unfolding definitions
 plus_taken [] deltas n le = refl
 plus_taken (v ∷ values) [] zero le = refl
 plus_taken (v ∷ values) [] (suc n) le = refl
@@ -29,7 +29,7 @@ plus_taken (v ∷ values) (d ∷ deltas) zero le = absurd (omega (arith, le))
 plus_taken (v ∷ values) (d ∷ deltas) (suc n) le = ap (λ l. (v +ℤ d) ∷ l) (plus_taken values deltas n (omega (arith, le)))
 
 pub plus_here : (values deltas : List ℤ) (i : ℕ) → i < length deltas → i < length values → get_or (plus_deltas values (take i deltas)) i (pos 0) +ℤ get_or deltas i (pos 0) ≡ get_or (plus_deltas values deltas) i (pos 0)
-unfolding words
+unfolding definitions
 plus_here values [] i lt inside = absurd (omega (arith, lt))
 plus_here [] (d ∷ deltas) i lt inside = absurd (omega (arith, inside))
 plus_here (v ∷ values) (d ∷ deltas) zero lt inside = refl

@@ -1,6 +1,6 @@
 -- A call of a client over closed rounds and sites.
-use Rattle.homeo_history.specs.Key.{words as histories}
-use Rattle.homeo_site.specs.Key.{words as site_words}
+use Rattle.homeo_history.specs.Key.{definitions as history_definitions}
+use Rattle.homeo_site.specs.Key.{definitions as site_definitions}
 use Rattle.std.proofs.Common.{◌≡◌, ℕ, zero, suc, ◌<◌, List, [], ◌∷◌, length, get_or, ℤ, Option, Some, None, Result, Ok, Err, refl, sym, ap, subst, ◌∙◌, slice_set}
 use Rattle.std.specs.Prelude.{slice_get, unwrap_or, IfOk, OnOk, OnErr}
 use Rattle.homeo_syntax.specs.Source as s
@@ -21,7 +21,7 @@ use Rattle.homeo_core.proofs.GatheredSites.{states_at, states_count, states_set}
 
 -- nothing fails where the treaty is kept
 pub none_where_kept : (w : s.Workload) (x : SiteState) (call : CallId) → KeepsCall w x call → step_finding w x call ≡ None
-unfolding site_words histories
+unfolding site_definitions history_definitions
 none_where_kept w x call keeps = go (step_finding w x call) refl
   where
     go : (o : Option Broken) → step_finding w x call ≡ o → o ≡ None
@@ -29,7 +29,7 @@ none_where_kept w x call keeps = go (step_finding w x call) refl
     go (Some f) e = absurd ((finding_law (template_at w x.base) (policy w x.base) x.number (step_values w x call)).some f e keeps)
 
 pub home_is : (w : s.Workload) (home : ℕ) (call : CallId) → IsCallAt w home call → site_or_zero w call ≡ home
-unfolding histories
+unfolding history_definitions
 home_is w home call at = ap (λ o. unwrap_or o 0) at.at_site
 
 pub home_lt : (w : s.Workload) (start : List ℤ) (b : BookState) (sites : List SiteValue) (home : ℕ) (call : CallId) → IsAccepted w → AreJoined w start b (states sites) → IsCallAt w home call → home < length sites

@@ -1,7 +1,7 @@
 -- A call that closes the round keeps what closed rounds and sites hold, and adds its answer to the history's.
-use Rattle.homeo_history.specs.Key.{words as histories}
-use Rattle.homeo_site.specs.Key.{words as site_words}
-use Rattle.homeo_core.specs.Key.{words}
+use Rattle.homeo_history.specs.Key.{definitions as history_definitions}
+use Rattle.homeo_site.specs.Key.{definitions as site_definitions}
+use Rattle.homeo_core.specs.Key.{definitions}
 use Rattle.std.proofs.Common.{◌≡◌, ℕ, suc, ◌+◌, ◌<◌, List, [], ◌∷◌, ◌++◌, map, length, ℤ, Some, refl, sym, ap, subst, ◌∙◌, arith, append_assoc}
 use Rattle.std.specs.Prelude.{IsSome, slice_get}
 use Rattle.std.proofs.lemmas.List.{append-nil, length-map, length_push}
@@ -34,7 +34,7 @@ use Rattle.homeo_core.proofs.Joining.{with_open}
 use Rattle.homeo_core.proofs.OpenRound as open_round_facts
 
 none_open : (client round k : ℕ) (base : List ℤ) (sites : List SiteState) → answers_to client (local_answers round k (segments_of (map (renewed base) sites))) ≡ []
-unfolding words histories site_words
+unfolding definitions history_definitions site_definitions
 none_open client round k base [] = refl
 none_open client round k base (x ∷ sites) = none_open client round (suc k) base sites
 
@@ -49,17 +49,17 @@ module _ (w : s.Workload) (start : List ℤ) (b : BookState) (sites : List SiteS
   a = closing_answer (length b.closed) (closing_of w b sites home call broken)
 
   pub next_within : IsWithin (schema_of w) next
-  unfolding words
+  unfolding definitions
   next_within = (call_runs w call (gathered b.base sites) event.at_site.exists (open_round_facts.whole_within w start b sites accepted joined)).within
 
   merges : HasMerges w round (gathered b.base sites)
-  unfolding words
+  unfolding definitions
   merges =
       let same = open_round_facts.merges w start b sites accepted joined in
       record { prints = same.prints; database = same.database }
 
   replayed : IsReplayed w round
-  unfolding words histories site_words
+  unfolding definitions history_definitions site_definitions
   replayed =
       let x : SiteState = event.site in
       let at = joined.round.each home x event.here in
@@ -73,11 +73,11 @@ module _ (w : s.Workload) (start : List ℤ) (b : BookState) (sites : List SiteS
       }
 
   runs : RunsTo w round next
-  unfolding words histories
+  unfolding definitions history_definitions
   runs = record { after = gathered b.base sites; merges = merges; closes = refl }
 
   book_holds : BookHolds w start (after_closing w b sites home call broken)
-  unfolding words
+  unfolding definitions
   book_holds = record {
     starts = base_or_end b.closed round next ∙ joined.book.starts;
     within = next_within;
@@ -90,7 +90,7 @@ module _ (w : s.Workload) (start : List ℤ) (b : BookState) (sites : List SiteS
 
   -- the answers of the closed rounds to a client are those of the history before, and the closing call's
   closed_more : (client : ℕ) → answers_to client (answers_of 0 (b.closed ++ round ∷ [])) ≡ answers_to client (answers_of 0 (rounds_of b sites)) ++ answers_to client (a ∷ [])
-  unfolding words histories
+  unfolding definitions history_definitions
   closed_more client =
       let number : 0 + length b.closed ≡ length b.closed = omega arith in
       ap (answers_to client) (answers_of_end 0 b.closed round)
@@ -101,13 +101,13 @@ module _ (w : s.Workload) (start : List ℤ) (b : BookState) (sites : List SiteS
       ∙ ap (λ xs. xs ++ answers_to client (a ∷ [])) (sym (with_open b sites client))
 
   renewed_holds : (i : ℕ) (x : SiteState) → slice_get sites i ≡ Some x → SiteHolds w (renewed next x)
-  unfolding site_words
+  unfolding site_definitions
   renewed_holds i x e =
       let lt : i < sites_of w = subst (λ n. i < n) joined.round.count (get_lt sites i x e) in
       begun_holds w x.number (suc x.round) next accepted (subst (λ n. n < sites_of w) (sym (joined.round.each i x e).numbered) lt) next_within
 
   renewed_in : (i : ℕ) (x : SiteState) → slice_get sites i ≡ Some x → IsInRound (after_closing w b sites home call broken) i (renewed next x)
-  unfolding words site_words
+  unfolding definitions site_definitions
   renewed_in i x e =
       let at = joined.round.each i x e in
       let long : length (b.closed ++ round ∷ []) ≡ length b.closed + 1 = length_push b.closed round in
@@ -115,7 +115,7 @@ module _ (w : s.Workload) (start : List ℤ) (b : BookState) (sites : List SiteS
       record { numbered = at.numbered; round = omega (arith, long, old); base = refl }
 
   after_call : IsAfter w start a b (after_closing w b sites home call broken) sites (map (renewed next) sites)
-  unfolding words histories
+  unfolding definitions history_definitions
   after_call = record {
     joined = record {
       book = book_holds;
@@ -135,5 +135,5 @@ module _ (w : s.Workload) (start : List ℤ) (b : BookState) (sites : List SiteS
   }
 
 pub core_cleanup : CoreCleanup
-unfolding words
+unfolding definitions
 core_cleanup = after_call

@@ -1,7 +1,7 @@
 -- A core before any call.
-use Rattle.homeo_history.specs.Key.{words as histories}
-use Rattle.homeo_site.specs.Key.{words as site_words}
-use Rattle.homeo_core.specs.Key.{words}
+use Rattle.homeo_history.specs.Key.{definitions as history_definitions}
+use Rattle.homeo_site.specs.Key.{definitions as site_definitions}
+use Rattle.homeo_core.specs.Key.{definitions}
 use Rattle.std.proofs.Common.{◌≡◌, ℕ, zero, suc, ◌+◌, ◌<◌, ◌≤◌, List, [], ◌∷◌, ◌++◌, map, length, replicate, ℤ, Some, refl, sym, ap, subst, ◌∙◌, arith}
 use Rattle.std.specs.Prelude.{slice_get, slice_index_or, IsSome, sum}
 use Rattle.std.specs.List.{range_with_len, flat_map}
@@ -30,7 +30,7 @@ use Rattle.homeo_core.proofs.GatheredSites.{length_same}
 
 -- ---- the sites
 pub begun_more : (n : ℕ) (base : List ℤ) → begun_sites (suc n) base ≡ begun_sites n base ++ begun n 0 base ∷ []
-unfolding words
+unfolding definitions
 begun_more n base =
     let here : 0 + n ≡ n = omega arith in
     ap (map (λ i. begun i 0 base)) (range_more 0 n)
@@ -51,7 +51,7 @@ record IsBegun (count : ℕ) (base : List ℤ) (i : ℕ) (x : SiteState) : Type 
   pub lt : i < count
 
 begun_at : (count : ℕ) (base : List ℤ) (i : ℕ) (x : SiteState) → slice_get (begun_sites count base) i ≡ Some x → IsBegun count base i x
-unfolding words
+unfolding definitions
 begun_at count base i x e =
     let was = get_map_back (λ j. begun j 0 base) (range_with_len 0 count) i x e in
     let h = range_at 0 count i was.0 was.1.0 in
@@ -64,12 +64,12 @@ length_range a (suc n) = ap suc (length_range (a + 1) n)
 
 -- ---- no calls
 no_entries : (base : List ℤ) (ns : List ℕ) → flat_map (λ (es : List Entry). es) (map (λ (x : SiteState). x.segment) (map (λ i. begun i 0 base) ns)) ≡ []
-unfolding site_words
+unfolding site_definitions
 no_entries base [] = refl
 no_entries base (n ∷ ns) = no_entries base ns
 
 no_calls : (base : List ℤ) (count : ℕ) → calls_of (rounds_of (record { closed = []; base = base }) (begun_sites count base)) ≡ []
-unfolding words histories
+unfolding definitions history_definitions
 no_calls base count = ap (λ (es : List Entry). map (λ (e : Entry). e.call) ((es ++ []) ++ [])) (no_entries base (range_with_len 0 count))
 
 abbrev zeros : ℕ → List ℕ
@@ -81,7 +81,7 @@ zeros_at (suc n) zero = refl
 zeros_at (suc n) (suc client) = zeros_at n client
 
 pub core_begins : (work : Workload) (base : List ℤ) → IsAccepted (plain_workload work) → IsWithin (schema_of (plain_workload work)) base → CoreHolds (core_at work base)
-unfolding words histories site_words
+unfolding definitions history_definitions site_definitions
 core_begins work base accepted within =
     let w : s.Workload = plain_workload work in
     let b : BookState = record { closed = []; base = base } in
@@ -115,12 +115,12 @@ core_begins work base accepted within =
     in_first i = record { numbered = refl; round = refl; base = refl }
 
 pub none_of : (w : Workload) → AreOf w []
-unfolding words
+unfolding definitions
 none_of w = All-nil (λ (s : SiteValue). s.work ≡ w)
 
 -- ---- the list of no calls is followed
 no_length : (base : List ℤ) (ns : List ℕ) → sum (map length (map (λ (x : SiteState). x.segment) (map (λ i. begun i 0 base) ns))) ≡ 0
-unfolding site_words
+unfolding site_definitions
 no_length base [] = refl
 no_length base (n ∷ ns) =
     let rest = no_length base ns in
@@ -128,6 +128,6 @@ no_length base (n ∷ ns) =
     omega (arith, rest, more)
 
 pub follows_none : (w : Workload) (base : List ℤ) → Follows (plain_workload w) (core_history (core_at w base)) []
-unfolding words histories
+unfolding definitions history_definitions
 follows_none w base =
     ([], [], refl, record { before = []; cut = refl; whole = sym (no_length base (range_with_len 0 (sites_of (plain_workload w)))); by_sites = refl }, refl)

@@ -1,7 +1,7 @@
 -- A core after a client's next call.
-use Rattle.homeo_history.specs.Key.{words as histories}
-use Rattle.homeo_site.specs.Key.{words as site_words}
-use Rattle.homeo_core.specs.Key.{words}
+use Rattle.homeo_history.specs.Key.{definitions as history_definitions}
+use Rattle.homeo_site.specs.Key.{definitions as site_definitions}
+use Rattle.homeo_core.specs.Key.{definitions}
 use Rattle.std.proofs.Common.{◌≡◌, ℕ, suc, ◌+◌, ◌<◌, ◌≤◌, List, [], ◌∷◌, ◌++◌, length, take, drop, ℤ, Option, Some, None, refl, sym, ap, subst, ◌∙◌, arith, slice_set}
 use Rattle.std.specs.Prelude.{slice_get, slice_index_or}
 use Rattle.homeo_syntax.specs.Source as s
@@ -15,7 +15,7 @@ use Rattle.homeo_history.specs.Answers.{Answer}
 use Rattle.homeo_history.specs.Legal.{IsClientAt, IsCallAt, call_count, calls_of, IsInOrder, IsLegalFrom}
 use Rattle.homeo_history.proofs.Exists.{is_call_at}
 use Rattle.homeo_site.specs.SiteState.{SiteState, KeepsCall, step_values, step_finding}
-use Rattle.homeo_core.specs.CoreView.{CoreValue, CoreHolds, core_history, start_of, next_call, book_after, sites_after, answer_to, IsMade, IsStep, GoesOnBy}
+use Rattle.homeo_core.specs.CoreView.{CoreValue, CoreHolds, core_history, start_of, next_call, book_after, sites_after, answer_to, IsCallMade, IsStep, GoesOnBy}
 use Rattle.homeo_core.specs.Events.{OneMore, IsAfter}
 use Rattle.homeo_core.specs.Joined.{BookState, AreJoined, rounds_of, history_of}
 use Rattle.homeo_core.specs.Books.{book_of}
@@ -28,7 +28,7 @@ use Rattle.homeo_core.proofs.LocalCalls.{core_local}
 use Rattle.homeo_core.proofs.Ordered.{core_order}
 
 keeps_where_none : (w : s.Workload) (x : SiteState) (call : CallId) → step_finding w x call ≡ None → KeepsCall w x call
-unfolding site_words histories
+unfolding site_definitions history_definitions
 keeps_where_none w x call e = (finding_law (template_at w x.base) (policy w x.base) x.number (step_values w x call)).none e
 
 module _ (w : s.Workload) (start : List ℤ) (b : BookState) (sites : List SiteState) (home : ℕ) (call : CallId) (accepted : IsAccepted w) (joined : AreJoined w start b sites) (at : IsCallAt w home call) where
@@ -39,7 +39,7 @@ module _ (w : s.Workload) (start : List ℤ) (b : BookState) (sites : List SiteS
     pub seq : a.seq ≡ call.seq
 
   goes : (x : SiteState) → slice_get sites home ≡ Some x → (o : Option Broken) → step_finding w x call ≡ o → Goes (answer_to w b sites home x call o) (book_after w b sites home call o) (sites_after w b sites home x call o)
-  unfolding words histories site_words
+  unfolding definitions history_definitions site_definitions
   goes x here None e = record {
     after = core_local w start b sites home x call accepted joined here at (keeps_where_none w x call e);
     follows = λ calls. follows_local w start b sites home x call calls joined here at;
@@ -53,7 +53,7 @@ module _ (w : s.Workload) (start : List ℤ) (b : BookState) (sites : List SiteS
     seq = refl;
   }
 
-  pub made_goes : (a : Answer) (b' : BookState) (sites' : List SiteState) → IsMade w b sites home call a b' sites' → Goes a b' sites'
+  pub made_goes : (a : Answer) (b' : BookState) (sites' : List SiteState) → IsCallMade w b sites home call a b' sites' → Goes a b' sites'
   made_goes a b' sites' m =
       subst (λ v. Goes v b' sites') (sym m.answer)
       (subst (λ v. Goes (answer_to w b sites home m.site call (step_finding w m.site call)) v sites') (sym m.rounds)
@@ -72,15 +72,15 @@ pub record IsStepped (x : CoreValue) (client : ℕ) (a : Answer) (x' : CoreValue
   pub start : start_of x'.book ≡ start_of x.book
 
 next_call_at : (x : CoreValue) (client home : ℕ) → IsClientAt (plain_workload x.work) home client → slice_index_or x.counts client 0 < call_count (plain_workload x.work) client → IsCallAt (plain_workload x.work) home (next_call x client)
-unfolding words
+unfolding definitions
 next_call_at x client home at left = is_call_at (plain_workload x.work) home (next_call x client) at (omega arith) (omega (arith, left))
 
 abbrev counted : CoreValue → ℕ → BookState → List SiteState → CoreValue
-unfolding words
+unfolding definitions
 counted x client b' sites' = record { work = x.work; book = b'; sites = sites'; counts = slice_set x.counts client (suc (slice_index_or x.counts client 0)) }
 
-stepped : (x : CoreValue) (client home : ℕ) (a : Answer) (b' : BookState) (sites' : List SiteState) → CoreHolds x → client < length x.counts → IsClientAt (plain_workload x.work) home client → slice_index_or x.counts client 0 < call_count (plain_workload x.work) client → IsMade (plain_workload x.work) x.book x.sites home (next_call x client) a b' sites' → IsStepped x client a (counted x client b' sites')
-unfolding words
+stepped : (x : CoreValue) (client home : ℕ) (a : Answer) (b' : BookState) (sites' : List SiteState) → CoreHolds x → client < length x.counts → IsClientAt (plain_workload x.work) home client → slice_index_or x.counts client 0 < call_count (plain_workload x.work) client → IsCallMade (plain_workload x.work) x.book x.sites home (next_call x client) a b' sites' → IsStepped x client a (counted x client b' sites')
+unfolding definitions
 stepped x client home a b' sites' holds lt at left made =
     let w : s.Workload = plain_workload x.work in
     let call : CallId = next_call x client in
@@ -105,7 +105,7 @@ stepped x client home a b' sites' holds lt at left made =
     }
 
 pub is_legal : (x : CoreValue) → CoreHolds x → IsLegalFrom (plain_workload x.work) (start_of x.book) x.counts (core_history x)
-unfolding words
+unfolding definitions
 is_legal x holds = joining (plain_workload x.work) (start_of x.book) x.book x.sites x.counts holds.accepted holds.joined holds.ordered
 
 -- ---- a vector's items written as a slice
@@ -128,16 +128,16 @@ next_seq : (x : CoreValue) (client home last : ℕ) → IsNext x client home las
 next_seq x client home last n = let e = n.last_is in omega (arith, e)
 
 pub can_call : (x : CoreValue) (client home last : ℕ) → IsNext x client home last → IsCallAt (plain_workload x.work) home (record { client = client; seq = last + 1 })
-unfolding words
+unfolding definitions
 can_call x client home last n = subst (λ m. IsCallAt (plain_workload x.work) home (record { client = client; seq = m })) (next_seq x client home last n) (next_call_at x client home n.at n.left)
 
-pub taken : (x : CoreValue) (client home last : ℕ) (a : Answer) (b' : BookState) (sites' now : List SiteState) → CoreHolds x → IsNext x client home last → now ≡ sites' → IsMade (plain_workload x.work) x.book x.sites home (record { client = client; seq = last + 1 }) a b' sites' → let x' : CoreValue = record { work = x.work; book = b'; sites = now; counts = slice_set x.counts client (last + 1) } in IsStepped x client a x' × IsStep x client a x'
-unfolding words
+pub taken : (x : CoreValue) (client home last : ℕ) (a : Answer) (b' : BookState) (sites' now : List SiteState) → CoreHolds x → IsNext x client home last → now ≡ sites' → IsCallMade (plain_workload x.work) x.book x.sites home (record { client = client; seq = last + 1 }) a b' sites' → let x' : CoreValue = record { work = x.work; book = b'; sites = now; counts = slice_set x.counts client (last + 1) } in IsStepped x client a x' × IsStep x client a x'
+unfolding definitions
 taken x client home last a b' sites' now holds n same made =
     let next : suc (slice_index_or x.counts client 0) ≡ last + 1 = next_seq x client home last n in
     let new : counted x client b' sites' ≡ record { work = x.work; book = b'; sites = now; counts = slice_set x.counts client (last + 1) } =
     (λ j. record { work = x.work; book = b'; sites = sym same j; counts = slice_set x.counts client (next j) }) in
-    let made' : IsMade (plain_workload x.work) x.book x.sites home (next_call x client) a b' sites' = subst (λ m. IsMade (plain_workload x.work) x.book x.sites home (record { client = client; seq = m }) a b' sites') (sym next) made in
+    let made' : IsCallMade (plain_workload x.work) x.book x.sites home (next_call x client) a b' sites' = subst (λ m. IsCallMade (plain_workload x.work) x.book x.sites home (record { client = client; seq = m }) a b' sites') (sym next) made in
     let step : IsStep x client a (counted x client b' sites') = record { home = home; at_home = n.at; made = made'; work = refl; counts = refl } in (
       subst (IsStepped x client a) new (stepped x client home a b' sites' holds n.lt n.at n.left made'),
       subst (IsStep x client a) new step,

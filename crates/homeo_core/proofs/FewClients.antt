@@ -1,6 +1,6 @@
 -- An accepted workload has at most 64 clients, and at most 16 sites.
-use Rattle.homeo_meaning.specs.Key.{words as meanings}
-use Rattle.homeo_plan.specs.Key.{words as plans}
+use Rattle.homeo_meaning.specs.Key.{definitions as meaning_definitions}
+use Rattle.homeo_plan.specs.Key.{definitions as plan_definitions}
 use Rattle.std.proofs.Common.{◌≡◌, ℕ, ◌+◌, ◌≤◌, ◌==◌, List, [], ◌∷◌, ◌++◌, length, arith, length-append}
 use Rattle.std.proofs.lemmas.Bool.{eqb-false}
 use Rattle.homeo_syntax.specs.Source as s
@@ -16,7 +16,7 @@ use Rattle.homeo_core.proofs.SitesOfClients.{none_when}
 
 -- as many items as a limit allows
 pub few_from : {A : Type 0} (limit : ℕ) (name : A → Ident) (before xs : List A) → length before ≤ limit → each_from (passes_limit limit name) before xs ≡ [] → length before + length xs ≤ limit
-unfolding meanings
+unfolding meaning_definitions
 few_from limit name before [] most none = omega (arith, most)
 few_from limit name before (x ∷ xs) most none =
     let here : length before ≡ limit → ⊥ = eqb-false (length before) limit (none_when (length before == limit) _ (none_first (passes_limit limit name before x) (each_from (passes_limit limit name) (before ++ x ∷ []) xs) none)) in
@@ -26,7 +26,7 @@ few_from limit name before (x ∷ xs) most none =
     omega (arith, whole, longer)
 
 pub few_clients : (w : s.Workload) → limit_faults w ≡ [] → length w.clients ≤ 64
-unfolding meanings
+unfolding meaning_definitions
 few_clients w none =
     let many = few_from 64 (λ (c : s.Client). c.name) [] w.clients (omega arith) (limit_parts w none).clients in omega (arith, many)
 
@@ -34,5 +34,5 @@ pub clients_few : (w : s.Workload) → IsAccepted w → length w.clients ≤ 64
 clients_few w accepted = few_clients w (parts Run w accepted.rules).text.limits
 
 pub sites_of_few : (w : s.Workload) → IsAccepted w → sites_of w ≤ 16
-unfolding plans
+unfolding plan_definitions
 sites_of_few w accepted = (sites_few w accepted).few

@@ -1,7 +1,7 @@
 -- A list of calls that was followed is followed with one call more.
-use Rattle.homeo_history.specs.Key.{words as histories}
-use Rattle.homeo_site.specs.Key.{words as site_words}
-use Rattle.homeo_core.specs.Key.{words}
+use Rattle.homeo_history.specs.Key.{definitions as history_definitions}
+use Rattle.homeo_site.specs.Key.{definitions as site_definitions}
+use Rattle.homeo_core.specs.Key.{definitions}
 use Rattle.std.proofs.Common.{◌≡◌, ℕ, zero, suc, ◌+◌, ◌<◌, ◌≤◌, List, [], ◌∷◌, ◌++◌, map, length, take, drop, Bool, true, false, cond, eqb, Some, refl, sym, ap, subst, ◌∙◌, arith, append_assoc}
 use Rattle.std.specs.Prelude.{ℤ, sum, slice_get, slice_set, unwrap_or}
 use Rattle.std.proofs.lemmas.List.{append-nil, map-append, length-map, length_push, length-append}
@@ -34,7 +34,7 @@ picked (es ∷ segments) (suc i) = es ∷ picked segments i
 
 -- ---- merges depend on the segments' items alone
 merge_same : (f g : ℕ → List Entry) → ((j : ℕ) → f j ≡ g j) → (choice : List ℕ) → merge f choice ≡ merge g choice
-unfolding histories
+unfolding history_definitions
 merge_same f g same [] = refl
 merge_same f g same (i ∷ choice) =
     ap (λ es. take 1 es ++ merge (put_at f i (drop 1 (f i))) choice) (same i)
@@ -45,7 +45,7 @@ merge_same f g same (i ∷ choice) =
     put_same false v u p q d e = e
 
 merge_short : (f : ℕ → List Entry) (choice : List ℕ) → length (merge f choice) ≤ length choice
-unfolding histories
+unfolding history_definitions
 merge_short f [] = omega arith
 merge_short f (i ∷ choice) =
     let rest : length (merge (put_at f i (drop 1 (f i))) choice) ≤ length choice = merge_short (put_at f i (drop 1 (f i))) choice in
@@ -62,7 +62,7 @@ other_one true p q e = absurd (cc)
 other_one false p q e = refl
 
 put_picked : (segments : List (List Entry)) (i j : ℕ) → put_at (segment_of segments) i (drop 1 (segment_of segments i)) j ≡ segment_of (picked segments i) j
-unfolding histories
+unfolding history_definitions
 put_picked [] i j = nothing (eqb i j)
   where
     nothing : (b : Bool) → cond {A = List Entry} b [] [] ≡ []
@@ -77,7 +77,7 @@ put_picked (es ∷ segments) (suc i) (suc j) = test (eqb (suc i) (suc j)) (eqb i
     test a b e = ap (λ t. cond t (drop 1 (segment_of segments i)) (segment_of segments j)) e
 
 merge_picked : (segments : List (List Entry)) (i : ℕ) (choice : List ℕ) → merge (segment_of segments) (i ∷ choice) ≡ take 1 (segment_of segments i) ++ merge (segment_of (picked segments i)) choice
-unfolding histories
+unfolding history_definitions
 merge_picked segments i choice =
     ap (λ es. take 1 (segment_of segments i) ++ es) (merge_same (put_at (segment_of segments) i (drop 1 (segment_of segments i))) (segment_of (picked segments i)) (put_picked segments i) choice)
 
@@ -89,7 +89,7 @@ sum_more : (n : ℕ) (ns : List ℕ) → sum (n ∷ ns) ≡ n + sum ns
 sum_more n ns = sum_by-cons (λ x. x) n ns
 
 none_left : (segments : List (List Entry)) (i : ℕ) → total segments ≡ 0 → segment_of segments i ≡ []
-unfolding histories
+unfolding history_definitions
 none_left [] i e = refl
 none_left ([] ∷ segments) zero e = refl
 none_left ((d ∷ es) ∷ segments) zero e =
@@ -100,7 +100,7 @@ none_left (es ∷ segments) (suc i) e =
     none_left segments i (omega arith)
 
 one_less : (segments : List (List Entry)) (i : ℕ) (d : Entry) (es : List Entry) → segment_of segments i ≡ d ∷ es → total segments ≡ suc (total (picked segments i))
-unfolding histories
+unfolding history_definitions
 one_less [] i d es e = absurd (cc)
 one_less (x ∷ segments) zero d es e =
     let long : length x ≡ suc (length es) = ap length e in
@@ -142,7 +142,7 @@ take_end [] d es e h = absurd (cc)
 take_end (y ∷ x) d es e h = refl
 
 picked_extended : (segments : List (List Entry)) (home i : ℕ) (e d : Entry) (es : List Entry) → segment_of segments i ≡ d ∷ es → picked (extended segments home e) i ≡ extended (picked segments i) home e
-unfolding histories
+unfolding history_definitions
 picked_extended [] home i e d es h = refl
 picked_extended (x ∷ segments) zero zero e d es h = ap (λ v. v ∷ segments) (drop_end x d es e h)
 picked_extended (x ∷ segments) (suc home) zero e d es h = refl
@@ -150,7 +150,7 @@ picked_extended (x ∷ segments) zero (suc i) e d es h = refl
 picked_extended (x ∷ segments) (suc home) (suc i) e d es h = ap (λ v. x ∷ v) (picked_extended segments home i e d es h)
 
 first_extended : (segments : List (List Entry)) (home i : ℕ) (e d : Entry) (es : List Entry) → segment_of segments i ≡ d ∷ es → take 1 (segment_of (extended segments home e) i) ≡ take 1 (segment_of segments i)
-unfolding histories
+unfolding history_definitions
 first_extended [] home i e d es h = refl
 first_extended (x ∷ segments) zero zero e d es h = take_end x d es e h
 first_extended (x ∷ segments) (suc home) zero e d es h = refl
@@ -158,14 +158,14 @@ first_extended (x ∷ segments) zero (suc i) e d es h = refl
 first_extended (x ∷ segments) (suc home) (suc i) e d es h = first_extended segments home i e d es h
 
 extended_at : (segments : List (List Entry)) (home : ℕ) (e : Entry) → home < length segments → segment_of (extended segments home e) home ≡ segment_of segments home ++ e ∷ []
-unfolding histories
+unfolding history_definitions
 extended_at [] home e lt = let never : ⊥ = omega arith in absurd never
 extended_at (x ∷ segments) zero e lt = refl
 extended_at (x ∷ segments) (suc home) e lt = extended_at segments home e (omega arith)
 
 -- where a choice picks all entries, one entry more comes last
 merge_more : (choice : List ℕ) (segments : List (List Entry)) (home : ℕ) (e : Entry) → home < length segments → length choice ≡ total segments → length (merge (segment_of segments) choice) ≡ length choice → merge (segment_of (extended segments home e)) (choice ++ home ∷ []) ≡ merge (segment_of segments) choice ++ e ∷ []
-unfolding histories
+unfolding history_definitions
 merge_more [] segments home e lt all picks =
     let none : segment_of segments home ≡ [] = none_left segments home (sym all) in
     ap (λ es. take 1 es ++ []) (extended_at segments home e lt ∙ ap (λ es. es ++ e ∷ []) none)
@@ -193,19 +193,19 @@ merge_more (i ∷ choice) segments home e lt all picks =
 
 -- ---- rounds
 rounds_more : (w : s.Workload) (closed : List Round) (r r' : Round) (calls : List CallId) (call : CallId) → ((part : List CallId) → FollowsRound w r part → FollowsRound w r' (part ++ call ∷ [])) → FollowsRounds w (closed ++ r ∷ []) calls → FollowsRounds w (closed ++ r' ∷ []) (calls ++ call ∷ [])
-unfolding histories
+unfolding history_definitions
 rounds_more w [] r r' calls call more f =
     (f.0 ++ call ∷ [], [], ap (λ cs. cs ++ call ∷ []) (f.2 ∙ ap (λ rest. f.0 ++ rest) f.4 ∙ append-nil f.0) ∙ sym (append-nil (f.0 ++ call ∷ [])), more f.0 f.3, refl)
 rounds_more w (x ∷ closed) r r' calls call more f =
     (f.0, f.1 ++ call ∷ [], ap (λ cs. cs ++ call ∷ []) f.2 ∙ append_assoc f.0 f.1 (call ∷ []), f.3, rounds_more w closed r r' f.1 call more f.4)
 
 rounds_end : (w : s.Workload) (rounds : List Round) (r : Round) (calls : List CallId) → FollowsRound w r [] → FollowsRounds w rounds calls → FollowsRounds w (rounds ++ r ∷ []) calls
-unfolding histories
+unfolding history_definitions
 rounds_end w [] r calls none f = ([], [], f, none, refl)
 rounds_end w (x ∷ rounds) r calls none f = (f.0, f.1, f.2, f.3, rounds_end w rounds r f.1 none f.4)
 
 segments_extended : (sites : List SiteState) (home : ℕ) (x y : SiteState) (e : Entry) → slice_get sites home ≡ Some x → y.segment ≡ x.segment ++ e ∷ [] → segments_of (slice_set sites home y) ≡ extended (segments_of sites) home e
-unfolding words
+unfolding definitions
 segments_extended [] home x y e at is = absurd (cc)
 segments_extended (z ∷ sites) zero x y e at is =
     let same : x ≡ z = cc in
@@ -213,11 +213,11 @@ segments_extended (z ∷ sites) zero x y e at is =
 segments_extended (z ∷ sites) (suc home) x y e at is = ap (λ es. z.segment ∷ es) (segments_extended sites home x y e at is)
 
 site_is : (w : s.Workload) (call : CallId) (site : ℕ) → site_of w call ≡ Some site → site_or_zero w call ≡ site
-unfolding histories
+unfolding history_definitions
 site_is w call site e = ap (λ o. unwrap_or o 0) e
 
 open_more : (w : s.Workload) (base : List ℤ) (sites sites' : List SiteState) (home : ℕ) (e : Entry) → home < length (segments_of sites) → segments_of sites' ≡ extended (segments_of sites) home e → site_or_zero w e.call ≡ home → (part : List CallId) → FollowsRound w (open_round base sites) part → FollowsRound w (open_round base sites') (part ++ e.call ∷ [])
-unfolding words histories
+unfolding definitions history_definitions
 open_more w base sites sites' home e lt is at part f =
     let segments : List (List Entry) = segments_of sites in
     let choice : List ℕ = map (site_or_zero w) f.before in
@@ -242,7 +242,7 @@ open_more w base sites sites' home e lt is at part f =
     }
 
 pub follows_local : FollowsLocal
-unfolding words histories site_words
+unfolding definitions history_definitions site_definitions
 follows_local w start b sites home x call calls joined here at_site f =
     let y : SiteState = after_local w x call in
     let e : Entry = local_entry w x call in
@@ -251,7 +251,7 @@ follows_local w start b sites home x call calls joined here at_site f =
     rounds_more w b.closed (open_round b.base sites) (open_round b.base (slice_set sites home y)) calls call (open_more w b.base sites (slice_set sites home y) home e lt (segments_extended sites home x y e here refl) at) f
 
 closed_more : (w : s.Workload) (b : BookState) (sites : List SiteState) (home : ℕ) (call : CallId) (broken : Broken) (part : List CallId) → FollowsRound w (open_round b.base sites) part → FollowsRound w (closed_round w b sites home call broken) (part ++ call ∷ [])
-unfolding words histories
+unfolding definitions history_definitions
 closed_more w b sites home call broken part f = record {
   before = f.before;
   cut = ap (λ cs. cs ++ call ∷ []) (f.cut ∙ append-nil f.before);
@@ -260,7 +260,7 @@ closed_more w b sites home call broken part f = record {
 }
 
 no_total : (base : List ℤ) (sites : List SiteState) → total (segments_of (map (renewed base) sites)) ≡ 0
-unfolding words site_words
+unfolding definitions site_definitions
 no_total base [] = refl
 no_total base (x ∷ sites) =
     let ih : total (segments_of (map (renewed base) sites)) ≡ 0 = no_total base sites in
@@ -268,6 +268,6 @@ no_total base (x ∷ sites) =
     omega arith
 
 pub follows_cleanup : FollowsCleanup
-unfolding words histories
+unfolding definitions history_definitions
 follows_cleanup w b sites home call broken calls f =
     rounds_end w (b.closed ++ closed_round w b sites home call broken ∷ []) (open_round (next_base w b sites call) (map (renewed (next_base w b sites call)) sites)) (calls ++ call ∷ []) (record { before = []; cut = refl; whole = sym (no_total (next_base w b sites call) sites); by_sites = refl }) (rounds_more w b.closed (open_round b.base sites) (closed_round w b sites home call broken) calls call (closed_more w b sites home call broken) f)

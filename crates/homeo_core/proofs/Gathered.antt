@@ -1,7 +1,7 @@
 -- The base with the deltas of sites, as values by the numbers of objects.
-use Rattle.homeo_meaning.specs.Key.{words as meanings}
-use Rattle.homeo_plan.specs.Key.{words as plans}
-use Rattle.homeo_core.specs.Key.{words}
+use Rattle.homeo_meaning.specs.Key.{definitions as meaning_definitions}
+use Rattle.homeo_plan.specs.Key.{definitions as plan_definitions}
+use Rattle.homeo_core.specs.Key.{definitions}
 use Rattle.std.proofs.Common.{◌≡◌, ℕ, zero, suc, ◌+◌, ◌≤◌, nat_lt, Bool, true, false, cond, List, [], ◌∷◌, length, get_or, ℤ, pos, ◌+ℤ◌, refl, sym, ap, ◌∙◌, subst, arith}
 use Rattle.std.specs.Prelude.{All}
 use mathlib.Core.Path.{fun_ext}
@@ -18,7 +18,7 @@ use Rattle.homeo_core.specs.Joined.{plus_deltas, gathered}
 
 -- ---- deltas added to values
 plus_at : (values deltas : List ℤ) (n : ℕ) → length deltas ≤ length values → get_or (plus_deltas values deltas) n (pos 0) ≡ get_or values n (pos 0) +ℤ get_or deltas n (pos 0)
-unfolding words
+unfolding definitions
 plus_at [] [] n le = refl
 plus_at [] (d ∷ deltas) n le = absurd (omega (arith, le))
 plus_at (v ∷ values) [] zero le = omega (arith, ints)
@@ -27,20 +27,20 @@ plus_at (v ∷ values) (d ∷ deltas) zero le = refl
 plus_at (v ∷ values) (d ∷ deltas) (suc n) le = plus_at values deltas n (omega (arith, le))
 
 pub plus_length : (values deltas : List ℤ) → length (plus_deltas values deltas) ≡ length values
-unfolding words
+unfolding definitions
 plus_length [] deltas = refl
 plus_length (v ∷ values) [] = refl
 plus_length (v ∷ values) (d ∷ deltas) = ap suc (plus_length values deltas)
 
 -- ---- sums over sites
 sum_nothing : (j k : ℕ) (f : ℕ → ℤ) → ((i : ℕ) → j ≤ i → f i ≡ pos 0) → sum_from j k f ≡ pos 0
-unfolding plans
+unfolding plan_definitions
 sum_nothing j zero f none = refl
 sum_nothing j (suc k) f none =
     omega (arith, ints, none j (omega arith), sum_nothing (suc j) k f (λ i le. none i (omega (arith, le))))
 
 sum_short : (j n k : ℕ) (f : ℕ → ℤ) → n ≤ k → ((i : ℕ) → j + n ≤ i → f i ≡ pos 0) → sum_from j k f ≡ sum_from j n f
-unfolding plans
+unfolding plan_definitions
 sum_short j zero k f le none = sum_nothing j k f (λ i l. none i (omega (arith, l)))
 sum_short j (suc n) zero f le none = absurd (omega (arith, le))
 sum_short j (suc n) (suc k) f le none =
@@ -63,7 +63,7 @@ none_past (x ∷ sites) zero n le = absurd (omega (arith, le))
 none_past (x ∷ sites) (suc i) n le = none_past sites i n (omega (arith, le))
 
 pub gathered_length : (base : List ℤ) (sites : List SiteState) → length (gathered base sites) ≡ length base
-unfolding words
+unfolding definitions
 gathered_length base [] = refl
 gathered_length base (x ∷ sites) = gathered_length (plus_deltas base x.deltas) sites ∙ plus_length base x.deltas
 
@@ -71,7 +71,7 @@ still_long : (base deltas : List ℤ) (sites : List SiteState) → AreAsLong bas
 still_long base deltas sites long = subst (λ n. All (λ (x : SiteState). length x.deltas ≡ n) sites) (sym (plus_length base deltas)) long
 
 gathered_at : (base : List ℤ) (sites : List SiteState) (n : ℕ) → AreAsLong base sites → get_or (gathered base sites) n (pos 0) ≡ get_or base n (pos 0) +ℤ sum_from 0 (length sites) (λ j. deltas_at sites j n)
-unfolding words plans
+unfolding definitions plan_definitions
 gathered_at base [] n long = omega (arith, ints)
 gathered_at base (x ∷ sites) n long =
     let here : length x.deltas ≡ length base = All-head (λ (y : SiteState). length y.deltas ≡ length base) x sites long in
@@ -82,7 +82,7 @@ gathered_at base (x ∷ sites) n long =
 
 -- gathered values are the fold of the base with the deltas of at least as many sites
 pub gathered_is : (base : List ℤ) (sites : List SiteState) (k : ℕ) (d : ℕ → Deltas) → AreAsLong base sites → length sites ≤ k → ((i : ℕ) → d i ≡ deltas_at sites i) → database_like base (folded k (values_of base) d) ≡ gathered base sites
-unfolding words plans meanings
+unfolding definitions plan_definitions meaning_definitions
 gathered_is base sites k d long le same =
     sym (like_itself base (gathered base sites) (folded k (values_of base) d) (gathered_length base sites) (fun_ext at))
   where

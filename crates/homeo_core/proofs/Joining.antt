@@ -1,6 +1,6 @@
 -- Closed rounds and sites in one round, with each client's calls in order, are a legal history.
-use Rattle.homeo_history.specs.Key.{words as histories}
-use Rattle.homeo_core.specs.Key.{words}
+use Rattle.homeo_history.specs.Key.{definitions as history_definitions}
+use Rattle.homeo_core.specs.Key.{definitions}
 use Rattle.std.proofs.Common.{◌≡◌, ℕ, ◌+◌, List, ◌++◌, length, ℤ, Some, refl, ap, ◌∙◌, arith}
 use Rattle.std.specs.Prelude.{All}
 use Rattle.std.proofs.lemmas.List.{append-nil}
@@ -21,7 +21,7 @@ use Rattle.homeo_core.proofs.OpenRound as open_round_facts
 
 -- the answers to a client of closed rounds and an open one
 pub with_open : (b : BookState) (sites : List SiteState) (client : ℕ) → answers_to client (answers_of 0 (rounds_of b sites)) ≡ answers_to client (answers_of 0 b.closed) ++ answers_to client (local_answers (length b.closed) 0 (segments_of sites))
-unfolding words histories
+unfolding definitions history_definitions
 with_open b sites client =
     let number : 0 + length b.closed ≡ length b.closed = omega arith in
     ap (answers_to client) (answers_of_end 0 b.closed (open_round b.base sites))
@@ -31,7 +31,7 @@ with_open b sites client =
 
 module _ (w : s.Workload) (start : List ℤ) (b : BookState) (sites : List SiteState) (accepted : IsAccepted w) (joined : AreJoined w start b sites) where
   framed : IsFramed w start (rounds_of b sites)
-  unfolding words
+  unfolding definitions
   framed = record {
     starts = first_is b.closed (open_round b.base sites) ∙ ap Some joined.book.starts;
     segments = All-push (λ (r : Round). length r.segments ≡ sites_of w) b.closed (open_round b.base sites) joined.book.segments (open_round_facts.count_is w start b sites accepted joined);
@@ -39,16 +39,16 @@ module _ (w : s.Workload) (start : List ℤ) (b : BookState) (sites : List SiteS
   }
 
   at_sites : All (IsAtSites w) (rounds_of b sites)
-  unfolding words
+  unfolding definitions
   at_sites =
       All-push (IsAtSites w) b.closed (open_round b.base sites) joined.book.at_sites (record { segments = open_round_facts.calls_at w start b sites accepted joined; closing = tt })
 
   runs : RunsTo w (open_round b.base sites) (gathered b.base sites)
-  unfolding words histories
+  unfolding definitions history_definitions
   runs = record { after = gathered b.base sites; merges = open_round_facts.merges w start b sites accepted joined; closes = refl }
 
 pub joining : Joining
-unfolding words
+unfolding definitions
 joining w start b sites counts accepted joined in_order = record {
   framed = framed w start b sites accepted joined;
   at_sites = at_sites w start b sites accepted joined;

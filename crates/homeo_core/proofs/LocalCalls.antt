@@ -1,7 +1,7 @@
 -- A local call keeps what closed rounds and sites hold, and adds its answer to the history's.
-use Rattle.homeo_history.specs.Key.{words as histories}
-use Rattle.homeo_site.specs.Key.{words as site_words}
-use Rattle.homeo_core.specs.Key.{words}
+use Rattle.homeo_history.specs.Key.{definitions as history_definitions}
+use Rattle.homeo_site.specs.Key.{definitions as site_definitions}
+use Rattle.homeo_core.specs.Key.{definitions}
 use Rattle.std.proofs.Common.{◌≡◌, ℕ, List, [], ◌∷◌, ◌++◌, map, length, ℤ, Bool, true, false, eqb, Some, refl, sym, ap, subst, ◌∙◌, append_assoc}
 use Rattle.std.specs.Prelude.{slice_get, slice_set}
 use mathlib.Core.Logic.{⊎_elim}
@@ -31,7 +31,7 @@ module _ (w : s.Workload) (start : List ℤ) (b : BookState) (sites : List SiteS
   entry = local_entry w x call
 
   after_is_in : IsInRound b home y
-  unfolding site_words
+  unfolding site_definitions
   after_is_in =
       let at = joined.round.each home x here in record { numbered = at.numbered; round = at.round; base = at.base }
 
@@ -50,7 +50,7 @@ module _ (w : s.Workload) (start : List ℤ) (b : BookState) (sites : List SiteS
   }
 
   local_more : (client : ℕ) (t : Bool) → eqb call.client client ≡ t → answers_to client (local_answers (length b.closed) 0 (segments_of (slice_set sites home y))) ≡ answers_to client (local_answers (length b.closed) 0 (segments_of sites)) ++ answers_to client (local_answer (length b.closed) home entry ∷ [])
-  unfolding histories site_words
+  unfolding history_definitions site_definitions
   local_more client true e =
       let at = joined.round.each home x here in
       let own : IsClientAt w home client = subst (IsClientAt w home) (same_client call.client client e) (client_at w call home at_site.at_site) in
@@ -66,7 +66,7 @@ module _ (w : s.Workload) (start : List ℤ) (b : BookState) (sites : List SiteS
       ∙ ap (λ xs. answers_to client (local_answers (length b.closed) 0 (segments_of sites)) ++ xs) (sym (not_to client (local_answer (length b.closed) home entry) other))
 
   after_call : IsAfter w start (local_answer (length b.closed) home entry) b b sites (slice_set sites home y)
-  unfolding words
+  unfolding definitions
   after_call = record {
     joined = local_joined;
     answer = λ client.
@@ -77,5 +77,5 @@ module _ (w : s.Workload) (start : List ℤ) (b : BookState) (sites : List SiteS
   }
 
 pub core_local : CoreLocal
-unfolding words
+unfolding definitions
 core_local = after_call

@@ -1,6 +1,6 @@
 -- Answers to one client: of one answer, and of one entry more.
-use Rattle.homeo_history.specs.Key.{words as histories}
-use Rattle.homeo_core.specs.Key.{words}
+use Rattle.homeo_history.specs.Key.{definitions as history_definitions}
+use Rattle.homeo_core.specs.Key.{definitions}
 use Rattle.std.proofs.Common.{◌≡◌, ℕ, zero, suc, List, [], ◌∷◌, ◌++◌, map, eqb, false, Some, refl, sym, ap, subst, ◌∙◌, arith}
 use Rattle.std.specs.Prelude.{slice_get, slice_set}
 use Rattle.std.proofs.lemmas.List.{map-append}
@@ -27,7 +27,7 @@ not_to client a other = none_to client (a ∷ []) (all_from_get (λ (x : Answer)
 
 -- the client's answers stay where one site's segment changes and has no other answers to the client
 pub others_stay : (client round k home : ℕ) (sites : List SiteState) (x y : SiteState) → slice_get sites home ≡ Some x → ((site : ℕ) → answers_to client (map (local_answer round site) y.segment) ≡ answers_to client (map (local_answer round site) x.segment)) → answers_to client (local_answers round k (segments_of (slice_set sites home y))) ≡ answers_to client (local_answers round k (segments_of sites))
-unfolding words histories
+unfolding definitions history_definitions
 others_stay client round k home [] x y e same = refl
 others_stay client round k zero (z ∷ sites) x y e same =
     let is : x ≡ z = cc in
@@ -40,7 +40,7 @@ others_stay client round k (suc home) (z ∷ sites) x y e same =
     ∙ sym (answers_to_more client (map (local_answer round k) z.segment) (local_answers round (suc k) (segments_of sites)))
 
 pub one_more_entry : (client round site : ℕ) (es : List Entry) (e : Entry) → answers_to client (map (local_answer round site) (es ++ e ∷ [])) ≡ answers_to client (map (local_answer round site) es) ++ answers_to client (local_answer round site e ∷ [])
-unfolding histories
+unfolding history_definitions
 one_more_entry client round site es e =
     ap (answers_to client) (map-append (local_answer round site) es (e ∷ []))
     ∙ answers_to_more client (map (local_answer round site) es) (local_answer round site e ∷ [])

@@ -1,7 +1,7 @@
 -- Closed rounds and sites in one round: the open round has the sites' facts, and what it leaves is gathered from them.
-use Rattle.homeo_plan.specs.Key.{words as plans}
-use Rattle.homeo_history.specs.Key.{words as histories}
-use Rattle.homeo_core.specs.Key.{words}
+use Rattle.homeo_plan.specs.Key.{definitions as plan_definitions}
+use Rattle.homeo_history.specs.Key.{definitions as history_definitions}
+use Rattle.homeo_core.specs.Key.{definitions}
 use Rattle.std.proofs.Common.{◌≡◌, ℕ, zero, suc, ◌≤◌, List, [], ◌∷◌, map, length, take, ℤ, Some, refl, sym, ap, subst, ◌∙◌, arith}
 use Rattle.std.specs.Prelude.{All, slice_get}
 use Rattle.std.proofs.lemmas.List.{length-map}
@@ -30,14 +30,14 @@ use Rattle.homeo_core.proofs.Gathered.{AreAsLong, deltas_at, gathered_is}
 
 -- what is true of the empty segment and of each site's is true of the segment of each number
 pub each_segment : (P : ℕ → List Entry → Type 0) (sites : List SiteState) → ((i : ℕ) → P i []) → ((i : ℕ) (x : SiteState) → slice_get sites i ≡ Some x → P i x.segment) → (i : ℕ) → P i (segment_of (segments_of sites) i)
-unfolding histories words
+unfolding history_definitions definitions
 each_segment P [] none one i = none i
 each_segment P (x ∷ sites) none one zero = one 0 x refl
 each_segment P (x ∷ sites) none one (suc i) =
     each_segment (λ j. P (suc j)) sites (λ j. none (suc j)) (λ j y e. one (suc j) y e) i
 
 pub segment_at : (sites : List SiteState) (i : ℕ) (x : SiteState) → slice_get sites i ≡ Some x → segment_of (segments_of sites) i ≡ x.segment
-unfolding histories words
+unfolding history_definitions definitions
 segment_at sites i x e = get_index (segments_of sites) i x.segment [] (get_map (λ (y : SiteState). y.segment) sites i x e)
 
 -- ---- the first sites
@@ -57,7 +57,7 @@ first_few (y ∷ sites) (suc n) = let h = first_few sites n in omega (arith, h)
 
 -- where each segment's replay ends with its site's deltas
 ends_are : (f : List Entry → Deltas) (sites : List SiteState) → f [] ≡ no_deltas → ((i : ℕ) (x : SiteState) → slice_get sites i ≡ Some x → f x.segment ≡ values_of x.deltas) → (i : ℕ) → f (segment_of (segments_of sites) i) ≡ deltas_at sites i
-unfolding histories words plans
+unfolding history_definitions definitions plan_definitions
 ends_are f [] start each i = start
 ends_are f (x ∷ sites) start each zero = each 0 x refl
 ends_are f (x ∷ sites) start each (suc i) = ends_are f sites start (λ j y e. each (suc j) y e) i
@@ -96,7 +96,7 @@ module _ (w : s.Workload) (start : List ℤ) (b : BookState) (sites : List SiteS
     first_round = open_round b.base some
 
     first_segments : HasSegments w first_round
-    unfolding words histories
+    unfolding definitions history_definitions
     first_segments = record {
       at_sites =
           each_segment (λ i es. All (λ e. IsCallAt w i e.call) es) some (λ i. All-nil (λ (e : Entry). IsCallAt w i e.call)) (λ i x e. calls_here i x (first_is sites n i x e));
@@ -104,12 +104,12 @@ module _ (w : s.Workload) (start : List ℤ) (b : BookState) (sites : List SiteS
     }
 
     first_fold : fold_of w first_round ≡ gathered b.base some
-    unfolding words histories plans
+    unfolding definitions history_definitions plan_definitions
     first_fold =
         gathered_is b.base some (sites_of w) (site_end w first_round) (long_from b.base some (λ i x e. long_at i x (first_is sites n i x e))) (subst (λ k. length some ≤ k) joined.round.count (first_few sites n)) (ends_are (λ es. end_of w b.base es no_deltas) some refl (λ i x e. end_at i x (first_is sites n i x e)))
 
     pub first_within : IsWithin (schema_of w) (gathered b.base some)
-    unfolding words
+    unfolding definitions
     first_within = subst (IsWithin (schema_of w)) first_fold (fold_within w first_round accepted joined.book.within first_segments)
 
   -- ---- the round of all sites
@@ -117,28 +117,28 @@ module _ (w : s.Workload) (start : List ℤ) (b : BookState) (sites : List SiteS
   calls_at = each_segment (λ i es. All (λ e. IsCallAt w i e.call) es) sites (λ i. All-nil (λ (e : Entry). IsCallAt w i e.call)) calls_here
 
   pub keeps_at : (site : ℕ) → KeepsAll w b.base site no_deltas (segment_of (segments_of sites) site)
-  unfolding histories
+  unfolding history_definitions
   keeps_at = each_segment (λ i es. KeepsAll w b.base i no_deltas es) sites (λ i. tt) keeps_here
 
   has_segments : HasSegments w (open_round b.base sites)
-  unfolding words
+  unfolding definitions
   has_segments = record { at_sites = calls_at; replayed = keeps_at }
 
   pub count_is : length (segments_of sites) ≡ sites_of w
-  unfolding words
+  unfolding definitions
   count_is = length-map sites (λ (x : SiteState). x.segment) ∙ joined.round.count
 
   whole_fold : fold_of w (open_round b.base sites) ≡ gathered b.base sites
-  unfolding words histories plans
+  unfolding definitions history_definitions plan_definitions
   whole_fold =
       gathered_is b.base sites (sites_of w) (site_end w (open_round b.base sites)) (long_from b.base sites long_at) (omega (arith, joined.round.count)) (ends_are (λ es. end_of w b.base es no_deltas) sites refl end_at)
 
   pub merges : HasMerges w (open_round b.base sites) (gathered b.base sites)
-  unfolding words
+  unfolding definitions
   merges = subst (HasMerges w (open_round b.base sites)) whole_fold (merge_law w (open_round b.base sites) accepted joined.book.within has_segments)
 
   pub whole_within : IsWithin (schema_of w) (gathered b.base sites)
-  unfolding words
+  unfolding definitions
   whole_within =
       subst (IsWithin (schema_of w)) whole_fold (fold_within w (open_round b.base sites) accepted joined.book.within has_segments)
 

@@ -1,6 +1,6 @@
 -- With one answer more, each client's calls stay in order.
-use Rattle.homeo_history.specs.Key.{words as histories}
-use Rattle.homeo_core.specs.Key.{words}
+use Rattle.homeo_history.specs.Key.{definitions as history_definitions}
+use Rattle.homeo_core.specs.Key.{definitions}
 use Rattle.std.proofs.Common.{◌≡◌, ℕ, suc, ◌+◌, ◌<◌, ◌≤◌, List, [], ◌∷◌, ◌++◌, map, length, Bool, true, false, cond, eqb, refl, sym, ap, subst, ◌∙◌, arith}
 use Rattle.std.specs.Prelude.{slice_set, slice_index_or}
 use Rattle.std.specs.List.{range_with_len}
@@ -16,7 +16,7 @@ use Rattle.homeo_core.specs.Laws.{CoreOrder}
 use Rattle.homeo_core.proofs.OneAnswer.{not_same, not_to, numbers_are}
 
 order_more : (w : s.Workload) (counts : List ℕ) (a : Answer) (old new : List Round) → IsInOrder w counts (calls_of old) → OneMore a old new → a.client < length counts → a.seq ≡ suc (slice_index_or counts a.client 0) → (client : ℕ) (t : Bool) → eqb a.client client ≡ t → numbers_of client (calls_of new) ≡ range_with_len 1 (slice_index_or (slice_set counts a.client a.seq) client 0)
-unfolding words histories
+unfolding definitions history_definitions
 order_more w counts a old new is more lt seq client true e =
     let same : a.client ≡ client = same_client a.client client e in
     let old_numbers : map (λ (x : Answer). x.seq) (answers_to client (answers_of 0 old)) ≡ range_with_len 1 (slice_index_or counts client 0) = sym (numbers_are client old) ∙ is.numbers client in
@@ -44,7 +44,7 @@ exist_more w counts c n old lt bound client false e =
     subst (λ k. k ≤ call_count w client) (sym (index_set_other counts c client n 0 (λ h. not_same c client (sym h) e))) (old client)
 
 pub core_order : CoreOrder
-unfolding words
+unfolding definitions
 core_order w counts a old new is more lt seq bound = record {
   clients = length_set counts a.client a.seq ∙ is.clients;
   exist = λ client. exist_more w counts a.client a.seq is.exist lt bound client (eqb a.client client) refl;

@@ -1,7 +1,7 @@
 -- The sites of clients of an accepted workload are few; and what a workload's client is.
-use Rattle.homeo_syntax.specs.Key.{words as syntax}
-use Rattle.homeo_meaning.specs.Key.{words as meanings}
-use Rattle.homeo_history.specs.Key.{words as histories}
+use Rattle.homeo_syntax.specs.Key.{definitions as syntax_definitions}
+use Rattle.homeo_meaning.specs.Key.{definitions as meaning_definitions}
+use Rattle.homeo_history.specs.Key.{definitions as history_definitions}
 use Rattle.std.proofs.Common.{◌≡◌, ℕ, zero, suc, ◌<◌, List, [], ◌∷◌, map, length, ℤ, pos, ◌≤ℤ◌, ◌<ℤ◌, int_le, Bool, true, false, All, Some, refl, sym, ap, subst, ◌∙◌, arith, to_z, of_z}
 use Rattle.std.specs.Prelude.{slice_get}
 use Rattle.std.specs.List.{flat_map}
@@ -37,22 +37,22 @@ pub record IsFew (n : ℤ) : Type 0 where
   pub few : n ≤ℤ pos 16
 
 pub none_when : (b : Bool) (f : Fault) → when b (f ∷ []) ≡ [] → b ≡ false
-unfolding meanings
+unfolding meaning_definitions
 none_when true f e = absurd (cc)
 none_when false f e = refl
 
 no_site_fault : (sites site : Number) → site_faults sites site ≡ [] → int_le sites.value site.value ≡ false
-unfolding meanings
+unfolding meaning_definitions
 no_site_fault sites site e = none_when (int_le sites.value site.value) _ e
 
 not_negative : (cs : List s.Client) (i : ℕ) (c : s.Client) → formed.Each (λ (c : s.Client). pos 0 ≤ℤ c.site.value) cs → slice_get cs i ≡ Some c → pos 0 ≤ℤ c.site.value
-unfolding syntax
+unfolding syntax_definitions
 not_negative [] i c h e = absurd (cc)
 not_negative (d ∷ cs) zero c h e = let q : d ≡ c = cc in subst (λ (z : s.Client). pos 0 ≤ℤ z.site.value) q h.0
 not_negative (d ∷ cs) (suc i) c h e = not_negative cs i c h.1 e
 
 site_few : (w : s.Workload) (i : ℕ) (c : s.Client) → IsAccepted w → slice_get w.clients i ≡ Some c → IsFew c.site.value
-unfolding meanings
+unfolding meaning_definitions
 site_few w i c accepted found =
     let none : flat_map (client_faults w.sites (scope_of w) w.transactions) w.clients ≡ [] = (declared_parts w (parts Run w accepted.rules).text.declared).clients in
     let each : All (λ (x : s.Client). int_le w.sites.value x.site.value ≡ false) w.clients = each-none (client_faults w.sites (scope_of w) w.transactions) (λ (x : s.Client). int_le w.sites.value x.site.value ≡ false) (λ x f. no_site_fault w.sites x.site (none_second (flat_map (λ (call : s.Call). call_faults w.transactions ((scope_of w).item call.name.name) call) x.calls) (site_faults w.sites x.site) f)) w.clients none in
@@ -65,13 +65,13 @@ pub read : (n : ℤ) → IsFew n → to_z w64 (of_z w64 n) ≡ n
 read n h = to_z-of_z w64 n (fits_signed_from_abs w64 n (omega (arith, ints, h.some, h.few)))
 
 pub read_few : (w : Workload) (i : ℕ) (c : Client) → IsAccepted (plain_workload w) → slice_get (plain_workload w).clients i ≡ Some (plain_client c) → IsFew (to_z w64 (of_z w64 c.site.value))
-unfolding syntax
+unfolding syntax_definitions
 read_few w i c accepted found =
     let h : IsFew c.site.value = site_few (plain_workload w) i (plain_client c) accepted found in
     subst IsFew (sym (read c.site.value h)) h
 
 pub read_site : (w : Workload) (i : ℕ) (c : Client) → IsAccepted (plain_workload w) → slice_get (plain_workload w).clients i ≡ Some (plain_client c) → IsClientAt (plain_workload w) (nat_of (to_z w64 (of_z w64 c.site.value))) i
-unfolding syntax histories
+unfolding syntax_definitions history_definitions
 read_site w i c accepted found =
     let h : IsFew c.site.value = site_few (plain_workload w) i (plain_client c) accepted found in
     ap (option_map (λ (z : s.Client). nat_of z.site.value)) found ∙ ap (λ n. Some (nat_of n)) (sym (read c.site.value h))
@@ -82,7 +82,7 @@ same_length f [] = refl
 same_length f (x ∷ xs) = ap suc (same_length f xs)
 
 pub counted : (w : Workload) (i : ℕ) (c : Client) → slice_get (plain_workload w).clients i ≡ Some (plain_client c) → length c.calls.items ≡ call_count (plain_workload w) i
-unfolding syntax histories
+unfolding syntax_definitions history_definitions
 counted w i c found =
     sym (ap (λ o. option_map_or (λ (z : s.Client). length z.calls) o 0) found ∙ same_length _ c.calls.items)
 

@@ -1,5 +1,5 @@
 -- Sites that wait for their starts.
-use Rattle.homeo_core.specs.Key.{words}
+use Rattle.homeo_core.specs.Key.{definitions}
 use Rattle.std.proofs.Common.{◌≡◌, ℕ, zero, suc, true, List, [], ◌∷◌, ◌++◌, map, length, replicate, Option, Some, None, ℤ, refl, sym, ap, subst, ◌∙◌, inl, inr, slice_set}
 use Rattle.std.specs.Prelude.{slice_get, slice_index_or}
 use mathlib.Core.Logic.{⊎_elim}
@@ -12,7 +12,7 @@ use Rattle.homeo_core.specs.Starts.{start_after, AreStarts, waits}
 use Rattle.homeo_core.proofs.SitesOfClients.{same_length}
 
 pub no_start : (starts : List (Option StartValue)) (n : ℕ) (d : Option StartValue) → slice_get (map waits starts) n ≡ Some true → slice_index_or starts n d ≡ None → ⊥
-unfolding words
+unfolding definitions
 no_start [] n d w e = cc
 no_start (None ∷ starts) zero d w e = cc
 no_start (Some s ∷ starts) zero d w e = cc
@@ -20,7 +20,7 @@ no_start (s ∷ starts) (suc n) d w e = no_start starts n d w e
 
 -- ---- one site after another
 pub no_starts : (w : Workload) (round : ℕ) (next : List ℤ) → AreStarts w round next []
-unfolding words
+unfolding definitions
 no_starts w round next i s e = absurd (cc)
 
 at_end : (starts : List (Option StartValue)) (o p : Option StartValue) (i : ℕ) → slice_get (starts ++ o ∷ []) i ≡ Some p → (slice_get starts i ≡ Some p) ⊎ ((i ≡ length starts) × (o ≡ p))
@@ -30,7 +30,7 @@ at_end (s ∷ starts) o p zero e = inl e
 at_end (s ∷ starts) o p (suc i) e = ⊎_elim (λ h. inl h) (λ h. inr (ap suc h.0, h.1)) (at_end starts o p i e)
 
 pub starts_more : (w : Workload) (round : ℕ) (next : List ℤ) (starts : List (Option StartValue)) (s : StartValue) → AreStarts w round next starts → s ≡ start_after w round next (length starts) → AreStarts w round next (starts ++ Some s ∷ [])
-unfolding words
+unfolding definitions
 starts_more w round next starts s all is i t e =
     ⊎_elim (λ h. all i t h) (λ h. last h.0 h.1) (at_end starts (Some s) (Some t) i e)
   where
@@ -38,7 +38,7 @@ starts_more w round next starts s all is i t e =
     last q p = let same : s ≡ t = cc in subst (λ n. t ≡ start_after w round next n) (sym q) (sym same ∙ is)
 
 pub waiting_more : (starts : List (Option StartValue)) (s : StartValue) (n : ℕ) → map waits starts ≡ replicate n true → map waits (starts ++ Some s ∷ []) ≡ replicate (suc n) true
-unfolding words
+unfolding definitions
 waiting_more starts s n e = map-append waits starts (Some s ∷ []) ∙ ap (λ l. l ++ true ∷ []) e ∙ one_more n
   where
     one_more : (n : ℕ) → replicate n true ++ true ∷ [] ≡ replicate (suc n) true
@@ -64,13 +64,13 @@ as_many f g xs ys n a b p q = count f xs n a p ∙ sym (count g ys n b q)
 
 -- ---- a start that is given to its site
 pub start_there : (starts : List (Option StartValue)) (n : ℕ) (d : Option StartValue) (s : StartValue) → slice_get (map waits starts) n ≡ Some true → slice_index_or starts n d ≡ Some s → slice_get starts n ≡ Some (Some s)
-unfolding words
+unfolding definitions
 start_there [] n d s w e = absurd (cc)
 start_there (o ∷ starts) zero d s w e = ap Some e
 start_there (o ∷ starts) (suc n) d s w e = start_there starts n d s w e
 
 pub starts_less : (w : Workload) (round : ℕ) (next : List ℤ) (starts : List (Option StartValue)) (n : ℕ) (o : Option StartValue) → o ≡ None → AreStarts w round next starts → AreStarts w round next (slice_set starts n o)
-unfolding words
+unfolding definitions
 starts_less w round next starts n o none all i s e =
     ⊎_elim (λ h. absurd (gone (sym none ∙ h.1))) (λ h. all i s h) (set_cases starts n i o (Some s) e)
   where

@@ -13,7 +13,7 @@ use Rattle.homeo_history.specs.Follows.{Follows}
 use Rattle.homeo_history.specs.History.{History}
 use Rattle.homeo_history.specs.Legal.{IsClientAt, base_or, calls_of, IsInOrder}
 use Rattle.homeo_site.specs.SiteState.{SiteState, step_finding, local_entry, after_local, begun, renewed}
-use Rattle.homeo_core.specs.Key.{words}
+use Rattle.homeo_core.specs.Key.{definitions}
 use Rattle.homeo_core.specs.Joined.{BookState, AreJoined, rounds_of, history_of}
 use Rattle.homeo_core.specs.Events.{closing_of, next_base, after_closing}
 
@@ -27,12 +27,12 @@ pub record CoreValue : Type 0 where
 
 -- the history so far: the closed rounds, and the open one
 abbrev pub core_history : CoreValue → History
-unfolding words
+unfolding definitions
 core_history x = history_of x.book x.sites
 
 -- the database with which the first round begins
 abbrev pub start_of : BookState → List ℤ
-unfolding words
+unfolding definitions
 start_of b = base_or b.closed b.base
 
 -- what a core keeps: its rounds and its sites hold, in one round, and each client's calls are in order
@@ -43,12 +43,12 @@ pub record CoreHolds (x : CoreValue) : Type 0 where
 
 -- ---- the start
 abbrev pub begun_sites : ℕ → List ℤ → List SiteState
-unfolding words
+unfolding definitions
 begun_sites count base = map (λ i. begun i 0 base) (range_with_len 0 count)
 
 -- no call was made, and all sites are in the round 0, on this base
 abbrev pub core_at : Workload → List ℤ → CoreValue
-unfolding words
+unfolding definitions
 core_at work base = record {
   work = work;
   book = record { closed = []; base = base };
@@ -59,30 +59,30 @@ core_at work base = record {
 -- ---- a step
 -- a client's next call
 abbrev pub next_call : CoreValue → ℕ → CallId
-unfolding words
+unfolding definitions
 next_call x client = record { client = client; seq = suc (slice_index_or x.counts client 0) }
 
 -- the closed rounds after a call at the site home, of whose treaty this fails first: it closes the round where anything fails
 abbrev pub book_after : s.Workload → BookState → List SiteState → ℕ → CallId → Option Broken → BookState
-unfolding words
+unfolding definitions
 book_after w b sites home call None = b
 book_after w b sites home call (Some broken) = after_closing w b sites home call broken
 
 -- the sites after it: it is made at its own site alone where nothing fails
 abbrev pub sites_after : s.Workload → BookState → List SiteState → ℕ → SiteState → CallId → Option Broken → List SiteState
-unfolding words
+unfolding definitions
 sites_after w b sites home x call None = slice_set sites home (after_local w x call)
 sites_after w b sites home x call (Some broken) = map (renewed (next_base w b sites call)) sites
 
 -- the answer to it
 abbrev pub answer_to : s.Workload → BookState → List SiteState → ℕ → SiteState → CallId → Option Broken → Answer
-unfolding words
+unfolding definitions
 answer_to w b sites home x call None = local_answer (length b.closed) home (local_entry w x call)
 answer_to w b sites home x call (Some broken) = closing_answer (length b.closed) (closing_of w b sites home call broken)
 
 -- a call was made over these rounds and sites, with this answer: it closed the round exactly where its local step at the site
 -- home breaks the site's treaty
-pub record IsMade (w : s.Workload) (b : BookState) (sites : List SiteState) (home : ℕ) (call : CallId) (a : Answer)
+pub record IsCallMade (w : s.Workload) (b : BookState) (sites : List SiteState) (home : ℕ) (call : CallId) (a : Answer)
     (b' : BookState) (sites' : List SiteState) : Type 0 where
   pub site : SiteState
   pub here : slice_get sites home ≡ Some site
@@ -94,7 +94,7 @@ pub record IsMade (w : s.Workload) (b : BookState) (sites : List SiteState) (hom
 pub record IsStep (x : CoreValue) (client : ℕ) (a : Answer) (x' : CoreValue) : Type 0 where
   pub home : ℕ
   pub at_home : IsClientAt (plain_workload x.work) home client
-  pub made : IsMade (plain_workload x.work) x.book x.sites home (next_call x client) a x'.book x'.sites
+  pub made : IsCallMade (plain_workload x.work) x.book x.sites home (next_call x client) a x'.book x'.sites
   pub work : x'.work ≡ x.work
   pub counts : x'.counts ≡ slice_set x.counts client (suc (slice_index_or x.counts client 0))
 

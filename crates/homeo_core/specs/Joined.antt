@@ -8,7 +8,7 @@ use Rattle.homeo_history.specs.History.{Entry, Round, History}
 use Rattle.homeo_history.specs.Legal.{IsAtSites, base_or, AreSerial}
 use Rattle.homeo_history.specs.Replayed.{IsReplayed}
 use Rattle.homeo_site.specs.SiteState.{SiteState, SiteHolds}
-use Rattle.homeo_core.specs.Key.{words}
+use Rattle.homeo_core.specs.Key.{definitions}
 
 -- the closed rounds, and the base of the round after them
 pub record BookState : Type 0 where
@@ -44,32 +44,32 @@ pub record AreJoined (w : s.Workload) (start : List ℤ) (b : BookState) (sites 
 
 -- ---- the history
 abbrev pub segments_of : List SiteState → List (List Entry)
-unfolding words
+unfolding definitions
 segments_of sites = map (λ x. x.segment) sites
 
 -- the round that the sites are in
 abbrev pub open_round : List ℤ → List SiteState → Round
-unfolding words
+unfolding definitions
 open_round base sites = record { base = base; segments = segments_of sites; closing = None }
 
 -- values with deltas added to them, object by object
 abbrev pub plus_deltas : List ℤ → List ℤ → List ℤ
-unfolding words
+unfolding definitions
 plus_deltas [] deltas = []
 plus_deltas (v ∷ values) [] = v ∷ values
 plus_deltas (v ∷ values) (d ∷ deltas) = (v +ℤ d) ∷ plus_deltas values deltas
 
 -- a base with the deltas of these sites, one site after another
 abbrev pub gathered : List ℤ → List SiteState → List ℤ
-unfolding words
+unfolding definitions
 gathered base [] = base
 gathered base (x ∷ sites) = gathered (plus_deltas base x.deltas) sites
 
 abbrev pub rounds_of : BookState → List SiteState → List Round
-unfolding words
+unfolding definitions
 rounds_of b sites = b.closed ++ open_round b.base sites ∷ []
 
 -- the closed rounds, then the open one, which leaves its base with the deltas of all sites
 abbrev pub history_of : BookState → List SiteState → History
-unfolding words
+unfolding definitions
 history_of b sites = record { rounds = rounds_of b sites; last = gathered b.base sites }

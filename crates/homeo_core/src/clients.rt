@@ -19,7 +19,7 @@ pub fn site_count(w: &Accepted) -> u32
 }
 
 /// How many clients there are, 64 at most.
-#[tactic(auto, unfolding(homeo_syntax::specs::Key::words))]
+#[tactic(auto, unfolding(homeo_syntax::specs::Key::definitions))]
 pub fn client_count(w: &Accepted) -> u64
     ensures count { result ≡ length (plain_workload w.now).clients }
     ensures few { result ≤ 64 }
@@ -45,7 +45,7 @@ pub fn call_count(w: &Accepted, client: u32) -> u64
     client_of(w, client).calls.as_slice().len() as u64
 }
 
-#[tactic(auto, unfolding(homeo_syntax::specs::Key::words))]
+#[tactic(auto, unfolding(homeo_syntax::specs::Key::definitions))]
 fn client_of(w: &Accepted, client: u32) -> &Client
     requires exists { client < length (plain_workload w.now).clients }
     ensures found { slice_get (plain_workload w.now).clients client ≡ Some (plain_client result.now) }

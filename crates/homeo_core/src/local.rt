@@ -26,7 +26,7 @@ pub enum Tried {
 /// # Errors
 ///
 /// `Memory` when out of memory.
-#[tactic(auto, unfolding(homeo_site::specs::Key::words, crate::specs::Key::words))]
+#[tactic(auto, unfolding(homeo_site::specs::Key::definitions, crate::specs::Key::definitions))]
 pub fn try_call(alloc: Global, site: &mut Site, call: CallId) -> Result<Tried, Memory>
     requires { IsCallAt (plain_workload site.old.work) site.old.state.number call }
     ensures tried { IfOk result (IsTried (plain_workload site.old.work) site.old.state call) }

@@ -144,7 +144,7 @@ fn run_call(
 /// # Errors
 ///
 /// `Memory` when out of memory.
-#[tactic(auto, unfolding(homeo_build::specs::Key::words))]
+#[tactic(auto, unfolding(homeo_build::specs::Key::definitions))]
 pub fn plan_at(alloc: Global, c: &Compiled, base: &Database) -> Result<Arc<RoundPlan>, Memory>
     requires within { IsWithin (schema_of (plain_workload c.now)) base.now.items }
     ensures plan { IfOk result (λ p. IsPlanOf (plain_workload c.now) base.now.items p.value) }
@@ -155,7 +155,7 @@ pub fn plan_at(alloc: Global, c: &Compiled, base: &Database) -> Result<Arc<Round
 }
 
 /// The call that closes a round with these prints, and the answer to it.
-#[tactic(auto, using(homeo_history::proofs::HistoryViews::history_views), unfolding(homeo_history::specs::Key::words))]
+#[tactic(auto, using(homeo_history::proofs::HistoryViews::history_views), unfolding(homeo_history::specs::Key::definitions))]
 fn close_by(
     alloc: Global,
     w: &Accepted,

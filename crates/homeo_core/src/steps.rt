@@ -12,7 +12,7 @@ ghost use Rattle.homeo_build.specs.Plan.{IsPlanOf};
 ghost use Rattle.homeo_history.specs.Follows.{Follows};
 ghost use Rattle.homeo_history.specs.HistoryView.{plain_answer, plain_history};
 ghost use Rattle.homeo_history.specs.Legal.{IsCallAt, call_count, IsLegalFrom};
-ghost use Rattle.homeo_core.specs.CoreView.{begun_sites, core_at, core_history, start_of, next_call, GoesOnBy, IsMade, IsStep};
+ghost use Rattle.homeo_core.specs.CoreView.{begun_sites, core_at, core_history, start_of, next_call, GoesOnBy, IsCallMade, IsStep};
 ghost use Rattle.homeo_core.specs.Events.{OneMore};
 ghost use Rattle.homeo_core.specs.Joined.{AreJoined};
 ghost use Rattle.homeo_core.specs.Books.{book_of};
@@ -190,7 +190,7 @@ impl Core {
 }
 
 /// Makes a call at its site where it keeps the site's treaty, and else closes the round by it.
-#[tactic(auto, unfolding(crate::specs::Key::words))]
+#[tactic(auto, unfolding(crate::specs::Key::definitions))]
 fn make_call(
     alloc: Global,
     c: &Arc<Compiled>,
@@ -205,7 +205,7 @@ fn make_call(
     requires joined { let b = book_of closed.old.items base.old.items in
         AreJoined (plain_workload c.now.value) (start_of b) b (states sites.old) }
     requires at_home { IsCallAt (plain_workload c.now.value) home call }
-    ensures made { IfOk result (λ a. IsMade (plain_workload c.now.value) (book_of closed.old.items base.old.items) (states sites.old)
+    ensures made { IfOk result (λ a. IsCallMade (plain_workload c.now.value) (book_of closed.old.items base.old.items) (states sites.old)
         home call (plain_answer a) (book_of closed.new.items base.new.items) (states sites.new)) }
     ensures of { AreOf c.now.value sites.new }
     ensures unclosed { OnErr result (closed.new.items ≡ closed.old.items) }

@@ -5,13 +5,13 @@ use Rattle.std.specs.List.{range_with_len}
 use Rattle.std.proofs.lemmas.Bool.Decides.{nat_tests}
 use Rattle.std.proofs.lemmas.List.Elements.{filter-append}
 use Rattle.std.proofs.lemmas.List.FromFn.{map-range_with_len_more}
-use Rattle.homeo_syntax.specs.Key.{words as tree_words}
+use Rattle.homeo_syntax.specs.Key.{definitions as syntax_definitions}
 use Rattle.homeo_syntax.specs.LowView.{low_exprs, plain_lexpr}
 use Rattle.homeo_syntax.specs.Low as l
 use Rattle.homeo_syntax.specs.declared.low.SplitName.TheVariants.{Whole, Base, Delta}
 use Rattle.homeo_syntax.specs.declared.low.LExpr.{LExpr, Read}
 use Rattle.homeo_syntax.proofs.LowViews.{low_Sum, low_Read, low_Write}
-use Rattle.homeo_plan.specs.Key.{words}
+use Rattle.homeo_plan.specs.Key.{definitions}
 use Rattle.homeo_plan.specs.Split.{delta_reads, shift_read, other_deltas, shift_write}
 
 -- ---- reads
@@ -19,21 +19,21 @@ abbrev pub delta_at : ℕ → ℕ → l.Expr
 delta_at x m = l.Read (Delta x m)
 
 delta_reads_are : (x j n : ℕ) → delta_reads x j n ≡ low_exprs (map (delta_at x) (range_with_len j n))
-unfolding words tree_words
+unfolding definitions syntax_definitions
 delta_reads_are x j zero = refl
 delta_reads_are x j (suc n) =
     ap (l.MoreExpr (delta_at x j)) (delta_reads_are x (suc j) n ∙ ap (λ i. low_exprs (map (delta_at x) (range_with_len i n))) (sym (add-one j)))
 
 pub read_Whole : (k x : ℕ) → shift_read k (Whole x) ≡ l.Sum (low_exprs (l.Read (Base x) ∷ map (delta_at x) (range_with_len 0 k)))
-unfolding words tree_words
+unfolding definitions syntax_definitions
 read_Whole k x = ap (λ es. l.Sum (l.MoreExpr (l.Read (Base x)) es)) (delta_reads_are x 0 k)
 
 pub read_Base : (k x : ℕ) → shift_read k (Base x) ≡ l.Read (Base x)
-unfolding words
+unfolding definitions
 read_Base k x = refl
 
 pub read_Delta : (k x j : ℕ) → shift_read k (Delta x j) ≡ l.Read (Delta x j)
-unfolding words
+unfolding definitions
 read_Delta k x j = refl
 
 pub ruleset reads = (low_Sum, low_Read, read_Whole, read_Base, read_Delta)
@@ -56,7 +56,7 @@ abbrev pub others : ℕ → ℕ → ℕ → List ℕ
 others i j n = filter (λ m. not (i == m)) (range_with_len j n)
 
 others_are : (i x j n : ℕ) → other_deltas i x j n ≡ low_exprs (map (minus_delta x) (others i j n))
-unfolding words tree_words
+unfolding definitions syntax_definitions
 others_are i x j zero = refl
 others_are i x j (suc n) = go (i == j) (others_are i x (suc j) n ∙ ap (λ m. low_exprs (map (minus_delta x) (others i m n))) (sym (add-one j)))
   where
@@ -70,15 +70,15 @@ others_are i x j (suc n) = go (i == j) (others_are i x (suc j) n ∙ ap (λ m. l
 pub write_Whole :
     (k i x : ℕ) (e : l.Expr) → shift_write k i (Whole x) e ≡
     l.Write (Delta x i) (l.Sum (low_exprs (e ∷ l.Neg (l.Read (Base x)) ∷ map (minus_delta x) (others i 0 k))))
-unfolding words tree_words
+unfolding definitions syntax_definitions
 write_Whole k i x e = ap (λ es. l.Write (Delta x i) (l.Sum (l.MoreExpr e (l.MoreExpr (l.Neg (l.Read (Base x))) es)))) (others_are i x 0 k)
 
 pub write_Base : (k i x : ℕ) (e : l.Expr) → shift_write k i (Base x) e ≡ l.Write (Base x) e
-unfolding words
+unfolding definitions
 write_Base k i x e = refl
 
 pub write_Delta : (k i x j : ℕ) (e : l.Expr) → shift_write k i (Delta x j) e ≡ l.Write (Delta x j) e
-unfolding words
+unfolding definitions
 write_Delta k i x j e = refl
 
 pub ruleset writes = (low_Sum, low_Write, write_Whole, write_Base, write_Delta)

@@ -4,20 +4,20 @@ use Rattle.std.proofs.lemmas.Int.{ints, to_z-of_z}
 use Rattle.std.proofs.lemmas.List.{get_or-map, get_or_past}
 use mathlib.Core.Path.{fun_ext}
 use Rattle.homeo_syntax.specs.Listed.{Listed}
-use Rattle.homeo_meaning.specs.Key.{words as meaning_words}
+use Rattle.homeo_meaning.specs.Key.{definitions as meaning_definitions}
 use Rattle.homeo_meaning.specs.LowMeaning.{Location, TempAt, BaseAt, DeltaAt, whole}
 use Rattle.homeo_meaning.specs.Serial.{values_of, values_from}
-use Rattle.homeo_plan.specs.Key.{words}
+use Rattle.homeo_plan.specs.Key.{definitions}
 use Rattle.homeo_plan.specs.Split.{sum_from, fold_state}
 use Rattle.homeo_plan.proofs.Sums.{sum_same, sum_zero}
 use Rattle.homeo_syntax.specs.declared.low.Temp.TheVariants.{Named, Fresh}
-use Rattle.homeo_split.specs.Key.{words as split_words}
+use Rattle.homeo_split.specs.Key.{definitions as split_definitions}
 use Rattle.homeo_split.specs.States.{state_of}
 use Rattle.homeo_split.specs.declared.split.Split.{Split}
 use Rattle.homeo_delta.specs.Folding.{folded_of, folded_at, folded, SumsFit, HasNoOtherDeltas}
 
 sum_last : (j n : ℕ) (f : ℕ → ℤ) → sum_from j (suc n) f ≡ sum_from j n f +ℤ f (j + n)
-unfolding words
+unfolding definitions
 sum_last j zero f = let here : j + 0 ≡ j = omega arith in omega (arith, ints, ap f here)
 sum_last j (suc n) f =
     let here : suc j + n ≡ j + suc n = omega arith in
@@ -30,7 +30,7 @@ regrouped a b c d e = omega (arith, ints, e)
 one_more_site :
     (s : Split) (k x : ℕ) (d : Listed ℤ) → d ≡ get_or s.deltas.items k d → k < length s.deltas.items →
     folded_of s (k + 1) x ≡ folded_of s k x +ℤ get_or d.items x (pos 0)
-unfolding words split_words
+unfolding definitions split_definitions
 one_more_site s k x d is lt =
     let on : k + 1 ≡ suc k = omega arith in
     let here : 0 + k ≡ k = omega arith in
@@ -42,7 +42,7 @@ one_more_site s k x d is lt =
     ∙ regrouped (state_of s (BaseAt x)) (sum_from 0 k f) (f (0 + k)) _ delta_is
 
 no_site : (s : Split) (x : ℕ) → get_or s.base.items x (pos 0) ≡ folded_of s 0 x
-unfolding words split_words
+unfolding definitions split_definitions
 no_site s x = omega (arith, ints)
 
 -- what the code's numbers are
@@ -79,7 +79,7 @@ one_more_object n f =
     ap (λ m. values_from 0 m f) on ∙ values_last 0 n f ∙ ap (λ m. values_from 0 n f ++ f m ∷ []) here
 
 pub all_objects : (s : Split) → folded s ≡ values_from 0 (length s.base.items) (folded_at s)
-unfolding meaning_words
+unfolding meaning_definitions
 all_objects s = refl
 
 -- the values from k on, where past n of them there is 0
@@ -92,7 +92,7 @@ values_are k (suc n) (suc x) f h =
     values_are (suc k) n x f (λ y le. ap f (next y) ∙ h (suc y) (omega arith)) ∙ ap f (next x)
 
 nothing_past : (s : Split) → HasNoOtherDeltas s → (x : ℕ) → length s.base.items ≤ x → folded_at s x ≡ pos 0
-unfolding words split_words
+unfolding definitions split_definitions
 nothing_past s none x le =
     let k = length s.deltas.items in
     let deltas : sum_from 0 k (λ j. state_of s (DeltaAt x j)) ≡ pos 0 = sum_same 0 k _ _ (λ j. none x j le) ∙ sum_zero 0 k in
@@ -100,7 +100,7 @@ nothing_past s none x le =
 
 -- as a state
 pub whole_fold : (s : Split) → HasNoOtherDeltas s → whole (values_of (folded s)) ≡ fold_state (length s.deltas.items) (state_of s)
-unfolding words meaning_words split_words
+unfolding definitions meaning_definitions split_definitions
 whole_fold s none = fun_ext at
   where
     value_at : (x : ℕ) → get_or (values_from 0 (length s.base.items) (folded_at s)) x (pos 0) ≡ folded_at s x

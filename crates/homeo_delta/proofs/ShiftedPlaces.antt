@@ -4,17 +4,17 @@ use Rattle.std.specs.Prelude.{slice_index_or}
 use Rattle.std.proofs.lemmas.Bool.Decides.{nat_tests}
 use Rattle.homeo_syntax.specs.declared.low.SplitName.TheVariants.{Whole, Base, Delta}
 use Rattle.homeo_syntax.specs.Low.{Command, Commands, Skip, Assign, Write, Print, Seq, If, NoCommand, MoreCommand}
-use Rattle.homeo_meaning.specs.Key.{words as meaning_words}
+use Rattle.homeo_meaning.specs.Key.{definitions as meaning_definitions}
 use Rattle.homeo_meaning.specs.NamesWithin.{NamesWithin, AllNamesWithin}
 use Rattle.homeo_meaning.specs.Whole.{IsWhole, AreWhole}
-use Rattle.homeo_plan.specs.Key.{words}
+use Rattle.homeo_plan.specs.Key.{definitions}
 use Rattle.homeo_plan.specs.Split.{shift, shift_all}
-use Rattle.homeo_split.specs.Key.{words as split_words}
+use Rattle.homeo_split.specs.Key.{definitions as split_definitions}
 use Rattle.homeo_split.specs.Shape.{Shape, has_places, has_places_all}
 
 module _ (objects names : ℕ) (h : Shape) (k i : ℕ) (enough : objects ≤ slice_index_or h.deltas i 0) where
   mutual
-    unfolding words meaning_words split_words
+    unfolding definitions meaning_definitions split_definitions
 
     places_there : (c : Command) → IsWhole c → NamesWithin objects names c → has_places h (shift k i c) ≡ true
     places_there Skip is within = refl

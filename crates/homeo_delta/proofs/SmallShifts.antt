@@ -3,15 +3,15 @@ use Rattle.std.proofs.Common.{◌≡◌, ℕ, ◌+◌, ◌*◌, ◌<◌, ◌≤�
 use Rattle.std.specs.Int.RustNames.{unsigned_abs}
 use Rattle.homeo_syntax.specs.declared.low.SplitName.TheVariants.{Whole, Base, Delta}
 use Rattle.homeo_syntax.specs.Low.{Expr, Exprs, Literal, OfTemp, Read, Sum, Product, Neg, NoExpr, MoreExpr, Test, Cond, True, Not, Comparison, NoTest, MoreTest, Command, Commands, Skip, Assign, Write, Print, Seq, If, NoCommand, MoreCommand}
-use Rattle.homeo_meaning.specs.Key.{words as meaning_words}
+use Rattle.homeo_meaning.specs.Key.{definitions as meaning_definitions}
 use Rattle.homeo_meaning.specs.LowComputed.{CanValue, CanSum, CanProduct, CanPass, CanHold, CanRun, CanRunAll}
 use Rattle.homeo_meaning.specs.LowMeaning.{TempAt, BaseAt, DeltaAt, State, value, passes, holds, exec}
 use Rattle.homeo_meaning.specs.Small.{IsSmall, is_small}
 use Rattle.homeo_meaning.specs.Whole.{IsWholeExpr, AreWholeExprs, IsWholeTest, IsWholeCond, IsWhole, AreWhole}
-use Rattle.homeo_plan.specs.Key.{words}
+use Rattle.homeo_plan.specs.Key.{definitions}
 use Rattle.homeo_plan.specs.Split.{fold_state, shift_expr, shift_exprs, shift_test, shift_cond, shift, shift_all}
 use Rattle.homeo_plan.proofs.Shift.{value_shift, shift_follows}
-use Rattle.homeo_split.specs.Key.{words as split_words}
+use Rattle.homeo_split.specs.Key.{definitions as split_definitions}
 use Rattle.homeo_split.specs.CanExec.{run_limit, expr_fits, sum_fits, product_fits, test_fits, cond_fits, can_exec, can_exec_all}
 use Rattle.homeo_delta.specs.SmallParts.{HasSmallParts}
 use Rattle.homeo_delta.proofs.SmallSites.{both, fits, read_fits, write_fits}
@@ -26,7 +26,7 @@ module _ (k i a b : ℕ) (site : i < k) (some : 1 ≤ b) where
   parts_stay_small :
       (c : Command) (s : State) → IsWhole c → HasSmallParts k i a b s → CanRun (IsSmall b) (IsSmall b) c (fold_state k s) →
       HasSmallParts k i a b (exec (shift k i c) s).state
-  unfolding words meaning_words
+  unfolding definitions meaning_definitions
   parts_stay_small c s w h r =
       let f = shift_follows k i site c s w in
       record {
@@ -41,7 +41,7 @@ module _ (k i a b : ℕ) (site : i < k) (some : 1 ≤ b) where
     met v h = fits k i a b site within v (omega arith)
 
     mutual
-      unfolding words meaning_words split_words
+      unfolding definitions meaning_definitions split_definitions
 
       value_fits : (e : Expr) (s : State) → HasSmallParts k i a b s → IsWholeExpr e → CanValue (IsSmall b) (IsSmall b) e (fold_state k s) → expr_fits run_limit (shift_expr k e) s ≡ true
       value_fits (Literal n) s h w c = met n c
@@ -76,7 +76,7 @@ module _ (k i a b : ℕ) (site : i < k) (some : 1 ≤ b) where
           (factors_fit es (n *ℤ value e (fold_state k s)) s h w.1 (met (n *ℤ value e (fold_state k s)) c.1) c.2)))
 
     mutual
-      unfolding words meaning_words split_words
+      unfolding definitions meaning_definitions split_definitions
 
       pass_fits : (t : Test) (s : State) → HasSmallParts k i a b s → IsWholeTest t → CanPass (IsSmall b) (IsSmall b) t (fold_state k s) → test_fits run_limit (shift_test k t) s ≡ true
       pass_fits True s h w c = refl
@@ -90,7 +90,7 @@ module _ (k i a b : ℕ) (site : i < k) (some : 1 ≤ b) where
 
     -- ---- commands
     mutual
-      unfolding words meaning_words split_words
+      unfolding definitions meaning_definitions split_definitions
 
       run_fits : (c : Command) (s : State) → HasSmallParts k i a b s → IsWhole c → CanRun (IsSmall b) (IsSmall b) c (fold_state k s) → can_exec run_limit (shift k i c) s ≡ true
       run_fits Skip s h w r = refl

@@ -6,12 +6,12 @@ use Rattle.std.proofs.lemmas.Nat.{mul-le}
 use Rattle.std.proofs.lemmas.Bool.Decides.{nat_tests}
 use Rattle.homeo_syntax.specs.declared.low.SplitName.TheVariants.{Whole, Base, Delta}
 use Rattle.homeo_syntax.specs.Low.{Expr, Exprs, Read, Sum, Neg, MoreExpr}
-use Rattle.homeo_meaning.specs.Key.{words as meaning_words}
+use Rattle.homeo_meaning.specs.Key.{definitions as meaning_definitions}
 use Rattle.homeo_meaning.specs.LowMeaning.{BaseAt, DeltaAt, State, value}
 use Rattle.homeo_meaning.specs.Small.{is_small}
-use Rattle.homeo_plan.specs.Key.{words}
+use Rattle.homeo_plan.specs.Key.{definitions}
 use Rattle.homeo_plan.specs.Split.{sum_from, delta_reads, other_deltas, shift_read}
-use Rattle.homeo_split.specs.Key.{words as split_words}
+use Rattle.homeo_split.specs.Key.{definitions as split_definitions}
 use Rattle.homeo_split.specs.CanExec.{run_limit, expr_fits, sum_fits}
 use Rattle.homeo_delta.specs.SmallParts.{HasSmallParts}
 use Rattle.homeo_delta.proofs.SmallSums.{abs_add, abs_part, sum_small}
@@ -29,7 +29,7 @@ both e f = ap₂ ◌&&◌ e f
 
 module _ (k i a b : ℕ) (site : i < k) (within : b + k * a ≤ run_limit) where
   pub fits : (v : ℤ) → unsigned_abs v ≤ b + k * a → is_small run_limit v ≡ true
-  unfolding meaning_words
+  unfolding meaning_definitions
   fits v h =
       let small : unsigned_abs v ≤ run_limit = omega arith in
       grind (arith, nat_tests, small)
@@ -39,29 +39,29 @@ module _ (k i a b : ℕ) (site : i < k) (within : b + k * a ≤ run_limit) where
 
   module _ (s : State) (h : HasSmallParts k i a b s) (x : ℕ) where
     base_small : unsigned_abs (s (BaseAt x)) ≤ a
-    unfolding meaning_words
+    unfolding meaning_definitions
     base_small = h.bases x
 
     total_small : unsigned_abs (s (BaseAt x) +ℤ sum_from 0 k (λ l. s (DeltaAt x l))) ≤ b
-    unfolding words meaning_words
+    unfolding definitions meaning_definitions
     total_small = h.fold x
 
     other_small : (l : ℕ) → l < k → i ≢ l → unsigned_abs (s (DeltaAt x l)) ≤ a
-    unfolding meaning_words
+    unfolding meaning_definitions
     other_small l lt apart = h.others x l lt apart
 
     -- ---- a read
     one_read :
         (j : ℕ) (p : ℤ) (es : Exprs) → unsigned_abs p ≤ b + k * a → unsigned_abs (s (DeltaAt x j)) ≤ b + k * a →
         sum_fits run_limit (p +ℤ s (DeltaAt x j)) es s ≡ true → sum_fits run_limit p (MoreExpr (Read (Delta x j)) es) s ≡ true
-    unfolding words meaning_words split_words
+    unfolding definitions meaning_definitions split_definitions
     one_read j p es sum delta rest = both (fits p sum) (both (fits (s (DeltaAt x j)) delta) rest)
 
     -- the sum so far has the own delta, and those from site j on are still to be added
     reads_past_own :
         (n j : ℕ) (p : ℤ) → i < j → j + n ≤ k → unsigned_abs (p +ℤ sum_from j n (λ l. s (DeltaAt x l))) ≤ b →
         sum_fits run_limit p (delta_reads x j n) s ≡ true
-    unfolding words meaning_words split_words
+    unfolding definitions meaning_definitions split_definitions
     reads_past_own zero j p past le total =
         let same : p +ℤ pos 0 ≡ p = omega (arith, ints) in
         let here : unsigned_abs p ≤ b = subst (λ v. unsigned_abs v ≤ b) same total in
@@ -81,7 +81,7 @@ module _ (k i a b : ℕ) (site : i < k) (within : b + k * a ≤ run_limit) where
     reads_up_to_own :
         (n j q : ℕ) (p : ℤ) → j ≤ i → i < j + n → j + n ≤ k → unsigned_abs p ≤ q → q + n * a ≤ a + k * a →
         unsigned_abs (p +ℤ sum_from j n (λ l. s (DeltaAt x l))) ≤ b → sum_fits run_limit p (delta_reads x j n) s ≡ true
-    unfolding words meaning_words split_words
+    unfolding definitions meaning_definitions split_definitions
     reads_up_to_own zero j q p up lt le small room total = absurd (never up lt)
       where
         never : j ≤ i → i < j + 0 → ⊥
@@ -118,7 +118,7 @@ module _ (k i a b : ℕ) (site : i < k) (within : b + k * a ≤ run_limit) where
             (ih before (omega (arith, small, abs_add p (s (DeltaAt x j)))))
 
     pub read_fits : expr_fits run_limit (shift_read k (Whole x)) s ≡ true
-    unfolding words meaning_words split_words
+    unfolding definitions meaning_definitions split_definitions
     read_fits =
         let none : pos 0 +ℤ s (BaseAt x) ≡ s (BaseAt x) = omega (arith, ints) in
         let start : unsigned_abs (pos 0 +ℤ s (BaseAt x)) ≤ a = subst (λ v. unsigned_abs v ≤ a) (sym none) base_small in
@@ -133,7 +133,7 @@ module _ (k i a b : ℕ) (site : i < k) (within : b + k * a ≤ run_limit) where
         (j q : ℕ) (p : ℤ) (es : Exprs) → j < k → i ≢ j → unsigned_abs p ≤ q → q ≤ b + k * a →
         (unsigned_abs (p +ℤ neg_ℤ (s (DeltaAt x j))) ≤ q + a → sum_fits run_limit (p +ℤ neg_ℤ (s (DeltaAt x j))) es s ≡ true) →
         sum_fits run_limit p (MoreExpr (Neg (Read (Delta x j))) es) s ≡ true
-    unfolding words meaning_words split_words
+    unfolding definitions meaning_definitions split_definitions
     one_taken j q p es lt apart small room rest =
         let delta : unsigned_abs (s (DeltaAt x j)) ≤ a = other_small j lt apart in
         let size : unsigned_abs (neg_ℤ (s (DeltaAt x j))) ≡ unsigned_abs (s (DeltaAt x j)) = abs_neg (s (DeltaAt x j)) in
@@ -145,7 +145,7 @@ module _ (k i a b : ℕ) (site : i < k) (within : b + k * a ≤ run_limit) where
     taken_past_own :
         (n j q : ℕ) (p : ℤ) → i < j → j + n ≤ k → unsigned_abs p ≤ q → q + n * a ≤ b + k * a →
         sum_fits run_limit p (other_deltas i x j n) s ≡ true
-    unfolding words meaning_words split_words
+    unfolding definitions meaning_definitions split_definitions
     taken_past_own zero j q p past le small room = fits p (omega (arith, small, room))
     taken_past_own (suc n) j q p past le small room =
         let other : (i == j) ≡ false = grind (arith, nat_tests, past) in
@@ -158,7 +158,7 @@ module _ (k i a b : ℕ) (site : i < k) (within : b + k * a ≤ run_limit) where
     taken_up_to_own :
         (n j q : ℕ) (p : ℤ) → j ≤ i → i < j + n → j + n ≤ k → unsigned_abs p ≤ q → q + n * a ≤ (b + a) + k * a →
         sum_fits run_limit p (other_deltas i x j n) s ≡ true
-    unfolding words meaning_words split_words
+    unfolding definitions meaning_definitions split_definitions
     taken_up_to_own zero j q p up lt le small room = absurd (never up lt)
       where
         never : j ≤ i → i < j + 0 → ⊥
@@ -185,7 +185,7 @@ module _ (k i a b : ℕ) (site : i < k) (within : b + k * a ≤ run_limit) where
     pub write_fits :
         (e : Expr) → expr_fits run_limit e s ≡ true → unsigned_abs (value e s) ≤ b →
         expr_fits run_limit (Sum (MoreExpr e (MoreExpr (Neg (Read (Base x))) (other_deltas i x 0 k)))) s ≡ true
-    unfolding words meaning_words split_words
+    unfolding definitions meaning_definitions split_definitions
     write_fits e fit small =
         let base : unsigned_abs (s (BaseAt x)) ≤ a = base_small in
         let size : unsigned_abs (neg_ℤ (s (BaseAt x))) ≡ unsigned_abs (s (BaseAt x)) = abs_neg (s (BaseAt x)) in

@@ -4,9 +4,9 @@ use Rattle.std.specs.Int.RustNames.{unsigned_abs}
 use Rattle.std.proofs.lemmas.Int.{ints, fits_signed_from_abs}
 use Rattle.std.proofs.lemmas.Nat.{mul-le}
 use Rattle.std.proofs.lemmas.Bool.Decides.{nat_tests}
-use Rattle.homeo_meaning.specs.Key.{words as meaning_words}
+use Rattle.homeo_meaning.specs.Key.{definitions as meaning_definitions}
 use Rattle.homeo_meaning.specs.LowMeaning.{BaseAt, DeltaAt, State}
-use Rattle.homeo_plan.specs.Key.{words}
+use Rattle.homeo_plan.specs.Key.{definitions}
 use Rattle.homeo_plan.specs.Split.{sum_from, fold_state}
 use Rattle.homeo_split.specs.CanExec.{run_limit}
 use Rattle.homeo_split.specs.States.{state_of}
@@ -23,7 +23,7 @@ abs_part x y = grind (arith, ints)
 
 pub sum_small :
     (a : ℕ) (f : ℕ → ℤ) (j n : ℕ) → ((l : ℕ) → j ≤ l → l < j + n → unsigned_abs (f l) ≤ a) → unsigned_abs (sum_from j n f) ≤ n * a
-unfolding words
+unfolding definitions
 sum_small a f j zero h = omega arith
 sum_small a f j (suc n) h =
     let here : unsigned_abs (f j) ≤ a = h j (omega arith) (omega arith) in
@@ -31,7 +31,7 @@ sum_small a f j (suc n) h =
     omega (arith, abs_add (f j) (sum_from (suc j) n f))
 
 sum_split : (f : ℕ → ℤ) (j n l : ℕ) → sum_from j (n + l) f ≡ sum_from j n f +ℤ sum_from (j + n) l f
-unfolding words
+unfolding definitions
 sum_split f j zero l =
     let none : 0 + l ≡ l = omega arith in
     let here : j ≡ j + 0 = omega arith in
@@ -43,20 +43,20 @@ sum_split f j (suc n) l =
 
 module _ (k i a b : ℕ) (site : i < k) (s : State) (small : HasSmallParts k i a b s) (x : ℕ) where
   base_small : unsigned_abs (s (BaseAt x)) ≤ a
-  unfolding meaning_words
+  unfolding meaning_definitions
   base_small = small.bases x
 
   fold_small : unsigned_abs (fold_state k s (BaseAt x)) ≤ b
-  unfolding meaning_words
+  unfolding meaning_definitions
   fold_small = small.fold x
 
   other_small : (l : ℕ) → l < k → i ≢ l → unsigned_abs (s (DeltaAt x l)) ≤ a
-  unfolding meaning_words
+  unfolding meaning_definitions
   other_small l lt apart = small.others x l lt apart
 
   -- the own delta isn't among them yet
   below_own : (n : ℕ) → n ≤ i → unsigned_abs (fold_state n s (BaseAt x)) ≤ b + k * a
-  unfolding words
+  unfolding definitions
   below_own n le =
       let rest : unsigned_abs (sum_from 0 n (λ l. s (DeltaAt x l))) ≤ n * a =
       sum_small a (λ l. s (DeltaAt x l)) 0 n (λ l r t. other_small l (omega arith) (omega arith)) in
@@ -66,7 +66,7 @@ module _ (k i a b : ℕ) (site : i < k) (s : State) (small : HasSmallParts k i a
 
   -- the fold lacks the deltas of some other sites
   past_own : (n l : ℕ) → i < n → n + l ≡ k → unsigned_abs (fold_state n s (BaseAt x)) ≤ b + k * a
-  unfolding words
+  unfolding definitions
   past_own n l lt all =
       let rest : unsigned_abs (sum_from n l (λ m. s (DeltaAt x m))) ≤ l * a =
       sum_small a (λ m. s (DeltaAt x m)) n l (λ m r t. other_small m (omega arith) (omega arith)) in

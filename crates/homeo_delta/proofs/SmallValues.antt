@@ -3,7 +3,7 @@ use Rattle.std.proofs.Common.{ℕ, ◌≤◌, ◌==◌, Bool, true, false, cond,
 use Rattle.std.specs.Int.RustNames.{unsigned_abs}
 use Rattle.homeo_syntax.specs.declared.low.SplitName.TheVariants.{Whole, Base, Delta}
 use Rattle.homeo_syntax.specs.Low.{Expr, Exprs, Literal, OfTemp, Read, Sum, Product, Neg, NoExpr, MoreExpr, Command, Commands, Skip, Assign, Write, Print, Seq, If, NoCommand, MoreCommand}
-use Rattle.homeo_meaning.specs.Key.{words}
+use Rattle.homeo_meaning.specs.Key.{definitions}
 use Rattle.homeo_meaning.specs.LowComputed.{CanValue, CanSum, CanProduct, CanRun, CanRunAll}
 use Rattle.homeo_meaning.specs.LowMeaning.{BaseAt, State, Run, value, sum_value, product_value, holds, exec, exec_all}
 use Rattle.homeo_meaning.specs.Small.{IsSmall}
@@ -11,7 +11,7 @@ use Rattle.homeo_meaning.specs.Whole.{IsWhole, AreWhole}
 
 module _ (b : ℕ) (some : 1 ≤ b) where
   mutual
-    unfolding words
+    unfolding definitions
 
     pub value_small : (e : Expr) (u : State) → CanValue (IsSmall b) (IsSmall b) e u → unsigned_abs (value e u) ≤ b
     value_small (Literal n) u c = c
@@ -39,7 +39,7 @@ module _ (b : ℕ) (some : 1 ≤ b) where
   written_small false new old h g = g
 
   mutual
-    unfolding words
+    unfolding definitions
 
     pub objects_small :
         (c : Command) (u : State) → IsWhole c → ((x : ℕ) → unsigned_abs (u (BaseAt x)) ≤ b) → CanRun (IsSmall b) (IsSmall b) c u →

@@ -2,7 +2,7 @@
 use Rattle.std.proofs.Common.{◌≡◌, ℕ, zero, suc, ◌+◌, ◌*◌, ◌<◌, ◌≤◌, ◌==◌, Bool, true, false, cond, All, ℤ, Some, List, [], ◌∷◌, map, length, sym, ap, ◌∙◌, subst, arith}
 use Rattle.std.specs.Prelude.{slice_get, IsSome}
 use Rattle.std.proofs.lemmas.Bool.{false≢true}
-use Rattle.homeo_syntax.specs.Key.{words as tree_words}
+use Rattle.homeo_syntax.specs.Key.{definitions as syntax_definitions}
 use Rattle.homeo_syntax.specs.Source as s
 use Rattle.homeo_syntax.specs.Low as L
 use Rattle.homeo_syntax.specs.SourceView.{commands, plain_command, plain_transaction, plain_workload}
@@ -10,7 +10,7 @@ use Rattle.homeo_syntax.specs.declared.command.Command.{Command}
 use Rattle.homeo_syntax.specs.declared.workload.RangeDecl.{RangeDecl}
 use Rattle.homeo_syntax.specs.declared.workload.Transaction.{Transaction}
 use Rattle.homeo_syntax.specs.declared.workload.Workload.{Workload}
-use Rattle.homeo_meaning.specs.Key.{words}
+use Rattle.homeo_meaning.specs.Key.{definitions}
 use Rattle.homeo_meaning.specs.Acceptance.{IsAccepted}
 use Rattle.homeo_meaning.specs.Context.{Context, context, arguments_of, object_count, find_fields}
 use Rattle.homeo_meaning.specs.Declarations.{Declarations}
@@ -26,7 +26,7 @@ use Rattle.homeo_meaning.specs.declared.call.Purpose.TheVariants.{Run}
 use Rattle.homeo_meaning.proofs.FaultParts.{parts}
 use Rattle.homeo_meaning.proofs.SoundRelations.{SlotsFit, slots-fit, objects-fit}
 use Rattle.homeo_meaning.proofs.SoundRules.{all_head, all_tail}
-use Rattle.homeo_desugar.specs.inner.Key.{words as desugar_words}
+use Rattle.homeo_desugar.specs.inner.Key.{definitions as desugar_definitions}
 use Rattle.homeo_meaning.specs.CallForm.{body_form, ground_form}
 use Rattle.homeo_desugar.specs.inner.Made.{AreFormed}
 use Rattle.homeo_desugar.specs.inner.Settings.{absent, SchemaFits}
@@ -39,7 +39,7 @@ in_list (t ∷ ts) zero h = omega arith
 in_list (t ∷ ts) (suc n) h = omega (arith, in_list ts n h)
 
 pub number_within : (w : Workload) (ts : List Transaction) (n : ℕ) → ts ≡ w.transactions.items → IsSome (slice_get (plain_workload w).transactions n) → n < length ts
-unfolding tree_words
+unfolding syntax_definitions
 number_within w ts n e h = in_list ts n (subst (λ l. IsSome (slice_get (map plain_transaction l) n)) (sym e) h)
 
 -- ---- the schema of a workload
@@ -53,7 +53,7 @@ fewer k slots fields most h e =
     times a b w h = grind arith
 
 few_fields : (k : ℕ) (rs : List Relation) (n : ℕ) → All SlotsFit rs → object_count k rs ≤ 1024 → length (find_fields rs n) ≤ 1024
-unfolding words
+unfolding definitions
 few_fields k [] n each few = omega arith
 few_fields k (r ∷ rs) n each few =
     let first : SlotsFit r = all_head SlotsFit r rs each in
@@ -80,19 +80,19 @@ schema_fits w x e accepted =
 -- the frame of a body is the context of its call
 pub frame_context : (d : Declarations) (given : List Argument) (past : ℕ) → past ≡ object_count (length d.schema.objects) d.schema.relations →
     record { schema = d.schema; arguments = (call_context d given).arguments; rows = λ n. absent past } ≡ call_context d given
-unfolding words desugar_words
+unfolding definitions desugar_definitions
 frame_context d given past e = λ i. record { schema = d.schema; arguments = (call_context d given).arguments; rows = λ n. absent (e i) }
 
 -- a body that can't end its call
 pub plain_body : (x y : Context) (body : s.Commands) (after : ℕ) (made : L.Commands) → y ≡ x → hold_abort body ≡ false → AreFormed after (forms y false body 0) made → L.Seq made ≡ body_by (hold_abort body) x body
-unfolding words
+unfolding definitions
 plain_body x y body after made e none formed =
     ap L.Seq (formed.commands ∙ ap (λ z. (forms z false body 0).commands) e) ∙ sym (ap (λ v. body_by v x body) none)
 
 -- one that can: its objects are found in its form, and saved before it
 pub undone_body : (x y : Context) (body : s.Commands) (first after : ℕ) (plain made : L.Commands) (saved : List ℕ) (r : L.Command) → y ≡ x → hold_abort body ≡ true → AreFormed first (forms y false body 0) plain → saved ≡ all_written plain [] →
     AreFormed after (forms y false body (1 + length saved)) made → r ≡ undoing saved made → r ≡ body_by (hold_abort body) x body
-unfolding words
+unfolding definitions
 undone_body x y body first after plain made saved r e some found is formed undone =
     let same : saved ≡ saved_in x body = is ∙ ap (λ p. all_written p []) (found.commands ∙ ap (λ z. (forms z false body 0).commands) e) in
     undone
@@ -103,7 +103,7 @@ undone_body x y body first after plain made saved r e some found is formed undon
 pub transaction_formed : (t : Transaction) (d : Declarations) (bound given : List Argument) (params : List RangeDecl) (args : List ℤ) (body : List Command) (r : L.Command) → params ≡ t.params.items → body ≡ t.body.items → given ≡ bound →
     arguments_of (map (λ a. a.name) bound) (map (λ a. a.value) bound) ≡ arguments_of (map (λ p. p.name.name) params) args → r ≡ body_by (hold_abort (commands (map plain_command body))) (call_context d given) (commands (map plain_command body)) →
     r ≡ l_form d.schema (map (λ p. p.name.name) t.params.items) args (plain_transaction t).body
-unfolding words tree_words desugar_words
+unfolding definitions syntax_definitions desugar_definitions
 transaction_formed t d bound given params args body r p b g a formed =
     let form : Context → List Command → L.Command = λ x cs. body_by (hold_abort (commands (map plain_command cs))) x (commands (map plain_command cs)) in
     formed
@@ -114,7 +114,7 @@ transaction_formed t d bound given params args body r p b g a formed =
 -- what a ground call calls
 pub call_formed : (w own : Workload) (g : Ground) (t : Transaction) (x : Schema) (args : List ℤ) (r : L.Command) → own ≡ w → slice_get (plain_workload own).transactions g.transaction ≡ Some (plain_transaction t) → x ≡ schema_of (plain_workload w) → args ≡ g.args →
     r ≡ l_form x (map (λ p. p.name.name) t.params.items) args (plain_transaction t).body → r ≡ ground_form (plain_workload w) g
-unfolding words desugar_words tree_words
+unfolding definitions desugar_definitions syntax_definitions
 call_formed w own g t x args r e at o a is =
     let here : slice_get (plain_workload w).transactions g.transaction ≡ Some (plain_transaction t) = ap (λ w. slice_get (plain_workload w).transactions g.transaction) (sym e) ∙ at in
     let form : Schema → List ℤ → s.Transaction → L.Command = λ x args t. l_form x (map (λ p. p.name.name) t.params) args t.body in

@@ -2,14 +2,14 @@
 use Rattle.std.proofs.Common.{◌≡◌, ℕ, suc, ◌+◌, ◌*◌, ◌^◌, ◌<◌, ◌≤◌, ◌==◌, cond, Bool, true, false, List, [], ◌∷◌, map, length, arith}
 use Rattle.std.proofs.lemmas.List.{length-map}
 use Rattle.homeo_syntax.specs.declared.workload.RangeDecl.{RangeDecl}
-use Rattle.homeo_meaning.specs.Key.{words}
+use Rattle.homeo_meaning.specs.Key.{definitions}
 use Rattle.homeo_meaning.specs.Schema.{Declared, Relation, Schema, declared_range}
 use Rattle.homeo_meaning.specs.Context.{spot, spot_from, object_count}
 use Rattle.homeo_desugar.specs.inner.Settings.{SchemaFits}
 
 -- there are no fewer objects than stand before a relation
 pub count_least : (k : ℕ) (rs : List Relation) → k ≤ object_count k rs
-unfolding words
+unfolding definitions
 count_least k [] = omega arith
 count_least k (r ∷ rs) =
     let h : k + r.slots * (1 + length r.fields) ≤ object_count (k + r.slots * (1 + length r.fields)) rs = count_least (k + r.slots * (1 + length r.fields)) rs in
@@ -17,7 +17,7 @@ count_least k (r ∷ rs) =
 
 -- ---- a name's place is not past the declarations
 spot_least : (k : ℕ) (ds : List Declared) (n : ℕ) → (spot_from k ds n).place ≤ k + length ds
-unfolding words
+unfolding definitions
 spot_least k [] n = omega arith
 spot_least k (d ∷ ds) n = by_name (d.name == n) (spot_least (suc k) ds n)
   where
@@ -26,7 +26,7 @@ spot_least k (d ∷ ds) n = by_name (d.name == n) (spot_least (suc k) ds n)
     by_name false h = omega arith
 
 place_within : (ds : List Declared) (n : ℕ) → (spot ds n).place ≤ length ds
-unfolding words
+unfolding definitions
 place_within ds n = let h = spot_least 0 ds n in omega arith
 
 pub field_within : (ds : List RangeDecl) (n place : ℕ) → place ≡ (spot (map declared_range ds) n).place → place ≤ length ds

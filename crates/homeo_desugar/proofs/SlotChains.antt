@@ -9,11 +9,11 @@ use Rattle.homeo_syntax.specs.declared.low.SplitName.TheVariants as split
 use Rattle.homeo_syntax.specs.declared.low.LCommand.{LCommand}
 use Rattle.homeo_syntax.specs.declared.workload.RangeDecl.{RangeDecl}
 use Rattle.homeo_syntax.specs.LowView.{low_commands, plain_lcommand}
-use Rattle.homeo_meaning.specs.Key.{words as meaning_words}
+use Rattle.homeo_meaning.specs.Key.{definitions as meaning_definitions}
 use Rattle.homeo_meaning.specs.Schema.{declared_range}
 use Rattle.homeo_meaning.specs.Context.{Spot, Slot, cell}
 use Rattle.homeo_meaning.specs.LForm.{Target, both, one, read, fresh, equal, one_test, within, read_chain, write_chain, fill_chain, all_within, field_writes}
-use Rattle.homeo_desugar.specs.inner.Key.{words}
+use Rattle.homeo_desugar.specs.inner.Key.{definitions}
 use Rattle.homeo_desugar.specs.inner.Settings.{plain_spot, slots_after, slot_of}
 use Rattle.homeo_desugar.specs.inner.Made.{plain_target, both_tests, AreWithin, filled}
 use Rattle.homeo_desugar.specs.declared.making.Target as code
@@ -24,19 +24,19 @@ use Rattle.homeo_desugar.proofs.SlotLists.{one_more}
 -- ---- one slot more
 pub read_more : (s : all.Slots) (number : ℕ) (f : Spot) (e : L.Expr) (t : ℕ) (test : L.Cond) (here more chain : L.Command) → 0 < number → number ≤ s.count → chain ≡ L.If test here more → test ≡ one_test (equal e (pos (number - 1))) →
     here ≡ L.Assign (temp.Fresh t) (read (cell (slot_of s (number - 1)) f)) → more ≡ read_chain f e t (slots_after s number (s.count - number)) → chain ≡ read_chain f e t (slots_after s (number - 1) (s.count - (number - 1)))
-unfolding words meaning_words
+unfolding definitions meaning_definitions
 read_more s number f e t test here more chain h k a b c d =
     a ∙ (λ i. L.If (b i) (c i) (d i)) ∙ sym (ap (read_chain f e t) (one_more s number h k))
 
 pub write_more : (s : all.Slots) (number : ℕ) (f : Spot) (e v : L.Expr) (test : L.Cond) (here more chain : L.Command) → 0 < number → number ≤ s.count → chain ≡ L.If test here more → test ≡ one_test (equal e (pos (number - 1))) →
     here ≡ L.Write (split.Whole (cell (slot_of s (number - 1)) f)) v → more ≡ write_chain f e v (slots_after s number (s.count - number)) → chain ≡ write_chain f e v (slots_after s (number - 1) (s.count - (number - 1)))
-unfolding words meaning_words
+unfolding definitions meaning_definitions
 write_more s number f e v test here more chain h k a b c d =
     a ∙ (λ i. L.If (b i) (c i) (d i)) ∙ sym (ap (write_chain f e v) (one_more s number h k))
 
 pub fill_more : (s : all.Slots) (number : ℕ) (xs : List Target) (t : ℕ) (test : L.Cond) (here more chain : L.Command) → 0 < number → number ≤ s.count → chain ≡ L.If test here more → test ≡ one_test (equal (read (slot_of s (number - 1)).used) (pos 0)) →
     here ≡ filled (slot_of s (number - 1)) xs t → more ≡ fill_chain xs t (slots_after s number (s.count - number)) → chain ≡ fill_chain xs t (slots_after s (number - 1) (s.count - (number - 1)))
-unfolding words meaning_words
+unfolding definitions meaning_definitions
 fill_more s number xs t test here more chain h k a b c d =
     a ∙ (λ i. L.If (b i) (c i) (d i)) ∙ sym (ap (fill_chain xs t) (one_more s number h k))
 
@@ -49,7 +49,7 @@ targets_next ts i d h =
 -- the tests of one target more
 pub tests_step : (ts : List code.Target) (i : ℕ) (d : code.Target) (old new wanted : L.Cond) → i < length ts → new ≡ both_tests old (within (plain_spot (get_or ts i d).field) (fresh (get_or ts i d).temp) L.NoTest) →
     both_tests old (all_within (map plain_target (drop i ts))) ≡ wanted → both_tests new (all_within (map plain_target (drop (i + 1) ts))) ≡ wanted
-unfolding words meaning_words
+unfolding definitions meaning_definitions
 tests_step ts i d old new wanted h e left =
     let rest : L.Cond = all_within (map plain_target (drop (i + 1) ts)) in
     ap (λ c. both_tests c rest) e
@@ -58,7 +58,7 @@ tests_step ts i d old new wanted h e left =
     ∙ left
 
 pub tests_end : (ts : List code.Target) (i : ℕ) (made : L.Cond) → length ts ≤ i → both_tests made (all_within (map plain_target (drop i ts))) ≡ all_within (map plain_target ts) → made ≡ all_within (map plain_target ts)
-unfolding words meaning_words
+unfolding definitions meaning_definitions
 tests_end ts i made h left =
     sym (tests_none made) ∙ sym (ap (λ xs. both_tests made (all_within (map plain_target xs))) (drop_all i ts h)) ∙ left
 
@@ -67,7 +67,7 @@ pub writes_step : (slot : Slot) (ts : List code.Target) (i : ℕ) (d : code.Targ
     plain_lcommand w ≡ L.Write (split.Whole (cell slot (plain_spot (get_or ts i d).field))) (fresh (get_or ts i d).temp) →
     ((more : L.Commands) → both (low_commands (map plain_lcommand cs)) (field_writes slot (map plain_target (drop i ts)) more) ≡ field_writes slot (map plain_target ts) more) →
     (more : L.Commands) → both (low_commands (map plain_lcommand new.items)) (field_writes slot (map plain_target (drop (i + 1) ts)) more) ≡ field_writes slot (map plain_target ts) more
-unfolding words meaning_words
+unfolding definitions meaning_definitions
 writes_step slot ts i d cs w k new h pushed e left more =
     let rest : L.Commands = field_writes slot (map plain_target (drop (i + 1) ts)) more in
     ap (λ (l : Listed LCommand). both (low_commands (map plain_lcommand l.items)) rest) pushed
@@ -82,7 +82,7 @@ pub fill_end : (slot : Slot) (ts : List code.Target) (i into : ℕ) (cs : List L
     plain_lcommand a ≡ L.Write (split.Whole slot.used) (L.Literal (pos 1)) → plain_lcommand b ≡ L.Assign (temp.Named into) (L.Literal (pos (suc slot.number))) →
     ((more : L.Commands) → both (low_commands (map plain_lcommand cs)) (field_writes slot (map plain_target (drop i ts)) more) ≡ field_writes slot (map plain_target ts) more) →
     L.Seq (low_commands (map plain_lcommand new.items)) ≡ filled slot (map plain_target ts) into
-unfolding words meaning_words
+unfolding definitions meaning_definitions
 fill_end slot ts i into cs a b k m mid new h first second e f left =
     let made : L.Commands = low_commands (map plain_lcommand cs) in
     let last : L.Commands = L.MoreCommand (L.Write (split.Whole slot.used) (L.Literal (pos 1))) (one (L.Assign (temp.Named into) (L.Literal (pos (suc slot.number))))) in
@@ -99,12 +99,12 @@ fill_end slot ts i into cs a b k m mid new h first second e f left =
 
 -- fields that are declared alike
 pub within_same : (a b : List RangeDecl) (ts : List code.Target) → map declared_range a ≡ map declared_range b → AreWithin b ts → AreWithin a ts
-unfolding words
+unfolding definitions
 within_same a b ts e h =
     let same : length b ≡ length a = sym (length-map b declared_range) ∙ sym (ap length e) ∙ length-map a declared_range in
     subst (λ n. All (λ (t : code.Target). t.field.place ≤ n) ts) same h
 
 -- each of the targets
 pub place_within : (fields : List RangeDecl) (ts : List code.Target) (i : ℕ) (d : code.Target) → i < length ts → AreWithin fields ts → (get_or ts i d).field.place ≤ length fields
-unfolding words
+unfolding definitions
 place_within fields ts i d h all = all i d h

@@ -5,10 +5,10 @@ use Rattle.std.specs.Ordering.{int_eq}
 use Rattle.std.specs.Int.RustNames.{unsigned_abs}
 use Rattle.std.proofs.lemmas.Int.{ints, to_z-of_z}
 use Rattle.std.proofs.lemmas.List.{length-map}
-use Rattle.homeo_meaning.specs.Key.{words as meaning_words}
+use Rattle.homeo_meaning.specs.Key.{definitions as meaning_definitions}
 use Rattle.homeo_meaning.specs.Schema.{Declared, declared_range}
 use Rattle.homeo_meaning.specs.Context.{Slot, slots_from, slot_at}
-use Rattle.homeo_desugar.specs.inner.Key.{words}
+use Rattle.homeo_desugar.specs.inner.Key.{definitions}
 use Rattle.homeo_desugar.specs.inner.Settings.{slots_after, plain_slot, plain_slots, slot_of, end_of, IsLow, SlotsFit}
 use Rattle.homeo_desugar.specs.declared.slots.Slot as code
 use Rattle.homeo_desugar.specs.declared.slots.Slots as all
@@ -21,7 +21,7 @@ no_offset first w = omega arith
 
 -- the next slot, and those behind it
 pub slots_next : (s : all.Slots) (number left : ℕ) → slots_after s number (suc left) ≡ slot_of s number ∷ slots_after s (suc number) left
-unfolding words meaning_words
+unfolding definitions meaning_definitions
 slots_next s number left =
     let fields : List Declared = map declared_range s.fields.now in
     let w : ℕ = 1 + length s.fields.now in
@@ -30,7 +30,7 @@ slots_next s number left =
     ap (λ n. slot_of s number ∷ slots_from (suc number) n fields left) begins
 
 pub slots_all : (s : all.Slots) → slots_after s 0 s.count ≡ plain_slots s
-unfolding words meaning_words
+unfolding definitions meaning_definitions
 slots_all s = ap (λ n. slots_from 0 n (map declared_range s.fields.now) s.count) (no_offset s.first (1 + length s.fields.now))
 
 -- the slot of a number is not behind the last
@@ -43,7 +43,7 @@ slot_end first count number n h =
     times_less a b w h = grind arith
 
 pub slot_low : (s : all.Slots) (number : ℕ) → number < s.count → end_of s < 2 ^ 32 → IsLow (slot_of s number)
-unfolding words
+unfolding definitions
 slot_low s number h e =
     let k = slot_end s.first s.count number (length s.fields.now) h in
     let m : length (map declared_range s.fields.now) ≡ length s.fields.now = length-map s.fields.now declared_range in
@@ -57,13 +57,13 @@ one_on s number h =
     ap (slots_after s number) left ∙ slots_next s number (s.count - (number + 1)) ∙ ap (λ n. slot_of s number ∷ slots_after s n (s.count - (number + 1))) next
 
 pub none_on : (s : all.Slots) (number : ℕ) → s.count ≤ number → slots_after s number (s.count - number) ≡ []
-unfolding words meaning_words
+unfolding definitions meaning_definitions
 none_on s number h = ap (slots_after s number) (let none : s.count - number ≡ 0 = omega arith in none)
 
 -- ---- from the last slot backwards
 -- behind the last there is none
 pub none_after : (s : all.Slots) → slots_after s s.count (s.count - s.count) ≡ []
-unfolding words meaning_words
+unfolding definitions meaning_definitions
 none_after s = ap (slots_after s s.count) (let none : s.count - s.count ≡ 0 = omega arith in none)
 
 -- one slot more
@@ -81,7 +81,7 @@ all_after s number h =
 
 -- the objects of a slot fit
 pub cell_fits : (s : all.Slots) (number place : ℕ) (slot : code.Slot) → number < s.count → SlotsFit s → plain_slot slot ≡ slot_of s number → place ≤ length s.fields.now → slot.used + 1 + place < 2 ^ 32
-unfolding words
+unfolding definitions
 cell_fits s number place slot h fits e k =
     let low : IsLow (slot_of s number) = slot_low s number h fits.objects in
     let used : slot.used ≡ s.first + number * (1 + length s.fields.now) = ap (λ (x : Slot). x.used) e in
@@ -93,7 +93,7 @@ pub slot_is_low : (s : all.Slots) (number : ℕ) (slot : code.Slot) → number <
 slot_is_low s number slot h fits e = subst IsLow (sym e) (slot_low s number h fits.objects)
 
 pub low_used : (slot : code.Slot) → IsLow (plain_slot slot) → slot.used + 1 + length slot.fields.now < 2 ^ 32
-unfolding words
+unfolding definitions
 low_used slot h =
     let m : length (map declared_range slot.fields.now) ≡ length slot.fields.now = length-map slot.fields.now declared_range in
     omega arith
@@ -110,7 +110,7 @@ found_step s number v rest true e h = ap (λ n. Some (slot_of s n)) (same_number
 found_step s number v rest false e h = h (other_number v number e)
 
 found_at : (s : all.Slots) (number left v : ℕ) → number ≤ v → v < number + left → slot_at (pos v) (slots_after s number left) ≡ Some (slot_of s v)
-unfolding meaning_words words
+unfolding meaning_definitions definitions
 found_at s number zero v h k = absurd (omega arith)
 found_at s number (suc left) v h k =
     ap (slot_at (pos v)) (slots_next s number left)
@@ -122,14 +122,14 @@ past_step slot number v rest true e d h = let same = same_number v number e in a
 past_step slot number v rest false e d h = h
 
 past_at : (s : all.Slots) (number left v : ℕ) → number + left ≤ v → slot_at (pos v) (slots_after s number left) ≡ None
-unfolding meaning_words words
+unfolding meaning_definitions definitions
 past_at s number zero v h = refl
 past_at s number (suc left) v h =
     ap (slot_at (pos v)) (slots_next s number left)
     ∙ past_step (slot_of s number) number v (slot_at (pos v) (slots_after s (suc number) left)) (int_eq (pos v) (pos number)) refl (omega arith) (past_at s (suc number) left v (omega arith))
 
 negative_at : (s : all.Slots) (number left v : ℕ) → slot_at (negsuc v) (slots_after s number left) ≡ None
-unfolding meaning_words words
+unfolding meaning_definitions definitions
 negative_at s number zero v = refl
 negative_at s number (suc left) v = ap (slot_at (negsuc v)) (slots_next s number left) ∙ negative_at s (suc number) left v
 
@@ -200,7 +200,7 @@ numbered_step s number true rest slot h e more = record { number = number; withi
 numbered_step s number false rest slot h e more = more e
 
 numbered : (s : all.Slots) (number left : ℕ) (v : ℤ) (slot : Slot) → number + left ≤ s.count → slot_at v (slots_after s number left) ≡ Some slot → IsNumbered s slot
-unfolding meaning_words words
+unfolding meaning_definitions definitions
 numbered s number zero v slot h e = absurd (no_slot slot e)
 numbered s number (suc left) v slot h e =
     numbered_step s number (int_eq v (pos number)) (slot_at v (slots_after s (suc number) left)) slot (omega arith) (sym (ap (slot_at v) (slots_next s number left)) ∙ e) (λ more. numbered s (suc number) left v slot (omega arith) more)

@@ -76,7 +76,7 @@ impl Making {
 }
 
 /// Reads an object.
-#[tactic(auto, using(homeo_syntax::proofs::LowViews::low_phrase_views), unfolding(homeo_meaning::specs::Key::words))]
+#[tactic(auto, using(homeo_syntax::proofs::LowViews::low_phrase_views), unfolding(homeo_meaning::specs::Key::definitions))]
 pub(crate) fn read(place: u32) -> LExpr
     ensures { plain_lexpr result ≡ read place }
 {
@@ -84,7 +84,7 @@ pub(crate) fn read(place: u32) -> LExpr
 }
 
 /// The value of a fresh temporary.
-#[tactic(auto, using(homeo_syntax::proofs::LowViews::low_phrase_views), unfolding(homeo_meaning::specs::Key::words))]
+#[tactic(auto, using(homeo_syntax::proofs::LowViews::low_phrase_views), unfolding(homeo_meaning::specs::Key::definitions))]
 pub(crate) fn fresh(temp: u32) -> LExpr
     ensures { plain_lexpr result ≡ fresh temp }
 {
@@ -92,7 +92,7 @@ pub(crate) fn fresh(temp: u32) -> LExpr
 }
 
 /// The number that an expression is, if it is one.
-#[tactic(auto, using(homeo_syntax::proofs::LowViews::low_phrase_views), unfolding(homeo_meaning::specs::Key::words))]
+#[tactic(auto, using(homeo_syntax::proofs::LowViews::low_phrase_views), unfolding(homeo_meaning::specs::Key::definitions))]
 pub(crate) fn literal_of(e: &LExpr) -> Option<i64>
     ensures { result ≡ literal_of (plain_lexpr e.now) }
 {
@@ -103,7 +103,7 @@ pub(crate) fn literal_of(e: &LExpr) -> Option<i64>
 }
 
 /// Tests whether an expression has a value.
-#[tactic(auto, using(homeo_syntax::proofs::LowViews::low_phrase_views), unfolding(homeo_meaning::specs::Key::words))]
+#[tactic(auto, using(homeo_syntax::proofs::LowViews::low_phrase_views), unfolding(homeo_meaning::specs::Key::definitions))]
 pub(crate) fn equal(value: LExpr, number: i64) -> LTest
     ensures { plain_ltest result ≡ equal (plain_lexpr value) number }
 {
@@ -142,7 +142,7 @@ pub(crate) fn choice(
 }
 
 /// Whether the call is ended: 1 from its end on.
-#[tactic(auto, unfolding(homeo_meaning::specs::Key::words))]
+#[tactic(auto, unfolding(homeo_meaning::specs::Key::definitions))]
 pub(crate) fn flag() -> LExpr
     ensures { plain_lexpr result ≡ fresh 0 }
 {

@@ -10,7 +10,7 @@ use homeo_syntax::{LCommand, List, Memory, SplitName, Temp};
 use std::alloc::Global;
 use std::collections::BTreeSet;
 
-#[tactic(auto, unfolding(homeo_meaning::specs::Key::words))]
+#[tactic(auto, unfolding(homeo_meaning::specs::Key::definitions))]
 fn object_in(name: SplitName) -> u32
     ensures { result ≡ object_in name }
 {

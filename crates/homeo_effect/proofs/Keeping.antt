@@ -3,7 +3,7 @@ use Rattle.std.proofs.Common.{◌≡◌, ℕ, ◌==◌, ◌+◌, ◌<◌, ◌≤
 use Rattle.std.specs.Prelude.{◌||◌}
 use Rattle.std.proofs.lemmas.Grind.{common_steps}
 use Rattle.std.proofs.lemmas.List.{take_more, map-append, length-map}
-use Rattle.homeo_syntax.specs.Key.{words as tree_words}
+use Rattle.homeo_syntax.specs.Key.{definitions as syntax_definitions}
 use Rattle.homeo_syntax.specs.Low as l
 use Rattle.homeo_syntax.specs.LowView.{low_commands}
 use Rattle.homeo_syntax.specs.declared.low.SplitName.{SplitName}
@@ -13,7 +13,7 @@ use Rattle.homeo_plan.specs.declared.forms.Term.{Term}
 use Rattle.homeo_plan.specs.declared.templates.Clause.{Clause}
 use Rattle.homeo_plan.specs.Linear.{delta_of}
 use Rattle.homeo_plan.specs.PlanView.{plain_clause}
-use Rattle.homeo_effect.specs.Key.{words}
+use Rattle.homeo_effect.specs.Key.{definitions}
 use Rattle.homeo_effect.specs.Touched.{with_delta, written, is_among, are_on, is_touched}
 use Rattle.homeo_effect.specs.inner.Uses.{has, at_object, objects_of, Keeps, KeepsClauses, KeepsFreezes}
 use Rattle.homeo_effect.proofs.Noting.{one_noted, there_is}
@@ -35,7 +35,7 @@ pub clause_kept :
     (ts : List Term) → ts ≡ c.terms.items → (before after : List (List ℕ)) → KeepsClauses i (map plain_clause (take k cs)) before →
     ((x n : ℕ) → has n (at_object x after) ≡ (has n (at_object x before) || (are_on (delta_of x i ∷ []) ts && (n == number)))) →
     KeepsClauses i (map plain_clause (take (k + 1) cs)) after
-unfolding words
+unfolding definitions
 clause_kept cs k c lt p i number is ts terms before after keeps h =
     let so_far = map plain_clause (take k cs) in
     let e : map plain_clause (take (k + 1) cs) ≡ so_far ++ plain_clause c ∷ [] =
@@ -83,13 +83,13 @@ module _
 
 -- ---- what one more command writes
 with_more : (x : SplitName) (ds es : List Delta) → with_delta x (ds ++ es) ≡ with_delta x ds ++ es
-unfolding words
+unfolding definitions
 with_more (split.Whole x) ds es = refl
 with_more (split.Base x) ds es = refl
 with_more (split.Delta x j) ds es = refl
 
 pub written_more : (cs : List l.Command) (c : l.Command) → written (low_commands (cs ++ c ∷ [])) ≡ written (low_commands cs) ++ written (low_commands (c ∷ []))
-unfolding words tree_words
+unfolding definitions syntax_definitions
 written_more [] c = refl
 written_more (l.Skip ∷ cs) c = written_more cs c
 written_more (l.Assign t e ∷ cs) c = written_more cs c

@@ -3,7 +3,7 @@ use Rattle.std.proofs.Common.{rules, ◌≡◌, ℕ, Bool, cond, Option, Some, a
 use Rattle.std.specs.HashMap.{HashMap, get, get_by}
 use Rattle.homeo_syntax.specs.declared.low.Temp.{Temp}
 use Rattle.homeo_syntax.specs.declared.low.Temp.TheVariants as temps
-use Rattle.homeo_meaning.specs.Key.{words as meaning_words}
+use Rattle.homeo_meaning.specs.Key.{definitions as meaning_definitions}
 use Rattle.homeo_meaning.specs.LowMeaning.{same_temp}
 use Rattle.homeo_effect.specs.contracts.latest.NamePartialEq.TheImpl.{ghosts}
 use Rattle.homeo_effect.specs.declared.latest.Name.{Name}
@@ -19,14 +19,14 @@ at_each_name P h (temps.Named n) = h (Named n)
 at_each_name P h (temps.Fresh n) = h (Fresh n)
 
 same-names : (a b : Name) → ghosts.eq a b ≡ is_at (plain_name a) b
-unfolding meaning_words
+unfolding meaning_definitions
 same-names a b = search rules
 
 pub numbers-put :
     {S : Type 0} (m n : HashMap Name ℕ S) (k : Name) (v : ℕ) →
     ((q : Name) → get ghosts.eq n q ≡ cond (ghosts.eq k q) (Some v) (get ghosts.eq m q)) →
     (λ t. get_by (is_at t) n) ≡ set_latest (λ t. get_by (is_at t) m) (plain_name k) v
-unfolding meaning_words
+unfolding meaning_definitions
 numbers-put m n k v h =
     let s : ghosts.eq ≡ (λ a b. is_at (plain_name a) b) = λ i a b. same-names a b i in
     let h' = subst (λ (e : Name → Name → Bool). (q : Name) → get e n q ≡ cond (e k q) (Some v) (get e m q)) s h in

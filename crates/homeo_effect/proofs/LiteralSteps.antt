@@ -1,29 +1,29 @@
 -- One more term or factor of literals.
 use Rattle.std.proofs.Common.{◌≡◌, ℕ, ◌+◌, ◌<◌, ◌≤◌, ℤ, ◌+ℤ◌, ◌*ℤ◌, true, Some, None, List, map, drop, get_or, length, sym, ap, ◌∙◌, subst}
 use Rattle.std.proofs.lemmas.Bool.{and_parts}
-use Rattle.homeo_syntax.specs.Key.{words as tree_words}
+use Rattle.homeo_syntax.specs.Key.{definitions as syntax_definitions}
 use Rattle.homeo_syntax.specs.LowView.{low_exprs, plain_lexpr}
 use Rattle.homeo_syntax.specs.Low as l
 use Rattle.homeo_syntax.specs.declared.low.LExpr.{LExpr}
-use Rattle.homeo_meaning.specs.Key.{words as meaning_words}
+use Rattle.homeo_meaning.specs.Key.{definitions as meaning_definitions}
 use Rattle.homeo_meaning.specs.LowMeaning.{State}
 use Rattle.homeo_meaning.specs.Small.{is_small}
 use Rattle.homeo_meaning.proofs.Steps.{drop_next, drop_none}
-use Rattle.homeo_split.specs.Key.{words as split_words}
+use Rattle.homeo_split.specs.Key.{definitions as split_definitions}
 use Rattle.homeo_split.specs.CanExec.{run_limit, sum_fits, product_fits}
-use Rattle.homeo_effect.specs.Key.{words}
+use Rattle.homeo_effect.specs.Key.{definitions}
 use Rattle.homeo_effect.specs.Localized.{literal_sum, literal_product}
 use Rattle.homeo_effect.specs.inner.Alone.{SumFits, ProductFits}
 use Rattle.homeo_effect.specs.inner.Literals.{literal_of}
 use Rattle.homeo_effect.proofs.Literals.{literal_is, no_sum, no_product}
 
 first_small : (b : ℕ) (es : l.Exprs) (s : State) (n : ℤ) → sum_fits b n es s ≡ true → is_small b n ≡ true
-unfolding split_words
+unfolding split_definitions
 first_small b l.NoExpr s n h = h
 first_small b (l.MoreExpr e es) s n h = (and_parts (is_small b n) _ h).0
 
 first_product_small : (b : ℕ) (es : l.Exprs) (s : State) (n : ℤ) → product_fits b n es s ≡ true → is_small b n ≡ true
-unfolding split_words
+unfolding split_definitions
 first_product_small b l.NoExpr s n h = h
 first_product_small b (l.MoreExpr e es) s n h = (and_parts (is_small b n) _ h).0
 
@@ -40,11 +40,11 @@ pub record ProductStep (n k : ℤ) (es : List LExpr) (i : ℕ) : Type 0 where
 
 module _ (es : List LExpr) (i : ℕ) (e : LExpr) (h : i < length es) (p : e ≡ get_or es i e) where
   next : low_exprs (map plain_lexpr (drop i es)) ≡ l.MoreExpr (plain_lexpr e) (low_exprs (map plain_lexpr (drop (i + 1) es)))
-  unfolding tree_words
+  unfolding syntax_definitions
   next = ap low_exprs (drop_next plain_lexpr es i e h p)
 
   pub sum_step : (n k : ℤ) → Some k ≡ literal_of (plain_lexpr e) → SumFits n (low_exprs (map plain_lexpr (drop i es))) → SumStep n k es i
-  unfolding words meaning_words split_words
+  unfolding definitions meaning_definitions split_definitions
   sum_step n k q f =
       let rest = low_exprs (map plain_lexpr (drop (i + 1) es)) in
       let is = next ∙ ap (λ d. l.MoreExpr d rest) (literal_is (plain_lexpr e) k q) in
@@ -56,7 +56,7 @@ module _ (es : List LExpr) (i : ℕ) (e : LExpr) (h : i < length es) (p : e ≡ 
   sum_ends n q = sym (ap (literal_sum n) next ∙ no_sum (plain_lexpr e) _ n q)
 
   pub product_step : (n k : ℤ) → Some k ≡ literal_of (plain_lexpr e) → ProductFits n (low_exprs (map plain_lexpr (drop i es))) → ProductStep n k es i
-  unfolding words meaning_words split_words
+  unfolding definitions meaning_definitions split_definitions
   product_step n k q f =
       let rest = low_exprs (map plain_lexpr (drop (i + 1) es)) in
       let is = next ∙ ap (λ d. l.MoreExpr d rest) (literal_is (plain_lexpr e) k q) in
@@ -68,9 +68,9 @@ module _ (es : List LExpr) (i : ℕ) (e : LExpr) (h : i < length es) (p : e ≡ 
   product_ends n q = sym (ap (literal_product n) next ∙ no_product (plain_lexpr e) _ n q)
 
 pub sum_done : (n : ℤ) (es : List LExpr) (i : ℕ) → length es ≤ i → Some n ≡ literal_sum n (low_exprs (map plain_lexpr (drop i es)))
-unfolding words tree_words
+unfolding definitions syntax_definitions
 sum_done n es i h = sym (ap (λ ts. literal_sum n (low_exprs ts)) (drop_none plain_lexpr es i h))
 
 pub product_done : (n : ℤ) (es : List LExpr) (i : ℕ) → length es ≤ i → Some n ≡ literal_product n (low_exprs (map plain_lexpr (drop i es)))
-unfolding words tree_words
+unfolding definitions syntax_definitions
 product_done n es i h = sym (ap (λ ts. literal_product n (low_exprs ts)) (drop_none plain_lexpr es i h))

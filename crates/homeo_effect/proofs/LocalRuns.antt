@@ -3,19 +3,19 @@ use Rattle.std.proofs.Common.{◌≡◌, ℕ, ◌==◌, ℤ, pos, Bool, true, fa
 use Rattle.std.proofs.lemmas.Bool.{and_parts}
 use Rattle.std.proofs.lemmas.Bool.Decides.{nat_tests}
 use Rattle.std.proofs.lemmas.List.Elements.{All-nil, All-cons}
-use Rattle.homeo_syntax.specs.Key.{words as tree_words}
+use Rattle.homeo_syntax.specs.Key.{definitions as syntax_definitions}
 use Rattle.homeo_syntax.specs.LowView.{low_commands, plain_lcommand}
 use Rattle.homeo_syntax.specs.declared.low.LCommand.{LCommand}
 use Rattle.homeo_syntax.specs.declared.low.SplitName.TheVariants.{Whole, Base, Delta}
 use Rattle.homeo_syntax.specs.Low.{Command, Commands, Skip, Assign, Write, Print, Seq, If, NoCommand, MoreCommand}
-use Rattle.homeo_meaning.specs.Key.{words as meaning_words}
+use Rattle.homeo_meaning.specs.Key.{definitions as meaning_definitions}
 use Rattle.homeo_meaning.specs.LowMeaning.{State, Run, TempAt, DeltaAt, location_of, put, value, after_prints, exec, exec_all, whole}
-use Rattle.homeo_plan.specs.Key.{words as plan_words}
+use Rattle.homeo_plan.specs.Key.{definitions as plan_definitions}
 use Rattle.homeo_plan.specs.Joined.{Deltas, alone}
 use Rattle.homeo_plan.specs.Needs.{IsStraightOne, IsStraight}
-use Rattle.homeo_split.specs.Key.{words as split_words}
+use Rattle.homeo_split.specs.Key.{definitions as split_definitions}
 use Rattle.homeo_split.specs.CanExec.{run_limit, can_exec, can_exec_all}
-use Rattle.homeo_effect.specs.Key.{words}
+use Rattle.homeo_effect.specs.Key.{definitions}
 use Rattle.homeo_effect.specs.Localized.{local_command, localized}
 use Rattle.homeo_effect.specs.Touched.{with_delta, written, WritesOwn}
 use Rattle.homeo_effect.specs.inner.Alone.{IsAlone, CommandFits}
@@ -23,16 +23,16 @@ use Rattle.homeo_effect.proofs.Localizing.{both, same_value, fits_too}
 
 -- ---- where runs begin
 pub alone_is_alone : (b : ℕ → ℤ) (i : ℕ) (x : Deltas) → IsAlone b i (alone b i x)
-unfolding plan_words
+unfolding plan_definitions
 alone_is_alone b i x = record { bases = λ y. refl; others = λ y j q. ap (λ v. cond v (x y) (pos 0)) q }
 
 pub whole_is_alone : (b : ℕ → ℤ) (i : ℕ) → IsAlone b i (whole b)
-unfolding meaning_words
+unfolding meaning_definitions
 whole_is_alone b i = record { bases = λ y. refl; others = λ y j q. refl }
 
 -- ---- one command
 one_own : (i : ℕ) (c : Command) (cs : Commands) → IsStraightOne c → WritesOwn i (MoreCommand c cs) → WritesOwn i (MoreCommand c NoCommand) × WritesOwn i cs
-unfolding words plan_words
+unfolding definitions plan_definitions
 one_own i Skip cs st w = absurd st
 one_own i (Assign t e) cs st w = (tt, w)
 one_own i (Write (Whole x) e) cs st w = absurd st
@@ -44,7 +44,7 @@ one_own i (If t c d) cs st w = absurd st
 
 module _ (b : ℕ → ℤ) (i : ℕ) where
   stays_alone : (c : Command) (s : State) → IsStraightOne c → WritesOwn i (MoreCommand c NoCommand) → IsAlone b i s → IsAlone b i (exec c s).state
-  unfolding words plan_words meaning_words
+  unfolding definitions plan_definitions meaning_definitions
   stays_alone Skip s st w a = absurd st
   stays_alone (Assign t e) s st w a = record { bases = a.bases; others = a.others }
   stays_alone (Write (Whole x) e) s st w a = absurd st
@@ -66,7 +66,7 @@ module _ (b : ℕ → ℤ) (i : ℕ) where
   stays_alone (If t c d) s st w a = absurd st
 
   same_step : (c : Command) (s : State) → IsStraightOne c → IsAlone b i s → exec (local_command b i c) s ≡ exec c s
-  unfolding words plan_words meaning_words
+  unfolding definitions plan_definitions meaning_definitions
   same_step Skip s st a = absurd st
   same_step (Assign t e) s st a = λ k. record { state = put s (TempAt t) (same_value b i s a e k); prints = [] }
   same_step (Write x e) s st a = λ k. record { state = put s (location_of x) (same_value b i s a e k); prints = [] }
@@ -75,7 +75,7 @@ module _ (b : ℕ → ℤ) (i : ℕ) where
   same_step (If t c d) s st a = absurd st
 
   can_step : (l : ℕ) (c : Command) (s : State) → IsStraightOne c → IsAlone b i s → can_exec l c s ≡ true → can_exec l (local_command b i c) s ≡ true
-  unfolding words plan_words split_words
+  unfolding definitions plan_definitions split_definitions
   can_step l Skip s st a h = absurd st
   can_step l (Assign t e) s st a h = fits_too b i s a l e h
   can_step l (Write x e) s st a h = fits_too b i s a l e h
@@ -85,7 +85,7 @@ module _ (b : ℕ → ℤ) (i : ℕ) where
 
   -- ---- one after another
   pub same_runs : (cs : Commands) (s : State) → IsStraight cs → WritesOwn i cs → IsAlone b i s → exec_all (localized b i cs) s ≡ exec_all cs s
-  unfolding words plan_words meaning_words
+  unfolding definitions plan_definitions meaning_definitions
   same_runs NoCommand s st w a = refl
   same_runs (MoreCommand c cs) s st w a =
       let own = one_own i c cs st.0 w in
@@ -95,7 +95,7 @@ module _ (b : ℕ → ℤ) (i : ℕ) where
   pub can_too :
       (l : ℕ) (cs : Commands) (s : State) → IsStraight cs → WritesOwn i cs → IsAlone b i s → can_exec_all l cs s ≡ true →
       can_exec_all l (localized b i cs) s ≡ true
-  unfolding words plan_words split_words
+  unfolding definitions plan_definitions split_definitions
   can_too l NoCommand s st w a h = refl
   can_too l (MoreCommand c cs) s st w a h =
       let own = one_own i c cs st.0 w in
@@ -107,7 +107,7 @@ module _ (b : ℕ → ℤ) (i : ℕ) where
   pub each_fits :
       (cs : List LCommand) (s : State) → IsStraight (low_commands (map plain_lcommand cs)) → WritesOwn i (low_commands (map plain_lcommand cs)) →
       IsAlone b i s → can_exec_all run_limit (low_commands (map plain_lcommand cs)) s ≡ true → All (λ c. CommandFits b i (plain_lcommand c)) cs
-  unfolding words plan_words split_words tree_words
+  unfolding definitions plan_definitions split_definitions syntax_definitions
   each_fits [] s st w a h = All-nil (λ c. CommandFits b i (plain_lcommand c))
   each_fits (c ∷ cs) s st w a h =
       let own = one_own i (plain_lcommand c) (low_commands (map plain_lcommand cs)) st.0 w in
@@ -117,7 +117,7 @@ module _ (b : ℕ → ℤ) (i : ℕ) where
 
   -- ---- what they are
   straight_one : (c : Command) → IsStraightOne c → IsStraightOne (local_command b i c)
-  unfolding words plan_words
+  unfolding definitions plan_definitions
   straight_one Skip st = st
   straight_one (Assign t e) st = st
   straight_one (Write x e) st = st
@@ -126,12 +126,12 @@ module _ (b : ℕ → ℤ) (i : ℕ) where
   straight_one (If t c d) st = st
 
   pub straight_too : (cs : Commands) → IsStraight cs → IsStraight (localized b i cs)
-  unfolding words plan_words
+  unfolding definitions plan_definitions
   straight_too NoCommand st = st
   straight_too (MoreCommand c cs) st = (straight_one c st.0, straight_too cs st.1)
 
   pub same_written : (cs : Commands) → written (localized b i cs) ≡ written cs
-  unfolding words
+  unfolding definitions
   same_written NoCommand = refl
   same_written (MoreCommand Skip cs) = same_written cs
   same_written (MoreCommand (Assign t e) cs) = same_written cs

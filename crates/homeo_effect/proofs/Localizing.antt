@@ -4,12 +4,12 @@ use Rattle.std.proofs.lemmas.Bool.{and_parts}
 use Rattle.homeo_syntax.specs.declared.low.SplitName.{SplitName}
 use Rattle.homeo_syntax.specs.declared.low.SplitName.TheVariants.{Whole, Base, Delta}
 use Rattle.homeo_syntax.specs.Low.{Expr, Exprs, Literal, OfTemp, Read, Sum, Product, Neg, NoExpr, MoreExpr}
-use Rattle.homeo_meaning.specs.Key.{words as meaning_words}
+use Rattle.homeo_meaning.specs.Key.{definitions as meaning_definitions}
 use Rattle.homeo_meaning.specs.LowMeaning.{State, DeltaAt, location_of, value, sum_value, product_value}
 use Rattle.homeo_meaning.specs.Small.{is_small}
-use Rattle.homeo_split.specs.Key.{words as split_words}
+use Rattle.homeo_split.specs.Key.{definitions as split_definitions}
 use Rattle.homeo_split.specs.CanExec.{expr_fits, sum_fits, product_fits}
-use Rattle.homeo_effect.specs.Key.{words}
+use Rattle.homeo_effect.specs.Key.{definitions}
 use Rattle.homeo_effect.specs.Localized.{local_read, local_expr, local_exprs}
 use Rattle.homeo_effect.specs.inner.Alone.{IsAlone}
 use Rattle.homeo_effect.proofs.Literals.{summed_value, multiplied_value, negated_value, summed_fits, multiplied_fits, negated_fits}
@@ -20,7 +20,7 @@ both {t} {u} e f = ap (λ v. v && u) e ∙ f
 module _ (b : ℕ → ℤ) (i : ℕ) (s : State) (a : IsAlone b i s) where
   -- ---- values
   read_value : (x : SplitName) → value (local_read b i x) s ≡ s (location_of x)
-  unfolding words meaning_words
+  unfolding definitions meaning_definitions
   read_value (Whole x) = sym (a.bases x)
   read_value (Base x) = sym (a.bases x)
   read_value (Delta x j) = go (j == i) refl
@@ -30,7 +30,7 @@ module _ (b : ℕ → ℤ) (i : ℕ) (s : State) (a : IsAlone b i s) where
       go false q = sym (a.others x j q)
 
   mutual
-    unfolding words meaning_words
+    unfolding definitions meaning_definitions
 
     pub same_value : (e : Expr) → value (local_expr b i e) s ≡ value e s
     same_value (Literal n) = refl
@@ -51,7 +51,7 @@ module _ (b : ℕ → ℤ) (i : ℕ) (s : State) (a : IsAlone b i s) where
   -- ---- sizes
   module _ (l : ℕ) where
     read_fits : (x : SplitName) → is_small l (s (location_of x)) ≡ true → expr_fits l (local_read b i x) s ≡ true
-    unfolding words meaning_words split_words
+    unfolding definitions meaning_definitions split_definitions
     read_fits (Whole x) f = subst (λ v. is_small l v ≡ true) (a.bases x) f
     read_fits (Base x) f = subst (λ v. is_small l v ≡ true) (a.bases x) f
     read_fits (Delta x j) f = go (j == i) refl
@@ -61,7 +61,7 @@ module _ (b : ℕ → ℤ) (i : ℕ) (s : State) (a : IsAlone b i s) where
         go false q = subst (λ v. is_small l v ≡ true) (a.others x j q) f
 
     mutual
-      unfolding words meaning_words split_words
+      unfolding definitions meaning_definitions split_definitions
 
       pub fits_too : (e : Expr) → expr_fits l e s ≡ true → expr_fits l (local_expr b i e) s ≡ true
       fits_too (Literal n) f = f

@@ -2,7 +2,7 @@
 use Rattle.std.proofs.Common.{◌≡◌, ℕ, ◌≤◌, List, map, drop, length, sym, ap, ◌∙◌}
 use Rattle.homeo_syntax.specs.LowView.{low_commands, plain_lcommand}
 use Rattle.homeo_syntax.specs.declared.low.LCommand.{LCommand}
-use Rattle.homeo_effect.specs.Key.{words}
+use Rattle.homeo_effect.specs.Key.{definitions}
 use Rattle.homeo_effect.specs.Program.{plain_steps}
 use Rattle.homeo_effect.specs.declared.numbering.Numbering.{Numbering}
 use Rattle.homeo_effect.specs.inner.Numbered.{nothing_set, numbered}
@@ -14,5 +14,5 @@ pub steps_are :
     (i : ℕ) (m : Numbering) (cs : List LCommand) (k : ℕ) → length cs ≤ k →
     stands_for i m (low_commands (map plain_lcommand (drop k cs))) ≡ numbered nothing_set 0 (low_commands (map plain_lcommand cs)) →
     plain_steps i 0 m.steps.items ≡ numbered nothing_set 0 (low_commands (map plain_lcommand cs))
-unfolding words
+unfolding definitions
 steps_are i m cs k h same = sym (then_none (plain_steps i 0 m.steps.items)) ∙ ap (stands_for i m) (sym (none_left cs k h)) ∙ same

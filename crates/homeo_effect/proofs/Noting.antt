@@ -5,11 +5,11 @@ use Rattle.std.proofs.lemmas.Bool.Decides.{nat_tests}
 use Rattle.std.proofs.lemmas.List.{map-set, map-append, get_or-map, length-map}
 use Rattle.std.proofs.lemmas.List.Folds.{list_any-append, list_any_more}
 use Rattle.homeo_meaning.proofs.AbsentItems.{padded_more, padded_set}
-use Rattle.homeo_plan.specs.Key.{words as plan_words}
+use Rattle.homeo_plan.specs.Key.{definitions as plan_definitions}
 use Rattle.homeo_plan.specs.declared.forms.Delta.{Delta}
 use Rattle.homeo_plan.specs.declared.forms.Term.{Term}
 use Rattle.homeo_plan.specs.Linear.{delta_of}
-use Rattle.homeo_effect.specs.Key.{words}
+use Rattle.homeo_effect.specs.Key.{definitions}
 use Rattle.homeo_effect.specs.Touched.{is_among, are_on}
 use Rattle.homeo_effect.specs.inner.Uses.{has, at_object}
 
@@ -40,7 +40,7 @@ or_false true = refl
 or_false false = refl
 
 here_is : (d : Delta) (site x : ℕ) → d.site ≡ site → is_among (delta_of x site ∷ []) d ≡ (d.object == x)
-unfolding words plan_words
+unfolding definitions plan_definitions
 here_is d site x e =
     let q : (d.site == site) ≡ true = grind (arith, nat_tests) in
     or_false ((d.object == x) && (d.site == site)) ∙ ap (λ v. (d.object == x) && v) q ∙ and_true (d.object == x)
@@ -50,7 +50,7 @@ here_is d site x e =
     and_true false = refl
 
 pub there_is : (d : Delta) (site x : ℕ) → (d.site == site) ≡ false → is_among (delta_of x site ∷ []) d ≡ false
-unfolding words plan_words
+unfolding definitions plan_definitions
 there_is d site x q = or_false ((d.object == x) && (d.site == site)) ∙ ap (λ v. (d.object == x) && v) q ∙ and_false (d.object == x)
   where
     and_false : (b : Bool) → (b && false) ≡ false
@@ -58,7 +58,7 @@ there_is d site x q = or_false ((d.object == x) && (d.site == site)) ∙ ap (λ 
     and_false false = refl
 
 on_more : (ds : List Delta) (ts : List Term) (k : ℕ) (t d : Term) → k < length ts → t ≡ get_or ts k d → are_on ds (take (k + 1) ts) ≡ (are_on ds (take k ts) || is_among ds t.delta)
-unfolding words
+unfolding definitions
 on_more ds ts k t d h p =
     list_any_more (λ (u : Term). is_among ds u.delta) ts k d h ∙ ap (λ (u : Term). are_on ds (take k ts) || is_among ds u.delta) (sym p)
 

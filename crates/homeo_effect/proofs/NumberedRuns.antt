@@ -8,16 +8,16 @@ use Rattle.homeo_syntax.specs.declared.low.Temp.{Temp}
 use Rattle.homeo_syntax.specs.declared.low.Temp.TheVariants.{Named}
 use Rattle.homeo_syntax.specs.declared.low.SplitName.TheVariants.{Whole, Base, Delta}
 use Rattle.homeo_syntax.specs.Low.{Expr, Exprs, Literal, OfTemp, Read, Sum, Product, Neg, NoExpr, MoreExpr, Commands, Skip, Assign, Write, Print, Seq, If, NoCommand, MoreCommand}
-use Rattle.homeo_meaning.specs.Key.{words as meaning_words}
+use Rattle.homeo_meaning.specs.Key.{definitions as meaning_definitions}
 use Rattle.homeo_meaning.specs.LowMeaning.{TempAt, DeltaAt, State, same_temp, put, value, sum_value, product_value, exec_all}
 use Rattle.homeo_meaning.specs.Serial.{values_of}
 use Rattle.homeo_meaning.specs.Small.{is_small}
-use Rattle.homeo_plan.specs.Key.{words as plan_words}
+use Rattle.homeo_plan.specs.Key.{definitions as plan_definitions}
 use Rattle.homeo_plan.specs.Holding.{SameOwn}
 use Rattle.homeo_plan.specs.Joined.{alone}
-use Rattle.homeo_split.specs.Key.{words as split_words}
+use Rattle.homeo_split.specs.Key.{definitions as split_definitions}
 use Rattle.homeo_split.specs.CanExec.{expr_fits, sum_fits, product_fits, can_exec_all}
-use Rattle.homeo_effect.specs.Key.{words}
+use Rattle.homeo_effect.specs.Key.{definitions}
 use Rattle.homeo_effect.specs.OwnCommands.{reads_own, read_own, are_own}
 use Rattle.homeo_effect.specs.OwnState.{own_state}
 use Rattle.homeo_effect.specs.Touched.{with_delta, written}
@@ -41,7 +41,7 @@ never h = absurd (false≢true h)
 -- ---- phrases
 module _ (i : ℕ) (f : Latest) (n : ℕ) (s s' : State) (r : Related i f n s s') where
   read_value : (o : Option ℕ) → value (read_latest o) s' ≡ slot o s'
-  unfolding words meaning_words
+  unfolding definitions meaning_definitions
   read_value None = refl
   read_value (Some k) = refl
 
@@ -49,7 +49,7 @@ module _ (i : ℕ) (f : Latest) (n : ℕ) (s s' : State) (r : Related i f n s s'
   own_delta x j q = let e : j ≡ i = grind (arith, nat_tests) in subst (λ k. s (DeltaAt x k) ≡ s' (DeltaAt x k)) (sym e) (r.deltas x)
 
   mutual
-    unfolding words meaning_words
+    unfolding definitions meaning_definitions
 
     same_value : (e : Expr) → reads_own i e ≡ true → value (numbered_expr f e) s' ≡ value e s
     same_value (Literal m) w = refl
@@ -75,12 +75,12 @@ module _ (i : ℕ) (f : Latest) (n : ℕ) (s s' : State) (r : Related i f n s s'
 
   module _ (b : ℕ) where
     read_fits : (o : Option ℕ) → is_small b (slot o s') ≡ true → expr_fits b (read_latest o) s' ≡ true
-    unfolding words meaning_words split_words
+    unfolding definitions meaning_definitions split_definitions
     read_fits None h = h
     read_fits (Some k) h = h
 
     mutual
-      unfolding words meaning_words split_words
+      unfolding definitions meaning_definitions split_definitions
 
       fits_too : (e : Expr) → reads_own i e ≡ true → expr_fits b e s ≡ true → expr_fits b (numbered_expr f e) s' ≡ true
       fits_too (Literal m) w h = h
@@ -116,7 +116,7 @@ module _ (i : ℕ) (f : Latest) (n : ℕ) (s s' : State) (r : Related i f n s s'
 
   -- ---- one command
   after_set : (t : Temp) (v v' : ℤ) → v' ≡ v → Related i (set_latest f t n) (suc n) (put s (TempAt t) v) (put s' (TempAt (Named n)) v')
-  unfolding meaning_words
+  unfolding meaning_definitions
   after_set t v v' e = record { temps = λ u. temp u (same_temp t u) (f u) refl (r.temps u); below = λ u k. low u k (same_temp t u); deltas = r.deltas }
     where
       temp :
@@ -134,7 +134,7 @@ module _ (i : ℕ) (f : Latest) (n : ℕ) (s s' : State) (r : Related i f n s s'
       low u k false q = let lt = r.below u k q in omega (arith, lt)
 
   after_write : (x j : ℕ) (v v' : ℤ) → v' ≡ v → Related i f n (put s (DeltaAt x j) v) (put s' (DeltaAt x j) v')
-  unfolding meaning_words
+  unfolding meaning_definitions
   after_write x j v v' e = record { temps = λ u. temp u (f u) (r.temps u); below = r.below; deltas = λ y. ap₂ (λ m d. cond ((x == y) && (j == i)) m d) (sym e) (r.deltas y) }
     where
       temp : (u : Temp) (o : Option ℕ) → s (TempAt u) ≡ slot o s' → s (TempAt u) ≡ slot o (put s' (DeltaAt x j) v')
@@ -146,7 +146,7 @@ module _ (i : ℕ) where
   pub same_runs :
       (cs : Commands) (f : Latest) (n : ℕ) (s s' : State) → are_own i cs ≡ true → Related i f n s s' →
       SameOwn i (exec_all (numbered f n cs) s') (exec_all cs s)
-  unfolding words meaning_words
+  unfolding definitions meaning_definitions
   same_runs NoCommand f n s s' w r = record { prints = refl; own_deltas = λ x. sym (r.deltas x) }
   same_runs (MoreCommand Skip cs) f n s s' w r = never w
   same_runs (MoreCommand (Assign t e) cs) f n s s' w r =
@@ -170,7 +170,7 @@ module _ (i : ℕ) where
   pub can_too :
       (b : ℕ) (cs : Commands) (f : Latest) (n : ℕ) (s s' : State) → are_own i cs ≡ true → Related i f n s s' →
       can_exec_all b cs s ≡ true → can_exec_all b (numbered f n cs) s' ≡ true
-  unfolding words meaning_words split_words
+  unfolding definitions meaning_definitions split_definitions
   can_too b NoCommand f n s s' w r h = refl
   can_too b (MoreCommand Skip cs) f n s s' w r h = never w
   can_too b (MoreCommand (Assign t e) cs) f n s s' w r h =
@@ -195,11 +195,11 @@ module _ (i : ℕ) where
 
   -- where a run begins
   pub begins : (base : ℕ → ℤ) (deltas temporaries : List ℤ) → Related i nothing_set 0 (alone base i (values_of deltas)) (own_state i deltas temporaries)
-  unfolding words plan_words
+  unfolding definitions plan_definitions
   begins base deltas temporaries = record { temps = λ t. refl; below = λ t k q. absurd (none-some k q); deltas = λ x. refl }
 
 pub same_written : (cs : Commands) (f : Latest) (n : ℕ) → written (numbered f n cs) ≡ written cs
-unfolding words
+unfolding definitions
 same_written NoCommand f n = refl
 same_written (MoreCommand Skip cs) f n = same_written cs f n
 same_written (MoreCommand (Assign t e) cs) f n = same_written cs (set_latest f t n) (suc n)

@@ -1,6 +1,6 @@
 -- The residuals of a transformed command's table and walk write deltas of its site alone.
-use Rattle.homeo_meaning.specs.Key.{words as meaning_words}
-use Rattle.homeo_plan.specs.Key.{words as plan_words}
+use Rattle.homeo_meaning.specs.Key.{definitions as meaning_definitions}
+use Rattle.homeo_plan.specs.Key.{definitions as plan_definitions}
 use Rattle.std.proofs.Common.{◌≡◌, ℕ, Bool, true, false, cond, List, [], ◌∷◌, map, refl}
 use Rattle.homeo_syntax.specs.declared.low.SplitName.TheVariants.{Whole, Base, Delta}
 use Rattle.homeo_syntax.specs.Low.{Command, Commands, Skip, Assign, Write, Print, Seq, If, NoCommand, MoreCommand}
@@ -10,12 +10,12 @@ use Rattle.homeo_plan.specs.Each.{Each}
 use Rattle.homeo_plan.specs.Split.{shift, shift_all}
 use Rattle.homeo_plan.specs.Table.{Row, set_before, print_before, test_before, otherwise, before, all_before, clear_row, last_row, table, walk_before, walk_all_before, walk}
 use Rattle.homeo_plan.proofs.Atoms.{append_each}
-use Rattle.homeo_effect.specs.Key.{words}
+use Rattle.homeo_effect.specs.Key.{definitions}
 use Rattle.homeo_effect.specs.Touched.{WritesOwn}
 
 module _ (i : ℕ) where
   abbrev mutual
-    unfolding words
+    unfolding definitions
 
     -- each write in a command is one of the site, in both branches of each `if`
     Own : Command → Type 0
@@ -38,12 +38,12 @@ module _ (i : ℕ) where
 
   -- ---- tables
   one_more : (f : Row → Row) → ((r : Row) → RowOwn r → RowOwn (f r)) → (rs : List Row) → Each RowOwn rs → Each RowOwn (map f rs)
-  unfolding plan_words
+  unfolding plan_definitions
   one_more f h [] w = tt
   one_more f h (r ∷ rs) w = (h r w.0, one_more f h rs w.1)
 
   mutual
-    unfolding words plan_words meaning_words
+    unfolding definitions plan_definitions meaning_definitions
 
     rows_before : (c : Command) (rs : List Row) → Own c → Each RowOwn rs → Each RowOwn (before c rs)
     rows_before Skip rs w h = h
@@ -63,12 +63,12 @@ module _ (i : ℕ) where
     rows_all_before (MoreCommand c cs) rs w h = rows_before c (all_before cs rs) w.0 (rows_all_before cs rs w.1 h)
 
   table_own : (c : Command) → Own c → Each RowOwn (table c)
-  unfolding words plan_words
+  unfolding definitions plan_definitions
   table_own c w = one_more clear_row (λ r k. k) (before c (last_row ∷ [])) (rows_before c (last_row ∷ []) w (tt, tt))
 
   -- ---- walks
   mutual
-    unfolding words plan_words meaning_words
+    unfolding definitions plan_definitions meaning_definitions
 
     own_before : (c : Command) (s : State) (r : Row) → Own c → RowOwn r → RowOwn (walk_before c s r)
     own_before Skip s r w h = h
@@ -91,12 +91,12 @@ module _ (i : ℕ) where
     own_all_before (MoreCommand c cs) s r w h = own_before c s _ w.0 (own_all_before cs (exec c s).state r w.1 h)
 
   walk_own : (c : Command) (s : State) → Own c → RowOwn (walk c s)
-  unfolding words plan_words
+  unfolding definitions plan_definitions
   walk_own c s w = own_before c s last_row w tt
 
 -- ---- a transformed command
 mutual
-  unfolding words plan_words meaning_words
+  unfolding definitions plan_definitions meaning_definitions
 
   shift_own : (k i : ℕ) (c : Command) → IsWhole c → Own i (shift k i c)
   shift_own k i Skip w = tt

@@ -8,7 +8,7 @@ use Rattle.std.specs.declared.cmp.Ordering.TheVariants.{Less, Equal, Greater}
 use Rattle.std.proofs.lemmas.Bool.{false≢true}
 use Rattle.std.proofs.lemmas.Bool.Decides.{nat_tests}
 use Rattle.std.proofs.lemmas.List.Folds.{list_any-append}
-use Rattle.homeo_effect.specs.Key.{words}
+use Rattle.homeo_effect.specs.Key.{definitions}
 use Rattle.homeo_effect.specs.Touched.{numbers_where}
 use Rattle.homeo_effect.specs.inner.Uses.{has}
 
@@ -16,7 +16,7 @@ use Rattle.homeo_effect.specs.inner.Uses.{has}
 pub numbers_more :
     {X : Type 0} (test : X → Bool) (first : ℕ) (xs : List X) (x : X) →
     numbers_where test first (xs ++ x ∷ []) ≡ numbers_where test first xs ++ cond (test x) ((first + length xs) ∷ []) []
-unfolding words
+unfolding definitions
 numbers_more test first [] x = let e : first ≡ first + 0 = omega arith in ap (λ m. cond (test x) (m ∷ []) []) e
 numbers_more test first (y ∷ xs) x =
     go (test y) (numbers_more test (suc first) xs x ∙ ap (λ m. numbers_where test (suc first) xs ++ cond (test x) (m ∷ []) []) e)
@@ -77,14 +77,14 @@ either_test n first p q u v w e ps qs rs h =
 pub has_either :
     {X : Type 0} (p q r : X → Bool) → ((x : X) → r x ≡ (p x || q x)) → (first n : ℕ) (xs : List X) →
     has n (numbers_where r first xs) ≡ (has n (numbers_where p first xs) || has n (numbers_where q first xs))
-unfolding words
+unfolding definitions
 has_either p q r e first n [] = refl
 has_either p q r e first n (x ∷ xs) =
     either_test n first (p x) (q x) (p x) (q x) (r x) (e x) (numbers_where p (suc first) xs) (numbers_where q (suc first) xs)
     (numbers_where r (suc first) xs) (has_either p q r e (suc first) n xs)
 
 pub has_none : {X : Type 0} (p : X → Bool) → ((x : X) → p x ≡ false) → (first n : ℕ) (xs : List X) → has n (numbers_where p first xs) ≡ false
-unfolding words
+unfolding definitions
 has_none p e first n [] = refl
 has_none p e first n (x ∷ xs) =
     ap (λ v. has n (cond v (first ∷ numbers_where p (suc first) xs) (numbers_where p (suc first) xs))) (e x) ∙ has_none p e (suc first) n xs
@@ -94,7 +94,7 @@ is_less : (m n : ℕ) → m < n → nat_cmp m n ≡ Less
 is_less m n h = let p : nat_lt m n ≡ true = grind (arith, nat_tests) in ap (λ v. cond v Less (cond (m == n) Equal Greater)) p
 
 numbers_above : {X : Type 0} (test : X → Bool) (m first : ℕ) (xs : List X) → m < first → AllByRecursion (λ y. nat_cmp m y ≡ Less) (numbers_where test first xs)
-unfolding words
+unfolding definitions
 numbers_above test m first [] h = tt
 numbers_above test m first (x ∷ xs) h = go (test x) (numbers_above test m (suc first) xs (omega arith))
   where
@@ -105,7 +105,7 @@ numbers_above test m first (x ∷ xs) h = go (test x) (numbers_above test m (suc
     go false more = more
 
 pub numbers_rise : {X : Type 0} (test : X → Bool) (first : ℕ) (xs : List X) → IsStrictlySortedBy nat_cmp (numbers_where test first xs)
-unfolding words IsStrictlySortedBy
+unfolding definitions IsStrictlySortedBy
 numbers_rise test first [] = tt
 numbers_rise test first (x ∷ xs) = go (test x) (numbers_rise test (suc first) xs)
   where

@@ -3,13 +3,13 @@ use Rattle.std.proofs.Common.{◌≡◌, ℕ, Bool, true, false, List, [], ◌�
 use Rattle.std.specs.Prelude.{◌||◌}
 use Rattle.std.specs.List.Sorted.{IsStrictlySortedBy}
 use Rattle.std.specs.Ordering.{nat_cmp}
-use Rattle.homeo_plan.specs.Key.{words as plan_words}
+use Rattle.homeo_plan.specs.Key.{definitions as plan_definitions}
 use Rattle.homeo_plan.specs.Each.{Each}
 use Rattle.homeo_plan.specs.declared.forms.Delta.{Delta}
 use Rattle.homeo_plan.specs.declared.forms.Term.{Term}
 use Rattle.homeo_plan.specs.Linear.{delta_of, same_delta}
 use Rattle.homeo_plan.specs.Template.{Template}
-use Rattle.homeo_effect.specs.Key.{words}
+use Rattle.homeo_effect.specs.Key.{definitions}
 use Rattle.homeo_effect.specs.Touched.{is_among, are_on, is_touched, numbers_where, touched_clauses, touched_freezes}
 use Rattle.homeo_effect.specs.inner.Uses.{has, is_at, Keeps, KeepsClauses, KeepsFreezes}
 use Rattle.homeo_effect.proofs.RisingNumbers.{has_either, has_none, numbers_rise, same_rising}
@@ -19,7 +19,7 @@ module _ {X : Type 0} (test : List Delta → X → Bool) (none : (x : X) → tes
     (keeps : Keeps test i first xs uses)
   where
     all_at : (ds : List Delta) → Each (λ d. d.site ≡ i) ds → (n : ℕ) → is_at n ds uses ≡ has n (numbers_where (test ds) first xs)
-    unfolding plan_words
+    unfolding plan_definitions
     all_at [] own n = sym (has_none (test []) none first n xs)
     all_at (d ∷ ds) own n =
         let same : delta_of d.object i ≡ d = ap (delta_of d.object) (sym own.0) in
@@ -32,7 +32,7 @@ module _ {X : Type 0} (test : List Delta → X → Bool) (none : (x : X) → tes
     numbers_are ds own ns rise h = same_rising ns (numbers_where (test ds) first xs) rise (numbers_rise (test ds) first xs) (λ n. h n ∙ all_at ds own n)
 
 among_either : (d : Delta) (ds : List Delta) (e : Delta) → is_among (d ∷ ds) e ≡ (is_among (d ∷ []) e || is_among ds e)
-unfolding words
+unfolding definitions
 among_either d ds e = go (same_delta e d) (is_among ds e)
   where
     go : (a b : Bool) → (a || b) ≡ ((a || false) || b)
@@ -40,12 +40,12 @@ among_either d ds e = go (same_delta e d) (is_among ds e)
     go false b = refl
 
 none_on : (ts : List Term) → are_on [] ts ≡ false
-unfolding words
+unfolding definitions
 none_on [] = refl
 none_on (t ∷ ts) = none_on ts
 
 on_either : (d : Delta) (ds : List Delta) (ts : List Term) → are_on (d ∷ ds) ts ≡ (are_on (d ∷ []) ts || are_on ds ts)
-unfolding words
+unfolding definitions
 on_either d ds [] = refl
 on_either d ds (t ∷ ts) =
     ap₂ ◌||◌ (among_either d ds t.delta) (on_either d ds ts)
@@ -60,13 +60,13 @@ on_either d ds (t ∷ ts) =
 pub clauses_are :
     (i : ℕ) (t : Template) (uses : List (List ℕ)) → KeepsClauses i t.clauses uses → (ds : List Delta) → Each (λ d. d.site ≡ i) ds →
     (ns : List ℕ) → IsStrictlySortedBy nat_cmp ns → ((n : ℕ) → has n ns ≡ is_at n ds uses) → ns ≡ touched_clauses ds t
-unfolding words
+unfolding definitions
 clauses_are i t uses keeps ds own ns rise h =
     numbers_are is_touched (λ c. none_on c.terms) (λ d es c. on_either d es c.terms) i 0 t.clauses uses keeps ds own ns rise h
 
 pub freezes_are :
     (i : ℕ) (t : Template) (uses : List (List ℕ)) → KeepsFreezes i (length t.clauses) t.freezes uses → (ds : List Delta) → Each (λ d. d.site ≡ i) ds →
     (ns : List ℕ) → IsStrictlySortedBy nat_cmp ns → ((n : ℕ) → has n ns ≡ is_at n ds uses) → ns ≡ touched_freezes ds t
-unfolding words
+unfolding definitions
 freezes_are i t uses keeps ds own ns rise h =
     numbers_are is_among (λ d. refl) among_either i (length t.clauses) t.freezes uses keeps ds own ns rise h

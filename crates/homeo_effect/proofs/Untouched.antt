@@ -5,16 +5,16 @@ use Rattle.std.proofs.lemmas.Bool.{false≢true}
 use Rattle.std.proofs.lemmas.Bool.Decides.{nat_tests}
 use Rattle.homeo_syntax.specs.declared.low.SplitName.TheVariants as split
 use Rattle.homeo_syntax.specs.Low.{Commands, Skip, Assign, Write, Print, Seq, If, NoCommand, MoreCommand}
-use Rattle.homeo_meaning.specs.Key.{words as meaning_words}
+use Rattle.homeo_meaning.specs.Key.{definitions as meaning_definitions}
 use Rattle.homeo_meaning.specs.LowMeaning.{State, DeltaAt, value, exec_all}
-use Rattle.homeo_plan.specs.Key.{words as plan_words}
+use Rattle.homeo_plan.specs.Key.{definitions as plan_definitions}
 use Rattle.homeo_plan.specs.declared.forms.Delta.{Delta}
 use Rattle.homeo_plan.specs.declared.forms.Term.{Term}
 use Rattle.homeo_plan.specs.Joined.{Deltas, alone}
 use Rattle.homeo_plan.specs.Needs.{IsStraight}
 use Rattle.homeo_plan.specs.Template.{Clause}
 use Rattle.homeo_plan.specs.Treaty.{site_sum}
-use Rattle.homeo_effect.specs.Key.{words}
+use Rattle.homeo_effect.specs.Key.{definitions}
 use Rattle.homeo_effect.specs.Touched.{written, is_among, are_on, is_touched}
 
 neither : (a b : Bool) → (a || b) ≡ false → (a ≡ false) × (b ≡ false)
@@ -25,7 +25,7 @@ neither false b h = (refl, h)
 module _ (d : Delta) where
   pub delta_stays :
       (cs : Commands) (s : State) → IsStraight cs → is_among (written cs) d ≡ false → (exec_all cs s).state (DeltaAt d.object d.site) ≡ s (DeltaAt d.object d.site)
-  unfolding words meaning_words plan_words
+  unfolding definitions meaning_definitions plan_definitions
   delta_stays NoCommand s st h = refl
   delta_stays (MoreCommand Skip cs) s st h = absurd st.0
   delta_stays (MoreCommand (Assign t e) cs) s st h = delta_stays cs _ st.1 h
@@ -46,7 +46,7 @@ module _ (d : Delta) where
   delta_stays (MoreCommand (If t c e) cs) s st h = absurd st.0
 
 alone_own : (b : ℕ → ℤ) (i : ℕ) (x : Deltas) (n : ℕ) → alone b i x (DeltaAt n i) ≡ x n
-unfolding plan_words
+unfolding plan_definitions
 alone_own b i x n = let q : (i == i) ≡ true = grind (arith, nat_tests) in ap (λ v. cond v (x n) (pos 0)) q
 
 module _ (b : ℕ → ℤ) (i : ℕ) (x : Deltas) (cs : Commands) (st : IsStraight cs) where
@@ -56,7 +56,7 @@ module _ (b : ℕ → ℤ) (i : ℕ) (x : Deltas) (cs : Commands) (st : IsStraig
       ∙ ap (λ j. alone b i x (DeltaAt d.object j)) e ∙ alone_own b i x d.object
 
   sums_stay : (ts : List Term) → are_on (written cs) ts ≡ false → site_sum i ts (λ n. (exec_all cs (alone b i x)).state (DeltaAt n i)) ≡ site_sum i ts x
-  unfolding words plan_words
+  unfolding definitions plan_definitions
   sums_stay [] h = refl
   sums_stay (t ∷ ts) h =
       let parts = neither (is_among (written cs) t.delta) (are_on (written cs) ts) h in
@@ -69,5 +69,5 @@ module _ (b : ℕ → ℤ) (i : ℕ) (x : Deltas) (cs : Commands) (st : IsStraig
       one h false q = refl
 
   pub clause_stays : (c : Clause) → is_touched (written cs) c ≡ false → site_sum i c.terms (λ n. (exec_all cs (alone b i x)).state (DeltaAt n i)) ≡ site_sum i c.terms x
-  unfolding words
+  unfolding definitions
   clause_stays c h = sums_stay c.terms h

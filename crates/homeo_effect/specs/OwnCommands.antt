@@ -4,17 +4,17 @@ use Rattle.std.specs.Prelude.{ℕ, ◌==◌, Bool, true, false, ◌&&◌}
 use Rattle.homeo_syntax.specs.declared.low.SplitName.{SplitName}
 use Rattle.homeo_syntax.specs.declared.low.SplitName.TheVariants.{Whole, Base, Delta}
 use Rattle.homeo_syntax.specs.Low.{Expr, Exprs, Literal, OfTemp, Read, Sum, Product, Neg, NoExpr, MoreExpr, Command, Commands, Assign, Write, Print, NoCommand, MoreCommand}
-use Rattle.homeo_effect.specs.Key.{words}
+use Rattle.homeo_effect.specs.Key.{definitions}
 
 -- the name of a delta of site i
 abbrev pub is_own_name : ℕ → SplitName → Bool
-unfolding words
+unfolding definitions
 is_own_name i (Whole x) = false
 is_own_name i (Base x) = false
 is_own_name i (Delta x j) = j == i
 
 abbrev mutual
-  unfolding words
+  unfolding definitions
 
   pub reads_own : ℕ → Expr → Bool
   reads_own i (Literal n) = true
@@ -29,13 +29,13 @@ abbrev mutual
   read_own i (MoreExpr e es) = reads_own i e && read_own i es
 
 abbrev pub is_own : ℕ → Command → Bool
-unfolding words
+unfolding definitions
 is_own i (Assign t e) = reads_own i e
 is_own i (Write x e) = is_own_name i x && reads_own i e
 is_own i (Print e) = reads_own i e
 is_own i c = false
 
 abbrev pub are_own : ℕ → Commands → Bool
-unfolding words
+unfolding definitions
 are_own i NoCommand = true
 are_own i (MoreCommand c cs) = is_own i c && are_own i cs

@@ -9,54 +9,54 @@ use Rattle.homeo_plan.specs.declared.forms.Term.{Term}
 use Rattle.homeo_plan.specs.Each.{Each}
 use Rattle.homeo_plan.specs.Linear.{delta_of, same_delta}
 use Rattle.homeo_plan.specs.Template.{Clause, Template}
-use Rattle.homeo_effect.specs.Key.{words}
+use Rattle.homeo_effect.specs.Key.{definitions}
 
 -- the delta that a name stands for, in front of others
 abbrev pub with_delta : SplitName → List forms.Delta → List forms.Delta
-unfolding words
+unfolding definitions
 with_delta (Whole x) ds = ds
 with_delta (Base x) ds = ds
 with_delta (Delta x j) ds = delta_of x j ∷ ds
 
 -- the deltas that commands write, in their order
 abbrev pub written : Commands → List forms.Delta
-unfolding words
+unfolding definitions
 written NoCommand = []
 written (MoreCommand (Write x e) cs) = with_delta x (written cs)
 written (MoreCommand c cs) = written cs
 
 -- each delta that is written is one of site i
 abbrev pub WritesOwn : ℕ → Commands → Type 0
-unfolding words
+unfolding definitions
 WritesOwn i cs = Each (λ d. d.site ≡ i) (written cs)
 
 -- the delta is among others
 abbrev pub is_among : List forms.Delta → forms.Delta → Bool
-unfolding words
+unfolding definitions
 is_among ds d = list_any (same_delta d) ds
 
 -- the numbers, from n on, of the items that pass a test
 abbrev pub numbers_where : {X : Type 0} → (X → Bool) → ℕ → List X → List ℕ
-unfolding words
+unfolding definitions
 numbers_where test n [] = []
 numbers_where test n (x ∷ xs) = cond (test x) (n ∷ numbers_where test (suc n) xs) (numbers_where test (suc n) xs)
 
 -- one of the terms is on one of the deltas
 abbrev pub are_on : List forms.Delta → List Term → Bool
-unfolding words
+unfolding definitions
 are_on ds ts = list_any (λ t. is_among ds t.delta) ts
 
 -- the clause has a term on one of the deltas
 abbrev pub is_touched : List forms.Delta → Clause → Bool
-unfolding words
+unfolding definitions
 is_touched ds c = are_on ds c.terms
 
 -- the numbers of the clauses with a term on one of the deltas
 abbrev pub touched_clauses : List forms.Delta → Template → List ℕ
-unfolding words
+unfolding definitions
 touched_clauses ds t = numbers_where (is_touched ds) 0 t.clauses
 
 -- the numbers of the freezes that are among the deltas: they go on after those of the clauses
 abbrev pub touched_freezes : List forms.Delta → Template → List ℕ
-unfolding words
+unfolding definitions
 touched_freezes ds t = numbers_where (is_among ds) (length t.clauses) t.freezes

@@ -13,7 +13,7 @@ use homeo_syntax::{LExpr, List, Memory, SplitName};
 use std::alloc::Global;
 
 /// The number that a literal is.
-#[tactic(auto, using(homeo_syntax::proofs::LowViews::low_phrase_views), unfolding(crate::specs::Key::words))]
+#[tactic(auto, using(homeo_syntax::proofs::LowViews::low_phrase_views), unfolding(crate::specs::Key::definitions))]
 fn literal_of(e: &LExpr) -> Option<i64>
     ensures { result ≡ literal_of (plain_lexpr e.now) }
 {
@@ -58,7 +58,7 @@ fn product_of_literals(factors: &[LExpr]) -> Option<i64>
 }
 
 /// What is read: a number of the base, an own delta, or 0.
-#[tactic(auto, using(homeo_syntax::proofs::LowViews::low_phrase_views), unfolding(crate::specs::Key::words))]
+#[tactic(auto, using(homeo_syntax::proofs::LowViews::low_phrase_views), unfolding(crate::specs::Key::definitions))]
 fn local_read(base: &[i64], site: u32, name: SplitName) -> LExpr
     ensures { plain_lexpr result ≡ local_read (values_of base.now) site name }
 {

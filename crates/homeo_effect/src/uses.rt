@@ -110,7 +110,7 @@ fn written_delta(c: &LCommand) -> Option<Delta>
 }
 
 /// The delta that a name stands for.
-#[tactic(auto, unfolding(crate::specs::Key::words, homeo_plan::specs::Key::words))]
+#[tactic(auto, unfolding(crate::specs::Key::definitions, homeo_plan::specs::Key::definitions))]
 fn delta_named(name: SplitName) -> Option<Delta>
     ensures { with_delta name [] ≡ option_to_list result }
 {

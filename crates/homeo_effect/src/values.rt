@@ -23,7 +23,7 @@ impl Reads for Own<'_> {
 
     ghost values = { λ o. plain_own o };
 
-    #[tactic(auto, unfolding(crate::specs::Key::words))]
+    #[tactic(auto, unfolding(crate::specs::Key::definitions))]
     fn temp(&self, t: Temp) -> i64 {
         match t {
             Temp::Named(number) => item_or(self.temporaries, number as usize, 0),
@@ -31,7 +31,7 @@ impl Reads for Own<'_> {
         }
     }
 
-    #[tactic(auto, unfolding(crate::specs::Key::words, homeo_meaning::specs::Key::words))]
+    #[tactic(auto, unfolding(crate::specs::Key::definitions, homeo_meaning::specs::Key::definitions))]
     fn read(&self, x: SplitName) -> i64 {
         match x {
             SplitName::Whole(_) => 0,

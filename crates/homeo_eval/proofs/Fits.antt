@@ -3,7 +3,7 @@ use Rattle.std.proofs.Common.{◌≡◌, ℕ, Bool, true, false, cond, ◌&&◌,
 use Rattle.std.proofs.lemmas.Bool.{and_parts, and_from, false≢true}
 use Rattle.std.proofs.lemmas.Bool.Decides.{nat_tests}
 use Rattle.homeo_syntax.specs.Source.{Expr, Exprs, Literal, Name, Read, Sum, Product, Neg, Field, Row, Count, Total, NoExpr, MoreExpr, Test, Cond, True, Not, Comparison, NoTest, MoreTest, FieldValue, Command, Commands, Skip, Assign, Write, Print, If, Block, SetField, SetRow, Foreach, Insert, Delete, Update, Abort, NoCommand, MoreCommand}
-use Rattle.homeo_meaning.specs.Key.{words}
+use Rattle.homeo_meaning.specs.Key.{definitions}
 use Rattle.homeo_meaning.specs.Context.{Slot, Context, field_cell, slots, bind, slot_at}
 use Rattle.homeo_meaning.specs.Meaning.{State, Run, done, is_used, value, holds, set_object, write_field, does, does_all}
 use Rattle.homeo_meaning.specs.Small.{IsSmall}
@@ -12,17 +12,17 @@ use Rattle.homeo_meaning.specs.Small.{is_small}
 use Rattle.homeo_eval.specs.inner.CanRun.{on_slots, on_slot, adding_fits, expr_fits, sum_fits, product_fits, test_fits, cond_fits, values_fit, visits_fit, can_run, can_run_all}
 
 small : (b : ℕ) (v : ℤ) → IsSmall b v → is_small b v ≡ true
-unfolding words
+unfolding definitions
 small b v h = grind (arith, nat_tests)
 
 any_slots : (all : List Slot) (fits : Bool) → fits ≡ true → on_slots all fits ≡ true
-unfolding words
+unfolding definitions
 any_slots [] fits e = refl
 any_slots (slot ∷ more) fits e = e
 
 -- a given index computes nothing
 given_fits : (b : ℕ) (x : Context) (e : Expr) (s : State) → is_given x e s ≡ true → expr_fits b x e s ≡ true
-unfolding words
+unfolding definitions
 given_fits b x (Literal n) s e = refl
 given_fits b x (Name t) s e = refl
 given_fits b x (Read o) s e = refl
@@ -41,13 +41,13 @@ ended_or true T fits k h = refl
 ended_or false T fits k h = k h
 
 some_slot : (o : Option Slot) (T : Type 0) (fits : Bool) → (T → fits ≡ true) → OnSlot o T → on_slot o fits ≡ true
-unfolding words
+unfolding definitions
 some_slot None T fits k h = refl
 some_slot (Some slot) T fits k h = k h
 
 module _ (R : ℤ → Type 0) (b : ℕ) where
   index_fits : (x : Context) (e : Expr) (s : State) (all : List Slot) → (CanValue R (IsSmall b) x e s → expr_fits b x e s ≡ true) → OnSlots all (Unless (is_given x e s) (CanValue R (IsSmall b) x e s)) → on_slots all (expr_fits b x e s) ≡ true
-  unfolding words
+  unfolding definitions
   index_fits x e s [] k h = refl
   index_fits x e s (slot ∷ more) k h = by_case (is_given x e s) refl h
     where
@@ -56,13 +56,13 @@ module _ (R : ℤ → Type 0) (b : ℕ) where
       by_case false is h = k h
 
   adds : (Tests : Slot → Type 0) (tests passes : Slot → Bool) (term : Slot → ℤ) → ((slot : Slot) → Tests slot → tests slot ≡ true) → (all : List Slot) (n : ℤ) → CanAdd R (IsSmall b) Tests passes term all n → adding_fits b tests passes term all n ≡ true
-  unfolding words
+  unfolding definitions
   adds Tests tests passes term k [] n h = refl
   adds Tests tests passes term k (slot ∷ more) n h =
       and_from (tests slot) _ (k slot h.0) (and_from (is_small b (n +ℤ term slot)) _ (small b (n +ℤ term slot) h.2) (adds Tests tests passes term k more (cond (passes slot) (n +ℤ term slot) n) h.3))
 
   mutual
-    unfolding words
+    unfolding definitions
 
     value_fits : (x : Context) (e : Expr) (s : State) → CanValue R (IsSmall b) x e s → expr_fits b x e s ≡ true
     value_fits x (Literal n) s h = refl
@@ -98,19 +98,19 @@ module _ (R : ℤ → Type 0) (b : ℕ) where
     hold_fits x (MoreTest t c) s h = and_from (test_fits b x t s) _ (pass_fits x t s h.0) (hold_fits x c s h.1)
 
   all_values_fit : (x : Context) (fs : List FieldValue) (s : State) → CanValues R (IsSmall b) x fs s → values_fit b x fs s ≡ true
-  unfolding words
+  unfolding definitions
   all_values_fit x [] s h = refl
   all_values_fit x (f ∷ more) s h = and_from (expr_fits b x f.value s) _ (value_fits x f.value s h.0) (all_values_fit x more s h.1)
 
   visits : (Tests Bodies : Slot → State → Type 0) (tests bodies test : Slot → State → Bool) (body : Slot → State → Run) → ((slot : Slot) (s : State) → Tests slot s → tests slot s ≡ true) → ((slot : Slot) (s : State) → Bodies slot s → bodies slot s ≡ true) → (all : List Slot) (s : State) → CanVisit R (IsSmall b) Tests Bodies test body all s → visits_fit tests bodies test body all s ≡ true
-  unfolding words
+  unfolding definitions
   visits Tests Bodies tests bodies test body k l [] s h = refl
   visits Tests Bodies tests bodies test body k l (slot ∷ more) s h =
       and_from (tests slot s) _ (k slot s h.0) (and_from (bodies slot s) _ (l slot s h.1)
       (ended_or (cond (is_used s slot && test slot s) (body slot s) (done s)).ended _ _ (visits Tests Bodies tests bodies test body k l more (cond (is_used s slot && test slot s) (body slot s) (done s)).state) h.2))
 
   mutual
-    unfolding words
+    unfolding definitions
 
     run_fits : (x : Context) (c : Command) (s : State) → CanRun R (IsSmall b) x c s → can_run b x c s ≡ true
     run_fits x Skip s h = refl

@@ -4,7 +4,7 @@ use Rattle.homeo_context.specs.declared.slots.Slot as code
 use Rattle.homeo_context.specs.declared.context.Context as code_context
 use Rattle.homeo_context.specs.declared.context.BoundRows.{BoundRows, Outside, Inside, the_lemmas}
 use Rattle.homeo_context.specs.declared.arguments.Argument.{Argument}
-use Rattle.homeo_meaning.specs.Key.{words}
+use Rattle.homeo_meaning.specs.Key.{definitions}
 use Rattle.homeo_meaning.specs.Bounds.{all_bounds}
 use Rattle.homeo_meaning.specs.Context.{Slot, bind}
 use Rattle.homeo_meaning.specs.Declarations.{Declarations}
@@ -14,11 +14,11 @@ use Rattle.homeo_context.specs.Contexts.{call_context, rows_of, plain_context}
 use Rattle.homeo_lform.proofs.ObjectBounds.{bounds_count, no_row_fits}
 
 rows_inside : (name : ℕ) (slot : code.Slot) (outer : Bor BoundRows) (n : ℕ) → rows_of (Inside name slot outer) n ≡ cond (name == n) (plain_slot slot) (rows_of outer.now n)
-unfolding words
+unfolding definitions
 rows_inside name slot outer n = search (rules, the_lemmas)
 
 pub context_bound : (f g : code_context.Context) (name : ℕ) (slot : code.Slot) → g.declared.now ≡ f.declared.now → g.arguments.now ≡ f.arguments.now → g.rows.now ≡ Inside name slot f.rows → plain_context g ≡ bind (plain_context f) name (plain_slot slot)
-unfolding words
+unfolding definitions
 context_bound f g name slot d a r = λ i. record {
   schema = (d i).schema;
   arguments = (call_context (d i) (a i)).arguments;
@@ -26,12 +26,12 @@ context_bound f g name slot d a r = λ i. record {
 }
 
 rows_outside : (k n : ℕ) → rows_of (Outside k) n ≡ record { number = 0; used = k; fields = [] }
-unfolding words
+unfolding definitions
 rows_outside k n = search (rules, the_lemmas)
 
 -- no row in force
 pub context_outside : (f : code_context.Context) (k : ℕ) (d : Declarations) (given : List Argument) → f.declared.now ≡ d → f.arguments.now ≡ given → f.rows.now ≡ Outside k → k ≡ length (all_bounds d.schema) → plain_context f ≡ call_context d given
-unfolding words
+unfolding definitions
 context_outside f k d given n a r e = λ i. record {
   schema = (n i).schema;
   arguments = (call_context (n i) (a i)).arguments;
@@ -39,5 +39,5 @@ context_outside f k d given n a r e = λ i. record {
 }
 
 pub call_rows_fit : (d : Declarations) (given : List Argument) → RowsFit (call_context d given)
-unfolding words
+unfolding definitions
 call_rows_fit d given = λ r f. no_row_fits d.schema f

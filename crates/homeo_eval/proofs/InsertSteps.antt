@@ -3,12 +3,12 @@ use Rattle.std.proofs.Common.{◌≡◌, ℕ, suc, ◌+◌, ◌<◌, ◌≤◌, 
 use Rattle.std.proofs.Math.Seq.{drop-cons}
 use Rattle.std.proofs.lemmas.Bool.{and_parts}
 use Rattle.std.proofs.lemmas.List.{map-append}
-use Rattle.homeo_syntax.specs.Key.{words as tree_words}
+use Rattle.homeo_syntax.specs.Key.{definitions as syntax_definitions}
 use Rattle.homeo_syntax.specs.SourceView.{plain_field, plain_expr}
 use Rattle.homeo_syntax.specs.Source as s
 use Rattle.homeo_syntax.specs.declared.command.FieldValue.{FieldValue}
 use Rattle.homeo_eval.specs.declared.inserts.Setting as code
-use Rattle.homeo_meaning.specs.Key.{words}
+use Rattle.homeo_meaning.specs.Key.{definitions}
 use Rattle.homeo_meaning.specs.Schema.{Declared}
 use Rattle.homeo_meaning.specs.Context.{Slot, Context, spot, cell, first_where}
 use Rattle.homeo_meaning.specs.Meaning.{State, Setting, value, settings, is_free, is_within, are_within, set_fields, set_object, set_temp, fill, insert}
@@ -27,11 +27,11 @@ rest_next xs i none h =
 
 -- ---- whether all are within bounds
 within_more : (f : Setting) (fs : List Setting) → are_within (f ∷ fs) ≡ is_within f.field f.value && are_within fs
-unfolding words
+unfolding definitions
 within_more f fs = refl
 
 within_next : (xs : List code.Setting) (i : ℕ) (none : code.Setting) (v : ℤ) (r : Bool) → i < length xs → v ≡ (get_or xs i none).value → r ≡ is_within (plain_spot (get_or xs i none).field) v → are_within (rest_of xs i) ≡ r && are_within (rest_of xs (i + 1))
-unfolding words
+unfolding definitions
 within_next xs i none v r h e p =
     ap are_within (rest_next xs i none h) ∙ within_more (plain_setting (get_or xs i none)) (rest_of xs (i + 1))
     ∙ ap (λ b. b && are_within (rest_of xs (i + 1))) (sym (p ∙ ap (is_within (plain_spot (get_or xs i none).field)) e))
@@ -43,31 +43,31 @@ pub admits : (xs : List code.Setting) (i : ℕ) (none : code.Setting) (v : ℤ) 
 admits xs i none v r h e p q = sym (within_next xs i none v r h e p ∙ ap (λ b. b && are_within (rest_of xs (i + 1))) q)
 
 pub admits_all : (xs : List code.Setting) (i : ℕ) → length xs ≤ i → are_within (map plain_setting (drop i xs)) ≡ true
-unfolding words
+unfolding definitions
 admits_all xs i h = ap are_within (drop_none plain_setting xs i h)
 
 -- ---- the fields that are left to be set
 fields_more : (slot : Slot) (f : Setting) (fs : List Setting) (s : State) → set_fields slot (f ∷ fs) s ≡ set_fields slot fs (set_object s (cell slot f.field) f.value)
-unfolding words
+unfolding definitions
 fields_more slot f fs s = refl
 
 pub field_set : (slot : Slot) (xs : List code.Setting) (i : ℕ) (none : code.Setting) (s u : State) (v : ℤ) → i < length xs → v ≡ (get_or xs i none).value → u ≡ set_object s (slot.used + 1 + (get_or xs i none).field.place) v → set_fields slot (map plain_setting (drop (i + 1) xs)) u ≡ set_fields slot (map plain_setting (drop i xs)) s
-unfolding words
+unfolding definitions
 field_set slot xs i none s u v h e p =
     ap (set_fields slot (rest_of xs (i + 1))) (p ∙ ap (set_object s (slot.used + 1 + (get_or xs i none).field.place)) e)
     ∙ sym (ap (λ l. set_fields slot l s) (rest_next xs i none h) ∙ fields_more slot (plain_setting (get_or xs i none)) (rest_of xs (i + 1)) s)
 
 pub fields_set : (slot : Slot) (xs : List code.Setting) (i : ℕ) (s : State) → length xs ≤ i → set_fields slot (map plain_setting (drop i xs)) s ≡ s
-unfolding words
+unfolding definitions
 fields_set slot xs i s h = ap (λ l. set_fields slot l s) (drop_none plain_setting xs i h)
 
 -- ---- the values that are left to be computed
 values_more : (b : ℕ) (x : Context) (f : s.FieldValue) (fs : List s.FieldValue) (u : State) → values_fit b x (f ∷ fs) u ≡ expr_fits b x f.value u && values_fit b x fs u
-unfolding words
+unfolding definitions
 values_more b x f fs u = refl
 
 settings_more : (x : Context) (ds : List Declared) (f : s.FieldValue) (fs : List s.FieldValue) (u : State) → settings x ds (f ∷ fs) u ≡ record { field = spot ds f.field.name; value = value x f.value u } ∷ settings x ds fs u
-unfolding words
+unfolding definitions
 settings_more x ds f fs u = refl
 
 pub record ValueStep (b : ℕ) (x : Context) (u : State) (xs : List FieldValue) (i : ℕ) (f : FieldValue) : Type 0 where
@@ -75,13 +75,13 @@ pub record ValueStep (b : ℕ) (x : Context) (u : State) (xs : List FieldValue) 
   pub rest : values_fit b x (map plain_field (drop (i + 1) xs)) u ≡ true
 
 pub value_step : (b : ℕ) (x : Context) (u : State) (xs : List FieldValue) (i : ℕ) (f : FieldValue) → i < length xs → f ≡ get_or xs i f → values_fit b x (map plain_field (drop i xs)) u ≡ true → ValueStep b x u xs i f
-unfolding tree_words
+unfolding syntax_definitions
 value_step b x u xs i f h p fits =
     let k = and_parts _ _ (sym (ap (λ l. values_fit b x l u) (drop_next plain_field xs i f h p) ∙ values_more b x (plain_field f) (map plain_field (drop (i + 1) xs)) u) ∙ fits) in
     record { fits = k.0; rest = k.1 }
 
 pub setting_more : (x : Context) (ds : List Declared) (u : State) (xs : List FieldValue) (i : ℕ) (f : FieldValue) (all items : List code.Setting) (n : code.Setting) (whole : List Setting) → i < length xs → f ≡ get_or xs i f → items ≡ all ++ n ∷ [] → plain_spot n.field ≡ spot ds f.field.name → n.value ≡ value x (plain_expr f.value) u → map plain_setting all ++ settings x ds (map plain_field (drop i xs)) u ≡ whole → map plain_setting items ++ settings x ds (map plain_field (drop (i + 1) xs)) u ≡ whole
-unfolding words tree_words
+unfolding definitions syntax_definitions
 setting_more x ds u xs i f all items n whole h p added at v left =
     let rest : List Setting = settings x ds (map plain_field (drop (i + 1) xs)) u in
     let is : plain_setting n ≡ record { field = spot ds f.field.name; value = value x (plain_expr f.value) u } = λ j. record { field = at j; value = v j } in
@@ -92,21 +92,21 @@ setting_more x ds u xs i f all items n whole h p added at v left =
     ∙ ap (λ l. map plain_setting all ++ l) (sym next) ∙ left
 
 pub settings_all : (x : Context) (ds : List Declared) (u : State) (xs : List FieldValue) (i : ℕ) (all : List Setting) → length xs ≤ i → all ≡ all ++ settings x ds (map plain_field (drop i xs)) u
-unfolding words
+unfolding definitions
 settings_all x ds u xs i all h = sym (ap (λ l. all ++ settings x ds l u) (drop_none plain_field xs i h) ∙ append-nil all)
 
 -- ---- the insert
 pub insert_refused : (all : List Slot) (fs gs : List Setting) (t : ℕ) (s : State) → gs ≡ fs → are_within gs ≡ false → set_temp s t (pos 0) ≡ insert all fs t s
-unfolding words
+unfolding definitions
 insert_refused all fs gs t s e h = sym (ap (λ b. cond b (fill fs t s (first_where (is_free s) all)) (set_temp s t (pos 0))) (ap are_within (sym e) ∙ h))
 
 pub insert_full : (all : List Slot) (fs gs : List Setting) (t : ℕ) (s : State) → gs ≡ fs → are_within gs ≡ true → first_where (is_free s) all ≡ None → set_temp s t (pos 0) ≡ insert all fs t s
-unfolding words
+unfolding definitions
 insert_full all fs gs t s e h n =
     sym (ap (λ b. cond b (fill fs t s (first_where (is_free s) all)) (set_temp s t (pos 0))) (ap are_within (sym e) ∙ h) ∙ ap (fill fs t s) n)
 
 pub insert_filled : (all : List Slot) (fs gs : List Setting) (t : ℕ) (s : State) (slot : Slot) → gs ≡ fs → are_within gs ≡ true → first_where (is_free s) all ≡ Some slot → set_temp (set_object (set_fields slot gs s) slot.used (pos 1)) t (pos (suc slot.number)) ≡ insert all fs t s
-unfolding words
+unfolding definitions
 insert_filled all fs gs t s slot e h n =
     ap (λ l. set_temp (set_object (set_fields slot l s) slot.used (pos 1)) t (pos (suc slot.number))) e
     ∙ sym (ap (λ b. cond b (fill fs t s (first_where (is_free s) all)) (set_temp s t (pos 0))) (ap are_within (sym e) ∙ h) ∙ ap (fill fs t s) n)

@@ -4,7 +4,7 @@ use Rattle.std.specs.Prelude.{slice_get, option_map, IsSome}
 use Rattle.std.specs.Option.{option_and_then}
 use Rattle.std.proofs.lemmas.Bool.{false≢true}
 use Rattle.std.proofs.lemmas.Option.{slice_get_past, slice_get-map, slice_get_read}
-use Rattle.homeo_syntax.specs.Key.{words as tree_words}
+use Rattle.homeo_syntax.specs.Key.{definitions as syntax_definitions}
 use Rattle.homeo_syntax.specs.Source as s
 use Rattle.homeo_syntax.specs.declared.command.Command.{Command}
 use Rattle.homeo_syntax.specs.declared.workload.RangeDecl.{RangeDecl}
@@ -15,7 +15,7 @@ use Rattle.homeo_syntax.specs.declared.workload.Workload.{Workload}
 use Rattle.homeo_syntax.specs.SourceView.{commands, plain_command, plain_transaction, plain_call, plain_client, plain_workload}
 use Rattle.homeo_context.specs.declared.arguments.Argument.{Argument}
 use Rattle.homeo_meaning.specs.declared.call.CallId.{CallId}
-use Rattle.homeo_meaning.specs.Key.{words}
+use Rattle.homeo_meaning.specs.Key.{definitions}
 use Rattle.homeo_meaning.specs.Calls.{CallExists}
 use Rattle.homeo_meaning.specs.Serial.{numbered, call_of}
 use Rattle.homeo_meaning.specs.Schema.{schema_of}
@@ -32,7 +32,7 @@ client_within f (c ∷ cs) zero h = omega arith
 client_within f (c ∷ cs) (suc n) h = omega (arith, client_within f cs n h)
 
 pub client_exists : (w : Workload) (id : CallId) (cs : List Client) → cs ≡ w.clients.items → CallExists (plain_workload w) id → id.client < length cs
-unfolding words tree_words
+unfolding definitions syntax_definitions
 client_exists w id cs e h = client_within _ cs id.client (subst (λ l. IsSome (option_and_then (λ client. numbered id.seq client.calls) (slice_get (map plain_client l) id.client))) (sym e) h)
 
 numbered_previous : (n : ℕ) (calls : List s.Call) → 1 ≤ n → numbered n calls ≡ slice_get calls (n - 1)
@@ -55,7 +55,7 @@ pub record CallHere (w : Workload) (id : CallId) (calls : List Call) : Type 0 wh
   pub found : (c : Call) → c ≡ get_or calls (id.seq - 1) c → call_of (plain_workload w) id ≡ Some (plain_call c)
 
 pub call_here : (w : Workload) (id : CallId) (cs : List Client) (client : Client) (calls : List Call) → cs ≡ w.clients.items → id.client < length cs → client ≡ get_or cs id.client client → calls ≡ client.calls.items → CallExists (plain_workload w) id → CallHere w id calls
-unfolding words tree_words
+unfolding definitions syntax_definitions
 call_here w id cs client calls e h p q exists =
     let at : slice_get (plain_workload w).clients id.client ≡ Some (plain_client client) = ap (λ l. slice_get (map plain_client l) id.client) (sym e) ∙ slice_get-map plain_client cs id.client ∙ ap (option_map plain_client) (slice_get_read cs (length cs) id.client client refl h p) in
     let of : call_of (plain_workload w) id ≡ numbered id.seq (map plain_call calls) = ap (option_and_then (λ client. numbered id.seq client.calls)) at ∙ ap (λ l. numbered id.seq (map plain_call l)) (sym q) in
@@ -68,6 +68,6 @@ call_here w id cs client calls e h p q exists =
 
 -- what stands of the transaction at a place of the code's list
 pub runs_here : (w : Workload) (ts : List Transaction) (place : ℕ) (args : List ℤ) (t : Transaction) (params : List RangeDecl) (given bound : List Argument) (body : List Command) (d : Declarations) (db : List ℤ) → ts ≡ w.transactions.items → place < length ts → t ≡ get_or ts place t → params ≡ t.params.items → given ≡ bound → arguments_of (map (λ a. a.name) bound) (map (λ a. a.value) bound) ≡ arguments_of (map (λ p. p.name.name) params) args → body ≡ t.body.items → d ≡ declarations (plain_workload w) → IsLightBody (plain_workload w) (slice_get (plain_workload w).transactions place) args → IsWithin (schema_of (plain_workload w)) db → TransactionRuns (plain_workload w) place args d given (commands (map plain_command body)) db
-unfolding tree_words
+unfolding syntax_definitions
 runs_here w ts place args t params given bound body d db e h p ps b g q r light within =
     transaction_runs (plain_workload w) (plain_transaction t) place args d given (commands (map plain_command body)) db (transaction_here w ts place t e h p) (ap (λ l. arguments_of (map (λ a. a.name) l) (map (λ a. a.value) l)) b ∙ g ∙ ap (λ ps. arguments_of (map (λ p. p.name.name) ps) args) ps) r (ap (λ l. commands (map plain_command l)) q) light within

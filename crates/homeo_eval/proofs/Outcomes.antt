@@ -9,7 +9,7 @@ use Rattle.homeo_syntax.specs.Source as s
 use Rattle.homeo_syntax.specs.declared.workload.RangeDecl.{RangeDecl}
 use Rattle.homeo_context.specs.declared.arguments.Argument.{Argument}
 use Rattle.homeo_meaning.specs.declared.call.CallId.{CallId}
-use Rattle.homeo_meaning.specs.Key.{words}
+use Rattle.homeo_meaning.specs.Key.{definitions}
 use Rattle.homeo_meaning.specs.Schema.{Schema, schema_of}
 use Rattle.homeo_meaning.specs.Bounds.{IsWithin, AllWithin}
 use Rattle.homeo_meaning.specs.Context.{Context, arguments_of, context}
@@ -46,7 +46,7 @@ values_list (x ∷ xs) k f h =
     (λ i. (ap f first ∙ h 0) i ∷ values_list xs (suc k) f (λ j. ap f (next j) ∙ h (suc j)) i)
 
 pub like_itself : (base xs : List ℤ) (f : ℕ → ℤ) → length xs ≡ length base → values_of xs ≡ f → xs ≡ database_like base f
-unfolding words
+unfolding definitions
 like_itself base xs f e p =
     let same : (i : ℕ) → 0 + i ≡ i = λ i. omega arith in
     sym (values_list xs 0 (values_of xs) (λ i. ap (values_of xs) (same i)))
@@ -54,11 +54,11 @@ like_itself base xs f e p =
 
 -- a context by its schema and what it gives to names
 abbrev with_arguments : Schema → (ℕ → Option ℤ) → Context
-unfolding words
+unfolding definitions
 with_arguments x f = record { schema = x; arguments = f; rows = (context x [] []).rows }
 
 context_is : (w : s.Workload) (params : List RangeDecl) (args : List ℤ) (given : List Argument) → arguments_of (map (λ a. a.name) given) (map (λ a. a.value) given) ≡ arguments_of (map (λ p. p.name.name) params) args → context (schema_of w) (map (λ p. p.name.name) params) args ≡ call_context (declarations w) given
-unfolding words
+unfolding definitions
 context_is w params args given g = λ i. with_arguments (schema_of w) (sym g i)
 
 -- what is known of a body whose L form is light
@@ -68,7 +68,7 @@ pub record BodyRuns (x : Schema) (params : List ℕ) (args : List ℤ) (body : s
   pub within : IsWithin x (database_like db (run_in (context x params args) body db).state.database)
 
 pub body_runs : (x : Schema) (params : List ℕ) (args : List ℤ) (body : s.Commands) (db : List ℤ) → IsWithin x db → is_light weight_limit (l_form x params args body) (first_weights x) ≡ true → BodyRuns x params args body db
-unfolding words
+unfolding definitions
 body_runs x params args body db within light =
     let all : AllWithin x (values_of db) = all_within x db within in
     let small = (light_law weight_limit x params args body (values_of db) all light).program in
@@ -86,7 +86,7 @@ pub record TransactionRuns (w : s.Workload) (place : ℕ) (args : List ℤ) (d :
   pub outcome : record { prints = (body_run d given cs db).prints; database = database_like db (body_run d given cs db).state.database } ≡ outcome_at w (slice_get w.transactions place) args db
 
 own_body : (w : s.Workload) (t : s.Transaction) (place : ℕ) (args : List ℤ) (given : List Argument) (db : List ℤ) → slice_get w.transactions place ≡ Some t → arguments_of (map (λ a. a.name) given) (map (λ a. a.value) given) ≡ arguments_of (map (λ p. p.name.name) t.params) args → IsLightBody w (slice_get w.transactions place) args → IsWithin (schema_of w) db → TransactionRuns w place args (declarations w) given t.body db
-unfolding words
+unfolding definitions
 own_body w t place args given db e g light within =
     let params : List ℕ = map (λ p. p.name.name) t.params in
     let x = context_is w t.params args given g in
@@ -105,25 +105,25 @@ transaction_runs w t place args d given cs db e g p q light within =
 
 -- a run from an empty list of prints
 pub body_ran : (d : Declarations) (given : List Argument) (cs : s.Commands) (db copy temps ps qs : List ℤ) (r : State) (v : Bool) → copy ≡ db → temps ≡ [] → qs ≡ [] → run_of r ps v ≡ after_prints qs (does_all (call_context d given) cs (state_with copy temps)) → run_of r ps v ≡ does_all (call_context d given) cs (start db)
-unfolding words
+unfolding definitions
 body_ran d given cs db copy temps ps qs r v p q z e = e ∙ (λ i. after_prints (z i) (does_all (call_context d given) cs (state_with (p i) (q i))))
 
 -- the database after a call that goes on to its end, and after one that is ended
 pub settles_on : (after : Run) (s : State) (ps : List ℤ) (v : Bool) (db xs : List ℤ) → run_of s ps v ≡ after → v ≡ false → length xs ≡ length db → values_of xs ≡ s.database → xs ≡ database_like db (cond after.ended (values_of db) after.state.database)
-unfolding words
+unfolding definitions
 settles_on after s ps v db xs e on len same =
     let goes_on : after.ended ≡ false = sym (ap (λ (r : Run). r.ended) e) ∙ on in
     like_itself db xs (cond after.ended (values_of db) after.state.database) len
     (same ∙ ap (λ (r : Run). r.state.database) e ∙ sym (ap (λ w. cond w (values_of db) after.state.database) goes_on))
 
 pub settles_back : (after : Run) (s : State) (ps : List ℤ) (v : Bool) (db xs : List ℤ) → run_of s ps v ≡ after → v ≡ true → xs ≡ db → xs ≡ database_like db (cond after.ended (values_of db) after.state.database)
-unfolding words
+unfolding definitions
 settles_back after s ps v db xs e ended same =
     let up : after.ended ≡ true = sym (ap (λ (r : Run). r.ended) e) ∙ ended in
     same ∙ like_itself db db (cond after.ended (values_of db) after.state.database) refl (sym (ap (λ w. cond w (values_of db) after.state.database) up))
 
 pub body_starts : (db copy temps : List ℤ) → copy ≡ db → temps ≡ [] → start db ≡ state_with copy temps
-unfolding words
+unfolding definitions
 body_starts db copy temps p q = sym (λ i. state_with (p i) (q i))
 
 -- a client's call, by the place of its transaction
@@ -132,7 +132,7 @@ pub record PlacedCall (w : s.Workload) (id : CallId) (place : ℕ) (args : List 
   pub outcome : (db : List ℤ) → outcome_at w (slice_get w.transactions place) args db ≡ call_outcome w id db
 
 pub placed_call : (w : s.Workload) (id : CallId) (c : s.Call) (d : Declarations) (place : ℕ) (args : List ℤ) → IsSound w → call_of w id ≡ Some c → d ≡ declarations w → place ≡ place_of d.transactions c.name.name → args ≡ arguments c → PlacedCall w id place args
-unfolding words
+unfolding definitions
 placed_call w id c d place args sound made e p a =
     let named : slice_get w.transactions place ≡ transaction_named w c.name.name = ap (slice_get w.transactions) (p ∙ ap (λ d. place_of d.transactions c.name.name) e) ∙ transaction_place w c.name.name in
     record {
@@ -146,7 +146,7 @@ pub record SerialStep (w : s.Workload) (db after : List ℤ) (ids : List CallId)
   pub last : (serial w after (drop (i + 1) ids)).database ≡ (serial w db (drop i ids)).database
 
 serial_more : (w : s.Workload) (db : List ℤ) (id : CallId) (ids : List CallId) → serial w db (id ∷ ids) ≡ record { logs = (call_outcome w id db).prints ∷ (serial w (call_outcome w id db).database ids).logs; database = (serial w (call_outcome w id db).database ids).database }
-unfolding words
+unfolding definitions
 serial_more w db id ids = refl
 
 pub serial_step : (w : s.Workload) (db after : List ℤ) (ids : List CallId) (i : ℕ) (none : CallId) (before : List (List ℤ)) (prints : List ℤ) → i < length ids → prints ≡ (call_outcome w (get_or ids i none) db).prints → after ≡ (call_outcome w (get_or ids i none) db).database → SerialStep w db after ids i before prints
@@ -161,7 +161,7 @@ serial_step w db after ids i none before prints h q r =
     }
 
 serial_none : (w : s.Workload) (db : List ℤ) → serial w db [] ≡ record { logs = []; database = db }
-unfolding words
+unfolding definitions
 serial_none w db = refl
 
 pub record SerialEnd (w : s.Workload) (db : List ℤ) (ids : List CallId) (i : ℕ) (before : List (List ℤ)) : Type 0 where

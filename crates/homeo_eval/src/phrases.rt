@@ -46,7 +46,7 @@ fn negated(a: i64) -> i64
     -a
 }
 
-#[tactic(auto, unfolding(homeo_meaning::specs::Key::words))]
+#[tactic(auto, unfolding(homeo_meaning::specs::Key::definitions))]
 fn compared(op: Compare, left: i64, right: i64) -> bool
     ensures { result ≡ compared op left right }
 {
@@ -57,7 +57,7 @@ fn compared(op: Compare, left: i64, right: i64) -> bool
     }
 }
 
-#[tactic(auto, unfolding(homeo_meaning::specs::Key::words))]
+#[tactic(auto, unfolding(homeo_meaning::specs::Key::definitions))]
 fn term_at(term: Term, slot: &Slot, state: &State) -> i64
     ensures { result ≡ term_of term (state_of state.now) (plain_slot slot.now) }
 {
@@ -69,7 +69,7 @@ fn term_at(term: Term, slot: &Slot, state: &State) -> i64
 
 /// The value of an expression.
 #[cycle(phrases)]
-#[tactic(auto, using(homeo_syntax::proofs::Measures::phrase_parts, std::proofs::lemmas::Bool::and_parts, homeo_syntax::proofs::SourceViews::phrase_views), unfolding(homeo_meaning::specs::Key::words))]
+#[tactic(auto, using(homeo_syntax::proofs::Measures::phrase_parts, std::proofs::lemmas::Bool::and_parts, homeo_syntax::proofs::SourceViews::phrase_views), unfolding(homeo_meaning::specs::Key::definitions))]
 pub(crate) fn value(e: &Expr, context: &Context, state: &State) -> i64
     requires { expr_fits weight_limit (plain_context context.now) (plain_expr e.now) (state_of state.now) ≡ true }
     ensures { result ≡ value (plain_context context.now) (plain_expr e.now) (state_of state.now) }
@@ -176,7 +176,7 @@ fn total(test: &Cond, row: u32, slots: &Slots, term: Term, context: &Context, st
 }
 
 #[cycle(phrases)]
-#[tactic(auto, using(homeo_syntax::proofs::Measures::phrase_parts, std::proofs::lemmas::Bool::and_parts, homeo_syntax::proofs::SourceViews::phrase_views), unfolding(homeo_meaning::specs::Key::words))]
+#[tactic(auto, using(homeo_syntax::proofs::Measures::phrase_parts, std::proofs::lemmas::Bool::and_parts, homeo_syntax::proofs::SourceViews::phrase_views), unfolding(homeo_meaning::specs::Key::definitions))]
 fn passes(t: &Test, context: &Context, state: &State) -> bool
     requires { test_fits weight_limit (plain_context context.now) (plain_test t.now) (state_of state.now) ≡ true }
     ensures { result ≡ passes (plain_context context.now) (plain_test t.now) (state_of state.now) }
@@ -194,7 +194,7 @@ fn passes(t: &Test, context: &Context, state: &State) -> bool
 
 /// Whether each test of a condition passes.
 #[cycle(phrases)]
-#[tactic(auto, using(homeo_syntax::proofs::Measures::phrase_parts, std::proofs::lemmas::Bool::and_parts, homeo_syntax::proofs::SourceViews::phrase_views), unfolding(homeo_meaning::specs::Key::words))]
+#[tactic(auto, using(homeo_syntax::proofs::Measures::phrase_parts, std::proofs::lemmas::Bool::and_parts, homeo_syntax::proofs::SourceViews::phrase_views), unfolding(homeo_meaning::specs::Key::definitions))]
 pub(crate) fn holds(c: &Cond, context: &Context, state: &State) -> bool
     requires { cond_fits weight_limit (plain_context context.now) (plain_cond c.now) (state_of state.now) ≡ true }
     ensures { result ≡ holds (plain_context context.now) (plain_cond c.now) (state_of state.now) }

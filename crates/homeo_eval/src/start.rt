@@ -56,7 +56,7 @@ fn start_slot(fields: &[RangeDecl], database: &mut Database) -> Result<(), Memor
 }
 
 /// The value within a field's bounds that is nearest to 0.
-#[tactic(auto, unfolding(homeo_meaning::specs::Key::words))]
+#[tactic(auto, unfolding(homeo_meaning::specs::Key::definitions))]
 fn nearest_zero(field: &RangeDecl) -> i64
     ensures { result ≡ nearest_zero (declared_range field.now) }
 {

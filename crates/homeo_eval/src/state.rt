@@ -18,14 +18,14 @@ pub(crate) struct State {
 }
 
 impl State {
-    #[tactic(auto, unfolding(homeo_meaning::specs::Key::words))]
+    #[tactic(auto, unfolding(homeo_meaning::specs::Key::definitions))]
     pub(crate) fn temp(&self, name: u32) -> i64
         ensures { result ≡ (state_of self.now).temps name }
     {
         item_or(self.temps.as_slice(), name as usize, 0)
     }
 
-    #[tactic(auto, unfolding(homeo_meaning::specs::Key::words))]
+    #[tactic(auto, unfolding(homeo_meaning::specs::Key::definitions))]
     pub(crate) fn object(&self, place: usize) -> i64
         ensures { result ≡ (state_of self.now).database place }
     {
@@ -33,7 +33,7 @@ impl State {
     }
 
     /// The object of a slot's field that has this place.
-    #[tactic(auto, unfolding(homeo_meaning::specs::Key::words))]
+    #[tactic(auto, unfolding(homeo_meaning::specs::Key::definitions))]
     pub(crate) fn cell(&self, slot: &Slot, place: usize) -> i64
         ensures { result ≡ (state_of self.now).database (slot.now.used + 1 + place) }
     {
@@ -46,21 +46,21 @@ impl State {
     }
 
     /// The field of a slot that has this name.
-    #[tactic(auto, unfolding(homeo_meaning::specs::Key::words))]
+    #[tactic(auto, unfolding(homeo_meaning::specs::Key::definitions))]
     pub(crate) fn field(&self, slot: &Slot, name: u32) -> i64
         ensures { result ≡ (state_of self.now).database (field_cell (plain_slot slot.now) name) }
     {
         self.cell(slot, find_field(slot.fields, name).place)
     }
 
-    #[tactic(auto, unfolding(homeo_meaning::specs::Key::words))]
+    #[tactic(auto, unfolding(homeo_meaning::specs::Key::definitions))]
     pub(crate) fn is_used(&self, slot: &Slot) -> bool
         ensures { result ≡ is_used (state_of self.now) (plain_slot slot.now) }
     {
         self.object(slot.used) == 1
     }
 
-    #[tactic(auto, unfolding(homeo_meaning::specs::Key::words))]
+    #[tactic(auto, unfolding(homeo_meaning::specs::Key::definitions))]
     pub(crate) fn is_free(&self, slot: &Slot) -> bool
         ensures { result ≡ is_free (state_of self.now) (plain_slot slot.now) }
     {

@@ -1,5 +1,5 @@
 -- Lists of deltas in order, each once: which deltas are there says all of one.
-use Rattle.homeo_plan.specs.Key.{words as plan_words}
+use Rattle.homeo_plan.specs.Key.{definitions as plan_definitions}
 use Rattle.std.proofs.Common.{◌≡◌, ℕ, ◌==◌, Bool, true, false, cond, not, ◌||◌, ◌&&◌, List, [], ◌∷◌, ◌++◌, ℤ, pos, ◌+ℤ◌, refl, sym, ap, ap₂, ◌∙◌, true≢false, arith}
 use Rattle.std.specs.List.{list_any}
 use Rattle.std.specs.Ordering.{int_eq}
@@ -36,7 +36,7 @@ or_move false false c = refl
 
 -- a test of the deltas passes for one of them where it did, or for the one that was put to them
 pub any_add : (q : Delta → Bool) (e : Delta) (ds : List Delta) → list_any q (add_delta e ds) ≡ (q e || list_any q ds)
-unfolding plan_words
+unfolding plan_definitions
 any_add q e [] = refl
 any_add q e (x ∷ xs) = go (same_delta e x) refl (delta_before e x) (any_add q e xs)
   where
@@ -52,7 +52,7 @@ has_add : (d e : Delta) (ds : List Delta) → has d (add_delta e ds) ≡ (same_d
 has_add d e ds = any_add (same_delta d) e ds
 
 pub has_adds : (d : Delta) (ds es : List Delta) → has d (add_deltas ds es) ≡ (has d ds || has d es)
-unfolding plan_words
+unfolding plan_definitions
 has_adds d [] es = refl
 has_adds d (x ∷ xs) es =
     has_adds d xs (add_delta x es) ∙ ap (λ b. has d xs || b) (has_add d x es) ∙ or_move (has d xs) (same_delta d x) (has d es)
@@ -68,21 +68,21 @@ has_append d (x ∷ ds) es = ap (λ b. same_delta d x || b) (has_append d ds es)
 -- ---- order
 -- each stands after the delta
 abbrev pub After : Delta → List Delta → Type 0
-unfolding plan_words
+unfolding plan_definitions
 After d es = Each (λ e. delta_before d e ≡ true) es
 
 abbrev pub Ordered : List Delta → Type 0
-unfolding plan_words
+unfolding plan_definitions
 Ordered [] = Unit {0}
 Ordered (d ∷ ds) = After d ds × Ordered ds
 
 after_before : (c d : Delta) (es : List Delta) → delta_before c d ≡ true → After d es → After c es
-unfolding plan_words
+unfolding plan_definitions
 after_before c d [] h a = tt
 after_before c d (e ∷ es) h a = (before_trans c d e h a.0, after_before c d es h a.1)
 
 after_add : (c d : Delta) (es : List Delta) → delta_before c d ≡ true → After c es → After c (add_delta d es)
-unfolding plan_words
+unfolding plan_definitions
 after_add c d [] h a = (h, tt)
 after_add c d (e ∷ es) h a = go (same_delta d e) (delta_before d e) (after_add c d es h a.1)
   where
@@ -92,7 +92,7 @@ after_add c d (e ∷ es) h a = go (same_delta d e) (delta_before d e) (after_add
     go false false ih = (a.0, ih)
 
 ordered_add : (d : Delta) (es : List Delta) → Ordered es → Ordered (add_delta d es)
-unfolding plan_words
+unfolding plan_definitions
 ordered_add d [] o = (tt, tt)
 ordered_add d (e ∷ es) o = go (same_delta d e) refl (delta_before d e) refl (ordered_add d es o.1)
   where
@@ -104,13 +104,13 @@ ordered_add d (e ∷ es) o = go (same_delta d e) refl (delta_before d e) refl (o
     go false p false q ih = (after_add e d es (before_total d e p q) o.0, ih)
 
 pub ordered_adds : (ds es : List Delta) → Ordered es → Ordered (add_deltas ds es)
-unfolding plan_words
+unfolding plan_definitions
 ordered_adds [] es o = o
 ordered_adds (d ∷ ds) es o = ordered_adds ds (add_delta d es) (ordered_add d es o)
 
 module _ (P : Delta → Type 0) where
   each_put : (d : Delta) (es : List Delta) → P d → Each P es → Each P (add_delta d es)
-  unfolding plan_words
+  unfolding plan_definitions
   each_put d [] p h = (p, tt)
   each_put d (e ∷ es) p h = go (same_delta d e) (delta_before d e) (each_put d es p h.1)
     where
@@ -120,13 +120,13 @@ module _ (P : Delta → Type 0) where
       go false false ih = (h.0, ih)
 
   pub each_puts : (ds es : List Delta) → Each P ds → Each P es → Each P (add_deltas ds es)
-  unfolding plan_words
+  unfolding plan_definitions
   each_puts [] es g h = h
   each_puts (d ∷ ds) es g h = each_puts ds (add_delta d es) g.1 (each_put d es g.0 h)
 
 -- ---- lists in order that have the same deltas
 none_after : (d : Delta) (ds : List Delta) → After d ds → has d ds ≡ false
-unfolding plan_words
+unfolding plan_definitions
 none_after d [] a = refl
 none_after d (e ∷ es) a = ap₂ ◌||◌ (before_is_other d e a.0) (none_after d es a.1)
 
@@ -142,7 +142,7 @@ same_rest d e x ds es p a b h = go (same_delta x d) refl
         sym (ap (λ b. b || has x ds) q) ∙ h ∙ ap (λ b. b || has x es) (ap (same_delta x) (sym p) ∙ q)
 
 pub same_deltas : (ds es : List Delta) → Ordered ds → Ordered es → ((d : Delta) → has d ds ≡ has d es) → ds ≡ es
-unfolding plan_words
+unfolding plan_definitions
 same_deltas [] [] o p h = refl
 same_deltas [] (e ∷ es) o p h = absurd (true≢false (sym (h e ∙ ap (λ b. b || has e es) (same_delta_refl e))))
 same_deltas (d ∷ ds) [] o p h = absurd (true≢false (sym (ap (λ b. b || has d ds) (same_delta_refl d)) ∙ h d))
@@ -161,18 +161,18 @@ same_deltas (d ∷ ds) (e ∷ es) o p h = go (same_delta d e) refl (delta_before
 
 -- ---- the deltas of terms
 after_terms : (d : Delta) (ts : List Term) → Above d ts → After d (deltas_of ts)
-unfolding plan_words
+unfolding plan_definitions
 after_terms d [] a = tt
 after_terms d (t ∷ ts) a = (a.0, after_terms d ts a.1)
 
 pub ordered_terms : (ts : List Term) → Sorted ts → Ordered (deltas_of ts)
-unfolding plan_words
+unfolding plan_definitions
 ordered_terms [] s = tt
 ordered_terms (t ∷ ts) s = (after_terms t.delta ts s.0, ordered_terms ts s.1)
 
 -- a delta is there where its factor isn't 0
 pub has_term : (d : Delta) (ts : List Term) → Sorted ts → AllCount ts → has d (deltas_of ts) ≡ not (int_eq (factor d ts) (pos 0))
-unfolding plan_words
+unfolding plan_definitions
 has_term d [] s c = refl
 has_term d (t ∷ ts) s c = go (same_delta t.delta d) refl (has_term d ts s.1 c.1)
   where
@@ -202,7 +202,7 @@ and_or false b c = refl
 
 -- ---- those of other sites
 pub has_remote : (i : ℕ) (d : Delta) (ds : List Delta) → has d (remote i ds) ≡ (not (d.site == i) && has d ds)
-unfolding plan_words
+unfolding plan_definitions
 has_remote i d [] = nothing (d.site == i)
   where
     nothing : (b : Bool) → false ≡ (not b && false)
@@ -227,7 +227,7 @@ has_remote i d (e ∷ es) = go (e.site == i) refl (same_delta d e) refl (d.site 
     go false p false q w r ih = ap (λ b. b || has d (remote i es)) q ∙ ih
 
 after_remote : (i : ℕ) (c : Delta) (ds : List Delta) → After c ds → After c (remote i ds)
-unfolding plan_words
+unfolding plan_definitions
 after_remote i c [] a = tt
 after_remote i c (d ∷ ds) a = go (d.site == i) (after_remote i c ds a.1)
   where
@@ -236,7 +236,7 @@ after_remote i c (d ∷ ds) a = go (d.site == i) (after_remote i c ds a.1)
     go false ih = (a.0, ih)
 
 pub ordered_remote : (i : ℕ) (ds : List Delta) → Ordered ds → Ordered (remote i ds)
-unfolding plan_words
+unfolding plan_definitions
 ordered_remote i [] o = tt
 ordered_remote i (d ∷ ds) o = go (d.site == i) (ordered_remote i ds o.1)
   where

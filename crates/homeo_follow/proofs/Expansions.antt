@@ -1,6 +1,6 @@
 -- Forms at many sites: sums, multiples and products of forms over whole objects.
-use Rattle.homeo_plan.specs.Key.{words as plan_words}
-use Rattle.homeo_follow.specs.Key.{words}
+use Rattle.homeo_plan.specs.Key.{definitions as plan_definitions}
+use Rattle.homeo_follow.specs.Key.{definitions}
 use Rattle.std.proofs.Common.{◌≡◌, ℕ, zero, suc, ◌==◌, ◌<◌, ◌≤◌, nat_lt, Bool, true, false, cond, not, ◌||◌, ◌&&◌, List, [], ◌∷◌, ◌++◌, map, ℤ, pos, ◌+ℤ◌, ◌*ℤ◌, refl, sym, ap, ap₂, ◌∙◌, subst, arith}
 use Rattle.std.specs.Ordering.{int_eq}
 use Rattle.std.proofs.lemmas.Int.{ints}
@@ -31,18 +31,18 @@ pub record IsTidy (a : Linear) : Type 0 where
   pub mixed : Each IsObject a.mixed
 
 pub object_is : (d : Delta) → IsObject d → d ≡ object_delta d.object
-unfolding words plan_words
+unfolding definitions plan_definitions
 object_is d h = λ i. record { object = d.object; site = h i }
 
 -- ---- one object at its sites
 pub factor_from : (d : Delta) (j n x : ℕ) (f : ℤ) → factor d (terms_from j n x f) ≡ sum_from j n (λ m. at_delta (delta_of x m) f d)
-unfolding words plan_words
+unfolding definitions plan_definitions
 factor_from d j zero x f = refl
 factor_from d j (suc n) x f = ap (λ z. at_delta (delta_of x j) f d +ℤ z) (factor_from d (suc j) n x f)
 
 -- of the k sites of an object, that of the delta
 pub at_site : (d : Delta) (k x : ℕ) (f : ℤ) → sum_from 0 k (λ m. at_delta (delta_of x m) f d) ≡ cond (nat_lt d.site k) (at_delta (object_delta x) f (object_delta d.object)) (pos 0)
-unfolding words plan_words
+unfolding definitions plan_definitions
 at_site d k x f = sum_same 0 k _ _ apart ∙ sum_at d.site k (λ m. cond (x == d.object) f (pos 0)) ∙ ap (λ z. cond (nat_lt d.site k) z (pos 0)) here
   where
     apart : (m : ℕ) → cond ((x == d.object) && (m == d.site)) f (pos 0) ≡ cond (d.site == m) (cond (x == d.object) f (pos 0)) (pos 0)
@@ -72,7 +72,7 @@ same_sum false x y = refl
 
 -- the factor of a delta at one of k sites is that of its object
 pub factor_expanded : (d : Delta) (k : ℕ) (ts : List Term) → OfEach IsObject ts → factor d (expanded_terms k ts) ≡ cond (nat_lt d.site k) (factor (object_delta d.object) ts) (pos 0)
-unfolding words plan_words
+unfolding definitions plan_definitions
 factor_expanded d k [] h = nothing (nat_lt d.site k)
   where
     nothing : (b : Bool) → pos 0 ≡ cond b (pos 0) (pos 0)
@@ -88,84 +88,84 @@ factor_expanded d k (t ∷ ts) h =
 
 -- ---- order
 above_from : (i j n x : ℕ) (f : ℤ) → i < j → Above (delta_of x i) (terms_from j n x f)
-unfolding words plan_words
+unfolding definitions plan_definitions
 above_from i j zero x f l = tt
 above_from i j (suc n) x f l = (grind (arith, nat_tests), above_from i (suc j) n x f (omega (arith, l)))
 
 sorted_from : (j n x : ℕ) (f : ℤ) → Sorted (terms_from j n x f)
-unfolding words plan_words
+unfolding definitions plan_definitions
 sorted_from j zero x f = tt
 sorted_from j (suc n) x f = (above_from j (suc j) n x f (omega arith), sorted_from (suc j) n x f)
 
 -- the deltas of an object stand after those of a lesser one
 object_above : (x i j n y : ℕ) (f : ℤ) → x < y → Above (delta_of x i) (terms_from j n y f)
-unfolding words plan_words
+unfolding definitions plan_definitions
 object_above x i j zero y f l = tt
 object_above x i j (suc n) y f l = (grind (arith, nat_tests), object_above x i (suc j) n y f l)
 
 above_expanded : (d : Delta) (i k : ℕ) (ts : List Term) → IsObject d → OfEach IsObject ts → Above d ts → Above (delta_of d.object i) (expanded_terms k ts)
-unfolding words plan_words
+unfolding definitions plan_definitions
 above_expanded d i k [] o h a = tt
 above_expanded d i k (t ∷ ts) o h a =
     let l : d.object < t.delta.object = grind (arith, nat_tests, o, h.0, a.0) in
     each_append _ (terms_from 0 k t.delta.object t.factor) (expanded_terms k ts) (object_above d.object i 0 k t.delta.object t.factor l) (above_expanded d i k ts o h.1 a.1)
 
 each_above : (d : Delta) (k j n : ℕ) (f : ℤ) (ts : List Term) → IsObject d → OfEach IsObject ts → Above d ts → Each (λ t. Above t.delta (expanded_terms k ts)) (terms_from j n d.object f)
-unfolding words plan_words
+unfolding definitions plan_definitions
 each_above d k j zero f ts o h a = tt
 each_above d k j (suc n) f ts o h a = (above_expanded d j k ts o h a, each_above d k (suc j) n f ts o h a)
 
 pub sorted_expanded : (k : ℕ) (ts : List Term) → OfEach IsObject ts → Sorted ts → Sorted (expanded_terms k ts)
-unfolding words plan_words
+unfolding definitions plan_definitions
 sorted_expanded k [] h s = tt
 sorted_expanded k (t ∷ ts) h s =
     sorted_append (terms_from 0 k t.delta.object t.factor) (expanded_terms k ts) (sorted_from 0 k t.delta.object t.factor)
     (sorted_expanded k ts h.1 s.1) (each_above t.delta k 0 k t.factor ts h.0 h.1 s.0)
 
 count_from : (j n x : ℕ) (f : ℤ) → int_eq f (pos 0) ≡ false → AllCount (terms_from j n x f)
-unfolding words plan_words
+unfolding definitions plan_definitions
 count_from j zero x f c = tt
 count_from j (suc n) x f c = (c, count_from (suc j) n x f c)
 
 pub count_expanded : (k : ℕ) (ts : List Term) → AllCount ts → AllCount (expanded_terms k ts)
-unfolding words plan_words
+unfolding definitions plan_definitions
 count_expanded k [] c = tt
 count_expanded k (t ∷ ts) c = each_append _ (terms_from 0 k t.delta.object t.factor) (expanded_terms k ts) (count_from 0 k t.delta.object t.factor c.0) (count_expanded k ts c.1)
 
 -- ---- deltas
 deltas_of_from : (j n x : ℕ) (f : ℤ) (ts : List Term) → deltas_of (terms_from j n x f ++ ts) ≡ deltas_from j n x ++ deltas_of ts
-unfolding words plan_words
+unfolding definitions plan_definitions
 deltas_of_from j zero x f ts = refl
 deltas_of_from j (suc n) x f ts = ap (λ l. delta_of x j ∷ l) (deltas_of_from (suc j) n x f ts)
 
 pub deltas_expanded : (k : ℕ) (ts : List Term) → deltas_of (expanded_terms k ts) ≡ expanded_deltas k (deltas_of ts)
-unfolding words plan_words
+unfolding definitions plan_definitions
 deltas_expanded k [] = refl
 deltas_expanded k (t ∷ ts) =
     deltas_of_from 0 k t.delta.object t.factor (expanded_terms k ts) ∙ ap (λ l. deltas_from 0 k t.delta.object ++ l) (deltas_expanded k ts)
 
 -- deltas as terms by the factor 1
 units : List Delta → List Term
-unfolding plan_words
+unfolding plan_definitions
 units ds = map (λ d. record { delta = d; factor = pos 1 }) ds
 
 deltas_of_units : (ds : List Delta) → deltas_of (units ds) ≡ ds
-unfolding plan_words units
+unfolding plan_definitions units
 deltas_of_units [] = refl
 deltas_of_units (d ∷ ds) = ap (λ l. d ∷ l) (deltas_of_units ds)
 
 above_units : (d : Delta) (ds : List Delta) → After d ds → Above d (units ds)
-unfolding plan_words units
+unfolding plan_definitions units
 above_units d [] a = tt
 above_units d (e ∷ es) a = (a.0, above_units d es a.1)
 
 sorted_units : (ds : List Delta) → Ordered ds → Sorted (units ds)
-unfolding plan_words units
+unfolding plan_definitions units
 sorted_units [] o = tt
 sorted_units (d ∷ ds) o = (above_units d ds o.0, sorted_units ds o.1)
 
 objects_units : (ds : List Delta) → Each IsObject ds → OfEach IsObject (units ds)
-unfolding plan_words units
+unfolding plan_definitions units
 objects_units [] h = tt
 objects_units (d ∷ ds) h = (h.0, objects_units ds h.1)
 
@@ -175,7 +175,7 @@ ordered_expanded k ds h o =
     (ordered_terms (expanded_terms k (units ds)) (sorted_expanded k (units ds) (objects_units ds h) (sorted_units ds o)))
 
 count_units : (ds : List Delta) → AllCount (units ds)
-unfolding plan_words units
+unfolding plan_definitions units
 count_units [] = tt
 count_units (d ∷ ds) = (refl, count_units ds)
 
@@ -248,15 +248,15 @@ expanded_scale k n ts h s =
 
 -- ---- forms
 pub tidy_constant : (n : ℤ) → IsTidy (constant_form n)
-unfolding plan_words
+unfolding plan_definitions
 tidy_constant n = record { sorted = tt; count = tt; objects = tt; ordered = tt; mixed = tt }
 
 pub tidy_object : (n : ℤ) (x : ℕ) → IsTidy (object_form n x)
-unfolding words plan_words
+unfolding definitions plan_definitions
 tidy_object n x = record { sorted = (tt, tt); count = (refl, tt); objects = (refl, tt); ordered = tt; mixed = tt }
 
 pub tidy_add : (a b : Linear) → IsTidy a → IsTidy b → IsTidy (add_forms a b)
-unfolding plan_words
+unfolding plan_definitions
 tidy_add a b s t =
     record {
       sorted = sorted_adds a.terms b.terms t.sorted;
@@ -267,7 +267,7 @@ tidy_add a b s t =
     }
 
 pub tidy_scale : (n : ℤ) (a : Linear) → IsTidy a → IsTidy (scale_form n a)
-unfolding plan_words
+unfolding plan_definitions
 tidy_scale n a t =
     record {
       sorted = sorted_scale n a.terms t.sorted;
@@ -278,20 +278,20 @@ tidy_scale n a t =
     }
 
 objects_of : (ts : List Term) → OfEach IsObject ts → Each IsObject (deltas_of ts)
-unfolding plan_words
+unfolding plan_definitions
 objects_of [] h = tt
 objects_of (t ∷ ts) h = (h.0, objects_of ts h.1)
 
 pub support_objects : (a : Linear) → IsTidy a → Each IsObject (support a)
-unfolding plan_words
+unfolding plan_definitions
 support_objects a t = each_puts IsObject (deltas_of a.terms) a.mixed (objects_of a.terms t.objects) t.mixed
 
 pub support_ordered : (a : Linear) → IsTidy a → Ordered (support a)
-unfolding plan_words
+unfolding plan_definitions
 support_ordered a t = ordered_adds (deltas_of a.terms) a.mixed t.ordered
 
 tidy_mix : (a b : Linear) → IsTidy a → IsTidy b → IsTidy (mix_forms a b)
-unfolding plan_words
+unfolding plan_definitions
 tidy_mix a b s t =
     record {
       sorted = tt;
@@ -302,7 +302,7 @@ tidy_mix a b s t =
     }
 
 pub tidy_multiply : (a b : Linear) → IsTidy a → IsTidy b → IsTidy (multiply_forms a b)
-unfolding plan_words
+unfolding plan_definitions
 tidy_multiply a b s t = go (is_pure a) (is_pure b)
   where
     go : (u v : Bool) → IsTidy (cond u (scale_form a.constant b) (cond v (scale_form b.constant a) (mix_forms a b)))
@@ -315,46 +315,46 @@ pub linear_is : (a b : Linear) → a.constant ≡ b.constant → a.terms ≡ b.t
 linear_is a b c t m = λ i. record { constant = c i; terms = t i; mixed = m i }
 
 pub expanded_add : (k : ℕ) (a b : Linear) → IsTidy a → IsTidy b → expanded k (add_forms a b) ≡ add_forms (expanded k a) (expanded k b)
-unfolding words plan_words
+unfolding definitions plan_definitions
 expanded_add k a b s t =
     linear_is _ _ refl (expanded_adds k a.terms b.terms s.objects t.objects t.sorted t.count)
     (expanded_puts k a.mixed b.mixed s.mixed s.ordered t.mixed t.ordered)
 
 pub expanded_times : (k : ℕ) (n : ℤ) (a : Linear) → IsTidy a → expanded k (scale_form n a) ≡ scale_form n (expanded k a)
-unfolding words plan_words
+unfolding definitions plan_definitions
 expanded_times k n a t = linear_is _ _ refl (expanded_scale k n a.terms t.objects t.sorted) refl
 
 pub expanded_support : (k : ℕ) (a : Linear) → IsTidy a → expanded_deltas k (support a) ≡ support (expanded k a)
-unfolding words plan_words
+unfolding definitions plan_definitions
 expanded_support k a t =
     expanded_puts k (deltas_of a.terms) a.mixed (objects_of a.terms t.objects) (ordered_terms a.terms t.sorted) t.mixed t.ordered
     ∙ ap (λ l. add_deltas l (expanded_deltas k a.mixed)) (sym (deltas_expanded k a.terms))
 
 expanded_mix : (k : ℕ) (a b : Linear) → IsTidy a → IsTidy b → expanded k (mix_forms a b) ≡ mix_forms (expanded k a) (expanded k b)
-unfolding words plan_words
+unfolding definitions plan_definitions
 expanded_mix k a b s t =
     linear_is _ _ refl refl
     (expanded_puts k (support a) (support b) (support_objects a s) (support_ordered a s) (support_objects b t) (support_ordered b t)
     ∙ ap₂ add_deltas (expanded_support k a s) (expanded_support k b t))
 
 pub no_terms : (k : ℕ) (ts : List Term) → 1 ≤ k → is_empty (expanded_terms k ts) ≡ is_empty ts
-unfolding words plan_words
+unfolding definitions plan_definitions
 no_terms k [] l = refl
 no_terms zero (t ∷ ts) l = absurd (omega (arith, l))
 no_terms (suc k) (t ∷ ts) l = refl
 
 no_deltas : (k : ℕ) (ds : List Delta) → 1 ≤ k → is_empty (expanded_deltas k ds) ≡ is_empty ds
-unfolding words plan_words
+unfolding definitions plan_definitions
 no_deltas k [] l = refl
 no_deltas zero (d ∷ ds) l = absurd (omega (arith, l))
 no_deltas (suc k) (d ∷ ds) l = refl
 
 pure_expanded : (k : ℕ) (a : Linear) → 1 ≤ k → is_pure (expanded k a) ≡ is_pure a
-unfolding words plan_words
+unfolding definitions plan_definitions
 pure_expanded k a l = ap₂ ◌&&◌ (no_terms k a.terms l) (no_deltas k a.mixed l)
 
 pub expanded_multiply : (k : ℕ) (a b : Linear) → 1 ≤ k → IsTidy a → IsTidy b → expanded k (multiply_forms a b) ≡ multiply_forms (expanded k a) (expanded k b)
-unfolding words plan_words
+unfolding definitions plan_definitions
 expanded_multiply k a b l s t =
     go (is_pure a) (is_pure b)
     ∙ ap₂ (λ u v. cond u (scale_form a.constant (expanded k b)) (cond v (scale_form b.constant (expanded k a)) (mix_forms (expanded k a) (expanded k b))))

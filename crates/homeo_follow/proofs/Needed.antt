@@ -1,7 +1,7 @@
 -- What a residual needs of other sites is what its command over whole objects depends on.
-use Rattle.homeo_meaning.specs.Key.{words as meaning_words}
-use Rattle.homeo_plan.specs.Key.{words as plan_words}
-use Rattle.homeo_follow.specs.Key.{words}
+use Rattle.homeo_meaning.specs.Key.{definitions as meaning_definitions}
+use Rattle.homeo_plan.specs.Key.{definitions as plan_definitions}
+use Rattle.homeo_follow.specs.Key.{definitions}
 use Rattle.std.proofs.Common.{◌≡◌, ℕ, ◌==◌, ◌<◌, Bool, true, false, cond, not, ◌||◌, ◌&&◌, List, [], ◌∷◌, ◌++◌, map, ℤ, pos, negsuc, ◌+ℤ◌, ◌*ℤ◌, refl, sym, ap, ap₂, ◌∙◌, arith}
 use Rattle.std.specs.List.{list_any}
 use Rattle.std.specs.Ordering.{int_eq}
@@ -52,7 +52,7 @@ put_append i (x ∷ xs) ys ds = put_append i xs ys (add_delta (delta_of x i) ds)
 
 module _ (k i : ℕ) where
   mutual
-    unfolding words plan_words meaning_words print_remote put_written
+    unfolding definitions plan_definitions meaning_definitions print_remote put_written
 
     along :
         (c : Command) → IsWhole c → (f : Forms) (ds : List plan.Delta) (r : Row) →
@@ -127,12 +127,12 @@ module _ (k i : ℕ) where
       ∙ ap (λ l. add_deltas (remote i l) (away ds)) (expanded_support k a t)
 
   objects_printed : (ps : List Linear) (ds : List plan.Delta) → Each IsTidy ps → AreObjects ds → AreObjects (print_needs ps ds)
-  unfolding words plan_words
+  unfolding definitions plan_definitions
   objects_printed [] ds t o = o
   objects_printed (p ∷ ps) ds t o = objects_put p (print_needs ps ds) t.0 (objects_printed ps ds t.1 o)
 
   away_printed : (ps : List Linear) (ds : List plan.Delta) → Each IsTidy ps → AreObjects ds → print_remote i (map (expanded k) ps) (away ds) ≡ away (print_needs ps ds)
-  unfolding words plan_words print_remote
+  unfolding definitions plan_definitions print_remote
   away_printed [] ds t o = refl
   away_printed (p ∷ ps) ds t o =
       ap (add_deltas (remote i (support (expanded k p)))) (away_printed ps ds t.1 o)
@@ -152,25 +152,25 @@ any_put i q (x ∷ xs) ds =
     ∙ or_move (list_any (λ x. q (delta_of x i)) xs) (q (delta_of x i)) (list_any q ds)
 
 has_written : (i : ℕ) (f : Forms) (e : plan.Delta) (ds : List plan.Delta) → has e (written_needs i f ds) ≡ list_any (λ x. has e (remote i (support (f (DeltaAt x.object x.site))))) ds
-unfolding plan_words
+unfolding plan_definitions
 has_written i f e [] = refl
 has_written i f e (x ∷ ds) =
     has_adds e (remote i (support (f (DeltaAt x.object x.site)))) (written_needs i f ds)
     ∙ ap (λ b. has e (remote i (support (f (DeltaAt x.object x.site)))) || b) (has_written i f e ds)
 
 ordered_written : (i : ℕ) (f : Forms) (ds : List plan.Delta) → Ordered (written_needs i f ds)
-unfolding plan_words
+unfolding plan_definitions
 ordered_written i f [] = tt
 ordered_written i f (x ∷ ds) = ordered_adds (remote i (support (f (DeltaAt x.object x.site)))) (written_needs i f ds) (ordered_written i f ds)
 
 tidy_gain : (n : ℤ) (x : ℕ) (v : Linear) → IsTidy v → IsTidy (gain n x v)
-unfolding words
+unfolding definitions
 tidy_gain n x v t = tidy_add (scale_form (negsuc 0) (object_form n x)) v (tidy_scale (negsuc 0) (object_form n x) (tidy_object n x)) t
 
 module _ (k i : ℕ) (inside : i < k) (b : ℕ → ℤ) where
   -- the own delta of an object depends on what the object gains, as far as other sites go
   same_factor : (x : ℕ) (a v : Linear) → IsOwn k i inside b x a v → IsTidy v → (e : plan.Delta) → (e.site == i) ≡ false → factor e (expanded k (gain (b x) x v)).terms ≡ factor e a.terms
-  unfolding words plan_words
+  unfolding definitions plan_definitions
   same_factor x a v o t e away =
       let object : Linear = object_form (b x) x in
       let tidy : IsTidy object = tidy_object (b x) x in
@@ -203,7 +203,7 @@ module _ (k i : ℕ) (inside : i < k) (b : ℕ → ℤ) where
 
   same_support : (x : ℕ) (a v : Linear) → IsOwn k i inside b x a v → IsTidy v → (e : plan.Delta) →
       has e (remote i (support a)) ≡ has e (remote i (expanded_deltas k (support (gain (b x) x v))))
-  unfolding words plan_words
+  unfolding definitions plan_definitions
   same_support x a v o t e =
       let g : Linear = gain (b x) x v in
       let tidy : IsTidy g = tidy_gain (b x) x v t in
@@ -225,12 +225,12 @@ module _ (k i : ℕ) (inside : i < k) (b : ℕ → ℤ) where
 
   module _ (f g : Forms) (own : (x : ℕ) → IsOwn k i inside b x (f (DeltaAt x i)) (g (BaseAt x))) (tidy : (x : ℕ) → IsTidy (g (BaseAt x))) where
     objects_written : (xs : List ℕ) → AreObjects (write_needs b g xs)
-    unfolding words plan_words
+    unfolding definitions plan_definitions
     objects_written [] = record { objects = tt; ordered = tt }
     objects_written (x ∷ xs) = objects_put (gain (b x) x (g (BaseAt x))) (write_needs b g xs) (tidy_gain (b x) x (g (BaseAt x)) (tidy x)) (objects_written xs)
 
     has_gains : (e : plan.Delta) (xs : List ℕ) → has e (away k i (write_needs b g xs)) ≡ list_any (λ x. has e (remote i (support (f (DeltaAt x i))))) xs
-    unfolding words plan_words
+    unfolding definitions plan_definitions
     has_gains e [] = refl
     has_gains e (x ∷ xs) =
         let a : Linear = gain (b x) x (g (BaseAt x)) in
@@ -242,7 +242,7 @@ module _ (k i : ℕ) (inside : i < k) (b : ℕ → ℤ) where
         (has_gains e xs)
 
     away_written : (xs : List ℕ) → written_needs i f (put_written i xs []) ≡ away k i (write_needs b g xs)
-    unfolding plan_words
+    unfolding plan_definitions
     away_written xs =
         let o : AreObjects (write_needs b g xs) = objects_written xs in
         same_deltas (written_needs i f (put_written i xs [])) (away k i (write_needs b g xs)) (ordered_written i f (put_written i xs []))
@@ -256,7 +256,7 @@ module _ (k i : ℕ) (inside : i < k) (b : ℕ → ℤ) where
 -- ---- of a ground call
 pub needs_are_followed : (k : ℕ) (b : ℕ → ℤ) (p : PlannedCall) → p.site < k → IsWhole p.command →
     needs_of k b p ≡ remote p.site (expanded_deltas k (needed b (followed b p.command)))
-unfolding words plan_words
+unfolding definitions plan_definitions
 needs_are_followed k b p inside w =
     let i : ℕ = p.site in
     let r : Followed = follow (shifted k p) (base_forms b) in
@@ -270,7 +270,7 @@ needs_are_followed k b p inside w =
     ∙ away_printed k i q.prints (write_needs b q.forms q.written) s.prints.tidy (objects_written k i inside b r.forms q.forms s.forms.own s.forms.tidy_objects q.written)
 
 pub objects_needed : (k : ℕ) (b : ℕ → ℤ) (p : PlannedCall) → p.site < k → IsWhole p.command → AreObjects (needed b (followed b p.command))
-unfolding words plan_words
+unfolding definitions plan_definitions
 objects_needed k b p inside w =
     let q : Followed = followed b p.command in
     let s : Follows k p.site inside b (follow (shifted k p) (base_forms b)) q = follows k p.site inside b p.command w (base_forms b) (object_forms b) (stands_at_base k p.site inside b) in

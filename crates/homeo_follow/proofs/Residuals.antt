@@ -1,7 +1,7 @@
 -- A residual run from own deltas alone prints and leaves what the forms over whole objects say.
-use Rattle.homeo_meaning.specs.Key.{words as meaning_words}
-use Rattle.homeo_plan.specs.Key.{words as plan_words}
-use Rattle.homeo_follow.specs.Key.{words}
+use Rattle.homeo_meaning.specs.Key.{definitions as meaning_definitions}
+use Rattle.homeo_plan.specs.Key.{definitions as plan_definitions}
+use Rattle.homeo_follow.specs.Key.{definitions}
 use Rattle.std.proofs.Common.{◌≡◌, ℕ, ◌==◌, ◌<◌, Bool, true, false, cond, List, [], ◌∷◌, ◌++◌, map, ℤ, pos, ◌+ℤ◌, ◌*ℤ◌, refl, sym, ap, ap₂, ◌∙◌, subst, append_assoc, append-nil, arith}
 use Rattle.std.proofs.lemmas.Int.{ints}
 use Rattle.std.proofs.lemmas.Bool.Decides.{nat_tests}
@@ -30,7 +30,7 @@ use Rattle.homeo_follow.proofs.PlannedAtoms.{no_temps}
 -- ---- the residual is the transformed one of the command over whole objects
 module _ (k i : ℕ) (inside : i < k) (b : ℕ → ℤ) where
   mutual
-    unfolding words plan_words meaning_words
+    unfolding definitions plan_definitions meaning_definitions
 
     shifted_residual :
         (c : Command) → IsWhole c → (f g : Forms) → Stands k i inside b f g → (r q : Row) → r.residual ≡ shift_all k i q.residual →
@@ -75,7 +75,7 @@ module _ (k i : ℕ) (inside : i < k) (b : ℕ → ℤ) where
         ∙ ap (λ z. shift_all k i (walk_before c (constants g) (walk_all_before cs z q)).residual) (sym (state_after c g))
 
 mutual
-  unfolding plan_words meaning_words
+  unfolding plan_definitions meaning_definitions
 
   whole_residual : (c : Command) → IsWhole c → (s : State) (r : Row) → AreWhole r.residual → AreWhole (walk_before c s r).residual
   whole_residual Skip w s r h = h
@@ -112,18 +112,18 @@ module _ (s : State) where
   values_append (a ∷ fs) cs (m ∷ ms) ns x y = (x.0, values_append fs cs ms ns x.1 y)
 
   unmixed_zero : (a : Linear) → IsUnmixed a → Each (IsZeroAt s) a.mixed
-  unfolding words plan_words
+  unfolding definitions plan_definitions
   unmixed_zero a e = subst (Each (IsZeroAt s)) (sym e) tt
 
   values_are : (fs : List Linear) (ns : List ℤ) → AreValues fs ns → Each IsUnmixed fs → ns ≡ map (λ a. form_value a s) fs
-  unfolding plan_words meaning_words
+  unfolding plan_definitions meaning_definitions
   values_are [] [] v u = refl
   values_are [] (n ∷ ns) v u = absurd v
   values_are (a ∷ fs) [] v u = absurd v
   values_are (a ∷ fs) (n ∷ ns) v u = ap₂ ◌∷◌ (v.0 (unmixed_zero a u.0)) (values_are fs ns v.1 u.1)
 
   put_tracks : (f : Forms) (u : State) (p : Location) (a : Linear) (n : ℤ) → TracksAll f s s u u → Tracks a s s n n → TracksAll (put f p a) s s (put u p n) (put u p n)
-  unfolding plan_words meaning_words
+  unfolding plan_definitions meaning_definitions
   put_tracks f u p a n h t q = go (same_location p q)
     where
       go : (v : Bool) → Tracks (cond v a (f q)) s s (cond v n (u q)) (cond v n (u q))
@@ -139,7 +139,7 @@ module _ (s : State) where
     pub same : run u ≡ after_prints prints (rest state)
 
   mutual
-    unfolding words plan_words meaning_words
+    unfolding definitions plan_definitions meaning_definitions
 
     ran :
         (c : Command) (f : Forms) (u : State) → TracksAll f s s u u → (r : Row) →
@@ -218,14 +218,14 @@ module _ (k i : ℕ) (inside : i < k) (b : ℕ → ℤ) (x : Deltas) where
           turned = grind (arith, nat_tests)
 
   object_is : (n : ℕ) → Is (object_form (b n) n) one (seen (BaseAt n))
-  unfolding words plan_words meaning_words
+  unfolding definitions plan_definitions meaning_definitions
   object_is n h = ap (λ z. b n +ℤ z) (own_sum n) ∙ times_one (b n) (x n)
     where
       times_one : (y z : ℤ) → y +ℤ z ≡ y +ℤ ((pos 1 *ℤ z) +ℤ pos 0)
       times_one y z = omega (arith, ints)
 
   begins : TracksAll (object_forms b) one one seen seen
-  unfolding words plan_words meaning_words
+  unfolding definitions plan_definitions meaning_definitions
   begins (TempAt t) = tracks_constant (pos 0) one one
   begins (BaseAt n) = record { here = object_is n; there = object_is n; apart = λ h. refl }
   begins (DeltaAt n j) = tracks_constant (pos 0) one one
@@ -242,7 +242,7 @@ module _ (k : ℕ) (b : ℕ → ℤ) (p : PlannedCall) (inside : p.site < k) (w 
   left = exec_all (shift_all k p.site path) start
 
   local_is : exec_all (base_row k b p).residual start ≡ left
-  unfolding words plan_words
+  unfolding definitions plan_definitions
   local_is =
       ap (λ (r : Row). exec_all r.residual start) (row_at_walk (shifted k p) (whole b) (no_temps b))
       ∙ ap (λ z. exec_all (walk_before (shifted k p) z last_row).residual start) (at_base b)
@@ -250,20 +250,20 @@ module _ (k : ℕ) (b : ℕ → ℤ) (p : PlannedCall) (inside : p.site < k) (w 
       (shifted_residual k p.site inside b p.command w (base_forms b) (object_forms b) (stands_at_base k p.site inside b) last_row last_row refl)
 
   path_whole : AreWhole path
-  unfolding plan_words meaning_words
+  unfolding plan_definitions meaning_definitions
   path_whole = whole_residual p.command w (constants (object_forms b)) last_row tt
 
   stepped : Follows k p.site left start (exec_all path (seen k p.site inside b x))
-  unfolding plan_words meaning_words
+  unfolding plan_definitions meaning_definitions
   stepped = shift_follows k p.site inside (Seq path) start path_whole
 
   over : Ran (one k p.site inside b x) (followed b p.command) (seen k p.site inside b x) (exec_all path) (exec_all NoCommand)
-  unfolding words plan_words
+  unfolding definitions plan_definitions
   over = ran (one k p.site inside b x) p.command (object_forms b) (seen k p.site inside b x) (begins k p.site inside b x) last_row
 
   -- ---- the own deltas that are left
   own_left : (n : ℕ) → b n +ℤ left.state (DeltaAt n p.site) ≡ fold_state k left.state (BaseAt n)
-  unfolding plan_words
+  unfolding plan_definitions
   own_left n =
       ap₂ ◌+ℤ◌ (sym (stepped.kept (BaseAt n) tt))
       (sym (sum_same 0 k _ _ (λ j. at j (p.site == j) refl) ∙ sum_pick p.site 0 k (left.state (DeltaAt n p.site)) (omega arith) (omega (arith, inside))))
@@ -281,7 +281,7 @@ module _ (k : ℕ) (b : ℕ → ℤ) (p : PlannedCall) (inside : p.site < k) (w 
           turned = grind (arith, nat_tests, e)
 
   pub runs_by_lines : RunsByLines k b p x
-  unfolding words plan_words meaning_words
+  unfolding definitions plan_definitions meaning_definitions
   runs_by_lines =
       record {
         prints = λ unmixed.

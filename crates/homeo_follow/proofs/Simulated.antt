@@ -1,7 +1,7 @@
 -- The transformed command of a site asks, prints and writes at k sites what the given one does over whole objects.
-use Rattle.homeo_meaning.specs.Key.{words as meaning_words}
-use Rattle.homeo_plan.specs.Key.{words as plan_words}
-use Rattle.homeo_follow.specs.Key.{words}
+use Rattle.homeo_meaning.specs.Key.{definitions as meaning_definitions}
+use Rattle.homeo_plan.specs.Key.{definitions as plan_definitions}
+use Rattle.homeo_follow.specs.Key.{definitions}
 use Rattle.std.proofs.Common.{◌≡◌, ℕ, ◌<◌, ◌≤◌, Bool, true, false, cond, not, ◌&&◌, List, [], ◌∷◌, ◌++◌, map, ℤ, pos, negsuc, int_lt, refl, sym, ap, ap₂, ◌∙◌, arith}
 use Rattle.std.proofs.lemmas.List.{map-append}
 use Rattle.homeo_syntax.specs.declared.phrase.Compare.{Compare}
@@ -34,7 +34,7 @@ module _ (k i : ℕ) (inside : i < k) (b : ℕ → ℤ) where
     pub tidy : IsTidy v
 
   is_constant : (n : ℤ) → Is (constant_form n) (constant_form n)
-  unfolding words plan_words
+  unfolding definitions plan_definitions
   is_constant n = record { same = refl; tidy = tidy_constant n }
 
   is_add : (a v c w : Linear) → Is a v → Is c w → Is (add_forms a c) (add_forms v w)
@@ -53,11 +53,11 @@ module _ (k i : ℕ) (inside : i < k) (b : ℕ → ℤ) where
     pub tidy : Each IsTidy cs
 
   are_none : Are [] []
-  unfolding plan_words
+  unfolding plan_definitions
   are_none = record { same = refl; tidy = tt }
 
   are_more : (a v : Linear) (fs cs : List Linear) → Is a v → Are fs cs → Are (a ∷ fs) (v ∷ cs)
-  unfolding plan_words
+  unfolding plan_definitions
   are_more a v fs cs p q = record { same = ap₂ ◌∷◌ p.same q.same; tidy = (p.tidy, q.tidy) }
 
   are_one : (a v : Linear) → Is a v → Are (a ∷ []) (v ∷ [])
@@ -72,7 +72,7 @@ module _ (k i : ℕ) (inside : i < k) (b : ℕ → ℤ) where
 
   module _ (f g : Forms) (h : Stand f g) where
     mutual
-      unfolding plan_words meaning_words
+      unfolding plan_definitions meaning_definitions
 
       pub form_is : (e : Expr) → IsWholeExpr e → Is (form f (shift_expr k e)) (form g e)
       form_is (Literal n) w = is_constant n
@@ -96,11 +96,11 @@ module _ (k i : ℕ) (inside : i < k) (b : ℕ → ℤ) where
 
     -- ---- tests
     abbrev constant_is : (e : Expr) → IsWholeExpr e → (form f (shift_expr k e)).constant ≡ (form g e).constant
-    unfolding words
+    unfolding definitions
     constant_is e w = ap (λ (a : Linear). a.constant) (form_is e w).same
 
     mutual
-      unfolding words plan_words meaning_words
+      unfolding definitions plan_definitions meaning_definitions
 
       passes_is : (t : Test) → IsWholeTest t → passes_by f (shift_test k t) ≡ passes_by g t
       passes_is True w = refl
@@ -112,27 +112,27 @@ module _ (k i : ℕ) (inside : i < k) (b : ℕ → ℤ) where
       holds_is (MoreTest t c) w = ap₂ ◌&&◌ (passes_is t w.0) (holds_is c w.1)
 
     difference_is : (a v c w : Linear) (n : ℤ) → Is a v → Is c w → Is (difference a c n) (difference v w n)
-    unfolding plan_words
+    unfolding plan_definitions
     difference_is a v c w n p q =
         is_add (constant_form n) (constant_form n) (add_forms a (scale_form (negsuc 0) c)) (add_forms v (scale_form (negsuc 0) w)) (is_constant n)
         (is_add a v (scale_form (negsuc 0) c) (scale_form (negsuc 0) w) p (is_scale (negsuc 0) c w q))
 
     true_is : (op : Compare) (a v c w : Linear) → Is a v → Is c w → Are (true_comparison op a c) (true_comparison op v w)
-    unfolding plan_words
+    unfolding plan_definitions
     true_is Less a v c w p q = are_one _ _ (difference_is a v c w (pos 1) p q)
     true_is LessEqual a v c w p q = are_one _ _ (difference_is a v c w (pos 0) p q)
     true_is Equal a v c w p q =
         are_more _ _ _ _ (difference_is a v c w (pos 0) p q) (are_one _ _ (difference_is c w a v (pos 0) q p))
 
     false_is : (op : Compare) (u : Bool) (a v c w : Linear) → Is a v → Is c w → Are (false_comparison op u a c) (false_comparison op u v w)
-    unfolding plan_words
+    unfolding plan_definitions
     false_is Less u a v c w p q = are_one _ _ (difference_is c w a v (pos 0) q p)
     false_is LessEqual u a v c w p q = are_one _ _ (difference_is c w a v (pos 1) q p)
     false_is Equal true a v c w p q = are_one _ _ (difference_is a v c w (pos 1) p q)
     false_is Equal false a v c w p q = are_one _ _ (difference_is c w a v (pos 1) q p)
 
     mutual
-      unfolding words plan_words meaning_words
+      unfolding definitions plan_definitions meaning_definitions
 
       passed_test_is : (t : Test) → IsWholeTest t → Are (passed_test f (shift_test k t)) (passed_test g t)
       passed_test_is True w = are_none
@@ -172,11 +172,11 @@ module _ (k i : ℕ) (inside : i < k) (b : ℕ → ℤ) where
     pub forms : Stand r.forms q.forms
 
   follows_asked : (fs cs : List Linear) (r q : Followed) → Are fs cs → Follows r q → Follows (asked fs r) (asked cs q)
-  unfolding words
+  unfolding definitions
   follows_asked fs cs r q e s = record { atoms = are_append fs cs r.atoms q.atoms e s.atoms; prints = s.prints; written = s.written; forms = s.forms }
 
   mutual
-    unfolding words plan_words meaning_words
+    unfolding definitions plan_definitions meaning_definitions
 
     pub follows : (c : Command) → IsWhole c → (f g : Forms) → Stand f g → Follows (follow (shift k i c) f) (follow c g)
     follows Skip w f g h = record { atoms = are_none; prints = are_none; written = refl; forms = h }

@@ -1,7 +1,7 @@
 -- Forms over the deltas of sites stand for forms over whole objects, as a site's command leaves both.
-use Rattle.homeo_meaning.specs.Key.{words as meaning_words}
-use Rattle.homeo_plan.specs.Key.{words as plan_words}
-use Rattle.homeo_follow.specs.Key.{words}
+use Rattle.homeo_meaning.specs.Key.{definitions as meaning_definitions}
+use Rattle.homeo_plan.specs.Key.{definitions as plan_definitions}
+use Rattle.homeo_follow.specs.Key.{definitions}
 use Rattle.std.proofs.Common.{◌≡◌, ℕ, zero, suc, ◌==◌, ◌+◌, ◌<◌, ◌≤◌, Bool, true, false, cond, ◌||◌, ◌&&◌, [], ℤ, pos, negsuc, ◌+ℤ◌, ◌*ℤ◌, refl, sym, ap, ap₂, ◌∙◌, subst, arith}
 use Rattle.std.proofs.lemmas.Int.{ints}
 use Rattle.std.proofs.lemmas.Bool.Decides.{nat_tests}
@@ -23,17 +23,17 @@ use Rattle.homeo_follow.proofs.Expansions.{IsTidy, tidy_constant, tidy_object, f
 
 -- ---- sums are in order, whatever is added up
 pub sorted_sum : (f : Forms) (es : Exprs) (a : Linear) → Sorted a.terms → Sorted (sum_form f a es).terms
-unfolding plan_words
+unfolding plan_definitions
 sorted_sum f NoExpr a s = s
 sorted_sum f (MoreExpr e es) a s = sorted_sum f es (add_forms (form f e) a) (sorted_adds (form f e).terms a.terms s)
 
 pub count_sum : (f : Forms) (es : Exprs) (a : Linear) → AllCount a.terms → AllCount (sum_form f a es).terms
-unfolding plan_words
+unfolding plan_definitions
 count_sum f NoExpr a c = c
 count_sum f (MoreExpr e es) a c = count_sum f es (add_forms (form f e) a) (count_adds (form f e).terms a.terms c)
 
 pub ordered_sum : (f : Forms) (es : Exprs) (a : Linear) → Ordered a.mixed → Ordered (sum_form f a es).mixed
-unfolding plan_words
+unfolding plan_definitions
 ordered_sum f NoExpr a o = o
 ordered_sum f (MoreExpr e es) a o = ordered_sum f es (add_forms (form f e) a) (ordered_adds (form f e).mixed a.mixed o)
 
@@ -77,18 +77,18 @@ module _ (i : ℕ) (p : ℕ → Bool) (others : (m : ℕ) → (i == m) ≡ false
 -- ---- the deltas of an object added up
 module _ (f : Forms) (x : ℕ) where
   constant_reads : (n j : ℕ) (a : Linear) → (sum_form f a (delta_reads x j n)).constant ≡ a.constant +ℤ sum_from j n (λ m. (f (DeltaAt x m)).constant)
-  unfolding plan_words meaning_words
+  unfolding plan_definitions meaning_definitions
   constant_reads zero j a = omega (arith, ints)
   constant_reads (suc n) j a = omega (arith, ints, constant_reads n (suc j) (add_forms (f (DeltaAt x j)) a))
 
   factor_reads : (d : Delta) (n j : ℕ) (a : Linear) → factor d (sum_form f a (delta_reads x j n)).terms ≡ factor d a.terms +ℤ sum_from j n (λ m. factor d (f (DeltaAt x m)).terms)
-  unfolding plan_words meaning_words
+  unfolding plan_definitions meaning_definitions
   factor_reads d zero j a = omega (arith, ints)
   factor_reads d (suc n) j a =
       omega (arith, ints, factor_reads d n (suc j) (add_forms (f (DeltaAt x j)) a), add_terms_factor (f (DeltaAt x j)).terms a.terms d)
 
   mixed_reads : (d : Delta) (n j : ℕ) (a : Linear) → has d (sum_form f a (delta_reads x j n)).mixed ≡ (has d a.mixed || any_from j n (λ m. has d (f (DeltaAt x m)).mixed))
-  unfolding plan_words meaning_words
+  unfolding plan_definitions meaning_definitions
   mixed_reads d zero j a = sym (or_false (has d a.mixed))
   mixed_reads d (suc n) j a =
       mixed_reads d n (suc j) (add_forms (f (DeltaAt x j)) a)
@@ -142,7 +142,7 @@ module _ (k i : ℕ) (inside : i < k) (b : ℕ → ℤ) where
           zero_plus z = omega (arith, ints)
 
   pub own_begins : (x : ℕ) → IsOwn x (delta_form (delta_of x i)) (object_form (b x) x)
-  unfolding words plan_words
+  unfolding definitions plan_definitions
   own_begins x =
       record {
         constant = plus_zero (b x);
@@ -160,7 +160,7 @@ module _ (k i : ℕ) (inside : i < k) (b : ℕ → ℤ) where
       plus_zero z = omega (arith, ints)
 
   pub stands_at_base : Stands (base_forms b) (object_forms b)
-  unfolding words plan_words
+  unfolding definitions plan_definitions
   stands_at_base =
       record {
         temps = λ t. refl;
@@ -174,7 +174,7 @@ module _ (k i : ℕ) (inside : i < k) (b : ℕ → ℤ) where
   module _ (f g : Forms) (h : Stands f g) where
     -- ---- what is read
     own_constant : (x m : ℕ) (v : Bool) → (i == m) ≡ v → (f (DeltaAt x m)).constant ≡ cond v (f (DeltaAt x i)).constant (pos 0)
-    unfolding plan_words
+    unfolding plan_definitions
     own_constant x m true e =
         let same : m ≡ i = grind (arith, nat_tests, e) in
         ap (λ j. (f (DeltaAt x j)).constant) same
@@ -182,7 +182,7 @@ module _ (k i : ℕ) (inside : i < k) (b : ℕ → ℤ) where
 
     own_factor : (d : Delta) (x m : ℕ) (v : Bool) → (i == m) ≡ v →
         factor d (f (DeltaAt x m)).terms ≡ cond v (factor d (f (DeltaAt x i)).terms) (pos 0) +ℤ cond v (pos 0) (at_delta (delta_of x m) (pos 1) d)
-    unfolding plan_words
+    unfolding plan_definitions
     own_factor d x m true e =
         let same : m ≡ i = grind (arith, nat_tests, e) in
         ap (λ j. factor d (f (DeltaAt x j)).terms) same ∙ plus_zero (factor d (f (DeltaAt x i)).terms)
@@ -195,12 +195,12 @@ module _ (k i : ℕ) (inside : i < k) (b : ℕ → ℤ) where
         turned z = omega (arith, ints)
 
     others_unmixed : (d : Delta) (x m : ℕ) → (i == m) ≡ false → has d (f (DeltaAt x m)).mixed ≡ false
-    unfolding plan_words
+    unfolding plan_definitions
     others_unmixed d x m e = ap (λ (a : Linear). has d a.mixed) (h.deltas x m e)
 
     -- what is read of an object stands for the object
     pub reads : (x : ℕ) → form f (shift_read k (split.Whole x)) ≡ expanded k (g (BaseAt x))
-    unfolding words plan_words meaning_words
+    unfolding definitions plan_definitions meaning_definitions
     reads x =
         ap (λ (a : Linear). sum_form f (add_forms a (constant_form (pos 0))) (delta_reads x 0 k)) (h.bases x)
         ∙ linear_is r (expanded k v) constant terms mixed
@@ -254,7 +254,7 @@ module _ (k i : ℕ) (inside : i < k) (b : ℕ → ℤ) where
     -- ---- what is written
     module _ (x : ℕ) where
       constant_others : (n j : ℕ) (a : Linear) → (sum_form f a (other_deltas i x j n)).constant ≡ a.constant
-      unfolding plan_words meaning_words
+      unfolding plan_definitions meaning_definitions
       constant_others zero j a = refl
       constant_others (suc n) j a = go (i == j) refl (λ c. constant_others n (suc j) c)
         where
@@ -272,7 +272,7 @@ module _ (k i : ℕ) (inside : i < k) (b : ℕ → ℤ) where
 
       factor_others : (d : Delta) (n j : ℕ) (a : Linear) →
           factor d (sum_form f a (other_deltas i x j n)).terms +ℤ sum_from j n (λ m. cond (i == m) (pos 0) (at_delta (delta_of x m) (pos 1) d)) ≡ factor d a.terms
-      unfolding plan_words meaning_words
+      unfolding plan_definitions meaning_definitions
       factor_others d zero j a = omega (arith, ints)
       factor_others d (suc n) j a = go (i == j) refl (λ c. factor_others d n (suc j) c)
         where
@@ -305,7 +305,7 @@ module _ (k i : ℕ) (inside : i < k) (b : ℕ → ℤ) where
               )
 
       mixed_others : (n j : ℕ) (a : Linear) → (sum_form f a (other_deltas i x j n)).mixed ≡ a.mixed
-      unfolding plan_words meaning_words
+      unfolding plan_definitions meaning_definitions
       mixed_others zero j a = refl
       mixed_others (suc n) j a = go (i == j) refl (λ c. mixed_others n (suc j) c)
         where
@@ -320,7 +320,7 @@ module _ (k i : ℕ) (inside : i < k) (b : ℕ → ℤ) where
       -- the form of what is written to the own delta, where the value has this form
       pub own_written : (e : Expr) (v : Linear) → IsTidy v → form f e ≡ expanded k v →
           IsOwn x (form f (Sum (MoreExpr e (MoreExpr (Neg (Read (split.Base x))) (other_deltas i x 0 k))))) v
-      unfolding words plan_words meaning_words
+      unfolding definitions plan_definitions meaning_definitions
       own_written e v t is =
           subst (λ (a : Linear). IsOwn x (sum_form f a (other_deltas i x 0 k)) v) (sym begins)
           (record {
@@ -346,7 +346,7 @@ module _ (k i : ℕ) (inside : i < k) (b : ℕ → ℤ) where
 
     -- ---- forms that are put in their places
     pub stands_temp : (t : Temp) (a v : Linear) → IsTidy v → a ≡ expanded k v → Stands (put f (TempAt t) a) (put g (TempAt t) v)
-    unfolding words plan_words meaning_words
+    unfolding definitions plan_definitions meaning_definitions
     stands_temp t a v tidy e =
         record {
           temps = λ u. temp u (same_temp t u);
@@ -366,7 +366,7 @@ module _ (k i : ℕ) (inside : i < k) (b : ℕ → ℤ) where
         tidy_temp u false = h.tidy_temps u
 
     pub stands_object : (x : ℕ) (a v : Linear) → IsTidy v → IsOwn x a v → Stands (put f (DeltaAt x i) a) (put g (BaseAt x) v)
-    unfolding words plan_words meaning_words
+    unfolding definitions plan_definitions meaning_definitions
     stands_object x a v tidy o =
         record {
           temps = h.temps;

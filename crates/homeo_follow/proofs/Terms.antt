@@ -1,5 +1,5 @@
 -- Lists of terms in order and without zeros: the factors say all of one.
-use Rattle.homeo_plan.specs.Key.{words as plan_words}
+use Rattle.homeo_plan.specs.Key.{definitions as plan_definitions}
 use Rattle.std.proofs.Common.{◌≡◌, Bool, true, false, cond, List, [], ◌∷◌, ◌++◌, ℤ, pos, ◌+ℤ◌, ◌*ℤ◌, refl, sym, ap, ap₂, ◌∙◌, true≢false, arith}
 use Rattle.std.proofs.lemmas.Int.{ints}
 use Rattle.std.specs.Ordering.{int_eq}
@@ -12,11 +12,11 @@ use Rattle.homeo_plan.proofs.Order.{Above, Sorted, above_before, none_above, hea
 
 -- ---- factors that aren't 0
 abbrev pub AllCount : List Term → Type 0
-unfolding plan_words
+unfolding plan_definitions
 AllCount ts = Each (λ t. int_eq t.factor (pos 0) ≡ false) ts
 
 count_with : (d : Delta) (f : ℤ) (ts : List Term) → AllCount ts → AllCount (with_term d f ts)
-unfolding plan_words
+unfolding plan_definitions
 count_with d f ts c = go (int_eq f (pos 0)) refl
   where
     go : (v : Bool) → int_eq f (pos 0) ≡ v → AllCount (cond v ts (record { delta = d; factor = f } ∷ ts))
@@ -24,7 +24,7 @@ count_with d f ts c = go (int_eq f (pos 0)) refl
     go false h = (h, c)
 
 count_add : (d : Delta) (f : ℤ) (ts : List Term) → AllCount ts → AllCount (add_term d f ts)
-unfolding plan_words
+unfolding plan_definitions
 count_add d f [] c = count_with d f [] tt
 count_add d f (t ∷ ts) c = go (same_delta d t.delta) (delta_before d t.delta) (count_add d f ts c.1)
   where
@@ -34,23 +34,23 @@ count_add d f (t ∷ ts) c = go (same_delta d t.delta) (delta_before d t.delta) 
     go false false ih = (c.0, ih)
 
 pub count_adds : (ts us : List Term) → AllCount us → AllCount (add_terms ts us)
-unfolding plan_words
+unfolding plan_definitions
 count_adds [] us c = c
 count_adds (t ∷ ts) us c = count_adds ts (add_term t.delta t.factor us) (count_add t.delta t.factor us c)
 
 pub count_scale : (n : ℤ) (ts : List Term) → AllCount (scale_terms n ts)
-unfolding plan_words
+unfolding plan_definitions
 count_scale n [] = tt
 count_scale n (t ∷ ts) = count_with t.delta (n *ℤ t.factor) (scale_terms n ts) (count_scale n ts)
 
 -- ---- what holds of each delta
 module _ (P : Delta → Type 0) where
   abbrev pub OfEach : List Term → Type 0
-  unfolding plan_words
+  unfolding plan_definitions
   OfEach ts = Each (λ t. P t.delta) ts
 
   each_with : (d : Delta) (f : ℤ) (ts : List Term) → P d → OfEach ts → OfEach (with_term d f ts)
-  unfolding plan_words
+  unfolding plan_definitions
   each_with d f ts p h = go (int_eq f (pos 0))
     where
       go : (v : Bool) → OfEach (cond v ts (record { delta = d; factor = f } ∷ ts))
@@ -58,7 +58,7 @@ module _ (P : Delta → Type 0) where
       go false = (p, h)
 
   each_add : (d : Delta) (f : ℤ) (ts : List Term) → P d → OfEach ts → OfEach (add_term d f ts)
-  unfolding plan_words
+  unfolding plan_definitions
   each_add d f [] p h = each_with d f [] p tt
   each_add d f (t ∷ ts) p h = go (same_delta d t.delta) (delta_before d t.delta) (each_add d f ts p h.1)
     where
@@ -68,12 +68,12 @@ module _ (P : Delta → Type 0) where
       go false false ih = (h.0, ih)
 
   pub each_adds : (ts us : List Term) → OfEach ts → OfEach us → OfEach (add_terms ts us)
-  unfolding plan_words
+  unfolding plan_definitions
   each_adds [] us g h = h
   each_adds (t ∷ ts) us g h = each_adds ts (add_term t.delta t.factor us) g.1 (each_add t.delta t.factor us g.0 h)
 
   pub each_scale : (n : ℤ) (ts : List Term) → OfEach ts → OfEach (scale_terms n ts)
-  unfolding plan_words
+  unfolding plan_definitions
   each_scale n [] h = tt
   each_scale n (t ∷ ts) h = each_with t.delta (n *ℤ t.factor) (scale_terms n ts) h.0 (each_scale n ts h.1)
 
@@ -99,7 +99,7 @@ missed : (t : Term) (ts us : List Term) → int_eq t.factor (pos 0) ≡ false �
 missed t ts us c a n h = is_nothing t.factor (sym (head_factor t ts a) ∙ h ∙ n) c
 
 pub same_terms : (ts us : List Term) → Sorted ts → Sorted us → AllCount ts → AllCount us → ((d : Delta) → factor d ts ≡ factor d us) → ts ≡ us
-unfolding plan_words
+unfolding plan_definitions
 same_terms [] [] o p c k h = refl
 same_terms [] (u ∷ us) o p c k h = absurd (missed u us [] k.0 p.0 refl (sym (h u.delta)))
 same_terms (t ∷ ts) [] o p c k h = absurd (missed t ts [] c.0 o.0 refl (h t.delta))
@@ -122,16 +122,16 @@ same_terms (t ∷ ts) (u ∷ us) o p c k h =
 
 -- ---- lists one after another
 pub factor_append : (d : Delta) (ts us : List Term) → factor d (ts ++ us) ≡ factor d ts +ℤ factor d us
-unfolding plan_words
+unfolding plan_definitions
 factor_append d [] us = omega (arith, ints)
 factor_append d (t ∷ ts) us = omega (arith, ints, factor_append d ts us)
 
 pub each_append : {X : Type 0} (P : X → Type 0) (xs ys : List X) → Each P xs → Each P ys → Each P (xs ++ ys)
-unfolding plan_words
+unfolding plan_definitions
 each_append P [] ys g h = h
 each_append P (x ∷ xs) ys g h = (g.0, each_append P xs ys g.1 h)
 
 pub sorted_append : (ts us : List Term) → Sorted ts → Sorted us → Each (λ t. Above t.delta us) ts → Sorted (ts ++ us)
-unfolding plan_words
+unfolding plan_definitions
 sorted_append [] us s r h = r
 sorted_append (t ∷ ts) us s r h = (each_append (λ u. delta_before t.delta u.delta ≡ true) ts us s.0 h.0, sorted_append ts us s.1 r h.1)

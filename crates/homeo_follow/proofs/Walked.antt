@@ -1,7 +1,7 @@
 -- The row that is walked from a base asks the atoms of the command that is followed.
-use Rattle.homeo_meaning.specs.Key.{words as meaning_words}
-use Rattle.homeo_plan.specs.Key.{words as plan_words}
-use Rattle.homeo_follow.specs.Key.{words}
+use Rattle.homeo_meaning.specs.Key.{definitions as meaning_definitions}
+use Rattle.homeo_plan.specs.Key.{definitions as plan_definitions}
+use Rattle.homeo_follow.specs.Key.{definitions}
 use Rattle.std.proofs.Common.{◌≡◌, ℕ, Bool, true, false, cond, not, ◌&&◌, ◌++◌, ℤ, pos, ◌+ℤ◌, ◌*ℤ◌, int_lt, refl, sym, ap, ap₂, ◌∙◌, append_assoc, append-nil, arith}
 use mathlib.Core.Path.{fun_ext}
 use Rattle.std.proofs.lemmas.Int.{ints}
@@ -20,7 +20,7 @@ abbrev pub constants : Forms → State
 constants f p = (f p).constant
 
 product_constant_is : (a b : Linear) → (multiply_forms a b).constant ≡ a.constant *ℤ b.constant
-unfolding plan_words
+unfolding plan_definitions
 product_constant_is a b = go (is_pure a) (is_pure b)
   where
     go : (u v : Bool) → (cond u (scale_form a.constant b) (cond v (scale_form b.constant a) (mix_forms a b))).constant ≡ a.constant *ℤ b.constant
@@ -29,7 +29,7 @@ product_constant_is a b = go (is_pure a) (is_pure b)
     go false false = refl
 
 mutual
-  unfolding plan_words meaning_words
+  unfolding plan_definitions meaning_definitions
 
   pub value_constant : (f : Forms) (e : Expr) → value e (constants f) ≡ (form f e).constant
   value_constant f (Literal n) = refl
@@ -53,7 +53,7 @@ mutual
       ∙ product_constant f es (multiply_forms a (form f e))
 
 mutual
-  unfolding words plan_words meaning_words
+  unfolding definitions plan_definitions meaning_definitions
 
   pub passes_constant : (f : Forms) (t : Test) → passes t (constants f) ≡ passes_by f t
   passes_constant f True = refl
@@ -65,7 +65,7 @@ mutual
   holds_constant f (MoreTest t c) = ap₂ ◌&&◌ (passes_constant f t) (holds_constant f c)
 
 put_constant : (f : Forms) (p : Location) (a : Linear) (n : ℤ) → n ≡ a.constant → put (constants f) p n ≡ constants (put f p a)
-unfolding meaning_words
+unfolding meaning_definitions
 put_constant f p a n e = fun_ext (λ q. go q (same_location p q))
   where
     go : (q : Location) (b : Bool) → cond b n ((f q).constant) ≡ (cond b a (f q)).constant
@@ -73,7 +73,7 @@ put_constant f p a n e = fun_ext (λ q. go q (same_location p q))
     go q false = refl
 
 mutual
-  unfolding words plan_words meaning_words
+  unfolding definitions plan_definitions meaning_definitions
 
   pub state_after : (c : Command) (f : Forms) → (exec c (constants f)).state ≡ constants (follow c f).forms
   state_after Skip f = refl
@@ -100,7 +100,7 @@ mutual
 
 -- ---- an expression in place of what is read at a place
 mutual
-  unfolding words plan_words meaning_words
+  unfolding definitions plan_definitions meaning_definitions
 
   passes_replaced : (p : Location) (e : Expr) (f : Forms) (t : Test) → passes_by f (replace_test p e t) ≡ passes_by (put f p (form f e)) t
   passes_replaced p e f True = refl
@@ -112,7 +112,7 @@ mutual
   holds_replaced p e f (MoreTest t c) = ap₂ ◌&&◌ (passes_replaced p e f t) (holds_replaced p e f c)
 
 mutual
-  unfolding words plan_words meaning_words
+  unfolding definitions plan_definitions meaning_definitions
 
   passed_test_replaced : (p : Location) (e : Expr) (f : Forms) (t : Test) → passed_test f (replace_test p e t) ≡ passed_test (put f p (form f e)) t
   passed_test_replaced p e f True = refl
@@ -141,7 +141,7 @@ module _ (base : ℕ → ℤ) where
   f = base_forms base
 
   mutual
-    unfolding words plan_words meaning_words
+    unfolding definitions plan_definitions meaning_definitions
 
     passes_cleared : (t : Test) → passes_by f (clear_test t) ≡ passes_by f t
     passes_cleared True = refl
@@ -153,7 +153,7 @@ module _ (base : ℕ → ℤ) where
     holds_cleared (MoreTest t c) = ap₂ ◌&&◌ (passes_cleared t) (holds_cleared c)
 
   mutual
-    unfolding words plan_words meaning_words
+    unfolding definitions plan_definitions meaning_definitions
 
     passed_test_cleared : (t : Test) → passed_test f (clear_test t) ≡ passed_test f t
     passed_test_cleared True = refl
@@ -178,7 +178,7 @@ module _ (base : ℕ → ℤ) where
 
   -- ---- the atoms of a formula at the base
   pub at_base : whole base ≡ constants f
-  unfolding plan_words meaning_words
+  unfolding plan_definitions meaning_definitions
   at_base = fun_ext at
     where
       at : (p : Location) → whole base p ≡ constants f p
@@ -196,7 +196,7 @@ module _ (base : ℕ → ℤ) where
   passes_at_base t = ap (passes t) at_base ∙ passes_constant f t
 
   mutual
-    unfolding words plan_words meaning_words
+    unfolding definitions plan_definitions meaning_definitions
 
     passed_test_is : (t : Test) → true_test base t ≡ passed_test f t
     passed_test_is True = refl
@@ -221,12 +221,12 @@ module _ (base : ℕ → ℤ) where
 
 -- ---- along the row
 passed_both : (f : Forms) (b c : Cond) → passed f (both b c) ≡ passed f b ++ passed f c
-unfolding words plan_words
+unfolding definitions plan_definitions
 passed_both f NoTest c = refl
 passed_both f (MoreTest t b) c = ap (λ l. passed_test f t ++ l) (passed_both f b c) ∙ sym (append_assoc (passed_test f t) (passed f b) (passed f c))
 
 mutual
-  unfolding words plan_words meaning_words
+  unfolding definitions plan_definitions meaning_definitions
 
   -- the atoms of a row that is walked from the forms f: those of the command, and then of what is behind it
   pub walked : (c : Command) (f : Forms) (r : Row) → passed f (walk_before c (constants f) r).formula ≡ (follow c f).atoms ++ passed (follow c f).forms r.formula
@@ -265,7 +265,7 @@ mutual
 
 -- the atoms at a base of the row that is walked there
 pub walked_atoms : (base : ℕ → ℤ) (c : Command) → true_cond base (walk c (whole base)).formula ≡ (follow c (base_forms base)).atoms
-unfolding words plan_words meaning_words
+unfolding definitions plan_definitions meaning_definitions
 walked_atoms base c =
     passed_is base (clear_cond (walk_before c (whole base) last_row).formula)
     ∙ passed_cleared base (walk_before c (whole base) last_row).formula

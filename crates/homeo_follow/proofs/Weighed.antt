@@ -1,7 +1,7 @@
 -- Where a command is light, the forms along it over whole objects are small.
-use Rattle.homeo_meaning.specs.Key.{words as meaning_words}
-use Rattle.homeo_plan.specs.Key.{words as plan_words}
-use Rattle.homeo_follow.specs.Key.{words}
+use Rattle.homeo_meaning.specs.Key.{definitions as meaning_definitions}
+use Rattle.homeo_plan.specs.Key.{definitions as plan_definitions}
+use Rattle.homeo_follow.specs.Key.{definitions}
 use Rattle.std.proofs.Common.{◌≡◌, ℕ, ◌+◌, ◌*◌, ◌≤◌, max, Bool, true, false, cond, List, [], ◌∷◌, ℤ, pos, ◌+ℤ◌, arith}
 use Rattle.std.specs.Int.RustNames.{unsigned_abs}
 use Rattle.std.proofs.lemmas.Bool.{and_parts}
@@ -38,11 +38,11 @@ module _ (b limit : ℕ) (fits : 2 * b + 1 ≤ limit) where
   P = IsSmall limit
 
   small_wider : (z : ℤ) → IsSmall (2 * b + 1) z → P z
-  unfolding meaning_words
+  unfolding meaning_definitions
   small_wider z h = omega (arith, fits, h)
 
   each_wider : (ts : List Term) → Each (λ t. IsSmall (2 * b + 1) t.factor) ts → Each (λ t. P t.factor) ts
-  unfolding plan_words
+  unfolding plan_definitions
   each_wider [] h = tt
   each_wider (t ∷ ts) h = (small_wider t.factor h.0, each_wider ts h.1)
 
@@ -67,7 +67,7 @@ module _ (b limit : ℕ) (fits : 2 * b + 1 ≤ limit) where
 
   module _ (v : Location → ℕ) (f : Forms) (h : Weighs v f) where
     mutual
-      unfolding plan_words meaning_words
+      unfolding plan_definitions meaning_definitions
 
       pub make : (e : Expr) → weight e v ≤ b → Made (CanForm P f e) (weight e v) (form f e)
       make (Literal n) l =
@@ -131,7 +131,7 @@ module _ (b limit : ℕ) (fits : 2 * b + 1 ≤ limit) where
         record { can = r.can; within = wider b (weight e v) _ (weight_small b v e l) r.within }
 
     mutual
-      unfolding plan_words meaning_words
+      unfolding plan_definitions meaning_definitions
 
       made_test : (t : Test) → is_light_test b t v ≡ true → CanTest P f t
       made_test True l = tt
@@ -149,7 +149,7 @@ module _ (b limit : ℕ) (fits : 2 * b + 1 ≤ limit) where
           (made_test t parts.0, made_cond c parts.1)
 
     weighs_put : (p : Location) (n : ℕ) (a : Linear) → 1 ≤ n → n ≤ b → Within n a → Weighs (put v p n) (put f p a)
-    unfolding meaning_words
+    unfolding meaning_definitions
     weighs_put p n a one l w =
         record { within = λ q. go q (same_location p q); small = λ q. low q (same_location p q); ones = λ q. one_at_place q (same_location p q) }
       where
@@ -175,7 +175,7 @@ module _ (b limit : ℕ) (fits : 2 * b + 1 ≤ limit) where
     pub weighs : Weighs v f
 
   mutual
-    unfolding words plan_words meaning_words
+    unfolding definitions plan_definitions meaning_definitions
 
     pub goes : (c : Command) (v : Location → ℕ) (f : Forms) → Weighs v f → is_light b c v ≡ true → Goes (after c v) (follow c f).forms (CanBeFollowed P f c)
     goes Skip v f h l = record { can = tt; weighs = h }
@@ -212,7 +212,7 @@ module _ (b limit : ℕ) (fits : 2 * b + 1 ≤ limit) where
 
   -- ---- at the base
   object_within : (n : ℕ) (z : ℤ) (x : ℕ) → 1 ≤ n → unsigned_abs z ≤ n → Within n (object_form z x)
-  unfolding words plan_words
+  unfolding definitions plan_definitions
   object_within n z x one l = record { constant = l; factors = λ d. go (same_delta (object_delta x) d); sorted = (tt, tt) }
     where
       go : (u : Bool) → unsigned_abs (cond u (pos 1) (pos 0) +ℤ pos 0) ≤ n
@@ -220,7 +220,7 @@ module _ (b limit : ℕ) (fits : 2 * b + 1 ≤ limit) where
       go false = omega arith
 
   begins : 1 ≤ b → (x : Schema) (base : ℕ → ℤ) → AllWithin x base → ((n : ℕ) → IsSmall b (base n)) → Weighs (first_weights x) (object_forms base)
-  unfolding words plan_words meaning_words
+  unfolding definitions plan_definitions meaning_definitions
   begins one x base h small = record { within = within; small = low; ones = ones }
     where
       within : (p : Location) → Within (first_weights x p) (object_forms base p)
@@ -239,7 +239,7 @@ module _ (b limit : ℕ) (fits : 2 * b + 1 ≤ limit) where
       ones (DeltaAt n j) = omega arith
 
   are_numbers : (v : Location → ℕ) (f : Forms) → Weighs v f → AreNumbers P f
-  unfolding words
+  unfolding definitions
   are_numbers v f h p = numbers limit b (f p) (omega (arith, fits)) (h.small p)
 
   pub followed_small :
@@ -254,7 +254,7 @@ pub accepted_small :
     (w : s.Workload) (g : Ground) (base : List ℤ) → IsAccepted w → IsGroundCall w g.transaction g.args → IsWithin (schema_of w) base →
     CanBeFollowed (IsSmall form_limit) (object_forms (values_of base)) (ground_form w g) ×
     AreNumbers (IsSmall form_limit) (followed (values_of base) (ground_form w g)).forms
-unfolding words meaning_words
+unfolding definitions meaning_definitions
 accepted_small w g base accepted called within =
     let all = all_within (schema_of w) base within in
     followed_small weight_limit form_limit (omega arith) (omega arith) (schema_of w) (ground_form w g) (values_of base) all

@@ -10,11 +10,11 @@ use Rattle.homeo_meaning.specs.LowMeaning.{TempAt, BaseAt, DeltaAt, location_of,
 use Rattle.homeo_plan.specs.declared.forms.Delta.{Delta}
 use Rattle.homeo_plan.specs.Linear.{Linear, delta_of, add_deltas, support, constant_form, add_forms, scale_form, Forms, form}
 use Rattle.homeo_plan.specs.Atoms.{true_comparison, false_comparison}
-use Rattle.homeo_follow.specs.Key.{words}
+use Rattle.homeo_follow.specs.Key.{definitions}
 
 -- ---- whether tests pass at the base
 abbrev mutual
-  unfolding words
+  unfolding definitions
 
   pub passes_by : Forms → Test → Bool
   passes_by f True = true
@@ -27,7 +27,7 @@ abbrev mutual
 
 -- ---- atoms
 abbrev mutual
-  unfolding words
+  unfolding definitions
 
   -- of a test that passes at the base
   pub passed_test : Forms → Test → List Linear
@@ -62,28 +62,28 @@ pub record Followed : Type 0 where
 
 -- where nothing is asked, printed or written
 abbrev pub nothing : Forms → Followed
-unfolding words
+unfolding definitions
 nothing f = record { atoms = []; prints = []; written = []; forms = f }
 
 -- atoms that are asked first
 abbrev pub asked : List Linear → Followed → Followed
-unfolding words
+unfolding definitions
 asked atoms r = record { atoms = atoms ++ r.atoms; prints = r.prints; written = r.written; forms = r.forms }
 
 -- one command's before another's
 abbrev pub and_then : Followed → Followed → Followed
-unfolding words
+unfolding definitions
 and_then q r = record { atoms = q.atoms ++ r.atoms; prints = q.prints ++ r.prints; written = q.written ++ r.written; forms = r.forms }
 
 -- the object that a name names
 abbrev pub object_of : SplitName → ℕ
-unfolding words
+unfolding definitions
 object_of (split.Whole x) = x
 object_of (split.Base x) = x
 object_of (split.Delta x j) = x
 
 abbrev mutual
-  unfolding words
+  unfolding definitions
 
   pub follow : Command → Forms → Followed
   follow Skip f = nothing f
@@ -100,45 +100,45 @@ abbrev mutual
 -- ---- over whole objects
 -- the delta of an object at the one site
 abbrev pub object_delta : ℕ → Delta
-unfolding words
+unfolding definitions
 object_delta x = delta_of x 0
 
 -- an object with this base
 abbrev pub object_form : ℤ → ℕ → Linear
-unfolding words
+unfolding definitions
 object_form n x = record { constant = n; terms = record { delta = object_delta x; factor = pos 1 } ∷ []; mixed = [] }
 
 -- at a base b: temporaries are 0, and objects whole
 abbrev pub object_forms : (ℕ → ℤ) → Forms
-unfolding words
+unfolding definitions
 object_forms b (TempAt t) = constant_form (pos 0)
 object_forms b (BaseAt x) = object_form (b x) x
 object_forms b (DeltaAt x j) = constant_form (pos 0)
 
 -- a command over whole objects at a base
 abbrev pub followed : (ℕ → ℤ) → Command → Followed
-unfolding words
+unfolding definitions
 followed b c = follow c (object_forms b)
 
 -- ---- needs
 -- what an object with this base gains where this form is written to it
 abbrev pub gain : ℤ → ℕ → Linear → Linear
-unfolding words
+unfolding definitions
 gain n x a = add_forms (scale_form (negsuc 0) (object_form n x)) a
 
 -- what the forms of prints depend on, beside others
 abbrev pub print_needs : List Linear → List Delta → List Delta
-unfolding words
+unfolding definitions
 print_needs [] ds = ds
 print_needs (p ∷ ps) ds = add_deltas (support p) (print_needs ps ds)
 
 -- what the gains of these objects depend on
 abbrev pub write_needs : (ℕ → ℤ) → Forms → List ℕ → List Delta
-unfolding words
+unfolding definitions
 write_needs b f [] = []
 write_needs b f (x ∷ xs) = add_deltas (support (gain (b x) x (f (BaseAt x)))) (write_needs b f xs)
 
 -- what a command depends on, so that the deltas of other sites have to be 0 there
 abbrev pub needed : (ℕ → ℤ) → Followed → List Delta
-unfolding words
+unfolding definitions
 needed b r = print_needs r.prints (write_needs b r.forms r.written)

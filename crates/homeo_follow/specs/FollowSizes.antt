@@ -5,17 +5,17 @@ use Rattle.homeo_syntax.specs.Low.{Command, Commands, Skip, Assign, Write, Print
 use Rattle.homeo_meaning.specs.LowMeaning.{Location}
 use Rattle.homeo_plan.specs.Linear.{Forms}
 use Rattle.homeo_plan.specs.FormSizes.{Numbers, CanForm, CanCond}
-use Rattle.homeo_follow.specs.Key.{words}
+use Rattle.homeo_follow.specs.Key.{definitions}
 use Rattle.homeo_follow.specs.Follow.{holds_by, follow}
 
 module _ (P : ℤ → Type 0) where
   -- the numbers of the forms at each place
   abbrev pub AreNumbers : Forms → Type 0
-  unfolding words
+  unfolding definitions
   AreNumbers f = (p : Location) → Numbers P (f p)
 
   abbrev mutual
-    unfolding words
+    unfolding definitions
 
     -- of a command that is followed from the forms f
     pub CanBeFollowed : Forms → Command → Type 0

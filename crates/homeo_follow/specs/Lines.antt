@@ -6,17 +6,17 @@ use Rattle.homeo_plan.specs.Linear.{Linear, form_value}
 use Rattle.homeo_plan.specs.Joined.{Deltas, alone}
 use Rattle.homeo_plan.specs.Local.{local_prints, local_deltas}
 use Rattle.homeo_plan.specs.Template.{PlannedCall}
-use Rattle.homeo_follow.specs.Key.{words}
+use Rattle.homeo_follow.specs.Key.{definitions}
 use Rattle.homeo_follow.specs.Follow.{followed}
 
 -- the value of a form over whole objects at a site with deltas x, where those of all other sites are 0
 abbrev pub line : (ℕ → ℤ) → Linear → Deltas → ℤ
-unfolding words
+unfolding definitions
 line b a x = form_value a (alone b 0 x)
 
 -- a form that mixes nothing
 abbrev pub IsUnmixed : Linear → Type 0
-unfolding words
+unfolding definitions
 IsUnmixed a = a.mixed ≡ []
 
 -- from deltas x of its site a ground call prints the values of its forms, and each object is left at the value of its form,

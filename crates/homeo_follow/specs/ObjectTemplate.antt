@@ -3,29 +3,29 @@ use Rattle.std.specs.Prelude.{◌≡◌, ℕ, ◌==◌, nat_lt, Bool, not, ◌||
 use Rattle.std.specs.List.{list_any}
 use Rattle.homeo_plan.specs.declared.forms.Delta.{Delta}
 use Rattle.homeo_plan.specs.Linear.{Linear, same_delta}
-use Rattle.homeo_plan.specs.Template.{PlannedCall, Clause, clauses_from, joined, template}
-use Rattle.homeo_follow.specs.Key.{words}
+use Rattle.homeo_plan.specs.Template.{PlannedCall, Clause, clauses_from, atoms_of_sets, template}
+use Rattle.homeo_follow.specs.Key.{definitions}
 use Rattle.homeo_follow.specs.Expanded.{expanded_terms}
 use Rattle.homeo_follow.specs.Follow.{object_delta, followed, needed}
 
 -- a clause over whole objects as one over the deltas of k sites
 abbrev pub expanded_clause : ℕ → Clause → Clause
-unfolding words
+unfolding definitions
 expanded_clause k c = record { terms = expanded_terms k c.terms; slack = c.slack }
 
 -- the atoms of the commands of ground calls, one call after another
 abbrev pub followed_atoms : (ℕ → ℤ) → List PlannedCall → List Linear
-unfolding words
-followed_atoms b gs = joined (map (λ g. (followed b g.command).atoms) gs)
+unfolding definitions
+followed_atoms b gs = atoms_of_sets (map (λ g. (followed b g.command).atoms) gs)
 
 -- an object is one of these
 abbrev pub has_object : ℕ → List Delta → Bool
-unfolding words
+unfolding definitions
 has_object x ds = list_any (same_delta (object_delta x)) ds
 
 -- object x is frozen at site j: an atom mixes it, or a call of another site depends on it
 abbrev pub is_frozen : (ℕ → ℤ) → List PlannedCall → ℕ → ℕ → Bool
-unfolding words
+unfolding definitions
 is_frozen b gs x j =
     list_any (λ a. has_object x a.mixed) (followed_atoms b gs)
     || list_any (λ g. not (j == g.site) && has_object x (needed b (followed b g.command))) gs

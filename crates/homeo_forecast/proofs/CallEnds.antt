@@ -15,7 +15,7 @@ use Rattle.homeo_meaning.specs.Calls.{CallExists}
 use Rattle.homeo_meaning.specs.LowMeaning.{DeltaAt, exec_all}
 use Rattle.homeo_meaning.specs.Schema.{schema_of}
 use Rattle.homeo_meaning.specs.Serial.{values_of}
-use Rattle.homeo_plan.specs.Key.{words as plan_words}
+use Rattle.homeo_plan.specs.Key.{definitions as plan_definitions}
 use Rattle.homeo_plan.specs.declared.forms.Delta.{Delta}
 use Rattle.homeo_plan.specs.Each.{Each, Member}
 use Rattle.homeo_plan.specs.Joined.{Deltas, alone}
@@ -27,7 +27,7 @@ use Rattle.homeo_plan.specs.declared.templates.Template as code
 use Rattle.homeo_plan.specs.Template.{PlannedCall, Clause, Template, base_row}
 use Rattle.homeo_plan.proofs.PlannedCalls.{planned_member}
 use Rattle.homeo_split.specs.CanExec.{run_limit, can_exec_all}
-use Rattle.homeo_effect.specs.Key.{words as effect_words}
+use Rattle.homeo_effect.specs.Key.{definitions as effect_definitions}
 use Rattle.homeo_effect.specs.OwnState.{own_state}
 use Rattle.homeo_effect.specs.Program.{plain_program}
 use Rattle.homeo_effect.specs.Touched.{WritesOwn, written, is_touched, is_among, touched_clauses, touched_freezes}
@@ -194,7 +194,7 @@ module _
     ws = written (base_row k (values_of base) (planned_at w call)).residual
 
     left_are : AreDeltas base v.deltas ys
-    unfolding plan_words
+    unfolding plan_definitions
     left_are =
         let old_are = start_are ran.here kept in
         record {
@@ -206,7 +206,7 @@ module _
         }
 
     pub visit_at : v.site ≡ site
-    unfolding plan_words
+    unfolding plan_definitions
     visit_at = sym ran.here.at
 
     pub site_below : site < k
@@ -233,7 +233,7 @@ module _
     }
 
     pub clauses_there : (ns : List ℕ) (rs : List Room) → ns ≡ touched_clauses ws t → rs ≡ old.rooms.items → All (λ n. n < length rs) ns
-    unfolding effect_words
+    unfolding effect_definitions
     clauses_there ns rs ns_is rs_is =
         let count : length rs ≡ length t.clauses = ap length rs_is ∙ kept.rooms.count in
         subst (λ ms. All (λ n. n < length rs) ms) (sym ns_is)
@@ -242,7 +242,7 @@ module _
     pub freezes_there :
         (ns : List ℕ) (q : code.Template) → ns ≡ touched_freezes ws t → plain_template q ≡ t →
         All (λ n. (length q.clauses.items ≤ n) × (n < length q.clauses.items + length q.freezes.items)) ns
-    unfolding effect_words
+    unfolding effect_definitions
     freezes_there ns q ns_is q_is =
         let count : length t.clauses ≡ length q.clauses.items = sym (ap (λ (u : Template). length u.clauses) q_is) ∙ length-map q.clauses.items plain_clause in
         let freezes : t.freezes ≡ q.freezes.items = sym (ap (λ (u : Template). u.freezes) q_is) in

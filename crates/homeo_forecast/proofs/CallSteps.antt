@@ -7,7 +7,7 @@ use Rattle.homeo_meaning.specs.Bounds.{AllWithin, IsWithin}
 use Rattle.homeo_meaning.specs.Calls.{CallExists}
 use Rattle.homeo_meaning.specs.Schema.{schema_of}
 use Rattle.homeo_meaning.specs.Serial.{values_of}
-use Rattle.homeo_plan.specs.Key.{words as plan_words}
+use Rattle.homeo_plan.specs.Key.{definitions as plan_definitions}
 use Rattle.homeo_plan.specs.declared.forms.Delta.{Delta}
 use Rattle.homeo_plan.specs.Each.{Each, Member}
 use Rattle.homeo_plan.specs.Joined.{Deltas, alone}
@@ -43,7 +43,7 @@ use Rattle.homeo_forecast.proofs.SumFits.{can_sum}
 use Rattle.homeo_forecast.proofs.TouchedStops.{touched_stop, untouched_low}
 
 each_of : {X : Type 0} (P : X → Type 0) → ((x : X) → P x) → (xs : List X) → Each P xs
-unfolding plan_words
+unfolding plan_definitions
 each_of P h [] = tt
 each_of P h (x ∷ xs) = (h x, each_of P h xs)
 
@@ -83,7 +83,7 @@ module _
     call_runs = alone_runs w base served.config g.site x accepted within served.fits below ready.meets ready.all g (planned_member w call exists) refl
 
     all_within_after : AllWithin (schema_of w) (λ n. values_of base n +ℤ v.deltas n)
-    unfolding plan_words
+    unfolding plan_definitions
     all_within_after = stays_within w base served.config g.site x accepted within served.fits below ready.meets ready.all g (planned_member w call exists) refl
 
     -- the sums after it can be computed
@@ -102,7 +102,7 @@ module _
     pub call_stop :
         first_of (first_among (clause_stop_at k (vs ++ v ∷ []) t.clauses) (touched_clauses ws t))
         (first_among (freeze_stop_at (length t.clauses) g.site v.deltas t.freezes) (touched_freezes ws t)) ≡ first_stop k t vs v
-    unfolding plan_words
+    unfolding plan_definitions
     call_stop =
         touched_stop k t vs v x ws below (λ c. last_low c.terms g.site vs)
         (each_of _ (λ c e. clause_stays (values_of base) g.site x (base_row k (values_of base) g).residual straight c e) t.clauses)
@@ -110,7 +110,7 @@ module _
         (each_of _ (λ d e at. own_delta_stays (values_of base) g.site x (base_row k (values_of base) g).residual straight d e at) t.freezes)
 
     sited : AreSited k (vs ++ v ∷ [])
-    unfolding plan_words
+    unfolding plan_definitions
     sited = append_each (λ (u : Visit). u.site < k) vs (v ∷ []) (visits_sited w base (λ i. no_deltas) before accepted there) (below, tt)
 
     next_served : first_stop k t vs v ≡ None → IsServed k t (vs ++ v ∷ [])
@@ -118,7 +118,7 @@ module _
 
     -- where nothing stops it, it is served too
     pub call_served : first_stop k t vs v ≡ None → CanServe w base (before ++ call ∷ [])
-    unfolding plan_words
+    unfolding plan_definitions
     call_served none = subst (IsServed k t) (sym (next_is w base before call)) (next_served none)
 
     pub fit_after : first_stop k t vs v ≡ None → PeaksFit k (vs ++ v ∷ []) t.clauses
@@ -128,7 +128,7 @@ module _
     pub untouched_stays :
         (m : ℕ) (c : Clause) (r : Room) → m < length t.clauses → (Member m (touched_clauses ws t) → ⊥) →
         HasRoom k vs (get_or t.clauses m c) r → HasRoom k (vs ++ v ∷ []) (get_or t.clauses m c) r
-    unfolding plan_words
+    unfolding plan_definitions
     untouched_stays m c r lt none room =
         let d : Clause = get_or t.clauses m c in
         let low =

@@ -1,6 +1,6 @@
 -- A fitting configuration serves visits exactly where the peaks fit and all freezes hold.
-use Rattle.homeo_meaning.specs.Key.{words as meaning_words}
-use Rattle.homeo_plan.specs.Key.{words}
+use Rattle.homeo_meaning.specs.Key.{definitions as meaning_definitions}
+use Rattle.homeo_plan.specs.Key.{definitions}
 use Rattle.std.proofs.Common.{◌≡◌, ℕ, zero, suc, ◌+◌, ◌<◌, ◌==◌, Bool, true, false, cond, not, ◌&&◌, List, [], ◌∷◌, ◌++◌, length, ℤ, pos, int_le, int_lt, ◌≤ℤ◌, Option, Some, None, refl, sym, ap, subst, arith}
 use Rattle.std.specs.Int.{int_max}
 use Rattle.std.specs.Ordering.{int_eq}
@@ -40,7 +40,7 @@ max_right a b = go (int_lt b a) refl
 
 -- a peak isn't negative
 pub peak_positive : (ts : List Term) (i : ℕ) (vs : List Visit) → pos 0 ≤ℤ peak ts i vs
-unfolding words meaning_words
+unfolding definitions meaning_definitions
 peak_positive ts i [] = omega (arith, ints)
 peak_positive ts i (v ∷ vs) = go (v.site == i) (peak_positive ts i vs)
   where
@@ -50,7 +50,7 @@ peak_positive ts i (v ∷ vs) = go (v.site == i) (peak_positive ts i vs)
 
 -- it is reached by none of the sums at its site
 pub peak_reached : (ts : List Term) (i : ℕ) (vs : List Visit) → Each (λ v. v.site ≡ i → site_sum i ts v.deltas ≤ℤ peak ts i vs) vs
-unfolding words meaning_words
+unfolding definitions meaning_definitions
 peak_reached ts i [] = tt
 peak_reached ts i (v ∷ vs) = go (v.site == i) refl (peak_reached ts i vs)
   where
@@ -72,7 +72,7 @@ peak_reached ts i (v ∷ vs) = go (v.site == i) refl (peak_reached ts i vs)
 pub peak_least :
     (ts : List Term) (i : ℕ) (vs : List Visit) (n : ℤ) → pos 0 ≤ℤ n →
     Each (λ v. v.site ≡ i → site_sum i ts v.deltas ≤ℤ n) vs → peak ts i vs ≤ℤ n
-unfolding words meaning_words
+unfolding definitions meaning_definitions
 peak_least ts i [] n low h = low
 peak_least ts i (v ∷ vs) n low h = go (v.site == i) refl (peak_least ts i vs n low h.1)
   where
@@ -82,7 +82,7 @@ peak_least ts i (v ∷ vs) n low h = go (v.site == i) refl (peak_least ts i vs n
 
 -- ---- bounds
 bound_positive : (ns : List ℤ) (i : ℕ) → Each (λ n. pos 0 ≤ℤ n) ns → pos 0 ≤ℤ bound_at ns i
-unfolding words meaning_words
+unfolding definitions meaning_definitions
 bound_positive [] i h = omega (arith, ints)
 bound_positive (n ∷ ns) zero h = h.0
 bound_positive (n ∷ ns) (suc i) h = bound_positive ns i h.1
@@ -90,7 +90,7 @@ bound_positive (n ∷ ns) (suc i) h = bound_positive ns i h.1
 total_below :
     (ts : List Term) (vs : List Visit) (ns : List ℤ) (i : ℕ) → ((j m : ℕ) → m ≡ i + j → peak ts m vs ≤ℤ bound_at ns j) →
     total (peaks_from ts vs i (length ns)) ≤ℤ total ns
-unfolding words meaning_words
+unfolding definitions meaning_definitions
 total_below ts vs [] i h = omega (arith, ints)
 total_below ts vs (n ∷ ns) i h =
     let first : peak ts i vs ≤ℤ n = h 0 i (omega arith) in
@@ -101,7 +101,7 @@ total_below ts vs (n ∷ ns) i h =
 clause_fits :
     (k : ℕ) (vs : List Visit) (c : Clause) (b : List ℤ) → FitsOne k c b →
     Each (λ v. site_sum v.site c.terms v.deltas ≤ℤ bound_at b v.site) vs → total (peaks k vs c) ≤ℤ c.slack
-unfolding words meaning_words
+unfolding definitions meaning_definitions
 clause_fits k vs c b fits keeps =
     let below = total_below c.terms vs b 0 (λ j m e. peak_least c.terms m vs (bound_at b j) (bound_positive b j fits.not_negative)
     (each_map (λ (v : Visit). site_sum v.site c.terms v.deltas ≤ℤ bound_at b v.site) (λ (v : Visit). v.site ≡ m → site_sum m c.terms v.deltas ≤ℤ bound_at b j)
@@ -111,7 +111,7 @@ clause_fits k vs c b fits keeps =
 pub served_fits :
     (k : ℕ) (vs : List Visit) (cs : List Clause) (bs : Config) → Fits k cs bs →
     Each (λ v. KeepsClauses v.site v.deltas cs bs) vs → PeaksFit k vs cs
-unfolding words meaning_words
+unfolding definitions meaning_definitions
 served_fits k vs [] bs fits keeps = tt
 served_fits k vs (c ∷ cs) [] fits keeps = absurd fits
 served_fits k vs (c ∷ cs) (b ∷ bs) fits keeps = (
@@ -123,23 +123,23 @@ served_fits k vs (c ∷ cs) (b ∷ bs) fits keeps = (
 
 -- ---- the peaks, with the rest at site 0, serve
 pub peaks_count : (ts : List Term) (vs : List Visit) (i k : ℕ) → length (peaks_from ts vs i k) ≡ k
-unfolding words meaning_words
+unfolding definitions meaning_definitions
 peaks_count ts vs i zero = refl
 peaks_count ts vs i (suc k) = ap suc (peaks_count ts vs (suc i) k)
 
 peaks_positive : (ts : List Term) (vs : List Visit) (i k : ℕ) → Each (λ n. pos 0 ≤ℤ n) (peaks_from ts vs i k)
-unfolding words meaning_words
+unfolding definitions meaning_definitions
 peaks_positive ts vs i zero = tt
 peaks_positive ts vs i (suc k) = (peak_positive ts i vs, peaks_positive ts vs (suc i) k)
 
 peak_there : (ts : List Term) (vs : List Visit) (i k j m : ℕ) → j < k → m ≡ i + j → bound_at (peaks_from ts vs i k) j ≡ peak ts m vs
-unfolding words meaning_words
+unfolding definitions meaning_definitions
 peak_there ts vs i zero j m lt e = absurd (omega arith)
 peak_there ts vs i (suc k) zero m lt e = let same : i ≡ m = omega arith in ap (λ n. peak ts n vs) same
 peak_there ts vs i (suc k) (suc j) m lt e = peak_there ts vs (suc i) k j m (omega arith) (omega arith)
 
 peak_fits : (k : ℕ) (vs : List Visit) (c : Clause) → 0 < k → total (peaks k vs c) ≤ℤ c.slack → FitsOne k c (peak_bounds k vs c)
-unfolding words meaning_words
+unfolding definitions meaning_definitions
 peak_fits zero vs c some h = absurd (omega arith)
 peak_fits (suc k) vs c some h =
     let low = peak_positive c.terms 0 vs in
@@ -150,7 +150,7 @@ peak_fits (suc k) vs c some h =
     }
 
 peak_bound : (k : ℕ) (vs : List Visit) (c : Clause) (i : ℕ) → i < k → total (peaks k vs c) ≤ℤ c.slack → peak c.terms i vs ≤ℤ bound_at (peak_bounds k vs c) i
-unfolding words meaning_words
+unfolding definitions meaning_definitions
 peak_bound zero vs c i lt h = absurd (omega arith)
 peak_bound (suc k) vs c zero lt h = omega (arith, ints)
 peak_bound (suc k) vs c (suc i) lt h =
@@ -158,7 +158,7 @@ peak_bound (suc k) vs c (suc i) lt h =
     subst (λ n. peak c.terms (suc i) vs ≤ℤ n) (sym there) (omega (arith, ints))
 
 each_with : {X : Type 0} (P Q R : X → Type 0) → ((x : X) → P x → Q x → R x) → (xs : List X) → Each P xs → Each Q xs → Each R xs
-unfolding words meaning_words
+unfolding definitions meaning_definitions
 each_with P Q R f [] p q = tt
 each_with P Q R f (x ∷ xs) p q = (f x p.0 q.0, each_with P Q R f xs p.1 q.1)
 
@@ -166,21 +166,21 @@ clause_served :
     (k : ℕ) (vs : List Visit) (c : Clause) (all : List Visit) → total (peaks k all c) ≤ℤ c.slack → Each (λ v. v.site < k) vs →
     Each (λ v. (i : ℕ) → v.site ≡ i → site_sum i c.terms v.deltas ≤ℤ peak c.terms i all) vs →
     Each (λ v. site_sum v.site c.terms v.deltas ≤ℤ bound_at (peak_bounds k all c) v.site) vs
-unfolding words meaning_words
+unfolding definitions meaning_definitions
 clause_served k vs c all fits sited reached =
     each_with (λ (v : Visit). v.site < k) (λ (v : Visit). (i : ℕ) → v.site ≡ i → site_sum i c.terms v.deltas ≤ℤ peak c.terms i all)
     (λ (v : Visit). site_sum v.site c.terms v.deltas ≤ℤ bound_at (peak_bounds k all c) v.site)
     (λ v lt h. let low = h v.site refl in let high = peak_bound k all c v.site lt fits in omega (arith, ints)) vs sited reached
 
 each_for : {X I : Type 0} (P : I → X → Type 0) (xs : List X) → ((i : I) → Each (P i) xs) → Each (λ x. (i : I) → P i x) xs
-unfolding words meaning_words
+unfolding definitions meaning_definitions
 each_for P [] h = tt
 each_for P (x ∷ xs) h = (λ i. (h i).0, each_for P xs (λ i. (h i).1))
 
 pub fits_serve :
     (k : ℕ) (vs : List Visit) (cs : List Clause) → 0 < k → AreSited k vs → PeaksFit k vs cs →
     Fits k cs (peak_config k vs cs) × Each (λ v. KeepsClauses v.site v.deltas cs (peak_config k vs cs)) vs
-unfolding words meaning_words
+unfolding definitions meaning_definitions
 fits_serve k vs [] some sited fit = (tt, none vs)
   where
     none : (ws : List Visit) → Each (λ v. Unit {0}) ws
@@ -198,7 +198,7 @@ fits_serve k vs (c ∷ cs) some sited fit =
 
 -- ---- the laws
 pub served_peaks : (k : ℕ) (t : Template) (vs : List Visit) → IsServed k t vs → PeaksFit k vs t.clauses × KeepFreezes vs t.freezes
-unfolding words meaning_words
+unfolding definitions meaning_definitions
 served_peaks k t vs s = (
   served_fits k vs t.clauses s.config s.fits
       (each_map (λ (v : Visit). Treaty t s.config v.site v.deltas) (λ (v : Visit). KeepsClauses v.site v.deltas t.clauses s.config) (λ v h. h.clauses) vs s.serves),
@@ -208,7 +208,7 @@ served_peaks k t vs s = (
 peaks_served :
     (k : ℕ) (t : Template) (vs : List Visit) → 0 < k → AreSited k vs → PeaksFit k vs t.clauses → KeepFreezes vs t.freezes →
     Fits k t.clauses (peak_config k vs t.clauses) × Serves t (peak_config k vs t.clauses) vs
-unfolding words meaning_words
+unfolding definitions meaning_definitions
 peaks_served k t vs some sited fit frozen =
     let both = fits_serve k vs t.clauses some sited fit in (
       both.0,
@@ -227,7 +227,7 @@ pub peaks_serve : PeaksServe
 peaks_serve k t vs some sited s = let h = served_peaks k t vs s in peaks_served k t vs some sited h.0 h.1
 
 pub served_first : ServedFirst
-unfolding words meaning_words
+unfolding definitions meaning_definitions
 served_first k t vs more s = record {
   config = s.config;
   fits = s.fits;
@@ -255,7 +255,7 @@ unequal : (a b : ℤ) → int_eq a b ≡ false → a ≡ b → ⊥
 unequal a b e h = grind (arith, ints)
 
 frozen_tells : (n i : ℕ) (x : Deltas) (ds : List Delta) → Tells (KeepsFreezes i x ds) (frozen_from n i x ds)
-unfolding words meaning_words
+unfolding definitions meaning_definitions
 frozen_tells n i x [] = record { none = λ e. tt; some = λ f e h. some_not_none f (sym e) }
 frozen_tells n i x (d ∷ ds) = go (frozen_tells (suc n) i x ds) (d.site == i) (int_eq (x d.object) (pos 0)) refl refl
   where
@@ -276,7 +276,7 @@ frozen_tells n i x (d ∷ ds) = go (frozen_tells (suc n) i x ds) (d.site == i) (
 stop_tells :
     (n k : ℕ) (vs : List Visit) (v : Visit) (cs : List Clause) (ds : List Delta) →
     Tells (PeaksFit k vs cs × KeepsFreezes v.site v.deltas ds) (stop_from n k vs v cs ds)
-unfolding words meaning_words
+unfolding definitions meaning_definitions
 stop_tells n k vs v [] ds =
     let t = frozen_tells n v.site v.deltas ds in
     record { none = λ e. (tt, t.none e); some = λ f e h. t.some f e h.1 }
@@ -295,7 +295,7 @@ stop_tells n k vs v (c ∷ cs) ds = go (stop_tells (suc n) k vs v cs ds) (int_le
         record { none = λ e. absurd (some_not_none one e); some = λ f e h. not_at_most _ _ q h.0.0 }
 
 pub served_on : ServedOn
-unfolding words meaning_words
+unfolding definitions meaning_definitions
 served_on k t vs v some sited s =
     let tells = stop_tells 0 k (vs ++ v ∷ []) v t.clauses t.freezes in (
       λ none.

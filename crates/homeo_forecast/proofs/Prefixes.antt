@@ -1,6 +1,6 @@
 -- The longest prefix of a list of calls that some configuration serves.
-use Rattle.homeo_meaning.specs.Key.{words as meaning_words}
-use Rattle.homeo_plan.specs.Key.{words}
+use Rattle.homeo_meaning.specs.Key.{definitions as meaning_definitions}
+use Rattle.homeo_plan.specs.Key.{definitions}
 use Rattle.std.proofs.Common.{◌≡◌, ◌⊎◌, ℕ, zero, suc, ◌<◌, ◌≤◌, List, [], ◌∷◌, ◌++◌, length, take, ℤ, Option, Some, None, refl, sym, ap, subst, ◌∙◌, arith, inl, inr}
 use Rattle.std.specs.Prelude.{slice_get}
 use Rattle.homeo_syntax.specs.Source as s
@@ -27,14 +27,14 @@ use Rattle.homeo_forecast.proofs.Peaks.{peaks_serve, served_first, served_on}
 visits_append :
     (w : s.Workload) (base : List ℤ) (d : ℕ → Deltas) (xs ys : List CallId) →
     visits_from w base d (xs ++ ys) ≡ visits_from w base d xs ++ visits_from w base (after_all d (visits_from w base d xs)) ys
-unfolding words
+unfolding definitions
 visits_append w base d [] ys = refl
 visits_append w base d (x ∷ xs) ys = ap (λ vs. visit w base d x ∷ vs) (visits_append w base (after d (visit w base d x)) xs ys)
 
 pub next_is :
     (w : s.Workload) (base : List ℤ) (xs : List CallId) (call : CallId) →
     visits w base (xs ++ call ∷ []) ≡ visits w base xs ++ next_visit w base xs call ∷ []
-unfolding words
+unfolding definitions
 next_is w base xs call = visits_append w base (λ i. no_deltas) xs (call ∷ [])
 
 -- ---- the sites of calls that there are
@@ -45,13 +45,13 @@ site_below w call accepted there =
 pub visits_sited :
     (w : s.Workload) (base : List ℤ) (d : ℕ → Deltas) (calls : List CallId) → IsAccepted w → Each (λ call. CallExists w call) calls →
     AreSited (sites_of w) (visits_from w base d calls)
-unfolding words meaning_words
+unfolding definitions meaning_definitions
 visits_sited w base d [] accepted there = tt
 visits_sited w base d (call ∷ calls) accepted there =
     (site_below w call accepted there.0, visits_sited w base (after d (visit w base d call)) calls accepted there.1)
 
 each_take : {X : Type 0} (P : X → Type 0) (xs : List X) (n : ℕ) → Each P xs → Each P (take n xs)
-unfolding words
+unfolding definitions
 each_take P [] zero h = tt
 each_take P [] (suc n) h = tt
 each_take P (x ∷ xs) zero h = tt
@@ -73,7 +73,7 @@ longer (x ∷ xs) (suc n) (suc m) lt le =
     record { next = l.next; rest = l.rest; there = l.there; are = ap (λ ys. x ∷ ys) l.are }
 
 each_at : {X : Type 0} (P : X → Type 0) (xs : List X) (n : ℕ) (x : X) → slice_get xs n ≡ Some x → Each P xs → P x
-unfolding words
+unfolding definitions
 each_at P [] n x e h = absurd (cc)
 each_at P (y ∷ xs) zero x e h = let same : y ≡ x = cc in subst P same h.0
 each_at P (y ∷ xs) (suc n) x e h = each_at P xs n x e h.1
@@ -95,12 +95,12 @@ module _ (w : s.Workload) (base : List ℤ) (calls : List CallId) (n : ℕ) (acc
   vs = visits w base (take n calls)
 
   first_sited : AreSited k vs
-  unfolding words
+  unfolding definitions
   first_sited = visits_sited w base (λ i. no_deltas) (take n calls) accepted (each_take (λ call. CallExists w call) calls n exist)
 
   stopped : (call : CallId) (b : Stop) → slice_get calls n ≡ Some call → CanServe w base (take n calls) →
       first_stop k t vs (next_visit w base (take n calls) call) ≡ Some b → (m : ℕ) → n < m → m ≤ length calls → CanServe w base (take m calls) → ⊥
-  unfolding words meaning_words
+  unfolding definitions meaning_definitions
   stopped call b there served is m lt le more =
       let l = longer calls n m lt le in
       let same : l.next ≡ call = let h = l.there in cc in
@@ -115,7 +115,7 @@ module _ (w : s.Workload) (base : List ℤ) (calls : List CallId) (n : ℕ) (acc
       (served_on k t vs v (some_sites w accepted) sited served).1 b is first
 
 pub forecasts_stand : ForecastsStand
-unfolding words
+unfolding definitions
 forecasts_stand w base calls n accepted exist served le =
     let made = peaks_serve (sites_of w) (template_at w base) (visits w base (take n calls)) (some_sites w accepted) (first_sited w base calls n accepted exist) served in (
       λ e. record { within = le; config_is = refl; fits = made.0; serves = made.1; longest = λ m lt small. absurd (omega arith); stop_is = e },
@@ -138,7 +138,7 @@ order (suc n) (suc m) = elim (order n m) [ inl h ↦ inl (omega arith) | inr h �
 
 module _ (w : s.Workload) (base : List ℤ) (calls : List CallId) where
   canned : (n : ℕ) (c : Config) (a : Option Stop) → IsForecast w base calls n c a → CanServe w base (take n calls)
-  unfolding words
+  unfolding definitions
   canned n c a h = record { config = c; fits = h.fits; serves = h.serves }
 
   same_kept : (n m : ℕ) (c d : Config) (a b : Option Stop) → IsForecast w base calls n c a → IsForecast w base calls m d b → n ≡ m

@@ -1,6 +1,6 @@
 -- The peaks of a clause after one visit more.
-use Rattle.homeo_meaning.specs.Key.{words as meaning_words}
-use Rattle.homeo_plan.specs.Key.{words}
+use Rattle.homeo_meaning.specs.Key.{definitions as meaning_definitions}
+use Rattle.homeo_plan.specs.Key.{definitions}
 use Rattle.std.proofs.Common.{◌≡◌, ℕ, zero, suc, ◌+◌, ◌<◌, ◌==◌, Bool, true, false, cond, List, [], ◌∷◌, ◌++◌, length, ℤ, pos, int_lt, ◌+ℤ◌, ◌-ℤ◌, ◌*ℤ◌, ◌≤ℤ◌, refl, sym, ap, ap₂, ◌∙◌, arith, slice_index_or}
 use Rattle.std.proofs.Math.ListN.{set}
 use Rattle.std.specs.Int.{int_max}
@@ -40,7 +40,7 @@ max_lower a b e = ap (λ v. cond v a b) e
 pub peak_push :
     (ts : List Term) (i : ℕ) (vs : List Visit) (v : Visit) →
     peak ts i (vs ++ v ∷ []) ≡ cond (v.site == i) (int_max (site_sum i ts v.deltas) (peak ts i vs)) (peak ts i vs)
-unfolding words meaning_words
+unfolding definitions meaning_definitions
 peak_push ts i [] v = refl
 peak_push ts i (u ∷ vs) v =
     ap (λ p. cond (u.site == i) (int_max (site_sum i ts u.deltas) p) p) (peak_push ts i vs v) ∙ go (u.site == i) (v.site == i)
@@ -74,7 +74,7 @@ peak_own ts i vs v same =
     ∙ ap (λ j. int_max (site_sum j ts v.deltas) (peak ts j vs)) (sym same)
 
 peaks_after : (ts : List Term) (vs : List Visit) (v : Visit) (i k : ℕ) → v.site < i → peaks_from ts (vs ++ v ∷ []) i k ≡ peaks_from ts vs i k
-unfolding words meaning_words
+unfolding definitions meaning_definitions
 peaks_after ts vs v i zero lt = refl
 peaks_after ts vs v i (suc k) lt =
     ap₂ (λ n ns. n ∷ ns) (peak_other ts i vs v (λ e. omega arith)) (peaks_after ts vs v (suc i) k (omega arith))
@@ -83,7 +83,7 @@ peaks_after ts vs v i (suc k) lt =
 pub peaks_push :
     (ts : List Term) (vs : List Visit) (v : Visit) (i k j : ℕ) → v.site ≡ i + j → j < k →
     peaks_from ts (vs ++ v ∷ []) i k ≡ set (peaks_from ts vs i k) j (int_max (site_sum v.site ts v.deltas) (peak ts v.site vs))
-unfolding words meaning_words
+unfolding definitions meaning_definitions
 peaks_push ts vs v i zero j e lt = absurd (omega arith)
 peaks_push ts vs v i (suc k) zero e lt =
     ap₂ (λ n ns. n ∷ ns) (peak_own ts i vs v (omega arith)) (peaks_after ts vs v (suc i) k (omega arith))
@@ -91,13 +91,13 @@ peaks_push ts vs v i (suc k) (suc j) e lt =
     ap₂ (λ n ns. n ∷ ns) (peak_other ts i vs v (λ same. omega arith)) (peaks_push ts vs v (suc i) k j (omega arith) (omega arith))
 
 pub peak_at : (ts : List Term) (vs : List Visit) (i k j m : ℕ) (d : ℤ) → m ≡ i + j → j < k → slice_index_or (peaks_from ts vs i k) j d ≡ peak ts m vs
-unfolding words meaning_words
+unfolding definitions meaning_definitions
 peak_at ts vs i zero j m d e lt = absurd (omega arith)
 peak_at ts vs i (suc k) zero m d e lt = let same : i ≡ m = omega arith in ap (λ n. peak ts n vs) same
 peak_at ts vs i (suc k) (suc j) m d e lt = peak_at ts vs (suc i) k j m d (omega arith) (omega arith)
 
 pub total_set : (ns : List ℤ) (j : ℕ) (n d : ℤ) → j < length ns → total (set ns j n) ≡ total ns +ℤ (n -ℤ slice_index_or ns j d)
-unfolding words meaning_words
+unfolding definitions meaning_definitions
 total_set [] j n d lt = absurd (omega arith)
 total_set (m ∷ ns) zero n d lt = omega (arith, ints)
 total_set (m ∷ ns) (suc j) n d lt = let rest = total_set ns j n d (omega arith) in omega (arith, ints)
@@ -112,7 +112,7 @@ set_same (m ∷ ns) (suc j) d n e = ap (λ l. m ∷ l) (set_same ns j d n e)
 pub peaks_idle :
     (k : ℕ) (vs : List Visit) (v : Visit) (c : Clause) → v.site < k → site_sum v.site c.terms v.deltas ≤ℤ peak c.terms v.site vs →
     peaks k (vs ++ v ∷ []) c ≡ peaks k vs c
-unfolding words meaning_words
+unfolding definitions meaning_definitions
 peaks_idle k vs v c lt low =
     peaks_push c.terms vs v 0 k v.site (omega arith) lt
     ∙ ap (λ n. set (peaks_from c.terms vs 0 k) v.site n) (lower (site_sum v.site c.terms v.deltas) (peak c.terms v.site vs) low)
@@ -127,7 +127,7 @@ peaks_idle k vs v c lt low =
 
 -- ---- the last deltas of a site
 zero_sum : (i : ℕ) (ts : List Term) → site_sum i ts no_deltas ≡ pos 0
-unfolding words
+unfolding definitions
 zero_sum i [] = refl
 zero_sum i (t ∷ ts) = go (t.delta.site == i) (zero_sum i ts)
   where
@@ -141,7 +141,7 @@ zero_sum i (t ∷ ts) = go (t.delta.site == i) (zero_sum i ts)
 last_below :
     (ts : List Term) (i : ℕ) (d : ℕ → Deltas) (vs : List Visit) (n : ℤ) → site_sum i ts (d i) ≤ℤ n → peak ts i vs ≤ℤ n →
     site_sum i ts (after_all d vs i) ≤ℤ n
-unfolding words meaning_words
+unfolding definitions meaning_definitions
 last_below ts i d [] n h low = h
 last_below ts i d (v ∷ vs) n h low = last_below ts i (after d v) vs n (new (v.site == i) low) (rest (v.site == i) low)
   where

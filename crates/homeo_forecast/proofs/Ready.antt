@@ -1,5 +1,5 @@
 -- What sites have after calls that a fitting configuration serves: their treaties, and bases plus deltas within bounds.
-use Rattle.homeo_plan.specs.Key.{words}
+use Rattle.homeo_plan.specs.Key.{definitions}
 use Rattle.std.proofs.Common.{◌≡◌, ℕ, ◌<◌, ◌==◌, Bool, true, false, cond, List, [], ◌∷◌, ℤ, ◌+ℤ◌, refl, subst, arith}
 use mathlib.Core.Path.{fun_ext}
 use Rattle.std.proofs.lemmas.Int.{ints}
@@ -32,7 +32,7 @@ pub record IsReadyAt (w : s.Workload) (base : List ℤ) (config : Config) (i : �
   pub all : AllWithin (schema_of w) (λ n. values_of base n +ℤ x n)
 
 no_change : (b : ℕ → ℤ) → b ≡ (λ n. b n +ℤ no_deltas n)
-unfolding words
+unfolding definitions
 no_change b = fun_ext (λ n. omega (arith, ints))
 
 module _
@@ -49,7 +49,7 @@ module _
         (d : ℕ → Deltas) (call : CallId) → CallExists w call → ((i : ℕ) → i < sites_of w → IsReadyAt w base config i (d i)) →
         Treaty (template_at w base) config (visit w base d call).site (visit w base d call).deltas → (i : ℕ) → i < sites_of w →
         IsReadyAt w base config i (after d (visit w base d call) i)
-    unfolding words
+    unfolding definitions
     one_ready d call there ready meets i lt = go ((planned_at w call).site == i) refl
       where
         g : PlannedCall
@@ -75,7 +75,7 @@ module _
         (d : ℕ → Deltas) (calls : List CallId) → Each (λ call. CallExists w call) calls →
         ((i : ℕ) → i < sites_of w → IsReadyAt w base config i (d i)) → Serves (template_at w base) config (visits_from w base d calls) →
         (i : ℕ) → i < sites_of w → IsReadyAt w base config i (after_all d (visits_from w base d calls) i)
-    unfolding words
+    unfolding definitions
     all_ready d [] there ready serves i lt = ready i lt
     all_ready d (call ∷ calls) there ready serves i lt =
         all_ready (after d (visit w base d call)) calls there.1 (one_ready d call there.0 ready serves.0) serves.1 i lt
@@ -83,5 +83,5 @@ module _
     pub served_ready :
         (calls : List CallId) → Each (λ call. CallExists w call) calls → Serves (template_at w base) config (visits w base calls) →
         (i : ℕ) → i < sites_of w → IsReadyAt w base config i (after_all (λ i. no_deltas) (visits w base calls) i)
-    unfolding words
+    unfolding definitions
     served_ready calls there serves i lt = all_ready (λ i. no_deltas) calls there (λ i lt. begins_ready i) serves i lt

@@ -11,7 +11,7 @@ use Rattle.homeo_meaning.specs.declared.call.CallId.{CallId}
 use Rattle.homeo_meaning.specs.Acceptance.{IsAccepted}
 use Rattle.homeo_meaning.specs.Calls.{CallExists}
 use Rattle.homeo_meaning.specs.Serial.{values_of}
-use Rattle.homeo_plan.specs.Key.{words as plan_words}
+use Rattle.homeo_plan.specs.Key.{definitions as plan_definitions}
 use Rattle.homeo_plan.specs.Joined.{Deltas}
 use Rattle.homeo_plan.specs.Local.{no_deltas}
 use Rattle.homeo_plan.specs.Planned.{sites_of, template_at, policy}
@@ -72,12 +72,12 @@ one_room k vs cs idx c old new r lt is have has e =
 
 -- ---- configurations
 config_append : (k : ℕ) (vs : List Visit) (cs : List Clause) (c : Clause) → peak_config k vs (cs ++ c ∷ []) ≡ peak_config k vs cs ++ peak_bounds k vs c ∷ []
-unfolding plan_words
+unfolding plan_definitions
 config_append k vs [] c = refl
 config_append k vs (d ∷ cs) c = ap (λ l. peak_bounds k vs d ∷ l) (config_append k vs cs c)
 
 pub no_config : (k : ℕ) (vs : List Visit) → [] ≡ peak_config k vs []
-unfolding plan_words
+unfolding plan_definitions
 no_config k vs = refl
 
 pub one_bounds :
@@ -95,13 +95,13 @@ zeros_at (suc n) zero = refl
 zeros_at (suc n) (suc x) = zeros_at n x
 
 zeros_are : (n : ℕ) → values_of (replicate n (pos 0)) ≡ no_deltas
-unfolding plan_words
+unfolding plan_definitions
 zeros_are n = fun_ext (λ x. zeros_at n x)
 
 pub begun :
     (w : s.Workload) (base : List ℤ) (r : Replay) → IsAccepted w → site_lists r ≡ replicate (sites_of w) (replicate (length base) (pos 0)) →
     HaveRooms (sites_of w) [] (template_at w base).clauses r.rooms.items → IsReplay w base [] r
-unfolding plan_words
+unfolding plan_definitions
 begun w base r accepted lists rooms = record {
   exist = tt;
   served = record { config = policy w base; fits = policy_fits w base accepted; serves = tt };
@@ -114,7 +114,7 @@ begun w base r accepted lists rooms = record {
 
 -- ---- one call more
 after_append : (d : ℕ → Deltas) (vs : List Visit) (v : Visit) → after_all d (vs ++ v ∷ []) ≡ after (after_all d vs) v
-unfolding plan_words
+unfolding plan_definitions
 after_append d [] v = refl
 after_append d (u ∷ vs) v = after_append (after d u) vs v
 
@@ -132,7 +132,7 @@ module _
     x = after_all (λ j. no_deltas) (visits w base calls)
 
     one_site : (i : ℕ) → i < sites_of w → AreDeltas base (after x v i) (get_or (site_lists new) i [])
-    unfolding plan_words
+    unfolding plan_definitions
     one_site i lt = subst (AreDeltas base (after x v i)) (sym (ap (λ l. get_or l i []) lists)) (⊎_elim here there (same_number i site))
       where
         here : i ≡ site → AreDeltas base (after x v i) (get_or (set (site_lists old) site deltas) i [])
@@ -158,7 +158,7 @@ module _
                 go false q = refl
 
     pub goes_on : IsReplay w base (calls ++ call ∷ []) new
-    unfolding plan_words
+    unfolding plan_definitions
     goes_on = record {
       exist = append_each (λ c. CallExists w c) calls (call ∷ []) kept.exist (exists, tt);
       served = served;

@@ -4,11 +4,11 @@ use Rattle.std.specs.Int.{w128}
 use Rattle.std.proofs.Math.ListN.{set}
 use Rattle.std.proofs.lemmas.List.{take_more}
 use Rattle.homeo_meaning.specs.Serial.{values_of}
-use Rattle.homeo_plan.specs.Key.{words as plan_words}
+use Rattle.homeo_plan.specs.Key.{definitions as plan_definitions}
 use Rattle.homeo_plan.specs.Each.{Member}
 use Rattle.homeo_plan.specs.Config.{total}
 use Rattle.homeo_plan.specs.Template.{Clause}
-use Rattle.homeo_forecast.specs.Key.{words}
+use Rattle.homeo_forecast.specs.Key.{definitions}
 use Rattle.homeo_forecast.specs.Peaks.{Stop, peaks}
 use Rattle.homeo_forecast.specs.Visits.{Visit}
 use Rattle.homeo_forecast.specs.declared.rooms.Room.{Room}
@@ -22,12 +22,12 @@ use Rattle.homeo_forecast.proofs.RoomSteps.{is_open, bound_fits}
 
 -- ---- lists
 member_last : (m y : ℕ) (xs : List ℕ) → Member m (xs ++ y ∷ []) → Member m xs ⊎ (y ≡ m)
-unfolding plan_words
+unfolding plan_definitions
 member_last m y [] h = ⊎_elim (λ e. inr e) (λ none. absurd none) h
 member_last m y (x ∷ xs) h = ⊎_elim (λ e. inl (inl e)) (λ rest. ⊎_elim (λ i. inl (inr i)) (λ e. inr e) (member_last m y xs rest)) h
 
 is_member : (m : ℕ) (ns : List ℕ) → Member m ns ⊎ (Member m ns → ⊥)
-unfolding plan_words
+unfolding plan_definitions
 is_member m [] = inr (λ h. h)
 is_member m (n ∷ ns) = ⊎_elim (λ e. inl (inl e)) (λ apart. ⊎_elim (λ h. inl (inr h)) (λ none. inr (λ h. ⊎_elim apart none h)) (is_member m ns)) (same_number n m)
 
@@ -44,7 +44,7 @@ room_at k vs cs rs n d r have lt is =
 pub bound_there :
     (rs : List Room) (n : ℕ) (r : Room) → CanBound rs → n < length rs → r ≡ get_or rs n r →
     (0 < length r.peaks.items) × FitsSigned w128 (r.room +ℤ get_or r.peaks.items 0 (pos 0))
-unfolding plan_words
+unfolding plan_definitions
 bound_there rs n r can lt is =
     let below : n < length can.clauses = omega (arith, lt, can.rooms.count) in
     bound_fits can.sites can.visits (get_or can.clauses n none) r (room_at can.sites can.visits can.clauses rs n none r can.rooms lt is)
@@ -56,13 +56,13 @@ module _ (rs : List Room) (site : ℕ) (deltas : List ℤ) (can : CanTest rs sit
 
   -- a site's own terms can be summed there
   pub sum_there : (r : Room) → AreOwnTerms can.sites (get_or can.clauses n none).terms r.own.items → CanSum (own_at r.own.items site) (values_of deltas)
-  unfolding plan_words
+  unfolding plan_definitions
   sum_there r are =
       subst (λ ts. CanSum ts (values_of deltas)) (sym (are.each site can.below))
       (each_there (λ (d : Clause). CanSum (terms_at site d.terms) (values_of deltas)) can.clauses n none below can.sums)
 
   pub fit_there : total (peaks can.sites can.visits (get_or can.clauses n none)) ≤ℤ (get_or can.clauses n none).slack
-  unfolding plan_words
+  unfolding plan_definitions
   fit_there = each_there (λ (d : Clause). total (peaks can.sites can.visits d) ≤ℤ d.slack) can.clauses n none below can.fit
 
   module _ (r : Room) (is : r ≡ get_or rs n r) where
@@ -79,7 +79,7 @@ module _ (rs : List Room) (site : ℕ) (deltas : List ℤ) (can : CanTest rs sit
 pub stop_there :
     (k : ℕ) (vs us : List Visit) (cs : List Clause) (rs : List Room) (n : ℕ) (r : Room) (o : Option Stop) → HaveRooms k vs cs rs → n < length rs →
     r ≡ get_or rs n r → ((c : Clause) → HasRoom k vs c r → o ≡ clause_stop k us n c) → o ≡ clause_stop_at k us cs n
-unfolding words
+unfolding definitions
 stop_there k vs us cs rs n r o have lt is h = h (get_or cs n none) (room_at k vs cs rs n none r have lt is)
 
 -- ---- rooms of which some have taken the visit v
@@ -88,7 +88,7 @@ module _ (k : ℕ) (vs : List Visit) (v : Visit) (cs : List Clause) where
   us = vs ++ v ∷ []
 
   pub none_raised : (ns : List ℕ) (rs : List Room) → HaveRooms k vs cs rs → ns ≡ [] → SomeRaised k vs v cs ns rs
-  unfolding plan_words
+  unfolding plan_definitions
   none_raised ns rs h none = record {
     count = h.count;
     each = λ n c r lt. inl (h.each n c r lt);
@@ -156,7 +156,7 @@ module _ (rs : List Room) (site : ℕ) (deltas : List ℤ) (can : CanRaise rs si
     below_now = omega (arith, lt, can.test.rooms.count)
 
     pub open_now : IsOpen site (get_or now n r)
-    unfolding plan_words
+    unfolding plan_definitions
     open_now =
         either_open can.test.sites can.test.visits can.visit can.test.clauses site (get_or can.test.clauses n none) (get_or now n r) (some.each n none r below_now)
         (fit_there rs site deltas can.test n lt)

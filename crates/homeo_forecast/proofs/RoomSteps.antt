@@ -1,7 +1,7 @@
 -- What is left of a slack after one visit more.
-use Rattle.homeo_meaning.specs.Key.{words as meaning_words}
-use Rattle.homeo_plan.specs.Key.{words as plan_words}
-use Rattle.homeo_forecast.specs.Key.{words}
+use Rattle.homeo_meaning.specs.Key.{definitions as meaning_definitions}
+use Rattle.homeo_plan.specs.Key.{definitions as plan_definitions}
+use Rattle.homeo_forecast.specs.Key.{definitions}
 use Rattle.std.proofs.Common.{◌≡◌, ℕ, zero, suc, ◌<◌, ◌^◌, Bool, true, false, cond, List, [], ◌∷◌, ◌++◌, length, ℤ, pos, int_lt, int_le, ◌+ℤ◌, ◌-ℤ◌, ◌≤ℤ◌, ◌<ℤ◌, Some, None, replicate, refl, sym, ap, ap₂, subst, ◌∙◌, arith, slice_index_or, FitsSigned, Global}
 use Rattle.std.specs.Prelude.{Vec}
 use Rattle.std.proofs.Math.ListN.{set}
@@ -59,18 +59,18 @@ module _ (k : ℕ) (vs : List Visit) (c : Clause) (v : Visit) (site : ℕ) (sum 
   old = slice_index_or r.peaks.items site (pos 0)
 
   pub old_is : (d : ℤ) → slice_index_or r.peaks.items site d ≡ peak c.terms site vs
-  unfolding plan_words meaning_words
+  unfolding plan_definitions meaning_definitions
   old_is d = ap (λ ns. slice_index_or ns site d) room.peaks_are ∙ peak_at c.terms vs 0 k site site d (omega arith) lt
 
   pub raised : peaks k (vs ++ v ∷ []) c ≡ set r.peaks.items site (int_max sum (peak c.terms site vs))
-  unfolding plan_words meaning_words
+  unfolding plan_definitions meaning_definitions
   raised =
       peaks_push c.terms vs v 0 k site (omega arith) lt
       ∙ ap₂ (λ ns n. set ns site n) (sym room.peaks_are)
       (ap₂ int_max (ap (λ j. site_sum j c.terms v.deltas) at ∙ sym is) (ap (λ j. peak c.terms j vs) at))
 
   pub raised_total : total (peaks k (vs ++ v ∷ []) c) ≡ total (peaks k vs c) +ℤ (int_max sum (peak c.terms site vs) -ℤ peak c.terms site vs)
-  unfolding plan_words meaning_words
+  unfolding plan_definitions meaning_definitions
   raised_total =
       ap total raised ∙ total_set r.peaks.items site (int_max sum (peak c.terms site vs)) (pos 0) there
       ∙ ap₂ (λ a b. total a +ℤ (int_max sum (peak c.terms site vs) -ℤ b)) room.peaks_are (old_is (pos 0))
@@ -80,7 +80,7 @@ module _ (k : ℕ) (vs : List Visit) (c : Clause) (v : Visit) (site : ℕ) (sum 
 
   -- a sum that isn't higher changes nothing
   pub lower : (d : ℤ) → sum ≤ℤ slice_index_or r.peaks.items site d → HasRoom k (vs ++ v ∷ []) c r
-  unfolding plan_words meaning_words
+  unfolding plan_definitions meaning_definitions
   lower d h =
       let p = old_is d in
       let m : int_max sum (peak c.terms site vs) ≡ peak c.terms site vs = max_low sum (peak c.terms site vs) (subst (λ z. sum ≤ℤ z) p h) in
@@ -135,13 +135,13 @@ module _ (k : ℕ) (vs : List Visit) (c : Clause) (v : Visit) (site : ℕ) (sum 
           absurd (over (lower_fits (pos 0) (subst (λ z. sum ≤ℤ z) (sym same) below) low))
 
   pub none_stops : total (peaks k (vs ++ v ∷ []) c) ≤ℤ c.slack → (n : ℕ) → None ≡ clause_stop k (vs ++ v ∷ []) n c
-  unfolding words
+  unfolding definitions
   none_stops fits n = sym (ap (λ b. cond b None (Some (Spent n (peaks k (vs ++ v ∷ []) c) c.slack))) (at_most (total (peaks k (vs ++ v ∷ []) c)) c.slack fits))
 
   pub spent_stops :
       (total (peaks k (vs ++ v ∷ []) c) ≤ℤ c.slack → ⊥) → pos 0 ≤ℤ r.room → (n : ℕ) (ps : List ℤ) (slack : ℤ) →
       ps ≡ set r.peaks.items site sum → slack ≡ r.slack → Some (Spent n ps slack) ≡ clause_stop k (vs ++ v ∷ []) n c
-  unfolding words
+  unfolding definitions
   spent_stops over low n ps slack are is_slack =
       ap₂ (λ l z. Some (Spent n l z)) (are ∙ sym (over_peaks over low)) (is_slack ∙ room.slack_is)
       ∙ sym (ap (λ b. cond b None (Some (Spent n (peaks k (vs ++ v ∷ []) c) c.slack))) (not_at_most (total (peaks k (vs ++ v ∷ []) c)) c.slack over))
@@ -155,18 +155,18 @@ sum_at k ts own site x y are lt same =
 
 -- ---- no visit
 zero_peaks : (ts : List Term) (i k : ℕ) → replicate k (pos 0) ≡ peaks_from ts [] i k
-unfolding plan_words
+unfolding plan_definitions
 zero_peaks ts i zero = refl
 zero_peaks ts i (suc k) = ap (λ l. pos 0 ∷ l) (zero_peaks ts (suc i) k)
 
 zero_total : (k : ℕ) → total (replicate k (pos 0)) ≡ pos 0
-unfolding plan_words
+unfolding plan_definitions
 zero_total zero = refl
 zero_total (suc k) = let rest = zero_total k in omega (arith, ints)
 
 pub new_room : (k : ℕ) (c : Clause) (r : Room) → AreOwnTerms k c.terms r.own.items → r.slack ≡ c.slack → r.peaks.items ≡ replicate k (pos 0) → r.room ≡ c.slack →
     c.slack <ℤ pos (2 ^ 127) → HasRoom k [] c r
-unfolding plan_words
+unfolding plan_definitions
 new_room k c r own slack are is_slack small =
     let same = zero_peaks c.terms 0 k in
     let none = ap total (sym same) ∙ zero_total k in
@@ -176,7 +176,7 @@ new_room k c r own slack are is_slack small =
 pub bounds_are :
     (k : ℕ) (vs : List Visit) (c : Clause) (r : Room) (bounds : List ℤ) (first d : ℤ) → HasRoom k vs c r →
     bounds ≡ set r.peaks.items 0 first → first ≡ r.room +ℤ slice_index_or r.peaks.items 0 d → 0 < length r.peaks.items → bounds ≡ peak_bounds k vs c
-unfolding plan_words
+unfolding plan_definitions
 bounds_are zero vs c r bounds first d room are is some =
     let none : length r.peaks.items ≡ 0 = ap length room.peaks_are in absurd (omega (arith, none, some))
 bounds_are (suc k) vs c r bounds first d room are is some =
@@ -189,7 +189,7 @@ bounds_are (suc k) vs c r bounds first d room are is some =
 pub low_again :
     (k : ℕ) (vs : List Visit) (c : Clause) (v : Visit) (site : ℕ) (sum : ℤ) (r : Room) → HasRoom k (vs ++ v ∷ []) c r → v.site ≡ site → site < k →
     sum ≡ site_sum site c.terms v.deltas → (d : ℤ) → sum ≤ℤ slice_index_or r.peaks.items site d
-unfolding plan_words
+unfolding plan_definitions
 low_again k vs c v site sum r room at lt is d =
     let there : slice_index_or r.peaks.items site d ≡ peak c.terms site (vs ++ v ∷ []) =
     ap (λ ns. slice_index_or ns site d) room.peaks_are ∙ peak_at c.terms (vs ++ v ∷ []) 0 k site site d (omega arith) lt in
@@ -200,7 +200,7 @@ low_again k vs c v site sum r room at lt is d =
 
 -- ---- what is asked of a room where the peaks fit
 pub is_open : (k : ℕ) (vs : List Visit) (c : Clause) (site : ℕ) (r : Room) → HasRoom k vs c r → total (peaks k vs c) ≤ℤ c.slack → site < k → IsOpen site r
-unfolding plan_words
+unfolding plan_definitions
 is_open k vs c site r room fit lt =
     let left = room.room_is in
     record {
@@ -217,7 +217,7 @@ is_open k vs c site r room fit lt =
 pub bound_fits :
     (k : ℕ) (vs : List Visit) (c : Clause) (r : Room) → HasRoom k vs c r → total (peaks k vs c) ≤ℤ c.slack → 0 < k →
     (0 < length r.peaks.items) × FitsSigned w128 (r.room +ℤ slice_index_or r.peaks.items 0 (pos 0))
-unfolding plan_words
+unfolding plan_definitions
 bound_fits zero vs c r room fit some = absurd (omega arith)
 bound_fits (suc k) vs c r room fit some =
     let ready = is_open (suc k) vs c 0 r room fit some in

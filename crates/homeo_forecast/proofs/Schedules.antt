@@ -10,15 +10,15 @@ use Rattle.std.proofs.lemmas.Option.{slice_get-get_or}
 use Rattle.homeo_syntax.specs.Source as s
 use Rattle.homeo_syntax.specs.declared.phrase.Ident.{Ident}
 use Rattle.homeo_meaning.specs.declared.call.CallId.{CallId}
-use Rattle.homeo_meaning.specs.Key.{words as meaning_words}
+use Rattle.homeo_meaning.specs.Key.{definitions as meaning_definitions}
 use Rattle.homeo_meaning.specs.Calls.{CallExists}
 use Rattle.homeo_meaning.specs.CallRules.{times}
 use Rattle.homeo_meaning.specs.Declarations.{place_of}
 use Rattle.homeo_meaning.specs.Serial.{numbered}
-use Rattle.homeo_plan.specs.Key.{words as plan_words}
+use Rattle.homeo_plan.specs.Key.{definitions as plan_definitions}
 use Rattle.homeo_plan.specs.Each.{Each}
-use Rattle.homeo_history.specs.Key.{words as history_words}
-use Rattle.homeo_order.specs.Key.{words as order_words}
+use Rattle.homeo_history.specs.Key.{definitions as history_definitions}
+use Rattle.homeo_order.specs.Key.{definitions as order_definitions}
 use Rattle.homeo_order.specs.Order.{calls_from, client_names, order_of, scheduled_calls}
 use Rattle.homeo_order.specs.Scheduled.{IsWholeOrder}
 use Rattle.homeo_order.proofs.Scheduling.{named_there, times-snoc, past_the_last, some_is, has_left, calls_from-snoc}
@@ -31,7 +31,7 @@ pub record ItsClient (w : s.Workload) (n : ℕ) : Type 0 where
   pub named : client.name.name ≡ n
 
 pub its_client : (w : s.Workload) (n : ℕ) → place_of (client_names w) n < length w.clients → ItsClient w n
-unfolding order_words
+unfolding order_definitions
 its_client w n lt = go (slice_get w.clients (place_of (client_names w) n)) refl
   where
     go : (o : Option s.Client) → slice_get w.clients (place_of (client_names w) n) ≡ o → ItsClient w n
@@ -65,7 +65,7 @@ module _ (w : s.Workload) (order : IsWholeOrder w) where
 
   exists_next : (before xs : List Ident) (x : Ident) → before ++ x ∷ xs ≡ order_of w.schedule →
       CallExists w (record { client = place_of (client_names w) x.name; seq = suc (times x.name before) })
-  unfolding meaning_words history_words
+  unfolding meaning_definitions history_definitions
   exists_next before xs x whole =
       let lt = named_at before xs x whole in
       let it = its_client w x.name lt in
@@ -75,13 +75,13 @@ module _ (w : s.Workload) (order : IsWholeOrder w) where
       (one_there it.client.calls (times x.name before) less)
 
   exist_from : (before xs : List Ident) → before ++ xs ≡ order_of w.schedule → Each (λ call. CallExists w call) (calls_from (client_names w) before xs)
-  unfolding plan_words order_words
+  unfolding plan_definitions order_definitions
   exist_from before [] whole = tt
   exist_from before (x ∷ xs) whole =
       (exists_next before xs x whole, exist_from (before ++ x ∷ []) xs (append_assoc before (x ∷ []) xs ∙ whole))
 
   pub scheduled_exist : Each (λ call. CallExists w call) (scheduled_calls w)
-  unfolding order_words
+  unfolding order_definitions
   scheduled_exist = exist_from [] (order_of w.schedule) refl
 
 -- ---- counting
@@ -96,7 +96,7 @@ zero_at (suc n) zero = refl
 zero_at (suc n) (suc k) = zero_at n k
 
 pub none_counted : (w : s.Workload) (calls : List CallId) (made : List ℕ) → calls ≡ [] → made ≡ replicate (length w.clients) 0 → HasCounted w [] calls made
-unfolding order_words
+unfolding order_definitions
 none_counted w calls made none zeros = record {
   calls_are = none;
   count = ap length zeros ∙ length-replicate (length w.clients) 0;
@@ -188,6 +188,6 @@ module _ (w : s.Workload) (order : IsWholeOrder w) (names : List Ident) (all : n
 
 pub all_counted : (w : s.Workload) (names : List Ident) (i : ℕ) (calls : List CallId) (made : List ℕ) → names ≡ order_of w.schedule → length names ≤ i →
     HasCounted w (take i names) calls made → calls ≡ scheduled_calls w
-unfolding order_words
+unfolding order_definitions
 all_counted w names i calls made all le counted =
     counted.calls_are ∙ ap (calls_from (client_names w) []) (all_taken names i le ∙ all)

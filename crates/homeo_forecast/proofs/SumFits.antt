@@ -4,17 +4,17 @@ use Rattle.std.specs.Int.{w128}
 use Rattle.std.proofs.lemmas.List.Elements.{All-nil, All-cons, All-head, All-tail}
 use Rattle.homeo_plan.specs.declared.forms.Term.{Term}
 use Rattle.homeo_plan.specs.Joined.{Deltas}
-use Rattle.homeo_site.specs.Key.{words as site_words}
+use Rattle.homeo_site.specs.Key.{definitions as site_definitions}
 use Rattle.homeo_site.specs.declared.own_treaty.OwnTerm.{OwnTerm}
 use Rattle.homeo_site.specs.OwnTreaty.{own_terms, own_sum, SumsFit}
-use Rattle.homeo_forecast.specs.Key.{words}
+use Rattle.homeo_forecast.specs.Key.{definitions}
 use Rattle.homeo_forecast.specs.inner.Sums.{terms_at, term_sum, CanSum}
 
 abbrev own : Term → OwnTerm
 own t = record { object = t.delta.object; factor = t.factor }
 
 own_are : (i : ℕ) (ts : List Term) → own_terms i ts ≡ map own (terms_at i ts)
-unfolding site_words words
+unfolding site_definitions definitions
 own_are i [] = refl
 own_are i (t ∷ ts) = go (t.delta.site == i) (own_are i ts)
   where
@@ -23,7 +23,7 @@ own_are i (t ∷ ts) = go (t.delta.site == i) (own_are i ts)
     go false ih = ih
 
 own_first : (ts : List Term) (n : ℕ) (x : Deltas) → own_sum (take n (map own ts)) x ≡ term_sum (take n ts) x
-unfolding site_words words
+unfolding site_definitions definitions
 own_first [] zero x = refl
 own_first [] (suc n) x = refl
 own_first (t ∷ ts) zero x = refl

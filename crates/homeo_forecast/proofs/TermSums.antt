@@ -7,17 +7,17 @@ use Rattle.std.proofs.lemmas.Int.{ints}
 use Rattle.std.proofs.lemmas.Bool.Decides.{nat_tests}
 use Rattle.std.proofs.Math.Seq.{take-length}
 use Rattle.std.proofs.lemmas.List.{take_more, length-map, get_or-map, map-set, append-nil, length-replicate}
-use Rattle.homeo_plan.specs.Key.{words as plan_words}
+use Rattle.homeo_plan.specs.Key.{definitions as plan_definitions}
 use Rattle.homeo_plan.specs.declared.forms.Term.{Term}
 use Rattle.homeo_plan.specs.Joined.{Deltas}
 use Rattle.homeo_plan.specs.Treaty.{site_sum}
-use Rattle.homeo_forecast.specs.Key.{words}
+use Rattle.homeo_forecast.specs.Key.{definitions}
 use Rattle.homeo_forecast.specs.inner.Sums.{terms_at, own_at, AreOwnTerms, term_sum, CanSum}
 use Rattle.homeo_forecast.proofs.Lists.{set_here, set_apart, same_there, all_taken}
 
 -- a site's sum is that of its own terms
 pub own_sum_is : (i : ℕ) (ts : List Term) (x : Deltas) → term_sum (terms_at i ts) x ≡ site_sum i ts x
-unfolding words plan_words
+unfolding definitions plan_definitions
 own_sum_is i [] x = refl
 own_sum_is i (t ∷ ts) x = go (t.delta.site == i) (own_sum_is i ts x)
   where
@@ -29,13 +29,13 @@ own_sum_is i (t ∷ ts) x = go (t.delta.site == i) (own_sum_is i ts x)
 
 -- ---- sums
 sum_append : (ts us : List Term) (x : Deltas) → term_sum (ts ++ us) x ≡ term_sum ts x +ℤ term_sum us x
-unfolding words
+unfolding definitions
 sum_append [] us x = omega (arith, ints)
 sum_append (t ∷ ts) us x = omega (arith, ints, sum_append ts us x)
 
 module _ (ts : List Term) (k : ℕ) (d : Term) (x : Deltas) (lt : k < length ts) (sum : ℤ) (so_far : sum ≡ term_sum (take k ts) x) where
   pub sum_next : (next : ℤ) → next ≡ sum +ℤ ((get_or ts k d).factor *ℤ x (get_or ts k d).delta.object) → next ≡ term_sum (take (k + 1) ts) x
-  unfolding words
+  unfolding definitions
   sum_next next e =
       e ∙ ap (λ z. z +ℤ ((get_or ts k d).factor *ℤ x (get_or ts k d).delta.object)) so_far
       ∙ sym (ap (λ us. term_sum us x) (take_more ts k d lt) ∙ sum_append (take k ts) (get_or ts k d ∷ []) x
@@ -52,7 +52,7 @@ all_sum ts x = ap (λ us. term_sum us x) (take-length ts)
 
 -- ---- the terms of each site
 terms_append : (i : ℕ) (ts us : List Term) → terms_at i (ts ++ us) ≡ terms_at i ts ++ terms_at i us
-unfolding words
+unfolding definitions
 terms_append i [] us = refl
 terms_append i (t ∷ ts) us = go (t.delta.site == i) (terms_append i ts us)
   where
@@ -66,7 +66,7 @@ pub here_at : (own : List (Vec Term Global)) (i : ℕ) (v : Vec Term Global) →
 here_at own i v lt is = ap (λ (l : Vec Term Global). l.items) is ∙ sym (get_or-map (λ (l : Vec Term Global). l.items) own i v [] lt)
 
 pub no_own : (k : ℕ) (own : List (Vec Term Global)) → map (λ (l : Vec Term Global). l.items) own ≡ replicate k [] → AreOwnTerms k [] own
-unfolding words
+unfolding definitions
 no_own k own e = record {
   count = sym (length-map own (λ (l : Vec Term Global). l.items)) ∙ ap length e ∙ length-replicate k [];
   each = λ i lt. ap (λ l. get_or l i []) e ∙ same_there k i [] [] lt;
@@ -76,7 +76,7 @@ no_own k own e = record {
 pub put_here :
     (own : List (Vec Term Global)) (t : Term) (old new : Vec Term Global) → t.delta.site < length own → old ≡ get_or own t.delta.site old →
     new.items ≡ old.items ++ t ∷ [] → (i : ℕ) → i < length own → own_at (set own t.delta.site new) i ≡ own_at own i ++ terms_at i (t ∷ [])
-unfolding words
+unfolding definitions
 put_here own t old new lt is e i below =
     ap (λ l. get_or l i []) (map-set (λ (l : Vec Term Global). l.items) own t.delta.site new) ∙ go (t.delta.site == i) refl
   where
@@ -97,7 +97,7 @@ put_here own t old new lt is e i below =
 
 -- and nowhere, where there is no such site
 pub put_nowhere : (own : List (Vec Term Global)) (t : Term) → length own ≤ t.delta.site → (i : ℕ) → i < length own → own_at own i ≡ own_at own i ++ terms_at i (t ∷ [])
-unfolding words
+unfolding definitions
 put_nowhere own t le i below = go (t.delta.site == i) refl
   where
     go : (v : Bool) → (t.delta.site == i) ≡ v → own_at own i ≡ own_at own i ++ cond v (t ∷ []) []

@@ -2,7 +2,7 @@
 use Rattle.std.specs.Prelude.{◌≡◌, ◌≤◌, ◌<◌, ℕ, MatchOption, slice_get, List, take, length, ℤ, Option, Some}
 use Rattle.homeo_syntax.specs.Source as s
 use Rattle.homeo_meaning.specs.declared.call.CallId.{CallId}
-use Rattle.homeo_plan.specs.Key.{words}
+use Rattle.homeo_plan.specs.Key.{definitions}
 use Rattle.homeo_plan.specs.Each.{Each}
 use Rattle.homeo_plan.specs.Template.{Template}
 use Rattle.homeo_plan.specs.Config.{Config, Fits}
@@ -13,7 +13,7 @@ use Rattle.homeo_forecast.specs.Visits.{Visit, visits, next_visit}
 
 -- each visit keeps the treaty of its site
 abbrev pub Serves : Template → Config → List Visit → Type 0
-unfolding words
+unfolding definitions
 Serves t config vs = Each (λ v. Treaty t config v.site v.deltas) vs
 
 -- some fitting configuration serves the visits of k sites

@@ -23,8 +23,8 @@ use std::sync::Arc;
 /// The plan at a base, and for each site which clauses and freezes stand on each of its deltas.
 #[derive(Drop)]
 pub(crate) struct Prepared {
-    pub plan: Arc<RoundPlan, Global>,
-    pub indexes: List<TreatyIndex>,
+    pub(crate) plan: Arc<RoundPlan, Global>,
+    pub(crate) indexes: List<TreatyIndex>,
 }
 
 /// The plan at a base, to be shared.

@@ -42,8 +42,8 @@ use std::alloc::Global;
 /// What calls have left so far: the deltas of each site, and the room in each clause.
 #[derive(Drop)]
 pub(crate) struct Replay {
-    pub deltas: Vec<Vec<i64>>,
-    pub rooms: Vec<Room>,
+    pub(crate) deltas: Vec<Vec<i64>>,
+    pub(crate) rooms: Vec<Room>,
 }
 
 /// Runs a program on its site's deltas.

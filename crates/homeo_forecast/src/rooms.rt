@@ -24,10 +24,10 @@ use std::alloc::Global;
 /// above them.
 #[derive(Drop)]
 pub(crate) struct Room {
-    pub own: Vec<Vec<Term>>,
-    pub slack: i128,
-    pub peaks: Vec<i128>,
-    pub room: i128,
+    pub(crate) own: Vec<Vec<Term>>,
+    pub(crate) slack: i128,
+    pub(crate) peaks: Vec<i128>,
+    pub(crate) room: i128,
 }
 
 /// How far a sum is above a peak.

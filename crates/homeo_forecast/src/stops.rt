@@ -59,7 +59,7 @@ pub(crate) fn first_spent(
 }
 
 /// What stops a call at a freeze of this number: a delta of the site that isn't 0.
-#[tactic(auto, unfolding(crate::specs::Key::words))]
+#[tactic(auto, unfolding(crate::specs::Key::definitions))]
 fn freeze_stop(delta: Delta, freeze: u32, site: u32, deltas: &[i64]) -> Option<Stop>
     ensures { option_map plain_stop result ≡ freeze_stop freeze site (values_of deltas.now) delta }
 {

@@ -56,7 +56,7 @@ fn with_term(sum: i128, term: &Term, deltas: &[i64]) -> i128
 }
 
 /// The sum of factor times delta, of terms on the deltas of one site.
-#[tactic(auto, using(crate::proofs::TermSums::all_sum), unfolding(crate::specs::Key::words))]
+#[tactic(auto, using(crate::proofs::TermSums::all_sum), unfolding(crate::specs::Key::definitions))]
 pub(crate) fn term_sum(terms: &[Term], deltas: &[i64]) -> i128
     requires { CanSum terms.now (values_of deltas.now) }
     ensures { result ≡ term_sum terms.now (values_of deltas.now) }

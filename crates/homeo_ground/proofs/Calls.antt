@@ -2,17 +2,17 @@
 use Rattle.std.proofs.Common.{◌≡◌, ℕ, ◌+◌, ◌<◌, ◌≤◌, ℤ, List, [], ◌∷◌, ◌++◌, map, length, take, Vec, Global, get_or, refl, sym, ap, ◌∙◌}
 use Rattle.std.specs.List.{flat_map}
 use Rattle.std.proofs.lemmas.List.{map-append, take_more, take_all}
-use Rattle.homeo_syntax.specs.Key.{words as tree_words}
+use Rattle.homeo_syntax.specs.Key.{definitions as syntax_definitions}
 use Rattle.homeo_syntax.specs.Source as s
 use Rattle.homeo_syntax.specs.declared.phrase.Number.{Number}
 use Rattle.homeo_syntax.specs.declared.workload.Call.{Call}
 use Rattle.homeo_syntax.specs.declared.workload.Client.{Client}
 use Rattle.homeo_syntax.specs.SourceView.{plain_call, plain_client}
-use Rattle.homeo_meaning.specs.Key.{words as meaning_words}
+use Rattle.homeo_meaning.specs.Key.{definitions as meaning_definitions}
 use Rattle.homeo_meaning.specs.Ground.{sited_call}
 use Rattle.homeo_meaning.specs.GlobalNames.{SitedCall, sited_calls_of}
 use Rattle.homeo_meaning.specs.NumberRules.{distinct_after}
-use Rattle.homeo_ground.specs.Key.{words}
+use Rattle.homeo_ground.specs.Key.{definitions}
 use Rattle.homeo_ground.specs.Sited.{values}
 use Rattle.homeo_ground.specs.Grounding.{place_among, places_among}
 use Rattle.homeo_ground.proofs.Distinct.{calls-step, places-step, clients-step, tables-step}
@@ -22,11 +22,11 @@ abbrev pub sited_at : Client → Call → SitedCall
 sited_at client call = sited_call (plain_client client) (plain_call call)
 
 pub sited-is : (client : Client) (call : Call) (args : List Number) (site : ℤ) → args ≡ call.args.items → site ≡ client.site.value → record { name = call.name; args = values args; site = site } ≡ sited_at client call
-unfolding meaning_words tree_words
+unfolding meaning_definitions syntax_definitions
 sited-is client call args site a s = λ i. record { name = call.name; args = values (a i); site = s i }
 
 pub all-sited : (client : Client) → map (sited_at client) client.calls.items ≡ sited_calls_of (plain_client client)
-unfolding meaning_words tree_words
+unfolding meaning_definitions syntax_definitions
 all-sited client = go client.calls.items
   where
     go : (calls : List Call) → map (sited_at client) calls ≡ map (sited_call (plain_client client)) (map plain_call calls)
@@ -35,11 +35,11 @@ all-sited client = go client.calls.items
 
 -- no call is numbered
 pub no-calls : (kept : List SitedCall) → kept ≡ distinct_after kept []
-unfolding meaning_words
+unfolding meaning_definitions
 no-calls kept = refl
 
 pub no-places : (kept : List SitedCall) → [] ≡ places_among kept []
-unfolding words
+unfolding definitions
 no-places kept = refl
 
 -- one more call of a client is numbered

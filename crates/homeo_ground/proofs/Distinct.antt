@@ -7,10 +7,10 @@ use Rattle.std.proofs.lemmas.Int.{ints}
 use Rattle.std.proofs.lemmas.List.{map-append}
 use Rattle.std.proofs.lemmas.Bool.Decides.{nat_tests}
 use Rattle.homeo_syntax.specs.Source as s
-use Rattle.homeo_meaning.specs.Key.{words as meaning_words}
+use Rattle.homeo_meaning.specs.Key.{definitions as meaning_definitions}
 use Rattle.homeo_meaning.specs.GlobalNames.{SitedCall, sited_calls_of}
 use Rattle.homeo_meaning.specs.NumberRules.{same_numbers, same_ground, distinct_after}
-use Rattle.homeo_ground.specs.Key.{words}
+use Rattle.homeo_ground.specs.Key.{definitions}
 use Rattle.homeo_ground.specs.Grounding.{place_among, places_among}
 
 -- ---- a call is the same ground call as itself
@@ -25,7 +25,7 @@ numbers-same [] = refl
 numbers-same (x ∷ xs) = ap (λ (b : Bool). b && same_numbers xs xs) (int-same x) ∙ numbers-same xs
 
 pub ground-same : (c : SitedCall) → same_ground c c ≡ true
-unfolding meaning_words
+unfolding meaning_definitions
 ground-same c =
     ap (λ (b : Bool). (b && same_numbers c.args c.args) && int_eq c.site c.site) (nat-same c.name.name)
     ∙ ap (λ (b : Bool). b && int_eq c.site c.site) (numbers-same c.args) ∙ int-same c.site
@@ -67,7 +67,7 @@ module _ {A : Type 0} (test : A → Bool) where
 -- ---- distinct ground calls
 -- a call is among the distinct calls that it was put to, at the place that it had or was to have
 pub put-there : (kept : List SitedCall) (u : SitedCall) → list_any (same_ground u) (distinct_after kept (u ∷ [])) ≡ true
-unfolding meaning_words
+unfolding meaning_definitions
 put-there kept u = go (list_any (same_ground u) kept) refl
   where
     go : (b : Bool) → list_any (same_ground u) kept ≡ b → list_any (same_ground u) (if b then kept else kept ++ u ∷ []) ≡ true
@@ -75,7 +75,7 @@ put-there kept u = go (list_any (same_ground u) kept) refl
     go false e = any-last (same_ground u) u kept (ground-same u)
 
 pub put-place : (kept : List SitedCall) (u : SitedCall) → place_among (distinct_after kept (u ∷ [])) u ≡ place_among kept u
-unfolding meaning_words words
+unfolding meaning_definitions definitions
 put-place kept u = go (list_any (same_ground u) kept) refl
   where
     go : (b : Bool) → list_any (same_ground u) kept ≡ b → position_or_len (same_ground u) (if b then kept else kept ++ u ∷ []) ≡ position_or_len (same_ground u) kept
@@ -83,13 +83,13 @@ put-place kept u = go (list_any (same_ground u) kept) refl
     go false e = place-last (same_ground u) u kept (ground-same u) e
 
 pub distinct-append : (kept us vs : List SitedCall) → distinct_after kept (us ++ vs) ≡ distinct_after (distinct_after kept us) vs
-unfolding meaning_words
+unfolding meaning_definitions
 distinct-append kept [] vs = refl
 distinct-append kept (u ∷ us) vs = distinct-append (if list_any (same_ground u) kept then kept else kept ++ u ∷ []) us vs
 
 -- a call that is there stays, and keeps its place
 pub stays : (v : SitedCall) (us kept : List SitedCall) → list_any (same_ground v) kept ≡ true → (place_among (distinct_after kept us) v ≡ place_among kept v) × (list_any (same_ground v) (distinct_after kept us) ≡ true)
-unfolding meaning_words words
+unfolding meaning_definitions definitions
 stays v [] kept h = (refl, h)
 stays v (u ∷ us) kept h = go (λ l e. stays v us l e) (list_any (same_ground u) kept)
   where
@@ -105,7 +105,7 @@ Known kept [] = Unit {0}
 Known kept (u ∷ us) = (list_any (same_ground u) kept ≡ true) × Known kept us
 
 pub all-known : (us kept : List SitedCall) → Known (distinct_after kept us) us
-unfolding meaning_words
+unfolding meaning_definitions
 all-known [] kept = tt
 all-known (u ∷ us) kept = ((stays u us (distinct_after kept (u ∷ [])) (put-there kept u)).1, all-known us (distinct_after kept (u ∷ [])))
 
@@ -122,7 +122,7 @@ places-stay vs [] kept h = refl
 places-stay vs (u ∷ us) kept h = λ i. (stays u vs kept h.0).0 i ∷ places-stay vs us kept h.1 i
 
 pub all-places-stay : (vs : List SitedCall) (cs : List s.Client) (kept : List SitedCall) → Known kept (flat_map sited_calls_of cs) → places_among (distinct_after kept vs) cs ≡ places_among kept cs
-unfolding words
+unfolding definitions
 all-places-stay vs [] kept h = refl
 all-places-stay vs (c ∷ cs) kept h =
     λ i. places-stay vs (sited_calls_of c) kept (known-first kept (sited_calls_of c) (flat_map sited_calls_of cs) h) i ∷ all-places-stay vs cs kept (known-second kept (sited_calls_of c) (flat_map sited_calls_of cs) h) i
@@ -159,7 +159,7 @@ module _ (cs : List s.Client) (c : s.Client) (old new : List SitedCall) (o : old
   all_known_in = subst (λ (l : List SitedCall). Known l (flat_map sited_calls_of cs)) (sym o) (all-known (flat_map sited_calls_of cs) [])
 
   pub tables-step : (tables : List (List ℕ)) (places : List ℕ) → tables ≡ places_among old cs → places ≡ map (place_among new) (sited_calls_of c) → tables ++ places ∷ [] ≡ places_among new (cs ++ c ∷ [])
-  unfolding words
+  unfolding definitions
   tables-step tables places t p =
       (λ i. (t ∙ sym (all-places-stay (sited_calls_of c) cs old all_known_in) ∙ ap (λ (l : List SitedCall). places_among l cs) (sym n)) i ++ p i ∷ [])
       ∙ sym (map-append (λ (client : s.Client). map (place_among new) (sited_calls_of client)) cs (c ∷ []))

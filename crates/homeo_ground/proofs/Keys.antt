@@ -5,10 +5,10 @@ use Rattle.std.specs.Ordering.{int_eq}
 use Rattle.std.specs.List.{list_any, position_or_len}
 use Rattle.std.specs.Cmp.Lexicographic.{pointwise}
 use Rattle.std.proofs.lemmas.List.{map-append}
-use Rattle.homeo_meaning.specs.Key.{words as meaning_words}
+use Rattle.homeo_meaning.specs.Key.{definitions as meaning_definitions}
 use Rattle.homeo_meaning.specs.GlobalNames as g
 use Rattle.homeo_meaning.specs.NumberRules.{same_numbers, same_ground, distinct_after}
-use Rattle.homeo_ground.specs.Key.{words}
+use Rattle.homeo_ground.specs.Key.{definitions}
 use Rattle.homeo_ground.specs.Sited.{sited}
 use Rattle.homeo_ground.specs.inner.Keys.{unplaced, call_of}
 use Rattle.homeo_ground.specs.Grounding.{place_among}
@@ -30,7 +30,7 @@ and-assoc true b c = refl
 and-assoc false b c = refl
 
 same-key : (a b : Key) → same_key a b ≡ same_ground (call_of a) (call_of b)
-unfolding meaning_words
+unfolding meaning_definitions
 same-key a b =
     ap (λ (c : Bool). (a.name == b.name) && (c && int_eq a.site b.site)) (same-numbers a.args.items b.args.items)
     ∙ and-assoc (a.name == b.name) (same_numbers a.args.items b.args.items) (int_eq a.site b.site)
@@ -46,13 +46,13 @@ place-keys k (j ∷ ks) = λ i. if not (same-key k j i) then 1 + place-keys k ks
 -- where calls stand in the text does not count
 any-unplaced : (u : g.SitedCall) (us : List g.SitedCall)
     → list_any (same_ground (unplaced u)) (map unplaced us) ≡ list_any (same_ground u) us
-unfolding meaning_words
+unfolding meaning_definitions
 any-unplaced u [] = refl
 any-unplaced u (v ∷ us) = ap (λ (b : Bool). same_ground u v || b) (any-unplaced u us)
 
 place-unplaced : (u : g.SitedCall) (us : List g.SitedCall)
     → position_or_len (same_ground (unplaced u)) (map unplaced us) ≡ position_or_len (same_ground u) us
-unfolding meaning_words
+unfolding meaning_definitions
 place-unplaced u [] = refl
 place-unplaced u (v ∷ us) = ap (λ (n : ℕ). if not (same_ground u v) then 1 + n else 0) (place-unplaced u us)
 
@@ -62,7 +62,7 @@ module _ (ks : List Key) (cs : List SitedCall) (k : Key) (c : SitedCall) (keys :
   there = any-keys k ks ∙ (λ i. list_any (same_ground (key i)) (keys i)) ∙ any-unplaced (sited c) (map sited cs)
 
   pub place-is : position_or_len (same_key k) ks ≡ place_among (map sited cs) (sited c)
-  unfolding words
+  unfolding definitions
   place-is = place-keys k ks ∙ (λ i. position_or_len (same_ground (key i)) (keys i)) ∙ place-unplaced (sited c) (map sited cs)
 
   abbrev keys_after : Bool → List Key
@@ -90,7 +90,7 @@ module _ (ks : List Key) (cs : List SitedCall) (k : Key) (c : SitedCall) (keys :
     keys-stand = ap (map call_of) f ∙ stand (list_any (same_key k) ks) ∙ sym (ap (λ (l : List SitedCall). map unplaced (map sited l)) made_is)
 
     pub calls-put : map sited made ≡ distinct_after (map sited cs) (sited c ∷ [])
-    unfolding meaning_words
+    unfolding meaning_definitions
     calls-put =
         ap (map sited) made_is ∙ after (list_any (same_key k) ks)
         ∙ ap (λ (b : Bool). if b then map sited cs else map sited cs ++ sited c ∷ []) there

@@ -5,12 +5,12 @@ use Rattle.std.specs.List.{list_any, flat_map}
 use Rattle.std.proofs.lemmas.Int.{ints}
 use Rattle.std.proofs.lemmas.List.{length-map}
 use Rattle.std.proofs.lemmas.Bool.Decides.{nat_tests}
-use Rattle.homeo_syntax.specs.Key.{words as tree_words}
+use Rattle.homeo_syntax.specs.Key.{definitions as syntax_definitions}
 use Rattle.homeo_syntax.specs.Source as s
 use Rattle.homeo_syntax.specs.WellFormed.{Each}
 use Rattle.homeo_syntax.specs.declared.phrase.Ident.{Ident}
 use Rattle.homeo_syntax.specs.declared.phrase.Number.{Number}
-use Rattle.homeo_meaning.specs.Key.{words as meaning_words}
+use Rattle.homeo_meaning.specs.Key.{definitions as meaning_definitions}
 use Rattle.homeo_meaning.specs.Acceptance.{IsAccepted}
 use Rattle.homeo_meaning.specs.Bindings.{Scope}
 use Rattle.homeo_meaning.specs.Declarations.{declarations, place_from, place_of}
@@ -35,7 +35,7 @@ not_equal : (m n : ℕ) → (m == n) ≡ false → m ≢ n
 not_equal m n h = grind (arith, nat_tests)
 
 within : {A : Type 0} (most : ℕ) (name : A → Ident) (before xs : List A) → each_from (passes_limit most name) before xs ≡ [] → length before ≤ most → length before + length xs ≤ most
-unfolding meaning_words
+unfolding meaning_definitions
 within most name before [] e h = omega arith
 within most name before (x ∷ xs) e h =
     let rest : List Fault = each_from (passes_limit most name) (before ++ x ∷ []) xs in
@@ -52,7 +52,7 @@ below : (a b : ℤ) → int_le a b ≡ false → a ≤ℤ pos 16 → pos 0 ≤�
 below a b h k z = (z, grind (arith, ints))
 
 site_here : (sites site : Number) → site_faults sites site ≡ [] → site_count_faults sites ≡ [] → pos 0 ≤ℤ site.value → IsSite site.value
-unfolding meaning_words
+unfolding meaning_definitions
 site_here sites site e f z = go (int_le sites.value site.value) refl e (int_lt sites.value (pos 1)) (int_lt (pos 16) sites.value) refl f
   where
     go : (b : Bool) → int_le sites.value site.value ≡ b → when b (record { phase = Bounds; offset = site.offset } ∷ []) ≡ [] → (c d : Bool) → int_lt (pos 16) sites.value ≡ d → when (c || d) (record { phase = Limits; offset = sites.offset } ∷ []) ≡ [] → IsSite site.value
@@ -63,7 +63,7 @@ site_here sites site e f z = go (int_le sites.value site.value) refl e (int_lt s
 
 -- ---- a name's place is not past the names
 place-fits : (k : ℕ) (names : List ℕ) (n : ℕ) → place_from k names n ≤ k + length names
-unfolding meaning_words
+unfolding meaning_definitions
 place-fits k [] n = omega arith
 place-fits k (m ∷ ms) n = go (m == n) (place-fits (suc k) ms n)
   where
@@ -72,17 +72,17 @@ place-fits k (m ∷ ms) n = go (m == n) (place-fits (suc k) ms n)
     go false h = omega arith
 
 pub place-within : (names : List ℕ) (n : ℕ) → place_of names n ≤ length names
-unfolding meaning_words
+unfolding meaning_definitions
 place-within names n = let h : place_from 0 names n ≤ 0 + length names = place-fits 0 names n in omega arith
 
 -- ---- facts of each item
 pub each-append : {A : Type 0} (P : A → Type 0) (xs ys : List A) → Each P xs → Each P ys → Each P (xs ++ ys)
-unfolding tree_words
+unfolding syntax_definitions
 each-append P [] ys h k = k
 each-append P (x ∷ xs) ys h k = (h.0, each-append P xs ys h.1 k)
 
 pub all-each : {A : Type 0} (P : A → Type 0) (xs : List A) → Each P xs → All P xs
-unfolding tree_words
+unfolding syntax_definitions
 all-each P [] h = all_none P
 all-each P (x ∷ xs) h = all_more P x xs h.0 (all-each P xs h.1)
 
@@ -90,7 +90,7 @@ abbrev StandsAtSite : SitedCall → Type 0
 StandsAtSite c = IsSite c.site
 
 calls_sited : (client : s.Client) → IsSite client.site.value → Each StandsAtSite (sited_calls_of client)
-unfolding meaning_words tree_words
+unfolding meaning_definitions syntax_definitions
 calls_sited client h = go client.calls
   where
     go : (calls : List s.Call) → Each StandsAtSite (map (λ (call : s.Call). record { name = call.name; args = map (λ (a : Number). a.value) call.args; site = client.site.value }) calls)
@@ -98,7 +98,7 @@ calls_sited client h = go client.calls
     go (c ∷ calls) = (h, go calls)
 
 clients_sited : (sites : Number) (scope : Scope) (ts : List s.Transaction) (cs : List s.Client) → flat_map (client_faults sites scope ts) cs ≡ [] → site_count_faults sites ≡ [] → Each (λ (c : s.Client). pos 0 ≤ℤ c.site.value) cs → Each StandsAtSite (flat_map sited_calls_of cs)
-unfolding meaning_words tree_words
+unfolding meaning_definitions syntax_definitions
 clients_sited sites scope ts [] e f z = tt
 clients_sited sites scope ts (c ∷ cs) e f z =
     let called : List Fault = flat_map (λ (call : s.Call). call_faults ts (scope.item call.name.name) call) c.calls in
@@ -108,7 +108,7 @@ clients_sited sites scope ts (c ∷ cs) e f z =
     each-append StandsAtSite (sited_calls_of c) (flat_map sited_calls_of cs) (calls_sited c one) (clients_sited sites scope ts cs (none_second (called ++ here) more e) f z.1)
 
 pub distinct-each : (P : SitedCall → Type 0) (us kept : List SitedCall) → Each P us → Each P kept → Each P (distinct_after kept us)
-unfolding meaning_words tree_words
+unfolding meaning_definitions syntax_definitions
 distinct-each P [] kept h k = k
 distinct-each P (u ∷ us) kept h k = go (list_any (same_ground u) kept) (λ l m. distinct-each P us l h.1 m)
   where
@@ -128,7 +128,7 @@ record AreFew (w : s.Workload) : Type 0 where
   grounds : length (ground_calls w) ≤ 1024
 
 few : (w : s.Workload) → limit_faults w ≡ [] → AreFew w
-unfolding meaning_words
+unfolding meaning_definitions
 few w e =
     let p : NoLimitFault w = limit_parts w e in
     let m : 0 + length w.transactions ≤ 256 = within 256 (λ (t : s.Transaction). t.name) [] w.transactions p.transactions (omega arith) in
@@ -136,11 +136,11 @@ few w e =
     record { sites = p.sites; transactions = omega arith; grounds = omega arith }
 
 no_call : Each StandsAtSite []
-unfolding tree_words
+unfolding syntax_definitions
 no_call = tt
 
 pub limited : (w : s.Workload) → IsAccepted w → IsLimited w
-unfolding meaning_words
+unfolding meaning_definitions
 limited w accepted =
     let p : NoFault Run w = parts Run w accepted.rules in
     let h : AreFew w = few w p.text.limits in

@@ -10,7 +10,7 @@ use Rattle.std.proofs.lemmas.Int.{ints}
 use Rattle.std.proofs.lemmas.Option.{slice_get-map, slice_get_read, slice_get_within, slice_get-get_or}
 use Rattle.std.proofs.lemmas.List.{length-map}
 use Rattle.homeo_syntax.specs.Source as s
-use Rattle.homeo_meaning.specs.Key.{words as meaning_words}
+use Rattle.homeo_meaning.specs.Key.{definitions as meaning_definitions}
 use Rattle.homeo_meaning.specs.declared.call.CallId.{CallId}
 use Rattle.homeo_meaning.specs.declared.call.GroundCall.{GroundCall}
 use Rattle.homeo_meaning.specs.Calls.{CallExists}
@@ -20,7 +20,7 @@ use Rattle.homeo_meaning.specs.GlobalNames.{SitedCall, sited_calls_of}
 use Rattle.homeo_meaning.specs.NumberRules.{same_numbers, same_ground, ground_calls}
 use Rattle.homeo_meaning.specs.Schema.{nat_of}
 use Rattle.homeo_meaning.specs.Serial.{numbered}
-use Rattle.homeo_ground.specs.Key.{words}
+use Rattle.homeo_ground.specs.Key.{definitions}
 use Rattle.homeo_ground.specs.Table.{GroundTable}
 use Rattle.homeo_ground.specs.Grounding.{place_among, places_among, grounding, IsCallIn}
 use Rattle.homeo_ground.proofs.Distinct.{Known, all-known, known-first, known-second}
@@ -48,7 +48,7 @@ numbers_are (x ∷ xs) (y ∷ ys) h =
     λ i. int_is x y (and_first (int_eq x y) (same_numbers xs ys) h) i ∷ numbers_are xs ys (and_second (int_eq x y) (same_numbers xs ys) h) i
 
 ground-is : (w : s.Workload) (u v : SitedCall) → same_ground u v ≡ true → ground_of_sited w u ≡ ground_of_sited w v
-unfolding meaning_words
+unfolding meaning_definitions
 ground-is w u v h =
     let body = and_first ((u.name.name == v.name.name) && same_numbers u.args v.args) (int_eq u.site v.site) h in
     let name : u.name.name ≡ v.name.name = nat_is u.name.name v.name.name (and_first (u.name.name == v.name.name) (same_numbers u.args v.args) body) in
@@ -59,7 +59,7 @@ ground-is w u v h =
 -- what stands at a call's place
 module _ (w : s.Workload) (u : SitedCall) where
   there : (kept : List SitedCall) → list_any (same_ground u) kept ≡ true → slice_get (map (ground_of_sited w) kept) (place_among kept u) ≡ Some (ground_of_sited w u)
-  unfolding words
+  unfolding definitions
   there [] h = absurd (false≢true h)
   there (k ∷ kept) h = go (same_ground u k) refl h (there kept)
     where
@@ -103,7 +103,7 @@ numbered_is zero calls h = absurd (omega arith)
 numbered_is (suc n) calls h = let e : n ≡ suc n - 1 = omega arith in ap (slice_get calls) e
 
 client_of : (w : s.Workload) (id : CallId) → CallExists w id → (client : s.Client) × (slice_get w.clients id.client ≡ Some client) × IsSome (numbered id.seq client.calls)
-unfolding meaning_words
+unfolding meaning_definitions
 client_of w id h = go (slice_get w.clients id.client) refl h
   where
     go : (o : Option s.Client) → slice_get w.clients id.client ≡ o → IsSome (option_and_then (λ (client : s.Client). numbered id.seq client.calls) o) → (client : s.Client) × (slice_get w.clients id.client ≡ Some client) × IsSome (numbered id.seq client.calls)
@@ -118,7 +118,7 @@ record IsPlaced (places : List (List ℕ)) (id : CallId) : Type 0 where
   within : id.seq - 1 < length list
 
 is_placed : (w : s.Workload) (id : CallId) → CallExists w id → IsPlaced (places_among (ground_calls w) w.clients) id
-unfolding words meaning_words
+unfolding definitions meaning_definitions
 is_placed w id h =
     let c = client_of w id h in
     let k = numbered_some id.seq c.0.calls c.2 in
@@ -133,7 +133,7 @@ is_placed w id h =
 
 -- ---- what stands at its place
 ground_at : (w : s.Workload) (id : CallId) (client : s.Client) (u : SitedCall) → slice_get w.clients id.client ≡ Some client → 1 ≤ id.seq → slice_get (sited_calls_of client) (id.seq - 1) ≡ Some u → ground_of w id ≡ Some (ground_of_sited w u)
-unfolding meaning_words
+unfolding meaning_definitions
 ground_at w id client u e k q =
     ap (option_and_then (λ (c : s.Client). option_map (λ (call : s.Call). ground_of_sited w (sited_call c call)) (numbered id.seq c.calls))) e
     ∙ ap (option_map (λ (call : s.Call). ground_of_sited w (sited_call client call))) (numbered_is id.seq client.calls k)
@@ -141,7 +141,7 @@ ground_at w id client u e k q =
     ∙ ap (option_map (ground_of_sited w)) (sym (slice_get-map (sited_call client) client.calls (id.seq - 1)) ∙ q)
 
 all_known : (w : s.Workload) → Known (ground_calls w) (flat_map sited_calls_of w.clients)
-unfolding meaning_words
+unfolding meaning_definitions
 all_known w = all-known (flat_map sited_calls_of w.clients) []
 
 record StandsAt (w : s.Workload) (id : CallId) (place : ℕ) : Type 0 where
@@ -149,7 +149,7 @@ record StandsAt (w : s.Workload) (id : CallId) (place : ℕ) : Type 0 where
   within : place < length (grounds w)
 
 stands : (w : s.Workload) (id : CallId) (list : List ℕ) (place : ℕ) → slice_get (places_among (ground_calls w) w.clients) id.client ≡ Some list → 1 ≤ id.seq → slice_get list (id.seq - 1) ≡ Some place → StandsAt w id place
-unfolding words meaning_words
+unfolding definitions meaning_definitions
 stands w id list place e k q =
     let kept : List SitedCall = ground_calls w in
     let row : s.Client → List ℕ = λ (client : s.Client). map (place_among (ground_calls w)) (sited_calls_of client) in
@@ -167,11 +167,11 @@ abbrev rows : List (Vec ℕ Global) → List (List ℕ)
 rows vs = map (λ (v : Vec ℕ Global). v.items) vs
 
 table_places : (g : GroundTable) (w : s.Workload) → g ≡ grounding w → g.places ≡ places_among (ground_calls w) w.clients
-unfolding words
+unfolding definitions
 table_places g w e = ap (λ (g : GroundTable). g.places) e
 
 table_calls : (g : GroundTable) (w : s.Workload) → g ≡ grounding w → g.calls ≡ grounds w
-unfolding words
+unfolding definitions
 table_calls g w e = ap (λ (g : GroundTable). g.calls) e
 
 row_at : (vs : List (Vec ℕ Global)) (i : ℕ) (v : Vec ℕ Global) → i < length vs → v ≡ get_or vs i v → slice_get (rows vs) i ≡ Some v.items

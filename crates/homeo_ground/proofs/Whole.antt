@@ -2,11 +2,11 @@
 use Rattle.std.proofs.Common.{◌≡◌, ℕ, ◌^◌, ◌<◌, ◌≤◌, List, [], ◌∷◌, map, length, All, sym, ap, ◌∙◌, subst, arith}
 use Rattle.std.specs.List.{flat_map}
 use Rattle.std.proofs.lemmas.List.{length-map}
-use Rattle.homeo_syntax.specs.Key.{words as tree_words}
+use Rattle.homeo_syntax.specs.Key.{definitions as syntax_definitions}
 use Rattle.homeo_syntax.specs.SourceView.{plain_client, plain_workload}
 use Rattle.homeo_syntax.specs.declared.workload.Client.{Client}
 use Rattle.homeo_syntax.specs.declared.workload.Workload.{Workload}
-use Rattle.homeo_meaning.specs.Key.{words as meaning_words}
+use Rattle.homeo_meaning.specs.Key.{definitions as meaning_definitions}
 use Rattle.homeo_meaning.specs.declared.call.GroundCall.{GroundCall}
 use Rattle.homeo_meaning.specs.Acceptance.{IsAccepted}
 use Rattle.homeo_meaning.specs.Declarations.{Declarations, declarations}
@@ -14,7 +14,7 @@ use Rattle.homeo_meaning.specs.Ground.{Ground, plain_ground, ground_of_sited, gr
 use Rattle.homeo_meaning.specs.GlobalNames.{SitedCall, sited_calls_of}
 use Rattle.homeo_meaning.specs.NumberRules.{distinct_after, ground_calls}
 use Rattle.homeo_meaning.proofs.SoundRules.{all_none, all_more, all_head, all_tail}
-use Rattle.homeo_ground.specs.Key.{words}
+use Rattle.homeo_ground.specs.Key.{definitions}
 use Rattle.homeo_ground.specs.Sited.{sited}
 use Rattle.homeo_ground.specs.inner.Grounds.{ground_by, IsSite}
 use Rattle.homeo_ground.specs.Grounding.{places_among, grounding}
@@ -28,7 +28,7 @@ all_unmapped {A} f P (x ∷ xs) h = let Q : A → Type 0 = λ x. P (f x) in all_
 -- the workload, its clients in the code, the places of its names, and the distinct calls in the code
 module _ (workload : Workload) (accepted : IsAccepted (plain_workload workload)) (clients : List Client) (of : clients ≡ workload.clients.items) (names : Declarations) (named : names ≡ declarations (plain_workload workload)) (calls : List Held) (distinct : map sited calls ≡ distinct_after [] (flat_map sited_calls_of (map plain_client clients))) where
   calls_are : map sited calls ≡ ground_calls (plain_workload workload)
-  unfolding meaning_words tree_words
+  unfolding meaning_definitions syntax_definitions
   calls_are = distinct ∙ ap (λ (l : List Client). distinct_after [] (flat_map sited_calls_of (map plain_client l))) of
 
   pub have_sites : All (λ (c : Held). IsSite c.site) calls
@@ -43,13 +43,13 @@ module _ (workload : Workload) (accepted : IsAccepted (plain_workload workload))
 
   module _ (made : List Ground) (same : made ≡ map (ground_by names.transactions) (map sited calls)) where
     pub are_grounds : made ≡ grounds (plain_workload workload)
-    unfolding meaning_words
+    unfolding meaning_definitions
     are_grounds =
         same ∙ ap (λ (d : Declarations). map (ground_by d.transactions) (map sited calls)) named
         ∙ ap (map (ground_of_sited (plain_workload workload))) calls_are
 
     pub is_grounding : (places : List (List ℕ)) → places ≡ places_among (map sited calls) (map plain_client clients) → record { calls = made; places = places } ≡ grounding (plain_workload workload)
-    unfolding words tree_words
+    unfolding definitions syntax_definitions
     is_grounding places p =
         let row : places ≡ places_among (ground_calls (plain_workload workload)) (map plain_client workload.clients.items) =
         p ∙ ap (λ (l : List SitedCall). places_among l (map plain_client clients)) calls_are

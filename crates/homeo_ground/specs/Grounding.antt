@@ -8,21 +8,21 @@ use Rattle.homeo_meaning.specs.Calls.{CallExists, IsGroundCall}
 use Rattle.homeo_meaning.specs.GlobalNames.{SitedCall, sited_calls_of}
 use Rattle.homeo_meaning.specs.NumberRules.{same_ground, ground_calls}
 use Rattle.homeo_meaning.specs.Ground.{Ground, grounds}
-use Rattle.homeo_ground.specs.Key.{words}
+use Rattle.homeo_ground.specs.Key.{definitions}
 use Rattle.homeo_ground.specs.Table.{GroundTable}
 
 -- where the first of these calls stands that is the same ground call
 abbrev pub place_among : List SitedCall → SitedCall → ℕ
-unfolding words
+unfolding definitions
 place_among calls c = position_or_len (same_ground c) calls
 
 -- of each client's calls, in the order of the text
 abbrev pub places_among : List SitedCall → List s.Client → List (List ℕ)
-unfolding words
+unfolding definitions
 places_among calls clients = map (λ client. map (place_among calls) (sited_calls_of client)) clients
 
 abbrev pub grounding : s.Workload → GroundTable
-unfolding words
+unfolding definitions
 grounding w = record { calls = grounds w; places = places_among (ground_calls w) w.clients }
 
 -- some workload has this table, and it has the call

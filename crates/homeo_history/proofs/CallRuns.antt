@@ -1,7 +1,7 @@
 -- A client's call does to a database within bounds what its ground call's command does to the values.
-use Rattle.homeo_meaning.specs.Key.{words as meanings}
-use Rattle.homeo_plan.specs.Key.{words as plans}
-use Rattle.homeo_history.specs.Key.{words}
+use Rattle.homeo_meaning.specs.Key.{definitions as meaning_definitions}
+use Rattle.homeo_plan.specs.Key.{definitions as plan_definitions}
+use Rattle.homeo_history.specs.Key.{definitions}
 use Rattle.std.proofs.Common.{◌≡◌, ℕ, List, map, ℤ, Option, Some, None, refl, sym, ap, ◌∙◌, subst}
 use Rattle.std.specs.Option.{option_and_then, option_map}
 use Rattle.homeo_syntax.specs.Source as s
@@ -32,7 +32,7 @@ record OutcomeRuns (w : s.Workload) (o : Option s.Transaction) (args db : List �
   values : values_of (outcome_at w o args db).database ≡ (λ n. (exec (body_form w o args) (whole (values_of db))).state (BaseAt n))
 
 outcome_runs : (w : s.Workload) (o : Option s.Transaction) (args db : List ℤ) → IsWithin (schema_of w) db → OutcomeRuns w o args db
-unfolding meanings
+unfolding meaning_definitions
 outcome_runs w None args db h = record { prints = refl; within = h; values = refl }
 outcome_runs w (Some t) args db h =
     let params : List ℕ = map (λ p. p.name.name) t.params in
@@ -52,20 +52,20 @@ pub record CallRuns (w : s.Workload) (id : CallId) (db : List ℤ) : Type 0 wher
   pub values : values_of (call_outcome w id db).database ≡ (λ n. (exec (planned_at w id).command (whole (values_of db))).state (BaseAt n))
 
 made_is : (w : s.Workload) (id : CallId) (n : KnownCall w id) → call_of w id ≡ Some n.call
-unfolding meanings
+unfolding meaning_definitions
 made_is w id n = ap (option_and_then (λ (client : s.Client). numbered id.seq client.calls)) n.found ∙ n.made
 
 outcome_is : (w : s.Workload) (id : CallId) (n : KnownCall w id) (db : List ℤ) → call_outcome w id db ≡ outcome_at w (transaction_named w n.call.name.name) (arguments n.call) db
-unfolding meanings
+unfolding meaning_definitions
 outcome_is w id n db = ap (λ o. outcome_of w o db) (made_is w id n)
 
 command_is : (w : s.Workload) (id : CallId) (n : KnownCall w id) → (planned_at w id).command ≡ body_form w (transaction_named w n.call.name.name) (arguments n.call)
-unfolding meanings plans
+unfolding meaning_definitions plan_definitions
 command_is w id n =
     ap (λ (g : PlannedCall). g.command) (planned_is w id n) ∙ ap (λ o. body_form w o (arguments n.call)) (transaction_place w n.call.name.name)
 
 pub call_runs : (w : s.Workload) (id : CallId) (db : List ℤ) → CallExists w id → IsWithin (schema_of w) db → CallRuns w id db
-unfolding meanings
+unfolding meaning_definitions
 call_runs w id db exists h =
     let n = known w id exists in
     let r = outcome_runs w (transaction_named w n.call.name.name) (arguments n.call) db h in
@@ -79,7 +79,7 @@ call_runs w id db exists h =
 
 -- ---- its site
 pub site_is : (w : s.Workload) (id : CallId) (i : ℕ) → IsCallAt w i id → (planned_at w id).site ≡ i
-unfolding words meanings plans
+unfolding definitions meaning_definitions plan_definitions
 site_is w id i c =
     let n = known w id c.exists in
     let here : site_of w id ≡ Some (nat_of n.client.site.value) = ap (option_map (λ (client : s.Client). nat_of client.site.value)) n.found in

@@ -1,7 +1,7 @@
 -- A choice that takes the sites one after another, each as often as its segment is long.
 use Rattle.std.proofs.Common.{◌≡◌, ◌≢◌, ℕ, zero, suc, ◌+◌, ◌<◌, ◌==◌, true, false, cond, List, [], ◌∷◌, ◌++◌, map, length, replicate, take, drop, flat_map, count_by, slice_index_or, refl, sym, ap, ◌∙◌, arith}
 use Rattle.std.proofs.lemmas.Bool.Decides.{nat_tests}
-use Rattle.homeo_history.specs.Key.{words}
+use Rattle.homeo_history.specs.Key.{definitions}
 use Rattle.homeo_history.specs.History.{Entry}
 use Rattle.homeo_history.specs.Merge.{segment_of, put_at, merge, merged, FitsSegments}
 use Rattle.homeo_history.proofs.Counts.{count_same, count_other}
@@ -28,7 +28,7 @@ put_other f i v j l =
 merge_site : (site : ℕ) (s : List Entry) (f : ℕ → List Entry) (rest : List ℕ) (out : List Entry) → f site ≡ s
     → ((g : ℕ → List Entry) → ((j : ℕ) → site < j → g j ≡ f j) → merge g rest ≡ out)
     → merge f (replicate (length s) site ++ rest) ≡ s ++ out
-unfolding words
+unfolding definitions
 merge_site site [] f rest out at after = after f (λ j l. refl)
 merge_site site (e ∷ s) f rest out at after =
     let more : List ℕ = replicate (length s) site ++ rest in
@@ -36,7 +36,7 @@ merge_site site (e ∷ s) f rest out at after =
     ∙ ap (λ l. e ∷ l) (merge_site site s (put_at f site s) rest out (put_same f site s) (λ g same. after g (λ j l. same j l ∙ put_other f site s j l)))
 
 merge_all : (segments : List (List Entry)) (k : ℕ) (f : ℕ → List Entry) → ((i : ℕ) → f (k + i) ≡ slice_index_or segments i []) → merge f (sites_from k (map length segments)) ≡ flat segments
-unfolding words
+unfolding definitions
 merge_all [] k f at = refl
 merge_all (s ∷ segments) k f at =
     let first : k + 0 ≡ k = omega arith in
@@ -47,7 +47,7 @@ merge_all (s ∷ segments) k f at =
 
 -- it picks all entries, site after site
 pub merged_flat : (segments : List (List Entry)) → merged segments (sites_from 0 (map length segments)) ≡ flat segments
-unfolding words
+unfolding definitions
 merged_flat segments = merge_all segments 0 (segment_of segments) (λ i. let e : 0 + i ≡ i = omega arith in ap (segment_of segments) e)
 
 -- ---- that it fits
@@ -78,7 +78,7 @@ count_at (s ∷ segments) k (suc i) =
     ap (λ m. count_by (λ j. m == j) (replicate (length s) k ++ rest)) next ∙ count_none k ((k + 1) + i) (length s) rest ne ∙ count_at segments (k + 1) i
 
 pub flat_fits : (segments : List (List Entry)) → FitsSegments segments (sites_from 0 (map length segments))
-unfolding words
+unfolding definitions
 flat_fits segments site =
     let e : 0 + site ≡ site = omega arith in
     ap (λ m. count_by (λ j. m == j) (sites_from 0 (map length segments))) (sym e) ∙ count_at segments 0 site

@@ -6,8 +6,8 @@ use Rattle.std.specs.Option.{option_and_then, option_map_or}
 use Rattle.std.proofs.lemmas.List.FromFn.{get_or-range_with_len}
 use Rattle.std.proofs.lemmas.List.Elements.{All-filter, filter_passes, All-weaker}
 use Rattle.homeo_syntax.specs.Source as s
-use Rattle.homeo_meaning.specs.Key.{words as meanings}
-use Rattle.homeo_history.specs.Key.{words}
+use Rattle.homeo_meaning.specs.Key.{definitions as meaning_definitions}
+use Rattle.homeo_history.specs.Key.{definitions}
 use Rattle.homeo_meaning.specs.declared.call.CallId.{CallId}
 use Rattle.homeo_history.specs.History.{Entry, Closing, Round}
 use Rattle.homeo_meaning.specs.Calls.{CallExists}
@@ -24,11 +24,11 @@ site_some f xs i site None e h = absurd (cc)
 site_some f xs i site (Some x) e h = get_lt xs i x e
 
 pub client_lt : (w : s.Workload) (site client : ℕ) → IsClientAt w site client → client < length w.clients
-unfolding words
+unfolding definitions
 client_lt w site client at = site_some _ w.clients client site (slice_get w.clients client) refl at
 
 pub has_site : (w : s.Workload) (client : ℕ) → client < length w.clients → (site : ℕ) × IsClientAt w site client
-unfolding words
+unfolding definitions
 has_site w client lt =
     let one = get_some w.clients client lt in
     (_, ap (option_map _) one.1)
@@ -47,7 +47,7 @@ count_le None seq h = absurd (cc)
 count_le (Some client) seq h = number_le client.calls seq h
 
 seq_le : (w : s.Workload) (call : CallId) → CallExists w call → call.seq ≤ call_count w call.client
-unfolding meanings words
+unfolding meaning_definitions definitions
 seq_le w call h = count_le (slice_get w.clients call.client) call.seq h
 
 -- ---- and each number from 1 to that count is a call's
@@ -65,7 +65,7 @@ client_some None seq lt le = let never : ⊥ = omega arith in absurd never
 client_some (Some client) seq lt le = number_some client.calls seq lt le
 
 pub is_call_at : (w : s.Workload) (site : ℕ) (call : CallId) → IsClientAt w site call.client → 0 < call.seq → call.seq ≤ call_count w call.client → IsCallAt w site call
-unfolding words meanings
+unfolding definitions meaning_definitions
 is_call_at w site call at lt le = record { exists = client_some (slice_get w.clients call.client) call.seq lt le; at_site = at }
 
 -- an answer to a call that there is
@@ -74,11 +74,11 @@ pub record Exists (w : s.Workload) (a : Answer) : Type 0 where
   pub number : a.seq ≤ call_count w a.client
 
 pub local_exists : (w : s.Workload) (round site : ℕ) (e : Entry) → IsCallAt w site e.call → Exists w (local_answer round site e)
-unfolding words
+unfolding definitions
 local_exists w round site e at = record { at = (site, client_at w e.call site at.at_site); number = seq_le w e.call at.exists }
 
 closing_exists : (w : s.Workload) (round : ℕ) (closing : Option Closing) → IfSome closing (λ c. IsCallAt w c.site c.entry.call) → IfSome closing (λ c. Exists w (closing_answer round c))
-unfolding words
+unfolding definitions
 closing_exists w round None at = tt
 closing_exists w round (Some c) at = record { at = (c.site, client_at w c.entry.call c.site at.at_site); number = seq_le w c.entry.call at.exists }
 
@@ -109,6 +109,6 @@ bound_of n (a ∷ answers) e all =
 
 -- answers to a client that are numbered 1, 2 and so on are at most as many as the client's calls
 pub count_bound : (w : s.Workload) (client : ℕ) (answers : List Answer) → All (Exists w) answers → map (λ a. a.seq) (answers_to client answers) ≡ range_with_len 1 (length (answers_to client answers)) → length (answers_to client answers) ≤ call_count w client
-unfolding words
+unfolding definitions
 count_bound w client answers all e =
     bound_of (call_count w client) (answers_to client answers) e (λ k d lt. subst (λ c. (get_or (answers_to client answers) k d).seq ≤ call_count w c) (same_client _ _ (filter_passes (λ (a : Answer). eqb a.client client) answers k d lt)) (All-filter (λ (a : Answer). eqb a.client client) (Exists w) answers all k d lt).number)

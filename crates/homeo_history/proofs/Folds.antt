@@ -1,5 +1,5 @@
 -- What is left of replays: folds within bounds, and rounds that are serial.
-use Rattle.homeo_history.specs.Key.{words}
+use Rattle.homeo_history.specs.Key.{definitions}
 use Rattle.std.proofs.Common.{List, [], ◌∷◌, Option, Some, None, ℤ, sym, subst}
 use Rattle.std.specs.Prelude.{IfSome}
 use Rattle.std.proofs.lemmas.List.Elements.{All-head, All-tail}
@@ -17,7 +17,7 @@ use Rattle.homeo_history.proofs.Choices.{some_choice, some_choice_fits}
 use Rattle.homeo_history.proofs.Merges.{merge_law, round_within}
 
 pub fold_within : FoldWithin
-unfolding words
+unfolding definitions
 fold_within w r accepted within segments =
     round_within w r accepted within segments (some_choice r.segments) (some_choice_fits r.segments)
 
@@ -25,7 +25,7 @@ has_segments : (w : s.Workload) (r : Round) → IsAtSites w r → IsReplayed w r
 has_segments w r at h = record { at_sites = at.segments; replayed = h.segments }
 
 next_within : (w : s.Workload) (r : Round) (next : List ℤ) → IsAccepted w → IsWithin (schema_of w) r.base → IsAtSites w r → IsReplayed w r → ClosesWith w (fold_of w r) r.closing next → IsWithin (schema_of w) next
-unfolding words
+unfolding definitions
 next_within w r next accepted within at h closes = go r.closing at.closing closes
   where
     there : IsWithin (schema_of w) (fold_of w r)
@@ -38,7 +38,7 @@ next_within w r next accepted within at h closes = go r.closing at.closing close
         subst (λ (z : Outcome). IsWithin (schema_of w) z.database) e r'.within
 
 pub replays_are_serial : ReplaysAreSerial
-unfolding words
+unfolding definitions
 replays_are_serial w [] last accepted within at h folded = tt
 replays_are_serial w (r ∷ rounds) last accepted within at h folded =
     let here = All-head (IsAtSites w) r rounds at in

@@ -1,7 +1,7 @@
 -- Every merge of a round's segments, run on its base, gives the entries' prints and the fold.
-use Rattle.homeo_meaning.specs.Key.{words as meanings}
-use Rattle.homeo_plan.specs.Key.{words as plans}
-use Rattle.homeo_history.specs.Key.{words}
+use Rattle.homeo_meaning.specs.Key.{definitions as meaning_definitions}
+use Rattle.homeo_plan.specs.Key.{definitions as plan_definitions}
+use Rattle.homeo_history.specs.Key.{definitions}
 use Rattle.std.proofs.Common.{◌≡◌, ◌≢◌, ℕ, ◌==◌, ◌<◌, nat_lt, Bool, true, false, cond, List, [], ◌∷◌, ◌++◌, length, map, take, drop, count_by, ℤ, pos, refl, sym, ap, ap₂, ◌∙◌, subst, arith}
 use Rattle.std.specs.Prelude.{All}
 use Rattle.std.proofs.lemmas.List.Elements.{All-head, All-tail}
@@ -54,7 +54,7 @@ module _ (w : s.Workload) (base : List ℤ) (accepted : IsAccepted w) where
     values : values_of (call_outcome w id db).database ≡ fold_at (put_at d i (deltas_after w base id (d i)))
 
   acted_there : (d : ℕ → Deltas) (id : CallId) (db : List ℤ) → AllKeep d → CallExists w id → IsWithin (schema_of w) db → values_of db ≡ fold_at d → Acted d id db (planned_at w id).site
-  unfolding words plans
+  unfolding definitions plan_definitions
   acted_there d id db keep exists h at =
       let m = planned_member w id exists in
       let g = planned_at w id in
@@ -75,7 +75,7 @@ module _ (w : s.Workload) (base : List ℤ) (accepted : IsAccepted w) where
   Held i x (e ∷ es) = (IsCallAt w i e.call × KeepsOne w base i x e) × Held i (deltas_after w base e.call x) es
 
   held : (i : ℕ) (x : Deltas) (es : List Entry) → All (λ e. IsCallAt w i e.call) es → KeepsAll w base i x es → Held i x es
-  unfolding words
+  unfolding definitions
   held i x [] at h = tt
   held i x (e ∷ es) at h =
       ((All-head (λ e. IsCallAt w i e.call) e es at, h.0), held i (deltas_after w base e.call x) es (All-tail (λ e. IsCallAt w i e.call) e es at) h.1)
@@ -147,18 +147,18 @@ module _ (w : s.Workload) (base : List ℤ) (accepted : IsAccepted w) where
         entries j false q = can.entries j
 
     same_end : (j : ℕ) (v : Bool) → (i == j) ≡ v → end_of w base (cond v es (segs j)) (cond v (deltas_after w base e.call (d i)) (d j)) ≡ end_of w base (segs j) (d j)
-    unfolding words plans
+    unfolding definitions plan_definitions
     same_end j true q =
         let s : i ≡ j = grind (arith, nat_tests) in
         subst (λ m. end_of w base es (deltas_after w base e.call (d i)) ≡ end_of w base (segs m) (d m)) s (sym (ap (λ l. end_of w base l (d i)) at))
     same_end j false q = refl
 
     picks : merge segs (i ∷ choice) ≡ e ∷ merge rest choice
-    unfolding words
+    unfolding definitions
     picks = ap (λ l. take 1 l ++ merge (put_at segs i (drop 1 l)) choice) at
 
     run_is : run_of segs (i ∷ choice) db ≡ record { logs = (call_outcome w e.call db).prints ∷ (run_of rest choice next).logs; database = (run_of rest choice next).database }
-    unfolding meanings
+    unfolding meaning_definitions
     run_is = ap (λ l. serial w db (map (λ (x : Entry). x.call) l)) picks
 
     merged_more : Merged rest choice new next → Merged segs (i ∷ choice) d db
@@ -170,7 +170,7 @@ module _ (w : s.Workload) (base : List ℤ) (accepted : IsAccepted w) where
         }
 
   merged : (choice : List ℕ) (segs : Segments) (d : ℕ → Deltas) (db : List ℤ) → CanMerge segs choice d db → Merged segs choice d db
-  unfolding words meanings plans
+  unfolding definitions meaning_definitions plan_definitions
   merged [] segs d db can =
       record {
         prints = refl;
@@ -185,7 +185,7 @@ module _ (w : s.Workload) (base : List ℤ) (accepted : IsAccepted w) where
 
   -- ---- from deltas 0
   no_change : fold_at (λ i. no_deltas) ≡ values_of base
-  unfolding words plans
+  unfolding definitions plan_definitions
   no_change = fun_ext at_start
     where
       zeros : (m : ℕ) → cond (nat_lt m (sites_of w)) (pos 0) (pos 0) ≡ pos 0
@@ -202,7 +202,7 @@ module _ (w : s.Workload) (base : List ℤ) (accepted : IsAccepted w) where
 
 module _ (w : s.Workload) (r : Round) (accepted : IsAccepted w) (inside : IsWithin (schema_of w) r.base) (segments : HasSegments w r) (choice : List ℕ) (fits : FitsSegments r.segments choice) where
   can : CanMerge w r.base accepted (segment_of r.segments) choice (λ i. no_deltas) r.base
-  unfolding words meanings
+  unfolding definitions meaning_definitions
   can =
       record {
         lengths = fits;
@@ -216,7 +216,7 @@ module _ (w : s.Workload) (r : Round) (accepted : IsAccepted w) (inside : IsWith
   round_merged = merged w r.base accepted choice (segment_of r.segments) (λ i. no_deltas) r.base can
 
   round_last : (run_of w r.base accepted (segment_of r.segments) choice r.base).database ≡ fold_of w r
-  unfolding words meanings
+  unfolding definitions meaning_definitions
   round_last =
       like_itself r.base _ (folded (sites_of w) (values_of r.base) (site_end w r)) (length_in (all_bounds (schema_of w)) _ round_merged.within ∙ sym (length_in (all_bounds (schema_of w)) r.base inside)) round_merged.values
 
@@ -224,7 +224,7 @@ module _ (w : s.Workload) (r : Round) (accepted : IsAccepted w) (inside : IsWith
   round_within = subst (IsWithin (schema_of w)) round_last round_merged.within
 
 pub merge_law : MergeLaw
-unfolding words meanings
+unfolding definitions meaning_definitions
 merge_law w r accepted within segments =
     record {
       prints = λ choice fits. (round_merged w r accepted within segments choice fits).prints;

@@ -4,14 +4,14 @@ use Rattle.std.specs.Prelude.{sum}
 use Rattle.std.specs.List.{flat_map}
 use Rattle.std.proofs.Common.{Bool, true, false}
 use Rattle.homeo_syntax.specs.Source as s
-use Rattle.homeo_meaning.specs.Key.{words as meanings}
-use Rattle.homeo_history.specs.Key.{words}
+use Rattle.homeo_meaning.specs.Key.{definitions as meaning_definitions}
+use Rattle.homeo_history.specs.Key.{definitions}
 use Rattle.homeo_history.specs.History.{Entry, Round}
 use Rattle.homeo_history.specs.Merge.{segment_of, put_at, merge, merged, interleave}
 use Rattle.homeo_history.specs.Legal.{HasMerges}
 
 pub no_segment : (k site : ℕ) → segment_of (replicate k []) site ≡ []
-unfolding words
+unfolding definitions
 no_segment zero site = refl
 no_segment (suc k) zero = refl
 no_segment (suc k) (suc site) = no_segment k site
@@ -21,7 +21,7 @@ put_none true v w e f = ap (drop 1) e
 put_none false v w e f = f
 
 pub merge_none : (segments : ℕ → List Entry) → ((site : ℕ) → segments site ≡ []) → (choice : List ℕ) → merge segments choice ≡ []
-unfolding words
+unfolding definitions
 merge_none segments none [] = refl
 merge_none segments none (site ∷ choice) =
     let rest : merge (put_at segments site (drop 1 (segments site))) choice ≡ [] =
@@ -29,11 +29,11 @@ merge_none segments none (site ∷ choice) =
     rw rest (rw (none site) refl)
 
 pub merged_none : (k : ℕ) (choice : List ℕ) → merged (replicate k []) choice ≡ []
-unfolding words
+unfolding definitions
 merged_none k choice = merge_none (segment_of (replicate k [])) (no_segment k) choice
 
 pub interleave_none : (k : ℕ) (choice : List ℕ) → interleave (replicate k []) choice ≡ []
-unfolding words
+unfolding definitions
 interleave_none k choice = ap (λ es. map (λ (e : Entry). e.call) es) (merged_none k choice)
 
 pub flat_none : (k : ℕ) → flat_map (λ (entries : List Entry). entries) (replicate k []) ≡ []
@@ -46,7 +46,7 @@ sum_none (suc k) = sum_none k
 
 -- where no segment has an entry, the merges leave the base
 pub has_merges : (w : s.Workload) (r : Round) (k : ℕ) → r.segments ≡ replicate k [] → HasMerges w r r.base
-unfolding words meanings
+unfolding definitions meaning_definitions
 has_merges w r k e = record {
   prints = λ choice fits. rw e (rw (merged_none k choice) refl);
   database = λ choice fits. rw e (rw (merged_none k choice) refl);

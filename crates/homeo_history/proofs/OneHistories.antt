@@ -1,5 +1,5 @@
 -- A list of calls is followed by one legal history from a database.
-use Rattle.homeo_history.specs.Key.{words}
+use Rattle.homeo_history.specs.Key.{definitions}
 use Rattle.std.proofs.Common.{◌≡◌, ⊎_elim, ℕ, suc, List, [], ◌∷◌, length, Option, Some, ℤ, refl, sym, ap, ap₂, ◌∙◌, subst, arith}
 use Rattle.std.specs.Prelude.{All, IfSome, unwrap_or}
 use Rattle.std.proofs.lemmas.List.Elements.{All-head, All-tail}
@@ -28,7 +28,7 @@ record Good (w : s.Workload) (rounds : List Round) (last : List ℤ) : Type 0 wh
   replayed : All (IsReplayed w) rounds
 
 good_rest : (w : s.Workload) (r : Round) (rounds : List Round) (last : List ℤ) → Good w (r ∷ rounds) last → Good w rounds last
-unfolding words
+unfolding definitions
 good_rest w r rounds last g =
     record {
       sizes = All-tail (λ r. length r.segments ≡ sites_of w) r rounds g.sizes;
@@ -44,7 +44,7 @@ record GoodOne (w : s.Workload) (r : Round) (next : List ℤ) : Type 0 where
   replayed : IsReplayed w r
 
 good_one : (w : s.Workload) (r : Round) (rounds : List Round) (last : List ℤ) → Good w (r ∷ rounds) last → GoodOne w r (base_or rounds last)
-unfolding words
+unfolding definitions
 good_one w r rounds last g =
     record {
       sizes = All-head (λ r. length r.segments ≡ sites_of w) r rounds g.sizes;
@@ -58,12 +58,12 @@ if_some : {X : Type 0} (P : X → Type 0) (o : Option X) (x : X) → IfSome o P 
 if_some P o x h e = subst (λ q. IfSome q P) e h
 
 not_broken : (w : s.Workload) (r : Round) (c : Closing) → Breaks w r c → Treaty (template_at w r.base) (policy w r.base) c.site (deltas_after w r.base c.entry.call (site_end w r c.site)) → ⊥
-unfolding words
+unfolding definitions
 not_broken w r c b t =
     (finding_law (template_at w r.base) (policy w r.base) c.site (deltas_after w r.base c.entry.call (site_end w r c.site))).some c.broken b t
 
 left_of : (w : s.Workload) (r : Round) (next : List ℤ) → GoodOne w r next → Left w r.base (λ i. no_deltas) (segment_of r.segments) r.closing
-unfolding words
+unfolding definitions
 left_of w r next g =
     record {
       keeps = g.replayed.segments;
@@ -72,7 +72,7 @@ left_of w r next g =
     }
 
 lists_same : (xs ys : List (List Entry)) → length xs ≡ length ys → ((i : ℕ) → segment_of xs i ≡ segment_of ys i) → xs ≡ ys
-unfolding words
+unfolding definitions
 lists_same [] [] e h = refl
 lists_same [] (y ∷ ys) e h = absurd (omega (arith, e))
 lists_same (x ∷ xs) [] e h = absurd (omega (arith, e))
@@ -82,7 +82,7 @@ same_segments : (w : s.Workload) (r r' : Round) (next next' : List ℤ) → Good
 same_segments w r r' next next' g g' h = lists_same r.segments r'.segments (g.sizes ∙ sym g'.sizes) h
 
 same_after : (w : s.Workload) (r r' : Round) (e e' : List ℤ) (choice : List ℕ) → r.base ≡ r'.base → r.segments ≡ r'.segments → Fits (segment_of r.segments) choice → HasMerges w r e → HasMerges w r' e' → e ≡ e'
-unfolding words
+unfolding definitions
 same_after w r r' e e' choice eb es fits m m' =
     sym (m.database choice fits) ∙ ap₂ (λ b segments. (serial w b (interleave segments choice)).database) eb es
     ∙ m'.database choice (subst (λ segments. FitsSegments segments choice) es fits)
@@ -103,7 +103,7 @@ module _ (w : s.Workload) (r r' : Round) (rounds rounds' : List Round) (last las
   before = same_after w r r' g.runs.after g'.runs.after m.choice eb es m.fits g.runs.merges g'.runs.merges
 
   ended : Ended r.closing r'.closing rounds rounds' → Same (r ∷ rounds) (r' ∷ rounds') last last'
-  unfolding words
+  unfolding definitions
   ended d =
       let ec = d.is ∙ sym d.is' in
       let er : r ≡ r' = λ i. record { base = eb i; segments = es i; closing = ec i } in
@@ -120,7 +120,7 @@ module _ (w : s.Workload) (r r' : Round) (rounds rounds' : List Round) (last las
     base : base_or rounds last ≡ base_or rounds' last'
 
   next : (o : Onward w r.closing r'.closing rounds rounds') → Next o
-  unfolding words
+  unfolding definitions
   next o =
       record { round = λ i. record { base = eb i; segments = es i; closing = (o.is ∙ ap Some closing ∙ sym o.is') i }; base = ap (λ (z : Outcome). z.database) out }
     where
@@ -157,7 +157,7 @@ module _ (w : s.Workload) (r r' : Round) (rounds rounds' : List Round) (last las
           λ i. record { site = site i; entry = record { call = o.call i; prints = p i }; broken = broken i }
 
   onward : ((calls : List CallId) → first_base rounds ≡ first_base rounds' → StepsRounds w rounds calls → StepsRounds w rounds' calls → Same rounds rounds' last last') → Onward w r.closing r'.closing rounds rounds' → Same (r ∷ rounds) (r' ∷ rounds') last last'
-  unfolding words
+  unfolding definitions
   onward ih o =
       let n = next o in
       let base : o.r.base ≡ o.r'.base = ap (λ q. base_or q last) (sym o.more) ∙ n.base ∙ ap (λ q. base_or q last') o.more' in
@@ -169,7 +169,7 @@ base_is : (a b : List ℤ) → Some a ≡ Some b → a ≡ b
 base_is a b e = cc
 
 same_rounds : (w : s.Workload) (rounds rounds' : List Round) (last last' : List ℤ) (calls : List CallId) → Good w rounds last → Good w rounds' last' → first_base rounds ≡ first_base rounds' → StepsRounds w rounds calls → StepsRounds w rounds' calls → Same rounds rounds' last last'
-unfolding words
+unfolding definitions
 same_rounds w [] rounds' last last' calls g g' e f f' = absurd f
 same_rounds w (r ∷ rounds) [] last last' calls g g' e f f' = absurd f'
 same_rounds w (r ∷ rounds) (r' ∷ rounds') last last' calls g g' e f f' =
@@ -189,12 +189,12 @@ same_rounds w (r ∷ rounds) (r' ∷ rounds') last last' calls g g' e f f' =
         same_round w r.base calls (λ i. no_deltas) (segment_of r.segments) (segment_of r'.segments) r.closing r'.closing rounds rounds' (left_of w r (base_or rounds last) one) (subst (λ b. Left w b (λ i. no_deltas) (segment_of r'.segments) r'.closing) (sym eb) (left_of w r' (base_or rounds' last') one')) f f'
 
 steps_rounds : (w : s.Workload) (rounds : List Round) (calls : List CallId) → OnlyLastIsOpen rounds → FollowsRounds w rounds calls → StepsRounds w rounds calls
-unfolding words
+unfolding definitions
 steps_rounds w [] calls h f = absurd h
 steps_rounds w (r ∷ rounds) calls h f = to_steps w r rounds calls h f
 
 pub one_history : OneHistory
-unfolding words
+unfolding definitions
 one_history w start counts h h' calls l l' f f' =
     let good : Good w h.rounds h.last = record { sizes = l.framed.segments; at_sites = l.at_sites; serial = l.serial; replayed = l.replayed } in
     let good' : Good w h'.rounds h'.last = record { sizes = l'.framed.segments; at_sites = l'.at_sites; serial = l'.serial; replayed = l'.replayed } in

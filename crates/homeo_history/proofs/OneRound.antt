@@ -1,6 +1,6 @@
 -- Two rounds from one base that go through one list of calls have the same segments, and close at the same call.
-use Rattle.homeo_plan.specs.Key.{words as plans}
-use Rattle.homeo_history.specs.Key.{words}
+use Rattle.homeo_plan.specs.Key.{definitions as plan_definitions}
+use Rattle.homeo_history.specs.Key.{definitions}
 use Rattle.std.proofs.Common.{◌≡◌, ◌≢◌, ◌⊎◌, inl, inr, ℕ, ◌==◌, Bool, true, false, cond, List, [], ◌∷◌, length, count_by, Option, Some, None, ℤ, refl, sym, ap, ap₂, ◌∙◌, subst, arith}
 use Rattle.std.proofs.lemmas.Bool.Decides.{nat_tests}
 use Rattle.homeo_syntax.specs.Source as s
@@ -78,7 +78,7 @@ module _ (w : s.Workload) (base : List ℤ) where
     moved = put_at x site (deltas_after w base id (x site))
 
     after_step : (segs : Segments) (closing : Option Closing) (e : Entry) (es : List Entry) → segs site ≡ e ∷ es → e.call ≡ id → Left x segs closing → Left moved (put_at segs site es) closing
-    unfolding words plans
+    unfolding definitions plan_definitions
     after_step segs closing e es at call left =
         record {
           keeps = λ i. keeps i (site == i) refl;
@@ -103,7 +103,7 @@ module _ (w : s.Workload) (base : List ℤ) where
 
     -- the entry of a call that is next at its site
     entry_is : (segs : Segments) (closing : Option Closing) (e : Entry) (es : List Entry) → segs site ≡ e ∷ es → e.call ≡ id → Left x segs closing → e ≡ record { call = id; prints = prints_at w base id (x site) }
-    unfolding words
+    unfolding definitions
     entry_is segs closing e es at call left =
         let kept : KeepsAll w base site (x site) (e ∷ es) = subst (KeepsAll w base site (x site)) at (left.keeps site) in
         let p = kept.0.prints ∙ ap (λ h. prints_at w base h (x site)) call in
@@ -111,7 +111,7 @@ module _ (w : s.Workload) (base : List ℤ) where
 
     -- a call that keeps the treaty is no closing call
     no_both : (segs segs' : Segments) (closing closing' : Option Closing) (e : Entry) (es : List Entry) (c : Closing) → segs site ≡ e ∷ es → e.call ≡ id → Left x segs closing → ((i : ℕ) → segs' i ≡ []) → closing' ≡ Some c → c.entry.call ≡ id → Left x segs' closing' → ⊥
-    unfolding words plans
+    unfolding definitions plan_definitions
     no_both segs segs' closing closing' e es c at call left none is closes left' =
         let kept : KeepsAll w base site (x site) (e ∷ es) = subst (KeepsAll w base site (x site)) at (left.keeps site) in
         let t : InTreaty site (deltas_after w base id (x site)) = subst (λ h. InTreaty site (deltas_after w base h (x site))) call kept.0.keeps in

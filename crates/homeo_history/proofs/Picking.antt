@@ -1,5 +1,5 @@
 -- Choices of sites with one number more: how often a site stands in them, and what they pick.
-use Rattle.homeo_history.specs.Key.{words}
+use Rattle.homeo_history.specs.Key.{definitions}
 use Rattle.std.proofs.Common.{◌≡◌, ℕ, zero, suc, ◌+◌, ◌==◌, ◌<◌, ◌≤◌, nat_lt, Bool, true, false, cond, List, [], ◌∷◌, ◌++◌, length, map, take, drop, get_or, replicate, slice_set, count_by, Option, Some, None, refl, sym, ap, ap₂, ◌∙◌, subst, append_assoc, arith}
 use Rattle.std.proofs.lemmas.List.{take_more, get_or_default, length-map, length-take-le, map-append}
 use Rattle.std.proofs.lemmas.List.Sums.{sum_by_push, sum_by-take-le, count_by-le-length}
@@ -36,7 +36,7 @@ push_other i n choice ne =
 -- ---- the lowest number past the last site
 pub lowest_below :
     (sites n : ℕ) (choice : List ℕ) (o : Option ℕ) → n < sites → IsLowest sites choice o → IsLowest sites (choice ++ n ∷ []) o
-unfolding words
+unfolding definitions
 lowest_below sites n choice None lt low = λ i le. push_other i n choice (λ e. absurd (omega arith)) ∙ low i le
 lowest_below sites n choice (Some m) lt low = (
   low.0,
@@ -46,7 +46,7 @@ lowest_below sites n choice (Some m) lt low = (
 
 pub lowest_kept :
     (sites n m : ℕ) (choice : List ℕ) → m ≤ n → IsLowest sites choice (Some m) → IsLowest sites (choice ++ n ∷ []) (Some m)
-unfolding words
+unfolding definitions
 lowest_kept sites n m choice le low = (
   low.0,
   omega (arith, low.1, push m n choice),
@@ -55,7 +55,7 @@ lowest_kept sites n m choice le low = (
 
 pub lowest_first :
     (sites n : ℕ) (choice : List ℕ) → sites ≤ n → IsLowest sites choice None → IsLowest sites (choice ++ n ∷ []) (Some n)
-unfolding words
+unfolding definitions
 lowest_first sites n choice le low = (
   le,
   omega (arith, push_same n choice),
@@ -65,7 +65,7 @@ lowest_first sites n choice le low = (
 pub lowest_lower :
     (sites n m : ℕ) (choice : List ℕ) → sites ≤ n → n < m → IsLowest sites choice (Some m) →
     IsLowest sites (choice ++ n ∷ []) (Some n)
-unfolding words
+unfolding definitions
 lowest_lower sites n m choice le lt low = (
   le,
   omega (arith, push_same n choice),
@@ -81,7 +81,7 @@ lowest_more sites k choice o lt low = subst (λ l. IsLowest sites l o) (sym (tak
 pub segment_long :
     (segments : List Segment) (i : ℕ) (s : Segment) → i < length segments → s ≡ get_or segments i s →
     segment_of (map plain_segment segments) i ≡ map plain_entry s.entries.items
-unfolding words
+unfolding definitions
 segment_long [] i s lt is = absurd (omega arith)
 segment_long (x ∷ segments) zero s lt is = ap (λ (y : Segment). map plain_entry y.entries.items) (sym is)
 segment_long (x ∷ segments) (suc i) s lt is = segment_long segments i s (omega arith) is
@@ -92,7 +92,7 @@ pub long_there :
 long_there segments i s lt is = ap length (segment_long segments i s lt is) ∙ length-map s.entries.items plain_entry
 
 pub segment_past : (segments : List Segment) (i : ℕ) → length segments ≤ i → segment_of (map plain_segment segments) i ≡ []
-unfolding words
+unfolding definitions
 segment_past [] i le = refl
 segment_past (x ∷ segments) zero le = absurd (omega arith)
 segment_past (x ∷ segments) (suc i) le = segment_past segments i (omega arith)
@@ -111,7 +111,7 @@ drop_next n (x ∷ es) = refl
 merge_push :
     (f : ℕ → List h.Entry) (choice : List ℕ) (i : ℕ) →
     merge f (choice ++ i ∷ []) ≡ merge f choice ++ take 1 (drop (times i choice) (f i))
-unfolding words
+unfolding definitions
 merge_push f [] i = go (f i)
   where
     go : (es : List h.Entry) → take 1 es ++ [] ≡ take 1 es
@@ -143,7 +143,7 @@ pub call_there :
     (segments : List Segment) (site place : ℕ) (s : Segment) (e : Entry) → site < length segments → s ≡ get_or segments site s →
     place < length s.entries.items → e ≡ get_or s.entries.items place e →
     calls_at (map plain_segment segments) site place ≡ e.call ∷ []
-unfolding words
+unfolding definitions
 call_there segments site place s e lt is within there =
     ap (λ es. map (λ (x : h.Entry). x.call) (take 1 (drop place es))) (segment_long segments site s lt is) ∙ go s.entries.items place within there
   where
@@ -157,7 +157,7 @@ pub picks_more :
     (segments : List (List h.Entry)) (choice : List ℕ) (k next : ℕ) (call : CallId) (calls : List CallId) → k < length choice →
     calls ≡ interleave segments (take k choice) → next ≡ times (get_or choice k 0) (take k choice) →
     calls_at segments (get_or choice k 0) next ≡ call ∷ [] → calls ++ call ∷ [] ≡ interleave segments (take (k + 1) choice)
-unfolding words
+unfolding definitions
 picks_more segments choice k next call calls lt so_far count there =
     let site : ℕ = get_or choice k 0 in
     let before : List ℕ = take k choice in
@@ -214,7 +214,7 @@ pub misfit_past :
     chosen ≡ times site choice →
     ((i : ℕ) → i < length segments → times i choice ≡ length (segment_of (map plain_segment segments) i)) →
     IsMisfit (map plain_segment segments) choice site chosen 0
-unfolding words
+unfolding definitions
 misfit_past segments choice site chosen low count lower =
     record {
       times = count;
@@ -233,7 +233,7 @@ pub all_fit :
     (segments : List Segment) (choice : List ℕ) → IsLowest (length segments) choice None →
     ((i : ℕ) → i < length segments → times i choice ≡ length (segment_of (map plain_segment segments) i)) →
     FitsSegments (map plain_segment segments) choice
-unfolding words
+unfolding definitions
 all_fit segments choice low lower site = at (nat_lt site (length segments)) refl
   where
     at : (v : Bool) → nat_lt site (length segments) ≡ v → times site choice ≡ length (segment_of (map plain_segment segments) site)
@@ -264,7 +264,7 @@ module _ (segments : List Segment) (choice : List ℕ) (fits : FitsSegments (map
 
   -- the site has an entry that isn't picked yet
   pub one_left : times site (take k choice) < length (segment_of (map plain_segment segments) site)
-  unfolding words
+  unfolding definitions
   one_left =
       let q : (site == site) ≡ true = grind (arith, nat_tests) in
       let more : times site (take (k + 1) choice) ≡ times site (take k choice) + 1 =
@@ -275,7 +275,7 @@ module _ (segments : List Segment) (choice : List ℕ) (fits : FitsSegments (map
   few_picked = omega (arith, count_by-le-length (λ j. site == j) (take k choice), length-take-le k choice)
 
   pub site_within : site < length segments
-  unfolding words
+  unfolding definitions
   site_within = go (nat_lt site (length segments)) refl
     where
       go : (v : Bool) → nat_lt site (length segments) ≡ v → site < length segments

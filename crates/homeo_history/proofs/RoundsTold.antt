@@ -7,7 +7,7 @@ use Rattle.std.proofs.lemmas.List.Elements.{All-head, All-tail}
 use Rattle.homeo_syntax.specs.Source as s
 use Rattle.homeo_meaning.specs.declared.call.CallId.{CallId}
 use Rattle.homeo_meaning.specs.Serial.{Outcome, call_outcome}
-use Rattle.homeo_history.specs.Key.{words}
+use Rattle.homeo_history.specs.Key.{definitions}
 use Rattle.homeo_history.specs.History.{Entry, Closing, Round}
 use Rattle.homeo_plan.specs.declared.treaty.Broken.{Broken}
 use Rattle.homeo_plan.specs.Local.{no_deltas}
@@ -46,7 +46,7 @@ abbrev IsFound : s.Workload → List ℤ → List (List Entry) → Option Closin
 IsFound w base segments c = IfSome c (λ c. found w base segments c.site c.entry.call ≡ Some c.broken)
 
 is_found : (w : s.Workload) (r : Round) → IsReplayed w r → IsFound w r.base r.segments r.closing
-unfolding words
+unfolding definitions
 is_found w r h = h.closing
 
 closing_same :
@@ -54,7 +54,7 @@ closing_same :
     base ≡ base' → segs ≡ segs' → a ≡ b → ClosesWith w a c next → ClosesWith w b d other → IsAtSite w c → IsAtSite w d →
     IsFound w base segs c → IsFound w base' segs' d → is_some c ≡ is_some d → closing_calls c ≡ closing_calls d →
     (c ≡ d) × (next ≡ other)
-unfolding words
+unfolding definitions
 closing_same w base base' segs segs' a b next other None None eb es e m n p q f g i calls = (refl, m ∙ e ∙ sym n)
 closing_same w base base' segs segs' a b next other None (Some d) eb es e m n p q f g i calls = absurd (not_equal (sym i))
 closing_same w base base' segs segs' a b next other (Some c) None eb es e m n p q f g i calls = absurd (not_equal i)
@@ -82,7 +82,7 @@ shape r = record { sizes = sizes r.segments; closed = is_some r.closing }
 
 -- ---- rounds
 calls_more : (r : Round) (rounds : List Round) → calls_of (r ∷ rounds) ≡ call_list (flat r.segments) ++ (closing_calls r.closing ++ calls_of rounds)
-unfolding words
+unfolding definitions
 calls_more r rounds =
     let last : List Entry = option_to_list (option_map (λ (c : Closing). c.entry) r.closing) in
     map-append (λ (e : Entry). e.call) (flat r.segments ++ last) (flat_map entries_of rounds)
@@ -96,7 +96,7 @@ pub record SameRounds (rs ks : List Round) (d e : List ℤ) : Type 0 where
 
 pub rounds_same : (w : s.Workload) (last other : List ℤ) (rs ks : List Round) → map shape rs ≡ map shape ks → calls_of rs ≡ calls_of ks → base_or rs last ≡ base_or ks other → All (IsAtSites w) rs → All (IsAtSites w) ks → AreSerial w rs last → AreSerial w ks other →
     All (IsReplayed w) rs → All (IsReplayed w) ks → SameRounds rs ks last other
-unfolding words
+unfolding definitions
 rounds_same w last other [] [] shapes calls base p q m n f g = record { rounds = refl; last = base }
 rounds_same w last other [] (k ∷ ks) shapes calls base p q m n f g = absurd (not_nil _ _ (sym shapes))
 rounds_same w last other (r ∷ rs) [] shapes calls base p q m n f g = absurd (not_nil _ _ shapes)

@@ -4,7 +4,7 @@ use Rattle.std.proofs.lemmas.List.{length-map}
 use Rattle.homeo_syntax.specs.Source as s
 use Rattle.homeo_meaning.specs.declared.call.CallId.{CallId}
 use Rattle.homeo_meaning.specs.Serial.{serial}
-use Rattle.homeo_history.specs.Key.{words}
+use Rattle.homeo_history.specs.Key.{definitions}
 use Rattle.homeo_history.specs.History.{Entry, Round}
 use Rattle.homeo_history.specs.Legal.{HasMerges}
 use Rattle.homeo_history.proofs.Lists.{cons_head, cons_tail, not_nil}
@@ -64,11 +64,11 @@ entries_same (x ∷ xs) (y ∷ ys) c p =
 -- ---- one round
 module _ (w : s.Workload) (r : Round) (after : List ℤ) (m : HasMerges w r after) where
   flat_prints : (serial w r.base (call_list (flat r.segments))).logs ≡ print_list (flat r.segments)
-  unfolding words
+  unfolding definitions
   flat_prints = subst (λ es. (serial w r.base (call_list es)).logs ≡ print_list es) (merged_flat r.segments) (m.prints (sites_from 0 (sizes r.segments)) (flat_fits r.segments))
 
   flat_after : (serial w r.base (call_list (flat r.segments))).database ≡ after
-  unfolding words
+  unfolding definitions
   flat_after = subst (λ es. (serial w r.base (call_list es)).database ≡ after) (merged_flat r.segments) (m.database (sites_from 0 (sizes r.segments)) (flat_fits r.segments))
 
 -- two rounds with one base and the same calls

@@ -7,13 +7,13 @@ use Rattle.std.proofs.lemmas.List.{get_or_default, length-map}
 use Rattle.std.proofs.lemmas.List.FromFn.{get_or-range_with_len}
 use Rattle.std.proofs.lemmas.List.Elements.{All-nil, All-cons, All-weaker, All-contains, All-contains_itself, All-same, All-filter, filter_passes, Contains-get_or, Contains-append_left, Contains-append_right}
 use Rattle.std.proofs.lemmas.Bool.Decides.{nat_tests}
-use Rattle.homeo_history.specs.Key.{words}
+use Rattle.homeo_history.specs.Key.{definitions}
 use Rattle.homeo_meaning.specs.declared.call.CallId.{CallId}
 use Rattle.homeo_history.specs.History.{Entry, Closing, Round}
 use Rattle.homeo_history.specs.Merge.{segment_of}
 use Rattle.homeo_plan.specs.declared.treaty.Broken.{Broken}
 use Rattle.homeo_history.specs.declared.answer.Path.{Path}
-use Rattle.homeo_history.specs.Answers.{Answer, called, local_answer, closing_answer, local_answers, answers_of_round, answers_of, answers_to, answered_entry, IsMade, IsAnswerIn}
+use Rattle.homeo_history.specs.Answers.{Answer, called, local_answer, closing_answer, local_answers, answers_of_round, answers_of, answers_to, answered_entry, IsAnswerMade, IsAnswerIn}
 use Rattle.homeo_history.specs.declared.answer.Path.TheVariants.{Local, Cleanup}
 use Rattle.homeo_history.proofs.ClientAnswers.{same_client, all_of_round, all_answers}
 use Rattle.homeo_history.specs.Legal.{numbers_of}
@@ -23,7 +23,7 @@ use Rattle.homeo_history.proofs.Exists.{seqs_at}
 
 -- ---- where it stands
 abbrev HasStood : Round → Answer → Path → Type 0
-unfolding words
+unfolding definitions
 HasStood r a Local = Contains (segment_of r.segments a.site) (answered_entry a)
 HasStood r a (Cleanup broken) = r.closing ≡ Some record { site = a.site; entry = answered_entry a; broken = broken }
 
@@ -33,12 +33,12 @@ record Stands (rounds : List Round) (a : Answer) : Type 0 where
   pub made : HasStood round a a.path
 
 closing_is : (rounds : List Round) (n : ℕ) (r : Round) (closing : Option Closing) → r.closing ≡ closing → slice_get rounds n ≡ Some r → IfSome closing (λ c. Stands rounds (closing_answer n c))
-unfolding words HasStood
+unfolding definitions HasStood
 closing_is rounds n r None e f = tt
 closing_is rounds n r (Some c) e f = record { round = r; stands = f; made = e }
 
 entry_is : (rounds : List Round) (n : ℕ) (r : Round) (site : ℕ) → slice_get rounds n ≡ Some r → (e : Entry) → Contains (segment_of r.segments site) e → Stands rounds (local_answer n site e)
-unfolding words HasStood
+unfolding definitions HasStood
 entry_is rounds n r site f e there = record { round = r; stands = f; made = there }
 
 all_stand : (rounds : List Round) → All (Stands rounds) (answers_of 0 rounds)
@@ -49,7 +49,7 @@ all_stand rounds =
 
 -- ---- a closing call's answer is among the answers
 closing_in : (k j n : ℕ) (rounds : List Round) (r : Round) (c : Closing) → k + j ≡ n → slice_get rounds j ≡ Some r → r.closing ≡ Some c → Contains (answers_of k rounds) (closing_answer n c)
-unfolding words
+unfolding definitions
 closing_in k j n [] r c e f g = absurd (cc)
 closing_in k zero n (x ∷ rounds) r c e f g =
     let here : x.closing ≡ Some c = ap (λ o. unwrap_closing x o) f ∙ g in
@@ -73,7 +73,7 @@ head_in false x rest e = absurd (cc)
 
 -- an answer to a client is among the client's
 in_own : (client : ℕ) (xs : List Answer) → All (λ x. x.client ≡ client → Contains (answers_to client xs) x) xs
-unfolding words
+unfolding definitions
 in_own client [] = All-nil (λ (x : Answer). x.client ≡ client → Contains [] x)
 in_own client (x ∷ xs) =
     All-cons (λ (y : Answer). y.client ≡ client → Contains (answers_to client (x ∷ xs)) y) x xs (λ e. head_in (eqb x.client client) x (answers_to client xs) (tested x.client client e)) (All-weaker (λ (y : Answer). y.client ≡ client → Contains (answers_to client xs) y) (λ (y : Answer). y.client ≡ client → Contains (answers_to client (x ∷ xs)) y) (λ y h e. later (eqb x.client client) x y (answers_to client xs) (h e)) xs (in_own client xs))
@@ -95,7 +95,7 @@ no_other_path b e = cc
 
 module _ (client : ℕ) (rounds : List Round) (log : List Answer) (is : log ≡ answers_to client (answers_of 0 rounds)) (numbered : map (λ a. a.seq) log ≡ range_with_len 1 (length log)) where
   not_closing : (a : Answer) (r : Round) → Contains log a → a.client ≡ client → a.path ≡ Local → slice_get rounds a.round ≡ Some r → (closing : Option Closing) → r.closing ≡ closing → IfSome closing (λ c. c.entry.call ≡ called a → ⊥)
-  unfolding words
+  unfolding definitions
   not_closing a r here own path stands None e = tt
   not_closing a r here own path stands (Some c) e = never
     where
@@ -108,16 +108,16 @@ module _ (client : ℕ) (rounds : List Round) (log : List Answer) (is : log ≡ 
           let equal : a ≡ b = one_of log numbered a b here in_log (ap (λ (i : CallId). i.seq) (sym h)) in
           no_other_path c.broken (sym path ∙ ap (λ (x : Answer). x.path) equal)
 
-  is_made : (a : Answer) (r : Round) → Contains log a → a.client ≡ client → slice_get rounds a.round ≡ Some r → (path : Path) → a.path ≡ path → HasStood r a path → IsMade r a path
-  unfolding words HasStood
-  is_made a r here own stands Local e h = (h, not_closing a r here own e stands r.closing refl)
-  is_made a r here own stands (Cleanup broken) e h = h
+  is_answer_made : (a : Answer) (r : Round) → Contains log a → a.client ≡ client → slice_get rounds a.round ≡ Some r → (path : Path) → a.path ≡ path → HasStood r a path → IsAnswerMade r a path
+  unfolding definitions HasStood
+  is_answer_made a r here own stands Local e h = (h, not_closing a r here own e stands r.closing refl)
+  is_answer_made a r here own stands (Cleanup broken) e h = h
 
   is_answer : (a : Answer) → Contains log a → a.client ≡ client → Stands rounds a → IsAnswerIn rounds a
-  is_answer a here own h = record { round = h.round; stands = h.stands; made = is_made a h.round here own h.stands a.path refl h.made }
+  is_answer a here own h = record { round = h.round; stands = h.stands; made = is_answer_made a h.round here own h.stands a.path refl h.made }
 
   pub each_is : All (IsAnswerIn rounds) log
-  unfolding words
+  unfolding definitions
   each_is =
       let to : All (λ a. a.client ≡ client) log = All-same (λ (a : Answer). a.client ≡ client) log (answers_to client (answers_of 0 rounds)) is (λ k d lt. same_client _ _ (filter_passes (λ (a : Answer). eqb a.client client) (answers_of 0 rounds) k d lt)) in
       let stood : All (Stands rounds) log = All-same (Stands rounds) log (answers_to client (answers_of 0 rounds)) is (All-filter _ (Stands rounds) (answers_of 0 rounds) (all_stand rounds)) in
@@ -129,7 +129,7 @@ range_length a zero = refl
 range_length a (suc n) = ap suc (range_length (a + 1) n)
 
 pub answers_stand : AnswersStand
-unfolding words
+unfolding definitions
 answers_stand w start counts h client legal =
     let log : List Answer = answers_to client (answers_of 0 h.rounds) in
     let count : ℕ = slice_index_or counts client 0 in

@@ -1,5 +1,5 @@
 -- The list of calls that a history follows, one call after another: through the segments, then the closing call.
-use Rattle.homeo_history.specs.Key.{words}
+use Rattle.homeo_history.specs.Key.{definitions}
 use Rattle.std.proofs.Common.{◌≡◌, ◌≢◌, ◌⊎◌, inl, inr, ℕ, zero, suc, ◌+◌, ◌==◌, ◌<◌, ◌≤◌, nat_lt, Bool, true, false, cond, List, [], ◌∷◌, ◌++◌, length, map, take, drop, append_assoc, Option, Some, None, refl, sym, ap, ap₂, ◌∙◌, subst, true≢false, arith}
 use Rattle.std.specs.Prelude.{sum, IsSome}
 use Rattle.std.specs.Option.{option_map, option_to_list}
@@ -75,21 +75,21 @@ size_front zero segs = refl
 size_front (suc n) segs = omega (arith, size_front n segs)
 
 size_is : (segments : List (List Entry)) → sum (map length segments) ≡ size (length segments) (segment_of segments)
-unfolding size words
+unfolding size definitions
 size_is [] = refl
 size_is (l ∷ ls) =
     sum_by-cons (λ x. x) (length l) (map length ls) ∙ ap (λ n. length l + n) (size_is ls)
     ∙ sym (size_front (length ls) (segment_of (l ∷ ls)))
 
 past : (segments : List (List Entry)) (i : ℕ) → length segments ≤ i → segment_of segments i ≡ []
-unfolding words
+unfolding definitions
 past [] i le = refl
 past (l ∷ ls) zero le = absurd (omega (arith, le))
 past (l ∷ ls) (suc i) le = past ls i (omega (arith, le))
 
 -- ---- through one round
 few : (choice : List ℕ) (segs : Segments) → length (merge segs choice) ≤ length choice
-unfolding words
+unfolding definitions
 few [] segs = omega arith
 few (i ∷ choice) segs = go (segs i) (few choice)
   where
@@ -106,7 +106,7 @@ sites_length w [] = refl
 sites_length w (id ∷ calls) = ap suc (sites_length w calls)
 
 through : (w : s.Workload) (closing : Option Closing) (rounds : List Round) (n : ℕ) (tail : List CallId) → ((segs : Segments) → ((i : ℕ) → segs i ≡ []) → StepsThrough w tail segs closing rounds) → (before : List CallId) (segs : Segments) → ((i : ℕ) → n ≤ i → segs i ≡ []) → length before ≡ size n segs → before ≡ map (λ (e : Entry). e.call) (merge segs (map (site_or_zero w) before)) → StepsThrough w (before ++ tail) segs closing rounds
-unfolding words
+unfolding definitions
 through w closing rounds n tail then [] segs none count by = then segs empty
   where
     empty : (i : ℕ) → segs i ≡ []
@@ -142,7 +142,7 @@ through w closing rounds n tail then (id ∷ before) segs none count by =
 
 -- ---- through all rounds
 pub to_steps : (w : s.Workload) (r : Round) (rounds : List Round) (calls : List CallId) → OnlyLastIsOpen (r ∷ rounds) → FollowsRounds w (r ∷ rounds) calls → StepsThrough w calls (segment_of r.segments) r.closing rounds
-unfolding words
+unfolding definitions
 to_steps w r [] calls last (part, rest, cut, f, done) =
     let whole : calls ≡ f.before ++ [] = cut ∙ ap₂ ◌++◌ (f.cut ∙ ap (λ o. f.before ++ option_to_list (option_map (λ (c : Closing). c.entry.call) o)) last) done ∙ append_assoc f.before [] [] in
     subst (λ z. StepsThrough w z (segment_of r.segments) r.closing []) (sym whole)

@@ -7,7 +7,7 @@ use Rattle.homeo_meaning.specs.Acceptance.{IsAccepted}
 use Rattle.homeo_meaning.specs.Bounds.{IsWithin}
 use Rattle.homeo_meaning.specs.Schema.{schema_of}
 use Rattle.homeo_plan.specs.Local.{no_deltas}
-use Rattle.homeo_history.specs.Key.{words}
+use Rattle.homeo_history.specs.Key.{definitions}
 use Rattle.homeo_history.specs.History.{Round, History}
 use Rattle.homeo_history.specs.Merge.{segment_of}
 use Rattle.homeo_history.specs.Legal.{IsCallAt, IsAtSites, HasMerges, ClosesWith, base_or, AreSerial, IsLegalFrom}
@@ -34,7 +34,7 @@ FoldWithin =
 
 -- each round's closing call takes the round's fold to the next base; what an open round leaves is its fold
 abbrev pub AreFolded : s.Workload → List Round → List ℤ → Type 0
-unfolding words
+unfolding definitions
 AreFolded w [] last = Unit {0}
 AreFolded w (r ∷ rounds) last =
     ClosesWith w (fold_of w r) r.closing (base_or rounds last) × AreFolded w rounds last

@@ -9,7 +9,7 @@ use Rattle.homeo_meaning.specs.Schema.{nat_of}
 use Rattle.homeo_meaning.specs.Initial.{initial}
 use Rattle.homeo_meaning.specs.Serial.{call_outcome, serial}
 use Rattle.homeo_plan.specs.Planned.{sites_of}
-use Rattle.homeo_history.specs.Key.{words}
+use Rattle.homeo_history.specs.Key.{definitions}
 use Rattle.homeo_history.specs.History.{Entry, Closing, Round, History}
 use Rattle.homeo_history.specs.Merge.{segment_of, merged, interleave, FitsSegments}
 use Rattle.homeo_history.specs.Replayed.{IsReplayed}
@@ -17,32 +17,32 @@ use Rattle.homeo_history.specs.Replayed.{IsReplayed}
 -- ---- what a workload says of sites and calls
 -- a client's site, where there is such a client
 abbrev pub client_site : s.Workload → ℕ → Option ℕ
-unfolding words
+unfolding definitions
 client_site w client = option_map (λ client. nat_of client.site.value) (slice_get w.clients client)
 
 -- the site of a call's client
 abbrev pub site_of : s.Workload → CallId → Option ℕ
-unfolding words
+unfolding definitions
 site_of w call = client_site w call.client
 
 -- the client is at this site
 abbrev pub IsClientAt : s.Workload → ℕ → ℕ → Type 0
-unfolding words
+unfolding definitions
 IsClientAt w site client = client_site w client ≡ Some site
 
 -- how many calls a client has: none where there is no such client
 abbrev pub call_count : s.Workload → ℕ → ℕ
-unfolding words
+unfolding definitions
 call_count w client = option_map_or (λ client. length client.calls) (slice_get w.clients client) 0
 
 -- ---- the frame: rounds, bases, sites
 abbrev pub first_base : List Round → Option (List ℤ)
-unfolding words
+unfolding definitions
 first_base rounds = option_map (λ r. r.base) (slice_get rounds 0)
 
 -- there is a last round, which is open, and each round before it is closed
 abbrev pub OnlyLastIsOpen : List Round → Type 0
-unfolding words
+unfolding definitions
 OnlyLastIsOpen [] = ⊥
 OnlyLastIsOpen (r ∷ []) = r.closing ≡ None
 OnlyLastIsOpen (r ∷ next ∷ rounds) = IsSome r.closing × OnlyLastIsOpen (next ∷ rounds)
@@ -64,17 +64,17 @@ pub record IsAtSites (w : s.Workload) (r : Round) : Type 0 where
 
 -- ---- each client's calls in order
 abbrev pub entries_of : Round → List Entry
-unfolding words
+unfolding definitions
 entries_of r = flat_map (λ entries. entries) r.segments ++ option_to_list (option_map (λ c. c.entry) r.closing)
 
 -- the calls of a history, round after round, and in each round the segments before the closing call
 abbrev pub calls_of : List Round → List CallId
-unfolding words
+unfolding definitions
 calls_of rounds = map (λ e. e.call) (flat_map entries_of rounds)
 
 -- the numbers of a client's calls among these
 abbrev pub numbers_of : ℕ → List CallId → List ℕ
-unfolding words
+unfolding definitions
 numbers_of client calls = map (λ call. call.seq) (filter (λ call. call.client == client) calls)
 
 -- of each client its first calls stand here, in order, each once, as many as counts says
@@ -93,13 +93,13 @@ pub record HasMerges (w : s.Workload) (r : Round) (after : List ℤ) : Type 0 wh
 
 -- the closing call, if there is one, takes the database to the next one and prints what its entry says
 abbrev pub ClosesWith : s.Workload → List ℤ → Option Closing → List ℤ → Type 0
-unfolding words
+unfolding definitions
 ClosesWith w after None next = next ≡ after
 ClosesWith w after (Some c) next = call_outcome w c.entry.call after ≡ record { prints = c.entry.prints; database = next }
 
 -- the database that a round leaves: the next round's base, or the last database
 abbrev pub base_or : List Round → List ℤ → List ℤ
-unfolding words
+unfolding definitions
 base_or [] last = last
 base_or (r ∷ rounds) last = r.base
 
@@ -109,7 +109,7 @@ pub record RunsTo (w : s.Workload) (r : Round) (next : List ℤ) : Type 0 where
   pub closes : ClosesWith w after r.closing next
 
 abbrev pub AreSerial : s.Workload → List Round → List ℤ → Type 0
-unfolding words
+unfolding definitions
 AreSerial w [] last = Unit {0}
 AreSerial w (r ∷ rounds) last = RunsTo w r (base_or rounds last) × AreSerial w rounds last
 
@@ -124,10 +124,10 @@ pub record IsLegalFrom (w : s.Workload) (start : List ℤ) (counts : List ℕ) (
 
 -- the same from the initial database
 abbrev pub IsLegal : s.Workload → List ℕ → History → Type 0
-unfolding words
+unfolding definitions
 IsLegal w counts h = IsLegalFrom w (initial w) counts h
 
 -- a legal history of all calls of each client
 abbrev pub IsFull : s.Workload → History → Type 0
-unfolding words
+unfolding definitions
 IsFull w h = IsLegal w (map (λ client. length client.calls) w.clients) h

@@ -9,28 +9,28 @@ use Rattle.homeo_plan.specs.Joined.{Deltas, folded}
 use Rattle.homeo_plan.specs.Local.{local_prints, local_deltas, no_deltas, replay}
 use Rattle.homeo_plan.specs.Planned.{sites_of, planned_at, template_at, policy}
 use Rattle.homeo_plan.specs.Treaty.{Treaty, finding}
-use Rattle.homeo_history.specs.Key.{words}
+use Rattle.homeo_history.specs.Key.{definitions}
 use Rattle.homeo_history.specs.History.{Entry, Closing, Round}
 use Rattle.homeo_history.specs.Merge.{segment_of}
 
 -- what a call's local step prints, in a round that begins with this base
 abbrev pub prints_at : s.Workload → List ℤ → CallId → Deltas → List ℤ
-unfolding words
+unfolding definitions
 prints_at w base call x = local_prints (sites_of w) (values_of base) (planned_at w call) x
 
 -- the deltas of its site after it
 abbrev pub deltas_after : s.Workload → List ℤ → CallId → Deltas → Deltas
-unfolding words
+unfolding definitions
 deltas_after w base call x = local_deltas (sites_of w) (values_of base) (planned_at w call) x
 
 -- the deltas after the local steps of entries, one after another, from the deltas x
 abbrev pub end_of : s.Workload → List ℤ → List Entry → Deltas → Deltas
-unfolding words
+unfolding definitions
 end_of w base entries x = replay (sites_of w) (values_of base) (map (λ e. planned_at w e.call) entries) x
 
 -- the site's treaty, by the policy, holds of its deltas
 abbrev pub MeetsTreaty : s.Workload → List ℤ → ℕ → Deltas → Type 0
-unfolding words
+unfolding definitions
 MeetsTreaty w base site x = Treaty (template_at w base) (policy w base) site x
 
 -- from the deltas x the entry has the prints of its local step, and the deltas after it keep the site's treaty
@@ -40,23 +40,23 @@ pub record KeepsOne (w : s.Workload) (base : List ℤ) (site : ℕ) (x : Deltas)
 
 -- and so each entry of a segment, one after another
 abbrev pub KeepsAll : s.Workload → List ℤ → ℕ → Deltas → List Entry → Type 0
-unfolding words
+unfolding definitions
 KeepsAll w base site x [] = Unit {0}
 KeepsAll w base site x (e ∷ es) = KeepsOne w base site x e × KeepsAll w base site (deltas_after w base e.call x) es
 
 -- what fails first of the site's treaty there, if anything does
 abbrev pub finding_at : s.Workload → List ℤ → ℕ → Deltas → Option Broken
-unfolding words
+unfolding definitions
 finding_at w base site x = finding (template_at w base) (policy w base) site x
 
 -- the deltas that the replay of a site's segment ends with
 abbrev pub site_end : s.Workload → Round → ℕ → Deltas
-unfolding words
+unfolding definitions
 site_end w r site = end_of w r.base (segment_of r.segments site) no_deltas
 
 -- from these deltas the closing call breaks its site's treaty, with the finding that stands in it
 abbrev pub Breaks : s.Workload → Round → Closing → Type 0
-unfolding words
+unfolding definitions
 Breaks w r c =
     finding_at w r.base c.site (deltas_after w r.base c.entry.call (site_end w r c.site)) ≡ Some c.broken
 
@@ -67,5 +67,5 @@ pub record IsReplayed (w : s.Workload) (r : Round) : Type 0 where
 
 -- the round's base with the deltas that the replays of all sites end with
 abbrev pub fold_of : s.Workload → Round → List ℤ
-unfolding words
+unfolding definitions
 fold_of w r = database_like r.base (folded (sites_of w) (values_of r.base) (site_end w r))

@@ -1,5 +1,5 @@
 -- The numbers of joint rows by their digits are the picks of the joint table.
-use Rattle.homeo_plan.specs.Key.{words}
+use Rattle.homeo_plan.specs.Key.{definitions}
 use Rattle.std.proofs.Common.{◌≡◌, ℕ, zero, suc, ◌+◌, ◌*◌, ◌<◌, ◌≤◌, ◌/◌, ◌%◌, List, [], ◌∷◌, ◌++◌, map, drop, length, pos, ℤ, ◌^◌, w64, to_z, Global, refl, sym, ap, ap₂, ◌∙◌, arith}
 use Rattle.std.specs.Prelude.{slice_index_or, Vec, vec_len}
 use Rattle.std.specs.List.{All}
@@ -17,7 +17,7 @@ use Rattle.homeo_joint.proofs.Products.{counts-drop, alike-more}
 
 -- ---- how many choices there are
 length_picks : (n : ℕ) (rs : List Row) (choices : List (List ℕ)) → length (picks_from n rs choices) ≡ length rs * length choices
-unfolding words
+unfolding definitions
 length_picks n [] choices = omega arith
 length_picks n (r ∷ rs) choices =
     let next : length choices + length rs * length choices ≡ (1 + length rs) * length choices = omega arith in
@@ -27,7 +27,7 @@ length_picks n (r ∷ rs) choices =
     ∙ next ∙ ap (λ m. m * length choices) here
 
 pub length_joint : (ts : List (List Row)) → length (joint_picks ts) ≡ product_of (map length ts)
-unfolding words
+unfolding definitions
 length_joint [] = refl
 length_joint (t ∷ ts) = length_picks 0 t (joint_picks ts) ∙ ap (λ n. length t * n) (length_joint ts)
 
@@ -60,7 +60,7 @@ blocks :
     (a : ℕ) (ns : List ℕ) (n : ℕ) (rs : List Row) →
     digits_below (a ∷ ns) (n * product_of ns) ++ picks_from n rs (digits_below ns (product_of ns)) ≡
     digits_below (a ∷ ns) ((n + length rs) * product_of ns)
-unfolding words
+unfolding definitions
 blocks a ns n [] =
     let e : n ≡ n + 0 = omega arith in
     append-nil (digits_below (a ∷ ns) (n * product_of ns)) ∙ ap (λ m. digits_below (a ∷ ns) (m * product_of ns)) e
@@ -76,7 +76,7 @@ blocks a ns n (r ∷ rs) =
     ∙ ap (λ m. digits_below (a ∷ ns) (m * p)) on
 
 pub joint-digits : (ts : List (List Row)) → digits_below (map length ts) (product_of (map length ts)) ≡ joint_picks ts
-unfolding words
+unfolding definitions
 joint-digits [] = refl
 joint-digits (t ∷ ts) =
     let ns : List ℕ = map length ts in

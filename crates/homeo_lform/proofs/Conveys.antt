@@ -5,7 +5,7 @@ use Rattle.std.proofs.lemmas.Bool.{and_from, false≢true}
 use Rattle.homeo_syntax.specs.declared.low.Temp.TheVariants as temp
 use Rattle.homeo_syntax.specs.Low as L
 use Rattle.homeo_syntax.specs.Source.{Expr, Exprs, Literal, Name, Read, Sum, Product, Neg, Field, Row, Count, Total, NoExpr, MoreExpr, Test, Cond, True, Not, Comparison, NoTest, MoreTest}
-use Rattle.homeo_meaning.specs.Key.{words}
+use Rattle.homeo_meaning.specs.Key.{definitions}
 use Rattle.homeo_meaning.specs.LowMeaning as M
 use Rattle.homeo_meaning.specs.Context.{Spot, Slot, Context, spot, field_cell, slots, fields, bind, slot_at}
 use Rattle.homeo_meaning.specs.Meaning.{State, Run, done, is_used, value, sum_value, product_value, passes, holds}
@@ -21,24 +21,24 @@ use Rattle.homeo_lform.proofs.Values.{lifts, lifts_sum, lifts_product, lifts_tes
 
 -- the state after commands
 abbrev pub after : L.Commands → M.State → M.State
-unfolding words
+unfolding definitions
 after cs s = (M.exec_all cs s).state
 
 pub after_both : (cs ds : L.Commands) (s : M.State) → after (both cs ds) s ≡ after ds (after cs s)
-unfolding words
+unfolding definitions
 after_both L.NoCommand ds s = refl
 after_both (L.MoreCommand c cs) ds s = after_both cs ds (M.exec c s).state
 
 pub alike_after : {A V : Type 0} (n : ℕ) (s : M.State) (x : Lifted A) (at : A → M.State → V) (v : State → V) → Lifts n s x at v → Alike n s (after x.before s)
-unfolding words
+unfolding definitions
 alike_after n s x at v k = subst (Alike n s) (sym (ap (λ (r : M.Run). r.state) k.runs)) k.alike
 
 pub means_after : {A V : Type 0} (n : ℕ) (s : M.State) (x : Lifted A) (at : A → M.State → V) (v : State → V) → Lifts n s x at v → (u : M.State) → Alike x.next (after x.before s) u → at x.phrase u ≡ v (seen s)
-unfolding words
+unfolding definitions
 means_after n s x at v k u a = k.means u (subst (λ z. Alike x.next z u) (ap (λ (r : M.Run). r.state) k.runs) a)
 
 pub quiet_after : {A V : Type 0} (n : ℕ) (s : M.State) (x : Lifted A) (at : A → M.State → V) (v : State → V) → Lifts n s x at v → M.exec_all x.before s ≡ quiet (after x.before s)
-unfolding words
+unfolding definitions
 quiet_after n s x at v k = k.runs ∙ ap quiet (sym (ap (λ (r : M.Run). r.state) k.runs))
 
 -- what counts where the call goes on
@@ -47,12 +47,12 @@ unless_on true T h = tt
 unless_on false T h = h refl
 
 pub literal_is_none : (k : ℤ) → None ≡ Some k → ⊥
-unfolding words
+unfolding definitions
 literal_is_none k e = grind arith
 
 -- ---- an index that is lifted to a literal
 pub literal_value : (p : L.Expr) (k : ℤ) (u : M.State) → literal_of p ≡ Some k → M.value p u ≡ k
-unfolding words
+unfolding definitions
 literal_value (L.Literal j) k u e = ap (λ o. elim o as (λ x. ℤ) [ None ↦ j | Some i ↦ i ]) e
 literal_value p k u e = absurd (literal_is_none k e)
 
@@ -62,22 +62,22 @@ record Absent (o : Option ℤ) (all : List Slot) : Type 0 where
   none : has_none (slot_at index all) ≡ true
 
 slot_absent : (o : Option Slot) (f : Spot) (k : ℤ) → literal_of (read_slot f o) ≡ Some k → has_none o ≡ true
-unfolding words
+unfolding definitions
 slot_absent None f k e = refl
 slot_absent (Some slot) f k e = absurd (literal_is_none k e)
 
 indexed_literal : (o : Option ℤ) (all : List Slot) (f : Spot) (x : Lifted L.Expr) (k : ℤ) → literal_of (indexed_by o all f x).phrase ≡ Some k → Absent o all
-unfolding words
+unfolding definitions
 indexed_literal (Some j) all f x k e = record { index = j; is = refl; none = slot_absent (slot_at j all) f k e }
 indexed_literal None all f x k e = absurd (literal_is_none k e)
 
 name_given : (o : Option ℤ) (t : ℕ) (k : ℤ) → literal_of (name_of o t) ≡ Some k → has_some o ≡ true
-unfolding words
+unfolding definitions
 name_given (Some v) t k e = refl
 name_given None t k e = absurd (literal_is_none k e)
 
 pub literal_given : (w : Context) (e : Expr) (n : ℕ) (s : M.State) (k : ℤ) → literal_of (lift w e n).phrase ≡ Some k → is_given w e (seen s) ≡ true
-unfolding words
+unfolding definitions
 literal_given w (Literal v) n s k e = refl
 literal_given w (Name x) n s k e = name_given (w.arguments x.name) x.name k e
 literal_given w (Read x) n s k e = absurd (literal_is_none k e)
@@ -96,24 +96,24 @@ literal_given w (Total r f q b) n s k e = absurd (literal_is_none k e)
 
 module _ (R P : ℤ → Type 0) where
   pub split_all : (cs ds : L.Commands) (s : M.State) → low.CanRunAll R P (both cs ds) s → low.CanRunAll R P cs s × low.CanRunAll R P ds (after cs s)
-  unfolding words
+  unfolding definitions
   split_all L.NoCommand ds s h = (tt, h)
   split_all (L.MoreCommand c cs) ds s h = let k = split_all cs ds (M.exec c s).state h.1 in ((h.0, k.0), k.1)
 
   pub front_can : (cs : L.Commands) (c : L.Command) (s : M.State) → low.CanRun R P (in_front cs c) s → low.CanRunAll R P cs s × low.CanRun R P c (after cs s)
-  unfolding words
+  unfolding definitions
   front_can L.NoCommand c s h = (tt, h)
   front_can (L.MoreCommand b bs) c s h = let k = split_all (L.MoreCommand b bs) (one c) s h in (k.0, k.1.0)
 
   pub guard_can : (g : Bool) (c : L.Command) (s : M.State) → low.CanRun R P (guard g c) s → low.CanRun R P c s
-  unfolding words
+  unfolding definitions
   guard_can true c s h = h.1
   guard_can false c s h = h
 
   -- the commands of a slot, guarded or not
   turn_can : (g : Bool) (before : L.Commands) (c : L.Command) (more : L.Commands) (s a : M.State) → M.exec_all before s ≡ quiet a → low.CanRunAll R P (in_turn g before c more) s
       → low.CanRunAll R P before s × low.CanRun R P c (after before s) × low.CanRunAll R P more (turn_run g before c s a).state
-  unfolding words
+  unfolding definitions
   turn_can true before c more s a e h = let k = front_can before c s (guard_can true (in_front before c) s h.0) in (k.0, k.1, h.1)
   turn_can false before c more s a e h =
       let k = split_all before (L.MoreCommand c more) s h in
@@ -125,7 +125,7 @@ module _ (R P : ℤ → Type 0) where
 
   -- both parts of two phrases that were lifted one after the other
   pub halves : {A B V W : Type 0} (at : A → M.State → V) (at' : B → M.State → W) (v : State → V) (v' : State → W) (K : A → M.State → Type 0) (K' : B → M.State → Type 0) (N N' : State → Type 0) (n : ℕ) (s : M.State) (x : Lifted A) (y : ℕ → Lifted B) → Lifts n s x at v → ((m : ℕ) (a : M.State) → Lifts m a (y m) at' v') → Conveys n s x K N → ((m : ℕ) (a : M.State) → Conveys m a (y m) K' N') → low.CanRunAll R P (both x.before (y x.next).before) s → (u : M.State) → Alike (y x.next).next (after (both x.before (y x.next).before) s) u → (K x.phrase u → N (seen s)) × (K' (y x.next).phrase u → N' (seen s)) × (at x.phrase u ≡ v (seen s))
-  unfolding words
+  unfolding definitions
   halves at at' v v' K K' N N' n s x y k l f g run u a =
       let b = y x.next in
       let runs = split_all x.before b.before s run in
@@ -138,12 +138,12 @@ module _ (R P : ℤ → Type 0) where
 
   -- ---- a field by an index
   chain_index : (f : Spot) (e : L.Expr) (t : ℕ) (all : List Slot) (a : M.State) (T : Type 0) → (low.CanValue R P e a → T) → low.CanRun R P (read_chain f e t all) a → OnSlots all T
-  unfolding words
+  unfolding definitions
   chain_index f e t [] a T k h = tt
   chain_index f e t (slot ∷ more) a T k h = k h.0.0.0
 
   pub on_slots : (all : List Slot) (T : Type 0) → T → OnSlots all T
-  unfolding words
+  unfolding definitions
   on_slots [] T k = tt
   on_slots (slot ∷ more) T k = k
 
@@ -162,23 +162,23 @@ module _ (R P : ℤ → Type 0) where
       on_slots all (Unless (is_given w e (seen s)) (CanValue R P w e (seen s))) (unless_given (is_given w e (seen s)) (CanValue R P w e (seen s)) given)
 
   pub index_counts : (w : Context) (e : Expr) (s : State) (all : List Slot) → OnSlots all (CanValue R P w e s) → OnSlots all (Unless (is_given w e s) (CanValue R P w e s))
-  unfolding words
+  unfolding definitions
   index_counts w e s [] k = tt
   index_counts w e s (slot ∷ more) k = unless_any (is_given w e s) (CanValue R P w e s) k
 
   -- ---- what stands there or is read
   name_reads : (o : Option ℤ) (t : ℕ) (u : M.State) → low.CanValue R P (name_of o t) u → R (M.value (name_of o t) u)
-  unfolding words
+  unfolding definitions
   name_reads None t u h = h
   name_reads (Some v) t u h = h
 
   slot_reads : (o : Option Slot) (f : Spot) (u : M.State) → low.CanValue R P (read_slot f o) u → R (M.value (read_slot f o) u)
-  unfolding words
+  unfolding definitions
   slot_reads None f u h = h
   slot_reads (Some slot) f u h = h
 
   field_reads : (o : Option ℤ) (all : List Slot) (f : Spot) (x : Lifted L.Expr) (u : M.State) → low.CanValue R P (indexed_by o all f x).phrase u → R (M.value (indexed_by o all f x).phrase u)
-  unfolding words
+  unfolding definitions
   field_reads (Some v) all f x u h = slot_reads (slot_at v all) f u h
   field_reads None all f x u h = h
 
@@ -189,12 +189,12 @@ module _ (R P : ℤ → Type 0) where
   -- ---- a count or a sum
   module _ (test : Slot → ℕ → Lifted L.Cond) (p : Slot → State → Bool) (tests : (slot : Slot) (m : ℕ) (s : M.State) → Lifts m s (test slot m) M.holds (p slot)) (Tests : Slot → State → Type 0) (cans : (slot : Slot) (m : ℕ) (s : M.State) → Conveys m s (test slot m) (low.CanHold R P) (Tests slot)) where
     test_can : (slot : Slot) (m : ℕ) (s : M.State) (c : L.Command) (d : L.Command) → low.CanRunAll R P (test slot m).before s → low.CanRun R P (L.If (loop_test slot (test slot m).phrase) c d) (after (test slot m).before s) → Tests slot (seen s)
-    unfolding words
+    unfolding definitions
     test_can slot m s c d run h =
         cans slot m s run (after (test slot m).before s) (alike_self (test slot m).next (after (test slot m).before s)) h.0.1
 
     tested_after : (slot : Slot) (m : ℕ) (s : M.State) → M.holds (loop_test slot (test slot m).phrase) (after (test slot m).before s) ≡ is_used (seen s) slot && p slot (seen s)
-    unfolding words
+    unfolding definitions
     tested_after slot m s =
         let k = tests slot m s in
         ap (λ z. M.holds (loop_test slot (test slot m).phrase) z) (ap (λ (r : M.Run). r.state) k.runs) ∙ tested slot (p slot) m s (test slot m) k
@@ -207,7 +207,7 @@ module _ (R P : ℤ → Type 0) where
       Adding t all z = CanAdd R P (λ slot. Tests slot t) (λ slot. is_used t slot && p slot t) (λ slot. q slot t) all z
 
       counts_can : (all : List Slot) (n m : ℕ) → n < m → (s : M.State) → low.CanRunAll R P (visits false false test (can_body n) all m).commands s → Adding (seen s) all (at_fresh n s)
-      unfolding words
+      unfolding definitions
       counts_can [] n m lt s h = tt
       counts_can (slot ∷ more) n m lt s h =
           let b = test slot m in
@@ -232,7 +232,7 @@ module _ (R P : ℤ → Type 0) where
           )
 
       counted_can : (all : List Slot) (n : ℕ) (s : M.State) → low.CanRunAll R P (counted test term all n).before s → Adding (seen s) all (pos 0)
-      unfolding words
+      unfolding definitions
       counted_can all n s h =
           let a = M.put s (M.TempAt (temp.Fresh n)) (pos 0) in
           subst (λ z. Adding (seen s) all z) (put_here n s (pos 0)) (counts_can all n (suc n) (omega arith) a h.1)
@@ -243,7 +243,7 @@ module _ (R P : ℤ → Type 0) where
         (bodies : (slot : Slot) (m : ℕ) (s : M.State) → Ready b m s → told_low b (M.exec (body slot m).command s) ≡ told (source slot (seen s)))
         (Bodies : Slot → State → Type 0) (body_cans : (slot : Slot) (m : ℕ) (s : M.State) → Ready b m s → low.CanRun R P (body slot m).command s → Bodies slot (seen s)) where
       pub visits_can : (all : List Slot) (g : Bool) (m : ℕ) (s : M.State) → Allows b g → Ready b m s → low.CanRunAll R P (visits g later test body all m).commands s → CanVisit R P Tests Bodies p source all (seen s)
-      unfolding words
+      unfolding definitions
       visits_can [] g m s hg ready h = tt
       visits_can (slot ∷ more) g m s hg ready h =
           let x = test slot m in
@@ -266,14 +266,14 @@ module _ (R P : ℤ → Type 0) where
           )
 
   field_can : (o : Option ℤ) (all : List Slot) (f : Spot) (w : Context) (e : Expr) (x : Lifted L.Expr) (s : M.State) → ((k : ℤ) → o ≡ Some k → OnSlots all (Unless (is_given w e (seen s)) (CanValue R P w e (seen s)))) → (low.CanRunAll R P x.before s → low.CanValue R P x.phrase (after x.before s) → CanValue R P w e (seen s)) → low.CanRunAll R P (indexed_by o all f x).before s → OnSlots all (Unless (is_given w e (seen s)) (CanValue R P w e (seen s)))
-  unfolding words
+  unfolding definitions
   field_can (Some k) all f w e x s l g run = l k refl
   field_can None all f w e x s l g run =
       let runs = split_all x.before (one (read_chain f x.phrase x.next all)) s run in
       index_counts w e (seen s) all (chain_index f x.phrase x.next all (after x.before s) (CanValue R P w e (seen s)) (λ h. g runs.0 h) runs.1.0)
 
   mutual
-    unfolding words
+    unfolding definitions
 
     pub conveys : (w : Context) (e : Expr) (n : ℕ) (s : M.State) → Conveys n s (lift w e n) (low.CanValue R P) (CanValue R P w e)
     conveys w (Literal v) n s = λ run u a h. h

@@ -4,7 +4,7 @@ use Rattle.std.specs.Ordering.{int_eq}
 use Rattle.std.proofs.lemmas.Bool.{false≢true}
 use Rattle.homeo_syntax.specs.Low as L
 use Rattle.homeo_syntax.specs.Source.{Commands, NoCommand, MoreCommand}
-use Rattle.homeo_meaning.specs.Key.{words}
+use Rattle.homeo_meaning.specs.Key.{definitions}
 use Rattle.homeo_meaning.specs.LowMeaning as M
 use Rattle.homeo_meaning.specs.Context.{Slot, Context}
 use Rattle.homeo_meaning.specs.Meaning.{State, Run, done, after_prints, then_do, is_used, visit}
@@ -16,7 +16,7 @@ use Rattle.homeo_lform.proofs.Fresh.{Keeps, Allows, if_keeps, turn_run, turn_run
 
 -- the flag of a call that can be ended
 abbrev pub flag_at : Bool → M.State → ℤ
-unfolding words
+unfolding definitions
 flag_at true s = at_fresh 0 s
 flag_at false s = pos 0
 
@@ -46,7 +46,7 @@ one_is_not_zero : pos 1 ≡ pos 0 → ⊥
 one_is_not_zero e = false≢true (ap (λ z. int_eq z (pos 1)) (sym e))
 
 flag_kept : (b : Bool) (n : ℕ) (s u : M.State) → flags b ≤ n → Keeps 0 n s u → flag_at b u ≡ flag_at b s
-unfolding words
+unfolding definitions
 flag_kept true n s u le h = h 0 (omega arith) (omega (arith, le))
 flag_kept false n s u le h = refl
 
@@ -58,28 +58,28 @@ ready_alike b n m s u k h le = ready_kept b n m s u k (λ j z lt. h.keeps j lt) 
 
 -- where the flag is up, the call has one
 pub flag_up : (b : Bool) (s : M.State) → flag_at b s ≡ pos 1 → (b ≡ true) × (at_fresh 0 s ≡ pos 1)
-unfolding words
+unfolding definitions
 flag_up true s e = (refl, e)
 flag_up false s e = absurd (one_is_not_zero (sym e))
 
 -- ---- guards
 pub guard_down : (b g : Bool) (c : L.Command) (s : M.State) → Allows b g → flag_at b s ≡ pos 0 → M.exec (guard g c) s ≡ M.exec c s
-unfolding words
+unfolding definitions
 guard_down b false c s h e = refl
 guard_down b true c s h e =
     ap (λ z. cond (int_eq z (pos 0) && true) (M.exec c s) (quiet s)) (subst (λ a. flag_at a s ≡ pos 0) (h refl) e)
 
 turn_is : (b g : Bool) (before : L.Commands) (c : L.Command) (s a : M.State) → Allows b g → flag_at b s ≡ pos 0 → M.exec_all before s ≡ quiet a → turn_run g before c s a ≡ M.exec c a
-unfolding words
+unfolding definitions
 turn_is b false before c s a h e runs = refl
 turn_is b true before c s a h e runs = guard_down b true (in_front before c) s h e ∙ quiet_front before c s a runs
 
 unless_up : (c : L.Command) (s : M.State) → at_fresh 0 s ≡ pos 1 → M.exec (unless_ended c) s ≡ quiet s
-unfolding words
+unfolding definitions
 unless_up c s e = ap (λ z. cond (int_eq z (pos 0) && true) (M.exec c s) (quiet s)) e
 
 pub forms_up : (w : Context) (cs : Commands) (n : ℕ) (s : M.State) → at_fresh 0 s ≡ pos 1 → M.exec_all (forms w true cs n).commands s ≡ quiet s
-unfolding words
+unfolding definitions
 forms_up w NoCommand n s e = refl
 forms_up w (MoreCommand c cs) n s e =
     let x = form w c n in
@@ -88,7 +88,7 @@ forms_up w (MoreCommand c cs) n s e =
     ∙ forms_up w cs x.next s e
 
 visits_up : (test : Slot → ℕ → Lifted L.Cond) (body : Slot → ℕ → Made) (all : List Slot) (n : ℕ) (s : M.State) → at_fresh 0 s ≡ pos 1 → M.exec_all (visits true true test body all n).commands s ≡ quiet s
-unfolding words
+unfolding definitions
 visits_up test body [] n s e = refl
 visits_up test body (slot ∷ more) n s e =
     let b = test slot n in
@@ -117,7 +117,7 @@ pub then_told : (b : Bool) (r : M.Run) (rest : L.Commands) (d : Run) (next : Sta
     → (d.ended ≡ true → M.exec_all rest r.state ≡ quiet r.state)
     → (d.ended ≡ false → told_low b (M.exec_all rest r.state) ≡ told (next d.state))
     → told_low b (M.after_prints r.prints (M.exec_all rest r.state)) ≡ told (then_do d next)
-unfolding words
+unfolding definitions
 then_told b r rest d next first stop go_on = by_case d.ended refl
   where
     by_case : (e : Bool) → d.ended ≡ e → told_low b (M.after_prints r.prints (M.exec_all rest r.state)) ≡ told (cond e d (after_prints d.prints (next d.state)))
@@ -144,13 +144,13 @@ module _ (b : Bool) (test : Slot → ℕ → Lifted L.Cond) (p : Slot → State 
     (takes : (slot : Slot) (m : ℕ) (s : M.State) → TakesFrom (flags later) m (body slot m).next s (M.exec (body slot m).command s).state)
     (bodies : (slot : Slot) (m : ℕ) (s : M.State) → Ready b m s → told_low b (M.exec (body slot m).command s) ≡ told (source slot (seen s))) where
   abbrev pub if_else : Slot → ℕ → L.Command
-  unfolding words
+  unfolding definitions
   if_else slot m = L.If (loop_test slot (test slot m).phrase) (body slot (test slot m).next).command L.Skip
 
   -- the commands of a slot do what is done at a visit
   pub slot_told : (slot : Slot) (g : Bool) (m : ℕ) (s : M.State) → Allows b g → Ready b m s
       → told_low b (turn_run g (test slot m).before (if_else slot m) s (tests slot m s).after) ≡ told (cond (is_used (seen s) slot && p slot (seen s)) (source slot (seen s)) (done (seen s)))
-  unfolding words
+  unfolding definitions
   slot_told slot g m s h ready =
       let x = test slot m in
       let k = tests slot m s in
@@ -163,7 +163,7 @@ module _ (b : Bool) (test : Slot → ℕ → Lifted L.Cond) (p : Slot → State 
 
   -- a body that keeps the flag doesn't end the call
   slot_keeps : later ≡ false → (slot : Slot) (g : Bool) (m : ℕ) (s : M.State) → Keeps 0 m s (turn_run g (test slot m).before (if_else slot m) s (tests slot m s).after).state
-  unfolding words
+  unfolding definitions
   slot_keeps e slot g m s =
       let x = test slot m in
       let k = tests slot m s in
@@ -173,7 +173,7 @@ module _ (b : Bool) (test : Slot → ℕ → Lifted L.Cond) (p : Slot → State 
       turn_keeps 0 m g x.before (if_else slot m) s k.after k.runs (λ j le lt. inner j le (omega (arith, k.grows)) ∙ k.alike.keeps j lt)
 
   pub loop_told : (all : List Slot) (g : Bool) (m : ℕ) (s : M.State) → Allows b g → Ready b m s → told_low b (M.exec_all (visits g later test body all m).commands s) ≡ told (visit p source all (seen s))
-  unfolding words
+  unfolding definitions
   loop_told [] g m s h ready = calm b m s (quiet s) (done (seen s)) ready (λ j le lt. refl) refl
   loop_told (slot ∷ more) g m s h ready =
       let x = test slot m in

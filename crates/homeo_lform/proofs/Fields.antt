@@ -3,7 +3,7 @@ use Rattle.std.proofs.Common.{◌≡◌, ℕ, Bool, true, false, cond, ◌&&◌,
 use Rattle.std.specs.Ordering.{int_eq}
 use Rattle.homeo_syntax.specs.declared.low.Temp.TheVariants as temp
 use Rattle.homeo_syntax.specs.Low as L
-use Rattle.homeo_meaning.specs.Key.{words}
+use Rattle.homeo_meaning.specs.Key.{definitions}
 use Rattle.homeo_meaning.specs.LowMeaning as M
 use Rattle.homeo_meaning.specs.Context.{Spot, Slot, cell, slot_at}
 use Rattle.homeo_meaning.specs.Meaning.{State, field_or_zero}
@@ -12,7 +12,7 @@ use Rattle.homeo_lform.proofs.Lifts.{seen, quiet, Lifts, alike_self, stored_lift
 
 -- the chain of tests finds the slot
 chain_reads : (f : Spot) (e : L.Expr) (t : ℕ) (all : List Slot) (s : M.State) → M.exec (read_chain f e t all) s ≡ quiet (M.put s (M.TempAt (temp.Fresh t)) (field_or_zero (seen s) f (slot_at (M.value e s) all)))
-unfolding words
+unfolding definitions
 chain_reads f e t [] s = refl
 chain_reads f e t (slot ∷ more) s = go (int_eq (M.value e s) (pos slot.number)) (chain_reads f e t more s)
   where
@@ -23,12 +23,12 @@ chain_reads f e t (slot ∷ more) s = go (int_eq (M.value e s) (pos slot.number)
     go false ih = ih
 
 slot_read : (f : Spot) (o : Option Slot) (u : M.State) → M.value (read_slot f o) u ≡ field_or_zero (seen u) f o
-unfolding words
+unfolding definitions
 slot_read f (Some slot) u = refl
 slot_read f None u = refl
 
 literal_lifts : (all : List Slot) (f : Spot) (v : State → ℤ) (n : ℕ) (s : M.State) (before : L.Commands) (k : ℤ) (next : ℕ) → Lifts n s (record { before = before; phrase = L.Literal k; next = next }) M.value v → Lifts n s (plain (read_slot f (slot_at k all)) next) M.value (λ t. field_or_zero t f (slot_at (v t) all))
-unfolding words
+unfolding definitions
 literal_lifts all f v n s before k next h =
     record {
       after = s;
@@ -39,7 +39,7 @@ literal_lifts all f v n s before k next h =
     }
 
 pub indexed_lifts : (all : List Slot) (f : Spot) (v : State → ℤ) (n : ℕ) (s : M.State) (before : L.Commands) (e : L.Expr) (next : ℕ) → Lifts n s (record { before = before; phrase = e; next = next }) M.value v → Lifts n s (indexed all f (record { before = before; phrase = e; next = next })) M.value (λ t. field_or_zero t f (slot_at (v t) all))
-unfolding words
+unfolding definitions
 indexed_lifts all f v n s before (L.Literal k) next h = literal_lifts all f v n s before k next h
 indexed_lifts all f v n s before e next h =
     stored_lifts M.value v M.value (λ t. field_or_zero t f (slot_at (v t) all)) n s (record { before = before; phrase = e; next = next })

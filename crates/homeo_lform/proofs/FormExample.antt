@@ -6,7 +6,7 @@ use Rattle.homeo_syntax.specs.declared.phrase.Compare.TheVariants as compare
 use Rattle.homeo_syntax.specs.Low as L
 use Rattle.homeo_syntax.specs.Source as S
 use Rattle.homeo_syntax.specs.declared.phrase.Ident.{Ident}
-use Rattle.homeo_meaning.specs.Key.{words as meaning_words}
+use Rattle.homeo_meaning.specs.Key.{definitions as meaning_definitions}
 use Rattle.homeo_meaning.specs.Schema.{Schema}
 use Rattle.homeo_meaning.specs.LForm.{l_form}
 
@@ -124,5 +124,5 @@ expected = seq (
     ∷ when (le (lit 5) (rd 4) ∷ le (rd 4) (lit 7) ∷ []) (wr 0 (rd 4)) ∷ [])
 
 form_of_the_call : l_form declarations (4 ∷ []) (negsuc 2 ∷ []) body ≡ expected
-unfolding meaning_words declarations body expected
+unfolding meaning_definitions declarations body expected
 form_of_the_call = refl

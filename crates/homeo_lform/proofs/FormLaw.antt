@@ -18,7 +18,7 @@ use Rattle.homeo_lform.proofs.Ends.{Told, told_low, told, flag_of, Ready}
 use Rattle.homeo_lform.proofs.Forms.{forms_told}
 use Rattle.homeo_lform.proofs.Written.{among, forms_written, all_stay}
 use Rattle.homeo_lform.proofs.Undone.{Saved, saves_lead, saved_kept, begun, begun_sees, begun_ready, begun_saved, undo_prints, undo_down, undo_up}
-use Rattle.homeo_meaning.specs.Key.{words}
+use Rattle.homeo_meaning.specs.Key.{definitions}
 use Rattle.homeo_meaning.specs.SameRun.{IsSameRun}
 
 abbrev start : (ℕ → ℤ) → State
@@ -31,7 +31,7 @@ flag_is_down false e = refl
 -- a body that can't end its call
 plain_law : (w : Context) (body : Commands) (database : ℕ → ℤ) → hold_abort body ≡ false
     → IsSameRun (M.exec (body_by false w body) (M.whole database)) (settled database (does_all w body (start database)))
-unfolding words
+unfolding definitions
 plain_law w body database none =
     let s = M.whole database in
     let d = does_all w body (start database) in
@@ -45,7 +45,7 @@ plain_law w body database none =
 -- one that can
 undoing_law : (w : Context) (body : Commands) (database : ℕ → ℤ) → hold_abort body ≡ true
     → IsSameRun (M.exec (body_by true w body) (M.whole database)) (settled database (does_all w body (start database)))
-unfolding words
+unfolding definitions
 undoing_law w body database some =
     record {
       prints = ap (λ (r : M.Run). r.prints) leads
@@ -96,7 +96,7 @@ undoing_law w body database some =
         ∙ ap (λ (t : Told). t.state.database k) same
 
 pub form_law : (x : Schema) (params : List ℕ) (args : List ℤ) (body : Commands) (database : ℕ → ℤ) → IsSameRun (M.exec (l_form x params args body) (M.whole database)) (run x params args body database)
-unfolding words
+unfolding definitions
 form_law x params args body database = by_case (hold_abort body) refl
   where
     by_case : (v : Bool) → hold_abort body ≡ v → IsSameRun (M.exec (body_by v (context x params args) body) (M.whole database)) (run x params args body database)

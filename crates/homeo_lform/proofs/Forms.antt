@@ -4,7 +4,7 @@ use Rattle.std.proofs.lemmas.Bool.{false≢true}
 use Rattle.homeo_syntax.specs.declared.low.Temp.TheVariants as temp
 use Rattle.homeo_syntax.specs.Low as L
 use Rattle.homeo_syntax.specs.Source.{Command, Commands, Skip, Assign, Write, Print, If, Block, SetField, SetRow, Foreach, Insert, Delete, Update, Abort, NoCommand, MoreCommand}
-use Rattle.homeo_meaning.specs.Key.{words}
+use Rattle.homeo_meaning.specs.Key.{definitions}
 use Rattle.homeo_meaning.specs.Aborts.{holds_abort, hold_abort}
 use Rattle.homeo_meaning.specs.LowMeaning as M
 use Rattle.homeo_meaning.specs.Context.{Slot, Context, spot, field_cell, object, slots, fields, bind}
@@ -19,17 +19,17 @@ use Rattle.homeo_lform.proofs.Fresh.{Keeps, Allows, allows_left, allows_right, g
 use Rattle.homeo_lform.proofs.Ends.{Told, told_low, told, Ready, ready_alike, guard_down, forms_up, calm, told_choice, then_told, ended_up, goes_on, not_ended, loop_told}
 
 row_does : (slot : Slot) (f : ℕ) (v : State → ℤ) (n : ℕ) (s : M.State) (e : Lifted L.Expr) → Lifts n s e M.value v → seen_run (M.exec (LForm.write_field slot f e).command s) ≡ done (write_field (seen s) slot f (v (seen s)))
-unfolding words
+unfolding definitions
 row_does slot f v n s e k = write_does (spot slot.fields f) (field_cell slot f) v n s e k
 
 -- a field of a slot
 pub row_told : (b : Bool) (slot : Slot) (f : ℕ) (v : State → ℤ) (n : ℕ) (s : M.State) (e : Lifted L.Expr) → Lifts n s e M.value v → Ready b n s → told_low b (M.exec (LForm.write_field slot f e).command s) ≡ told (done (write_field (seen s) slot f (v (seen s))))
-unfolding words
+unfolding definitions
 row_told b slot f v n s e k ready =
     calm b n s (M.exec (LForm.write_field slot f e).command s) (done (write_field (seen s) slot f (v (seen s)))) ready (row_takes 0 slot f v n s e k).keeps (row_does slot f v n s e k)
 
 abort_told : (b : Bool) (s : M.State) → b ≡ true → told_low b (M.exec (set_flag (pos 1)) s) ≡ told (record { state = seen s; prints = []; ended = true })
-unfolding words
+unfolding definitions
 abort_told true s e = λ i. record { state = seen s; prints = []; flag = put_here 0 s (pos 1) i }
 abort_told false s e = absurd (false≢true e)
 
@@ -48,7 +48,7 @@ module _ (b : Bool) where
 
   -- a command that can't end the call keeps what is below n
   form_keeps : (w : Context) (c : Command) (n : ℕ) (s : M.State) → holds_abort c ≡ false → Keeps 0 n s (M.exec (form w c n).command s).state
-  unfolding words
+  unfolding definitions
   form_keeps w c n s e = (form_takes false w c n s (λ up. absurd (false≢true (sym e ∙ up)))).keeps
 
   plain_told : (w : Context) (c : Command) (n : ℕ) (s : M.State) → holds_abort c ≡ false → Ready b n s → seen_run (M.exec (form w c n).command s) ≡ does w c (seen s) → told_low b (M.exec (form w c n).command s) ≡ told (does w c (seen s))
@@ -61,7 +61,7 @@ module _ (b : Bool) where
       absurd (not_ended b n s (M.exec (guard g (form w c n).command) s) d ready (guard_keeps 0 n s g (form w c n).command (form_keeps w c n s e)) first up)
 
   mutual
-    unfolding words
+    unfolding definitions
 
     pub form_told : (w : Context) (c : Command) (n : ℕ) (s : M.State) → Allows b (holds_abort c) → Ready b n s → told_low b (M.exec (form w c n).command s) ≡ told (does w c (seen s))
     form_told w Skip n s h ready = plain_told w Skip n s refl ready refl

@@ -6,7 +6,7 @@ use Rattle.homeo_syntax.specs.Source as s
 use Rattle.homeo_syntax.specs.declared.phrase.Ident.{Ident}
 use Rattle.homeo_syntax.specs.declared.workload.ObjectDecl.{ObjectDecl}
 use Rattle.homeo_syntax.specs.declared.workload.RangeDecl.{RangeDecl}
-use Rattle.homeo_meaning.specs.Key.{words}
+use Rattle.homeo_meaning.specs.Key.{definitions}
 use Rattle.homeo_meaning.specs.Schema.{Declared, declared_object, declared_range, declared_relation, schema_of}
 use Rattle.homeo_meaning.specs.Context.{find_fields}
 use Rattle.homeo_meaning.specs.Bindings as b
@@ -43,7 +43,7 @@ clean_second sc (p ∷ ps) qs h = clean_second sc ps qs h.1
 
 all_clean : (sc : Scope) (local : List Occurrence → ℕ → Local) (before ps : List Occurrence) → each_from (λ before p. judge sc (local before) p) before ps ≡ []
     → AllClean sc ps
-unfolding words
+unfolding definitions
 all_clean sc local before [] e = tt
 all_clean sc local before (p ∷ ps) e =
     let rest : List Fault = each_from (λ before p. judge sc (local before) p) (before ++ p ∷ []) ps in (
@@ -55,7 +55,7 @@ abbrev idents : List Ident → List ℕ
 idents fs = map (λ x. x.name) fs
 
 pub body_clean : (sc : Scope) (t : s.Transaction) → transaction_faults sc t ≡ [] → AllClean sc (in_commands [] t.body)
-unfolding words
+unfolding definitions
 body_clean sc t e =
     let params : List Ident = map (λ (d : RangeDecl). d.name) t.params in
     let body : List Fault = body_faults sc (idents params) (in_commands [] t.body) in
@@ -78,7 +78,7 @@ is-object x None None L.Parameter e = cc
 is-object x None None L.Temporary e = cc
 
 pub object_taken : (sc : Scope) (rows : List b.Row) (x : Ident) → Clean sc (at rows (TakesObject x)) → (k : ℕ) × (sc.item x.name ≡ Some (I.Object k))
-unfolding words
+unfolding definitions
 object_taken sc rows x h = is-object x (sc.item x.name) (row_relation rows x.name) (h.local x.name) h.none
 
 is-relation : (x : Ident) (o : Option Item) (r : Option ℕ) (l : Local) → takes_relation x (item_or o (row_or r l)) ≡ [] → (k : ℕ) × (o ≡ Some (I.Relation k))
@@ -92,7 +92,7 @@ is-relation x None None L.Parameter e = cc
 is-relation x None None L.Temporary e = cc
 
 pub relation_taken : (sc : Scope) (rows : List b.Row) (q : Ident) → Clean sc (at rows (TakesRelation q)) → Numbered sc q.name
-unfolding words
+unfolding definitions
 relation_taken sc rows q h =
     let found = is-relation q (sc.item q.name) (row_relation rows q.name) (h.local q.name) h.none in
     record { number = found.0; is = found.1 }
@@ -113,7 +113,7 @@ named_in : (sc : Scope) (q : ℕ) (f : Ident) → Numbered sc q → field_of sc 
 named_in sc q f k e = record { relation = k; field = has_field sc (sc.item q) k.number f k.is e }
 
 pub field_named : (sc : Scope) (rows : List b.Row) (q f : Ident) → Numbered sc q.name → Clean sc (at rows (NamesField q f)) → FieldNamed sc q.name f.name
-unfolding words
+unfolding definitions
 field_named sc rows q f k c = named_in sc q.name f k c.none
 
 -- the relations of the row variables in force are declared
@@ -145,7 +145,7 @@ is-row sc x f None None L.Temporary e = cc
 
 pub row_field_named : (sc : Scope) (rows : List b.Row) (r f : Ident) → AllNumbered sc rows → Clean sc (at rows (TakesField r f))
     → RowFieldNamed sc rows r.name f.name
-unfolding words
+unfolding definitions
 row_field_named sc rows r f h c =
     let found = is-row sc r f (sc.item r.name) (row_relation rows r.name) (c.local r.name) c.none in
     record { relation = found.0; in_force = found.1.0; field = named_in sc found.0 f (in_force sc rows r.name found.0 h found.1.0) found.1.1 }
@@ -167,7 +167,7 @@ all_named_in sc q (f ∷ fs) k e =
 
 pub all_fields_named : (sc : Scope) (rows : List b.Row) (q : Ident) (fs : List s.FieldValue) → Numbered sc q.name
     → Clean sc (at rows (FillsFields q (named fs))) → AllFieldsNamed sc q.name fs
-unfolding words
+unfolding definitions
 all_fields_named sc rows q fs k c =
     let doubled : List Fault = each duplicate (named fs) in
     let unknown : List Fault = flat_map (field_of sc (sc.item q.name)) (named fs) in
@@ -187,7 +187,7 @@ relation_number _ = None
 passed : (number : Option Item → Option ℕ) (kind : ℕ → Item) → ((k : ℕ) → number (Some (kind k)) ≡ None)
     → (n i : ℕ) (xs : List Ident) (more : List GlobalName) (k : ℕ) →
     number (first_named (numbered_from kind i xs ++ more) n) ≡ Some k → number (first_named more n) ≡ Some k
-unfolding words
+unfolding definitions
 passed number kind h n i [] more k e = e
 passed number kind h n i (x ∷ xs) more k e = by_case (x.name == n) (passed number kind h n (i + 1) xs more k) e
   where
@@ -201,7 +201,7 @@ passed number kind h n i (x ∷ xs) more k e = by_case (x.name == n) (passed num
 -- the last of the global names
 last_passed : (number : Option Item → Option ℕ) → number None ≡ None → ((k : ℕ) → number (Some (I.Client k)) ≡ None) → (n : ℕ) (cs : List Ident) (k : ℕ) →
     number (first_named (numbered_from I.Client 0 cs) n) ≡ Some k → ⊥
-unfolding words
+unfolding definitions
 last_passed number none h n cs k e =
     let c = numbered_from I.Client 0 cs in
     let e1 : number (first_named (c ++ []) n) ≡ Some k = ap (λ l. number (first_named l n)) (append-nil c) ∙ e in
@@ -214,7 +214,7 @@ IsAmong n ds = is_in n (map (λ d. d.name) ds) ≡ true
 
 the_object : (n i : ℕ) (os : List ObjectDecl) (more : List GlobalName) (k : ℕ) → (object_number (first_named more n) ≡ Some k → ⊥) →
     object_number (first_named (numbered_from I.Object i (map (λ d. d.name) os) ++ more) n) ≡ Some k → IsAmong n (map declared_object os)
-unfolding words
+unfolding definitions
 the_object n i [] more k none e = absurd (none e)
 the_object n i (d ∷ os) more k none e = by_case (d.name.name == n) (the_object n (i + 1) os more k none) e
   where
@@ -231,13 +231,13 @@ record There (qs : List s.RelationDecl) (i n k : ℕ) : Type 0 where
   fields : field_names (slice_get qs place) ≡ map (λ (d : Declared). d.name) (find_fields (map declared_relation qs) n)
 
 field_names_of : (ds : List RangeDecl) → map (λ (d : RangeDecl). d.name.name) ds ≡ map (λ (d : Declared). d.name) (map declared_range ds)
-unfolding words
+unfolding definitions
 field_names_of [] = refl
 field_names_of (d ∷ ds) = ap (λ l. d.name.name ∷ l) (field_names_of ds)
 
 the_relation : (n i : ℕ) (qs : List s.RelationDecl) (more : List GlobalName) (k : ℕ) → (relation_number (first_named more n) ≡ Some k → ⊥) →
     relation_number (first_named (numbered_from I.Relation i (map (λ q. q.name) qs) ++ more) n) ≡ Some k → There qs i n k
-unfolding words
+unfolding definitions
 the_relation n i [] more k none e = absurd (none e)
 the_relation n i (q ∷ qs) more k none e = found_in (q.name.name == n) refl (the_relation n (i + 1) qs more k none) e
   where
@@ -268,7 +268,7 @@ the_relation n i (q ∷ qs) more k none e = found_in (q.name.name == n) refl (th
 
 -- the global names as four lists, one after another
 abbrev after_objects : s.Workload → List GlobalName
-unfolding words
+unfolding definitions
 after_objects w =
     numbered_from I.Relation 0 (map (λ (d : s.RelationDecl). d.name) w.relations)
     ++ (numbered_from I.Transaction 0 (map (λ (d : s.Transaction). d.name) w.transactions)
@@ -276,7 +276,7 @@ after_objects w =
 
 grouped : (w : s.Workload) (n : ℕ) → (scope_of w).item n ≡ first_named
     (numbered_from I.Object 0 (map (λ (d : ObjectDecl). d.name) w.objects) ++ after_objects w) n
-unfolding words
+unfolding definitions
 grouped w n =
     let o = numbered_from I.Object 0 (map (λ (d : ObjectDecl). d.name) w.objects) in
     let r = numbered_from I.Relation 0 (map (λ (d : s.RelationDecl). d.name) w.relations) in
@@ -285,7 +285,7 @@ grouped w n =
     ap (λ (l : List GlobalName). first_named l n) (append_assoc (o ++ r) t c ∙ append_assoc o r (t ++ c))
 
 pub object_among : (w : s.Workload) (n k : ℕ) → (scope_of w).item n ≡ Some (I.Object k) → IsAmong n (schema_of w).objects
-unfolding words
+unfolding definitions
 object_among w n k e =
     let ts : List Ident = map (λ (d : s.Transaction). d.name) w.transactions in
     let cs : List Ident = map (λ (d : s.Client). d.name) w.clients in
@@ -299,7 +299,7 @@ object_among w n k e =
 -- the scope's fields of a relation are those of the schema
 pub same_fields : (w : s.Workload) (n k : ℕ) → (scope_of w).item n ≡ Some (I.Relation k)
     → (scope_of w).fields k ≡ map (λ (d : Declared). d.name) (find_fields (schema_of w).relations n)
-unfolding words
+unfolding definitions
 same_fields w n k e =
     let os : List Ident = map (λ (d : ObjectDecl). d.name) w.objects in
     let ts : List Ident = map (λ (d : s.Transaction). d.name) w.transactions in

@@ -7,7 +7,7 @@ use Rattle.std.proofs.lemmas.Bool.{and_parts}
 use Rattle.std.proofs.lemmas.Bool.Decides.{nat_tests}
 use Rattle.homeo_syntax.specs.Low.{Expr, Exprs, Literal, OfTemp, Read, Sum, Product, Neg, NoExpr, MoreExpr, Test, Cond, True, Not, Comparison, NoTest, MoreTest, Command, Commands, Skip, Assign, Write, Print, Seq, If, NoCommand, MoreCommand}
 use Rattle.homeo_syntax.specs.Source as s
-use Rattle.homeo_meaning.specs.Key.{words}
+use Rattle.homeo_meaning.specs.Key.{definitions}
 use Rattle.homeo_meaning.specs.LForm.{l_form}
 use Rattle.homeo_meaning.specs.LowMeaning.{Location, TempAt, BaseAt, DeltaAt, location_of, same_location, State, Run, put, value, sum_value, product_value, holds, exec, exec_all, whole}
 use Rattle.homeo_meaning.specs.Schema.{Schema}
@@ -34,7 +34,7 @@ factor_le a k p = omega (arith, mul-le a 1 a k (omega arith) p)
 
 module _ (w : Location → ℕ) (ones : (p : Location) → 1 ≤ w p) where
   mutual
-    unfolding words
+    unfolding definitions
 
     one_weight : (e : Expr) → 1 ≤ weight e w
     one_weight (Literal n) = omega arith
@@ -49,7 +49,7 @@ module _ (w : Location → ℕ) (ones : (p : Location) → 1 ≤ w p) where
     one_product (MoreExpr e es) = one_mul (weight e w) (product_weight es w) (one_weight e) (one_product es)
 
 weight_small : (b : ℕ) (w : Location → ℕ) (e : Expr) → is_light_expr b e w ≡ true → weight e w ≤ b
-unfolding words
+unfolding definitions
 weight_small b w e h = grind (arith, nat_tests)
 
 record Light (b : ℕ) (Can : Type 0) (v : ℤ) (n : ℕ) : Type 0 where
@@ -58,7 +58,7 @@ record Light (b : ℕ) (Can : Type 0) (v : ℤ) (n : ℕ) : Type 0 where
 
 module _ (b : ℕ) (w : Location → ℕ) (s : State) (c : Covers w s) where
   mutual
-    unfolding words
+    unfolding definitions
 
     light : (e : Expr) → weight e w ≤ b → Light b (CanValue (IsSmall b) (IsSmall b) e s) (value e s) (weight e w)
     light (Literal n) h = record { can = omega (arith, h); size = omega arith }
@@ -99,7 +99,7 @@ module _ (b : ℕ) (w : Location → ℕ) (s : State) (c : Covers w s) where
         record { can = (l.can, omega (arith, here, part, h), r.can); size = omega (arith, r.size) }
 
   mutual
-    unfolding words
+    unfolding definitions
 
     light_test : (t : Test) → is_light_test b t w ≡ true → CanPass (IsSmall b) (IsSmall b) t s
     light_test True h = tt
@@ -115,7 +115,7 @@ module _ (b : ℕ) (w : Location → ℕ) (s : State) (c : Covers w s) where
         (light_test t parts.0, light_cond d parts.1)
 
 covers_put : (w : Location → ℕ) (s : State) (p : Location) (v : ℤ) (n : ℕ) → Covers w s → unsigned_abs v ≤ n → 1 ≤ n → Covers (put w p n) (put s p v)
-unfolding words
+unfolding definitions
 covers_put w s p v n c h one = record { size = λ q. size q (same_location p q); one = λ q. one_at q (same_location p q) }
   where
     size : (q : Location) (b : Bool) → unsigned_abs (cond b v (s q)) ≤ cond b n (w q)
@@ -127,7 +127,7 @@ covers_put w s p v n c h one = record { size = λ q. size q (same_location p q);
     one_at q false = c.one q
 
 covers_if : (w w' : Location → ℕ) (v : Bool) (r r' : Run) → Covers w r.state → Covers w' r'.state → Covers (λ p. max (w p) (w' p)) (cond v r r').state
-unfolding words
+unfolding definitions
 covers_if w w' true r r' c c' = record { size = λ p. omega (arith, c.size p); one = λ p. omega (arith, c.one p) }
 covers_if w w' false r r' c c' = record { size = λ p. omega (arith, c'.size p); one = λ p. omega (arith, c'.one p) }
 
@@ -138,7 +138,7 @@ put_covered : (p : Location) (e : Expr) (w : Location → ℕ) (s : State) → C
 put_covered p e w s c = covers_put w s p (value e s) (weight e w) c (value_covered e w s c) (one_weight w c.one e)
 
 mutual
-  unfolding words
+  unfolding definitions
 
   pub run_covered : (c : Command) (w : Location → ℕ) (s : State) → Covers w s → Covers (after c w) (exec c s).state
   run_covered Skip w s k = k
@@ -158,7 +158,7 @@ module _ (b : ℕ) where
   value_light e w s k h = (light b w s k e (weight_small b w e h)).can
 
   mutual
-    unfolding words
+    unfolding definitions
 
     run_light : (c : Command) (w : Location → ℕ) (s : State) → Covers w s → is_light b c w ≡ true → CanRun (IsSmall b) (IsSmall b) c s
     run_light Skip w s k h = tt
@@ -178,23 +178,23 @@ module _ (b : ℕ) where
         (run_light c w s k parts.0, all_light cs (after c w) (exec c s).state (run_covered c w s k) parts.1)
 
 in_size : (x : Bounds) (v : ℤ) → IsIn x v → unsigned_abs v ≤ bounds_weight x
-unfolding words
+unfolding definitions
 in_size x v h = grind (arith, ints, h.0, h.1)
 
 size_at : (bs : List Bounds) (n : ℕ) (v : ℤ) → IsIn (bounds_at bs n) v → unsigned_abs v ≤ weight_at bs n
-unfolding words
+unfolding definitions
 size_at [] n v h = grind (arith, ints, h.0, h.1)
 size_at (b ∷ bs) zero v h = in_size b v h
 size_at (b ∷ bs) (suc n) v h = size_at bs n v h
 
 one_at : (bs : List Bounds) (n : ℕ) → 1 ≤ weight_at bs n
-unfolding words
+unfolding definitions
 one_at [] n = omega arith
 one_at (b ∷ bs) zero = omega arith
 one_at (b ∷ bs) (suc n) = one_at bs n
 
 pub covers_start : (x : Schema) (database : ℕ → ℤ) → AllWithin x database → Covers (first_weights x) (whole database)
-unfolding words
+unfolding definitions
 covers_start x database h = record { size = size; one = one }
   where
     size : (p : Location) → unsigned_abs (whole database p) ≤ first_weights x p
@@ -209,7 +209,7 @@ covers_start x database h = record { size = size; one = one }
 
 pub light_law : (b : ℕ) (x : Schema) (params : List ℕ) (args : List ℤ) (body : s.Commands) (database : ℕ → ℤ) → AllWithin x database
     → is_light b (l_form x params args body) (first_weights x) ≡ true → ComputesSmall b x params args body database
-unfolding words
+unfolding definitions
 light_law b x params args body database h l =
     let form = run_light b (l_form x params args body) (first_weights x) (whole database) (covers_start x database h) l in
     record { form = form; program = values_law (IsSmall b) (IsSmall b) x params args body database form }

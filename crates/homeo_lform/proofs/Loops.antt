@@ -3,7 +3,7 @@ use Rattle.std.proofs.Common.{◌≡◌, ℕ, suc, ◌<◌, ◌≤◌, Bool, tru
 use Rattle.std.proofs.lemmas.Int.{ints}
 use Rattle.homeo_syntax.specs.declared.low.Temp.TheVariants as temp
 use Rattle.homeo_syntax.specs.Low as L
-use Rattle.homeo_meaning.specs.Key.{words}
+use Rattle.homeo_meaning.specs.Key.{definitions}
 use Rattle.homeo_meaning.specs.LowMeaning as M
 use Rattle.homeo_meaning.specs.Context.{Slot}
 use Rattle.homeo_meaning.specs.Meaning.{State, is_used, added}
@@ -12,16 +12,16 @@ use Rattle.homeo_lform.proofs.Lifts.{seen, seen_run, quiet, at_fresh, Alike, Lif
 
 -- the test of a loop at one slot
 abbrev pub loop_test : Slot → L.Cond → L.Cond
-unfolding words
+unfolding definitions
 loop_test slot b = L.MoreTest (equal (read slot.used) (pos 1)) b
 
 pub tested : (slot : Slot) (p : State → Bool) (m : ℕ) (s : M.State) (x : Lifted L.Cond) → (k : Lifts m s x M.holds p) → M.holds (loop_test slot x.phrase) k.after ≡ is_used (seen s) slot && p (seen s)
-unfolding words
+unfolding definitions
 tested slot p m s x k =
     ap₂ ◌&&◌ (ap (λ t. is_used t slot) k.alike.sees) (k.means k.after (alike_self x.next k.after))
 
 pub seen_choice : (b : Bool) (r r' : M.Run) → seen_run (cond b r r') ≡ cond b (seen_run r) (seen_run r')
-unfolding words
+unfolding definitions
 seen_choice true r r' = refl
 seen_choice false r r' = refl
 
@@ -34,7 +34,7 @@ record Counts (n m : ℕ) (s : M.State) (x : AllMade) (total : ℤ) : Type 0 whe
   counts : at_fresh n after ≡ total
 
 abbrev pub add_term : ℕ → L.Expr → L.Command
-unfolding words
+unfolding definitions
 add_term n e = L.Assign (temp.Fresh n) (L.Sum (L.MoreExpr (fresh n) (L.MoreExpr e L.NoExpr)))
 
 pub record Adds (n : ℕ) (a : M.State) (r : M.Run) (total : ℤ) : Type 0 where
@@ -44,7 +44,7 @@ pub record Adds (n : ℕ) (a : M.State) (r : M.Run) (total : ℤ) : Type 0 where
   pub counts : at_fresh n after ≡ total
 
 pub adds : (n : ℕ) (e : L.Expr) (a : M.State) (q : ℤ) (b : Bool) → M.value e a ≡ q → Adds n a (cond b (M.exec (add_term n e) a) (quiet a)) (cond b (at_fresh n a +ℤ q) (at_fresh n a))
-unfolding words
+unfolding definitions
 adds n e a q true h =
     let v = (pos 0 +ℤ at_fresh n a) +ℤ M.value e a in
     record {
@@ -67,7 +67,7 @@ module _ (test : Slot → ℕ → Lifted L.Cond) (p : Slot → State → Bool) (
     total_of t all z = added (passes_at t) (λ slot. q slot t) all z
 
     counts_all : (all : List Slot) (n m : ℕ) → n < m → (s : M.State) → Counts n m s (visits false false test (term_body n) all m) (total_of (seen s) all (at_fresh n s))
-    unfolding words
+    unfolding definitions
     counts_all [] n m lt s = record { after = s; runs = refl; grows = omega arith; alike = alike_self n s; counts = refl }
     counts_all (slot ∷ more) n m lt s =
         let b = test slot m in
@@ -92,7 +92,7 @@ module _ (test : Slot → ℕ → Lifted L.Cond) (p : Slot → State → Bool) (
         }
 
     pub counted_lifts : (all : List Slot) (n : ℕ) (s : M.State) → Lifts n s (counted test term all n) M.value (λ t. total_of t all (pos 0))
-    unfolding words
+    unfolding definitions
     counted_lifts all n s =
         let a = M.put s (M.TempAt (temp.Fresh n)) (pos 0) in
         let k = counts_all all n (suc n) (omega arith) a in

@@ -7,13 +7,13 @@ use Rattle.homeo_meaning.specs.Ground.{Ground}
 use Rattle.homeo_meaning.specs.LForm.{l_form}
 use Rattle.homeo_meaning.specs.LowMeaning.{exec, whole}
 use Rattle.homeo_meaning.specs.Meaning.{run}
-use Rattle.homeo_meaning.specs.Key.{words}
+use Rattle.homeo_meaning.specs.Key.{definitions}
 use Rattle.homeo_meaning.specs.CallForm.{body_form, ground_form}
 use Rattle.homeo_meaning.specs.SameRun.{IsSameRun, MeansCall}
 use Rattle.homeo_lform.proofs.FormLaw.{form_law}
 
 pub means : (w : s.Workload) (g : Ground) (c : L.Command) → c ≡ ground_form w g → MeansCall w g c
-unfolding words
+unfolding definitions
 means w g c e t database there =
     let is : l_form (schema_of w) (map (λ p. p.name.name) t.params) g.args t.body ≡ c = sym (e ∙ ap (λ o. body_form w o g.args) there) in
     subst (λ l. IsSameRun (exec l (whole database)) (run (schema_of w) (map (λ p. p.name.name) t.params) g.args t.body database)) is

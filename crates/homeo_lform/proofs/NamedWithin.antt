@@ -8,10 +8,10 @@ use Rattle.homeo_syntax.specs.declared.low.SplitName.TheVariants as split
 use Rattle.homeo_syntax.specs.declared.phrase.Ident.{Ident}
 use Rattle.homeo_syntax.specs.Low as L
 use Rattle.homeo_syntax.specs.Source as s
-use Rattle.homeo_syntax.specs.Key.{words as tree_words}
+use Rattle.homeo_syntax.specs.Key.{definitions as syntax_definitions}
 use Rattle.homeo_syntax.specs.WellFormed as f
 use Rattle.homeo_syntax.specs.WellFormed.{EachInExpr, EachInExprs, EachInTest, EachInCond, EachInFields, EachInCommand, EachInCommands, IsBelow}
-use Rattle.homeo_meaning.specs.Key.{words}
+use Rattle.homeo_meaning.specs.Key.{definitions}
 use Rattle.homeo_meaning.specs.declared.call.Purpose.TheVariants.{Run}
 use Rattle.homeo_meaning.specs.declared.rules.Fault.{Fault}
 use Rattle.homeo_meaning.specs.declared.rules.Item.TheVariants as I
@@ -24,7 +24,7 @@ use Rattle.homeo_meaning.specs.Occurrences.{at, within, TakesField, Assigns, in_
 use Rattle.homeo_meaning.specs.ListRules.{is_in}
 use Rattle.homeo_meaning.specs.Aborts.{holds_abort, hold_abort}
 use Rattle.homeo_meaning.specs.LowWrites.{object_in, with_number, written, all_written}
-use Rattle.homeo_meaning.specs.LForm.{Lifted, Made, both, one, in_front, guard, in_turn, joined, visits, counted, read_chain, read_slot, literal_of, indexed_by, name_of, lift, lift_all, lift_test, lift_cond, write_to, write_field, write_chain, write_at, write_by, Target, stored, lift_values, all_within, field_writes, fill_chain, as_one, clear, form, forms, saves, restores, saved_in, body_by}
+use Rattle.homeo_meaning.specs.LForm.{Lifted, Made, both, one, in_front, guard, in_turn, combined, visits, counted, read_chain, read_slot, literal_of, indexed_by, name_of, lift, lift_all, lift_test, lift_cond, write_to, write_field, write_chain, write_at, write_by, Target, stored, lift_values, all_within, field_writes, fill_chain, as_one, clear, form, forms, saves, restores, saved_in, body_by}
 use Rattle.homeo_meaning.specs.NumberRules.{range_bounds}
 use Rattle.homeo_meaning.specs.GlobalNames.{scope_of}
 use Rattle.homeo_meaning.specs.TransactionRules.{transaction_faults}
@@ -39,7 +39,7 @@ use Rattle.homeo_lform.proofs.ObjectBounds.{Each, ForSome, each_first, relations
 
 -- ---- objects by their names
 spot_below : (k : ℕ) (ds : List Declared) (n : ℕ) → IsAmong n ds → (spot_from k ds n).place < k + length ds
-unfolding words
+unfolding definitions
 spot_below k [] n h = cc
 spot_below k (d ∷ ds) n h = by_case (d.name == n) (spot_below (suc k) ds n) h
   where
@@ -60,14 +60,14 @@ count_grows : (k : ℕ) (rs : List Relation) → k ≤ object_count k rs
 count_grows k rs = omega (arith, relations_count k rs)
 
 slots_below : (objects k first : ℕ) (ds : List Declared) (n : ℕ) → first + n * (1 + length ds) ≤ objects → Each (SlotBelow objects ds) (slots_from k first ds n)
-unfolding words
+unfolding definitions
 slots_below objects k first ds zero h = tt
 slots_below objects k first ds (suc n) h =
     let next : first + (1 + length ds) + n * (1 + length ds) ≤ objects = omega arith in
     (record { room = omega arith; own = refl }, slots_below objects (suc k) (first + (1 + length ds)) ds n next)
 
 found_below : (first : ℕ) (rs : List Relation) (q : ℕ) → Each (SlotBelow (object_count first rs) (find_fields rs q)) (find_slots first rs q)
-unfolding words
+unfolding definitions
 found_below first [] q = tt
 found_below first (r ∷ rs) q = by_case (r.name == q) (found_below next rs q)
   where
@@ -91,7 +91,7 @@ record Stands (sc : Scope) (objects : ℕ) (rows : List b.Row) (x : Context) : T
 module _ (sc : Scope) (objects names : ℕ) where
   stands_in : (rows : List b.Row) (x : Context) (r q : Ident) (slot : Slot) → Stands sc objects rows x → Numbered sc q.name
       → SlotBelow objects (fields x q.name) slot → Stands sc objects (within r q rows) (bind x r.name slot)
-  unfolding words
+  unfolding definitions
   stands_in rows x r q slot h k below =
       record {
         one_object = h.one_object;
@@ -109,22 +109,22 @@ module _ (sc : Scope) (objects names : ℕ) where
       by_case n p false rest e = rest e
 
   field_below : (rows : List b.Row) (x : Context) (q f : ℕ) → Stands sc objects rows x → FieldNamed sc q f → (spot (fields x q) f).place < length (fields x q)
-  unfolding words
+  unfolding definitions
   field_below rows x q f h k =
       let among : IsAmong f (fields x q) = subst (λ l. is_in f l ≡ true) (h.alike q k.relation.number k.relation.is) k.field in
       omega (arith, spot_below 0 (fields x q) f among)
 
   cell_below : (ds : List Declared) (slot : Slot) (f : Spot) → SlotBelow objects ds slot → f.place < length ds → cell slot f < objects
-  unfolding words
+  unfolding definitions
   cell_below ds slot f h below = omega (arith, h.room)
 
   own_below : (ds : List Declared) (slot : Slot) (f : ℕ) → SlotBelow objects ds slot → (spot ds f).place < length ds → field_cell slot f < objects
-  unfolding words
+  unfolding definitions
   own_below ds slot f h below = cell_below ds slot (spot slot.fields f) h (subst (λ l. (spot l f).place < length ds) (sym h.own) below)
 
   row_below : (rows : List b.Row) (x : Context) (r f : Ident) → Stands sc objects rows x → Clean sc (at rows (TakesField r f))
       → field_cell (x.rows r.name) f.name < objects
-  unfolding words
+  unfolding definitions
   row_below rows x r f h c =
       let is : RowFieldNamed sc rows r.name f.name = row_field_named sc rows r f h.numbered c in
       own_below (fields x is.relation) (x.rows r.name) f.name (h.row r.name is.relation is.in_force) (field_below rows x is.relation f.name h is.field)
@@ -144,30 +144,30 @@ module _ (sc : Scope) (objects names : ℕ) where
   In = NamesWithin objects names
 
   both_in : (cs ds : L.Commands) → AllNamesWithin objects names cs → AllNamesWithin objects names ds → AllNamesWithin objects names (both cs ds)
-  unfolding words
+  unfolding definitions
   both_in L.NoCommand ds h k = k
   both_in (L.MoreCommand c cs) ds h k = (h.0, both_in cs ds h.1 k)
 
   front_in : (cs : L.Commands) (c : L.Command) → AllNamesWithin objects names cs → In c → In (in_front cs c)
-  unfolding words
+  unfolding definitions
   front_in L.NoCommand c h k = k
   front_in (L.MoreCommand b bs) c h k = (h.0, both_in bs (one c) h.1 (k, tt))
 
   turn_in : (g : Bool) (before : L.Commands) (c : L.Command) (more : L.Commands) → AllNamesWithin objects names before → In c
       → AllNamesWithin objects names more → AllNamesWithin objects names (in_turn g before c more)
-  unfolding words
+  unfolding definitions
   turn_in true before c more h k l = ((((tt, tt), tt), front_in before c h k, tt), l)
   turn_in false before c more h k l = both_in before (L.MoreCommand c more) h (k, l)
 
   guard_in : (g : Bool) (c : L.Command) → In c → In (guard g c)
-  unfolding words
+  unfolding definitions
   guard_in true c h = (((tt, tt), tt), h, tt)
   guard_in false c h = h
 
-  joined_in : {A B C : Type 0} (P : A → Type 0) (Q : B → Type 0) (R : C → Type 0) (f : A → B → C) → ((a : A) (b : B) → P a → Q b → R (f a b))
-      → (x : Lifted A) (y : ℕ → Lifted B) → Inside P x → ((m : ℕ) → Inside Q (y m)) → Inside R (joined f x y)
-  unfolding words
-  joined_in P Q R f h x y k l =
+  combined_in : {A B C : Type 0} (P : A → Type 0) (Q : B → Type 0) (R : C → Type 0) (f : A → B → C) → ((a : A) (b : B) → P a → Q b → R (f a b))
+      → (x : Lifted A) (y : ℕ → Lifted B) → Inside P x → ((m : ℕ) → Inside Q (y m)) → Inside R (combined f x y)
+  unfolding definitions
+  combined_in P Q R f h x y k l =
       record { before = both_in x.before (y x.next).before k.before (l x.next).before; phrase = h x.phrase (y x.next).phrase k.phrase (l x.next).phrase }
 
   module _ (ds : List Declared) where
@@ -178,7 +178,7 @@ module _ (sc : Scope) (objects names : ℕ) where
         → ((slot : Slot) (m : ℕ) → SlotBelow objects ds slot → Inside InCond (test slot m))
         → ((slot : Slot) (m : ℕ) → SlotBelow objects ds slot → In (body slot m).command)
         → (all : List Slot) (g later : Bool) (n : ℕ) → Each (SlotBelow objects ds) all → AllNamesWithin objects names (visits g later test body all n).commands
-    unfolding words
+    unfolding definitions
     visits_in test body h k [] g later n below = tt
     visits_in test body h k (slot ∷ more) g later n below =
         let b = test slot n in
@@ -190,7 +190,7 @@ module _ (sc : Scope) (objects names : ℕ) where
         → ((slot : Slot) (m : ℕ) → SlotBelow objects ds slot → Inside InCond (test slot m))
         → ((slot : Slot) → SlotBelow objects ds slot → InExpr (term slot))
         → (all : List Slot) (n : ℕ) → Each (SlotBelow objects ds) all → Inside InExpr (counted test term all n)
-    unfolding words
+    unfolding definitions
     counted_in test term h k all n below =
         let body : Slot → ℕ → Made = λ slot m. record {
           command = L.Assign (temp.Fresh n)
@@ -201,30 +201,30 @@ module _ (sc : Scope) (objects names : ℕ) where
 
     read_chain_in : (f : Spot) (e : L.Expr) (t : ℕ) (all : List Slot) → f.place < length ds → InExpr e → Each (SlotBelow objects ds) all
         → In (read_chain f e t all)
-    unfolding words
+    unfolding definitions
     read_chain_in f e t [] p h below = (tt, tt)
     read_chain_in f e t (slot ∷ more) p h below =
         (((h, tt), tt), (tt, cell_below ds slot f below.0 p), read_chain_in f e t more p h below.1)
 
     read_slot_in : (f : Spot) (o : Option Slot) → f.place < length ds → ForSome (SlotBelow objects ds) o → InExpr (read_slot f o)
-    unfolding words
+    unfolding definitions
     read_slot_in f (Some slot) p h = cell_below ds slot f h p
     read_slot_in f None p h = tt
 
     indexed_in : (o : Option ℤ) (all : List Slot) (f : Spot) (x : Lifted L.Expr) → f.place < length ds → Each (SlotBelow objects ds) all
         → Inside InExpr x → Inside InExpr (indexed_by o all f x)
-    unfolding words
+    unfolding definitions
     indexed_in (Some v) all f x p below h = record { before = tt; phrase = read_slot_in f (slot_at v all) p (each_first (SlotBelow objects ds) _ all below) }
     indexed_in None all f x p below h =
         record { before = both_in x.before _ h.before (read_chain_in f x.phrase x.next all p h.phrase below, tt); phrase = tt }
 
   name_in : (o : Option ℤ) (n : ℕ) → n < names → InExpr (name_of o n)
-  unfolding words
+  unfolding definitions
   name_in (Some v) n h = tt
   name_in None n h = h
 
   mutual
-    unfolding words tree_words
+    unfolding definitions syntax_definitions
 
     lift_in : (rows : List b.Row) (x : Context) (e : s.Expr) (n : ℕ) → Stands sc objects rows x → AllClean sc (in_expr rows e)
         → EachInExpr (IsBelow names) e → Inside InExpr (lift x e n)
@@ -257,7 +257,7 @@ module _ (sc : Scope) (objects names : ℕ) where
         → EachInExprs (IsBelow names) es → Inside (ExprsWithin objects names) (lift_all x es n)
     lift_all_in rows x s.NoExpr n h c k = record { before = tt; phrase = tt }
     lift_all_in rows x (s.MoreExpr e es) n h c k =
-        joined_in InExpr (ExprsWithin objects names) (ExprsWithin objects names) L.MoreExpr (λ a b p q. (p, q)) (lift x e n) (lift_all x es)
+        combined_in InExpr (ExprsWithin objects names) (ExprsWithin objects names) L.MoreExpr (λ a b p q. (p, q)) (lift x e n) (lift_all x es)
         (lift_in rows x e n h (clean_first sc (in_expr rows e) (in_exprs rows es) c) k.0)
         (λ m. lift_all_in rows x es m h (clean_second sc (in_expr rows e) (in_exprs rows es) c) k.1)
 
@@ -266,7 +266,7 @@ module _ (sc : Scope) (objects names : ℕ) where
     lift_test_in rows x s.True n h c k = record { before = tt; phrase = tt }
     lift_test_in rows x (s.Not t) n h c k = let l = lift_cond_in rows x t n h c k in record { before = l.before; phrase = l.phrase }
     lift_test_in rows x (s.Comparison op d e) n h c k =
-        joined_in InExpr InExpr (TestWithin objects names) (L.Comparison op) (λ a b p q. (p, q)) (lift x d n) (lift x e)
+        combined_in InExpr InExpr (TestWithin objects names) (L.Comparison op) (λ a b p q. (p, q)) (lift x d n) (lift x e)
         (lift_in rows x d n h (clean_first sc (in_expr rows d) (in_expr rows e) c) k.0)
         (λ m. lift_in rows x e m h (clean_second sc (in_expr rows d) (in_expr rows e) c) k.1)
 
@@ -274,32 +274,32 @@ module _ (sc : Scope) (objects names : ℕ) where
         → EachInCond (IsBelow names) t → Inside InCond (lift_cond x t n)
     lift_cond_in rows x s.NoTest n h c k = record { before = tt; phrase = tt }
     lift_cond_in rows x (s.MoreTest t ts) n h c k =
-        joined_in (TestWithin objects names) InCond InCond L.MoreTest (λ a b p q. (p, q)) (lift_test x t n) (lift_cond x ts)
+        combined_in (TestWithin objects names) InCond InCond L.MoreTest (λ a b p q. (p, q)) (lift_test x t n) (lift_cond x ts)
         (lift_test_in rows x t n h (clean_first sc (in_test rows t) (in_cond rows ts) c) k.0)
         (λ m. lift_cond_in rows x ts m h (clean_second sc (in_test rows t) (in_cond rows ts) c) k.1)
 
   -- ---- commands
   write_in : (b : Spot) (x : ℕ) (e : Lifted L.Expr) → x < objects → Inside InExpr e → In (write_to b x e).command
-  unfolding words
+  unfolding definitions
   write_in b x e below h = front_in e.before _ h.before (((tt, h.phrase), ((h.phrase, tt), tt)), (below, h.phrase), tt)
 
   module _ (ds : List Declared) where
     write_chain_in : (f : Spot) (i e : L.Expr) (all : List Slot) → f.place < length ds → InExpr i → InExpr e → Each (SlotBelow objects ds) all
         → In (write_chain f i e all)
-    unfolding words
+    unfolding definitions
     write_chain_in f i e [] p h k below = tt
     write_chain_in f i e (slot ∷ more) p h k below =
         (((h, tt), tt), (cell_below ds slot f below.0 p, k), write_chain_in f i e more p h k below.1)
 
     write_at_in : (o : Option Slot) (f : Spot) (n : ℕ) (y : ℕ → Lifted L.Expr) → f.place < length ds → ForSome (SlotBelow objects ds) o
         → ((m : ℕ) → Inside InExpr (y m)) → In (write_at o f n y).command
-    unfolding words
+    unfolding definitions
     write_at_in None f n y p below h = tt
     write_at_in (Some slot) f n y p below h = write_in f (cell slot f) (y n) (cell_below ds slot f below p) (h n)
 
     write_by_in : (o : Option ℤ) (all : List Slot) (f : Spot) (x : Lifted L.Expr) (y : ℕ → Lifted L.Expr) → f.place < length ds
         → Each (SlotBelow objects ds) all → Inside InExpr x → ((m : ℕ) → Inside InExpr (y m)) → In (write_by o all f x y).command
-    unfolding words
+    unfolding definitions
     write_by_in (Some v) all f x y p below h k = write_at_in (slot_at v all) f x.next y p (each_first (SlotBelow objects ds) _ all below) k
     write_by_in None all f x y p below h k =
         let e = (y x.next).phrase in
@@ -312,18 +312,18 @@ module _ (sc : Scope) (objects names : ℕ) where
     TargetsBelow (t ∷ ts) = (t.field.place < length ds) × TargetsBelow ts
 
     targets_in : (ts : List Target) → InCond (all_within ts)
-    unfolding words
+    unfolding definitions
     targets_in [] = tt
     targets_in (t ∷ ts) = ((tt, tt), ((tt, tt), targets_in ts))
 
     field_writes_in : (slot : Slot) (ts : List Target) (cs : L.Commands) → SlotBelow objects ds slot → TargetsBelow ts
         → AllNamesWithin objects names cs → AllNamesWithin objects names (field_writes slot ts cs)
-    unfolding words
+    unfolding definitions
     field_writes_in slot [] cs below h k = k
     field_writes_in slot (t ∷ ts) cs below h k = ((cell_below ds slot t.field below h.0, tt), field_writes_in slot ts cs below h.1 k)
 
     fill_chain_in : (ts : List Target) (t : ℕ) (all : List Slot) → TargetsBelow ts → t < names → Each (SlotBelow objects ds) all → In (fill_chain ts t all)
-    unfolding words
+    unfolding definitions
     fill_chain_in ts t [] h name below = (name, tt)
     fill_chain_in ts t (slot ∷ more) h name below =
         let used = used_below ds slot below.0 in
@@ -331,18 +331,18 @@ module _ (sc : Scope) (objects names : ℕ) where
 
   values_in : (rows : List b.Row) (x : Context) (q : ℕ) (fs : List s.FieldValue) (n : ℕ) → Stands sc objects rows x → AllFieldsNamed sc q fs
       → AllClean sc (in_fields rows fs) → EachInFields (IsBelow names) fs → Inside (TargetsBelow (fields x q)) (lift_values x (fields x q) fs n)
-  unfolding words tree_words
+  unfolding definitions syntax_definitions
   values_in rows x q [] n h named c k = record { before = tt; phrase = tt }
   values_in rows x q (f ∷ fs) n h named c k =
       let ds = fields x q in
       let value : Inside InExpr (lift x f.value n) = lift_in rows x f.value n h (clean_first sc (in_expr rows f.value) (in_fields rows fs) c) k.1 in
-      joined_in (λ (t : Target). t.field.place < length ds) (TargetsBelow ds) (TargetsBelow ds) ◌∷◌ (λ a b p q. (p, q))
+      combined_in (λ (t : Target). t.field.place < length ds) (TargetsBelow ds) (TargetsBelow ds) ◌∷◌ (λ a b p q. (p, q))
       (stored (spot ds f.field.name) (lift x f.value n)) (lift_values x ds fs)
       (record { before = both_in (lift x f.value n).before _ value.before ((tt, value.phrase), tt); phrase = field_below rows x q f.field.name h named.0 })
       (λ m. values_in rows x q fs m h named.1 (clean_second sc (in_expr rows f.value) (in_fields rows fs) c) k.2)
 
   mutual
-    unfolding words tree_words
+    unfolding definitions syntax_definitions
 
     form_in : (rows : List b.Row) (x : Context) (c : s.Command) (n : ℕ) → Stands sc objects rows x → AllClean sc (in_command rows c)
         → EachInCommand (IsBelow names) c → In (form x c n).command
@@ -433,7 +433,7 @@ module _ (sc : Scope) (objects names : ℕ) where
   AllBelow (x ∷ xs) = (x < objects) × AllBelow xs
 
   number_below : (n : ℕ) (xs : List ℕ) → n < objects → AllBelow xs → AllBelow (with_number n xs)
-  unfolding words
+  unfolding definitions
   number_below n [] h k = (h, tt)
   number_below n (m ∷ ms) h k = by_case (nat_lt n m) (n == m) (number_below n ms h k.1)
     where
@@ -443,13 +443,13 @@ module _ (sc : Scope) (objects names : ℕ) where
       by_case false false ih = (k.0, ih)
 
   name_below : (x : SplitName) (xs : List ℕ) → ObjectWithin objects names x → AllBelow xs → AllBelow (with_number (object_in x) xs)
-  unfolding words
+  unfolding definitions
   name_below (split.Whole x) xs h k = number_below x xs h k
   name_below (split.Base x) xs h k = number_below x xs h k
   name_below (split.Delta x j) xs h k = number_below x xs h k
 
   mutual
-    unfolding words
+    unfolding definitions
 
     written_below : (c : L.Command) (xs : List ℕ) → In c → AllBelow xs → AllBelow (written c xs)
     written_below L.Skip xs h k = k
@@ -464,17 +464,17 @@ module _ (sc : Scope) (objects names : ℕ) where
     all_written_below (L.MoreCommand c cs) xs h k = all_written_below cs (written c xs) h.1 (written_below c xs h.0 k)
 
   saves_in : (n : ℕ) (xs : List ℕ) (more : L.Commands) → AllBelow xs → AllNamesWithin objects names more → AllNamesWithin objects names (saves n xs more)
-  unfolding words
+  unfolding definitions
   saves_in n [] more h k = k
   saves_in n (x ∷ xs) more h k = ((tt, h.0), saves_in (suc n) xs more h.1 k)
 
   restores_in : (n : ℕ) (xs : List ℕ) → AllBelow xs → AllNamesWithin objects names (restores n xs)
-  unfolding words
+  unfolding definitions
   restores_in n [] h = tt
   restores_in n (x ∷ xs) h = ((h.0, tt), restores_in (suc n) xs h.1)
 
   body_in : (v : Bool) (x : Context) (cs : s.Commands) → ((n : ℕ) → AllNamesWithin objects names (forms x false cs n).commands) → In (body_by v x cs)
-  unfolding words
+  unfolding definitions
   body_in false x cs h = h 0
   body_in true x cs h =
       let saved = saved_in x cs in
@@ -483,7 +483,7 @@ module _ (sc : Scope) (objects names : ℕ) where
 
 -- ---- a body of an accepted workload
 stands : (w : s.Workload) (params : List ℕ) (args : List ℤ) → Stands (scope_of w) (length (all_bounds (schema_of w))) [] (context (schema_of w) params args)
-unfolding words
+unfolding definitions
 stands w params args =
     let x : Schema = schema_of w in
     let count : length (all_bounds x) ≡ object_count (length x.objects) x.relations = bounds_count x in
@@ -503,14 +503,14 @@ none_at rule (x ∷ xs) zero a e h = let same : x ≡ a = cc in subst (λ y. rul
 none_at rule (x ∷ xs) (suc i) a e h = none_at rule xs i a (none_second (rule x) (flat_map rule xs) e) h
 
 each_at : {A : Type 0} (P : A → Type 0) (xs : List A) (i : ℕ) (a : A) → f.Each P xs → slice_get xs i ≡ Some a → P a
-unfolding words tree_words
+unfolding definitions syntax_definitions
 each_at P [] i a h e = cc
 each_at P (x ∷ xs) zero a h e = let same : x ≡ a = cc in subst P same h.0
 each_at P (x ∷ xs) (suc i) a h e = each_at P xs i a h.1 e
 
 -- whatever its arguments are
 pub named_law : (w : s.Workload) (g : Ground) → IsAccepted w → NamesWithin (length (all_bounds (schema_of w))) (length w.names) (ground_form w g)
-unfolding words tree_words
+unfolding definitions syntax_definitions
 named_law w g a = by_case (slice_get w.transactions g.transaction) refl
   where
     by_case : (o : Option s.Transaction) → slice_get w.transactions g.transaction ≡ o

@@ -3,7 +3,7 @@ use Rattle.std.proofs.Common.{◌≡◌, ℕ, suc, ◌+◌, ◌≤◌, Bool, tru
 use Rattle.homeo_syntax.specs.declared.low.Temp.TheVariants as temp
 use Rattle.homeo_syntax.specs.Low as L
 use Rattle.homeo_syntax.specs.Source.{Expr, Cond, FieldValue, Command, Commands, Skip, Assign, Write, Print, If, Block, SetField, SetRow, Foreach, Insert, Delete, Update, Abort, NoCommand, MoreCommand}
-use Rattle.homeo_meaning.specs.Key.{words}
+use Rattle.homeo_meaning.specs.Key.{definitions}
 use Rattle.homeo_meaning.specs.Aborts.{holds_abort, hold_abort}
 use Rattle.homeo_meaning.specs.LowMeaning as M
 use Rattle.homeo_meaning.specs.Schema.{Declared, Schema}
@@ -26,34 +26,34 @@ use Rattle.homeo_lform.proofs.Undone.{saved_state, begun, begun_sees, begun_read
 module _ (R P : ℤ → Type 0) where
   -- the value of a lifting that a command uses at once
   value_can : (w : Context) (e : Expr) (n : ℕ) (s : M.State) (c : L.Command) → (low.CanRun R P c (after (lift w e n).before s) → low.CanValue R P (lift w e n).phrase (after (lift w e n).before s)) → low.CanRun R P (in_front (lift w e n).before c) s → CanValue R P w e (seen s)
-  unfolding words
+  unfolding definitions
   value_can w e n s c g h =
       let x = lift w e n in
       let k = front_can R P x.before c s h in
       conveys R P w e n s k.0 (after x.before s) (alike_self x.next (after x.before s)) (g k.1)
 
   write_can : (w : Context) (e : Expr) (n : ℕ) (s : M.State) (b : Spot) (x : ℕ) → low.CanRun R P (write_to b x (lift w e n)).command s → CanValue R P w e (seen s)
-  unfolding words
+  unfolding definitions
   write_can w e n s b x h = value_can w e n s (guarded b x (lift w e n).phrase) (λ k. k.1) h
 
   -- ---- a field by an index
   chain_can : (f : Spot) (i e : L.Expr) (all : List Slot) (a : M.State) (T : Type 0) → (low.CanValue R P i a → T) → low.CanRun R P (write_chain f i e all) a → OnSlots all T
-  unfolding words
+  unfolding definitions
   chain_can f i e [] a T k h = tt
   chain_can f i e (slot ∷ more) a T k h = k h.0.0.0
 
   on_slot : (o : Option Slot) (T : Type 0) → T → OnSlot o T
-  unfolding words
+  unfolding definitions
   on_slot None T k = tt
   on_slot (Some slot) T k = k
 
   at_can : (w : Context) (e : Expr) (o : Option Slot) (f : Spot) (n : ℕ) (s : M.State) → low.CanRun R P (write_at o f n (lift w e)).command s → OnSlot o (CanValue R P w e (seen s))
-  unfolding words
+  unfolding definitions
   at_can w e None f n s h = tt
   at_can w e (Some slot) f n s h = write_can w e n s f (cell slot f) h
 
   set_can : (w : Context) (i e : Expr) (all : List Slot) (f : Spot) (n : ℕ) (s : M.State) (o : Option ℤ) → literal_of (lift w i n).phrase ≡ o → low.CanRun R P (write_by o all f (lift w i n) (lift w e)).command s → OnSlots all (Unless (is_given w i (seen s)) (CanValue R P w i (seen s))) × OnSlot (slot_at (value w i (seen s)) all) (CanValue R P w e (seen s))
-  unfolding words
+  unfolding definitions
   set_can w i e all f n s (Some k) is h =
       let x = lift w i n in
       let a = after x.before s in
@@ -75,7 +75,7 @@ module _ (R P : ℤ → Type 0) where
 
   -- ---- an insert
   values_can : (w : Context) (ds : List Declared) (xs : List FieldValue) (n : ℕ) (s : M.State) → low.CanRunAll R P (lift_values w ds xs n).before s → CanValues R P w xs (seen s)
-  unfolding words
+  unfolding definitions
   values_can w ds [] n s h = tt
   values_can w ds (f ∷ more) n s h =
       let x = lift w f.value n in
@@ -96,13 +96,13 @@ module _ (R P : ℤ → Type 0) where
         → ((slot : Slot) (m : ℕ) (s : M.State) → Ready b m s → told_low b (M.exec (body slot m).command s) ≡ told (source slot (seen s)))
         → ((slot : Slot) (m : ℕ) (s : M.State) → Ready b m s → low.CanRun R P (body slot m).command s → Bodies slot (seen s))
         → (n : ℕ) (s : M.State) → Ready b n s → low.CanRun R P (loop w r q t later body n).command s → CanVisit R P (λ slot. CanHold R P (bind w r slot) t) Bodies (λ slot. holds (bind w r slot) t) source (slots w q) (seen s)
-    unfolding words
+    unfolding definitions
     loop_can w r q t later may body source Bodies takes does_it can_it n s ready h =
         visits_can R P (λ slot. lift_cond (bind w r slot) t) (λ slot. holds (bind w r slot) t) (λ slot m a. lifts_cond (bind w r slot) t m a)
         (λ slot. CanHold R P (bind w r slot) t) (λ slot m a. conveys_cond R P (bind w r slot) t m a) b later may body source takes does_it Bodies can_it (slots w q) false n s (none_ends b) ready h
 
     mutual
-      unfolding words
+      unfolding definitions
 
       run_can : (w : Context) (c : Command) (n : ℕ) (s : M.State) → Allows b (holds_abort c) → Ready b n s → low.CanRun R P (form w c n).command s → CanRun R P w c (seen s)
       run_can w Skip n s m ready h = tt
@@ -161,12 +161,12 @@ module _ (R P : ℤ → Type 0) where
           )
 
   saves_can : (n : ℕ) (xs : List ℕ) (more : L.Commands) (s : M.State) → low.CanRunAll R P (saves n xs more) s → low.CanRunAll R P more (saved_state n xs s)
-  unfolding words
+  unfolding definitions
   saves_can n [] more s h = h
   saves_can n (x ∷ xs) more s h = saves_can (suc n) xs more (M.put s (M.TempAt (temp.Fresh n)) (s (M.BaseAt x))) h.1
 
   body_can : (w : Context) (body : Commands) (database : ℕ → ℤ) (v : Bool) → hold_abort body ≡ v → low.CanRun R P (body_by v w body) (whole database) → CanRunAll R P w body (record { database = database; temps = λ t. pos 0 })
-  unfolding words
+  unfolding definitions
   body_can w body database false e h =
       runs_can false w false body 0 (whole database) (λ up. up) (λ up. sym e ∙ up) (record { room = omega arith; down = refl }) h
   body_can w body database true e h =
@@ -178,5 +178,5 @@ module _ (R P : ℤ → Type 0) where
       (saves_can 1 saved _ (M.put (whole database) (M.TempAt (temp.Fresh 0)) (pos 0)) h.1).0)
 
 pub values_law : (R P : ℤ → Type 0) (x : Schema) (params : List ℕ) (args : List ℤ) (body : Commands) (database : ℕ → ℤ) → low.CanRun R P (l_form x params args body) (whole database) → CanRunAll R P (context x params args) body (record { database = database; temps = λ t. pos 0 })
-unfolding words
+unfolding definitions
 values_law R P x params args body database h = body_can R P (context x params args) body database (hold_abort body) refl h

@@ -3,7 +3,7 @@ use Rattle.std.proofs.Common.{◌≡◌, ℕ, suc, ◌==◌, Bool, true, false, 
 use Rattle.std.proofs.lemmas.Int.{ints}
 use Rattle.std.proofs.lemmas.Bool.Decides.{nat_tests}
 use Rattle.homeo_syntax.specs.Source.{FieldValue, Command, Commands, Skip, Assign, Write, Print, If, Block, SetField, SetRow, Foreach, Insert, Delete, Update, Abort, NoCommand, MoreCommand}
-use Rattle.homeo_meaning.specs.Key.{words}
+use Rattle.homeo_meaning.specs.Key.{definitions}
 use Rattle.homeo_meaning.specs.Schema.{Declared, Schema}
 use Rattle.homeo_meaning.specs.Context.{Spot, Slot, Context, spot, cell, field_cell, object, slots, fields, bind, first_where, slot_at, context}
 use Rattle.homeo_meaning.specs.Bounds.{Bounds, IsIn, bounds_at, AllWithin}
@@ -12,7 +12,7 @@ use Rattle.homeo_lform.specs.RowsFit.{Admits, RowsFit}
 use Rattle.homeo_lform.proofs.ObjectBounds.{Each, ForSome, each_first, SlotFits, all_at, slots_fit, object_admits, no_row_fits}
 
 changed_stays : (w : Schema) (s : State) (x : ℕ) (v : ℤ) → AllWithin w s.database → IsIn (all_at w x) v → AllWithin w (set_object s x v).database
-unfolding words
+unfolding definitions
 changed_stays w s x v h i y = go (x == y) refl
   where
     go : (b : Bool) → (x == y) ≡ b → IsIn (all_at w y) (cond b v (s.database y))
@@ -20,7 +20,7 @@ changed_stays w s x v h i y = go (x == y) refl
     go false e = h y
 
 write_stays : (w : Schema) (s : State) (f : Spot) (x : ℕ) (v : ℤ) → AllWithin w s.database → Admits (all_at w x) f → AllWithin w (write s f x v).database
-unfolding words
+unfolding definitions
 write_stays w s f x v h a = go (is_within f v) refl
   where
     go : (b : Bool) → is_within f v ≡ b → AllWithin w (cond b (set_object s x v) s).database
@@ -28,30 +28,30 @@ write_stays w s f x v h a = go (is_within f v) refl
     go false e = h
 
 slot_stays : (w : Schema) (ds : List Declared) (s : State) (f : ℕ) (o : Option Slot) (v : ℤ) → AllWithin w s.database → ForSome (SlotFits (all_at w) ds) o → AllWithin w (write_slot s (spot ds f) o v).database
-unfolding words
+unfolding definitions
 slot_stays w ds s f None v h k = h
 slot_stays w ds s f (Some slot) v h k = write_stays w s (spot ds f) (cell slot (spot ds f)) v h (k.field f)
 
 -- ---- an insert
 pub values_admitted : (w : Schema) (ds : List Declared) (slot : Slot) → SlotFits (all_at w) ds slot → (c : Context) (xs : List FieldValue) (s : State) → Each (λ x. Admits (all_at w (cell slot x.field)) x.field) (settings c ds xs s)
-unfolding words
+unfolding definitions
 values_admitted w ds slot k c [] s = tt
 values_admitted w ds slot k c (f ∷ more) s = (k.field f.field.name, values_admitted w ds slot k c more s)
 
 both_true : (a b : Bool) → a && b ≡ true → (a ≡ true) × (b ≡ true)
-unfolding words
+unfolding definitions
 both_true true b e = (refl, e)
 both_true false b e = grind arith
 
 fields_stay : (w : Schema) (slot : Slot) (xs : List Setting) (s : State) → AllWithin w s.database → Each (λ x. Admits (all_at w (cell slot x.field)) x.field) xs → are_within xs ≡ true → AllWithin w (set_fields slot xs s).database
-unfolding words
+unfolding definitions
 fields_stay w slot [] s h a e = h
 fields_stay w slot (x ∷ xs) s h a e =
     let k = both_true (is_within x.field x.value) (are_within xs) e in
     fields_stay w slot xs (set_object s (cell slot x.field) x.value) (changed_stays w s (cell slot x.field) x.value h (a.0 x.value k.0)) a.1 k.1
 
 insert_stays : (w : Context) (q : ℕ) (xs : List FieldValue) (t : ℕ) (s : State) → AllWithin w.schema s.database → AllWithin w.schema (insert (slots w q) (settings w (fields w q) xs s) t s).database
-unfolding words
+unfolding definitions
 insert_stays w q xs t s h = go (are_within all) refl
   where
     all : List Setting
@@ -70,7 +70,7 @@ insert_stays w q xs t s h = go (are_within all) refl
 -- ---- a loop
 -- what comes next keeps them where a run did
 then_stays : (w : Schema) (r : Run) (next : State → Run) → AllWithin w r.state.database → ((s : State) → AllWithin w s.database → AllWithin w (next s).state.database) → AllWithin w (then_do r next).state.database
-unfolding words
+unfolding definitions
 then_stays w r next h k = go r.ended
   where
     go : (v : Bool) → AllWithin w (cond v r (after_prints r.prints (next r.state))).state.database
@@ -78,7 +78,7 @@ then_stays w r next h k = go r.ended
     go false = k r.state h
 
 visit_stays : (w : Schema) (P : Slot → Type 0) (test : Slot → State → Bool) (body : Slot → State → Run) → ((slot : Slot) (s : State) → P slot → AllWithin w s.database → AllWithin w (body slot s).state.database) → (all : List Slot) (s : State) → Each P all → AllWithin w s.database → AllWithin w (visit test body all s).state.database
-unfolding words
+unfolding definitions
 visit_stays w P test body k [] s e h = h
 visit_stays w P test body k (slot ∷ more) s e h =
     then_stays w (cond (is_used s slot && test slot s) (body slot s) (done s)) (visit test body more) (go (is_used s slot && test slot s)) (λ u i. visit_stays w P test body k more u e.1 i)
@@ -89,7 +89,7 @@ visit_stays w P test body k (slot ∷ more) s e h =
 
 -- ---- commands
 pub bound_fits : (w : Context) (r : ℕ) (slot : Slot) (ds : List Declared) → RowsFit w → SlotFits (all_at w.schema) ds slot → RowsFit (bind w r slot)
-unfolding words
+unfolding definitions
 bound_fits w r slot ds h k y x = go (r == y)
   where
     go : (b : Bool) → Admits (all_at w.schema (field_cell (cond b slot (w.rows y)) x)) (spot (cond b slot (w.rows y)).fields x)
@@ -97,7 +97,7 @@ bound_fits w r slot ds h k y x = go (r == y)
     go false = h y x
 
 mutual
-  unfolding words
+  unfolding definitions
 
   pub stays : (w : Context) (c : Command) (s : State) → RowsFit w → AllWithin w.schema s.database → AllWithin w.schema (does w c s).state.database
   stays w Skip s k h = h
@@ -130,7 +130,7 @@ mutual
   all_stay w (MoreCommand c cs) s k h = then_stays w.schema (does w c s) (does_all w cs) (stays w c s k h) (λ u i. all_stay w cs u k i)
 
 pub bounds_law : (x : Schema) (params : List ℕ) (args : List ℤ) (body : Commands) (database : ℕ → ℤ) → AllWithin x database → AllWithin x (run x params args body database).state.database
-unfolding words
+unfolding definitions
 bounds_law x params args body database h =
     go after.ended (all_stay (context x params args) body (record { database = database; temps = λ t. pos 0 }) (λ r f. no_row_fits x f) h)
   where
@@ -142,7 +142,7 @@ bounds_law x params args body database h =
     go false k = k
 
 pub past_end : (bs : List Bounds) (x : ℕ) → length bs ≤ x → bounds_at bs x ≡ record { lo = pos 0; hi = pos 0 }
-unfolding words
+unfolding definitions
 past_end [] x h = refl
 past_end (b ∷ bs) zero h = absurd (omega (arith, h))
 past_end (b ∷ bs) (suc x) h = past_end bs x (omega (arith, h))

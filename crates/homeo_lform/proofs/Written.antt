@@ -9,7 +9,7 @@ use Rattle.homeo_syntax.specs.declared.low.SplitName.TheVariants as split
 use Rattle.homeo_syntax.specs.declared.low.Temp.TheVariants as temp
 use Rattle.homeo_syntax.specs.Low as L
 use Rattle.homeo_syntax.specs.Source.{Expr, Exprs, Literal, Name, Read, Sum, Product, Neg, Field, Row, Count, Total, NoExpr, MoreExpr, Test, Cond, True, Not, Comparison, NoTest, MoreTest, FieldValue, Command, Commands, Skip, Assign, Write, Print, If, Block, SetField, SetRow, Foreach, Insert, Delete, Update, Abort, NoCommand, MoreCommand}
-use Rattle.homeo_meaning.specs.Key.{words}
+use Rattle.homeo_meaning.specs.Key.{definitions}
 use Rattle.homeo_meaning.specs.Aborts.{holds_abort, hold_abort}
 use Rattle.homeo_meaning.specs.Schema.{Declared}
 use Rattle.homeo_meaning.specs.Context.{Spot, Slot, Context, spot, cell, field_cell, object, slots, fields, bind, slot_at}
@@ -21,7 +21,7 @@ use Rattle.homeo_lform.proofs.Writes.{fill_end}
 
 -- ---- lists of commands
 both_written : (cs ds : L.Commands) (xs : List ℕ) → all_written (both cs ds) xs ≡ all_written ds (all_written cs xs)
-unfolding words
+unfolding definitions
 both_written L.NoCommand ds xs = refl
 both_written (L.MoreCommand c cs) ds xs = both_written cs ds (written c xs)
 
@@ -33,17 +33,17 @@ both_silent : (cs ds : L.Commands) → Silent cs → Silent ds → Silent (both 
 both_silent cs ds h k xs = both_written cs ds xs ∙ ap (all_written ds) (h xs) ∙ k xs
 
 front_written : (cs : L.Commands) (c : L.Command) (xs : List ℕ) → Silent cs → written (in_front cs c) xs ≡ written c xs
-unfolding words
+unfolding definitions
 front_written L.NoCommand c xs h = refl
 front_written (L.MoreCommand b bs) c xs h = both_written (L.MoreCommand b bs) (one c) xs ∙ ap (written c) (h xs)
 
 turn_written : (g : Bool) (before : L.Commands) (c : L.Command) (more : L.Commands) (xs : List ℕ) → Silent before → all_written (in_turn g before c more) xs ≡ all_written more (written c xs)
-unfolding words
+unfolding definitions
 turn_written true before c more xs h = ap (all_written more) (front_written before c xs h)
 turn_written false before c more xs h = both_written before (L.MoreCommand c more) xs ∙ ap (λ ys. all_written more (written c ys)) (h xs)
 
 guard_written : (g : Bool) (c : L.Command) (xs : List ℕ) → written (guard g c) xs ≡ written c xs
-unfolding words
+unfolding definitions
 guard_written true c xs = refl
 guard_written false c xs = refl
 
@@ -51,7 +51,7 @@ guard_written false c xs = refl
 visits_written : (test : Slot → ℕ → Lifted L.Cond) (body : Slot → ℕ → Made) (f : Slot → List ℕ → List ℕ) → ((slot : Slot) (m : ℕ) → Silent (test slot m).before)
     → ((slot : Slot) (m : ℕ) (xs : List ℕ) → written (body slot m).command xs ≡ f slot xs)
     → (all : List Slot) (g later : Bool) (n : ℕ) (xs : List ℕ) → all_written (visits g later test body all n).commands xs ≡ at_each f all xs
-unfolding words
+unfolding definitions
 visits_written test body f h k [] g later n xs = refl
 visits_written test body f h k (slot ∷ more) g later n xs =
     let b = test slot n in
@@ -62,29 +62,29 @@ visits_written test body f h k (slot ∷ more) g later n xs =
     ∙ visits_written test body f h k more later later c.next (f slot xs)
 
 each_same : (all : List Slot) (xs : List ℕ) → at_each (λ slot ys. ys) all xs ≡ xs
-unfolding words
+unfolding definitions
 each_same [] xs = refl
 each_same (slot ∷ more) xs = each_same more xs
 
 counted_silent : (test : Slot → ℕ → Lifted L.Cond) (term : Slot → L.Expr) → ((slot : Slot) (m : ℕ) → Silent (test slot m).before) → (all : List Slot) (n : ℕ) → Silent (counted test term all n).before
-unfolding words
+unfolding definitions
 counted_silent test term h all n xs =
     visits_written test (λ slot m. record { command = L.Assign (temp.Fresh n) (L.Sum (L.MoreExpr (L.OfTemp (temp.Fresh n)) (L.MoreExpr (term slot) L.NoExpr))); next = m })
     (λ slot ys. ys) h (λ slot m ys. refl) all false false (suc n) xs
     ∙ each_same all xs
 
 read_chain_silent : (f : Spot) (e : L.Expr) (t : ℕ) (all : List Slot) (xs : List ℕ) → written (read_chain f e t all) xs ≡ xs
-unfolding words
+unfolding definitions
 read_chain_silent f e t [] xs = refl
 read_chain_silent f e t (slot ∷ more) xs = read_chain_silent f e t more xs
 
 indexed_silent : (o : Option ℤ) (all : List Slot) (f : Spot) (x : Lifted L.Expr) → Silent x.before → Silent (indexed_by o all f x).before
-unfolding words
+unfolding definitions
 indexed_silent (Some v) all f x h = λ xs. refl
 indexed_silent None all f x h = both_silent x.before (one (read_chain f x.phrase x.next all)) h (read_chain_silent f x.phrase x.next all)
 
 mutual
-  unfolding words
+  unfolding definitions
 
   lift_silent : (w : Context) (e : Expr) (n : ℕ) → Silent (lift w e n).before
   lift_silent w (Literal v) n = λ xs. refl
@@ -113,22 +113,22 @@ mutual
 
 -- ---- an index
 name_literal : (o : Option ℤ) (t : ℕ) → literal_of (name_of o t) ≡ o
-unfolding words
+unfolding definitions
 name_literal (Some v) t = refl
 name_literal None t = refl
 
 slot_literal : (f : Spot) (o : Option Slot) → literal_of (read_slot f o) ≡ absent_zero o
-unfolding words
+unfolding definitions
 slot_literal f (Some slot) = refl
 slot_literal f None = refl
 
 indexed_literal : (o : Option ℤ) (all : List Slot) (f : Spot) (x : Lifted L.Expr) → literal_of (indexed_by o all f x).phrase ≡ given_field o all
-unfolding words
+unfolding definitions
 indexed_literal (Some v) all f x = slot_literal f (slot_at v all)
 indexed_literal None all f x = refl
 
 pub given_literal : (w : Context) (e : Expr) (n : ℕ) → literal_of (lift w e n).phrase ≡ given w e
-unfolding words
+unfolding definitions
 given_literal w (Literal v) n = refl
 given_literal w (Name x) n = name_literal (w.arguments x.name) x.name
 given_literal w (Read x) n = refl
@@ -144,21 +144,21 @@ given_literal w (Total r f q b) n = refl
 
 -- ---- writes
 to_written : (b : Spot) (x : ℕ) (e : Lifted L.Expr) (xs : List ℕ) → Silent e.before → written (write_to b x e).command xs ≡ with_number x xs
-unfolding words
+unfolding definitions
 to_written b x e xs h = front_written e.before _ xs h
 
 write_chain_written : (f : Spot) (i e : L.Expr) (all : List Slot) (xs : List ℕ) → written (write_chain f i e all) xs ≡ at_each (λ slot. with_number (cell slot f)) all xs
-unfolding words
+unfolding definitions
 write_chain_written f i e [] xs = refl
 write_chain_written f i e (slot ∷ more) xs = write_chain_written f i e more (with_number (cell slot f) xs)
 
 at_written : (o : Option Slot) (f : Spot) (n : ℕ) (y : ℕ → Lifted L.Expr) (xs : List ℕ) → ((m : ℕ) → Silent (y m).before) → written (write_at o f n y).command xs ≡ at_slot o f xs
-unfolding words
+unfolding definitions
 at_written None f n y xs h = refl
 at_written (Some slot) f n y xs h = to_written f (cell slot f) (y n) xs (h n)
 
 by_written : (o : Option ℤ) (all : List Slot) (f : Spot) (x : Lifted L.Expr) (y : ℕ → Lifted L.Expr) (xs : List ℕ) → Silent x.before → ((m : ℕ) → Silent (y m).before) → written (write_by o all f x y).command xs ≡ by_index o all f xs
-unfolding words
+unfolding definitions
 by_written (Some v) all f x y xs h k = at_written (slot_at v all) f x.next y xs k
 by_written None all f x y xs h k =
     front_written (both x.before (y x.next).before) _ xs (both_silent x.before (y x.next).before h (k x.next))
@@ -166,19 +166,19 @@ by_written None all f x y xs h k =
 
 -- ---- an insert
 values_silent : (w : Context) (ds : List Declared) (fs : List FieldValue) (n : ℕ) → Silent (lift_values w ds fs n).before
-unfolding words
+unfolding definitions
 values_silent w ds [] n = λ xs. refl
 values_silent w ds (f ∷ fs) n =
     let x = lift w f.value n in
     both_silent (stored (spot ds f.field.name) x).before (lift_values w ds fs (suc x.next)).before (both_silent x.before _ (lift_silent w f.value n) (λ xs. refl)) (values_silent w ds fs (suc x.next))
 
 filled_written : (w : Context) (ds : List Declared) (slot : Slot) (t : ℕ) (fs : List FieldValue) (n : ℕ) (xs : List ℕ) → all_written (field_writes slot (lift_values w ds fs n).phrase (fill_end slot t)) xs ≡ filled ds fs slot xs
-unfolding words
+unfolding definitions
 filled_written w ds slot t [] n xs = refl
 filled_written w ds slot t (f ∷ fs) n xs = filled_written w ds slot t fs (suc (lift w f.value n).next) (with_number (cell slot (spot ds f.field.name)) xs)
 
 fill_chain_written : (w : Context) (ds : List Declared) (fs : List FieldValue) (t n : ℕ) (all : List Slot) (xs : List ℕ) → written (fill_chain (lift_values w ds fs n).phrase t all) xs ≡ at_each (filled ds fs) all xs
-unfolding words
+unfolding definitions
 fill_chain_written w ds fs t n [] xs = refl
 fill_chain_written w ds fs t n (slot ∷ more) xs =
     ap (written (fill_chain (lift_values w ds fs n).phrase t more)) (filled_written w ds slot t fs n xs)
@@ -186,7 +186,7 @@ fill_chain_written w ds fs t n (slot ∷ more) xs =
 
 -- ---- commands
 mutual
-  unfolding words
+  unfolding definitions
 
   pub form_written : (w : Context) (c : Command) (n : ℕ) (xs : List ℕ) → written (form w c n).command xs ≡ writes w c xs
   form_written w Skip n xs = refl
@@ -236,7 +236,7 @@ neither true b e = absurd (false≢true (sym e))
 neither false b e = (refl, e)
 
 not_among : (k n : ℕ) (ms : List ℕ) → among k (with_number n ms) ≡ false → ((n == k) ≡ false) × (among k ms ≡ false)
-unfolding words
+unfolding definitions
 not_among k n [] h = ((neither (n == k) false h).0, refl)
 not_among k n (m ∷ ms) h = by_case (not_among k n ms) (nat_lt n m) (n == m) refl h
   where
@@ -251,7 +251,7 @@ not_among k n (m ∷ ms) h = by_case (not_among k n ms) (nat_lt n m) (n == m) re
         (q.0, ap (λ z. z || among k ms) p.0 ∙ q.1)
 
 write_stays : (x : SplitName) (v : ℤ) (k : ℕ) (s : M.State) → (object_in x == k) ≡ false → M.put s (M.location_of x) v (M.BaseAt k) ≡ s (M.BaseAt k)
-unfolding words
+unfolding definitions
 write_stays (split.Whole y) v k s e = ap (λ z. cond z v (s (M.BaseAt k))) e
 write_stays (split.Base y) v k s e = ap (λ z. cond z v (s (M.BaseAt k))) e
 write_stays (split.Delta y j) v k s e = refl
@@ -261,7 +261,7 @@ pub record Stays (k : ℕ) (xs : List ℕ) (run : M.State → M.Run) : Type 0 wh
   pub keeps : (s : M.State) → (run s).state (M.BaseAt k) ≡ s (M.BaseAt k)
 
 mutual
-  unfolding words
+  unfolding definitions
 
   stays : (c : L.Command) (k : ℕ) (xs : List ℕ) → among k (written c xs) ≡ false → Stays k xs (M.exec c)
   stays L.Skip k xs h = record { before = h; keeps = λ s. refl }

@@ -1,7 +1,7 @@
 -- What a command depends on that was followed: its prints, and the gains of the objects that it writes.
-use Rattle.homeo_meaning.specs.Key.{words as meaning_words}
-use Rattle.homeo_plan.specs.Key.{words as plan_words}
-use Rattle.homeo_follow.specs.Key.{words as follow_words}
+use Rattle.homeo_meaning.specs.Key.{definitions as meaning_definitions}
+use Rattle.homeo_plan.specs.Key.{definitions as plan_definitions}
+use Rattle.homeo_follow.specs.Key.{definitions as follow_definitions}
 use Rattle.std.proofs.Common.{◌≡◌, ℕ, ◌+◌, ◌*◌, ◌-◌, ◌<◌, ◌≤◌, Bool, ◌||◌, List, [], ◌∷◌, ◌++◌, map, drop, get_or, length, ℤ, negsuc, ◌*ℤ◌, refl, sym, ap, ap₂, ◌∙◌, add-one, arith}
 use Rattle.std.specs.List.{list_any}
 use Rattle.std.proofs.Math.Seq.{drop-cons}
@@ -12,12 +12,10 @@ use Rattle.homeo_meaning.specs.Small.{IsSmall}
 use Rattle.homeo_plan.specs.FormSizes.{Numbers}
 use Rattle.homeo_plan.specs.Limit.{form_limit}
 use Rattle.homeo_plan.specs.declared.forms.Delta.{Delta}
-use Rattle.homeo_plan.specs.Linear.{Linear, Forms, add_delta, add_deltas, scale_form, support}
+use Rattle.homeo_plan.specs.Linear.{AreInOrder, Linear, Forms, add_delta, add_deltas, scale_form, support}
 use Rattle.homeo_follow.specs.Follow.{object_form, gain, print_needs, write_needs}
 use Rattle.homeo_follow.proofs.Deltas.{any_add}
-use Rattle.homeo_linear.specs.inner.Key.{words}
-use Rattle.homeo_linear.specs.inner.Order.{InOrder}
-use Rattle.homeo_linear.proofs.JoinedDeltas.{has, or_move, or_none, has_adds, same_deltas, adds_append}
+use Rattle.homeo_linear.proofs.DeltasInOrder.{has, or_move, or_none, has_adds, same_deltas, adds_append}
 use Rattle.homeo_linear.proofs.Orders.{in_order_adds}
 
 -- the objects that deltas stand for
@@ -26,7 +24,7 @@ objects ds = map (λ d. d.object) ds
 
 -- ---- one of the deltas that are put together
 any_adds : (q : Delta → Bool) (ds es : List Delta) → list_any q (add_deltas ds es) ≡ (list_any q ds || list_any q es)
-unfolding plan_words
+unfolding plan_definitions
 any_adds q [] es = refl
 any_adds q (d ∷ ds) es =
     any_adds q ds (add_delta d es) ∙ ap (λ v. list_any q ds || v) (any_add q d es) ∙ or_move (list_any q ds) (q d) (list_any q es)
@@ -47,12 +45,12 @@ module _ (b : ℕ → ℤ) (f : Forms) where
   gained x = support (gain (b x) x (f (BaseAt x)))
 
   gains_have : (d : Delta) (xs : List ℕ) → has d (write_needs b f xs) ≡ list_any (λ x. has d (gained x)) xs
-  unfolding follow_words
+  unfolding follow_definitions
   gains_have d [] = refl
   gains_have d (x ∷ xs) = has_adds d (gained x) (write_needs b f xs) ∙ ap (λ v. has d (gained x) || v) (gains_have d xs)
 
-  gains_in_order : (xs : List ℕ) → InOrder (write_needs b f xs)
-  unfolding follow_words words
+  gains_in_order : (xs : List ℕ) → AreInOrder (write_needs b f xs)
+  unfolding follow_definitions plan_definitions
   gains_in_order [] = tt
   gains_in_order (x ∷ xs) = in_order_adds (gained x) (write_needs b f xs) (gains_in_order xs)
 
@@ -63,7 +61,7 @@ module _ (b : ℕ → ℤ) (f : Forms) where
       (λ d. gains_have d (objects es) ∙ any_once (λ x. has d (gained x)) ds es p ∙ sym (gains_have d (objects ds)))
 
   pub gains_end : (ds es : List Delta) → es ≡ [] → add_deltas es [] ≡ write_needs b f (objects (drop (length ds) ds))
-  unfolding plan_words follow_words
+  unfolding plan_definitions follow_definitions
   gains_end ds es p = ap (λ l. add_deltas l []) p ∙ sym (ap (λ l. write_needs b f (objects l)) (none ds))
     where
       none : (xs : List Delta) → drop (length xs) xs ≡ []
@@ -74,7 +72,7 @@ module _ (b : ℕ → ℤ) (f : Forms) where
       (ds es fs : List Delta) (n : ℕ) (x : Delta) (a : Linear) → n < length ds →
       a ≡ gain (b (get_or ds n x).object) (get_or ds n x).object (f (BaseAt (get_or ds n x).object)) → fs ≡ es ++ support a →
       add_deltas es [] ≡ write_needs b f (objects (drop (n + 1) ds)) → add_deltas fs [] ≡ write_needs b f (objects (drop n ds))
-  unfolding plan_words follow_words
+  unfolding plan_definitions follow_definitions
   gains_more ds es fs n x a h pa pf pe =
       let d : Delta = get_or ds n x in
       let next : drop n ds ≡ d ∷ drop (n + 1) ds = rw add-one (drop-cons ds n x h) in
@@ -92,7 +90,7 @@ module _ (b : ℕ → ℤ) (f : Forms) where
 
 -- ---- prints
 prints_push : (ps : List Linear) (p : Linear) (es : List Delta) → print_needs (ps ++ p ∷ []) es ≡ print_needs ps (add_deltas (support p) es)
-unfolding follow_words
+unfolding follow_definitions
 prints_push [] p es = refl
 prints_push (q ∷ ps) p es = ap (add_deltas (support q)) (prints_push ps p es)
 
@@ -105,16 +103,16 @@ prints_popped ps qs a es fs p q =
     ∙ sym (ap (λ l. print_needs l (add_deltas es [])) p)
 
 pub prints_end : (ps : List Linear) (es ws : List Delta) → ps ≡ [] → print_needs ps es ≡ ws → es ≡ ws
-unfolding follow_words
+unfolding follow_definitions
 prints_end ps es ws p h = sym (ap (λ l. print_needs l es) p) ∙ h
 
 -- ---- an object as it was
 pub object_small : (n : ℤ) (x : ℕ) → IsSmall form_limit n → Numbers (IsSmall form_limit) (object_form n x)
-unfolding plan_words follow_words meaning_words
+unfolding plan_definitions follow_definitions meaning_definitions
 object_small n x h = record { constant = h; factors = (omega arith, tt) }
 
 pub lost_small : (n : ℤ) (x : ℕ) → IsSmall form_limit n → Numbers (IsSmall form_limit) (scale_form (negsuc 0) (object_form n x))
-unfolding plan_words follow_words meaning_words
+unfolding plan_definitions follow_definitions meaning_definitions
 lost_small n x h =
     let size : unsigned_abs (negsuc 0 *ℤ n) ≡ unsigned_abs (negsuc 0) * unsigned_abs n = unsigned_abs-mul (negsuc 0) n in
     record { constant = omega (arith, size, h); factors = (omega arith, tt) }

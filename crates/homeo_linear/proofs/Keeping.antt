@@ -1,7 +1,7 @@
 -- Conditions that are kept, one test after another.
 use Rattle.std.proofs.Common.{◌≡◌, ℕ, ◌+◌, ◌<◌, ◌≤◌, Bool, true, false, not, cond, ◌&&◌, List, [], ◌++◌, map, drop, get_or, length, ℤ, refl, sym, ap, ap₂, ◌∙◌, subst, true≢false, append-nil}
 use Rattle.std.proofs.lemmas.List.{append_assoc}
-use Rattle.homeo_syntax.specs.Key.{words as tree_words}
+use Rattle.homeo_syntax.specs.Key.{definitions as syntax_definitions}
 use Rattle.homeo_syntax.specs.declared.phrase.Compare.{Compare as Comparing}
 use Rattle.homeo_syntax.specs.Low as l
 use Rattle.homeo_syntax.specs.LowView.{low_tests, plain_lexpr, plain_ltest, plain_lcond}
@@ -14,7 +14,7 @@ use Rattle.homeo_meaning.specs.LowMeaning.{State, holds, whole}
 use Rattle.homeo_meaning.specs.Serial.{values_of}
 use Rattle.homeo_meaning.specs.Small.{IsSmall}
 use Rattle.homeo_meaning.proofs.Steps.{drop_next, drop_none}
-use Rattle.homeo_plan.specs.Key.{words as plan_words}
+use Rattle.homeo_plan.specs.Key.{definitions as plan_definitions}
 use Rattle.homeo_plan.specs.Atoms.{true_cond}
 use Rattle.homeo_plan.specs.FormSizes.{CanForm, CanTest, CanCond}
 use Rattle.homeo_plan.specs.Linear.{Linear, Forms, base_forms, form}
@@ -23,7 +23,7 @@ use Rattle.homeo_plan.specs.Holding.{IsOn, AtomHolds}
 use Rattle.homeo_plan.specs.PlanView.{plain_atom}
 use Rattle.homeo_plan.specs.declared.forms.Atom.{Atom}
 use Rattle.homeo_plan.proofs.Atoms.{true_cond_holds}
-use Rattle.homeo_follow.specs.Key.{words}
+use Rattle.homeo_follow.specs.Key.{definitions}
 use Rattle.homeo_follow.specs.Follow.{passes_by, holds_by, passed_test, failed_test, passed, failed}
 use Rattle.homeo_follow.proofs.Walked.{holds_at_base, passed_is}
 use Rattle.homeo_plan.specs.Limit.{form_limit}
@@ -39,7 +39,7 @@ pub kept_start : (fs : Forms) (ys : List Linear) (c : l.Cond) → ys ≡ [] → 
 kept_start fs ys c p = ap (λ xs. cond (holds_by fs c) (xs ++ passed fs c) (failed fs c)) p
 
 kept_more : (fs : Forms) (ys : List Linear) (t : l.Test) (c : l.Cond) → true ≡ passes_by fs t → kept_from fs (ys ++ kept_test fs t) c ≡ kept_from fs ys (l.MoreTest t c)
-unfolding words plan_words
+unfolding definitions plan_definitions
 kept_more fs ys t c h = go (passes_by fs t) h
   where
     go : (v : Bool) → true ≡ v →
@@ -49,7 +49,7 @@ kept_more fs ys t c h = go (passes_by fs t) h
     go false e = absurd (true≢false e)
 
 kept_stop : (fs : Forms) (ys : List Linear) (t : l.Test) (c : l.Cond) → false ≡ passes_by fs t → kept_test fs t ≡ kept_from fs ys (l.MoreTest t c)
-unfolding words plan_words
+unfolding definitions plan_definitions
 kept_stop fs ys t c h = go (passes_by fs t) h
   where
     go : (v : Bool) → false ≡ v →
@@ -72,7 +72,7 @@ pub record TestStep (fs : Forms) (ts : List LTest) (i : ℕ) (t : LTest) : Type 
 pub test_step :
     {fs : Forms} (ts : List LTest) (i : ℕ) (t : LTest) → i < length ts → t ≡ get_or ts i t →
     CanCond (IsSmall form_limit) (fs) (low_tests (map plain_ltest (drop i ts))) → TestStep fs ts i t
-unfolding words plan_words tree_words
+unfolding definitions plan_definitions syntax_definitions
 test_step {fs} ts i t h p can =
     let next = drop_next plain_ltest ts i t h p in
     let more = low_tests (map plain_ltest (drop (i + 1) ts)) in
@@ -86,18 +86,18 @@ test_step {fs} ts i t h p can =
     }
 
 pub tests_hold : (fs : Forms) (ts : List LTest) (i : ℕ) → length ts ≤ i → true ≡ holds_by fs (low_tests (map plain_ltest (drop i ts)))
-unfolding words tree_words
+unfolding definitions syntax_definitions
 tests_hold fs ts i h = sym (ap (λ l. holds_by fs (low_tests l)) (drop_none plain_ltest ts i h))
 
 pub tests_kept : (fs : Forms) (ys : List Linear) (ts : List LTest) (i : ℕ) → length ts ≤ i → ys ≡ kept_from fs ys (low_tests (map plain_ltest (drop i ts)))
-unfolding words plan_words tree_words
+unfolding definitions plan_definitions syntax_definitions
 tests_kept fs ys ts i h =
     sym (ap (λ l. kept_from fs ys (low_tests l)) (drop_none plain_ltest ts i h) ∙ append-nil ys)
 
 -- ---- each kind of test
 module _ (fs : Forms) (t : LTest) where
   pub not_can : (c : LCond) → t ≡ Not c → CanTest (IsSmall form_limit) (fs) (plain_ltest t) → CanCond (IsSmall form_limit) (fs) (plain_lcond c)
-  unfolding plan_words
+  unfolding plan_definitions
   not_can c p h = subst (CanTest (IsSmall form_limit) (fs)) (ap plain_ltest p ∙ low_Not c) h
 
   -- what a comparison asks of its sides
@@ -108,7 +108,7 @@ module _ (fs : Forms) (t : LTest) where
     pub back : AreApart (form (fs) (plain_lexpr y)) (form (fs) (plain_lexpr x))
 
   pub sides_can : (op : Comparing) (x y : LExpr) → t ≡ Compare op x y → CanTest (IsSmall form_limit) (fs) (plain_ltest t) → SidesCan x y
-  unfolding plan_words
+  unfolding plan_definitions
   sides_can op x y p h =
       let k : CanTest (IsSmall form_limit) (fs) (l.Comparison op (plain_lexpr x) (plain_lexpr y)) =
       subst (CanTest (IsSmall form_limit) (fs)) (ap plain_ltest p ∙ low_Compare op x y) h in
@@ -117,20 +117,20 @@ module _ (fs : Forms) (t : LTest) where
       record { left = k.0; right = k.1; there = are_apart _ _ m n k.2; back = are_apart _ _ n m k.3 }
 
   pub true_passes : t ≡ True → true ≡ passes_by fs (plain_ltest t)
-  unfolding words
+  unfolding definitions
   true_passes p = sym (ap (λ x. passes_by fs (plain_ltest x)) p ∙ ap (λ x. passes_by fs x) low_True)
 
   pub true_kept : (ys : List Linear) → t ≡ True → ys ≡ [] → ys ≡ kept_test fs (plain_ltest t)
-  unfolding words plan_words
+  unfolding definitions plan_definitions
   true_kept ys p q = q ∙ sym (ap (λ x. kept_test fs (plain_ltest x)) p ∙ ap (kept_test fs) low_True)
 
   pub not_passes : (c : LCond) (v : Bool) → t ≡ Not c → v ≡ holds_by fs (plain_lcond c) → not v ≡ passes_by fs (plain_ltest t)
-  unfolding words
+  unfolding definitions
   not_passes c v p q =
       ap not q ∙ sym (ap (λ x. passes_by fs (plain_ltest x)) p ∙ ap (λ x. passes_by fs x) (low_Not c))
 
   pub not_kept : (c : LCond) (ys : List Linear) → t ≡ Not c → ys ≡ kept_cond fs (plain_lcond c) → ys ≡ kept_test fs (plain_ltest t)
-  unfolding words plan_words
+  unfolding definitions plan_definitions
   not_kept c ys p q =
       q ∙ swap (holds_by fs (plain_lcond c)) (passed fs (plain_lcond c)) (failed fs (plain_lcond c))
       ∙ sym (ap (λ x. kept_test fs (plain_ltest x)) p ∙ ap (kept_test fs) (low_Not c))
@@ -142,7 +142,7 @@ module _ (fs : Forms) (t : LTest) where
   pub comparison_passes :
       (op : Comparing) (x y : LExpr) (m n : Linear) → t ≡ Compare op x y → m ≡ form (fs) (plain_lexpr x) → n ≡ form (fs) (plain_lexpr y) →
       compared op m.constant n.constant ≡ passes_by fs (plain_ltest t)
-  unfolding words
+  unfolding definitions
   comparison_passes op x y m n p q r =
       ap₂ (λ (f g : Linear). compared op f.constant g.constant) q r
       ∙ sym (ap (λ z. passes_by fs (plain_ltest z)) p ∙ ap (λ z. passes_by fs z) (low_Compare op x y))
@@ -150,7 +150,7 @@ module _ (fs : Forms) (t : LTest) where
   pub comparison_kept :
       (op : Comparing) (x y : LExpr) (m n : Linear) → t ≡ Compare op x y → m ≡ form (fs) (plain_lexpr x) → n ≡ form (fs) (plain_lexpr y) →
       kept_comparison op m n ≡ kept_test fs (plain_ltest t)
-  unfolding words plan_words
+  unfolding definitions plan_definitions
   comparison_kept op x y m n p q r =
       let f = form (fs) (plain_lexpr x) in
       let g = form (fs) (plain_lexpr y) in

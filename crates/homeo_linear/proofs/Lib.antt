@@ -3,14 +3,14 @@ mod AtSites
 mod CheckedSteps
 mod Comparing
 mod Coursing
+mod DeltasInOrder
 mod FormParts
 mod FormSteps
 mod Gaining
 mod ItemForms
-mod JoinedDeltas
-mod JoinedTerms
 mod Keeping
 mod Needing
 mod Orders
 mod Stands
+mod TermsAddedUp
 mod Widths

@@ -2,7 +2,7 @@
 use Rattle.std.proofs.Common.{◌≡◌, ℕ, ◌+◌, ◌-◌, ◌<◌, ◌≤◌, ◌==◌, Bool, true, false, not, cond, List, [], ◌∷◌, ◌++◌, map, drop, get_or, length, ℤ, refl, sym, ap, ap₂, ◌∙◌, subst, add-one, drop_of_length-le, append-nil, Box, Global, arith}
 use Rattle.std.proofs.Math.Seq.{drop-cons}
 use Rattle.std.proofs.lemmas.List.{append_assoc, map_push}
-use Rattle.homeo_syntax.specs.Key.{words as tree_words}
+use Rattle.homeo_syntax.specs.Key.{definitions as syntax_definitions}
 use Rattle.homeo_syntax.specs.Low as l
 use Rattle.homeo_syntax.specs.LowView.{low_commands, plain_lexpr, plain_lcommand}
 use Rattle.homeo_syntax.specs.Listed.{Listed}
@@ -17,7 +17,7 @@ use Rattle.homeo_meaning.specs.LowMeaning.{Location, TempAt, DeltaAt, State, loc
 use Rattle.homeo_meaning.specs.Serial.{values_of}
 use Rattle.homeo_meaning.specs.Small.{IsSmall}
 use Rattle.homeo_meaning.proofs.Steps.{drop_next, drop_none}
-use Rattle.homeo_plan.specs.Key.{words as plan_words}
+use Rattle.homeo_plan.specs.Key.{definitions as plan_definitions}
 use Rattle.homeo_plan.specs.Each.{Each}
 use Rattle.homeo_plan.specs.FormSizes.{CanForm, CanFollow}
 use Rattle.homeo_plan.specs.Holding.{IsOn, ZeroInBoth, SameOwn}
@@ -28,14 +28,14 @@ use Rattle.homeo_plan.specs.declared.forms.Delta.{Delta}
 use Rattle.homeo_plan.specs.Limit.{form_limit}
 use Rattle.homeo_linear.specs.declared.following.Following.{Following}
 use Rattle.homeo_linear.specs.inner.Following.{adds, needs_of, Followed}
-use Rattle.homeo_linear.specs.inner.Key.{words}
+use Rattle.homeo_linear.specs.inner.Key.{definitions}
 use Rattle.homeo_linear.specs.Standing.{forms_of}
-use Rattle.homeo_linear.proofs.JoinedDeltas.{adds_append}
+use Rattle.homeo_linear.proofs.DeltasInOrder.{adds_append}
 
 -- ---- remote deltas
 module _ (i : ℕ) (out ds : List Delta) (n : ℕ) (x : Delta) (h : n < length ds) where
   remote_next : (b : Bool) → (get_or ds n x).site == i ≡ b → remote i (drop n ds) ≡ cond b (remote i (drop (n + 1) ds)) (get_or ds n x ∷ remote i (drop (n + 1) ds))
-  unfolding plan_words
+  unfolding plan_definitions
   remote_next b e =
       let next : drop n ds ≡ get_or ds n x ∷ drop (n + 1) ds = rw add-one (drop-cons ds n x h) in
       ap (remote i) next ∙ ap (λ v. cond v (remote i (drop (n + 1) ds)) (get_or ds n x ∷ remote i (drop (n + 1) ds))) e
@@ -57,12 +57,12 @@ module _ (i : ℕ) (out ds : List Delta) (n : ℕ) (x : Delta) (h : n < length d
       is_true false k = k
 
 pub remote_end : (i : ℕ) (out ds : List Delta) (n : ℕ) → length ds ≤ n → out ≡ out ++ remote i (drop n ds)
-unfolding plan_words
+unfolding plan_definitions
 remote_end i out ds n h = sym (ap (λ l. out ++ remote i l) (drop_of_length-le ds h) ∙ append-nil out)
 
 -- ---- what the written deltas need
 pub needed_end : (i : ℕ) (f : Forms) (ds es : List Delta) → es ≡ [] → add_deltas es [] ≡ written_needs i f (drop (length ds) ds)
-unfolding plan_words
+unfolding plan_definitions
 needed_end i f ds es p = ap (λ l. add_deltas l []) p ∙ sym (ap (written_needs i f) (none ds))
   where
     none : (xs : List Delta) → drop (length xs) xs ≡ []
@@ -73,7 +73,7 @@ pub needed_more :
     (i : ℕ) (f : Forms) (ds es fs gs hs : List Delta) (n : ℕ) (x : Delta) (k : Location) (a : Linear) → n < length ds →
     k ≡ DeltaAt (get_or ds n x).object (get_or ds n x).site → a ≡ f k → gs ≡ remote i (support a) → hs ≡ gs → fs ≡ es ++ hs →
     add_deltas es [] ≡ written_needs i f (drop (n + 1) ds) → add_deltas fs [] ≡ written_needs i f (drop n ds)
-unfolding plan_words
+unfolding plan_definitions
 needed_more i f ds es fs gs hs n x k a h pk pa pg ph pf pe =
     let d : Delta = get_or ds n x in
     let next : drop n ds ≡ d ∷ drop (n + 1) ds = rw add-one (drop-cons ds n x h) in
@@ -83,12 +83,12 @@ needed_more i f ds es fs gs hs n x k a h pk pa pg ph pf pe =
 -- ---- the deltas written
 pub written_more : (ws vs : List Delta) (x : SplitName) (d : Delta) → vs ≡ ws ++ d ∷ [] → x ≡ split.Delta d.object d.site →
     add_deltas vs [] ≡ add_written x (add_deltas ws [])
-unfolding plan_words
+unfolding plan_definitions
 written_more ws vs x d p q = ap (λ l. add_deltas l []) p ∙ adds_append ws (d ∷ []) [] ∙ sym (ap (λ y. add_written y (add_deltas ws [])) q)
 
 -- ---- what the prints need
 pub adds_push : (ps : List (List Delta)) (p es : List Delta) → adds (ps ++ p ∷ []) es ≡ adds ps (add_deltas p es)
-unfolding words
+unfolding definitions
 adds_push [] p es = refl
 adds_push (q ∷ ps) p es = ap (add_deltas q) (adds_push ps p es)
 
@@ -110,7 +110,7 @@ module _ (r s : Following) (e : l.Expr) (a : Linear) (is : a ≡ form (forms_of 
   pub assigned :
       (t : Temp) (k : Location) → k ≡ TempAt t → s.written.items ≡ r.written.items → map (λ p. p.items) s.prints.items ≡ map (λ p. p.items) r.prints.items →
       forms_of s.standing ≡ put (forms_of r.standing) k a → Followed r s (l.Assign t e)
-  unfolding needs_of plan_words
+  unfolding needs_of plan_definitions
   assigned t k pk ew ep ef =
       followed_by r s (l.Assign t e) (put (forms_of r.standing) (TempAt t) (form (forms_of r.standing) e)) (add_deltas r.written.items [])
       (map (λ p. p.items) r.prints.items) site (ef ∙ ap₂ (put (forms_of r.standing)) pk is) (ap (λ l. add_deltas l []) ew) ep (λ cs. refl) (λ cs h. h.1)
@@ -118,7 +118,7 @@ module _ (r s : Following) (e : l.Expr) (a : Linear) (is : a ≡ form (forms_of 
   pub wrote :
       (x : SplitName) (k : Location) → k ≡ location_of x → add_deltas s.written.items [] ≡ add_written x (add_deltas r.written.items []) →
       map (λ p. p.items) s.prints.items ≡ map (λ p. p.items) r.prints.items → forms_of s.standing ≡ put (forms_of r.standing) k a → Followed r s (l.Write x e)
-  unfolding needs_of plan_words
+  unfolding needs_of plan_definitions
   wrote x k pk ew ep ef =
       followed_by r s (l.Write x e) (put (forms_of r.standing) (location_of x) (form (forms_of r.standing) e)) (add_written x (add_deltas r.written.items []))
       (map (λ p. p.items) r.prints.items) site (ef ∙ ap₂ (put (forms_of r.standing)) pk is) ew ep (λ cs. refl) (λ cs h. h.1)
@@ -126,7 +126,7 @@ module _ (r s : Following) (e : l.Expr) (a : Linear) (is : a ≡ form (forms_of 
   pub printed :
       (ds : List Delta) → ds ≡ remote r.site (support a) → s.written.items ≡ r.written.items →
       map (λ p. p.items) s.prints.items ≡ map (λ p. p.items) r.prints.items ++ ds ∷ [] → forms_of s.standing ≡ forms_of r.standing → Followed r s (l.Print e)
-  unfolding needs_of plan_words
+  unfolding needs_of plan_definitions
   printed ds pd ew ep ef =
       let needed : List Delta = remote r.site (support (form (forms_of r.standing) e)) in
       let written : List Delta = add_deltas r.written.items [] in
@@ -137,14 +137,14 @@ module _ (r s : Following) (e : l.Expr) (a : Linear) (is : a ≡ form (forms_of 
 pub first_needs :
     (r : Following) (i : ℕ) (b : ℕ → ℤ) → r.site ≡ i → forms_of r.standing ≡ base_forms b → r.written.items ≡ [] → r.prints.items ≡ [] →
     (cs : l.Commands) → needs_of r cs ≡ needs i b cs
-unfolding needs_of words plan_words
+unfolding needs_of definitions plan_definitions
 first_needs r i b ei ef ew ep cs =
     ap₂ (λ j g. adds (map (λ p. p.items) r.prints.items) (needs_from j g (add_deltas r.written.items []) cs)) ei ef
     ∙ ap₂ (λ v q. adds (map (λ p. p.items) q) (needs_from i (base_forms b) (add_deltas v []) cs)) ew ep
 
 -- ---- the first of the commands that are left
 can_one : (f : Forms) (c : l.Command) (cs : l.Commands) → CanFollow (IsSmall form_limit) f (l.MoreCommand c cs) → CanFollow (IsSmall form_limit) f (l.MoreCommand c l.NoCommand)
-unfolding plan_words
+unfolding plan_definitions
 can_one f (l.Assign t e) cs h = (h.0, tt)
 can_one f (l.Write x e) cs h = (h.0, tt)
 can_one f (l.Print e) cs h = (h.0, tt)
@@ -164,7 +164,7 @@ pub command_step :
     (r : Following) (cs : List LCommand) (i : ℕ) (c : LCommand) → i < length cs → c ≡ get_or cs i c →
     IsStraight (low_commands (map plain_lcommand (drop i cs))) →
     CanFollow (IsSmall form_limit) (forms_of r.standing) (low_commands (map plain_lcommand (drop i cs))) → CommandStep r cs i c
-unfolding plan_words tree_words
+unfolding plan_definitions syntax_definitions
 command_step r cs i c h p st can =
     let rest = low_commands (map plain_lcommand (drop (i + 1) cs)) in
     let next = drop_next plain_lcommand cs i c h p in
@@ -179,7 +179,7 @@ command_step r cs i c h p st can =
     }
 
 pub commands_end : (r : Following) (cs : List LCommand) (i : ℕ) → length cs ≤ i → needs_of r l.NoCommand ≡ needs_of r (low_commands (map plain_lcommand (drop i cs)))
-unfolding tree_words
+unfolding syntax_definitions
 commands_end r cs i h = sym (ap (λ l. needs_of r (low_commands l)) (drop_none plain_lcommand cs i h))
 
 -- ---- loops from the end
@@ -200,40 +200,40 @@ popped g ps qs v es fs hs p q r =
     ∙ sym (ap (λ l. adds l (add_deltas es [])) (ap (map g) p ∙ map_push g qs v))
 
 pub all_popped : {V : Type 0} (g : V → List Delta) (ps : List V) (es ws : List Delta) → ps ≡ [] → adds (map g ps) es ≡ ws → es ≡ ws
-unfolding words
+unfolding definitions
 all_popped g ps es ws p h = sym (ap (λ l. adds (map g l) es) p) ∙ h
 
 pub needs_are :
     (r : Following) (es vs ws : List Delta) → vs ≡ ws → ws ≡ add_deltas r.written.items [] → es ≡ written_needs r.site (forms_of r.standing) vs →
     adds (map (λ p. p.items) r.prints.items) es ≡ needs_of r l.NoCommand
-unfolding needs_of plan_words
+unfolding needs_of plan_definitions
 needs_are r es vs ws p q h = ap (adds (map (λ p. p.items) r.prints.items)) (h ∙ ap (written_needs r.site (forms_of r.standing)) (p ∙ q))
 
 -- ---- each kind of command
 module _ (f : Forms) (x : LCommand) where
   pub assign_can : (t : Temp) (e : LExpr) → x ≡ Assign t e → CanFollow (IsSmall form_limit) f (l.MoreCommand (plain_lcommand x) l.NoCommand) → CanForm (IsSmall form_limit) f (plain_lexpr e)
-  unfolding plan_words
+  unfolding plan_definitions
   assign_can t e p h = (subst (λ y. CanFollow (IsSmall form_limit) f (l.MoreCommand y l.NoCommand)) (ap plain_lcommand p ∙ low_Assign t e) h).0
 
   pub write_can : (n : SplitName) (e : LExpr) → x ≡ Write n e → CanFollow (IsSmall form_limit) f (l.MoreCommand (plain_lcommand x) l.NoCommand) → CanForm (IsSmall form_limit) f (plain_lexpr e)
-  unfolding plan_words
+  unfolding plan_definitions
   write_can n e p h = (subst (λ y. CanFollow (IsSmall form_limit) f (l.MoreCommand y l.NoCommand)) (ap plain_lcommand p ∙ low_Write n e) h).0
 
   pub print_can : (e : LExpr) → x ≡ Print e → CanFollow (IsSmall form_limit) f (l.MoreCommand (plain_lcommand x) l.NoCommand) → CanForm (IsSmall form_limit) f (plain_lexpr e)
-  unfolding plan_words
+  unfolding plan_definitions
   print_can e p h = (subst (λ y. CanFollow (IsSmall form_limit) f (l.MoreCommand y l.NoCommand)) (ap plain_lcommand p ∙ low_Print e) h).0
 
 module _ (x : LCommand) (h : IsStraightOne (plain_lcommand x)) where
   pub no_skip : x ≡ Skip → ⊥
-  unfolding plan_words
+  unfolding plan_definitions
   no_skip p = subst IsStraightOne (ap plain_lcommand p ∙ low_Skip) h
 
   pub no_seq : (cs : Listed LCommand) → x ≡ Seq cs → ⊥
-  unfolding plan_words
+  unfolding plan_definitions
   no_seq cs p = subst IsStraightOne (ap plain_lcommand p ∙ low_Seq cs) h
 
   pub no_if : (b : LCond) (c d : Box LCommand Global) → x ≡ If b c d → ⊥
-  unfolding plan_words
+  unfolding plan_definitions
   no_if b c d p = subst IsStraightOne (ap plain_lcommand p ∙ low_If b c d) h
 
 -- ---- what the needs of a whole residual mean

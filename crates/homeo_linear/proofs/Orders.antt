@@ -3,28 +3,28 @@ use Rattle.std.proofs.Common.{◌≡◌, ℕ, zero, suc, ◌+◌, ◌-◌, ◌<�
 use Rattle.std.proofs.Math.Seq.{drop-cons}
 use Rattle.std.specs.List.{insert}
 use Rattle.std.proofs.lemmas.Bool.Decides.{nat_tests}
-use Rattle.homeo_plan.specs.Key.{words as plan_words}
+use Rattle.homeo_plan.specs.Key.{definitions as plan_definitions}
 use Rattle.homeo_plan.specs.Each.{Each}
-use Rattle.homeo_plan.specs.Linear.{same_delta, delta_before, add_delta, add_deltas}
+use Rattle.homeo_plan.specs.Linear.{AreInOrder, same_delta, delta_before, add_delta, add_deltas}
 use Rattle.homeo_plan.specs.declared.forms.Delta.{Delta}
-use Rattle.homeo_linear.specs.inner.Key.{words}
-use Rattle.homeo_linear.specs.inner.Order.{InOrder, BeginsBehind, IsPlace, begins_with}
+use Rattle.homeo_linear.specs.inner.Key.{definitions}
+use Rattle.homeo_linear.specs.inner.Order.{BeginsBehind, IsPlace, begins_with}
 
 -- ---- the order
 pub before_is_other : (d e : Delta) → delta_before e d ≡ true → same_delta d e ≡ false
-unfolding plan_words
+unfolding plan_definitions
 before_is_other d e h = grind (arith, nat_tests)
 
 pub before_is_one_way : (d e : Delta) → delta_before e d ≡ true → delta_before d e ≡ false
-unfolding plan_words
+unfolding plan_definitions
 before_is_one_way d e h = grind (arith, nat_tests)
 
 pub before_trans : (c d e : Delta) → delta_before c d ≡ true → delta_before d e ≡ true → delta_before c e ≡ true
-unfolding plan_words
+unfolding plan_definitions
 before_trans c d e p q = grind (arith, nat_tests)
 
 pub before_total : (d e : Delta) → same_delta d e ≡ false → delta_before d e ≡ false → delta_before e d ≡ true
-unfolding plan_words
+unfolding plan_definitions
 before_total d e p q = grind (arith, nat_tests)
 
 -- ---- places
@@ -32,13 +32,13 @@ abbrev pub Above : Delta → List Delta → Type 0
 Above d ds = Each (λ e. delta_before d e ≡ true) ds
 
 pub each_at : {X : Type 0} (P : X → Type 0) (xs : List X) (n : ℕ) (x : X) → n < length xs → Each P xs → P (get_or xs n x)
-unfolding plan_words
+unfolding plan_definitions
 each_at P [] n x l h = absurd (omega (arith, l))
 each_at P (y ∷ ys) zero x l h = h.0
 each_at P (y ∷ ys) (suc n) x l h = each_at P ys n x (omega (arith, l)) h.1
 
-before_all : (d : Delta) (ds : List Delta) (n : ℕ) (x : Delta) → InOrder ds → n < length ds → delta_before (get_or ds n x) d ≡ true → Each (λ e. delta_before e d ≡ true) (take (suc n) ds)
-unfolding words plan_words
+before_all : (d : Delta) (ds : List Delta) (n : ℕ) (x : Delta) → AreInOrder ds → n < length ds → delta_before (get_or ds n x) d ≡ true → Each (λ e. delta_before e d ≡ true) (take (suc n) ds)
+unfolding plan_definitions
 before_all d [] n x o l h = absurd (omega (arith, l))
 before_all d (e ∷ es) zero x o l h = (h, tt)
 before_all d (e ∷ es) (suc n) x o l h =
@@ -46,19 +46,19 @@ before_all d (e ∷ es) (suc n) x o l h =
     (before_trans e (get_or es n x) d (each_at (λ y. delta_before e y ≡ true) es n x k o.0) h, before_all d es n x o.1 k h)
 
 begins_behind : (d : Delta) (ds : List Delta) (n : ℕ) (x : Delta) → n < length ds → delta_before (get_or ds n x) d ≡ false → BeginsBehind d (drop n ds)
-unfolding words plan_words
+unfolding definitions plan_definitions
 begins_behind d [] n x l h = absurd (omega (arith, l))
 begins_behind d (e ∷ es) zero x l h = h
 begins_behind d (e ∷ es) (suc n) x l h = begins_behind d es n x (omega (arith, l)) h
 
 pub place_end : (d : Delta) (ds : List Delta) → BeginsBehind d (drop (length ds) ds)
-unfolding words
+unfolding definitions
 place_end d [] = tt
 place_end d (e ∷ es) = place_end d es
 
 -- one stands before it, and so do those before that one
 pub place_after :
-    (d : Delta) (ds : List Delta) (p : ℕ) (x : Delta) → InOrder ds → 0 < p → p ≤ length ds → true ≡ delta_before (get_or ds (p - 1) x) d →
+    (d : Delta) (ds : List Delta) (p : ℕ) (x : Delta) → AreInOrder ds → 0 < p → p ≤ length ds → true ≡ delta_before (get_or ds (p - 1) x) d →
     BeginsBehind d (drop p ds) → IsPlace d ds p
 place_after d ds p x o m l h b =
     let e : suc (p - 1) ≡ p = omega (arith, m) in
@@ -74,19 +74,19 @@ place_below d ds p x m l h = begins_behind d ds (p - 1) x (omega (arith, m, l)) 
 
 -- none stands before it
 pub place_first : (d : Delta) (ds : List Delta) (p : ℕ) → p ≤ 0 → BeginsBehind d (drop p ds) → IsPlace d ds 0
-unfolding plan_words
+unfolding plan_definitions
 place_first d ds p l b =
     let e : p ≡ 0 = omega (arith, l) in
     record { within = omega arith; before = tt; behind = subst (λ n. BeginsBehind d (drop n ds)) e b }
 
 pub begins_at : (d : Delta) (ds : List Delta) (p : ℕ) (x : Delta) → p < length ds → begins_with d (drop p ds) ≡ same_delta d (get_or ds p x)
-unfolding words
+unfolding definitions
 begins_at d [] p x l = absurd (omega (arith, l))
 begins_at d (e ∷ es) zero x l = refl
 begins_at d (e ∷ es) (suc p) x l = begins_at d es p x (omega (arith, l))
 
 pub begins_past : (d : Delta) (ds : List Delta) (p : ℕ) → length ds ≤ p → begins_with d (drop p ds) ≡ false
-unfolding words
+unfolding definitions
 begins_past d [] zero l = refl
 begins_past d [] (suc p) l = refl
 begins_past d (e ∷ es) zero l = absurd (omega (arith, l))
@@ -94,12 +94,12 @@ begins_past d (e ∷ es) (suc p) l = begins_past d es p (omega (arith, l))
 
 -- ---- one more
 pub above_before : (c d : Delta) (ds : List Delta) → delta_before c d ≡ true → Above d ds → Above c ds
-unfolding plan_words
+unfolding plan_definitions
 above_before c d [] h a = tt
 above_before c d (e ∷ es) h a = (before_trans c d e h a.0, above_before c d es h a.1)
 
 above_add : (c d : Delta) (ds : List Delta) → delta_before c d ≡ true → Above c ds → Above c (add_delta d ds)
-unfolding plan_words
+unfolding plan_definitions
 above_add c d [] h a = (h, tt)
 above_add c d (e ∷ es) h a = go (same_delta d e) (delta_before d e) (above_add c d es h a.1)
   where
@@ -108,24 +108,24 @@ above_add c d (e ∷ es) h a = go (same_delta d e) (delta_before d e) (above_add
     go false true ih = (h, a)
     go false false ih = (a.0, ih)
 
-pub in_order_add : (d : Delta) (ds : List Delta) → InOrder ds → InOrder (add_delta d ds)
-unfolding words plan_words
+pub in_order_add : (d : Delta) (ds : List Delta) → AreInOrder ds → AreInOrder (add_delta d ds)
+unfolding plan_definitions
 in_order_add d [] o = (tt, tt)
 in_order_add d (e ∷ es) o = go (same_delta d e) refl (delta_before d e) refl (in_order_add d es o.1)
   where
-    go : (v : Bool) → same_delta d e ≡ v → (w : Bool) → delta_before d e ≡ w → InOrder (add_delta d es) →
-        InOrder (cond v (e ∷ es) (cond w (d ∷ e ∷ es) (e ∷ add_delta d es)))
+    go : (v : Bool) → same_delta d e ≡ v → (w : Bool) → delta_before d e ≡ w → AreInOrder (add_delta d es) →
+        AreInOrder (cond v (e ∷ es) (cond w (d ∷ e ∷ es) (e ∷ add_delta d es)))
     go true p w q ih = o
     go false p true q ih = ((q, above_before d e es q o.0), o)
     go false p false q ih = (above_add e d es (before_total d e p q) o.0, ih)
 
-pub in_order_adds : (ds es : List Delta) → InOrder es → InOrder (add_deltas ds es)
-unfolding plan_words
+pub in_order_adds : (ds es : List Delta) → AreInOrder es → AreInOrder (add_deltas ds es)
+unfolding plan_definitions
 in_order_adds [] es o = o
 in_order_adds (d ∷ ds) es o = in_order_adds ds (add_delta d es) (in_order_add d es o)
 
 add_split : (d : Delta) (ds : List Delta) (n : ℕ) → Each (λ e. delta_before e d ≡ true) (take n ds) → add_delta d ds ≡ take n ds ++ add_delta d (drop n ds)
-unfolding plan_words
+unfolding plan_definitions
 add_split d [] zero h = refl
 add_split d [] (suc n) h = refl
 add_split d (e ∷ es) zero h = refl
@@ -141,7 +141,7 @@ take_drop (x ∷ xs) zero = refl
 take_drop (x ∷ xs) (suc n) = ap (λ l. x ∷ l) (take_drop xs n)
 
 added_at : (d : Delta) (ds : List Delta) → BeginsBehind d ds → begins_with d ds ≡ false → add_delta d ds ≡ d ∷ ds
-unfolding words plan_words
+unfolding definitions plan_definitions
 added_at d [] b h = refl
 added_at d (e ∷ es) b h =
     ap (λ v. cond v (e ∷ es) (cond (delta_before d e) (d ∷ e ∷ es) (e ∷ add_delta d es))) h
@@ -151,7 +151,7 @@ added_at d (e ∷ es) b h =
     same_swap a c h = grind (arith, nat_tests)
 
 there_already : (d : Delta) (ds : List Delta) → begins_with d ds ≡ true → add_delta d ds ≡ ds
-unfolding words plan_words
+unfolding definitions plan_definitions
 there_already d [] h = absurd (true≢false (sym h))
 there_already d (e ∷ es) h =
     ap (λ v. cond v (e ∷ es) (cond (delta_before d e) (d ∷ e ∷ es) (e ∷ add_delta d es))) h
@@ -171,18 +171,18 @@ delta_kept d ds xs ys n x y p h =
     sym (add_split d ds n q.before ∙ ap (λ l. take n ds ++ l) (there_already d (drop n ds) k) ∙ take_drop ds n)
 
 -- ---- all of them
-pub adds_start : (ds es : List Delta) → es ≡ [] → InOrder es × (add_deltas ds es ≡ add_deltas ds [])
-unfolding words
-adds_start ds es p = (subst InOrder (sym p) tt, ap (add_deltas ds) p)
+pub adds_start : (ds es : List Delta) → es ≡ [] → AreInOrder es × (add_deltas ds es ≡ add_deltas ds [])
+unfolding plan_definitions
+adds_start ds es p = (subst AreInOrder (sym p) tt, ap (add_deltas ds) p)
 
 pub adds_step :
-    (ds es fs ws : List Delta) (i : ℕ) (x : Delta) → i < length ds → InOrder es → fs ≡ add_delta (get_or ds i x) es → add_deltas (drop i ds) es ≡ ws →
-    InOrder fs × (add_deltas (drop (i + 1) ds) fs ≡ ws)
-unfolding plan_words
+    (ds es fs ws : List Delta) (i : ℕ) (x : Delta) → i < length ds → AreInOrder es → fs ≡ add_delta (get_or ds i x) es → add_deltas (drop i ds) es ≡ ws →
+    AreInOrder fs × (add_deltas (drop (i + 1) ds) fs ≡ ws)
+unfolding plan_definitions
 adds_step ds es fs ws i x l o e h =
     let next : drop i ds ≡ get_or ds i x ∷ drop (i + 1) ds = rw add-one (drop-cons ds i x l) in
-    (subst InOrder (sym e) (in_order_add (get_or ds i x) es o), ap (add_deltas (drop (i + 1) ds)) e ∙ sym (ap (λ l. add_deltas l es) next) ∙ h)
+    (subst AreInOrder (sym e) (in_order_add (get_or ds i x) es o), ap (add_deltas (drop (i + 1) ds)) e ∙ sym (ap (λ l. add_deltas l es) next) ∙ h)
 
 pub adds_end : (ds es ws : List Delta) (i : ℕ) → length ds ≤ i → add_deltas (drop i ds) es ≡ ws → es ≡ ws
-unfolding plan_words
+unfolding plan_definitions
 adds_end ds es ws i l h = sym (ap (λ r. add_deltas r es) (drop_of_length-le ds l)) ∙ h

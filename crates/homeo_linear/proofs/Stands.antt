@@ -2,14 +2,14 @@
 use Rattle.std.proofs.Common.{◌≡◌, ℕ, Bool, true, false, cond, Option, Some, None, ℤ, pos, negsuc, refl, sym, ap, ◌∙◌, subst}
 use Rattle.std.specs.HashMap.{HashMap, get, get_by}
 use Rattle.std.specs.Option.{unwrap_or}
-use Rattle.homeo_meaning.specs.Key.{words as meaning_words}
+use Rattle.homeo_meaning.specs.Key.{definitions as meaning_definitions}
 use Rattle.homeo_meaning.specs.LowMeaning.{same_location, put}
-use Rattle.homeo_plan.specs.Key.{words as plan_words}
+use Rattle.homeo_plan.specs.Key.{definitions as plan_definitions}
 use Rattle.homeo_plan.specs.Linear.{Linear, Forms, base_forms, scale_form}
 use Rattle.homeo_split.specs.contracts.places.PlacePartialEq.TheImpl.{ghosts}
 use Rattle.homeo_split.specs.declared.places.Place.{Place}
 use Rattle.homeo_split.specs.declared.places.Place.TheVariants.{Delta}
-use Rattle.homeo_linear.specs.inner.Key.{words}
+use Rattle.homeo_linear.specs.inner.Key.{definitions}
 use Rattle.homeo_split.specs.Places.{plain_place}
 use Rattle.homeo_split.proofs.SamePlaces.{is_at, at_each_place, same-places}
 use Rattle.homeo_linear.specs.inner.Terms.{term_form}
@@ -22,7 +22,7 @@ pub stands-put :
     {S : Type 0} (g : Forms) (m n : HashMap Place Linear S) (k : Place) (v : Linear) →
     ((q : Place) → get ghosts.eq n q ≡ cond (ghosts.eq k q) (Some v) (get ghosts.eq m q)) →
     (λ l. unwrap_or (get_by (is_at l) n) (g l)) ≡ put (λ l. unwrap_or (get_by (is_at l) m) (g l)) (plain_place k) v
-unfolding meaning_words
+unfolding meaning_definitions
 stands-put g m n k v h =
     let s : ghosts.eq ≡ (λ a b. is_at (plain_place a) b) = λ i a b. same-places a b i in
     let h' = subst (λ (e : Place → Place → Bool). (q : Place) → get e n q ≡ cond (e k q) (Some v) (get e m q)) s h in
@@ -44,11 +44,11 @@ stands-unset g m k h = stands-at g m k None h
 -- ---- the form of a delta as a round begins
 pub base_delta :
     (b : ℕ → ℤ) (p : Place) (x j : ℕ) → p ≡ Delta x j → term_form (record { delta = record { object = x; site = j }; factor = pos 1 }) ≡ base_forms b (plain_place p)
-unfolding plan_words words
+unfolding plan_definitions definitions
 base_delta b p x j e = sym (ap (λ q. base_forms b (plain_place q)) e)
 
 pub base_negated :
     (b : ℕ → ℤ) (p : Place) (x j : ℕ) → p ≡ Delta x j →
     term_form (record { delta = record { object = x; site = j }; factor = negsuc 0 }) ≡ scale_form (negsuc 0) (base_forms b (plain_place p))
-unfolding plan_words words
+unfolding plan_definitions definitions
 base_negated b p x j e = sym (ap (λ q. scale_form (negsuc 0) (base_forms b (plain_place q))) e)

@@ -4,7 +4,7 @@ use mir.Syntax.{w128}
 use Rattle.std.specs.Int.RustNames.{unsigned_abs}
 use Rattle.std.proofs.lemmas.Int.{ints, fits_signed_from_abs, to_z-of_z, unsigned_abs-mul}
 use Rattle.std.proofs.lemmas.Nat.{mul-le}
-use Rattle.homeo_meaning.specs.Key.{words as meaning_words}
+use Rattle.homeo_meaning.specs.Key.{definitions as meaning_definitions}
 use Rattle.homeo_meaning.specs.Small.{IsSmall}
 use Rattle.homeo_plan.specs.Limit.{form_limit}
 use Rattle.homeo_linear.specs.inner.Terms.{sum_limit}
@@ -13,11 +13,11 @@ pub abs_add : (a b : ℤ) → unsigned_abs (a +ℤ b) ≤ unsigned_abs a + unsig
 abs_add a b = grind (arith, ints)
 
 sum_fits : (a b : ℤ) → IsSmall form_limit a → IsSmall sum_limit b → FitsSigned w128 (a +ℤ b)
-unfolding meaning_words
+unfolding meaning_definitions
 sum_fits a b h k = fits_signed_from_abs w128 (a +ℤ b) (omega (arith, h, k, abs_add a b))
 
 product_fits : (a b : ℤ) → IsSmall form_limit a → IsSmall form_limit b → FitsSigned w128 (a *ℤ b)
-unfolding meaning_words
+unfolding meaning_definitions
 product_fits a b h k =
     fits_signed_from_abs w128 (a *ℤ b) (omega (arith, unsigned_abs-mul a b, mul-le (unsigned_abs a) (unsigned_abs b) form_limit form_limit h k))
 

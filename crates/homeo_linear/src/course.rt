@@ -17,7 +17,7 @@ ghost use Rattle.homeo_linear.specs.inner.Course.{followed_so};
 ghost use Rattle.homeo_linear.specs.inner.Kept.{kept_cond};
 
 use crate::conditions::{condition, push_all};
-use crate::deltas::joined;
+use crate::deltas::in_order;
 use crate::expressions::form;
 use crate::form::Form;
 use crate::standing::Standing;
@@ -106,7 +106,7 @@ impl<'a> Course<'a> {
 }
 
 /// The delta that stands for the object that a name names.
-#[tactic(auto, unfolding(homeo_plan::specs::Key::words, homeo_follow::specs::Key::words))]
+#[tactic(auto, unfolding(homeo_plan::specs::Key::definitions, homeo_follow::specs::Key::definitions))]
 fn delta_of(name: SplitName) -> Delta
     ensures { result ≡ object_delta (object_of name) }
 {
@@ -208,12 +208,12 @@ fn needed(
         print_needs prints.items (write_needs (values_of base.now) (forms_of standing.now) (map (λ d. d.object) written.items))) }
 {
     let mut prints = prints;
-    let written = joined(alloc, written)?;
+    let written = in_order(alloc, written)?;
     let mut needed = gained(alloc, base, standing, written.as_slice())?;
     while let Some(form) = prints.pop() {
         push_support(alloc, &mut needed, &form)?;
     }
-    joined(alloc, needed)
+    in_order(alloc, needed)
 }
 
 /// What the gains of these objects depend on, in no order, and each delta as often as it is needed.

@@ -1,15 +1,15 @@
 //! Deltas in order, each once.
 
 ghost use Rattle.std.specs.Prelude.{◌≡◌, ◌<◌, ◌+◌, ◌++◌, length, drop, [], IsTrue, IfOk, OnOk};
-ghost use Rattle.homeo_plan.specs.Linear.{same_delta, delta_before, deltas_of, add_delta, add_deltas};
-ghost use Rattle.homeo_linear.specs.inner.Order.{InOrder, IsPlace, begins_with};
+ghost use Rattle.homeo_plan.specs.Linear.{AreInOrder, same_delta, delta_before, deltas_of, add_delta, add_deltas};
+ghost use Rattle.homeo_linear.specs.inner.Order.{IsPlace, begins_with};
 
 use homeo_plan::{Delta, Term};
 use homeo_syntax::Memory;
 use std::alloc::Global;
 
 /// The order is by object, and then by site.
-#[tactic(auto, unfolding(homeo_plan::specs::Key::words))]
+#[tactic(auto, unfolding(homeo_plan::specs::Key::definitions))]
 pub(crate) fn is_before(a: Delta, b: Delta) -> bool
     ensures { result ≡ delta_before a b }
 {
@@ -18,7 +18,7 @@ pub(crate) fn is_before(a: Delta, b: Delta) -> bool
 
 /// How many of the deltas stand before a delta, looked for from the end: deltas that come in order are put there.
 fn place(deltas: &[Delta], delta: Delta) -> usize
-    requires { InOrder deltas.now }
+    requires { AreInOrder deltas.now }
     ensures { IsPlace delta deltas.now result }
 {
     let mut place = deltas.len();
@@ -42,7 +42,7 @@ fn stands_at(deltas: &[Delta], place: usize, delta: Delta) -> bool
     }
 }
 
-#[tactic(auto, unfolding(homeo_plan::specs::Key::words))]
+#[tactic(auto, unfolding(homeo_plan::specs::Key::definitions))]
 fn is_same(found: &Delta, delta: Delta) -> bool
     ensures { result ≡ same_delta delta found.now }
 {
@@ -51,7 +51,7 @@ fn is_same(found: &Delta, delta: Delta) -> bool
 
 /// Adds a delta, unless it is there.
 fn add_delta(deltas: &mut Vec<Delta>, delta: Delta) -> Result<(), Memory>
-    requires order { InOrder deltas.old.items }
+    requires order { AreInOrder deltas.old.items }
     ensures { OnOk result (deltas.new.items ≡ add_delta delta deltas.old.items) }
 {
     let place = place(deltas.as_slice(), delta);
@@ -65,14 +65,14 @@ fn add_delta(deltas: &mut Vec<Delta>, delta: Delta) -> Result<(), Memory>
 /// Whether the delta at a place stands before the next one.
 fn leads(deltas: &[Delta], place: usize) -> bool
     requires { place < length deltas.now }
-    ensures { IsTrue result → InOrder (drop (place + 1) deltas.now) → InOrder (drop place deltas.now) }
+    ensures { IsTrue result → AreInOrder (drop (place + 1) deltas.now) → AreInOrder (drop place deltas.now) }
 {
     place + 1 == deltas.len() || is_before(deltas[place], deltas[place + 1])
 }
 
 /// Whether the deltas are in order, each once.
-fn are_joined(deltas: &[Delta]) -> bool
-    ensures { IsTrue result → InOrder deltas.now }
+fn are_in_order(deltas: &[Delta]) -> bool
+    ensures { IsTrue result → AreInOrder deltas.now }
 {
     let mut place = deltas.len();
     while place > 0 {
@@ -101,10 +101,10 @@ fn collected(alloc: Global, deltas: &[Delta]) -> Result<Vec<Delta>, Memory>
 /// # Errors
 ///
 /// `Memory` when out of memory.
-pub fn joined(alloc: Global, deltas: Vec<Delta>) -> Result<Vec<Delta>, Memory>
+pub fn in_order(alloc: Global, deltas: Vec<Delta>) -> Result<Vec<Delta>, Memory>
     ensures { IfOk result (λ v. v.items ≡ add_deltas deltas.items []) }
 {
-    if are_joined(deltas.as_slice()) {
+    if are_in_order(deltas.as_slice()) {
         return Ok(deltas);
     }
     let mut sorted = deltas;

@@ -51,7 +51,7 @@ fn sum(alloc: Global, standing: &Standing, es: &[LExpr]) -> Result<Form, Memory>
             }
         };
     }
-    total.joined(alloc)
+    total.into_form(alloc)
 }
 
 #[cycle(expressions)]

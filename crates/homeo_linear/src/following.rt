@@ -14,7 +14,7 @@ ghost use Rattle.homeo_linear.specs.inner.Following.{needs_of, Followed};
 ghost use Rattle.homeo_split.specs.Places.{plain_place};
 ghost use Rattle.homeo_linear.specs.Standing.{forms_of};
 
-use crate::deltas::joined;
+use crate::deltas::in_order;
 use crate::expressions::form;
 use crate::form::Form;
 use crate::standing::Standing;
@@ -104,12 +104,12 @@ impl<'a> Following<'a> {
         ensures { IfOk result (λ v. v.items ≡ needs_of self.entry NoCommand) }
     {
         let mut prints = self.prints;
-        let written = joined(alloc, self.written)?;
+        let written = in_order(alloc, self.written)?;
         let mut needed = written_needs(alloc, self.site, &self.standing, written.as_slice())?;
         while let Some(deltas) = prints.pop() {
             needed.extend_from_slice(deltas.as_slice())?;
         }
-        joined(alloc, needed)
+        in_order(alloc, needed)
     }
 }
 
@@ -177,7 +177,7 @@ fn is_remote(delta: &Delta, site: u32) -> bool
 /// # Errors
 ///
 /// `Memory` when out of memory.
-#[tactic(auto, unfolding(homeo_plan::specs::Key::words))]
+#[tactic(auto, unfolding(homeo_plan::specs::Key::definitions))]
 pub fn push_written(written: &mut Vec<Delta>, name: SplitName) -> Result<(), Memory>
     ensures { OnOk result (add_deltas written.new.items [] ≡ add_written name (add_deltas written.old.items [])) }
 {

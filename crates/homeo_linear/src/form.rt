@@ -3,11 +3,10 @@
 ghost use Rattle.std.specs.Prelude.{◌≡◌, ◌↔◌, IsTrue, pos, IfOk};
 ghost use Rattle.homeo_meaning.specs.Small.{IsSmall};
 ghost use Rattle.homeo_plan.specs.FormSizes.{Numbers};
-ghost use Rattle.homeo_plan.specs.Linear.{constant_form, delta_form, add_forms, scale_form, multiply_forms, mix_forms, is_pure, support};
+ghost use Rattle.homeo_plan.specs.Linear.{AreInOrder, constant_form, delta_form, add_forms, scale_form, multiply_forms, mix_forms, is_pure, support};
 ghost use Rattle.homeo_plan.specs.PlanView.{plain_linear};
 ghost use Rattle.homeo_plan.specs.Limit.{form_limit};
 ghost use Rattle.homeo_follow.specs.Follow.{object_form};
-ghost use Rattle.homeo_linear.specs.inner.Order.{InOrder};
 ghost use Rattle.homeo_linear.specs.inner.Terms.{term_form, beside};
 
 use crate::deltas::{self, push_deltas_of};
@@ -31,15 +30,14 @@ pub struct Form {
 }
 
 impl Model for Form {
-    ghost use Rattle.homeo_plan.specs.Linear.{Linear};
-    ghost use Rattle.homeo_linear.specs.inner.Order.{InOrder};
-    ghost use Rattle.homeo_linear.specs.inner.Terms.{AreJoined};
+    ghost use Rattle.homeo_plan.specs.Linear.{Linear, AreInOrder};
+    ghost use Rattle.homeo_linear.specs.inner.Terms.{AreAddedUp};
 
     ghost Value = { Linear };
 
     ghost view = { λ f. record { constant = f.constant; terms = f.terms.items; mixed = f.mixed.items } };
 
-    ghost invariant = { λ f. AreJoined f.terms.items × InOrder f.mixed.items };
+    ghost invariant = { λ f. AreAddedUp f.terms.items × AreInOrder f.mixed.items };
 }
 
 impl Form {
@@ -115,7 +113,7 @@ impl Form {
         ensures { IfOk result (λ f. f ≡ add_forms other.now self) }
     {
         let total = Total::of(self);
-        total.put(other)?.joined(alloc)
+        total.put(other)?.into_form(alloc)
     }
 
     /// The form with its numbers multiplied.
@@ -161,7 +159,7 @@ impl Form {
         Ok(Form {
             constant: multiplied(self.constant, other.constant),
             terms: Vec::new(alloc),
-            mixed: deltas::joined(alloc, mixed)?,
+            mixed: deltas::in_order(alloc, mixed)?,
         })
     }
 
@@ -185,11 +183,11 @@ impl Form {
     /// Each delta of the form, mixed or not, in order.
     pub(crate) fn support(&self, alloc: Global) -> Result<Vec<Delta>, Memory>
         ensures value { IfOk result (λ v. v.items ≡ support self.now) }
-        ensures order { IfOk result (λ v. InOrder v.items) }
+        ensures order { IfOk result (λ v. AreInOrder v.items) }
     {
         let mut deltas = Vec::from_slice(alloc, self.mixed.as_slice())?;
         push_deltas_of(&mut deltas, self.terms.as_slice())?;
-        deltas::joined(alloc, deltas)
+        deltas::in_order(alloc, deltas)
     }
 
     /// The value where all deltas are 0.
@@ -211,14 +209,14 @@ impl Form {
     }
 }
 
-/// A sum of forms in the making. Its terms and mixed deltas stand as they were put into it, until they are joined.
+/// A sum of forms in the making. Its terms and mixed deltas stand as they were put into it, until they are added up.
 #[derive(Drop)]
 pub(crate) struct Total {
     constant: i128,
     terms: Vec<Term>,
     mixed: Vec<Delta>,
-    /// How many terms and mixed deltas may stand there where a form is put in. Where there are more, they are joined first, so
-    /// that a sum of many forms with the same deltas stays short.
+    /// How many terms and mixed deltas may stand there where a form is put in. Where there are more, they are added up first,
+    /// so that a sum of many forms with the same deltas stays short.
     room: usize,
 }
 
@@ -252,12 +250,12 @@ impl Total {
         requires { Numbers (IsSmall form_limit) form }
         ensures { result ≡ form }
     {
-        let joined = form.terms.len().saturating_add(form.mixed.len());
+        let held = form.terms.len().saturating_add(form.mixed.len());
         Total {
             constant: form.constant,
             terms: form.terms,
             mixed: form.mixed,
-            room: joined.saturating_mul(2).max(LEAST_ROOM),
+            room: held.saturating_mul(2).max(LEAST_ROOM),
         }
     }
 
@@ -272,13 +270,13 @@ impl Total {
         ensures { IfOk result (λ t. t ≡ add_forms form.now self) }
     {
         if self.is_full() {
-            Total::of(self.joined(alloc)?).put(form)
+            Total::of(self.into_form(alloc)?).put(form)
         } else {
             self.put(form)
         }
     }
 
-    /// The same, where nothing is joined.
+    /// The same, where nothing is added up.
     fn put(self, form: &Form) -> Result<Total, Memory>
         requires small { Numbers (IsSmall form_limit) self }
         requires form_small { Numbers (IsSmall form_limit) form.now }
@@ -326,13 +324,13 @@ impl Total {
     }
 
     /// The sum as a form.
-    pub(crate) fn joined(self, alloc: Global) -> Result<Form, Memory>
+    pub(crate) fn into_form(self, alloc: Global) -> Result<Form, Memory>
         ensures { IfOk result (λ f. f ≡ self) }
     {
         Ok(Form {
             constant: self.constant,
-            terms: terms::joined(alloc, self.terms)?,
-            mixed: deltas::joined(alloc, self.mixed)?,
+            terms: terms::added_up(alloc, self.terms)?,
+            mixed: deltas::in_order(alloc, self.mixed)?,
         })
     }
 }

@@ -154,7 +154,7 @@ impl<'a> Standing<'a> {
 }
 
 /// The form at a place as a round begins, where objects are whole.
-#[tactic(auto, unfolding(homeo_plan::specs::Key::words, homeo_follow::specs::Key::words))]
+#[tactic(auto, unfolding(homeo_plan::specs::Key::definitions, homeo_follow::specs::Key::definitions))]
 fn object_form(alloc: Global, base: &[i64], place: Place) -> Result<Form, Memory>
     ensures { IfOk result (λ f. f ≡ object_forms (values_of base.now) (plain_place place)) }
 {
@@ -168,7 +168,7 @@ fn object_form(alloc: Global, base: &[i64], place: Place) -> Result<Form, Memory
 }
 
 /// The form at a place as a round begins.
-#[tactic(auto, unfolding(homeo_plan::specs::Key::words))]
+#[tactic(auto, unfolding(homeo_plan::specs::Key::definitions))]
 fn base_form(alloc: Global, base: &[i64], place: Place) -> Result<Form, Memory>
     ensures { IfOk result (λ f. f ≡ base_forms (values_of base.now) (plain_place place)) }
 {
@@ -184,7 +184,7 @@ fn base_form(alloc: Global, base: &[i64], place: Place) -> Result<Form, Memory>
 }
 
 /// The form at a place as a round begins, put into a sum.
-#[tactic(auto, unfolding(homeo_plan::specs::Key::words))]
+#[tactic(auto, unfolding(homeo_plan::specs::Key::definitions))]
 fn add_base(base: &[i64], place: Place, total: Total) -> Result<Total, Memory>
     requires small { Numbers (IsSmall form_limit) total }
     requires place_small { Numbers (IsSmall form_limit) (base_forms (values_of base.now) (plain_place place)) }
@@ -204,7 +204,7 @@ fn add_base(base: &[i64], place: Place, total: Total) -> Result<Total, Memory>
 }
 
 /// The negative of the form at a place as a round begins, put into a sum.
-#[tactic(auto, unfolding(homeo_plan::specs::Key::words))]
+#[tactic(auto, unfolding(homeo_plan::specs::Key::definitions))]
 fn subtract_base(base: &[i64], place: Place, total: Total) -> Result<Total, Memory>
     requires small { Numbers (IsSmall form_limit) total }
     requires place_small { Numbers (IsSmall form_limit) (base_forms (values_of base.now) (plain_place place)) }

@@ -3,10 +3,10 @@
 ghost use Rattle.std.specs.Prelude.{◌≡◌, ◌<◌, ◌+◌, ◌+ℤ◌, ◌*ℤ◌, pos, not, length, drop, [], IsTrue, IfOk, OnOk};
 ghost use Rattle.std.specs.Ordering.{int_eq};
 ghost use Rattle.homeo_meaning.specs.Small.{IsSmall};
-ghost use Rattle.homeo_plan.specs.Linear.{same_delta, deltas_of, add_term, add_terms, scale_terms};
+ghost use Rattle.homeo_plan.specs.Linear.{AreInOrder, same_delta, deltas_of, add_term, add_terms, scale_terms};
 ghost use Rattle.homeo_plan.specs.Limit.{form_limit};
-ghost use Rattle.homeo_linear.specs.inner.Order.{InOrder, IsPlace, begins_with};
-ghost use Rattle.homeo_linear.specs.inner.Terms.{AreWithin, AreSmall, AreJoined, sum_limit, add_at};
+ghost use Rattle.homeo_linear.specs.inner.Order.{IsPlace, begins_with};
+ghost use Rattle.homeo_linear.specs.inner.Terms.{AreWithin, AreSmall, AreAddedUp, sum_limit, add_at};
 
 use crate::deltas::is_before;
 use crate::numbers::{added, multiplied};
@@ -16,7 +16,7 @@ use std::alloc::Global;
 
 /// How many of the terms stand before a delta, looked for from the end: terms that come in order are put there.
 fn place(terms: &[Term], delta: Delta) -> usize
-    requires { InOrder (deltas_of terms.now) }
+    requires { AreInOrder (deltas_of terms.now) }
     ensures { IsPlace delta (deltas_of terms.now) result }
 {
     let mut place = terms.len();
@@ -40,14 +40,14 @@ fn stands_at(terms: &[Term], place: usize, delta: Delta) -> bool
     }
 }
 
-#[tactic(auto, unfolding(homeo_plan::specs::Key::words))]
+#[tactic(auto, unfolding(homeo_plan::specs::Key::definitions))]
 fn is_of(term: &Term, delta: Delta) -> bool
     ensures { result ≡ same_delta delta term.now.delta }
 {
     delta == term.delta
 }
 
-#[tactic(auto, unfolding(homeo_plan::specs::Key::words))]
+#[tactic(auto, unfolding(homeo_plan::specs::Key::definitions))]
 fn counts(term: &Term) -> bool
     ensures { result ≡ not (int_eq term.now.factor (pos 0)) }
 {
@@ -97,7 +97,7 @@ fn add_factor(terms: &mut Vec<Term>, place: usize, more: &Term)
 
 /// Adds a term.
 fn add_term(terms: &mut Vec<Term>, term: &Term) -> Result<(), Memory>
-    requires order { InOrder (deltas_of terms.old.items) }
+    requires order { AreInOrder (deltas_of terms.old.items) }
     requires factor { IsSmall form_limit term.now.factor }
     requires small { AreWithin sum_limit terms.old.items }
     ensures { OnOk result (terms.new.items ≡ add_term term.now.delta term.now.factor terms.old.items) }
@@ -116,15 +116,15 @@ fn add_term(terms: &mut Vec<Term>, term: &Term) -> Result<(), Memory>
 /// Whether the term at a place counts, and stands before the next one.
 fn leads(terms: &[Term], place: usize) -> bool
     requires { place < length terms.now }
-    ensures { IsTrue result → AreJoined (drop (place + 1) terms.now) → AreJoined (drop place terms.now) }
+    ensures { IsTrue result → AreAddedUp (drop (place + 1) terms.now) → AreAddedUp (drop place terms.now) }
 {
     counts(&terms[place])
         && (place + 1 == terms.len() || is_before(terms[place].delta, terms[place + 1].delta))
 }
 
 /// Whether the terms are in order, each delta once, and no factor is 0.
-fn are_joined(terms: &[Term]) -> bool
-    ensures { IsTrue result → AreJoined terms.now }
+fn are_added_up(terms: &[Term]) -> bool
+    ensures { IsTrue result → AreAddedUp terms.now }
 {
     let mut place = terms.len();
     while place > 0 {
@@ -150,11 +150,11 @@ fn collected(alloc: Global, terms: &[Term]) -> Result<Vec<Term>, Memory>
 
 /// The terms added up. It doesn't matter to the sums in which order they are added, so that they are brought into that of
 /// their deltas first, unless they stand in it.
-pub(crate) fn joined(alloc: Global, terms: Vec<Term>) -> Result<Vec<Term>, Memory>
+pub(crate) fn added_up(alloc: Global, terms: Vec<Term>) -> Result<Vec<Term>, Memory>
     requires { AreSmall terms.items }
     ensures { IfOk result (λ v. v.items ≡ add_terms terms.items []) }
 {
-    if are_joined(terms.as_slice()) {
+    if are_added_up(terms.as_slice()) {
         return Ok(terms);
     }
     let mut sorted = terms;

@@ -2,10 +2,10 @@
 use Rattle.std.proofs.Common.{◌≡◌, ◌<◌, ◌≤◌, ℕ, ◌+◌, Bool, true, false, cond, List, [], ◌∷◌, map, ℤ, pos, refl, ap, ◌∙◌, arith}
 use Rattle.std.specs.Prelude.{◌==◌, ◌&&◌, ◌+ℤ◌, int_le}
 use Rattle.std.proofs.lemmas.Bool.Decides.{nat_tests}
-use Rattle.homeo_meaning.specs.Key.{words as meaning}
+use Rattle.homeo_meaning.specs.Key.{definitions as meaning_definitions}
 use Rattle.homeo_meaning.specs.Meaning.{State, changed, set_object}
 use Rattle.homeo_meaning.specs.Serial.{Outcome, values_of, values_from, database_like, outcome_at, transaction_named}
-use Rattle.homeo_load.specs.Key.{words}
+use Rattle.homeo_load.specs.Key.{definitions}
 use Rattle.homeo_load.specs.Additions.{Addition}
 use Rattle.homeo_load.specs.Load.{transaction_name, load_of, eight}
 use Rattle.homeo_load.proofs.Cases.{by_eight}
@@ -45,7 +45,7 @@ module _ (all : List Addition) (f : ℕ → ℕ) (n : ℕ) where
   Gives p = outcome_at (load_of all) (transaction_named (load_of all) (transaction_name p)) (pos n ∷ []) (database_of f) ≡ outcome_if p (is_in p)
 
   gives : (p : ℕ) → p < 8 → Gives p
-  unfolding meaning words start new_value is_in outcome_if
+  unfolding meaning_definitions definitions start new_value is_in outcome_if
   gives = by_eight Gives refl refl refl refl refl refl refl refl
 
   value_is : (p : ℕ) → p < 8 → new_value p ≡ pos (f p + n)
@@ -74,11 +74,11 @@ module _ (all : List Addition) (f : ℕ → ℕ) (n : ℕ) where
       value_at f i m ∙ ap pos e
 
   added : (p : ℕ) → p < 8 → database_like (database_of f) (changed (values_of (database_of f)) p (new_value p)) ≡ database_of (more_at p)
-  unfolding meaning
+  unfolding meaning_definitions
   added p l = read_back (changed (values_of (database_of f)) p (new_value p)) (more_at p) (λ i m. changed_at p i l m (p == i) refl)
 
   pub adds : (p : ℕ) → p < 8 → f p + n ≤ 1000000
       → outcome_at (load_of all) (transaction_named (load_of all) (transaction_name p)) (pos n ∷ []) (database_of f) ≡ record { prints = pos n ∷ []; database = database_of (more_at p) }
-  unfolding meaning start outcome_if
+  unfolding meaning_definitions start outcome_if
   adds p l most =
       gives p l ∙ ap (outcome_if p) (within p l most) ∙ ap (λ (d : List ℤ). record { prints = pos n ∷ []; database = d }) (added p l)

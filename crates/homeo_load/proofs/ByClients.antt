@@ -9,9 +9,9 @@ use Rattle.std.proofs.lemmas.List.Sums.{sum_by-cons}
 use Rattle.std.proofs.lemmas.Bool.Decides.{nat_tests}
 use Rattle.homeo_syntax.specs.Source as s
 use Rattle.homeo_meaning.specs.declared.call.CallId.{CallId}
-use Rattle.homeo_history.specs.Key.{words as histories}
+use Rattle.homeo_history.specs.Key.{definitions as history_definitions}
 use Rattle.homeo_history.specs.Legal.{numbers_of}
-use Rattle.homeo_load.specs.Key.{words}
+use Rattle.homeo_load.specs.Key.{definitions}
 use Rattle.homeo_load.specs.Additions.{Addition}
 use Rattle.homeo_load.specs.Load.{load_call, load_of, eight, dealt}
 use Rattle.homeo_load.proofs.Cases.{by_eight}
@@ -29,14 +29,14 @@ module _ (f : CallId → ℕ) where
   one_more_if : (j : ℕ) (id : CallId) (ids : List CallId) (b : Bool) → (id.client == j) ≡ b
       → sum_by (λ seq. f (call j seq)) (map (λ (x : CallId). x.seq) (cond b (id ∷ filter (λ (x : CallId). x.client == j) ids) (filter (λ (x : CallId). x.client == j) ids)))
       ≡ cond b (f id) 0 + of_client ids j
-  unfolding histories
+  unfolding history_definitions
   one_more_if j id ids true q =
       let is : j ≡ id.client = grind (arith, nat_tests) in
       sum_by-cons (λ seq. f (call j seq)) id.seq (numbers_of j ids) ∙ ap (λ k. f (call k id.seq) + of_client ids j) is
   one_more_if j id ids false q = omega arith
 
   one_more : (id : CallId) (ids : List CallId) (j : ℕ) → of_client (id ∷ ids) j ≡ cond (id.client == j) (f id) 0 + of_client ids j
-  unfolding histories
+  unfolding history_definitions
   one_more id ids j = one_more_if j id ids (id.client == j) refl
 
   -- where f is 0 for calls of no client
@@ -50,7 +50,7 @@ module _ (f : CallId → ℕ) where
       none_if false = refl
 
   nothing : 0 ≡ sum_by (of_client []) eight
-  unfolding histories
+  unfolding history_definitions
   nothing = refl
 
   pub by_clients : ((id : CallId) → nat_lt id.client 8 ≡ false → f id ≡ 0) → (ids : List CallId) → sum_by f ids ≡ sum_by (of_client ids) eight
@@ -82,7 +82,7 @@ abbrev IsCount : List Addition → ℕ → Type 0
 IsCount all j = slice_index_or (counts all) j 0 ≡ length (dealt j 0 all)
 
 count_is : (all : List Addition) (j : ℕ) → j < 8 → IsCount all j
-unfolding words
+unfolding definitions
 count_is all = by_eight (IsCount all) (at 0) (at 1) (at 2) (at 3) (at 4) (at 5) (at 6) (at 7)
   where
     at : (j : ℕ) → length (map load_call (dealt j 0 all)) ≡ length (dealt j 0 all)
@@ -120,7 +120,7 @@ abbrev NonePast : List CallId → Type 0
 NonePast ids = (j : ℕ) → 8 ≤ j → numbers_of j ids ≡ []
 
 none_past_rest : (id : CallId) (ids : List CallId) → NonePast (id ∷ ids) → NonePast ids
-unfolding histories
+unfolding history_definitions
 none_past_rest id ids h j l = by (id.client == j) (h j l)
   where
     by : (b : Bool) → map (λ (x : CallId). x.seq) (cond b (id ∷ filter (λ (x : CallId). x.client == j) ids) (filter (λ (x : CallId). x.client == j) ids)) ≡ [] → map (λ (x : CallId). x.seq) (filter (λ (x : CallId). x.client == j) ids) ≡ []
@@ -128,7 +128,7 @@ none_past_rest id ids h j l = by (id.client == j) (h j l)
     by false e = e
 
 not_past : (id : CallId) (ids : List CallId) → NonePast (id ∷ ids) → (b : Bool) → nat_lt id.client 8 ≡ b → 1 ≡ is_client id
-unfolding histories
+unfolding history_definitions
 not_past id ids h true q = sym (λ t. cond (q t) 1 0)
 not_past id ids h false q =
     let same : (id.client == id.client) ≡ true = grind (arith, nat_tests) in
@@ -150,7 +150,7 @@ past_default (x ∷ xs) zero l = absurd (omega arith)
 past_default (x ∷ xs) (suc n) l = past_default xs n (omega arith)
 
 none_past : (all : List Addition) (ids : List CallId) → HasAllCalls all ids → NonePast ids
-unfolding words
+unfolding definitions
 none_past all ids h j l = h.numbers j ∙ ap (range_with_len 1) (past_default (counts all) j l)
 
 pub all_counted : (all : List Addition) (ids : List CallId) → HasAllCalls all ids → length ids ≡ length all

@@ -3,7 +3,7 @@ use Rattle.std.proofs.Common.{◌≡◌, ℕ, ◌+◌, ◌<◌, ◌%◌, Bool, t
 use Rattle.std.specs.Prelude.{All, ◌==◌, sum_by}
 use Rattle.std.proofs.lemmas.List.Elements.{All-nil, All-cons, All-head, All-tail}
 use Rattle.std.proofs.lemmas.List.Sums.{sum_by-cons}
-use Rattle.homeo_load.specs.Key.{words}
+use Rattle.homeo_load.specs.Key.{definitions}
 use Rattle.homeo_load.specs.Additions.{Addition}
 use Rattle.homeo_load.specs.Load.{eight, dealt}
 use Rattle.homeo_load.proofs.Cases.{by_eight}
@@ -14,7 +14,7 @@ put_fit true x rest a more = All-cons IsAddition x rest a more
 put_fit false x rest a more = more
 
 pub dealt_fit : (j k : ℕ) (all : List Addition) → All IsAddition all → All IsAddition (dealt j k all)
-unfolding words
+unfolding definitions
 dealt_fit j k [] a = All-nil IsAddition
 dealt_fit j k (x ∷ all) a = put_fit ((k % 8) == j) x (dealt j (k + 1) all) (All-head IsAddition x all a) (dealt_fit j (k + 1) all (All-tail IsAddition x all a))
 
@@ -33,7 +33,7 @@ one_takes f v =
 
 -- what all clients' additions sum to is what all additions sum to
 pub dealt_sum : (g : Addition → ℕ) (k : ℕ) (all : List Addition) → sum_by (λ j. sum_by g (dealt j k all)) eight ≡ sum_by g all
-unfolding words
+unfolding definitions
 dealt_sum g k [] = refl
 dealt_sum g k (x ∷ all) =
     let put : (j : ℕ) → sum_by g (dealt j k (x ∷ all)) ≡ cond ((k % 8) == j) (g x) 0 + sum_by g (dealt j (k + 1) all) = λ j. put_sum g ((k % 8) == j) x (dealt j (k + 1) all) in

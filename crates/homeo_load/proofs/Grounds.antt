@@ -9,11 +9,11 @@ use Rattle.std.proofs.lemmas.Map.Keys.{IsDistinct-push}
 use Rattle.std.specs.Cmp.{nat_eq_equiv}
 use Rattle.std.proofs.lemmas.Map.Steps.{length-le_from_distinct_below}
 use Rattle.std.proofs.lemmas.Bool.Decides.{nat_tests}
-use Rattle.homeo_meaning.specs.Key.{words as meaning}
+use Rattle.homeo_meaning.specs.Key.{definitions as meaning_definitions}
 use Rattle.homeo_meaning.specs.Schema.{nat_of}
 use Rattle.homeo_meaning.specs.GlobalNames.{SitedCall}
 use Rattle.homeo_meaning.specs.NumberRules.{same_ground, distinct_after}
-use Rattle.homeo_load.specs.Key.{words}
+use Rattle.homeo_load.specs.Key.{definitions}
 use Rattle.homeo_load.specs.Load.{ident, transaction_name}
 use Rattle.homeo_load.proofs.LoadCalls.{IsLoadCall}
 
@@ -29,19 +29,19 @@ abbrev made : ℕ → ℕ → ℕ → SitedCall
 made name n site = record { name = ident name; args = pos n ∷ []; site = pos site }
 
 pub name_below : (p : ℕ) → p < 8 → transaction_name p < 17
-unfolding words
+unfolding definitions
 name_below zero l = omega arith
 name_below (suc p) l = omega arith
 
 pub key_below : (c : SitedCall) → IsLoadCall c → key c < 680
-unfolding words meaning
+unfolding definitions meaning_definitions
 key_below c k =
     let e : key c ≡ (transaction_name k.object * 10 + k.number) * 4 + k.site = ap key k.same in
     let below : transaction_name k.object < 17 = name_below k.object k.object_below in
     omega (arith, e, below, k.most, k.site_below)
 
 same_itself : (name n site : ℕ) → same_ground (made name n site) (made name n site) ≡ true
-unfolding words meaning
+unfolding definitions meaning_definitions
 same_itself name n site =
     let a : (name == name) ≡ true = grind (arith, nat_tests) in
     let b : int_eq (pos n) (pos n) ≡ true = grind (arith, nat_tests) in
@@ -49,7 +49,7 @@ same_itself name n site =
     λ i. (a i && (b i && true)) && c i
 
 same_key : (u v : SitedCall) → IsLoadCall u → IsLoadCall v → key u ≡ key v → same_ground u v ≡ true
-unfolding words meaning
+unfolding definitions meaning_definitions
 same_key u v k m e =
     let a : ℕ = transaction_name k.object in
     let b : ℕ = transaction_name m.object in
@@ -89,7 +89,7 @@ one_more u kept k g false e =
     record { fit = All-push IsLoadCall kept u g.fit k; distinct = subst (IsDistinct eqb) (sym (map-append key kept (u ∷ []))) pushed }
 
 distinct_fit : (kept us : List SitedCall) → AreGrounds kept → All IsLoadCall us → AreGrounds (distinct_after kept us)
-unfolding meaning
+unfolding meaning_definitions
 distinct_fit kept [] g a = g
 distinct_fit kept (u ∷ us) g a =
     distinct_fit (cond (list_any (same_ground u) kept) kept (kept ++ u ∷ [])) us

@@ -4,10 +4,10 @@ use Rattle.std.specs.Prelude.{All, nat_lt, option_map, IfSome}
 use Rattle.std.proofs.lemmas.List.Elements.{All-head, All-tail}
 use Rattle.std.proofs.lemmas.Bool.Decides.{nat_tests}
 use Rattle.homeo_syntax.specs.Source as s
-use Rattle.homeo_meaning.specs.Key.{words as meaning}
+use Rattle.homeo_meaning.specs.Key.{definitions as meaning_definitions}
 use Rattle.homeo_meaning.specs.declared.call.CallId.{CallId}
 use Rattle.homeo_meaning.specs.Serial.{numbered, call_of}
-use Rattle.homeo_load.specs.Key.{words}
+use Rattle.homeo_load.specs.Key.{definitions}
 use Rattle.homeo_load.specs.Additions.{Addition}
 use Rattle.homeo_load.specs.Load.{load_call, load_of, dealt}
 use Rattle.homeo_load.proofs.Cases.{by_eight}
@@ -57,7 +57,7 @@ abbrev CalledAt : List Addition → ℕ → ℕ → Type 0
 CalledAt all seq client = call_of (load_of all) (record { client = client; seq = seq }) ≡ option_map load_call (addition_of all (record { client = client; seq = seq }))
 
 call_within : (all : List Addition) (seq client : ℕ) → client < 8 → CalledAt all seq client
-unfolding meaning words
+unfolding meaning_definitions definitions
 call_within all seq =
     by_eight (CalledAt all seq)
     (numbered_map (dealt 0 0 all) seq) (numbered_map (dealt 1 0 all) seq) (numbered_map (dealt 2 0 all) seq) (numbered_map (dealt 3 0 all) seq)
@@ -68,7 +68,7 @@ call_if seq None = None
 call_if seq (Some client) = numbered seq client.calls
 
 call_past : (all : List Addition) (seq client : ℕ) → 8 ≤ client → CalledAt all seq client
-unfolding meaning words
+unfolding meaning_definitions definitions
 call_past all seq client l =
     let none : slice_get (load_of all).clients client ≡ None = past_end (load_of all).clients client l in
     let q : nat_lt client 8 ≡ false = grind (arith, nat_tests) in

@@ -6,7 +6,7 @@ use Rattle.std.proofs.lemmas.List.{map-append}
 use Rattle.std.proofs.lemmas.List.FromFn.{map-range_with_len_more}
 use Rattle.homeo_syntax.specs.Listed.{Listed}
 use Rattle.homeo_syntax.specs.Source as s
-use Rattle.homeo_load.specs.Key.{words}
+use Rattle.homeo_load.specs.Key.{definitions}
 use Rattle.homeo_draws.specs.Draws.{next_state}
 use Rattle.homeo_load.specs.Additions.{Addition, next_addition, additions}
 use Rattle.homeo_load.specs.Load.{load_call, dealt}
@@ -16,7 +16,7 @@ put true x rest = refl
 put false x rest = refl
 
 deal_next : (client k state m : ℕ) → map load_call (dealt client k (additions state (suc m))) ≡ cond ((k % 8) == client) (load_call (next_addition state) ∷ []) [] ++ map load_call (dealt client (k + 1) (additions (next_state (next_state state)) m))
-unfolding words
+unfolding definitions
 deal_next client k state m = put ((k % 8) == client) (next_addition state) (dealt client (k + 1) (additions (next_state (next_state state)) m))
 
 pub deal_more : (before : List s.Call) (client k state n : ℕ) → k < n
@@ -29,7 +29,7 @@ deal_more before client k state n l =
 
 -- nothing is left
 pub deal_end : (before all : List s.Call) (client k state n : ℕ) → n ≤ k → before ++ map load_call (dealt client k (additions state (n - k))) ≡ all → before ≡ all
-unfolding words
+unfolding definitions
 deal_end before all client k state n l h =
     let e : 0 ≡ n - k = omega arith in
     sym (append-nil before) ∙ ap (λ m. before ++ map load_call (dealt client k (additions state m))) e ∙ h

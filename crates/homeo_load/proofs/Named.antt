@@ -3,12 +3,12 @@ use Rattle.std.proofs.Common.{◌<◌, ℕ, ◌+◌, ◌%◌, List, [], ◌∷�
 use Rattle.std.specs.Prelude.{All, ◌≤ℤ◌}
 use Rattle.std.proofs.lemmas.List.Elements.{All-head, All-tail}
 use Rattle.std.proofs.lemmas.Bool.Decides.{nat_tests}
-use Rattle.homeo_syntax.specs.Key.{words as syntax}
+use Rattle.homeo_syntax.specs.Key.{definitions as syntax_definitions}
 use Rattle.homeo_syntax.specs.Source as s
 use Rattle.homeo_syntax.specs.declared.phrase.Ident.{Ident}
 use Rattle.homeo_syntax.specs.declared.token.Version.TheVariants.{First}
 use Rattle.homeo_syntax.specs.WellFormed.{Each, EachIdent, EachInCommands, IsBelow, IsWellFormed, HasCommands}
-use Rattle.homeo_load.specs.Key.{words}
+use Rattle.homeo_load.specs.Key.{definitions}
 use Rattle.homeo_load.specs.Additions.{Addition}
 use Rattle.homeo_load.specs.Load.{ident, transaction_name, load_body, load_call, load_of, eight, dealt}
 use Rattle.homeo_load.proofs.DrawnAdditions.{IsAddition}
@@ -17,7 +17,7 @@ use Rattle.homeo_load.proofs.Grounds.{name_below}
 use Rattle.homeo_load.proofs.SpelledNames.{names_apart, names_spelled}
 
 each_eight : (Q : ℕ → Type 0) → ((i : ℕ) → i < 8 → Q i) → Each Q eight
-unfolding syntax
+unfolding syntax_definitions
 each_eight Q h = (
   h 0 (omega arith),
   (
@@ -48,11 +48,11 @@ parameter_named : Named (ident 9)
 parameter_named = named 9 (omega arith)
 
 body_named : (i : ℕ) → i < 8 → EachInCommands Named (load_body i)
-unfolding syntax words
+unfolding syntax_definitions definitions
 body_named i l = ((object_named i l, (object_named i l, (parameter_named, tt))), (parameter_named, tt))
 
 calls_named : (all : List Addition) → All IsAddition all → Each (λ (k : s.Call). Named k.name) (map load_call all)
-unfolding syntax words
+unfolding syntax_definitions definitions
 calls_named [] a = tt
 calls_named (x ∷ all) a = (transaction_named x.object (All-head IsAddition x all a).object, calls_named all (All-tail IsAddition x all a))
 
@@ -60,7 +60,7 @@ client_named : (i : ℕ) → i < 8 → Named (ident (17 + i))
 client_named i l = named (17 + i) (omega arith)
 
 each_named : (all : List Addition) → All IsAddition all → EachIdent Named (load_of all)
-unfolding syntax words
+unfolding syntax_definitions definitions
 each_named all a = record {
   objects = each_eight (λ i. Named (ident i)) object_named;
   relations = tt;
@@ -73,7 +73,7 @@ not_negative : (n : ℕ) → pos 0 ≤ℤ pos n
 not_negative n = grind (arith, nat_tests)
 
 pub load_well_formed : (all : List Addition) → All IsAddition all → IsWellFormed (load_of all)
-unfolding syntax words
+unfolding syntax_definitions definitions
 load_well_formed all a = record {
   form = First;
   version = refl;

@@ -4,17 +4,17 @@ use Rattle.std.specs.Prelude.{All, sum_by}
 use Rattle.std.proofs.lemmas.List.Concat.{length-flat_map}
 use Rattle.std.proofs.lemmas.List.Elements.{All-weaker}
 use Rattle.std.proofs.lemmas.List.Sums.{sum_by-le}
-use Rattle.homeo_meaning.specs.Key.{words as meaning}
+use Rattle.homeo_meaning.specs.Key.{definitions as meaning_definitions}
 use Rattle.homeo_meaning.specs.Initial.{initial}
-use Rattle.homeo_history.specs.Key.{words as histories}
+use Rattle.homeo_history.specs.Key.{definitions as history_definitions}
 use Rattle.homeo_history.specs.History.{Entry, Round, History}
 use Rattle.homeo_history.specs.Legal.{entries_of, first_base, base_or, IsFull}
-use Rattle.homeo_print.specs.Key.{words as printed}
+use Rattle.homeo_print.specs.Key.{definitions as print_definitions}
 use Rattle.homeo_print.specs.Names.{heading, object_names}
-use Rattle.homeo_report.specs.Key.{words as reported}
+use Rattle.homeo_report.specs.Key.{definitions as report_definitions}
 use Rattle.homeo_report.specs.Report.{object_lines}
 use Rattle.homeo_report.specs.Summary.{summary}
-use Rattle.homeo_load.specs.Key.{words}
+use Rattle.homeo_load.specs.Key.{definitions}
 use Rattle.homeo_load.specs.Additions.{Addition, additions}
 use Rattle.homeo_load.specs.Load.{load_object_names, load_of, load_workload}
 use Rattle.homeo_load.specs.Sums.{added_to}
@@ -30,17 +30,17 @@ zeros : ℕ → ℕ
 zeros i = 0
 
 starts_empty : (all : List Addition) → initial (load_of all) ≡ database_of zeros
-unfolding meaning words zeros
+unfolding meaning_definitions definitions zeros
 starts_empty all = refl
 
 first_is : (rounds : List Round) (last d : List ℤ) → first_base rounds ≡ Some d → base_or rounds last ≡ d
-unfolding histories
+unfolding history_definitions
 first_is [] last d e = cc
 first_is (r ∷ rounds) last d e = cc
 
 module _ (all : List Addition) (fits : All IsAddition all) (short : length all ≤ 20000) (h : History) (full : IsFull (load_of all) h) where
   has_calls : HasAllCalls all (calls (flat_map entries_of h.rounds))
-  unfolding histories
+  unfolding history_definitions
   has_calls = record { numbers = full.in_order.numbers }
 
   has_room : HasRoom all fits zeros (calls (flat_map entries_of h.rounds))
@@ -51,11 +51,11 @@ module _ (all : List Addition) (fits : All IsAddition all) (short : length all �
       omega (arith, total, most, short)
 
   adds_all : Adds all fits zeros (flat_map entries_of h.rounds) h.last
-  unfolding histories
+  unfolding history_definitions
   adds_all = rounds_add all fits h.rounds h.last zeros (first_is h.rounds h.last (initial (load_of all)) full.framed.starts ∙ starts_empty all) full.serial has_room
 
   pub full_output : HasOutput all h
-  unfolding histories reported words zeros
+  unfolding history_definitions report_definitions definitions zeros
   full_output = record {
     last = adds_all.database ∙ same_database (after all fits zeros (calls (flat_map entries_of h.rounds))) (λ i. sum_by (added_to i) all) (λ i. omega (arith, all_weights all (added_to i) (calls (flat_map entries_of h.rounds)) has_calls));
     calls = all_counted all (calls (flat_map entries_of h.rounds)) has_calls;
@@ -63,16 +63,16 @@ module _ (all : List Addition) (fits : All IsAddition all) (short : length all �
   }
 
 pub load_output : (number calls : ℕ) → calls ≤ 20000 → (h : History) → IsFull (load_workload number calls) h → HasOutput (additions number calls) h
-unfolding words
+unfolding definitions
 load_output number calls l h full = full_output (additions number calls) (additions_fit number calls) (omega (arith, l, additions_length number calls)) h full
 
 -- ---- the summary
 names_are : (all : List Addition) → object_names (load_of all) ≡ load_object_names
-unfolding meaning printed words
+unfolding meaning_definitions print_definitions definitions
 names_are all = refl
 
 pub load_summary_is : (number calls : ℕ) → calls ≤ 20000 → (h : History) → IsFull (load_workload number calls) h → summary (load_workload number calls) h ≡ load_summary number calls
-unfolding reported words
+unfolding report_definitions definitions
 load_summary_is number calls l h full =
     let made : HasOutput (additions number calls) h = load_output number calls l h full in
     let each : length (additions number calls) ≡ calls = additions_length number calls in

@@ -7,7 +7,7 @@ use Rattle.std.proofs.lemmas.List.Sums.{sum_by-cons, sum_by-append, sum_by-le-su
 use Rattle.homeo_syntax.specs.Source as s
 use Rattle.homeo_meaning.specs.declared.call.CallId.{CallId}
 use Rattle.homeo_meaning.specs.Serial.{Outcome, SerialRun, call_outcome, serial}
-use Rattle.homeo_history.specs.Key.{words as histories}
+use Rattle.homeo_history.specs.Key.{definitions as history_definitions}
 use Rattle.homeo_history.specs.History.{Entry, Closing, Round}
 use Rattle.homeo_history.specs.Legal.{entries_of, HasMerges, ClosesWith, RunsTo, base_or, AreSerial}
 use Rattle.homeo_load.specs.Additions.{Addition}
@@ -34,11 +34,11 @@ sum_prints (e ∷ es) = omega (arith, sum_by-cons length e.prints (map (λ (e : 
 -- ---- the merge that takes the sites one after another
 module _ (w : s.Workload) (r : Round) (last : List ℤ) (m : HasMerges w r last) where
   flat_prints : (serial w r.base (calls (flat r.segments))).logs ≡ map (λ (e : Entry). e.prints) (flat r.segments)
-  unfolding histories
+  unfolding history_definitions
   flat_prints = subst (λ es. (serial w r.base (calls es)).logs ≡ map (λ (e : Entry). e.prints) es) (merged_flat r.segments) (m.prints (sites_from 0 (map length r.segments)) (flat_fits r.segments))
 
   flat_after : (serial w r.base (calls (flat r.segments))).database ≡ last
-  unfolding histories
+  unfolding history_definitions
   flat_after = subst (λ es. (serial w r.base (calls es)).database ≡ last) (merged_flat r.segments) (m.database (sites_from 0 (map length r.segments)) (flat_fits r.segments))
 
 module _ (all : List Addition) (fits : All IsAddition all) where
@@ -78,7 +78,7 @@ module _ (all : List Addition) (fits : All IsAddition all) where
   closing_entries c = option_to_list (option_map (λ (c : Closing). c.entry) c)
 
   closing_adds : (c : Option Closing) (last next : List ℤ) (f : ℕ → ℕ) → last ≡ database_of f → ClosesWith (load_of all) last c next → Room f (closing_entries c) → Adds f (closing_entries c) next
-  unfolding histories
+  unfolding history_definitions
   closing_adds None last next f base closes room = record { database = closes ∙ base ∙ same_database f (after all fits f []) (λ i. omega arith); prints = refl }
   closing_adds (Some c) last next f base closes room =
       let id : CallId = c.entry.call in
@@ -92,7 +92,7 @@ module _ (all : List Addition) (fits : All IsAddition all) where
       }
 
   round_adds : (r : Round) (next : List ℤ) (f : ℕ → ℕ) → r.base ≡ database_of f → RunsTo (load_of all) r next → Room f (entries_of r) → Adds f (entries_of r) next
-  unfolding histories
+  unfolding history_definitions
   round_adds r next f base run room =
       let first : Adds f (flat r.segments) run.after = segments_add r run.after f base run.merges (first_room f (flat r.segments) (closing_entries r.closing) room) in
       two_parts f (flat r.segments) (closing_entries r.closing) run.after next first
@@ -100,7 +100,7 @@ module _ (all : List Addition) (fits : All IsAddition all) where
 
   -- ---- all rounds
   pub rounds_add : (rounds : List Round) (last : List ℤ) (f : ℕ → ℕ) → base_or rounds last ≡ database_of f → AreSerial (load_of all) rounds last → Room f (flat_map entries_of rounds) → Adds f (flat_map entries_of rounds) last
-  unfolding histories
+  unfolding history_definitions
   rounds_add [] last f base runs room = record { database = base ∙ same_database f (after all fits f []) (λ i. omega arith); prints = refl }
   rounds_add (r ∷ rounds) last f base runs room =
       let first : Adds f (entries_of r) (base_or rounds last) = round_adds r (base_or rounds last) f base runs.0 (first_room f (entries_of r) (flat_map entries_of rounds) room) in

@@ -3,10 +3,10 @@ use Rattle.std.proofs.Common.{◌≡◌, ◌≤◌, ℕ, ◌+◌, Bool, true, fa
 use Rattle.std.specs.Prelude.{All, ◌==◌, sum_by, option_map, IfSome}
 use Rattle.std.specs.Option.{option_map_or}
 use Rattle.std.proofs.lemmas.List.Sums.{sum_by-cons}
-use Rattle.homeo_meaning.specs.Key.{words as meaning}
+use Rattle.homeo_meaning.specs.Key.{definitions as meaning_definitions}
 use Rattle.homeo_meaning.specs.declared.call.CallId.{CallId}
 use Rattle.homeo_meaning.specs.Serial.{Outcome, SerialRun, outcome_of, call_outcome, serial}
-use Rattle.homeo_load.specs.Key.{words}
+use Rattle.homeo_load.specs.Key.{definitions}
 use Rattle.homeo_load.specs.Additions.{Addition}
 use Rattle.homeo_load.specs.Load.{load_call, load_of}
 use Rattle.homeo_load.specs.Sums.{added_to}
@@ -42,7 +42,7 @@ module _ (all : List Addition) (fits : All IsAddition all) where
 
   outcome_by : (f : ℕ → ℕ) (o : Option Addition) → IfSome o IsAddition → ((i : ℕ) → f i + option_map_or (λ a. a.number) o 0 ≤ 1000000)
       → outcome_of (load_of all) (option_map load_call o) (database_of f) ≡ record { prints = prints_of o; database = database_of (λ i. f i + option_map_or (added_to i) o 0) }
-  unfolding meaning words
+  unfolding meaning_definitions definitions
   outcome_by f None a room =
       let same : database_of f ≡ database_of (λ i. f i + 0) = same_database f (λ i. f i + 0) (λ i. omega arith) in
       ap (λ (d : List ℤ). record { prints = []; database = d }) same
@@ -50,7 +50,7 @@ module _ (all : List Addition) (fits : All IsAddition all) where
 
   pub outcome_is : (f : ℕ → ℕ) (id : CallId) → ((i : ℕ) → f i + number_of id ≤ 1000000)
       → call_outcome (load_of all) id (database_of f) ≡ record { prints = prints_of (addition_of all id); database = database_of (λ i. f i + adds_to i id) }
-  unfolding meaning
+  unfolding meaning_definitions
   outcome_is f id room =
       ap (λ o. outcome_of (load_of all) o (database_of f)) (call_is all id) ∙ outcome_by f (addition_of all id) (addition_fits all fits id) room
 
@@ -75,7 +75,7 @@ module _ (all : List Addition) (fits : All IsAddition all) where
     pub prints : sum_by length r.logs ≡ sum_by print_of ids
 
   pub serial_adds : (ids : List CallId) (f : ℕ → ℕ) → HasRoom f ids → AddsUp f ids (serial (load_of all) (database_of f) ids)
-  unfolding meaning
+  unfolding meaning_definitions
   serial_adds [] f room = record { database = same_database f (after f []) (λ i. omega arith); prints = refl }
   serial_adds (id ∷ ids) f room =
       let here : call_outcome (load_of all) id (database_of f) ≡ record { prints = prints_of (addition_of all id); database = database_of (λ i. f i + adds_to i id) } = outcome_is f id (λ i. omega (arith, room i, sum_by-cons number_of id ids)) in

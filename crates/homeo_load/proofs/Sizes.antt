@@ -5,7 +5,7 @@ use Rattle.std.proofs.lemmas.List.Elements.{All-head, All-tail, All-weaker}
 use Rattle.std.proofs.lemmas.List.Sums.{sum_by-le}
 use Rattle.std.proofs.lemmas.Bool.Decides.{nat_tests}
 use Rattle.homeo_syntax.specs.Source as s
-use Rattle.homeo_meaning.specs.Key.{words as meaning}
+use Rattle.homeo_meaning.specs.Key.{definitions as meaning_definitions}
 use Rattle.homeo_meaning.specs.Schema.{schema_of}
 use Rattle.homeo_meaning.specs.ListRules.{each}
 use Rattle.homeo_meaning.specs.Faults.{form_faults}
@@ -16,7 +16,7 @@ use Rattle.homeo_meaning.specs.GlobalNames.{SitedCall, sited_calls}
 use Rattle.homeo_meaning.specs.NumberRules.{limit_faults, ground_calls, passes_limit}
 use Rattle.homeo_meaning.specs.SizeRules.{extent_of, heaviest, too_large, size_faults, prints_too_much, print_faults, heavy_call, weight_faults, row_faults}
 use Rattle.homeo_meaning.specs.declared.call.Purpose.TheVariants.{Run}
-use Rattle.homeo_load.specs.Key.{words}
+use Rattle.homeo_load.specs.Key.{definitions}
 use Rattle.homeo_load.specs.Additions.{Addition}
 use Rattle.homeo_load.specs.Load.{load_of}
 use Rattle.homeo_load.proofs.DrawnAdditions.{IsAddition}
@@ -39,7 +39,7 @@ sum_at_most f P m n is xs a l =
 -- ---- each rule, of calls that are all alike
 small_none : (extent : SitedCall → Extent) → ((c : SitedCall) → IsLoadCall c → extent c ≡ load_extent)
     → (before : List SitedCall) (c : SitedCall) → All IsLoadCall before → IsLoadCall c → length before < 680 → too_large extent before c ≡ []
-unfolding meaning
+unfolding meaning_definitions
 small_none extent is before c b k short =
     let size : (extent c).size ≡ 50 = ap (λ e. e.size) (is c k) in
     let depth : (extent c).depth ≡ 5 = ap (λ e. e.depth) (is c k) in
@@ -53,7 +53,7 @@ small_none extent is before c b k short =
 
 few_prints_none : (prints : SitedCall → ℕ) → ((c : SitedCall) → IsLoadCall c → prints c ≡ 1)
     → (before : List SitedCall) (c : SitedCall) → All IsLoadCall before → IsLoadCall c → length before < 20000 → prints_too_much prints before c ≡ []
-unfolding meaning
+unfolding meaning_definitions
 few_prints_none prints is before c b k short =
     let here : prints c ≡ 1 = is c k in
     let total : sum_by prints before + 1 ≤ 20000 * 1 = sum_at_most prints IsLoadCall 1 20000 is before b short in
@@ -64,7 +64,7 @@ few_prints_none prints is before c b k short =
 
 light_none : (w : s.Workload) → ((c : SitedCall) → IsLoadCall c → is_light heaviest (call_form w c) (first_weights (schema_of w)) ≡ true)
     → (cs : List SitedCall) → All IsLoadCall cs → flat_map (heavy_call w) cs ≡ []
-unfolding meaning
+unfolding meaning_definitions
 light_none w is [] a = refl
 light_none w is (c ∷ cs) a =
     let here : is_light heaviest (call_form w c) (first_weights (schema_of w)) ≡ true = is c (All-head IsLoadCall c cs a) in
@@ -85,12 +85,12 @@ module _ (all : List Addition) where
       ∙ light_at all k.site k.number k.least k.most k.object k.object_below
 
   grounds : All IsAddition all → AreGrounds (ground_calls (load_of all))
-  unfolding meaning
+  unfolding meaning_definitions
   grounds a = distinct_grounds (sited_calls (load_of all)) (load_calls_fit all a)
 
   -- ---- all rules
   pub limits_none : All IsAddition all → length all ≤ 20000 → limit_faults (load_of all) ≡ []
-  unfolding meaning words
+  unfolding meaning_definitions definitions
   limits_none a l =
       let g : AreGrounds (ground_calls (load_of all)) = grounds a in
       none_then_none (each (passes_limit 20000 (λ (c : SitedCall). c.name)) (sited_calls (load_of all))) _
@@ -98,7 +98,7 @@ module _ (all : List Addition) where
       (limit_none 1024 (λ (c : SitedCall). c.name) (ground_calls (load_of all)) (omega (arith, grounds_few (ground_calls (load_of all)) g)))
 
   pub forms_none : All IsAddition all → length all ≤ 20000 → form_faults Run (load_of all) ≡ []
-  unfolding meaning
+  unfolding meaning_definitions
   forms_none a l =
       let g : AreGrounds (ground_calls (load_of all)) = grounds a in
       let few : length (ground_calls (load_of all)) ≤ 680 = grounds_few (ground_calls (load_of all)) g in

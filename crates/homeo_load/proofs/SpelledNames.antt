@@ -5,7 +5,7 @@ use Rattle.std.specs.List.{list_all}
 use Rattle.std.proofs.lemmas.List.Kept.{AllPairs-cons}
 use Rattle.std.proofs.lemmas.List.Elements.{All-nil, All-cons}
 use Rattle.std.proofs.lemmas.Bool.Decides.{nat_tests}
-use Rattle.homeo_syntax.specs.Key.{words as syntax}
+use Rattle.homeo_syntax.specs.Key.{definitions as syntax_definitions}
 use Rattle.homeo_syntax.specs.Lexemes.{is_word, reserved, look_up}
 use Rattle.homeo_syntax.specs.declared.token.Version.TheVariants.{First}
 use Rattle.homeo_syntax.specs.Versions.{also_reserved}
@@ -64,7 +64,7 @@ spelled : (w : List ℕ) → BeginsWithLetter w → IsTrue (list_all is_word w) 
 spelled w first all short free also = record { first = first; all = all; short = grind (arith, nat_tests); free = free; also_free = also }
 
 pub names_spelled : Each (IsName First) load_names
-unfolding syntax
+unfolding syntax_definitions
 names_spelled = (
   spelled (codes "c0") refl refl refl refl refl,
   (

@@ -5,7 +5,7 @@ use Rattle.homeo_syntax.specs.declared.phrase.Ident.{Ident}
 use Rattle.homeo_syntax.specs.declared.phrase.Number.{Number}
 use Rattle.homeo_syntax.specs.declared.workload.ObjectDecl.{ObjectDecl}
 use Rattle.homeo_syntax.specs.declared.workload.RangeDecl.{RangeDecl}
-use Rattle.homeo_load.specs.Key.{words}
+use Rattle.homeo_load.specs.Key.{definitions}
 use Rattle.homeo_load.specs.Additions.{Addition, additions}
 
 -- ---- names: c0 to c7 are 0 to 7, add0 is 8, n is 9, add1 to add7 are 10 to 16, w0 to w7 are 17 to 24
@@ -28,7 +28,7 @@ number n = record { value = pos n; offset = 0 }
 
 -- the name of the transaction of an object
 abbrev pub transaction_name : ℕ → ℕ
-unfolding words
+unfolding definitions
 transaction_name zero = 8
 transaction_name (suc i) = 10 + i
 
@@ -38,7 +38,7 @@ parameter = ident 9
 -- ---- declarations
 -- object ci in 0..1000000 = 0
 abbrev pub load_object : ℕ → ObjectDecl
-unfolding words
+unfolding definitions
 load_object i = record { name = ident i; lo = number 0; hi = number 1000000; start = number 0 }
 
 -- n in 1..9
@@ -47,30 +47,30 @@ parameter_range = record { name = parameter; lo = number 1; hi = number 9 }
 
 -- { write(ci = read(ci) + n); print(n) }
 abbrev pub load_body : ℕ → s.Commands
-unfolding words
+unfolding definitions
 load_body i =
     s.MoreCommand (s.Write (ident i) (s.Sum (s.MoreExpr (s.Read (ident i)) (s.MoreExpr (s.Name parameter) s.NoExpr))))
     (s.MoreCommand (s.Print (s.Name parameter)) s.NoCommand)
 
 -- transaction addi(n in 1..9) { write(ci = read(ci) + n); print(n) }
 abbrev pub load_transaction : ℕ → s.Transaction
-unfolding words
+unfolding definitions
 load_transaction i = record { name = ident (transaction_name i); params = parameter_range ∷ []; body = load_body i }
 
 -- addi(n)
 abbrev pub load_call : Addition → s.Call
-unfolding words
+unfolding definitions
 load_call a = record { name = ident (transaction_name a.object); args = number a.number ∷ [] }
 
 -- of the calls, numbered from k on, those of client j: each whose number modulo 8 is j
 abbrev pub dealt : ℕ → ℕ → List Addition → List Addition
-unfolding words
+unfolding definitions
 dealt j k [] = []
 dealt j k (a ∷ more) = cond ((k % 8) == j) (a ∷ dealt j (k + 1) more) (dealt j (k + 1) more)
 
 -- client wj at j modulo 4, with its calls
 abbrev pub load_client : List Addition → ℕ → s.Client
-unfolding words
+unfolding definitions
 load_client all j = record { name = ident (17 + j); site = number (j % 4); calls = map load_call (dealt j 0 all) }
 
 abbrev pub eight : List ℕ
@@ -78,7 +78,7 @@ eight = 0 ∷ 1 ∷ 2 ∷ 3 ∷ 4 ∷ 5 ∷ 6 ∷ 7 ∷ []
 
 -- ---- the workload of a list of additions
 abbrev pub load_of : List Addition → s.Workload
-unfolding words
+unfolding definitions
 load_of all = record {
   version = 1;
   names = load_names;
@@ -94,5 +94,5 @@ load_of all = record {
 
 -- the workload of so many calls, drawn from a number on
 abbrev pub load_workload : ℕ → ℕ → s.Workload
-unfolding words
+unfolding definitions
 load_workload number calls = load_of (additions number calls)

@@ -5,7 +5,7 @@ use Rattle.homeo_history.specs.Legal.{calls_of}
 use Rattle.homeo_print.specs.Names.{heading}
 use Rattle.homeo_report.specs.Report.{object_lines}
 use Rattle.homeo_report.specs.Summary.{prints_of}
-use Rattle.homeo_load.specs.Key.{words}
+use Rattle.homeo_load.specs.Key.{definitions}
 use Rattle.homeo_load.specs.Additions.{Addition, additions}
 use Rattle.homeo_load.specs.Load.{load_object_names}
 use Rattle.homeo_load.specs.Sums.{sums}
@@ -18,7 +18,7 @@ pub record HasOutput (all : List Addition) (h : History) : Type 0 where
 
 -- calls N, prints N, and for each object the sum of the numbers added to it
 abbrev pub load_summary : ℕ → ℕ → List ℕ
-unfolding words
+unfolding definitions
 load_summary number calls =
     heading (codes "calls ") calls ++ heading (codes "prints ") calls
     ++ object_lines load_object_names (sums (additions number calls))

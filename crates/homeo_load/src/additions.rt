@@ -9,12 +9,12 @@ use homeo_draws::Draws;
 /// One call: a number from 1 to 9, added to an object from 0 to 7.
 #[derive(Clone, Copy)]
 pub(crate) struct Addition {
-    pub object: u32,
-    pub number: u32,
+    pub(crate) object: u32,
+    pub(crate) number: u32,
 }
 
 /// The addition that the next two draws choose.
-#[tactic(auto, unfolding(crate::specs::Key::words))]
+#[tactic(auto, unfolding(crate::specs::Key::definitions))]
 pub(crate) fn next_addition(draws: &mut Draws) -> Addition
     ensures state { draws.new.state ≡ next_state (next_state draws.old.state) }
     ensures object { result.object ≡ (next_addition draws.old.state).object }

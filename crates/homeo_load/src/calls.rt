@@ -29,7 +29,7 @@ pub(crate) fn number(value: u32) -> Number
 }
 
 /// The name of the transaction that adds to an object.
-#[tactic(auto, unfolding(crate::specs::Key::words))]
+#[tactic(auto, unfolding(crate::specs::Key::definitions))]
 pub(crate) fn transaction_name(object: u32) -> u32
     requires { object < 8 }
     ensures { result ≡ transaction_name object }
@@ -37,7 +37,7 @@ pub(crate) fn transaction_name(object: u32) -> u32
     if object == 0 { 8 } else { 9 + object }
 }
 
-#[tactic(auto, unfolding(crate::specs::Key::words, homeo_syntax::specs::Key::words))]
+#[tactic(auto, unfolding(crate::specs::Key::definitions, homeo_syntax::specs::Key::definitions))]
 fn call(alloc: Global, object: u32, added: u32) -> Result<Call, Memory>
     requires { object < 8 }
     ensures { IfOk result (λ c. plain_call c ≡ load_call (record { object = object; number = added })) }
@@ -63,7 +63,7 @@ fn push_if(list: &mut List<Call>, alloc: Global, taken: bool, a: Addition) -> Re
 }
 
 /// The calls of a client in a load of so many calls. Each client goes over all draws by itself.
-#[tactic(auto, unfolding(crate::specs::Key::words))]
+#[tactic(auto, unfolding(crate::specs::Key::definitions))]
 pub(crate) fn calls_of(
     alloc: Global,
     start: u64,

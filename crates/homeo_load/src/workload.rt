@@ -23,7 +23,7 @@ const PARAMETER: u32 = 9;
 /// How many sites a load has.
 const SITES: u32 = 4;
 
-#[tactic(auto, unfolding(crate::specs::Key::words))]
+#[tactic(auto, unfolding(crate::specs::Key::definitions))]
 fn object(place: u32) -> ObjectDecl
     ensures { result ≡ load_object place }
 {
@@ -36,7 +36,7 @@ fn object(place: u32) -> ObjectDecl
 }
 
 /// The transaction that adds its argument to an object, and prints it.
-#[tactic(auto, using(homeo_syntax::proofs::SourceViews::phrase_views, homeo_syntax::proofs::SourceViews::command_views), unfolding(crate::specs::Key::words, homeo_syntax::specs::Key::words))]
+#[tactic(auto, using(homeo_syntax::proofs::SourceViews::phrase_views, homeo_syntax::proofs::SourceViews::command_views), unfolding(crate::specs::Key::definitions, homeo_syntax::specs::Key::definitions))]
 fn transaction(alloc: Global, object: u32) -> Result<Transaction, Memory>
     requires { object < 8 }
     ensures { IfOk result (λ t. plain_transaction t ≡ load_transaction object) }
@@ -66,7 +66,7 @@ fn transaction(alloc: Global, object: u32) -> Result<Transaction, Memory>
 }
 
 /// A client with its calls.
-#[tactic(auto, unfolding(crate::specs::Key::words, homeo_syntax::specs::Key::words))]
+#[tactic(auto, unfolding(crate::specs::Key::definitions, homeo_syntax::specs::Key::definitions))]
 fn client(alloc: Global, start: u64, calls: u32, place: u32) -> Result<Client, Memory>
     requires { place < 8 }
     ensures { IfOk result (λ c. plain_client c ≡ load_client (additions start calls) place) }
@@ -109,7 +109,7 @@ fn clients(alloc: Global, start: u64, calls: u32) -> Result<List<Client>, Memory
     Ok(list)
 }
 
-#[tactic(auto, unfolding(crate::specs::Key::words, homeo_syntax::specs::Key::words))]
+#[tactic(auto, unfolding(crate::specs::Key::definitions, homeo_syntax::specs::Key::definitions))]
 fn load(alloc: Global, start: u64, calls: u32) -> Result<Workload, Memory>
     ensures { IfOk result (λ w. plain_workload w ≡ load_workload start calls) }
 {

@@ -2,7 +2,7 @@
 use Rattle.std.proofs.Common.{◌≡◌, List, [], ◌∷◌, ◌++◌, map, Option, Some, None, refl}
 use Rattle.std.specs.List.{flat_map}
 use Rattle.homeo_syntax.specs.Source as s
-use Rattle.homeo_meaning.specs.Key.{words}
+use Rattle.homeo_meaning.specs.Key.{definitions}
 use Rattle.homeo_meaning.specs.TransactionRules.{each}
 use Rattle.homeo_meaning.specs.GlobalNames.{global_names, duplicate, scope_of}
 use Rattle.homeo_meaning.specs.GlobalNames.{SitedCall, sited_calls}
@@ -29,7 +29,7 @@ pub record NoTextFault (purpose : Purpose) (w : s.Workload) : Type 0 where
   pub schedule : schedule_faults purpose (scope_of w) w.clients w.end w.schedule ≡ []
 
 pub text_parts : (purpose : Purpose) (w : s.Workload) → text_faults purpose w ≡ [] → NoTextFault purpose w
-unfolding words
+unfolding definitions
 text_parts purpose w e3 =
     let a = each duplicate (map (λ d. d.name) (global_names w)) in
     let b = declared_faults w in
@@ -52,7 +52,7 @@ pub record NoDeclaredFault (w : s.Workload) : Type 0 where
   pub weights : site_weight_faults w.sites w.weights ≡ []
 
 pub declared_parts : (w : s.Workload) → declared_faults w ≡ [] → NoDeclaredFault w
-unfolding words
+unfolding definitions
 declared_parts w e4 =
     let a = flat_map object_faults w.objects in
     let b = flat_map of_relation w.relations in
@@ -80,7 +80,7 @@ pub record NoLimitFault (w : s.Workload) : Type 0 where
   pub grounds : each (passes_limit 1024 (λ (c : SitedCall). c.name)) (ground_calls w) ≡ []
 
 pub limit_parts : (w : s.Workload) → limit_faults w ≡ [] → NoLimitFault w
-unfolding words
+unfolding definitions
 limit_parts w e6 =
     let a = site_count_faults w.sites in
     let b = flat_map slot_faults w.relations in
@@ -111,7 +111,7 @@ pub record NoFormFault (purpose : Purpose) (w : s.Workload) : Type 0 where
   pub rows : row_faults purpose w ≡ []
 
 pub form_parts : (purpose : Purpose) (w : s.Workload) → form_faults purpose w ≡ [] → NoFormFault purpose w
-unfolding words
+unfolding definitions
 form_parts purpose w e3 =
     let a = size_faults w in
     let b = print_faults w in
@@ -126,7 +126,7 @@ pub record NoFault (purpose : Purpose) (w : s.Workload) : Type 0 where
   pub form : NoFormFault purpose w
 
 pub parts : (purpose : Purpose) (w : s.Workload) → faults purpose w ≡ [] → NoFault purpose w
-unfolding words
+unfolding definitions
 parts purpose w e = record {
   text = text_parts purpose w (none_first (text_faults purpose w) (form_faults purpose w) e);
   form = form_parts purpose w (none_second (text_faults purpose w) (form_faults purpose w) e);
@@ -134,13 +134,13 @@ parts purpose w e = record {
 
 -- a schedule that serves any purpose serves a run
 order_for_run : (purpose : Purpose) (w : s.Workload) (o : Option (List Ident)) → schedule_faults purpose (scope_of w) w.clients w.end o ≡ [] → schedule_faults Run (scope_of w) w.clients w.end o ≡ []
-unfolding words
+unfolding definitions
 order_for_run purpose w None e = refl
 order_for_run purpose w (Some xs) e = e
 
 -- what is accepted for any purpose is accepted for a run
 pub for_run : (purpose : Purpose) (w : s.Workload) → faults purpose w ≡ [] → faults Run w ≡ []
-unfolding words
+unfolding definitions
 for_run purpose w e =
     let p : NoTextFault purpose w = (parts purpose w e).text in
     let f : NoFormFault purpose w = (parts purpose w e).form in

@@ -5,7 +5,7 @@ use Rattle.std.specs.Ordering.{int_eq}
 use Rattle.std.proofs.lemmas.Int.{ints}
 use Rattle.std.proofs.lemmas.Bool.{and_parts}
 use Rattle.std.proofs.lemmas.Bool.Decides.{nat_tests}
-use Rattle.homeo_meaning.specs.Key.{words}
+use Rattle.homeo_meaning.specs.Key.{definitions}
 use Rattle.homeo_meaning.specs.NumberRules.{same_numbers, same_body, same_ground, distinct_after}
 use Rattle.homeo_meaning.specs.GlobalNames.{SitedCall}
 
@@ -31,7 +31,7 @@ pub record Spread (P : SitedCall → Type 0) (kept us : List SitedCall) : Type 0
 
 module _ (P : SitedCall → Type 0) (same : (u k : SitedCall) → same_ground u k ≡ true → P k → P u) where
   pub spread : (kept us : List SitedCall) → Every P (distinct_after kept us) → Spread P kept us
-  unfolding words
+  unfolding definitions
   spread kept [] h = record { before = h; all = tt }
   spread kept (u ∷ us) h = by_case (list_any (same_ground u) kept) refl h (spread kept us) (spread (kept ++ u ∷ []) us)
     where
@@ -57,7 +57,7 @@ pub record SameCall (u k : SitedCall) : Type 0 where
   pub args : u.args ≡ k.args
 
 pub same_call : (u k : SitedCall) → same_ground u k ≡ true → SameCall u k
-unfolding words
+unfolding definitions
 same_call u k e =
     let a = and_parts (same_body u k) (int_eq u.site k.site) e in
     let b = and_parts (u.name.name == k.name.name) (same_numbers u.args k.args) a.0 in

@@ -5,7 +5,7 @@ use Rattle.std.specs.Option.{option_and_then}
 use Rattle.std.proofs.lemmas.Option.{slice_get_within, get_or_from_slice_get}
 use Rattle.homeo_syntax.specs.Source as s
 use Rattle.homeo_meaning.specs.declared.call.CallId.{CallId}
-use Rattle.homeo_meaning.specs.Key.{words}
+use Rattle.homeo_meaning.specs.Key.{definitions}
 use Rattle.homeo_meaning.specs.Acceptance.{IsLightBody}
 use Rattle.homeo_meaning.specs.inner.LightCalls.{IsLightCall}
 use Rattle.homeo_meaning.specs.Calls.{IsGroundCall}
@@ -25,10 +25,10 @@ call_at P w id c None e m h = absurd (none_some m)
 call_at P w id c (Some client) e m h = numbered_at P id.seq client.calls c (all_at (λ client. All P client.calls) w.clients id.client client h e) m
 
 pub call_light : (w : s.Workload) (id : CallId) (c : s.Call) → IsSound w → call_of w id ≡ Some c → IsLightCall w c
-unfolding words
+unfolding definitions
 call_light w id c sound e = call_at (IsLightCall w) w id c (slice_get w.clients id.client) refl e sound.light
 
 pub ground_call_light : (w : s.Workload) (transaction : ℕ) (args : List ℤ) → IsSound w → IsGroundCall w transaction args → IsLightBody w (slice_get w.transactions transaction) args
-unfolding words
+unfolding definitions
 ground_call_light w transaction args sound g =
     subst (IsLightBody w (slice_get w.transactions transaction)) g.given (subst (λ t. IsLightBody w t (arguments g.call)) (sym g.named) (call_light w g.id g.call sound g.made))

@@ -3,11 +3,11 @@ use Rattle.std.proofs.Common.{◌≡◌, ℕ, ◌==◌, nat_lt, cond, Bool, true
 use Rattle.std.specs.BTreeSet.{insert_key}
 use Rattle.std.specs.Ordering.{nat_cmp, match_ordering}
 use Rattle.std.specs.declared.cmp.Ordering.TheVariants.{Less, Equal, Greater}
-use Rattle.homeo_meaning.specs.Key.{words}
+use Rattle.homeo_meaning.specs.Key.{definitions}
 use Rattle.homeo_meaning.specs.LowWrites.{with_number}
 
 pub put : (ns : List ℕ) (n : ℕ) → insert_key nat_cmp ns n ≡ with_number n ns
-unfolding words
+unfolding definitions
 put [] n = refl
 put (m ∷ ms) n = ap (λ ns. match_ordering (nat_cmp n m) (n ∷ m ∷ ms) (m ∷ ms) (m ∷ ns)) (put ms n) ∙ by_order (nat_lt n m) (n == m) (n ∷ m ∷ ms) (m ∷ ms) (m ∷ with_number n ms)
   where

@@ -1,7 +1,7 @@
 -- What acceptance says that evaluation rests on.
 use Rattle.std.proofs.Common.{◌≤◌, All, length}
 use Rattle.homeo_syntax.specs.Source as s
-use Rattle.homeo_meaning.specs.Key.{words}
+use Rattle.homeo_meaning.specs.Key.{definitions}
 use Rattle.homeo_meaning.specs.declared.call.Purpose.TheVariants.{Run}
 use Rattle.homeo_meaning.specs.Schema.{schema_of}
 use Rattle.homeo_meaning.specs.Context.{object_count}
@@ -21,7 +21,7 @@ pub record IsSound (w : s.Workload) : Type 0 where
   pub few : object_count (length (schema_of w).objects) (schema_of w).relations ≤ 1024
 
 pub sound : (w : s.Workload) → IsAccepted w → IsSound w
-unfolding words
+unfolding definitions
 sound w a =
     let p : NoFault Run w = parts Run w a.rules in
     let text : NoTextFault Run w = p.text in

@@ -11,7 +11,7 @@ use Rattle.homeo_syntax.specs.Source as s
 use Rattle.homeo_syntax.specs.declared.phrase.Ident.{Ident}
 use Rattle.homeo_syntax.specs.declared.workload.ObjectDecl.{ObjectDecl}
 use Rattle.homeo_syntax.specs.declared.workload.RangeDecl.{RangeDecl}
-use Rattle.homeo_meaning.specs.Key.{words}
+use Rattle.homeo_meaning.specs.Key.{definitions}
 use Rattle.homeo_meaning.specs.Schema.{Declared, Relation, declared_object, declared_range, declared_relation, nat_of, schema_of}
 use Rattle.homeo_meaning.specs.Context.{object_count}
 use Rattle.homeo_meaning.specs.GlobalNames.{global_names}
@@ -52,7 +52,7 @@ fit (pos n) h k = (grind (arith, ints), grind (arith, ints))
 fit (negsuc n) h k = absurd (grind (arith, ints))
 
 slots_here : (q : s.RelationDecl) → slot_faults q ≡ [] → SlotsFit (declared_relation q)
-unfolding words
+unfolding definitions
 slots_here q e =
     let none : (int_lt q.slots.value (pos 1) || int_lt (pos 64) q.slots.value) ≡ false = when_none (int_lt q.slots.value (pos 1) || int_lt (pos 64) q.slots.value) (record { phase = F.Limits; offset = q.slots.offset }) e in
     let lo : pos 1 ≤ℤ q.slots.value = not_less q.slots.value (pos 1) (or_first (int_lt q.slots.value (pos 1)) (int_lt (pos 64) q.slots.value) none) in
@@ -62,7 +62,7 @@ slots_here q e =
 
 -- each relation has 1 to 64 slots
 pub slots-fit : (w : s.Workload) → limit_faults w ≡ [] → All SlotsFit (schema_of w).relations
-unfolding words
+unfolding definitions
 slots-fit w e = mapped-none declared_relation slot_faults SlotsFit slots_here w.relations (limit_parts w e).slots
 
 -- ---- the bounds of fields
@@ -72,7 +72,7 @@ pub record BoundsFit (d : Declared) : Type 0 where
   pub high : d.hi ≤ℤ pos 1000000000000
 
 range_here : (d : RangeDecl) → range_bounds d ≡ [] → BoundsFit (declared_range d)
-unfolding words
+unfolding definitions
 range_here d e =
     let ends : too_large d.lo ++ too_large d.hi ≡ [] = none_first (too_large d.lo ++ too_large d.hi) (crossed d.lo d.hi) e in
     let lo : (int_lt d.lo.value (neg_ℤ largest_bound) || int_lt largest_bound d.lo.value) ≡ false = when_none (int_lt d.lo.value (neg_ℤ largest_bound) || int_lt largest_bound d.lo.value) (record { phase = F.Bounds; offset = d.lo.offset }) (none_first (too_large d.lo) (too_large d.hi) ends) in
@@ -85,12 +85,12 @@ range_here d e =
     }
 
 bounds_here : (q : s.RelationDecl) → of_relation q ≡ [] → All BoundsFit (declared_relation q).fields
-unfolding words
+unfolding definitions
 bounds_here q e = mapped-none declared_range range_bounds BoundsFit range_here q.fields (none_first (flat_map range_bounds q.fields) (each duplicate (map (λ d. d.name) q.fields)) e)
 
 -- the bounds of each field are in order, and of at most 10^12 in size
 pub bounds-fit : (w : s.Workload) → declared_faults w ≡ [] → All (λ (r : Relation). All BoundsFit r.fields) (schema_of w).relations
-unfolding words
+unfolding definitions
 bounds-fit w e = mapped-none declared_relation of_relation (λ (r : Relation). All BoundsFit r.fields) bounds_here w.relations (declared_parts w e).relations
 
 -- ---- the number of objects
@@ -98,11 +98,11 @@ no_more_than : (a b : ℕ) → (nat_le a 1024 && nat_lt 1024 b) ≡ false → a 
 no_more_than a b e h = grind (arith, nat_tests)
 
 made_more : (before : List Making) (m : Making) → made (before ++ m ∷ []) ≡ made before + m.objects
-unfolding words
+unfolding definitions
 made_more before m = sum_by-append (λ (m : Making). m.objects) before (m ∷ []) ∙ ap (λ n. made before + n) (zero-add m.objects)
 
 within_limit : (before ms : List Making) → each_from too_many_objects before ms ≡ [] → made before ≤ 1024 → made (before ++ ms) ≤ 1024
-unfolding words
+unfolding definitions
 within_limit before [] e h = subst (λ l. made l ≤ 1024) (sym (append-nil before)) h
 within_limit before (m ∷ ms) e h =
     let rest : List Fault = each_from too_many_objects (before ++ m ∷ []) ms in
@@ -111,7 +111,7 @@ within_limit before (m ∷ ms) e h =
     subst (λ l. made l ≤ 1024) (append_assoc before (m ∷ []) ms) (within_limit (before ++ m ∷ []) ms (none_second (too_many_objects before m) rest e) next)
 
 by_relations : (before : List Making) (k : ℕ) (qs : List s.RelationDecl) → made before ≡ k → object_count k (map declared_relation qs) ≡ made (before ++ map relation_making qs)
-unfolding words
+unfolding definitions
 by_relations before k [] e = sym e ∙ ap made (sym (append-nil before))
 by_relations before k (q ∷ qs) e =
     by_relations (before ++ relation_making q ∷ []) (k + nat_of q.slots.value * (1 + length (map declared_range q.fields))) qs
@@ -119,7 +119,7 @@ by_relations before k (q ∷ qs) e =
     ∙ ap made (append_assoc before (relation_making q ∷ []) (map relation_making qs))
 
 by_objects : (before : List Making) (os : List ObjectDecl) → made (before ++ map object_making os) ≡ made before + length os
-unfolding words
+unfolding definitions
 by_objects before [] = ap made (append-nil before) ∙ sym (add-zero (made before))
 by_objects before (o ∷ os) =
     ap made (sym (append_assoc before (object_making o ∷ []) (map object_making os)))
@@ -129,19 +129,19 @@ by_objects before (o ∷ os) =
 
 -- there are at most 1,024 objects
 pub objects-fit : (w : s.Workload) → limit_faults w ≡ [] → object_count (length (schema_of w).objects) (schema_of w).relations ≤ 1024
-unfolding words
+unfolding definitions
 objects-fit w e =
     let few : made (makings w) ≤ 1024 = within_limit [] (makings w) (limit_parts w e).objects (omega arith) in
     let declared : made (map object_making w.objects) ≡ length (map declared_object w.objects) = by_objects [] w.objects ∙ zero-add (length w.objects) ∙ sym (length-map w.objects declared_object) in
     subst (λ n. n ≤ 1024) (sym (by_relations (map object_making w.objects) (length (map declared_object w.objects)) w.relations declared)) few
 
 count_grows : (k : ℕ) (rs : List Relation) → k ≤ object_count k rs
-unfolding words
+unfolding definitions
 count_grows k [] = omega arith
 count_grows k (r ∷ rs) = let h : k + r.slots * (1 + length r.fields) ≤ object_count (k + r.slots * (1 + length r.fields)) rs = count_grows (k + r.slots * (1 + length r.fields)) rs in omega arith
 
 pub few_objects : (w : s.Workload) → limit_faults w ≡ [] → length w.objects ≤ 1024
-unfolding words
+unfolding definitions
 few_objects w e =
     let all : object_count (length (map declared_object w.objects)) (map declared_relation w.relations) ≤ 1024 = objects-fit w e in
     let some : length (map declared_object w.objects) ≤ object_count (length (map declared_object w.objects)) (map declared_relation w.relations) = count_grows (length (map declared_object w.objects)) (map declared_relation w.relations) in
@@ -150,7 +150,7 @@ few_objects w e =
 
 -- ---- names
 not_there : (n : ℕ) (before : List ℕ) → is_in n before ≡ false → All (λ m. m ≢ n) before
-unfolding words
+unfolding definitions
 not_there n [] e = all_none (λ m. m ≢ n)
 not_there n (m ∷ before) e =
     let other : (m == n) ≡ false = or_first (m == n) (list_any (λ k. k == n) before) e in
@@ -164,7 +164,7 @@ names_more [] x = refl
 names_more (y ∷ before) x = ap (λ l. y.name ∷ l) (names_more before x)
 
 distinct_after : (before xs : List Ident) → each_from duplicate before xs ≡ [] → AllPairs (λ m n. m ≢ n) (names before) → AllPairs (λ m n. m ≢ n) (names (before ++ xs))
-unfolding words
+unfolding definitions
 distinct_after before [] e h = subst (λ l. AllPairs (λ m n. m ≢ n) (names l)) (sym (append-nil before)) h
 distinct_after before (x ∷ xs) e h =
     let rest : List Fault = each_from duplicate (before ++ x ∷ []) xs in
@@ -178,26 +178,26 @@ none_alike i j d lt within = absurd (omega arith)
 
 -- no name stands twice where no later one has an earlier one's
 pub all-distinct : (xs : List Ident) → each duplicate xs ≡ [] → AllPairs (λ m n. m ≢ n) (names xs)
-unfolding words
+unfolding definitions
 all-distinct xs e = distinct_after [] xs e none_alike
 
 abbrev Apart : Relation → Type 0
 Apart r = AllPairs (λ m n. m ≢ n) (map (λ d. d.name) r.fields)
 
 fields_named : (ds : List RangeDecl) → map (λ (x : Ident). x.name) (map (λ (d : RangeDecl). d.name) ds) ≡ map (λ (d : Declared). d.name) (map declared_range ds)
-unfolding words
+unfolding definitions
 fields_named [] = refl
 fields_named (d ∷ ds) = ap (λ l. d.name.name ∷ l) (fields_named ds)
 
 apart_here : (q : s.RelationDecl) → of_relation q ≡ [] → Apart (declared_relation q)
-unfolding words
+unfolding definitions
 apart_here q e =
     let names : List Ident = map (λ (d : RangeDecl). d.name) q.fields in
     subst (AllPairs (λ m n. m ≢ n)) (fields_named q.fields) (all-distinct names (none_second (flat_map range_bounds q.fields) (each duplicate names) e))
 
 -- no two fields of a relation have one name
 pub fields-apart : (w : s.Workload) → declared_faults w ≡ [] → All (λ (r : Relation). AllPairs (λ m n. m ≢ n) (map (λ d. d.name) r.fields)) (schema_of w).relations
-unfolding words
+unfolding definitions
 fields-apart w e = mapped-none declared_relation of_relation Apart apart_here w.relations (declared_parts w e).relations
 
 -- no two global names are equal

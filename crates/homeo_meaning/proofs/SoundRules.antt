@@ -7,7 +7,7 @@ use Rattle.std.specs.List.{flat_map}
 use Rattle.homeo_syntax.specs.Source as s
 use Rattle.homeo_syntax.specs.declared.phrase.Ident.{Ident}
 use Rattle.homeo_syntax.specs.declared.workload.ObjectDecl.{ObjectDecl}
-use Rattle.homeo_meaning.specs.Key.{words}
+use Rattle.homeo_meaning.specs.Key.{definitions}
 use Rattle.homeo_meaning.specs.Schema.{declared_object, schema_of}
 use Rattle.homeo_meaning.specs.Bounds.{bounds_of, AreIn}
 use Rattle.homeo_meaning.specs.Serial.{transaction_named, arguments}
@@ -72,7 +72,7 @@ not_above p n false a b e = by_case (int_lt a b) refl e
     by_case false h e = not_less a b h
 
 pub starts_in : (os : List ObjectDecl) → flat_map object_faults os ≡ [] → AreIn (map bounds_of (map declared_object os)) (map (λ d. d.start.value) os)
-unfolding words
+unfolding definitions
 starts_in [] e = tt
 starts_in (d ∷ os) e =
     let here : object_faults d ≡ [] = none_first (object_faults d) (flat_map object_faults os) e in
@@ -93,7 +93,7 @@ number_of (Some (I.Transaction k)) = Some k
 number_of _ = None
 
 others : (kind : ℕ → Item) → ((k : ℕ) → number_of (Some (kind k)) ≡ None) → (n i : ℕ) (xs : List Ident) (more : List GlobalName) (k : ℕ) → first_named (numbered_from kind i xs ++ more) n ≡ Some (I.Transaction k) → first_named more n ≡ Some (I.Transaction k)
-unfolding words
+unfolding definitions
 others kind h n i [] more k e = e
 others kind h n i (x ∷ xs) more k e = by_case (x.name == n) (others kind h n (i + 1) xs more k) e
   where
@@ -102,7 +102,7 @@ others kind h n i (x ∷ xs) more k e = by_case (x.name == n) (others kind h n (
     by_case false rest e = rest e
 
 no_client : (n i : ℕ) (xs : List Ident) (k : ℕ) → first_named (numbered_from I.Client i xs) n ≡ Some (I.Transaction k) → ⊥
-unfolding words
+unfolding definitions
 no_client n i [] k e = cc
 no_client n i (x ∷ xs) k e = by_case (x.name == n) (no_client n (i + 1) xs k) e
   where
@@ -111,7 +111,7 @@ no_client n i (x ∷ xs) k e = by_case (x.name == n) (no_client n (i + 1) xs k) 
     by_case false rest e = rest e
 
 the_transaction : (n i : ℕ) (ts : List s.Transaction) (cs : List Ident) (k : ℕ) → first_named (numbered_from I.Transaction i (map (λ t. t.name) ts) ++ numbered_from I.Client 0 cs) n ≡ Some (I.Transaction k) → Names ts i n k
-unfolding words
+unfolding definitions
 the_transaction n i [] cs k e = absurd (no_client n 0 cs k e)
 the_transaction n i (t ∷ ts) cs k e = found_in (t.name.name == n) refl (the_transaction n (i + 1) ts cs k) e
   where
@@ -126,7 +126,7 @@ the_transaction n i (t ∷ ts) cs k e = found_in (t.name.name == n) refl (the_tr
         record { place = suc r.place; after = omega arith; found = ap (λ (b : Bool). cond b (Some t) (find (λ (u : s.Transaction). u.name.name == n) ts)) h ∙ r.found; transaction = r.transaction; there = ap (λ (b : Bool). cond b (Some t) (find (λ (u : s.Transaction). u.name.name == n) ts)) h ∙ r.there }
 
 pub names_of : (w : s.Workload) (n k : ℕ) → (scope_of w).item n ≡ Some (I.Transaction k) → Names w.transactions 0 n k
-unfolding words
+unfolding definitions
 names_of w n k e =
     let o = numbered_from I.Object 0 (map (λ (d : ObjectDecl). d.name) w.objects) in
     let r = numbered_from I.Relation 0 (map (λ (d : s.RelationDecl). d.name) w.relations) in
@@ -139,7 +139,7 @@ names_of w n k e =
     the_transaction n 0 w.transactions (map (λ (d : s.Client). d.name) w.clients) k e3
 
 pub named-is : (w : s.Workload) (n k : ℕ) → (scope_of w).item n ≡ Some (I.Transaction k) → transaction_named w n ≡ slice_get w.transactions k
-unfolding words
+unfolding definitions
 named-is w n k e =
     let f : Names w.transactions 0 n k = names_of w n k e in
     let place : f.place ≡ k = sym (zero-add f.place) ∙ sym f.after in
@@ -147,7 +147,7 @@ named-is w n k e =
 
 -- a call without a fault names a transaction
 pub names_one : (w : s.Workload) (c : s.Call) (g : Option Item) → call_faults w.transactions g c ≡ [] → (k : ℕ) × (g ≡ Some (I.Transaction k))
-unfolding words
+unfolding definitions
 names_one w c None e = cc
 names_one w c (Some (I.Transaction k)) e = (k, refl)
 names_one w c (Some (I.Object k)) e = cc
@@ -155,11 +155,11 @@ names_one w c (Some (I.Relation k)) e = cc
 names_one w c (Some (I.Client k)) e = cc
 
 abbrev is_light_form : s.Workload → Option s.Transaction → List ℤ → Bool
-unfolding words
+unfolding definitions
 is_light_form w o args = is_light heaviest (body_form w o args) (first_weights (schema_of w))
 
 light_call : (w : s.Workload) (c : s.Call) → call_faults w.transactions ((scope_of w).item c.name.name) c ≡ [] → is_light_form w (called w c.name) (arguments c) ≡ true → IsLightCall w c
-unfolding words
+unfolding definitions
 light_call w c e light =
     let k : (k : ℕ) × ((scope_of w).item c.name.name ≡ Some (I.Transaction k)) = names_one w c ((scope_of w).item c.name.name) e in
     let is : transaction_named w c.name.name ≡ slice_get w.transactions k.0 = named-is w c.name.name k.0 k.1 in
@@ -171,12 +171,12 @@ sited c site = record { name = c.name; args = arguments c; site = site }
 
 -- a call whose L form is too heavy
 abbrev heavy_form : s.Workload → SitedCall → List Fault
-unfolding words
+unfolding definitions
 heavy_form w c = when (not (is_light_form w (called w c.name) c.args)) (fault F.Weight c.name)
 
 module _ (w : s.Workload) where
   light_calls : (site : ℤ) (calls : List s.Call) → flat_map (λ (c : s.Call). call_faults w.transactions ((scope_of w).item c.name.name) c) calls ≡ [] → flat_map (heavy_form w) (map (λ (c : s.Call). sited c site) calls) ≡ [] → All (IsLightCall w) calls
-  unfolding words
+  unfolding definitions
   light_calls site [] e heavy = all_none (IsLightCall w)
   light_calls site (c ∷ calls) e heavy =
       let rest : List Fault = flat_map (heavy_form w) (map (λ (c : s.Call). sited c site) calls) in
@@ -186,7 +186,7 @@ module _ (w : s.Workload) where
       all_more (IsLightCall w) c calls (light_call w c (none_first first more e) light) (light_calls site calls (none_second first more e) (none_second (heavy_form w (sited c site)) rest heavy))
 
   light_clients : (cs : List s.Client) → flat_map (client_faults w.sites (scope_of w) w.transactions) cs ≡ [] → flat_map (heavy_form w) (flat_map sited_calls_of cs) ≡ [] → All (λ client. All (IsLightCall w) client.calls) cs
-  unfolding words
+  unfolding definitions
   light_clients [] e heavy = all_none (λ client. All (IsLightCall w) client.calls)
   light_clients (c ∷ cs) e heavy =
       let faults : List Fault = flat_map (λ (call : s.Call). call_faults w.transactions ((scope_of w).item call.name.name) call) c.calls in
@@ -197,24 +197,24 @@ module _ (w : s.Workload) where
 
 -- ---- each call is as light as its ground call
 light_ground : (w : s.Workload) (cs : List SitedCall) → flat_map (heavy_call w) cs ≡ [] → Every (λ c. is_light_form w (called w c.name) c.args ≡ true) cs
-unfolding words
+unfolding definitions
 light_ground w [] e = tt
 light_ground w (c ∷ cs) e =
     (no_fault F.Weight c.name (is_light heaviest (call_form w c) (first_weights (schema_of w))) (none_first (heavy_call w c) (flat_map (heavy_call w) cs) e), light_ground w cs (none_second (heavy_call w c) (flat_map (heavy_call w) cs) e))
 
 light_alike : (w : s.Workload) (u k : SitedCall) → same_ground u k ≡ true → is_light_form w (called w k.name) k.args ≡ true → is_light_form w (called w u.name) u.args ≡ true
-unfolding words
+unfolding definitions
 light_alike w u k e light =
     let same : SameCall u k = same_call u k e in
     (λ i. is_light_form w (transaction_at w ((scope_of w).item (same.name i))) (same.args i)) ∙ light
 
 none_heavy : (w : s.Workload) (cs : List SitedCall) → Every (λ c. is_light_form w (called w c.name) c.args ≡ true) cs → flat_map (heavy_form w) cs ≡ []
-unfolding words
+unfolding definitions
 none_heavy w [] h = refl
 none_heavy w (c ∷ cs) h = (λ i. when (not (h.0 i)) (fault F.Weight c.name) ++ flat_map (heavy_form w) cs) ∙ none_heavy w cs h.1
 
 pub all-light : (w : s.Workload) → declared_faults w ≡ [] → weight_faults w ≡ [] → All (λ client. All (IsLightCall w) client.calls) w.clients
-unfolding words
+unfolding definitions
 all-light w e heavy =
     let p : NoDeclaredFault w = declared_parts w e in
     let light : Every (λ (c : SitedCall). is_light_form w (called w c.name) c.args ≡ true) (sited_calls w) = (spread (λ (c : SitedCall). is_light_form w (called w c.name) c.args ≡ true) (light_alike w) [] (sited_calls w) (light_ground w (ground_calls w) heavy)).all in

@@ -1,10 +1,10 @@
 -- Which commands can end a call.
 use Rattle.std.specs.Prelude.{Bool, true, false, ◌||◌}
 use Rattle.homeo_syntax.specs.Source.{Command, Commands, If, Block, Foreach, Abort, NoCommand, MoreCommand}
-use Rattle.homeo_meaning.specs.Key.{words}
+use Rattle.homeo_meaning.specs.Key.{definitions}
 
 abbrev mutual
-  unfolding words
+  unfolding definitions
 
   -- whether a command is an abort, or has one in it
   pub holds_abort : Command → Bool

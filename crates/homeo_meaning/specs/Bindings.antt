@@ -1,6 +1,6 @@
 -- What a name stands for at a place of a transaction.
 use Rattle.std.specs.Prelude.{ℕ, List, [], ◌∷◌, Option, Some, None, ◌==◌, if◌then◌else◌}
-use Rattle.homeo_meaning.specs.Key.{words}
+use Rattle.homeo_meaning.specs.Key.{definitions}
 use Rattle.homeo_meaning.specs.declared.rules.Item.{Item}
 use Rattle.homeo_meaning.specs.declared.rules.Local.{Local}
 use Rattle.homeo_meaning.specs.declared.rules.Local.TheVariants as L
@@ -37,5 +37,5 @@ item_or None other = other
 
 -- a global name is one everywhere
 abbrev pub binding : Scope → (ℕ → Local) → List Row → ℕ → Binding
-unfolding words
+unfolding definitions
 binding s local rows n = item_or (s.item n) (row_or (row_relation rows n) (local n))

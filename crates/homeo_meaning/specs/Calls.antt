@@ -2,12 +2,12 @@
 use Rattle.std.specs.Prelude.{◌≡◌, ℕ, ℤ, List, Some, IsSome, slice_get}
 use Rattle.homeo_syntax.specs.Source as s
 use Rattle.homeo_meaning.specs.declared.call.CallId.{CallId}
-use Rattle.homeo_meaning.specs.Key.{words}
+use Rattle.homeo_meaning.specs.Key.{definitions}
 use Rattle.homeo_meaning.specs.Serial.{call_of, transaction_named, arguments, Outcome, outcome_at}
 
 -- there is a client of this number, and it has a call of this number
 abbrev pub CallExists : s.Workload → CallId → Type 0
-unfolding words
+unfolding definitions
 CallExists w id = IsSome (call_of w id)
 
 -- some client calls the transaction of this number with these arguments

@@ -2,19 +2,19 @@
 -- In each branch and at each slot as if it were taken, but not behind the end of the call.
 use Rattle.std.specs.Prelude.{Bool, true, false, cond, ◌&&◌, List, [], ◌∷◌, ℤ, pos, ◌+ℤ◌, ◌*ℤ◌, neg_ℤ, Option, Some, None}
 use Rattle.homeo_syntax.specs.Source.{Expr, Exprs, Literal, Name, Read, Sum, Product, Neg, Field, Row, Count, Total, NoExpr, MoreExpr, Test, Cond, True, Not, Comparison, NoTest, MoreTest, FieldValue, Command, Commands, Skip, Assign, Write, Print, If, Block, SetField, SetRow, Foreach, Insert, Delete, Update, Abort, NoCommand, MoreCommand}
-use Rattle.homeo_meaning.specs.Key.{words}
+use Rattle.homeo_meaning.specs.Key.{definitions}
 use Rattle.homeo_meaning.specs.Context.{Slot, Context, field_cell, slots, bind, slot_at}
 use Rattle.homeo_meaning.specs.Meaning.{State, Run, done, is_used, value, holds, set_object, write_field, does, does_all}
 
 -- an index counts where the relation has slots
 abbrev pub OnSlots : List Slot → Type 0 → Type 0
-unfolding words
+unfolding definitions
 OnSlots [] T = Unit {0}
 OnSlots (slot ∷ more) T = T
 
 -- a value counts where there is the slot that it is written to
 abbrev pub OnSlot : Option Slot → Type 0 → Type 0
-unfolding words
+unfolding definitions
 OnSlot None T = Unit {0}
 OnSlot (Some slot) T = T
 
@@ -28,7 +28,7 @@ has_none (Some a) = false
 
 -- a number, an argument, or the 0 of a field that isn't there: an index that nothing is computed for
 abbrev pub is_given : Context → Expr → State → Bool
-unfolding words
+unfolding definitions
 is_given x (Literal n) s = true
 is_given x (Name t) s = has_some (x.arguments t.name)
 is_given x (Read o) s = false
@@ -47,13 +47,13 @@ Unless false T = T
 module _ (R P : ℤ → Type 0) where
   -- of a count or a sum each test, and each number on the way
   abbrev pub CanAdd : (Slot → Type 0) → (Slot → Bool) → (Slot → ℤ) → List Slot → ℤ → Type 0
-  unfolding words
+  unfolding definitions
   CanAdd Tests passes term [] n = Unit {0}
   CanAdd Tests passes term (slot ∷ more) n =
       Tests slot × R (term slot) × P (n +ℤ term slot) × CanAdd Tests passes term more (cond (passes slot) (n +ℤ term slot) n)
 
   abbrev mutual
-    unfolding words
+    unfolding definitions
 
     pub CanValue : Context → Expr → State → Type 0
     CanValue x (Literal n) s = R n
@@ -87,20 +87,20 @@ module _ (R P : ℤ → Type 0) where
     CanHold x (MoreTest t c) s = CanPass x t s × CanHold x c s
 
   abbrev pub CanValues : Context → List FieldValue → State → Type 0
-  unfolding words
+  unfolding definitions
   CanValues x [] s = Unit {0}
   CanValues x (f ∷ more) s = CanValue x f.value s × CanValues x more s
 
   -- each visit's test and body, on the state that it finds
   abbrev pub CanVisit : (Slot → State → Type 0) → (Slot → State → Type 0) → (Slot → State → Bool) → (Slot → State → Run) → List Slot → State → Type 0
-  unfolding words
+  unfolding definitions
   CanVisit Tests Bodies test body [] s = Unit {0}
   CanVisit Tests Bodies test body (slot ∷ more) s =
       let here : Run = cond (is_used s slot && test slot s) (body slot s) (done s) in
       Tests slot s × Bodies slot s × Unless here.ended (CanVisit Tests Bodies test body more here.state)
 
   abbrev mutual
-    unfolding words
+    unfolding definitions
 
     pub CanRun : Context → Command → State → Type 0
     CanRun x Skip s = Unit {0}

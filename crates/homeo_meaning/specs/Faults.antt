@@ -3,7 +3,7 @@ use Rattle.std.specs.Prelude.{◌≡◌, ◌⊎◌, ℕ, Bool, false, ◌&&◌, 
 use Rattle.std.specs.List.{flat_map}
 use Rattle.homeo_syntax.specs.Source as s
 use Rattle.homeo_syntax.specs.declared.workload.Refusal.{Refusal}
-use Rattle.homeo_meaning.specs.Key.{words}
+use Rattle.homeo_meaning.specs.Key.{definitions}
 use Rattle.homeo_meaning.specs.Bindings.{Scope}
 use Rattle.homeo_meaning.specs.TransactionRules.{each, transaction_faults}
 use Rattle.homeo_meaning.specs.GlobalNames.{global_names, duplicate, scope_of}
@@ -17,17 +17,17 @@ use Rattle.homeo_meaning.specs.declared.rules.Phase.TheVariants as P
 
 -- the bounds of its fields, and their names
 abbrev pub of_relation : s.RelationDecl → List Fault
-unfolding words
+unfolding definitions
 of_relation q = flat_map range_bounds q.fields ++ each duplicate (map (λ d. d.name) q.fields)
 
 -- the bounds of its parameters, and its names
 abbrev pub of_transaction : Scope → s.Transaction → List Fault
-unfolding words
+unfolding definitions
 of_transaction scope t = flat_map range_bounds t.params ++ transaction_faults scope t
 
 -- bounds, names and weights, of what is declared and called
 abbrev pub declared_faults : s.Workload → List Fault
-unfolding words
+unfolding definitions
 declared_faults w =
     flat_map object_faults w.objects
     ++ flat_map of_relation w.relations
@@ -37,7 +37,7 @@ declared_faults w =
 
 -- names, bounds, counts and the schedule
 abbrev pub text_faults : Purpose → s.Workload → List Fault
-unfolding words
+unfolding definitions
 text_faults purpose w =
     each duplicate (map (λ d. d.name) (global_names w))
     ++ declared_faults w
@@ -46,18 +46,18 @@ text_faults purpose w =
 
 -- how large the calls' L forms are, their values, and their tables where these are made
 abbrev pub form_faults : Purpose → s.Workload → List Fault
-unfolding words
+unfolding definitions
 form_faults purpose w = size_faults w ++ print_faults w ++ weight_faults w ++ row_faults purpose w
 
 -- all faults of a workload that is read for a purpose
 abbrev pub faults : Purpose → s.Workload → List Fault
-unfolding words
+unfolding definitions
 faults purpose w = text_faults purpose w ++ form_faults purpose w
 
 -- ---- the fault that decides
 -- the place of a phase in the order in which they are tried
 abbrev pub rank : Phase → ℕ
-unfolding words
+unfolding definitions
 rank P.Duplicate = 0
 rank P.Unknown = 1
 rank P.Kind = 2
@@ -71,7 +71,7 @@ rank P.Rows = 9
 
 -- the number of a phase's refusals
 abbrev pub code : Phase → ℕ
-unfolding words
+unfolding definitions
 code P.Duplicate = 5
 code P.Unknown = 6
 code P.Kind = 7
@@ -85,7 +85,7 @@ code P.Rows = 12
 
 -- an earlier phase, or in one phase a lesser offset
 abbrev pub comes_before : Fault → Fault → Bool
-unfolding words
+unfolding definitions
 comes_before f g = nat_lt (rank f.phase) (rank g.phase) || ((rank f.phase == rank g.phase) && nat_lt f.offset g.offset)
 
 abbrev pub IsFaultIn : Fault → List Fault → Type 0

@@ -4,7 +4,7 @@ use Rattle.std.specs.Option.{option_and_then}
 use Rattle.homeo_syntax.specs.Source as s
 use Rattle.homeo_meaning.specs.declared.call.CallId.{CallId}
 use Rattle.homeo_meaning.specs.declared.call.GroundCall.{GroundCall}
-use Rattle.homeo_meaning.specs.Key.{words}
+use Rattle.homeo_meaning.specs.Key.{definitions}
 use Rattle.homeo_meaning.specs.Schema.{nat_of}
 use Rattle.homeo_meaning.specs.Declarations.{declarations, place_of}
 use Rattle.homeo_meaning.specs.Serial.{arguments, numbered}
@@ -22,21 +22,21 @@ plain_ground c = record { transaction = c.transaction; args = c.args.items; site
 
 -- a call with its transaction by its number: an accepted workload has no site below 0
 abbrev pub ground_of_sited : s.Workload → SitedCall → Ground
-unfolding words
+unfolding definitions
 ground_of_sited w c = record { transaction = place_of (declarations w).transactions c.name.name; args = c.args; site = nat_of c.site }
 
 -- the distinct ground calls, each where it is first called, in the order of the text
 abbrev pub grounds : s.Workload → List Ground
-unfolding words
+unfolding definitions
 grounds w = map (ground_of_sited w) (ground_calls w)
 
 -- a call at the site of its client
 abbrev pub sited_call : s.Client → s.Call → SitedCall
-unfolding words
+unfolding definitions
 sited_call client call = record { name = call.name; args = arguments call; site = client.site.value }
 
 -- the ground call of a client's call
 abbrev pub ground_of : s.Workload → CallId → Option Ground
-unfolding words
+unfolding definitions
 ground_of w id =
     option_and_then (λ client. option_map (λ call. ground_of_sited w (sited_call client call)) (numbered id.seq client.calls)) (slice_get w.clients id.client)

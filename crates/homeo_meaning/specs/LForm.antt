@@ -5,7 +5,7 @@ use Rattle.homeo_syntax.specs.declared.low.Temp.TheVariants as temp
 use Rattle.homeo_syntax.specs.declared.low.SplitName.TheVariants as split
 use Rattle.homeo_syntax.specs.Low as L
 use Rattle.homeo_syntax.specs.Source.{Expr, Exprs, Literal, Name, Read, Sum, Product, Neg, Field, Row, Count, Total, NoExpr, MoreExpr, Test, Cond, True, Not, Comparison, NoTest, MoreTest, FieldValue, Command, Commands, Skip, Assign, Write, Print, If, Block, SetField, SetRow, Foreach, Insert, Delete, Update, Abort, NoCommand, MoreCommand}
-use Rattle.homeo_meaning.specs.Key.{words}
+use Rattle.homeo_meaning.specs.Key.{definitions}
 use Rattle.homeo_meaning.specs.Schema.{Declared, Schema}
 use Rattle.homeo_meaning.specs.Aborts.{holds_abort, hold_abort}
 use Rattle.homeo_meaning.specs.LowWrites.{all_written}
@@ -27,85 +27,85 @@ pub record AllMade : Type 0 where
 
 -- ---- words of L
 abbrev pub both : L.Commands → L.Commands → L.Commands
-unfolding words
+unfolding definitions
 both L.NoCommand ds = ds
 both (L.MoreCommand c cs) ds = L.MoreCommand c (both cs ds)
 
 abbrev pub one : L.Command → L.Commands
-unfolding words
+unfolding definitions
 one c = L.MoreCommand c L.NoCommand
 
 -- a command after those of a lifting, alone where there are none
 abbrev pub in_front : L.Commands → L.Command → L.Command
-unfolding words
+unfolding definitions
 in_front L.NoCommand c = c
 in_front (L.MoreCommand b bs) c = L.Seq (L.MoreCommand b (both bs (one c)))
 
 abbrev pub read : ℕ → L.Expr
-unfolding words
+unfolding definitions
 read x = L.Read (split.Whole x)
 
 abbrev pub fresh : ℕ → L.Expr
-unfolding words
+unfolding definitions
 fresh n = L.OfTemp (temp.Fresh n)
 
 abbrev pub equal : L.Expr → ℤ → L.Test
-unfolding words
+unfolding definitions
 equal e v = L.Comparison compare.Equal e (L.Literal v)
 
 abbrev pub one_test : L.Test → L.Cond
-unfolding words
+unfolding definitions
 one_test t = L.MoreTest t L.NoTest
 
 -- where a call can be ended, the fresh temporary 0 is 1 from its end on
 abbrev pub flag : L.Expr
-unfolding words
+unfolding definitions
 flag = fresh 0
 
 abbrev pub set_flag : ℤ → L.Command
-unfolding words
+unfolding definitions
 set_flag v = L.Assign (temp.Fresh 0) (L.Literal v)
 
 -- a command that is not done where the call is ended
 abbrev pub unless_ended : L.Command → L.Command
-unfolding words
+unfolding definitions
 unless_ended c = L.If (one_test (equal flag (pos 0))) c L.Skip
 
 -- so where it stands behind a command that can end the call
 abbrev pub guard : Bool → L.Command → L.Command
-unfolding words
+unfolding definitions
 guard true c = unless_ended c
 guard false c = c
 
 -- within the bounds, and then more tests
 abbrev pub within : Spot → L.Expr → L.Cond → L.Cond
-unfolding words
+unfolding definitions
 within b e more =
     L.MoreTest (L.Comparison compare.LessEqual (L.Literal b.lo) e) (L.MoreTest (L.Comparison compare.LessEqual e (L.Literal b.hi)) more)
 
 -- ---- liftings
 abbrev pub plain : {A : Type 0} → A → ℕ → Lifted A
-unfolding words
+unfolding definitions
 plain a n = record { before = L.NoCommand; phrase = a; next = n }
 
 abbrev pub mapped : {A B : Type 0} → (A → B) → Lifted A → Lifted B
-unfolding words
+unfolding definitions
 mapped f x = record { before = x.before; phrase = f x.phrase; next = x.next }
 
 -- two phrases from left to right
-abbrev pub joined : {A B C : Type 0} → (A → B → C) → Lifted A → (ℕ → Lifted B) → Lifted C
-unfolding words
-joined f x y = record { before = both x.before (y x.next).before; phrase = f x.phrase (y x.next).phrase; next = (y x.next).next }
+abbrev pub combined : {A B C : Type 0} → (A → B → C) → Lifted A → (ℕ → Lifted B) → Lifted C
+unfolding definitions
+combined f x y = record { before = both x.before (y x.next).before; phrase = f x.phrase (y x.next).phrase; next = (y x.next).next }
 
 -- the commands of a slot and then more commands: the slot's as they are, or as one that is not done where the call is ended
 abbrev pub in_turn : Bool → L.Commands → L.Command → L.Commands → L.Commands
-unfolding words
+unfolding definitions
 in_turn true before c more = L.MoreCommand (unless_ended (in_front before c)) more
 in_turn false before c more = both before (L.MoreCommand c more)
 
 -- the slots in rising order: a loop's tests and bodies. Where a body can end the call, the slots after the first are guarded
 abbrev pub visits : Bool → Bool → (Slot → ℕ → Lifted L.Cond) → (Slot → ℕ → Made) → List Slot → ℕ → AllMade
-unfolding words
+unfolding definitions
 visits guarded later test body [] n = record { commands = L.NoCommand; next = n }
 visits guarded later test body (slot ∷ more) n =
     let b = test slot n in
@@ -118,7 +118,7 @@ visits guarded later test body (slot ∷ more) n =
 
 -- a count or a sum in a fresh temporary
 abbrev pub counted : (Slot → ℕ → Lifted L.Cond) → (Slot → L.Expr) → List Slot → ℕ → Lifted L.Expr
-unfolding words
+unfolding definitions
 counted test term all n =
     let body : Slot → ℕ → Made = λ slot m. record { command = L.Assign (temp.Fresh n) (L.Sum (L.MoreExpr (fresh n) (L.MoreExpr (term slot) L.NoExpr))); next = m } in
     let loop = visits false false test body all (suc n) in
@@ -126,18 +126,18 @@ counted test term all n =
 
 -- the field of the slot that e names, put into a fresh temporary
 abbrev pub read_chain : Spot → L.Expr → ℕ → List Slot → L.Command
-unfolding words
+unfolding definitions
 read_chain f e t [] = L.Assign (temp.Fresh t) (L.Literal (pos 0))
 read_chain f e t (slot ∷ more) =
     L.If (one_test (equal e (pos slot.number))) (L.Assign (temp.Fresh t) (read (cell slot f))) (read_chain f e t more)
 
 abbrev pub read_slot : Spot → Option Slot → L.Expr
-unfolding words
+unfolding definitions
 read_slot f (Some slot) = read (cell slot f)
 read_slot f None = L.Literal (pos 0)
 
 abbrev pub literal_of : L.Expr → Option ℤ
-unfolding words
+unfolding definitions
 literal_of (L.Literal v) = Some v
 literal_of (L.OfTemp t) = None
 literal_of (L.Read x) = None
@@ -147,21 +147,21 @@ literal_of (L.Neg e) = None
 
 -- a field by an index that is a literal, or is not
 abbrev pub indexed_by : Option ℤ → List Slot → Spot → Lifted L.Expr → Lifted L.Expr
-unfolding words
+unfolding definitions
 indexed_by (Some v) all f x = plain (read_slot f (slot_at v all)) x.next
 indexed_by None all f x = record { before = both x.before (one (read_chain f x.phrase x.next all)); phrase = fresh x.next; next = suc x.next }
 
 abbrev pub indexed : List Slot → Spot → Lifted L.Expr → Lifted L.Expr
-unfolding words
+unfolding definitions
 indexed all f x = indexed_by (literal_of x.phrase) all f x
 
 abbrev pub name_of : Option ℤ → ℕ → L.Expr
-unfolding words
+unfolding definitions
 name_of (Some v) x = L.Literal v
 name_of None x = L.OfTemp (temp.Named x)
 
 abbrev mutual
-  unfolding words
+  unfolding definitions
 
   -- an expression without relations and parameters, where n is the next number of a fresh temporary
   pub lift : Context → Expr → ℕ → Lifted L.Expr
@@ -179,37 +179,37 @@ abbrev mutual
 
   pub lift_all : Context → Exprs → ℕ → Lifted L.Exprs
   lift_all x NoExpr n = plain L.NoExpr n
-  lift_all x (MoreExpr e es) n = joined L.MoreExpr (lift x e n) (lift_all x es)
+  lift_all x (MoreExpr e es) n = combined L.MoreExpr (lift x e n) (lift_all x es)
 
   pub lift_test : Context → Test → ℕ → Lifted L.Test
   lift_test x True n = plain L.True n
   lift_test x (Not c) n = mapped L.Not (lift_cond x c n)
-  lift_test x (Comparison op a b) n = joined (L.Comparison op) (lift x a n) (lift x b)
+  lift_test x (Comparison op a b) n = combined (L.Comparison op) (lift x a n) (lift x b)
 
   pub lift_cond : Context → Cond → ℕ → Lifted L.Cond
   lift_cond x NoTest n = plain L.NoTest n
-  lift_cond x (MoreTest t c) n = joined L.MoreTest (lift_test x t n) (lift_cond x c)
+  lift_cond x (MoreTest t c) n = combined L.MoreTest (lift_test x t n) (lift_cond x c)
 
 -- ---- commands
 -- the commands of a lifting and then the command of its phrase
 abbrev pub placed : {A : Type 0} → Lifted A → (A → L.Command) → Made
-unfolding words
+unfolding definitions
 placed x f = record { command = in_front x.before (f x.phrase); next = x.next }
 
 abbrev pub guarded : Spot → ℕ → L.Expr → L.Command
-unfolding words
+unfolding definitions
 guarded b x e = L.If (within b e L.NoTest) (L.Write (split.Whole x) e) L.Skip
 
 abbrev pub write_to : Spot → ℕ → Lifted L.Expr → Made
-unfolding words
+unfolding definitions
 write_to b x e = placed e (guarded b x)
 
 abbrev pub write_field : Slot → ℕ → Lifted L.Expr → Made
-unfolding words
+unfolding definitions
 write_field slot f e = write_to (spot slot.fields f) (field_cell slot f) e
 
 abbrev pub write_chain : Spot → L.Expr → L.Expr → List Slot → L.Command
-unfolding words
+unfolding definitions
 write_chain f i e [] = L.Skip
 write_chain f i e (slot ∷ more) = L.If (one_test (equal i (pos slot.number))) (L.Write (split.Whole (cell slot f)) e) (write_chain f i e more)
 
@@ -219,35 +219,35 @@ pub record Pair (A : Type 0) : Type 0 where
   pub value : A
 
 abbrev pub pair : {A : Type 0} → A → A → Pair A
-unfolding words
+unfolding definitions
 pair i v = record { index = i; value = v }
 
 abbrev pub write_at : Option Slot → Spot → ℕ → (ℕ → Lifted L.Expr) → Made
-unfolding words
+unfolding definitions
 write_at None f n y = record { command = L.Skip; next = n }
 write_at (Some slot) f n y = write_to f (cell slot f) (y n)
 
 abbrev pub write_by : Option ℤ → List Slot → Spot → Lifted L.Expr → (ℕ → Lifted L.Expr) → Made
-unfolding words
+unfolding definitions
 write_by (Some v) all f x y = write_at (slot_at v all) f x.next y
 write_by None all f x y =
-    placed (joined pair x y) (λ p. L.If (within f p.value L.NoTest) (write_chain f p.index p.value all) L.Skip)
+    placed (combined pair x y) (λ p. L.If (within f p.value L.NoTest) (write_chain f p.index p.value all) L.Skip)
 
 abbrev pub write_indexed : List Slot → Spot → Lifted L.Expr → (ℕ → Lifted L.Expr) → Made
-unfolding words
+unfolding definitions
 write_indexed all f x y = write_by (literal_of x.phrase) all f x y
 
 abbrev pub as_one : AllMade → Made
-unfolding words
+unfolding definitions
 as_one m = record { command = L.Seq m.commands; next = m.next }
 
 -- the slots of a relation where b holds of the row, with whether a body can end the call
 abbrev pub loop : Context → ℕ → ℕ → Cond → Bool → (Slot → ℕ → Made) → ℕ → Made
-unfolding words
+unfolding definitions
 loop x r q b ends body n = as_one (visits false ends (λ slot. lift_cond (bind x r slot) b) body (slots x q) n)
 
 abbrev pub clear : Slot → ℕ → Made
-unfolding words
+unfolding definitions
 clear slot n = record { command = L.Write (split.Whole slot.used) (L.Literal (pos 0)); next = n }
 
 -- a field and the fresh temporary that holds its new value
@@ -256,28 +256,28 @@ pub record Target : Type 0 where
   pub temp : ℕ
 
 abbrev pub stored : Spot → Lifted L.Expr → Lifted Target
-unfolding words
+unfolding definitions
 stored f x =
     record { before = both x.before (one (L.Assign (temp.Fresh x.next) x.phrase)); phrase = record { field = f; temp = x.next }; next = suc x.next }
 
 abbrev pub lift_values : Context → List Declared → List FieldValue → ℕ → Lifted (List Target)
-unfolding words
+unfolding definitions
 lift_values x ds [] n = plain [] n
-lift_values x ds (f ∷ more) n = joined ◌∷◌ (stored (spot ds f.field.name) (lift x f.value n)) (lift_values x ds more)
+lift_values x ds (f ∷ more) n = combined ◌∷◌ (stored (spot ds f.field.name) (lift x f.value n)) (lift_values x ds more)
 
 abbrev pub all_within : List Target → L.Cond
-unfolding words
+unfolding definitions
 all_within [] = L.NoTest
 all_within (x ∷ xs) = within x.field (fresh x.temp) (all_within xs)
 
 -- the writes of the fields, and then more commands
 abbrev pub field_writes : Slot → List Target → L.Commands → L.Commands
-unfolding words
+unfolding definitions
 field_writes slot [] cs = cs
 field_writes slot (x ∷ xs) cs = L.MoreCommand (L.Write (split.Whole (cell slot x.field)) (fresh x.temp)) (field_writes slot xs cs)
 
 abbrev pub fill_chain : List Target → ℕ → List Slot → L.Command
-unfolding words
+unfolding definitions
 fill_chain xs t [] = L.Assign (temp.Named t) (L.Literal (pos 0))
 fill_chain xs t (slot ∷ more) =
     L.If (one_test (equal (read slot.used) (pos 0)))
@@ -285,7 +285,7 @@ fill_chain xs t (slot ∷ more) =
     (fill_chain xs t more)
 
 abbrev pub inserted : List Slot → ℕ → Lifted (List Target) → Made
-unfolding words
+unfolding definitions
 inserted all t x =
     record {
       command = L.Seq (both x.before (one (L.If (all_within x.phrase) (fill_chain x.phrase t all) (L.Assign (temp.Named t) (L.Literal (pos 0))))));
@@ -293,12 +293,12 @@ inserted all t x =
     }
 
 abbrev pub chosen : Lifted L.Cond → (ℕ → Made) → (ℕ → Made) → Made
-unfolding words
+unfolding definitions
 chosen x c d =
     record { command = in_front x.before (L.If x.phrase (c x.next).command (d (c x.next).next).command); next = (d (c x.next).next).next }
 
 abbrev mutual
-  unfolding words
+  unfolding definitions
 
   -- the L form of a command, where n is the next number of a fresh temporary
   pub form : Context → Command → ℕ → Made
@@ -327,37 +327,37 @@ abbrev mutual
 -- ---- calls that can be ended
 -- each object saved in a fresh temporary, the first of them in that of number n, and then more commands
 abbrev pub saves : ℕ → List ℕ → L.Commands → L.Commands
-unfolding words
+unfolding definitions
 saves n [] more = more
 saves n (x ∷ xs) more = L.MoreCommand (L.Assign (temp.Fresh n) (read x)) (saves (suc n) xs more)
 
 -- each object set to what was saved of it
 abbrev pub restores : ℕ → List ℕ → L.Commands
-unfolding words
+unfolding definitions
 restores n [] = L.NoCommand
 restores n (x ∷ xs) = L.MoreCommand (L.Write (split.Whole x) (fresh n)) (restores (suc n) xs)
 
 -- where the call is ended, its writes are undone
 abbrev pub undo : List ℕ → L.Command
-unfolding words
+unfolding definitions
 undo saved = L.If (one_test (equal flag (pos 1))) (L.Seq (restores 1 saved)) L.Skip
 
 -- the objects that some write in the L form of a body names
 abbrev pub saved_in : Context → Commands → List ℕ
-unfolding words
+unfolding definitions
 saved_in x body = all_written (forms x false body 0).commands []
 
 abbrev pub undoing : List ℕ → L.Commands → L.Command
-unfolding words
+unfolding definitions
 undoing saved body = L.Seq (L.MoreCommand (set_flag (pos 0)) (saves 1 saved (L.MoreCommand (L.Seq body) (one (undo saved)))))
 
 -- the L form of a body: where it can end its call, the flag and the saved objects come before it, and the undoing behind it
 abbrev pub body_by : Bool → Context → Commands → L.Command
-unfolding words
+unfolding definitions
 body_by false x body = L.Seq (forms x false body 0).commands
 body_by true x body = let saved = saved_in x body in undoing saved (forms x false body (1 + length saved)).commands
 
 -- the L form of a call of a transaction with these parameters and this body
 abbrev pub l_form : Schema → List ℕ → List ℤ → Commands → L.Command
-unfolding words
+unfolding definitions
 l_form x params args body = body_by (hold_abort body) (context x params args) body

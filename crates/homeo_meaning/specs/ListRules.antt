@@ -3,7 +3,7 @@ use Rattle.std.specs.Prelude.{ℕ, Bool, List, [], ◌∷◌, ◌++◌, map, ◌
 use Rattle.std.specs.List.{list_any}
 use Rattle.homeo_syntax.specs.declared.phrase.Ident.{Ident}
 use Rattle.homeo_syntax.specs.declared.phrase.Number.{Number}
-use Rattle.homeo_meaning.specs.Key.{words}
+use Rattle.homeo_meaning.specs.Key.{definitions}
 use Rattle.homeo_meaning.specs.declared.rules.Fault.{Fault}
 use Rattle.homeo_meaning.specs.declared.rules.Phase.{Phase}
 use Rattle.homeo_meaning.specs.declared.rules.Phase.TheVariants.{Duplicate}
@@ -21,19 +21,19 @@ when b fs = if b then fs else []
 
 -- what a rule says of each item, given those before it
 abbrev pub each_from : {A : Type 0} → (List A → A → List Fault) → List A → List A → List Fault
-unfolding words
+unfolding definitions
 each_from rule before [] = []
 each_from rule before (x ∷ xs) = rule before x ++ each_from rule (before ++ x ∷ []) xs
 
 abbrev pub each : {A : Type 0} → (List A → A → List Fault) → List A → List Fault
-unfolding words
+unfolding definitions
 each rule xs = each_from rule [] xs
 
 abbrev pub is_in : ℕ → List ℕ → Bool
-unfolding words
+unfolding definitions
 is_in n l = list_any (λ m. m == n) l
 
 -- a name that an earlier one has
 abbrev pub duplicate : List Ident → Ident → List Fault
-unfolding words
+unfolding definitions
 duplicate before x = when (is_in x.name (map (λ y. y.name) before)) (fault Duplicate x)

@@ -2,12 +2,12 @@
 -- In each branch as if it were taken.
 use Rattle.std.specs.Prelude.{ℤ, pos, ◌+ℤ◌, ◌*ℤ◌, neg_ℤ}
 use Rattle.homeo_syntax.specs.Low.{Expr, Exprs, Literal, OfTemp, Read, Sum, Product, Neg, NoExpr, MoreExpr, Test, Cond, True, Not, Comparison, NoTest, MoreTest, Command, Commands, Skip, Assign, Write, Print, Seq, If, NoCommand, MoreCommand}
-use Rattle.homeo_meaning.specs.Key.{words}
+use Rattle.homeo_meaning.specs.Key.{definitions}
 use Rattle.homeo_meaning.specs.LowMeaning.{TempAt, location_of, State, value, exec}
 
 module _ (R P : ℤ → Type 0) where
   abbrev mutual
-    unfolding words
+    unfolding definitions
 
     pub CanValue : Expr → State → Type 0
     CanValue (Literal n) s = R n
@@ -26,7 +26,7 @@ module _ (R P : ℤ → Type 0) where
     CanProduct n (MoreExpr e es) s = CanValue e s × P (n *ℤ value e s) × CanProduct (n *ℤ value e s) es s
 
   abbrev mutual
-    unfolding words
+    unfolding definitions
 
     pub CanPass : Test → State → Type 0
     CanPass True s = Unit {0}
@@ -38,7 +38,7 @@ module _ (R P : ℤ → Type 0) where
     CanHold (MoreTest t c) s = CanPass t s × CanHold c s
 
   abbrev mutual
-    unfolding words
+    unfolding definitions
 
     pub CanRun : Command → State → Type 0
     CanRun Skip s = Unit {0}

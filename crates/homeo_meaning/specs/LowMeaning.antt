@@ -5,7 +5,7 @@ use Rattle.homeo_syntax.specs.declared.low.Temp.TheVariants.{Named, Fresh}
 use Rattle.homeo_syntax.specs.declared.low.SplitName.{SplitName}
 use Rattle.homeo_syntax.specs.declared.low.SplitName.TheVariants.{Whole, Base, Delta}
 use Rattle.homeo_syntax.specs.Low.{Expr, Exprs, Literal, OfTemp, Read, Sum, Product, Neg, NoExpr, MoreExpr, Test, Cond, True, Not, Comparison, NoTest, MoreTest, Command, Commands, Skip, Assign, Write, Print, Seq, If, NoCommand, MoreCommand}
-use Rattle.homeo_meaning.specs.Key.{words}
+use Rattle.homeo_meaning.specs.Key.{definitions}
 use Rattle.homeo_meaning.specs.Meaning.{compared}
 
 -- what a state has values at: temporaries, bases, and the deltas of the sites
@@ -20,20 +20,20 @@ State = Location → ℤ
 
 -- a whole object is its base
 abbrev pub location_of : SplitName → Location
-unfolding words
+unfolding definitions
 location_of (Whole x) = BaseAt x
 location_of (Base x) = BaseAt x
 location_of (Delta x j) = DeltaAt x j
 
 abbrev pub same_temp : Temp → Temp → Bool
-unfolding words
+unfolding definitions
 same_temp (Named m) (Named n) = m == n
 same_temp (Fresh m) (Fresh n) = m == n
 same_temp (Named m) (Fresh n) = false
 same_temp (Fresh m) (Named n) = false
 
 abbrev pub same_location : Location → Location → Bool
-unfolding words
+unfolding definitions
 same_location (TempAt t) (TempAt u) = same_temp t u
 same_location (TempAt t) (BaseAt y) = false
 same_location (TempAt t) (DeltaAt y k) = false
@@ -46,11 +46,11 @@ same_location (DeltaAt x j) (DeltaAt y k) = (x == y) && (j == k)
 
 -- the function with its value at one place changed
 abbrev pub put : {A : Type 0} → (Location → A) → Location → A → Location → A
-unfolding words
+unfolding definitions
 put s p v q = cond (same_location p q) v (s q)
 
 abbrev mutual
-  unfolding words
+  unfolding definitions
 
   pub value : Expr → State → ℤ
   value (Literal n) s = n
@@ -71,7 +71,7 @@ abbrev mutual
   product_value n (MoreExpr e es) s = product_value (n *ℤ value e s) es s
 
 abbrev mutual
-  unfolding words
+  unfolding definitions
 
   pub passes : Test → State → Bool
   passes True s = true
@@ -90,11 +90,11 @@ pub record Run : Type 0 where
 
 -- more prints in front of a run's
 abbrev pub after_prints : List ℤ → Run → Run
-unfolding words
+unfolding definitions
 after_prints ps r = record { state = r.state; prints = ps ++ r.prints }
 
 abbrev mutual
-  unfolding words
+  unfolding definitions
 
   -- what a command leaves and prints
   pub exec : Command → State → Run
@@ -112,7 +112,7 @@ abbrev mutual
 
 -- where a call begins: temporaries and deltas are 0, and each object is whole
 abbrev pub whole : (ℕ → ℤ) → State
-unfolding words
+unfolding definitions
 whole database (TempAt t) = pos 0
 whole database (BaseAt n) = database n
 whole database (DeltaAt n site) = pos 0

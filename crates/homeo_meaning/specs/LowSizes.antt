@@ -1,7 +1,7 @@
 -- How large and how deep the L form of a call is, how many rows its symbolic table has, and how much it can print.
 use Rattle.std.specs.Prelude.{ℕ, ◌+◌, ◌*◌, max}
 use Rattle.homeo_syntax.specs.Low.{Expr, Exprs, Literal, OfTemp, Read, Sum, Product, Neg, NoExpr, MoreExpr, Test, Cond, True, Not, Comparison, NoTest, MoreTest, Command, Commands, Skip, Assign, Write, Print, Seq, If, NoCommand, MoreCommand}
-use Rattle.homeo_meaning.specs.Key.{words}
+use Rattle.homeo_meaning.specs.Key.{definitions}
 use Rattle.homeo_meaning.specs.LowMeaning.{Location, TempAt, BaseAt, DeltaAt, location_of, put}
 
 pub record Extent : Type 0 where
@@ -41,7 +41,7 @@ first_extents sites (DeltaAt x j) = single
 
 -- ---- phrases, where the names have these extents
 abbrev mutual
-  unfolding words
+  unfolding definitions
 
   pub extent : Expr → (Location → Extent) → Extent
   extent (Literal n) v = single
@@ -56,7 +56,7 @@ abbrev mutual
   extent_all (MoreExpr e es) v = beside (extent e v) (extent_all es v)
 
 abbrev mutual
-  unfolding words
+  unfolding definitions
 
   -- a `not` is one round its condition, which is one round its tests
   pub test_extent : Test → (Location → Extent) → Extent
@@ -69,12 +69,12 @@ abbrev mutual
   tests_extent (MoreTest t c) v = beside (test_extent t v) (tests_extent c v)
 
 abbrev pub cond_extent : Cond → (Location → Extent) → Extent
-unfolding words
+unfolding definitions
 cond_extent c v = around (tests_extent c v)
 
 -- ---- commands, on so many sites
 abbrev mutual
-  unfolding words
+  unfolding definitions
 
   -- the extents of the names after a command: after an `if` of each name the greater
   pub after : ℕ → Command → (Location → Extent) → Location → Extent
@@ -90,7 +90,7 @@ abbrev mutual
   after_all sites (MoreCommand c cs) v = after_all sites cs (after sites c v)
 
 abbrev mutual
-  unfolding words
+  unfolding definitions
 
   -- the size of a command, and the greatest depth of an expression or condition in it
   pub command_extent : ℕ → Command → (Location → Extent) → Extent
@@ -108,11 +108,11 @@ abbrev mutual
 
 -- of a call's L form
 abbrev pub call_extent : ℕ → Command → Extent
-unfolding words
+unfolding definitions
 call_extent sites c = command_extent sites c (first_extents sites)
 
 abbrev mutual
-  unfolding words
+  unfolding definitions
 
   -- the rows of a command's symbolic table
   pub rows : Command → ℕ
@@ -128,7 +128,7 @@ abbrev mutual
   rows_all (MoreCommand c cs) = rows c * rows_all cs
 
 abbrev mutual
-  unfolding words
+  unfolding definitions
 
   -- the print commands in a command, in both branches of each `if`
   pub prints_in : Command → ℕ

@@ -2,36 +2,36 @@
 use Rattle.std.specs.Prelude.{ℕ, zero, suc, ◌+◌, ◌*◌, ℤ, Bool, true, ◌&&◌, nat_le, max, List, [], ◌∷◌}
 use Rattle.std.specs.Int.RustNames.{unsigned_abs}
 use Rattle.homeo_syntax.specs.Low.{Expr, Exprs, Literal, OfTemp, Read, Sum, Product, Neg, NoExpr, MoreExpr, Test, Cond, True, Not, Comparison, NoTest, MoreTest, Command, Commands, Skip, Assign, Write, Print, Seq, If, NoCommand, MoreCommand}
-use Rattle.homeo_meaning.specs.Key.{words}
+use Rattle.homeo_meaning.specs.Key.{definitions}
 use Rattle.homeo_meaning.specs.Schema.{Schema}
 use Rattle.homeo_meaning.specs.Bounds.{Bounds, all_bounds}
 use Rattle.homeo_meaning.specs.LowMeaning.{Location, TempAt, BaseAt, DeltaAt, location_of, put}
 
 -- a number's weight: its size, and at least 1
 abbrev pub number_weight : ℤ → ℕ
-unfolding words
+unfolding definitions
 number_weight v = max 1 (unsigned_abs v)
 
 abbrev pub bounds_weight : Bounds → ℕ
-unfolding words
+unfolding definitions
 bounds_weight b = max (number_weight b.lo) (number_weight b.hi)
 
 -- of the object of a number: 1 past the last
 abbrev pub weight_at : List Bounds → ℕ → ℕ
-unfolding words
+unfolding definitions
 weight_at [] k = 1
 weight_at (b ∷ bs) zero = bounds_weight b
 weight_at (b ∷ bs) (suc k) = weight_at bs k
 
 -- where a call begins: an object weighs as much as its larger bound
 abbrev pub first_weights : Schema → Location → ℕ
-unfolding words
+unfolding definitions
 first_weights x (TempAt t) = 1
 first_weights x (BaseAt k) = weight_at (all_bounds x) k
 first_weights x (DeltaAt k j) = 1
 
 abbrev mutual
-  unfolding words
+  unfolding definitions
 
   pub weight : Expr → (Location → ℕ) → ℕ
   weight (Literal n) v = number_weight n
@@ -50,7 +50,7 @@ abbrev mutual
   product_weight (MoreExpr e es) v = weight e v * product_weight es v
 
 abbrev mutual
-  unfolding words
+  unfolding definitions
 
   -- the weights of the names after a command: after an `if` of each name the greater
   pub after : Command → (Location → ℕ) → Location → ℕ
@@ -67,11 +67,11 @@ abbrev mutual
 
 -- an expression's weight is at most b
 abbrev pub is_light_expr : ℕ → Expr → (Location → ℕ) → Bool
-unfolding words
+unfolding definitions
 is_light_expr b e v = nat_le (weight e v) b
 
 abbrev mutual
-  unfolding words
+  unfolding definitions
 
   pub is_light_test : ℕ → Test → (Location → ℕ) → Bool
   is_light_test b True v = true
@@ -83,7 +83,7 @@ abbrev mutual
   is_light_cond b (MoreTest t c) v = is_light_test b t v && is_light_cond b c v
 
 abbrev mutual
-  unfolding words
+  unfolding definitions
 
   -- each expression of a command, in conditions and in both branches too, has a weight of at most b
   pub is_light : ℕ → Command → (Location → ℕ) → Bool

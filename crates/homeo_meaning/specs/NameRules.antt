@@ -3,7 +3,7 @@ pub use Rattle.homeo_meaning.specs.ListRules.{when, fault, number_fault}
 use Rattle.std.specs.Prelude.{ℕ, not, List, [], ◌++◌, length, ◌==◌, Option, Some}
 use Rattle.std.specs.List.{flat_map}
 use Rattle.homeo_syntax.specs.declared.phrase.Ident.{Ident}
-use Rattle.homeo_meaning.specs.Key.{words}
+use Rattle.homeo_meaning.specs.Key.{definitions}
 use Rattle.homeo_meaning.specs.ListRules.{each, is_in, duplicate}
 use Rattle.homeo_meaning.specs.Bindings.{Scope, binding}
 use Rattle.homeo_meaning.specs.Occurrences.{Mark, Occurrence, DeclaresRow, TakesObject, TakesRelation, TakesValue, TakesField, NamesField, FillsFields, Assigns}
@@ -54,7 +54,7 @@ fills_all s _ q n = []
 
 -- an insert names each field of its relation once
 abbrev pub fills_fields : Scope → Option Item → Ident → List Ident → List Fault
-unfolding words
+unfolding definitions
 fills_fields s g q fs = each duplicate fs ++ flat_map (field_of s g) fs ++ fills_all s g q (length fs)
 
 -- a target is a temporary, or becomes one
@@ -75,5 +75,5 @@ judge_mark s b (Assigns t) = assigns t (b t.name)
 
 -- the faults of names at a place
 abbrev pub judge : Scope → (ℕ → Local) → Occurrence → List Fault
-unfolding words
+unfolding definitions
 judge s local p = judge_mark s (binding s local p.rows) p.mark

@@ -5,23 +5,23 @@ use Rattle.homeo_syntax.specs.declared.low.Temp.TheVariants.{Named, Fresh}
 use Rattle.homeo_syntax.specs.declared.low.SplitName.{SplitName}
 use Rattle.homeo_syntax.specs.declared.low.SplitName.TheVariants.{Whole, Base, Delta}
 use Rattle.homeo_syntax.specs.Low.{Expr, Exprs, Literal, OfTemp, Read, Sum, Product, Neg, NoExpr, MoreExpr, Test, Cond, True, Not, Comparison, NoTest, MoreTest, Command, Commands, Skip, Assign, Write, Print, Seq, If, NoCommand, MoreCommand}
-use Rattle.homeo_meaning.specs.Key.{words}
+use Rattle.homeo_meaning.specs.Key.{definitions}
 
 -- where there are this many objects, and this many names
 module _ (objects names : ℕ) where
   abbrev pub ObjectWithin : SplitName → Type 0
-  unfolding words
+  unfolding definitions
   ObjectWithin (Whole x) = x < objects
   ObjectWithin (Base x) = x < objects
   ObjectWithin (Delta x j) = x < objects
 
   abbrev pub TempWithin : Temp → Type 0
-  unfolding words
+  unfolding definitions
   TempWithin (Named n) = n < names
   TempWithin (Fresh n) = Unit {0}
 
   abbrev mutual
-    unfolding words
+    unfolding definitions
 
     pub ExprWithin : Expr → Type 0
     ExprWithin (Literal n) = Unit {0}
@@ -36,7 +36,7 @@ module _ (objects names : ℕ) where
     ExprsWithin (MoreExpr e es) = ExprWithin e × ExprsWithin es
 
   abbrev mutual
-    unfolding words
+    unfolding definitions
 
     pub TestWithin : Test → Type 0
     TestWithin True = Unit {0}
@@ -48,7 +48,7 @@ module _ (objects names : ℕ) where
     CondWithin (MoreTest t c) = TestWithin t × CondWithin c
 
   abbrev mutual
-    unfolding words
+    unfolding definitions
 
     pub NamesWithin : Command → Type 0
     NamesWithin Skip = Unit {0}

@@ -2,7 +2,7 @@
 use Rattle.std.specs.Prelude.{List, [], ◌∷◌, ◌++◌, map}
 use Rattle.homeo_syntax.specs.declared.phrase.Ident.{Ident}
 use Rattle.homeo_syntax.specs.Source.{FieldValue, Expr, Exprs, Literal, Name, Read, Sum, Product, Neg, Field, Row, Count, Total, NoExpr, MoreExpr, Test, Cond, True, Not, Comparison, NoTest, MoreTest, Command, Commands, Skip, Assign, Write, Print, If, Block, SetField, SetRow, Foreach, Insert, Delete, Update, Abort, NoCommand, MoreCommand}
-use Rattle.homeo_meaning.specs.Key.{words}
+use Rattle.homeo_meaning.specs.Key.{definitions}
 use Rattle.homeo_meaning.specs.Bindings as b
 
 -- what a name is there for
@@ -35,7 +35,7 @@ within r q rows = record { row = r.name; relation = q.name } ∷ rows
 
 -- `count` and `sum` hold their relation too
 abbrev mutual
-  unfolding words
+  unfolding definitions
 
   pub in_expr : List b.Row → Expr → List Occurrence
   in_expr rows (Literal n) = []
@@ -63,13 +63,13 @@ abbrev mutual
   in_cond rows (MoreTest t c) = in_test rows t ++ in_cond rows c
 
 abbrev pub in_fields : List b.Row → List FieldValue → List Occurrence
-unfolding words
+unfolding definitions
 in_fields rows [] = []
 in_fields rows (f ∷ fs) = in_expr rows f.value ++ in_fields rows fs
 
 -- the relation of `foreach`, `delete` and `update` stands outside of the row variable
 abbrev mutual
-  unfolding words
+  unfolding definitions
 
   pub in_command : List b.Row → Command → List Occurrence
   in_command rows Skip = []

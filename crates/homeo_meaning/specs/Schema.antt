@@ -3,7 +3,7 @@ use Rattle.std.specs.Prelude.{ℕ, ℤ, pos, negsuc, List, map}
 use Rattle.homeo_syntax.specs.Source as s
 use Rattle.homeo_syntax.specs.declared.workload.ObjectDecl.{ObjectDecl}
 use Rattle.homeo_syntax.specs.declared.workload.RangeDecl.{RangeDecl}
-use Rattle.homeo_meaning.specs.Key.{words}
+use Rattle.homeo_meaning.specs.Key.{definitions}
 
 -- an object, a field of a relation or a parameter, with its bounds
 pub record Declared : Type 0 where
@@ -21,11 +21,11 @@ pub record Schema : Type 0 where
   pub relations : List Relation
 
 abbrev pub declared_object : ObjectDecl → Declared
-unfolding words
+unfolding definitions
 declared_object d = record { name = d.name.name; lo = d.lo.value; hi = d.hi.value }
 
 abbrev pub declared_range : RangeDecl → Declared
-unfolding words
+unfolding definitions
 declared_range d = record { name = d.name.name; lo = d.lo.value; hi = d.hi.value }
 
 -- a number of slots, which a text never has below 0
@@ -34,9 +34,9 @@ nat_of (pos n) = n
 nat_of (negsuc n) = 0
 
 abbrev pub declared_relation : s.RelationDecl → Relation
-unfolding words
+unfolding definitions
 declared_relation r = record { name = r.name.name; slots = nat_of r.slots.value; fields = map declared_range r.fields }
 
 abbrev pub schema_of : s.Workload → Schema
-unfolding words
+unfolding definitions
 schema_of w = record { objects = map declared_object w.objects; relations = map declared_relation w.relations }

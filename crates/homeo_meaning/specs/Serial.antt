@@ -3,7 +3,7 @@ use Rattle.std.specs.Prelude.{ℕ, zero, suc, List, [], ◌∷◌, map, ℤ, pos
 use Rattle.std.specs.Option.{option_and_then}
 use Rattle.homeo_syntax.specs.Source as s
 use Rattle.homeo_meaning.specs.declared.call.CallId.{CallId}
-use Rattle.homeo_meaning.specs.Key.{words}
+use Rattle.homeo_meaning.specs.Key.{definitions}
 use Rattle.homeo_meaning.specs.Schema.{schema_of}
 use Rattle.homeo_meaning.specs.Meaning.{State, Run, run}
 
@@ -18,12 +18,12 @@ values_from k (suc n) values = values k ∷ values_from (suc k) n values
 
 -- as many values as a database has
 abbrev pub database_like : List ℤ → (ℕ → ℤ) → List ℤ
-unfolding words
+unfolding definitions
 database_like database values = values_from 0 (length database) values
 
 -- where a call begins: temporaries 0
 abbrev pub start : List ℤ → State
-unfolding words
+unfolding definitions
 start database = record { database = values_of database; temps = λ t. pos 0 }
 
 -- what a call prints, and the database after it
@@ -33,7 +33,7 @@ pub record Outcome : Type 0 where
 
 -- a transaction with these arguments, run alone from temporaries 0
 abbrev pub outcome : s.Workload → s.Transaction → List ℤ → List ℤ → Outcome
-unfolding words
+unfolding definitions
 outcome w t args database =
     let after : Run = run (schema_of w) (map (λ p. p.name.name) t.params) args t.body (values_of database) in
     record { prints = after.prints; database = database_like database after.state.database }
@@ -44,7 +44,7 @@ no_outcome database = record { prints = []; database = database }
 
 -- the transaction of a number, or nothing where there is none
 abbrev pub outcome_at : s.Workload → Option s.Transaction → List ℤ → List ℤ → Outcome
-unfolding words
+unfolding definitions
 outcome_at w None args database = no_outcome database
 outcome_at w (Some t) args database = outcome w t args database
 
@@ -54,25 +54,25 @@ numbered zero calls = None
 numbered (suc n) calls = slice_get calls n
 
 abbrev pub call_of : s.Workload → CallId → Option s.Call
-unfolding words
+unfolding definitions
 call_of w id = option_and_then (λ client. numbered id.seq client.calls) (slice_get w.clients id.client)
 
 -- the transaction of a name
 abbrev pub transaction_named : s.Workload → ℕ → Option s.Transaction
-unfolding words
+unfolding definitions
 transaction_named w n = find (λ t. t.name.name == n) w.transactions
 
 abbrev pub arguments : s.Call → List ℤ
 arguments c = map (λ a. a.value) c.args
 
 abbrev pub outcome_of : s.Workload → Option s.Call → List ℤ → Outcome
-unfolding words
+unfolding definitions
 outcome_of w None database = no_outcome database
 outcome_of w (Some c) database = outcome_at w (transaction_named w c.name.name) (arguments c) database
 
 -- a client's call, run alone
 abbrev pub call_outcome : s.Workload → CallId → List ℤ → Outcome
-unfolding words
+unfolding definitions
 call_outcome w id database = outcome_of w (call_of w id) database
 
 -- the prints of each call, and the last database
@@ -82,7 +82,7 @@ pub record SerialRun : Type 0 where
 
 -- the calls one after another
 abbrev pub serial : s.Workload → List ℤ → List CallId → SerialRun
-unfolding words
+unfolding definitions
 serial w database [] = record { logs = []; database = database }
 serial w database (id ∷ ids) =
     let first : Outcome = call_outcome w id database in

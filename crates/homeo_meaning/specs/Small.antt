@@ -2,7 +2,7 @@
 use Rattle.std.specs.Prelude.{ℕ, ◌≤◌, nat_le, Bool, List, ℤ, pos}
 use Rattle.std.specs.Int.RustNames.{unsigned_abs}
 use Rattle.homeo_syntax.specs.Source.{Commands}
-use Rattle.homeo_meaning.specs.Key.{words}
+use Rattle.homeo_meaning.specs.Key.{definitions}
 use Rattle.homeo_meaning.specs.Schema.{Schema}
 use Rattle.homeo_meaning.specs.Context.{context}
 use Rattle.homeo_meaning.specs.LForm.{l_form}
@@ -11,12 +11,12 @@ use Rattle.homeo_meaning.specs.LowComputed as low
 use Rattle.homeo_meaning.specs.Computed.{CanRunAll}
 
 abbrev pub IsSmall : ℕ → ℤ → Type 0
-unfolding words
+unfolding definitions
 IsSmall b v = unsigned_abs v ≤ b
 
 -- the same as a test
 abbrev pub is_small : ℕ → ℤ → Bool
-unfolding words
+unfolding definitions
 is_small b v = nat_le (unsigned_abs v) b
 
 -- no property

@@ -4,7 +4,7 @@ use Rattle.std.specs.Prelude.{ℕ, ◌||◌, List, [], ◌∷◌, ◌++◌, map,
 use Rattle.std.specs.List.{flat_map}
 use Rattle.homeo_syntax.specs.Source as s
 use Rattle.homeo_syntax.specs.declared.phrase.Ident.{Ident}
-use Rattle.homeo_meaning.specs.Key.{words}
+use Rattle.homeo_meaning.specs.Key.{definitions}
 use Rattle.homeo_meaning.specs.Bindings.{Scope, binding}
 use Rattle.homeo_meaning.specs.Occurrences.{Mark, Occurrence, Assigns, in_commands}
 use Rattle.homeo_meaning.specs.NameRules.{judge, when, fault}
@@ -16,7 +16,7 @@ use Rattle.homeo_meaning.specs.declared.rules.Binding.{Binding}
 use Rattle.homeo_meaning.specs.declared.rules.Binding.TheVariants as B
 
 abbrev pub local_of : List ℕ → List ℕ → ℕ → Local
-unfolding words
+unfolding definitions
 local_of params temps n = if is_in n params then L.Parameter else (if is_in n temps then L.Temporary else L.Absent)
 
 -- a target that is no global name, no parameter and no row variable that holds it
@@ -30,20 +30,20 @@ makes b _ = []
 
 -- the temporaries of the text before a place
 abbrev pub temporaries : Scope → List ℕ → List Occurrence → List ℕ
-unfolding words
+unfolding definitions
 temporaries s params before = flat_map (λ p. makes (binding s (local_of params []) p.rows) p.mark) before
 
 abbrev pub body_faults : Scope → List ℕ → List Occurrence → List Fault
-unfolding words
+unfolding definitions
 body_faults s params places = each (λ before p. judge s (local_of params (temporaries s params before)) p) places
 
 -- a parameter that has a global name or an earlier parameter's
 abbrev pub parameter_fault : Scope → List Ident → Ident → List Fault
-unfolding words
+unfolding definitions
 parameter_fault s before x = when (is_some (s.item x.name) || is_in x.name (map (λ y. y.name) before)) (fault Duplicate x)
 
 abbrev pub transaction_faults : Scope → s.Transaction → List Fault
-unfolding words
+unfolding definitions
 transaction_faults s t =
     let params : List Ident = map (λ d. d.name) t.params in
     each (parameter_fault s) params ++ body_faults s (map (λ x. x.name) params) (in_commands [] t.body)

@@ -3,7 +3,7 @@ use Rattle.std.specs.Prelude.{◌≡◌, ◌⊎◌, ◌≤◌, ◌<◌, ℕ, Lis
 use Rattle.homeo_syntax.specs.declared.workload.Refusal.{Refusal}
 use Rattle.homeo_syntax.specs.Source as s
 use Rattle.homeo_syntax.specs.Reads.{Reads, IsUnread}
-use Rattle.homeo_meaning.specs.Key.{words}
+use Rattle.homeo_meaning.specs.Key.{definitions}
 use Rattle.homeo_meaning.specs.Faults.{faults, IsRefusedBy}
 use Rattle.homeo_meaning.specs.declared.call.Purpose.{Purpose}
 
@@ -31,6 +31,6 @@ pub record BreaksRule (text : List ℕ) (purpose : Purpose) (r : Refusal) : Type
 
 -- the text is refused for this purpose: it is too long, or else it reads as no workload, or as one that breaks a rule
 abbrev pub IsRefused : List ℕ → Purpose → Refusal → Type 0
-unfolding words
+unfolding definitions
 IsRefused text purpose r =
     IsTooLong text r ⊎ ((length text ≤ text_limit) × (IsUnread text r ⊎ BreaksRule text purpose r))

@@ -2,16 +2,16 @@
 use Rattle.homeo_syntax.specs.declared.low.SplitName.{SplitName}
 use Rattle.homeo_syntax.specs.declared.low.SplitName.TheVariants.{Whole, Base, Delta}
 use Rattle.homeo_syntax.specs.Low.{Expr, Exprs, Literal, OfTemp, Read, Sum, Product, Neg, NoExpr, MoreExpr, Test, Cond, True, Not, Comparison, NoTest, MoreTest, Command, Commands, Skip, Assign, Write, Print, Seq, If, NoCommand, MoreCommand}
-use Rattle.homeo_meaning.specs.Key.{words}
+use Rattle.homeo_meaning.specs.Key.{definitions}
 
 abbrev pub IsWholeName : SplitName → Type 0
-unfolding words
+unfolding definitions
 IsWholeName (Whole x) = Unit {0}
 IsWholeName (Base x) = ⊥
 IsWholeName (Delta x j) = ⊥
 
 abbrev mutual
-  unfolding words
+  unfolding definitions
 
   pub IsWholeExpr : Expr → Type 0
   IsWholeExpr (Literal n) = Unit {0}
@@ -26,7 +26,7 @@ abbrev mutual
   AreWholeExprs (MoreExpr e es) = IsWholeExpr e × AreWholeExprs es
 
 abbrev mutual
-  unfolding words
+  unfolding definitions
 
   pub IsWholeTest : Test → Type 0
   IsWholeTest True = Unit {0}
@@ -38,7 +38,7 @@ abbrev mutual
   IsWholeCond (MoreTest t c) = IsWholeTest t × IsWholeCond c
 
 abbrev mutual
-  unfolding words
+  unfolding definitions
 
   pub IsWhole : Command → Type 0
   IsWhole Skip = Unit {0}

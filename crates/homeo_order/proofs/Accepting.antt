@@ -9,9 +9,9 @@ use Rattle.std.proofs.lemmas.Bool.{eqb-false}
 use Rattle.std.proofs.lemmas.Bool.Decides.{Decides-eqb, nat_tests}
 use Rattle.homeo_syntax.specs.Source as s
 use Rattle.homeo_syntax.specs.declared.phrase.Ident.{Ident}
-use Rattle.homeo_syntax.specs.Key.{words as syntax}
+use Rattle.homeo_syntax.specs.Key.{definitions as syntax_definitions}
 use Rattle.homeo_syntax.specs.WellFormed.{Each, InSchedule, IsBelow, IsWellFormed}
-use Rattle.homeo_meaning.specs.Key.{words as meanings}
+use Rattle.homeo_meaning.specs.Key.{definitions as meaning_definitions}
 use Rattle.homeo_meaning.specs.NameRules.{when}
 use Rattle.homeo_meaning.specs.TransactionRules.{each, each_from, is_in}
 use Rattle.homeo_meaning.specs.GlobalNames.{GlobalName, global_names, numbered_from, first_named, duplicate, scope_of}
@@ -24,14 +24,14 @@ use Rattle.homeo_meaning.specs.Declarations.{place_of, place_from}
 use Rattle.homeo_meaning.specs.declared.rules.Fault.{Fault}
 use Rattle.homeo_meaning.specs.declared.rules.Item.{Item}
 use Rattle.homeo_meaning.specs.declared.rules.Item.TheVariants as I
-use Rattle.homeo_order.specs.Key.{words}
+use Rattle.homeo_order.specs.Key.{definitions}
 use Rattle.homeo_order.specs.Order.{client_names, order_of}
 use Rattle.homeo_order.specs.Scheduled.{IsWholeOrder}
 use Rattle.homeo_order.proofs.Scheduling.{times-snoc}
 
 -- ---- lists of faults that are empty
 when_none : (b : Bool) (f : Fault) → when b (f ∷ []) ≡ [] → b ≡ false
-unfolding meanings
+unfolding meaning_definitions
 when_none true f e = absurd (cc)
 when_none false f e = refl
 
@@ -46,7 +46,7 @@ either_step false item v rest here there e later = later e
 
 -- what is found in two lists is found in one of them
 found_in : (ds es : List GlobalName) (n : ℕ) (v : Item) → first_named (ds ++ es) n ≡ Some v → (first_named ds n ≡ Some v) ⊎ (first_named es n ≡ Some v)
-unfolding meanings
+unfolding meaning_definitions
 found_in [] es n v e = inr e
 found_in (d ∷ ds) es n v e = either_step (d.name.name == n) d.item v (first_named (ds ++ es) n) (first_named ds n) (first_named es n) e (found_in ds es n v)
 
@@ -56,7 +56,7 @@ chosen false item v rest e = inr e
 
 -- a list of names that are numbered as one kind gives no other
 other_kind : (kind : ℕ → Item) (i : ℕ) (xs : List Ident) (n k : ℕ) → ((j : ℕ) → kind j ≡ I.Client k → ⊥) → first_named (numbered_from kind i xs) n ≡ Some (I.Client k) → ⊥
-unfolding meanings
+unfolding meaning_definitions
 other_kind kind i [] n k differs e = absurd (cc)
 other_kind kind i (x ∷ xs) n k differs e =
     elim (chosen (x.name == n) (kind i) (I.Client k) (first_named (numbered_from kind (i + 1) xs) n) e) [ inl here ↦ differs i here | inr later ↦ other_kind kind (i + 1) xs n k differs later ]
@@ -93,7 +93,7 @@ client_step false i k place rest many e later = let at = later e in (at.0, omega
 -- a name that is a client's has the client's place
 client_from : (i : ℕ) (cs : List s.Client) (n k : ℕ) → first_named (numbered_from I.Client i (map (λ (c : s.Client). c.name) cs)) n ≡ Some (I.Client k)
     → (place_from i (map (λ (c : s.Client). c.name.name) cs) n ≡ k) × (k < i + length cs)
-unfolding meanings
+unfolding meaning_definitions
 client_from i [] n k e = absurd (cc)
 client_from i (c ∷ cs) n k e =
     let next : i + 1 ≡ suc i = omega arith in
@@ -102,7 +102,7 @@ client_from i (c ∷ cs) n k e =
     (λ later. client_from (suc i) cs n k (ap rest (sym next) ∙ later))
 
 named_client : (w : s.Workload) (n k : ℕ) → first_named (global_names w) n ≡ Some (I.Client k) → (place_of (client_names w) n ≡ k) × (k < length w.clients)
-unfolding meanings words others client_names_of
+unfolding meaning_definitions definitions others client_names_of
 named_client w n k e =
     elim (found_in (others w) (client_names_of w) n (I.Client k) e) [
       | inl other ↦ absurd (no_client w n k other)
@@ -116,7 +116,7 @@ or_false false b e = (refl, e)
 
 -- the names of declarations behind others are judged after those
 each_from-append : (rule : List Ident → Ident → List Fault) (before xs ys : List Ident) → each_from rule before (xs ++ ys) ≡ each_from rule before xs ++ each_from rule (before ++ xs) ys
-unfolding meanings
+unfolding meaning_definitions
 each_from-append rule before [] ys = ap (λ (l : List Ident). each_from rule l ys) (sym (append-nil before))
 each_from-append rule before (x ∷ xs) ys =
     ap (λ (l : List Fault). rule before x ++ l) (each_from-append rule (before ++ x ∷ []) xs ys)
@@ -126,7 +126,7 @@ each_from-append rule before (x ∷ xs) ys =
 -- a declared name stands among none before it
 absent_before : (before : List Ident) (cs : List s.Client) (k : ℕ) (c : s.Client) → each_from duplicate before (map (λ (c : s.Client). c.name) cs) ≡ [] → slice_get cs k ≡ Some c
     → is_in c.name.name (map (λ (y : Ident). y.name) before) ≡ false
-unfolding meanings
+unfolding meaning_definitions
 absent_before before [] k c none found = absurd (cc)
 absent_before before (d ∷ cs) zero c none found =
     let same : d ≡ c = cc in
@@ -135,18 +135,18 @@ absent_before before (d ∷ cs) zero c none found =
 absent_before before (d ∷ cs) (suc k) c none found =
     let later = absent_before (before ++ d.name ∷ []) cs k c (none_second (duplicate before d.name) (each_from duplicate (before ++ d.name ∷ []) (map (λ (c : s.Client). c.name) cs)) none) found in
     let cut = list_any-append (λ (m : ℕ). m == c.name.name) (map (λ (y : Ident). y.name) before) (d.name.name ∷ []) in
-    let joined : map (λ (y : Ident). y.name) (before ++ d.name ∷ []) ≡ map (λ (y : Ident). y.name) before ++ d.name.name ∷ [] = map-append (λ (y : Ident). y.name) before (d.name ∷ []) in
+    let appended : map (λ (y : Ident). y.name) (before ++ d.name ∷ []) ≡ map (λ (y : Ident). y.name) before ++ d.name.name ∷ [] = map-append (λ (y : Ident). y.name) before (d.name ∷ []) in
     (or_false (list_any (λ (m : ℕ). m == c.name.name) (map (λ (y : Ident). y.name) before)) (list_any (λ (m : ℕ). m == c.name.name) (d.name.name ∷ []))
-    (sym cut ∙ ap (list_any (λ (m : ℕ). m == c.name.name)) (sym joined) ∙ later)).0
+    (sym cut ∙ ap (list_any (λ (m : ℕ). m == c.name.name)) (sym appended) ∙ later)).0
 
 -- the last of the names before isn't the one that comes after
 last_differs : (before : List Ident) (d : Ident) (n : ℕ) → is_in n (map (λ (y : Ident). y.name) (before ++ d ∷ [])) ≡ false → (d.name == n) ≡ false
-unfolding meanings
+unfolding meaning_definitions
 last_differs before d n none =
     let cut = list_any-append (λ (m : ℕ). m == n) (map (λ (y : Ident). y.name) before) (d.name ∷ []) in
-    let joined : map (λ (y : Ident). y.name) (before ++ d ∷ []) ≡ map (λ (y : Ident). y.name) before ++ d.name ∷ [] = map-append (λ (y : Ident). y.name) before (d ∷ []) in
+    let appended : map (λ (y : Ident). y.name) (before ++ d ∷ []) ≡ map (λ (y : Ident). y.name) before ++ d.name ∷ [] = map-append (λ (y : Ident). y.name) before (d ∷ []) in
     let last = (or_false (list_any (λ (m : ℕ). m == n) (map (λ (y : Ident). y.name) before)) (list_any (λ (m : ℕ). m == n) (d.name ∷ []))
-    (sym cut ∙ ap (list_any (λ (m : ℕ). m == n)) (sym joined) ∙ none)).1 in
+    (sym cut ∙ ap (list_any (λ (m : ℕ). m == n)) (sym appended) ∙ none)).1 in
     (or_false (d.name == n) false last).0
 
 same_name : (n : ℕ) → (n == n) ≡ true
@@ -155,7 +155,7 @@ same_name n = (Decides-eqb n n).1 refl
 -- each client is found at its own place, and as a client
 placed_from : (i : ℕ) (before : List Ident) (cs : List s.Client) (k : ℕ) (c : s.Client) → each_from duplicate before (map (λ (c : s.Client). c.name) cs) ≡ [] → slice_get cs k ≡ Some c
     → (place_from i (map (λ (c : s.Client). c.name.name) cs) c.name.name ≡ i + k) × (first_named (numbered_from I.Client i (map (λ (c : s.Client). c.name) cs)) c.name.name ≡ Some (I.Client (i + k)))
-unfolding meanings
+unfolding meaning_definitions
 placed_from i before [] k c none found = absurd (cc)
 placed_from i before (d ∷ cs) zero c none found =
     let same : d ≡ c = cc in
@@ -177,21 +177,21 @@ placed_from i before (d ∷ cs) (suc k) c none found =
 
 -- a name that stands among none of these isn't found among them
 not_found : (ds es : List GlobalName) (n : ℕ) → is_in n (map (λ (y : Ident). y.name) (map (λ (d : GlobalName). d.name) ds)) ≡ false → first_named (ds ++ es) n ≡ first_named es n
-unfolding meanings
+unfolding meaning_definitions
 not_found [] es n none = refl
 not_found (d ∷ ds) es n none =
     let parts = or_false (d.name.name == n) (list_any (λ (m : ℕ). m == n) (map (λ (y : Ident). y.name) (map (λ (d : GlobalName). d.name) ds))) none in
     ap (λ (b : Bool). if b then Some d.item else first_named (ds ++ es) n) parts.0 ∙ not_found ds es n parts.1
 
 names_numbered : (kind : ℕ → Item) (i : ℕ) (xs : List Ident) → map (λ (d : GlobalName). d.name) (numbered_from kind i xs) ≡ xs
-unfolding meanings
+unfolding meaning_definitions
 names_numbered kind i [] = refl
 names_numbered kind i (x ∷ xs) = ap (λ (l : List Ident). x ∷ l) (names_numbered kind (i + 1) xs)
 
 -- what each client's name names, and where it stands
 client_known : (w : s.Workload) (k : ℕ) (c : s.Client) → each duplicate (map (λ (d : GlobalName). d.name) (global_names w)) ≡ [] → slice_get w.clients k ≡ Some c
     → (place_of (client_names w) c.name.name ≡ k) × (first_named (global_names w) c.name.name ≡ Some (I.Client k))
-unfolding meanings words others client_names_of
+unfolding meaning_definitions definitions others client_names_of
 client_known w k c none found =
     let before : List Ident = map (λ (d : GlobalName). d.name) (others w) in
     let names : List Ident = map (λ (c : s.Client). c.name) w.clients in
@@ -205,7 +205,7 @@ client_known w k c none found =
 
 -- ---- the schedule
 scheduled_is : (cs : List s.Client) (n : ℕ) (item : Option Item) (x : Ident) → scheduled cs n item x ≡ [] → (k : ℕ) × (item ≡ Some (I.Client k)) × ((n == call_count (slice_get cs k)) ≡ false)
-unfolding meanings
+unfolding meaning_definitions
 scheduled_is cs n None x none = absurd (cc)
 scheduled_is cs n (Some (I.Client k)) x none = (k, refl, when_none (n == call_count (slice_get cs k)) _ none)
 scheduled_is cs n (Some (I.Object k)) x none = absurd (cc)
@@ -217,7 +217,7 @@ order_rule : s.Workload → List Ident → Ident → List Fault
 order_rule w before x = scheduled w.clients (times x.name before) ((scope_of w).item x.name) x
 
 all_named : (w : s.Workload) (before xs : List Ident) → each_from (order_rule w) before xs ≡ [] → All (λ x. place_of (client_names w) x.name < length w.clients) xs
-unfolding meanings order_rule
+unfolding meaning_definitions order_rule
 all_named w before [] none = All-nil (λ (x : Ident). place_of (client_names w) x.name < length w.clients)
 all_named w before (x ∷ xs) none =
     let here = scheduled_is w.clients (times x.name before) (first_named (global_names w) x.name) x (none_first (order_rule w before x) (each_from (order_rule w) (before ++ x ∷ []) xs) none) in
@@ -234,7 +234,7 @@ raised false n count most differs = omega (arith, most)
 -- no client is named more often than it has calls
 most_times : (w : s.Workload) (k : ℕ) (c : s.Client) (before xs : List Ident) → slice_get w.clients k ≡ Some c → first_named (global_names w) c.name.name ≡ Some (I.Client k)
     → each_from (order_rule w) before xs ≡ [] → times c.name.name before ≤ length c.calls → times c.name.name (before ++ xs) ≤ length c.calls
-unfolding meanings order_rule
+unfolding meaning_definitions order_rule
 most_times w k c before [] found is none most = let same = ap (times c.name.name) (append-nil before) in omega (arith, same, most)
 most_times w k c before (x ∷ xs) found is none most =
     let here = scheduled_is w.clients (times x.name before) (first_named (global_names w) x.name) x (none_first (order_rule w before x) (each_from (order_rule w) (before ++ x ∷ []) xs) none) in
@@ -248,8 +248,8 @@ most_times w k c before (x ∷ xs) found is none most =
     let more = raised (x.name == c.name.name) (times c.name.name before) (length c.calls) most differs in
     let snoc = times-snoc c.name.name before x in omega (arith, more, snoc) in
     let whole = most_times w k c (before ++ x ∷ []) xs found is (none_second (order_rule w before x) (each_from (order_rule w) (before ++ x ∷ []) xs) none) next in
-    let joined = ap (times c.name.name) (append_assoc before (x ∷ []) xs) in
-    omega (arith, whole, joined)
+    let appended = ap (times c.name.name) (append_assoc before (x ∷ []) xs) in
+    omega (arith, whole, appended)
 
 not_short : (cs : List s.Client) (xs : List Ident) (k : ℕ) (c : s.Client) → list_any (λ (c : s.Client). nat_lt (times c.name.name xs) (length c.calls)) cs ≡ false → slice_get cs k ≡ Some c → length c.calls ≤ times c.name.name xs
 not_short [] xs k c none found = absurd (cc)
@@ -273,23 +273,23 @@ no_calls (d ∷ cs) (suc k) c none found = no_calls cs k c (or_false (nat_lt 0 (
 
 -- ---- the schedule runs every call
 each_within : (P : Ident → Type 0) (xs : List Ident) → Each P xs → All P xs
-unfolding syntax
+unfolding syntax_definitions
 each_within P [] all = All-nil P
 each_within P (x ∷ xs) all = All-cons P x xs all.0 (each_within P xs all.1)
 
 known_in : (P : Ident → Type 0) (schedule : Option (List Ident)) → InSchedule P schedule → All P (order_of schedule)
-unfolding syntax
+unfolding syntax_definitions
 known_in P None all = All-nil P
 known_in P (Some xs) all = each_within P xs all
 
 named_in : (w : s.Workload) (schedule : Option (List Ident)) → schedule_faults Steps (scope_of w) w.clients w.end schedule ≡ [] → All (λ x. place_of (client_names w) x.name < length w.clients) (order_of schedule)
-unfolding meanings order_rule
+unfolding meaning_definitions order_rule
 named_in w None none = All-nil (λ (x : Ident). place_of (client_names w) x.name < length w.clients)
 named_in w (Some xs) none = all_named w [] xs (none_first (each_from (order_rule w) [] xs) (when (is_short w.clients xs) (end_fault w.end)) none)
 
 whole_in : (w : s.Workload) (schedule : Option (List Ident)) (k : ℕ) (c : s.Client) → schedule_faults Steps (scope_of w) w.clients w.end schedule ≡ [] → slice_get w.clients k ≡ Some c
     → first_named (global_names w) c.name.name ≡ Some (I.Client k) → times c.name.name (order_of schedule) ≡ length c.calls
-unfolding meanings order_rule
+unfolding meaning_definitions order_rule
 whole_in w None k c none found is = no_calls w.clients k c (when_none (list_any (λ (c : s.Client). nat_lt 0 (length c.calls)) w.clients) _ none) found
 whole_in w (Some xs) k c none found is =
     let most = most_times w k c [] xs found is (none_first (each_from (order_rule w) [] xs) (when (is_short w.clients xs) (end_fault w.end)) none) (omega arith) in
@@ -298,7 +298,7 @@ whole_in w (Some xs) k c none found is =
 
 -- as many items as a limit allows
 pub few_from : {A : Type 0} (limit : ℕ) (name : A → Ident) (before xs : List A) → length before ≤ limit → each_from (passes_limit limit name) before xs ≡ [] → length before + length xs ≤ limit
-unfolding meanings
+unfolding meaning_definitions
 few_from limit name before [] most none = omega (arith, most)
 few_from limit name before (x ∷ xs) most none =
     let here : length before ≡ limit → ⊥ = eqb-false (length before) limit (when_none (length before == limit) _ (none_first (passes_limit limit name before x) (each_from (passes_limit limit name) (before ++ x ∷ []) xs) none)) in
@@ -308,7 +308,7 @@ few_from limit name before (x ∷ xs) most none =
     omega (arith, whole, longer)
 
 few_clients : (w : s.Workload) → limit_faults w ≡ [] → length w.clients ≤ 64
-unfolding meanings
+unfolding meaning_definitions
 few_clients w none =
     let many = few_from 64 (λ (c : s.Client). c.name) [] w.clients (omega arith) (limit_parts w none).clients in omega (arith, many)
 

@@ -11,10 +11,10 @@ use Rattle.homeo_syntax.specs.declared.phrase.Ident.{Ident}
 use Rattle.homeo_meaning.specs.declared.call.CallId.{CallId}
 use Rattle.homeo_meaning.specs.CallRules.{times}
 use Rattle.homeo_meaning.specs.Declarations.{place_of, place_from}
-use Rattle.homeo_meaning.specs.Key.{words as meanings}
+use Rattle.homeo_meaning.specs.Key.{definitions as meaning_definitions}
 use Rattle.homeo_history.specs.Legal.{call_count}
-use Rattle.homeo_history.specs.Key.{words as histories}
-use Rattle.homeo_order.specs.Key.{words}
+use Rattle.homeo_history.specs.Key.{definitions as history_definitions}
+use Rattle.homeo_order.specs.Key.{definitions}
 use Rattle.homeo_order.specs.Scheduled.{IsWholeOrder}
 use Rattle.homeo_order.specs.Order.{calls_from, client_names, order_of}
 
@@ -24,7 +24,7 @@ least true j rest past = omega arith
 least false j rest past = omega (arith, past)
 
 place_from-ge : (j : ℕ) (ns : List ℕ) (n : ℕ) → j ≤ place_from j ns n
-unfolding meanings
+unfolding meaning_definitions
 place_from-ge j [] n = omega arith
 place_from-ge j (m ∷ ns) n = least (m == n) j (place_from (suc j) ns n) (place_from-ge (suc j) ns n)
 
@@ -37,13 +37,13 @@ first_or_later false m j ns n d same later less =
     rw one_more (later (omega (arith, less)))
 
 named_from : (j : ℕ) (ns : List ℕ) (n d : ℕ) → place_from j ns n < j + length ns → get_or ns (place_from j ns n - j) d ≡ n
-unfolding meanings
+unfolding meaning_definitions
 named_from j [] n d less = absurd (omega (arith, less))
 named_from j (m ∷ ns) n d less = first_or_later (m == n) m j ns n d refl (named_from (suc j) ns n d) less
 
 -- at the place of a name stands the name
 pub named_there : (ns : List ℕ) (n d : ℕ) → place_of ns n < length ns → get_or ns (place_of ns n) d ≡ n
-unfolding meanings
+unfolding meaning_definitions
 named_there ns n d less =
     let same : place_from 0 ns n - 0 ≡ place_from 0 ns n = omega arith in
     let there = named_from 0 ns n d (omega (arith, less)) in
@@ -77,7 +77,7 @@ past_the_last (x ∷ xs) (suc k) is = omega (arith, past_the_last xs k is)
 
 -- the client at the place of a name has that name
 its_name : (w : s.Workload) (n : ℕ) (c : s.Client) → place_of (client_names w) n < length w.clients → slice_get w.clients (place_of (client_names w) n) ≡ Some c → c.name.name ≡ n
-unfolding words
+unfolding definitions
 its_name w n c named found =
     let k = place_of (client_names w) n in
     let many : length (client_names w) ≡ length w.clients = length-map w.clients (λ (c : s.Client). c.name.name) in
@@ -97,13 +97,13 @@ left_at w before xs x order whole named (Some c) is =
 
 pub has_left : (w : s.Workload) (before xs : List Ident) (x : Ident) → IsWholeOrder w → before ++ x ∷ xs ≡ order_of w.schedule → place_of (client_names w) x.name < length w.clients
     → times x.name before < call_count w (place_of (client_names w) x.name)
-unfolding histories
+unfolding history_definitions
 has_left w before xs x order whole named = left_at w before xs x order whole named (slice_get w.clients (place_of (client_names w) x.name)) refl
 
 -- ---- the calls of names
 -- the calls of one name more
 pub calls_from-snoc : (ns : List ℕ) (before xs : List Ident) (x : Ident) → calls_from ns before (xs ++ x ∷ []) ≡ calls_from ns before xs ++ record { client = place_of ns x.name; seq = suc (times x.name (before ++ xs)) } ∷ []
-unfolding words
+unfolding definitions
 calls_from-snoc ns before [] x =
     let one : List Ident → List CallId = λ (l : List Ident). record { client = place_of ns x.name; seq = suc (times x.name l) } ∷ [] in
     ap one (sym (append-nil before))

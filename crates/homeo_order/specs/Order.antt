@@ -5,15 +5,15 @@ use Rattle.homeo_syntax.specs.declared.phrase.Ident.{Ident}
 use Rattle.homeo_meaning.specs.declared.call.CallId.{CallId}
 use Rattle.homeo_meaning.specs.CallRules.{times}
 use Rattle.homeo_meaning.specs.Declarations.{place_of}
-use Rattle.homeo_order.specs.Key.{words}
+use Rattle.homeo_order.specs.Key.{definitions}
 
 abbrev pub client_names : s.Workload → List ℕ
-unfolding words
+unfolding definitions
 client_names w = map (λ c. c.name.name) w.clients
 
 -- each name stands for the next call of its client, after the names before
 abbrev pub calls_from : List ℕ → List Ident → List Ident → List CallId
-unfolding words
+unfolding definitions
 calls_from clients before [] = []
 calls_from clients before (x ∷ xs) =
     record { client = place_of clients x.name; seq = suc (times x.name before) } ∷ calls_from clients (before ++ x ∷ []) xs
@@ -23,5 +23,5 @@ order_of None = []
 order_of (Some xs) = xs
 
 abbrev pub scheduled_calls : s.Workload → List CallId
-unfolding words
+unfolding definitions
 scheduled_calls w = calls_from (client_names w) [] (order_of w.schedule)

@@ -9,7 +9,7 @@ use homeo_syntax::{Client, Ident, Memory, Workload};
 use std::alloc::Global;
 
 /// The names of the schedule. A workload without a schedule has none.
-#[tactic(auto, unfolding(homeo_syntax::specs::Key::words))]
+#[tactic(auto, unfolding(homeo_syntax::specs::Key::definitions))]
 pub fn order(w: &Workload) -> &[Ident]
     ensures { result.now ≡ order_of (plain_workload w.now).schedule }
 {
@@ -20,7 +20,7 @@ pub fn order(w: &Workload) -> &[Ident]
 }
 
 /// The places of the clients by their names.
-#[tactic(auto, unfolding(homeo_syntax::specs::Key::words, crate::specs::Key::words))]
+#[tactic(auto, unfolding(homeo_syntax::specs::Key::definitions, crate::specs::Key::definitions))]
 pub fn client_places(alloc: Global, w: &Workload) -> Result<Places, Memory>
     ensures { IfOk result (λ p. p ≡ client_names (plain_workload w.now)) }
 {

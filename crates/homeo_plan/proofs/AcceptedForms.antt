@@ -1,7 +1,7 @@
 -- The ground calls of an accepted workload are light, and the bases within its bounds are small.
 use Rattle.std.proofs.Common.{◌≡◌, ℕ, true, arith, ◌<◌, List, ℤ, ◌+◌, ◌*◌}
 use Rattle.homeo_syntax.specs.Source as s
-use Rattle.homeo_meaning.specs.Key.{words as meaning_words}
+use Rattle.homeo_meaning.specs.Key.{definitions as meaning_definitions}
 use Rattle.homeo_meaning.specs.Acceptance.{weight_limit, IsAccepted}
 use Rattle.homeo_meaning.specs.Bounds.{IsWithin}
 use Rattle.homeo_meaning.specs.CallForm.{ground_form}
@@ -26,7 +26,7 @@ pub accepted_forms :
     (w : s.Workload) (g : Ground) (k i : ℕ) (base : List ℤ) → IsAccepted w → IsGroundCall w g.transaction g.args →
     IsWithin (schema_of w) base → i < k →
     HasSmallForms (2 * weight_limit + 1) (values_of base) (walk (shift k i (ground_form w g)) (whole (values_of base)))
-unfolding meaning_words
+unfolding meaning_definitions
 accepted_forms w g k i base accepted ground within inside =
     let light : is_light weight_limit (ground_form w g) (first_weights (schema_of w)) ≡ true = ground_call_light w g.transaction g.args (sound w accepted) ground in
     let all = all_within (schema_of w) base within in

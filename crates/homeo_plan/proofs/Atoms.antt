@@ -1,6 +1,6 @@
 -- A formula holds where its atoms are at most 0 and their mixed deltas are 0.
-use Rattle.homeo_meaning.specs.Key.{words as meaning_words}
-use Rattle.homeo_plan.specs.Key.{words}
+use Rattle.homeo_meaning.specs.Key.{definitions as meaning_definitions}
+use Rattle.homeo_plan.specs.Key.{definitions}
 use Rattle.std.proofs.Common.{◌≡◌, ℕ, Bool, true, false, cond, not, ◌&&◌, List, [], ◌∷◌, ◌++◌, ℤ, pos, negsuc, ◌+ℤ◌, ◌*ℤ◌, ◌≤ℤ◌, int_lt, int_le, refl, sym, ap, ap₂, ◌∙◌, subst, true≢false, arith}
 use Rattle.std.proofs.lemmas.Int.{ints}
 use Rattle.std.specs.Ordering.{int_eq}
@@ -19,19 +19,19 @@ use Rattle.homeo_plan.proofs.Tracked.{tracks, is_add, is_scale}
 use Rattle.homeo_plan.specs.Tracking.{Is, TracksAll, IsBelowAtBase}
 
 pub base_is_on : (b : ℕ → ℤ) → IsOn b (whole b)
-unfolding words meaning_words
+unfolding definitions meaning_definitions
 base_is_on b = record { bases = λ x. refl; temps = λ t. refl }
 
 constant_is : (n x : ℤ) (s : State) → x ≡ n → Is (constant_form n) s x
-unfolding words meaning_words
+unfolding definitions meaning_definitions
 constant_is n x s e h = omega (arith, ints)
 
 delta_is : (d : Delta) (s : State) → Is (delta_form d) s (s (DeltaAt d.object d.site))
-unfolding words meaning_words
+unfolding definitions meaning_definitions
 delta_is d s h = omega (arith, ints)
 
 pub start_tracks : (b : ℕ → ℤ) (s s' : State) → IsOn b s → IsOn b s' → TracksAll (base_forms b) s s' s s'
-unfolding words meaning_words
+unfolding definitions meaning_definitions
 start_tracks b s s' h h' (TempAt t) =
     record { here = constant_is _ _ s (h.temps t); there = constant_is _ _ s' (h'.temps t); apart = λ k. omega (arith, ints, h.temps t, h'.temps t) }
 start_tracks b s s' h h' (BaseAt x) =
@@ -40,40 +40,40 @@ start_tracks b s s' h h' (DeltaAt x j) =
     record { here = delta_is (delta_of x j) s; there = delta_is (delta_of x j) s'; apart = λ k. omega (arith, ints) }
 
 each_zero_at_base : (b : ℕ → ℤ) (ds : List Delta) → Each (IsZeroAt (whole b)) ds
-unfolding words meaning_words
+unfolding definitions meaning_definitions
 each_zero_at_base b [] = tt
 each_zero_at_base b (d ∷ ds) = (refl, each_zero_at_base b ds)
 
 terms_at_base : (b : ℕ → ℤ) (ts : List Term) → terms_value ts (whole b) ≡ pos 0
-unfolding words meaning_words
+unfolding definitions meaning_definitions
 terms_at_base b [] = refl
 terms_at_base b (t ∷ ts) = omega (arith, ints, terms_at_base b ts)
 
 -- what a form says at a state of its base, and at the base itself
 pub form_is : (b : ℕ → ℤ) (s : State) → IsOn b s → (e : Expr) → Is (form (base_forms b) e) s (value e s)
-unfolding words meaning_words
+unfolding definitions meaning_definitions
 form_is b s h e = (tracks (base_forms b) s s s s (start_tracks b s s h h) e).here
 
 pub form_at_base : (b : ℕ → ℤ) (e : Expr) → value e (whole b) ≡ (form (base_forms b) e).constant
-unfolding words meaning_words
+unfolding definitions meaning_definitions
 form_at_base b e =
     form_is b (whole b) (base_is_on b) e (each_zero_at_base b _)
     ∙ ap (λ r. (form (base_forms b) e).constant +ℤ r) (terms_at_base b (form (base_forms b) e).terms)
     ∙ omega (arith, ints)
 
 pub each_append : {X : Type 0} (P : X → Type 0) (xs ys : List X) → Each P (xs ++ ys) → Each P xs × Each P ys
-unfolding words meaning_words
+unfolding definitions meaning_definitions
 each_append P [] ys h = (tt, h)
 each_append P (x ∷ xs) ys h = let k = each_append P xs ys h.1 in ((h.0, k.0), k.1)
 
 pub append_each : {X : Type 0} (P : X → Type 0) (xs ys : List X) → Each P xs → Each P ys → Each P (xs ++ ys)
-unfolding words meaning_words
+unfolding definitions meaning_definitions
 append_each P [] ys h k = k
 append_each P (x ∷ xs) ys h k = (h.0, append_each P xs ys h.1 k)
 
 -- ---- comparisons
 gap : (a b : Linear) (n : ℤ) (s : State) (x y : ℤ) → Is a s x → Is b s y → AtomHolds s (difference a b n) → (n +ℤ (x +ℤ (negsuc 0 *ℤ y))) ≤ℤ pos 0
-unfolding words meaning_words
+unfolding definitions meaning_definitions
 gap a b n s x y hx hy h =
     let e =
     is_add (constant_form n) (add_forms a (scale_form (negsuc 0) b)) s n (x +ℤ (negsuc 0 *ℤ y)) (constant_is n n s refl)
@@ -81,41 +81,41 @@ gap a b n s x y hx hy h =
     subst (λ z. z ≤ℤ pos 0) (sym e) h.below
 
 less_if : (x y : ℤ) → (pos 1 +ℤ (x +ℤ (negsuc 0 *ℤ y))) ≤ℤ pos 0 → int_lt x y ≡ true
-unfolding words meaning_words
+unfolding definitions meaning_definitions
 less_if x y h = let e : true ≡ int_lt x y = omega (arith, ints) in sym e
 
 at_most_if : (x y : ℤ) → (pos 0 +ℤ (x +ℤ (negsuc 0 *ℤ y))) ≤ℤ pos 0 → int_le x y ≡ true
-unfolding words meaning_words
+unfolding definitions meaning_definitions
 at_most_if x y h = let e : true ≡ int_le x y = omega (arith, ints) in sym e
 
 not_less_if : (x y : ℤ) → (pos 0 +ℤ (y +ℤ (negsuc 0 *ℤ x))) ≤ℤ pos 0 → int_lt x y ≡ false
-unfolding words meaning_words
+unfolding definitions meaning_definitions
 not_less_if x y h = let e : false ≡ int_lt x y = omega (arith, ints) in sym e
 
 not_at_most_if : (x y : ℤ) → (pos 1 +ℤ (y +ℤ (negsuc 0 *ℤ x))) ≤ℤ pos 0 → int_le x y ≡ false
-unfolding words meaning_words
+unfolding definitions meaning_definitions
 not_at_most_if x y h = let e : false ≡ int_le x y = omega (arith, ints) in sym e
 
 int_eq_of : (x y : ℤ) → x ≡ y → int_eq x y ≡ true
-unfolding words meaning_words
+unfolding definitions meaning_definitions
 int_eq_of x y h = grind (arith, ints)
 
 int_ne_of : (x y : ℤ) → (x ≡ y → ⊥) → int_eq x y ≡ false
-unfolding words meaning_words
+unfolding definitions meaning_definitions
 int_ne_of x y h = grind (arith, ints)
 
 pub int_eq_is : (x y : ℤ) → int_eq x y ≡ true → x ≡ y
-unfolding words meaning_words
+unfolding definitions meaning_definitions
 int_eq_is x y h = grind (arith, ints)
 
 int_eq_is_not : (x y : ℤ) → int_eq x y ≡ false → x ≡ y → ⊥
-unfolding words meaning_words
+unfolding definitions meaning_definitions
 int_eq_is_not x y h e = true≢false (sym (int_eq_of x y e) ∙ h)
 
 pub true_comparison_holds :
     (op : Compare) (a b : Linear) (s : State) (x y : ℤ) → Is a s x → Is b s y → Each (AtomHolds s) (true_comparison op a b) →
     compared op x y ≡ true
-unfolding words meaning_words
+unfolding definitions meaning_definitions
 true_comparison_holds Less a b s x y hx hy h = less_if x y (gap a b (pos 1) s x y hx hy h.0)
 true_comparison_holds LessEqual a b s x y hx hy h = at_most_if x y (gap a b (pos 0) s x y hx hy h.0)
 true_comparison_holds Equal a b s x y hx hy h =
@@ -126,7 +126,7 @@ true_comparison_holds Equal a b s x y hx hy h =
 pub false_comparison_holds :
     (op : Compare) (v : Bool) (a b : Linear) (s : State) (x y : ℤ) → Is a s x → Is b s y →
     Each (AtomHolds s) (false_comparison op v a b) → compared op x y ≡ false
-unfolding words meaning_words
+unfolding definitions meaning_definitions
 false_comparison_holds Less v a b s x y hx hy h = not_less_if x y (gap b a (pos 0) s y x hy hx h.0)
 false_comparison_holds LessEqual v a b s x y hx hy h = not_at_most_if x y (gap b a (pos 1) s y x hy hx h.0)
 false_comparison_holds Equal true a b s x y hx hy h =
@@ -136,7 +136,7 @@ false_comparison_holds Equal false a b s x y hx hy h =
 
 -- ---- at the base
 pub true_below : (op : Compare) (a b : Linear) → compared op a.constant b.constant ≡ true → Each IsBelowAtBase (true_comparison op a b)
-unfolding words meaning_words
+unfolding definitions meaning_definitions
 true_below Less a b h = (omega (arith, ints), tt)
 true_below LessEqual a b h = (omega (arith, ints), tt)
 true_below Equal a b h = let e = int_eq_is a.constant b.constant h in (omega (arith, ints), (omega (arith, ints), tt))
@@ -144,7 +144,7 @@ true_below Equal a b h = let e = int_eq_is a.constant b.constant h in (omega (ar
 pub false_below :
     (op : Compare) (a b : Linear) → compared op a.constant b.constant ≡ false →
     Each IsBelowAtBase (false_comparison op (int_lt a.constant b.constant) a b)
-unfolding words meaning_words
+unfolding definitions meaning_definitions
 false_below Less a b h = (omega (arith, ints), tt)
 false_below LessEqual a b h = (omega (arith, ints), tt)
 false_below Equal a b h = go (int_lt a.constant b.constant) refl
@@ -157,28 +157,28 @@ false_below Equal a b h = go (int_lt a.constant b.constant) refl
 
 -- ---- whole formulas
 pub not_true : (v : Bool) → not v ≡ true → v ≡ false
-unfolding words meaning_words
+unfolding definitions meaning_definitions
 not_true true e = sym e
 not_true false e = refl
 
 pub not_false : (v : Bool) → not v ≡ false → v ≡ true
-unfolding words meaning_words
+unfolding definitions meaning_definitions
 not_false true e = refl
 not_false false e = sym e
 
 pub both_parts : (u v : Bool) → (u && v) ≡ true → (u ≡ true) × (v ≡ true)
-unfolding words meaning_words
+unfolding definitions meaning_definitions
 both_parts true v e = (refl, e)
 both_parts false v e = absurd (true≢false (sym e))
 
 pub never : (u : Bool) → (u && false) ≡ false
-unfolding words meaning_words
+unfolding definitions meaning_definitions
 never true = refl
 never false = refl
 
 module _ (b : ℕ → ℤ) (s : State) (on : IsOn b s) where
   mutual
-    unfolding words meaning_words
+    unfolding definitions meaning_definitions
 
     true_test_holds : (t : Test) → passes t (whole b) ≡ true → Each (AtomHolds s) (true_test b t) → passes t s ≡ true
     true_test_holds True e h = refl
@@ -214,7 +214,7 @@ module _ (b : ℕ → ℤ) (s : State) (on : IsOn b s) where
 -- the constants of the atoms of what holds at the base
 module _ (b : ℕ → ℤ) where
   mutual
-    unfolding words meaning_words
+    unfolding definitions meaning_definitions
 
     true_test_below : (t : Test) → passes t (whole b) ≡ true → Each IsBelowAtBase (true_test b t)
     true_test_below True e = tt

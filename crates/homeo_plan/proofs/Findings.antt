@@ -1,7 +1,7 @@
 -- There is a finding exactly where the treaty doesn't hold.
-use Rattle.homeo_meaning.specs.Key.{words as meaning_words}
+use Rattle.homeo_meaning.specs.Key.{definitions as meaning_definitions}
 use Rattle.homeo_plan.specs.declared.treaty.Broken.{Broken}
-use Rattle.homeo_plan.specs.Key.{words}
+use Rattle.homeo_plan.specs.Key.{definitions}
 use Rattle.std.proofs.Common.{◌≡◌, ℕ, suc, ◌==◌, Bool, true, false, cond, not, ◌&&◌, List, [], ◌∷◌, ℤ, pos, int_le, ◌≤ℤ◌, Option, Some, None, refl, sym, ◌∙◌, true≢false, arith}
 use Rattle.std.specs.Ordering.{int_eq}
 use Rattle.std.proofs.lemmas.Int.{ints}
@@ -33,7 +33,7 @@ unequal : (a b : ℤ) → int_eq a b ≡ false → a ≡ b → ⊥
 unequal a b e h = grind (arith, ints)
 
 freezes_tell : (n i : ℕ) (x : Deltas) (ds : List Delta) → Tells (KeepsFreezes i x ds) (broken_freeze n i x ds)
-unfolding words meaning_words
+unfolding definitions meaning_definitions
 freezes_tell n i x [] = record { none = λ e. tt; some = λ f e h. some_not_none f (sym e) }
 freezes_tell n i x (d ∷ ds) = go (freezes_tell (suc n) i x ds) (d.site == i) (int_eq (x d.object) (pos 0)) refl refl
   where
@@ -54,7 +54,7 @@ freezes_tell n i x (d ∷ ds) = go (freezes_tell (suc n) i x ds) (d.site == i) (
 clauses_tell :
     (n i : ℕ) (x : Deltas) (cs : List Clause) (bs : Config) (ds : List Delta) →
     Tells (KeepsClauses i x cs bs × KeepsFreezes i x ds) (broken_from n i x cs bs ds)
-unfolding words meaning_words
+unfolding definitions meaning_definitions
 clauses_tell n i x [] bs ds =
     let t = freezes_tell n i x ds in
     record { none = λ e. (tt, t.none e); some = λ f e h. t.some f e h.1 }
@@ -74,7 +74,7 @@ clauses_tell n i x (c ∷ cs) (b ∷ bs) ds = go (clauses_tell (suc n) i x cs bs
         record { none = λ e. absurd (some_not_none one e); some = λ f e h. not_at_most _ _ q h.0.0 }
 
 pub finding_law : (t : Template) (config : Config) (i : ℕ) (x : Deltas) → Finds t config i x
-unfolding words meaning_words
+unfolding definitions meaning_definitions
 finding_law t config i x =
     let r = clauses_tell 0 i x t.clauses config t.freezes in
     record { none = λ e. let h = r.none e in record { clauses = h.0; freezes = h.1 }; some = λ f e h. r.some f e (h.clauses, h.freezes) }

@@ -1,6 +1,6 @@
 -- Along the row that is walked, the weights bound the forms.
-use Rattle.homeo_plan.specs.Key.{words}
-use Rattle.homeo_meaning.specs.Key.{words as meaning_words}
+use Rattle.homeo_plan.specs.Key.{definitions}
+use Rattle.homeo_meaning.specs.Key.{definitions as meaning_definitions}
 use Rattle.std.proofs.Common.{◌≡◌, ℕ, ◌==◌, ◌+◌, ◌*◌, ◌<◌, ◌≤◌, max, Bool, true, false, cond, ◌&&◌, ℤ, pos, refl, sym, subst, arith}
 use Rattle.std.specs.Int.RustNames.{unsigned_abs}
 use Rattle.std.proofs.lemmas.Bool.{and_parts}
@@ -28,7 +28,7 @@ use Rattle.homeo_plan.proofs.Written.{own_value, written}
 
 -- the forms after the branches that are taken from a state
 abbrev mutual
-  unfolding words meaning_words
+  unfolding definitions meaning_definitions
 
   pub forms_after : Command → State → Forms → Forms
   forms_after Skip s f = f
@@ -57,7 +57,7 @@ holds_wider k i base v v' f l h =
     }
 
 put_ones : (v : Location → ℕ) (p : Location) (n : ℕ) → ((q : Location) → 1 ≤ v q) → 1 ≤ n → (q : Location) → 1 ≤ put v p n q
-unfolding meaning_words
+unfolding meaning_definitions
 put_ones v p n h one q = go (same_location p q)
   where
     go : (b : Bool) → 1 ≤ cond b n (v q)
@@ -67,7 +67,7 @@ put_ones v p n h one q = go (same_location p q)
 holds_temp :
     (k i : ℕ) (base : ℕ → ℤ) (v : Location → ℕ) (f : Forms) (t : Temp) (n : ℕ) (a : Linear) → Holds k i base v f → 1 ≤ n →
     Within n a → Holds k i base (put v (TempAt t) n) (put f (TempAt t) a)
-unfolding meaning_words
+unfolding meaning_definitions
 holds_temp k i base v f t n a h one w =
     record { temps = λ u. go u (same_temp t u); bases = h.bases; deltas = h.deltas; own = h.own; ones = put_ones v (TempAt t) n h.ones one }
   where
@@ -78,7 +78,7 @@ holds_temp k i base v f t n a h one w =
 holds_own :
     (k i : ℕ) (base : ℕ → ℤ) (v : Location → ℕ) (f : Forms) (x n : ℕ) (a : Linear) → Holds k i base v f → 1 ≤ n →
     Own k i base x n a → Holds k i base (put v (BaseAt x) n) (put f (DeltaAt x i) a)
-unfolding meaning_words
+unfolding meaning_definitions
 holds_own k i base v f x n a h one o =
     record {
       temps = h.temps;
@@ -112,7 +112,7 @@ module _ (b k i : ℕ) (base : ℕ → ℤ) (inside : i < k) (small : (x : ℕ) 
     pub residual : (r : Row) → CanFollow P u r.residual → CanFollow P f (step r).residual
 
   mutual
-    unfolding words meaning_words
+    unfolding definitions meaning_definitions
 
     pub follow :
         (c : Command) → IsWhole c → (v : Location → ℕ) (s : State) (f : Forms) → Holds k i base v f → is_light b c v ≡ true →

@@ -1,5 +1,5 @@
 -- The L form of a ground call names whole objects only, and keeps within bounds.
-use Rattle.homeo_meaning.specs.Key.{words as meaning_words}
+use Rattle.homeo_meaning.specs.Key.{definitions as meaning_definitions}
 use Rattle.std.proofs.Common.{◌≡◌, ℕ, List, map, slice_get, ℤ, Option, Some, None, sym, subst}
 use Rattle.homeo_syntax.specs.Source as s
 use Rattle.homeo_meaning.specs.Bounds.{IsIn, all_bounds, bounds_at}
@@ -14,20 +14,20 @@ use Rattle.homeo_meaning.specs.Whole.{IsWhole}
 use Rattle.homeo_lform.proofs.FormLaw.{form_law}
 use Rattle.homeo_lform.proofs.Stays.{bounds_law}
 use Rattle.homeo_lform.proofs.Wholes.{whole_law}
-use Rattle.homeo_plan.specs.Key.{words}
+use Rattle.homeo_plan.specs.Key.{definitions}
 use Rattle.homeo_plan.specs.Replay.{Stays}
 
 body_whole : (w : s.Workload) (t : Option s.Transaction) (args : List ℤ) → IsWhole (body_form w t args)
-unfolding words meaning_words
+unfolding definitions meaning_definitions
 body_whole w None args = tt
 body_whole w (Some t) args = whole_law (schema_of w) (map (λ p. p.name.name) t.params) args t.body
 
 pub ground_whole : (w : s.Workload) (g : Ground) → IsWhole (ground_form w g)
-unfolding meaning_words
+unfolding meaning_definitions
 ground_whole w g = body_whole w (slice_get w.transactions g.transaction) g.args
 
 body_stays : (w : s.Workload) (t : Option s.Transaction) (args : List ℤ) → Stays (schema_of w) (body_form w t args)
-unfolding words meaning_words
+unfolding definitions meaning_definitions
 body_stays w None args v h = h
 body_stays w (Some t) args v h =
     let params : List ℕ = map (λ p. p.name.name) t.params in
@@ -35,5 +35,5 @@ body_stays w (Some t) args v h =
     λ n. subst (IsIn (bounds_at (all_bounds (schema_of w)) n)) (sym (same.database n)) (bounds_law (schema_of w) params args t.body v h n)
 
 pub ground_stays : (w : s.Workload) (g : Ground) → Stays (schema_of w) (ground_form w g)
-unfolding meaning_words
+unfolding meaning_definitions
 ground_stays w g = body_stays w (slice_get w.transactions g.transaction) g.args

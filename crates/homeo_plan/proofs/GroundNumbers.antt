@@ -1,6 +1,6 @@
 -- The numbers of a database within the bounds of an accepted workload are small, and so is what a ground call computes on it.
-use Rattle.homeo_meaning.specs.Key.{words as meaning_words}
-use Rattle.homeo_plan.specs.Key.{words}
+use Rattle.homeo_meaning.specs.Key.{definitions as meaning_definitions}
+use Rattle.homeo_plan.specs.Key.{definitions}
 use Rattle.std.proofs.Common.{◌≡◌, ℕ, ◌≤◌, ◌^◌, ℤ, true, List, map, Option, Some, None, slice_get, refl, sym, subst, arith}
 use mathlib.Core.Path.{fun_ext}
 use Rattle.std.specs.Int.RustNames.{unsigned_abs}
@@ -27,7 +27,7 @@ use Rattle.homeo_plan.proofs.SmallForms.{size_at}
 
 pub values_small :
     (w : s.Workload) → IsAccepted w → (values : ℕ → ℤ) → AllWithin (schema_of w) values → (n : ℕ) → unsigned_abs (values n) ≤ most
-unfolding meaning_words
+unfolding meaning_definitions
 values_small w accepted values all n =
     let p : NoFault Run w = parts Run w accepted.rules in
     omega (arith, size_at (all_bounds (schema_of w)) n (values n) (all n), bounds_small w p.text.declared n)
@@ -35,7 +35,7 @@ values_small w accepted values all n =
 body_numbers :
     (w : s.Workload) (t : Option s.Transaction) (args : List ℤ) (values : ℕ → ℤ) → AllWithin (schema_of w) values →
     IsLightBody w t args → CanRun (IsSmall weight_limit) (IsSmall weight_limit) (body_form w t args) (whole values)
-unfolding meaning_words
+unfolding meaning_definitions
 body_numbers w None args values all light = tt
 body_numbers w (Some t) args values all light =
     (light_law weight_limit (schema_of w) (map (λ p. p.name.name) t.params) args t.body values all light).form
@@ -43,14 +43,14 @@ body_numbers w (Some t) args values all light =
 pub ground_numbers :
     (w : s.Workload) (g : Ground) → IsAccepted w → IsGroundCall w g.transaction g.args → (values : ℕ → ℤ) →
     AllWithin (schema_of w) values → CanRun (IsSmall weight_limit) (IsSmall weight_limit) (ground_form w g) (whole values)
-unfolding meaning_words
+unfolding meaning_definitions
 ground_numbers w g accepted ground values all =
     body_numbers w (slice_get w.transactions g.transaction) g.args values all
     (ground_call_light w g.transaction g.args (sound w accepted) ground)
 
 -- ---- on the fold of a split database
 fold_whole : (k : ℕ) (u : State) → HasNoTemps u → (p : Location) → whole (λ x. fold_state k u (BaseAt x)) p ≡ fold_state k u p
-unfolding words meaning_words
+unfolding definitions meaning_definitions
 fold_whole k u none (TempAt t) = sym (none t)
 fold_whole k u none (BaseAt x) = refl
 fold_whole k u none (DeltaAt x j) = refl

@@ -1,6 +1,6 @@
 -- Where every site keeps its treaty, a call does on the whole split database what its local step does.
-use Rattle.homeo_meaning.specs.Key.{words as meaning_words}
-use Rattle.homeo_plan.specs.Key.{words}
+use Rattle.homeo_meaning.specs.Key.{definitions as meaning_definitions}
+use Rattle.homeo_plan.specs.Key.{definitions}
 use Rattle.std.proofs.Common.{◌≡◌, ℕ, ◌==◌, ◌<◌, nat_lt, Bool, true, false, cond, List, [], ◌∷◌, ℤ, pos, refl, sym, ap, ◌∙◌, subst, arith}
 use Rattle.std.proofs.lemmas.Bool.Decides.{nat_tests}
 use Rattle.homeo_meaning.specs.LowMeaning.{DeltaAt, Run, holds, exec, exec_all, whole}
@@ -27,11 +27,11 @@ use Rattle.homeo_plan.specs.Tracking.{ClauseHolds}
 use Rattle.homeo_plan.proofs.Covering.{atoms_hold, each_member, each_map}
 
 pub join_is_on : (k : ℕ) (b : ℕ → ℤ) (d : ℕ → Deltas) → IsOn b (join k b d)
-unfolding words meaning_words
+unfolding definitions meaning_definitions
 join_is_on k b d = record { bases = λ x. refl; temps = λ t. refl }
 
 alone_is_on : (b : ℕ → ℤ) (i : ℕ) (x : Deltas) → IsOn b (alone b i x)
-unfolding words meaning_words
+unfolding definitions meaning_definitions
 alone_is_on b i x = record { bases = λ y. refl; temps = λ t. refl }
 
 module _
@@ -40,24 +40,24 @@ module _
     (w : IsWhole g.command)
   where
     all_frozen : Each (IsZeroAt (join k b d)) t.freezes
-    unfolding words meaning_words
+    unfolding definitions meaning_definitions
     all_frozen = freezes_hold k b d t.freezes (λ i l. (keeps i l).freezes)
 
     frozen_among : (ds : List Delta) → Each (λ d. Member d t.freezes) ds → Each (IsZeroAt (join k b d)) ds
-    unfolding words meaning_words
+    unfolding definitions meaning_definitions
     frozen_among ds h = each_map _ (IsZeroAt (join k b d)) (λ e m. each_member (IsZeroAt (join k b d)) e t.freezes all_frozen m) ds h
 
     base_is_walk : base_row k b g ≡ walk (shifted k g) (whole b)
-    unfolding words meaning_words
+    unfolding definitions meaning_definitions
     base_is_walk = row_at_walk (shifted k g) (whole b) (λ t. refl)
 
     formula_at_base : holds (base_row k b g).formula (whole b) ≡ true
-    unfolding words meaning_words
+    unfolding definitions meaning_definitions
     formula_at_base =
         ap (λ (r : Row). holds r.formula (whole b)) base_is_walk ∙ walk_holds (shifted k g) (whole b) (λ t. refl)
 
     formula_holds : holds (base_row k b g).formula (join k b d) ≡ true
-    unfolding words meaning_words
+    unfolding definitions meaning_definitions
     formula_holds =
         let cs = clauses_hold k b d t.clauses bounds fits (λ i l. (keeps i l).clauses) in
         let own =
@@ -68,25 +68,25 @@ module _
         true_cond_holds b (join k b d) (join_is_on k b d) (base_row k b g).formula formula_at_base (atoms_hold (join k b d) (atoms_of k b g) low own z)
 
     same_walk : walk (shifted k g) (join k b d) ≡ walk (shifted k g) (whole b)
-    unfolding words meaning_words
+    unfolding definitions meaning_definitions
     same_walk =
         row_is_unique (shifted k g) (whole b) (join k b d) (λ t. refl) (λ t. refl)
         (ap (λ (r : Row). holds r.formula (join k b d)) (sym base_is_walk) ∙ formula_holds)
 
     same_run : exec (shifted k g) (join k b d) ≡ exec_all (base_row k b g).residual (join k b d)
-    unfolding words meaning_words
+    unfolding definitions meaning_definitions
     same_run =
         sym (walk_residual (shifted k g) (join k b d)) ∙ ap (λ (r : Row). exec_all r.residual (join k b d)) (same_walk ∙ sym base_is_walk)
 
     own_same : (x : ℕ) → join k b d (DeltaAt x g.site) ≡ alone b g.site (d g.site) (DeltaAt x g.site)
-    unfolding words meaning_words
+    unfolding definitions meaning_definitions
     own_same x =
         let p : nat_lt g.site k ≡ true = grind (arith, nat_tests) in
         let q : (g.site == g.site) ≡ true = grind (arith, nat_tests) in
         ap (λ v. cond v (d g.site x) (pos 0)) (p ∙ sym q)
 
     zero_in_both : (ds : List Delta) → Each (IsZeroAt (join k b d)) ds → Each (ZeroInBoth (join k b d) (alone b g.site (d g.site))) ds
-    unfolding words meaning_words
+    unfolding definitions meaning_definitions
     zero_in_both [] h = tt
     zero_in_both (e ∷ ds) h = (record { here = h.0; there = go (e.site == g.site) refl }, zero_in_both ds h.1)
       where
@@ -98,19 +98,19 @@ module _
         go false q = refl
 
     residual_straight : IsStraight (base_row k b g).residual
-    unfolding words meaning_words
+    unfolding definitions meaning_definitions
     residual_straight =
         subst (λ (r : Row). IsStraight r.residual) (sym base_is_walk) (walk_straight k g.site g.command (whole b) w)
 
     same_own : SameOwn g.site (exec_all (base_row k b g).residual (join k b d)) (local_run k b g (d g.site))
-    unfolding words meaning_words
+    unfolding definitions meaning_definitions
     same_own =
         residual_same g.site (join k b d) (alone b g.site (d g.site)) own_same b (base_row k b g).residual (join_is_on k b d)
         (alone_is_on b g.site (d g.site)) residual_straight
         (zero_in_both (needs_of k b g) (frozen_among (needs_of k b g) covers.needs))
 
     pub locally_sound : IsLocallySound k b d g
-    unfolding words meaning_words
+    unfolding definitions meaning_definitions
     locally_sound =
         record {
           row = row_at_walk (shifted k g) (join k b d) (λ t. refl) ∙ same_walk ∙ sym base_is_walk;

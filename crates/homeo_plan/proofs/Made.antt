@@ -1,6 +1,6 @@
 -- The form of a transformed expression: its numbers on the way are small, and it is within the expression's weight.
-use Rattle.homeo_plan.specs.Key.{words}
-use Rattle.homeo_meaning.specs.Key.{words as meaning_words}
+use Rattle.homeo_plan.specs.Key.{definitions}
+use Rattle.homeo_meaning.specs.Key.{definitions as meaning_definitions}
 use Rattle.std.proofs.Common.{◌≡◌, ℕ, ◌+◌, ◌*◌, ◌<◌, ◌≤◌, [], ℤ, pos, ◌+ℤ◌, ap, ◌∙◌, arith}
 use Rattle.std.specs.Int.RustNames.{unsigned_abs}
 use Rattle.std.proofs.lemmas.Int.{ints}
@@ -29,7 +29,7 @@ factor_le a k p = omega (arith, mul-le a 1 a k (omega arith) p)
 
 module _ (w : Location → ℕ) (ones : (p : Location) → 1 ≤ w p) where
   mutual
-    unfolding words meaning_words
+    unfolding definitions meaning_definitions
 
     pub one_weight : (e : Expr) → 1 ≤ weight e w
     one_weight (Literal n) = omega arith
@@ -68,7 +68,7 @@ module _ (b k i : ℕ) (base : ℕ → ℤ) (inside : i < k) (small : (x : ℕ) 
   read_made :
       (x : ℕ) → v (BaseAt x) ≤ b →
       Made (CanForm (IsSmall (2 * b + 1)) f (shift_read k (split.Whole x))) (v (BaseAt x)) (form f (shift_read k (split.Whole x)))
-  unfolding words meaning_words
+  unfolding definitions meaning_definitions
   read_made x l =
       let one = h.ones (BaseAt x) in
       let o = h.own x in
@@ -102,7 +102,7 @@ module _ (b k i : ℕ) (base : ℕ → ℤ) (inside : i < k) (small : (x : ℕ) 
           ∙ omega (arith, ints, (h.bases x).factors d)
 
   mutual
-    unfolding words meaning_words
+    unfolding definitions meaning_definitions
 
     pub make : (e : Expr) → IsWholeExpr e → weight e v ≤ b → Made (CanForm (IsSmall (2 * b + 1)) f (shift_expr k e)) (weight e v) (form f (shift_expr k e))
     make (Literal n) t l =

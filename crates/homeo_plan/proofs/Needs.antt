@@ -1,6 +1,6 @@
 -- A residual gives the same from the same own deltas, where the remote deltas that it needs are 0.
-use Rattle.homeo_meaning.specs.Key.{words as meaning_words}
-use Rattle.homeo_plan.specs.Key.{words}
+use Rattle.homeo_meaning.specs.Key.{definitions as meaning_definitions}
+use Rattle.homeo_plan.specs.Key.{definitions}
 use Rattle.std.proofs.Common.{◌≡◌, ℕ, ◌==◌, ◌&&◌, Bool, true, false, cond, List, [], ◌∷◌, ℤ, refl, sym, ap₂, ◌∙◌, subst, ◌⊎◌, inl, inr, ⊎_elim, arith}
 use Rattle.std.proofs.lemmas.Bool.Decides.{nat_tests}
 use Rattle.homeo_syntax.specs.declared.low.SplitName.TheVariants as split
@@ -17,7 +17,7 @@ use Rattle.homeo_plan.proofs.Atoms.{start_tracks}
 
 -- ---- which deltas were written
 member_added : (d : Delta) (es : List Delta) → Member d (add_delta d es)
-unfolding words meaning_words
+unfolding definitions meaning_definitions
 member_added d [] = inl refl
 member_added d (e ∷ es) = go (same_delta d e) refl (delta_before d e) (member_added d es)
   where
@@ -27,7 +27,7 @@ member_added d (e ∷ es) = go (same_delta d e) refl (delta_before d e) (member_
     go false q false ih = inr ih
 
 member_kept : (c d : Delta) (es : List Delta) → Member c es → Member c (add_delta d es)
-unfolding words meaning_words
+unfolding definitions meaning_definitions
 member_kept c d [] m = absurd m
 member_kept c d (e ∷ es) m = go (same_delta d e) (delta_before d e) (member_kept c d es)
   where
@@ -39,7 +39,7 @@ member_kept c d (e ∷ es) m = go (same_delta d e) (delta_before d e) (member_ke
 each_written :
     (P : Delta → Type 0) (i : ℕ) (f : Forms) (d : Delta) (ds : List Delta) → Member d ds → Each P (written_needs i f ds) →
     Each P (remote i (support (f (DeltaAt d.object d.site))))
-unfolding words meaning_words
+unfolding definitions meaning_definitions
 each_written P i f d [] m h = absurd m
 each_written P i f d (e ∷ ds) m h =
     let k = each_add_deltas P (remote i (support (f (DeltaAt e.object e.site)))) (written_needs i f ds) h in
@@ -47,7 +47,7 @@ each_written P i f d (e ∷ ds) m h =
 
 module _ (i : ℕ) (s s' : State) (own : (x : ℕ) → s (DeltaAt x i) ≡ s' (DeltaAt x i)) where
   pub support_agrees : (ds : List Delta) → Each (ZeroInBoth s s') (remote i ds) → Each (Agrees s s') ds
-  unfolding words meaning_words
+  unfolding definitions meaning_definitions
   support_agrees [] h = tt
   support_agrees (d ∷ ds) h = go (d.site == i) refl (support_agrees ds) h
     where
@@ -62,7 +62,7 @@ module _ (i : ℕ) (s s' : State) (own : (x : ℕ) → s (DeltaAt x i) ≡ s' (D
   pub put_tracks :
       (f : Forms) (u u' : State) (p : Location) (a : Linear) (v v' : ℤ) → TracksAll f s s' u u' → Tracks a s s' v v' →
       TracksAll (put f p a) s s' (put u p v) (put u' p v')
-  unfolding words meaning_words
+  unfolding definitions meaning_definitions
   put_tracks f u u' p a v v' h k q = go (same_location p q)
     where
       go : (w : Bool) → Tracks (cond w a (f q)) s s' (cond w v (u q)) (cond w v' (u' q))
@@ -72,7 +72,7 @@ module _ (i : ℕ) (s s' : State) (own : (x : ℕ) → s (DeltaAt x i) ≡ s' (D
   pub still_same :
       (u u' : State) (x j : ℕ) (v v' : ℤ) (ds : List Delta) (y : ℕ) → IsSameUnlessWritten i u u' ds y →
       IsSameUnlessWritten i (put u (DeltaAt x j) v) (put u' (DeltaAt x j) v') (add_delta (delta_of x j) ds) y
-  unfolding words meaning_words
+  unfolding definitions meaning_definitions
   still_same u u' x j v v' ds y h = go ((x == y) && (j == i)) refl
     where
       go :
@@ -85,7 +85,7 @@ module _ (i : ℕ) (s s' : State) (own : (x : ℕ) → s (DeltaAt x i) ≡ s' (D
       (cs : Commands) (f : Forms) (ds : List Delta) (u u' : State) → IsStraight cs → TracksAll f s s' u u' →
       ((x : ℕ) → IsSameUnlessWritten i u u' ds x) → Each (ZeroInBoth s s') (needs_from i f ds cs) →
       SameOwn i (exec_all cs u) (exec_all cs u')
-  unfolding words meaning_words
+  unfolding definitions meaning_definitions
   same_own NoCommand f ds u u' st t w z =
       record {
         prints = refl;
@@ -122,6 +122,6 @@ module _ (i : ℕ) (s s' : State) (own : (x : ℕ) → s (DeltaAt x i) ≡ s' (D
   pub residual_same :
       (b : ℕ → ℤ) (cs : Commands) → IsOn b s → IsOn b s' → IsStraight cs → Each (ZeroInBoth s s') (needs i b cs) →
       SameOwn i (exec_all cs s) (exec_all cs s')
-  unfolding words meaning_words
+  unfolding definitions meaning_definitions
   residual_same b cs on on' st z =
       same_own cs (base_forms b) [] s s' st (start_tracks b s s' on on') (λ x. inl (own x)) z

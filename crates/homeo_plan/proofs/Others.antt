@@ -1,5 +1,5 @@
 -- The deltas of the other sites: each once.
-use Rattle.homeo_plan.specs.Key.{words}
+use Rattle.homeo_plan.specs.Key.{definitions}
 use Rattle.std.proofs.Common.{◌≡◌, ℕ, zero, suc, ◌==◌, ◌<◌, ◌≤◌, Bool, true, false, cond, ℤ, pos, ◌+ℤ◌, ◌≤ℤ◌, refl, sym, ap, ◌∙◌, subst, arith}
 use Rattle.std.specs.Int.RustNames.{unsigned_abs}
 use Rattle.std.proofs.lemmas.Int.{ints}
@@ -12,7 +12,7 @@ use Rattle.homeo_plan.proofs.Sizes.{Within}
 
 -- of n sites from j on, how often the delta is that of x at a site other than i
 abbrev pub others_from : ℕ → ℕ → ℕ → ℕ → Delta → ℤ
-unfolding words
+unfolding definitions
 others_from i x j zero d = pos 0
 others_from i x j (suc n) d = cond (i == j) (pos 0) (at_delta (delta_of x j) (pos 1) d) +ℤ others_from i x (suc j) n d
 
@@ -24,11 +24,11 @@ zero_bit : IsBit (pos 0)
 zero_bit = record { low = grind (arith, ints); high = grind (arith, ints) }
 
 not_behind : (x j : ℕ) (d : Delta) → d.site < j → same_delta (delta_of x j) d ≡ false
-unfolding words
+unfolding definitions
 not_behind x j d h = grind (arith, nat_tests)
 
 none_behind : (i x j n : ℕ) (d : Delta) → d.site < j → others_from i x j n d ≡ pos 0
-unfolding words
+unfolding definitions
 none_behind i x j zero d h = refl
 none_behind i x j (suc n) d h =
     let rest = none_behind i x (suc j) n d (omega (arith, h)) in
@@ -42,7 +42,7 @@ plus_zero : (z : ℤ) → z ≡ pos 0 +ℤ z
 plus_zero z = omega (arith, ints)
 
 pub others_bit : (i x j n : ℕ) (d : Delta) → IsBit (others_from i x j n d)
-unfolding words
+unfolding definitions
 others_bit i x j zero d = zero_bit
 others_bit i x j (suc n) d = go (i == j) (same_delta (delta_of x j) d) refl (others_bit i x (suc j) n d)
   where
@@ -60,7 +60,7 @@ others_bit i x j (suc n) d = go (i == j) (same_delta (delta_of x j) d) refl (oth
 
 -- the own delta is none of them
 pub none_own : (i x j n : ℕ) (d : Delta) → same_delta (delta_of x i) d ≡ true → others_from i x j n d ≡ pos 0
-unfolding words
+unfolding definitions
 none_own i x j zero d h = refl
 none_own i x j (suc n) d h = go (i == j) refl (same_delta (delta_of x j) d) refl (none_own i x (suc j) n d h)
   where

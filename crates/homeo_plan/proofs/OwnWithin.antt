@@ -1,6 +1,6 @@
 -- Base plus own deltas stays within bounds along a replay: it is the fold where every other site's deltas are 0.
-use Rattle.homeo_meaning.specs.Key.{words as meaning_words}
-use Rattle.homeo_plan.specs.Key.{words}
+use Rattle.homeo_meaning.specs.Key.{definitions as meaning_definitions}
+use Rattle.homeo_plan.specs.Key.{definitions}
 use Rattle.std.proofs.Common.{◌≡◌, ℕ, zero, suc, ◌==◌, ◌<◌, nat_lt, Bool, true, false, cond, List, [], ◌∷◌, ℤ, pos, ◌+ℤ◌, ◌*ℤ◌, ◌≤ℤ◌, refl, sym, ap, ap₂, ◌∙◌, subst, arith}
 use mathlib.Core.Path.{fun_ext}
 use Rattle.std.proofs.lemmas.Int.{ints}
@@ -23,7 +23,7 @@ use Rattle.homeo_meaning.specs.Schema.{Schema}
 
 -- ---- deltas 0 keep every treaty
 site_sum_zero : (i : ℕ) (ts : List Term) → site_sum i ts no_deltas ≡ pos 0
-unfolding words meaning_words
+unfolding definitions meaning_definitions
 site_sum_zero i [] = refl
 site_sum_zero i (t ∷ ts) = ap₂ ◌+ℤ◌ (go (t.delta.site == i)) (site_sum_zero i ts)
   where
@@ -32,25 +32,25 @@ site_sum_zero i (t ∷ ts) = ap₂ ◌+ℤ◌ (go (t.delta.site == i)) (site_sum
     go false = refl
 
 bound_not_negative : (ns : List ℤ) (i : ℕ) → Each (λ n. pos 0 ≤ℤ n) ns → pos 0 ≤ℤ bound_at ns i
-unfolding words meaning_words
+unfolding definitions meaning_definitions
 bound_not_negative [] i h = omega (arith, ints)
 bound_not_negative (n ∷ ns) zero h = h.0
 bound_not_negative (n ∷ ns) (suc i) h = bound_not_negative ns i h.1
 
 zero_keeps_clauses : (k i : ℕ) (cs : List Clause) (bs : Config) → Fits k cs bs → KeepsClauses i no_deltas cs bs
-unfolding words meaning_words
+unfolding definitions meaning_definitions
 zero_keeps_clauses k i [] bs f = tt
 zero_keeps_clauses k i (c ∷ cs) [] f = absurd f
 zero_keeps_clauses k i (c ∷ cs) (n ∷ bs) f =
     (subst (λ z. z ≤ℤ bound_at n i) (sym (site_sum_zero i c.terms)) (bound_not_negative n i f.0.not_negative), zero_keeps_clauses k i cs bs f.1)
 
 zero_keeps_freezes : (i : ℕ) (ds : List Delta) → KeepsFreezes i no_deltas ds
-unfolding words meaning_words
+unfolding definitions meaning_definitions
 zero_keeps_freezes i [] = tt
 zero_keeps_freezes i (e ∷ ds) = (λ q. refl, zero_keeps_freezes i ds)
 
 pub zero_keeps : (k : ℕ) (t : Template) (config : Config) (i : ℕ) → Fits k t.clauses config → Treaty t config i no_deltas
-unfolding words meaning_words
+unfolding definitions meaning_definitions
 zero_keeps k t config i fits =
     record { clauses = zero_keeps_clauses k i t.clauses config fits; freezes = zero_keeps_freezes i t.freezes }
 
@@ -61,7 +61,7 @@ only i x = with_site (λ j. no_deltas) i x
 pub only_keeps :
     (k : ℕ) (t : Template) (config : Config) (i : ℕ) (x : Deltas) → Fits k t.clauses config → Treaty t config i x → (j : ℕ) →
     Treaty t config j (only i x j)
-unfolding words meaning_words
+unfolding definitions meaning_definitions
 only_keeps k t config i x fits h j = go (i == j) refl
   where
     go : (v : Bool) → (i == j) ≡ v → Treaty t config j (cond v x no_deltas)
@@ -69,12 +69,12 @@ only_keeps k t config i x fits h j = go (i == j) refl
     go false q = zero_keeps k t config j fits
 
 pub only_here : (i : ℕ) (x : Deltas) → only i x i ≡ x
-unfolding words meaning_words
+unfolding definitions meaning_definitions
 only_here i x =
     let q : (i == i) ≡ true = grind (arith, nat_tests) in ap (λ (v : Bool). let d : Deltas = cond v x no_deltas in d) q
 
 only_again : (i : ℕ) (x y : Deltas) → with_site (only i x) i y ≡ only i y
-unfolding words meaning_words
+unfolding definitions meaning_definitions
 only_again i x y = fun_ext (λ j. go (i == j))
   where
     go : (v : Bool) → cond v y (cond v x no_deltas) ≡ cond v y no_deltas
@@ -82,7 +82,7 @@ only_again i x y = fun_ext (λ j. go (i == j))
     go false = refl
 
 pub only_folded : (k : ℕ) (b : ℕ → ℤ) (i : ℕ) (x : Deltas) → i < k → folded k b (only i x) ≡ (λ n. b n +ℤ x n)
-unfolding words meaning_words
+unfolding definitions meaning_definitions
 only_folded k b i x lt = fun_ext at
   where
     swap : (n j : ℕ) (u v : Bool) → nat_lt j k ≡ u → (i == j) ≡ v → cond u (cond v x no_deltas n) (pos 0) ≡ cond v (x n) (pos 0)
@@ -105,7 +105,7 @@ only_folded k b i x lt = fun_ext at
 
 -- what a site sees of a round is what all sites have where the others' deltas are 0
 pub alone_is_joined : (k : ℕ) (b : ℕ → ℤ) (i : ℕ) (x : Deltas) → i < k → alone b i x ≡ join k b (only i x)
-unfolding words meaning_words
+unfolding definitions meaning_definitions
 alone_is_joined k b i x lt = fun_ext at
   where
     delta :
@@ -128,7 +128,7 @@ pub step_within :
     (x : Schema) (k : ℕ) (b : ℕ → ℤ) (t : Template) (config : Config) (i : ℕ) (d : Deltas) (g : PlannedCall) →
     Fits k t.clauses config → i < k → CanStep x k b t i g → Treaty t config i d → AllWithin x (λ n. b n +ℤ d n) →
     AllWithin x (λ n. b n +ℤ local_deltas k b g d n)
-unfolding words meaning_words
+unfolding definitions meaning_definitions
 step_within x k b t config i d g fits lt can h within =
     subst (AllWithin x)
     (one.after ∙ ap (λ y. folded k b (with_site (only i d) i (local_deltas k b g y))) (only_here i d)
@@ -148,7 +148,7 @@ pub own_within :
     (x : Schema) (k : ℕ) (b : ℕ → ℤ) (t : Template) (config : Config) (i : ℕ) (d : Deltas) (gs : List PlannedCall) →
     Fits k t.clauses config → i < k → Each (CanStep x k b t i) gs → Treaty t config i d → AllWithin x (λ n. b n +ℤ d n) →
     KeepsAlong k b t config i d gs → AllWithin x (λ n. b n +ℤ replay k b gs d n)
-unfolding words meaning_words
+unfolding definitions meaning_definitions
 own_within x k b t config i d [] fits lt can h within keeps = within
 own_within x k b t config i d (g ∷ gs) fits lt can h within keeps =
     own_within x k b t config i (local_deltas k b g d) gs fits lt can.1 keeps.0

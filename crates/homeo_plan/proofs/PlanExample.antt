@@ -1,7 +1,7 @@
 -- A round of one call, written out by hand: two sites, one object with the base 5, and a call at site 0 that prints 1 where
 -- the object is 3, and 0 where it isn't. Its treaties keep the object above 3.
-use Rattle.homeo_meaning.specs.Key.{words as meaning_words}
-use Rattle.homeo_plan.specs.Key.{words}
+use Rattle.homeo_meaning.specs.Key.{definitions as meaning_definitions}
+use Rattle.homeo_plan.specs.Key.{definitions}
 use Rattle.std.proofs.Common.{◌≡◌, ℕ, [], ◌∷◌, ℤ, pos, negsuc, Some, None, refl}
 use Rattle.homeo_syntax.specs.declared.low.SplitName.TheVariants as split
 use Rattle.homeo_syntax.specs.declared.phrase.Compare.TheVariants.{Equal}
@@ -47,21 +47,21 @@ too_low : Broken
 too_low = record { clause = 0; sum = pos 2; bound = pos 1 }
 
 plan_is : template 2 base (look ∷ []) ≡ plan
-unfolding words meaning_words look base plan above less
+unfolding definitions meaning_definitions look base plan above less
 plan_is = refl
 
 bounds_are : even 2 (above ∷ []) ≡ bounds
-unfolding words meaning_words above less bounds
+unfolding definitions meaning_definitions above less bounds
 bounds_are = refl
 
 look_prints : local_prints 2 base look no_deltas ≡ pos 0 ∷ []
-unfolding words meaning_words look base
+unfolding definitions meaning_definitions look base
 look_prints = refl
 
 keeps_at_first : finding plan bounds 1 no_deltas ≡ None
-unfolding words meaning_words plan above less bounds
+unfolding definitions meaning_definitions plan above less bounds
 keeps_at_first = refl
 
 breaks_when_fallen : finding plan bounds 1 fallen ≡ Some too_low
-unfolding words meaning_words plan above less bounds fallen too_low
+unfolding definitions meaning_definitions plan above less bounds fallen too_low
 breaks_when_fallen = refl

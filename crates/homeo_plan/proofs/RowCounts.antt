@@ -1,6 +1,6 @@
 -- How many rows a table has.
-use Rattle.homeo_meaning.specs.Key.{words as meaning_words}
-use Rattle.homeo_plan.specs.Key.{words}
+use Rattle.homeo_meaning.specs.Key.{definitions as meaning_definitions}
+use Rattle.homeo_plan.specs.Key.{definitions}
 use Rattle.std.proofs.Common.{◌≡◌, ℕ, ◌+◌, ◌*◌, List, [], ◌∷◌, ◌++◌, map, length, refl, sym, ap, ap₂, ◌∙◌, arith}
 use Rattle.std.proofs.Math.Nat.{mul_assoc, add-mul}
 use Rattle.std.proofs.lemmas.List.{length-append, length-map}
@@ -16,7 +16,7 @@ one_each : {X : Type 0} (f : X → Row) (rs : List X) → length (map f rs) ≡ 
 one_each f rs = omega (arith, length-map rs f)
 
 mutual
-  unfolding words meaning_words
+  unfolding definitions meaning_definitions
 
   length_before : (c : Command) (rs : List Row) → length (before c rs) ≡ rows c * length rs
   length_before Skip rs = omega arith
@@ -38,14 +38,14 @@ mutual
       ∙ sym (mul_assoc (rows c) (rows_all cs) (length rs))
 
 pub length_table : (c : Command) → length (table c) ≡ rows c
-unfolding words meaning_words
+unfolding definitions meaning_definitions
 length_table c =
     let one : rows c * 1 ≡ rows c = omega arith in
     length-map (before c (last_row ∷ [])) clear_row ∙ length_before c (last_row ∷ []) ∙ one
 
 -- ---- the table of a transformed command
 mutual
-  unfolding words meaning_words
+  unfolding definitions meaning_definitions
 
   pub rows_shift : (k i : ℕ) (c : Command) → rows (shift k i c) ≡ rows c
   rows_shift k i Skip = refl
@@ -62,5 +62,5 @@ mutual
   rows_shift_all k i (MoreCommand c cs) = ap₂ ◌*◌ (rows_shift k i c) (rows_shift_all k i cs)
 
 pub length_shifted : (k : ℕ) (g : PlannedCall) → length (table (shifted k g)) ≡ rows g.command
-unfolding words
+unfolding definitions
 length_shifted k g = length_table (shift k g.site g.command) ∙ rows_shift k g.site g.command

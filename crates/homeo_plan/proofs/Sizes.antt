@@ -1,6 +1,6 @@
 -- How large the numbers of sums, negations and products of forms are.
-use Rattle.homeo_plan.specs.Key.{words}
-use Rattle.homeo_meaning.specs.Key.{words as meaning_words}
+use Rattle.homeo_plan.specs.Key.{definitions}
+use Rattle.homeo_meaning.specs.Key.{definitions as meaning_definitions}
 use Rattle.std.proofs.Common.{◌≡◌, ℕ, ◌+◌, ◌*◌, ◌≤◌, Bool, true, false, cond, List, [], ◌∷◌, ℤ, negsuc, ◌+ℤ◌, ◌*ℤ◌, sym, subst, arith}
 use Rattle.std.specs.Int.RustNames.{unsigned_abs}
 use Rattle.std.proofs.lemmas.Int.{ints, unsigned_abs-mul}
@@ -24,12 +24,12 @@ pub record Within (n : ℕ) (a : Linear) : Type 0 where
   pub sorted : Sorted a.terms
 
 each_small : (m n : ℕ) (ts : List Term) → n ≤ m → Each (λ t. unsigned_abs t.factor ≤ n) ts → Each (λ t. IsSmall m t.factor) ts
-unfolding words meaning_words
+unfolding definitions meaning_definitions
 each_small m n [] l h = tt
 each_small m n (t ∷ ts) l h = (omega (arith, l, h.0), each_small m n ts l h.1)
 
 pub numbers : (m n : ℕ) (a : Linear) → n ≤ m → Within n a → Numbers (IsSmall m) a
-unfolding meaning_words
+unfolding meaning_definitions
 numbers m n a l w =
     record { constant = omega (arith, l, w.constant); factors = each_small m n a.terms l (small_terms n a.terms w.sorted w.factors) }
 
@@ -38,11 +38,11 @@ wider m n a l w =
     record { constant = omega (arith, l, w.constant); factors = λ d. omega (arith, l, w.factors d); sorted = w.sorted }
 
 pub within_constant : (n : ℕ) (z : ℤ) → unsigned_abs z ≤ n → Within n (constant_form z)
-unfolding words
+unfolding definitions
 within_constant n z h = record { constant = h; factors = λ d. omega arith; sorted = tt }
 
 pub within_add : (m n : ℕ) (a b : Linear) → Within m a → Within n b → Within (m + n) (add_forms a b)
-unfolding words
+unfolding definitions
 within_add m n a b v w =
     record {
       constant = omega (arith, abs_add a.constant b.constant, v.constant, w.constant);
@@ -60,7 +60,7 @@ size_mul m n x y h k =
     omega (arith, unsigned_abs-mul x y, mul-le (unsigned_abs x) (unsigned_abs y) m n h k)
 
 pub within_scale : (m n : ℕ) (z : ℤ) (a : Linear) → unsigned_abs z ≤ m → Within n a → Within (m * n) (scale_form z a)
-unfolding words
+unfolding definitions
 within_scale m n z a h w =
     record { constant = size_mul m n z a.constant h w.constant; factors = λ d. size d; sorted = sorted_scale z a.terms w.sorted }
   where
@@ -76,12 +76,12 @@ within_negated n a w =
     one_times = omega arith
 
 within_mixed : (m n : ℕ) (a b : Linear) → Within m a → Within n b → Within (m * n) (mix_forms a b)
-unfolding words
+unfolding definitions
 within_mixed m n a b v w =
     record { constant = size_mul m n a.constant b.constant v.constant w.constant; factors = λ d. omega arith; sorted = tt }
 
 pub within_multiply : (m n : ℕ) (a b : Linear) → Within m a → Within n b → Within (m * n) (multiply_forms a b)
-unfolding words
+unfolding definitions
 within_multiply m n a b v w = go (is_pure a) (is_pure b)
   where
     swapped : n * m ≡ m * n

@@ -1,6 +1,6 @@
 -- Where a command is light, the forms along its row are small.
-use Rattle.homeo_plan.specs.Key.{words}
-use Rattle.homeo_meaning.specs.Key.{words as meaning_words}
+use Rattle.homeo_plan.specs.Key.{definitions}
+use Rattle.homeo_meaning.specs.Key.{definitions as meaning_definitions}
 use Rattle.std.proofs.Common.{◌≡◌, ℕ, zero, suc, ◌+◌, ◌*◌, ◌≤◌, Bool, true, false, cond, List, [], ◌∷◌, ℤ, pos, ◌+ℤ◌, refl, sym, subst, arith, ◌<◌}
 use Rattle.std.specs.Int.RustNames.{unsigned_abs}
 use Rattle.std.proofs.lemmas.Int.{ints}
@@ -26,17 +26,17 @@ use Rattle.homeo_syntax.specs.Low.{Command}
 use Rattle.homeo_meaning.specs.Whole.{IsWhole}
 
 in_size : (x : Bounds) (v : ℤ) → IsIn x v → unsigned_abs v ≤ bounds_weight x
-unfolding meaning_words
+unfolding meaning_definitions
 in_size x v h = grind (arith, ints, h.0, h.1)
 
 pub size_at : (bs : List Bounds) (n : ℕ) (v : ℤ) → IsIn (bounds_at bs n) v → unsigned_abs v ≤ weight_at bs n
-unfolding meaning_words
+unfolding meaning_definitions
 size_at [] n v h = grind (arith, ints, h.0, h.1)
 size_at (b ∷ bs) zero v h = in_size b v h
 size_at (b ∷ bs) (suc n) v h = size_at bs n v h
 
 pub one_at : (bs : List Bounds) (n : ℕ) → 1 ≤ weight_at bs n
-unfolding meaning_words
+unfolding meaning_definitions
 one_at [] n = omega arith
 one_at (b ∷ bs) zero = omega arith
 one_at (b ∷ bs) (suc n) = one_at bs n
@@ -50,7 +50,7 @@ one_of o true t h =
 one_of o false t h = grind (arith, ints, t.low, t.high)
 
 start : (k i : ℕ) (x : Schema) (base : ℕ → ℤ) → AllWithin x base → Holds k i base (first_weights x) (base_forms base)
-unfolding words meaning_words
+unfolding definitions meaning_definitions
 start k i x base h =
     record {
       temps = λ t. within_constant 1 (pos 0) (omega arith);
@@ -84,7 +84,7 @@ pub small_forms :
     (b : ℕ) (x : Schema) (k i : ℕ) (c : Command) (base : ℕ → ℤ) → i < k → IsWhole c → AllWithin x base →
     ((n : ℕ) → IsSmall b (base n)) → is_light b c (first_weights x) ≡ true →
     HasSmallForms (2 * b + 1) base (walk (shift k i c) (whole base))
-unfolding words meaning_words
+unfolding definitions meaning_definitions
 small_forms b x k i c base inside w h small l =
     let r = follow b k i base inside small c w (first_weights x) (whole base) (base_forms base) (start k i x base h) l in
     let formula : CanCond (IsSmall (2 * b + 1)) (base_forms base) (walk (shift k i c) (whole base)).formula =

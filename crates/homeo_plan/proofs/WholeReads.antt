@@ -1,6 +1,6 @@
 -- What is read of a whole object: the sum of its base and of its deltas, the own one as it was written last.
-use Rattle.homeo_plan.specs.Key.{words}
-use Rattle.homeo_meaning.specs.Key.{words as meaning_words}
+use Rattle.homeo_plan.specs.Key.{definitions}
+use Rattle.homeo_meaning.specs.Key.{definitions as meaning_definitions}
 use Rattle.std.proofs.Common.{◌≡◌, ℕ, zero, suc, ◌==◌, ◌+◌, ◌<◌, ◌≤◌, Bool, true, false, cond, ℤ, pos, ◌+ℤ◌, refl, sym, ap, ◌∙◌, subst, arith}
 use Rattle.std.specs.Int.RustNames.{unsigned_abs}
 use Rattle.std.proofs.lemmas.Int.{ints}
@@ -36,7 +36,7 @@ at_delta_bit true = omega arith
 at_delta_bit false = omega arith
 
 pub delta_within : (s : Delta) (a : Linear) → Shape (pos 0) (at_delta s (pos 1)) a → Within 1 a
-unfolding words
+unfolding definitions
 delta_within s a t =
     shape_within 1 (pos 0) (at_delta s (pos 1)) a t (omega arith) (λ d. at_delta_bit (same_delta s d))
 
@@ -69,7 +69,7 @@ module _ (k i m : ℕ) (f : Forms) (x : ℕ) where
       (z : ℤ) (g : Delta → ℤ) (j n : ℕ) (a : Linear) → (i == j) ≡ false →
       Shape (pos 0) (at_delta (delta_of x j) (pos 1)) (f (DeltaAt x j)) → Part z g j (suc n) a →
       Part z g (suc j) n (add_forms (f (DeltaAt x j)) a)
-  unfolding words
+  unfolding definitions
   other_step z g j n a q s p =
       record { constant = omega (arith, ints, p.constant, s.constant); factors = λ d. factors d; sorted = sorted_adds (f (DeltaAt x j)).terms a.terms p.sorted }
     where
@@ -84,7 +84,7 @@ module _ (k i m : ℕ) (f : Forms) (x : ℕ) where
   own_step :
       (z : ℤ) (g : Delta → ℤ) (n : ℕ) (a o : Linear) → Sorted o.terms → Part z g i (suc n) a →
       Part (z +ℤ o.constant) (λ d. g d +ℤ factor d o.terms) (suc i) n (add_forms o a)
-  unfolding words
+  unfolding definitions
   own_step z g n a o s p =
       record { constant = omega (arith, ints, p.constant); factors = λ d. factors d; sorted = sorted_adds o.terms a.terms p.sorted }
     where
@@ -105,7 +105,7 @@ module _ (k i m : ℕ) (f : Forms) (x : ℕ) where
   summed_none :
       (w : ℕ) (z : ℤ) (g : Delta → ℤ) (j : ℕ) (a : Linear) → w + 1 ≤ m → unsigned_abs z ≤ m →
       ((d : Delta) → unsigned_abs (g d) ≤ w) → Part z g j 0 a → Summed z g j 0 a
-  unfolding words meaning_words
+  unfolding definitions meaning_definitions
   summed_none w z g j a l h q p =
       record {
         can = part_numbers w z g j 0 a l p h q;
@@ -116,7 +116,7 @@ module _ (k i m : ℕ) (f : Forms) (x : ℕ) where
       (w : ℕ) (z : ℤ) (g : Delta → ℤ) → w + 1 ≤ m → unsigned_abs z ≤ m → ((d : Delta) → unsigned_abs (g d) ≤ w) →
       ((j : ℕ) → (i == j) ≡ false → Shape (pos 0) (at_delta (delta_of x j) (pos 1)) (f (DeltaAt x j))) →
       (n j : ℕ) (a : Linear) → i < j → Part z g j n a → Summed z g j n a
-  unfolding words meaning_words
+  unfolding definitions meaning_definitions
   after_own w z g l h q s zero j a r p = summed_none w z g j a l h q p
   after_own w z g l h q s (suc n) j a r p =
       let other : (i == j) ≡ false = grind (arith, nat_tests) in
@@ -133,7 +133,7 @@ module _ (k i m : ℕ) (f : Forms) (x : ℕ) where
       ((j : ℕ) → (i == j) ≡ false → Shape (pos 0) (at_delta (delta_of x j) (pos 1)) (f (DeltaAt x j))) →
       Numbers (IsSmall m) (f (DeltaAt x i)) → Sorted (f (DeltaAt x i)).terms → (n j : ℕ) (a : Linear) → j ≤ i → i < j + n →
       Part z g j n a → Summed (z +ℤ (f (DeltaAt x i)).constant) (λ d. g d +ℤ factor d (f (DeltaAt x i)).terms) j n a
-  unfolding words meaning_words
+  unfolding definitions meaning_definitions
   before_own w z g l h q h' q' s o so zero j a r t p = absurd (never r t)
     where
       never : j ≤ i → i < j + 0 → ⊥

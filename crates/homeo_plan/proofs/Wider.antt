@@ -1,6 +1,6 @@
 -- A property of the numbers that follows from another.
-use Rattle.homeo_plan.specs.Key.{words}
-use Rattle.homeo_meaning.specs.Key.{words as meaning_words}
+use Rattle.homeo_plan.specs.Key.{definitions}
+use Rattle.homeo_meaning.specs.Key.{definitions as meaning_definitions}
 use Rattle.std.proofs.Common.{ℕ, ◌≤◌, List, [], ◌∷◌, ℤ, pos, arith}
 use Rattle.homeo_syntax.specs.Low.{Expr, Exprs, Literal, OfTemp, Read, Sum, Product, Neg, NoExpr, MoreExpr, Test, Cond, True, Not, Comparison, NoTest, MoreTest, Commands, Skip, Assign, Write, Print, Seq, If, NoCommand, MoreCommand}
 use Rattle.homeo_meaning.specs.LowMeaning.{TempAt, location_of, put}
@@ -14,7 +14,7 @@ use Rattle.homeo_plan.specs.SmallForms.{HasSmallForms}
 
 module _ (P Q : ℤ → Type 0) (q : (z : ℤ) → P z → Q z) where
   each_wider : (ts : List Term) → Each (λ t. P t.factor) ts → Each (λ t. Q t.factor) ts
-  unfolding words
+  unfolding definitions
   each_wider [] h = tt
   each_wider (t ∷ ts) h = (q t.factor h.0, each_wider ts h.1)
 
@@ -22,7 +22,7 @@ module _ (P Q : ℤ → Type 0) (q : (z : ℤ) → P z → Q z) where
   numbers_wider a h = record { constant = q a.constant h.constant; factors = each_wider a.terms h.factors }
 
   mutual
-    unfolding words
+    unfolding definitions
 
     form_wider : (f : Forms) (e : Expr) → CanForm P f e → CanForm Q f e
     form_wider f (Literal n) h = numbers_wider _ h
@@ -46,7 +46,7 @@ module _ (P Q : ℤ → Type 0) (q : (z : ℤ) → P z → Q z) where
       record { negated = numbers_wider _ h.negated; apart = numbers_wider _ h.apart; or_less = numbers_wider _ h.or_less; more = numbers_wider _ h.more }
 
   mutual
-    unfolding words
+    unfolding definitions
 
     test_wider : (f : Forms) (t : Test) → CanTest P f t → CanTest Q f t
     test_wider f True h = tt
@@ -59,7 +59,7 @@ module _ (P Q : ℤ → Type 0) (q : (z : ℤ) → P z → Q z) where
     cond_wider f (MoreTest t c) h = (test_wider f t h.0, cond_wider f c h.1)
 
   follow_wider : (f : Forms) (cs : Commands) → CanFollow P f cs → CanFollow Q f cs
-  unfolding words
+  unfolding definitions
   follow_wider f NoCommand h = tt
   follow_wider f (MoreCommand Skip cs) h = follow_wider f cs h
   follow_wider f (MoreCommand (Assign t e) cs) h =
@@ -71,12 +71,12 @@ module _ (P Q : ℤ → Type 0) (q : (z : ℤ) → P z → Q z) where
   follow_wider f (MoreCommand (If b c d) cs) h = follow_wider f cs h
 
   atoms_wider : (xs : List Linear) → Each (Numbers P) xs → Each (Numbers Q) xs
-  unfolding words
+  unfolding definitions
   atoms_wider [] h = tt
   atoms_wider (a ∷ xs) h = (numbers_wider a h.0, atoms_wider xs h.1)
 
 pub wider_forms : (m n : ℕ) (base : ℕ → ℤ) (row : Row) → n ≤ m → HasSmallForms n base row → HasSmallForms m base row
-unfolding meaning_words
+unfolding meaning_definitions
 wider_forms m n base row l h =
     let q : (z : ℤ) → IsSmall n z → IsSmall m z = λ z k. omega (arith, l, k) in
     record {

@@ -1,6 +1,6 @@
 -- The form of what is written to the own delta: the expression's, without the base and the deltas of the other sites.
-use Rattle.homeo_plan.specs.Key.{words}
-use Rattle.homeo_meaning.specs.Key.{words as meaning_words}
+use Rattle.homeo_plan.specs.Key.{definitions}
+use Rattle.homeo_meaning.specs.Key.{definitions as meaning_definitions}
 use Rattle.std.proofs.Common.{◌≡◌, ℕ, zero, suc, ◌==◌, ◌+◌, ◌*◌, ◌≤◌, Bool, true, false, cond, [], ℤ, pos, negsuc, ◌+ℤ◌, ◌*ℤ◌, refl, sym, ap, ◌∙◌, subst, arith}
 use Rattle.std.specs.Int.RustNames.{unsigned_abs}
 use Rattle.std.proofs.lemmas.Int.{ints}
@@ -21,7 +21,7 @@ use Rattle.homeo_plan.proofs.Made.{Made}
 
 -- the whole value of a delta, before the base and the deltas are taken off
 abbrev pub own_value : ℕ → ℕ → ℕ → Expr → Expr
-unfolding words
+unfolding definitions
 own_value k i x e = Sum (MoreExpr e (MoreExpr (Neg (Read (split.Base x))) (other_deltas i x 0 k)))
 
 minus_one : (z : ℤ) → (negsuc 0 *ℤ z) +ℤ z ≡ pos 0
@@ -60,7 +60,7 @@ module _ (k i m : ℕ) (f : Forms) (x : ℕ) (y : ℤ) (g : Delta → ℤ) where
 
   -- of its own site there is nothing to take off
   skip : (j n : ℕ) (a : Linear) → (i == j) ≡ true → Part j (suc n) a → Part (suc j) n a
-  unfolding words
+  unfolding definitions
   skip j n a q p = record { constant = p.constant; factors = λ d. factors d; sorted = p.sorted }
     where
       factors : (d : Delta) → factor d a.terms +ℤ others_from i x 0 k d ≡ g d +ℤ others_from i x (suc j) n d
@@ -75,7 +75,7 @@ module _ (k i m : ℕ) (f : Forms) (x : ℕ) (y : ℤ) (g : Delta → ℤ) where
   take_off :
       (j n : ℕ) (a : Linear) → (i == j) ≡ false → Shape (pos 0) (at_delta (delta_of x j) (pos 1)) (f (DeltaAt x j)) →
       Part j (suc n) a → Part (suc j) n (add_forms (scale_form (negsuc 0) (f (DeltaAt x j))) a)
-  unfolding words
+  unfolding definitions
   take_off j n a q s p =
       record {
         constant = omega (arith, ints, p.constant, s.constant, minus_one (f (DeltaAt x j)).constant);
@@ -102,7 +102,7 @@ module _ (k i m : ℕ) (f : Forms) (x : ℕ) (y : ℤ) (g : Delta → ℤ) where
       (w : ℕ) → w + 1 ≤ m → unsigned_abs y ≤ m → ((d : Delta) → unsigned_abs (g d) ≤ w) →
       ((j : ℕ) → (i == j) ≡ false → Shape (pos 0) (at_delta (delta_of x j) (pos 1)) (f (DeltaAt x j))) →
       (n j : ℕ) (a : Linear) → Part j n a → Taken a (other_deltas i x j n)
-  unfolding words meaning_words
+  unfolding definitions meaning_definitions
   taken w l c q s zero j a p =
       record { can = part_numbers w j 0 a l c q p; constant = p.constant; factors = λ d. omega (arith, ints, p.factors d); sorted = p.sorted }
   taken w l c q s (suc n) j a p = go (i == j) refl (λ b. taken w l c q s n (suc j) b)
@@ -136,7 +136,7 @@ module _ (b k i : ℕ) (base : ℕ → ℤ) (small : (x : ℕ) → unsigned_abs 
   pub written :
       (x n : ℕ) (e : Expr) → 1 ≤ n → n ≤ b → Made (CanForm (IsSmall (2 * b + 1)) f e) n (form f e) →
       Wrote (CanForm (IsSmall (2 * b + 1)) f (own_value k i x e)) k i base x n (form f (own_value k i x e))
-  unfolding words meaning_words
+  unfolding definitions meaning_definitions
   written x n e one l r =
       let m = 2 * b + 1 in
       let F = form f e in

@@ -5,7 +5,7 @@ use Rattle.homeo_meaning.specs.Bounds.{AllWithin}
 use Rattle.homeo_meaning.specs.LowMeaning.{BaseAt, exec, whole}
 use Rattle.homeo_meaning.specs.Schema.{Schema}
 use Rattle.homeo_meaning.specs.Whole.{IsWhole}
-use Rattle.homeo_plan.specs.Key.{words}
+use Rattle.homeo_plan.specs.Key.{definitions}
 use Rattle.homeo_plan.specs.Joined.{Deltas}
 use Rattle.homeo_plan.specs.Template.{PlannedCall, Template, Covers}
 use Rattle.homeo_plan.specs.Config.{Config}
@@ -14,12 +14,12 @@ use Rattle.homeo_plan.specs.Local.{local_deltas}
 
 -- the command leaves each object within its bounds
 abbrev pub Stays : Schema → Command → Type 0
-unfolding words
+unfolding definitions
 Stays x c = (v : ℕ → ℤ) → AllWithin x v → AllWithin x (λ n. (exec c (whole v)).state (BaseAt n))
 
 -- each call in turn keeps the treaty of site i
 abbrev pub KeepsAlong : ℕ → (ℕ → ℤ) → Template → Config → ℕ → Deltas → List PlannedCall → Type 0
-unfolding words
+unfolding definitions
 KeepsAlong k b t config i x [] = Unit {0}
 KeepsAlong k b t config i x (g ∷ gs) =
     Treaty t config i (local_deltas k b g x) × KeepsAlong k b t config i (local_deltas k b g x) gs

@@ -8,20 +8,20 @@ use Rattle.homeo_syntax.specs.declared.low.SplitName.{SplitName}
 use Rattle.homeo_syntax.specs.declared.low.SplitName.TheVariants as split
 use Rattle.homeo_syntax.specs.Low.{Command, Commands, Skip, Assign, Write, Print, Seq, If, NoCommand, MoreCommand}
 use Rattle.homeo_meaning.specs.Schema.{nat_of}
-use Rattle.homeo_plan.specs.Key.{words}
+use Rattle.homeo_plan.specs.Key.{definitions}
 use Rattle.homeo_plan.specs.declared.forms.Delta.{Delta}
 use Rattle.homeo_plan.specs.Linear.{same_delta, delta_of}
 use Rattle.homeo_plan.specs.Template.{PlannedCall, shifted, Clause}
 
 -- the name is that of the delta
 abbrev pub names_delta : Delta → SplitName → Bool
-unfolding words
+unfolding definitions
 names_delta d (split.Whole x) = false
 names_delta d (split.Base x) = false
 names_delta d (split.Delta x j) = same_delta d (delta_of x j)
 
 abbrev mutual
-  unfolding words
+  unfolding definitions
 
   -- some branch of a command writes the delta
   pub writes : Delta → Command → Bool
@@ -38,30 +38,30 @@ abbrev mutual
 
 -- among these ground calls, for k sites, is one of the delta's site that can write it
 abbrev pub is_written : ℕ → List PlannedCall → Delta → Bool
-unfolding words
+unfolding definitions
 is_written k gs d = list_any (λ g. (g.site == d.site) && writes d (shifted k g)) gs
 
 -- the clause has a term on a delta of site i that can be written there
 abbrev pub takes_part : ℕ → List PlannedCall → Clause → ℕ → Bool
-unfolding words
+unfolding definitions
 takes_part k gs c i = list_any (λ t. (t.delta.site == i) && is_written k gs t.delta) c.terms
 
 -- the weight of a site: 0 where there is none
 abbrev pub weight_of : List Number → ℕ → ℕ
-unfolding words
+unfolding definitions
 weight_of weights i = option_map_or (λ n. nat_of n.value) (slice_get weights i) 0
 
 -- site i's weight where it takes part, and else 0
 abbrev pub own_share : ℕ → List Number → List PlannedCall → Clause → ℕ → ℕ
-unfolding words
+unfolding definitions
 own_share k weights gs c i = if takes_part k gs c i then weight_of weights i else 0
 
 -- these shares; 1 for each of k sites where all are 0
 abbrev pub or_even : ℕ → List ℕ → List ℕ
-unfolding words
+unfolding definitions
 or_even k shares = if sum shares == 0 then replicate k 1 else shares
 
 -- the shares of k sites in a clause of these ground calls
 abbrev pub shares : ℕ → List Number → List PlannedCall → Clause → List ℕ
-unfolding words
+unfolding definitions
 shares k weights gs c = or_even k (map (own_share k weights gs c) (range_with_len 0 k))

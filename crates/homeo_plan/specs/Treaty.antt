@@ -3,7 +3,7 @@
 use Rattle.std.specs.Prelude.{◌≡◌, ℕ, suc, ◌==◌, cond, List, [], ◌∷◌, ℤ, pos, int_le, ◌+ℤ◌, ◌*ℤ◌, ◌≤ℤ◌, ◌&&◌, not, Option, Some, None, slice_index_or}
 use Rattle.std.specs.Ordering.{int_eq}
 use Rattle.homeo_plan.specs.declared.treaty.Broken.{Broken}
-use Rattle.homeo_plan.specs.Key.{words}
+use Rattle.homeo_plan.specs.Key.{definitions}
 use Rattle.homeo_plan.specs.Each.{Each}
 use Rattle.homeo_plan.specs.declared.forms.Delta.{Delta}
 use Rattle.homeo_plan.specs.declared.forms.Term.{Term}
@@ -13,25 +13,25 @@ use Rattle.homeo_plan.specs.Joined.{Deltas}
 
 -- the sum of factor times delta over the deltas of site i
 abbrev pub site_sum : ℕ → List Term → Deltas → ℤ
-unfolding words
+unfolding definitions
 site_sum i [] x = pos 0
 site_sum i (t ∷ ts) x = cond (t.delta.site == i) (t.factor *ℤ x t.delta.object) (pos 0) +ℤ site_sum i ts x
 
 -- the bound of site i: 0 where there is none
 abbrev pub bound_at : List ℤ → ℕ → ℤ
-unfolding words
+unfolding definitions
 bound_at bounds i = slice_index_or bounds i (pos 0)
 
 -- in each clause the site's sum is at most its bound
 abbrev pub KeepsClauses : ℕ → Deltas → List Clause → Config → Type 0
-unfolding words
+unfolding definitions
 KeepsClauses i x [] bs = Unit {0}
 KeepsClauses i x (c ∷ cs) [] = ⊥
 KeepsClauses i x (c ∷ cs) (b ∷ bs) = (site_sum i c.terms x ≤ℤ bound_at b i) × KeepsClauses i x cs bs
 
 -- each frozen delta of the site is 0
 abbrev pub KeepsFreezes : ℕ → Deltas → List Delta → Type 0
-unfolding words
+unfolding definitions
 KeepsFreezes i x ds = Each (λ d. d.site ≡ i → x d.object ≡ pos 0) ds
 
 -- the treaty of site i holds of its deltas x
@@ -42,7 +42,7 @@ pub record Treaty (t : Template) (config : Config) (i : ℕ) (x : Deltas) : Type
 -- ---- findings: the number that fails, with the site's sum and bound, or with a frozen delta's value and 0
 -- of freezes numbered from n on
 abbrev pub broken_freeze : ℕ → ℕ → Deltas → List Delta → Option Broken
-unfolding words
+unfolding definitions
 broken_freeze n i x [] = None
 broken_freeze n i x (d ∷ ds) =
     cond ((d.site == i) && not (int_eq (x d.object) (pos 0))) (Some (record { clause = n; sum = x d.object; bound = pos 0 }))
@@ -50,7 +50,7 @@ broken_freeze n i x (d ∷ ds) =
 
 -- of clauses numbered from n on, and then of freezes; a clause for which there are no bounds fails, with bound 0
 abbrev pub broken_from : ℕ → ℕ → Deltas → List Clause → Config → List Delta → Option Broken
-unfolding words
+unfolding definitions
 broken_from n i x [] bs ds = broken_freeze n i x ds
 broken_from n i x (c ∷ cs) [] ds = Some (record { clause = n; sum = site_sum i c.terms x; bound = pos 0 })
 broken_from n i x (c ∷ cs) (b ∷ bs) ds =
@@ -59,7 +59,7 @@ broken_from n i x (c ∷ cs) (b ∷ bs) ds =
 
 -- the finding of the lowest number that fails: none where the treaty holds
 abbrev pub finding : Template → Config → ℕ → Deltas → Option Broken
-unfolding words
+unfolding definitions
 finding t config i x = broken_from 0 i x t.clauses config t.freezes
 
 -- there is a finding exactly where the treaty doesn't hold

@@ -10,7 +10,7 @@ use Rattle.homeo_syntax.specs.Low.{Command}
 use Rattle.homeo_syntax.specs.Source.{Workload}
 use Rattle.homeo_syntax.specs.declared.low.SplitName.TheVariants.{Base, Delta}
 use Rattle.homeo_syntax.specs.declared.low.Temp.TheVariants.{Named, Fresh}
-use Rattle.homeo_meaning.specs.Key.{words as meaning_words}
+use Rattle.homeo_meaning.specs.Key.{definitions as meaning_definitions}
 use Rattle.homeo_meaning.specs.Acceptance.{weight_limit as largest, IsAccepted}
 use Rattle.homeo_meaning.specs.Bounds.{AllWithin, IsWithin, all_bounds}
 use Rattle.homeo_meaning.specs.CallForm.{ground_form}
@@ -23,14 +23,14 @@ use Rattle.homeo_meaning.specs.Serial.{values_of}
 use Rattle.homeo_meaning.specs.Small.{IsSmall}
 use Rattle.homeo_meaning.proofs.Within.{all_within, length_in}
 use Rattle.homeo_lform.proofs.NamedWithin.{named_law}
-use Rattle.homeo_plan.specs.Key.{words}
+use Rattle.homeo_plan.specs.Key.{definitions}
 use Rattle.homeo_plan.specs.Split.{fold_state, shift}
 use Rattle.homeo_plan.specs.Table.{HasNoTemps}
 use Rattle.homeo_plan.proofs.BoundSizes.{most}
 use Rattle.homeo_plan.proofs.GroundForms.{ground_whole}
 use Rattle.homeo_plan.proofs.GroundNumbers.{values_small, fold_numbers}
 use Rattle.homeo_plan.proofs.SameFolds.{same_folds}
-use Rattle.homeo_split.specs.Key.{words as split_words}
+use Rattle.homeo_split.specs.Key.{definitions as split_definitions}
 use Rattle.homeo_split.specs.CanExec.{run_limit, can_exec}
 use Rattle.homeo_split.specs.Shape.{Shape, shape_of, has_places}
 use Rattle.homeo_split.specs.States.{state_with, state_of, AgreeOnNames}
@@ -54,7 +54,7 @@ zeros_count (suc n) = let rest = zeros_count n in omega arith
 
 -- parts of a state are those of one that agrees with it
 agreeing_parts : (k i a b : ℕ) (s u : State) → AgreeOnNames s u → HasSmallParts k i a b u → HasSmallParts k i a b s
-unfolding meaning_words
+unfolding meaning_definitions
 agreeing_parts k i a b s u agree h =
     record {
       fold = λ x. subst (IsSmall b) (sym (same_folds s u agree k x)) (h.fold x);
@@ -67,19 +67,19 @@ abbrev started : List ℤ → State
 started database = state_with database (zeros database ∷ zeros database ∷ []) [] []
 
 start_is : (database : List ℤ) (s : Split) → IsUndivided database s → state_of s ≡ started database
-unfolding split_words
+unfolding split_definitions
 start_is database s is = λ i. state_with (is.base i) (is.deltas i) [] []
 
 start_shape :
     (database : List ℤ) (s : Split) → IsUndivided database s →
     shape_of s ≡ record { base = length database; deltas = length (zeros database) ∷ length (zeros database) ∷ [] }
-unfolding split_words
+unfolding split_definitions
 start_shape database s is =
     let counts = lengths (λ d. d.items) s.deltas.items ∙ ap (map length) is.deltas in
     λ i. record { base = length (is.base i); deltas = counts i }
 
 no_temps : (database : List ℤ) → HasNoTemps (started database)
-unfolding words
+unfolding definitions
 no_temps database (Named n) = refl
 no_temps database (Fresh n) = refl
 
@@ -89,7 +89,7 @@ delta_zero database x (suc zero) = zeros_at (length database) x
 delta_zero database x (suc (suc j)) = refl
 
 fold_base : (database : List ℤ) (x : ℕ) → fold_state 2 (started database) (BaseAt x) ≡ values_of database x
-unfolding words meaning_words
+unfolding definitions meaning_definitions
 fold_base database x = omega (arith, ints, delta_zero database x 0, delta_zero database x 1)
 
 -- ---- the call
@@ -101,7 +101,7 @@ module _
     small_values = values_small w accepted (values_of database) (all_within (schema_of w) database within)
 
     parts : HasSmallParts 2 i most largest (started database)
-    unfolding meaning_words
+    unfolding meaning_definitions
     parts =
         record {
           fold = λ x. subst (λ v. unsigned_abs v ≤ largest) (sym (fold_base database x)) (omega (arith, small_values x));
@@ -125,7 +125,7 @@ module _
     can_run s c is e = ap₂ (can_exec run_limit) e (start_is database s is) ∙ runs
 
     pub has_sites : (s : Split) (c : Command) → IsUndivided database s → c ≡ shift 2 i (ground_form w g) → has_places (shape_of s) c ≡ true
-    unfolding meaning_words
+    unfolding meaning_definitions
     has_sites s c is e =
         ap₂ has_places (start_shape database s is) e
         ∙ places_law (length (all_bounds (schema_of w))) (length w.names)
@@ -143,7 +143,7 @@ module _
     pub can_fold :
         (old new : Split) (c : Command) → IsUndivided database old → c ≡ shift 2 i (ground_form w g) →
         AgreeOnNames (state_of new) (exec c (state_of old)).state → shape_of new ≡ shape_of old → SumsFit new
-    unfolding split_words
+    unfolding split_definitions
     can_fold old new c is e agree shape =
         let same : (exec c (state_of old)).state ≡ (exec (shift 2 i (ground_form w g)) (started database)).state =
         ap₂ (λ d st. (exec d st).state) e (start_is database old is) in

@@ -1,38 +1,38 @@
 -- The residual of the tests is straight, writes its own site's delta, and can run.
 use Rattle.std.proofs.Common.{◌≡◌, ℕ, ◌<◌, true, List, ℤ, refl, sym, ap₂, ◌∙◌, subst}
-use Rattle.homeo_meaning.specs.Key.{words as meaning_words}
+use Rattle.homeo_meaning.specs.Key.{definitions as meaning_definitions}
 use Rattle.homeo_meaning.specs.LowMeaning.{whole}
 use Rattle.homeo_meaning.specs.Serial.{values_of}
-use Rattle.homeo_plan.specs.Key.{words as plan_words}
+use Rattle.homeo_plan.specs.Key.{definitions as plan_definitions}
 use Rattle.homeo_plan.specs.declared.rows.Residual.{Residual}
 use Rattle.homeo_plan.specs.Each.{Each}
 use Rattle.homeo_plan.specs.Joined.{alone}
 use Rattle.homeo_plan.specs.Needs.{IsStraight}
 use Rattle.homeo_plan.specs.PlanView.{plain_residual}
-use Rattle.homeo_split.specs.Key.{words as split_words}
+use Rattle.homeo_split.specs.Key.{definitions as split_definitions}
 use Rattle.homeo_split.specs.CanExec.{run_limit, can_exec_all}
-use Rattle.homeo_effect.specs.Key.{words}
+use Rattle.homeo_effect.specs.Key.{definitions}
 use Rattle.homeo_effect.specs.Touched.{written, WritesOwn}
 use Rattle.homeo_plan_tests.specs.inner.ResidualExample.{base, deltas, example, IsExample}
 
 example_straight : IsStraight example
-unfolding plan_words
+unfolding plan_definitions
 example_straight = (tt, (tt, (tt, tt)))
 
 example_own : WritesOwn 0 example
-unfolding plan_words words
+unfolding plan_definitions definitions
 example_own = (refl, tt)
 
 example_small : can_exec_all run_limit example (whole (values_of base)) ≡ true
-unfolding split_words meaning_words
+unfolding split_definitions meaning_definitions
 example_small = refl
 
 example_runs : can_exec_all run_limit example (alone (values_of base) 0 (values_of deltas)) ≡ true
-unfolding split_words meaning_words plan_words
+unfolding split_definitions meaning_definitions plan_definitions
 example_runs = refl
 
 example_within : (n : ℕ) → 0 < n → Each (λ d. d.object < n) (written example)
-unfolding plan_words words
+unfolding plan_definitions definitions
 example_within n h = (h, tt)
 
 module _ (r : Residual) (is : IsExample r) where

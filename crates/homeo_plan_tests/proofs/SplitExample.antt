@@ -3,13 +3,13 @@ use Rattle.std.proofs.Common.{◌≡◌, ℕ, zero, suc, ◌^◌, ◌<◌, ◌�
 use Rattle.std.proofs.lemmas.Int.{fits_signed_from_abs}
 use Rattle.std.proofs.lemmas.List.{length-map}
 use Rattle.homeo_syntax.specs.Low.{Command}
-use Rattle.homeo_meaning.specs.Key.{words as meaning_words}
+use Rattle.homeo_meaning.specs.Key.{definitions as meaning_definitions}
 use Rattle.homeo_meaning.specs.LowMeaning.{State, BaseAt, location_of, exec}
 use Rattle.homeo_meaning.specs.Whole.{IsWhole}
-use Rattle.homeo_plan.specs.Key.{words}
+use Rattle.homeo_plan.specs.Key.{definitions}
 use Rattle.homeo_plan.specs.Split.{fold_state, shift}
 use Rattle.homeo_plan.proofs.SameFolds.{same_folds}
-use Rattle.homeo_split.specs.Key.{words as split_words}
+use Rattle.homeo_split.specs.Key.{definitions as split_definitions}
 use Rattle.homeo_split.specs.CanExec.{run_limit, can_exec}
 use Rattle.homeo_split.specs.Shape.{Shape, shape_of, has_places}
 use Rattle.homeo_split.specs.States.{state_with, state_of, AgreeOnNames}
@@ -19,43 +19,43 @@ use Rattle.homeo_delta.specs.Folding.{SumsFit}
 use Rattle.homeo_plan_tests.specs.inner.SplitExample.{raise, raise_own, base, deltas, IsStart}
 
 pub raise-whole : (c : Command) → c ≡ raise → IsWhole c
-unfolding meaning_words
+unfolding meaning_definitions
 raise-whole c e = subst IsWhole (sym e) ((tt, (tt, (tt, tt))), (tt, tt))
 
 abbrev pub shifted : Command
 shifted = shift 2 1 raise
 
 start_is : (s : Split) → IsStart s → state_of s ≡ state_with base deltas [] []
-unfolding split_words
+unfolding split_definitions
 start_is s is = λ i. state_with (is.base i) (is.deltas i) [] []
 
 pub start_shape : (s : Split) → IsStart s → shape_of s ≡ record { base = 2; deltas = 2 ∷ 2 ∷ [] }
-unfolding split_words
+unfolding split_definitions
 start_shape s is =
     let counts = lengths (λ d. d.items) s.deltas.items ∙ ap (map length) is.deltas in
     λ i. record { base = length (is.base i); deltas = counts i }
 
 pub has_sites : (s : Split) (c : Command) → IsStart s → c ≡ shifted → has_places (shape_of s) c ≡ true
-unfolding words meaning_words split_words
+unfolding definitions meaning_definitions split_definitions
 has_sites s c is e = ap₂ has_places (start_shape s is) e
 
 pub can_shift : (s : Split) (c : Command) → IsStart s → c ≡ shifted → can_exec run_limit c (state_of s) ≡ true
-unfolding words meaning_words split_words
+unfolding definitions meaning_definitions split_definitions
 can_shift s c is e = ap₂ (can_exec run_limit) e (start_is s is)
 
 pub own_places : (s : Split) (c : Command) → IsStart s → c ≡ raise_own → has_places (shape_of s) c ≡ true
-unfolding meaning_words split_words
+unfolding meaning_definitions split_definitions
 own_places s c is e = ap₂ has_places (start_shape s is) e
 
 pub own_runs : (s : Split) (c : Command) → IsStart s → c ≡ raise_own → can_exec run_limit c (state_of s) ≡ true
-unfolding meaning_words split_words
+unfolding meaning_definitions split_definitions
 own_runs s c is e = ap₂ (can_exec run_limit) e (start_is s is)
 
 -- ---- folds
 sums_fit :
     (s : Split) (st : State) → AgreeOnNames (state_of s) st → shape_of s ≡ record { base = 2; deltas = 2 ∷ 2 ∷ [] } →
     ((k x : ℕ) → k ≤ 2 → x < 2 → FitsSigned w64 (fold_state k st (BaseAt x))) → SumsFit s
-unfolding split_words
+unfolding split_definitions
 sums_fit s st agree shape fits k x le lt =
     let sites : length s.deltas.items ≡ 2 = sym (length-map s.deltas.items (λ d. length d.items)) ∙ ap (λ (h : Shape). length h.deltas) shape in
     let objects : length s.base.items ≡ 2 = ap (λ (h : Shape). h.base) shape in
@@ -84,13 +84,13 @@ abbrev after : State
 after = (exec shifted before).state
 
 before_fits : (k x : ℕ) → k ≤ 2 → x < 2 → FitsSigned w64 (fold_state k before (BaseAt x))
-unfolding words meaning_words split_words
+unfolding definitions meaning_definitions split_definitions
 before_fits =
     up_to_two (λ k x. FitsSigned w64 (fold_state k before (BaseAt x)))
     (fit 5 (omega arith)) (fit 7 (omega arith)) (fit 7 (omega arith)) (fit 6 (omega arith)) (fit 10 (omega arith)) (fit 10 (omega arith))
 
 after_fits : (k x : ℕ) → k ≤ 2 → x < 2 → FitsSigned w64 (fold_state k after (BaseAt x))
-unfolding words meaning_words split_words
+unfolding definitions meaning_definitions split_definitions
 after_fits =
     up_to_two (λ k x. FitsSigned w64 (fold_state k after (BaseAt x)))
     (fit 5 (omega arith)) (fit 7 (omega arith)) (fit 7 (omega arith)) (fit 6 (omega arith)) (fit 11 (omega arith)) (fit 10 (omega arith))

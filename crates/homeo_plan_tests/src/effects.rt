@@ -36,7 +36,7 @@ fn is_temporary(e: &LExpr) -> bool {
 }
 
 /// Five, the own delta and 0.
-fn is_joined(e: &LExpr) -> bool {
+fn is_object_sum(e: &LExpr) -> bool {
     match terms(e) {
         Some([base, here, there]) => is_number(base, 5) && is_own(here) && is_number(there, 0),
         _ => false,
@@ -79,7 +79,7 @@ fn what_is_fixed_at_a_site_is_put_in(rt: HostRuntime) -> Result<(), Fail> {
             LCommand::Print { value: printed },
         ] => {
             assert!(rt; *target == Temp::Named(7));
-            assert!(rt; is_joined(assigned));
+            assert!(rt; is_object_sum(assigned));
             assert!(rt; *name == SplitName::Delta { object: 0, site: 0 });
             assert!(rt; is_lowered(written));
             assert!(rt; is_number(printed, 1));

@@ -4,7 +4,7 @@ ghost use Rattle.std.specs.Prelude.{◌≡◌, IfOk};
 ghost use Rattle.homeo_syntax.specs.LowView.{plain_lcond};
 ghost use Rattle.homeo_plan_tests.specs.inner.ObjectExample.{at_most_five};
 
-use crate::object::{base, joined};
+use crate::object::{base, object_sum};
 use homeo_linear::atoms;
 use homeo_plan::{Delta, Term};
 use homeo_syntax::{Compare, LCond, LExpr, LTest, List, Memory};
@@ -15,7 +15,7 @@ use std::test::Fail;
 fn at_most_five(alloc: Global) -> Result<LCond, Memory>
     ensures { IfOk result (λ c. plain_lcond c ≡ at_most_five) }
 {
-    let left = joined(alloc)?;
+    let left = object_sum(alloc)?;
     let right = LExpr::Literal(5);
     let mut tests = List::new(alloc);
     tests.push(LTest::Compare {

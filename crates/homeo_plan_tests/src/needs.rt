@@ -4,7 +4,7 @@ ghost use Rattle.std.specs.Prelude.{◌≡◌, IfOk};
 ghost use Rattle.homeo_plan.specs.PlanView.{plain_residual};
 ghost use Rattle.homeo_plan_tests.specs.inner.ObjectExample.{printed};
 
-use crate::object::{base, joined};
+use crate::object::{base, object_sum};
 use homeo_linear::needs;
 use homeo_plan::{Delta, Residual};
 use homeo_syntax::{LCommand, List, Memory};
@@ -17,7 +17,7 @@ fn printed(alloc: Global) -> Result<Residual, Memory>
 {
     let mut commands = List::new(alloc);
     commands.push(LCommand::Print {
-        value: joined(alloc)?,
+        value: object_sum(alloc)?,
     })?;
     Ok(Residual { site: 0, commands })
 }

@@ -2,7 +2,7 @@
 
 ghost use Rattle.std.specs.Prelude.{◌≡◌, [], ◌∷◌, IfOk};
 ghost use Rattle.homeo_syntax.specs.LowView.{plain_lexpr};
-ghost use Rattle.homeo_plan_tests.specs.inner.Object.{joined, pair_of, sum_of};
+ghost use Rattle.homeo_plan_tests.specs.inner.Object.{object_sum, pair_of, sum_of};
 
 use homeo_meaning::Database;
 use homeo_syntax::{LExpr, List, Memory, SplitName};
@@ -36,8 +36,8 @@ pub(crate) fn sum(alloc: Global, first: LExpr, second: LExpr, third: LExpr) -> R
 }
 
 /// The object: its base and the deltas of both sites.
-pub(crate) fn joined(alloc: Global) -> Result<LExpr, Memory>
-    ensures { IfOk result (λ e. plain_lexpr e ≡ joined) }
+pub(crate) fn object_sum(alloc: Global) -> Result<LExpr, Memory>
+    ensures { IfOk result (λ e. plain_lexpr e ≡ object_sum) }
 {
     sum(
         alloc,

@@ -5,7 +5,7 @@ ghost use Rattle.homeo_syntax.specs.Low.{Neg};
 ghost use Rattle.homeo_syntax.specs.LowView.{plain_lexpr};
 ghost use Rattle.homeo_plan_tests.specs.inner.ResidualExample.{lowered, IsExample};
 
-use crate::object::{base, joined, pair, sum};
+use crate::object::{base, object_sum, pair, sum};
 use homeo_plan::{Clause, Config, Delta, Residual, RoundPlan, Template, Term};
 use homeo_syntax::{LCommand, LExpr, List, Memory, SplitName, Temp};
 use std::alloc::Global;
@@ -36,7 +36,7 @@ pub(crate) fn residual(alloc: Global) -> Result<Residual, Memory>
     let mut commands = List::new(alloc);
     commands.push(LCommand::Assign {
         target: Temp::Named(7),
-        value: joined(alloc)?,
+        value: object_sum(alloc)?,
     })?;
     commands.push(LCommand::Write {
         target: SplitName::Delta { object: 0, site: 0 },

@@ -4,7 +4,7 @@ ghost use Rattle.std.specs.Prelude.{◌≡◌, IfOk};
 ghost use Rattle.homeo_syntax.specs.LowView.{plain_lcommand};
 ghost use Rattle.homeo_plan_tests.specs.inner.SplitExample.{raise_own};
 
-use crate::object::{joined, sum};
+use crate::object::{object_sum, sum};
 use crate::sites::start;
 use homeo_split::eval_l;
 use homeo_syntax::{LCommand, LExpr, List, Memory, SplitName};
@@ -23,7 +23,7 @@ fn raise_own(alloc: Global) -> Result<LCommand, Memory>
         LExpr::Literal(1),
         LExpr::Read(base),
     )?;
-    let value = joined(alloc)?;
+    let value = object_sum(alloc)?;
     let mut commands = List::new(alloc);
     commands.push(LCommand::Write {
         target: here,

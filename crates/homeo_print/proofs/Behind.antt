@@ -14,7 +14,7 @@ use Rattle.homeo_syntax.specs.declared.workload.Call.{Call}
 use Rattle.homeo_syntax.specs.Source as s
 use Rattle.homeo_syntax.specs.SourceView.{plain_expr, plain_test, plain_field, plain_command, plain_call}
 use Rattle.homeo_print.specs.declared.phrases.Position.TheVariants as position
-use Rattle.homeo_print.specs.Key.{words}
+use Rattle.homeo_print.specs.Key.{definitions}
 use Rattle.homeo_print.specs.TokensOf.{Kinds, AsFactor, expr_at, test_kinds, setting_kinds, command_kinds, decl_kinds, number_of, call_kinds}
 use Rattle.homeo_print.specs.inner.Walk.{expr_in, sign_of}
 
@@ -26,33 +26,33 @@ abbrev pub later_term : s.Expr → Kinds
 later_term e = kind.Fixed (sign_of e) ∷ expr_in position.Signed e
 
 abbrev pub terms_behind : List Expr → Kinds
-unfolding words
+unfolding definitions
 terms_behind es = flat_map (λ e. later_term (plain_expr e)) es
 
 abbrev pub factors_behind : List Expr → Kinds
-unfolding words
+unfolding definitions
 factors_behind es = led_items mark.Star (λ e. expr_at AsFactor (plain_expr e)) es
 
 abbrev pub tests_behind : List Test → Kinds
-unfolding words
+unfolding definitions
 tests_behind ts = led_items mark.And (λ t. test_kinds (plain_test t)) ts
 
 abbrev pub settings_behind : List FieldValue → Kinds
-unfolding words
+unfolding definitions
 settings_behind fs = led_items mark.Comma (λ f. setting_kinds (plain_field f)) fs
 
 abbrev pub commands_behind : List Command → Kinds
-unfolding words
+unfolding definitions
 commands_behind cs = led_items mark.Semicolon (λ c. command_kinds (plain_command c)) cs
 
 abbrev pub decls_behind : List RangeDecl → Kinds
-unfolding words
+unfolding definitions
 decls_behind ds = led_items mark.Comma decl_kinds ds
 
 abbrev pub numbers_behind : List Number → Kinds
-unfolding words
+unfolding definitions
 numbers_behind ns = led_items mark.Comma number_of ns
 
 abbrev pub calls_behind : List Call → Kinds
-unfolding words
+unfolding definitions
 calls_behind cs = led_items mark.Semicolon (λ c. call_kinds (plain_call c)) cs

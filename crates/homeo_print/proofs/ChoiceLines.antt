@@ -7,20 +7,20 @@ use Rattle.std.proofs.lemmas.Bool.Decides.{nat_tests}
 use Rattle.std.proofs.lemmas.List.{length-map}
 use Rattle.std.proofs.lemmas.List.Folds.{flat_map-map}
 use Rattle.homeo_plan.specs.declared.rows.JointRow.{JointRow}
-use Rattle.homeo_print.specs.Key.{words}
+use Rattle.homeo_print.specs.Key.{definitions}
 use Rattle.homeo_print.specs.Names.{newline, heading}
 use Rattle.homeo_print.specs.Tables.{most_choices, pick_line, choices_text}
 use Rattle.homeo_print.specs.inner.Choices.{pick_text, picks_text}
 use Rattle.homeo_print.proofs.Listed.{flat_more}
 
 pub no_picks : picks_text [] ≡ []
-unfolding words
+unfolding definitions
 no_picks = refl
 
 -- the lines of choices, with one more
 pub picks_more : (rows : List JointRow) (i : ℕ) (r : JointRow) → i < length rows → r ≡ get_or rows i r
     → picks_text (map (λ r. r.picks.items) (take (i + 1) rows)) ≡ picks_text (map (λ r. r.picks.items) (take i rows)) ++ pick_text r.picks.items
-unfolding words
+unfolding definitions
 picks_more rows i r within is =
     flat_map-map pick_text (λ (r : JointRow). r.picks.items) (take (i + 1) rows)
     ∙ flat_more (λ (r : JointRow). pick_text r.picks.items) rows i r within is
@@ -30,11 +30,11 @@ pub ruleset choice_steps = (append_assoc, append-nil, no_picks, picks_more)
 
 -- numbers that the code has as signed ones are the picks
 same_pick : (picks : List ℕ) → pick_text (map pos picks) ≡ pick_line picks
-unfolding words
+unfolding definitions
 same_pick picks = ap (λ l. codes "pick" ++ l ++ newline) (flat_map-map (λ (n : ℤ). codes " " ++ signed_decimal n) pos picks)
 
 same_picks : (choices : List (List ℕ)) → picks_text (map (map pos) choices) ≡ flat_map pick_line choices
-unfolding words
+unfolding definitions
 same_picks [] = refl
 same_picks (picks ∷ choices) =
     ap (λ l. l ++ picks_text (map (map pos) choices)) (same_pick picks) ∙ ap (λ l. pick_line picks ++ l) (same_picks choices)
@@ -48,7 +48,7 @@ beyond_most n h = grind (arith, nat_tests)
 -- as many choices as rows, and their lines
 pub few_choices : (rows : List JointRow) (choices : List (List ℕ)) → length rows ≤ most_choices → map (λ r. r.picks.items) rows ≡ map (map pos) choices
     → choices_text choices ≡ heading (codes "joint ") (length rows) ++ picks_text (map (λ r. r.picks.items) rows)
-unfolding words
+unfolding definitions
 few_choices rows choices few is =
     let count : length choices ≡ length rows =
     sym (length-map choices (map pos)) ∙ ap length (sym is) ∙ length-map rows (λ (r : JointRow). r.picks.items) in
@@ -58,6 +58,6 @@ few_choices rows choices few is =
     ∙ ap (λ l. heading (codes "joint ") (length rows) ++ l) lines
 
 pub many_choices : (choices : List (List ℕ)) → most_choices < length choices → choices_text choices ≡ codes "joint too many\n"
-unfolding words
+unfolding definitions
 many_choices choices many =
     ap (λ b. cond b (codes "joint too many\n") (heading (codes "joint ") (length choices) ++ flat_map pick_line choices)) (beyond_most (length choices) many)

@@ -9,7 +9,7 @@ use Rattle.homeo_syntax.specs.Classes.{number_of}
 use Rattle.homeo_syntax.specs.Grammar.{token, nothing, seq, alt, many, part, as_value, takes, Repeats, Spells}
 use Rattle.homeo_syntax.specs.Rules.{Deep, Tree, Rule, fixed, offset_of, lead, closed}
 use Rattle.homeo_syntax.specs.Rules as rules
-use Rattle.homeo_print.specs.Key.{words}
+use Rattle.homeo_print.specs.Key.{definitions}
 use Rattle.homeo_print.specs.TokensOf.{led, separated}
 use Rattle.homeo_print.proofs.Atoms.{kinds_of, atoms, atoms_both, atoms_last, nothing_left, first_of_kinds, cut_kinds, mark_taken, mark_skipped, Fine, fine_split}
 
@@ -205,10 +205,10 @@ module _ {M : Meaning} where
   back_many x = record { of = λ a ts s n. each_back x a ts s n }
 
   pub back_listed : {A : Type 0} {g : Rule A} {w : A → A} {p : A → List Kind} → (m : Mark) → Back M g w p → Back M (rules.listed m g) (map w) (λ all. separated m (map p all))
-  unfolding words
+  unfolding definitions
   back_listed {w = w} {p = p} m x =
       back_as (λ p. p.0 ∷ p.1) (map w) (λ all. separated m (map p all)) (λ a. refl) (λ a. ap (λ (x : List Kind). p a.0 ++ x) (led_is m p a.1)) (back_seq x (back_many (back_lead m x)))
 
   pub back_separated : {A : Type 0} {g : Rule A} {w : A → A} {p : A → List Kind} → (m : Mark) → Back M g w p → Back M (rules.separated m g) (map w) (λ all. separated m (map p all))
-  unfolding words
+  unfolding definitions
   back_separated {w = w} {p = p} m x = back_alt (back_listed m x) (back_nothing [] (map w) (λ all. separated m (map p all)) refl)

@@ -2,7 +2,7 @@
 use Rattle.std.proofs.Common.{◌≡◌, ℕ, zero, suc, pos, List, [], ◌∷◌, ◌++◌, map, refl, sym, ap, subst, ◌∙◌, inl, inr}
 use Rattle.std.specs.List.{flat_map}
 use Rattle.std.proofs.lemmas.List.{append-nil, map-append}
-use Rattle.homeo_syntax.specs.Key.{words as syntax_words}
+use Rattle.homeo_syntax.specs.Key.{definitions as syntax_definitions}
 use Rattle.homeo_syntax.specs.declared.token.Mark.{Mark}
 use Rattle.homeo_syntax.specs.declared.token.Mark.TheVariants as mark
 use Rattle.homeo_syntax.specs.declared.token.Kind.{Kind}
@@ -14,7 +14,7 @@ use Rattle.homeo_syntax.specs.SourceView.{exprs}
 use Rattle.homeo_syntax.specs.Grammar.{call, seq, alt, as_value, Repeats, Spells, Means}
 use Rattle.homeo_syntax.specs.Rules as rules
 use Rattle.homeo_syntax.specs.Rules.{Deep, Factor, Test, Tree, Rule, rule, lead, closed, name_in, value_in, ident_at, product_of, sum_of}
-use Rattle.homeo_print.specs.Key.{words}
+use Rattle.homeo_print.specs.Key.{definitions}
 use Rattle.homeo_print.specs.TokensOf.{Kinds, parenthesised, Alone, AsTerm, AsFactor, expr_at, sum_kinds, later_terms, product_kinds, later_factors, test_kinds, cond_kinds}
 use Rattle.homeo_print.specs.Offsets.{expr_without, exprs_without, test_without, cond_without}
 use Rattle.homeo_print.proofs.Atoms.{kinds_of, atoms, atoms_append, mark_skipped, literal_taken, Fine, fine_split}
@@ -109,7 +109,7 @@ record Plain (M : Meaning) (e : s.Expr) : Type 0 where
 
 -- what begins with a name is such an expression
 plain_named : (M N : Meaning) (x : Ident) (k : Ident → s.Expr) (ts : List Token) → Spells M rules.after_name k ts → Plain N (k x)
-unfolding words
+unfolding definitions
 plain_named M N x k ts a = elim a [
   | inl l ↦ subst (λ (h : Ident → s.Expr). Plain N (h x)) (sym l.2) (record { term = refl; alone = refl; negated = λ ts. tt })
   | inr a ↦ elim a [
@@ -120,17 +120,17 @@ plain_named M N x k ts a = elim a [
 
 -- ---- lists of expressions
 exprs_same : (es : List s.Expr) → exprs_without (exprs es) ≡ exprs (map expr_without es)
-unfolding words syntax_words
+unfolding definitions syntax_definitions
 exprs_same [] = refl
 exprs_same (e ∷ es) = ap (s.MoreExpr (expr_without e)) (exprs_same es)
 
 product_same : (e : s.Expr) (es : List s.Expr) → expr_without (product_of e es) ≡ product_of (expr_without e) (map expr_without es)
-unfolding words syntax_words
+unfolding definitions syntax_definitions
 product_same e [] = refl
 product_same e (f ∷ es) = ap s.Product (exprs_same (e ∷ f ∷ es))
 
 sum_same : (e : s.Expr) (es : List s.Expr) → expr_without (sum_of e es) ≡ sum_of (expr_without e) (map expr_without es)
-unfolding words syntax_words
+unfolding definitions syntax_definitions
 sum_same e [] = refl
 sum_same e (f ∷ es) = ap s.Sum (exprs_same (e ∷ f ∷ es))
 
@@ -138,23 +138,23 @@ abbrev later_factor : s.Expr → Kinds
 later_factor e = kind.Fixed mark.Star ∷ expr_at AsFactor e
 
 factors_are : (es : List s.Expr) → flat_map later_factor es ≡ later_factors (exprs es)
-unfolding words syntax_words
+unfolding definitions syntax_definitions
 factors_are [] = refl
 factors_are (e ∷ es) = ap (λ (x : Kinds). later_factor e ++ x) (factors_are es)
 
 -- a term behind others
 abbrev later_term : s.Expr → Kinds
-unfolding words
+unfolding definitions
 later_term (s.Neg e) = kind.Fixed mark.Minus ∷ expr_at AsTerm e
 later_term e = kind.Fixed mark.Plus ∷ expr_at AsTerm e
 
 terms_front : (e : s.Expr) (es : s.Exprs) → later_term e ++ later_terms es ≡ later_terms (s.MoreExpr e es)
-unfolding words
+unfolding definitions
 terms_front (s.Neg e) es = refl
 terms_front e es = refl
 
 terms_are : (es : List s.Expr) → flat_map later_term es ≡ later_terms (exprs es)
-unfolding words syntax_words
+unfolding definitions syntax_definitions
 terms_are [] = refl
 terms_are (e ∷ es) = ap (λ (x : Kinds). later_term e ++ x) (terms_are es) ∙ terms_front e (exprs es)
 
@@ -165,7 +165,7 @@ abbrev minus_term : Rule s.Expr
 minus_term = as_value s.Neg (lead mark.Minus rules.term)
 
 plus_claim : {M : Meaning} {ts : List Token} → (e : s.Expr) → Claim M rules.term expr_without e (expr_at AsTerm e) ts → Negated M e ts → Claim M (alt plus_term minus_term) expr_without e (later_term e) ts
-unfolding words
+unfolding definitions
 plus_claim (s.Neg e) c n = claim_right plus_term (claim_as s.Neg expr_without (λ x. refl) (claim_lead mark.Minus n))
 plus_claim e c n = claim_left minus_term (claim_lead mark.Plus c)
 
@@ -184,7 +184,7 @@ module _ (n : ℕ) (hyp : Hypothesis n) (cond : Back (Means rule n) rules.cond c
   back_factor = record { of = λ e ts x f. (hyp e ts x f).factor }
 
   term_claims : (e : s.Expr) (es : List s.Expr) (u v ts : List Token) → ts ≡ u ++ v → M Factor e u → Repeats (Spells M (lead mark.Star (call Factor))) es v → Fine ts → Claims N M M (product_of e es) ts
-  unfolding words syntax_words
+  unfolding definitions syntax_definitions
   term_claims e [] u v ts cut x y f =
       let c = hyp e u x (fine_split u v (subst Fine cut f)).0 in
       let same : atoms (kinds_of u) ≡ atoms (kinds_of ts) = ap (λ (z : List Token). atoms (kinds_of z)) (sym (cut ∙ ap (λ (z : List Token). u ++ z) y ∙ append-nil u)) in
@@ -202,7 +202,7 @@ module _ (n : ℕ) (hyp : Hypothesis n) (cond : Back (Means rule n) rules.cond c
   back_term = record { of = λ e ts x f. (of_term e ts x f).term }
 
   back_later : Back M (alt plus_term minus_term) expr_without later_term
-  unfolding words
+  unfolding definitions
   back_later = record {
     of = λ e ts x f. elim x [
       | inl l ↦
@@ -218,7 +218,7 @@ module _ (n : ℕ) (hyp : Hypothesis n) (cond : Back (Means rule n) rules.cond c
   }
 
   expr_claims : (e : s.Expr) (es : List s.Expr) (u v ts : List Token) → ts ≡ u ++ v → Spells M rules.term e u → Repeats (Spells M (alt plus_term minus_term)) es v → Fine ts → Claims N N M (sum_of e es) ts
-  unfolding words syntax_words
+  unfolding definitions syntax_definitions
   expr_claims e [] u v ts cut x y f =
       let c = of_term e u x (fine_split u v (subst Fine cut f)).0 in
       let same : atoms (kinds_of u) ≡ atoms (kinds_of ts) = ap (λ (z : List Token). atoms (kinds_of z)) (sym (cut ∙ ap (λ (z : List Token). u ++ z) y ∙ append-nil u)) in
@@ -237,7 +237,7 @@ module _ (n : ℕ) (hyp : Hypothesis n) (cond : Back (Means rule n) rules.cond c
   back_alone = record { of = λ e ts x f. (of_expr e ts x f).alone }
 
   of_literal : (e : s.Expr) (ts : List Token) → Spells M rules.literal e ts → Fine ts → Claims N N N e ts
-  unfolding words
+  unfolding definitions
   of_literal e ts x f =
       let fine : Fine (x.0 ∷ []) = subst Fine x.1 f in
       let k = literal_taken x.0.kind x.2 fine.0 in
@@ -248,7 +248,7 @@ module _ (n : ℕ) (hyp : Hypothesis n) (cond : Back (Means rule n) rules.cond c
       (claim_called n Factor (claim_left _ (claim_token _ _ _ _ expr_without (s.Literal (pos k.size)) l ts refl (λ u h. ap (λ (k : Kind). s.Literal (value_in k)) h) same))))
 
   of_minus : (e : s.Expr) (ts : List Token) → Spells M (as_value s.Neg (lead mark.Minus (call Factor))) e ts → Fine ts → Claims N N N e ts
-  unfolding words
+  unfolding definitions
   of_minus e ts x f =
       let i = inner_lead M mark.Minus (call Factor) x.0 ts x.1 in
       let c = claims_at i.same_atoms (hyp x.0 i.rest i.spelled (i.fine f)) in
@@ -264,7 +264,7 @@ module _ (n : ℕ) (hyp : Hypothesis n) (cond : Back (Means rule n) rules.cond c
       record { factor = c.factor; term = c.term; alone = claim_deeper n c.alone; negated = negated_deeper n e ts c.negated }
 
   of_read : (e : s.Expr) (ts : List Token) → Spells M (as_value s.Read (lead mark.Read (lead mark.Open (closed rules.ident mark.Close)))) e ts → Fine ts → Claims N N N e ts
-  unfolding words
+  unfolding definitions
   of_read e ts x f =
       let c = (back_lead mark.Read (back_lead mark.Open (back_closed mark.Close back_ident))).of x.0 ts x.1 f in
       subst (λ (y : s.Expr). Claims N N N y ts) (sym x.2)
@@ -272,7 +272,7 @@ module _ (n : ℕ) (hyp : Hypothesis n) (cond : Back (Means rule n) rules.cond c
       (claim_called n Factor (claim_right _ (claim_right _ (claim_right _ (claim_left _ (claim_as s.Read expr_without (λ x. refl) c)))))))
 
   of_count : (e : s.Expr) (ts : List Token) → Spells M (as_value (λ p. s.Count p.0 p.1.0 p.1.1) (lead mark.Count (lead mark.Open (closed rules.visit mark.Close)))) e ts → Fine ts → Claims N N N e ts
-  unfolding words
+  unfolding definitions
   of_count e ts x f =
       let c = (back_lead mark.Count (back_lead mark.Open (back_closed mark.Close (back_visit cond)))).of x.0 ts x.1 f in
       subst (λ (y : s.Expr). Claims N N N y ts) (sym x.2)
@@ -280,7 +280,7 @@ module _ (n : ℕ) (hyp : Hypothesis n) (cond : Back (Means rule n) rules.cond c
       (claim_called n Factor (claim_right _ (claim_right _ (claim_right _ (claim_right _ (claim_left _ (claim_as (λ p. s.Count p.0 p.1.0 p.1.1) expr_without (λ x. refl) c))))))))
 
   of_total : (e : s.Expr) (ts : List Token) → Spells M (as_value (λ p. s.Total p.0 p.1.0 p.1.1.0 p.1.1.1) (lead mark.Sum (lead mark.Open (seq rules.ident (lead mark.Dot (closed rules.visit mark.Close)))))) e ts → Fine ts → Claims N N N e ts
-  unfolding words
+  unfolding definitions
   of_total e ts x f =
       let c = (back_lead mark.Sum (back_lead mark.Open (back_seq back_ident (back_lead mark.Dot (back_closed mark.Close (back_visit cond)))))).of x.0 ts x.1 f in
       subst (λ (y : s.Expr). Claims N N N y ts) (sym x.2)
@@ -288,7 +288,7 @@ module _ (n : ℕ) (hyp : Hypothesis n) (cond : Back (Means rule n) rules.cond c
       (claim_called n Factor (claim_right _ (claim_right _ (claim_right _ (claim_right _ (claim_right _ (claim_left _ (claim_as (λ p. s.Total p.0 p.1.0 p.1.1.0 p.1.1.1) expr_without (λ x. refl) c)))))))))
 
   after_name_back : Tail M rules.after_name expr_without (expr_at AsFactor)
-  unfolding words
+  unfolding definitions
   after_name_back =
       tail_part
       (tail_alt (tail_as (λ p x. s.Field x p.0 p.1) (λ a. refl) (λ a. refl)

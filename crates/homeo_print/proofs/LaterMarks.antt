@@ -1,6 +1,6 @@
 -- No text of version 1 has a mark of version 2: its grammar takes none.
 use Rattle.std.proofs.Common.{◌≡◌, ℕ, zero, suc, Bool, true, false, not, ◌&&◌, List, [], ◌∷◌, ◌++◌, map, refl, sym, ap, subst, ◌∙◌, inl, inr}
-use Rattle.homeo_syntax.specs.Key.{words as syntax}
+use Rattle.homeo_syntax.specs.Key.{definitions as syntax_definitions}
 use Rattle.homeo_syntax.specs.declared.token.Mark.{Mark}
 use Rattle.homeo_syntax.specs.declared.token.Mark.TheVariants as mark
 use Rattle.homeo_syntax.specs.declared.token.Kind.{Kind}
@@ -105,12 +105,12 @@ earlier (kind.Fixed mark.Abort) a b = absurd (b refl)
 earlier (kind.Fixed m) a b = refl
 
 all_earlier : (ts : List Token) → Away (number_of mark.Weights) ts → Away (number_of mark.Abort) ts → Each (HasMark First) (kinds_of ts)
-unfolding syntax
+unfolding syntax_definitions
 all_earlier [] a b = tt
 all_earlier (t ∷ ts) a b = (earlier t.kind a.0 b.0, all_earlier ts a.1 b.1)
 
 all_marks : (ks : List Kind) → Each (HasMark Second) ks
-unfolding syntax
+unfolding syntax_definitions
 all_marks [] = tt
 all_marks (kind.Name n ∷ ks) = (tt, all_marks ks)
 all_marks (kind.Number n ∷ ks) = (tt, all_marks ks)

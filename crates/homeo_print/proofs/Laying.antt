@@ -7,17 +7,17 @@ use Rattle.homeo_print.specs.declared.layout.Sort.{Sort}
 use Rattle.homeo_print.specs.declared.layout.Before.{Before}
 use Rattle.homeo_print.specs.declared.layout.Before.TheVariants as before
 use Rattle.homeo_print.specs.declared.pieces.Piece.{Piece}
-use Rattle.homeo_syntax.specs.Key.{words as syntax}
+use Rattle.homeo_syntax.specs.Key.{definitions as syntax_definitions}
 use Rattle.homeo_syntax.specs.SourceView.{plain_workload}
 use Rattle.homeo_syntax.specs.declared.workload.Workload.{Workload}
 use Rattle.homeo_print.specs.Print.{print}
 use Rattle.homeo_print.specs.TokensOf.{workload_kinds}
-use Rattle.homeo_print.specs.Key.{words}
+use Rattle.homeo_print.specs.Key.{definitions}
 use Rattle.homeo_print.specs.inner.Pieces.{kind_of}
 use Rattle.homeo_print.specs.Layout.{token_text, sort_of, gap, after, laid, printed}
 
 pub laid_first : (names : List (List ℕ)) (ks : List Kind) → printed names ks ≡ laid names before.Tight ks
-unfolding words
+unfolding definitions
 laid_first names ks = refl
 
 here : (pieces : List Piece) (i : ℕ) (d : Piece) → i < length pieces → drop i pieces ≡ get_or pieces i d ∷ drop (i + 1) pieces
@@ -27,7 +27,7 @@ here pieces i d within = rw add-one (drop-cons pieces i d within)
 pub laid_more : (names : List (List ℕ)) (b : Before) (pieces : List Piece) (i : ℕ) (d : Piece) (whole text gapped new : List ℕ) (s : Sort) (c : Before) → i < length pieces →
     text ++ laid names b (map kind_of (drop i pieces)) ≡ whole → s ≡ sort_of (kind_of (get_or pieces i d)) → gapped ≡ text ++ gap b s → new ≡ gapped ++ token_text names (kind_of (get_or pieces i d)) → c ≡ after b s →
     new ++ laid names c (map kind_of (drop (i + 1) pieces)) ≡ whole
-unfolding words
+unfolding definitions
 laid_more names b pieces i d whole text gapped new s c within so_far sort put_gap put_token next =
     let k = kind_of (get_or pieces i d) in
     let rest = map kind_of (drop (i + 1) pieces) in
@@ -41,9 +41,9 @@ laid_more names b pieces i d whole text gapped new s c within so_far sort put_ga
     ∙ so_far
 
 pub laid_end : (names : List (List ℕ)) (b : Before) (pieces : List Piece) (i : ℕ) → length pieces ≤ i → laid names b (map kind_of (drop i pieces)) ≡ codes "\n"
-unfolding words
+unfolding definitions
 laid_end names b pieces i past = ap (λ ps. laid names b (map kind_of ps)) (drop_all i pieces past)
 
 pub print_is : (w : Workload) → print (plain_workload w) ≡ printed w.names.items (workload_kinds (plain_workload w))
-unfolding words syntax
+unfolding definitions syntax_definitions
 print_is w = refl

@@ -17,7 +17,7 @@ use Rattle.homeo_syntax.specs.WellFormed.{IsName, BeginsWithLetter}
 use Rattle.homeo_syntax.specs.Marks.{mark_text}
 use Rattle.homeo_print.specs.declared.layout.Before.{Before}
 use Rattle.homeo_print.specs.declared.layout.Before.TheVariants as before
-use Rattle.homeo_print.specs.Key.{words}
+use Rattle.homeo_print.specs.Key.{definitions}
 use Rattle.homeo_print.specs.Printed.{CanStand}
 use Rattle.homeo_print.specs.Layout.{token_text, mark_sort, sort_of, after}
 
@@ -184,7 +184,7 @@ later_lexes [] rest letter all short free h = absurd letter
 later_lexes (x ∷ w) rest letter all short free h = word_lexes x w rest letter all short (no_word rest h) ∙ ap (λ o. Some (word_as (x ∷ w) o, length (x ∷ w))) free
 
 pub mark_lexes : (b : Before) (m : Mark) (rest : List ℕ) → BeginsWithout (glues (after b (mark_sort m))) rest → lexeme_of (mark_text m ++ rest) ≡ Some (raw_mark m, length (mark_text m))
-unfolding words
+unfolding definitions
 mark_lexes b mark.Weights rest h = later_lexes (mark_text mark.Weights) rest refl refl refl refl h
 mark_lexes b mark.Abort rest h = later_lexes (mark_text mark.Abort) rest refl refl refl refl h
 mark_lexes b mark.Assign rest h = refl
@@ -215,7 +215,7 @@ raw_in names (kind.Fixed m) = raw_mark m
 
 pub token_lexes : (v : Version) (names : List (List ℕ)) (b : Before) (k : Kind) (rest : List ℕ) → CanStand v names k → BeginsWithout (glues (after b (sort_of k))) rest
     → lexeme_of (token_text names k ++ rest) ≡ Some (raw_in names k, length (token_text names k))
-unfolding words
+unfolding definitions
 token_lexes v names b (kind.Name n) rest can h = name_lexes v (get_or names n []) rest can.1 h
 token_lexes v names b (kind.Number n) rest can h =
     ap (λ (z : ℤ). lexeme_of (decimal (unsigned_abs z) ++ rest)) can.value ∙ number_lexes can.size rest can.short h

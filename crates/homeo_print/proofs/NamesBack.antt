@@ -7,7 +7,7 @@ use Rattle.homeo_syntax.specs.declared.phrase.Ident.{Ident}
 use Rattle.homeo_syntax.specs.Grammar.{nothing, seq, alt, part, as_value, Spells}
 use Rattle.homeo_syntax.specs.Rules as rules
 use Rattle.homeo_syntax.specs.Rules.{Rule, name_in, ident_at}
-use Rattle.homeo_print.specs.Key.{words}
+use Rattle.homeo_print.specs.Key.{definitions}
 use Rattle.homeo_print.specs.TokensOf.{Kinds, name_of}
 use Rattle.homeo_print.specs.Offsets.{ident_without}
 use Rattle.homeo_print.proofs.Atoms.{kinds_of, atoms, name_taken, Fine}
@@ -17,7 +17,7 @@ abbrev bare : ℕ → Ident
 bare n = record { name = n; offset = 0 }
 
 pub back_ident : {M : Meaning} → Back M rules.ident ident_without name_of
-unfolding words
+unfolding definitions
 back_ident {M} = record {
   of = λ a ts x f.
       let e = name_taken x.0.kind x.2 in

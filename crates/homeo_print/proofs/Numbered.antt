@@ -1,6 +1,6 @@
 -- Lexemes and the tokens with their names as places: each way, and the names that they have.
 use Rattle.std.proofs.Common.{◌≡◌, ℕ, List, [], ◌∷◌, map, refl, sym, ap, subst, ◌∙◌}
-use Rattle.homeo_syntax.specs.Key.{words as syntax_words}
+use Rattle.homeo_syntax.specs.Key.{definitions as syntax_definitions}
 use Rattle.homeo_syntax.specs.declared.token.Mark.{Mark}
 use Rattle.homeo_syntax.specs.declared.token.Kind.{Kind}
 use Rattle.homeo_syntax.specs.declared.token.Kind.TheVariants as kind
@@ -36,7 +36,7 @@ pub mark_stands : (v : Version) (names : List (List ℕ)) (m : Mark) → CanMark
 mark_stands v names m can = record { again = refl; can = can }
 
 each_stands : (v : Version) (names : List (List ℕ)) (ts : List Scanned) → AllIn names ts → AllSpelled v ts → Each (Stands v names) (kinds_of (tokens_in names ts))
-unfolding syntax_words
+unfolding syntax_definitions
 each_stands v names [] h k = tt
 each_stands v names (t ∷ ts) h k =
     (record { again = ap (kind_in names) (lexeme_again names t.lexeme h.0); can = lexeme_stands v names t.lexeme h.0 k.0 }, each_stands v names ts h.1 k.1)
@@ -51,42 +51,42 @@ natural v names (kind.Number n) h = ap is_natural_value h.value
 natural v names (kind.Fixed m) h = tt
 
 pub each_natural : (v : Version) (names : List (List ℕ)) (ts : List Token) → Each (Stands v names) (kinds_of ts) → Fine ts
-unfolding syntax_words
+unfolding syntax_definitions
 each_natural v names [] h = tt
 each_natural v names (t ∷ ts) h = (natural v names t.kind h.0.can, each_natural v names ts h.1)
 
 -- ---- a fact of each name and number, and so of each token
 atom_each : (P : Kind → Type 0) (k : Kind) (ks : List Kind) → P k → Each P ks → Each P (with_atom k ks)
-unfolding syntax_words
+unfolding syntax_definitions
 atom_each P (kind.Name n) ks h r = (h, r)
 atom_each P (kind.Number n) ks h r = (h, r)
 atom_each P (kind.Fixed m) ks h r = r
 
 pub each_atom : (P : Kind → Type 0) (ks : List Kind) → Each P ks → Each P (atoms ks)
-unfolding syntax_words
+unfolding syntax_definitions
 each_atom P [] h = tt
 each_atom P (k ∷ ks) h = atom_each P k (atoms ks) h.0 (each_atom P ks h.1)
 
 atom_parts : (P Q : Kind → Type 0) (k : Kind) (ks : List Kind) → ((m : Mark) → Q (kind.Fixed m) → P (kind.Fixed m)) → Q k → Each P (with_atom k ks) → P k × Each P ks
-unfolding syntax_words
+unfolding syntax_definitions
 atom_parts P Q (kind.Name n) ks m q h = (h.0, h.1)
 atom_parts P Q (kind.Number n) ks m q h = (h.0, h.1)
 atom_parts P Q (kind.Fixed f) ks m q h = (m f q, h)
 
 pub each_of_atoms : (P Q : Kind → Type 0) (ks : List Kind) → ((m : Mark) → Q (kind.Fixed m) → P (kind.Fixed m)) → Each Q ks → Each P (atoms ks) → Each P ks
-unfolding syntax_words
+unfolding syntax_definitions
 each_of_atoms P Q [] m q h = tt
 each_of_atoms P Q (k ∷ ks) m q h =
     let r = atom_parts P Q k (atoms ks) m q.0 h in
     (r.0, each_of_atoms P Q ks m q.1 r.1)
 
 pub each_can : (v : Version) (names : List (List ℕ)) (ks : List Kind) → Each (Stands v names) ks → Each (CanStand v names) ks
-unfolding syntax_words
+unfolding syntax_definitions
 each_can v names [] h = tt
 each_can v names (k ∷ ks) h = (h.0.can, each_can v names ks h.1)
 
 pub kinds_again : (v : Version) (names : List (List ℕ)) (ks : List Kind) → Each (Stands v names) ks → map (kind_in names) (map (lexeme_in names) ks) ≡ ks
-unfolding syntax_words
+unfolding syntax_definitions
 kinds_again v names [] h = refl
 kinds_again v names (k ∷ ks) h = ap (λ (x : Kind). x ∷ map (kind_in names) (map (lexeme_in names) ks)) h.0.again ∙ ap (λ (x : List Kind). k ∷ x) (kinds_again v names ks h.1)
 

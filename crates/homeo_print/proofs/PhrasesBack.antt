@@ -1,7 +1,7 @@
 -- Commands are spelled again by what is printed for them.
 use Rattle.std.proofs.Common.{◌≡◌, ℕ, zero, suc, List, [], ◌∷◌, ◌++◌, append_assoc, map, refl, sym, ap}
 use Rattle.std.specs.List.{flat_map}
-use Rattle.homeo_syntax.specs.Key.{words as syntax_words}
+use Rattle.homeo_syntax.specs.Key.{definitions as syntax_definitions}
 use Rattle.homeo_syntax.specs.declared.token.Mark.TheVariants as mark
 use Rattle.homeo_syntax.specs.declared.token.Kind.TheVariants as kind
 use Rattle.homeo_syntax.specs.declared.token.Version.{Version}
@@ -12,7 +12,7 @@ use Rattle.homeo_syntax.specs.SourceView.{commands}
 use Rattle.homeo_syntax.specs.Grammar.{call, Means}
 use Rattle.homeo_syntax.specs.Rules as rules
 use Rattle.homeo_syntax.specs.Rules.{Deep, Command, rule}
-use Rattle.homeo_print.specs.Key.{words}
+use Rattle.homeo_print.specs.Key.{definitions}
 use Rattle.homeo_print.specs.TokensOf.{Kinds, name_of, parenthesised, separated, braced, expr_at, Alone, cond_kinds, setting_kinds, command_kinds, commands_kinds, later_commands}
 use Rattle.homeo_print.specs.Offsets.{expr_without, cond_without, field_without, command_without, commands_without}
 use Rattle.homeo_print.proofs.Claims.{Meaning, Back, back_fixed, back_seq, back_as, back_alt, back_part, back_nothing, back_lead, back_closed, back_many, back_listed}
@@ -23,18 +23,18 @@ use Rattle.homeo_print.proofs.ExpressionsBack.{back_expr, back_cond}
 
 -- ---- lists
 commands_same : (cs : List s.Command) → commands_without (commands cs) ≡ commands (map command_without cs)
-unfolding words syntax_words
+unfolding definitions syntax_definitions
 commands_same [] = refl
 commands_same (c ∷ cs) = ap (s.MoreCommand (command_without c)) (commands_same cs)
 
 commands_are : (cs : List s.Command) → flat_map (λ c. kind.Fixed mark.Semicolon ∷ command_kinds c) cs ≡ later_commands (commands cs)
-unfolding words syntax_words
+unfolding definitions syntax_definitions
 commands_are [] = refl
 commands_are (c ∷ cs) = ap (λ (x : Kinds). kind.Fixed mark.Semicolon ∷ (command_kinds c ++ x)) (commands_are cs)
 
 -- ---- settings
 setting_step : {M : Meaning} → Back M rules.expr expr_without (expr_at Alone) → Tail M rules.setting command_without command_kinds
-unfolding words
+unfolding definitions
 setting_step expr =
     tail_part
     (tail_alt (tail_as (λ p x. s.Assign x p) (λ a. refl) (λ a. refl) (back_seq back_ident (back_lead mark.Assign expr)))
@@ -43,12 +43,12 @@ setting_step expr =
     (tail_as (λ p x. s.SetRow x p.0 p.1) (λ a. refl) (λ a. refl) (back_seq back_ident (back_lead mark.Dot (back_seq back_ident (back_lead mark.Assign expr)))))))
 
 field_value_step : {M : Meaning} → Back M rules.expr expr_without (expr_at Alone) → Back M rules.field_value field_without setting_kinds
-unfolding words
+unfolding definitions
 field_value_step expr = back_part (back_as _ field_without setting_kinds (λ x. refl) (λ x. refl) (back_seq back_ident (back_lead mark.Equal expr)))
 
 -- ---- commands
 block_step : {M : Meaning} → (v : Version) → Back M (call (Command v)) command_without command_kinds → Back M (rules.block v) commands_without (λ cs. braced (commands_kinds cs))
-unfolding words syntax_words
+unfolding definitions syntax_definitions
 block_step v command =
     back_part (back_lead mark.OpenBrace (back_closed mark.CloseBrace
     (back_alt
@@ -65,7 +65,7 @@ insert_kinds relation into fields =
     (sym (append_assoc (separated mark.Comma (map setting_kinds fields)) (kind.Fixed mark.Close ∷ []) (kind.Fixed mark.Into ∷ name_of into)))
 
 common_step : {M : Meaning} → (v : Version) → Back M rules.expr expr_without (expr_at Alone) → Back M rules.cond cond_without cond_kinds → Back M (call (Command v)) command_without command_kinds → Back M (rules.common_command v) command_without command_kinds
-unfolding words syntax_words
+unfolding definitions syntax_definitions
 common_step v expr cond command =
     back_alt (back_as (λ p. s.Skip) command_without command_kinds (λ x. refl) (λ x. refl) (back_fixed mark.Skip))
     (back_alt (back_as s.Block command_without command_kinds (λ x. refl) (λ x. refl) (block_step v command))
@@ -80,7 +80,7 @@ common_step v expr cond command =
     (back_as (λ p. s.Update p.0.0 p.0.1.0 p.0.1.1 p.1.field p.1.value) command_without command_kinds (λ x. refl) (λ x. refl) (back_lead mark.Update (back_seq (back_visit cond) (back_lead mark.Set (field_value_step expr)))))))))))))
 
 command_step : {M : Meaning} → (v : Version) → Back M rules.expr expr_without (expr_at Alone) → Back M rules.cond cond_without cond_kinds → Back M (call (Command v)) command_without command_kinds → Back M (rules.command v) command_without command_kinds
-unfolding words
+unfolding definitions
 command_step First expr cond command = common_step First expr cond command
 command_step Second expr cond command = back_alt (back_as (λ p. s.Abort) command_without command_kinds (λ x. refl) (λ x. refl) (back_fixed mark.Abort)) (common_step Second expr cond command)
 

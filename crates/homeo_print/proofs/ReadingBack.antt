@@ -9,7 +9,7 @@ use Rattle.homeo_syntax.specs.Rules.{rule, limit, workload, IsWorkload}
 use Rattle.homeo_syntax.specs.Tokens.{version_of, names_of, tokens_in, kind_in}
 use Rattle.homeo_syntax.specs.Reads.{Reads}
 use Rattle.homeo_syntax.specs.WellFormed.{Each}
-use Rattle.homeo_print.specs.Key.{words}
+use Rattle.homeo_print.specs.Key.{definitions}
 use Rattle.homeo_print.specs.TokensOf.{workload_kinds}
 use Rattle.homeo_print.specs.Printed.{IsPrintable, ScansAs, CanStand, lexeme_in}
 use Rattle.homeo_print.specs.Offsets.{without_offsets}
@@ -59,7 +59,7 @@ printable text w r =
 
 -- What it is printed as reads as it, apart from offsets.
 pub reads_back : (text out : List ℕ) (w : s.Workload) → Reads text w → ScansAs w.names (workload_kinds w) out → ReadsBack out w
-unfolding words IsWorkload
+unfolding definitions IsWorkload
 reads_back text out w r o =
     let k = known text w r in
     let v = version_of r.scanned in

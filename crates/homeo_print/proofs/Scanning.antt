@@ -9,7 +9,7 @@ use Rattle.homeo_syntax.specs.declared.token.Mark.{Mark}
 use Rattle.homeo_syntax.specs.declared.token.Mark.TheVariants as mark
 use Rattle.homeo_syntax.specs.declared.token.Kind.{Kind}
 use Rattle.homeo_syntax.specs.declared.token.Kind.TheVariants as kind
-use Rattle.homeo_syntax.specs.Key.{words as syntax}
+use Rattle.homeo_syntax.specs.Key.{definitions as syntax_definitions}
 use Rattle.homeo_syntax.specs.Source as s
 use Rattle.homeo_syntax.specs.declared.token.Version.{Version}
 use Rattle.homeo_syntax.specs.declared.token.Version.TheVariants.{First, Second}
@@ -23,7 +23,7 @@ use Rattle.homeo_print.specs.declared.layout.Sort.{Sort}
 use Rattle.homeo_print.specs.declared.layout.Sort.TheVariants as sort
 use Rattle.homeo_print.specs.declared.layout.Before.{Before}
 use Rattle.homeo_print.specs.declared.layout.Before.TheVariants as before
-use Rattle.homeo_print.specs.Key.{words}
+use Rattle.homeo_print.specs.Key.{definitions}
 use Rattle.homeo_print.specs.TokensOf.{mark_of, number_of, weights_kinds, object_kinds, relation_kinds, transaction_kinds, client_kinds, schedule_kinds, workload_kinds}
 use Rattle.homeo_print.specs.Printed.{lexeme_in, CanStand, IsPrintable, ScansAs}
 use Rattle.homeo_print.specs.Layout.{token_text, mark_sort, sort_of, gap, after, laid}
@@ -82,12 +82,12 @@ digits_begin [] h = h
 digits_begin (x ∷ ds) h = digit_no_space x h.1
 
 mark_begins : (m : Mark) → BeginsWith no_space (mark_text m)
-unfolding words
+unfolding definitions
 mark_begins mark.Assign = refl
 mark_begins m = refl
 
 mark_good : (m : Mark) → list_all is_good (mark_text m) ≡ true
-unfolding words
+unfolding definitions
 mark_good mark.Assign = refl
 mark_good m = refl
 
@@ -95,20 +95,20 @@ short_spells : (n : ℕ) → n < 10 ^ 18 → Spells n (decimal n)
 short_spells n h = let fits : n < 2 ^ 64 = omega arith in digits_spell n fits
 
 token_begins : (v : Version) (names : List (List ℕ)) (k : Kind) → CanStand v names k → BeginsWith no_space (token_text names k)
-unfolding words
+unfolding definitions
 token_begins v names (kind.Name n) can = name_begins v (get_or names n []) can.1
 token_begins v names (kind.Number n) can = subst (λ (z : ℤ). BeginsWith no_space (decimal (unsigned_abs z))) (sym can.value) (digits_begin (decimal can.size) (short_spells can.size can.short).first)
 token_begins v names (kind.Fixed m) can = mark_begins m
 
 token_good : (v : Version) (names : List (List ℕ)) (k : Kind) → CanStand v names k → list_all is_good (token_text names k) ≡ true
-unfolding words
+unfolding definitions
 token_good v names (kind.Name n) can = all_pass is_word is_good word_good (get_or names n []) can.1.all
 token_good v names (kind.Number n) can = ap (λ (z : ℤ). list_all is_good (decimal (unsigned_abs z))) can.value ∙ all_pass is_digit is_good digit_good (decimal can.size) (short_spells can.size can.short).all
 token_good v names (kind.Fixed m) can = mark_good m
 
 -- ---- gaps
 gap_space : (b : Before) (s : Sort) → list_all is_space (gap b s) ≡ true
-unfolding words
+unfolding definitions
 gap_space before.Tight sort.Line = refl
 gap_space before.Tight s = refl
 gap_space before.Dot sort.Line = refl
@@ -130,7 +130,7 @@ name_no_dot v [] rest name = absurd name.first
 name_no_dot v (x ∷ w) rest name = letter_no_dot x name.first
 
 clear_name : (v : Version) (b : Before) (w rest : List ℕ) → IsName v w → BeginsWithout (glues b) (gap b sort.Name ++ (w ++ rest))
-unfolding words
+unfolding definitions
 clear_name v before.Tight w rest name = never (w ++ rest)
 clear_name v before.Dot w rest name = name_no_dot v w rest name
 clear_name v before.Head w rest name = refl
@@ -138,7 +138,7 @@ clear_name v before.End w rest name = refl
 clear_name v before.Apart w rest name = refl
 
 clear_number : (b : Before) (w rest : List ℕ) → BeginsWithout (glues b) (gap b sort.Number ++ (w ++ rest))
-unfolding words
+unfolding definitions
 clear_number before.Tight w rest = never (w ++ rest)
 clear_number before.Dot w rest = refl
 clear_number before.Head w rest = refl
@@ -146,7 +146,7 @@ clear_number before.End w rest = refl
 clear_number before.Apart w rest = refl
 
 clear_mark : (b : Before) (m : Mark) (rest : List ℕ) → BeginsWithout (glues b) (gap b (mark_sort m) ++ (mark_text m ++ rest))
-unfolding words
+unfolding definitions
 clear_mark before.Tight mark.Assign rest = refl
 clear_mark before.Tight m rest = refl
 clear_mark before.Dot mark.Assign rest = refl
@@ -159,7 +159,7 @@ clear_mark before.Apart mark.Assign rest = refl
 clear_mark before.Apart m rest = refl
 
 clear_token : (v : Version) (names : List (List ℕ)) (b : Before) (k : Kind) (rest : List ℕ) → CanStand v names k → BeginsWithout (glues b) (gap b (sort_of k) ++ (token_text names k ++ rest))
-unfolding words
+unfolding definitions
 clear_token v names b (kind.Name n) rest can = clear_name v b (get_or names n []) rest can.1
 clear_token v names b (kind.Number n) rest can = clear_number b (decimal (unsigned_abs n)) rest
 clear_token v names b (kind.Fixed m) rest can = clear_mark b m rest
@@ -172,13 +172,13 @@ clear_end before.End = refl
 clear_end before.Apart = refl
 
 clear_laid : (v : Version) (names : List (List ℕ)) (b : Before) (ks : List Kind) → Each (CanStand v names) ks → BeginsWithout (glues b) (laid names b ks)
-unfolding words syntax
+unfolding definitions syntax_definitions
 clear_laid v names b [] can = clear_end b
 clear_laid v names b (k ∷ ks) can = clear_token v names b k (laid names (after b (sort_of k)) ks) can.0
 
 -- ---- no byte is bad
 laid_good : (v : Version) (names : List (List ℕ)) (b : Before) (ks : List Kind) → Each (CanStand v names) ks → list_all is_good (laid names b ks) ≡ true
-unfolding words syntax
+unfolding definitions syntax_definitions
 laid_good v names b [] can = refl
 laid_good v names b (k ∷ ks) can =
     let g = gap b (sort_of k) in
@@ -228,7 +228,7 @@ token_read names k ks (x ∷ w) rest begins lexes reads at =
     }
 
 laid_read : (v : Version) (names : List (List ℕ)) (b : Before) (ks : List Kind) → Each (CanStand v names) ks → (at : ℕ) → ReadFrom names ks (laid names b ks) at
-unfolding words syntax scanned_from
+unfolding definitions syntax_definitions scanned_from
 laid_read v names b [] can at = record { scanned = []; lexemes = refl; same = refl }
 laid_read v names b (k ∷ ks) can at =
     let w = token_text names k in
@@ -252,19 +252,19 @@ version_by v (t ∷ (u ∷ ts)) more e =
 
 -- the lexemes of a workload begin with its version
 abbrev pub behind : (Kind → Lexeme) → s.Workload → List Lexeme
-unfolding words
+unfolding definitions
 behind f w =
     map f (kind.Fixed mark.Sites ∷ (number_of w.sites ++ weights_kinds w.weights)
     ++ (flat_map object_kinds w.objects ++ (flat_map relation_kinds w.relations ++ (flat_map transaction_kinds w.transactions ++ (flat_map client_kinds w.clients ++ (schedule_kinds w.schedule ++ mark_of mark.End))))))
 
 pub head_lexemes : (names : List (List ℕ)) (w : s.Workload) (v : Version) → w.version ≡ version_number v →
     map (lexeme_in names) (workload_kinds w) ≡ Fixed mark.Workload ∷ Number (pos (version_number v)) ∷ behind (lexeme_in names) w
-unfolding words
+unfolding definitions
 head_lexemes names w v e = ap (λ (n : ℕ). Fixed mark.Workload ∷ Number (pos n) ∷ behind (lexeme_in names) w) e
 
 raw_lexemes : (names : List (List ℕ)) (w : s.Workload) (v : Version) → w.version ≡ version_number v →
     map (raw_in names) (workload_kinds w) ≡ Fixed mark.Workload ∷ Number (pos (version_number v)) ∷ behind (raw_in names) w
-unfolding words
+unfolding definitions
 raw_lexemes names w v e = ap (λ (n : ℕ). Fixed mark.Workload ∷ Number (pos n) ∷ behind (raw_in names) w) e
 
 mark_in : (v : Version) (m : Mark) → CanMark v m → tokens.lexeme_in v (raw_mark m) ≡ Fixed m
@@ -279,7 +279,7 @@ token_in v names (kind.Number n) can = refl
 token_in v names (kind.Fixed m) can = mark_in v m can
 
 all_in : (v : Version) (names : List (List ℕ)) (ks : List Kind) → Each (CanStand v names) ks → map (tokens.lexeme_in v) (map (raw_in names) ks) ≡ map (lexeme_in names) ks
-unfolding syntax
+unfolding syntax_definitions
 all_in v names [] can = refl
 all_in v names (k ∷ ks) can = ap₂ (λ (l : Lexeme) ls. l ∷ ls) (token_in v names k can.0) (all_in v names ks can.1)
 
@@ -289,7 +289,7 @@ lexemes_in v (t ∷ ts) = ap (λ ls. tokens.lexeme_in v t.lexeme ∷ ls) (lexeme
 
 -- ---- the whole text
 pub print_scans : (w : s.Workload) (text : List ℕ) → text ≡ print w → IsPrintable w → ScansAs w.names (workload_kinds w) text
-unfolding words
+unfolding definitions
 print_scans w text is can =
     let v = can.form in
     let r = laid_read v w.names before.Tight (workload_kinds w) can.stands 0 in

@@ -2,7 +2,7 @@
 use Rattle.std.proofs.Common.{◌≡◌, ℕ, ◌+◌, ◌<◌, List, [], ◌∷◌, ◌++◌, length, map, take, get_or, append_assoc, append-nil, refl, sym, ap, ◌∙◌, arith}
 use Rattle.std.specs.Prelude.{codes}
 use Rattle.std.specs.List.{flat_map}
-use Rattle.homeo_syntax.specs.Key.{words as syntax}
+use Rattle.homeo_syntax.specs.Key.{definitions as syntax_definitions}
 use Rattle.homeo_syntax.specs.Source as s
 use Rattle.homeo_syntax.specs.Low as l
 use Rattle.homeo_syntax.specs.LowView.{low_commands, plain_lcommand}
@@ -12,7 +12,7 @@ use Rattle.homeo_syntax.specs.declared.low.LCommand.{LCommand}
 use Rattle.homeo_plan.specs.PlanView.{plain_row}
 use Rattle.homeo_plan.specs.declared.rows.Row.{Row}
 use Rattle.homeo_print.specs.declared.phrases.Position.TheVariants as position
-use Rattle.homeo_print.specs.Key.{words}
+use Rattle.homeo_print.specs.Key.{definitions}
 use Rattle.homeo_print.specs.Tables.{temp_text, split_name_text, command_text, later_commands, commands_text, residual_text, row_text, rows_text}
 use Rattle.homeo_print.specs.inner.Walk.{expr_text_in}
 use Rattle.homeo_print.proofs.Listed.{flat_more}
@@ -20,72 +20,72 @@ use Rattle.homeo_print.proofs.OneMore.{numbered_more}
 
 -- ---- commands
 pub of_Assign : (w : s.Workload) (t : Temp) (e : l.Expr) → command_text w (l.Assign t e) ≡ temp_text w t ++ codes " := " ++ expr_text_in w position.Alone e
-unfolding words
+unfolding definitions
 of_Assign w t e = refl
 
 pub of_Write : (w : s.Workload) (x : SplitName) (e : l.Expr) → command_text w (l.Write x e) ≡ codes "write(" ++ split_name_text w x ++ codes " = " ++ expr_text_in w position.Alone e ++ codes ")"
-unfolding words
+unfolding definitions
 of_Write w x e = refl
 
 pub of_Print : (w : s.Workload) (e : l.Expr) → command_text w (l.Print e) ≡ codes "print(" ++ expr_text_in w position.Alone e ++ codes ")"
-unfolding words
+unfolding definitions
 of_Print w e = refl
 
 pub of_Skip : (w : s.Workload) → command_text w l.Skip ≡ []
-unfolding words
+unfolding definitions
 of_Skip w = refl
 
 pub of_Seq : (w : s.Workload) (cs : l.Commands) → command_text w (l.Seq cs) ≡ []
-unfolding words
+unfolding definitions
 of_Seq w cs = refl
 
 pub of_If : (w : s.Workload) (test : l.Cond) (c d : l.Command) → command_text w (l.If test c d) ≡ []
-unfolding words
+unfolding definitions
 of_If w test c d = refl
 
 abbrev pub commands_behind : s.Workload → List LCommand → List ℕ
-unfolding words
+unfolding definitions
 commands_behind w cs = flat_map (λ c. codes "; " ++ command_text w (plain_lcommand c)) cs
 
 pub no_commands : (w : s.Workload) → commands_behind w [] ≡ []
-unfolding words
+unfolding definitions
 no_commands w = refl
 
 pub no_command : (w : s.Workload) → commands_text w (low_commands (map plain_lcommand [])) ≡ []
-unfolding words syntax
+unfolding definitions syntax_definitions
 no_command w = refl
 
 commands_all : (w : s.Workload) (cs : List LCommand) → later_commands w (low_commands (map plain_lcommand cs)) ≡ commands_behind w cs
-unfolding words syntax
+unfolding definitions syntax_definitions
 commands_all w [] = refl
 commands_all w (c ∷ cs) = ap (λ l. (codes "; " ++ command_text w (plain_lcommand c)) ++ l) (commands_all w cs)
 
 pub commands_are : (w : s.Workload) (c : LCommand) (cs : List LCommand) → commands_text w (low_commands (map plain_lcommand (c ∷ cs))) ≡ command_text w (plain_lcommand c) ++ commands_behind w cs
-unfolding words syntax
+unfolding definitions syntax_definitions
 commands_are w c cs = ap (λ l. command_text w (plain_lcommand c) ++ l) (commands_all w cs)
 
 pub commands_more : (w : s.Workload) (cs : List LCommand) (i : ℕ) (c : LCommand) → i < length cs → c ≡ get_or cs i c → commands_behind w (take (i + 1) cs) ≡ commands_behind w (take i cs) ++ (codes "; " ++ command_text w (plain_lcommand c))
-unfolding words
+unfolding definitions
 commands_more w cs i c within is = flat_more (λ (c : LCommand). codes "; " ++ command_text w (plain_lcommand c)) cs i c within is
 
 -- ---- residuals
 pub no_residual : (w : s.Workload) (cs : List LCommand) → length cs < 1 → residual_text w (low_commands (map plain_lcommand cs)) ≡ codes "{}"
-unfolding words syntax
+unfolding definitions syntax_definitions
 no_residual w [] empty = refl
 no_residual w (c ∷ cs) empty = absurd (omega arith)
 
 pub residual_is : (w : s.Workload) (cs : List LCommand) → 0 < length cs → residual_text w (low_commands (map plain_lcommand cs)) ≡ codes "{ " ++ commands_text w (low_commands (map plain_lcommand cs)) ++ codes " }"
-unfolding words syntax
+unfolding definitions syntax_definitions
 residual_is w [] some = absurd (omega arith)
 residual_is w (c ∷ cs) some = refl
 
 -- ---- rows
 pub no_rows : (w : s.Workload) → rows_text w (map plain_row []) ≡ []
-unfolding words
+unfolding definitions
 no_rows w = refl
 
 pub rows_more : (w : s.Workload) (rows : List Row) (i : ℕ) (r : Row) → i < length rows → r ≡ get_or rows i r → rows_text w (map plain_row (take (i + 1) rows)) ≡ rows_text w (map plain_row (take i rows)) ++ row_text w i (plain_row r)
-unfolding words
+unfolding definitions
 rows_more w rows i r within is = numbered_more (row_text w) plain_row rows i r within is
 
 pub ruleset table_steps = (append_assoc, of_Assign, of_Write, of_Print, of_Skip, of_Seq, of_If, append-nil, no_rows, commands_more, no_residual, residual_is, rows_more)

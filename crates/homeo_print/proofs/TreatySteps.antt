@@ -11,18 +11,18 @@ use Rattle.homeo_plan.specs.PlanView.{plain_clause}
 use Rattle.homeo_plan.specs.declared.forms.Delta.{Delta}
 use Rattle.homeo_plan.specs.declared.templates.Clause.{Clause}
 use Rattle.homeo_plan.specs.Template as template
-use Rattle.homeo_print.specs.Key.{words}
+use Rattle.homeo_print.specs.Key.{definitions}
 use Rattle.homeo_print.specs.Tables.{split_name_text}
 use Rattle.homeo_print.specs.Treaties.{delta_text, clause_text, clauses_text, freeze_text, freezes_text}
 use Rattle.homeo_print.proofs.OneMore.{views_more, numbered_push}
 
 pub delta_is : (w : s.Workload) (d : Delta) → delta_text w d ≡ split_name_text w (name.Delta d.object d.site)
-unfolding words
+unfolding definitions
 delta_is w d = refl
 
 -- ---- clauses
 pub no_clauses : (w : s.Workload) (bounds : List (List ℤ)) → clauses_text w (map plain_clause []) bounds ≡ []
-unfolding words
+unfolding definitions
 no_clauses w bounds = refl
 
 zip_push : {X Y : Type 0} (xs : List X) (ys : List Y) (x : X) (y : Y) → length xs ≡ length ys → zip (xs ++ x ∷ []) (ys ++ y ∷ []) ≡ zip xs ys ++ (x, y) ∷ []
@@ -42,7 +42,7 @@ pub clauses_more : (w : s.Workload) (clauses : List Clause) (bounds : List (List
     → c ≡ get_or clauses i c → b ≡ get_or bounds i b
     → clauses_text w (map plain_clause (take (i + 1) clauses)) (lists (take (i + 1) bounds))
     ≡ clauses_text w (map plain_clause (take i clauses)) (lists (take i bounds)) ++ clause_text w i (plain_clause c) b.items
-unfolding words
+unfolding definitions
 clauses_more w clauses bounds i c b many within is_clause is_bounds =
     let cs : List template.Clause = map plain_clause (take i clauses) in
     let bs : List (List ℤ) = lists (take i bounds) in
@@ -57,11 +57,11 @@ clauses_more w clauses bounds i c b many within is_clause is_bounds =
 
 -- ---- freezes
 pub no_freezes : (w : s.Workload) (n : ℕ) → freezes_text w n [] ≡ []
-unfolding words
+unfolding definitions
 no_freezes w n = refl
 
 pub freezes_more : (w : s.Workload) (n : ℕ) (ds : List Delta) (i : ℕ) (d : Delta) → i < length ds → freezes_text w n (take (i + 1) ds) ≡ freezes_text w n (take i ds) ++ freeze_text w (n + i) (get_or ds i d)
-unfolding words
+unfolding definitions
 freezes_more w n ds i d within =
     ap (freezes_text w n) (take_more ds i d within) ∙ numbered_push (freeze_text w) n i (take i ds) (get_or ds i d) (length-take-le i ds (omega arith))
 

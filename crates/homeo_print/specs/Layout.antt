@@ -9,19 +9,19 @@ use Rattle.homeo_print.specs.declared.layout.Sort.{Sort}
 use Rattle.homeo_print.specs.declared.layout.Sort.TheVariants as sort
 use Rattle.homeo_print.specs.declared.layout.Before.{Before}
 use Rattle.homeo_print.specs.declared.layout.Before.TheVariants as before
-use Rattle.homeo_print.specs.Key.{words}
+use Rattle.homeo_print.specs.Key.{definitions}
 
 -- ---- one token
 -- the bytes of a name, the digits of a number, or the text of a mark
 abbrev pub token_text : List (List ℕ) → Kind → List ℕ
-unfolding words
+unfolding definitions
 token_text names (kind.Name n) = get_or names n []
 token_text names (kind.Number n) = decimal (unsigned_abs n)
 token_text names (kind.Fixed m) = mark_text m
 
 -- ---- the gaps between tokens
 abbrev pub mark_sort : Mark → Sort
-unfolding words
+unfolding definitions
 mark_sort mark.Sites = sort.Line
 mark_sort mark.Object = sort.Line
 mark_sort mark.Relation = sort.Line
@@ -47,7 +47,7 @@ mark_sort mark.Dot = sort.Dot
 mark_sort m = sort.Word
 
 abbrev pub sort_of : Kind → Sort
-unfolding words
+unfolding definitions
 sort_of (kind.Name n) = sort.Name
 sort_of (kind.Number n) = sort.Number
 sort_of (kind.Fixed m) = mark_sort m
@@ -57,31 +57,31 @@ space = codes " "
 
 -- nothing behind an opening bracket, .. or a sign, and else a space
 abbrev pub loose_gap : Before → List ℕ
-unfolding words
+unfolding definitions
 loose_gap before.Tight = []
 loose_gap b = space
 
 -- the same, and nothing between a dot and a name
 abbrev pub name_gap : Before → List ℕ
-unfolding words
+unfolding definitions
 name_gap before.Dot = []
 name_gap b = loose_gap b
 
 -- the same as by itself, and nothing between a name, or a word that parentheses follow, and an opening bracket
 abbrev pub opening_gap : Before → List ℕ
-unfolding words
+unfolding definitions
 opening_gap before.Head = []
 opening_gap b = loose_gap b
 
 -- nothing, but for two dots that would be read as one token
 abbrev pub dot_gap : Before → List ℕ
-unfolding words
+unfolding definitions
 dot_gap before.Dot = space
 dot_gap b = []
 
 -- what stands in front of a token
 abbrev pub gap : Before → Sort → List ℕ
-unfolding words
+unfolding definitions
 gap b sort.Line = codes "\n"
 gap b sort.Word = loose_gap b
 gap b sort.Call = loose_gap b
@@ -96,14 +96,14 @@ gap b sort.Dot = dot_gap b
 
 -- a minus behind what can end a number's value stands between two terms, and elsewhere it is a sign
 abbrev pub after_minus : Before → Before
-unfolding words
+unfolding definitions
 after_minus before.Head = before.Apart
 after_minus before.End = before.Apart
 after_minus b = before.Tight
 
 -- what a token leaves for the next one
 abbrev pub after : Before → Sort → Before
-unfolding words
+unfolding definitions
 after b sort.Line = before.Apart
 after b sort.Word = before.Apart
 after b sort.Call = before.Head
@@ -118,11 +118,11 @@ after b sort.Dot = before.Dot
 
 -- ---- tokens one after another, and a newline behind the last
 abbrev pub laid : List (List ℕ) → Before → List Kind → List ℕ
-unfolding words
+unfolding definitions
 laid names b [] = codes "\n"
 laid names b (k ∷ ks) = gap b (sort_of k) ++ (token_text names k ++ laid names (after b (sort_of k)) ks)
 
 -- The text of tokens. The first token has nothing in front of it, unless it begins a line.
 abbrev pub printed : List (List ℕ) → List Kind → List ℕ
-unfolding words
+unfolding definitions
 printed names ks = laid names before.Tight ks

@@ -5,18 +5,18 @@ use Rattle.homeo_syntax.specs.declared.phrase.Number.{Number}
 use Rattle.homeo_syntax.specs.declared.workload.ObjectDecl.{ObjectDecl}
 use Rattle.homeo_syntax.specs.declared.workload.RangeDecl.{RangeDecl}
 use Rattle.homeo_syntax.specs.Source as s
-use Rattle.homeo_print.specs.Key.{words}
+use Rattle.homeo_print.specs.Key.{definitions}
 
 abbrev pub ident_without : Ident → Ident
-unfolding words
+unfolding definitions
 ident_without x = record { name = x.name; offset = 0 }
 
 abbrev pub number_without : Number → Number
-unfolding words
+unfolding definitions
 number_without n = record { value = n.value; offset = 0 }
 
 abbrev mutual
-  unfolding words
+  unfolding definitions
 
   pub expr_without : s.Expr → s.Expr
   expr_without (s.Literal n) = s.Literal n
@@ -44,11 +44,11 @@ abbrev mutual
   cond_without (s.MoreTest t c) = s.MoreTest (test_without t) (cond_without c)
 
 abbrev pub field_without : s.FieldValue → s.FieldValue
-unfolding words
+unfolding definitions
 field_without f = record { field = ident_without f.field; value = expr_without f.value }
 
 abbrev mutual
-  unfolding words
+  unfolding definitions
 
   pub command_without : s.Command → s.Command
   command_without s.Skip = s.Skip
@@ -70,37 +70,37 @@ abbrev mutual
   commands_without (s.MoreCommand c cs) = s.MoreCommand (command_without c) (commands_without cs)
 
 abbrev pub object_without : ObjectDecl → ObjectDecl
-unfolding words
+unfolding definitions
 object_without d = record { name = ident_without d.name; lo = number_without d.lo; hi = number_without d.hi; start = number_without d.start }
 
 abbrev pub decl_without : RangeDecl → RangeDecl
-unfolding words
+unfolding definitions
 decl_without d = record { name = ident_without d.name; lo = number_without d.lo; hi = number_without d.hi }
 
 abbrev pub relation_without : s.RelationDecl → s.RelationDecl
-unfolding words
+unfolding definitions
 relation_without r = record { name = ident_without r.name; slots = number_without r.slots; fields = map decl_without r.fields }
 
 abbrev pub transaction_without : s.Transaction → s.Transaction
-unfolding words
+unfolding definitions
 transaction_without t = record { name = ident_without t.name; params = map decl_without t.params; body = commands_without t.body }
 
 abbrev pub call_without : s.Call → s.Call
-unfolding words
+unfolding definitions
 call_without c = record { name = ident_without c.name; args = map number_without c.args }
 
 abbrev pub client_without : s.Client → s.Client
-unfolding words
+unfolding definitions
 client_without c = record { name = ident_without c.name; site = number_without c.site; calls = map call_without c.calls }
 
 abbrev pub schedule_without : Option (List Ident) → Option (List Ident)
-unfolding words
+unfolding definitions
 schedule_without None = None
 schedule_without (Some xs) = Some (map ident_without xs)
 
 -- the workload with each offset 0
 abbrev pub without_offsets : s.Workload → s.Workload
-unfolding words
+unfolding definitions
 without_offsets w = record {
   version = w.version;
   names = w.names;
@@ -116,5 +116,5 @@ without_offsets w = record {
 
 -- The workloads differ in offsets at most.
 abbrev pub SameButOffsets : s.Workload → s.Workload → Type 0
-unfolding words
+unfolding definitions
 SameButOffsets v w = without_offsets v ≡ without_offsets w

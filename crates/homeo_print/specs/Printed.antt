@@ -8,7 +8,6 @@ use Rattle.homeo_syntax.specs.Lexemes.{Lexeme, Name, Number, Fixed}
 use Rattle.homeo_syntax.specs.Tokens.{Scanned, IsClean, scanned_of}
 use Rattle.homeo_syntax.specs.WellFormed.{IsName, IsShort, Each}
 use Rattle.homeo_syntax.specs.Versions.{version_number, CanMark}
-use Rattle.homeo_print.specs.Key.{words}
 use Rattle.homeo_print.specs.TokensOf.{workload_kinds}
 
 -- a token as a lexeme, with each name as its bytes

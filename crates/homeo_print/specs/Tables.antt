@@ -15,7 +15,7 @@ use Rattle.homeo_plan.specs.Joint.{joint_picks}
 use Rattle.homeo_plan.specs.Planned.{sites_of, planned_call}
 use Rattle.homeo_plan.specs.Table.{Row, table}
 use Rattle.homeo_plan.specs.Template.{shifted}
-use Rattle.homeo_print.specs.Key.{words}
+use Rattle.homeo_print.specs.Key.{definitions}
 use Rattle.homeo_print.specs.Names.{newline, heading, name_at, object_names}
 use Rattle.homeo_print.specs.Calls.{ground_text}
 use Rattle.homeo_print.specs.TokensOf.{Level, Alone, AsTerm, AsFactor, around_sum, around_product}
@@ -23,29 +23,29 @@ use Rattle.homeo_print.specs.TokensOf.{Level, Alone, AsTerm, AsFactor, around_su
 -- ---- single names
 -- a temporary of the text by its name, one that the text doesn't have by its number
 abbrev pub temp_text : s.Workload → Temp → List ℕ
-unfolding words
+unfolding definitions
 temp_text w (Named n) = name_at w.names n
 temp_text w (Fresh n) = codes "$" ++ decimal n
 
 abbrev pub object_text : s.Workload → ℕ → List ℕ
-unfolding words
+unfolding definitions
 object_text w x = name_at (object_names w) x
 
 -- No table has a whole object: it is its name.
 abbrev pub split_name_text : s.Workload → SplitName → List ℕ
-unfolding words
+unfolding definitions
 split_name_text w (Whole x) = object_text w x
 split_name_text w (Base x) = codes "base(" ++ object_text w x ++ codes ")"
 split_name_text w (Delta x j) = object_text w x ++ codes "@" ++ decimal j
 
 -- ---- expressions
 abbrev pub in_parentheses : List ℕ → List ℕ
-unfolding words
+unfolding definitions
 in_parentheses text = codes "(" ++ text ++ codes ")"
 
 -- No table has a sum or a product without items: it has no text.
 abbrev mutual
-  unfolding words
+  unfolding definitions
 
   pub expr_at : s.Workload → Level → Expr → List ℕ
   expr_at w l (Literal n) = signed_decimal n
@@ -75,18 +75,18 @@ abbrev mutual
 
 -- an expression by itself
 abbrev pub expr_text : s.Workload → Expr → List ℕ
-unfolding words
+unfolding definitions
 expr_text w e = expr_at w Alone e
 
 -- ---- conditions
 abbrev pub comparison_text : Compare → List ℕ
-unfolding words
+unfolding definitions
 comparison_text Less = codes " < "
 comparison_text LessEqual = codes " <= "
 comparison_text Equal = codes " = "
 
 abbrev mutual
-  unfolding words
+  unfolding definitions
 
   pub test_text : s.Workload → Test → List ℕ
   test_text w True = codes "true"
@@ -105,30 +105,30 @@ abbrev mutual
 -- ---- rows
 -- No residual has another command than these three: it has no text.
 abbrev pub command_text : s.Workload → Command → List ℕ
-unfolding words
+unfolding definitions
 command_text w (Assign t e) = temp_text w t ++ codes " := " ++ expr_text w e
 command_text w (Write x e) = codes "write(" ++ split_name_text w x ++ codes " = " ++ expr_text w e ++ codes ")"
 command_text w (Print e) = codes "print(" ++ expr_text w e ++ codes ")"
 command_text w c = []
 
 abbrev pub later_commands : s.Workload → Commands → List ℕ
-unfolding words
+unfolding definitions
 later_commands w NoCommand = []
 later_commands w (MoreCommand c cs) = codes "; " ++ command_text w c ++ later_commands w cs
 
 abbrev pub commands_text : s.Workload → Commands → List ℕ
-unfolding words
+unfolding definitions
 commands_text w NoCommand = []
 commands_text w (MoreCommand c cs) = command_text w c ++ later_commands w cs
 
 abbrev pub residual_text : s.Workload → Commands → List ℕ
-unfolding words
+unfolding definitions
 residual_text w NoCommand = codes "{}"
 residual_text w cs = codes "{ " ++ commands_text w cs ++ codes " }"
 
 -- three lines: row J, when FORMULA, do RESIDUAL
 abbrev pub row_text : s.Workload → ℕ → Row → List ℕ
-unfolding words
+unfolding definitions
 row_text w number r =
     heading (codes "row ") number
     ++ codes "when " ++ cond_text w r.formula ++ newline
@@ -136,13 +136,13 @@ row_text w number r =
 
 -- the rows are numbered from 0
 abbrev pub rows_text : s.Workload → List Row → List ℕ
-unfolding words
+unfolding definitions
 rows_text w rows = flat_map (λ r. row_text w r.0 r.1) (enumerate_from 0 rows)
 
 -- ---- tables
 -- call G CALL at I rows N, and the rows
 abbrev pub table_text : s.Workload → ℕ → Ground → List Row → List ℕ
-unfolding words
+unfolding definitions
 table_text w number g rows =
     codes "call " ++ decimal number ++ codes " " ++ ground_text w g
     ++ codes " at " ++ decimal g.site ++ heading (codes " rows ") (length rows)
@@ -150,7 +150,7 @@ table_text w number g rows =
 
 -- the symbolic table of a ground call: of the delta transform of its L form, for its site
 abbrev pub call_table : s.Workload → Ground → List Row
-unfolding words
+unfolding definitions
 call_table w g = table (shifted (sites_of w) (planned_call w g))
 
 -- ---- the joint table
@@ -160,24 +160,24 @@ most_choices = 1024
 
 -- pick J J
 abbrev pub pick_line : List ℕ → List ℕ
-unfolding words
+unfolding definitions
 pick_line picks = codes "pick" ++ flat_map (λ n. codes " " ++ decimal n) picks ++ newline
 
 -- how many choices there are, and of each the numbers of its rows
 abbrev pub choices_text : List (List ℕ) → List ℕ
-unfolding words
+unfolding definitions
 choices_text choices =
     cond (nat_lt most_choices (length choices))
     (codes "joint too many\n")
     (heading (codes "joint ") (length choices) ++ flat_map pick_line choices)
 
 abbrev pub joint_text : List (List Row) → List ℕ
-unfolding words
+unfolding definitions
 joint_text tables = choices_text (joint_picks tables)
 
 -- the table of each distinct ground call, numbered from 0 in first-seen order, and their joint table
 abbrev pub tables_text : s.Workload → List ℕ
-unfolding words
+unfolding definitions
 tables_text w =
     flat_map (λ c. table_text w c.0 c.1 (call_table w c.1)) (enumerate_from 0 (grounds w))
     ++ joint_text (map (call_table w) (grounds w))

@@ -12,7 +12,7 @@ use Rattle.homeo_syntax.specs.declared.phrase.Compare.TheVariants as compare
 use Rattle.homeo_syntax.specs.declared.workload.ObjectDecl.{ObjectDecl}
 use Rattle.homeo_syntax.specs.declared.workload.RangeDecl.{RangeDecl}
 use Rattle.homeo_syntax.specs.Source as s
-use Rattle.homeo_print.specs.Key.{words}
+use Rattle.homeo_print.specs.Key.{definitions}
 
 abbrev pub Kinds : Type 0
 Kinds = List Kind
@@ -30,7 +30,7 @@ value_of (pos n) = kind.Number (pos n) ∷ []
 value_of (negsuc n) = kind.Fixed mark.Minus ∷ kind.Number (pos (suc n)) ∷ []
 
 abbrev pub number_of : Number → Kinds
-unfolding words
+unfolding definitions
 number_of n = value_of n.value
 
 abbrev pub parenthesised : Kinds → Kinds
@@ -45,7 +45,7 @@ led m [] = []
 led m (ks ∷ more) = kind.Fixed m ∷ (ks ++ led m more)
 
 abbrev pub separated : Mark → List Kinds → Kinds
-unfolding words
+unfolding definitions
 separated m [] = []
 separated m (ks ∷ more) = ks ++ led m more
 
@@ -74,7 +74,7 @@ comparison_mark compare.LessEqual = mark.LessEqual
 comparison_mark compare.Equal = mark.Equal
 
 abbrev mutual
-  unfolding words
+  unfolding definitions
 
   pub expr_at : Level → s.Expr → Kinds
   expr_at l (s.Literal n) = value_of n
@@ -124,22 +124,22 @@ abbrev mutual
 
 -- an expression by itself
 abbrev pub expr_kinds : s.Expr → Kinds
-unfolding words
+unfolding definitions
 expr_kinds e = expr_at Alone e
 
 -- ---- commands
 -- name = expression
 abbrev pub setting_kinds : s.FieldValue → Kinds
-unfolding words
+unfolding definitions
 setting_kinds f = name_of f.field ++ kind.Fixed mark.Equal ∷ expr_kinds f.value
 
 -- row of relation when condition
 abbrev pub rows_kinds : Ident → Ident → s.Cond → Kinds
-unfolding words
+unfolding definitions
 rows_kinds row relation test = name_of row ++ kind.Fixed mark.Of ∷ (name_of relation ++ kind.Fixed mark.When ∷ cond_kinds test)
 
 abbrev mutual
-  unfolding words
+  unfolding definitions
 
   pub command_kinds : s.Command → Kinds
   command_kinds s.Skip = mark_of mark.Skip
@@ -170,56 +170,56 @@ abbrev mutual
 
 -- ---- declarations
 abbrev pub range_kinds : Number → Number → Kinds
-unfolding words
+unfolding definitions
 range_kinds lo hi = number_of lo ++ kind.Fixed mark.Dots ∷ number_of hi
 
 abbrev pub object_kinds : ObjectDecl → Kinds
-unfolding words
+unfolding definitions
 object_kinds d =
     kind.Fixed mark.Object ∷ (name_of d.name ++ kind.Fixed mark.In ∷ (range_kinds d.lo d.hi ++ kind.Fixed mark.Equal ∷ number_of d.start))
 
 abbrev pub decl_kinds : RangeDecl → Kinds
-unfolding words
+unfolding definitions
 decl_kinds d = name_of d.name ++ kind.Fixed mark.In ∷ range_kinds d.lo d.hi
 
 abbrev pub relation_kinds : s.RelationDecl → Kinds
-unfolding words
+unfolding definitions
 relation_kinds r =
     kind.Fixed mark.Relation ∷ (name_of r.name ++ kind.Fixed mark.OpenBracket ∷ (number_of r.slots ++ kind.Fixed mark.CloseBracket ∷ parenthesised (separated mark.Comma (map decl_kinds r.fields))))
 
 abbrev pub transaction_kinds : s.Transaction → Kinds
-unfolding words
+unfolding definitions
 transaction_kinds t =
     kind.Fixed mark.Transaction ∷ (name_of t.name ++ (parenthesised (separated mark.Comma (map decl_kinds t.params)) ++ braced (commands_kinds t.body)))
 
 abbrev pub call_kinds : s.Call → Kinds
-unfolding words
+unfolding definitions
 call_kinds c = name_of c.name ++ parenthesised (separated mark.Comma (map number_of c.args))
 
 abbrev pub client_kinds : s.Client → Kinds
-unfolding words
+unfolding definitions
 client_kinds c =
     kind.Fixed mark.Client ∷ (name_of c.name ++ kind.Fixed mark.At ∷ (number_of c.site ++ braced (separated mark.Semicolon (map call_kinds c.calls))))
 
 abbrev pub schedule_kinds : Option (List Ident) → Kinds
-unfolding words
+unfolding definitions
 schedule_kinds None = []
 schedule_kinds (Some xs) = kind.Fixed mark.Schedule ∷ flat_map name_of xs
 
 -- the weights, where there are some
 abbrev pub weights_kinds : List Number → Kinds
-unfolding words
+unfolding definitions
 weights_kinds [] = []
 weights_kinds (n ∷ ns) = kind.Fixed mark.Weights ∷ separated mark.Comma (map number_of (n ∷ ns))
 
 abbrev pub head_kinds : ℕ → Number → List Number → Kinds
-unfolding words
+unfolding definitions
 head_kinds version sites weights =
     kind.Fixed mark.Workload ∷ kind.Number (pos version) ∷ kind.Fixed mark.Sites ∷ (number_of sites ++ weights_kinds weights)
 
 -- the tokens of a workload, in order
 abbrev pub workload_kinds : s.Workload → Kinds
-unfolding words
+unfolding definitions
 workload_kinds w =
     head_kinds w.version w.sites w.weights
     ++ (flat_map object_kinds w.objects

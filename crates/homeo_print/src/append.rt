@@ -58,7 +58,7 @@ pub fn push_signed(out: &mut Vec<u8>, n: i64) -> Result<(), Memory>
 /// # Errors
 ///
 /// `Memory` when out of memory, and then some of the bytes may be appended.
-#[tactic(auto, unfolding(crate::specs::Key::words))]
+#[tactic(auto, unfolding(crate::specs::Key::definitions))]
 pub fn push_numbers(out: &mut Vec<u8>, numbers: &[i64]) -> Result<(), Memory>
     ensures { OnOk result (out.new.items ≡ out.old.items ++ numbers_text numbers.now) }
 {
@@ -74,7 +74,7 @@ pub fn push_numbers(out: &mut Vec<u8>, numbers: &[i64]) -> Result<(), Memory>
 /// # Errors
 ///
 /// `Memory` when out of memory, and then some of the bytes may be appended.
-#[tactic(auto, unfolding(crate::specs::Key::words))]
+#[tactic(auto, unfolding(crate::specs::Key::definitions))]
 pub fn push_heading(out: &mut Vec<u8>, word: &[u8], number: u64) -> Result<(), Memory>
     ensures { OnOk result (out.new.items ≡ out.old.items ++ heading word.now number) }
 {

@@ -1,5 +1,5 @@
 //! The texts of names and calls.
-#![tactic(auto, using(homeo_syntax::proofs::SourceViews::workload_views), unfolding(crate::specs::Key::words, homeo_meaning::specs::Key::words))]
+#![tactic(auto, using(homeo_syntax::proofs::SourceViews::workload_views), unfolding(crate::specs::Key::definitions, homeo_meaning::specs::Key::definitions))]
 
 ghost use Rattle.std.specs.Prelude.{◌≡◌, ◌++◌, OnOk, slice_get};
 ghost use Rattle.std.specs.Option.{option_copied};

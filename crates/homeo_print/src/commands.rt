@@ -174,7 +174,7 @@ fn push_command(out: &mut Pieces, c: &Command) -> Result<(), Memory>
 
 /// Puts commands behind the tokens, with a semicolon between each two.
 #[cycle(commands)]
-pub fn push_commands(out: &mut Pieces, cs: &[Command]) -> Result<(), Memory>
+pub(crate) fn push_commands(out: &mut Pieces, cs: &[Command]) -> Result<(), Memory>
     ensures pushed { OnOk result (out.new ≡ out.old ++ commands_kinds (commands (map plain_command cs.now))) }
 {
     match cs {

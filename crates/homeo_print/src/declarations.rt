@@ -244,7 +244,7 @@ fn push_head(out: &mut Pieces, version: u8, sites: Number, weights: &[Number]) -
 }
 
 /// The tokens of a workload, in order.
-pub fn pieces_of(alloc: Global, w: &Workload) -> Result<Pieces, Memory>
+pub(crate) fn pieces_of(alloc: Global, w: &Workload) -> Result<Pieces, Memory>
     ensures tokens { IfOk result (λ pieces. pieces ≡ workload_kinds (plain_workload w.now)) }
 {
     let mut out = Pieces::new(alloc);

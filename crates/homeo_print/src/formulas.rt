@@ -14,8 +14,8 @@ use crate::phrases::Position;
 use homeo_syntax::{Compare, Ident, LCond, LExpr, LTest, Memory, SplitName, Temp, Workload};
 
 /// Appends a temporary.
-#[tactic(auto, unfolding(crate::specs::Key::words))]
-pub fn push_temp(out: &mut Vec<u8>, w: &Workload, t: Temp) -> Result<(), Memory>
+#[tactic(auto, unfolding(crate::specs::Key::definitions))]
+pub(crate) fn push_temp(out: &mut Vec<u8>, w: &Workload, t: Temp) -> Result<(), Memory>
     ensures { OnOk result (out.new.items ≡ out.old.items ++ temp_text (plain_workload w.now) t) }
 {
     match t {
@@ -33,7 +33,7 @@ pub fn push_temp(out: &mut Vec<u8>, w: &Workload, t: Temp) -> Result<(), Memory>
 
 /// Appends a split name.
 #[tactic(auto, using(crate::proofs::FormulaSteps::name_steps))]
-pub fn push_split_name(
+pub(crate) fn push_split_name(
     out: &mut Vec<u8>,
     w: &Workload,
     objects: &ObjectNames,
@@ -77,7 +77,7 @@ fn sign_of(e: &LExpr) -> &'static [u8]
 /// Appends an expression that stands at a position.
 #[cycle(expressions)]
 #[tactic(auto, using(homeo_syntax::proofs::Measures::low_expr_parts, homeo_syntax::proofs::LowViews::low_phrase_views, crate::proofs::FormulaSteps::expression_steps))]
-pub fn push_expr(
+pub(crate) fn push_expr(
     out: &mut Vec<u8>,
     w: &Workload,
     objects: &ObjectNames,
@@ -235,7 +235,7 @@ fn push_test(
 /// Appends a condition.
 #[cycle(conditions)]
 #[tactic(auto, using(homeo_syntax::proofs::Measures::low_test_parts, homeo_syntax::proofs::LowViews::low_phrase_views, crate::proofs::FormulaSteps::condition_steps))]
-pub fn push_cond(
+pub(crate) fn push_cond(
     out: &mut Vec<u8>,
     w: &Workload,
     objects: &ObjectNames,

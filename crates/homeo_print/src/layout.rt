@@ -11,7 +11,7 @@ use std::alloc::Global;
 
 /// How a token stands beside others.
 #[derive(Clone, Copy, Debug, PartialEq, Eq)]
-pub enum Sort {
+pub(crate) enum Sort {
     /// A reserved word that begins a line.
     Line,
     /// A word or a symbol with a space at each side.
@@ -35,7 +35,7 @@ pub enum Sort {
 
 /// What stands in front of the next token.
 #[derive(Clone, Copy, Debug, PartialEq, Eq)]
-pub enum Before {
+pub(crate) enum Before {
     /// Nothing, an opening bracket, `..` or a sign: what the next token follows at once.
     Tight,
     /// `.`
@@ -48,7 +48,7 @@ pub enum Before {
     Apart,
 }
 
-#[tactic(auto, unfolding(crate::specs::Key::words))]
+#[tactic(auto, unfolding(crate::specs::Key::definitions))]
 fn mark_sort(mark: Mark) -> Sort
     ensures sort { result ≡ mark_sort mark }
 {
@@ -99,7 +99,7 @@ fn mark_sort(mark: Mark) -> Sort
     }
 }
 
-#[tactic(auto, unfolding(crate::specs::Key::words))]
+#[tactic(auto, unfolding(crate::specs::Key::definitions))]
 fn sort_of(piece: Piece) -> Sort
     ensures sort { result ≡ sort_of (kind_of piece) }
 {
@@ -110,7 +110,7 @@ fn sort_of(piece: Piece) -> Sort
     }
 }
 
-#[tactic(auto, unfolding(crate::specs::Key::words))]
+#[tactic(auto, unfolding(crate::specs::Key::definitions))]
 fn loose_gap(before: Before) -> &'static [u8]
     ensures text { result.now ≡ loose_gap before }
 {
@@ -120,7 +120,7 @@ fn loose_gap(before: Before) -> &'static [u8]
     }
 }
 
-#[tactic(auto, unfolding(crate::specs::Key::words))]
+#[tactic(auto, unfolding(crate::specs::Key::definitions))]
 fn name_gap(before: Before) -> &'static [u8]
     ensures text { result.now ≡ name_gap before }
 {
@@ -130,7 +130,7 @@ fn name_gap(before: Before) -> &'static [u8]
     }
 }
 
-#[tactic(auto, unfolding(crate::specs::Key::words))]
+#[tactic(auto, unfolding(crate::specs::Key::definitions))]
 fn opening_gap(before: Before) -> &'static [u8]
     ensures text { result.now ≡ opening_gap before }
 {
@@ -140,7 +140,7 @@ fn opening_gap(before: Before) -> &'static [u8]
     }
 }
 
-#[tactic(auto, unfolding(crate::specs::Key::words))]
+#[tactic(auto, unfolding(crate::specs::Key::definitions))]
 fn dot_gap(before: Before) -> &'static [u8]
     ensures text { result.now ≡ dot_gap before }
 {
@@ -151,7 +151,7 @@ fn dot_gap(before: Before) -> &'static [u8]
 }
 
 /// What stands in front of a token.
-#[tactic(auto, unfolding(crate::specs::Key::words))]
+#[tactic(auto, unfolding(crate::specs::Key::definitions))]
 fn gap(before: Before, sort: Sort) -> &'static [u8]
     ensures text { result.now ≡ gap before sort }
 {
@@ -165,7 +165,7 @@ fn gap(before: Before, sort: Sort) -> &'static [u8]
     }
 }
 
-#[tactic(auto, unfolding(crate::specs::Key::words))]
+#[tactic(auto, unfolding(crate::specs::Key::definitions))]
 fn after_minus(before: Before) -> Before
     ensures state { result ≡ after_minus before }
 {
@@ -176,7 +176,7 @@ fn after_minus(before: Before) -> Before
 }
 
 /// What a token leaves for the next one.
-#[tactic(auto, unfolding(crate::specs::Key::words))]
+#[tactic(auto, unfolding(crate::specs::Key::definitions))]
 fn after(before: Before, sort: Sort) -> Before
     ensures state { result ≡ after before sort }
 {
@@ -200,7 +200,7 @@ fn name_text(names: &[Text], index: u32) -> &[u8]
 }
 
 /// Puts a token behind a text.
-#[tactic(auto, unfolding(crate::specs::Key::words))]
+#[tactic(auto, unfolding(crate::specs::Key::definitions))]
 fn push_token(text: &mut Vec<u8>, names: &[Text], piece: Piece) -> Result<(), Memory>
     ensures pushed { OnOk result (text.new.items ≡ text.old.items ++ token_text names.now (kind_of piece)) }
 {
@@ -212,7 +212,7 @@ fn push_token(text: &mut Vec<u8>, names: &[Text], piece: Piece) -> Result<(), Me
 }
 
 /// The text of tokens, with these names.
-pub fn text_of(alloc: Global, names: &[Text], pieces: &[Piece]) -> Result<Vec<u8>, Memory>
+pub(crate) fn text_of(alloc: Global, names: &[Text], pieces: &[Piece]) -> Result<Vec<u8>, Memory>
     ensures text { IfOk result (λ text. text.items ≡ printed names.now (map kind_of pieces.now)) }
 {
     let mut text = Vec::new(alloc);

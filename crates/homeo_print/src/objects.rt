@@ -1,5 +1,5 @@
 //! The names of objects.
-#![tactic(auto, using(crate::proofs::NamedObjects::object_steps), unfolding(crate::specs::Key::words))]
+#![tactic(auto, using(crate::proofs::NamedObjects::object_steps), unfolding(crate::specs::Key::definitions))]
 
 ghost use Rattle.std.specs.Prelude.{◌≡◌, [], ◌∷◌, ◌++◌, length, slice_get, IfOk, OnOk};
 ghost use Rattle.std.specs.Option.{option_copied};
@@ -128,7 +128,7 @@ fn text_at(texts: &[Vec<u8>], place: usize) -> Option<&Vec<u8>>
     texts.get(place)
 }
 
-#[tactic(auto, using(homeo_syntax::proofs::SourceViews::workload_views), unfolding(crate::specs::Key::words, homeo_syntax::specs::Key::words))]
+#[tactic(auto, using(homeo_syntax::proofs::SourceViews::workload_views), unfolding(crate::specs::Key::definitions, homeo_syntax::specs::Key::definitions))]
 fn field_name(
     alloc: Global,
     w: &Workload,
@@ -148,7 +148,7 @@ fn field_name(
 }
 
 /// A relation's number of slots.
-#[tactic(auto, using(homeo_syntax::proofs::SourceViews::workload_views), unfolding(crate::specs::Key::words, homeo_syntax::specs::Key::words))]
+#[tactic(auto, using(homeo_syntax::proofs::SourceViews::workload_views), unfolding(crate::specs::Key::definitions, homeo_syntax::specs::Key::definitions))]
 fn slot_count(relation: &RelationDecl) -> u64
     ensures { result ≡ nat_of relation.now.slots.value }
 {

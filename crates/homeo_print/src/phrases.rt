@@ -12,14 +12,14 @@ use homeo_syntax::{Compare, Cond, Expr, Ident, Mark, Memory, Test};
 /// Where an expression stands: by itself, as a term of a sum, as a factor of a product or behind a minus, or as a term
 /// of a sum whose sign is put already.
 #[derive(Clone, Copy, Debug, PartialEq, Eq)]
-pub enum Position {
+pub(crate) enum Position {
     Alone,
     AsTerm,
     AsFactor,
     Signed,
 }
 
-#[tactic(auto, unfolding(crate::specs::Key::words))]
+#[tactic(auto, unfolding(crate::specs::Key::definitions))]
 fn comparison_mark(op: Compare) -> Mark
     ensures mark { result ≡ comparison_mark op }
 {
@@ -49,8 +49,8 @@ fn sign_of(e: &Expr) -> Mark
 }
 
 /// Puts `row.field` behind the tokens.
-#[tactic(auto, unfolding(crate::specs::Key::words))]
-pub fn push_row_field(out: &mut Pieces, row: Ident, field: Ident) -> Result<(), Memory>
+#[tactic(auto, unfolding(crate::specs::Key::definitions))]
+pub(crate) fn push_row_field(out: &mut Pieces, row: Ident, field: Ident) -> Result<(), Memory>
     ensures pushed { OnOk result (out.new ≡ out.old ++ row_field row field) }
 {
     out.name(row)?;
@@ -60,8 +60,8 @@ pub fn push_row_field(out: &mut Pieces, row: Ident, field: Ident) -> Result<(), 
 }
 
 /// Puts `of relation when` behind the tokens.
-#[tactic(auto, unfolding(crate::specs::Key::words))]
-pub fn push_chosen_of(out: &mut Pieces, relation: Ident) -> Result<(), Memory>
+#[tactic(auto, unfolding(crate::specs::Key::definitions))]
+pub(crate) fn push_chosen_of(out: &mut Pieces, relation: Ident) -> Result<(), Memory>
     ensures pushed { OnOk result (out.new ≡ out.old ++ chosen_of relation) }
 {
     out.mark(Mark::Of)?;
@@ -72,7 +72,7 @@ pub fn push_chosen_of(out: &mut Pieces, relation: Ident) -> Result<(), Memory>
 
 /// Puts an expression that stands at a position behind the tokens.
 #[cycle(phrases)]
-pub fn push_expr(out: &mut Pieces, e: &Expr, position: Position) -> Result<(), Memory>
+pub(crate) fn push_expr(out: &mut Pieces, e: &Expr, position: Position) -> Result<(), Memory>
     ensures pushed { OnOk result (out.new ≡ out.old ++ expr_in position (plain_expr e.now)) }
 {
     match e {
@@ -234,7 +234,7 @@ fn push_test(out: &mut Pieces, t: &Test) -> Result<(), Memory>
 
 /// Puts a condition behind the tokens.
 #[cycle(phrases)]
-pub fn push_cond(out: &mut Pieces, c: &Cond) -> Result<(), Memory>
+pub(crate) fn push_cond(out: &mut Pieces, c: &Cond) -> Result<(), Memory>
     ensures pushed { OnOk result (out.new ≡ out.old ++ cond_kinds (plain_cond c.now)) }
 {
     match c.tests.as_slice() {

@@ -10,7 +10,7 @@ use std::marker::Model;
 
 /// A token to be printed: a name by its index among the names, a number without a sign, or a mark.
 #[derive(Clone, Copy, Debug, PartialEq, Eq)]
-pub enum Piece {
+pub(crate) enum Piece {
     Name(u32),
     Number(u64),
     Fixed(Mark),
@@ -18,7 +18,7 @@ pub enum Piece {
 
 /// Tokens, to which others are put.
 #[derive(Drop)]
-pub struct Pieces {
+pub(crate) struct Pieces {
     pieces: Vec<Piece>,
 }
 
@@ -34,7 +34,7 @@ impl Model for Pieces {
 
 impl Pieces {
     /// Makes an empty list of tokens, and takes no memory.
-    pub fn new(alloc: Global) -> Pieces
+    pub(crate) fn new(alloc: Global) -> Pieces
         ensures empty { result ≡ [] }
     {
         Pieces {
@@ -43,13 +43,13 @@ impl Pieces {
     }
 
     /// Lends the tokens.
-    pub fn as_slice(&self) -> &[Piece]
+    pub(crate) fn as_slice(&self) -> &[Piece]
         ensures tokens { map kind_of result.now ≡ self.now }
     {
         self.pieces.as_slice()
     }
 
-    #[tactic(auto, unfolding(crate::specs::Key::words))]
+    #[tactic(auto, unfolding(crate::specs::Key::definitions))]
     fn push(&mut self, piece: Piece) -> Result<(), Memory>
         ensures pushed { OnOk result (self.new ≡ self.old ++ kind_of piece ∷ []) }
     {
@@ -58,24 +58,24 @@ impl Pieces {
     }
 
     /// Puts a mark behind the tokens.
-    #[tactic(auto, unfolding(crate::specs::Key::words))]
-    pub fn mark(&mut self, mark: Mark) -> Result<(), Memory>
+    #[tactic(auto, unfolding(crate::specs::Key::definitions))]
+    pub(crate) fn mark(&mut self, mark: Mark) -> Result<(), Memory>
         ensures pushed { OnOk result (self.new ≡ self.old ++ mark_of mark) }
     {
         self.push(Piece::Fixed(mark))
     }
 
     /// Puts a name behind the tokens.
-    #[tactic(auto, unfolding(crate::specs::Key::words))]
-    pub fn name(&mut self, name: Ident) -> Result<(), Memory>
+    #[tactic(auto, unfolding(crate::specs::Key::definitions))]
+    pub(crate) fn name(&mut self, name: Ident) -> Result<(), Memory>
         ensures pushed { OnOk result (self.new ≡ self.old ++ name_of name) }
     {
         self.push(Piece::Name(name.name))
     }
 
     /// Puts a number behind the tokens, and its sign in front of it where it is negative.
-    #[tactic(auto, unfolding(crate::specs::Key::words))]
-    pub fn value(&mut self, value: i64) -> Result<(), Memory>
+    #[tactic(auto, unfolding(crate::specs::Key::definitions))]
+    pub(crate) fn value(&mut self, value: i64) -> Result<(), Memory>
         ensures pushed { OnOk result (self.new ≡ self.old ++ value_of value) }
     {
         if value < 0 {

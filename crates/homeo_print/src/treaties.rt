@@ -27,7 +27,7 @@ fn push_delta(
 }
 
 /// Appends bounds, each behind a space.
-#[tactic(auto, unfolding(crate::specs::Key::words))]
+#[tactic(auto, unfolding(crate::specs::Key::definitions))]
 fn push_bounds(out: &mut Vec<u8>, bounds: &[i128]) -> Result<(), Memory>
     ensures { OnOk result (out.new.items ≡ out.old.items ++ numbers_text bounds.now) }
 {
@@ -39,7 +39,7 @@ fn push_bounds(out: &mut Vec<u8>, bounds: &[i128]) -> Result<(), Memory>
 }
 
 /// Appends terms, each behind a space.
-#[tactic(auto, unfolding(crate::specs::Key::words))]
+#[tactic(auto, unfolding(crate::specs::Key::definitions))]
 fn push_terms(
     out: &mut Vec<u8>,
     w: &Workload,

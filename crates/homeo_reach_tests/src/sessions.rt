@@ -59,7 +59,7 @@ const CASES: [Case; 2] = [
     ),
 ];
 
-fn joined(alloc: Global, parts: &[&str]) -> Result<String, Fail> {
+fn concat(alloc: Global, parts: &[&str]) -> Result<String, Fail> {
     let mut text = String::new(alloc);
     for part in parts {
         text.push_str(part)?;
@@ -89,8 +89,8 @@ fn answers(rt: &impl Abort, alloc: Global, stream: &str, piece: usize) -> Result
 fn batches_are_answered_however_the_stream_is_cut(rt: HostRuntime) -> Result<(), Fail> {
     let alloc = rt.alloc();
     for (frames, lines) in CASES {
-        let stream = joined(alloc, frames)?;
-        let want = joined(alloc, lines)?;
+        let stream = concat(alloc, frames)?;
+        let want = concat(alloc, lines)?;
         for piece in [65_536, 1] {
             let given = answers(&rt, alloc, stream.as_str(), piece)?;
             assert_eq!(&rt; given.as_slice(), want.as_bytes(), "in pieces of {piece}");
@@ -196,8 +196,8 @@ fn check_served<R: Threads + Wait + Abort + Sync>(
 #[test]
 fn each_read_and_each_write_of_a_session_fails_in_turn(rt: HostRuntime) -> Result<(), Fail> {
     let alloc = rt.alloc();
-    let stream = joined(alloc, &[HEAD, FIRST, SECOND])?;
-    let want = joined(alloc, &[FIRST_REPORT, SECOND_REPORT])?;
+    let stream = concat(alloc, &[HEAD, FIRST, SECOND])?;
+    let want = concat(alloc, &[FIRST_REPORT, SECOND_REPORT])?;
     let whole = Given {
         stream: stream.as_bytes(),
         piece: 53,
@@ -229,7 +229,7 @@ fn each_read_and_each_write_of_a_session_fails_in_turn(rt: HostRuntime) -> Resul
 #[test]
 fn a_stop_is_told_behind_the_answers_before_it(rt: HostRuntime) -> Result<(), Fail> {
     let alloc = rt.alloc();
-    let mut long = joined(alloc, &[HEAD, FIRST])?.into_bytes();
+    let mut long = concat(alloc, &[HEAD, FIRST])?.into_bytes();
     long.extend_from_slice(behind_spaces(alloc, FRAME, "\n")?.as_slice())?;
     for (stream, output, complaint) in [
         (b"".as_slice(), "", "refused E4 at 0\n"),

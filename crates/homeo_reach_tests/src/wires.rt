@@ -42,7 +42,7 @@ pub(crate) fn compiled(rt: &impl Abort, alloc: Global, text: &str) -> Result<Arc
 }
 
 /// Whether the client that an event is of, or the site and the packet, is there.
-#[tactic(auto, unfolding(homeo_wire::specs::Key::words))]
+#[tactic(auto, unfolding(homeo_wire::specs::Key::definitions))]
 fn can_happen(wire: &Wire, event: Event) -> bool
     ensures { IsTrue result → CanHappen (plain_workload wire.now.work) wire.now.world event }
 {

@@ -1,6 +1,6 @@
 -- The commands of a workload are those of its version.
 use Rattle.std.proofs.Common.{ℕ, zero, suc, List, [], ◌∷◌}
-use Rattle.homeo_syntax.specs.Key.{words}
+use Rattle.homeo_syntax.specs.Key.{definitions}
 use Rattle.homeo_syntax.specs.declared.token.Mark.TheVariants as mark
 use Rattle.homeo_syntax.specs.declared.token.Token.{Token}
 use Rattle.homeo_syntax.specs.declared.token.Version.{Version}
@@ -24,7 +24,7 @@ all_fine [] = tt
 all_fine (t ∷ ts) = (tt, all_fine ts)
 
 each_command : (v : Version) (cs : List s.Command) → Every (HasCommand v) cs → HasCommands v (commands cs)
-unfolding words
+unfolding definitions
 each_command v [] h = tt
 each_command v (c ∷ cs) h = (h.0, each_command v cs h.1)
 
@@ -38,7 +38,7 @@ module _ (M : Meaning) (hyp : (c : Deep) → Sound M F (call c) (Phrase c)) wher
   anything g = record { of = λ a ts s f. tt }
 
   block_has : (v : Version) → Sound M F (rules.block v) (HasCommands v)
-  unfolding words
+  unfolding definitions
   block_has v =
       sound_part M F _ (HasCommands v) (sound_lead M F mark.OpenBrace _ (HasCommands v) (sound_closed M F mark.CloseBrace _ (HasCommands v)
       (sound_alt M F _ _ (HasCommands v)
@@ -48,7 +48,7 @@ module _ (M : Meaning) (hyp : (c : Deep) → Sound M F (call c) (Phrase c)) wher
       (sound_nothing M F s.NoCommand (HasCommands v) tt))))
 
   setting_has : (v : Version) → Sound M F rules.setting (λ f. (x : Ident) → HasCommand v (f x))
-  unfolding words
+  unfolding definitions
   setting_has v =
       sound_part M F _ _
       (sound_alt M F _ _ _ (sound_as M F _ _ (λ u. Unit {0}) (λ f. (x : Ident) → HasCommand v (f x)) (anything _) (λ a h x. tt))
@@ -56,7 +56,7 @@ module _ (M : Meaning) (hyp : (c : Deep) → Sound M F (call c) (Phrase c)) wher
       (sound_as M F _ _ (λ u. Unit {0}) (λ f. (x : Ident) → HasCommand v (f x)) (anything _) (λ a h x. tt))))
 
   common_has : (v : Version) → Sound M F (rules.common_command v) (HasCommand v)
-  unfolding words
+  unfolding definitions
   common_has v =
       sound_alt M F _ _ (HasCommand v) (sound_as M F _ _ (λ u. Unit {0}) (HasCommand v) (anything _) (λ a h. tt))
       (sound_alt M F _ _ (HasCommand v) (sound_as M F s.Block _ (HasCommands v) (HasCommand v) (block_has v) (λ a h. h))
@@ -76,7 +76,7 @@ module _ (M : Meaning) (hyp : (c : Deep) → Sound M F (call c) (Phrase c)) wher
       (sound_as M F _ _ (λ u. Unit {0}) (HasCommand v) (anything _) (λ a h. tt))))))))))
 
   command_has : (v : Version) → Sound M F (rules.command v) (HasCommand v)
-  unfolding words
+  unfolding definitions
   command_has First = common_has First
   command_has Second = sound_alt M F _ _ (HasCommand Second) (sound_as M F _ _ (λ u. Unit {0}) (HasCommand Second) (anything _) (λ a h. tt)) (common_has Second)
 

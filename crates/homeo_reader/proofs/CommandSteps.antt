@@ -18,7 +18,7 @@ use Rattle.homeo_syntax.specs.Rules.{Rule, Command, rule, common_command, field_
 use Rattle.homeo_reader.specs.inner.FirstTokens.{classes}
 use Rattle.homeo_syntax.specs.Source as s
 use Rattle.homeo_syntax.specs.SourceView.{commands, plain_expr, plain_field}
-use Rattle.homeo_syntax.specs.Key.{words}
+use Rattle.homeo_syntax.specs.Key.{definitions}
 use Rattle.homeo_reader.specs.inner.Commands.{if_read, foreach_read, insert_read, delete_read, update_read, abort_read, command_read, commands_read, next_command_read, next_command_do, block_read, block_do, setting_read, field_setting_rest, row_setting_rest, setting_by, setting_do, field_value_read, field_value_do, next_field_value_read, next_field_value_do, other_field_values_read, field_values_read, field_values_do, command_by, command_do}
 use Rattle.homeo_reader.specs.inner.Reading.{expr_read, cond_read, visit_read, mark_read, ident_read, on_marked}
 use Rattle.homeo_reader.proofs.Bools.{if_true, and_split, and_join, not_true, not_false}
@@ -77,11 +77,11 @@ abbrev pub comma_field_value : Rule s.FieldValue
 comma_field_value = lead mark.Comma field_value
 
 pub field_of_view : (f : FieldValue) → (plain_field f).field ≡ f.field
-unfolding words
+unfolding definitions
 field_of_view f = refl
 
 pub value_of_view : (f : FieldValue) → (plain_field f).value ≡ plain_expr f.value
-unfolding words
+unfolding definitions
 value_of_view f = refl
 
 -- ---- commands

@@ -128,8 +128,8 @@ as_stops f g ts fault e = ap (λ r. r >>= λ x. Ok (f x.0, x.1)) e
 abbrev mark_read : Reading (Unit {0})
 mark_read = Ok (tt, [])
 
-abbrev joined : {A : Type 0} → A × List Token → Reading (Unit {0} × A)
-joined y = Ok ((tt, y.0), y.1)
+abbrev behind_mark : {A : Type 0} → A × List Token → Reading (Unit {0} × A)
+behind_mark y = Ok ((tt, y.0), y.1)
 
 abbrev then_phrase : {A : Type 0} → Rule A → Unit {0} × List Token → Reading (Unit {0} × A)
 then_phrase g x = read top g x.1 >>= λ y. Ok ((x.0, y.0), y.1)
@@ -142,7 +142,7 @@ unfolding read
 lead_stops {A} m g t e k = go (takes (number_of m ∷ []) (λ k. true) t.kind) e
   where
     go : (b : Bool) → b ≡ true → (((if b then mark_read else Err (t ∷ [])) >>= then_phrase g) >>= phrase_of) ≡ Err []
-    go true e = ap (λ (r : Reading A). (r >>= joined) >>= phrase_of) k
+    go true e = ap (λ (r : Reading A). (r >>= behind_mark) >>= phrase_of) k
     go false e = cc
 
 head_ends : (t : Token) → takes (number_of mark.Workload ∷ []) (λ k. true) t.kind ≡ true → read top (head First) (t ∷ []) ≡ Err []

@@ -3,7 +3,7 @@ use Rattle.std.proofs.Common.{◌≡◌, ◌<◌, ℕ, zero, suc, ℤ, pos, negs
 use Rattle.homeo_syntax.specs.declared.workload.RangeDecl.{RangeDecl}
 use Rattle.homeo_reader.proofs.Bools.{and_split}
 use Rattle.std.specs.Prelude.{None}
-use Rattle.homeo_syntax.specs.Key.{words}
+use Rattle.homeo_syntax.specs.Key.{definitions}
 use Rattle.homeo_syntax.specs.declared.token.Mark.{Mark}
 use Rattle.homeo_syntax.specs.declared.token.Mark.TheVariants as mark
 use Rattle.homeo_syntax.specs.declared.token.Kind.{Kind}
@@ -38,37 +38,37 @@ natural_value (pos n) h = search std_rules
 natural_value (negsuc n) h = let no : ⊥ = cc in absurd no
 
 pub each_of : {A : Type 0} → (P Q : A → Type 0) → ((a : A) → P a → Q a) → (all : List A) → Every P all → Each Q all
-unfolding words
+unfolding definitions
 each_of P Q h [] e = tt
 each_of P Q h (a ∷ all) e = (h a e.0, each_of P Q h all e.1)
 
 each_exprs : (B : Ident → Type 0) (es : List s.Expr) → Every (EachInExpr B) es → EachInExprs B (exprs es)
-unfolding words
+unfolding definitions
 each_exprs B [] h = tt
 each_exprs B (e ∷ es) h = (h.0, each_exprs B es h.1)
 
 each_tests : (B : Ident → Type 0) (ts : List s.Test) → Every (EachInTest B) ts → EachInCond B (tests ts)
-unfolding words
+unfolding definitions
 each_tests B [] h = tt
 each_tests B (t ∷ ts) h = (h.0, each_tests B ts h.1)
 
 each_commands : (B : Ident → Type 0) (cs : List s.Command) → Every (EachInCommand B) cs → EachInCommands B (commands cs)
-unfolding words
+unfolding definitions
 each_commands B [] h = tt
 each_commands B (c ∷ cs) h = (h.0, each_commands B cs h.1)
 
 product_kept : (B : Ident → Type 0) (e : s.Expr) (fs : List s.Expr) → EachInExpr B e → Every (EachInExpr B) fs → EachInExpr B (product_of e fs)
-unfolding words
+unfolding definitions
 product_kept B e [] h k = h
 product_kept B e (f ∷ fs) h k = each_exprs B (e ∷ f ∷ fs) (h, k)
 
 sum_kept : (B : Ident → Type 0) (e : s.Expr) (fs : List s.Expr) → EachInExpr B e → Every (EachInExpr B) fs → EachInExpr B (sum_of e fs)
-unfolding words
+unfolding definitions
 sum_kept B e [] h k = h
 sum_kept B e (f ∷ fs) h k = each_exprs B (e ∷ f ∷ fs) (h, k)
 
 each_fields : (B : Ident → Type 0) (fs : List s.FieldValue) → Every (λ f. B f.field × EachInExpr B f.value) fs → EachInFields B fs
-unfolding words
+unfolding definitions
 each_fields B [] h = tt
 each_fields B (f ∷ fs) h = (h.0.0, h.0.1, each_fields B fs h.1)
 
@@ -122,7 +122,7 @@ module _ (n : ℕ) (M : Meaning) (hyp : (c : Deep) → Sound M (λ t. Named n t.
       (λ p h. product_kept B p.0 p.1 h.0 h.1))
 
   expr_kept : Sound M F rules.expr E
-  unfolding words
+  unfolding definitions
   expr_kept =
       sound_part M F _ E (sound_as M F _ _ _ E
       (sound_seq M F _ _ E (Every E) term_kept
@@ -144,7 +144,7 @@ module _ (n : ℕ) (M : Meaning) (hyp : (c : Deep) → Sound M (λ t. Named n t.
 
   -- with each name before it
   after_name_kept : Sound M F rules.after_name (λ f. (x : Ident) → B x → E (f x))
-  unfolding words
+  unfolding definitions
   after_name_kept =
       sound_part M F _ _
       (sound_alt M F _ _ _ (sound_as M F _ _ (λ p. E p.0 × B p.1) (λ f. (x : Ident) → B x → E (f x))
@@ -154,7 +154,7 @@ module _ (n : ℕ) (M : Meaning) (hyp : (c : Deep) → Sound M (λ t. Named n t.
       (sound_nothing M F s.Name (λ f. (x : Ident) → B x → E (f x)) (λ x b. b))))
 
   factor_kept : Sound M F rules.factor E
-  unfolding words
+  unfolding definitions
   factor_kept =
       sound_alt M F _ _ E (sound_token M F _ _ _ _ E (λ t h f. tt))
       (sound_alt M F _ _ E (sound_as M F s.Neg _ E E (sound_lead M F mark.Minus _ E (hyp Factor)) (λ a h. h))
@@ -170,7 +170,7 @@ module _ (n : ℕ) (M : Meaning) (hyp : (c : Deep) → Sound M (λ t. Named n t.
       (sound_as M F _ _ _ E (sound_seq M F _ _ B (λ f. (x : Ident) → B x → E (f x)) ident_kept after_name_kept) (λ p h. h.1 p.0 h.0)))))))
 
   test_kept : Sound M F rules.test (EachInTest B)
-  unfolding words
+  unfolding definitions
   test_kept =
       sound_alt M F _ _ (EachInTest B) (sound_as M F _ _ (λ u. Unit {0}) (EachInTest B) (anything _) (λ a h. tt))
       (sound_alt M F _ _ (EachInTest B)
@@ -181,7 +181,7 @@ module _ (n : ℕ) (M : Meaning) (hyp : (c : Deep) → Sound M (λ t. Named n t.
       (λ p h. (h.0, h.1.1))))
 
   block_kept : (v : Version) → Sound M F (rules.block v) (EachInCommands B)
-  unfolding words
+  unfolding definitions
   block_kept v =
       sound_part M F _ (EachInCommands B) (sound_lead M F mark.OpenBrace _ (EachInCommands B) (sound_closed M F mark.CloseBrace _ (EachInCommands B)
       (sound_alt M F _ _ (EachInCommands B)
@@ -192,7 +192,7 @@ module _ (n : ℕ) (M : Meaning) (hyp : (c : Deep) → Sound M (λ t. Named n t.
 
   -- with each name before it
   setting_kept : Sound M F rules.setting (λ f. (x : Ident) → B x → EachInCommand B (f x))
-  unfolding words
+  unfolding definitions
   setting_kept =
       sound_part M F _ _
       (sound_alt M F _ _ _ (sound_as M F _ _ E (λ f. (x : Ident) → B x → EachInCommand B (f x)) (sound_lead M F mark.Assign _ E expr_kept)
@@ -217,7 +217,7 @@ module _ (n : ℕ) (M : Meaning) (hyp : (c : Deep) → Sound M (λ t. Named n t.
   field_values_kept = sound_part M F _ _ (listed_kept mark.Comma rules.field_value (λ f. B f.field × E f.value) field_value_kept)
 
   common_kept : (v : Version) → Sound M F (rules.common_command v) (EachInCommand B)
-  unfolding words
+  unfolding definitions
   common_kept v =
       sound_alt M F _ _ (EachInCommand B) (sound_as M F _ _ (λ u. Unit {0}) (EachInCommand B) (anything _) (λ a h. tt))
       (sound_alt M F _ _ (EachInCommand B) (sound_as M F s.Block _ (EachInCommands B) (EachInCommand B) (block_kept v) (λ a h. h))
@@ -254,7 +254,7 @@ module _ (n : ℕ) (M : Meaning) (hyp : (c : Deep) → Sound M (λ t. Named n t.
       (λ p h. (h.0.0, h.0.1.0, h.0.1.1, h.1.0, h.1.1)))))))))))
 
   command_kept : (v : Version) → Sound M F (rules.command v) (EachInCommand B)
-  unfolding words
+  unfolding definitions
   command_kept First = common_kept First
   command_kept Second =
       sound_alt M F _ _ (EachInCommand B) (sound_as M F _ _ (λ u. Unit {0}) (EachInCommand B) (anything _) (λ a h. tt)) (common_kept Second)
@@ -316,7 +316,7 @@ module _ (n : ℕ) (M : Meaning) (hyp : (c : Deep) → Sound M (λ t. Named n t.
       (λ p h. ((h.0, each_of (λ k. B k.name) (λ k. B k.name) (λ a x. x) p.1.1 h.1.1), h.1.0)))
 
   schedule_kept : Sound M F rules.schedule (InSchedule B)
-  unfolding words
+  unfolding definitions
   schedule_kept =
       sound_part M F _ _ (sound_alt M F _ _ (InSchedule B)
       (sound_as M F _ _ (Every B) (InSchedule B) (sound_lead M F mark.Schedule _ _ (sound_many M F _ B ident_kept)) (λ a h. each_of B B (λ x y. y) a h))
@@ -347,7 +347,7 @@ module _ (n : ℕ) (M : Meaning) (hyp : (c : Deep) → Sound M (λ t. Named n t.
       (λ p h. h.1)))
 
   pub workload_kept : (v : Version) (names : List (List ℕ)) → Sound M F (rules.workload v names) (IsKept n v names)
-  unfolding words
+  unfolding definitions
   workload_kept v names =
       sound_as M F _ _ _ (IsKept n v names)
       (sound_seq M F _ _ (IsHead v) _ (head_kept v)

@@ -6,7 +6,7 @@ use Rattle.std.specs.Str.{bytes_eq}
 use Rattle.std.proofs.lemmas.Bool.{cases_lt}
 use Rattle.std.proofs.Math.ListN.{get_or-append}
 use Rattle.std.proofs.Math.Seq.{get_or-append_seam}
-use Rattle.homeo_syntax.specs.Key.{words}
+use Rattle.homeo_syntax.specs.Key.{definitions}
 use Rattle.homeo_syntax.specs.Source as s
 use Rattle.homeo_syntax.specs.declared.token.Version.{Version}
 use Rattle.homeo_syntax.specs.Lexemes.{Lexeme, Name, Number, Fixed}
@@ -22,7 +22,7 @@ use Rattle.homeo_reader.proofs.Kept.{Named, IsKept, workload_named}
 
 -- ---- spelling
 each_last : (v : Version) (names : List (List ℕ)) (w : List ℕ) → Each (IsName v) names → IsName v w → Each (IsName v) (names ++ w ∷ [])
-unfolding words
+unfolding definitions
 each_last v [] w h k = (k, tt)
 each_last v (n ∷ names) w h k = (h.0, each_last v names w h.1 k)
 
@@ -95,7 +95,7 @@ fine_tokens all (t ∷ ts) h = (go t.lexeme h.0, fine_tokens all ts h.1)
 
 -- ---- well formed
 names_ok : (text : List ℕ) (scanned : List Scanned) → scanned_of text ≡ Ok scanned → Each (IsName (version_of scanned)) (names_of scanned)
-unfolding words
+unfolding definitions
 names_ok text scanned e = spelled_after (version_of scanned) scanned [] tt (scanned_spelled text scanned e)
 
 kept : (text : List ℕ) (w : s.Workload) → (r : Reads text w) → IsKept (length (names_of r.scanned)) (version_of r.scanned) (names_of r.scanned) w

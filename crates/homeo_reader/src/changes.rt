@@ -13,7 +13,12 @@ use std::alloc::Global;
 impl<'a> Parser<'a> {
     /// The command that sets what begins with this name.
     #[tactic(auto, using(crate::proofs::CommandSteps::setting_reads, homeo_syntax::proofs::SourceViews::command_views), unfolding(crate::specs::inner::Commands::setting_do, crate::specs::inner::Commands::setting_by))]
-    pub fn setting(&mut self, alloc: Global, name: Ident, room: u32) -> Result<Command, Fault>
+    pub(crate) fn setting(
+        &mut self,
+        alloc: Global,
+        name: Ident,
+        room: u32,
+    ) -> Result<Command, Fault>
         requires { 0 < room }
         ensures { Gives plain_command result self.new.rest.now (setting_read room name self.old.rest.now) }
     {
@@ -134,7 +139,7 @@ impl<'a> Parser<'a> {
 
     /// What follows `insert`.
     #[tactic(auto, using(homeo_syntax::proofs::SourceViews::command_views), unfolding(crate::specs::inner::Commands::insert_read))]
-    pub fn insert_after_word(&mut self, alloc: Global, room: u32) -> Result<Command, Fault>
+    pub(crate) fn insert_after_word(&mut self, alloc: Global, room: u32) -> Result<Command, Fault>
         requires { 0 < room }
         ensures { Gives plain_command result self.new.rest.now (insert_read room self.old.rest.now) }
     {
@@ -153,7 +158,7 @@ impl<'a> Parser<'a> {
 
     /// What follows `delete`.
     #[tactic(auto, using(homeo_syntax::proofs::SourceViews::command_views), unfolding(crate::specs::inner::Commands::delete_read))]
-    pub fn delete_after_word(&mut self, alloc: Global, room: u32) -> Result<Command, Fault>
+    pub(crate) fn delete_after_word(&mut self, alloc: Global, room: u32) -> Result<Command, Fault>
         requires { 0 < room }
         ensures { Gives plain_command result self.new.rest.now (delete_read room self.old.rest.now) }
     {
@@ -171,7 +176,7 @@ impl<'a> Parser<'a> {
 
     /// What follows `update`.
     #[tactic(auto, using(crate::proofs::CommandSteps::field_of_view, crate::proofs::CommandSteps::value_of_view, homeo_syntax::proofs::SourceViews::command_views), unfolding(crate::specs::inner::Commands::update_read))]
-    pub fn update_after_word(&mut self, alloc: Global, room: u32) -> Result<Command, Fault>
+    pub(crate) fn update_after_word(&mut self, alloc: Global, room: u32) -> Result<Command, Fault>
         requires { 0 < room }
         ensures { Gives plain_command result self.new.rest.now (update_read room self.old.rest.now) }
     {

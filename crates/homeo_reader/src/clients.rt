@@ -173,7 +173,7 @@ impl<'a> Parser<'a> {
     }
 
     /// The clients, as many as come.
-    pub fn clients(&mut self, alloc: Global) -> Result<List<Client>, Fault>
+    pub(crate) fn clients(&mut self, alloc: Global) -> Result<List<Client>, Fault>
         ensures { Gives (λ l. client_views l.items) result self.new.rest.now (clients_read self.old.rest.now) }
     {
         let mut items = List::new(alloc);

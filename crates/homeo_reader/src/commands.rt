@@ -176,8 +176,8 @@ impl<'a> Parser<'a> {
 
     /// A block, which is empty where no phrase may go deeper.
     #[cycle(command)]
-    #[tactic(auto, using(crate::proofs::CommandSteps::block_reads), unfolding(crate::specs::inner::Commands::block_do, homeo_syntax::specs::Key::words))]
-    pub fn block(
+    #[tactic(auto, using(crate::proofs::CommandSteps::block_reads), unfolding(crate::specs::inner::Commands::block_do, homeo_syntax::specs::Key::definitions))]
+    pub(crate) fn block(
         &mut self,
         alloc: Global,
         version: Version,

@@ -10,11 +10,11 @@ use std::alloc::Global;
 
 /// `name of relation when test`, which visits the used slots where the test holds.
 #[derive(Drop)]
-pub struct Visit {
+pub(crate) struct Visit {
     /// The row, or the row's field that is added up.
-    pub name: Ident,
-    pub relation: Ident,
-    pub test: Cond,
+    pub(crate) name: Ident,
+    pub(crate) relation: Ident,
+    pub(crate) test: Cond,
 }
 
 impl<'a> Parser<'a> {
@@ -90,7 +90,7 @@ impl<'a> Parser<'a> {
     /// Takes a condition, of one test or more.
     #[cycle(expr)]
     #[tactic(auto, using(crate::proofs::ExprSteps::cond_reads), unfolding(crate::specs::inner::Reading::cond_do))]
-    pub fn cond(&mut self, alloc: Global, room: u32) -> Result<Cond, Fault>
+    pub(crate) fn cond(&mut self, alloc: Global, room: u32) -> Result<Cond, Fault>
         requires { 0 < room }
         ensures { Gives plain_cond result self.new.rest.now (cond_read room self.old.rest.now) }
     {
@@ -102,7 +102,7 @@ impl<'a> Parser<'a> {
     /// Which slots are visited.
     #[cycle(expr)]
     #[tactic(auto, using(crate::proofs::ExprSteps::visit_reads), unfolding(crate::specs::inner::Reading::visit_do))]
-    pub fn visit(&mut self, alloc: Global, room: u32) -> Result<Visit, Fault>
+    pub(crate) fn visit(&mut self, alloc: Global, room: u32) -> Result<Visit, Fault>
         requires { 0 < room }
         ensures { Gives visit_view result self.new.rest.now (visit_read room self.old.rest.now) }
     {

@@ -45,7 +45,7 @@ impl<'a> Parser<'a> {
     }
 
     /// The objects, as many as come.
-    pub fn objects(&mut self, alloc: Global) -> Result<List<ObjectDecl>, Fault>
+    pub(crate) fn objects(&mut self, alloc: Global) -> Result<List<ObjectDecl>, Fault>
         ensures { Gives (λ l. l.items) result self.new.rest.now (objects_read self.old.rest.now) }
     {
         let mut items = List::new(alloc);
@@ -150,7 +150,7 @@ impl<'a> Parser<'a> {
     }
 
     /// The relations, as many as come.
-    pub fn relations(&mut self, alloc: Global) -> Result<List<RelationDecl>, Fault>
+    pub(crate) fn relations(&mut self, alloc: Global) -> Result<List<RelationDecl>, Fault>
         ensures { Gives (λ l. relation_views l.items) result self.new.rest.now (relations_read self.old.rest.now) }
     {
         let mut items = List::new(alloc);
@@ -209,7 +209,7 @@ impl<'a> Parser<'a> {
     }
 
     /// The transactions, as many as come.
-    pub fn transactions(
+    pub(crate) fn transactions(
         &mut self,
         alloc: Global,
         version: Version,

@@ -222,7 +222,7 @@ impl<'a> Parser<'a> {
     /// Takes an expression, which is a sum of one term or more.
     #[cycle(expr)]
     #[tactic(auto, using(crate::proofs::ExprSteps::expr_reads), unfolding(crate::specs::inner::Reading::expr_do))]
-    pub fn expr(&mut self, alloc: Global, room: u32) -> Result<Expr, Fault>
+    pub(crate) fn expr(&mut self, alloc: Global, room: u32) -> Result<Expr, Fault>
         requires { 0 < room }
         ensures { Gives plain_expr result self.new.rest.now (expr_read room self.old.rest.now) }
     {

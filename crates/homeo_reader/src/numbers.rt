@@ -9,7 +9,7 @@ use homeo_syntax::{Kind, Mark, Number};
 
 impl<'a> Parser<'a> {
     /// Takes a number.
-    pub fn number(&mut self) -> Result<Number, Fault>
+    pub(crate) fn number(&mut self) -> Result<Number, Fault>
         ensures gives { Gives same result self.new.rest.now (number_read self.old.rest.now) }
         ensures natural { IfOk result (λ n. pos 0 ≤ℤ n.value) }
     {
@@ -30,7 +30,7 @@ impl<'a> Parser<'a> {
 
     /// Takes a number with or without a sign.
     #[tactic(auto, using(crate::proofs::DeclarationSteps::signed_reads), unfolding(crate::specs::inner::Declarations::signed_do, crate::specs::inner::Declarations::signed_by))]
-    pub fn signed(&mut self) -> Result<Number, Fault>
+    pub(crate) fn signed(&mut self) -> Result<Number, Fault>
         ensures { Gives same result self.new.rest.now (signed_read self.old.rest.now) }
     {
         match self.rest.split_first() {
@@ -51,7 +51,7 @@ impl<'a> Parser<'a> {
 
     /// Takes a range, as its lower and its upper bound.
     #[tactic(auto, using(crate::proofs::DeclarationSteps::range_reads), unfolding(crate::specs::inner::Declarations::range_do))]
-    pub fn range(&mut self) -> Result<(Number, Number), Fault>
+    pub(crate) fn range(&mut self) -> Result<(Number, Number), Fault>
         ensures { Gives same result self.new.rest.now (range_read self.old.rest.now) }
     {
         let lo = self.signed()?;

@@ -8,7 +8,7 @@ use std::alloc::{AllocError, AllocFailed};
 
 /// Why nothing was read.
 #[derive(Clone, Copy, Debug, PartialEq, Eq)]
-pub enum Fault {
+pub(crate) enum Fault {
     /// There was not enough memory.
     Memory,
     /// No phrase goes on with the next token, which is then still there, or there is none.
@@ -50,13 +50,13 @@ impl From<Memory> for Fault {
 
 /// The tokens that are left. After a fault the first of them is the one at fault.
 #[derive(Drop)]
-pub struct Parser<'a> {
-    pub rest: &'a [Token],
+pub(crate) struct Parser<'a> {
+    pub(crate) rest: &'a [Token],
 }
 
 impl<'a> Parser<'a> {
     /// Takes this mark.
-    pub fn expect(&mut self, mark: Mark) -> Result<(), Fault>
+    pub(crate) fn expect(&mut self, mark: Mark) -> Result<(), Fault>
         ensures { Gives same result self.new.rest.now (mark_read mark self.old.rest.now) }
     {
         match self.rest.split_first() {
@@ -73,7 +73,7 @@ impl<'a> Parser<'a> {
     }
 
     /// Takes a name.
-    pub fn name(&mut self) -> Result<Ident, Fault>
+    pub(crate) fn name(&mut self) -> Result<Ident, Fault>
         ensures { Gives same result self.new.rest.now (ident_read self.old.rest.now) }
     {
         match self.rest.split_first() {
@@ -92,7 +92,7 @@ impl<'a> Parser<'a> {
     }
 
     /// Takes this mark, if it comes next.
-    pub fn takes(&mut self, mark: Mark) -> bool
+    pub(crate) fn takes(&mut self, mark: Mark) -> bool
         ensures { TakesMark result mark self.old.rest.now self.new.rest.now }
     {
         match self.rest.split_first() {
@@ -110,7 +110,7 @@ impl<'a> Parser<'a> {
 }
 
 /// One item and then others, as a list.
-pub fn list_of<T: Drop>(first: T, mut others: Vec<T>) -> Result<List<T>, Fault>
+pub(crate) fn list_of<T: Drop>(first: T, mut others: Vec<T>) -> Result<List<T>, Fault>
     ensures ok { IfOk result (λ l. l.items ≡ first ∷ others.items) }
     ensures memory { IfErr result (λ e. e ≡ Fault.Memory) }
 {

@@ -143,7 +143,7 @@ impl<'a> Parser<'a> {
 
     /// A workload of this version with these names.
     #[tactic(auto, using(crate::proofs::DeclarationSteps::workload_reads, homeo_syntax::proofs::SourceViews::workload_views), unfolding(crate::specs::inner::Declarations::workload_do))]
-    pub fn workload(
+    pub(crate) fn workload(
         &mut self,
         alloc: Global,
         version: Version,

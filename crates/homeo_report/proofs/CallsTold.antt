@@ -7,11 +7,11 @@ use Rattle.std.proofs.lemmas.Bool.Decides.{nat_tests}
 use Rattle.homeo_syntax.specs.Source as s
 use Rattle.homeo_meaning.specs.Schema.{nat_of}
 use Rattle.homeo_meaning.specs.declared.call.CallId.{CallId}
-use Rattle.homeo_history.specs.Key.{words as histories}
+use Rattle.homeo_history.specs.Key.{definitions as history_definitions}
 use Rattle.homeo_history.specs.History.{Entry, Closing, Round}
 use Rattle.homeo_history.specs.Legal.{site_of, IsCallAt, IsAtSites, entries_of, numbers_of}
-use Rattle.homeo_report.specs.Key.{words}
-use Rattle.homeo_print.specs.Key.{words as prints}
+use Rattle.homeo_report.specs.Key.{definitions}
+use Rattle.homeo_print.specs.Key.{definitions as print_definitions}
 use Rattle.homeo_print.specs.Names.{name_text}
 use Rattle.homeo_report.specs.Report.{client_text}
 use Rattle.homeo_report.proofs.Splits.{cons_head, cons_tail, not_nil}
@@ -28,7 +28,7 @@ pub record IsOfClient (w : s.Workload) (id : CallId) : Type 0 where
 
 -- ---- clients by their names
 client_text_found : (w : s.Workload) (id : CallId) (c : s.Client) → slice_get w.clients id.client ≡ Some c → client_text w id ≡ name_text w c.name
-unfolding words prints
+unfolding definitions print_definitions
 client_text_found w id c found = ap (λ o. option_map_or (λ (client : s.Client). name_text w client.name) o []) found
 
 client_same : (w : s.Workload) → HasDistinctClients w → (x y : CallId) → IsOfClient w x → IsOfClient w y → client_text w x ≡ client_text w y → x.client ≡ y.client
@@ -37,13 +37,13 @@ client_same w d x y p q e =
 
 -- ---- numbers
 numbers_here : (c : ℕ) (x : CallId) (xs : List CallId) → x.client ≡ c → numbers_of c (x ∷ xs) ≡ x.seq ∷ numbers_of c xs
-unfolding histories
+unfolding history_definitions
 numbers_here c x xs e =
     let q : (x.client == c) ≡ true = grind (arith, nat_tests) in
     ap (λ b. map (λ (call : CallId). call.seq) (cond b (x ∷ filter (λ (call : CallId). call.client == c) xs) (filter (λ (call : CallId). call.client == c) xs))) q
 
 numbers_other : (c : ℕ) (x : CallId) (xs : List CallId) → (x.client == c) ≡ false → numbers_of c (x ∷ xs) ≡ numbers_of c xs
-unfolding histories
+unfolding history_definitions
 numbers_other c x xs q =
     ap (λ b. map (λ (call : CallId). call.seq) (cond b (x ∷ filter (λ (call : CallId). call.client == c) xs) (filter (λ (call : CallId). call.client == c) xs))) q
 
@@ -68,7 +68,7 @@ calls_same w d (x ∷ xs) (y ∷ ys) p q e n =
 
 -- ---- all calls of a legal history are of clients
 of_client : (w : s.Workload) (id : CallId) (site : ℕ) → site_of w id ≡ Some site → IsOfClient w id
-unfolding histories
+unfolding history_definitions
 of_client w id site e = by (slice_get w.clients id.client) refl e
   where
     by : (o : Option s.Client) → slice_get w.clients id.client ≡ o → option_map (λ (client : s.Client). nat_of client.site.value) o ≡ Some site → IsOfClient w id
@@ -86,7 +86,7 @@ segments_of_clients w n (s ∷ segments) h =
     (segments_of_clients w (n + 1) segments (λ i. All-weaker (λ (e : Entry). site_of w e.call ≡ Some (n + suc i)) (λ (e : Entry). site_of w e.call ≡ Some ((n + 1) + i)) (λ e at. let m : n + suc i ≡ (n + 1) + i = omega arith in at ∙ ap Some m) (slice_index_or segments i []) (h (suc i))))
 
 round_of_clients : (w : s.Workload) (r : Round) → IsAtSites w r → All (IsEntryOfClient w) (entries_of r)
-unfolding histories
+unfolding history_definitions
 round_of_clients w r at =
     All-append (IsEntryOfClient w) (flat r.segments) (option_to_list (option_map (λ (c : Closing). c.entry) r.closing))
     (segments_of_clients w 0 r.segments (λ i. All-weaker (λ (e : Entry). IsCallAt w i e.call) (λ (e : Entry). site_of w e.call ≡ Some (0 + i)) (λ e at. let m : i ≡ 0 + i = omega arith in at.at_site ∙ ap Some m) (slice_index_or r.segments i []) (at.segments i)))

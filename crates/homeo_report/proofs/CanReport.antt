@@ -4,11 +4,11 @@ use Rattle.std.specs.Prelude.{ℤ}
 use Rattle.std.specs.List.{flat_map}
 use Rattle.std.proofs.lemmas.List.{length-map}
 use Rattle.homeo_syntax.specs.Source as s
-use Rattle.homeo_meaning.specs.Key.{words as meanings}
+use Rattle.homeo_meaning.specs.Key.{definitions as meaning_definitions}
 use Rattle.homeo_meaning.specs.Schema.{Declared, declared_object, declared_range, declared_relation, nat_of, schema_of}
 use Rattle.homeo_meaning.specs.Bounds.{Bounds, bounds_of, slot_bounds, relation_bounds, all_bounds, AreIn, IsWithin}
 use Rattle.homeo_history.specs.History.{History}
-use Rattle.homeo_print.specs.Key.{words as prints}
+use Rattle.homeo_print.specs.Key.{definitions as print_definitions}
 use Rattle.homeo_print.specs.Names.{declared_names, slot_names, relation_names, object_names}
 use Rattle.homeo_print.proofs.NamedObjects.{first_names, first_names_more, length_slot_names, relation_names_are, length_declared}
 use Rattle.homeo_report.specs.Report.{CanReport}
@@ -20,7 +20,7 @@ length_within (b ∷ bounds) [] h = absurd h
 length_within (b ∷ bounds) (v ∷ values) h = ap suc (length_within bounds values h.1)
 
 slots_alike : (w : s.Workload) (r : s.RelationDecl) (n : ℕ) → length (slot_bounds n (map declared_range r.fields)) ≡ length (first_names w r n)
-unfolding meanings
+unfolding meaning_definitions
 slots_alike w r zero = refl
 slots_alike w r (suc n) =
     let fields : List Declared = map declared_range r.fields in
@@ -37,7 +37,7 @@ slots_alike w r (suc n) =
     )
 
 relations_alike : (w : s.Workload) (relations : List s.RelationDecl) → length (relation_bounds (map declared_relation relations)) ≡ length (flat_map (relation_names w) relations)
-unfolding meanings
+unfolding meaning_definitions
 relations_alike w [] = refl
 relations_alike w (r ∷ relations) =
     omega (
@@ -50,7 +50,7 @@ relations_alike w (r ∷ relations) =
     )
 
 pub length_object_bounds : (w : s.Workload) → length (all_bounds (schema_of w)) ≡ length (object_names w)
-unfolding prints meanings
+unfolding print_definitions meaning_definitions
 length_object_bounds w =
     let objects : List Declared = map declared_object w.objects in
     omega (
@@ -64,5 +64,5 @@ length_object_bounds w =
     )
 
 pub can_report : (w : s.Workload) (h : History) → IsWithin (schema_of w) h.last → CanReport w h
-unfolding meanings
+unfolding meaning_definitions
 can_report w h within = record { values = length_within (all_bounds (schema_of w)) h.last within ∙ length_object_bounds w }

@@ -7,7 +7,7 @@ use Rattle.std.proofs.lemmas.List.{take_more, take-append-drop, length-map}
 use Rattle.std.proofs.lemmas.List.Folds.{flat_map-map}
 use Rattle.std.proofs.lemmas.Grind.{flat_map-append}
 use Rattle.homeo_syntax.specs.Source as s
-use Rattle.homeo_history.specs.Key.{words as histories}
+use Rattle.homeo_history.specs.Key.{definitions as history_definitions}
 use Rattle.homeo_history.specs.History as h
 use Rattle.homeo_history.specs.Legal.{entries_of, calls_of}
 use Rattle.homeo_history.specs.HistoryView.{plain_entry, plain_segment, plain_closing, plain_round}
@@ -16,12 +16,12 @@ use Rattle.homeo_history.specs.declared.history.Closing.{Closing}
 use Rattle.homeo_history.specs.declared.history.Round.{Round}
 use Rattle.homeo_print.specs.Names.{heading}
 use Rattle.homeo_print.proofs.OneMore.{views_more}
-use Rattle.homeo_report.specs.Key.{words}
+use Rattle.homeo_report.specs.Key.{definitions}
 use Rattle.homeo_report.specs.Report.{entry_line, entries_text, segment_text, segments_text, closing_heading, closing_text, round_text}
 
 -- ---- counting
 pub segments_count_more : (segments : List Segment) (i : ℕ) (s : Segment) → i < length segments → s ≡ get_or segments i s → length (flat_map plain_segment (take (i + 1) segments)) ≡ length (flat_map plain_segment (take i segments)) + length s.entries.items
-unfolding histories
+unfolding history_definitions
 segments_count_more segments i s within is =
     let all : flat_map plain_segment (take (i + 1) segments) ≡ flat_map plain_segment (take i segments) ++ plain_segment s =
     ap (flat_map plain_segment) (take_more segments i s within) ∙ flat_map-append plain_segment (take i segments) (get_or segments i s ∷ [])
@@ -43,7 +43,7 @@ closing_entries None = refl
 closing_entries (Some c) = refl
 
 pub length_entries_of : (r : Round) → length (entries_of (plain_round r)) ≡ length (flat_map plain_segment r.segments.items) + closing_count r.closing
-unfolding histories
+unfolding history_definitions
 length_entries_of r =
     length-append (flat_map (λ entries. entries) (map plain_segment r.segments.items)) (option_to_list (option_map (λ c. c.entry) (option_map plain_closing r.closing)))
     ∙ ap (λ l. length l + length (option_to_list (option_map (λ c. c.entry) (option_map plain_closing r.closing)))) (flat_map-map (λ (entries : List h.Entry). entries) plain_segment r.segments.items)
@@ -51,16 +51,16 @@ length_entries_of r =
 
 -- ---- a text is long enough
 line_is_long : (w : s.Workload) (e : h.Entry) → 1 ≤ length (entry_line w e)
-unfolding words
+unfolding definitions
 line_is_long w e = simp length-append (omega arith)
 
 entries_are_long : (w : s.Workload) (entries : List h.Entry) → length entries ≤ length (entries_text w entries)
-unfolding words
+unfolding definitions
 entries_are_long w [] = omega arith
 entries_are_long w (e ∷ entries) = omega (arith, line_is_long w e, entries_are_long w entries, length-append (entry_line w e) (entries_text w entries))
 
 segment_is_long : (w : s.Workload) (site : ℕ) (entries : List h.Entry) → length entries ≤ length (segment_text w site entries)
-unfolding words
+unfolding definitions
 segment_is_long w site entries = omega (arith, entries_are_long w entries, length-append (heading (codes "site ") site) (entries_text w entries))
 
 segments_are_long : (w : s.Workload) (k : ℕ) (segments : List (List h.Entry)) → length (flat_map (λ entries. entries) segments) ≤ length (flat_map (λ p. segment_text w p.0 p.1) (enumerate_from k segments))
@@ -69,13 +69,13 @@ segments_are_long w k (es ∷ segments) =
     omega (arith, segment_is_long w k es, segments_are_long w (k + 1) segments, length-append es (flat_map (λ entries. entries) segments), length-append (segment_text w k es) (flat_map (λ p. segment_text w p.0 p.1) (enumerate_from (k + 1) segments)))
 
 closing_is_long : (w : s.Workload) (o : Option h.Closing) → length (option_to_list (option_map (λ c. c.entry) o)) ≤ length (closing_text w o)
-unfolding words
+unfolding definitions
 closing_is_long w None = omega arith
 closing_is_long w (Some c) = omega (arith, line_is_long w c.entry, length-append (closing_heading c.site c.broken) (entry_line w c.entry))
 
 -- a round has at most as many calls as its text has bytes
 pub round_is_long : (w : s.Workload) (k : ℕ) (r : h.Round) → length (entries_of r) ≤ length (round_text w k r)
-unfolding words histories
+unfolding definitions history_definitions
 round_is_long w k r =
     let segments : List ℕ = segments_text w r.segments in
     omega (
@@ -89,7 +89,7 @@ round_is_long w k r =
 
 -- the calls of rounds, with one round more
 pub calls_more : (rounds : List Round) (i : ℕ) (r : Round) → i < length rounds → r ≡ get_or rounds i r → length (calls_of (map plain_round (take (i + 1) rounds))) ≡ length (calls_of (map plain_round (take i rounds))) + length (entries_of (plain_round r))
-unfolding histories
+unfolding history_definitions
 calls_more rounds i r within is =
     let first : List h.Round = map plain_round (take i rounds) in
     let all : flat_map entries_of (map plain_round (take (i + 1) rounds)) ≡ flat_map entries_of first ++ entries_of (plain_round r) =

@@ -5,19 +5,19 @@ use Rattle.std.specs.List.{list_all}
 use Rattle.std.proofs.lemmas.List.{map-append, length-map, get_or-append-add}
 use Rattle.std.proofs.lemmas.Option.{get_or_from_slice_get, slice_get-map, slice_get_within, unwrap_or-slice_get}
 use Rattle.std.proofs.lemmas.Bool.Decides.{nat_tests}
-use Rattle.homeo_syntax.specs.Key.{words as syntax}
+use Rattle.homeo_syntax.specs.Key.{definitions as syntax_definitions}
 use Rattle.homeo_syntax.specs.Source as s
 use Rattle.homeo_syntax.specs.Lexemes.{is_word}
 use Rattle.homeo_syntax.specs.declared.token.Version.{Version}
 use Rattle.homeo_syntax.specs.WellFormed.{IsName, Each, IsBelow, IsWellFormed}
 use Rattle.homeo_syntax.specs.declared.phrase.Ident.{Ident}
 use Rattle.homeo_syntax.specs.declared.workload.ObjectDecl.{ObjectDecl}
-use Rattle.homeo_meaning.specs.Key.{words as meanings}
+use Rattle.homeo_meaning.specs.Key.{definitions as meaning_definitions}
 use Rattle.homeo_meaning.specs.GlobalNames.{GlobalName, numbered_from, global_names}
 use Rattle.homeo_meaning.specs.declared.rules.Item.{Item}
 use Rattle.homeo_meaning.specs.declared.rules.Item.TheVariants as I
-use Rattle.homeo_report.specs.Key.{words}
-use Rattle.homeo_print.specs.Key.{words as prints}
+use Rattle.homeo_report.specs.Key.{definitions}
+use Rattle.homeo_print.specs.Key.{definitions as print_definitions}
 use Rattle.homeo_print.specs.Names.{name_text}
 use Rattle.homeo_report.proofs.Splits.{all_weaker}
 use Rattle.homeo_report.proofs.Bytes.{is_not}
@@ -35,7 +35,7 @@ word_no_space : (b : ℕ) → is_word b ≡ true → is_not 32 b ≡ true
 word_no_space b h = grind (arith, nat_tests)
 
 names_pass : (p : ℕ → Bool) → ((b : ℕ) → is_word b ≡ true → p b ≡ true) → (v : Version) (names : List (List ℕ)) → Each (IsName v) names → (i : ℕ) → list_all p (unwrap_or (slice_get names i) []) ≡ true
-unfolding syntax
+unfolding syntax_definitions
 names_pass p f v [] h i = refl
 names_pass p f v (n ∷ names) h zero = all_weaker is_word p n f h.0.all
 names_pass p f v (n ∷ names) h (suc i) = names_pass p f v names h.1 i
@@ -68,7 +68,7 @@ abbrev global_numbers : List GlobalName → List ℕ
 global_numbers ds = map (λ (x : Ident). x.name) (map (λ (d : GlobalName). d.name) ds)
 
 numbered : (kind : ℕ → Item) (i : ℕ) (cs : List s.Client) → global_numbers (numbered_from kind i (map (λ (c : s.Client). c.name) cs)) ≡ map (λ (c : s.Client). c.name.name) cs
-unfolding meanings
+unfolding meaning_definitions
 numbered kind i [] = refl
 numbered kind i (c ∷ cs) = ap (λ l. c.name.name ∷ l) (numbered kind (i + 1) cs)
 
@@ -80,7 +80,7 @@ others w =
     ++ numbered_from I.Transaction 0 (map (λ (d : s.Transaction). d.name) w.transactions)
 
 clients_last : (w : s.Workload) → global_numbers (global_names w) ≡ global_numbers (others w) ++ client_numbers w
-unfolding meanings
+unfolding meaning_definitions
 clients_last w =
     let clients : List GlobalName = numbered_from I.Client 0 (map (λ (c : s.Client). c.name) w.clients) in
     ap (map (λ (x : Ident). x.name)) (map-append (λ (d : GlobalName). d.name) (others w) clients)
@@ -95,13 +95,13 @@ client_place w i c found =
     option_at e = ap (option_map (λ (c : s.Client). c.name.name)) e
 
 each_at : {A : Type 0} (P : A → Type 0) (xs : List A) (i : ℕ) (x : A) → Each P xs → slice_get xs i ≡ Some x → P x
-unfolding syntax
+unfolding syntax_definitions
 each_at P [] i x h e = cc
 each_at P (y ∷ xs) zero x h e = subst P (some_is y x e) h.0
 each_at P (y ∷ xs) (suc i) x h e = each_at P xs i x h.1 e
 
 pub distinct_clients : (w : s.Workload) → IsWellFormed w → AllPairs (λ m n. m ≢ n) (global_numbers (global_names w)) → HasDistinctClients w
-unfolding words prints
+unfolding definitions print_definitions
 distinct_clients w well apart = record { distinct = same }
   where
     below : (i : ℕ) (c : s.Client) → slice_get w.clients i ≡ Some c → c.name.name < length w.names

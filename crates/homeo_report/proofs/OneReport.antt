@@ -4,7 +4,7 @@ use Rattle.std.specs.Prelude.{All}
 use Rattle.std.proofs.lemmas.List.Elements.{All-map}
 use Rattle.homeo_syntax.specs.Source as s
 use Rattle.homeo_meaning.specs.Initial.{initial}
-use Rattle.homeo_history.specs.Key.{words as histories}
+use Rattle.homeo_history.specs.Key.{definitions as history_definitions}
 use Rattle.homeo_history.specs.Legal.{first_base, entries_of, calls_of, base_or, IsLegal, IsFull}
 use Rattle.homeo_plan.specs.Planned.{sites_of}
 use Rattle.homeo_history.specs.History.{Entry, Round, History}
@@ -19,12 +19,12 @@ some_is : {X : Type 0} (x y : X) → Some x ≡ Some y → x ≡ y
 some_is x y e = cc
 
 base_first : (w : s.Workload) (rounds : List Round) (last : List ℤ) → first_base rounds ≡ Some (initial w) → base_or rounds last ≡ initial w
-unfolding histories
+unfolding history_definitions
 base_first w [] last e = cc
 base_first w (r ∷ rounds) last e = some_is r.base (initial w) e
 
 calls_of_clients : (w : s.Workload) (counts : List ℕ) (h : History) → IsLegal w counts h → All (IsOfClient w) (calls_of h.rounds)
-unfolding histories
+unfolding history_definitions
 calls_of_clients w counts h legal =
     All-map (IsOfClient w) (λ (e : Entry). e.call) (flat_map entries_of h.rounds) (rounds_of_clients w h.rounds legal.at_sites)
 
@@ -32,7 +32,7 @@ calls_of_clients w counts h legal =
 pub same_rounds :
     (w : s.Workload) → HasPlainNames w → HasDistinctClients w → (counts : List ℕ) (h g : History) → IsLegal w counts h →
     IsLegal w counts g → report w h ≡ report w g → SameRounds h.rounds g.rounds h.last g.last
-unfolding histories
+unfolding history_definitions
 same_rounds w names distinct counts h g p q e =
     let blocks : map (block w) h.rounds ≡ map (block w) g.rounds =
     blocks_told w names (sites_of w) h g p.framed.segments q.framed.segments e in
@@ -46,7 +46,7 @@ same_rounds w names distinct counts h g p q e =
 pub one_report :
     (w : s.Workload) → HasPlainNames w → HasDistinctClients w → (h g : History) → IsFull w h → IsFull w g →
     report w h ≡ report w g → h ≡ g
-unfolding histories
+unfolding history_definitions
 one_report w names distinct h g p q e =
     let same = same_rounds w names distinct (map (λ (client : s.Client). length client.calls) w.clients) h g p q e in
     λ i. record { rounds = same.rounds i; last = same.last i }

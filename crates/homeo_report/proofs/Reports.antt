@@ -4,11 +4,11 @@ use Rattle.std.specs.Prelude.{All, option_map}
 use Rattle.std.specs.Option.{option_to_list}
 use Rattle.std.proofs.lemmas.List.{map-append, length-map}
 use Rattle.homeo_syntax.specs.Source as s
-use Rattle.homeo_history.specs.Key.{words as histories}
+use Rattle.homeo_history.specs.Key.{definitions as history_definitions}
 use Rattle.homeo_history.specs.History as h
 use Rattle.homeo_history.specs.Legal.{entries_of, calls_of}
 use Rattle.homeo_print.specs.Names.{object_names}
-use Rattle.homeo_report.specs.Key.{words}
+use Rattle.homeo_report.specs.Key.{definitions}
 use Rattle.homeo_report.specs.Report.{client_text, object_lines, totals_line}
 use Rattle.homeo_history.specs.History.{Closing, Round, History}
 use Rattle.homeo_report.specs.Report.{report}
@@ -28,7 +28,7 @@ tail_of w h =
     object_lines (object_names w) h.last ++ totals_line (length h.rounds) (length (calls_of h.rounds))
 
 report_split : (w : s.Workload) (h : History) → report w h ≡ join (lines_of w 0 h.rounds) ++ (codes "database" ++ 10 ∷ tail_of w h)
-unfolding words
+unfolding definitions
 report_split w h =
     let front : List ℕ = join (lines_of w 0 h.rounds) in
     let objects : List ℕ = object_lines (object_names w) h.last in
@@ -58,7 +58,7 @@ closed_kept w None = refl
 closed_kept w (Some c) = refl
 
 shape_kept : (w : s.Workload) (r : Round) → shape r ≡ block_shape (block w r)
-unfolding words block_shape
+unfolding definitions block_shape
 shape_kept w r = λ i. record { sizes = sizes_kept w r.segments i; closed = closed_kept w r.closing i }
 
 shapes_kept : (w : s.Workload) (rounds : List Round) → map shape (rounds) ≡ map block_shape (map (block w) rounds)
@@ -77,12 +77,12 @@ flat_kept w [] = refl
 flat_kept w (s ∷ segments) = map-append (entry_words w) s (flat segments) ∙ ap (λ l. map (entry_words w) s ++ l) (flat_kept w segments)
 
 closing_kept : (w : s.Workload) (c : Option Closing) → map (entry_words w) (option_to_list (option_map (λ (c : h.Closing). c.entry) (c))) ≡ option_to_list (option_map (λ c. c.1) (option_map (closing_pair w) c))
-unfolding words
+unfolding definitions
 closing_kept w None = refl
 closing_kept w (Some c) = refl
 
 entries_kept : (w : s.Workload) (rounds : List Round) → map (entry_words w) (flat_map entries_of rounds) ≡ flat_map block_entries (map (block w) rounds)
-unfolding words histories block_entries
+unfolding definitions history_definitions block_entries
 entries_kept w [] = refl
 entries_kept w (r ∷ rounds) =
     let last : List h.Entry = option_to_list (option_map (λ (c : h.Closing). c.entry) r.closing) in
@@ -99,7 +99,7 @@ clients_read w names (x ∷ xs) (y ∷ ys) e =
     λ i. here i ∷ rest i
 
 pub clients_told : (w : s.Workload) → HasPlainNames w → (rs ks : List Round) → map (block w) rs ≡ map (block w) ks → map (client_text w) (calls_of rs) ≡ map (client_text w) (calls_of ks)
-unfolding histories
+unfolding history_definitions
 clients_told w names rs ks e =
     clients_read w names (flat_map entries_of rs) (flat_map entries_of ks)
     (entries_kept w rs ∙ ap (flat_map block_entries) e ∙ sym (entries_kept w ks))

@@ -8,8 +8,8 @@ use Rattle.std.proofs.lemmas.List.Folds.{flat_map-map}
 use Rattle.std.proofs.lemmas.Grind.{flat_map-append}
 use Rattle.homeo_syntax.specs.Source as s
 use Rattle.homeo_history.specs.History.{Entry}
-use Rattle.homeo_report.specs.Key.{words}
-use Rattle.homeo_print.specs.Key.{words as prints}
+use Rattle.homeo_report.specs.Key.{definitions}
+use Rattle.homeo_print.specs.Key.{definitions as print_definitions}
 use Rattle.homeo_report.specs.Report.{entries_text, segment_text, segments_text}
 use Rattle.homeo_history.specs.History.{Closing, Round}
 use Rattle.homeo_plan.specs.declared.treaty.Broken.{Broken}
@@ -34,11 +34,11 @@ join_append : (a b : List (List ℕ)) → join (a ++ b) ≡ join a ++ join b
 join_append a b = flat_map-append (λ (l : List ℕ). l ++ 10 ∷ []) a b
 
 entries_join : (w : s.Workload) (entries : List Entry) → entries_text w entries ≡ join (map (entry_words w) entries)
-unfolding words prints
+unfolding definitions print_definitions
 entries_join w entries = sym (flat_map-map (λ (l : List ℕ). l ++ 10 ∷ []) (entry_words w) entries)
 
 segments_join : (w : s.Workload) (i : ℕ) (segments : List (List Entry)) → flat_map (λ (s : ℕ × List Entry). segment_text w s.0 s.1) (enumerate_from i segments) ≡ join (segments_lines site_words i (map (map (entry_words w)) segments))
-unfolding words prints
+unfolding definitions print_definitions
 segments_join w i [] = refl
 segments_join w i (s ∷ segments) =
     let rest : List ℕ = flat_map (λ (s : ℕ × List Entry). segment_text w s.0 s.1) (enumerate_from (i + 1) segments) in
@@ -48,12 +48,12 @@ segments_join w i (s ∷ segments) =
     ∙ ap (λ t. (site_words i ++ 10 ∷ []) ++ t) (ap₂ ◌++◌ (entries_join w s) (segments_join w (i + 1) segments) ∙ sym (join_append lines more))
 
 closing_join : (w : s.Workload) (c : Option Closing) → closing_text w c ≡ join (closing_lines (option_map (closing_pair w) c))
-unfolding words prints
+unfolding definitions print_definitions
 closing_join w None = refl
 closing_join w (Some c) = ap (λ t. (closing_words c.site c.broken ++ 10 ∷ []) ++ t) (sym (append-nil (entry_words w c.entry ++ 10 ∷ [])))
 
 rounds_join : (w : s.Workload) (n : ℕ) (rounds : List Round) → flat_map (λ (r : ℕ × Round). round_text w r.0 r.1) (enumerate_from n rounds) ≡ join (lines_of w n rounds)
-unfolding words prints
+unfolding definitions print_definitions
 rounds_join w n [] = refl
 rounds_join w n (r ∷ rounds) =
     let rest : List ℕ = flat_map (λ (r : ℕ × Round). round_text w r.0 r.1) (enumerate_from (n + 1) rounds) in
@@ -67,7 +67,7 @@ rounds_join w n (r ∷ rounds) =
     ∙ ap (λ t. head ++ t) (ap₂ ◌++◌ (segments_join w 0 r.segments) inner ∙ sym (join_append segments (closing ++ more)))
 
 pub rounds_text_join : (w : s.Workload) (rounds : List Round) → rounds_text w rounds ≡ join (lines_of w 0 rounds)
-unfolding words prints
+unfolding definitions print_definitions
 rounds_text_join w rounds = rounds_join w 0 rounds
 
 -- ---- what all lines pass

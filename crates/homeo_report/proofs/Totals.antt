@@ -1,6 +1,6 @@
 -- How many numbers entries, segments and rounds printed, with one more of them.
-use Rattle.homeo_history.specs.Key.{words as histories}
-use Rattle.homeo_report.specs.Key.{words}
+use Rattle.homeo_history.specs.Key.{definitions as history_definitions}
+use Rattle.homeo_report.specs.Key.{definitions}
 use Rattle.std.proofs.Common.{◌≡◌, ℕ, ◌+◌, ◌<◌, List, [], ◌∷◌, ◌++◌, map, length, take, get_or, append-nil, length-append, Some, None, sym, ap, ◌∙◌}
 use Rattle.std.specs.List.{flat_map}
 use Rattle.std.specs.Option.{option_map, option_to_list}
@@ -19,19 +19,19 @@ use Rattle.homeo_report.specs.Summary.{prints_in, prints_of}
 
 -- of two lists of entries, the one's and the other's
 pub both_prints : (xs ys : List h.Entry) → length (prints_in (xs ++ ys)) ≡ length (prints_in xs) + length (prints_in ys)
-unfolding words
+unfolding definitions
 both_prints xs ys =
     ap length (flat_map-append (λ (e : h.Entry). e.prints) xs ys) ∙ length-append (prints_in xs) (prints_in ys)
 
 pub one_prints : (e : h.Entry) → length (prints_in (e ∷ [])) ≡ length e.prints
-unfolding words
+unfolding definitions
 one_prints e = ap length (append-nil e.prints)
 
 pub entries_print :
     (entries : List Entry) (i : ℕ) (e : Entry) → i < length entries → e ≡ get_or entries i e →
     length (prints_in (map plain_entry (take (i + 1) entries))) ≡
     length (prints_in (map plain_entry (take i entries))) + length e.prints.items
-unfolding histories
+unfolding history_definitions
 entries_print entries i e within is =
     ap (λ es. length (prints_in es)) (views_more plain_entry entries i e within is)
     ∙ both_prints (map plain_entry (take i entries)) (plain_entry e ∷ [])
@@ -49,7 +49,7 @@ pub segments_print :
     (segments : List Segment) (i : ℕ) (s : Segment) → i < length segments → s ≡ get_or segments i s →
     length (prints_in (flat_map plain_segment (take (i + 1) segments))) ≡
     length (prints_in (flat_map plain_segment (take i segments))) + length (prints_in (map plain_entry s.entries.items))
-unfolding histories
+unfolding history_definitions
 segments_print segments i s within is =
     ap (λ es. length (prints_in es)) (segments_more segments i s within is)
     ∙ both_prints (flat_map plain_segment (take i segments)) (plain_segment s)
@@ -58,7 +58,7 @@ pub rounds_print :
     (rounds : List Round) (i : ℕ) (r : Round) → i < length rounds → r ≡ get_or rounds i r →
     length (prints_of (map plain_round (take (i + 1) rounds))) ≡
     length (prints_of (map plain_round (take i rounds))) + length (prints_in (entries_of (plain_round r)))
-unfolding words
+unfolding definitions
 rounds_print rounds i r within is =
     let first : List h.Round = map plain_round (take i rounds) in
     ap (λ rs. length (prints_in (flat_map entries_of rs))) (views_more plain_round rounds i r within is)
@@ -67,7 +67,7 @@ rounds_print rounds i r within is =
 
 -- ---- a round's entries
 pub open_entries : (r : Round) → r.closing ≡ None → entries_of (plain_round r) ≡ flat_map plain_segment r.segments.items
-unfolding histories
+unfolding history_definitions
 open_entries r e =
     ap (λ o. flat_map (λ (es : List h.Entry). es) (map plain_segment r.segments.items) ++ option_to_list (option_map (λ (c : h.Closing). c.entry) (option_map plain_closing o))) e
     ∙ append-nil (flat_map (λ (es : List h.Entry). es) (map plain_segment r.segments.items))
@@ -76,7 +76,7 @@ open_entries r e =
 pub closed_entries :
     (r : Round) (c : Closing) → r.closing ≡ Some c →
     entries_of (plain_round r) ≡ flat_map plain_segment r.segments.items ++ plain_entry c.entry ∷ []
-unfolding histories
+unfolding history_definitions
 closed_entries r c e =
     ap (λ o. flat_map (λ (es : List h.Entry). es) (map plain_segment r.segments.items) ++ option_to_list (option_map (λ (c : h.Closing). c.entry) (option_map plain_closing o))) e
     ∙ ap (λ l. l ++ plain_entry c.entry ∷ []) (flat_map-map (λ (es : List h.Entry). es) plain_segment r.segments.items)
@@ -85,7 +85,7 @@ pub closed_prints :
     (r : Round) (c : Closing) → r.closing ≡ Some c →
     length (prints_in (entries_of (plain_round r))) ≡
     length (prints_in (flat_map plain_segment r.segments.items)) + length c.entry.prints.items
-unfolding histories
+unfolding history_definitions
 closed_prints r c e =
     ap (λ es. length (prints_in es)) (closed_entries r c e)
     ∙ both_prints (flat_map plain_segment r.segments.items) (plain_entry c.entry ∷ [])

@@ -8,8 +8,8 @@ use Rattle.homeo_syntax.specs.Source as s
 use Rattle.homeo_syntax.specs.declared.phrase.Ident.{Ident}
 use Rattle.homeo_meaning.specs.declared.call.CallId.{CallId}
 use Rattle.homeo_meaning.specs.Serial.{call_of, arguments}
-use Rattle.homeo_report.specs.Key.{words}
-use Rattle.homeo_print.specs.Key.{words as prints}
+use Rattle.homeo_report.specs.Key.{definitions}
+use Rattle.homeo_print.specs.Key.{definitions as print_definitions}
 use Rattle.homeo_print.specs.Calls.{more_arguments_text, arguments_text, call_text}
 use Rattle.homeo_print.specs.Names.{name_text, numbers_text}
 use Rattle.homeo_report.specs.Report.{client_text, made_text}
@@ -32,7 +32,7 @@ numbers_no_space = record { digits = λ d l. digit_is_not d 32 l (λ e. omega (a
 
 -- a test that the names of the workload pass
 pub client_all : (w : s.Workload) (p : ℕ → Bool) → ((i : ℕ) → list_all p (unwrap_or (slice_get w.names i) []) ≡ true) → (id : CallId) → list_all p (client_text w id) ≡ true
-unfolding words prints
+unfolding definitions print_definitions
 client_all w p names id = by (slice_get w.clients id.client)
   where
     by : (c : Option s.Client) → list_all p (option_map_or (λ (client : s.Client). name_text w client.name) c []) ≡ true
@@ -49,16 +49,16 @@ module _ (w : s.Workload) (p : ℕ → Bool) (n : PassesNumbers p) (names : (i :
   signed z = signed_all p n.digits n.minus z
 
   more_all : (args : List ℤ) → list_all p (more_arguments_text args) ≡ true
-  unfolding words prints
+  unfolding definitions print_definitions
   more_all args = all_flat_map p (λ (a : ℤ). codes ", " ++ signed_decimal a) args (λ a. all_append p (codes ", ") (signed_decimal a) (and_both (p 44) _ comma (and_both (p 32) _ space refl)) (signed a))
 
   arguments_all : (args : List ℤ) → list_all p (arguments_text args) ≡ true
-  unfolding words prints
+  unfolding definitions print_definitions
   arguments_all [] = refl
   arguments_all (a ∷ more) = all_append p (signed_decimal a) (more_arguments_text more) (signed a) (more_all more)
 
   call_all : (name : Ident) (args : List ℤ) → list_all p (call_text w name args) ≡ true
-  unfolding words prints
+  unfolding definitions print_definitions
   call_all name args =
       all_append p (name_text w name ++ codes "(" ++ arguments_text args) (codes ")")
       (all_append p (name_text w name ++ codes "(") (arguments_text args)
@@ -67,7 +67,7 @@ module _ (w : s.Workload) (p : ℕ → Bool) (n : PassesNumbers p) (names : (i :
       (and_both (p 41) _ close_mark refl)
 
   pub made_all : (id : CallId) → list_all p (made_text w id) ≡ true
-  unfolding words prints
+  unfolding definitions print_definitions
   made_all id = by (call_of w id)
     where
       by : (c : Option s.Call) → list_all p (option_map_or (λ (c : s.Call). call_text w c.name (arguments c)) c []) ≡ true
@@ -75,5 +75,5 @@ module _ (w : s.Workload) (p : ℕ → Bool) (n : PassesNumbers p) (names : (i :
       by (Some c) = call_all c.name (arguments c)
 
   pub prints_all : (prints : List ℤ) → list_all p (numbers_text prints) ≡ true
-  unfolding words prints
+  unfolding definitions print_definitions
   prints_all prints = all_flat_map p (λ (v : ℤ). codes " " ++ signed_decimal v) prints (λ v. and_both (p 32) _ space (signed v))

@@ -1,5 +1,5 @@
 //! Appending calls and entries.
-#![tactic(auto, using(homeo_syntax::proofs::SourceViews::workload_views), unfolding(crate::specs::Key::words, homeo_meaning::specs::Key::words))]
+#![tactic(auto, using(homeo_syntax::proofs::SourceViews::workload_views), unfolding(crate::specs::Key::definitions, homeo_meaning::specs::Key::definitions))]
 
 ghost use Rattle.std.specs.Prelude.{◌≡◌, ◌++◌, map, IfOk, OnOk, option_map, slice_get};
 ghost use Rattle.std.specs.Option.{option_copied};
@@ -83,7 +83,7 @@ fn push_made(out: &mut Vec<u8>, w: &Workload, id: CallId) -> Result<(), Memory>
 }
 
 /// Appends the line of an entry.
-pub fn push_entry(out: &mut Vec<u8>, w: &Workload, entry: &Entry) -> Result<(), Memory>
+pub(crate) fn push_entry(out: &mut Vec<u8>, w: &Workload, entry: &Entry) -> Result<(), Memory>
     ensures { OnOk result (out.new.items
         ≡ out.old.items ++ entry_line (plain_workload w.now) (plain_entry entry.now)) }
 {

@@ -8,7 +8,7 @@ use homeo_print::{ObjectNames, push_bytes, push_signed};
 use homeo_syntax::Memory;
 
 /// Appends the line of an object.
-#[tactic(auto, unfolding(crate::specs::Key::words))]
+#[tactic(auto, unfolding(crate::specs::Key::definitions))]
 fn push_line(
     out: &mut Vec<u8>,
     names: &ObjectNames,
@@ -28,7 +28,11 @@ fn push_line(
 
 /// Appends the lines of all objects.
 #[tactic(auto, using(crate::proofs::ObjectLines::object_steps))]
-pub fn push_objects(out: &mut Vec<u8>, names: &ObjectNames, values: &[i64]) -> Result<(), Memory>
+pub(crate) fn push_objects(
+    out: &mut Vec<u8>,
+    names: &ObjectNames,
+    values: &[i64],
+) -> Result<(), Memory>
     requires { length values.now ≡ length names.now }
     ensures { OnOk result (out.new.items ≡ out.old.items ++ object_lines names.now values.now) }
 {

@@ -1,5 +1,5 @@
 //! Appending rounds, and the whole report.
-#![tactic(auto, using(crate::proofs::RoundLines::round_steps, crate::proofs::Counts::length_entries_of), unfolding(crate::specs::Key::words, homeo_history::specs::Key::words))]
+#![tactic(auto, using(crate::proofs::RoundLines::round_steps, crate::proofs::Counts::length_entries_of), unfolding(crate::specs::Key::definitions, homeo_history::specs::Key::definitions))]
 
 ghost use Rattle.std.specs.Prelude.{◌≡◌, ◌^◌, ◌<◌, ◌++◌, map, length, option_map, IfOk, OnOk};
 ghost use Rattle.std.specs.List.{flat_map};

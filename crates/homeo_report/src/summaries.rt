@@ -1,5 +1,5 @@
 //! The text of a summary: how many calls a history has, how much they printed, and the database that they leave.
-#![tactic(auto, unfolding(crate::specs::Key::words, homeo_history::specs::Key::words))]
+#![tactic(auto, unfolding(crate::specs::Key::definitions, homeo_history::specs::Key::definitions))]
 
 ghost use Rattle.std.specs.Prelude.{◌≡◌, ◌+◌, map, length, option_map, IfOk};
 ghost use Rattle.std.specs.List.{flat_map};

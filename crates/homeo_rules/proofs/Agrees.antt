@@ -5,7 +5,7 @@ use Rattle.std.proofs.lemmas.List.{length-set}
 use Rattle.std.proofs.lemmas.List.Concat.{flat_map-append}
 use Rattle.std.proofs.lemmas.Bool.Decides.{nat_tests}
 use Rattle.std.proofs.lemmas.List.Folds.{list_any-append}
-use Rattle.homeo_meaning.specs.Key.{words as meaning_words}
+use Rattle.homeo_meaning.specs.Key.{definitions as meaning_definitions}
 use Rattle.homeo_meaning.specs.Bindings.{Row, Scope, binding, item_or, row_or, local_binding, row_relation}
 use Rattle.homeo_meaning.specs.Occurrences.{Mark, Occurrence, DeclaresRow, TakesObject, TakesRelation, TakesValue, TakesField, NamesField, FillsFields, Assigns}
 use Rattle.homeo_meaning.specs.NameRules.{judge}
@@ -17,7 +17,7 @@ use Rattle.homeo_meaning.specs.declared.rules.Local.{Local}
 use Rattle.homeo_meaning.specs.declared.rules.Local.TheVariants as L
 use Rattle.homeo_meaning.specs.declared.rules.Binding.{Binding}
 use Rattle.homeo_meaning.specs.declared.rules.Binding.TheVariants as B
-use Rattle.homeo_rules.specs.inner.Key.{words}
+use Rattle.homeo_rules.specs.inner.Key.{definitions}
 use Rattle.homeo_rules.specs.inner.Follow.{Standing, local_at, assigned, locals_after, step, follow}
 use Rattle.homeo_rules.proofs.Steps.{keep_all-append}
 
@@ -40,14 +40,14 @@ or_true true = refl
 or_true false = refl
 
 pub in_more : (ts : List ℕ) (n m : ℕ) → is_in m (ts ++ n ∷ []) ≡ (is_in m ts || (n == m))
-unfolding words meaning_words
+unfolding definitions meaning_definitions
 in_more ts n m = list_any-append (λ k. k == m) ts (n ∷ []) ∙ or-false (list_any (λ k. k == m) ts) (n == m)
 
 abbrev kind_of : Bool → Bool → Local
 kind_of p t = cond p L.Parameter (cond t L.Temporary L.Absent)
 
 local-is : (ps ts : List ℕ) (m : ℕ) → local_of ps ts m ≡ kind_of (is_in m ps) (is_in m ts)
-unfolding words meaning_words
+unfolding definitions meaning_definitions
 local-is ps ts m = refl
 
 pub or-nothing : (b : Bool) → b ≡ (b || false)
@@ -110,14 +110,14 @@ module _ (s : Scope) (ps : List ℕ) where
   made p = makes (binding s (local_of ps []) p.rows) p.mark
 
   after_assigns : (l : List Local) (ts : List ℕ) (rows : List Row) (n : ℕ) → n < length l → Agree l ts → (m : ℕ) → local_at (assigned (binding s (local_at l) rows n) l n) m ≡ local_of ps (ts ++ becomes (binding s (local_of ps []) rows n) n) m
-  unfolding words meaning_words
+  unfolding definitions meaning_definitions
   after_assigns l ts rows n lt e m =
       let agree : (k : ℕ) → local_at l k ≡ local_of ps ts k = λ k. ap (λ f. f k) e in
       ap (λ v. local_at (assigned (item_or (s.item n) (row_or (row_relation rows n) v)) l n) m) (agree n)
       ∙ by_scope l ps ts n lt agree (s.item n) (row_relation rows n) m
 
   after_place : (l : List Local) (ts : List ℕ) (rows : List Row) (k : Mark) → TargetWithin (length l) k → Agree l ts → Agree (locals_after (binding s (local_at l) rows) l k) (ts ++ makes (binding s (local_of ps []) rows) k)
-  unfolding words meaning_words
+  unfolding definitions meaning_definitions
   after_place l ts rows (Assigns t) lt e = as_path _ _ (after_assigns l ts rows t.name lt e)
   after_place l ts rows (TakesObject x) lt e = e ∙ ap (local_of ps) (sym (append-nil ts))
   after_place l ts rows (TakesValue x) lt e = e ∙ ap (local_of ps) (sym (append-nil ts))
@@ -128,7 +128,7 @@ module _ (s : Scope) (ps : List ℕ) where
   after_place l ts rows (FillsFields q fs) lt e = e ∙ ap (local_of ps) (sym (append-nil ts))
 
   same_length : (l : List Local) (m : ℕ → Binding) (k : Mark) → length (locals_after m l k) ≡ length l
-  unfolding words meaning_words
+  unfolding definitions meaning_definitions
   same_length l m (Assigns t) = of_meaning (m t.name)
     where
       of_meaning : (v : Binding) → length (assigned v l t.name) ≡ length l
@@ -146,7 +146,7 @@ module _ (s : Scope) (ps : List ℕ) where
   same_length l m (FillsFields q fs) = refl
 
   made_more : (before : List Occurrence) (p : Occurrence) → temporaries s ps (before ++ p ∷ []) ≡ temporaries s ps before ++ makes (binding s (local_of ps []) p.rows) p.mark
-  unfolding words meaning_words
+  unfolding definitions meaning_definitions
   made_more before p =
       flat_map-append (λ (q : Occurrence). makes (binding s (local_of ps []) q.rows) q.mark) before (p ∷ [])
       ∙ ap (λ xs. temporaries s ps before ++ xs) (append-nil (makes (binding s (local_of ps []) p.rows) p.mark))
@@ -156,7 +156,7 @@ module _ (s : Scope) (ps : List ℕ) where
 
   -- following the places keeps the fault that decides among theirs
   pub follows : (n : ℕ) (k : Standing) (before places : List Occurrence) → length k.locals ≡ n → Agree k.locals (temporaries s ps before) → TargetsWithin n places → (follow s k places).best ≡ keep_all k.best (each_from rule before places)
-  unfolding words meaning_words
+  unfolding definitions meaning_definitions
   follows n k before [] len agree within = refl
   follows n k before (p ∷ places) len agree within =
       let here : TargetWithin (length k.locals) p.mark = subst (λ m. TargetWithin m p.mark) (sym len) within.0 in

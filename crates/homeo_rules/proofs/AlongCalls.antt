@@ -7,7 +7,7 @@ use Rattle.std.proofs.lemmas.List.{drop_all}
 use Rattle.std.proofs.lemmas.List.Sums.{sum_by-append}
 use Rattle.std.proofs.lemmas.Bool.Decides.{nat_tests}
 use Rattle.homeo_syntax.specs.Source as s
-use Rattle.homeo_meaning.specs.Key.{words as meaning_words}
+use Rattle.homeo_meaning.specs.Key.{definitions as meaning_definitions}
 use Rattle.homeo_meaning.specs.TransactionRules.{each_from}
 use Rattle.homeo_meaning.specs.GlobalNames as g
 use Rattle.homeo_meaning.specs.Schema.{nat_of, schema_of}
@@ -73,7 +73,7 @@ drop-next (d ∷ calls) (suc i) c h e =
 
 -- one more item of a rule that looks at those before
 pub each-next : (rule : List g.SitedCall → g.SitedCall → List Fault) (best : Option Fault) (before rest : List g.SitedCall) (c : g.SitedCall) → keep_all best (each_from rule before (c ∷ rest)) ≡ keep_all (keep_all best (rule before c)) (each_from rule (before ++ c ∷ []) rest)
-unfolding meaning_words
+unfolding meaning_definitions
 each-next rule best before rest c = keep_all-append best (rule before c) (each_from rule (before ++ c ∷ []) rest)
 
 -- what is kept so far, and what the rule says of the rest
@@ -81,14 +81,14 @@ abbrev pub left_of : (List g.SitedCall → g.SitedCall → List Fault) → Optio
 left_of rule best calls i = keep_all best (each_from rule (before_of calls i) (after_of calls i))
 
 pub one_more : (rule : List g.SitedCall → g.SitedCall → List Fault) (best : Option Fault) (calls : List MeasuredCall) (i : ℕ) (c : MeasuredCall) → i < length calls → get_or calls i c ≡ c → left_of rule best calls i ≡ left_of rule (keep_all best (rule (before_of calls i) (call_of c))) calls (i + 1)
-unfolding meaning_words
+unfolding meaning_definitions
 one_more rule best calls i c h e =
     ap (λ l. keep_all best (each_from rule (before_of calls i) l)) (drop-next calls i c h e)
     ∙ each-next rule best (before_of calls i) (after_of calls (i + 1)) (call_of c)
     ∙ ap (λ l. keep_all (keep_all best (rule (before_of calls i) (call_of c))) (each_from rule l (after_of calls (i + 1)))) (sym (take-next calls i c h e))
 
 pub none_more : (rule : List g.SitedCall → g.SitedCall → List Fault) (best : Option Fault) (calls : List MeasuredCall) (i : ℕ) → length calls ≤ i → left_of rule best calls i ≡ best
-unfolding meaning_words
+unfolding meaning_definitions
 none_more rule best calls i h = ap (λ l. keep_all best (each_from rule (before_of calls i) (map call_of l))) (drop_all i calls h)
 
 abbrev pub sum_before : (g.SitedCall → ℕ) → List MeasuredCall → ℕ → ℕ

@@ -7,7 +7,7 @@ use Rattle.std.specs.Cmp.Lexicographic.{pointwise}
 use Rattle.std.proofs.lemmas.Int.{ints}
 use Rattle.std.proofs.lemmas.Bool.Decides.{nat_tests}
 use Rattle.homeo_syntax.specs.Source as s
-use Rattle.homeo_meaning.specs.Key.{words as meaning_words}
+use Rattle.homeo_meaning.specs.Key.{definitions as meaning_definitions}
 use Rattle.homeo_meaning.specs.Schema.{nat_of, schema_of}
 use Rattle.homeo_meaning.specs.CallForm.{body_form}
 use Rattle.homeo_meaning.specs.GlobalNames as g
@@ -48,7 +48,7 @@ same_body a b = (a.name == b.name) && pointwise int_eq a.args.items b.args.items
 
 -- ---- measures of calls that are alike
 measured_alike : (w : s.Workload) (c d : g.SitedCall) (o : Option Measure) → c.name.name ≡ d.name.name → c.args ≡ d.args → IsMeasuredAs w c o → IsMeasuredAs w d o
-unfolding meaning_words
+unfolding meaning_definitions
 measured_alike w c d o name args h =
     subst (λ (xs : List ℤ). IsMeasured (schema_of w) (nat_of w.sites.value) (body_form w (transaction_at w ((scope_of w).item d.name.name)) xs) o) args
     (subst (λ (n : ℕ). IsMeasured (schema_of w) (nat_of w.sites.value) (body_form w (transaction_at w ((scope_of w).item n)) c.args) o) name h)

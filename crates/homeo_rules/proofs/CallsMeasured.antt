@@ -6,7 +6,7 @@ use Rattle.std.proofs.lemmas.List.{map-append}
 use Rattle.std.proofs.lemmas.List.Sums.{sum_by-append, sum_by-cons}
 use Rattle.std.proofs.lemmas.Bool.Decides.{nat_tests}
 use Rattle.homeo_syntax.specs.Source as s
-use Rattle.homeo_meaning.specs.Key.{words as meaning_words}
+use Rattle.homeo_meaning.specs.Key.{definitions as meaning_definitions}
 use Rattle.homeo_meaning.specs.NameRules.{when, fault}
 use Rattle.homeo_meaning.specs.TransactionRules.{each, each_from}
 use Rattle.homeo_meaning.specs.GlobalNames as g
@@ -38,19 +38,19 @@ told_last w a (n ∷ ms) m h k =
     assoc a b c = omega arith
 
 some_fault : (b : Bool) (fs : List Fault) (f : Fault) → fs ≡ f ∷ [] → b ≡ true → when b fs ≡ [] → ⊥
-unfolding meaning_words
+unfolding meaning_definitions
 some_fault true fs f e h k = cc
 some_fault false fs f e h k = cc
 
 known_measured : (w : s.Workload) (before : List g.SitedCall) (c : g.SitedCall) (o : Option Measure) → IsToldAfter w (sum_by (told_size w) before) c o → too_large (extent_of w) before c ≡ [] → IsMeasure (schema_of w) (nat_of w.sites.value) (call_form w c) (known o)
-unfolding meaning_words
+unfolding meaning_definitions
 known_measured w before c (Some m) h e = h
 known_measured w before c None h e =
     let yes : nat_lt 2000000 (sum_by (told_size w) before + told_size w c) ≡ true = grind (arith, nat_tests) in
     absurd (some_fault (nat_lt 200000 (extent_of w c).size || nat_lt 1000 (extent_of w c).depth || nat_lt 2000000 (sum_by (told_size w) before + told_size w c)) (fault Size c.name) _ refl (ap (λ b. nat_lt 200000 (extent_of w c).size || nat_lt 1000 (extent_of w c).depth || b) yes ∙ or_true (nat_lt 200000 (extent_of w c).size || nat_lt 1000 (extent_of w c).depth)) e)
 
 all_measured : (w : s.Workload) (before : List g.SitedCall) (ms : List MeasuredCall) → AreTold w (sum_by (told_size w) before) ms → each_from (too_large (extent_of w)) before (map call_of ms) ≡ [] → AreMeasured w ms
-unfolding meaning_words
+unfolding meaning_definitions
 all_measured w before [] h e = tt
 all_measured w before (m ∷ ms) h e =
     let sums : sum_by (told_size w) before + told_size w (call_of m) ≡ sum_by (told_size w) (before ++ call_of m ∷ []) =
@@ -60,7 +60,7 @@ all_measured w before (m ∷ ms) h e =
     )
 
 pub are_measured : (w : s.Workload) (ms : List MeasuredCall) → AreTold w 0 ms → each (too_large (extent_of w)) (map call_of ms) ≡ [] → AreMeasured w ms
-unfolding meaning_words
+unfolding meaning_definitions
 are_measured w ms h e = all_measured w [] ms h e
 
 -- ---- measuring one call after another
@@ -71,7 +71,7 @@ pub record MeasuringSo (w : s.Workload) (total : ℕ) (all : List MeasuredCall) 
   pub sum : AgreeUpTo 2000001 total (sum_by (λ (k : MeasuredCall). told_size w (call_of k)) all)
 
 next_total : (w : s.Workload) (total next before : ℕ) (c : g.SitedCall) (o : Option Measure) → AgreeUpTo 2000001 total before → IsToldAfter w before c o → next ≡ min 8000001 (total + (known o).size) → AgreeUpTo 2000001 next (before + told_size w c)
-unfolding meaning_words
+unfolding meaning_definitions
 next_total w total next before c (Some m) agree told added = total_known total next before (told_size w c) m.size agree added told.size
 next_total w total next before c None agree told added = total_unknown total next before (told_size w c) added told
 

@@ -3,17 +3,17 @@ use Rattle.std.proofs.Common.{◌≡◌, ℕ, ◌+◌, ◌*◌, Bool, true, fals
 use Rattle.std.specs.Prelude.{nat_le, nat_lt}
 use Rattle.std.proofs.lemmas.Bool.Decides.{nat_tests}
 use Rattle.std.proofs.lemmas.List.Sums.{sum_by-append}
-use Rattle.homeo_syntax.specs.Key.{words as syntax_words}
+use Rattle.homeo_syntax.specs.Key.{definitions as syntax_definitions}
 use Rattle.homeo_syntax.specs.declared.workload.ObjectDecl.{ObjectDecl}
 use Rattle.homeo_syntax.specs.declared.workload.RelationDecl.{RelationDecl}
 use Rattle.homeo_meaning.specs.declared.rules.Fault.{Fault}
-use Rattle.homeo_meaning.specs.Key.{words as meaning_words}
+use Rattle.homeo_meaning.specs.Key.{definitions as meaning_definitions}
 use Rattle.homeo_meaning.specs.Schema.{nat_of}
 use Rattle.homeo_meaning.specs.ListRules.{when, fault, each_from, each}
 use Rattle.homeo_meaning.specs.NumberRules.{Making, object_making, made, too_many_objects}
 use Rattle.homeo_rules.specs.inner.Deciding.{keep_all}
 use Rattle.homeo_meaning.specs.declared.rules.Phase.TheVariants.{Limits}
-use Rattle.homeo_rules.specs.inner.Key.{words}
+use Rattle.homeo_rules.specs.inner.Key.{definitions}
 use Rattle.homeo_rules.specs.inner.Counting.{Counted, counted, count_all, making_of}
 use Rattle.homeo_rules.proofs.Steps.{keep-none, keep-one, keep_all-append}
 
@@ -47,7 +47,7 @@ next_case n k more c false e =
     of_past false h t = t
 
 made_more : (before : List Making) (m : Making) → made (before ++ m ∷ []) ≡ made before + m.objects
-unfolding meaning_words
+unfolding meaning_definitions
 made_more before m = sum_by-append (λ (m : Making). m.objects) before (m ∷ []) ∙ ap (λ n. made before + n) (zero-add m.objects)
 
 abbrev along : Counted → List Making → Counted
@@ -55,7 +55,7 @@ along k [] = k
 along k (m ∷ ms) = along (counted k m) ms
 
 pub counts : (before : List Making) (k : Counted) (ms : List Making) → Capped (made before) k.count → (along k ms).best ≡ keep_all k.best (each_from too_many_objects before ms)
-unfolding meaning_words
+unfolding meaning_definitions
 counts before k [] c = refl
 counts before k (m ∷ ms) c =
     let n : ℕ = made before in
@@ -74,7 +74,7 @@ along-all making k (x ∷ xs) = along-all making (counted k (making x)) xs
 
 -- those of the objects, and then those of the relations
 pub objects-counted : (best : Option Fault) (os : List ObjectDecl) (qs : List RelationDecl) → (count_all making_of (count_all object_making (record { count = 0; best = best }) os) qs).best ≡ keep_all best (each too_many_objects (map object_making os ++ map making_of qs))
-unfolding meaning_words
+unfolding meaning_definitions
 objects-counted best os qs =
     let start : Counted = record { count = 0; best = best } in
     ap (λ k. k.best) (
@@ -91,7 +91,7 @@ objects-counted best os qs =
     first false e = e
 
 pub making-is : (q : RelationDecl) → making_of q ≡ record { name = q.name; objects = nat_of q.slots.value * (1 + length q.fields.items) }
-unfolding words meaning_words syntax_words
+unfolding definitions meaning_definitions syntax_definitions
 making-is q = refl
 
 pub ruleset counting = (keep-none, keep-one)

@@ -4,7 +4,7 @@ use Rattle.std.specs.List.{list_any, flat_map}
 use Rattle.std.proofs.lemmas.List.{length-map}
 use Rattle.homeo_syntax.specs.declared.phrase.Ident.{Ident}
 use Rattle.homeo_syntax.specs.declared.command.FieldValue.{FieldValue}
-use Rattle.homeo_meaning.specs.Key.{words as meaning_words}
+use Rattle.homeo_meaning.specs.Key.{definitions as meaning_definitions}
 use Rattle.homeo_meaning.specs.Bindings.{Scope}
 use Rattle.homeo_meaning.specs.ListRules.{when, fault, each_from, each, is_in, duplicate}
 use Rattle.homeo_meaning.specs.NameRules.{field_of, fills_all, fills_fields}
@@ -12,7 +12,7 @@ use Rattle.homeo_rules.specs.inner.Deciding.{keep_all}
 use Rattle.homeo_meaning.specs.declared.rules.Fault.{Fault}
 use Rattle.homeo_meaning.specs.declared.rules.Item.{Item}
 use Rattle.homeo_meaning.specs.declared.rules.Phase.TheVariants.{Duplicate}
-use Rattle.homeo_rules.specs.inner.Key.{words}
+use Rattle.homeo_rules.specs.inner.Key.{definitions}
 use Rattle.homeo_rules.specs.inner.Listwise.{along_all, along_each}
 use Rattle.homeo_rules.specs.inner.Plain.{named_fields}
 use Rattle.homeo_rules.specs.inner.Relations.{named_twice, value_field}
@@ -25,7 +25,7 @@ module _ {A : Type 0} (name : A → Ident) where
   twice before x = when (list_any (λ b. (name b).name == (name x).name) before) (fault Duplicate (name x))
 
   there-is : (before : List A) (n : ℕ) → is_in n (map (λ (y : Ident). y.name) (map name before)) ≡ list_any (λ b. (name b).name == n) before
-  unfolding meaning_words
+  unfolding meaning_definitions
   there-is [] n = refl
   there-is (b ∷ before) n = ap (λ c. ((name b).name == n) || c) (there-is before n)
 
@@ -34,7 +34,7 @@ module _ {A : Type 0} (name : A → Ident) where
   more (b ∷ before) x = ap (λ l. name b ∷ l) (more before x)
 
   pub twice-along : (before : List A) (best : Option Fault) (xs : List A) → along_each twice before best xs ≡ keep_all best (each_from duplicate (map name before) (map name xs))
-  unfolding meaning_words
+  unfolding meaning_definitions
   twice-along before best [] = refl
   twice-along before best (x ∷ xs) =
       twice-along (before ++ x ∷ []) (keep_all best (twice before x)) xs
@@ -43,7 +43,7 @@ module _ {A : Type 0} (name : A → Ident) where
       ∙ sym (keep_all-append best (duplicate (map name before) (name x)) (each_from duplicate (map name before ++ name x ∷ []) (map name xs)))
 
 pub insert-along : (s : Scope) (g : Option Item) (q : Ident) (fs : List FieldValue) (best : Option Fault) → keep_all best (fills_fields s g q (named_fields fs)) ≡ keep_all (along_all (value_field s g) (along_each named_twice [] best fs) fs) (fills_all s g q (length fs))
-unfolding words meaning_words
+unfolding definitions meaning_definitions
 insert-along s g q fs best =
     let names : List Ident = map (λ (f : FieldValue). f.field) fs in
     let a : List Fault = each duplicate names in

@@ -3,7 +3,7 @@ use Rattle.std.proofs.Common.{◌≡◌, ◌≢◌, ℕ, zero, suc, ◌+◌, ◌
 use Rattle.std.proofs.lemmas.List.{length-set, length-replicate}
 use Rattle.std.proofs.lemmas.Bool.Decides.{nat_tests}
 use Rattle.homeo_syntax.specs.declared.phrase.Ident.{Ident}
-use Rattle.homeo_meaning.specs.Key.{words as meaning_words}
+use Rattle.homeo_meaning.specs.Key.{definitions as meaning_definitions}
 use Rattle.homeo_meaning.specs.NameRules.{when, fault}
 use Rattle.homeo_meaning.specs.TransactionRules.{is_in, each_from}
 use Rattle.homeo_meaning.specs.GlobalNames.{duplicate, GlobalName, numbered_from, first_named}
@@ -11,7 +11,7 @@ use Rattle.homeo_rules.specs.inner.Deciding.{keep_all}
 use Rattle.homeo_meaning.specs.declared.rules.Phase.TheVariants.{Duplicate}
 use Rattle.homeo_meaning.specs.declared.rules.Fault.{Fault}
 use Rattle.homeo_meaning.specs.declared.rules.Item.{Item}
-use Rattle.homeo_rules.specs.inner.Key.{words}
+use Rattle.homeo_rules.specs.inner.Key.{definitions}
 use Rattle.homeo_rules.specs.inner.Scopes.{item_at}
 use Rattle.homeo_rules.specs.inner.Items.{Items, entered, enter, along_names}
 use Rattle.homeo_rules.proofs.Steps.{keep_all-append}
@@ -31,7 +31,7 @@ along-append t [] es = refl
 along-append t (d ∷ ds) es = along-append (enter t d.name d.item) ds es
 
 pub along-numbered : {A : Type 0} (name : A → Ident) (kind : ℕ → Item) (i : ℕ) (t : Items) (xs : List A) → along_names name kind i t xs ≡ along t (numbered_from kind i (map name xs))
-unfolding words meaning_words
+unfolding definitions meaning_definitions
 along-numbered name kind i t [] = refl
 along-numbered name kind i t (x ∷ xs) = along-numbered name kind (i + 1) (enter t (name x) (kind i)) xs
 
@@ -43,7 +43,7 @@ or_else (Some g) other = Some g
 or_else None other = other
 
 first_more : (before : List GlobalName) (d : GlobalName) (m : ℕ) → first_named (before ++ d ∷ []) m ≡ or_else (first_named before m) (cond (d.name.name == m) (Some d.item) None)
-unfolding words meaning_words
+unfolding definitions meaning_definitions
 first_more [] d m = refl
 first_more (b ∷ before) d m = by_case (b.name.name == m) (first_more before d m)
   where
@@ -53,7 +53,7 @@ first_more (b ∷ before) d m = by_case (b.name.name == m) (first_more before d 
 
 -- a name is there exactly where it was declared
 there_is : (before : List GlobalName) (m : ℕ) → is_some (first_named before m) ≡ is_in m (names (named before))
-unfolding words meaning_words
+unfolding definitions meaning_definitions
 there_is [] m = refl
 there_is (b ∷ before) m = by_case (b.name.name == m) (there_is before m)
   where
@@ -108,7 +108,7 @@ pub record Along (n : ℕ) (before : List GlobalName) (start t : Items) (ds : Li
   pub best : t.best ≡ keep_all start.best (each_from duplicate (named before) (named ds))
 
 alongs : (n : ℕ) (before : List GlobalName) (t : Items) (ds : List GlobalName) → length t.items ≡ n → ((m : ℕ) → item_at t.items m ≡ first_named before m) → NamesWithin n ds → Along n before t (along t ds) ds
-unfolding words meaning_words
+unfolding definitions meaning_definitions
 alongs n before t [] len agree within = record { agree = λ m. agree m ∙ ap (λ ds. first_named ds m) (sym (append-nil before)); best = refl }
 alongs n before t (d ∷ ds) len agree within =
     let x : Ident = d.name in
@@ -131,5 +131,5 @@ no_item (suc n) (suc m) = no_item n m
 
 -- from an empty table
 pub table_is : (n : ℕ) (best : Option Fault) (ds : List GlobalName) → NamesWithin n ds → Along n [] (record { items = replicate n None; best = best }) (along (record { items = replicate n None; best = best }) ds) ds
-unfolding words meaning_words
+unfolding definitions meaning_definitions
 table_is n best ds within = alongs n [] (record { items = replicate n None; best = best }) ds (length-replicate n None) (no_item n) within

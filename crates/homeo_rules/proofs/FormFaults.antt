@@ -1,13 +1,13 @@
 -- Which of the faults of L forms decides, by those of sizes and prints, and then of weights and rows.
 use Rattle.std.proofs.Common.{◌≡◌, true, false, List, [], ◌∷◌, ◌++◌, map, Option, Some, None, refl, sym, ap, subst, ◌∙◌, append_assoc}
 use Rattle.std.specs.List.{flat_map}
-use Rattle.homeo_syntax.specs.Key.{words as syntax_words}
+use Rattle.homeo_syntax.specs.Key.{definitions as syntax_definitions}
 use Rattle.homeo_syntax.specs.Source as s
 use Rattle.homeo_syntax.specs.SourceView.{plain_relation, plain_workload}
 use Rattle.homeo_syntax.specs.declared.workload.ObjectDecl.{ObjectDecl}
 use Rattle.homeo_syntax.specs.declared.workload.RelationDecl.{RelationDecl}
 use Rattle.homeo_syntax.specs.declared.workload.Workload.{Workload}
-use Rattle.homeo_meaning.specs.Key.{words as meaning_words}
+use Rattle.homeo_meaning.specs.Key.{definitions as meaning_definitions}
 use Rattle.homeo_rules.specs.inner.Deciding.{keep_all}
 use Rattle.homeo_meaning.specs.Faults.{form_faults}
 use Rattle.homeo_meaning.specs.GlobalNames.{sited_calls}
@@ -34,12 +34,12 @@ use Rattle.homeo_rules.proofs.Steps.{keep_all-append}
 
 -- ---- what is laid out
 relations-plain : (rs : List RelationDecl) → map relation_of rs ≡ map declared_relation (map plain_relation rs)
-unfolding meaning_words syntax_words
+unfolding meaning_definitions syntax_definitions
 relations-plain [] = refl
 relations-plain (r ∷ rs) = ap (λ l. relation_of r ∷ l) (relations-plain rs)
 
 pub schema-plain : (w : Workload) (os : List ObjectDecl) (rs : List RelationDecl) → os ≡ w.objects.items → rs ≡ w.relations.items → schema_with os rs ≡ schema_of (plain_workload w)
-unfolding meaning_words syntax_words
+unfolding meaning_definitions syntax_definitions
 schema-plain w os rs eo er =
     (λ i. schema_with (eo i) (er i)) ∙ ap (λ l. record { objects = map declared_object w.objects.items; relations = l }) (relations-plain w.relations.items)
 
@@ -49,7 +49,7 @@ few-objects w os rs eo er sound = subst HasFewObjects (sym (schema-plain w os rs
 -- ---- which decides
 -- a fault of sizes or prints comes before those of weights and rows
 pub sizes-decide : (purpose : Purpose) (w : s.Workload) (b : Option Fault) (f : Fault) → b ≡ keep_all None (size_faults w ++ print_faults w) → b ≡ Some f → b ≡ keep_all None (form_faults purpose w)
-unfolding meaning_words
+unfolding meaning_definitions
 sizes-decide purpose w b f e is =
     is
     ∙ sym (
@@ -58,7 +58,7 @@ sizes-decide purpose w b f e is =
     ∙ decides_first 7 8 10 (size_faults w ++ print_faults w) (weight_faults w ++ row_faults purpose w) f (sizes_in w) (later_in purpose w) (sym e ∙ is))
 
 pub after-sizes : (purpose : Purpose) (w : s.Workload) (b : Option Fault) → b ≡ keep_all None (size_faults w ++ print_faults w) → b ≡ None → keep_all None (weight_faults w ++ row_faults purpose w) ≡ keep_all None (form_faults purpose w)
-unfolding meaning_words
+unfolding meaning_definitions
 after-sizes purpose w b e none =
     sym (
     ap (keep_all None) (append_assoc (size_faults w ++ print_faults w) (weight_faults w) (row_faults purpose w))
@@ -73,13 +73,13 @@ grounds-plain w grounds measured found e m f = ap (map call_of) f ∙ m ∙ e
 
 -- where there is no fault of sizes, each ground call is measured
 pub all-measured : (w : s.Workload) (b : Option Fault) (ms : List MeasuredCall) → map call_of ms ≡ ground_calls w → AreTold w 0 ms → b ≡ keep_all None (size_faults w ++ print_faults w) → b ≡ None → AreMeasured w ms
-unfolding meaning_words
+unfolding meaning_definitions
 all-measured w b ms grounds told e none =
     let no_size : size_faults w ≡ [] = none_first (size_faults w) (print_faults w) (none_left (size_faults w ++ print_faults w) (sym e ∙ none)) in
     are_measured w ms told (ap (each (too_large (extent_of w))) grounds ∙ no_size)
 
 pub sizes-and-prints : (w : s.Workload) (ms : List MeasuredCall) (calls : List SitedCall) (one two : Option Fault) → map call_of ms ≡ ground_calls w → map sited calls ≡ sited_calls w → one ≡ keep_all None (each (too_large (extent_of w)) (map call_of ms)) → two ≡ keep_all one (each (prints_too_much_in w) (map sited calls)) → two ≡ keep_all None (size_faults w ++ print_faults w)
-unfolding meaning_words
+unfolding meaning_definitions
 sizes-and-prints w ms calls one two grounds all e f =
     f
     ∙ (λ i. keep_all (e i) (each (prints_too_much_in w) (all i)))
@@ -87,16 +87,16 @@ sizes-and-prints w ms calls one two grounds all e f =
     ∙ sym (keep_all-append None (size_faults w) (print_faults w))
 
 pub rows-found : (purpose : Purpose) (w : s.Workload) (best : Option Fault) (ms : List MeasuredCall) → map call_of ms ≡ ground_calls w → makes_tables purpose ≡ true → keep_all best (each (too_many_rows w) (map call_of ms)) ≡ keep_all best (row_faults purpose w)
-unfolding meaning_words
+unfolding meaning_definitions
 rows-found purpose w best ms grounds makes =
     ap (λ l. keep_all best (each (too_many_rows w) l)) grounds ∙ ap (λ b. keep_all best (when b (each (too_many_rows w) (ground_calls w)))) (sym makes)
 
 pub no-rows : (purpose : Purpose) (w : s.Workload) (best : Option Fault) → makes_tables purpose ≡ false → best ≡ keep_all best (row_faults purpose w)
-unfolding meaning_words
+unfolding meaning_definitions
 no-rows purpose w best makes = ap (λ b. keep_all best (when b (each (too_many_rows w) (ground_calls w)))) (sym makes)
 
 pub weights-and-rows : (purpose : Purpose) (w : s.Workload) (ms : List MeasuredCall) (one two : Option Fault) → map call_of ms ≡ ground_calls w → one ≡ keep_all None (flat_map (heavy_call w) (map call_of ms)) → two ≡ keep_all one (row_faults purpose w) → two ≡ keep_all None (weight_faults w ++ row_faults purpose w)
-unfolding meaning_words
+unfolding meaning_definitions
 weights-and-rows purpose w ms one two grounds e f =
     f
     ∙ ap (λ o. keep_all o (row_faults purpose w)) (e ∙ ap (λ l. keep_all None (flat_map (heavy_call w) l)) grounds)

@@ -2,7 +2,7 @@
 use Rattle.std.proofs.Common.{◌≡◌, ℕ, zero, suc, ◌+◌, List, [], ◌∷◌, ◌++◌, map, replicate, length, Option, Some, None, refl, sym, ap, subst, ◌∙◌, arith, append_assoc}
 use Rattle.std.specs.Prelude.{slice_get}
 use Rattle.std.specs.List.{flat_map}
-use Rattle.homeo_syntax.specs.Key.{words as syntax_words}
+use Rattle.homeo_syntax.specs.Key.{definitions as syntax_definitions}
 use Rattle.homeo_syntax.specs.Source as s
 use Rattle.homeo_syntax.specs.SourceView.{plain_relation, plain_transaction, plain_client, plain_schedule, plain_workload}
 use Rattle.homeo_syntax.specs.WellFormed.{Each, IsBelow, InSchedule, EachInCommands, IsWellFormed}
@@ -14,7 +14,7 @@ use Rattle.homeo_syntax.specs.declared.workload.RelationDecl.{RelationDecl}
 use Rattle.homeo_syntax.specs.declared.workload.Transaction.{Transaction}
 use Rattle.homeo_syntax.specs.declared.workload.Client.{Client}
 use Rattle.homeo_syntax.specs.declared.workload.Workload.{Workload}
-use Rattle.homeo_meaning.specs.Key.{words as meaning_words}
+use Rattle.homeo_meaning.specs.Key.{definitions as meaning_definitions}
 use Rattle.homeo_meaning.specs.Bindings.{Scope}
 use Rattle.homeo_meaning.specs.TransactionRules.{each}
 use Rattle.homeo_meaning.specs.GlobalNames.{GlobalName, numbered_from, global_names, duplicate, field_names, scope_of, sited_calls, sited_calls_of, called}
@@ -33,7 +33,7 @@ use Rattle.homeo_rules.specs.inner.Sited.{sited_of}
 use Rattle.homeo_meaning.specs.GlobalNames as g
 use Rattle.homeo_meaning.specs.declared.rules.Item.{Item}
 use Rattle.homeo_meaning.specs.declared.rules.Item.TheVariants as I
-use Rattle.homeo_rules.specs.inner.Key.{words}
+use Rattle.homeo_rules.specs.inner.Key.{definitions}
 use Rattle.homeo_rules.specs.inner.Scopes.{item_at, scope_with}
 use Rattle.homeo_rules.specs.inner.Tabled.{fields_at}
 use Rattle.homeo_rules.specs.inner.Items.{Items, along_names}
@@ -53,7 +53,7 @@ use Rattle.homeo_rules.proofs.OneDecides.{none_left}
 
 -- ---- global names
 names-map : {A : Type 0} (n : ℕ) (name : A → Ident) (kind : ℕ → Item) (i : ℕ) (xs : List A) → Each (λ x. IsBelow n (name x)) xs → NamesWithin n (numbered_from kind i (map name xs))
-unfolding meaning_words syntax_words
+unfolding meaning_definitions syntax_definitions
 names-map n name kind i [] h = tt
 names-map n name kind i (x ∷ xs) h = (h.0, names-map n name kind (i + 1) xs h.1)
 
@@ -62,17 +62,17 @@ both n [] ys h k = k
 both n (x ∷ xs) ys h k = (h.0, both n xs ys h.1 k)
 
 firsts : {A : Type 0} (P Q : A → Type 0) (xs : List A) → Each (λ x. P x × Q x) xs → Each P xs
-unfolding syntax_words
+unfolding syntax_definitions
 firsts P Q [] h = tt
 firsts P Q (x ∷ xs) h = (h.0.0, firsts P Q xs h.1)
 
 transaction-names : (n : ℕ) (ts : List s.Transaction) → Each (λ (t : s.Transaction). IsBelow n t.name × Each (λ (p : RangeDecl). IsBelow n p.name) t.params × EachInCommands (IsBelow n) t.body) ts → Each (λ (t : s.Transaction). IsBelow n t.name) ts
-unfolding syntax_words
+unfolding syntax_definitions
 transaction-names n [] h = tt
 transaction-names n (t ∷ ts) h = (h.0.0, transaction-names n ts h.1)
 
 all-named : (w : s.Workload) → IsWellFormed w → NamesWithin (length w.names) (global_names w)
-unfolding meaning_words syntax_words
+unfolding meaning_definitions syntax_definitions
 all-named w f =
     let n : ℕ = length w.names in
     let o = names-map n (λ (d : ObjectDecl). d.name) I.Object 0 w.objects f.named.objects in
@@ -82,7 +82,7 @@ all-named w f =
     both n _ _ (both n _ _ (both n _ _ o r) t) c
 
 pub are-named : (n : ℕ) (ts : List Transaction) → Each (λ (t : s.Transaction). IsBelow n t.name × Each (λ (p : RangeDecl). IsBelow n p.name) t.params × EachInCommands (IsBelow n) t.body) (map plain_transaction ts) → AreNamed n ts
-unfolding words syntax_words
+unfolding definitions syntax_definitions
 are-named n [] h = tt
 are-named n (t ∷ ts) h = ((h.0.1, h.0.2), are-named n ts h.1)
 
@@ -91,7 +91,7 @@ names-plain view f g e [] = refl
 names-plain view f g e (x ∷ xs) = λ i. sym (e x) i ∷ names-plain view f g e xs i
 
 pub entered-all : (w : Workload) (n : ℕ) (t0 t1 t2 t3 t4 : Items) (os : List ObjectDecl) (rs : List RelationDecl) (ts : List Transaction) (cs : List Client) → IsWellFormed (plain_workload w) → n ≡ length w.names.items → t0 ≡ record { items = replicate n None; best = None } → os ≡ w.objects.items → rs ≡ w.relations.items → ts ≡ w.transactions.items → cs ≡ w.clients.items → t1 ≡ along_names (λ d. d.name) I.Object 0 t0 os → t2 ≡ along_names (λ d. d.name) I.Relation 0 t1 rs → t3 ≡ along_names (λ d. d.name) I.Transaction 0 t2 ts → t4 ≡ along_names (λ d. d.name) I.Client 0 t3 cs → NamesGlobals (plain_workload w) t4
-unfolding words meaning_words syntax_words
+unfolding definitions meaning_definitions syntax_definitions
 entered-all w n t0 t1 t2 t3 t4 os rs ts cs formed en e0 eo er et ec e1 e2 e3 e4 =
     let p : s.Workload = plain_workload w in
     let start : Items = record { items = replicate (length w.names.items) None; best = None } in
@@ -110,10 +110,10 @@ entered-all w n t0 t1 t2 t3 t4 os rs ts cs formed en e0 eo er et ec e1 e2 e3 e4 
     let s4 : t4 ≡ along (along (along (along start o) r) t) c =
     e4 ∙ (λ i. along_names (λ d. d.name) I.Client 0 (s3 i) (ec i)) ∙ along-numbered (λ (d : Client). d.name) I.Client 0 (along (along (along start o) r) t) w.clients.items
     ∙ ap (λ l. along (along (along (along start o) r) t) (numbered_from I.Client 0 l)) (names-plain plain_client (λ d. d.name) (λ d. d.name) (λ x. refl) w.clients.items) in
-    let joined : along (along (along (along start o) r) t) c ≡ along start (global_names p) =
+    let one_after_another : along (along (along (along start o) r) t) c ≡ along start (global_names p) =
     sym (along-append start ((o ++ r) ++ t) c ∙ ap (λ z. along z c) (along-append start (o ++ r) t ∙ ap (λ z. along z t) (along-append start o r))) in
     let whole : Along (length w.names.items) [] start (along start (global_names p)) (global_names p) = table_is (length w.names.items) None (global_names p) (all-named p formed) in
-    let e : t4 ≡ along start (global_names p) = s4 ∙ joined in
+    let e : t4 ≡ along start (global_names p) = s4 ∙ one_after_another in
     record {
       items = ap (λ (u : Items). item_at u.items) e ∙ (λ i m. whole.agree m i);
       kept = ap (λ (u : Items). u.best) e ∙ whole.best;
@@ -121,13 +121,13 @@ entered-all w n t0 t1 t2 t3 t4 os rs ts cs formed en e0 eo er et ec e1 e2 e3 e4 
 
 -- ---- what is declared and called
 abbrev declared_without : s.Workload → List Fault
-unfolding meaning_words
+unfolding meaning_definitions
 declared_without p =
     flat_map object_faults p.objects ++ flat_map of_relation p.relations ++ flat_map (of_transaction (scope_of p)) p.transactions
     ++ flat_map (client_faults p.sites (scope_of p) p.transactions) p.clients
 
 without-along : (w : Workload) (sc : Scope) (best : Option Fault) (os : List ObjectDecl) (qs : List RelationDecl) (ts us : List Transaction) (cs : List Client) → sc ≡ scope_of (plain_workload w) → os ≡ w.objects.items → qs ≡ w.relations.items → ts ≡ w.transactions.items → us ≡ w.transactions.items → cs ≡ w.clients.items → along_all (client_faults_of w.sites sc us) (along_all (transaction_faults_of sc) (along_all relation_faults_of (along_all object_faults best os) qs) ts) cs ≡ keep_all best (declared_without (plain_workload w))
-unfolding words meaning_words syntax_words
+unfolding definitions meaning_definitions syntax_definitions
 without-along w sc best os qs ts us cs es eo eq et eu ec =
     let p : s.Workload = plain_workload w in
     let a : List Fault = flat_map object_faults w.objects.items in
@@ -148,20 +148,20 @@ without-along w sc best os qs ts us cs es eo eq et eu ec =
 
 pub declared-along : (w : Workload) (sc : Scope) (best : Option Fault) (os : List ObjectDecl) (qs : List RelationDecl) (ts us : List Transaction) (cs : List Client) (ns : List Number) → sc ≡ scope_of (plain_workload w) → os ≡ w.objects.items → qs ≡ w.relations.items → ts ≡ w.transactions.items → us ≡ w.transactions.items → cs ≡ w.clients.items → ns ≡ w.weights.items
     → keep_all (along_all (client_faults_of w.sites sc us) (along_all (transaction_faults_of sc) (along_all relation_faults_of (along_all object_faults best os) qs) ts) cs) (site_weight_faults w.sites ns) ≡ keep_all best (declared_faults (plain_workload w))
-unfolding words meaning_words syntax_words
+unfolding definitions meaning_definitions syntax_definitions
 declared-along w sc best os qs ts us cs ns es eo eq et eu ec en =
     (λ i. keep_all (without-along w sc best os qs ts us cs es eo eq et eu ec i) (site_weight_faults w.sites (en i)))
     ∙ sym (keep_all-append best (declared_without (plain_workload w)) (site_weight_faults w.sites w.weights.items))
 
 -- ---- limits
 makings-plain : (qs : List RelationDecl) → map making_of qs ≡ map relation_making (map plain_relation qs)
-unfolding words
+unfolding definitions
 makings-plain [] = refl
 makings-plain (q ∷ qs) = ap (λ l. making_of q ∷ l) (makings-plain qs)
 
 pub limits-along : (w : Workload) (best : Option Fault) (qs rs : List RelationDecl) (os : List ObjectDecl) (ts : List Transaction) (cs : List Client) (calls grounds : List SitedCall) → qs ≡ w.relations.items → os ≡ w.objects.items → rs ≡ w.relations.items → ts ≡ w.transactions.items → cs ≡ w.clients.items → map sited calls ≡ sited_calls (plain_workload w) → map sited grounds ≡ ground_calls (plain_workload w)
     → keep_all (keep_all (keep_all (keep_all (count_all making_of (count_all object_making (record { count = 0; best = along_all slot_faults_of (keep_all best (site_count_faults w.sites)) qs }) os) rs).best (transaction_passing (slice_get ts 256))) (client_passing (slice_get cs 64))) (call_passing (slice_get calls 20000))) (call_passing (slice_get grounds 1024)) ≡ keep_all best (limit_faults (plain_workload w))
-unfolding words meaning_words syntax_words
+unfolding definitions meaning_definitions syntax_definitions
 limits-along w best qs rs os ts cs calls grounds eq eo er et ec el ek =
     let p : s.Workload = plain_workload w in
     let a : List Fault = site_count_faults w.sites in
@@ -201,13 +201,13 @@ limits-along w best qs rs os ts cs calls grounds eq eo er et ec el ek =
 
 -- ---- the scope
 fields-plain : (qs : List RelationDecl) (k : ℕ) → fields_at qs k ≡ field_names (slice_get (map plain_relation qs) k)
-unfolding meaning_words syntax_words
+unfolding meaning_definitions syntax_definitions
 fields-plain [] k = refl
 fields-plain (q ∷ qs) zero = refl
 fields-plain (q ∷ qs) (suc k) = fields-plain qs k
 
 pub scope-is : (w : Workload) (t : Items) (items : List (Option Item)) (qs : List RelationDecl) → NamesGlobals (plain_workload w) t → items ≡ t.items → qs ≡ w.relations.items → scope_with items qs ≡ scope_of (plain_workload w)
-unfolding meaning_words syntax_words
+unfolding meaning_definitions syntax_definitions
 scope-is w t items qs globals ei eq =
     (λ i. scope_with (ei i) (eq i)) ∙ (λ i. record { item = globals.items i; fields = λ k. fields-plain w.relations.items k i })
 
@@ -215,29 +215,29 @@ scope-is w t items qs globals ei eq =
 -- the distinct calls of the clients are the ground calls
 pub grounds-are : (w : Workload) (grounds : List SitedCall) (cs : List Client)
     → map sited grounds ≡ distinct_after [] (flat_map sited_calls_of (map plain_client cs)) → cs ≡ w.clients.items → map sited grounds ≡ ground_calls (plain_workload w)
-unfolding meaning_words syntax_words
+unfolding meaning_definitions syntax_definitions
 grounds-are w grounds cs e ec = e ∙ ap (λ l. distinct_after [] (flat_map sited_calls_of (map plain_client l))) ec
 
 -- ---- the names of what is read
 pub order-named : (w : Workload) (n : ℕ) → IsWellFormed (plain_workload w) → n ≡ length w.names.items → InSchedule (IsBelow n) (plain_schedule w.schedule)
-unfolding syntax_words
+unfolding syntax_definitions
 order-named w n formed e = subst (λ k. InSchedule (IsBelow k) (plain_schedule w.schedule)) (sym e) formed.named.schedule
 
 pub transactions-named : (w : Workload) (n : ℕ) (ts : List Transaction) → IsWellFormed (plain_workload w) → n ≡ length w.names.items → ts ≡ w.transactions.items → AreNamed n ts
-unfolding syntax_words
+unfolding syntax_definitions
 transactions-named w n ts formed en et =
     subst (λ l. AreNamed n l) (sym et) (subst (λ k. AreNamed k w.transactions.items) (sym en) (are-named (length w.names.items) w.transactions.items formed.named.transactions))
 
 pub schedule-along : (w : Workload) (purpose : Purpose) (sc : Scope) (best : Option Fault) (cs : List Client) → sc ≡ scope_of (plain_workload w) → cs ≡ w.clients.items → keep_all best (schedule_faults purpose sc (map plain_client cs) w.end (plain_schedule w.schedule)) ≡ keep_all best (schedule_faults purpose (scope_of (plain_workload w)) (plain_workload w).clients (plain_workload w).end (plain_workload w).schedule)
-unfolding syntax_words
+unfolding syntax_definitions
 schedule-along w purpose sc best cs es ec = λ i. keep_all best (schedule_faults purpose (es i) (map plain_client (ec i)) w.end (plain_schedule w.schedule))
 
 pub calls-are : (w : Workload) (calls : List SitedCall) (cs : List Client) → map sited calls ≡ sited_of cs → cs ≡ w.clients.items → map sited calls ≡ sited_calls (plain_workload w)
-unfolding meaning_words syntax_words
+unfolding meaning_definitions syntax_definitions
 calls-are w calls cs e ec = e ∙ ap sited_of ec ∙ sited-plain w.clients.items
 
 pub with-names : (purpose : Purpose) (w : s.Workload) (best : Option Fault) → keep_all (keep_all (keep_all best (declared_faults w)) (limit_faults w)) (schedule_faults purpose (scope_of w) w.clients w.end w.schedule) ≡ keep_all best (faults_with_names purpose w)
-unfolding words
+unfolding definitions
 with-names purpose w best =
     let a = declared_faults w in
     let b = limit_faults w in
@@ -245,7 +245,7 @@ with-names purpose w best =
     sym (keep_all-append best (a ++ b) c ∙ ap (λ o. keep_all o c) (keep_all-append best a b))
 
 pub of-text : (purpose : Purpose) (w : s.Workload) → keep_all (keep_all None (each duplicate (map (λ d. d.name) (global_names w)))) (faults_with_names purpose w) ≡ keep_all None (text_faults purpose w)
-unfolding words meaning_words
+unfolding definitions meaning_definitions
 of-text purpose w =
     let n = each duplicate (map (λ (d : GlobalName). d.name) (global_names w)) in
     let a = declared_faults w in
@@ -260,7 +260,7 @@ of-text purpose w =
 
 -- a fault of the text decides
 pub text-decides : (purpose : Purpose) (w : s.Workload) (f : Fault) → keep_all None (text_faults purpose w) ≡ Some f → Some f ≡ keep_all None (faults purpose w)
-unfolding meaning_words
+unfolding meaning_definitions
 text-decides purpose w f e =
     let late = both_lists 7 10 (size_faults w ++ print_faults w) (weight_faults w ++ row_faults purpose w) (wider_below 7 8 10 (size_faults w ++ print_faults w) (omega arith) (sizes_in w)) (wider_above 7 8 10 (weight_faults w ++ row_faults purpose w) (omega arith) (later_in purpose w)) in
     sym (
@@ -270,7 +270,7 @@ text-decides purpose w f e =
 
 -- without one, those of the L forms do
 pub forms-decide : (purpose : Purpose) (w : s.Workload) → keep_all None (text_faults purpose w) ≡ None → keep_all None (form_faults purpose w) ≡ keep_all None (faults purpose w)
-unfolding meaning_words
+unfolding meaning_definitions
 forms-decide purpose w e = sym (keep_all-append None (text_faults purpose w) (form_faults purpose w) ∙ ap (λ o. keep_all o (form_faults purpose w)) e)
 
 pub faultless : (purpose : Purpose) (w : s.Workload) → keep_all None (text_faults purpose w) ≡ None → IsFaultless w

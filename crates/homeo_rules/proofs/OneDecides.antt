@@ -3,7 +3,7 @@ use Rattle.std.proofs.Common.{◌≡◌, ℕ, zero, suc, Bool, true, false, ◌�
 use Rattle.std.proofs.lemmas.Bool.Decides.{nat_tests}
 use Rattle.homeo_syntax.specs.Source as s
 use Rattle.homeo_syntax.specs.declared.workload.Refusal.{Refusal}
-use Rattle.homeo_meaning.specs.Key.{words}
+use Rattle.homeo_meaning.specs.Key.{definitions}
 use Rattle.homeo_meaning.specs.Faults.{rank, code, comes_before, IsFaultIn, NoneBefore, Decides, IsRefusedBy, faults}
 use Rattle.homeo_rules.specs.inner.Deciding.{keep_all}
 use Rattle.homeo_meaning.specs.declared.call.Purpose.{Purpose}
@@ -12,17 +12,17 @@ use Rattle.homeo_meaning.specs.declared.rules.Phase.{Phase}
 use Rattle.homeo_meaning.specs.declared.rules.Phase.TheVariants as P
 
 irreflexive : (f : Fault) → comes_before f f ≡ false
-unfolding words
+unfolding definitions
 irreflexive f = grind (arith, nat_tests)
 
 -- what is beaten by one that does not beat f does not beat f
 beaten : (f g b : Fault) → comes_before g b ≡ true → comes_before g f ≡ false → comes_before b f ≡ false
-unfolding words
+unfolding definitions
 beaten f g b x y = grind (arith, nat_tests)
 
 -- what does not beat one that does not beat f does not beat f
 weaker : (f g b : Fault) → comes_before g b ≡ false → comes_before b f ≡ false → comes_before g f ≡ false
-unfolding words
+unfolding definitions
 weaker f g b x y = grind (arith, nat_tests)
 
 record Kept (b : Fault) (fs : List Fault) (f : Fault) : Type 0 where
@@ -45,14 +45,14 @@ kept_step b g fs f new old false h e =
     record { there = there; start = k.start; first = (weaker f g b h k.start, k.first) }
 
 kept : (b : Fault) (fs : List Fault) (f : Fault) → keep_all (Some b) fs ≡ Some f → Kept b fs f
-unfolding words
+unfolding definitions
 kept b [] f e =
     let same : b ≡ f = ap (of_some b) e in
     record { there = inl same; start = subst (λ x. comes_before b x ≡ false) same (irreflexive b); first = tt }
 kept b (g ∷ fs) f e = kept_step b g fs f (kept g fs f) (kept b fs f) (comes_before g b) refl e
 
 pub decides : (fs : List Fault) (f : Fault) → keep_all None fs ≡ Some f → Decides fs f
-unfolding words
+unfolding definitions
 decides [] f e = cc
 decides (g ∷ fs) f e =
     let k : Kept g fs f = kept g fs f e in
@@ -64,12 +64,12 @@ some_step b g fs new old true e = new e
 some_step b g fs new old false e = old e
 
 some_kept : (b : Fault) (fs : List Fault) → keep_all (Some b) fs ≡ None → ⊥
-unfolding words
+unfolding definitions
 some_kept b [] e = cc
 some_kept b (g ∷ fs) e = some_step b g fs (some_kept g fs) (some_kept b fs) (comes_before g b) e
 
 pub none_left : (fs : List Fault) → keep_all None fs ≡ None → fs ≡ []
-unfolding words
+unfolding definitions
 none_left [] e = refl
 none_left (g ∷ fs) e = absurd (some_kept g fs e)
 
@@ -87,7 +87,7 @@ phase_at (suc (suc (suc (suc (suc (suc (suc (suc zero)))))))) = P.Weight
 phase_at (suc (suc (suc (suc (suc (suc (suc (suc (suc n))))))))) = P.Rows
 
 phase_of : (p : Phase) → phase_at (rank p) ≡ p
-unfolding words
+unfolding definitions
 phase_of P.Duplicate = refl
 phase_of P.Unknown = refl
 phase_of P.Kind = refl
@@ -100,11 +100,11 @@ phase_of P.Weight = refl
 phase_of P.Rows = refl
 
 same_rank : (f g : Fault) → comes_before f g ≡ false → comes_before g f ≡ false → rank f.phase ≡ rank g.phase
-unfolding words
+unfolding definitions
 same_rank f g x y = grind (arith, nat_tests)
 
 same_offset : (f g : Fault) → comes_before f g ≡ false → comes_before g f ≡ false → f.offset ≡ g.offset
-unfolding words
+unfolding definitions
 same_offset f g x y = grind (arith, nat_tests)
 
 same_fault : (f g : Fault) → comes_before f g ≡ false → comes_before g f ≡ false → f ≡ g

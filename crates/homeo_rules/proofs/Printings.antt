@@ -6,11 +6,11 @@ use Rattle.std.proofs.lemmas.List.Sums.{sum_by-append}
 use Rattle.std.proofs.lemmas.Bool.Decides.{nat_tests}
 use Rattle.std.specs.Prelude.{slice_get, slice_index, nat_lt}
 use Rattle.std.specs.List.{sum_by}
-use Rattle.homeo_syntax.specs.Key.{words as syntax_words}
+use Rattle.homeo_syntax.specs.Key.{definitions as syntax_definitions}
 use Rattle.homeo_syntax.specs.Source as s
 use Rattle.homeo_syntax.specs.SourceView.{plain_transaction}
 use Rattle.homeo_syntax.specs.declared.workload.Transaction.{Transaction}
-use Rattle.homeo_meaning.specs.Key.{words as meaning_words}
+use Rattle.homeo_meaning.specs.Key.{definitions as meaning_definitions}
 use Rattle.homeo_meaning.specs.Bindings.{Scope}
 use Rattle.homeo_meaning.specs.NameRules.{when, fault}
 use Rattle.homeo_meaning.specs.TransactionRules.{each, each_from}
@@ -51,7 +51,7 @@ capped-both n m = omega (arith, clamps)
 
 module _ (s : Scope) (counts : List ℕ) (prints : g.SitedCall → ℕ) (agree : (c : g.SitedCall) → counted_prints counts (s.item c.name.name) ≡ min 1000001 (prints c)) where
   print-all : (before : List g.SitedCall) (t : Printed) (calls : List SitedCall) → t.total ≡ min 1000001 (sum_by (λ (d : g.SitedCall). prints d) before) → (print_all s counts t calls).best ≡ keep_all t.best (each_from (prints_too_much prints) before (map sited calls))
-  unfolding meaning_words
+  unfolding meaning_definitions
   print-all before t [] e = refl
   print-all before t (c ∷ calls) e =
       let total : ℕ = sum_by (λ (d : g.SitedCall). prints d) before in
@@ -62,22 +62,22 @@ module _ (s : Scope) (counts : List ℕ) (prints : g.SitedCall → ℕ) (agree :
       ∙ sym (keep_all-append t.best (prints_too_much prints before (sited c)) (each_from (prints_too_much prints) (before ++ sited c ∷ []) (map sited calls)))
 
   pub printed : (best : Option Fault) (calls : List SitedCall) → (print_all s counts (record { total = 0; best = best }) calls).best ≡ keep_all best (each (prints_too_much prints) (map sited calls))
-  unfolding meaning_words
+  unfolding meaning_definitions
   printed best calls = print-all [] (record { total = 0; best = best }) calls refl
 
 -- ---- by the counts of the transactions
 pub counted : (m : Measuring) (t : Transaction) (n : ℕ) → IsSetUp m → ((args : List ℤ) → n ≡ min 1000001 (prints_in (l_form m.layout.now (map (λ p. p.name.name) t.params.items) args (plain_transaction t).body))) → (args : List ℤ) → n ≡ capped_prints (workload_of m) args t
-unfolding meaning_words syntax_words
+unfolding meaning_definitions syntax_definitions
 counted m t n up h args = h args ∙ ap (λ x. min 1000001 (prints_in (l_form x (map (λ p. p.name.name) t.params.items) args (plain_transaction t).body))) up.layout
 
 count-plain : (w : s.Workload) (args : List ℤ) (ts : List Transaction) (k : ℕ) → slice_index (map (capped_prints w args) ts) k ≡ min 1000001 (prints_in (body_form w (slice_get (map plain_transaction ts) k) args))
-unfolding meaning_words
+unfolding meaning_definitions
 count-plain w args [] k = refl
 count-plain w args (t ∷ ts) zero = refl
 count-plain w args (t ∷ ts) (suc k) = count-plain w args ts k
 
 counts-plain : (w : s.Workload) (args : List ℤ) (ts : List Transaction) → w.transactions ≡ map plain_transaction ts → (g : Option Item) → counted_prints (map (capped_prints w args) ts) g ≡ min 1000001 (prints_in (body_form w (transaction_at w g) args))
-unfolding meaning_words
+unfolding meaning_definitions
 counts-plain w args ts e None = refl
 counts-plain w args ts e (Some (I.Transaction k)) = count-plain w args ts k ∙ ap (λ l. min 1000001 (prints_in (body_form w (slice_get l k) args))) (sym e)
 counts-plain w args ts e (Some (I.Object k)) = refl
@@ -85,7 +85,7 @@ counts-plain w args ts e (Some (I.Relation k)) = refl
 counts-plain w args ts e (Some (I.Client k)) = refl
 
 pub prints-along : (m : Measuring) (best : Option Fault) (counts : List ℕ) (ts : List Transaction) (calls : List SitedCall) → IsSetUp m → ts ≡ m.workload.now.transactions.items → ((args : List ℤ) → counts ≡ map (capped_prints (workload_of m) args) ts) → (print_all (scope_in m.scope) counts (record { total = 0; best = best }) calls).best ≡ keep_all best (each (prints_too_much_in (workload_of m)) (map sited calls))
-unfolding meaning_words syntax_words
+unfolding meaning_definitions syntax_definitions
 prints-along m best counts ts calls up et counted =
     let w : s.Workload = workload_of m in
     let agree : (c : g.SitedCall) → counted_prints counts ((scope_in m.scope).item c.name.name) ≡ min 1000001 (prints_in (call_form w c)) =

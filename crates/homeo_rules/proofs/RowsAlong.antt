@@ -6,7 +6,7 @@ use Rattle.std.proofs.lemmas.Bool.Decides.{nat_tests}
 use Rattle.std.proofs.Math.Nat.{mul-le-mul_left}
 use Rattle.homeo_syntax.specs.Low as L
 use Rattle.homeo_syntax.specs.Source as s
-use Rattle.homeo_meaning.specs.Key.{words as meaning_words}
+use Rattle.homeo_meaning.specs.Key.{definitions as meaning_definitions}
 use Rattle.homeo_meaning.specs.NameRules.{when, fault}
 use Rattle.homeo_meaning.specs.TransactionRules.{each}
 use Rattle.homeo_meaning.specs.GlobalNames as g
@@ -28,7 +28,7 @@ one_product : (m n : ℕ) → 1 ≤ m → 1 ≤ n → 1 ≤ m * n
 one_product m n h k = let le : m * 1 ≤ m * n = mul-le-mul_left m k in omega arith
 
 mutual
-  unfolding meaning_words
+  unfolding meaning_definitions
 
   rows_one : (c : L.Command) → 1 ≤ rows c
   rows_one L.Skip = omega arith
@@ -43,7 +43,7 @@ mutual
   rows_all_one (L.MoreCommand c cs) = one_product (rows c) (rows_all cs) (rows_one c) (rows_all_one cs)
 
 size_one : (sites : ℕ) (c : L.Command) (v : Location → Extent) → 1 ≤ (command_extent sites c v).size
-unfolding meaning_words
+unfolding meaning_definitions
 size_one sites L.Skip v = omega arith
 size_one sites (L.Assign t e) v = omega arith
 size_one sites (L.Write x e) v = omega arith
@@ -100,11 +100,11 @@ pub record RowsSo (w : s.Workload) (start best : Option Fault) (total : ℕ) (ca
   pub left : left_of (too_many_rows w) best calls i ≡ keep_all start (each (too_many_rows w) (map call_of calls))
 
 pub rows_begin : (w : s.Workload) (start : Option Fault) (calls : List MeasuredCall) → AreMeasured w calls → RowsSo w start start 0 calls 0
-unfolding meaning_words
+unfolding meaning_definitions
 rows_begin w start calls h = record { sum = refl; measured = h; left = refl }
 
 pub rows_next : (w : s.Workload) (start best new : Option Fault) (total product next : ℕ) (calls : List MeasuredCall) (i : ℕ) (c : MeasuredCall) (m : Measure) → i < length calls → get_or calls i c ≡ c → RowsSo w start best total calls i → m ≡ known c.measure → product ≡ min 8000001 (m.rows * m.size) → next ≡ min 8000001 (total + product) → new ≡ keep_all best (when (nat_lt 4096 m.rows || nat_lt 8000000 next) (fault Rows c.call.name)) → RowsSo w start new next calls (i + 1)
-unfolding meaning_words
+unfolding meaning_definitions
 rows_next w start best new total product next calls i c m lt at so is times added checked =
     let head = head_measured w calls i c lt at so.measured in
     let measured : IsMeasure (schema_of w) (nat_of w.sites.value) (call_form w (call_of c)) m = subst (λ k. IsMeasure (schema_of w) (nat_of w.sites.value) (call_form w (call_of c)) k) (sym is) head.0 in

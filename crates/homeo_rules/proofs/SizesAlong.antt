@@ -4,7 +4,7 @@ use Rattle.std.specs.Prelude.{nat_lt}
 use Rattle.std.proofs.lemmas.Int.{clamps}
 use Rattle.std.proofs.lemmas.Bool.Decides.{nat_tests}
 use Rattle.homeo_syntax.specs.Source as s
-use Rattle.homeo_meaning.specs.Key.{words as meaning_words}
+use Rattle.homeo_meaning.specs.Key.{definitions as meaning_definitions}
 use Rattle.homeo_meaning.specs.NameRules.{when, fault}
 use Rattle.homeo_meaning.specs.TransactionRules.{each}
 use Rattle.homeo_meaning.specs.GlobalNames as g
@@ -53,7 +53,7 @@ record Decides' (w : s.Workload) (a total next : ℕ) (c : g.SitedCall) (m : Mea
   same : is_too_large m next ≡ (nat_lt 200000 (extent_of w c).size || nat_lt 1000 (extent_of w c).depth || nat_lt 2000000 (a + told_size w c))
 
 decides : (w : s.Workload) (a total next : ℕ) (c : g.SitedCall) (o : Option Measure) → AgreeUpTo 2000001 total a → IsToldAfter w a c o → next ≡ min 8000001 (total + (known o).size) → Decides' w a total next c (known o)
-unfolding meaning_words
+unfolding meaning_definitions
 decides w a total next c (Some m) agree told added =
     let e : Extent = extent_of w c in
     let after : AgreeUpTo 2000001 next (a + e.size) = total_known total next a e.size m.size agree added told.size in
@@ -71,7 +71,7 @@ pub record SizesSo (w : s.Workload) (start best : Option Fault) (total : ℕ) (c
   pub left : left_of (too_large (extent_of w)) best calls i ≡ keep_all start (each (too_large (extent_of w)) (map call_of calls))
 
 pub sizes_begin : (w : s.Workload) (start : Option Fault) (calls : List MeasuredCall) → AreTold w 0 calls → SizesSo w start start 0 calls 0
-unfolding meaning_words
+unfolding meaning_definitions
 sizes_begin w start calls told = record { sum = refl; told = told; left = refl }
 
 head_told : (w : s.Workload) (a : ℕ) (calls : List MeasuredCall) (i : ℕ) (c : MeasuredCall) → i < length calls → get_or calls i c ≡ c → AreTold w a (drop i calls) → IsToldAfter w a (call_of c) c.measure × AreTold w (a + told_size w (call_of c)) (drop (i + 1) calls)
@@ -79,7 +79,7 @@ head_told w a calls i c lt at h =
     subst (λ l. AreTold w a l) (rw add-one (drop-cons calls i c lt) ∙ ap (λ d. d ∷ drop (i + 1) calls) at) h
 
 pub sizes_next : (w : s.Workload) (start best new : Option Fault) (total next : ℕ) (calls : List MeasuredCall) (i : ℕ) (c : MeasuredCall) (m : Measure) → i < length calls → get_or calls i c ≡ c → SizesSo w start best total calls i → m ≡ known c.measure → next ≡ min 8000001 (total + m.size) → new ≡ keep_all best (when (is_too_large m next) (fault Size c.call.name)) → SizesSo w start new next calls (i + 1)
-unfolding meaning_words
+unfolding meaning_definitions
 sizes_next w start best new total next calls i c m lt at so is added checked =
     let a : ℕ = sum_before (told_size w) calls i in
     let head = head_told w a calls i c lt at so.told in

@@ -5,14 +5,14 @@ use Rattle.std.specs.List.{list_any}
 use Rattle.std.proofs.lemmas.List.{length-set, length-replicate, length-map, set_past}
 use Rattle.std.proofs.lemmas.List.Sums.{sum_by-append}
 use Rattle.std.proofs.lemmas.Bool.Decides.{nat_tests}
-use Rattle.homeo_syntax.specs.Key.{words as syntax_words}
+use Rattle.homeo_syntax.specs.Key.{definitions as syntax_definitions}
 use Rattle.homeo_syntax.specs.Listed.{Listed}
 use Rattle.homeo_syntax.specs.Source as p
 use Rattle.homeo_syntax.specs.SourceView.{plain_client, plain_call, plain_schedule}
 use Rattle.homeo_syntax.specs.WellFormed.{Each, InSchedule, IsBelow}
 use Rattle.homeo_syntax.specs.declared.phrase.Ident.{Ident}
 use Rattle.homeo_syntax.specs.declared.workload.Client.{Client}
-use Rattle.homeo_meaning.specs.Key.{words as meaning_words}
+use Rattle.homeo_meaning.specs.Key.{definitions as meaning_definitions}
 use Rattle.homeo_meaning.specs.Bindings.{Scope}
 use Rattle.homeo_meaning.specs.NameRules.{when, fault}
 use Rattle.homeo_meaning.specs.TransactionRules.{each_from}
@@ -22,38 +22,38 @@ use Rattle.homeo_meaning.specs.declared.call.Purpose.{Purpose}
 use Rattle.homeo_meaning.specs.declared.rules.Fault.{Fault}
 use Rattle.homeo_meaning.specs.declared.rules.Item.TheVariants as I
 use Rattle.homeo_meaning.specs.declared.rules.Phase.TheVariants.{Unknown, Kind, Schedule}
-use Rattle.homeo_rules.specs.inner.Key.{words}
+use Rattle.homeo_rules.specs.inner.Key.{definitions}
 use Rattle.homeo_rules.specs.inner.Tally.{Tally, scheduled_of, tally, tally_all, call_count_at, is_short_of, has_calls_of}
 use Rattle.homeo_rules.proofs.Steps.{keep-none, keep-one, keep_all-append}
 
 count-plain : (cs : List Client) (k : ℕ) → call_count (slice_get (map plain_client cs) k) ≡ call_count_at cs k
-unfolding syntax_words
+unfolding syntax_definitions
 count-plain [] k = refl
 count-plain (c ∷ cs) zero = length-map c.calls.items plain_call
 count-plain (c ∷ cs) (suc k) = count-plain cs k
 
 pub scheduled-None : (cs : List Client) (n : ℕ) (x : Ident) → scheduled_of cs n None x ≡ fault Unknown x
-unfolding words meaning_words
+unfolding definitions meaning_definitions
 scheduled-None cs n x = refl
 
 pub scheduled-Client : (cs : List Client) (n k : ℕ) (x : Ident) → scheduled_of cs n (Some (I.Client k)) x ≡ when (n == call_count_at cs k) (fault Schedule x)
-unfolding words meaning_words
+unfolding definitions meaning_definitions
 scheduled-Client cs n k x = ap (λ m. when (n == m) (fault Schedule x)) (count-plain cs k)
 
 pub scheduled-Object : (cs : List Client) (n k : ℕ) (x : Ident) → scheduled_of cs n (Some (I.Object k)) x ≡ fault Kind x
-unfolding words meaning_words
+unfolding definitions meaning_definitions
 scheduled-Object cs n k x = refl
 
 pub scheduled-Relation : (cs : List Client) (n k : ℕ) (x : Ident) → scheduled_of cs n (Some (I.Relation k)) x ≡ fault Kind x
-unfolding words meaning_words
+unfolding definitions meaning_definitions
 scheduled-Relation cs n k x = refl
 
 pub scheduled-Transaction : (cs : List Client) (n k : ℕ) (x : Ident) → scheduled_of cs n (Some (I.Transaction k)) x ≡ fault Kind x
-unfolding words meaning_words
+unfolding definitions meaning_definitions
 scheduled-Transaction cs n k x = refl
 
 pub tally-is : (s : Scope) (cs : List Client) (t : Tally) (x : Ident) → tally s cs t x ≡ record { counts = slice_set t.counts x.name (slice_index t.counts x.name + 1); best = keep_all t.best (scheduled_of cs (slice_index t.counts x.name) (s.item x.name) x) }
-unfolding words
+unfolding definitions
 tally-is s cs t x = refl
 
 pub ruleset scheduling = (keep-none, keep-one, scheduled-None, scheduled-Client, scheduled-Object, scheduled-Relation, scheduled-Transaction)
@@ -68,7 +68,7 @@ at_most (x ∷ l) (suc k) v zero i few h = let f : x ≤ i = few 0 in omega arit
 at_most (x ∷ l) (suc k) v (suc n) i few h = at_most l k v n i (λ m. few (suc m)) h
 
 pub few_more : (s : Scope) (cs : List Client) (t new : Tally) (x : Ident) (i : ℕ) → new ≡ tally s cs t x → ((m : ℕ) → slice_index t.counts m ≤ i) → (n : ℕ) → slice_index new.counts n ≤ i + 1
-unfolding words meaning_words
+unfolding definitions meaning_definitions
 few_more s cs t new x i e few n =
     let f : slice_index t.counts x.name ≤ i = few x.name in
     let h : slice_index t.counts x.name + 1 ≤ i + 1 = omega arith in
@@ -105,7 +105,7 @@ pub record Tallied (s : Scope) (cs : List Client) (before : List Ident) (start t
   pub best : t.best ≡ keep_all start.best (each_from (rule s cs) before xs)
 
 tallies : (s : Scope) (cs : List Client) (n : ℕ) (before : List Ident) (t : Tally) (xs : List Ident) → length t.counts ≡ n → ((m : ℕ) → slice_index t.counts m ≡ times m before) → Each (IsBelow n) xs → Tallied s cs before t (tally_all s cs t xs) xs
-unfolding words meaning_words syntax_words
+unfolding definitions meaning_definitions syntax_definitions
 tallies s cs n before t [] len agree within = record { counts = λ m. agree m ∙ ap (times m) (sym (append-nil before)); best = refl }
 tallies s cs n before t (x ∷ xs) len agree within =
     let lt : x.name < length t.counts = subst (λ m. x.name < m) (sym len) within.0 in
@@ -126,7 +126,7 @@ none_yet (suc n) (suc m) = none_yet n m
 
 -- ---- with the word `end`
 short-plain : (counts : List ℕ) (n : ℕ → ℕ) → ((m : ℕ) → slice_index counts m ≡ n m) → (cs : List Client) → is_short_of counts cs ≡ list_any (λ (c : p.Client). nat_lt (n c.name.name) (length c.calls)) (map plain_client cs)
-unfolding syntax_words
+unfolding syntax_definitions
 short-plain counts n agree [] = refl
 short-plain counts n agree (c ∷ cs) =
     ap (λ k. nat_lt k (length c.calls.items) || is_short_of counts cs) (agree c.name.name)
@@ -134,20 +134,20 @@ short-plain counts n agree (c ∷ cs) =
     ∙ ap (λ b. nat_lt (n c.name.name) (length (map plain_call c.calls.items)) || b) (short-plain counts n agree cs)
 
 has-plain : (cs : List Client) → has_calls_of cs ≡ list_any (λ (c : p.Client). nat_lt 0 (length c.calls)) (map plain_client cs)
-unfolding syntax_words
+unfolding syntax_definitions
 has-plain [] = refl
 has-plain (c ∷ cs) =
     ap (λ k. nat_lt 0 k || has_calls_of cs) (sym (length-map c.calls.items plain_call))
     ∙ ap (λ b. nat_lt 0 (length (map plain_call c.calls.items)) || b) (has-plain cs)
 
 pub no_order : (purpose : Purpose) (s : Scope) (cs : List Client) (end : ℕ) (best : Option Fault) (o : Option (Listed Ident)) → o ≡ None → keep_all best (when (needs_order purpose && has_calls_of cs) (end_fault end)) ≡ keep_all best (schedule_faults purpose s (map plain_client cs) end (plain_schedule o))
-unfolding words meaning_words syntax_words
+unfolding definitions meaning_definitions syntax_definitions
 no_order purpose s cs end best o e =
     ap (λ b. keep_all best (when (needs_order purpose && b) (end_fault end))) (has-plain cs)
     ∙ ap (λ o. keep_all best (schedule_faults purpose s (map plain_client cs) end (plain_schedule o))) (sym e)
 
 pub ordered : (purpose : Purpose) (s : Scope) (cs : List Client) (n end : ℕ) (best : Option Fault) (o : Option (Listed Ident)) (l : Listed Ident) (xs : List Ident) → o ≡ Some l → xs ≡ l.items → InSchedule (IsBelow n) (plain_schedule o) → (t : Tally) → t ≡ tally_all s cs (record { counts = replicate n 0; best = best }) xs → keep_all t.best (when (is_short_of t.counts cs) (end_fault end)) ≡ keep_all best (schedule_faults purpose s (map plain_client cs) end (plain_schedule o))
-unfolding words meaning_words syntax_words
+unfolding definitions meaning_definitions syntax_definitions
 ordered purpose s cs n end best o l xs eo ex within t et =
     let start : Tally = record { counts = replicate n 0; best = best } in
     let inside : InSchedule (IsBelow n) (plain_schedule (Some l)) = subst (λ o. InSchedule (IsBelow n) (plain_schedule o)) eo within in

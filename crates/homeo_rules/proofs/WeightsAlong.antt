@@ -4,7 +4,7 @@ use Rattle.std.specs.Prelude.{nat_le}
 use Rattle.std.specs.List.{flat_map}
 use Rattle.std.proofs.lemmas.List.{drop_all}
 use Rattle.homeo_syntax.specs.Source as s
-use Rattle.homeo_meaning.specs.Key.{words as meaning_words}
+use Rattle.homeo_meaning.specs.Key.{definitions as meaning_definitions}
 use Rattle.homeo_meaning.specs.NameRules.{when, fault}
 use Rattle.homeo_meaning.specs.Schema.{schema_of}
 use Rattle.homeo_meaning.specs.CallForm.{call_form}
@@ -27,7 +27,7 @@ pub weights_begin : (w : s.Workload) (start : Option Fault) (calls : List Measur
 weights_begin w start calls h = record { measured = h; left = refl }
 
 weights_next : (w : s.Workload) (start best new : Option Fault) (calls : List MeasuredCall) (i : ℕ) (c : MeasuredCall) (m : Measure) → i < length calls → get_or calls i c ≡ c → WeightsSo w start best calls i → m ≡ known c.measure → new ≡ keep_all best (when (not (nat_le m.weight 1000000000000000000)) (fault Weight c.call.name)) → WeightsSo w start new calls (i + 1)
-unfolding meaning_words
+unfolding meaning_definitions
 weights_next w start best new calls i c m lt at so is checked =
     let head = head_measured w calls i c lt at so.measured in
     let light : nat_le m.weight 1000000000000000000 ≡ is_light heaviest (call_form w (call_of c)) (first_weights (schema_of w)) = ap (λ (k : Measure). nat_le k.weight 1000000000000000000) is ∙ head.0.light in
@@ -44,6 +44,6 @@ pub weights_step : (w : s.Workload) (start best new : Option Fault) (calls : Lis
 weights_step w start best new calls i d m lt so is checked = weights_next w start best new calls i (get_or calls i d) m lt (again calls i d lt) so is checked
 
 pub weights_end : (w : s.Workload) (start best : Option Fault) (calls : List MeasuredCall) (i : ℕ) → length calls ≤ i → WeightsSo w start best calls i → best ≡ keep_all start (flat_map (heavy_call w) (map call_of calls))
-unfolding meaning_words
+unfolding meaning_definitions
 weights_end w start best calls i h so =
     sym (ap (λ l. keep_all best (flat_map (heavy_call w) (map call_of l))) (drop_all i calls h)) ∙ so.left

@@ -3,7 +3,7 @@ use Rattle.std.proofs.Common.{◌≡◌, ◌≢◌, ℕ, zero, suc, ◌<◌, Boo
 use Rattle.std.specs.List.{flat_map}
 use Rattle.std.proofs.lemmas.List.{length-set, length-replicate}
 use Rattle.std.proofs.lemmas.Bool.Decides.{nat_tests}
-use Rattle.homeo_syntax.specs.Key.{words as syntax_words}
+use Rattle.homeo_syntax.specs.Key.{definitions as syntax_definitions}
 use Rattle.homeo_syntax.specs.Source as s
 use Rattle.homeo_syntax.specs.SourceView.{plain_transaction}
 use Rattle.homeo_syntax.specs.WellFormed.{Each, IsBelow, EachInCommand, EachInCommands}
@@ -11,7 +11,7 @@ use Rattle.homeo_syntax.specs.declared.phrase.Ident.{Ident}
 use Rattle.homeo_syntax.specs.declared.workload.RangeDecl.{RangeDecl}
 use Rattle.homeo_syntax.specs.declared.workload.Transaction.{Transaction}
 use Rattle.homeo_syntax.specs.declared.command.Command.{Command}
-use Rattle.homeo_meaning.specs.Key.{words as meaning_words}
+use Rattle.homeo_meaning.specs.Key.{definitions as meaning_definitions}
 use Rattle.homeo_meaning.specs.Bindings as m
 use Rattle.homeo_meaning.specs.Occurrences.{Occurrence, within, in_expr, in_exprs, in_test, in_cond, in_fields, in_command, in_commands}
 use Rattle.homeo_meaning.specs.NameRules.{when, fault}
@@ -23,7 +23,7 @@ use Rattle.homeo_meaning.specs.declared.rules.Fault.{Fault}
 use Rattle.homeo_meaning.specs.declared.rules.Phase.TheVariants.{Duplicate}
 use Rattle.homeo_meaning.specs.declared.rules.Local.{Local}
 use Rattle.homeo_meaning.specs.declared.rules.Local.TheVariants as L
-use Rattle.homeo_rules.specs.inner.Key.{words}
+use Rattle.homeo_rules.specs.inner.Key.{definitions}
 use Rattle.homeo_rules.specs.inner.Follow.{Standing, local_at, follow}
 use Rattle.homeo_rules.specs.inner.Params.{is_parameter, enter_param, enter_params}
 use Rattle.homeo_rules.specs.inner.Plain.{plain_commands}
@@ -39,7 +39,7 @@ both n [] qs h k = k
 both n (p ∷ ps) qs h k = (h.0, both n ps qs h.1 k)
 
 mutual
-  unfolding meaning_words
+  unfolding meaning_definitions
 
   no_targets : (n : ℕ) (rows : List m.Row) (e : s.Expr) → TargetsWithin n (in_expr rows e)
   no_targets n rows (s.Literal v) = tt
@@ -67,12 +67,12 @@ mutual
   no_targets_cond n rows (s.MoreTest t c) = both n (in_test rows t) (in_cond rows c) (no_targets_test n rows t) (no_targets_cond n rows c)
 
 no_targets_values : (n : ℕ) (rows : List m.Row) (fs : List s.FieldValue) → TargetsWithin n (in_fields rows fs)
-unfolding meaning_words
+unfolding meaning_definitions
 no_targets_values n rows [] = tt
 no_targets_values n rows (f ∷ fs) = both n (in_expr rows f.value) (in_fields rows fs) (no_targets n rows f.value) (no_targets_values n rows fs)
 
 mutual
-  unfolding meaning_words syntax_words
+  unfolding meaning_definitions syntax_definitions
 
   targets_of : (n : ℕ) (rows : List m.Row) (c : s.Command) → EachInCommand (IsBelow n) c → TargetsWithin n (in_command rows c)
   targets_of n rows s.Skip h = tt
@@ -104,7 +104,7 @@ abbrev of_params : Bool → Local
 of_params b = cond b L.Parameter L.Absent
 
 params-is : (ps : List ℕ) (m : ℕ) → local_of ps [] m ≡ of_params (is_in m ps)
-unfolding words meaning_words syntax_words
+unfolding definitions meaning_definitions syntax_definitions
 params-is ps m = refl
 
 enter_case : (l : List Local) (ps : List ℕ) (n : ℕ) → n < length l → ((m : ℕ) → local_at l m ≡ local_of ps [] m) → (m : ℕ) (b : Bool) → (n == m) ≡ b → local_at (slice_set l n L.Parameter) m ≡ of_params (is_in m ps || b)
@@ -133,7 +133,7 @@ record Entered (sc : m.Scope) (n : ℕ) (before : List Ident) (start k : Standin
   best : k.best ≡ keep_all start.best (each_from (parameter_fault sc) before (map (λ d. d.name) ds))
 
 enters : (sc : m.Scope) (n : ℕ) (before : List Ident) (k : Standing) (ds : List RangeDecl) → length k.locals ≡ n → ((m : ℕ) → local_at k.locals m ≡ local_of (names before) [] m) → Each (λ d. IsBelow n d.name) ds → Entered sc n before k (enter_params sc k ds) ds
-unfolding words meaning_words syntax_words
+unfolding definitions meaning_definitions syntax_definitions
 enters sc n before k [] len agree within = record { long = len; agree = λ m. agree m ∙ ap (λ xs. local_of (names xs) [] m) (sym (append-nil before)); best = refl }
 enters sc n before k (d ∷ ds) len agree within =
     let x : Ident = d.name in
@@ -156,7 +156,7 @@ blank (suc n) zero = refl
 blank (suc n) (suc m) = blank n m
 
 pub whole : (sc : m.Scope) (n : ℕ) (best : Option Fault) (t : s.Transaction) → IsNamed n t → (follow sc (enter_params sc (record { locals = replicate n L.Absent; best = best }) t.params) (in_commands [] t.body)).best ≡ keep_all best (transaction_faults sc t)
-unfolding words meaning_words syntax_words
+unfolding definitions meaning_definitions syntax_definitions
 whole sc n best t within =
     let params : List Ident = map (λ d. d.name) t.params in
     let ps : List ℕ = names params in
@@ -169,7 +169,7 @@ whole sc n best t within =
 
 -- with the bounds of the parameters before
 pub in_all : (sc : m.Scope) (n : ℕ) (best bounds : Option Fault) (t : Transaction) (k0 k1 k2 : Standing) (ds es : List RangeDecl) (cs : List Command) → ds ≡ t.params.items → bounds ≡ along_all range_bounds best ds → es ≡ t.params.items → k0 ≡ record { locals = replicate n L.Absent; best = bounds } → k1 ≡ enter_params sc k0 es → cs ≡ t.body.items → k2 ≡ follow sc k1 (in_commands [] (plain_commands cs)) → IsNamed n (plain_transaction t) → k2.best ≡ keep_all best (of_transaction sc (plain_transaction t))
-unfolding words meaning_words syntax_words
+unfolding definitions meaning_definitions syntax_definitions
 in_all sc n best bounds t k0 k1 k2 ds es cs params checked same at_start first body second within =
     let start : Option Fault → Standing = λ b. record { locals = replicate n L.Absent; best = b } in
     ap (λ k. k.best) (second ∙ (λ i. follow sc (first i) (in_commands [] (plain_commands (body i)))))

@@ -23,7 +23,7 @@ use std::marker::Model;
 
 /// What each name is within the transaction so far, and the fault that decides so far.
 #[derive(Drop)]
-pub struct Checker {
+pub(crate) struct Checker {
     alloc: Global,
     locals: Vec<Local>,
     best: Option<Fault>,
@@ -39,7 +39,7 @@ impl Model for Checker {
 
 impl Checker {
     /// At the head of a transaction, with the fault that decides so far.
-    pub fn start(alloc: Global, names: usize, best: Option<Fault>) -> Result<Checker, Memory>
+    pub(crate) fn start(alloc: Global, names: usize, best: Option<Fault>) -> Result<Checker, Memory>
         ensures { IfOk result (λ k. k ≡ record { locals = replicate names Absent; best = best }) }
     {
         let locals = vec![in alloc; Local::Absent; names]?;
@@ -50,7 +50,7 @@ impl Checker {
         })
     }
 
-    pub fn best(&self) -> Option<Fault>
+    pub(crate) fn best(&self) -> Option<Fault>
         ensures { result ≡ self.now.best }
     {
         self.best
@@ -73,7 +73,7 @@ impl Checker {
     }
 
     /// What a name stands for here: a global name, or else a row variable, or else a local.
-    #[tactic(auto, unfolding(homeo_meaning::specs::Key::words))]
+    #[tactic(auto, unfolding(homeo_meaning::specs::Key::definitions))]
     fn binding(&self, scope: &Scope<'_>, rows: &Rows<'_>, name: u32) -> Binding
         ensures { result ≡ binding (scope_in scope.now) (local_at self.now.locals) (rows_of rows.now) name }
     {
@@ -91,7 +91,7 @@ impl Checker {
     }
 
     #[tactic(auto, using(crate::proofs::Steps::steps))]
-    pub fn declares_param(&mut self, scope: &Scope<'_>, x: Ident)
+    pub(crate) fn declares_param(&mut self, scope: &Scope<'_>, x: Ident)
         ensures { self.new ≡ enter_param (scope_in scope.now) self.old x }
     {
         if scope.item(x.name).is_some() || self.local(x.name) == Local::Parameter {
@@ -103,7 +103,7 @@ impl Checker {
     }
 
     #[tactic(auto, using(crate::proofs::Steps::steps))]
-    pub fn declares_row(&mut self, scope: &Scope<'_>, rows: &Rows<'_>, x: Ident)
+    pub(crate) fn declares_row(&mut self, scope: &Scope<'_>, rows: &Rows<'_>, x: Ident)
         ensures { self.new ≡ step (scope_in scope.now) self.old (at (rows_of rows.now) (DeclaresRow x)) }
     {
         match self.binding(scope, rows, x.name) {
@@ -113,7 +113,7 @@ impl Checker {
     }
 
     #[tactic(auto, using(crate::proofs::Steps::steps))]
-    pub fn takes_object(&mut self, scope: &Scope<'_>, rows: &Rows<'_>, x: Ident)
+    pub(crate) fn takes_object(&mut self, scope: &Scope<'_>, rows: &Rows<'_>, x: Ident)
         ensures { self.new ≡ step (scope_in scope.now) self.old (at (rows_of rows.now) (TakesObject x)) }
     {
         match self.binding(scope, rows, x.name) {
@@ -124,7 +124,7 @@ impl Checker {
     }
 
     #[tactic(auto, using(crate::proofs::Steps::steps))]
-    pub fn takes_relation(&mut self, scope: &Scope<'_>, rows: &Rows<'_>, x: Ident)
+    pub(crate) fn takes_relation(&mut self, scope: &Scope<'_>, rows: &Rows<'_>, x: Ident)
         ensures { self.new ≡ step (scope_in scope.now) self.old (at (rows_of rows.now) (TakesRelation x)) }
     {
         match self.binding(scope, rows, x.name) {
@@ -135,7 +135,13 @@ impl Checker {
     }
 
     #[tactic(auto, using(crate::proofs::Steps::steps))]
-    pub fn takes_field(&mut self, scope: &Scope<'_>, rows: &Rows<'_>, row: Ident, field: Ident)
+    pub(crate) fn takes_field(
+        &mut self,
+        scope: &Scope<'_>,
+        rows: &Rows<'_>,
+        row: Ident,
+        field: Ident,
+    )
         ensures { self.new ≡ step (scope_in scope.now) self.old (at (rows_of rows.now) (TakesField row field)) }
     {
         match self.binding(scope, rows, row.name) {
@@ -148,14 +154,20 @@ impl Checker {
     }
 
     #[tactic(auto, using(crate::proofs::Steps::steps))]
-    pub fn names_field(&mut self, scope: &Scope<'_>, rows: &Rows<'_>, relation: Ident, field: Ident)
+    pub(crate) fn names_field(
+        &mut self,
+        scope: &Scope<'_>,
+        rows: &Rows<'_>,
+        relation: Ident,
+        field: Ident,
+    )
         ensures { self.new ≡ step (scope_in scope.now) self.old (at (rows_of rows.now) (NamesField relation field)) }
     {
         self.best = check_field(scope, scope.item(relation.name), field, self.best);
     }
 
     #[tactic(auto, using(crate::proofs::Steps::steps))]
-    pub fn fills_fields(
+    pub(crate) fn fills_fields(
         &mut self,
         scope: &Scope<'_>,
         rows: &Rows<'_>,
@@ -169,7 +181,7 @@ impl Checker {
     }
 
     #[tactic(auto, using(crate::proofs::Steps::steps))]
-    pub fn takes_value(&mut self, scope: &Scope<'_>, rows: &Rows<'_>, x: Ident)
+    pub(crate) fn takes_value(&mut self, scope: &Scope<'_>, rows: &Rows<'_>, x: Ident)
         ensures { self.new ≡ step (scope_in scope.now) self.old (at (rows_of rows.now) (TakesValue x)) }
     {
         match self.binding(scope, rows, x.name) {
@@ -180,7 +192,7 @@ impl Checker {
     }
 
     #[tactic(auto, using(crate::proofs::Steps::steps))]
-    pub fn assigns(&mut self, scope: &Scope<'_>, rows: &Rows<'_>, t: Ident)
+    pub(crate) fn assigns(&mut self, scope: &Scope<'_>, rows: &Rows<'_>, t: Ident)
         ensures { self.new ≡ step (scope_in scope.now) self.old (at (rows_of rows.now) (Assigns t)) }
     {
         match self.binding(scope, rows, t.name) {

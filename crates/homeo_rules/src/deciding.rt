@@ -10,8 +10,8 @@ use homeo_meaning::{Fault, Phase};
 use homeo_syntax::{Ident, Number};
 
 /// The place of a phase in the order in which phases are tried, from 0.
-#[tactic(auto, unfolding(homeo_meaning::specs::Key::words))]
-pub fn rank(phase: Phase) -> u8
+#[tactic(auto, unfolding(homeo_meaning::specs::Key::definitions))]
+pub(crate) fn rank(phase: Phase) -> u8
     ensures { result ≡ rank phase }
 {
     match phase {
@@ -29,8 +29,8 @@ pub fn rank(phase: Phase) -> u8
 }
 
 /// The number of a phase's refusals, as 5 of `E5`.
-#[tactic(auto, unfolding(homeo_meaning::specs::Key::words))]
-pub fn code(phase: Phase) -> u8
+#[tactic(auto, unfolding(homeo_meaning::specs::Key::definitions))]
+pub(crate) fn code(phase: Phase) -> u8
     ensures { result ≡ code phase }
 {
     match phase {
@@ -48,7 +48,7 @@ pub fn code(phase: Phase) -> u8
 }
 
 /// Whether a fault is of an earlier phase, or of the same phase at a lesser offset.
-#[tactic(auto, unfolding(homeo_meaning::specs::Key::words))]
+#[tactic(auto, unfolding(homeo_meaning::specs::Key::definitions))]
 fn comes_before(f: Fault, g: Fault) -> bool
     ensures { result ≡ comes_before f g }
 {
@@ -57,8 +57,8 @@ fn comes_before(f: Fault, g: Fault) -> bool
 }
 
 /// The one of two that decides.
-#[tactic(auto, unfolding(homeo_meaning::specs::Key::words))]
-pub fn keep(best: Option<Fault>, fault: Fault) -> Option<Fault>
+#[tactic(auto, unfolding(homeo_meaning::specs::Key::definitions))]
+pub(crate) fn keep(best: Option<Fault>, fault: Fault) -> Option<Fault>
     ensures { result ≡ keep best fault }
 {
     match best {
@@ -74,8 +74,8 @@ pub fn keep(best: Option<Fault>, fault: Fault) -> Option<Fault>
 }
 
 /// With a fault that stands at a name.
-#[tactic(auto, unfolding(homeo_meaning::specs::Key::words))]
-pub fn at_name(best: Option<Fault>, phase: Phase, x: Ident) -> Option<Fault>
+#[tactic(auto, unfolding(homeo_meaning::specs::Key::definitions))]
+pub(crate) fn at_name(best: Option<Fault>, phase: Phase, x: Ident) -> Option<Fault>
     ensures { result ≡ keep_all best (fault phase x) }
 {
     keep(
@@ -88,8 +88,8 @@ pub fn at_name(best: Option<Fault>, phase: Phase, x: Ident) -> Option<Fault>
 }
 
 /// With a fault that stands at a number.
-#[tactic(auto, unfolding(homeo_meaning::specs::Key::words))]
-pub fn at_number(best: Option<Fault>, phase: Phase, n: Number) -> Option<Fault>
+#[tactic(auto, unfolding(homeo_meaning::specs::Key::definitions))]
+pub(crate) fn at_number(best: Option<Fault>, phase: Phase, n: Number) -> Option<Fault>
     ensures { result ≡ keep_all best (number_fault phase n) }
 {
     keep(

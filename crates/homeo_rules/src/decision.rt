@@ -188,7 +188,7 @@ fn in_scope(
 }
 
 /// The fault that decides, if there is one.
-pub fn decide(alloc: Global, purpose: Purpose, w: &Workload) -> Result<Option<Fault>, Memory>
+pub(crate) fn decide(alloc: Global, purpose: Purpose, w: &Workload) -> Result<Option<Fault>, Memory>
     requires { IsWellFormed (plain_workload w.now) }
     ensures { IfOk result (λ b. b ≡ keep_all None (faults purpose (plain_workload w.now))) }
 {

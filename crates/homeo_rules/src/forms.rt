@@ -24,7 +24,7 @@ use homeo_syntax::{Memory, Workload};
 use std::alloc::Global;
 
 /// The number of sites, which is not negative where no limit is passed.
-#[tactic(auto, unfolding(homeo_meaning::specs::Key::words, homeo_syntax::specs::Key::words))]
+#[tactic(auto, unfolding(homeo_meaning::specs::Key::definitions, homeo_syntax::specs::Key::definitions))]
 fn site_count(w: &Workload) -> u64
     ensures { result ≡ nat_of (plain_workload w.now).sites.value }
 {
@@ -101,7 +101,7 @@ fn check_weights_and_rows(
 }
 
 /// The fault that decides, of those that the L forms have for the purpose, where the text has none.
-pub fn check_forms<'a>(
+pub(crate) fn check_forms<'a>(
     alloc: Global,
     purpose: Purpose,
     w: &'a Workload,

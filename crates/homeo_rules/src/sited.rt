@@ -25,7 +25,7 @@ fn push_calls<'a>(cs: &'a [Call], site: i64, calls: &mut Vec<SitedCall<'a>>) -> 
 
 /// All calls, in the order of the text.
 #[tactic(auto, using(crate::proofs::Limiting::siting))]
-pub fn sited_calls(alloc: Global, cs: &[Client]) -> Result<Vec<SitedCall<'_>>, Memory>
+pub(crate) fn sited_calls(alloc: Global, cs: &[Client]) -> Result<Vec<SitedCall<'_>>, Memory>
     ensures { IfOk result (λ calls. map sited calls.items ≡ sited_of cs.now) }
 {
     let mut calls = Vec::new(alloc);

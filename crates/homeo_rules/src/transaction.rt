@@ -28,7 +28,7 @@ fn enter_params(ds: &[RangeDecl], scope: &Scope<'_>, k: &mut Checker)
 }
 
 /// The fault that decides, of the transaction's and of one so far.
-pub fn check_transaction(
+pub(crate) fn check_transaction(
     alloc: Global,
     t: &Transaction,
     scope: &Scope<'_>,
@@ -46,7 +46,7 @@ pub fn check_transaction(
 }
 
 /// All transactions.
-pub fn check_transactions(
+pub(crate) fn check_transactions(
     alloc: Global,
     ts: &[Transaction],
     scope: &Scope<'_>,
@@ -63,7 +63,7 @@ pub fn check_transactions(
     Ok(best)
 }
 
-#[tactic(auto, unfolding(crate::specs::inner::Key::words))]
+#[tactic(auto, unfolding(crate::specs::inner::Key::definitions))]
 fn check_one(
     alloc: Global,
     t: &Transaction,

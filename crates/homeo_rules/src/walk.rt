@@ -226,7 +226,7 @@ fn walk_command(
 /// Follows the names of commands one after another.
 #[cycle(commands)]
 #[tactic(auto, using(crate::proofs::Walks::walks))]
-pub fn walk_commands(
+pub(crate) fn walk_commands(
     cs: &[Command],
     scope: &Scope<'_>,
     rows: &Rows<'_>,

@@ -9,7 +9,7 @@ use Rattle.homeo_plan.specs.Planned.{sites_of, policy}
 use Rattle.homeo_plan.specs.PlanView.{plain_config}
 use Rattle.homeo_plan.proofs.Policy.{some_sites}
 use Rattle.homeo_history.specs.Legal.{IsCallAt}
-use Rattle.homeo_site.specs.Key.{words}
+use Rattle.homeo_site.specs.Key.{definitions}
 use Rattle.homeo_site.specs.Attempts.{IsChange, IsOutcome}
 use Rattle.homeo_site.specs.SiteState.{KeepsCall, step_deltas, step_prints, after_local}
 use Rattle.homeo_site.specs.SiteView.{SiteValue}
@@ -24,7 +24,7 @@ pub call_stays :
     (old new : SiteValue) (call : CallId) (c : Change) (n : ℕ) → new ≡ spared old n →
     IsOutcome (plain_workload old.work) old.state call (Keeps c) → IsCallAt (plain_workload old.work) old.state.number call →
     IsCallAt (plain_workload new.work) new.state.number c.call
-unfolding words
+unfolding definitions
 call_stays old new call c n e h at =
     subst (λ (v : SiteValue). IsCallAt (plain_workload v.work) v.state.number c.call) (sym e)
     (subst (IsCallAt (plain_workload old.work) old.state.number) (sym h.call) at)
@@ -32,7 +32,7 @@ call_stays old new call c n e h at =
 pub change_stays :
     (old new : SiteValue) (call : CallId) (c : Change) (n : ℕ) → new ≡ spared old n →
     IsOutcome (plain_workload old.work) old.state call (Keeps c) → IsChange (plain_workload new.work) new.state c.call c
-unfolding words
+unfolding definitions
 change_stays old new call c n e h =
     let w = plain_workload old.work in
     subst (λ (v : SiteValue). IsChange (plain_workload v.work) v.state c.call c) (sym e)
@@ -47,7 +47,7 @@ pub number_stays :
     (old mid new : SiteValue) (call : CallId) (n m : ℕ) → mid ≡ spared old n →
     new ≡ record { work = mid.work; state = after_local (plain_workload mid.work) mid.state call; spare = m } →
     new.state.number ≡ old.state.number
-unfolding words
+unfolding definitions
 number_stays old mid new call n m e d = ap (λ (v : SiteValue). v.state.number) d ∙ ap (λ (v : SiteValue). v.state.number) e
 
 -- ---- the first site

@@ -64,7 +64,7 @@ fn step_all(alloc: Global, core: &mut Core, order: &[u32]) -> Result<List<Answer
     Ok(answers)
 }
 
-#[tactic(auto, unfolding(homeo_syntax::specs::Key::words))]
+#[tactic(auto, unfolding(homeo_syntax::specs::Key::definitions))]
 fn client_count(c: &Compiled) -> u64
     ensures { result ≡ length (plain_workload c.now).clients }
 {
@@ -72,7 +72,7 @@ fn client_count(c: &Compiled) -> u64
 }
 
 /// A core of a workload with two clients.
-#[tactic(auto, unfolding(homeo_core::specs::Key::words))]
+#[tactic(auto, unfolding(homeo_core::specs::Key::definitions))]
 fn core_of(alloc: Global, c: &Arc<Compiled>) -> Result<Core, Fail>
     ensures work { IfOk result (λ core. core.work ≡ c.now.value) }
     ensures clients { IfOk result (λ core. 2 ≤ length (plain_workload core.work).clients) }

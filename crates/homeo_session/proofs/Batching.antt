@@ -3,7 +3,7 @@ use Rattle.std.proofs.Common.{◌≡◌, ◌∙◌, ◌⊎◌, ◌++◌, ℕ, Li
 use Rattle.homeo_syntax.specs.declared.workload.Refusal.{Refusal}
 use Rattle.homeo_syntax.specs.Source as s
 use Rattle.homeo_syntax.specs.Tokens.{Scanned}
-use Rattle.homeo_meaning.specs.Key.{words as meanings}
+use Rattle.homeo_meaning.specs.Key.{definitions as meaning_definitions}
 use Rattle.homeo_meaning.specs.declared.call.Purpose.{Purpose}
 use Rattle.homeo_meaning.specs.declared.call.Purpose.TheVariants.{Run, Steps}
 use Rattle.homeo_meaning.specs.Faults.{IsRefusedBy}
@@ -20,7 +20,7 @@ use Rattle.homeo_accept.specs.RefusalLine.{refusal_line}
 use Rattle.homeo_accept.proofs.Decided.{accepted_not_refused}
 use Rattle.homeo_order.specs.Order.{scheduled_calls}
 use Rattle.homeo_report.specs.Report.{report}
-use Rattle.homeo_session.specs.Key.{words}
+use Rattle.homeo_session.specs.Key.{definitions}
 use Rattle.homeo_session.specs.Batches.{HeadValue, RefusesHead, TakesHead, IsBatch, BeginsWrong, IsServedBatch, AnswersBatch, without_last_line, IsAnswered}
 
 same_refusal : (r q : Refusal) → r.code ≡ q.code → r.offset ≡ q.offset → r ≡ q
@@ -29,7 +29,7 @@ same_refusal r q c o =
 
 -- a text is refused in one way
 one_refused : (text : List ℕ) (purpose : Purpose) (r q : Refusal) → IsRefused text purpose r → IsRefused text purpose q → r ≡ q
-unfolding meanings
+unfolding meaning_definitions
 one_refused text purpose r q (inl h) (inl k) = same_refusal r q (h.code ∙ sym k.code) (h.offset ∙ sym k.offset)
 one_refused text purpose r q (inl h) (inr (short, k)) = absurd (omega (arith, h.long, short))
 one_refused text purpose r q (inr (short, h)) (inl k) = absurd (omega (arith, k.long, short))
@@ -47,11 +47,11 @@ one_taken frame x y h k =
     h.is ∙ ap (λ w. let z : HeadValue = record { text = without_last_line frame; database = initial w } in z) same ∙ sym k.is
 
 pub one_refusal : (frame : List ℕ) (r q : Refusal) → RefusesHead frame r → RefusesHead frame q → r ≡ q
-unfolding words
+unfolding definitions
 one_refusal frame r q h k = one_refused frame Run r q h k
 
 pub taken_not_refused : (frame : List ℕ) (x : HeadValue) (r : Refusal) → TakesHead frame x → RefusesHead frame r → ⊥
-unfolding words
+unfolding definitions
 taken_not_refused frame x r h k = accepted_not_refused frame Run h.workload r h.accepted k
 
 -- ---- batches
@@ -88,7 +88,7 @@ one_served head next other frame answer answer' h k =
 pub one_batch :
     (head next other : HeadValue) (frame answer answer' : List ℕ) → AnswersBatch head frame answer next → AnswersBatch head frame answer' other →
     (answer ≡ answer') × (next ≡ other)
-unfolding words
+unfolding definitions
 one_batch head next other frame answer answer' (inl h) (inl k) =
     (h.answer_is ∙ ap refusal_line (one_line head frame h.refusal k.refusal h.refused k.refused) ∙ sym k.answer_is, h.stays ∙ sym k.stays)
 one_batch head next other frame answer answer' (inl h) (inr k) = absurd (refused_not_served head other frame answer' h.refusal h.refused k)

@@ -1,8 +1,10 @@
 -- A stream is cut into frames in one way, however it comes.
 use Rattle.std.proofs.Common.{◌≡◌, ◌∙◌, ℕ, Bool, true, false, ◌&&◌, not, ◌==◌, List, [], ◌∷◌, ◌++◌, refl, sym, ap, subst, append_assoc, append-nil}
+use Rattle.std.specs.List.{concat}
 use Rattle.std.proofs.lemmas.Bool.{eqb-true}
+use Rattle.std.proofs.lemmas.List.Folds.{concat-append}
 use Rattle.homeo_reader.specs.Lines.{newline, is_end, whole_lines}
-use Rattle.homeo_session.specs.Frames.{is_line, IsOther, AreOther, IsFrame, IsOpen, AreFrames, joined, IsCut}
+use Rattle.homeo_session.specs.Frames.{is_line, IsOther, AreOther, IsFrame, IsOpen, AreFrames, IsCut}
 use Rattle.homeo_session.specs.Laws.{OneCut, HasCut, CutsOn}
 
 -- ---- lines
@@ -94,14 +96,14 @@ frame_not_open f r x p q e = not_open p.before q.before p.last q.part x p.others
 
 -- ---- cuts
 one_row : (fs gs : List (List ℕ)) (r q : List ℕ) → AreFrames fs → AreFrames gs → IsOpen r → IsOpen q →
-    joined fs ++ r ≡ joined gs ++ q → (fs ≡ gs) × (r ≡ q)
+    concat fs ++ r ≡ concat gs ++ q → (fs ≡ gs) × (r ≡ q)
 one_row [] [] r q fs_are gs_are ro qo e = (refl, e)
 one_row [] (g ∷ gs) r q fs_are gs_are ro qo e =
-    absurd (frame_not_open g r (joined gs ++ q) gs_are.0 ro (sym (e ∙ append_assoc g (joined gs) q)))
+    absurd (frame_not_open g r (concat gs ++ q) gs_are.0 ro (sym (e ∙ append_assoc g (concat gs) q)))
 one_row (f ∷ fs) [] r q fs_are gs_are ro qo e =
-    absurd (frame_not_open f q (joined fs ++ r) fs_are.0 qo (sym (append_assoc f (joined fs) r) ∙ e))
+    absurd (frame_not_open f q (concat fs ++ r) fs_are.0 qo (sym (append_assoc f (concat fs) r) ∙ e))
 one_row (f ∷ fs) (g ∷ gs) r q fs_are gs_are ro qo e =
-    let same = one_frame f g (joined fs ++ r) (joined gs ++ q) fs_are.0 gs_are.0 (sym (append_assoc f (joined fs) r) ∙ e ∙ append_assoc g (joined gs) q) in
+    let same = one_frame f g (concat fs ++ r) (concat gs ++ q) fs_are.0 gs_are.0 (sym (append_assoc f (concat fs) r) ∙ e ∙ append_assoc g (concat gs) q) in
     let more = one_row fs gs r q fs_are.1 gs_are.1 ro qo same.1 in
     let first : f ≡ g = same.0 in
     let others : fs ≡ gs = more.0 in
@@ -110,18 +112,14 @@ one_row (f ∷ fs) (g ∷ gs) r q fs_are gs_are ro qo e =
 pub one_cut : OneCut
 one_cut bytes frames others rest more c d = one_row frames others rest more c.each d.each c.open_rest d.open_rest (sym c.whole ∙ d.whole)
 
-pub joined-append : (fs gs : List (List ℕ)) → joined (fs ++ gs) ≡ joined fs ++ joined gs
-joined-append [] gs = refl
-joined-append (f ∷ fs) gs = ap (λ l. f ++ l) (joined-append fs gs) ∙ sym (append_assoc f (joined fs) (joined gs))
-
 pub AreFrames-append : (fs gs : List (List ℕ)) → AreFrames fs → AreFrames gs → AreFrames (fs ++ gs)
 AreFrames-append [] gs fs_are gs_are = gs_are
 AreFrames-append (f ∷ fs) gs fs_are gs_are = (fs_are.0, AreFrames-append fs gs fs_are.1 gs_are)
 
 pub cuts_on : CutsOn
 cuts_on bytes piece frames gained rest more c d = record {
-  whole = ap (λ l. l ++ piece) c.whole ∙ append_assoc (joined frames) rest piece ∙ ap (λ l. joined frames ++ l) d.whole
-      ∙ sym (append_assoc (joined frames) (joined gained) more) ∙ ap (λ l. l ++ more) (sym (joined-append frames gained));
+  whole = ap (λ l. l ++ piece) c.whole ∙ append_assoc (concat frames) rest piece ∙ ap (λ l. concat frames ++ l) d.whole
+      ∙ sym (append_assoc (concat frames) (concat gained) more) ∙ ap (λ l. l ++ more) (sym (concat-append frames gained));
   each = AreFrames-append frames gained c.each d.each;
   open_rest = d.open_rest;
 }

@@ -6,7 +6,7 @@ use Rattle.homeo_syntax.specs.Source as s
 use Rattle.homeo_syntax.specs.Tokens.{scanned_from}
 use Rattle.homeo_meaning.specs.Bounds.{IsWithin}
 use Rattle.homeo_meaning.specs.Initial.{initial}
-use Rattle.homeo_meaning.specs.Key.{words as meanings}
+use Rattle.homeo_meaning.specs.Key.{definitions as meaning_definitions}
 use Rattle.homeo_meaning.specs.Schema.{Schema, schema_of, declared_object, declared_relation}
 use Rattle.homeo_meaning.specs.Verdict.{Accepts, IsRefused, text_limit}
 use Rattle.homeo_meaning.specs.declared.call.Purpose.{Purpose}
@@ -15,7 +15,7 @@ use Rattle.homeo_reader.specs.Lines.{whole_lines}
 use Rattle.homeo_reader.specs.Stands.{EndsLexeme, SameDeclarations}
 use Rattle.homeo_reader.proofs.Texts.{texts_stand}
 use Rattle.homeo_accept.specs.RefusalLine.{refusal_line}
-use Rattle.homeo_session.specs.Key.{words}
+use Rattle.homeo_session.specs.Key.{definitions}
 use Rattle.homeo_session.specs.Batches.{HeadValue, RefusesHead, TakesHead, AnswersBatch, IsAnswered, without_last_line}
 use Rattle.homeo_session.specs.inner.Heads.{IsHead, IsServedFrom}
 use Rattle.homeo_session.specs.inner.LastLines.{EndsInEnd}
@@ -54,7 +54,7 @@ batch_there text frame d w h a =
     (token_there h.lines h.line frame h.workload w h.reads h.ends (subst (λ l. Reads (l ++ frame) w) h.are a.reads))
 
 same_schema : (v w : s.Workload) → SameDeclarations v w → schema_of v ≡ schema_of w
-unfolding meanings
+unfolding meaning_definitions
 same_schema v w same =
     ap₂ (λ os rs. let x : Schema = record { objects = map declared_object os; relations = map declared_relation rs } in x) same.objects same.relations
 
@@ -88,13 +88,13 @@ head_stays text frame d last w h a t word inside = record {
 
 -- ---- answers
 pub refused_by : (head next : HeadValue) (frame : List ℕ) (r : Refusal) → IsRefused (head.text ++ frame) Steps r → next ≡ head → AnswersBatch head frame (refusal_line r) next
-unfolding words
+unfolding definitions
 refused_by head next frame r h stays = inl (record { refusal = r; refused = inl h; answer_is = refl; stays = stays })
 
 pub begins_wrong :
     (head next : HeadValue) (frame : List ℕ) (w : s.Workload) (r : Refusal) → Accepts (head.text ++ frame) Steps w → (t : HasToken (length head.text) frame) →
     (EndsLexeme t.first.lexeme → ⊥) × (r ≡ record { code = 15; offset = t.first.offset }) → next ≡ head → AnswersBatch head frame (refusal_line r) next
-unfolding words
+unfolding definitions
 begins_wrong head next frame w r a t wrong stays = inl (record {
   refusal = r;
   refused = inr (record {
@@ -111,7 +111,7 @@ begins_wrong head next frame w r a t wrong stays = inl (record {
 pub is_served :
     (text frame : List ℕ) (d : List ℤ) (w : s.Workload) (answer : List ℕ) (last : List ℤ) → Accepts (text ++ frame) Steps w → (t : HasToken (length text) frame) → EndsLexeme t.first.lexeme →
     IsServedFrom w d answer last → AnswersBatch (record { text = text; database = d }) frame answer (record { text = text; database = last })
-unfolding words
+unfolding definitions
 is_served text frame d w answer last a t word served = inr (record {
   workload = w;
   first = t.first;
@@ -126,11 +126,11 @@ is_served text frame d w answer last a t word served = inr (record {
 
 -- ---- texts
 pub too_long : (text : List ℕ) (purpose : Purpose) (told r : Refusal) → text_limit < length text → told ≡ record { code = 2; offset = text_limit } → told ≡ r → IsRefused text purpose r
-unfolding meanings
+unfolding meaning_definitions
 too_long text purpose told r long is same = inl (record { long = long; code = ap (λ (x : Refusal). x.code) (sym same ∙ is); offset = ap (λ (x : Refusal). x.offset) (sym same ∙ is) })
 
 pub head_refused : (frame : List ℕ) (told r : Refusal) → IsRefused frame Run told → told ≡ r → RefusesHead frame r
-unfolding words
+unfolding definitions
 head_refused frame told r refused same = subst (IsRefused frame Run) same refused
 
 pub same_some : (r q : Refusal) → Some r ≡ Some q → r ≡ q

@@ -1,7 +1,8 @@
 -- What is answered to a stream is a function of its bytes.
 use Rattle.std.proofs.Common.{◌≡◌, ◌∙◌, ◌⊎◌, ◌+◌, ◌≤◌, ℕ, List, [], ◌∷◌, ◌++◌, length, Option, Some, None, refl, sym, ap, subst, append_assoc, append-nil, arith, length-append, inl, inr}
+use Rattle.std.specs.List.{concat}
 use Rattle.homeo_syntax.specs.declared.workload.Refusal.{Refusal}
-use Rattle.homeo_session.specs.Frames.{IsFrame, IsOpen, joined, IsCut}
+use Rattle.homeo_session.specs.Frames.{IsFrame, IsOpen, IsCut}
 use Rattle.homeo_session.specs.Batches.{HeadValue, RefusesHead}
 use Rattle.homeo_session.specs.Streams.{frame_limit, stream_limit, AreAnswered, AreShort, State, IsAfter, Decides, IsStopped, with_rest, IsServed, EndRefuses, Stops}
 use Rattle.homeo_session.proofs.Cutting.{one_cut, has_cut, cuts_on, frame_not_open, cut_one}
@@ -88,7 +89,7 @@ rest_short r x q [] o c short h =
     let lengths = ap length c.whole in
     omega (arith, length-append r x)
 rest_short r x q (g ∷ gs) o c short h =
-    go (fronts r g x (joined gs ++ q) (c.whole ∙ append_assoc g (joined gs) q))
+    go (fronts r g x (concat gs ++ q) (c.whole ∙ append_assoc g (concat gs) q))
   where
     go : ((z : List ℕ) × (g ≡ r ++ z)) ⊎ ((z : List ℕ) × (r ≡ g ++ z)) → length r ≤ frame_limit
     go (inl (z, is)) = let small = short.0 in omega (arith, ap length is, length-append r z)
@@ -150,7 +151,7 @@ long_gained r q b [] full o c short h =
     let more = length_push r b in
     omega arith
 long_gained r q b (g ∷ gs) full o c short h =
-    go (fronts r g (b ∷ []) (joined gs ++ q) (c.whole ∙ append_assoc g (joined gs) q))
+    go (fronts r g (b ∷ []) (concat gs ++ q) (c.whole ∙ append_assoc g (concat gs) q))
   where
     go : ((z : List ℕ) × (g ≡ r ++ z)) ⊎ ((z : List ℕ) × (r ≡ g ++ z)) → ⊥
     go (inl (z, is)) = ends z is

@@ -14,7 +14,7 @@ use Rattle.homeo_reader.specs.Stands.{EndsLexeme}
 use Rattle.homeo_accept.specs.RefusalLine.{refusal_line}
 use Rattle.homeo_order.specs.Order.{scheduled_calls}
 use Rattle.homeo_report.specs.Report.{report}
-use Rattle.homeo_session.specs.Key.{words}
+use Rattle.homeo_session.specs.Key.{definitions}
 
 -- what a session has of its head: the text that stands before each batch, and the database, which batches change
 pub record HeadValue : Type 0 where
@@ -35,7 +35,7 @@ without_last_line (b ∷ bytes) = if is_one_line (b ∷ bytes) then [] else b �
 
 -- the head is refused, as a text that is to be run is
 abbrev pub RefusesHead : List ℕ → Refusal → Type 0
-unfolding words
+unfolding definitions
 RefusesHead frame r = IsRefused frame Run r
 
 -- the head is taken: its last line is left out, and the database is its initial one
@@ -81,7 +81,7 @@ pub record IsServedBatch (head : HeadValue) (frame answer : List ℕ) (next : He
   pub after : next ≡ record { text = head.text; database = history.last }
 
 abbrev pub AnswersBatch : HeadValue → List ℕ → List ℕ → HeadValue → Type 0
-unfolding words
+unfolding definitions
 AnswersBatch head frame answer next = IsRefusedBatch head frame answer next ⊎ IsServedBatch head frame answer next
 
 -- ---- frames

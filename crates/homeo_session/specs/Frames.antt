@@ -1,5 +1,6 @@
 -- The frames of a stream: lines, up to the first that is `end` (this project's rule).
 use Rattle.std.specs.Prelude.{◌≡◌, ℕ, ◌==◌, Bool, true, false, ◌&&◌, not, List, [], ◌∷◌, ◌++◌}
+use Rattle.std.specs.List.{concat}
 use Rattle.homeo_reader.specs.Lines.{newline, is_end, whole_lines}
 
 -- ---- lines
@@ -39,13 +40,8 @@ abbrev pub AreFrames : List (List ℕ) → Type 0
 AreFrames [] = Unit {0}
 AreFrames (frame ∷ frames) = IsFrame frame × AreFrames frames
 
--- frames one after another
-abbrev pub joined : List (List ℕ) → List ℕ
-joined [] = []
-joined (frame ∷ frames) = frame ++ joined frames
-
 -- the bytes are these frames, and then one that hasn't ended
 pub record IsCut (bytes : List ℕ) (frames : List (List ℕ)) (rest : List ℕ) : Type 0 where
-  pub whole : bytes ≡ joined frames ++ rest
+  pub whole : bytes ≡ concat frames ++ rest
   pub each : AreFrames frames
   pub open_rest : IsOpen rest

@@ -21,8 +21,8 @@ use std::sync::Arc;
 /// The report of a batch, and the database that it leaves.
 #[derive(Drop)]
 pub(crate) struct Served {
-    pub report: Vec<u8>,
-    pub database: Database,
+    pub(crate) report: Vec<u8>,
+    pub(crate) database: Database,
 }
 
 /// Makes the calls of an accepted batch from a database on, in the order of its schedule.

@@ -3,18 +3,18 @@ use Rattle.std.proofs.Common.{◌≡◌, ℕ, List, [], ◌∷◌, ◌++◌, map
 use Rattle.std.specs.Option.{option_map}
 use Rattle.std.proofs.lemmas.List.Elements.{All-head, All-tail}
 use Rattle.homeo_syntax.specs.Source as s
-use Rattle.homeo_meaning.specs.Key.{words as meaning_words}
+use Rattle.homeo_meaning.specs.Key.{definitions as meaning_definitions}
 use Rattle.homeo_meaning.specs.declared.call.CallId.{CallId}
 use Rattle.homeo_meaning.specs.Schema.{nat_of}
 use Rattle.homeo_meaning.specs.Serial.{values_of}
-use Rattle.homeo_plan.specs.Key.{words as plan_words}
+use Rattle.homeo_plan.specs.Key.{definitions as plan_definitions}
 use Rattle.homeo_plan.specs.Each.{Each, Member}
 use Rattle.homeo_plan.specs.Joined.{Deltas}
 use Rattle.homeo_plan.specs.Planned.{sites_of, planned, planned_at, template_at, policy}
 use Rattle.homeo_plan.specs.Replay.{KeepsAlong}
 use Rattle.homeo_plan.specs.Template.{PlannedCall}
 use Rattle.homeo_plan.proofs.PlannedCalls.{KnownCall, known, planned_is, planned_member}
-use Rattle.homeo_history.specs.Key.{words as history_words}
+use Rattle.homeo_history.specs.Key.{definitions as history_definitions}
 use Rattle.homeo_history.specs.History.{Entry}
 use Rattle.homeo_history.specs.Legal.{IsCallAt}
 use Rattle.homeo_history.specs.Replayed.{deltas_after, end_of, KeepsOne, KeepsAll}
@@ -23,7 +23,7 @@ same_in_some : (a b : ℕ) → Some a ≡ Some b → a ≡ b
 same_in_some a b e = cc
 
 pub call_site : (w : s.Workload) (i : ℕ) (call : CallId) → IsCallAt w i call → (planned_at w call).site ≡ i
-unfolding plan_words meaning_words history_words
+unfolding plan_definitions meaning_definitions history_definitions
 call_site w i call h =
     let n : KnownCall w call = known w call h.exists in
     ap (λ (g : PlannedCall). g.site) (planned_is w call n)
@@ -32,7 +32,7 @@ call_site w i call h =
 pub planned_calls :
     (w : s.Workload) (i : ℕ) (es : List Entry) → All (λ e. IsCallAt w i e.call) es →
     Each (λ g. (g.site ≡ i) × Member g (planned w)) (map (λ e. planned_at w e.call) es)
-unfolding plan_words
+unfolding plan_definitions
 planned_calls w i [] h = tt
 planned_calls w i (e ∷ es) h =
     let here : IsCallAt w i e.call = All-head (λ (e : Entry). IsCallAt w i e.call) e es h in (
@@ -43,7 +43,7 @@ planned_calls w i (e ∷ es) h =
 pub kept_along :
     (w : s.Workload) (base : List ℤ) (i : ℕ) (x : Deltas) (es : List Entry) → KeepsAll w base i x es →
     KeepsAlong (sites_of w) (values_of base) (template_at w base) (policy w base) i x (map (λ e. planned_at w e.call) es)
-unfolding plan_words history_words
+unfolding plan_definitions history_definitions
 kept_along w base i x [] h = tt
 kept_along w base i x (e ∷ es) h = (h.0.keeps, kept_along w base i (deltas_after w base e.call x) es h.1)
 
@@ -51,13 +51,13 @@ kept_along w base i x (e ∷ es) h = (h.0.keeps, kept_along w base i (deltas_aft
 pub end_more :
     (w : s.Workload) (base : List ℤ) (es : List Entry) (e : Entry) (x : Deltas) →
     end_of w base (es ++ e ∷ []) x ≡ deltas_after w base e.call (end_of w base es x)
-unfolding plan_words history_words
+unfolding plan_definitions history_definitions
 end_more w base [] e x = refl
 end_more w base (d ∷ es) e x = end_more w base es e (deltas_after w base d.call x)
 
 pub keeps_more :
     (w : s.Workload) (base : List ℤ) (i : ℕ) (es : List Entry) (e : Entry) (x : Deltas) → KeepsAll w base i x es →
     KeepsOne w base i (end_of w base es x) e → KeepsAll w base i x (es ++ e ∷ [])
-unfolding plan_words history_words
+unfolding plan_definitions history_definitions
 keeps_more w base i [] e x h one = (one, tt)
 keeps_more w base i (d ∷ es) e x h one = (h.0, keeps_more w base i es e (deltas_after w base d.call x) h.1 one)

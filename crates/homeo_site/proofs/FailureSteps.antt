@@ -1,7 +1,7 @@
 -- Along numbers, the first that fails is the first that fails of those that are left.
 use Rattle.std.proofs.Common.{◌≡◌, ℕ, zero, suc, ◌+◌, ◌<◌, ◌≤◌, List, [], ◌∷◌, length, get_or, drop, true, false, Option, Some, None, is_some, map, pos, refl, sym, ap, ◌∙◌, arith}
 use Rattle.homeo_plan.specs.declared.treaty.Broken.{Broken}
-use Rattle.homeo_site.specs.Key.{words}
+use Rattle.homeo_site.specs.Key.{definitions}
 use Rattle.homeo_plan.specs.Joined.{Deltas}
 use Rattle.homeo_site.specs.declared.own_treaty.OwnClause as code
 use Rattle.homeo_site.specs.inner.Failures.{sum_failure, first_of, first_failure, own_failure}
@@ -9,7 +9,7 @@ use Rattle.homeo_site.specs.OwnTreaty.{own_sum, plain_own}
 
 at_place : (f : ℕ → Option Broken) (ns : List ℕ) (k d : ℕ) → k < length ns →
     first_failure f (drop k ns) ≡ first_of (f (get_or ns k d)) (first_failure f (drop (suc k) ns))
-unfolding words
+unfolding definitions
 at_place f [] k d lt = absurd (omega arith)
 at_place f (n ∷ ns) zero d lt = refl
 at_place f (n ∷ ns) (suc k) d lt = at_place f ns k d (omega arith)
@@ -18,7 +18,7 @@ at_place f (n ∷ ns) (suc k) d lt = at_place f ns k d (omega arith)
 pub found :
     (f : ℕ → Option Broken) (ns : List ℕ) (k d : ℕ) (b : Broken) → k < length ns →
     first_failure f ns ≡ first_failure f (drop k ns) → f (get_or ns k d) ≡ Some b → Some b ≡ first_failure f ns
-unfolding words
+unfolding definitions
 found f ns k d b lt so_far e =
     sym (so_far ∙ at_place f ns k d lt ∙ ap (λ o. first_of o (first_failure f (drop (suc k) ns))) e)
 
@@ -26,7 +26,7 @@ found f ns k d b lt so_far e =
 pub passed :
     (f : ℕ → Option Broken) (ns : List ℕ) (k d : ℕ) → k < length ns → first_failure f ns ≡ first_failure f (drop k ns) →
     f (get_or ns k d) ≡ None → first_failure f ns ≡ first_failure f (drop (k + 1) ns)
-unfolding words
+unfolding definitions
 passed f ns k d lt so_far e =
     let next : suc k ≡ k + 1 = omega arith in
     so_far ∙ at_place f ns k d lt ∙ ap (λ o. first_of o (first_failure f (drop (suc k) ns))) e
@@ -36,7 +36,7 @@ passed f ns k d lt so_far e =
 pub none_left :
     (f : ℕ → Option Broken) (ns : List ℕ) (k : ℕ) → length ns ≤ k → first_failure f ns ≡ first_failure f (drop k ns) →
     None ≡ first_failure f ns
-unfolding words
+unfolding definitions
 none_left f ns k le so_far = sym (so_far ∙ ap (first_failure f) (past ns k le))
   where
     past : (ms : List ℕ) (m : ℕ) → length ms ≤ m → drop m ms ≡ []
@@ -63,7 +63,7 @@ passed_none f ns k d (Some b) lt so_far e none = cc
 pub clause_at :
     (cs : List code.OwnClause) (x : Deltas) (n : ℕ) (c : code.OwnClause) → n < length cs → c ≡ get_or cs n c →
     own_failure (map plain_own cs) x n ≡ sum_failure n (own_sum c.terms.items x) c.bound
-unfolding words
+unfolding definitions
 clause_at [] x n c lt e = absurd (omega arith)
 clause_at (a ∷ cs) x n c lt e = at (a ∷ cs) n lt e
   where

@@ -3,7 +3,7 @@ use Rattle.std.proofs.Common.{◌≡◌, ℕ, suc, ◌+◌, ◌==◌, Bool, true
 use Rattle.std.specs.Ordering.{int_eq}
 use Rattle.std.proofs.lemmas.Int.{ints}
 use Rattle.std.proofs.lemmas.Bool.Decides.{nat_tests}
-use Rattle.homeo_plan.specs.Key.{words as plan_words}
+use Rattle.homeo_plan.specs.Key.{definitions as plan_definitions}
 use Rattle.homeo_plan.specs.declared.treaty.Broken.{Broken}
 use Rattle.homeo_plan.specs.declared.forms.Delta.{Delta}
 use Rattle.homeo_plan.specs.Each.{Each}
@@ -11,19 +11,19 @@ use Rattle.homeo_plan.specs.Joined.{Deltas}
 use Rattle.homeo_plan.specs.Template.{Clause}
 use Rattle.homeo_plan.specs.Config.{Config}
 use Rattle.homeo_plan.specs.Treaty.{site_sum, bound_at, KeepsClauses, KeepsFreezes, broken_freeze, broken_from}
-use Rattle.homeo_effect.specs.Key.{words as effect_words}
+use Rattle.homeo_effect.specs.Key.{definitions as effect_definitions}
 use Rattle.homeo_effect.specs.Touched.{numbers_where}
-use Rattle.homeo_site.specs.Key.{words}
+use Rattle.homeo_site.specs.Key.{definitions}
 use Rattle.homeo_site.specs.inner.Failures.{sum_failure, frozen_failure, freeze_failure, freeze_failure_from, failure_from, first_of, first_failure}
 
 pub first_of_both : (f : ℕ → Option Broken) (ms ns : List ℕ) → first_failure f (ms ++ ns) ≡ first_of (first_failure f ms) (first_failure f ns)
-unfolding words
+unfolding definitions
 first_of_both f [] ns = refl
-first_of_both f (m ∷ ms) ns = ap (first_of (f m)) (first_of_both f ms ns) ∙ sym (joined (f m) (first_failure f ms) (first_failure f ns))
+first_of_both f (m ∷ ms) ns = ap (first_of (f m)) (first_of_both f ms ns) ∙ sym (first_of_three (f m) (first_failure f ms) (first_failure f ns))
   where
-    joined : (a b c : Option Broken) → first_of (first_of a b) c ≡ first_of a (first_of b c)
-    joined None b c = refl
-    joined (Some g) b c = refl
+    first_of_three : (a b c : Option Broken) → first_of (first_of a b) c ≡ first_of a (first_of b c)
+    first_of_three None b c = refl
+    first_of_three (Some g) b c = refl
 
 at_most : (a b : ℤ) → a ≤ℤ b → int_le a b ≡ true
 at_most a b h = grind (arith, ints)
@@ -38,7 +38,7 @@ module _ (i : ℕ) (x y : Deltas) (p : Clause → Bool) (q : Delta → Bool) (f 
   SameFreezes ds = Each (λ d. q d ≡ false → d.site ≡ i → y d.object ≡ x d.object) ds
 
   freeze_kept : (n : ℕ) (d : Delta) → (d.site ≡ i → y d.object ≡ pos 0) → freeze_failure n i y d ≡ None
-  unfolding words
+  unfolding definitions
   freeze_kept n d h = go (d.site == i) refl
     where
       go : (v : Bool) → (d.site == i) ≡ v → cond v (frozen_failure n (y d.object)) None ≡ None
@@ -48,7 +48,7 @@ module _ (i : ℕ) (x y : Deltas) (p : Clause → Bool) (q : Delta → Bool) (f 
   freeze_case : (n : ℕ) (d : Delta) (rest : Option Broken) →
       first_of (freeze_failure n i y d) rest ≡
       cond ((d.site == i) && not (int_eq (y d.object) (pos 0))) (Some (record { clause = n; sum = y d.object; bound = pos 0 })) rest
-  unfolding words
+  unfolding definitions
   freeze_case n d rest = go (d.site == i) (int_eq (y d.object) (pos 0))
     where
       go :
@@ -62,7 +62,7 @@ module _ (i : ℕ) (x y : Deltas) (p : Clause → Bool) (q : Delta → Bool) (f 
   clause_case : (n : ℕ) (sum bound : ℤ) (rest : Option Broken) →
       first_of (sum_failure n sum bound) rest ≡
       cond (int_le sum bound) rest (Some (record { clause = n; sum = sum; bound = bound }))
-  unfolding words
+  unfolding definitions
   clause_case n sum bound rest = go (int_le sum bound)
     where
       go :
@@ -74,7 +74,7 @@ module _ (i : ℕ) (x y : Deltas) (p : Clause → Bool) (q : Delta → Bool) (f 
   freezes_first :
       (n : ℕ) (ds : List Delta) → ((m : ℕ) → f (n + m) ≡ freeze_failure_from n i y ds m) → KeepsFreezes i x ds → SameFreezes ds →
       first_failure f (numbers_where q n ds) ≡ broken_freeze n i y ds
-  unfolding words plan_words effect_words
+  unfolding definitions plan_definitions effect_definitions
   freezes_first n [] agree keeps same = refl
   freezes_first n (d ∷ ds) agree keeps same =
       go (q d) refl (freezes_first (suc n) ds (λ m. next m ∙ agree (suc m)) keeps.1 same.1)
@@ -98,7 +98,7 @@ module _ (i : ℕ) (x y : Deltas) (p : Clause → Bool) (q : Delta → Bool) (f 
       (n : ℕ) (cs : List Clause) (bs : Config) (ds : List Delta) → ((m : ℕ) → f (n + m) ≡ failure_from n i y cs bs ds m) →
       KeepsClauses i x cs bs → KeepsFreezes i x ds → SameClauses cs → SameFreezes ds →
       first_failure f (numbers_where p n cs ++ numbers_where q (n + length cs) ds) ≡ broken_from n i y cs bs ds
-  unfolding words plan_words effect_words
+  unfolding definitions plan_definitions effect_definitions
   clauses_first n [] bs ds agree keeps frozen same same' =
       let e : n + 0 ≡ n = omega arith in
       ap (λ m. first_failure f (numbers_where q m ds)) e ∙ freezes_first n ds agree frozen same'

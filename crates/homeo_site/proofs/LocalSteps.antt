@@ -5,14 +5,14 @@ use mathlib.Core.Path.{fun_ext}
 use Rattle.std.proofs.lemmas.Int.{ints}
 use Rattle.std.proofs.lemmas.List.{get_or_past}
 use Rattle.homeo_syntax.specs.Source as s
-use Rattle.homeo_meaning.specs.Key.{words as meaning_words}
+use Rattle.homeo_meaning.specs.Key.{definitions as meaning_definitions}
 use Rattle.homeo_meaning.specs.declared.call.CallId.{CallId}
 use Rattle.homeo_meaning.specs.Acceptance.{IsAccepted}
 use Rattle.homeo_meaning.specs.Bounds.{Bounds, all_bounds, IsIn, bounds_at, AllWithin, IsWithin}
 use Rattle.homeo_meaning.specs.Schema.{schema_of}
 use Rattle.homeo_meaning.specs.Serial.{values_of, values_from, database_like}
 use Rattle.homeo_meaning.proofs.Within.{length_in}
-use Rattle.homeo_plan.specs.Key.{words as plan_words}
+use Rattle.homeo_plan.specs.Key.{definitions as plan_definitions}
 use Rattle.homeo_plan.specs.Joined.{Deltas}
 use Rattle.homeo_plan.specs.Local.{no_deltas}
 use Rattle.homeo_plan.specs.Planned.{sites_of, planned_at, template_at, policy}
@@ -21,17 +21,17 @@ use Rattle.homeo_plan.proofs.OwnWithin.{step_within}
 use Rattle.homeo_plan.proofs.PlannedCalls.{planned_member}
 use Rattle.homeo_plan.proofs.Policy.{policy_fits}
 use Rattle.homeo_plan.proofs.Replays.{can_step, replays_within}
-use Rattle.homeo_history.specs.Key.{words as history_words}
+use Rattle.homeo_history.specs.Key.{definitions as history_definitions}
 use Rattle.homeo_history.specs.Legal.{IsCallAt}
 use Rattle.homeo_delta.proofs.Folds.{values_are}
-use Rattle.homeo_site.specs.Key.{words}
+use Rattle.homeo_site.specs.Key.{definitions}
 use Rattle.homeo_site.specs.SiteState.{SiteState, SiteHolds, step_values, step_deltas}
 use Rattle.homeo_site.specs.inner.Ready.{IsReady}
 use Rattle.homeo_site.proofs.CallsOfSites.{call_site, planned_calls, kept_along}
 
 -- ---- lists and values by number
 pub values_of_list : (base : List ℤ) (f : ℕ → ℤ) → ((n : ℕ) → length base ≤ n → f n ≡ pos 0) → values_of (database_like base f) ≡ f
-unfolding meaning_words
+unfolding meaning_definitions
 values_of_list base f past = fun_ext at
   where
     at : (n : ℕ) → get_or (values_from 0 (length base) f) n (pos 0) ≡ f n
@@ -44,11 +44,11 @@ count_from k zero f = refl
 count_from k (suc n) f = ap suc (count_from (suc k) n f)
 
 pub count_like : (base : List ℤ) (f : ℕ → ℤ) → length (database_like base f) ≡ length base
-unfolding meaning_words
+unfolding meaning_definitions
 count_like base f = count_from 0 (length base) f
 
 no_bounds_past : (bs : List Bounds) (n : ℕ) → length bs ≤ n → bounds_at bs n ≡ record { lo = pos 0; hi = pos 0 }
-unfolding meaning_words
+unfolding meaning_definitions
 no_bounds_past [] n le = refl
 no_bounds_past (b ∷ bs) zero le = absurd (omega arith)
 no_bounds_past (b ∷ bs) (suc n) le = no_bounds_past bs n (omega arith)
@@ -57,7 +57,7 @@ no_bounds_past (b ∷ bs) (suc n) le = no_bounds_past bs n (omega arith)
 pub no_delta_past :
     (w : s.Workload) (base : List ℤ) (x : Deltas) → IsWithin (schema_of w) base →
     AllWithin (schema_of w) (λ n. values_of base n +ℤ x n) → (n : ℕ) → length base ≤ n → x n ≡ pos 0
-unfolding meaning_words
+unfolding meaning_definitions
 no_delta_past w base x within all n le =
     let bs : List Bounds = all_bounds (schema_of w) in
     let count : length base ≡ length bs = length_in bs base within in
@@ -70,7 +70,7 @@ no_delta_past w base x within all n le =
 -- ---- a site
 module _ (w : s.Workload) (x : SiteState) (accepted : IsAccepted w) (h : SiteHolds w x) where
   pub own_within : AllWithin (schema_of w) (λ n. values_of x.base n +ℤ values_of x.deltas n)
-  unfolding plan_words history_words meaning_words
+  unfolding plan_definitions history_definitions meaning_definitions
   own_within =
       subst (λ (d : Deltas). AllWithin (schema_of w) (λ n. values_of x.base n +ℤ d n)) h.replays
       (replays_within w x.base x.number (map (λ e. planned_at w e.call) x.segment) accepted h.within h.site
@@ -82,19 +82,19 @@ module _ (w : s.Workload) (x : SiteState) (accepted : IsAccepted w) (h : SiteHol
 module _ (w : s.Workload) (x : SiteState) (accepted : IsAccepted w) (h : IsReady w x) where
   module _ (call : CallId) (at : IsCallAt w x.number call) where
     can : CanStep (schema_of w) (sites_of w) (values_of x.base) (template_at w x.base) x.number (planned_at w call)
-    unfolding plan_words
+    unfolding plan_definitions
     can =
         (can_step w x.base x.number (planned_at w call ∷ [])
         ((call_site w x.number call at, planned_member w call at.exists), tt)).0
 
     pub after_within : AllWithin (schema_of w) (λ n. values_of x.base n +ℤ step_values w x call n)
-    unfolding plan_words history_words meaning_words words
+    unfolding plan_definitions history_definitions meaning_definitions definitions
     after_within =
         step_within (schema_of w) (sites_of w) (values_of x.base) (template_at w x.base) (policy w x.base) x.number
         (values_of x.deltas) (planned_at w call) (policy_fits w x.base accepted) h.site can h.meets h.all
 
     -- the list of the deltas after the step is the deltas after it
     pub step_list : values_of (step_deltas w x call) ≡ step_values w x call
-    unfolding words
+    unfolding definitions
     step_list =
         values_of_list x.base (step_values w x call) (no_delta_past w x.base (step_values w x call) h.within after_within)

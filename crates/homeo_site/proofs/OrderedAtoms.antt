@@ -4,7 +4,7 @@ use Rattle.homeo_syntax.specs.declared.phrase.Compare.{Compare}
 use Rattle.homeo_syntax.specs.declared.phrase.Compare.TheVariants.{Less, LessEqual, Equal}
 use Rattle.homeo_syntax.specs.Low.{Expr, Exprs, Literal, OfTemp, Read, Sum, Product, Neg, NoExpr, MoreExpr, Test, Cond, True, Not, Comparison, NoTest, MoreTest}
 use Rattle.homeo_meaning.specs.LowMeaning.{Location, TempAt, BaseAt, DeltaAt, location_of, value, passes, whole}
-use Rattle.homeo_plan.specs.Key.{words as plan_words}
+use Rattle.homeo_plan.specs.Key.{definitions as plan_definitions}
 use Rattle.homeo_plan.specs.Each.{Each}
 use Rattle.homeo_plan.specs.Linear.{Linear, constant_form, add_forms, scale_form, is_pure, mix_forms, multiply_forms, Forms, base_forms, form, sum_form, product_form}
 use Rattle.homeo_plan.specs.Atoms.{difference, true_comparison, false_comparison, true_test, false_test, true_cond, false_cond}
@@ -16,7 +16,7 @@ abbrev pub IsOrdered : Linear → Type 0
 IsOrdered a = Sorted a.terms
 
 ordered_product : (a b : Linear) → IsOrdered a → IsOrdered b → IsOrdered (multiply_forms a b)
-unfolding plan_words
+unfolding plan_definitions
 ordered_product a b h k = go (is_pure a) (is_pure b)
   where
     go : (v w : Bool) → IsOrdered (cond v (scale_form a.constant b) (cond w (scale_form b.constant a) (mix_forms a b)))
@@ -26,7 +26,7 @@ ordered_product a b h k = go (is_pure a) (is_pure b)
 
 module _ (f : Forms) (all : (p : Location) → IsOrdered (f p)) where
   mutual
-    unfolding plan_words
+    unfolding plan_definitions
 
     ordered_form : (e : Expr) → IsOrdered (form f e)
     ordered_form (Literal n) = tt
@@ -47,7 +47,7 @@ module _ (f : Forms) (all : (p : Location) → IsOrdered (f p)) where
 
 module _ (b : ℕ → ℤ) where
   ordered_base : (p : Location) → IsOrdered (base_forms b p)
-  unfolding plan_words
+  unfolding plan_definitions
   ordered_base (TempAt t) = tt
   ordered_base (BaseAt x) = tt
   ordered_base (DeltaAt x j) = (tt, tt)
@@ -56,27 +56,27 @@ module _ (b : ℕ → ℤ) where
   ordered_at e = ordered_form (base_forms b) ordered_base e
 
   apart : (x y : Expr) (n : ℤ) → IsOrdered (difference (form (base_forms b) x) (form (base_forms b) y) n)
-  unfolding plan_words
+  unfolding plan_definitions
   apart x y n =
       sorted_adds (form (base_forms b) x).terms (scale_form (negsuc 0) (form (base_forms b) y)).terms
       (sorted_scale (negsuc 0) (form (base_forms b) y).terms (ordered_at y))
 
   of_true : (op : Compare) (x y : Expr) → Each IsOrdered (true_comparison op (form (base_forms b) x) (form (base_forms b) y))
-  unfolding plan_words
+  unfolding plan_definitions
   of_true Less x y = (apart x y (pos 1), tt)
   of_true LessEqual x y = (apart x y (pos 0), tt)
   of_true Equal x y = (apart x y (pos 0), (apart y x (pos 0), tt))
 
   of_false :
       (op : Compare) (v : Bool) (x y : Expr) → Each IsOrdered (false_comparison op v (form (base_forms b) x) (form (base_forms b) y))
-  unfolding plan_words
+  unfolding plan_definitions
   of_false Less v x y = (apart y x (pos 0), tt)
   of_false LessEqual v x y = (apart y x (pos 1), tt)
   of_false Equal true x y = (apart x y (pos 1), tt)
   of_false Equal false x y = (apart y x (pos 1), tt)
 
   mutual
-    unfolding plan_words
+    unfolding plan_definitions
 
     true_ordered_test : (t : Test) → Each IsOrdered (true_test b t)
     true_ordered_test True = tt

@@ -10,13 +10,13 @@ use Rattle.homeo_plan.specs.declared.round.RoundPlan.{RoundPlan}
 use Rattle.homeo_plan.specs.declared.templates.Clause as clause
 use Rattle.homeo_plan.specs.Config.{Config}
 use Rattle.homeo_plan.specs.Joined.{Deltas}
-use Rattle.homeo_site.specs.Key.{words}
+use Rattle.homeo_site.specs.Key.{definitions}
 use Rattle.homeo_site.specs.declared.own_treaty.OwnClause as code
 use Rattle.homeo_site.specs.inner.Failures.{first_of}
 use Rattle.homeo_site.specs.OwnTreaty.{OwnClause, plain_own, own_clauses, SumsFit}
 
 own_count : (i : ℕ) (cs : List Clause) (bs : Config) → length (own_clauses i cs bs) ≡ length cs
-unfolding words
+unfolding definitions
 own_count i [] bs = refl
 own_count i (c ∷ cs) [] = ap suc (own_count i cs [])
 own_count i (c ∷ cs) (b ∷ bs) = ap suc (own_count i cs bs)
@@ -28,7 +28,7 @@ numbers_there i cs bs own ns is h =
     subst (λ m. All (λ n. n < m) ns) (sym (own_count i cs bs) ∙ sym (ap length is) ∙ length-map own plain_own) h
 
 of_each : (x : Deltas) (own : List code.OwnClause) → All (λ (c : OwnClause). SumsFit c.terms x) (map plain_own own) → All (λ (c : code.OwnClause). SumsFit c.terms.items x) own
-unfolding words
+unfolding definitions
 of_each x [] h = All-nil (λ (c : code.OwnClause). SumsFit c.terms.items x)
 of_each x (c ∷ own) h =
     All-cons (λ (c : code.OwnClause). SumsFit c.terms.items x) c own (All-head (λ (c : OwnClause). SumsFit c.terms x) _ _ h)
@@ -41,16 +41,16 @@ fits_there i cs bs own x is h = of_each x own (subst (λ os. All (λ (c : OwnCla
 
 -- ---- the first of two
 first_is : (a b : Option Broken) → is_some a ≡ true → a ≡ first_of a b
-unfolding words
+unfolding definitions
 first_is None b e = cc
 first_is (Some f) b e = refl
 
 pub first_found : (f a b : Option Broken) → is_some f ≡ true → f ≡ a → f ≡ first_of a b
-unfolding words
+unfolding definitions
 first_found f a b some e = e ∙ first_is a b (ap is_some (sym e) ∙ some)
 
 pub second_is : (a b : Option Broken) → is_some a ≡ false → b ≡ first_of a b
-unfolding words
+unfolding definitions
 second_is None b e = refl
 second_is (Some f) b e = cc
 

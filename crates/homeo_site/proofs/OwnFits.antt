@@ -9,14 +9,14 @@ use Rattle.homeo_meaning.specs.Bounds.{AllWithin, IsWithin}
 use Rattle.homeo_meaning.specs.Schema.{schema_of}
 use Rattle.homeo_meaning.specs.Serial.{values_of}
 use Rattle.homeo_meaning.proofs.Within.{all_within}
-use Rattle.homeo_plan.specs.Key.{words as plan_words}
+use Rattle.homeo_plan.specs.Key.{definitions as plan_definitions}
 use Rattle.homeo_plan.specs.Config.{Config}
 use Rattle.homeo_plan.specs.Each.{Each}
 use Rattle.homeo_plan.specs.Joined.{Deltas}
 use Rattle.homeo_plan.specs.Planned.{template_at}
 use Rattle.homeo_plan.specs.Template.{Clause}
 use Rattle.homeo_plan.proofs.GroundNumbers.{values_small}
-use Rattle.homeo_site.specs.Key.{words}
+use Rattle.homeo_site.specs.Key.{definitions}
 use Rattle.homeo_site.specs.OwnTreaty.{SumsFit, own_terms, OwnClause, own_clauses}
 use Rattle.homeo_site.proofs.Limits.{few_values}
 use Rattle.homeo_site.proofs.LocalSteps.{no_delta_past}
@@ -42,7 +42,7 @@ module _
         (no_delta_past w base x within all) (own_rises i c.terms tidy.sorted) (own_factors i c.terms tidy.small)
 
     all_fit : (cs : List Clause) (bs : Config) → Each IsTidy cs → All (λ (c : OwnClause). SumsFit c.terms x) (own_clauses i cs bs)
-    unfolding words plan_words
+    unfolding definitions plan_definitions
     all_fit [] bs h = All-nil (λ (c : OwnClause). SumsFit c.terms x)
     all_fit (c ∷ cs) [] h =
         All-cons (λ (c : OwnClause). SumsFit c.terms x) _ _ (clause_fits c h.0) (all_fit cs [] h.1)

@@ -12,13 +12,13 @@ use Rattle.homeo_meaning.specs.declared.call.CallId.{CallId}
 use Rattle.homeo_meaning.specs.declared.call.GroundCall.{GroundCall}
 use Rattle.homeo_meaning.specs.Ground.{Ground, plain_ground, grounds, ground_of}
 use Rattle.homeo_meaning.specs.Serial.{values_of}
-use Rattle.homeo_plan.specs.Key.{words as plan_words}
+use Rattle.homeo_plan.specs.Key.{definitions as plan_definitions}
 use Rattle.homeo_plan.specs.Planned.{sites_of, planned_call, planned, planned_at}
 use Rattle.homeo_plan.specs.Template.{PlannedCall, base_row}
 use Rattle.homeo_plan.proofs.PlannedCalls.{planned_member}
 use Rattle.homeo_effect.specs.Touched.{WritesOwn}
 use Rattle.homeo_history.specs.Legal.{IsCallAt}
-use Rattle.homeo_site.specs.Key.{words}
+use Rattle.homeo_site.specs.Key.{definitions}
 use Rattle.homeo_site.specs.OwnCalls.{RunsAs, IsOwnCall, IsGroundOwnCall, IsMadeFor}
 use Rattle.homeo_site.specs.declared.own_calls.OwnCall.{OwnCall}
 use Rattle.homeo_site.proofs.CallsOfSites.{call_site}
@@ -38,7 +38,7 @@ planned_here w (g ∷ gs) (suc n) lt = planned_here w gs n (omega arith)
 planned_there :
     (w : s.Workload) (call : CallId) (n : ℕ) → n < length (grounds w) → slice_get (grounds w) n ≡ ground_of w call →
     slice_get (planned w) n ≡ Some (planned_at w call)
-unfolding plan_words nothing
+unfolding plan_definitions nothing
 planned_there w call n lt ground =
     planned_here w (grounds w) n lt ∙ ap (λ g. Some (option_map_or (planned_call w) g nothing)) ground
 
@@ -59,14 +59,14 @@ module _ {A B : Type 0} (R : A → B → Type 0) where
 -- ---- what was made
 module _ {Z : Type 0} (w : s.Workload) (base : List ℤ) where
   none : (gs : List PlannedCall) → AllZip (IsMadeFor {Z = Z} w base) gs (replicate (length gs) None)
-  unfolding words
+  unfolding definitions
   none [] = tt
   none (g ∷ gs) = (tt, none gs)
 
   pub none_made :
       (calls : List GroundCall) (os : List (Option (Arc OwnCall Z))) → map plain_ground calls ≡ grounds w → os ≡ replicate (length calls) None →
       AllZip (IsMadeFor {Z = Z} w base) (planned w) os
-  unfolding plan_words
+  unfolding plan_definitions
   none_made calls os are e =
       let count : length calls ≡ length (planned w) =
       sym (length-map calls plain_ground) ∙ ap length are ∙ sym (length-map (grounds w) (planned_call w)) in
@@ -77,7 +77,7 @@ module _
     (place : slice_get (grounds w) n ≡ ground_of w call) (os : List (Option (Arc OwnCall Z))) (made : AllZip (IsMadeFor {Z = Z} w base) (planned w) os)
   where
     pub place_within : n < length os
-    unfolding plan_words
+    unfolding plan_definitions
     place_within =
         subst (λ m. n < m) (sym (AllZip-long (IsMadeFor {Z = Z} w base) (planned w) os made ∙ length-map (grounds w) (planned_call w))) within
 
@@ -93,7 +93,7 @@ module _
 
     pub made_more :
         (own : Arc OwnCall Z) → IsOwnCall w base (planned_at w call) own.value → AllZip (IsMadeFor {Z = Z} w base) (planned w) (slice_set os n (Some own))
-    unfolding words
+    unfolding definitions
     made_more own h = set_place (IsMadeFor {Z = Z} w base) (planned w) os n (planned_at w call) (Some own) made (planned_there w call n within place) h
 
 -- ---- a call of a site

@@ -2,24 +2,24 @@
 use Rattle.std.proofs.Common.{◌≡◌, ℕ, suc, ◌+◌, ◌<◌, ◌≤◌, true, List, [], ◌∷◌, length, get_or, ℤ, pos, All, refl, sym, ap, ap₂, ◌∙◌, subst, arith}
 use mathlib.Core.Path.{fun_ext}
 use Rattle.homeo_syntax.specs.Source as s
-use Rattle.homeo_meaning.specs.Key.{words as meaning_words}
+use Rattle.homeo_meaning.specs.Key.{definitions as meaning_definitions}
 use Rattle.homeo_meaning.specs.declared.call.CallId.{CallId}
 use Rattle.homeo_meaning.specs.Acceptance.{IsAccepted}
 use Rattle.homeo_meaning.specs.LowMeaning.{DeltaAt, exec_all}
 use Rattle.homeo_meaning.specs.Serial.{values_of, values_from, database_like}
-use Rattle.homeo_plan.specs.Key.{words as plan_words}
+use Rattle.homeo_plan.specs.Key.{definitions as plan_definitions}
 use Rattle.homeo_plan.specs.Joined.{Deltas, alone}
 use Rattle.homeo_plan.specs.Planned.{sites_of, planned_at, template_at, policy}
 use Rattle.homeo_plan.specs.Template.{Template, base_row}
 use Rattle.homeo_split.specs.CanExec.{run_limit, can_exec_all}
-use Rattle.homeo_effect.specs.Key.{words as effect_words}
+use Rattle.homeo_effect.specs.Key.{definitions as effect_definitions}
 use Rattle.homeo_effect.specs.OwnState.{own_state}
 use Rattle.homeo_effect.specs.Program.{plain_program}
 use Rattle.homeo_effect.specs.Touched.{written, is_touched, is_among, touched_clauses, touched_freezes}
 use Rattle.homeo_effect.specs.declared.program.Program.{Program}
-use Rattle.homeo_history.specs.Key.{words as history_words}
+use Rattle.homeo_history.specs.Key.{definitions as history_definitions}
 use Rattle.homeo_history.specs.Legal.{IsCallAt}
-use Rattle.homeo_site.specs.Key.{words}
+use Rattle.homeo_site.specs.Key.{definitions}
 use Rattle.homeo_site.specs.SiteState.{SiteState, step_prints, step_values, step_deltas, step_finding}
 use Rattle.homeo_site.specs.inner.Failures.{first_of, first_failure, own_failure, own_freeze_failure}
 use Rattle.homeo_site.specs.OwnCalls.{RunsAs}
@@ -44,7 +44,7 @@ list_from k (x ∷ xs) f h =
 
 pub list_is :
     (base xs : List ℤ) (f : ℕ → ℤ) → length xs ≡ length base → ((n : ℕ) → values_of xs n ≡ f n) → xs ≡ database_like base f
-unfolding meaning_words
+unfolding meaning_definitions
 list_is base xs f count h =
     let zero_on : (n : ℕ) → n ≡ 0 + n = λ n. omega arith in
     list_from 0 xs f (λ n. h n ∙ ap f (zero_on n)) ∙ ap (λ n. values_from 0 n f) count
@@ -53,7 +53,7 @@ list_is base xs f count h =
 pub prints_are :
     (w : s.Workload) (x : SiteState) (call : CallId) → IsCallAt w x.number call →
     (exec_all (step_commands w x call) (alone (values_of x.base) x.number (values_of x.deltas))).prints ≡ step_prints w x call
-unfolding words history_words plan_words
+unfolding definitions history_definitions plan_definitions
 prints_are w x call at =
     ap
     (λ i. (exec_all (base_row (sites_of w) (values_of x.base) (planned_at w call)).residual (alone (values_of x.base) i (values_of x.deltas))).prints)
@@ -62,7 +62,7 @@ prints_are w x call at =
 pub deltas_are :
     (w : s.Workload) (x : SiteState) (call : CallId) → IsCallAt w x.number call → (n : ℕ) →
     (exec_all (step_commands w x call) (alone (values_of x.base) x.number (values_of x.deltas))).state (DeltaAt n x.number) ≡ step_values w x call n
-unfolding words history_words plan_words
+unfolding definitions history_definitions plan_definitions
 deltas_are w x call at n =
     ap
     (λ i. (exec_all (base_row (sites_of w) (values_of x.base) (planned_at w call)).residual (alone (values_of x.base) i (values_of x.deltas))).state (DeltaAt n i))
@@ -74,7 +74,7 @@ module _ (w : s.Workload) (x : SiteState) (call : CallId) (ns : List ℕ) where
   treaty = template_at w x.base
 
   pub clause_numbers : ns ≡ touched_clauses (written (step_commands w x call)) treaty → All (λ n. n < length treaty.clauses) ns
-  unfolding effect_words
+  unfolding effect_definitions
   clause_numbers is =
       subst (λ ms. All (λ n. n < length treaty.clauses) ms) (sym is)
       (λ k d lt. let h = within_numbers (is_touched (written (step_commands w x call))) 0 treaty.clauses k d lt in omega (arith, h.1))
@@ -82,7 +82,7 @@ module _ (w : s.Workload) (x : SiteState) (call : CallId) (ns : List ℕ) where
   pub freeze_numbers :
       ns ≡ touched_freezes (written (step_commands w x call)) treaty →
       All (λ n. (length treaty.clauses ≤ n) × (n < length treaty.clauses + length treaty.freezes)) ns
-  unfolding effect_words
+  unfolding effect_definitions
   freeze_numbers is =
       subst (λ ms. All (λ n. (length treaty.clauses ≤ n) × (n < length treaty.clauses + length treaty.freezes)) ms) (sym is)
       (within_numbers (is_among (written (step_commands w x call))) (length treaty.clauses) treaty.freezes)
@@ -96,7 +96,7 @@ module _
     t = template_at w x.base
 
     pub can_run : (kept : List ℤ) → can_exec_all run_limit (plain_program p) (own_state p.site x.deltas kept) ≡ true
-    unfolding words
+    unfolding definitions
     can_run kept =
         subst (λ i. can_exec_all run_limit (plain_program p) (own_state i x.deltas kept) ≡ true) (sym own.site)
         (own.small x.deltas kept (step_runs w x accepted ready call at))
@@ -120,7 +120,7 @@ module _
             ∙ own.same_deltas x.deltas kept n ∙ deltas_are w x call at n
 
         pub run_deltas : new ≡ step_deltas w x call
-        unfolding words
+        unfolding definitions
         run_deltas = list_is x.base new (step_values w x call) (count ∙ ready.count) values_are
 
         all_values : values_of new ≡ step_values w x call
@@ -136,7 +136,7 @@ module _
             freezes ≡ touched_freezes (written (step_commands w x call)) t →
             first_of (first_failure (own_failure (own_clauses x.number t.clauses (policy w x.base)) (values_of new)) clauses)
             (first_failure (own_freeze_failure (length t.clauses) x.number t.freezes (values_of new)) freezes) ≡ step_finding w x call
-        unfolding words
+        unfolding definitions
         run_finding clauses freezes are_clauses are_freezes =
             ap
             (λ (y : Deltas). first_of (first_failure (own_failure (own_clauses x.number t.clauses (policy w x.base)) y) clauses)

@@ -8,16 +8,16 @@ use Rattle.std.proofs.lemmas.Nat.{mul-le}
 use Rattle.std.proofs.lemmas.Bool.{cases_lt}
 use Rattle.std.proofs.lemmas.Bool.Decides.{nat_tests}
 use Rattle.std.proofs.lemmas.List.Elements.{All-nil, All-cons}
-use Rattle.homeo_meaning.specs.Key.{words as meaning_words}
+use Rattle.homeo_meaning.specs.Key.{definitions as meaning_definitions}
 use Rattle.homeo_meaning.specs.Small.{IsSmall}
-use Rattle.homeo_plan.specs.Key.{words as plan_words}
+use Rattle.homeo_plan.specs.Key.{definitions as plan_definitions}
 use Rattle.homeo_plan.specs.declared.forms.Delta.{Delta}
 use Rattle.homeo_plan.specs.declared.forms.Term.{Term}
 use Rattle.homeo_plan.specs.Each.{Each}
 use Rattle.homeo_plan.specs.Joined.{Deltas}
 use Rattle.homeo_plan.specs.Linear.{delta_before}
 use Rattle.homeo_plan.proofs.Order.{Above, Sorted}
-use Rattle.homeo_site.specs.Key.{words}
+use Rattle.homeo_site.specs.Key.{definitions}
 use Rattle.homeo_site.specs.declared.own_treaty.OwnTerm.{OwnTerm}
 use Rattle.homeo_site.specs.OwnTreaty.{own_terms, own_sum, SumsFit}
 use Rattle.homeo_site.proofs.TemplateClauses.{factor_limit}
@@ -34,11 +34,11 @@ HasSmallFactors (t ∷ ts) = (unsigned_abs t.factor ≤ factor_limit) × HasSmal
 
 -- ---- a site's terms of terms in order
 later : (d e : Delta) → d.site ≡ e.site → delta_before d e ≡ true → d.object < e.object
-unfolding plan_words
+unfolding plan_definitions
 later d e same h = grind (arith, nat_tests)
 
 rises_above : (i : ℕ) (d : Delta) (ts : List Term) → d.site ≡ i → Above d ts → Sorted ts → Rises (suc d.object) (own_terms i ts)
-unfolding words plan_words
+unfolding definitions plan_definitions
 rises_above i d [] here above sorted = tt
 rises_above i d (t ∷ ts) here above sorted =
     go (t.delta.site == i) refl (λ e. rises_above i t.delta ts e sorted.0 sorted.1) (rises_above i d ts here above.1 sorted.1)
@@ -54,7 +54,7 @@ rises_above i d (t ∷ ts) here above sorted =
     go false q next rest = rest
 
 pub own_rises : (i : ℕ) (ts : List Term) → Sorted ts → Rises 0 (own_terms i ts)
-unfolding words plan_words
+unfolding definitions plan_definitions
 own_rises i [] sorted = tt
 own_rises i (t ∷ ts) sorted = go (t.delta.site == i) refl (own_rises i ts sorted.1)
   where
@@ -67,7 +67,7 @@ own_rises i (t ∷ ts) sorted = go (t.delta.site == i) refl (own_rises i ts sort
     go false q rest = rest
 
 pub own_factors : (i : ℕ) (ts : List Term) → Each (λ t. IsSmall factor_limit t.factor) ts → HasSmallFactors (own_terms i ts)
-unfolding words plan_words meaning_words
+unfolding definitions plan_definitions meaning_definitions
 own_factors i [] h = tt
 own_factors i (t ∷ ts) h = go (t.delta.site == i) (own_factors i ts h.1)
   where
@@ -134,7 +134,7 @@ module _ (n size : ℕ) (x : Deltas) (small : (m : ℕ) → unsigned_abs (x m) �
           omega (arith, add, size, rest, room)
 
   sum_small : (m : ℕ) (ts : List OwnTerm) → Rises m ts → HasSmallFactors ts → unsigned_abs (own_sum ts x) ≤ (n - m) * most
-  unfolding words
+  unfolding definitions
   sum_small m [] r f = omega arith
   sum_small m (t ∷ ts) r f = one_more m t ts r.0 f.0 (sum_small (suc t.object) ts r.1 f.1)
 

@@ -6,21 +6,21 @@ use Rattle.std.proofs.lemmas.Bool.Decides.{nat_tests}
 use Rattle.std.proofs.Math.Seq.{take-length}
 use Rattle.std.proofs.lemmas.List.{take_more, append-nil, map-append}
 use Rattle.homeo_syntax.specs.Listed.{Listed}
-use Rattle.homeo_plan.specs.Key.{words as plan_words}
+use Rattle.homeo_plan.specs.Key.{definitions as plan_definitions}
 use Rattle.homeo_plan.specs.declared.forms.Term.{Term}
 use Rattle.homeo_plan.specs.Joined.{Deltas}
 use Rattle.homeo_plan.specs.Config.{Config}
 use Rattle.homeo_plan.specs.PlanView.{plain_clause}
 use Rattle.homeo_plan.specs.Treaty.{site_sum, bound_at}
 use Rattle.homeo_plan.specs.declared.templates.Clause as code
-use Rattle.homeo_site.specs.Key.{words}
+use Rattle.homeo_site.specs.Key.{definitions}
 use Rattle.homeo_site.specs.declared.own_treaty.OwnTerm.{OwnTerm}
 use Rattle.homeo_site.specs.OwnTreaty.{own_terms, own_sum, SumsFit, OwnClause, plain_own, own_clauses}
 use Rattle.homeo_site.specs.declared.own_treaty.OwnClause as code_own
 
 -- a site's sum is that of its own terms
 pub own_sum_is : (i : ℕ) (ts : List Term) (x : Deltas) → own_sum (own_terms i ts) x ≡ site_sum i ts x
-unfolding words plan_words
+unfolding definitions plan_definitions
 own_sum_is i [] x = refl
 own_sum_is i (t ∷ ts) x = go (t.delta.site == i) (own_sum_is i ts x)
   where
@@ -32,7 +32,7 @@ own_sum_is i (t ∷ ts) x = go (t.delta.site == i) (own_sum_is i ts x)
     go false ih = omega (arith, ints, ih)
 
 own_append : (i : ℕ) (ts us : List Term) → own_terms i (ts ++ us) ≡ own_terms i ts ++ own_terms i us
-unfolding words
+unfolding definitions
 own_append i [] us = refl
 own_append i (t ∷ ts) us = go (t.delta.site == i) (own_append i ts us)
   where
@@ -50,7 +50,7 @@ pub own_more :
     (i : ℕ) (ts : List Term) (k : ℕ) (d : Term) → k < length ts → (get_or ts k d).delta.site ≡ i →
     own_terms i (take (k + 1) ts) ≡
     own_terms i (take k ts) ++ record { object = (get_or ts k d).delta.object; factor = (get_or ts k d).factor } ∷ []
-unfolding words
+unfolding definitions
 own_more i ts k d lt here =
     let q : ((get_or ts k d).delta.site == i) ≡ true = grind (arith, nat_tests) in
     ap (own_terms i) (take_more ts k d lt) ∙ own_append i (take k ts) (get_or ts k d ∷ [])
@@ -60,7 +60,7 @@ own_more i ts k d lt here =
 pub own_other :
     (i : ℕ) (ts : List Term) (k : ℕ) (d : Term) → k < length ts → ((get_or ts k d).delta.site ≡ i → ⊥) →
     own_terms i (take (k + 1) ts) ≡ own_terms i (take k ts)
-unfolding words
+unfolding definitions
 own_other i ts k d lt other =
     let q : ((get_or ts k d).delta.site == i) ≡ false = grind (arith, nat_tests) in
     ap (own_terms i) (take_more ts k d lt) ∙ own_append i (take k ts) (get_or ts k d ∷ [])
@@ -68,7 +68,7 @@ own_other i ts k d lt other =
     ∙ append-nil (own_terms i (take k ts))
 
 sum_append : (ts us : List OwnTerm) (x : Deltas) → own_sum (ts ++ us) x ≡ own_sum ts x +ℤ own_sum us x
-unfolding words
+unfolding definitions
 sum_append [] us x = omega (arith, ints)
 sum_append (t ∷ ts) us x = omega (arith, ints, sum_append ts us x)
 
@@ -76,7 +76,7 @@ sum_append (t ∷ ts) us x = omega (arith, ints, sum_append ts us x)
 pub sum_more :
     (ts : List OwnTerm) (k : ℕ) (d : OwnTerm) (x : Deltas) → k < length ts →
     own_sum (take (k + 1) ts) x ≡ own_sum (take k ts) x +ℤ ((get_or ts k d).factor *ℤ x (get_or ts k d).object)
-unfolding words
+unfolding definitions
 sum_more ts k d x lt =
     ap (λ us. own_sum us x) (take_more ts k d lt) ∙ sum_append (take k ts) (get_or ts k d ∷ []) x
     ∙ ap (λ z. own_sum (take k ts) x +ℤ z) (last ((get_or ts k d).factor *ℤ x (get_or ts k d).object))
@@ -119,7 +119,7 @@ bounds_at_place (a ∷ bs) (suc n) b lt e = bounds_at_place bs n b (omega arith)
 pub bound_there :
     (bs ks : List (Listed ℤ)) (n i : ℕ) (b : Listed ℤ) (ns : List ℤ) (z : ℤ) → ks ≡ bs → n < length ks → b ≡ get_or ks n b →
     ns ≡ b.items → z ≡ get_or ns i (pos 0) → z ≡ bound_at (get_or (map (λ (l : Listed ℤ). l.items) bs) n []) i
-unfolding plan_words
+unfolding plan_definitions
 bound_there bs ks n i b ns z same lt at items e =
     e ∙ ap (λ l. get_or l i (pos 0)) (items ∙ sym (bounds_at_place ks n b lt at))
     ∙ ap (λ l. get_or (get_or (map (λ (l : Listed ℤ). l.items) l) n []) i (pos 0)) same
@@ -132,7 +132,7 @@ no_bounds (a ∷ bs) (suc n) le = no_bounds bs n (omega arith)
 pub no_bound :
     (bs ks : List (Listed ℤ)) (n i : ℕ) → ks ≡ bs → length ks ≤ n →
     pos 0 ≡ bound_at (get_or (map (λ (l : Listed ℤ). l.items) bs) n []) i
-unfolding plan_words
+unfolding plan_definitions
 no_bound bs ks n i same le =
     ap (λ l. get_or l i (pos 0)) (sym (no_bounds ks n le))
     ∙ ap (λ l. get_or (get_or (map (λ (l : Listed ℤ). l.items) l) n []) i (pos 0)) same
@@ -143,7 +143,7 @@ pub own_clause_more :
     own_clauses i (map plain_clause (take (suc k) cs)) bs ≡
     own_clauses i (map plain_clause (take k cs)) bs
     ++ record { terms = own_terms i (get_or cs k d).terms.items; bound = bound_at (get_or bs k []) i } ∷ []
-unfolding words plan_words
+unfolding definitions plan_definitions
 own_clause_more i [] bs k d lt = absurd (omega arith)
 own_clause_more i (c ∷ cs) [] zero d lt = refl
 own_clause_more i (c ∷ cs) (b ∷ bs) zero d lt = refl
@@ -158,7 +158,7 @@ pub clause_pushed :
     map plain_own old ≡ own_clauses i (map plain_clause (take k cs)) bs → one.terms.items ≡ own_terms i c.terms.items →
     one.bound ≡ bound_at (get_or bs k []) i → new ≡ old ++ one ∷ [] →
     map plain_own new ≡ own_clauses i (map plain_clause (take (k + 1) cs)) bs
-unfolding words
+unfolding definitions
 clause_pushed i cs bs k c one old new lt at so_far terms bound e =
     ap (map plain_own) e ∙ map-append plain_own old (one ∷ [])
     ∙ ap₂ (λ os (o : OwnClause). os ++ o ∷ []) so_far (same (terms ∙ ap (λ (d : code.Clause). own_terms i d.terms.items) at) bound)

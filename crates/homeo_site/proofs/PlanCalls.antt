@@ -7,7 +7,7 @@ use Rattle.homeo_meaning.specs.Bounds.{IsWithin}
 use Rattle.homeo_meaning.specs.LowMeaning.{whole}
 use Rattle.homeo_meaning.specs.Schema.{schema_of}
 use Rattle.homeo_meaning.specs.Serial.{values_of}
-use Rattle.homeo_plan.specs.Key.{words as plan_words}
+use Rattle.homeo_plan.specs.Key.{definitions as plan_definitions}
 use Rattle.homeo_plan.specs.declared.rows.Residual.{Residual}
 use Rattle.homeo_plan.specs.Each.{Each, Member}
 use Rattle.homeo_plan.specs.Needs.{IsStraight}
@@ -17,7 +17,7 @@ use Rattle.homeo_plan.specs.Template.{PlannedCall, base_row}
 use Rattle.homeo_plan.proofs.Covering.{each_member}
 use Rattle.homeo_plan.proofs.PlannedCalls.{all_sites_below}
 use Rattle.homeo_split.specs.CanExec.{run_limit, can_exec_all}
-use Rattle.homeo_build.specs.Key.{words as build_words}
+use Rattle.homeo_build.specs.Key.{definitions as build_definitions}
 use Rattle.homeo_build.specs.Plan.{SitedResidual, sited_residual, residual_at, residuals_at}
 use Rattle.homeo_effect.specs.Touched.{written, WritesOwn}
 use Rattle.homeo_site.specs.OwnCalls.{RunsAs, IsGroundOwnCall}
@@ -35,7 +35,7 @@ record Found (f : PlannedCall → SitedResidual) (gs : List PlannedCall) (n : �
   is : q ≡ f call
 
 find : (f : PlannedCall → SitedResidual) (gs : List PlannedCall) (n : ℕ) (q : SitedResidual) → slice_get (map f gs) n ≡ Some q → Found f gs n q
-unfolding plan_words
+unfolding plan_definitions
 find f [] n q e = cc
 find f (g ∷ gs) zero q e = record { call = g; there = refl; member = inl refl; is = cc }
 find f (g ∷ gs) (suc n) q e =
@@ -53,15 +53,15 @@ module _
     (w : s.Workload) (base : List ℤ) (n : ℕ) (r : Residual) (given : slice_get (residuals_at w base) n ≡ Some (sited_residual r))
   where
     found : Found (residual_at (sites_of w) (values_of base)) (planned w) n (sited_residual r)
-    unfolding build_words
+    unfolding build_definitions
     found = find (residual_at (sites_of w) (values_of base)) (planned w) n (sited_residual r) given
 
     commands_are : (base_row (sites_of w) (values_of base) found.call).residual ≡ plain_residual r
-    unfolding build_words found
+    unfolding build_definitions found
     commands_are = sym (ap (λ (q : SitedResidual). q.residual) found.is)
 
     site_is : found.call.site ≡ r.site
-    unfolding build_words found
+    unfolding build_definitions found
     site_is = sym (ap (λ (q : SitedResidual). q.site) found.is)
 
     pub can_keep : IsAccepted w → IsWithin (schema_of w) base → CanKeep base r

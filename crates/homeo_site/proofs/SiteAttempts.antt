@@ -8,26 +8,26 @@ use Rattle.homeo_syntax.specs.Listed.{Listed}
 use Rattle.homeo_syntax.specs.Low.{Commands, Skip, Assign, Write, Print, Seq, If, NoCommand, MoreCommand}
 use Rattle.homeo_syntax.specs.Source as s
 use Rattle.homeo_syntax.specs.SourceView.{plain_workload}
-use Rattle.homeo_meaning.specs.Key.{words as meaning_words}
+use Rattle.homeo_meaning.specs.Key.{definitions as meaning_definitions}
 use Rattle.homeo_meaning.specs.declared.call.CallId.{CallId}
 use Rattle.homeo_meaning.specs.LowMeaning.{State, exec, exec_all}
 use Rattle.homeo_meaning.specs.Serial.{values_of}
-use Rattle.homeo_plan.specs.Key.{words as plan_words}
+use Rattle.homeo_plan.specs.Key.{definitions as plan_definitions}
 use Rattle.homeo_plan.specs.Needs.{IsStraight}
 use Rattle.homeo_plan.specs.Planned.{planned_at, template_at, policy}
 use Rattle.homeo_plan.proofs.Findings.{finding_law}
 use Rattle.homeo_plan.proofs.PlannedCalls.{planned_member}
-use Rattle.homeo_effect.specs.Key.{words as effect_words}
+use Rattle.homeo_effect.specs.Key.{definitions as effect_definitions}
 use Rattle.homeo_effect.specs.Counts.{assignment_count, print_count}
 use Rattle.homeo_effect.specs.Touched.{written, touched_clauses, touched_freezes}
 use Rattle.homeo_effect.specs.declared.program.Program.{Program}
-use Rattle.homeo_history.specs.Key.{words as history_words}
+use Rattle.homeo_history.specs.Key.{definitions as history_definitions}
 use Rattle.homeo_history.specs.History as h
 use Rattle.homeo_history.specs.HistoryView.{plain_entry, plain_segment}
 use Rattle.homeo_history.specs.Legal.{IsCallAt}
 use Rattle.homeo_history.specs.declared.history.Entry.{Entry}
 use Rattle.homeo_history.specs.declared.history.Segment.{Segment}
-use Rattle.homeo_site.specs.Key.{words}
+use Rattle.homeo_site.specs.Key.{definitions}
 use Rattle.homeo_site.specs.Attempts.{step_commands, IsChange, IsEmptyCopy}
 use Rattle.homeo_site.specs.OwnCalls.{RunsAs}
 use Rattle.homeo_site.specs.SiteState.{SiteState, SiteHolds, KeepsCall, step_prints, step_values, step_deltas, step_finding, local_entry, after_local}
@@ -42,7 +42,7 @@ use Rattle.homeo_site.proofs.StepFindings.{residual_straight}
 
 -- ---- how many numbers a call prints
 straight_prints : (cs : Commands) (s : State) → IsStraight cs → length (exec_all cs s).prints ≡ print_count cs
-unfolding plan_words meaning_words effect_words
+unfolding plan_definitions meaning_definitions effect_definitions
 straight_prints NoCommand s w = refl
 straight_prints (MoreCommand Skip cs) s w = absurd w.0
 straight_prints (MoreCommand (Assign t e) cs) s w = straight_prints cs (exec (Assign t e) s).state w.1
@@ -54,7 +54,7 @@ straight_prints (MoreCommand (If b c d) cs) s w = absurd w.0
 pub step_print_count :
     (w : s.Workload) (x : SiteState) (i : ℕ) (call : CallId) → IsCallAt w i call →
     length (step_prints w x call) ≡ print_count (step_commands w x call)
-unfolding words history_words plan_words
+unfolding definitions history_definitions plan_definitions
 step_print_count w x i call at =
     straight_prints (step_commands w x call) _ (residual_straight w x.base (planned_at w call) (planned_member w call at.exists))
 
@@ -73,14 +73,14 @@ module _
         (record { site = r.site; within = r.within; count = r.count; meets = r.meets; all = r.all })
 
     pub commands_here : step_commands (plain_workload v.work) (with_deltas v d) call ≡ step_commands (plain_workload u.work) u.state call
-    unfolding words
+    unfolding definitions
     commands_here = ap (λ (y : SiteValue). step_commands (plain_workload y.work) y.state call) is
 
     pub program_here :
         (p : Program) →
         RunsAs (values_of u.state.base) u.state.number (length u.state.base) (step_commands (plain_workload u.work) u.state call) p →
         RunsAs (values_of v.base) v.number (length v.base) (step_commands (plain_workload v.work) (with_deltas v d) call) p
-    unfolding words
+    unfolding definitions
     program_here p own =
         subst
         (λ (y : SiteValue). RunsAs (values_of y.state.base) y.state.number (length y.state.base) (step_commands (plain_workload y.work) y.state call) p)
@@ -93,7 +93,7 @@ module _
         (ns : List ℕ) →
         ns ≡ touched_clauses (written (step_commands (plain_workload u.work) u.state call)) (template_at (plain_workload u.work) u.state.base) →
         ns ≡ touched_clauses (written (step_commands (plain_workload v.work) (with_deltas v d) call)) (template_at (plain_workload v.work) v.base)
-    unfolding words
+    unfolding definitions
     clauses_here ns touched =
         touched
         ∙ sym
@@ -105,7 +105,7 @@ module _
         (ns : List ℕ) →
         ns ≡ touched_freezes (written (step_commands (plain_workload u.work) u.state call)) (template_at (plain_workload u.work) u.state.base) →
         ns ≡ touched_freezes (written (step_commands (plain_workload v.work) (with_deltas v d) call)) (template_at (plain_workload v.work) v.base)
-    unfolding words
+    unfolding definitions
     freezes_here ns touched =
         touched
         ∙ sym
@@ -114,19 +114,19 @@ module _
         is)
 
     pub finding_here : step_finding (plain_workload v.work) (with_deltas v d) call ≡ step_finding (plain_workload u.work) u.state call
-    unfolding words
+    unfolding definitions
     finding_here =
         ap (λ (y : List ℤ). step_finding (plain_workload v.work) (with_deltas v y) call) same_deltas
         ∙ ap (λ (y : SiteValue). step_finding (plain_workload y.work) y.state call) is
 
     pub deltas_here : step_deltas (plain_workload v.work) (with_deltas v d) call ≡ step_deltas (plain_workload u.work) u.state call
-    unfolding words
+    unfolding definitions
     deltas_here =
         ap (λ (y : List ℤ). step_deltas (plain_workload v.work) (with_deltas v y) call) same_deltas
         ∙ ap (λ (y : SiteValue). step_deltas (plain_workload y.work) y.state call) is
 
     pub prints_here : step_prints (plain_workload v.work) (with_deltas v d) call ≡ step_prints (plain_workload u.work) u.state call
-    unfolding words
+    unfolding definitions
     prints_here =
         ap (λ (y : List ℤ). step_prints (plain_workload v.work) (with_deltas v y) call) same_deltas
         ∙ ap (λ (y : SiteValue). step_prints (plain_workload y.work) y.state call) is
@@ -173,7 +173,7 @@ written_whole new rest n items e count = e ∙ ap (λ m. take m (new ++ rest)) (
 pub change_is :
     (w : s.Workload) (x : SiteState) (call : CallId) (c : Change) → step_finding w x call ≡ None → c.call ≡ call →
     c.deltas.items ≡ step_deltas w x call → c.prints.items ≡ step_prints w x call → IsChange w x call c
-unfolding words history_words
+unfolding definitions history_definitions
 change_is w x call c none name deltas prints =
     record {
       keeps = (finding_law (template_at w x.base) (policy w x.base) x.number (step_values w x call)).none none;
@@ -197,7 +197,7 @@ module _
 
     -- the state after the commit is that after the local step
     committed : state_in v d t ≡ after_local (plain_workload v.work) before call
-    unfolding words history_words
+    unfolding definitions history_definitions
     committed =
         let old_deltas : d ≡ step_deltas (plain_workload v.work) before call =
         deltas ∙ sym (ap (λ (y : SiteValue). step_deltas (plain_workload y.work) y.state call) is) in

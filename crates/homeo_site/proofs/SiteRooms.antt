@@ -10,7 +10,7 @@ use Rattle.homeo_plan.specs.Planned.{planned_at, template_at}
 use Rattle.homeo_effect.specs.Touched.{WritesOwn, written, touched_clauses, touched_freezes}
 use Rattle.homeo_history.specs.Legal.{IsCallAt}
 use Rattle.homeo_history.specs.declared.history.Segment.{Segment}
-use Rattle.homeo_site.specs.Key.{words}
+use Rattle.homeo_site.specs.Key.{definitions}
 use Rattle.homeo_site.specs.Attempts.{step_commands}
 use Rattle.homeo_site.specs.OwnCalls.{RunsAs, IsOwnCall}
 use Rattle.homeo_site.specs.SiteView.{StartValue, SiteValue}
@@ -31,13 +31,13 @@ module _
     at = subst (λ (z : SiteValue). IsCallAt (plain_workload z.work) z.state.number call) (sym is) required
 
     pub room_runs : RunsAs (values_of v.base) v.number (length v.base) (step_commands w (state_in v x s) call) o.program
-    unfolding words
+    unfolding definitions
     room_runs = own_runs w v.base v.number call at o own
 
     -- its commands, where they are lent, and what the site keeps of the round is as before
     module _ (lent : List LCommand) (same : lent ≡ o.commands.items) (y : StartValue) (still : y ≡ v) where
       commands : low_commands (map plain_lcommand lent) ≡ step_commands w (state_in v x s) call
-      unfolding words
+      unfolding definitions
       commands = ap (λ cs. low_commands (map plain_lcommand cs)) same ∙ own.commands
 
       pub room_writes : WritesOwn y.number (low_commands (map plain_lcommand lent))

@@ -8,11 +8,11 @@ use Rattle.homeo_meaning.specs.Serial.{values_of}
 use Rattle.homeo_plan.specs.Planned.{template_at}
 use Rattle.homeo_effect.specs.Counts.{assignment_count, print_count}
 use Rattle.homeo_effect.specs.Touched.{written, touched_clauses, touched_freezes}
-use Rattle.homeo_history.specs.Key.{words as history_words}
+use Rattle.homeo_history.specs.Key.{definitions as history_definitions}
 use Rattle.homeo_history.specs.HistoryView.{plain_entry, plain_segment}
 use Rattle.homeo_history.specs.declared.history.Entry.{Entry}
 use Rattle.homeo_history.specs.declared.history.Segment.{Segment}
-use Rattle.homeo_site.specs.Key.{words}
+use Rattle.homeo_site.specs.Key.{definitions}
 use Rattle.homeo_site.specs.Attempts.{step_commands, IsRoom, IsEmptyCopy}
 use Rattle.homeo_site.specs.OwnCalls.{RunsAs}
 use Rattle.homeo_site.specs.SiteState.{SiteHolds, begun}
@@ -30,7 +30,7 @@ abbrev pub begun_value : StartValue → SiteValue
 begun_value v = record { work = v.work; state = begun v.number v.round v.base; spare = 0 }
 
 begun_state : (v : StartValue) (x : List ℤ) (s : Segment) → IsStart v x s → state_in v x s ≡ begun v.number v.round v.base
-unfolding words history_words
+unfolding definitions history_definitions
 begun_state v x s is =
     let none : plain_segment s ≡ [] = ap (λ (l : Listed Entry). map plain_entry l.items) is.entries in
     λ j. record { number = v.number; round = v.round; base = v.base; deltas = is.deltas j; segment = none j }
@@ -53,7 +53,7 @@ start_value v u x s is same =
 
 -- ---- another spare
 same_state : (v : StartValue) (x : List ℤ) (s t : Segment) → t.entries.items ≡ s.entries.items → state_in v x t ≡ state_in v x s
-unfolding history_words
+unfolding history_definitions
 same_state v x s t same =
     let segment : plain_segment t ≡ plain_segment s = ap (map plain_entry) same in
     λ j. record { number = v.number; round = v.round; base = v.base; deltas = x; segment = segment j }

@@ -8,17 +8,17 @@ use Rattle.homeo_meaning.specs.Acceptance.{IsAccepted}
 use Rattle.homeo_meaning.specs.Bounds.{IsWithin}
 use Rattle.homeo_meaning.specs.Schema.{schema_of}
 use Rattle.homeo_meaning.specs.Serial.{values_of}
-use Rattle.homeo_plan.specs.Key.{words as plan_words}
+use Rattle.homeo_plan.specs.Key.{definitions as plan_definitions}
 use Rattle.homeo_plan.specs.Joined.{Deltas}
 use Rattle.homeo_plan.specs.Local.{no_deltas}
 use Rattle.homeo_plan.specs.Planned.{sites_of, template_at, policy}
 use Rattle.homeo_plan.proofs.OwnWithin.{zero_keeps}
 use Rattle.homeo_plan.proofs.Policy.{policy_fits}
-use Rattle.homeo_history.specs.Key.{words as history_words}
+use Rattle.homeo_history.specs.Key.{definitions as history_definitions}
 use Rattle.homeo_history.specs.History.{Entry}
 use Rattle.homeo_history.specs.Legal.{IsCallAt}
 use Rattle.homeo_history.specs.Replayed.{deltas_after, end_of, MeetsTreaty, KeepsOne}
-use Rattle.homeo_site.specs.Key.{words}
+use Rattle.homeo_site.specs.Key.{definitions}
 use Rattle.homeo_site.specs.SiteState.{SiteState, SiteHolds, KeepsCall, local_entry, step_values, after_local, begun}
 use Rattle.homeo_site.proofs.CallsOfSites.{end_more, keeps_more}
 use Rattle.homeo_site.proofs.LocalSteps.{count_like, ready, step_list}
@@ -33,13 +33,13 @@ zeros_count zero = refl
 zeros_count (suc n) = ap suc (zeros_count n)
 
 zeros_are : (n : ℕ) → no_deltas ≡ values_of (replicate n (pos 0))
-unfolding plan_words
+unfolding plan_definitions
 zeros_are n = fun_ext (λ x. sym (zeros_at n x))
 
 pub begun_holds :
     (w : s.Workload) (number round : ℕ) (base : List ℤ) → IsAccepted w → number < sites_of w → IsWithin (schema_of w) base →
     SiteHolds w (begun number round base)
-unfolding words history_words plan_words
+unfolding definitions history_definitions plan_definitions
 begun_holds w number round base accepted site within =
     record {
       site = site;
@@ -56,7 +56,7 @@ begun_holds w number round base accepted site within =
 pub local_holds :
     (w : s.Workload) (x : SiteState) (call : CallId) → IsAccepted w → SiteHolds w x → IsCallAt w x.number call →
     KeepsCall w x call → SiteHolds w (after_local w x call)
-unfolding words history_words
+unfolding definitions history_definitions
 local_holds w x call accepted h at keeps =
     record {
       site = h.site;

@@ -2,11 +2,11 @@
 use Rattle.std.proofs.Common.{◌≡◌, ℕ, zero, suc, ◌+◌, ◌-◌, ◌<◌, ◌≤◌, Bool, true, false, cond, List, [], ◌∷◌, ◌++◌, length, get_or, ℤ, pos, All, Option, refl, sym, ap, ap₂, ◌∙◌, subst, arith}
 use Rattle.std.proofs.lemmas.List.Elements.{All-nil, All-cons, All-head, All-tail}
 use Rattle.homeo_syntax.specs.Source as s
-use Rattle.homeo_meaning.specs.Key.{words as meaning_words}
+use Rattle.homeo_meaning.specs.Key.{definitions as meaning_definitions}
 use Rattle.homeo_meaning.specs.declared.call.CallId.{CallId}
 use Rattle.homeo_meaning.specs.LowMeaning.{whole}
 use Rattle.homeo_meaning.specs.Serial.{values_of}
-use Rattle.homeo_plan.specs.Key.{words as plan_words}
+use Rattle.homeo_plan.specs.Key.{definitions as plan_definitions}
 use Rattle.homeo_plan.specs.declared.treaty.Broken.{Broken}
 use Rattle.homeo_plan.specs.declared.forms.Delta.{Delta}
 use Rattle.homeo_plan.specs.Each.{Each, Member}
@@ -22,12 +22,12 @@ use Rattle.homeo_plan.proofs.PlannedCalls.{planned_member}
 use Rattle.homeo_plan.proofs.Replays.{planned_whole}
 use Rattle.homeo_plan.proofs.Straight.{walk_straight}
 use Rattle.homeo_plan.proofs.Tables.{row_at_walk}
-use Rattle.homeo_effect.specs.Key.{words as effect_words}
+use Rattle.homeo_effect.specs.Key.{definitions as effect_definitions}
 use Rattle.homeo_effect.specs.Touched.{written, numbers_where, is_touched, is_among, touched_clauses, touched_freezes}
 use Rattle.homeo_effect.proofs.Untouched.{clause_stays, own_delta_stays}
-use Rattle.homeo_history.specs.Key.{words as history_words}
+use Rattle.homeo_history.specs.Key.{definitions as history_definitions}
 use Rattle.homeo_history.specs.Legal.{IsCallAt}
-use Rattle.homeo_site.specs.Key.{words}
+use Rattle.homeo_site.specs.Key.{definitions}
 use Rattle.homeo_site.specs.SiteState.{SiteState, step_values, step_finding}
 use Rattle.homeo_site.specs.inner.Failures.{sum_failure, freeze_failure, freeze_failure_from, failure_from, failure_at, first_of, first_failure, own_failure, own_freeze_failure}
 use Rattle.homeo_site.specs.inner.Ready.{IsReady}
@@ -39,7 +39,7 @@ use Rattle.homeo_site.proofs.OwnTerms.{own_sum_is}
 -- ---- numbers of a list
 pub within_numbers :
     {X : Type 0} (test : X → Bool) (n : ℕ) (xs : List X) → All (λ m. (n ≤ m) × (m < n + length xs)) (numbers_where test n xs)
-unfolding effect_words
+unfolding effect_definitions
 within_numbers test n [] = All-nil (λ m. (n ≤ m) × (m < n + 0))
 within_numbers test n (x ∷ xs) = go (test x) (wider (numbers_where test (suc n) xs) (within_numbers test (suc n) xs))
   where
@@ -56,7 +56,7 @@ within_numbers test n (x ∷ xs) = go (test x) (wider (numbers_where test (suc n
     go false h = h
 
 same_first : (f g : ℕ → Option Broken) (ns : List ℕ) → All (λ n. f n ≡ g n) ns → first_failure f ns ≡ first_failure g ns
-unfolding words
+unfolding definitions
 same_first f g [] h = refl
 same_first f g (n ∷ ns) h =
     ap₂ first_of (All-head (λ (m : ℕ). f m ≡ g m) n ns h) (same_first f g ns (All-tail (λ (m : ℕ). f m ≡ g m) n ns h))
@@ -66,7 +66,7 @@ clause_at :
     (k i : ℕ) (x y : Deltas) (cs : List Clause) (bs : Config) (ds : List Delta) (m : ℕ) → KeepsClauses i x cs bs → m < length cs →
     sum_failure (k + m) (own_sum (get_or (own_clauses i cs bs) m (record { terms = []; bound = pos 0 })).terms y)
     (get_or (own_clauses i cs bs) m (record { terms = []; bound = pos 0 })).bound ≡ failure_from k i y cs bs ds m
-unfolding words plan_words
+unfolding definitions plan_definitions
 clause_at k i x y [] bs ds m keeps lt = absurd (omega arith)
 clause_at k i x y (c ∷ cs) [] ds m keeps lt = absurd keeps
 clause_at k i x y (c ∷ cs) (b ∷ bs) ds zero keeps lt =
@@ -82,7 +82,7 @@ clause_at k i x y (c ∷ cs) (b ∷ bs) ds (suc m) keeps lt =
 freeze_at :
     (k i : ℕ) (y : Deltas) (ds : List Delta) (m : ℕ) → m < length ds →
     freeze_failure (k + m) i y (get_or ds m (delta_of 0 0)) ≡ freeze_failure_from k i y ds m
-unfolding words plan_words
+unfolding definitions plan_definitions
 freeze_at k i y [] m lt = absurd (omega arith)
 freeze_at k i y (d ∷ ds) zero lt = let e : k + 0 ≡ k = omega arith in ap (λ n. freeze_failure n i y d) e
 freeze_at k i y (d ∷ ds) (suc m) lt =
@@ -92,7 +92,7 @@ freeze_at k i y (d ∷ ds) (suc m) lt =
 past_clauses :
     (k i : ℕ) (x y : Deltas) (cs : List Clause) (bs : Config) (ds : List Delta) (m : ℕ) → KeepsClauses i x cs bs →
     freeze_failure_from (k + length cs) i y ds m ≡ failure_from k i y cs bs ds (length cs + m)
-unfolding words plan_words
+unfolding definitions plan_definitions
 past_clauses k i x y [] bs ds m keeps =
     let e : k + 0 ≡ k = omega arith in
     let f : m ≡ 0 + m = omega arith in
@@ -111,7 +111,7 @@ module _ (t : Template) (config : Config) (i : ℕ) (x y : Deltas) (keeps : Trea
   own_clauses_fail :
       first_failure (own_failure (own_clauses i cs config) y) (touched_clauses ws t) ≡
       first_failure (failure_at t config i y) (touched_clauses ws t)
-  unfolding words effect_words
+  unfolding definitions effect_definitions
   own_clauses_fail =
       same_first (own_failure (own_clauses i cs config) y) (failure_at t config i y) (touched_clauses ws t) each
     where
@@ -129,7 +129,7 @@ module _ (t : Template) (config : Config) (i : ℕ) (x y : Deltas) (keeps : Trea
   own_freezes_fail :
       first_failure (own_freeze_failure (length cs) i t.freezes y) (touched_freezes ws t) ≡
       first_failure (failure_at t config i y) (touched_freezes ws t)
-  unfolding words effect_words
+  unfolding definitions effect_definitions
   own_freezes_fail =
       same_first (own_freeze_failure (length cs) i t.freezes y) (failure_at t config i y) (touched_freezes ws t) each
     where
@@ -153,7 +153,7 @@ module _ (t : Template) (config : Config) (i : ℕ) (x y : Deltas) (keeps : Trea
       Each (λ d. is_among ws d ≡ false → d.site ≡ i → y d.object ≡ x d.object) t.freezes →
       first_of (first_failure (own_failure (own_clauses i cs config) y) (touched_clauses ws t))
       (first_failure (own_freeze_failure (length cs) i t.freezes y) (touched_freezes ws t)) ≡ finding t config i y
-  unfolding words plan_words effect_words
+  unfolding definitions plan_definitions effect_definitions
   first_of_touched same same' =
       ap₂ first_of own_clauses_fail own_freezes_fail
       ∙ sym (first_of_both (failure_at t config i y) (touched_clauses ws t) (touched_freezes ws t))
@@ -169,14 +169,14 @@ module _ (t : Template) (config : Config) (i : ℕ) (x y : Deltas) (keeps : Trea
 
 -- ---- a call's local step
 each_of : {X : Type 0} (P : X → Type 0) → ((x : X) → P x) → (xs : List X) → Each P xs
-unfolding plan_words
+unfolding plan_definitions
 each_of P h [] = tt
 each_of P h (x ∷ xs) = (h x, each_of P h xs)
 
 pub residual_straight :
     (w : s.Workload) (base : List ℤ) (g : PlannedCall) → Member g (planned w) →
     IsStraight (base_row (sites_of w) (values_of base) g).residual
-unfolding plan_words meaning_words
+unfolding plan_definitions meaning_definitions
 residual_straight w base g member =
     subst (λ (r : Row). IsStraight r.residual) (sym (row_at_walk (shifted (sites_of w) g) (whole (values_of base)) (λ t. refl)))
     (walk_straight (sites_of w) g.site g.command (whole (values_of base)) (planned_whole w g member))
@@ -195,7 +195,7 @@ module _ (w : s.Workload) (x : SiteState) (h : IsReady w x) (call : CallId) (at 
       first_of (first_failure (own_failure (own_clauses x.number t.clauses (policy w x.base)) (step_values w x call)) (touched_clauses ws t))
       (first_failure (own_freeze_failure (length t.clauses) x.number t.freezes (step_values w x call)) (touched_freezes ws t)) ≡
       step_finding w x call
-  unfolding words history_words plan_words
+  unfolding definitions history_definitions plan_definitions
   touched_finding =
       subst
       (λ i. Treaty t (policy w x.base) i (values_of x.deltas) →

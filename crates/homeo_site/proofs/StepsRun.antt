@@ -8,7 +8,7 @@ use Rattle.std.proofs.lemmas.Bool.Decides.{nat_tests}
 use Rattle.std.proofs.lemmas.Nat.{mul-le}
 use Rattle.std.proofs.lemmas.List.Elements.{All-head, All-tail}
 use Rattle.homeo_syntax.specs.Source as s
-use Rattle.homeo_meaning.specs.Key.{words as meaning_words}
+use Rattle.homeo_meaning.specs.Key.{definitions as meaning_definitions}
 use Rattle.homeo_meaning.specs.declared.call.CallId.{CallId}
 use Rattle.homeo_meaning.specs.Acceptance.{weight_limit as largest, IsAccepted}
 use Rattle.homeo_meaning.specs.Bounds.{AllWithin, IsWithin}
@@ -21,7 +21,7 @@ use Rattle.homeo_meaning.specs.Schema.{schema_of}
 use Rattle.homeo_meaning.specs.Serial.{values_of}
 use Rattle.homeo_meaning.specs.Small.{IsSmall}
 use Rattle.homeo_meaning.proofs.Within.{all_within}
-use Rattle.homeo_plan.specs.Key.{words as plan_words}
+use Rattle.homeo_plan.specs.Key.{definitions as plan_definitions}
 use Rattle.homeo_plan.specs.Each.{Member}
 use Rattle.homeo_plan.specs.Joined.{Deltas, alone}
 use Rattle.homeo_plan.specs.Local.{no_deltas}
@@ -44,7 +44,7 @@ use Rattle.homeo_delta.specs.SmallParts.{HasSmallParts}
 use Rattle.homeo_delta.proofs.SmallShifts.{runs_law}
 use Rattle.homeo_history.specs.Legal.{IsCallAt}
 use Rattle.homeo_history.specs.Replayed.{MeetsTreaty}
-use Rattle.homeo_history.specs.Key.{words as history_words}
+use Rattle.homeo_history.specs.Key.{definitions as history_definitions}
 use Rattle.homeo_site.specs.SiteState.{SiteState}
 use Rattle.homeo_site.specs.inner.Ready.{IsReady}
 use Rattle.homeo_site.proofs.CallsOfSites.{call_site}
@@ -52,29 +52,29 @@ use Rattle.homeo_site.proofs.Limits.{few_sites}
 use Rattle.homeo_site.proofs.WalkRuns.{residual_runs}
 
 -- ---- a planned call is a ground call of some client
-pub record IsMade (w : s.Workload) (g : PlannedCall) : Type 0 where
+pub record HasGroundCall (w : s.Workload) (g : PlannedCall) : Type 0 where
   pub from : Ground
   pub is : planned_call w from ≡ g
   pub called : IsGroundCall w from.transaction from.args
 
-made_among : (w : s.Workload) (gs : List Ground) (g : PlannedCall) → All (IsCalled w) gs → Member g (map (planned_call w) gs) → IsMade w g
-unfolding plan_words
+made_among : (w : s.Workload) (gs : List Ground) (g : PlannedCall) → All (IsCalled w) gs → Member g (map (planned_call w) gs) → HasGroundCall w g
+unfolding plan_definitions
 made_among w [] g h m = absurd m
 made_among w (from ∷ gs) g h m =
     ⊎_elim (λ q. record { from = from; is = q; called = (All-head (IsCalled w) from gs h).made })
     (λ n. made_among w gs g (All-tail (IsCalled w) from gs h) n) m
 
-pub is_made : (w : s.Workload) (g : PlannedCall) → IsAccepted w → Member g (planned w) → IsMade w g
-unfolding plan_words
-is_made w g accepted m = made_among w (grounds w) g (are_called w accepted) m
+pub has_ground_call : (w : s.Workload) (g : PlannedCall) → IsAccepted w → Member g (planned w) → HasGroundCall w g
+unfolding plan_definitions
+has_ground_call w g accepted m = made_among w (grounds w) g (are_called w accepted) m
 
 -- ---- a site alone
 no_temps : (b : ℕ → ℤ) (i : ℕ) (x : Deltas) → HasNoTemps (alone b i x)
-unfolding plan_words meaning_words
+unfolding plan_definitions meaning_definitions
 no_temps b i x t = refl
 
 other_zero : (b : ℕ → ℤ) (i : ℕ) (x : Deltas) (n j : ℕ) → (i ≡ j → ⊥) → alone b i x (DeltaAt n j) ≡ pos 0
-unfolding plan_words meaning_words
+unfolding plan_definitions meaning_definitions
 other_zero b i x n j apart = let q : (j == i) ≡ false = grind (arith, nat_tests) in ap (λ v. cond v (x n) (pos 0)) q
 
 -- the values of the fold, and those of base plus own deltas
@@ -85,7 +85,7 @@ abbrev own_values : (ℕ → ℤ) → Deltas → ℕ → ℤ
 own_values b x n = b n +ℤ x n
 
 alone_fold : (k : ℕ) (b : ℕ → ℤ) (i : ℕ) (x : Deltas) → i < k → fold_values k (alone b i x) ≡ own_values b x
-unfolding plan_words meaning_words
+unfolding plan_definitions meaning_definitions
 alone_fold k b i x lt = ap (fold_values k) (alone_is_joined k b i x lt) ∙ only_folded k b i x lt
 
 module _
@@ -105,7 +105,7 @@ module _
     fold_within = subst (AllWithin (schema_of w)) (sym (alone_fold k b i own site)) all
 
     small_parts : HasSmallParts k i most largest here
-    unfolding meaning_words plan_words
+    unfolding meaning_definitions plan_definitions
     small_parts =
         record {
           fold = λ n. let small = values_small w accepted (fold_values k here) fold_within n in omega (arith, small);
@@ -116,7 +116,7 @@ module _
     module _ (g : PlannedCall) (member : Member g (planned w)) (at_site : g.site ≡ i) where
       -- the call's row is that of the base
       same_row : row_at (table (shifted k g)) here ≡ base_row k b g
-      unfolding history_words
+      unfolding history_definitions
       same_row =
           let fits = policy_fits w base accepted in
           subst (λ s. row_at (table (shifted k g)) s ≡ base_row k b g) (sym (alone_is_joined k b i own site))
@@ -125,9 +125,9 @@ module _
           (subst (λ j. j < k) (sym at_site) site) (planned_whole w g member)).row
 
       call_runs : can_exec run_limit (shifted k g) here ≡ true
-      unfolding plan_words
+      unfolding plan_definitions
       call_runs =
-          let m : IsMade w g = is_made w g accepted member in
+          let m : HasGroundCall w g = has_ground_call w g accepted member in
           let few : k ≤ 16 = few_sites w accepted in
           let most_all : k * most ≤ 16 * most = mul-le k most 16 most few (omega arith) in
           let room : largest + k * most ≤ run_limit = omega arith in
@@ -146,7 +146,7 @@ module _
 
 -- ---- on the base, before any call
 base_is_alone : (b : ℕ → ℤ) (i : ℕ) → alone b i no_deltas ≡ whole b
-unfolding plan_words meaning_words
+unfolding plan_definitions meaning_definitions
 base_is_alone b i = fun_ext at
   where
     zero : (v : Bool) → cond v (pos 0) (pos 0) ≡ pos 0
@@ -159,13 +159,13 @@ base_is_alone b i = fun_ext at
     at (DeltaAt n j) = zero (j == i)
 
 no_change : (b : ℕ → ℤ) → b ≡ own_values b no_deltas
-unfolding plan_words
+unfolding plan_definitions
 no_change b = fun_ext (λ n. omega (arith, ints))
 
 pub base_runs :
     (w : s.Workload) (base : List ℤ) (g : PlannedCall) → IsAccepted w → IsWithin (schema_of w) base → Member g (planned w) →
     g.site < sites_of w → can_exec_all run_limit (base_row (sites_of w) (values_of base) g).residual (whole (values_of base)) ≡ true
-unfolding history_words
+unfolding history_definitions
 base_runs w base g accepted within member site =
     subst (λ s. can_exec_all run_limit (base_row (sites_of w) (values_of base) g).residual s ≡ true) (base_is_alone (values_of base) g.site)
     (alone_runs w base g.site no_deltas accepted within site

@@ -2,11 +2,11 @@
 use Rattle.std.proofs.Common.{◌≡◌, ℕ, Bool, true, false, cond, refl, ap₂, ◌&&◌}
 use Rattle.std.proofs.lemmas.Bool.{and_parts}
 use Rattle.homeo_syntax.specs.Low.{Command, Commands, Skip, Assign, Write, Print, Seq, If, NoCommand, MoreCommand}
-use Rattle.homeo_meaning.specs.Key.{words as meaning_words}
+use Rattle.homeo_meaning.specs.Key.{definitions as meaning_definitions}
 use Rattle.homeo_meaning.specs.LowMeaning.{State, holds, exec, exec_all}
-use Rattle.homeo_plan.specs.Key.{words as plan_words}
+use Rattle.homeo_plan.specs.Key.{definitions as plan_definitions}
 use Rattle.homeo_plan.specs.Table.{Row, last_row, test_before, otherwise, walk, walk_before, walk_all_before}
-use Rattle.homeo_split.specs.Key.{words as split_words}
+use Rattle.homeo_split.specs.Key.{definitions as split_definitions}
 use Rattle.homeo_split.specs.CanExec.{cond_fits, can_exec, can_exec_all}
 
 module _ (b : ℕ) where
@@ -15,7 +15,7 @@ module _ (b : ℕ) where
   CanFollow r s = can_exec_all b r.residual s ≡ true
 
   mutual
-    unfolding plan_words meaning_words split_words CanFollow
+    unfolding plan_definitions meaning_definitions split_definitions CanFollow
 
     walk_runs : (c : Command) (s : State) (r : Row) → can_exec b c s ≡ true → CanFollow r (exec c s).state → CanFollow (walk_before c s r) s
     walk_runs Skip s r e h = h
@@ -42,5 +42,5 @@ module _ (b : ℕ) where
         walk_runs c s (walk_all_before cs (exec c s).state r) k.0 (walks_run cs (exec c s).state r k.1 h)
 
   pub residual_runs : (c : Command) (s : State) → can_exec b c s ≡ true → can_exec_all b (walk c s).residual s ≡ true
-  unfolding plan_words meaning_words split_words CanFollow
+  unfolding plan_definitions meaning_definitions split_definitions CanFollow
   residual_runs c s e = walk_runs c s last_row e refl

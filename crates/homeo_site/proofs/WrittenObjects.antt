@@ -5,7 +5,7 @@ use Rattle.std.proofs.lemmas.Bool.Decides.{nat_tests}
 use Rattle.homeo_syntax.specs.declared.low.SplitName.TheVariants.{Whole, Base, Delta}
 use Rattle.homeo_syntax.specs.Low.{Command, Commands, Skip, Assign, Write, Print, Seq, If, NoCommand, MoreCommand}
 use Rattle.homeo_syntax.specs.Source as s
-use Rattle.homeo_meaning.specs.Key.{words as meaning_words}
+use Rattle.homeo_meaning.specs.Key.{definitions as meaning_definitions}
 use Rattle.homeo_meaning.specs.Acceptance.{IsAccepted}
 use Rattle.homeo_meaning.specs.Bounds.{IsWithin, all_bounds}
 use Rattle.homeo_meaning.specs.LowMeaning.{State, holds, exec, whole}
@@ -14,7 +14,7 @@ use Rattle.homeo_meaning.specs.Schema.{schema_of}
 use Rattle.homeo_meaning.specs.Serial.{values_of}
 use Rattle.homeo_meaning.proofs.Within.{length_in}
 use Rattle.homeo_lform.proofs.NamedWithin.{named_law}
-use Rattle.homeo_plan.specs.Key.{words as plan_words}
+use Rattle.homeo_plan.specs.Key.{definitions as plan_definitions}
 use Rattle.homeo_plan.specs.declared.forms.Delta as forms
 use Rattle.homeo_plan.specs.Each.{Each, Member}
 use Rattle.homeo_plan.specs.Planned.{sites_of, planned}
@@ -22,13 +22,13 @@ use Rattle.homeo_plan.specs.Table.{Row, last_row, test_before, otherwise, walk, 
 use Rattle.homeo_plan.specs.Template.{PlannedCall, shifted, base_row}
 use Rattle.homeo_plan.proofs.Replays.{planned_whole}
 use Rattle.homeo_plan.proofs.Tables.{row_at_walk}
-use Rattle.homeo_split.specs.Key.{words as split_words}
+use Rattle.homeo_split.specs.Key.{definitions as split_definitions}
 use Rattle.homeo_split.specs.Shape.{Shape, has_places, has_places_all}
 use Rattle.homeo_delta.proofs.ShiftedPlaces.{places_law}
-use Rattle.homeo_effect.specs.Key.{words as effect_words}
+use Rattle.homeo_effect.specs.Key.{definitions as effect_definitions}
 use Rattle.homeo_effect.specs.Touched.{written, WritesOwn}
 use Rattle.homeo_effect.proofs.OwnWrites.{walk_writes_own}
-use Rattle.homeo_site.proofs.StepsRun.{IsMade, is_made}
+use Rattle.homeo_site.proofs.StepsRun.{HasGroundCall, has_ground_call}
 
 module _ (h : Shape) where
   -- the places that the row's residual writes are there
@@ -36,7 +36,7 @@ module _ (h : Shape) where
   HasPlaces r = has_places_all h r.residual ≡ true
 
   mutual
-    unfolding plan_words split_words HasPlaces
+    unfolding plan_definitions split_definitions HasPlaces
 
     walk_places : (c : Command) (s : State) (r : Row) → has_places h c ≡ true → HasPlaces r → HasPlaces (walk_before c s r)
     walk_places Skip s r e k = k
@@ -61,11 +61,11 @@ module _ (h : Shape) where
         walk_places c s (walk_all_before cs (exec c s).state r) p.0 (walks_places cs (exec c s).state r p.1 k)
 
   residual_places : (c : Command) (s : State) → has_places h c ≡ true → has_places_all h (walk c s).residual ≡ true
-  unfolding plan_words split_words HasPlaces
+  unfolding plan_definitions split_definitions HasPlaces
   residual_places c s e = walk_places c s last_row e refl
 
   written_there : (cs : Commands) → has_places_all h cs ≡ true → Each (λ d. d.object < get_or h.deltas d.site 0) (written cs)
-  unfolding plan_words split_words effect_words
+  unfolding plan_definitions split_definitions effect_definitions
   written_there NoCommand e = tt
   written_there (MoreCommand Skip cs) e = written_there cs e
   written_there (MoreCommand (Assign t x) cs) e = written_there cs e
@@ -87,7 +87,7 @@ at_last (suc i) n = at_last i n
 own_objects :
     (i n : ℕ) (ds : List forms.Delta) → Each (λ d. d.site ≡ i) ds → Each (λ d. d.object < get_or (replicate (suc i) n) d.site 0) ds →
     Each (λ d. d.object < n) ds
-unfolding plan_words
+unfolding plan_definitions
 own_objects i n [] own there = tt
 own_objects i n (d ∷ ds) own there = (
   subst (λ m. d.object < m) (ap (λ j. get_or (replicate (suc i) n) j 0) own.0 ∙ at_last i n) there.0,
@@ -102,17 +102,17 @@ module _ (w : s.Workload) (base : List ℤ) (g : PlannedCall) (member : Member g
   start = whole (values_of base)
 
   row_is : base_row k (values_of base) g ≡ walk (shifted k g) start
-  unfolding plan_words meaning_words
+  unfolding plan_definitions meaning_definitions
   row_is = row_at_walk (shifted k g) start (λ t. refl)
 
   pub writes_own : WritesOwn g.site (base_row k (values_of base) g).residual
-  unfolding plan_words
+  unfolding plan_definitions
   writes_own =
       subst (λ (r : Row). WritesOwn g.site r.residual) (sym row_is) (walk_writes_own k g.site g.command start (planned_whole w g member))
 
   pub writes_objects :
       IsAccepted w → IsWithin (schema_of w) base → Each (λ d. d.object < length base) (written (base_row k (values_of base) g).residual)
-  unfolding plan_words effect_words meaning_words
+  unfolding plan_definitions effect_definitions meaning_definitions
   writes_objects accepted within =
       own_objects g.site (length base) (written (base_row k (values_of base) g).residual) writes_own
       (subst (λ (r : Row). Each (λ d. d.object < get_or (replicate (suc g.site) (length base)) d.site 0) (written r.residual)) (sym row_is)
@@ -121,8 +121,8 @@ module _ (w : s.Workload) (base : List ℤ) (g : PlannedCall) (member : Member g
       h : Shape
       h = record { base = length base; deltas = replicate (suc g.site) (length base) }
 
-      made : IsMade w g
-      made = is_made w g accepted member
+      made : HasGroundCall w g
+      made = has_ground_call w g accepted member
 
       named : NamesWithin (length (all_bounds (schema_of w))) (length w.names) g.command
       named =

@@ -9,7 +9,7 @@ use Rattle.homeo_plan.specs.Planned.{sites_of, planned_at, template_at}
 use Rattle.homeo_plan.specs.Template.{base_row}
 use Rattle.homeo_effect.specs.Counts.{assignment_count, print_count}
 use Rattle.homeo_effect.specs.Touched.{written, touched_clauses, touched_freezes}
-use Rattle.homeo_site.specs.Key.{words}
+use Rattle.homeo_site.specs.Key.{definitions}
 use Rattle.homeo_site.specs.OwnCalls.{RunsAs}
 use Rattle.homeo_site.specs.SiteState.{SiteState, KeepsCall, step_prints, step_deltas, step_finding}
 use Rattle.homeo_site.specs.declared.attempts.Change.{Change}
@@ -26,14 +26,14 @@ pub record IsChange (w : s.Workload) (x : SiteState) (id : CallId) (c : Change) 
 
 -- it keeps with the change that the local step makes, or breaks with what fails first
 abbrev pub IsOutcome : s.Workload → SiteState → CallId → Outcome → Type 0
-unfolding words
+unfolding definitions
 IsOutcome w x call (Keeps c) = IsChange w x call c
 IsOutcome w x call (Breaks b) = step_finding w x call ≡ Some b
 
 -- ---- room
 -- what a site runs for a call, on the base of the round
 abbrev pub step_commands : s.Workload → SiteState → CallId → Commands
-unfolding words
+unfolding definitions
 step_commands w x call = (base_row (sites_of w) (values_of x.base) (planned_at w call)).residual
 
 -- room for a call: what the site runs for it, the site's deltas, no prints, a 0 for each assignment, room for each print, and the
@@ -55,6 +55,6 @@ pub record IsEmptyCopy (w : s.Workload) (x : SiteState) (id : CallId) (copy : Li
 
 -- what a copy has after the attempt: the prints where the call keeps the treaty, and else nothing
 abbrev pub copied_prints : Outcome → List ℤ
-unfolding words
+unfolding definitions
 copied_prints (Keeps c) = c.prints.items
 copied_prints (Breaks b) = []

@@ -17,7 +17,7 @@ use Rattle.homeo_effect.specs.OwnState.{own_state}
 use Rattle.homeo_effect.specs.Program.{plain_program, set_after_all, prints_of_all}
 use Rattle.homeo_effect.specs.Touched.{written}
 use Rattle.homeo_effect.specs.declared.program.Program.{Program}
-use Rattle.homeo_site.specs.Key.{words}
+use Rattle.homeo_site.specs.Key.{definitions}
 use Rattle.homeo_site.specs.declared.own_calls.OwnCall.{OwnCall}
 use Rattle.homeo_site.specs.declared.own_calls.OwnCalls.{OwnCalls}
 
@@ -51,10 +51,10 @@ pub record IsGroundOwnCall (w : s.Workload) (base : List ℤ) (n : ℕ) (o : Own
 
 -- so, where it was made for a planned call
 abbrev pub IsMadeFor : {Z : Type 0} → s.Workload → List ℤ → PlannedCall → Option (Arc OwnCall Z) → Type 0
-unfolding words
+unfolding definitions
 IsMadeFor w base g o = IfSome o (λ own. IsOwnCall w base g own.value)
 
 -- so for each ground call of a workload
 abbrev pub AreOwnCalls : s.Workload → List ℤ → OwnCalls → Type 0
-unfolding words
+unfolding definitions
 AreOwnCalls w base o = AllZip (IsMadeFor w base) (planned w) o.calls.items

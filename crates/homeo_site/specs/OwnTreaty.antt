@@ -6,20 +6,20 @@ use Rattle.homeo_plan.specs.Joined.{Deltas}
 use Rattle.homeo_plan.specs.Template.{Clause}
 use Rattle.homeo_plan.specs.Config.{Config}
 use Rattle.homeo_plan.specs.Treaty.{bound_at}
-use Rattle.homeo_site.specs.Key.{words}
+use Rattle.homeo_site.specs.Key.{definitions}
 use Rattle.homeo_site.specs.declared.own_treaty.OwnTerm.{OwnTerm}
 use Rattle.homeo_site.specs.declared.own_treaty.OwnClause as code
 
 -- the terms on deltas of site i
 abbrev pub own_terms : ℕ → List Term → List OwnTerm
-unfolding words
+unfolding definitions
 own_terms i [] = []
 own_terms i (t ∷ ts) =
     cond (t.delta.site == i) (record { object = t.delta.object; factor = t.factor } ∷ own_terms i ts) (own_terms i ts)
 
 -- the sum of factor times delta
 abbrev pub own_sum : List OwnTerm → Deltas → ℤ
-unfolding words
+unfolding definitions
 own_sum [] x = pos 0
 own_sum (t ∷ ts) x = (t.factor *ℤ x t.object) +ℤ own_sum ts x
 
@@ -34,12 +34,12 @@ pub record OwnClause : Type 0 where
   pub bound : ℤ
 
 abbrev pub plain_own : code.OwnClause → OwnClause
-unfolding words
+unfolding definitions
 plain_own c = record { terms = c.terms.items; bound = c.bound }
 
 -- of each clause, with the bounds that stand at its place: 0 where there are none
 abbrev pub own_clauses : ℕ → List Clause → Config → List OwnClause
-unfolding words
+unfolding definitions
 own_clauses i [] bs = []
 own_clauses i (c ∷ cs) [] = record { terms = own_terms i c.terms; bound = pos 0 } ∷ own_clauses i cs []
 own_clauses i (c ∷ cs) (b ∷ bs) = record { terms = own_terms i c.terms; bound = bound_at b i } ∷ own_clauses i cs bs

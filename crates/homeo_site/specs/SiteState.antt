@@ -13,7 +13,7 @@ use Rattle.homeo_plan.specs.Treaty.{finding}
 use Rattle.homeo_history.specs.History.{Entry}
 use Rattle.homeo_history.specs.Legal.{IsCallAt}
 use Rattle.homeo_history.specs.Replayed.{prints_at, deltas_after, end_of, MeetsTreaty, KeepsAll}
-use Rattle.homeo_site.specs.Key.{words}
+use Rattle.homeo_site.specs.Key.{definitions}
 
 -- the site's number, the round and the base that it begins with, the site's own delta of each object, and the entries of
 -- its calls in this round
@@ -38,37 +38,37 @@ pub record SiteHolds (w : s.Workload) (x : SiteState) : Type 0 where
 -- ---- a local step
 -- what a call's local step prints at the site
 abbrev pub step_prints : s.Workload → SiteState → CallId → List ℤ
-unfolding words
+unfolding definitions
 step_prints w x call = prints_at w x.base call (values_of x.deltas)
 
 -- the deltas of the site after it, by the numbers of their objects
 abbrev pub step_values : s.Workload → SiteState → CallId → Deltas
-unfolding words
+unfolding definitions
 step_values w x call = deltas_after w x.base call (values_of x.deltas)
 
 -- the same as a list, a delta for each object
 abbrev pub step_deltas : s.Workload → SiteState → CallId → List ℤ
-unfolding words
+unfolding definitions
 step_deltas w x call = database_like x.base (step_values w x call)
 
 -- what fails first of the site's treaty there, if anything does
 abbrev pub step_finding : s.Workload → SiteState → CallId → Option Broken
-unfolding words
+unfolding definitions
 step_finding w x call = finding (template_at w x.base) (policy w x.base) x.number (step_values w x call)
 
 -- the site's treaty holds there
 abbrev pub KeepsCall : s.Workload → SiteState → CallId → Type 0
-unfolding words
+unfolding definitions
 KeepsCall w x call = MeetsTreaty w x.base x.number (step_values w x call)
 
 -- the call with what its local step prints
 abbrev pub local_entry : s.Workload → SiteState → CallId → Entry
-unfolding words
+unfolding definitions
 local_entry w x call = record { call = call; prints = step_prints w x call }
 
 -- the site after the call's local step
 abbrev pub after_local : s.Workload → SiteState → CallId → SiteState
-unfolding words
+unfolding definitions
 after_local w x call = record {
   number = x.number;
   round = x.round;
@@ -80,7 +80,7 @@ after_local w x call = record {
 -- ---- the start of a round
 -- a site that has made no call in a round
 abbrev pub begun : ℕ → ℕ → List ℤ → SiteState
-unfolding words
+unfolding definitions
 begun number round base = record {
   number = number;
   round = round;
@@ -91,5 +91,5 @@ begun number round base = record {
 
 -- the site in the next round, on this base
 abbrev pub renewed : List ℤ → SiteState → SiteState
-unfolding words
+unfolding definitions
 renewed base x = begun x.number (suc x.round) base

@@ -40,7 +40,7 @@ fn own_term(term: &Term) -> OwnTerm
 }
 
 /// The terms on deltas of a site.
-#[tactic(auto, unfolding(crate::specs::Key::words))]
+#[tactic(auto, unfolding(crate::specs::Key::definitions))]
 fn own_terms(alloc: Global, terms: &[Term], site: u32) -> Result<List<OwnTerm>, Memory>
     ensures { IfOk result (λ own. own.items ≡ own_terms site terms.now) }
 {
@@ -66,7 +66,7 @@ fn bound_of(config: &Config, clause: usize, site: u32) -> i128
 }
 
 /// What a site keeps of clauses, one for each.
-#[tactic(auto, unfolding(crate::specs::Key::words))]
+#[tactic(auto, unfolding(crate::specs::Key::definitions))]
 pub(crate) fn own_clauses(
     alloc: Global,
     clauses: &[Clause],
@@ -121,7 +121,7 @@ fn with_term(sum: i128, term: OwnTerm, deltas: &[i64]) -> i128
 }
 
 /// The sum of factor times delta.
-#[tactic(auto, using(crate::proofs::OwnTerms::all_sum), unfolding(crate::specs::Key::words))]
+#[tactic(auto, using(crate::proofs::OwnTerms::all_sum), unfolding(crate::specs::Key::definitions))]
 pub(crate) fn own_sum(terms: &[OwnTerm], deltas: &[i64]) -> i128
     requires { SumsFit terms.now (values_of deltas.now) }
     ensures { result ≡ own_sum terms.now (values_of deltas.now) }
@@ -134,7 +134,7 @@ pub(crate) fn own_sum(terms: &[OwnTerm], deltas: &[i64]) -> i128
 }
 
 /// What fails of a clause of this number: its sum where that is above the bound.
-#[tactic(auto, unfolding(crate::specs::Key::words))]
+#[tactic(auto, unfolding(crate::specs::Key::definitions))]
 fn clause_failure(clause: &OwnClause, number: u32, deltas: &[i64]) -> Option<Broken>
     requires { SumsFit clause.now.terms.items (values_of deltas.now) }
     ensures { result ≡ sum_failure number (own_sum clause.now.terms.items (values_of deltas.now)) clause.now.bound }
@@ -167,7 +167,7 @@ pub(crate) fn first_clause(clauses: &[OwnClause], numbers: &[u32], deltas: &[i64
 }
 
 /// What fails of a freeze of this number: a delta of the site that isn't 0.
-#[tactic(auto, unfolding(crate::specs::Key::words))]
+#[tactic(auto, unfolding(crate::specs::Key::definitions))]
 fn freeze_failure(freeze: Delta, site: u32, number: u32, deltas: &[i64]) -> Option<Broken>
     ensures { result ≡ freeze_failure number site (values_of deltas.now) freeze }
 {

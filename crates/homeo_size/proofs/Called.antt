@@ -5,13 +5,13 @@ use Rattle.std.proofs.lemmas.Int.{clamps}
 use Rattle.std.proofs.lemmas.Bool.Decides.{nat_tests}
 use Rattle.homeo_syntax.specs.Source as s
 use Rattle.homeo_syntax.specs.Low as L
-use Rattle.homeo_syntax.specs.Key.{words as tree_words}
+use Rattle.homeo_syntax.specs.Key.{definitions as syntax_definitions}
 use Rattle.homeo_syntax.specs.SourceView.{commands, plain_command, plain_transaction}
 use Rattle.homeo_syntax.specs.declared.command.Command.{Command}
 use Rattle.homeo_syntax.specs.declared.phrase.Number.{Number}
 use Rattle.homeo_syntax.specs.declared.workload.RangeDecl.{RangeDecl}
 use Rattle.homeo_syntax.specs.declared.workload.Transaction.{Transaction}
-use Rattle.homeo_meaning.specs.Key.{words as meaning_words}
+use Rattle.homeo_meaning.specs.Key.{definitions as meaning_definitions}
 use Rattle.homeo_meaning.specs.Bounds.{Bounds, all_bounds}
 use Rattle.homeo_meaning.specs.Schema.{Schema}
 use Rattle.homeo_meaning.specs.Context as context
@@ -21,7 +21,7 @@ use Rattle.homeo_meaning.specs.LForm.{l_form}
 use Rattle.homeo_meaning.specs.LowSizes.{first_extents, call_extent, command_extent, rows, prints_in}
 use Rattle.homeo_meaning.specs.LowWeights.{first_weights}
 use Rattle.homeo_meaning.specs.LowWeights.{weight_at}
-use Rattle.homeo_size.specs.inner.Key.{words}
+use Rattle.homeo_size.specs.inner.Key.{definitions}
 use Rattle.homeo_size.specs.inner.Laid.{capped_weight, outside}
 use Rattle.homeo_size.specs.Measured.{IsMeasure}
 use Rattle.homeo_size.specs.inner.Writing.{body_measured}
@@ -48,7 +48,7 @@ use Rattle.homeo_size.proofs.Told.{told, told_measure, measured_told}
 
 -- the setting of a call
 pub setting_is : (x : Schema) (params : List ℕ) (args : List ℤ) (arguments : List (Option ℤ)) (sites : ℕ) → ((n : ℕ) → get_or arguments n None ≡ arguments_of params args n) → setting_of x arguments [] sites ≡ setting_for sites (context.context x params args)
-unfolding words meaning_words
+unfolding definitions meaning_definitions
 setting_is x params args arguments sites a =
     λ i. record {
       object = λ n. object (context.context x params args) n;
@@ -61,7 +61,7 @@ setting_is x params args arguments sites a =
 
 -- ---- where a call begins
 first_object : (sites k : ℕ) (bs : List Bounds) → get_or (map (unwritten sites) (map capped_weight bs)) k (unwritten sites 1) ≡ told (record { size = sites + 2; depth = 2 }) (weight_at bs k)
-unfolding words meaning_words
+unfolding definitions meaning_definitions
 first_object sites k [] = refl
 first_object sites zero (b ∷ bs) = refl
 first_object sites (suc k) (b ∷ bs) = first_object sites k bs
@@ -70,7 +70,7 @@ abbrev first : Schema → ℕ → Extents
 first x sites p = told (first_extents sites p) (first_weights x p)
 
 pub first_sees : (x : Schema) (sites : ℕ) → seen (first x sites) ≡ sizes_with sites (map (unwritten sites) (map capped_weight (all_bounds x))) []
-unfolding words meaning_words
+unfolding definitions meaning_definitions
 first_sees x sites = λ i. record { objects = λ k. sym (first_object sites k (all_bounds x)) i; temps = λ n. single }
 
 light_capped : (n : ℕ) → nat_le (weight_cap n) 1000000000000000000 ≡ nat_le n 1000000000000000000
@@ -83,7 +83,7 @@ light_capped n = go (nat_le (weight_cap n) 1000000000000000000) (nat_le n 100000
     go false false e f = refl
 
 is_measure : (x : Schema) (sites : ℕ) (form : L.Command) (m : Measure) → m ≡ told_measure (command_extent sites form (first_extents sites)) (heaviest form (first_weights x)) (rows form) → IsMeasure x sites form m
-unfolding meaning_words
+unfolding meaning_definitions
 is_measure x sites form m h = record {
   size = ap (λ u. u.size) h;
   depth = ap (λ u. u.depth) h;
@@ -100,7 +100,7 @@ module _ (x : Schema) (params : List ℕ) (args : List ℤ) (body : s.Commands) 
   w = context.context x params args
 
   measured_call : (objects : List Extent) (m : Measure) → objects ≡ map (unwritten sites) (map capped_weight (all_bounds x)) → m ≡ body_measured (hold_abort body) se body (store_with (sizes_with sites objects []) []) → IsMeasure x sites (l_form x params args body) m
-  unfolding words meaning_words
+  unfolding definitions meaning_definitions
   measured_call objects m o is =
       let start : Store = store_with (sizes_with sites (map (unwritten sites) (map capped_weight (all_bounds x))) []) [] in
       is_measure x sites (l_form x params args body) m
@@ -110,7 +110,7 @@ module _ (x : Schema) (params : List ℕ) (args : List ℤ) (body : s.Commands) 
       ∙ measured_told sites (l_form x params args body) (first x sites) (first_extents sites) (first_weights x) (λ p. refl))
 
   too_large : 2000000 < commands_nodes se body 1 → 2000000 < (call_extent sites (l_form x params args body)).size
-  unfolding words meaning_words
+  unfolding definitions meaning_definitions
   too_large big =
       let same : Same se w = record { slots' = λ q. ap (λ (z : Setting). z.slots q) (setting_is x params args arguments sites a); arguments' = a } in
       let nodes = form_has se w same body in
@@ -119,7 +119,7 @@ module _ (x : Schema) (params : List ℕ) (args : List ℤ) (body : s.Commands) 
 
 -- a call of a transaction, as the code has its parts
 pub transaction_measured : (x : Schema) (t : Transaction) (args : List Number) (params : List RangeDecl) (cs : List Command) (given arguments : List (Option ℤ)) (objects temps : List Extent) (log : List Kept) (sites : ℕ) (m : Measure) → params ≡ t.params.items → cs ≡ t.body.items → given ≡ arguments → temps ≡ [] → log ≡ [] → ((n : ℕ) → get_or arguments n None ≡ arguments_of (map (λ p. p.name.name) params) (map (λ a. a.value) args) n) → objects ≡ map (unwritten sites) (map capped_weight (all_bounds x)) → m ≡ body_measured (hold_abort (commands (map plain_command cs))) (setting_of x given [] sites) (commands (map plain_command cs)) (store_with (sizes_with sites objects temps) log) → IsMeasure x sites (l_form x (map (λ p. p.name.name) t.params.items) (map (λ a. a.value) args) (plain_transaction t).body) m
-unfolding tree_words
+unfolding syntax_definitions
 transaction_measured x t args params cs given arguments objects temps log sites m p b g e n a o is =
     measured_call x (map (λ p. p.name.name) t.params.items) (map (λ a. a.value) args) (plain_transaction t).body arguments sites
     (λ k. a k ∙ ap (λ ps. arguments_of (map (λ p. p.name.name) ps) (map (λ a. a.value) args) k) p)
@@ -127,7 +127,7 @@ transaction_measured x t args params cs given arguments objects temps log sites 
     (is ∙ (λ i. body_measured (hold_abort (commands (map plain_command (b i)))) (setting_of x (g i) [] sites) (commands (map plain_command (b i))) (store_with (sizes_with sites objects (e i)) (n i))))
 
 pub transaction_large : (x : Schema) (t : Transaction) (args : List Number) (params : List RangeDecl) (cs : List Command) (given arguments : List (Option ℤ)) (sites n : ℕ) → params ≡ t.params.items → cs ≡ t.body.items → given ≡ arguments → ((n : ℕ) → get_or arguments n None ≡ arguments_of (map (λ p. p.name.name) params) (map (λ a. a.value) args) n) → n ≡ commands_nodes (setting_of x given [] sites) (commands (map plain_command cs)) 1 → 2000000 < n → 2000000 < (call_extent sites (l_form x (map (λ p. p.name.name) t.params.items) (map (λ a. a.value) args) (plain_transaction t).body)).size
-unfolding tree_words
+unfolding syntax_definitions
 transaction_large x t args params cs given arguments sites n p b g a is big =
     too_large x (map (λ p. p.name.name) t.params.items) (map (λ a. a.value) args) (plain_transaction t).body arguments sites
     (λ n. a n ∙ ap (λ ps. arguments_of (map (λ p. p.name.name) ps) (map (λ a. a.value) args) n) p)
@@ -135,7 +135,7 @@ transaction_large x t args params cs given arguments sites n p b g a is big =
 
 -- the prints of a call, whatever its arguments
 pub transaction_prints : (x : Schema) (t : Transaction) (cs : List Command) (n : ℕ) → cs ≡ t.body.items → n ≡ all_prints (setting_of x [] [] 0) (commands (map plain_command cs)) 0 → (args : List ℤ) → n ≡ min 1000001 (prints_in (l_form x (map (λ p. p.name.name) t.params.items) args (plain_transaction t).body))
-unfolding tree_words meaning_words
+unfolding syntax_definitions meaning_definitions
 transaction_prints x t cs n b is args =
     let params : List ℕ = map (λ p. p.name.name) t.params.items in
     let slots_are : (q : ℕ) → (setting_of x [] [] 0).slots q ≡ slots (context.context x params args) q = λ q. ap (λ (z : Setting). z.slots q) (setting_is x [] [] [] 0 (λ n. refl)) in

@@ -6,17 +6,17 @@ use Rattle.homeo_syntax.specs.declared.low.Temp.TheVariants as temp
 use Rattle.homeo_syntax.specs.declared.low.SplitName.TheVariants as split
 use Rattle.homeo_syntax.specs.Low as L
 use Rattle.homeo_syntax.specs.Source.{Command, Commands, Skip, Assign, Write, Print, If, Block, SetField, SetRow, Foreach, Insert, Delete, Update, Abort, NoCommand, MoreCommand}
-use Rattle.homeo_meaning.specs.Key.{words as meaning_words}
+use Rattle.homeo_meaning.specs.Key.{definitions as meaning_definitions}
 use Rattle.homeo_meaning.specs.Aborts.{holds_abort, hold_abort}
 use Rattle.homeo_meaning.specs.Context.{Spot, Slot, Context, spot, cell, field_cell, object, slots, fields, bind, slot_at}
-use Rattle.homeo_meaning.specs.LForm.{Lifted, Made, one_test, equal, read, set_flag, unless_ended, guard, in_turn, joined, in_front, within, guarded, write_field, write_chain, write_at, write_by, pair, visits, Target, all_within, field_writes, fill_chain, lift, lift_cond, lift_values, literal_of, as_one, clear, form, forms}
-use Rattle.homeo_size.specs.inner.Key.{words}
+use Rattle.homeo_meaning.specs.LForm.{Lifted, Made, one_test, equal, read, set_flag, unless_ended, guard, in_turn, combined, in_front, within, guarded, write_field, write_chain, write_at, write_by, pair, visits, Target, all_within, field_writes, fill_chain, lift, lift_cond, lift_values, literal_of, as_one, clear, form, forms}
+use Rattle.homeo_size.specs.inner.Key.{definitions}
 use Rattle.homeo_size.specs.inner.Parts.{literal, single, greater}
 use Rattle.homeo_size.specs.inner.Sizing.{Sizes, sized, lifted, tests_sized, tests_lifted}
 use Rattle.homeo_size.specs.declared.extent.Extent.{Extent}
 use Rattle.homeo_size.specs.declared.measures.Before.{Before}
 use Rattle.homeo_size.proofs.Branching.{greater_same}
-use Rattle.homeo_size.proofs.Lifting.{at_fresh, Lifts, after_both, after_front, joined_lifts}
+use Rattle.homeo_size.proofs.Lifting.{at_fresh, Lifts, after_both, after_front, combined_lifts}
 use Rattle.homeo_size.proofs.LiftedPhrases.{setting_for, conds, lifts, lifts_cond}
 use Rattle.homeo_size.proofs.Low.{Extents, low_sized, low_after, low_after_all}
 use Rattle.homeo_size.proofs.Writes.{pair_sized, values_lifts}
@@ -59,12 +59,12 @@ module _ (sites : ℕ) where
   same_both a b e h k = ap₂ greater h k ∙ greater_same e
 
   if_none : (b : L.Cond) (c d : L.Command) → SetsNone c → SetsNone d → SetsNone (L.If b c d)
-  unfolding words meaning_words
+  unfolding definitions meaning_definitions
   if_none b c d h k v j = same_both _ _ (at_fresh j v) (h v j) (k v j)
 
   -- the flag is set
   flag_keeps : (b : Bool) (n : ℕ) (v : Extents) → b ≡ true → Ready b n v → Keeps n v (low_after sites (set_flag (pos 1)) v)
-  unfolding words meaning_words
+  unfolding definitions meaning_definitions
   flag_keeps b n v e ready j lt = go j (0 == j) refl
     where
       go : (j : ℕ) (z : Bool) → (0 == j) ≡ z → cond z (literal (pos 1)) (at_fresh j v) ≡ at_fresh j v
@@ -72,12 +72,12 @@ module _ (sites : ℕ) where
       go j false h = refl
 
   pub guard_keeps : (n : ℕ) (v : Extents) (g : Bool) (c : L.Command) → Keeps n v (low_after sites c v) → Keeps n v (low_after sites (guard g c) v)
-  unfolding words meaning_words
+  unfolding definitions meaning_definitions
   guard_keeps n v false c h = h
   guard_keeps n v true c h = λ j lt. same_both _ _ (at_fresh j v) (h j lt) refl
 
   front_takes : {A R : Type 0} (at : A → Extents → R) (r : Sizes → R) (counts : Sizes → Before → Before) (n : ℕ) (v : Extents) (x : Lifted A) (c : L.Command) → Lifts sites n v x at r counts → SetsNone c → Takes n x.next v (low_after sites (in_front x.before c) v)
-  unfolding words meaning_words
+  unfolding definitions meaning_definitions
   front_takes at r counts n v x c k h =
       record {
         grows = k.grows;
@@ -85,17 +85,17 @@ module _ (sites : ℕ) where
       }
 
   guarded_none : (b : Spot) (x : ℕ) (e : L.Expr) → SetsNone (guarded b x e)
-  unfolding words meaning_words
+  unfolding definitions meaning_definitions
   guarded_none b x e = if_none (within b e L.NoTest) (L.Write (split.Whole x) e) L.Skip (λ v j. refl) (λ v j. refl)
 
   write_chain_none : (f : Spot) (i e : L.Expr) (all : List Slot) → SetsNone (write_chain f i e all)
-  unfolding words meaning_words
+  unfolding definitions meaning_definitions
   write_chain_none f i e [] = λ v j. refl
   write_chain_none f i e (slot ∷ more) =
       if_none (one_test (equal i (pos slot.number))) (L.Write (split.Whole (cell slot f)) e) (write_chain f i e more) (λ v j. refl) (write_chain_none f i e more)
 
   writes_none : (slot : Slot) (xs : List Target) (cs : L.Commands) → ((v : Extents) (j : ℕ) → at_fresh j (low_after_all sites cs v) ≡ at_fresh j v) → (v : Extents) (j : ℕ) → at_fresh j (low_after_all sites (field_writes slot xs cs) v) ≡ at_fresh j v
-  unfolding words meaning_words
+  unfolding definitions meaning_definitions
   writes_none slot [] cs h v j = h v j
   writes_none slot (x ∷ xs) cs h v j = writes_none slot xs cs h (low_after sites (L.Write (split.Whole (cell slot x.field)) (L.OfTemp (temp.Fresh x.temp))) v) j
 
@@ -103,62 +103,62 @@ module _ (sites : ℕ) where
   fill_end slot t = L.MoreCommand (L.Write (split.Whole slot.used) (L.Literal (pos 1))) (L.MoreCommand (L.Assign (temp.Named t) (L.Literal (pos (suc slot.number)))) L.NoCommand)
 
   fill_chain_none : (xs : List Target) (t : ℕ) (all : List Slot) → SetsNone (fill_chain xs t all)
-  unfolding words meaning_words
+  unfolding definitions meaning_definitions
   fill_chain_none xs t [] = λ v j. refl
   fill_chain_none xs t (slot ∷ more) = if_none (one_test (equal (read slot.used) (pos 0))) (L.Seq (field_writes slot xs (fill_end slot t))) (fill_chain xs t more) (writes_none slot xs (fill_end slot t) (λ v j. refl)) (fill_chain_none xs t more)
 
   -- a field of a slot
   pub row_takes : (slot : Slot) (name : ℕ) (r : Sizes → Extent) (counts : Sizes → Before → Before) (n : ℕ) (v : Extents) (x : Lifted L.Expr) → Lifts sites n v x low_sized r counts → Takes n (write_field slot name x).next v (low_after sites (write_field slot name x).command v)
-  unfolding words meaning_words
+  unfolding definitions meaning_definitions
   row_takes slot name r counts n v x k =
       front_takes low_sized r counts n v x (guarded (spot slot.fields name) (field_cell slot name) x.phrase) k (guarded_none (spot slot.fields name) (field_cell slot name) x.phrase)
 
   at_takes : (o : Option Slot) (g : Spot) (n : ℕ) (y : ℕ → Lifted L.Expr) (r : Sizes → Extent) (counts : Sizes → Before → Before) → ((m : ℕ) (a : Extents) → Lifts sites m a (y m) low_sized r counts) → (v : Extents) → Takes n (write_at o g n y).next v (low_after sites (write_at o g n y).command v)
-  unfolding words meaning_words
+  unfolding definitions meaning_definitions
   at_takes None g n y r counts k v = record { grows = omega arith; keeps = λ j lt. refl }
   at_takes (Some slot) g n y r counts k v = front_takes low_sized r counts n v (y n) (guarded g (cell slot g) (y n).phrase) (k n v) (guarded_none g (cell slot g) (y n).phrase)
 
   by_takes : (o : Option ℤ) (all : List Slot) (g : Spot) (x : Lifted L.Expr) (y : ℕ → Lifted L.Expr) (q r : Sizes → Extent) (before counts : Sizes → Before → Before) (n : ℕ) (v : Extents) → Lifts sites n v x low_sized q before → ((m : ℕ) (a : Extents) → Lifts sites m a (y m) low_sized r counts) → Takes n (write_by o all g x y).next v (low_after sites (write_by o all g x y).command v)
-  unfolding words meaning_words
+  unfolding definitions meaning_definitions
   by_takes (Some k) all g x y q r before counts n v h l =
       let t = at_takes (slot_at k all) g x.next y r counts l v in
       record { grows = omega (arith, h.grows, t.grows); keeps = λ j lt. t.keeps j (omega (arith, h.grows, lt)) }
   by_takes None all g x y q r before counts n v h l =
-      front_takes (pair_sized sites) (λ s. pair (q s) (r s)) (λ s b. counts s (before s b)) n v (joined pair x y) (L.If (within g (y x.next).phrase L.NoTest) (write_chain g x.phrase (y x.next).phrase all) L.Skip)
-      (joined_lifts sites pair pair low_sized low_sized (pair_sized sites) q r before counts (λ a b u. refl) n v x y h l)
+      front_takes (pair_sized sites) (λ s. pair (q s) (r s)) (λ s b. counts s (before s b)) n v (combined pair x y) (L.If (within g (y x.next).phrase L.NoTest) (write_chain g x.phrase (y x.next).phrase all) L.Skip)
+      (combined_lifts sites pair pair low_sized low_sized (pair_sized sites) q r before counts (λ a b u. refl) n v x y h l)
       (if_none (within g (y x.next).phrase L.NoTest) (write_chain g x.phrase (y x.next).phrase all) L.Skip (write_chain_none g x.phrase (y x.next).phrase all) (λ a j. refl))
 
   -- ---- the commands of a slot, guarded or not
   -- what they leave of the extents v, where those of the test leave a
   abbrev pub turn_after : Bool → L.Commands → L.Command → Extents → Extents → Extents
-  unfolding words meaning_words
+  unfolding definitions meaning_definitions
   turn_after true before c v a = low_after sites (unless_ended (in_front before c)) v
   turn_after false before c v a = low_after sites c a
 
   pub turn_leaves : (g : Bool) (before : L.Commands) (c : L.Command) (more : L.Commands) (v a : Extents) → low_after_all sites before v ≡ a → low_after_all sites (in_turn g before c more) v ≡ low_after_all sites more (turn_after g before c v a)
-  unfolding words meaning_words
+  unfolding definitions meaning_definitions
   turn_leaves true before c more v a e = refl
   turn_leaves false before c more v a e = after_both sites before (L.MoreCommand c more) v ∙ ap (low_after_all sites (L.MoreCommand c more)) e
 
   pub turn_keeps : (n : ℕ) (g : Bool) (before : L.Commands) (c : L.Command) (v a : Extents) → low_after_all sites before v ≡ a → Keeps n v (low_after sites c a) → Keeps n v (turn_after g before c v a)
-  unfolding words meaning_words
+  unfolding definitions meaning_definitions
   turn_keeps n true before c v a e h =
       guard_keeps n v true (in_front before c) (λ j lt. ap (at_fresh j) (after_front sites before c v ∙ ap (low_after sites c) e) ∙ h j lt)
   turn_keeps n false before c v a e h = h
 
   abbrev pub if_else : Slot → L.Cond → L.Command → L.Command
-  unfolding meaning_words
+  unfolding meaning_definitions
   if_else slot test c = L.If (L.MoreTest (equal (read slot.used) (pos 1)) test) c L.Skip
 
   pub visit_keeps : (n m : ℕ) (g : Bool) (slot : Slot) (w : Context) (r : ℕ) (t : Lifted L.Cond) (c : L.Command) (v : Extents) (p : Sizes → Extent → Extent) (counts : Sizes → Before → Before) → (k : Lifts sites n v t (conds sites) p counts) → Keeps t.next k.after (low_after sites c k.after) → Keeps n v (turn_after g t.before (if_else slot t.phrase c) v k.after)
-  unfolding words meaning_words
+  unfolding definitions meaning_definitions
   visit_keeps n m g slot w r t c v p counts k h =
       turn_keeps n g t.before (if_else slot t.phrase c) v k.after k.leaves
       (λ j lt. same_both _ _ (at_fresh j k.after) (h j (omega (arith, k.grows, lt))) refl ∙ k.alike.keeps j lt)
 
   -- b says whether the call has a flag
   loop_takes : (b : Bool) (test : Slot → ℕ → Lifted L.Cond) (p : Slot → Sizes → Extent → Extent) (counts : Slot → Sizes → Before → Before) → ((slot : Slot) (m : ℕ) (v : Extents) → Lifts sites m v (test slot m) (conds sites) (p slot) (counts slot)) → (body : Slot → ℕ → Made) → ((slot : Slot) (m : ℕ) (v : Extents) → Ready b m v → Takes m (body slot m).next v (low_after sites (body slot m).command v)) → (w : Context) (all : List Slot) (g later : Bool) (n : ℕ) (v : Extents) → Ready b n v → Takes n (visits g later test body all n).next v (low_after_all sites (visits g later test body all n).commands v)
-  unfolding words meaning_words
+  unfolding definitions meaning_definitions
   loop_takes b test p counts tests body takes w [] g later n v ready = record { grows = omega arith; keeps = λ j lt. refl }
   loop_takes b test p counts tests body takes w (slot ∷ more) g later n v ready =
       let t = test slot n in
@@ -177,7 +177,7 @@ module _ (sites : ℕ) where
       }
 
   mutual
-    unfolding words meaning_words
+    unfolding definitions meaning_definitions
 
     pub form_takes : (b : Bool) (w : Context) (c : Command) (n : ℕ) (v : Extents) → Allows b (holds_abort c) → Ready b n v → Takes n (form w c n).next v (low_after sites (form w c n).command v)
     form_takes b w Skip n v h ready = record { grows = omega arith; keeps = λ j lt. refl }

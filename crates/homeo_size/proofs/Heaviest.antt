@@ -4,7 +4,7 @@ use Rattle.std.specs.Prelude.{nat_le}
 use Rattle.std.proofs.lemmas.Int.{clamps}
 use Rattle.std.proofs.lemmas.Bool.Decides.{nat_tests}
 use Rattle.homeo_syntax.specs.Low.{Test, Cond, True, Not, Comparison, NoTest, MoreTest, Command, Commands, Skip, Assign, Write, Print, Seq, If, NoCommand, MoreCommand}
-use Rattle.homeo_meaning.specs.Key.{words as meaning_words}
+use Rattle.homeo_meaning.specs.Key.{definitions as meaning_definitions}
 use Rattle.homeo_meaning.specs.LowMeaning.{Location}
 use Rattle.homeo_meaning.specs.LowWeights.{weight, after, is_light_test, is_light_cond, is_light, are_light}
 
@@ -46,7 +46,7 @@ both_light m n b = go (nat_le m b) (nat_le n b) (nat_le (max m n) b) refl refl r
     go false q false e f g = refl
 
 mutual
-  unfolding meaning_words
+  unfolding meaning_definitions
 
   test_light : (b : ℕ) (t : Test) (v : Location → ℕ) → is_light_test b t v ≡ nat_le (heaviest_test t v) b
   test_light b True v = none_heavy b
@@ -59,7 +59,7 @@ mutual
       ap₂ ◌&&◌ (test_light b t v) (cond_light b c v) ∙ both_light (heaviest_test t v) (heaviest_tests c v) b
 
 mutual
-  unfolding meaning_words
+  unfolding meaning_definitions
 
   pub light_is : (b : ℕ) (c : Command) (v : Location → ℕ) → is_light b c v ≡ nat_le (heaviest c v) b
   light_is b Skip v = none_heavy b

@@ -3,18 +3,18 @@ use Rattle.std.proofs.Common.{◌≡◌, ℕ, suc, ◌+◌, ◌*◌, ◌==◌, B
 use Rattle.std.specs.Prelude.{slice_get, option_map}
 use Rattle.std.proofs.lemmas.Option.{slice_get-map}
 use Rattle.homeo_syntax.specs.declared.workload.ObjectDecl.{ObjectDecl}
-use Rattle.homeo_meaning.specs.Key.{words as meaning_words}
+use Rattle.homeo_meaning.specs.Key.{definitions as meaning_definitions}
 use Rattle.homeo_meaning.specs.Schema.{Declared, Relation, declared_object}
 use Rattle.homeo_meaning.specs.Context as context
 use Rattle.homeo_meaning.specs.Context.{Spot, Slot, spot, spot_from, find_slots, find_fields}
 use Rattle.homeo_meaning.specs.Declarations.{place_from, place_of}
-use Rattle.homeo_size.specs.inner.Key.{words}
+use Rattle.homeo_size.specs.inner.Key.{definitions}
 use Rattle.homeo_size.specs.inner.Laid.{Table, tables_from, plain_laid, object_spot, laid_slots, laid_fields}
 use Rattle.homeo_size.specs.declared.layout.Laid.{Laid}
 use Rattle.homeo_size.proofs.Caps.{plus_zero}
 
 shifted : (k : ℕ) (names : List ℕ) (n : ℕ) → place_from (suc k) names n ≡ suc (place_from k names n)
-unfolding meaning_words
+unfolding meaning_definitions
 shifted k [] n = refl
 shifted k (m ∷ ms) n = ap (cond (m == n) (suc k)) (shifted (suc k) ms n) ∙ go (m == n)
   where
@@ -24,11 +24,11 @@ shifted k (m ∷ ms) n = ap (cond (m == n) (suc k)) (shifted (suc k) ms n) ∙ g
 
 -- the first place of a name, or the place in the rest of the list
 found : (m : ℕ) (ms : List ℕ) (n : ℕ) → place_of (m ∷ ms) n ≡ cond (m == n) 0 (suc (place_of ms n))
-unfolding meaning_words
+unfolding meaning_definitions
 found m ms n = ap (cond (m == n) 0) (shifted 0 ms n)
 
 spot_here : (k : ℕ) (d : ObjectDecl) (ds : List ObjectDecl) (q : ℕ) (b : Bool) (rest : Spot) → rest ≡ object_spot (suc k + q) (slice_get ds q) → cond b (record { place = k; lo = d.lo.value; hi = d.hi.value }) rest ≡ object_spot (k + cond b 0 (suc q)) (slice_get (d ∷ ds) (cond b 0 (suc q)))
-unfolding words
+unfolding definitions
 spot_here k d ds q true rest h = λ i. record { place = sym (plus_zero k) i; lo = d.lo.value; hi = d.hi.value }
 spot_here k d ds q false rest h = h ∙ ap (λ p. object_spot p (slice_get ds q)) (turn k q)
   where
@@ -36,7 +36,7 @@ spot_here k d ds q false rest h = h ∙ ap (λ p. object_spot p (slice_get ds q)
     turn k q = omega arith
 
 spot_of : (k : ℕ) (ds : List ObjectDecl) (n : ℕ) → spot_from k (map declared_object ds) n ≡ object_spot (k + place_of (map (λ d. d.name) (map declared_object ds)) n) (slice_get ds (place_of (map (λ d. d.name) (map declared_object ds)) n))
-unfolding words meaning_words
+unfolding definitions meaning_definitions
 spot_of k [] n = λ i. record { place = sym (plus_zero k) i; lo = pos 0; hi = pos 0 }
 spot_of k (d ∷ ds) n =
     spot_here k d ds (place_of (map (λ d. d.name) (map declared_object ds)) n) (d.name.name == n) (spot_from (suc k) (map declared_object ds) n) (spot_of (suc k) ds n)
@@ -51,7 +51,7 @@ table_fields None = []
 table_fields (Some t) = t.fields
 
 slots_here : (first n : ℕ) (rs : List Relation) → find_slots first rs n ≡ table_slots (slice_get (tables_from first rs) (place_of (map (λ r. r.name) rs) n))
-unfolding words meaning_words table_slots
+unfolding definitions meaning_definitions table_slots
 slots_here first n [] = refl
 slots_here first n (r ∷ rs) =
     go (r.name == n) (slots_here (first + r.slots * (1 + length r.fields)) n rs)
@@ -62,7 +62,7 @@ slots_here first n (r ∷ rs) =
     go false h = h
 
 fields_here : (first n : ℕ) (rs : List Relation) → find_fields rs n ≡ table_fields (slice_get (tables_from first rs) (place_of (map (λ r. r.name) rs) n))
-unfolding words meaning_words table_fields
+unfolding definitions meaning_definitions table_fields
 fields_here first n [] = refl
 fields_here first n (r ∷ rs) =
     go (r.name == n) (fields_here (first + r.slots * (1 + length r.fields)) n rs)
@@ -73,18 +73,18 @@ fields_here first n (r ∷ rs) =
     go false h = h
 
 laid_slots_is : (o : Option Laid) → laid_slots o ≡ table_slots (option_map plain_laid o)
-unfolding words table_slots
+unfolding definitions table_slots
 laid_slots_is None = refl
 laid_slots_is (Some l) = refl
 
 laid_fields_is : (o : Option Laid) → laid_fields o ≡ table_fields (option_map plain_laid o)
-unfolding words table_fields
+unfolding definitions table_fields
 laid_fields_is None = refl
 laid_fields_is (Some l) = refl
 
 -- the object at the place of its name
 pub object_found : (objects : List ObjectDecl) (names : List ℕ) (place n : ℕ) → place ≡ place_of names n → names ≡ map (λ d. d.name) (map declared_object objects) → object_spot place (slice_get objects place) ≡ spot (map declared_object objects) n
-unfolding meaning_words
+unfolding meaning_definitions
 object_found objects names place n p e =
     let at : ℕ = place_of (map (λ d. d.name) (map declared_object objects)) n in
     ap (λ k. object_spot k (slice_get objects k)) (p ∙ ap (λ l. place_of l n) e)

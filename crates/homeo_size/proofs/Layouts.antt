@@ -2,16 +2,16 @@
 use Rattle.std.proofs.Common.{◌≡◌, ℕ, zero, suc, ◌+◌, ◌-◌, ◌*◌, ◌<◌, ◌≤◌, max, min, List, [], ◌∷◌, ◌++◌, map, drop, get_or, length, ℤ, refl, sym, ap, ap₂, ◌∙◌, subst, arith, append-nil, append_assoc}
 use Rattle.std.proofs.lemmas.Int.{clamps}
 use Rattle.std.proofs.lemmas.List.{length-map}
-use Rattle.homeo_syntax.specs.Key.{words as tree_words}
+use Rattle.homeo_syntax.specs.Key.{definitions as syntax_definitions}
 use Rattle.homeo_syntax.specs.declared.workload.ObjectDecl.{ObjectDecl}
 use Rattle.homeo_syntax.specs.declared.workload.RangeDecl.{RangeDecl}
 use Rattle.homeo_syntax.specs.declared.workload.RelationDecl.{RelationDecl}
-use Rattle.homeo_meaning.specs.Key.{words as meaning_words}
+use Rattle.homeo_meaning.specs.Key.{definitions as meaning_definitions}
 use Rattle.homeo_meaning.specs.Bounds.{Bounds, slot_bounds, relation_bounds, bounds_of}
 use Rattle.homeo_meaning.specs.Context.{Slot, slots_from, object_count}
 use Rattle.homeo_meaning.specs.Schema.{Declared, Relation, declared_object, declared_range}
 use Rattle.homeo_meaning.specs.LowWeights.{number_weight}
-use Rattle.homeo_size.specs.inner.Key.{words}
+use Rattle.homeo_size.specs.inner.Key.{definitions}
 use Rattle.homeo_size.specs.Layout.{relation_of, schema_with, HasFewObjects}
 use Rattle.homeo_size.specs.inner.Laid.{Table, tables_from, plain_laid, capped_weight, range_weight, object_weight, relation_size, IsLaid}
 use Rattle.homeo_size.specs.inner.Numbers.{weight_cap}
@@ -21,7 +21,7 @@ use Rattle.homeo_size.specs.declared.slot.Slot.{Slot as Slot'}
 use Rattle.homeo_size.proofs.Along.{map_next, map_none}
 
 pub larger : (lo hi : ℤ) → capped_weight (record { lo = lo; hi = hi }) ≡ max (weight_cap (number_weight lo)) (weight_cap (number_weight hi))
-unfolding words meaning_words
+unfolding definitions meaning_definitions
 larger lo hi = go (number_weight lo) (number_weight hi)
   where
     go : (m n : ℕ) → weight_cap (max m n) ≡ max (weight_cap m) (weight_cap n)
@@ -29,11 +29,11 @@ larger lo hi = go (number_weight lo) (number_weight hi)
 
 -- ---- slots
 pub no_slots : (k first : ℕ) (fields : List Declared) → slots_from k first fields 0 ≡ []
-unfolding meaning_words
+unfolding meaning_definitions
 no_slots k first fields = refl
 
 pub more_slots : (k first : ℕ) (fields : List Declared) (n : ℕ) → 1 ≤ n → slots_from k first fields n ≡ record { number = k; used = first; fields = fields } ∷ slots_from (k + 1) (first + (1 + length fields)) fields (n - 1)
-unfolding meaning_words
+unfolding meaning_definitions
 more_slots k first fields zero h = absurd (omega arith)
 more_slots k first fields (suc n) h =
     let one : suc k ≡ k + 1 = omega arith in
@@ -82,12 +82,12 @@ room_left used count k s h r =
 
 -- ---- weights
 fields_weighed : (fields : List RangeDecl) (more : List Bounds) → map capped_weight (map bounds_of (map declared_range fields) ++ more) ≡ map range_weight fields ++ map capped_weight more
-unfolding words
+unfolding definitions
 fields_weighed [] more = refl
 fields_weighed (d ∷ ds) more = ap (λ l. range_weight d ∷ l) (fields_weighed ds more)
 
 bounds_weighed : (fields : List RangeDecl) (left : ℕ) → map capped_weight (slot_bounds (suc left) (map declared_range fields)) ≡ 1 ∷ (map range_weight fields ++ map capped_weight (slot_bounds left (map declared_range fields)))
-unfolding words meaning_words
+unfolding definitions meaning_definitions
 bounds_weighed fields left = ap (λ l. 1 ∷ l) (fields_weighed fields (slot_bounds left (map declared_range fields)))
 
 pub slot_weighed : (fields : List RangeDecl) (left : ℕ) (old new whole : List ℕ) → 0 < left → new ≡ old ++ 1 ∷ map range_weight fields → old ++ map capped_weight (slot_bounds left (map declared_range fields)) ≡ whole → new ++ map capped_weight (slot_bounds (left - 1) (map declared_range fields)) ≡ whole
@@ -101,13 +101,13 @@ slot_weighed fields (suc left) old new whole h n r =
     ∙ r
 
 pub slots_weighed : (fields : List Declared) (left : ℕ) (old whole : List ℕ) → left ≤ 0 → old ++ map capped_weight (slot_bounds left fields) ≡ whole → old ≡ whole
-unfolding words meaning_words
+unfolding definitions meaning_definitions
 slots_weighed fields zero old whole h r = sym (append-nil old) ∙ r
 slots_weighed fields (suc left) old whole h r = absurd (omega arith)
 
 -- ---- relations
 pub of_slots : (r : RelationDecl) (count : ℕ) (fields : List RangeDecl) → count ≡ (relation_of r).slots → fields ≡ r.fields.items → relation_size (relation_of r) ≡ count * (1 + length fields)
-unfolding tree_words meaning_words
+unfolding syntax_definitions meaning_definitions
 of_slots r count fields c f = ap₂ ◌*◌ (sym c) (ap (λ n. 1 + n) (length-map r.fields.items declared_range ∙ sym (ap length f)))
 
 counted_slots : (slots one width : ℕ) → one ≡ min (width + 1) 18446744073709551615 → slots * (1 + width) ≤ 1024 → slots * one ≡ slots * (1 + width)
@@ -128,7 +128,7 @@ pub relation_next : (rs : List RelationDecl) (i : ℕ) (d r : RelationDecl) → 
 relation_next rs i d r h p = map_next relation_of rs i d h ∙ ap (λ q. relation_of q ∷ map relation_of (drop (i + 1) rs)) (sym p)
 
 pub relation_weighed : (rs : List RelationDecl) (i : ℕ) (d r : RelationDecl) (count : ℕ) (fields : List RangeDecl) (old new whole : List ℕ) → i < length rs → r ≡ get_or rs i d → count ≡ (relation_of r).slots → fields ≡ r.fields.items → new ≡ old ++ map capped_weight (slot_bounds count (map declared_range fields)) → old ++ map capped_weight (relation_bounds (map relation_of (drop i rs))) ≡ whole → new ++ map capped_weight (relation_bounds (map relation_of (drop (i + 1) rs))) ≡ whole
-unfolding tree_words meaning_words
+unfolding syntax_definitions meaning_definitions
 relation_weighed rs i d r count fields old new whole h p c f n q =
     let more : List Bounds = relation_bounds (map relation_of (drop (i + 1) rs)) in
     ap (λ l. l ++ map capped_weight more) n
@@ -138,18 +138,18 @@ relation_weighed rs i d r count fields old new whole h p c f n q =
     ∙ q
 
 pub relations_weighed : (rs : List RelationDecl) (i : ℕ) (old whole : List ℕ) → length rs ≤ i → old ++ map capped_weight (relation_bounds (map relation_of (drop i rs))) ≡ whole → old ≡ whole
-unfolding meaning_words
+unfolding meaning_definitions
 relations_weighed rs i old whole h q =
     sym (append-nil old) ∙ ap (λ l. old ++ map capped_weight (relation_bounds l)) (sym (map_none relation_of rs i h)) ∙ q
 
 -- the objects so far are no more than all
 pub count_least : (k : ℕ) (rs : List Relation) → k ≤ object_count k rs
-unfolding meaning_words
+unfolding meaning_definitions
 count_least k [] = omega arith
 count_least k (r ∷ rs) = let h = count_least (k + r.slots * (1 + length r.fields)) rs in omega (arith, h)
 
 pub count_next : (rs : List RelationDecl) (i : ℕ) (d r : RelationDecl) (k size : ℕ) → i < length rs → r ≡ get_or rs i d → size ≡ relation_size (relation_of r) → object_count k (map relation_of (drop i rs)) ≡ object_count (k + size) (map relation_of (drop (i + 1) rs))
-unfolding meaning_words
+unfolding meaning_definitions
 count_next rs i d r k size h p s =
     ap (object_count k) (relation_next rs i d r h p) ∙ ap (λ n. object_count (k + n) (map relation_of (drop (i + 1) rs))) (sym s)
 
@@ -160,11 +160,11 @@ room_here rs i d r k h p q =
     omega (arith, least, same, q)
 
 pub counted_all : (rs : List RelationDecl) (i k : ℕ) → length rs ≤ i → k ≡ object_count k (map relation_of (drop i rs))
-unfolding meaning_words
+unfolding meaning_definitions
 counted_all rs i k h = ap (object_count k) (sym (map_none relation_of rs i h))
 
 pub relation_laid : (rs : List RelationDecl) (i : ℕ) (d r : RelationDecl) (k size count : ℕ) (fields : List RangeDecl) (old new : List Laid) (x : Laid) (whole : List Table) → i < length rs → r ≡ get_or rs i d → count ≡ (relation_of r).slots → fields ≡ r.fields.items → size ≡ relation_size (relation_of r) → new ≡ old ++ x ∷ [] → map plain_slot x.slots.items ≡ slots_from 0 k (map declared_range fields) count → x.fields.now ≡ fields → map plain_laid old ++ tables_from k (map relation_of (drop i rs)) ≡ whole → map plain_laid new ++ tables_from (k + size) (map relation_of (drop (i + 1) rs)) ≡ whole
-unfolding words tree_words meaning_words
+unfolding definitions syntax_definitions meaning_definitions
 relation_laid rs i d r k size count fields old new x whole h p c f s n slots is q =
     let rest : List Table = tables_from (k + size) (map relation_of (drop (i + 1) rs)) in
     ap (λ l. map plain_laid l ++ rest) n
@@ -175,28 +175,28 @@ relation_laid rs i d r k size count fields old new x whole h p c f s n slots is 
     ∙ q
 
 pub relations_laid : (rs : List RelationDecl) (i k : ℕ) (old : List Laid) (whole : List Table) → length rs ≤ i → map plain_laid old ++ tables_from k (map relation_of (drop i rs)) ≡ whole → map plain_laid old ≡ whole
-unfolding words
+unfolding definitions
 relations_laid rs i k old whole h q =
     sym (append-nil (map plain_laid old)) ∙ ap (λ l. map plain_laid old ++ tables_from k l) (sym (map_none relation_of rs i h)) ∙ q
 
 -- ---- the whole layout
 object_named : (objects : List ObjectDecl) → map (λ d. d.name.name) objects ≡ map (λ d. d.name) (map declared_object objects)
-unfolding meaning_words
+unfolding meaning_definitions
 object_named [] = refl
 object_named (d ∷ ds) = ap (λ l. d.name.name ∷ l) (object_named ds)
 
 relation_named : (rs : List RelationDecl) → map (λ r. r.name.name) rs ≡ map (λ r. r.name) (map relation_of rs)
-unfolding tree_words meaning_words
+unfolding syntax_definitions meaning_definitions
 relation_named [] = refl
 relation_named (r ∷ rs) = ap (λ l. r.name.name ∷ l) (relation_named rs)
 
 objects_weighed : (objects : List ObjectDecl) (more : List Bounds) → map object_weight objects ++ map capped_weight more ≡ map capped_weight (map bounds_of (map declared_object objects) ++ more)
-unfolding words
+unfolding definitions
 objects_weighed [] more = refl
 objects_weighed (d ∷ ds) more = ap (λ l. object_weight d ∷ l) (objects_weighed ds more)
 
 pub layout_is : (objects : List ObjectDecl) (rs : List RelationDecl) (tables : List Laid) (object_names relation_names names : List ℕ) (absent : Slot') (begun weights : List ℕ) → object_names ≡ map (λ d. d.name.name) objects → map plain_laid tables ≡ tables_from (length objects) (map relation_of rs) → relation_names ≡ names → names ≡ map (λ r. r.name.name) rs → plain_slot absent ≡ record { number = 0; used = object_count (length objects) (map relation_of rs); fields = [] } → begun ≡ map object_weight objects → weights ≡ begun ++ map capped_weight (relation_bounds (map relation_of rs)) → IsLaid (schema_with objects rs) tables object_names relation_names absent weights
-unfolding words meaning_words
+unfolding definitions meaning_definitions
 layout_is objects rs tables object_names relation_names names absent begun weights on t rn n out b w =
     let same : length objects ≡ length (map declared_object objects) = sym (length-map objects declared_object) in
     record {

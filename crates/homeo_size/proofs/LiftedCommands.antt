@@ -4,12 +4,12 @@ use Rattle.std.proofs.lemmas.Bool.{false≢true}
 use Rattle.homeo_syntax.specs.declared.low.Temp.TheVariants as temp
 use Rattle.homeo_syntax.specs.Low as L
 use Rattle.homeo_syntax.specs.Source.{Expr, Cond, Command, Commands, Skip, Assign, Write, Print, If, Block, SetField, SetRow, Foreach, Insert, Delete, Update, Abort, NoCommand, MoreCommand}
-use Rattle.homeo_meaning.specs.Key.{words as meaning_words}
+use Rattle.homeo_meaning.specs.Key.{definitions as meaning_definitions}
 use Rattle.homeo_meaning.specs.Context.{Slot, Context, spot, field_cell, object, slots, fields, bind}
 use Rattle.homeo_meaning.specs.Aborts.{holds_abort, hold_abort}
 use Rattle.homeo_meaning.specs.LForm as form
 use Rattle.homeo_meaning.specs.LForm.{Lifted, Made, AllMade, equal, read, literal_of, visits, lift, lift_cond, as_one}
-use Rattle.homeo_size.specs.inner.Key.{words}
+use Rattle.homeo_size.specs.inner.Key.{definitions}
 use Rattle.homeo_size.specs.inner.Measuring as told
 use Rattle.homeo_size.specs.inner.Measuring.{unless_ended, guard, guard_after, before_turn, in_turn, after, after_all, measured, all_measured, each_after, each_measured, row_set, row_setting, cleared, field_set, field_setting}
 use Rattle.homeo_size.specs.inner.Parts.{literal, single, nothing, beside, compared, greater, around, written, empty, valued, writing, chosen, none, with_one, placed}
@@ -38,15 +38,15 @@ module _ (sites : ℕ) where
   se w = setting_for sites w
 
   print_does : (a : L.Expr) (u : Extents) (y : Store) → seen u ≡ y.sizes → Does sites (L.Print a) u y y (valued (low_sized a u))
-  unfolding words meaning_words
+  unfolding definitions meaning_definitions
   print_does a u y e = record { sees = e; tells = refl; keeps = keeps_self y }
 
   row_does : (w : Context) (slot : Slot) (f : ℕ) (e : Expr) (n : ℕ) (v : Extents) (y : Store) → seen v ≡ y.sizes → Does sites (form.write_field slot f (lift w e n)).command v y (row_set (se w) slot f e y) (row_setting (se w) slot f e y)
-  unfolding words meaning_words
+  unfolding definitions meaning_definitions
   row_does w slot f e n v y h = write_does sites (spot slot.fields f) (field_cell slot f) (sized (se w) e) (lifted (se w) e) n v (lift w e n) (lifts sites w e n v) y h
 
   clear_does : (slot : Slot) (n : ℕ) (v : Extents) (y : Store) → seen v ≡ y.sizes → Does sites (form.clear slot n).command v y (cleared sites slot y) (writing sites (literal (pos 0)))
-  unfolding words meaning_words
+  unfolding definitions meaning_definitions
   clear_does slot n v y h =
       record {
         sees = ap (λ s. (set_entry (record { sizes = s; log = y.log }) (Object slot.used) (written sites (literal (pos 0)))).sizes) h;
@@ -57,11 +57,11 @@ module _ (sites : ℕ) where
   -- ---- commands that are not done where the call is ended
   -- the test of the flag
   flag_test : (u : Extents) → at_fresh 0 u ≡ single → low_tests (L.MoreTest (equal (form.fresh 0) (pos 0)) L.NoTest) u nothing ≡ low_tests (L.MoreTest (equal (form.fresh 0) (pos 0)) L.NoTest) (λ p. single) nothing
-  unfolding words meaning_words
+  unfolding definitions meaning_definitions
   flag_test u e = ap (λ x. beside nothing (compared x (literal (pos 0)))) e
 
   guard_does : (b g : Bool) (c : L.Command) (n : ℕ) (v : Extents) (y z : Store) (m : Measure) → Allows b g → Ready b n v → seen v ≡ y.sizes → Does sites c v y z m → Does sites (form.guard g c) v y (guard_after g (length y.log) z) (guard g m)
-  unfolding words meaning_words
+  unfolding definitions meaning_definitions
   guard_does b false c n v y z m h ready e k = k
   guard_does b true c n v y z m h ready e k =
       let ends = closes y z k.keeps in
@@ -85,14 +85,14 @@ module _ (sites : ℕ) where
       twice e f = greater_turned (greater e f) f ∙ ap (greater f) (greater_turned e f) ∙ greater_again f e ∙ greater_turned f e
 
   turn_sees : (g : Bool) (before : L.Commands) (c : L.Command) (v a : Extents) (s t : Sizes) → low_after_all sites before v ≡ a → seen v ≡ t → seen (low_after sites c a) ≡ greater_sizes s t → seen (turn_after sites g before c v a) ≡ greater_sizes s t
-  unfolding words meaning_words
+  unfolding definitions meaning_definitions
   turn_sees false before c v a s t e h k = k
   turn_sees true before c v a s t e h k =
       ap₂ greater_sizes (ap seen (after_front sites before c v ∙ ap (low_after sites c) e) ∙ k) h ∙ max_twice s t
 
   turn_tells : (b g : Bool) (n : ℕ) (before : L.Commands) (c : L.Command) (more : L.Commands) (v a : Extents) (counts : Before → Before) (m : Measure) (d : Before) → Allows b g → Ready b n v → low_after_all sites before v ≡ a → ((d : Before) → low_measured_all sites before v d ≡ counts d) → low_measured sites c a ≡ m
       → low_measured_all sites (form.in_turn g before c more) v d ≡ low_measured_all sites more (turn_after sites g before c v a) (in_turn g d (counts (before_turn g d)) m)
-  unfolding words meaning_words
+  unfolding definitions meaning_definitions
   turn_tells b false n before c more v a counts m d h ready e tells is =
       measured_both sites before (L.MoreCommand c more) v d
       ∙ ap₂ (low_measured_all sites (L.MoreCommand c more)) e (tells d)
@@ -107,7 +107,7 @@ module _ (sites : ℕ) where
       → ((slot : Slot) (n : ℕ) (v : Extents) (y : Store) → Ready b n v → seen v ≡ y.sizes → Does sites (body slot n).command v y (f slot y) (m slot y))
       → (all : List Slot) (g later : Bool) (n : ℕ) (v : Extents) (y : Store) → Allows b g → Allows b later → Ready b n v → seen v ≡ y.sizes
       → Visits v (visits g later (λ slot. lift_cond (bind w r slot) c) body all n) y (visited f all y) (told.visits (se w) r c g later m f all y)
-  unfolding words meaning_words
+  unfolding definitions meaning_definitions
   visit_all b w r c body f m takes h [] g later n v y hg hl ready e = record { sees = e; tells = λ d. refl; keeps = keeps_self y }
   visit_all b w r c body f m takes h (slot ∷ more) g later n v y hg hl ready e =
       let t = lift_cond (bind w r slot) c n in
@@ -139,7 +139,7 @@ module _ (sites : ℕ) where
       → ((slot : Slot) (n : ℕ) (v : Extents) (y : Store) → Ready b n v → seen v ≡ y.sizes → Does sites (body slot n).command v y (f slot y) (m slot y))
       → (n : ℕ) (v : Extents) (y : Store) → Allows b later → Ready b n v → seen v ≡ y.sizes
       → Does sites (form.loop w r q c later body n).command v y (visited f (slots w q) y) (told.visits (se w) r c false later m f (slots w q) y none).all
-  unfolding words meaning_words
+  unfolding definitions meaning_definitions
   loop_does b w r q c later body f m takes h n v y hl ready e =
       let k = visit_all b w r c body f m takes h (slots w q) false later n v y (none_ends b) hl ready e in
       record { sees = k.sees; tells = ap (λ (b : Before). b.all) (k.tells none); keeps = k.keeps }
@@ -150,11 +150,11 @@ module _ (sites : ℕ) where
     pub keeps : Keeps y z
 
   as_one_does : (v : Extents) (x : AllMade) (y z : Store) (counts : Before → Before) → All v x y z counts → Does sites (as_one x).command v y z (counts none).all
-  unfolding words meaning_words
+  unfolding definitions meaning_definitions
   as_one_does v x y z counts k = record { sees = k.sees; tells = ap (λ (b : Before). b.all) (k.tells none); keeps = k.keeps }
 
   mutual
-    unfolding words meaning_words
+    unfolding definitions meaning_definitions
 
     pub form_does : (b : Bool) (w : Context) (c : Command) (n : ℕ) (v : Extents) (y : Store) → Allows b (holds_abort c) → Ready b n v → seen v ≡ y.sizes → Does sites (form.form w c n).command v y (after (se w) c y) (measured (se w) c y)
     form_does b w Skip n v y may ready h = record { sees = h; tells = refl; keeps = keeps_self y }

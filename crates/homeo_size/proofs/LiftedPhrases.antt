@@ -3,17 +3,17 @@ use Rattle.std.proofs.Common.{◌≡◌, ℕ, suc, ◌<◌, ◌≤◌, Bool, tru
 use Rattle.homeo_syntax.specs.declared.low.Temp.TheVariants as temp
 use Rattle.homeo_syntax.specs.Low as L
 use Rattle.homeo_syntax.specs.Source.{Expr, Exprs, Literal, Name, Read, Sum, Product, Neg, Field, Row, Count, Total, NoExpr, MoreExpr, Test, Cond, True, Not, Comparison, NoTest, MoreTest}
-use Rattle.homeo_meaning.specs.Key.{words as meaning_words}
+use Rattle.homeo_meaning.specs.Key.{definitions as meaning_definitions}
 use Rattle.homeo_meaning.specs.Context.{Spot, Slot, Context, spot, cell, field_cell, object, slots, fields, bind, slot_at}
 use Rattle.homeo_meaning.specs.LowMeaning.{TempAt, BaseAt, put, same_location}
 use Rattle.homeo_meaning.specs.LForm.{Lifted, Made, AllMade, read, fresh, equal, name_of, read_chain, read_slot, literal_of, indexed_by, visits, counted, lift, lift_all, lift_test, lift_cond}
-use Rattle.homeo_size.specs.inner.Key.{words}
+use Rattle.homeo_size.specs.inner.Key.{definitions}
 use Rattle.homeo_size.specs.inner.Parts.{literal, nothing, no_factor, beside, plus, times, around, summed, compared, greater, empty, valued, chosen, with_one}
 use Rattle.homeo_size.specs.inner.Sizing.{Sizes, Setting, name_sized, slot_sized, chain_sized, chain_measured, field_sized, field_lifted, missing, missing_at, literal_in, term_sized, added, total_sized, used_test, total_measured, sized, sum_sized, product_sized, test_sized, tests_sized, lifted, all_lifted, test_lifted, tests_lifted}
 use Rattle.homeo_size.specs.declared.extent.Extent.{Extent}
 use Rattle.homeo_size.specs.declared.measures.Before.{Before}
 use Rattle.homeo_size.proofs.Branching.{greater_same}
-use Rattle.homeo_size.proofs.Lifting.{seen, at_fresh, Alike, Lifts, after_both, measured_both, alike_self, alike_then, alike_below, alike_put, put_here, plain_lifts, mapped_lifts, joined_lifts, stored_lifts}
+use Rattle.homeo_size.proofs.Lifting.{seen, at_fresh, Alike, Lifts, after_both, measured_both, alike_self, alike_then, alike_below, alike_put, put_here, plain_lifts, mapped_lifts, combined_lifts, stored_lifts}
 use Rattle.homeo_size.proofs.Low.{Extents, low_sized, low_sum, low_product, low_test, low_tests, low_cond, low_after, low_after_all, low_measured, low_measured_all}
 
 -- the setting of a context
@@ -22,22 +22,22 @@ setting_for sites w = record { object = object w; slots = slots w; fields = fiel
 
 -- ---- literals
 name_literal : (o : Option ℤ) (x : ℕ) → literal_of (name_of o x) ≡ o
-unfolding meaning_words
+unfolding meaning_definitions
 name_literal (Some v) x = refl
 name_literal None x = refl
 
 slot_literal : (f : Spot) (o : Option Slot) → literal_of (read_slot f o) ≡ missing o
-unfolding words meaning_words
+unfolding definitions meaning_definitions
 slot_literal f (Some slot) = refl
 slot_literal f None = refl
 
 indexed_literal : (o : Option ℤ) (all : List Slot) (f : Spot) (x : Lifted L.Expr) → literal_of (indexed_by o all f x).phrase ≡ missing_at o all
-unfolding words meaning_words
+unfolding definitions meaning_definitions
 indexed_literal (Some v) all f x = slot_literal f (slot_at v all)
 indexed_literal None all f x = refl
 
 pub literal_is : (sites : ℕ) (w : Context) (e : Expr) (n : ℕ) → literal_of (lift w e n).phrase ≡ literal_in (setting_for sites w) e
-unfolding words meaning_words
+unfolding definitions meaning_definitions
 literal_is sites w (Literal v) n = refl
 literal_is sites w (Name x) n = name_literal (w.arguments x.name) x.name
 literal_is sites w (Read x) n = refl
@@ -58,25 +58,25 @@ both_put false x y z = greater_same z
 
 module _ (sites : ℕ) where
   chain_leaves : (f : Spot) (e : L.Expr) (t : ℕ) (all : List Slot) (v : Extents) → low_after sites (read_chain f e t all) v ≡ put v (TempAt (temp.Fresh t)) (chain_sized f all (seen v))
-  unfolding words meaning_words
+  unfolding definitions meaning_definitions
   chain_leaves f e t [] v = refl
   chain_leaves f e t (slot ∷ more) v =
       (λ i p. greater (put v (TempAt (temp.Fresh t)) (v (BaseAt (cell slot f))) p) (chain_leaves f e t more v i p))
       ∙ (λ i p. both_put (same_location (TempAt (temp.Fresh t)) p) (v (BaseAt (cell slot f))) (chain_sized f more (seen v)) (v p) i)
 
   chain_tells : (f : Spot) (e : L.Expr) (t : ℕ) (all : List Slot) (v : Extents) → low_measured sites (read_chain f e t all) v ≡ chain_measured f (low_sized e v) all (seen v)
-  unfolding words meaning_words
+  unfolding definitions meaning_definitions
   chain_tells f e t [] v = refl
   chain_tells f e t (slot ∷ more) v =
       ap (chosen (low_cond (L.MoreTest (equal e (pos slot.number)) L.NoTest) v) (valued (v (BaseAt (cell slot f))))) (chain_tells f e t more v)
 
   slot_read : (f : Spot) (o : Option Slot) (u : Extents) → low_sized (read_slot f o) u ≡ slot_sized f o (seen u)
-  unfolding words meaning_words
+  unfolding definitions meaning_definitions
   slot_read f (Some slot) u = refl
   slot_read f None u = refl
 
   indexed_lifts : (o : Option ℤ) (all : List Slot) (f : Spot) (r : Sizes → Extent) (counts : Sizes → Before → Before) (n : ℕ) (v : Extents) (x : Lifted L.Expr) → Lifts sites n v x low_sized r counts → Lifts sites n v (indexed_by o all f x) low_sized (field_sized o all f) (λ s b. field_lifted o all f (r s) s b (counts s b))
-  unfolding words meaning_words
+  unfolding definitions meaning_definitions
   indexed_lifts (Some k) all f r counts n v x h =
       record {
         after = v;
@@ -103,7 +103,7 @@ module _ (sites : ℕ) where
     total : at_fresh n u ≡ greater sum (at_fresh n a)
 
   adds : (n : ℕ) (a : Extents) (sum : Extent) → Adds n a (λ p. greater (put a (TempAt (temp.Fresh n)) sum p) (a p)) sum
-  unfolding words meaning_words
+  unfolding definitions meaning_definitions
   adds n a sum =
       record {
         alike = record {
@@ -123,15 +123,15 @@ module _ (sites : ℕ) where
 
   module _ (test : Slot → ℕ → Lifted L.Cond) (p : Slot → Sizes → Extent → Extent) (counts : Slot → Sizes → Before → Before) (tests : (slot : Slot) (m : ℕ) (v : Extents) → Lifts sites m v (test slot m) conds (p slot) (counts slot)) (term : Slot → L.Expr) (f : Option ℕ) (terms : (slot : Slot) (u : Extents) → low_sized (term slot) u ≡ term_sized f slot (seen u)) where
     abbrev term_body : ℕ → Slot → ℕ → Made
-    unfolding words meaning_words
+    unfolding definitions meaning_definitions
     term_body n slot m = record { command = L.Assign (temp.Fresh n) (L.Sum (L.MoreExpr (fresh n) (L.MoreExpr (term slot) L.NoExpr))); next = m }
 
     abbrev measured_from : Sizes → List Slot → Extent → Before → Before
-    unfolding words
+    unfolding definitions
     measured_from s all t b = total_measured (λ slot. p slot s (used_test slot s)) (λ slot. counts slot s) f all s t b
 
     counts_all : (all : List Slot) (n m : ℕ) → n < m → (v : Extents) → Counts n m v (visits false false test (term_body n) all m) (total_sized f all (seen v) (at_fresh n v)) (measured_from (seen v) all (at_fresh n v))
-    unfolding words meaning_words
+    unfolding definitions meaning_definitions
     counts_all [] n m lt v = record { after = v; leaves = refl; grows = omega arith; alike = alike_self n v; totals = refl; tells = λ b. refl }
     counts_all (slot ∷ more) n m lt v =
         let b = test slot m in
@@ -163,7 +163,7 @@ module _ (sites : ℕ) where
         }
 
     counted_lifts : (all : List Slot) (n : ℕ) (v : Extents) → Lifts sites n v (counted test term all n) low_sized (λ s. total_sized f all s (literal (pos 0))) (λ s b. measured_from s all (literal (pos 0)) (with_one b (valued (literal (pos 0)))))
-    unfolding words meaning_words
+    unfolding definitions meaning_definitions
     counted_lifts all n v =
         let a : Extents = put v (TempAt (temp.Fresh n)) (literal (pos 0)) in
         let k = counts_all all n (suc n) (omega arith) a in
@@ -179,7 +179,7 @@ module _ (sites : ℕ) where
 
   -- ---- phrases
   name_lifts : (o : Option ℤ) (x : ℕ) (u : Extents) → low_sized (name_of o x) u ≡ name_sized o ((seen u).temps x)
-  unfolding words meaning_words
+  unfolding definitions meaning_definitions
   name_lifts (Some v) x u = refl
   name_lifts None x u = refl
 
@@ -199,7 +199,7 @@ module _ (sites : ℕ) where
       subst (λ z. Lifts sites n v (indexed_by o all f x) low_sized (field_sized z all f) (λ s b. field_lifted z all f (r s) s b (counts s b))) e (indexed_lifts o all f r counts n v x h)
 
   mutual
-    unfolding words meaning_words
+    unfolding definitions meaning_definitions
 
     pub lifts : (w : Context) (e : Expr) (n : ℕ) (v : Extents) → Lifts sites n v (lift w e n) low_sized (sized (se w) e) (lifted (se w) e)
     lifts w (Literal k) n v = plain_lifts sites _ n v low_sized (sized (se w) (Literal k)) (λ u. refl)
@@ -223,21 +223,21 @@ module _ (sites : ℕ) where
     pub lifts_sum : (w : Context) (es : Exprs) (n : ℕ) (v : Extents) → Lifts sites n v (lift_all w es n) sums (sum_sized (se w) es) (all_lifted (se w) es)
     lifts_sum w NoExpr n v = plain_lifts sites _ n v sums (sum_sized (se w) NoExpr) (λ u. refl)
     lifts_sum w (MoreExpr e es) n v =
-        joined_lifts sites L.MoreExpr (λ z g a. g (plus a z)) low_sized sums sums (sized (se w) e) (sum_sized (se w) es) (lifted (se w) e) (all_lifted (se w) es) (λ a b u. refl) n v (lift w e n) (lift_all w es) (lifts w e n v) (lifts_sum w es)
+        combined_lifts sites L.MoreExpr (λ z g a. g (plus a z)) low_sized sums sums (sized (se w) e) (sum_sized (se w) es) (lifted (se w) e) (all_lifted (se w) es) (λ a b u. refl) n v (lift w e n) (lift_all w es) (lifts w e n v) (lifts_sum w es)
 
     pub lifts_product : (w : Context) (es : Exprs) (n : ℕ) (v : Extents) → Lifts sites n v (lift_all w es n) products (product_sized (se w) es) (all_lifted (se w) es)
     lifts_product w NoExpr n v = plain_lifts sites _ n v products (product_sized (se w) NoExpr) (λ u. refl)
     lifts_product w (MoreExpr e es) n v =
-        joined_lifts sites L.MoreExpr (λ z g a. g (times a z)) low_sized products products (sized (se w) e) (product_sized (se w) es) (lifted (se w) e) (all_lifted (se w) es) (λ a b u. refl) n v (lift w e n) (lift_all w es) (lifts w e n v) (lifts_product w es)
+        combined_lifts sites L.MoreExpr (λ z g a. g (times a z)) low_sized products products (sized (se w) e) (product_sized (se w) es) (lifted (se w) e) (all_lifted (se w) es) (λ a b u. refl) n v (lift w e n) (lift_all w es) (lifts w e n v) (lifts_product w es)
 
     pub lifts_test : (w : Context) (t : Test) (n : ℕ) (v : Extents) → Lifts sites n v (lift_test w t n) low_test (test_sized (se w) t) (test_lifted (se w) t)
     lifts_test w True n v = plain_lifts sites _ n v low_test (test_sized (se w) True) (λ u. refl)
     lifts_test w (Not c) n v =
         mapped_lifts sites L.Not (λ g. around (around (g nothing))) conds low_test (tests_sized (se w) c) (tests_lifted (se w) c) (λ a u. refl) n v (lift_cond w c n) (lifts_cond w c n v)
     lifts_test w (Comparison op a b) n v =
-        joined_lifts sites (L.Comparison op) compared low_sized low_sized low_test (sized (se w) a) (sized (se w) b) (lifted (se w) a) (lifted (se w) b) (λ a b u. refl) n v (lift w a n) (lift w b) (lifts w a n v) (lifts w b)
+        combined_lifts sites (L.Comparison op) compared low_sized low_sized low_test (sized (se w) a) (sized (se w) b) (lifted (se w) a) (lifted (se w) b) (λ a b u. refl) n v (lift w a n) (lift w b) (lifts w a n v) (lifts w b)
 
     pub lifts_cond : (w : Context) (c : Cond) (n : ℕ) (v : Extents) → Lifts sites n v (lift_cond w c n) conds (tests_sized (se w) c) (tests_lifted (se w) c)
     lifts_cond w NoTest n v = plain_lifts sites _ n v conds (tests_sized (se w) NoTest) (λ u. refl)
     lifts_cond w (MoreTest t c) n v =
-        joined_lifts sites L.MoreTest (λ z g a. g (beside a z)) low_test conds conds (test_sized (se w) t) (tests_sized (se w) c) (test_lifted (se w) t) (tests_lifted (se w) c) (λ a b u. refl) n v (lift_test w t n) (lift_cond w c) (lifts_test w t n v) (lifts_cond w c)
+        combined_lifts sites L.MoreTest (λ z g a. g (beside a z)) low_test conds conds (test_sized (se w) t) (tests_sized (se w) c) (test_lifted (se w) t) (tests_lifted (se w) c) (λ a b u. refl) n v (lift_test w t n) (lift_cond w c) (lifts_test w t n v) (lifts_cond w c)

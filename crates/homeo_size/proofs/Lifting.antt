@@ -3,10 +3,10 @@ use Rattle.std.proofs.Common.{◌≡◌, ℕ, suc, ◌<◌, ◌≤◌, ◌==◌,
 use Rattle.std.proofs.lemmas.Bool.Decides.{nat_tests}
 use Rattle.homeo_syntax.specs.declared.low.Temp.TheVariants as temp
 use Rattle.homeo_syntax.specs.Low as L
-use Rattle.homeo_meaning.specs.Key.{words as meaning_words}
+use Rattle.homeo_meaning.specs.Key.{definitions as meaning_definitions}
 use Rattle.homeo_meaning.specs.LowMeaning.{TempAt, BaseAt, put}
-use Rattle.homeo_meaning.specs.LForm.{Lifted, both, one, in_front, plain, mapped, joined}
-use Rattle.homeo_size.specs.inner.Key.{words}
+use Rattle.homeo_meaning.specs.LForm.{Lifted, both, one, in_front, plain, mapped, combined}
+use Rattle.homeo_size.specs.inner.Key.{definitions}
 use Rattle.homeo_size.specs.inner.Parts.{none, with_one, placed}
 use Rattle.homeo_size.specs.inner.Sizing.{Sizes}
 use Rattle.homeo_size.specs.declared.extent.Extent.{Extent}
@@ -16,7 +16,7 @@ use Rattle.homeo_size.proofs.Low.{Extents, low_after, low_after_all, low_measure
 
 -- the extents of what the text names
 abbrev pub seen : Extents → Sizes
-unfolding words
+unfolding definitions
 seen v = record { objects = λ k. v (BaseAt k); temps = λ n. v (TempAt (temp.Named n)) }
 
 abbrev pub at_fresh : ℕ → Extents → Extent
@@ -38,28 +38,28 @@ pub record Lifts {A R : Type 0} (sites n : ℕ) (v : Extents) (x : Lifted A) (at
 -- ---- commands one after another
 module _ (sites : ℕ) where
   pub after_both : (cs ds : L.Commands) (v : Extents) → low_after_all sites (both cs ds) v ≡ low_after_all sites ds (low_after_all sites cs v)
-  unfolding words meaning_words
+  unfolding definitions meaning_definitions
   after_both L.NoCommand ds v = refl
   after_both (L.MoreCommand c cs) ds v = after_both cs ds (low_after sites c v)
 
   pub measured_both : (cs ds : L.Commands) (v : Extents) (b : Before) → low_measured_all sites (both cs ds) v b ≡ low_measured_all sites ds (low_after_all sites cs v) (low_measured_all sites cs v b)
-  unfolding words meaning_words
+  unfolding definitions meaning_definitions
   measured_both L.NoCommand ds v b = refl
   measured_both (L.MoreCommand c cs) ds v b = measured_both cs ds (low_after sites c v) (with_one b (low_measured sites c v))
 
   -- where there were commands, there are
   stays_any : (cs : L.Commands) (v : Extents) (b : Before) → b.any ≡ true → (low_measured_all sites cs v b).any ≡ true
-  unfolding words meaning_words
+  unfolding definitions meaning_definitions
   stays_any L.NoCommand v b h = h
   stays_any (L.MoreCommand c cs) v b h = stays_any cs (low_after sites c v) (with_one b (low_measured sites c v)) refl
 
   pub after_front : (cs : L.Commands) (c : L.Command) (v : Extents) → low_after sites (in_front cs c) v ≡ low_after sites c (low_after_all sites cs v)
-  unfolding words meaning_words
+  unfolding definitions meaning_definitions
   after_front L.NoCommand c v = refl
   after_front (L.MoreCommand b bs) c v = after_both bs (one c) (low_after sites b v)
 
   pub measured_front : (cs : L.Commands) (c : L.Command) (v : Extents) → low_measured sites (in_front cs c) v ≡ placed (low_measured_all sites cs v none) (low_measured sites c (low_after_all sites cs v))
-  unfolding words meaning_words
+  unfolding definitions meaning_definitions
   measured_front L.NoCommand c v = refl
   measured_front (L.MoreCommand b bs) c v =
       let first : Before = with_one none (low_measured sites b v) in
@@ -69,20 +69,20 @@ module _ (sites : ℕ) where
 
 -- ---- alike
 pub alike_self : (n : ℕ) (v : Extents) → Alike n v v
-unfolding words
+unfolding definitions
 alike_self n v = record { sees = refl; keeps = λ m lt. refl }
 
 pub alike_then : (m n : ℕ) (v a u : Extents) → m ≤ n → Alike m v a → Alike n a u → Alike m v u
-unfolding words
+unfolding definitions
 alike_then m n v a u le h k =
     record { sees = k.sees ∙ h.sees; keeps = λ j lt. k.keeps j (omega arith) ∙ h.keeps j lt }
 
 pub alike_below : (m n : ℕ) (v u : Extents) → m ≤ n → Alike n v u → Alike m v u
-unfolding words
+unfolding definitions
 alike_below m n v u le h = record { sees = h.sees; keeps = λ j lt. h.keeps j (omega arith) }
 
 pub put_here : (n : ℕ) (v : Extents) (e : Extent) → at_fresh n (put v (TempAt (temp.Fresh n)) e) ≡ e
-unfolding words meaning_words
+unfolding definitions meaning_definitions
 put_here n v e = go (n == n) refl
   where
     go : (b : Bool) → (n == n) ≡ b → cond b e (at_fresh n v) ≡ e
@@ -90,7 +90,7 @@ put_here n v e = go (n == n) refl
     go false h = grind (arith, nat_tests)
 
 pub alike_put : (m n : ℕ) (v : Extents) (e : Extent) → m ≤ n → Alike m v (put v (TempAt (temp.Fresh n)) e)
-unfolding words meaning_words
+unfolding definitions meaning_definitions
 alike_put m n v e le = record { sees = refl; keeps = λ j lt. go j (n == j) refl lt }
   where
     go : (j : ℕ) (b : Bool) → (n == j) ≡ b → j < m → cond b e (at_fresh j v) ≡ at_fresh j v
@@ -99,18 +99,18 @@ alike_put m n v e le = record { sees = refl; keeps = λ j lt. go j (n == j) refl
 
 -- ---- ways to lift
 pub plain_lifts : {A R : Type 0} (sites : ℕ) (a : A) (n : ℕ) (v : Extents) (at : A → Extents → R) (r : Sizes → R) → ((u : Extents) → at a u ≡ r (seen u)) → Lifts sites n v (plain a n) at r (λ s b. b)
-unfolding words meaning_words
+unfolding definitions meaning_definitions
 plain_lifts sites a n v at r h =
     record { after = v; leaves = refl; grows = omega arith; alike = alike_self n v; tells = λ b. refl; means = λ u k. h u ∙ ap r k.sees }
 
 pub mapped_lifts : {A B R Q : Type 0} (sites : ℕ) (f : A → B) (g : R → Q) (at : A → Extents → R) (at' : B → Extents → Q) (r : Sizes → R) (counts : Sizes → Before → Before) → ((a : A) (u : Extents) → at' (f a) u ≡ g (at a u)) → (n : ℕ) (v : Extents) (x : Lifted A) → Lifts sites n v x at r counts → Lifts sites n v (mapped f x) at' (λ s. g (r s)) counts
-unfolding words meaning_words
+unfolding definitions meaning_definitions
 mapped_lifts sites f g at at' r counts h n v x k =
     record { after = k.after; leaves = k.leaves; grows = k.grows; alike = k.alike; tells = k.tells; means = λ u l. h x.phrase u ∙ ap g (k.means u l) }
 
-pub joined_lifts : {A B C R Q P : Type 0} (sites : ℕ) (f : A → B → C) (g : R → Q → P) (at : A → Extents → R) (at' : B → Extents → Q) (at'' : C → Extents → P) (r : Sizes → R) (q : Sizes → Q) (counts counts' : Sizes → Before → Before) → ((a : A) (b : B) (u : Extents) → at'' (f a b) u ≡ g (at a u) (at' b u)) → (n : ℕ) (v : Extents) (x : Lifted A) (y : ℕ → Lifted B) → Lifts sites n v x at r counts → ((m : ℕ) (a : Extents) → Lifts sites m a (y m) at' q counts') → Lifts sites n v (joined f x y) at'' (λ s. g (r s) (q s)) (λ s b. counts' s (counts s b))
-unfolding words meaning_words
-joined_lifts sites f g at at' at'' r q counts counts' h n v x y k l =
+pub combined_lifts : {A B C R Q P : Type 0} (sites : ℕ) (f : A → B → C) (g : R → Q → P) (at : A → Extents → R) (at' : B → Extents → Q) (at'' : C → Extents → P) (r : Sizes → R) (q : Sizes → Q) (counts counts' : Sizes → Before → Before) → ((a : A) (b : B) (u : Extents) → at'' (f a b) u ≡ g (at a u) (at' b u)) → (n : ℕ) (v : Extents) (x : Lifted A) (y : ℕ → Lifted B) → Lifts sites n v x at r counts → ((m : ℕ) (a : Extents) → Lifts sites m a (y m) at' q counts') → Lifts sites n v (combined f x y) at'' (λ s. g (r s) (q s)) (λ s b. counts' s (counts s b))
+unfolding definitions meaning_definitions
+combined_lifts sites f g at at' at'' r q counts counts' h n v x y k l =
     let m = l x.next k.after in
     record {
       after = m.after;
@@ -123,7 +123,7 @@ joined_lifts sites f g at at' at'' r q counts counts' h n v x y k l =
 
 -- a value that a last command puts into a fresh temporary
 pub stored_lifts : {A B R Q : Type 0} (sites : ℕ) (at : A → Extents → R) (r : Sizes → R) (at' : B → Extents → Q) (q : Sizes → Q) (counts : Sizes → Before → Before) (measure : Sizes → Measure) (n : ℕ) (v : Extents) (x : Lifted A) (c : L.Command) (b : B) (g : Extent → Q) (e : Extent) → (k : Lifts sites n v x at r counts) → low_after sites c k.after ≡ put k.after (TempAt (temp.Fresh x.next)) e → low_measured sites c k.after ≡ measure (seen v) → ((u : Extents) → at' b u ≡ g (at_fresh x.next u)) → g e ≡ q (seen v) → Lifts sites n v (record { before = both x.before (one c); phrase = b; next = suc x.next }) at' q (λ s d. with_one (counts s d) (measure s))
-unfolding words meaning_words
+unfolding definitions meaning_definitions
 stored_lifts sites at r at' q counts measure n v x c b g e k l m h i =
     record {
       after = put k.after (TempAt (temp.Fresh x.next)) e;

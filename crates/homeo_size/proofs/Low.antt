@@ -1,9 +1,9 @@
 -- The same pass over an L form: the extents of phrases, the names' extents after commands, and measures.
 use Rattle.std.proofs.Common.{ℕ}
 use Rattle.homeo_syntax.specs.Low.{Expr, Exprs, Literal, OfTemp, Read, Sum, Product, Neg, NoExpr, MoreExpr, Test, Cond, True, Not, Comparison, NoTest, MoreTest, Command, Commands, Skip, Assign, Write, Print, Seq, If, NoCommand, MoreCommand}
-use Rattle.homeo_meaning.specs.Key.{words as meaning_words}
+use Rattle.homeo_meaning.specs.Key.{definitions as meaning_definitions}
 use Rattle.homeo_meaning.specs.LowMeaning.{Location, TempAt, location_of, put}
-use Rattle.homeo_size.specs.inner.Key.{words}
+use Rattle.homeo_size.specs.inner.Key.{definitions}
 use Rattle.homeo_size.specs.inner.Parts.{literal, nothing, no_factor, beside, plus, times, around, summed, compared, truth, greater, written, empty, valued, writing, chosen, none, with_one}
 use Rattle.homeo_size.specs.declared.extent.Extent.{Extent}
 use Rattle.homeo_size.specs.declared.measures.Before.{Before}
@@ -14,7 +14,7 @@ abbrev pub Extents : Type 0
 Extents = Location → Extent
 
 abbrev mutual
-  unfolding words meaning_words
+  unfolding definitions meaning_definitions
 
   pub low_sized : Expr → Extents → Extent
   low_sized (Literal n) v = literal n
@@ -33,7 +33,7 @@ abbrev mutual
   low_product (MoreExpr e es) v a = low_product es v (times a (low_sized e v))
 
 abbrev mutual
-  unfolding words meaning_words
+  unfolding definitions meaning_definitions
 
   pub low_test : Test → Extents → Extent
   low_test True v = truth
@@ -45,12 +45,12 @@ abbrev mutual
   low_tests (MoreTest t c) v a = low_tests c v (beside a (low_test t v))
 
 abbrev pub low_cond : Cond → Extents → Extent
-unfolding words meaning_words
+unfolding definitions meaning_definitions
 low_cond c v = around (low_tests c v nothing)
 
 module _ (sites : ℕ) where
   abbrev mutual
-    unfolding words meaning_words
+    unfolding definitions meaning_definitions
 
     pub low_after : Command → Extents → Extents
     low_after Skip v = v
@@ -65,7 +65,7 @@ module _ (sites : ℕ) where
     low_after_all (MoreCommand c cs) v = low_after_all cs (low_after c v)
 
   abbrev mutual
-    unfolding words meaning_words
+    unfolding definitions meaning_definitions
 
     pub low_measured : Command → Extents → Measure
     low_measured Skip v = empty

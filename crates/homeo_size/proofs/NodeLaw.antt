@@ -6,13 +6,13 @@ use Rattle.homeo_syntax.specs.declared.low.Temp.TheVariants as temp
 use Rattle.homeo_syntax.specs.declared.low.SplitName.TheVariants as split
 use Rattle.homeo_syntax.specs.Low as L
 use Rattle.homeo_syntax.specs.Source.{Expr, Exprs, Literal, Name, Read, Sum, Product, Neg, Field, Row, Count, Total, NoExpr, MoreExpr, Test, Cond, True, Not, Comparison, NoTest, MoreTest, FieldValue, Command, Commands, Skip, Assign, Write, Print, If, Block, SetField, SetRow, Foreach, Insert, Delete, Update, Abort, NoCommand, MoreCommand}
-use Rattle.homeo_meaning.specs.Key.{words as meaning_words}
+use Rattle.homeo_meaning.specs.Key.{definitions as meaning_definitions}
 use Rattle.homeo_meaning.specs.Schema.{Declared}
 use Rattle.homeo_meaning.specs.Context.{Spot, Slot, Context, spot, cell, field_cell, object, slots, fields, bind, slot_at}
 use Rattle.homeo_meaning.specs.Aborts.{holds_abort, hold_abort}
 use Rattle.homeo_meaning.specs.LForm as form
 use Rattle.homeo_meaning.specs.LForm.{Lifted, Made, AllMade, both, one, in_front, equal, read, fresh, name_of, read_chain, read_slot, literal_of, indexed_by, write_chain, write_at, write_by, visits, counted, pair, Pair, Target, stored, all_within, field_writes, fill_chain, lift, lift_all, lift_test, lift_cond, lift_values}
-use Rattle.homeo_size.specs.inner.Key.{words}
+use Rattle.homeo_size.specs.inner.Key.{definitions}
 use Rattle.homeo_size.specs.inner.Nodes.{few, index_nodes, visit_nodes, nodes, all_nodes, test_nodes, tests_nodes, slot_nodes, write_nodes, values_nodes, command_nodes, commands_nodes}
 use Rattle.homeo_size.specs.inner.Sizing.{Setting, missing_at, literal_in}
 use Rattle.homeo_size.proofs.LiftedPhrases.{setting_for, literal_is}
@@ -59,7 +59,7 @@ few_le : (m n : ℕ) → m ≤ n → few m ≤ n
 few_le m n h = omega (arith, clamps, h)
 
 of_both : (cs ds : L.Commands) → of_commands (both cs ds) ≡ of_commands cs + of_commands ds
-unfolding meaning_words
+unfolding meaning_definitions
 of_both L.NoCommand ds = zero_plus (of_commands ds)
   where
     zero_plus : (n : ℕ) → n ≡ 0 + n
@@ -71,7 +71,7 @@ of_both (L.MoreCommand c cs) ds = ap (λ n. of_command c + n) (of_both cs ds) �
 
 -- a command with those of a lifting before it
 of_front : (cs : L.Commands) (c : L.Command) → of_commands cs + of_command c ≤ of_command (in_front cs c)
-unfolding meaning_words
+unfolding meaning_definitions
 of_front L.NoCommand c = omega arith
 of_front (L.MoreCommand b bs) c = let e = of_both bs (one c) in omega (arith, e)
 
@@ -84,17 +84,17 @@ from_none h = omega (arith, h)
 
 -- ---- a field of the slot that an index names
 read_chain_has : (f : Spot) (e : L.Expr) (t : ℕ) (slot : Slot) (more : List Slot) → length (slot ∷ more) + of_expr e ≤ of_command (read_chain f e t (slot ∷ more))
-unfolding meaning_words
+unfolding meaning_definitions
 read_chain_has f e t slot [] = omega arith
 read_chain_has f e t slot (next ∷ more) = let h = read_chain_has f e t next more in omega (arith, h)
 
 slot_has : (f : Spot) (o : Option Slot) → 1 ≤ of_expr (read_slot f o)
-unfolding meaning_words
+unfolding meaning_definitions
 slot_has f (Some slot) = omega arith
 slot_has f None = omega arith
 
 indexed_has : (o : Option ℤ) (all : List Slot) (f : Spot) (x : Lifted L.Expr) (n : ℕ) → Has x of_expr n → Has (indexed_by o all f x) of_expr (index_nodes o all n)
-unfolding words meaning_words
+unfolding definitions meaning_definitions
 indexed_has (Some v) all f x n h = let k = slot_has f (slot_at v all) in omega (arith, k)
 indexed_has None [] f x n h = omega arith
 indexed_has None (slot ∷ more) f x n h =
@@ -111,17 +111,17 @@ more_visits : (l n m : ℕ) → suc l * n ≡ n + l * n
 more_visits l n m = omega arith
 
 of_turn : (g : Bool) (before : L.Commands) (c : L.Command) (more : L.Commands) → of_commands before + (of_command c + of_commands more) ≤ of_commands (form.in_turn g before c more)
-unfolding meaning_words
+unfolding meaning_definitions
 of_turn true before c more = let e = of_front before c in omega (arith, e)
 of_turn false before c more = let e = of_both before (L.MoreCommand c more) in omega (arith, e)
 
 of_guard : (g : Bool) (c : L.Command) → of_command c ≤ of_command (form.guard g c)
-unfolding meaning_words
+unfolding meaning_definitions
 of_guard true c = omega arith
 of_guard false c = omega arith
 
 visits_have : (g later : Bool) (test : Slot → ℕ → Lifted L.Cond) (body : Slot → ℕ → Made) (n : ℕ) → ((slot : Slot) (m k : ℕ) → n ≤ of_commands (test slot m).before + (of_tests (test slot m).phrase + of_command (body slot k).command)) → (all : List Slot) (m : ℕ) → length all * (1 + n) ≤ of_commands (visits g later test body all m).commands
-unfolding meaning_words
+unfolding meaning_definitions
 visits_have g later test body n h [] m = omega arith
 visits_have g later test body n h (slot ∷ more) m =
     let b = test slot m in
@@ -147,11 +147,11 @@ module _ (x : Setting) where
     pub arguments' : (n : ℕ) → x.arguments n ≡ w.arguments n
 
   bound_same : (w : Context) (r : ℕ) (slot : Slot) → Same w → Same (bind w r slot)
-  unfolding meaning_words
+  unfolding meaning_definitions
   bound_same w r slot h = record { slots' = h.slots'; arguments' = h.arguments' }
 
   literals_same : (w : Context) (h : Same w) (e : Expr) → literal_in x e ≡ literal_in (setting_for 0 w) e
-  unfolding words
+  unfolding definitions
   literals_same w h (Literal v) = refl
   literals_same w h (Name t) = h.arguments' t.name
   literals_same w h (Read o) = refl
@@ -167,12 +167,12 @@ module _ (x : Setting) where
   literal_same w h e n = literal_is 0 w e n ∙ sym (literals_same w h e)
 
   name_has : (o : Option ℤ) (t : ℕ) → 1 ≤ of_expr (name_of o t)
-  unfolding meaning_words
+  unfolding meaning_definitions
   name_has (Some v) t = omega arith
   name_has None t = omega arith
 
   counted_has : (test : Slot → ℕ → Lifted L.Cond) (term : Slot → L.Expr) (all : List Slot) (m n : ℕ) → ((slot : Slot) (k : ℕ) → Has (test slot k) of_tests n) → Has (counted test term all m) of_expr (visit_nodes all n)
-  unfolding meaning_words
+  unfolding meaning_definitions
   counted_has test term all m n h =
       let body : Slot → ℕ → Made = λ slot k. record { command = L.Assign (temp.Fresh m) (L.Sum (L.MoreExpr (fresh m) (L.MoreExpr (term slot) L.NoExpr))); next = k } in
       let v = visits_have false false test body n (λ slot k i. let g = h slot k in omega (arith, g)) all (suc m) in
@@ -180,7 +180,7 @@ module _ (x : Setting) where
       omega (arith, k)
 
   mutual
-    unfolding words meaning_words
+    unfolding definitions meaning_definitions
 
     expr_has : (w : Context) (h : Same w) (e : Expr) (n : ℕ) → Has (lift w e n) of_expr (nodes x e)
     expr_has w h (Literal v) n = omega arith
@@ -229,28 +229,28 @@ module _ (x : Setting) where
 
   -- ---- commands
   placed_has : {A : Type 0} (of : A → ℕ) (f : A → L.Command) → ((a : A) → 1 + of a ≤ of_command (f a)) → (y : Lifted A) (n : ℕ) → Has y of n → few (1 + n) ≤ of_command (form.placed y f).command
-  unfolding meaning_words
+  unfolding meaning_definitions
   placed_has of f h y n k =
       let a = h y.phrase in
       let e = of_front y.before (f y.phrase) in
       few_le (1 + n) _ (omega (arith, k, a, e))
 
   guarded_has : (b : Spot) (o : ℕ) (e : L.Expr) → 1 + of_expr e ≤ of_command (form.guarded b o e)
-  unfolding meaning_words
+  unfolding meaning_definitions
   guarded_has b o e = omega arith
 
   at_has : (o : Option Slot) (f : Spot) (m : ℕ) (y : ℕ → Lifted L.Expr) (n : ℕ) → ((k : ℕ) → Has (y k) of_expr n) → slot_nodes o n ≤ of_command (write_at o f m y).command
-  unfolding words meaning_words
+  unfolding definitions meaning_definitions
   at_has None f m y n h = omega arith
   at_has (Some slot) f m y n h = placed_has of_expr (form.guarded f (cell slot f)) (guarded_has f (cell slot f)) (y m) n (h m)
 
   write_chain_has : (f : Spot) (i e : L.Expr) (slot : Slot) (more : List Slot) → length (slot ∷ more) + (of_expr i + of_expr e) ≤ of_command (write_chain f i e (slot ∷ more))
-  unfolding meaning_words
+  unfolding meaning_definitions
   write_chain_has f i e slot [] = omega arith
   write_chain_has f i e slot (next ∷ more) = let h = write_chain_has f i e next more in omega (arith, h)
 
   by_has : (o : Option ℤ) (all : List Slot) (f : Spot) (z : Lifted L.Expr) (y : ℕ → Lifted L.Expr) (m n : ℕ) → Has z of_expr m → ((k : ℕ) → Has (y k) of_expr n) → write_nodes o all m n ≤ of_command (write_by o all f z y).command
-  unfolding words meaning_words
+  unfolding definitions meaning_definitions
   by_has (Some v) all f z y m n h k = at_has (slot_at v all) f z.next y n k
   by_has None [] f z y m n h k =
       let g = k z.next in
@@ -270,7 +270,7 @@ module _ (x : Setting) where
 
   -- ---- inserts
   values_have : (w : Context) (h : Same w) (ds : List Declared) (fs : List FieldValue) (n a : ℕ) → values_nodes x fs a ≤ a + of_commands (lift_values w ds fs n).before
-  unfolding words meaning_words
+  unfolding definitions meaning_definitions
   values_have w h ds [] n a = omega arith
   values_have w h ds (f ∷ fs) n a =
       let v : Lifted L.Expr = lift w f.value n in
@@ -283,17 +283,17 @@ module _ (x : Setting) where
       omega (arith, k, l, g, e, fewer)
 
   targets_of : (w : Context) (ds : List Declared) (fs : List FieldValue) (n : ℕ) → length (lift_values w ds fs n).phrase ≡ length fs
-  unfolding meaning_words
+  unfolding meaning_definitions
   targets_of w ds [] n = refl
   targets_of w ds (f ∷ fs) n = ap suc (targets_of w ds fs (suc (lift w f.value n).next))
 
   writes_have : (slot : Slot) (xs : List Target) (cs : L.Commands) → length xs + of_commands cs ≤ of_commands (field_writes slot xs cs)
-  unfolding meaning_words
+  unfolding meaning_definitions
   writes_have slot [] cs = omega arith
   writes_have slot (t ∷ ts) cs = let h = writes_have slot ts cs in omega (arith, h)
 
   fill_chain_has : (xs : List Target) (t : ℕ) (all : List Slot) → 1 + length all * (1 + length xs) ≤ of_command (fill_chain xs t all)
-  unfolding meaning_words
+  unfolding meaning_definitions
   fill_chain_has xs t [] = omega arith
   fill_chain_has xs t (slot ∷ more) =
       let h = fill_chain_has xs t more in
@@ -302,7 +302,7 @@ module _ (x : Setting) where
       omega (arith, h, g, s)
 
   insert_has : (w : Context) (h : Same w) (ds : List Declared) (fs : List FieldValue) (all : List Slot) (t n : ℕ) → values_nodes x fs (few (1 + length all * few (1 + length fs))) ≤ of_command (form.inserted all t (lift_values w ds fs n)).command
-  unfolding words meaning_words
+  unfolding definitions meaning_definitions
   insert_has w h ds fs all t n =
       let v : Lifted (List Target) = lift_values w ds fs n in
       let last : L.Command = L.If (all_within v.phrase) (fill_chain v.phrase t all) (L.Assign (temp.Named t) (L.Literal (pos 0))) in
@@ -318,7 +318,7 @@ module _ (x : Setting) where
 
   -- ---- loops
   loop_has : (w : Context) (h : Same w) (r q : ℕ) (c : Cond) (ends : Bool) (body : Slot → ℕ → Made) (m n k : ℕ) → k ≤ tests_nodes x c 0 + m → ((slot : Slot) (i : ℕ) → m ≤ of_command (body slot i).command) → visit_nodes (x.slots q) k ≤ of_command (form.loop w r q c ends body n).command
-  unfolding words meaning_words
+  unfolding definitions meaning_definitions
   loop_has w h r q c ends body m n k le has =
       let v = visits_have false ends (λ slot. lift_cond (bind w r slot) c) body k (λ slot i j. one_visit slot i j) (slots w q) n in
       subst (λ l. visit_nodes l k ≤ of_command (form.loop w r q c ends body n).command) (sym (h.slots' q)) (visit_le (slots w q) k (of_commands (visits false ends (λ slot. lift_cond (bind w r slot) c) body (slots w q) n).commands) v)
@@ -330,7 +330,7 @@ module _ (x : Setting) where
           omega (arith, t, b, le)
 
   mutual
-    unfolding words meaning_words
+    unfolding definitions meaning_definitions
 
     command_has : (w : Context) (h : Same w) (c : Command) (n : ℕ) → command_nodes x c ≤ of_command (form.form w c n).command
     command_has w h Skip n = omega arith
@@ -383,16 +383,16 @@ module _ (x : Setting) where
 
   -- ---- what stands round a body that can end its call
   saves_have : (n : ℕ) (xs : List ℕ) (more : L.Commands) → of_commands more ≤ of_commands (form.saves n xs more)
-  unfolding meaning_words
+  unfolding meaning_definitions
   saves_have n [] more = omega arith
   saves_have n (o ∷ xs) more = let e = saves_have (suc n) xs more in omega (arith, e)
 
   undoing_has : (saved : List ℕ) (body : L.Commands) → 1 + of_commands body ≤ of_command (form.undoing saved body)
-  unfolding meaning_words
+  unfolding meaning_definitions
   undoing_has saved body = let e = saves_have 1 saved (L.MoreCommand (L.Seq body) (one (form.undo saved))) in omega (arith, e)
 
   body_has : (w : Context) (h : Same w) (b : Bool) (cs : Commands) → commands_nodes x cs 1 ≤ of_command (form.body_by b w cs)
-  unfolding meaning_words
+  unfolding meaning_definitions
   body_has w h false cs = commands_have w h false cs 0 1
   body_has w h true cs =
       let saved : List ℕ = form.saved_in w cs in

@@ -2,7 +2,7 @@
 use Rattle.std.proofs.Common.{ℕ, ◌≤◌, Bool, true, false, cond, arith}
 use Rattle.std.proofs.lemmas.Int.{clamps}
 use Rattle.homeo_syntax.specs.Low.{Expr, Exprs, Literal, OfTemp, Read, Sum, Product, Neg, NoExpr, MoreExpr, Test, Cond, True, Not, Comparison, NoTest, MoreTest, Command, Commands, Skip, Assign, Write, Print, Seq, If, NoCommand, MoreCommand}
-use Rattle.homeo_meaning.specs.Key.{words as meaning_words}
+use Rattle.homeo_meaning.specs.Key.{definitions as meaning_definitions}
 use Rattle.homeo_meaning.specs.LowMeaning.{Location, TempAt, BaseAt, DeltaAt, location_of, put, same_location}
 use Rattle.homeo_meaning.specs.LowSizes.{Extent, extent, extent_all, test_extent, tests_extent, after, after_all, command_extent, commands_extent, first_extents, written}
 use Rattle.homeo_size.proofs.NodeLaw.{of_expr, of_exprs, of_test, of_tests, of_command, of_commands}
@@ -12,7 +12,7 @@ abbrev Least : (Location → Extent) → Type 0
 Least v = (p : Location) → 1 ≤ (v p).size
 
 mutual
-  unfolding meaning_words
+  unfolding meaning_definitions
 
   expr_size : (e : Expr) (v : Location → Extent) → Least v → of_expr e ≤ (extent e v).size
   expr_size (Literal n) v h = omega arith
@@ -38,7 +38,7 @@ some_expr (Product es) = omega arith
 some_expr (Neg e) = omega arith
 
 mutual
-  unfolding meaning_words
+  unfolding meaning_definitions
 
   test_size : (t : Test) (v : Location → Extent) → Least v → of_test t ≤ (test_extent t v).size
   test_size True v h = omega arith
@@ -56,7 +56,7 @@ mutual
       omega (arith, k, l)
 
 put_least : (v : Location → Extent) (p : Location) (e : Extent) → Least v → 1 ≤ e.size → Least (put v p e)
-unfolding meaning_words
+unfolding meaning_definitions
 put_least v p e h k q = go (same_location p q)
   where
     go : (b : Bool) → 1 ≤ (cond b e (v q)).size
@@ -65,7 +65,7 @@ put_least v p e h k q = go (same_location p q)
 
 module _ (sites : ℕ) where
   mutual
-    unfolding meaning_words
+    unfolding meaning_definitions
 
     after_least : (c : Command) (v : Location → Extent) → Least v → Least (after sites c v)
     after_least Skip v h = h
@@ -86,7 +86,7 @@ module _ (sites : ℕ) where
     all_least (MoreCommand c cs) v h = all_least cs (after sites c v) (after_least c v h)
 
   mutual
-    unfolding meaning_words
+    unfolding meaning_definitions
 
     pub command_size : (c : Command) (v : Location → Extent) → Least v → of_command c ≤ (command_extent sites c v).size
     command_size Skip v h = omega arith
@@ -108,7 +108,7 @@ module _ (sites : ℕ) where
         omega (arith, k, l)
 
   pub first_least : Least (first_extents sites)
-  unfolding meaning_words
+  unfolding meaning_definitions
   first_least (TempAt t) = omega arith
   first_least (BaseAt x) = omega arith
   first_least (DeltaAt x j) = omega arith

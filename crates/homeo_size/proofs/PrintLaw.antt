@@ -5,14 +5,14 @@ use Rattle.homeo_syntax.specs.declared.low.Temp.TheVariants as temp
 use Rattle.homeo_syntax.specs.declared.low.SplitName.TheVariants as split
 use Rattle.homeo_syntax.specs.Low as L
 use Rattle.homeo_syntax.specs.Source.{Expr, Exprs, Literal, Name, Read, Sum, Product, Neg, Field, Row, Count, Total, NoExpr, MoreExpr, Test, Cond, True, Not, Comparison, NoTest, MoreTest, FieldValue, Command, Commands, Skip, Assign, Write, Print, If, Block, SetField, SetRow, Foreach, Insert, Delete, Update, Abort, NoCommand, MoreCommand}
-use Rattle.homeo_meaning.specs.Key.{words as meaning_words}
+use Rattle.homeo_meaning.specs.Key.{definitions as meaning_definitions}
 use Rattle.homeo_meaning.specs.Schema.{Declared}
 use Rattle.homeo_meaning.specs.Context.{Spot, Slot, Context, spot, field_cell, object, slots, fields, bind, slot_at}
 use Rattle.homeo_meaning.specs.Aborts.{holds_abort, hold_abort}
 use Rattle.homeo_meaning.specs.LForm as form
 use Rattle.homeo_meaning.specs.LForm.{Lifted, Made, both, one, in_front, equal, read, fresh, read_chain, literal_of, indexed_by, write_chain, write_at, write_by, visits, counted, pair, Target, all_within, field_writes, fill_chain, lift, lift_all, lift_test, lift_cond, lift_values}
 use Rattle.homeo_meaning.specs.LowSizes.{prints_in, prints_in_all}
-use Rattle.homeo_size.specs.inner.Key.{words}
+use Rattle.homeo_size.specs.inner.Key.{definitions}
 use Rattle.homeo_size.specs.inner.Prints.{print_cap, prints, all_prints}
 use Rattle.homeo_size.specs.inner.Sizing.{Setting}
 use Rattle.homeo_size.proofs.Caps.{cap_sum, cap_product}
@@ -21,12 +21,12 @@ zero_plus : (n : ℕ) → 0 + n ≡ n
 zero_plus n = omega arith
 
 both_print : (cs ds : L.Commands) → prints_in_all (both cs ds) ≡ prints_in_all cs + prints_in_all ds
-unfolding meaning_words
+unfolding meaning_definitions
 both_print L.NoCommand ds = sym (zero_plus (prints_in_all ds))
 both_print (L.MoreCommand c cs) ds = let e = both_print cs ds in omega (arith, e)
 
 front_prints : (cs : L.Commands) (c : L.Command) → prints_in_all cs ≡ 0 → prints_in (in_front cs c) ≡ prints_in c
-unfolding meaning_words
+unfolding meaning_definitions
 front_prints L.NoCommand c h = refl
 front_prints (L.MoreCommand b bs) c h = let e = both_print bs (one c) in omega (arith, e, h)
 
@@ -34,24 +34,24 @@ front_prints (L.MoreCommand b bs) c h = let e = both_print bs (one c) in omega (
 abbrev Quiet : {A : Type 0} → Lifted A → Type 0
 Quiet x = prints_in_all x.before ≡ 0
 
-joined_quiet : {A B C : Type 0} (f : A → B → C) (x : Lifted A) (y : ℕ → Lifted B) → Quiet x → ((m : ℕ) → Quiet (y m)) → Quiet (form.joined f x y)
-unfolding meaning_words
-joined_quiet f x y h k =
+combined_quiet : {A B C : Type 0} (f : A → B → C) (x : Lifted A) (y : ℕ → Lifted B) → Quiet x → ((m : ℕ) → Quiet (y m)) → Quiet (form.combined f x y)
+unfolding meaning_definitions
+combined_quiet f x y h k =
     let e = both_print x.before (y x.next).before in
     let l = k x.next in
     omega (arith, e, h, l)
 
 stored_quiet : (cs : L.Commands) (c : L.Command) → prints_in_all cs ≡ 0 → prints_in c ≡ 0 → prints_in_all (both cs (one c)) ≡ 0
-unfolding meaning_words
+unfolding meaning_definitions
 stored_quiet cs c h k = let e = both_print cs (one c) in omega (arith, e, h, k)
 
 read_chain_quiet : (f : Spot) (e : L.Expr) (t : ℕ) (all : List Slot) → prints_in (read_chain f e t all) ≡ 0
-unfolding meaning_words
+unfolding meaning_definitions
 read_chain_quiet f e t [] = refl
 read_chain_quiet f e t (slot ∷ more) = let h = read_chain_quiet f e t more in omega (arith, h)
 
 indexed_quiet : (o : Option ℤ) (all : List Slot) (f : Spot) (x : Lifted L.Expr) → Quiet x → Quiet (indexed_by o all f x)
-unfolding meaning_words
+unfolding meaning_definitions
 indexed_quiet (Some v) all f x h = refl
 indexed_quiet None all f x h = stored_quiet x.before (read_chain f x.phrase x.next all) h (read_chain_quiet f x.phrase x.next all)
 
@@ -60,17 +60,17 @@ more_prints : (l p : ℕ) → suc l * p ≡ p + l * p
 more_prints l p = omega arith
 
 turn_prints : (g : Bool) (before : L.Commands) (c : L.Command) (more : L.Commands) → prints_in_all before ≡ 0 → prints_in_all (form.in_turn g before c more) ≡ prints_in c + prints_in_all more
-unfolding meaning_words
+unfolding meaning_definitions
 turn_prints true before c more h = let e = front_prints before c h in omega (arith, e)
 turn_prints false before c more h = let e = both_print before (L.MoreCommand c more) in omega (arith, e, h)
 
 guard_prints : (g : Bool) (c : L.Command) → prints_in (form.guard g c) ≡ prints_in c
-unfolding meaning_words
+unfolding meaning_definitions
 guard_prints true c = omega arith
 guard_prints false c = refl
 
 visits_print : (g later : Bool) (test : Slot → ℕ → Lifted L.Cond) (body : Slot → ℕ → Made) (p : ℕ) → ((slot : Slot) (m : ℕ) → Quiet (test slot m)) → ((slot : Slot) (m : ℕ) → prints_in (body slot m).command ≡ p) → (all : List Slot) (m : ℕ) → prints_in_all (visits g later test body all m).commands ≡ length all * p
-unfolding meaning_words
+unfolding meaning_definitions
 visits_print g later test body p h k [] m = omega arith
 visits_print g later test body p h k (slot ∷ more) m =
     let b = test slot m in
@@ -87,14 +87,14 @@ no_prints : (l : ℕ) → l * 0 ≡ 0
 no_prints l = omega arith
 
 counted_quiet : (test : Slot → ℕ → Lifted L.Cond) (term : Slot → L.Expr) (all : List Slot) (n : ℕ) → ((slot : Slot) (m : ℕ) → Quiet (test slot m)) → Quiet (counted test term all n)
-unfolding meaning_words
+unfolding meaning_definitions
 counted_quiet test term all n h =
     let v = visits_print false false test (λ slot m. record { command = L.Assign (temp.Fresh n) (L.Sum (L.MoreExpr (fresh n) (L.MoreExpr (term slot) L.NoExpr))); next = m }) 0 h (λ slot m. refl) all (suc n) in
     let z = no_prints (length all) in
     omega (arith, v, z)
 
 mutual
-  unfolding meaning_words
+  unfolding meaning_definitions
 
   expr_quiet : (w : Context) (e : Expr) (n : ℕ) → Quiet (lift w e n)
   expr_quiet w (Literal v) n = refl
@@ -110,54 +110,54 @@ mutual
 
   exprs_quiet : (w : Context) (es : Exprs) (n : ℕ) → Quiet (lift_all w es n)
   exprs_quiet w NoExpr n = refl
-  exprs_quiet w (MoreExpr e es) n = joined_quiet L.MoreExpr (lift w e n) (lift_all w es) (expr_quiet w e n) (exprs_quiet w es)
+  exprs_quiet w (MoreExpr e es) n = combined_quiet L.MoreExpr (lift w e n) (lift_all w es) (expr_quiet w e n) (exprs_quiet w es)
 
   test_quiet : (w : Context) (t : Test) (n : ℕ) → Quiet (lift_test w t n)
   test_quiet w True n = refl
   test_quiet w (Not c) n = cond_quiet w c n
-  test_quiet w (Comparison op a b) n = joined_quiet (L.Comparison op) (lift w a n) (lift w b) (expr_quiet w a n) (expr_quiet w b)
+  test_quiet w (Comparison op a b) n = combined_quiet (L.Comparison op) (lift w a n) (lift w b) (expr_quiet w a n) (expr_quiet w b)
 
   cond_quiet : (w : Context) (c : Cond) (n : ℕ) → Quiet (lift_cond w c n)
   cond_quiet w NoTest n = refl
-  cond_quiet w (MoreTest t c) n = joined_quiet L.MoreTest (lift_test w t n) (lift_cond w c) (test_quiet w t n) (cond_quiet w c)
+  cond_quiet w (MoreTest t c) n = combined_quiet L.MoreTest (lift_test w t n) (lift_cond w c) (test_quiet w t n) (cond_quiet w c)
 
 -- ---- commands that print nothing
 write_chain_quiet : (f : Spot) (i e : L.Expr) (all : List Slot) → prints_in (write_chain f i e all) ≡ 0
-unfolding meaning_words
+unfolding meaning_definitions
 write_chain_quiet f i e [] = refl
 write_chain_quiet f i e (slot ∷ more) = let h = write_chain_quiet f i e more in omega (arith, h)
 
 write_quiet : (b : Spot) (o : ℕ) (e : Lifted L.Expr) → Quiet e → prints_in (form.write_to b o e).command ≡ 0
-unfolding meaning_words
+unfolding meaning_definitions
 write_quiet b o e h = front_prints e.before (form.guarded b o e.phrase) h
 
 at_quiet : (o : Option Slot) (f : Spot) (n : ℕ) (y : ℕ → Lifted L.Expr) → ((m : ℕ) → Quiet (y m)) → prints_in (write_at o f n y).command ≡ 0
-unfolding meaning_words
+unfolding meaning_definitions
 at_quiet None f n y h = refl
 at_quiet (Some slot) f n y h = write_quiet f _ (y n) (h n)
 
 by_quiet : (o : Option ℤ) (all : List Slot) (f : Spot) (x : Lifted L.Expr) (y : ℕ → Lifted L.Expr) → Quiet x → ((m : ℕ) → Quiet (y m)) → prints_in (write_by o all f x y).command ≡ 0
-unfolding meaning_words
+unfolding meaning_definitions
 by_quiet (Some v) all f x y h k = at_quiet (slot_at v all) f x.next y k
 by_quiet None all f x y h k =
     let chain = write_chain_quiet f x.phrase (y x.next).phrase all in
-    let front = front_prints (both x.before (y x.next).before) (L.If (form.within f (y x.next).phrase L.NoTest) (write_chain f x.phrase (y x.next).phrase all) L.Skip) (joined_quiet pair x y h k) in
+    let front = front_prints (both x.before (y x.next).before) (L.If (form.within f (y x.next).phrase L.NoTest) (write_chain f x.phrase (y x.next).phrase all) L.Skip) (combined_quiet pair x y h k) in
     omega (arith, chain, front)
 
 values_quiet : (w : Context) (ds : List Declared) (fs : List FieldValue) (n : ℕ) → Quiet (lift_values w ds fs n)
-unfolding meaning_words
+unfolding meaning_definitions
 values_quiet w ds [] n = refl
 values_quiet w ds (f ∷ fs) n =
-    joined_quiet ◌∷◌ (form.stored (spot ds f.field.name) (lift w f.value n)) (lift_values w ds fs)
+    combined_quiet ◌∷◌ (form.stored (spot ds f.field.name) (lift w f.value n)) (lift_values w ds fs)
     (stored_quiet (lift w f.value n).before (L.Assign (temp.Fresh (lift w f.value n).next) (lift w f.value n).phrase) (expr_quiet w f.value n) refl) (values_quiet w ds fs)
 
 writes_quiet : (slot : Slot) (xs : List Target) (cs : L.Commands) → prints_in_all cs ≡ 0 → prints_in_all (field_writes slot xs cs) ≡ 0
-unfolding meaning_words
+unfolding meaning_definitions
 writes_quiet slot [] cs h = h
 writes_quiet slot (t ∷ ts) cs h = let k = writes_quiet slot ts cs h in omega (arith, k)
 
 fill_chain_quiet : (xs : List Target) (t : ℕ) (all : List Slot) → prints_in (fill_chain xs t all) ≡ 0
-unfolding meaning_words
+unfolding meaning_definitions
 fill_chain_quiet xs t [] = refl
 fill_chain_quiet xs t (slot ∷ more) =
     let h = fill_chain_quiet xs t more in
@@ -165,14 +165,14 @@ fill_chain_quiet xs t (slot ∷ more) =
     omega (arith, h, k)
 
 insert_quiet : (w : Context) (ds : List Declared) (fs : List FieldValue) (all : List Slot) (t n : ℕ) → prints_in (form.inserted all t (lift_values w ds fs n)).command ≡ 0
-unfolding meaning_words
+unfolding meaning_definitions
 insert_quiet w ds fs all t n =
     let x : Lifted (List Target) = lift_values w ds fs n in
     let chain = fill_chain_quiet x.phrase t all in
     stored_quiet x.before (L.If (all_within x.phrase) (fill_chain x.phrase t all) (L.Assign (temp.Named t) (L.Literal (pos 0)))) (values_quiet w ds fs n) (omega (arith, chain))
 
 loop_quiet : (w : Context) (r q : ℕ) (c : Cond) (body : Slot → ℕ → Made) (n : ℕ) → ((slot : Slot) (m : ℕ) → prints_in (body slot m).command ≡ 0) → prints_in (form.loop w r q c false body n).command ≡ 0
-unfolding meaning_words
+unfolding meaning_definitions
 loop_quiet w r q c body n h =
     visits_print false false (λ slot. lift_cond (bind w r slot) c) body 0 (λ slot m. cond_quiet (bind w r slot) c m) h (slots w q) n ∙ no_prints (length (slots w q))
 
@@ -203,7 +203,7 @@ module _ (x : Setting) where
   HasSlots w = (q : ℕ) → x.slots q ≡ slots w q
 
   mutual
-    unfolding meaning_words
+    unfolding meaning_definitions
 
     command_exact : (w : Context) (h : HasSlots w) (c : Command) (n : ℕ) → prints_in (form.form w c n).command ≡ exact c
     command_exact w h Skip n = refl
@@ -239,7 +239,7 @@ module _ (x : Setting) where
       again p = omega (arith, clamps)
 
   mutual
-    unfolding words
+    unfolding definitions
 
     command_capped : (c : Command) → prints x c ≡ print_cap (exact c)
     command_capped Skip = refl
@@ -274,29 +274,29 @@ module _ (x : Setting) where
 
   -- ---- what stands round a body that can end its call
   saves_print : (n : ℕ) (xs : List ℕ) (more : L.Commands) → prints_in_all (form.saves n xs more) ≡ prints_in_all more
-  unfolding meaning_words
+  unfolding meaning_definitions
   saves_print n [] more = refl
   saves_print n (o ∷ xs) more = let e = saves_print (suc n) xs more in omega (arith, e)
 
   restores_print : (n : ℕ) (xs : List ℕ) → prints_in_all (form.restores n xs) ≡ 0
-  unfolding meaning_words
+  unfolding meaning_definitions
   restores_print n [] = refl
   restores_print n (o ∷ xs) = let e = restores_print (suc n) xs in omega (arith, e)
 
   undoing_prints : (saved : List ℕ) (body : L.Commands) → prints_in (form.undoing saved body) ≡ prints_in_all body
-  unfolding meaning_words
+  unfolding meaning_definitions
   undoing_prints saved body =
       let e = saves_print 1 saved (L.MoreCommand (L.Seq body) (one (form.undo saved))) in
       let f = restores_print 1 saved in
       omega (arith, e, f)
 
   body_exact : (w : Context) (h : HasSlots w) (b : Bool) (cs : Commands) → prints_in (form.body_by b w cs) ≡ exact_all cs
-  unfolding meaning_words
+  unfolding meaning_definitions
   body_exact w h false cs = commands_exact w h false cs 0
   body_exact w h true cs =
       let saved : List ℕ = form.saved_in w cs in
       undoing_prints saved (form.forms w false cs (1 + length saved)).commands ∙ commands_exact w h false cs (1 + length saved)
 
   pub body_prints : (w : Context) (h : HasSlots w) (cs : Commands) → all_prints x cs 0 ≡ print_cap (prints_in (form.body_by (hold_abort cs) w cs))
-  unfolding words meaning_words
+  unfolding definitions meaning_definitions
   body_prints w h cs = commands_capped cs 0 ∙ ap print_cap (zero_plus (exact_all cs) ∙ sym (body_exact w h (hold_abort cs) cs))

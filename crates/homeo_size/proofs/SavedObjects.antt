@@ -1,29 +1,29 @@
 -- The objects that the pass tells are those that the L form of a body writes.
 use Rattle.std.proofs.Common.{◌≡◌, ℕ, false, List, [], ◌∷◌, ℤ, Option, Some, None, refl, ap, ◌∙◌}
 use Rattle.homeo_syntax.specs.Source.{Expr, Literal, Name, Read, Sum, Product, Neg, Field, Row, Count, Total, FieldValue, Command, Commands, Skip, Assign, Write, Print, If, Block, SetField, SetRow, Foreach, Insert, Delete, Update, Abort, NoCommand, MoreCommand}
-use Rattle.homeo_meaning.specs.Key.{words as meaning_words}
+use Rattle.homeo_meaning.specs.Key.{definitions as meaning_definitions}
 use Rattle.homeo_meaning.specs.Context.{Spot, Slot, Context, spot, slots, fields, bind, slot_at}
 use Rattle.homeo_meaning.specs.Schema.{Declared}
 use Rattle.homeo_meaning.specs.LForm.{saved_in}
 use Rattle.homeo_lform.specs.SourceWrites as source
 use Rattle.homeo_lform.proofs.Written.{forms_written}
-use Rattle.homeo_size.specs.inner.Key.{words}
+use Rattle.homeo_size.specs.inner.Key.{definitions}
 use Rattle.homeo_size.specs.inner.Sizing.{literal_in, missing, missing_at}
 use Rattle.homeo_size.specs.inner.Writing.{at_each, at_slot, by_index, put_cell, put_field, put_used, put_filled, writes, all_writes}
 use Rattle.homeo_size.proofs.LiftedPhrases.{setting_for}
 
 zero_same : (o : Option Slot) → source.absent_zero o ≡ missing o
-unfolding words meaning_words
+unfolding definitions meaning_definitions
 zero_same None = refl
 zero_same (Some slot) = refl
 
 field_same : (o : Option ℤ) (all : List Slot) → source.given_field o all ≡ missing_at o all
-unfolding words meaning_words
+unfolding definitions meaning_definitions
 field_same None all = refl
 field_same (Some v) all = zero_same (slot_at v all)
 
 given_same : (n : ℕ) (w : Context) (e : Expr) → source.given w e ≡ literal_in (setting_for n w) e
-unfolding words meaning_words
+unfolding definitions meaning_definitions
 given_same n w (Literal v) = refl
 given_same n w (Name t) = refl
 given_same n w (Read o) = refl
@@ -36,28 +36,28 @@ given_same n w (Count r q b) = refl
 given_same n w (Total r f q b) = refl
 
 each_same : (f g : Slot → List ℕ → List ℕ) → ((slot : Slot) (xs : List ℕ) → f slot xs ≡ g slot xs) → (all : List Slot) (xs : List ℕ) → source.at_each f all xs ≡ at_each g all xs
-unfolding words meaning_words
+unfolding definitions meaning_definitions
 each_same f g h [] xs = refl
 each_same f g h (slot ∷ more) xs = ap (source.at_each f more) (h slot xs) ∙ each_same f g h more (g slot xs)
 
 slot_same : (o : Option Slot) (f : Spot) (xs : List ℕ) → source.at_slot o f xs ≡ at_slot o f xs
-unfolding words meaning_words
+unfolding definitions meaning_definitions
 slot_same None f xs = refl
 slot_same (Some slot) f xs = refl
 
 index_same : (o : Option ℤ) (all : List Slot) (f : Spot) (xs : List ℕ) → source.by_index o all f xs ≡ by_index o all f xs
-unfolding words meaning_words
+unfolding definitions meaning_definitions
 index_same (Some v) all f xs = slot_same (slot_at v all) f xs
 index_same None all f xs = each_same _ (put_cell f) (λ slot ys. refl) all xs
 
 filled_same : (ds : List Declared) (fs : List FieldValue) (slot : Slot) (xs : List ℕ) → source.filled ds fs slot xs ≡ put_filled ds fs slot xs
-unfolding words meaning_words
+unfolding definitions meaning_definitions
 filled_same ds [] slot xs = refl
 filled_same ds (f ∷ fs) slot xs = filled_same ds fs slot _
 
 module _ (n : ℕ) where
   mutual
-    unfolding words meaning_words
+    unfolding definitions meaning_definitions
 
     writes_same : (w : Context) (c : Command) (xs : List ℕ) → source.writes w c xs ≡ writes (setting_for n w) c xs
     writes_same w Skip xs = refl
@@ -81,5 +81,5 @@ module _ (n : ℕ) where
     all_same w (MoreCommand c cs) xs = all_same w cs (source.writes w c xs) ∙ ap (all_writes (setting_for n w) cs) (writes_same w c xs)
 
 pub saved_same : (n : ℕ) (w : Context) (cs : Commands) → saved_in w cs ≡ all_writes (setting_for n w) cs []
-unfolding words meaning_words
+unfolding definitions meaning_definitions
 saved_same n w cs = forms_written w false cs 0 [] ∙ all_same n w cs []

@@ -3,13 +3,13 @@ use Rattle.std.proofs.Common.{◌≡◌, ℕ, ◌+◌, ◌*◌, max, Bool, true,
 use Rattle.std.proofs.Math.Nat.{mul_assoc, one-mul, mul-one}
 use Rattle.std.proofs.lemmas.Int.{clamps}
 use Rattle.homeo_syntax.specs.Low.{Expr, Exprs, Literal, OfTemp, Read, Sum, Product, Neg, NoExpr, MoreExpr, Test, Cond, True, Not, Comparison, NoTest, MoreTest, Command, Commands, Skip, Assign, Write, Print, Seq, If, NoCommand, MoreCommand}
-use Rattle.homeo_meaning.specs.Key.{words as meaning_words}
+use Rattle.homeo_meaning.specs.Key.{definitions as meaning_definitions}
 use Rattle.homeo_meaning.specs.LowMeaning.{Location, TempAt, location_of, put, same_location}
 use Rattle.homeo_meaning.specs.LowSizes as low
 use Rattle.homeo_meaning.specs.LowSizes.{extent, extent_all, test_extent, tests_extent, cond_extent, after, after_all, command_extent, commands_extent, rows, rows_all}
 use Rattle.homeo_meaning.specs.LowWeights as heavy
 use Rattle.homeo_meaning.specs.LowWeights.{weight, sum_weight, product_weight}
-use Rattle.homeo_size.specs.inner.Key.{words}
+use Rattle.homeo_size.specs.inner.Key.{definitions}
 use Rattle.homeo_size.specs.inner.Numbers.{cap, weight_cap}
 use Rattle.homeo_size.specs.inner.Parts.{beside, plus, times, around, summed, greater, written, valued, writing, chosen, followed, none}
 use Rattle.homeo_size.specs.declared.extent.Extent.{Extent}
@@ -27,34 +27,34 @@ told_measure e w rows = record { size = cap e.size; depth = cap e.depth; weight 
 
 -- ---- extents
 told_beside : (a b : low.Extent) (m n : ℕ) → beside (told a m) (told b n) ≡ told (low.beside a b) (max m n)
-unfolding words
+unfolding definitions
 told_beside a b m n = λ i. record { size = cap_sum 8000001 a.size b.size i; depth = cap_max 8000001 a.depth b.depth i; weight = cap_max 1000000000000000001 m n i }
 
 told_plus : (a b : low.Extent) (m n : ℕ) → plus (told a m) (told b n) ≡ told (low.beside a b) (m + n)
-unfolding words
+unfolding definitions
 told_plus a b m n = λ i. record { size = cap_sum 8000001 a.size b.size i; depth = cap_max 8000001 a.depth b.depth i; weight = cap_sum 1000000000000000001 m n i }
 
 told_times : (a b : low.Extent) (m n : ℕ) → times (told a m) (told b n) ≡ told (low.beside a b) (m * n)
-unfolding words
+unfolding definitions
 told_times a b m n = λ i. record { size = cap_sum 8000001 a.size b.size i; depth = cap_max 8000001 a.depth b.depth i; weight = cap_product 1000000000000000001 m n i }
 
 told_around : (a : low.Extent) (m : ℕ) → around (told a m) ≡ told (low.around a) m
-unfolding words
+unfolding definitions
 told_around a m = λ i. record { size = cap_more 8000001 1 a.size i; depth = cap_more 8000001 1 a.depth i; weight = weight_cap m }
 
 one_weight : (m : ℕ) → max 1 (weight_cap m) ≡ weight_cap (max 1 m)
 one_weight m = omega (arith, clamps)
 
 told_summed : (a : low.Extent) (m : ℕ) → summed (told a m) ≡ told (low.around a) (max 1 m)
-unfolding words
+unfolding definitions
 told_summed a m = λ i. record { size = cap_more 8000001 1 a.size i; depth = cap_more 8000001 1 a.depth i; weight = one_weight m i }
 
 told_greater : (a b : low.Extent) (m n : ℕ) → greater (told a m) (told b n) ≡ told (low.greater a b) (max m n)
-unfolding words
+unfolding definitions
 told_greater a b m n = λ i. record { size = cap_max 8000001 a.size b.size i; depth = cap_max 8000001 a.depth b.depth i; weight = cap_max 1000000000000000001 m n i }
 
 told_written : (sites : ℕ) (e : low.Extent) (m : ℕ) → written sites (told e m) ≡ told (low.written sites e) m
-unfolding words
+unfolding definitions
 told_written sites e m = λ i. record { size = cap_plus 8000001 e.size (3 * sites + 2) i; depth = cap_plus 8000001 e.depth 3 i; weight = weight_cap m }
 
 told_same : (a b : low.Extent) (m n : ℕ) → a ≡ b → m ≡ n → told a m ≡ told b n
@@ -71,11 +71,11 @@ beside_assoc a b c = λ i. record { size = plus_assoc a.size b.size c.size i; de
 
 -- ---- measures
 told_valued : (e : low.Extent) (m : ℕ) → valued (told e m) ≡ told_measure (low.beside (low.flat 1) e) m 1
-unfolding words
+unfolding definitions
 told_valued e m = λ i. record { size = cap_more 8000001 1 e.size i; depth = ap cap (sym (zero_max e.depth)) i; weight = weight_cap m; rows = 1 }
 
 told_writing : (sites : ℕ) (e : low.Extent) (m : ℕ) → writing sites (told e m) ≡ told_measure (low.beside (low.flat (3 * sites + 3)) e) m 1
-unfolding words
+unfolding definitions
 told_writing sites e m = λ i. record { size = cap_more 8000001 (3 * sites + 3) e.size i; depth = ap cap (sym (zero_max e.depth)) i; weight = weight_cap m; rows = 1 }
 
 three_sum : (c a b d : ℕ) → c ≡ 8000001 → cap (2 + (cap a + (cap b + cap d))) ≡ cap (2 + (a + (b + d)))
@@ -88,7 +88,7 @@ chosen_weight : (a b d : ℕ) → max (weight_cap a) (max (weight_cap b) (weight
 chosen_weight a b d = omega (arith, clamps)
 
 told_chosen : (t c d : low.Extent) (k m n p q : ℕ) → chosen (told t k) (told_measure c m p) (told_measure d n q) ≡ told_measure (low.beside (low.flat 2) (low.beside t (low.beside c d))) (max k (max m n)) (p + q)
-unfolding words
+unfolding definitions
 told_chosen t c d k m n p q = λ i. record {
   size = three_sum 8000001 t.size c.size d.size refl i;
   depth = chosen_max 0 t.depth c.depth d.depth i;
@@ -97,7 +97,7 @@ told_chosen t c d k m n p q = λ i. record {
 }
 
 told_followed : (a c : low.Extent) (k l m n : ℕ) → followed (told_measure a k m) (told_measure c l n) ≡ told_measure (low.beside a c) (max k l) (m * n)
-unfolding words
+unfolding definitions
 told_followed a c k l m n = λ i. record {
   size = cap_sum 8000001 a.size c.size i;
   depth = cap_max 8000001 a.depth c.depth i;
@@ -113,7 +113,7 @@ abbrev pub Tells : Extents → (Location → low.Extent) → (Location → ℕ) 
 Tells v e w = (p : Location) → v p ≡ told (e p) (w p)
 
 put_told : (v : Extents) (e : Location → low.Extent) (w : Location → ℕ) (p : Location) (x : Extent) (a : low.Extent) (m : ℕ) → Tells v e w → x ≡ told a m → Tells (put v p x) (put e p a) (put w p m)
-unfolding meaning_words
+unfolding meaning_definitions
 put_told v e w p x a m h k q = go (same_location p q)
   where
     go : (b : Bool) → cond b x (v q) ≡ told (cond b a (e q)) (cond b m (w q))
@@ -121,7 +121,7 @@ put_told v e w p x a m h k q = go (same_location p q)
     go false = h q
 
 mutual
-  unfolding words meaning_words
+  unfolding definitions meaning_definitions
 
   pub expr_told : (x : Expr) (v : Extents) (e : Location → low.Extent) (w : Location → ℕ) → Tells v e w → low_sized x v ≡ told (extent x e) (weight x w)
   expr_told (Literal n) v e w h = refl
@@ -150,7 +150,7 @@ mutual
       ∙ told_same (low.beside (low.beside a (extent x e)) (extent_all es e)) (low.beside a (low.beside (extent x e) (extent_all es e))) ((m * weight x w) * product_weight es w) (m * (weight x w * product_weight es w)) (beside_assoc a (extent x e) (extent_all es e)) (mul_assoc m (weight x w) (product_weight es w))
 
 mutual
-  unfolding words meaning_words
+  unfolding definitions meaning_definitions
 
   test_told : (t : Test) (v : Extents) (e : Location → low.Extent) (w : Location → ℕ) → Tells v e w → low_test t v ≡ told (test_extent t e) (heaviest_test t w)
   test_told True v e w h = refl
@@ -169,14 +169,14 @@ mutual
       ∙ told_same (low.beside (low.beside a (test_extent t e)) (tests_extent c e)) (low.beside a (low.beside (test_extent t e) (tests_extent c e))) (max (max m (heaviest_test t w)) (heaviest_tests c w)) (max m (max (heaviest_test t w) (heaviest_tests c w))) (beside_assoc a (test_extent t e) (tests_extent c e)) (max_assoc m (heaviest_test t w) (heaviest_tests c w))
 
 cond_told : (c : Cond) (v : Extents) (e : Location → low.Extent) (w : Location → ℕ) → Tells v e w → low_cond c v ≡ told (cond_extent c e) (heaviest_tests c w)
-unfolding words meaning_words
+unfolding definitions meaning_definitions
 cond_told c v e w h =
     ap around (tests_told c v e w h (low.flat 0) 0 ∙ told_same (low.beside (low.flat 0) (tests_extent c e)) (tests_extent c e) (max 0 (heaviest_tests c w)) (heaviest_tests c w) (nothing_beside (tests_extent c e)) (zero_max (heaviest_tests c w)))
     ∙ told_around (tests_extent c e) (heaviest_tests c w)
 
 module _ (sites : ℕ) where
   mutual
-    unfolding words meaning_words
+    unfolding definitions meaning_definitions
 
     after_told : (c : Command) (v : Extents) (e : Location → low.Extent) (w : Location → ℕ) → Tells v e w → Tells (low_after sites c v) (after sites c e) (heavy.after c w)
     after_told Skip v e w h = h
@@ -194,7 +194,7 @@ module _ (sites : ℕ) where
         all_after_told cs (low_after sites c v) (after sites c e) (heavy.after c w) (after_told c v e w h)
 
   mutual
-    unfolding words meaning_words
+    unfolding definitions meaning_definitions
 
     pub measured_told : (c : Command) (v : Extents) (e : Location → low.Extent) (w : Location → ℕ) → Tells v e w → low_measured sites c v ≡ told_measure (command_extent sites c e) (heaviest c w) (rows c)
     measured_told Skip v e w h = refl

@@ -5,13 +5,13 @@ use Rattle.homeo_syntax.specs.declared.low.Temp.TheVariants as temp
 use Rattle.homeo_syntax.specs.declared.low.SplitName.TheVariants as split
 use Rattle.homeo_syntax.specs.Low as L
 use Rattle.homeo_syntax.specs.Source.{Commands}
-use Rattle.homeo_meaning.specs.Key.{words as meaning_words}
+use Rattle.homeo_meaning.specs.Key.{definitions as meaning_definitions}
 use Rattle.homeo_meaning.specs.Aborts.{hold_abort}
 use Rattle.homeo_meaning.specs.Context.{Context}
 use Rattle.homeo_meaning.specs.LForm as form
 use Rattle.homeo_meaning.specs.LForm.{forms, saved_in, body_by}
 use Rattle.homeo_meaning.specs.LowMeaning.{TempAt, BaseAt, put}
-use Rattle.homeo_size.specs.inner.Key.{words}
+use Rattle.homeo_size.specs.inner.Key.{definitions}
 use Rattle.homeo_size.specs.inner.Measuring.{all_measured}
 use Rattle.homeo_size.specs.inner.Parts.{literal, single, nothing, beside, compared, around, empty, valued, writing, chosen, none, with_one}
 use Rattle.homeo_size.specs.inner.Sizing.{Sizes, Setting}
@@ -31,17 +31,17 @@ module _ (sites : ℕ) where
 
   -- the extents where the objects xs are saved, the first of them in the fresh temporary n
   abbrev saved_state : ℕ → List ℕ → Extents → Extents
-  unfolding meaning_words
+  unfolding meaning_definitions
   saved_state n [] v = v
   saved_state n (x ∷ xs) v = saved_state (suc n) xs (put v (TempAt (temp.Fresh n)) (v (BaseAt x)))
 
   saves_tell : (n : ℕ) (xs : List ℕ) (more : L.Commands) (v : Extents) (b : Before) → low_measured_all sites (form.saves n xs more) v b ≡ low_measured_all sites more (saved_state n xs v) (saves_measured (seen v) xs b)
-  unfolding words meaning_words
+  unfolding definitions meaning_definitions
   saves_tell n [] more v b = refl
   saves_tell n (x ∷ xs) more v b = saves_tell (suc n) xs more (put v (TempAt (temp.Fresh n)) (v (BaseAt x))) (with_one b (valued (v (BaseAt x))))
 
   saved_alike : (n : ℕ) (xs : List ℕ) (v : Extents) → Alike n v (saved_state n xs v)
-  unfolding words meaning_words
+  unfolding definitions meaning_definitions
   saved_alike n [] v = alike_self n v
   saved_alike n (x ∷ xs) v =
       let a = put v (TempAt (temp.Fresh n)) (v (BaseAt x)) in
@@ -53,7 +53,7 @@ module _ (sites : ℕ) where
   Saved n (x ∷ xs) s u = (at_fresh n u ≡ s.objects x) × Saved (suc n) xs s u
 
   saves_all : (n : ℕ) (xs : List ℕ) (v : Extents) → Saved n xs (seen v) (saved_state n xs v)
-  unfolding words meaning_words
+  unfolding definitions meaning_definitions
   saves_all n [] v = tt
   saves_all n (x ∷ xs) v =
       let a = put v (TempAt (temp.Fresh n)) (v (BaseAt x)) in
@@ -65,7 +65,7 @@ module _ (sites : ℕ) where
       (h n (omega (arith, le)) ∙ k.0, saved_kept (suc n) m xs s v u (omega (arith, le)) h k.1)
 
   restores_tell : (n : ℕ) (xs : List ℕ) (s : Sizes) (u : Extents) (b : Before) → Saved n xs s u → low_measured_all sites (form.restores n xs) u b ≡ restores_measured sites s xs b
-  unfolding words meaning_words
+  unfolding definitions meaning_definitions
   restores_tell n [] s u b k = refl
   restores_tell n (x ∷ xs) s u b k =
       restores_tell (suc n) xs s (low_after sites (L.Write (split.Whole x) (form.fresh n)) u) (with_one b (writing sites (at_fresh n u))) (saved_kept (suc n) (suc n + length xs) xs s u (low_after sites (L.Write (split.Whole x) (form.fresh n)) u) (omega arith) (λ j lt. refl) k.1)
@@ -73,12 +73,12 @@ module _ (sites : ℕ) where
 
   -- the test of the flag
   flag_up : (u : Extents) → at_fresh 0 u ≡ single → low_tests (form.one_test (form.equal form.flag (pos 1))) u nothing ≡ beside nothing (compared single (literal (pos 1)))
-  unfolding words meaning_words
+  unfolding definitions meaning_definitions
   flag_up u e = ap (λ x. beside nothing (compared x (literal (pos 1)))) e
 
   undoing_is : (w : Context) (saved : List ℕ) (cs : Commands) (v : Extents) (y : Store) → hold_abort cs ≡ true → seen v ≡ y.sizes
       → low_measured sites (form.undoing saved (forms w false cs (1 + length saved)).commands) v ≡ undoing sites y.sizes saved (all_measured (se w) false cs y none).all
-  unfolding words meaning_words
+  unfolding definitions meaning_definitions
   undoing_is w saved cs v y some h =
       ap (λ (b : Before). b.all) (saves_tell 1 saved (L.MoreCommand (L.Seq commands) (form.one (form.undo saved))) v0 (with_one none (valued (literal (pos 0)))))
       ∙ (λ i. (with_one (with_one (saves_measured (h i) saved (with_one none (valued (literal (pos 0))))) (body i)) (chosen (around (flag i)) (undoes i).all empty)).all)
@@ -121,7 +121,7 @@ module _ (sites : ℕ) where
 
   -- the L form of a body
   pub body_is : (b : Bool) (w : Context) (cs : Commands) (v : Extents) (y : Store) → hold_abort cs ≡ b → seen v ≡ y.sizes → low_measured sites (body_by b w cs) v ≡ body_measured b (se w) cs y
-  unfolding words meaning_words
+  unfolding definitions meaning_definitions
   body_is false w cs v y none_held h =
       ap (λ (b : Before). b.all) ((forms_do sites false w false cs 0 v y (none_ends false) (λ e. sym none_held ∙ e) (record { room = λ e. absurd (false≢true e); flag = λ e. absurd (false≢true e) }) h).tells none)
   body_is true w cs v y some h =

@@ -5,13 +5,13 @@ use Rattle.homeo_syntax.specs.declared.low.Temp.TheVariants as temp
 use Rattle.homeo_syntax.specs.declared.low.SplitName.TheVariants as split
 use Rattle.homeo_syntax.specs.Low as L
 use Rattle.homeo_syntax.specs.Source.{FieldValue}
-use Rattle.homeo_meaning.specs.Key.{words as meaning_words}
+use Rattle.homeo_meaning.specs.Key.{definitions as meaning_definitions}
 use Rattle.homeo_meaning.specs.Schema.{Declared}
 use Rattle.homeo_meaning.specs.Context.{Spot, Slot, Context, spot, cell, slot_at}
 use Rattle.homeo_meaning.specs.LowMeaning.{BaseAt, put}
 use Rattle.homeo_meaning.specs.LForm as form
 use Rattle.homeo_meaning.specs.LForm.{Lifted, Pair, pair, one, fresh, read, equal, within, write_to, write_chain, write_at, write_by, Target, stored, lift, lift_values, all_within, field_writes, fill_chain}
-use Rattle.homeo_size.specs.inner.Key.{words}
+use Rattle.homeo_size.specs.inner.Key.{definitions}
 use Rattle.homeo_size.specs.inner.Measuring.{Filled, chain_raised, slot_raised, field_raised, chain_writing, slot_writing, field_writing, values_lifted, fillings, filled_tests, fields_writing, chain_filling, into_sized, fields_filled, slot_filled, chain_filled, inserted, inserting}
 use Rattle.homeo_size.specs.inner.Parts.{literal, nothing, around, greater, written, empty, valued, writing, chosen, none, with_one, placed, within_tests, is_equal, guarded}
 use Rattle.homeo_size.specs.inner.Sizing.{Sizes, sized, lifted}
@@ -22,7 +22,7 @@ use Rattle.homeo_size.specs.declared.extents.Entry.TheVariants.{Object, Temp}
 use Rattle.homeo_size.specs.declared.measures.Before.{Before}
 use Rattle.homeo_size.specs.declared.measures.Measure.{Measure}
 use Rattle.homeo_size.proofs.Branching.{greater_same, greater_turned, greater_moved, greater_sizes, same_entry, same_is, entry_changed, each_entry, entry_greater, Keeps, keeps_self, keeps_then, set_keeps, closes}
-use Rattle.homeo_size.proofs.Lifting.{seen, at_fresh, Lifts, after_both, measured_both, after_front, measured_front, alike_self, plain_lifts, joined_lifts, stored_lifts}
+use Rattle.homeo_size.proofs.Lifting.{seen, at_fresh, Lifts, after_both, measured_both, after_front, measured_front, alike_self, plain_lifts, combined_lifts, stored_lifts}
 use Rattle.homeo_size.proofs.LiftedPhrases.{setting_for, lifts}
 use Rattle.homeo_size.proofs.Low.{Extents, low_sized, low_tests, low_cond, low_after, low_after_all, low_measured, low_measured_all}
 
@@ -110,7 +110,7 @@ pub record Does (sites : ℕ) (c : L.Command) (v : Extents) (y z : Store) (m : M
 module _ (sites : ℕ) where
   -- a lifting in front of a command
   pub placed_does : {A R : Type 0} (at : A → Extents → R) (r : Sizes → R) (counts : Sizes → Before → Before) (f : A → L.Command) (g : R → Store → Store) (m : R → Measure) → ((a : A) (u : Extents) (y : Store) → seen u ≡ y.sizes → Does sites (f a) u y (g (at a u) y) (m (at a u))) → (n : ℕ) (v : Extents) (x : Lifted A) → Lifts sites n v x at r counts → (y : Store) → seen v ≡ y.sizes → Does sites (form.placed x f).command v y (g (r y.sizes) y) (placed (counts y.sizes none) (m (r y.sizes)))
-  unfolding words meaning_words
+  unfolding definitions meaning_definitions
   placed_does at r counts f g m h n v x k y e =
       let base = h x.phrase k.after y (k.alike.sees ∙ e) in
       let value = k.means k.after (alike_self x.next k.after) ∙ ap r e in
@@ -122,13 +122,13 @@ module _ (sites : ℕ) where
       }
 
   pub assign_does : (t : ℕ) (a : L.Expr) (u : Extents) (y : Store) → seen u ≡ y.sizes → Does sites (L.Assign (temp.Named t) a) u y (set_entry y (Temp t) (low_sized a u)) (valued (low_sized a u))
-  unfolding words meaning_words
+  unfolding definitions meaning_definitions
   assign_does t a u y e =
       record { sees = ap (λ s. with_entry s (Temp t) (low_sized a u)) e; tells = refl; keeps = set_keeps y (Temp t) (low_sized a u) }
 
   -- a command that may be refused: the greater of before and after stays
   pub guarded_does : (b : Spot) (x : ℕ) (a : L.Expr) (u : Extents) (y : Store) → seen u ≡ y.sizes → Does sites (form.guarded b x a) u y (raise_entry y (Object x) (written sites (low_sized a u))) (guarded sites b (low_sized a u))
-  unfolding words meaning_words
+  unfolding definitions meaning_definitions
   guarded_does b x a u y e =
       record {
         sees = ap₂ greater_sizes (ap (λ s. with_entry s (Object x) (written sites (low_sized a u))) e) e ∙ raise_above y.sizes y.sizes (Object x) (written sites (low_sized a u)) (above_self y.sizes);
@@ -137,7 +137,7 @@ module _ (sites : ℕ) where
       }
 
   pub write_does : (b : Spot) (x : ℕ) (r : Sizes → Extent) (counts : Sizes → Before → Before) (n : ℕ) (v : Extents) (e : Lifted L.Expr) → Lifts sites n v e low_sized r counts → (y : Store) → seen v ≡ y.sizes → Does sites (write_to b x e).command v y (raise_entry y (Object x) (written sites (r y.sizes))) (placed (counts y.sizes none) (guarded sites b (r y.sizes)))
-  unfolding words meaning_words
+  unfolding definitions meaning_definitions
   write_does b x r counts n v e k y h =
       placed_does low_sized r counts (form.guarded b x) (λ z y. raise_entry y (Object x) (written sites z)) (guarded sites b) (guarded_does b x) n v e k y h
 
@@ -149,7 +149,7 @@ module _ (sites : ℕ) where
     keeps : Keeps y z
 
   chain_writes : (f : Spot) (i a : L.Expr) (all : List Slot) (u : Extents) (y : Store) → seen u ≡ y.sizes → Chain u (write_chain f i a all) y (chain_raised f (written sites (low_sized a u)) all y) (chain_writing sites (low_sized i u) (low_sized a u) all)
-  unfolding words meaning_words
+  unfolding definitions meaning_definitions
   chain_writes f i a [] u y e = record { sees = e; above = above_self y.sizes; tells = refl; keeps = keeps_self y }
   chain_writes f i a (slot ∷ more) u y e =
       let k = chain_writes f i a more u y e in
@@ -164,11 +164,11 @@ module _ (sites : ℕ) where
       }
 
   abbrev pub pair_sized : Pair L.Expr → Extents → Pair Extent
-  unfolding meaning_words
+  unfolding meaning_definitions
   pair_sized p u = pair (low_sized p.index u) (low_sized p.value u)
 
   chain_does : (all : List Slot) (f : Spot) (p : Pair L.Expr) (u : Extents) (y : Store) → seen u ≡ y.sizes → Does sites (L.If (within f p.value L.NoTest) (write_chain f p.index p.value all) L.Skip) u y (chain_raised f (written sites (low_sized p.value u)) all y) (chosen (around (within_tests f (low_sized p.value u) nothing)) (chain_writing sites (low_sized p.index u) (low_sized p.value u) all) empty)
-  unfolding words meaning_words
+  unfolding definitions meaning_definitions
   chain_does all f p u y e =
       let k = chain_writes f p.index p.value all u y e in
       let z : Store = chain_raised f (written sites (low_sized p.value u)) all y in
@@ -179,20 +179,20 @@ module _ (sites : ℕ) where
       }
 
   at_does : (o : Option Slot) (f : Spot) (r : Sizes → Extent) (counts : Sizes → Before → Before) (n : ℕ) (w : ℕ → Lifted L.Expr) → ((m : ℕ) (a : Extents) → Lifts sites m a (w m) low_sized r counts) → (v : Extents) (y : Store) → seen v ≡ y.sizes → Does sites (write_at o f n w).command v y (slot_raised f (written sites (r y.sizes)) o y) (slot_writing sites f (r y.sizes) (counts y.sizes none) o)
-  unfolding words meaning_words
+  unfolding definitions meaning_definitions
   at_does None f r counts n w k v y e = record { sees = e; tells = refl; keeps = keeps_self y }
   at_does (Some slot) f r counts n w k v y e = write_does f (cell slot f) r counts n v (w n) (k n v) y e
 
   by_does : (o : Option ℤ) (all : List Slot) (f : Spot) (q r : Sizes → Extent) (before counts : Sizes → Before → Before) (n : ℕ) (x : Lifted L.Expr) (w : ℕ → Lifted L.Expr) (v : Extents) → Lifts sites n v x low_sized q before → ((m : ℕ) (a : Extents) → Lifts sites m a (w m) low_sized r counts) → (y : Store) → seen v ≡ y.sizes → Does sites (write_by o all f x w).command v y (field_raised o all f (written sites (r y.sizes)) y) (field_writing o all sites f (q y.sizes) (r y.sizes) (counts y.sizes none) (counts y.sizes (before y.sizes none)))
-  unfolding words meaning_words
+  unfolding definitions meaning_definitions
   by_does (Some k) all f q r before counts n x w v h g y e = at_does (slot_at k all) f r counts x.next w g v y e
   by_does None all f q r before counts n x w v h g y e =
       placed_does pair_sized (λ s. pair (q s) (r s)) (λ s b. counts s (before s b))
       (λ p. L.If (within f p.value L.NoTest) (write_chain f p.index p.value all) L.Skip)
       (λ p y. chain_raised f (written sites p.value) all y)
       (λ p. chosen (around (within_tests f p.value nothing)) (chain_writing sites p.index p.value all) empty)
-      (chain_does all f) n v (form.joined pair x w)
-      (joined_lifts sites pair pair low_sized low_sized pair_sized q r before counts (λ a b u. refl) n v x w h g) y e
+      (chain_does all f) n v (form.combined pair x w)
+      (combined_lifts sites pair pair low_sized low_sized pair_sized q r before counts (λ a b u. refl) n v x w h g) y e
 
   pub field_does : (o p : Option ℤ) → o ≡ p → (all : List Slot) (f : Spot) (q r : Sizes → Extent) (before counts : Sizes → Before → Before) (n : ℕ) (x : Lifted L.Expr) (w : ℕ → Lifted L.Expr) (v : Extents) → Lifts sites n v x low_sized q before → ((m : ℕ) (a : Extents) → Lifts sites m a (w m) low_sized r counts) → (y : Store) → seen v ≡ y.sizes → Does sites (write_by o all f x w).command v y (field_raised p all f (written sites (r y.sizes)) y) (field_writing p all sites f (q y.sizes) (r y.sizes) (counts y.sizes none) (counts y.sizes (before y.sizes none)))
   field_does o p same all f q r before counts n x w v h g y e =
@@ -201,23 +201,23 @@ module _ (sites : ℕ) where
 
   -- ---- inserts
   abbrev pub target_filled : Target → Extents → Filled
-  unfolding words meaning_words
+  unfolding definitions meaning_definitions
   target_filled x u = record { field = x.field; extent = at_fresh x.temp u }
 
   abbrev pub targets_filled : List Target → Extents → List Filled
-  unfolding words meaning_words
+  unfolding definitions meaning_definitions
   targets_filled [] u = []
   targets_filled (x ∷ xs) u = target_filled x u ∷ targets_filled xs u
 
   pub values_lifts : (w : Context) (ds : List Declared) (xs : List FieldValue) (n : ℕ) (v : Extents) → Lifts sites n v (lift_values w ds xs n) targets_filled (fillings (setting_for sites w) ds xs) (values_lifted (setting_for sites w) xs)
-  unfolding words meaning_words
+  unfolding definitions meaning_definitions
   values_lifts w ds [] n v = plain_lifts sites _ n v targets_filled (fillings (setting_for sites w) ds []) (λ u. refl)
   values_lifts w ds (f ∷ more) n v =
       let k = lifts sites w f.value n v in
       let x : Lifted L.Expr = lift w f.value n in
       let value : Sizes → Extent = sized (setting_for sites w) f.value in
       let is = k.means k.after (alike_self x.next k.after) in
-      joined_lifts sites ◌∷◌ ◌∷◌ target_filled targets_filled targets_filled (λ s. filling (value s)) (fillings (setting_for sites w) ds more) (λ s b. with_one (lifted (setting_for sites w) f.value s b) (valued (value s))) (values_lifted (setting_for sites w) more) (λ a b u. refl) n v
+      combined_lifts sites ◌∷◌ ◌∷◌ target_filled targets_filled targets_filled (λ s. filling (value s)) (fillings (setting_for sites w) ds more) (λ s b. with_one (lifted (setting_for sites w) f.value s b) (valued (value s))) (values_lifted (setting_for sites w) more) (λ a b u. refl) n v
       (stored (spot ds f.field.name) x) (lift_values w ds more)
       (stored_lifts sites low_sized value target_filled (λ s. filling (value s)) (lifted (setting_for sites w) f.value) (λ s. valued (value s)) n v x (L.Assign (temp.Fresh x.next) x.phrase)
       _ filling (low_sized x.phrase k.after) k refl (ap valued is) (λ u. refl) (ap filling is))
@@ -227,28 +227,28 @@ module _ (sites : ℕ) where
       filling e = record { field = spot ds f.field.name; extent = e }
 
   all_within_is : (xs : List Target) (u : Extents) (a : Extent) → low_tests (all_within xs) u a ≡ filled_tests (targets_filled xs u) a
-  unfolding words meaning_words
+  unfolding definitions meaning_definitions
   all_within_is [] u a = refl
   all_within_is (x ∷ xs) u a = all_within_is xs u (within_tests x.field (at_fresh x.temp u) a)
 
   -- a write changes no temporary
   targets_kept : (xs : List Target) (x : ℕ) (e : Extent) (u : Extents) → targets_filled xs (put u (BaseAt x) e) ≡ targets_filled xs u
-  unfolding words meaning_words
+  unfolding definitions meaning_definitions
   targets_kept [] x e u = refl
   targets_kept (t ∷ ts) x e u = ap (λ l. target_filled t u ∷ l) (targets_kept ts x e u)
 
   -- the commands that end a fill
   abbrev fill_end : Slot → ℕ → L.Commands
-  unfolding meaning_words
+  unfolding meaning_definitions
   fill_end slot t = L.MoreCommand (L.Write (split.Whole slot.used) (L.Literal (pos 1))) (one (L.Assign (temp.Named t) (L.Literal (pos (suc slot.number)))))
 
   -- how a slot is filled, where the tables are
   abbrev filled_sizes : List Filled → Slot → ℕ → Store → Sizes
-  unfolding words
+  unfolding definitions
   filled_sizes fs slot t y = with_entry (slot_filled sites fs slot y).sizes (Temp t) (literal (pos (suc slot.number)))
 
   writes_leave : (slot : Slot) (t : ℕ) (xs : List Target) (u : Extents) (y : Store) → seen u ≡ y.sizes → seen (low_after_all sites (field_writes slot xs (fill_end slot t)) u) ≡ filled_sizes (targets_filled xs u) slot t y
-  unfolding words meaning_words
+  unfolding definitions meaning_definitions
   writes_leave slot t [] u y e =
       ap (λ s. with_entry (with_entry s (Object slot.used) (written sites (literal (pos 1)))) (Temp t) (literal (pos (suc slot.number)))) e
   writes_leave slot t (x ∷ xs) u y e =
@@ -259,7 +259,7 @@ module _ (sites : ℕ) where
       ∙ ap (λ l. filled_sizes l slot t next) (targets_kept xs place value u)
 
   writes_tell : (slot : Slot) (t : ℕ) (xs : List Target) (u : Extents) (b : Before) → low_measured_all sites (field_writes slot xs (fill_end slot t)) u b ≡ with_one (with_one (fields_writing sites (targets_filled xs u) b) (writing sites (literal (pos 1)))) (valued (literal (pos (suc slot.number))))
-  unfolding words meaning_words
+  unfolding definitions meaning_definitions
   writes_tell slot t [] u b = refl
   writes_tell slot t (x ∷ xs) u b =
       let place : ℕ = cell slot x.field in
@@ -270,7 +270,7 @@ module _ (sites : ℕ) where
 
   -- filling one tables or others, below some
   fields_below : (slot : Slot) (fs : List Filled) (y z : Store) (r : Sizes) → greater_sizes y.sizes r ≡ greater_sizes z.sizes r → greater_sizes (fields_filled sites slot fs y).sizes r ≡ greater_sizes (fields_filled sites slot fs z).sizes r
-  unfolding words
+  unfolding definitions
   fields_below slot [] y z r h = h
   fields_below slot (f ∷ fs) y z r h =
       let o : Entry = Object (cell slot f.field) in
@@ -278,12 +278,12 @@ module _ (sites : ℕ) where
       fields_below slot fs (set_entry y o x) (set_entry z o x) r (changed_below y.sizes z.sizes r o x h)
 
   filled_below : (slot : Slot) (fs : List Filled) (y z : Store) (r : Sizes) → greater_sizes y.sizes r ≡ greater_sizes z.sizes r → greater_sizes (slot_filled sites fs slot y).sizes r ≡ greater_sizes (slot_filled sites fs slot z).sizes r
-  unfolding words
+  unfolding definitions
   filled_below slot fs y z r h =
       changed_below (fields_filled sites slot fs y).sizes (fields_filled sites slot fs z).sizes r (Object slot.used) (written sites (literal (pos 1))) (fields_below slot fs y z r h)
 
   fields_keep : (slot : Slot) (fs : List Filled) (y : Store) → Keeps y (fields_filled sites slot fs y)
-  unfolding words
+  unfolding definitions
   fields_keep slot [] y = keeps_self y
   fields_keep slot (f ∷ fs) y =
       let o : Entry = Object (cell slot f.field) in
@@ -291,7 +291,7 @@ module _ (sites : ℕ) where
       keeps_then y (set_entry y o x) (fields_filled sites slot fs (set_entry y o x)) (set_keeps y o x) (fields_keep slot fs (set_entry y o x))
 
   slot_keeps : (slot : Slot) (fs : List Filled) (y : Store) → Keeps y (slot_filled sites fs slot y)
-  unfolding words
+  unfolding definitions
   slot_keeps slot fs y =
       let z : Store = fields_filled sites slot fs y in
       keeps_then y z (slot_filled sites fs slot y) (fields_keep slot fs y) (set_keeps z (Object slot.used) (written sites (literal (pos 1))))
@@ -303,7 +303,7 @@ module _ (sites : ℕ) where
     keeps : Keeps y z
 
   chain_fills : (xs : List Target) (t : ℕ) (all : List Slot) (u : Extents) (y : Store) → seen u ≡ y.sizes → Fills u (fill_chain xs t all) y (chain_filled sites (targets_filled xs u) all y) t (into_sized all) (chain_filling sites (targets_filled xs u) all y.sizes)
-  unfolding words meaning_words
+  unfolding definitions meaning_definitions
   chain_fills xs t [] u y e =
       record { sees = ap (λ s. with_entry s (Temp t) (literal (pos 0))) e; above = above_self y.sizes; tells = refl; keeps = keeps_self y }
   chain_fills xs t (slot ∷ more) u y e =
@@ -328,7 +328,7 @@ module _ (sites : ℕ) where
   into_max m n h = omega (arith, clamps)
 
   into_above : (all : List Slot) → greater (into_sized all) (literal (pos 0)) ≡ into_sized all
-  unfolding words meaning_words
+  unfolding definitions meaning_definitions
   into_above [] = refl
   into_above (slot ∷ more) =
       let h = into_above more in
@@ -339,11 +339,11 @@ module _ (sites : ℕ) where
       }
 
   abbrev insert_end : List Slot → ℕ → List Target → L.Command
-  unfolding meaning_words
+  unfolding meaning_definitions
   insert_end all t xs = L.If (all_within xs) (fill_chain xs t all) (L.Assign (temp.Named t) (L.Literal (pos 0)))
 
   end_does : (all : List Slot) (t : ℕ) (xs : List Target) (u : Extents) (y : Store) → seen u ≡ y.sizes → Does sites (insert_end all t xs) u y (inserted sites (targets_filled xs u) all t y) (chosen (around (filled_tests (targets_filled xs u) nothing)) (chain_filling sites (targets_filled xs u) all y.sizes) (valued (literal (pos 0))))
-  unfolding words meaning_words
+  unfolding definitions meaning_definitions
   end_does all t xs u y e =
       let k = chain_fills xs t all u y e in
       let z : Store = chain_filled sites (targets_filled xs u) all y in
@@ -356,7 +356,7 @@ module _ (sites : ℕ) where
       }
 
   pub insert_does : (w : Context) (ds : List Declared) (xs : List FieldValue) (all : List Slot) (t n : ℕ) (v : Extents) (y : Store) → seen v ≡ y.sizes → Does sites (form.inserted all t (lift_values w ds xs n)).command v y (inserted sites (fillings (setting_for sites w) ds xs y.sizes) all t y) (inserting sites (fillings (setting_for sites w) ds xs y.sizes) all y.sizes (values_lifted (setting_for sites w) xs y.sizes none))
-  unfolding words meaning_words
+  unfolding definitions meaning_definitions
   insert_does w ds xs all t n v y e =
       let x = lift_values w ds xs n in
       let k = values_lifts w ds xs n v in

@@ -42,7 +42,7 @@ pub(crate) fn chain_writing(sites: u64, index: Extent, value: Extent, slots: &[S
 }
 
 /// The write of a value to a field of a slot, and nothing where there is no slot.
-#[tactic(auto, unfolding(crate::specs::inner::Key::words))]
+#[tactic(auto, unfolding(crate::specs::inner::Key::definitions))]
 pub(crate) fn slot_writing(
     sites: u64,
     field: Spot,
@@ -82,7 +82,7 @@ fn fields_writing(sites: u64, fields: &[Filled]) -> Before
 }
 
 /// The sequence that fills a slot.
-#[tactic(auto, unfolding(crate::specs::inner::Key::words))]
+#[tactic(auto, unfolding(crate::specs::inner::Key::definitions))]
 fn slot_filling(sites: u64, fields: &[Filled], slot: Slot<'_>) -> Measure
     ensures { result ≡ slot_filling sites (map plain_filled fields.now) (plain_slot slot.entry) }
 {
@@ -123,7 +123,7 @@ impl Extents {
     }
 
     /// Raises the field of a slot, where there is one.
-    #[tactic(auto, unfolding(crate::specs::inner::Key::words))]
+    #[tactic(auto, unfolding(crate::specs::inner::Key::definitions))]
     pub(crate) fn raise_slot(
         &mut self,
         field: Spot,
@@ -164,7 +164,7 @@ impl Extents {
         Ok(())
     }
 
-    #[tactic(auto, unfolding(crate::specs::inner::Key::words))]
+    #[tactic(auto, unfolding(crate::specs::inner::Key::definitions))]
     fn fill_slot(&mut self, sites: u64, fields: &[Filled], slot: Slot<'_>) -> Result<(), Memory>
         ensures { OnOk result (store_in self.new ≡ slot_filled sites (map plain_filled fields.now) (plain_slot slot.entry) (store_in self.old)) }
     {
@@ -195,7 +195,7 @@ impl Extents {
     }
 
     /// Measures the insert of such values behind their liftings.
-    #[tactic(auto, unfolding(crate::specs::inner::Key::words))]
+    #[tactic(auto, unfolding(crate::specs::inner::Key::definitions))]
     pub(crate) fn inserting(
         &self,
         sites: u64,
@@ -211,7 +211,7 @@ impl Extents {
     }
 
     /// Leaves the tables after an insert.
-    #[tactic(auto, unfolding(crate::specs::inner::Key::words))]
+    #[tactic(auto, unfolding(crate::specs::inner::Key::definitions))]
     pub(crate) fn insert(
         &mut self,
         alloc: Global,

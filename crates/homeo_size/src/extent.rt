@@ -47,14 +47,14 @@ pub(crate) const NO_FACTOR: Extent = Extent {
 };
 
 /// The weight of a number: its size, and at least 1.
-#[tactic(auto, unfolding(crate::specs::inner::Key::words, homeo_meaning::specs::Key::words))]
+#[tactic(auto, unfolding(crate::specs::inner::Key::definitions, homeo_meaning::specs::Key::definitions))]
 pub(crate) fn number_weight(n: i64) -> u64
     ensures { result ≡ weight_cap (number_weight n) }
 {
     weight_capped(n.unsigned_abs().max(1))
 }
 
-#[tactic(auto, unfolding(crate::specs::inner::Key::words))]
+#[tactic(auto, unfolding(crate::specs::inner::Key::definitions))]
 pub(crate) fn literal(n: i64) -> Extent
     ensures { result ≡ literal n }
 {
@@ -66,7 +66,7 @@ pub(crate) fn literal(n: i64) -> Extent
 }
 
 /// The extent of a literal that is not negative.
-#[tactic(auto, unfolding(crate::specs::inner::Key::words, homeo_meaning::specs::Key::words))]
+#[tactic(auto, unfolding(crate::specs::inner::Key::definitions, homeo_meaning::specs::Key::definitions))]
 pub(crate) fn natural(n: u64) -> Extent
     ensures { result ≡ literal (pos n) }
 {
@@ -78,7 +78,7 @@ pub(crate) fn natural(n: u64) -> Extent
 }
 
 /// The extent of the literal after a number that is not negative.
-#[tactic(auto, unfolding(crate::specs::inner::Key::words, homeo_meaning::specs::Key::words))]
+#[tactic(auto, unfolding(crate::specs::inner::Key::definitions, homeo_meaning::specs::Key::definitions))]
 pub(crate) fn successor(n: u64) -> Extent
     ensures { result ≡ literal (pos (suc n)) }
 {
@@ -90,7 +90,7 @@ pub(crate) fn successor(n: u64) -> Extent
 }
 
 /// The extent of tests, or of one beside another.
-#[tactic(auto, unfolding(crate::specs::inner::Key::words))]
+#[tactic(auto, unfolding(crate::specs::inner::Key::definitions))]
 pub(crate) fn beside(a: Extent, b: Extent) -> Extent
     ensures { result ≡ beside a b }
 {
@@ -102,7 +102,7 @@ pub(crate) fn beside(a: Extent, b: Extent) -> Extent
 }
 
 /// The extent of terms, with one more.
-#[tactic(auto, unfolding(crate::specs::inner::Key::words))]
+#[tactic(auto, unfolding(crate::specs::inner::Key::definitions))]
 pub(crate) fn plus(a: Extent, b: Extent) -> Extent
     ensures { result ≡ plus a b }
 {
@@ -114,7 +114,7 @@ pub(crate) fn plus(a: Extent, b: Extent) -> Extent
 }
 
 /// The extent of factors, with one more.
-#[tactic(auto, unfolding(crate::specs::inner::Key::words))]
+#[tactic(auto, unfolding(crate::specs::inner::Key::definitions))]
 pub(crate) fn times(a: Extent, b: Extent) -> Extent
     ensures { result ≡ times a b }
 {
@@ -126,7 +126,7 @@ pub(crate) fn times(a: Extent, b: Extent) -> Extent
 }
 
 /// The extent of a phrase whose parts have this extent.
-#[tactic(auto, unfolding(crate::specs::inner::Key::words))]
+#[tactic(auto, unfolding(crate::specs::inner::Key::definitions))]
 pub(crate) fn around(parts: Extent) -> Extent
     ensures { result ≡ around parts }
 {
@@ -138,7 +138,7 @@ pub(crate) fn around(parts: Extent) -> Extent
 }
 
 /// The extent of a sum whose terms have this extent.
-#[tactic(auto, unfolding(crate::specs::inner::Key::words))]
+#[tactic(auto, unfolding(crate::specs::inner::Key::definitions))]
 pub(crate) fn summed(terms: Extent) -> Extent
     ensures { result ≡ summed terms }
 {
@@ -149,14 +149,14 @@ pub(crate) fn summed(terms: Extent) -> Extent
     }
 }
 
-#[tactic(auto, unfolding(crate::specs::inner::Key::words))]
+#[tactic(auto, unfolding(crate::specs::inner::Key::definitions))]
 pub(crate) fn compared(a: Extent, b: Extent) -> Extent
     ensures { result ≡ compared a b }
 {
     around(beside(a, b))
 }
 
-#[tactic(auto, unfolding(crate::specs::inner::Key::words))]
+#[tactic(auto, unfolding(crate::specs::inner::Key::definitions))]
 pub(crate) fn greater(a: Extent, b: Extent) -> Extent
     ensures { result ≡ greater a b }
 {
@@ -168,7 +168,7 @@ pub(crate) fn greater(a: Extent, b: Extent) -> Extent
 }
 
 /// The extent of an object that nothing is written to: the sum of its base and its sites' deltas.
-#[tactic(auto, unfolding(crate::specs::inner::Key::words))]
+#[tactic(auto, unfolding(crate::specs::inner::Key::definitions))]
 pub(crate) fn unwritten(sites: u64, weight: u64) -> Extent
     ensures { result ≡ unwritten sites weight }
 {
@@ -180,7 +180,7 @@ pub(crate) fn unwritten(sites: u64, weight: u64) -> Extent
 }
 
 /// The extent of an object that a value is written to.
-#[tactic(auto, unfolding(crate::specs::inner::Key::words))]
+#[tactic(auto, unfolding(crate::specs::inner::Key::definitions))]
 pub(crate) fn written(sites: u64, value: Extent) -> Extent
     ensures { result ≡ written sites value }
 {
@@ -193,7 +193,7 @@ pub(crate) fn written(sites: u64, value: Extent) -> Extent
 }
 
 /// The extent of tests, with those that a value is within the bounds.
-#[tactic(auto, unfolding(crate::specs::inner::Key::words, homeo_meaning::specs::Key::words))]
+#[tactic(auto, unfolding(crate::specs::inner::Key::definitions, homeo_meaning::specs::Key::definitions))]
 pub(crate) fn within_tests(bounds: Spot, value: Extent, tests: Extent) -> Extent
     ensures { result ≡ within_tests (plain_spot bounds) value tests }
 {
@@ -203,7 +203,7 @@ pub(crate) fn within_tests(bounds: Spot, value: Extent, tests: Extent) -> Extent
 }
 
 /// The extent of the condition that a value is this number.
-#[tactic(auto, unfolding(crate::specs::inner::Key::words))]
+#[tactic(auto, unfolding(crate::specs::inner::Key::definitions))]
 pub(crate) fn is_equal(value: Extent, number: u64) -> Extent
     ensures { result ≡ is_equal value (pos number) }
 {

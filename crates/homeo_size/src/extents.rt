@@ -2,7 +2,7 @@
 
 ghost use Rattle.std.specs.Prelude.{◌≡◌, ◌≤◌, length, map, IfOk, OnOk};
 ghost use Rattle.homeo_size.specs.inner.Sizing.{name_sized, slot_sized};
-ghost use Rattle.homeo_size.specs.inner.Store.{entry_sized, with_entry, kept_in, set_entry, raise_entry, back_to, since, restored, raised, touched, closed, reopened, higher, joined};
+ghost use Rattle.homeo_size.specs.inner.Store.{entry_sized, with_entry, kept_in, set_entry, raise_entry, back_to, since, restored, raised, touched, closed, reopened, higher, both_branches};
 ghost use Rattle.homeo_size.specs.inner.Measuring.{guard_after};
 ghost use Rattle.homeo_size.specs.inner.Tables.{sizes_in, store_in};
 
@@ -38,7 +38,7 @@ pub(crate) struct Extents {
 }
 
 impl Extents {
-    #[tactic(auto, unfolding(crate::specs::inner::Key::words))]
+    #[tactic(auto, unfolding(crate::specs::inner::Key::definitions))]
     pub(crate) fn entry(&self, entry: Entry) -> Extent
         ensures { result ≡ entry_sized (sizes_in self.now) entry }
     {
@@ -48,7 +48,7 @@ impl Extents {
         }
     }
 
-    #[tactic(auto, unfolding(crate::specs::inner::Key::words))]
+    #[tactic(auto, unfolding(crate::specs::inner::Key::definitions))]
     pub(crate) fn object(&self, place: u128) -> Extent
         ensures { result ≡ (sizes_in self.now).objects place }
     {
@@ -59,7 +59,7 @@ impl Extents {
         }
     }
 
-    #[tactic(auto, unfolding(crate::specs::inner::Key::words))]
+    #[tactic(auto, unfolding(crate::specs::inner::Key::definitions))]
     pub(crate) fn temp(&self, name: u32) -> Extent
         ensures { result ≡ (sizes_in self.now).temps name }
     {
@@ -92,7 +92,7 @@ impl Extents {
         }
     }
 
-    #[tactic(auto, unfolding(crate::specs::inner::Key::words))]
+    #[tactic(auto, unfolding(crate::specs::inner::Key::definitions))]
     fn kept(&self, entry: Entry) -> Kept
         ensures { result ≡ kept_in (sizes_in self.now) entry }
     {
@@ -111,7 +111,7 @@ impl Extents {
     }
 
     /// Makes an entry the greater of what it is and of this: what comes of it where a write may be refused.
-    #[tactic(auto, unfolding(crate::specs::inner::Key::words))]
+    #[tactic(auto, unfolding(crate::specs::inner::Key::definitions))]
     pub(crate) fn raise(&mut self, entry: Entry, extent: Extent) -> Result<(), Memory>
         ensures { OnOk result (store_in self.new ≡ raise_entry (store_in self.old) entry extent) }
     {
@@ -177,7 +177,7 @@ impl Extents {
     }
 
     /// Ends a branch beside one that changes nothing: of each entry the greater stays.
-    #[tactic(auto, unfolding(crate::specs::inner::Key::words))]
+    #[tactic(auto, unfolding(crate::specs::inner::Key::definitions))]
     pub(crate) fn close(&mut self, alloc: Global, start: usize) -> Result<(), Memory>
         ensures { OnOk result (store_in self.new ≡ closed start (store_in self.old)) }
     {
@@ -187,7 +187,7 @@ impl Extents {
     }
 
     /// Ends a command that began there, guarded or not.
-    #[tactic(auto, unfolding(crate::specs::inner::Key::words))]
+    #[tactic(auto, unfolding(crate::specs::inner::Key::definitions))]
     pub(crate) fn guard(&mut self, alloc: Global, guarded: bool, start: usize) -> Result<(), Memory>
         ensures { OnOk result (store_in self.new ≡ guard_after guarded start (store_in self.old)) }
     {
@@ -199,7 +199,7 @@ impl Extents {
     }
 
     /// Ends a first branch, and begins the second where the first began. Gives what the first changed.
-    #[tactic(auto, unfolding(crate::specs::inner::Key::words))]
+    #[tactic(auto, unfolding(crate::specs::inner::Key::definitions))]
     pub(crate) fn reopen(&mut self, alloc: Global, start: usize) -> Result<Vec<Kept>, Memory>
         ensures changed { IfOk result (λ changed. changed.items ≡ since start (store_in self.old)) }
         ensures store { OnOk result (store_in self.new ≡ reopened start (store_in self.old)) }
@@ -210,7 +210,7 @@ impl Extents {
         Ok(changed)
     }
 
-    #[tactic(auto, unfolding(crate::specs::inner::Key::words))]
+    #[tactic(auto, unfolding(crate::specs::inner::Key::definitions))]
     fn higher(&self, kept: Kept) -> Kept
         ensures { result ≡ higher (sizes_in self.now) kept }
     {
@@ -233,9 +233,9 @@ impl Extents {
 
     /// Ends a second branch: of each entry the greater of both branches stays. The log grows by no more than the changes
     /// of both, so that branches within branches do not double it.
-    #[tactic(auto, unfolding(crate::specs::inner::Key::words))]
+    #[tactic(auto, unfolding(crate::specs::inner::Key::definitions))]
     pub(crate) fn join(&mut self, alloc: Global, start: usize, first: &[Kept]) -> Result<(), Memory>
-        ensures { OnOk result (store_in self.new ≡ joined start first.now (store_in self.old)) }
+        ensures { OnOk result (store_in self.new ≡ both_branches start first.now (store_in self.old)) }
     {
         let second = self.since(alloc, start)?;
         self.take_back(start)?;

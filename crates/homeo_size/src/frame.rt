@@ -25,7 +25,7 @@ pub(crate) struct Frame<'a> {
 }
 
 /// The literal that stands for a field of a slot that isn't there.
-#[tactic(auto, unfolding(crate::specs::inner::Key::words))]
+#[tactic(auto, unfolding(crate::specs::inner::Key::definitions))]
 fn missing(slot: Option<Slot<'_>>) -> Option<i64>
     ensures { result ≡ missing (option_map plain_slot slot.entry) }
 {
@@ -37,7 +37,7 @@ fn missing(slot: Option<Slot<'_>>) -> Option<i64>
 
 impl<'a> Frame<'a> {
     /// The object of a name.
-    #[tactic(auto, unfolding(crate::specs::inner::Key::words))]
+    #[tactic(auto, unfolding(crate::specs::inner::Key::definitions))]
     pub(crate) fn object(&self, name: u32) -> Spot
         ensures { plain_spot result ≡ (setting self.now).object name }
     {
@@ -45,7 +45,7 @@ impl<'a> Frame<'a> {
     }
 
     /// The slots of the relation of a name.
-    #[tactic(auto, unfolding(crate::specs::inner::Key::words))]
+    #[tactic(auto, unfolding(crate::specs::inner::Key::definitions))]
     pub(crate) fn slots(&self, relation: u32) -> &[Slot<'a>]
         ensures { map plain_slot result.now ≡ (setting self.now).slots relation }
     {
@@ -53,14 +53,14 @@ impl<'a> Frame<'a> {
     }
 
     /// The field of a relation.
-    #[tactic(auto, unfolding(crate::specs::inner::Key::words))]
+    #[tactic(auto, unfolding(crate::specs::inner::Key::definitions))]
     pub(crate) fn field(&self, relation: u32, field: u32) -> Spot
         ensures { plain_spot result ≡ spot ((setting self.now).fields relation) field }
     {
         self.layout.field(relation, field)
     }
 
-    #[tactic(auto, unfolding(crate::specs::inner::Key::words))]
+    #[tactic(auto, unfolding(crate::specs::inner::Key::definitions))]
     pub(crate) fn argument(&self, name: u32) -> Option<i64>
         ensures { result ≡ (setting self.now).arguments name }
     {
@@ -68,7 +68,7 @@ impl<'a> Frame<'a> {
     }
 
     /// The slot that a row stands for.
-    #[tactic(auto, using(crate::proofs::Along::lookups), unfolding(crate::specs::inner::Key::words))]
+    #[tactic(auto, using(crate::proofs::Along::lookups), unfolding(crate::specs::inner::Key::definitions))]
     pub(crate) fn row(&self, name: u32) -> Slot<'a>
         ensures { plain_slot result ≡ (setting self.now).rows name }
     {

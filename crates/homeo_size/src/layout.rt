@@ -54,7 +54,7 @@ impl<'a> Model for Layout<'a> {
 }
 
 /// The number of a relation's slots, which no text has below 0.
-#[tactic(auto, unfolding(homeo_meaning::specs::Key::words, homeo_syntax::specs::Key::words))]
+#[tactic(auto, unfolding(homeo_meaning::specs::Key::definitions, homeo_syntax::specs::Key::definitions))]
 fn slot_count(relation: &RelationDecl) -> u64
     ensures { result ≡ (relation_of relation.now).slots }
 {
@@ -93,14 +93,14 @@ fn larger_weight(lo: Number, hi: Number) -> u64
     number_weight(lo.value).max(number_weight(hi.value))
 }
 
-#[tactic(auto, unfolding(crate::specs::inner::Key::words, homeo_meaning::specs::Key::words))]
+#[tactic(auto, unfolding(crate::specs::inner::Key::definitions, homeo_meaning::specs::Key::definitions))]
 fn range_weight(field: RangeDecl) -> u64
     ensures { result ≡ range_weight field }
 {
     larger_weight(field.lo, field.hi)
 }
 
-#[tactic(auto, unfolding(crate::specs::inner::Key::words, homeo_meaning::specs::Key::words))]
+#[tactic(auto, unfolding(crate::specs::inner::Key::definitions, homeo_meaning::specs::Key::definitions))]
 fn object_weight(object: ObjectDecl) -> u64
     ensures { result ≡ object_weight object }
 {
@@ -203,7 +203,7 @@ fn count_objects(first: u32, relations: &[RelationDecl]) -> u32
 }
 
 /// The object at a place: where there is none, the bounds are 0 and 0.
-#[tactic(auto, unfolding(crate::specs::inner::Key::words, homeo_meaning::specs::Key::words))]
+#[tactic(auto, unfolding(crate::specs::inner::Key::definitions, homeo_meaning::specs::Key::definitions))]
 fn object_at(objects: &[ObjectDecl], place: usize) -> Spot
     ensures { plain_spot result ≡ object_spot place (slice_get objects.now place) }
 {
@@ -222,7 +222,7 @@ fn object_at(objects: &[ObjectDecl], place: usize) -> Spot
 }
 
 /// The slots of the relation at a place: none where there is none.
-#[tactic(auto, unfolding(crate::specs::inner::Key::words))]
+#[tactic(auto, unfolding(crate::specs::inner::Key::definitions))]
 fn slots_at<'a>(tables: &'a [Laid<'a>], place: usize) -> &'a [Slot<'a>]
     ensures { map plain_slot result.now ≡ laid_slots (slice_get tables.now place) }
 {
@@ -233,7 +233,7 @@ fn slots_at<'a>(tables: &'a [Laid<'a>], place: usize) -> &'a [Slot<'a>]
 }
 
 /// The field of a name of the relation at a place.
-#[tactic(auto, unfolding(crate::specs::inner::Key::words, homeo_meaning::specs::Key::words))]
+#[tactic(auto, unfolding(crate::specs::inner::Key::definitions, homeo_meaning::specs::Key::definitions))]
 fn field_at(tables: &[Laid<'_>], place: usize, name: u32) -> Spot
     ensures { plain_spot result ≡ spot (laid_fields (slice_get tables.now place)) name }
 {

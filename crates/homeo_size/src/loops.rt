@@ -72,7 +72,7 @@ impl Extents {
     }
 
     /// Measures the write of an expression to a field of a slot, and leaves the extents after it.
-    #[tactic(auto, unfolding(crate::specs::inner::Key::words))]
+    #[tactic(auto, unfolding(crate::specs::inner::Key::definitions))]
     pub(crate) fn set_row(
         &mut self,
         alloc: Global,

@@ -43,7 +43,7 @@ pub(crate) const NONE: Before = Before {
 };
 
 /// The measure of an assignment or a print.
-#[tactic(auto, unfolding(crate::specs::inner::Key::words))]
+#[tactic(auto, unfolding(crate::specs::inner::Key::definitions))]
 pub(crate) fn valued(value: Extent) -> Measure
     ensures { result ≡ valued value }
 {
@@ -56,7 +56,7 @@ pub(crate) fn valued(value: Extent) -> Measure
 }
 
 /// The measure of a write.
-#[tactic(auto, unfolding(crate::specs::inner::Key::words))]
+#[tactic(auto, unfolding(crate::specs::inner::Key::definitions))]
 pub(crate) fn writing(sites: u64, value: Extent) -> Measure
     ensures { result ≡ writing sites value }
 {
@@ -70,7 +70,7 @@ pub(crate) fn writing(sites: u64, value: Extent) -> Measure
 }
 
 /// The measure of a write and the test that its value is within the bounds.
-#[tactic(auto, unfolding(crate::specs::inner::Key::words))]
+#[tactic(auto, unfolding(crate::specs::inner::Key::definitions))]
 pub(crate) fn guarded(sites: u64, bounds: Spot, value: Extent) -> Measure
     ensures { result ≡ guarded sites (plain_spot bounds) value }
 {
@@ -79,7 +79,7 @@ pub(crate) fn guarded(sites: u64, bounds: Spot, value: Extent) -> Measure
 }
 
 /// The measure of an `if`.
-#[tactic(auto, unfolding(crate::specs::inner::Key::words))]
+#[tactic(auto, unfolding(crate::specs::inner::Key::definitions))]
 pub(crate) fn chosen(test: Extent, yes: Measure, no: Measure) -> Measure
     ensures { result ≡ chosen test yes no }
 {
@@ -93,7 +93,7 @@ pub(crate) fn chosen(test: Extent, yes: Measure, no: Measure) -> Measure
 }
 
 /// The measure of a sequence with one more command.
-#[tactic(auto, unfolding(crate::specs::inner::Key::words))]
+#[tactic(auto, unfolding(crate::specs::inner::Key::definitions))]
 pub(crate) fn followed(so_far: Measure, next: Measure) -> Measure
     ensures { result ≡ followed so_far next }
 {
@@ -106,7 +106,7 @@ pub(crate) fn followed(so_far: Measure, next: Measure) -> Measure
 }
 
 /// With one more command.
-#[tactic(auto, unfolding(crate::specs::inner::Key::words))]
+#[tactic(auto, unfolding(crate::specs::inner::Key::definitions))]
 pub(crate) fn with_one(before: Before, next: Measure) -> Before
     ensures { result ≡ with_one before next }
 {
@@ -117,7 +117,7 @@ pub(crate) fn with_one(before: Before, next: Measure) -> Before
 }
 
 /// The measure of a command behind those before it, which stands alone where there are none.
-#[tactic(auto, unfolding(crate::specs::inner::Key::words))]
+#[tactic(auto, unfolding(crate::specs::inner::Key::definitions))]
 pub(crate) fn placed(before: Before, command: Measure) -> Measure
     ensures { result ≡ placed before command }
 {
@@ -129,7 +129,7 @@ pub(crate) fn placed(before: Before, command: Measure) -> Measure
 }
 
 /// The measure of a command that is not done where the call is ended.
-#[tactic(auto, unfolding(crate::specs::inner::Key::words))]
+#[tactic(auto, unfolding(crate::specs::inner::Key::definitions))]
 pub(crate) fn unless_ended(command: Measure) -> Measure
     ensures { result ≡ unless_ended command }
 {
@@ -137,7 +137,7 @@ pub(crate) fn unless_ended(command: Measure) -> Measure
 }
 
 /// The measure of a command, guarded or not.
-#[tactic(auto, unfolding(crate::specs::inner::Key::words))]
+#[tactic(auto, unfolding(crate::specs::inner::Key::definitions))]
 pub(crate) fn guard(guarded: bool, command: Measure) -> Measure
     ensures { result ≡ guard guarded command }
 {
@@ -149,7 +149,7 @@ pub(crate) fn guard(guarded: bool, command: Measure) -> Measure
 }
 
 /// What stands before the liftings of a slot's test: the visits so far, or nothing where the slot is guarded.
-#[tactic(auto, unfolding(crate::specs::inner::Key::words))]
+#[tactic(auto, unfolding(crate::specs::inner::Key::definitions))]
 pub(crate) fn before_turn(guarded: bool, visits: Before) -> Before
     ensures { result ≡ before_turn guarded visits }
 {
@@ -157,7 +157,7 @@ pub(crate) fn before_turn(guarded: bool, visits: Before) -> Before
 }
 
 /// The visits with that of one more slot, behind the liftings of its test.
-#[tactic(auto, unfolding(crate::specs::inner::Key::words))]
+#[tactic(auto, unfolding(crate::specs::inner::Key::definitions))]
 pub(crate) fn in_turn(guarded: bool, visits: Before, lifted: Before, visit: Measure) -> Before
     ensures { result ≡ in_turn guarded visits lifted visit }
 {

@@ -13,7 +13,7 @@ use homeo_syntax::{Command, Cond, Expr, FieldValue, Test};
 /// One more node than a call may have size: none is counted beyond.
 pub(crate) const TOO_MANY: u64 = 2_000_001;
 
-#[tactic(auto, unfolding(crate::specs::inner::Key::words))]
+#[tactic(auto, unfolding(crate::specs::inner::Key::definitions))]
 fn few_together(a: u64, b: u64) -> u64
     ensures { result ≡ few (a + b) }
 {
@@ -47,7 +47,7 @@ fn visit_nodes(slots: &[Slot<'_>], nodes: u64) -> u64
     few_together(1, all)
 }
 
-#[tactic(auto, unfolding(crate::specs::inner::Key::words))]
+#[tactic(auto, unfolding(crate::specs::inner::Key::definitions))]
 fn slot_nodes(slot: Option<Slot<'_>>, nodes: u64) -> u64
     ensures { result ≡ slot_nodes (option_map plain_slot slot.entry) nodes }
 {
@@ -58,7 +58,7 @@ fn slot_nodes(slot: Option<Slot<'_>>, nodes: u64) -> u64
 }
 
 /// The nodes of a write to a field of the slot that an index names.
-#[tactic(auto, using(crate::proofs::Along::lengths), unfolding(crate::specs::inner::Key::words))]
+#[tactic(auto, using(crate::proofs::Along::lengths), unfolding(crate::specs::inner::Key::definitions))]
 fn write_nodes(index: Option<i64>, slots: &[Slot<'_>], index_nodes: u64, nodes: u64) -> u64
     ensures { result ≡ write_nodes index (map plain_slot slots.now) index_nodes nodes }
 {

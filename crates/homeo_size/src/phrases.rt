@@ -23,7 +23,7 @@ use std::alloc::Global;
 
 impl Extents {
     /// The extent of a parameter's argument, or else of the temporary.
-    #[tactic(auto, unfolding(crate::specs::inner::Key::words))]
+    #[tactic(auto, unfolding(crate::specs::inner::Key::definitions))]
     fn name(&self, name: u32, frame: &Frame<'_>) -> Extent
         ensures { result ≡ name_sized ((setting frame.now).arguments name) ((sizes_in self.now).temps name) }
     {
@@ -41,7 +41,7 @@ impl Extents {
     }
 
     /// The field of a slot, or 0 where there is none.
-    #[tactic(auto, unfolding(crate::specs::inner::Key::words))]
+    #[tactic(auto, unfolding(crate::specs::inner::Key::definitions))]
     fn slot_field(&self, field: Spot, slot: Option<Slot<'_>>) -> Extent
         ensures { result ≡ slot_sized (plain_spot field) (option_map plain_slot slot.entry) (sizes_in self.now) }
     {
@@ -80,7 +80,7 @@ impl Extents {
     }
 
     /// What a slot adds to a count, or to a sum of fields.
-    #[tactic(auto, unfolding(crate::specs::inner::Key::words))]
+    #[tactic(auto, unfolding(crate::specs::inner::Key::definitions))]
     fn term(&self, field: Option<u32>, slot: Slot<'_>) -> Extent
         ensures { result ≡ term_sized field (plain_slot slot.entry) (sizes_in self.now) }
     {
@@ -91,7 +91,7 @@ impl Extents {
     }
 
     /// The test that a slot is used.
-    #[tactic(auto, unfolding(crate::specs::inner::Key::words))]
+    #[tactic(auto, unfolding(crate::specs::inner::Key::definitions))]
     pub(crate) fn used_test(&self, slot: Slot<'_>) -> Extent
         ensures { result ≡ used_test (plain_slot slot.entry) (sizes_in self.now) }
     {
@@ -313,7 +313,7 @@ impl Extents {
 }
 
 /// The extent of the sum of a temporary and what a slot adds.
-#[tactic(auto, unfolding(crate::specs::inner::Key::words))]
+#[tactic(auto, unfolding(crate::specs::inner::Key::definitions))]
 fn added(total: Extent, term: Extent) -> Extent
     ensures { result ≡ added total term }
 {

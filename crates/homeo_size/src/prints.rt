@@ -14,14 +14,14 @@ use homeo_syntax::{Command, Transaction};
 /// One more print command than calls may have together: none is counted beyond.
 pub const TOO_MANY_PRINTS: u64 = 1_000_001;
 
-#[tactic(auto, unfolding(crate::specs::inner::Key::words))]
+#[tactic(auto, unfolding(crate::specs::inner::Key::definitions))]
 fn prints_together(a: u64, b: u64) -> u64
     ensures { result ≡ print_cap (a + b) }
 {
     TOO_MANY_PRINTS.min(a.saturating_add(b))
 }
 
-#[tactic(auto, unfolding(crate::specs::inner::Key::words))]
+#[tactic(auto, unfolding(crate::specs::inner::Key::definitions))]
 fn prints_of_each(count: u64, prints: u64) -> u64
     ensures { result ≡ print_cap (count * prints) }
 {

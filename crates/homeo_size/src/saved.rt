@@ -57,7 +57,7 @@ fn put_cells(field: Spot, slots: &[Slot<'_>], objects: &mut BTreeSet<u128>) -> R
     Ok(())
 }
 
-#[tactic(auto, unfolding(crate::specs::inner::Key::words))]
+#[tactic(auto, unfolding(crate::specs::inner::Key::definitions))]
 fn put_slot(field: Spot, slot: Option<Slot<'_>>, objects: &mut BTreeSet<u128>) -> Result<(), Memory>
     ensures { OnOk result (objects.new.keys ≡ at_slot (option_map plain_slot slot.entry) (plain_spot field) objects.old.keys) }
 {
@@ -67,7 +67,7 @@ fn put_slot(field: Spot, slot: Option<Slot<'_>>, objects: &mut BTreeSet<u128>) -
     }
 }
 
-#[tactic(auto, unfolding(crate::specs::inner::Key::words))]
+#[tactic(auto, unfolding(crate::specs::inner::Key::definitions))]
 fn put_indexed(
     index: Option<i64>,
     field: Spot,

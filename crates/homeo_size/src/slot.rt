@@ -26,7 +26,7 @@ pub(crate) struct Row<'a> {
 }
 
 /// The object that holds a field of a slot. No sum of these is too large for the type.
-#[tactic(auto, unfolding(crate::specs::inner::Key::words, homeo_meaning::specs::Key::words))]
+#[tactic(auto, unfolding(crate::specs::inner::Key::definitions, homeo_meaning::specs::Key::definitions))]
 pub(crate) fn cell(slot: Slot<'_>, field: Spot) -> u128
     ensures { result ≡ cell (plain_slot slot.entry) (plain_spot field) }
 {
@@ -34,14 +34,14 @@ pub(crate) fn cell(slot: Slot<'_>, field: Spot) -> u128
 }
 
 /// The object that holds the field of a name.
-#[tactic(auto, unfolding(crate::specs::inner::Key::words, homeo_meaning::specs::Key::words))]
+#[tactic(auto, unfolding(crate::specs::inner::Key::definitions, homeo_meaning::specs::Key::definitions))]
 pub(crate) fn field_cell(slot: Slot<'_>, name: u32) -> u128
     ensures { result ≡ field_cell (plain_slot slot.entry) name }
 {
     cell(slot, find_field(slot.fields, name))
 }
 
-#[tactic(auto, unfolding(crate::specs::inner::Key::words))]
+#[tactic(auto, unfolding(crate::specs::inner::Key::definitions))]
 fn is_number(value: i64, number: u64) -> bool
     ensures { result ≡ int_eq value (pos number) }
 {

@@ -35,7 +35,7 @@ impl Extents {
     }
 
     /// The measure of a call by that of its body, where these are the extents before it.
-    #[tactic(auto, unfolding(crate::specs::inner::Key::words))]
+    #[tactic(auto, unfolding(crate::specs::inner::Key::definitions))]
     pub(crate) fn undoing(&self, ends: bool, saved: &[u128], body: Measure) -> Measure
         ensures { result ≡ undoing_by ends self.now.sites (sizes_in self.now) saved.now body }
     {

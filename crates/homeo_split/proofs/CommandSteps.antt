@@ -2,7 +2,7 @@
 use Rattle.std.proofs.Common.{◌≡◌, ℕ, ◌+◌, ◌<◌, ◌≤◌, ℤ, true, false, cond, Bool, ◌&&◌, Box, Global, List, [], ◌∷◌, ◌++◌, map, drop, get_or, length, refl, sym, ap, ◌∙◌, append_assoc}
 use Rattle.std.proofs.lemmas.List.{append-nil}
 use Rattle.std.proofs.lemmas.Bool.{and_parts}
-use Rattle.homeo_syntax.specs.Key.{words as tree_words}
+use Rattle.homeo_syntax.specs.Key.{definitions as syntax_definitions}
 use Rattle.homeo_syntax.specs.LowView.{low_commands, plain_lcommand, plain_lcond}
 use Rattle.homeo_syntax.specs.declared.low.LCond as condition
 use Rattle.homeo_syntax.specs.declared.low.LCommand as tree
@@ -10,32 +10,32 @@ use Rattle.homeo_syntax.specs.declared.low.Temp.{Temp}
 use Rattle.homeo_syntax.specs.declared.low.SplitName.{SplitName}
 use Rattle.homeo_syntax.specs.Low.{Expr, Cond, Command, Commands, Skip, Assign, Write, Print, Seq, If}
 use Rattle.homeo_syntax.proofs.LowViews.{low_If}
-use Rattle.homeo_meaning.specs.Key.{words as meaning_words}
+use Rattle.homeo_meaning.specs.Key.{definitions as meaning_definitions}
 use Rattle.homeo_meaning.specs.LowMeaning.{State, Run, TempAt, location_of, put, value, holds, after_prints, exec, exec_all}
 use Rattle.homeo_meaning.proofs.Steps.{drop_next, drop_none}
-use Rattle.homeo_split.specs.Key.{words}
+use Rattle.homeo_split.specs.Key.{definitions}
 use Rattle.homeo_split.specs.CanExec.{expr_fits, cond_fits, can_exec, can_exec_all}
 use Rattle.homeo_split.specs.inner.States.{run_of}
 use Rattle.homeo_split.specs.Shape.{Shape, has_place, has_places, has_places_all}
 
 after_done : (ps : List ℤ) (s : State) → after_prints ps (record { state = s; prints = [] }) ≡ run_of s ps
-unfolding words meaning_words
+unfolding definitions meaning_definitions
 after_done ps s = λ i. record { state = s; prints = append-nil ps i }
 
 pub run_Skip : (s : State) (ps : List ℤ) → after_prints ps (exec Skip s) ≡ run_of s ps
-unfolding words meaning_words
+unfolding definitions meaning_definitions
 run_Skip s ps = after_done ps s
 
 pub run_Assign : (s : State) (ps : List ℤ) (t : Temp) (e : Expr) → after_prints ps (exec (Assign t e) s) ≡ run_of (put s (TempAt t) (value e s)) ps
-unfolding words meaning_words
+unfolding definitions meaning_definitions
 run_Assign s ps t e = after_done ps (put s (TempAt t) (value e s))
 
 pub run_Write : (s : State) (ps : List ℤ) (x : SplitName) (e : Expr) → after_prints ps (exec (Write x e) s) ≡ run_of (put s (location_of x) (value e s)) ps
-unfolding words meaning_words
+unfolding definitions meaning_definitions
 run_Write s ps x e = after_done ps (put s (location_of x) (value e s))
 
 pub run_Print : (s : State) (ps : List ℤ) (e : Expr) → after_prints ps (exec (Print e) s) ≡ run_of s (ps ++ value e s ∷ [])
-unfolding words meaning_words
+unfolding definitions meaning_definitions
 run_Print s ps e = refl
 
 after_cond : (b : Bool) (ps : List ℤ) (r q : Run) → after_prints ps (cond b r q) ≡ cond b (after_prints ps r) (after_prints ps q)
@@ -43,55 +43,55 @@ after_cond true ps r q = refl
 after_cond false ps r q = refl
 
 pub run_If : (s : State) (ps : List ℤ) (t : Cond) (c d : Command) → after_prints ps (exec (If t c d) s) ≡ cond (holds t s) (after_prints ps (exec c s)) (after_prints ps (exec d s))
-unfolding words meaning_words
+unfolding definitions meaning_definitions
 run_If s ps t c d = after_cond (holds t s) ps (exec c s) (exec d s)
 
 pub run_Seq : (s : State) (ps : List ℤ) (cs : Commands) → after_prints ps (exec (Seq cs) s) ≡ after_prints ps (exec_all cs s)
-unfolding words meaning_words
+unfolding definitions meaning_definitions
 run_Seq s ps cs = refl
 
 pub can_Assign : (b : ℕ) (s : State) (t : Temp) (e : Expr) → can_exec b (Assign t e) s ≡ expr_fits b e s
-unfolding words
+unfolding definitions
 can_Assign b s t e = refl
 
 pub can_Write : (b : ℕ) (s : State) (x : SplitName) (e : Expr) → can_exec b (Write x e) s ≡ expr_fits b e s
-unfolding words
+unfolding definitions
 can_Write b s x e = refl
 
 pub can_Print : (b : ℕ) (s : State) (e : Expr) → can_exec b (Print e) s ≡ expr_fits b e s
-unfolding words
+unfolding definitions
 can_Print b s e = refl
 
 pub can_If : (b : ℕ) (s : State) (t : Cond) (c d : Command) → can_exec b (If t c d) s ≡ cond_fits b t s && cond (holds t s) (can_exec b c s) (can_exec b d s)
-unfolding words
+unfolding definitions
 can_If b s t c d = refl
 
 pub can_Seq : (b : ℕ) (s : State) (cs : Commands) → can_exec b (Seq cs) s ≡ can_exec_all b cs s
-unfolding words
+unfolding definitions
 can_Seq b s cs = refl
 
 pub has_Skip : (h : Shape) → has_places h Skip ≡ true
-unfolding words
+unfolding definitions
 has_Skip h = refl
 
 pub has_Assign : (h : Shape) (t : Temp) (e : Expr) → has_places h (Assign t e) ≡ true
-unfolding words
+unfolding definitions
 has_Assign h t e = refl
 
 pub has_Print : (h : Shape) (e : Expr) → has_places h (Print e) ≡ true
-unfolding words
+unfolding definitions
 has_Print h e = refl
 
 pub has_Write : (h : Shape) (x : SplitName) (e : Expr) → has_places h (Write x e) ≡ has_place h x
-unfolding words
+unfolding definitions
 has_Write h x e = refl
 
 pub has_If : (h : Shape) (t : Cond) (c d : Command) → has_places h (If t c d) ≡ has_places h c && has_places h d
-unfolding words
+unfolding definitions
 has_If h t c d = refl
 
 pub has_Seq : (h : Shape) (cs : Commands) → has_places h (Seq cs) ≡ has_places_all h cs
-unfolding words
+unfolding definitions
 has_Seq h cs = refl
 
 pub ruleset runs = (run_Skip, run_Assign, run_Write, run_Print, run_If, run_Seq, can_Assign, can_Write, can_Print, can_If, can_Seq, has_Write, has_If, has_Seq)
@@ -99,25 +99,25 @@ pub ruleset runs = (run_Skip, run_Assign, run_Write, run_Print, run_If, run_Seq,
 pub ruleset places = (has_Skip, has_Assign, has_Write, has_Print, has_If, has_Seq)
 
 has_end : (h : Shape) → has_places_all h (low_commands []) ≡ true
-unfolding words tree_words
+unfolding definitions syntax_definitions
 has_end h = refl
 
 pub run_end : (s : State) (ps : List ℤ) → after_prints ps (exec_all (low_commands []) s) ≡ run_of s ps
-unfolding words meaning_words tree_words
+unfolding definitions meaning_definitions syntax_definitions
 run_end s ps = after_done ps s
 
 pub can_more : (b : ℕ) (s : State) (c : Command) (cs : List Command) → can_exec_all b (low_commands (c ∷ cs)) s ≡ can_exec b c s && can_exec_all b (low_commands cs) (exec c s).state
-unfolding words tree_words
+unfolding definitions syntax_definitions
 can_more b s c cs = refl
 
 pub has_more : (h : Shape) (c : Command) (cs : List Command) → has_places_all h (low_commands (c ∷ cs)) ≡ has_places h c && has_places_all h (low_commands cs)
-unfolding words tree_words
+unfolding definitions syntax_definitions
 has_more h c cs = refl
 
 pub ruleset each = (run_end)
 
 after_more : (s : State) (ps : List ℤ) (c : Command) (cs : List Command) → after_prints ps (exec_all (low_commands (c ∷ cs)) s) ≡ after_prints (ps ++ (exec c s).prints) (exec_all (low_commands cs) (exec c s).state)
-unfolding words meaning_words tree_words
+unfolding definitions meaning_definitions syntax_definitions
 after_more s ps c cs = λ i. record {
   state = (exec_all (low_commands cs) (exec c s).state).state;
   prints = sym (append_assoc ps (exec c s).prints (exec_all (low_commands cs) (exec c s).state).prints) i;
@@ -125,11 +125,11 @@ after_more s ps c cs = λ i. record {
 
 -- where a command led, as the state and prints that it left
 pub left_state : (s : State) (ps qs : List ℤ) (r : Run) → run_of s ps ≡ after_prints qs r → s ≡ r.state
-unfolding words meaning_words
+unfolding definitions meaning_definitions
 left_state s ps qs r e = ap (λ r. r.state) e
 
 pub left_prints : (s : State) (ps qs : List ℤ) (r : Run) → run_of s ps ≡ after_prints qs r → ps ≡ qs ++ r.prints
-unfolding words meaning_words
+unfolding definitions meaning_definitions
 left_prints s ps qs r e = ap (λ r. r.prints) e
 
 -- one more command of a list

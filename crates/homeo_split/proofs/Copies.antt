@@ -2,7 +2,7 @@
 use Rattle.std.proofs.Common.{◌≡◌, ℤ, List, [], ◌∷◌, map, length, refl, sym, ap, ◌∙◌}
 use Rattle.homeo_syntax.specs.declared.low.SplitName.{SplitName}
 use Rattle.homeo_syntax.specs.declared.low.SplitName.TheVariants.{Whole, Base, Delta}
-use Rattle.homeo_meaning.specs.Key.{words}
+use Rattle.homeo_meaning.specs.Key.{definitions}
 use Rattle.homeo_meaning.specs.LowMeaning.{location_of}
 use Rattle.homeo_split.specs.States.{state_with}
 
@@ -14,7 +14,7 @@ pub same_lengths : {A B : Type 0} (f : A → List ℤ) (g : B → List ℤ) (l :
 same_lengths f g l m e = lengths f l ∙ ap (map length) e ∙ sym (lengths g m)
 
 pub without_temporaries : (base : List ℤ) (deltas : List (List ℤ)) (named fresh : List ℤ) (x : SplitName) → state_with base deltas [] [] (location_of x) ≡ state_with base deltas named fresh (location_of x)
-unfolding words
+unfolding definitions
 without_temporaries base deltas named fresh (Whole x) = refl
 without_temporaries base deltas named fresh (Base x) = refl
 without_temporaries base deltas named fresh (Delta x j) = refl

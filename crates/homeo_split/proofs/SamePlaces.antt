@@ -1,7 +1,7 @@
 -- Places are equal where their locations are, and each location has a place.
 use Rattle.std.proofs.Common.{rules, ◌≡◌, Bool}
 use Rattle.homeo_syntax.specs.declared.low.Temp.TheVariants as temps
-use Rattle.homeo_meaning.specs.Key.{words as meaning_words}
+use Rattle.homeo_meaning.specs.Key.{definitions as meaning_definitions}
 use Rattle.homeo_meaning.specs.LowMeaning.{Location, TempAt, BaseAt, DeltaAt, same_location}
 use Rattle.homeo_split.specs.contracts.places.PlacePartialEq.TheImpl.{ghosts}
 use Rattle.homeo_split.specs.declared.places.Place.{Place}
@@ -18,5 +18,5 @@ at_each_place P h (BaseAt x) = h (Base x)
 at_each_place P h (DeltaAt x j) = h (Delta x j)
 
 pub same-places : (a b : Place) → ghosts.eq a b ≡ is_at (plain_place a) b
-unfolding meaning_words
+unfolding meaning_definitions
 same-places a b = search rules

@@ -2,12 +2,12 @@
 use Rattle.std.proofs.Common.{◌≡◌, ℕ, ◌≤◌, ℤ, pos, ◌+ℤ◌, ◌*ℤ◌, neg_ℤ, Bool, true, false, cond, ◌&&◌, refl, ap₂, arith}
 use Rattle.std.proofs.lemmas.Bool.Decides.{nat_tests}
 use Rattle.homeo_syntax.specs.Low.{Expr, Exprs, Literal, OfTemp, Read, Sum, Product, Neg, NoExpr, MoreExpr, Test, Cond, True, Not, Comparison, NoTest, MoreTest, Command, Commands, Skip, Assign, Write, Print, Seq, If, NoCommand, MoreCommand}
-use Rattle.homeo_meaning.specs.Key.{words as meaning_words}
+use Rattle.homeo_meaning.specs.Key.{definitions as meaning_definitions}
 use Rattle.homeo_meaning.specs.Small.{is_small}
 use Rattle.homeo_meaning.specs.LowMeaning.{State, TempAt, location_of, value, passes, holds, exec}
 use Rattle.homeo_meaning.specs.LowComputed.{CanValue, CanSum, CanProduct, CanPass, CanHold, CanRun, CanRunAll}
 use Rattle.homeo_meaning.specs.Small.{IsSmall}
-use Rattle.homeo_split.specs.Key.{words}
+use Rattle.homeo_split.specs.Key.{definitions}
 use Rattle.homeo_split.specs.CanExec.{run_limit, expr_fits, sum_fits, product_fits, test_fits, cond_fits, can_exec, can_exec_all}
 
 -- what both tests say
@@ -21,19 +21,19 @@ either false a b e f = f
 
 module _ (b : ℕ) (h : b ≤ run_limit) where
   small : (v : ℤ) → IsSmall b v → is_small run_limit v ≡ true
-  unfolding meaning_words
+  unfolding meaning_definitions
   small v p = grind (arith, nat_tests, h, p)
 
   zero_small : is_small run_limit (pos 0) ≡ true
-  unfolding meaning_words
+  unfolding meaning_definitions
   zero_small = refl
 
   one_small : is_small run_limit (pos 1) ≡ true
-  unfolding meaning_words
+  unfolding meaning_definitions
   one_small = refl
 
   mutual
-    unfolding words meaning_words
+    unfolding definitions meaning_definitions
 
     value_fits : (e : Expr) (s : State) → CanValue (IsSmall b) (IsSmall b) e s → expr_fits run_limit e s ≡ true
     value_fits (Literal n) s c = small n c
@@ -52,7 +52,7 @@ module _ (b : ℕ) (h : b ≤ run_limit) where
     factors_fit (MoreExpr e es) s n k c = both k (both (value_fits e s c.0) (factors_fit es s (n *ℤ value e s) (small (n *ℤ value e s) c.1) c.2))
 
   mutual
-    unfolding words meaning_words
+    unfolding definitions meaning_definitions
 
     pass_fits : (t : Test) (s : State) → CanPass (IsSmall b) (IsSmall b) t s → test_fits run_limit t s ≡ true
     pass_fits True s c = refl
@@ -64,7 +64,7 @@ module _ (b : ℕ) (h : b ≤ run_limit) where
     hold_fits (MoreTest t d) s c = both (pass_fits t s c.0) (either (passes t s) _ _ (hold_fits d s c.1) refl)
 
   mutual
-    unfolding words meaning_words
+    unfolding definitions meaning_definitions
 
     run_fits : (c : Command) (s : State) → CanRun (IsSmall b) (IsSmall b) c s → can_exec run_limit c s ≡ true
     run_fits Skip s p = refl

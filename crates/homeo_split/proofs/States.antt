@@ -5,16 +5,16 @@ use Rattle.std.proofs.lemmas.List.{get_or-map, length-map, length-set, map-set}
 use Rattle.std.proofs.lemmas.Bool.Decides.{nat_tests}
 use Rattle.homeo_syntax.specs.declared.low.Temp.TheVariants.{Named, Fresh}
 use Rattle.homeo_syntax.specs.declared.low.SplitName.TheVariants.{Base, Delta}
-use Rattle.homeo_meaning.specs.Key.{words}
+use Rattle.homeo_meaning.specs.Key.{definitions}
 use Rattle.homeo_meaning.specs.LowMeaning.{Location, TempAt, BaseAt, DeltaAt, put}
 use Rattle.homeo_meaning.proofs.AbsentItems.{padded_set}
-use Rattle.homeo_split.specs.Key.{words as split_words}
+use Rattle.homeo_split.specs.Key.{definitions as split_definitions}
 use Rattle.homeo_split.specs.States.{state_with}
 use Rattle.homeo_split.specs.Shape.{Shape, has_place}
 
 module _ (base : List ℤ) (deltas : List (List ℤ)) (named fresh new : List ℤ) (n : ℕ) (v : ℤ) where
   named_at : ((m : ℕ) → get_or new m (pos 0) ≡ cond (n == m) v (get_or named m (pos 0))) → (q : Location) → state_with base deltas new fresh q ≡ put (state_with base deltas named fresh) (TempAt (Named n)) v q
-  unfolding words
+  unfolding definitions
   named_at h (TempAt (Named m)) = h m
   named_at h (TempAt (Fresh m)) = refl
   named_at h (BaseAt x) = refl
@@ -24,7 +24,7 @@ module _ (base : List ℤ) (deltas : List (List ℤ)) (named fresh new : List �
   set_named h = λ i q. named_at h q i
 
   fresh_at : ((m : ℕ) → get_or new m (pos 0) ≡ cond (n == m) v (get_or fresh m (pos 0))) → (q : Location) → state_with base deltas named new q ≡ put (state_with base deltas named fresh) (TempAt (Fresh n)) v q
-  unfolding words
+  unfolding definitions
   fresh_at h (TempAt (Named m)) = refl
   fresh_at h (TempAt (Fresh m)) = h m
   fresh_at h (BaseAt x) = refl
@@ -35,7 +35,7 @@ module _ (base : List ℤ) (deltas : List (List ℤ)) (named fresh new : List �
 
 module _ (base : List ℤ) (deltas : List (List ℤ)) (named fresh : List ℤ) (x : ℕ) (v : ℤ) where
   base_at : x < length base → (q : Location) → state_with (set base x v) deltas named fresh q ≡ put (state_with base deltas named fresh) (BaseAt x) v q
-  unfolding words
+  unfolding definitions
   base_at h (TempAt (Named m)) = refl
   base_at h (TempAt (Fresh m)) = refl
   base_at h (BaseAt y) = padded_set base x v (pos 0) y h
@@ -59,7 +59,7 @@ site_case deltas x j y k v false e h = refl
 
 module _ (base : List ℤ) (deltas : List (List ℤ)) (named fresh : List ℤ) (x j : ℕ) (v : ℤ) where
   delta_at : j < length deltas → x < length (get_or deltas j []) → (q : Location) → state_with base (set deltas j (set (get_or deltas j []) x v)) named fresh q ≡ put (state_with base deltas named fresh) (DeltaAt x j) v q
-  unfolding words
+  unfolding definitions
   delta_at s h (TempAt (Named m)) = refl
   delta_at s h (TempAt (Fresh m)) = refl
   delta_at s h (BaseAt y) = refl
@@ -73,7 +73,7 @@ module _ (base : List ℤ) (deltas : List (List ℤ)) (named fresh : List ℤ) (
 
 -- ---- the places that are there
 pub has_base : (h : Shape) (x : ℕ) → has_place h (Base x) ≡ true → x < h.base
-unfolding split_words
+unfolding split_definitions
 has_base h x p = grind (arith, nat_tests)
 
 site_there : {A : Type 0} (g : A → ℕ) (l : List A) (x j : ℕ) → x < get_or (map g l) j 0 → j < length l
@@ -85,7 +85,7 @@ site_there g (a ∷ l) x (suc j) h = let k = site_there g l x j h in omega arith
 -- the numbers of a site are there
 module _ {A : Type 0} (f : A → List ℤ) (l : List A) (x j base : ℕ) (has : has_place (record { base = base; deltas = map (λ d. length (f d)) l }) (Delta x j) ≡ true) where
   counted : x < get_or (map (λ d. length (f d)) l) j 0
-  unfolding split_words
+  unfolding split_definitions
   counted = grind (arith, nat_tests, has)
 
   pub site_is : j < length l

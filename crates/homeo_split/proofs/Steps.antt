@@ -8,18 +8,18 @@ use Rattle.homeo_syntax.specs.declared.low.LTest.{LTest}
 use Rattle.homeo_meaning.specs.LowMeaning.{State, value, sum_value, product_value, passes, holds}
 use Rattle.homeo_meaning.specs.Small.{is_small}
 use Rattle.homeo_meaning.proofs.Steps.{drop_next, drop_none}
-use Rattle.homeo_split.specs.Key.{words}
+use Rattle.homeo_split.specs.Key.{definitions}
 use Rattle.homeo_split.specs.CanExec.{expr_fits, sum_fits, product_fits, test_fits, cond_fits}
 use Rattle.homeo_split.proofs.Equations.{sum_end, sum_more, sum_fits_more, product_end, product_more, product_fits_more, holds_more, cond_fits_more}
 
 -- the number that a sum begins with is small
 sum_small : (b : ℕ) (es : l.Exprs) (s : State) (n : ℤ) → sum_fits b n es s ≡ true → is_small b n ≡ true
-unfolding words
+unfolding definitions
 sum_small b l.NoExpr s n h = h
 sum_small b (l.MoreExpr e es) s n h = (and_parts (is_small b n) _ h).0
 
 product_small : (b : ℕ) (es : l.Exprs) (s : State) (n : ℤ) → product_fits b n es s ≡ true → is_small b n ≡ true
-unfolding words
+unfolding definitions
 product_small b l.NoExpr s n h = h
 product_small b (l.MoreExpr e es) s n h = (and_parts (is_small b n) _ h).0
 

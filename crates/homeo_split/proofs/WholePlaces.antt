@@ -4,21 +4,21 @@ use Rattle.std.proofs.lemmas.Bool.Decides.{nat_tests}
 use Rattle.homeo_syntax.specs.declared.low.SplitName.{SplitName}
 use Rattle.homeo_syntax.specs.declared.low.SplitName.TheVariants.{Whole, Base, Delta}
 use Rattle.homeo_syntax.specs.Low.{Command, Commands, Skip, Assign, Write, Print, Seq, If, NoCommand, MoreCommand}
-use Rattle.homeo_meaning.specs.Key.{words as meaning_words}
+use Rattle.homeo_meaning.specs.Key.{definitions as meaning_definitions}
 use Rattle.homeo_meaning.specs.NamesWithin.{ObjectWithin, NamesWithin, AllNamesWithin}
 use Rattle.homeo_meaning.specs.Whole.{IsWholeName, IsWhole, AreWhole}
-use Rattle.homeo_split.specs.Key.{words}
+use Rattle.homeo_split.specs.Key.{definitions}
 use Rattle.homeo_split.specs.Shape.{Shape, has_place, has_places, has_places_all}
 
 module _ (objects names : ℕ) (h : Shape) (enough : objects ≤ h.base) where
   place_there : (x : SplitName) → IsWholeName x → ObjectWithin objects names x → has_place h x ≡ true
-  unfolding words meaning_words
+  unfolding definitions meaning_definitions
   place_there (Whole x) is within = grind (arith, nat_tests, within, enough)
   place_there (Base x) is within = absurd is
   place_there (Delta x j) is within = absurd is
 
   mutual
-    unfolding words meaning_words
+    unfolding definitions meaning_definitions
 
     places_there : (c : Command) → IsWhole c → NamesWithin objects names c → has_places h c ≡ true
     places_there Skip is within = refl

@@ -4,14 +4,14 @@ use Rattle.std.specs.Prelude.{ℕ, ◌*◌, ◌^◌, ℤ, pos, ◌+ℤ◌, ◌*�
 use Rattle.homeo_syntax.specs.Low.{Expr, Exprs, Literal, OfTemp, Read, Sum, Product, Neg, NoExpr, MoreExpr, Test, Cond, True, Not, Comparison, NoTest, MoreTest, Command, Commands, Skip, Assign, Write, Print, Seq, If, NoCommand, MoreCommand}
 use Rattle.homeo_meaning.specs.Small.{is_small}
 use Rattle.homeo_meaning.specs.LowMeaning.{State, TempAt, location_of, value, passes, holds, exec}
-use Rattle.homeo_split.specs.Key.{words}
+use Rattle.homeo_split.specs.Key.{definitions}
 
 -- the most that a value of a run may be in size
 abbrev pub run_limit : ℕ
 run_limit = 2 * 10 ^ 18
 
 abbrev mutual
-  unfolding words
+  unfolding definitions
 
   pub expr_fits : ℕ → Expr → State → Bool
   expr_fits b (Literal n) s = is_small b n
@@ -32,7 +32,7 @@ abbrev mutual
   product_fits b n (MoreExpr e es) s = is_small b n && (expr_fits b e s && product_fits b (n *ℤ value e s) es s)
 
 abbrev mutual
-  unfolding words
+  unfolding definitions
 
   pub test_fits : ℕ → Test → State → Bool
   test_fits b True s = true
@@ -44,7 +44,7 @@ abbrev mutual
   cond_fits b (MoreTest t c) s = test_fits b t s && cond (passes t s) (cond_fits b c s) true
 
 abbrev mutual
-  unfolding words
+  unfolding definitions
 
   pub can_exec : ℕ → Command → State → Bool
   can_exec b Skip s = true

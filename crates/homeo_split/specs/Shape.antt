@@ -3,7 +3,7 @@ use Rattle.std.specs.Prelude.{ℕ, Bool, true, ◌&&◌, nat_lt, List, map, leng
 use Rattle.homeo_syntax.specs.declared.low.SplitName.{SplitName}
 use Rattle.homeo_syntax.specs.declared.low.SplitName.TheVariants.{Whole, Base, Delta}
 use Rattle.homeo_syntax.specs.Low.{Command, Commands, Skip, Assign, Write, Print, Seq, If, NoCommand, MoreCommand}
-use Rattle.homeo_split.specs.Key.{words}
+use Rattle.homeo_split.specs.Key.{definitions}
 use Rattle.homeo_split.specs.declared.split.Split.{Split}
 
 -- the number of objects of the base, and of each site's deltas
@@ -12,17 +12,17 @@ pub record Shape : Type 0 where
   pub deltas : List ℕ
 
 abbrev pub shape_of : Split → Shape
-unfolding words
+unfolding definitions
 shape_of s = record { base = length s.base.items; deltas = map (λ d. length d.items) s.deltas.items }
 
 abbrev pub has_place : Shape → SplitName → Bool
-unfolding words
+unfolding definitions
 has_place h (Whole x) = nat_lt x h.base
 has_place h (Base x) = nat_lt x h.base
 has_place h (Delta x j) = nat_lt x (slice_index_or h.deltas j 0)
 
 abbrev mutual
-  unfolding words
+  unfolding definitions
 
   -- each place that a command writes is there
   pub has_places : Shape → Command → Bool

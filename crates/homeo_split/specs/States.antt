@@ -3,7 +3,7 @@ use Rattle.std.specs.Prelude.{◌≡◌, ℕ, ℤ, pos, List, [], map, slice_ind
 use Rattle.homeo_syntax.specs.declared.low.Temp.TheVariants.{Named, Fresh}
 use Rattle.homeo_syntax.specs.declared.low.SplitName.{SplitName}
 use Rattle.homeo_meaning.specs.LowMeaning.{State, TempAt, BaseAt, DeltaAt, location_of}
-use Rattle.homeo_split.specs.Key.{words}
+use Rattle.homeo_split.specs.Key.{definitions}
 use Rattle.homeo_split.specs.declared.split.Split.{Split}
 
 -- the n-th value: 0 past the end
@@ -19,7 +19,7 @@ state_with base deltas named fresh (DeltaAt x j) = at (slice_index_or deltas j [
 
 -- a split database with temporaries 0
 abbrev pub state_of : Split → State
-unfolding words
+unfolding definitions
 state_of s = state_with s.base.items (map (λ d. d.items) s.deltas.items) [] []
 
 -- two states have the same values at the base and the deltas

@@ -10,7 +10,7 @@ use crate::arithmetic::{minus, plus, times};
 use crate::reads::Reads;
 use homeo_syntax::{Compare, LCond, LExpr, LTest};
 
-#[tactic(auto, unfolding(crate::specs::Key::words, homeo_meaning::specs::Key::words))]
+#[tactic(auto, unfolding(crate::specs::Key::definitions, homeo_meaning::specs::Key::definitions))]
 fn compared(op: Compare, left: i64, right: i64) -> bool
     ensures { result ≡ compared op left right }
 {
@@ -23,7 +23,7 @@ fn compared(op: Compare, left: i64, right: i64) -> bool
 
 /// The value of an expression on what is read, where each number on the way is within the run_limit of runs.
 #[cycle(values)]
-#[tactic(auto, using(homeo_syntax::proofs::Measures::low_expr_parts, std::proofs::lemmas::Bool::and_parts, homeo_syntax::proofs::LowViews::low_phrase_views), unfolding(crate::specs::Key::words, homeo_meaning::specs::Key::words))]
+#[tactic(auto, using(homeo_syntax::proofs::Measures::low_expr_parts, std::proofs::lemmas::Bool::and_parts, homeo_syntax::proofs::LowViews::low_phrase_views), unfolding(crate::specs::Key::definitions, homeo_meaning::specs::Key::definitions))]
 pub fn value<S: Reads>(e: &LExpr, state: &S) -> i64
     requires { expr_fits run_limit (plain_lexpr e.now) (S.values state.now) ≡ true }
     ensures { result ≡ value (plain_lexpr e.now) (S.values state.now) }
@@ -65,7 +65,7 @@ fn product<S: Reads>(es: &[LExpr], state: &S) -> i64
 }
 
 #[cycle(conditions)]
-#[tactic(auto, using(homeo_syntax::proofs::Measures::low_test_parts, std::proofs::lemmas::Bool::and_parts, homeo_syntax::proofs::LowViews::low_phrase_views), unfolding(crate::specs::Key::words, homeo_meaning::specs::Key::words))]
+#[tactic(auto, using(homeo_syntax::proofs::Measures::low_test_parts, std::proofs::lemmas::Bool::and_parts, homeo_syntax::proofs::LowViews::low_phrase_views), unfolding(crate::specs::Key::definitions, homeo_meaning::specs::Key::definitions))]
 fn passes<S: Reads>(t: &LTest, state: &S) -> bool
     requires { test_fits run_limit (plain_ltest t.now) (S.values state.now) ≡ true }
     ensures { result ≡ passes (plain_ltest t.now) (S.values state.now) }
@@ -84,7 +84,7 @@ fn passes<S: Reads>(t: &LTest, state: &S) -> bool
 /// Whether each test of a condition passes on what is read. The tests are taken in order, up to the first that fails, and each number
 /// on the way is within the run_limit of runs.
 #[cycle(conditions)]
-#[tactic(auto, using(homeo_syntax::proofs::Measures::low_test_parts, std::proofs::lemmas::Bool::and_parts, homeo_syntax::proofs::LowViews::low_phrase_views), unfolding(crate::specs::Key::words, homeo_meaning::specs::Key::words))]
+#[tactic(auto, using(homeo_syntax::proofs::Measures::low_test_parts, std::proofs::lemmas::Bool::and_parts, homeo_syntax::proofs::LowViews::low_phrase_views), unfolding(crate::specs::Key::definitions, homeo_meaning::specs::Key::definitions))]
 pub fn holds<S: Reads>(c: &LCond, state: &S) -> bool
     requires { cond_fits run_limit (plain_lcond c.now) (S.values state.now) ≡ true }
     ensures { result ≡ holds (plain_lcond c.now) (S.values state.now) }

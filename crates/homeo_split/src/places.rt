@@ -30,7 +30,7 @@ pub fn place_of_temp(t: Temp) -> Place
 }
 
 /// The place of a name.
-#[tactic(auto, unfolding(homeo_meaning::specs::Key::words))]
+#[tactic(auto, unfolding(homeo_meaning::specs::Key::definitions))]
 pub fn place_of(name: SplitName) -> Place
     ensures { plain_place result ≡ location_of name }
 {

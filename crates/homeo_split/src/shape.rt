@@ -37,7 +37,7 @@ impl Split {
         true
     }
 
-    #[tactic(auto, unfolding(crate::specs::Key::words))]
+    #[tactic(auto, unfolding(crate::specs::Key::definitions))]
     fn has_place(&self, x: SplitName) -> bool
         ensures { result ≡ has_place (shape_of self.now) x }
     {
@@ -48,7 +48,7 @@ impl Split {
         }
     }
 
-    #[tactic(auto, unfolding(crate::specs::Key::words))]
+    #[tactic(auto, unfolding(crate::specs::Key::definitions))]
     fn has_delta(&self, object: usize, site: usize) -> bool
         ensures { result ≡ has_place (shape_of self.now) (Delta object site) }
     {

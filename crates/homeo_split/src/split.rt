@@ -23,7 +23,7 @@ impl Reads for Split {
 
     ghost values = { λ s. state_of s };
 
-    #[tactic(auto, unfolding(crate::specs::Key::words))]
+    #[tactic(auto, unfolding(crate::specs::Key::definitions))]
     fn temp(&self, t: Temp) -> i64 {
         match t {
             Temp::Named(_) => 0,
@@ -31,7 +31,7 @@ impl Reads for Split {
         }
     }
 
-    #[tactic(auto, unfolding(crate::specs::Key::words, homeo_meaning::specs::Key::words))]
+    #[tactic(auto, unfolding(crate::specs::Key::definitions, homeo_meaning::specs::Key::definitions))]
     fn read(&self, x: SplitName) -> i64 {
         match x {
             SplitName::Whole(object) => item_or(self.base.as_slice(), object as usize, 0),
@@ -42,7 +42,7 @@ impl Reads for Split {
 }
 
 impl Split {
-    #[tactic(auto, unfolding(crate::specs::Key::words))]
+    #[tactic(auto, unfolding(crate::specs::Key::definitions))]
     fn delta(&self, object: usize, site: usize) -> i64
         ensures { result ≡ state_of self.now (DeltaAt object site) }
     {

@@ -25,7 +25,7 @@ impl Reads for State {
 
     ghost values = { λ s. plain_state s };
 
-    #[tactic(auto, unfolding(crate::specs::Key::words))]
+    #[tactic(auto, unfolding(crate::specs::Key::definitions))]
     fn temp(&self, t: Temp) -> i64 {
         match t {
             Temp::Named(n) => item_or(self.named.as_slice(), n as usize, 0),
@@ -33,7 +33,7 @@ impl Reads for State {
         }
     }
 
-    #[tactic(auto, unfolding(crate::specs::Key::words, homeo_meaning::specs::Key::words))]
+    #[tactic(auto, unfolding(crate::specs::Key::definitions, homeo_meaning::specs::Key::definitions))]
     fn read(&self, x: SplitName) -> i64 {
         match x {
             SplitName::Whole(object) => item_or(self.base.as_slice(), object as usize, 0),
@@ -68,7 +68,7 @@ impl State {
         }
     }
 
-    #[tactic(auto, unfolding(crate::specs::Key::words))]
+    #[tactic(auto, unfolding(crate::specs::Key::definitions))]
     fn delta(&self, object: usize, site: usize) -> i64
         ensures { result ≡ plain_state self.now (DeltaAt object site) }
     {

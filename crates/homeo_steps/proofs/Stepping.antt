@@ -19,10 +19,10 @@ use Rattle.homeo_history.specs.Answers.{Answer}
 use Rattle.homeo_history.specs.Follows.{Follows}
 use Rattle.homeo_history.specs.History.{History}
 use Rattle.homeo_history.specs.Legal.{IsFull, IsLegalFrom, call_count}
-use Rattle.homeo_history.specs.Key.{words as histories}
+use Rattle.homeo_history.specs.Key.{definitions as history_definitions}
 use Rattle.homeo_core.specs.CoreView.{CoreValue, core_at, core_history, start_of, next_call, GoesOnBy, IsStep}
-use Rattle.homeo_core.specs.Key.{words as cores}
-use Rattle.homeo_order.specs.Key.{words}
+use Rattle.homeo_core.specs.Key.{definitions as core_definitions}
+use Rattle.homeo_order.specs.Key.{definitions}
 use Rattle.homeo_order.specs.Order.{calls_from, client_names, order_of, scheduled_calls}
 use Rattle.homeo_order.specs.Scheduled.{IsWholeOrder}
 use Rattle.homeo_steps.specs.inner.Stepped.{HasMade}
@@ -31,7 +31,7 @@ use Rattle.homeo_order.proofs.Scheduling.{calls_from-snoc, named_there, times-sn
 -- ---- the counts
 -- the places of two names are equal where the names are
 same_name : (w : s.Workload) (m n : ℕ) → place_of (client_names w) m < length w.clients → place_of (client_names w) m ≡ place_of (client_names w) n → m ≡ n
-unfolding words
+unfolding definitions
 same_name w m n less e =
     let many : length (client_names w) ≡ length w.clients = length-map w.clients (λ (c : s.Client). c.name.name) in
     sym (named_there (client_names w) m 0 (omega (arith, less, many))) ∙ ap (λ (i : ℕ). get_or (client_names w) i 0) e
@@ -63,7 +63,7 @@ module _ (w : s.Workload) (counts : List ℕ) (names : List Ident) (x : Ident) (
 made_more : (w : s.Workload) (base : List ℤ) (x x' : CoreValue) (a : Answer) (names : List Ident) (name : Ident) → HasMade w base names x → place_of (client_names w) name.name < length w.clients
     → IsStep x (place_of (client_names w) name.name) a x' → start_of x'.book ≡ start_of x.book
     → GoesOnBy (plain_workload x.work) (core_history x) (next_call x (place_of (client_names w) name.name)) (core_history x') → HasMade w base (names ++ name ∷ []) x'
-unfolding cores
+unfolding core_definitions
 made_more w base x x' a names name made named step start goes =
     let client = place_of (client_names w) name.name in
     let work : plain_workload x.work ≡ w = made.work in
@@ -161,7 +161,7 @@ all_counted w counts order size counted =
 
 -- what is legal after all names is full
 pub is_full : (w : s.Workload) (base : List ℤ) (x : CoreValue) (h : History) → IsWholeOrder w → HasMade w base (order_of w.schedule) x → IsLegalFrom (plain_workload x.work) (start_of x.book) x.counts h → IsLegalFrom w base (map (λ (c : s.Client). length c.calls) w.clients) h
-unfolding histories
+unfolding history_definitions
 is_full w base x h order made legal =
     let counts : x.counts ≡ map (λ (c : s.Client). length c.calls) w.clients = all_counted w x.counts order made.size made.counted in
     let at_work = subst (λ (v : s.Workload). IsLegalFrom v (start_of x.book) x.counts h) made.work legal in
@@ -169,7 +169,7 @@ is_full w base x h order made legal =
     subst (λ (l : List ℕ). IsLegalFrom w base l h) counts at_start
 
 pub does_follow : (w : s.Workload) (base : List ℤ) (x : CoreValue) (h : History) → HasMade w base (order_of w.schedule) x → h ≡ core_history x → Follows w h (scheduled_calls w)
-unfolding words
+unfolding definitions
 does_follow w base x h made is = subst (λ (g : History). Follows w g (scheduled_calls w)) (sym is) made.follows
 
 -- ---- the start
@@ -177,7 +177,7 @@ none_made : (xs : List s.Client) (k : ℕ) → ◌≡◌ {A = ℕ} (get_or (repl
 none_made xs k = grind (arith, common_steps)
 
 pub none_yet : (v : Workload) (base : List ℤ) (x : CoreValue) → x ≡ core_at v base → Follows (plain_workload v) (core_history x) [] → HasMade (plain_workload v) base [] x
-unfolding cores words histories
+unfolding core_definitions definitions history_definitions
 none_yet v base x is follows =
     let w = plain_workload v in
     record {
@@ -190,5 +190,5 @@ none_yet v base x is follows =
 
 -- a history of all calls that is legal from the initial database is full
 pub full_from : (w : s.Workload) (base : List ℤ) (h : History) → base ≡ initial w → IsLegalFrom w base (map (λ (c : s.Client). length c.calls) w.clients) h → IsFull w h
-unfolding histories
+unfolding history_definitions
 full_from w base h is legal = subst (λ (b : List ℤ). IsLegalFrom w b (map (λ (c : s.Client). length c.calls) w.clients) h) is legal

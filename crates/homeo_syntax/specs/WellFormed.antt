@@ -7,7 +7,7 @@ use Rattle.homeo_syntax.specs.declared.token.Version.{Version}
 use Rattle.homeo_syntax.specs.declared.token.Version.TheVariants.{First, Second}
 use Rattle.homeo_syntax.specs.declared.workload.ObjectDecl.{ObjectDecl}
 use Rattle.homeo_syntax.specs.declared.workload.RangeDecl.{RangeDecl}
-use Rattle.homeo_syntax.specs.Key.{words}
+use Rattle.homeo_syntax.specs.Key.{definitions}
 use Rattle.homeo_syntax.specs.Source as s
 use Rattle.homeo_syntax.specs.Lexemes.{is_letter, is_word, reserved, look_up}
 use Rattle.homeo_syntax.specs.Versions.{version_number, also_reserved}
@@ -32,12 +32,12 @@ pub record IsShort (n : ℤ) : Type 0 where
 
 -- ---- a fact of each identifier
 abbrev pub Each : {A : Type 0} → (A → Type 0) → List A → Type 0
-unfolding words
+unfolding definitions
 Each P [] = ⊤
 Each P (a ∷ all) = P a × Each P all
 
 abbrev mutual
-  unfolding words
+  unfolding definitions
 
   pub EachInExpr : (Ident → Type 0) → s.Expr → Type 0
   EachInExpr P (s.Literal n) = ⊤
@@ -65,12 +65,12 @@ abbrev mutual
   EachInCond P (s.MoreTest t c) = EachInTest P t × EachInCond P c
 
 abbrev pub EachInFields : (Ident → Type 0) → List s.FieldValue → Type 0
-unfolding words
+unfolding definitions
 EachInFields P [] = ⊤
 EachInFields P (f ∷ fs) = P f.field × EachInExpr P f.value × EachInFields P fs
 
 abbrev mutual
-  unfolding words
+  unfolding definitions
 
   pub EachInCommand : (Ident → Type 0) → s.Command → Type 0
   EachInCommand P s.Skip = ⊤
@@ -92,7 +92,7 @@ abbrev mutual
   EachInCommands P (s.MoreCommand c cs) = EachInCommand P c × EachInCommands P cs
 
 abbrev pub InSchedule : (Ident → Type 0) → Option (List Ident) → Type 0
-unfolding words
+unfolding definitions
 InSchedule P None = ⊤
 InSchedule P (Some xs) = Each P xs
 
@@ -110,7 +110,7 @@ CanAbort First = ⊥
 CanAbort Second = ⊤
 
 abbrev mutual
-  unfolding words
+  unfolding definitions
 
   -- the version has the command: only version 2 has `abort`
   pub HasCommand : Version → s.Command → Type 0

@@ -4,7 +4,7 @@ use Rattle.std.specs.HashMap.{HashMap, get, get_by}
 use Rattle.std.specs.List.{AllZip}
 use Rattle.std.specs.Map.{lookup}
 use Rattle.std.specs.Option.{option_map, option_copied}
-use Rattle.homeo_meaning.specs.Key.{words as meaning_words}
+use Rattle.homeo_meaning.specs.Key.{definitions as meaning_definitions}
 use Rattle.homeo_meaning.specs.LowMeaning.{same_location, put}
 use Rattle.homeo_split.specs.contracts.places.PlacePartialEq.TheImpl.{ghosts}
 use Rattle.homeo_split.specs.declared.places.Place.{Place}
@@ -18,7 +18,7 @@ map-choice f false v o = refl
 pub bound-put :
     {X Y S : Type 0} (f : X → Y) (m n : HashMap Place X S) (k : Place) (v : X) → ((q : Place) → get ghosts.eq n q ≡ cond (ghosts.eq k q) (Some v) (get ghosts.eq m q)) →
     (λ l. option_map f (get_by (is_at l) n)) ≡ put (λ l. option_map f (get_by (is_at l) m)) (plain_place k) (Some (f v))
-unfolding meaning_words
+unfolding meaning_definitions
 bound-put f m n k v h =
     let s : ghosts.eq ≡ (λ a b. is_at (plain_place a) b) = λ i a b. same-places a b i in
     let h' = subst (λ (e : Place → Place → Bool). (q : Place) → get e n q ≡ cond (e k q) (Some v) (get e m q)) s h in

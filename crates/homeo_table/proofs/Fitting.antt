@@ -4,32 +4,32 @@ use Rattle.std.proofs.lemmas.Bool.{and_parts}
 use Rattle.std.specs.Option.{unwrap_or}
 use Rattle.homeo_syntax.specs.declared.low.SplitName.{SplitName}
 use Rattle.homeo_syntax.specs.Low.{Expr, Exprs, Literal, OfTemp, Read, Sum, Product, Neg, NoExpr, MoreExpr, Test, Cond, True, Not, Comparison, NoTest, MoreTest}
-use Rattle.homeo_meaning.specs.Key.{words as meaning_words}
+use Rattle.homeo_meaning.specs.Key.{definitions as meaning_definitions}
 use Rattle.homeo_meaning.specs.Meaning.{compared}
 use Rattle.homeo_meaning.specs.Small.{is_small}
 use Rattle.homeo_meaning.specs.LowMeaning.{Location, TempAt, State, location_of, same_location, put, value, sum_value, product_value, passes, holds}
-use Rattle.homeo_plan.specs.Key.{words as plan_words}
+use Rattle.homeo_plan.specs.Key.{definitions as plan_definitions}
 use Rattle.homeo_plan.specs.Table.{HasNoTemps}
-use Rattle.homeo_split.specs.Key.{words as split_words}
+use Rattle.homeo_split.specs.Key.{definitions as split_definitions}
 use Rattle.homeo_split.specs.CanExec.{run_limit, expr_fits, sum_fits, product_fits, test_fits, cond_fits}
-use Rattle.homeo_table.specs.inner.Key.{words}
+use Rattle.homeo_table.specs.inner.Key.{definitions}
 use Rattle.homeo_table.specs.inner.Substitution.{substituted, substituted_all, substituted_test, substituted_cond}
 use Rattle.homeo_table.specs.inner.Walks.{value_or, after, fits_if}
 
 module _ (b : Location → Option Expr) (s : State) (temps : HasNoTemps s) where
   -- ---- values
   value-temp : (o : Option Expr) (n : ℤ) → n ≡ pos 0 → value (unwrap_or o (Literal (pos 0))) s ≡ value_or n o s
-  unfolding meaning_words
+  unfolding meaning_definitions
   value-temp None n h = sym h
   value-temp (Some e) n h = refl
 
   value-read : (o : Option Expr) (x : SplitName) → value (unwrap_or o (Read x)) s ≡ value_or (s (location_of x)) o s
-  unfolding meaning_words
+  unfolding meaning_definitions
   value-read None x = refl
   value-read (Some e) x = refl
 
   mutual
-    unfolding words meaning_words plan_words
+    unfolding definitions meaning_definitions plan_definitions
 
     pub value-after : (e : Expr) → value (substituted b e) s ≡ value e (after b s)
     value-after (Literal n) = refl
@@ -50,7 +50,7 @@ module _ (b : Location → Option Expr) (s : State) (temps : HasNoTemps s) where
         product-after es (n *ℤ value (substituted b e) s) ∙ ap (λ v. product_value (n *ℤ v) es (after b s)) (value-after e)
 
   mutual
-    unfolding words meaning_words
+    unfolding definitions meaning_definitions
 
     passes-after : (t : Test) → passes (substituted_test b t) s ≡ passes t (after b s)
     passes-after True = refl
@@ -67,23 +67,23 @@ module _ (b : Location → Option Expr) (s : State) (temps : HasNoTemps s) where
   value-chosen false n e o = refl
 
   pub after-put : (p : Location) (e : Expr) → after (put b p (Some (substituted b e))) s ≡ put (after b s) p (value e (after b s))
-  unfolding meaning_words
+  unfolding meaning_definitions
   after-put p e = λ i l. value-chosen (same_location p l) (s l) e (b l) i
 
   -- ---- fitting
   module _ (fits : (l : Location) → fits_if (b l) s ≡ true) where
     fits-temp : (o : Option Expr) → fits_if o s ≡ true → expr_fits run_limit (unwrap_or o (Literal (pos 0))) s ≡ true
-    unfolding split_words meaning_words
+    unfolding split_definitions meaning_definitions
     fits-temp None h = refl
     fits-temp (Some e) h = h
 
     fits-read : (o : Option Expr) (x : SplitName) → fits_if o s ≡ true → is_small run_limit (value_or (s (location_of x)) o s) ≡ true → expr_fits run_limit (unwrap_or o (Read x)) s ≡ true
-    unfolding split_words
+    unfolding split_definitions
     fits-read None x h k = k
     fits-read (Some e) x h k = h
 
     mutual
-      unfolding words meaning_words split_words
+      unfolding definitions meaning_definitions split_definitions
 
       pub fits-after : (e : Expr) → expr_fits run_limit e (after b s) ≡ true → expr_fits run_limit (substituted b e) s ≡ true
       fits-after (Literal n) h = h
@@ -118,7 +118,7 @@ module _ (b : Location → Option Expr) (s : State) (temps : HasNoTemps s) where
     where-passes false x y f h = refl
 
     mutual
-      unfolding words meaning_words split_words
+      unfolding definitions meaning_definitions split_definitions
 
       test-fits-after : (t : Test) → test_fits run_limit t (after b s) ≡ true → test_fits run_limit (substituted_test b t) s ≡ true
       test-fits-after True h = refl
@@ -140,5 +140,5 @@ module _ (b : Location → Option Expr) (s : State) (temps : HasNoTemps s) where
     fits-chosen false e o h k = k
 
     pub fits-put : (p : Location) (e : Expr) → expr_fits run_limit e (after b s) ≡ true → (l : Location) → fits_if (put b p (Some (substituted b e)) l) s ≡ true
-    unfolding meaning_words
+    unfolding meaning_definitions
     fits-put p e h l = fits-chosen (same_location p l) e (b l) (fits-after e h) (fits l)

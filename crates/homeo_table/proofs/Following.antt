@@ -1,23 +1,23 @@
 -- One more command in front of those that are left, and one more branch.
 use Rattle.std.proofs.Common.{◌≡◌, ◌+◌, ◌<◌, List, [], ◌∷◌, ◌++◌, map, reverse, length, Bor, refl, sym, ap, ap₂, ◌∙◌, arith, lit<, append_assoc, append-nil}
 use Rattle.std.proofs.lemmas.List.{reverse-append, map-append, map_push}
-use Rattle.homeo_syntax.specs.Key.{words as tree_words}
+use Rattle.homeo_syntax.specs.Key.{definitions as syntax_definitions}
 use Rattle.homeo_syntax.specs.declared.low.LCommand.{LCommand}
 use Rattle.homeo_syntax.specs.declared.low.SplitName.{SplitName}
 use Rattle.homeo_syntax.specs.declared.low.Temp.{Temp}
 use Rattle.homeo_syntax.specs.Low.{Expr, Cond, Command, Skip, Assign, Write, Print, Seq, If}
 use Rattle.homeo_syntax.specs.LowView.{low_commands, plain_lcommand}
 use Rattle.homeo_meaning.specs.LowMeaning.{Location, TempAt, location_of}
-use Rattle.homeo_plan.specs.Key.{words as plan_words}
+use Rattle.homeo_plan.specs.Key.{definitions as plan_definitions}
 use Rattle.homeo_plan.specs.Table.{Row, set_before, test_before, otherwise, before, all_before, clear_row, last_row, table}
 use Rattle.homeo_table.specs.declared.branches.Branch.{Branch}
-use Rattle.homeo_table.specs.inner.Key.{words}
+use Rattle.homeo_table.specs.inner.Key.{definitions}
 use Rattle.homeo_table.specs.inner.Makings.{command_before}
 use Rattle.homeo_table.specs.inner.Branches.{left_before, rows_of, rows_of_all, size, size_all, left_size}
 
 -- ---- commands that are left
 pub left-push : (cs : List Command) (c : Command) (rows : List Row) → left_before (cs ++ c ∷ []) rows ≡ before c (left_before cs rows)
-unfolding words
+unfolding definitions
 left-push [] c rows = refl
 left-push (d ∷ cs) c rows = left-push cs c (before d rows)
 
@@ -26,19 +26,19 @@ reverse-cons cs ds d = ap (λ l. cs ++ l) (reverse-append (d ∷ []) ds) ∙ sym
 
 pub left-all :
     (cs ds : List Command) (rows : List Row) → left_before (cs ++ reverse ds) rows ≡ all_before (low_commands ds) (left_before cs rows)
-unfolding words plan_words tree_words
+unfolding definitions plan_definitions syntax_definitions
 left-all cs [] rows = ap (λ l. left_before l rows) (append-nil cs)
 left-all cs (d ∷ ds) rows =
     ap (λ l. left_before l rows) (reverse-cons cs ds d) ∙ left-push (cs ++ reverse ds) d rows ∙ ap (before d) (left-all cs ds rows)
 
 -- ---- how many are left
 pub size-push : (cs : List Command) (c : Command) → left_size (cs ++ c ∷ []) ≡ size c + left_size cs
-unfolding words
+unfolding definitions
 size-push [] c = refl
 size-push (d ∷ cs) c = let ih = size-push cs c in omega (arith, ih)
 
 pub size-all : (cs ds : List Command) → left_size (cs ++ reverse ds) ≡ size_all (low_commands ds) + left_size cs
-unfolding words tree_words
+unfolding definitions syntax_definitions
 size-all cs [] = ap left_size (append-nil cs) ∙ omega arith
 size-all cs (d ∷ ds) =
     let ih = size-all cs ds in
@@ -46,7 +46,7 @@ size-all cs (d ∷ ds) =
     omega (arith, ih, e)
 
 pub size-some : (c : Command) → 0 < size c
-unfolding words
+unfolding definitions
 size-some Skip = lit< tt
 size-some (Assign t e) = lit< tt
 size-some (Write x e) = lit< tt
@@ -58,11 +58,11 @@ pub less-before : (k : Command) (cs : List Command) → left_size cs < size k + 
 less-before k cs = omega (arith, size-some k)
 
 pub less-Seq : (k : Command) (ds cs es : List Command) → k ≡ Seq (low_commands ds) → es ≡ cs ++ reverse ds → left_size es < size k + left_size cs
-unfolding words
+unfolding definitions
 less-Seq k ds cs es h f = omega (arith, ap left_size f ∙ size-all cs ds, ap size h)
 
 pub less-If : (k : Command) (b : Cond) (c d : Command) (cs es : List Command) → k ≡ If b c d → es ≡ cs ++ c ∷ [] → left_size es < size k + left_size cs
-unfolding words
+unfolding definitions
 less-If k b c d cs es h f = omega (arith, ap left_size f ∙ size-push cs c, ap size h)
 
 pub less-next : (cs ds es : List Command) (c : Command) → es ≡ cs ++ c ∷ [] → left_size ds < size c + left_size cs → left_size ds < left_size es
@@ -70,28 +70,28 @@ less-next cs ds es c h l = let e = ap left_size h ∙ size-push cs c in omega (a
 
 -- ---- one command, form by form
 pub over-Skip : (k : Command) (rows : List Row) → k ≡ Skip → before k rows ≡ rows
-unfolding plan_words
+unfolding plan_definitions
 over-Skip k rows h = ap (λ k. before k rows) h
 
 pub over-Assign :
     (k : Command) (t : Temp) (e : Expr) (p : Location) (rows : List Row) → k ≡ Assign t e → p ≡ TempAt t → before k rows ≡ map (set_before k p e) rows
-unfolding plan_words
+unfolding plan_definitions
 over-Assign k t e p rows h w = ap (λ k. before k rows) h ∙ ap₂ (λ k p. map (set_before k p e) rows) (sym h) (sym w)
 
 pub over-Write :
     (k : Command) (x : SplitName) (e : Expr) (p : Location) (rows : List Row) → k ≡ Write x e → p ≡ location_of x →
     before k rows ≡ map (set_before k p e) rows
-unfolding plan_words
+unfolding plan_definitions
 over-Write k x e p rows h w = ap (λ k. before k rows) h ∙ ap₂ (λ k p. map (set_before k p e) rows) (sym h) (sym w)
 
 pub over-Print : (k : Command) (e : Expr) (rows : List Row) → k ≡ Print e → before k rows ≡ map (command_before k) rows
-unfolding plan_words command_before
+unfolding plan_definitions command_before
 over-Print k e rows h = ap (λ k. before k rows) h ∙ ap (λ k. map (command_before k) rows) (sym h)
 
 pub over-Seq :
     (k : Command) (ds cs es : List Command) (rows : List Row) → k ≡ Seq (low_commands ds) → es ≡ cs ++ reverse ds →
     left_before es rows ≡ before k (left_before cs rows)
-unfolding plan_words
+unfolding plan_definitions
 over-Seq k ds cs es rows h f = ap (λ l. left_before l rows) f ∙ left-all cs ds rows ∙ ap (λ k. before k (left_before cs rows)) (sym h)
 
 -- ---- rows in the making
@@ -100,7 +100,7 @@ map-map m f [] = refl
 map-map m f (x ∷ xs) = ap (λ l. m (f x) ∷ l) (map-map m f xs)
 
 pub rows-start : (m : Row → Row) (cs : List Command) (c : Command) → m ≡ clear_row → cs ≡ c ∷ [] → map m (left_before cs (last_row ∷ [])) ≡ table c
-unfolding words plan_words
+unfolding definitions plan_definitions
 rows-start m cs c e f = ap₂ (λ m cs. map m (left_before cs (last_row ∷ []))) e f
 
 pub rows-through :
@@ -117,14 +117,14 @@ pub rows-next : (m : Row → Row) (cs ds : List Command) (c : Command) (rows : L
 rows-next m cs ds c rows h = ap (map m) (sym (left-push cs c rows) ∙ ap (λ l. left_before l rows) (sym h))
 
 pub rows-end : (m : Row → Row) (cs : List Command) (all : List Row) → cs ≡ [] → m last_row ∷ all ≡ map m (left_before cs (last_row ∷ [])) ++ all
-unfolding words
+unfolding definitions
 rows-end m cs all h = ap (λ cs. map m (left_before cs (last_row ∷ [])) ++ all) (sym h)
 
 pub rows-both :
     (m : Row → Row) (k : Command) (b : Cond) (c d : Command) (rows all held failed others : List Row) → k ≡ If b c d →
     held ≡ map m (map (test_before b) (before c rows)) → failed ≡ map m (map (test_before (otherwise b)) (before d rows)) → others ≡ failed ++ all →
     held ++ others ≡ map m (before k rows) ++ all
-unfolding plan_words
+unfolding plan_definitions
 rows-both m k b c d rows all held failed others h e f g =
     let y = map (test_before b) (before c rows) in
     let n = map (test_before (otherwise b)) (before d rows) in
@@ -138,18 +138,18 @@ pushed-left cs ds c k h is =
 
 -- ---- branches
 pub branches-push : (bs : List Branch) (b : Branch) → rows_of_all (bs ++ b ∷ []) ≡ rows_of b ++ rows_of_all bs
-unfolding words
+unfolding definitions
 branches-push [] b = sym (append-nil (rows_of b))
 branches-push (d ∷ bs) b =
     ap (λ rows. rows ++ rows_of d) (branches-push bs b) ∙ append_assoc (rows_of b) (rows_of_all bs) (rows_of d)
 
 pub branches-start : (bs cs : List Branch) (b : Branch) (rows : List Row) → bs ≡ [] → cs ≡ bs ++ b ∷ [] → rows_of b ≡ rows → rows_of_all cs ≡ rows
-unfolding words
+unfolding definitions
 branches-start bs cs b rows h e f =
     ap rows_of_all (e ∙ ap (λ bs. bs ++ b ∷ []) h) ∙ branches-push [] b ∙ append-nil (rows_of b) ∙ f
 
 pub branches-end : (bs : List Branch) (rows all : List Row) → bs ≡ [] → rows ++ rows_of_all bs ≡ all → rows ≡ all
-unfolding words
+unfolding definitions
 branches-end bs rows all h e = sym (append-nil rows) ∙ ap (λ bs. rows ++ rows_of_all bs) (sym h) ∙ e
 
 pub branches-next : (bs cs : List Branch) (b : Branch) → cs ≡ bs ++ b ∷ [] → rows_of b ++ rows_of_all bs ≡ rows_of_all cs

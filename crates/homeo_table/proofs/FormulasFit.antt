@@ -5,17 +5,17 @@ use Rattle.std.proofs.lemmas.List.Elements.{All-nil, All-cons, All-map, All-appe
 use Rattle.std.proofs.lemmas.List.{get_or-map, length-map}
 use Rattle.std.specs.List.{All}
 use Rattle.homeo_syntax.specs.Low.{Expr, Cond, NoTest, MoreTest, Command, Commands, Skip, Assign, Write, Print, Seq, If, NoCommand, MoreCommand}
-use Rattle.homeo_meaning.specs.Key.{words as meaning_words}
+use Rattle.homeo_meaning.specs.Key.{definitions as meaning_definitions}
 use Rattle.homeo_meaning.specs.LowMeaning.{Location, TempAt, State, location_of, put, value, passes, holds, exec, exec_all}
-use Rattle.homeo_plan.specs.Key.{words as plan_words}
+use Rattle.homeo_plan.specs.Key.{definitions as plan_definitions}
 use Rattle.homeo_plan.specs.declared.rows.Row as rows
 use Rattle.homeo_plan.specs.PlanView.{plain_row}
 use Rattle.homeo_plan.specs.Table.{Row, both, set_before, print_before, test_before, otherwise, before, all_before, clear_row, last_row, table, HasNoTemps}
-use Rattle.homeo_split.specs.Key.{words as split_words}
+use Rattle.homeo_split.specs.Key.{definitions as split_definitions}
 use Rattle.homeo_split.specs.CanExec.{run_limit, expr_fits, cond_fits, can_exec, can_exec_all}
 use Rattle.homeo_split.specs.States.{state_of}
 use Rattle.homeo_split.specs.declared.split.Split.{Split}
-use Rattle.homeo_table.specs.inner.Key.{words}
+use Rattle.homeo_table.specs.inner.Key.{definitions}
 use Rattle.homeo_table.specs.inner.Substitution.{substituted, substituted_cond}
 use Rattle.homeo_table.specs.inner.Walks.{after, fits_if}
 use Rattle.homeo_table.proofs.Fitting.{holds-after, after-put, fits-put, cond-fits-after}
@@ -31,7 +31,7 @@ each-from P f ys h k d lt =
 -- ---- conditions one after another
 module _ (s : State) (f : Cond) where
   both-fits : (c : Cond) → cond_fits run_limit c s ≡ true → (holds c s ≡ true → cond_fits run_limit f s ≡ true) → cond_fits run_limit (both c f) s ≡ true
-  unfolding plan_words split_words meaning_words
+  unfolding plan_definitions split_definitions meaning_definitions
   both-fits NoTest h g = g refl
   both-fits (MoreTest t c) h g =
       let k = and_parts _ _ h in
@@ -44,7 +44,7 @@ module _ (s : State) (f : Cond) where
       go false e k ih = refl
 
   otherwise-fits : (c : Cond) → cond_fits run_limit c s ≡ true → (holds c s ≡ false → cond_fits run_limit f s ≡ true) → cond_fits run_limit (both (otherwise c) f) s ≡ true
-  unfolding plan_words split_words meaning_words
+  unfolding plan_definitions split_definitions meaning_definitions
   otherwise-fits c h g = ap₂ ◌&&◌ h (go (holds c s) refl)
     where
       go : (v : Bool) → holds c s ≡ v → cond (not v) (cond_fits run_limit f s) true ≡ true
@@ -64,7 +64,7 @@ module _ (s : State) (temps : HasNoTemps s) where
   fit-set :
       (k : Command) (p : Location) (e : Expr) (st : State) (rows : List Row) → expr_fits run_limit e st ≡ true → FitRows (put st p (value e st)) rows →
       FitRows st (map (set_before k p e) rows)
-  unfolding plan_words
+  unfolding plan_definitions
   fit-set k p e st rows can h b fits is =
       let can : expr_fits run_limit e (after b s) ≡ true = ap (expr_fits run_limit e) is ∙ can in
       let next = h (put b p (Some (substituted b e))) (fits-put b s temps fits p e can)
@@ -73,20 +73,20 @@ module _ (s : State) (temps : HasNoTemps s) where
       (λ n d lt. ap (λ c. cond_fits run_limit c s) (sym (put-cond b p e (get_or rows n d).formula)) ∙ next n d lt)
 
   fit-print : (e : Expr) (st : State) (rows : List Row) → FitRows st rows → FitRows st (map (print_before e) rows)
-  unfolding plan_words
+  unfolding plan_definitions
   fit-print e st rows h b fits is = All-map (Fits b) (print_before e) rows (h b fits is)
 
   fits-tested :
       (b : Location → Option Expr) (t : Cond) (r : Row) → cond_fits run_limit (substituted_cond b t) s ≡ true →
       (holds (substituted_cond b t) s ≡ true → Fits b r) → Fits b (test_before t r)
-  unfolding plan_words
+  unfolding plan_definitions
   fits-tested b t r asked h =
       ap (λ c. cond_fits run_limit c s) (substituted-both b t r.formula) ∙ both-fits s (substituted_cond b r.formula) (substituted_cond b t) asked h
 
   fits-otherwise :
       (b : Location → Option Expr) (t : Cond) (r : Row) → cond_fits run_limit (substituted_cond b t) s ≡ true →
       (holds (substituted_cond b t) s ≡ false → Fits b r) → Fits b (test_before (otherwise t) r)
-  unfolding words plan_words
+  unfolding definitions plan_definitions
   fits-otherwise b t r asked h = otherwise-fits s (substituted_cond b r.formula) (substituted_cond b t) asked h
 
   -- the rows of the branch that is taken fit, and those of the other fail at its condition
@@ -95,7 +95,7 @@ module _ (s : State) (temps : HasNoTemps s) where
       (can_exec run_limit c st ≡ true → FitRows (exec c st).state rows → FitRows st (before c rows)) →
       (can_exec run_limit d st ≡ true → FitRows (exec d st).state rows → FitRows st (before d rows)) →
       FitRows (exec (If t c d) st).state rows → FitRows st (before (If t c d) rows)
-  unfolding plan_words
+  unfolding plan_definitions
   fit-test true t c d st rows can asks held left right h b fits is =
       let next = takes true (If t c d) t c d st refl held in
       let asked = cond-fits-after b s temps fits t (ap (cond_fits run_limit t) is ∙ asks) in
@@ -116,7 +116,7 @@ module _ (s : State) (temps : HasNoTemps s) where
       (All-map (Fits b) (test_before (otherwise t)) (before d rows) (λ n x lt. fits-otherwise b t (get_or (before d rows) n x) asked (λ q. second n x lt)))
 
   mutual
-    unfolding plan_words split_words meaning_words
+    unfolding plan_definitions split_definitions meaning_definitions
 
     fit-before : (c : Command) (st : State) (rows : List Row) → can_exec run_limit c st ≡ true → FitRows (exec c st).state rows → FitRows st (before c rows)
     fit-before Skip st rows can h = h
@@ -135,7 +135,7 @@ module _ (s : State) (temps : HasNoTemps s) where
         fit-before c st (all_before cs rows) k.0 (fit-all-before cs (exec c st).state rows k.1 h)
 
   fit-table : (c : Command) → can_exec run_limit c s ≡ true → All (λ r. cond_fits run_limit r.formula s ≡ true) (table c)
-  unfolding plan_words split_words words
+  unfolding plan_definitions split_definitions definitions
   fit-table c can =
       let rows = fit-before c s (last_row ∷ []) can (λ b fits is. All-cons (Fits b) last_row [] refl (All-nil (Fits b))) (λ l. None) (λ l. refl) refl in
       All-map (λ r. cond_fits run_limit r.formula s ≡ true) clear_row (before c (last_row ∷ []))

@@ -1,15 +1,15 @@
 -- One more command or test of a row in the making.
 use Rattle.std.proofs.Common.{◌≡◌, Option, Some, None, List, [], ◌∷◌, ◌++◌, map, refl, sym, ap, ap₂, ◌∙◌}
 use Rattle.std.proofs.lemmas.List.{map_push}
-use Rattle.homeo_syntax.specs.Key.{words as tree_words}
+use Rattle.homeo_syntax.specs.Key.{definitions as syntax_definitions}
 use Rattle.homeo_syntax.specs.declared.low.LTest.{LTest}
 use Rattle.homeo_syntax.specs.declared.low.LCommand.{LCommand}
 use Rattle.homeo_syntax.specs.Low.{Expr, Test, Cond, Not, NoTest, MoreTest, Command, Commands, NoCommand, MoreCommand}
 use Rattle.homeo_syntax.specs.LowView.{low_tests, low_commands, plain_ltest, plain_lcommand}
 use Rattle.homeo_meaning.specs.LowMeaning.{Location, put}
-use Rattle.homeo_plan.specs.Key.{words as plan_words}
+use Rattle.homeo_plan.specs.Key.{definitions as plan_definitions}
 use Rattle.homeo_plan.specs.Table.{Row, both, set_before, test_before, otherwise, clear_row, last_row}
-use Rattle.homeo_table.specs.inner.Key.{words}
+use Rattle.homeo_table.specs.inner.Key.{definitions}
 use Rattle.homeo_table.specs.inner.Makings.{and_then, row_with, command_before}
 use Rattle.homeo_table.specs.inner.Substitution.{substituted, substituted_test, substituted_cond}
 use Rattle.homeo_table.proofs.Equations.{substituted-tests}
@@ -20,28 +20,28 @@ row_of c cs = record { formula = c; residual = cs }
 
 -- ---- lists of tests and commands
 both-append : (ts us : List Test) (c : Cond) → both (low_tests (ts ++ us)) c ≡ both (low_tests ts) (both (low_tests us) c)
-unfolding plan_words tree_words
+unfolding plan_definitions syntax_definitions
 both-append [] us c = refl
 both-append (t ∷ ts) us c = ap (MoreTest t) (both-append ts us c)
 
 both-none : (c : Cond) → both c NoTest ≡ c
-unfolding plan_words
+unfolding plan_definitions
 both-none NoTest = refl
 both-none (MoreTest t c) = ap (MoreTest t) (both-none c)
 
 then-push : (cs : List Command) (c : Command) (ds : Commands) → and_then (cs ++ c ∷ []) ds ≡ and_then cs (MoreCommand c ds)
-unfolding words
+unfolding definitions
 then-push [] c ds = refl
 then-push (d ∷ cs) c ds = ap (MoreCommand d) (then-push cs c ds)
 
 then-none : (cs : List Command) → and_then cs NoCommand ≡ low_commands cs
-unfolding words tree_words
+unfolding definitions syntax_definitions
 then-none [] = refl
 then-none (c ∷ cs) = ap (MoreCommand c) (then-none cs)
 
 -- ---- rows
 pub row-new : (ts : List LTest) (cs : List LCommand) (s : Location → Option Expr) → ts ≡ [] → cs ≡ [] → s ≡ (λ l. None) → row_with (map plain_ltest ts) (map plain_lcommand cs) s ≡ clear_row
-unfolding words plan_words tree_words
+unfolding definitions plan_definitions syntax_definitions
 row-new ts cs s e f h =
     ap₂ (λ ts cs. row_with (map plain_ltest ts) (map plain_lcommand cs) s) e f ∙ ap (row_with [] []) h
     ∙ (λ i r. row_of (none-cond r.formula i) r.residual)
@@ -53,7 +53,7 @@ row-same ts ts' cs cs' s s' e f h = ap₂ (λ ts cs. row_with ts cs s) e f ∙ a
 row-put :
     (ts : List Test) (cs : List Command) (s : Location → Option Expr) (c : Command) (p : Location) (e : Expr) →
     row_with ts (cs ++ c ∷ []) (put s p (Some (substituted s e))) ≡ (λ r. row_with ts cs s (set_before c p e r))
-unfolding plan_words
+unfolding plan_definitions
 row-put ts cs s c p e = λ i r. row_of (both (low_tests ts) (put-cond s p e r.formula i)) (then-push cs c r.residual i)
 
 pub row-set :
@@ -77,7 +77,7 @@ row-command ts xs ys s x c h is =
 pub row-asked :
     (ts ts' us : List Test) (cs : List Command) (s : Location → Option Expr) (b : Cond) → ts' ≡ ts ++ us → low_tests us ≡ substituted_cond s b →
     row_with ts' cs s ≡ (λ r. row_with ts cs s (test_before b r))
-unfolding plan_words
+unfolding plan_definitions
 row-asked ts ts' us cs s b e h =
     ap (λ ts. row_with ts cs s) e
     ∙ (λ i r. row_of
@@ -95,11 +95,11 @@ row-tests ts ts' us cs s b e h =
 pub row-fails :
     (xs ys : List LTest) (cs : List Command) (s : Location → Option Expr) (x : LTest) (b : Cond) → ys ≡ xs ++ x ∷ [] →
     plain_ltest x ≡ Not (substituted_cond s b) → row_with (map plain_ltest ys) cs s ≡ (λ r. row_with (map plain_ltest xs) cs s (test_before (otherwise b) r))
-unfolding words plan_words tree_words
+unfolding definitions plan_definitions syntax_definitions
 row-fails xs ys cs s x b e h =
     row-tests (map plain_ltest xs) (map plain_ltest ys) (Not b ∷ []) cs s (otherwise b)
     (ap (map plain_ltest) e ∙ map_push plain_ltest xs x ∙ ap (λ t. map plain_ltest xs ++ t ∷ []) h) refl
 
 pub row-last : (ts : List Test) (cs : List Command) (s : Location → Option Expr) → row_of (low_tests ts) (low_commands cs) ≡ row_with ts cs s last_row
-unfolding words plan_words
+unfolding definitions plan_definitions
 row-last ts cs s = ap₂ row_of (sym (both-none (low_tests ts))) (sym (then-none cs))

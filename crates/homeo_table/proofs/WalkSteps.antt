@@ -2,23 +2,23 @@
 use Rattle.std.proofs.Common.{◌≡◌, ◌+◌, ◌<◌, true, false, cond, ◌&&◌, Bool, Option, Some, None, Result, Ok, Err, OnOk, List, [], ◌∷◌, ◌++◌, map, reverse, Bor, refl, sym, ap, ap₂, ◌∙◌, arith}
 use Rattle.std.proofs.lemmas.Bool.{and_parts}
 use Rattle.std.proofs.lemmas.List.{reverse-append, reverse-reverse, map_push}
-use Rattle.homeo_syntax.specs.Key.{words as tree_words}
+use Rattle.homeo_syntax.specs.Key.{definitions as syntax_definitions}
 use Rattle.homeo_syntax.specs.declared.low.LCommand.{LCommand}
 use Rattle.homeo_syntax.specs.declared.low.SplitName.{SplitName}
 use Rattle.homeo_syntax.specs.declared.low.Temp.{Temp}
 use Rattle.homeo_syntax.specs.Low.{Expr, Cond, Command, Skip, Assign, Write, Print, Seq, If}
 use Rattle.homeo_syntax.specs.LowView.{low_commands, plain_lcommand}
-use Rattle.homeo_meaning.specs.Key.{words as meaning_words}
+use Rattle.homeo_meaning.specs.Key.{definitions as meaning_definitions}
 use Rattle.homeo_meaning.specs.LowMeaning.{Location, TempAt, State, location_of, put, value, holds, exec, exec_all}
-use Rattle.homeo_plan.specs.Key.{words as plan_words}
+use Rattle.homeo_plan.specs.Key.{definitions as plan_definitions}
 use Rattle.homeo_plan.specs.Table.{Row, set_before, test_before, otherwise, clear_row, last_row, walk, walk_before, walk_all_before, HasNoTemps}
-use Rattle.homeo_split.specs.Key.{words as split_words}
+use Rattle.homeo_split.specs.Key.{definitions as split_definitions}
 use Rattle.homeo_split.specs.CanExec.{run_limit, expr_fits, cond_fits, can_exec, can_exec_all}
-use Rattle.homeo_table.specs.inner.Key.{words}
+use Rattle.homeo_table.specs.inner.Key.{definitions}
 use Rattle.homeo_table.specs.inner.Branches.{size, size_all}
 use Rattle.homeo_table.specs.inner.Makings.{command_before}
 use Rattle.homeo_table.specs.inner.Substitution.{substituted, substituted_cond}
-use Rattle.homeo_table.specs.inner.Walks.{after, fits_if, CanFollow, walked, Goes, in_order}
+use Rattle.homeo_table.specs.inner.Walks.{after, fits_if, CanFollow, walked, Goes, to_come}
 use Rattle.homeo_table.proofs.Following.{size-some}
 use Rattle.homeo_table.proofs.Fitting.{holds-after, after-put, cond-fits-after, fits-put}
 
@@ -28,35 +28,35 @@ on_ok_both (Ok x) f p q = f p q
 on_ok_both (Err e) f p q = tt
 
 -- ---- what is left
-pub pushed : (cs ds : List (Bor LCommand)) (c : Bor LCommand) (k : Command) → ds ≡ cs ++ c ∷ [] → plain_lcommand c.now ≡ k → in_order ds ≡ k ∷ in_order cs
+pub pushed : (cs ds : List (Bor LCommand)) (c : Bor LCommand) (k : Command) → ds ≡ cs ++ c ∷ [] → plain_lcommand c.now ≡ k → to_come ds ≡ k ∷ to_come cs
 pushed cs ds c k h is =
-    ap in_order h ∙ ap reverse (map_push (λ c. plain_lcommand c.now) cs c) ∙ reverse-append (map (λ c. plain_lcommand c.now) cs) (plain_lcommand c.now ∷ [])
-    ∙ ap (λ k. k ∷ in_order cs) is
+    ap to_come h ∙ ap reverse (map_push (λ c. plain_lcommand c.now) cs c) ∙ reverse-append (map (λ c. plain_lcommand c.now) cs) (plain_lcommand c.now ∷ [])
+    ∙ ap (λ k. k ∷ to_come cs) is
 
 pub pushed-all :
     (cs ds : List (Bor LCommand)) (ks : List Command) →
-    map (λ c. plain_lcommand c.now) ds ≡ map (λ c. plain_lcommand c.now) cs ++ reverse ks → in_order ds ≡ ks ++ in_order cs
+    map (λ c. plain_lcommand c.now) ds ≡ map (λ c. plain_lcommand c.now) cs ++ reverse ks → to_come ds ≡ ks ++ to_come cs
 pushed-all cs ds ks h =
-    ap reverse h ∙ reverse-append (map (λ c. plain_lcommand c.now) cs) (reverse ks) ∙ ap (λ ks. ks ++ in_order cs) (reverse-reverse ks)
+    ap reverse h ∙ reverse-append (map (λ c. plain_lcommand c.now) cs) (reverse ks) ∙ ap (λ ks. ks ++ to_come cs) (reverse-reverse ks)
 
 -- ---- how much is left
 all-size : (ds cs : List Command) → size_all (low_commands (ds ++ cs)) ≡ size_all (low_commands ds) + size_all (low_commands cs)
-unfolding words tree_words
+unfolding definitions syntax_definitions
 all-size [] cs = omega arith
 all-size (d ∷ ds) cs = let ih = all-size ds cs in omega (arith, ih)
 
 pub less-one : (k : Command) (cs : List Command) → size_all (low_commands cs) < size_all (low_commands (k ∷ cs))
-unfolding words tree_words
+unfolding definitions syntax_definitions
 less-one k cs = omega (arith, size-some k)
 
 pub less-all : (k : Command) (ds cs es : List Command) → k ≡ Seq (low_commands ds) → es ≡ ds ++ cs → size_all (low_commands es) < size_all (low_commands (k ∷ cs))
-unfolding words tree_words
+unfolding definitions syntax_definitions
 less-all k ds cs es h f = omega (arith, ap (λ es. size_all (low_commands es)) f ∙ all-size ds cs, ap size h)
 
 pub less-branch :
     (k : Command) (v : Bool) (b : Cond) (c d : Command) (cs es : List Command) → k ≡ If b c d → es ≡ cond v c d ∷ cs →
     size_all (low_commands es) < size_all (low_commands (k ∷ cs))
-unfolding words tree_words
+unfolding definitions syntax_definitions
 less-branch k true b c d cs es h f = omega (arith, ap (λ es. size_all (low_commands es)) f, ap size h)
 less-branch k false b c d cs es h f = omega (arith, ap (λ es. size_all (low_commands es)) f, ap size h)
 
@@ -64,14 +64,14 @@ less-branch k false b c d cs es h f = omega (arith, ap (λ es. size_all (low_com
 walk-all :
     (ds cs : List Command) (s : State) (r : Row) →
     walk_all_before (low_commands (ds ++ cs)) s r ≡ walk_all_before (low_commands ds) s (walk_all_before (low_commands cs) (exec_all (low_commands ds) s).state r)
-unfolding plan_words meaning_words tree_words
+unfolding plan_definitions meaning_definitions syntax_definitions
 walk-all [] cs s r = refl
 walk-all (d ∷ ds) cs s r = ap (walk_before d s) (walk-all ds cs (exec d s).state r)
 
 can-all :
     (ds cs : List Command) (s : State) → can_exec_all run_limit (low_commands ds) s ≡ true →
     can_exec_all run_limit (low_commands cs) (exec_all (low_commands ds) s).state ≡ true → can_exec_all run_limit (low_commands (ds ++ cs)) s ≡ true
-unfolding split_words meaning_words tree_words
+unfolding split_definitions meaning_definitions syntax_definitions
 can-all [] cs s h k = k
 can-all (d ∷ ds) cs s h k =
     let m = and_parts _ _ h in
@@ -85,7 +85,7 @@ pub record Sets (k : Command) (p : Location) (e : Expr) (s : State) : Type 0 whe
   pub walk : (r : Row) → walk_before k s r ≡ set_before k p e r
 
 pub sets-Assign : (k : Command) (t : Temp) (e : Expr) (p : Location) (s : State) → k ≡ Assign t e → p ≡ TempAt t → Sets k p e s
-unfolding plan_words meaning_words split_words
+unfolding plan_definitions meaning_definitions split_definitions
 sets-Assign k t e p s h w =
     record {
       can = ap (λ k. can_exec run_limit k s) h;
@@ -94,7 +94,7 @@ sets-Assign k t e p s h w =
     }
 
 pub sets-Write : (k : Command) (x : SplitName) (e : Expr) (p : Location) (s : State) → k ≡ Write x e → p ≡ location_of x → Sets k p e s
-unfolding plan_words meaning_words split_words
+unfolding plan_definitions meaning_definitions split_definitions
 sets-Write k x e p s h w =
     record {
       can = ap (λ k. can_exec run_limit k s) h;
@@ -111,13 +111,13 @@ pub record Takes (k d : Command) (c : Cond) (s : State) : Type 0 where
 choice :
     (k : Command) (b : Cond) (c d : Command) (s : State) → k ≡ If b c d → can_exec run_limit k s ≡ true →
     (cond_fits run_limit b s ≡ true) × (cond (holds b s) (can_exec run_limit c s) (can_exec run_limit d s) ≡ true)
-unfolding split_words
+unfolding split_definitions
 choice k b c d s h can = and_parts _ _ (ap (λ k. can_exec run_limit k s) (sym h) ∙ can)
 
 pub takes :
     (v : Bool) (k : Command) (b : Cond) (c d : Command) (s : State) → k ≡ If b c d → holds b s ≡ v →
     Takes k (cond v c d) (cond v b (otherwise b)) s
-unfolding plan_words meaning_words
+unfolding plan_definitions meaning_definitions
 takes true k b c d s h is =
     record {
       can = λ can. ap (λ v. cond v (can_exec run_limit c s) (can_exec run_limit d s)) (sym is) ∙ (choice k b c d s h can).1;
@@ -137,13 +137,13 @@ takes false k b c d s h is =
 module _ (f f' : Row → Row) (b b' : Location → Option Expr) (s : State) (temps : HasNoTemps s) (k : Command) (cs : List Command) (can : CanFollow b (k ∷ cs) s) where
   -- the first command can be executed, and the others after it
   parts : (can_exec run_limit k (after b s) ≡ true) × (can_exec_all run_limit (low_commands cs) (exec k (after b s)).state ≡ true)
-  unfolding split_words tree_words
+  unfolding split_definitions syntax_definitions
   parts = and_parts _ _ can.commands
 
   pub goes-set :
       (p : Location) (e : Expr) → Sets k p e (after b s) → f' ≡ (λ r. f (set_before k p e r)) → b' ≡ put b p (Some (substituted b e)) →
       Goes f f' b b' (k ∷ cs) cs s
-  unfolding plan_words tree_words
+  unfolding plan_definitions syntax_definitions
   goes-set p e sets g h =
       let same : after b' s ≡ (exec k (after b s)).state = ap (λ b. after b s) h ∙ after-put b s temps p e ∙ sym sets.state in
       record {
@@ -157,7 +157,7 @@ module _ (f f' : Row → Row) (b b' : Location → Option Expr) (s : State) (tem
       }
 
   pub goes-Skip : k ≡ Skip → Goes f f b b (k ∷ cs) cs s
-  unfolding plan_words tree_words meaning_words
+  unfolding plan_definitions syntax_definitions meaning_definitions
   goes-Skip h =
       record {
         can = record {
@@ -168,7 +168,7 @@ module _ (f f' : Row → Row) (b b' : Location → Option Expr) (s : State) (tem
       }
 
   pub goes-Print : (e : Expr) → k ≡ Print e → f' ≡ (λ r. f (command_before k r)) → b' ≡ b → Goes f f' b b' (k ∷ cs) cs s
-  unfolding plan_words tree_words meaning_words command_before
+  unfolding plan_definitions syntax_definitions meaning_definitions command_before
   goes-Print e h g w =
       let same : after b' s ≡ (exec k (after b s)).state = ap (λ b. after b s) w ∙ ap (λ k. (exec k (after b s)).state) (sym h) in
       record {
@@ -181,7 +181,7 @@ module _ (f f' : Row → Row) (b b' : Location → Option Expr) (s : State) (tem
       }
 
   pub goes-Seq : (ds es : List Command) → k ≡ Seq (low_commands ds) → es ≡ ds ++ cs → Goes f f b b (k ∷ cs) es s
-  unfolding plan_words tree_words meaning_words split_words
+  unfolding plan_definitions syntax_definitions meaning_definitions split_definitions
   goes-Seq ds es h w =
       record {
         can = record {
@@ -200,7 +200,7 @@ module _ (f f' : Row → Row) (b b' : Location → Option Expr) (s : State) (tem
     pub goes-If :
         (w v : Bool) (es : List Command) → w ≡ holds (substituted_cond b t) s → w ≡ v → f' ≡ (λ r. f (test_before (cond w t (otherwise t)) r)) → b' ≡ b →
         es ≡ cond v c d ∷ cs → Goes f f' b b' (k ∷ cs) es s
-    unfolding plan_words tree_words split_words
+    unfolding plan_definitions syntax_definitions split_definitions
     goes-If w v es held is-v g h e =
         let next = takes v k t c d (after b s) is (sym (holds-after b s temps t) ∙ sym held ∙ is-v) in
         let rest = low_commands cs in
@@ -220,7 +220,7 @@ module _ (f f' : Row → Row) (b b' : Location → Option Expr) (s : State) (tem
 pub goes-first :
     (f : Row → Row) (b : Location → Option Expr) (c : Command) (cs : List Command) (s : State) → f ≡ clear_row → b ≡ (λ l. None) → cs ≡ c ∷ [] →
     can_exec run_limit c s ≡ true → Goes clear_row f (λ l. None) b (c ∷ []) cs s
-unfolding split_words tree_words
+unfolding split_definitions syntax_definitions
 goes-first f b c cs s g h e can =
     record {
       can = record {
@@ -232,11 +232,11 @@ goes-first f b c cs s g h e can =
 
 -- so its row is the walk
 pub first-walk : (c : Command) (s : State) → walked clear_row (λ l. None) (c ∷ []) s ≡ walk c s
-unfolding plan_words tree_words
+unfolding plan_definitions syntax_definitions
 first-walk c s = refl
 
 pub last-walk :
     (f : Row → Row) (b : Location → Option Expr) (cs : List (Bor LCommand)) (s : State) (r whole : Row) → cs ≡ [] → r ≡ f last_row →
-    walked f b (in_order cs) s ≡ whole → r ≡ whole
-unfolding plan_words tree_words
-last-walk f b cs s r whole h e k = e ∙ sym (ap (λ cs. walked f b (in_order cs) s) h) ∙ k
+    walked f b (to_come cs) s ≡ whole → r ≡ whole
+unfolding plan_definitions syntax_definitions
+last-walk f b cs s r whole h e k = e ∙ sym (ap (λ cs. walked f b (to_come cs) s) h) ∙ k

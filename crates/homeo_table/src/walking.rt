@@ -10,7 +10,7 @@ ghost use Rattle.homeo_split.specs.States.{state_of};
 ghost use Rattle.homeo_table.specs.inner.Bindings.{bound};
 ghost use Rattle.homeo_table.specs.inner.Branches.{size_all};
 ghost use Rattle.homeo_table.specs.inner.Makings.{completed};
-ghost use Rattle.homeo_table.specs.inner.Walks.{CanFollow, Goes, in_order};
+ghost use Rattle.homeo_table.specs.inner.Walks.{CanFollow, Goes, to_come};
 
 use crate::branches::push_all;
 use crate::making::Making;
@@ -55,11 +55,11 @@ fn step<'a>(
     row: &mut Making,
     left: &mut Vec<&'a LCommand>,
 ) -> Result<(), Memory>
-    requires { CanFollow (bound row.old.bindings) (plain_lcommand c.now ∷ in_order left.old.items) (state_of base.now) }
+    requires { CanFollow (bound row.old.bindings) (plain_lcommand c.now ∷ to_come left.old.items) (state_of base.now) }
     ensures goes { OnOk result (Goes (completed row.old) (completed row.new) (bound row.old.bindings) (bound row.new.bindings)
-        (plain_lcommand c.now ∷ in_order left.old.items) (in_order left.new.items) (state_of base.now)) }
-    ensures less { OnOk result (size_all (low_commands (in_order left.new.items)) <
-        size_all (low_commands (plain_lcommand c.now ∷ in_order left.old.items))) }
+        (plain_lcommand c.now ∷ to_come left.old.items) (to_come left.new.items) (state_of base.now)) }
+    ensures less { OnOk result (size_all (low_commands (to_come left.new.items)) <
+        size_all (low_commands (plain_lcommand c.now ∷ to_come left.old.items))) }
 {
     match c {
         LCommand::Skip => Ok(()),

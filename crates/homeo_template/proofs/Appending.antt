@@ -1,5 +1,5 @@
 -- Atoms and their clauses, one after another.
-use Rattle.homeo_plan.specs.Key.{words}
+use Rattle.homeo_plan.specs.Key.{definitions}
 use Rattle.std.proofs.Common.{◌≡◌, ℕ, zero, suc, ◌+◌, ◌<◌, ◌≤◌, List, [], ◌∷◌, ◌++◌, map, length, take, get_or, refl, sym, ap, ap₂, ◌∙◌, subst, arith}
 use Rattle.std.proofs.lemmas.List.{append_assoc, append-nil, take_more, take_all, map_push, map-append}
 use Rattle.homeo_plan.specs.declared.forms.Atom.{Atom}
@@ -8,63 +8,63 @@ use Rattle.homeo_plan.specs.declared.forms.Delta.{Delta}
 use Rattle.homeo_plan.specs.PlanView.{plain_atom, plain_atoms}
 use Rattle.homeo_plan.specs.Each.{Each}
 use Rattle.homeo_plan.specs.Linear.{Linear, add_delta, add_deltas}
-use Rattle.homeo_plan.specs.Template.{Clause, Template, with_clause, clauses_from, joined, put_all, join_sets}
+use Rattle.homeo_plan.specs.Template.{Clause, Template, with_clause, clauses_from, atoms_of_sets, put_all, join_sets}
 
 -- ---- one more
 clauses_push : (cs : List Clause) (atoms : List Linear) (a : Linear) → clauses_from cs (atoms ++ a ∷ []) ≡ with_clause (clauses_from cs atoms) a
-unfolding words
+unfolding definitions
 clauses_push cs [] a = refl
 clauses_push cs (x ∷ atoms) a = clauses_push (with_clause cs x) atoms a
 
 clauses_append : (cs : List Clause) (atoms bs : List Linear) → clauses_from cs (atoms ++ bs) ≡ clauses_from (clauses_from cs atoms) bs
-unfolding words
+unfolding definitions
 clauses_append cs [] bs = refl
 clauses_append cs (x ∷ atoms) bs = clauses_append (with_clause cs x) atoms bs
 
-joined_push : (sets : List (List Linear)) (s : List Linear) → joined (sets ++ s ∷ []) ≡ joined sets ++ s
-unfolding words
-joined_push [] s = append-nil s
-joined_push (x ∷ sets) s = ap (λ l. x ++ l) (joined_push sets s) ∙ sym (append_assoc x (joined sets) s)
+atoms_push : (sets : List (List Linear)) (s : List Linear) → atoms_of_sets (sets ++ s ∷ []) ≡ atoms_of_sets sets ++ s
+unfolding definitions
+atoms_push [] s = append-nil s
+atoms_push (x ∷ sets) s = ap (λ l. x ++ l) (atoms_push sets s) ∙ sym (append_assoc x (atoms_of_sets sets) s)
 
 pub deltas_push : (ds es : List Delta) (d : Delta) → add_deltas (ds ++ d ∷ []) es ≡ add_delta d (add_deltas ds es)
-unfolding words
+unfolding definitions
 deltas_push [] es d = refl
 deltas_push (x ∷ ds) es d = deltas_push ds (add_delta x es) d
 
 put_push : (dss : List (List Delta)) (ds out : List Delta) → put_all (dss ++ ds ∷ []) out ≡ add_deltas ds (put_all dss out)
-unfolding words
+unfolding definitions
 put_push [] ds out = refl
 put_push (x ∷ dss) ds out = put_push dss ds (add_deltas x out)
 
 put_append : (dss ess : List (List Delta)) (out : List Delta) → put_all (dss ++ ess) out ≡ put_all ess (put_all dss out)
-unfolding words
+unfolding definitions
 put_append [] ess out = refl
 put_append (x ∷ dss) ess out = put_append dss ess (add_deltas x out)
 
 -- ---- nothing yet
 pub no-clauses : (cs : List Clause) → cs ≡ clauses_from cs []
-unfolding words
+unfolding definitions
 no-clauses cs = refl
 
-pub no-sets : [] ≡ clauses_from [] (joined [])
-unfolding words
+pub no-sets : [] ≡ clauses_from [] (atoms_of_sets [])
+unfolding definitions
 no-sets = refl
 
 pub no-deltas : (es : List Delta) → es ≡ add_deltas [] es
-unfolding words
+unfolding definitions
 no-deltas es = refl
 
 pub nothing-put : (out : List Delta) → out ≡ put_all [] out
-unfolding words
+unfolding definitions
 nothing-put out = refl
 
-pub no-mixed : (out : List Delta) → out ≡ put_all (map (λ (a : Linear). a.mixed) (joined [])) out
-unfolding words
+pub no-mixed : (out : List Delta) → out ≡ put_all (map (λ (a : Linear). a.mixed) (atoms_of_sets [])) out
+unfolding definitions
 no-mixed out = refl
 
 -- ---- as the code goes on
 pub atom_at : (P : Linear → Type 0) (atoms : List Atom) (i : ℕ) (a : Atom) → Each P (map plain_atom atoms) → i < length atoms → a ≡ get_or atoms i a → P (plain_atom a)
-unfolding words
+unfolding definitions
 atom_at P [] i a all h is = absurd (omega (arith, h))
 atom_at P (x ∷ atoms) zero a all h is = subst (λ a. P (plain_atom a)) (sym is) all.0
 atom_at P (x ∷ atoms) (suc i) a all h is = atom_at P atoms i a all.1 (omega (arith, h)) is
@@ -82,17 +82,17 @@ atoms_more atoms i a h is start before after e put =
     put ∙ ap (λ cs. with_clause cs (plain_atom a)) e ∙ sym (clauses_push start (map plain_atom (take i atoms)) (plain_atom a))
     ∙ ap (clauses_from start) (more plain_atom atoms i a h is)
 
-joined_more : (sets : List AtomSet) (i : ℕ) (s : AtomSet) → i < length sets → s ≡ get_or sets i s → joined (map plain_atoms (take i sets)) ++ plain_atoms s ≡ joined (map plain_atoms (take (i + 1) sets))
-joined_more sets i s h is = sym (joined_push (map plain_atoms (take i sets)) (plain_atoms s)) ∙ ap joined (more plain_atoms sets i s h is)
+atoms_one_more : (sets : List AtomSet) (i : ℕ) (s : AtomSet) → i < length sets → s ≡ get_or sets i s → atoms_of_sets (map plain_atoms (take i sets)) ++ plain_atoms s ≡ atoms_of_sets (map plain_atoms (take (i + 1) sets))
+atoms_one_more sets i s h is = sym (atoms_push (map plain_atoms (take i sets)) (plain_atoms s)) ∙ ap atoms_of_sets (more plain_atoms sets i s h is)
 
 pub sets_more :
     (sets : List AtomSet) (i : ℕ) (s : AtomSet) → i < length sets → s ≡ get_or sets i s → (lent : List Atom) → lent ≡ s.atoms.items →
-    (before after : List Clause) → before ≡ clauses_from [] (joined (map plain_atoms (take i sets))) →
-    after ≡ clauses_from before (map plain_atom lent) → after ≡ clauses_from [] (joined (map plain_atoms (take (i + 1) sets)))
+    (before after : List Clause) → before ≡ clauses_from [] (atoms_of_sets (map plain_atoms (take i sets))) →
+    after ≡ clauses_from before (map plain_atom lent) → after ≡ clauses_from [] (atoms_of_sets (map plain_atoms (take (i + 1) sets)))
 sets_more sets i s h is lent l before after e put =
     put ∙ ap₂ (λ cs atoms. clauses_from cs (map plain_atom atoms)) e l
-    ∙ sym (clauses_append [] (joined (map plain_atoms (take i sets))) (plain_atoms s))
-    ∙ ap (clauses_from []) (joined_more sets i s h is)
+    ∙ sym (clauses_append [] (atoms_of_sets (map plain_atoms (take i sets))) (plain_atoms s))
+    ∙ ap (clauses_from []) (atoms_one_more sets i s h is)
 
 abbrev mixed : List Linear → List (List Delta)
 mixed atoms = map (λ a. a.mixed) atoms
@@ -108,13 +108,13 @@ mixed_more atoms i a h is lent l start before after e put =
 
 pub all_mixed_more :
     (sets : List AtomSet) (i : ℕ) (s : AtomSet) → i < length sets → s ≡ get_or sets i s → (lent : List Atom) → lent ≡ s.atoms.items →
-    (start before after : List Delta) → before ≡ put_all (mixed (joined (map plain_atoms (take i sets)))) start →
+    (start before after : List Delta) → before ≡ put_all (mixed (atoms_of_sets (map plain_atoms (take i sets)))) start →
     after ≡ put_all (mixed (map plain_atom lent)) before →
-    after ≡ put_all (mixed (joined (map plain_atoms (take (i + 1) sets)))) start
+    after ≡ put_all (mixed (atoms_of_sets (map plain_atoms (take (i + 1) sets)))) start
 all_mixed_more sets i s h is lent l start before after e put =
     put ∙ ap₂ (λ atoms ds. put_all (mixed (map plain_atom atoms)) ds) l e
-    ∙ sym (put_append (mixed (joined (map plain_atoms (take i sets)))) (mixed (plain_atoms s)) start)
-    ∙ ap (λ dss. put_all dss start) (sym (map-append (λ (a : Linear). a.mixed) (joined (map plain_atoms (take i sets))) (plain_atoms s)) ∙ ap mixed (joined_more sets i s h is))
+    ∙ sym (put_append (mixed (atoms_of_sets (map plain_atoms (take i sets)))) (mixed (plain_atoms s)) start)
+    ∙ ap (λ dss. put_all dss start) (sym (map-append (λ (a : Linear). a.mixed) (atoms_of_sets (map plain_atoms (take i sets))) (plain_atoms s)) ∙ ap mixed (atoms_one_more sets i s h is))
 
 pub needs_more :
     {X : Type 0} (f : X → List Delta) (xs : List X) (i : ℕ) (x : X) → i < length xs → x ≡ get_or xs i x → (lent : List Delta) →
@@ -129,7 +129,7 @@ all-taken f xs i y h e = e ∙ ap f (take_all i xs h)
 
 pub template_of :
     (sets : List (List Linear)) (needed : List (List Delta)) (clauses : List Clause) (freezes : List Delta) →
-    clauses ≡ clauses_from [] (joined sets) → freezes ≡ put_all needed (put_all (mixed (joined sets)) []) →
+    clauses ≡ clauses_from [] (atoms_of_sets sets) → freezes ≡ put_all needed (put_all (mixed (atoms_of_sets sets)) []) →
     let t : Template = record { clauses = clauses; freezes = freezes } in t ≡ join_sets sets needed
-unfolding words
+unfolding definitions
 template_of sets needed clauses freezes e f = λ i. let t : Template = record { clauses = e i; freezes = f i } in t

@@ -1,5 +1,5 @@
 -- A sorted set of places is the list of deltas in order.
-use Rattle.homeo_plan.specs.Key.{words}
+use Rattle.homeo_plan.specs.Key.{definitions}
 use Rattle.std.proofs.Common.{◌≡◌, ℕ, ◌==◌, nat_lt, ◌+◌, ◌<◌, Bool, true, false, cond, ◌&&◌, List, [], ◌∷◌, map, length, take, get_or, refl, sym, ap, ◌∙◌, arith}
 use Rattle.std.specs.Prelude.{◌||◌}
 use Rattle.std.specs.Ordering.{nat_cmp, ordering_then, match_ordering}
@@ -24,7 +24,7 @@ not-both m n p q = grind (arith, nat_tests)
 in-order :
     {X : Type 0} (a b : Place) (x y z : X) →
     match_ordering (place_cmp a b) x y z ≡ cond (same_delta (delta_at a) (delta_at b)) y (cond (delta_before (delta_at a) (delta_at b)) x z)
-unfolding words
+unfolding definitions
 in-order a b x y z = go (nat_lt a.object b.object) (a.object == b.object) (nat_lt a.site b.site) (a.site == b.site) (not-both a.object b.object) (not-both a.site b.site)
   where
     go :
@@ -45,7 +45,7 @@ map-match f Equal x y z = refl
 map-match f Greater x y z = refl
 
 inserted : (k : Place) (ks : List Place) → map delta_at (insert_key place_cmp ks k) ≡ add_delta (delta_at k) (map delta_at ks)
-unfolding words
+unfolding definitions
 inserted k [] = refl
 inserted k (x ∷ ks) =
     map-match (map delta_at) (place_cmp k x) (k ∷ x ∷ ks) (x ∷ ks) (x ∷ insert_key place_cmp ks k)

@@ -1,5 +1,5 @@
 -- Keys tell clauses apart as the definition does, and the set of them stays beside the clauses.
-use Rattle.homeo_plan.specs.Key.{words}
+use Rattle.homeo_plan.specs.Key.{definitions}
 use Rattle.std.proofs.Common.{◌≡◌, ℤ, Bool, true, false, cond, ◌&&◌, ◌==◌, List, [], ◌∷◌, ◌++◌, map, length, refl, ap, ap₂, ◌∙◌, arith}
 use Rattle.std.specs.Prelude.{neg_ℤ, ◌||◌, not, if◌then◌else◌}
 use Rattle.std.specs.Ordering.{int_eq}
@@ -31,7 +31,7 @@ and-assoc true b c = refl
 and-assoc false b c = refl
 
 same-terms : (xs ys : List TermKey) → pointwise same_term_key xs ys ≡ same_terms (map term_of xs) (map term_of ys)
-unfolding words
+unfolding definitions
 same-terms [] [] = refl
 same-terms [] (y ∷ ys) = refl
 same-terms (x ∷ xs) [] = refl
@@ -39,7 +39,7 @@ same-terms (x ∷ xs) (y ∷ ys) =
     ap₂ (λ a b. a && b) (and-assoc (x.object == y.object) (x.site == y.site) (int_eq x.factor y.factor)) (same-terms xs ys)
 
 same-key : (a b : Key) → same_key a b ≡ same_clause (clause_at a) (clause_at b)
-unfolding words
+unfolding definitions
 same-key a b = ap (λ c. c && int_eq a.slack b.slack) (same-terms a.terms.items b.terms.items)
 
 any-keys : (k : Key) (ks : List Key) → list_any (same_key k) ks ≡ list_any (same_clause (clause_at k)) (map clause_at ks)
@@ -71,7 +71,7 @@ clause_put ks cs made k c is_new keys key new pushed =
 
 -- ---- an atom's clause
 pub no_clause : (cs : List template.Clause) (a : Linear) → (length a.terms == 0) ≡ true → cs ≡ with_clause cs a
-unfolding words
+unfolding definitions
 no_clause cs a e = go a.terms e
   where
     go : (ts : List Term) → (length ts == 0) ≡ true → cs ≡ cond (is_empty ts) cs (after (clause_of a) cs)
@@ -79,7 +79,7 @@ no_clause cs a e = go a.terms e
     go (t ∷ ts) e = absurd (grind (arith, nat_tests))
 
 pub one_clause : (cs : List template.Clause) (a : Linear) → (length a.terms == 0) ≡ false → after (clause_of a) cs ≡ with_clause cs a
-unfolding words
+unfolding definitions
 one_clause cs a e = go a.terms e
   where
     go : (ts : List Term) → (length ts == 0) ≡ false → after (clause_of a) cs ≡ cond (is_empty ts) cs (after (clause_of a) cs)
@@ -89,5 +89,5 @@ one_clause cs a e = go a.terms e
 pub made_clause :
     (form : forms.Linear) (terms : Listed Term) (negated : ℤ) → terms.items ≡ form.terms.items → negated ≡ neg_ℤ form.constant →
     plain_clause (record { terms = terms; slack = negated }) ≡ clause_of (plain_linear form)
-unfolding words
+unfolding definitions
 made_clause form terms negated e f = λ i. let c : template.Clause = record { terms = e i; slack = f i } in c

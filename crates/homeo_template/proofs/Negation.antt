@@ -1,5 +1,5 @@
 -- Small numbers negated.
-use Rattle.homeo_meaning.specs.Key.{words as meaning_words}
+use Rattle.homeo_meaning.specs.Key.{definitions as meaning_definitions}
 use Rattle.std.proofs.Common.{◌≡◌, ℤ, ◌-ℤ◌, pos, neg_ℤ, FitsSigned, SFits, to_z, of_z, arith}
 use mir.Syntax.{w128}
 use Rattle.std.proofs.Math.IntN.{+ℤ_idl}
@@ -12,7 +12,7 @@ pub abs_neg : (a : ℤ) → unsigned_abs (neg_ℤ a) ≡ unsigned_abs a
 abs_neg a = grind (arith, ints)
 
 negation_fits : (a : ℤ) → IsSmall form_limit a → FitsSigned w128 (neg_ℤ a)
-unfolding meaning_words
+unfolding meaning_definitions
 negation_fits a h = fits_signed_from_abs w128 (neg_ℤ a) (omega (arith, h, abs_neg a))
 
 pub negation_in : (a : ℤ) → SFits w128 a → IsSmall form_limit a → FitsSigned w128 (pos 0 -ℤ to_z w128 (of_z w128 a))
@@ -24,5 +24,5 @@ negation_is a fa h =
 
 -- a small number that the code passes on
 pub small_back : (a : ℤ) → IsSmall form_limit a → to_z w128 (of_z w128 a) ≡ a
-unfolding meaning_words
+unfolding meaning_definitions
 small_back a h = to_z-of_z w128 a (fits_signed_from_abs w128 a (omega (arith, h)))

@@ -5,7 +5,7 @@ ghost use Rattle.std.specs.List.{All, list_any};
 ghost use Rattle.homeo_meaning.specs.Small.{IsSmall};
 ghost use Rattle.homeo_plan.specs.Each.{Each};
 ghost use Rattle.homeo_plan.specs.PlanView.{plain_linear, plain_atom, plain_atoms, plain_clause};
-ghost use Rattle.homeo_plan.specs.Template.{clause_of, same_clause, with_clause, clauses_from, joined};
+ghost use Rattle.homeo_plan.specs.Template.{clause_of, same_clause, with_clause, clauses_from, atoms_of_sets};
 ghost use Rattle.homeo_plan.specs.Limit.{form_limit};
 ghost use Rattle.homeo_template.specs.inner.Keys.{clauses_in, AreKeys};
 
@@ -25,7 +25,7 @@ pub(crate) struct DistinctClauses {
 /// The clauses of the atoms of all sets.
 pub(crate) fn join_clauses(alloc: Global, sets: &[AtomSet]) -> Result<List<Clause>, Memory>
     requires small { All (λ s. Each (λ a. IsSmall form_limit a.constant) (plain_atoms s)) sets.now }
-    ensures { IfOk result (λ cs. map plain_clause cs.items ≡ clauses_from [] (joined (map plain_atoms sets.now))) }
+    ensures { IfOk result (λ cs. map plain_clause cs.items ≡ clauses_from [] (atoms_of_sets (map plain_atoms sets.now))) }
 {
     let mut distinct = DistinctClauses::new(alloc);
     for set in sets {

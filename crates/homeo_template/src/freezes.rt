@@ -3,7 +3,7 @@
 ghost use Rattle.std.specs.Prelude.{◌≡◌, [], map, IfOk, OnOk};
 ghost use Rattle.homeo_plan.specs.PlanView.{plain_atom, plain_atoms};
 ghost use Rattle.homeo_plan.specs.Linear.{add_deltas};
-ghost use Rattle.homeo_plan.specs.Template.{joined, put_all};
+ghost use Rattle.homeo_plan.specs.Template.{atoms_of_sets, put_all};
 ghost use Rattle.homeo_template.specs.inner.Frozen.{delta_at, deltas_in};
 
 use homeo_plan::{Atom, AtomSet, Delta, FreezeSet};
@@ -25,7 +25,7 @@ pub(crate) fn join_freezes(
     needed: &[FreezeSet],
 ) -> Result<List<Delta>, Memory>
     ensures { IfOk result (λ ds. ds.items ≡
-        put_all (map (λ f. f.deltas.items) needed.now) (put_all (map (λ a. a.mixed) (joined (map plain_atoms sets.now))) [])) }
+        put_all (map (λ f. f.deltas.items) needed.now) (put_all (map (λ a. a.mixed) (atoms_of_sets (map plain_atoms sets.now))) [])) }
 {
     let mut frozen = BTreeSet::new(alloc);
     for set in sets {

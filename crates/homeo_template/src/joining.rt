@@ -9,7 +9,7 @@ ghost use Rattle.homeo_plan.specs.PlanView.{plain_atoms, plain_template};
 ghost use Rattle.homeo_plan.specs.Template.{join_sets};
 ghost use Rattle.homeo_plan.specs.Limit.{form_limit};
 ghost use Rattle.homeo_plan.specs.Tracking.{IsBelowAtBase};
-ghost use Rattle.homeo_template.specs.InOrder.{AreInOrder};
+ghost use Rattle.homeo_plan.specs.Linear.{AreInOrder};
 
 use crate::clauses::join_clauses;
 use crate::freezes::join_freezes;

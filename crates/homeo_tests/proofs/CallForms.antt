@@ -3,7 +3,7 @@ use Rattle.std.proofs.Common.{◌≡◌, ℕ, ◌^◌, ℤ, true, List, [], map,
 use Rattle.std.specs.Prelude.{slice_get}
 use Rattle.homeo_syntax.specs.Source as s
 use Rattle.homeo_syntax.specs.Low.{Command}
-use Rattle.homeo_meaning.specs.Key.{words as meaning_words}
+use Rattle.homeo_meaning.specs.Key.{definitions as meaning_definitions}
 use Rattle.homeo_meaning.specs.Acceptance.{IsLightBody}
 use Rattle.homeo_meaning.specs.Bounds.{IsWithin}
 use Rattle.homeo_meaning.specs.Ground.{Ground}
@@ -16,14 +16,14 @@ use Rattle.homeo_meaning.proofs.Within.{all_within}
 use Rattle.homeo_syntax.specs.declared.low.Temp.TheVariants.{Named, Fresh}
 use Rattle.homeo_meaning.specs.CallForm.{body_form, ground_form}
 use Rattle.homeo_ground.specs.Grounding.{IsCalled}
-use Rattle.homeo_split.specs.Key.{words as split_words}
+use Rattle.homeo_split.specs.Key.{definitions as split_definitions}
 use Rattle.homeo_split.specs.CanExec.{run_limit, can_exec}
 use Rattle.homeo_split.specs.States.{state_with}
 use Rattle.homeo_split.proofs.SmallCommands.{small_law}
 
 -- a split database without deltas is the whole one
 whole_at : (database : List ℤ) (p : Location) → whole (values_of database) p ≡ state_with database [] [] [] p
-unfolding meaning_words split_words
+unfolding meaning_definitions split_definitions
 whole_at database (TempAt (Named n)) = refl
 whole_at database (TempAt (Fresh n)) = refl
 whole_at database (BaseAt n) = refl
@@ -33,7 +33,7 @@ whole_is : (database : List ℤ) → whole (values_of database) ≡ state_with d
 whole_is database = λ i p. whole_at database p i
 
 body_runs : (w : s.Workload) (t : s.Transaction) (args database : List ℤ) → IsLightBody w (Some t) args → IsWithin (schema_of w) database → can_exec run_limit (l_form (schema_of w) (map (λ p. p.name.name) t.params) args t.body) (whole (values_of database)) ≡ true
-unfolding meaning_words
+unfolding meaning_definitions
 body_runs w t args database light within =
     let x = schema_of w in
     let params : List ℕ = map (λ p. p.name.name) t.params in
@@ -42,13 +42,13 @@ body_runs w t args database light within =
 
 form_runs : (w : s.Workload) (g : Ground) (database : List ℤ) (o : Option s.Transaction) → IsLightBody w o g.args → IsWithin (schema_of w) database →
     can_exec run_limit (body_form w o g.args) (whole (values_of database)) ≡ true
-unfolding meaning_words split_words
+unfolding meaning_definitions split_definitions
 form_runs w g database None light within = refl
 form_runs w g database (Some t) light within = body_runs w t g.args database light within
 
 pub form_can_run : (w : s.Workload) (g : Ground) (c : Command) (database : List ℤ) → IsCalled w g → c ≡ ground_form w g → IsWithin (schema_of w) database →
     can_exec run_limit c (state_with database [] [] []) ≡ true
-unfolding meaning_words
+unfolding meaning_definitions
 form_can_run w g c database called is within =
     ap (can_exec run_limit c) (sym (whole_is database))
     ∙ ap (λ c. can_exec run_limit c (whole (values_of database))) is

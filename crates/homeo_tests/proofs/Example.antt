@@ -2,12 +2,12 @@
 use Rattle.std.proofs.Common.{◌≡◌, ◌≢◌, ◌<◌, ◌≤◌, ℕ, pos, ◌≤ℤ◌, List, [], ◌∷◌, ◌++◌, ◌-◌, All, refl, ap, sym, subst, ◌∙◌, arith}
 use Rattle.std.specs.Prelude.{IsSome, slice_get, codes, AllPairs}
 use Rattle.std.proofs.lemmas.List.Kept.{AllPairs-cons}
-use Rattle.homeo_syntax.specs.Key.{words as tree_words}
+use Rattle.homeo_syntax.specs.Key.{definitions as syntax_definitions}
 use Rattle.homeo_syntax.specs.Listed.{Listed}
 use Rattle.homeo_syntax.specs.Source as s
 use Rattle.homeo_syntax.specs.declared.token.Version.TheVariants.{First}
 use Rattle.homeo_syntax.specs.WellFormed.{IsName, EachIdent, IsBelow}
-use Rattle.homeo_meaning.specs.Key.{words as meaning_words}
+use Rattle.homeo_meaning.specs.Key.{definitions as meaning_definitions}
 use Rattle.homeo_meaning.specs.Acceptance.{IsAccepted}
 use Rattle.homeo_meaning.specs.Calls.{CallExists, IsGroundCall}
 use Rattle.homeo_meaning.specs.Faults.{faults}
@@ -17,7 +17,7 @@ use Rattle.homeo_meaning.proofs.SoundRules.{all_none, all_more}
 use Rattle.homeo_tests.specs.inner.Example.{sale, example}
 
 no_faults : faults Run example ≡ []
-unfolding meaning_words tree_words
+unfolding meaning_definitions syntax_definitions
 no_faults = refl
 
 abbrev Differs : List ℕ → List ℕ → Type 0
@@ -58,19 +58,19 @@ names_differ =
     (AllPairs-cons Differs (codes "cashier") [] (all_none (Differs (codes "cashier"))) no_pairs)))
 
 named_stock : IsName First (codes "stock")
-unfolding tree_words
+unfolding syntax_definitions
 named_stock = record { first = refl; all = refl; short = omega arith; free = refl; also_free = refl }
 
 named_sell : IsName First (codes "sell")
-unfolding tree_words
+unfolding syntax_definitions
 named_sell = record { first = refl; all = refl; short = omega arith; free = refl; also_free = refl }
 
 named_amount : IsName First (codes "amount")
-unfolding tree_words
+unfolding syntax_definitions
 named_amount = record { first = refl; all = refl; short = omega arith; free = refl; also_free = refl }
 
 named_cashier : IsName First (codes "cashier")
-unfolding tree_words
+unfolding syntax_definitions
 named_cashier = record { first = refl; all = refl; short = omega arith; free = refl; also_free = refl }
 
 below : (n : ℕ) → n ≤ 3 → n < 4
@@ -89,7 +89,7 @@ cashier : 3 < 4
 cashier = below 3 (omega arith)
 
 each_named : EachIdent (IsBelow 4) example
-unfolding tree_words
+unfolding syntax_definitions
 each_named = record {
   objects = (stock, tt);
   relations = tt;
@@ -102,7 +102,7 @@ not_negative : pos 0 ≤ℤ pos 0
 not_negative = omega arith
 
 pub example-accepted : IsAccepted example
-unfolding tree_words
+unfolding syntax_definitions
 example-accepted = record {
   well_formed = record {
     form = First;
@@ -129,11 +129,11 @@ abbrev second : CallId
 second = record { client = 0; seq = 2 }
 
 first_exists : CallExists example first
-unfolding meaning_words
+unfolding meaning_definitions
 first_exists = refl
 
 second_exists : CallExists example second
-unfolding meaning_words
+unfolding meaning_definitions
 second_exists = refl
 
 pub exist : (w : s.Workload) → w ≡ example → All (CallExists w) (record { client = 0; seq = 1 } ∷ record { client = 0; seq = 2 } ∷ [])

@@ -1,6 +1,6 @@
 -- The events that a number chooses, as the code makes them: what is left of a list of events once the first of them were made.
-use Rattle.homeo_syntax.specs.Key.{words as source_words}
-use Rattle.homeo_wire.specs.Key.{words}
+use Rattle.homeo_syntax.specs.Key.{definitions as syntax_definitions}
+use Rattle.homeo_wire.specs.Key.{definitions}
 use Rattle.std.proofs.Common.{◌≡◌, ℕ, zero, suc, ◌+◌, ◌*◌, ◌<◌, ◌≤◌, get_or, nat_lt, List, [], ◌∷◌, ◌++◌, map, length, take, Bool, true, false, cond, Option, Some, None, Result, Ok, Err, refl, sym, ap, ◌∙◌, arith}
 use Rattle.std.specs.Prelude.{slice_get, ◌||◌, option_map, OnOk}
 use Rattle.std.proofs.lemmas.Bool.Decides.{nat_tests}
@@ -29,45 +29,45 @@ module _ (w : s.Workload) where
 
   -- one event more of a list by numbers
   pub one_more : (f : ℕ → Event) (x y z : World) (i : ℕ) → y ≡ after w (map f (range_with_len 0 i)) x → z ≡ (happens w y (f i)).world → z ≡ after w (map f (range_with_len 0 (i + 1))) x
-  unfolding words
+  unfolding definitions
   one_more f x y z i is then =
       then ∙ ap (λ v. (happens w v (f i)).world) is
       ∙ sym (after_append w (map f (range_with_len 0 i)) (f i ∷ []) x)
       ∙ ap (λ es. after w es x) (sym (map-range_with_len_more f 0 i i (let h : 0 + i ≡ i = omega arith in h)))
 
   pub turn_next : (x y : World) (state n : ℕ) → y ≡ after w (chosen_event w x (drawn (next_state state)) (drawn (next_state (next_state state)))) x → after w (turns w x state (suc n)) x ≡ after w (turns w y (next_state (next_state state)) n) y
-  unfolding words
+  unfolding definitions
   turn_next x y state n is =
       and_then (chosen_event w x (drawn (next_state state)) (drawn (next_state (next_state state)))) (λ z. turns w z (next_state (next_state state)) n) x y is
 
   pub site_next : (x y : World) (site n : ℕ) → y ≡ after w (all_to x site) x → after w (to_sites w x site (suc n)) x ≡ after w (to_sites w y (suc site) n) y
-  unfolding words
+  unfolding definitions
   site_next x y site n is = and_then (all_to x site) (λ z. to_sites w z (suc site) n) x y is
 
   pub sweep_next : (x y : World) (n sites : ℕ) → y ≡ after w (to_sites w x 0 sites) x → sites ≡ sites_of w → after w (sweeps w x (suc n)) x ≡ after w (sweeps w y n) y
-  unfolding words
+  unfolding definitions
   sweep_next x y n sites is same =
       and_then (to_sites w x 0 (sites_of w)) (λ z. sweeps w z n) x y (is ∙ ap (λ k. after w (to_sites w x 0 k) x) same)
 
   pub each_then : (x y z : World) (clients : ℕ) → clients ≡ length w.clients → y ≡ after w (map (λ client. Call client) (range_with_len 0 clients)) x → z ≡ after w (sweeps w y 3) y → z ≡ after w (call_of_each w x) x
-  unfolding words
+  unfolding definitions
   each_then x y z clients many is then =
       then
       ∙ sym (and_then (map (λ client. Call client) (range_with_len 0 (length w.clients))) (λ v. sweeps w v 3) x y (is ∙ ap (λ k. after w (map (λ client. Call client) (range_with_len 0 k)) x) many))
 
   pub made_next : (x y : World) (n : ℕ) → has_left w x ≡ true → y ≡ after w (call_of_each w x) x → after w (until_made w x (suc n)) x ≡ after w (until_made w y n) y
-  unfolding words
+  unfolding definitions
   made_next x y n left is =
       ap (λ t. after w (cond t (call_of_each w x ++ until_made w (after w (call_of_each w x) x) n) []) x) left
       ∙ and_then (call_of_each w x) (λ z. until_made w z n) x y is
 
   pub made_end : (x : World) (n : ℕ) → has_left w x ≡ false → after w (until_made w x (suc n)) x ≡ x
-  unfolding words
+  unfolding definitions
   made_end x n left =
       ap (λ t. after w (cond t (call_of_each w x ++ until_made w (after w (call_of_each w x) x) n) []) x) left
 
   pub driven : (number calls : ℕ) (x y : World) → calls ≡ length (calls_in w) → x ≡ after w (turns w (at_start w) number (16 * calls + 16)) (at_start w) → y ≡ after w (until_made w x (calls + 1)) x → y ≡ reached w (drive w number)
-  unfolding words
+  unfolding definitions
   driven number calls x y same is then =
       then ∙ ap (λ k. after w (until_made w x (k + 1)) x) same
       ∙ sym (and_then (turns w (at_start w) number (16 * length (calls_in w) + 16)) (λ z. until_made w z (length (calls_in w) + 1)) (at_start w) x (is ∙ ap (λ k. after w (turns w (at_start w) number (16 * k + 16)) (at_start w)) same))
@@ -77,27 +77,27 @@ module _ (w : s.Workload) where
   past_none (Some call) name e f few = let lt = get_lt (calls_in w) 200 call e in omega (arith, few, lt)
 
   pub too_many : (name : Ident) → option_map (λ (c : s.Call). c.name) (excess w) ≡ Some name → length (calls_in w) ≤ 200 → ⊥
-  unfolding words
+  unfolding definitions
   too_many name e few = past_none (slice_get (calls_in w) 200) name refl e few
 
   -- ---- packets may only become more
   reacts_more : (x : World) (i : ℕ) (o : Option Node) (f : Node → Reaction) → length x.packets ≤ length (reacts x i o f).world.packets
-  unfolding words
+  unfolding definitions
   reacts_more x i None f = omega arith
   reacts_more x i (Some n) f = let h = length-append x.packets (f n).sends in omega (arith, h)
 
   calls_more : (x : World) (client : ℕ) (o : Option ℕ) → length x.packets ≤ length (calls w x client o).world.packets
-  unfolding words
+  unfolding definitions
   calls_more x client None = omega arith
   calls_more x client (Some home) = reacts_more x home (slice_get x.nodes home) _
 
   delivers_more : (x : World) (site : ℕ) (o : Option Packet) → length x.packets ≤ length (delivers w x site o).world.packets
-  unfolding words
+  unfolding definitions
   delivers_more x site None = omega arith
   delivers_more x site (Some p) = reacts_more x site (slice_get x.nodes site) _
 
   pub packets_more : (x : World) (e : Event) → length x.packets ≤ length (happens w x e).world.packets
-  unfolding words
+  unfolding definitions
   packets_more x (Call client) = calls_more x client _
   packets_more x (Deliver site k) = delivers_more x site _
 
@@ -147,7 +147,7 @@ abbrev pub calls_of : List Client → List s.Call
 calls_of clients = flat_map (λ (client : s.Client). client.calls) (map plain_client clients)
 
 calls_suc : (clients : List Client) (i : ℕ) (client : Client) → i < length clients → client ≡ get_or clients i client → (rest : List s.Call) × ((calls_of clients ≡ calls_of (take i clients) ++ (map plain_call client.calls.items ++ rest)) × (calls_of (take (suc i) clients) ≡ calls_of (take i clients) ++ map plain_call client.calls.items))
-unfolding source_words
+unfolding syntax_definitions
 calls_suc [] i client lt e = absurd (omega (arith, lt))
 calls_suc (c ∷ clients) zero client lt e =
     (calls_of clients, (ap (λ (x : Client). map plain_call x.calls.items ++ calls_of clients) (sym e), ap (λ (x : Client). map plain_call x.calls.items ++ []) (sym e) ∙ append_none (map plain_call client.calls.items)))

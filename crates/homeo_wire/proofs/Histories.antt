@@ -1,6 +1,6 @@
 -- The history as the code reads it from nodes.
-use Rattle.homeo_core.specs.Key.{words as core_words}
-use Rattle.homeo_wire.specs.Key.{words}
+use Rattle.homeo_core.specs.Key.{definitions as core_definitions}
+use Rattle.homeo_wire.specs.Key.{definitions}
 use Rattle.std.proofs.Common.{◌≡◌, ℕ, zero, suc, ◌+◌, ◌<◌, ◌≤◌, eqb, List, [], ◌∷◌, ◌++◌, map, length, take, drop, get_or, Bool, true, false, cond, ℤ, Some, None, refl, sym, ap, ◌∙◌, arith}
 use Rattle.std.specs.Prelude.{find, filter, ◌==◌}
 use Rattle.std.proofs.lemmas.List.{length-map, map-append}
@@ -30,7 +30,7 @@ long_take (x ∷ xs) (suc i) lt = ap suc (long_take xs i (omega (arith, lt)))
 
 -- ---- rounds that a node has left
 left_append : (js : List n.Journal) (k m : ℕ) (left : List n.Left) (l : n.Left) → m ≡ k + length left → rounds_left js k (left ++ l ∷ []) ≡ rounds_left js k left ++ record { base = l.base; segments = map (ran_in m) js; closing = Some l.closing } ∷ []
-unfolding words
+unfolding definitions
 left_append js k m [] l e = ap (λ j. record { base = l.base; segments = map (ran_in j) js; closing = Some l.closing } ∷ []) (let h : k ≡ m = omega (arith, e) in h)
 left_append js k m (x ∷ left) l e =
     ap (λ rounds. record { base = x.base; segments = map (ran_in k) js; closing = Some x.closing } ∷ rounds) (left_append js (suc k) m left l (omega (arith, e)))
@@ -44,7 +44,7 @@ left_next js left i l lt e =
 
 -- ---- the last database
 gathered_append : (base : List ℤ) (xs ys : List SiteState) → gathered base (xs ++ ys) ≡ gathered (gathered base xs) ys
-unfolding core_words
+unfolding core_definitions
 gathered_append base [] ys = refl
 gathered_append base (x ∷ xs) ys = gathered_append (plus_deltas base x.deltas) xs ys
 
@@ -58,7 +58,7 @@ filter_append test (x ∷ xs) ys = cond_append (test x) x (filter test (xs ++ ys
 
 -- one node more
 pub last_more : (base : List ℤ) (round : ℕ) (nodes : List Node) (i : ℕ) (x : Node) → i < length nodes → x ≡ get_or nodes i x → gathered base (sites_in round (map plain_journal (take (i + 1) nodes))) ≡ gathered (gathered base (sites_in round (map plain_journal (take i nodes)))) (sites_in round (plain_journal x ∷ []))
-unfolding words
+unfolding definitions
 last_more base round nodes i x lt e =
     ap (λ ns. gathered base (filter (λ (y : SiteState). y.round == round) (map (λ (j : n.Journal). j.site) (map plain_journal ns)))) (take_next nodes i x lt e)
     ∙ ap (λ js. gathered base (filter (λ (y : SiteState). y.round == round) (map (λ (j : n.Journal). j.site) js))) (map-append plain_journal (take i nodes) (x ∷ []))
@@ -90,17 +90,17 @@ find_end test (y ∷ nodes) (suc i) le = find_end test nodes i (omega (arith, le
 
 -- ---- one node
 pub one_in : (values : List ℤ) (round : ℕ) (x : Node) → x.site.state.round ≡ round → gathered values (sites_in round (plain_journal x ∷ [])) ≡ plus_deltas values x.site.state.deltas
-unfolding words core_words
+unfolding definitions core_definitions
 one_in values round x same =
     ap (gathered values) (cond_true (eqb x.site.state.round round) (x.site.state ∷ []) [] (test_true x.site.state.round round same))
 
 pub one_out : (values : List ℤ) (round : ℕ) (x : Node) → (x.site.state.round ≡ round → ⊥) → gathered values (sites_in round (plain_journal x ∷ [])) ≡ values
-unfolding words core_words
+unfolding definitions core_definitions
 one_out values round x other =
     ap (gathered values) (cond_false (eqb x.site.state.round round) (x.site.state ∷ []) [] (test_false x.site.state.round round other))
 
 pub last_none : (base : List ℤ) (round : ℕ) (nodes : List Node) → base ≡ gathered base (sites_in round (map plain_journal (take 0 nodes)))
-unfolding words core_words
+unfolding definitions core_definitions
 last_none base round [] = refl
 last_none base round (x ∷ nodes) = refl
 
@@ -108,6 +108,6 @@ pub last_all : (base : List ℤ) (round : ℕ) (nodes : List Node) (i : ℕ) →
 last_all base round nodes i le = ap (λ ns. gathered base (sites_in round (map plain_journal ns))) (take_past nodes i le)
 
 pub left_none : (js : List n.Journal) (left : List Left) → [] ≡ rounds_left js 0 (map plain_left (take 0 left))
-unfolding words
+unfolding definitions
 left_none js [] = refl
 left_none js (l ∷ left) = refl

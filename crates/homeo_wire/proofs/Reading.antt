@@ -1,8 +1,8 @@
 -- The history that stands in the nodes is that of the closed rounds and the sites.
-use Rattle.homeo_history.specs.Key.{words as histories}
-use Rattle.homeo_site.specs.Key.{words as site_words}
-use Rattle.homeo_core.specs.Key.{words as core_words}
-use Rattle.homeo_wire.specs.Key.{words}
+use Rattle.homeo_history.specs.Key.{definitions as history_definitions}
+use Rattle.homeo_site.specs.Key.{definitions as site_definitions}
+use Rattle.homeo_core.specs.Key.{definitions as core_definitions}
+use Rattle.homeo_wire.specs.Key.{definitions}
 use Rattle.std.proofs.Common.{inl, inr, ◌≡◌, ℕ, zero, suc, ◌+◌, ◌<◌, ◌≤◌, List, [], ◌∷◌, ◌++◌, map, length, replicate, take, Bool, true, false, cond, eqb, ℤ, pos, ◌+ℤ◌, Some, None, refl, sym, ap, subst, ◌∙◌, arith, slice_index_or}
 use Rattle.std.specs.Prelude.{slice_get, ◌==◌, find, filter, ◌⊎◌}
 use Rattle.std.specs.List.{range_with_len}
@@ -49,7 +49,7 @@ module _ {X : Type 0} (test : X → Bool) where
   found (y ∷ xs) (suc i) x e passes = found_later y xs (test y) refl (λ f. found xs i x e passes)
 
 round_at_most : (js : List Journal) (top : ℕ) → ((i : ℕ) (j : Journal) → slice_get js i ≡ Some j → j.site.round ≤ top) → last_round js ≤ top
-unfolding words
+unfolding definitions
 round_at_most [] top near = omega arith
 round_at_most (j ∷ js) top near =
     let here = near 0 j refl in
@@ -57,7 +57,7 @@ round_at_most (j ∷ js) top near =
     omega (arith, here, rest)
 
 round_at_least : (js : List Journal) (i : ℕ) (j : Journal) → slice_get js i ≡ Some j → j.site.round ≤ last_round js
-unfolding words
+unfolding definitions
 round_at_least [] i j e = absurd (cc)
 round_at_least (k ∷ js) zero j e =
     let same : k ≡ j = cc in let h : k.site.round ≡ j.site.round = ap (λ (x : Journal). x.site.round) same in omega (arith, h)
@@ -70,7 +70,7 @@ get_none (x ∷ xs) zero le = absurd (omega (arith, le))
 get_none (x ∷ xs) (suc i) le = get_none xs i (omega (arith, le))
 
 plus_zeros : (values : List ℤ) (n : ℕ) → plus_deltas values (replicate n (pos 0)) ≡ values
-unfolding core_words
+unfolding core_definitions
 plus_zeros [] n = refl
 plus_zeros (v ∷ values) zero = refl
 plus_zeros (v ∷ values) (suc n) =
@@ -89,7 +89,7 @@ abbrev segments : List Left → List (List Entry)
 segments left = map (λ l. l.segment) left
 
 segment_at : (xs : List (List Entry)) (i : ℕ) (y : List Entry) → slice_get xs i ≡ Some y → segment_of xs i ≡ y
-unfolding histories
+unfolding history_definitions
 segment_at xs i y g = get_index xs i y [] g
 
 -- ---- the rounds that a node has left
@@ -105,7 +105,7 @@ record Segments (js : List Journal) (k : ℕ) (rounds : List Round) : Type 0 whe
   pub at : (m n : ℕ) (q : Round) → n ≡ k + m → slice_get rounds m ≡ Some q → map (ran_in n) js ≡ q.segments
 
 rounds_are : (js : List Journal) (i k : ℕ) (left : List Left) (rounds : List Round) → AreLeft i left rounds → Segments js k rounds → rounds_left js k left ≡ rounds
-unfolding words
+unfolding definitions
 rounds_are js i k [] [] all same = refl
 rounds_are js i k [] (q ∷ rounds) all same = absurd all
 rounds_are js i k (l ∷ left) [] all same = absurd all
@@ -128,7 +128,7 @@ abbrev pub last_sites : ℕ → List Journal → List SiteState
 last_sites top js = filter (λ x. x.round == top) (map (λ j. j.site) js)
 
 then_step : (top : ℕ) (f : Journal → SiteState) (base : List ℤ) (j : Journal) (js : List Journal) → ((other : List ℤ) → gathered other (last_sites top js) ≡ gathered other (map f js)) → IsThen top j (f j) → gathered base (last_sites top (j ∷ js)) ≡ gathered base (map f (j ∷ js))
-unfolding core_words
+unfolding core_definitions
 then_step top f base j js rest is = ⊎_elim here behind is.then
   where
     here : (j.site.round ≡ top) × (f j ≡ j.site) → gathered base (cond (eqb j.site.round top) (j.site ∷ last_sites top js) (last_sites top js)) ≡ gathered (plus_deltas base (f j).deltas) (map f js)
@@ -144,7 +144,7 @@ then_step top f base j js rest is = ⊎_elim here behind is.then
         ∙ ap (λ v. gathered v (map f js)) (sym (ap (plus_deltas base) h.1.1 ∙ plus_zeros base h.1.0))
 
 gathered_then : (top : ℕ) (f : Journal → SiteState) (base : List ℤ) (js : List Journal) → ((i : ℕ) (j : Journal) → slice_get js i ≡ Some j → IsThen top j (f j)) → gathered base (last_sites top js) ≡ gathered base (map f js)
-unfolding core_words
+unfolding core_definitions
 gathered_then top f base [] each = refl
 gathered_then top f base (j ∷ js) each =
     then_step top f base j js (λ other. gathered_then top f other js (λ i k e. each (suc i) k e)) (each 0 j refl)
@@ -152,7 +152,7 @@ gathered_then top f base (j ∷ js) each =
 -- ---- the nodes' journals make the history
 -- the round that a node that is behind leaves next
 abbrev pub newest_of : s.Workload → Turn → Journal → Left
-unfolding words
+unfolding definitions
 newest_of w t j = record {
   base = j.site.base;
   segment = j.site.segment;
@@ -174,15 +174,15 @@ module _ (w : s.Workload) (js : List Journal) (ps : List Packet) (b : BookState)
     left_up e = subst (λ (x : Journal). AreLeft i x.left b.closed) (up_here w top t j e) holds.left
 
     pub left_behind : (j.site.round ≡ top → ⊥) → AreLeft i (j.left ++ newest_of w t j ∷ []) b.closed
-    unfolding words
+    unfolding definitions
     left_behind other = subst (λ (x : Journal). AreLeft i x.left b.closed) (up_behind w top t j other) holds.left
 
     ran_closed : (r : ℕ) (q : Round) → slice_get b.closed r ≡ Some q → ran_in r j ≡ segment_of q.segments i
-    unfolding words
+    unfolding definitions
     ran_closed r q e = ⊎_elim (λ up. segment_left i r j.left b.closed q (j.site.segment ∷ []) (left_up up) e) (λ other. ap (λ xs. slice_index_or xs r []) (sym (append-nil (segments j.left ++ j.site.segment ∷ [])) ∙ ap (λ xs. xs ++ []) (sym (map-append (λ (l : Left). l.segment) j.left (newest_of w t j ∷ [])))) ∙ segment_left i r (j.left ++ newest_of w t j ∷ []) b.closed q [] (left_behind other) e) (same_or_not j.site.round top)
 
     ran_last : ran_in top j ≡ (site_then w top t j).segment
-    unfolding words site_words
+    unfolding definitions site_definitions
     ran_last = ⊎_elim up behind (same_or_not j.site.round top)
       where
         up : j.site.round ≡ top → slice_index_or (segments j.left ++ j.site.segment ∷ []) top [] ≡ (site_then w top t j).segment
@@ -201,7 +201,7 @@ module _ (w : s.Workload) (js : List Journal) (ps : List Packet) (b : BookState)
             ∙ ap (λ (x : Journal). x.site.segment) (sym (up_behind w top t j other))
 
     is_then : IsThen top j (site_then w top t j)
-    unfolding words site_words
+    unfolding definitions site_definitions
     is_then = record {
       then = ⊎_elim (λ e. inl (e, ap (λ (x : Journal). x.site) (up_here w top t j e))) (λ other. inr (other, (_, ap (λ (x : Journal). x.site.deltas) (up_behind w top t j other)))) (same_or_not j.site.round top);
     }
@@ -214,7 +214,7 @@ module _ (w : s.Workload) (js : List Journal) (ps : List Packet) (b : BookState)
       sym was.1.1 ∙ ran_closed i was.0 was.1.0 r q e ∙ segment_at q.segments i y g)
 
   open_segments : map (ran_in top) js ≡ segments_of sites
-  unfolding core_words
+  unfolding core_definitions
   open_segments =
       map_same (ran_in top) (λ j. (site_then w top t j).segment) js ran_last
       ∙ sym (map_map (λ (x : SiteState). x.segment) (site_then w top t) js)
@@ -226,7 +226,7 @@ module _ (w : s.Workload) (js : List Journal) (ps : List Packet) (b : BookState)
         ap (λ (x : Journal). x.site.base) (sym (up_here w top t j up)) ∙ (course.joined.round.each k (site_then w top t j) (get_map (site_then w top t) js k j here)).base
 
     history_is : history_by js j ≡ core.history_of b sites
-    unfolding words core_words
+    unfolding definitions core_definitions
     history_is =
         ap (λ n. record { rounds = rounds_left js 0 j.left ++ record { base = j.site.base; segments = map (ran_in n) js; closing = None } ∷ []; last = gathered j.site.base (last_sites n js) }) up
         ∙ ap (λ v. record { rounds = rounds_left js 0 j.left ++ record { base = v; segments = map (ran_in top) js; closing = None } ∷ []; last = gathered v (last_sites top js) }) base_is
@@ -245,7 +245,7 @@ module _ (w : s.Workload) (js : List Journal) (ps : List Packet) (b : BookState)
   is_last j = j.site.round == last_round js
 
   pub read_is : history_of js ≡ core.history_of b sites
-  unfolding words
+  unfolding definitions
   read_is =
       let f = found is_last js course.place course.first course.there (test_true course.first.site.round (last_round js) (course.here ∙ sym last_is)) in
       ap (λ o. option_map_or (history_by js) o (record { rounds = []; last = [] })) f.is
@@ -259,7 +259,7 @@ module _ (w : s.Workload) (js : List Journal) (ps : List Packet) (b : BookState)
 
   -- ---- as many calls of each client as stand there
   pub counts_are : counts ≡ counts_in w (rounds_of b sites)
-  unfolding words
+  unfolding definitions
   counts_are =
       same_list counts (counts_in w (rounds_of b sites)) (course.ordered.clients ∙ sym (length-map (range_with_len 0 (length w.clients)) count_of ∙ length_range 0 (length w.clients))) at
     where
@@ -275,7 +275,7 @@ module _ (w : s.Workload) (js : List Journal) (ps : List Packet) (b : BookState)
 
   -- ---- the bases of nodes that are behind
   pub base_behind : (i : ℕ) (j : Journal) (q : Round) → slice_get js i ≡ Some j → suc j.site.round ≡ top → slice_get b.closed j.site.round ≡ Some q → j.site.base ≡ q.base
-  unfolding words
+  unfolding definitions
   base_behind i j q here e at =
       let all : AreLeft i (j.left ++ newest_of w t j ∷ []) b.closed = left_behind i j here (λ f. absurd (omega (arith, e, f))) in
       let a : length (j.left ++ newest_of w t j ∷ []) ≡ length j.left + 1 = length_push j.left (newest_of w t j) in

@@ -1,7 +1,7 @@
 -- After any events, two nodes in one round have one base, and the rounds are a legal history.
-use Rattle.homeo_history.specs.Key.{words as histories}
-use Rattle.homeo_core.specs.Key.{words as core_words}
-use Rattle.homeo_wire.specs.Key.{words}
+use Rattle.homeo_history.specs.Key.{definitions as history_definitions}
+use Rattle.homeo_core.specs.Key.{definitions as core_definitions}
+use Rattle.homeo_wire.specs.Key.{definitions}
 use Rattle.std.proofs.Common.{◌≡◌, ℕ, suc, ◌<◌, List, length, Some, sym, ap, subst, ◌∙◌, arith}
 use Rattle.std.specs.Prelude.{slice_get}
 use Rattle.std.proofs.lemmas.List.{length-map}
@@ -25,7 +25,7 @@ use Rattle.homeo_wire.proofs.Settling.{journals_of, up_or_behind}
 use Rattle.homeo_wire.proofs.Starting.{start_holds}
 
 pub reached_holds : (w : s.Workload) (events : List Event) → IsAccepted w → IsHeld w (reached w events)
-unfolding words
+unfolding definitions
 reached_holds w events accepted = events_hold w events (at_start w) accepted (start_holds w accepted)
 
 -- ---- the history
@@ -34,11 +34,11 @@ module _ (w : s.Workload) (x : World) (accepted : IsAccepted w) (h : IsHeld w x)
   long = length-map x.nodes (λ (n : Node). n.journal) ∙ h.talk.count
 
   legal : IsLegalFrom w (initial w) h.counts (core.history_of h.book (sites_then w h.book h.turn (journals_of x.nodes)))
-  unfolding core_words
+  unfolding core_definitions
   legal = joining w (initial w) h.book (sites_then w h.book h.turn (journals_of x.nodes)) h.counts accepted h.course.joined h.course.ordered
 
   pub legal_here : IsLegalFrom w (initial w) (counts_in w (history_in x).rounds) (history_in x)
-  unfolding words core_words
+  unfolding definitions core_definitions
   legal_here =
       subst (λ g. IsLegalFrom w (initial w) (counts_in w g.rounds) g) (sym (read_is w (journals_of x.nodes) x.packets h.book h.turn h.counts h.course long)) (subst (λ c. IsLegalFrom w (initial w) c (core.history_of h.book (sites_then w h.book h.turn (journals_of x.nodes)))) (counts_are w (journals_of x.nodes) x.packets h.book h.turn h.counts h.course long) legal)
 
@@ -62,10 +62,10 @@ module _ (w : s.Workload) (x : World) (accepted : IsAccepted w) (h : IsHeld w x)
         ⊎_elim (λ e. both_up (sym (ap (λ (y : Journal). y.site.round) was.1.1) ∙ e)) (λ behind. both_behind (ap suc (sym (ap (λ (y : Journal). y.site.round) was.1.1)) ∙ behind.before)) (up_or_behind w x.nodes x.packets h.book h.turn h.counts h.talk h.course i was.0 was.1.0)
 
 pub one_history : OneHistory
-unfolding words histories
+unfolding definitions history_definitions
 one_history w events accepted = legal_here w (reached w events) accepted (reached_holds w events accepted)
 
 pub one_base : OneBase
-unfolding words
+unfolding definitions
 one_base w events accepted i k j l one other same =
     bases_here w (reached w events) accepted (reached_holds w events accepted) i k j l one other same

@@ -1,8 +1,8 @@
 -- Nodes and packets that events have led to: what holds of each node, and what an event makes of them.
-use Rattle.homeo_history.specs.Key.{words as histories}
-use Rattle.homeo_site.specs.Key.{words as site_words}
-use Rattle.homeo_core.specs.Key.{words as core_words}
-use Rattle.homeo_wire.specs.Key.{words}
+use Rattle.homeo_history.specs.Key.{definitions as history_definitions}
+use Rattle.homeo_site.specs.Key.{definitions as site_definitions}
+use Rattle.homeo_core.specs.Key.{definitions as core_definitions}
+use Rattle.homeo_wire.specs.Key.{definitions}
 use Rattle.std.proofs.Common.{◌≡◌, ℕ, suc, ◌<◌, ◌≤◌, nat_lt, eqb, List, [], ◌∷◌, ◌++◌, map, length, get_or, take, Bool, true, false, cond, ℤ, Option, Some, None, Result, Ok, Err, refl, sym, ap, subst, ◌∙◌, arith, slice_index_or, slice_set, FitsSigned}
 use Rattle.std.specs.Int.{w64}
 use Rattle.std.specs.Prelude.{All, slice_get, ◌&&◌, ◌==◌, IfOk, OnOk, OnErr}
@@ -58,18 +58,18 @@ use Rattle.homeo_wire.proofs.Standing.{reached_holds, one_base}
 
 -- ---- lists of events
 pub after_append : (w : s.Workload) (events more : List Event) (x : n.World) → n.after w (events ++ more) x ≡ n.after w more (n.after w events x)
-unfolding words
+unfolding definitions
 after_append w [] more x = refl
 after_append w (e ∷ events) more x = after_append w events more (n.happens w x e).world
 
 -- ---- a node reacts
 module _ (nodes : List Node) (before after : List Packet) (i : ℕ) (x x' : Node) (f : n.Node → n.Reaction) (s : Step) (here : slice_get nodes i ≡ Some x) (r : IsReaction (f (plain_node x)) x' before after s) where
   there : slice_get (world_of nodes before).nodes i ≡ Some (plain_node x)
-  unfolding words
+  unfolding definitions
   there = get_map plain_node nodes i x here
 
   pub reacted_world : world_of (slice_set nodes i x') after ≡ (n.at_node (world_of nodes before) i f).world
-  unfolding words
+  unfolding definitions
   reacted_world =
       (λ k. record { nodes = (map_set_plain k); packets = r.sends k })
       ∙ ap (λ o. (n.reacts (world_of nodes before) i o f).world) (sym there)
@@ -78,15 +78,15 @@ module _ (nodes : List Node) (before after : List Packet) (i : ℕ) (x x' : Node
       map_set_plain = map_set plain_node nodes i x' ∙ ap (slice_set (map plain_node nodes) i) r.node
 
   pub reacted_step : plain_step s ≡ (n.at_node (world_of nodes before) i f).step
-  unfolding words
+  unfolding definitions
   reacted_step = r.answer ∙ ap (λ o. (n.reacts (world_of nodes before) i o f).step) (sym there)
 
 pub call_is : (w : s.Workload) (x : n.World) (client home : ℕ) → IsClientAt w home client → n.happens w x (Call client) ≡ n.at_node x home (n.called w client)
-unfolding words histories
+unfolding definitions history_definitions
 call_is w x client home own = ap (n.calls w x client) own
 
 pub delivery_is : (w : s.Workload) (x : n.World) (site k : ℕ) (p : n.Packet) → slice_get x.packets k ≡ Some p → n.happens w x (Deliver site k) ≡ n.at_node x site (n.received w p)
-unfolding words
+unfolding definitions
 delivery_is w x site k p here = ap (n.delivers w x site) here
 
 -- ---- nodes and packets that events have led to
@@ -101,17 +101,17 @@ module _ (work : Workload) (nodes : List Node) (packets : List Packet) (wire : I
   held = subst (IsHeld w) (sym wire.reached) (reached_holds w wire.events wire.accepted)
 
   pub one_base_here : HasOneBase x
-  unfolding words
+  unfolding definitions
   one_base_here = subst HasOneBase (sym wire.reached) (one_base w wire.events wire.accepted)
 
   pub count_is : length nodes ≡ sites_of w
-  unfolding words
+  unfolding definitions
   count_is = sym (length-map nodes plain_node) ∙ held.talk.count
 
   -- a node
   module _ (i : ℕ) (y : Node) (here : slice_get nodes i ≡ Some y) where
     plain_here : slice_get x.nodes i ≡ Some (plain_node y)
-    unfolding words
+    unfolding definitions
     plain_here = get_map plain_node nodes i y here
 
     pub ready_at : IsReady w i (plain_node y)
@@ -121,12 +121,12 @@ module _ (work : Workload) (nodes : List Node) (packets : List Packet) (wire : I
     node_at = All-get (IsNode work) nodes i y wire.each here
 
     pub takes_at : (k : ℕ) (p : Packet) → slice_get packets k ≡ Some p → n.round_of (plain_packet p) ≡ y.site.state.round → CanTake w (plain_node y) (plain_packet p)
-    unfolding words
+    unfolding definitions
     takes_at k p at same =
         can_take w x.nodes x.packets wire.accepted held i (plain_node y) plain_here (plain_packet p) (sent_at x.packets k (plain_packet p) (get_map plain_packet packets k p at)) same
 
   pub is_from : (p : n.Packet) → Sent x.packets p → IsFrom (sites_of w) p
-  unfolding words
+  unfolding definitions
   is_from (n.Want b) sent = tt
   is_from (n.Stop b) sent = tt
   is_from (n.State r k d) sent =
@@ -134,12 +134,12 @@ module _ (work : Workload) (nodes : List Node) (packets : List Packet) (wire : I
       subst (λ m. k < m) held.talk.count (get_lt x.nodes k since.node since.here)
 
   pub from_at : (k : ℕ) (p : Packet) → slice_get packets k ≡ Some p → IsFrom (sites_of w) (plain_packet p)
-  unfolding words
+  unfolding definitions
   from_at k p at = is_from (plain_packet p) (sent_at x.packets k (plain_packet p) (get_map plain_packet packets k p at))
 
   -- ---- after an event
   pub wire_after : (e : Event) (nodes' : List Node) (packets' : List Packet) → All (IsNode work) nodes' → world_of nodes' packets' ≡ (n.happens w x e).world → IsWire work nodes' packets'
-  unfolding words
+  unfolding definitions
   wire_after e nodes' packets' each is = record {
     accepted = wire.accepted;
     each = each;
@@ -167,7 +167,7 @@ pub record Stands (work : Workload) (nodes : List Node) (i : ℕ) (p : Node) : T
   pub rounds : length p.left.items ≡ p.site.state.round
 
 pub node_stands : (work : Workload) (nodes : List Node) (packets : List Packet) → IsWire work nodes packets → (i : ℕ) (p : Node) → i < length nodes → p ≡ get_or nodes i p → Stands work nodes i p
-unfolding words
+unfolding definitions
 node_stands work nodes packets wire i p lt is =
     let here : slice_get nodes i ≡ Some p = slice_get_read nodes _ i p refl lt is in
     let ready = ready_at work nodes packets wire i p here in
@@ -193,7 +193,7 @@ module _ (work : Workload) (nodes : List Node) (packets : List Packet) (wire : I
       subst (λ m. i < m) (sym (count_is work nodes packets wire)) (subst (λ (u : WireValue). i < sites_of (plain_workload u.work)) (sym seen) lt)
 
   pub packet_below : (k : ℕ) → k < length v.world.packets → k < length packets
-  unfolding words
+  unfolding definitions
   packet_below k lt =
       subst (λ m. k < m) (length-map packets plain_packet) (subst (λ (u : WireValue). k < length u.world.packets) (sym seen) lt)
 
@@ -209,7 +209,7 @@ module _ (w : s.Workload) (x : n.World) (accepted : IsAccepted w) (h : IsHeld w 
   long = length-map x.nodes (λ (m : n.Node). m.journal) ∙ h.talk.count
 
   counts_here : h.counts ≡ counts_in w (history_in x).rounds
-  unfolding words core_words
+  unfolding definitions core_definitions
   counts_here =
       counts_are w js x.packets h.book h.turn h.counts h.course long
       ∙ ap (λ g. counts_in w g.rounds) (sym (read_is w js x.packets h.book h.turn h.counts h.course long))
@@ -225,12 +225,12 @@ module _ (w : s.Workload) (x : n.World) (accepted : IsAccepted w) (h : IsHeld w 
     then_made = (h.course.journals home m.journal stands).made client own ∙ ap (λ l. slice_index_or l client 0) counts_here
 
     last : last_round (journals x) ≡ length h.book.closed
-    unfolding words
+    unfolding definitions
     last = last_is w js x.packets h.book h.turn h.counts h.course long
 
     -- where the node is in the last round
     up : m.journal.site.round ≡ length h.book.closed → (mode : Mode) → counted_by (last_round (journals x)) client m mode ≡ slice_index_or made client 0
-    unfolding words
+    unfolding definitions
     up e Running = refl
     up e Waiting = refl
     up e (Stopped b) =
@@ -271,7 +271,7 @@ module _ (w : s.Workload) (x : n.World) (accepted : IsAccepted w) (h : IsHeld w 
       closed_at false false e f = refl
 
       behind : suc m.journal.site.round ≡ length h.book.closed → b ≡ h.turn.breach → counted_by (last_round (journals x)) client m (Stopped b) ≡ slice_index_or (caught_up w (length h.book.closed) h.turn m.journal).made client 0
-      unfolding words
+      unfolding definitions
       behind before is =
           let lt : nat_lt m.journal.site.round (last_round (journals x)) ≡ true = by (nat_lt m.journal.site.round (last_round (journals x))) refl in
           ap (λ t. cond (t && (b.call.client == client)) b.call.seq (slice_index_or made client 0)) lt
@@ -304,7 +304,7 @@ module _ (w : s.Workload) (x : n.World) (accepted : IsAccepted w) (h : IsHeld w 
                 ∙ then_made
 
   pub counts_exist : (client : ℕ) → slice_index_or (counts_in w (history_in x).rounds) client 0 ≤ call_count w client
-  unfolding histories
+  unfolding history_definitions
   counts_exist client = subst (λ l. slice_index_or l client 0 ≤ call_count w client) counts_here (h.course.ordered.exist client)
 
   -- ---- the last database
@@ -312,12 +312,12 @@ module _ (w : s.Workload) (x : n.World) (accepted : IsAccepted w) (h : IsHeld w 
   sites = sites_then w h.book h.turn js
 
   pub last_within : IsWithin (schema_of w) (history_in x).last
-  unfolding words core_words
+  unfolding definitions core_definitions
   last_within =
       subst (λ (g : History). IsWithin (schema_of w) g.last) (sym (read_is w js x.packets h.book h.turn h.counts h.course long)) (whole_within w (initial w) h.book sites accepted h.course.joined)
 
   pub last_fits : (i : ℕ) (j : n.Journal) → slice_get js i ≡ Some j → j.site.round ≡ last_round js → LastFits j.site.base j.site.round js
-  unfolding words core_words
+  unfolding definitions core_definitions
   last_fits i j here is m =
       let e : j.site.round ≡ length h.book.closed = is ∙ last_is w js x.packets h.book h.turn h.counts h.course long in
       let base : j.site.base ≡ h.book.base = base_up w js x.packets h.book h.turn h.counts h.course long i j here e in
@@ -326,18 +326,18 @@ module _ (w : s.Workload) (x : n.World) (accepted : IsAccepted w) (h : IsHeld w 
 -- ---- what the history is read by
 module _ (work : Workload) (nodes : List Node) (packets : List Packet) (wire : IsWire work nodes packets) where
   pub journals_here : journals (world_of nodes packets) ≡ map plain_journal nodes
-  unfolding words
+  unfolding definitions
   journals_here = map_map (λ (m : n.Node). m.journal) plain_node nodes
 
   own_at : (i : ℕ) (y : Node) → slice_get nodes i ≡ Some y → IsOwn y
-  unfolding words
+  unfolding definitions
   own_at i y here = record {
     rounds = sym (length-map y.left.items plain_left) ∙ (ready_at work nodes packets wire i y here).rounds;
     base_is = (node_at work nodes packets wire i y here).base_is;
   }
 
   pub can_read : CanRead nodes
-  unfolding words
+  unfolding definitions
   can_read = record {
     own = own_at;
     fits = λ i y here is. let h = held work nodes packets wire in
@@ -354,7 +354,7 @@ pub record HasHappened {E : Type 0} (work : Workload) (x : n.World) (e : Event) 
 module _ (work : Workload) (nodes : List Node) (packets : List Packet) (wire : IsWire work nodes packets) (e : Event) (i : ℕ) (p : Node) (here : slice_get nodes i ≡ Some p) (f : n.Node → n.Reaction) (is : n.happens (plain_workload work) (world_of nodes packets) e ≡ n.at_node (world_of nodes packets) i f) where
   -- where nothing changes the view of the node
   same_nodes : (y : Node) (packets' : List Packet) → plain_node y ≡ plain_node p → packets' ≡ packets → world_of (slice_set nodes i y) packets' ≡ world_of nodes packets
-  unfolding words
+  unfolding definitions
   same_nodes y packets' same sent = λ k. record { nodes = nodes_same k; packets = map plain_packet (sent k) }
     where
       nodes_same : map plain_node (slice_set nodes i y) ≡ map plain_node nodes
@@ -380,7 +380,7 @@ module _ (work : Workload) (nodes : List Node) (packets : List Packet) (wire : I
 
 -- ---- a call
 called_base : (w : s.Workload) (client : ℕ) (x : n.Node) → (n.called w client x).node.journal.site.base ≡ x.journal.site.base
-unfolding words site_words
+unfolding definitions site_definitions
 called_base w client x = by (n.is_running x.mode && nat_lt (slice_index_or x.journal.made client 0) (call_count w client))
   where
     tried_base : (o : Option Broken) → (n.tried w x (n.next_call x client) o).node.journal.site.base ≡ x.journal.site.base
@@ -393,16 +393,16 @@ called_base w client x = by (n.is_running x.mode && nat_lt (slice_index_or x.jou
 
 module _ (work : Workload) (nodes : List Node) (packets : List Packet) (wire : IsWire work nodes packets) (client home : ℕ) (own : IsClientAt (plain_workload work) home client) (p : Node) (here : slice_get nodes home ≡ Some p) where
   pub call_own : IsClientAt (plain_workload p.site.work) p.site.state.number client
-  unfolding words
+  unfolding definitions
   call_own =
       subst (λ (v : Workload). IsClientAt (plain_workload v) p.site.state.number client) (sym (node_at work nodes packets wire home p here).work_is) (subst (λ k. IsClientAt (plain_workload work) k client) (sym (ready_at work nodes packets wire home p here).number) own)
 
   pub call_made : client < length (plain_workload work).clients → client < length p.made.items
-  unfolding words
+  unfolding definitions
   call_made lt = subst (λ k. client < k) (sym (ready_at work nodes packets wire home p here).made) lt
 
   node_of : {E : Type 0} (r : Result Step E) (y : Node) (packets' : List Packet) → IfOk r (IsReaction (n.called (plain_workload p.site.work) client (plain_node p)) y packets packets') → OnErr r (plain_node y ≡ plain_node p) → y.site.work ≡ p.site.work → y.base ≡ p.base → IsNode work y
-  unfolding words
+  unfolding definitions
   node_of (Ok s) y packets' reaction unchanged same base = record {
     work_is = same ∙ (node_at work nodes packets wire home p here).work_is;
     base_is =
@@ -425,32 +425,32 @@ module _ (work : Workload) (nodes : List Node) (packets : List Packet) (wire : I
 -- ---- a delivery
 module _ (work : Workload) (nodes : List Node) (packets : List Packet) (wire : IsWire work nodes packets) (site k : ℕ) (q : Packet) (sent : slice_get packets k ≡ Some q) (p : Node) (here : slice_get nodes site ≡ Some p) where
   delivered : n.happens (plain_workload work) (world_of nodes packets) (Deliver site k) ≡ n.at_node (world_of nodes packets) site (n.received (plain_workload work) (plain_packet q))
-  unfolding words
+  unfolding definitions
   delivered = delivery_is (plain_workload work) (world_of nodes packets) site k (plain_packet q) (get_map plain_packet packets k q sent)
 
   -- of another round
   pub other_round : {E : Type 0} (s : Step) → plain_step s ≡ n.Ignored → (n.round_of (plain_packet q) ≡ p.site.state.round → ⊥) → HasHappened {E = E} work (world_of nodes packets) (Deliver site k) (slice_set nodes site p) packets (Ok s)
-  unfolding words
+  unfolding definitions
   other_round s answer other =
       reacts_by work nodes packets wire (Deliver site k) site p here (n.received (plain_workload work) (plain_packet q)) delivered (Ok s) p packets (idle_is (n.received (plain_workload work) (plain_packet q) (plain_node p)) p p packets s n.Ignored (received_other (plain_workload work) (plain_packet q) (plain_node p) other) refl answer) tt tt (node_at work nodes packets wire site p here)
 
   -- of the node's round
   pub own_round : {E : Type 0} (r : Result Step E) (y : Node) (packets' : List Packet) (copy : Packet) → plain_packet copy ≡ plain_packet q → n.round_of (plain_packet q) ≡ p.site.state.round → IfOk r (IsReaction (n.taken (plain_workload work) (plain_node p) (plain_packet copy)) y packets packets') → OnErr r (plain_node y ≡ plain_node p) → OnErr r (packets' ≡ packets) → y.site.work ≡ p.site.work → y.base.items ≡ y.site.state.base → HasHappened work (world_of nodes packets) (Deliver site k) (slice_set nodes site y) packets' r
-  unfolding words
+  unfolding definitions
   own_round r y packets' copy same round reaction unchanged unsent work_same base =
       reacts_by work nodes packets wire (Deliver site k) site p here (n.received (plain_workload work) (plain_packet q)) delivered r y packets' (subst (λ x. IfOk r (IsReaction x y packets packets')) (ap (n.taken (plain_workload work) (plain_node p)) same ∙ sym (received_own (plain_workload work) (plain_packet q) (plain_node p) round)) reaction) unchanged unsent (record { work_is = work_same ∙ (node_at work nodes packets wire site p here).work_is; base_is = base })
 
 -- the start
 pub begun_wire : (work : Workload) (nodes : List Node) → IsAccepted (plain_workload work) → map plain_node nodes ≡ (n.at_start (plain_workload work)).nodes → All (IsNode work) nodes → IsWire work nodes []
-unfolding words
+unfolding definitions
 begun_wire work nodes accepted are each = record { accepted = accepted; each = each; events = []; reached = λ k. record { nodes = are k; packets = [] } }
 
 -- the node that stands at a place
 pub read_at : (nodes : List Node) (packets : List Packet) (i : ℕ) (p : Node) (m : n.Node) → slice_get nodes i ≡ Some p → slice_get (world_of nodes packets).nodes i ≡ Some m → plain_node p ≡ m
-unfolding words
+unfolding definitions
 read_at nodes packets i p m here there = let is = get_map plain_node nodes i p here in cc
 
 -- a node in its own place
 pub same_world : (nodes : List Node) (packets : List Packet) (i : ℕ) (p : Node) → slice_get nodes i ≡ Some p → world_of (slice_set nodes i p) packets ≡ world_of nodes packets
-unfolding words
+unfolding definitions
 same_world nodes packets i p here = λ k. record { nodes = map_set_same plain_node nodes i p p here refl k; packets = map plain_packet packets }

@@ -7,24 +7,24 @@ use Rattle.homeo_history.specs.Legal.{IsCallAt, IsLegal}
 use Rattle.homeo_site.specs.SiteState.{step_finding}
 use Rattle.homeo_wire.specs.declared.breach.Breach.{Breach}
 use Rattle.homeo_wire.specs.declared.events.Event.{Event}
-use Rattle.homeo_wire.specs.Key.{words}
+use Rattle.homeo_wire.specs.Key.{definitions}
 use Rattle.homeo_wire.specs.Nodes.{Packet, Want, Stop, State, round_of, Journal, Node, is_running, Step, Kept, Wanted, Held, Taken, Ignored, World, happens, reached}
 use Rattle.homeo_wire.specs.Read.{journals, history_in, counts_in}
 
 -- two nodes that are in one round have one base
 abbrev pub HasOneBase : World → Type 0
-unfolding words
+unfolding definitions
 HasOneBase x =
     (i k : ℕ) (j l : Journal) → slice_get (journals x) i ≡ Some j → slice_get (journals x) k ≡ Some l →
     j.site.round ≡ l.site.round → j.site.base ≡ l.site.base
 
 abbrev pub OneBase : Type 0
-unfolding words
+unfolding definitions
 OneBase = (w : s.Workload) (events : List Event) → IsAccepted w → HasOneBase (reached w events)
 
 -- the history is legal, and of as many calls of each client as stand in it
 abbrev pub OneHistory : Type 0
-unfolding words
+unfolding definitions
 OneHistory =
     (w : s.Workload) (events : List Event) → IsAccepted w →
     IsLegal w (counts_in w (history_in (reached w events)).rounds) (history_in (reached w events))
@@ -32,7 +32,7 @@ OneHistory =
 -- ---- what holds after any events
 -- the node that sends a packet: the arbiter chooses the call that closes its round
 abbrev pub sender : s.Workload → Packet → ℕ
-unfolding words
+unfolding definitions
 sender w (Want b) = b.site
 sender w (Stop b) = b.round % sites_of w
 sender w (State round site deltas) = site
@@ -67,7 +67,7 @@ pub record AreKept (w : s.Workload) (x : World) : Type 0 where
       n.journal.site.round ≤ suc m.journal.site.round
 
 abbrev pub Facts : Type 0
-unfolding words
+unfolding definitions
 Facts = (w : s.Workload) (events : List Event) → IsAccepted w → AreKept w (reached w events)
 
 -- ---- an event that is held or ignored changes nothing
@@ -79,6 +79,6 @@ is_idle Taken = false
 is_idle Ignored = true
 
 abbrev pub Idle : Type 0
-unfolding words
+unfolding definitions
 Idle =
     (w : s.Workload) (x : World) (e : Event) → is_idle (happens w x e).step ≡ true → (happens w x e).world ≡ x

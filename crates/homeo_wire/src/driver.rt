@@ -88,7 +88,7 @@ fn turn(alloc: Global, wire: &mut Wire, draws: &mut Draws) -> Result<(), Memory>
 }
 
 /// The event that two draws choose: a call in one of four cases and where nothing was sent, and else a delivery.
-#[tactic(auto, unfolding(crate::specs::Key::words))]
+#[tactic(auto, unfolding(crate::specs::Key::definitions))]
 fn chosen_event(wire: &Wire, p: u64, q: u64) -> Option<Event>
     ensures chosen { option_to_list result ≡ chosen_event (plain_workload wire.now.work) wire.now.world p q }
     ensures can { IfSome result (CanHappen (plain_workload wire.now.work) wire.now.world) }
@@ -105,7 +105,7 @@ fn chosen_event(wire: &Wire, p: u64, q: u64) -> Option<Event>
 }
 
 /// The call of one of so many clients that a draw chooses: none where there is no client.
-#[tactic(auto, unfolding(crate::specs::Key::words))]
+#[tactic(auto, unfolding(crate::specs::Key::definitions))]
 fn some_call(clients: u64, q: u64) -> Option<Event>
     requires { clients ≤ 64 }
     ensures chosen { option_to_list result ≡ some_call clients q }

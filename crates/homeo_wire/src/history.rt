@@ -123,7 +123,7 @@ fn rounds_left(alloc: Global, nodes: &[Node], left: &[Left]) -> Result<List<Roun
 }
 
 /// Adds a node's deltas to values, where the node is in this round.
-#[tactic(auto, unfolding(crate::specs::Key::words))]
+#[tactic(auto, unfolding(crate::specs::Key::definitions))]
 fn add_node(values: &mut [i64], node: &Node, round: u64)
     requires { All (FitsSigned w64) (gathered values.old (sites_in round (plain_journal node.now ∷ []))) }
     ensures { values.new ≡ gathered values.old (sites_in round (plain_journal node.now ∷ [])) }

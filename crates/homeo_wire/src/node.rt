@@ -27,9 +27,9 @@ use std::mem;
 /// A round that a node has left: its base, what the node itself ran in it, and the call that closed it.
 #[derive(Drop)]
 pub(crate) struct Left {
-    pub base: Database,
-    pub segment: Segment,
-    pub closing: Closing,
+    pub(crate) base: Database,
+    pub(crate) segment: Segment,
+    pub(crate) closing: Closing,
 }
 
 /// A node: its site, with the base of its round; the rounds that it has left; of each client the number of the last call that
@@ -37,13 +37,13 @@ pub(crate) struct Left {
 /// the round's arbiter; and the states that it keeps.
 #[derive(Drop)]
 pub(crate) struct Node {
-    pub site: Site,
-    pub base: Database,
-    pub left: List<Left>,
-    pub made: Vec<u64>,
-    pub mode: Mode,
-    pub decided: bool,
-    pub states: Vec<Option<Database>>,
+    pub(crate) site: Site,
+    pub(crate) base: Database,
+    pub(crate) left: List<Left>,
+    pub(crate) made: Vec<u64>,
+    pub(crate) mode: Mode,
+    pub(crate) decided: bool,
+    pub(crate) states: Vec<Option<Database>>,
 }
 
 impl Node {
@@ -57,7 +57,7 @@ impl Node {
 
     /// The number of the last call of one of its clients that stands in a history up to this round: where the node is behind, the
     /// call that closes its round counts too.
-    #[tactic(auto, unfolding(crate::specs::Key::words))]
+    #[tactic(auto, unfolding(crate::specs::Key::definitions))]
     pub(crate) fn counted(&self, client: u32, last: u64) -> u64
         requires { client < length self.now.made.items }
         ensures { result ≡ counted_by last client (plain_node self.now) self.now.mode }
@@ -217,7 +217,7 @@ impl Node {
     }
 
     /// Chooses the call that closes the round, where the node is the round's arbiter and hasn't chosen one.
-    #[tactic(auto, unfolding(crate::specs::Key::words))]
+    #[tactic(auto, unfolding(crate::specs::Key::definitions))]
     fn choose(&mut self, b: Breach, sites: u32, packets: &mut List<Packet>) -> Result<Step, Memory>
         requires sites { sites ≡ sites_of (plain_workload self.old.site.work) }
         requires some { 0 < sites }

@@ -32,7 +32,7 @@ pub(crate) fn no_states(alloc: Global, sites: u32) -> Result<Vec<Option<Database
 }
 
 /// Whether the state of a site is kept.
-#[tactic(auto, unfolding(crate::specs::Key::words))]
+#[tactic(auto, unfolding(crate::specs::Key::definitions))]
 pub(crate) fn has_state(states: &[Option<Database>], site: u32) -> bool
     requires { site < length states.now }
     ensures { result ≡ has_state (map plain_state states.now) site }
@@ -110,7 +110,7 @@ pub(crate) fn fold_states(
 }
 
 /// Adds the deltas of all sites, whose states are kept.
-#[tactic(auto, unfolding(crate::specs::Key::words))]
+#[tactic(auto, unfolding(crate::specs::Key::definitions))]
 fn add_states(values: &mut [i64], states: &[Option<Database>])
     requires kept { is_some (all_of (map plain_state states.now)) ≡ true }
     requires fits { FoldsFit values.old (map plain_state states.now) }

@@ -2,13 +2,13 @@
 use Rattle.std.specs.Prelude.{ℕ, ◌<◌}
 use Rattle.homeo_cert.specs.declared.nodes.Node.{Node}
 use Rattle.homeo_cert.specs.declared.nodes.Node.TheVariants as node
-use Rattle.homeo_cert.specs.Key.{words}
+use Rattle.homeo_cert.specs.Key.{definitions}
 use Rattle.homeo_cert.specs.Shape.{IsWord, IsCount, TempInShape}
 
 module _ (n k : ℕ) where
   -- a node with numbers in their ranges
   abbrev pub NodeInShape : Node → Type 0
-  unfolding words
+  unfolding definitions
   NodeInShape (node.Write x j) = (x < n) × (j < k)
   NodeInShape (node.Seq m) = IsCount m
   NodeInShape (node.If m) = IsCount m

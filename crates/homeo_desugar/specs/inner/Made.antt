@@ -7,13 +7,13 @@ use Rattle.homeo_syntax.specs.declared.workload.RangeDecl.{RangeDecl}
 use Rattle.homeo_meaning.specs.Context.{Slot}
 use Rattle.homeo_syntax.specs.LowView.{low_commands, plain_lcommand}
 use Rattle.homeo_meaning.specs.LForm.{Lifted, Made, AllMade, Target, both, one, in_turn, field_writes}
-use Rattle.homeo_desugar.specs.inner.Key.{words}
+use Rattle.homeo_desugar.specs.inner.Key.{definitions}
 use Rattle.homeo_desugar.specs.inner.Settings.{plain_spot}
 use Rattle.homeo_desugar.specs.declared.making.Making.{Making}
 use Rattle.homeo_desugar.specs.declared.making.Target as code
 
 abbrev pub made : Making → L.Commands
-unfolding words
+unfolding definitions
 made m = low_commands (map plain_lcommand m.commands.items)
 
 -- the phrase is the lifted one, and the lifting's commands stand behind those that were there
@@ -41,11 +41,11 @@ pub record AreFormed (after : ℕ) (x : AllMade) (formed : L.Commands) : Type 0 
   pub next : after ≡ x.next
 
 abbrev pub plain_target : code.Target → Target
-unfolding words
+unfolding definitions
 plain_target t = record { field = plain_spot t.field; temp = t.temp }
 
 abbrev pub both_tests : L.Cond → L.Cond → L.Cond
-unfolding words
+unfolding definitions
 both_tests L.NoTest d = d
 both_tests (L.MoreTest t c) d = L.MoreTest t (both_tests c d)
 
@@ -57,11 +57,11 @@ pub record IsTested (before after : L.Cond) (old new : Making) (x : Lifted L.Con
 
 -- each target is one of the fields, or past them
 abbrev pub AreWithin : List RangeDecl → List code.Target → Type 0
-unfolding words
+unfolding definitions
 AreWithin fields targets = All (λ (t : code.Target). t.field.place ≤ length fields) targets
 
 -- a slot filled with new values, and its number plus 1 put into a temporary
 abbrev pub filled : Slot → List Target → ℕ → L.Command
-unfolding words
+unfolding definitions
 filled slot xs t =
     L.Seq (field_writes slot xs (L.MoreCommand (L.Write (split.Whole slot.used) (L.Literal (pos 1))) (one (L.Assign (temp.Named t) (L.Literal (pos (suc slot.number)))))))

@@ -4,7 +4,7 @@ use Rattle.homeo_syntax.specs.declared.low.Temp.{Temp}
 use Rattle.homeo_syntax.specs.declared.low.Temp.TheVariants.{Named}
 use Rattle.homeo_syntax.specs.Low.{Expr, Exprs, Literal, OfTemp, Read, Sum, Product, Neg, NoExpr, MoreExpr, Commands, Assign, Write, Print, NoCommand, MoreCommand}
 use Rattle.homeo_meaning.specs.LowMeaning.{same_temp}
-use Rattle.homeo_effect.specs.Key.{words}
+use Rattle.homeo_effect.specs.Key.{definitions}
 
 -- the number under which each temporary was set last: none before it is set
 abbrev pub Latest : Type 0
@@ -18,12 +18,12 @@ set_latest latest t n u = cond (same_temp t u) (Some n) (latest u)
 
 -- a temporary that was not set is 0
 abbrev pub read_latest : Option ℕ → Expr
-unfolding words
+unfolding definitions
 read_latest None = Literal (pos 0)
 read_latest (Some n) = OfTemp (Named n)
 
 abbrev mutual
-  unfolding words
+  unfolding definitions
 
   pub numbered_expr : Latest → Expr → Expr
   numbered_expr latest (Literal n) = Literal n
@@ -39,7 +39,7 @@ abbrev mutual
 
 -- the next temporary is set under number n; what is no assignment, write or print is left out
 abbrev pub numbered : Latest → ℕ → Commands → Commands
-unfolding words
+unfolding definitions
 numbered latest n NoCommand = NoCommand
 numbered latest n (MoreCommand (Assign t e) cs) = MoreCommand (Assign (Named n) (numbered_expr latest e)) (numbered (set_latest latest t n) (suc n) cs)
 numbered latest n (MoreCommand (Write x e) cs) = MoreCommand (Write x (numbered_expr latest e)) (numbered latest n cs)
@@ -48,6 +48,6 @@ numbered latest n (MoreCommand c cs) = numbered latest n cs
 
 -- commands and then others
 abbrev pub and_then : Commands → Commands → Commands
-unfolding words
+unfolding definitions
 and_then NoCommand ds = ds
 and_then (MoreCommand c cs) ds = MoreCommand c (and_then cs ds)

@@ -3,32 +3,32 @@
 use Rattle.std.specs.Prelude.{ℕ, ℤ, pos, ◌+ℤ◌, ◌*ℤ◌, neg_ℤ, Bool, true, cond, ◌&&◌, ◌||◌, nat_le, List, [], ◌∷◌, Option, Some, None}
 use Rattle.std.specs.Int.RustNames.{unsigned_abs}
 use Rattle.homeo_syntax.specs.Source.{Expr, Exprs, Literal, Name, Read, Sum, Product, Neg, Field, Row, Count, Total, NoExpr, MoreExpr, Test, Cond, True, Not, Comparison, NoTest, MoreTest, FieldValue, Command, Commands, Skip, Assign, Write, Print, If, Block, SetField, SetRow, Foreach, Insert, Delete, Update, Abort, NoCommand, MoreCommand}
-use Rattle.homeo_meaning.specs.Key.{words}
+use Rattle.homeo_meaning.specs.Key.{definitions}
 use Rattle.homeo_meaning.specs.Small.{is_small}
 use Rattle.homeo_meaning.specs.Context.{Slot, Context, field_cell, slots, bind, slot_at}
 use Rattle.homeo_meaning.specs.Meaning.{State, Run, done, is_used, value, holds, set_object, write_field, does, does_all}
 
 -- an index counts where the relation has slots
 abbrev pub on_slots : List Slot → Bool → Bool
-unfolding words
+unfolding definitions
 on_slots [] fits = true
 on_slots (slot ∷ more) fits = fits
 
 -- a value counts where there is the slot that it is written to
 abbrev pub on_slot : Option Slot → Bool → Bool
-unfolding words
+unfolding definitions
 on_slot None fits = true
 on_slot (Some slot) fits = fits
 
 -- of a count or a sum each test, and each number on the way
 abbrev pub adding_fits : ℕ → (Slot → Bool) → (Slot → Bool) → (Slot → ℤ) → List Slot → ℤ → Bool
-unfolding words
+unfolding definitions
 adding_fits b tests passes term [] n = true
 adding_fits b tests passes term (slot ∷ more) n =
     tests slot && (is_small b (n +ℤ term slot) && adding_fits b tests passes term more (cond (passes slot) (n +ℤ term slot) n))
 
 abbrev mutual
-  unfolding words
+  unfolding definitions
 
   pub expr_fits : ℕ → Context → Expr → State → Bool
   expr_fits b x (Literal n) s = true
@@ -64,20 +64,20 @@ abbrev mutual
   cond_fits b x (MoreTest t c) s = test_fits b x t s && cond_fits b x c s
 
 abbrev pub values_fit : ℕ → Context → List FieldValue → State → Bool
-unfolding words
+unfolding definitions
 values_fit b x [] s = true
 values_fit b x (f ∷ more) s = expr_fits b x f.value s && values_fit b x more s
 
 -- each visit's test and body, on the state that it finds
 abbrev pub visits_fit : (Slot → State → Bool) → (Slot → State → Bool) → (Slot → State → Bool) → (Slot → State → Run) → List Slot → State → Bool
-unfolding words
+unfolding definitions
 visits_fit tests bodies test body [] s = true
 visits_fit tests bodies test body (slot ∷ more) s =
     let here : Run = cond (is_used s slot && test slot s) (body slot s) (done s) in
     tests slot s && (bodies slot s && (here.ended || visits_fit tests bodies test body more here.state))
 
 abbrev mutual
-  unfolding words
+  unfolding definitions
 
   pub can_run : ℕ → Context → Command → State → Bool
   can_run b x Skip s = true

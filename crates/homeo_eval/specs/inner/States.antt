@@ -3,7 +3,7 @@ use Rattle.std.specs.Prelude.{◌≡◌, ◌≤◌, ℕ, ℤ, pos, Bool, true, L
 use Rattle.homeo_context.specs.declared.context.Context as code_context
 use Rattle.homeo_context.specs.Contexts.{plain_context}
 use Rattle.homeo_eval.specs.declared.state.State as code
-use Rattle.homeo_meaning.specs.Key.{words}
+use Rattle.homeo_meaning.specs.Key.{definitions}
 use Rattle.homeo_meaning.specs.Bounds.{all_bounds}
 use Rattle.homeo_meaning.specs.Context.{Spot}
 use Rattle.homeo_meaning.specs.Meaning.{State, Run, is_within}
@@ -11,11 +11,11 @@ use Rattle.homeo_meaning.specs.Serial.{values_of}
 use Rattle.homeo_lform.specs.RowsFit.{RowsFit}
 
 abbrev pub state_of : code.State → State
-unfolding words
+unfolding definitions
 state_of s = record { database = values_of s.database.items; temps = values_of s.temps.items }
 
 abbrev pub run_of : State → List ℤ → Bool → Run
-unfolding words
+unfolding definitions
 run_of s prints ended = record { state = s; prints = prints; ended = ended }
 
 -- a state has a value for each object, and the rows in force are slots, or past all objects
@@ -25,5 +25,5 @@ pub record Serves (x : code_context.Context) (s : code.State) : Type 0 where
 
 -- past so many objects, nothing but 0 is admitted
 abbrev pub IsZeroPast : ℕ → Spot → ℕ → Type 0
-unfolding words
+unfolding definitions
 IsZeroPast count b n = count ≤ n → (v : ℤ) → is_within b v ≡ true → v ≡ pos 0

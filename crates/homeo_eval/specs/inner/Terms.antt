@@ -3,14 +3,14 @@ use Rattle.std.specs.Prelude.{◌+◌, ℕ, ℤ, pos, Bool, ◌&&◌}
 use Rattle.homeo_syntax.specs.Source.{Cond}
 use Rattle.homeo_eval.specs.declared.phrases.Term.{Term}
 use Rattle.homeo_eval.specs.declared.phrases.Term.TheVariants.{One, Field}
-use Rattle.homeo_meaning.specs.Key.{words}
+use Rattle.homeo_meaning.specs.Key.{definitions}
 use Rattle.homeo_meaning.specs.Context.{Slot, Context, bind}
 use Rattle.homeo_meaning.specs.Meaning.{State, is_used, holds}
 use Rattle.homeo_eval.specs.inner.CanRun.{cond_fits}
 
 -- what a slot adds
 abbrev pub term_of : Term → State → Slot → ℤ
-unfolding words
+unfolding definitions
 term_of One s slot = pos 1
 term_of (Field place) s slot = s.database (slot.used + 1 + place)
 

@@ -4,11 +4,11 @@ use Rattle.std.specs.Global.{Vec}
 use Rattle.std.specs.Int.{w128}
 use Rattle.homeo_plan.specs.declared.forms.Term.{Term}
 use Rattle.homeo_plan.specs.Joined.{Deltas}
-use Rattle.homeo_forecast.specs.Key.{words}
+use Rattle.homeo_forecast.specs.Key.{definitions}
 
 -- the terms on deltas of site i
 abbrev pub terms_at : ℕ → List Term → List Term
-unfolding words
+unfolding definitions
 terms_at i [] = []
 terms_at i (t ∷ ts) = cond (t.delta.site == i) (t ∷ terms_at i ts) (terms_at i ts)
 
@@ -23,7 +23,7 @@ pub record AreOwnTerms (k : ℕ) (ts : List Term) (own : List (Vec Term)) : Type
 
 -- the sum of factor times delta, where all are deltas of one site
 abbrev pub term_sum : List Term → Deltas → ℤ
-unfolding words
+unfolding definitions
 term_sum [] x = pos 0
 term_sum (t ∷ ts) x = (t.factor *ℤ x t.delta.object) +ℤ term_sum ts x
 

@@ -8,12 +8,12 @@ use Rattle.homeo_plan.specs.Needs.{needs_from}
 use Rattle.homeo_plan.specs.declared.forms.Delta.{Delta}
 use Rattle.homeo_plan.specs.Limit.{form_limit}
 use Rattle.homeo_linear.specs.declared.following.Following.{Following}
-use Rattle.homeo_linear.specs.inner.Key.{words}
+use Rattle.homeo_linear.specs.inner.Key.{definitions}
 use Rattle.homeo_linear.specs.Standing.{forms_of}
 
 -- lists of deltas put into others, the last list first
 abbrev pub adds : List (List Delta) → List Delta → List Delta
-unfolding words
+unfolding definitions
 adds [] es = es
 adds (ds ∷ more) es = add_deltas ds (adds more es)
 

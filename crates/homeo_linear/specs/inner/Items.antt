@@ -10,12 +10,12 @@ use Rattle.homeo_linear.specs.declared.items.Item.TheVariants.{Read, Negated, Ot
 use Rattle.homeo_split.specs.declared.places.Place.{Place}
 use Rattle.homeo_split.specs.Places.{plain_place}
 
--- the form of an expression is made of that at a place
-pub record IsMade (of : Linear → Linear) (e : Expr) (p : Place) : Type 0 where
+-- the form of an expression is that at a place, or is made of it so
+pub record HasFormAt (of : Linear → Linear) (e : Expr) (p : Place) : Type 0 where
   pub made : (f : Forms) → form f e ≡ of (f (plain_place p))
   pub small : (f : Forms) → CanForm (IsSmall form_limit) f e → Numbers (IsSmall form_limit) (f (plain_place p))
 
 abbrev pub IsItem : Item → Expr → Type 0
-IsItem (Read p) e = IsMade (λ a. a) e p
-IsItem (Negated p) e = IsMade (scale_form (negsuc 0)) e p
+IsItem (Read p) e = HasFormAt (λ a. a) e p
+IsItem (Negated p) e = HasFormAt (scale_form (negsuc 0)) e p
 IsItem Other e = Unit {0}

@@ -1,18 +1,13 @@
--- Lists of deltas in order, each once, and where a delta stands among them.
+-- Where a delta stands among others that are in order.
 use Rattle.std.specs.Prelude.{◌≡◌, ℕ, ◌≤◌, Bool, true, false, List, [], ◌∷◌, length, take, drop}
 use Rattle.homeo_plan.specs.Each.{Each}
 use Rattle.homeo_plan.specs.Linear.{same_delta, delta_before}
 use Rattle.homeo_plan.specs.declared.forms.Delta.{Delta}
-use Rattle.homeo_linear.specs.inner.Key.{words}
-
-abbrev pub InOrder : List Delta → Type 0
-unfolding words
-InOrder [] = Unit {0}
-InOrder (d ∷ ds) = Each (λ e. delta_before d e ≡ true) ds × InOrder ds
+use Rattle.homeo_linear.specs.inner.Key.{definitions}
 
 -- the first of the deltas, if there is one, doesn't stand before d
 abbrev pub BeginsBehind : Delta → List Delta → Type 0
-unfolding words
+unfolding definitions
 BeginsBehind d [] = Unit {0}
 BeginsBehind d (e ∷ es) = delta_before e d ≡ false
 
@@ -24,6 +19,6 @@ pub record IsPlace (d : Delta) (ds : List Delta) (n : ℕ) : Type 0 where
 
 -- the first of the deltas is d
 abbrev pub begins_with : Delta → List Delta → Bool
-unfolding words
+unfolding definitions
 begins_with d [] = false
 begins_with d (e ∷ es) = same_delta d e

@@ -3,20 +3,19 @@ use Rattle.std.specs.Prelude.{◌≡◌, ℕ, zero, suc, ◌*◌, ◌^◌, false
 use Rattle.std.specs.Ordering.{int_eq}
 use Rattle.homeo_meaning.specs.Small.{IsSmall}
 use Rattle.homeo_plan.specs.Each.{Each}
-use Rattle.homeo_plan.specs.Linear.{Linear, deltas_of, with_term}
+use Rattle.homeo_plan.specs.Linear.{AreInOrder, Linear, deltas_of, with_term}
 use Rattle.homeo_plan.specs.declared.forms.Delta.{Delta}
 use Rattle.homeo_plan.specs.declared.forms.Term.{Term}
 use Rattle.homeo_plan.specs.Limit.{form_limit}
-use Rattle.homeo_linear.specs.inner.Key.{words}
-use Rattle.homeo_linear.specs.inner.Order.{InOrder}
+use Rattle.homeo_linear.specs.inner.Key.{definitions}
 
 -- the factors are at most n in size
 abbrev pub AreWithin : ℕ → List Term → Type 0
-unfolding words
+unfolding definitions
 AreWithin n ts = Each (λ t. IsSmall n t.factor) ts
 
 abbrev pub AreSmall : List Term → Type 0
-unfolding words
+unfolding definitions
 AreSmall ts = AreWithin form_limit ts
 
 -- the size that no sum of small factors of a list exceeds
@@ -25,27 +24,27 @@ sum_limit = 2 ^ 64 * form_limit
 
 -- the terms, with f added to the factor of that at place n
 abbrev pub add_at : ℕ → ℤ → List Term → List Term
-unfolding words
+unfolding definitions
 add_at n f [] = []
 add_at zero f (t ∷ ts) = with_term t.delta (f +ℤ t.factor) ts
 add_at (suc n) f (t ∷ ts) = t ∷ add_at n f ts
 
 -- no factor is 0
 abbrev pub AllCount : List Term → Type 0
-unfolding words
+unfolding definitions
 AllCount ts = Each (λ t. int_eq t.factor (pos 0) ≡ false) ts
 
 -- in order, each delta once, and no factor is 0
-pub record AreJoined (ts : List Term) : Type 0 where
-  pub order : InOrder (deltas_of ts)
+pub record AreAddedUp (ts : List Term) : Type 0 where
+  pub order : AreInOrder (deltas_of ts)
   pub counts : AllCount ts
 
 -- a term by itself
 abbrev pub term_form : Term → Linear
-unfolding words
+unfolding definitions
 term_form t = record { constant = pos 0; terms = t ∷ []; mixed = [] }
 
 -- a delta and a constant
 abbrev pub beside : ℤ → Delta → Linear
-unfolding words
+unfolding definitions
 beside n d = record { constant = n; terms = record { delta = d; factor = pos 1 } ∷ []; mixed = [] }

@@ -1,4 +1,4 @@
--- Sets of atoms that can be joined.
+-- Sets of atoms that can be put one after another.
 use Rattle.homeo_meaning.specs.Small.{IsSmall}
 use Rattle.homeo_plan.specs.declared.forms.AtomSet.{AtomSet}
 use Rattle.homeo_plan.specs.Each.{Each}

@@ -9,5 +9,5 @@ abbrev pub sum_of : Expr → Expr → Expr → Expr
 sum_of a b c = Sum (MoreExpr a (MoreExpr b (MoreExpr c NoExpr)))
 
 -- the base and the deltas of both sites added up
-abbrev pub joined : Expr
-joined = sum_of (Read (Base 0)) (Read (Delta 0 0)) (Read (Delta 0 1))
+abbrev pub object_sum : Expr
+object_sum = sum_of (Read (Base 0)) (Read (Delta 0 0)) (Read (Delta 0 1))

@@ -7,7 +7,7 @@ use Rattle.homeo_meaning.specs.NumberRules.{Making, relation_making}
 use Rattle.homeo_rules.specs.inner.Deciding.{keep_all}
 use Rattle.homeo_meaning.specs.declared.rules.Fault.{Fault}
 use Rattle.homeo_meaning.specs.declared.rules.Phase.TheVariants.{Limits}
-use Rattle.homeo_rules.specs.inner.Key.{words}
+use Rattle.homeo_rules.specs.inner.Key.{definitions}
 
 pub record Counted : Type 0 where
   pub count : ℕ
@@ -21,5 +21,5 @@ count_all making k [] = k
 count_all making k (x ∷ xs) = count_all making (counted k (making x)) xs
 
 abbrev pub making_of : RelationDecl → Making
-unfolding words
+unfolding definitions
 making_of q = relation_making (plain_relation q)

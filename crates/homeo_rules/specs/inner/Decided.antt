@@ -9,7 +9,7 @@ use Rattle.homeo_meaning.specs.Faults.{declared_faults}
 use Rattle.homeo_rules.specs.inner.Deciding.{keep_all}
 use Rattle.homeo_meaning.specs.declared.call.Purpose.{Purpose}
 use Rattle.homeo_meaning.specs.declared.rules.Fault.{Fault}
-use Rattle.homeo_rules.specs.inner.Key.{words}
+use Rattle.homeo_rules.specs.inner.Key.{definitions}
 use Rattle.homeo_rules.specs.inner.Scopes.{item_at}
 use Rattle.homeo_rules.specs.inner.Items.{Items}
 
@@ -24,7 +24,7 @@ pub record NamesGlobals (w : s.Workload) (t : Items) : Type 0 where
 
 -- the faults of the text that need the global names
 abbrev pub faults_with_names : Purpose → s.Workload → List Fault
-unfolding words
+unfolding definitions
 faults_with_names purpose w =
     declared_faults w ++ limit_faults w ++ schedule_faults purpose (scope_of w) w.clients w.end w.schedule
 

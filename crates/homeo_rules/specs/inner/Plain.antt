@@ -7,25 +7,25 @@ use Rattle.homeo_syntax.specs.declared.phrase.Test.{Test}
 use Rattle.homeo_syntax.specs.declared.phrase.Ident.{Ident}
 use Rattle.homeo_syntax.specs.declared.command.FieldValue.{FieldValue}
 use Rattle.homeo_syntax.specs.declared.command.Command.{Command}
-use Rattle.homeo_rules.specs.inner.Key.{words}
+use Rattle.homeo_rules.specs.inner.Key.{definitions}
 
 abbrev pub plain_exprs : List Expr → s.Exprs
-unfolding words
+unfolding definitions
 plain_exprs es = exprs (map plain_expr es)
 
 abbrev pub plain_tests : List Test → s.Cond
-unfolding words
+unfolding definitions
 plain_tests ts = tests (map plain_test ts)
 
 abbrev pub plain_fields : List FieldValue → List s.FieldValue
-unfolding words
+unfolding definitions
 plain_fields fs = map plain_field fs
 
 -- the fields that an insert names
 abbrev pub named_fields : List FieldValue → List Ident
-unfolding words
+unfolding definitions
 named_fields fs = map (λ f. f.field) fs
 
 abbrev pub plain_commands : List Command → s.Commands
-unfolding words
+unfolding definitions
 plain_commands cs = commands (map plain_command cs)

@@ -12,7 +12,7 @@ use Rattle.homeo_meaning.specs.Faults.{of_relation}
 use Rattle.homeo_meaning.specs.declared.rules.Fault.{Fault}
 use Rattle.homeo_meaning.specs.declared.rules.Item.{Item}
 use Rattle.homeo_meaning.specs.declared.rules.Phase.TheVariants.{Duplicate}
-use Rattle.homeo_rules.specs.inner.Key.{words}
+use Rattle.homeo_rules.specs.inner.Key.{definitions}
 
 -- a field that an earlier one has the name of
 abbrev pub declared_twice : List RangeDecl → RangeDecl → List Fault
@@ -26,9 +26,9 @@ abbrev pub value_field : Scope → Option Item → FieldValue → List Fault
 value_field s g f = field_of s g f.field
 
 abbrev pub relation_faults_of : RelationDecl → List Fault
-unfolding words
+unfolding definitions
 relation_faults_of q = of_relation (plain_relation q)
 
 abbrev pub slot_faults_of : RelationDecl → List Fault
-unfolding words
+unfolding definitions
 slot_faults_of q = slot_faults (plain_relation q)

@@ -9,18 +9,18 @@ use Rattle.homeo_meaning.specs.CallRules.{scheduled}
 use Rattle.homeo_rules.specs.inner.Deciding.{keep_all}
 use Rattle.homeo_meaning.specs.declared.rules.Fault.{Fault}
 use Rattle.homeo_meaning.specs.declared.rules.Item.{Item}
-use Rattle.homeo_rules.specs.inner.Key.{words}
+use Rattle.homeo_rules.specs.inner.Key.{definitions}
 
 pub record Tally : Type 0 where
   pub counts : List ℕ
   pub best : Option Fault
 
 abbrev pub scheduled_of : List Client → ℕ → Option Item → Ident → List Fault
-unfolding words
+unfolding definitions
 scheduled_of cs before g x = scheduled (map plain_client cs) before g x
 
 abbrev pub tally : Scope → List Client → Tally → Ident → Tally
-unfolding words
+unfolding definitions
 tally s cs t x = record { counts = slice_set t.counts x.name (slice_index t.counts x.name + 1); best = keep_all t.best (scheduled_of cs (slice_index t.counts x.name) (s.item x.name) x) }
 
 abbrev pub tally_all : Scope → List Client → Tally → List Ident → Tally

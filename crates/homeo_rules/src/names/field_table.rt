@@ -18,7 +18,7 @@ struct FieldKey {
 
 /// Relations whose fields are found in the same time however many there are.
 #[derive(Drop)]
-pub struct FieldTable<'a> {
+pub(crate) struct FieldTable<'a> {
     relations: &'a [RelationDecl],
     keys: IndexSet<FieldKey>,
 }
@@ -66,7 +66,7 @@ fn tabled(alloc: Global, relations: &[RelationDecl]) -> Result<IndexSet<FieldKey
 
 impl<'a> FieldTable<'a> {
     /// Enters the fields of all relations, once for many look-ups.
-    pub fn of(alloc: Global, relations: &'a [RelationDecl]) -> Result<FieldTable<'a>, Memory>
+    pub(crate) fn of(alloc: Global, relations: &'a [RelationDecl]) -> Result<FieldTable<'a>, Memory>
         ensures { IfOk result (λ t. t ≡ relations.now) }
     {
         let keys = tabled(alloc, relations)?;
@@ -74,7 +74,7 @@ impl<'a> FieldTable<'a> {
     }
 
     /// The number of the fields of the relation of a place.
-    pub fn count(&self, relation: usize) -> usize
+    pub(crate) fn count(&self, relation: usize) -> usize
         ensures { result ≡ length (fields_at self.now relation) }
     {
         match self.relations.get(relation) {
@@ -84,7 +84,7 @@ impl<'a> FieldTable<'a> {
     }
 
     /// Whether the relation of a place has a field of a name.
-    pub fn has(&self, relation: usize, name: u32) -> bool
+    pub(crate) fn has(&self, relation: usize, name: u32) -> bool
         ensures { result ≡ has_name (slice_get self.now relation) name }
     {
         self.keys.contains(&FieldKey { relation, name })

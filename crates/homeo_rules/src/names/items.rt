@@ -13,7 +13,7 @@ use std::marker::Model;
 
 /// What each name stands for, by the name's number, and the fault that decides so far.
 #[derive(Drop)]
-pub struct Items {
+pub(crate) struct Items {
     items: Vec<Option<Item>>,
     best: Option<Fault>,
 }
@@ -27,20 +27,20 @@ impl Model for Items {
 }
 
 impl Items {
-    pub fn new(alloc: Global, names: usize, best: Option<Fault>) -> Result<Items, Memory>
+    pub(crate) fn new(alloc: Global, names: usize, best: Option<Fault>) -> Result<Items, Memory>
         ensures { IfOk result (λ t. t ≡ record { items = replicate names None; best = best }) }
     {
         let items = vec![in alloc; None; names]?;
         Ok(Items { items, best })
     }
 
-    pub fn best(&self) -> Option<Fault>
+    pub(crate) fn best(&self) -> Option<Fault>
         ensures { result ≡ self.now.best }
     {
         self.best
     }
 
-    pub fn as_slice(&self) -> &[Option<Item>]
+    pub(crate) fn as_slice(&self) -> &[Option<Item>]
         ensures { result.now ≡ self.now.items }
     {
         self.items.as_slice()
@@ -68,7 +68,7 @@ impl Items {
     }
 }
 
-pub fn enter_objects(ds: &[ObjectDecl], t: &mut Items)
+pub(crate) fn enter_objects(ds: &[ObjectDecl], t: &mut Items)
     ensures { t.new ≡ along_names (λ d. d.name) I.Object 0 t.old ds.now }
 {
     for (i, d) in ds.iter().enumerate() {
@@ -76,7 +76,7 @@ pub fn enter_objects(ds: &[ObjectDecl], t: &mut Items)
     }
 }
 
-pub fn enter_relations(ds: &[RelationDecl], t: &mut Items)
+pub(crate) fn enter_relations(ds: &[RelationDecl], t: &mut Items)
     ensures { t.new ≡ along_names (λ d. d.name) I.Relation 0 t.old ds.now }
 {
     for (i, d) in ds.iter().enumerate() {
@@ -84,7 +84,7 @@ pub fn enter_relations(ds: &[RelationDecl], t: &mut Items)
     }
 }
 
-pub fn enter_transactions(ds: &[Transaction], t: &mut Items)
+pub(crate) fn enter_transactions(ds: &[Transaction], t: &mut Items)
     ensures { t.new ≡ along_names (λ d. d.name) I.Transaction 0 t.old ds.now }
 {
     for (i, d) in ds.iter().enumerate() {
@@ -92,7 +92,7 @@ pub fn enter_transactions(ds: &[Transaction], t: &mut Items)
     }
 }
 
-pub fn enter_clients(ds: &[Client], t: &mut Items)
+pub(crate) fn enter_clients(ds: &[Client], t: &mut Items)
     ensures { t.new ≡ along_names (λ d. d.name) I.Client 0 t.old ds.now }
 {
     for (i, d) in ds.iter().enumerate() {

@@ -6,7 +6,7 @@ ghost use Rattle.homeo_rules.specs.inner.InForce.{rows_of};
 
 /// The row variables that hold a place, the innermost first, each with the name of the relation that it goes over.
 #[derive(Clone, Copy)]
-pub enum Rows<'a> {
+pub(crate) enum Rows<'a> {
     Outside,
     Inside {
         row: u32,
@@ -17,7 +17,7 @@ pub enum Rows<'a> {
 
 impl Rows<'_> {
     /// The relation that the innermost row variable of a name goes over.
-    pub fn relation_of(&self, name: u32) -> Option<u32>
+    pub(crate) fn relation_of(&self, name: u32) -> Option<u32>
         ensures { result ≡ row_relation (rows_of self.now) name }
     {
         match self {

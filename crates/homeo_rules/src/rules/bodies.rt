@@ -25,11 +25,11 @@ const NOTHING: Measure = Measure {
 
 /// What calls are measured in, the same for each call.
 #[derive(Clone, Copy)]
-pub struct Measuring<'a, 'b> {
-    pub scope: Scope<'a>,
-    pub workload: &'a Workload,
-    pub layout: &'b Layout<'a>,
-    pub sites: u64,
+pub(crate) struct Measuring<'a, 'b> {
+    pub(crate) scope: Scope<'a>,
+    pub(crate) workload: &'a Workload,
+    pub(crate) layout: &'b Layout<'a>,
+    pub(crate) sites: u64,
 }
 
 /// The name of a transaction and the values of its arguments, which the L form of a call depends on.
@@ -41,7 +41,7 @@ struct Body {
 
 /// Transactions with arguments, each with the measure of its L form.
 #[derive(Drop)]
-pub struct Bodies {
+pub(crate) struct Bodies {
     bodies: IndexSet<Body>,
     measures: Vec<Option<Measure>>,
 }
@@ -101,7 +101,7 @@ fn body_of(alloc: Global, call: SitedCall<'_>) -> Result<Body, Memory>
 
 impl Bodies {
     /// None yet.
-    pub fn new(alloc: Global) -> Bodies
+    pub(crate) fn new(alloc: Global) -> Bodies
         ensures { (w : s.Workload) → AreBodies w result }
     {
         Bodies {
@@ -111,7 +111,7 @@ impl Bodies {
     }
 
     /// The measure of a call, which is measured if no call of its transaction with the same arguments was.
-    pub fn measure(
+    pub(crate) fn measure(
         &mut self,
         alloc: Global,
         call: SitedCall<'_>,

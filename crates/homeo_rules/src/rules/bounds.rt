@@ -13,7 +13,7 @@ use homeo_syntax::{Number, ObjectDecl, RangeDecl};
 const LARGEST_BOUND: i64 = 1_000_000_000_000;
 
 /// A number of a declaration is not larger than bounds may be.
-#[tactic(auto, using(crate::proofs::Steps::keeping), unfolding(homeo_meaning::specs::Key::words))]
+#[tactic(auto, using(crate::proofs::Steps::keeping), unfolding(homeo_meaning::specs::Key::definitions))]
 fn check_size(n: Number, best: Option<Fault>) -> Option<Fault>
     ensures { result ≡ keep_all best (too_large n) }
 {
@@ -25,7 +25,7 @@ fn check_size(n: Number, best: Option<Fault>) -> Option<Fault>
 }
 
 /// The lower bound is not above the upper one.
-#[tactic(auto, using(crate::proofs::Steps::keeping), unfolding(homeo_meaning::specs::Key::words))]
+#[tactic(auto, using(crate::proofs::Steps::keeping), unfolding(homeo_meaning::specs::Key::definitions))]
 fn check_order(lo: Number, hi: Number, best: Option<Fault>) -> Option<Fault>
     ensures { result ≡ keep_all best (crossed lo hi) }
 {
@@ -37,7 +37,7 @@ fn check_order(lo: Number, hi: Number, best: Option<Fault>) -> Option<Fault>
 }
 
 /// A number stands between two bounds.
-#[tactic(auto, using(crate::proofs::Steps::keeping), unfolding(homeo_meaning::specs::Key::words))]
+#[tactic(auto, using(crate::proofs::Steps::keeping), unfolding(homeo_meaning::specs::Key::definitions))]
 fn check_within(lo: Number, hi: Number, n: Number, best: Option<Fault>) -> Option<Fault>
     ensures { result ≡ keep_all best (outside lo hi n) }
 {
@@ -75,7 +75,7 @@ fn check_declared(d: RangeDecl, best: Option<Fault>) -> Option<Fault>
 }
 
 /// The bounds and first values of objects.
-pub fn check_objects(ds: &[ObjectDecl], best: Option<Fault>) -> Option<Fault>
+pub(crate) fn check_objects(ds: &[ObjectDecl], best: Option<Fault>) -> Option<Fault>
     ensures { result ≡ along_all object_faults best ds.now }
 {
     let mut best = best;
@@ -86,7 +86,7 @@ pub fn check_objects(ds: &[ObjectDecl], best: Option<Fault>) -> Option<Fault>
 }
 
 /// The bounds of parameters or of fields.
-pub fn check_ranges(ds: &[RangeDecl], best: Option<Fault>) -> Option<Fault>
+pub(crate) fn check_ranges(ds: &[RangeDecl], best: Option<Fault>) -> Option<Fault>
     ensures { result ≡ along_all range_bounds best ds.now }
 {
     let mut best = best;
@@ -97,7 +97,7 @@ pub fn check_ranges(ds: &[RangeDecl], best: Option<Fault>) -> Option<Fault>
 }
 
 /// The argument at the place of a parameter, where there is one.
-#[tactic(auto, using(crate::proofs::Steps::keeping), unfolding(homeo_meaning::specs::Key::words))]
+#[tactic(auto, using(crate::proofs::Steps::keeping), unfolding(homeo_meaning::specs::Key::definitions))]
 fn check_argument(d: RangeDecl, args: &[Number], place: usize, best: Option<Fault>) -> Option<Fault>
     ensures { result ≡ keep_all best (argument_outside d (slice_get args.now place)) }
 {
@@ -108,7 +108,11 @@ fn check_argument(d: RangeDecl, args: &[Number], place: usize, best: Option<Faul
 }
 
 /// Each argument within the bounds of its parameter.
-pub fn check_arguments(ds: &[RangeDecl], args: &[Number], best: Option<Fault>) -> Option<Fault>
+pub(crate) fn check_arguments(
+    ds: &[RangeDecl],
+    args: &[Number],
+    best: Option<Fault>,
+) -> Option<Fault>
     ensures { result ≡ along_arguments best 0 ds.now args.now }
 {
     let mut best = best;
@@ -119,8 +123,8 @@ pub fn check_arguments(ds: &[RangeDecl], args: &[Number], best: Option<Fault>) -
 }
 
 /// The site of a client is one that there is.
-#[tactic(auto, using(crate::proofs::Steps::keeping), unfolding(homeo_meaning::specs::Key::words))]
-pub fn check_site(sites: Number, site: Number, best: Option<Fault>) -> Option<Fault>
+#[tactic(auto, using(crate::proofs::Steps::keeping), unfolding(homeo_meaning::specs::Key::definitions))]
+pub(crate) fn check_site(sites: Number, site: Number, best: Option<Fault>) -> Option<Fault>
     ensures { result ≡ keep_all best (site_faults sites site) }
 {
     if sites.value <= site.value {

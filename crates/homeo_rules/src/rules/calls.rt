@@ -17,7 +17,7 @@ use homeo_meaning::{Fault, Item, Phase};
 use homeo_syntax::{Call, Client, Number, RangeDecl, Transaction};
 
 /// A call has as many arguments as there are parameters.
-#[tactic(auto, using(crate::proofs::Steps::keeping), unfolding(homeo_meaning::specs::Key::words))]
+#[tactic(auto, using(crate::proofs::Steps::keeping), unfolding(homeo_meaning::specs::Key::definitions))]
 fn check_arity(params: &[RangeDecl], c: &Call, best: Option<Fault>) -> Option<Fault>
     ensures { result ≡ keep_all best (when (not (length c.now.args.items == length params.now)) (fault Arity c.now.name)) }
 {
@@ -90,7 +90,7 @@ fn check_client(
 }
 
 /// All clients.
-pub fn check_clients(
+pub(crate) fn check_clients(
     cs: &[Client],
     sites: Number,
     scope: &Scope<'_>,

@@ -13,7 +13,7 @@ use indexmap::IndexSet;
 
 /// With a fault where a name is among those before it, to which it is put.
 #[tactic(auto, using(crate::proofs::Steps::keeping))]
-pub fn check_new(
+pub(crate) fn check_new(
     names: &mut IndexSet<u32>,
     x: Ident,
     best: Option<Fault>,

@@ -36,7 +36,7 @@ fn check_field_at(
 
 /// A field is looked up in its relation, where that is one.
 #[tactic(auto, using(crate::proofs::Steps::lookups))]
-pub fn check_field(
+pub(crate) fn check_field(
     scope: &Scope<'_>,
     relation: Option<Item>,
     field: Ident,
@@ -106,7 +106,7 @@ fn check_count(
 
 /// An insert names each field of its relation once.
 #[tactic(auto, using(crate::proofs::Filling::filling))]
-pub fn check_insert(
+pub(crate) fn check_insert(
     alloc: Global,
     scope: &Scope<'_>,
     relation: Ident,

@@ -21,8 +21,8 @@ const MOST_CALLS: usize = 20_000;
 const MOST_GROUND_CALLS: usize = 1024;
 
 /// From 1 to 16 sites.
-#[tactic(auto, using(crate::proofs::Steps::keeping), unfolding(homeo_meaning::specs::Key::words))]
-pub fn check_site_count(sites: Number, best: Option<Fault>) -> Option<Fault>
+#[tactic(auto, using(crate::proofs::Steps::keeping), unfolding(homeo_meaning::specs::Key::definitions))]
+pub(crate) fn check_site_count(sites: Number, best: Option<Fault>) -> Option<Fault>
     ensures { result ≡ keep_all best (site_count_faults sites) }
 {
     if sites.value < 1 || MOST_SITES < sites.value {
@@ -33,8 +33,8 @@ pub fn check_site_count(sites: Number, best: Option<Fault>) -> Option<Fault>
 }
 
 /// At most 256 transactions.
-#[tactic(auto, using(crate::proofs::Steps::keeping), unfolding(homeo_meaning::specs::Key::words))]
-pub fn check_transaction_count(ts: &[Transaction], best: Option<Fault>) -> Option<Fault>
+#[tactic(auto, using(crate::proofs::Steps::keeping), unfolding(homeo_meaning::specs::Key::definitions))]
+pub(crate) fn check_transaction_count(ts: &[Transaction], best: Option<Fault>) -> Option<Fault>
     ensures { result ≡ keep_all best (transaction_passing (slice_get ts.now 256)) }
 {
     match ts.get(MOST_TRANSACTIONS) {
@@ -44,8 +44,8 @@ pub fn check_transaction_count(ts: &[Transaction], best: Option<Fault>) -> Optio
 }
 
 /// At most 64 clients.
-#[tactic(auto, using(crate::proofs::Steps::keeping), unfolding(homeo_meaning::specs::Key::words))]
-pub fn check_client_count(cs: &[Client], best: Option<Fault>) -> Option<Fault>
+#[tactic(auto, using(crate::proofs::Steps::keeping), unfolding(homeo_meaning::specs::Key::definitions))]
+pub(crate) fn check_client_count(cs: &[Client], best: Option<Fault>) -> Option<Fault>
     ensures { result ≡ keep_all best (client_passing (slice_get cs.now 64)) }
 {
     match cs.get(MOST_CLIENTS) {
@@ -55,8 +55,8 @@ pub fn check_client_count(cs: &[Client], best: Option<Fault>) -> Option<Fault>
 }
 
 /// At most 20,000 calls.
-#[tactic(auto, using(crate::proofs::Steps::keeping), unfolding(homeo_meaning::specs::Key::words))]
-pub fn check_call_count(calls: &[SitedCall<'_>], best: Option<Fault>) -> Option<Fault>
+#[tactic(auto, using(crate::proofs::Steps::keeping), unfolding(homeo_meaning::specs::Key::definitions))]
+pub(crate) fn check_call_count(calls: &[SitedCall<'_>], best: Option<Fault>) -> Option<Fault>
     ensures { result ≡ keep_all best (call_passing (slice_get calls.now 20000)) }
 {
     match calls.get(MOST_CALLS) {
@@ -66,8 +66,8 @@ pub fn check_call_count(calls: &[SitedCall<'_>], best: Option<Fault>) -> Option<
 }
 
 /// At most 1,024 distinct ground calls.
-#[tactic(auto, using(crate::proofs::Steps::keeping), unfolding(homeo_meaning::specs::Key::words))]
-pub fn check_ground_count(calls: &[SitedCall<'_>], best: Option<Fault>) -> Option<Fault>
+#[tactic(auto, using(crate::proofs::Steps::keeping), unfolding(homeo_meaning::specs::Key::definitions))]
+pub(crate) fn check_ground_count(calls: &[SitedCall<'_>], best: Option<Fault>) -> Option<Fault>
     ensures { result ≡ keep_all best (call_passing (slice_get calls.now 1024)) }
 {
     match calls.get(MOST_GROUND_CALLS) {

@@ -12,9 +12,9 @@ const MOST_OBJECTS: u128 = 1024;
 
 /// How many objects are declared so far, a number that stands still past the limit, and the fault that decides.
 #[derive(Clone, Copy)]
-pub struct Counted {
-    pub count: u128,
-    pub best: Option<Fault>,
+pub(crate) struct Counted {
+    pub(crate) count: u128,
+    pub(crate) best: Option<Fault>,
 }
 
 /// With so many objects more; the name by which a limit is passed is a fault.
@@ -71,7 +71,7 @@ fn count_relations(qs: &[RelationDecl], k: Counted) -> Counted
 }
 
 /// The declaration with which there are too many objects.
-pub fn check_object_count(
+pub(crate) fn check_object_count(
     ds: &[ObjectDecl],
     qs: &[RelationDecl],
     best: Option<Fault>,

@@ -101,7 +101,7 @@ fn check_totals(
 }
 
 /// The fault that decides, of those of too many print commands and of one so far.
-pub fn check_prints(
+pub(crate) fn check_prints(
     alloc: Global,
     calls: &[SitedCall<'_>],
     measuring: &Measuring<'_, '_>,

@@ -44,7 +44,7 @@ fn check_relation(
 }
 
 /// The bounds and the names of the fields.
-pub fn check_relations(
+pub(crate) fn check_relations(
     alloc: Global,
     qs: &[RelationDecl],
     best: Option<Fault>,
@@ -70,7 +70,7 @@ fn check_slots(q: &RelationDecl, best: Option<Fault>) -> Option<Fault>
 }
 
 /// From 1 to 64 slots.
-pub fn check_all_slots(qs: &[RelationDecl], best: Option<Fault>) -> Option<Fault>
+pub(crate) fn check_all_slots(qs: &[RelationDecl], best: Option<Fault>) -> Option<Fault>
     ensures { result ≡ along_all slot_faults_of best qs.now }
 {
     let mut best = best;

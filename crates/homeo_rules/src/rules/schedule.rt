@@ -18,7 +18,7 @@ use std::marker::Model;
 
 /// How often each name stands in the schedule so far, and the fault that decides.
 #[derive(Drop)]
-pub struct Tally {
+pub(crate) struct Tally {
     counts: Vec<u64>,
     best: Option<Fault>,
 }
@@ -120,7 +120,7 @@ fn tallied(
 }
 
 /// With a fault of the schedule at the end of the text.
-#[tactic(auto, using(crate::proofs::Steps::keeping), unfolding(homeo_meaning::specs::Key::words))]
+#[tactic(auto, using(crate::proofs::Steps::keeping), unfolding(homeo_meaning::specs::Key::definitions))]
 fn at_end(end: u64, best: Option<Fault>) -> Option<Fault>
     ensures { result ≡ keep_all best (end_fault end) }
 {
@@ -173,7 +173,7 @@ fn check_no_order(purpose: Purpose, cs: &[Client], end: u64, best: Option<Fault>
 }
 
 /// The fault that decides, of the schedule's and of one so far.
-pub fn check_schedule(
+pub(crate) fn check_schedule(
     alloc: Global,
     purpose: Purpose,
     order: &Option<List<Ident>>,

@@ -17,7 +17,7 @@ use homeo_syntax::Number;
 const LARGEST_WEIGHT: i64 = 1_000;
 
 /// A weight is not too large.
-#[tactic(auto, using(crate::proofs::Steps::keeping), unfolding(homeo_meaning::specs::Key::words))]
+#[tactic(auto, using(crate::proofs::Steps::keeping), unfolding(homeo_meaning::specs::Key::definitions))]
 fn check_weight(n: Number, best: Option<Fault>) -> Option<Fault>
     ensures { result ≡ keep_all best (too_heavy n) }
 {
@@ -65,7 +65,7 @@ fn is_count(sites: Number, count: usize) -> bool
 }
 
 /// There are as many weights as sites; the first of them is given.
-#[tactic(auto, using(crate::proofs::Steps::keeping), unfolding(homeo_meaning::specs::Key::words))]
+#[tactic(auto, using(crate::proofs::Steps::keeping), unfolding(homeo_meaning::specs::Key::definitions))]
 fn check_count(sites: Number, count: usize, first: Number, best: Option<Fault>) -> Option<Fault>
     ensures { result ≡ keep_all best (when (not (int_eq (pos count) sites.value)) (number_fault Arity first)) }
 {
@@ -93,7 +93,11 @@ fn check_list(sites: Number, weights: &[Number], best: Option<Fault>) -> Option<
 }
 
 /// The weights of the sites, which a workload may have none of.
-pub fn check_site_weights(sites: Number, weights: &[Number], best: Option<Fault>) -> Option<Fault>
+pub(crate) fn check_site_weights(
+    sites: Number,
+    weights: &[Number],
+    best: Option<Fault>,
+) -> Option<Fault>
     ensures { result ≡ keep_all best (site_weight_faults sites weights.now) }
 {
     let best = check_list(sites, weights, best);

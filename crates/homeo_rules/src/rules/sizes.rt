@@ -44,9 +44,9 @@ const UNMEASURED: Measure = Measure {
 
 /// A ground call with its measure. There is none where it is larger than all calls may be together, with those before it.
 #[derive(Clone, Copy)]
-pub struct MeasuredCall<'a> {
-    pub call: SitedCall<'a>,
-    pub measure: Option<Measure>,
+pub(crate) struct MeasuredCall<'a> {
+    pub(crate) call: SitedCall<'a>,
+    pub(crate) measure: Option<Measure>,
 }
 
 /// A sum, up to the number that stands for all that are larger.
@@ -93,7 +93,7 @@ fn known(measure: Option<Measure>) -> Measure
 }
 
 /// Measures each call, those of one transaction with the same arguments once.
-pub fn measure_calls<'a>(
+pub(crate) fn measure_calls<'a>(
     alloc: Global,
     calls: &[SitedCall<'a>],
     measuring: &Measuring<'_, '_>,
@@ -128,7 +128,7 @@ fn check_size(measure: Measure, total: u64, x: Ident, best: Option<Fault>) -> Op
 }
 
 /// The fault that decides, of those of sizes and of one so far.
-pub fn check_sizes(
+pub(crate) fn check_sizes(
     calls: &[MeasuredCall<'_>],
     measuring: &Measuring<'_, '_>,
     best: Option<Fault>,
@@ -158,7 +158,7 @@ fn check_weight(weight: u64, x: Ident, best: Option<Fault>) -> Option<Fault>
 }
 
 /// The fault that decides, of those of weights and of one so far.
-pub fn check_weights(
+pub(crate) fn check_weights(
     calls: &[MeasuredCall<'_>],
     measuring: &Measuring<'_, '_>,
     best: Option<Fault>,
@@ -186,7 +186,7 @@ fn check_row_count(rows: u64, total: u64, x: Ident, best: Option<Fault>) -> Opti
 }
 
 /// The fault that decides, of those of rows and of one so far.
-pub fn check_rows(
+pub(crate) fn check_rows(
     calls: &[MeasuredCall<'_>],
     measuring: &Measuring<'_, '_>,
     best: Option<Fault>,

@@ -7,7 +7,7 @@ use Rattle.homeo_meaning.specs.Context as context
 use Rattle.homeo_meaning.specs.Context.{Slot, object_count, slots_from}
 use Rattle.homeo_meaning.specs.Schema.{Declared, Relation, Schema, declared_object, declared_range}
 use Rattle.homeo_meaning.specs.LowWeights.{bounds_weight}
-use Rattle.homeo_size.specs.inner.Key.{words}
+use Rattle.homeo_size.specs.inner.Key.{definitions}
 use Rattle.homeo_size.specs.inner.Numbers.{weight_cap}
 use Rattle.homeo_size.specs.inner.Slots.{plain_slot}
 use Rattle.homeo_size.specs.declared.layout.Laid.{Laid}
@@ -19,26 +19,26 @@ pub record Table : Type 0 where
   pub fields : List Declared
 
 abbrev pub plain_laid : Laid → Table
-unfolding words
+unfolding definitions
 plain_laid l = record { slots = map plain_slot l.slots.items; fields = map declared_range l.fields.now }
 
 -- the relations, the first of which begins at the object first
 abbrev pub tables_from : ℕ → List Relation → List Table
-unfolding words
+unfolding definitions
 tables_from first [] = []
 tables_from first (r ∷ rs) =
     record { slots = slots_from 0 first r.fields r.slots; fields = r.fields } ∷ tables_from (first + r.slots * (1 + length r.fields)) rs
 
 abbrev pub capped_weight : Bounds → ℕ
-unfolding words
+unfolding definitions
 capped_weight b = weight_cap (bounds_weight b)
 
 abbrev pub range_weight : RangeDecl → ℕ
-unfolding words
+unfolding definitions
 range_weight d = capped_weight (bounds_of (declared_range d))
 
 abbrev pub object_weight : ObjectDecl → ℕ
-unfolding words
+unfolding definitions
 object_weight d = capped_weight (bounds_of (declared_object d))
 
 -- the number of a relation's objects
@@ -47,7 +47,7 @@ relation_size r = r.slots * (1 + length r.fields)
 
 -- what a row stands for that is not in force: a slot past all objects
 abbrev pub outside : Schema → Slot
-unfolding words
+unfolding definitions
 outside x = record { number = 0; used = object_count (length x.objects) x.relations; fields = [] }
 
 pub record IsLaid (x : Schema) (tables : List Laid) (object_names relation_names : List ℕ) (absent : code.Slot) (weights : List ℕ) : Type 0 where
@@ -59,16 +59,16 @@ pub record IsLaid (x : Schema) (tables : List Laid) (object_names relation_names
 
 -- ---- what is found at a place
 abbrev pub object_spot : ℕ → Option ObjectDecl → context.Spot
-unfolding words
+unfolding definitions
 object_spot k None = record { place = k; lo = pos 0; hi = pos 0 }
 object_spot k (Some d) = record { place = k; lo = d.lo.value; hi = d.hi.value }
 
 abbrev pub laid_slots : Option Laid → List Slot
-unfolding words
+unfolding definitions
 laid_slots None = []
 laid_slots (Some l) = map plain_slot l.slots.items
 
 abbrev pub laid_fields : Option Laid → List Declared
-unfolding words
+unfolding definitions
 laid_fields None = []
 laid_fields (Some l) = map declared_range l.fields.now

@@ -2,7 +2,7 @@
 use Rattle.std.specs.Prelude.{ℕ, ◌+◌, ◌*◌, min, List, [], ◌∷◌, length, ℤ, Option, Some, None}
 use Rattle.homeo_syntax.specs.Source.{Expr, Exprs, Literal, Name, Read, Sum, Product, Neg, Field, Row, Count, Total, NoExpr, MoreExpr, Test, Cond, True, Not, Comparison, NoTest, MoreTest, FieldValue, Command, Commands, Skip, Assign, Write, Print, If, Block, SetField, SetRow, Foreach, Insert, Delete, Update, Abort, NoCommand, MoreCommand}
 use Rattle.homeo_meaning.specs.Context.{Slot, slot_at}
-use Rattle.homeo_size.specs.inner.Key.{words}
+use Rattle.homeo_size.specs.inner.Key.{definitions}
 use Rattle.homeo_size.specs.inner.Sizing.{Setting, literal_in}
 
 abbrev pub few : ℕ → ℕ
@@ -19,7 +19,7 @@ abbrev pub visit_nodes : List Slot → ℕ → ℕ
 visit_nodes all n = few (1 + length all * few (1 + n))
 
 abbrev mutual
-  unfolding words
+  unfolding definitions
 
   pub nodes : Setting → Expr → ℕ
   nodes x (Literal n) = 1
@@ -54,19 +54,19 @@ slot_nodes (Some slot) n = few (1 + n)
 
 -- a write to a field of the slot that an index of m nodes names
 abbrev pub write_nodes : Option ℤ → List Slot → ℕ → ℕ → ℕ
-unfolding words
+unfolding definitions
 write_nodes (Some v) all m n = slot_nodes (slot_at v all) n
 write_nodes None [] m n = few (1 + n)
 write_nodes None (slot ∷ more) m n = few (length (slot ∷ more) + few (m + n))
 
 -- the values of an insert, with what comes before them
 abbrev pub values_nodes : Setting → List FieldValue → ℕ → ℕ
-unfolding words
+unfolding definitions
 values_nodes x [] n = n
 values_nodes x (f ∷ fs) n = values_nodes x fs (few (n + nodes x f.value))
 
 abbrev mutual
-  unfolding words
+  unfolding definitions
 
   pub command_nodes : Setting → Command → ℕ
   command_nodes x Skip = 1

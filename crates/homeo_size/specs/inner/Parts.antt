@@ -2,14 +2,14 @@
 use Rattle.std.specs.Prelude.{ℕ, ◌+◌, ◌*◌, max, true, false, cond, ℤ}
 use Rattle.homeo_meaning.specs.Context.{Spot}
 use Rattle.homeo_meaning.specs.LowWeights.{number_weight}
-use Rattle.homeo_size.specs.inner.Key.{words}
+use Rattle.homeo_size.specs.inner.Key.{definitions}
 use Rattle.homeo_size.specs.inner.Numbers.{cap, weight_cap}
 use Rattle.homeo_size.specs.declared.extent.Extent.{Extent}
 use Rattle.homeo_size.specs.declared.measures.Before.{Before}
 use Rattle.homeo_size.specs.declared.measures.Measure.{Measure}
 
 abbrev pub literal : ℤ → Extent
-unfolding words
+unfolding definitions
 literal n = record { size = 1; depth = 1; weight = weight_cap (number_weight n) }
 
 -- a temporary that nothing is assigned to
@@ -29,44 +29,44 @@ no_factor = record { size = 0; depth = 0; weight = 1 }
 
 -- one next to the other: as tests, as terms, as factors
 abbrev pub beside : Extent → Extent → Extent
-unfolding words
+unfolding definitions
 beside a b = record { size = cap (a.size + b.size); depth = max a.depth b.depth; weight = max a.weight b.weight }
 
 abbrev pub plus : Extent → Extent → Extent
-unfolding words
+unfolding definitions
 plus a b = record { size = cap (a.size + b.size); depth = max a.depth b.depth; weight = weight_cap (a.weight + b.weight) }
 
 abbrev pub times : Extent → Extent → Extent
-unfolding words
+unfolding definitions
 times a b = record { size = cap (a.size + b.size); depth = max a.depth b.depth; weight = weight_cap (a.weight * b.weight) }
 
 -- with one more round it
 abbrev pub around : Extent → Extent
-unfolding words
+unfolding definitions
 around a = record { size = cap (1 + a.size); depth = cap (1 + a.depth); weight = a.weight }
 
 -- a sum of such terms
 abbrev pub summed : Extent → Extent
-unfolding words
+unfolding definitions
 summed a = record { size = cap (1 + a.size); depth = cap (1 + a.depth); weight = max 1 a.weight }
 
 abbrev pub compared : Extent → Extent → Extent
-unfolding words
+unfolding definitions
 compared a b = around (beside a b)
 
 -- of each, the greater
 abbrev pub greater : Extent → Extent → Extent
-unfolding words
+unfolding definitions
 greater a b = record { size = max a.size b.size; depth = max a.depth b.depth; weight = max a.weight b.weight }
 
 -- an object that nothing is written to, which weighs so much
 abbrev pub unwritten : ℕ → ℕ → Extent
-unfolding words
+unfolding definitions
 unwritten sites weight = record { size = cap (sites + 2); depth = 2; weight = weight }
 
 -- an object that a value of this extent is written to
 abbrev pub written : ℕ → Extent → Extent
-unfolding words
+unfolding definitions
 written sites e = record { size = cap (e.size + (3 * sites + 2)); depth = cap (e.depth + 3); weight = e.weight }
 
 -- ---- commands
@@ -76,16 +76,16 @@ empty = record { size = 1; depth = 0; weight = 0; rows = 1 }
 
 -- an assignment or a print of a value of this extent
 abbrev pub valued : Extent → Measure
-unfolding words
+unfolding definitions
 valued e = record { size = cap (1 + e.size); depth = e.depth; weight = e.weight; rows = 1 }
 
 -- a write of a value of this extent
 abbrev pub writing : ℕ → Extent → Measure
-unfolding words
+unfolding definitions
 writing sites e = record { size = cap ((3 * sites + 3) + e.size); depth = e.depth; weight = e.weight; rows = 1 }
 
 abbrev pub chosen : Extent → Measure → Measure → Measure
-unfolding words
+unfolding definitions
 chosen t m n = record {
   size = cap (2 + (t.size + (m.size + n.size)));
   depth = max t.depth (max m.depth n.depth);
@@ -95,7 +95,7 @@ chosen t m n = record {
 
 -- a sequence with one more command
 abbrev pub followed : Measure → Measure → Measure
-unfolding words
+unfolding definitions
 followed m n = record { size = cap (m.size + n.size); depth = max m.depth n.depth; weight = max m.weight n.weight; rows = cap (m.rows * n.rows) }
 
 -- ---- the commands of liftings
@@ -103,26 +103,26 @@ abbrev pub none : Before
 none = record { all = empty; any = false }
 
 abbrev pub with_one : Before → Measure → Before
-unfolding words
+unfolding definitions
 with_one b m = record { all = followed b.all m; any = true }
 
 -- a command after those before it, alone where there are none
 abbrev pub placed : Before → Measure → Measure
-unfolding words
+unfolding definitions
 placed b m = cond b.any (followed b.all m) m
 
 -- ---- tests
 -- more tests: that a value is within the bounds
 abbrev pub within_tests : Spot → Extent → Extent → Extent
-unfolding words
+unfolding definitions
 within_tests b e a = beside (beside a (compared (literal b.lo) e)) (compared e (literal b.hi))
 
 -- the condition that a value is a number
 abbrev pub is_equal : Extent → ℤ → Extent
-unfolding words
+unfolding definitions
 is_equal e v = around (beside nothing (compared e (literal v)))
 
 -- a write of a value where it is within the bounds
 abbrev pub guarded : ℕ → Spot → Extent → Measure
-unfolding words
+unfolding definitions
 guarded sites b e = chosen (around (within_tests b e nothing)) (writing sites e) empty

@@ -1,14 +1,14 @@
 -- How many print commands an L form has, told without visiting a slot, each number up to a cap.
 use Rattle.std.specs.Prelude.{ℕ, ◌+◌, ◌*◌, min, length}
 use Rattle.homeo_syntax.specs.Source.{Command, Commands, Skip, Assign, Write, Print, If, Block, SetField, SetRow, Foreach, Insert, Delete, Update, Abort, NoCommand, MoreCommand}
-use Rattle.homeo_size.specs.inner.Key.{words}
+use Rattle.homeo_size.specs.inner.Key.{definitions}
 use Rattle.homeo_size.specs.inner.Sizing.{Setting}
 
 abbrev pub print_cap : ℕ → ℕ
 print_cap n = min 1000001 n
 
 abbrev mutual
-  unfolding words
+  unfolding definitions
 
   pub prints : Setting → Command → ℕ
   prints x Skip = 0

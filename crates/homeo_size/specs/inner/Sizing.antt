@@ -3,7 +3,7 @@ use Rattle.std.specs.Prelude.{ℕ, ◌==◌, cond, List, [], ◌∷◌, ℤ, pos
 use Rattle.homeo_syntax.specs.Source.{Expr, Exprs, Literal, Name, Read, Sum, Product, Neg, Field, Row, Count, Total, NoExpr, MoreExpr, Test, Cond, True, Not, Comparison, NoTest, MoreTest}
 use Rattle.homeo_meaning.specs.Context.{Spot, Slot, cell, field_cell, slot_at, spot}
 use Rattle.homeo_meaning.specs.Schema.{Declared}
-use Rattle.homeo_size.specs.inner.Key.{words}
+use Rattle.homeo_size.specs.inner.Key.{definitions}
 use Rattle.homeo_size.specs.inner.Parts.{literal, nothing, no_factor, beside, plus, times, around, summed, compared, truth, greater, empty, valued, chosen, with_one, is_equal}
 use Rattle.homeo_size.specs.declared.extent.Extent.{Extent}
 use Rattle.homeo_size.specs.declared.measures.Before.{Before}
@@ -25,7 +25,7 @@ pub record Setting : Type 0 where
 
 -- with one more row in force
 abbrev pub bound : Setting → ℕ → Slot → Setting
-unfolding words
+unfolding definitions
 bound x row slot = record {
   object = x.object;
   slots = x.slots;
@@ -38,35 +38,35 @@ bound x row slot = record {
 -- ---- names and fields
 -- an argument is a literal
 abbrev pub name_sized : Option ℤ → Extent → Extent
-unfolding words
+unfolding definitions
 name_sized (Some v) e = literal v
 name_sized None e = e
 
 abbrev pub slot_sized : Spot → Option Slot → Sizes → Extent
-unfolding words
+unfolding definitions
 slot_sized f None s = literal (pos 0)
 slot_sized f (Some slot) s = s.objects (cell slot f)
 
 -- what a chain of tests leaves in its temporary: the greatest of its branches
 abbrev pub chain_sized : Spot → List Slot → Sizes → Extent
-unfolding words
+unfolding definitions
 chain_sized f [] s = literal (pos 0)
 chain_sized f (slot ∷ more) s = greater (s.objects (cell slot f)) (chain_sized f more s)
 
 abbrev pub chain_measured : Spot → Extent → List Slot → Sizes → Measure
-unfolding words
+unfolding definitions
 chain_measured f i [] s = valued (literal (pos 0))
 chain_measured f i (slot ∷ more) s =
     chosen (is_equal i (pos slot.number)) (valued (s.objects (cell slot f))) (chain_measured f i more s)
 
 -- an index that is a literal names its slot, and another needs a chain
 abbrev pub field_sized : Option ℤ → List Slot → Spot → Sizes → Extent
-unfolding words
+unfolding definitions
 field_sized (Some v) all f s = slot_sized f (slot_at v all) s
 field_sized None all f s = chain_sized f all s
 
 abbrev pub field_lifted : Option ℤ → List Slot → Spot → Extent → Sizes → Before → Before → Before
-unfolding words
+unfolding definitions
 field_lifted (Some v) all f i s b lifted = b
 field_lifted None all f i s b lifted = with_one lifted (chain_measured f i all s)
 
@@ -76,13 +76,13 @@ missing None = Some (pos 0)
 missing (Some slot) = None
 
 abbrev pub missing_at : Option ℤ → List Slot → Option ℤ
-unfolding words
+unfolding definitions
 missing_at None all = None
 missing_at (Some v) all = missing (slot_at v all)
 
 -- the number that an expression is as a literal
 abbrev pub literal_in : Setting → Expr → Option ℤ
-unfolding words
+unfolding definitions
 literal_in x (Literal n) = Some n
 literal_in x (Name t) = x.arguments t.name
 literal_in x (Read o) = None
@@ -97,28 +97,28 @@ literal_in x (Total r f q c) = None
 -- ---- counts and sums over slots
 -- what a slot adds: 1, or its field of this name
 abbrev pub term_sized : Option ℕ → Slot → Sizes → Extent
-unfolding words
+unfolding definitions
 term_sized None slot s = literal (pos 1)
 term_sized (Some f) slot s = s.objects (field_cell slot f)
 
 abbrev pub added : Extent → Extent → Extent
-unfolding words
+unfolding definitions
 added t term = summed (plus (plus nothing t) term)
 
 -- the temporary after the slots, each of which may add
 abbrev pub total_sized : Option ℕ → List Slot → Sizes → Extent → Extent
-unfolding words
+unfolding definitions
 total_sized f [] s t = t
 total_sized f (slot ∷ more) s t = total_sized f more s (greater (added t (term_sized f slot s)) t)
 
 -- the condition of a visit begins with the test that the slot is used
 abbrev pub used_test : Slot → Sizes → Extent
-unfolding words
+unfolding definitions
 used_test slot s = beside nothing (compared (s.objects slot.used) (literal (pos 1)))
 
 -- the visits of the slots, where the first two tell a slot's condition and its liftings
 abbrev pub total_measured : (Slot → Extent) → (Slot → Before → Before) → Option ℕ → List Slot → Sizes → Extent → Before → Before
-unfolding words
+unfolding definitions
 total_measured test lifts f [] s t b = b
 total_measured test lifts f (slot ∷ more) s t b =
     let sum : Extent = added t (term_sized f slot s) in
@@ -126,7 +126,7 @@ total_measured test lifts f (slot ∷ more) s t b =
 
 -- ---- phrases
 abbrev mutual
-  unfolding words
+  unfolding definitions
 
   pub sized : Setting → Expr → Sizes → Extent
   sized x (Literal n) s = literal n
@@ -150,7 +150,7 @@ abbrev mutual
   product_sized x (MoreExpr e es) s a = product_sized x es s (times a (sized x e s))
 
 abbrev mutual
-  unfolding words
+  unfolding definitions
 
   pub test_sized : Setting → Test → Sizes → Extent
   test_sized x True s = truth
@@ -164,12 +164,12 @@ abbrev mutual
 
 -- the condition of the visit of a slot, without what is round it
 abbrev pub visit_sized : Setting → ℕ → Cond → Slot → Sizes → Extent
-unfolding words
+unfolding definitions
 visit_sized x r c slot s = tests_sized (bound x r slot) c s (used_test slot s)
 
 -- ---- the commands of the liftings, after those before them
 abbrev mutual
-  unfolding words
+  unfolding definitions
 
   pub lifted : Setting → Expr → Sizes → Before → Before
   lifted x (Literal n) s b = b
@@ -201,13 +201,13 @@ abbrev mutual
 
 -- ---- a count, or a sum over fields, from its temporary 0 on
 abbrev pub total_of : Option ℕ → List Slot → Sizes → Extent
-unfolding words
+unfolding definitions
 total_of f all s = total_sized f all s (literal (pos 0))
 
 abbrev pub total_visits : Setting → ℕ → Cond → Option ℕ → List Slot → Sizes → Extent → Before → Before
-unfolding words
+unfolding definitions
 total_visits x r c f all s t b = total_measured (λ slot. visit_sized x r c slot s) (λ slot. tests_lifted (bound x r slot) c s) f all s t b
 
 abbrev pub total_lifted : Setting → ℕ → Cond → Option ℕ → List Slot → Sizes → Before → Before
-unfolding words
+unfolding definitions
 total_lifted x r c f all s b = total_visits x r c f all s (literal (pos 0)) (with_one b (valued (literal (pos 0))))

@@ -2,18 +2,18 @@
 use Rattle.std.specs.Prelude.{ℤ, List, map, length}
 use Rattle.homeo_meaning.specs.LowMeaning.{State, Run}
 use Rattle.homeo_split.specs.declared.state.State as code
-use Rattle.homeo_split.specs.Key.{words}
+use Rattle.homeo_split.specs.Key.{definitions}
 use Rattle.homeo_split.specs.Shape.{Shape}
 use Rattle.homeo_split.specs.States.{state_with}
 
 abbrev pub plain_state : code.State → State
-unfolding words
+unfolding definitions
 plain_state s = state_with s.base.items (map (λ d. d.items) s.deltas.items) s.named.items s.fresh.items
 
 abbrev pub state_shape : code.State → Shape
-unfolding words
+unfolding definitions
 state_shape s = record { base = length s.base.items; deltas = map (λ d. length d.items) s.deltas.items }
 
 abbrev pub run_of : State → List ℤ → Run
-unfolding words
+unfolding definitions
 run_of s prints = record { state = s; prints = prints }

@@ -4,7 +4,7 @@ use Rattle.homeo_syntax.specs.Low.{Command, Commands, Skip, Assign, Write, Print
 use Rattle.homeo_syntax.specs.LowView.{plain_lcommand}
 use Rattle.homeo_plan.specs.Table.{Row, before, last_row}
 use Rattle.homeo_table.specs.declared.branches.Branch.{Branch}
-use Rattle.homeo_table.specs.inner.Key.{words}
+use Rattle.homeo_table.specs.inner.Key.{definitions}
 use Rattle.homeo_table.specs.inner.Makings.{completed}
 
 -- the commands that are left, from the last to the first
@@ -13,7 +13,7 @@ left_of b = map (λ c. plain_lcommand c.now) b.left.items
 
 -- such commands in front of rows
 abbrev pub left_before : List Command → List Row → List Row
-unfolding words
+unfolding definitions
 left_before [] rows = rows
 left_before (c ∷ cs) rows = left_before cs (before c rows)
 
@@ -23,12 +23,12 @@ rows_of b = map (completed b.row) (left_before (left_of b) (last_row ∷ []))
 
 -- the rows of branches, from the last to the first
 abbrev pub rows_of_all : List Branch → List Row
-unfolding words
+unfolding definitions
 rows_of_all [] = []
 rows_of_all (b ∷ bs) = rows_of_all bs ++ rows_of b
 
 abbrev mutual
-  unfolding words
+  unfolding definitions
 
   -- how many commands there are in a command, with itself
   pub size : Command → ℕ
@@ -45,6 +45,6 @@ abbrev mutual
 
 -- in commands that are left
 abbrev pub left_size : List Command → ℕ
-unfolding words
+unfolding definitions
 left_size [] = 0
 left_size (c ∷ cs) = size c + left_size cs

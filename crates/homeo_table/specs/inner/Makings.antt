@@ -6,12 +6,12 @@ use Rattle.homeo_meaning.specs.LowMeaning.{Location}
 use Rattle.homeo_plan.specs.Table.{Row, both}
 use Rattle.homeo_table.specs.declared.making.Making.{Making}
 use Rattle.homeo_table.specs.inner.Bindings.{bound}
-use Rattle.homeo_table.specs.inner.Key.{words}
+use Rattle.homeo_table.specs.inner.Key.{definitions}
 use Rattle.homeo_table.specs.inner.Substitution.{substituted_cond}
 
 -- commands one after another, and then others
 abbrev pub and_then : List Command → Commands → Commands
-unfolding words
+unfolding definitions
 and_then [] ds = ds
 and_then (c ∷ cs) ds = MoreCommand c (and_then cs ds)
 

@@ -4,7 +4,7 @@ use Rattle.homeo_syntax.specs.LowView.{low_exprs}
 use Rattle.homeo_table.specs.declared.shared.Shared.{Shared}
 use Rattle.homeo_table.specs.declared.shared.Shared.TheOpen.{Shared-F}
 use Rattle.homeo_table.specs.declared.shared.Shared.TheFolds.{fold-Shared}
-use Rattle.homeo_table.specs.inner.Key.{words}
+use Rattle.homeo_table.specs.inner.Key.{definitions}
 
 abbrev pub shared_step : Shared-F l.Expr → l.Expr
 shared_step (Shared-F.Literal n) = l.Literal n
@@ -15,5 +15,5 @@ shared_step (Shared-F.Neg e) = l.Neg e.value
 shared_step (Shared-F.Same e) = e.value
 
 abbrev pub plain_shared : Shared → l.Expr
-unfolding words
+unfolding definitions
 plain_shared = fold-Shared l.Expr shared_step

@@ -3,10 +3,10 @@ use Rattle.std.specs.Prelude.{Option, pos}
 use Rattle.std.specs.Option.{unwrap_or}
 use Rattle.homeo_syntax.specs.Low.{Expr, Exprs, Literal, OfTemp, Read, Sum, Product, Neg, NoExpr, MoreExpr, Test, Cond, True, Not, Comparison, NoTest, MoreTest}
 use Rattle.homeo_meaning.specs.LowMeaning.{Location, TempAt, location_of}
-use Rattle.homeo_table.specs.inner.Key.{words}
+use Rattle.homeo_table.specs.inner.Key.{definitions}
 
 abbrev mutual
-  unfolding words
+  unfolding definitions
 
   pub substituted : (Location → Option Expr) → Expr → Expr
   substituted s (Literal n) = Literal n
@@ -21,7 +21,7 @@ abbrev mutual
   substituted_all s (MoreExpr a es) = MoreExpr (substituted s a) (substituted_all s es)
 
 abbrev mutual
-  unfolding words
+  unfolding definitions
 
   pub substituted_test : (Location → Option Expr) → Test → Test
   substituted_test s True = True

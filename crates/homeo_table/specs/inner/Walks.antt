@@ -36,6 +36,6 @@ pub record Goes (f f' : Row → Row) (b b' : Location → Option Expr) (cs cs' :
   pub can : CanFollow b' cs' s
   pub row : walked f' b' cs' s ≡ walked f b cs s
 
--- commands that stand from the last to the first, in their order
-abbrev pub in_order : List (Bor LCommand) → List Command
-in_order cs = reverse (map (λ c. plain_lcommand c.now) cs)
+-- the commands to come, the next one first: they stand from the last to the first
+abbrev pub to_come : List (Bor LCommand) → List Command
+to_come cs = reverse (map (λ c. plain_lcommand c.now) cs)

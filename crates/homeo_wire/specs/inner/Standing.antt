@@ -8,7 +8,7 @@ use Rattle.homeo_core.specs.Joined.{gathered}
 use Rattle.homeo_wire.specs.declared.events.Event.{Event}
 use Rattle.homeo_wire.specs.declared.events.Packet.{Packet}
 use Rattle.homeo_wire.specs.declared.node.Node.{Node}
-use Rattle.homeo_wire.specs.Key.{words}
+use Rattle.homeo_wire.specs.Key.{definitions}
 use Rattle.homeo_wire.specs.Nodes as n
 use Rattle.homeo_wire.specs.Read.{last_round, sites_in}
 use Rattle.homeo_wire.specs.WireView.{plain_journal, world_of}
@@ -28,7 +28,7 @@ pub record IsWire (work : Workload) (nodes : List Node) (packets : List Packet) 
 -- ---- what the history is read by
 -- each sum on the way to the last database is a number of 64 bits
 abbrev pub LastFits : List ℤ → ℕ → List n.Journal → Type 0
-unfolding words
+unfolding definitions
 LastFits base round js = (m : ℕ) → All (FitsSigned w64) (gathered base (sites_in round (take m js)))
 
 -- a node has left as many rounds as its number says, and its base is its site's

@@ -11,9 +11,9 @@ use Rattle.homeo_plan.specs.Planned.{sites_of, planned_call}
 use Rattle.homeo_plan.specs.Table.{table}
 use Rattle.homeo_plan.specs.Template.{shifted}
 use Rattle.homeo_joint.specs.Counts.{plain_table}
-use Rattle.homeo_print.specs.Key.{words as texts}
+use Rattle.homeo_print.specs.Key.{definitions as print_definitions}
 use Rattle.homeo_print.specs.Tables.{call_table, table_text}
-use Rattle.homeo.specs.inner.Key.{words}
+use Rattle.homeo.specs.inner.Key.{definitions}
 use Rattle.homeo.specs.inner.Tabulated.{HasFewRows, calls_text}
 use Rattle.homeo.proofs.Tabulating.{as_many, command_is, few_here, rows_counted, texts_more, tables_more}
 use Rattle.homeo.proofs.tables.push_calls.Goals as goal
@@ -25,7 +25,7 @@ abbrev IsCounted : Vec Row Global → Type 0
 IsCounted t = vec_len t < 2 ^ 32
 
 pub loop-number-init : goal.loop-number-init
-unfolding words
+unfolding definitions
 loop-number-init c =
     let none = c.new-tables.ensures.items in
     record {
@@ -41,7 +41,7 @@ bounds-commands-number c =
     omega (arith, many, c.loop-number-test.true)
 
 pub loop-number-preserved : goal.loop-number-preserved
-unfolding texts
+unfolding print_definitions
 loop-number-preserved c =
     let w = plain_workload c.args.c.now in
     let calls = c.calls-calls.result.now in

@@ -3,9 +3,9 @@ use Rattle.std.proofs.lemmas.List.{length-map}
 use Rattle.homeo_syntax.specs.SourceView.{plain_workload}
 use Rattle.homeo_meaning.specs.Ground.{grounds}
 use Rattle.homeo_joint.specs.Counts.{plain_table}
-use Rattle.homeo_print.specs.Key.{words as texts}
+use Rattle.homeo_print.specs.Key.{definitions as print_definitions}
 use Rattle.homeo_print.specs.Tables.{call_table, joint_text, tables_text}
-use Rattle.homeo.specs.inner.Key.{words}
+use Rattle.homeo.specs.inner.Key.{definitions}
 use Rattle.homeo.specs.inner.Tabulated.{HasFewRows, calls_text}
 use Rattle.homeo.proofs.Tabulating.{tables_are_few, grounds_few}
 use Rattle.homeo.proofs.tables.tables.Goals as goal
@@ -29,7 +29,7 @@ push_joint-requires-clause-few c =
     )
 
 pub returns : goal.returns
-unfolding words texts
+unfolding definitions print_definitions
 returns c =
     let w = plain_workload c.in_ok-compiled.compiled in
     c.in_ok-push_joint.ensures

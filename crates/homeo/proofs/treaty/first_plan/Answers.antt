@@ -4,7 +4,7 @@ use Rattle.homeo_syntax.specs.SourceView.{plain_workload}
 use Rattle.homeo_meaning.specs.Initial.{initial}
 use Rattle.homeo_plan.specs.PlanView.{plain_config}
 use Rattle.homeo_plan.specs.Planned.{sites_of, template_at, policy}
-use Rattle.homeo_build.specs.Key.{words}
+use Rattle.homeo_build.specs.Key.{definitions}
 use Rattle.homeo_build.specs.Plan.{IsPlanOf}
 use Rattle.homeo.proofs.Bounded.{as_many_bounds}
 use Rattle.homeo.proofs.treaty.first_plan.Goals as goal
@@ -16,7 +16,7 @@ returns-clause-template c =
     IfOk-weaker c.treaties.result _ _ (λ p is. is ∙ ap (template_at w) base) c.treaties.ensures.template
 
 pub returns-clause-config : goal.returns-clause-config
-unfolding words
+unfolding definitions
 returns-clause-config c =
     let w = plain_workload c.args.c.now in
     let base : c.in_ok-base.base.items ≡ initial w = c.in_ok-base.ensures.value ∙ ap (λ x. initial (plain_workload x)) c.workload.ensures in

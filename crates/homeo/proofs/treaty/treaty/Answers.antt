@@ -4,12 +4,12 @@ use Rattle.homeo_syntax.specs.SourceView.{plain_workload}
 use Rattle.homeo_meaning.specs.Initial.{initial}
 use Rattle.homeo_plan.specs.PlanView.{plain_template, plain_config}
 use Rattle.homeo_plan.specs.Planned.{template_at, policy}
-use Rattle.homeo_print.specs.Key.{words}
+use Rattle.homeo_print.specs.Key.{definitions}
 use Rattle.homeo_print.specs.Treaties.{template_text, treaty_text}
 use Rattle.homeo.proofs.treaty.treaty.Goals as goal
 
 pub returns : goal.returns
-unfolding words
+unfolding definitions
 returns c =
     let w = plain_workload c.args.w in
     let plan = c.in_ok-plan.plan in

@@ -5,7 +5,7 @@ use Rattle.homeo_syntax.specs.SourceView.{plain_workload}
 use Rattle.homeo_meaning.specs.CallForm.{ground_form}
 use Rattle.homeo_meaning.specs.Ground.{plain_ground}
 use Rattle.homeo_meaning.specs.Whole.{IsWhole}
-use Rattle.homeo_plan.specs.Key.{words}
+use Rattle.homeo_plan.specs.Key.{definitions}
 use Rattle.homeo_plan.specs.Planned.{sites_of}
 use Rattle.homeo_plan.specs.Split.{shift}
 use Rattle.homeo_plan.specs.Template.{shifted}
@@ -45,7 +45,7 @@ transform-requires-clause-site c =
     subst (λ k. c.index-calls-i.result.site < k) (sym c.site_count-sites.ensures.sites) can.site
 
 pub loop-i-preserved : goal.loop-i-preserved
-unfolding words
+unfolding definitions
 loop-i-preserved c =
     let w = plain_workload c.args.w.now in
     let forms = c.args.forms.now in
@@ -59,7 +59,7 @@ loop-i-preserved c =
     (c.in_ok-transform.ensures.form ∙ ap₂ (λ n f. shift n call.site f) c.site_count-sites.ensures.sites form)
 
 pub returns : goal.returns
-unfolding words
+unfolding definitions
 returns c =
     let w = plain_workload c.args.w.now in
     of_all w (shifted (sites_of w)) _ c.args.calls.now c.loop-i.i c.loop-i-test.false c.requires.calls c.loop-i.invariant

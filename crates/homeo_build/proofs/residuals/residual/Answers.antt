@@ -9,12 +9,12 @@ use Rattle.homeo_meaning.specs.Acceptance.{IsAccepted}
 use Rattle.homeo_meaning.specs.Ground.{plain_ground}
 use Rattle.homeo_meaning.specs.LowMeaning.{whole}
 use Rattle.homeo_meaning.specs.Serial.{values_of}
-use Rattle.homeo_plan.specs.Key.{words as plans}
+use Rattle.homeo_plan.specs.Key.{definitions as plan_definitions}
 use Rattle.homeo_plan.specs.Planned.{sites_of}
 use Rattle.homeo_plan.specs.Table.{Row, table, row_at}
 use Rattle.homeo_plan.specs.Template.{shifted}
 use Rattle.homeo_split.specs.CanExec.{run_limit, can_exec}
-use Rattle.homeo_build.specs.Key.{words}
+use Rattle.homeo_build.specs.Key.{definitions}
 use Rattle.homeo_build.specs.Plan.{residual_at}
 use Rattle.homeo_build.proofs.FormsMade.{placed_map}
 use Rattle.homeo_build.proofs.GroundCalls.{of_call, of_calls, commands_are, can_here, ground_below}
@@ -59,7 +59,7 @@ walk-requires c =
     ∙ ap (λ (d : Command). can_exec run_limit d (whole (values_of base))) same ∙ plan.runs
 
 pub returns : goal.returns
-unfolding plans words
+unfolding plan_definitions definitions
 returns c =
     let w = plain_workload c.args.c.now in
     let k = sites_of w in

@@ -4,13 +4,13 @@ use Rattle.homeo_syntax.specs.SourceView.{plain_workload}
 use Rattle.homeo_plan.specs.Config.{split_by, natural_list}
 use Rattle.homeo_plan.specs.PlanView.{plain_clause, plain_template}
 use Rattle.homeo_plan.specs.Planned.{sites_of, shares_of}
-use Rattle.homeo_build.specs.Key.{words}
+use Rattle.homeo_build.specs.Key.{definitions}
 use Rattle.homeo_build.specs.Plan.{config_or}
 use Rattle.homeo_build.proofs.SiteShares.{as_many, can_all, by_shares}
 use Rattle.homeo_build.proofs.treaties.config_for.Goals as goal
 
 pub returns-in-Some : goal.returns-in-Some
-unfolding words
+unfolding definitions
 returns-in-Some c = ap (config_or (split_by (shares_of (plain_workload c.args.c.now)) (plain_template c.args.t.now).clauses)) (sym c.in-Some.is)
 
 pub split_weighted-requires : goal.split_weighted-requires
@@ -24,7 +24,7 @@ split_weighted-requires c =
     }
 
 pub returns-in_ok-shares-in-None : goal.returns-in_ok-shares-in-None
-unfolding words
+unfolding definitions
 returns-in_ok-shares-in-None c =
     let cs = (plain_template c.args.t.now).clauses in
     let same = ap (map natural_list) c.as_slice.ensures.value ∙ c.in_ok-shares-in-None.ensures.shares in

@@ -2,10 +2,10 @@ use Rattle.std.proofs.Common.{rules, ◌≡◌, map, MatchOption, refl, subst}
 use Rattle.serde_json.specs.View.{view}
 use Rattle.homeo_meaning.proofs.Numbers.{kept_is}
 use Rattle.homeo_plan.specs.Each.{Each}
-use Rattle.homeo_plan.specs.Linear.{deltas_of}
+use Rattle.homeo_plan.specs.Linear.{AreInOrder, deltas_of}
 use Rattle.homeo_plan.specs.PlanView.{plain_clause}
 use Rattle.homeo_cert.specs.Json.{list_data}
-use Rattle.homeo_cert.specs.Shape.{TermInShape, Rise}
+use Rattle.homeo_cert.specs.Shape.{TermInShape}
 use Rattle.homeo_cert.specs.Text.{term_data}
 use Rattle.homeo_cert.proofs.ClausesRead.{of_parts, clause_read}
 use Rattle.homeo_cert.proofs.ReadLists.{read_some}
@@ -19,7 +19,7 @@ returns-in-Some-2 c =
     c.in_ok-terms.field-0 c.in-Some-2.terms c.in-Some-2.is c.in_ok-terms.ensures in
     let slack = c.in-Some-whole.slack in
     let ts = c.in-Some-2.terms.items in
-    let rising = subst (λ z. MatchOption c.rising_clause.result (Rise (deltas_of ts) → ⊥) (λ x. Rise (deltas_of ts) × (plain_clause x ≡ of_parts z ts)))
-    (kept_is slack slack (search rules) refl) c.rising_clause.ensures in
+    let rising = subst (λ z. MatchOption c.clause_in_order.result (AreInOrder (deltas_of ts) → ⊥) (λ x. AreInOrder (deltas_of ts) × (plain_clause x ≡ of_parts z ts)))
+    (kept_is slack slack (search rules) refl) c.clause_in_order.ensures in
     clause_read n k (view c.args.value.now) (view c.in-Some.slack.now) (view c.in-Some.list.now) c.in-Some.ensures
-    slack c.in-Some-whole.ensures.0 c.in-Some-whole.ensures.1 ts got.0 got.1 c.rising_clause.result rising
+    slack c.in-Some-whole.ensures.0 c.in-Some-whole.ensures.1 ts got.0 got.1 c.clause_in_order.result rising

@@ -3,10 +3,10 @@ use Rattle.std.proofs.Common.{◌≡◌, ◌+◌, map, drop, not, sym, ap, ◌�
 use Rattle.homeo_syntax.specs.Low.{Not}
 use Rattle.homeo_syntax.specs.LowView.{low_tests, plain_ltest, plain_lcond}
 use Rattle.homeo_syntax.proofs.LowViews.{low_True, low_Not}
-use Rattle.homeo_meaning.specs.Key.{words as meaning_words}
+use Rattle.homeo_meaning.specs.Key.{definitions as meaning_definitions}
 use Rattle.homeo_meaning.specs.LowMeaning.{passes}
 use Rattle.homeo_linear.specs.Standing.{forms_of}
-use Rattle.homeo_cert.specs.Key.{words}
+use Rattle.homeo_cert.specs.Key.{definitions}
 use Rattle.homeo_cert.specs.Met.{at_zero, met_in_test}
 use Rattle.homeo_cert.specs.Followed.{too_large}
 use Rattle.homeo_cert.specs.inner.Compares.{Give, kept_in_test}
@@ -16,7 +16,7 @@ use Rattle.homeo_cert.proofs.TestSteps.{true_gives, not_gives, tests_start, next
 use Rattle.homeo_cert.proofs.conditions.+conditions.Goals as goal
 
 pub test-returns-in_err-tested-in-Not-clause-faults : goal.test-returns-in_err-tested-in-Not-clause-faults
-unfolding words
+unfolding definitions
 test-returns-in_err-tested-in-Not-clause-faults t c =
     let f = forms_of c.args.standing.now in
     let is : plain_ltest c.args.t.now ≡ Not (plain_lcond c.in-Not.c) = ap plain_ltest c.in-Not.is ∙ low_Not c.in-Not.c in
@@ -24,12 +24,12 @@ test-returns-in_err-tested-in-Not-clause-faults t c =
     (stops_as _ _ _ (ap (λ x. too_large (met_in_test f x)) (sym is)) c.in_err-tested-in-Not.ensures.faults)
 
 pub test-returns-in-True-clause-faults : goal.test-returns-in-True-clause-faults
-unfolding words
+unfolding definitions
 test-returns-in-True-clause-faults t c =
     ap (λ x. too_large (met_in_test (forms_of c.args.standing.now) x)) (ap plain_ltest c.in-True.is ∙ low_True)
 
 pub test-returns-in-True-clause-holds : goal.test-returns-in-True-clause-holds
-unfolding meaning_words
+unfolding meaning_definitions
 test-returns-in-True-clause-holds t c =
     sym (ap (λ x. passes x (at_zero (forms_of c.args.standing.now))) (ap plain_ltest c.in-True.is ∙ low_True))
 
@@ -39,13 +39,13 @@ test-returns-in-True-clause-kept t c =
     subst (λ x. Give c.new.result.items (kept_in_test f x)) (sym (ap plain_ltest c.in-True.is ∙ low_True)) (true_gives f c.new.result.items c.new.ensures.items)
 
 pub test-returns-in_ok-tested-in-Not-clause-faults : goal.test-returns-in_ok-tested-in-Not-clause-faults
-unfolding words
+unfolding definitions
 test-returns-in_ok-tested-in-Not-clause-faults t c =
     let is : plain_ltest c.args.t.now ≡ Not (plain_lcond c.in-Not.c) = ap plain_ltest c.in-Not.is ∙ low_Not c.in-Not.c in
     ap (λ x. too_large (met_in_test (forms_of c.args.standing.now) x)) is ∙ c.in_ok-tested-in-Not.ensures.faults
 
 pub test-returns-in_ok-tested-in-Not-clause-holds : goal.test-returns-in_ok-tested-in-Not-clause-holds
-unfolding meaning_words
+unfolding meaning_definitions
 test-returns-in_ok-tested-in-Not-clause-holds t c =
     let is : plain_ltest c.args.t.now ≡ Not (plain_lcond c.in-Not.c) = ap plain_ltest c.in-Not.is ∙ low_Not c.in-Not.c in
     ap not c.in_ok-tested-in-Not.ensures.holds ∙ sym (ap (λ x. passes x (at_zero (forms_of c.args.standing.now))) is)

@@ -2,7 +2,7 @@
 use Rattle.std.proofs.Common.{◌++◌, [], ◌∷◌, sym, ap, ◌∙◌, refl}
 use Rattle.homeo_syntax.specs.LowView.{plain_lexpr}
 use Rattle.homeo_linear.specs.Standing.{forms_of}
-use Rattle.homeo_cert.specs.Key.{words}
+use Rattle.homeo_cert.specs.Key.{definitions}
 use Rattle.homeo_cert.specs.declared.conditions.Compared.{Compared}
 use Rattle.homeo_cert.specs.Met.{met}
 use Rattle.homeo_cert.proofs.LargeNumbers.{large_behind, large_in_front, none_large}
@@ -11,14 +11,14 @@ use Rattle.homeo_cert.proofs.TestSteps.{comparison_passes, comparison_gives}
 use Rattle.homeo_cert.proofs.conditions.comparison.Goals as goal
 
 pub returns-in_err-left-clause-faults : goal.returns-in_err-left-clause-faults
-unfolding words
+unfolding definitions
 returns-in_err-left-clause-faults c =
     let f = forms_of c.args.standing.now in
     stop_with _ c.from_residual.result _ c.from_residual.ensures.1
     (large_in_front (met f (plain_lexpr c.args.left.now)) (met f (plain_lexpr c.args.right.now)) _ c.in_err-left.ensures.faults)
 
 pub returns-in_err-right-clause-faults : goal.returns-in_err-right-clause-faults
-unfolding words
+unfolding definitions
 returns-in_err-right-clause-faults c =
     let f = forms_of c.args.standing.now in
     stop_with _ c.from_residual-in_err-right.result _ c.from_residual-in_err-right.ensures.1
@@ -26,7 +26,7 @@ returns-in_err-right-clause-faults c =
     c.in_err-right.ensures.faults)
 
 pub returns-clause-faults : goal.returns-clause-faults
-unfolding words
+unfolding definitions
 returns-clause-faults c =
     let f = forms_of c.args.standing.now in
     none_large (met f (plain_lexpr c.args.left.now)) (met f (plain_lexpr c.args.right.now)) c.in_ok-left.ensures.faults c.in_ok-right.ensures.faults

@@ -2,7 +2,7 @@
 use Rattle.std.proofs.Common.{◌≡◌, ap, ◌∙◌}
 use Rattle.homeo_meaning.specs.Serial.{values_of}
 use Rattle.homeo_plan.specs.Linear.{base_forms}
-use Rattle.homeo_cert.specs.Key.{words}
+use Rattle.homeo_cert.specs.Key.{definitions}
 use Rattle.homeo_cert.specs.Certificate.{base_of}
 use Rattle.homeo_cert.specs.Followed.{rules_of}
 use Rattle.homeo_cert.specs.inner.CertificateView.{plain_call, plain_certificate}
@@ -12,7 +12,7 @@ use Rattle.homeo_cert.proofs.Stopping.{stop_with}
 use Rattle.homeo_cert.proofs.following.follow_call.Goals as goal
 
 pub returns-in_err-follow : goal.returns-in_err-follow
-unfolding words
+unfolding definitions
 returns-in_err-follow c =
     let d = plain_certificate c.args.c.now in
     let g = plain_call c.args.call.now in
@@ -22,7 +22,7 @@ returns-in_err-follow c =
     (call_stops_in d g c.new-following.result rules forms _ c.in_err-follow.ensures.faults)
 
 pub returns : goal.returns
-unfolding words
+unfolding definitions
 returns c =
     let d = plain_certificate c.args.c.now in
     let g = plain_call c.args.call.now in

@@ -5,7 +5,7 @@ use Rattle.homeo_syntax.specs.declared.low.SplitName.TheVariants as split
 use Rattle.homeo_syntax.specs.Low.{Write, Print, Seq}
 use Rattle.homeo_syntax.specs.LowView.{plain_lcommand, plain_lexpr, low_commands}
 use Rattle.homeo_syntax.proofs.LowViews.{low_command_views}
-use Rattle.homeo_cert.specs.Key.{words}
+use Rattle.homeo_cert.specs.Key.{definitions}
 use Rattle.homeo_cert.specs.inner.Parse.{seen, many, parse_command, Gives}
 use Rattle.homeo_cert.proofs.ParseSteps.{no_command_without_nodes, no_command_without_levels, first_of, other_command, with_read, with_none, with_one_more, with_failed, with_all, given_some, given_none}
 use Rattle.homeo_cert.proofs.parsing_commands.+commands.Goals as goal
@@ -17,7 +17,7 @@ pub command-returns-in_default : goal.command-returns-in_default
 command-returns-in_default t c = no_command_without_nodes c.args.levels c.args.nodes.now (grind arith)
 
 pub command-returns-in-Skip : goal.command-returns-in-Skip
-unfolding words
+unfolding definitions
 command-returns-in-Skip t c =
     first_of parse_command c.args.levels _ _ c.args.nodes.now c.next.new.self (omega arith) c.in-Some.ensures c.in-Skip.is
     ∙ ap (λ e. Some (e, c.next.new.self)) (sym (search (rules, low_command_views)))
@@ -58,13 +58,13 @@ commands-returns t c =
     ∙ with_all (parse_command c.args.levels) (map plain_lcommand c.loop.commands.items) c.loop.nodes
 
 pub command-returns-in-Assign : goal.command-returns-in-Assign
-unfolding words
+unfolding definitions
 command-returns-in-Assign t c =
     subst (λ p. IfOk c.assignment.result (λ o. Gives p (option_map plain_lcommand o) c.assignment.new.nodes))
     (sym (first_of parse_command c.args.levels _ _ c.args.nodes.now c.next.new.self (omega arith) c.in-Some.ensures c.in-Assign.is)) c.assignment.ensures
 
 pub command-returns-in-Some-2 : goal.command-returns-in-Some-2
-unfolding words
+unfolding definitions
 command-returns-in-Some-2 t c =
     let p = c.expression.new.nodes in
     let got = given_some _ plain_lexpr c.in_ok-value-in-Write.field-0 c.in-Some-2.value p c.in-Some-2.is c.in_ok-value-in-Write.ensures in
@@ -72,14 +72,14 @@ command-returns-in-Some-2 t c =
     ∙ ap (seen (Write (split.Delta c.in-Write.object c.in-Write.site))) got ∙ ap (λ e. Some (e, p)) (sym (search (rules, low_command_views)))
 
 pub command-returns-in-None : goal.command-returns-in-None
-unfolding words
+unfolding definitions
 command-returns-in-None t c =
     let got = given_none _ plain_lexpr c.in_ok-value-in-Write.field-0 c.expression.new.nodes c.in-None.is c.in_ok-value-in-Write.ensures in
     first_of parse_command c.args.levels _ _ c.args.nodes.now c.next.new.self (omega arith) c.in-Some.ensures c.in-Write.is
     ∙ ap (seen (Write (split.Delta c.in-Write.object c.in-Write.site))) got
 
 pub command-returns-in-Some-3 : goal.command-returns-in-Some-3
-unfolding words
+unfolding definitions
 command-returns-in-Some-3 t c =
     let p = c.expression-in-Print.new.nodes in
     let got = given_some _ plain_lexpr c.in_ok-value-in-Print.field-0 c.in-Some-3.value p c.in-Some-3.is c.in_ok-value-in-Print.ensures in
@@ -87,14 +87,14 @@ command-returns-in-Some-3 t c =
     ∙ ap (seen Print) got ∙ ap (λ e. Some (e, p)) (sym (search (rules, low_command_views)))
 
 pub command-returns-in-None-2 : goal.command-returns-in-None-2
-unfolding words
+unfolding definitions
 command-returns-in-None-2 t c =
     let got = given_none _ plain_lexpr c.in_ok-value-in-Print.field-0 c.expression-in-Print.new.nodes c.in-None-2.is c.in_ok-value-in-Print.ensures in
     first_of parse_command c.args.levels _ _ c.args.nodes.now c.next.new.self (omega arith) c.in-Some.ensures c.in-Print.is
     ∙ ap (seen Print) got
 
 pub command-returns-in-Some-4 : goal.command-returns-in-Some-4
-unfolding words
+unfolding definitions
 command-returns-in-Some-4 t c =
     let p = c.commands.new.nodes in
     let got = given_some _ _ c.in_ok-commands-in-Seq.field-0 c.in-Some-4.commands p c.in-Some-4.is c.in_ok-commands-in-Seq.ensures in
@@ -102,14 +102,14 @@ command-returns-in-Some-4 t c =
     ∙ ap (seen (λ cs. Seq (low_commands cs))) got ∙ ap (λ e. Some (e, p)) (sym (search (rules, low_command_views)))
 
 pub command-returns-in-None-3 : goal.command-returns-in-None-3
-unfolding words
+unfolding definitions
 command-returns-in-None-3 t c =
     let got = given_none _ _ c.in_ok-commands-in-Seq.field-0 c.commands.new.nodes c.in-None-3.is c.in_ok-commands-in-Seq.ensures in
     first_of parse_command c.args.levels _ _ c.args.nodes.now c.next.new.self (omega arith) c.in-Some.ensures c.in-Seq.is
     ∙ ap (seen (λ cs. Seq (low_commands cs))) got
 
 pub command-returns-in-If : goal.command-returns-in-If
-unfolding words
+unfolding definitions
 command-returns-in-If t c =
     subst (λ p. IfOk c.choice.result (λ o. Gives p (option_map plain_lcommand o) c.choice.new.nodes))
     (sym (first_of parse_command c.args.levels _ _ c.args.nodes.now c.next.new.self (omega arith) c.in-Some.ensures c.in-If.is)) c.choice.ensures

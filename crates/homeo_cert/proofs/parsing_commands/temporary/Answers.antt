@@ -1,5 +1,5 @@
 use Rattle.std.proofs.Common.{arith}
-use Rattle.homeo_cert.specs.Key.{words}
+use Rattle.homeo_cert.specs.Key.{definitions}
 use Rattle.homeo_cert.specs.inner.Parse.{parse_temp}
 use Rattle.homeo_cert.proofs.ParseSteps.{no_temp_without_nodes, no_temp_without_levels, first_of, other_temp}
 use Rattle.homeo_cert.proofs.parsing_commands.temporary.Goals as goal
@@ -11,7 +11,7 @@ pub returns-in_default : goal.returns-in_default
 returns-in_default c = no_temp_without_nodes c.args.levels c.args.nodes.now (grind arith)
 
 pub returns-in-Temp : goal.returns-in-Temp
-unfolding words
+unfolding definitions
 returns-in-Temp c = first_of parse_temp c.args.levels _ _ c.args.nodes.now c.next.new.self (omega arith) c.in-Some.ensures c.in-Temp.is
 
 pub returns-in_default-node : goal.returns-in_default-node

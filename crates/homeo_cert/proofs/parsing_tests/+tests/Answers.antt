@@ -4,7 +4,7 @@ use Rattle.std.proofs.lemmas.List.{map-append}
 use Rattle.homeo_syntax.specs.Low.{Not}
 use Rattle.homeo_syntax.specs.LowView.{plain_ltest, low_tests}
 use Rattle.homeo_syntax.proofs.LowViews.{low_phrase_views}
-use Rattle.homeo_cert.specs.Key.{words}
+use Rattle.homeo_cert.specs.Key.{definitions}
 use Rattle.homeo_cert.specs.inner.Parse.{seen, many, parse_test, Gives}
 use Rattle.homeo_cert.proofs.ParseSteps.{no_test_without_nodes, no_test_without_levels, first_of, other_test, with_read, with_none, with_one_more, with_failed, with_all, given_some, given_none}
 use Rattle.homeo_cert.proofs.parsing_tests.+tests.Goals as goal
@@ -16,13 +16,13 @@ pub test-returns-in_default : goal.test-returns-in_default
 test-returns-in_default t c = no_test_without_nodes c.args.levels c.args.nodes.now (grind arith)
 
 pub test-returns-in-True : goal.test-returns-in-True
-unfolding words
+unfolding definitions
 test-returns-in-True t c =
     first_of parse_test c.args.levels _ _ c.args.nodes.now c.next.new.self (omega arith) c.in-Some.ensures c.in-True.is
     ∙ ap (λ e. Some (e, c.next.new.self)) (sym (search (rules, low_phrase_views)))
 
 pub test-returns-in-Some-2 : goal.test-returns-in-Some-2
-unfolding words
+unfolding definitions
 test-returns-in-Some-2 t c =
     let p = c.tests.new.nodes in
     let got = given_some _ _ c.in_ok-tests-in-Not.field-0 c.in-Some-2.tests p c.in-Some-2.is c.in_ok-tests-in-Not.ensures in
@@ -30,7 +30,7 @@ test-returns-in-Some-2 t c =
     ∙ ap (seen (λ ts. Not (low_tests ts))) got ∙ ap (λ e. Some (e, p)) (sym (search (rules, low_phrase_views)))
 
 pub test-returns-in-None : goal.test-returns-in-None
-unfolding words
+unfolding definitions
 test-returns-in-None t c =
     let got = given_none _ _ c.in_ok-tests-in-Not.field-0 c.tests.new.nodes c.in-None.is c.in_ok-tests-in-Not.ensures in
     first_of parse_test c.args.levels _ _ c.args.nodes.now c.next.new.self (omega arith) c.in-Some.ensures c.in-Not.is
@@ -72,7 +72,7 @@ tests-returns t c =
     ∙ with_all (parse_test c.args.levels) (map plain_ltest c.loop.tests.items) c.loop.nodes
 
 pub test-returns-in-Comparison : goal.test-returns-in-Comparison
-unfolding words
+unfolding definitions
 test-returns-in-Comparison t c =
     subst (λ p. IfOk c.comparison.result (λ o. Gives p (option_map plain_ltest o) c.comparison.new.nodes))
     (sym (first_of parse_test c.args.levels _ _ c.args.nodes.now c.next.new.self (omega arith) c.in-Some.ensures c.in-Comparison.is)) c.comparison.ensures

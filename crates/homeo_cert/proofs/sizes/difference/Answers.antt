@@ -1,13 +1,13 @@
 -- left - right, and then more: the numbers of both are looked at, one after the other.
 use Rattle.std.proofs.Common.{rules, arith, ◌≡◌, [], sym, ap, ap₂, ◌∙◌, refl, subst}
-use Rattle.homeo_meaning.specs.Key.{words as meaning_words}
+use Rattle.homeo_meaning.specs.Key.{definitions as meaning_definitions}
 use Rattle.homeo_meaning.specs.Small.{IsSmall}
 use Rattle.homeo_meaning.proofs.Numbers.{kept_is}
-use Rattle.homeo_plan.specs.Key.{words as plan_words}
+use Rattle.homeo_plan.specs.Key.{definitions as plan_definitions}
 use Rattle.homeo_plan.specs.FormSizes.{Numbers}
 use Rattle.homeo_plan.specs.Limit.{form_limit}
 use Rattle.homeo_plan.specs.Linear.{Linear, constant_form, add_forms}
-use Rattle.homeo_cert.specs.Key.{words}
+use Rattle.homeo_cert.specs.Key.{definitions}
 use Rattle.homeo_cert.specs.Met.{numbers}
 use Rattle.homeo_cert.specs.Kept.{atom, gap, form_of}
 use Rattle.homeo_cert.specs.Followed.{too_large}
@@ -17,7 +17,7 @@ use Rattle.homeo_cert.proofs.Stopping.{stop_with, stops_as}
 use Rattle.homeo_cert.proofs.sizes.difference.Goals as goal
 
 pub times-requires-clause-factor : goal.times-requires-clause-factor
-unfolding meaning_words
+unfolding meaning_definitions
 times-requires-clause-factor c = omega arith
 
 pub plus-requires-clause-small : goal.plus-requires-clause-small
@@ -25,7 +25,7 @@ plus-requires-clause-small c =
     subst (Numbers (IsSmall form_limit)) (sym c.in_ok-negated.ensures) (negated c.args.right.now c.requires.right)
 
 pub returns-in_err-gap-clause-faults : goal.returns-in_err-gap-clause-faults
-unfolding words
+unfolding definitions
 returns-in_err-gap-clause-faults c =
     let a = atom c.args.left.now c.args.right.now c.args.more in
     let is : c.in_ok-apart.apart ≡ gap a = c.in_ok-apart.ensures ∙ ap (add_forms c.args.left.now) c.in_ok-negated.ensures in
@@ -33,13 +33,13 @@ returns-in_err-gap-clause-faults c =
     (large_in_front (numbers (gap a)) (numbers (form_of a)) _ (stops_as _ _ _ (ap (λ (f : Linear). too_large (numbers f)) is) c.in_err-gap.ensures.faults))
 
 pub plus-requires-2-clause-other_small : goal.plus-requires-2-clause-other_small
-unfolding plan_words
+unfolding plan_definitions
 plus-requires-2-clause-other_small c =
     let is : c.value.result ≡ constant_form c.args.more = c.value.ensures ∙ ap constant_form (kept_is c.args.more _ (search rules) refl) in
     subst (Numbers (IsSmall form_limit)) (sym is) (record { constant = c.requires.more; factors = tt })
 
 pub returns-in_err-form-clause-faults : goal.returns-in_err-form-clause-faults
-unfolding words plan_words
+unfolding definitions plan_definitions
 returns-in_err-form-clause-faults c =
     let a = atom c.args.left.now c.args.right.now c.args.more in
     let is : c.in_ok-apart.apart ≡ gap a = c.in_ok-apart.ensures ∙ ap (add_forms c.args.left.now) c.in_ok-negated.ensures in
@@ -51,7 +51,7 @@ returns-in_err-form-clause-faults c =
     (stops_as _ _ _ (ap (λ (f : Linear). too_large (numbers f)) whole) c.in_err-form.ensures.faults))
 
 pub returns-clause-faults : goal.returns-clause-faults
-unfolding words plan_words
+unfolding definitions plan_definitions
 returns-clause-faults c =
     let a = atom c.args.left.now c.args.right.now c.args.more in
     let is : c.in_ok-apart.apart ≡ gap a = c.in_ok-apart.ensures ∙ ap (add_forms c.args.left.now) c.in_ok-negated.ensures in
@@ -61,7 +61,7 @@ returns-clause-faults c =
     (ap (λ (f : Linear). too_large (numbers f)) (sym whole) ∙ c.in_ok-form.ensures.faults)
 
 pub returns-clause-form : goal.returns-clause-form
-unfolding words plan_words
+unfolding definitions plan_definitions
 returns-clause-form c =
     let a = atom c.args.left.now c.args.right.now c.args.more in
     let is : c.in_ok-apart.apart ≡ gap a = c.in_ok-apart.ensures ∙ ap (add_forms c.args.left.now) c.in_ok-negated.ensures in

@@ -3,7 +3,7 @@ use Rattle.std.proofs.Common.{map, sym, ap, ap₂, ◌∙◌}
 use Rattle.std.proofs.lemmas.Result.{IfOk-weaker}
 use Rattle.std.proofs.lemmas.Option.{MatchOption-at_some, MatchOption-at_none}
 use Rattle.homeo_plan.specs.PlanView.{plain_clause}
-use Rattle.homeo_cert.specs.Key.{words}
+use Rattle.homeo_cert.specs.Key.{definitions}
 use Rattle.homeo_cert.specs.Verdict.{misfits, faults_from, first_of_all}
 use Rattle.homeo_cert.specs.inner.CertificateView.{plain_certificate}
 use Rattle.homeo_cert.proofs.ReadLists.{row}
@@ -11,7 +11,7 @@ use Rattle.homeo_cert.proofs.Verdicts.{first_of_some, first_of_none}
 use Rattle.homeo_cert.proofs.verifying.judge.Goals as goal
 
 pub returns-in-Some : goal.returns-in-Some
-unfolding words
+unfolding definitions
 returns-in-Some c =
     let d = plain_certificate c.args.c.now in
     let same = ap₂ (λ x y. misfits 0 (map plain_clause x) (map row y)) c.as_slice.ensures.value c.as_slice-2.ensures.value in
@@ -19,7 +19,7 @@ returns-in-Some c =
     (ap first_of_all (sym same) ∙ MatchOption-at_some _ _ c.in-Some.clause c.in-Some.is c.in_ok-clause.ensures))
 
 pub returns-in-None : goal.returns-in-None
-unfolding words
+unfolding definitions
 returns-in-None c =
     let d = plain_certificate c.args.c.now in
     let same = ap₂ (λ x y. misfits 0 (map plain_clause x) (map row y)) c.as_slice.ensures.value c.as_slice-2.ensures.value in

@@ -3,7 +3,7 @@ use Rattle.std.proofs.Common.{sym, subst}
 use Rattle.std.proofs.lemmas.Result.{IfOk-weaker}
 use Rattle.std.proofs.lemmas.Option.{MatchOption-at_some, MatchOption-at_none}
 use Rattle.serde_json.specs.View.{view}
-use Rattle.homeo_cert.specs.Key.{words}
+use Rattle.homeo_cert.specs.Key.{definitions}
 use Rattle.homeo_cert.specs.Shape.{InShape}
 use Rattle.homeo_cert.specs.Text.{certificate_data, IsJsonOf}
 use Rattle.homeo_cert.specs.inner.CertificateView.{plain_certificate}
@@ -12,7 +12,7 @@ use Rattle.homeo_cert.proofs.Verdicts.{verdict_on}
 use Rattle.homeo_cert.proofs.verifying.verify.Goals as goal
 
 pub returns-in_default : goal.returns-in_default
-unfolding words
+unfolding definitions
 returns-in_default c = MatchOption-at_none _ _ c.in_default.is c.in_ok-value.ensures
 
 pub returns-in-Some-read : goal.returns-in-Some-read
@@ -24,7 +24,7 @@ returns-in-Some-read c =
     (λ v h. verdict_on bytes (plain_certificate c.in-Some-read.certificate) v got.0 (subst (IsJsonOf bytes) (sym got.1) json) h) c.judge.ensures
 
 pub returns-in-None : goal.returns-in-None
-unfolding words
+unfolding definitions
 returns-in-None c = record {
   value = view c.in-Some.value;
   json = MatchOption-at_some _ (λ v. IsJsonOf c.args.bytes.now (view v)) c.in-Some.value c.in-Some.is c.in_ok-value.ensures;

@@ -5,7 +5,7 @@ use Rattle.serde_json.proofs.Views.{view-Array}
 use Rattle.homeo_syntax.specs.Low.{Command}
 use Rattle.homeo_syntax.specs.LowView.{plain_lcommand}
 use Rattle.homeo_syntax.specs.SourceView.{plain_workload}
-use Rattle.homeo_plan.specs.Key.{words as plan_words}
+use Rattle.homeo_plan.specs.Key.{definitions as plan_definitions}
 use Rattle.homeo_plan.specs.Planned.{sites_of}
 use Rattle.homeo_plan.specs.Template.{shifted}
 use Rattle.homeo_build.proofs.Grown.{grown, same_length, same_place}
@@ -24,7 +24,7 @@ bounds-commands-i c =
     omega (arith, count, c.loop-i-test.true)
 
 pub loop-i-preserved : goal.loop-i-preserved
-unfolding plan_words
+unfolding plan_definitions
 loop-i-preserved c =
     let w = plain_workload c.args.c.now in
     let k = sites_of w in

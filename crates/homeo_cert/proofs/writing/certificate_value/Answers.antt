@@ -11,7 +11,7 @@ use Rattle.homeo_cert.proofs.writing.certificate_value.Goals as goal
 pub returns : goal.returns
 returns c =
     let p = c.args.p.now in
-    if_ok_as c.joined.result
+    if_ok_as c.object_of.result
     (λ v e. e ∙ sections_are (plain_workload c.args.c.now) p (view c.in_ok-base.base) (view c.in_ok-bounds.bounds) (view c.in_ok-calls.calls)
     (view c.in_ok-clauses.clauses) (view c.in_ok-freezes.freezes) c.requires
     (record {
@@ -21,4 +21,4 @@ returns c =
       clauses_are = c.in_ok-clauses.ensures ∙ ap (λ l. list_data (map (λ x. clause_data (plain_clause x)) l)) c.as_slice-3.ensures;
       freezes_are = c.in_ok-freezes.ensures ∙ ap (λ l. list_data (map delta_data l)) c.as_slice-4.ensures;
     }))
-    c.joined.ensures
+    c.object_of.ensures

@@ -1,4 +1,4 @@
-use Rattle.homeo_core.specs.Key.{words as cores}
+use Rattle.homeo_core.specs.Key.{definitions as core_definitions}
 use Rattle.std.proofs.Common.{rules, ◌≡◌, suc, ◌+◌, ◌<◌, Some, slice_get, length, map, take, sym, ap, subst, ◌∙◌, arith, FitsSigned}
 use Rattle.std.specs.Int.{w64}
 use Rattle.std.specs.Prelude.{All}
@@ -27,7 +27,7 @@ here g c =
     ∙ ap (λ (s : SiteValue). Some s.state) (sym c.site.ensures)
 
 pub loop-i-init : goal.loop-i-init
-unfolding cores
+unfolding core_definitions
 loop-i-init g c =
     let same : map plain_round c.book.inside.closed.items ≡ c.args.book.now.closed = search rules in
     let closed : length c.as_slice.result.now ≡ length c.args.book.now.closed = ap length c.as_slice.ensures ∙ sym (length-map c.book.inside.closed.items plain_round) ∙ ap length same in
@@ -35,17 +35,17 @@ loop-i-init g c =
     c.in_ok-gather.ensures ∙ (λ j. record { round = closed j; base = base j; sum = base j; added = 0 })
 
 pub add-requires-clause-number : goal.add-requires-clause-number
-unfolding cores
+unfolding core_definitions
 add-requires-clause-number g c =
     (c.requires.at c.loop-i.i c.site.result.now.state (here g c)).numbered ∙ sym (ap (λ (x : GatherValue). x.added) c.loop-i.invariant)
 
 pub add-requires-clause-round : goal.add-requires-clause-round
-unfolding cores
+unfolding core_definitions
 add-requires-clause-round g c =
     (c.requires.at c.loop-i.i c.site.result.now.state (here g c)).in_round ∙ sym (ap (λ (x : GatherValue). x.round) c.loop-i.invariant)
 
 pub add-requires-clause-base : goal.add-requires-clause-base
-unfolding cores
+unfolding core_definitions
 add-requires-clause-base g c =
     (c.requires.at c.loop-i.i c.site.result.now.state (here g c)).on_base ∙ sym (ap (λ (x : GatherValue). x.base) c.loop-i.invariant)
 

@@ -1,4 +1,4 @@
-use Rattle.homeo_core.specs.Key.{words as cores}
+use Rattle.homeo_core.specs.Key.{definitions as core_definitions}
 use Rattle.std.proofs.Common.{◌≡◌, [], ◌∷◌, ◌++◌, map, ap, sym, ◌∙◌}
 use Rattle.std.proofs.lemmas.List.{map-append}
 use Rattle.homeo_syntax.specs.Listed.{Listed}
@@ -10,7 +10,7 @@ use Rattle.homeo_cluster.proofs.Settles.{segments_more}
 use Rattle.homeo_cluster.proofs.finish.into_segments.Goals as goal
 
 pub loop-cell-init : goal.loop-cell-init
-unfolding cores
+unfolding core_definitions
 loop-cell-init g c = ap (λ (l : Listed Segment). map plain_segment l.items) c.new-segments.ensures
 
 pub loop-cell-preserved : goal.loop-cell-preserved

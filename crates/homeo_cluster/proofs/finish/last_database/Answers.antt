@@ -1,4 +1,4 @@
-use Rattle.homeo_core.specs.Key.{words as cores}
+use Rattle.homeo_core.specs.Key.{definitions as core_definitions}
 use Rattle.std.proofs.Common.{◌≡◌, ℕ, suc, ◌+◌, Some, slice_get, length, take, refl, sym, ap, subst, ◌∙◌, arith, FitsSigned}
 use Rattle.std.specs.Int.{w64}
 use Rattle.std.specs.Prelude.{All}
@@ -22,21 +22,21 @@ here g c =
     ∙ ap (λ (s : SiteValue). Some s.state) (sym c.site.ensures)
 
 pub loop-cell-init : goal.loop-cell-init
-unfolding cores
+unfolding core_definitions
 loop-cell-init g c = c.in_ok-gather.ensures
 
 pub add-requires-clause-number : goal.add-requires-clause-number
-unfolding cores
+unfolding core_definitions
 add-requires-clause-number g c =
     (c.requires.at c.loop-cell.cell-index c.site.result.now.state (here g c)).numbered ∙ sym (ap (λ (x : GatherValue). x.added) c.loop-cell.invariant)
 
 pub add-requires-clause-round : goal.add-requires-clause-round
-unfolding cores
+unfolding core_definitions
 add-requires-clause-round g c =
     (c.requires.at c.loop-cell.cell-index c.site.result.now.state (here g c)).in_round ∙ sym (ap (λ (x : GatherValue). x.round) c.loop-cell.invariant)
 
 pub add-requires-clause-base : goal.add-requires-clause-base
-unfolding cores
+unfolding core_definitions
 add-requires-clause-base g c =
     (c.requires.at c.loop-cell.cell-index c.site.result.now.state (here g c)).on_base ∙ sym (ap (λ (x : GatherValue). x.base) c.loop-cell.invariant)
 

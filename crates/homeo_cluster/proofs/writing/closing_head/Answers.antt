@@ -1,11 +1,11 @@
-use Rattle.homeo_assembly.specs.Key.{words}
+use Rattle.homeo_assembly.specs.Key.{definitions}
 use Rattle.std.proofs.Common.{rules, ◌≡◌, [], ◌∷◌, pos, w64, to_z, of_z}
 use Rattle.std.proofs.lemmas.Int.{to_z-of_z}
 use Rattle.homeo_assembly.specs.Written.{upper, lower}
 use Rattle.homeo_cluster.proofs.writing.closing_head.Goals as goal
 
 pub returns : goal.returns
-unfolding words
+unfolding definitions
 returns c =
     let u1 : to_z w64 (of_z w64 c.upper.result) ≡ upper (pos c.args.seq) = search (rules, to_z-of_z) in
     let l1 : to_z w64 (of_z w64 c.lower.result) ≡ lower (pos c.args.seq) = search (rules, to_z-of_z) in

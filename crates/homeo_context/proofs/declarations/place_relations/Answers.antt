@@ -4,7 +4,7 @@ use Rattle.std.proofs.Common.{w64, to_z, of_z}
 use Rattle.std.proofs.Common.{◌≡◌, Fits}
 use Rattle.std.proofs.lemmas.List.{take_all}
 use Rattle.homeo_syntax.specs.SourceView.{plain_relation}
-use Rattle.homeo_meaning.specs.Key.{words}
+use Rattle.homeo_meaning.specs.Key.{definitions}
 use Rattle.homeo_meaning.specs.Schema.{nat_of, declared_relation}
 use Rattle.homeo_meaning.specs.Context.{object_count}
 use Rattle.homeo_context.specs.Placed.{placed_relation, StandFrom, HasSlots}
@@ -13,7 +13,7 @@ use Rattle.homeo_meaning.proofs.TakenItems.{map_twice}
 use Rattle.homeo_context.proofs.declarations.place_relations.Goals as goal
 
 pub loop-relation-init : goal.loop-relation-init
-unfolding words
+unfolding definitions
 loop-relation-init c = record {
   placed = ap (map placed_relation) c.new-places.ensures.items;
   stand = subst (StandFrom c.args.first) (sym c.new-places.ensures.items) tt;

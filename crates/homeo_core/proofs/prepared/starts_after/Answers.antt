@@ -1,5 +1,5 @@
 use Rattle.homeo_site.specs.SiteView.{StartValue}
-use Rattle.homeo_core.specs.Key.{words}
+use Rattle.homeo_core.specs.Key.{definitions}
 use Rattle.std.proofs.Common.{sym, ap, subst, map, ◌≡◌, suc, ◌+◌, Some, [], ◌∷◌, ◌++◌, true, length, replicate, ◌∙◌, arith}
 use Rattle.homeo_core.specs.Starts.{AreStarts, waits, start_after}
 use Rattle.homeo_core.proofs.StartsOfSites.{no_starts, starts_more, waiting_more, waiting_count}
@@ -14,7 +14,7 @@ loop-site-init c =
     }
 
 pub loop-site-preserved : goal.loop-site-preserved
-unfolding words
+unfolding definitions
 loop-site-preserved c =
     let w = c.args.c.now.value in
     let base = c.args.plan.now.value.base.items in

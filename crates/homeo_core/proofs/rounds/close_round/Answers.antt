@@ -11,7 +11,7 @@ use Rattle.homeo_history.specs.Follows.{site_or_zero}
 use Rattle.homeo_history.specs.HistoryView.{plain_round}
 use Rattle.homeo_history.specs.declared.history.Round.{Round}
 use Rattle.homeo_site.specs.SiteState.{renewed}
-use Rattle.homeo_core.specs.Key.{words}
+use Rattle.homeo_core.specs.Key.{definitions}
 use Rattle.homeo_core.specs.CoreView.{start_of}
 use Rattle.homeo_core.specs.Events.{closing_on}
 use Rattle.homeo_core.specs.GatherView.{GatherValue, PreparedValue}
@@ -26,11 +26,11 @@ use Rattle.homeo_core.proofs.rounds.close_round.Goals.{After-as_slice, After-ins
 
 -- as many rounds are closed as before the call
 count : (c : After-as_slice) → length c.as_slice.result.now ≡ length c.args.closed.now.items
-unfolding words
+unfolding definitions
 count c = ap length (c.as_slice.ensures ∙ ap (λ (l : Listed Round). l.items) c.in_ok-reserve.ensures.ok)
 
 pub gather_all-requires-clause-at : goal.gather_all-requires-clause-at
-unfolding words
+unfolding definitions
 gather_all-requires-clause-at c =
     let w = plain_workload c.args.c.now.value in
     let b : BookState = book_of c.args.closed.now.items c.args.base.now.items in
@@ -38,7 +38,7 @@ gather_all-requires-clause-at c =
     (at_round w (start_of b) b (states c.args.sites.now) c.requires.joined)
 
 pub gather_all-requires-clause-fits : goal.gather_all-requires-clause-fits
-unfolding words
+unfolding definitions
 gather_all-requires-clause-fits c n =
     let w = plain_workload c.args.c.now.value in
     let b : BookState = book_of c.args.closed.now.items c.args.base.now.items in
@@ -46,12 +46,12 @@ gather_all-requires-clause-fits c n =
     (first_within w (start_of b) b (states c.args.sites.now) c.requires.accepted c.requires.joined n)
 
 pub prepare-requires-clause-sites : goal.prepare-requires-clause-sites
-unfolding words
+unfolding definitions
 prepare-requires-clause-sites c =
     ap (λ (g : GatherValue). g.added) c.in_ok-gather.ensures ∙ sym (states_count c.args.sites.now) ∙ c.requires.joined.round.count
 
 pub prepare-requires-clause-within : goal.prepare-requires-clause-within
-unfolding words
+unfolding definitions
 prepare-requires-clause-within c =
     let w = plain_workload c.args.c.now.value in
     let b : BookState = book_of c.args.closed.now.items c.args.base.now.items in
@@ -59,7 +59,7 @@ prepare-requires-clause-within c =
     (whole_within w (start_of b) b (states c.args.sites.now) c.requires.accepted c.requires.joined)
 
 pub install_all-requires-clause-at : goal.install_all-requires-clause-at
-unfolding words
+unfolding definitions
 install_all-requires-clause-at c =
     let w = plain_workload c.args.c.now.value in
     let b : BookState = book_of c.args.closed.now.items c.args.base.now.items in
@@ -71,7 +71,7 @@ install_all-requires-clause-at c =
     (subst (λ d. AreAt (length b.closed) d (states c.args.sites.now)) (sym base) (at_round w (start_of b) b (states c.args.sites.now) c.requires.joined))
 
 pub install_all-requires-clause-segments : goal.install_all-requires-clause-segments
-unfolding words
+unfolding definitions
 install_all-requires-clause-segments c =
     let w = plain_workload c.args.c.now.value in
     ap (λ (p : PreparedValue). length p.segments) c.in_ok-prepared.ensures
@@ -79,21 +79,21 @@ install_all-requires-clause-segments c =
     ∙ sym c.requires.joined.round.count ∙ states_count c.args.sites.now
 
 pub install_all-requires-clause-waiting : goal.install_all-requires-clause-waiting
-unfolding words
+unfolding definitions
 install_all-requires-clause-waiting c =
     ap (λ (p : PreparedValue). p.waiting) c.in_ok-prepared.ensures
     ∙ ap (λ n. replicate n true) (sym c.requires.joined.round.count ∙ states_count c.args.sites.now)
 
 -- ---- what it is closed by
 closing : (c : After-install_all) → c.install_all.new.prepared.closing ≡ closing_on (plain_workload c.args.c.now.value) (gathered c.args.base.now.items (states c.args.sites.now)) (site_or_zero (plain_workload c.args.c.now.value) c.args.call) c.args.call c.args.broken
-unfolding words
+unfolding definitions
 closing c =
     let w = plain_workload c.args.c.now.value in
     ap (λ (p : PreparedValue). p.closing) c.install_all.ensures.prepared ∙ ap (λ (p : PreparedValue). p.closing) c.in_ok-prepared.ensures
     ∙ ap (λ (g : GatherValue). closing_on w g.sum (site_or_zero w c.args.call) c.args.call c.args.broken) c.in_ok-gather.ensures
 
 pub returns-clause-book : goal.returns-clause-book
-unfolding words
+unfolding definitions
 returns-clause-book c =
     let w = plain_workload c.args.c.now.value in
     let call = c.args.call in
@@ -114,7 +114,7 @@ returns-clause-book c =
     (λ j. record { closed = rounds j; base = next j })
 
 pub returns-clause-sites : goal.returns-clause-sites
-unfolding words
+unfolding definitions
 returns-clause-sites c =
     let w = plain_workload c.args.c.now.value in
     let next : c.in_ok-prepared.prepared.next ≡ (call_outcome w c.args.call (gathered c.args.base.now.items (states c.args.sites.now))).database =
@@ -122,7 +122,7 @@ returns-clause-sites c =
     c.install_all.ensures.sites ∙ ap (λ n. map (renewed n) (states c.args.sites.now)) next
 
 pub returns-clause-answer : goal.returns-clause-answer
-unfolding words
+unfolding definitions
 returns-clause-answer c =
     let round : c.install_all.new.prepared.round ≡ length c.args.closed.now.items =
     ap (λ (p : PreparedValue). p.round) c.install_all.ensures.prepared ∙ ap (λ (p : PreparedValue). p.round) c.in_ok-prepared.ensures ∙ ap (λ (g : GatherValue). g.round) c.in_ok-gather.ensures ∙ count (goal.at.returns-clause-answer c).After-as_slice in

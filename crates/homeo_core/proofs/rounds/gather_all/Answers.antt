@@ -2,7 +2,7 @@ use Rattle.std.proofs.Common.{◌≡◌, ℕ, suc, ◌+◌, Some, length, take, 
 use Rattle.std.specs.Int.{w64}
 use Rattle.std.specs.Prelude.{slice_get, All}
 use Rattle.homeo_site.specs.SiteView.{SiteValue}
-use Rattle.homeo_core.specs.Key.{words}
+use Rattle.homeo_core.specs.Key.{definitions}
 use Rattle.homeo_core.specs.GatherView.{GatherValue}
 use Rattle.homeo_core.specs.Joined.{plus_deltas, gathered}
 use Rattle.homeo_core.specs.SiteLists.{states}
@@ -10,11 +10,11 @@ use Rattle.homeo_core.proofs.GatheredSites.{states_at, states_count, gathered_ne
 use Rattle.homeo_core.proofs.rounds.gather_all.Goals as goal
 
 pub loop-site-init : goal.loop-site-init
-unfolding words
+unfolding definitions
 loop-site-init c = c.in_ok-gather.ensures
 
 pub add-requires-clause-number : goal.add-requires-clause-number
-unfolding words
+unfolding definitions
 add-requires-clause-number c =
     let i = c.loop-site.site-index in
     let x : SiteValue = c.site-item.result in
@@ -22,7 +22,7 @@ add-requires-clause-number c =
     (c.requires.at i x.state here).numbered ∙ sym (ap (λ (g : GatherValue). g.added) c.loop-site.invariant)
 
 pub add-requires-clause-round : goal.add-requires-clause-round
-unfolding words
+unfolding definitions
 add-requires-clause-round c =
     let i = c.loop-site.site-index in
     let x : SiteValue = c.site-item.result in
@@ -30,7 +30,7 @@ add-requires-clause-round c =
     (c.requires.at i x.state here).in_round ∙ sym (ap (λ (g : GatherValue). g.round) c.loop-site.invariant)
 
 pub add-requires-clause-base : goal.add-requires-clause-base
-unfolding words
+unfolding definitions
 add-requires-clause-base c =
     let i = c.loop-site.site-index in
     let x : SiteValue = c.site-item.result in
@@ -38,7 +38,7 @@ add-requires-clause-base c =
     (c.requires.at i x.state here).on_base ∙ sym (ap (λ (g : GatherValue). g.base) c.loop-site.invariant)
 
 pub add-requires-clause-fits : goal.add-requires-clause-fits
-unfolding words
+unfolding definitions
 add-requires-clause-fits c =
     let i = c.loop-site.site-index in
     let x : SiteValue = c.site-item.result in
@@ -49,7 +49,7 @@ add-requires-clause-fits c =
     subst (All (FitsSigned w64)) sum (c.requires.fits (suc i))
 
 pub loop-site-preserved : goal.loop-site-preserved
-unfolding words
+unfolding definitions
 loop-site-preserved c =
     let i = c.loop-site.site-index in
     let x : SiteValue = c.site-item.result in
@@ -67,7 +67,7 @@ loop-site-preserved c =
     (λ j. record { round = round j; base = base j; sum = sum j; added = added j })
 
 pub returns : goal.returns
-unfolding words
+unfolding definitions
 returns c =
     let n : ℕ = length c.args.sites.now in
     let end : c.loop-site.site-index ≡ n = omega (arith, c.loop-site-test.false, c.loop-site.auto.site-index-end) in

@@ -4,7 +4,7 @@ use Rattle.std.proofs.lemmas.List.{length-map}
 use Rattle.homeo_history.proofs.Lists.{get_map}
 use Rattle.homeo_site.specs.SiteState.{SiteState, renewed}
 use Rattle.homeo_site.specs.SiteView.{SiteValue}
-use Rattle.homeo_core.specs.Key.{words}
+use Rattle.homeo_core.specs.Key.{definitions}
 use Rattle.homeo_core.specs.GatherView.{PreparedValue}
 use Rattle.homeo_core.specs.Joined.{segments_of}
 use Rattle.homeo_core.specs.SiteLists.{states, first_from}
@@ -12,11 +12,11 @@ use Rattle.homeo_core.proofs.GatheredSites.{turn, from_next, from_at, from_all, 
 use Rattle.homeo_core.proofs.rounds.install_all.Goals as goal
 
 pub loop-i-init : goal.loop-i-init
-unfolding words
+unfolding definitions
 loop-i-init c = record { renewed = refl; of = c.requires.of; prepared = refl }
 
 pub install-requires-clause-waits : goal.install-requires-clause-waits
-unfolding words
+unfolding definitions
 install-requires-clause-waits c =
     let p = c.args.prepared.now in
     let i = c.loop-i.i in
@@ -37,7 +37,7 @@ install-requires-clause-round c =
     t.at.in_round ∙ sym (ap (λ (q : PreparedValue). q.round) c.loop-i.invariant.prepared)
 
 pub loop-i-preserved : goal.loop-i-preserved
-unfolding words
+unfolding definitions
 loop-i-preserved c =
     let p = c.args.prepared.now in
     let q = c.loop-i.prepared in
@@ -89,7 +89,7 @@ loop-i-preserved c =
     }
 
 pub returns-clause-sites : goal.returns-clause-sites
-unfolding words
+unfolding definitions
 returns-clause-sites c =
     let p = c.args.prepared.now in
     let old = states c.args.sites.now in
@@ -98,7 +98,7 @@ returns-clause-sites c =
     c.loop-i.invariant.renewed ∙ ap (first_from old new) end ∙ from_all old new (sym (length-map old (renewed p.next)))
 
 pub returns-clause-prepared : goal.returns-clause-prepared
-unfolding words
+unfolding definitions
 returns-clause-prepared c =
     let p = c.args.prepared.now in
     let old = states c.args.sites.now in

@@ -4,20 +4,20 @@ use Rattle.homeo_site.specs.SiteView.{SiteValue, StartValue}
 use Rattle.homeo_site.specs.SiteState.{begun}
 use Rattle.std.proofs.lemmas.List.Elements.{All-push}
 use Rattle.std.proofs.Common.{sym, ap, subst, ◌≡◌, suc, ◌+◌, [], ◌∷◌, ◌++◌, ◌∙◌, arith}
-use Rattle.homeo_core.specs.Key.{words}
+use Rattle.homeo_core.specs.Key.{definitions}
 use Rattle.homeo_core.specs.SiteLists.{states, AreOf}
 use Rattle.homeo_core.proofs.CoreStarts.{none_of, begun_more}
 use Rattle.homeo_core.proofs.steps.begin_sites.Goals as goal
 
 pub loop-site-init : goal.loop-site-init
-unfolding words
+unfolding definitions
 loop-site-init c = record {
   begun = ap states c.new-sites.ensures.items;
   of = subst (AreOf c.args.c.now.value) (sym c.new-sites.ensures.items) (none_of c.args.c.now.value);
 }
 
 pub loop-site-preserved : goal.loop-site-preserved
-unfolding words
+unfolding definitions
 loop-site-preserved c =
     let w = c.args.c.now.value in
     let base = c.args.plan.now.value.base.items in

@@ -1,5 +1,5 @@
-use Rattle.homeo_history.specs.Key.{words as histories}
-use Rattle.homeo_site.specs.Key.{words as site_words}
+use Rattle.homeo_history.specs.Key.{definitions as history_definitions}
+use Rattle.homeo_site.specs.Key.{definitions as site_definitions}
 use Rattle.std.proofs.Common.{◌≡◌, ◌<◌, length, map, get_or, Some, None, sym, ap, subst, ◌∙◌, slice_set}
 use Rattle.std.proofs.lemmas.List.{length-map}
 use Rattle.homeo_syntax.specs.declared.workload.Workload.{Workload}
@@ -12,7 +12,7 @@ use Rattle.homeo_history.specs.Legal.{IsCallAt}
 use Rattle.homeo_history.specs.declared.answer.Path.TheVariants.{Local}
 use Rattle.homeo_site.specs.SiteState.{SiteState, renewed, step_finding, after_local}
 use Rattle.homeo_site.specs.SiteView.{SiteValue}
-use Rattle.homeo_core.specs.Key.{words}
+use Rattle.homeo_core.specs.Key.{definitions}
 use Rattle.homeo_core.specs.CoreView.{start_of, book_after, sites_after, answer_to}
 use Rattle.homeo_core.specs.Events.{BreaksCall, closing_of, next_base, after_closing}
 use Rattle.homeo_core.specs.Joined.{BookState, AreJoined}
@@ -25,14 +25,14 @@ use Rattle.homeo_core.proofs.steps.make_call.Goals as goal
 use Rattle.homeo_core.proofs.steps.make_call.Goals.{In-Refused}
 
 pub bounds-sites-home : goal.bounds-sites-home
-unfolding words
+unfolding definitions
 bounds-sites-home c =
     let w = plain_workload c.args.c.now.value in
     let b : BookState = book_of c.args.closed.now.items c.args.base.now.items in
     home_lt w (start_of b) b c.args.sites.now c.args.home c.args.call c.requires.accepted c.requires.joined c.requires.at_home
 
 pub try_call-requires : goal.try_call-requires
-unfolding words
+unfolding definitions
 try_call-requires c =
     let w = plain_workload c.args.c.now.value in
     let b : BookState = book_of c.args.closed.now.items c.args.base.now.items in
@@ -45,7 +45,7 @@ try_call-requires c =
     (subst (λ n. IsCallAt w n c.args.call) (sym number) c.requires.at_home)
 
 pub returns-in_err-prints-clause-unchanged : goal.returns-in_err-prints-clause-unchanged
-unfolding words
+unfolding definitions
 returns-in_err-prints-clause-unchanged c =
     let w = plain_workload c.args.c.now.value in
     let b : BookState = book_of c.args.closed.now.items c.args.base.now.items in
@@ -57,7 +57,7 @@ returns-in_err-prints-clause-unchanged c =
 
 -- ---- where it makes it
 pub returns-in-Made-clause-made : goal.returns-in-Made-clause-made
-unfolding words histories site_words
+unfolding definitions history_definitions site_definitions
 returns-in-Made-clause-made c =
     let w = plain_workload c.args.c.now.value in
     let b : BookState = book_of c.args.closed.now.items c.args.base.now.items in
@@ -91,32 +91,32 @@ abbrev site : In-Refused → SiteValue
 site c = get_or c.args.sites.now c.args.home c.index-sites-home.result
 
 is_site : (c : In-Refused) → c.args.home < length c.args.sites.now
-unfolding words
+unfolding definitions
 is_site c =
     let b : BookState = book_of c.args.closed.now.items c.args.base.now.items in
     home_lt (plain_workload c.args.c.now.value) (start_of b) b c.args.sites.now c.args.home c.args.call c.requires.accepted c.requires.joined c.requires.at_home
 
 unmoved : (c : In-Refused) → states (slice_set c.args.sites.now c.args.home c.try_call.new.site) ≡ states c.args.sites.now
-unfolding words
+unfolding definitions
 unmoved c =
     let state : c.try_call.new.site.state ≡ (site c).state = c.in_ok-prints.ensures.state ∙ ap (after_try (plain_workload (site c).work) (site c).state c.args.call) c.in-Refused.is in
     states_stay c.args.sites.now c.args.home c.index-sites-home.result c.try_call.new.site (is_site c) state
 
 breaks : (c : In-Refused) → step_finding (plain_workload c.args.c.now.value) (site c).state c.args.call ≡ Some c.in-Refused.broken
-unfolding words
+unfolding definitions
 breaks c =
     let tried : IsTried (plain_workload c.args.c.now.value) (site c).state c.args.call c.in_ok-prints.field-0 =
     subst (λ (v : Workload). IsTried (plain_workload v) (site c).state c.args.call c.in_ok-prints.field-0) (c.requires.of c.args.home c.index-sites-home.result (is_site c)) c.in_ok-prints.ensures.tried in
     subst (IsTried (plain_workload c.args.c.now.value) (site c).state c.args.call) c.in-Refused.is tried
 
 pub close_round-requires-clause-joined : goal.close_round-requires-clause-joined
-unfolding words
+unfolding definitions
 close_round-requires-clause-joined c =
     let b : BookState = book_of c.args.closed.now.items c.args.base.now.items in
     subst (AreJoined (plain_workload c.args.c.now.value) (start_of b) b) (sym (unmoved (goal.at.close_round-requires-clause-joined c).In-Refused)) c.requires.joined
 
 pub close_round-requires-clause-breaks : goal.close_round-requires-clause-breaks
-unfolding words
+unfolding definitions
 close_round-requires-clause-breaks c =
     let e = (goal.at.close_round-requires-clause-breaks c).In-Refused in
     let w = plain_workload c.args.c.now.value in
@@ -128,7 +128,7 @@ close_round-requires-clause-breaks c =
     (subst (λ n. BreaksCall w (states sites) n call c.in-Refused.broken) (sym (home_is w home call c.requires.at_home)) event)
 
 pub returns-in-Refused-clause-made : goal.returns-in-Refused-clause-made
-unfolding words
+unfolding definitions
 returns-in-Refused-clause-made c =
     let e = (goal.at.returns-in-Refused-clause-made c).In-Refused in
     let w = plain_workload c.args.c.now.value in
@@ -153,6 +153,6 @@ returns-in-Refused-clause-made c =
     })
 
 pub returns-in-Refused-clause-unchanged : goal.returns-in-Refused-clause-unchanged
-unfolding words
+unfolding definitions
 returns-in-Refused-clause-unchanged c =
     on_err_map c.close_round.result _ _ (λ e. ap states e ∙ unmoved (goal.at.returns-in-Refused-clause-unchanged c).In-Refused) c.close_round.ensures.unchanged

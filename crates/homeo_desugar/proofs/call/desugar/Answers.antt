@@ -5,7 +5,7 @@ use Rattle.std.proofs.lemmas.Result.{IfOk-weaker}
 use Rattle.homeo_syntax.specs.SourceView.{plain_workload}
 use Rattle.homeo_syntax.specs.LowView.{plain_lcommand}
 use Rattle.homeo_meaning.specs.Ground.{plain_ground}
-use Rattle.homeo_meaning.specs.Key.{words as meaning_words}
+use Rattle.homeo_meaning.specs.Key.{definitions as meaning_definitions}
 use Rattle.homeo_lform.proofs.Means.{means}
 use Rattle.homeo_desugar.proofs.Looking.{schema_fits, call_formed}
 use Rattle.homeo_desugar.proofs.call.desugar.Goals as goal
@@ -15,12 +15,12 @@ find-transaction-requires c =
     subst (λ w. IsSome (slice_get (plain_workload w).transactions c.args.call.now.transaction)) (sym c.workload-workload.ensures.value) c.requires.exists
 
 pub form_transaction-requires : goal.form_transaction-requires
-unfolding meaning_words
+unfolding meaning_definitions
 form_transaction-requires c =
     schema_fits c.args.w.now c.args.declared.now.schema (ap (λ d. d.schema) c.requires.declared) c.workload-workload.ensures.accepted
 
 pub returns-clause-form : goal.returns-clause-form
-unfolding meaning_words
+unfolding meaning_definitions
 returns-clause-form c =
     IfOk-weaker c.form_transaction.result _ _
     (λ r e. call_formed c.args.w.now c.workload-workload.result.now (plain_ground c.args.call.now) c.find-transaction.result.now c.args.declared.now.schema c.as_slice.result.now (plain_lcommand r) c.workload-workload.ensures.value c.find-transaction.ensures (ap (λ d. d.schema) c.requires.declared) c.as_slice.ensures e)

@@ -3,14 +3,14 @@ use Rattle.std.proofs.Common.{◌≡◌, ◌+◌, false, [], map, length, sym, a
 use Rattle.homeo_syntax.specs.LowView.{low_commands, plain_lcommand}
 use Rattle.homeo_syntax.specs.SourceView.{commands, plain_command}
 use Rattle.homeo_syntax.proofs.LowViews.{low_Seq}
-use Rattle.homeo_meaning.specs.Key.{words as meaning_words}
+use Rattle.homeo_meaning.specs.Key.{definitions as meaning_definitions}
 use Rattle.std.proofs.lemmas.Result.{IfOk-weaker}
 use Rattle.homeo_meaning.specs.LowWrites.{all_written}
 use Rattle.homeo_meaning.specs.LForm.{forms, undoing}
 use Rattle.homeo_context.specs.Contexts.{call_context}
 use Rattle.homeo_desugar.specs.inner.Made.{AreFormed}
 use Rattle.homeo_desugar.specs.inner.Settings.{absent}
-use Rattle.homeo_desugar.specs.inner.Key.{words}
+use Rattle.homeo_desugar.specs.inner.Key.{definitions}
 use Rattle.homeo_desugar.proofs.Looking.{frame_context, plain_body, undone_body}
 use Rattle.homeo_desugar.proofs.call.form_body.Goals as goal
 
@@ -21,21 +21,21 @@ overflow_cast-frame c =
     omega (arith, past, few)
 
 pub form_all-requires : goal.form_all-requires
-unfolding words
+unfolding definitions
 form_all-requires c =
     let past = c.object_count.ensures in
     let few = c.requires.objects in
     record { fits = record { schema = c.requires; rows = λ n. omega (arith, past, few) } }
 
 pub form_all-requires-2 : goal.form_all-requires-2
-unfolding words
+unfolding definitions
 form_all-requires-2 c =
     let past = c.object_count.ensures in
     let few = c.requires.objects in
     record { fits = record { schema = c.requires; rows = λ n. omega (arith, past, few) } }
 
 pub returns-then-not-hold_abort : goal.returns-then-not-hold_abort
-unfolding words meaning_words
+unfolding definitions meaning_definitions
 returns-then-not-hold_abort c =
     let d = c.args.declared.now in
     let given = c.args.arguments.now in
@@ -43,7 +43,7 @@ returns-then-not-hold_abort c =
     ∙ plain_body (call_context d given) _ (commands (map plain_command c.args.body.now)) _ (low_commands (map plain_lcommand c.in_ok-commands.commands.items)) (frame_context d given c.object_count.result c.object_count.ensures) (sym c.hold_abort.ensures ∙ c.if-not-hold_abort.true) c.in_ok-commands.ensures
 
 pub returns : goal.returns
-unfolding words meaning_words
+unfolding definitions meaning_definitions
 returns c =
     let d = c.args.declared.now in
     let given = c.args.arguments.now in

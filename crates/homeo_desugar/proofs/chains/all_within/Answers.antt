@@ -1,11 +1,11 @@
 -- The tests of one target more stand behind the others.
 use Rattle.std.proofs.Common.{pos, get_or, map, ap, ◌∙◌}
-use Rattle.homeo_syntax.specs.Key.{words as tree_words}
+use Rattle.homeo_syntax.specs.Key.{definitions as syntax_definitions}
 use Rattle.homeo_syntax.specs.Low.{NoTest}
 use Rattle.homeo_syntax.specs.LowView.{low_tests, plain_ltest}
 use Rattle.homeo_syntax.proofs.LowViews.{low_conjunction_of}
 use Rattle.homeo_meaning.specs.LForm.{all_within, within}
-use Rattle.homeo_desugar.specs.inner.Key.{words}
+use Rattle.homeo_desugar.specs.inner.Key.{definitions}
 use Rattle.homeo_desugar.specs.inner.Made.{plain_target, both_tests}
 use Rattle.homeo_desugar.specs.inner.Settings.{plain_spot}
 use Rattle.homeo_desugar.specs.declared.making.Target as code
@@ -16,7 +16,7 @@ abbrev no_target : code.Target
 no_target = record { field = record { place = 0; lo = pos 0; hi = pos 0 }; temp = 0 }
 
 pub loop-target-init : goal.loop-target-init
-unfolding words tree_words
+unfolding definitions syntax_definitions
 loop-target-init c =
     ap (λ l. both_tests (low_tests (map plain_ltest l.items)) (all_within (map plain_target c.args.targets.now))) c.new-tests.ensures
 

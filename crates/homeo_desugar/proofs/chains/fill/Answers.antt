@@ -1,15 +1,15 @@
 -- The write of one target more stands behind the others.
 use Rattle.std.proofs.Common.{◌≡◌, ℕ, ◌<◌, ◌^◌, ℤ, pos, suc, ◌+ℤ◌, w64, to_z, of_z, map, ap, ◌∙◌, rules, arith}
 use Rattle.std.proofs.lemmas.Int.{ints}
-use Rattle.homeo_syntax.specs.Key.{words as tree_words}
+use Rattle.homeo_syntax.specs.Key.{definitions as syntax_definitions}
 use Rattle.homeo_syntax.specs.Low as L
 use Rattle.homeo_syntax.specs.LowView.{low_commands, plain_lcommand}
 use Rattle.homeo_syntax.specs.declared.low.Temp.TheVariants as temp
 use Rattle.homeo_syntax.specs.declared.low.SplitName.TheVariants as split
 use Rattle.homeo_syntax.proofs.LowViews.{low_Seq, low_Assign, low_Write, low_Literal}
-use Rattle.homeo_meaning.specs.Key.{words as meaning_words}
+use Rattle.homeo_meaning.specs.Key.{definitions as meaning_definitions}
 use Rattle.homeo_meaning.specs.LForm.{both, field_writes}
-use Rattle.homeo_desugar.specs.inner.Key.{words}
+use Rattle.homeo_desugar.specs.inner.Key.{definitions}
 use Rattle.homeo_desugar.specs.inner.Made.{plain_target}
 use Rattle.homeo_desugar.specs.inner.Settings.{plain_slot}
 use Rattle.homeo_desugar.specs.declared.making.Target as code
@@ -27,7 +27,7 @@ abbrev no_target : code.Target
 no_target = record { field = record { place = 0; lo = pos 0; hi = pos 0 }; temp = 0 }
 
 pub loop-target-init : goal.loop-target-init
-unfolding meaning_words tree_words
+unfolding meaning_definitions syntax_definitions
 loop-target-init c more =
     ap (λ l. both (low_commands (map plain_lcommand l.items)) (field_writes (plain_slot c.args.slot) (map plain_target c.args.targets.now) more)) c.new-commands.ensures
 
@@ -43,7 +43,7 @@ loop-target-preserved c =
     writes_step (plain_slot c.args.slot) c.args.targets.now c.loop-target.target-index no_target c.loop-target.commands.items _ _ c.push.new.self c.loop-target-test.true c.in_ok-push.ensures.ok w c.loop-target.invariant
 
 pub returns : goal.returns
-unfolding words
+unfolding definitions
 returns c =
     let few : c.args.slot.number < 2 ^ 32 = search rules in
     let first = low_Write _ _ ∙ ap (L.Write (split.Whole c.args.slot.used)) (low_Literal (pos 1)) in

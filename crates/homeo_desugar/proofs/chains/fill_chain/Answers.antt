@@ -4,17 +4,17 @@ use Rattle.homeo_syntax.specs.Low as L
 use Rattle.homeo_syntax.specs.LowView.{plain_lcond, plain_lcommand}
 use Rattle.homeo_syntax.specs.declared.low.Temp.TheVariants as temp
 use Rattle.homeo_syntax.proofs.LowViews.{low_Assign, low_Literal}
-use Rattle.homeo_meaning.specs.Key.{words as meaning_words}
+use Rattle.homeo_meaning.specs.Key.{definitions as meaning_definitions}
 use Rattle.homeo_meaning.specs.Context.{Slot}
 use Rattle.homeo_meaning.specs.LForm.{read, equal, one_test, fill_chain}
-use Rattle.homeo_desugar.specs.inner.Key.{words}
+use Rattle.homeo_desugar.specs.inner.Key.{definitions}
 use Rattle.homeo_desugar.specs.inner.Made.{plain_target, filled}
 use Rattle.homeo_desugar.proofs.SlotChains.{fill_more, within_same}
 use Rattle.homeo_desugar.proofs.SlotLists.{none_after, all_after, slot_is_low}
 use Rattle.homeo_desugar.proofs.chains.fill_chain.Goals as goal
 
 pub loop-number-init : goal.loop-number-init
-unfolding meaning_words
+unfolding meaning_definitions
 loop-number-init c = record {
   within = omega arith;
   chain =
@@ -27,12 +27,12 @@ fill-requires-clause-low c =
     slot_is_low c.args.slots (c.loop-number.number - 1) c.slot-slot.result (omega (arith, c.loop-number.invariant.within)) c.requires.slots c.slot-slot.ensures
 
 pub fill-requires-clause-within : goal.fill-requires-clause-within
-unfolding words
+unfolding definitions
 fill-requires-clause-within c =
     within_same c.slot-slot.result.fields.now c.args.slots.fields.now c.args.targets.now (ap (λ (x : Slot). x.fields) c.slot-slot.ensures) c.requires.within
 
 pub loop-number-preserved : goal.loop-number-preserved
-unfolding words
+unfolding definitions
 loop-number-preserved c =
     let used = ap (λ (x : Slot). x.used) c.slot-slot.ensures in
     let test = c.in_ok-test.ensures ∙ ap one_test (c.equal.ensures ∙ ap (λ e. equal e (pos 0)) (c.read.ensures ∙ ap read used)) in

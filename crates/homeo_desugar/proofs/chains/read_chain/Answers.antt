@@ -4,7 +4,7 @@ use Rattle.homeo_syntax.specs.Low as L
 use Rattle.homeo_syntax.specs.LowView.{plain_lexpr, plain_lcond, plain_lcommand}
 use Rattle.homeo_syntax.specs.declared.low.Temp.TheVariants as temp
 use Rattle.homeo_syntax.proofs.LowViews.{low_Assign, low_Literal}
-use Rattle.homeo_meaning.specs.Key.{words as meaning_words}
+use Rattle.homeo_meaning.specs.Key.{definitions as meaning_definitions}
 use Rattle.homeo_meaning.specs.Context.{cell}
 use Rattle.homeo_meaning.specs.LForm.{read, read_chain}
 use Rattle.homeo_desugar.specs.inner.Settings.{plain_spot}
@@ -13,7 +13,7 @@ use Rattle.homeo_desugar.proofs.SlotLists.{none_after, all_after, cell_fits}
 use Rattle.homeo_desugar.proofs.chains.read_chain.Goals as goal
 
 pub loop-number-init : goal.loop-number-init
-unfolding meaning_words
+unfolding meaning_definitions
 loop-number-init c = record {
   within = omega arith;
   chain =

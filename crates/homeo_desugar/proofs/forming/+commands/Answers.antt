@@ -1,7 +1,7 @@
 -- Each command has the form that the definition says, part by part.
 use Rattle.std.proofs.Common.{◌≡◌, ℕ, false, ◌||◌, map, refl, sym, ap, ◌∙◌, subst, rules}
 use Rattle.std.proofs.lemmas.Result.{IfOk-weaker}
-use Rattle.homeo_syntax.specs.Key.{words as tree_words}
+use Rattle.homeo_syntax.specs.Key.{definitions as syntax_definitions}
 use Rattle.homeo_syntax.specs.Source as s
 use Rattle.homeo_syntax.specs.Low as L
 use Rattle.homeo_syntax.specs.SourceView.{commands, plain_expr, plain_cond, plain_command, plain_field}
@@ -9,12 +9,12 @@ use Rattle.homeo_syntax.specs.LowView.{low_commands, plain_lcond, plain_lcommand
 use Rattle.homeo_syntax.specs.declared.command.Command.TheViews.{the_lemmas}
 use Rattle.homeo_syntax.proofs.SourceViews.{plain_Skip, plain_Assign, plain_Write, plain_Print, plain_If, plain_Block, plain_SetField, plain_SetRow, plain_Foreach, plain_Insert, plain_Delete, plain_Update, plain_Abort}
 use Rattle.homeo_syntax.proofs.LowViews.{low_Seq, low_Skip, low_If}
-use Rattle.homeo_meaning.specs.Key.{words as meaning_words}
+use Rattle.homeo_meaning.specs.Key.{definitions as meaning_definitions}
 use Rattle.homeo_meaning.specs.Schema.{declared_range}
 use Rattle.homeo_meaning.specs.Context.{Slot, bind, slots, fields, object}
 use Rattle.homeo_meaning.specs.Aborts.{holds_abort, hold_abort}
 use Rattle.homeo_meaning.specs.LForm.{Lifted, both, lift, lift_cond, visits, guard, as_one, clear, form, forms}
-use Rattle.homeo_desugar.specs.inner.Key.{words}
+use Rattle.homeo_desugar.specs.inner.Key.{definitions}
 use Rattle.homeo_desugar.specs.inner.Made.{IsLifted, IsTurned, IsFormed}
 use Rattle.homeo_desugar.specs.inner.Settings.{setting, plain_slot, plain_slots, slot_of, plain_spot, Fits}
 use Rattle.homeo_desugar.specs.inner.Visits.{updating, running, visit_of}
@@ -37,7 +37,7 @@ visit-form_all-requires t c =
     (search (rules, the_lemmas), subst Fits (sym c.bind-inner.ensures) (bind_fits (setting c.args.frame.now) c.args.row (plain_slot c.slot-slot.result) c.requires.fits low))
 
 pub visit-returns : goal.visit-returns
-unfolding words meaning_words
+unfolding definitions meaning_definitions
 visit-returns t c =
     let x = setting c.args.frame.now in
     let inner = setting c.bind-inner.result in
@@ -54,7 +54,7 @@ visit-returns t c =
     c.choice.ensures
 
 pub take_turn-returns-in_ok-push : goal.take_turn-returns-in_ok-push
-unfolding words
+unfolding definitions
 take_turn-returns-in_ok-push t c =
     let x = setting c.args.frame.now in
     let tests : Slot → ℕ → Lifted L.Cond = λ slot. lift_cond (bind x c.args.row slot) (plain_cond c.args.test.now) in
@@ -85,7 +85,7 @@ foreach-loop-number-preserved t c =
     turn_step c.loop-number.guarded c.hold_abort-later.result x c.args.row c.loop-number.number (plain_cond c.args.test.now) body c.args.slots c.from-out.result c.loop-number.out c.take_turn.new.out _ c.loop-number-test.true c.in_ok-take_turn.ensures c.loop-number.invariant
 
 pub foreach-returns : goal.foreach-returns
-unfolding words
+unfolding definitions
 foreach-returns t c =
     let x = setting c.args.frame.now in
     let tests : Slot → ℕ → Lifted L.Cond = λ slot. lift_cond (bind x c.args.row slot) (plain_cond c.args.test.now) in
@@ -95,7 +95,7 @@ foreach-returns t c =
     ends_as c.hold_abort-later.result (hold_abort (commands (map plain_command c.args.body.now))) tests body (plain_slots c.args.slots) c.loop-number.out.next c.args.next.now _ c.hold_abort-later.ensures made_all
 
 pub form-returns-in-Skip : goal.form-returns-in-Skip
-unfolding meaning_words
+unfolding meaning_definitions
 form-returns-in-Skip t c =
     command_formed (setting c.args.frame.now) c.args.next.now c.args.next.now c.args.c.now s.Skip _ (ap plain_command c.in-Skip.is ∙ plain_Skip) (record { command = low_Skip; next = refl })
 
@@ -112,7 +112,7 @@ form-returns-in-Print t c =
     c.print.ensures
 
 pub form-returns-in-Write : goal.form-returns-in-Write
-unfolding words meaning_words
+unfolding definitions meaning_definitions
 form-returns-in-Write t c =
     let x = setting c.args.frame.now in
     let n = c.args.next.now in
@@ -124,7 +124,7 @@ form-returns-in-Write t c =
     c.write_to.ensures
 
 pub form-returns-in_ok-no-in-If : goal.form-returns-in_ok-no-in-If
-unfolding words meaning_words
+unfolding definitions meaning_definitions
 form-returns-in_ok-no-in-If t c =
     let x = setting c.args.frame.now in
     let n = c.args.next.now in
@@ -138,14 +138,14 @@ form-returns-in_ok-no-in-If t c =
     c.in_front.ensures
 
 pub form-returns-in_ok-commands-in-Block : goal.form-returns-in_ok-commands-in-Block
-unfolding words meaning_words
+unfolding definitions meaning_definitions
 form-returns-in_ok-commands-in-Block t c =
     let formed = c.in_ok-commands-in-Block.ensures in
     let seen = ap plain_command c.in-Block.is ∙ plain_Block c.in-Block.commands ∙ sym (ap (λ l. s.Block (commands (map plain_command l))) c.as_slice.ensures) in
     command_formed (setting c.args.frame.now) c.form_all.new.next c.args.next.now c.args.c.now _ _ seen (record { command = low_Seq c.in_ok-commands-in-Block.commands ∙ ap L.Seq formed.commands; next = formed.next })
 
 pub form-returns-in-SetField : goal.form-returns-in-SetField
-unfolding words meaning_words
+unfolding definitions meaning_definitions
 form-returns-in-SetField t c =
     let x = setting c.args.frame.now in
     let n = c.args.next.now in
@@ -159,7 +159,7 @@ form-returns-in-SetField t c =
     c.set_field.ensures
 
 pub form-returns-in-SetRow : goal.form-returns-in-SetRow
-unfolding words meaning_words
+unfolding definitions meaning_definitions
 form-returns-in-SetRow t c =
     let x = setting c.args.frame.now in
     let n = c.args.next.now in
@@ -172,7 +172,7 @@ form-returns-in-SetRow t c =
     c.write_field.ensures
 
 pub form-returns-in-Foreach : goal.form-returns-in-Foreach
-unfolding words meaning_words
+unfolding definitions meaning_definitions
 form-returns-in-Foreach t c =
     let x = setting c.args.frame.now in
     let n = c.args.next.now in
@@ -187,7 +187,7 @@ form-returns-in-Foreach t c =
     c.foreach.ensures
 
 pub form-returns-in-Insert : goal.form-returns-in-Insert
-unfolding words meaning_words
+unfolding definitions meaning_definitions
 form-returns-in-Insert t c =
     let x = setting c.args.frame.now in
     let n = c.args.next.now in
@@ -201,7 +201,7 @@ form-returns-in-Insert t c =
     c.insert.ensures
 
 pub form-returns-in-Delete : goal.form-returns-in-Delete
-unfolding words meaning_words
+unfolding definitions meaning_definitions
 form-returns-in-Delete t c =
     let x = setting c.args.frame.now in
     let n = c.args.next.now in
@@ -214,7 +214,7 @@ form-returns-in-Delete t c =
     c.delete.ensures
 
 pub form-returns-in-Update : goal.form-returns-in-Update
-unfolding words meaning_words
+unfolding definitions meaning_definitions
 form-returns-in-Update t c =
     let x = setting c.args.frame.now in
     let n = c.args.next.now in
@@ -229,12 +229,12 @@ form-returns-in-Update t c =
     c.update.ensures
 
 pub form-returns-in-Abort : goal.form-returns-in-Abort
-unfolding meaning_words
+unfolding meaning_definitions
 form-returns-in-Abort t c =
     command_formed (setting c.args.frame.now) c.args.next.now c.args.next.now c.args.c.now s.Abort _ (ap plain_command c.in-Abort.is ∙ plain_Abort) (record { command = c.set_flag.ensures; next = refl })
 
 pub form_all-loop-c-init : goal.form_all-loop-c-init
-unfolding tree_words meaning_words
+unfolding syntax_definitions meaning_definitions
 form_all-loop-c-init t c =
     let whole = forms (setting c.args.frame.now) false (commands (map plain_command c.args.cs.now)) c.args.next.now in
     record { commands = ap (λ l. both (low_commands (map plain_lcommand l.items)) whole.commands) c.new-formed.ensures; next = refl }

@@ -5,10 +5,10 @@ use Rattle.homeo_syntax.specs.SourceView.{plain_cond}
 use Rattle.homeo_syntax.specs.LowView.{plain_lcond}
 use Rattle.homeo_syntax.specs.declared.low.SplitName.TheVariants as split
 use Rattle.homeo_syntax.proofs.LowViews.{low_Literal, low_Seq, low_Write}
-use Rattle.homeo_meaning.specs.Key.{words as meaning_words}
+use Rattle.homeo_meaning.specs.Key.{definitions as meaning_definitions}
 use Rattle.homeo_meaning.specs.Context.{Slot, bind}
 use Rattle.homeo_meaning.specs.LForm.{Lifted, visits, lift_cond, clear}
-use Rattle.homeo_desugar.specs.inner.Key.{words}
+use Rattle.homeo_desugar.specs.inner.Key.{definitions}
 use Rattle.homeo_desugar.specs.inner.Settings.{setting, plain_slot, plain_slots, Fits}
 use Rattle.homeo_desugar.proofs.Forms.{loop_formed, or_skip}
 use Rattle.homeo_desugar.proofs.Makings.{visits_begin, visit_step, visits_done}
@@ -25,7 +25,7 @@ lift_visit-requires c =
     record { fits = subst Fits (sym c.bind.ensures) (bind_fits (setting c.args.frame.now) c.args.row (plain_slot c.slot-slot.result) c.requires.fits low) }
 
 pub loop-number-preserved : goal.loop-number-preserved
-unfolding words meaning_words
+unfolding definitions meaning_definitions
 loop-number-preserved c =
     let test = plain_lcond c.in_ok-test.test in
     let cleared = low_Write _ _ ∙ ap (L.Write (split.Whole c.slot-slot.result.used)) (low_Literal (pos 0)) in
@@ -33,7 +33,7 @@ loop-number-preserved c =
     visit_step (setting c.args.frame.now) (setting c.bind.result) c.args.row c.loop-number.number (plain_cond c.args.test.now) clear c.args.slots c.slot-slot.result c.from-out.result c.loop-number.out c.lift_visit.new.out c.push.new.self test _ _ _ c.loop-number-test.true c.slot-slot.ensures c.bind.ensures c.in_ok-test.ensures cleared c.in_ok-push.ensures.next choice c.in_ok-push.ensures.pushed c.loop-number.invariant
 
 pub returns : goal.returns
-unfolding words
+unfolding definitions
 returns c =
     let tests : Slot → ℕ → Lifted L.Cond = λ slot. lift_cond (bind (setting c.args.frame.now) c.args.row slot) (plain_cond c.args.test.now) in
     loop_formed c.from-out.result c.loop-number.out c.args.next.now (visits false false tests clear (plain_slots c.args.slots)) _ c.from-out.ensures.empty c.from-out.ensures.next (visits_done _ _ _ _ c.args.slots c.loop-number.number c.from-out.result c.loop-number.out _ c.loop-number-test.false c.loop-number.invariant) (low_Seq c.loop-number.out.commands)

@@ -7,14 +7,14 @@ use Rattle.homeo_syntax.specs.declared.low.Temp.TheVariants as temp
 use Rattle.homeo_syntax.proofs.LowViews.{low_Assign, low_Literal, low_Seq}
 use Rattle.homeo_meaning.specs.Schema.{declared_range}
 use Rattle.homeo_meaning.specs.LForm.{lift_values, all_within, fill_chain}
-use Rattle.homeo_desugar.specs.inner.Key.{words}
+use Rattle.homeo_desugar.specs.inner.Key.{definitions}
 use Rattle.homeo_desugar.specs.inner.Made.{plain_target}
 use Rattle.homeo_desugar.specs.inner.Settings.{setting, plain_slots}
 use Rattle.homeo_desugar.proofs.Forms.{formed_as, inserted_formed}
 use Rattle.homeo_desugar.proofs.forming.insert.Goals as goal
 
 pub returns : goal.returns
-unfolding words
+unfolding definitions
 returns c =
     let xs = map plain_target c.in_ok-targets.targets.items in
     let all = plain_slots c.args.slots in

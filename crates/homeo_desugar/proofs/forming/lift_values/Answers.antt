@@ -6,7 +6,7 @@ use Rattle.homeo_syntax.proofs.LowViews.{low_Assign}
 use Rattle.homeo_meaning.specs.Schema.{declared_range}
 use Rattle.homeo_meaning.specs.Context.{Spot, spot}
 use Rattle.homeo_meaning.specs.LForm.{lift, lift_values}
-use Rattle.homeo_desugar.specs.inner.Key.{words}
+use Rattle.homeo_desugar.specs.inner.Key.{definitions}
 use Rattle.homeo_desugar.specs.inner.Made.{plain_target}
 use Rattle.homeo_desugar.specs.inner.Settings.{setting}
 use Rattle.homeo_desugar.proofs.Forms.{stored_lifted, values_step, values_end, within_none, within_push}
@@ -22,7 +22,7 @@ loop-value-init c =
     }
 
 pub loop-value-preserved : goal.loop-value-preserved
-unfolding words
+unfolding definitions
 loop-value-preserved c =
     let x = setting c.args.frame.now in
     let ds = map declared_range c.args.fields.now in

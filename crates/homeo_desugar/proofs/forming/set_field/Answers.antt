@@ -9,7 +9,7 @@ use Rattle.homeo_syntax.specs.LowView.{plain_lexpr, plain_lcommand}
 use Rattle.homeo_syntax.specs.declared.low.LCommand.{LCommand}
 use Rattle.homeo_syntax.specs.declared.list.Memory.{Memory}
 use Rattle.homeo_syntax.proofs.LowViews.{low_Skip}
-use Rattle.homeo_meaning.specs.Key.{words as meaning_words}
+use Rattle.homeo_meaning.specs.Key.{definitions as meaning_definitions}
 use Rattle.homeo_meaning.specs.Schema.{declared_range}
 use Rattle.homeo_meaning.specs.Context.{Spot, Slot, spot, slot_at}
 use Rattle.homeo_meaning.specs.LForm.{Lifted, lift, within, write_at, write_indexed, write_chain}
@@ -29,7 +29,7 @@ cell-requires c =
     numbered_fits c.args.slots c.field-field.result.place c.in-Some-at.slot c.requires.slots (at_numbered c.args.slots _ c.at.result c.in-Some-at.slot c.at.ensures c.in-Some-at.is) c.field-field.ensures.within
 
 pub returns-in-Some : goal.returns-in-Some
-unfolding meaning_words
+unfolding meaning_definitions
 returns-in-Some c =
     let x = setting c.args.frame.now in
     let n = c.args.next.now in

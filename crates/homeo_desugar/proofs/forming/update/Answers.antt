@@ -6,7 +6,7 @@ use Rattle.homeo_syntax.specs.LowView.{plain_lcond, plain_lcommand}
 use Rattle.homeo_syntax.proofs.LowViews.{low_Seq}
 use Rattle.homeo_meaning.specs.Context.{Slot, bind}
 use Rattle.homeo_meaning.specs.LForm.{Lifted, visits, lift_cond}
-use Rattle.homeo_desugar.specs.inner.Key.{words}
+use Rattle.homeo_desugar.specs.inner.Key.{definitions}
 use Rattle.homeo_desugar.specs.inner.Settings.{setting, plain_slot, plain_slots, Fits}
 use Rattle.homeo_desugar.specs.inner.Visits.{updating}
 use Rattle.homeo_desugar.proofs.Forms.{loop_formed, or_skip, field_in}
@@ -32,7 +32,7 @@ pub write_field-requires-clause-low : goal.write_field-requires-clause-low
 write_field-requires-clause-low c = slot_is_low c.args.slots c.loop-number.number c.slot-slot.result c.loop-number-test.true c.requires.slots c.slot-slot.ensures
 
 pub loop-number-preserved : goal.loop-number-preserved
-unfolding words
+unfolding definitions
 loop-number-preserved c =
     let x = setting c.args.frame.now in
     let inner = setting c.bind-inner.result in
@@ -45,7 +45,7 @@ loop-number-preserved c =
     visit_step x inner c.args.row c.loop-number.number (plain_cond c.args.test.now) (updating x c.args.row c.args.name value) c.args.slots c.slot-slot.result c.from-out.result c.loop-number.out mid c.push.new.self test (plain_lcommand c.in_ok-write.write) _ _ c.loop-number-test.true c.slot-slot.ensures c.bind-inner.ensures c.in_ok-test.ensures formed.command (c.in_ok-push.ensures.next ∙ formed.next) choice c.in_ok-push.ensures.pushed c.loop-number.invariant
 
 pub returns : goal.returns
-unfolding words
+unfolding definitions
 returns c =
     let x = setting c.args.frame.now in
     let tests : Slot → ℕ → Lifted L.Cond = λ slot. lift_cond (bind x c.args.row slot) (plain_cond c.args.test.now) in

@@ -2,7 +2,7 @@
 use Rattle.std.proofs.Common.{◌∷◌, [], ◌++◌, map, w64, pos, None, Some, rules, refl, sym, ap, ◌∙◌, subst}
 use Rattle.std.proofs.lemmas.Int.{to_z-of_z}
 use Rattle.std.proofs.lemmas.Result.{IfOk-weaker}
-use Rattle.homeo_syntax.specs.Key.{words as tree_words}
+use Rattle.homeo_syntax.specs.Key.{definitions as syntax_definitions}
 use Rattle.homeo_syntax.specs.Source as s
 use Rattle.homeo_syntax.specs.Low as L
 use Rattle.homeo_syntax.specs.SourceView.{exprs, tests, plain_expr, plain_test, plain_cond}
@@ -11,15 +11,15 @@ use Rattle.homeo_syntax.specs.declared.low.Temp.TheVariants as temp
 use Rattle.homeo_syntax.specs.declared.phrase.Expr.{the_lemmas}
 use Rattle.homeo_syntax.proofs.SourceViews.{plain_Literal, plain_Name, plain_Read, plain_Sum, plain_Product, plain_Neg, plain_Field, plain_Row, plain_Count, plain_Total, plain_True, plain_Not, plain_Compare, plain_conjunction}
 use Rattle.homeo_syntax.proofs.LowViews.{low_Literal, low_Sum, low_Product, low_Neg, low_True, low_Not, low_Compare, low_conjunction_of, low_Assign, low_Skip}
-use Rattle.homeo_meaning.specs.Key.{words as meaning_words}
+use Rattle.homeo_meaning.specs.Key.{definitions as meaning_definitions}
 use Rattle.homeo_meaning.specs.Schema.{declared_range}
 use Rattle.homeo_meaning.specs.Context.{spot, field_cell, bind, slots, fields}
 use Rattle.homeo_meaning.specs.LForm.{read, equal, plain, lift, lift_all, lift_cond}
-use Rattle.homeo_desugar.specs.inner.Key.{words}
+use Rattle.homeo_desugar.specs.inner.Key.{definitions}
 use Rattle.homeo_desugar.specs.inner.Made.{both_tests}
 use Rattle.homeo_desugar.specs.inner.Settings.{setting, plain_slot, plain_slots, IsLow, Fits}
 use Rattle.homeo_desugar.specs.inner.Visits.{adding, added, term_of}
-use Rattle.homeo_desugar.proofs.Makings.{Leaves, both_exprs, lifted_plain, lifted_mapped, lifted_joined, expr_lifted, test_lifted, cond_lifted, visit_lifted, exprs_step, exprs_past, exprs_end, tests_step, tests_past, conds_end, pushed_after, visits_begin, visit_step, visits_done, counted_lifted, counted_as, indexed_lifted, indexed_as}
+use Rattle.homeo_desugar.proofs.Makings.{Leaves, both_exprs, lifted_plain, lifted_mapped, lifted_combined, expr_lifted, test_lifted, cond_lifted, visit_lifted, exprs_step, exprs_past, exprs_end, tests_step, tests_past, conds_end, pushed_after, visits_begin, visit_step, visits_done, counted_lifted, counted_as, indexed_lifted, indexed_as}
 use Rattle.homeo_desugar.proofs.Rows.{bind_fits}
 use Rattle.homeo_desugar.proofs.SlotLists.{low_used, slot_is_low}
 use Rattle.homeo_desugar.proofs.lifting.+phrases.Goals as goal
@@ -36,7 +36,7 @@ pub add_slots-term-requires : goal.add_slots-term-requires
 add_slots-term-requires t c = record { low = slot_is_low c.args.slots c.loop-number.number c.slot-slot.result c.loop-number-test.true c.requires.slots c.slot-slot.ensures }
 
 pub add_slots-loop-number-preserved : goal.add_slots-loop-number-preserved
-unfolding words
+unfolding definitions
 add_slots-loop-number-preserved t c =
     let yes = c.in_ok-add.ensures ∙ ap (added c.args.total) c.term.ensures in
     let choice = c.in_ok-choice.ensures ∙ ap (L.If (plain_lcond c.in_ok-test.test) (plain_lcommand c.in_ok-add.add)) low_Skip in
@@ -46,7 +46,7 @@ pub add_slots-returns : goal.add_slots-returns
 add_slots-returns t c = visits_done _ _ _ _ c.args.slots c.loop-number.number c.args.out.now c.loop-number.out _ c.loop-number-test.false c.loop-number.invariant
 
 pub counted-returns : goal.counted-returns
-unfolding words
+unfolding definitions
 counted-returns t c =
     let first = low_Assign _ _ ∙ ap (L.Assign (temp.Fresh c.in_ok-total.total)) (low_Literal (pos 0)) in
     let pushed = pushed_after c.args.out.now c.fresh.new.self c.push.new.self _ c.in_ok-total.ensures.commands c.in_ok-push.ensures.pushed in
@@ -56,42 +56,42 @@ pub lift-field_cell-requires : goal.lift-field_cell-requires
 lift-field_cell-requires t c = low_used c.row.result (subst IsLow (sym c.row.ensures) (c.requires.fits.rows c.in-Row.row.name))
 
 pub lift-returns-in-Literal : goal.lift-returns-in-Literal
-unfolding meaning_words
+unfolding meaning_definitions
 lift-returns-in-Literal t c =
     let kept = to_z-of_z w64 c.in-Literal.n (search rules) in
     expr_lifted (setting c.args.frame.now) c.args.out.now c.args.out.now c.args.e.now (s.Literal c.in-Literal.n) _ (ap plain_expr c.in-Literal.is ∙ plain_Literal c.in-Literal.n) (lifted_plain c.args.out.now (L.Literal c.in-Literal.n) _ (low_Literal _ ∙ ap L.Literal kept))
 
 pub lift-returns-in-Name : goal.lift-returns-in-Name
-unfolding meaning_words
+unfolding meaning_definitions
 lift-returns-in-Name t c =
     expr_lifted (setting c.args.frame.now) c.args.out.now c.args.out.now c.args.e.now (s.Name c.in-Name.x) _ (ap plain_expr c.in-Name.is ∙ plain_Name c.in-Name.x) (lifted_plain c.args.out.now _ _ c.name.ensures)
 
 pub lift-returns-in-Read : goal.lift-returns-in-Read
-unfolding words meaning_words
+unfolding definitions meaning_definitions
 lift-returns-in-Read t c =
     expr_lifted (setting c.args.frame.now) c.args.out.now c.args.out.now c.args.e.now (s.Read c.in-Read.x) _ (ap plain_expr c.in-Read.is ∙ plain_Read c.in-Read.x) (lifted_plain c.args.out.now _ _ (c.read.ensures ∙ ap (λ b. read b.place) c.object.ensures))
 
 pub lift-returns-in_ok-terms-in-Sum : goal.lift-returns-in_ok-terms-in-Sum
-unfolding meaning_words
+unfolding meaning_definitions
 lift-returns-in_ok-terms-in-Sum t c =
     let seen = ap plain_expr c.in-Sum.is ∙ plain_Sum c.in-Sum.es ∙ sym (ap (λ l. s.Sum (exprs (map plain_expr l))) c.as_slice.ensures) in
     expr_lifted (setting c.args.frame.now) c.args.out.now c.lift_all.new.out c.args.e.now _ _ seen (lifted_mapped L.Sum c.args.out.now c.lift_all.new.out _ _ _ (low_Sum c.in_ok-terms-in-Sum.terms) c.in_ok-terms-in-Sum.ensures)
 
 pub lift-returns-in_ok-factors-in-Product : goal.lift-returns-in_ok-factors-in-Product
-unfolding meaning_words
+unfolding meaning_definitions
 lift-returns-in_ok-factors-in-Product t c =
     let seen = ap plain_expr c.in-Product.is ∙ plain_Product c.in-Product.es ∙ sym (ap (λ l. s.Product (exprs (map plain_expr l))) c.as_slice-in-Product.ensures) in
     expr_lifted (setting c.args.frame.now) c.args.out.now c.lift_all-in-Product.new.out c.args.e.now _ _ seen (lifted_mapped L.Product c.args.out.now c.lift_all-in-Product.new.out _ _ _ (low_Product c.in_ok-factors-in-Product.factors) c.in_ok-factors-in-Product.ensures)
 
 pub lift-returns-in_ok-new-in-Neg : goal.lift-returns-in_ok-new-in-Neg
-unfolding meaning_words
+unfolding meaning_definitions
 lift-returns-in_ok-new-in-Neg t c =
     let seen = ap plain_expr c.in-Neg.is ∙ plain_Neg c.in-Neg.inner ∙ sym (ap (λ e. s.Neg (plain_expr e)) c.deref.ensures) in
     let made = low_Neg c.in_ok-new-in-Neg.field-0 ∙ ap (λ e. L.Neg (plain_lexpr e)) c.in_ok-new-in-Neg.ensures.ok in
     expr_lifted (setting c.args.frame.now) c.args.out.now c.lift.new.out c.args.e.now _ _ seen (lifted_mapped L.Neg c.args.out.now c.lift.new.out _ _ _ made c.in_ok-inner-in-Neg.ensures)
 
 pub lift-returns-in_ok-index-in-Field : goal.lift-returns-in_ok-index-in-Field
-unfolding meaning_words
+unfolding meaning_definitions
 lift-returns-in_ok-index-in-Field t c =
     let x = setting c.args.frame.now in
     let q = c.in-Field.relation in
@@ -107,12 +107,12 @@ lift-returns-in_ok-index-in-Field t c =
     c.indexed.ensures
 
 pub lift-returns-in-Row : goal.lift-returns-in-Row
-unfolding meaning_words
+unfolding meaning_definitions
 lift-returns-in-Row t c =
     expr_lifted (setting c.args.frame.now) c.args.out.now c.args.out.now c.args.e.now (s.Row c.in-Row.row c.in-Row.field) _ (ap plain_expr c.in-Row.is ∙ plain_Row c.in-Row.row c.in-Row.field) (lifted_plain c.args.out.now _ _ (c.read-in-Row.ensures ∙ ap read (c.field_cell.ensures ∙ ap (λ r. field_cell r c.in-Row.field.name) c.row.ensures)))
 
 pub lift-returns-in-Count : goal.lift-returns-in-Count
-unfolding words meaning_words
+unfolding definitions meaning_definitions
 lift-returns-in-Count t c =
     let x = setting c.args.frame.now in
     let row = c.in-Count.row in
@@ -124,7 +124,7 @@ lift-returns-in-Count t c =
     c.counted.ensures
 
 pub lift-returns-in-Total : goal.lift-returns-in-Total
-unfolding words meaning_words
+unfolding definitions meaning_definitions
 lift-returns-in-Total t c =
     let x = setting c.args.frame.now in
     let row = c.in-Total.row in
@@ -137,7 +137,7 @@ lift-returns-in-Total t c =
     c.counted-in-Total.ensures
 
 pub lift_all-loop-e-init : goal.lift_all-loop-e-init
-unfolding tree_words
+unfolding syntax_definitions
 lift_all-loop-e-init t c =
     let whole = lift_all (setting c.args.frame.now) (exprs (map plain_expr c.args.es.now)) c.args.out.now.next in
     record {
@@ -158,31 +158,31 @@ lift_all-returns t c =
     exprs_end c.args.out.now c.loop-e.out here whole (subst (λ rest. Leaves c.args.out.now c.loop-e.out L.NoExpr here both_exprs rest whole) (exprs_past x c.args.es.now c.loop-e.e-index c.loop-e.out.next c.loop-e-test.false) c.loop-e.invariant)
 
 pub lift_cond-returns : goal.lift_cond-returns
-unfolding tree_words
+unfolding syntax_definitions
 lift_cond-returns t c =
     let seen = plain_conjunction c.args.c.now ∙ sym (ap (λ l. tests (map plain_test l)) c.as_slice.ensures) in
     let none = ap (λ l. low_tests (map plain_ltest l.items)) c.new-lifted.ensures in
     cond_lifted (setting c.args.frame.now) c.args.out.now c.lift_tests.new.out (plain_cond c.args.c.now) _ _ _ _ seen none (low_conjunction_of c.lift_tests.new.lifted) c.in_ok-lift_tests.ensures
 
 pub lift_test-returns-in-True : goal.lift_test-returns-in-True
-unfolding meaning_words
+unfolding meaning_definitions
 lift_test-returns-in-True t c =
     test_lifted (setting c.args.frame.now) c.args.out.now c.args.out.now c.args.t.now s.True _ (ap plain_test c.in-True.is ∙ plain_True) (lifted_plain c.args.out.now L.True _ low_True)
 
 pub lift_test-returns-in_ok-inner-in-Not : goal.lift_test-returns-in_ok-inner-in-Not
-unfolding meaning_words
+unfolding meaning_definitions
 lift_test-returns-in_ok-inner-in-Not t c =
     test_lifted (setting c.args.frame.now) c.args.out.now c.lift_cond.new.out c.args.t.now (s.Not (plain_cond c.in-Not.c)) _ (ap plain_test c.in-Not.is ∙ plain_Not c.in-Not.c) (lifted_mapped L.Not c.args.out.now c.lift_cond.new.out _ _ _ (low_Not c.in_ok-inner-in-Not.inner) c.in_ok-inner-in-Not.ensures)
 
 pub lift_test-returns-in_ok-right-in-Compare : goal.lift_test-returns-in_ok-right-in-Compare
-unfolding meaning_words
+unfolding meaning_definitions
 lift_test-returns-in_ok-right-in-Compare t c =
     let x = setting c.args.frame.now in
     let op = c.in-Compare.op in
     let a = plain_expr c.in-Compare.left in
     let b = plain_expr c.in-Compare.right in
     let old = c.args.out.now in
-    test_lifted x old c.lift-in-Compare.new.out c.args.t.now (s.Comparison op a b) _ (ap plain_test c.in-Compare.is ∙ plain_Compare op c.in-Compare.left c.in-Compare.right) (lifted_joined (L.Comparison op) old c.lift.new.out c.lift-in-Compare.new.out (lift x a old.next) (lift x b) _ _ _ (low_Compare op c.in_ok-left-in-Compare.left c.in_ok-right-in-Compare.right) c.in_ok-left-in-Compare.ensures c.in_ok-right-in-Compare.ensures)
+    test_lifted x old c.lift-in-Compare.new.out c.args.t.now (s.Comparison op a b) _ (ap plain_test c.in-Compare.is ∙ plain_Compare op c.in-Compare.left c.in-Compare.right) (lifted_combined (L.Comparison op) old c.lift.new.out c.lift-in-Compare.new.out (lift x a old.next) (lift x b) _ _ _ (low_Compare op c.in_ok-left-in-Compare.left c.in_ok-right-in-Compare.right) c.in_ok-left-in-Compare.ensures c.in_ok-right-in-Compare.ensures)
 
 pub lift_tests-loop-t-preserved : goal.lift_tests-loop-t-preserved
 lift_tests-loop-t-preserved t c =
@@ -197,7 +197,7 @@ lift_tests-returns t c =
     conds_end c.args.out.now c.loop-t.out before here whole (subst (λ rest. Leaves c.args.out.now c.loop-t.out before here both_tests rest whole) (tests_past x c.args.ts.now c.loop-t.t-index c.loop-t.out.next c.loop-t-test.false) c.loop-t.invariant)
 
 pub lift_visit-returns : goal.lift_visit-returns
-unfolding tree_words words
+unfolding syntax_definitions definitions
 lift_visit-returns t c =
     let seen = plain_conjunction c.args.c.now ∙ sym (ap (λ l. tests (map plain_test l)) c.as_slice.ensures) in
     let used = ap (λ l. low_tests (map plain_ltest l.items)) c.in_ok-push.ensures.ok ∙ ap (λ l. low_tests (map plain_ltest (l.items ++ c.equal.result ∷ []))) c.new-lifted.ensures ∙ ap (λ u. L.MoreTest u L.NoTest) (c.equal.ensures ∙ ap (λ e. equal e (pos 1)) c.read.ensures) in

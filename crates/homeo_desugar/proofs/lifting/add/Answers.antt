@@ -1,15 +1,15 @@
 -- The sum has two terms.
 use Rattle.std.proofs.Common.{map, [], ◌∷◌, ◌++◌, ap, ◌∙◌}
-use Rattle.homeo_syntax.specs.Key.{words as tree_words}
+use Rattle.homeo_syntax.specs.Key.{definitions as syntax_definitions}
 use Rattle.homeo_syntax.specs.Low as L
 use Rattle.homeo_syntax.specs.LowView.{low_exprs, plain_lexpr}
 use Rattle.homeo_syntax.specs.declared.low.Temp.TheVariants as temp
 use Rattle.homeo_syntax.proofs.LowViews.{low_Assign, low_Sum}
-use Rattle.homeo_desugar.specs.inner.Key.{words}
+use Rattle.homeo_desugar.specs.inner.Key.{definitions}
 use Rattle.homeo_desugar.proofs.lifting.add.Goals as goal
 
 pub returns : goal.returns
-unfolding words tree_words
+unfolding definitions syntax_definitions
 returns c =
     low_Assign _ _
     ∙ ap (L.Assign (temp.Fresh c.args.total)) (

@@ -4,11 +4,11 @@ use Rattle.std.specs.Prelude.{option_map}
 use Rattle.std.proofs.lemmas.Int.{to_z-of_z}
 use Rattle.homeo_syntax.specs.LowView.{plain_lexpr, plain_lcommand}
 use Rattle.homeo_syntax.proofs.LowViews.{low_Literal}
-use Rattle.homeo_meaning.specs.Key.{words as meaning_words}
+use Rattle.homeo_meaning.specs.Key.{definitions as meaning_definitions}
 use Rattle.homeo_meaning.specs.Schema.{declared_range}
 use Rattle.homeo_meaning.specs.Context.{cell, slot_at, spot}
 use Rattle.homeo_meaning.specs.LForm.{read, fresh, read_slot, read_chain}
-use Rattle.homeo_desugar.specs.inner.Key.{words}
+use Rattle.homeo_desugar.specs.inner.Key.{definitions}
 use Rattle.homeo_desugar.specs.inner.Settings.{plain_slot, plain_slots}
 use Rattle.homeo_desugar.proofs.Makings.{indexed_literal, indexed_chain, pushed_after}
 use Rattle.homeo_desugar.proofs.SlotLists.{at_numbered, numbered_fits}
@@ -20,7 +20,7 @@ cell-requires c =
     numbered_fits c.args.slots c.field-field.result.place c.in-Some-at.slot c.requires.slots (at_numbered c.args.slots _ c.at.result c.in-Some-at.slot c.at.ensures c.in-Some-at.is) c.field-field.ensures.within
 
 pub returns-in-Some : goal.returns-in-Some
-unfolding meaning_words
+unfolding meaning_definitions
 returns-in-Some c =
     let f = spot (map declared_range c.args.slots.fields.now) c.args.name in
     let all = plain_slots c.args.slots in
@@ -29,7 +29,7 @@ returns-in-Some c =
     indexed_literal c.args.out.now all f (plain_lexpr c.args.index) (plain_lexpr c.match-at.result) c.in-Some.number (sym c.in-Some.is ∙ c.literal_of.ensures) (elim c.match-at.branch [ in-Some-at w ↦ ap plain_lexpr w.result-is ∙ w.read.ensures ∙ ap read (w.cell.ensures ∙ ap (cell (plain_slot w.in-Some-at.slot)) c.field-field.ensures.is) ∙ ap (read_slot f) (sym (ap (option_map plain_slot) w.in-Some-at.is) ∙ found) | in-None w ↦ ap plain_lexpr w.result-is ∙ low_Literal (pos 0) ∙ ap (read_slot f) (sym (ap (option_map plain_slot) w.in-None.is) ∙ found) ])
 
 pub returns : goal.returns
-unfolding words
+unfolding definitions
 returns c =
     let f = spot (map declared_range c.args.slots.fields.now) c.args.name in
     let all = plain_slots c.args.slots in

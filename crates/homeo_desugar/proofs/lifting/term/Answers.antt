@@ -2,7 +2,7 @@
 use Rattle.std.proofs.Common.{pos, sym, ap, ◌∙◌}
 use Rattle.homeo_syntax.proofs.LowViews.{low_Literal}
 use Rattle.homeo_meaning.specs.LForm.{read}
-use Rattle.homeo_desugar.specs.inner.Key.{words}
+use Rattle.homeo_desugar.specs.inner.Key.{definitions}
 use Rattle.homeo_desugar.specs.inner.Settings.{plain_slot}
 use Rattle.homeo_desugar.specs.inner.Visits.{term_of}
 use Rattle.homeo_desugar.proofs.SlotLists.{low_used}
@@ -12,9 +12,9 @@ pub field_cell-requires : goal.field_cell-requires
 field_cell-requires c = low_used c.args.slot c.requires.low
 
 pub returns-in-Some : goal.returns-in-Some
-unfolding words
+unfolding definitions
 returns-in-Some c = c.read.ensures ∙ ap read c.field_cell.ensures ∙ sym (ap (λ f. term_of f (plain_slot c.args.slot)) c.in-Some.is)
 
 pub returns-in-None : goal.returns-in-None
-unfolding words
+unfolding definitions
 returns-in-None c = low_Literal (pos 1) ∙ sym (ap (λ f. term_of f (plain_slot c.args.slot)) c.in-None.is)

@@ -6,13 +6,13 @@ use Rattle.homeo_syntax.specs.Low.{Comparison}
 use Rattle.homeo_syntax.specs.declared.low.LExpr as code
 use Rattle.homeo_syntax.specs.declared.phrase.Compare.TheVariants as compare
 use Rattle.homeo_syntax.proofs.LowViews.{low_Literal}
-use Rattle.homeo_desugar.specs.inner.Key.{words}
+use Rattle.homeo_desugar.specs.inner.Key.{definitions}
 use Rattle.homeo_desugar.specs.inner.Settings.{plain_spot}
 use Rattle.homeo_desugar.proofs.Makings.{within_push}
 use Rattle.homeo_desugar.proofs.making.push_within.Goals as goal
 
 pub returns : goal.returns
-unfolding words
+unfolding definitions
 returns c =
     let above = c.at_most-above.ensures ∙ (λ i. Comparison compare.LessEqual ((ap plain_lexpr (ap code.Literal (to_z-of_z w64 c.args.bounds.lo (search rules))) ∙ low_Literal c.args.bounds.lo) i) (c.in_ok-copy.ensures i)) in
     let below = c.at_most-below.ensures ∙ (λ i. Comparison compare.LessEqual (c.in_ok-copy-2.ensures i) ((ap plain_lexpr (ap code.Literal (to_z-of_z w64 c.args.bounds.hi (search rules))) ∙ low_Literal c.args.bounds.hi) i)) in

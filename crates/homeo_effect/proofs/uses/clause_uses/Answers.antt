@@ -1,12 +1,12 @@
 -- One more clause.
 use Rattle.std.proofs.Common.{◌+◌, map, refl, ap}
-use Rattle.homeo_effect.specs.Key.{words}
+use Rattle.homeo_effect.specs.Key.{definitions}
 use Rattle.homeo_effect.specs.inner.Uses.{has, at_object}
 use Rattle.homeo_effect.proofs.Keeping.{clause_kept}
 use Rattle.homeo_effect.proofs.uses.clause_uses.Goals as goal
 
 pub loop-clause-init : goal.loop-clause-init
-unfolding words
+unfolding definitions
 loop-clause-init c = record { number = refl; keeps = λ x n. ap (λ us. has n (at_object x (map (λ v. v.items) us))) c.new-uses.ensures.items }
 
 pub loop-clause-preserved : goal.loop-clause-preserved

@@ -2,14 +2,14 @@
 use Rattle.std.proofs.Common.{◌≡◌, ◌==◌, ℕ, false, List, map, get_or, refl, ap, ◌∙◌, arith}
 use Rattle.std.proofs.lemmas.Bool.Decides.{nat_tests}
 use Rattle.homeo_plan.specs.declared.forms.Delta.{Delta}
-use Rattle.homeo_effect.specs.Key.{words}
+use Rattle.homeo_effect.specs.Key.{definitions}
 use Rattle.homeo_effect.specs.inner.Uses.{has, at_object}
 use Rattle.homeo_effect.proofs.Keeping.{freeze_kept, freeze_skipped}
 use Rattle.homeo_effect.proofs.uses.freeze_uses.Goals.{then-freeze-site+in_ok-note, else-freeze-site}
 use Rattle.homeo_effect.proofs.uses.freeze_uses.Goals as goal
 
 pub loop-freeze-init : goal.loop-freeze-init
-unfolding words
+unfolding definitions
 loop-freeze-init c =
     record { number = omega arith; keeps = λ x n. ap (λ us. has n (at_object x (map (λ v. v.items) us))) c.new-uses.ensures.items }
 

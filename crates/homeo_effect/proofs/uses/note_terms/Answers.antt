@@ -2,14 +2,14 @@
 use Rattle.std.proofs.Common.{◌≡◌, ℕ, ◌==◌, false, List, map, get_or, pos, refl, ap, ◌∙◌, arith}
 use Rattle.std.proofs.lemmas.Bool.Decides.{nat_tests}
 use Rattle.homeo_plan.specs.declared.forms.Term.{Term}
-use Rattle.homeo_effect.specs.Key.{words}
+use Rattle.homeo_effect.specs.Key.{definitions}
 use Rattle.homeo_effect.specs.inner.Uses.{has, at_object}
 use Rattle.homeo_effect.proofs.Noting.{terms_none, term_noted, term_skipped}
 use Rattle.homeo_effect.proofs.uses.note_terms.Goals.{then-term-site+in_ok-note, else-term-site}
 use Rattle.homeo_effect.proofs.uses.note_terms.Goals as goal
 
 pub loop-term-init : goal.loop-term-init
-unfolding words
+unfolding definitions
 loop-term-init c x n = terms_none (has n (at_object x (map (λ v. v.items) c.args.uses.now.items))) (n == c.args.number)
 
 -- the term that is read

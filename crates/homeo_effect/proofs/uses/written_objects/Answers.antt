@@ -2,9 +2,9 @@
 use Rattle.std.proofs.Common.{◌==◌, map, sym, ap, ◌∙◌}
 use Rattle.std.proofs.lemmas.List.Filters.{dedup_is}
 use Rattle.std.proofs.lemmas.List.Sorted.{list_any-IsPermutation}
-use Rattle.homeo_syntax.specs.Key.{words as tree_words}
+use Rattle.homeo_syntax.specs.Key.{definitions as syntax_definitions}
 use Rattle.homeo_syntax.specs.LowView.{low_commands, plain_lcommand}
-use Rattle.homeo_effect.specs.Key.{words}
+use Rattle.homeo_effect.specs.Key.{definitions}
 use Rattle.homeo_effect.specs.Touched.{written}
 use Rattle.homeo_effect.specs.inner.Uses.{has, objects_of}
 use Rattle.homeo_effect.proofs.Keeping.{objects_more, all_taken}
@@ -12,7 +12,7 @@ use Rattle.homeo_effect.proofs.RisingNumbers.{kept}
 use Rattle.homeo_effect.proofs.uses.written_objects.Goals as goal
 
 pub loop-c-init : goal.loop-c-init
-unfolding words tree_words
+unfolding definitions syntax_definitions
 loop-c-init c = c.new-objects.ensures.items
 
 pub loop-c-preserved : goal.loop-c-preserved

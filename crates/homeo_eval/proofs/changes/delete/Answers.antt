@@ -1,6 +1,6 @@
 use Rattle.std.proofs.Common.{◌≡◌, true, pos, ◌&&◌, length, refl, sym, ap, subst, ◌∙◌}
 use Rattle.homeo_syntax.specs.SourceView.{plain_cond}
-use Rattle.homeo_meaning.specs.Key.{words}
+use Rattle.homeo_meaning.specs.Key.{definitions}
 use Rattle.homeo_meaning.specs.Acceptance.{weight_limit}
 use Rattle.homeo_meaning.specs.Context.{Slot, bind}
 use Rattle.homeo_meaning.specs.Meaning.{done, is_used, holds, visit, set_object}
@@ -37,7 +37,7 @@ is_visited-requires c =
     ap (λ z. cond_fits weight_limit (bind x c.args.row z) d s) slot ∙ step.tested
 
 pub loop-number-preserved : goal.loop-number-preserved
-unfolding words
+unfolding definitions
 loop-number-preserved c =
     let x = plain_context c.args.context.now in
     let t = c.relation-slots.result in

@@ -1,6 +1,6 @@
 use Rattle.std.proofs.Common.{rules, ◌≡◌, length, Some, sym, ap, ◌∙◌}
 use Rattle.homeo_syntax.specs.SourceView.{plain_expr}
-use Rattle.homeo_meaning.specs.Key.{words}
+use Rattle.homeo_meaning.specs.Key.{definitions}
 use Rattle.homeo_meaning.specs.Acceptance.{weight_limit}
 use Rattle.homeo_meaning.specs.Context.{spot, slots, fields, slot_at}
 use Rattle.homeo_meaning.specs.Meaning.{value}
@@ -13,7 +13,7 @@ use Rattle.homeo_meaning.proofs.Numbers.{kept_is}
 use Rattle.homeo_eval.proofs.changes.set_field.Goals as goal
 
 pub returns-then-slots-eq0-clause-set : goal.returns-then-slots-eq0-clause-set
-unfolding words
+unfolding definitions
 returns-then-slots-eq0-clause-set c =
     let x = plain_context c.args.context.now in
     let s = state_of c.args.state.now in
@@ -36,7 +36,7 @@ value-v-requires c =
     slot_fits_value i all (plain_slot c.in-Some.slot) (expr_fits weight_limit x (plain_expr c.args.e.now) s) found c.requires.value
 
 pub write_field-requires : goal.write_field-requires
-unfolding words
+unfolding definitions
 write_field-requires c =
     let x = plain_context c.args.context.now in
     let s = state_of c.args.state.now in
@@ -47,7 +47,7 @@ write_field-requires c =
     at_zero x c.args.relation c.in-Some.slot c.field.result c.args.field (length c.args.state.now.database.items) (c.field.ensures ∙ ap (λ ds. spot ds c.args.field) c.relation-slots.ensures.fields) (at_fits x c.args.relation i (plain_slot c.in-Some.slot) found) c.requires.serves.places
 
 pub returns-in-Some-clause-set : goal.returns-in-Some-clause-set
-unfolding words
+unfolding definitions
 returns-in-Some-clause-set c =
     let x = plain_context c.args.context.now in
     let s = state_of c.args.state.now in
@@ -59,7 +59,7 @@ returns-in-Some-clause-set c =
     ∙ slot_written s (plain_spot c.field.result) (spot (fields x c.args.relation) c.args.field) (plain_slot c.in-Some.slot) (slot_at i all) (value x (plain_expr c.args.e.now) s) _ (c.field.ensures ∙ ap (λ ds. spot ds c.args.field) c.relation-slots.ensures.fields) found (kept_is c.value-v.result _ (search rules) c.value-v.ensures)
 
 pub returns-in_default-clause-set : goal.returns-in_default-clause-set
-unfolding words
+unfolding definitions
 returns-in_default-clause-set c =
     let x = plain_context c.args.context.now in
     let s = state_of c.args.state.now in

@@ -1,6 +1,6 @@
 use Rattle.std.proofs.Common.{rules, ◌≡◌, true, ◌&&◌, length, refl, sym, ap, subst, ◌∙◌}
 use Rattle.homeo_syntax.specs.SourceView.{plain_cond, plain_expr}
-use Rattle.homeo_meaning.specs.Key.{words}
+use Rattle.homeo_meaning.specs.Key.{definitions}
 use Rattle.homeo_meaning.specs.Acceptance.{weight_limit}
 use Rattle.homeo_meaning.specs.Context.{bind}
 use Rattle.homeo_meaning.specs.Meaning.{done, is_used, holds, value, visit}
@@ -50,7 +50,7 @@ value_at-v-requires c =
     ap (λ z. expr_fits weight_limit (bind x c.args.row z) (plain_expr c.args.e.now) s) slot ∙ step.fits
 
 pub write_field-requires : goal.write_field-requires
-unfolding words
+unfolding definitions
 write_field-requires c =
     let x = plain_context c.args.context.now in
     let t = c.relation-slots.result in
@@ -62,7 +62,7 @@ write_field-requires c =
     each_zero x c.args.relation t i c.slot-slot.result c.field-place.result c.args.field (length c.loop-number.state.database.items) c.relation-slots.ensures.slots c.loop-number-test.true slot c.field-place.ensures (c.loop-number.invariant.places ∙ c.requires.serves.places)
 
 pub loop-number-preserved : goal.loop-number-preserved
-unfolding words
+unfolding definitions
 loop-number-preserved c =
     let x = plain_context c.args.context.now in
     let t = c.relation-slots.result in

@@ -2,7 +2,7 @@ use Rattle.std.proofs.Common.{rules, arith, ◌≡◌, true, false, ◌&&◌, ma
 use Rattle.homeo_syntax.specs.SourceView.{commands, plain_command, plain_cond, plain_expr}
 use Rattle.homeo_syntax.specs.declared.command.Command.TheViews.{the_lemmas}
 use Rattle.homeo_syntax.proofs.SourceViews.{command_views, plain_Foreach, plain_Delete, plain_Update}
-use Rattle.homeo_meaning.specs.Key.{words}
+use Rattle.homeo_meaning.specs.Key.{definitions}
 use Rattle.homeo_meaning.specs.Acceptance.{weight_limit}
 use Rattle.homeo_meaning.specs.Bounds.{all_bounds}
 use Rattle.homeo_meaning.specs.Context.{bind, fields, slots}
@@ -62,7 +62,7 @@ foreach-run_all-requires t c =
     (search (rules, the_lemmas), (record { places = places; rows = rows }, (λ j. can_run_all weight_limit (inner j) (commands (map plain_command (c.as_slice.ensures j))) s) ∙ step.fits))
 
 pub foreach-loop-number-preserved : goal.foreach-loop-number-preserved
-unfolding words
+unfolding definitions
 foreach-loop-number-preserved t c =
     let x = plain_context c.args.context.now in
     let r = c.relation-slots.result in
@@ -160,7 +160,7 @@ run_all-returns-then-branch-clause-run t c =
     ∙ c.loop-c.invariant.left
 
 pub foreach-returns-then-branch-clause-run : goal.foreach-returns-then-branch-clause-run
-unfolding words
+unfolding definitions
 foreach-returns-then-branch-clause-run t c =
     let x = plain_context c.args.context.now in
     let r = c.relation-slots.result in

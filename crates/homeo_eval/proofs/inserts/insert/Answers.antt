@@ -2,7 +2,7 @@ use Rattle.std.proofs.Common.{◌≡◌, suc, ◌<◌, ◌^◌, pos, map, length
 use Rattle.std.proofs.lemmas.Int.{ints}
 use Rattle.std.specs.Prelude.{OnOk}
 use Rattle.homeo_syntax.specs.SourceView.{plain_field}
-use Rattle.homeo_meaning.specs.Key.{words}
+use Rattle.homeo_meaning.specs.Key.{definitions}
 use Rattle.homeo_meaning.specs.Context.{slots, fields, first_where}
 use Rattle.homeo_meaning.specs.Meaning.{settings, is_free, are_within, set_fields, set_object, set_temp}
 use Rattle.homeo_context.specs.Contexts.{plain_context}
@@ -26,7 +26,7 @@ returns-then-not-are_within-clause-set c =
     subst (λ u. OnOk c.assign.result (state_of c.assign.new.self ≡ u)) (insert_refused all (settings x (fields x c.args.relation) fs s) gs c.args.target s same within) c.assign.ensures.set
 
 pub set_fields-requires : goal.set_fields-requires
-unfolding words
+unfolding definitions
 set_fields-requires c =
     let x = plain_context c.args.context.now in
     let s = state_of c.args.state.now in
@@ -41,7 +41,7 @@ set_fields-requires c =
     settings_zero x c.args.relation s slot fs (length c.args.state.now.database.items) c.as_slice-in-Some.result.now c.requires.serves.places (free_fits x c.args.relation s slot found) (ap (map plain_setting) here ∙ same) (ap (λ l. are_within (map plain_setting l)) here ∙ within)
 
 pub set-requires : goal.set-requires
-unfolding words
+unfolding definitions
 set-requires c =
     let x = plain_context c.args.context.now in
     let s = state_of c.args.state.now in
@@ -54,17 +54,17 @@ set-requires c =
     used_there x.schema (length c.set_fields.new.state.database.items) c.in-Some.slot.used (c.set_fields.ensures.places ∙ c.requires.serves.places) ((free_fits x c.args.relation s slot found).used (pos 1) (omega (arith, ints)) (omega (arith, ints)))
 
 pub overflow_cast-slot : goal.overflow_cast-slot
-unfolding words
+unfolding definitions
 overflow_cast-slot c =
     let few : c.in-Some.slot.number < 2 ^ 63 = omega (arith, c.in-Some.ensures.number, c.relation-slots.ensures.counted) in number_fits c.in-Some.slot.number few
 
 pub overflow_add-slot : goal.overflow_add-slot
-unfolding words
+unfolding definitions
 overflow_add-slot c =
     let few : suc c.in-Some.slot.number < 2 ^ 63 = omega (arith, c.in-Some.ensures.number, c.relation-slots.ensures.counted) in next_fits c.in-Some.slot.number few
 
 pub returns-in-Some-clause-set : goal.returns-in-Some-clause-set
-unfolding words
+unfolding definitions
 returns-in-Some-clause-set c =
     let x = plain_context c.args.context.now in
     let s = state_of c.args.state.now in

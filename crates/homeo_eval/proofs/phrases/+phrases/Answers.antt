@@ -2,7 +2,7 @@ use Rattle.std.proofs.Common.{rules, ◌≡◌, ◌+◌, ◌+ℤ◌, ◌*ℤ◌,
 use Rattle.homeo_syntax.specs.SourceView.{exprs, tests, plain_expr, plain_test, plain_cond}
 use Rattle.homeo_syntax.specs.declared.phrase.Expr.{the_lemmas}
 use Rattle.homeo_syntax.proofs.SourceViews.{plain_Total, plain_conjunction}
-use Rattle.homeo_meaning.specs.Key.{words}
+use Rattle.homeo_meaning.specs.Key.{definitions}
 use Rattle.homeo_meaning.specs.Acceptance.{weight_limit}
 use Rattle.homeo_meaning.specs.Context.{bind}
 use Rattle.homeo_meaning.specs.Meaning.{is_used, added, value, sum_value, product_value, holds}
@@ -152,13 +152,13 @@ total-returns t c =
     ∙ ap (λ l. added (counts x c.args.row d s) (term_of c.args.term s) l (pos 0)) (left_all c.args.slots.now)
 
 pub value-total-requires-in-Total : goal.value-total-requires-in-Total
-unfolding words
+unfolding definitions
 value-total-requires-in-Total t c =
     let fits = sym (ap (λ e. expr_fits weight_limit (plain_context c.args.context.now) e (state_of c.args.state.now)) (ap plain_expr c.in-Total.is ∙ plain_Total c.in-Total.row c.in-Total.field c.in-Total.relation c.in-Total.test)) ∙ c.requires in
     (search (rules, the_lemmas), (c.relation-slots-in-Total.ensures.counted, total_fits weight_limit _ _ (state_of c.args.state.now) c.in-Total.field.name c.field-in-Total.result.place c.relation-slots-in-Total.result _ (pos 0) c.relation-slots-in-Total.ensures.slots (ap (λ f. f.place) c.field-in-Total.ensures) fits))
 
 pub value-returns-in-Total : goal.value-returns-in-Total
-unfolding words
+unfolding definitions
 value-returns-in-Total t c =
     let whole = ap (λ e. value (plain_context c.args.context.now) e (state_of c.args.state.now)) (ap plain_expr c.in-Total.is ∙ plain_Total c.in-Total.row c.in-Total.field c.in-Total.relation c.in-Total.test) in
     kept_is c.total-in-Total.result _ (search rules) (c.total-in-Total.ensures ∙ total_is _ (state_of c.args.state.now) c.in-Total.field.name c.field-in-Total.result.place c.relation-slots-in-Total.result _ (pos 0) c.relation-slots-in-Total.ensures.slots (ap (λ f. f.place) c.field-in-Total.ensures) ∙ sym whole)

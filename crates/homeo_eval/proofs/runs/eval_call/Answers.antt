@@ -1,7 +1,7 @@
 use Rattle.std.proofs.Common.{◌≡◌, map, ap, sym, subst, ◌∙◌}
 use Rattle.std.specs.Prelude.{IfOk, OnOk, slice_get}
 use Rattle.homeo_syntax.specs.SourceView.{plain_call, plain_workload}
-use Rattle.homeo_syntax.specs.Key.{words as tree_words}
+use Rattle.homeo_syntax.specs.Key.{definitions as syntax_definitions}
 use Rattle.homeo_meaning.specs.Acceptance.{IsLightBody}
 use Rattle.homeo_meaning.specs.Serial.{call_of, outcome_at}
 use Rattle.homeo_eval.proofs.Outcomes.{placed_call}
@@ -9,7 +9,7 @@ use Rattle.homeo_meaning.proofs.Sound.{sound}
 use Rattle.homeo_eval.proofs.runs.eval_call.Goals as goal
 
 pub run_at-requires-clause-light : goal.run_at-requires-clause-light
-unfolding tree_words
+unfolding syntax_definitions
 run_at-requires-clause-light c =
     let value = c.workload-workload.ensures.value in
     let w = plain_workload c.args.w.now in
@@ -19,7 +19,7 @@ run_at-requires-clause-light c =
     subst (λ w. IsLightBody (plain_workload w) (slice_get (plain_workload w).transactions c.transaction-place.result) c.as_slice-2.result.now) (sym value) call.light
 
 pub returns-clause-prints : goal.returns-clause-prints
-unfolding tree_words
+unfolding syntax_definitions
 returns-clause-prints c =
     let value = c.workload-workload.ensures.value in
     let w = plain_workload c.args.w.now in
@@ -31,7 +31,7 @@ returns-clause-prints c =
     subst (λ v. IfOk c.run_at.result (λ p. p.items ≡ v)) (own ∙ ap (λ o. o.prints) (call.outcome base)) c.run_at.ensures.prints
 
 pub returns-clause-database : goal.returns-clause-database
-unfolding tree_words
+unfolding syntax_definitions
 returns-clause-database c =
     let value = c.workload-workload.ensures.value in
     let w = plain_workload c.args.w.now in

@@ -1,7 +1,7 @@
 use Rattle.std.proofs.Common.{◌≡◌, ap, sym, subst, ◌∙◌}
 use Rattle.std.specs.Prelude.{IfOk, OnOk}
 use Rattle.homeo_syntax.specs.SourceView.{plain_workload}
-use Rattle.homeo_meaning.specs.Key.{words}
+use Rattle.homeo_meaning.specs.Key.{definitions}
 use Rattle.homeo_meaning.specs.Bounds.{IsWithin}
 use Rattle.homeo_meaning.specs.Serial.{outcome_at}
 use Rattle.homeo_eval.proofs.Lookups.{runs_here}
@@ -31,18 +31,18 @@ returns-in_ok-arguments-in-Some-clause-database c =
     subst (λ db. OnOk c.run_body.result (c.run_body.new.base.items ≡ db)) (ap (λ o. o.database) runs.outcome) c.run_body.ensures.database
 
 pub returns-in_ok-arguments-in-Some-clause-within : goal.returns-in_ok-arguments-in-Some-clause-within
-unfolding words
+unfolding definitions
 returns-in_ok-arguments-in-Some-clause-within c =
     subst (λ d. IsWithin d.schema c.run_body.new.base.items) c.requires.declared c.run_body.ensures.within
 
 pub returns-in-None-clause-prints : goal.returns-in-None-clause-prints
-unfolding words
+unfolding definitions
 returns-in-None-clause-prints c =
     let none = transaction_past c.args.workload.now c.as_slice.result.now c.args.place c.as_slice.ensures c.in-None.ensures.lookup.3 in
     ap (λ l. l.items) c.new.ensures ∙ sym (ap (λ t. (outcome_at (plain_workload c.args.workload.now) t c.args.args.now c.args.base.now.items).prints) none)
 
 pub returns-in-None-clause-database : goal.returns-in-None-clause-database
-unfolding words
+unfolding definitions
 returns-in-None-clause-database c =
     let none = transaction_past c.args.workload.now c.as_slice.result.now c.args.place c.as_slice.ensures c.in-None.ensures.lookup.3 in
     sym (ap (λ t. (outcome_at (plain_workload c.args.workload.now) t c.args.args.now c.args.base.now.items).database) none)

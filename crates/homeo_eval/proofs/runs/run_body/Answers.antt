@@ -1,7 +1,7 @@
 use Rattle.std.proofs.Common.{rules, ◌≡◌, map, length, refl, ap, sym, subst, ◌∙◌}
 use Rattle.homeo_syntax.specs.SourceView.{commands, plain_command}
 use Rattle.homeo_syntax.specs.Source.{Commands}
-use Rattle.homeo_meaning.specs.Key.{words}
+use Rattle.homeo_meaning.specs.Key.{definitions}
 use Rattle.homeo_meaning.specs.Acceptance.{weight_limit}
 use Rattle.homeo_meaning.specs.Bounds.{all_bounds, IsWithin}
 use Rattle.homeo_eval.specs.inner.CanRun.{can_run_all}
@@ -25,7 +25,7 @@ copied : (e : After-new-prints) → e.in_ok-copied.field-0.items ≡ e.args.base
 copied e = e.in_ok-copied.ensures ∙ e.as_slice.ensures
 
 many : (e : After-new-prints) → length e.in_ok-copied.field-0.items ≡ length (all_bounds e.args.declared.now.schema)
-unfolding words
+unfolding definitions
 many e = ap length (copied e) ∙ length_in (all_bounds e.args.declared.now.schema) e.args.base.now.items e.requires.within
 
 context_is : (e : After-new-prints) → plain_context e.new-context.result ≡ call_context e.args.declared.now e.args.arguments.now
@@ -34,7 +34,7 @@ context_is e =
     context_outside e.new-context.result e.len.result e.args.declared.now e.args.arguments.now e.new-context.ensures.declared e.new-context.ensures.arguments e.new-context.ensures.rows (len ∙ many e)
 
 pub run_all-requires-clause-serves : goal.run_all-requires-clause-serves
-unfolding words
+unfolding definitions
 run_all-requires-clause-serves c =
     let e = (goal.at.run_all-requires-clause-serves c).After-new-prints in
     record {
@@ -43,7 +43,7 @@ run_all-requires-clause-serves c =
     }
 
 pub run_all-requires-clause-runs : goal.run_all-requires-clause-runs
-unfolding words
+unfolding definitions
 run_all-requires-clause-runs c =
     let e = (goal.at.run_all-requires-clause-runs c).After-new-prints in
     ap (λ x. can_run_all weight_limit x (body e) (state_with e.in_ok-copied.field-0.items e.new.result.items)) (context_is e)
@@ -51,14 +51,14 @@ run_all-requires-clause-runs c =
     ∙ c.requires.runs
 
 pub returns-clause-prints : goal.returns-clause-prints
-unfolding words
+unfolding definitions
 returns-clause-prints c =
     let e = (goal.at.returns-clause-prints c).After-new-prints in
     let ran = c.in_ok-ended.ensures.run ∙ ap (λ x. after_prints e.new-prints.result.items (does_all x (body e) (state_with e.in_ok-copied.field-0.items e.new.result.items))) (context_is e) in
     ap (λ r. r.prints) (body_ran e.args.declared.now e.args.arguments.now (body e) e.args.base.now.items _ _ c.run_all.new.prints.items _ (state_of c.run_all.new.state) c.in_ok-ended.ended (copied e) e.new.ensures.items (ap (λ l. l.items) e.new-prints.ensures) ran)
 
 pub returns-clause-database : goal.returns-clause-database
-unfolding words
+unfolding definitions
 returns-clause-database c =
     let e = (goal.at.returns-clause-database c).After-new-prints in
     let base = e.args.base.now.items in

@@ -1,8 +1,8 @@
 use Rattle.std.proofs.Common.{All, ℤ, List, map, ◌++◌, take, sym, ap, subst, ◌∙◌}
 use Rattle.std.proofs.lemmas.List.{append-nil, take_all}
-use Rattle.homeo_syntax.specs.Key.{words as tree_words}
+use Rattle.homeo_syntax.specs.Key.{definitions as syntax_definitions}
 use Rattle.homeo_syntax.specs.SourceView.{plain_relation, plain_workload}
-use Rattle.homeo_meaning.specs.Key.{words}
+use Rattle.homeo_meaning.specs.Key.{definitions}
 use Rattle.homeo_meaning.specs.Schema.{declared_relation, schema_of}
 use Rattle.homeo_meaning.specs.Bounds.{IsWithin}
 use Rattle.homeo_meaning.specs.Initial.{relation_starts}
@@ -14,21 +14,21 @@ use Rattle.homeo_meaning.proofs.TakenItems.{take_next, map_twice}
 use Rattle.homeo_eval.proofs.start.initial.Goals as goal
 
 pub loop-relation-init : goal.loop-relation-init
-unfolding words
+unfolding definitions
 loop-relation-init c =
     c.loop-object.invariant
     ∙ ap (map (λ d. d.start.value)) (take_all _ _ c.loop-object-test.false ∙ c.as_slice-object-items.ensures ∙ ap (λ w. w.objects.items) c.workload-workload.ensures.value)
     ∙ sym (append-nil (map (λ d. d.start.value) c.args.w.now.objects.items))
 
 pub start_relation-requires : goal.start_relation-requires
-unfolding words tree_words
+unfolding definitions syntax_definitions
 start_relation-requires c =
     let items = c.as_slice-relation-items.ensures ∙ ap (λ w. w.relations.items) c.workload-workload.ensures.value in
     let all = have_slots c.args.w.now.relations.items (sound (plain_workload c.args.w.now) c.workload-workload.ensures.accepted).slots in
     subst HasSlots (sym c.relation-item.is) (subst (All HasSlots) (sym items) all c.loop-relation.relation-index c.relation-item.result c.loop-relation-test.true)
 
 pub loop-relation-preserved : goal.loop-relation-preserved
-unfolding words tree_words
+unfolding definitions syntax_definitions
 loop-relation-preserved c =
     let before : List ℤ = map (λ d. d.start.value) c.args.w.now.objects.items in
     let xs = c.as_slice-relation-items.result.now in
@@ -36,7 +36,7 @@ loop-relation-preserved c =
     ∙ ap (λ l. before ++ relation_starts l) (sym (take_next (λ q. declared_relation (plain_relation q)) xs c.loop-relation.relation-index c.relation-item.result c.loop-relation-test.true c.relation-item.is))
 
 pub returns-clause-value : goal.returns-clause-value
-unfolding words tree_words
+unfolding definitions syntax_definitions
 returns-clause-value c =
     let before : List ℤ = map (λ d. d.start.value) c.args.w.now.objects.items in
     let items = c.as_slice-relation-items.ensures ∙ ap (λ w. w.relations.items) c.workload-workload.ensures.value in

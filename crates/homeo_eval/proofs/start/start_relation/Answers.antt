@@ -1,13 +1,13 @@
 use Rattle.std.proofs.Common.{pos, map, sym, ap, ◌∙◌, ◌++◌, ◌∷◌}
 use Rattle.std.proofs.lemmas.List.{append-nil}
-use Rattle.homeo_meaning.specs.Key.{words}
+use Rattle.homeo_meaning.specs.Key.{definitions}
 use Rattle.homeo_meaning.specs.Schema.{declared_range}
 use Rattle.homeo_meaning.specs.Initial.{nearest_zero}
 use Rattle.homeo_eval.proofs.StartLists.{slot_next}
 use Rattle.homeo_eval.proofs.start.start_relation.Goals as goal
 
 pub loop-init : goal.loop-init
-unfolding words
+unfolding definitions
 loop-init c = sym (append-nil c.args.database.now.items)
 
 pub loop-preserved : goal.loop-preserved

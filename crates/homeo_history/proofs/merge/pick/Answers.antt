@@ -1,14 +1,14 @@
 -- Each number picks the next entry of its site.
 use Rattle.std.proofs.Common.{◌+◌, ◌≤◌, length, map, get_or, ap, ◌∙◌, arith}
 use Rattle.std.proofs.lemmas.List.{length-replicate}
-use Rattle.homeo_history.specs.Key.{words}
+use Rattle.homeo_history.specs.Key.{definitions}
 use Rattle.homeo_history.specs.HistoryView.{plain_segment}
 use Rattle.homeo_history.proofs.Picking.{one_left, few_picked, site_within, taken_so_far, zeros_at, counts_more, picks_more}
 use Rattle.homeo_history.proofs.Lists.{length_set}
 use Rattle.homeo_history.proofs.merge.pick.Goals as goal
 
 pub loop-site-init : goal.loop-site-init
-unfolding words
+unfolding definitions
 loop-site-init c = record {
   sites = ap length c.in_ok-taken.ensures ∙ length-replicate (length c.args.segments.now) 0;
   taken = λ i lt. ap (λ l. get_or l i 0) c.in_ok-taken.ensures ∙ zeros_at (length c.args.segments.now) i;

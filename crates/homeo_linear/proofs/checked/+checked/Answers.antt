@@ -7,7 +7,7 @@ use Rattle.homeo_meaning.proofs.Numbers.{kept_is}
 use Rattle.homeo_meaning.specs.Small.{IsSmall}
 use Rattle.homeo_plan.specs.FormSizes.{Numbers}
 use Rattle.homeo_plan.specs.Limit.{form_limit}
-use Rattle.homeo_plan.specs.Key.{words as plan_words}
+use Rattle.homeo_plan.specs.Key.{definitions as plan_definitions}
 use Rattle.homeo_plan.specs.Linear.{constant_form}
 use Rattle.homeo_linear.specs.Standing.{forms_of}
 use Rattle.homeo_linear.proofs.FormSteps.{one_is_small}
@@ -27,13 +27,13 @@ checked_form-returns-in-Literal t c =
     (ap plain_lexpr c.in-Literal.is ∙ low_Literal c.in-Literal.n) (c.value.ensures ∙ ap constant_form (kept_is c.in-Literal.n _ (search rules) refl)) c.kept.ensures
 
 pub checked_form-returns-in_ok-here-in-Temp : goal.checked_form-returns-in_ok-here-in-Temp
-unfolding plan_words
+unfolding plan_definitions
 checked_form-returns-in_ok-here-in-Temp t c =
     stands_checked (forms_of c.args.standing.now) (plain_lexpr c.args.e.now) (l.OfTemp c.in-Temp.t) c.in_ok-here-in-Temp.here _ c.kept-in-Temp.result
     (ap plain_lexpr c.in-Temp.is ∙ low_Temp c.in-Temp.t) (c.in_ok-here-in-Temp.ensures ∙ ap (forms_of c.args.standing.now) c.place_of_temp.ensures) (λ k. k) c.kept-in-Temp.ensures
 
 pub checked_form-returns-in_ok-here-in-Read : goal.checked_form-returns-in_ok-here-in-Read
-unfolding plan_words
+unfolding plan_definitions
 checked_form-returns-in_ok-here-in-Read t c =
     stands_checked (forms_of c.args.standing.now) (plain_lexpr c.args.e.now) (l.Read c.in-Read.x) c.in_ok-here-in-Read.here _ c.kept-in-Read.result
     (ap plain_lexpr c.in-Read.is ∙ low_Read c.in-Read.x) (c.in_ok-here-in-Read.ensures ∙ ap (forms_of c.args.standing.now) c.place_of.ensures) (λ k. k) c.kept-in-Read.ensures

@@ -6,7 +6,7 @@ use Rattle.homeo_syntax.specs.declared.low.LCommand.{the_lemmas}
 use Rattle.homeo_syntax.proofs.LowViews.{low_Skip, low_Assign, low_Write, low_Print, low_Seq, low_If}
 use Rattle.homeo_meaning.specs.Small.{IsSmall}
 use Rattle.homeo_plan.specs.Limit.{form_limit}
-use Rattle.homeo_follow.specs.Key.{words}
+use Rattle.homeo_follow.specs.Key.{definitions}
 use Rattle.homeo_follow.specs.Follow.{and_then, Followed, follow, follow_all}
 use Rattle.homeo_follow.specs.FollowSizes.{CanAllBeFollowed}
 use Rattle.homeo_linear.specs.Standing.{forms_of}
@@ -15,7 +15,7 @@ use Rattle.homeo_linear.proofs.Coursing.{then_nothing, assign_can, write_can, pr
 use Rattle.homeo_linear.proofs.course.+commands.Goals as goal
 
 pub follow-returns-in-Skip : goal.follow-returns-in-Skip
-unfolding words
+unfolding definitions
 follow-returns-in-Skip t c =
     let p = followed_so c.args.course.now in
     then_nothing p ∙ ap (λ k. and_then p (follow k p.forms)) (sym (ap plain_lcommand c.in-Skip.is ∙ low_Skip))
@@ -81,7 +81,7 @@ follow-follow-requires-else-branch t c =
     )
 
 pub follow-returns-in-Seq : goal.follow-returns-in-Seq
-unfolding words
+unfolding definitions
 follow-returns-in-Seq t c =
     let p = followed_so c.args.course.now in
     on_ok_weaker c.follow_all.result

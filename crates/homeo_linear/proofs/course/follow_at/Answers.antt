@@ -3,7 +3,7 @@ use Rattle.std.proofs.Common.{map, ap, ◌∙◌}
 use Rattle.homeo_syntax.specs.LowView.{plain_lcommand}
 use Rattle.homeo_meaning.specs.Serial.{values_of}
 use Rattle.homeo_plan.specs.PlanView.{plain_atom}
-use Rattle.homeo_follow.specs.Key.{words}
+use Rattle.homeo_follow.specs.Key.{definitions}
 use Rattle.homeo_follow.specs.Follow.{Followed, needed}
 use Rattle.homeo_linear.specs.inner.Course.{followed_so}
 use Rattle.homeo_linear.proofs.Coursing.{begins_at, followed_whole, left_forms}
@@ -27,7 +27,7 @@ returns-clause-atoms c =
     (plain_lcommand c.args.command.now) c.new-course.ensures c.as_slice.ensures c.in_ok-follow.ensures)
 
 pub returns-clause-needs : goal.returns-clause-needs
-unfolding words
+unfolding definitions
 returns-clause-needs c =
     let q : Followed = followed_so c.follow.new.course in
     ap (λ v. v.items) c.from_vec-2.ensures ∙ c.in_ok-needed.ensures ∙ ap (λ l. needed (values_of l) q) c.as_slice-2.ensures

@@ -3,7 +3,7 @@ use Rattle.std.proofs.Common.{rules, negsuc, sym, ap, ap₂, ◌∙◌, subst}
 use mir.Syntax.{w64}
 use Rattle.std.proofs.lemmas.Int.{to_z-of_z}
 use Rattle.std.proofs.lemmas.Result.{IfOk-weaker}
-use Rattle.homeo_follow.specs.Key.{words}
+use Rattle.homeo_follow.specs.Key.{definitions}
 use Rattle.homeo_follow.specs.Follow.{object_form}
 use Rattle.homeo_meaning.specs.Serial.{values_of}
 use Rattle.homeo_meaning.specs.Small.{IsSmall}
@@ -31,7 +31,7 @@ plus-requires-clause-other_small c =
     (lost_small (values_of c.args.base.now x) x c.requires.base)
 
 pub returns : goal.returns
-unfolding words
+unfolding definitions
 returns c =
     let x = c.args.object in
     let is = c.in_ok-before.ensures ∙ ap (λ n. object_form n x) (to_z-of_z w64 c.item_or.result (search rules) ∙ c.item_or.ensures) in

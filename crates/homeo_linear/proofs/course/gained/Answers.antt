@@ -1,6 +1,6 @@
 -- The gain of one more object.
 use Rattle.std.proofs.Common.{arith}
-use Rattle.homeo_follow.specs.Key.{words}
+use Rattle.homeo_follow.specs.Key.{definitions}
 use Rattle.homeo_meaning.specs.Serial.{values_of}
 use Rattle.homeo_meaning.specs.LowMeaning.{BaseAt}
 use Rattle.homeo_linear.specs.Standing.{forms_of}
@@ -14,7 +14,7 @@ loop-place-init c = record {
 }
 
 pub gain-requires-clause-left : goal.gain-requires-clause-left
-unfolding words
+unfolding definitions
 gain-requires-clause-left c = c.requires.left (BaseAt _)
 
 pub gain-requires-clause-base : goal.gain-requires-clause-base

@@ -18,10 +18,10 @@ pub returns : goal.returns
 returns c =
     let b = values_of c.args.base.now in
     let f = forms_of c.args.standing.now in
-    IfOk-weaker c.joined-2.result _ _
+    IfOk-weaker c.in_order-2.result _ _
     (λ v h. h ∙ prints_end c.loop-form.prints.items (add_deltas c.loop-form.needed.items []) _
     (nil_from_length c.loop-form.prints.items (sym c.loop-form.prints.ok.0 ∙ c.in_default.ensures.cases.0)) c.loop-form.invariant
     ∙ ap (print_needs c.args.prints.items)
     (c.in_ok-needed.ensures ∙ ap (λ l. write_needs b f (map (λ d. d.object) l)) c.as_slice.ensures.value
     ∙ gains_once b f c.args.written.items c.in_ok-written.written.items c.in_ok-written.ensures))
-    c.joined-2.ensures
+    c.in_order-2.ensures

@@ -1,7 +1,7 @@
 -- It is the last one, or stands before the next.
 use Rattle.std.proofs.Common.{sym, ◌∙◌, arith}
 use Rattle.homeo_plan.specs.Linear.{delta_of}
-use Rattle.homeo_linear.proofs.JoinedDeltas.{leads_at}
+use Rattle.homeo_linear.proofs.DeltasInOrder.{leads_at}
 use Rattle.homeo_linear.proofs.deltas.leads.Goals as goal
 
 pub returns-then-place-deltas : goal.returns-then-place-deltas

@@ -1,13 +1,13 @@
 -- Its parts.
 use Rattle.std.proofs.Common.{rules, refl, ap, ◌∙◌}
-use Rattle.homeo_follow.specs.Key.{words}
+use Rattle.homeo_follow.specs.Key.{definitions}
 use Rattle.homeo_follow.specs.Expanded.{expanded_terms, expanded_deltas}
 use Rattle.homeo_linear.proofs.FormParts.{same_form}
 use Rattle.homeo_linear.proofs.Widths.{kept_is}
 use Rattle.homeo_linear.proofs.expanding.at_sites.Goals as goal
 
 pub returns : goal.returns
-unfolding words
+unfolding definitions
 returns c =
     let n = c.args.atom.now.form.constant in
     same_form _ n _ _ _ _ (kept_is n n (search rules) refl)

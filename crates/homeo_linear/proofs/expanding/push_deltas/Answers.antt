@@ -1,6 +1,6 @@
 -- One site more.
 use Rattle.std.proofs.Common.{◌∙◌}
-use Rattle.homeo_plan.specs.Key.{words}
+use Rattle.homeo_plan.specs.Key.{definitions}
 use Rattle.homeo_linear.proofs.AtSites.{deltas_begin, deltas_next, deltas_end}
 use Rattle.homeo_linear.proofs.expanding.push_deltas.Goals as goal
 
@@ -8,7 +8,7 @@ pub loop-site-init : goal.loop-site-init
 loop-site-init c = deltas_begin c.args.object c.args.sites c.args.deltas.now.items
 
 pub loop-site-preserved : goal.loop-site-preserved
-unfolding words
+unfolding definitions
 loop-site-preserved c =
     deltas_next c.args.object c.args.sites c.loop-site.deltas.items c.loop-site.site c.push.new.self.items c.loop-site-test.true
     c.in_ok-push.ensures.items

@@ -1,6 +1,6 @@
 -- One site more.
 use Rattle.std.proofs.Common.{◌++◌, ◌∷◌, [], ap, ◌∙◌}
-use Rattle.homeo_plan.specs.Key.{words}
+use Rattle.homeo_plan.specs.Key.{definitions}
 use Rattle.homeo_plan.specs.declared.forms.Term.{Term}
 use Rattle.homeo_linear.proofs.AtSites.{terms_begin, terms_next, terms_end}
 use Rattle.homeo_linear.proofs.expanding.push_terms.Goals as goal
@@ -9,7 +9,7 @@ pub loop-site-init : goal.loop-site-init
 loop-site-init c = terms_begin c.args.term.now.delta.object c.args.term.now.factor c.args.sites c.args.terms.now.items
 
 pub loop-site-preserved : goal.loop-site-preserved
-unfolding words
+unfolding definitions
 loop-site-preserved c =
     let out = c.loop-site.terms.items in
     terms_next c.args.term.now.delta.object c.args.term.now.factor c.args.sites out c.loop-site.site c.push.new.self.items c.loop-site-test.true

@@ -147,5 +147,5 @@ sum-loop-e-preserved t c =
 
 pub sum-returns : goal.sum-returns
 sum-returns t c =
-    IfOk-weaker c.joined.result _ _
-    (λ f h. h ∙ sum_stop _ _ c.args.es.now c.loop-e.e-index c.loop-e-test.false ∙ c.loop-e.invariant.left) c.joined.ensures
+    IfOk-weaker c.into_form.result _ _
+    (λ f h. h ∙ sum_stop _ _ c.args.es.now c.loop-e.e-index c.loop-e-test.false ∙ c.loop-e.invariant.left) c.into_form.ensures

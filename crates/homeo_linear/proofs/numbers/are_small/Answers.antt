@@ -2,13 +2,13 @@ use Rattle.std.proofs.Common.{rules, subst, sym, refl}
 use Rattle.std.specs.Int.{w128}
 use Rattle.std.proofs.lemmas.Int.{to_z-of_z}
 use Rattle.homeo_meaning.specs.Small.{IsSmall}
-use Rattle.homeo_plan.specs.Key.{words as plan_words}
+use Rattle.homeo_plan.specs.Key.{definitions as plan_definitions}
 use Rattle.homeo_plan.specs.Limit.{form_limit}
 use Rattle.homeo_linear.proofs.CheckedSteps.{each_more, each_here, each_all}
 use Rattle.homeo_linear.proofs.numbers.are_small.Goals as goal
 
 pub loop-term-init : goal.loop-term-init
-unfolding plan_words
+unfolding plan_definitions
 loop-term-init c = tt
 
 pub returns-then-not-is_small_number : goal.returns-then-not-is_small_number

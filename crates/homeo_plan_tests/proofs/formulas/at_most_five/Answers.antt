@@ -1,6 +1,6 @@
 -- The condition is that of the definition.
 use Rattle.std.proofs.Common.{[], pos, map, ap, ◌∙◌}
-use Rattle.homeo_syntax.specs.Key.{words as tree_words}
+use Rattle.homeo_syntax.specs.Key.{definitions as syntax_definitions}
 use Rattle.homeo_syntax.specs.Low as l
 use Rattle.homeo_syntax.specs.LowView.{low_tests, plain_ltest}
 use Rattle.homeo_syntax.specs.declared.phrase.Compare.TheVariants.{LessEqual}
@@ -10,7 +10,7 @@ use Rattle.homeo_plan_tests.proofs.Pushes.{pushed}
 use Rattle.homeo_plan_tests.proofs.formulas.at_most_five.Goals as goal
 
 pub returns : goal.returns
-unfolding tree_words
+unfolding syntax_definitions
 returns c =
     let one = pushed c.new-tests.result c.push.new.self [] _ (ap (λ l. l.items) c.new-tests.ensures) c.in_ok-push.ensures.ok in
     let sides = low_Compare LessEqual c.in_ok-left.left (Literal (pos 5)) in

@@ -1,6 +1,6 @@
 -- A sum of three terms is made of them.
 use Rattle.std.proofs.Common.{[], map, ap, ◌∙◌}
-use Rattle.homeo_syntax.specs.Key.{words as tree_words}
+use Rattle.homeo_syntax.specs.Key.{definitions as syntax_definitions}
 use Rattle.homeo_syntax.specs.Low as l
 use Rattle.homeo_syntax.specs.LowView.{low_exprs, plain_lexpr}
 use Rattle.homeo_syntax.proofs.LowViews.{low_Sum}
@@ -8,7 +8,7 @@ use Rattle.homeo_plan_tests.proofs.Pushes.{pushed}
 use Rattle.homeo_plan_tests.proofs.object.sum.Goals as goal
 
 pub returns : goal.returns
-unfolding tree_words
+unfolding syntax_definitions
 returns c =
     let one = pushed c.new-terms.result c.push.new.self [] c.args.first (ap (λ l. l.items) c.new-terms.ensures) c.in_ok-push.ensures.ok in
     let two = pushed c.push.new.self c.push-2.new.self _ c.args.second one c.in_ok-push-2.ensures.ok in

@@ -1,6 +1,6 @@
 -- The command is that of the definition.
 use Rattle.std.proofs.Common.{[], map, ap, ◌∙◌}
-use Rattle.homeo_syntax.specs.Key.{words as tree_words}
+use Rattle.homeo_syntax.specs.Key.{definitions as syntax_definitions}
 use Rattle.homeo_syntax.specs.Low as l
 use Rattle.homeo_syntax.specs.LowView.{low_commands, plain_lcommand}
 use Rattle.homeo_syntax.specs.declared.low.LExpr.{Read}
@@ -10,7 +10,7 @@ use Rattle.homeo_plan_tests.proofs.Pushes.{pushed}
 use Rattle.homeo_plan_tests.proofs.sites.raise.Goals as goal
 
 pub returns : goal.returns
-unfolding tree_words
+unfolding syntax_definitions
 returns c =
     let one = pushed c.new-commands.result c.push.new.self [] _ (ap (λ l. l.items) c.new-commands.ensures) c.in_ok-push.ensures.ok in
     let two = pushed c.push.new.self c.push-2.new.self _ _ one c.in_ok-push-2.ensures.ok in

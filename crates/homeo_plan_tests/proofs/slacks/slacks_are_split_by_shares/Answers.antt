@@ -1,7 +1,7 @@
 -- The slacks can be split by these shares.
 use Rattle.std.proofs.Common.{◌≡◌, ℕ, ℤ, pos, length, sym, ap, ◌∙◌, subst, arith}
 use Rattle.homeo_syntax.specs.Listed.{Listed}
-use Rattle.homeo_meaning.specs.Key.{words}
+use Rattle.homeo_meaning.specs.Key.{definitions}
 use Rattle.homeo_plan.specs.Config.{CanShare}
 use Rattle.homeo_plan.specs.Each.{Each}
 use Rattle.homeo_plan.specs.PlanView.{plain_template}
@@ -9,12 +9,12 @@ use Rattle.homeo_plan_tests.proofs.SlackExample.{not_negative, small, can_share_
 use Rattle.homeo_plan_tests.proofs.slacks.slacks_are_split_by_shares.Goals as goal
 
 pub split_weighted-requires-clause-not_negative : goal.split_weighted-requires-clause-not_negative
-unfolding words
+unfolding definitions
 split_weighted-requires-clause-not_negative g c =
     not_negative (plain_template c.in_ok-template.template).clauses (pos 4) (pos 6) c.in_ok-template.ensures.clauses (omega arith) (omega arith)
 
 pub split_weighted-requires-clause-small : goal.split_weighted-requires-clause-small
-unfolding words
+unfolding definitions
 split_weighted-requires-clause-small g c =
     small (plain_template c.in_ok-template.template).clauses (pos 4) (pos 6) c.in_ok-template.ensures.clauses (omega arith) (omega arith)
 

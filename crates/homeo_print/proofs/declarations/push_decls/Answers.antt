@@ -1,7 +1,7 @@
 use Rattle.std.proofs.Common.{List, ◌-◌, length, map, take, drop, arith}
 use Rattle.homeo_syntax.specs.declared.token.Mark.TheVariants as mark
 use Rattle.homeo_syntax.specs.declared.workload.RangeDecl.{RangeDecl}
-use Rattle.homeo_print.specs.Key.{words}
+use Rattle.homeo_print.specs.Key.{definitions}
 use Rattle.homeo_print.specs.TokensOf.{Kinds, separated, decl_kinds}
 use Rattle.homeo_print.proofs.Behind.{decls_behind}
 use Rattle.homeo_print.proofs.Listed.{list_end_copy, list_none, list_start, list_more}
@@ -21,7 +21,7 @@ pub returns-in-empty : goal.returns-in-empty
 returns-in-empty c = record { pushed = list_none one decls_behind all no_decl c.args.out.now c.args.ds.now (omega arith) }
 
 pub loop-d-preserved : goal.loop-d-preserved
-unfolding words
+unfolding definitions
 loop-d-preserved c =
     list_more mark.Comma one (take (length c.args.ds.now - 1) (drop 1 c.args.ds.now)) c.loop-d.d-index _ c.push_decl.new.out c.loop-d.out c.mark.new.self c.push_decl-in-loop-d.new.out c.loop-d-test.true c.loop-d.invariant
     c.in_ok-mark-in-len1-up.ensures.pushed c.in_ok-push_decl-in-len1-up-2.ensures.pushed

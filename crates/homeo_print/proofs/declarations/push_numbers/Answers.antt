@@ -1,7 +1,7 @@
 use Rattle.std.proofs.Common.{List, ◌-◌, length, map, take, drop, arith}
 use Rattle.homeo_syntax.specs.declared.token.Mark.TheVariants as mark
 use Rattle.homeo_syntax.specs.declared.phrase.Number.{Number}
-use Rattle.homeo_print.specs.Key.{words}
+use Rattle.homeo_print.specs.Key.{definitions}
 use Rattle.homeo_print.specs.TokensOf.{Kinds, separated, number_of}
 use Rattle.homeo_print.proofs.Behind.{numbers_behind}
 use Rattle.homeo_print.proofs.Listed.{list_end_copy, list_none, list_start, list_more}
@@ -21,7 +21,7 @@ pub returns-in-empty : goal.returns-in-empty
 returns-in-empty c = record { pushed = list_none one numbers_behind all no_number c.args.out.now c.args.ns.now (omega arith) }
 
 pub loop-n-preserved : goal.loop-n-preserved
-unfolding words
+unfolding definitions
 loop-n-preserved c =
     list_more mark.Comma one (take (length c.args.ns.now - 1) (drop 1 c.args.ns.now)) c.loop-n.n-index _ c.push_number.new.out c.loop-n.out c.mark.new.self c.push_number-in-loop-n.new.out c.loop-n-test.true c.loop-n.invariant
     c.in_ok-mark-in-len1-up.ensures.pushed c.in_ok-push_number-in-len1-up-2.ensures.pushed

@@ -1,15 +1,15 @@
 use Rattle.std.proofs.Common.{◌++◌, length, map, take, append-nil, append_assoc, length-append, refl, sym, ap, ◌∙◌, arith}
 use Rattle.homeo_syntax.specs.SourceView.{plain_workload}
-use Rattle.homeo_history.specs.Key.{words as histories}
+use Rattle.homeo_history.specs.Key.{definitions as history_definitions}
 use Rattle.homeo_history.specs.HistoryView.{plain_round}
-use Rattle.homeo_report.specs.Key.{words}
+use Rattle.homeo_report.specs.Key.{definitions}
 use Rattle.homeo_report.specs.Report.{round_text, rounds_text}
 use Rattle.homeo_report.proofs.RoundLines.{rounds_more}
 use Rattle.homeo_report.proofs.Counts.{round_is_long, calls_more}
 use Rattle.homeo_report.proofs.rounds.push_rounds.Goals as goal
 
 pub loop-number-init : goal.loop-number-init
-unfolding words histories
+unfolding definitions history_definitions
 loop-number-init c = (sym (append-nil c.args.out.now.items), refl, omega arith)
 
 pub calls_in-calls-requires : goal.calls_in-calls-requires

@@ -1,13 +1,13 @@
 use Rattle.std.proofs.Common.{◌++◌, map, take, append_assoc, sym, ap, ◌∙◌}
 use Rattle.homeo_syntax.specs.SourceView.{plain_workload}
-use Rattle.homeo_history.specs.Key.{words as histories}
+use Rattle.homeo_history.specs.Key.{definitions as history_definitions}
 use Rattle.homeo_history.specs.HistoryView.{plain_entry, plain_segment}
 use Rattle.homeo_report.specs.Report.{segment_text, segments_text}
 use Rattle.homeo_report.proofs.RoundLines.{segments_more}
 use Rattle.homeo_report.proofs.rounds.push_segments.Goals as goal
 
 pub loop-site-preserved : goal.loop-site-preserved
-unfolding histories
+unfolding history_definitions
 loop-site-preserved c =
     let w = plain_workload c.args.w.now in
     let old = c.args.out.now.items in

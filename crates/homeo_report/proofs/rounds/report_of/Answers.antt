@@ -2,16 +2,16 @@ use Rattle.std.proofs.Common.{◌≡◌, ◌++◌, List, ℕ, length, map, sym, 
 use Rattle.std.specs.Prelude.{codes}
 use Rattle.std.proofs.lemmas.List.{length-map}
 use Rattle.homeo_syntax.specs.SourceView.{plain_workload}
-use Rattle.homeo_history.specs.Key.{words as histories}
+use Rattle.homeo_history.specs.Key.{definitions as history_definitions}
 use Rattle.homeo_history.specs.Legal.{calls_of}
 use Rattle.homeo_history.specs.HistoryView.{plain_round}
-use Rattle.homeo_report.specs.Key.{words}
+use Rattle.homeo_report.specs.Key.{definitions}
 use Rattle.homeo_print.specs.Names.{object_names}
 use Rattle.homeo_report.specs.Report.{rounds_text, object_lines, totals_line}
 use Rattle.homeo_report.proofs.rounds.report_of.Goals as goal
 
 pub push_objects-requires : goal.push_objects-requires
-unfolding histories
+unfolding history_definitions
 push_objects-requires c = ap length c.as_slice-2.ensures ∙ c.requires.values ∙ ap length (sym c.in_ok-names.ensures)
 
 assembled : (rounds heading objects totals a b d : List ℕ) → a ≡ rounds → b ≡ a ++ heading → d ≡ b ++ objects → d ++ totals ≡ rounds ++ heading ++ objects ++ totals
@@ -19,7 +19,7 @@ assembled rounds heading objects totals a b d first second third =
     ap (λ l. l ++ totals) (third ∙ ap (λ l. l ++ objects) (second ∙ ap (λ l. l ++ heading) first))
 
 pub returns : goal.returns
-unfolding words histories
+unfolding definitions history_definitions
 returns c =
     let w = plain_workload c.args.w.now in
     let rounds = c.args.history.now.rounds.items in

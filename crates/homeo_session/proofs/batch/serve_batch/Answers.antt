@@ -8,7 +8,7 @@ use Rattle.homeo_meaning.specs.Schema.{schema_of}
 use Rattle.homeo_meaning.specs.declared.call.Purpose.TheVariants as purpose
 use Rattle.homeo_history.specs.Follows.{Follows}
 use Rattle.homeo_history.specs.HistoryView.{plain_history}
-use Rattle.homeo_history.specs.Key.{words as histories}
+use Rattle.homeo_history.specs.Key.{definitions as history_definitions}
 use Rattle.homeo_history.specs.Legal.{IsLegalFrom}
 use Rattle.homeo_report.specs.Report.{report}
 use Rattle.homeo_order.specs.Order.{scheduled_calls}
@@ -30,7 +30,7 @@ steps_from-requires-clause-within c =
     subst (λ (v : s.Workload). IsWithin (schema_of v) c.args.base.items) (sym same) c.requires.within
 
 pub returns-clause-served : goal.returns-clause-served
-unfolding histories
+unfolding history_definitions
 returns-clause-served c =
     let w = plain_workload c.args.w in
     let same : plain_workload c.in_ok-compiled.compiled.value ≡ w = ap plain_workload c.in_ok-compiled.ensures.ok ∙ c.in_ok-compile.ensures in
@@ -45,7 +45,7 @@ returns-clause-served c =
     }
 
 pub returns-clause-within : goal.returns-clause-within
-unfolding histories
+unfolding history_definitions
 returns-clause-within c =
     let same : plain_workload c.in_ok-compiled.compiled.value ≡ plain_workload c.args.w = ap plain_workload c.in_ok-compiled.ensures.ok ∙ c.in_ok-compile.ensures in
     subst (λ (v : s.Workload). IsWithin (schema_of v) c.in_ok-history.history.last.items) same c.in_ok-history.ensures.within

@@ -1,6 +1,6 @@
 -- The pass over the body begins with no temporaries and no rows.
 use Rattle.std.proofs.Common.{map, arith, sym, ap, ◌∙◌}
-use Rattle.homeo_size.specs.inner.Key.{words}
+use Rattle.homeo_size.specs.inner.Key.{definitions}
 use Rattle.homeo_size.specs.inner.Parts.{unwritten}
 use Rattle.homeo_size.specs.inner.Writing.{undoing_by}
 use Rattle.homeo_size.proofs.Tables.{sizes_with}
@@ -8,12 +8,12 @@ use Rattle.homeo_size.proofs.Called.{transaction_measured, transaction_large}
 use Rattle.homeo_size.proofs.call.measure.Goals as goal
 
 pub returns-then-commands_nodes-ge-TOO_MANY : goal.returns-then-commands_nodes-ge-TOO_MANY
-unfolding words
+unfolding definitions
 returns-then-commands_nodes-ge-TOO_MANY c =
     transaction_large c.args.layout.now c.args.t.now c.args.args.now c.as_slice.result.now c.as_slice-body.result.now c.as_slice-2.result.now c.in_ok-arguments.arguments.items c.args.sites c.commands_nodes.result c.as_slice.ensures c.as_slice-body.ensures c.as_slice-2.ensures.value c.in_ok-arguments.ensures c.commands_nodes.ensures (omega (arith, c.if-commands_nodes-ge-TOO_MANY.true))
 
 pub returns : goal.returns
-unfolding words
+unfolding definitions
 returns c =
     let first = c.in_ok-first_extents.ensures ∙ ap (λ l. map (unwritten c.args.sites) l) c.weights.ensures in
     let second = c.in_ok-first_extents-2.ensures ∙ ap (λ l. map (unwritten c.args.sites) l) c.weights-2.ensures in

@@ -2,7 +2,7 @@
 use Rattle.std.proofs.Common.{◌++◌, map, length, ap, ◌∙◌}
 use Rattle.homeo_syntax.specs.LowView.{plain_lcommand}
 use Rattle.homeo_meaning.specs.LowMeaning.{location_of, exec}
-use Rattle.homeo_split.specs.Key.{words}
+use Rattle.homeo_split.specs.Key.{definitions}
 use Rattle.homeo_split.specs.CanExec.{run_limit, can_exec}
 use Rattle.homeo_split.specs.States.{state_with}
 use Rattle.homeo_split.specs.Shape.{has_places}
@@ -11,7 +11,7 @@ use Rattle.homeo_split.proofs.Copies.{same_lengths, without_temporaries}
 use Rattle.homeo_split.proofs.runs.eval_l.Goals as goal
 
 pub run-requires-clause-places : goal.run-requires-clause-places
-unfolding words
+unfolding definitions
 run-requires-clause-places c =
     let base = c.in_ok-copied.ensures ∙ c.as_slice.ensures in
     let deltas = c.in_ok-copied_all.ensures ∙ ap (map (λ d. d.items)) c.as_slice-2.ensures in
@@ -19,14 +19,14 @@ run-requires-clause-places c =
     (λ i. has_places (record { base = length (base i); deltas = counts i }) (plain_lcommand c.args.c.now)) ∙ c.requires.places
 
 pub run-requires-clause-runs : goal.run-requires-clause-runs
-unfolding words
+unfolding definitions
 run-requires-clause-runs c =
     let base = c.in_ok-copied.ensures ∙ c.as_slice.ensures in
     let deltas = c.in_ok-copied_all.ensures ∙ ap (map (λ d. d.items)) c.as_slice-2.ensures in
     (λ i. can_exec run_limit (plain_lcommand c.args.c.now) (state_with (base i) (deltas i) (c.new.ensures.items i) (c.new-2.ensures.items i))) ∙ c.requires.small
 
 pub returns-clause-prints : goal.returns-clause-prints
-unfolding words
+unfolding definitions
 returns-clause-prints c =
     let base = c.in_ok-copied.ensures ∙ c.as_slice.ensures in
     let deltas = c.in_ok-copied_all.ensures ∙ ap (map (λ d. d.items)) c.as_slice-2.ensures in
@@ -34,7 +34,7 @@ returns-clause-prints c =
     ∙ (λ i. (c.new-prints.ensures i).items ++ (exec (plain_lcommand c.args.c.now) (state_with (base i) (deltas i) (c.new.ensures.items i) (c.new-2.ensures.items i))).prints)
 
 pub returns-clause-database : goal.returns-clause-database
-unfolding words
+unfolding definitions
 returns-clause-database c x =
     let base = c.in_ok-copied.ensures ∙ c.as_slice.ensures in
     let deltas = c.in_ok-copied_all.ensures ∙ ap (map (λ d. d.items)) c.as_slice-2.ensures in
@@ -46,7 +46,7 @@ returns-clause-database c x =
     ∙ (λ i. (exec (plain_lcommand c.args.c.now) (state_with (base i) (deltas i) (c.new.ensures.items i) (c.new-2.ensures.items i))).state (location_of x))
 
 pub returns-clause-shape : goal.returns-clause-shape
-unfolding words
+unfolding definitions
 returns-clause-shape c =
     let base = c.in_ok-copied.ensures ∙ c.as_slice.ensures in
     let deltas = c.in_ok-copied_all.ensures ∙ ap (map (λ d. d.items)) c.as_slice-2.ensures in

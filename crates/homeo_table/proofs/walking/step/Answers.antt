@@ -7,7 +7,7 @@ use Rattle.homeo_split.specs.States.{state_of}
 use Rattle.homeo_table.specs.inner.Bindings.{bound}
 use Rattle.homeo_table.specs.inner.Makings.{completed}
 use Rattle.homeo_split.specs.Places.{plain_place}
-use Rattle.homeo_table.specs.inner.Walks.{after, in_order}
+use Rattle.homeo_table.specs.inner.Walks.{after, to_come}
 use Rattle.homeo_table.proofs.Held.{no_temps}
 use Rattle.homeo_table.proofs.WalkSteps.{pushed, pushed-all, less-one, less-all, less-branch, on_ok_both, sets-Assign, sets-Write, goes-set, goes-Skip, goes-Print, goes-Seq, asks, goes-If}
 use Rattle.homeo_table.proofs.walking.step.Goals as goal
@@ -21,7 +21,7 @@ returns-in-Skip-clause-goes c =
     goes-Skip row row b b _ (no_temps c.args.base.now) (plain_lcommand c.args.c.now) _ c.requires is
 
 pub returns-in-Skip-clause-less : goal.returns-in-Skip-clause-less
-returns-in-Skip-clause-less c = less-one (plain_lcommand c.args.c.now) (in_order c.args.left.now.items)
+returns-in-Skip-clause-less c = less-one (plain_lcommand c.args.c.now) (to_come c.args.left.now.items)
 
 -- ---- a value is set
 pub returns-in-Assign-clause-goes : goal.returns-in-Assign-clause-goes
@@ -39,7 +39,7 @@ returns-in-Assign-clause-goes c =
 
 pub returns-in-Assign-clause-less : goal.returns-in-Assign-clause-less
 returns-in-Assign-clause-less c =
-    on_ok_weaker c.follow_set.result (λ h. less-one (plain_lcommand c.args.c.now) (in_order c.args.left.now.items)) c.follow_set.ensures.row
+    on_ok_weaker c.follow_set.result (λ h. less-one (plain_lcommand c.args.c.now) (to_come c.args.left.now.items)) c.follow_set.ensures.row
 
 pub returns-in-Write-clause-goes : goal.returns-in-Write-clause-goes
 returns-in-Write-clause-goes c =
@@ -56,7 +56,7 @@ returns-in-Write-clause-goes c =
 
 pub returns-in-Write-clause-less : goal.returns-in-Write-clause-less
 returns-in-Write-clause-less c =
-    on_ok_weaker c.follow_set-in-Write.result (λ h. less-one (plain_lcommand c.args.c.now) (in_order c.args.left.now.items)) c.follow_set-in-Write.ensures.row
+    on_ok_weaker c.follow_set-in-Write.result (λ h. less-one (plain_lcommand c.args.c.now) (to_come c.args.left.now.items)) c.follow_set-in-Write.ensures.row
 
 -- ---- a value is printed
 pub returns-in-Print-clause-goes : goal.returns-in-Print-clause-goes
@@ -70,7 +70,7 @@ returns-in-Print-clause-goes c =
 
 pub returns-in-Print-clause-less : goal.returns-in-Print-clause-less
 returns-in-Print-clause-less c =
-    on_ok_weaker c.follow.result (λ h. less-one (plain_lcommand c.args.c.now) (in_order c.args.left.now.items)) c.follow.ensures.row
+    on_ok_weaker c.follow.result (λ h. less-one (plain_lcommand c.args.c.now) (to_come c.args.left.now.items)) c.follow.ensures.row
 
 -- ---- commands one after another
 pub returns-in-Seq-clause-goes : goal.returns-in-Seq-clause-goes
@@ -90,7 +90,7 @@ returns-in-Seq-clause-less c =
     let ds = map plain_lcommand c.in-Seq.commands.items in
     let is = ap plain_lcommand c.in-Seq.is ∙ low_Seq c.in-Seq.commands in
     on_ok_weaker c.push_all.result
-    (λ h. less-all (plain_lcommand c.args.c.now) ds (in_order c.args.left.now.items) _ is
+    (λ h. less-all (plain_lcommand c.args.c.now) ds (to_come c.args.left.now.items) _ is
     (pushed-all c.args.left.now.items c.push_all.new.left.items ds
     (h ∙ ap (λ cs. map (λ c. plain_lcommand c.now) c.args.left.now.items ++ reverse (map plain_lcommand cs)) c.as_slice.ensures)))
     c.push_all.ensures
@@ -121,7 +121,7 @@ returns-in_ok-push-in-If-clause-less c =
     let yes = plain_lcommand c.in-If.yes.value in
     let no = plain_lcommand c.in-If.no.value in
     let is = ap plain_lcommand c.in-If.is ∙ low_If c.in-If.test c.in-If.yes c.in-If.no in
-    less-branch (plain_lcommand c.args.c.now) true (plain_lcond c.in-If.test) yes no (in_order c.args.left.now.items) _ is
+    less-branch (plain_lcommand c.args.c.now) true (plain_lcond c.in-If.test) yes no (to_come c.args.left.now.items) _ is
     (pushed c.args.left.now.items c.push.new.self.items _ yes c.in_ok-push-in-If.ensures.items (ap plain_lcommand c.deref.ensures))
 
 pub returns-in_ok-push-in-If-2-clause-goes : goal.returns-in_ok-push-in-If-2-clause-goes
@@ -141,5 +141,5 @@ returns-in_ok-push-in-If-2-clause-less c =
     let yes = plain_lcommand c.in-If.yes.value in
     let no = plain_lcommand c.in-If.no.value in
     let is = ap plain_lcommand c.in-If.is ∙ low_If c.in-If.test c.in-If.yes c.in-If.no in
-    less-branch (plain_lcommand c.args.c.now) false (plain_lcond c.in-If.test) yes no (in_order c.args.left.now.items) _ is
+    less-branch (plain_lcommand c.args.c.now) false (plain_lcond c.in-If.test) yes no (to_come c.args.left.now.items) _ is
     (pushed c.args.left.now.items c.push-else-branch.new.self.items _ no c.in_ok-push-in-If-2.ensures.items (ap plain_lcommand c.deref-else-branch.ensures))

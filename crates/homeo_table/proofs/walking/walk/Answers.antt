@@ -8,7 +8,7 @@ use Rattle.homeo_plan.proofs.Tables.{row_at_walk, walk_holds, walk_residual}
 use Rattle.homeo_split.specs.States.{state_of}
 use Rattle.homeo_table.specs.inner.Bindings.{bound}
 use Rattle.homeo_table.specs.inner.Makings.{completed}
-use Rattle.homeo_table.specs.inner.Walks.{in_order}
+use Rattle.homeo_table.specs.inner.Walks.{to_come}
 use Rattle.homeo_table.proofs.Held.{no_temps}
 use Rattle.homeo_table.proofs.WalkSteps.{pushed, goes-first, first-walk, last-walk}
 use Rattle.homeo_table.proofs.walking.walk.Goals as goal
@@ -19,7 +19,7 @@ loop-c-init c =
     let s = state_of c.args.base.now in
     let start = goes-first (completed c.new-row.result) (bound c.new-row.result.bindings) k _ s c.new-row.ensures.row c.new-row.ensures.bound
     (pushed c.new-left.result.items c.push.new.self.items _ k c.in_ok-push.ensures.items refl
-    ∙ ap (λ cs. k ∷ in_order cs) c.new-left.ensures.items) c.requires in
+    ∙ ap (λ cs. k ∷ to_come cs) c.new-left.ensures.items) c.requires in
     record { can = start.can; row = start.row ∙ first-walk k s }
 
 pub returns-clause-walked : goal.returns-clause-walked

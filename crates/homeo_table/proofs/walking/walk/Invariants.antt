@@ -6,15 +6,15 @@ use Rattle.homeo_split.specs.States.{state_of}
 use Rattle.homeo_table.specs.inner.Bindings.{bound}
 use Rattle.homeo_table.specs.inner.Branches.{size_all}
 use Rattle.homeo_table.specs.inner.Makings.{completed}
-use Rattle.homeo_table.specs.inner.Walks.{CanFollow, walked, in_order}
+use Rattle.homeo_table.specs.inner.Walks.{CanFollow, walked, to_come}
 use Rattle.homeo_table.proofs.walking.walk.Given as goal
 
 abbrev pub invariant-loop-c : goal.invariant-loop-c
 invariant-loop-c l =
     let s = state_of l.base in
     let b = bound l.row.bindings in
-    let cs = in_order l.left.items in
+    let cs = to_come l.left.items in
     record { can : CanFollow b cs s; row : walked (completed l.row) b cs s ≡ walk (plain_lcommand l.initial.c) s }
 
 abbrev pub decreases-loop-c : goal.decreases-loop-c
-decreases-loop-c l = size_all (low_commands (in_order l.left.items))
+decreases-loop-c l = size_all (low_commands (to_come l.left.items))

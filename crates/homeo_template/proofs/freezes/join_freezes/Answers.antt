@@ -3,7 +3,7 @@ use Rattle.std.proofs.Common.{ap, ◌∙◌, map, List, []}
 use Rattle.homeo_plan.specs.declared.forms.AtomSet.{AtomSet}
 use Rattle.homeo_plan.specs.declared.forms.Delta.{Delta}
 use Rattle.homeo_plan.specs.PlanView.{plain_atoms}
-use Rattle.homeo_plan.specs.Template.{joined, put_all}
+use Rattle.homeo_plan.specs.Template.{atoms_of_sets, put_all}
 use Rattle.homeo_plan.specs.declared.templates.FreezeSet.{FreezeSet}
 use Rattle.homeo_template.specs.inner.Frozen.{delta_at, deltas_in}
 use Rattle.homeo_template.proofs.Appending.{no-mixed, nothing-put, all_mixed_more, needs_more, all-taken}
@@ -18,7 +18,7 @@ loop-set-preserved c =
 
 pub loop-needs-init : goal.loop-needs-init
 loop-needs-init c =
-    let mixed = λ (sets : List AtomSet). let ds : List Delta = put_all (map (λ a. a.mixed) (joined (map plain_atoms sets))) [] in ds in
+    let mixed = λ (sets : List AtomSet). let ds : List Delta = put_all (map (λ a. a.mixed) (atoms_of_sets (map plain_atoms sets))) [] in ds in
     all-taken mixed c.args.sets.now c.loop-set.set-index (deltas_in c.loop-set.frozen) c.loop-set-test.false c.loop-set.invariant
     ∙ nothing-put (mixed c.args.sets.now)
 

@@ -1,11 +1,11 @@
 -- The clauses and the freezes make the template.
 use Rattle.std.proofs.Common.{subst, sym, map, []}
 use Rattle.homeo_plan.specs.PlanView.{plain_atoms}
-use Rattle.homeo_plan.specs.Template.{joined}
+use Rattle.homeo_plan.specs.Template.{atoms_of_sets}
 use Rattle.homeo_plan.specs.declared.templates.FreezeSet.{FreezeSet}
-use Rattle.homeo_template.specs.InOrder.{AreInOrder}
+use Rattle.homeo_plan.specs.Linear.{AreInOrder}
 use Rattle.homeo_template.proofs.Appending.{template_of}
-use Rattle.homeo_template.proofs.Ordered.{put-in_order}
+use Rattle.homeo_template.proofs.Ordered.{none-in_order, put-in_order}
 use Rattle.homeo_template.proofs.Slacks.{have-slack, small-slacks}
 use Rattle.homeo_template.proofs.joining.template.Goals as goal
 
@@ -21,4 +21,4 @@ returns-clause-slack c = λ below. have-slack c.args.sets.now _ below c.in_ok-cl
 pub returns-clause-order : goal.returns-clause-order
 returns-clause-order c =
     subst AreInOrder (sym c.in_ok-freezes.ensures)
-    (put-in_order (map (λ (f : FreezeSet). f.deltas.items) c.args.freezes.now) _ (put-in_order (map (λ a. a.mixed) (joined (map plain_atoms c.args.sets.now))) [] tt))
+    (put-in_order (map (λ (f : FreezeSet). f.deltas.items) c.args.freezes.now) _ (put-in_order (map (λ a. a.mixed) (atoms_of_sets (map plain_atoms c.args.sets.now))) [] none-in_order))

@@ -1,6 +1,6 @@
 -- The transaction has its parameter and its two commands.
 use Rattle.std.proofs.Common.{[], map, ap, ◌∙◌}
-use Rattle.homeo_syntax.specs.Key.{words as tree_words}
+use Rattle.homeo_syntax.specs.Key.{definitions as syntax_definitions}
 use Rattle.homeo_syntax.specs.Source as s
 use Rattle.homeo_syntax.specs.SourceView.{commands, plain_command}
 use Rattle.homeo_syntax.specs.declared.phrase.Expr.{Read}
@@ -11,7 +11,7 @@ use Rattle.homeo_tests.proofs.Example.{pushed}
 use Rattle.homeo_tests.proofs.evaluation.sale_of_1_to_3.Goals as goal
 
 pub returns : goal.returns
-unfolding tree_words
+unfolding syntax_definitions
 returns c =
     let value = c.in_ok-stock_less_amount.field-0 in
     let params = pushed c.new-params.result c.push.new.self [] _ (ap (λ l. l.items) c.new-params.ensures) c.in_ok-push.ensures.ok in

@@ -1,6 +1,6 @@
 -- The difference is made of its two terms.
 use Rattle.std.proofs.Common.{[], map, ap, ◌∙◌}
-use Rattle.homeo_syntax.specs.Key.{words as tree_words}
+use Rattle.homeo_syntax.specs.Key.{definitions as syntax_definitions}
 use Rattle.homeo_syntax.specs.Source as s
 use Rattle.homeo_syntax.specs.SourceView.{exprs, plain_expr}
 use Rattle.homeo_syntax.specs.declared.phrase.Expr.{Read, Neg}
@@ -10,7 +10,7 @@ use Rattle.homeo_tests.proofs.Example.{pushed}
 use Rattle.homeo_tests.proofs.evaluation.stock_less_amount.Goals as goal
 
 pub returns : goal.returns
-unfolding tree_words
+unfolding syntax_definitions
 returns c =
     let one = pushed c.new-terms.result c.push.new.self [] (Read (name 0)) (ap (λ l. l.items) c.new-terms.ensures) c.in_ok-push.ensures.ok in
     let two = pushed c.push.new.self c.push-2.new.self _ (Neg c.in_ok-amount.amount) one c.in_ok-push-2.ensures.ok in

@@ -1,13 +1,13 @@
 -- The client has its two calls.
 use Rattle.std.proofs.Common.{[], ◌∷◌, pos, map, ap, ◌∙◌}
-use Rattle.homeo_syntax.specs.Key.{words as tree_words}
+use Rattle.homeo_syntax.specs.Key.{definitions as syntax_definitions}
 use Rattle.homeo_syntax.specs.SourceView.{plain_call}
 use Rattle.homeo_tests.specs.inner.Example.{name, number}
 use Rattle.homeo_tests.proofs.Example.{pushed}
 use Rattle.homeo_tests.proofs.evaluation.two_sales.Goals as goal
 
 pub returns : goal.returns
-unfolding tree_words
+unfolding syntax_definitions
 returns c =
     let one = pushed c.new-calls.result c.push.new.self [] c.in_ok-sale_of_3.field-0 (ap (λ l. l.items) c.new-calls.ensures) c.in_ok-push.ensures.ok in
     let two = pushed c.push.new.self c.push-2.new.self _ c.in_ok-sale_of_3-2.field-0 one c.in_ok-push-2.ensures.ok in

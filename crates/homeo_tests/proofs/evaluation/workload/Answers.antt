@@ -1,13 +1,13 @@
 -- The workload is that of the definition.
 use Rattle.std.proofs.Common.{[], ◌∷◌, None, pos, map, ap, ◌∙◌}
-use Rattle.homeo_syntax.specs.Key.{words as tree_words}
+use Rattle.homeo_syntax.specs.Key.{definitions as syntax_definitions}
 use Rattle.homeo_syntax.specs.SourceView.{plain_relation, plain_transaction, plain_client}
 use Rattle.homeo_tests.specs.inner.Example.{number}
 use Rattle.homeo_tests.proofs.Example.{pushed}
 use Rattle.homeo_tests.proofs.evaluation.workload.Goals as goal
 
 pub returns : goal.returns
-unfolding tree_words
+unfolding syntax_definitions
 returns c =
     let one = pushed c.new-names.result c.push.new.self [] c.in_ok-of.field-0 (ap (λ l. l.items) c.new-names.ensures) c.in_ok-push.ensures.ok in
     let two = pushed c.push.new.self c.push-2.new.self _ c.in_ok-of-2.field-0 one c.in_ok-push-2.ensures.ok in

@@ -1,4 +1,4 @@
-use Rattle.homeo_wire.specs.Key.{words}
+use Rattle.homeo_wire.specs.Key.{definitions}
 use Rattle.std.proofs.Common.{◌≡◌, ◌<◌, length, refl, sym, ap, subst, ◌∙◌, arith}
 use Rattle.homeo_syntax.specs.SourceView.{plain_workload}
 use Rattle.homeo_wire.specs.declared.events.Event.TheVariants.{Call}
@@ -8,13 +8,13 @@ use Rattle.homeo_wire.proofs.Driving.{one_more, on_ok_map, each_then}
 use Rattle.homeo_wire.proofs.driver.call_of_each.Goals as goal
 
 pub event-requires : goal.event-requires
-unfolding words
+unfolding definitions
 event-requires c =
     let count : c.client_count-client-end.result ≡ length (plain_workload c.args.wire.now.work).clients = c.client_count-client-end.ensures.count ∙ ap (λ v. length (plain_workload v).clients) c.workload.ensures.work in
     subst (λ v. c.loop-client.client < length (plain_workload v).clients) (sym c.loop-client.invariant.work) (omega (arith, c.loop-client-test.true, count))
 
 pub loop-client-init : goal.loop-client-init
-unfolding words
+unfolding definitions
 loop-client-init c = record { work = refl; world = refl }
 
 pub loop-client-preserved : goal.loop-client-preserved

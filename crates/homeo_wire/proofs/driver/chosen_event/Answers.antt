@@ -1,4 +1,4 @@
-use Rattle.homeo_wire.specs.Key.{words}
+use Rattle.homeo_wire.specs.Key.{definitions}
 use Rattle.std.proofs.Common.{◌≡◌, ◌<◌, ◌/◌, ap, ◌∙◌, arith}
 use Rattle.std.proofs.Math.Nat.{mod-lt}
 use Rattle.homeo_syntax.specs.SourceView.{plain_workload}
@@ -22,7 +22,7 @@ overflow_cast-result c =
     omega (arith, site, c.site_count.ensures.few, c.from.ensures)
 
 pub returns-clause-can : goal.returns-clause-can
-unfolding words
+unfolding definitions
 returns-clause-can c =
     let w = plain_workload c.args.wire.now.work in
     let some = some_sites w c.workload-w.ensures.accepted in

@@ -1,5 +1,5 @@
-use Rattle.homeo_syntax.specs.Key.{words as source_words}
-use Rattle.homeo_wire.specs.Key.{words}
+use Rattle.homeo_syntax.specs.Key.{definitions as syntax_definitions}
+use Rattle.homeo_wire.specs.Key.{definitions}
 use Rattle.std.proofs.Common.{◌≡◌, ◌<◌, ◌+◌, ◌-◌, length, take, get_or, Some, sym, ap, ◌∙◌, arith}
 use Rattle.std.specs.Prelude.{slice_get, option_map}
 use Rattle.homeo_syntax.specs.Source as s
@@ -25,7 +25,7 @@ loop-client-preserved c =
     record { counted = omega (arith, next, counted, long); few = omega (arith, few, room) }
 
 pub returns-then-calls-room-clause-excess : goal.returns-then-calls-room-clause-excess
-unfolding words source_words
+unfolding definitions syntax_definitions
 returns-then-calls-room-clause-excess c =
     let xs = c.as_slice-client-items.result.now in
     let i = c.loop-client.client-index in
@@ -42,7 +42,7 @@ returns-then-calls-room-clause-excess c =
     ∙ ap (λ (k : CallText). Some k.name) c.index-calls-room.is
 
 pub returns-clause-counted : goal.returns-clause-counted
-unfolding words source_words
+unfolding definitions syntax_definitions
 returns-clause-counted c =
     let xs = c.as_slice-client-items.result.now in
     let all : calls_of xs ≡ calls_in (plain_workload c.args.w.now) = ap calls_of (c.as_slice-client-items.ensures ∙ ap (λ w. w.clients.items) c.workload.ensures.value) in

@@ -1,4 +1,4 @@
-use Rattle.homeo_wire.specs.Key.{words}
+use Rattle.homeo_wire.specs.Key.{definitions}
 use Rattle.std.proofs.Common.{◌≡◌, ◌<◌, length, map, refl, sym, ap, subst, ◌∙◌, arith}
 use Rattle.std.specs.List.{range_with_len}
 use Rattle.homeo_syntax.specs.SourceView.{plain_workload}
@@ -9,14 +9,14 @@ use Rattle.homeo_wire.proofs.Driving.{one_more, packets_more}
 use Rattle.homeo_wire.proofs.driver.deliver_all.Goals as goal
 
 pub event-requires : goal.event-requires
-unfolding words
+unfolding definitions
 event-requires c =
     let many = c.loop-packet.invariant.many in
     let sent = c.sent-packet-end.ensures in
     (subst (λ v. c.args.site < sites_of (plain_workload v)) (sym c.loop-packet.invariant.work) c.requires, omega (arith, c.loop-packet-test.true, many, sent))
 
 pub loop-packet-init : goal.loop-packet-init
-unfolding words
+unfolding definitions
 loop-packet-init c = record { work = refl; world = refl; many = omega arith }
 
 pub loop-packet-preserved : goal.loop-packet-preserved
@@ -33,7 +33,7 @@ loop-packet-preserved c =
     }
 
 pub returns-clause-world : goal.returns-clause-world
-unfolding words
+unfolding definitions
 returns-clause-world c =
     let w = plain_workload c.args.wire.now.work in
     let all : c.loop-packet.packet ≡ length c.args.wire.now.world.packets = omega (arith, c.loop-packet-test.false, c.loop-packet.auto.packet-end, c.sent-packet-end.ensures) in

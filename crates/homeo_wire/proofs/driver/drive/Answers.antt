@@ -1,4 +1,4 @@
-use Rattle.homeo_wire.specs.Key.{words}
+use Rattle.homeo_wire.specs.Key.{definitions}
 use Rattle.std.proofs.Common.{◌≡◌, ◌+◌, ◌*◌, length, Some, ap, subst, ◌∙◌}
 use Rattle.std.specs.Prelude.{IfErr, IfOk, option_map}
 use Rattle.std.proofs.lemmas.Result.{IfOk-weaker}
@@ -19,7 +19,7 @@ unreachable-requires c =
     too_many w c.in-Err.field-0 (subst (λ v. option_map (λ (k : s.Call). k.name) (excess v) ≡ Some c.in-Err.field-0) same past) c.requires
 
 pub returns-clause-history : goal.returns-clause-history
-unfolding words
+unfolding definitions
 returns-clause-history c =
     let w = plain_workload c.args.c.value in
     let same : plain_workload c.workload.result.now ≡ w = ap plain_workload (c.workload.ensures ∙ c.deref.ensures) in

@@ -1,4 +1,4 @@
-use Rattle.homeo_wire.specs.Key.{words}
+use Rattle.homeo_wire.specs.Key.{definitions}
 use Rattle.std.proofs.Common.{◌≡◌, ◌<◌, length, true, sym, ap, ◌∙◌, arith}
 use Rattle.std.specs.List.{range_with_len, list_any}
 use Rattle.homeo_syntax.specs.SourceView.{plain_workload}
@@ -12,7 +12,7 @@ left-requires c =
     omega (arith, c.loop-client-test.true, count)
 
 pub returns-then-left-gt0 : goal.returns-then-left-gt0
-unfolding words
+unfolding definitions
 returns-then-left-gt0 c =
     let w = plain_workload c.args.wire.now.work in
     let count : c.client_count-client-end.result ≡ length w.clients = c.client_count-client-end.ensures.count ∙ ap (λ v. length (plain_workload v).clients) c.workload.ensures.work in
@@ -21,13 +21,13 @@ returns-then-left-gt0 c =
     sym (any_here (lacks w c.args.wire.now.world) (length w.clients) c.loop-client.client lt yes)
 
 pub loop-client-preserved : goal.loop-client-preserved
-unfolding words
+unfolding definitions
 loop-client-preserved c =
     let w = plain_workload c.args.wire.now.work in
     none_next (lacks w c.args.wire.now.world) c.loop-client.client c.loop-client.invariant (lacks_none _ _ _ c.left.ensures c.if-left-gt0.false)
 
 pub returns : goal.returns
-unfolding words
+unfolding definitions
 returns c =
     let w = plain_workload c.args.wire.now.work in
     let count : c.client_count-client-end.result ≡ length w.clients = c.client_count-client-end.ensures.count ∙ ap (λ v. length (plain_workload v).clients) c.workload.ensures.work in

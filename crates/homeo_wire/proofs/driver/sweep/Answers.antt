@@ -1,4 +1,4 @@
-use Rattle.homeo_wire.specs.Key.{words}
+use Rattle.homeo_wire.specs.Key.{definitions}
 use Rattle.std.proofs.Common.{◌≡◌, ◌<◌, ◌+◌, suc, refl, sym, ap, subst, ◌∙◌, arith}
 use Rattle.homeo_syntax.specs.SourceView.{plain_workload}
 use Rattle.homeo_plan.specs.Planned.{sites_of}
@@ -34,7 +34,7 @@ loop-site-preserved c =
     }
 
 pub returns-clause-world : goal.returns-clause-world
-unfolding words
+unfolding definitions
 returns-clause-world c =
     let count : c.site_count-site-end.result ≡ sites_of (plain_workload c.args.wire.now.work) = c.site_count-site-end.ensures.count ∙ ap (λ v. sites_of (plain_workload v)) c.workload.ensures.work in
     c.loop-site.invariant.rest 0 (omega (arith, c.loop-site-test.false, c.loop-site.auto.site-end, count))

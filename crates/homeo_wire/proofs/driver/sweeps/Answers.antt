@@ -1,4 +1,4 @@
-use Rattle.homeo_wire.specs.Key.{words}
+use Rattle.homeo_wire.specs.Key.{definitions}
 use Rattle.std.proofs.Common.{◌≡◌, suc, refl, sym, ap, ◌∙◌, arith}
 use Rattle.homeo_syntax.specs.SourceView.{plain_workload}
 use Rattle.homeo_plan.specs.Planned.{sites_of}
@@ -26,5 +26,5 @@ loop-preserved c =
     }
 
 pub returns-clause-world : goal.returns-clause-world
-unfolding words
+unfolding definitions
 returns-clause-world c = c.loop.invariant.rest 0 (omega (arith, c.loop-test.false, c.loop.auto.counter-end))

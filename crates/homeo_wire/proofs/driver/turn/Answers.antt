@@ -1,4 +1,4 @@
-use Rattle.homeo_wire.specs.Key.{words}
+use Rattle.homeo_wire.specs.Key.{definitions}
 use Rattle.std.proofs.Common.{sym, ap, subst, ◌∙◌}
 use Rattle.std.specs.Prelude.{IfSome}
 use Rattle.std.specs.Option.{option_to_list}
@@ -14,7 +14,7 @@ event-requires c =
     subst (λ o. IfSome o (CanHappen (plain_workload c.args.wire.now.work) c.args.wire.now.world)) c.in-Some.is c.chosen_event.ensures.can
 
 pub returns-in_ok-event-in-Some-clause-world : goal.returns-in_ok-event-in-Some-clause-world
-unfolding words
+unfolding definitions
 returns-in_ok-event-in-Some-clause-world c =
     let w = plain_workload c.args.wire.now.work in
     let x = c.args.wire.now.world in
@@ -23,7 +23,7 @@ returns-in_ok-event-in-Some-clause-world c =
     c.in_ok-event-in-Some.ensures.world ∙ ap (λ es. after w es x) events
 
 pub returns-in-None-clause-world : goal.returns-in-None-clause-world
-unfolding words
+unfolding definitions
 returns-in-None-clause-world c =
     let w = plain_workload c.args.wire.now.work in
     let x = c.args.wire.now.world in

@@ -1,4 +1,4 @@
-use Rattle.homeo_wire.specs.Key.{words}
+use Rattle.homeo_wire.specs.Key.{definitions}
 use Rattle.std.proofs.Common.{◌≡◌, ◌-◌, suc, true, false, refl, sym, ap, ◌∙◌, arith}
 use Rattle.homeo_syntax.specs.SourceView.{plain_workload}
 use Rattle.homeo_wire.specs.Drive.{call_of_each, until_made, has_left}
@@ -35,5 +35,5 @@ loop-preserved c =
     }
 
 pub returns-clause-world : goal.returns-clause-world
-unfolding words
+unfolding definitions
 returns-clause-world c = c.loop.invariant.rest 0 (omega (arith, c.loop-test.false, c.loop.auto.counter-end))

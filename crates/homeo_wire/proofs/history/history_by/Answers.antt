@@ -1,5 +1,5 @@
-use Rattle.homeo_history.specs.Key.{words as histories}
-use Rattle.homeo_wire.specs.Key.{words}
+use Rattle.homeo_history.specs.Key.{definitions as history_definitions}
+use Rattle.homeo_wire.specs.Key.{definitions}
 use Rattle.std.proofs.Common.{[], ◌∷◌, ◌++◌, None, map, length, sym, ap, subst, ◌∙◌}
 use Rattle.std.proofs.lemmas.List.{map-append}
 use Rattle.homeo_history.specs.HistoryView.{plain_round}
@@ -15,7 +15,7 @@ last_values-requires c =
     record { fits = subst (λ v. LastFits v c.round.result js) (sym (c.as_slice-base.ensures ∙ c.requires.base)) (subst (λ r. LastFits c.args.node.now.site.state.base r js) (sym c.round.ensures) c.requires.fits) }
 
 pub returns : goal.returns
-unfolding histories words
+unfolding history_definitions definitions
 returns c =
     let js = map plain_journal c.args.nodes.now in
     let x = c.args.node.now in

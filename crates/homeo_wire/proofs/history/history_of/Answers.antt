@@ -1,5 +1,5 @@
-use Rattle.homeo_history.specs.Key.{words as histories}
-use Rattle.homeo_wire.specs.Key.{words}
+use Rattle.homeo_history.specs.Key.{definitions as history_definitions}
+use Rattle.homeo_wire.specs.Key.{definitions}
 use Rattle.std.proofs.Common.{◌≡◌, [], map, sym, ap, ◌∙◌}
 use Rattle.std.specs.Prelude.{◌==◌}
 use Rattle.std.specs.Option.{option_map_or}
@@ -26,7 +26,7 @@ history_by-requires-clause-fits c =
     c.requires.fits c.loop-node.node-index c.node-item.result (get_read c.args.nodes.now c.loop-node.node-index c.node-item.result c.loop-node-test.true c.node-item.is) (sym c.round.ensures ∙ c.if-round-last.true ∙ c.last_round-last.ensures)
 
 pub returns-then-round-last : goal.returns-then-round-last
-unfolding words
+unfolding definitions
 returns-then-round-last c =
     let js = map plain_journal c.args.nodes.now in
     let x = c.node-item.result in
@@ -35,14 +35,14 @@ returns-then-round-last c =
     IfOk-weaker c.history_by.result _ _ (λ h e. e ∙ ap (λ o. option_map_or (history_by js) o (record { rounds = []; last = [] })) (sym is)) c.history_by.ensures
 
 pub loop-node-preserved : goal.loop-node-preserved
-unfolding words
+unfolding definitions
 loop-node-preserved c =
     let js = map plain_journal c.args.nodes.now in
     let x = c.node-item.result in
     c.loop-node.invariant ∙ find_next (λ (j : Journal). j.site.round == last_round js) c.args.nodes.now c.loop-node.node-index x c.loop-node-test.true c.node-item.is (test_false x.site.state.round (last_round js) (λ e. c.if-round-last.false (c.round.ensures ∙ e ∙ sym c.last_round-last.ensures)))
 
 pub returns : goal.returns
-unfolding words histories
+unfolding definitions history_definitions
 returns c =
     let js = map plain_journal c.args.nodes.now in
     let is = c.loop-node.invariant ∙ find_end (λ (j : Journal). j.site.round == last_round js) c.args.nodes.now c.loop-node.node-index c.loop-node-test.false in

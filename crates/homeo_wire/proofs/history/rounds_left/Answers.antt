@@ -1,5 +1,5 @@
-use Rattle.homeo_history.specs.Key.{words as histories}
-use Rattle.homeo_wire.specs.Key.{words}
+use Rattle.homeo_history.specs.Key.{definitions as history_definitions}
+use Rattle.homeo_wire.specs.Key.{definitions}
 use Rattle.std.proofs.Common.{[], ◌∷◌, ◌++◌, Some, map, sym, ap, ◌∙◌}
 use Rattle.std.proofs.lemmas.List.{map-append}
 use Rattle.homeo_history.specs.HistoryView.{plain_round}
@@ -13,7 +13,7 @@ pub loop-i-init : goal.loop-i-init
 loop-i-init c = ap (λ l. map plain_round l.items) c.new-rounds.ensures ∙ left_none (map plain_journal c.args.nodes.now) c.args.left.now
 
 pub loop-i-preserved : goal.loop-i-preserved
-unfolding histories words
+unfolding history_definitions definitions
 loop-i-preserved c =
     let js = map plain_journal c.args.nodes.now in
     let before = c.loop-i.rounds.items in

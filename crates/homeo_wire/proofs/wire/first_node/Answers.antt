@@ -1,5 +1,5 @@
-use Rattle.homeo_site.specs.Key.{words as site_words}
-use Rattle.homeo_wire.specs.Key.{words}
+use Rattle.homeo_site.specs.Key.{definitions as site_definitions}
+use Rattle.homeo_wire.specs.Key.{definitions}
 use Rattle.std.proofs.Common.{◌≡◌, map, length, replicate, None, false, sym, ap, ◌∙◌}
 use Rattle.homeo_syntax.specs.SourceView.{plain_workload}
 use Rattle.homeo_syntax.specs.Listed.{Listed}
@@ -13,7 +13,7 @@ use Rattle.homeo_wire.specs.WireView.{plain_left, plain_state}
 use Rattle.homeo_wire.proofs.wire.first_node.Goals as goal
 
 pub returns-clause-node : goal.returns-clause-node
-unfolding words
+unfolding definitions
 returns-clause-node c =
     let w = plain_workload c.args.c.now.value in
     let state : c.begin.result.state ≡ begun c.args.site 0 (initial w) = ap (λ (x : SiteValue). x.state) c.begin.ensures ∙ ap (λ (s : StartValue). begun s.number s.round s.base) c.in_ok-start.ensures ∙ ap (begun c.args.site 0) c.requires.at in
@@ -28,7 +28,7 @@ returns-clause-node c =
     }
 
 pub returns-clause-is : goal.returns-clause-is
-unfolding site_words
+unfolding site_definitions
 returns-clause-is c =
     let w = plain_workload c.args.c.now.value in
     let state : c.begin.result.state ≡ begun c.args.site 0 (initial w) = ap (λ (x : SiteValue). x.state) c.begin.ensures ∙ ap (λ (s : StartValue). begun s.number s.round s.base) c.in_ok-start.ensures ∙ ap (begun c.args.site 0) c.requires.at in

@@ -1,4 +1,4 @@
-use Rattle.homeo_wire.specs.Key.{words}
+use Rattle.homeo_wire.specs.Key.{definitions}
 use Rattle.std.proofs.Common.{◌≡◌, ◌+◌, [], ◌∷◌, ◌++◌, length, map, sym, ap, subst, ◌∙◌, arith}
 use Rattle.std.specs.Prelude.{All}
 use Rattle.std.specs.List.{range_with_len}
@@ -30,7 +30,7 @@ loop-site-init c = record {
 }
 
 pub loop-site-preserved : goal.loop-site-preserved
-unfolding words
+unfolding definitions
 loop-site-preserved c =
     let w = plain_workload c.args.c.now.value in
     let site = c.loop-site.site in
@@ -44,7 +44,7 @@ loop-site-preserved c =
     }
 
 pub returns-clause-nodes : goal.returns-clause-nodes
-unfolding words
+unfolding definitions
 returns-clause-nodes c =
     let w = plain_workload c.args.c.now.value in
     let count : c.site_count-site-end.result ≡ sites_of w = c.site_count-site-end.ensures.count ∙ ap (λ v. sites_of (plain_workload v)) (c.workload-3.ensures ∙ c.deref-4.ensures) in

@@ -3,7 +3,7 @@ use Rattle.std.proofs.Common.{◌≡◌, ◌+◌, map, drop, sym, ap, ◌∙◌,
 use Rattle.homeo_syntax.specs.Low.{Seq, If}
 use Rattle.homeo_syntax.specs.LowView.{low_commands, plain_lcommand, plain_lcond}
 use Rattle.homeo_syntax.proofs.LowViews.{low_Skip, low_Seq, low_If}
-use Rattle.homeo_cert.specs.Key.{words}
+use Rattle.homeo_cert.specs.Key.{definitions}
 use Rattle.homeo_cert.specs.Followed.{faults}
 use Rattle.homeo_cert.specs.inner.Follows.{Follows, rules_in, forms_in}
 use Rattle.homeo_cert.specs.inner.Stops.{Finds}
@@ -12,7 +12,7 @@ use Rattle.homeo_cert.proofs.Stopping.{stop_with, stops_as, on_ok_as}
 use Rattle.homeo_cert.proofs.following.Following.+following.Goals as goal
 
 pub follow-returns-in-Skip-clause-faults : goal.follow-returns-in-Skip-clause-faults
-unfolding words
+unfolding definitions
 follow-returns-in-Skip-clause-faults t c =
     let s = c.args.self.now in
     ap (λ x. faults (rules_in s) x (forms_in s)) (ap plain_lcommand c.in-Skip.is ∙ low_Skip)
@@ -23,7 +23,7 @@ follow-returns-in-Skip-clause-after t c =
     subst (λ x. Follows x s s) (sym (ap plain_lcommand c.in-Skip.is ∙ low_Skip)) (skip_follows s)
 
 pub follow-returns-in-Seq-clause-faults : goal.follow-returns-in-Seq-clause-faults
-unfolding words
+unfolding definitions
 follow-returns-in-Seq-clause-faults t c =
     let s = c.args.self.now in
     let is : plain_lcommand c.args.command.now ≡ Seq (low_commands (map plain_lcommand c.as_slice.result.now)) =

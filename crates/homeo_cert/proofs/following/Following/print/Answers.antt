@@ -2,7 +2,7 @@
 use Rattle.std.proofs.Common.{refl, subst}
 use Rattle.homeo_syntax.specs.LowView.{plain_lexpr}
 use Rattle.homeo_plan.specs.Linear.{form}
-use Rattle.homeo_cert.specs.Key.{words}
+use Rattle.homeo_cert.specs.Key.{definitions}
 use Rattle.homeo_cert.specs.Met.{met}
 use Rattle.homeo_cert.specs.Followed.{too_large, not_frozen, remote_deltas}
 use Rattle.homeo_cert.specs.inner.Follows.{rules_in, forms_in}
@@ -11,7 +11,7 @@ use Rattle.homeo_cert.proofs.Stopping.{stop_with, stop_sooner, finds_later, on_o
 use Rattle.homeo_cert.proofs.following.Following.print.Goals as goal
 
 pub returns-in_err-form-clause-faults : goal.returns-in_err-form-clause-faults
-unfolding words
+unfolding definitions
 returns-in_err-form-clause-faults c =
     let s = c.args.self.now in
     let e = plain_lexpr c.args.value.now in
@@ -19,7 +19,7 @@ returns-in_err-form-clause-faults c =
     (stop_sooner (too_large (met (forms_in s) e)) (not_frozen (rules_in s) (remote_deltas (rules_in s) (form (forms_in s) e))) _ c.in_err-form.ensures.faults)
 
 pub returns-clause-faults : goal.returns-clause-faults
-unfolding words
+unfolding definitions
 returns-clause-faults c =
     let s = c.args.self.now in
     let e = plain_lexpr c.args.value.now in
@@ -27,5 +27,5 @@ returns-clause-faults c =
     (subst (λ a. Finds (not_frozen (rules_in s) (remote_deltas (rules_in s) a)) c.freeze_remote.result) c.in_ok-form.ensures.form c.freeze_remote.ensures)
 
 pub returns-clause-after : goal.returns-clause-after
-unfolding words
+unfolding definitions
 returns-clause-after c = on_ok_always c.freeze_remote.result (record { rules = refl; forms = refl; written = refl })

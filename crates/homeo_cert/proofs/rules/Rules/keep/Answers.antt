@@ -2,7 +2,7 @@
 use Rattle.std.proofs.Common.{rules, ◌++◌, refl, sym, ap, ◌∙◌, subst}
 use Rattle.homeo_meaning.proofs.Numbers.{kept_is}
 use Rattle.homeo_plan.specs.Linear.{Linear}
-use Rattle.homeo_cert.specs.Key.{words}
+use Rattle.homeo_cert.specs.Key.{definitions}
 use Rattle.homeo_cert.specs.Met.{numbers}
 use Rattle.homeo_cert.specs.Kept.{atom, gap, form_of}
 use Rattle.homeo_cert.specs.Followed.{too_large, not_frozen, no_clause}
@@ -12,7 +12,7 @@ use Rattle.homeo_cert.proofs.Stopping.{stop_with, stops_as, stop_sooner, stop_la
 use Rattle.homeo_cert.proofs.rules.Rules.keep.Goals as goal
 
 pub returns-in_err-form : goal.returns-in_err-form
-unfolding words
+unfolding definitions
 returns-in_err-form c =
     let r = plain_rules c.args.self.now in
     let a = atom c.args.left.now c.args.right.now c.args.more in
@@ -22,7 +22,7 @@ returns-in_err-form c =
     (stop_sooner (too_large (numbers (gap a) ++ numbers (form_of a))) (not_frozen r (form_of a).mixed ++ no_clause r (form_of a)) _ (stops_as _ _ _ sizes c.in_err-form.ensures.faults))
 
 pub returns-in_err-freeze : goal.returns-in_err-freeze
-unfolding words
+unfolding definitions
 returns-in_err-freeze c =
     let r = plain_rules c.args.self.now in
     let a = atom c.args.left.now c.args.right.now c.args.more in
@@ -35,7 +35,7 @@ returns-in_err-freeze c =
     (stop_sooner (not_frozen r (form_of a).mixed) (no_clause r (form_of a)) _ (stops_as _ _ _ (ap (not_frozen r) mixed) c.in_err-freeze.ensures)))
 
 pub returns : goal.returns
-unfolding words
+unfolding definitions
 returns c =
     let r = plain_rules c.args.self.now in
     let a = atom c.args.left.now c.args.right.now c.args.more in

@@ -1,8 +1,8 @@
 -- What keeps each kind of comparison.
 use Rattle.std.proofs.Common.{[], ◌∷◌, pos, cond, sym, ◌∙◌, subst}
 use Rattle.std.specs.List.{flat_map}
-use Rattle.homeo_meaning.specs.Key.{words as meaning_words}
-use Rattle.homeo_cert.specs.Key.{words}
+use Rattle.homeo_meaning.specs.Key.{definitions as meaning_definitions}
+use Rattle.homeo_cert.specs.Key.{definitions}
 use Rattle.homeo_cert.specs.Kept.{atom, kept_false}
 use Rattle.homeo_cert.specs.Followed.{atom_faults}
 use Rattle.homeo_cert.specs.inner.RulesView.{plain_rules}
@@ -24,19 +24,19 @@ pub keep-requires-else-is_true-clause-more : goal.keep-requires-else-is_true-cla
 keep-requires-else-is_true-clause-more c = one_is_small
 
 pub returns-in-Less : goal.returns-in-Less
-unfolding words
+unfolding definitions
 returns-in-Less c =
     subst (λ o. Finds (flat_map (atom_faults (plain_rules c.args.self.now)) (kept_false o c.args.left.now c.args.right.now)) c.keep.result) (sym c.in-Less.is)
     (finds_one _ c.keep.result c.keep.ensures)
 
 pub returns-in-LessEqual : goal.returns-in-LessEqual
-unfolding words
+unfolding definitions
 returns-in-LessEqual c =
     subst (λ o. Finds (flat_map (atom_faults (plain_rules c.args.self.now)) (kept_false o c.args.left.now c.args.right.now)) c.keep-in-LessEqual.result) (sym c.in-LessEqual.is)
     (finds_one _ c.keep-in-LessEqual.result c.keep-in-LessEqual.ensures)
 
 pub returns-then-is_true : goal.returns-then-is_true
-unfolding words meaning_words
+unfolding definitions meaning_definitions
 returns-then-is_true c =
     let f = atom_faults (plain_rules c.args.self.now) in
     let a = c.args.left.now in
@@ -46,7 +46,7 @@ returns-then-is_true c =
     (subst (λ v. Finds (flat_map f (cond v (atom a b (pos 1)) (atom b a (pos 1)) ∷ [])) c.keep-then-is_true.result) (sym below) (finds_one _ c.keep-then-is_true.result c.keep-then-is_true.ensures))
 
 pub returns-else-is_true : goal.returns-else-is_true
-unfolding words meaning_words
+unfolding definitions meaning_definitions
 returns-else-is_true c =
     let f = atom_faults (plain_rules c.args.self.now) in
     let a = c.args.left.now in

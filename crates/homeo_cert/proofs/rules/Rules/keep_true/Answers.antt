@@ -1,7 +1,7 @@
 -- What keeps each kind of comparison.
 use Rattle.std.proofs.Common.{◌++◌, [], pos, ap, sym, subst}
 use Rattle.std.specs.List.{flat_map}
-use Rattle.homeo_cert.specs.Key.{words}
+use Rattle.homeo_cert.specs.Key.{definitions}
 use Rattle.homeo_cert.specs.Kept.{atom, kept_true}
 use Rattle.homeo_cert.specs.Followed.{atom_faults}
 use Rattle.homeo_cert.specs.inner.RulesView.{plain_rules}
@@ -23,19 +23,19 @@ pub keep-requires-in-Equal-2-clause-more : goal.keep-requires-in-Equal-2-clause-
 keep-requires-in-Equal-2-clause-more c = zero_is_small
 
 pub returns-in-Less : goal.returns-in-Less
-unfolding words
+unfolding definitions
 returns-in-Less c =
     subst (λ o. Finds (flat_map (atom_faults (plain_rules c.args.self.now)) (kept_true o c.args.left.now c.args.right.now)) c.keep.result) (sym c.in-Less.is)
     (finds_one _ c.keep.result c.keep.ensures)
 
 pub returns-in-LessEqual : goal.returns-in-LessEqual
-unfolding words
+unfolding definitions
 returns-in-LessEqual c =
     subst (λ o. Finds (flat_map (atom_faults (plain_rules c.args.self.now)) (kept_true o c.args.left.now c.args.right.now)) c.keep-in-LessEqual.result) (sym c.in-LessEqual.is)
     (finds_one _ c.keep-in-LessEqual.result c.keep-in-LessEqual.ensures)
 
 pub returns-in_err-keep-in-Equal : goal.returns-in_err-keep-in-Equal
-unfolding words
+unfolding definitions
 returns-in_err-keep-in-Equal c =
     let f = atom_faults (plain_rules c.args.self.now) in
     let a = c.args.left.now in
@@ -45,7 +45,7 @@ returns-in_err-keep-in-Equal c =
     (stop_sooner (f (atom a b (pos 0))) (f (atom b a (pos 0)) ++ []) _ c.in_err-keep-in-Equal.ensures))
 
 pub returns-in_ok-keep-in-Equal : goal.returns-in_ok-keep-in-Equal
-unfolding words
+unfolding definitions
 returns-in_ok-keep-in-Equal c =
     let f = atom_faults (plain_rules c.args.self.now) in
     let a = c.args.left.now in

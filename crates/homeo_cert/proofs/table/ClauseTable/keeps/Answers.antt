@@ -3,17 +3,17 @@ use Rattle.std.proofs.Common.{rules, arith, ◌≡◌, pos, ◌-ℤ◌, SFits, t
 use Rattle.std.specs.Int.{w128}
 use Rattle.std.specs.List.{list_any}
 use Rattle.std.proofs.lemmas.Int.{ints, to_z-of_z}
-use Rattle.homeo_meaning.specs.Key.{words as meaning_words}
-use Rattle.homeo_cert.specs.Key.{words}
+use Rattle.homeo_meaning.specs.Key.{definitions as meaning_definitions}
+use Rattle.homeo_cert.specs.Key.{definitions}
 use Rattle.homeo_cert.specs.inner.Slacks.{is_within, has_terms}
 use Rattle.homeo_cert.proofs.table.ClauseTable.keeps.Goals as goal
 
 pub overflow_sub-form : goal.overflow_sub-form
-unfolding meaning_words
+unfolding meaning_definitions
 overflow_sub-form c = grind (arith, ints, rules)
 
 pub returns : goal.returns
-unfolding words meaning_words
+unfolding definitions meaning_definitions
 returns c =
     let k = c.args.form.now.constant in
     let minus : pos 0 -ℤ k ≡ neg_ℤ k = omega (arith, ints) in

@@ -1,5 +1,5 @@
-use Rattle.homeo_site.specs.Key.{words as site_words}
-use Rattle.homeo_history.specs.Key.{words as histories}
+use Rattle.homeo_site.specs.Key.{definitions as site_definitions}
+use Rattle.homeo_history.specs.Key.{definitions as history_definitions}
 use Rattle.std.proofs.Common.{rules, ◌≡◌, suc, ◌+◌, ◌-◌, ◌<◌, ◌≤◌, List, [], ◌∷◌, ◌++◌, length, map, Some, All, refl, sym, ap, subst, ◌∙◌, arith}
 use Rattle.std.proofs.lemmas.List.{length-map, map-append}
 use Rattle.homeo_syntax.specs.SourceView.{plain_workload}
@@ -65,7 +65,7 @@ workload_is : (g : Over) (c : After-two_answers-answer g) → plain_workload c.r
 workload_is g c = ap (λ (v : SiteValue). plain_workload v.work) c.room.ensures.state ∙ c.cell.invariant.work
 
 is_change : (g : Over) (c : After-two_answers-answer g) → IsChange g.N.ClusterNaming.workload c.room.new.self.state c.next-call.result c.in-Keeps.change
-unfolding site_words
+unfolding site_definitions
 is_change g c =
     let is : IsChange (plain_workload c.room.new.self.work) c.room.new.self.state c.next-call.result c.in-Keeps.change = c.in-Keeps.ensures.outcome in
     subst (λ w. IsChange w c.room.new.self.state c.next-call.result c.in-Keeps.change) (workload_is g c) is
@@ -115,7 +115,7 @@ abbrev reply : (g : Over) (c : After-two_answers-answer g) → Answer
 reply g c = local_answer c.room.new.self.state.round c.room.new.self.state.number (local_entry g.N.ClusterNaming.workload c.room.new.self.state c.in-Keeps.change.call)
 
 answer_is : (g : Over) (c : After-two_answers-answer g) → (plain_answer c.two_answers-answer.result.0 ≡ reply g c) × (plain_answer c.two_answers-answer.result.1 ≡ reply g c)
-unfolding site_words
+unfolding site_definitions
 answer_is g c =
     let w = g.N.ClusterNaming.workload in
     let x : SiteState = c.room.new.self.state in
@@ -129,7 +129,7 @@ answer_is g c =
 
 -- whose answer it is
 whose : (g : Over) (c : After-two_answers-answer g) → ((reply g c).client ≡ c.pass.inside.client) × ((reply g c).seq ≡ suc (length (map plain_answer c.pass.inside.log.items))) × ((reply g c).site ≡ c.cell.inside.site.state.number)
-unfolding histories site_words
+unfolding history_definitions site_definitions
 whose g c =
     let call = call_is g c in
     (ap (λ (k : CallId). k.client) call, ap (λ (k : CallId). k.seq) call, ap (λ (x : SiteState). x.number) (state_is g c))
@@ -155,7 +155,7 @@ invariant_of-pass-in-Keeps g c =
     (subst (λ n. HasSeen c.make.new.asker (done_line w n) (list_at c.make.new.asker (asked_line n))) client c.make.ensures.seen)
 
 pub returns-in-Keeps-clause-tried : goal.returns-in-Keeps-clause-tried
-unfolding histories
+unfolding history_definitions
 returns-in-Keeps-clause-tried g c =
     let w = g.N.ClusterNaming.workload in
     let d = (goal.at.returns-in-Keeps-clause-tried g c).After-push_reserved in
@@ -178,7 +178,7 @@ returns-in-Keeps-clause-tried g c =
     )
 
 pub returns-in-Breaks-clause-tried : goal.returns-in-Breaks-clause-tried
-unfolding site_words
+unfolding site_definitions
 returns-in-Breaks-clause-tried g c =
     let w = g.N.ClusterNaming.workload in
     let reserved : c.reserve.new.self.items ≡ c.pass.inside.log.items = search rules in

@@ -1,5 +1,5 @@
-use Rattle.homeo_history.specs.Key.{words as histories}
-use Rattle.homeo_core.specs.Key.{words as cores}
+use Rattle.homeo_history.specs.Key.{definitions as history_definitions}
+use Rattle.homeo_core.specs.Key.{definitions as core_definitions}
 use Rattle.std.proofs.Common.{rules, ◌≡◌, ℕ, suc, ◌-◌, ◌<◌, ◌≤◌, List, [], ◌∷◌, ◌++◌, length, map, refl, sym, ap, subst, ◌∙◌, arith}
 use Rattle.std.proofs.lemmas.List.{length-map, map-append}
 use Rattle.homeo_meaning.specs.declared.call.CallId.{CallId}
@@ -24,7 +24,7 @@ use Rattle.homeo_cluster.proofs.Passes.{pass_more}
 use Rattle.homeo_cluster.proofs.frame.Frame.close.Goals as goal
 
 pub end_round-requires-clause-hand : goal.end_round-requires-clause-hand
-unfolding cores
+unfolding core_definitions
 end_round-requires-clause-hand g c =
     let w = g.N.ClusterNaming.workload in
     let vs : List CellValue = held_cells c.meet_row.new.cells.items in
@@ -37,7 +37,7 @@ end_round-requires-clause-hand g c =
     subst (λ (x : BookState × BookLists). InHand w x.0 x.1 (cells_of w vs)) (λ i. (state i, lists i)) c.meet_row.ensures.met
 
 pub end_round-requires-clause-breaks : goal.end_round-requires-clause-breaks
-unfolding histories cores
+unfolding history_definitions core_definitions
 end_round-requires-clause-breaks g c =
     let w = g.N.ClusterNaming.workload in
     let vs : List CellValue = held_cells c.meet_row.new.cells.items in
@@ -53,7 +53,7 @@ end_round-requires-clause-breaks g c =
     (subst (λ (x : List SiteState × CallId). BreaksCall w x.0 c.args.home x.1 c.args.broken) (λ i. (sym c.meet_row.ensures.states i, sym c.next.ensures.call i)) c.requires.breaks)
 
 pub end_round-requires-clause-prepared : goal.end_round-requires-clause-prepared
-unfolding histories cores
+unfolding history_definitions core_definitions
 end_round-requires-clause-prepared g c =
     let w = g.N.ClusterNaming.workload in
     let vs : List CellValue = held_cells c.meet_row.new.cells.items in
@@ -73,7 +73,7 @@ end_round-requires-clause-prepared g c =
     (subst (λ (x : ℕ × CallId). IsPrepared w b (site_states vs) x.0 x.1 c.args.broken p) (λ i. (sym site_is i, sym call_is i)) ready)
 
 pub end_round-requires-clause-asker : goal.end_round-requires-clause-asker
-unfolding histories cores
+unfolding history_definitions core_definitions
 end_round-requires-clause-asker g c =
     let w = g.N.ClusterNaming.workload in
     let vs : List CellValue = held_cells c.meet_row.new.cells.items in
@@ -99,7 +99,7 @@ end_round-requires-clause-asker g c =
     }
 
 pub invariant_of-pass-2 : goal.invariant_of-pass-2
-unfolding histories cores
+unfolding history_definitions core_definitions
 invariant_of-pass-2 g c =
     let w = g.N.ClusterNaming.workload in
     let vs : List CellValue = held_cells c.meet_row.new.cells.items in
@@ -126,7 +126,7 @@ invariant_of-pass-2 g c =
     (subst (λ n. HasSeen c.end_round.new.asker (done_line w n) (list_at c.end_round.new.asker (asked_line n))) client c.end_round.ensures.asked.seen)
 
 pub returns-clause-replied : goal.returns-clause-replied
-unfolding histories cores
+unfolding history_definitions core_definitions
 returns-clause-replied g c =
     let w = g.N.ClusterNaming.workload in
     let vs : List CellValue = held_cells c.meet_row.new.cells.items in

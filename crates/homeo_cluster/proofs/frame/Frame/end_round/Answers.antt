@@ -1,6 +1,6 @@
-use Rattle.homeo_history.specs.Key.{words as histories}
-use Rattle.homeo_core.specs.Key.{words as cores}
-use Rattle.homeo_assembly.specs.Key.{words}
+use Rattle.homeo_history.specs.Key.{definitions as history_definitions}
+use Rattle.homeo_core.specs.Key.{definitions as core_definitions}
+use Rattle.homeo_assembly.specs.Key.{definitions}
 use Rattle.std.proofs.Common.{rules, ◌≡◌, ◌≢◌, ℕ, ◌+◌, ◌<◌, ◌≤◌, Bool, true, false, List, [], ◌∷◌, ◌++◌, length, map, replicate, vec_len, Some, refl, sym, ap, subst, ◌∙◌, arith}
 use Rattle.std.specs.Prelude.{ℤ, All, slice_get}
 use Rattle.std.proofs.lemmas.List.{length-map, map-append}
@@ -65,7 +65,7 @@ count_is g c =
     held_long c.args.cells.now.items ∙ long
 
 pub renew_row-requires-clause-rounds : goal.renew_row-requires-clause-rounds
-unfolding cores
+unfolding core_definitions
 renew_row-requires-clause-rounds g c =
     let e = (goal.at.renew_row-requires-clause-rounds g c).After-extend in
     let p = c.requires.prepared in
@@ -80,12 +80,12 @@ renew_row-requires-clause-within g c =
     (next_within w (initial w) (book g e) (site_states (cells g e)) c.args.answer.now.site (called (plain_answer c.args.answer.now)) c.args.broken c.accepted.ensures (joined g e) c.requires.breaks)
 
 pub renew_row-requires-clause-path : goal.renew_row-requires-clause-path
-unfolding histories cores
+unfolding history_definitions core_definitions
 renew_row-requires-clause-path g c =
     ap (λ (a : Answer). a.path) c.requires.answer ∙ ap (λ (k : Closing). Cleanup k.broken) c.requires.prepared.closing
 
 asker_at : (g : Over) (c : After-extend g) → IsClientAt g.N.ClusterNaming.workload c.args.answer.now.site c.args.answer.now.client
-unfolding histories
+unfolding history_definitions
 asker_at g c = client_at g.N.ClusterNaming.workload (called (plain_answer c.args.answer.now)) c.args.answer.now.site c.requires.breaks.at_site.at_site
 
 pub renew_row-requires-clause-there : goal.renew_row-requires-clause-there
@@ -93,7 +93,7 @@ renew_row-requires-clause-there g c =
     client_lt g.N.ClusterNaming.workload c.args.answer.now.site c.args.answer.now.client (asker_at g (goal.at.renew_row-requires-clause-there g c).After-extend)
 
 pub renew_row-requires-clause-each : goal.renew_row-requires-clause-each
-unfolding words cores
+unfolding definitions core_definitions
 renew_row-requires-clause-each g c i v at =
     let w = g.N.ClusterNaming.workload in
     let e = (goal.at.renew_row-requires-clause-each g c).After-extend in
@@ -146,7 +146,7 @@ many g c =
     sym (states_long (held_cells c.args.cells.now.items) ∙ (held_long c.args.cells.now.items ∙ long))
 
 waiting_is : (g : Over) (c : After-renew_row g) → c.renew_row.new.prepared.waiting ≡ replicate (length (states g c)) false
-unfolding cores
+unfolding core_definitions
 waiting_is g c =
     let p = c.requires.prepared in
     let n : ℕ = length (states g c) in
@@ -156,7 +156,7 @@ waiting_is g c =
     ∙ from_all c.args.prepared.waiting (replicate n false) (long ∙ sym (length_same n false))
 
 segments_are : (g : Over) (c : After-renew_row g) → c.renew_row.new.prepared.segments ≡ segments_of (states g c)
-unfolding cores
+unfolding core_definitions
 segments_are g c =
     let p = c.requires.prepared in
     ap (λ (q : PreparedValue). q.segments) c.renew_row.ensures.prepared
@@ -169,7 +169,7 @@ closed-round-requires g c =
     subst (All (λ (b : Bool). b ≡ false)) (sym (waiting_is g e)) (All-replicate (λ (b : Bool). b ≡ false) (length (states g e)) false refl)
 
 pub returns-clause-book : goal.returns-clause-book
-unfolding cores
+unfolding core_definitions
 returns-clause-book g c =
     let w = g.N.ClusterNaming.workload in
     let a : Answer = plain_answer c.args.answer.now in
@@ -203,7 +203,7 @@ returns-clause-book g c =
     refl
 
 pub returns-clause-asked : goal.returns-clause-asked
-unfolding histories
+unfolding history_definitions
 returns-clause-asked g c =
     let e = (goal.at.returns-clause-asked g c).After-extend in
     let f = (goal.at.returns-clause-asked g c).After-renew_row in

@@ -1,4 +1,4 @@
-use Rattle.homeo_history.specs.Key.{words as histories}
+use Rattle.homeo_history.specs.Key.{definitions as history_definitions}
 use Rattle.std.proofs.Common.{◌≡◌, ℕ, suc, length, List, ◌++◌, ap, sym, subst, ◌∙◌, refl, inl, inr, ◌≤◌, arith}
 use Rattle.std.specs.Prelude.{ℤ}
 use Rattle.homeo_notes.specs.Lines.{IsOwner, HasSeen, list_at}
@@ -7,7 +7,7 @@ use Rattle.homeo_history.specs.HistoryView.{plain_answer}
 use Rattle.homeo_history.specs.Legal.{IsClientAt}
 use Rattle.homeo_history.proofs.ClientAnswers.{one_site}
 use Rattle.std.proofs.lemmas.List.{length-map}
-use Rattle.homeo_assembly.specs.Key.{words}
+use Rattle.homeo_assembly.specs.Key.{definitions}
 use Rattle.homeo_assembly.specs.Written.{written, read}
 use Rattle.homeo_cluster.specs.inner.Cells.{HoldsAt, HoldsFor}
 use Rattle.homeo_cluster.specs.Places.{asked_line, done_line}
@@ -28,7 +28,7 @@ own : (g : Over) (c : After-extend_pair g) → IsClientAt g.N.ClusterNaming.work
 own g c = subst (λ n. IsClientAt g.N.ClusterNaming.workload n c.args.answer.now.client) c.if-home-number.true c.home.ensures.at
 
 entry : (g : Over) (c : After-extend_pair g) → c.closing_head-head.result ++ c.as_slice.result.now ≡ written (plain_answer c.args.answer.now)
-unfolding histories
+unfolding history_definitions
 entry g c =
     written_closing (plain_answer c.args.answer.now) c.args.broken c.closing_head-head.result c.as_slice.result.now c.requires.path c.closing_head-head.ensures c.as_slice.ensures
 
@@ -64,7 +64,7 @@ extend_pair-requires-then-home-number-clause-left g c =
     subst (λ (x : ℕ × ℕ). HasSeen c.extend_pair.new.left x.1 (list_at c.extend_pair.new.left x.0)) (λ i. (sym c.shut-shut.ensures i, sym c.kept-kept.ensures i)) for.seen_kept
 
 pub returns-then-home-number-clause-given : goal.returns-then-home-number-clause-given
-unfolding histories
+unfolding history_definitions
 returns-then-home-number-clause-given g c =
     let w = g.N.ClusterNaming.workload in
     let a : Answer = plain_answer c.args.answer.now in
@@ -81,7 +81,7 @@ returns-then-home-number-clause-given g c =
     (subst (λ (x : ℕ × ℕ). HasSeen two.new.right x.0 (list_at two.new.right x.1)) (λ i. (shut i, kept i)) two.ensures.right_seen)
 
 pub returns-then-home-number-clause-asked : goal.returns-then-home-number-clause-asked
-unfolding histories
+unfolding history_definitions
 returns-then-home-number-clause-asked g c =
     let w = g.N.ClusterNaming.workload in
     let e = (goal.at.returns-then-home-number-clause-asked g c).After-extend_pair in
@@ -94,7 +94,7 @@ returns-then-home-number-clause-asked g c =
     )
 
 pub returns-else-home-number-clause-given : goal.returns-else-home-number-clause-given
-unfolding histories
+unfolding history_definitions
 returns-else-home-number-clause-given g c =
     let w = g.N.ClusterNaming.workload in
     given_elsewhere w c.args.number (plain_answer c.args.answer.now) c.args.site.now c.args.book.now
@@ -102,13 +102,13 @@ returns-else-home-number-clause-given g c =
     c.requires.holds c.requires.pairs c.requires.book
 
 pub returns-else-home-number-clause-asked : goal.returns-else-home-number-clause-asked
-unfolding histories
+unfolding history_definitions
 returns-else-home-number-clause-asked g c =
     let w = g.N.ClusterNaming.workload in
     inr ((λ at. c.if-home-number.false (one_site w c.args.answer.now.client c.home.result c.args.number c.home.ensures.at at)), refl)
 
 pub returns-then-home-number-clause-next : goal.returns-then-home-number-clause-next
-unfolding words histories
+unfolding definitions history_definitions
 returns-then-home-number-clause-next g c at =
     let w = g.N.ClusterNaming.workload in
     let client = c.args.answer.now.client in
@@ -119,12 +119,12 @@ returns-then-home-number-clause-next g c at =
     ∙ ap suc (sym (length-map (list_at c.args.site.now (done_line w client)) (read client)))
 
 pub returns-else-home-number-clause-next : goal.returns-else-home-number-clause-next
-unfolding words histories
+unfolding definitions history_definitions
 returns-else-home-number-clause-next g c at =
     absurd (c.if-home-number.false (one_site g.N.ClusterNaming.workload c.args.answer.now.client c.home.result c.args.number c.home.ensures.at at))
 
 pub extend_pair-requires-clause-owners : goal.extend_pair-requires-clause-owners
-unfolding histories
+unfolding history_definitions
 extend_pair-requires-clause-owners g c =
     let w = g.N.ClusterNaming.workload in
     let here : IsClientAt w c.args.number c.args.answer.now.client = subst (λ n. IsClientAt w n c.args.answer.now.client) c.if-home-number.true c.home.ensures.at in
@@ -132,7 +132,7 @@ extend_pair-requires-clause-owners g c =
     (subst (IsOwner c.args.site.now) (sym c.done-done.ensures) (c.requires.holds.each c.args.answer.now.client here).owns_done, can.owns)
 
 pub extend_pair-requires-clause-right : goal.extend_pair-requires-clause-right
-unfolding histories
+unfolding history_definitions
 extend_pair-requires-clause-right g c =
     let w = g.N.ClusterNaming.workload in
     let here : IsClientAt w c.args.number c.args.answer.now.client = subst (λ n. IsClientAt w n c.args.answer.now.client) c.if-home-number.true c.home.ensures.at in
@@ -140,7 +140,7 @@ extend_pair-requires-clause-right g c =
     subst (λ l. HasSeen c.args.asker.now l (list_at c.args.asker.now (asked_line c.args.answer.now.client))) (sym c.done-done.ensures) can.seen
 
 pub extend_pair-requires-clause-room : goal.extend_pair-requires-clause-room
-unfolding histories
+unfolding history_definitions
 extend_pair-requires-clause-room g c =
     let w = g.N.ClusterNaming.workload in
     let here : IsClientAt w c.args.number c.args.answer.now.client = subst (λ n. IsClientAt w n c.args.answer.now.client) c.if-home-number.true c.home.ensures.at in

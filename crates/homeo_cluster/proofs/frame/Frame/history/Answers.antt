@@ -1,5 +1,5 @@
-use Rattle.homeo_history.specs.Key.{words as histories}
-use Rattle.homeo_core.specs.Key.{words as cores}
+use Rattle.homeo_history.specs.Key.{definitions as history_definitions}
+use Rattle.homeo_core.specs.Key.{definitions as core_definitions}
 use Rattle.std.proofs.Common.{◌≡◌, List, [], ◌∷◌, ◌++◌, None, map, length, take, sym, ap, subst, ◌∙◌, FitsSigned}
 use Rattle.std.specs.Int.{w64}
 use Rattle.std.specs.Prelude.{All}
@@ -42,7 +42,7 @@ last_database-requires-clause-fits g c n =
     (sums_fit w b (site_states c.args.cells.items) c.accepted.ensures joined n)
 
 pub returns-clause-history : goal.returns-clause-history
-unfolding histories cores
+unfolding history_definitions core_definitions
 returns-clause-history g c =
     let f = c.book.inside in
     let sites : c.as_slice-2.result.now ≡ c.args.cells.items = c.as_slice-2.ensures.value in
@@ -57,7 +57,7 @@ returns-clause-history g c =
     history ∙ ap (λ (v : BookValue). history_of (book_state v) (site_states c.args.cells.items)) c.book.view_is
 
 pub returns-clause-within : goal.returns-clause-within
-unfolding histories
+unfolding history_definitions
 returns-clause-within g c =
     let w = g.N.ClusterNaming.workload in
     let f = c.book.inside in

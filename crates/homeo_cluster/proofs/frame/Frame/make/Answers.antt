@@ -1,4 +1,4 @@
-use Rattle.homeo_site.specs.Key.{words as site_words}
+use Rattle.homeo_site.specs.Key.{definitions as site_definitions}
 use Rattle.std.proofs.Common.{rules, ◌≡◌, ℕ, suc, List, ◌++◌, length, sym, ap, subst, ◌∙◌}
 use Rattle.std.specs.Prelude.{ℤ}
 use Rattle.homeo_syntax.specs.SourceView.{plain_workload}
@@ -51,7 +51,7 @@ extend_pair-requires-clause-left g c =
 
 -- what is written is the local answer
 entry : (g : Over) (c : After-as_slice g) → c.local_head-head.result ++ c.as_slice.result.now ≡ written (local_answer c.cell.inside.site.state.round c.cell.inside.site.state.number (local_entry g.N.ClusterNaming.workload c.cell.inside.site.state c.args.change.call))
-unfolding site_words
+unfolding site_definitions
 entry g c =
     let w = g.N.ClusterNaming.workload in
     let x : SiteState = c.cell.inside.site.state in

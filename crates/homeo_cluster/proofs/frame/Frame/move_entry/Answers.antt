@@ -1,4 +1,4 @@
-use Rattle.homeo_history.specs.Key.{words as histories}
+use Rattle.homeo_history.specs.Key.{definitions as history_definitions}
 use Rattle.std.proofs.Common.{◌≡◌, ℕ, List, ◌++◌, subst}
 use Rattle.std.specs.Prelude.{ℤ}
 use Rattle.homeo_history.specs.Answers.{local_answer}
@@ -14,7 +14,7 @@ abbrev LineEntry : Type 0
 LineEntry = ℕ × List ℤ
 
 entry : (g : Over) (c : After-extend_pair g) → c.local_head-head.result ++ c.as_slice.result.now ≡ written (local_answer c.args.round c.args.number (plain_entry c.args.entry.now))
-unfolding histories
+unfolding history_definitions
 entry g c =
     written_entry c.args.round c.args.number (plain_entry c.args.entry.now) c.local_head-head.result c.as_slice.result.now c.local_head-head.ensures c.as_slice.ensures
 

@@ -1,4 +1,4 @@
-use Rattle.homeo_history.specs.Key.{words as histories}
+use Rattle.homeo_history.specs.Key.{definitions as history_definitions}
 use Rattle.std.proofs.Common.{◌≡◌, ℕ, suc, ◌+◌, Some, slice_get, length, map, refl, ap, sym, subst, ◌∙◌, arith}
 use Rattle.std.proofs.lemmas.List.{length-map}
 use Rattle.std.proofs.lemmas.Option.{slice_get_read}
@@ -26,7 +26,7 @@ abbrev made : (g : Over) (c : After-entry-item g) → Made
 made g c = plain_entry c.entry-item.result
 
 at : (g : Over) (c : After-entry-item g) → slice_get c.args.site.now.state.segment c.loop-entry.entry-index ≡ Some (made g c)
-unfolding histories
+unfolding history_definitions
 at g c =
     let items = c.as_slice-entry-items.result.now in
     let here : slice_get items c.loop-entry.entry-index ≡ Some c.entry-item.result = slice_get_read items _ c.loop-entry.entry-index c.entry-item.result refl c.loop-entry-test.true c.entry-item.is in
@@ -34,7 +34,7 @@ at g c =
     sym (ap (λ xs. slice_get xs c.loop-entry.entry-index) same) ∙ get_map plain_entry items c.loop-entry.entry-index c.entry-item.result here
 
 own : (g : Over) (c : After-entry-item g) → IsClientAt g.N.ClusterNaming.workload c.args.site.now.state.number c.entry-item.result.call.client
-unfolding histories
+unfolding history_definitions
 own g c = own_entry g.N.ClusterNaming.workload c.args.site.now.state c.args.holder.now c.loop-entry.entry-index (made g c) c.requires.facts (at g c)
 
 pub move_entry-requires-clause-there : goal.move_entry-requires-clause-there
@@ -68,7 +68,7 @@ move_entry-requires-clause-room g c =
     c.requires.facts c.requires.short c.loop-entry.invariant (own g e)
 
 pub loop-entry-preserved : goal.loop-entry-preserved
-unfolding histories
+unfolding history_definitions
 loop-entry-preserved g c =
     let w = g.N.ClusterNaming.workload in
     let x = c.args.site.now.state in
@@ -87,7 +87,7 @@ loop-entry-preserved g c =
     c.requires.facts (own g e) (at g e) left right c.move_entry.ensures.site_seen c.move_entry.ensures.book_seen c.loop-entry.invariant)
 
 pub returns : goal.returns
-unfolding histories
+unfolding history_definitions
 returns g c =
     let items = c.as_slice-entry-items.result.now in
     let end : c.loop-entry.entry-index ≡ length items = omega (arith, c.loop-entry-test.false, c.loop-entry.auto.entry-index-end) in

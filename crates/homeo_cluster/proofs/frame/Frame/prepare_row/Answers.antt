@@ -1,5 +1,5 @@
-use Rattle.homeo_history.specs.Key.{words as histories}
-use Rattle.homeo_core.specs.Key.{words as cores}
+use Rattle.homeo_history.specs.Key.{definitions as history_definitions}
+use Rattle.homeo_core.specs.Key.{definitions as core_definitions}
 use Rattle.std.proofs.Common.{rules, ◌≡◌, ◌+◌, ◌<◌, true, List, [], length, replicate, vec_len, sym, ap, subst, ◌∙◌}
 use Rattle.std.specs.Prelude.{unwrap_or}
 use Rattle.homeo_syntax.specs.Source as s
@@ -51,7 +51,7 @@ prepare-requires-clause-within g c =
     (last_within g.N.ClusterNaming.workload (book_state c.args.book.now) (sites g e) c.accepted.ensures (joined g e)))
 
 pub returns : goal.returns
-unfolding histories cores
+unfolding history_definitions core_definitions
 returns g c =
     let w = g.N.ClusterNaming.workload in
     let e = (goal.at.returns g c).After-accepted in

@@ -1,5 +1,5 @@
-use Rattle.homeo_site.specs.Key.{words as site_words}
-use Rattle.homeo_history.specs.Key.{words as histories}
+use Rattle.homeo_site.specs.Key.{definitions as site_definitions}
+use Rattle.homeo_history.specs.Key.{definitions as history_definitions}
 use Rattle.std.proofs.Common.{rules, ◌≡◌, ℕ, suc, ◌+◌, ◌<◌, length, map, ap, sym, subst, ◌∙◌, arith}
 use Rattle.homeo_syntax.specs.SourceView.{plain_workload}
 use Rattle.homeo_meaning.specs.Bounds.{IsWithin}
@@ -10,7 +10,7 @@ use Rattle.homeo_history.specs.HistoryView.{plain_answer}
 use Rattle.homeo_history.specs.Legal.{IsClientAt}
 use Rattle.homeo_site.specs.SiteState.{SiteState, renewed}
 use Rattle.homeo_assembly.specs.Events.{IsNext, Renews}
-use Rattle.homeo_assembly.specs.Key.{words}
+use Rattle.homeo_assembly.specs.Key.{definitions}
 use Rattle.homeo_assembly.specs.Written.{read}
 use Rattle.homeo_cluster.specs.inner.Cells.{CellValue, site_lists}
 use Rattle.homeo_cluster.specs.Places.{at_line, bases_line}
@@ -47,7 +47,7 @@ follow_pair-requires-clause-room g c =
     omega (arith, long, few)
 
 pub invariant_of-cell : goal.invariant_of-cell
-unfolding words site_words histories
+unfolding definitions site_definitions history_definitions
 invariant_of-cell g c =
     let w = g.N.ClusterNaming.workload in
     let x : SiteState = c.cell.inside.site.state in
@@ -74,7 +74,7 @@ invariant_of-cell g c =
     c.args.book.now c.move_segment.new.book c.give.new.book c.follow_pair.new.right c.cell.invariant.facts is_next c.move_segment.ensures.moved given grew c.follow_pair.ensures.right seen)
 
 pub returns-clause-renewed : goal.returns-clause-renewed
-unfolding words site_words histories
+unfolding definitions site_definitions history_definitions
 returns-clause-renewed g c =
     let w = g.N.ClusterNaming.workload in
     let x : SiteState = c.cell.inside.site.state in

@@ -1,5 +1,5 @@
-use Rattle.homeo_history.specs.Key.{words as histories}
-use Rattle.homeo_core.specs.Key.{words as cores}
+use Rattle.homeo_history.specs.Key.{definitions as history_definitions}
+use Rattle.homeo_core.specs.Key.{definitions as core_definitions}
 use Rattle.std.proofs.Common.{rules, ◌≡◌, ℕ, suc, ◌+◌, ◌<◌, true, false, List, [], ◌∷◌, ◌++◌, Some, slice_get, slice_set, length, length-set, replicate, vec_len, refl, sym, ap, subst, ◌∙◌, arith}
 use Rattle.homeo_notes.specs.Lines.{list_at}
 use Rattle.homeo_history.specs.Answers.{Answer}
@@ -24,7 +24,7 @@ use Rattle.homeo_cluster.proofs.frame.Frame.renew_row.Goals.{After-deref_mut}
 use Rattle.homeo_cluster.proofs.frame.Frame.renew_row.Given.{Over}
 
 pub loop-i-init : goal.loop-i-init
-unfolding cores
+unfolding core_definitions
 loop-i-init g c = record {
   long = search rules;
   gone = on.gone_none g.N.ClusterNaming.workload c.args.next.now (plain_answer c.args.answer.now) (held_cells c.args.cells.now.items) c.args.book.now c.args.asker.now c.requires.book;
@@ -72,7 +72,7 @@ state_at : (g : Over) (c : After-deref_mut g) → slice_get (site_states (before
 state_at g c = states_get (before g c) c.loop-i.i c.deref_mut.result.now (stood g c)
 
 pub renew-requires-clause-waits : goal.renew-requires-clause-waits
-unfolding cores
+unfolding core_definitions
 renew-requires-clause-waits g c =
     let e = (goal.at.renew-requires-clause-waits g c).After-deref_mut in
     let n : ℕ = length (site_states (before g e)) in
@@ -84,7 +84,7 @@ renew-requires-clause-waits g c =
     ∙ same_in (vec_len c.args.cells.now) c.loop-i.i true lt
 
 pub renew-requires-clause-round : goal.renew-requires-clause-round
-unfolding cores
+unfolding core_definitions
 renew-requires-clause-round g c =
     let e = (goal.at.renew-requires-clause-round g c).After-deref_mut in
     (c.requires.rounds c.loop-i.i c.deref_mut.result.now.site.state (state_at g e)).in_round ∙ sym (ap (λ (p : PreparedValue). p.round) c.loop-i.invariant.prepared)
@@ -108,14 +108,14 @@ renew-requires-clause-ahead g c =
     subst (λ n. list_at c.loop-i.book (bases_line g.N.ClusterNaming.workload) ≡ list_at c.deref_mut.result.now.held (at_line g.N.ClusterNaming.workload n) ++ c.args.next.now ∷ []) (sym (number g e)) (ready g e).ahead
 
 pub renew-requires-clause-asker : goal.renew-requires-clause-asker
-unfolding histories
+unfolding history_definitions
 renew-requires-clause-asker g c own =
     let e = (goal.at.renew-requires-clause-asker g c).After-deref_mut in
     on.asker_now g.N.ClusterNaming.workload c.args.next.now (plain_answer c.args.answer.now) c.loop-i.i (before g e) (now g e) c.args.book.now c.loop-i.book c.args.asker.now c.loop-i.asker
     c.loop-i.invariant.gone (at_own g e c.args.answer.now.client own) c.requires.asker
 
 pub loop-i-preserved : goal.loop-i-preserved
-unfolding cores
+unfolding core_definitions
 loop-i-preserved g c =
     let w = g.N.ClusterNaming.workload in
     let a : Answer = plain_answer c.args.answer.now in

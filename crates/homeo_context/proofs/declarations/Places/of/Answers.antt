@@ -1,5 +1,5 @@
 use Rattle.std.proofs.Common.{◌≡◌, ◌-◌, length, get_or, ap, sym, ◌∙◌, arith, rules}
-use Rattle.homeo_meaning.specs.Key.{words}
+use Rattle.homeo_meaning.specs.Key.{definitions}
 use Rattle.homeo_context.proofs.Tables.{no_names, table_step, table_whole}
 use Rattle.homeo_context.proofs.declarations.Places.of.Goals as goal
 
@@ -19,7 +19,7 @@ loop-place-preserved c =
     }
 
 pub invariant_of-result : goal.invariant_of-result
-unfolding words
+unfolding definitions
 invariant_of-result c =
     let e : c.len-absent.result ≡ length c.args.names.items = search rules in
     λ n. ap (get_or c.loop-place.places.items n) (sym e) ∙ c.loop-place.invariant.slots n ∙ table_whole c.args.names.items c.loop-place.place n c.loop-place-test.false

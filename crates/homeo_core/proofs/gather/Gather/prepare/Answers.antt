@@ -7,7 +7,7 @@ use Rattle.homeo_plan.specs.Planned.{sites_of}
 use Rattle.homeo_build.specs.Plan.{IsPlanOf}
 use Rattle.homeo_history.specs.Follows.{site_or_zero}
 use Rattle.homeo_history.specs.HistoryView.{plain_segment, plain_closing}
-use Rattle.homeo_core.specs.Key.{words}
+use Rattle.homeo_core.specs.Key.{definitions}
 use Rattle.homeo_core.specs.Events.{closing_on}
 use Rattle.homeo_core.specs.GatherView.{GatherValue}
 use Rattle.homeo_core.specs.Starts.{AreStarts, waits}
@@ -31,7 +31,7 @@ invariant_of-result-3 c =
     )
 
 pub returns : goal.returns
-unfolding words
+unfolding definitions
 returns c =
     let w = c.args.c.now.value in
     let call = c.args.call in

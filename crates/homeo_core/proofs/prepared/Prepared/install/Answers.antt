@@ -1,6 +1,6 @@
-use Rattle.homeo_site.specs.Key.{words as site_words}
+use Rattle.homeo_site.specs.Key.{definitions as site_definitions}
 use Rattle.homeo_core.specs.Starts.{start_after, waits}
-use Rattle.homeo_core.specs.Key.{words}
+use Rattle.homeo_core.specs.Key.{definitions}
 use Rattle.homeo_site.specs.SiteView.{SiteValue, StartValue}
 use Rattle.homeo_site.specs.SiteState.{begun}
 use Rattle.homeo_history.specs.HistoryView.{plain_segment, plain_closing}
@@ -18,7 +18,7 @@ unreachable-requires c =
     no_start c.self.inside.starts.items c.number-number.result _ here (sym c.index_mut.ensures.value ∙ sym c.take.ensures.value ∙ c.in-None.is)
 
 pub invariant_of-self : goal.invariant_of-self
-unfolding words
+unfolding definitions
 invariant_of-self c =
     let f = c.self.inside in
     let n : ℕ = c.number-number.result in (
@@ -28,7 +28,7 @@ invariant_of-self c =
     )
 
 pub returns-clause-site : goal.returns-clause-site
-unfolding words site_words
+unfolding definitions site_definitions
 returns-clause-site c =
     let f = c.self.inside in
     let n : ℕ = c.number-number.result in
@@ -44,7 +44,7 @@ returns-clause-site c =
     ∙ (λ j. begun (c.number-number.ensures j) (suc (round j)) (next j))
 
 pub returns-clause-work : goal.returns-clause-work
-unfolding words
+unfolding definitions
 returns-clause-work c =
     let f = c.self.inside in
     let n : ℕ = c.number-number.result in
@@ -56,7 +56,7 @@ returns-clause-work c =
     ap (λ (s : SiteValue). s.work) c.renew.ensures.state ∙ ap (λ (s : StartValue). s.work) is ∙ ap (λ (v : PreparedValue). v.work) view
 
 pub returns-clause-taken : goal.returns-clause-taken
-unfolding words
+unfolding definitions
 returns-clause-taken c =
     let f = c.self.inside in
     let n : ℕ = c.number-number.result in

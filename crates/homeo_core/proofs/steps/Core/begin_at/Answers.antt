@@ -1,4 +1,4 @@
-use Rattle.homeo_history.specs.Key.{words as histories}
+use Rattle.homeo_history.specs.Key.{definitions as history_definitions}
 use Rattle.std.proofs.Common.{◌≡◌, [], length, replicate, sym, ap, subst, ◌∙◌}
 use Rattle.homeo_syntax.specs.Listed.{Listed}
 use Rattle.homeo_syntax.specs.declared.workload.Workload.{Workload}
@@ -9,7 +9,7 @@ use Rattle.homeo_build.specs.Plan.{IsPlanOf}
 use Rattle.homeo_history.specs.Follows.{Follows}
 use Rattle.homeo_history.specs.Legal.{IsLegalFrom}
 use Rattle.homeo_history.specs.declared.history.Round.{Round}
-use Rattle.homeo_core.specs.Key.{words}
+use Rattle.homeo_core.specs.Key.{definitions}
 use Rattle.homeo_core.specs.CoreView.{CoreValue, CoreHolds, begun_sites, core_at, core_history}
 use Rattle.homeo_core.specs.Books.{book_of}
 use Rattle.homeo_core.specs.SiteLists.{states}
@@ -26,7 +26,7 @@ work_is : (c : After-new) → c.workload.result.now ≡ c.args.c.value
 work_is c = c.workload.ensures ∙ c.deref-2.ensures
 
 is_begun : (c : After-new) → begun c ≡ core_at c.args.c.value c.args.base.items
-unfolding words
+unfolding definitions
 is_begun c =
     let w : Workload = c.args.c.value in
     let closed : c.new.result.items ≡ [] = ap (λ (l : Listed Round). l.items) c.new.ensures in
@@ -38,28 +38,28 @@ is_begun c =
     (λ j. record { work = w; book = book_of (closed j) c.args.base.items; sites = sites j; counts = zeros j })
 
 holds : (c : After-new) → CoreHolds (core_at c.args.c.value c.args.base.items)
-unfolding words
+unfolding definitions
 holds c =
     let accepted : IsAccepted (plain_workload c.args.c.value) = subst (λ (v : Workload). IsAccepted (plain_workload v)) (work_is c) c.in_ok-counts.ensures.accepted in
     core_begins c.args.c.value c.args.base.items accepted c.requires.within
 
 pub invariant_of-result : goal.invariant_of-result
-unfolding words
+unfolding definitions
 invariant_of-result c =
     let e = (goal.at.invariant_of-result c).After-new in
     (c.in_ok-sites.ensures.of, subst CoreHolds (sym (is_begun e)) (holds e))
 
 pub returns-clause-core : goal.returns-clause-core
-unfolding words
+unfolding definitions
 returns-clause-core c = is_begun (goal.at.returns-clause-core c).After-new
 
 pub returns-clause-legal : goal.returns-clause-legal
-unfolding words histories
+unfolding definitions history_definitions
 returns-clause-legal c =
     let e = (goal.at.returns-clause-legal c).After-new in
     subst (λ (v : CoreValue). IsLegalFrom (plain_workload c.args.c.value) c.args.base.items v.counts (core_history v)) (sym (is_begun e)) (is_legal (core_at c.args.c.value c.args.base.items) (holds e))
 
 pub returns-clause-follows : goal.returns-clause-follows
-unfolding words
+unfolding definitions
 returns-clause-follows c =
     subst (λ (v : CoreValue). Follows (plain_workload c.args.c.value) (core_history v) []) (sym (is_begun (goal.at.returns-clause-follows c).After-new)) (follows_none c.args.c.value c.args.base.items)

@@ -1,4 +1,4 @@
-use Rattle.homeo_history.specs.Key.{words as histories}
+use Rattle.homeo_history.specs.Key.{definitions as history_definitions}
 use Rattle.std.proofs.Common.{◌≡◌, List, [], ◌∷◌, ◌++◌, None, map, length, take, sym, ap, subst, ◌∙◌, FitsSigned}
 use Rattle.std.specs.Int.{w64}
 use Rattle.std.specs.Prelude.{All}
@@ -11,7 +11,7 @@ use Rattle.homeo_history.specs.HistoryView.{plain_segment, plain_round, plain_hi
 use Rattle.homeo_history.specs.Legal.{IsLegalFrom}
 use Rattle.homeo_history.specs.declared.history.Round.{Round}
 use Rattle.homeo_site.specs.SiteState.{SiteState}
-use Rattle.homeo_core.specs.Key.{words}
+use Rattle.homeo_core.specs.Key.{definitions}
 use Rattle.homeo_core.specs.CoreView.{CoreValue, CoreHolds, core_history, start_of}
 use Rattle.homeo_core.specs.Joined.{gathered, segments_of}
 use Rattle.homeo_core.specs.SiteLists.{states, AreAt}
@@ -22,7 +22,7 @@ use Rattle.homeo_core.proofs.steps.Core.finish.Goals as goal
 use Rattle.homeo_core.proofs.steps.Core.finish.Goals.{In_ok-push}
 
 pub gathered_values-requires-clause-at : goal.gathered_values-requires-clause-at
-unfolding words
+unfolding definitions
 gathered_values-requires-clause-at c =
     let x : CoreValue = core_of c.self.inside in
     let holds : CoreHolds x = c.self.invariant.1 in
@@ -31,7 +31,7 @@ gathered_values-requires-clause-at c =
     (subst (λ n. AreAt n x.book.base x.sites) round (at_round (plain_workload x.work) (start_of x.book) x.book x.sites holds.joined))
 
 pub gathered_values-requires-clause-fits : goal.gathered_values-requires-clause-fits
-unfolding words
+unfolding definitions
 gathered_values-requires-clause-fits c n =
     let x : CoreValue = core_of c.self.inside in
     let w = plain_workload x.work in
@@ -41,11 +41,11 @@ gathered_values-requires-clause-fits c n =
 
 -- ---- the history that is handed out
 last_is : (c : In_ok-push) → c.in_ok-last.last.items ≡ gathered c.self.inside.base.items (states c.self.inside.sites.items)
-unfolding words
+unfolding definitions
 last_is c = c.in_ok-last.ensures ∙ ap (gathered c.self.inside.base.items) (ap states c.as_slice-2.ensures.value)
 
 history_is : (c : In_ok-push) → plain_history (record { rounds = c.push.new.self; last = c.in_ok-last.last }) ≡ core_history (core_of c.self.inside)
-unfolding words histories
+unfolding definitions history_definitions
 history_is c =
     let f = c.self.inside in
     let rounds : c.push.new.self.items ≡ f.closed.items ++ record { base = f.base; segments = c.in_ok-segments.segments; closing = None } ∷ [] = ap (λ (l : Listed Round). l.items) c.in_ok-push.ensures.ok in
@@ -56,11 +56,11 @@ history_is c =
     })
 
 pub returns-clause-history : goal.returns-clause-history
-unfolding words histories
+unfolding definitions history_definitions
 returns-clause-history c = history_is (goal.at.returns-clause-history c).In_ok-push ∙ ap core_history c.self.view_is
 
 pub returns-clause-legal : goal.returns-clause-legal
-unfolding words histories
+unfolding definitions history_definitions
 returns-clause-legal c =
     let x : CoreValue = core_of c.self.inside in
     let history = history_is (goal.at.returns-clause-legal c).In_ok-push in
@@ -68,7 +68,7 @@ returns-clause-legal c =
     (subst (IsLegalFrom (plain_workload x.work) (start_of x.book) x.counts) (sym history) (is_legal x c.self.invariant.1))
 
 pub returns-clause-within : goal.returns-clause-within
-unfolding words histories
+unfolding definitions history_definitions
 returns-clause-within c =
     let x : CoreValue = core_of c.self.inside in
     let w = plain_workload x.work in

@@ -6,8 +6,8 @@ use Rattle.homeo_syntax.specs.SourceView.{plain_workload}
 use Rattle.homeo_history.specs.HistoryView.{plain_answer}
 use Rattle.homeo_history.specs.Legal.{IsClientAt, call_count, IsLegalFrom}
 use Rattle.homeo_site.specs.SiteView.{SiteValue}
-use Rattle.homeo_core.specs.Key.{words}
-use Rattle.homeo_core.specs.CoreView.{CoreValue, CoreHolds, core_history, start_of, IsMade, IsStep}
+use Rattle.homeo_core.specs.Key.{definitions}
+use Rattle.homeo_core.specs.CoreView.{CoreValue, CoreHolds, core_history, start_of, IsCallMade, IsStep}
 use Rattle.homeo_core.specs.Books.{book_of}
 use Rattle.homeo_core.specs.SiteLists.{states, AreOf}
 use Rattle.homeo_core.proofs.CoreSteps.{core_of, can_call, is_legal, whole_slice, IsNext, IsStepped, taken}
@@ -16,7 +16,7 @@ use Rattle.homeo_core.proofs.steps.Core.step.Goals.{After-as_mut_slice, In_ok-an
 
 -- ---- the client's next call
 is_next : (c : After-as_mut_slice) → IsNext (core_of c.self.inside) c.args.client c.site_of-home.result c.index-last.result.now
-unfolding words
+unfolding definitions
 is_next c =
     let x : CoreValue = core_of c.self.inside in
     let client = c.args.client in
@@ -33,13 +33,13 @@ is_next c =
     }
 
 pub make_call-requires-clause-at_home : goal.make_call-requires-clause-at_home
-unfolding words
+unfolding definitions
 make_call-requires-clause-at_home c =
     can_call (core_of c.self.inside) c.args.client c.site_of-home.result c.index-last.result.now (is_next (goal.at.make_call-requires-clause-at_home c).After-as_mut_slice)
 
 -- ---- where the call fails
 pub returns-in_err-answer-clause-legal : goal.returns-in_err-answer-clause-legal
-unfolding words
+unfolding definitions
 returns-in_err-answer-clause-legal c =
     let f = c.self.inside in
     let x : CoreValue = core_of f in
@@ -68,35 +68,35 @@ abbrev Stepped : In_ok-answer → CoreValue → Type 0
 Stepped c x = IsStepped x c.args.client (plain_answer c.in_ok-answer.answer) (after c) × IsStep x c.args.client (plain_answer c.in_ok-answer.answer) (after c)
 
 has_stepped : (c : In_ok-answer) → IsNext (core_of c.self.inside) c.args.client c.site_of-home.result c.index-last.result.now → Stepped c c.args.self.now
-unfolding words
+unfolding definitions
 has_stepped c next =
     let x : CoreValue = core_of c.self.inside in
-    let made = subst (λ l. IsMade (plain_workload x.work) x.book l c.site_of-home.result (record { client = c.args.client; seq = c.index-last.result.now + 1 }) (plain_answer c.in_ok-answer.answer) (after c).book (states c.make_call.new.sites)) (ap states c.as_mut_slice.ensures.value) c.in_ok-answer.ensures.made in
+    let made = subst (λ l. IsCallMade (plain_workload x.work) x.book l c.site_of-home.result (record { client = c.args.client; seq = c.index-last.result.now + 1 }) (plain_answer c.in_ok-answer.answer) (after c).book (states c.make_call.new.sites)) (ap states c.as_mut_slice.ensures.value) c.in_ok-answer.ensures.made in
     subst (Stepped c) c.self.view_is
     (taken x c.args.client c.site_of-home.result c.index-last.result.now (plain_answer c.in_ok-answer.answer) (after c).book (states c.make_call.new.sites) (after c).sites c.self.invariant.1 next (ap states (whole c)) made)
 
 pub invariant_of-self-2 : goal.invariant_of-self-2
-unfolding words
+unfolding definitions
 invariant_of-self-2 c =
     let at = goal.at.invariant_of-self-2 c in
     (subst (AreOf c.self.inside.compiled.value) (sym (whole at.In_ok-answer)) c.make_call.ensures.of, (has_stepped at.In_ok-answer (is_next at.After-as_mut_slice)).0.holds)
 
 pub returns-clause-step : goal.returns-clause-step
-unfolding words
+unfolding definitions
 returns-clause-step c = (has_stepped (goal.at.returns-clause-step c).In_ok-answer (is_next (goal.at.returns-clause-step c).After-as_mut_slice)).1
 
 pub returns-clause-answered : goal.returns-clause-answered
-unfolding words
+unfolding definitions
 returns-clause-answered c = (has_stepped (goal.at.returns-clause-answered c).In_ok-answer (is_next (goal.at.returns-clause-answered c).After-as_mut_slice)).0.answered
 
 pub returns-clause-follows : goal.returns-clause-follows
-unfolding words
+unfolding definitions
 returns-clause-follows c = (has_stepped (goal.at.returns-clause-follows c).In_ok-answer (is_next (goal.at.returns-clause-follows c).After-as_mut_slice)).0.follows
 
 pub returns-clause-legal : goal.returns-clause-legal
-unfolding words
+unfolding definitions
 returns-clause-legal c = (has_stepped (goal.at.returns-clause-legal c).In_ok-answer (is_next (goal.at.returns-clause-legal c).After-as_mut_slice)).0.legal
 
 pub returns-clause-start : goal.returns-clause-start
-unfolding words
+unfolding definitions
 returns-clause-start c = (has_stepped (goal.at.returns-clause-start c).In_ok-answer (is_next (goal.at.returns-clause-start c).After-as_mut_slice)).0.start

@@ -1,8 +1,8 @@
 -- The rows of the frame are those of its context.
-use Rattle.homeo_meaning.specs.Key.{words as meaning_words}
-use Rattle.homeo_desugar.specs.inner.Key.{words}
+use Rattle.homeo_meaning.specs.Key.{definitions as meaning_definitions}
+use Rattle.homeo_desugar.specs.inner.Key.{definitions}
 use Rattle.homeo_desugar.proofs.frame.Frame.row.Goals as goal
 
 pub returns : goal.returns
-unfolding words meaning_words
+unfolding definitions meaning_definitions
 returns c = c.row.ensures

@@ -3,7 +3,7 @@ use Rattle.std.proofs.Common.{◌≡◌, map, sym, ap, ◌∙◌, subst}
 use Rattle.homeo_syntax.specs.LowView.{low_commands, plain_lcommand}
 use Rattle.homeo_plan.specs.Each.{Each}
 use Rattle.homeo_plan.specs.PlanView.{plain_template}
-use Rattle.homeo_effect.specs.Key.{words}
+use Rattle.homeo_effect.specs.Key.{definitions}
 use Rattle.homeo_effect.specs.Indexed.{Indexed}
 use Rattle.homeo_effect.specs.Touched.{written, touched_clauses}
 use Rattle.homeo_effect.specs.inner.Uses.{is_at}
@@ -11,7 +11,7 @@ use Rattle.homeo_effect.proofs.Touching.{clauses_are}
 use Rattle.homeo_effect.proofs.index.TreatyIndex.clauses_touched.Goals as goal
 
 pub returns : goal.returns
-unfolding words
+unfolding definitions
 returns c =
     let template = c.self.inside.plan.value.template in
     let site = c.self.inside.site in

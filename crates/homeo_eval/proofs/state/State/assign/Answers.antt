@@ -1,11 +1,11 @@
 use Rattle.std.proofs.Common.{◌==◌, cond, get_or, pos, ap, ◌∙◌, w64}
 use Rattle.std.proofs.lemmas.Int.{to_z-of_z}
-use Rattle.homeo_meaning.specs.Key.{words}
+use Rattle.homeo_meaning.specs.Key.{definitions}
 use Rattle.homeo_eval.proofs.States.{state_assign}
 use Rattle.homeo_eval.proofs.state.State.assign.Goals as goal
 
 pub returns-clause-set : goal.returns-clause-set
-unfolding words
+unfolding definitions
 returns-clause-set c =
     let old = c.args.self.now.temps.items in
     let v = to_z-of_z w64 c.args.v c.ranges.v in

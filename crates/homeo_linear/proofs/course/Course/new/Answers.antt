@@ -2,11 +2,11 @@
 use Rattle.std.proofs.Common.{map, ap}
 use Rattle.homeo_plan.specs.PlanView.{plain_atom}
 use Rattle.homeo_plan.specs.declared.forms.Delta.{Delta}
-use Rattle.homeo_follow.specs.Key.{words}
+use Rattle.homeo_follow.specs.Key.{definitions}
 use Rattle.homeo_linear.proofs.course.Course.new.Goals as goal
 
 pub returns : goal.returns
-unfolding words
+unfolding definitions
 returns c = λ i. record {
   atoms = ap (map plain_atom) c.new.ensures.items i;
   prints = c.new-2.ensures.items i;

@@ -14,8 +14,8 @@ loop-deltas-preserved c =
 
 pub returns : goal.returns
 returns c =
-    IfOk-weaker c.joined-2.result _ _
+    IfOk-weaker c.in_order-2.result _ _
     (λ v h. h ∙ all_popped (λ p. p.items) c.loop-deltas.prints.items (add_deltas c.loop-deltas.needed.items []) _
     (nil_from_length c.loop-deltas.prints.items (sym c.loop-deltas.prints.ok.0 ∙ c.in_default.ensures.cases.0)) c.loop-deltas.invariant
     ∙ needs_are c.args.self (add_deltas c.in_ok-needed.needed.items []) _ _ c.as_slice.ensures.value c.in_ok-written.ensures c.in_ok-needed.ensures)
-    c.joined-2.ensures
+    c.in_order-2.ensures

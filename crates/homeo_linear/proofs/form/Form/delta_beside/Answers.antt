@@ -1,7 +1,7 @@
 -- One term.
 use Rattle.std.proofs.Common.{◌++◌, ◌∷◌, [], List, pos, refl, ap, ◌∙◌}
 use Rattle.homeo_plan.specs.declared.forms.Term.{Term}
-use Rattle.homeo_linear.specs.inner.Key.{words}
+use Rattle.homeo_linear.specs.inner.Key.{definitions}
 use Rattle.homeo_linear.proofs.FormParts.{one_in_order, same_form}
 use Rattle.homeo_linear.proofs.Widths.{kept_is}
 use Rattle.homeo_linear.proofs.form.Form.delta_beside.Goals as goal
@@ -12,7 +12,7 @@ invariant_of-result c =
     c.new.ensures.items
 
 pub returns : goal.returns
-unfolding words
+unfolding definitions
 returns c =
     same_form _ c.args.constant c.push.new.self.items (record { delta = c.args.delta; factor = pos 1 } ∷ []) c.new.result.items []
     (kept_is c.args.constant c.args.constant c.ranges.constant refl)

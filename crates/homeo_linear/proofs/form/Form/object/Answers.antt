@@ -3,15 +3,15 @@ use Rattle.std.proofs.Common.{rules, ap, ◌∙◌}
 use mir.Syntax.{w64}
 use Rattle.std.proofs.lemmas.Int.{to_z-of_z}
 use Rattle.std.proofs.lemmas.Result.{IfOk-weaker}
-use Rattle.homeo_plan.specs.Key.{words as plan_words}
-use Rattle.homeo_follow.specs.Key.{words as follow_words}
-use Rattle.homeo_linear.specs.inner.Key.{words}
+use Rattle.homeo_plan.specs.Key.{definitions as plan_definitions}
+use Rattle.homeo_follow.specs.Key.{definitions as follow_definitions}
+use Rattle.homeo_linear.specs.inner.Key.{definitions}
 use Rattle.homeo_linear.specs.inner.Terms.{beside}
 use Rattle.homeo_linear.proofs.Widths.{kept_is}
 use Rattle.homeo_linear.proofs.form.Form.object.Goals as goal
 
 pub returns : goal.returns
-unfolding words plan_words follow_words
+unfolding definitions plan_definitions follow_definitions
 returns c =
     let x = c.args.object in
     IfOk-weaker c.delta_beside.result _ _

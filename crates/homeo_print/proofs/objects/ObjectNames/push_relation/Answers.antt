@@ -1,11 +1,11 @@
 use Rattle.std.proofs.Common.{◌≡◌, ◌++◌, sym, ap, ◌∙◌, arith}
-use Rattle.homeo_syntax.specs.Key.{words as syntax}
+use Rattle.homeo_syntax.specs.Key.{definitions as syntax_definitions}
 use Rattle.homeo_syntax.specs.SourceView.{plain_relation, plain_workload}
 use Rattle.homeo_print.proofs.NamedObjects.{first_names, relation_names_are}
 use Rattle.homeo_print.proofs.objects.ObjectNames.push_relation.Goals as goal
 
 pub returns : goal.returns
-unfolding syntax
+unfolding syntax_definitions
 returns c =
     let w = plain_workload c.args.w.now in
     let r = plain_relation c.args.relation.now in

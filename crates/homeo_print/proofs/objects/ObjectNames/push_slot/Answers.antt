@@ -1,13 +1,13 @@
 use Rattle.std.proofs.Common.{◌≡◌, ◌∷◌, ◌++◌, length, take, take_all, ap, ◌∙◌, arith}
 use Rattle.std.specs.Prelude.{codes}
-use Rattle.homeo_syntax.specs.Key.{words as syntax}
+use Rattle.homeo_syntax.specs.Key.{definitions as syntax_definitions}
 use Rattle.homeo_syntax.specs.SourceView.{plain_relation, plain_workload}
-use Rattle.homeo_print.specs.Key.{words}
+use Rattle.homeo_print.specs.Key.{definitions}
 use Rattle.homeo_print.specs.Names.{field_name, field_names}
 use Rattle.homeo_print.proofs.objects.ObjectNames.push_slot.Goals as goal
 
 pub returns : goal.returns
-unfolding words syntax
+unfolding definitions syntax_definitions
 returns c =
     let w = plain_workload c.args.w.now in
     let r = plain_relation c.args.relation.now in

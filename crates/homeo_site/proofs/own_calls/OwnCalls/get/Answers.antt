@@ -3,14 +3,14 @@ use Rattle.std.proofs.Common.{sym, ◌∙◌, subst, arith}
 use Rattle.std.specs.List.{AllZip}
 use Rattle.homeo_syntax.specs.SourceView.{plain_workload}
 use Rattle.homeo_plan.specs.Planned.{planned, planned_at}
-use Rattle.homeo_site.specs.Key.{words}
+use Rattle.homeo_site.specs.Key.{definitions}
 use Rattle.homeo_site.specs.OwnCalls.{IsOwnCall, IsMadeFor}
 use Rattle.homeo_site.specs.declared.own_calls.OwnCall.{OwnCall}
 use Rattle.homeo_site.proofs.OwnLookups.{place_within, made_there, ground_call, made_more}
 use Rattle.homeo_site.proofs.own_calls.OwnCalls.get.Goals as goal
 
 pub index-requires : goal.index-requires
-unfolding words
+unfolding definitions
 index-requires c =
     let within =
     place_within (plain_workload c.args.c.now) c.args.base.now.items c.args.call c.place-place.result c.place-place.ensures.within c.place-place.ensures.place
@@ -18,7 +18,7 @@ index-requires c =
     omega (arith, within, c.args.self.now.calls.ok.0)
 
 pub returns-in-Some-clause-own : goal.returns-in-Some-clause-own
-unfolding words
+unfolding definitions
 returns-in-Some-clause-own c =
     let w = plain_workload c.args.c.now in
     let base = c.args.base.now.items in
@@ -35,13 +35,13 @@ pub own_call-requires-clause-number : goal.own_call-requires-clause-number
 own_call-requires-clause-number c = c.place-place.ensures.within
 
 pub put-requires : goal.put-requires
-unfolding words
+unfolding definitions
 put-requires c =
     place_within (plain_workload c.args.c.now) c.args.base.now.items c.args.call c.place-place.result c.place-place.ensures.within c.place-place.ensures.place
     c.args.self.now.calls.items c.requires.made
 
 pub returns-clause-made : goal.returns-clause-made
-unfolding words
+unfolding definitions
 returns-clause-made c =
     let w = plain_workload c.args.c.now in
     let base = c.args.base.now.items in

@@ -1,7 +1,7 @@
 -- The run on the room's deltas is the call's local step on the site's state.
 use Rattle.std.proofs.Common.{ℤ, refl, sym, ap, ◌∙◌}
 use Rattle.homeo_syntax.specs.Listed.{Listed}
-use Rattle.homeo_site.specs.Key.{words}
+use Rattle.homeo_site.specs.Key.{definitions}
 use Rattle.homeo_site.specs.declared.own_calls.OwnCall.{OwnCall}
 use Rattle.homeo_site.proofs.AttemptRuns as ran
 use Rattle.homeo_site.proofs.SiteAttempts.{copies_fit, written_whole, change_is}
@@ -63,7 +63,7 @@ copy_to_all-requires c =
     c.requires.answers
 
 pub returns-in-Some-clause-outcome : goal.returns-in-Some-clause-outcome
-unfolding words
+unfolding definitions
 returns-in-Some-clause-outcome c =
     sym
     (ran.finding_is c.self.inside.own c.self.inside.deltas.items c.self.inside.segment c.args.self.now c.self.view_is c.as_mut_slice.result.now
@@ -75,11 +75,11 @@ returns-in-Some-clause-outcome c =
     ∙ c.in-Some.is
 
 pub returns-in-Some-clause-answers : goal.returns-in-Some-clause-answers
-unfolding words
+unfolding definitions
 returns-in-Some-clause-answers c k d lt = (c.requires.answers k d lt).empty
 
 pub returns-in-None-clause-outcome : goal.returns-in-None-clause-outcome
-unfolding words
+unfolding definitions
 returns-in-None-clause-outcome c =
     let here = c.as_mut_slice.ensures.value ∙ c.into_vec-deltas.ensures ∙ c.requires.room.deltas in
     let same = ap (λ (o : OwnCall). o.program) c.deref.ensures in
@@ -104,5 +104,5 @@ returns-in-None-clause-outcome c =
     c.run.new.prints.items c.requires.room.prints c.run.ensures.prints)
 
 pub returns-in-None-clause-answers : goal.returns-in-None-clause-answers
-unfolding words
+unfolding definitions
 returns-in-None-clause-answers c k d lt = c.copy_to_all.ensures.copied k d lt ∙ c.as_slice-in-None.ensures

@@ -1,6 +1,6 @@
 -- The segment keeps its entries, and there is room for what the call keeps and prints.
 use Rattle.std.proofs.Common.{refl, ap, ◌∙◌}
-use Rattle.homeo_site.specs.Key.{words}
+use Rattle.homeo_site.specs.Key.{definitions}
 use Rattle.homeo_site.specs.declared.own_calls.OwnCall.{OwnCall}
 use Rattle.homeo_site.proofs.SiteRooms.{room_runs, room_writes, room_clauses, room_freezes}
 use Rattle.homeo_site.proofs.SiteViews.{still_site, spare_changed, room_is, copies_are}
@@ -23,7 +23,7 @@ returns-clause-state c =
     (ap (λ l. l.items) c.in_ok-reserve.ensures.ok) c.self.view_is
 
 pub returns-clause-room : goal.returns-clause-room
-unfolding words
+unfolding definitions
 returns-clause-room c =
     let runs = room_runs c.self.inside.own c.self.inside.deltas.items c.self.inside.segment c.args.self.now c.self.view_is c.args.call c.requires
     c.in_ok-own.own.value c.in_ok-own.ensures.call in
@@ -40,7 +40,7 @@ returns-clause-room c =
     c.in_ok-clauses.ensures.freezes)
 
 pub returns-clause-copies : goal.returns-clause-copies
-unfolding words
+unfolding definitions
 returns-clause-copies c =
     let runs = room_runs c.self.inside.own c.self.inside.deltas.items c.self.inside.segment c.args.self.now c.self.view_is c.args.call c.requires
     c.in_ok-own.own.value c.in_ok-own.ensures.call in

@@ -3,17 +3,17 @@ use Rattle.std.proofs.Common.{◌==◌, cond, get_or, pos, map, refl, sym, ap, �
 use Rattle.std.proofs.lemmas.Int.{to_z-of_z}
 use Rattle.std.proofs.lemmas.Result.{on_ok_weaker}
 use Rattle.homeo_meaning.specs.LowMeaning.{TempAt, put}
-use Rattle.homeo_split.specs.Key.{words}
+use Rattle.homeo_split.specs.Key.{definitions}
 use Rattle.homeo_split.specs.inner.States.{plain_state}
 use Rattle.homeo_split.proofs.States.{set_named, set_fresh}
 use Rattle.homeo_split.proofs.state.State.assign.Goals as goal
 
 pub returns-in-Named-clause-shape : goal.returns-in-Named-clause-shape
-unfolding words
+unfolding definitions
 returns-in-Named-clause-shape c = refl
 
 pub returns-in-Named-clause-set : goal.returns-in-Named-clause-set
-unfolding words
+unfolding definitions
 returns-in-Named-clause-set c =
     let s = c.args.self.now in
     let n = c.in-Named.n in
@@ -21,11 +21,11 @@ returns-in-Named-clause-set c =
     on_ok_weaker c.put.result (λ h. set_named s.base.items (map (λ d. d.items) s.deltas.items) s.named.items s.fresh.items c.put.new.items.items n c.args.v (λ m. h m ∙ ap (λ u. cond (n == m) u (get_or s.named.items m (pos 0))) v) ∙ ap (λ t. put (plain_state s) (TempAt t) c.args.v) (sym c.in-Named.is)) c.put.ensures
 
 pub returns-in-Fresh-clause-shape : goal.returns-in-Fresh-clause-shape
-unfolding words
+unfolding definitions
 returns-in-Fresh-clause-shape c = refl
 
 pub returns-in-Fresh-clause-set : goal.returns-in-Fresh-clause-set
-unfolding words
+unfolding definitions
 returns-in-Fresh-clause-set c =
     let s = c.args.self.now in
     let n = c.in-Fresh.n in

@@ -3,9 +3,9 @@ use Rattle.std.proofs.Common.{◌≡◌, ◌<◌, true, length, set, map, refl, 
 use Rattle.std.proofs.lemmas.Int.{to_z-of_z}
 use Rattle.std.proofs.lemmas.List.{length-set}
 use Rattle.std.specs.Vec.{with_item}
-use Rattle.homeo_meaning.specs.Key.{words as meaning_words}
+use Rattle.homeo_meaning.specs.Key.{definitions as meaning_definitions}
 use Rattle.homeo_meaning.specs.LowMeaning.{location_of, put}
-use Rattle.homeo_split.specs.Key.{words}
+use Rattle.homeo_split.specs.Key.{definitions}
 use Rattle.homeo_split.specs.States.{state_with}
 use Rattle.homeo_split.specs.inner.States.{plain_state, state_shape}
 use Rattle.homeo_split.specs.Shape.{has_place}
@@ -13,31 +13,31 @@ use Rattle.homeo_split.proofs.States.{has_base, set_base, site_is, object_is, sa
 use Rattle.homeo_split.proofs.state.State.write.Goals as goal
 
 pub index_mut-requires : goal.index_mut-requires
-unfolding words
+unfolding definitions
 index_mut-requires c =
     let has = subst (λ x. has_place (state_shape c.args.self.now) x ≡ true) c.in-Whole.is c.requires in
     subst (λ n. c.in-Whole.object < n) (sym c.args.self.now.base.ok.0) (has_base (state_shape c.args.self.now) c.in-Whole.object has)
 
 pub index_mut-requires-in-Base : goal.index_mut-requires-in-Base
-unfolding words
+unfolding definitions
 index_mut-requires-in-Base c =
     let has = subst (λ x. has_place (state_shape c.args.self.now) x ≡ true) c.in-Base.is c.requires in
     subst (λ n. c.in-Base.object < n) (sym c.args.self.now.base.ok.0) (has_base (state_shape c.args.self.now) c.in-Base.object has)
 
 pub returns-in-Whole-clause-shape : goal.returns-in-Whole-clause-shape
-unfolding words
+unfolding definitions
 returns-in-Whole-clause-shape c =
     let s = c.args.self.now in
     λ i. record { base = length-set s.base.items c.in-Whole.object (to_z w64 (of_z w64 c.args.v)) i; deltas = map (λ d. length d.items) s.deltas.items }
 
 pub returns-in-Base-clause-shape : goal.returns-in-Base-clause-shape
-unfolding words
+unfolding definitions
 returns-in-Base-clause-shape c =
     let s = c.args.self.now in
     λ i. record { base = length-set s.base.items c.in-Base.object (to_z w64 (of_z w64 c.args.v)) i; deltas = map (λ d. length d.items) s.deltas.items }
 
 pub returns-in-Whole-clause-set : goal.returns-in-Whole-clause-set
-unfolding words meaning_words
+unfolding definitions meaning_definitions
 returns-in-Whole-clause-set c =
     let s = c.args.self.now in
     let x = c.in-Whole.object in
@@ -48,7 +48,7 @@ returns-in-Whole-clause-set c =
     ∙ ap (λ x. put (plain_state s) (location_of x) c.args.v) (sym c.in-Whole.is)
 
 pub returns-in-Base-clause-set : goal.returns-in-Base-clause-set
-unfolding words meaning_words
+unfolding definitions meaning_definitions
 returns-in-Base-clause-set c =
     let s = c.args.self.now in
     let x = c.in-Base.object in
@@ -59,14 +59,14 @@ returns-in-Base-clause-set c =
     ∙ ap (λ x. put (plain_state s) (location_of x) c.args.v) (sym c.in-Base.is)
 
 pub index_mut-requires-in-Delta : goal.index_mut-requires-in-Delta
-unfolding words
+unfolding definitions
 index_mut-requires-in-Delta c =
     let s = c.args.self.now in
     let has = subst (λ x. has_place (state_shape s) x ≡ true) c.in-Delta.is c.requires in
     subst (λ n. c.in-Delta.site < n) (sym s.deltas.ok.0) (site_is (λ d. d.items) s.deltas.items c.in-Delta.object c.in-Delta.site (length s.base.items) has)
 
 pub index_mut-requires-in-Delta-2 : goal.index_mut-requires-in-Delta-2
-unfolding words
+unfolding definitions
 index_mut-requires-in-Delta-2 c =
     let s = c.args.self.now in
     let here = c.index_mut-in-Delta.result.now in
@@ -74,7 +74,7 @@ index_mut-requires-in-Delta-2 c =
     subst (λ n. c.in-Delta.object < n) (sym here.ok.0) (object_is (λ d. d.items) s.deltas.items c.in-Delta.object c.in-Delta.site (length s.base.items) has here c.index_mut-in-Delta.ensures.value)
 
 pub returns-in-Delta-clause-shape : goal.returns-in-Delta-clause-shape
-unfolding words
+unfolding definitions
 returns-in-Delta-clause-shape c =
     let s = c.args.self.now in
     let here = c.index_mut-in-Delta.result.now in
@@ -82,7 +82,7 @@ returns-in-Delta-clause-shape c =
     λ i. record { base = length s.base.items; deltas = same_lengths (λ d. d.items) s.deltas.items c.in-Delta.object c.in-Delta.site here c.index_mut-in-Delta.ensures.value new (to_z w64 (of_z w64 c.args.v)) refl i }
 
 pub returns-in-Delta-clause-set : goal.returns-in-Delta-clause-set
-unfolding words meaning_words
+unfolding definitions meaning_definitions
 returns-in-Delta-clause-set c =
     let s = c.args.self.now in
     let here = c.index_mut-in-Delta.result.now in

@@ -1,4 +1,4 @@
-use Rattle.homeo_wire.specs.Key.{words}
+use Rattle.homeo_wire.specs.Key.{definitions}
 use Rattle.std.proofs.Common.{◌≡◌, ◌++◌, ◌<◌, map, sym, ap, subst, ◌∙◌, arith}
 use Rattle.std.specs.Prelude.{IfOk}
 use Rattle.std.proofs.lemmas.List.{append-nil}
@@ -12,24 +12,24 @@ use Rattle.homeo_wire.proofs.NodeViews.{if_more, state_sends}
 use Rattle.homeo_wire.proofs.node.Node.receive.Goals as goal
 
 pub stop-requires-clause-can : goal.stop-requires-clause-can
-unfolding words
+unfolding definitions
 stop-requires-clause-can c =
     subst (CanTake (plain_workload c.args.planner.now) (plain_node c.args.self.now)) (ap plain_packet c.in-Stop.is) c.requires.can
 
 pub keep-requires-clause-kept : goal.keep-requires-clause-kept
-unfolding words
+unfolding definitions
 keep-requires-clause-kept c =
     let from : c.in-State.site < c.args.sites = subst (IsFrom c.args.sites) (ap plain_packet c.in-State.is) c.requires.from in
     let states = c.requires.states in
     omega (arith, from, states)
 
 pub keep-requires-clause-can : goal.keep-requires-clause-can
-unfolding words
+unfolding definitions
 keep-requires-clause-can c =
     subst (λ d. CanTake (plain_workload c.args.planner.now) (plain_node c.args.self.now) (n.State c.in-State.round c.in-State.site d)) (sym c.as_slice.ensures) (subst (CanTake (plain_workload c.args.planner.now) (plain_node c.args.self.now)) (ap plain_packet c.in-State.is) c.requires.can)
 
 pub returns-in-Want-clause-reaction : goal.returns-in-Want-clause-reaction
-unfolding words
+unfolding definitions
 returns-in-Want-clause-reaction c =
     let w = plain_workload c.args.planner.now in
     let old = plain_node c.args.self.now in
@@ -37,14 +37,14 @@ returns-in-Want-clause-reaction c =
     subst (λ r. IfOk c.choose.result (IsReaction r c.choose.new.self c.args.packets.now.items c.choose.new.packets.items)) (ap (λ v. n.taken (plain_workload v) old (n.Want b)) c.requires.work ∙ ap (n.taken w old) (sym (ap plain_packet c.in-Want.is))) c.choose.ensures.reaction
 
 pub returns-in-Stop-clause-reaction : goal.returns-in-Stop-clause-reaction
-unfolding words
+unfolding definitions
 returns-in-Stop-clause-reaction c =
     let w = plain_workload c.args.planner.now in
     let old = plain_node c.args.self.now in
     subst (λ r. IfOk c.stop.result (IsReaction r c.stop.new.self c.args.packets.now.items c.stop.new.packets.items)) (ap (n.taken w old) (sym (ap plain_packet c.in-Stop.is))) c.stop.ensures.reaction
 
 pub returns-in-State-clause-reaction : goal.returns-in-State-clause-reaction
-unfolding words
+unfolding definitions
 returns-in-State-clause-reaction c =
     let w = plain_workload c.args.planner.now in
     let old = plain_node c.args.self.now in

@@ -1,4 +1,4 @@
-use Rattle.homeo_wire.specs.Key.{words}
+use Rattle.homeo_wire.specs.Key.{definitions}
 use Rattle.std.proofs.Common.{◌≡◌, ◌<◌, length, Some, refl, sym, ap, subst, ◌∙◌, arith}
 use Rattle.std.specs.Prelude.{slice_get}
 use Rattle.std.proofs.lemmas.Option.{slice_get_read}
@@ -17,7 +17,7 @@ index-requires c =
     omega (arith, lt, ok)
 
 pub returns : goal.returns
-unfolding words
+unfolding definitions
 returns c = λ m there.
     let f = c.self.inside in
     let lt : c.args.site < length f.nodes.items = subst (λ k. c.args.site < k) (sym (count_is f.planner f.nodes.items f.packets.items c.self.invariant)) (subst (λ (v : WireValue). c.args.site < sites_of (plain_workload v.work)) (sym c.self.view_is) c.requires) in

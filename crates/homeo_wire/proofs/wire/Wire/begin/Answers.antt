@@ -1,4 +1,4 @@
-use Rattle.homeo_wire.specs.Key.{words}
+use Rattle.homeo_wire.specs.Key.{definitions}
 use Rattle.std.proofs.Common.{◌≡◌, [], map, sym, ap, subst}
 use Rattle.homeo_syntax.specs.Listed.{Listed}
 use Rattle.homeo_wire.specs.declared.events.Packet.{Packet}
@@ -16,7 +16,7 @@ invariant_of-result c =
     (begun_wire work c.in_ok-nodes.nodes.items (c.in_ok-nodes.ensures.accepted) c.in_ok-nodes.ensures.nodes c.in_ok-nodes.ensures.each))
 
 pub returns : goal.returns
-unfolding words
+unfolding definitions
 returns c =
     let nodes = c.in_ok-nodes.ensures.nodes in
     let none : map plain_packet c.new-2.result.items ≡ [] = ap (λ (l : Listed Packet). map plain_packet l.items) c.new-2.ensures in

@@ -1,4 +1,4 @@
-use Rattle.homeo_wire.specs.Key.{words}
+use Rattle.homeo_wire.specs.Key.{definitions}
 use Rattle.std.proofs.Common.{rules, ◌≡◌, ◌<◌, length, Some, get_or, Ok, refl, sym, ap, subst, ◌∙◌, arith, slice_set}
 use Rattle.std.specs.Prelude.{slice_get}
 use Rattle.std.proofs.lemmas.List.{length-map}
@@ -55,7 +55,7 @@ IsLeft c =
     HasHappened {E = Unit {0}} c.args.self.now.work c.args.self.now.world (Deliver c.args.site c.args.packet) (slice_set c.self.inside.nodes.items c.args.site c.index_mut-node.result.now) c.self.inside.packets.items (Ok Ignored)
 
 left : (c : After-index_mut-node) → (round_of (plain_packet c.index-as_slice-packet.result) ≡ length c.index_mut-node.result.now.left.items → ⊥) → IsLeft c
-unfolding words
+unfolding definitions
 left c other =
     let f = c.self.inside in
     let p = c.index_mut-node.result.now in
@@ -90,7 +90,7 @@ pub receive-requires-clause-base : goal.receive-requires-clause-base
 receive-requires-clause-base c = (node_is (goal.at.receive-requires-clause-base c).After-index_mut-node).node.base_is
 
 pub receive-requires-clause-own : goal.receive-requires-clause-own
-unfolding words
+unfolding definitions
 receive-requires-clause-own c =
     let f = c.self.inside in
     let below = subst (λ (v : WireValue). c.args.site < sites_of (plain_workload v.work)) (sym c.self.view_is) c.requires.site in
@@ -104,7 +104,7 @@ receive-requires-clause-round c =
     omega (arith, rounds, left, few)
 
 pub receive-requires-clause-states : goal.receive-requires-clause-states
-unfolding words
+unfolding definitions
 receive-requires-clause-states c =
     sym (length-map c.index_mut-node.result.now.states.items plain_state) ∙ (node_is (goal.at.receive-requires-clause-states c).After-index_mut-node).ready.states
     ∙ sym (c.site_count-sites.ensures.count ∙ ap (λ v. sites_of (plain_workload v)) (c.workload.ensures ∙ c.compiled.ensures))

@@ -1,4 +1,4 @@
-use Rattle.homeo_wire.specs.Key.{words}
+use Rattle.homeo_wire.specs.Key.{definitions}
 use Rattle.std.proofs.Common.{◌≡◌, sym, subst}
 use Rattle.std.specs.Prelude.{IfOk, OnOk}
 use Rattle.homeo_syntax.specs.SourceView.{plain_workload}
@@ -7,15 +7,15 @@ use Rattle.homeo_wire.specs.WireView.{CanHappen, plain_step}
 use Rattle.homeo_wire.proofs.wire.Wire.event.Goals as goal
 
 pub call-requires : goal.call-requires
-unfolding words
+unfolding definitions
 call-requires c = subst (CanHappen (plain_workload c.args.self.now.work) c.args.self.now.world) c.in-Call.is c.requires
 
 pub deliver-requires-clause-site : goal.deliver-requires-clause-site
-unfolding words
+unfolding definitions
 deliver-requires-clause-site c = (subst (CanHappen (plain_workload c.args.self.now.work) c.args.self.now.world) c.in-Deliver.is c.requires).0
 
 pub deliver-requires-clause-packet : goal.deliver-requires-clause-packet
-unfolding words
+unfolding definitions
 deliver-requires-clause-packet c = (subst (CanHappen (plain_workload c.args.self.now.work) c.args.self.now.world) c.in-Deliver.is c.requires).1
 
 pub returns-in-Call-clause-step : goal.returns-in-Call-clause-step

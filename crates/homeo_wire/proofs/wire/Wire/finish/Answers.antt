@@ -1,5 +1,5 @@
-use Rattle.homeo_history.specs.Key.{words as histories}
-use Rattle.homeo_wire.specs.Key.{words}
+use Rattle.homeo_history.specs.Key.{definitions as history_definitions}
+use Rattle.homeo_wire.specs.Key.{definitions}
 use Rattle.std.proofs.Common.{◌≡◌, map, sym, ap, subst, ◌∙◌}
 use Rattle.std.proofs.lemmas.Result.{IfOk-weaker}
 use Rattle.homeo_syntax.specs.SourceView.{plain_workload}
@@ -22,7 +22,7 @@ history_of-requires c =
     subst CanRead (sym c.as_slice.ensures.value) (can_read f.planner f.nodes.items f.packets.items c.self.invariant)
 
 pub returns-clause-history : goal.returns-clause-history
-unfolding words
+unfolding definitions
 returns-clause-history c =
     let f = c.self.inside in
     let w = plain_workload f.planner in
@@ -32,7 +32,7 @@ returns-clause-history c =
     IfOk-weaker c.history_of.result _ _ (λ h same. same ∙ is ∙ ap (λ (v : WireValue). history_in v.world) c.self.view_is) c.history_of.ensures
 
 pub returns-clause-legal : goal.returns-clause-legal
-unfolding words histories
+unfolding definitions history_definitions
 returns-clause-legal c =
     let f = c.self.inside in
     let w = plain_workload f.planner in
@@ -42,7 +42,7 @@ returns-clause-legal c =
     IfOk-weaker c.history_of.result _ _ (λ h same. subst (λ (v : WireValue). IsLegal (plain_workload v.work) (counts_in (plain_workload v.work) (plain_history h).rounds) (plain_history h)) c.self.view_is (subst (λ g. IsLegal w (counts_in w g.rounds) g) (sym (same ∙ is)) (legal_here w x wire.accepted (held f.planner f.nodes.items f.packets.items wire)))) c.history_of.ensures
 
 pub returns-clause-within : goal.returns-clause-within
-unfolding words histories
+unfolding definitions history_definitions
 returns-clause-within c =
     let f = c.self.inside in
     let w = plain_workload f.planner in

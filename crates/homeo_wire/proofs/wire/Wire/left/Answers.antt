@@ -1,4 +1,4 @@
-use Rattle.homeo_wire.specs.Key.{words}
+use Rattle.homeo_wire.specs.Key.{definitions}
 use Rattle.std.proofs.Common.{◌≡◌, ℕ, ◌<◌, ◌≤◌, ◌+◌, ◌-◌, length, map, get_or, sym, ap, subst, ◌∙◌, arith, slice_index_or}
 use Rattle.homeo_syntax.specs.SourceView.{plain_workload}
 use Rattle.homeo_syntax.specs.declared.workload.Workload.{Workload}
@@ -34,7 +34,7 @@ abbrev made : After-call_count → ℕ
 made c = slice_index_or (counts_in (plain_workload c.self.inside.planner) (history_in (world_of c.self.inside.nodes.items c.self.inside.packets.items)).rounds) c.args.client 0
 
 made_is : (c : After-call_count) → c.counted-counted.result ≡ made c
-unfolding words
+unfolding definitions
 made_is c =
     let f = c.self.inside in
     let wire = c.self.invariant in
@@ -62,7 +62,7 @@ overflow_sub-result c =
     omega (arith, made_is e, all_are e, few e)
 
 pub returns : goal.returns
-unfolding words
+unfolding definitions
 returns c =
     let e = (goal.at.returns c).After-call_count in
     let all : c.call_count.result - c.counted-counted.result + made e ≡ call_count (plain_workload c.self.inside.planner) c.args.client = omega (arith, made_is e, all_are e, few e) in

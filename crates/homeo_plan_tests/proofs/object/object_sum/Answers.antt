@@ -4,7 +4,7 @@ use Rattle.std.proofs.lemmas.Result.{IfOk-weaker}
 use Rattle.homeo_syntax.specs.declared.low.SplitName.TheVariants.{Base, Delta}
 use Rattle.homeo_syntax.proofs.LowViews.{low_Read}
 use Rattle.homeo_plan_tests.specs.inner.Object.{sum_of}
-use Rattle.homeo_plan_tests.proofs.object.joined.Goals as goal
+use Rattle.homeo_plan_tests.proofs.object.object_sum.Goals as goal
 
 pub returns : goal.returns
 returns c =

@@ -4,27 +4,25 @@ use Rattle.std.specs.List.{list_any}
 use Rattle.std.specs.List.Sorted.{IsPermutation}
 use Rattle.std.proofs.lemmas.Bool.Decides.{nat_tests}
 use Rattle.std.proofs.lemmas.List.Sorted.{list_any-IsPermutation}
-use Rattle.homeo_plan.specs.Key.{words as plan_words}
-use Rattle.homeo_plan.specs.Linear.{same_delta, delta_before, add_delta, add_deltas}
+use Rattle.homeo_plan.specs.Key.{definitions as plan_definitions}
+use Rattle.homeo_plan.specs.Linear.{AreInOrder, same_delta, delta_before, add_delta, add_deltas}
 use Rattle.homeo_plan.specs.declared.forms.Delta.{Delta}
-use Rattle.homeo_linear.specs.inner.Key.{words}
-use Rattle.homeo_linear.specs.inner.Order.{InOrder}
 use Rattle.homeo_linear.proofs.Orders.{Above, above_before, before_total, in_order_adds}
 
 -- ---- the same delta
 pub same_is : (d e : Delta) → same_delta d e ≡ true → d ≡ e
-unfolding plan_words
+unfolding plan_definitions
 same_is d e h =
     let x : d.object ≡ e.object = grind (arith, nat_tests) in
     let j : d.site ≡ e.site = grind (arith, nat_tests) in
     λ i. record { object = x i; site = j i }
 
 pub same_self : (d : Delta) → same_delta d d ≡ true
-unfolding plan_words
+unfolding plan_definitions
 same_self d = grind (arith, nat_tests)
 
 pub before_not_same : (d e : Delta) → delta_before d e ≡ true → same_delta d e ≡ false
-unfolding plan_words
+unfolding plan_definitions
 before_not_same d e h = grind (arith, nat_tests)
 
 -- ---- whether a delta is there
@@ -52,7 +50,7 @@ or_none true = refl
 or_none false = refl
 
 has_add : (d e : Delta) (ds : List Delta) → has d (add_delta e ds) ≡ (same_delta d e || has d ds)
-unfolding plan_words
+unfolding plan_definitions
 has_add d e [] = refl
 has_add d e (x ∷ xs) = go (same_delta e x) refl (delta_before e x) (has_add d e xs)
   where
@@ -65,7 +63,7 @@ has_add d e (x ∷ xs) = go (same_delta e x) refl (delta_before e x) (has_add d 
     go false p false ih = ap (λ b. same_delta d x || b) ih ∙ or_swap (same_delta d x) (same_delta d e) (has d xs)
 
 pub has_adds : (d : Delta) (ds es : List Delta) → has d (add_deltas ds es) ≡ (has d ds || has d es)
-unfolding plan_words
+unfolding plan_definitions
 has_adds d [] es = refl
 has_adds d (x ∷ xs) es =
     has_adds d xs (add_delta x es) ∙ ap (λ b. has d xs || b) (has_add d x es) ∙ or_move (has d xs) (same_delta d x) (has d es)
@@ -77,7 +75,7 @@ or_comm false true = refl
 or_comm false false = refl
 
 above_none : (d : Delta) (ds : List Delta) → Above d ds → has d ds ≡ false
-unfolding plan_words
+unfolding plan_definitions
 above_none d [] a = refl
 above_none d (e ∷ es) a = ap₂ ◌||◌ (before_not_same d e a.0) (above_none d es a.1)
 
@@ -93,8 +91,8 @@ same_rest d e x ds es p a b h = go (same_delta x d) refl
     go false q =
         sym (ap (λ b. b || has x ds) q) ∙ h ∙ ap (λ b. b || has x es) (ap (same_delta x) (sym p) ∙ q)
 
-pub same_deltas : (ds es : List Delta) → InOrder ds → InOrder es → ((d : Delta) → has d ds ≡ has d es) → ds ≡ es
-unfolding words
+pub same_deltas : (ds es : List Delta) → AreInOrder ds → AreInOrder es → ((d : Delta) → has d ds ≡ has d es) → ds ≡ es
+unfolding plan_definitions
 same_deltas [] [] o p h = refl
 same_deltas [] (e ∷ es) o p h = absurd (true≢false (sym (h e ∙ ap (λ b. b || has e es) (same_self e))))
 same_deltas (d ∷ ds) [] o p h = absurd (true≢false (sym (ap (λ b. b || has d ds) (same_self d)) ∙ h d))
@@ -112,26 +110,26 @@ same_deltas (d ∷ ds) (e ∷ es) o p h = go (same_delta d e) refl (delta_before
         absurd (true≢false (sym (ap (λ b. b || has e es) (same_self e)) ∙ sym (h e) ∙ ap₂ ◌||◌ (before_not_same e d s) (above_none e ds (above_before e d ds s o.0))))
 
 -- ---- what they are put together
-joined_by : (ds es : List Delta) → InOrder es → ((d : Delta) → has d es ≡ has d ds) → es ≡ add_deltas ds []
-unfolding words
-joined_by ds es o h = same_deltas es (add_deltas ds []) o (in_order_adds ds [] tt) (λ d. h d ∙ sym (has_adds d ds [] ∙ or_none (has d ds)))
+same_by : (ds es : List Delta) → AreInOrder es → ((d : Delta) → has d es ≡ has d ds) → es ≡ add_deltas ds []
+unfolding plan_definitions
+same_by ds es o h = same_deltas es (add_deltas ds []) o (in_order_adds ds [] tt) (λ d. h d ∙ sym (has_adds d ds [] ∙ or_none (has d ds)))
 
-pub in_order_joined : (ds : List Delta) → InOrder ds → ds ≡ add_deltas ds []
-in_order_joined ds o = joined_by ds ds o (λ d. refl)
+pub in_order_kept : (ds : List Delta) → AreInOrder ds → ds ≡ add_deltas ds []
+in_order_kept ds o = same_by ds ds o (λ d. refl)
 
-pub permuted_joined : (ds es : List Delta) → IsPermutation ds es → add_deltas es [] ≡ add_deltas ds []
-unfolding words
-permuted_joined ds es p =
-    joined_by ds (add_deltas es []) (in_order_adds es [] tt)
+pub permuted_same : (ds es : List Delta) → IsPermutation ds es → add_deltas es [] ≡ add_deltas ds []
+unfolding plan_definitions
+permuted_same ds es p =
+    same_by ds (add_deltas es []) (in_order_adds es [] tt)
     (λ d. has_adds d es [] ∙ or_none (has d es) ∙ sym (list_any-IsPermutation (same_delta d) ds es p))
 
-pub adds_swap : (ds es : List Delta) → InOrder ds → InOrder es → add_deltas ds es ≡ add_deltas es ds
+pub adds_swap : (ds es : List Delta) → AreInOrder ds → AreInOrder es → add_deltas ds es ≡ add_deltas es ds
 adds_swap ds es o p =
     same_deltas (add_deltas ds es) (add_deltas es ds) (in_order_adds ds es p) (in_order_adds es ds o)
     (λ d. has_adds d ds es ∙ or_comm (has d ds) (has d es) ∙ sym (has_adds d es ds))
 
 pub adds_append : (ds es fs : List Delta) → add_deltas (ds ++ es) fs ≡ add_deltas es (add_deltas ds fs)
-unfolding plan_words
+unfolding plan_definitions
 adds_append [] es fs = refl
 adds_append (d ∷ ds) es fs = adds_append ds es (add_delta d fs)
 
@@ -140,13 +138,13 @@ no_rest : (ds : List Delta) → drop (length ds) ds ≡ []
 no_rest [] = refl
 no_rest (d ∷ ds) = no_rest ds
 
-pub none_left_in_order : (ds : List Delta) → InOrder (drop (length ds) ds)
-unfolding words
-none_left_in_order ds = subst InOrder (sym (no_rest ds)) tt
+pub no_delta_left : (ds : List Delta) → AreInOrder (drop (length ds) ds)
+unfolding plan_definitions
+no_delta_left ds = subst AreInOrder (sym (no_rest ds)) tt
 
 lead_of : (ds : List Delta) (n : ℕ) (x : Delta) → n < length ds → (suc n < length ds → true ≡ delta_before (get_or ds n x) (get_or ds (suc n) x)) →
-    InOrder (drop (suc n) ds) → InOrder (drop n ds)
-unfolding words plan_words
+    AreInOrder (drop (suc n) ds) → AreInOrder (drop n ds)
+unfolding plan_definitions
 lead_of [] n x l b o = absurd (omega (arith, l))
 lead_of (d ∷ []) zero x l b o = (tt, tt)
 lead_of (d ∷ e ∷ es) zero x l b o =
@@ -155,7 +153,7 @@ lead_of (d ∷ e ∷ es) zero x l b o =
 lead_of (d ∷ ds) (suc n) x l b o = lead_of ds n x (omega (arith, l)) (λ k. b (omega (arith, k))) o
 
 pub leads_at : (ds : List Delta) (n : ℕ) (x : Delta) → n < length ds → (n + 1 < length ds → true ≡ delta_before (get_or ds n x) (get_or ds (n + 1) x)) →
-    InOrder (drop (n + 1) ds) → InOrder (drop n ds)
+    AreInOrder (drop (n + 1) ds) → AreInOrder (drop n ds)
 leads_at ds n x l b o =
     let e : n + 1 ≡ suc n = omega arith in
-    lead_of ds n x l (λ k. b (omega (arith, k)) ∙ ap (λ m. delta_before (get_or ds n x) (get_or ds m x)) e) (subst (λ m. InOrder (drop m ds)) e o)
+    lead_of ds n x l (λ k. b (omega (arith, k)) ∙ ap (λ m. delta_before (get_or ds n x) (get_or ds m x)) e) (subst (λ m. AreInOrder (drop m ds)) e o)

@@ -9,18 +9,17 @@ use Rattle.std.proofs.lemmas.Int.{ints}
 use Rattle.std.proofs.lemmas.List.Sums.{sum_by-cons}
 use Rattle.std.proofs.lemmas.List.Sorted.{All-permutation, sum_by-IsPermutation}
 use Rattle.homeo_meaning.specs.Small.{IsSmall}
-use Rattle.homeo_plan.specs.Key.{words as plan_words}
+use Rattle.homeo_plan.specs.Key.{definitions as plan_definitions}
 use Rattle.homeo_plan.specs.Each.{Each}
-use Rattle.homeo_plan.specs.Linear.{same_delta, delta_before, deltas_of, with_term, add_term, add_terms, scale_terms}
+use Rattle.homeo_plan.specs.Linear.{AreInOrder, same_delta, delta_before, deltas_of, with_term, add_term, add_terms, scale_terms}
 use Rattle.homeo_plan.specs.declared.forms.Delta.{Delta}
 use Rattle.homeo_plan.specs.declared.forms.Term.{Term}
 use Rattle.homeo_plan.specs.Limit.{form_limit}
-use Rattle.homeo_linear.specs.inner.Key.{words}
-use Rattle.homeo_linear.specs.inner.Order.{InOrder}
+use Rattle.homeo_linear.specs.inner.Key.{definitions}
 use Rattle.homeo_linear.specs.inner.Terms.{AllCount, AreSmall}
 use Rattle.homeo_linear.proofs.Orders.{Above, above_before, before_total, each_at}
 use Rattle.homeo_linear.proofs.Adding.{order_adds}
-use Rattle.homeo_linear.proofs.JoinedDeltas.{same_is, same_self, before_not_same}
+use Rattle.homeo_linear.proofs.DeltasInOrder.{same_is, same_self, before_not_same}
 
 -- ---- numbers
 none_left : (f : ℤ) → int_eq f (pos 0) ≡ true → f ≡ pos 0
@@ -61,7 +60,7 @@ share_none true = refl
 share_none false = refl
 
 at_with : (d e : Delta) (f : ℤ) (ts : List Term) → factor_at d (with_term e f ts) ≡ share d e f +ℤ factor_at d ts
-unfolding plan_words
+unfolding plan_definitions
 at_with d e f ts = go (int_eq f (pos 0)) refl
   where
     go : (v : Bool) → int_eq f (pos 0) ≡ v → factor_at d (cond v ts (record { delta = e; factor = f } ∷ ts)) ≡ share d e f +ℤ factor_at d ts
@@ -70,7 +69,7 @@ at_with d e f ts = go (int_eq f (pos 0)) refl
     go false h = refl
 
 at_add : (d e : Delta) (f : ℤ) (ts : List Term) → factor_at d (add_term e f ts) ≡ share d e f +ℤ factor_at d ts
-unfolding plan_words
+unfolding plan_definitions
 at_add d e f [] = at_with d e f []
 at_add d e f (t ∷ ts) = go (same_delta e t.delta) refl (delta_before e t.delta) (at_add d e f ts)
   where
@@ -87,7 +86,7 @@ at_add d e f (t ∷ ts) = go (same_delta e t.delta) refl (delta_before e t.delta
         ap (λ z. share d t.delta t.factor +ℤ z) ih ∙ add_swap (share d t.delta t.factor) (share d e f) (factor_at d ts)
 
 at_adds : (d : Delta) (ts us : List Term) → factor_at d (add_terms ts us) ≡ factor_at d ts +ℤ factor_at d us
-unfolding plan_words
+unfolding plan_definitions
 at_adds d [] us = sym (add_zero (factor_at d us))
 at_adds d (t ∷ ts) us =
     at_adds d ts (add_term t.delta t.factor us)
@@ -96,7 +95,7 @@ at_adds d (t ∷ ts) us =
     ∙ sym (add_assoc (share d t.delta t.factor) (factor_at d ts) (factor_at d us))
 
 above_none : (d : Delta) (ts : List Term) → Above d (deltas_of ts) → factor_at d ts ≡ pos 0
-unfolding plan_words
+unfolding plan_definitions
 above_none d [] a = refl
 above_none d (t ∷ ts) a =
     ap₂ (λ b z. cond b t.factor (pos 0) +ℤ z) (before_not_same d t.delta a.0) (above_none d ts a.1)
@@ -150,8 +149,8 @@ missed : (t : Term) (ts us : List Term) → int_eq t.factor (pos 0) ≡ false �
 missed t ts us c a n h = left_over t.factor c (sym (first_at t ts a) ∙ h ∙ n)
 
 same_terms :
-    (ts us : List Term) → InOrder (deltas_of ts) → InOrder (deltas_of us) → AllCount ts → AllCount us → ((d : Delta) → factor_at d ts ≡ factor_at d us) → ts ≡ us
-unfolding words plan_words
+    (ts us : List Term) → AreInOrder (deltas_of ts) → AreInOrder (deltas_of us) → AllCount ts → AllCount us → ((d : Delta) → factor_at d ts ≡ factor_at d us) → ts ≡ us
+unfolding definitions plan_definitions
 same_terms [] [] o p c k h = refl
 same_terms [] (u ∷ us) o p c k h = absurd (missed u us [] k.0 p.0 refl (sym (h u.delta)))
 same_terms (t ∷ ts) [] o p c k h = absurd (missed t ts [] c.0 o.0 refl (h t.delta))
@@ -174,7 +173,7 @@ same_terms (t ∷ ts) (u ∷ us) o p c k h =
 
 -- ---- factors that aren't 0
 count_with : (d : Delta) (f : ℤ) (ts : List Term) → AllCount ts → AllCount (with_term d f ts)
-unfolding words plan_words
+unfolding definitions plan_definitions
 count_with d f ts c = go (int_eq f (pos 0)) refl
   where
     go : (v : Bool) → int_eq f (pos 0) ≡ v → AllCount (cond v ts (record { delta = d; factor = f } ∷ ts))
@@ -182,7 +181,7 @@ count_with d f ts c = go (int_eq f (pos 0)) refl
     go false h = (h, c)
 
 count_add : (d : Delta) (f : ℤ) (ts : List Term) → AllCount ts → AllCount (add_term d f ts)
-unfolding words plan_words
+unfolding definitions plan_definitions
 count_add d f [] c = count_with d f [] tt
 count_add d f (t ∷ ts) c = go (same_delta d t.delta) (delta_before d t.delta) (count_add d f ts c.1)
   where
@@ -192,43 +191,43 @@ count_add d f (t ∷ ts) c = go (same_delta d t.delta) (delta_before d t.delta) 
     go false false ih = (c.0, ih)
 
 pub count_adds : (ts us : List Term) → AllCount us → AllCount (add_terms ts us)
-unfolding plan_words
+unfolding plan_definitions
 count_adds [] us c = c
 count_adds (t ∷ ts) us c = count_adds ts (add_term t.delta t.factor us) (count_add t.delta t.factor us c)
 
 pub count_scale : (n : ℤ) (ts : List Term) → AllCount (scale_terms n ts)
-unfolding words plan_words
+unfolding definitions plan_definitions
 count_scale n [] = tt
 count_scale n (t ∷ ts) = count_with t.delta (n *ℤ t.factor) (scale_terms n ts) (count_scale n ts)
 
 -- ---- what they are put together
-joined_by : (ts us : List Term) → InOrder (deltas_of us) → AllCount us → ((d : Delta) → factor_at d us ≡ factor_at d ts) → us ≡ add_terms ts []
-unfolding words plan_words
-joined_by ts us o c h =
+same_by : (ts us : List Term) → AreInOrder (deltas_of us) → AllCount us → ((d : Delta) → factor_at d us ≡ factor_at d ts) → us ≡ add_terms ts []
+unfolding definitions plan_definitions
+same_by ts us o c h =
     same_terms us (add_terms ts []) o (order_adds ts [] tt) c (count_adds ts [] tt) (λ d. h d ∙ sym (at_adds d ts [] ∙ zero_add (factor_at d ts)))
 
-pub in_order_joined : (ts : List Term) → InOrder (deltas_of ts) → AllCount ts → ts ≡ add_terms ts []
-in_order_joined ts o c = joined_by ts ts o c (λ d. refl)
+pub in_order_kept : (ts : List Term) → AreInOrder (deltas_of ts) → AllCount ts → ts ≡ add_terms ts []
+in_order_kept ts o c = same_by ts ts o c (λ d. refl)
 
-pub permuted_joined : (ts us : List Term) → IsPermutation ts us → add_terms us [] ≡ add_terms ts []
-unfolding words plan_words
-permuted_joined ts us p =
-    joined_by ts (add_terms us []) (order_adds us [] tt) (count_adds us [] tt)
+pub permuted_same : (ts us : List Term) → IsPermutation ts us → add_terms us [] ≡ add_terms ts []
+unfolding definitions plan_definitions
+permuted_same ts us p =
+    same_by ts (add_terms us []) (order_adds us [] tt) (count_adds us [] tt)
     (λ d. at_adds d us [] ∙ zero_add (factor_at d us) ∙ at_permuted d ts us p)
 
 pub adds_append : (ts us vs : List Term) → add_terms (ts ++ us) vs ≡ add_terms us (add_terms ts vs)
-unfolding plan_words
+unfolding plan_definitions
 adds_append [] us vs = refl
 adds_append (t ∷ ts) us vs = adds_append ts us (add_term t.delta t.factor vs)
 
 -- ---- small factors
 each_of : {X : Type 0} (P : X → Type 0) (xs : List X) → All P xs → Each P xs
-unfolding plan_words
+unfolding plan_definitions
 each_of P [] h = tt
 each_of P (x ∷ xs) h = (h 0 x (omega arith), each_of P xs (λ k d l. h (suc k) d (omega (arith, l))))
 
 pub small_permuted : (ts us : List Term) → IsPermutation ts us → AreSmall ts → AreSmall us
-unfolding words
+unfolding definitions
 small_permuted ts us p h =
     let P : Term → Type 0 = λ t. IsSmall form_limit t.factor in
     each_of P us (All-permutation P ts us p (λ k d l. each_at P ts k d l h))

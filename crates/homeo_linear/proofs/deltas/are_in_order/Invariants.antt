@@ -1,12 +1,12 @@
 -- The deltas from the place on are in order.
 use Rattle.std.proofs.Common.{◌≤◌, drop, length}
-use Rattle.homeo_linear.specs.inner.Order.{InOrder}
-use Rattle.homeo_linear.proofs.deltas.are_joined.Given as goal
+use Rattle.homeo_plan.specs.Linear.{AreInOrder}
+use Rattle.homeo_linear.proofs.deltas.are_in_order.Given as goal
 
 abbrev pub invariant-loop-place : goal.invariant-loop-place
 invariant-loop-place l = record {
   within : l.place ≤ length l.deltas;
-  joined : InOrder (drop l.place l.deltas);
+  ordered : AreInOrder (drop l.place l.deltas);
 }
 
 abbrev pub decreases-loop-place : goal.decreases-loop-place
