@@ -10,6 +10,7 @@ ghost use Rattle.homeo_ground.specs.Grounding.{IsCalled};
 ghost use Rattle.homeo_delta.specs.Folding.{SumsFit};
 ghost use Rattle.homeo_plan_tests.specs.inner.CallExample.{IsUndivided};
 
+use crate::same::same_items;
 use crate::texts::{TWICE, accepted};
 use homeo_context::Declarations;
 use homeo_delta::{fold, transform};
@@ -99,15 +100,15 @@ fn run_text(rt: &impl Abort, alloc: Global, text: &str) -> Result<Split, Fail>
 fn a_site_runs_a_whole_call(rt: HostRuntime) -> Result<(), Fail> {
     let alloc = rt.alloc();
     let split = run_text(&rt, alloc, TWICE)?;
-    assert_eq!(rt; split.base.as_slice(), [5].as_slice());
+    same_items(&rt, split.base.as_slice(), [5].as_slice());
     match split.deltas.as_slice() {
         [own, other] => {
-            assert_eq!(rt; own.as_slice(), [2].as_slice());
-            assert_eq!(rt; other.as_slice(), [0].as_slice());
+            same_items(&rt, own.as_slice(), [2].as_slice());
+            same_items(&rt, other.as_slice(), [0].as_slice());
         }
         _ => panic!(rt; "two sites"),
     }
     let after = fold(alloc, &split)?;
-    assert_eq!(rt; after.as_slice(), [7].as_slice());
+    same_items(&rt, after.as_slice(), [7].as_slice());
     Ok(())
 }

@@ -1,5 +1,6 @@
 //! Copies of the types of plans.
 
+use crate::same::{same, same_items};
 use homeo_plan::{
     Atom, AtomSet, Clause, Config, Delta, FreezeSet, JointRow, Linear, LocalTreaty, Residual, Row,
     Template, Term,
@@ -25,9 +26,9 @@ fn atoms_are_copied(rt: HostRuntime) -> Result<(), Fail> {
     let copy = AtomSet { atoms }.copy(rt.alloc())?;
     assert_eq!(rt; copy.atoms.as_slice().len(), 1);
     let form = &copy.atoms.as_slice()[0].form;
-    assert_eq!(rt; form.constant, -7);
-    assert_eq!(rt; form.terms.as_slice(), [term].as_slice());
-    assert_eq!(rt; form.mixed.as_slice(), [there].as_slice());
+    same(&rt, &form.constant, &-7);
+    same_items(&rt, form.terms.as_slice(), [term].as_slice());
+    same_items(&rt, form.mixed.as_slice(), [there].as_slice());
     Ok(())
 }
 
@@ -58,15 +59,15 @@ fn a_row_is_copied(rt: HostRuntime) -> Result<(), Fail> {
 fn picks_freezes_and_residuals_are_copied(rt: HostRuntime) -> Result<(), Fail> {
     let picks = List::from_vec([2, 0].to_vec(rt.alloc())?);
     let copy = JointRow { picks }.copy(rt.alloc())?;
-    assert_eq!(rt; copy.picks.as_slice(), [2, 0].as_slice());
+    same_items(&rt, copy.picks.as_slice(), [2, 0].as_slice());
     let delta = Delta { object: 2, site: 1 };
     let deltas = List::from_vec([delta].to_vec(rt.alloc())?);
     let copy = FreezeSet { deltas }.copy(rt.alloc())?;
-    assert_eq!(rt; copy.deltas.as_slice(), [delta].as_slice());
+    same_items(&rt, copy.deltas.as_slice(), [delta].as_slice());
     let mut commands = List::new(rt.alloc());
     commands.push(LCommand::Skip)?;
     let copy = Residual { site: 3, commands }.copy(rt.alloc())?;
-    assert_eq!(rt; copy.site, 3);
+    same(&rt, &copy.site, &3);
     assert!(rt; matches!(copy.commands.as_slice(), [LCommand::Skip]));
     Ok(())
 }
@@ -93,19 +94,21 @@ fn a_treaty_is_copied(rt: HostRuntime) -> Result<(), Fail> {
         config: Config { bounds },
     };
     let copy = treaty.copy(rt.alloc())?;
-    assert_eq!(rt; copy.site, 1);
-    assert_eq!(rt; copy.template.sites, 2);
+    same(&rt, &copy.site, &1);
+    same(&rt, &copy.template.sites, &2);
     assert_eq!(rt; copy.template.clauses.as_slice().len(), 1);
-    assert_eq!(rt;
+    same_items(
+        &rt,
         copy.template.clauses.as_slice()[0].terms.as_slice(),
-        [term].as_slice()
+        [term].as_slice(),
     );
-    assert_eq!(rt; copy.template.clauses.as_slice()[0].slack, 4);
-    assert_eq!(rt; copy.template.freezes.as_slice(), [delta].as_slice());
+    same(&rt, &copy.template.clauses.as_slice()[0].slack, &4);
+    same_items(&rt, copy.template.freezes.as_slice(), [delta].as_slice());
     assert_eq!(rt; copy.config.bounds.as_slice().len(), 1);
-    assert_eq!(rt;
+    same_items(
+        &rt,
         copy.config.bounds.as_slice()[0].as_slice(),
-        [1, 3].as_slice()
+        [1, 3].as_slice(),
     );
     Ok(())
 }

@@ -2,6 +2,7 @@
 
 use crate::object::base;
 use crate::residual::{plan, residual};
+use crate::same::same_items;
 use homeo_effect::{Program, TreatyIndex, effects};
 use homeo_syntax::{LCommand, LExpr, List, Prints, SplitName, Temp};
 use std::test::Fail;
@@ -86,8 +87,8 @@ fn what_is_fixed_at_a_site_is_put_in(rt: HostRuntime) -> Result<(), Fail> {
         }
         _ => panic!(rt; "three commands"),
     }
-    assert_eq!(rt; effects.clauses.as_slice(), [0, 1].as_slice());
-    assert_eq!(rt; effects.freezes.as_slice(), [].as_slice());
+    same_items(&rt, effects.clauses.as_slice(), [0, 1].as_slice());
+    same_items(&rt, effects.freezes.as_slice(), [].as_slice());
     Ok(())
 }
 
@@ -109,7 +110,7 @@ fn a_program_runs_on_the_deltas_of_its_site(rt: HostRuntime) -> Result<(), Fail>
         temporaries.as_mut_slice(),
         &mut prints,
     );
-    assert_eq!(rt; deltas.as_slice(), [1].as_slice());
-    assert_eq!(rt; prints.as_slice(), [1].as_slice());
+    same_items(&rt, deltas.as_slice(), [1].as_slice());
+    same_items(&rt, prints.as_slice(), [1].as_slice());
     Ok(())
 }

@@ -5,6 +5,7 @@ ghost use Rattle.homeo_syntax.specs.LowView.{plain_lcond};
 ghost use Rattle.homeo_plan_tests.specs.inner.ObjectExample.{at_most_five};
 
 use crate::object::{base, object_sum};
+use crate::same::{same, same_items};
 use homeo_linear::atoms;
 use homeo_plan::{Delta, Term};
 use homeo_syntax::{Compare, LCond, LExpr, LTest, List, Memory};
@@ -40,9 +41,13 @@ fn a_bound_of_an_object_is_one_form_of_its_deltas(rt: HostRuntime) -> Result<(),
     let set = atoms(rt.alloc(), &formula, &base)?;
     match set.atoms.as_slice() {
         [atom] => {
-            assert_eq!(rt; atom.form.constant, -3);
-            assert_eq!(rt; atom.form.terms.as_slice(), [once(0), once(1)].as_slice());
-            assert_eq!(rt; atom.form.mixed.as_slice().len(), 0);
+            same(&rt, &atom.form.constant, &-3);
+            same_items(
+                &rt,
+                atom.form.terms.as_slice(),
+                [once(0), once(1)].as_slice(),
+            );
+            same(&rt, &atom.form.mixed.as_slice().len(), &0);
         }
         _ => panic!(rt; "one atom"),
     }

@@ -3,6 +3,7 @@
 ghost use Rattle.std.specs.Prelude.{◌≡◌, ◌<◌, ◌≤◌, ◌^◌, vec_len, IfOk};
 ghost use Rattle.std.specs.List.{All};
 
+use crate::same::same;
 use homeo_joint::{JointError, joint};
 use homeo_plan::{JointRow, Row};
 use homeo_syntax::{LCond, List, Memory};
@@ -53,7 +54,7 @@ fn ten_tables_of_two_rows_have_1_024_joint_rows(rt: HostRuntime) -> Result<(), F
     let rows = joint(rt.alloc(), tables.as_slice())
         .ok()
         .ok_or("no joint table")?;
-    assert_eq!(rt; rows.len(), 1_024);
+    same(&rt, &rows.len(), &1_024);
     assert!(rt; picks_all(rows.first(), 10, 0));
     assert!(rt; picks_all(rows.last(), 10, 1));
     Ok(())
@@ -63,12 +64,13 @@ fn ten_tables_of_two_rows_have_1_024_joint_rows(rt: HostRuntime) -> Result<(), F
 fn eleven_tables_of_two_rows_are_too_many(rt: HostRuntime) -> Result<(), Fail> {
     let tables = tables_of(rt.alloc(), 11, 2).ok().ok_or("memory")?;
     let why = joint(rt.alloc(), tables.as_slice()).err();
-    assert_eq!(rt;
-        why,
-        Some(JointError::TooMany {
+    same(
+        &rt,
+        &why,
+        &Some(JointError::TooMany {
             table: 10,
-            product: 2_048
-        })
+            product: 2_048,
+        }),
     );
     Ok(())
 }
@@ -79,7 +81,7 @@ fn no_tables_have_one_joint_row_without_picks(rt: HostRuntime) -> Result<(), Fai
     let rows = joint(rt.alloc(), tables.as_slice())
         .ok()
         .ok_or("no joint table")?;
-    assert_eq!(rt; rows.len(), 1);
+    same(&rt, &rows.len(), &1);
     assert!(rt; picks_all(rows.first(), 0, 0));
     Ok(())
 }

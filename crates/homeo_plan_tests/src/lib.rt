@@ -22,6 +22,8 @@ mod residual;
 #[cfg(test)]
 mod rounds;
 #[cfg(test)]
+mod same;
+#[cfg(test)]
 mod sites;
 #[cfg(test)]
 mod slacks;

@@ -1,5 +1,6 @@
 //! The distinct ground calls of clients, and which of them each call is.
 
+use crate::same::same_items;
 use homeo_ground::number_clients;
 use homeo_syntax::{Call, Client, Ident, List, Memory, Number};
 use std::alloc::Global;
@@ -60,9 +61,9 @@ fn calls_have_places_in_first_seen_order(rt: HostRuntime) -> Result<(), Fail> {
     let numbered = number_clients(rt.alloc(), clients.as_slice())?;
     match numbered.places.as_slice() {
         [first, second, third] => {
-            assert_eq!(rt; first.as_slice(), [0, 1, 0, 2].as_slice());
-            assert_eq!(rt; second.as_slice(), [3].as_slice());
-            assert_eq!(rt; third.as_slice(), [1, 4, 2].as_slice());
+            same_items(&rt, first.as_slice(), [0, 1, 0, 2].as_slice());
+            same_items(&rt, second.as_slice(), [3].as_slice());
+            same_items(&rt, third.as_slice(), [1, 4, 2].as_slice());
         }
         _ => panic!(rt; "three clients"),
     }
@@ -71,6 +72,6 @@ fn calls_have_places_in_first_seen_order(rt: HostRuntime) -> Result<(), Fail> {
         .iter()
         .map(|call| call.name.offset)
         .collect(rt.alloc())?;
-    assert_eq!(rt; offsets.as_slice(), [10, 20, 40, 50, 70].as_slice());
+    same_items(&rt, offsets.as_slice(), [10, 20, 40, 50, 70].as_slice());
     Ok(())
 }

@@ -3,6 +3,7 @@
 ghost use Rattle.homeo_syntax.specs.SourceView.{plain_workload};
 ghost use Rattle.homeo_meaning.specs.Schema.{schema_of};
 
+use crate::same::{same, same_items};
 use crate::texts::{ONE_WRITER, TWICE, WEIGHTED, accepted};
 use homeo_build::Compiled;
 use homeo_build::compile::compile;
@@ -68,10 +69,10 @@ fn a_second_write_is_bounded_on_what_the_first_one_wrote(rt: HostRuntime) -> Res
     let alloc = rt.alloc();
     let w = accepted(&rt, alloc, TWICE)?;
     let plan = plan_of(alloc, w)?;
-    assert_eq!(rt; plan.base.as_slice(), [5].as_slice());
-    assert_eq!(rt; plan.template.sites, 2);
+    same_items(&rt, plan.base.as_slice(), [5].as_slice());
+    same(&rt, &plan.template.sites, &2);
     assert!(rt; bounds_both_writes(&plan));
-    assert_eq!(rt; plan.template.freezes.as_slice().len(), 0);
+    same(&rt, &plan.template.freezes.as_slice().len(), &0);
     Ok(())
 }
 
@@ -105,7 +106,7 @@ fn a_residual_writes_deltas_of_its_site(rt: HostRuntime) -> Result<(), Fail> {
     let alloc = rt.alloc();
     let w = accepted(&rt, alloc, TWICE)?;
     let residual = residual_of(alloc, w)?;
-    assert_eq!(rt; residual.site, 0);
+    same(&rt, &residual.site, &0);
     match residual.commands.as_slice() {
         [first, second] => {
             assert!(rt; writes_first(first));
@@ -157,8 +158,8 @@ fn a_site_that_does_not_write_has_no_share(rt: HostRuntime) -> Result<(), Fail> 
     let shares = shares_of(alloc, w)?;
     match shares.as_slice() {
         [low, high] => {
-            assert_eq!(rt; low.as_slice(), [1, 0].as_slice());
-            assert_eq!(rt; high.as_slice(), [1, 0].as_slice());
+            same_items(&rt, low.as_slice(), [1, 0].as_slice());
+            same_items(&rt, high.as_slice(), [1, 0].as_slice());
         }
         _ => panic!(rt; "two clauses"),
     }

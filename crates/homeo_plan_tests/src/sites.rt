@@ -5,6 +5,7 @@ ghost use Rattle.homeo_syntax.specs.LowView.{plain_lexpr, plain_lcommand};
 ghost use Rattle.homeo_plan_tests.specs.inner.SplitExample.{next, raise, IsStart};
 
 use crate::object::pair;
+use crate::same::same_items;
 use homeo_delta::{fold, transform};
 use homeo_meaning::Database;
 use homeo_split::{Split, eval_l};
@@ -58,19 +59,19 @@ fn a_site_raises_an_object_of_the_fold(rt: HostRuntime) -> Result<(), Fail> {
     let command = raise(alloc)?;
     let mut split = start(alloc)?;
     let before = fold(alloc, &split)?;
-    assert_eq!(rt; before.as_slice(), [10, 10].as_slice());
+    same_items(&rt, before.as_slice(), [10, 10].as_slice());
     let shifted = transform(alloc, &command, 1, 2)?;
     let prints = eval_l(alloc, &shifted, &mut split)?;
-    assert_eq!(rt; prints.as_slice(), [11].as_slice());
-    assert_eq!(rt; split.base.as_slice(), [5, 7].as_slice());
+    same_items(&rt, prints.as_slice(), [11].as_slice());
+    same_items(&rt, split.base.as_slice(), [5, 7].as_slice());
     match split.deltas.as_slice() {
         [other, own] => {
-            assert_eq!(rt; other.as_slice(), [2, -1].as_slice());
-            assert_eq!(rt; own.as_slice(), [4, 4].as_slice());
+            same_items(&rt, other.as_slice(), [2, -1].as_slice());
+            same_items(&rt, own.as_slice(), [4, 4].as_slice());
         }
         _ => panic!(rt; "two sites"),
     }
     let after = fold(alloc, &split)?;
-    assert_eq!(rt; after.as_slice(), [11, 10].as_slice());
+    same_items(&rt, after.as_slice(), [11, 10].as_slice());
     Ok(())
 }

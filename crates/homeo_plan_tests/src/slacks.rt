@@ -4,6 +4,7 @@ ghost use Rattle.std.specs.Prelude.{◌≡◌, ◌≤◌, [], ◌∷◌, map, If
 ghost use Rattle.homeo_plan.specs.PlanView.{plain_clause, plain_template};
 ghost use Rattle.homeo_plan_tests.specs.inner.SlackExample.{with_slack, slacks, three_and_one};
 
+use crate::same::same_items;
 use homeo_config::{split_even, split_weighted};
 use homeo_plan::{Clause, Config, Template};
 use homeo_syntax::{List, Memory, Numbers};
@@ -46,8 +47,8 @@ fn a_remainder_is_given_to_later_sites(rt: HostRuntime) -> Result<(), Fail> {
     let config = shared(rt.alloc(), 2)?;
     match config.bounds.as_slice() {
         [seven, none] => {
-            assert_eq!(rt; seven.as_slice(), [3, 4].as_slice());
-            assert_eq!(rt; none.as_slice(), [0, 0].as_slice());
+            same_items(&rt, seven.as_slice(), [3, 4].as_slice());
+            same_items(&rt, none.as_slice(), [0, 0].as_slice());
         }
         _ => panic!(rt; "two clauses"),
     }
@@ -59,8 +60,8 @@ fn three_sites_share_a_slack_of_seven(rt: HostRuntime) -> Result<(), Fail> {
     let config = shared(rt.alloc(), 3)?;
     match config.bounds.as_slice() {
         [seven, none] => {
-            assert_eq!(rt; seven.as_slice(), [2, 2, 3].as_slice());
-            assert_eq!(rt; none.as_slice(), [0, 0, 0].as_slice());
+            same_items(&rt, seven.as_slice(), [2, 2, 3].as_slice());
+            same_items(&rt, none.as_slice(), [0, 0, 0].as_slice());
         }
         _ => panic!(rt; "two clauses"),
     }
@@ -91,8 +92,8 @@ fn slacks_are_split_by_shares(rt: HostRuntime) -> Result<(), Fail> {
     let config = split_weighted(alloc, &template, shares.as_slice())?;
     match config.bounds.as_slice() {
         [four, six] => {
-            assert_eq!(rt; four.as_slice(), [3, 1].as_slice());
-            assert_eq!(rt; six.as_slice(), [4, 2].as_slice());
+            same_items(&rt, four.as_slice(), [3, 1].as_slice());
+            same_items(&rt, six.as_slice(), [4, 2].as_slice());
         }
         _ => panic!(rt; "two clauses"),
     }

@@ -5,6 +5,7 @@ ghost use Rattle.homeo_syntax.specs.LowView.{plain_lcommand};
 ghost use Rattle.homeo_plan_tests.specs.inner.SplitExample.{raise_own};
 
 use crate::object::{object_sum, sum};
+use crate::same::same_items;
 use crate::sites::start;
 use homeo_split::eval_l;
 use homeo_syntax::{LCommand, LExpr, List, Memory, SplitName};
@@ -39,12 +40,12 @@ fn a_site_writes_its_own_delta(rt: HostRuntime) -> Result<(), Fail> {
     let mut state = start(rt.alloc())?;
     assert!(rt; state.has_places(&command));
     let prints = eval_l(rt.alloc(), &command, &mut state)?;
-    assert_eq!(rt; prints.as_slice(), [16].as_slice());
-    assert_eq!(rt; state.base.as_slice(), [5, 7].as_slice());
+    same_items(&rt, prints.as_slice(), [16].as_slice());
+    same_items(&rt, state.base.as_slice(), [5, 7].as_slice());
     match state.deltas.as_slice() {
         [here, there] => {
-            assert_eq!(rt; here.as_slice(), [8, -1].as_slice());
-            assert_eq!(rt; there.as_slice(), [3, 4].as_slice());
+            same_items(&rt, here.as_slice(), [8, -1].as_slice());
+            same_items(&rt, there.as_slice(), [3, 4].as_slice());
         }
         _ => panic!(rt; "two sites"),
     }

@@ -1,5 +1,6 @@
 //! The table of a small command.
 
+use crate::same::same;
 use homeo_plan::Row;
 use homeo_syntax::{Compare, LCommand, LCond, LExpr, LTest, List, Memory, SplitName, Temp};
 use homeo_table::table;
@@ -66,9 +67,9 @@ fn first_is(row: Option<&Row>, number: i64) -> bool {
 fn a_choice_has_two_rows(rt: HostRuntime) -> Result<(), Fail> {
     let command = sample(rt.alloc()).ok().ok_or("memory")?;
     let rows = table(rt.alloc(), &command).ok().ok_or("memory")?;
-    assert_eq!(rt; rows.len(), 2);
-    assert_eq!(rt; sizes(rows.first()), Some((1, 2)));
-    assert_eq!(rt; sizes(rows.last()), Some((1, 1)));
+    same(&rt, &rows.len(), &2);
+    same(&rt, &sizes(rows.first()), &Some((1, 2)));
+    same(&rt, &sizes(rows.last()), &Some((1, 1)));
     assert!(rt; first_is(rows.first(), 0));
     Ok(())
 }

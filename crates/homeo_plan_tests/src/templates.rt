@@ -6,6 +6,7 @@ ghost use Rattle.homeo_meaning.specs.Small.{IsSmall};
 ghost use Rattle.homeo_plan.specs.Limit.{form_limit};
 ghost use Rattle.homeo_plan_tests.specs.inner.AtomExample.{AreSmall};
 
+use crate::same::{same, same_items};
 use homeo_plan::{Atom, AtomSet, Clause, Delta, FreezeSet, Linear, Term};
 use homeo_syntax::{List, Memory};
 use homeo_template::template;
@@ -87,7 +88,7 @@ fn equal_atoms_are_one_clause_and_freezes_stand_in_order(rt: HostRuntime) -> Res
     let sets = sets(rt.alloc())?;
     let needed = needed(rt.alloc())?;
     let template = template(rt.alloc(), sets.as_slice(), needed.as_slice(), 3)?;
-    assert_eq!(rt; template.sites, 3);
+    same(&rt, &template.sites, &3);
     match template.clauses.as_slice() {
         [first, second] => {
             assert!(rt; is_clause(first, [term(0, 1, 2), term(1, 0, -1)].as_slice(), 5));
@@ -95,9 +96,10 @@ fn equal_atoms_are_one_clause_and_freezes_stand_in_order(rt: HostRuntime) -> Res
         }
         _ => panic!(rt; "two clauses"),
     }
-    assert_eq!(rt;
+    same_items(
+        &rt,
         template.freezes.as_slice(),
-        [delta(0, 1), delta(0, 2), delta(1, 0), delta(1, 1)].as_slice()
+        [delta(0, 1), delta(0, 2), delta(1, 0), delta(1, 1)].as_slice(),
     );
     Ok(())
 }

@@ -12,6 +12,7 @@ ghost use Rattle.homeo_split.specs.States.{state_of};
 ghost use Rattle.homeo_ground.specs.Grounding.{IsCalled};
 
 use crate::calls::{first, undivided};
+use crate::same::same_items;
 use crate::texts::{TWICE, accepted};
 use homeo_context::Declarations;
 use homeo_delta::transform;
@@ -98,7 +99,7 @@ fn the_walk_gives_the_row_of_the_table(rt: HostRuntime) -> Result<(), Fail> {
     let taken = take_first(alloc, &w)?;
     let by_table = printed(alloc, w.workload(), taken.place, &taken.by_table)?;
     let by_walk = printed(alloc, w.workload(), taken.place, &taken.by_walk)?;
-    assert_eq!(rt; by_walk.as_slice(), ROW.as_bytes());
-    assert_eq!(rt; by_table.as_slice(), ROW.as_bytes());
+    same_items(&rt, by_walk.as_slice(), ROW.as_bytes());
+    same_items(&rt, by_table.as_slice(), ROW.as_bytes());
     Ok(())
 }

@@ -4,6 +4,7 @@ ghost use Rattle.std.specs.Prelude.{IfOk};
 ghost use Rattle.homeo_syntax.specs.SourceView.{plain_workload};
 ghost use Rattle.homeo_build.specs.Plan.{IsPlanOf};
 
+use crate::same::{same, same_items};
 use crate::wires::compiled;
 use homeo_build::Compiled;
 use homeo_build::treaties::treaties;
@@ -57,9 +58,9 @@ fn the_certificate_of_a_round_is_valid(rt: HostRuntime) -> Result<(), Fail> {
     let alloc = rt.alloc();
     let c = compiled(&rt, alloc, TURN)?;
     let text = first_certificate(&rt, alloc, &c)?;
-    assert_eq!(rt; text.as_slice(), CERTIFICATE.as_bytes());
+    same_items(&rt, text.as_slice(), CERTIFICATE.as_bytes());
     let verdict = verdict_on(&rt, alloc, text.as_slice())?;
-    assert_eq!(rt; verdict, Verdict::Valid);
+    same(&rt, &verdict, &Verdict::Valid);
     Ok(())
 }
 
@@ -75,7 +76,7 @@ fn a_verdict_is_the_first_fault(rt: HostRuntime) -> Result<(), Fail> {
         ("[", Verdict::Json),
     ] {
         let told = verdict_on(&rt, rt.alloc(), text.as_bytes())?;
-        assert_eq!(rt; told, verdict);
+        same(&rt, &told, &verdict);
     }
     Ok(())
 }

@@ -4,6 +4,8 @@
 #[cfg(test)]
 mod certificates;
 #[cfg(test)]
+mod same;
+#[cfg(test)]
 mod sessions;
 #[cfg(test)]
 mod wires;

@@ -2,6 +2,7 @@
 
 ghost use Rattle.std.specs.Prelude.{◌<◌};
 
+use crate::same::{same, same_items};
 use homeo::{Status, run};
 use homeo_cluster::OpenGate;
 use homeo_io::{Memory, MemorySink, MemorySource};
@@ -120,9 +121,9 @@ fn check_piece(
 ) -> Result<(), Fail> {
     assert!(rt; !session.spent());
     let fed = session.feed(alloc, piece)?;
-    assert_eq!(rt; fed.answers.as_slice(), want.as_bytes());
-    assert_eq!(rt; fed.stop, stop);
-    assert_eq!(rt; session.spent(), stop.is_some());
+    same_items(rt, fed.answers.as_slice(), want.as_bytes());
+    same(rt, &fed.stop, &stop);
+    same(rt, &session.spent(), &stop.is_some());
     Ok(())
 }
 
@@ -186,9 +187,9 @@ fn check_served<R: Threads + Wait + Abort + Sync>(
         &mut said,
         &OpenGate,
     );
-    assert_eq!(rt; ended, status);
-    assert_eq!(rt; taken.bytes(), output.as_bytes());
-    assert_eq!(rt; said.bytes(), complaint.as_bytes());
+    same(rt, &ended, &status);
+    same_items(rt, taken.bytes(), output.as_bytes());
+    same_items(rt, said.bytes(), complaint.as_bytes());
     Ok(())
 }
 

@@ -4,6 +4,7 @@ ghost use Rattle.std.specs.Prelude.{◌≡◌, IfOk, IsTrue};
 ghost use Rattle.homeo_syntax.specs.SourceView.{plain_workload};
 ghost use Rattle.homeo_wire.specs.WireView.{CanHappen};
 
+use crate::same::{same, same_items};
 use homeo_accept::{TextRefusal, accepted};
 use homeo_build::Compiled;
 use homeo_build::compile::compile;
@@ -63,7 +64,7 @@ fn happen(alloc: Global, wire: &mut Wire, event: Event) -> Result<Step, Fail> {
 /// Makes a call that keeps the treaty and prints 1.
 fn buy(rt: &impl Abort, alloc: Global, wire: &mut Wire, client: u32) -> Result<(), Fail> {
     match happen(alloc, wire, Event::Call { client })? {
-        Step::Kept(prints) => assert_eq!(rt; prints.as_slice(), [1].as_slice()),
+        Step::Kept(prints) => same_items(rt, prints.as_slice(), [1].as_slice()),
         _ => panic!(rt; "a call that keeps the treaty"),
     }
     Ok(())
@@ -123,7 +124,7 @@ fn two_nodes_close_a_round_by_packets(rt: HostRuntime) -> Result<(), Fail> {
         (0, 1, true),
         (0, 2, true),
     ] {
-        assert_eq!(rt; is_taken(rt.alloc(), &mut wire, site, packet)?, taken);
+        same(&rt, &is_taken(rt.alloc(), &mut wire, site, packet)?, &taken);
     }
     assert!(rt; round_and_base(&wire, 0)? == (1, Some(1)));
     match happen(rt.alloc(), &mut wire, Event::Call { client: 1 })? {
@@ -132,14 +133,14 @@ fn two_nodes_close_a_round_by_packets(rt: HostRuntime) -> Result<(), Fail> {
     }
     assert!(rt; is_taken(rt.alloc(), &mut wire, 1, 3)?);
     assert!(rt; round_and_base(&wire, 1)? == (1, Some(1)));
-    assert_eq!(rt; left_of_first(&wire)?, 0);
+    same(&rt, &left_of_first(&wire)?, &0);
     let history = wire.finish(rt.alloc())?;
-    assert_eq!(rt; history.last.as_slice(), [1].as_slice());
+    same_items(&rt, history.last.as_slice(), [1].as_slice());
     match history.rounds.as_slice() {
         [first, open] => {
             let closing = first.closing.as_ref().ok_or("the first round is closed")?;
             assert!(rt; closing.site == 0 && closing.broken == broken);
-            assert_eq!(rt; closing.entry.prints.as_slice(), [1].as_slice());
+            same_items(&rt, closing.entry.prints.as_slice(), [1].as_slice());
             assert!(rt; open.closing.is_none());
         }
         _ => panic!(rt; "two rounds"),
@@ -152,12 +153,12 @@ fn a_number_chooses_events_that_make_all_calls(rt: HostRuntime) -> Result<(), Fa
     for number in [1, 2] {
         let c = compiled(&rt, rt.alloc(), SHOP)?;
         match count_calls(c.workload()) {
-            Ok(calls) => assert_eq!(rt; calls, 4),
+            Ok(calls) => same(&rt, &calls, &4),
             Err(_) => panic!(rt; "four calls"),
         }
         let history = drive(rt.alloc(), c, number)?;
-        assert_eq!(rt; history.rounds.as_slice().len(), 2);
-        assert_eq!(rt; history.last.as_slice(), [1].as_slice());
+        same(&rt, &history.rounds.as_slice().len(), &2);
+        same_items(&rt, history.last.as_slice(), [1].as_slice());
     }
     Ok(())
 }

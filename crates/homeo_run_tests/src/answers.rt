@@ -8,6 +8,7 @@ ghost use Rattle.homeo_cluster.specs.Passes.{AreAll};
 ghost use Rattle.homeo_cluster.specs.Places.{line_count};
 
 use crate::gates::{Holds, call};
+use crate::same::{same, same_items};
 use crate::texts::{THREE_AND_ONE, THREE_EACH, accepted_shop};
 use homeo_build::Compiled;
 use homeo_build::compile::compile;
@@ -169,10 +170,10 @@ fn assert_answers_stand(rt: &impl Abort, day: &Day, many: usize) -> Result<(), F
         let Some(entry) = entry_of(&day.history, answer) else {
             return Err(Fail::from("an answer has an entry"));
         };
-        assert_eq!(rt; entry.call, call(answer.client, answer.seq));
-        assert_eq!(rt; entry.prints.as_slice(), answer.prints.as_slice());
+        same(rt, &entry.call, &call(answer.client, answer.seq));
+        same_items(rt, entry.prints.as_slice(), answer.prints.as_slice());
     }
-    assert_eq!(rt; day.answers.as_slice().len(), many);
+    same(rt, &day.answers.as_slice().len(), &many);
     Ok(())
 }
 
@@ -199,7 +200,7 @@ database
 stock = 1
 rounds 2 calls 4
 ";
-    assert_eq!(rt; told.as_slice(), expected.as_slice());
+    same_items(&rt, told.as_slice(), expected.as_slice());
     Ok(())
 }
 
@@ -217,6 +218,6 @@ fn answers_stand_in_the_history(rt: HostRuntime) -> Result<(), Fail> {
             closing = closing.wrapping_add(1);
         }
     }
-    assert_eq!(rt; closing, 1);
+    same(&rt, &closing, &1);
     Ok(())
 }

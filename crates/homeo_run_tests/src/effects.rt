@@ -5,6 +5,7 @@ ghost use Rattle.homeo_syntax.specs.SourceView.{plain_workload};
 ghost use Rattle.homeo_build.specs.Plan.{IsPlanOf};
 ghost use Rattle.homeo_print.specs.Names.{object_names};
 
+use crate::same::same_items;
 use crate::texts::{THREE_AND_ONE, accepted, shop};
 use homeo_build::Compiled;
 use homeo_build::compile::compile;
@@ -110,10 +111,10 @@ fn a_call_touches_what_it_writes_at_its_site(rt: HostRuntime) -> Result<(), Fail
     let sale = touched(&rt, alloc, text.as_str())?;
     let commands = b"do { s := 5 + stock@0 + 0; write(stock@0 = (s + -1) + -5 + 0); print(1) }\n";
     assert!(rt; sale.text.as_slice().ends_with(commands.as_slice()));
-    assert_eq!(rt; sale.clauses.as_slice(), [0, 1].as_slice());
-    assert_eq!(rt; sale.freezes.as_slice(), [].as_slice());
+    same_items(&rt, sale.clauses.as_slice(), [0, 1].as_slice());
+    same_items(&rt, sale.freezes.as_slice(), [].as_slice());
     let print = touched(&rt, alloc, SHOWN)?;
-    assert_eq!(rt; print.clauses.as_slice(), [].as_slice());
-    assert_eq!(rt; print.freezes.as_slice(), [].as_slice());
+    same_items(&rt, print.clauses.as_slice(), [].as_slice());
+    same_items(&rt, print.freezes.as_slice(), [].as_slice());
     Ok(())
 }

@@ -23,6 +23,8 @@ mod reports;
 #[cfg(test)]
 mod runs;
 #[cfg(test)]
+mod same;
+#[cfg(test)]
 mod sites;
 #[cfg(test)]
 mod steps;

@@ -2,6 +2,7 @@
 
 use crate::gates::CountsCalls;
 use crate::output::output;
+use crate::same::{same, same_items};
 use homeo_cluster::OpenGate;
 use homeo_load::accepted_load;
 use homeo_syntax::Workload;
@@ -31,7 +32,7 @@ fn sums(alloc: Global, w: &Workload) -> Result<Vec<i64>, Fail> {
 fn one_call_adds_eight_to_the_fifth_object(rt: HostRuntime) -> Result<(), Fail> {
     let w = accepted_load(rt.alloc(), 1, 1)?;
     let sums = sums(rt.alloc(), w.workload())?;
-    assert_eq!(rt; sums.as_slice(), [0, 0, 0, 0, 8, 0, 0, 0].as_slice());
+    same_items(&rt, sums.as_slice(), [0, 0, 0, 0, 8, 0, 0, 0].as_slice());
     Ok(())
 }
 
@@ -40,9 +41,9 @@ fn the_largest_load_has_the_sums_of_a_plain_loop(rt: HostRuntime) -> Result<(), 
     let w = accepted_load(rt.alloc(), 7, 20_000)?;
     let sums = sums(rt.alloc(), w.workload())?;
     let wanted = [12581, 12764, 12141, 12682, 12462, 12748, 12271, 12390];
-    assert_eq!(rt; sums.as_slice(), wanted.as_slice());
+    same_items(&rt, sums.as_slice(), wanted.as_slice());
     for client in w.workload().clients.as_slice() {
-        assert_eq!(rt; client.calls.as_slice().len(), 2500);
+        same(&rt, &client.calls.as_slice().len(), &2500);
     }
     Ok(())
 }
@@ -66,11 +67,11 @@ c5 = 0
 c6 = 6
 c7 = 4
 ";
-    assert_eq!(rt; output.as_slice(), summary.as_slice());
+    same_items(&rt, output.as_slice(), summary.as_slice());
     for calls in gate.times(&rt).as_slice().chunks(3) {
-        assert_eq!(rt; calls, [1, 1, 0].as_slice());
+        same_items(&rt, calls, [1, 1, 0].as_slice());
     }
-    assert_eq!(rt; gate.elsewhere(&rt), 0);
+    same(&rt, &gate.elsewhere(&rt), &0);
     Ok(())
 }
 
@@ -89,7 +90,7 @@ c7 = 12390
 ";
     for _ in 0..2 {
         let output = output(&rt, rt.alloc(), &["load", "7", "20000"], UNREAD, &OpenGate)?;
-        assert_eq!(rt; output.as_slice(), summary.as_slice());
+        same_items(&rt, output.as_slice(), summary.as_slice());
     }
     Ok(())
 }

@@ -1,6 +1,7 @@
 //! Six clients at three sites that buy ten items, and write their orders down as long as there is room.
 
 use crate::output::output;
+use crate::same::same;
 use homeo_cluster::OpenGate;
 use std::alloc::Global;
 use std::process::Abort;
@@ -99,7 +100,7 @@ fn check_prints(rt: &impl Abort, alloc: Global, report: &str) -> Result<(), Fail
         let end = format!(in alloc; ": {order}\n")?;
         assert!(rt; stands_once(report, end.as_str()));
     }
-    assert_eq!(rt; report.matches(": 0\n").count(), 224);
+    same(rt, &report.matches(": 0\n").count(), &224);
     Ok(())
 }
 

@@ -1,5 +1,6 @@
 //! Whole runs in memory, and their outputs.
 
+use crate::same::{same, same_items};
 use homeo::{Status, run};
 use homeo_cluster::Gate;
 use homeo_io::{Memory, MemorySink, MemorySource};
@@ -61,7 +62,7 @@ pub fn output<R: Threads + Wait + Abort + Sync, G: Gate>(
     gate: &G,
 ) -> Result<Vec<u8>, Fail> {
     let ending = run_words(rt, alloc, spoken, text, gate)?;
-    assert_eq!(rt; ending.status, Status::Done);
-    assert_eq!(rt; ending.complaint.as_slice(), b"".as_slice());
+    same(rt, &ending.status, &Status::Done);
+    same_items(rt, ending.complaint.as_slice(), b"".as_slice());
     Ok(ending.output)
 }

@@ -6,6 +6,7 @@ ghost use Rattle.homeo_history.specs.HistoryView.{plain_history};
 ghost use Rattle.homeo_report.specs.Report.{CanReport};
 
 use crate::gates::call;
+use crate::same::same_items;
 use crate::texts::accepted;
 use homeo_eval::initial;
 use homeo_history::{Closing, Entry, History, Round, Segment};
@@ -89,7 +90,7 @@ fn rounds_of_closing_calls(rt: HostRuntime) -> Result<(), Fail> {
     let text = report(alloc, &history, &w)?;
     let want =
         b"round 0\nsite 0\nsite 1\nclose 1 clause 2 sum -4 bound 0\nb 1 up(): 3\nround 1\nsite 0\nsite 1\ndatabase\nx = 3\nrounds 2 calls 1\n";
-    assert_eq!(rt; text.as_slice(), want.as_slice());
+    same_items(&rt, text.as_slice(), want.as_slice());
     Ok(())
 }
 
@@ -110,7 +111,7 @@ fn an_entry_of_a_site(rt: HostRuntime) -> Result<(), Fail> {
     let history = ended(alloc, &w, rounds)?;
     let text = report(alloc, &history, &w)?;
     let want = b"round 0\nsite 0\na 1 up(7, -2): -5 0\ndatabase\nx = -1\nrounds 1 calls 1\n";
-    assert_eq!(rt; text.as_slice(), want.as_slice());
+    same_items(&rt, text.as_slice(), want.as_slice());
     Ok(())
 }
 
@@ -120,6 +121,10 @@ fn a_summary_counts_calls_and_prints(rt: HostRuntime) -> Result<(), Fail> {
     let w = accepted(&rt, alloc, UP)?;
     let history = ended(alloc, &w, closed_and_open(alloc, &[3, 4])?)?;
     let text = summary(alloc, &history, &w)?;
-    assert_eq!(rt; text.as_slice(), b"calls 1\nprints 2\nx = 3\n".as_slice());
+    same_items(
+        &rt,
+        text.as_slice(),
+        b"calls 1\nprints 2\nx = 3\n".as_slice(),
+    );
     Ok(())
 }

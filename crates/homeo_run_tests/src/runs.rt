@@ -2,6 +2,7 @@
 
 use crate::gates::{CountsCalls, Hold, Holds, HoldsFirst, call};
 use crate::output::{output, run_words};
+use crate::same::{same, same_items};
 use crate::texts::{
     IN_ORDER, ONE_SITE, SHORT_ORDER, THREE_AND_ONE, THREE_AND_TWO, THREE_EACH, shop,
 };
@@ -86,7 +87,7 @@ database
 stock = 0
 rounds 2 calls 5
 ";
-    assert_eq!(rt; output.as_slice(), report.as_slice());
+    same_items(&rt, output.as_slice(), report.as_slice());
     Ok(())
 }
 
@@ -96,7 +97,7 @@ fn calls_of_one_site_are_not_inside_together(rt: HostRuntime) -> Result<(), Fail
     let text = shop(rt.alloc(), ONE_SITE)?;
     let output = output(&rt, rt.alloc(), &["run"], text.as_str(), &gate)?;
     assert!(rt; !gate.were_together(&rt));
-    assert_eq!(rt; gate.calls(&rt), 2);
+    same(&rt, &gate.calls(&rt), &2);
     let a_first = b"round 0
 site 0
 a 1 buy(1): 1
@@ -131,14 +132,15 @@ fn clients_need_no_schedule(rt: HostRuntime) -> Result<(), Fail> {
         let output = output(&rt, alloc, &["run"], text.as_str(), &gate)?;
         assert!(rt; output.as_slice().ends_with(last_lines.as_slice()));
         assert!(rt; gate.times(&rt).as_slice().starts_with(&[1, 1, 1, 1, 0, 0]));
-        assert_eq!(rt; gate.elsewhere(&rt), 0);
+        same(&rt, &gate.elsewhere(&rt), &0);
     }
     let text = shop(alloc, THREE_AND_ONE)?;
     let refused = run_words(&rt, alloc, &["steps"], text.as_str(), &OpenGate)?;
-    assert_eq!(rt; refused.status, Status::Refused);
-    assert_eq!(rt;
+    same(&rt, &refused.status, &Status::Refused);
+    same_items(
+        &rt,
         refused.complaint.as_slice(),
-        b"refused E14 at 224\n".as_slice()
+        b"refused E14 at 224\n".as_slice(),
     );
     Ok(())
 }
@@ -147,11 +149,12 @@ fn clients_need_no_schedule(rt: HostRuntime) -> Result<(), Fail> {
 fn a_schedule_is_checked_where_it_is_not_used(rt: HostRuntime) -> Result<(), Fail> {
     let text = shop(rt.alloc(), SHORT_ORDER)?;
     let refused = run_words(&rt, rt.alloc(), &["run"], text.as_str(), &OpenGate)?;
-    assert_eq!(rt; refused.status, Status::Refused);
-    assert_eq!(rt; refused.output.as_slice(), b"".as_slice());
-    assert_eq!(rt;
+    same(&rt, &refused.status, &Status::Refused);
+    same_items(&rt, refused.output.as_slice(), b"".as_slice());
+    same_items(
+        &rt,
         refused.complaint.as_slice(),
-        b"refused E14 at 239\n".as_slice()
+        b"refused E14 at 239\n".as_slice(),
     );
     Ok(())
 }

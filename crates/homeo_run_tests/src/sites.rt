@@ -5,6 +5,7 @@ ghost use Rattle.homeo_syntax.specs.SourceView.{plain_workload};
 ghost use Rattle.homeo_history.specs.Legal.{IsCallAt};
 ghost use Rattle.homeo_run_tests.specs.inner.Sites.{IsFirstSite};
 
+use crate::same::{same, same_items};
 use crate::texts::{THREE_AND_ONE, accepted_shop};
 use homeo_build::Compiled;
 use homeo_build::compile::compile;
@@ -81,18 +82,22 @@ fn a_site_sells_until_its_treaty_breaks(rt: HostRuntime) -> Result<(), Fail> {
     let alloc = rt.alloc();
     let w = accepted_shop(&rt, alloc, THREE_AND_ONE)?;
     let (compiled, mut site) = first_site(alloc, w)?;
-    assert_eq!(rt; make_first(alloc, &compiled, &mut site, 1)?, None);
-    assert_eq!(rt; make_first(alloc, &compiled, &mut site, 2)?, None);
+    same(&rt, &make_first(alloc, &compiled, &mut site, 1)?, &None);
+    same(&rt, &make_first(alloc, &compiled, &mut site, 2)?, &None);
     let broken = Broken {
         clause: 0,
         sum: 3,
         bound: 2,
     };
-    assert_eq!(rt; make_first(alloc, &compiled, &mut site, 3)?, Some(broken));
+    same(
+        &rt,
+        &make_first(alloc, &compiled, &mut site, 3)?,
+        &Some(broken),
+    );
     match site.segment().entries.as_slice() {
         [first, second] => {
-            assert_eq!(rt; first.prints.as_slice(), [1].as_slice());
-            assert_eq!(rt; second.prints.as_slice(), [1].as_slice());
+            same_items(&rt, first.prints.as_slice(), [1].as_slice());
+            same_items(&rt, second.prints.as_slice(), [1].as_slice());
         }
         _ => panic!(rt; "two entries"),
     }
@@ -120,11 +125,11 @@ fn prints_are_copied_into_the_answers(rt: HostRuntime) -> Result<(), Fail> {
     let (compiled, mut site) = first_site(alloc, w)?;
     let (outcome, answers) = attempt_first(alloc, &compiled, &mut site)?;
     match outcome {
-        Outcome::Keeps(change) => assert_eq!(rt; change.prints.as_slice(), [1].as_slice()),
+        Outcome::Keeps(change) => same_items(&rt, change.prints.as_slice(), [1].as_slice()),
         Outcome::Breaks(broken) => panic!(rt; "breaks {broken:?}"),
     }
     match answers.as_slice() {
-        [copy] => assert_eq!(rt; copy.as_slice(), [1].as_slice()),
+        [copy] => same_items(&rt, copy.as_slice(), [1].as_slice()),
         _ => panic!(rt; "one copy"),
     }
     Ok(())

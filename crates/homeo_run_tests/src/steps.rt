@@ -6,6 +6,7 @@ ghost use Rattle.homeo_history.specs.HistoryView.{plain_history};
 ghost use Rattle.homeo_history.specs.Legal.{call_count};
 ghost use Rattle.homeo_report.specs.Report.{CanReport};
 
+use crate::same::{same, same_items};
 use crate::texts::{THREE_AND_ONE, accepted_shop};
 use homeo_build::Compiled;
 use homeo_build::compile::compile;
@@ -113,12 +114,12 @@ fn told(alloc: Global, c: &Compiled, history: &History) -> Result<(Vec<u8>, Vec<
 fn check_answers(rt: &impl Abort, answers: &[Answer]) {
     match answers {
         [first, _, other, last] => {
-            assert_eq!(rt; first.prints.as_slice(), [1].as_slice());
+            same_items(rt, first.prints.as_slice(), [1].as_slice());
             assert!(rt; first.path == Path::Local);
-            assert_eq!(rt; other.site, 1);
+            same(rt, &other.site, &1);
             assert!(rt; other.path == Path::Local);
-            assert_eq!(rt; last.seq, 3);
-            assert_eq!(rt; last.round, 0);
+            same(rt, &last.seq, &3);
+            same(rt, &last.round, &0);
             assert!(rt;
                 last.path
                     == Path::Cleanup(Broken {
@@ -127,7 +128,7 @@ fn check_answers(rt: &impl Abort, answers: &[Answer]) {
                         bound: 2
                     })
             );
-            assert_eq!(rt; last.prints.as_slice(), [1].as_slice());
+            same_items(rt, last.prints.as_slice(), [1].as_slice());
         }
         _ => panic!(rt; "four answers"),
     }
@@ -135,12 +136,12 @@ fn check_answers(rt: &impl Abort, answers: &[Answer]) {
 
 /// The second round begins at what the first one left.
 fn check_rounds(rt: &impl Abort, history: &History) {
-    assert_eq!(rt; history.last.as_slice(), [1].as_slice());
+    same_items(rt, history.last.as_slice(), [1].as_slice());
     match history.rounds.as_slice() {
         [closed, open] => {
-            assert_eq!(rt; closed.base.as_slice(), [5].as_slice());
+            same_items(rt, closed.base.as_slice(), [5].as_slice());
             assert!(rt; closed.closing.is_some());
-            assert_eq!(rt; open.base.as_slice(), [1].as_slice());
+            same_items(rt, open.base.as_slice(), [1].as_slice());
             assert!(rt; open.closing.is_none());
         }
         _ => panic!(rt; "two rounds"),
@@ -161,10 +162,11 @@ fn a_call_that_breaks_its_treaty_closes_the_round(rt: HostRuntime) -> Result<(),
     check_answers(&rt, made.answers.as_slice());
     check_rounds(&rt, &made.history);
     let (reported, summed) = told(alloc, &c, &made.history)?;
-    assert_eq!(rt; reported.as_slice(), REPORT.as_bytes());
-    assert_eq!(rt;
+    same_items(&rt, reported.as_slice(), REPORT.as_bytes());
+    same_items(
+        &rt,
         summed.as_slice(),
-        b"calls 4\nprints 4\nstock = 1\n".as_slice()
+        b"calls 4\nprints 4\nstock = 1\n".as_slice(),
     );
     Ok(())
 }

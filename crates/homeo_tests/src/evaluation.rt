@@ -4,6 +4,7 @@ ghost use Rattle.std.specs.Prelude.{◌≡◌, IfOk};
 ghost use Rattle.homeo_syntax.specs.SourceView.{plain_call, plain_client, plain_expr, plain_transaction, plain_workload};
 ghost use Rattle.homeo_tests.specs.inner.Example.{example, less, sale, cashier, transaction};
 
+use crate::same::{same, same_items};
 use homeo_eval::{initial, serial};
 use homeo_meaning::{Accepted, CallId, GroundCall};
 use homeo_syntax::{
@@ -150,12 +151,12 @@ fn calls_are_run_one_after_another(rt: HostRuntime) -> Result<(), Fail> {
     let logs = serial(alloc, &w, &calls, &mut database)?;
     match logs.as_slice() {
         [first, second] => {
-            assert_eq!(rt; first.as_slice(), [2].as_slice());
-            assert_eq!(rt; second.as_slice(), [2].as_slice());
+            same_items(&rt, first.as_slice(), [2].as_slice());
+            same_items(&rt, second.as_slice(), [2].as_slice());
         }
         _ => panic!(rt; "two logs"),
     }
-    assert_eq!(rt; database.as_slice(), [2].as_slice());
+    same_items(&rt, database.as_slice(), [2].as_slice());
     Ok(())
 }
 
@@ -170,7 +171,7 @@ fn a_ground_call_is_copied(rt: HostRuntime) -> Result<(), Fail> {
         site: 2,
     };
     let copy = call.copy(rt.alloc())?;
-    assert_eq!(rt; (copy.transaction, copy.site), (4, 2));
-    assert_eq!(rt; copy.args.as_slice(), [3, -1].as_slice());
+    same(&rt, &(copy.transaction, copy.site), &(4, 2));
+    same_items(&rt, copy.args.as_slice(), [3, -1].as_slice());
     Ok(())
 }

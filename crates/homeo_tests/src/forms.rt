@@ -8,6 +8,7 @@ ghost use Rattle.homeo_meaning.specs.Ground.{plain_ground};
 ghost use Rattle.homeo_meaning.specs.Schema.{schema_of};
 ghost use Rattle.homeo_ground.specs.Grounding.{IsCalled};
 
+use crate::same::same_items;
 use crate::texts::{ENDED, LIMITED_SLOTS};
 use homeo_accept::TextRefusal;
 use homeo_context::Declarations;
@@ -118,8 +119,8 @@ fn run_both(
     assert!(rt; split.has_places(&form));
     let printed = eval_l(alloc, &form, &mut split)?;
     let prints = eval(alloc, w, call.transaction, call.args.as_slice(), database)?;
-    assert_eq!(rt; printed.as_slice(), prints.as_slice());
-    assert_eq!(rt; split.base.as_slice(), database.as_slice());
+    same_items(rt, printed.as_slice(), prints.as_slice());
+    same_items(rt, split.base.as_slice(), database.as_slice());
     Ok(prints)
 }
 
@@ -165,7 +166,11 @@ fn slots_are_filled_until_none_is_left(rt: HostRuntime) -> Result<(), Fail> {
     let alloc = rt.alloc();
     let w = accepted(&rt, alloc, LIMITED_SLOTS)?;
     let database = run_rounds(&rt, alloc, &w, 5)?;
-    assert_eq!(rt; database.as_slice(), [1, 7, 1, 7, 1, 7, 1, 7].as_slice());
+    same_items(
+        &rt,
+        database.as_slice(),
+        [1, 7, 1, 7, 1, 7, 1, 7].as_slice(),
+    );
     Ok(())
 }
 
@@ -174,7 +179,11 @@ fn orders_are_taken_paid_and_shipped(rt: HostRuntime) -> Result<(), Fail> {
     let alloc = rt.alloc();
     let w = accepted(&rt, alloc, ORDERS)?;
     let database = run_rounds(&rt, alloc, &w, 3)?;
-    assert_eq!(rt; database.as_slice(), [0, 1, 1, 2, 0, 1, 4, 0].as_slice());
+    same_items(
+        &rt,
+        database.as_slice(),
+        [0, 1, 1, 2, 0, 1, 4, 0].as_slice(),
+    );
     Ok(())
 }
 
@@ -183,7 +192,7 @@ fn a_call_that_ends_itself_writes_nothing(rt: HostRuntime) -> Result<(), Fail> {
     let alloc = rt.alloc();
     let w = accepted(&rt, alloc, TAKEN_BACK)?;
     let database = run_rounds(&rt, alloc, &w, 3)?;
-    assert_eq!(rt; database.as_slice(), [14, 1, 4, 1, 1].as_slice());
+    same_items(&rt, database.as_slice(), [14, 1, 4, 1, 1].as_slice());
     Ok(())
 }
 
@@ -197,11 +206,11 @@ fn a_call_that_ends_itself_keeps_its_prints(rt: HostRuntime) -> Result<(), Fail>
     let logs = run_round(&rt, alloc, &w, &declared, grounding.calls(), &mut database)?;
     match logs.as_slice() {
         [whole, ended] => {
-            assert_eq!(rt; whole.as_slice(), [3, 9].as_slice());
-            assert_eq!(rt; ended.as_slice(), [1].as_slice());
+            same_items(&rt, whole.as_slice(), [3, 9].as_slice());
+            same_items(&rt, ended.as_slice(), [1].as_slice());
         }
         _ => panic!(rt; "two logs"),
     }
-    assert_eq!(rt; database.as_slice(), [3].as_slice());
+    same_items(&rt, database.as_slice(), [3].as_slice());
     Ok(())
 }

@@ -17,6 +17,8 @@ mod refusals;
 #[cfg(test)]
 mod runs;
 #[cfg(test)]
+mod same;
+#[cfg(test)]
 mod sizes;
 #[cfg(test)]
 mod streams;

@@ -1,6 +1,7 @@
 //! Texts and words that are refused, and those next to them that aren't.
 
 use crate::runs::{Given, check, plain, run_to_end};
+use crate::same::same_items;
 use crate::texts::{
     NOTHING_BEHIND_THE_HEAD, STOCK, STOCK_REPORT, called, in_parentheses, push_times,
 };
@@ -124,7 +125,7 @@ fn each_beginning_of_a_text_is_refused(rt: HostRuntime) -> Result<(), Fail> {
         let text = STOCK.get(0..length).ok_or("the text is as long")?;
         let ended = run_to_end(&rt, alloc, plain(&["steps"], text))?;
         assert_eq!(rt; ended.status, Status::Refused, "at {length}");
-        assert_eq!(rt; ended.output.as_slice(), b"".as_slice());
+        same_items(&rt, ended.output.as_slice(), b"".as_slice());
         // the assignment's mark is cut in two
         let complaint = if length == 77 {
             "refused E3 at 76\n"

@@ -1,5 +1,6 @@
 //! Whole runs of the top call, over sources and sinks in memory that fail where they are told to.
 
+use crate::same::{same, same_items};
 use homeo::{Status, run};
 use homeo_cluster::OpenGate;
 use homeo_io::{Memory, MemorySink, MemorySource};
@@ -92,8 +93,8 @@ pub(crate) fn check<R: Threads + Wait + Abort + Sync>(
     complaint: &str,
 ) -> Result<(), Fail> {
     let ended = run_to_end(rt, alloc, given)?;
-    assert_eq!(rt; ended.status, status);
-    assert_eq!(rt; ended.output.as_slice(), output.as_bytes());
-    assert_eq!(rt; ended.complaint.as_slice(), complaint.as_bytes());
+    same(rt, &ended.status, &status);
+    same_items(rt, ended.output.as_slice(), output.as_bytes());
+    same_items(rt, ended.complaint.as_slice(), complaint.as_bytes());
     Ok(())
 }

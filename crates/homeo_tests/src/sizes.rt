@@ -2,6 +2,7 @@
 
 ghost use Rattle.std.specs.Prelude.{◌≡◌, ◌≤◌, [], ◌∷◌, pos, length, IfOk};
 
+use crate::same::same;
 use homeo_size::{Layout, Measure, TOO_MANY_PRINTS, count_prints, measure};
 use homeo_syntax::{
     Command, Compare, Cond, Expr, Ident, List, Memory, Number, ObjectDecl, RangeDecl, RelationDecl,
@@ -169,7 +170,7 @@ fn a_call_without_relations(rt: HostRuntime) -> Result<(), Fail> {
         weight: 9 + 1,
         rows: 3,
     };
-    assert_eq!(rt; measured(alloc, 3, body)?, (Some(measure), 1));
+    same(&rt, &measured(alloc, 3, body)?, &(Some(measure), 1));
     Ok(())
 }
 
@@ -196,7 +197,7 @@ fn a_count_in_a_loop(rt: HostRuntime) -> Result<(), Fail> {
         weight: 9,
         rows: 9 * 9 * 9,
     };
-    assert_eq!(rt; measured(alloc, 3, body)?, (Some(measure), 3));
+    same(&rt, &measured(alloc, 3, body)?, &(Some(measure), 3));
     Ok(())
 }
 
@@ -212,6 +213,6 @@ fn far_too_many_nodes(rt: HostRuntime) -> Result<(), Fail> {
     }
     let mut body = List::new(alloc);
     body.push(command)?;
-    assert_eq!(rt; measured(alloc, 64, body)?, (None, TOO_MANY_PRINTS));
+    same(&rt, &measured(alloc, 64, body)?, &(None, TOO_MANY_PRINTS));
     Ok(())
 }

@@ -1,5 +1,6 @@
 //! Sources and sinks over readers and writers of std that fail.
 
+use crate::same::{same, same_items};
 use homeo_io::{ReadError, StdSink, StdSource, read_all, write_all};
 use std::alloc::Global;
 use std::io::{self, Read, Write};
@@ -30,13 +31,13 @@ fn a_reader_is_read_to_its_end_or_its_first_error(rt: HostRuntime) -> Result<(),
     let alloc = rt.alloc();
     let mut source = StdSource::new(b"12\n".as_slice());
     match read_all(alloc, &mut source, 3) {
-        Ok(bytes) => assert_eq!(rt; bytes.as_slice(), b"12\n".as_slice()),
+        Ok(bytes) => same_items(&rt, bytes.as_slice(), b"12\n".as_slice()),
         Err(error) => panic!(rt; "{error:?}"),
     }
     let mut reader = ThirdFails { calls: 0 };
     let fault = read_all(alloc, &mut StdSource::new(&mut reader), 9);
     assert!(rt; matches!(fault, Err(ReadError::Fault)));
-    assert_eq!(rt; reader.calls, 3);
+    same(&rt, &reader.calls, &3);
     let mut source = StdSource::new(b"123".as_slice());
     assert!(rt;
         matches!(
@@ -91,10 +92,10 @@ fn a_writer_is_flushed_and_its_errors_are_told(rt: HostRuntime) -> Result<(), Fa
     assert!(rt; write_all(&mut sink, b"ab").is_ok());
     assert!(rt; write_all(&mut sink, b"").is_ok());
     assert!(rt; write_all(&mut sink, b"c").is_err());
-    assert_eq!(rt; writer.taken.as_slice(), b"ab".as_slice());
-    assert_eq!(rt; writer.flushes, 2);
+    same_items(&rt, writer.taken.as_slice(), b"ab".as_slice());
+    same(&rt, &writer.flushes, &2);
     let mut writer = make_narrow(alloc, true);
     assert!(rt; write_all(&mut StdSink::new(&mut writer), b"ab").is_err());
-    assert_eq!(rt; writer.taken.as_slice(), b"a".as_slice());
+    same_items(&rt, writer.taken.as_slice(), b"a".as_slice());
     Ok(())
 }

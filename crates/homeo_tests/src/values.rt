@@ -1,19 +1,20 @@
 //! The calls of the types that all crates share, on values made here.
 
+use crate::same::{same, same_items};
 use homeo_syntax::{LCommand, LCond, LExpr, LTest, List, Numbers, SplitName, Text};
 use std::test::Fail;
 
 #[test]
 fn a_list_keeps_its_items_and_its_spare(rt: HostRuntime) -> Result<(), Fail> {
     let mut list: Numbers = List::new(rt.alloc());
-    assert_eq!(rt; list.spare(), 0);
+    same(&rt, &list.spare(), &0);
     list.push(4)?;
     list.reserve(2)?;
-    assert_eq!(rt; list.spare(), 2);
+    same(&rt, &list.spare(), &2);
     list.push(-5)?;
-    assert_eq!(rt; list.spare(), 1);
-    assert_eq!(rt; list.as_slice(), [4, -5].as_slice());
-    assert_eq!(rt; list.into_vec().as_slice(), [4, -5].as_slice());
+    same(&rt, &list.spare(), &1);
+    same_items(&rt, list.as_slice(), [4, -5].as_slice());
+    same_items(&rt, list.into_vec().as_slice(), [4, -5].as_slice());
     Ok(())
 }
 
