@@ -57,20 +57,20 @@ module _ {A B : Type 0} (R : A → B → Type 0) where
   set_place (z ∷ xs) (v ∷ ys) (suc n) x y h e r = (h.0, set_place xs ys n x y h.1 e r)
 
 -- ---- what was made
-module _ {Z : Type 0} (w : s.Workload) (base : List ℤ) where
-  none : (gs : List PlannedCall) → AllZip (IsMadeFor {Z = Z} w base) gs (replicate (length gs) None)
+module _ (w : s.Workload) (base : List ℤ) where
+  none : (Z : Type 0) (gs : List PlannedCall) → AllZip (IsMadeFor {Z = Z} w base) gs (replicate (length gs) None)
   unfolding definitions
-  none [] = tt
-  none (g ∷ gs) = (tt, none gs)
+  none Z [] = tt
+  none Z (g ∷ gs) = (tt, none Z gs)
 
   pub none_made :
-      (calls : List GroundCall) (os : List (Option (Arc OwnCall Z))) → map plain_ground calls ≡ grounds w → os ≡ replicate (length calls) None →
+      {Z : Type 0} (calls : List GroundCall) (os : List (Option (Arc OwnCall Z))) → map plain_ground calls ≡ grounds w → os ≡ replicate (length calls) None →
       AllZip (IsMadeFor {Z = Z} w base) (planned w) os
   unfolding plan_definitions
-  none_made calls os are e =
+  none_made {Z} calls os are e =
       let count : length calls ≡ length (planned w) =
       sym (length-map calls plain_ground) ∙ ap length are ∙ sym (length-map (grounds w) (planned_call w)) in
-      subst (λ l. AllZip (IsMadeFor {Z = Z} w base) (planned w) l) (sym (e ∙ ap (λ n. replicate n None) count)) (none (planned w))
+      subst (λ l. AllZip (IsMadeFor {Z = Z} w base) (planned w) l) (sym (e ∙ ap (λ n. replicate n None) count)) (none Z (planned w))
 
 module _
     {Z : Type 0} (w : s.Workload) (base : List ℤ) (call : CallId) (n : ℕ) (within : n < length (grounds w))

@@ -138,7 +138,12 @@ impl OwnRound {
     }
 
     /// The first that fails of clauses and freezes of these numbers, where the site has these deltas.
-    pub(crate) fn first_failure(&self, clauses: &[u32], freezes: &[u32], deltas: &[i64]) -> Option<Broken>
+    pub(crate) fn first_failure(
+        &self,
+        clauses: &[u32],
+        freezes: &[u32],
+        deltas: &[i64],
+    ) -> Option<Broken>
         requires clauses { All (λ n. n < length (template_at (plain_workload self.now.work) self.now.base).clauses) clauses.now }
         requires freezes { let t = template_at (plain_workload self.now.work) self.now.base in
             All (λ n. (length t.clauses ≤ n) × (n < length t.clauses + length t.freezes)) freezes.now }

@@ -173,6 +173,7 @@ impl Site {
         ensures count { length answers.new.items ≡ length answers.old.items }
         ensures answers { All (λ copy. copy.items ≡ copied_prints result) answers.new.items }
     {
+        let round = &self.own;
         let Room {
             call: _,
             own,
@@ -189,7 +190,7 @@ impl Site {
             temporaries.as_mut_slice(),
             &mut prints,
         );
-        let failure = self.own.first_failure(
+        let failure = round.first_failure(
             clauses.as_slice(),
             freezes.as_slice(),
             deltas.as_slice(),

@@ -1,5 +1,6 @@
 use Rattle.std.proofs.Common.{map, sym, ap, subst, ◌∙◌}
 use Rattle.std.specs.List.{All}
+use Rattle.std.proofs.lemmas.Result.{IfOk-weaker}
 use Rattle.homeo_syntax.specs.SourceView.{plain_workload}
 use Rattle.homeo_plan.specs.PlanView.{plain_atoms, plain_template}
 use Rattle.homeo_plan.specs.declared.forms.AtomSet.{AtomSet}
@@ -18,6 +19,8 @@ template-requires c =
 
 pub returns-clause-template : goal.returns-clause-template
 returns-clause-template c =
-    template_is (plain_workload c.args.c.now) c.args.base.now.items (plain_template c.in_ok-template.template) _ _ c.in_ok-template.ensures.value
+    IfOk-weaker c.template.result _ _
+    (λ t is. template_is (plain_workload c.args.c.now) c.args.base.now.items (plain_template t) _ _ is
     (ap (map plain_atoms) c.as_slice.ensures.value ∙ c.in_ok-calls.ensures.atoms)
-    (ap (map (λ (f : FreezeSet). f.deltas.items)) c.as_slice-2.ensures.value ∙ c.in_ok-calls.ensures.needs)
+    (ap (map (λ (f : FreezeSet). f.deltas.items)) c.as_slice-2.ensures.value ∙ c.in_ok-calls.ensures.needs))
+    c.template.ensures.value

@@ -78,9 +78,9 @@ pub returns-in-Some-clause-answers : goal.returns-in-Some-clause-answers
 unfolding definitions
 returns-in-Some-clause-answers c k d lt = (c.requires.answers k d lt).empty
 
-pub returns-in-None-clause-outcome : goal.returns-in-None-clause-outcome
+pub returns-clause-outcome : goal.returns-clause-outcome
 unfolding definitions
-returns-in-None-clause-outcome c =
+returns-clause-outcome c =
     let here = c.as_mut_slice.ensures.value ∙ c.into_vec-deltas.ensures ∙ c.requires.room.deltas in
     let same = ap (λ (o : OwnCall). o.program) c.deref.ensures in
     let lends = written_whole c.run.new.deltas _ _ c.as_slice-3.result.now c.as_slice-3.ensures.value (c.run.auto.deltas ∙ c.as_mut_slice.ensures.len) in
@@ -103,6 +103,6 @@ returns-in-None-clause-outcome c =
     here c.args.call c.self.invariant c.requires.call _ _ same c.requires.room.own c.as_mut_slice-2.result.now c.args.room.prints.items
     c.run.new.prints.items c.requires.room.prints c.run.ensures.prints)
 
-pub returns-in-None-clause-answers : goal.returns-in-None-clause-answers
+pub returns-clause-answers : goal.returns-clause-answers
 unfolding definitions
-returns-in-None-clause-answers c k d lt = c.copy_to_all.ensures.copied k d lt ∙ c.as_slice-in-None.ensures
+returns-clause-answers c k d lt = c.copy_to_all.ensures.copied k d lt ∙ c.as_slice-in-None.ensures

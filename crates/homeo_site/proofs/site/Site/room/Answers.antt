@@ -12,6 +12,16 @@ touched-requires c =
     c.in_ok-own.own.value c.in_ok-own.ensures.call c.as_slice.result.now (c.as_slice.ensures ∙ ap (λ (o : OwnCall). o.commands.items) c.deref-run.ensures)
     c.own_call.new.self c.in_ok-own.ensures.same
 
+pub invariant_of-self-in_err-reserve : goal.invariant_of-self-in_err-reserve
+invariant_of-self-in_err-reserve c =
+    still_site c.self.inside.own c.own_call.new.self c.self.inside.deltas.items c.self.inside.segment _ c.self.invariant c.in_ok-own.ensures.same
+    (ap (λ l. l.items) c.in_err-reserve.ensures.err)
+
+pub returns-in_err-reserve-clause-state : goal.returns-in_err-reserve-clause-state
+returns-in_err-reserve-clause-state c =
+    spare_changed c.self.inside.own c.own_call.new.self c.self.inside.deltas.items c.self.inside.segment _ c.args.self.now c.in_ok-own.ensures.same
+    (ap (λ l. l.items) c.in_err-reserve.ensures.err) c.self.view_is
+
 pub invariant_of-self-2 : goal.invariant_of-self-2
 invariant_of-self-2 c =
     still_site c.self.inside.own c.own_call.new.self c.self.inside.deltas.items c.self.inside.segment _ c.self.invariant c.in_ok-own.ensures.same
