@@ -1,11 +1,13 @@
-//! Tests of sites, of clients side by side, under gates that hold calls until others are inside, and of what is told of
-//! their runs.
+//! Tests of sites, of clients side by side, under gates that hold calls until others are inside, of what is told of their runs,
+//! and of what is reached beyond one run: sessions over streams, nodes that send each other packets, and certificates.
 #![tactic(auto)]
 
 #[cfg(test)]
 mod answers;
 #[cfg(test)]
 mod boards;
+#[cfg(test)]
+mod certificates;
 #[cfg(test)]
 mod effects;
 #[cfg(test)]
@@ -25,8 +27,12 @@ mod runs;
 #[cfg(test)]
 mod same;
 #[cfg(test)]
+mod sessions;
+#[cfg(test)]
 mod sites;
 #[cfg(test)]
 mod steps;
 #[cfg(test)]
 mod texts;
+#[cfg(test)]
+mod wires;

@@ -3,7 +3,7 @@ use Rattle.std.proofs.Common.{List, ℤ, sym, subst}
 use Rattle.std.proofs.lemmas.Result.{IfOk-weaker}
 use Rattle.homeo_syntax.specs.SourceView.{plain_workload}
 use Rattle.homeo_build.specs.Plan.{IsPlanOf}
-use Rattle.homeo_reach_tests.proofs.certificates.first_plan.Goals as goal
+use Rattle.homeo_run_tests.proofs.certificates.first_plan.Goals as goal
 
 pub returns : goal.returns
 returns c =
