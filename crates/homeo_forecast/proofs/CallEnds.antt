@@ -71,9 +71,9 @@ template_there prepared q is = ap (λ (r : RoundPlan). plain_template r.template
 
 -- what was made for a call, on a plan that is lent
 pub own_here :
-    {w : s.Workload} {call : CallId} {q plan : RoundPlan} {o made : OwnCall} → q ≡ plan → o ≡ made → IsOwnCall w q.base.items (planned_at w call) made →
+    {w : s.Workload} (call : CallId) {q plan : RoundPlan} {o made : OwnCall} → q ≡ plan → o ≡ made → IsOwnCall w q.base.items (planned_at w call) made →
     IsOwnCall w plan.base.items (planned_at w call) o
-own_here {w} {call} {q} {plan} {o} {made} same is own =
+own_here {w} call {q} {plan} {o} {made} same is own =
     subst (IsOwnCall w plan.base.items (planned_at w call)) (sym is)
     (subst (λ (r : RoundPlan). IsOwnCall w r.base.items (planned_at w call) made) same own)
 
@@ -83,7 +83,7 @@ pub still_made :
 still_made w q plan os same made = subst (λ (r : RoundPlan). AreOwnCalls w r.base.items os) same made
 
 module _
-    {w : s.Workload} {base : List ℤ} {call : CallId} {p : Prepared} {o : OwnCall} (prepared : IsPrepared w base p) (exists : CallExists w call)
+    (call : CallId) {w : s.Workload} {base : List ℤ} {p : Prepared} {o : OwnCall} (prepared : IsPrepared w base p) (exists : CallExists w call)
     (own : IsOwnCall w base (planned_at w call) o) (lent : List LCommand) (same : lent ≡ o.commands.items)
   where
     its_commands : low_commands (map plain_lcommand lent) ≡ (base_row (sites_of w) (values_of base) (planned_at w call)).residual

@@ -16,69 +16,69 @@ use Rattle.homeo_forecast.proofs.replay.Replay.call.Goals as goal
 
 pub touched-requires-clause-indexes : goal.touched-requires-clause-indexes
 touched-requires-clause-indexes c =
-    let own = ends.own_here c.deref.ensures c.deref-own.ensures c.in_ok-made.ensures.own in
-    ends.indexes_there c.requires.prepared c.requires.exists own c.as_slice.result.now c.as_slice.ensures
+    let own = ends.own_here c.args.call c.deref.ensures c.deref-own.ensures c.in_ok-made.ensures.own in
+    ends.indexes_there c.args.call c.requires.prepared c.requires.exists own c.as_slice.result.now c.as_slice.ensures
 
 pub touched-requires-clause-site : goal.touched-requires-clause-site
 touched-requires-clause-site c =
-    let own = ends.own_here c.deref.ensures c.deref-own.ensures c.in_ok-made.ensures.own in
-    ends.site_indexed c.requires.prepared c.requires.exists own c.as_slice.result.now c.as_slice.ensures
+    let own = ends.own_here c.args.call c.deref.ensures c.deref-own.ensures c.in_ok-made.ensures.own in
+    ends.site_indexed c.args.call c.requires.prepared c.requires.exists own c.as_slice.result.now c.as_slice.ensures
 
 pub touched-requires-clause-own : goal.touched-requires-clause-own
 touched-requires-clause-own c =
-    let own = ends.own_here c.deref.ensures c.deref-own.ensures c.in_ok-made.ensures.own in
-    ends.own_written c.requires.prepared c.requires.exists own c.as_slice.result.now c.as_slice.ensures
+    let own = ends.own_here c.args.call c.deref.ensures c.deref-own.ensures c.in_ok-made.ensures.own in
+    ends.own_written c.args.call c.requires.prepared c.requires.exists own c.as_slice.result.now c.as_slice.ensures
 
 pub index_mut-deltas-requires : goal.index_mut-deltas-requires
 index_mut-deltas-requires c =
-    let own = ends.own_here c.deref.ensures c.deref-own.ensures c.in_ok-made.ensures.own in
+    let own = ends.own_here c.args.call c.deref.ensures c.deref-own.ensures c.in_ok-made.ensures.own in
     let here = ends.call_here c.requires.prepared c.requires.exists own.runs.site in
     let there = ends.site_there here c.requires.replay.is in
     omega (arith, there, c.args.self.now.deltas.ok.0)
 
 pub run-requires-clause-temporaries : goal.run-requires-clause-temporaries
 run-requires-clause-temporaries c =
-    let own = ends.own_here c.deref.ensures c.deref-own.ensures c.in_ok-made.ensures.own in
+    let own = ends.own_here c.args.call c.deref.ensures c.deref-own.ensures c.in_ok-made.ensures.own in
     own.runs.set ∙ sym own.runs.temporaries
 
 pub run-requires-clause-prints : goal.run-requires-clause-prints
 run-requires-clause-prints c =
-    let own = ends.own_here c.deref.ensures c.deref-own.ensures c.in_ok-made.ensures.own in
+    let own = ends.own_here c.args.call c.deref.ensures c.deref-own.ensures c.in_ok-made.ensures.own in
     own.runs.printed ∙ sym own.runs.prints
 
 pub run-requires-clause-objects : goal.run-requires-clause-objects
 run-requires-clause-objects c =
-    let own = ends.own_here c.deref.ensures c.deref-own.ensures c.in_ok-made.ensures.own in
+    let own = ends.own_here c.args.call c.deref.ensures c.deref-own.ensures c.in_ok-made.ensures.own in
     let here = ends.call_here c.requires.prepared c.requires.exists own.runs.site in
     ends.objects_there here c.requires.replay.is c.index_mut-deltas.result.now c.index_mut-deltas.ensures.value c.deref-own.result.now.program own.runs
 
 pub run-requires-clause-small : goal.run-requires-clause-small
 run-requires-clause-small c =
-    let own = ends.own_here c.deref.ensures c.deref-own.ensures c.in_ok-made.ensures.own in
+    let own = ends.own_here c.args.call c.deref.ensures c.deref-own.ensures c.in_ok-made.ensures.own in
     let here = ends.call_here c.requires.prepared c.requires.exists own.runs.site in
     ends.can_run here c.requires.replay.is c.index_mut-deltas.result.now c.index_mut-deltas.ensures.value c.deref-own.result.now.program own.runs
 
 pub first_stop-requires-clause-clauses : goal.first_stop-requires-clause-clauses
 first_stop-requires-clause-clauses c =
-    let own = ends.own_here c.deref.ensures c.deref-own.ensures c.in_ok-made.ensures.own in
+    let own = ends.own_here c.args.call c.deref.ensures c.deref-own.ensures c.in_ok-made.ensures.own in
     let here = ends.call_here c.requires.prepared c.requires.exists own.runs.site in
     let ran = ends.has_run here c.requires.replay.is c.index_mut-deltas.result.now c.index_mut-deltas.ensures.value c.run.new.deltas.items
     c.in_ok-run.ensures.count (c.in_ok-run.ensures.deltas _ _ _ _ own.runs) in
-    ends.clauses_there ran c.requires.replay.is c.as_slice-3.result.now c.as_slice-2.result.now (c.as_slice-3.ensures ∙ c.in_ok-clauses.ensures.clauses ∙ ends.clauses_are c.requires.prepared c.requires.exists own c.as_slice.result.now c.as_slice.ensures)
+    ends.clauses_there ran c.requires.replay.is c.as_slice-3.result.now c.as_slice-2.result.now (c.as_slice-3.ensures ∙ c.in_ok-clauses.ensures.clauses ∙ ends.clauses_are c.args.call c.requires.prepared c.requires.exists own c.as_slice.result.now c.as_slice.ensures)
     c.as_slice-2.ensures.value
 
 pub first_stop-requires-clause-freezes : goal.first_stop-requires-clause-freezes
 first_stop-requires-clause-freezes c =
-    let own = ends.own_here c.deref.ensures c.deref-own.ensures c.in_ok-made.ensures.own in
+    let own = ends.own_here c.args.call c.deref.ensures c.deref-own.ensures c.in_ok-made.ensures.own in
     let here = ends.call_here c.requires.prepared c.requires.exists own.runs.site in
     let ran = ends.has_run here c.requires.replay.is c.index_mut-deltas.result.now c.index_mut-deltas.ensures.value c.run.new.deltas.items
     c.in_ok-run.ensures.count (c.in_ok-run.ensures.deltas _ _ _ _ own.runs) in
-    ends.freezes_there ran c.requires.replay.is c.as_slice-4.result.now c.deref-2.result.now.template (c.as_slice-4.ensures ∙ c.in_ok-clauses.ensures.freezes ∙ ends.freezes_are c.requires.prepared c.requires.exists own c.as_slice.result.now c.as_slice.ensures)
+    ends.freezes_there ran c.requires.replay.is c.as_slice-4.result.now c.deref-2.result.now.template (c.as_slice-4.ensures ∙ c.in_ok-clauses.ensures.freezes ∙ ends.freezes_are c.args.call c.requires.prepared c.requires.exists own c.as_slice.result.now c.as_slice.ensures)
     (ends.template_there c.requires.prepared c.deref-2.result.now c.deref-2.ensures)
 
 pub first_stop-requires-clause-can : goal.first_stop-requires-clause-can
 first_stop-requires-clause-can c =
-    let own = ends.own_here c.deref.ensures c.deref-own.ensures c.in_ok-made.ensures.own in
+    let own = ends.own_here c.args.call c.deref.ensures c.deref-own.ensures c.in_ok-made.ensures.own in
     let here = ends.call_here c.requires.prepared c.requires.exists own.runs.site in
     let ran = ends.has_run here c.requires.replay.is c.index_mut-deltas.result.now c.index_mut-deltas.ensures.value c.run.new.deltas.items
     c.in_ok-run.ensures.count (c.in_ok-run.ensures.deltas _ _ _ _ own.runs) in
@@ -89,46 +89,46 @@ returns-then-is_some-clause-kept c = λ before kept none. absurd (some_is_not c.
 
 pub returns-then-is_some-clause-stop : goal.returns-then-is_some-clause-stop
 returns-then-is_some-clause-stop c = λ before kept.
-    let own = ends.own_here c.deref.ensures c.deref-own.ensures c.in_ok-made.ensures.own in
+    let own = ends.own_here c.args.call c.deref.ensures c.deref-own.ensures c.in_ok-made.ensures.own in
     let here = ends.call_here c.requires.prepared c.requires.exists own.runs.site in
     let ran = ends.has_run here kept c.index_mut-deltas.result.now c.index_mut-deltas.ensures.value c.run.new.deltas.items
     c.in_ok-run.ensures.count (c.in_ok-run.ensures.deltas _ _ _ _ own.runs) in
     ends.stop_there ran kept (option_map plain_stop c.in_ok-stop.stop) c.as_slice-3.result.now c.as_slice-4.result.now (plain_template c.deref-2.result.now.template)
-    c.as_slice-2.result.now c.as_slice-5.result.now (c.as_slice-3.ensures ∙ c.in_ok-clauses.ensures.clauses ∙ ends.clauses_are c.requires.prepared c.requires.exists own c.as_slice.result.now c.as_slice.ensures) (c.as_slice-4.ensures ∙ c.in_ok-clauses.ensures.freezes ∙ ends.freezes_are c.requires.prepared c.requires.exists own c.as_slice.result.now c.as_slice.ensures)
+    c.as_slice-2.result.now c.as_slice-5.result.now (c.as_slice-3.ensures ∙ c.in_ok-clauses.ensures.clauses ∙ ends.clauses_are c.args.call c.requires.prepared c.requires.exists own c.as_slice.result.now c.as_slice.ensures) (c.as_slice-4.ensures ∙ c.in_ok-clauses.ensures.freezes ∙ ends.freezes_are c.args.call c.requires.prepared c.requires.exists own c.as_slice.result.now c.as_slice.ensures)
     (ends.template_there c.requires.prepared c.deref-2.result.now c.deref-2.ensures) c.as_slice-2.ensures.value c.as_slice-5.ensures.value c.in_ok-stop.ensures
 
 pub raise_all-requires-clause-numbers : goal.raise_all-requires-clause-numbers
 raise_all-requires-clause-numbers c =
-    let own = ends.own_here c.deref.ensures c.deref-own.ensures c.in_ok-made.ensures.own in
+    let own = ends.own_here c.args.call c.deref.ensures c.deref-own.ensures c.in_ok-made.ensures.own in
     let here = ends.call_here c.requires.prepared c.requires.exists own.runs.site in
     let ran = ends.has_run here c.requires.replay.is c.index_mut-deltas.result.now c.index_mut-deltas.ensures.value c.run.new.deltas.items
     c.in_ok-run.ensures.count (c.in_ok-run.ensures.deltas _ _ _ _ own.runs) in
-    ends.clauses_there ran c.requires.replay.is c.as_slice-6.result.now c.as_mut_slice.result.now (c.as_slice-6.ensures ∙ c.in_ok-clauses.ensures.clauses ∙ ends.clauses_are c.requires.prepared c.requires.exists own c.as_slice.result.now c.as_slice.ensures)
+    ends.clauses_there ran c.requires.replay.is c.as_slice-6.result.now c.as_mut_slice.result.now (c.as_slice-6.ensures ∙ c.in_ok-clauses.ensures.clauses ∙ ends.clauses_are c.args.call c.requires.prepared c.requires.exists own c.as_slice.result.now c.as_slice.ensures)
     c.as_mut_slice.ensures.value
 
 pub raise_all-requires-clause-can : goal.raise_all-requires-clause-can
 raise_all-requires-clause-can c =
-    let own = ends.own_here c.deref.ensures c.deref-own.ensures c.in_ok-made.ensures.own in
+    let own = ends.own_here c.args.call c.deref.ensures c.deref-own.ensures c.in_ok-made.ensures.own in
     let kept = c.requires.replay.is in
     let here = ends.call_here c.requires.prepared c.requires.exists own.runs.site in
     let ran = ends.has_run here kept c.index_mut-deltas.result.now c.index_mut-deltas.ensures.value c.run.new.deltas.items
     c.in_ok-run.ensures.count (c.in_ok-run.ensures.deltas _ _ _ _ own.runs) in
     let stop =
     ends.stop_there ran kept (option_map plain_stop c.in_ok-stop.stop) c.as_slice-3.result.now c.as_slice-4.result.now (plain_template c.deref-2.result.now.template)
-    c.as_slice-2.result.now c.as_slice-5.result.now (c.as_slice-3.ensures ∙ c.in_ok-clauses.ensures.clauses ∙ ends.clauses_are c.requires.prepared c.requires.exists own c.as_slice.result.now c.as_slice.ensures) (c.as_slice-4.ensures ∙ c.in_ok-clauses.ensures.freezes ∙ ends.freezes_are c.requires.prepared c.requires.exists own c.as_slice.result.now c.as_slice.ensures)
+    c.as_slice-2.result.now c.as_slice-5.result.now (c.as_slice-3.ensures ∙ c.in_ok-clauses.ensures.clauses ∙ ends.clauses_are c.args.call c.requires.prepared c.requires.exists own c.as_slice.result.now c.as_slice.ensures) (c.as_slice-4.ensures ∙ c.in_ok-clauses.ensures.freezes ∙ ends.freezes_are c.args.call c.requires.prepared c.requires.exists own c.as_slice.result.now c.as_slice.ensures)
     (ends.template_there c.requires.prepared c.deref-2.result.now c.deref-2.ensures) c.as_slice-2.ensures.value c.as_slice-5.ensures.value c.in_ok-stop.ensures in
     ends.raise_there ran kept (sym stop ∙ ap (option_map plain_stop) (none_is c.in_ok-stop.stop (sym c.if-is_some.ensures)))
     c.as_mut_slice.result.now c.as_slice-7.result.now c.as_mut_slice.ensures.value c.as_slice-7.ensures.value
 
 pub returns-clause-kept : goal.returns-clause-kept
 returns-clause-kept c = λ before kept none.
-    let own = ends.own_here c.deref.ensures c.deref-own.ensures c.in_ok-made.ensures.own in
+    let own = ends.own_here c.args.call c.deref.ensures c.deref-own.ensures c.in_ok-made.ensures.own in
     let here = ends.call_here c.requires.prepared c.requires.exists own.runs.site in
     let ran = ends.has_run here kept c.index_mut-deltas.result.now c.index_mut-deltas.ensures.value c.run.new.deltas.items
     c.in_ok-run.ensures.count (c.in_ok-run.ensures.deltas _ _ _ _ own.runs) in
     let stop =
     ends.stop_there ran kept (option_map plain_stop c.in_ok-stop.stop) c.as_slice-3.result.now c.as_slice-4.result.now (plain_template c.deref-2.result.now.template)
-    c.as_slice-2.result.now c.as_slice-5.result.now (c.as_slice-3.ensures ∙ c.in_ok-clauses.ensures.clauses ∙ ends.clauses_are c.requires.prepared c.requires.exists own c.as_slice.result.now c.as_slice.ensures) (c.as_slice-4.ensures ∙ c.in_ok-clauses.ensures.freezes ∙ ends.freezes_are c.requires.prepared c.requires.exists own c.as_slice.result.now c.as_slice.ensures)
+    c.as_slice-2.result.now c.as_slice-5.result.now (c.as_slice-3.ensures ∙ c.in_ok-clauses.ensures.clauses ∙ ends.clauses_are c.args.call c.requires.prepared c.requires.exists own c.as_slice.result.now c.as_slice.ensures) (c.as_slice-4.ensures ∙ c.in_ok-clauses.ensures.freezes ∙ ends.freezes_are c.args.call c.requires.prepared c.requires.exists own c.as_slice.result.now c.as_slice.ensures)
     (ends.template_there c.requires.prepared c.deref-2.result.now c.deref-2.ensures) c.as_slice-2.ensures.value c.as_slice-5.ensures.value c.in_ok-stop.ensures in
     let new : Replay = record {
       deltas = with_item c.args.self.now.deltas c.deref-own.result.now.program.site c.run.new.deltas;
@@ -141,18 +141,18 @@ returns-clause-kept c = λ before kept none.
     with_items_is c.args.self.now.rooms c.raise_all.new.rooms
     (omega (arith, raised.count, rooms.count, ap length c.as_mut_slice.ensures.value, c.args.self.now.rooms.ok.0)) in
     ends.on_there ran kept (sym stop ∙ ap (option_map plain_stop) (none_is c.in_ok-stop.stop (sym c.if-is_some.ensures)))
-    c.as_slice-6.result.now new c.run.new.deltas (c.as_slice-6.ensures ∙ c.in_ok-clauses.ensures.clauses ∙ ends.clauses_are c.requires.prepared c.requires.exists own c.as_slice.result.now c.as_slice.ensures) refl refl
+    c.as_slice-6.result.now new c.run.new.deltas (c.as_slice-6.ensures ∙ c.in_ok-clauses.ensures.clauses ∙ ends.clauses_are c.args.call c.requires.prepared c.requires.exists own c.as_slice.result.now c.as_slice.ensures) refl refl
     (subst (SomeRaised _ _ _ _ c.as_slice-6.result.now) (sym all) raised)
 
 pub returns-clause-stop : goal.returns-clause-stop
 returns-clause-stop c = λ before kept.
-    let own = ends.own_here c.deref.ensures c.deref-own.ensures c.in_ok-made.ensures.own in
+    let own = ends.own_here c.args.call c.deref.ensures c.deref-own.ensures c.in_ok-made.ensures.own in
     let here = ends.call_here c.requires.prepared c.requires.exists own.runs.site in
     let ran = ends.has_run here kept c.index_mut-deltas.result.now c.index_mut-deltas.ensures.value c.run.new.deltas.items
     c.in_ok-run.ensures.count (c.in_ok-run.ensures.deltas _ _ _ _ own.runs) in
     sym (ap (option_map plain_stop) (none_is c.in_ok-stop.stop (sym c.if-is_some.ensures)))
     ∙ ends.stop_there ran kept (option_map plain_stop c.in_ok-stop.stop) c.as_slice-3.result.now c.as_slice-4.result.now (plain_template c.deref-2.result.now.template)
-    c.as_slice-2.result.now c.as_slice-5.result.now (c.as_slice-3.ensures ∙ c.in_ok-clauses.ensures.clauses ∙ ends.clauses_are c.requires.prepared c.requires.exists own c.as_slice.result.now c.as_slice.ensures) (c.as_slice-4.ensures ∙ c.in_ok-clauses.ensures.freezes ∙ ends.freezes_are c.requires.prepared c.requires.exists own c.as_slice.result.now c.as_slice.ensures)
+    c.as_slice-2.result.now c.as_slice-5.result.now (c.as_slice-3.ensures ∙ c.in_ok-clauses.ensures.clauses ∙ ends.clauses_are c.args.call c.requires.prepared c.requires.exists own c.as_slice.result.now c.as_slice.ensures) (c.as_slice-4.ensures ∙ c.in_ok-clauses.ensures.freezes ∙ ends.freezes_are c.args.call c.requires.prepared c.requires.exists own c.as_slice.result.now c.as_slice.ensures)
     (ends.template_there c.requires.prepared c.deref-2.result.now c.deref-2.ensures) c.as_slice-2.ensures.value c.as_slice-5.ensures.value c.in_ok-stop.ensures
 
 pub get-requires-clause-within : goal.get-requires-clause-within
