@@ -6,7 +6,7 @@ use Rattle.homeo_plan.specs.Planned.{sites_of}
 use Rattle.homeo_wire.specs.declared.events.Event.TheVariants.{Deliver}
 use Rattle.homeo_wire.specs.Nodes.{after, happens}
 use Rattle.homeo_wire.proofs.Driving.{one_more, packets_more}
-use Rattle.homeo_wire.proofs.Stale.{stale_change_nothing}
+use Rattle.homeo_wire.proofs.StalePackets.{stale_change_nothing}
 use Rattle.homeo_wire.proofs.driver.deliver_all.Goals as goal
 
 pub event-requires : goal.event-requires

@@ -6,7 +6,7 @@ use Rattle.homeo_wire.specs.Drive.{all_to, to_sites}
 use Rattle.homeo_wire.specs.inner.Stale.{AreStale}
 use Rattle.homeo_wire.specs.Nodes.{after}
 use Rattle.homeo_wire.proofs.Driving.{site_next}
-use Rattle.homeo_wire.proofs.Stale.{stale_after}
+use Rattle.homeo_wire.proofs.StalePackets.{stale_after}
 use Rattle.homeo_wire.proofs.driver.sweep.Goals as goal
 
 pub loop-site-init : goal.loop-site-init
