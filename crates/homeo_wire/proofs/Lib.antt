@@ -14,6 +14,7 @@ pub mod Reading
 pub mod Ready
 pub mod Sending
 pub mod Settling
+pub mod StalePackets
 pub mod Standing
 pub mod Starting
 pub mod StateLists

@@ -2,4 +2,5 @@ pub mod Driving
 pub mod Planning
 pub mod Reactions
 pub mod Ready
+pub mod Stale
 pub mod Standing

@@ -14,6 +14,7 @@ ghost use Rattle.homeo_wire.specs.Nodes.{after, reached};
 ghost use Rattle.homeo_wire.specs.Read.{history_in, counts_in};
 ghost use Rattle.homeo_wire.specs.WireView.{CanHappen};
 ghost use Rattle.homeo_wire.specs.inner.Driving.{IsCallOf};
+ghost use Rattle.homeo_wire.specs.inner.Stale.{AreStale};
 
 use crate::events::Event;
 use crate::wire::Wire;
@@ -119,13 +120,14 @@ fn some_call(clients: u64, q: u64) -> Option<Event>
     })
 }
 
-/// Each packet comes to a site.
-fn deliver_all(alloc: Global, wire: &mut Wire, site: u32) -> Result<(), Memory>
-    requires { site < sites_of (plain_workload wire.old.work) }
+/// Each packet comes to a site: the first of them, so many as are stale, change nothing and are passed over.
+fn deliver_all(alloc: Global, wire: &mut Wire, site: u32, stale: u64) -> Result<(), Memory>
+    requires site { site < sites_of (plain_workload wire.old.work) }
+    requires stale { AreStale wire.old.world stale }
     ensures world { OnOk result (wire.new.world ≡ after (plain_workload wire.old.work) (all_to wire.old.world site) wire.old.world) }
     ensures work { wire.new.work ≡ wire.old.work }
 {
-    for packet in 0..wire.sent() {
+    for packet in stale..wire.sent() {
         wire.event(alloc, Event::Deliver { site, packet })?;
     }
     Ok(())
@@ -137,8 +139,9 @@ fn sweep(alloc: Global, wire: &mut Wire) -> Result<(), Memory>
         OnOk result (wire.new.world ≡ after w (to_sites w wire.old.world 0 (sites_of w)) wire.old.world) }
     ensures work { wire.new.work ≡ wire.old.work }
 {
+    let stale = wire.stale();
     for site in 0..site_count(wire.workload()) {
-        deliver_all(alloc, wire, site)?;
+        deliver_all(alloc, wire, site, stale)?;
     }
     Ok(())
 }

@@ -9,6 +9,7 @@ mod history;
 pub mod laws;
 mod node;
 mod planner;
+mod stale;
 mod states;
 mod wire;
 

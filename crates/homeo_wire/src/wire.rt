@@ -17,6 +17,7 @@ ghost use Rattle.homeo_wire.specs.Nodes as nodes;
 ghost use Rattle.homeo_wire.specs.Nodes.{in_round, first_journal, at_start, happens};
 ghost use Rattle.homeo_wire.specs.Read.{history_in, counts_in};
 ghost use Rattle.homeo_wire.specs.WireView.{plain_step, plain_node, CanHappen};
+ghost use Rattle.homeo_wire.specs.inner.Stale.{AreStale};
 ghost use Rattle.homeo_wire.specs.inner.Standing.{IsNode};
 
 use crate::breach::Mode;
@@ -24,6 +25,7 @@ use crate::events::{Event, Packet, Step};
 use crate::history::{history_of, last_round};
 use crate::node::Node;
 use crate::planner::Planner;
+use crate::stale::count_stale;
 use crate::states::{copy_values, no_states};
 use homeo_build::Compiled;
 use homeo_core::clients::{call_count, client_count, site_count, site_of};
@@ -134,13 +136,13 @@ impl Wire {
         ensures unchanged { OnErr result (self.new ≡ self.old) }
         ensures one_base { HasOneBase self.new.world }
     {
-        let sites = site_count(self.planner.compiled().workload());
         let sent = &self.packets.as_slice()[packet as usize];
         let node = &mut self.nodes[site as usize];
         if sent.round() != node.round() {
             return Ok(Step::Ignored);
         }
         let packet = sent.copy(alloc)?;
+        let sites = site_count(self.planner.compiled().workload());
         node.receive(alloc, &mut self.planner, sites, packet, &mut self.packets)
     }
 
@@ -149,6 +151,13 @@ impl Wire {
         ensures { result ≡ length self.now.world.packets }
     {
         self.packets.as_slice().len() as u64
+    }
+
+    /// How many packets at the front are of rounds that all nodes have left. It takes no memory.
+    pub(crate) fn stale(&self) -> u64
+        ensures { AreStale self.now.world result }
+    {
+        count_stale(self.nodes.as_slice(), self.packets.as_slice())
     }
 
     /// The round of a site that there is. It takes no memory.
