@@ -33,15 +33,15 @@ loop-i-preserved g c =
     let commands = c.commands-commands in
     let are = commands_are w calls.result.now commands.result.now calls.ensures commands.ensures in
     let i = c.loop-i.i in
-    let call = c.call-item.result in
+    let call = c.index-calls-i.result in
     let command =
     same_place plain_lcommand (of_call w (shifted k)) commands.result.now calls.result.now i c.index-commands-i.result call are c.loop-i-test.true
-    c.index-commands-i.is c.call-item.is in
+    c.index-commands-i.is c.index-calls-i.is in
     let old = g.S.Serializer.written c.loop-i.out in
     let new = g.S.Serializer.written c.write_call.new.out in
     let same = ap (λ (d : Command). call_data (record { site = call.site; command = d })) command in
     list_more (of_call w (λ (p : PlannedCall). call_data (certified_call k p))) calls.result.now i call (g.S.Serializer.written c.begin_seq.new.self) old new c.loop-i-test.true
-    c.call-item.is (subst (λ d. SendsValue d old new) same c.in_ok-write_call.ensures) c.loop-i.invariant
+    c.index-calls-i.is (subst (λ d. SendsValue d old new) same c.in_ok-write_call.ensures) c.loop-i.invariant
 
 pub returns : goal.returns
 returns g c =

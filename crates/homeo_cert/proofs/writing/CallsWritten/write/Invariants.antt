@@ -10,6 +10,6 @@ use Rattle.homeo_cert.proofs.writing.CallsWritten.write.Given as goal
 
 abbrev pub invariant-loop-i : goal.invariant-loop-i
 invariant-loop-i g l =
-    let w = plain_workload l.self.now.compiled.now in
-    SendsUpTo (of_call w (λ p. call_data (certified_call (sites_of w) p))) l.call-items (drop l.i l.call-items)
+    let w = plain_workload l.self.compiled.now in
+    SendsUpTo (of_call w (λ p. call_data (certified_call (sites_of w) p))) l.calls (drop l.i l.calls)
     (g.S.Serializer.written l.initial.out) (g.S.Serializer.written l.out)
