@@ -33,9 +33,29 @@ members_sent :
     SendsMember (codes "sites") (whole_data (pos p.template.sites)) freezes sites →
     SendsMember (codes "version") (whole_data (pos 1)) sites version →
     Logs version new map_ends → SendsValue (sections w p) old new
-members_sent w p old begun base bounds calls clauses freezes sites version new b m1 m2 m3 m4 m5 m6 m7 e =
-    (begun, b, (m1.0, base, m1.1, m1.2, (m2.0, bounds, m2.1, m2.2, (m3.0, calls, m3.1, m3.2,
-    (m4.0, clauses, m4.1, m4.2, (m5.0, freezes, m5.1, m5.2, (m6.0, sites, m6.1, m6.2, (m7.0, version, m7.1, m7.2, e))))))))
+members_sent w p old begun base bounds calls clauses freezes sites version new b m1 m2 m3 m4 m5 m6 m7 e = (
+  begun,
+  b,
+  (
+    m1.0,
+    base,
+    m1.1,
+    m1.2,
+    (
+      m2.0,
+      bounds,
+      m2.1,
+      m2.2,
+      (
+        m3.0,
+        calls,
+        m3.1,
+        m3.2,
+        (m4.0, clauses, m4.1, m4.2, (m5.0, freezes, m5.1, m5.2, (m6.0, sites, m6.1, m6.2, (m7.0, version, m7.1, m7.2, e)))),
+      ),
+    ),
+  ),
+)
 
 pub returns : goal.returns
 returns g c =
