@@ -1,6 +1,5 @@
 -- What is made of each ground call of a workload, in their order.
-use Rattle.std.proofs.Common.{◌≡◌, ℕ, ◌≤◌, List, map, length, take, sym, ap, ◌∙◌}
-use Rattle.std.proofs.lemmas.List.{take_all}
+use Rattle.std.proofs.Common.{◌≡◌, List, map, sym, ap, ◌∙◌}
 use Rattle.homeo_syntax.specs.LowView.{plain_lcommand}
 use Rattle.homeo_syntax.specs.Source as s
 use Rattle.homeo_syntax.specs.declared.low.LCommand.{LCommand}
@@ -15,19 +14,14 @@ use Rattle.homeo_build.proofs.Grown.{map_map}
 abbrev pub of_call : {Z : Type 0} → s.Workload → (PlannedCall → Z) → GroundCall → Z
 of_call w h call = h (planned_call w (plain_ground call))
 
-of_calls :
+-- of all of them
+pub of_calls :
     {Z : Type 0} (w : s.Workload) (h : PlannedCall → Z) (calls : List GroundCall) → map plain_ground calls ≡ grounds w →
     map (of_call w h) calls ≡ map h (planned w)
 unfolding plan_definitions
 of_calls w h calls are =
     sym (map_map plain_ground (λ g. h (planned_call w g)) calls) ∙ ap (map (λ g. h (planned_call w g))) are
     ∙ sym (map_map (planned_call w) h (grounds w))
-
--- once it is made of all of them
-pub of_all :
-    {Z : Type 0} (w : s.Workload) (h : PlannedCall → Z) (made : List Z) (calls : List GroundCall) (i : ℕ) → length calls ≤ i →
-    map plain_ground calls ≡ grounds w → made ≡ map (of_call w h) (take i calls) → made ≡ map h (planned w)
-of_all w h made calls i past are so_far = so_far ∙ ap (map (of_call w h)) (take_all i calls past) ∙ of_calls w h calls are
 
 pub commands_are :
     (w : s.Workload) (calls : List GroundCall) (commands : List LCommand) → map plain_ground calls ≡ grounds w →

@@ -1,14 +1,25 @@
--- A certificate's object, of the values of its parts.
-use Rattle.std.specs.Prelude.{ℕ, pos, codes}
+-- A certificate's object, of what it is written from.
+use Rattle.std.specs.Prelude.{map, pos, codes}
 use Rattle.serde_json.specs.Data.{Data, object, no_members, member}
-use Rattle.homeo_cert.specs.Json.{whole_data}
+use Rattle.homeo_syntax.specs.Source as s
+use Rattle.homeo_plan.specs.declared.round.RoundPlan.{RoundPlan}
+use Rattle.homeo_plan.specs.PlanView.{plain_clause}
+use Rattle.homeo_plan.specs.Planned.{sites_of, planned}
+use Rattle.homeo_cert.specs.Certified.{certified_call}
+use Rattle.homeo_cert.specs.Json.{whole_data, list_data, wholes_data}
+use Rattle.homeo_cert.specs.Text.{call_data, clause_data, delta_data}
 
-abbrev pub sections : Data → Data → Data → Data → Data → ℕ → Data
-sections base bounds calls clauses freezes sites =
-    object (member (codes "base") base
-    (member (codes "bounds") bounds
-    (member (codes "calls") calls
-    (member (codes "clauses") clauses
-    (member (codes "freezes") freezes
-    (member (codes "sites") (whole_data (pos sites))
+-- each ground call, with its command for its site
+abbrev pub calls_data : s.Workload → Data
+calls_data w = list_data (map (λ g. call_data (certified_call (sites_of w) g)) (planned w))
+
+-- of a workload and a plan
+abbrev pub sections : s.Workload → RoundPlan → Data
+sections w p =
+    object (member (codes "base") (wholes_data p.base.items)
+    (member (codes "bounds") (list_data (map (λ b. wholes_data b.items) p.config.bounds.items))
+    (member (codes "calls") (calls_data w)
+    (member (codes "clauses") (list_data (map (λ c. clause_data (plain_clause c)) p.template.clauses.items))
+    (member (codes "freezes") (list_data (map delta_data p.template.freezes.items))
+    (member (codes "sites") (whole_data (pos p.template.sites))
     (member (codes "version") (whole_data (pos 1)) no_members)))))))
