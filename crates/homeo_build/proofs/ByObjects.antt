@@ -128,6 +128,10 @@ module _ (w : s.Workload) (base : List ℤ) (accepted : IsAccepted w) (within : 
   at_first : (f : Command) → IsCallForm w f → Ground
   at_first f h = record { transaction = h.call.transaction; args = h.call.args; site = 0 }
 
+  first_below : (f : Command) (h : IsCallForm w f) → (at_first f h).site < sites_of w
+  unfolding at_first
+  first_below f h = omega (arith, some)
+
   form_is : (f : Command) (h : IsCallForm w f) → f ≡ ground_form w (at_first f h)
   unfolding meaning_definitions at_first
   form_is f h = h.is
@@ -135,7 +139,7 @@ module _ (w : s.Workload) (base : List ℤ) (accepted : IsAccepted w) (within : 
   small_first : (f : Command) (h : IsCallForm w f) → HaveSmallConstants (atoms_of (sites_of w) (values_of base) (planned_call w (at_first f h)))
   unfolding plan_definitions at_first
   small_first f h =
-      let plan : CanPlan _ base = can_plan w (at_first f h) base accepted h.made within (omega (arith, some)) in numbers_small _ plan.small.atoms
+      let plan : CanPlan _ base = can_plan w (at_first f h) base accepted h.made within (first_below f h) in numbers_small _ plan.small.atoms
 
   small_form : (f : Command) → IsCallForm w f → HaveSmallConstants (asks (values_of base) f)
   unfolding at_first
@@ -143,7 +147,7 @@ module _ (w : s.Workload) (base : List ℤ) (accepted : IsAccepted w) (within : 
       let g : Ground = at_first f h in
       subst (λ c. HaveSmallConstants (asks (values_of base) c)) (sym (form_is f h))
       (small_back (sites_of w) (asks (values_of base) (ground_form w g))
-      (subst HaveSmallConstants (sym (atoms_are w g (values_of base) (omega (arith, some)))) (small_first f h)))
+      (subst HaveSmallConstants (sym (atoms_are w g (values_of base) (first_below f h))) (small_first f h)))
 
   small_forms : (fs : List Command) → Each (IsCallForm w) fs → Each HaveSmallConstants (map (asks (values_of base)) fs)
   unfolding plan_definitions
@@ -165,15 +169,16 @@ module _ (w : s.Workload) (base : List ℤ) (accepted : IsAccepted w) (within : 
       (λ g can. (can.site, ground_whole w g)) (grounds w) (can_compile w accepted))
 
   pub template_is :
-      (t : Template) (distinct : List Clause) (mixed needed : List (List Delta)) → t.clauses ≡ map (expanded_clause (sites_of w)) distinct →
-      distinct ≡ clauses_from [] (followed_atoms (values_of base) (planned w)) → t.freezes ≡ put_all needed (put_all mixed []) →
+      (clauses distinct : List Clause) (freezes : List Delta) (mixed needed : List (List Delta)) → clauses ≡ map (expanded_clause (sites_of w)) distinct →
+      distinct ≡ clauses_from [] (followed_atoms (values_of base) (planned w)) → freezes ≡ put_all needed (put_all mixed []) →
       put_all mixed [] ≡ put_all (map (λ a. a.mixed) (atoms_of_sets (map (atoms_of (sites_of w) (values_of base)) (planned w)))) [] →
-      needed ≡ map (needs_of (sites_of w) (values_of base)) (planned w) → t ≡ template_at w base
+      needed ≡ map (needs_of (sites_of w) (values_of base)) (planned w) →
+      let t : Template = record { clauses = clauses; freezes = freezes } in t ≡ template_at w base
   unfolding plan_definitions
-  template_is t distinct mixed needed clauses are freezes mixed_are needed_are =
-      let one : t.clauses ≡ (template_at w base).clauses = clauses ∙ ap (map (expanded_clause (sites_of w))) are ∙ sym made_by_objects.clauses in
-      let two : t.freezes ≡ (template_at w base).freezes = freezes ∙ ap₂ (λ (l : List (List Delta)) (out : List Delta). put_all l out) needed_are mixed_are in
-      λ i. record { clauses = one i; freezes = two i }
+  template_is clauses distinct freezes mixed needed clauses_are are freezes_are mixed_are needed_are =
+      let one : clauses ≡ (template_at w base).clauses = clauses_are ∙ ap (map (expanded_clause (sites_of w))) are ∙ sym made_by_objects.clauses in
+      let two : freezes ≡ (template_at w base).freezes = freezes_are ∙ ap₂ (λ (l : List (List Delta)) (out : List Delta). put_all l out) needed_are mixed_are in
+      λ i. let t : Template = record { clauses = one i; freezes = two i } in t
 
   pub small_slacks : (t : Template) → t ≡ template_at w base → Each (λ c. IsSmall form_limit c.slack) t.clauses
   unfolding plan_definitions

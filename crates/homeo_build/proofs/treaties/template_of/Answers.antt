@@ -16,7 +16,7 @@ deltas_in sets = map (λ (f : FreezeSet). f.deltas.items) sets
 pub returns-clause-template : goal.returns-clause-template
 returns-clause-template c =
     let calls = c.in_ok-calls.calls in
-    template_is (plain_workload c.args.c.now) c.args.base.now.items c.requires.accepted c.requires.within _ (map plain_clause calls.clauses.items) (deltas_in calls.mixed.items) (deltas_in calls.needs.items)
+    template_is (plain_workload c.args.c.now) c.args.base.now.items c.requires.accepted c.requires.within _ (map plain_clause calls.clauses.items) _ (deltas_in calls.mixed.items) (deltas_in calls.needs.items)
     (c.in_ok-clauses.ensures ∙ ap₂ (λ n (l : List Clause). map (expanded_clause n) (map plain_clause l)) c.requires.sites c.as_slice.ensures)
     c.in_ok-calls.ensures.clauses
     (c.in_ok-freezes.ensures.deltas ∙ ap₂ (λ (ns ms : List FreezeSet). put_all (deltas_in ns) (put_all (deltas_in ms) [])) c.as_slice-3.ensures.value c.as_slice-2.ensures.value)
