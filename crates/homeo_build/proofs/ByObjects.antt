@@ -202,7 +202,7 @@ mixed_push sets atoms =
     ∙ ap (λ l. put_all l []) (map-append (λ (a : Linear). a.mixed) (atoms_of_sets sets) atoms)
     ∙ put_append (mixed_in sets) (map (λ a. a.mixed) atoms) []
 
-pub mixed_none : [] ≡ put_all (mixed_in []) []
+pub mixed_none : put_all [] [] ≡ put_all (mixed_in []) []
 unfolding plan_definitions
 mixed_none = refl
 
