@@ -1,3 +1,4 @@
+pub mod ByObjects
 pub mod FewSites
 pub mod Following
 pub mod FormsMade

@@ -1,28 +1,76 @@
 //! What is asked and needed over whole objects, as it is of the deltas of sites.
 
-ghost use Rattle.std.specs.Prelude.{◌≡◌, ◌++◌, map, IfOk, OnOk};
+ghost use Rattle.std.specs.Prelude.{◌≡◌, [], ◌++◌, map, IfOk, OnOk};
+ghost use Rattle.homeo_plan.specs.Linear.{add_deltas};
 ghost use Rattle.homeo_plan.specs.Needs.{remote};
-ghost use Rattle.homeo_plan.specs.PlanView.{plain_atom, plain_atoms};
+ghost use Rattle.homeo_plan.specs.PlanView.{plain_atoms, plain_clause};
+ghost use Rattle.homeo_plan.specs.Template.{put_all};
 ghost use Rattle.homeo_follow.specs.Expanded.{terms_from, deltas_from, expanded_terms, expanded_deltas, expanded};
+ghost use Rattle.homeo_follow.specs.ObjectTemplate.{expanded_clause};
 
 use crate::following::remote;
-use homeo_plan::{Atom, AtomSet, Delta, FreezeSet, Linear, Term};
+use homeo_plan::{AtomSet, Clause, Delta, FreezeSet, Term};
 use homeo_syntax::{List, Memory};
 use std::alloc::Global;
 
-/// Atoms over whole objects as those over the deltas of so many sites: an object's factor is that of its delta at each site.
+/// Clauses over whole objects as those over the deltas of so many sites: an object's factor is that of its delta at each site.
 ///
 /// # Errors
 ///
 /// `Memory` when out of memory.
-pub fn atoms_at_sites(alloc: Global, atoms: &AtomSet, sites: u32) -> Result<AtomSet, Memory>
-    ensures { IfOk result (λ a. plain_atoms a ≡ map (expanded sites) (plain_atoms atoms.now)) }
+pub fn clauses_at_sites(
+    alloc: Global,
+    clauses: &[Clause],
+    sites: u32,
+) -> Result<List<Clause>, Memory>
+    ensures { IfOk result (λ cs. map plain_clause cs.items ≡ map (expanded_clause sites) (map plain_clause clauses.now)) }
 {
     let mut all = List::new(alloc);
-    for atom in atoms.atoms.as_slice() {
-        all.push(at_sites(alloc, atom, sites)?)?;
+    for clause in clauses {
+        all.push(at_sites(alloc, clause, sites)?)?;
     }
-    Ok(AtomSet { atoms: all })
+    Ok(all)
+}
+
+/// Puts what atoms over whole objects mix, as deltas of so many sites, behind other deltas to be frozen: a set for each atom
+/// that mixes some.
+///
+/// # Errors
+///
+/// `Memory` when out of memory.
+pub fn push_mixed(
+    alloc: Global,
+    freezes: &mut Vec<FreezeSet>,
+    atoms: &AtomSet,
+    sites: u32,
+) -> Result<(), Memory>
+    ensures { OnOk result (put_all (map (λ f. f.deltas.items) freezes.new.items) [] ≡
+        put_all (map (λ a. a.mixed) (map (expanded sites) (plain_atoms atoms.now))) (put_all (map (λ f. f.deltas.items) freezes.old.items) [])) }
+{
+    for atom in atoms.atoms.as_slice() {
+        push_freezes(alloc, freezes, atom.form.mixed.as_slice(), sites)?;
+    }
+    Ok(())
+}
+
+/// Puts these deltas at all sites behind the others, unless there are none.
+fn push_freezes(
+    alloc: Global,
+    freezes: &mut Vec<FreezeSet>,
+    deltas: &[Delta],
+    sites: u32,
+) -> Result<(), Memory>
+    ensures { OnOk result (put_all (map (λ f. f.deltas.items) freezes.new.items) [] ≡
+        add_deltas (expanded_deltas sites deltas.now) (put_all (map (λ f. f.deltas.items) freezes.old.items) [])) }
+{
+    if deltas.is_empty() {
+        return Ok(());
+    }
+    let deltas = deltas_at_sites(alloc, deltas, sites)?;
+    freezes.push(FreezeSet {
+        deltas: List::from_vec(deltas),
+    })?;
+    Ok(())
 }
 
 /// What is needed of whole objects, as the deltas that they have at other sites than this one.
@@ -45,17 +93,13 @@ pub fn needs_elsewhere(
     })
 }
 
-fn at_sites(alloc: Global, atom: &Atom, sites: u32) -> Result<Atom, Memory>
-    ensures { IfOk result (λ a. plain_atom a ≡ expanded sites (plain_atom atom.now)) }
+fn at_sites(alloc: Global, clause: &Clause, sites: u32) -> Result<Clause, Memory>
+    ensures { IfOk result (λ c. plain_clause c ≡ expanded_clause sites (plain_clause clause.now)) }
 {
-    let terms = terms_at_sites(alloc, atom.form.terms.as_slice(), sites)?;
-    let mixed = deltas_at_sites(alloc, atom.form.mixed.as_slice(), sites)?;
-    Ok(Atom {
-        form: Linear {
-            constant: atom.form.constant,
-            terms: List::from_vec(terms),
-            mixed: List::from_vec(mixed),
-        },
+    let terms = terms_at_sites(alloc, clause.terms.as_slice(), sites)?;
+    Ok(Clause {
+        terms: List::from_vec(terms),
+        slack: clause.slack,
     })
 }
 

@@ -20,7 +20,7 @@ mod terms;
 pub use checked::checked_form;
 pub use course::{Followed, follow_at};
 pub use deltas::in_order as deltas_in_order;
-pub use expanding::{atoms_at_sites, needs_elsewhere};
+pub use expanding::{clauses_at_sites, needs_elsewhere, push_mixed};
 pub use following::{push_written, remote_of};
 pub use form::Form;
 pub use formulas::atoms;

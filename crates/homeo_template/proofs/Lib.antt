@@ -1,3 +1,4 @@
+pub mod Again
 pub mod Appending
 pub mod Freezing
 pub mod Keys

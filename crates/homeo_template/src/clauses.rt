@@ -36,7 +36,7 @@ pub(crate) fn join_clauses(alloc: Global, sets: &[AtomSet]) -> Result<List<Claus
 
 impl DistinctClauses {
     /// None yet.
-    fn new(alloc: Global) -> DistinctClauses
+    pub(crate) fn new(alloc: Global) -> DistinctClauses
         ensures keys { AreKeys result }
         ensures clauses { clauses_in result ≡ [] }
     {
@@ -47,7 +47,7 @@ impl DistinctClauses {
     }
 
     /// Puts the clauses of atoms behind those that are there.
-    fn put_all(&mut self, alloc: Global, atoms: &[Atom]) -> Result<(), Memory>
+    pub(crate) fn put_all(&mut self, alloc: Global, atoms: &[Atom]) -> Result<(), Memory>
         requires keys { AreKeys self.old }
         requires small { Each (λ a. IsSmall form_limit a.constant) (map plain_atom atoms.now) }
         ensures keys { OnOk result (AreKeys self.new) }

@@ -5,5 +5,8 @@ mod clauses;
 mod freezes;
 mod joining;
 mod key;
+mod repeated;
 
+pub use freezes::frozen;
 pub use joining::template;
+pub use repeated::distinct_clauses;
