@@ -1,7 +1,8 @@
 -- The template of a workload's ground calls is made by objects, of what is followed along their forms.
-use Rattle.std.proofs.Common.{◌≡◌, ℕ, zero, suc, ◌+◌, ◌<◌, ◌≤◌, List, [], ◌∷◌, ◌++◌, map, Some, length, take, get_or, All, ℤ, refl, sym, ap, ap₂, ◌∙◌, subst, arith}
-use Rattle.std.specs.Prelude.{slice_get, slice_index_or}
-use Rattle.std.proofs.lemmas.List.{map_push, map-append, take_more}
+use Rattle.std.proofs.Common.{◌≡◌, ℕ, zero, suc, ◌+◌, ◌<◌, ◌≤◌, ◌==◌, nat_lt, Bool, true, false, not, ◌||◌, ◌&&◌, List, [], ◌∷◌, ◌++◌, map, Some, length, take, get_or, All, ℤ, refl, sym, ap, ap₂, ◌∙◌, subst, arith}
+use Rattle.std.specs.Prelude.{slice_get}
+use Rattle.std.specs.List.{list_any}
+use Rattle.std.proofs.lemmas.List.{map_push, take_all, take_more}
 use Rattle.std.proofs.lemmas.List.Elements.{All-head, All-tail}
 use Rattle.homeo_syntax.specs.Low.{Command}
 use Rattle.homeo_syntax.specs.Source as s
@@ -9,7 +10,7 @@ use Rattle.homeo_meaning.specs.Key.{definitions as meaning_definitions}
 use Rattle.homeo_meaning.specs.Acceptance.{IsAccepted}
 use Rattle.homeo_meaning.specs.Bounds.{IsWithin}
 use Rattle.homeo_meaning.specs.CallForm.{ground_form}
-use Rattle.homeo_meaning.specs.Ground.{Ground, grounds}
+use Rattle.homeo_meaning.specs.Ground.{Ground, plain_ground, grounds}
 use Rattle.homeo_meaning.specs.Schema.{schema_of}
 use Rattle.homeo_meaning.specs.Serial.{values_of}
 use Rattle.homeo_meaning.specs.Small.{IsSmall}
@@ -19,10 +20,10 @@ use Rattle.homeo_plan.specs.Key.{definitions as plan_definitions}
 use Rattle.homeo_plan.specs.Each.{Each}
 use Rattle.homeo_plan.specs.FormSizes.{Numbers}
 use Rattle.homeo_plan.specs.Limit.{form_limit}
-use Rattle.homeo_plan.specs.Linear.{Linear}
+use Rattle.homeo_plan.specs.Linear.{Linear, AreInOrder, base_forms}
 use Rattle.homeo_plan.specs.PlanView.{plain_atoms}
 use Rattle.homeo_plan.specs.Planned.{sites_of, planned_call, planned, template_at}
-use Rattle.homeo_plan.specs.Template.{PlannedCall, Clause, Template, atoms_of, needs_of, clauses_from, atoms_of_sets, put_all}
+use Rattle.homeo_plan.specs.Template.{PlannedCall, Clause, Template, atoms_of, needs_of, clauses_from, atoms_of_sets}
 use Rattle.homeo_plan.specs.declared.forms.AtomSet.{AtomSet}
 use Rattle.homeo_plan.specs.declared.forms.Delta.{Delta}
 use Rattle.homeo_plan.proofs.AtomClauses.{each_from, each_of_sets}
@@ -30,19 +31,29 @@ use Rattle.homeo_plan.proofs.Covering.{each_map}
 use Rattle.homeo_plan.proofs.GroundForms.{ground_whole}
 use Rattle.homeo_follow.specs.Key.{definitions as follow_definitions}
 use Rattle.homeo_follow.specs.Expanded.{expanded}
-use Rattle.homeo_follow.specs.Follow.{followed}
-use Rattle.homeo_follow.specs.ObjectTemplate.{expanded_clause, followed_atoms, IsByObjects}
+use Rattle.homeo_follow.specs.Follow.{object_forms, followed, needed}
+use Rattle.homeo_follow.specs.ObjectTemplate.{expanded_clause, followed_atoms, has_object, is_frozen, IsByObjects}
+use Rattle.homeo_follow.proofs.Deltas.{same_deltas}
+use Rattle.homeo_follow.proofs.Expansions.{IsObject, IsTidy}
+use Rattle.homeo_follow.proofs.Needed.{objects_needed}
+use Rattle.homeo_follow.proofs.Simulated.{follows}
+use Rattle.homeo_follow.proofs.Standing.{stands_at_base}
 use Rattle.homeo_follow.proofs.Templated.{by_objects}
 use Rattle.homeo_template.specs.Places.{set_at}
-use Rattle.homeo_template.proofs.Appending.{atoms_push, put_append}
+use Rattle.homeo_template.proofs.Appending.{atoms_push}
+use Rattle.homeo_template.proofs.Ordered.{none-in_order, put-in_order}
 use Rattle.homeo_template.proofs.Slacks.{small-slack}
 use Rattle.homeo_build.specs.Key.{definitions}
 use Rattle.homeo_build.specs.Forms.{IsCallForm, HaveForms, AreForms}
+use Rattle.homeo_build.specs.declared.freezes.FrozenObjects.{FrozenObjects}
+use Rattle.homeo_build.specs.inner.Frozen.{is_frozen_in, names_object, frozen_from}
 use Rattle.homeo_build.specs.inner.Planning.{CanCompile, CanPlan}
 use Rattle.homeo_build.proofs.FewSites.{sites_few}
 use Rattle.homeo_build.proofs.Following.{atoms_are}
 use Rattle.homeo_build.proofs.FormsMade.{placed_below}
-use Rattle.homeo_build.proofs.GroundCalls.{of_call, can_compile}
+use Rattle.homeo_build.proofs.FrozenSites.{has_frozen, ordered_frozen, in_order_is}
+use Rattle.homeo_build.proofs.FrozenSteps.{any_append}
+use Rattle.homeo_build.proofs.GroundCalls.{can_compile}
 use Rattle.homeo_build.proofs.Grown.{map_map, same_length}
 use Rattle.homeo_build.proofs.Planning.{can_plan}
 
@@ -168,16 +179,31 @@ module _ (w : s.Workload) (base : List ℤ) (accepted : IsAccepted w) (within : 
       (each_made (CanCompile w) (λ (g : PlannedCall). (g.site < sites_of w) × IsWhole g.command) (planned_call w)
       (λ g can. (can.site, ground_whole w g)) (grounds w) (can_compile w accepted))
 
+  in_order : AreInOrder (template_at w base).freezes
+  unfolding plan_definitions
+  in_order =
+      put-in_order (map (needs_of (sites_of w) (values_of base)) (planned w)) _
+      (put-in_order (map (λ (a : Linear). a.mixed) (atoms_of_sets (map (atoms_of (sites_of w) (values_of base)) (planned w)))) [] none-in_order)
+
+  pub freezes_in_order : (t : Template) → t ≡ template_at w base → AreInOrder t.freezes
+  freezes_in_order t is = subst (λ (u : Template). AreInOrder u.freezes) (sym is) in_order
+
   pub template_is :
-      (clauses distinct : List Clause) (freezes : List Delta) (mixed needed : List (List Delta)) → clauses ≡ map (expanded_clause (sites_of w)) distinct →
-      distinct ≡ clauses_from [] (followed_atoms (values_of base) (planned w)) → freezes ≡ put_all needed (put_all mixed []) →
-      put_all mixed [] ≡ put_all (map (λ a. a.mixed) (atoms_of_sets (map (atoms_of (sites_of w) (values_of base)) (planned w)))) [] →
-      needed ≡ map (needs_of (sites_of w) (values_of base)) (planned w) →
+      (clauses : List Clause) (freezes : List Delta) (f : FrozenObjects) →
+      clauses ≡ map (expanded_clause (sites_of w)) (clauses_from [] (followed_atoms (values_of base) (planned w))) →
+      freezes ≡ frozen_from (sites_of w) 0 f.objects.items →
+      ((x j : ℕ) → is_frozen_in f x j ≡ is_frozen (values_of base) (planned w) x j) →
       let t : Template = record { clauses = clauses; freezes = freezes } in t ≡ template_at w base
   unfolding plan_definitions
-  template_is clauses distinct freezes mixed needed clauses_are are freezes_are mixed_are needed_are =
-      let one : clauses ≡ (template_at w base).clauses = clauses_are ∙ ap (map (expanded_clause (sites_of w))) are ∙ sym made_by_objects.clauses in
-      let two : freezes ≡ (template_at w base).freezes = freezes_are ∙ ap₂ (λ (l : List (List Delta)) (out : List Delta). put_all l out) needed_are mixed_are in
+  template_is clauses freezes f are made frozen =
+      let one : clauses ≡ (template_at w base).clauses = are ∙ sym made_by_objects.clauses in
+      let two : freezes ≡ (template_at w base).freezes =
+          made
+          ∙ same_deltas (frozen_from (sites_of w) 0 f.objects.items) (template_at w base).freezes (ordered_frozen (sites_of w) 0 f.objects.items)
+          (in_order_is (template_at w base).freezes in_order)
+          (λ d.
+          has_frozen (sites_of w) d f.objects.items ∙ ap (λ b. nat_lt d.site (sites_of w) && b) (frozen d.object d.site)
+          ∙ sym (made_by_objects.freezes d)) in
       λ i. let t : Template = record { clauses = one i; freezes = two i } in t
 
   pub small_slacks : (t : Template) → t ≡ template_at w base → Each (λ c. IsSmall form_limit c.slack) t.clauses
@@ -192,27 +218,91 @@ module _ (w : s.Workload) (base : List ℤ) (accepted : IsAccepted w) (within : 
       (can_compile w accepted))))
       tt)
 
--- ---- what one call more mixes
-abbrev mixed_in : List (List Linear) → List (List Delta)
-mixed_in sets = map (λ (a : Linear). a.mixed) (atoms_of_sets sets)
+-- ---- what one call more freezes
+module _ (b : ℕ → ℤ) (x j : ℕ) where
+  frozen_push :
+      (gs : List PlannedCall) (g : PlannedCall) → is_frozen b (gs ++ g ∷ []) x j ≡
+      ((is_frozen b gs x j || list_any (λ a. has_object x a.mixed) (followed b g.command).atoms) || (not (j == g.site) && has_object x (needed b (followed b g.command))))
+  unfolding follow_definitions
+  frozen_push gs g =
+      ap₂ ◌||◌ (ap (list_any mixes) atoms ∙ any_append mixes (followed_atoms b gs) (followed b g.command).atoms)
+      (any_append needs gs (g ∷ []))
+      ∙ regroup (list_any mixes (followed_atoms b gs)) (list_any mixes (followed b g.command).atoms) (list_any needs gs) (needs g)
+    where
+      mixes : Linear → Bool
+      mixes a = has_object x a.mixed
 
-mixed_push : (sets : List (List Linear)) (atoms : List Linear) → put_all (mixed_in (sets ++ atoms ∷ [])) [] ≡ put_all (map (λ a. a.mixed) atoms) (put_all (mixed_in sets) [])
-mixed_push sets atoms =
-    ap (λ l. put_all (map (λ (a : Linear). a.mixed) l) []) (atoms_push sets atoms)
-    ∙ ap (λ l. put_all l []) (map-append (λ (a : Linear). a.mixed) (atoms_of_sets sets) atoms)
-    ∙ put_append (mixed_in sets) (map (λ a. a.mixed) atoms) []
+      needs : PlannedCall → Bool
+      needs h = not (j == h.site) && has_object x (needed b (followed b h.command))
 
-pub mixed_none : put_all [] [] ≡ put_all (mixed_in []) []
+      atoms : followed_atoms b (gs ++ g ∷ []) ≡ followed_atoms b gs ++ (followed b g.command).atoms
+      unfolding follow_definitions
+      atoms =
+          ap atoms_of_sets (map_push (λ (h : PlannedCall). (followed b h.command).atoms) gs g)
+          ∙ atoms_push (map (λ (h : PlannedCall). (followed b h.command).atoms) gs) (followed b g.command).atoms
+
+      regroup : (m n p q : Bool) → ((m || n) || (p || (q || false))) ≡ (((m || p) || n) || q)
+      regroup true n p q = refl
+      regroup false true true q = refl
+      regroup false true false q = refl
+      regroup false false true q = refl
+      regroup false false false true = refl
+      regroup false false false false = refl
+
+names_is : (x : ℕ) (ds : List Delta) → Each IsObject ds → names_object x ds ≡ has_object x ds
+unfolding plan_definitions follow_definitions
+names_is x [] h = refl
+names_is x (d ∷ ds) h = ap₂ ◌||◌ (sym (ap (λ n. (x == d.object) && (0 == n)) h.0 ∙ and_true (x == d.object))) (names_is x ds h.1)
+  where
+    and_true : (b : Bool) → (b && true) ≡ b
+    and_true true = refl
+    and_true false = refl
+
+any_names : (x : ℕ) (atoms : List Linear) → Each IsTidy atoms → list_any (λ a. names_object x a.mixed) atoms ≡ list_any (λ a. has_object x a.mixed) atoms
 unfolding plan_definitions
-mixed_none = refl
+any_names x [] h = refl
+any_names x (a ∷ atoms) h = ap₂ ◌||◌ (names_is x a.mixed h.0.mixed) (any_names x atoms h.1)
 
-pub mixed_next :
-    (w : s.Workload) (h : PlannedCall → List Linear) (calls : List GroundCall) (i : ℕ) (call : GroundCall) (before after : List Delta) (atoms : List Linear) →
-    i < length calls → call ≡ get_or calls i call → before ≡ put_all (mixed_in (map (of_call w h) (take i calls))) [] →
-    atoms ≡ of_call w h call → after ≡ put_all (map (λ a. a.mixed) atoms) before →
-    after ≡ put_all (mixed_in (map (of_call w h) (take (i + 1) calls))) []
-mixed_next w h calls i call before after atoms within is so_far are put =
-    put ∙ ap₂ (λ (l : List Linear) (out : List Delta). put_all (map (λ a. a.mixed) l) out) are so_far
-    ∙ sym (mixed_push (map (of_call w h) (take i calls)) (of_call w h call))
-    ∙ ap (λ l. put_all (mixed_in l) []) (sym (map_push (of_call w h) (take i calls) call)
-    ∙ ap (map (of_call w h)) (ap (λ x. take i calls ++ x ∷ []) is ∙ sym (take_more calls i call within)))
+-- as it is planned
+abbrev pub call_planned : s.Workload → GroundCall → PlannedCall
+call_planned w call = planned_call w (plain_ground call)
+
+module _ (w : s.Workload) (b : ℕ → ℤ) where
+  pub none_frozen : (f : FrozenObjects) → ((x j : ℕ) → is_frozen_in f x j ≡ false) → (x j : ℕ) → is_frozen_in f x j ≡ is_frozen b [] x j
+  unfolding plan_definitions follow_definitions
+  none_frozen f h = λ x j. h x j
+
+  pub frozen_next :
+      (calls : List GroundCall) (i : ℕ) (call : GroundCall) → i < length calls → call ≡ get_or calls i call → call.site < sites_of w →
+      (before mixed after : FrozenObjects) (asked : List Linear) (needing : List Delta) →
+      asked ≡ (followed b (ground_form w (plain_ground call))).atoms → needing ≡ needed b (followed b (ground_form w (plain_ground call))) →
+      ((x j : ℕ) → is_frozen_in before x j ≡ is_frozen b (map (call_planned w) (take i calls)) x j) →
+      ((x j : ℕ) → is_frozen_in mixed x j ≡ (is_frozen_in before x j || list_any (λ a. names_object x a.mixed) asked)) →
+      ((x j : ℕ) → is_frozen_in after x j ≡ (is_frozen_in mixed x j || (not (j == call.site) && names_object x needing))) →
+      (x j : ℕ) → is_frozen_in after x j ≡ is_frozen b (map (call_planned w) (take (i + 1) calls)) x j
+  unfolding plan_definitions
+  frozen_next calls i call within is site before mixed after asked needing asked_is needing_is so_far mix need x j =
+      let k : ℕ = sites_of w in
+      let g : PlannedCall = call_planned w call in
+      let gs : List PlannedCall = map (call_planned w) (take i calls) in
+      let tidy : Each IsTidy (followed b g.command).atoms =
+          (follows k g.site site b g.command (ground_whole w (plain_ground call)) (base_forms b) (object_forms b) (stands_at_base k g.site site b)).atoms.tidy in
+      let objects : Each IsObject (needed b (followed b g.command)) = (objects_needed k b g site (ground_whole w (plain_ground call))).objects in
+      need x j
+      ∙ ap₂ ◌||◌
+      (mix x j ∙ ap₂ ◌||◌ (so_far x j) (ap (list_any (λ a. names_object x a.mixed)) asked_is ∙ any_names x (followed b g.command).atoms tidy))
+      (ap (λ c. not (j == call.site) && c) (ap (names_object x) needing_is ∙ names_is x (needed b (followed b g.command)) objects))
+      ∙ sym (frozen_push b x j gs g)
+      ∙ ap (λ l. is_frozen b l x j)
+      (sym (map_push (call_planned w) (take i calls) call)
+      ∙ ap (map (call_planned w)) (ap (λ y. take i calls ++ y ∷ []) is ∙ sym (take_more calls i call within)))
+
+  pub all_frozen :
+      (calls : List GroundCall) (i : ℕ) (f : FrozenObjects) → length calls ≤ i → map plain_ground calls ≡ grounds w →
+      ((x j : ℕ) → is_frozen_in f x j ≡ is_frozen b (map (call_planned w) (take i calls)) x j) →
+      (x j : ℕ) → is_frozen_in f x j ≡ is_frozen b (planned w) x j
+  unfolding plan_definitions
+  all_frozen calls i f past are so_far x j =
+      so_far x j
+      ∙ ap (λ l. is_frozen b l x j)
+      (ap (map (call_planned w)) (take_all i calls past) ∙ sym (map_map plain_ground (planned_call w) calls) ∙ ap (map (planned_call w)) are)

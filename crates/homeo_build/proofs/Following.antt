@@ -15,14 +15,12 @@ use Rattle.homeo_meaning.proofs.Within.{all_within}
 use Rattle.homeo_plan.specs.Key.{definitions as plan_definitions}
 use Rattle.homeo_plan.specs.Each.{Each}
 use Rattle.homeo_plan.specs.Limit.{form_limit}
-use Rattle.homeo_plan.specs.Needs.{remote}
 use Rattle.homeo_plan.specs.Planned.{sites_of, planned_call}
-use Rattle.homeo_plan.specs.Template.{atoms_of, needs_of}
+use Rattle.homeo_plan.specs.Template.{atoms_of}
 use Rattle.homeo_plan.proofs.GroundForms.{ground_whole}
 use Rattle.homeo_plan.proofs.GroundNumbers.{values_small}
-use Rattle.homeo_follow.specs.Expanded.{expanded, expanded_deltas}
-use Rattle.homeo_follow.specs.Follow.{followed, needed}
-use Rattle.homeo_follow.proofs.Needed.{needs_are_followed}
+use Rattle.homeo_follow.specs.Expanded.{expanded}
+use Rattle.homeo_follow.specs.Follow.{followed}
 use Rattle.homeo_follow.proofs.PlannedAtoms.{atoms_are_followed}
 use Rattle.homeo_follow.proofs.Weighed.{accepted_small}
 use Rattle.homeo_build.specs.Forms.{IsCallForm}
@@ -87,7 +85,3 @@ module _ (w : s.Workload) (g : Ground) (b : ℕ → ℤ) (site : g.site < sites_
   pub atoms_are : map (expanded (sites_of w)) (followed b (ground_form w g)).atoms ≡ atoms_of (sites_of w) b (planned_call w g)
   unfolding plan_definitions
   atoms_are = sym (atoms_are_followed (sites_of w) b (planned_call w g) site (ground_whole w g))
-
-  pub needs_are : remote g.site (expanded_deltas (sites_of w) (needed b (followed b (ground_form w g)))) ≡ needs_of (sites_of w) b (planned_call w g)
-  unfolding plan_definitions
-  needs_are = sym (needs_are_followed (sites_of w) b (planned_call w g) site (ground_whole w g))

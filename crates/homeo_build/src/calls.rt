@@ -1,6 +1,6 @@
-//! What ground calls bring to the plan of a round.
+//! The template of what ground calls bring.
 
-ghost use Rattle.std.specs.Prelude.{◌≡◌, ℕ, [], map, IfOk};
+ghost use Rattle.std.specs.Prelude.{◌≡◌, ℕ, map, IfOk};
 ghost use Rattle.homeo_syntax.specs.LowView.{plain_lcommand};
 ghost use Rattle.homeo_syntax.specs.SourceView.{plain_workload};
 ghost use Rattle.homeo_meaning.specs.Acceptance.{IsAccepted};
@@ -10,19 +10,18 @@ ghost use Rattle.homeo_meaning.specs.Serial.{values_of};
 ghost use Rattle.homeo_meaning.specs.Small.{IsSmall};
 ghost use Rattle.homeo_plan.specs.Each.{Each};
 ghost use Rattle.homeo_plan.specs.Limit.{form_limit};
-ghost use Rattle.homeo_plan.specs.PlanView.{plain_clause};
-ghost use Rattle.homeo_plan.specs.Planned.{sites_of, planned};
-ghost use Rattle.homeo_plan.specs.Template.{atoms_of, needs_of, clauses_from, atoms_of_sets, put_all};
-ghost use Rattle.homeo_follow.specs.ObjectTemplate.{followed_atoms};
+ghost use Rattle.homeo_plan.specs.Linear.{AreInOrder};
+ghost use Rattle.homeo_plan.specs.PlanView.{plain_template};
+ghost use Rattle.homeo_plan.specs.Planned.{sites_of, template_at};
 ghost use Rattle.homeo_build.specs.inner.Followed.{IsSmallAlong, AreFollowed};
 
 use crate::compiled::Compiled;
-use crate::sites::site_count;
-use homeo_linear::{follow_at, needs_elsewhere, push_mixed};
+use crate::freezes::FrozenObjects;
+use homeo_linear::follow_at;
 use homeo_meaning::Database;
-use homeo_plan::{AtomSet, Clause, FreezeSet};
+use homeo_plan::{AtomSet, FreezeSet, Template};
 use homeo_syntax::{LCommand, List, Memory};
-use homeo_template::distinct_clauses;
+use homeo_template::object_clauses;
 use std::alloc::Global;
 
 /// What is asked and needed along each of some forms, in their order.
@@ -30,17 +29,6 @@ use std::alloc::Global;
 struct FollowedForms {
     atoms: Vec<AtomSet>,
     needs: Vec<FreezeSet>,
-}
-
-/// What the ground calls of a workload bring to its template.
-#[derive(Drop)]
-pub(crate) struct CallPlans {
-    /// The distinct clauses of what they ask, over whole objects.
-    pub clauses: List<Clause>,
-    /// What their atoms mix, at all sites.
-    pub mixed: Vec<FreezeSet>,
-    /// What each of them needs of other sites, in their order.
-    pub needs: Vec<FreezeSet>,
 }
 
 /// What is asked and needed along each of these forms at a base.
@@ -59,34 +47,38 @@ fn follow_forms(alloc: Global, forms: &[LCommand], base: &Database) -> Result<Fo
     Ok(FollowedForms { atoms, needs })
 }
 
-/// What all ground calls ask and need at a base. Calls of one form ask the same, so the clauses are found over whole objects.
-pub(crate) fn plan_calls(alloc: Global, c: &Compiled, base: &Database) -> Result<CallPlans, Memory>
+/// The template of what the ground calls ask and need at a base. Calls of one form ask the same, and need the same objects of
+/// other sites, so it is made over whole objects.
+pub(crate) fn template_of(
+    alloc: Global,
+    c: &Compiled,
+    base: &Database,
+    sites: u32,
+) -> Result<Template, Memory>
     requires accepted { IsAccepted (plain_workload c.now) }
     requires within { IsWithin (schema_of (plain_workload c.now)) base.now.items }
-    ensures clauses { IfOk result (λ p. map plain_clause p.clauses.items ≡
-        clauses_from [] (followed_atoms (values_of base.now.items) (planned (plain_workload c.now)))) }
-    ensures mixed { IfOk result (λ p. put_all (map (λ f. f.deltas.items) p.mixed.items) [] ≡ put_all (map (λ a. a.mixed)
-        (atoms_of_sets (map (atoms_of (sites_of (plain_workload c.now)) (values_of base.now.items)) (planned (plain_workload c.now))))) []) }
-    ensures needs { IfOk result (λ p. map (λ f. f.deltas.items) p.needs.items ≡
-        map (needs_of (sites_of (plain_workload c.now)) (values_of base.now.items)) (planned (plain_workload c.now))) }
+    requires sites { sites ≡ sites_of (plain_workload c.now) }
+    ensures sites { IfOk result (λ t. t.sites ≡ sites) }
+    ensures template { IfOk result (λ t. plain_template t ≡ template_at (plain_workload c.now) base.now.items) }
+    ensures small { IfOk result (λ t. Each (λ c. IsSmall form_limit c.slack) (plain_template t).clauses) }
+    ensures order { IfOk result (λ t. AreInOrder t.freezes.items) }
 {
-    let sites = site_count(c.workload());
     let forms = c.forms();
     let followed = follow_forms(alloc, forms.forms.as_slice(), base)?;
     let asked = followed.atoms.as_slice();
     let needed = followed.needs.as_slice();
     let places = forms.places.as_slice();
-    let clauses = distinct_clauses(alloc, asked, places)?;
-    let mut mixed = Vec::new(alloc);
-    let mut needs = Vec::new(alloc);
+    let clauses = object_clauses(alloc, asked, places, sites)?;
+    let mut frozen = FrozenObjects::new(alloc);
     for (i, call) in c.calls().iter().enumerate() {
         let place = places[i];
-        push_mixed(alloc, &mut mixed, &asked[place], sites)?;
-        needs.push(needs_elsewhere(alloc, &needed[place], sites, call.site)?)?;
+        frozen.mix(asked[place].atoms.as_slice())?;
+        frozen.need(needed[place].deltas.as_slice(), call.site)?;
     }
-    Ok(CallPlans {
+    let freezes = frozen.deltas(alloc, sites)?;
+    Ok(Template {
+        sites,
         clauses,
-        mixed,
-        needs,
+        freezes: List::from_vec(freezes),
     })
 }

@@ -5,6 +5,7 @@ mod calls;
 pub mod compile;
 mod compiled;
 mod forms;
+mod freezes;
 pub mod laws;
 pub mod residuals;
 pub mod shares;

@@ -1,5 +1,4 @@
 mod Adding
-mod AtSites
 mod CheckedSteps
 mod Comparing
 mod Coursing

@@ -2,7 +2,7 @@
 
 ghost use Rattle.std.specs.Prelude.{◌≡◌, [], map, IfOk, OnOk};
 ghost use Rattle.homeo_plan.specs.PlanView.{plain_atom, plain_atoms};
-ghost use Rattle.homeo_plan.specs.Linear.{AreInOrder, add_deltas};
+ghost use Rattle.homeo_plan.specs.Linear.{add_deltas};
 ghost use Rattle.homeo_plan.specs.Template.{atoms_of_sets, put_all};
 ghost use Rattle.homeo_template.specs.inner.Frozen.{delta_at, deltas_in};
 
@@ -31,38 +31,10 @@ pub(crate) fn join_freezes(
     for set in sets {
         freeze_mixed(&mut frozen, set.atoms.as_slice())?;
     }
-    freeze_all(&mut frozen, needed)?;
-    Ok(List::from_vec(in_order(alloc, &frozen)?))
-}
-
-/// The deltas of all sets, by object and then by site, each once: those of what atoms mix, and of what is needed.
-///
-/// # Errors
-///
-/// `Memory` when out of memory.
-pub fn frozen(
-    alloc: Global,
-    mixed: &[FreezeSet],
-    needed: &[FreezeSet],
-) -> Result<List<Delta>, Memory>
-    ensures deltas { IfOk result (λ ds. ds.items ≡
-        put_all (map (λ f. f.deltas.items) needed.now) (put_all (map (λ f. f.deltas.items) mixed.now) [])) }
-    ensures order { IfOk result (λ ds. AreInOrder ds.items) }
-{
-    let mut frozen = BTreeSet::new(alloc);
-    freeze_all(&mut frozen, mixed)?;
-    freeze_all(&mut frozen, needed)?;
-    Ok(List::from_vec(in_order(alloc, &frozen)?))
-}
-
-/// Freezes the deltas of all sets.
-fn freeze_all(frozen: &mut BTreeSet<Place>, sets: &[FreezeSet]) -> Result<(), Memory>
-    ensures { OnOk result (deltas_in frozen.new ≡ put_all (map (λ f. f.deltas.items) sets.now) (deltas_in frozen.old)) }
-{
-    for set in sets {
-        freeze(frozen, set.deltas.as_slice())?;
+    for needs in needed {
+        freeze(&mut frozen, needs.deltas.as_slice())?;
     }
-    Ok(())
+    Ok(List::from_vec(in_order(alloc, &frozen)?))
 }
 
 /// Freezes what atoms mix.

@@ -2,11 +2,11 @@
 #![tactic(auto)]
 
 mod clauses;
+mod expanding;
 mod freezes;
 mod joining;
 mod key;
 mod repeated;
 
-pub use freezes::frozen;
 pub use joining::template;
-pub use repeated::distinct_clauses;
+pub use repeated::object_clauses;

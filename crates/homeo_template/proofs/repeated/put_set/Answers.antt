@@ -20,8 +20,8 @@ returns-then-item_or-clause-clauses c =
     sym (none_again (clauses_in c.args.distinct.now) (set_at (map plain_atoms c.args.sets.now) place)
     (c.requires.met place (ap (λ l. slice_index_or l place false) (sym c.as_slice.ensures.value) ∙ sym c.item_or.ensures ∙ c.if-item_or.true)))
 
-pub put_all-requires-clause-small : goal.put_all-requires-clause-small
-put_all-requires-clause-small c =
+pub put_all-requires : goal.put_all-requires
+put_all-requires c =
     let set = c.index-sets-place in
     subst (λ l. Each (λ (a : Linear). IsSmall form_limit a.constant) (map plain_atom l)) (sym (c.as_slice-2.ensures ∙ ap (λ (s : AtomSet). s.atoms.items) (sym set.is)))
     (each_set (Each (λ (a : Linear). IsSmall form_limit a.constant)) c.args.sets.now c.args.place set.result c.requires.small c.requires.place set.is)
@@ -32,6 +32,6 @@ returns-clause-met c =
     let sets = map plain_atoms c.args.sets.now in
     let cs = clauses_in c.args.distinct.now in
     let put =
-    c.in_ok-put_all.ensures.clauses
+    c.in_ok-put_all.ensures
     ∙ ap (clauses_from cs) (ap (map plain_atom) (c.as_slice-2.ensures ∙ ap (λ (s : AtomSet). s.atoms.items) (sym set.is)) ∙ sym (set_here c.args.sets.now c.args.place set.result c.requires.place set.is)) in
     on_ok_weaker c.put.result (λ marked. one_met c.args.met.now.items c.put.new.items.items sets c.args.place cs (clauses_in c.put_all.new.self) marked c.requires.met put) c.put.ensures
