@@ -60,14 +60,15 @@ module _ (x : ℕ) (f : Frozen) (k : ℕ) (out : List Delta) where
 module _ (k : ℕ) where
   -- ---- one object after another
   pub objects_next :
-      (fs : List Frozen) (out more : List Delta) (n : ℕ) (x : Frozen) → n < length fs → x ≡ get_or fs n x →
-      more ≡ out ++ frozen_sites 0 k n x → more ++ frozen_from k (n + 1) (drop (n + 1) fs) ≡ out ++ frozen_from k n (drop n fs)
-  objects_next fs out more n x h is p =
-      let next : drop n fs ≡ x ∷ drop (n + 1) fs = rw add-one (drop-cons fs n x h) ∙ ap (λ y. y ∷ drop (n + 1) fs) (sym is) in
+      (fs : List Frozen) (out more : List Delta) (n : ℕ) (d : Frozen) → n < length fs →
+      more ≡ out ++ frozen_sites 0 k n (get_or fs n d) → more ++ frozen_from k (n + 1) (drop (n + 1) fs) ≡ out ++ frozen_from k n (drop n fs)
+  objects_next fs out more n d h p =
+      let f : Frozen = get_or fs n d in
+      let next : drop n fs ≡ f ∷ drop (n + 1) fs = rw add-one (drop-cons fs n d h) in
       let one : suc n ≡ n + 1 = omega arith in
       ap (λ l. l ++ frozen_from k (n + 1) (drop (n + 1) fs)) p
-      ∙ append_assoc out (frozen_sites 0 k n x) (frozen_from k (n + 1) (drop (n + 1) fs))
-      ∙ sym (ap (λ l. out ++ frozen_from k n l) next ∙ ap (λ m. out ++ (frozen_sites 0 k n x ++ frozen_from k m (drop (n + 1) fs))) one)
+      ∙ append_assoc out (frozen_sites 0 k n f) (frozen_from k (n + 1) (drop (n + 1) fs))
+      ∙ sym (ap (λ l. out ++ frozen_from k n l) next ∙ ap (λ m. out ++ (frozen_sites 0 k n f ++ frozen_from k m (drop (n + 1) fs))) one)
 
   pub objects_end : (fs : List Frozen) (out : List Delta) (n : ℕ) → length fs ≤ n → out ≡ out ++ frozen_from k n (drop n fs)
   objects_end fs out n h = sym (ap (λ l. out ++ frozen_from k n l) (drop_of_length-le fs h) ∙ append-nil out)

@@ -134,7 +134,7 @@ impl FrozenObjects {
         ensures { IfOk result (λ ds. ds.items ≡ frozen_from sites 0 self.now.objects.items) }
     {
         let mut deltas = Vec::new(alloc);
-        for (object, frozen) in self.objects.iter().enumerate() {
+        for (object, frozen) in self.objects.as_slice().iter().enumerate() {
             push_frozen(&mut deltas, object as u32, *frozen, sites)?;
         }
         Ok(deltas)

@@ -5,4 +5,4 @@ use Rattle.homeo_build.proofs.freezes.FrozenObjects.deltas.Given as goal
 
 abbrev pub invariant-loop-object : goal.invariant-loop-object
 invariant-loop-object l =
-    l.deltas.items ++ frozen_from l.sites l.object (drop l.object l.self.objects.items) ≡ frozen_from l.sites 0 l.self.objects.items
+    l.deltas.items ++ frozen_from l.sites l.object (drop l.object l.frozen-items) ≡ frozen_from l.sites 0 l.frozen-items
