@@ -23,7 +23,7 @@ use Rattle.homeo_plan.specs.Limit.{form_limit}
 use Rattle.homeo_plan.specs.Linear.{Linear, AreInOrder, base_forms}
 use Rattle.homeo_plan.specs.PlanView.{plain_atoms}
 use Rattle.homeo_plan.specs.Planned.{sites_of, planned_call, planned, template_at}
-use Rattle.homeo_plan.specs.Template.{PlannedCall, Clause, Template, atoms_of, needs_of, clauses_from, atoms_of_sets}
+use Rattle.homeo_plan.specs.Template.{PlannedCall, Clause, Template, atoms_of, needs_of, clauses_from, atoms_of_sets, put_all}
 use Rattle.homeo_plan.specs.declared.forms.AtomSet.{AtomSet}
 use Rattle.homeo_plan.specs.declared.forms.Delta.{Delta}
 use Rattle.homeo_plan.proofs.AtomClauses.{each_from, each_of_sets}
@@ -182,8 +182,8 @@ module _ (w : s.Workload) (base : List ℤ) (accepted : IsAccepted w) (within : 
   in_order : AreInOrder (template_at w base).freezes
   unfolding plan_definitions
   in_order =
-      put-in_order (map (needs_of (sites_of w) (values_of base)) (planned w)) _
-      (put-in_order (map (λ (a : Linear). a.mixed) (atoms_of_sets (map (atoms_of (sites_of w) (values_of base)) (planned w)))) [] none-in_order)
+      let mixed : List (List Delta) = map (λ (a : Linear). a.mixed) (atoms_of_sets (map (atoms_of (sites_of w) (values_of base)) (planned w))) in
+      put-in_order (map (needs_of (sites_of w) (values_of base)) (planned w)) (put_all mixed []) (put-in_order mixed [] none-in_order)
 
   pub freezes_in_order : (t : Template) → t ≡ template_at w base → AreInOrder t.freezes
   freezes_in_order t is = subst (λ (u : Template). AreInOrder u.freezes) (sym is) in_order
@@ -220,27 +220,27 @@ module _ (w : s.Workload) (base : List ℤ) (accepted : IsAccepted w) (within : 
 
 -- ---- what one call more freezes
 module _ (b : ℕ → ℤ) (x j : ℕ) where
+  abbrev mixes : Linear → Bool
+  mixes a = has_object x a.mixed
+
+  abbrev needs : PlannedCall → Bool
+  needs g = not (j == g.site) && has_object x (needed b (followed b g.command))
+
+  atoms_push_one : (gs : List PlannedCall) (g : PlannedCall) → followed_atoms b (gs ++ g ∷ []) ≡ followed_atoms b gs ++ (followed b g.command).atoms
+  unfolding follow_definitions
+  atoms_push_one gs g =
+      ap atoms_of_sets (map_push (λ (h : PlannedCall). (followed b h.command).atoms) gs g)
+      ∙ atoms_push (map (λ (h : PlannedCall). (followed b h.command).atoms) gs) (followed b g.command).atoms
+
   frozen_push :
       (gs : List PlannedCall) (g : PlannedCall) → is_frozen b (gs ++ g ∷ []) x j ≡
       ((is_frozen b gs x j || list_any (λ a. has_object x a.mixed) (followed b g.command).atoms) || (not (j == g.site) && has_object x (needed b (followed b g.command))))
   unfolding follow_definitions
   frozen_push gs g =
-      ap₂ ◌||◌ (ap (list_any mixes) atoms ∙ any_append mixes (followed_atoms b gs) (followed b g.command).atoms)
+      ap₂ ◌||◌ (ap (list_any mixes) (atoms_push_one gs g) ∙ any_append mixes (followed_atoms b gs) (followed b g.command).atoms)
       (any_append needs gs (g ∷ []))
       ∙ regroup (list_any mixes (followed_atoms b gs)) (list_any mixes (followed b g.command).atoms) (list_any needs gs) (needs g)
     where
-      mixes : Linear → Bool
-      mixes a = has_object x a.mixed
-
-      needs : PlannedCall → Bool
-      needs h = not (j == h.site) && has_object x (needed b (followed b h.command))
-
-      atoms : followed_atoms b (gs ++ g ∷ []) ≡ followed_atoms b gs ++ (followed b g.command).atoms
-      unfolding follow_definitions
-      atoms =
-          ap atoms_of_sets (map_push (λ (h : PlannedCall). (followed b h.command).atoms) gs g)
-          ∙ atoms_push (map (λ (h : PlannedCall). (followed b h.command).atoms) gs) (followed b g.command).atoms
-
       regroup : (m n p q : Bool) → ((m || n) || (p || (q || false))) ≡ (((m || p) || n) || q)
       regroup true n p q = refl
       regroup false true true q = refl
@@ -280,7 +280,7 @@ module _ (w : s.Workload) (b : ℕ → ℤ) where
       ((x j : ℕ) → is_frozen_in mixed x j ≡ (is_frozen_in before x j || list_any (λ a. names_object x a.mixed) asked)) →
       ((x j : ℕ) → is_frozen_in after x j ≡ (is_frozen_in mixed x j || (not (j == call.site) && names_object x needing))) →
       (x j : ℕ) → is_frozen_in after x j ≡ is_frozen b (map (call_planned w) (take (i + 1) calls)) x j
-  unfolding plan_definitions
+  unfolding plan_definitions follow_definitions
   frozen_next calls i call within is site before mixed after asked needing asked_is needing_is so_far mix need x j =
       let k : ℕ = sites_of w in
       let g : PlannedCall = call_planned w call in
@@ -290,7 +290,7 @@ module _ (w : s.Workload) (b : ℕ → ℤ) where
       let objects : Each IsObject (needed b (followed b g.command)) = (objects_needed k b g site (ground_whole w (plain_ground call))).objects in
       need x j
       ∙ ap₂ ◌||◌
-      (mix x j ∙ ap₂ ◌||◌ (so_far x j) (ap (list_any (λ a. names_object x a.mixed)) asked_is ∙ any_names x (followed b g.command).atoms tidy))
+      (mix x j ∙ ap₂ ◌||◌ (so_far x j) (ap (list_any (λ (a : Linear). names_object x a.mixed)) asked_is ∙ any_names x (followed b g.command).atoms tidy))
       (ap (λ c. not (j == call.site) && c) (ap (names_object x) needing_is ∙ names_is x (needed b (followed b g.command)) objects))
       ∙ sym (frozen_push b x j gs g)
       ∙ ap (λ l. is_frozen b l x j)

@@ -75,12 +75,11 @@ module _ (k : ℕ) where
 
 -- ---- which deltas there are
 -- site i is one of n sites from j on
-is_among : ℕ → ℕ → ℕ → Bool
+abbrev is_among : ℕ → ℕ → ℕ → Bool
 is_among j zero i = false
 is_among j (suc n) i = (i == j) || is_among (suc j) n i
 
 among_is : (j n i : ℕ) → is_among j n i ≡ (not (nat_lt i j) && nat_lt i (j + n))
-unfolding is_among
 among_is j zero i = grind (arith, nat_tests)
 among_is j (suc n) i = ap (λ b. (i == j) || b) (among_is (suc j) n i) ∙ here
   where
@@ -91,24 +90,24 @@ same_site : (i j : ℕ) → (i == j) ≡ true → i ≡ j
 same_site i j h = grind (arith, nat_tests, h)
 
 has_sites : (d : Delta) (j n x : ℕ) (f : Frozen) → has d (frozen_sites j n x f) ≡ ((d.object == x) && (is_among j n d.site && frozen_at f d.site))
-unfolding is_among plan_definitions
+unfolding plan_definitions
 has_sites d j zero x f = none (d.object == x)
   where
     none : (b : Bool) → false ≡ (b && false)
     none true = refl
     none false = refl
-has_sites d j (suc n) x f = go (frozen_at f j) refl ∙ join (d.object == x) (d.site == j) (is_among (suc j) n d.site) (frozen_at f d.site) (frozen_at f j) here
+has_sites d j (suc n) x f = go (frozen_at f j) refl (has_sites d (suc j) n x f) ∙ join (d.object == x) (d.site == j) (is_among (suc j) n d.site) (frozen_at f d.site) (frozen_at f j) here
   where
     here : (d.site == j) ≡ true → frozen_at f d.site ≡ frozen_at f j
     here h = ap (frozen_at f) (same_site d.site j h)
 
-    rest : Bool
-    rest = (d.object == x) && (is_among (suc j) n d.site && frozen_at f d.site)
-
-    go : (v : Bool) → frozen_at f j ≡ v → has d (frozen_sites j (suc n) x f) ≡ (if v then ((d.object == x) && (d.site == j)) || rest else rest)
-    unfolding rest
-    go true e = ap (has d) (frozen_here j n x f e) ∙ ap (λ b. ((d.object == x) && (d.site == j)) || b) (has_sites d (suc j) n x f)
-    go false e = ap (has d) (not_here j n x f e) ∙ has_sites d (suc j) n x f
+    go :
+        (v : Bool) → frozen_at f j ≡ v → has d (frozen_sites (suc j) n x f) ≡ ((d.object == x) && (is_among (suc j) n d.site && frozen_at f d.site)) →
+        has d (frozen_sites j (suc n) x f) ≡
+        (if v then ((d.object == x) && (d.site == j)) || ((d.object == x) && (is_among (suc j) n d.site && frozen_at f d.site))
+        else ((d.object == x) && (is_among (suc j) n d.site && frozen_at f d.site)))
+    go true e ih = ap (has d) (frozen_here j n x f e) ∙ ap (λ b. ((d.object == x) && (d.site == j)) || b) ih
+    go false e ih = ap (has d) (not_here j n x f e) ∙ ih
 
     join :
         (o p w t v : Bool) → (p ≡ true → t ≡ v) → (if v then (o && p) || (o && (w && t)) else (o && (w && t))) ≡ (o && ((p || w) && t))
@@ -205,13 +204,13 @@ module _ (x : ℕ) (f : Frozen) (ds : List Delta) (over : IsOver x ds) where
       go false r = r
 
   ordered_sites : (j n : ℕ) → Ordered ds → Ordered (frozen_sites j n x f ++ ds)
+  unfolding plan_definitions
   ordered_sites j zero o = o
   ordered_sites j (suc n) o = go (frozen_at f j) (ordered_sites (suc j) n o)
     where
       go :
           (v : Bool) → Ordered (frozen_sites (suc j) n x f ++ ds) →
           Ordered ((if v then at_site x j ∷ frozen_sites (suc j) n x f else frozen_sites (suc j) n x f) ++ ds)
-      unfolding plan_definitions
       go true r = (after_sites j (suc j) n (omega arith), r)
       go false r = r
 

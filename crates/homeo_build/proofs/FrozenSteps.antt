@@ -57,13 +57,12 @@ module _
     (start : ℕ → ℕ → Bool) (before after : FrozenObjects) (ds : List Delta) (i : ℕ) (d : Delta) (within : i < length ds) (f : Frozen)
     (put : (x : ℕ) → object_frozen after x ≡ (if (get_or ds i d).object == x then f else object_frozen before x))
   where
-    o : ℕ
+    abbrev o : ℕ
     o = (get_or ds i d).object
 
     pub everywhere_next :
         f ≡ Everywhere → ((x j : ℕ) → is_frozen_in before x j ≡ (start x j || names_object x (take i ds))) →
         (x j : ℕ) → is_frozen_in after x j ≡ (start x j || names_object x (take (i + 1) ds))
-    unfolding o
     everywhere_next is so_far x j =
         ap (λ s. frozen_at s j) (put x) ∙ go (o == x)
         ∙ ap (λ b. b || (o == x)) (so_far x j) ∙ or_assoc (start x j) (names_object x (take i ds)) (o == x)
@@ -83,7 +82,6 @@ module _
         ((j : ℕ) → frozen_at f j ≡ (frozen_at so_far j || not (j == site))) →
         ((x j : ℕ) → is_frozen_in before x j ≡ (start x j || (not (j == site) && names_object x (take i ds)))) →
         (x j : ℕ) → is_frozen_in after x j ≡ (start x j || (not (j == site) && names_object x (take (i + 1) ds)))
-    unfolding o
     elsewhere_next here site is moved frozen x j =
         ap (λ s. frozen_at s j) (put x) ∙ go (o == x) refl
         ∙ ap (λ b. b || ((o == x) && not (j == site))) (frozen x j)
@@ -92,8 +90,7 @@ module _
         ∙ ap (λ b. start x j || (not (j == site) && b)) (sym (names_more x ds i d within))
       where
         go : (e : Bool) → (o == x) ≡ e → frozen_at (if e then f else object_frozen before x) j ≡ (is_frozen_in before x j || (e && not (j == site)))
-        unfolding o
-        go true e = moved j ∙ ap (λ s. frozen_at s j || not (j == site)) (is ∙ ap (object_frozen before) (same_number o x e))
+            go true e = moved j ∙ ap (λ s. frozen_at s j || not (j == site)) (is ∙ ap (object_frozen before) (same_number o x e))
         go false e = sym (or_none (is_frozen_in before x j))
 
         regroup : (a n b e : Bool) → ((a || (n && b)) || (e && n)) ≡ (a || (n && (b || e)))

@@ -123,9 +123,10 @@ impl FrozenObjects {
         ensures same { OnOk result ((x : ℕ) → object_frozen self.new x ≡ object_frozen self.old x) }
     {
         let count = object as usize + 1;
-        if self.objects.len() < count {
-            self.objects.resize(count, Frozen::Nowhere)?;
+        if count <= self.objects.len() {
+            return Ok(());
         }
+        self.objects.resize(count, Frozen::Nowhere)?;
         Ok(())
     }
 
