@@ -33,7 +33,6 @@ use Rattle.homeo_follow.specs.Key.{definitions as follow_definitions}
 use Rattle.homeo_follow.specs.Expanded.{expanded}
 use Rattle.homeo_follow.specs.Follow.{object_forms, followed, needed}
 use Rattle.homeo_follow.specs.ObjectTemplate.{expanded_clause, followed_atoms, has_object, is_frozen, IsByObjects}
-use Rattle.homeo_follow.proofs.Deltas.{same_deltas}
 use Rattle.homeo_follow.proofs.Expansions.{IsObject, IsTidy}
 use Rattle.homeo_follow.proofs.Needed.{objects_needed}
 use Rattle.homeo_follow.proofs.Simulated.{follows}
@@ -43,15 +42,16 @@ use Rattle.homeo_template.specs.Places.{set_at}
 use Rattle.homeo_template.proofs.Appending.{atoms_push}
 use Rattle.homeo_template.proofs.Ordered.{none-in_order, put-in_order}
 use Rattle.homeo_template.proofs.Slacks.{small-slack}
+use Rattle.homeo_linear.proofs.DeltasInOrder.{same_deltas}
 use Rattle.homeo_build.specs.Key.{definitions}
 use Rattle.homeo_build.specs.Forms.{IsCallForm, HaveForms, AreForms}
-use Rattle.homeo_build.specs.declared.freezes.FrozenObjects.{FrozenObjects}
+use Rattle.homeo_build.specs.declared.frozen.FrozenObjects.{FrozenObjects}
 use Rattle.homeo_build.specs.inner.Frozen.{is_frozen_in, names_object, frozen_from}
 use Rattle.homeo_build.specs.inner.Planning.{CanCompile, CanPlan}
 use Rattle.homeo_build.proofs.FewSites.{sites_few}
 use Rattle.homeo_build.proofs.Following.{atoms_are}
 use Rattle.homeo_build.proofs.FormsMade.{placed_below}
-use Rattle.homeo_build.proofs.FrozenSites.{has_frozen, ordered_frozen, in_order_is}
+use Rattle.homeo_build.proofs.FrozenSites.{has_frozen, frozen_in_order}
 use Rattle.homeo_build.proofs.FrozenSteps.{any_append}
 use Rattle.homeo_build.proofs.GroundCalls.{can_compile}
 use Rattle.homeo_build.proofs.Grown.{map_map, same_length}
@@ -199,8 +199,8 @@ module _ (w : s.Workload) (base : List ℤ) (accepted : IsAccepted w) (within : 
       let one : clauses ≡ (template_at w base).clauses = are ∙ sym made_by_objects.clauses in
       let two : freezes ≡ (template_at w base).freezes =
           made
-          ∙ same_deltas (frozen_from (sites_of w) 0 f.objects.items) (template_at w base).freezes (ordered_frozen (sites_of w) 0 f.objects.items)
-          (in_order_is (template_at w base).freezes in_order)
+          ∙ same_deltas (frozen_from (sites_of w) 0 f.objects.items) (template_at w base).freezes (frozen_in_order (sites_of w) 0 f.objects.items)
+          in_order
           (λ d.
           has_frozen (sites_of w) d f.objects.items ∙ ap (λ b. nat_lt d.site (sites_of w) && b) (frozen d.object d.site)
           ∙ sym (made_by_objects.freezes d)) in

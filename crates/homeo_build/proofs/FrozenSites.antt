@@ -8,10 +8,10 @@ use Rattle.std.proofs.lemmas.Bool.Decides.{nat_tests}
 use Rattle.homeo_plan.specs.Each.{Each}
 use Rattle.homeo_plan.specs.Linear.{AreInOrder, same_delta, delta_before}
 use Rattle.homeo_plan.specs.declared.forms.Delta.{Delta}
-use Rattle.homeo_follow.proofs.Deltas.{has, has_append, After, Ordered}
+use Rattle.homeo_follow.proofs.Deltas.{has, has_append}
 use Rattle.homeo_follow.proofs.Terms.{each_append}
-use Rattle.homeo_build.specs.declared.freezes.Frozen.{Frozen}
-use Rattle.homeo_build.specs.declared.freezes.Frozen.TheVariants.{Nowhere}
+use Rattle.homeo_build.specs.declared.frozen.Frozen.{Frozen}
+use Rattle.homeo_build.specs.declared.frozen.Frozen.TheVariants.{Nowhere}
 use Rattle.homeo_build.specs.inner.Frozen.{frozen_at, frozen_sites, frozen_from}
 
 abbrev at_site : ℕ → ℕ → Delta
@@ -162,6 +162,9 @@ module _ (k : ℕ) where
   has_frozen d fs = has_from d 0 d.object fs (omega arith)
 
 -- ---- their order
+abbrev After : Delta → List Delta → Type 0
+After d ds = Each (λ e. delta_before d e ≡ true) ds
+
 abbrev IsOver : ℕ → List Delta → Type 0
 IsOver x ds = Each (λ e. x < e.object) ds
 
@@ -203,24 +206,19 @@ module _ (x : ℕ) (f : Frozen) (ds : List Delta) (over : IsOver x ds) where
       go true r = (before, r)
       go false r = r
 
-  ordered_sites : (j n : ℕ) → Ordered ds → Ordered (frozen_sites j n x f ++ ds)
+  sites_in_order : (j n : ℕ) → AreInOrder ds → AreInOrder (frozen_sites j n x f ++ ds)
   unfolding plan_definitions
-  ordered_sites j zero o = o
-  ordered_sites j (suc n) o = go (frozen_at f j) (ordered_sites (suc j) n o)
+  sites_in_order j zero o = o
+  sites_in_order j (suc n) o = go (frozen_at f j) (sites_in_order (suc j) n o)
     where
       go :
-          (v : Bool) → Ordered (frozen_sites (suc j) n x f ++ ds) →
-          Ordered ((if v then at_site x j ∷ frozen_sites (suc j) n x f else frozen_sites (suc j) n x f) ++ ds)
+          (v : Bool) → AreInOrder (frozen_sites (suc j) n x f ++ ds) →
+          AreInOrder ((if v then at_site x j ∷ frozen_sites (suc j) n x f else frozen_sites (suc j) n x f) ++ ds)
       go true r = (after_sites j (suc j) n (omega arith), r)
       go false r = r
 
-pub ordered_frozen : (k x : ℕ) (fs : List Frozen) → Ordered (frozen_from k x fs)
+pub frozen_in_order : (k x : ℕ) (fs : List Frozen) → AreInOrder (frozen_from k x fs)
 unfolding plan_definitions
-ordered_frozen k x [] = tt
-ordered_frozen k x (f ∷ fs) =
-    ordered_sites x f (frozen_from k (suc x) fs) (over_from k x (suc x) fs (omega arith)) 0 k (ordered_frozen k (suc x) fs)
-
-pub in_order_is : (ds : List Delta) → AreInOrder ds → Ordered ds
-unfolding plan_definitions
-in_order_is [] o = tt
-in_order_is (d ∷ ds) o = (o.0, in_order_is ds o.1)
+frozen_in_order k x [] = tt
+frozen_in_order k x (f ∷ fs) =
+    sites_in_order x f (frozen_from k (suc x) fs) (over_from k x (suc x) fs (omega arith)) 0 k (frozen_in_order k (suc x) fs)

@@ -9,9 +9,9 @@ use Rattle.homeo_plan.specs.Linear.{Linear}
 use Rattle.homeo_plan.specs.PlanView.{plain_atom}
 use Rattle.homeo_plan.specs.declared.forms.Atom.{Atom}
 use Rattle.homeo_plan.specs.declared.forms.Delta.{Delta}
-use Rattle.homeo_build.specs.declared.freezes.Frozen.{Frozen}
-use Rattle.homeo_build.specs.declared.freezes.Frozen.TheVariants.{Nowhere, Everywhere}
-use Rattle.homeo_build.specs.declared.freezes.FrozenObjects.{FrozenObjects}
+use Rattle.homeo_build.specs.declared.frozen.Frozen.{Frozen}
+use Rattle.homeo_build.specs.declared.frozen.Frozen.TheVariants.{Nowhere, Everywhere}
+use Rattle.homeo_build.specs.declared.frozen.FrozenObjects.{FrozenObjects}
 use Rattle.homeo_build.specs.inner.Frozen.{frozen_at, object_frozen, is_frozen_in, names_object}
 
 -- ---- tests
@@ -90,7 +90,7 @@ module _
         ∙ ap (λ b. start x j || (not (j == site) && b)) (sym (names_more x ds i d within))
       where
         go : (e : Bool) → (o == x) ≡ e → frozen_at (if e then f else object_frozen before x) j ≡ (is_frozen_in before x j || (e && not (j == site)))
-            go true e = moved j ∙ ap (λ s. frozen_at s j || not (j == site)) (is ∙ ap (object_frozen before) (same_number o x e))
+        go true e = moved j ∙ ap (λ s. frozen_at s j || not (j == site)) (is ∙ ap (object_frozen before) (same_number o x e))
         go false e = sym (or_none (is_frozen_in before x j))
 
         regroup : (a n b e : Bool) → ((a || (n && b)) || (e && n)) ≡ (a || (n && (b || e)))
@@ -130,9 +130,9 @@ padded_all [] a n m = padded_none a n m
 padded_all (x ∷ xs) a n zero = refl
 padded_all (x ∷ xs) a n (suc m) = padded_all xs a n m
 
-pub reached : (fs more : List Frozen) (n : ℕ) → length fs ≤ n → more ≡ take n fs ++ replicate (n - length fs) Nowhere → (x : ℕ) → get_or more x Nowhere ≡ get_or fs x Nowhere
-reached fs more n h e x =
-    ap (λ l. get_or l x Nowhere) (e ∙ ap (λ l. l ++ replicate (n - length fs) Nowhere) (take_all n fs h)) ∙ padded_all fs Nowhere (n - length fs) x
+pub reached : (fs more : List Frozen) (n m : ℕ) → length fs ≤ n → more ≡ take n fs ++ replicate m Nowhere → (x : ℕ) → get_or more x Nowhere ≡ get_or fs x Nowhere
+reached fs more n m h e x =
+    ap (λ l. get_or l x Nowhere) (e ∙ ap (λ l. l ++ replicate m Nowhere) (take_all n fs h)) ∙ padded_all fs Nowhere m x
 
 pub set_next :
     (fs wide made : List Frozen) (o : ℕ) (f : Frozen) → o < length wide → ((x : ℕ) → get_or wide x Nowhere ≡ get_or fs x Nowhere) → made ≡ set wide o f →

@@ -16,7 +16,7 @@ ghost use Rattle.homeo_plan.specs.Planned.{sites_of, template_at};
 ghost use Rattle.homeo_build.specs.inner.Followed.{IsSmallAlong, AreFollowed};
 
 use crate::compiled::Compiled;
-use crate::freezes::FrozenObjects;
+use crate::frozen::FrozenObjects;
 use homeo_linear::follow_at;
 use homeo_meaning::Database;
 use homeo_plan::{AtomSet, FreezeSet, Template};

@@ -1,30 +1,15 @@
 //! Which deltas ground calls freeze, found by objects.
 
-ghost use Rattle.std.specs.Prelude.{◌≡◌, ℕ, ◌==◌, ◌^◌, ◌<◌, ◌≤◌, false, not, ◌||◌, ◌&&◌, ◌++◌, map, if◌then◌else◌, vec_len, IfOk, OnOk};
+ghost use Rattle.std.specs.Prelude.{◌≡◌, ℕ, ◌==◌, ◌<◌, false, not, ◌||◌, ◌&&◌, ◌++◌, map, if◌then◌else◌, vec_len, IfOk, OnOk};
 ghost use Rattle.std.specs.List.{list_any};
 ghost use Rattle.homeo_plan.specs.PlanView.{plain_atom};
 ghost use Rattle.homeo_build.specs.inner.Frozen.{frozen_at, object_frozen, is_frozen_in, names_object, frozen_sites, frozen_from};
 
+use crate::frozen::{Frozen, FrozenObjects};
 use homeo_meaning::padded::item_or;
 use homeo_plan::{Atom, Delta};
 use homeo_syntax::Memory;
 use std::alloc::Global;
-
-/// At which sites the deltas of an object are frozen.
-#[derive(Clone, Copy)]
-pub(crate) enum Frozen {
-    Nowhere,
-    /// At all sites but this one, whose calls need the object.
-    Elsewhere(u32),
-    Everywhere,
-}
-
-/// Objects by their numbers, each with where it is frozen. Those past the end are frozen nowhere.
-#[derive(Drop)]
-pub(crate) struct FrozenObjects {
-    objects: Vec<Frozen>,
-    ghost numbered: { vec_len objects ≤ 2 ^ 32 },
-}
 
 impl Frozen {
     /// Frozen at the other sites than this one too.

@@ -6,6 +6,7 @@ pub mod compile;
 mod compiled;
 mod forms;
 mod freezes;
+mod frozen;
 pub mod laws;
 pub mod residuals;
 pub mod shares;

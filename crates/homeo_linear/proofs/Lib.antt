@@ -2,7 +2,7 @@ mod Adding
 mod CheckedSteps
 mod Comparing
 mod Coursing
-mod DeltasInOrder
+pub mod DeltasInOrder
 mod FormParts
 mod FormSteps
 mod Gaining

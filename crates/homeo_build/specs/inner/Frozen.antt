@@ -2,9 +2,9 @@
 use Rattle.std.specs.Prelude.{ℕ, zero, suc, ◌==◌, Bool, true, false, not, if◌then◌else◌, List, [], ◌∷◌, ◌++◌, slice_index_or}
 use Rattle.std.specs.List.{list_any}
 use Rattle.homeo_plan.specs.declared.forms.Delta.{Delta}
-use Rattle.homeo_build.specs.declared.freezes.Frozen.{Frozen}
-use Rattle.homeo_build.specs.declared.freezes.Frozen.TheVariants.{Nowhere, Elsewhere, Everywhere}
-use Rattle.homeo_build.specs.declared.freezes.FrozenObjects.{FrozenObjects}
+use Rattle.homeo_build.specs.declared.frozen.Frozen.{Frozen}
+use Rattle.homeo_build.specs.declared.frozen.Frozen.TheVariants.{Nowhere, Elsewhere, Everywhere}
+use Rattle.homeo_build.specs.declared.frozen.FrozenObjects.{FrozenObjects}
 
 -- whether it is frozen at site j
 abbrev pub frozen_at : Frozen → ℕ → Bool

@@ -127,7 +127,8 @@ loop-i-preserved c =
     c.index-needed-place.result (ground_form w g) c.index-needed-place.is here.at in
     let site = (can_here w calls.result.now i call c.requires.accepted calls.ensures within is).site in
     frozen_next w b calls.result.now i call within is site c.loop-i.frozen c.mix.new.self c.need.new.self _ _
-    (ap (map plain_atom) c.as_slice-2.ensures ∙ asked) (c.as_slice-3.ensures ∙ need) c.loop-i.invariant c.in_ok-mix.ensures c.in_ok-need.ensures
+    (ap (map plain_atom) (c.as_slice-in-loop-i.ensures ∙ ap (λ (s : AtomSet). s.atoms.items) (sym c.index-asked-place.is)) ∙ asked)
+    (c.as_slice-in-loop-i-2.ensures ∙ ap (λ (f : FreezeSet). f.deltas.items) (sym c.index-needed-place.is) ∙ need) c.loop-i.invariant c.in_ok-mix.ensures c.in_ok-need.ensures
 
 pub returns-clause-template : goal.returns-clause-template
 returns-clause-template c =

@@ -6,5 +6,5 @@ use Rattle.homeo_build.proofs.freezes.elsewhere_than_both.Goals as goal
 pub returns-then-one-other : goal.returns-then-one-other
 returns-then-one-other c = λ j. grind (arith, nat_tests)
 
-pub returns : goal.returns
-returns c = λ j. grind (arith, nat_tests)
+pub returns-else-one-other : goal.returns-else-one-other
+returns-else-one-other c = λ j. grind (arith, nat_tests)

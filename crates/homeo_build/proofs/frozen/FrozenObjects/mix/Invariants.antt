@@ -3,7 +3,7 @@ use Rattle.std.proofs.Common.{◌≡◌, ℕ, ◌||◌, map, take}
 use Rattle.std.specs.List.{list_any}
 use Rattle.homeo_plan.specs.PlanView.{plain_atom}
 use Rattle.homeo_build.specs.inner.Frozen.{is_frozen_in, names_object}
-use Rattle.homeo_build.proofs.freezes.FrozenObjects.mix.Given as goal
+use Rattle.homeo_build.proofs.frozen.FrozenObjects.mix.Given as goal
 
 abbrev pub invariant-loop-atom : goal.invariant-loop-atom
 invariant-loop-atom l =

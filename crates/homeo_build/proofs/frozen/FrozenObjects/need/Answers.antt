@@ -2,7 +2,7 @@
 use Rattle.std.proofs.Common.{◌==◌, not}
 use Rattle.homeo_build.specs.inner.Frozen.{is_frozen_in}
 use Rattle.homeo_build.proofs.FrozenSteps.{nothing_needed, elsewhere_next}
-use Rattle.homeo_build.proofs.freezes.FrozenObjects.need.Goals as goal
+use Rattle.homeo_build.proofs.frozen.FrozenObjects.need.Goals as goal
 
 pub loop-delta-init : goal.loop-delta-init
 loop-delta-init c = λ x j. nothing_needed (is_frozen_in c.args.self.now x j) (not (j == c.args.site))

@@ -2,7 +2,7 @@
 use Rattle.std.proofs.Common.{ap, ◌++◌, ◌∙◌}
 use Rattle.homeo_build.specs.inner.Frozen.{frozen_from}
 use Rattle.homeo_build.proofs.FrozenSites.{objects_next, objects_end}
-use Rattle.homeo_build.proofs.freezes.FrozenObjects.deltas.Goals as goal
+use Rattle.homeo_build.proofs.frozen.FrozenObjects.deltas.Goals as goal
 
 pub loop-object-init : goal.loop-object-init
 loop-object-init c = ap (λ l. l ++ frozen_from c.args.sites 0 c.as_slice-frozen-items.result.now) c.new-deltas.ensures.items

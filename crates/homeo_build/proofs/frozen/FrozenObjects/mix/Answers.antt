@@ -1,7 +1,7 @@
 -- One atom more.
 use Rattle.homeo_build.specs.inner.Frozen.{is_frozen_in}
 use Rattle.homeo_build.proofs.FrozenSteps.{nothing_named, mixed_next}
-use Rattle.homeo_build.proofs.freezes.FrozenObjects.mix.Goals as goal
+use Rattle.homeo_build.proofs.frozen.FrozenObjects.mix.Goals as goal
 
 pub loop-atom-init : goal.loop-atom-init
 loop-atom-init c = λ x j. nothing_named (is_frozen_in c.args.self.now x j)

@@ -1,7 +1,7 @@
 -- The objects so far.
 use Rattle.std.proofs.Common.{◌≡◌, ℕ, ◌||◌, ◌&&◌, ◌==◌, not, take}
 use Rattle.homeo_build.specs.inner.Frozen.{is_frozen_in, names_object}
-use Rattle.homeo_build.proofs.freezes.FrozenObjects.need.Given as goal
+use Rattle.homeo_build.proofs.frozen.FrozenObjects.need.Given as goal
 
 abbrev pub invariant-loop-delta : goal.invariant-loop-delta
 invariant-loop-delta l =

@@ -2,7 +2,7 @@
 use Rattle.std.proofs.Common.{refl}
 use Rattle.homeo_build.specs.inner.Frozen.{is_frozen_in}
 use Rattle.homeo_build.proofs.FrozenSteps.{nothing_named, everywhere_next}
-use Rattle.homeo_build.proofs.freezes.FrozenObjects.freeze.Goals as goal
+use Rattle.homeo_build.proofs.frozen.FrozenObjects.freeze.Goals as goal
 
 pub loop-delta-init : goal.loop-delta-init
 loop-delta-init c = λ x j. nothing_named (is_frozen_in c.args.self.now x j)
