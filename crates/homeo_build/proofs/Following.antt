@@ -15,20 +15,16 @@ use Rattle.homeo_meaning.proofs.Within.{all_within}
 use Rattle.homeo_plan.specs.Key.{definitions as plan_definitions}
 use Rattle.homeo_plan.specs.Each.{Each}
 use Rattle.homeo_plan.specs.Limit.{form_limit}
-use Rattle.homeo_plan.specs.Needs.{remote}
-use Rattle.homeo_plan.specs.PlanView.{plain_atoms}
 use Rattle.homeo_plan.specs.Planned.{sites_of, planned_call}
-use Rattle.homeo_plan.specs.Template.{atoms_of, needs_of}
+use Rattle.homeo_plan.specs.Template.{atoms_of}
 use Rattle.homeo_plan.proofs.GroundForms.{ground_whole}
 use Rattle.homeo_plan.proofs.GroundNumbers.{values_small}
-use Rattle.homeo_follow.specs.Expanded.{expanded, expanded_deltas}
-use Rattle.homeo_follow.specs.Follow.{followed, needed}
-use Rattle.homeo_follow.proofs.Needed.{needs_are_followed}
+use Rattle.homeo_follow.specs.Expanded.{expanded}
+use Rattle.homeo_follow.specs.Follow.{followed}
 use Rattle.homeo_follow.proofs.PlannedAtoms.{atoms_are_followed}
 use Rattle.homeo_follow.proofs.Weighed.{accepted_small}
-use Rattle.homeo_linear.specs.declared.course.Followed.{Followed}
 use Rattle.homeo_build.specs.Forms.{IsCallForm}
-use Rattle.homeo_build.specs.inner.Followed.{IsSmallAlong, AreFollowed}
+use Rattle.homeo_build.specs.inner.Followed.{IsSmallAlong}
 use Rattle.homeo_build.proofs.FormsMade.{placed_map, one_placed}
 use Rattle.homeo_build.proofs.Grown.{same_length}
 
@@ -66,46 +62,26 @@ same_placed :
 same_placed f g xs ys n x y same l p h =
     one_placed (map f xs) n (f x) (g y) (placed_map f xs n x l p) (ap (λ zs. slice_get zs n) same ∙ placed_of g ys n y h)
 
-pub record FollowedHere (b : ℕ → ℤ) (f : Command) (m : Followed) : Type 0 where
-  pub atoms : plain_atoms m.atoms ≡ (followed b f).atoms
-  pub needs : m.needs.deltas.items ≡ needed b (followed b f)
-
-followed_here :
-    (b : ℕ → ℤ) (fs : List Command) (made : List Followed) (n : ℕ) (m : Followed) (f : Command) → AreFollowed b fs made → n < length made →
-    m ≡ get_or made n m → slice_get fs n ≡ Some f → FollowedHere b f m
-followed_here b fs made n m f are l is at =
-    record {
-      atoms = same_placed (λ (x : Followed). plain_atoms x.atoms) (λ c. (followed b c).atoms) made fs n m f are.atoms l is at;
-      needs = same_placed (λ (x : Followed). x.needs.deltas.items) (λ c. needed b (followed b c)) made fs n m f are.needs l is at;
-    }
-
-followed_count : (b : ℕ → ℤ) (fs : List Command) (made : List Followed) → AreFollowed b fs made → length made ≡ length fs
-followed_count b fs made are = same_length (λ (x : Followed). plain_atoms x.atoms) (λ c. (followed b c).atoms) made fs are.atoms
-
--- so where the lists are lent, and the place stands at a number
+-- so where the list is lent, and the place stands at a number
 module _
-    (b : ℕ → ℤ) (fs : List Command) (made lent : List Followed) (places ps : List ℕ) (i : ℕ) (are : AreFollowed b fs made) (same : lent ≡ made)
-    (placed : ps ≡ places) (below : slice_index_or places i 0 < length fs)
+    {X Z : Type 0} (f : X → Z) (h : Command → Z) (fs : List Command) (made lent : List X) (places ps : List ℕ) (i : ℕ) (are : map f made ≡ map h fs)
+    (same : lent ≡ made) (placed : ps ≡ places) (below : slice_index_or places i 0 < length fs)
   where
     within : slice_index_or places i 0 < length made
-    within = omega (arith, below, followed_count b fs made are)
+    within = omega (arith, below, same_length f h made fs are)
 
-    pub followed_within : slice_index_or ps i 0 < length lent
-    followed_within =
-        subst (λ (l : List Followed). slice_index_or ps i 0 < length l) (sym same)
+    pub place_within : slice_index_or ps i 0 < length lent
+    place_within =
+        subst (λ (l : List X). slice_index_or ps i 0 < length l) (sym same)
         (subst (λ (ns : List ℕ). slice_index_or ns i 0 < length made) (sym placed) within)
 
-    pub followed_there : (m : Followed) (f : Command) → m ≡ get_or lent (slice_index_or ps i 0) m → slice_get fs (slice_index_or places i 0) ≡ Some f → FollowedHere b f m
-    followed_there m f is at =
-        followed_here b fs made (slice_index_or places i 0) m f are within
-        (is ∙ ap₂ (λ (l : List Followed) (ns : List ℕ). get_or l (slice_index_or ns i 0) m) same placed) at
+    pub made_there : (m : X) (c : Command) → m ≡ get_or lent (slice_index_or ps i 0) m → slice_get fs (slice_index_or places i 0) ≡ Some c → f m ≡ h c
+    made_there m c is at =
+        same_placed f h made fs (slice_index_or places i 0) m c are within
+        (is ∙ ap₂ (λ (l : List X) (ns : List ℕ). get_or l (slice_index_or ns i 0) m) same placed) at
 
 -- ---- a ground call
 module _ (w : s.Workload) (g : Ground) (b : ℕ → ℤ) (site : g.site < sites_of w) where
   pub atoms_are : map (expanded (sites_of w)) (followed b (ground_form w g)).atoms ≡ atoms_of (sites_of w) b (planned_call w g)
   unfolding plan_definitions
   atoms_are = sym (atoms_are_followed (sites_of w) b (planned_call w g) site (ground_whole w g))
-
-  pub needs_are : remote g.site (expanded_deltas (sites_of w) (needed b (followed b (ground_form w g)))) ≡ needs_of (sites_of w) b (planned_call w g)
-  unfolding plan_definitions
-  needs_are = sym (needs_are_followed (sites_of w) b (planned_call w g) site (ground_whole w g))

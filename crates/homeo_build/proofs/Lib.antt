@@ -1,6 +1,9 @@
+pub mod ByObjects
 pub mod FewSites
 pub mod Following
 pub mod FormsMade
+mod FrozenSites
+mod FrozenSteps
 pub mod GroundCalls
 pub mod Grown
 pub mod PlanParts

@@ -1,4 +1,4 @@
-//! What ground calls bring to the plan of a round.
+//! The template of what ground calls bring.
 
 ghost use Rattle.std.specs.Prelude.{◌≡◌, ℕ, map, IfOk};
 ghost use Rattle.homeo_syntax.specs.LowView.{plain_lcommand};
@@ -10,60 +10,75 @@ ghost use Rattle.homeo_meaning.specs.Serial.{values_of};
 ghost use Rattle.homeo_meaning.specs.Small.{IsSmall};
 ghost use Rattle.homeo_plan.specs.Each.{Each};
 ghost use Rattle.homeo_plan.specs.Limit.{form_limit};
-ghost use Rattle.homeo_plan.specs.PlanView.{plain_atoms};
-ghost use Rattle.homeo_plan.specs.Planned.{sites_of, planned};
-ghost use Rattle.homeo_plan.specs.Template.{atoms_of, needs_of};
+ghost use Rattle.homeo_plan.specs.Linear.{AreInOrder};
+ghost use Rattle.homeo_plan.specs.PlanView.{plain_template};
+ghost use Rattle.homeo_plan.specs.Planned.{sites_of, template_at};
 ghost use Rattle.homeo_build.specs.inner.Followed.{IsSmallAlong, AreFollowed};
 
 use crate::compiled::Compiled;
-use crate::sites::site_count;
-use homeo_linear::{Followed, atoms_at_sites, follow_at, needs_elsewhere};
+use crate::frozen::FrozenObjects;
+use homeo_linear::follow_at;
 use homeo_meaning::Database;
-use homeo_plan::{AtomSet, FreezeSet};
-use homeo_syntax::{LCommand, Memory};
+use homeo_plan::{AtomSet, FreezeSet, Template};
+use homeo_syntax::{LCommand, List, Memory};
+use homeo_template::object_clauses;
 use std::alloc::Global;
 
-/// What the ground calls of a workload bring, in their order.
+/// What is asked and needed along each of some forms, in their order.
 #[derive(Drop)]
-pub(crate) struct CallPlans {
-    pub atoms: Vec<AtomSet>,
-    pub needs: Vec<FreezeSet>,
+struct FollowedForms {
+    atoms: Vec<AtomSet>,
+    needs: Vec<FreezeSet>,
 }
 
 /// What is asked and needed along each of these forms at a base.
-fn follow_forms(alloc: Global, forms: &[LCommand], base: &Database) -> Result<Vec<Followed>, Memory>
+fn follow_forms(alloc: Global, forms: &[LCommand], base: &Database) -> Result<FollowedForms, Memory>
     requires forms { Each (IsSmallAlong (values_of base.now.items)) (map plain_lcommand forms.now) }
     requires base { (x : ℕ) → IsSmall form_limit (values_of base.now.items x) }
-    ensures { IfOk result (λ made. AreFollowed (values_of base.now.items) (map plain_lcommand forms.now) made.items) }
+    ensures { IfOk result (λ made. AreFollowed (values_of base.now.items) (map plain_lcommand forms.now) made.atoms.items made.needs.items) }
 {
-    let mut followed = Vec::new(alloc);
-    for form in forms {
-        followed.push(follow_at(alloc, form, base)?)?;
-    }
-    Ok(followed)
-}
-
-/// What all ground calls ask and need at a base.
-pub(crate) fn plan_calls(alloc: Global, c: &Compiled, base: &Database) -> Result<CallPlans, Memory>
-    requires accepted { IsAccepted (plain_workload c.now) }
-    requires within { IsWithin (schema_of (plain_workload c.now)) base.now.items }
-    ensures atoms { IfOk result (λ p. map plain_atoms p.atoms.items ≡
-        map (atoms_of (sites_of (plain_workload c.now)) (values_of base.now.items)) (planned (plain_workload c.now))) }
-    ensures needs { IfOk result (λ p. map (λ f. f.deltas.items) p.needs.items ≡
-        map (needs_of (sites_of (plain_workload c.now)) (values_of base.now.items)) (planned (plain_workload c.now))) }
-{
-    let sites = site_count(c.workload());
-    let forms = c.forms();
-    let made = follow_forms(alloc, forms.forms.as_slice(), base)?;
-    let followed = made.as_slice();
-    let places = forms.places.as_slice();
     let mut atoms = Vec::new(alloc);
     let mut needs = Vec::new(alloc);
+    for form in forms {
+        let followed = follow_at(alloc, form, base)?;
+        atoms.push(followed.atoms)?;
+        needs.push(followed.needs)?;
+    }
+    Ok(FollowedForms { atoms, needs })
+}
+
+/// The template of what the ground calls ask and need at a base. Calls of one form ask the same, and need the same objects of
+/// other sites, so it is made over whole objects.
+pub(crate) fn template_of(
+    alloc: Global,
+    c: &Compiled,
+    base: &Database,
+    sites: u32,
+) -> Result<Template, Memory>
+    requires accepted { IsAccepted (plain_workload c.now) }
+    requires within { IsWithin (schema_of (plain_workload c.now)) base.now.items }
+    requires sites { sites ≡ sites_of (plain_workload c.now) }
+    ensures sites { IfOk result (λ t. t.sites ≡ sites) }
+    ensures template { IfOk result (λ t. plain_template t ≡ template_at (plain_workload c.now) base.now.items) }
+    ensures small { IfOk result (λ t. Each (λ c. IsSmall form_limit c.slack) (plain_template t).clauses) }
+    ensures order { IfOk result (λ t. AreInOrder t.freezes.items) }
+{
+    let forms = c.forms();
+    let followed = follow_forms(alloc, forms.forms.as_slice(), base)?;
+    let asked = followed.atoms.as_slice();
+    let needed = followed.needs.as_slice();
+    let places = forms.places.as_slice();
+    let clauses = object_clauses(alloc, asked, places, sites)?;
+    let mut frozen = FrozenObjects::new(alloc);
     for (i, call) in c.calls().iter().enumerate() {
         let place = places[i];
-        let form = &followed[place];
-        atoms.push(atoms_at_sites(alloc, &form.atoms, sites)?)?;
-        needs.push(needs_elsewhere(alloc, &form.needs, sites, call.site)?)?;
+        frozen.mix(asked[place].atoms.as_slice())?;
+        frozen.need(needed[place].deltas.as_slice(), call.site)?;
     }
-    Ok(CallPlans { atoms, needs })
+    let freezes = frozen.deltas(alloc, sites)?;
+    Ok(Template {
+        sites,
+        clauses,
+        freezes: List::from_vec(freezes),
+    })
 }

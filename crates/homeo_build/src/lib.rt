@@ -5,6 +5,8 @@ mod calls;
 pub mod compile;
 mod compiled;
 mod forms;
+mod freezes;
+mod frozen;
 pub mod laws;
 pub mod residuals;
 pub mod shares;

@@ -15,7 +15,7 @@ ghost use Rattle.homeo_plan.specs.declared.templates.Config.{Config};
 ghost use Rattle.homeo_plan.specs.Linear.{AreInOrder};
 ghost use Rattle.homeo_build.specs.Plan.{config_or, IsPlanOf};
 
-use crate::calls::plan_calls;
+use crate::calls::template_of;
 use crate::compiled::Compiled;
 use crate::shares::shares;
 use crate::sites::site_count;
@@ -23,7 +23,6 @@ use homeo_config::split_weighted;
 use homeo_meaning::Database;
 use homeo_plan::{Config, RoundPlan, Template};
 use homeo_syntax::{List, Memory};
-use homeo_template::template;
 use std::alloc::Global;
 
 /// The plan of the round that begins at a base (Roy et al., SIGMOD 2015). Of each ground call the row of its symbolic table
@@ -64,19 +63,6 @@ pub fn treaties(
         template,
         config,
     })
-}
-
-/// The template of what the ground calls bring.
-fn template_of(alloc: Global, c: &Compiled, base: &Database, sites: u32) -> Result<Template, Memory>
-    requires accepted { IsAccepted (plain_workload c.now) }
-    requires within { IsWithin (schema_of (plain_workload c.now)) base.now.items }
-    ensures sites { IfOk result (λ t. t.sites ≡ sites) }
-    ensures template { IfOk result (λ t. plain_template t ≡ template_at (plain_workload c.now) base.now.items) }
-    ensures small { IfOk result (λ t. Each (λ c. IsSmall form_limit c.slack) (plain_template t).clauses) }
-    ensures order { IfOk result (λ t. AreInOrder t.freezes.items) }
-{
-    let calls = plan_calls(alloc, c, base)?;
-    template(alloc, calls.atoms.as_slice(), calls.needs.as_slice(), sites)
 }
 
 /// The given configuration, or else the one by shares.

@@ -1,9 +1,8 @@
 mod Adding
-mod AtSites
 mod CheckedSteps
 mod Comparing
 mod Coursing
-mod DeltasInOrder
+pub mod DeltasInOrder
 mod FormParts
 mod FormSteps
 mod Gaining

@@ -154,7 +154,7 @@ pub fn remote_of(alloc: Global, site: u32, form: &Form) -> Result<Vec<Delta>, Me
     remote(alloc, site, deltas.as_slice())
 }
 
-pub(crate) fn remote(alloc: Global, site: u32, deltas: &[Delta]) -> Result<Vec<Delta>, Memory>
+fn remote(alloc: Global, site: u32, deltas: &[Delta]) -> Result<Vec<Delta>, Memory>
     ensures { IfOk result (λ v. v.items ≡ remote site deltas.now) }
 {
     let mut others = Vec::new(alloc);

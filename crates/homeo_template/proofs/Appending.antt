@@ -16,12 +16,12 @@ unfolding definitions
 clauses_push cs [] a = refl
 clauses_push cs (x ∷ atoms) a = clauses_push (with_clause cs x) atoms a
 
-clauses_append : (cs : List Clause) (atoms bs : List Linear) → clauses_from cs (atoms ++ bs) ≡ clauses_from (clauses_from cs atoms) bs
+pub clauses_append : (cs : List Clause) (atoms bs : List Linear) → clauses_from cs (atoms ++ bs) ≡ clauses_from (clauses_from cs atoms) bs
 unfolding definitions
 clauses_append cs [] bs = refl
 clauses_append cs (x ∷ atoms) bs = clauses_append (with_clause cs x) atoms bs
 
-atoms_push : (sets : List (List Linear)) (s : List Linear) → atoms_of_sets (sets ++ s ∷ []) ≡ atoms_of_sets sets ++ s
+pub atoms_push : (sets : List (List Linear)) (s : List Linear) → atoms_of_sets (sets ++ s ∷ []) ≡ atoms_of_sets sets ++ s
 unfolding definitions
 atoms_push [] s = append-nil s
 atoms_push (x ∷ sets) s = ap (λ l. x ++ l) (atoms_push sets s) ∙ sym (append_assoc x (atoms_of_sets sets) s)
@@ -36,7 +36,7 @@ unfolding definitions
 put_push [] ds out = refl
 put_push (x ∷ dss) ds out = put_push dss ds (add_deltas x out)
 
-put_append : (dss ess : List (List Delta)) (out : List Delta) → put_all (dss ++ ess) out ≡ put_all ess (put_all dss out)
+pub put_append : (dss ess : List (List Delta)) (out : List Delta) → put_all (dss ++ ess) out ≡ put_all ess (put_all dss out)
 unfolding definitions
 put_append [] ess out = refl
 put_append (x ∷ dss) ess out = put_append dss ess (add_deltas x out)

@@ -1,12 +1,12 @@
 -- Keys tell clauses apart as the definition does, and the set of them stays beside the clauses.
 use Rattle.homeo_plan.specs.Key.{definitions}
-use Rattle.std.proofs.Common.{◌≡◌, ℤ, Bool, true, false, cond, ◌&&◌, ◌==◌, List, [], ◌∷◌, ◌++◌, map, length, refl, ap, ap₂, ◌∙◌, arith}
-use Rattle.std.specs.Prelude.{neg_ℤ, ◌||◌, not, if◌then◌else◌}
+use Rattle.std.proofs.Common.{◌≡◌, ℕ, ◌≤◌, ℤ, Bool, true, false, cond, ◌&&◌, ◌==◌, List, [], ◌∷◌, ◌++◌, map, length, take, refl, ap, ap₂, ◌∙◌, arith}
+use Rattle.std.specs.Prelude.{neg_ℤ, ◌||◌, if◌then◌else◌}
 use Rattle.std.specs.Ordering.{int_eq}
 use Rattle.std.specs.List.{list_any}
 use Rattle.std.specs.Cmp.Lexicographic.{pointwise}
 use Rattle.std.proofs.lemmas.Bool.Decides.{nat_tests}
-use Rattle.std.proofs.lemmas.List.{map_push}
+use Rattle.std.proofs.lemmas.List.{map_push, take_all}
 use Rattle.homeo_syntax.specs.Listed.{Listed}
 use Rattle.homeo_plan.specs.declared.forms.Term.{Term}
 use Rattle.homeo_plan.specs.declared.forms.Linear as forms
@@ -50,24 +50,14 @@ any-keys k (j ∷ ks) = λ i. same-key k j i || any-keys k ks i
 abbrev pub after : template.Clause → List template.Clause → List template.Clause
 after c cs = if list_any (same_clause c) cs then cs else cs ++ c ∷ []
 
-pub clause_put :
-    (ks : List Key) (cs made : List Clause) (k : Key) (c : Clause) (is_new : Bool) → map clause_at ks ≡ map plain_clause cs →
-    clause_at k ≡ plain_clause c → is_new ≡ not (list_any (same_key k) ks) →
-    made ≡ (if is_new then cs ++ c ∷ [] else cs) → map plain_clause made ≡ after (plain_clause c) (map plain_clause cs)
-clause_put ks cs made k c is_new keys key new pushed =
-    ap (map plain_clause) (pushed ∙ ap (λ (b : Bool). if b then cs ++ c ∷ [] else cs) new)
-    ∙ go (list_any (same_key k) ks)
-    ∙ ap (λ (b : Bool). if b then map plain_clause cs else map plain_clause cs ++ plain_clause c ∷ []) there
+pub key_put : (ks : List Key) (k : Key) → map clause_at (if list_any (same_key k) ks then ks else ks ++ k ∷ []) ≡ after (clause_at k) (map clause_at ks)
+key_put ks k =
+    go (list_any (same_key k) ks)
+    ∙ ap (λ (b : Bool). if b then map clause_at ks else map clause_at ks ++ clause_at k ∷ []) (any-keys k ks)
   where
-    there : list_any (same_key k) ks ≡ list_any (same_clause (plain_clause c)) (map plain_clause cs)
-    there = any-keys k ks ∙ (λ i. list_any (same_clause (key i)) (keys i))
-
-    go :
-        (b : Bool) →
-        map plain_clause (if not b then cs ++ c ∷ [] else cs) ≡
-        (if b then map plain_clause cs else map plain_clause cs ++ plain_clause c ∷ [])
+    go : (b : Bool) → map clause_at (if b then ks else ks ++ k ∷ []) ≡ (if b then map clause_at ks else map clause_at ks ++ clause_at k ∷ [])
     go true = refl
-    go false = map_push plain_clause cs c
+    go false = map_push clause_at ks k
 
 -- ---- an atom's clause
 pub no_clause : (cs : List template.Clause) (a : Linear) → (length a.terms == 0) ≡ true → cs ≡ with_clause cs a
@@ -86,8 +76,19 @@ one_clause cs a e = go a.terms e
     go [] e = absurd (cc)
     go (t ∷ ts) e = refl
 
-pub made_clause :
-    (form : forms.Linear) (terms : Listed Term) (negated : ℤ) → terms.items ≡ form.terms.items → negated ≡ neg_ℤ form.constant →
-    plain_clause (record { terms = terms; slack = negated }) ≡ clause_of (plain_linear form)
+pub made_key :
+    (form : forms.Linear) (terms : List TermKey) (negated : ℤ) → map term_of terms ≡ form.terms.items → negated ≡ neg_ℤ form.constant →
+    let c : template.Clause = record { terms = map term_of terms; slack = negated } in c ≡ clause_of (plain_linear form)
 unfolding definitions
-made_clause form terms negated e f = λ i. let c : template.Clause = record { terms = e i; slack = f i } in c
+made_key form terms negated e f = λ i. let c : template.Clause = record { terms = e i; slack = f i } in c
+
+pub made_clause :
+    (key : Key) (terms : Listed Term) (slack : ℤ) → terms.items ≡ map term_of key.terms.items → slack ≡ key.slack →
+    plain_clause (record { terms = terms; slack = slack }) ≡ clause_at key
+made_clause key terms slack e f = λ i. let c : template.Clause = record { terms = e i; slack = f i } in c
+
+-- once all keys have their clauses
+pub all_clauses :
+    (keys : List Key) (made : List Clause) (n : ℕ) → length keys ≤ n → map plain_clause made ≡ map clause_at (take n keys) →
+    map plain_clause made ≡ map clause_at keys
+all_clauses keys made n h p = p ∙ ap (map clause_at) (take_all n keys h)

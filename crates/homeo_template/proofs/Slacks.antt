@@ -23,7 +23,7 @@ HasSmallConstant a = IsSmall form_limit a.constant
 abbrev HasSmallSlack : Clause → Type 0
 HasSmallSlack c = IsSmall form_limit c.slack
 
-small-slack : (a : Linear) → HasSmallConstant a → HasSmallSlack (clause_of a)
+pub small-slack : (a : Linear) → HasSmallConstant a → HasSmallSlack (clause_of a)
 unfolding definitions meaning_definitions
 small-slack a small = omega (arith, small, abs_neg a.constant)
 

@@ -1,2 +1,3 @@
 pub mod Frozen
 pub mod Keys
+pub mod Met

@@ -1,11 +1,14 @@
 //! What tells clauses apart.
 
-ghost use Rattle.std.specs.Prelude.{◌≡◌, map, IfOk};
-ghost use Rattle.homeo_plan.specs.PlanView.{plain_clause};
+ghost use Rattle.std.specs.Prelude.{◌≡◌, neg_ℤ, IfOk};
+ghost use Rattle.homeo_meaning.specs.Small.{IsSmall};
+ghost use Rattle.homeo_plan.specs.Limit.{form_limit};
+ghost use Rattle.homeo_plan.specs.PlanView.{plain_linear, plain_clause};
+ghost use Rattle.homeo_plan.specs.Template.{clause_of};
 ghost use Rattle.homeo_template.specs.inner.Keys.{term_of, clause_at};
 
-use homeo_plan::{Clause, Term};
-use homeo_syntax::Memory;
+use homeo_plan::{Clause, Delta, Linear, Term};
+use homeo_syntax::{List, Memory};
 use std::alloc::Global;
 
 /// A term, as a hash table takes it.
@@ -33,16 +36,52 @@ fn term_key(term: &Term) -> TermKey
     }
 }
 
-/// The key of a clause.
-pub(crate) fn key_of(alloc: Global, clause: &Clause) -> Result<Key, Memory>
-    ensures { IfOk result (λ k. clause_at k ≡ plain_clause clause.now) }
+/// The key of the clause of an atom with this form.
+pub(crate) fn key_of(alloc: Global, form: &Linear) -> Result<Key, Memory>
+    requires { IsSmall form_limit form.now.constant }
+    ensures { IfOk result (λ k. clause_at k ≡ clause_of (plain_linear form.now)) }
 {
-    let mut terms = Vec::new(alloc);
-    for term in clause.terms.as_slice() {
+    let given = form.terms.as_slice();
+    let mut terms = Vec::with_capacity(alloc, given.len())?;
+    for term in given {
         terms.push(term_key(term))?;
     }
     Ok(Key {
         terms,
-        slack: clause.slack,
+        slack: negated(form.constant),
+    })
+}
+
+fn negated(number: i128) -> i128
+    requires { IsSmall form_limit number }
+    ensures { result ≡ neg_ℤ number }
+{
+    -number
+}
+
+fn term_with(key: &TermKey) -> Term
+    ensures { result ≡ term_of key.now }
+{
+    Term {
+        delta: Delta {
+            object: key.object,
+            site: key.site,
+        },
+        factor: key.factor,
+    }
+}
+
+/// The clause that has a key.
+pub(crate) fn clause_with(alloc: Global, key: &Key) -> Result<Clause, Memory>
+    ensures { IfOk result (λ c. plain_clause c ≡ clause_at key.now) }
+{
+    let given = key.terms.as_slice();
+    let mut terms = Vec::with_capacity(alloc, given.len())?;
+    for term in given {
+        terms.push(term_with(term))?;
+    }
+    Ok(Clause {
+        terms: List::from_vec(terms),
+        slack: key.slack,
     })
 }

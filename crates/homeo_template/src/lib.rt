@@ -2,8 +2,11 @@
 #![tactic(auto)]
 
 mod clauses;
+mod expanding;
 mod freezes;
 mod joining;
 mod key;
+mod repeated;
 
 pub use joining::template;
+pub use repeated::object_clauses;

@@ -1,7 +1,6 @@
--- What tells clauses apart, and clauses beside their keys.
-use Rattle.std.specs.Prelude.{◌≡◌, List, map}
+-- What tells clauses apart, and the clauses that have keys.
+use Rattle.std.specs.Prelude.{List, map}
 use Rattle.homeo_plan.specs.declared.forms.Term.{Term}
-use Rattle.homeo_plan.specs.PlanView.{plain_clause}
 use Rattle.homeo_plan.specs.Template.{Clause}
 use Rattle.homeo_template.specs.declared.clauses.DistinctClauses.{DistinctClauses}
 use Rattle.homeo_template.specs.declared.key.TermKey.{TermKey}
@@ -15,8 +14,4 @@ abbrev pub clause_at : Key → Clause
 clause_at k = record { terms = map term_of k.terms.items; slack = k.slack }
 
 abbrev pub clauses_in : DistinctClauses → List Clause
-clauses_in d = map plain_clause d.clauses.items
-
--- the keys are those of the clauses, one for one
-abbrev pub AreKeys : DistinctClauses → Type 0
-AreKeys d = map clause_at d.keys.keys ≡ clauses_in d
+clauses_in d = map clause_at d.keys.keys

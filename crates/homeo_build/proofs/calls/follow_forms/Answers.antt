@@ -4,8 +4,8 @@ use Rattle.std.proofs.lemmas.List.{take_all}
 use Rattle.homeo_syntax.specs.LowView.{plain_lcommand}
 use Rattle.homeo_meaning.specs.Serial.{values_of}
 use Rattle.homeo_plan.specs.PlanView.{plain_atoms}
+use Rattle.homeo_plan.specs.declared.templates.FreezeSet.{FreezeSet}
 use Rattle.homeo_follow.specs.Follow.{followed, needed}
-use Rattle.homeo_linear.specs.declared.course.Followed.{Followed}
 use Rattle.homeo_build.specs.inner.Followed.{IsSmallAlong}
 use Rattle.homeo_build.proofs.Following.{each_here}
 use Rattle.homeo_build.proofs.Grown.{grown, map_map}
@@ -24,15 +24,15 @@ follow_at-requires-clause-left c =
 pub loop-form-preserved : goal.loop-form-preserved
 loop-form-preserved c =
     let b = values_of c.args.base.now.items in
-    let made = c.loop-form.followed.items in
     let so_far = c.loop-form.invariant in
     record {
       atoms =
-          grown (λ (m : Followed). plain_atoms m.atoms) (λ f. (followed b (plain_lcommand f)).atoms) made _ _ c.args.forms.now c.loop-form.form-index
-          c.form-item.result c.loop-form-test.true c.form-item.is c.in_ok-push.ensures.items so_far.atoms c.in_ok-follow_at.ensures.atoms;
+          grown plain_atoms (λ f. (followed b (plain_lcommand f)).atoms) c.loop-form.atoms.items _ _ c.args.forms.now c.loop-form.form-index
+          c.form-item.result c.loop-form-test.true c.form-item.is c.in_ok-push.ensures.items so_far.atoms c.in_ok-followed.ensures.atoms;
       needs =
-          grown (λ (m : Followed). m.needs.deltas.items) (λ f. needed b (followed b (plain_lcommand f))) made _ _ c.args.forms.now c.loop-form.form-index
-          c.form-item.result c.loop-form-test.true c.form-item.is c.in_ok-push.ensures.items so_far.needs c.in_ok-follow_at.ensures.needs;
+          grown (λ (f : FreezeSet). f.deltas.items) (λ f. needed b (followed b (plain_lcommand f))) c.loop-form.needs.items _ _ c.args.forms.now
+          c.loop-form.form-index c.form-item.result c.loop-form-test.true c.form-item.is c.in_ok-push-2.ensures.items so_far.needs
+          c.in_ok-followed.ensures.needs;
     }
 
 pub returns : goal.returns

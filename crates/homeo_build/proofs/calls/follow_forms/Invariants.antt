@@ -10,6 +10,6 @@ invariant-loop-form l =
     let b = values_of l.base.items in
     let forms = take l.form-index l.forms in
     record {
-      atoms : map (λ m. plain_atoms m.atoms) l.followed.items ≡ map (λ f. (followed b (plain_lcommand f)).atoms) forms;
-      needs : map (λ m. m.needs.deltas.items) l.followed.items ≡ map (λ f. needed b (followed b (plain_lcommand f))) forms;
+      atoms : map plain_atoms l.atoms.items ≡ map (λ f. (followed b (plain_lcommand f)).atoms) forms;
+      needs : map (λ f. f.deltas.items) l.needs.items ≡ map (λ f. needed b (followed b (plain_lcommand f))) forms;
     }

@@ -8,6 +8,9 @@ use Rattle.homeo_build.specs.Plan.{config_or}
 use Rattle.homeo_build.proofs.PlanParts.{has_slack, policy_is, config_fits}
 use Rattle.homeo_build.proofs.treaties.treaties.Goals as goal
 
+pub template_of-requires-clause-sites : goal.template_of-requires-clause-sites
+template_of-requires-clause-sites c = c.site_count-sites.ensures.sites ∙ ap (λ (v : Workload). sites_of (plain_workload v)) c.workload.ensures
+
 pub config_for-requires-clause-not_negative : goal.config_for-requires-clause-not_negative
 config_for-requires-clause-not_negative c =
     has_slack (plain_workload c.args.c.now) c.args.base.now.items (plain_template c.in_ok-template.template) c.in_ok-template.ensures.template

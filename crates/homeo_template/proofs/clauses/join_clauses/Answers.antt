@@ -4,13 +4,8 @@ use Rattle.homeo_template.proofs.Appending.{no-sets, sets_more}
 use Rattle.homeo_template.proofs.clauses.join_clauses.Goals as goal
 
 pub loop-set-init : goal.loop-set-init
-loop-set-init c = record { keys = c.new-distinct.ensures.keys; clauses = c.new-distinct.ensures.clauses ∙ no-sets }
+loop-set-init c = c.new-distinct.ensures ∙ no-sets
 
 pub loop-set-preserved : goal.loop-set-preserved
 loop-set-preserved c =
-    let so_far = c.loop-set.invariant in
-    let put = c.in_ok-put_all.ensures in
-    record {
-      keys = put.keys;
-      clauses = sets_more c.args.sets.now c.loop-set.set-index c.set-item.result c.loop-set-test.true c.set-item.is _ c.as_slice.ensures _ _ so_far.clauses put.clauses;
-    }
+    sets_more c.args.sets.now c.loop-set.set-index c.set-item.result c.loop-set-test.true c.set-item.is _ c.as_slice.ensures _ _ c.loop-set.invariant c.in_ok-put_all.ensures

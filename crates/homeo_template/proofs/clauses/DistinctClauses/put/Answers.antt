@@ -1,18 +1,18 @@
--- A form without terms gives no clause.
-use Rattle.std.proofs.Common.{◌==◌, length, ap, ◌∙◌, sym}
-use Rattle.std.proofs.lemmas.Result.{on_ok_weaker}
+-- A form without terms gives no clause, and a key that is there gives no new one.
+use Rattle.std.proofs.Common.{◌==◌, length, map, ap, ◌∙◌, sym}
 use Rattle.homeo_plan.specs.PlanView.{plain_linear}
-use Rattle.homeo_template.specs.inner.Keys.{clauses_in}
-use Rattle.homeo_template.proofs.Keys.{after, no_clause, one_clause}
+use Rattle.homeo_template.specs.inner.Keys.{clause_at, clauses_in}
+use Rattle.homeo_template.proofs.Keys.{after, key_put, no_clause, one_clause}
 use Rattle.homeo_template.proofs.clauses.DistinctClauses.put.Goals as goal
 
-pub returns-then-is_empty-clause-clauses : goal.returns-then-is_empty-clause-clauses
-returns-then-is_empty-clause-clauses c =
+pub returns-then-is_empty : goal.returns-then-is_empty
+returns-then-is_empty c =
     no_clause (clauses_in c.args.self.now) (plain_linear c.args.form.now)
     (ap (λ l. length l == 0) (sym c.as_slice.ensures) ∙ sym c.is_empty.ensures ∙ c.if-is_empty.true)
 
-pub returns-clause-clauses : goal.returns-clause-clauses
-returns-clause-clauses c =
+pub returns : goal.returns
+returns c =
     let cs = clauses_in c.args.self.now in
-    let one = one_clause cs (plain_linear c.args.form.now) (ap (λ l. length l == 0) (sym c.as_slice.ensures) ∙ sym c.is_empty.ensures ∙ c.if-is_empty.false) in
-    on_ok_weaker c.put_clause.result (λ e. e ∙ ap (λ k. after k cs) c.in_ok-clause.ensures ∙ one) c.put_clause.ensures.clauses
+    ap (map clause_at) c.in_ok-_is_new.ensures.keys ∙ key_put c.args.self.now.keys.keys c.in_ok-key.key
+    ∙ ap (λ k. after k cs) c.in_ok-key.ensures
+    ∙ one_clause cs (plain_linear c.args.form.now) (ap (λ l. length l == 0) (sym c.as_slice.ensures) ∙ sym c.is_empty.ensures ∙ c.if-is_empty.false)

@@ -1,0 +1,69 @@
+//! The distinct clauses of sets of atoms over whole objects, where a set may come again.
+
+ghost use Rattle.std.specs.Prelude.{◌≡◌, ◌<◌, [], length, map, IfOk, OnOk};
+ghost use Rattle.homeo_meaning.specs.Small.{IsSmall};
+ghost use Rattle.homeo_plan.specs.Each.{Each};
+ghost use Rattle.homeo_plan.specs.PlanView.{plain_atoms, plain_clause};
+ghost use Rattle.homeo_plan.specs.Template.{clauses_from, atoms_of_sets};
+ghost use Rattle.homeo_plan.specs.Limit.{form_limit};
+ghost use Rattle.homeo_follow.specs.ObjectTemplate.{expanded_clause};
+ghost use Rattle.homeo_template.specs.Places.{set_at};
+ghost use Rattle.homeo_template.specs.inner.Keys.{clauses_in};
+ghost use Rattle.homeo_template.specs.inner.Met.{AreMet};
+
+use crate::clauses::DistinctClauses;
+use crate::expanding::clauses_at_sites;
+use homeo_meaning::padded::{item_or, put};
+use homeo_plan::{AtomSet, Clause};
+use homeo_syntax::{List, Memory};
+use std::alloc::Global;
+
+/// The clauses of the sets of atoms over whole objects at these places, one place after another, over the deltas of so many
+/// sites: equal clauses stand once, where the first of them is. They are told apart over whole objects, and only the distinct
+/// ones are spread over the sites. A set whose place comes again brings no more, so it is passed over.
+///
+/// Each place is one of the sets'. No constant of an atom may be above 4 * 10^18 in size.
+///
+/// # Errors
+///
+/// `Memory` when out of memory.
+pub fn object_clauses(
+    alloc: Global,
+    sets: &[AtomSet],
+    places: &[usize],
+    sites: u32,
+) -> Result<List<Clause>, Memory>
+    requires places { Each (λ n. n < length sets.now) places.now }
+    requires small { Each (Each (λ a. IsSmall form_limit a.constant)) (map plain_atoms sets.now) }
+    ensures { IfOk result (λ cs. map plain_clause cs.items ≡ map (expanded_clause sites)
+        (clauses_from [] (atoms_of_sets (map (set_at (map plain_atoms sets.now)) places.now)))) }
+{
+    let mut distinct = DistinctClauses::new(alloc);
+    let mut met = Vec::new(alloc);
+    for place in places {
+        put_set(alloc, &mut distinct, &mut met, sets, *place)?;
+    }
+    clauses_at_sites(alloc, distinct.keys.as_slice(), sites)
+}
+
+/// Puts the clauses of the set at a place behind the others, unless its place was met.
+fn put_set(
+    alloc: Global,
+    distinct: &mut DistinctClauses,
+    met: &mut Vec<bool>,
+    sets: &[AtomSet],
+    place: usize,
+) -> Result<(), Memory>
+    requires place { place < length sets.now }
+    requires small { Each (Each (λ a. IsSmall form_limit a.constant)) (map plain_atoms sets.now) }
+    requires met { AreMet met.old.items (map plain_atoms sets.now) (clauses_in distinct.old) }
+    ensures met { OnOk result (AreMet met.new.items (map plain_atoms sets.now) (clauses_in distinct.new)) }
+    ensures clauses { OnOk result (clauses_in distinct.new ≡
+        clauses_from (clauses_in distinct.old) (set_at (map plain_atoms sets.now) place)) }
+{
+    if item_or(met.as_slice(), place, false) {
+        return Ok(());
+    }
+    distinct.put_all(alloc, sets[place].atoms.as_slice())?;
+    put(met, place, true, false)
+}
