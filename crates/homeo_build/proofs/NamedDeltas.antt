@@ -2,7 +2,7 @@
 use Rattle.homeo_meaning.specs.Key.{definitions as meaning_definitions}
 use Rattle.homeo_plan.specs.Key.{definitions as plan_definitions}
 use Rattle.homeo_follow.specs.Key.{definitions as follow_definitions}
-use Rattle.std.proofs.Common.{ℕ, zero, suc, ◌+◌, ◌==◌, ◌<◌, ◌≤◌, Bool, true, false, cond, List, [], ◌∷◌, ◌++◌, map, ℤ, pos, negsuc, int_lt, sym, subst, arith}
+use Rattle.std.proofs.Common.{ℕ, zero, suc, ◌+◌, ◌==◌, ◌<◌, ◌≤◌, Bool, true, false, cond, List, [], ◌∷◌, map, ℤ, pos, negsuc, int_lt, sym, subst, arith}
 use Rattle.homeo_syntax.specs.declared.phrase.Compare.{Compare}
 use Rattle.homeo_syntax.specs.declared.phrase.Compare.TheVariants.{Less, LessEqual, Equal}
 use Rattle.homeo_syntax.specs.declared.low.SplitName.{SplitName}
@@ -15,7 +15,7 @@ use Rattle.homeo_plan.specs.Atoms.{difference, true_comparison, false_comparison
 use Rattle.homeo_plan.specs.Each.{Each}
 use Rattle.homeo_plan.specs.declared.forms.Delta.{Delta}
 use Rattle.homeo_plan.specs.declared.forms.Term.{Term}
-use Rattle.homeo_plan.specs.Linear.{delta_of, Linear, deltas_of, constant_form, add_forms, scale_form, is_pure, support, mix_forms, multiply_forms, Forms, form, sum_form, product_form}
+use Rattle.homeo_plan.specs.Linear.{Linear, deltas_of, constant_form, add_forms, scale_form, is_pure, support, mix_forms, multiply_forms, Forms, form, sum_form, product_form}
 use Rattle.homeo_plan.specs.Needs.{remote}
 use Rattle.homeo_plan.specs.Template.{PlannedCall, atoms_of, needs_of}
 use Rattle.homeo_follow.specs.Expanded.{deltas_from, expanded_deltas, expanded}

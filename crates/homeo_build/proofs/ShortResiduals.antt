@@ -2,7 +2,7 @@
 use Rattle.homeo_meaning.specs.Key.{definitions as meaning_definitions}
 use Rattle.homeo_plan.specs.Key.{definitions as plan_definitions}
 use Rattle.homeo_build.specs.Key.{definitions}
-use Rattle.std.proofs.Common.{◌≡◌, ℕ, zero, suc, ◌+◌, ◌≤◌, Bool, true, false, cond, List, [], ◌∷◌, map, length, ℤ, Some, refl, sym, ap, ◌∙◌, subst, arith}
+use Rattle.std.proofs.Common.{◌≡◌, ℕ, zero, suc, ◌+◌, ◌≤◌, Bool, true, false, cond, List, [], ◌∷◌, map, length, ℤ, Some, refl, ap, subst, arith}
 use Rattle.std.specs.Prelude.{slice_get}
 use Rattle.std.proofs.lemmas.List.{length-map}
 use Rattle.homeo_syntax.specs.Key.{definitions as syntax_definitions}
@@ -18,7 +18,6 @@ use Rattle.homeo_meaning.specs.Serial.{values_of}
 use Rattle.homeo_plan.specs.declared.rows.Residual.{Residual}
 use Rattle.homeo_plan.specs.Each.{Each}
 use Rattle.homeo_plan.specs.Planned.{sites_of, planned}
-use Rattle.homeo_plan.specs.PlanView.{plain_residual}
 use Rattle.homeo_plan.specs.Split.{shift, shift_all, shift_cond}
 use Rattle.homeo_plan.specs.Table.{Row, test_before, otherwise, last_row, walk_before, walk_all_before}
 use Rattle.homeo_plan.specs.Template.{PlannedCall, shifted, base_row}

@@ -19,7 +19,7 @@ use Rattle.homeo_meaning.specs.Declarations.{declarations, place_of}
 use Rattle.homeo_meaning.specs.Ground.{ground_of_sited}
 use Rattle.homeo_meaning.specs.GlobalNames.{SitedCall, scope_of, transaction_at, called, sited_calls_of, sited_calls}
 use Rattle.homeo_meaning.specs.ListRules.{when, fault, each_from}
-use Rattle.homeo_meaning.specs.LowSizes.{Extent, call_extent}
+use Rattle.homeo_meaning.specs.LowSizes.{call_extent}
 use Rattle.homeo_meaning.specs.NumberRules.{site_faults, ground_calls}
 use Rattle.homeo_meaning.specs.Serial.{arguments}
 use Rattle.homeo_meaning.specs.SizeRules.{extent_of, too_large}
