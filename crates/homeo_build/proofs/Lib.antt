@@ -1,4 +1,6 @@
 pub mod ByObjects
+pub mod FewClauses
+pub mod FewFreezes
 pub mod FewSites
 pub mod Following
 pub mod FormsMade
@@ -6,8 +8,11 @@ mod FrozenSites
 mod FrozenSteps
 pub mod GroundCalls
 pub mod Grown
+pub mod NamedDeltas
 pub mod PlanParts
 pub mod Planning
+pub mod ShortResiduals
 pub mod SiteShares
+pub mod SizedCalls
 pub mod Undivided
 pub mod WrittenDeltas
