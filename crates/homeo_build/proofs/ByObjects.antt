@@ -198,12 +198,12 @@ module _ (w : s.Workload) (base : List ℤ) (accepted : IsAccepted w) (within : 
   template_is clauses freezes f are made frozen =
       let one : clauses ≡ (template_at w base).clauses = are ∙ sym made_by_objects.clauses in
       let two : freezes ≡ (template_at w base).freezes =
-          made
-          ∙ same_deltas (frozen_from (sites_of w) 0 f.objects.items) (template_at w base).freezes (frozen_in_order (sites_of w) 0 f.objects.items)
-          in_order
-          (λ d.
-          has_frozen (sites_of w) d f.objects.items ∙ ap (λ b. nat_lt d.site (sites_of w) && b) (frozen d.object d.site)
-          ∙ sym (made_by_objects.freezes d)) in
+      made
+      ∙ same_deltas (frozen_from (sites_of w) 0 f.objects.items) (template_at w base).freezes (frozen_in_order (sites_of w) 0 f.objects.items)
+      in_order
+      (λ d.
+      has_frozen (sites_of w) d f.objects.items ∙ ap (λ b. nat_lt d.site (sites_of w) && b) (frozen d.object d.site)
+      ∙ sym (made_by_objects.freezes d)) in
       λ i. let t : Template = record { clauses = one i; freezes = two i } in t
 
   pub small_slacks : (t : Template) → t ≡ template_at w base → Each (λ c. IsSmall form_limit c.slack) t.clauses
@@ -286,7 +286,7 @@ module _ (w : s.Workload) (b : ℕ → ℤ) where
       let g : PlannedCall = call_planned w call in
       let gs : List PlannedCall = map (call_planned w) (take i calls) in
       let tidy : Each IsTidy (followed b g.command).atoms =
-          (follows k g.site site b g.command (ground_whole w (plain_ground call)) (base_forms b) (object_forms b) (stands_at_base k g.site site b)).atoms.tidy in
+      (follows k g.site site b g.command (ground_whole w (plain_ground call)) (base_forms b) (object_forms b) (stands_at_base k g.site site b)).atoms.tidy in
       let objects : Each IsObject (needed b (followed b g.command)) = (objects_needed k b g site (ground_whole w (plain_ground call))).objects in
       need x j
       ∙ ap₂ ◌||◌

@@ -1,12 +1,11 @@
 -- Objects that are frozen at some sites, and their deltas there.
 use Rattle.homeo_plan.specs.Key.{definitions as plan_definitions}
-use Rattle.std.proofs.Common.{◌≡◌, ℕ, zero, suc, ◌+◌, ◌-◌, ◌<◌, ◌≤◌, ◌==◌, nat_lt, Bool, true, false, not, ◌||◌, ◌&&◌, List, [], ◌∷◌, ◌++◌, take, drop, get_or, length, refl, sym, ap, ap₂, ◌∙◌, add-one, append_assoc, append-nil, drop_of_length-le, arith}
+use Rattle.std.proofs.Common.{◌≡◌, ℕ, zero, suc, ◌+◌, ◌-◌, ◌<◌, ◌≤◌, ◌==◌, nat_lt, Bool, true, false, not, ◌||◌, ◌&&◌, List, [], ◌∷◌, ◌++◌, drop, get_or, length, refl, sym, ap, ap₂, ◌∙◌, add-one, append_assoc, append-nil, drop_of_length-le, arith}
 use Rattle.std.specs.Prelude.{slice_index_or, if◌then◌else◌}
-use Rattle.std.specs.List.{list_any}
 use Rattle.std.proofs.Math.Seq.{drop-cons}
 use Rattle.std.proofs.lemmas.Bool.Decides.{nat_tests}
 use Rattle.homeo_plan.specs.Each.{Each}
-use Rattle.homeo_plan.specs.Linear.{AreInOrder, same_delta, delta_before}
+use Rattle.homeo_plan.specs.Linear.{AreInOrder, delta_before}
 use Rattle.homeo_plan.specs.declared.forms.Delta.{Delta}
 use Rattle.homeo_follow.proofs.Deltas.{has, has_append}
 use Rattle.homeo_follow.proofs.Terms.{each_append}

@@ -1,33 +1,17 @@
 -- The parts of a plan: its template has small constants, and each configuration for it fits.
-use Rattle.std.proofs.Common.{◌≡◌, ◌<◌, List, [], map, length, get_or, All, ℤ, Option, Some, None, refl, sym, ap, ap₂, subst, ◌∙◌, arith}
-use Rattle.std.proofs.lemmas.List.{get_or-map, length-map}
+use Rattle.std.proofs.Common.{◌≡◌, List, ℤ, Option, Some, None, refl, sym, ap, subst}
 use Rattle.homeo_syntax.specs.Source as s
 use Rattle.homeo_meaning.specs.Acceptance.{IsAccepted}
-use Rattle.homeo_meaning.specs.Bounds.{IsWithin}
-use Rattle.homeo_meaning.specs.Ground.{Ground, grounds}
-use Rattle.homeo_meaning.specs.Schema.{schema_of}
 use Rattle.homeo_meaning.specs.Serial.{values_of}
-use Rattle.homeo_meaning.specs.Small.{IsSmall}
 use Rattle.homeo_plan.specs.Key.{definitions as plan_definitions}
 use Rattle.homeo_plan.specs.Config as config
-use Rattle.homeo_plan.specs.Each.{Each}
-use Rattle.homeo_plan.specs.FormSizes.{Numbers}
-use Rattle.homeo_plan.specs.Limit.{form_limit}
-use Rattle.homeo_plan.specs.Linear.{Linear}
-use Rattle.homeo_plan.specs.PlanView.{plain_atoms, plain_config}
-use Rattle.homeo_plan.specs.Planned.{sites_of, planned_call, planned, template_at, shares_of, policy}
-use Rattle.homeo_plan.specs.Template.{Template, atoms_of, needs_of, join_sets}
-use Rattle.homeo_plan.specs.declared.forms.AtomSet.{AtomSet}
-use Rattle.homeo_plan.specs.declared.forms.Delta.{Delta}
+use Rattle.homeo_plan.specs.PlanView.{plain_config}
+use Rattle.homeo_plan.specs.Planned.{sites_of, planned, template_at, shares_of, policy}
+use Rattle.homeo_plan.specs.Template.{Template}
 use Rattle.homeo_plan.specs.declared.templates.Config.{Config}
-use Rattle.homeo_plan.proofs.Covering.{each_map}
 use Rattle.homeo_plan.proofs.Policy.{slacks_law, policy_fits}
 use Rattle.homeo_build.specs.Key.{definitions}
 use Rattle.homeo_build.specs.Plan.{config_or}
-use Rattle.homeo_build.specs.inner.Planning.{CanCompile, CanPlan}
-use Rattle.homeo_build.proofs.GroundCalls.{can_compile}
-use Rattle.homeo_build.proofs.Grown.{map_map}
-use Rattle.homeo_build.proofs.Planning.{can_plan}
 
 -- ---- the template
 pub has_slack : (w : s.Workload) (base : List ℤ) (t : Template) → t ≡ template_at w base → config.HaveSlack t.clauses

@@ -1,5 +1,5 @@
 -- The template by objects.
-use Rattle.std.proofs.Common.{rules, ◌≡◌, ℕ, ◌<◌, List, [], map, length, sym, ap, ap₂, subst, ◌∙◌}
+use Rattle.std.proofs.Common.{rules, ℕ, ◌<◌, List, [], map, length, sym, ap, ap₂, subst, ◌∙◌}
 use Rattle.homeo_syntax.specs.LowView.{plain_lcommand}
 use Rattle.homeo_syntax.specs.SourceView.{plain_workload}
 use Rattle.homeo_syntax.specs.declared.low.LCommand.{LCommand}
@@ -7,11 +7,8 @@ use Rattle.homeo_meaning.specs.CallForm.{ground_form}
 use Rattle.homeo_meaning.specs.Ground.{plain_ground}
 use Rattle.homeo_meaning.specs.Serial.{values_of}
 use Rattle.homeo_plan.specs.Each.{Each}
-use Rattle.homeo_plan.specs.Linear.{Linear}
-use Rattle.homeo_plan.specs.PlanView.{plain_atom, plain_atoms, plain_clause}
-use Rattle.homeo_plan.specs.Planned.{sites_of}
+use Rattle.homeo_plan.specs.PlanView.{plain_atom, plain_atoms}
 use Rattle.homeo_plan.specs.Template.{Clause, clauses_from}
-use Rattle.homeo_plan.specs.declared.forms.Atom.{Atom}
 use Rattle.homeo_plan.specs.declared.forms.AtomSet.{AtomSet}
 use Rattle.homeo_plan.specs.declared.templates.FreezeSet.{FreezeSet}
 use Rattle.homeo_follow.specs.Follow.{followed, needed}

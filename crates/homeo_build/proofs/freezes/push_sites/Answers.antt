@@ -1,6 +1,5 @@
 -- One site more.
-use Rattle.std.proofs.Common.{◌++◌, ◌+◌, ◌-◌, [], ◌∷◌, ap, sym, ◌∙◌}
-use Rattle.homeo_build.specs.inner.Frozen.{frozen_sites}
+use Rattle.std.proofs.Common.{ap, sym, ◌∙◌}
 use Rattle.homeo_build.proofs.FrozenSites.{sites_begin, sites_next, sites_skip, sites_end}
 use Rattle.homeo_build.proofs.freezes.push_sites.Goals as goal
 use Rattle.homeo_build.proofs.freezes.push_sites.Goals.{then-is_at+in_ok-push, else-is_at}
