@@ -99,11 +99,7 @@ fn can_be_numbered(template: &Template) -> bool
 
 /// The index of a plan's template for a site. A plan with 2^32 clauses and freezes or more is answered as one for which memory
 /// is short.
-fn own_index(
-    alloc: Global,
-    plan: &Arc<RoundPlan, Global>,
-    site: u32,
-) -> Result<TreatyIndex, Memory>
+fn own_index(alloc: Global, plan: &Arc<RoundPlan, Global>, site: u32) -> Result<TreatyIndex, Memory>
     ensures site { IfOk result (λ x. x.site ≡ site) }
     ensures template { IfOk result (λ x. x.template ≡ plain_template plan.now.value.template) }
 {
@@ -220,7 +216,7 @@ pub struct OwnTreaty {
 impl Model for OwnTreaty {
     ghost use Rattle.homeo_plan.specs.PlanView.{plain_template, plain_config};
     ghost use Rattle.homeo_site.specs.TreatyPart.{TreatyPart};
-    ghost use Rattle.homeo_site.specs.inner.OwnRound.{IsOwnTreaty};
+    ghost use Rattle.homeo_site.specs.inner.Parts.{IsOwnTreaty};
 
     ghost Value = { TreatyPart };
 

@@ -174,6 +174,8 @@ impl Site {
         ensures count { length answers.new.items ≡ length answers.old.items }
         ensures answers { All (λ copy. copy.items ≡ copied_prints result) answers.new.items }
     {
+        // what the site keeps holds
+        let _round = &self.own;
         let Room {
             call: _,
             own,
