@@ -36,6 +36,10 @@ INNER = {
     "homeo_build": [],
     "homeo_effect": [],
 }
+# Crates that take minutes to prove, and would be proved once more for their wrong bodies: bench/wrong-bodies alone tries these.
+DEAR = ["homeo_syntax", "homeo_reader", "homeo_rules", "homeo_print", "homeo_forecast", "homeo_cert", "homeo_wire", "homeo_cluster"]
+# Those of which the gate tries what stands here, and nothing else.
+FIXED = {**INNER, **{crate: [] for crate in DEAR}}
 
 
 def edits_in(crate, part):
@@ -70,9 +74,9 @@ def check(verdict):
 
 def faults_of(crate):
     gated = [it.stem for it in edits_in(crate, GATED)]
-    wanted = INNER.get(crate)
+    wanted = FIXED.get(crate)
     if wanted is not None and gated != wanted:
-        yield f"{GATED}/ of an inner crate has {gated}, and not {wanted}"
+        yield f"{GATED}/ has {gated}, and not {wanted}"
     if len(gated) > MOST:
         yield f"{GATED}/ has {len(gated)}, more than {MOST}: the others belong in {OTHERS}/"
     for name in sorted({*gated} & {it.stem for it in edits_in(crate, OTHERS)}):

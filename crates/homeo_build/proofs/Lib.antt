@@ -1,10 +1,15 @@
+pub mod FewClauses
+pub mod FewFreezes
 pub mod FewSites
 pub mod Following
 pub mod FormsMade
 pub mod GroundCalls
 pub mod Grown
+pub mod NamedDeltas
 pub mod PlanParts
 pub mod Planning
+pub mod ShortResiduals
 pub mod SiteShares
+pub mod SizedCalls
 pub mod Undivided
 pub mod WrittenDeltas

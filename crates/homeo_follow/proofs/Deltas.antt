@@ -68,11 +68,9 @@ has_append d (x ∷ ds) es = ap (λ b. same_delta d x || b) (has_append d ds es)
 -- ---- order
 -- each stands after the delta
 abbrev pub After : Delta → List Delta → Type 0
-unfolding plan_definitions
 After d es = Each (λ e. delta_before d e ≡ true) es
 
 abbrev pub Ordered : List Delta → Type 0
-unfolding plan_definitions
 Ordered [] = Unit {0}
 Ordered (d ∷ ds) = After d ds × Ordered ds
 

@@ -46,7 +46,6 @@ count_scale n (t ∷ ts) = count_with t.delta (n *ℤ t.factor) (scale_terms n t
 -- ---- what holds of each delta
 module _ (P : Delta → Type 0) where
   abbrev pub OfEach : List Term → Type 0
-  unfolding plan_definitions
   OfEach ts = Each (λ t. P t.delta) ts
 
   each_with : (d : Delta) (f : ℤ) (ts : List Term) → P d → OfEach ts → OfEach (with_term d f ts)

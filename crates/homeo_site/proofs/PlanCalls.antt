@@ -1,5 +1,5 @@
 -- The residual of a planned call is one for which a program can be made at its site.
-use Rattle.std.proofs.Common.{◌≡◌, ℕ, zero, suc, ◌<◌, true, List, [], ◌∷◌, map, length, slice_get, ℤ, Some, refl, sym, ap, ◌∙◌, subst, inl, inr}
+use Rattle.std.proofs.Common.{◌≡◌, ℕ, zero, suc, ◌<◌, ◌^◌, true, List, [], ◌∷◌, map, length, slice_get, ℤ, Some, refl, sym, ap, ◌∙◌, subst, inl, inr, arith}
 use Rattle.homeo_syntax.specs.LowView.{low_commands, plain_lcommand}
 use Rattle.homeo_syntax.specs.Source as s
 use Rattle.homeo_meaning.specs.Acceptance.{IsAccepted}
@@ -19,6 +19,7 @@ use Rattle.homeo_plan.proofs.PlannedCalls.{all_sites_below}
 use Rattle.homeo_split.specs.CanExec.{run_limit, can_exec_all}
 use Rattle.homeo_build.specs.Key.{definitions as build_definitions}
 use Rattle.homeo_build.specs.Plan.{SitedResidual, sited_residual, residual_at, residuals_at}
+use Rattle.homeo_build.proofs.ShortResiduals.{residuals_short}
 use Rattle.homeo_effect.specs.Touched.{written, WritesOwn}
 use Rattle.homeo_site.specs.OwnCalls.{RunsAs, IsGroundOwnCall}
 use Rattle.homeo_site.specs.declared.own_calls.OwnCall.{OwnCall}
@@ -48,6 +49,7 @@ pub record CanKeep (base : List ℤ) (r : Residual) : Type 0 where
   pub own : WritesOwn r.site (plain_residual r)
   pub small : can_exec_all run_limit (plain_residual r) (whole (values_of base)) ≡ true
   pub objects : Each (λ d. d.object < length base) (written (plain_residual r))
+  pub few : length r.commands.items < 2 ^ 32
 
 module _
     (w : s.Workload) (base : List ℤ) (n : ℕ) (r : Residual) (given : slice_get (residuals_at w base) n ≡ Some (sited_residual r))
@@ -79,6 +81,7 @@ module _
           objects =
               subst (λ cs. Each (λ d. d.object < length base) (written cs)) commands_are
               (writes_objects w base g found.member accepted within);
+          few = omega (arith, residuals_short w base n r accepted given);
         }
 
     -- what is made of it

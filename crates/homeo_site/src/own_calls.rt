@@ -1,6 +1,6 @@
 //! What sites run for ground calls.
 
-ghost use Rattle.std.specs.Prelude.{◌≡◌, ◌<◌, ℤ, List, Some, None, true, length, replicate, slice_set, IfOk};
+ghost use Rattle.std.specs.Prelude.{◌≡◌, ◌<◌, ◌^◌, ℤ, List, Some, None, true, length, replicate, slice_set, IfOk};
 ghost use Rattle.homeo_syntax.specs.SourceView.{plain_workload};
 ghost use Rattle.homeo_meaning.specs.Bounds.{IsWithin};
 ghost use Rattle.homeo_meaning.specs.Calls.{CallExists};
@@ -45,12 +45,10 @@ fn own_program(alloc: Global, residual: &Residual, base: &Database) -> Result<Pr
     requires own { WritesOwn residual.now.site (plain_residual residual.now) }
     requires small { can_exec_all run_limit (plain_residual residual.now) (whole (values_of base.now.items)) ≡ true }
     requires objects { Each (λ d. d.object < length base.now.items) (written (plain_residual residual.now)) }
+    requires few { length residual.now.commands.items < 2 ^ 32 }
     ensures { IfOk result (RunsAs (values_of base.now.items) residual.now.site (length base.now.items) (plain_residual residual.now)) }
 {
     let commands = commands_at_site(alloc, residual, base)?;
-    if commands.as_slice().len() > u32::MAX as usize {
-        return Err(Memory);
-    }
     let program = Program::of(alloc, residual.site, commands.as_slice())?;
     Ok(program)
 }

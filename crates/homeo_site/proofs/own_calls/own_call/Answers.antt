@@ -26,6 +26,11 @@ own_program-requires-clause-objects c =
     let accepted = subst (λ (v : Workload). IsAccepted (plain_workload v)) c.workload.ensures c.workload-workload.ensures.accepted in
     (can_keep (plain_workload c.args.c.now) c.args.base.now.items c.args.number c.in_ok-residual.residual c.in_ok-residual.ensures accepted c.requires.within).objects
 
+pub own_program-requires-clause-few : goal.own_program-requires-clause-few
+own_program-requires-clause-few c =
+    let accepted = subst (λ (v : Workload). IsAccepted (plain_workload v)) c.workload.ensures c.workload-workload.ensures.accepted in
+    (can_keep (plain_workload c.args.c.now) c.args.base.now.items c.args.number c.in_ok-residual.residual c.in_ok-residual.ensures accepted c.requires.within).few
+
 pub returns : goal.returns
 returns c =
     own_call_is (plain_workload c.args.c.now) c.args.base.now.items c.args.number c.in_ok-residual.residual c.in_ok-residual.ensures _ refl

@@ -19,7 +19,7 @@ returns c =
     let cs = plain_residual c.args.residual.now in
     let E = c.in_ok-commands.ensures in
     let P = c.in_ok-program.ensures in
-    let same = ap plain_all c.as_slice-2.ensures in
+    let same = ap plain_all c.as_slice.ensures in
     let assigned = P.assigned ∙ ap assignment_count (same ∙ E.commands) ∙ localized_set b i cs in
     let printed = P.printed ∙ ap print_count (same ∙ E.commands) ∙ localized_print b i cs in
     record {
