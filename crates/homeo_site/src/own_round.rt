@@ -1,6 +1,6 @@
 //! What a site keeps of a round besides its deltas.
 
-ghost use Rattle.std.specs.Prelude.{◌≡◌, ◌<◌, List, ℤ, IfOk};
+ghost use Rattle.std.specs.Prelude.{◌≡◌, ◌+◌, ◌^◌, ◌<◌, List, length, ℤ, IfOk};
 ghost use Rattle.homeo_syntax.specs.SourceView.{plain_workload};
 ghost use Rattle.homeo_plan.specs.Planned.{sites_of, planned_at, policy};
 ghost use Rattle.homeo_plan.specs.PlanView.{plain_template, plain_config};
@@ -67,6 +67,7 @@ impl OwnParts {
         plan: &Arc<RoundPlan, Global>,
         site: u32,
     ) -> Result<OwnParts, Memory>
+        requires { length plan.now.value.template.clauses.items + length plan.now.value.template.freezes.items < 2 ^ 32 }
         ensures treaty { IfOk result (λ o. o.treaty.value ≡ record {
           site = site;
           template = plain_template plan.now.value.template;

@@ -1,7 +1,7 @@
 //! What a site keeps of a treaty: of each clause the terms on its own deltas and its own bound, and which clauses and freezes
 //! stand on each of its deltas.
 
-ghost use Rattle.std.specs.Prelude.{◌≡◌, ◌+◌, ◌^◌, ◌<◌, ◌≤◌, ◌+ℤ◌, ◌*ℤ◌, [], All, length, map, slice_index_or, IsTrue, IfOk, FitsSigned};
+ghost use Rattle.std.specs.Prelude.{◌≡◌, ◌+◌, ◌^◌, ◌<◌, ◌≤◌, ◌+ℤ◌, ◌*ℤ◌, [], All, length, map, slice_index_or, IfOk, FitsSigned};
 ghost use Rattle.std.specs.Int.{w128};
 ghost use Rattle.homeo_syntax.specs.LowView.{low_commands, plain_lcommand};
 ghost use Rattle.homeo_meaning.specs.Serial.{values_of};
@@ -13,7 +13,7 @@ ghost use Rattle.homeo_site.specs.OwnTreaty.{own_terms, own_sum, SumsFit, plain_
 
 use homeo_effect::TreatyIndex;
 use homeo_meaning::padded::item_or;
-use homeo_plan::{Broken, Clause, Config, Delta, RoundPlan, Template, Term};
+use homeo_plan::{Broken, Clause, Config, Delta, RoundPlan, Term};
 use homeo_syntax::{LCommand, List, Memory};
 use std::alloc::Global;
 use std::marker::Model;
@@ -86,27 +86,6 @@ fn own_clauses(
         own.push(OwnClause { terms, bound })?;
     }
     Ok(own)
-}
-
-/// Whether clauses and freezes are so few that their numbers fit.
-fn can_be_numbered(template: &Template) -> bool
-    ensures { IsTrue result → length template.now.clauses.items + length template.now.freezes.items < 2 ^ 32 }
-{
-    let clauses = template.clauses.as_slice().len();
-    let freezes = template.freezes.as_slice().len();
-    clauses <= u32::MAX as usize && freezes <= u32::MAX as usize - clauses
-}
-
-/// The index of a plan's template for a site. A plan with 2^32 clauses and freezes or more is answered as one for which memory
-/// is short.
-fn own_index(alloc: Global, plan: &Arc<RoundPlan, Global>, site: u32) -> Result<TreatyIndex, Memory>
-    ensures site { IfOk result (λ x. x.site ≡ site) }
-    ensures template { IfOk result (λ x. x.template ≡ plain_template plan.now.value.template) }
-{
-    if !can_be_numbered(&plan.template) {
-        return Err(Memory);
-    }
-    TreatyIndex::of(alloc, plan, site)
 }
 
 /// A sum with one more term's factor times delta.
@@ -236,6 +215,7 @@ impl OwnTreaty {
         plan: &Arc<RoundPlan, Global>,
         site: u32,
     ) -> Result<OwnTreaty, Memory>
+        requires { length plan.now.value.template.clauses.items + length plan.now.value.template.freezes.items < 2 ^ 32 }
         ensures { IfOk result (λ t. t ≡ record {
           site = site;
           template = plain_template plan.now.value.template;
@@ -243,7 +223,7 @@ impl OwnTreaty {
         }) }
     {
         let clauses = own_clauses(alloc, plan.template.clauses.as_slice(), &plan.config, site)?;
-        let index = own_index(alloc, plan, site)?;
+        let index = TreatyIndex::of(alloc, plan, site)?;
         Ok(OwnTreaty {
             site,
             plan: Arc::try_clone(plan)?,

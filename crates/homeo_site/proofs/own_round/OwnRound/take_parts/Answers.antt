@@ -2,6 +2,7 @@
 use Rattle.std.proofs.Common.{IfOk, IfSome, sym, ◌∙◌, subst}
 use Rattle.homeo_syntax.specs.SourceView.{plain_workload}
 use Rattle.homeo_syntax.specs.declared.workload.Workload.{Workload}
+use Rattle.homeo_build.proofs.FewFreezes.{plan_few}
 use Rattle.homeo_site.specs.OwnCalls.{AreOwnCalls}
 use Rattle.homeo_site.specs.SiteView.{StartValue}
 use Rattle.homeo_site.specs.inner.OwnRound.{AreParts}
@@ -26,3 +27,8 @@ returns-clause-parts c =
           (subst (λ (v : Workload). IfOk b.new.result (λ o. AreOwnCalls (plain_workload v) p.base.items o.calls)) b.deref.ensures
           (b.new.ensures.calls p.base.items)))
     ])
+
+pub new-requires : goal.new-requires
+new-requires c =
+    plan_few (plain_workload c.self.inside.compiled.value) c.self.inside.plan.value.base.items c.self.inside.plan.value c.self.invariant.accepted
+    c.self.invariant.plan
