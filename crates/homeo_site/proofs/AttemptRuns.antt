@@ -1,5 +1,5 @@
 -- The run of what is kept for a call, on the deltas of an attempt, is the call's local step on the site's state.
-use Rattle.std.proofs.Common.{◌≡◌, ℕ, ◌+◌, ◌<◌, ◌≤◌, true, List, [], ◌++◌, length, replicate, ℤ, pos, All, Option, sym, ap, ◌∙◌, subst}
+use Rattle.std.proofs.Common.{◌≡◌, ℕ, ◌+◌, ◌<◌, ◌≤◌, true, List, [], ◌++◌, length, replicate, ℤ, pos, All, Option, sym, ap, ap₂, ◌∙◌, subst}
 use Rattle.homeo_syntax.specs.Source.{Workload}
 use Rattle.homeo_syntax.specs.SourceView.{plain_workload}
 use Rattle.homeo_meaning.specs.declared.call.CallId.{CallId}
@@ -17,12 +17,14 @@ use Rattle.homeo_effect.specs.Touched.{written, touched_clauses, touched_freezes
 use Rattle.homeo_effect.specs.declared.program.Program.{Program}
 use Rattle.homeo_history.specs.Legal.{IsCallAt}
 use Rattle.homeo_history.specs.declared.history.Segment.{Segment}
+use Rattle.homeo_site.specs.Key.{definitions}
 use Rattle.homeo_site.specs.Attempts.{step_commands}
 use Rattle.homeo_site.specs.OwnCalls.{RunsAs}
 use Rattle.homeo_site.specs.OwnTreaty.{OwnClause, SumsFit, own_clauses}
 use Rattle.homeo_site.specs.SiteState.{SiteState, step_prints, step_deltas, step_finding}
 use Rattle.homeo_site.specs.SiteView.{StartValue, SiteValue}
 use Rattle.homeo_site.specs.Standing.{IsSite}
+use Rattle.homeo_site.specs.TreatyPart.{TreatyPart, part_at}
 use Rattle.homeo_site.specs.inner.Failures.{first_of, first_failure, own_failure, own_freeze_failure}
 use Rattle.homeo_site.specs.inner.Ready.{IsReady, with_deltas}
 use Rattle.homeo_site.proofs.OwnRuns as runs
@@ -75,40 +77,60 @@ module _
         all_prints v x s u is d here call old new none
         (e ∙ ap (λ ps. old ++ ps) (runs.run_prints w y site.accepted ready call at_site p own kept))
 
-    module _ (ns : List ℕ) (touched : ns ≡ touched_clauses (written (step_commands (plain_workload u.work) u.state call)) (template_at (plain_workload u.work) u.state.base)) where
-      pub clauses_below : All (λ n. n < length t.clauses) ns
-      clauses_below = runs.clause_numbers w y call ns (clauses_here v x s u is d here call ns touched)
+    -- the site's part of the treaty, where it is lent
+    module _ (z : TreatyPart) (lends_part : z ≡ part_at (plain_workload u.work) u.state.base u.state.number) where
+      part : part_at w v.base v.number ≡ z
+      part = ap (λ (r : SiteValue). part_at (plain_workload r.work) r.state.base r.state.number) is ∙ sym lends_part
 
-    module _ (ns : List ℕ) (touched : ns ≡ touched_freezes (written (step_commands (plain_workload u.work) u.state call)) (template_at (plain_workload u.work) u.state.base)) where
-      pub freezes_below : All (λ n. (length t.clauses ≤ n) × (n < length t.clauses + length t.freezes)) ns
-      freezes_below = runs.freeze_numbers w y call ns (freezes_here v x s u is d here call ns touched)
+      pub clauses_below :
+          (ns : List ℕ) → ns ≡ touched_clauses (written (step_commands (plain_workload u.work) u.state call)) (template_at (plain_workload u.work) u.state.base) →
+          All (λ n. n < length z.template.clauses) ns
+      unfolding definitions
+      clauses_below ns touched =
+          subst (λ (r : TreatyPart). All (λ n. n < length r.template.clauses) ns) part
+          (runs.clause_numbers w y call ns (clauses_here v x s u is d here call ns touched))
 
-    -- what a run leaves, where it is lent
-    module _
-        (kept new lent : List ℤ) (lends : lent ≡ new) (count : length new ≡ length d)
-        (left : (n : ℕ) → values_of new n ≡ (exec_all (plain_program p) (own_state p.site d kept)).state (DeltaAt n p.site))
-      where
-        pub sums_fit : All (λ (c : OwnClause). SumsFit c.terms (values_of lent)) (own_clauses v.number t.clauses (policy w v.base))
-        sums_fit =
-            subst (λ l. All (λ (c : OwnClause). SumsFit c.terms (values_of l)) (own_clauses v.number t.clauses (policy w v.base))) (sym lends)
-            (runs.run_fits w y site.accepted ready call at_site p own kept new count left)
+      pub freezes_below :
+          (ns : List ℕ) → ns ≡ touched_freezes (written (step_commands (plain_workload u.work) u.state call)) (template_at (plain_workload u.work) u.state.base) →
+          All (λ n. (length z.template.clauses ≤ n) × (n < length z.template.clauses + length z.template.freezes)) ns
+      unfolding definitions
+      freezes_below ns touched =
+          subst (λ (r : TreatyPart). All (λ n. (length r.template.clauses ≤ n) × (n < length r.template.clauses + length r.template.freezes)) ns) part
+          (runs.freeze_numbers w y call ns (freezes_here v x s u is d here call ns touched))
 
-        pub finding_is :
-            (found : Option Broken) (clauses freezes : List ℕ) →
-            clauses ≡ touched_clauses (written (step_commands (plain_workload u.work) u.state call)) (template_at (plain_workload u.work) u.state.base) →
-            freezes ≡ touched_freezes (written (step_commands (plain_workload u.work) u.state call)) (template_at (plain_workload u.work) u.state.base) →
-            found ≡
-            first_of (first_failure (own_failure (own_clauses v.number t.clauses (policy w v.base)) (values_of lent)) clauses)
-            (first_failure (own_freeze_failure (length t.clauses) v.number t.freezes (values_of lent)) freezes) →
-            found ≡ step_finding (plain_workload u.work) u.state call
-        finding_is found clauses freezes are_clauses are_freezes e =
-            e
-            ∙ ap
-            (λ (l : List ℤ). first_of (first_failure (own_failure (own_clauses v.number t.clauses (policy w v.base)) (values_of l)) clauses)
-            (first_failure (own_freeze_failure (length t.clauses) v.number t.freezes (values_of l)) freezes)) lends
-            ∙ runs.run_finding w y site.accepted ready call at_site p own kept new count left clauses freezes
-            (clauses_here v x s u is d here call clauses are_clauses) (freezes_here v x s u is d here call freezes are_freezes)
-            ∙ finding_here v x s u is d here call
+      -- what a run leaves, where it is lent
+      module _
+          (kept new lent : List ℤ) (lends : lent ≡ new) (count : length new ≡ length d)
+          (left : (n : ℕ) → values_of new n ≡ (exec_all (plain_program p) (own_state p.site d kept)).state (DeltaAt n p.site))
+        where
+          pub sums_fit : All (λ (c : OwnClause). SumsFit c.terms (values_of lent)) (own_clauses z.site z.template.clauses z.config)
+          unfolding definitions
+          sums_fit =
+              subst (λ (r : TreatyPart). All (λ (c : OwnClause). SumsFit c.terms (values_of lent)) (own_clauses r.site r.template.clauses r.config)) part
+              (subst (λ l. All (λ (c : OwnClause). SumsFit c.terms (values_of l)) (own_clauses v.number t.clauses (policy w v.base))) (sym lends)
+              (runs.run_fits w y site.accepted ready call at_site p own kept new count left))
 
-        pub deltas_are : new ≡ step_deltas (plain_workload u.work) u.state call
-        deltas_are = runs.run_deltas w y site.accepted ready call at_site p own kept new count left ∙ deltas_here v x s u is d here call
+          pub finding_is :
+              (found : Option Broken) (clauses freezes : List ℕ) →
+              clauses ≡ touched_clauses (written (step_commands (plain_workload u.work) u.state call)) (template_at (plain_workload u.work) u.state.base) →
+              freezes ≡ touched_freezes (written (step_commands (plain_workload u.work) u.state call)) (template_at (plain_workload u.work) u.state.base) →
+              found ≡
+              first_of (first_failure (own_failure (own_clauses z.site z.template.clauses z.config) (values_of lent)) clauses)
+              (first_failure (own_freeze_failure (length z.template.clauses) z.site z.template.freezes (values_of lent)) freezes) →
+              found ≡ step_finding (plain_workload u.work) u.state call
+          unfolding definitions
+          finding_is found clauses freezes are_clauses are_freezes e =
+              e
+              ∙ ap₂
+              (λ (r : TreatyPart) (l : List ℤ). first_of (first_failure (own_failure (own_clauses r.site r.template.clauses r.config) (values_of l)) clauses)
+              (first_failure (own_freeze_failure (length r.template.clauses) r.site r.template.freezes (values_of l)) freezes)) (sym part) lends
+              ∙ runs.run_finding w y site.accepted ready call at_site p own kept new count left clauses freezes
+              (clauses_here v x s u is d here call clauses are_clauses) (freezes_here v x s u is d here call freezes are_freezes)
+              ∙ finding_here v x s u is d here call
+
+    pub deltas_are :
+        (kept new : List ℤ) → length new ≡ length d →
+        ((n : ℕ) → values_of new n ≡ (exec_all (plain_program p) (own_state p.site d kept)).state (DeltaAt n p.site)) →
+        new ≡ step_deltas (plain_workload u.work) u.state call
+    deltas_are kept new count left =
+        runs.run_deltas w y site.accepted ready call at_site p own kept new count left ∙ deltas_here v x s u is d here call

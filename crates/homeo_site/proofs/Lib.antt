@@ -11,6 +11,7 @@ pub mod OwnLookups
 pub mod OwnRuns
 pub mod OwnSums
 pub mod OwnTerms
+pub mod PartsMade
 pub mod PlanCalls
 pub mod SiteAttempts
 pub mod SiteRooms

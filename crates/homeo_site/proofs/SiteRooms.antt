@@ -15,6 +15,7 @@ use Rattle.homeo_site.specs.Attempts.{step_commands}
 use Rattle.homeo_site.specs.OwnCalls.{RunsAs, IsOwnCall}
 use Rattle.homeo_site.specs.SiteView.{StartValue, SiteValue}
 use Rattle.homeo_site.specs.Standing.{state_in}
+use Rattle.homeo_site.specs.TreatyPart.{TreatyPart, part_at}
 use Rattle.homeo_site.specs.declared.own_calls.OwnCall.{OwnCall}
 use Rattle.homeo_site.proofs.OwnLookups.{own_runs, own_writes}
 use Rattle.homeo_site.proofs.SiteViews.{value_in}
@@ -34,27 +35,26 @@ module _
     unfolding definitions
     room_runs = own_runs w v.base v.number call at o own
 
-    -- its commands, where they are lent, and what the site keeps of the round is as before
-    module _ (lent : List LCommand) (same : lent ≡ o.commands.items) (y : StartValue) (still : y ≡ v) where
+    -- its commands, where they are lent, and the site's part of the treaty, where that is lent
+    module _ (lent : List LCommand) (same : lent ≡ o.commands.items) (y : TreatyPart) (part : y ≡ part_at w v.base v.number) where
       commands : low_commands (map plain_lcommand lent) ≡ step_commands w (state_in v x s) call
       unfolding definitions
       commands = ap (λ cs. low_commands (map plain_lcommand cs)) same ∙ own.commands
 
-      pub room_writes : WritesOwn y.number (low_commands (map plain_lcommand lent))
+      pub room_writes : WritesOwn y.site (low_commands (map plain_lcommand lent))
+      unfolding definitions
       room_writes =
-          subst (λ (z : StartValue). WritesOwn z.number (low_commands (map plain_lcommand lent))) (sym still)
+          subst (λ (z : TreatyPart). WritesOwn z.site (low_commands (map plain_lcommand lent))) (sym part)
           (subst (λ cs. WritesOwn v.number (low_commands (map plain_lcommand cs))) (sym same) (own_writes w v.base v.number call at o own))
 
       pub room_clauses :
-          (ns : List ℕ) → ns ≡ touched_clauses (written (low_commands (map plain_lcommand lent))) (template_at (plain_workload y.work) y.base) →
+          (ns : List ℕ) → ns ≡ touched_clauses (written (low_commands (map plain_lcommand lent))) y.template →
           ns ≡ touched_clauses (written (step_commands w (state_in v x s) call)) (template_at w v.base)
-      room_clauses ns touched =
-          touched
-          ∙ ap₂ (λ cs (z : StartValue). touched_clauses (written cs) (template_at (plain_workload z.work) z.base)) commands still
+      unfolding definitions
+      room_clauses ns touched = touched ∙ ap₂ (λ cs (z : TreatyPart). touched_clauses (written cs) z.template) commands part
 
       pub room_freezes :
-          (ns : List ℕ) → ns ≡ touched_freezes (written (low_commands (map plain_lcommand lent))) (template_at (plain_workload y.work) y.base) →
+          (ns : List ℕ) → ns ≡ touched_freezes (written (low_commands (map plain_lcommand lent))) y.template →
           ns ≡ touched_freezes (written (step_commands w (state_in v x s) call)) (template_at w v.base)
-      room_freezes ns touched =
-          touched
-          ∙ ap₂ (λ cs (z : StartValue). touched_freezes (written cs) (template_at (plain_workload z.work) z.base)) commands still
+      unfolding definitions
+      room_freezes ns touched = touched ∙ ap₂ (λ cs (z : TreatyPart). touched_freezes (written cs) z.template) commands part

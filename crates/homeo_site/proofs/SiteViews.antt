@@ -19,6 +19,7 @@ use Rattle.homeo_site.specs.SiteState.{SiteHolds, begun}
 use Rattle.homeo_site.specs.SiteView.{StartValue, SiteValue}
 use Rattle.homeo_site.specs.declared.attempts.Room.{Room}
 use Rattle.homeo_site.specs.Standing.{IsStart, IsSite, state_in}
+use Rattle.homeo_site.specs.TreatyPart.{part_at}
 use Rattle.homeo_site.proofs.SitesHold.{begun_holds}
 
 -- the value of a site with these parts
@@ -83,16 +84,17 @@ pub room_is :
     temporaries ≡ assignment_count (step_commands (plain_workload v.work) (state_in v x s) call) →
     prints ≡ print_count (step_commands (plain_workload v.work) (state_in v x s) call) → r.call ≡ call →
     RunsAs (values_of v.base) v.number (length v.base) (step_commands (plain_workload v.work) (state_in v x s) call) r.own.value.program →
-    r.deltas.items ≡ x →
+    r.treaty.value ≡ part_at (plain_workload v.work) v.base v.number → r.deltas.items ≡ x →
     r.prints ≡ record { items = []; spare = prints } → r.temporaries.items ≡ replicate temporaries (pos 0) →
     r.clauses.items ≡ touched_clauses (written (step_commands (plain_workload v.work) (state_in v x s) call)) (template_at (plain_workload v.work) v.base) →
     r.freezes.items ≡ touched_freezes (written (step_commands (plain_workload v.work) (state_in v x s) call)) (template_at (plain_workload v.work) v.base) →
     IsRoom (plain_workload u.work) u.state call r
-room_is v x s u call r temporaries prints is assigned printed name own deltas empty zeros clauses freezes =
+room_is v x s u call r temporaries prints is assigned printed name own treaty deltas empty zeros clauses freezes =
     subst (λ (y : SiteValue). IsRoom (plain_workload y.work) y.state call r) is
     (record {
       call = name;
       own = own;
+      treaty = treaty;
       deltas = deltas;
       prints = ap (λ (l : Listed ℤ). l.items) empty;
       temporaries = zeros ∙ ap (λ n. replicate n (pos 0)) assigned;

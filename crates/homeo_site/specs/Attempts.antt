@@ -12,6 +12,7 @@ use Rattle.homeo_effect.specs.Touched.{written, touched_clauses, touched_freezes
 use Rattle.homeo_site.specs.Key.{definitions}
 use Rattle.homeo_site.specs.OwnCalls.{RunsAs}
 use Rattle.homeo_site.specs.SiteState.{SiteState, KeepsCall, step_prints, step_deltas, step_finding}
+use Rattle.homeo_site.specs.TreatyPart.{part_at}
 use Rattle.homeo_site.specs.declared.attempts.Change.{Change}
 use Rattle.homeo_site.specs.declared.attempts.Outcome.{Outcome}
 use Rattle.homeo_site.specs.declared.attempts.Outcome.TheVariants.{Keeps, Breaks}
@@ -36,11 +37,12 @@ abbrev pub step_commands : s.Workload → SiteState → CallId → Commands
 unfolding definitions
 step_commands w x call = (base_row (sites_of w) (values_of x.base) (planned_at w call)).residual
 
--- room for a call: what the site runs for it, the site's deltas, no prints, a 0 for each assignment, room for each print, and the
--- numbers of what the call touches of the template
+-- room for a call: what the site runs for it, the site's part of the treaty, the site's deltas, no prints, a 0 for each assignment,
+-- room for each print, and the numbers of what the call touches of the template
 pub record IsRoom (w : s.Workload) (x : SiteState) (id : CallId) (r : Room) : Type 0 where
   pub call : r.call ≡ id
   pub own : RunsAs (values_of x.base) x.number (length x.base) (step_commands w x id) r.own.value.program
+  pub treaty : r.treaty.value ≡ part_at w x.base x.number
   pub deltas : r.deltas.items ≡ x.deltas
   pub prints : r.prints.items ≡ []
   pub temporaries : r.temporaries.items ≡ replicate (assignment_count (step_commands w x id)) (pos 0)

@@ -1,3 +1,4 @@
 pub mod Failures
 pub mod OwnRound
+pub mod Parts
 pub mod Ready

@@ -1,6 +1,7 @@
 //! What attempts of calls come to, and the room that they take.
 
 use crate::own_calls::OwnCall;
+use crate::own_treaty::OwnTreaty;
 use homeo_meaning::{CallId, Database};
 use homeo_plan::Broken;
 use homeo_syntax::{List, Numbers, Prints};
@@ -32,6 +33,8 @@ pub struct Room {
     pub call: CallId,
     /// What the site runs for it.
     pub own: Arc<OwnCall, Global>,
+    /// The site's part of the round's treaty.
+    pub treaty: Arc<OwnTreaty, Global>,
     /// The site's deltas before the call, one for each object.
     pub deltas: Database,
     /// No prints, with room for those of the call.

@@ -1,19 +1,22 @@
 //! What a site keeps of a treaty: of each clause the terms on its own deltas and its own bound, and which clauses and freezes
 //! stand on each of its deltas.
 
-ghost use Rattle.std.specs.Prelude.{◌≡◌, ◌+◌, ◌^◌, ◌<◌, ◌≤◌, ◌+ℤ◌, ◌*ℤ◌, [], All, length, map, slice_index_or, IsTrue, IfOk, FitsSigned};
+ghost use Rattle.std.specs.Prelude.{◌≡◌, ◌+◌, ◌^◌, ◌<◌, ◌≤◌, ◌+ℤ◌, ◌*ℤ◌, [], All, length, map, slice_index_or, IfOk, FitsSigned};
 ghost use Rattle.std.specs.Int.{w128};
+ghost use Rattle.homeo_syntax.specs.LowView.{low_commands, plain_lcommand};
 ghost use Rattle.homeo_meaning.specs.Serial.{values_of};
 ghost use Rattle.homeo_plan.specs.PlanView.{plain_clause, plain_config, plain_template};
 ghost use Rattle.homeo_plan.specs.Treaty.{bound_at};
-ghost use Rattle.homeo_site.specs.inner.Failures.{sum_failure, freeze_failure, first_failure, own_failure, own_freeze_failure};
+ghost use Rattle.homeo_effect.specs.Touched.{WritesOwn, written, touched_clauses, touched_freezes};
+ghost use Rattle.homeo_site.specs.inner.Failures.{sum_failure, freeze_failure, first_of, first_failure, own_failure, own_freeze_failure};
 ghost use Rattle.homeo_site.specs.OwnTreaty.{own_terms, own_sum, SumsFit, plain_own, own_clauses};
 
 use homeo_effect::TreatyIndex;
 use homeo_meaning::padded::item_or;
-use homeo_plan::{Broken, Clause, Config, Delta, RoundPlan, Template, Term};
-use homeo_syntax::{List, Memory};
+use homeo_plan::{Broken, Clause, Config, Delta, RoundPlan, Term};
+use homeo_syntax::{LCommand, List, Memory};
 use std::alloc::Global;
+use std::marker::Model;
 use std::sync::Arc;
 
 /// A factor, and the object of the own delta that is taken by it.
@@ -67,7 +70,7 @@ fn bound_of(config: &Config, clause: usize, site: u32) -> i128
 
 /// What a site keeps of clauses, one for each.
 #[tactic(auto, unfolding(crate::specs::Key::definitions))]
-pub(crate) fn own_clauses(
+fn own_clauses(
     alloc: Global,
     clauses: &[Clause],
     config: &Config,
@@ -85,31 +88,6 @@ pub(crate) fn own_clauses(
     Ok(own)
 }
 
-/// Whether clauses and freezes are so few that their numbers fit.
-fn can_be_numbered(template: &Template) -> bool
-    ensures { IsTrue result → length template.now.clauses.items + length template.now.freezes.items < 2 ^ 32 }
-{
-    let clauses = template.clauses.as_slice().len();
-    let freezes = template.freezes.as_slice().len();
-    clauses <= u32::MAX as usize && freezes <= u32::MAX as usize - clauses
-}
-
-/// The index of a plan's template for a site. A plan with 2^32 clauses and freezes or more is answered as one for which memory
-/// is short.
-pub(crate) fn own_index(
-    alloc: Global,
-    plan: &Arc<RoundPlan, Global>,
-    site: u32,
-) -> Result<TreatyIndex, Memory>
-    ensures site { IfOk result (λ x. x.site ≡ site) }
-    ensures template { IfOk result (λ x. x.template ≡ plain_template plan.now.value.template) }
-{
-    if !can_be_numbered(&plan.template) {
-        return Err(Memory);
-    }
-    TreatyIndex::of(alloc, plan, site)
-}
-
 /// A sum with one more term's factor times delta.
 fn with_term(sum: i128, term: OwnTerm, deltas: &[i64]) -> i128
     requires product { FitsSigned w128 (term.factor *ℤ values_of deltas.now term.object) }
@@ -122,7 +100,7 @@ fn with_term(sum: i128, term: OwnTerm, deltas: &[i64]) -> i128
 
 /// The sum of factor times delta.
 #[tactic(auto, using(crate::proofs::OwnTerms::all_sum), unfolding(crate::specs::Key::definitions))]
-pub(crate) fn own_sum(terms: &[OwnTerm], deltas: &[i64]) -> i128
+fn own_sum(terms: &[OwnTerm], deltas: &[i64]) -> i128
     requires { SumsFit terms.now (values_of deltas.now) }
     ensures { result ≡ own_sum terms.now (values_of deltas.now) }
 {
@@ -152,7 +130,7 @@ fn clause_failure(clause: &OwnClause, number: u32, deltas: &[i64]) -> Option<Bro
 }
 
 /// The first that fails of the clauses of these numbers.
-pub(crate) fn first_clause(clauses: &[OwnClause], numbers: &[u32], deltas: &[i64]) -> Option<Broken>
+fn first_clause(clauses: &[OwnClause], numbers: &[u32], deltas: &[i64]) -> Option<Broken>
     requires numbers { All (λ n. n < length clauses.now) numbers.now }
     requires fit { All (λ c. SumsFit c.terms.items (values_of deltas.now)) clauses.now }
     ensures { result ≡ first_failure (own_failure (map plain_own clauses.now) (values_of deltas.now)) numbers.now }
@@ -184,7 +162,7 @@ fn freeze_failure(freeze: Delta, site: u32, number: u32, deltas: &[i64]) -> Opti
 }
 
 /// The first that fails of the freezes of these numbers, where the first of all freezes has the given one.
-pub(crate) fn first_freeze(
+fn first_freeze(
     freezes: &[Delta],
     first: usize,
     numbers: &[u32],
@@ -202,4 +180,104 @@ pub(crate) fn first_freeze(
         }
     }
     None
+}
+
+/// A site's part of the treaty of a round: the plan that all sites share, of each clause the terms on the site's deltas and its
+/// bound, and which clauses and freezes stand on each of these deltas.
+#[derive(Drop)]
+pub struct OwnTreaty {
+    site: u32,
+    plan: Arc<RoundPlan, Global>,
+    clauses: List<OwnClause>,
+    index: TreatyIndex,
+}
+
+impl Model for OwnTreaty {
+    ghost use Rattle.homeo_plan.specs.PlanView.{plain_template, plain_config};
+    ghost use Rattle.homeo_site.specs.TreatyPart.{TreatyPart};
+    ghost use Rattle.homeo_site.specs.inner.Parts.{IsOwnTreaty};
+
+    ghost Value = { TreatyPart };
+
+    ghost view = { λ t. record {
+      site = t.site;
+      template = plain_template t.plan.value.template;
+      config = plain_config t.plan.value.config;
+    } };
+
+    ghost invariant = { λ t. IsOwnTreaty t.plan.value t.site t.clauses.items t.index };
+}
+
+impl OwnTreaty {
+    /// The part of a site, from a round's plan, in about the time and the memory of the plan's length.
+    pub(crate) fn of(
+        alloc: Global,
+        plan: &Arc<RoundPlan, Global>,
+        site: u32,
+    ) -> Result<OwnTreaty, Memory>
+        requires { length plan.now.value.template.clauses.items + length plan.now.value.template.freezes.items < 2 ^ 32 }
+        ensures { IfOk result (λ t. t ≡ record {
+          site = site;
+          template = plain_template plan.now.value.template;
+          config = plain_config plan.now.value.config;
+        }) }
+    {
+        let clauses = own_clauses(alloc, plan.template.clauses.as_slice(), &plan.config, site)?;
+        let index = TreatyIndex::of(alloc, plan, site)?;
+        Ok(OwnTreaty {
+            site,
+            plan: Arc::try_clone(plan)?,
+            clauses,
+            index,
+        })
+    }
+
+    /// What of the treaty commands of the site touch: the numbers of the clauses with a term on a delta that they write, and those
+    /// of the freezes that they write, rising.
+    pub(crate) fn touched(
+        &self,
+        alloc: Global,
+        commands: &[LCommand],
+    ) -> Result<(List<u32>, List<u32>), Memory>
+        requires { WritesOwn self.now.site (low_commands (map plain_lcommand commands.now)) }
+        ensures clauses { IfOk result (λ r. r.0.items ≡
+            touched_clauses (written (low_commands (map plain_lcommand commands.now))) self.now.template) }
+        ensures freezes { IfOk result (λ r. r.1.items ≡
+            touched_freezes (written (low_commands (map plain_lcommand commands.now))) self.now.template) }
+    {
+        let clauses = self.index.clauses_touched(alloc, commands)?;
+        let freezes = self.index.freezes_touched(alloc, commands)?;
+        Ok((clauses, freezes))
+    }
+
+    /// The first that fails of clauses and freezes of these numbers, where the site has these deltas.
+    pub(crate) fn first_failure(
+        &self,
+        clauses: &[u32],
+        freezes: &[u32],
+        deltas: &[i64],
+    ) -> Option<Broken>
+        requires clauses { All (λ n. n < length self.now.template.clauses) clauses.now }
+        requires freezes { let t = self.now.template in
+            All (λ n. (length t.clauses ≤ n) × (n < length t.clauses + length t.freezes)) freezes.now }
+        requires fit { All (λ c. SumsFit c.terms (values_of deltas.now))
+            (own_clauses self.now.site self.now.template.clauses self.now.config) }
+        ensures { let t = self.now.template in result ≡
+            first_of (first_failure (own_failure (own_clauses self.now.site t.clauses self.now.config) (values_of deltas.now)) clauses.now)
+            (first_failure (own_freeze_failure (length t.clauses) self.now.site t.freezes (values_of deltas.now)) freezes.now) }
+    {
+        let failure = first_clause(self.clauses.as_slice(), clauses, deltas);
+        if failure.is_some() {
+            return failure;
+        }
+        let template = &self.plan.template;
+        let count = template.clauses.as_slice().len();
+        first_freeze(
+            template.freezes.as_slice(),
+            count,
+            freezes,
+            self.site,
+            deltas,
+        )
+    }
 }

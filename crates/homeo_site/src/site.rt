@@ -138,11 +138,11 @@ impl Site {
         ensures copies { IfOk result (λ r. All (IsEmptyCopy (plain_workload self.old.work) self.old.state call) r.1.items) }
         ensures spare { OnOk result (1 ≤ self.new.spare) }
     {
-        let own = self.own.own_call(alloc, call)?;
+        let (own, treaty) = self.own.own_call(alloc, call)?;
         let run = &*own;
         let count = u64::from(run.program.prints);
         let temporaries = zeros(alloc, run.program.temporaries as usize)?;
-        let (clauses, freezes) = self.own.touched(alloc, run.commands.as_slice())?;
+        let (clauses, freezes) = treaty.touched(alloc, run.commands.as_slice())?;
         let deltas = Vec::from_slice(alloc, self.deltas.as_slice())?;
         let prints = empty_prints(alloc, count)?;
         let lists = empty_copies(alloc, copies, count)?;
@@ -150,6 +150,7 @@ impl Site {
         let room = Room {
             call,
             own,
+            treaty,
             deltas: List::from_vec(deltas),
             prints,
             temporaries,
@@ -173,10 +174,12 @@ impl Site {
         ensures count { length answers.new.items ≡ length answers.old.items }
         ensures answers { All (λ copy. copy.items ≡ copied_prints result) answers.new.items }
     {
-        let round = &self.own;
+        // what the site keeps holds
+        let _round = &self.own;
         let Room {
             call: _,
             own,
+            treaty,
             deltas,
             mut prints,
             temporaries,
@@ -190,7 +193,7 @@ impl Site {
             temporaries.as_mut_slice(),
             &mut prints,
         );
-        let failure = round.first_failure(
+        let failure = treaty.first_failure(
             clauses.as_slice(),
             freezes.as_slice(),
             deltas.as_slice(),

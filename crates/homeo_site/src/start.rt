@@ -69,7 +69,7 @@ impl SiteStart {
     {
         // its rules hold
         let _workload = compiled.workload().workload();
-        let own = OwnRound::new(alloc, compiled, plan, site, round)?;
+        let own = OwnRound::new(compiled, plan, site, round)?;
         let deltas = vec![in alloc; 0; plan.base.as_slice().len()]?;
         Ok(SiteStart {
             own,

@@ -1,26 +1,24 @@
 -- What a site keeps of a round besides its deltas.
-use Rattle.std.specs.Prelude.{◌≡◌, ℕ, ◌<◌, List, map}
+use Rattle.std.specs.Prelude.{◌≡◌, ℕ, ◌<◌, List, ℤ, Option, IfSome}
 use Rattle.homeo_syntax.specs.Source as s
 use Rattle.homeo_meaning.specs.Acceptance.{IsAccepted}
 use Rattle.homeo_plan.specs.declared.round.RoundPlan.{RoundPlan}
-use Rattle.homeo_plan.specs.Planned.{sites_of, template_at, policy}
+use Rattle.homeo_plan.specs.Planned.{sites_of, policy}
 use Rattle.homeo_plan.specs.PlanView.{plain_config}
 use Rattle.homeo_build.specs.Plan.{IsPlanOf}
-use Rattle.homeo_effect.specs.Indexed.{Indexed}
-use Rattle.homeo_site.specs.declared.own_treaty.OwnClause as code
+use Rattle.homeo_site.specs.declared.own_round.OwnParts.{OwnParts}
 use Rattle.homeo_site.specs.OwnCalls.{AreOwnCalls}
-use Rattle.homeo_site.specs.declared.own_calls.OwnCalls.{OwnCalls}
-use Rattle.homeo_site.specs.OwnTreaty.{plain_own, own_clauses}
+use Rattle.homeo_site.specs.TreatyPart.{part_at}
 
--- the plan is that of the round, with bounds by the policy, and the site keeps its part of it, and an index over its treaty
-pub record IsOwnRound
-    (w : s.Workload) (p : RoundPlan) (i : ℕ) (cs : List code.OwnClause) (os : OwnCalls) (x : Indexed) : Type 0
-  where
-    pub accepted : IsAccepted w
-    pub site : i < sites_of w
-    pub plan : IsPlanOf w p.base.items p
-    pub bounds : plain_config p.config ≡ policy w p.base.items
-    pub clauses : map plain_own cs ≡ own_clauses i (template_at w p.base.items).clauses (policy w p.base.items)
-    pub calls : AreOwnCalls w p.base.items os
-    pub index_site : x.site ≡ i
-    pub index_template : x.template ≡ template_at w p.base.items
+-- the site's part of the treaty on a base, and what it runs there for the ground calls that were attempted
+pub record AreParts (w : s.Workload) (base : List ℤ) (i : ℕ) (o : OwnParts) : Type 0 where
+  pub treaty : o.treaty.value ≡ part_at w base i
+  pub calls : AreOwnCalls w base o.calls
+
+-- the plan is that of the round, with bounds by the policy, and the site's parts, where they are made, are those of its base
+pub record IsOwnRound (w : s.Workload) (p : RoundPlan) (i : ℕ) (parts : Option OwnParts) : Type 0 where
+  pub accepted : IsAccepted w
+  pub site : i < sites_of w
+  pub plan : IsPlanOf w p.base.items p
+  pub bounds : plain_config p.config ≡ policy w p.base.items
+  pub made : IfSome parts (AreParts w p.base.items i)

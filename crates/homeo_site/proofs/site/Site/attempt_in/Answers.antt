@@ -36,19 +36,19 @@ pub first_failure-failure-requires-clause-clauses : goal.first_failure-failure-r
 first_failure-failure-requires-clause-clauses c =
     ran.clauses_below c.self.inside.own c.self.inside.deltas.items c.self.inside.segment c.args.self.now c.self.view_is c.as_mut_slice.result.now
     (c.as_mut_slice.ensures.value ∙ c.into_vec-deltas.ensures ∙ c.requires.room.deltas) c.args.call c.self.invariant c.requires.call
-    _ _ (ap (λ (o : OwnCall). o.program) c.deref.ensures) c.requires.room.own c.as_slice.result.now (c.as_slice.ensures ∙ c.requires.room.clauses)
+    _ _ (ap (λ (o : OwnCall). o.program) c.deref.ensures) c.requires.room.own c.deref-2.result.now (c.deref-2.ensures ∙ c.requires.room.treaty) c.as_slice.result.now (c.as_slice.ensures ∙ c.requires.room.clauses)
 
 pub first_failure-failure-requires-clause-freezes : goal.first_failure-failure-requires-clause-freezes
 first_failure-failure-requires-clause-freezes c =
     ran.freezes_below c.self.inside.own c.self.inside.deltas.items c.self.inside.segment c.args.self.now c.self.view_is c.as_mut_slice.result.now
     (c.as_mut_slice.ensures.value ∙ c.into_vec-deltas.ensures ∙ c.requires.room.deltas) c.args.call c.self.invariant c.requires.call
-    _ _ (ap (λ (o : OwnCall). o.program) c.deref.ensures) c.requires.room.own c.as_slice-2.result.now (c.as_slice-2.ensures ∙ c.requires.room.freezes)
+    _ _ (ap (λ (o : OwnCall). o.program) c.deref.ensures) c.requires.room.own c.deref-2.result.now (c.deref-2.ensures ∙ c.requires.room.treaty) c.as_slice-2.result.now (c.as_slice-2.ensures ∙ c.requires.room.freezes)
 
 pub first_failure-failure-requires-clause-fit : goal.first_failure-failure-requires-clause-fit
 first_failure-failure-requires-clause-fit c =
     ran.sums_fit c.self.inside.own c.self.inside.deltas.items c.self.inside.segment c.args.self.now c.self.view_is c.as_mut_slice.result.now
     (c.as_mut_slice.ensures.value ∙ c.into_vec-deltas.ensures ∙ c.requires.room.deltas) c.args.call c.self.invariant c.requires.call
-    _ _ (ap (λ (o : OwnCall). o.program) c.deref.ensures) c.requires.room.own c.as_mut_slice-2.result.now c.run.new.deltas c.as_slice-3.result.now
+    _ _ (ap (λ (o : OwnCall). o.program) c.deref.ensures) c.requires.room.own c.deref-2.result.now (c.deref-2.ensures ∙ c.requires.room.treaty) c.as_mut_slice-2.result.now c.run.new.deltas c.as_slice-3.result.now
     (written_whole c.run.new.deltas _ _ c.as_slice-3.result.now c.as_slice-3.ensures.value (c.run.auto.deltas ∙ c.as_mut_slice.ensures.len))
     c.run.ensures.objects c.run.ensures.deltas
 
@@ -68,7 +68,7 @@ returns-in-Some-clause-outcome c =
     sym
     (ran.finding_is c.self.inside.own c.self.inside.deltas.items c.self.inside.segment c.args.self.now c.self.view_is c.as_mut_slice.result.now
     (c.as_mut_slice.ensures.value ∙ c.into_vec-deltas.ensures ∙ c.requires.room.deltas) c.args.call c.self.invariant c.requires.call
-    _ _ (ap (λ (o : OwnCall). o.program) c.deref.ensures) c.requires.room.own c.as_mut_slice-2.result.now c.run.new.deltas c.as_slice-3.result.now
+    _ _ (ap (λ (o : OwnCall). o.program) c.deref.ensures) c.requires.room.own c.deref-2.result.now (c.deref-2.ensures ∙ c.requires.room.treaty) c.as_mut_slice-2.result.now c.run.new.deltas c.as_slice-3.result.now
     (written_whole c.run.new.deltas _ _ c.as_slice-3.result.now c.as_slice-3.ensures.value (c.run.auto.deltas ∙ c.as_mut_slice.ensures.len))
     c.run.ensures.objects c.run.ensures.deltas c.first_failure-failure.result c.as_slice.result.now c.as_slice-2.result.now
     (c.as_slice.ensures ∙ c.requires.room.clauses) (c.as_slice-2.ensures ∙ c.requires.room.freezes) c.first_failure-failure.ensures)
@@ -90,14 +90,14 @@ returns-clause-outcome c =
     change_is _ _ c.args.call _
     (sym
     (ran.finding_is c.self.inside.own c.self.inside.deltas.items c.self.inside.segment c.args.self.now c.self.view_is c.as_mut_slice.result.now
-    here c.args.call c.self.invariant c.requires.call _ _ same c.requires.room.own c.as_mut_slice-2.result.now c.run.new.deltas c.as_slice-3.result.now lends
+    here c.args.call c.self.invariant c.requires.call _ _ same c.requires.room.own c.deref-2.result.now (c.deref-2.ensures ∙ c.requires.room.treaty) c.as_mut_slice-2.result.now c.run.new.deltas c.as_slice-3.result.now lends
     c.run.ensures.objects c.run.ensures.deltas c.first_failure-failure.result c.as_slice.result.now c.as_slice-2.result.now
     (c.as_slice.ensures ∙ c.requires.room.clauses) (c.as_slice-2.ensures ∙ c.requires.room.freezes) c.first_failure-failure.ensures)
     ∙ c.in-None.is)
     refl
     (whole
     ∙ ran.deltas_are c.self.inside.own c.self.inside.deltas.items c.self.inside.segment c.args.self.now c.self.view_is c.as_mut_slice.result.now
-    here c.args.call c.self.invariant c.requires.call _ _ same c.requires.room.own c.as_mut_slice-2.result.now c.run.new.deltas c.as_slice-3.result.now lends
+    here c.args.call c.self.invariant c.requires.call _ _ same c.requires.room.own c.as_mut_slice-2.result.now c.run.new.deltas
     c.run.ensures.objects c.run.ensures.deltas)
     (ran.prints_are c.self.inside.own c.self.inside.deltas.items c.self.inside.segment c.args.self.now c.self.view_is c.as_mut_slice.result.now
     here c.args.call c.self.invariant c.requires.call _ _ same c.requires.room.own c.as_mut_slice-2.result.now c.args.room.prints.items

@@ -10,7 +10,7 @@ pub touched-requires : goal.touched-requires
 touched-requires c =
     room_writes c.self.inside.own c.self.inside.deltas.items c.self.inside.segment c.args.self.now c.self.view_is c.args.call c.requires
     c.in_ok-own.own.value c.in_ok-own.ensures.call c.as_slice.result.now (c.as_slice.ensures ∙ ap (λ (o : OwnCall). o.commands.items) c.deref-run.ensures)
-    c.own_call.new.self c.in_ok-own.ensures.same
+    c.deref.result.now (c.deref.ensures ∙ c.in_ok-own.ensures.treaty)
 
 pub invariant_of-self-in_err-reserve : goal.invariant_of-self-in_err-reserve
 invariant_of-self-in_err-reserve c =
@@ -40,13 +40,13 @@ returns-clause-room c =
     let lent = c.as_slice.ensures ∙ ap (λ (o : OwnCall). o.commands.items) c.deref-run.ensures in
     room_is c.self.inside.own c.self.inside.deltas.items c.self.inside.segment c.args.self.now c.args.call _ _ _ c.self.view_is
     (ap (λ (o : OwnCall). o.program.temporaries) c.deref-run.ensures ∙ runs.temporaries)
-    (c.from-count.ensures ∙ ap (λ (o : OwnCall). o.program.prints) c.deref-run.ensures ∙ runs.prints) refl runs
+    (c.from-count.ensures ∙ ap (λ (o : OwnCall). o.program.prints) c.deref-run.ensures ∙ runs.prints) refl runs c.in_ok-own.ensures.treaty
     (ap (λ l. l.items) c.from_vec.ensures ∙ c.in_ok-deltas.ensures.items ∙ c.as_slice-2.ensures) c.in_ok-prints.ensures c.in_ok-temporaries.ensures
     (room_clauses c.self.inside.own c.self.inside.deltas.items c.self.inside.segment c.args.self.now c.self.view_is c.args.call c.requires
-    c.in_ok-own.own.value c.in_ok-own.ensures.call c.as_slice.result.now lent c.own_call.new.self c.in_ok-own.ensures.same _
+    c.in_ok-own.own.value c.in_ok-own.ensures.call c.as_slice.result.now lent c.deref.result.now (c.deref.ensures ∙ c.in_ok-own.ensures.treaty) _
     c.in_ok-clauses.ensures.clauses)
     (room_freezes c.self.inside.own c.self.inside.deltas.items c.self.inside.segment c.args.self.now c.self.view_is c.args.call c.requires
-    c.in_ok-own.own.value c.in_ok-own.ensures.call c.as_slice.result.now lent c.own_call.new.self c.in_ok-own.ensures.same _
+    c.in_ok-own.own.value c.in_ok-own.ensures.call c.as_slice.result.now lent c.deref.result.now (c.deref.ensures ∙ c.in_ok-own.ensures.treaty) _
     c.in_ok-clauses.ensures.freezes)
 
 pub returns-clause-copies : goal.returns-clause-copies

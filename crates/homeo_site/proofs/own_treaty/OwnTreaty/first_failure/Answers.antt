@@ -1,44 +1,39 @@
 -- What the site keeps of the template fails as the template does.
-use Rattle.std.proofs.Common.{◌≡◌, All, ◌<◌, List, length, map, is_some, sym, ap, ap₂, ◌∙◌, subst}
-use Rattle.homeo_syntax.specs.SourceView.{plain_workload}
+use Rattle.std.proofs.Common.{◌≡◌, All, ◌<◌, List, length, map, is_some, refl, sym, ap, ap₂, ◌∙◌, subst}
 use Rattle.homeo_meaning.specs.Serial.{values_of}
-use Rattle.homeo_plan.specs.Planned.{template_at, policy}
+use Rattle.homeo_plan.specs.PlanView.{plain_template, plain_config}
 use Rattle.homeo_plan.specs.declared.round.RoundPlan.{RoundPlan}
-use Rattle.homeo_site.specs.SiteView.{StartValue}
+use Rattle.homeo_site.specs.TreatyPart.{TreatyPart}
 use Rattle.homeo_site.specs.declared.own_treaty.OwnClause as code
 use Rattle.homeo_site.specs.inner.Failures.{first_of, first_failure, own_failure, own_freeze_failure}
 use Rattle.homeo_site.specs.OwnTreaty.{OwnClause, plain_own, own_clauses, SumsFit}
 use Rattle.homeo_site.proofs.OwnChecks.{numbers_there, fits_there, first_found, second_is, template_count, template_freezes}
-use Rattle.homeo_site.proofs.own_round.OwnRound.first_failure.Goals as goal
+use Rattle.homeo_site.proofs.own_treaty.OwnTreaty.first_failure.Goals as goal
 
 pub first_clause-failure-requires-clause-numbers : goal.first_clause-failure-requires-clause-numbers
 first_clause-failure-requires-clause-numbers c =
     let in' = c.self.inside in
-    let w = plain_workload in'.compiled.value in
-    let base = in'.plan.value.base.items in
+    let p = in'.plan.value in
     let numbers =
-    subst (λ (v : StartValue). All (λ n. n < length (template_at (plain_workload v.work) v.base).clauses) c.args.clauses.now)
-    (sym c.self.view_is) c.requires.clauses in
-    let all = numbers_there in'.site (template_at w base).clauses (policy w base) in'.clauses.items c.args.clauses.now c.self.invariant.clauses numbers in
+    subst (λ (v : TreatyPart). All (λ n. n < length v.template.clauses) c.args.clauses.now) (sym c.self.view_is) c.requires.clauses in
+    let all =
+    numbers_there in'.site (plain_template p.template).clauses (plain_config p.config) in'.clauses.items c.args.clauses.now
+    c.self.invariant.clauses numbers in
     subst (λ (cs : List code.OwnClause). All (λ n. n < length cs) c.args.clauses.now) (sym c.as_slice.ensures) all
 
 pub first_clause-failure-requires-clause-fit : goal.first_clause-failure-requires-clause-fit
 first_clause-failure-requires-clause-fit c =
     let in' = c.self.inside in
-    let w = plain_workload in'.compiled.value in
-    let base = in'.plan.value.base.items in
+    let p = in'.plan.value in
     let x = values_of c.args.deltas.now in
     let fit =
-    subst
-    (λ (v : StartValue). All (λ (o : OwnClause). SumsFit o.terms x)
-    (own_clauses v.number (template_at (plain_workload v.work) v.base).clauses (policy (plain_workload v.work) v.base)))
+    subst (λ (v : TreatyPart). All (λ (o : OwnClause). SumsFit o.terms x) (own_clauses v.site v.template.clauses v.config))
     (sym c.self.view_is) c.requires.fit in
     subst (λ (cs : List code.OwnClause). All (λ (o : code.OwnClause). SumsFit o.terms.items x) cs) (sym c.as_slice.ensures)
-    (fits_there in'.site (template_at w base).clauses (policy w base) in'.clauses.items x c.self.invariant.clauses fit)
+    (fits_there in'.site (plain_template p.template).clauses (plain_config p.config) in'.clauses.items x c.self.invariant.clauses fit)
 
 pub returns-then-is_some : goal.returns-then-is_some
 returns-then-is_some c =
-    let in' = c.self.inside in
     let x = values_of c.args.deltas.now in
     let cl = c.args.clauses.now in
     let same =
@@ -46,22 +41,17 @@ returns-then-is_some c =
     ∙ ap (λ (os : List code.OwnClause). first_failure (own_failure (map plain_own os) x) cl) c.as_slice.ensures
     ∙ ap (λ os. first_failure (own_failure os x) cl) c.self.invariant.clauses in
     subst
-    (λ (v : StartValue). c.first_clause-failure.result ≡
-    first_of
-    (first_failure
-    (own_failure (own_clauses v.number (template_at (plain_workload v.work) v.base).clauses (policy (plain_workload v.work) v.base)) x) cl)
-    (first_failure
-    (own_freeze_failure (length (template_at (plain_workload v.work) v.base).clauses) v.number (template_at (plain_workload v.work) v.base).freezes x)
-    c.args.freezes.now))
+    (λ (v : TreatyPart). c.first_clause-failure.result ≡
+    first_of (first_failure (own_failure (own_clauses v.site v.template.clauses v.config) x) cl)
+    (first_failure (own_freeze_failure (length v.template.clauses) v.site v.template.freezes x) c.args.freezes.now))
     c.self.view_is
     (first_found c.first_clause-failure.result _ _ (sym c.if-is_some.ensures) same)
 
 pub returns : goal.returns
 returns c =
     let in' = c.self.inside in
-    let w = plain_workload in'.compiled.value in
     let p = in'.plan.value in
-    let t = template_at w p.base.items in
+    let t = plain_template p.template in
     let x = values_of c.args.deltas.now in
     let cl = c.args.clauses.now in
     let same =
@@ -70,20 +60,16 @@ returns c =
     ∙ ap (λ os. first_failure (own_failure os x) cl) c.self.invariant.clauses in
     let count =
     template_count p c.as_slice-count.result.now t (c.as_slice-count.ensures ∙ ap (λ (q : RoundPlan). q.template.clauses.items) c.deref.ensures)
-    c.self.invariant.plan.template in
+    refl in
     let freezes =
     template_freezes p c.as_slice-2.result.now t (c.as_slice-2.ensures ∙ ap (λ (q : RoundPlan). q.template.freezes.items) c.deref.ensures)
-    c.self.invariant.plan.template in
+    refl in
     let frozen =
     c.first_freeze.ensures
     ∙ ap₂ (λ n ds. first_failure (own_freeze_failure n in'.site ds x) c.args.freezes.now) count freezes in
     subst
-    (λ (v : StartValue). c.first_freeze.result ≡
-    first_of
-    (first_failure
-    (own_failure (own_clauses v.number (template_at (plain_workload v.work) v.base).clauses (policy (plain_workload v.work) v.base)) x) cl)
-    (first_failure
-    (own_freeze_failure (length (template_at (plain_workload v.work) v.base).clauses) v.number (template_at (plain_workload v.work) v.base).freezes x)
-    c.args.freezes.now))
+    (λ (v : TreatyPart). c.first_freeze.result ≡
+    first_of (first_failure (own_failure (own_clauses v.site v.template.clauses v.config) x) cl)
+    (first_failure (own_freeze_failure (length v.template.clauses) v.site v.template.freezes x) c.args.freezes.now))
     c.self.view_is
     (frozen ∙ second_is _ _ (ap is_some (sym same) ∙ sym c.if-is_some.ensures))
