@@ -119,8 +119,12 @@ impl Site {
 
     /// Takes room for an attempt of a call, and for so many copies of its prints: all the memory that the attempt, a commit
     /// of its change, and the copies need. In the room stands what the site runs for the call, which is made at the first attempt
-    /// of its ground call in the round, and which clauses and freezes the call touches. The call must be one of a client of this
-    /// site.
+    /// of its ground call in the round; the site's part of the treaty; and which clauses and freezes the call touches. The call must
+    /// be one of a client of this site.
+    ///
+    /// The first room in a round makes the site's part of the treaty, in about the time and the memory of the plan's length: of
+    /// each clause the terms on the site's deltas and its bound, and for each of these deltas which clauses and freezes stand on
+    /// it; and a place for each ground call.
     ///
     /// # Errors
     ///

@@ -40,10 +40,9 @@ impl Model for SiteStart {
 }
 
 impl SiteStart {
-    /// The part of the site of this number, from 0, in the round of this number. It shares the workload and the plan, and
-    /// keeps of the plan its own part alone: of each clause the terms on its deltas and its bound, and for each of its deltas
-    /// which clauses and freezes stand on it. What it runs for a ground call of its clients is made at the call's first attempt.
-    /// That takes about the time and the memory of the plan's length, and a place for each ground call.
+    /// The part of the site of this number, from 0, in the round of this number. It shares the workload and the plan, and takes
+    /// about the time and the memory of the site's deltas, a number for each object. What the site keeps of the plan beside them
+    /// is made at its first room in the round: `Site::room`.
     ///
     /// The plan must be one of the workload, with the bounds of the policy, and the site one of the workload's.
     ///
