@@ -47,6 +47,8 @@ use Rattle.homeo_forecast.specs.inner.Replays.{site_lists, AreDeltas, IsReplay}
 use Rattle.homeo_forecast.specs.inner.Rooms.{HaveRooms}
 use Rattle.homeo_forecast.specs.inner.Stops.{clause_stop_at, freeze_stop_at, first_of, first_among}
 use Rattle.homeo_forecast.specs.inner.Sums.{terms_at, CanSum}
+use Rattle.homeo_forecast.specs.declared.touches.Touched.{Touched}
+use Rattle.homeo_forecast.specs.inner.Touches.{IsTouchedBy}
 use Rattle.homeo_forecast.proofs.CallSteps as step
 use Rattle.homeo_forecast.proofs.Prefixes as prefixes
 use Rattle.homeo_forecast.proofs.ReplayLists.{goes_on}
@@ -104,15 +106,22 @@ module _
         subst (λ i. WritesOwn i (low_commands (map plain_lcommand lent))) (sym own.runs.site)
         (subst (WritesOwn (planned_at w call).site) (sym its_commands) (writes_own w base (planned_at w call) (planned_member w call exists)))
 
-    pub clauses_are :
+    clauses_are :
         touched_clauses (written (low_commands (map plain_lcommand lent))) (plain_template p.plan.value.template) ≡
         touched_clauses (written (base_row (sites_of w) (values_of base) (planned_at w call)).residual) (template_at w base)
     clauses_are = ap₂ (λ cs (u : Template). touched_clauses (written cs) u) its_commands prepared.plan.template
 
-    pub freezes_are :
+    freezes_are :
         touched_freezes (written (low_commands (map plain_lcommand lent))) (plain_template p.plan.value.template) ≡
         touched_freezes (written (base_row (sites_of w) (values_of base) (planned_at w call)).residual) (template_at w base)
     freezes_are = ap₂ (λ cs (u : Template). touched_freezes (written cs) u) its_commands prepared.plan.template
+
+    -- what they touch is what the call touches
+    pub touched_is :
+        (t : Touched) → t.clauses.items ≡ touched_clauses (written (low_commands (map plain_lcommand lent))) (plain_template p.plan.value.template) →
+        t.freezes.items ≡ touched_freezes (written (low_commands (map plain_lcommand lent))) (plain_template p.plan.value.template) →
+        IsTouchedBy w base (planned_at w call) t
+    touched_is t clauses freezes = record { clauses = clauses ∙ clauses_are; freezes = freezes ∙ freezes_are }
 
 abbrev deltas_of : Replay → ℕ → List ℤ
 deltas_of r i = get_or (site_lists r) i []

@@ -25,12 +25,14 @@ ghost use Rattle.homeo_forecast.specs.inner.Replays.{IsReplay, IsSomeReplay, Can
 ghost use Rattle.homeo_forecast.specs.inner.Raising.{CanTest};
 ghost use Rattle.homeo_forecast.specs.inner.Rooms.{HaveRooms};
 ghost use Rattle.homeo_forecast.specs.inner.Stops.{first_of, first_among, clause_stop_at, freeze_stop_at};
+ghost use Rattle.homeo_forecast.specs.inner.Touches.{AreFound};
 
 use crate::outlook::Stop;
 use crate::prepared::Prepared;
 use crate::raising::raise_all;
 use crate::rooms::Room;
 use crate::stops::{first_frozen, first_spent};
+use crate::touches::Touches;
 use homeo_build::Compiled;
 use homeo_effect::Program;
 use homeo_meaning::CallId;
@@ -154,13 +156,16 @@ impl Replay {
         c: &Compiled,
         prepared: &Prepared,
         own_calls: &mut OwnCalls,
+        touches: &mut Touches,
         call: CallId,
     ) -> Result<Option<Stop>, Memory>
         requires prepared { IsPrepared (plain_workload c.now) prepared.now.plan.value.base.items prepared.now }
         requires exists { CallExists (plain_workload c.now) call }
         requires replay { IsSomeReplay (plain_workload c.now) prepared.now.plan.value.base.items self.old }
         requires made { AreOwnCalls (plain_workload c.now) prepared.now.plan.value.base.items own_calls.old }
+        requires found { AreFound (plain_workload c.now) prepared.now.plan.value.base.items touches.old }
         ensures made { OnOk result (AreOwnCalls (plain_workload c.now) prepared.now.plan.value.base.items own_calls.new) }
+        ensures found { OnOk result (AreFound (plain_workload c.now) prepared.now.plan.value.base.items touches.new) }
         ensures kept { (before : List CallId) → let w = plain_workload c.now in let base = prepared.now.plan.value.base.items in
             IsReplay w base before self.old → IfOk result (λ o. o ≡ None → IsReplay w base (before ++ call ∷ []) self.new) }
         ensures stop { (before : List CallId) → let w = plain_workload c.now in let base = prepared.now.plan.value.base.items in
@@ -171,15 +176,16 @@ impl Replay {
         let made = own_calls.get(alloc, c, &prepared.plan.base, call)?;
         let own = &*made;
         let site = own.program.site;
-        let (clauses, freezes) = prepared.touched(alloc, own.commands.as_slice(), site)?;
+        let found = touches.get(alloc, c, prepared, own, call)?;
+        let touched = &*found;
         let deltas = &mut self.deltas[site as usize];
         run(alloc, &own.program, deltas)?;
         let stop = first_stop(
             alloc,
             &prepared.plan.template,
             self.rooms.as_slice(),
-            clauses.as_slice(),
-            freezes.as_slice(),
+            touched.clauses.as_slice(),
+            touched.freezes.as_slice(),
             site,
             deltas.as_slice(),
         )?;
@@ -188,7 +194,7 @@ impl Replay {
         }
         raise_all(
             self.rooms.as_mut_slice(),
-            clauses.as_slice(),
+            touched.clauses.as_slice(),
             site,
             deltas.as_slice(),
         );
