@@ -1,22 +1,15 @@
 //! Calls, replayed one after another.
 
 ghost use Rattle.std.specs.Prelude.{◌≡◌, ◌+◌, ◌<◌, ◌≤◌, ◌^◌, ◌++◌, ◌∷◌, [], ℕ, ℤ, List, All, Some, None, IsSome, true, length, map, pos, replicate, option_map, IfOk, OnOk, OnErr};
-ghost use Rattle.homeo_syntax.specs.Low.{Commands};
 ghost use Rattle.homeo_syntax.specs.SourceView.{plain_workload};
 ghost use Rattle.homeo_meaning.specs.Calls.{CallExists};
-ghost use Rattle.homeo_meaning.specs.LowMeaning.{DeltaAt, exec_all};
 ghost use Rattle.homeo_meaning.specs.Serial.{values_of};
 ghost use Rattle.homeo_meaning.specs.declared.call.CallId.{CallId};
 ghost use Rattle.homeo_plan.specs.Each.{Each};
-ghost use Rattle.homeo_plan.specs.Joined.{alone};
 ghost use Rattle.homeo_plan.specs.PlanView.{plain_clause, plain_config, plain_template};
 ghost use Rattle.homeo_plan.specs.Planned.{sites_of, template_at};
 ghost use Rattle.homeo_plan.specs.Template.{Clause as PlainClause};
-ghost use Rattle.homeo_split.specs.CanExec.{run_limit, can_exec_all};
-ghost use Rattle.homeo_effect.specs.OwnState.{own_state};
-ghost use Rattle.homeo_effect.specs.Program.{plain_program, set_after_all, prints_of_all};
-ghost use Rattle.homeo_effect.specs.Touched.{written};
-ghost use Rattle.homeo_site.specs.OwnCalls.{RunsAs, AreOwnCalls};
+ghost use Rattle.homeo_site.specs.OwnCalls.{AreOwnCalls};
 ghost use Rattle.homeo_forecast.specs.Peaks.{first_stop, peak_config};
 ghost use Rattle.homeo_forecast.specs.View.{plain_stop};
 ghost use Rattle.homeo_forecast.specs.Visits.{Visit, visits, next_visit};
@@ -31,42 +24,22 @@ use crate::outlook::Stop;
 use crate::prepared::Prepared;
 use crate::raising::raise_all;
 use crate::rooms::Room;
+use crate::scratch::Scratch;
 use crate::stops::{first_frozen, first_spent};
 use crate::touches::Touches;
 use homeo_build::Compiled;
-use homeo_effect::Program;
 use homeo_meaning::CallId;
 use homeo_plan::{Clause, Config, RoundPlan, Template};
 use homeo_site::OwnCalls;
 use homeo_syntax::Memory;
 use std::alloc::Global;
 
-/// What calls have left so far: the deltas of each site, and the room in each clause.
+/// What calls have left so far: the deltas of each site, and the room in each clause; and where calls run.
 #[derive(Drop)]
 pub(crate) struct Replay {
     pub(crate) deltas: Vec<Vec<i64>>,
     pub(crate) rooms: Vec<Room>,
-}
-
-/// Runs a program on its site's deltas.
-fn run(alloc: Global, program: &Program, deltas: &mut Vec<i64>) -> Result<(), Memory>
-    requires temporaries { set_after_all 0 program.now.steps.items ≡ program.now.temporaries }
-    requires prints { prints_of_all program.now.steps.items ≡ program.now.prints }
-    requires objects { Each (λ d. d.object < length deltas.old.items) (written (plain_program program.now)) }
-    requires small { (kept : List ℤ) → can_exec_all run_limit (plain_program program.now) (own_state program.now.site deltas.old.items kept) ≡ true }
-    ensures count { OnOk result (length deltas.new.items ≡ length deltas.old.items) }
-    ensures deltas { (b : ℕ → ℤ) (i count : ℕ) (cs : Commands) → RunsAs b i count cs program.now → (n : ℕ) → OnOk result
-        (values_of deltas.new.items n ≡ (exec_all cs (alone b i (values_of deltas.old.items))).state (DeltaAt n i)) }
-{
-    let mut temporaries = vec![in alloc; 0; program.temporaries as usize]?;
-    let mut prints = homeo_syntax::List::new(alloc);
-    prints.reserve(u64::from(program.prints))?;
-    program.run(
-        deltas.as_mut_slice(),
-        temporaries.as_mut_slice(),
-        &mut prints,
-    );
-    Ok(())
+    pub(crate) scratch: Scratch,
 }
 
 /// The first stop among the clauses and freezes of these numbers.
@@ -146,7 +119,11 @@ impl Replay {
         let template = &plan.template;
         let deltas = no_deltas(alloc, template.sites, plan.base.as_slice().len())?;
         let rooms = new_rooms(alloc, template.sites, template.clauses.as_slice())?;
-        Ok(Replay { deltas, rooms })
+        Ok(Replay {
+            deltas,
+            rooms,
+            scratch: Scratch::new(alloc),
+        })
     }
 
     /// Makes one call more, unless something stops it: this is then answered, and the rooms stay as they were.
@@ -179,7 +156,7 @@ impl Replay {
         let found = touches.get(alloc, c, prepared, own, call)?;
         let touched = &*found;
         let deltas = &mut self.deltas[site as usize];
-        run(alloc, &own.program, deltas)?;
+        self.scratch.run(alloc, &own.program, deltas)?;
         let stop = first_stop(
             alloc,
             &prepared.plan.template,

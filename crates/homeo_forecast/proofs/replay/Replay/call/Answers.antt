@@ -122,6 +122,7 @@ returns-clause-kept c = λ before kept none.
     let new : Replay = record {
       deltas = with_item c.args.self.now.deltas c.deref-own.result.now.program.site c.run.new.deltas;
       rooms = with_items c.args.self.now.rooms c.raise_all.new.rooms;
+      scratch = c.run.new.self;
     } in
     let rooms = ends.rooms_there ran kept _ c.as_mut_slice.result.now refl c.as_mut_slice.ensures.value in
     let raised = c.raise_all.ensures _ _ _ _ rooms (ends.visit_at ran kept) (ends.site_below ran kept)
