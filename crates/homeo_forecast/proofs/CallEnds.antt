@@ -42,7 +42,7 @@ use Rattle.homeo_forecast.specs.declared.replay.Replay.{Replay}
 use Rattle.homeo_forecast.specs.declared.rooms.Room.{Room}
 use Rattle.homeo_forecast.specs.declared.prepared.Prepared.{Prepared}
 use Rattle.homeo_forecast.specs.inner.Prepared.{AreIndexes, IsPrepared}
-use Rattle.homeo_forecast.specs.inner.Raising.{CanTest, CanRaise, SomeRaised}
+use Rattle.homeo_forecast.specs.inner.Raising.{CanTest, AreSums, AreSiteSums, CanRaise, SomeRaised}
 use Rattle.homeo_forecast.specs.inner.Replays.{site_lists, AreDeltas, IsReplay}
 use Rattle.homeo_forecast.specs.inner.Rooms.{HaveRooms}
 use Rattle.homeo_forecast.specs.inner.Stops.{clause_stop_at, freeze_stop_at, first_of, first_among}
@@ -52,7 +52,7 @@ use Rattle.homeo_forecast.specs.inner.Touches.{IsTouchedBy}
 use Rattle.homeo_forecast.proofs.CallSteps as step
 use Rattle.homeo_forecast.proofs.Prefixes as prefixes
 use Rattle.homeo_forecast.proofs.ReplayLists.{goes_on}
-use Rattle.homeo_forecast.proofs.RoomLists.{all_raised}
+use Rattle.homeo_forecast.proofs.RoomLists.{all_raised, site_sums}
 use Rattle.homeo_forecast.proofs.TouchedStops.{within_numbers}
 
 -- a call of an accepted workload, on a base within its bounds, at its site
@@ -275,15 +275,24 @@ module _
         ran.here.at (sym (deltas_there ds ds_is))
         ∙ step.call_stop w base before call ran.here.accepted ran.here.within kept.exist ran.here.exists kept.served
 
+    pub sums_there :
+        (rs : List Room) (ds : List ℤ) (ns : List ℕ) (sums : List ℤ) → rs ≡ old.rooms.items → ds ≡ ys → All (λ n. n < length rs) ns →
+        AreSums rs site ds ns sums → AreSiteSums site v t.clauses ns sums
+    sums_there rs ds ns sums rs_is ds_is there are =
+        site_sums k vs v t.clauses rs site ds ns sums (rooms_there t rs refl rs_is) site_below (deltas_there ds ds_is) there are
+
     -- ---- where nothing does
     module _ (none : first_stop k t vs v ≡ None) where
-      pub raise_there : (rs : List Room) (ds : List ℤ) → rs ≡ old.rooms.items → ds ≡ ys → CanRaise rs site ds
+      pub raise_there :
+          (rs : List Room) (ds : List ℤ) (ns : List ℕ) (sums : List ℤ) → rs ≡ old.rooms.items → ds ≡ ys → AreSiteSums site v t.clauses ns sums →
+          CanRaise rs site ns sums
       unfolding test_there
-      raise_there rs ds rs_is ds_is = record {
+      raise_there rs ds ns sums rs_is ds_is sums_are = record {
+        deltas = ds;
         test = test_there rs ds rs_is ds_is;
         visit = v;
         at = visit_at;
-        are = deltas_there ds ds_is;
+        are = sums_are;
         fit = step.fit_after w base before call ran.here.accepted ran.here.within kept.exist ran.here.exists kept.served none;
       }
 

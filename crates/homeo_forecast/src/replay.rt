@@ -15,7 +15,7 @@ ghost use Rattle.homeo_forecast.specs.View.{plain_stop};
 ghost use Rattle.homeo_forecast.specs.Visits.{Visit, visits, next_visit};
 ghost use Rattle.homeo_forecast.specs.inner.Prepared.{IsPrepared};
 ghost use Rattle.homeo_forecast.specs.inner.Replays.{IsReplay, IsSomeReplay, CanBound};
-ghost use Rattle.homeo_forecast.specs.inner.Raising.{CanTest};
+ghost use Rattle.homeo_forecast.specs.inner.Raising.{CanTest, AreSums};
 ghost use Rattle.homeo_forecast.specs.inner.Rooms.{HaveRooms};
 ghost use Rattle.homeo_forecast.specs.inner.Stops.{first_of, first_among, clause_stop_at, freeze_stop_at};
 ghost use Rattle.homeo_forecast.specs.inner.Touches.{AreFound};
@@ -34,15 +34,18 @@ use homeo_site::OwnCalls;
 use homeo_syntax::Memory;
 use std::alloc::Global;
 
-/// What calls have left so far: the deltas of each site, and the room in each clause; and where calls run.
+/// What calls have left so far: the deltas of each site, and the room in each clause; and where calls run and
+/// their sums stand.
 #[derive(Drop)]
 pub(crate) struct Replay {
     pub(crate) deltas: Vec<Vec<i64>>,
     pub(crate) rooms: Vec<Room>,
     pub(crate) scratch: Scratch,
+    pub(crate) sums: Vec<i128>,
 }
 
-/// The first stop among the clauses and freezes of these numbers.
+/// The first stop among the clauses and freezes of these numbers. Where there is none, `sums` are left as the site's sums in these
+/// clauses.
 fn first_stop(
     alloc: Global,
     template: &Template,
@@ -51,16 +54,18 @@ fn first_stop(
     freezes: &[u32],
     site: u32,
     deltas: &[i64],
+    sums: &mut Vec<i128>,
 ) -> Result<Option<Stop>, Memory>
     requires clauses { All (λ n. n < length rooms.now) clauses.now }
     requires freezes { let t = template.now in All (λ n. (length t.clauses.items ≤ n) × (n < length t.clauses.items + length t.freezes.items)) freezes.now }
     requires can { CanTest rooms.now site deltas.now }
-    ensures { (k : ℕ) (vs : List Visit) (v : Visit) → HaveRooms k vs (plain_template template.now).clauses rooms.now → v.site ≡ site → site < k →
+    ensures stop { (k : ℕ) (vs : List Visit) (v : Visit) → HaveRooms k vs (plain_template template.now).clauses rooms.now → v.site ≡ site → site < k →
         v.deltas ≡ values_of deltas.now → let t = plain_template template.now in IfOk result (λ o. option_map plain_stop o ≡
         first_of (first_among (clause_stop_at k (vs ++ v ∷ []) t.clauses) clauses.now)
         (first_among (freeze_stop_at (length t.clauses) site (values_of deltas.now) t.freezes) freezes.now)) }
+    ensures sums { IfOk result (λ o. o ≡ None → AreSums rooms.now site deltas.now clauses.now sums.new.items) }
 {
-    let stop = first_spent(alloc, rooms, clauses, site, deltas)?;
+    let stop = first_spent(alloc, rooms, clauses, site, deltas, sums)?;
     if stop.is_some() {
         return Ok(stop);
     }
@@ -123,6 +128,7 @@ impl Replay {
             deltas,
             rooms,
             scratch: Scratch::new(alloc),
+            sums: Vec::new(alloc),
         })
     }
 
@@ -165,6 +171,7 @@ impl Replay {
             touched.freezes.as_slice(),
             site,
             deltas.as_slice(),
+            &mut self.sums,
         )?;
         if stop.is_some() {
             return Ok(stop);
@@ -172,8 +179,8 @@ impl Replay {
         raise_all(
             self.rooms.as_mut_slice(),
             touched.clauses.as_slice(),
+            self.sums.as_slice(),
             site,
-            deltas.as_slice(),
         );
         Ok(None)
     }

@@ -10,7 +10,7 @@ use Rattle.homeo_plan.specs.declared.round.RoundPlan.{RoundPlan}
 use Rattle.homeo_forecast.specs.View.{plain_stop}
 use Rattle.homeo_forecast.specs.declared.replay.Replay.{Replay}
 use Rattle.homeo_forecast.specs.declared.touches.Touched.{Touched}
-use Rattle.homeo_forecast.specs.inner.Raising.{SomeRaised}
+use Rattle.homeo_forecast.specs.inner.Raising.{AreSiteSums, SomeRaised}
 use Rattle.homeo_forecast.proofs.CallEnds as ends
 use Rattle.homeo_forecast.proofs.StopSteps.{none_is, some_is_not}
 use Rattle.homeo_forecast.proofs.replay.Replay.call.Goals as goal
@@ -84,7 +84,7 @@ returns-then-is_some-clause-stop c = λ before kept.
     c.in_ok-run.ensures.count (c.in_ok-run.ensures.deltas _ _ _ _ own.runs) in
     ends.stop_there ran kept (option_map plain_stop c.in_ok-stop.stop) c.as_slice-2.result.now c.as_slice-3.result.now (plain_template c.deref-2.result.now.template)
     c.as_slice.result.now c.as_slice-4.result.now (c.as_slice-2.ensures ∙ ap (λ (t : Touched). t.clauses.items) c.deref-touched.ensures ∙ c.in_ok-found.ensures.touched.clauses) (c.as_slice-3.ensures ∙ ap (λ (t : Touched). t.freezes.items) c.deref-touched.ensures ∙ c.in_ok-found.ensures.touched.freezes)
-    (ends.template_there c.requires.prepared c.deref-2.result.now c.deref-2.ensures) c.as_slice.ensures.value c.as_slice-4.ensures.value c.in_ok-stop.ensures
+    (ends.template_there c.requires.prepared c.deref-2.result.now c.deref-2.ensures) c.as_slice.ensures.value c.as_slice-4.ensures.value c.in_ok-stop.ensures.stop
 
 pub raise_all-requires-clause-numbers : goal.raise_all-requires-clause-numbers
 raise_all-requires-clause-numbers c =
@@ -105,9 +105,15 @@ raise_all-requires-clause-can c =
     let stop =
     ends.stop_there ran kept (option_map plain_stop c.in_ok-stop.stop) c.as_slice-2.result.now c.as_slice-3.result.now (plain_template c.deref-2.result.now.template)
     c.as_slice.result.now c.as_slice-4.result.now (c.as_slice-2.ensures ∙ ap (λ (t : Touched). t.clauses.items) c.deref-touched.ensures ∙ c.in_ok-found.ensures.touched.clauses) (c.as_slice-3.ensures ∙ ap (λ (t : Touched). t.freezes.items) c.deref-touched.ensures ∙ c.in_ok-found.ensures.touched.freezes)
-    (ends.template_there c.requires.prepared c.deref-2.result.now c.deref-2.ensures) c.as_slice.ensures.value c.as_slice-4.ensures.value c.in_ok-stop.ensures in
+    (ends.template_there c.requires.prepared c.deref-2.result.now c.deref-2.ensures) c.as_slice.ensures.value c.as_slice-4.ensures.value c.in_ok-stop.ensures.stop in
+    let numbers = ends.clauses_there ran kept c.as_slice-2.result.now c.as_slice.result.now (c.as_slice-2.ensures ∙ ap (λ (t : Touched). t.clauses.items) c.deref-touched.ensures ∙ c.in_ok-found.ensures.touched.clauses)
+    c.as_slice.ensures.value in
+    let summed = ends.sums_there ran kept c.as_slice.result.now c.as_slice-4.result.now c.as_slice-2.result.now c.first_stop-stop.new.sums.items c.as_slice.ensures.value c.as_slice-4.ensures.value
+    numbers (c.in_ok-stop.ensures.sums (none_is c.in_ok-stop.stop (sym c.if-is_some.ensures))) in
+    let site_sums = subst (λ l. AreSiteSums _ _ _ l c.as_slice-6.result.now) (c.as_slice-2.ensures ∙ sym c.as_slice-5.ensures)
+    (subst (AreSiteSums _ _ _ c.as_slice-2.result.now) (sym c.as_slice-6.ensures.value) summed) in
     ends.raise_there ran kept (sym stop ∙ ap (option_map plain_stop) (none_is c.in_ok-stop.stop (sym c.if-is_some.ensures)))
-    c.as_mut_slice.result.now c.as_slice-6.result.now c.as_mut_slice.ensures.value c.as_slice-6.ensures.value
+    c.as_mut_slice.result.now c.run.new.deltas.items c.as_slice-5.result.now c.as_slice-6.result.now c.as_mut_slice.ensures.value refl site_sums
 
 pub returns-clause-kept : goal.returns-clause-kept
 returns-clause-kept c = λ before kept none.
@@ -118,15 +124,21 @@ returns-clause-kept c = λ before kept none.
     let stop =
     ends.stop_there ran kept (option_map plain_stop c.in_ok-stop.stop) c.as_slice-2.result.now c.as_slice-3.result.now (plain_template c.deref-2.result.now.template)
     c.as_slice.result.now c.as_slice-4.result.now (c.as_slice-2.ensures ∙ ap (λ (t : Touched). t.clauses.items) c.deref-touched.ensures ∙ c.in_ok-found.ensures.touched.clauses) (c.as_slice-3.ensures ∙ ap (λ (t : Touched). t.freezes.items) c.deref-touched.ensures ∙ c.in_ok-found.ensures.touched.freezes)
-    (ends.template_there c.requires.prepared c.deref-2.result.now c.deref-2.ensures) c.as_slice.ensures.value c.as_slice-4.ensures.value c.in_ok-stop.ensures in
+    (ends.template_there c.requires.prepared c.deref-2.result.now c.deref-2.ensures) c.as_slice.ensures.value c.as_slice-4.ensures.value c.in_ok-stop.ensures.stop in
     let new : Replay = record {
       deltas = with_item c.args.self.now.deltas c.deref-own.result.now.program.site c.run.new.deltas;
       rooms = with_items c.args.self.now.rooms c.raise_all.new.rooms;
       scratch = c.run.new.self;
+      sums = c.first_stop-stop.new.sums;
     } in
     let rooms = ends.rooms_there ran kept _ c.as_mut_slice.result.now refl c.as_mut_slice.ensures.value in
-    let raised = c.raise_all.ensures _ _ _ _ rooms (ends.visit_at ran kept) (ends.site_below ran kept)
-    (ends.deltas_there ran kept c.as_slice-6.result.now c.as_slice-6.ensures.value) in
+    let numbers = ends.clauses_there ran kept c.as_slice-2.result.now c.as_slice.result.now (c.as_slice-2.ensures ∙ ap (λ (t : Touched). t.clauses.items) c.deref-touched.ensures ∙ c.in_ok-found.ensures.touched.clauses)
+    c.as_slice.ensures.value in
+    let summed = ends.sums_there ran kept c.as_slice.result.now c.as_slice-4.result.now c.as_slice-2.result.now c.first_stop-stop.new.sums.items c.as_slice.ensures.value c.as_slice-4.ensures.value
+    numbers (c.in_ok-stop.ensures.sums (none_is c.in_ok-stop.stop (sym c.if-is_some.ensures))) in
+    let site_sums = subst (λ l. AreSiteSums _ _ _ l c.as_slice-6.result.now) (c.as_slice-2.ensures ∙ sym c.as_slice-5.ensures)
+    (subst (AreSiteSums _ _ _ c.as_slice-2.result.now) (sym c.as_slice-6.ensures.value) summed) in
+    let raised = c.raise_all.ensures _ _ _ _ rooms (ends.visit_at ran kept) (ends.site_below ran kept) site_sums in
     let all : new.rooms.items ≡ c.raise_all.new.rooms =
     with_items_is c.args.self.now.rooms c.raise_all.new.rooms
     (omega (arith, raised.count, rooms.count, ap length c.as_mut_slice.ensures.value, c.args.self.now.rooms.ok.0)) in
@@ -143,7 +155,7 @@ returns-clause-stop c = λ before kept.
     sym (ap (option_map plain_stop) (none_is c.in_ok-stop.stop (sym c.if-is_some.ensures)))
     ∙ ends.stop_there ran kept (option_map plain_stop c.in_ok-stop.stop) c.as_slice-2.result.now c.as_slice-3.result.now (plain_template c.deref-2.result.now.template)
     c.as_slice.result.now c.as_slice-4.result.now (c.as_slice-2.ensures ∙ ap (λ (t : Touched). t.clauses.items) c.deref-touched.ensures ∙ c.in_ok-found.ensures.touched.clauses) (c.as_slice-3.ensures ∙ ap (λ (t : Touched). t.freezes.items) c.deref-touched.ensures ∙ c.in_ok-found.ensures.touched.freezes)
-    (ends.template_there c.requires.prepared c.deref-2.result.now c.deref-2.ensures) c.as_slice.ensures.value c.as_slice-4.ensures.value c.in_ok-stop.ensures
+    (ends.template_there c.requires.prepared c.deref-2.result.now c.deref-2.ensures) c.as_slice.ensures.value c.as_slice-4.ensures.value c.in_ok-stop.ensures.stop
 
 pub get-requires-clause-within : goal.get-requires-clause-within
 get-requires-clause-within c =
