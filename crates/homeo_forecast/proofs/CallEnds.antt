@@ -276,10 +276,11 @@ module _
         ∙ step.call_stop w base before call ran.here.accepted ran.here.within kept.exist ran.here.exists kept.served
 
     pub sums_there :
-        (rs : List Room) (ds : List ℤ) (ns : List ℕ) (sums : List ℤ) → rs ≡ old.rooms.items → ds ≡ ys → All (λ n. n < length rs) ns →
-        AreSums rs site ds ns sums → AreSiteSums site v t.clauses ns sums
-    sums_there rs ds ns sums rs_is ds_is there are =
-        site_sums k vs v t.clauses rs site ds ns sums (rooms_there t rs refl rs_is) site_below (deltas_there ds ds_is) there are
+        (rs : List Room) (ds : List ℤ) (ns lent_ns : List ℕ) (sums lent_sums : List ℤ) → rs ≡ old.rooms.items → ds ≡ ys → All (λ n. n < length rs) ns →
+        AreSums rs site ds ns sums → lent_ns ≡ ns → lent_sums ≡ sums → AreSiteSums site v t.clauses lent_ns lent_sums
+    sums_there rs ds ns lent_ns sums lent_sums rs_is ds_is there are same_ns same_sums =
+        let here = site_sums k vs v t.clauses rs site ds ns sums (rooms_there t rs refl rs_is) site_below (deltas_there ds ds_is) there are in
+        subst (λ l. AreSiteSums site v t.clauses l lent_sums) (sym same_ns) (subst (AreSiteSums site v t.clauses ns) (sym same_sums) here)
 
     -- ---- where nothing does
     module _ (none : first_stop k t vs v ≡ None) where

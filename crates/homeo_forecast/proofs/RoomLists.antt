@@ -1,5 +1,5 @@
 -- Rooms at their places, and rooms of which some have taken one visit more.
-use Rattle.std.proofs.Common.{◌≡◌, ◌⊎◌, inl, inr, ⊎_elim, ℕ, ◌+◌, ◌<◌, List, [], ◌∷◌, ◌++◌, length, get_or, take, All, ℤ, pos, ◌+ℤ◌, ◌≤ℤ◌, FitsSigned, Option, sym, ap, ◌∙◌, subst, arith}
+use Rattle.std.proofs.Common.{◌≡◌, ◌⊎◌, inl, inr, ⊎_elim, ℕ, ◌+◌, ◌<◌, ◌≤◌, List, [], ◌∷◌, ◌++◌, length, get_or, take, All, ℤ, pos, ◌+ℤ◌, ◌≤ℤ◌, FitsSigned, Option, sym, ap, ◌∙◌, subst, arith}
 use Rattle.std.specs.Int.{w128}
 use Rattle.std.proofs.Math.ListN.{set}
 use Rattle.std.proofs.lemmas.Bool.{cases_lt}
@@ -152,15 +152,15 @@ module _ (rs : List Room) (site : ℕ) (deltas : List ℤ) where
       (r : Room) → r ≡ get_or rs (get_or ns idx d) r → get_or ns idx d < length rs →
       (sum : ℤ) → sum ≡ term_sum (own_at r.own.items site) (values_of deltas) → (more : List ℤ) → more ≡ sums ++ sum ∷ [] →
       AreSums rs site deltas (take (idx + 1) ns) more
-  sums_more ns idx d sums here are r is there sum e more m =
-      let taken : length (take idx ns) ≡ idx = length-take-le idx ns (omega (arith, here)) in
+  sums_more ns idx d sums inside are r is there sum e more m =
+      let taken : length (take idx ns) ≡ idx = length-take-le idx ns (omega (arith, inside)) in
       let counted : length sums ≡ idx = are.count ∙ taken in
       record {
         count =
             ap length m ∙ length-append sums (sum ∷ []) ∙ ap (λ n. n + 1) are.count
-            ∙ sym (ap length (take_more ns idx d here) ∙ length-append (take idx ns) (get_or ns idx d ∷ []));
+            ∙ sym (ap length (take_more ns idx d inside) ∙ length-append (take idx ns) (get_or ns idx d ∷ []));
         each = λ j d2 e2 r2 lt.
-            let less : j < idx + 1 = subst (λ n. j < n) (ap length (take_more ns idx d here) ∙ length-append (take idx ns) (get_or ns idx d ∷ []) ∙ ap (λ n. n + 1) taken) lt in
+            let less : j < idx + 1 = subst (λ n. j < n) (ap length (take_more ns idx d inside) ∙ length-append (take idx ns) (get_or ns idx d ∷ []) ∙ ap (λ n. n + 1) taken) lt in
             ap (λ l. get_or l j e2) m
             ∙ ⊎_elim
             (λ (before : j < idx).
@@ -174,7 +174,7 @@ module _ (rs : List Room) (site : ℕ) (deltas : List ℤ) where
             ∙ ap (λ (q : Room). term_sum (own_at q.own.items site) (values_of deltas))
             (is ∙ get_or_default rs (get_or ns idx d) r r2 there)
             ∙ ap (λ n. term_sum (own_at (get_or rs n r2).own.items site) (values_of deltas))
-            (get_or_default ns idx d d2 here ∙ sym (get_or-take (idx + 1) ns j d2 less ∙ ap (λ i. get_or ns i d2) (omega (arith, at, less)))))
+            (get_or_default ns idx d d2 inside ∙ sym (get_or-take (idx + 1) ns j d2 less ∙ ap (λ i. get_or ns i d2) (omega (arith, at, less)))))
             (cases_lt j idx);
       }
 

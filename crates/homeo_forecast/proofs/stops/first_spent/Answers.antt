@@ -26,8 +26,8 @@ sum-sum-requires-clause-fits c =
     can_there c.args.rooms.now c.args.site c.args.deltas.now c.requires.can _ (c.requires.numbers c.loop-number.number-index 0 c.loop-number-test.true)
     c.index-rooms-number.result c.index-rooms-number.is
 
-pub stop-stop-requires : goal.stop-stop-requires
-stop-stop-requires c =
+pub stop-requires : goal.stop-requires
+stop-requires c =
     open_there c.args.rooms.now c.args.site c.args.deltas.now c.requires.can _ (c.requires.numbers c.loop-number.number-index 0 c.loop-number-test.true)
     c.index-rooms-number.result c.index-rooms-number.is
 

@@ -10,13 +10,13 @@ use Rattle.homeo_plan.specs.declared.round.RoundPlan.{RoundPlan}
 use Rattle.homeo_forecast.specs.View.{plain_stop}
 use Rattle.homeo_forecast.specs.declared.replay.Replay.{Replay}
 use Rattle.homeo_forecast.specs.declared.touches.Touched.{Touched}
-use Rattle.homeo_forecast.specs.inner.Raising.{AreSiteSums, SomeRaised}
+use Rattle.homeo_forecast.specs.inner.Raising.{SomeRaised}
 use Rattle.homeo_forecast.proofs.CallEnds as ends
 use Rattle.homeo_forecast.proofs.StopSteps.{none_is, some_is_not}
 use Rattle.homeo_forecast.proofs.replay.Replay.call.Goals as goal
 
-pub get-found-requires-clause-own : goal.get-found-requires-clause-own
-get-found-requires-clause-own c = ends.own_here c.args.call c.deref.ensures c.deref-own.ensures c.in_ok-made.ensures.own
+pub get-requires-2-clause-own : goal.get-requires-2-clause-own
+get-requires-2-clause-own c = ends.own_here c.args.call c.deref.ensures c.deref-own.ensures c.in_ok-made.ensures.own
 
 pub index_mut-deltas-requires : goal.index_mut-deltas-requires
 index_mut-deltas-requires c =
@@ -108,10 +108,10 @@ raise_all-requires-clause-can c =
     (ends.template_there c.requires.prepared c.deref-2.result.now c.deref-2.ensures) c.as_slice.ensures.value c.as_slice-4.ensures.value c.in_ok-stop.ensures.stop in
     let numbers = ends.clauses_there ran kept c.as_slice-2.result.now c.as_slice.result.now (c.as_slice-2.ensures ∙ ap (λ (t : Touched). t.clauses.items) c.deref-touched.ensures ∙ c.in_ok-found.ensures.touched.clauses)
     c.as_slice.ensures.value in
-    let summed = ends.sums_there ran kept c.as_slice.result.now c.as_slice-4.result.now c.as_slice-2.result.now c.first_stop-stop.new.sums.items c.as_slice.ensures.value c.as_slice-4.ensures.value
-    numbers (c.in_ok-stop.ensures.sums (none_is c.in_ok-stop.stop (sym c.if-is_some.ensures))) in
-    let site_sums = subst (λ l. AreSiteSums _ _ _ l c.as_slice-6.result.now) (c.as_slice-2.ensures ∙ sym c.as_slice-5.ensures)
-    (subst (AreSiteSums _ _ _ c.as_slice-2.result.now) (sym c.as_slice-6.ensures.value) summed) in
+    let site_sums =
+    ends.sums_there ran kept c.as_slice.result.now c.as_slice-4.result.now c.as_slice-2.result.now c.as_slice-5.result.now c.first_stop.new.sums.items
+    c.as_slice-6.result.now c.as_slice.ensures.value c.as_slice-4.ensures.value numbers
+    (c.in_ok-stop.ensures.sums (none_is c.in_ok-stop.stop (sym c.if-is_some.ensures))) (c.as_slice-5.ensures ∙ sym c.as_slice-2.ensures) c.as_slice-6.ensures.value in
     ends.raise_there ran kept (sym stop ∙ ap (option_map plain_stop) (none_is c.in_ok-stop.stop (sym c.if-is_some.ensures)))
     c.as_mut_slice.result.now c.run.new.deltas.items c.as_slice-5.result.now c.as_slice-6.result.now c.as_mut_slice.ensures.value refl site_sums
 
@@ -129,15 +129,15 @@ returns-clause-kept c = λ before kept none.
       deltas = with_item c.args.self.now.deltas c.deref-own.result.now.program.site c.run.new.deltas;
       rooms = with_items c.args.self.now.rooms c.raise_all.new.rooms;
       scratch = c.run.new.self;
-      sums = c.first_stop-stop.new.sums;
+      sums = c.first_stop.new.sums;
     } in
     let rooms = ends.rooms_there ran kept _ c.as_mut_slice.result.now refl c.as_mut_slice.ensures.value in
     let numbers = ends.clauses_there ran kept c.as_slice-2.result.now c.as_slice.result.now (c.as_slice-2.ensures ∙ ap (λ (t : Touched). t.clauses.items) c.deref-touched.ensures ∙ c.in_ok-found.ensures.touched.clauses)
     c.as_slice.ensures.value in
-    let summed = ends.sums_there ran kept c.as_slice.result.now c.as_slice-4.result.now c.as_slice-2.result.now c.first_stop-stop.new.sums.items c.as_slice.ensures.value c.as_slice-4.ensures.value
-    numbers (c.in_ok-stop.ensures.sums (none_is c.in_ok-stop.stop (sym c.if-is_some.ensures))) in
-    let site_sums = subst (λ l. AreSiteSums _ _ _ l c.as_slice-6.result.now) (c.as_slice-2.ensures ∙ sym c.as_slice-5.ensures)
-    (subst (AreSiteSums _ _ _ c.as_slice-2.result.now) (sym c.as_slice-6.ensures.value) summed) in
+    let site_sums =
+    ends.sums_there ran kept c.as_slice.result.now c.as_slice-4.result.now c.as_slice-2.result.now c.as_slice-5.result.now c.first_stop.new.sums.items
+    c.as_slice-6.result.now c.as_slice.ensures.value c.as_slice-4.ensures.value numbers
+    (c.in_ok-stop.ensures.sums (none_is c.in_ok-stop.stop (sym c.if-is_some.ensures))) (c.as_slice-5.ensures ∙ sym c.as_slice-2.ensures) c.as_slice-6.ensures.value in
     let raised = c.raise_all.ensures _ _ _ _ rooms (ends.visit_at ran kept) (ends.site_below ran kept) site_sums in
     let all : new.rooms.items ≡ c.raise_all.new.rooms =
     with_items_is c.args.self.now.rooms c.raise_all.new.rooms

@@ -23,16 +23,16 @@ returns-in-Some-clause-touched c =
     c.args.self.now.found.items c.requires.found
     c.index.result.now c.in-Some.touched c.index.ensures c.in-Some.is)
 
-pub touched-made-requires-clause-indexes : goal.touched-made-requires-clause-indexes
-touched-made-requires-clause-indexes c =
+pub touched-requires-clause-indexes : goal.touched-requires-clause-indexes
+touched-requires-clause-indexes c =
     ends.indexes_there c.args.call c.requires.prepared c.requires.exists c.requires.own c.as_slice.result.now c.as_slice.ensures
 
-pub touched-made-requires-clause-site : goal.touched-made-requires-clause-site
-touched-made-requires-clause-site c =
+pub touched-requires-clause-site : goal.touched-requires-clause-site
+touched-requires-clause-site c =
     ends.site_indexed c.args.call c.requires.prepared c.requires.exists c.requires.own c.as_slice.result.now c.as_slice.ensures
 
-pub touched-made-requires-clause-own : goal.touched-made-requires-clause-own
-touched-made-requires-clause-own c =
+pub touched-requires-clause-own : goal.touched-requires-clause-own
+touched-requires-clause-own c =
     ends.own_written c.args.call c.requires.prepared c.requires.exists c.requires.own c.as_slice.result.now c.as_slice.ensures
 
 pub put-requires : goal.put-requires
