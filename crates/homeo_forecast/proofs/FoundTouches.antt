@@ -1,5 +1,5 @@
 -- What was found of ground calls stands at their numbers.
-use Rattle.std.proofs.Common.{◌≡◌, ⊎_elim, ℕ, ◌<◌, List, length, get_or, map, replicate, slice_get, slice_set, ℤ, Option, Some, None, sym, ap, ◌∙◌, subst, arith}
+use Rattle.std.proofs.Common.{◌≡◌, ⊎_elim, ℕ, ◌<◌, List, length, get_or, map, replicate, slice_get, slice_set, ℤ, Option, Some, None, sym, ap, ◌∙◌, subst}
 use Rattle.std.specs.Option.{option_map_or}
 use Rattle.std.specs.declared.sync.Arc.{Arc}
 use Rattle.std.proofs.lemmas.List.{get_or_default, length-map, length-set, length-replicate}
@@ -47,11 +47,11 @@ module _
       each = λ other m u ground there.
           ⊎_elim
           (λ same.
-              let here : Some t ≡ Some u =
-              sym (set_here found n (Some t) None place_within) ∙ ap (λ k. get_or (slice_set found n (Some t)) k None) (sym same) ∙ there in
-              let values : t.value ≡ u.value = cc in
-              subst (IsTouchedBy w base (planned_at w other)) values
-              (subst (λ (g : PlannedCall). IsTouchedBy w base g t.value) (planned_alike w call other (sym place ∙ ap (slice_get (grounds w)) (sym same) ∙ ground)) is))
+          let here : Some t ≡ Some u =
+          sym (set_here found n (Some t) None place_within) ∙ ap (λ k. get_or (slice_set found n (Some t)) k None) (sym same) ∙ there in
+          let values : t.value ≡ u.value = cc in
+          subst (IsTouchedBy w base (planned_at w other)) values
+          (subst (λ (g : PlannedCall). IsTouchedBy w base g t.value) (planned_alike w call other (sym place ∙ ap (slice_get (grounds w)) (sym same) ∙ ground)) is))
           (λ apart. are.each other m u ground (sym (set_apart found n m (Some t) None apart) ∙ there))
           (same_number m n);
     }

@@ -2,7 +2,6 @@
 use Rattle.std.proofs.Common.{sym, ◌∙◌, subst, arith}
 use Rattle.homeo_syntax.specs.SourceView.{plain_workload}
 use Rattle.homeo_plan.specs.Planned.{planned_at}
-use Rattle.homeo_forecast.specs.declared.touches.Touched.{Touched}
 use Rattle.homeo_forecast.specs.inner.Touches.{IsTouchedBy, AreTouched}
 use Rattle.homeo_forecast.proofs.CallEnds as ends
 use Rattle.homeo_forecast.proofs.FoundTouches.{place_within, found_there, found_more}
