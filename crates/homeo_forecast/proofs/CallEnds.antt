@@ -42,15 +42,17 @@ use Rattle.homeo_forecast.specs.declared.replay.Replay.{Replay}
 use Rattle.homeo_forecast.specs.declared.rooms.Room.{Room}
 use Rattle.homeo_forecast.specs.declared.prepared.Prepared.{Prepared}
 use Rattle.homeo_forecast.specs.inner.Prepared.{AreIndexes, IsPrepared}
-use Rattle.homeo_forecast.specs.inner.Raising.{CanTest, CanRaise, SomeRaised}
+use Rattle.homeo_forecast.specs.inner.Raising.{CanTest, AreSums, AreSiteSums, CanRaise, SomeRaised}
 use Rattle.homeo_forecast.specs.inner.Replays.{site_lists, AreDeltas, IsReplay}
 use Rattle.homeo_forecast.specs.inner.Rooms.{HaveRooms}
 use Rattle.homeo_forecast.specs.inner.Stops.{clause_stop_at, freeze_stop_at, first_of, first_among}
 use Rattle.homeo_forecast.specs.inner.Sums.{terms_at, CanSum}
+use Rattle.homeo_forecast.specs.declared.touches.Touched.{Touched}
+use Rattle.homeo_forecast.specs.inner.Touches.{IsTouchedBy}
 use Rattle.homeo_forecast.proofs.CallSteps as step
 use Rattle.homeo_forecast.proofs.Prefixes as prefixes
 use Rattle.homeo_forecast.proofs.ReplayLists.{goes_on}
-use Rattle.homeo_forecast.proofs.RoomLists.{all_raised}
+use Rattle.homeo_forecast.proofs.RoomLists.{all_raised, site_sums}
 use Rattle.homeo_forecast.proofs.TouchedStops.{within_numbers}
 
 -- a call of an accepted workload, on a base within its bounds, at its site
@@ -104,15 +106,22 @@ module _
         subst (λ i. WritesOwn i (low_commands (map plain_lcommand lent))) (sym own.runs.site)
         (subst (WritesOwn (planned_at w call).site) (sym its_commands) (writes_own w base (planned_at w call) (planned_member w call exists)))
 
-    pub clauses_are :
+    clauses_are :
         touched_clauses (written (low_commands (map plain_lcommand lent))) (plain_template p.plan.value.template) ≡
         touched_clauses (written (base_row (sites_of w) (values_of base) (planned_at w call)).residual) (template_at w base)
     clauses_are = ap₂ (λ cs (u : Template). touched_clauses (written cs) u) its_commands prepared.plan.template
 
-    pub freezes_are :
+    freezes_are :
         touched_freezes (written (low_commands (map plain_lcommand lent))) (plain_template p.plan.value.template) ≡
         touched_freezes (written (base_row (sites_of w) (values_of base) (planned_at w call)).residual) (template_at w base)
     freezes_are = ap₂ (λ cs (u : Template). touched_freezes (written cs) u) its_commands prepared.plan.template
+
+    -- what they touch is what the call touches
+    pub touched_is :
+        (t : Touched) → t.clauses.items ≡ touched_clauses (written (low_commands (map plain_lcommand lent))) (plain_template p.plan.value.template) →
+        t.freezes.items ≡ touched_freezes (written (low_commands (map plain_lcommand lent))) (plain_template p.plan.value.template) →
+        IsTouchedBy w base (planned_at w call) t
+    touched_is t clauses freezes = record { clauses = clauses ∙ clauses_are; freezes = freezes ∙ freezes_are }
 
 abbrev deltas_of : Replay → ℕ → List ℤ
 deltas_of r i = get_or (site_lists r) i []
@@ -266,15 +275,25 @@ module _
         ran.here.at (sym (deltas_there ds ds_is))
         ∙ step.call_stop w base before call ran.here.accepted ran.here.within kept.exist ran.here.exists kept.served
 
+    pub sums_there :
+        (rs : List Room) (ds : List ℤ) (ns lent_ns : List ℕ) (sums lent_sums : List ℤ) → rs ≡ old.rooms.items → ds ≡ ys → All (λ n. n < length rs) ns →
+        AreSums rs site ds ns sums → lent_ns ≡ ns → lent_sums ≡ sums → AreSiteSums site v t.clauses lent_ns lent_sums
+    sums_there rs ds ns lent_ns sums lent_sums rs_is ds_is there are same_ns same_sums =
+        let here = site_sums k vs v t.clauses rs site ds ns sums (rooms_there t rs refl rs_is) site_below (deltas_there ds ds_is) there are in
+        subst (λ l. AreSiteSums site v t.clauses l lent_sums) (sym same_ns) (subst (AreSiteSums site v t.clauses ns) (sym same_sums) here)
+
     -- ---- where nothing does
     module _ (none : first_stop k t vs v ≡ None) where
-      pub raise_there : (rs : List Room) (ds : List ℤ) → rs ≡ old.rooms.items → ds ≡ ys → CanRaise rs site ds
+      pub raise_there :
+          (rs : List Room) (ds : List ℤ) (ns : List ℕ) (sums : List ℤ) → rs ≡ old.rooms.items → ds ≡ ys → AreSiteSums site v t.clauses ns sums →
+          CanRaise rs site ns sums
       unfolding test_there
-      raise_there rs ds rs_is ds_is = record {
+      raise_there rs ds ns sums rs_is ds_is sums_are = record {
+        deltas = ds;
         test = test_there rs ds rs_is ds_is;
         visit = v;
         at = visit_at;
-        are = deltas_there ds ds_is;
+        are = sums_are;
         fit = step.fit_after w base before call ran.here.accepted ran.here.within kept.exist ran.here.exists kept.served none;
       }
 

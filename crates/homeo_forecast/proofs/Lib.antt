@@ -1,6 +1,7 @@
 pub mod CallEnds
 pub mod CallSteps
 pub mod ForecastSteps
+pub mod FoundTouches
 pub mod IndexLists
 pub mod Lists
 pub mod OneText

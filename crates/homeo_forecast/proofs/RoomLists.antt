@@ -1,8 +1,9 @@
 -- Rooms at their places, and rooms of which some have taken one visit more.
-use Rattle.std.proofs.Common.{◌≡◌, ◌⊎◌, inl, inr, ⊎_elim, ℕ, ◌+◌, ◌<◌, List, [], ◌∷◌, ◌++◌, length, get_or, take, ℤ, pos, ◌+ℤ◌, ◌≤ℤ◌, FitsSigned, Option, sym, ◌∙◌, subst, arith}
+use Rattle.std.proofs.Common.{◌≡◌, ◌⊎◌, inl, inr, ⊎_elim, ℕ, ◌+◌, ◌<◌, ◌≤◌, List, [], ◌∷◌, ◌++◌, length, get_or, take, All, ℤ, pos, ◌+ℤ◌, ◌≤ℤ◌, FitsSigned, Option, sym, ap, ◌∙◌, subst, arith}
 use Rattle.std.specs.Int.{w128}
 use Rattle.std.proofs.Math.ListN.{set}
-use Rattle.std.proofs.lemmas.List.{take_more}
+use Rattle.std.proofs.lemmas.Bool.{cases_lt}
+use Rattle.std.proofs.lemmas.List.{take_more, length-append, length-take-le, get_or-take, get_or_append_left, get_or-append-add, get_or_default}
 use Rattle.homeo_meaning.specs.Serial.{values_of}
 use Rattle.homeo_plan.specs.Key.{definitions as plan_definitions}
 use Rattle.homeo_plan.specs.Each.{Member}
@@ -12,13 +13,13 @@ use Rattle.homeo_forecast.specs.Key.{definitions}
 use Rattle.homeo_forecast.specs.Peaks.{Stop, peaks}
 use Rattle.homeo_forecast.specs.Visits.{Visit}
 use Rattle.homeo_forecast.specs.declared.rooms.Room.{Room}
-use Rattle.homeo_forecast.specs.inner.Raising.{CanTest, CanRaise, SomeRaised}
+use Rattle.homeo_forecast.specs.inner.Raising.{CanTest, AreSums, AreSiteSums, CanRaise, SomeRaised}
 use Rattle.homeo_forecast.specs.inner.Replays.{CanBound}
 use Rattle.homeo_forecast.specs.inner.Rooms.{HasRoom, HaveRooms, IsOpen}
 use Rattle.homeo_forecast.specs.inner.Stops.{clause_stop, clause_stop_at}
-use Rattle.homeo_forecast.specs.inner.Sums.{terms_at, own_at, AreOwnTerms, CanSum}
+use Rattle.homeo_forecast.specs.inner.Sums.{terms_at, own_at, AreOwnTerms, term_sum, CanSum}
 use Rattle.homeo_forecast.proofs.Lists.{each_there, set_count, set_here, set_apart, same_number}
-use Rattle.homeo_forecast.proofs.RoomSteps.{is_open, bound_fits}
+use Rattle.homeo_forecast.proofs.RoomSteps.{is_open, bound_fits, sum_at}
 
 -- ---- lists
 member_last : (m y : ℕ) (xs : List ℕ) → Member m (xs ++ y ∷ []) → Member m xs ⊎ (y ≡ m)
@@ -138,18 +139,65 @@ module _ (k : ℕ) (vs : List Visit) (v : Visit) (cs : List Clause) where
       site < k → IsOpen site r
   either_open site c r h before after lt = ⊎_elim (λ a. is_open k vs c site r a before lt) (λ b. is_open k us c site r b after lt) h
 
+-- ---- sums in the rooms of numbers
+module _ (rs : List Room) (site : ℕ) (deltas : List ℤ) where
+  pub no_sums : (ns : List ℕ) (sums : List ℤ) → ns ≡ [] → sums ≡ [] → AreSums rs site deltas ns sums
+  no_sums ns sums none empty = record {
+    count = ap length empty ∙ sym (ap length none);
+    each = λ j d e r lt. absurd (let few : j < 0 = subst (λ (l : List ℕ). j < length l) none lt in omega arith);
+  }
+
+  pub sums_more :
+      (ns : List ℕ) (idx d : ℕ) (sums : List ℤ) → idx < length ns → AreSums rs site deltas (take idx ns) sums →
+      (r : Room) → r ≡ get_or rs (get_or ns idx d) r → get_or ns idx d < length rs →
+      (sum : ℤ) → sum ≡ term_sum (own_at r.own.items site) (values_of deltas) → (more : List ℤ) → more ≡ sums ++ sum ∷ [] →
+      AreSums rs site deltas (take (idx + 1) ns) more
+  sums_more ns idx d sums inside are r is there sum e more m =
+      let taken : length (take idx ns) ≡ idx = length-take-le idx ns (omega (arith, inside)) in
+      let counted : length sums ≡ idx = are.count ∙ taken in
+      record {
+        count =
+            ap length m ∙ length-append sums (sum ∷ []) ∙ ap (λ n. n + 1) are.count
+            ∙ sym (ap length (take_more ns idx d inside) ∙ length-append (take idx ns) (get_or ns idx d ∷ []));
+        each = λ j d2 e2 r2 lt.
+            let less : j < idx + 1 = subst (λ n. j < n) (ap length (take_more ns idx d inside) ∙ length-append (take idx ns) (get_or ns idx d ∷ []) ∙ ap (λ n. n + 1) taken) lt in
+            ap (λ l. get_or l j e2) m
+            ∙ ⊎_elim
+            (λ (before : j < idx).
+            get_or_append_left sums (sum ∷ []) e2 j (omega (arith, before, counted))
+            ∙ are.each j d2 e2 r2 (omega (arith, before, taken))
+            ∙ ap (λ n. term_sum (own_at (get_or rs n r2).own.items site) (values_of deltas))
+            (get_or-take idx ns j d2 before ∙ sym (get_or-take (idx + 1) ns j d2 less)))
+            (λ (at : idx ≤ j).
+            let same : j ≡ length sums + 0 = omega (arith, at, less, counted) in
+            ap (λ i. get_or (sums ++ sum ∷ []) i e2) same ∙ get_or-append-add sums (sum ∷ []) 0 e2 ∙ e
+            ∙ ap (λ (q : Room). term_sum (own_at q.own.items site) (values_of deltas))
+            (is ∙ get_or_default rs (get_or ns idx d) r r2 there)
+            ∙ ap (λ n. term_sum (own_at (get_or rs n r2).own.items site) (values_of deltas))
+            (get_or_default ns idx d d2 inside ∙ sym (get_or-take (idx + 1) ns j d2 less ∙ ap (λ i. get_or ns i d2) (omega (arith, at, less)))))
+            (cases_lt j idx);
+      }
+
+first_room : (rs : List Room) (n : ℕ) → n < length rs → Room
+first_room [] n lt = absurd (omega arith)
+first_room (r ∷ rs) n lt = r
+
+-- they are those of the visit whose deltas these are
+pub site_sums :
+    (k : ℕ) (vs : List Visit) (v : Visit) (cs : List Clause) (rs : List Room) (site : ℕ) (deltas : List ℤ) (ns : List ℕ) (sums : List ℤ) →
+    HaveRooms k vs cs rs → site < k → v.deltas ≡ values_of deltas → All (λ n. n < length rs) ns → AreSums rs site deltas ns sums →
+    AreSiteSums site v cs ns sums
+site_sums k vs v cs rs site deltas ns sums rooms lt same there are = record {
+  count = are.count;
+  each = λ j d e c less.
+      let below = there j d less in
+      let r : Room = first_room rs (get_or ns j d) below in
+      let room = rooms.each (get_or ns j d) c r (omega (arith, below, rooms.count)) in
+      are.each j d e r less ∙ sum_at k (get_or cs (get_or ns j d) c).terms _ site (values_of deltas) v.deltas room.own_are lt same;
+}
+
 -- ---- a step of raising
-own_either :
-    (k : ℕ) (vs us : List Visit) (c : Clause) (r : Room) → HasRoom k vs c r ⊎ HasRoom k us c r → AreOwnTerms k c.terms r.own.items
-own_either k vs us c r h = ⊎_elim (λ (a : HasRoom k vs c r). a.own_are) (λ (b : HasRoom k us c r). b.own_are) h
-
--- a site's own terms stay
-pub own_there :
-    (k : ℕ) (vs : List Visit) (v : Visit) (cs : List Clause) (ns : List ℕ) (rs : List Room) (n : ℕ) (d : Clause) (r : Room) →
-    SomeRaised k vs v cs ns rs → n < length cs → AreOwnTerms k (get_or cs n d).terms (get_or rs n r).own.items
-own_there k vs v cs ns rs n d r some lt = own_either k vs (vs ++ v ∷ []) (get_or cs n d) (get_or rs n r) (some.each n d r lt)
-
-module _ (rs : List Room) (site : ℕ) (deltas : List ℤ) (can : CanRaise rs site deltas) (ns : List ℕ) (now : List Room)
+module _ (rs : List Room) (site : ℕ) (all : List ℕ) (sums : List ℤ) (can : CanRaise rs site all sums) (ns : List ℕ) (now : List Room)
     (some : SomeRaised can.test.sites can.test.visits can.visit can.test.clauses ns now) (n : ℕ) (lt : n < length rs) (r : Room)
   where
     below_now : n < length can.test.clauses
@@ -159,10 +207,5 @@ module _ (rs : List Room) (site : ℕ) (deltas : List ℤ) (can : CanRaise rs si
     unfolding plan_definitions
     open_now =
         either_open can.test.sites can.test.visits can.visit can.test.clauses site (get_or can.test.clauses n none) (get_or now n r) (some.each n none r below_now)
-        (fit_there rs site deltas can.test n lt)
+        (fit_there rs site can.deltas can.test n lt)
         (each_there (λ (d : Clause). total (peaks can.test.sites (can.test.visits ++ can.visit ∷ []) d) ≤ℤ d.slack) can.test.clauses n none below_now can.fit) can.test.below
-
-    pub can_now : CanSum (own_at (get_or now n r).own.items site) (values_of deltas)
-    can_now =
-        sum_there rs site deltas can.test n lt (get_or now n r)
-        (own_there can.test.sites can.test.visits can.visit can.test.clauses ns now n none r some below_now)

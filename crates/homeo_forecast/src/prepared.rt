@@ -11,6 +11,7 @@ ghost use Rattle.homeo_effect.specs.Touched.{WritesOwn, written, touched_clauses
 ghost use Rattle.homeo_forecast.specs.inner.Prepared.{AreIndexes, IsPrepared};
 
 use crate::indexes::indexes;
+use crate::touches::Touched;
 use homeo_build::Compiled;
 use homeo_build::treaties::treaties;
 use homeo_effect::TreatyIndex;
@@ -49,25 +50,24 @@ impl Prepared {
         Ok(Prepared { plan, indexes })
     }
 
-    /// What commands of a site touch: the numbers of the clauses with a term on a delta that they write, and those of the freezes
-    /// that they write, rising.
+    /// What commands of a site touch.
     pub(crate) fn touched(
         &self,
         alloc: Global,
         commands: &[LCommand],
         site: u32,
-    ) -> Result<(List<u32>, List<u32>), Memory>
+    ) -> Result<Touched, Memory>
         requires indexes { let p = self.now.plan.value in AreIndexes p.template.sites (plain_template p.template) self.now.indexes.items }
         requires site { site < self.now.plan.value.template.sites }
         requires own { WritesOwn site (low_commands (map plain_lcommand commands.now)) }
-        ensures clauses { IfOk result (λ r. r.0.items ≡ touched_clauses
+        ensures clauses { IfOk result (λ t. t.clauses.items ≡ touched_clauses
             (written (low_commands (map plain_lcommand commands.now))) (plain_template self.now.plan.value.template)) }
-        ensures freezes { IfOk result (λ r. r.1.items ≡ touched_freezes
+        ensures freezes { IfOk result (λ t. t.freezes.items ≡ touched_freezes
             (written (low_commands (map plain_lcommand commands.now))) (plain_template self.now.plan.value.template)) }
     {
         let index = &self.indexes.as_slice()[site as usize];
         let clauses = index.clauses_touched(alloc, commands)?;
         let freezes = index.freezes_touched(alloc, commands)?;
-        Ok((clauses, freezes))
+        Ok(Touched { clauses, freezes })
     }
 }

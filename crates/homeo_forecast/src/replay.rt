@@ -1,73 +1,51 @@
 //! Calls, replayed one after another.
 
 ghost use Rattle.std.specs.Prelude.{◌≡◌, ◌+◌, ◌<◌, ◌≤◌, ◌^◌, ◌++◌, ◌∷◌, [], ℕ, ℤ, List, All, Some, None, IsSome, true, length, map, pos, replicate, option_map, IfOk, OnOk, OnErr};
-ghost use Rattle.homeo_syntax.specs.Low.{Commands};
 ghost use Rattle.homeo_syntax.specs.SourceView.{plain_workload};
 ghost use Rattle.homeo_meaning.specs.Calls.{CallExists};
-ghost use Rattle.homeo_meaning.specs.LowMeaning.{DeltaAt, exec_all};
 ghost use Rattle.homeo_meaning.specs.Serial.{values_of};
 ghost use Rattle.homeo_meaning.specs.declared.call.CallId.{CallId};
 ghost use Rattle.homeo_plan.specs.Each.{Each};
-ghost use Rattle.homeo_plan.specs.Joined.{alone};
 ghost use Rattle.homeo_plan.specs.PlanView.{plain_clause, plain_config, plain_template};
 ghost use Rattle.homeo_plan.specs.Planned.{sites_of, template_at};
 ghost use Rattle.homeo_plan.specs.Template.{Clause as PlainClause};
-ghost use Rattle.homeo_split.specs.CanExec.{run_limit, can_exec_all};
-ghost use Rattle.homeo_effect.specs.OwnState.{own_state};
-ghost use Rattle.homeo_effect.specs.Program.{plain_program, set_after_all, prints_of_all};
-ghost use Rattle.homeo_effect.specs.Touched.{written};
-ghost use Rattle.homeo_site.specs.OwnCalls.{RunsAs, AreOwnCalls};
+ghost use Rattle.homeo_site.specs.OwnCalls.{AreOwnCalls};
 ghost use Rattle.homeo_forecast.specs.Peaks.{first_stop, peak_config};
 ghost use Rattle.homeo_forecast.specs.View.{plain_stop};
 ghost use Rattle.homeo_forecast.specs.Visits.{Visit, visits, next_visit};
 ghost use Rattle.homeo_forecast.specs.inner.Prepared.{IsPrepared};
 ghost use Rattle.homeo_forecast.specs.inner.Replays.{IsReplay, IsSomeReplay, CanBound};
-ghost use Rattle.homeo_forecast.specs.inner.Raising.{CanTest};
+ghost use Rattle.homeo_forecast.specs.inner.Raising.{CanTest, AreSums};
 ghost use Rattle.homeo_forecast.specs.inner.Rooms.{HaveRooms};
 ghost use Rattle.homeo_forecast.specs.inner.Stops.{first_of, first_among, clause_stop_at, freeze_stop_at};
+ghost use Rattle.homeo_forecast.specs.inner.Touches.{AreFound};
 
 use crate::outlook::Stop;
 use crate::prepared::Prepared;
 use crate::raising::raise_all;
 use crate::rooms::Room;
+use crate::scratch::Scratch;
 use crate::stops::{first_frozen, first_spent};
+use crate::touches::Touches;
 use homeo_build::Compiled;
-use homeo_effect::Program;
 use homeo_meaning::CallId;
 use homeo_plan::{Clause, Config, RoundPlan, Template};
 use homeo_site::OwnCalls;
 use homeo_syntax::Memory;
 use std::alloc::Global;
 
-/// What calls have left so far: the deltas of each site, and the room in each clause.
+/// What calls have left so far: the deltas of each site, and the room in each clause; and where calls run and
+/// their sums stand.
 #[derive(Drop)]
 pub(crate) struct Replay {
     pub(crate) deltas: Vec<Vec<i64>>,
     pub(crate) rooms: Vec<Room>,
+    pub(crate) scratch: Scratch,
+    pub(crate) sums: Vec<i128>,
 }
 
-/// Runs a program on its site's deltas.
-fn run(alloc: Global, program: &Program, deltas: &mut Vec<i64>) -> Result<(), Memory>
-    requires temporaries { set_after_all 0 program.now.steps.items ≡ program.now.temporaries }
-    requires prints { prints_of_all program.now.steps.items ≡ program.now.prints }
-    requires objects { Each (λ d. d.object < length deltas.old.items) (written (plain_program program.now)) }
-    requires small { (kept : List ℤ) → can_exec_all run_limit (plain_program program.now) (own_state program.now.site deltas.old.items kept) ≡ true }
-    ensures count { OnOk result (length deltas.new.items ≡ length deltas.old.items) }
-    ensures deltas { (b : ℕ → ℤ) (i count : ℕ) (cs : Commands) → RunsAs b i count cs program.now → (n : ℕ) → OnOk result
-        (values_of deltas.new.items n ≡ (exec_all cs (alone b i (values_of deltas.old.items))).state (DeltaAt n i)) }
-{
-    let mut temporaries = vec![in alloc; 0; program.temporaries as usize]?;
-    let mut prints = homeo_syntax::List::new(alloc);
-    prints.reserve(u64::from(program.prints))?;
-    program.run(
-        deltas.as_mut_slice(),
-        temporaries.as_mut_slice(),
-        &mut prints,
-    );
-    Ok(())
-}
-
-/// The first stop among the clauses and freezes of these numbers.
+/// The first stop among the clauses and freezes of these numbers. Where there is none, `sums` are left as the site's sums in these
+/// clauses.
 fn first_stop(
     alloc: Global,
     template: &Template,
@@ -76,16 +54,18 @@ fn first_stop(
     freezes: &[u32],
     site: u32,
     deltas: &[i64],
+    sums: &mut Vec<i128>,
 ) -> Result<Option<Stop>, Memory>
     requires clauses { All (λ n. n < length rooms.now) clauses.now }
     requires freezes { let t = template.now in All (λ n. (length t.clauses.items ≤ n) × (n < length t.clauses.items + length t.freezes.items)) freezes.now }
     requires can { CanTest rooms.now site deltas.now }
-    ensures { (k : ℕ) (vs : List Visit) (v : Visit) → HaveRooms k vs (plain_template template.now).clauses rooms.now → v.site ≡ site → site < k →
+    ensures stop { (k : ℕ) (vs : List Visit) (v : Visit) → HaveRooms k vs (plain_template template.now).clauses rooms.now → v.site ≡ site → site < k →
         v.deltas ≡ values_of deltas.now → let t = plain_template template.now in IfOk result (λ o. option_map plain_stop o ≡
         first_of (first_among (clause_stop_at k (vs ++ v ∷ []) t.clauses) clauses.now)
         (first_among (freeze_stop_at (length t.clauses) site (values_of deltas.now) t.freezes) freezes.now)) }
+    ensures sums { IfOk result (λ o. o ≡ None → AreSums rooms.now site deltas.now clauses.now sums.new.items) }
 {
-    let stop = first_spent(alloc, rooms, clauses, site, deltas)?;
+    let stop = first_spent(alloc, rooms, clauses, site, deltas, sums)?;
     if stop.is_some() {
         return Ok(stop);
     }
@@ -144,7 +124,12 @@ impl Replay {
         let template = &plan.template;
         let deltas = no_deltas(alloc, template.sites, plan.base.as_slice().len())?;
         let rooms = new_rooms(alloc, template.sites, template.clauses.as_slice())?;
-        Ok(Replay { deltas, rooms })
+        Ok(Replay {
+            deltas,
+            rooms,
+            scratch: Scratch::new(alloc),
+            sums: Vec::new(alloc),
+        })
     }
 
     /// Makes one call more, unless something stops it: this is then answered, and the rooms stay as they were.
@@ -154,13 +139,16 @@ impl Replay {
         c: &Compiled,
         prepared: &Prepared,
         own_calls: &mut OwnCalls,
+        touches: &mut Touches,
         call: CallId,
     ) -> Result<Option<Stop>, Memory>
         requires prepared { IsPrepared (plain_workload c.now) prepared.now.plan.value.base.items prepared.now }
         requires exists { CallExists (plain_workload c.now) call }
         requires replay { IsSomeReplay (plain_workload c.now) prepared.now.plan.value.base.items self.old }
         requires made { AreOwnCalls (plain_workload c.now) prepared.now.plan.value.base.items own_calls.old }
+        requires found { AreFound (plain_workload c.now) prepared.now.plan.value.base.items touches.old }
         ensures made { OnOk result (AreOwnCalls (plain_workload c.now) prepared.now.plan.value.base.items own_calls.new) }
+        ensures found { OnOk result (AreFound (plain_workload c.now) prepared.now.plan.value.base.items touches.new) }
         ensures kept { (before : List CallId) → let w = plain_workload c.now in let base = prepared.now.plan.value.base.items in
             IsReplay w base before self.old → IfOk result (λ o. o ≡ None → IsReplay w base (before ++ call ∷ []) self.new) }
         ensures stop { (before : List CallId) → let w = plain_workload c.now in let base = prepared.now.plan.value.base.items in
@@ -171,26 +159,28 @@ impl Replay {
         let made = own_calls.get(alloc, c, &prepared.plan.base, call)?;
         let own = &*made;
         let site = own.program.site;
-        let (clauses, freezes) = prepared.touched(alloc, own.commands.as_slice(), site)?;
+        let found = touches.get(alloc, c, prepared, own, call)?;
+        let touched = &*found;
         let deltas = &mut self.deltas[site as usize];
-        run(alloc, &own.program, deltas)?;
+        self.scratch.run(alloc, &own.program, deltas)?;
         let stop = first_stop(
             alloc,
             &prepared.plan.template,
             self.rooms.as_slice(),
-            clauses.as_slice(),
-            freezes.as_slice(),
+            touched.clauses.as_slice(),
+            touched.freezes.as_slice(),
             site,
             deltas.as_slice(),
+            &mut self.sums,
         )?;
         if stop.is_some() {
             return Ok(stop);
         }
         raise_all(
             self.rooms.as_mut_slice(),
-            clauses.as_slice(),
+            touched.clauses.as_slice(),
+            self.sums.as_slice(),
             site,
-            deltas.as_slice(),
         );
         Ok(None)
     }

@@ -1,14 +1,13 @@
 //! What stops a call, of the clauses and freezes that it touches.
 
-ghost use Rattle.std.specs.Prelude.{◌≡◌, ◌+◌, ◌<◌, ◌≤◌, ◌++◌, ◌∷◌, [], ℕ, List, All, length, option_map, IfOk};
+ghost use Rattle.std.specs.Prelude.{◌≡◌, ◌+◌, ◌<◌, ◌≤◌, ◌++◌, ◌∷◌, [], ℕ, List, All, length, option_map, None, IfOk};
 ghost use Rattle.homeo_meaning.specs.Serial.{values_of};
 ghost use Rattle.homeo_plan.specs.Template.{Clause as PlainClause};
 ghost use Rattle.homeo_forecast.specs.View.{plain_stop};
 ghost use Rattle.homeo_forecast.specs.Visits.{Visit};
-ghost use Rattle.homeo_forecast.specs.inner.Raising.{CanTest};
-ghost use Rattle.homeo_forecast.specs.inner.Rooms.{HasRoom, HaveRooms, IsOpen};
-ghost use Rattle.homeo_forecast.specs.inner.Stops.{clause_stop, clause_stop_at, freeze_stop, freeze_stop_at, first_among};
-ghost use Rattle.homeo_forecast.specs.inner.Sums.{own_at, CanSum};
+ghost use Rattle.homeo_forecast.specs.inner.Raising.{CanTest, AreSums};
+ghost use Rattle.homeo_forecast.specs.inner.Rooms.{HaveRooms};
+ghost use Rattle.homeo_forecast.specs.inner.Stops.{clause_stop_at, freeze_stop, freeze_stop_at, first_among};
 
 use crate::outlook::Stop;
 use crate::rooms::Room;
@@ -17,43 +16,32 @@ use homeo_plan::Delta;
 use homeo_syntax::Memory;
 use std::alloc::Global;
 
-/// What stops a call at the clause of this number, after which its site has these deltas.
-fn clause_stop(
-    alloc: Global,
-    room: &Room,
-    number: u32,
-    site: u32,
-    deltas: &[i64],
-) -> Result<Option<Stop>, Memory>
-    requires open { IsOpen site room.now }
-    requires fits { CanSum (own_at room.now.own.items site) (values_of deltas.now) }
-    ensures { (k : ℕ) (vs : List Visit) (v : Visit) (c : PlainClause) → HasRoom k vs c room.now → v.site ≡ site → site < k →
-        v.deltas ≡ values_of deltas.now → IfOk result (λ o. option_map plain_stop o ≡ clause_stop k (vs ++ v ∷ []) number c) }
-{
-    let sum = room.sum(site as usize, deltas);
-    room.stop(alloc, number, site as usize, sum)
-}
-
-/// The first stop among the clauses of these numbers.
+/// The first stop among the clauses of these numbers, for a call after which its site has these deltas. Where there is none, `sums`
+/// are left as the site's sums in these clauses.
 pub(crate) fn first_spent(
     alloc: Global,
     rooms: &[Room],
     numbers: &[u32],
     site: u32,
     deltas: &[i64],
+    sums: &mut Vec<i128>,
 ) -> Result<Option<Stop>, Memory>
     requires numbers { All (λ n. n < length rooms.now) numbers.now }
     requires can { CanTest rooms.now site deltas.now }
-    ensures { (k : ℕ) (vs : List Visit) (v : Visit) (cs : List PlainClause) → HaveRooms k vs cs rooms.now → v.site ≡ site → site < k →
+    ensures stop { (k : ℕ) (vs : List Visit) (v : Visit) (cs : List PlainClause) → HaveRooms k vs cs rooms.now → v.site ≡ site → site < k →
         v.deltas ≡ values_of deltas.now →
         IfOk result (λ o. option_map plain_stop o ≡ first_among (clause_stop_at k (vs ++ v ∷ []) cs) numbers.now) }
+    ensures sums { IfOk result (λ o. o ≡ None → AreSums rooms.now site deltas.now numbers.now sums.new.items) }
 {
+    sums.clear();
     for number in numbers {
-        let place = *number as usize;
-        let stop = clause_stop(alloc, &rooms[place], *number, site, deltas)?;
+        let room = &rooms[*number as usize];
+        let sum = room.sum(site as usize, deltas);
+        let stop = room.stop(alloc, *number, site as usize, sum)?;
         if stop.is_some() {
             return Ok(stop);
         }
+        sums.push(sum)?;
     }
     Ok(None)
 }

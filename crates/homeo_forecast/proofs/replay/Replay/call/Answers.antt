@@ -9,25 +9,14 @@ use Rattle.homeo_plan.specs.PlanView.{plain_template}
 use Rattle.homeo_plan.specs.declared.round.RoundPlan.{RoundPlan}
 use Rattle.homeo_forecast.specs.View.{plain_stop}
 use Rattle.homeo_forecast.specs.declared.replay.Replay.{Replay}
+use Rattle.homeo_forecast.specs.declared.touches.Touched.{Touched}
 use Rattle.homeo_forecast.specs.inner.Raising.{SomeRaised}
 use Rattle.homeo_forecast.proofs.CallEnds as ends
 use Rattle.homeo_forecast.proofs.StopSteps.{none_is, some_is_not}
 use Rattle.homeo_forecast.proofs.replay.Replay.call.Goals as goal
 
-pub touched-requires-clause-indexes : goal.touched-requires-clause-indexes
-touched-requires-clause-indexes c =
-    let own = ends.own_here c.args.call c.deref.ensures c.deref-own.ensures c.in_ok-made.ensures.own in
-    ends.indexes_there c.args.call c.requires.prepared c.requires.exists own c.as_slice.result.now c.as_slice.ensures
-
-pub touched-requires-clause-site : goal.touched-requires-clause-site
-touched-requires-clause-site c =
-    let own = ends.own_here c.args.call c.deref.ensures c.deref-own.ensures c.in_ok-made.ensures.own in
-    ends.site_indexed c.args.call c.requires.prepared c.requires.exists own c.as_slice.result.now c.as_slice.ensures
-
-pub touched-requires-clause-own : goal.touched-requires-clause-own
-touched-requires-clause-own c =
-    let own = ends.own_here c.args.call c.deref.ensures c.deref-own.ensures c.in_ok-made.ensures.own in
-    ends.own_written c.args.call c.requires.prepared c.requires.exists own c.as_slice.result.now c.as_slice.ensures
+pub get-requires-2-clause-own : goal.get-requires-2-clause-own
+get-requires-2-clause-own c = ends.own_here c.args.call c.deref.ensures c.deref-own.ensures c.in_ok-made.ensures.own
 
 pub index_mut-deltas-requires : goal.index_mut-deltas-requires
 index_mut-deltas-requires c =
@@ -64,8 +53,8 @@ first_stop-requires-clause-clauses c =
     let here = ends.call_here c.requires.prepared c.requires.exists own.runs.site in
     let ran = ends.has_run here c.requires.replay.is c.index_mut-deltas.result.now c.index_mut-deltas.ensures.value c.run.new.deltas.items
     c.in_ok-run.ensures.count (c.in_ok-run.ensures.deltas _ _ _ _ own.runs) in
-    ends.clauses_there ran c.requires.replay.is c.as_slice-3.result.now c.as_slice-2.result.now (c.as_slice-3.ensures ∙ c.in_ok-clauses.ensures.clauses ∙ ends.clauses_are c.args.call c.requires.prepared c.requires.exists own c.as_slice.result.now c.as_slice.ensures)
-    c.as_slice-2.ensures.value
+    ends.clauses_there ran c.requires.replay.is c.as_slice-2.result.now c.as_slice.result.now (c.as_slice-2.ensures ∙ ap (λ (t : Touched). t.clauses.items) c.deref-touched.ensures ∙ c.in_ok-found.ensures.touched.clauses)
+    c.as_slice.ensures.value
 
 pub first_stop-requires-clause-freezes : goal.first_stop-requires-clause-freezes
 first_stop-requires-clause-freezes c =
@@ -73,7 +62,7 @@ first_stop-requires-clause-freezes c =
     let here = ends.call_here c.requires.prepared c.requires.exists own.runs.site in
     let ran = ends.has_run here c.requires.replay.is c.index_mut-deltas.result.now c.index_mut-deltas.ensures.value c.run.new.deltas.items
     c.in_ok-run.ensures.count (c.in_ok-run.ensures.deltas _ _ _ _ own.runs) in
-    ends.freezes_there ran c.requires.replay.is c.as_slice-4.result.now c.deref-2.result.now.template (c.as_slice-4.ensures ∙ c.in_ok-clauses.ensures.freezes ∙ ends.freezes_are c.args.call c.requires.prepared c.requires.exists own c.as_slice.result.now c.as_slice.ensures)
+    ends.freezes_there ran c.requires.replay.is c.as_slice-3.result.now c.deref-2.result.now.template (c.as_slice-3.ensures ∙ ap (λ (t : Touched). t.freezes.items) c.deref-touched.ensures ∙ c.in_ok-found.ensures.touched.freezes)
     (ends.template_there c.requires.prepared c.deref-2.result.now c.deref-2.ensures)
 
 pub first_stop-requires-clause-can : goal.first_stop-requires-clause-can
@@ -82,7 +71,7 @@ first_stop-requires-clause-can c =
     let here = ends.call_here c.requires.prepared c.requires.exists own.runs.site in
     let ran = ends.has_run here c.requires.replay.is c.index_mut-deltas.result.now c.index_mut-deltas.ensures.value c.run.new.deltas.items
     c.in_ok-run.ensures.count (c.in_ok-run.ensures.deltas _ _ _ _ own.runs) in
-    ends.test_there ran c.requires.replay.is c.as_slice-2.result.now c.as_slice-5.result.now c.as_slice-2.ensures.value c.as_slice-5.ensures.value
+    ends.test_there ran c.requires.replay.is c.as_slice.result.now c.as_slice-4.result.now c.as_slice.ensures.value c.as_slice-4.ensures.value
 
 pub returns-then-is_some-clause-kept : goal.returns-then-is_some-clause-kept
 returns-then-is_some-clause-kept c = λ before kept none. absurd (some_is_not c.in_ok-stop.stop (sym c.if-is_some.ensures) none)
@@ -93,9 +82,9 @@ returns-then-is_some-clause-stop c = λ before kept.
     let here = ends.call_here c.requires.prepared c.requires.exists own.runs.site in
     let ran = ends.has_run here kept c.index_mut-deltas.result.now c.index_mut-deltas.ensures.value c.run.new.deltas.items
     c.in_ok-run.ensures.count (c.in_ok-run.ensures.deltas _ _ _ _ own.runs) in
-    ends.stop_there ran kept (option_map plain_stop c.in_ok-stop.stop) c.as_slice-3.result.now c.as_slice-4.result.now (plain_template c.deref-2.result.now.template)
-    c.as_slice-2.result.now c.as_slice-5.result.now (c.as_slice-3.ensures ∙ c.in_ok-clauses.ensures.clauses ∙ ends.clauses_are c.args.call c.requires.prepared c.requires.exists own c.as_slice.result.now c.as_slice.ensures) (c.as_slice-4.ensures ∙ c.in_ok-clauses.ensures.freezes ∙ ends.freezes_are c.args.call c.requires.prepared c.requires.exists own c.as_slice.result.now c.as_slice.ensures)
-    (ends.template_there c.requires.prepared c.deref-2.result.now c.deref-2.ensures) c.as_slice-2.ensures.value c.as_slice-5.ensures.value c.in_ok-stop.ensures
+    ends.stop_there ran kept (option_map plain_stop c.in_ok-stop.stop) c.as_slice-2.result.now c.as_slice-3.result.now (plain_template c.deref-2.result.now.template)
+    c.as_slice.result.now c.as_slice-4.result.now (c.as_slice-2.ensures ∙ ap (λ (t : Touched). t.clauses.items) c.deref-touched.ensures ∙ c.in_ok-found.ensures.touched.clauses) (c.as_slice-3.ensures ∙ ap (λ (t : Touched). t.freezes.items) c.deref-touched.ensures ∙ c.in_ok-found.ensures.touched.freezes)
+    (ends.template_there c.requires.prepared c.deref-2.result.now c.deref-2.ensures) c.as_slice.ensures.value c.as_slice-4.ensures.value c.in_ok-stop.ensures.stop
 
 pub raise_all-requires-clause-numbers : goal.raise_all-requires-clause-numbers
 raise_all-requires-clause-numbers c =
@@ -103,7 +92,7 @@ raise_all-requires-clause-numbers c =
     let here = ends.call_here c.requires.prepared c.requires.exists own.runs.site in
     let ran = ends.has_run here c.requires.replay.is c.index_mut-deltas.result.now c.index_mut-deltas.ensures.value c.run.new.deltas.items
     c.in_ok-run.ensures.count (c.in_ok-run.ensures.deltas _ _ _ _ own.runs) in
-    ends.clauses_there ran c.requires.replay.is c.as_slice-6.result.now c.as_mut_slice.result.now (c.as_slice-6.ensures ∙ c.in_ok-clauses.ensures.clauses ∙ ends.clauses_are c.args.call c.requires.prepared c.requires.exists own c.as_slice.result.now c.as_slice.ensures)
+    ends.clauses_there ran c.requires.replay.is c.as_slice-5.result.now c.as_mut_slice.result.now (c.as_slice-5.ensures ∙ ap (λ (t : Touched). t.clauses.items) c.deref-touched.ensures ∙ c.in_ok-found.ensures.touched.clauses)
     c.as_mut_slice.ensures.value
 
 pub raise_all-requires-clause-can : goal.raise_all-requires-clause-can
@@ -114,11 +103,17 @@ raise_all-requires-clause-can c =
     let ran = ends.has_run here kept c.index_mut-deltas.result.now c.index_mut-deltas.ensures.value c.run.new.deltas.items
     c.in_ok-run.ensures.count (c.in_ok-run.ensures.deltas _ _ _ _ own.runs) in
     let stop =
-    ends.stop_there ran kept (option_map plain_stop c.in_ok-stop.stop) c.as_slice-3.result.now c.as_slice-4.result.now (plain_template c.deref-2.result.now.template)
-    c.as_slice-2.result.now c.as_slice-5.result.now (c.as_slice-3.ensures ∙ c.in_ok-clauses.ensures.clauses ∙ ends.clauses_are c.args.call c.requires.prepared c.requires.exists own c.as_slice.result.now c.as_slice.ensures) (c.as_slice-4.ensures ∙ c.in_ok-clauses.ensures.freezes ∙ ends.freezes_are c.args.call c.requires.prepared c.requires.exists own c.as_slice.result.now c.as_slice.ensures)
-    (ends.template_there c.requires.prepared c.deref-2.result.now c.deref-2.ensures) c.as_slice-2.ensures.value c.as_slice-5.ensures.value c.in_ok-stop.ensures in
+    ends.stop_there ran kept (option_map plain_stop c.in_ok-stop.stop) c.as_slice-2.result.now c.as_slice-3.result.now (plain_template c.deref-2.result.now.template)
+    c.as_slice.result.now c.as_slice-4.result.now (c.as_slice-2.ensures ∙ ap (λ (t : Touched). t.clauses.items) c.deref-touched.ensures ∙ c.in_ok-found.ensures.touched.clauses) (c.as_slice-3.ensures ∙ ap (λ (t : Touched). t.freezes.items) c.deref-touched.ensures ∙ c.in_ok-found.ensures.touched.freezes)
+    (ends.template_there c.requires.prepared c.deref-2.result.now c.deref-2.ensures) c.as_slice.ensures.value c.as_slice-4.ensures.value c.in_ok-stop.ensures.stop in
+    let numbers = ends.clauses_there ran kept c.as_slice-2.result.now c.as_slice.result.now (c.as_slice-2.ensures ∙ ap (λ (t : Touched). t.clauses.items) c.deref-touched.ensures ∙ c.in_ok-found.ensures.touched.clauses)
+    c.as_slice.ensures.value in
+    let site_sums =
+    ends.sums_there ran kept c.as_slice.result.now c.as_slice-4.result.now c.as_slice-2.result.now c.as_slice-5.result.now c.first_stop.new.sums.items
+    c.as_slice-6.result.now c.as_slice.ensures.value c.as_slice-4.ensures.value numbers
+    (c.in_ok-stop.ensures.sums (none_is c.in_ok-stop.stop (sym c.if-is_some.ensures))) (c.as_slice-5.ensures ∙ sym c.as_slice-2.ensures) c.as_slice-6.ensures.value in
     ends.raise_there ran kept (sym stop ∙ ap (option_map plain_stop) (none_is c.in_ok-stop.stop (sym c.if-is_some.ensures)))
-    c.as_mut_slice.result.now c.as_slice-7.result.now c.as_mut_slice.ensures.value c.as_slice-7.ensures.value
+    c.as_mut_slice.result.now c.run.new.deltas.items c.as_slice-5.result.now c.as_slice-6.result.now c.as_mut_slice.ensures.value refl site_sums
 
 pub returns-clause-kept : goal.returns-clause-kept
 returns-clause-kept c = λ before kept none.
@@ -127,22 +122,29 @@ returns-clause-kept c = λ before kept none.
     let ran = ends.has_run here kept c.index_mut-deltas.result.now c.index_mut-deltas.ensures.value c.run.new.deltas.items
     c.in_ok-run.ensures.count (c.in_ok-run.ensures.deltas _ _ _ _ own.runs) in
     let stop =
-    ends.stop_there ran kept (option_map plain_stop c.in_ok-stop.stop) c.as_slice-3.result.now c.as_slice-4.result.now (plain_template c.deref-2.result.now.template)
-    c.as_slice-2.result.now c.as_slice-5.result.now (c.as_slice-3.ensures ∙ c.in_ok-clauses.ensures.clauses ∙ ends.clauses_are c.args.call c.requires.prepared c.requires.exists own c.as_slice.result.now c.as_slice.ensures) (c.as_slice-4.ensures ∙ c.in_ok-clauses.ensures.freezes ∙ ends.freezes_are c.args.call c.requires.prepared c.requires.exists own c.as_slice.result.now c.as_slice.ensures)
-    (ends.template_there c.requires.prepared c.deref-2.result.now c.deref-2.ensures) c.as_slice-2.ensures.value c.as_slice-5.ensures.value c.in_ok-stop.ensures in
+    ends.stop_there ran kept (option_map plain_stop c.in_ok-stop.stop) c.as_slice-2.result.now c.as_slice-3.result.now (plain_template c.deref-2.result.now.template)
+    c.as_slice.result.now c.as_slice-4.result.now (c.as_slice-2.ensures ∙ ap (λ (t : Touched). t.clauses.items) c.deref-touched.ensures ∙ c.in_ok-found.ensures.touched.clauses) (c.as_slice-3.ensures ∙ ap (λ (t : Touched). t.freezes.items) c.deref-touched.ensures ∙ c.in_ok-found.ensures.touched.freezes)
+    (ends.template_there c.requires.prepared c.deref-2.result.now c.deref-2.ensures) c.as_slice.ensures.value c.as_slice-4.ensures.value c.in_ok-stop.ensures.stop in
     let new : Replay = record {
       deltas = with_item c.args.self.now.deltas c.deref-own.result.now.program.site c.run.new.deltas;
       rooms = with_items c.args.self.now.rooms c.raise_all.new.rooms;
+      scratch = c.run.new.self;
+      sums = c.first_stop.new.sums;
     } in
     let rooms = ends.rooms_there ran kept _ c.as_mut_slice.result.now refl c.as_mut_slice.ensures.value in
-    let raised = c.raise_all.ensures _ _ _ _ rooms (ends.visit_at ran kept) (ends.site_below ran kept)
-    (ends.deltas_there ran kept c.as_slice-7.result.now c.as_slice-7.ensures.value) in
+    let numbers = ends.clauses_there ran kept c.as_slice-2.result.now c.as_slice.result.now (c.as_slice-2.ensures ∙ ap (λ (t : Touched). t.clauses.items) c.deref-touched.ensures ∙ c.in_ok-found.ensures.touched.clauses)
+    c.as_slice.ensures.value in
+    let site_sums =
+    ends.sums_there ran kept c.as_slice.result.now c.as_slice-4.result.now c.as_slice-2.result.now c.as_slice-5.result.now c.first_stop.new.sums.items
+    c.as_slice-6.result.now c.as_slice.ensures.value c.as_slice-4.ensures.value numbers
+    (c.in_ok-stop.ensures.sums (none_is c.in_ok-stop.stop (sym c.if-is_some.ensures))) (c.as_slice-5.ensures ∙ sym c.as_slice-2.ensures) c.as_slice-6.ensures.value in
+    let raised = c.raise_all.ensures _ _ _ _ rooms (ends.visit_at ran kept) (ends.site_below ran kept) site_sums in
     let all : new.rooms.items ≡ c.raise_all.new.rooms =
     with_items_is c.args.self.now.rooms c.raise_all.new.rooms
     (omega (arith, raised.count, rooms.count, ap length c.as_mut_slice.ensures.value, c.args.self.now.rooms.ok.0)) in
     ends.on_there ran kept (sym stop ∙ ap (option_map plain_stop) (none_is c.in_ok-stop.stop (sym c.if-is_some.ensures)))
-    c.as_slice-6.result.now new c.run.new.deltas (c.as_slice-6.ensures ∙ c.in_ok-clauses.ensures.clauses ∙ ends.clauses_are c.args.call c.requires.prepared c.requires.exists own c.as_slice.result.now c.as_slice.ensures) refl refl
-    (subst (SomeRaised _ _ _ _ c.as_slice-6.result.now) (sym all) raised)
+    c.as_slice-5.result.now new c.run.new.deltas (c.as_slice-5.ensures ∙ ap (λ (t : Touched). t.clauses.items) c.deref-touched.ensures ∙ c.in_ok-found.ensures.touched.clauses) refl refl
+    (subst (SomeRaised _ _ _ _ c.as_slice-5.result.now) (sym all) raised)
 
 pub returns-clause-stop : goal.returns-clause-stop
 returns-clause-stop c = λ before kept.
@@ -151,9 +153,9 @@ returns-clause-stop c = λ before kept.
     let ran = ends.has_run here kept c.index_mut-deltas.result.now c.index_mut-deltas.ensures.value c.run.new.deltas.items
     c.in_ok-run.ensures.count (c.in_ok-run.ensures.deltas _ _ _ _ own.runs) in
     sym (ap (option_map plain_stop) (none_is c.in_ok-stop.stop (sym c.if-is_some.ensures)))
-    ∙ ends.stop_there ran kept (option_map plain_stop c.in_ok-stop.stop) c.as_slice-3.result.now c.as_slice-4.result.now (plain_template c.deref-2.result.now.template)
-    c.as_slice-2.result.now c.as_slice-5.result.now (c.as_slice-3.ensures ∙ c.in_ok-clauses.ensures.clauses ∙ ends.clauses_are c.args.call c.requires.prepared c.requires.exists own c.as_slice.result.now c.as_slice.ensures) (c.as_slice-4.ensures ∙ c.in_ok-clauses.ensures.freezes ∙ ends.freezes_are c.args.call c.requires.prepared c.requires.exists own c.as_slice.result.now c.as_slice.ensures)
-    (ends.template_there c.requires.prepared c.deref-2.result.now c.deref-2.ensures) c.as_slice-2.ensures.value c.as_slice-5.ensures.value c.in_ok-stop.ensures
+    ∙ ends.stop_there ran kept (option_map plain_stop c.in_ok-stop.stop) c.as_slice-2.result.now c.as_slice-3.result.now (plain_template c.deref-2.result.now.template)
+    c.as_slice.result.now c.as_slice-4.result.now (c.as_slice-2.ensures ∙ ap (λ (t : Touched). t.clauses.items) c.deref-touched.ensures ∙ c.in_ok-found.ensures.touched.clauses) (c.as_slice-3.ensures ∙ ap (λ (t : Touched). t.freezes.items) c.deref-touched.ensures ∙ c.in_ok-found.ensures.touched.freezes)
+    (ends.template_there c.requires.prepared c.deref-2.result.now c.deref-2.ensures) c.as_slice.ensures.value c.as_slice-4.ensures.value c.in_ok-stop.ensures.stop
 
 pub get-requires-clause-within : goal.get-requires-clause-within
 get-requires-clause-within c =
