@@ -81,15 +81,3 @@ zero_is_small = omega arith
 pub one_is_small : IsSmall form_limit (pos 1)
 unfolding meaning_definitions
 one_is_small = omega arith
-
--- a delta among others, told by a test that has them the other way round
-same_either_way : (d e : Delta) → same_delta d e ≡ same_delta e d
-unfolding plan_definitions
-same_either_way d e = ap₂ ◌&&◌ (turned d.object e.object) (turned d.site e.site)
-  where
-    turned : (m n : ℕ) → eqb m n ≡ eqb n m
-    turned m n = grind (arith, nat_tests)
-
-pub frozen_is : (E : Delta → Bool) (d : Delta) → ((e : Delta) → E e ≡ same_delta e d) → (ds : List Delta) → list_any E ds ≡ list_any (same_delta d) ds
-frozen_is E d h [] = refl
-frozen_is E d h (e ∷ es) = ap₂ ◌||◌ (h e ∙ same_either_way e d) (frozen_is E d h es)

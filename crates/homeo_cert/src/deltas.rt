@@ -1,15 +1,16 @@
 //! Deltas, read from JSON values.
 
-ghost use Rattle.std.specs.Prelude.{◌≡◌, ◌<◌, ◌-◌, ◌↔◌, ◌∷◌, [], length, slice_index_or, IsTrue, IfOk, option_map, map};
+ghost use Rattle.std.specs.Prelude.{◌≡◌, ◌∷◌, [], IfOk, option_map, map};
 ghost use Rattle.serde_json.specs.View.{view};
 ghost use Rattle.homeo_plan.specs.Each.{Each};
-ghost use Rattle.homeo_plan.specs.Linear.{AreInOrder, delta_before};
+ghost use Rattle.homeo_plan.specs.Linear.{delta_before};
 ghost use Rattle.homeo_cert.specs.Json.{list_data};
 ghost use Rattle.homeo_cert.specs.Shape.{DeltaInShape};
 ghost use Rattle.homeo_cert.specs.Text.{delta_data};
 ghost use Rattle.homeo_cert.specs.inner.Reading.{IsRead, AreFreezes};
 
 use crate::extents::Extents;
+use crate::freezes::Freezes;
 use crate::items::items;
 use crate::numbers::number_below;
 use homeo_plan::Delta;
@@ -60,29 +61,13 @@ pub(crate) fn read_freezes(
     alloc: Global,
     value: &Value,
     extents: Extents,
-) -> Result<Option<Vec<Delta>>, Memory>
-    ensures { IfOk result (λ o. IsRead (AreFreezes extents.objects extents.sites) (λ ds. list_data (map delta_data ds)) (view value.now) (option_map (λ l. l.items) o)) }
+) -> Result<Option<Freezes>, Memory>
+    ensures { IfOk result (λ o. IsRead (AreFreezes extents.objects extents.sites) (λ ds. list_data (map delta_data ds)) (view value.now) o) }
 {
-    let Some(deltas) = read_deltas(alloc, value, extents)? else {
-        return Ok(None);
-    };
-    if are_in_order(deltas.as_slice()) {
-        Ok(Some(deltas))
-    } else {
-        Ok(None)
+    match read_deltas(alloc, value, extents)? {
+        Some(deltas) => Ok(Freezes::of(deltas)),
+        None => Ok(None),
     }
-}
-
-/// Whether deltas are in order, each once.
-fn are_in_order(deltas: &[Delta]) -> bool
-    ensures { IsTrue result ↔ AreInOrder deltas.now }
-{
-    for place in 1..deltas.len() {
-        if !is_before(deltas[place - 1], deltas[place]) {
-            return false;
-        }
-    }
-    true
 }
 
 /// The order is by object, and then by site.

@@ -158,7 +158,7 @@ pub(crate) fn follow_call(
     let rules = Rules {
         site: call.site,
         clauses: table,
-        freezes: c.freezes.as_slice(),
+        freezes: &c.freezes,
     };
     let mut following = Following::new(alloc, rules, c.base.as_slice());
     following.follow(alloc, &call.command)?;

@@ -9,6 +9,7 @@ use crate::cursor::Nodes;
 use crate::nodes::Node;
 use crate::parsing_expressions::expression;
 use crate::parsing_tests::tests;
+use crate::room::list_with_room;
 use homeo_syntax::{LCommand, LCond, List, Memory, SplitName, Temp};
 use std::alloc::Global;
 
@@ -61,7 +62,7 @@ fn commands(
 ) -> Result<Option<List<LCommand>>, Memory>
     ensures { IfOk result (λ o. Gives (many (parse_command levels) count nodes.old) (option_map (λ l. map plain_lcommand l.items) o) nodes.new) }
 {
-    let mut commands = List::new(alloc);
+    let mut commands = list_with_room(alloc, count)?;
     for _ in 0..count {
         match command(alloc, nodes, levels)? {
             Some(c) => commands.push(c)?,

@@ -8,6 +8,7 @@ ghost use Rattle.homeo_cert.specs.inner.Parse.{Gives, then, seen, many, parse_ex
 use crate::cursor::Nodes;
 use crate::nodes::Node;
 use crate::parsing_expressions::expression;
+use crate::room::list_with_room;
 use homeo_syntax::{Compare, LCond, LTest, List, Memory};
 use std::alloc::Global;
 
@@ -44,7 +45,7 @@ pub(crate) fn tests(
 ) -> Result<Option<List<LTest>>, Memory>
     ensures { IfOk result (λ o. Gives (many (parse_test levels) count nodes.old) (option_map (λ l. map plain_ltest l.items) o) nodes.new) }
 {
-    let mut tests = List::new(alloc);
+    let mut tests = list_with_room(alloc, count)?;
     for _ in 0..count {
         match test(alloc, nodes, levels)? {
             Some(t) => tests.push(t)?,

@@ -12,9 +12,10 @@ use crate::calls::{Call, read_calls};
 use crate::clauses::{read_all_bounds, read_clauses};
 use crate::deltas::read_freezes;
 use crate::extents::Extents;
+use crate::freezes::Freezes;
 use crate::members::certificate_parts;
 use crate::numbers::{number_below, whole, wholes};
-use homeo_plan::{Clause, Delta};
+use homeo_plan::Clause;
 use homeo_syntax::Memory;
 use serde_json::Value;
 use std::alloc::Global;
@@ -26,7 +27,7 @@ pub(crate) struct Certificate {
     pub(crate) base: Vec<i64>,
     pub(crate) clauses: Vec<Clause>,
     pub(crate) bounds: Vec<Vec<i64>>,
-    pub(crate) freezes: Vec<Delta>,
+    pub(crate) freezes: Freezes,
     pub(crate) calls: Vec<Call>,
 }
 

@@ -14,6 +14,7 @@ ghost use Rattle.homeo_cert.specs.inner.RulesView.{plain_rules};
 
 use crate::conditions::{Compared, is_true};
 use crate::fault::{Fault, Stop};
+use crate::freezes::Freezes;
 use crate::sizes::difference;
 use crate::table::ClauseTable;
 use homeo_linear::{Form, remote_of};
@@ -26,7 +27,7 @@ use std::alloc::Global;
 pub(crate) struct Rules<'a> {
     pub(crate) site: u32,
     pub(crate) clauses: &'a ClauseTable<'a>,
-    pub(crate) freezes: &'a [Delta],
+    pub(crate) freezes: &'a Freezes,
 }
 
 impl<'a> Rules<'a> {
@@ -35,7 +36,7 @@ impl<'a> Rules<'a> {
         ensures { Finds (not_frozen (plain_rules self.now) deltas.now) result }
     {
         for delta in deltas {
-            if !self.freezes.contains(delta) {
+            if !self.freezes.has(*delta) {
                 return Err(Stop::Fault(Fault::NotFrozen(*delta)));
             }
         }

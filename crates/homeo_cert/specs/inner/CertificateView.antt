@@ -15,6 +15,6 @@ plain_certificate c = record {
   base = c.base.items;
   clauses = map plain_clause c.clauses.items;
   bounds = map (λ b. b.items) c.bounds.items;
-  freezes = c.freezes.items;
+  freezes = c.freezes;
   calls = map plain_call c.calls.items;
 }

@@ -16,8 +16,8 @@ unfolding definitions
 returns-in_err-follow c =
     let d = plain_certificate c.args.c.now in
     let g = plain_call c.args.call.now in
-    let rules : rules_in c.new-following.result ≡ rules_of d g = c.new-following.ensures.rules ∙ λ i. record { site = g.site; clauses = c.requires i; freezes = c.as_slice.ensures.value i } in
-    let forms : forms_in c.new-following.result ≡ base_forms (base_of d) = c.new-following.ensures.forms ∙ ap (λ l. base_forms (values_of l)) c.as_slice-2.ensures.value in
+    let rules : rules_in c.new-following.result ≡ rules_of d g = c.new-following.ensures.rules ∙ λ i. record { site = g.site; clauses = c.requires i; freezes = d.freezes } in
+    let forms : forms_in c.new-following.result ≡ base_forms (base_of d) = c.new-following.ensures.forms ∙ ap (λ l. base_forms (values_of l)) c.as_slice.ensures.value in
     stop_with _ c.from_residual.result _ c.from_residual.ensures.1
     (call_stops_in d g c.new-following.result rules forms _ c.in_err-follow.ensures.faults)
 
@@ -26,6 +26,6 @@ unfolding definitions
 returns c =
     let d = plain_certificate c.args.c.now in
     let g = plain_call c.args.call.now in
-    let rules : rules_in c.new-following.result ≡ rules_of d g = c.new-following.ensures.rules ∙ λ i. record { site = g.site; clauses = c.requires i; freezes = c.as_slice.ensures.value i } in
-    let forms : forms_in c.new-following.result ≡ base_forms (base_of d) = c.new-following.ensures.forms ∙ ap (λ l. base_forms (values_of l)) c.as_slice-2.ensures.value in
+    let rules : rules_in c.new-following.result ≡ rules_of d g = c.new-following.ensures.rules ∙ λ i. record { site = g.site; clauses = c.requires i; freezes = d.freezes } in
+    let forms : forms_in c.new-following.result ≡ base_forms (base_of d) = c.new-following.ensures.forms ∙ ap (λ l. base_forms (values_of l)) c.as_slice.ensures.value in
     call_ends d g c.new-following.result rules forms c.new-following.ensures.written c.follow.new.self c.in_ok-follow.ensures.faults c.in_ok-follow.ensures.after c.end.result c.end.ensures

@@ -31,7 +31,7 @@ pub commands-loop-init : goal.commands-loop-init
 commands-loop-init t c =
     let n : c.args.count ≡ c.args.count - 0 = omega arith in
     sym (with_none (many (parse_command c.args.levels) c.args.count c.args.nodes.now))
-    ∙ ap₂ (λ xs k. with_read (map plain_lcommand xs) (many (parse_command c.args.levels) k c.args.nodes.now)) (sym (ap (λ l. l.items) c.new-commands.ensures)) n
+    ∙ ap₂ (λ xs k. with_read (map plain_lcommand xs) (many (parse_command c.args.levels) k c.args.nodes.now)) (sym (ap (λ l. l.items) c.in_ok-commands.ensures)) n
 
 pub commands-returns-in-None : goal.commands-returns-in-None
 commands-returns-in-None t c =

@@ -45,7 +45,7 @@ pub tests-loop-init : goal.tests-loop-init
 tests-loop-init t c =
     let n : c.args.count ≡ c.args.count - 0 = omega arith in
     sym (with_none (many (parse_test c.args.levels) c.args.count c.args.nodes.now))
-    ∙ ap₂ (λ xs k. with_read (map plain_ltest xs) (many (parse_test c.args.levels) k c.args.nodes.now)) (sym (ap (λ l. l.items) c.new-tests.ensures)) n
+    ∙ ap₂ (λ xs k. with_read (map plain_ltest xs) (many (parse_test c.args.levels) k c.args.nodes.now)) (sym (ap (λ l. l.items) c.in_ok-tests.ensures)) n
 
 pub tests-returns-in-None : goal.tests-returns-in-None
 tests-returns-in-None t c =

@@ -2,6 +2,7 @@
 use Rattle.std.proofs.Common.{map, arith, ◌∙◌}
 use Rattle.std.proofs.lemmas.List.{length-map}
 use Rattle.std.proofs.lemmas.Bool.Decides.{nat_tests}
+use Rattle.std.proofs.lemmas.Option.{MatchOption-at_none}
 use Rattle.serde_json.specs.View.{view}
 use Rattle.homeo_plan.specs.Each.{Each}
 use Rattle.homeo_plan.specs.PlanView.{plain_clause}
@@ -34,7 +35,7 @@ pub returns-in_default-5 : goal.returns-in_default-5
 returns-in_default-5 c =
     let base = read_some IsBase wholes_data (view c.in-Some.parts.base.now) _ c.in_ok-base.field-0 c.in-Some-2.base c.in-Some-2.is c.in_ok-base.ensures in
     no_freezes (view c.args.value.now) _ _ _ _ _ _ _ c.in-Some.ensures c.in-Some-read_sites.sites c.in-Some-read_sites.ensures.1 c.in-Some-2.base.items base.1 _ (c.len.ensures ∙ c.in-Some-2.base.ok.0)
-    (read_none _ _ _ _ c.in_ok-freezes.field-0 c.in_default-5.is c.in_ok-freezes.ensures)
+    (MatchOption-at_none _ _ c.in_default-5.is c.in_ok-freezes.ensures)
 
 pub returns-in_default-6 : goal.returns-in_default-6
 returns-in_default-6 c =

@@ -2,7 +2,7 @@
 use Rattle.std.proofs.Common.{refl}
 use Rattle.std.proofs.lemmas.Bool.{false≢true}
 use Rattle.homeo_cert.proofs.DeltasInOrder.{in_order_goes_on, in_order_stops, in_order_ends}
-use Rattle.homeo_cert.proofs.deltas.are_in_order.Goals as goal
+use Rattle.homeo_cert.proofs.freezes.are_in_order.Goals as goal
 
 pub returns-then-not-is_before : goal.returns-then-not-is_before
 returns-then-not-is_before c = (
