@@ -22,6 +22,7 @@ use Rattle.homeo_ground.specs.contracts.grounding.Grounding as Grounding
 use Rattle.homeo_build.specs.contracts.compiled.Compiled as Compiled
 use Rattle.homeo_history.specs.contracts.history.Round as Round
 use Rattle.homeo_site.specs.contracts.own_calls.OwnCall as OwnCall
+use Rattle.homeo_site.specs.contracts.own_treaty.OwnTreaty as OwnTreaty
 use Rattle.homeo_site.specs.contracts.site.Site as Site
 use Rattle.homeo_notes.specs.declared.blank.Naming as Naming
 use Rattle.homeo_notes.specs.contracts.board.Board as Board
@@ -80,9 +81,16 @@ OwnCall-send = search (std.crosses, low_expression.crosses, low_test.crosses, lo
 OwnCall-sync : IsSync OwnCall.the_row
 OwnCall-sync = search (std.crosses, low_expression.crosses, low_test.crosses, low_command.crosses, list.the_sync, sendable) depth 60 fits 20000
 
+OwnTreaty-send : IsSend OwnTreaty.the_row
+OwnTreaty-send = let a = RoundPlan-send in let b = RoundPlan-sync in search (std.crosses, list.the_send, sendable) depth 60 fits 20000
+
+OwnTreaty-sync : IsSync OwnTreaty.the_row
+OwnTreaty-sync = let a = RoundPlan-send in let b = RoundPlan-sync in search (std.crosses, list.the_sync, sendable) depth 60 fits 20000
+
 Site-send : IsSend Site.the_row
 Site-send =
     let a = Compiled-send in let b = Compiled-sync in let c = RoundPlan-send in let d = RoundPlan-sync in let e = OwnCall-send in let f = OwnCall-sync in
+    let g = OwnTreaty-send in let h = OwnTreaty-sync in
     search (std.crosses, low_expression.crosses, list.the_send, sendable) depth 60 fits 20000
 
 module _ (N : RattleType) (n : Naming.Ghosts N.Denot) where
