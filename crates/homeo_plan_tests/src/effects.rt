@@ -7,57 +7,46 @@ use homeo_effect::{Program, TreatyIndex, effects};
 use homeo_syntax::{LCommand, LExpr, List, Prints, SplitName, Temp};
 use std::test::Fail;
 
-/// The terms of a sum.
-fn terms(e: &LExpr) -> Option<&[LExpr]> {
+/// The term at the index of a sum.
+fn term(e: Option<&LExpr>, index: usize) -> Option<&LExpr> {
     match e {
-        LExpr::Sum(es) => Some(es.as_slice()),
+        Some(LExpr::Sum(es)) => es.as_slice().get(index),
         _ => None,
     }
 }
 
-fn is_number(e: &LExpr, number: i64) -> bool {
+fn is_number(e: Option<&LExpr>, number: i64) -> bool {
     match e {
-        LExpr::Literal(n) => *n == number,
+        Some(LExpr::Literal(n)) => *n == number,
         _ => false,
     }
 }
 
-fn is_own(e: &LExpr) -> bool {
+fn is_own(e: Option<&LExpr>) -> bool {
     match e {
-        LExpr::Read(x) => *x == SplitName::Delta { object: 0, site: 0 },
+        Some(LExpr::Read(x)) => *x == SplitName::Delta { object: 0, site: 0 },
         _ => false,
     }
 }
 
-fn is_temporary(e: &LExpr) -> bool {
+fn is_temporary(e: Option<&LExpr>) -> bool {
     match e {
-        LExpr::Temp(t) => *t == Temp::Named(7),
+        Some(LExpr::Temp(t)) => *t == Temp::Named(7),
         _ => false,
     }
 }
 
 /// Five, the own delta and 0.
 fn is_object_sum(e: &LExpr) -> bool {
-    match terms(e) {
-        Some([base, here, there]) => is_number(base, 5) && is_own(here) && is_number(there, 0),
-        _ => false,
-    }
+    let sum = Some(e);
+    is_number(term(sum, 0), 5) && is_own(term(sum, 1)) && is_number(term(sum, 2), 0)
 }
 
-/// Temporary 7 and -1.
-fn is_less(e: &LExpr) -> bool {
-    match terms(e) {
-        Some([temporary, one]) => is_temporary(temporary) && is_number(one, -1),
-        _ => false,
-    }
-}
-
-/// That, -5 and 0.
+/// Temporary 7 and -1, and behind both -5 and 0.
 fn is_lowered(e: &LExpr) -> bool {
-    match terms(e) {
-        Some([less, base, there]) => is_less(less) && is_number(base, -5) && is_number(there, 0),
-        _ => false,
-    }
+    let (sum, less) = (Some(e), term(Some(e), 0));
+    let is_less = is_temporary(term(less, 0)) && is_number(term(less, 1), -1);
+    is_less && is_number(term(sum, 1), -5) && is_number(term(sum, 2), 0)
 }
 
 #[test]
@@ -83,7 +72,7 @@ fn what_is_fixed_at_a_site_is_put_in(rt: HostRuntime) -> Result<(), Fail> {
             assert!(rt; is_object_sum(assigned));
             assert!(rt; *name == SplitName::Delta { object: 0, site: 0 });
             assert!(rt; is_lowered(written));
-            assert!(rt; is_number(printed, 1));
+            assert!(rt; is_number(Some(printed), 1));
         }
         _ => panic!(rt; "three commands"),
     }

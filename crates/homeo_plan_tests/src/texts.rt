@@ -46,6 +46,6 @@ pub(crate) fn accepted(rt: &impl Abort, alloc: Global, text: &str) -> Result<Acc
     match homeo_accept::accepted(alloc, text.as_bytes(), Purpose::Steps) {
         Ok(w) => Ok(w),
         Err(TextRefusal::Memory) => Err(Fail::from(AllocError)),
-        Err(TextRefusal::Refused(refusal)) => panic!(rt; "refused {refusal:?}"),
+        Err(TextRefusal::Refused(_)) => panic!(rt; "refused"),
     }
 }
