@@ -17,6 +17,9 @@ pub mod OwnWrites
 pub mod ProgramRuns
 pub mod Pushing
 pub mod RisingNumbers
+pub mod SitedEquations
+pub mod SitedRuns
+pub mod SitedValues
 pub mod StepRuns
 pub mod Touching
 pub mod Untouched

@@ -4,5 +4,6 @@ pub mod Literals
 pub mod Numbered
 pub mod OwnView
 pub mod Places
+pub mod Sited
 pub mod SoFar
 pub mod Uses

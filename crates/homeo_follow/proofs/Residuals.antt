@@ -1,8 +1,10 @@
--- A residual run from own deltas alone prints and leaves what the forms over whole objects say.
+-- A residual is the delta transform of the commands that are taken at the base; run from own deltas alone, it prints and leaves what
+-- the forms over whole objects say.
 use Rattle.homeo_meaning.specs.Key.{definitions as meaning_definitions}
 use Rattle.homeo_plan.specs.Key.{definitions as plan_definitions}
 use Rattle.homeo_follow.specs.Key.{definitions}
 use Rattle.std.proofs.Common.{◌≡◌, ℕ, ◌==◌, ◌<◌, Bool, true, false, cond, List, [], ◌∷◌, ◌++◌, map, ℤ, pos, ◌+ℤ◌, ◌*ℤ◌, refl, sym, ap, ap₂, ◌∙◌, subst, append_assoc, append-nil, arith}
+use mathlib.Core.Path.{fun_ext}
 use Rattle.std.proofs.lemmas.Int.{ints}
 use Rattle.std.proofs.lemmas.Bool.Decides.{nat_tests}
 use Rattle.homeo_syntax.specs.declared.low.SplitName.TheVariants.{Whole, Base, Delta}
@@ -22,6 +24,7 @@ use Rattle.homeo_plan.specs.Tracking.{Is, Tracks, TracksAll}
 use Rattle.homeo_plan.proofs.Tracked.{tracks, tracks_constant}
 use Rattle.homeo_follow.specs.Follow.{holds_by, passed, failed, Followed, asked, follow, follow_all, object_form, object_forms, followed}
 use Rattle.homeo_follow.specs.Lines.{IsUnmixed, RunsByLines}
+use Rattle.homeo_follow.specs.Taken.{taken, AreTaken}
 use Rattle.homeo_follow.proofs.Walked.{constants, holds_constant, state_after, at_base}
 use Rattle.homeo_follow.proofs.Standing.{Stands, stands_at_base}
 use Rattle.homeo_follow.proofs.Simulated as sim
@@ -74,27 +77,38 @@ module _ (k i : ℕ) (inside : i < k) (b : ℕ → ℤ) where
         ∙ shifted_residual c w.0 f g h behind over rest
         ∙ ap (λ z. shift_all k i (walk_before c (constants g) (walk_all_before cs z q)).residual) (sym (state_after c g))
 
+-- ---- what is taken
 mutual
-  unfolding plan_definitions meaning_definitions
+  unfolding definitions plan_definitions meaning_definitions
 
-  whole_residual : (c : Command) → IsWhole c → (s : State) (r : Row) → AreWhole r.residual → AreWhole (walk_before c s r).residual
-  whole_residual Skip w s r h = h
-  whole_residual (Assign t e) w s r h = (w, h)
-  whole_residual (Write x e) w s r h = (w, h)
-  whole_residual (Print e) w s r h = (w, h)
-  whole_residual (Seq cs) w s r h = whole_residuals cs w s r h
-  whole_residual (If t c d) w s r h = go (holds t s) (whole_residual c w.1 s r h) (whole_residual d w.2 s r h)
+  taken_residual : (c : Command) → IsWhole c → (s : State) (r : Row) → AreTaken r.residual → AreTaken (walk_before c s r).residual
+  taken_residual Skip w s r h = h
+  taken_residual (Assign t e) w s r h = (w, h)
+  taken_residual (Write x e) w s r h = (w, h)
+  taken_residual (Print e) w s r h = (w, h)
+  taken_residual (Seq cs) w s r h = taken_residuals cs w s r h
+  taken_residual (If t c d) w s r h = go (holds t s) (taken_residual c w.1 s r h) (taken_residual d w.2 s r h)
     where
       go :
-          (u : Bool) → AreWhole (walk_before c s r).residual → AreWhole (walk_before d s r).residual →
-          AreWhole (cond u (test_before t (walk_before c s r)) (test_before (otherwise t) (walk_before d s r))).residual
+          (u : Bool) → AreTaken (walk_before c s r).residual → AreTaken (walk_before d s r).residual →
+          AreTaken (cond u (test_before t (walk_before c s r)) (test_before (otherwise t) (walk_before d s r))).residual
       go true x y = x
       go false x y = y
 
-  whole_residuals : (cs : Commands) → AreWhole cs → (s : State) (r : Row) → AreWhole r.residual → AreWhole (walk_all_before cs s r).residual
-  whole_residuals NoCommand w s r h = h
-  whole_residuals (MoreCommand c cs) w s r h =
-      whole_residual c w.0 s (walk_all_before cs (exec c s).state r) (whole_residuals cs w.1 (exec c s).state r h)
+  taken_residuals : (cs : Commands) → AreWhole cs → (s : State) (r : Row) → AreTaken r.residual → AreTaken (walk_all_before cs s r).residual
+  taken_residuals NoCommand w s r h = h
+  taken_residuals (MoreCommand c cs) w s r h =
+      taken_residual c w.0 s (walk_all_before cs (exec c s).state r) (taken_residuals cs w.1 (exec c s).state r h)
+
+whole_taken : (cs : Commands) → AreTaken cs → AreWhole cs
+unfolding definitions meaning_definitions
+whole_taken NoCommand h = tt
+whole_taken (MoreCommand Skip cs) h = absurd h.0
+whole_taken (MoreCommand (Assign t e) cs) h = (h.0, whole_taken cs h.1)
+whole_taken (MoreCommand (Write x e) cs) h = (h.0, whole_taken cs h.1)
+whole_taken (MoreCommand (Print e) cs) h = (h.0, whole_taken cs h.1)
+whole_taken (MoreCommand (Seq ds) cs) h = absurd h.0
+whole_taken (MoreCommand (If t c d) cs) h = absurd h.0
 
 -- ---- its values
 module _ (s : State) where
@@ -230,10 +244,31 @@ module _ (k i : ℕ) (inside : i < k) (b : ℕ → ℤ) (x : Deltas) where
   begins (BaseAt n) = record { here = object_is n; there = object_is n; apart = λ h. refl }
   begins (DeltaAt n j) = tracks_constant (pos 0) one one
 
+-- ---- the commands that are taken at the base
+objects_at_base : (b : ℕ → ℤ) → whole b ≡ constants (object_forms b)
+unfolding definitions plan_definitions meaning_definitions
+objects_at_base b = fun_ext at
+  where
+    at : (q : Location) → whole b q ≡ constants (object_forms b) q
+    at (TempAt t) = refl
+    at (BaseAt n) = refl
+    at (DeltaAt n j) = refl
+
+pub are_taken : (b : ℕ → ℤ) (c : Command) → IsWhole c → AreTaken (taken b c)
+unfolding definitions plan_definitions
+are_taken b c w = taken_residual c w (whole b) last_row tt
+
+pub residual_is : (k : ℕ) (b : ℕ → ℤ) (p : PlannedCall) → p.site < k → IsWhole p.command → (base_row k b p).residual ≡ shift_all k p.site (taken b p.command)
+unfolding definitions plan_definitions
+residual_is k b p inside w =
+    ap (λ (r : Row). r.residual) (row_at_walk (shifted k p) (whole b) (no_temps b))
+    ∙ ap (λ z. (walk_before (shifted k p) z last_row).residual) (at_base b)
+    ∙ shifted_residual k p.site inside b p.command w (base_forms b) (object_forms b) (stands_at_base k p.site inside b) last_row last_row refl
+    ∙ ap (λ z. shift_all k p.site (walk_before p.command z last_row).residual) (sym (objects_at_base b))
+
 module _ (k : ℕ) (b : ℕ → ℤ) (p : PlannedCall) (inside : p.site < k) (w : IsWhole p.command) (x : Deltas) where
-  -- the commands over whole objects along the branch that is taken at the base
   abbrev path : Commands
-  path = (walk_before p.command (constants (object_forms b)) last_row).residual
+  path = taken b p.command
 
   abbrev start : State
   start = alone b p.site x
@@ -242,24 +277,18 @@ module _ (k : ℕ) (b : ℕ → ℤ) (p : PlannedCall) (inside : p.site < k) (w 
   left = exec_all (shift_all k p.site path) start
 
   local_is : exec_all (base_row k b p).residual start ≡ left
-  unfolding definitions plan_definitions
-  local_is =
-      ap (λ (r : Row). exec_all r.residual start) (row_at_walk (shifted k p) (whole b) (no_temps b))
-      ∙ ap (λ z. exec_all (walk_before (shifted k p) z last_row).residual start) (at_base b)
-      ∙ ap (λ cs. exec_all cs start)
-      (shifted_residual k p.site inside b p.command w (base_forms b) (object_forms b) (stands_at_base k p.site inside b) last_row last_row refl)
-
-  path_whole : AreWhole path
-  unfolding plan_definitions meaning_definitions
-  path_whole = whole_residual p.command w (constants (object_forms b)) last_row tt
+  local_is = ap (λ cs. exec_all cs start) (residual_is k b p inside w)
 
   stepped : Follows k p.site left start (exec_all path (seen k p.site inside b x))
   unfolding plan_definitions meaning_definitions
-  stepped = shift_follows k p.site inside (Seq path) start path_whole
+  stepped = shift_follows k p.site inside (Seq path) start (whole_taken path (are_taken b p.command w))
 
   over : Ran (one k p.site inside b x) (followed b p.command) (seen k p.site inside b x) (exec_all path) (exec_all NoCommand)
   unfolding definitions plan_definitions
-  over = ran (one k p.site inside b x) p.command (object_forms b) (seen k p.site inside b x) (begins k p.site inside b x) last_row
+  over =
+      let here : State = seen k p.site inside b x in
+      subst (λ z. Ran (one k p.site inside b x) (followed b p.command) here (exec_all (walk_before p.command z last_row).residual) (exec_all NoCommand))
+      (sym (objects_at_base b)) (ran (one k p.site inside b x) p.command (object_forms b) here (begins k p.site inside b x) last_row)
 
   -- ---- the own deltas that are left
   own_left : (n : ℕ) → b n +ℤ left.state (DeltaAt n p.site) ≡ fold_state k left.state (BaseAt n)

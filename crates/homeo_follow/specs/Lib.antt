@@ -4,3 +4,4 @@ pub mod FollowSizes
 pub mod Key
 pub mod Lines
 pub mod ObjectTemplate
+pub mod Taken
