@@ -11,7 +11,7 @@ use Rattle.homeo_meaning.specs.CallForm.{ground_form}
 use Rattle.homeo_meaning.specs.Calls.{IsGroundCall}
 use Rattle.homeo_meaning.specs.Ground.{Ground}
 use Rattle.homeo_meaning.specs.LowComputed.{CanRun}
-use Rattle.homeo_meaning.specs.LowMeaning.{BaseAt, whole}
+use Rattle.homeo_meaning.specs.LowMeaning.{Location, TempAt, BaseAt, DeltaAt, whole}
 use Rattle.homeo_meaning.specs.Schema.{schema_of}
 use Rattle.homeo_meaning.specs.Serial.{values_of}
 use Rattle.homeo_meaning.specs.Small.{IsSmall}
@@ -33,6 +33,7 @@ use Rattle.homeo_plan.proofs.Sums.{sum_zero}
 use Rattle.homeo_plan.proofs.Tables.{row_at_walk}
 use Rattle.homeo_plan.proofs.Wider.{wider_forms}
 use Rattle.homeo_split.specs.CanExec.{run_limit, can_exec}
+use Rattle.homeo_split.proofs.SmallCommands.{small_law}
 use Rattle.homeo_delta.specs.SmallParts.{HasSmallParts}
 use Rattle.homeo_delta.proofs.SmallShifts.{runs_law}
 use Rattle.homeo_build.specs.inner.Planning.{CanPlan}
@@ -75,8 +76,24 @@ module _
     unfolding b
     fold_within = subst (AllWithin (schema_of w)) (sym (fun_ext (fold_base k b))) (all_within (schema_of w) base within)
 
+    fold_whole : fold_state k (whole b) ≡ whole b
+    unfolding plan_definitions meaning_definitions
+    fold_whole = fun_ext at
+      where
+        at : (p : Location) → fold_state k (whole b) p ≡ whole b p
+        at (TempAt t) = refl
+        at (BaseAt x) = fold_base k b x
+        at (DeltaAt x j) = refl
+
     computes : CanRun (IsSmall largest) (IsSmall largest) (ground_form w g) (fold_state k (whole b))
     computes = fold_numbers w g k (whole b) accepted called (no_temps b) fold_within
+
+    -- its command over whole objects can be run there
+    pub form_runs : can_exec run_limit (ground_form w g) (whole (values_of base)) ≡ true
+    unfolding b
+    form_runs =
+        small_law largest (ground_form w g) (whole b) (omega arith)
+        (subst (CanRun (IsSmall largest) (IsSmall largest) (ground_form w g)) fold_whole computes)
 
     few : largest + k * most ≤ run_limit
     unfolding k plan_definitions

@@ -11,6 +11,7 @@ pub mod laws;
 pub mod residuals;
 pub mod shares;
 mod sites;
+pub mod taken;
 pub mod treaties;
 mod written;
 
