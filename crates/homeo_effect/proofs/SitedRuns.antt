@@ -20,7 +20,7 @@ use Rattle.homeo_split.specs.CanExec.{expr_fits, sum_fits, can_exec, can_exec_al
 use Rattle.homeo_effect.specs.Key.{definitions}
 use Rattle.homeo_effect.specs.Counts.{assignment_count, print_count}
 use Rattle.homeo_effect.specs.OwnCommands.{reads_own, read_own, are_own}
-use Rattle.homeo_effect.specs.Touched.{with_delta, written}
+use Rattle.homeo_effect.specs.Touched.{with_delta, written, WritesOwn}
 use Rattle.homeo_effect.specs.inner.Alone.{IsAlone}
 use Rattle.homeo_effect.specs.inner.Sited.{sited_expr, sited_exprs, sited_write, sited_command, sited}
 use Rattle.homeo_effect.proofs.Localizing.{both}
@@ -163,6 +163,18 @@ module _ (b : ℕ → ℤ) (i : ℕ) where
   own (MoreCommand (Print e) cs) w = both (own_expr e w.0) (own cs w.1)
   own (MoreCommand (Seq ds) cs) w = absurd w.0
   own (MoreCommand (If t c d) cs) w = absurd w.0
+
+  pub writes : (cs : Commands) → AreTaken cs → WritesOwn i (sited b i cs)
+  unfolding definitions follow_definitions meaning_definitions plan_definitions
+  writes NoCommand w = tt
+  writes (MoreCommand Skip cs) w = absurd w.0
+  writes (MoreCommand (Assign t e) cs) w = writes cs w.1
+  writes (MoreCommand (Write (Whole x) e) cs) w = (refl, writes cs w.1)
+  writes (MoreCommand (Write (Base x) e) cs) w = absurd w.0.0
+  writes (MoreCommand (Write (Delta x j) e) cs) w = absurd w.0.0
+  writes (MoreCommand (Print e) cs) w = writes cs w.1
+  writes (MoreCommand (Seq ds) cs) w = absurd w.0
+  writes (MoreCommand (If t c d) cs) w = absurd w.0
 
   module _ (k : ℕ) where
     pub same_written : (cs : Commands) → written (sited b i cs) ≡ written (shift_all k i cs)

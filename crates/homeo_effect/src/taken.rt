@@ -12,7 +12,7 @@ ghost use Rattle.homeo_split.specs.CanExec.{run_limit, can_exec_all};
 ghost use Rattle.homeo_effect.specs.Counts.{assignment_count, print_count};
 ghost use Rattle.homeo_effect.specs.EffectsView.{plain_all, plain_lent};
 ghost use Rattle.homeo_effect.specs.OwnCommands.{are_own};
-ghost use Rattle.homeo_effect.specs.Touched.{written};
+ghost use Rattle.homeo_effect.specs.Touched.{written, WritesOwn};
 ghost use Rattle.homeo_effect.specs.inner.Sited.{sited_command};
 
 use crate::sited::sited_command;
@@ -60,6 +60,7 @@ pub fn taken_at_site(
         can_exec_all run_limit (plain_all cs.items) (alone (values_of base.now.items) site x) ≡ true) }
     ensures own { IfOk result (λ cs. are_own site (plain_all cs.items) ≡ true) }
     ensures straight { IfOk result (λ cs. IsStraight (plain_all cs.items)) }
+    ensures writes { IfOk result (λ cs. WritesOwn site (plain_all cs.items)) }
     ensures written { IfOk result (λ cs. (k : ℕ) → written (plain_all cs.items) ≡ written (shift_all k site (plain_lent taken.now))) }
     ensures assigned { IfOk result (λ cs. (k : ℕ) →
         assignment_count (plain_all cs.items) ≡ assignment_count (shift_all k site (plain_lent taken.now))) }

@@ -6,7 +6,6 @@ use Rattle.std.specs.declared.sync.Arc.{Arc}
 use Rattle.std.proofs.lemmas.List.{length-map}
 use Rattle.std.proofs.lemmas.Slice.Zip.{AllZip-long}
 use Rattle.homeo_syntax.specs.Low.{Skip}
-use Rattle.homeo_syntax.specs.LowView.{low_commands, plain_lcommand}
 use Rattle.homeo_syntax.specs.Source as s
 use Rattle.homeo_meaning.specs.declared.call.CallId.{CallId}
 use Rattle.homeo_meaning.specs.declared.call.GroundCall.{GroundCall}
@@ -15,14 +14,11 @@ use Rattle.homeo_meaning.specs.Serial.{values_of}
 use Rattle.homeo_plan.specs.Key.{definitions as plan_definitions}
 use Rattle.homeo_plan.specs.Planned.{sites_of, planned_call, planned, planned_at}
 use Rattle.homeo_plan.specs.Template.{PlannedCall, base_row}
-use Rattle.homeo_plan.proofs.PlannedCalls.{planned_member}
-use Rattle.homeo_effect.specs.Touched.{WritesOwn}
 use Rattle.homeo_history.specs.Legal.{IsCallAt}
 use Rattle.homeo_site.specs.Key.{definitions}
 use Rattle.homeo_site.specs.OwnCalls.{RunsAs, IsOwnCall, IsGroundOwnCall, IsMadeFor}
 use Rattle.homeo_site.specs.declared.own_calls.OwnCall.{OwnCall}
 use Rattle.homeo_site.proofs.CallsOfSites.{call_site}
-use Rattle.homeo_site.proofs.WrittenObjects.{writes_own}
 
 -- ---- the planned call at a number
 nothing : PlannedCall
@@ -41,6 +37,15 @@ planned_there :
 unfolding plan_definitions nothing
 planned_there w call n lt ground =
     planned_here w (grounds w) n lt ∙ ap (λ g. Some (option_map_or (planned_call w) g nothing)) ground
+
+-- so is its site at that number
+pub site_there :
+    (w : s.Workload) (call : CallId) (n : ℕ) → n < length (grounds w) → slice_get (grounds w) n ≡ ground_of w call →
+    (i : ℕ) → i ≡ (planned_at w call).site → (g : PlannedCall) → slice_get (planned w) n ≡ Some g → i ≡ g.site
+site_there w call n lt ground i is g there =
+    let here : slice_get (planned w) n ≡ Some (planned_at w call) = planned_there w call n lt ground in
+    let same : planned_at w call ≡ g = cc in
+    is ∙ ap (λ (h : PlannedCall). h.site) same
 
 -- ---- lists of one length
 module _ {A B : Type 0} (R : A → B → Type 0) where
@@ -102,10 +107,3 @@ module _ (w : s.Workload) (base : List ℤ) (i : ℕ) (call : CallId) (at : IsCa
   own_runs =
       subst (λ j. RunsAs (values_of base) j (length base) (base_row (sites_of w) (values_of base) (planned_at w call)).residual o.program)
       (call_site w i call at) own.runs
-
-  -- it writes its deltas
-  pub own_writes : WritesOwn i (low_commands (map plain_lcommand o.commands.items))
-  own_writes =
-      subst (WritesOwn i) (sym own.commands)
-      (subst (λ j. WritesOwn j (base_row (sites_of w) (values_of base) (planned_at w call)).residual) (call_site w i call at)
-      (writes_own w base (planned_at w call) (planned_member w call at.exists)))

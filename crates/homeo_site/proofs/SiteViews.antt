@@ -86,8 +86,8 @@ pub room_is :
     RunsAs (values_of v.base) v.number (length v.base) (step_commands (plain_workload v.work) (state_in v x s) call) r.own.value.program →
     r.treaty.value ≡ part_at (plain_workload v.work) v.base v.number → r.deltas.items ≡ x →
     r.prints ≡ record { items = []; spare = prints } → r.temporaries.items ≡ replicate temporaries (pos 0) →
-    r.clauses.items ≡ touched_clauses (written (step_commands (plain_workload v.work) (state_in v x s) call)) (template_at (plain_workload v.work) v.base) →
-    r.freezes.items ≡ touched_freezes (written (step_commands (plain_workload v.work) (state_in v x s) call)) (template_at (plain_workload v.work) v.base) →
+    r.own.value.clauses.items ≡ touched_clauses (written (step_commands (plain_workload v.work) (state_in v x s) call)) (template_at (plain_workload v.work) v.base) →
+    r.own.value.freezes.items ≡ touched_freezes (written (step_commands (plain_workload v.work) (state_in v x s) call)) (template_at (plain_workload v.work) v.base) →
     IsRoom (plain_workload u.work) u.state call r
 room_is v x s u call r temporaries prints is assigned printed name own treaty deltas empty zeros clauses freezes =
     subst (λ (y : SiteValue). IsRoom (plain_workload y.work) y.state call r) is

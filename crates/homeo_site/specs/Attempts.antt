@@ -37,8 +37,8 @@ abbrev pub step_commands : s.Workload → SiteState → CallId → Commands
 unfolding definitions
 step_commands w x call = (base_row (sites_of w) (values_of x.base) (planned_at w call)).residual
 
--- room for a call: what the site runs for it, the site's part of the treaty, the site's deltas, no prints, a 0 for each assignment,
--- room for each print, and the numbers of what the call touches of the template
+-- room for a call: what the site runs for it, with the numbers of what the call touches of the template, the site's part of the treaty,
+-- the site's deltas, no prints, a 0 for each assignment, and room for each print
 pub record IsRoom (w : s.Workload) (x : SiteState) (id : CallId) (r : Room) : Type 0 where
   pub call : r.call ≡ id
   pub own : RunsAs (values_of x.base) x.number (length x.base) (step_commands w x id) r.own.value.program
@@ -47,8 +47,8 @@ pub record IsRoom (w : s.Workload) (x : SiteState) (id : CallId) (r : Room) : Ty
   pub prints : r.prints.items ≡ []
   pub temporaries : r.temporaries.items ≡ replicate (assignment_count (step_commands w x id)) (pos 0)
   pub spare : print_count (step_commands w x id) ≤ r.prints.spare
-  pub clauses : r.clauses.items ≡ touched_clauses (written (step_commands w x id)) (template_at w x.base)
-  pub freezes : r.freezes.items ≡ touched_freezes (written (step_commands w x id)) (template_at w x.base)
+  pub clauses : r.own.value.clauses.items ≡ touched_clauses (written (step_commands w x id)) (template_at w x.base)
+  pub freezes : r.own.value.freezes.items ≡ touched_freezes (written (step_commands w x id)) (template_at w x.base)
 
 -- a list for a copy of a call's prints: it is empty, and has room for them
 pub record IsEmptyCopy (w : s.Workload) (x : SiteState) (id : CallId) (copy : Listed ℤ) : Type 0 where

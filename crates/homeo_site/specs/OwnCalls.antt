@@ -1,21 +1,20 @@
 -- What sites run for ground calls.
-use Rattle.std.specs.Prelude.{◌≡◌, ℕ, ◌<◌, true, List, length, map, slice_get, ℤ, Option, Some, IfSome}
+use Rattle.std.specs.Prelude.{◌≡◌, ℕ, ◌<◌, true, List, length, slice_get, ℤ, Option, Some, IfSome}
 use Rattle.std.specs.List.{AllZip}
 use Rattle.std.specs.declared.sync.Arc.{Arc}
 use Rattle.homeo_syntax.specs.Low.{Commands}
-use Rattle.homeo_syntax.specs.LowView.{low_commands, plain_lcommand}
 use Rattle.homeo_syntax.specs.Source as s
 use Rattle.homeo_meaning.specs.LowMeaning.{DeltaAt, exec_all}
 use Rattle.homeo_meaning.specs.Serial.{values_of}
 use Rattle.homeo_plan.specs.Each.{Each}
 use Rattle.homeo_plan.specs.Joined.{alone}
-use Rattle.homeo_plan.specs.Planned.{sites_of, planned}
+use Rattle.homeo_plan.specs.Planned.{sites_of, planned, template_at}
 use Rattle.homeo_plan.specs.Template.{PlannedCall, base_row}
 use Rattle.homeo_split.specs.CanExec.{run_limit, can_exec_all}
 use Rattle.homeo_effect.specs.Counts.{assignment_count, print_count}
 use Rattle.homeo_effect.specs.OwnState.{own_state}
 use Rattle.homeo_effect.specs.Program.{plain_program, set_after_all, prints_of_all}
-use Rattle.homeo_effect.specs.Touched.{written}
+use Rattle.homeo_effect.specs.Touched.{written, touched_clauses, touched_freezes}
 use Rattle.homeo_effect.specs.declared.program.Program.{Program}
 use Rattle.homeo_site.specs.Key.{definitions}
 use Rattle.homeo_site.specs.declared.own_calls.OwnCall.{OwnCall}
@@ -38,10 +37,12 @@ pub record RunsAs (b : ℕ → ℤ) (i count : ℕ) (cs : Commands) (p : Program
       (exec_all (plain_program p) (own_state i x kept)).state (DeltaAt n i) ≡
       (exec_all cs (alone b i (values_of x))).state (DeltaAt n i)
 
--- what is run for a planned call on a base: the commands of its residual, and a program that does at its site what these do
+-- what is run for a planned call on a base: a program that does at its site what its residual does, and the numbers of what this
+-- touches of the template there
 pub record IsOwnCall (w : s.Workload) (base : List ℤ) (g : PlannedCall) (o : OwnCall) : Type 0 where
-  pub commands : low_commands (map plain_lcommand o.commands.items) ≡ (base_row (sites_of w) (values_of base) g).residual
   pub runs : RunsAs (values_of base) g.site (length base) (base_row (sites_of w) (values_of base) g).residual o.program
+  pub clauses : o.clauses.items ≡ touched_clauses (written (base_row (sites_of w) (values_of base) g).residual) (template_at w base)
+  pub freezes : o.freezes.items ≡ touched_freezes (written (base_row (sites_of w) (values_of base) g).residual) (template_at w base)
 
 -- so for the planned call at this number of a workload
 pub record IsGroundOwnCall (w : s.Workload) (base : List ℤ) (n : ℕ) (o : OwnCall) : Type 0 where

@@ -4,7 +4,7 @@ use crate::own_calls::OwnCall;
 use crate::own_treaty::OwnTreaty;
 use homeo_meaning::{CallId, Database};
 use homeo_plan::Broken;
-use homeo_syntax::{List, Numbers, Prints};
+use homeo_syntax::{Numbers, Prints};
 use std::alloc::Global;
 use std::sync::Arc;
 
@@ -31,7 +31,7 @@ pub struct Change {
 #[derive(Drop)]
 pub struct Room {
     pub call: CallId,
-    /// What the site runs for it.
+    /// What the site runs for it, and what of the treaty that touches.
     pub own: Arc<OwnCall, Global>,
     /// The site's part of the round's treaty.
     pub treaty: Arc<OwnTreaty, Global>,
@@ -41,8 +41,4 @@ pub struct Room {
     pub prints: Prints,
     /// A 0 for each number that the call keeps on the way.
     pub temporaries: Numbers,
-    /// The numbers, from 0, of the treaty's clauses with a term on a delta that the call writes: rising.
-    pub clauses: List<u32>,
-    /// The numbers of the treaty's freezes that the call writes: rising. They go on after those of all clauses.
-    pub freezes: List<u32>,
 }

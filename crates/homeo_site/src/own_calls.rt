@@ -1,36 +1,37 @@
 //! What sites run for ground calls.
 
-ghost use Rattle.std.specs.Prelude.{◌≡◌, ◌<◌, ◌^◌, ℤ, List, Some, None, true, length, replicate, slice_set, IfOk};
+ghost use Rattle.std.specs.Prelude.{◌≡◌, ◌<◌, ◌^◌, ℤ, List, Some, None, length, replicate, slice_get, slice_set, IfOk};
 ghost use Rattle.homeo_syntax.specs.SourceView.{plain_workload};
 ghost use Rattle.homeo_meaning.specs.Bounds.{IsWithin};
 ghost use Rattle.homeo_meaning.specs.Calls.{CallExists};
 ghost use Rattle.homeo_meaning.specs.Ground.{grounds};
-ghost use Rattle.homeo_meaning.specs.LowMeaning.{whole};
 ghost use Rattle.homeo_meaning.specs.Schema.{schema_of};
 ghost use Rattle.homeo_meaning.specs.Serial.{values_of};
-ghost use Rattle.homeo_plan.specs.Each.{Each};
-ghost use Rattle.homeo_plan.specs.Needs.{IsStraight};
-ghost use Rattle.homeo_plan.specs.Planned.{planned_at};
-ghost use Rattle.homeo_plan.specs.PlanView.{plain_residual};
-ghost use Rattle.homeo_split.specs.CanExec.{run_limit, can_exec_all};
-ghost use Rattle.homeo_effect.specs.Touched.{written, WritesOwn};
-ghost use Rattle.homeo_site.specs.OwnCalls.{RunsAs, IsOwnCall, IsGroundOwnCall, AreOwnCalls};
+ghost use Rattle.homeo_plan.specs.Planned.{planned, planned_at, template_at};
+ghost use Rattle.homeo_plan.specs.Template.{PlannedCall};
+ghost use Rattle.homeo_follow.specs.Taken.{AreTaken};
+ghost use Rattle.homeo_build.specs.TakenCommands.{sited_commands};
+ghost use Rattle.homeo_effect.specs.EffectsView.{plain_lent};
+ghost use Rattle.homeo_site.specs.OwnCalls.{IsOwnCall, IsGroundOwnCall, AreOwnCalls};
+ghost use Rattle.homeo_site.specs.inner.RunsTaken.{RunsTaken};
 
 use homeo_build::Compiled;
-use homeo_build::residuals::residual;
-use homeo_effect::{Program, commands_at_site};
+use homeo_build::taken::{Taken, taken_by};
+use homeo_effect::{Program, TreatyIndex, taken_at_site};
 use homeo_meaning::{CallId, Database};
-use homeo_plan::Residual;
-use homeo_syntax::{LCommand, Memory};
+use homeo_syntax::Memory;
 use std::alloc::Global;
 use std::sync::Arc;
 
-/// What a ground call's site runs for it through a round: the commands of its residual, and the program that does there what
-/// these do.
+/// What a ground call's site runs for it through a round: a program that does there what the call's residual does, and what of the
+/// site's treaty that touches.
 #[derive(Drop)]
 pub struct OwnCall {
-    pub commands: homeo_syntax::List<LCommand>,
     pub program: Program,
+    /// The numbers, from 0, of the treaty's clauses with a term on a delta that is written: rising.
+    pub clauses: homeo_syntax::List<u32>,
+    /// The numbers of the treaty's freezes that are written: rising. They go on after those of all clauses.
+    pub freezes: homeo_syntax::List<u32>,
 }
 
 /// What is run for the ground calls of a round. Each is made when it is first asked for.
@@ -39,34 +40,50 @@ pub struct OwnCalls {
     calls: Vec<Option<Arc<OwnCall, Global>>>,
 }
 
-/// The program that does what a residual does at its site, on the base of a round.
-fn own_program(alloc: Global, residual: &Residual, base: &Database) -> Result<Program, Memory>
-    requires straight { IsStraight (plain_residual residual.now) }
-    requires own { WritesOwn residual.now.site (plain_residual residual.now) }
-    requires small { can_exec_all run_limit (plain_residual residual.now) (whole (values_of base.now.items)) ≡ true }
-    requires objects { Each (λ d. d.object < length base.now.items) (written (plain_residual residual.now)) }
-    requires few { length residual.now.commands.items < 2 ^ 32 }
-    ensures { IfOk result (RunsAs (values_of base.now.items) residual.now.site (length base.now.items) (plain_residual residual.now)) }
+/// What the site of a call runs for it, on the base of a round, made of the commands that the call takes from there, where the index is
+/// that of the round's treaty for this site.
+fn own_call_of(
+    alloc: Global,
+    taken: &Taken,
+    base: &Database,
+    index: &TreatyIndex,
+) -> Result<OwnCall, Memory>
+    requires taken { AreTaken (plain_lent taken.now.commands.items) }
+    requires few { length taken.now.commands.items < 2 ^ 32 }
+    requires site { index.now.site ≡ taken.now.site }
+    ensures { IfOk result (RunsTaken (values_of base.now.items) (length base.now.items) (sited_commands taken.now) index.now.template) }
 {
-    let commands = commands_at_site(alloc, residual, base)?;
-    let program = Program::of(alloc, residual.site, commands.as_slice())?;
-    Ok(program)
+    let commands = taken_at_site(alloc, taken.commands.as_slice(), base, taken.site)?;
+    let own = commands.as_slice();
+    let program = Program::of(alloc, taken.site, own)?;
+    let clauses = index.clauses_touched(alloc, own)?;
+    let freezes = index.freezes_touched(alloc, own)?;
+    Ok(OwnCall {
+        program,
+        clauses,
+        freezes,
+    })
 }
 
 /// What is run for the ground call of this number, on the base of a round.
-fn own_call(alloc: Global, c: &Compiled, base: &Database, number: usize) -> Result<OwnCall, Memory>
+fn own_call(
+    alloc: Global,
+    c: &Compiled,
+    base: &Database,
+    index: &TreatyIndex,
+    number: usize,
+) -> Result<OwnCall, Memory>
     requires within { IsWithin (schema_of (plain_workload c.now)) base.now.items }
     requires number { number < length (grounds (plain_workload c.now)) }
+    requires site { (g : PlannedCall) → slice_get (planned (plain_workload c.now)) number ≡ Some g → index.now.site ≡ g.site }
+    requires template { index.now.template ≡ template_at (plain_workload c.now) base.now.items }
     ensures { IfOk result (IsGroundOwnCall (plain_workload c.now) base.now.items number) }
 {
     // its rules hold
     let _workload = c.workload().workload();
-    let residual = residual(alloc, c, base, number)?;
-    let program = own_program(alloc, &residual, base)?;
-    Ok(OwnCall {
-        commands: residual.commands,
-        program,
-    })
+    let taken = taken_by(alloc, c, base, number)?;
+    let own = own_call_of(alloc, &taken, base, index)?;
+    Ok(own)
 }
 
 /// Nothing, so many times.
@@ -101,8 +118,8 @@ impl OwnCalls {
         Ok(OwnCalls { calls })
     }
 
-    /// What is run for a call, which must be one of the workload, on the base of the round. All that was asked before must have
-    /// been on the same base.
+    /// What is run for a call, which must be one of the workload, on the base of the round; the index is that of the round's treaty for
+    /// the call's site. All that was asked before must have been on the same base.
     ///
     /// # Errors
     ///
@@ -112,10 +129,13 @@ impl OwnCalls {
         alloc: Global,
         c: &Compiled,
         base: &Database,
+        index: &TreatyIndex,
         call: CallId,
     ) -> Result<Arc<OwnCall, Global>, Memory>
         requires within { IsWithin (schema_of (plain_workload c.now)) base.now.items }
         requires exists { CallExists (plain_workload c.now) call }
+        requires site { index.now.site ≡ (planned_at (plain_workload c.now) call).site }
+        requires template { index.now.template ≡ template_at (plain_workload c.now) base.now.items }
         requires made { AreOwnCalls (plain_workload c.now) base.now.items self.old }
         ensures made { AreOwnCalls (plain_workload c.now) base.now.items self.new }
         ensures own { let w = plain_workload c.now in IfOk result (λ o. IsOwnCall w base.now.items (planned_at w call) o.value) }
@@ -124,7 +144,7 @@ impl OwnCalls {
         if let Some(own) = &self.calls[place] {
             return Ok(Arc::try_clone(own)?);
         }
-        let made = own_call(alloc, c, base, place)?;
+        let made = own_call(alloc, c, base, index, place)?;
         let own = Arc::new(alloc, made)?;
         let kept = Arc::try_clone(&own)?;
         put(&mut self.calls, place, kept);

@@ -150,9 +150,10 @@ impl OwnRound {
         ensures treaty { IfOk result (λ r. r.1.value ≡ part_at (plain_workload self.old.work) self.old.base self.old.number) }
     {
         let mut parts = self.take_parts(alloc)?;
+        let index = parts.treaty.index();
         let own = parts
             .calls
-            .get(alloc, &self.compiled, &self.plan.base, call);
+            .get(alloc, &self.compiled, &self.plan.base, index, call);
         let treaty = Arc::try_clone(&parts.treaty);
         self.parts = Some(parts);
         Ok((own?, treaty?))

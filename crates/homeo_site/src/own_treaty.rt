@@ -3,18 +3,16 @@
 
 ghost use Rattle.std.specs.Prelude.{◌≡◌, ◌+◌, ◌^◌, ◌<◌, ◌≤◌, ◌+ℤ◌, ◌*ℤ◌, [], All, length, map, slice_index_or, IfOk, FitsSigned};
 ghost use Rattle.std.specs.Int.{w128};
-ghost use Rattle.homeo_syntax.specs.LowView.{low_commands, plain_lcommand};
 ghost use Rattle.homeo_meaning.specs.Serial.{values_of};
 ghost use Rattle.homeo_plan.specs.PlanView.{plain_clause, plain_config, plain_template};
 ghost use Rattle.homeo_plan.specs.Treaty.{bound_at};
-ghost use Rattle.homeo_effect.specs.Touched.{WritesOwn, written, touched_clauses, touched_freezes};
 ghost use Rattle.homeo_site.specs.inner.Failures.{sum_failure, freeze_failure, first_of, first_failure, own_failure, own_freeze_failure};
 ghost use Rattle.homeo_site.specs.OwnTreaty.{own_terms, own_sum, SumsFit, plain_own, own_clauses};
 
 use homeo_effect::TreatyIndex;
 use homeo_meaning::padded::item_or;
 use homeo_plan::{Broken, Clause, Config, Delta, RoundPlan, Term};
-use homeo_syntax::{LCommand, List, Memory};
+use homeo_syntax::{List, Memory};
 use std::alloc::Global;
 use std::marker::Model;
 use std::sync::Arc;
@@ -232,22 +230,12 @@ impl OwnTreaty {
         })
     }
 
-    /// What of the treaty commands of the site touch: the numbers of the clauses with a term on a delta that they write, and those
-    /// of the freezes that they write, rising.
-    pub(crate) fn touched(
-        &self,
-        alloc: Global,
-        commands: &[LCommand],
-    ) -> Result<(List<u32>, List<u32>), Memory>
-        requires { WritesOwn self.now.site (low_commands (map plain_lcommand commands.now)) }
-        ensures clauses { IfOk result (λ r. r.0.items ≡
-            touched_clauses (written (low_commands (map plain_lcommand commands.now))) self.now.template) }
-        ensures freezes { IfOk result (λ r. r.1.items ≡
-            touched_freezes (written (low_commands (map plain_lcommand commands.now))) self.now.template) }
+    /// Lends the index: of each delta of the site the clauses and freezes that stand on it.
+    pub(crate) fn index(&self) -> &TreatyIndex
+        ensures site { result.now.site ≡ self.now.site }
+        ensures template { result.now.template ≡ self.now.template }
     {
-        let clauses = self.index.clauses_touched(alloc, commands)?;
-        let freezes = self.index.freezes_touched(alloc, commands)?;
-        Ok((clauses, freezes))
+        &self.index
     }
 
     /// The first that fails of clauses and freezes of these numbers, where the site has these deltas.

@@ -118,9 +118,9 @@ impl Site {
     }
 
     /// Takes room for an attempt of a call, and for so many copies of its prints: all the memory that the attempt, a commit
-    /// of its change, and the copies need. In the room stands what the site runs for the call, which is made at the first attempt
-    /// of its ground call in the round; the site's part of the treaty; and which clauses and freezes the call touches. The call must
-    /// be one of a client of this site.
+    /// of its change, and the copies need. In the room stands what the site runs for the call and which clauses and freezes that
+    /// touches, both made at the first attempt of its ground call in the round; and the site's part of the treaty. The call must be one
+    /// of a client of this site.
     ///
     /// The first room in a round makes the site's part of the treaty, in about the time and the memory of the plan's length: of
     /// each clause the terms on the site's deltas and its bound, and for each of these deltas which clauses and freezes stand on
@@ -146,7 +146,6 @@ impl Site {
         let run = &*own;
         let count = u64::from(run.program.prints);
         let temporaries = zeros(alloc, run.program.temporaries as usize)?;
-        let (clauses, freezes) = treaty.touched(alloc, run.commands.as_slice())?;
         let deltas = Vec::from_slice(alloc, self.deltas.as_slice())?;
         let prints = empty_prints(alloc, count)?;
         let lists = empty_copies(alloc, copies, count)?;
@@ -158,8 +157,6 @@ impl Site {
             deltas: List::from_vec(deltas),
             prints,
             temporaries,
-            clauses,
-            freezes,
         };
         Ok((room, lists))
     }
@@ -187,19 +184,18 @@ impl Site {
             deltas,
             mut prints,
             temporaries,
-            clauses,
-            freezes,
         } = room;
         let mut deltas = deltas.into_vec();
         let mut temporaries = temporaries.into_vec();
-        own.program.run(
+        let run = &*own;
+        run.program.run(
             deltas.as_mut_slice(),
             temporaries.as_mut_slice(),
             &mut prints,
         );
         let failure = treaty.first_failure(
-            clauses.as_slice(),
-            freezes.as_slice(),
+            run.clauses.as_slice(),
+            run.freezes.as_slice(),
             deltas.as_slice(),
         );
         match failure {

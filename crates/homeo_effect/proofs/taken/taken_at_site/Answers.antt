@@ -10,11 +10,11 @@ use Rattle.homeo_split.specs.CanExec.{run_limit, can_exec_all}
 use Rattle.homeo_effect.specs.Counts.{assignment_count, print_count}
 use Rattle.homeo_effect.specs.EffectsView.{plain_lent}
 use Rattle.homeo_effect.specs.OwnCommands.{are_own}
-use Rattle.homeo_effect.specs.Touched.{written}
+use Rattle.homeo_effect.specs.Touched.{written, WritesOwn}
 use Rattle.homeo_effect.specs.inner.Sited.{sited_command}
 use Rattle.homeo_effect.proofs.LocalRuns.{alone_is_alone}
 use Rattle.homeo_effect.proofs.SitedEquations.{sited_lent}
-use Rattle.homeo_effect.proofs.SitedRuns.{same_runs, can_too, straight, own, same_written, same_assignments, same_prints}
+use Rattle.homeo_effect.proofs.SitedRuns.{same_runs, can_too, straight, own, writes, same_written, same_assignments, same_prints}
 use Rattle.homeo_effect.proofs.taken.taken_at_site.Goals as goal
 
 pub returns-clause-means : goal.returns-clause-means
@@ -45,6 +45,13 @@ returns-clause-own c =
     let i = c.args.site in
     let are = sited_lent c.args.base.now.items c.as_slice.result.now i c.in_ok-commands.commands.items c.args.taken.now c.as_slice.ensures c.in_ok-commands.ensures in
     ap (are_own i) are ∙ own b i (plain_lent c.args.taken.now) c.requires
+
+pub returns-clause-writes : goal.returns-clause-writes
+returns-clause-writes c =
+    let b = values_of c.args.base.now.items in
+    let i = c.args.site in
+    let are = sited_lent c.args.base.now.items c.as_slice.result.now i c.in_ok-commands.commands.items c.args.taken.now c.as_slice.ensures c.in_ok-commands.ensures in
+    subst (WritesOwn i) (sym are) (writes b i (plain_lent c.args.taken.now) c.requires)
 
 pub returns-clause-written : goal.returns-clause-written
 returns-clause-written c k =

@@ -2,15 +2,9 @@
 use Rattle.std.proofs.Common.{refl, ap, ◌∙◌}
 use Rattle.homeo_site.specs.Key.{definitions}
 use Rattle.homeo_site.specs.declared.own_calls.OwnCall.{OwnCall}
-use Rattle.homeo_site.proofs.SiteRooms.{room_runs, room_writes, room_clauses, room_freezes}
+use Rattle.homeo_site.proofs.SiteRooms.{room_runs, room_clauses, room_freezes}
 use Rattle.homeo_site.proofs.SiteViews.{still_site, spare_changed, room_is, copies_are}
 use Rattle.homeo_site.proofs.site.Site.room.Goals as goal
-
-pub touched-requires : goal.touched-requires
-touched-requires c =
-    room_writes c.self.inside.own c.self.inside.deltas.items c.self.inside.segment c.args.self.now c.self.view_is c.args.call c.requires
-    c.in_ok-own.own.value c.in_ok-own.ensures.call c.as_slice.result.now (c.as_slice.ensures ∙ ap (λ (o : OwnCall). o.commands.items) c.deref-run.ensures)
-    c.deref.result.now (c.deref.ensures ∙ c.in_ok-own.ensures.treaty)
 
 pub invariant_of-self-in_err-reserve : goal.invariant_of-self-in_err-reserve
 invariant_of-self-in_err-reserve c =
@@ -37,17 +31,14 @@ unfolding definitions
 returns-clause-room c =
     let runs = room_runs c.self.inside.own c.self.inside.deltas.items c.self.inside.segment c.args.self.now c.self.view_is c.args.call c.requires
     c.in_ok-own.own.value c.in_ok-own.ensures.call in
-    let lent = c.as_slice.ensures ∙ ap (λ (o : OwnCall). o.commands.items) c.deref-run.ensures in
     room_is c.self.inside.own c.self.inside.deltas.items c.self.inside.segment c.args.self.now c.args.call _ _ _ c.self.view_is
     (ap (λ (o : OwnCall). o.program.temporaries) c.deref-run.ensures ∙ runs.temporaries)
     (c.from-count.ensures ∙ ap (λ (o : OwnCall). o.program.prints) c.deref-run.ensures ∙ runs.prints) refl runs c.in_ok-own.ensures.treaty
-    (ap (λ l. l.items) c.from_vec.ensures ∙ c.in_ok-deltas.ensures.items ∙ c.as_slice-2.ensures) c.in_ok-prints.ensures c.in_ok-temporaries.ensures
+    (ap (λ l. l.items) c.from_vec.ensures ∙ c.in_ok-deltas.ensures.items ∙ c.as_slice.ensures) c.in_ok-prints.ensures c.in_ok-temporaries.ensures
     (room_clauses c.self.inside.own c.self.inside.deltas.items c.self.inside.segment c.args.self.now c.self.view_is c.args.call c.requires
-    c.in_ok-own.own.value c.in_ok-own.ensures.call c.as_slice.result.now lent c.deref.result.now (c.deref.ensures ∙ c.in_ok-own.ensures.treaty) _
-    c.in_ok-clauses.ensures.clauses)
+    c.in_ok-own.own.value c.in_ok-own.ensures.call)
     (room_freezes c.self.inside.own c.self.inside.deltas.items c.self.inside.segment c.args.self.now c.self.view_is c.args.call c.requires
-    c.in_ok-own.own.value c.in_ok-own.ensures.call c.as_slice.result.now lent c.deref.result.now (c.deref.ensures ∙ c.in_ok-own.ensures.treaty) _
-    c.in_ok-clauses.ensures.freezes)
+    c.in_ok-own.own.value c.in_ok-own.ensures.call)
 
 pub returns-clause-copies : goal.returns-clause-copies
 unfolding definitions
