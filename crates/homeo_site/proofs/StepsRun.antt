@@ -144,34 +144,6 @@ module _
           subst (λ (r : Row). can_exec_all run_limit r.residual here ≡ true)
           (sym (row_at_walk (shifted k g) here (no_temps b i own)) ∙ same_row) (residual_runs run_limit (shifted k g) here call_runs)
 
--- ---- on the base, before any call
-base_is_alone : (b : ℕ → ℤ) (i : ℕ) → alone b i no_deltas ≡ whole b
-unfolding plan_definitions meaning_definitions
-base_is_alone b i = fun_ext at
-  where
-    zero : (v : Bool) → cond v (pos 0) (pos 0) ≡ pos 0
-    zero true = refl
-    zero false = refl
-
-    at : (p : Location) → alone b i no_deltas p ≡ whole b p
-    at (TempAt t) = refl
-    at (BaseAt n) = refl
-    at (DeltaAt n j) = zero (j == i)
-
-no_change : (b : ℕ → ℤ) → b ≡ own_values b no_deltas
-unfolding plan_definitions
-no_change b = fun_ext (λ n. omega (arith, ints))
-
-pub base_runs :
-    (w : s.Workload) (base : List ℤ) (g : PlannedCall) → IsAccepted w → IsWithin (schema_of w) base → Member g (planned w) →
-    g.site < sites_of w → can_exec_all run_limit (base_row (sites_of w) (values_of base) g).residual (whole (values_of base)) ≡ true
-unfolding history_definitions
-base_runs w base g accepted within member site =
-    subst (λ s. can_exec_all run_limit (base_row (sites_of w) (values_of base) g).residual s ≡ true) (base_is_alone (values_of base) g.site)
-    (alone_runs w base g.site no_deltas accepted within site
-    (zero_keeps (sites_of w) (template_at w base) (policy w base) g.site (policy_fits w base accepted))
-    (subst (AllWithin (schema_of w)) (no_change (values_of base)) (all_within (schema_of w) base within)) g member refl)
-
 -- ---- a call of a site
 pub step_runs :
     (w : s.Workload) (x : SiteState) → IsAccepted w → IsReady w x → (call : CallId) → IsCallAt w x.number call →
