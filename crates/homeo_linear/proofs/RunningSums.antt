@@ -1,5 +1,5 @@
 -- Sums of forms whose numbers are small: one more form, and the factors of its deltas.
-use Rattle.std.proofs.Common.{◌≡◌, ℕ, suc, ◌+◌, ◌<◌, ◌≤◌, Bool, true, false, cond, ◌&&◌, ◌==◌, Option, Some, None, List, [], ◌∷◌, drop, get_or, length, ℤ, pos, ◌+ℤ◌, IsTrue, ◌↔◌, refl, sym, ap, ap₂, ◌∙◌, subst, add-one, drop_of_length-le, arith}
+use Rattle.std.proofs.Common.{◌≡◌, ℕ, ◌+◌, ◌<◌, ◌≤◌, Bool, true, false, cond, ◌&&◌, ◌==◌, Some, List, [], ◌∷◌, drop, get_or, length, ℤ, pos, ◌+ℤ◌, refl, sym, ap, ap₂, ◌∙◌, subst, add-one, drop_of_length-le, arith}
 use Rattle.std.proofs.Math.Seq.{drop-cons}
 use Rattle.std.specs.declared.cmp.Ordering.{Ordering}
 use Rattle.std.specs.declared.cmp.Ordering.TheVariants.{Less, Equal, Greater}
@@ -22,7 +22,6 @@ use Rattle.homeo_linear.specs.inner.Terms.{AreSmall, share, factor_at}
 use Rattle.homeo_linear.proofs.Adding.{order_adds}
 use Rattle.homeo_linear.proofs.CheckedSteps.{number_is_small}
 use Rattle.homeo_linear.proofs.DeltasInOrder.{same_is, same_self}
-use Rattle.homeo_linear.proofs.Orders.{Above}
 use Rattle.homeo_linear.proofs.TermsAddedUp.{add_zero, zero_add, add_assoc, add_swap, at_adds, above_none, first_at}
 
 -- ---- numbers that are small at each delta

@@ -1,5 +1,5 @@
 -- One term more, and the end.
-use Rattle.std.proofs.Common.{IsTrue, subst, sym, refl}
+use Rattle.std.proofs.Common.{IsTrue, subst, refl}
 use Rattle.homeo_meaning.specs.Small.{IsSmall}
 use Rattle.homeo_plan.specs.Limit.{form_limit}
 use Rattle.homeo_linear.proofs.Adding.{small_next}

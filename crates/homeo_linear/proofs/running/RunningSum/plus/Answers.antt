@@ -1,5 +1,5 @@
 -- The numbers stay small where the constant and the factors of the form's deltas do.
-use Rattle.std.proofs.Common.{rules, ◌≡◌, IsTrue, false, subst, sym, ap, ◌∙◌}
+use Rattle.std.proofs.Common.{rules, IsTrue, false, subst, sym, ap, ◌∙◌}
 use Rattle.homeo_meaning.specs.Small.{IsSmall}
 use Rattle.homeo_plan.specs.FormSizes.{Numbers}
 use Rattle.homeo_plan.specs.Limit.{form_limit}
