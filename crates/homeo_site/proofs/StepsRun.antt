@@ -1,9 +1,7 @@
 -- The residual of a call can be run at its site alone, on own deltas that meet the treaty: each number that it meets there is
 -- small.
-use Rattle.std.proofs.Common.{◌≡◌, ℕ, ◌<◌, ◌≤◌, ◌+◌, ◌*◌, ◌==◌, Bool, true, false, cond, List, [], ◌∷◌, map, ℤ, pos, ◌+ℤ◌, All, refl, sym, ap, ◌∙◌, subst, arith, ⊎_elim}
-use mathlib.Core.Path.{fun_ext}
+use Rattle.std.proofs.Common.{◌≡◌, ℕ, ◌<◌, ◌≤◌, ◌+◌, ◌*◌, ◌==◌, true, false, cond, List, [], ◌∷◌, map, ℤ, pos, ◌+ℤ◌, All, refl, sym, ap, ◌∙◌, subst, arith, ⊎_elim}
 use Rattle.std.specs.Int.RustNames.{unsigned_abs}
-use Rattle.std.proofs.lemmas.Int.{ints}
 use Rattle.std.proofs.lemmas.Bool.Decides.{nat_tests}
 use Rattle.std.proofs.lemmas.Nat.{mul-le}
 use Rattle.std.proofs.lemmas.List.Elements.{All-head, All-tail}
@@ -16,7 +14,7 @@ use Rattle.homeo_meaning.specs.CallForm.{ground_form}
 use Rattle.homeo_meaning.specs.Calls.{IsGroundCall}
 use Rattle.homeo_meaning.specs.Ground.{Ground, grounds}
 use Rattle.homeo_meaning.specs.LowComputed.{CanRun}
-use Rattle.homeo_meaning.specs.LowMeaning.{Location, TempAt, BaseAt, DeltaAt, State, whole}
+use Rattle.homeo_meaning.specs.LowMeaning.{BaseAt, DeltaAt, State}
 use Rattle.homeo_meaning.specs.Schema.{schema_of}
 use Rattle.homeo_meaning.specs.Serial.{values_of}
 use Rattle.homeo_meaning.specs.Small.{IsSmall}
@@ -24,7 +22,6 @@ use Rattle.homeo_meaning.proofs.Within.{all_within}
 use Rattle.homeo_plan.specs.Key.{definitions as plan_definitions}
 use Rattle.homeo_plan.specs.Each.{Member}
 use Rattle.homeo_plan.specs.Joined.{Deltas, alone}
-use Rattle.homeo_plan.specs.Local.{no_deltas}
 use Rattle.homeo_plan.specs.Planned.{sites_of, planned_call, planned, planned_at, template_at, policy}
 use Rattle.homeo_plan.specs.Split.{fold_state, shift}
 use Rattle.homeo_plan.specs.Table.{Row, table, row_at, HasNoTemps}
@@ -32,7 +29,7 @@ use Rattle.homeo_plan.specs.Template.{PlannedCall, shifted, base_row}
 use Rattle.homeo_plan.proofs.BoundSizes.{most}
 use Rattle.homeo_plan.proofs.GroundNumbers.{values_small, fold_numbers}
 use Rattle.homeo_plan.proofs.Local.{locally_sound}
-use Rattle.homeo_plan.proofs.OwnWithin.{zero_keeps, only, only_keeps, only_folded, alone_is_joined}
+use Rattle.homeo_plan.proofs.OwnWithin.{only, only_keeps, only_folded, alone_is_joined}
 use Rattle.homeo_plan.proofs.PlannedCalls.{planned_member}
 use Rattle.homeo_plan.proofs.Policy.{policy_fits}
 use Rattle.homeo_plan.proofs.Replays.{planned_whole, planned_covers}

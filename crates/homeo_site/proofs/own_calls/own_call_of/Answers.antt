@@ -14,7 +14,7 @@ use Rattle.homeo_effect.specs.Touched.{WritesOwn, written, touched_clauses, touc
 use Rattle.homeo_site.proofs.own_calls.own_call_of.Goals as goal
 
 pub taken_at_site-requires : goal.taken_at_site-requires
-taken_at_site-requires c = subst (λ (cs : List (Bor LCommand)). AreTaken (plain_lent cs)) (sym c.as_slice.ensures) c.requires.taken
+taken_at_site-requires c = subst (λ (cs : List (Bor LCommand)). AreTaken (plain_lent cs)) (sym c.as_slice.ensures.value) c.requires.taken
 
 pub clauses_touched-requires : goal.clauses_touched-requires
 clauses_touched-requires c =
@@ -33,7 +33,7 @@ returns c =
     let E = c.in_ok-commands.ensures in
     let P = c.in_ok-program.ensures in
     let same = ap plain_all c.as_slice-own.ensures in
-    let lent = ap plain_lent c.as_slice.ensures in
+    let lent = ap plain_lent c.as_slice.ensures.value in
     record {
       runs = λ k below objects.
           let shifted = ap (shift_all k i) lent in

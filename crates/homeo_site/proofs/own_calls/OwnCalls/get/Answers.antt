@@ -6,7 +6,7 @@ use Rattle.homeo_plan.specs.Planned.{planned, planned_at}
 use Rattle.homeo_site.specs.Key.{definitions}
 use Rattle.homeo_site.specs.OwnCalls.{IsOwnCall, IsMadeFor}
 use Rattle.homeo_site.specs.declared.own_calls.OwnCall.{OwnCall}
-use Rattle.homeo_site.proofs.OwnLookups.{place_within, made_there, ground_call, made_more}
+use Rattle.homeo_site.proofs.OwnLookups.{site_there, place_within, made_there, ground_call, made_more}
 use Rattle.homeo_site.proofs.own_calls.OwnCalls.get.Goals as goal
 
 pub index-requires : goal.index-requires
@@ -33,6 +33,14 @@ own_call-requires-clause-within c = c.requires.within
 
 pub own_call-requires-clause-number : goal.own_call-requires-clause-number
 own_call-requires-clause-number c = c.place-place.ensures.within
+
+pub own_call-requires-clause-site : goal.own_call-requires-clause-site
+own_call-requires-clause-site c =
+    site_there (plain_workload c.args.c.now) c.args.call c.place-place.result c.place-place.ensures.within c.place-place.ensures.place
+    c.args.index.now.site c.requires.site
+
+pub own_call-requires-clause-template : goal.own_call-requires-clause-template
+own_call-requires-clause-template c = c.requires.template
 
 pub put-requires : goal.put-requires
 unfolding definitions
