@@ -25,7 +25,9 @@ unfolding plan_definitions
 ground_site w call n calls g are within ground is =
     let there : slice_get (map plain_ground calls) n ≡ Some (plain_ground g) = placed_map plain_ground calls n g (ground_below w calls n are within) is in
     let found : Some (plain_ground g) ≡ ground_of w call = sym there ∙ ap (λ l. slice_get l n) are ∙ ground in
-    ap (λ (o : Option Ground). (option_map_or (planned_call w) o (record { site = 0; command = Skip })).site) found
+    let same : planned_call w (plain_ground g) ≡ planned_at w call =
+    ap (λ (o : Option Ground). option_map_or (planned_call w) o (record { site = 0; command = Skip })) found in
+    ap (λ (h : PlannedCall). h.site) same
 
 -- ---- the index there
 module _
