@@ -2,10 +2,11 @@
 use Rattle.homeo_meaning.specs.Key.{definitions as meaning_definitions}
 use Rattle.homeo_plan.specs.Key.{definitions as plan_definitions}
 use Rattle.homeo_build.specs.Key.{definitions}
-use Rattle.std.proofs.Common.{◌≡◌, ℕ, zero, suc, ◌+◌, ◌≤◌, Bool, true, false, cond, List, [], ◌∷◌, map, length, ℤ, Some, refl, sym, ap, ◌∙◌, subst, arith}
+use Rattle.std.proofs.Common.{◌≡◌, ℕ, zero, suc, ◌+◌, ◌≤◌, Bool, true, false, cond, List, [], ◌∷◌, map, length, ℤ, Some, Bor, refl, sym, ap, ◌∙◌, subst, arith}
 use Rattle.std.specs.Prelude.{slice_get}
 use Rattle.std.proofs.lemmas.List.{length-map}
 use Rattle.homeo_syntax.specs.Key.{definitions as syntax_definitions}
+use Rattle.homeo_syntax.specs.declared.low.LCommand.{LCommand}
 use Rattle.homeo_syntax.specs.declared.low.SplitName.TheVariants.{Whole, Base, Delta}
 use Rattle.homeo_syntax.specs.Low.{Command, Commands, Skip, Assign, Write, Print, Seq, If, NoCommand, MoreCommand}
 use Rattle.homeo_syntax.specs.LowView.{low_commands, plain_lcommand}
@@ -25,8 +26,7 @@ use Rattle.homeo_plan.proofs.Tables.{row_at_walk}
 use Rattle.homeo_follow.specs.Taken.{taken}
 use Rattle.homeo_follow.proofs.Residuals.{residual_is}
 use Rattle.homeo_build.specs.Plan.{SitedResidual, sited_residual, residual_at, residuals_at}
-use Rattle.homeo_build.specs.TakenCommands.{SitedCommands, sited_commands, taken_at}
-use Rattle.homeo_build.specs.declared.taken.Taken.{Taken}
+use Rattle.homeo_build.specs.TakenCommands.{SitedCommands, taken_at}
 use Rattle.homeo_build.proofs.FewClauses.{IsSited, planned_sited}
 use Rattle.homeo_build.proofs.SizedCalls.{size_of, AreSmall, planned_small}
 
@@ -121,11 +121,10 @@ module _ (k : ℕ) (b : ℕ → ℤ) where
   taken_short_at most (g ∷ gs) (suc n) q h sited e = taken_short_at most gs n q h.1 sited.1 e
 
 pub taken_short :
-    (w : s.Workload) (base : List ℤ) (n : ℕ) (t : Taken) → IsAccepted w →
-    slice_get (map (taken_at (values_of base)) (planned w)) n ≡ Some (sited_commands t) → length t.commands.items ≤ 200000
-taken_short w base n t accepted found =
+    (w : s.Workload) (base : List ℤ) (n site : ℕ) (cs : List (Bor LCommand)) → IsAccepted w →
+    slice_get (map (taken_at (values_of base)) (planned w)) n ≡ Some (record { site = site; commands = low_commands (map (λ c. plain_lcommand c.now) cs) }) →
+    length cs ≤ 200000
+taken_short w base n site cs accepted found =
     let small : AreSmall w = planned_small w accepted in
-    let counted =
-    taken_short_at (sites_of w) (values_of base) 200000 (planned w) n (sited_commands t) small.each (planned_sited w accepted) found in
-    let plain = map (λ c. plain_lcommand c.now) t.commands.items in
-    omega (arith, counted, count_all plain, length-map t.commands.items (λ c. plain_lcommand c.now))
+    let counted = taken_short_at (sites_of w) (values_of base) 200000 (planned w) n _ small.each (planned_sited w accepted) found in
+    omega (arith, counted, count_all (map (λ c. plain_lcommand c.now) cs), length-map cs (λ c. plain_lcommand c.now))

@@ -19,5 +19,5 @@ mod values;
 
 pub use index::TreatyIndex;
 pub use program::{Program, Step};
-pub use site_effects::{SiteEffects, commands_at_site, effects};
+pub use site_effects::{SiteEffects, effects};
 pub use taken::taken_at_site;

@@ -41,7 +41,7 @@ pub struct SiteEffects {
 /// # Errors
 ///
 /// `Memory` when out of memory.
-pub fn commands_at_site(
+fn commands_at_site(
     alloc: Global,
     residual: &Residual,
     base: &Database,

@@ -42,6 +42,13 @@ pub number_is_small : (n : ℤ) → IsSmall form_limit n → Numbers (IsSmall fo
 unfolding plan_definitions
 number_is_small n h = record { constant = h; factors = tt }
 
+-- ---- what was made, or not
+pub made : (a b : Linear) (o : Option Linear) → o ≡ Some b → Kept a o → Numbers (IsSmall form_limit) a × (b ≡ a)
+made a b o e h = subst (Kept a) e h
+
+pub not_made : (a : Linear) (o : Option Linear) → o ≡ None → Kept a o → Numbers (IsSmall form_limit) a → ⊥
+not_made a o e h = subst (Kept a) e h
+
 module _ (f : Forms) where
   pub got : (x : l.Expr) (o : Option Linear) (a : Linear) → o ≡ Some a → Checked f x o → CanForm (IsSmall form_limit) f x × (a ≡ form f x)
   got x o a e h = subst (Checked f x) e h

@@ -10,6 +10,7 @@ mod ItemForms
 mod Keeping
 mod Needing
 mod Orders
+mod RunningSums
 mod Stands
 mod TermsAddedUp
 mod Widths

@@ -16,7 +16,7 @@ use Rattle.homeo_plan.specs.declared.forms.Delta.{Delta}
 use Rattle.homeo_plan.specs.declared.forms.Term.{Term}
 use Rattle.homeo_plan.specs.Limit.{form_limit}
 use Rattle.homeo_linear.specs.inner.Key.{definitions}
-use Rattle.homeo_linear.specs.inner.Terms.{AllCount, AreSmall}
+use Rattle.homeo_linear.specs.inner.Terms.{AllCount, AreSmall, share, factor_at}
 use Rattle.homeo_linear.proofs.Orders.{Above, above_before, before_total, each_at}
 use Rattle.homeo_linear.proofs.Adding.{order_adds}
 use Rattle.homeo_linear.proofs.DeltasInOrder.{same_is, same_self, before_not_same}
@@ -28,29 +28,22 @@ none_left f h = grind (arith, Decides-int_eq f (pos 0))
 left_over : (f : ℤ) → int_eq f (pos 0) ≡ false → f ≡ pos 0 → ⊥
 left_over f h e = grind (arith, Decides-int_eq f (pos 0))
 
-add_zero : (x : ℤ) → pos 0 +ℤ x ≡ x
+pub add_zero : (x : ℤ) → pos 0 +ℤ x ≡ x
 add_zero x = omega (arith, ints)
 
-zero_add : (x : ℤ) → x +ℤ pos 0 ≡ x
+pub zero_add : (x : ℤ) → x +ℤ pos 0 ≡ x
 zero_add x = omega (arith, ints)
 
-add_assoc : (x y z : ℤ) → (x +ℤ y) +ℤ z ≡ x +ℤ (y +ℤ z)
+pub add_assoc : (x y z : ℤ) → (x +ℤ y) +ℤ z ≡ x +ℤ (y +ℤ z)
 add_assoc x y z = omega (arith, ints)
 
-add_swap : (x y z : ℤ) → x +ℤ (y +ℤ z) ≡ y +ℤ (x +ℤ z)
+pub add_swap : (x y z : ℤ) → x +ℤ (y +ℤ z) ≡ y +ℤ (x +ℤ z)
 add_swap x y z = omega (arith, ints)
 
 add_cancel : (x y z : ℤ) → x +ℤ y ≡ x +ℤ z → y ≡ z
 add_cancel x y z h = omega (arith, ints, h)
 
 -- ---- the sum of a delta's factors
-abbrev share : Delta → Delta → ℤ → ℤ
-share d e f = cond (same_delta d e) f (pos 0)
-
-abbrev factor_at : Delta → List Term → ℤ
-factor_at d [] = pos 0
-factor_at d (t ∷ ts) = share d t.delta t.factor +ℤ factor_at d ts
-
 share_sum : (b : Bool) (f g : ℤ) → cond b (f +ℤ g) (pos 0) ≡ cond b f (pos 0) +ℤ cond b g (pos 0)
 share_sum true f g = refl
 share_sum false f g = refl
@@ -60,7 +53,7 @@ share_none true = refl
 share_none false = refl
 
 at_with : (d e : Delta) (f : ℤ) (ts : List Term) → factor_at d (with_term e f ts) ≡ share d e f +ℤ factor_at d ts
-unfolding plan_definitions
+unfolding definitions plan_definitions
 at_with d e f ts = go (int_eq f (pos 0)) refl
   where
     go : (v : Bool) → int_eq f (pos 0) ≡ v → factor_at d (cond v ts (record { delta = e; factor = f } ∷ ts)) ≡ share d e f +ℤ factor_at d ts
@@ -69,7 +62,7 @@ at_with d e f ts = go (int_eq f (pos 0)) refl
     go false h = refl
 
 at_add : (d e : Delta) (f : ℤ) (ts : List Term) → factor_at d (add_term e f ts) ≡ share d e f +ℤ factor_at d ts
-unfolding plan_definitions
+unfolding definitions plan_definitions
 at_add d e f [] = at_with d e f []
 at_add d e f (t ∷ ts) = go (same_delta e t.delta) refl (delta_before e t.delta) (at_add d e f ts)
   where
@@ -85,8 +78,8 @@ at_add d e f (t ∷ ts) = go (same_delta e t.delta) refl (delta_before e t.delta
     go false p false ih =
         ap (λ z. share d t.delta t.factor +ℤ z) ih ∙ add_swap (share d t.delta t.factor) (share d e f) (factor_at d ts)
 
-at_adds : (d : Delta) (ts us : List Term) → factor_at d (add_terms ts us) ≡ factor_at d ts +ℤ factor_at d us
-unfolding plan_definitions
+pub at_adds : (d : Delta) (ts us : List Term) → factor_at d (add_terms ts us) ≡ factor_at d ts +ℤ factor_at d us
+unfolding definitions plan_definitions
 at_adds d [] us = sym (add_zero (factor_at d us))
 at_adds d (t ∷ ts) us =
     at_adds d ts (add_term t.delta t.factor us)
@@ -94,14 +87,15 @@ at_adds d (t ∷ ts) us =
     ∙ add_swap (factor_at d ts) (share d t.delta t.factor) (factor_at d us)
     ∙ sym (add_assoc (share d t.delta t.factor) (factor_at d ts) (factor_at d us))
 
-above_none : (d : Delta) (ts : List Term) → Above d (deltas_of ts) → factor_at d ts ≡ pos 0
-unfolding plan_definitions
+pub above_none : (d : Delta) (ts : List Term) → Above d (deltas_of ts) → factor_at d ts ≡ pos 0
+unfolding definitions plan_definitions
 above_none d [] a = refl
 above_none d (t ∷ ts) a =
     ap₂ (λ b z. cond b t.factor (pos 0) +ℤ z) (before_not_same d t.delta a.0) (above_none d ts a.1)
 
 -- the first term has all of its delta's factors
-first_at : (t : Term) (ts : List Term) → Above t.delta (deltas_of ts) → factor_at t.delta (t ∷ ts) ≡ t.factor
+pub first_at : (t : Term) (ts : List Term) → Above t.delta (deltas_of ts) → factor_at t.delta (t ∷ ts) ≡ t.factor
+unfolding definitions
 first_at t ts a =
     ap₂ (λ b z. cond b t.factor (pos 0) +ℤ z) (same_self t.delta) (above_none t.delta ts a) ∙ zero_add t.factor
 
@@ -124,6 +118,7 @@ more_parts : (x y : ℤ) (a b m n : ℕ) → x ≡ pos a -ℤ pos b → y ≡ po
 more_parts x y a b m n p q = omega (arith, ints, p, q)
 
 in_parts : (d : Delta) (ts : List Term) → factor_at d ts ≡ pos (sum_by (gain d) ts) -ℤ pos (sum_by (loss d) ts)
+unfolding definitions
 in_parts d [] = refl
 in_parts d (t ∷ ts) =
     more_parts (share d t.delta t.factor) (factor_at d ts) (gain d t) (loss d t) (sum_by (gain d) ts) (sum_by (loss d) ts)

@@ -4,4 +4,5 @@ pub mod Items
 pub mod Kept
 pub mod Key
 pub mod Order
+pub mod Running
 pub mod Terms

@@ -10,6 +10,7 @@ ghost use Rattle.homeo_linear.specs.Checked.{Kept, Checked};
 ghost use Rattle.homeo_linear.specs.Standing.{forms_of};
 
 use crate::form::Form;
+use crate::running::RunningSum;
 use crate::standing::Standing;
 use homeo_split::{place_of, place_of_temp};
 use homeo_syntax::{LExpr, Memory};
@@ -60,18 +61,18 @@ pub fn checked_form(alloc: Global, standing: &Standing, e: &LExpr) -> Result<Opt
 fn checked_sum(alloc: Global, standing: &Standing, es: &[LExpr]) -> Result<Option<Form>, Memory>
     ensures { IfOk result (Checked (forms_of standing.now) (Sum (low_exprs (map plain_lexpr es.now)))) }
 {
-    let mut total = Form::number(alloc, 0);
+    let mut total = RunningSum::with_room(alloc, es.len())?;
     for e in es {
         let Some(part) = checked_form(alloc, standing, e)? else {
             return Ok(None);
         };
-        let more = total.plus(alloc, &part)?;
-        let Some(more) = kept(more) else {
+        let Some(more) = total.plus(alloc, &part)? else {
             return Ok(None);
         };
         total = more;
     }
-    Ok(Some(total))
+    let form = total.into_form(alloc)?;
+    Ok(Some(form))
 }
 
 #[cycle(checked)]

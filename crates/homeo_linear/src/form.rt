@@ -3,7 +3,7 @@
 ghost use Rattle.std.specs.Prelude.{◌≡◌, ◌↔◌, IsTrue, pos, IfOk};
 ghost use Rattle.homeo_meaning.specs.Small.{IsSmall};
 ghost use Rattle.homeo_plan.specs.FormSizes.{Numbers};
-ghost use Rattle.homeo_plan.specs.Linear.{AreInOrder, constant_form, delta_form, add_forms, scale_form, multiply_forms, mix_forms, is_pure, support};
+ghost use Rattle.homeo_plan.specs.Linear.{AreInOrder, constant_form, delta_form, add_forms, scale_form, multiply_forms, mix_forms, is_pure, support, deltas_of};
 ghost use Rattle.homeo_plan.specs.PlanView.{plain_linear};
 ghost use Rattle.homeo_plan.specs.Limit.{form_limit};
 ghost use Rattle.homeo_follow.specs.Follow.{object_form};
@@ -197,6 +197,14 @@ impl Form {
         self.constant
     }
 
+    /// The terms, in the order of their deltas, each delta once.
+    pub(crate) fn terms(&self) -> &[Term]
+        ensures terms { result.now ≡ self.now.terms }
+        ensures order { AreInOrder (deltas_of result.now) }
+    {
+        self.terms.as_slice()
+    }
+
     /// The form as plain data.
     pub fn into_linear(self) -> Linear
         ensures { plain_linear result ≡ self }
@@ -321,6 +329,13 @@ impl Total {
             mixed: self.mixed,
             room: self.room,
         })
+    }
+
+    /// The constant so far.
+    pub(crate) fn constant(&self) -> i128
+        ensures { result ≡ self.now.constant }
+    {
+        self.constant
     }
 
     /// The sum as a form.

@@ -13,6 +13,7 @@ mod formulas;
 mod items;
 mod numbers;
 mod residuals;
+mod running;
 mod standing;
 mod terms;
 

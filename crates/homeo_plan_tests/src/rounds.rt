@@ -9,6 +9,7 @@ use homeo_build::Compiled;
 use homeo_build::compile::compile;
 use homeo_build::residuals::residual;
 use homeo_build::shares::shares;
+use homeo_build::taken::taken_by;
 use homeo_build::treaties::treaties;
 use homeo_eval::initial;
 use homeo_meaning::Accepted;
@@ -163,5 +164,25 @@ fn a_site_that_does_not_write_has_no_share(rt: HostRuntime) -> Result<(), Fail> 
         }
         _ => panic!(rt; "two clauses"),
     }
+    Ok(())
+}
+
+/// The site of the first ground call, and how many commands it takes from the starting values.
+fn first_taken(alloc: Global, c: &Compiled) -> Result<(u32, usize), Fail> {
+    if c.calls().is_empty() {
+        return Err(Fail::from("a call"));
+    }
+    let base = initial(alloc, c.workload())?;
+    let taken = taken_by(alloc, c, &base, 0)?;
+    Ok((taken.site, taken.commands.len()))
+}
+
+#[test]
+fn a_call_takes_both_writes(rt: HostRuntime) -> Result<(), Fail> {
+    let alloc = rt.alloc();
+    let w = accepted(&rt, alloc, TWICE)?;
+    let compiled = compile(alloc, w)?;
+    let taken = first_taken(alloc, &compiled)?;
+    same(&rt, &taken, &(0, 2));
     Ok(())
 }

@@ -1,4 +1,4 @@
-//! The row of a whole call of a text, by the table and by the walk.
+//! The row of a whole call of a text, by the table and by the walk, and the commands that are taken.
 
 ghost use Rattle.std.specs.Prelude.{◌≡◌, true};
 ghost use Rattle.homeo_syntax.specs.LowView.{plain_lcommand};
@@ -6,13 +6,15 @@ ghost use Rattle.homeo_syntax.specs.SourceView.{plain_workload};
 ghost use Rattle.homeo_meaning.specs.Bounds.{IsWithin};
 ghost use Rattle.homeo_meaning.specs.Declarations.{declarations};
 ghost use Rattle.homeo_meaning.specs.Ground.{plain_ground};
+ghost use Rattle.homeo_meaning.specs.LowMeaning.{whole};
 ghost use Rattle.homeo_meaning.specs.Schema.{schema_of};
+ghost use Rattle.homeo_meaning.specs.Serial.{values_of};
 ghost use Rattle.homeo_split.specs.CanExec.{run_limit, can_exec};
 ghost use Rattle.homeo_split.specs.States.{state_of};
 ghost use Rattle.homeo_ground.specs.Grounding.{IsCalled};
 
 use crate::calls::{first, undivided};
-use crate::same::same_items;
+use crate::same::{same, same_items};
 use crate::texts::{TWICE, accepted};
 use homeo_context::Declarations;
 use homeo_delta::transform;
@@ -24,7 +26,7 @@ use homeo_plan::Row;
 use homeo_print::{ObjectNames, print_row};
 use homeo_split::Split;
 use homeo_syntax::{LCommand, Memory, Workload};
-use homeo_table::{row_at, table, walk};
+use homeo_table::{row_at, table, taken, walk};
 use std::alloc::Global;
 use std::test::Fail;
 
@@ -34,25 +36,40 @@ when 0 <= (base(x) + x@0 + x@1) + 1 and (base(x) + x@0 + x@1) + 1 <= 10 and 0 <=
 do { write(x@0 = ((base(x) + x@0 + x@1) + 1) - base(x) - x@1); write(x@0 = ((base(x) + x@0 + x@1) + 1) - base(x) - x@1) }
 ";
 
-/// The row that a command takes at a database: its place in the table, and the row itself by the table and by the walk.
+/// What is asked is whether there is room after the write. There is none, so both prints are taken; before it there was.
+const FILL: &str = "workload 1
+sites 2
+object x in 0..10 = 9
+transaction fill() { write(x = read(x) + 1); s := read(x); if s <= 9 then write(x = s + 1) else { print(s); print(10) } }
+client a at 0 { fill() }
+schedule a
+end
+";
+
+/// The row that a command takes at a database: its place in the table, and the row itself by the table and by the walk; and how many
+/// commands it takes from the base.
 #[derive(Drop)]
 struct Taken {
     place: usize,
     by_table: Row,
     by_walk: Row,
+    commands: usize,
 }
 
 fn take(alloc: Global, c: &LCommand, base: &Split) -> Result<Taken, Memory>
-    requires { can_exec run_limit (plain_lcommand c.now) (state_of base.now) ≡ true }
+    requires walked { can_exec run_limit (plain_lcommand c.now) (state_of base.now) ≡ true }
+    requires taken { can_exec run_limit (plain_lcommand c.now) (whole (values_of base.now.base.items)) ≡ true }
 {
     let rows = table(alloc, c)?;
     let place = row_at(rows.as_slice(), base);
     let by_table = rows[place].copy(alloc)?;
     let by_walk = walk(alloc, c, base)?;
+    let commands = taken(alloc, c, base.base.as_slice())?.len();
     Ok(Taken {
         place,
         by_table,
         by_walk,
+        commands,
     })
 }
 
@@ -101,5 +118,15 @@ fn the_walk_gives_the_row_of_the_table(rt: HostRuntime) -> Result<(), Fail> {
     let by_walk = printed(alloc, w.workload(), taken.place, &taken.by_walk)?;
     same_items(&rt, by_walk.as_slice(), ROW.as_bytes());
     same_items(&rt, by_table.as_slice(), ROW.as_bytes());
+    Ok(())
+}
+
+#[test]
+fn the_commands_taken_are_as_many_as_those_of_the_row(rt: HostRuntime) -> Result<(), Fail> {
+    let alloc = rt.alloc();
+    let w = accepted(&rt, alloc, FILL)?;
+    let taken = take_first(alloc, &w)?;
+    same(&rt, &taken.by_walk.residual.as_slice().len(), &4);
+    same(&rt, &taken.commands, &4);
     Ok(())
 }

@@ -7,4 +7,6 @@ pub mod Following
 pub mod Held
 pub mod Fitting
 pub mod WalkSteps
+pub mod Reaching
+pub mod TakenSteps
 pub mod FormulasFit

@@ -29,12 +29,12 @@ unfolding plan_definitions
 both-none NoTest = refl
 both-none (MoreTest t c) = ap (MoreTest t) (both-none c)
 
-then-push : (cs : List Command) (c : Command) (ds : Commands) → and_then (cs ++ c ∷ []) ds ≡ and_then cs (MoreCommand c ds)
+pub then-push : (cs : List Command) (c : Command) (ds : Commands) → and_then (cs ++ c ∷ []) ds ≡ and_then cs (MoreCommand c ds)
 unfolding definitions
 then-push [] c ds = refl
 then-push (d ∷ cs) c ds = ap (MoreCommand d) (then-push cs c ds)
 
-then-none : (cs : List Command) → and_then cs NoCommand ≡ low_commands cs
+pub then-none : (cs : List Command) → and_then cs NoCommand ≡ low_commands cs
 unfolding definitions syntax_definitions
 then-none [] = refl
 then-none (c ∷ cs) = ap (MoreCommand c) (then-none cs)

@@ -133,13 +133,57 @@ takes false k b c d s h is =
           ∙ ap (λ v. cond v (test_before b (walk_before c s r)) (test_before (otherwise b) (walk_before d s r))) is;
     }
 
--- ---- one command in front of those that are left
-module _ (f f' : Row → Row) (b b' : Location → Option Expr) (s : State) (temps : HasNoTemps s) (k : Command) (cs : List Command) (can : CanFollow b (k ∷ cs) s) where
-  -- the first command can be executed, and the others after it
-  parts : (can_exec run_limit k (after b s) ≡ true) × (can_exec_all run_limit (low_commands cs) (exec k (after b s)).state ≡ true)
-  unfolding split_definitions syntax_definitions
-  parts = and_parts _ _ can.commands
+-- ---- one command in front of others, and the walk
+pub walk-Skip : (k : Command) (cs : List Command) (s : State) (r : Row) → k ≡ Skip → walk_all_before (low_commands cs) s r ≡ walk_all_before (low_commands (k ∷ cs)) s r
+unfolding plan_definitions meaning_definitions syntax_definitions
+walk-Skip k cs s r h = ap (λ k. walk_all_before (low_commands (k ∷ cs)) s r) (sym h)
 
+pub walk-Seq :
+    (k : Command) (ds cs es : List Command) (s : State) (r : Row) → k ≡ Seq (low_commands ds) → es ≡ ds ++ cs →
+    walk_all_before (low_commands es) s r ≡ walk_all_before (low_commands (k ∷ cs)) s r
+unfolding plan_definitions meaning_definitions syntax_definitions
+walk-Seq k ds cs es s r h w =
+    ap (λ es. walk_all_before (low_commands es) s r) w ∙ walk-all ds cs s r ∙ ap (λ k. walk_all_before (low_commands (k ∷ cs)) s r) (sym h)
+
+pub walk-taken :
+    (k d : Command) (c : Cond) (cs : List Command) (s : State) (r : Row) → Takes k d c s →
+    test_before c (walk_all_before (low_commands (d ∷ cs)) s r) ≡ walk_all_before (low_commands (k ∷ cs)) s r
+unfolding plan_definitions syntax_definitions
+walk-taken k d c cs s r next =
+    ap (λ st. test_before c (walk_before d s (walk_all_before (low_commands cs) st r))) (sym next.state)
+    ∙ sym (next.walk (walk_all_before (low_commands cs) (exec k s).state r))
+
+-- from a state where they can be executed
+module _ (s : State) (k : Command) (cs : List Command) (can : can_exec_all run_limit (low_commands (k ∷ cs)) s ≡ true) where
+  -- the first command can be executed, and the others after it
+  pub parts : (can_exec run_limit k s ≡ true) × (can_exec_all run_limit (low_commands cs) (exec k s).state ≡ true)
+  unfolding split_definitions syntax_definitions
+  parts = and_parts _ _ can
+
+  pub can-set : (p : Location) (e : Expr) → Sets k p e s → expr_fits run_limit e s ≡ true
+  can-set p e sets = sym sets.can ∙ parts.0
+
+  pub can-Skip : k ≡ Skip → can_exec_all run_limit (low_commands cs) s ≡ true
+  unfolding meaning_definitions
+  can-Skip h = ap (λ k. can_exec_all run_limit (low_commands cs) (exec k s).state) (sym h) ∙ parts.1
+
+  pub can-Seq : (ds es : List Command) → k ≡ Seq (low_commands ds) → es ≡ ds ++ cs → can_exec_all run_limit (low_commands es) s ≡ true
+  unfolding split_definitions meaning_definitions
+  can-Seq ds es h w =
+      ap (λ es. can_exec_all run_limit (low_commands es) s) w
+      ∙ can-all ds cs s (ap (λ k. can_exec run_limit k s) (sym h) ∙ parts.0)
+      (ap (λ k. can_exec_all run_limit (low_commands cs) (exec k s).state) (sym h) ∙ parts.1)
+
+  pub can-ask : (t : Cond) (c d : Command) → k ≡ If t c d → cond_fits run_limit t s ≡ true
+  can-ask t c d is = (choice k t c d s is parts.0).0
+
+  pub can-take : (d : Command) (c : Cond) → Takes k d c s → can_exec_all run_limit (low_commands (d ∷ cs)) s ≡ true
+  unfolding split_definitions syntax_definitions
+  can-take d c next =
+      ap₂ ◌&&◌ (next.can parts.0) (ap (can_exec_all run_limit (low_commands cs)) (sym next.state) ∙ parts.1)
+
+-- ---- the same from the state where expressions stand
+module _ (f f' : Row → Row) (b b' : Location → Option Expr) (s : State) (temps : HasNoTemps s) (k : Command) (cs : List Command) (can : CanFollow b (k ∷ cs) s) where
   pub goes-set :
       (p : Location) (e : Expr) → Sets k p e (after b s) → f' ≡ (λ r. f (set_before k p e r)) → b' ≡ put b p (Some (substituted b e)) →
       Goes f f' b b' (k ∷ cs) cs s
@@ -149,22 +193,18 @@ module _ (f f' : Row → Row) (b b' : Location → Option Expr) (s : State) (tem
       record {
         can = record {
           expressions = λ l. ap (λ (b : Location → Option Expr). fits_if (b l) s) h
-              ∙ fits-put b s temps can.expressions p e (sym sets.can ∙ parts.0) l;
-          commands = ap (can_exec_all run_limit (low_commands cs)) same ∙ parts.1;
+              ∙ fits-put b s temps can.expressions p e (can-set (after b s) k cs can.commands p e sets) l;
+          commands = ap (can_exec_all run_limit (low_commands cs)) same ∙ (parts (after b s) k cs can.commands).1;
         };
         row = ap₂ (λ (f : Row → Row) (st : State). f (walk_all_before (low_commands cs) st last_row)) g same
             ∙ ap f (sym (sets.walk (walk_all_before (low_commands cs) (exec k (after b s)).state last_row)));
       }
 
   pub goes-Skip : k ≡ Skip → Goes f f b b (k ∷ cs) cs s
-  unfolding plan_definitions syntax_definitions meaning_definitions
   goes-Skip h =
       record {
-        can = record {
-          expressions = can.expressions;
-          commands = ap (λ k. can_exec_all run_limit (low_commands cs) (exec k (after b s)).state) (sym h) ∙ parts.1;
-        };
-        row = ap (λ k. walked f b (k ∷ cs) s) (sym h);
+        can = record { expressions = can.expressions; commands = can-Skip (after b s) k cs can.commands h };
+        row = ap f (walk-Skip k cs (after b s) last_row h);
       }
 
   pub goes-Print : (e : Expr) → k ≡ Print e → f' ≡ (λ r. f (command_before k r)) → b' ≡ b → Goes f f' b b' (k ∷ cs) cs s
@@ -174,46 +214,37 @@ module _ (f f' : Row → Row) (b b' : Location → Option Expr) (s : State) (tem
       record {
         can = record {
           expressions = λ l. ap (λ (b : Location → Option Expr). fits_if (b l) s) w ∙ can.expressions l;
-          commands = ap (can_exec_all run_limit (low_commands cs)) same ∙ parts.1;
+          commands = ap (can_exec_all run_limit (low_commands cs)) same ∙ (parts (after b s) k cs can.commands).1;
         };
         row = ap₂ (λ (f : Row → Row) b. walked f b cs s) g w ∙ ap (λ k. f (command_before k (walk_all_before (low_commands cs) (after b s) last_row))) h
             ∙ ap (λ k. walked f b (k ∷ cs) s) (sym h);
       }
 
   pub goes-Seq : (ds es : List Command) → k ≡ Seq (low_commands ds) → es ≡ ds ++ cs → Goes f f b b (k ∷ cs) es s
-  unfolding plan_definitions syntax_definitions meaning_definitions split_definitions
   goes-Seq ds es h w =
       record {
-        can = record {
-          expressions = can.expressions;
-          commands = ap (λ es. can_exec_all run_limit (low_commands es) (after b s)) w
-              ∙ can-all ds cs (after b s) (ap (λ k. can_exec run_limit k (after b s)) (sym h) ∙ parts.0)
-              (ap (λ k. can_exec_all run_limit (low_commands cs) (exec k (after b s)).state) (sym h) ∙ parts.1);
-        };
-        row = ap (λ es. walked f b es s) w ∙ ap f (walk-all ds cs (after b s) last_row) ∙ ap (λ k. walked f b (k ∷ cs) s) (sym h);
+        can = record { expressions = can.expressions; commands = can-Seq (after b s) k cs can.commands ds es h w };
+        row = ap f (walk-Seq k ds cs es (after b s) last_row h w);
       }
 
   module _ (t : Cond) (c d : Command) (is : k ≡ If t c d) where
     pub asks : cond_fits run_limit (substituted_cond b t) s ≡ true
-    asks = cond-fits-after b s temps can.expressions t (choice k t c d (after b s) is parts.0).0
+    asks = cond-fits-after b s temps can.expressions t (can-ask (after b s) k cs can.commands t c d is)
 
     pub goes-If :
         (w v : Bool) (es : List Command) → w ≡ holds (substituted_cond b t) s → w ≡ v → f' ≡ (λ r. f (test_before (cond w t (otherwise t)) r)) → b' ≡ b →
         es ≡ cond v c d ∷ cs → Goes f f' b b' (k ∷ cs) es s
-    unfolding plan_definitions syntax_definitions split_definitions
     goes-If w v es held is-v g h e =
         let next = takes v k t c d (after b s) is (sym (holds-after b s temps t) ∙ sym held ∙ is-v) in
-        let rest = low_commands cs in
         record {
           can = record {
             expressions = λ l. ap (λ (b : Location → Option Expr). fits_if (b l) s) h ∙ can.expressions l;
             commands = ap₂ (λ b es. can_exec_all run_limit (low_commands es) (after b s)) h e
-                ∙ ap₂ ◌&&◌ (next.can parts.0) (ap (can_exec_all run_limit rest) (sym next.state) ∙ parts.1);
+                ∙ can-take (after b s) k cs can.commands (cond v c d) (cond v t (otherwise t)) next;
           };
           row = ap₂ (λ b es. walked f' b es s) h e
               ∙ ap (λ (f : Row → Row). walked f b (cond v c d ∷ cs) s) (g ∙ ap (λ v. λ r. f (test_before (cond v t (otherwise t)) r)) is-v)
-              ∙ ap (λ st. f (test_before (cond v t (otherwise t)) (walk_before (cond v c d) (after b s) (walk_all_before rest st last_row)))) (sym next.state)
-              ∙ ap f (sym (next.walk (walk_all_before rest (exec k (after b s)).state last_row)));
+              ∙ ap f (walk-taken k (cond v c d) (cond v t (otherwise t)) cs (after b s) last_row next);
         }
 
 -- ---- the first command and the last

@@ -2,6 +2,8 @@ pub mod Bindings
 pub mod Branches
 pub mod Key
 pub mod Makings
+pub mod Reached
 pub mod Shared
 pub mod Substitution
+pub mod Takings
 pub mod Walks

@@ -1,17 +1,20 @@
-//! The symbolic tables of commands, the row of a table that holds at a split database, and the walk that makes this row without
-//! the table.
+//! The symbolic tables of commands, the row of a table that holds at a split database, the walk that makes this row without
+//! the table, and the commands that are taken from a base.
 #![tactic(auto)]
 
 mod bindings;
 mod branches;
 mod making;
+mod reached;
 mod selection;
 mod shared;
 mod sides;
 mod substitution;
 mod tables;
+mod taking;
 mod walking;
 
 pub use selection::row_at;
 pub use tables::table;
+pub use taking::taken;
 pub use walking::walk;

@@ -1,9 +1,9 @@
--- Terms whose factors are small or not 0, and one term's factor added to.
-use Rattle.std.specs.Prelude.{◌≡◌, ℕ, zero, suc, ◌*◌, ◌^◌, false, List, [], ◌∷◌, ℤ, pos, ◌+ℤ◌}
+-- Terms whose factors are small or not 0, one term's factor added to, and the sum of a delta's factors.
+use Rattle.std.specs.Prelude.{◌≡◌, ℕ, zero, suc, ◌*◌, ◌^◌, false, cond, List, [], ◌∷◌, ℤ, pos, ◌+ℤ◌}
 use Rattle.std.specs.Ordering.{int_eq}
 use Rattle.homeo_meaning.specs.Small.{IsSmall}
 use Rattle.homeo_plan.specs.Each.{Each}
-use Rattle.homeo_plan.specs.Linear.{AreInOrder, Linear, deltas_of, with_term}
+use Rattle.homeo_plan.specs.Linear.{AreInOrder, Linear, same_delta, deltas_of, with_term}
 use Rattle.homeo_plan.specs.declared.forms.Delta.{Delta}
 use Rattle.homeo_plan.specs.declared.forms.Term.{Term}
 use Rattle.homeo_plan.specs.Limit.{form_limit}
@@ -38,6 +38,16 @@ AllCount ts = Each (λ t. int_eq t.factor (pos 0) ≡ false) ts
 pub record AreAddedUp (ts : List Term) : Type 0 where
   pub order : AreInOrder (deltas_of ts)
   pub counts : AllCount ts
+
+-- a factor of e, where e is the delta d
+abbrev pub share : Delta → Delta → ℤ → ℤ
+share d e f = cond (same_delta d e) f (pos 0)
+
+-- the sum of the factors of a delta
+abbrev pub factor_at : Delta → List Term → ℤ
+unfolding definitions
+factor_at d [] = pos 0
+factor_at d (t ∷ ts) = share d t.delta t.factor +ℤ factor_at d ts
 
 -- a term by itself
 abbrev pub term_form : Term → Linear

@@ -1,9 +1,9 @@
 -- The form at the number is that of the ground call there, so what is taken is what the call takes.
-use Rattle.std.proofs.Common.{◌<◌, Some, sym, ap, subst, ◌∙◌, arith}
+use Rattle.std.proofs.Common.{map, Some, sym, ap, subst, ◌∙◌, arith}
 use Rattle.std.specs.Prelude.{slice_get}
 use Rattle.std.proofs.lemmas.List.{length-map}
 use Rattle.homeo_syntax.specs.Low.{Command}
-use Rattle.homeo_syntax.specs.LowView.{low_commands, plain_lcommand}
+use Rattle.homeo_syntax.specs.LowView.{plain_lcommand}
 use Rattle.homeo_syntax.specs.SourceView.{plain_workload}
 use Rattle.homeo_syntax.specs.declared.workload.Workload.{Workload}
 use Rattle.homeo_meaning.specs.Acceptance.{IsAccepted}
@@ -28,15 +28,15 @@ bounds-calls-number c =
     let calls = c.calls-calls in
     ground_below (plain_workload c.args.c.now) calls.result.now c.args.number calls.ensures c.requires.number
 
-pub form-requires-clause-within : goal.form-requires-clause-within
-form-requires-clause-within c =
+pub form-form-requires-clause-within : goal.form-form-requires-clause-within
+form-form-requires-clause-within c =
     let w = plain_workload c.args.c.now in
     let calls = c.calls-calls in
     let within = ground_below w calls.result.now c.args.number calls.ensures c.requires.number in
     (form_here w _ _ calls.result.now c.args.number c.index-calls-number.result c.forms.ensures calls.ensures within c.index-calls-number.is).within
 
-pub form-requires-clause-placed : goal.form-requires-clause-placed
-form-requires-clause-placed c =
+pub form-form-requires-clause-placed : goal.form-form-requires-clause-placed
+form-form-requires-clause-placed c =
     let w = plain_workload c.args.c.now in
     let calls = c.calls-calls in
     let within = ground_below w calls.result.now c.args.number calls.ensures c.requires.number in
@@ -54,7 +54,7 @@ taken-requires c =
     let accepted = subst (λ (v : Workload). IsAccepted (plain_workload v)) c.workload.ensures c.workload-workload.ensures.accepted in
     let can = can_here w calls.result.now n call accepted calls.ensures within c.index-calls-number.is in
     let h = form_here w _ _ calls.result.now n call c.forms.ensures calls.ensures within c.index-calls-number.is in
-    let form = one_placed _ _ (plain_lcommand c.form.result.now) (ground_form w (plain_ground call)) c.form.ensures h.at in
+    let form = one_placed (map plain_lcommand c.forms.result.now.forms.items) _ (plain_lcommand c.form-form.result.now) (ground_form w (plain_ground call)) c.form-form.ensures h.at in
     ap (λ (d : Command). can_exec run_limit d (whole (values_of c.as_slice.result.now))) form
     ∙ ap (λ values. can_exec run_limit (ground_form w (plain_ground call)) (whole (values_of values))) c.as_slice.ensures
     ∙ form_runs w (plain_ground call) base accepted can.called.made c.requires.within can.site
@@ -69,7 +69,7 @@ taken_is c =
     let call = c.index-calls-number.result in
     let within = ground_below w calls.result.now n calls.ensures c.requires.number in
     let h = form_here w _ _ calls.result.now n call c.forms.ensures calls.ensures within c.index-calls-number.is in
-    let form = one_placed _ _ (plain_lcommand c.form.result.now) (ground_form w (plain_ground call)) c.form.ensures h.at in
+    let form = one_placed (map plain_lcommand c.forms.result.now.forms.items) _ (plain_lcommand c.form-form.result.now) (ground_form w (plain_ground call)) c.form-form.ensures h.at in
     let commands =
     c.in_ok-commands.ensures
     ∙ ap (λ (d : Command). taken (values_of c.as_slice.result.now) d) form
@@ -85,5 +85,5 @@ pub returns-clause-few : goal.returns-clause-few
 returns-clause-few c =
     let w = plain_workload c.args.c.now in
     let accepted = subst (λ (v : Workload). IsAccepted (plain_workload v)) c.workload.ensures c.workload-workload.ensures.accepted in
-    let short = taken_short w c.args.base.now.items c.args.number _ accepted (taken_is c) in
+    let short = taken_short w c.args.base.now.items c.args.number _ c.in_ok-commands.commands.items accepted (taken_is c) in
     omega (arith, short)

@@ -8,10 +8,10 @@ use Rattle.homeo_meaning.specs.Small.{IsSmall}
 use Rattle.homeo_plan.specs.FormSizes.{Numbers}
 use Rattle.homeo_plan.specs.Limit.{form_limit}
 use Rattle.homeo_plan.specs.Key.{definitions as plan_definitions}
-use Rattle.homeo_plan.specs.Linear.{constant_form}
+use Rattle.homeo_plan.specs.Linear.{constant_form, add_forms}
 use Rattle.homeo_linear.specs.Standing.{forms_of}
 use Rattle.homeo_linear.proofs.FormSteps.{one_is_small}
-use Rattle.homeo_linear.proofs.CheckedSteps.{got, got_small, gone, literal_checked, stands_checked, neg_checked, neg_gone, sum_start, sum_gone, sum_over, sum_more, sum_end, product_start, product_gone, product_over, product_more, product_end}
+use Rattle.homeo_linear.proofs.CheckedSteps.{made, not_made, got, got_small, gone, literal_checked, stands_checked, neg_checked, neg_gone, sum_start, sum_gone, sum_over, sum_more, sum_end, product_start, product_gone, product_over, product_more, product_end}
 use Rattle.homeo_linear.proofs.checked.+checked.Goals as goal
 
 pub checked_form-times-requires-clause-factor : goal.checked_form-times-requires-clause-factor
@@ -53,7 +53,7 @@ checked_form-returns-in-None t c =
     (gone f (plain_lexpr c.deref.result.now) c.in_ok-part-in-Neg.field-0 c.in-None.is c.in_ok-part-in-Neg.ensures)
 
 pub checked_sum-loop-e-init : goal.checked_sum-loop-e-init
-checked_sum-loop-e-init t c = sum_start (forms_of c.args.standing.now) c.args.es.now c.number-total.result c.number-total.ensures
+checked_sum-loop-e-init t c = sum_start (forms_of c.args.standing.now) c.args.es.now c.in_ok-total.total c.in_ok-total.ensures
 
 pub checked_sum-returns-in_default : goal.checked_sum-returns-in_default
 checked_sum-returns-in_default t c =
@@ -61,29 +61,31 @@ checked_sum-returns-in_default t c =
     sum_gone f c.args.es.now c.loop-e.e-index c.loop-e.total c.e-item.result c.loop-e-test.true c.e-item.is c.loop-e.invariant
     (gone f (plain_lexpr c.e-item.result) c.in_ok-part.field-0 c.in_default.is c.in_ok-part.ensures)
 
-pub checked_sum-plus-requires-clause-small : goal.checked_sum-plus-requires-clause-small
-checked_sum-plus-requires-clause-small t c = c.loop-e.invariant.small
-
-pub checked_sum-plus-requires-clause-other_small : goal.checked_sum-plus-requires-clause-other_small
-checked_sum-plus-requires-clause-other_small t c =
+pub checked_sum-plus-requires : goal.checked_sum-plus-requires
+checked_sum-plus-requires t c =
     got_small (forms_of c.args.standing.now) (plain_lexpr c.e-item.result) c.in_ok-part.field-0 c.in-Some.part c.in-Some.is c.in_ok-part.ensures
 
-pub checked_sum-returns-in_default-kept : goal.checked_sum-returns-in_default-kept
-checked_sum-returns-in_default-kept t c =
+pub checked_sum-returns-in_default-2 : goal.checked_sum-returns-in_default-2
+checked_sum-returns-in_default-2 t c =
     let f = forms_of c.args.standing.now in
     let g = got f (plain_lexpr c.e-item.result) c.in_ok-part.field-0 c.in-Some.part c.in-Some.is c.in_ok-part.ensures in
-    sum_over f c.args.es.now c.loop-e.e-index c.loop-e.total c.e-item.result c.loop-e-test.true c.e-item.is c.loop-e.invariant c.in-Some.part c.in_ok-more.more g.1
-    c.in_ok-more.ensures c.in_default-kept.ensures
+    let more = add_forms c.in-Some.part c.loop-e.total in
+    sum_over f c.args.es.now c.loop-e.e-index c.loop-e.total c.e-item.result c.loop-e-test.true c.e-item.is c.loop-e.invariant c.in-Some.part more g.1 refl
+    (not_made more c.in_ok-more.field-0 c.in_default-2.is c.in_ok-more.ensures)
 
 pub checked_sum-loop-e-preserved : goal.checked_sum-loop-e-preserved
 checked_sum-loop-e-preserved t c =
     let f = forms_of c.args.standing.now in
     let g = got f (plain_lexpr c.e-item.result) c.in_ok-part.field-0 c.in-Some.part c.in-Some.is c.in_ok-part.ensures in
-    sum_more f c.args.es.now c.loop-e.e-index c.loop-e.total c.e-item.result c.loop-e-test.true c.e-item.is c.loop-e.invariant c.in-Some.part c.in-Some-kept.more g.1
-    (c.in-Some-kept.ensures.1 ∙ c.in_ok-more.ensures) g.0 (subst (Numbers (IsSmall form_limit)) (sym c.in-Some-kept.ensures.1) c.in-Some-kept.ensures.0)
+    let m = made (add_forms c.in-Some.part c.loop-e.total) c.in-Some-2.more c.in_ok-more.field-0 c.in-Some-2.is c.in_ok-more.ensures in
+    sum_more f c.args.es.now c.loop-e.e-index c.loop-e.total c.e-item.result c.loop-e-test.true c.e-item.is c.loop-e.invariant c.in-Some.part c.in-Some-2.more g.1
+    m.1 g.0 (subst (Numbers (IsSmall form_limit)) (sym m.1) m.0)
 
 pub checked_sum-returns : goal.checked_sum-returns
-checked_sum-returns t c = sum_end (forms_of c.args.standing.now) c.args.es.now c.loop-e.e-index c.loop-e.total c.loop-e-test.false c.loop-e.invariant
+checked_sum-returns t c =
+    let f = forms_of c.args.standing.now in
+    let e = sum_end f c.args.es.now c.loop-e.e-index c.loop-e.total c.loop-e-test.false c.loop-e.invariant in
+    (e.0, c.in_ok-form.ensures ∙ e.1)
 
 pub checked_product-loop-e-init : goal.checked_product-loop-e-init
 checked_product-loop-e-init t c = product_start (forms_of c.args.standing.now) c.args.es.now c.number-total.result c.number-total.ensures
