@@ -5,9 +5,7 @@ use Rattle.std.proofs.Math.ListN.{set}
 use Rattle.std.specs.Prelude.{Vec}
 use Rattle.std.proofs.lemmas.List.{length-map, get_or-map, map-set}
 use Rattle.homeo_syntax.specs.Low.{Commands}
-use Rattle.homeo_syntax.specs.LowView.{low_commands, plain_lcommand}
 use Rattle.homeo_syntax.specs.Source as s
-use Rattle.homeo_syntax.specs.declared.low.LCommand.{LCommand}
 use Rattle.homeo_meaning.specs.declared.call.CallId.{CallId}
 use Rattle.homeo_meaning.specs.Acceptance.{IsAccepted}
 use Rattle.homeo_meaning.specs.Bounds.{IsWithin}
@@ -25,32 +23,27 @@ use Rattle.homeo_plan.specs.PlanView.{plain_clause, plain_template}
 use Rattle.homeo_plan.specs.declared.round.RoundPlan.{RoundPlan}
 use Rattle.homeo_plan.specs.declared.templates.Template as code
 use Rattle.homeo_plan.specs.Template.{PlannedCall, Clause, Template, base_row}
-use Rattle.homeo_plan.proofs.PlannedCalls.{planned_member}
 use Rattle.homeo_split.specs.CanExec.{run_limit, can_exec_all}
 use Rattle.homeo_effect.specs.Key.{definitions as effect_definitions}
 use Rattle.homeo_effect.specs.OwnState.{own_state}
 use Rattle.homeo_effect.specs.Program.{plain_program}
-use Rattle.homeo_effect.specs.Touched.{WritesOwn, written, is_touched, is_among, touched_clauses, touched_freezes}
+use Rattle.homeo_effect.specs.Touched.{written, is_touched, is_among, touched_clauses, touched_freezes}
 use Rattle.homeo_effect.specs.declared.program.Program.{Program}
 use Rattle.homeo_site.specs.OwnCalls.{RunsAs, IsOwnCall, AreOwnCalls}
 use Rattle.homeo_site.specs.declared.own_calls.OwnCall.{OwnCall}
 use Rattle.homeo_site.specs.declared.own_calls.OwnCalls.{OwnCalls}
-use Rattle.homeo_site.proofs.WrittenObjects.{writes_own}
 use Rattle.homeo_forecast.specs.Peaks.{Stop, first_stop}
 use Rattle.homeo_forecast.specs.Visits.{Visit, after_all, visits, next_visit}
 use Rattle.homeo_forecast.specs.declared.replay.Replay.{Replay}
 use Rattle.homeo_forecast.specs.declared.rooms.Room.{Room}
 use Rattle.homeo_forecast.specs.declared.prepared.Prepared.{Prepared}
-use Rattle.homeo_forecast.specs.inner.Prepared.{AreIndexes, IsPrepared}
+use Rattle.homeo_forecast.specs.inner.Prepared.{IsPrepared}
 use Rattle.homeo_forecast.specs.inner.Raising.{CanTest, AreSums, AreSiteSums, CanRaise, SomeRaised}
 use Rattle.homeo_forecast.specs.inner.Replays.{site_lists, AreDeltas, IsReplay}
 use Rattle.homeo_forecast.specs.inner.Rooms.{HaveRooms}
 use Rattle.homeo_forecast.specs.inner.Stops.{clause_stop_at, freeze_stop_at, first_of, first_among}
 use Rattle.homeo_forecast.specs.inner.Sums.{terms_at, CanSum}
-use Rattle.homeo_forecast.specs.declared.touches.Touched.{Touched}
-use Rattle.homeo_forecast.specs.inner.Touches.{IsTouchedBy}
 use Rattle.homeo_forecast.proofs.CallSteps as step
-use Rattle.homeo_forecast.proofs.Prefixes as prefixes
 use Rattle.homeo_forecast.proofs.ReplayLists.{goes_on}
 use Rattle.homeo_forecast.proofs.RoomLists.{all_raised, site_sums}
 use Rattle.homeo_forecast.proofs.TouchedStops.{within_numbers}
@@ -79,49 +72,15 @@ own_here {w} call {q} {plan} {o} {made} same is own =
     subst (IsOwnCall w plan.base.items (planned_at w call)) (sym is)
     (subst (λ (r : RoundPlan). IsOwnCall w r.base.items (planned_at w call) made) same own)
 
+-- the index of the call's site is over the template of this plan
+pub index_there :
+    (w : s.Workload) (q plan : RoundPlan) (u : Template) → q ≡ plan → u ≡ template_at w plan.base.items → u ≡ template_at w q.base.items
+index_there w q plan u same is = is ∙ ap (λ (r : RoundPlan). template_at w r.base.items) (sym same)
+
 -- what was made so far, too
 pub still_made :
     (w : s.Workload) (q plan : RoundPlan) (os : OwnCalls) → q ≡ plan → AreOwnCalls w q.base.items os → AreOwnCalls w plan.base.items os
 still_made w q plan os same made = subst (λ (r : RoundPlan). AreOwnCalls w r.base.items os) same made
-
-module _
-    (call : CallId) {w : s.Workload} {base : List ℤ} {p : Prepared} {o : OwnCall} (prepared : IsPrepared w base p) (exists : CallExists w call)
-    (own : IsOwnCall w base (planned_at w call) o) (lent : List LCommand) (same : lent ≡ o.commands.items)
-  where
-    its_commands : low_commands (map plain_lcommand lent) ≡ (base_row (sites_of w) (values_of base) (planned_at w call)).residual
-    its_commands = ap (λ l. low_commands (map plain_lcommand l)) same ∙ own.commands
-
-    pub indexes_there : AreIndexes p.plan.value.template.sites (plain_template p.plan.value.template) p.indexes.items
-    indexes_there =
-        subst (λ k. AreIndexes k (plain_template p.plan.value.template) p.indexes.items) (sym prepared.plan.sites)
-        (subst (λ (u : Template). AreIndexes (sites_of w) u p.indexes.items) (sym prepared.plan.template) prepared.indexes)
-
-    pub site_indexed : o.program.site < p.plan.value.template.sites
-    site_indexed =
-        subst (λ k. o.program.site < k) (sym prepared.plan.sites)
-        (subst (λ i. i < sites_of w) (sym own.runs.site) (prefixes.site_below w call prepared.accepted exists))
-
-    pub own_written : WritesOwn o.program.site (low_commands (map plain_lcommand lent))
-    own_written =
-        subst (λ i. WritesOwn i (low_commands (map plain_lcommand lent))) (sym own.runs.site)
-        (subst (WritesOwn (planned_at w call).site) (sym its_commands) (writes_own w base (planned_at w call) (planned_member w call exists)))
-
-    clauses_are :
-        touched_clauses (written (low_commands (map plain_lcommand lent))) (plain_template p.plan.value.template) ≡
-        touched_clauses (written (base_row (sites_of w) (values_of base) (planned_at w call)).residual) (template_at w base)
-    clauses_are = ap₂ (λ cs (u : Template). touched_clauses (written cs) u) its_commands prepared.plan.template
-
-    freezes_are :
-        touched_freezes (written (low_commands (map plain_lcommand lent))) (plain_template p.plan.value.template) ≡
-        touched_freezes (written (base_row (sites_of w) (values_of base) (planned_at w call)).residual) (template_at w base)
-    freezes_are = ap₂ (λ cs (u : Template). touched_freezes (written cs) u) its_commands prepared.plan.template
-
-    -- what they touch is what the call touches
-    pub touched_is :
-        (t : Touched) → t.clauses.items ≡ touched_clauses (written (low_commands (map plain_lcommand lent))) (plain_template p.plan.value.template) →
-        t.freezes.items ≡ touched_freezes (written (low_commands (map plain_lcommand lent))) (plain_template p.plan.value.template) →
-        IsTouchedBy w base (planned_at w call) t
-    touched_is t clauses freezes = record { clauses = clauses ∙ clauses_are; freezes = freezes ∙ freezes_are }
 
 abbrev deltas_of : Replay → ℕ → List ℤ
 deltas_of r i = get_or (site_lists r) i []

@@ -1,7 +1,7 @@
 pub mod CallEnds
+pub mod CallIndexes
 pub mod CallSteps
 pub mod ForecastSteps
-pub mod FoundTouches
 pub mod IndexLists
 pub mod Lists
 pub mod OneText
@@ -19,4 +19,3 @@ pub mod SumFits
 pub mod TermSums
 pub mod TextSteps
 pub mod TouchedStops
-pub mod Touching

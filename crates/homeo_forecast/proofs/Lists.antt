@@ -47,8 +47,3 @@ pub same_there : {X : Type 0} (n i : ℕ) (x d : X) → i < n → get_or (replic
 same_there zero i x d lt = absurd (omega arith)
 same_there (suc n) zero x d lt = refl
 same_there (suc n) (suc i) x d lt = same_there n i x d (omega arith)
-
-pub none_there : {X : Type 0} (n i : ℕ) (x : X) → get_or (replicate n x) i x ≡ x
-none_there zero i x = refl
-none_there (suc n) zero x = refl
-none_there (suc n) (suc i) x = none_there n i x

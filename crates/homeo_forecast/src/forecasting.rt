@@ -13,7 +13,6 @@ ghost use Rattle.homeo_forecast.specs.View.{plain_stop};
 use crate::outlook::Outlook;
 use crate::prepared::Prepared;
 use crate::replay::Replay;
-use crate::touches::Touches;
 use homeo_build::Compiled;
 use homeo_meaning::{CallId, Database};
 use homeo_site::OwnCalls;
@@ -43,10 +42,9 @@ pub fn forecast(
 {
     let prepared = Prepared::at(alloc, c, base)?;
     let mut own_calls = OwnCalls::new(alloc, c)?;
-    let mut touches = Touches::new(alloc, c)?;
     let mut replay = Replay::begin(alloc, &prepared.plan)?;
     for (kept, call) in calls.iter().enumerate() {
-        let stop = replay.call(alloc, c, &prepared, &mut own_calls, &mut touches, *call)?;
+        let stop = replay.call(alloc, c, &prepared, &mut own_calls, *call)?;
         if stop.is_some() {
             let config = replay.config(alloc)?;
             return Ok(Outlook {

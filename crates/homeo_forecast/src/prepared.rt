@@ -1,23 +1,21 @@
 //! What is made once for all calls of a list.
 
-ghost use Rattle.std.specs.Prelude.{◌≡◌, ◌<◌, map, IfOk};
-ghost use Rattle.homeo_syntax.specs.LowView.{low_commands, plain_lcommand};
+ghost use Rattle.std.specs.Prelude.{◌≡◌, IfOk};
 ghost use Rattle.homeo_syntax.specs.SourceView.{plain_workload};
 ghost use Rattle.homeo_meaning.specs.Bounds.{IsWithin};
+ghost use Rattle.homeo_meaning.specs.Calls.{CallExists};
 ghost use Rattle.homeo_meaning.specs.Schema.{schema_of};
-ghost use Rattle.homeo_plan.specs.PlanView.{plain_template};
+ghost use Rattle.homeo_plan.specs.Planned.{planned_at, template_at};
 ghost use Rattle.homeo_build.specs.Plan.{IsPlanOf};
-ghost use Rattle.homeo_effect.specs.Touched.{WritesOwn, written, touched_clauses, touched_freezes};
-ghost use Rattle.homeo_forecast.specs.inner.Prepared.{AreIndexes, IsPrepared};
+ghost use Rattle.homeo_forecast.specs.inner.Prepared.{IsPrepared};
 
 use crate::indexes::indexes;
-use crate::touches::Touched;
 use homeo_build::Compiled;
 use homeo_build::treaties::treaties;
 use homeo_effect::TreatyIndex;
-use homeo_meaning::Database;
+use homeo_meaning::{CallId, Database};
 use homeo_plan::RoundPlan;
-use homeo_syntax::{LCommand, List, Memory};
+use homeo_syntax::{List, Memory};
 use std::alloc::Global;
 use std::sync::Arc;
 
@@ -50,24 +48,17 @@ impl Prepared {
         Ok(Prepared { plan, indexes })
     }
 
-    /// What commands of a site touch.
-    pub(crate) fn touched(
-        &self,
-        alloc: Global,
-        commands: &[LCommand],
-        site: u32,
-    ) -> Result<Touched, Memory>
-        requires indexes { let p = self.now.plan.value in AreIndexes p.template.sites (plain_template p.template) self.now.indexes.items }
-        requires site { site < self.now.plan.value.template.sites }
-        requires own { WritesOwn site (low_commands (map plain_lcommand commands.now)) }
-        ensures clauses { IfOk result (λ t. t.clauses.items ≡ touched_clauses
-            (written (low_commands (map plain_lcommand commands.now))) (plain_template self.now.plan.value.template)) }
-        ensures freezes { IfOk result (λ t. t.freezes.items ≡ touched_freezes
-            (written (low_commands (map plain_lcommand commands.now))) (plain_template self.now.plan.value.template)) }
+    /// The index of the treaty of a call's site.
+    pub(crate) fn index(&self, c: &Compiled, call: CallId) -> &TreatyIndex
+        requires prepared { IsPrepared (plain_workload c.now) self.now.plan.value.base.items self.now }
+        requires exists { CallExists (plain_workload c.now) call }
+        ensures site { result.now.site ≡ (planned_at (plain_workload c.now) call).site }
+        ensures template { result.now.template ≡ template_at (plain_workload c.now) self.now.plan.value.base.items }
     {
-        let index = &self.indexes.as_slice()[site as usize];
-        let clauses = index.clauses_touched(alloc, commands)?;
-        let freezes = index.freezes_touched(alloc, commands)?;
-        Ok(Touched { clauses, freezes })
+        let place = c.place(call) as usize;
+        let calls = c.calls();
+        let site = calls[place].site as usize;
+        let indexes = self.indexes.as_slice();
+        &indexes[site]
     }
 }

@@ -18,7 +18,6 @@ ghost use Rattle.homeo_forecast.specs.inner.Replays.{IsReplay, IsSomeReplay, Can
 ghost use Rattle.homeo_forecast.specs.inner.Raising.{CanTest, AreSums};
 ghost use Rattle.homeo_forecast.specs.inner.Rooms.{HaveRooms};
 ghost use Rattle.homeo_forecast.specs.inner.Stops.{first_of, first_among, clause_stop_at, freeze_stop_at};
-ghost use Rattle.homeo_forecast.specs.inner.Touches.{AreFound};
 
 use crate::outlook::Stop;
 use crate::prepared::Prepared;
@@ -26,7 +25,6 @@ use crate::raising::raise_all;
 use crate::rooms::Room;
 use crate::scratch::Scratch;
 use crate::stops::{first_frozen, first_spent};
-use crate::touches::Touches;
 use homeo_build::Compiled;
 use homeo_meaning::CallId;
 use homeo_plan::{Clause, Config, RoundPlan, Template};
@@ -139,16 +137,13 @@ impl Replay {
         c: &Compiled,
         prepared: &Prepared,
         own_calls: &mut OwnCalls,
-        touches: &mut Touches,
         call: CallId,
     ) -> Result<Option<Stop>, Memory>
         requires prepared { IsPrepared (plain_workload c.now) prepared.now.plan.value.base.items prepared.now }
         requires exists { CallExists (plain_workload c.now) call }
         requires replay { IsSomeReplay (plain_workload c.now) prepared.now.plan.value.base.items self.old }
         requires made { AreOwnCalls (plain_workload c.now) prepared.now.plan.value.base.items own_calls.old }
-        requires found { AreFound (plain_workload c.now) prepared.now.plan.value.base.items touches.old }
         ensures made { OnOk result (AreOwnCalls (plain_workload c.now) prepared.now.plan.value.base.items own_calls.new) }
-        ensures found { OnOk result (AreFound (plain_workload c.now) prepared.now.plan.value.base.items touches.new) }
         ensures kept { (before : List CallId) → let w = plain_workload c.now in let base = prepared.now.plan.value.base.items in
             IsReplay w base before self.old → IfOk result (λ o. o ≡ None → IsReplay w base (before ++ call ∷ []) self.new) }
         ensures stop { (before : List CallId) → let w = plain_workload c.now in let base = prepared.now.plan.value.base.items in
@@ -156,19 +151,18 @@ impl Replay {
             first_stop (sites_of w) (template_at w base) (visits w base before) (next_visit w base before call)) }
         ensures rooms { IfOk result (λ o. IsSome o → self.new.rooms ≡ self.old.rooms) }
     {
-        let made = own_calls.get(alloc, c, &prepared.plan.base, call)?;
+        let index = prepared.index(c, call);
+        let made = own_calls.get(alloc, c, &prepared.plan.base, index, call)?;
         let own = &*made;
         let site = own.program.site;
-        let found = touches.get(alloc, c, prepared, own, call)?;
-        let touched = &*found;
         let deltas = &mut self.deltas[site as usize];
         self.scratch.run(alloc, &own.program, deltas)?;
         let stop = first_stop(
             alloc,
             &prepared.plan.template,
             self.rooms.as_slice(),
-            touched.clauses.as_slice(),
-            touched.freezes.as_slice(),
+            own.clauses.as_slice(),
+            own.freezes.as_slice(),
             site,
             deltas.as_slice(),
             &mut self.sums,
@@ -178,7 +172,7 @@ impl Replay {
         }
         raise_all(
             self.rooms.as_mut_slice(),
-            touched.clauses.as_slice(),
+            own.clauses.as_slice(),
             self.sums.as_slice(),
             site,
         );

@@ -10,7 +10,6 @@ use Rattle.homeo_site.specs.OwnCalls.{AreOwnCalls}
 use Rattle.homeo_forecast.specs.declared.rooms.Room.{Room}
 use Rattle.homeo_forecast.specs.inner.Replays.{CanBound}
 use Rattle.homeo_forecast.specs.inner.Rooms.{HaveRooms}
-use Rattle.homeo_forecast.specs.inner.Touches.{AreFound}
 use Rattle.homeo_forecast.proofs.ForecastSteps.{rebased, begun_at, on_plan, off_plan, some_replay, same_stop, can_bound, kept_on, stopped_there, all_kept}
 use Rattle.homeo_forecast.proofs.Lists.{each_there}
 use Rattle.homeo_forecast.proofs.StopSteps.{none_is}
@@ -32,7 +31,6 @@ loop-kept-init c =
           (c.in_ok-replay.ensures.deltas ∙ ap (λ (q : RoundPlan). replicate q.template.sites (replicate (length q.base.items) (pos 0))) same)
           (subst (λ (q : RoundPlan). HaveRooms q.template.sites [] (plain_template q.template).clauses r.rooms.items) same c.in_ok-replay.ensures.rooms);
       made = c.in_ok-own_calls.ensures base;
-      found = c.in_ok-touches.ensures base;
     }
 
 pub call-requires-clause-prepared : goal.call-requires-clause-prepared
@@ -83,16 +81,11 @@ loop-kept-preserved c =
           (c.in_ok-stop.ensures.kept (take n calls) (on_plan w base p (take n calls) c.loop-kept.replay c.in_ok-prepared.ensures c.loop-kept.invariant.replay)
           (none_is c.in_ok-stop.stop (sym c.if-is_some.ensures))));
       made = subst (λ b. AreOwnCalls w b c.call.new.own_calls) c.in_ok-prepared.ensures.plan.base c.in_ok-stop.ensures.made;
-      found = subst (λ b. AreFound w b c.call.new.touches) c.in_ok-prepared.ensures.plan.base c.in_ok-stop.ensures.found;
     }
 
 pub call-requires-clause-made : goal.call-requires-clause-made
 call-requires-clause-made c =
     subst (λ b. AreOwnCalls (plain_workload c.args.c.now) b c.loop-kept.own_calls) (sym c.in_ok-prepared.ensures.plan.base) c.loop-kept.invariant.made
-
-pub call-requires-clause-found : goal.call-requires-clause-found
-call-requires-clause-found c =
-    subst (λ b. AreFound (plain_workload c.args.c.now) b c.loop-kept.touches) (sym c.in_ok-prepared.ensures.plan.base) c.loop-kept.invariant.found
 
 pub config-requires-2 : goal.config-requires-2
 config-requires-2 c =

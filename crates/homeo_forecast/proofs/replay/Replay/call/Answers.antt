@@ -9,14 +9,10 @@ use Rattle.homeo_plan.specs.PlanView.{plain_template}
 use Rattle.homeo_plan.specs.declared.round.RoundPlan.{RoundPlan}
 use Rattle.homeo_forecast.specs.View.{plain_stop}
 use Rattle.homeo_forecast.specs.declared.replay.Replay.{Replay}
-use Rattle.homeo_forecast.specs.declared.touches.Touched.{Touched}
 use Rattle.homeo_forecast.specs.inner.Raising.{SomeRaised}
 use Rattle.homeo_forecast.proofs.CallEnds as ends
 use Rattle.homeo_forecast.proofs.StopSteps.{none_is, some_is_not}
 use Rattle.homeo_forecast.proofs.replay.Replay.call.Goals as goal
-
-pub get-requires-2-clause-own : goal.get-requires-2-clause-own
-get-requires-2-clause-own c = ends.own_here c.args.call c.deref.ensures c.deref-own.ensures c.in_ok-made.ensures.own
 
 pub index_mut-deltas-requires : goal.index_mut-deltas-requires
 index_mut-deltas-requires c =
@@ -53,7 +49,7 @@ first_stop-requires-clause-clauses c =
     let here = ends.call_here c.requires.prepared c.requires.exists own.runs.site in
     let ran = ends.has_run here c.requires.replay.is c.index_mut-deltas.result.now c.index_mut-deltas.ensures.value c.run.new.deltas.items
     c.in_ok-run.ensures.count (c.in_ok-run.ensures.deltas _ _ _ _ own.runs) in
-    ends.clauses_there ran c.requires.replay.is c.as_slice-2.result.now c.as_slice.result.now (c.as_slice-2.ensures ∙ ap (λ (t : Touched). t.clauses.items) c.deref-touched.ensures ∙ c.in_ok-found.ensures.touched.clauses)
+    ends.clauses_there ran c.requires.replay.is c.as_slice-2.result.now c.as_slice.result.now (c.as_slice-2.ensures ∙ own.clauses)
     c.as_slice.ensures.value
 
 pub first_stop-requires-clause-freezes : goal.first_stop-requires-clause-freezes
@@ -62,7 +58,7 @@ first_stop-requires-clause-freezes c =
     let here = ends.call_here c.requires.prepared c.requires.exists own.runs.site in
     let ran = ends.has_run here c.requires.replay.is c.index_mut-deltas.result.now c.index_mut-deltas.ensures.value c.run.new.deltas.items
     c.in_ok-run.ensures.count (c.in_ok-run.ensures.deltas _ _ _ _ own.runs) in
-    ends.freezes_there ran c.requires.replay.is c.as_slice-3.result.now c.deref-2.result.now.template (c.as_slice-3.ensures ∙ ap (λ (t : Touched). t.freezes.items) c.deref-touched.ensures ∙ c.in_ok-found.ensures.touched.freezes)
+    ends.freezes_there ran c.requires.replay.is c.as_slice-3.result.now c.deref-2.result.now.template (c.as_slice-3.ensures ∙ own.freezes)
     (ends.template_there c.requires.prepared c.deref-2.result.now c.deref-2.ensures)
 
 pub first_stop-requires-clause-can : goal.first_stop-requires-clause-can
@@ -83,7 +79,7 @@ returns-then-is_some-clause-stop c = λ before kept.
     let ran = ends.has_run here kept c.index_mut-deltas.result.now c.index_mut-deltas.ensures.value c.run.new.deltas.items
     c.in_ok-run.ensures.count (c.in_ok-run.ensures.deltas _ _ _ _ own.runs) in
     ends.stop_there ran kept (option_map plain_stop c.in_ok-stop.stop) c.as_slice-2.result.now c.as_slice-3.result.now (plain_template c.deref-2.result.now.template)
-    c.as_slice.result.now c.as_slice-4.result.now (c.as_slice-2.ensures ∙ ap (λ (t : Touched). t.clauses.items) c.deref-touched.ensures ∙ c.in_ok-found.ensures.touched.clauses) (c.as_slice-3.ensures ∙ ap (λ (t : Touched). t.freezes.items) c.deref-touched.ensures ∙ c.in_ok-found.ensures.touched.freezes)
+    c.as_slice.result.now c.as_slice-4.result.now (c.as_slice-2.ensures ∙ own.clauses) (c.as_slice-3.ensures ∙ own.freezes)
     (ends.template_there c.requires.prepared c.deref-2.result.now c.deref-2.ensures) c.as_slice.ensures.value c.as_slice-4.ensures.value c.in_ok-stop.ensures.stop
 
 pub raise_all-requires-clause-numbers : goal.raise_all-requires-clause-numbers
@@ -92,7 +88,7 @@ raise_all-requires-clause-numbers c =
     let here = ends.call_here c.requires.prepared c.requires.exists own.runs.site in
     let ran = ends.has_run here c.requires.replay.is c.index_mut-deltas.result.now c.index_mut-deltas.ensures.value c.run.new.deltas.items
     c.in_ok-run.ensures.count (c.in_ok-run.ensures.deltas _ _ _ _ own.runs) in
-    ends.clauses_there ran c.requires.replay.is c.as_slice-5.result.now c.as_mut_slice.result.now (c.as_slice-5.ensures ∙ ap (λ (t : Touched). t.clauses.items) c.deref-touched.ensures ∙ c.in_ok-found.ensures.touched.clauses)
+    ends.clauses_there ran c.requires.replay.is c.as_slice-5.result.now c.as_mut_slice.result.now (c.as_slice-5.ensures ∙ own.clauses)
     c.as_mut_slice.ensures.value
 
 pub raise_all-requires-clause-can : goal.raise_all-requires-clause-can
@@ -104,9 +100,9 @@ raise_all-requires-clause-can c =
     c.in_ok-run.ensures.count (c.in_ok-run.ensures.deltas _ _ _ _ own.runs) in
     let stop =
     ends.stop_there ran kept (option_map plain_stop c.in_ok-stop.stop) c.as_slice-2.result.now c.as_slice-3.result.now (plain_template c.deref-2.result.now.template)
-    c.as_slice.result.now c.as_slice-4.result.now (c.as_slice-2.ensures ∙ ap (λ (t : Touched). t.clauses.items) c.deref-touched.ensures ∙ c.in_ok-found.ensures.touched.clauses) (c.as_slice-3.ensures ∙ ap (λ (t : Touched). t.freezes.items) c.deref-touched.ensures ∙ c.in_ok-found.ensures.touched.freezes)
+    c.as_slice.result.now c.as_slice-4.result.now (c.as_slice-2.ensures ∙ own.clauses) (c.as_slice-3.ensures ∙ own.freezes)
     (ends.template_there c.requires.prepared c.deref-2.result.now c.deref-2.ensures) c.as_slice.ensures.value c.as_slice-4.ensures.value c.in_ok-stop.ensures.stop in
-    let numbers = ends.clauses_there ran kept c.as_slice-2.result.now c.as_slice.result.now (c.as_slice-2.ensures ∙ ap (λ (t : Touched). t.clauses.items) c.deref-touched.ensures ∙ c.in_ok-found.ensures.touched.clauses)
+    let numbers = ends.clauses_there ran kept c.as_slice-2.result.now c.as_slice.result.now (c.as_slice-2.ensures ∙ own.clauses)
     c.as_slice.ensures.value in
     let site_sums =
     ends.sums_there ran kept c.as_slice.result.now c.as_slice-4.result.now c.as_slice-2.result.now c.as_slice-5.result.now c.first_stop.new.sums.items
@@ -123,7 +119,7 @@ returns-clause-kept c = λ before kept none.
     c.in_ok-run.ensures.count (c.in_ok-run.ensures.deltas _ _ _ _ own.runs) in
     let stop =
     ends.stop_there ran kept (option_map plain_stop c.in_ok-stop.stop) c.as_slice-2.result.now c.as_slice-3.result.now (plain_template c.deref-2.result.now.template)
-    c.as_slice.result.now c.as_slice-4.result.now (c.as_slice-2.ensures ∙ ap (λ (t : Touched). t.clauses.items) c.deref-touched.ensures ∙ c.in_ok-found.ensures.touched.clauses) (c.as_slice-3.ensures ∙ ap (λ (t : Touched). t.freezes.items) c.deref-touched.ensures ∙ c.in_ok-found.ensures.touched.freezes)
+    c.as_slice.result.now c.as_slice-4.result.now (c.as_slice-2.ensures ∙ own.clauses) (c.as_slice-3.ensures ∙ own.freezes)
     (ends.template_there c.requires.prepared c.deref-2.result.now c.deref-2.ensures) c.as_slice.ensures.value c.as_slice-4.ensures.value c.in_ok-stop.ensures.stop in
     let new : Replay = record {
       deltas = with_item c.args.self.now.deltas c.deref-own.result.now.program.site c.run.new.deltas;
@@ -132,7 +128,7 @@ returns-clause-kept c = λ before kept none.
       sums = c.first_stop.new.sums;
     } in
     let rooms = ends.rooms_there ran kept _ c.as_mut_slice.result.now refl c.as_mut_slice.ensures.value in
-    let numbers = ends.clauses_there ran kept c.as_slice-2.result.now c.as_slice.result.now (c.as_slice-2.ensures ∙ ap (λ (t : Touched). t.clauses.items) c.deref-touched.ensures ∙ c.in_ok-found.ensures.touched.clauses)
+    let numbers = ends.clauses_there ran kept c.as_slice-2.result.now c.as_slice.result.now (c.as_slice-2.ensures ∙ own.clauses)
     c.as_slice.ensures.value in
     let site_sums =
     ends.sums_there ran kept c.as_slice.result.now c.as_slice-4.result.now c.as_slice-2.result.now c.as_slice-5.result.now c.first_stop.new.sums.items
@@ -143,7 +139,7 @@ returns-clause-kept c = λ before kept none.
     with_items_is c.args.self.now.rooms c.raise_all.new.rooms
     (omega (arith, raised.count, rooms.count, ap length c.as_mut_slice.ensures.value, c.args.self.now.rooms.ok.0)) in
     ends.on_there ran kept (sym stop ∙ ap (option_map plain_stop) (none_is c.in_ok-stop.stop (sym c.if-is_some.ensures)))
-    c.as_slice-5.result.now new c.run.new.deltas (c.as_slice-5.ensures ∙ ap (λ (t : Touched). t.clauses.items) c.deref-touched.ensures ∙ c.in_ok-found.ensures.touched.clauses) refl refl
+    c.as_slice-5.result.now new c.run.new.deltas (c.as_slice-5.ensures ∙ own.clauses) refl refl
     (subst (SomeRaised _ _ _ _ c.as_slice-5.result.now) (sym all) raised)
 
 pub returns-clause-stop : goal.returns-clause-stop
@@ -154,12 +150,17 @@ returns-clause-stop c = λ before kept.
     c.in_ok-run.ensures.count (c.in_ok-run.ensures.deltas _ _ _ _ own.runs) in
     sym (ap (option_map plain_stop) (none_is c.in_ok-stop.stop (sym c.if-is_some.ensures)))
     ∙ ends.stop_there ran kept (option_map plain_stop c.in_ok-stop.stop) c.as_slice-2.result.now c.as_slice-3.result.now (plain_template c.deref-2.result.now.template)
-    c.as_slice.result.now c.as_slice-4.result.now (c.as_slice-2.ensures ∙ ap (λ (t : Touched). t.clauses.items) c.deref-touched.ensures ∙ c.in_ok-found.ensures.touched.clauses) (c.as_slice-3.ensures ∙ ap (λ (t : Touched). t.freezes.items) c.deref-touched.ensures ∙ c.in_ok-found.ensures.touched.freezes)
+    c.as_slice.result.now c.as_slice-4.result.now (c.as_slice-2.ensures ∙ own.clauses) (c.as_slice-3.ensures ∙ own.freezes)
     (ends.template_there c.requires.prepared c.deref-2.result.now c.deref-2.ensures) c.as_slice.ensures.value c.as_slice-4.ensures.value c.in_ok-stop.ensures.stop
 
 pub get-requires-clause-within : goal.get-requires-clause-within
 get-requires-clause-within c =
     subst (λ (q : RoundPlan). IsWithin (schema_of (plain_workload c.args.c.now)) q.base.items) (sym c.deref.ensures) c.requires.prepared.plan.within
+
+pub get-requires-clause-template : goal.get-requires-clause-template
+get-requires-clause-template c =
+    ends.index_there (plain_workload c.args.c.now) c.deref.result.now c.args.prepared.now.plan.value c.index-index.result.now.template c.deref.ensures
+    c.index-index.ensures.template
 
 pub get-requires-clause-made : goal.get-requires-clause-made
 get-requires-clause-made c =
