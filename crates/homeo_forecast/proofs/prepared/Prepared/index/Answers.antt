@@ -14,7 +14,7 @@ bounds-indexes-site c =
     ground_site w c.args.call c.place-place.result c.calls-calls.result.now c.index-calls-place.result c.calls-calls.ensures c.place-place.ensures.within
     c.place-place.ensures.place c.index-calls-place.is in
     index_below w c.args.self.now.plan.value.base.items c.args.call c.args.self.now c.requires.prepared c.requires.exists c.as_slice-indexes.result.now
-    c.as_slice-indexes.ensures c.index-calls-place.result.site at
+    c.as_slice-indexes.ensures _ at
 
 pub returns-clause-site : goal.returns-clause-site
 returns-clause-site c =
@@ -23,7 +23,7 @@ returns-clause-site c =
     ground_site w c.args.call c.place-place.result c.calls-calls.result.now c.index-calls-place.result c.calls-calls.ensures c.place-place.ensures.within
     c.place-place.ensures.place c.index-calls-place.is in
     index_site w c.args.self.now.plan.value.base.items c.args.call c.args.self.now c.requires.prepared c.requires.exists c.as_slice-indexes.result.now
-    c.as_slice-indexes.ensures c.index-calls-place.result.site at c.index-indexes-site.result c.index-indexes-site.is
+    c.as_slice-indexes.ensures _ at c.index-indexes-site.result c.index-indexes-site.is
 
 pub returns-clause-template : goal.returns-clause-template
 returns-clause-template c =
@@ -32,4 +32,4 @@ returns-clause-template c =
     ground_site w c.args.call c.place-place.result c.calls-calls.result.now c.index-calls-place.result c.calls-calls.ensures c.place-place.ensures.within
     c.place-place.ensures.place c.index-calls-place.is in
     index_template w c.args.self.now.plan.value.base.items c.args.call c.args.self.now c.requires.prepared c.requires.exists c.as_slice-indexes.result.now
-    c.as_slice-indexes.ensures c.index-calls-place.result.site at c.index-indexes-site.result c.index-indexes-site.is
+    c.as_slice-indexes.ensures _ at c.index-indexes-site.result c.index-indexes-site.is
