@@ -3,6 +3,7 @@ mod CheckedSteps
 mod Comparing
 mod Coursing
 pub mod DeltasInOrder
+mod FactorsFound
 mod FormParts
 mod FormSteps
 mod Gaining

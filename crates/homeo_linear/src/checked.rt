@@ -9,8 +9,7 @@ ghost use Rattle.homeo_plan.specs.Limit.{form_limit};
 ghost use Rattle.homeo_linear.specs.Checked.{Kept, Checked};
 ghost use Rattle.homeo_linear.specs.Standing.{forms_of};
 
-use crate::form::Form;
-use crate::running::RunningSum;
+use crate::form::{Form, RunningSum};
 use crate::standing::Standing;
 use homeo_split::{place_of, place_of_temp};
 use homeo_syntax::{LExpr, Memory};
@@ -61,7 +60,7 @@ pub fn checked_form(alloc: Global, standing: &Standing, e: &LExpr) -> Result<Opt
 fn checked_sum(alloc: Global, standing: &Standing, es: &[LExpr]) -> Result<Option<Form>, Memory>
     ensures { IfOk result (Checked (forms_of standing.now) (Sum (low_exprs (map plain_lexpr es.now)))) }
 {
-    let mut total = RunningSum::with_room(alloc, es.len())?;
+    let mut total = RunningSum::new(alloc);
     for e in es {
         let Some(part) = checked_form(alloc, standing, e)? else {
             return Ok(None);

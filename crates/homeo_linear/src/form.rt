@@ -3,17 +3,20 @@
 ghost use Rattle.std.specs.Prelude.{◌≡◌, ◌↔◌, IsTrue, pos, IfOk};
 ghost use Rattle.homeo_meaning.specs.Small.{IsSmall};
 ghost use Rattle.homeo_plan.specs.FormSizes.{Numbers};
-ghost use Rattle.homeo_plan.specs.Linear.{AreInOrder, constant_form, delta_form, add_forms, scale_form, multiply_forms, mix_forms, is_pure, support, deltas_of};
+ghost use Rattle.homeo_plan.specs.Linear.{AreInOrder, constant_form, delta_form, add_forms, scale_form, multiply_forms, mix_forms, is_pure, support};
 ghost use Rattle.homeo_plan.specs.PlanView.{plain_linear};
 ghost use Rattle.homeo_plan.specs.Limit.{form_limit};
 ghost use Rattle.homeo_follow.specs.Follow.{object_form};
 ghost use Rattle.homeo_linear.specs.inner.Terms.{term_form, beside};
+
+mod running;
 
 use crate::deltas::{self, push_deltas_of};
 use crate::numbers::{added, are_small, is_small_number, multiplied, widened};
 use crate::terms;
 use homeo_plan::{Delta, Linear, Term};
 use homeo_syntax::{List, Memory};
+pub(crate) use running::RunningSum;
 use std::alloc::Global;
 use std::marker::Model;
 
@@ -197,14 +200,6 @@ impl Form {
         self.constant
     }
 
-    /// The terms, in the order of their deltas, each delta once.
-    pub(crate) fn terms(&self) -> &[Term]
-        ensures terms { result.now ≡ self.now.terms }
-        ensures order { AreInOrder (deltas_of result.now) }
-    {
-        self.terms.as_slice()
-    }
-
     /// The form as plain data.
     pub fn into_linear(self) -> Linear
         ensures { plain_linear result ≡ self }
@@ -329,13 +324,6 @@ impl Total {
             mixed: self.mixed,
             room: self.room,
         })
-    }
-
-    /// The constant so far.
-    pub(crate) fn constant(&self) -> i128
-        ensures { result ≡ self.now.constant }
-    {
-        self.constant
     }
 
     /// The sum as a form.

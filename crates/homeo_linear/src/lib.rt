@@ -13,7 +13,6 @@ mod formulas;
 mod items;
 mod numbers;
 mod residuals;
-mod running;
 mod standing;
 mod terms;
 

@@ -6,7 +6,7 @@ ghost use Rattle.homeo_meaning.specs.Small.{IsSmall};
 ghost use Rattle.homeo_plan.specs.Linear.{AreInOrder, same_delta, deltas_of, add_term, add_terms, scale_terms};
 ghost use Rattle.homeo_plan.specs.Limit.{form_limit};
 ghost use Rattle.homeo_linear.specs.inner.Order.{IsPlace, begins_with};
-ghost use Rattle.homeo_linear.specs.inner.Terms.{AreWithin, AreSmall, AreAddedUp, sum_limit, add_at};
+ghost use Rattle.homeo_linear.specs.inner.Terms.{AreWithin, AreSmall, AreAddedUp, sum_limit, add_at, share, factor_at};
 
 use crate::deltas::is_before;
 use crate::numbers::{added, multiplied};
@@ -27,6 +27,34 @@ fn place(terms: &[Term], delta: Delta) -> usize
         place -= 1;
     }
     0
+}
+
+/// The same, looked for by halving.
+fn place_by_halving(terms: &[Term], delta: Delta) -> usize
+    requires { AreInOrder (deltas_of terms.now) }
+    ensures { IsPlace delta (deltas_of terms.now) result }
+{
+    terms.partition_point(|term| is_before(term.delta, delta))
+}
+
+/// The factor of a delta among terms in order, 0 where it has none.
+pub(crate) fn factor_of(terms: &[Term], delta: Delta) -> i128
+    requires { AreInOrder (deltas_of terms.now) }
+    ensures { result ≡ factor_at delta terms.now }
+{
+    let place = place_by_halving(terms, delta);
+    if place < terms.len() {
+        share(&terms[place], delta)
+    } else {
+        0
+    }
+}
+
+/// The term's factor, if it is one of the delta.
+fn share(term: &Term, delta: Delta) -> i128
+    ensures { result ≡ share delta term.now.delta term.now.factor }
+{
+    if is_of(term, delta) { term.factor } else { 0 }
 }
 
 /// Whether the term at a place is one of the delta.

@@ -53,7 +53,7 @@ checked_form-returns-in-None t c =
     (gone f (plain_lexpr c.deref.result.now) c.in_ok-part-in-Neg.field-0 c.in-None.is c.in_ok-part-in-Neg.ensures)
 
 pub checked_sum-loop-e-init : goal.checked_sum-loop-e-init
-checked_sum-loop-e-init t c = sum_start (forms_of c.args.standing.now) c.args.es.now c.in_ok-total.total c.in_ok-total.ensures
+checked_sum-loop-e-init t c = sum_start (forms_of c.args.standing.now) c.args.es.now c.new-total.result c.new-total.ensures
 
 pub checked_sum-returns-in_default : goal.checked_sum-returns-in_default
 checked_sum-returns-in_default t c =

@@ -7,17 +7,17 @@ use Rattle.homeo_linear.specs.inner.Terms.{sum_limit}
 use Rattle.homeo_linear.proofs.Adding.{limit_wider}
 use Rattle.homeo_linear.proofs.RunningSums.{factor_put}
 use Rattle.homeo_linear.proofs.Widths.{kept_is, sum_kept}
-use Rattle.homeo_linear.proofs.running.add_factor.Goals as goal
+use Rattle.homeo_linear.proofs.form.running.add_factor.Goals as goal
 
 pub added-sum-requires-clause-right : goal.added-sum-requires-clause-right
 added-sum-requires-clause-right c =
-    subst (IsSmall sum_limit) (sym (kept_is c.factor_so_far.result _ (search rules) c.factor_so_far.ensures)) (limit_wider _ c.requires.small)
+    subst (IsSmall sum_limit) (sym (kept_is c.factor_by_now.result _ (search rules) c.factor_by_now.ensures)) (limit_wider _ c.requires.small)
 
 pub returns-clause-sums : goal.returns-clause-sums
 returns-clause-sums c =
-    let m = c.args.factors.now in
+    let m = c.args.changed.now in
     let t = c.args.term.now in
-    let sum : to_z w128 (of_z w128 c.added-sum.result) ≡ t.factor +ℤ factor_in m t.delta =
-    sum_kept c.added-sum.result t.factor c.factor_so_far.result (search rules) (search rules) (search rules) c.added-sum.ensures
-    ∙ ap (λ z. t.factor +ℤ z) c.factor_so_far.ensures in
-    factor_put m c.insert.new.self t _ c.in_ok-insert.ensures.updates.0 sum
+    let sum : to_z w128 (of_z w128 c.added-sum.result) ≡ t.factor +ℤ factor_in m c.args.first.now t.delta =
+    sum_kept c.added-sum.result t.factor c.factor_by_now.result (search rules) (search rules) (search rules) c.added-sum.ensures
+    ∙ ap (λ z. t.factor +ℤ z) c.factor_by_now.ensures in
+    factor_put m c.insert.new.self c.args.first.now t _ c.in_ok-insert.ensures.updates.0 sum
