@@ -1,5 +1,5 @@
 -- The state that is reached, where nothing was set and after one more place was set.
-use Rattle.std.proofs.Common.{◌≡◌, ℤ, Bool, true, false, cond, Option, Some, None, refl, ap, ◌∙◌}
+use Rattle.std.proofs.Common.{◌≡◌, ℤ, Bool, true, false, cond, Option, Some, refl, ap, ◌∙◌}
 use Rattle.std.specs.HashMap.{IsEmpty, get, get_by}
 use Rattle.std.specs.Map.{lookup}
 use Rattle.std.specs.Option.{unwrap_or}
