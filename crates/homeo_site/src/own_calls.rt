@@ -23,6 +23,9 @@ use homeo_syntax::Memory;
 use std::alloc::Global;
 use std::sync::Arc;
 
+/// How many numbers of what it touches are kept of a call for each step of its program, and for how many steps more.
+const KEPT_FOR_A_STEP: usize = 8;
+
 /// What a ground call's site runs for it through a round: a program that does there what the call's residual does, and what of the
 /// site's treaty that touches.
 #[derive(Drop)]
@@ -34,7 +37,8 @@ pub struct OwnCall {
     pub freezes: homeo_syntax::List<u32>,
 }
 
-/// What is run for the ground calls of a round. Each is made when it is first asked for.
+/// What is run for the ground calls of a round. Each is made when it is first asked for, and kept, unless it touches very many clauses
+/// and freezes for its length: it is then made whenever it is asked for.
 #[derive(Drop)]
 pub struct OwnCalls {
     calls: Vec<Option<Arc<OwnCall, Global>>>,
@@ -84,6 +88,18 @@ fn own_call(
     let taken = taken_by(alloc, c, base, number)?;
     let own = own_call_of(alloc, &taken, base, index)?;
     Ok(own)
+}
+
+/// Whether what is run for a call is kept: where it touches few clauses and freezes for each step that it has. Else the numbers of what
+/// many calls touch could take far more memory than their programs.
+fn is_kept(own: &OwnCall) -> bool {
+    let touched = own
+        .clauses
+        .as_slice()
+        .len()
+        .saturating_add(own.freezes.as_slice().len());
+    let steps = own.program.steps.as_slice().len();
+    touched / KEPT_FOR_A_STEP <= steps.saturating_add(KEPT_FOR_A_STEP)
 }
 
 /// Nothing, so many times.
@@ -145,7 +161,11 @@ impl OwnCalls {
             return Ok(Arc::try_clone(own)?);
         }
         let made = own_call(alloc, c, base, index, place)?;
+        let is_kept = is_kept(&made);
         let own = Arc::new(alloc, made)?;
+        if !is_kept {
+            return Ok(own);
+        }
         let kept = Arc::try_clone(&own)?;
         put(&mut self.calls, place, kept);
         Ok(own)

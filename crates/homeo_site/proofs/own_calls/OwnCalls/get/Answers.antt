@@ -60,6 +60,16 @@ returns-clause-made c =
     (made_more w base c.args.call c.place-place.result c.place-place.ensures.within c.place-place.ensures.place c.args.self.now.calls.items c.requires.made
     c.in_ok-kept.kept (subst (IsOwnCall w base (planned_at w c.args.call)) (sym (c.in_ok-kept.ensures ∙ c.in_ok-own.ensures.ok)) own))
 
+pub returns-then-not-is_kept-clause-own : goal.returns-then-not-is_kept-clause-own
+unfolding definitions
+returns-then-not-is_kept-clause-own c =
+    let w = plain_workload c.args.c.now in
+    let base = c.args.base.now.items in
+    let own =
+    ground_call w base c.args.call c.place-place.result c.place-place.ensures.within c.place-place.ensures.place c.args.self.now.calls.items c.requires.made
+    c.in_ok-made.made c.in_ok-made.ensures in
+    subst (IsOwnCall w base (planned_at w c.args.call)) (sym c.in_ok-own.ensures.ok) own
+
 pub returns-clause-own : goal.returns-clause-own
 unfolding definitions
 returns-clause-own c =
