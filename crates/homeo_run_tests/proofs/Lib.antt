@@ -1,2 +1,3 @@
 pub mod FirstCalls
+pub mod KeptResiduals
 pub mod SiteSteps

@@ -6,7 +6,7 @@ use Rattle.homeo_syntax.specs.SourceView.{plain_workload}
 use Rattle.homeo_syntax.specs.declared.workload.Workload.{Workload}
 use Rattle.homeo_meaning.specs.Acceptance.{IsAccepted}
 use Rattle.homeo_meaning.specs.Ground.{plain_ground}
-use Rattle.homeo_site.proofs.PlanCalls.{can_keep}
+use Rattle.homeo_run_tests.proofs.KeptResiduals.{can_keep}
 use Rattle.homeo_run_tests.proofs.effects.first_effects.Goals as goal
 
 pub residual-requires-clause-within : goal.residual-requires-clause-within
