@@ -18,7 +18,7 @@ use Rattle.homeo_plan.specs.Linear.{AreInOrder, Linear, same_delta, deltas_of, a
 use Rattle.homeo_plan.specs.declared.forms.Delta.{Delta}
 use Rattle.homeo_plan.specs.declared.forms.Term.{Term}
 use Rattle.homeo_linear.specs.inner.Key.{definitions}
-use Rattle.homeo_linear.specs.inner.Running.{DeltaKey, key_cmp, key_of, Factors, factor_in, factor_with, IsRunning}
+use Rattle.homeo_linear.specs.inner.Running.{DeltaKey, key_cmp, key_of, AreWith, Factors, factor_in, factor_and, factor_with, IsRunning}
 use Rattle.homeo_linear.specs.inner.Terms.{AreSmall, share, factor_at}
 use Rattle.homeo_linear.proofs.Adding.{order_adds}
 use Rattle.homeo_linear.proofs.DeltasInOrder.{same_is}
@@ -70,7 +70,7 @@ key_same d e =
     then_both (nat_cmp e.object d.object) (nat_cmp e.site d.site) ∙ ap₂ ◌&&◌ (nat_same e.object d.object) (nat_same e.site d.site)
 
 module _ (m n : Factors) (first : List Term) (t : Term) (w : ℤ) (u : (q : DeltaKey) → get key_cmp n q ≡ cond (is_eq (key_cmp (key_of t.delta) q)) (Some w) (get key_cmp m q)) where
-  pub factor_put : w ≡ t.factor +ℤ factor_in m first t.delta → (d : Delta) → factor_in n first d ≡ share d t.delta t.factor +ℤ factor_in m first d
+  pub factor_put : w ≡ t.factor +ℤ factor_in m first t.delta → (d : Delta) → factor_in n first d ≡ factor_and m first t d
   factor_put p d =
       ap (λ o. unwrap_or o (factor_at d first)) (u (key_of d))
       ∙ ap (λ b. unwrap_or (cond b (Some w) (get key_cmp m (key_of d))) (factor_at d first)) (key_same d t.delta)
@@ -88,7 +88,7 @@ module _ (m : Factors) (first ts : List Term) where
     pub left : (d : Delta) → factor_with n first (drop i ts) d ≡ factor_with m first ts d
 
   module _ (i : ℕ) (n k : Factors) (x t : Term) (l : i < length ts) (p : t ≡ get_or ts i x) (s : FactorsSoFar i n)
-      (u : (d : Delta) → factor_in k first d ≡ share d t.delta t.factor +ℤ factor_in n first d) where
+      (u : (d : Delta) → factor_in k first d ≡ factor_and n first t d) where
     next : drop i ts ≡ t ∷ drop (i + 1) ts
     next =
         let e : drop i ts ≡ get_or ts i x ∷ drop (i + 1) ts = rw add-one (drop-cons ts i x l) in
@@ -121,7 +121,7 @@ module _ (m : Factors) (first ts : List Term) where
         subst (IsSmall form_limit)
         (sym (left_next t.delta) ∙ ap (λ z. z +ℤ factor_in k first t.delta) none ∙ add_zero (factor_in k first t.delta)) (h t.delta)
 
-  pub factors_end : (i : ℕ) (n : Factors) → length ts ≤ i → FactorsSoFar i n → (d : Delta) → factor_in n first d ≡ factor_with m first ts d
+  pub factors_end : (i : ℕ) (n : Factors) → length ts ≤ i → FactorsSoFar i n → AreWith m first ts n
   unfolding definitions
   factors_end i n l s d =
       sym (add_zero (factor_in n first d)) ∙ sym (ap (λ l. factor_with n first l d) (drop_of_length-le ts l)) ∙ s.left d
@@ -189,7 +189,7 @@ module _ (a b : Linear) (n k : ℤ) (ts us xs first : List Term) (ds es : List D
 
   pub running_more :
       (c : Factors) (z w : ℤ) (vs : List Term) → vs ≡ ts ++ xs → AreSmall xs → w ≡ z → IsSmall form_limit z →
-      ((d : Delta) → factor_in c first d ≡ factor_with m first xs d) → ((d : Delta) → IsSmall form_limit (factor_with m first xs d)) → IsRunning w vs settled c
+      AreWith m first xs c → ((d : Delta) → IsSmall form_limit (factor_with m first xs d)) → IsRunning w vs settled c
   running_more c z w vs p t q h u v =
       subst (λ l. IsRunning w l settled c) (sym p)
       (record {

@@ -23,7 +23,8 @@ fn kept(form: Form) -> Option<Form>
 }
 
 /// The form of an expression, where no constant and no factor that is met in it is above 4 * 10^18 in size, with partial sums
-/// and products from left to right; `None` where one is.
+/// and products from left to right; `None` where one is. A sum takes time in proportion to the terms of its parts together, and
+/// to the logarithm of how many there are; a product to those of each partial product.
 ///
 /// # Errors
 ///

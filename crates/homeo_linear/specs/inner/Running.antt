@@ -9,7 +9,7 @@ use Rattle.homeo_plan.specs.Limit.{form_limit}
 use Rattle.homeo_plan.specs.Linear.{AreInOrder, deltas_of}
 use Rattle.homeo_plan.specs.declared.forms.Delta.{Delta}
 use Rattle.homeo_plan.specs.declared.forms.Term.{Term}
-use Rattle.homeo_linear.specs.inner.Terms.{AreSmall, factor_at}
+use Rattle.homeo_linear.specs.inner.Terms.{AreSmall, share, factor_at}
 
 -- an object and a site
 abbrev pub DeltaKey : Type 0
@@ -30,9 +30,17 @@ Factors = BTreeMap DeltaKey ℤ
 abbrev pub factor_in : Factors → List Term → Delta → ℤ
 factor_in m first d = unwrap_or (get key_cmp m (key_of d)) (factor_at d first)
 
--- the factor with those that more terms have
+-- the factor with a term's
+abbrev pub factor_and : Factors → List Term → Term → Delta → ℤ
+factor_and m first t d = share d t.delta t.factor +ℤ factor_in m first d
+
+-- the factor with those of terms
 abbrev pub factor_with : Factors → List Term → List Term → Delta → ℤ
 factor_with m first ts d = factor_at d ts +ℤ factor_in m first d
+
+-- n has them
+abbrev pub AreWith : Factors → List Term → List Term → Factors → Type 0
+AreWith m first ts n = (d : Delta) → factor_in n first d ≡ factor_with m first ts d
 
 -- of a sum with the constant n and these terms, of which the first are added up, the numbers are small, and m has the factors
 -- of the other terms' deltas

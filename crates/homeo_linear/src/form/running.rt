@@ -1,14 +1,14 @@
 //! Sums of forms whose partial sums are looked at.
 
-ghost use Rattle.std.specs.Prelude.{◌≡◌, ◌↔◌, ◌+ℤ◌, pos, IsTrue, IfOk, OnOk};
+ghost use Rattle.std.specs.Prelude.{◌≡◌, ◌↔◌, pos, IsTrue, IfOk, OnOk};
 ghost use Rattle.homeo_meaning.specs.Small.{IsSmall};
 ghost use Rattle.homeo_plan.specs.FormSizes.{Numbers};
 ghost use Rattle.homeo_plan.specs.Limit.{form_limit};
 ghost use Rattle.homeo_plan.specs.Linear.{AreInOrder, constant_form, add_forms, deltas_of};
 ghost use Rattle.homeo_plan.specs.declared.forms.Delta.{Delta};
 ghost use Rattle.homeo_linear.specs.Checked.{Kept};
-ghost use Rattle.homeo_linear.specs.inner.Running.{factor_in, factor_with};
-ghost use Rattle.homeo_linear.specs.inner.Terms.{AreSmall, share};
+ghost use Rattle.homeo_linear.specs.inner.Running.{AreWith, factor_in, factor_and, factor_with};
+ghost use Rattle.homeo_linear.specs.inner.Terms.{AreSmall};
 
 use super::{Form, LEAST_ROOM, Total};
 use crate::numbers::{added, is_small_number};
@@ -161,7 +161,7 @@ fn add_factors(
     requires order { AreInOrder (deltas_of terms.now) }
     requires terms_small { AreSmall terms.now }
     requires small { (d : Delta) → IsSmall form_limit (factor_in changed.old first.now d) }
-    ensures sums { IfOk result (λ b. IsTrue b → (d : Delta) → factor_in changed.new first.now d ≡ factor_with changed.old first.now terms.now d) }
+    ensures sums { IfOk result (λ b. IsTrue b → AreWith changed.old first.now terms.now changed.new) }
     ensures small { IfOk result (λ b. IsTrue b ↔ ((d : Delta) → IsSmall form_limit (factor_with changed.old first.now terms.now d))) }
 {
     for term in terms {
@@ -181,7 +181,7 @@ fn add_factor(
     requires first_order { AreInOrder (deltas_of first.now) }
     requires factor { IsSmall form_limit term.now.factor }
     requires small { IsSmall form_limit (factor_in changed.old first.now term.now.delta) }
-    ensures sums { OnOk result ((d : Delta) → factor_in changed.new first.now d ≡ share d term.now.delta term.now.factor +ℤ factor_in changed.old first.now d) }
+    ensures sums { OnOk result ((d : Delta) → factor_in changed.new first.now d ≡ factor_and changed.old first.now term.now d) }
     ensures small { IfOk result (λ b. IsTrue b ↔ IsSmall form_limit (factor_in changed.new first.now term.now.delta)) }
 {
     let sum = added(term.factor, factor_by_now(changed, first, term.delta));
