@@ -1,5 +1,5 @@
 -- Sums of forms whose numbers are small: one more form, and the factors of its deltas.
-use Rattle.std.proofs.Common.{◌≡◌, ℕ, ◌+◌, ◌<◌, ◌≤◌, Bool, true, false, cond, ◌&&◌, ◌==◌, Some, List, [], ◌∷◌, ◌++◌, take, drop, get_or, length, ℤ, pos, ◌+ℤ◌, refl, sym, ap, ap₂, ◌∙◌, subst, add-one, drop_of_length-le, length-append, arith}
+use Rattle.std.proofs.Common.{◌≡◌, ℕ, ◌+◌, ◌<◌, ◌≤◌, Bool, true, false, cond, ◌&&◌, ◌==◌, Some, List, [], ◌∷◌, ◌++◌, drop, get_or, length, ℤ, pos, ◌+ℤ◌, refl, sym, ap, ap₂, ◌∙◌, subst, add-one, drop_of_length-le, append-nil, append_assoc, arith}
 use Rattle.std.proofs.Math.Seq.{drop-cons}
 use Rattle.std.specs.declared.cmp.Ordering.{Ordering}
 use Rattle.std.specs.declared.cmp.Ordering.TheVariants.{Less, Equal, Greater}
@@ -8,7 +8,6 @@ use Rattle.std.specs.Map.{lookup}
 use Rattle.std.specs.Option.{unwrap_or}
 use Rattle.std.specs.Ordering.{nat_cmp, ordering_then, is_eq}
 use Rattle.std.proofs.lemmas.Bool.Decides.{nat_tests}
-use Rattle.std.proofs.lemmas.List.{take_all, take-append-le}
 use Rattle.homeo_meaning.specs.Key.{definitions as meaning_definitions}
 use Rattle.homeo_meaning.specs.Small.{IsSmall}
 use Rattle.homeo_plan.specs.Key.{definitions as plan_definitions}
@@ -22,7 +21,7 @@ use Rattle.homeo_linear.specs.inner.Running.{DeltaKey, key_cmp, key_of, AreWith,
 use Rattle.homeo_linear.specs.inner.Terms.{AreSmall, share, factor_at}
 use Rattle.homeo_linear.proofs.Adding.{order_adds}
 use Rattle.homeo_linear.proofs.DeltasInOrder.{same_is}
-use Rattle.homeo_linear.proofs.FormParts.{form_of, AreFormParts, small_terms, small_constant, both_small}
+use Rattle.homeo_linear.proofs.FormParts.{form_of, AreFormParts, none_small, small_terms, small_constant, both_small, total_of}
 use Rattle.homeo_linear.proofs.TermsAddedUp.{adds_append as terms_append, add_zero, zero_add, add_assoc, add_swap, at_adds, above_none, first_at}
 
 -- ---- numbers that are small at each delta
@@ -146,22 +145,26 @@ at_append d ts us =
     sym (at_sum (ts ++ us) d) ∙ ap (factor_at d) (terms_append ts us []) ∙ at_adds d us (add_terms ts []) ∙ ap (λ z. factor_at d us +ℤ z) (at_sum ts d)
 
 -- ---- a sum of one form
-module _ (a : Linear) (n z : ℤ) (ts : List Term) (ds : List Delta) (e : form_of n ts ds ≡ a) (o : AreFormParts ts ds) (h : Numbers (IsSmall form_limit) a) where
-  pub running_of : (m : Factors) (settled : ℕ) → m.entries ≡ [] → settled ≡ length ts → z ≡ n → IsRunning z ts settled m
+module _ (a : Linear) (n z : ℤ) (ts us : List Term) (ds : List Delta) (e : form_of n ts ds ≡ a) (o : AreFormParts ts ds) (none : us ≡ []) (q : z ≡ n) where
+  all_first : ts ++ us ≡ ts
+  all_first = ap (λ l. ts ++ l) none ∙ append-nil ts
+
+  pub running_of : (m : Factors) → m.entries ≡ [] → Numbers (IsSmall form_limit) a → IsRunning z ts us m
   unfolding definitions
-  running_of m settled p l q =
+  running_of m p h =
       let terms = small_terms a n ts ts ds e refl h in
-      let whole : take settled ts ≡ ts = take_all settled ts (omega (arith, l)) in
+      let same : (d : Delta) → factor_at d ts ≡ factor_at d (ts ++ us) = λ d. ap (factor_at d) (sym all_first) in
       record {
         constant = subst (IsSmall form_limit) (sym q) (small_constant a n ts ds e h.constant);
-        terms = terms;
-        sums = small_at_each ts o.0.order terms;
-        within = omega (arith, l);
-        order = subst (λ l. AreInOrder (deltas_of l)) (sym whole) o.0.order;
-        factors = λ d.
-            ap (λ es. unwrap_or (lookup (λ k. is_eq (key_cmp (key_of d) k)) es) (factor_at d (take settled ts))) p
-            ∙ ap (factor_at d) whole;
+        first_small = terms;
+        later_small = none_small us none;
+        sums = λ d. subst (IsSmall form_limit) (same d) (small_at_each ts o.0.order terms d);
+        order = o.0.order;
+        factors = λ d. ap (λ es. unwrap_or (lookup (λ k. is_eq (key_cmp (key_of d) k)) es) (factor_at d ts)) p ∙ same d;
       }
+
+  pub running_is : form_of z (add_terms (ts ++ us) []) (add_deltas ds []) ≡ a
+  running_is = ap (λ l. form_of z (add_terms l []) (add_deltas ds [])) all_first ∙ total_of a n z ts ds e q o
 
 -- ---- a sum with one more form
 pub constant_from :
@@ -171,42 +174,46 @@ unfolding plan_definitions
 constant_from a b n k ts us ds es e f h =
     subst (IsSmall form_limit) (ap₂ ◌+ℤ◌ (sym (ap (λ (c : Linear). c.constant) f)) (sym (ap (λ (c : Linear). c.constant) e))) h.constant
 
-module _ (a b : Linear) (n k : ℤ) (ts us xs first : List Term) (ds es : List Delta) (settled : ℕ) (m : Factors)
-    (e : form_of n (add_terms ts []) (add_deltas ds []) ≡ a) (f : form_of k us es ≡ b) (x : xs ≡ us) (y : first ≡ take settled ts)
-    (s : IsRunning n ts settled m) where
-  factor_now : (d : Delta) → factor_in m first d ≡ factor_at d ts
-  factor_now d = ap (λ l. factor_in m l d) y ∙ s.factors d
-
-  at_more : (d : Delta) → factor_with m first xs d ≡ factor_at d (ts ++ xs)
-  at_more d = ap (λ z. factor_at d xs +ℤ z) (factor_now d) ∙ sym (at_append d ts xs)
+module _ (a b : Linear) (n k : ℤ) (ts ws us xs first : List Term) (ds es : List Delta) (m : Factors)
+    (e : form_of n (add_terms (ts ++ ws) []) (add_deltas ds []) ≡ a) (f : form_of k us es ≡ b) (x : xs ≡ us) (y : first ≡ ts)
+    (s : IsRunning n ts ws m) where
+  at_more : (d : Delta) → factor_with m first xs d ≡ factor_at d ((ts ++ ws) ++ xs)
+  at_more d =
+      ap (λ z. factor_at d xs +ℤ z) (ap (λ l. factor_in m l d) y ∙ s.factors d) ∙ sym (at_append d (ts ++ ws) xs)
 
   pub factors_from : Numbers (IsSmall form_limit) (add_forms b a) → (d : Delta) → IsSmall form_limit (factor_with m first xs d)
   unfolding definitions plan_definitions
   factors_from h d =
-      let whole : add_terms (ts ++ xs) [] ≡ add_terms b.terms a.terms =
-      terms_append ts xs [] ∙ ap₂ add_terms (x ∙ ap (λ (c : Linear). c.terms) f) (ap (λ (c : Linear). c.terms) e) in
-      subst (IsSmall form_limit) (sym (at_more d)) (small_sums (ts ++ xs) (subst AreSmall (sym whole) h.factors) d)
+      let whole : add_terms ((ts ++ ws) ++ xs) [] ≡ add_terms b.terms a.terms =
+      terms_append (ts ++ ws) xs [] ∙ ap₂ add_terms (x ∙ ap (λ (c : Linear). c.terms) f) (ap (λ (c : Linear). c.terms) e) in
+      subst (IsSmall form_limit) (sym (at_more d)) (small_sums ((ts ++ ws) ++ xs) (subst AreSmall (sym whole) h.factors) d)
 
-  pub running_more :
-      (c : Factors) (z w : ℤ) (vs : List Term) → vs ≡ ts ++ xs → AreSmall xs → w ≡ z → IsSmall form_limit z →
-      AreWith m first xs c → ((d : Delta) → IsSmall form_limit (factor_with m first xs d)) → IsRunning w vs settled c
-  running_more c z w vs p t q h u v =
-      subst (λ l. IsRunning w l settled c) (sym p)
-      (record {
-        constant = subst (IsSmall form_limit) (sym q) h;
-        terms = both_small ts xs (ts ++ xs) refl s.terms t;
-        sums = λ d. subst (IsSmall form_limit) (at_more d) (v d);
-        within = omega (arith, s.within, length-append ts xs);
-        order = subst (λ l. AreInOrder (deltas_of l)) (sym same) s.order;
-        factors = λ d. ap (λ l. factor_in c l d) (same ∙ sym y) ∙ u d ∙ at_more d;
-      })
-    where
-      same : take settled (ts ++ xs) ≡ take settled ts
-      same = take-append-le settled ts xs s.within
+  module _ (vs : List Term) (p : vs ≡ ws ++ xs) where
+    pub behind_all : ts ++ vs ≡ (ts ++ ws) ++ xs
+    behind_all = ap (λ l. ts ++ l) p ∙ sym (append_assoc ts ws xs)
+
+    pub running_more :
+        (c : Factors) (z w : ℤ) → AreSmall xs → w ≡ z → IsSmall form_limit z → AreWith m first xs c →
+        ((d : Delta) → IsSmall form_limit (factor_with m first xs d)) → IsRunning w ts vs c
+    running_more c z w t q h u v =
+        let same : (d : Delta) → factor_with m first xs d ≡ factor_at d (ts ++ vs) = λ d. at_more d ∙ ap (factor_at d) (sym behind_all) in
+        record {
+          constant = subst (IsSmall form_limit) (sym q) h;
+          first_small = s.first_small;
+          later_small = both_small ws xs vs p s.later_small t;
+          sums = λ d. subst (IsSmall form_limit) (same d) (v d);
+          order = s.order;
+          factors = λ d. ap (λ l. factor_in c l d) (sym y) ∙ u d ∙ same d;
+        }
 
 -- the numbers of a sum
-pub running_small : (n z : ℤ) (ts : List Term) (ds : List Delta) (settled : ℕ) (m : Factors) → z ≡ n → IsRunning n ts settled m →
-    Numbers (IsSmall form_limit) (form_of z (add_terms ts []) (add_deltas ds []))
-unfolding definitions
-running_small n z ts ds settled m e s =
-    record { constant = subst (IsSmall form_limit) (sym e) s.constant; factors = sums_small ts s.sums }
+module _ (n z : ℤ) (ts ws vs : List Term) (ds : List Delta) (m : Factors) (p : vs ≡ ts ++ ws) (e : z ≡ n) (s : IsRunning n ts ws m) where
+  pub running_small : Numbers (IsSmall form_limit) (form_of z (add_terms vs []) (add_deltas ds []))
+  unfolding definitions
+  running_small = record {
+    constant = subst (IsSmall form_limit) (sym e) s.constant;
+    factors = sums_small vs (λ d. subst (λ l. IsSmall form_limit (factor_at d l)) (sym p) (s.sums d));
+  }
+
+  pub running_terms_small : AreSmall vs
+  running_terms_small = both_small ts ws vs p s.first_small s.later_small

@@ -1,5 +1,5 @@
 -- The factors of a sum in the making, by their deltas.
-use Rattle.std.specs.Prelude.{◌≡◌, ℕ, ◌≤◌, List, take, length, ℤ, ◌+ℤ◌}
+use Rattle.std.specs.Prelude.{◌≡◌, ℕ, List, ◌++◌, ℤ, ◌+ℤ◌}
 use Rattle.std.specs.declared.cmp.Ordering.{Ordering}
 use Rattle.std.specs.Ordering.{nat_cmp, ordering_then}
 use Rattle.std.specs.Option.{unwrap_or}
@@ -43,11 +43,11 @@ abbrev pub AreWith : Factors → List Term → List Term → Factors → Type 0
 AreWith m first ts n = (d : Delta) → factor_in n first d ≡ factor_with m first ts d
 
 -- of a sum with the constant n and these terms, of which the first are added up, the numbers are small, and m has the factors
--- of the other terms' deltas
-pub record IsRunning (n : ℤ) (ts : List Term) (settled : ℕ) (m : Factors) : Type 0 where
+-- of the later terms' deltas
+pub record IsRunning (n : ℤ) (first later : List Term) (m : Factors) : Type 0 where
   pub constant : IsSmall form_limit n
-  pub terms : AreSmall ts
-  pub sums : (d : Delta) → IsSmall form_limit (factor_at d ts)
-  pub within : settled ≤ length ts
-  pub order : AreInOrder (deltas_of (take settled ts))
-  pub factors : (d : Delta) → factor_in m (take settled ts) d ≡ factor_at d ts
+  pub first_small : AreSmall first
+  pub later_small : AreSmall later
+  pub sums : (d : Delta) → IsSmall form_limit (factor_at d (first ++ later))
+  pub order : AreInOrder (deltas_of first)
+  pub factors : (d : Delta) → factor_in m first d ≡ factor_at d (first ++ later)

@@ -10,7 +10,7 @@ ghost use Rattle.homeo_linear.specs.Checked.{Kept};
 ghost use Rattle.homeo_linear.specs.inner.Running.{AreWith, factor_in, factor_and, factor_with};
 ghost use Rattle.homeo_linear.specs.inner.Terms.{AreSmall};
 
-use super::{Form, LEAST_ROOM, Total};
+use super::{Form, Total};
 use crate::numbers::{added, is_small_number};
 use crate::terms::factor_of;
 use homeo_plan::{Delta, Term};
@@ -19,31 +19,35 @@ use std::alloc::Global;
 use std::collections::BTreeMap;
 use std::marker::Model;
 
-/// A sum of forms in the making, whose numbers are small. A short form is put behind the terms and mixed deltas that stand there,
-/// and only the factors that it changes are looked at; where many stand there so, or a long form comes, they are added up.
+/// How many terms and mixed deltas may stand in a sum that are not added up, beside a part of the others.
+const LEAST_ROOM: usize = 256;
+
+/// A sum of forms in the making, whose numbers are small. A short form is put behind what stands there, and only the factors that
+/// it changes are looked at; where much stands there so, or a long form comes, all is added up.
 #[derive(Drop)]
 pub(crate) struct RunningSum {
     constant: i128,
-    terms: Vec<Term>,
+    /// Terms that are added up.
+    first: Vec<Term>,
+    /// Later terms, as they were put in.
+    later: Vec<Term>,
     mixed: Vec<Delta>,
-    /// How many of the terms are added up: they stand first.
-    settled: usize,
     /// How many terms and mixed deltas may stand there.
     room: usize,
-    /// What the factors of the other terms' deltas are by now.
+    /// What the factors of the later terms' deltas are by now.
     changed: BTreeMap<(u32, u32), i128>,
 }
 
 impl Model for RunningSum {
-    ghost use Rattle.std.specs.Prelude.{[]};
+    ghost use Rattle.std.specs.Prelude.{[], ◌++◌};
     ghost use Rattle.homeo_plan.specs.Linear.{Linear, add_terms, add_deltas};
     ghost use Rattle.homeo_linear.specs.inner.Running.{IsRunning};
 
     ghost Value = { Linear };
 
-    ghost view = { λ s. record { constant = s.constant; terms = add_terms s.terms.items []; mixed = add_deltas s.mixed.items [] } };
+    ghost view = { λ s. record { constant = s.constant; terms = add_terms (s.first.items ++ s.later.items) []; mixed = add_deltas s.mixed.items [] } };
 
-    ghost invariant = { λ s. IsRunning s.constant s.terms.items s.settled s.changed };
+    ghost invariant = { λ s. IsRunning s.constant s.first.items s.later.items s.changed };
 }
 
 impl RunningSum {
@@ -59,14 +63,13 @@ impl RunningSum {
         requires { Numbers (IsSmall form_limit) form }
         ensures { result ≡ form }
     {
-        let settled = form.terms.len();
-        let held = settled.saturating_add(form.mixed.len());
+        let held = form.terms.len().saturating_add(form.mixed.len());
         RunningSum {
             constant: form.constant,
-            terms: form.terms,
+            first: form.terms,
+            later: Vec::new(alloc),
             mixed: form.mixed,
-            settled,
-            room: held.saturating_add(held / 8).saturating_add(LEAST_ROOM),
+            room: held.saturating_add(held / 16).saturating_add(LEAST_ROOM),
             changed: BTreeMap::new(alloc),
         }
     }
@@ -84,7 +87,8 @@ impl RunningSum {
     }
 
     fn has_room_for(&self, form: &Form) -> bool {
-        let held = self.terms.len().saturating_add(self.mixed.len());
+        let terms = self.first.len().saturating_add(self.later.len());
+        let held = terms.saturating_add(self.mixed.len());
         let more = form.terms.len().saturating_add(form.mixed.len());
         held.saturating_add(more) <= self.room
     }
@@ -98,21 +102,21 @@ impl RunningSum {
         if !is_small_number(constant) {
             return Ok(None);
         }
-        let mut terms = self.terms;
-        let mut mixed = self.mixed;
+        let first = self.first;
         let mut changed = self.changed;
-        let first = &terms.as_slice()[..self.settled];
         let more = form.terms.as_slice();
-        if !add_factors(&mut changed, first, more)? {
+        if !add_factors(&mut changed, first.as_slice(), more)? {
             return Ok(None);
         }
-        terms.extend_from_slice(more)?;
+        let mut later = self.later;
+        let mut mixed = self.mixed;
+        later.extend_from_slice(more)?;
         mixed.extend_from_slice(form.mixed.as_slice())?;
         Ok(Some(RunningSum {
             constant,
-            terms,
+            first,
+            later,
             mixed,
-            settled: self.settled,
             room: self.room,
             changed,
         }))
@@ -123,7 +127,7 @@ impl RunningSum {
         requires { Numbers (IsSmall form_limit) form.now }
         ensures { IfOk result (Kept (add_forms form.now self)) }
     {
-        let sum = self.into_total().put(form)?.into_form(alloc)?;
+        let sum = self.into_total()?.put(form)?.into_form(alloc)?;
         if sum.is_small() {
             Ok(Some(RunningSum::of(alloc, sum)))
         } else {
@@ -131,23 +135,25 @@ impl RunningSum {
         }
     }
 
-    fn into_total(self) -> Total
-        ensures value { result ≡ self }
-        ensures small { Numbers (IsSmall form_limit) result }
+    fn into_total(self) -> Result<Total, Memory>
+        ensures value { IfOk result (λ t. t ≡ self) }
+        ensures small { IfOk result (λ t. Numbers (IsSmall form_limit) t) }
     {
-        Total {
+        let mut terms = self.first;
+        terms.extend_from_slice(self.later.as_slice())?;
+        Ok(Total {
             constant: self.constant,
-            terms: self.terms,
+            terms,
             mixed: self.mixed,
             room: self.room,
-        }
+        })
     }
 
     /// The sum as a form.
     pub(crate) fn into_form(self, alloc: Global) -> Result<Form, Memory>
         ensures { IfOk result (λ f. f ≡ self) }
     {
-        self.into_total().into_form(alloc)
+        self.into_total()?.into_form(alloc)
     }
 }
 

@@ -1,12 +1,12 @@
 -- The numbers stay small where the constant and the factors of the form's deltas do.
-use Rattle.std.proofs.Common.{rules, IsTrue, false, take, subst, sym, ap, refl}
+use Rattle.std.proofs.Common.{rules, IsTrue, false, ◌++◌, subst, sym, refl}
 use Rattle.homeo_meaning.specs.Small.{IsSmall}
 use Rattle.homeo_plan.specs.FormSizes.{Numbers}
 use Rattle.homeo_plan.specs.Limit.{form_limit}
 use Rattle.homeo_linear.specs.inner.Terms.{sum_limit}
 use Rattle.homeo_linear.proofs.Adding.{limit_wider}
 use Rattle.homeo_linear.proofs.FormParts.{small_terms, sum_is}
-use Rattle.homeo_linear.proofs.RunningSums.{factors_from, running_more, running_small, constant_from}
+use Rattle.homeo_linear.proofs.RunningSums.{constant_from, factors_from, behind_all, running_more, running_small}
 use Rattle.homeo_linear.proofs.Widths.{kept_is, sum_kept}
 use Rattle.homeo_linear.proofs.form.running.RunningSum.put.Goals as goal
 
@@ -28,31 +28,35 @@ add_factors-requires-clause-terms_small c =
 pub returns-then-not-branch : goal.returns-then-not-branch
 returns-then-not-branch c = λ h.
     let sums =
-    factors_from c.args.self c.args.form.now c.self.inside.constant c.form.inside.constant c.self.inside.terms.items c.form.inside.terms.items _ _
-    c.self.inside.mixed.items c.form.inside.mixed.items c.self.inside.settled c.self.inside.changed c.self.view_is c.form.view_is
-    c.as_slice-more.ensures.value (ap (take c.self.inside.settled) c.as_slice.ensures.value) c.self.invariant h in
+    factors_from c.args.self c.args.form.now c.self.inside.constant c.form.inside.constant c.self.inside.first.items c.self.inside.later.items
+    c.form.inside.terms.items _ _ c.self.inside.mixed.items c.form.inside.mixed.items c.self.inside.changed c.self.view_is c.form.view_is
+    c.as_slice-more.ensures.value c.as_slice.ensures.value c.self.invariant h in
     let small : IsTrue false = subst IsTrue c.if-not-branch.true (c.in_ok-add_factors.ensures.small.1 sums) in
     absurd cc
 
 pub invariant_of-result : goal.invariant_of-result
 invariant_of-result c =
     let small = c.if-not-is_small_number.ensures.0 refl in
-    running_more c.args.self c.args.form.now c.self.inside.constant c.form.inside.constant c.self.inside.terms.items c.form.inside.terms.items _ _
-    c.self.inside.mixed.items c.form.inside.mixed.items c.self.inside.settled c.self.inside.changed c.self.view_is c.form.view_is
-    c.as_slice-more.ensures.value (ap (take c.self.inside.settled) c.as_slice.ensures.value) c.self.invariant
-    c.add_factors.new.changed _ _ c.extend_from_slice.new.self.items c.in_ok-extend_from_slice.ensures.items
+    running_more c.args.self c.args.form.now c.self.inside.constant c.form.inside.constant c.self.inside.first.items c.self.inside.later.items
+    c.form.inside.terms.items _ _ c.self.inside.mixed.items c.form.inside.mixed.items c.self.inside.changed c.self.view_is c.form.view_is
+    c.as_slice-more.ensures.value c.as_slice.ensures.value c.self.invariant
+    c.extend_from_slice.new.self.items c.in_ok-extend_from_slice.ensures.items c.add_factors.new.changed _ _
     (small_terms c.args.form.now _ c.form.inside.terms.items _ c.form.inside.mixed.items c.form.view_is c.as_slice-more.ensures.value c.requires)
     refl small (c.in_ok-add_factors.ensures.sums c.if-not-branch.false) (c.in_ok-add_factors.ensures.small.0 c.if-not-branch.false)
 
 pub returns : goal.returns
 returns c =
+    let first = c.self.inside.first.items in
+    let later = c.extend_from_slice.new.self.items in
     let whole =
-    sum_is c.args.self c.args.form.now c.self.inside.constant c.form.inside.constant _ c.self.inside.terms.items c.form.inside.terms.items
-    c.extend_from_slice.new.self.items _ c.self.inside.mixed.items c.form.inside.mixed.items c.extend_from_slice-2.new.self.items _ c.self.view_is c.form.view_is
+    sum_is c.args.self c.args.form.now c.self.inside.constant c.form.inside.constant _ (first ++ c.self.inside.later.items) c.form.inside.terms.items
+    (first ++ later) _ c.self.inside.mixed.items c.form.inside.mixed.items c.extend_from_slice-2.new.self.items _ c.self.view_is c.form.view_is
     (sum_kept c.added-constant.result c.form.inside.constant c.self.inside.constant (search rules) (search rules) (search rules) c.added-constant.ensures)
-    c.in_ok-extend_from_slice.ensures.items c.as_slice-more.ensures.value c.in_ok-extend_from_slice-2.ensures.items c.as_slice-2.ensures.value in (
+    (behind_all c.args.self c.args.form.now c.self.inside.constant c.form.inside.constant first c.self.inside.later.items
+    c.form.inside.terms.items _ _ c.self.inside.mixed.items c.form.inside.mixed.items c.self.inside.changed c.self.view_is c.form.view_is
+    c.as_slice-more.ensures.value c.as_slice.ensures.value c.self.invariant later c.in_ok-extend_from_slice.ensures.items)
+    c.as_slice-more.ensures.value c.in_ok-extend_from_slice-2.ensures.items c.as_slice-2.ensures.value in (
       subst (Numbers (IsSmall form_limit)) whole
-          (running_small _ _ c.extend_from_slice.new.self.items c.extend_from_slice-2.new.self.items c.self.inside.settled c.add_factors.new.changed refl
-          (invariant_of-result c)),
+          (running_small _ _ first later (first ++ later) c.extend_from_slice-2.new.self.items c.add_factors.new.changed refl refl (invariant_of-result c)),
       whole,
     )
