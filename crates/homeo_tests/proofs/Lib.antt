@@ -1,4 +1,7 @@
 pub mod CallForms
 pub mod Example
+pub mod FirstCalls
+pub mod KeptResiduals
 pub mod RelationTexts
 pub mod RuleTexts
+pub mod SiteSteps

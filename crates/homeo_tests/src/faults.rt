@@ -75,7 +75,8 @@ fn reads_of(text: &str, piece: usize) -> u64 {
 fn each_read_fails_in_turn(rt: HostRuntime) -> Result<(), Fail> {
     for (words, text, output, piece) in CASES {
         let by_pieces = Given {
-            piece,
+            read_piece: piece,
+            write_piece: piece,
             ..plain(words, text)
         };
         let reads = reads_of(text, piece);
@@ -100,7 +101,8 @@ fn each_read_fails_in_turn(rt: HostRuntime) -> Result<(), Fail> {
 fn each_write_fails_in_turn(rt: HostRuntime) -> Result<(), Fail> {
     for (words, text, output, piece) in CASES {
         let by_pieces = Given {
-            piece,
+            read_piece: piece,
+            write_piece: piece,
             ..plain(words, text)
         };
         let writes = output.len().div_ceil(piece.max(1));
@@ -121,7 +123,8 @@ fn each_write_fails_in_turn(rt: HostRuntime) -> Result<(), Fail> {
         };
         check(&rt, rt.alloc(), later, Status::Done, output, "")?;
         let by_bytes = Given {
-            piece: 1,
+            read_piece: 1,
+            write_piece: 1,
             ..plain(words, text)
         };
         check(&rt, rt.alloc(), by_bytes, Status::Done, output, "")?;

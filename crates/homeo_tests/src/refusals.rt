@@ -1,11 +1,12 @@
 //! Texts and words that are refused, and those next to them that aren't.
 
-use crate::runs::{Given, check, plain, run_to_end};
+use crate::runs::{Given, check, plain, run_under};
 use crate::same::same_items;
 use crate::texts::{
     NOTHING_BEHIND_THE_HEAD, STOCK, STOCK_REPORT, called, in_parentheses, push_times,
 };
 use homeo::Status;
+use homeo_cluster::OpenGate;
 use std::test::Fail;
 
 #[test]
@@ -123,7 +124,7 @@ fn each_beginning_of_a_text_is_refused(rt: HostRuntime) -> Result<(), Fail> {
     let alloc = rt.alloc();
     for length in 0..244 {
         let text = STOCK.get(0..length).ok_or("the text is as long")?;
-        let ended = run_to_end(&rt, alloc, plain(&["steps"], text))?;
+        let ended = run_under(&rt, alloc, plain(&["steps"], text), &OpenGate)?;
         assert_eq!(rt; ended.status, Status::Refused, "at {length}");
         same_items(&rt, ended.output.as_slice(), b"".as_slice());
         // the assignment's mark is cut in two
@@ -172,7 +173,8 @@ fn a_text_past_a_limit_is_refused(rt: HostRuntime) -> Result<(), Fail> {
     ] {
         let words = [command];
         let given = Given {
-            piece: 65_536,
+            read_piece: 65_536,
+            write_piece: 65_536,
             ..plain(&words, text)
         };
         check(&rt, alloc, given, Status::Refused, "", complaint)?;

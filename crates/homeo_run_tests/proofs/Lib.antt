@@ -1,3 +1,0 @@
-pub mod FirstCalls
-pub mod KeptResiduals
-pub mod SiteSteps

@@ -1,9 +1,0 @@
-use Rattle.homeo_syntax.specs.SourceView.{plain_workload}
-use Rattle.homeo_run_tests.proofs.answers.run_in_order.Given as goal
-
--- the board that was just made, and the workload
-abbrev pub ghosts-run_in_order_on-N-ClusterNaming : goal.ghosts-run_in_order_on-N-ClusterNaming
-ghosts-run_in_order_on-N-ClusterNaming g a = record { workload = plain_workload a.c.value }
-
-abbrev pub ghosts-run_in_order_on-N-Naming : goal.ghosts-run_in_order_on-N-Naming
-ghosts-run_in_order_on-N-Naming g a = record { board = a.blank }

@@ -1,5 +1,0 @@
-use Rattle.homeo_run_tests.proofs.boards.two_holders_agree.Given as goal
-
--- N names the blank board
-abbrev pub ghosts-agree_within : goal.ghosts-agree_within
-ghosts-agree_within a = record { board = a.blank }
