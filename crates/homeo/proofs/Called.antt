@@ -4,7 +4,7 @@ use Rattle.homeo_words.specs.Command.{Say}
 use Rattle.homeo_words.specs.declared.command.Command.{Command}
 use Rattle.homeo_words.specs.declared.command.Command.TheVariants as c
 use Rattle.homeo_words.proofs.OneCommand.{one_command}
-use Rattle.homeo.specs.inner.Called.{HasFewCalls}
+use Rattle.homeo_commands.specs.Called.{HasFewCalls}
 
 pub few_calls : (words : List (List ℕ)) (command : Command) → Say words command → HasFewCalls command
 few_calls words c.Steps said = tt

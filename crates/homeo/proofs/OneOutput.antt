@@ -21,11 +21,11 @@ use Rattle.homeo_words.specs.declared.command.Command.{Command}
 use Rattle.homeo_words.specs.declared.command.Command.TheVariants as c
 use Rattle.homeo_words.proofs.OneCommand.{one_command}
 use Rattle.homeo_cert.proofs.OneVerdict.{one_verdict}
-use Rattle.homeo.specs.Certified.{unended, verdict_text, IsCertificateLine, IsVerdictLine}
+use Rattle.homeo_commands.specs.Certified.{unended, verdict_text, IsCertificateLine, IsVerdictLine}
 use Rattle.homeo.specs.Laws.{OneOutput}
-use Rattle.homeo.specs.Outcome.{IsMade, IsScheduledReport, OfStream, OfText}
-use Rattle.homeo.specs.Wired.{IsWireReport}
-use Rattle.homeo.proofs.Decided.{told_is_given}
+use Rattle.homeo_commands.specs.Made.{IsMade, IsScheduledReport, OfStream, OfText}
+use Rattle.homeo_commands.specs.Wired.{IsWireReport}
+use Rattle.homeo_commands.proofs.Decided.{told_is_given}
 
 -- the schedule determines the history, and so the report
 one_report : (w : s.Workload) (output output' : List ℕ) → IsScheduledReport w output → IsScheduledReport w output' → output ≡ output'

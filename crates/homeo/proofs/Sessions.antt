@@ -6,12 +6,13 @@ use Rattle.homeo_io.specs.Moved.{TookExactly}
 use Rattle.homeo_syntax.specs.declared.workload.Refusal.{Refusal}
 use Rattle.homeo_session.specs.Streams.{IsStopped, EndRefuses, Stops}
 use Rattle.homeo_words.specs.declared.command.Command.TheVariants as c
-use Rattle.homeo.specs.Command.{most_read}
-use Rattle.homeo.specs.Outcome.{CanBeDone, IsMade, IsRefusal, IsRefusedUnder}
-use Rattle.homeo.specs.Serving.{StopsRead, ServedAll, ServedTo, ServedEarly, Serves}
+use Rattle.homeo_commands.specs.Reading.{most_read}
+use Rattle.homeo_commands.specs.Made.{CanBeDone, IsMade, IsRefusal, IsRefusedUnder}
+use Rattle.homeo_commands.specs.Served.{StopsRead, ServedAll, ServedTo, ServedEarly}
+use Rattle.homeo.specs.Serving.{Serves}
 use Rattle.homeo.specs.declared.status.Status.{Status as AnyStatus}
 use Rattle.homeo.specs.declared.status.Status.TheVariants as Status
-use Rattle.homeo.proofs.Decided.{doable_not_refused, made_not_refused}
+use Rattle.homeo_commands.proofs.Decided.{doable_not_refused, made_not_refused}
 
 -- a stop of the first bytes is one of all
 stop_more : (bytes more out : List ℕ) (r : Refusal) → IsStopped bytes out r → IsStopped (bytes ++ more) out r

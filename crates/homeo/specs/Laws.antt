@@ -3,8 +3,9 @@ use Rattle.std.specs.Prelude.{◌≡◌, ℕ, List, [], Some, codes}
 use Rattle.homeo_cert.specs.Laws.{IsSoundText}
 use Rattle.homeo_words.specs.Command.{Say}
 use Rattle.homeo_words.specs.declared.command.Command.TheVariants.{Run, Certify, Verify}
-use Rattle.homeo.specs.Certified.{unended}
-use Rattle.homeo.specs.Outcome.{IsMade, IsOutput}
+use Rattle.homeo_commands.specs.Certified.{unended}
+use Rattle.homeo_commands.specs.Made.{IsMade}
+use Rattle.homeo.specs.Outcome.{IsOutput}
 
 -- the words have one output on these bytes, unless they are `run`, whose threads may make the calls in any order
 abbrev pub OneOutput : Type 0

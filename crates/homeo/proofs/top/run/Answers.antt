@@ -4,10 +4,10 @@ use Rattle.homeo_words.proofs.OneCommand.{one_command}
 use Rattle.homeo_words.specs.Command.{Say}
 use Rattle.homeo_words.specs.declared.command.Command.{Command}
 use Rattle.homeo_words.specs.declared.command.Command.TheVariants as commands
-use Rattle.homeo.specs.Outcome.{IsRefusal}
+use Rattle.homeo_commands.specs.Made.{IsRefusal}
 use Rattle.homeo.specs.declared.status.Status.TheVariants as Status
 use Rattle.homeo.proofs.Called.{few_calls}
-use Rattle.homeo.proofs.Served.{begins_early}
+use Rattle.homeo_commands.proofs.Served.{begins_early}
 use Rattle.homeo.proofs.Sessions.{serves_as, reads_some}
 use Rattle.homeo.proofs.top.run.Goals as goal
 

@@ -2,8 +2,8 @@ use Rattle.std.proofs.Common.{◌≡◌, ◌⊎◌, Err, ap, refl, inr}
 use Rattle.homeo_syntax.specs.declared.workload.Refusal.{Refusal as AnyRefusal}
 use Rattle.homeo.specs.declared.status.Status.{Status as AnyStatus}
 use Rattle.homeo.specs.declared.status.Status.TheVariants as Status
-use Rattle.homeo.specs.declared.stop.Stop.TheVariants.{the_data, Usage, Refused, Memory, ReadFault}
-use Rattle.homeo.proofs.Decided.{made_not_refused, doable_not_refused}
+use Rattle.homeo_commands.specs.declared.stop.Stop.TheVariants.{the_data, Usage, Refused, Memory, ReadFault}
+use Rattle.homeo_commands.proofs.Decided.{made_not_refused, doable_not_refused}
 use Rattle.homeo.proofs.top.run_command.Goals as goal
 
 pub returns-in-Ok-write_all-clause-refused_exactly :

@@ -1,9 +1,9 @@
 use Rattle.std.proofs.Common.{◌≡◌, refl, subst}
 use Rattle.homeo_syntax.specs.declared.workload.Refusal.{Refusal as AnyRefusal}
 use Rattle.homeo_words.specs.declared.command.Command.TheVariants as commands
-use Rattle.homeo.specs.Outcome.{IsRefusedUnder}
-use Rattle.homeo.specs.declared.stop.Stop.{Stop as AnyStop}
-use Rattle.homeo.specs.declared.stop.Stop.TheVariants as Stop
+use Rattle.homeo_commands.specs.Made.{IsRefusedUnder}
+use Rattle.homeo_commands.specs.declared.stop.Stop.{Stop as AnyStop}
+use Rattle.homeo_commands.specs.declared.stop.Stop.TheVariants as Stop
 use Rattle.homeo.proofs.Sessions.{refused_under, stopped_not_doable, served_not_refused}
 use Rattle.homeo.proofs.top.serve.Goals as goal
 

@@ -1,4 +1,0 @@
-pub mod Called
-pub mod Key
-pub mod Tabulated
-pub mod Texts

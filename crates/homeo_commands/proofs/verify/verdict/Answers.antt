@@ -1,0 +1,8 @@
+use Rattle.std.proofs.Common.{ap, Err}
+use Rattle.homeo_commands.proofs.Unended.{refuses_many}
+use Rattle.homeo_commands.proofs.verify.verdict.Goals as goal
+
+pub returns-in-Err-TooLong-clause-refused : goal.returns-in-Err-TooLong-clause-refused
+returns-in-Err-TooLong-clause-refused g c = λ r is bytes told.
+    let taken = c.in-Err-TooLong.ensures.too_long c.in-Err-TooLong.field-0-0 (ap Err c.in-Err-TooLong.field-0-is) in
+    refuses_many _ _ bytes r told taken.1 cc

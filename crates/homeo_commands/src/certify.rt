@@ -1,0 +1,43 @@
+//! The certificate of a workload's first round.
+
+ghost use Rattle.std.specs.Prelude.{◌≡◌, ◌++◌, codes, IfOk, IsErrOf};
+ghost use Rattle.homeo_syntax.specs.declared.workload.Refusal.{Refusal};
+ghost use Rattle.homeo_syntax.specs.SourceView.{plain_workload};
+ghost use Rattle.homeo_commands.specs.Certified.{IsCertificateLine, IsUncertified};
+
+use crate::stop::Stop;
+use crate::treaty::first_plan;
+use homeo_build::compile::compile;
+use homeo_cert::{CertError, certificate};
+use homeo_meaning::Accepted;
+use homeo_syntax::{Memory, Refusal};
+use std::alloc::Global;
+
+/// What is told where a certificate is too long.
+const LONG_CERTIFICATE: Refusal = Refusal {
+    code: 17,
+    offset: 16_777_216,
+};
+
+/// The certificate of the round that begins at the initial database, and a newline.
+pub(crate) fn certify(alloc: Global, w: Accepted) -> Result<Vec<u8>, Stop>
+    ensures made { IfOk result (λ bytes. IsCertificateLine (plain_workload w) bytes.items) }
+    ensures refused { (r : Refusal) → IsErrOf result (Stop.Refused r) → IsUncertified (plain_workload w) r }
+    ensures no_other { (IsErrOf result Stop.Usage → ⊥) × (IsErrOf result Stop.ReadFault → ⊥) }
+{
+    let compiled = compile(alloc, w)?;
+    let plan = first_plan(alloc, &compiled)?;
+    match certificate(alloc, &compiled, &plan) {
+        Ok(text) => Ok(ended(text)?),
+        Err(CertError::TooLong { .. }) => Err(Stop::Refused(LONG_CERTIFICATE)),
+        Err(CertError::Memory) => Err(Stop::Memory),
+    }
+}
+
+/// A line of this text.
+fn ended(mut text: Vec<u8>) -> Result<Vec<u8>, Memory>
+    ensures { IfOk result (λ line. line.items ≡ text.items ++ codes "\n") }
+{
+    text.push(b'\n')?;
+    Ok(text)
+}
