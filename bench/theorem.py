@@ -21,7 +21,8 @@ import reach
 DOCUMENT = ROOT / "docs" / "THEOREM.md"
 TOP = ROOT / "crates" / "homeo" / "src" / "top.rt"
 HEART = [
-    ("homeo/specs/Outcome.antt", "what each command makes and refuses, and what it is to be done"),
+    ("homeo/specs/Outcome.antt", "what the words of a run come to, and what it is to be done"),
+    ("homeo_commands/specs/Made.antt", "what each command makes and refuses"),
     ("homeo_meaning/specs/Verdict.antt", "which texts are accepted"),
     ("homeo_history/specs/History.antt", "rounds, entries and closing calls, as data"),
     ("homeo_history/specs/Legal.antt", "which histories are legal, in five parts"),
@@ -36,6 +37,7 @@ HEART = [
 # Of each of these the document says what every definition says that the clause `done` reaches.
 TOLD = [
     "homeo.specs.Outcome",
+    "homeo_commands.specs.Made",
     *(f"homeo_history.specs.{it}" for it in ("History", "Legal", "Merge", "Follows", "Replayed")),
     "homeo_plan.specs.Treaty",
 ]
