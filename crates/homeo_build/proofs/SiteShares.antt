@@ -18,7 +18,7 @@ use Rattle.homeo_meaning.specs.Acceptance.{IsAccepted}
 use Rattle.homeo_meaning.specs.Key.{definitions as meaning_definitions}
 use Rattle.homeo_meaning.specs.Schema.{nat_of}
 use Rattle.homeo_plan.specs.Key.{definitions as plan_definitions}
-use Rattle.homeo_plan.specs.Config.{AreShares, CanShare, natural_list, split_each, split_by}
+use Rattle.homeo_plan.specs.Config.{AreShares, CanShare, natural_list, even, split_each, split_by}
 use Rattle.homeo_plan.specs.Each.{Each}
 use Rattle.homeo_plan.specs.Planned.{sites_of, planned, shares_of}
 use Rattle.homeo_plan.specs.Shares.{takes_part, weight_of, own_share, or_even, shares}
@@ -194,11 +194,8 @@ module _ (w lent : Workload) (accepted : IsAccepted (plain_workload w)) (same : 
   unfolding plan_definitions
   taken k gs c i weight part is = is ∙ ap (λ (ws : List Number). pos (weight_of ws i)) weights_are ∙ ap (λ b. pos (if b then weight_of (plain_workload w).weights i else 0)) part
 
-  pub without_weights : length ns ≡ 0 → (c : Clause) (items : List ℤ) (k : ℕ) → k ≡ sites_of (plain_workload w) → items ≡ map pos (replicate k 1) → items ≡ map pos (shares_of (plain_workload w) c)
-  unfolding plan_definitions
-  without_weights none c items k all is =
-      is ∙ ap (λ n. map pos (replicate n 1)) all
-      ∙ ap (map pos) (sym (ap (λ (ws : List Number). shares (sites_of (plain_workload w)) ws (planned (plain_workload w)) c) (sym weights_are ∙ nil ns none) ∙ even_without (sites_of (plain_workload w)) (planned (plain_workload w)) c))
+  pub no_weights : length ns ≡ 0 → (plain_workload w).weights ≡ []
+  no_weights none = sym weights_are ∙ nil ns none
     where
       nil : (ns : List Number) → length ns ≡ 0 → ns ≡ []
       nil [] e = refl
@@ -251,6 +248,17 @@ own_back w c i z accepted is =
     number_back z (omega (arith, ints, is)) (omega (arith, ints, is, low)) ∙ is
 
 -- ---- the configuration
+even_lists : (w : s.Workload) (cs : List Clause) → w.weights ≡ [] → map (λ (c : Clause). let ns : List ℕ = replicate (sites_of w) 1 in ns) cs ≡ map (shares_of w) cs
+unfolding plan_definitions
+even_lists w [] e = refl
+even_lists w (c ∷ cs) e =
+    ap₂ (λ (q : List ℕ) qs. q ∷ qs) (sym (ap (λ (ws : List Number). shares (sites_of w) ws (planned w) c) e ∙ even_without (sites_of w) (planned w) c)) (even_lists w cs e)
+
+-- without weights the shares are even
+pub by_even : (w : s.Workload) (k : ℕ) (cs : List Clause) → k ≡ sites_of w → w.weights ≡ [] → even k cs ≡ split_by (shares_of w) cs
+unfolding plan_definitions
+by_even w k cs all e = ap (λ n. even n cs) all ∙ ap (λ qs. split_each qs cs) (even_lists w cs e)
+
 pub as_many :
     (w : s.Workload) (lists : List (Listed ℤ)) (cs : List Clause) → map natural_list lists ≡ map (shares_of w) cs → length lists ≡ length cs
 as_many w lists cs same = omega (arith, length-map lists natural_list, ap length same, length-map cs (shares_of w))

@@ -40,9 +40,6 @@ fn clause_shares(alloc: Global, c: &Compiled, clause: &Clause) -> Result<Numbers
     ensures can { IfOk result (λ l. CanShare (sites_of (plain_workload c.now)) l.items) }
 {
     let sites = site_count(c.workload());
-    if c.workload().workload().weights.as_slice().is_empty() {
-        return ones(alloc, sites);
-    }
     let mut shares = List::new(alloc);
     for site in 0..sites {
         shares.push(own_share(c, clause, site))?;

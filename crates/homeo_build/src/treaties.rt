@@ -19,11 +19,12 @@ use crate::calls::template_of;
 use crate::compiled::Compiled;
 use crate::shares::shares;
 use crate::sites::site_count;
-use homeo_config::split_weighted;
+use homeo_config::{split_even, split_weighted};
 use homeo_meaning::Database;
 use homeo_plan::{Config, RoundPlan, Template};
 use homeo_syntax::{List, Memory};
 use std::alloc::Global;
+use std::sync::Arc;
 
 /// The plan of the round that begins at a base (Roy et al., SIGMOD 2015). Of each ground call the row of its symbolic table
 /// that holds there is found by following the branches that are taken, without the table; the template is made of the
@@ -65,6 +66,21 @@ pub fn treaties(
     })
 }
 
+/// The plan of the round that begins at a base, by the policy, to be shared. The base must be within the workload's bounds.
+///
+/// # Errors
+///
+/// `Memory` when out of memory.
+#[tactic(auto, unfolding(crate::specs::Key::definitions))]
+pub fn plan_at(alloc: Global, c: &Compiled, base: &Database) -> Result<Arc<RoundPlan>, Memory>
+    requires within { IsWithin (schema_of (plain_workload c.now)) base.now.items }
+    ensures plan { IfOk result (λ p. IsPlanOf (plain_workload c.now) base.now.items p.value) }
+    ensures policy { IfOk result (λ p. plain_config p.value.config ≡ policy (plain_workload c.now) base.now.items) }
+{
+    let plan = treaties(alloc, c, base, None)?;
+    Ok(Arc::new(alloc, plan)?)
+}
+
 /// The given configuration, or else the one by shares.
 fn config_for(
     alloc: Global,
@@ -80,9 +96,20 @@ fn config_for(
 {
     match config {
         Some(config) => Ok(config),
-        None => {
-            let shares = shares(alloc, c, t)?;
-            split_weighted(alloc, t, shares.as_slice())
-        }
+        None => split_by_shares(alloc, c, t),
     }
+}
+
+/// Splits the slack of each clause by the sites' shares of it, which are even where the workload has no weights.
+fn split_by_shares(alloc: Global, c: &Compiled, t: &Template) -> Result<Config, Memory>
+    requires sites { t.now.sites ≡ sites_of (plain_workload c.now) }
+    requires not_negative { HaveSlack (plain_template t.now).clauses }
+    requires small { Each (λ c. IsSmall form_limit c.slack) (plain_template t.now).clauses }
+    ensures { IfOk result (λ made. plain_config made ≡ split_by (shares_of (plain_workload c.now)) (plain_template t.now).clauses) }
+{
+    if c.workload().workload().weights.as_slice().is_empty() {
+        return split_even(alloc, t);
+    }
+    let shares = shares(alloc, c, t)?;
+    split_weighted(alloc, t, shares.as_slice())
 }

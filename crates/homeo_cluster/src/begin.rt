@@ -19,7 +19,7 @@ use crate::lines::{at_lines_of, count_lines, done_lines_of};
 use crate::naming::ClusterNaming;
 use crate::pass::ClientPass;
 use homeo_build::Compiled;
-use homeo_core::plan_at;
+use homeo_build::treaties::plan_at;
 use homeo_eval::initial;
 use homeo_meaning::Database;
 use homeo_notes::{Blank, Board, Holder};

@@ -1,12 +1,14 @@
 -- Bounds of one clause after another, and in each of one site after another.
 use Rattle.homeo_meaning.specs.Key.{definitions as meaning_definitions}
 use Rattle.homeo_plan.specs.Key.{definitions}
-use Rattle.std.proofs.Common.{◌≡◌, ℕ, zero, suc, ◌+◌, ◌-◌, ◌*◌, ◌/◌, ◌<◌, ◌≤◌, List, [], ◌∷◌, ◌++◌, map, length, sum, take, drop, get_or, ℤ, pos, negsuc, to_z, of_z, refl, sym, ap, ap₂, ◌∙◌, subst, arith}
+use Rattle.std.proofs.Common.{◌≡◌, ℕ, zero, suc, ◌+◌, ◌-◌, ◌*◌, ◌/◌, ◌%◌, ◌<◌, ◌≤◌, List, [], ◌∷◌, ◌++◌, map, length, sum, take, drop, get_or, ℤ, pos, negsuc, to_z, of_z, refl, sym, ap, ap₂, ◌∙◌, subst, arith}
 use mir.Syntax.{w128}
 use Rattle.std.specs.Prelude.{replicate}
+use Rattle.std.proofs.Math.Nat.{add-mul, div-le_of_le-mul, div-mul-le_self, mul_comm, mul_right_comm, mul-add-div_right, mul-le-mul_left}
 use Rattle.std.proofs.lemmas.Int.{fits_signed_from_abs, to_z-of_z}
 use Rattle.std.proofs.lemmas.List.{append_assoc, append-nil, drop_more, drop_all, take_more, take_all, map_push}
-use Rattle.std.proofs.lemmas.List.Sums.{sum_by_more}
+use Rattle.std.proofs.lemmas.List.Sums.{sum_by_more, sum_by_more_le}
+use Rattle.std.proofs.lemmas.Nat.{div-add-mod', le-div}
 use Rattle.homeo_syntax.specs.Listed.{Listed}
 use Rattle.homeo_meaning.specs.Schema.{nat_of}
 use Rattle.homeo_meaning.specs.Small.{IsSmall}
@@ -17,6 +19,37 @@ use Rattle.homeo_plan.specs.Each.{Each}
 use Rattle.homeo_plan.specs.Config.{Config, bounds_from, split, split_by, even}
 use Rattle.homeo_plan.specs.Limit.{form_limit}
 
+-- ---- a slack that is divided once
+-- what it gives some shares, by what it gives each and by the rest
+pub part_is : (each rest shares all : ℕ) → 1 ≤ all → each * shares + rest * shares / all ≡ (each * all + rest) * shares / all
+part_is each rest shares all some =
+    sym (ap (λ n. n / all) (add-mul (each * all) rest shares ∙ ap (λ n. n + rest * shares) (mul_right_comm each all shares)) ∙ mul-add-div_right some (each * shares) (rest * shares))
+
+pub once : (amount shares all part : ℕ) → part ≡ (amount / all * all + amount % all) * shares / all → part ≡ amount * shares / all
+once amount shares all part e = e ∙ ap (λ n. n * shares / all) (div-add-mod' amount all)
+
+pub whole_is_small : (amount all : ℕ) → amount ≤ form_limit → amount / all * all + amount % all ≤ form_limit
+whole_is_small amount all small = subst (λ n. n ≤ form_limit) (sym (div-add-mod' amount all)) small
+
+pub bound_of :
+    (amount all below with_it given part : ℕ) (bound : ℤ) → given ≡ amount * below / all → part ≡ amount * with_it / all →
+    bound ≡ pos (part - given) → bound ≡ pos (amount * with_it / all - amount * below / all)
+bound_of amount all below with_it given part bound was is made = made ∙ ap₂ (λ m n. pos (m - n)) is was
+
+-- no shares get more than the whole
+pub part_within : (amount shares all : ℕ) → shares ≤ all → amount * shares / all ≤ amount
+part_within amount shares all few =
+    let more = mul-le-mul_left amount few in
+    let same = mul_comm amount all in
+    div-le_of_le-mul all (omega (arith, more, same))
+
+-- more shares get no less
+pub part_rises : (amount below share all : ℕ) → 1 ≤ all → amount * below / all ≤ amount * (below + share) / all
+part_rises amount below share all some =
+    let less = div-mul-le_self (amount * below) all in
+    let more : amount * below ≤ amount * (below + share) = mul-le-mul_left amount (omega arith) in
+    le-div (amount * below / all) (amount * (below + share)) all some (omega (arith, less, more))
+
 -- ---- the bounds of a clause
 pub amount_small : (slack : ℤ) (amount : ℕ) → IsSmall form_limit slack → amount ≡ nat_of slack → amount ≤ form_limit
 unfolding meaning_definitions
@@ -26,6 +59,9 @@ amount_small (negsuc n) amount h e = omega (arith, e)
 -- one more site
 pub shares_more : (shares : List ℕ) (i below : ℕ) → i < length shares → below ≡ sum (take i shares) → below + get_or shares i 0 ≡ sum (take (i + 1) shares)
 shares_more shares i below h e = omega (arith, e, sum_by_more (λ n. n) shares i 0 h)
+
+pub few_shares : (shares : List ℕ) (i below : ℕ) → i < length shares → below ≡ sum (take i shares) → below + get_or shares i 0 ≤ sum shares
+few_shares shares i below h e = omega (arith, e, sum_by_more_le (λ n. n) shares i 0 h)
 
 pub bounds_more :
     (n amount below i : ℕ) (shares : List ℕ) (bound : ℤ) (before after : List ℤ) (whole : List ℤ) → i < length shares →

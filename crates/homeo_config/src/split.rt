@@ -1,6 +1,6 @@
 //! Slacks that are split among sites.
 
-ghost use Rattle.std.specs.Prelude.{◌≡◌, ◌≤◌, ◌<◌, ◌*◌, ◌/◌, ◌-◌, ◌^◌, length, map, sum, replicate, pos, ◌≤ℤ◌, IfOk};
+ghost use Rattle.std.specs.Prelude.{◌≡◌, ◌≤◌, ◌<◌, ◌+◌, ◌*◌, ◌/◌, ◌-◌, ◌^◌, length, map, sum, replicate, pos, ◌≤ℤ◌, IfOk};
 ghost use Rattle.homeo_meaning.specs.Schema.{nat_of};
 ghost use Rattle.homeo_meaning.specs.Small.{IsSmall};
 ghost use Rattle.homeo_plan.specs.Each.{Each};
@@ -98,12 +98,17 @@ fn split(alloc: Global, slack: i128, shares: &[u64]) -> Result<List<i128>, Memor
 {
     let amount = natural(slack);
     let all = total(shares);
+    let each = amount / all as u128;
+    let rest = amount % all as u128;
     let mut bounds = List::new(alloc);
     let mut below = 0;
+    let mut given = 0;
     for share in shares {
         let with_it = below + *share;
-        bounds.push(bound(amount, below, with_it, all))?;
+        let part = part(each, rest, with_it, all);
+        bounds.push(bound(given, part))?;
         below = with_it;
+        given = part;
     }
     Ok(bounds)
 }
@@ -123,21 +128,23 @@ fn natural(slack: i128) -> u128
     slack as u128
 }
 
-/// What the slack gives the shares up to a site, less what it gives those below the site, of `all` shares.
-fn bound(slack: u128, below: u64, with_it: u64, all: u64) -> i128
-    requires small { slack ≤ form_limit }
-    requires some { 1 ≤ all }
-    requires rises { below ≤ with_it }
-    ensures { result ≡ pos (slack * with_it / all - slack * below / all) }
+/// What the shares up to a site are given, less what those below it are.
+fn bound(given: u128, part: u128) -> i128
+    requires rises { given ≤ part }
+    requires small { part ≤ form_limit }
+    ensures { result ≡ pos (part - given) }
 {
-    (part(slack, with_it, all) - part(slack, below, all)) as i128
+    (part - given) as i128
 }
 
-/// The floor of what the slack gives `shares` of `all` shares.
-fn part(slack: u128, shares: u64, all: u64) -> u128
-    requires small { slack ≤ form_limit }
+/// The floor of what a slack gives `shares` of `all` shares, where it gives each so much and leaves this rest: the slack is divided
+/// once, and only the rest for each site.
+fn part(each: u128, rest: u128, shares: u64, all: u64) -> u128
     requires some { 1 ≤ all }
-    ensures { result ≡ slack * shares / all }
+    requires few { shares ≤ all }
+    requires rest { rest < all }
+    requires small { each * all + rest ≤ form_limit }
+    ensures { result ≡ (each * all + rest) * shares / all }
 {
-    slack * shares as u128 / all as u128
+    each * shares as u128 + rest * shares as u128 / all as u128
 }

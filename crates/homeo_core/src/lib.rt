@@ -12,5 +12,5 @@ mod steps;
 
 pub use gather::{Gather, add_deltas};
 pub use local::{Tried, try_call};
-pub use prepared::{Prepared, plan_at};
+pub use prepared::Prepared;
 pub use steps::Core;

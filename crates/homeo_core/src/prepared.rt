@@ -19,7 +19,7 @@ ghost use Rattle.homeo_core.specs.Starts.{AreStarts, waits};
 use crate::clients::{site_count, site_of};
 use crate::gather::Gather;
 use homeo_build::Compiled;
-use homeo_build::treaties::treaties;
+use homeo_build::treaties::plan_at;
 use homeo_eval::eval_call;
 use homeo_history::{Answer, Closing, Entry, Path, Round, Segment};
 use homeo_meaning::{Accepted, CallId, Database};
@@ -137,21 +137,6 @@ fn run_call(
     ensures within { IsWithin (schema_of (plain_workload c.now)) database.new.items }
 {
     eval_call(alloc, c.workload(), c.declared(), call, database)
-}
-
-/// The plan of the round that begins at a base, which is within the workload's bounds.
-///
-/// # Errors
-///
-/// `Memory` when out of memory.
-#[tactic(auto, unfolding(homeo_build::specs::Key::definitions))]
-pub fn plan_at(alloc: Global, c: &Compiled, base: &Database) -> Result<Arc<RoundPlan>, Memory>
-    requires within { IsWithin (schema_of (plain_workload c.now)) base.now.items }
-    ensures plan { IfOk result (λ p. IsPlanOf (plain_workload c.now) base.now.items p.value) }
-    ensures policy { IfOk result (λ p. plain_config p.value.config ≡ policy (plain_workload c.now) base.now.items) }
-{
-    let plan = treaties(alloc, c, base, None)?;
-    Ok(Arc::new(alloc, plan)?)
 }
 
 /// The call that closes a round with these prints, and the answer to it.

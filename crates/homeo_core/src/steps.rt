@@ -20,9 +20,9 @@ ghost use Rattle.homeo_core.specs.SiteLists.{states, AreOf};
 
 use crate::clients::{call_count, client_count, site_count, site_of};
 use crate::local::{Tried, try_call};
-use crate::prepared::plan_at;
 use crate::rounds::{close_round, gathered_values, into_segments};
 use homeo_build::Compiled;
+use homeo_build::treaties::plan_at;
 use homeo_eval::initial;
 use homeo_history::{Answer, History, Path, Round};
 use homeo_meaning::{Accepted, CallId, Database};

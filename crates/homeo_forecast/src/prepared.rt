@@ -6,12 +6,11 @@ ghost use Rattle.homeo_meaning.specs.Bounds.{IsWithin};
 ghost use Rattle.homeo_meaning.specs.Calls.{CallExists};
 ghost use Rattle.homeo_meaning.specs.Schema.{schema_of};
 ghost use Rattle.homeo_plan.specs.Planned.{planned_at, template_at};
-ghost use Rattle.homeo_build.specs.Plan.{IsPlanOf};
 ghost use Rattle.homeo_forecast.specs.inner.Prepared.{IsPrepared};
 
 use crate::indexes::indexes;
 use homeo_build::Compiled;
-use homeo_build::treaties::treaties;
+use homeo_build::treaties::plan_at;
 use homeo_effect::TreatyIndex;
 use homeo_meaning::{CallId, Database};
 use homeo_plan::RoundPlan;
@@ -24,15 +23,6 @@ use std::sync::Arc;
 pub(crate) struct Prepared {
     pub(crate) plan: Arc<RoundPlan, Global>,
     pub(crate) indexes: List<TreatyIndex>,
-}
-
-/// The plan at a base, to be shared.
-fn plan_at(alloc: Global, c: &Compiled, base: &Database) -> Result<Arc<RoundPlan, Global>, Memory>
-    requires { IsWithin (schema_of (plain_workload c.now)) base.now.items }
-    ensures { IfOk result (λ p. IsPlanOf (plain_workload c.now) base.now.items p.value) }
-{
-    let plan = treaties(alloc, c, base, None)?;
-    Ok(Arc::new(alloc, plan)?)
 }
 
 impl Prepared {

@@ -168,6 +168,15 @@ unfolding plan_definitions
 impure_is a n ts xs ds v e p h k =
     k ∙ sym h ∙ ap (λ w. w && is_empty ds) (h ∙ no_length xs ∙ ap is_empty p) ∙ ap is_pure e
 
+pub pure_form : (b : Linear) → true ≡ is_pure b → constant_form b.constant ≡ b
+unfolding plan_definitions
+pure_form b h = at b.constant b.terms b.mixed h
+  where
+    at : (n : ℤ) (ts : List Term) (ds : List Delta) → true ≡ (is_empty ts && is_empty ds) → form_of n [] [] ≡ form_of n ts ds
+    at n [] [] h = refl
+    at n [] (d ∷ ds) h = absurd cc
+    at n (t ∷ ts) ds h = absurd cc
+
 pub by_number :
     (a b : Linear) (m n : ℤ) (ts : List Term) (ds : List Delta) → m ≡ n → form_of n ts ds ≡ a → true ≡ is_pure a → scale_form m b ≡ multiply_forms a b
 unfolding plan_definitions

@@ -115,8 +115,24 @@ impl Form {
         requires other_small { Numbers (IsSmall form_limit) other.now }
         ensures { IfOk result (λ f. f ≡ add_forms other.now self) }
     {
+        if other.is_number() {
+            return Ok(self.plus_number(other.constant()));
+        }
         let total = Total::of(self);
         total.put(other)?.into_form(alloc)
+    }
+
+    /// The form with a number added to its constant.
+    fn plus_number(self, n: i128) -> Form
+        requires small { IsSmall form_limit self.constant }
+        requires number_small { IsSmall form_limit n }
+        ensures { result ≡ add_forms (constant_form n) self }
+    {
+        Form {
+            constant: added(n, self.constant),
+            terms: self.terms,
+            mixed: self.mixed,
+        }
     }
 
     /// The form with its numbers multiplied.

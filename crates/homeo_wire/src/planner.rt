@@ -7,7 +7,7 @@ ghost use Rattle.homeo_meaning.specs.Schema.{schema_of};
 ghost use Rattle.homeo_plan.specs.Planned.{sites_of};
 
 use homeo_build::Compiled;
-use homeo_core::plan_at;
+use homeo_build::treaties::plan_at;
 use homeo_meaning::Database;
 use homeo_plan::RoundPlan;
 use homeo_site::SiteStart;

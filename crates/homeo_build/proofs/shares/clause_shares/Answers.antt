@@ -1,6 +1,5 @@
 use Rattle.std.proofs.Common.{◌≡◌, map, replicate, ℤ, pos, ap, sym, subst, ◌∙◌, arith}
 use Rattle.std.specs.List.{range_with_len}
-use Rattle.std.proofs.lemmas.Bool.{eqb-true}
 use Rattle.std.proofs.lemmas.Result.{IfOk-weaker}
 use Rattle.homeo_meaning.specs.Acceptance.{IsAccepted}
 use Rattle.homeo_syntax.specs.Listed.{Listed}
@@ -10,22 +9,8 @@ use Rattle.homeo_plan.specs.PlanView.{plain_clause}
 use Rattle.homeo_plan.specs.Planned.{sites_of, planned, shares_of}
 use Rattle.homeo_plan.specs.Shares.{own_share}
 use Rattle.homeo_build.specs.inner.Sharing.{AreOrEven}
-use Rattle.homeo_build.proofs.SiteShares.{natural_back, can_of, without_weights, own_back, shares_more, shares_light, shares_done}
+use Rattle.homeo_build.proofs.SiteShares.{natural_back, can_of, own_back, shares_more, shares_light, shares_done}
 use Rattle.homeo_build.proofs.shares.clause_shares.Goals as goal
-
-pub returns-then-is_empty : goal.returns-then-is_empty
-returns-then-is_empty c =
-    let w = plain_workload c.args.c.now in
-    let same = c.workload-3.ensures.value ∙ c.workload-2.ensures in
-    let accepted = subst (λ (v : Workload). IsAccepted (plain_workload v)) c.workload-2.ensures c.workload-3.ensures.accepted in
-    let sites = c.site_count-sites.ensures.sites ∙ ap (λ (v : Workload). sites_of (plain_workload v)) c.workload.ensures in
-    let are : (l : Listed ℤ) → l.items ≡ map pos (replicate c.site_count-sites.result 1) → l.items ≡ map pos (shares_of w (plain_clause c.args.clause.now)) =
-    λ l is. without_weights c.args.c.now c.workload-3.result.now accepted same c.as_slice.result.now c.as_slice.ensures (eqb-true _ _ (sym c.if-is_empty.ensures))
-    (plain_clause c.args.clause.now) l.items c.site_count-sites.result sites is in
-    record {
-      shares = IfOk-weaker c.ones.result _ _ (λ l is. natural_back l (shares_of w (plain_clause c.args.clause.now)) (are l is)) c.ones.ensures;
-      can = IfOk-weaker c.ones.result _ _ (λ l is. can_of w (plain_clause c.args.clause.now) l.items accepted (are l is)) c.ones.ensures;
-    }
 
 pub loop-site-init : goal.loop-site-init
 loop-site-init c = ap (λ l. l.items) c.new-shares.ensures
@@ -39,19 +24,19 @@ own_share-requires c =
 pub loop-site-preserved : goal.loop-site-preserved
 loop-site-preserved c =
     let w = plain_workload c.args.c.now in
-    let accepted = subst (λ (v : Workload). IsAccepted (plain_workload v)) c.workload-2.ensures c.workload-3.ensures.accepted in
+    let accepted = subst (λ (v : Workload). IsAccepted (plain_workload v)) c.workload.ensures c.site_count-sites.ensures.accepted in
     shares_more (own_share (sites_of w) w.weights (planned w) (plain_clause c.args.clause.now)) c.loop-site.shares.items _ _ c.loop-site.site c.loop-site.invariant
     (own_back w (plain_clause c.args.clause.now) c.loop-site.site c.own_share.result accepted c.own_share.ensures) (ap (λ l. l.items) c.in_ok-push.ensures.ok)
 
 pub or_even-requires : goal.or_even-requires
 or_even-requires c =
-    let accepted = subst (λ (v : Workload). IsAccepted (plain_workload v)) c.workload-2.ensures c.workload-3.ensures.accepted in
+    let accepted = subst (λ (v : Workload). IsAccepted (plain_workload v)) c.workload.ensures c.site_count-sites.ensures.accepted in
     shares_light (plain_workload c.args.c.now) (plain_clause c.args.clause.now) c.loop-site.shares.items c.loop-site.site accepted c.loop-site.invariant
 
 pub returns : goal.returns
 returns c =
     let w = plain_workload c.args.c.now in
-    let accepted = subst (λ (v : Workload). IsAccepted (plain_workload v)) c.workload-2.ensures c.workload-3.ensures.accepted in
+    let accepted = subst (λ (v : Workload). IsAccepted (plain_workload v)) c.workload.ensures c.site_count-sites.ensures.accepted in
     let sites = c.site_count-sites.ensures.sites ∙ ap (λ (v : Workload). sites_of (plain_workload v)) c.workload.ensures in
     let to_end = c.loop-site.auto.site-end in
     let past = c.loop-site-test.false in

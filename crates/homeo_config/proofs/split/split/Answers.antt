@@ -1,23 +1,50 @@
 -- Each share's bound stands behind those before it.
-use Rattle.std.proofs.Common.{◌≡◌, ap, ◌∙◌, to_z, of_z, SFits, rules}
+use Rattle.std.proofs.Common.{◌≡◌, ◌+◌, ◌≤◌, get_or, sym, subst, ap, ◌∙◌, to_z, of_z, SFits, arith, rules}
 use mir.Syntax.{w128}
 use Rattle.std.proofs.lemmas.Int.{to_z-of_z}
 use Rattle.homeo_meaning.specs.Schema.{nat_of}
-use Rattle.homeo_config.proofs.Splitting.{amount_small, shares_more, bounds_more, bounds_all}
+use Rattle.homeo_config.proofs.Splitting.{amount_small, once, whole_is_small, bound_of, part_within, part_rises, few_shares, shares_more, bounds_more, bounds_all}
 use Rattle.homeo_config.proofs.split.split.Goals as goal
 
+pub part-part-requires-clause-small : goal.part-part-requires-clause-small
+part-part-requires-clause-small c =
+    let amount = c.natural-amount in
+    whole_is_small amount.result c.total-all.result (amount_small c.args.slack amount.result c.requires.small (amount.ensures ∙ ap nat_of (to_z-of_z w128 c.args.slack c.ranges.slack)))
+
+pub bound-requires-clause-rises : goal.bound-requires-clause-rises
+bound-requires-clause-rises c =
+    let so_far = c.loop-share in
+    let share = get_or c.args.shares.now so_far.share-index 0 in
+    let some = subst (λ n. 1 ≤ n) (sym c.total-all.ensures) c.requires.some in
+    let given = so_far.invariant.given in
+    let part = once c.natural-amount.result (so_far.below + share) c.total-all.result c.part-part.result c.part-part.ensures in
+    let rises = part_rises c.natural-amount.result so_far.below share c.total-all.result some in
+    omega (arith, given, part, rises)
+
 pub bound-requires-clause-small : goal.bound-requires-clause-small
-bound-requires-clause-small c = amount_small c.args.slack c.natural-amount.result c.requires.small (c.natural-amount.ensures ∙ ap nat_of (to_z-of_z w128 c.args.slack c.ranges.slack))
+bound-requires-clause-small c =
+    let so_far = c.loop-share in
+    let amount = c.natural-amount in
+    let with_it = so_far.below + get_or c.args.shares.now so_far.share-index 0 in
+    let few = few_shares c.args.shares.now so_far.share-index so_far.below c.loop-share-test.true so_far.invariant.below in
+    let part = once amount.result with_it c.total-all.result c.part-part.result c.part-part.ensures in
+    let within = part_within amount.result with_it c.total-all.result (subst (λ n. with_it ≤ n) (sym c.total-all.ensures) few) in
+    let small = amount_small c.args.slack amount.result c.requires.small (amount.ensures ∙ ap nat_of (to_z-of_z w128 c.args.slack c.ranges.slack)) in
+    omega (arith, part, within, small)
 
 pub loop-share-preserved : goal.loop-share-preserved
 loop-share-preserved c =
     let so_far = c.loop-share in
     let shares = c.args.shares.now in
+    let amount = c.natural-amount.result in
     let fits : SFits w128 c.bound.result = search rules in
     let back : to_z w128 (of_z w128 c.bound.result) ≡ c.bound.result = to_z-of_z w128 c.bound.result fits in
+    let part = once amount (so_far.below + get_or shares so_far.share-index 0) c.total-all.result c.part-part.result c.part-part.ensures in
+    let bound = bound_of amount c.total-all.result so_far.below (so_far.below + get_or shares so_far.share-index 0) so_far.given c.part-part.result _ so_far.invariant.given part c.bound.ensures in
     record {
       below = shares_more shares so_far.share-index so_far.below c.loop-share-test.true so_far.invariant.below;
-      bounds = bounds_more _ _ so_far.below so_far.share-index shares _ _ _ _ c.loop-share-test.true so_far.invariant.bounds (back ∙ c.bound.ensures) (ap (λ l. l.items) c.in_ok-push.ensures.ok);
+      given = part;
+      bounds = bounds_more _ _ so_far.below so_far.share-index shares _ _ _ _ c.loop-share-test.true so_far.invariant.bounds (back ∙ bound) (ap (λ l. l.items) c.in_ok-push.ensures.ok);
     }
 
 pub returns : goal.returns

@@ -2,7 +2,7 @@
 use Rattle.std.proofs.Common.{ap, ◌∙◌, sym, subst, map, ℤ, pos, ◌≤ℤ◌, rules}
 use Rattle.homeo_syntax.specs.Listed.{Listed}
 use Rattle.homeo_meaning.specs.Small.{IsSmall}
-use Rattle.homeo_plan.specs.Config.{Fits, CanShare}
+use Rattle.homeo_plan.specs.Config.{Fits}
 use Rattle.homeo_plan.specs.Each.{Each}
 use Rattle.homeo_plan.specs.PlanView.{plain_clause}
 use Rattle.homeo_plan.specs.Limit.{form_limit}

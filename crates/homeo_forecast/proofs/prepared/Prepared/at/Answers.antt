@@ -9,4 +9,4 @@ use Rattle.homeo_forecast.proofs.prepared.Prepared.at.Goals as goal
 pub indexes-requires : goal.indexes-requires
 indexes-requires c =
     let accepted = subst (λ (v : Workload). IsAccepted (plain_workload v)) c.workload.ensures c.workload-workload.ensures.accepted in
-    plan_few (plain_workload c.args.c.now) c.args.base.now.items _ accepted c.in_ok-plan.ensures
+    plan_few (plain_workload c.args.c.now) c.args.base.now.items _ accepted c.in_ok-plan.ensures.plan
