@@ -27,18 +27,18 @@ returns-then-is_empty c =
 
 pub split_weighted-requires : goal.split_weighted-requires
 split_weighted-requires c =
-    let lend = c.as_slice-shares.ensures.value in
+    let lend = c.as_slice-2.ensures.value in
     record {
       not_negative = c.requires.not_negative;
       small = c.requires.small;
-      lists = as_many (plain_workload c.args.c.now) c.as_slice-shares.result.now (map plain_clause c.args.t.now.clauses.items) (ap (map natural_list) lend ∙ c.in_ok-shares.ensures.shares);
-      shares = can_all c.args.t.now.sites (sites_of (plain_workload c.args.c.now)) c.as_slice-shares.result.now _ c.requires.sites lend c.in_ok-shares.ensures.can;
+      lists = as_many (plain_workload c.args.c.now) c.as_slice-2.result.now (map plain_clause c.args.t.now.clauses.items) (ap (map natural_list) lend ∙ c.in_ok-shares.ensures.shares);
+      shares = can_all c.args.t.now.sites (sites_of (plain_workload c.args.c.now)) c.as_slice-2.result.now _ c.requires.sites lend c.in_ok-shares.ensures.can;
     }
 
-pub returns-in_ok-shares : goal.returns-in_ok-shares
-returns-in_ok-shares c =
+pub returns : goal.returns
+returns c =
     let cs = (plain_template c.args.t.now).clauses in
-    let same = ap (map natural_list) c.as_slice-shares.ensures.value ∙ c.in_ok-shares.ensures.shares in
+    let same = ap (map natural_list) c.as_slice-2.ensures.value ∙ c.in_ok-shares.ensures.shares in
     IfOk-weaker c.split_weighted.result _ _
-    (λ made is. is ∙ by_shares (plain_workload c.args.c.now) c.as_slice-shares.result.now cs same)
+    (λ made is. is ∙ by_shares (plain_workload c.args.c.now) c.as_slice-2.result.now cs same)
     c.split_weighted.ensures.bounds
