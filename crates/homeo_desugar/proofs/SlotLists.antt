@@ -6,7 +6,7 @@ use Rattle.std.proofs.lemmas.Int.{ints}
 use Rattle.std.proofs.lemmas.List.{length-map}
 use Rattle.homeo_meaning.specs.Schema.{declared_range}
 use Rattle.homeo_meaning.specs.Context.{Slot, slot_at}
-use Rattle.homeo_context.specs.Slots.{plain_slot, slots_of, IsCounted, IsNumbered}
+use Rattle.homeo_context.specs.Slots.{plain_slot, slots_of, IsNumbered}
 use Rattle.homeo_context.specs.declared.slots.Slot as code
 use Rattle.homeo_context.specs.declared.slots.Slots.{Slots}
 use Rattle.homeo_context.proofs.SlotLists.{slot_of, slot_is, left, left_next, left_all, at_here, at_past, at_below}
@@ -24,12 +24,6 @@ all_after t number h =
     ap (left t) first ∙ left_all t
 
 -- ---- numbers of an L form
-less : {n : ℕ} → n < 2 ^ 32 → n < 2 ^ 63
-less h = omega arith
-
-pub counted : (t : Slots) → IsNumbered t → IsCounted t
-counted t h = less h
-
 -- the slot of a number is not behind the last
 slot_end : (first count number n : ℕ) → number < count → first + number * (1 + n) + 1 + n ≤ first + count * (1 + n)
 slot_end first count number n h =
