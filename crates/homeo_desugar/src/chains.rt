@@ -1,6 +1,6 @@
 //! Chains of slots: one command for each, and the slot chosen by an index or by its being free.
 
-ghost use Rattle.std.specs.Prelude.{◌≡◌, ◌≤◌, ◌<◌, ◌^◌, pos, map, length, IfOk};
+ghost use Rattle.std.specs.Prelude.{◌≡◌, ◌≤◌, pos, map, length, IfOk};
 ghost use Rattle.homeo_syntax.specs.Low.{Write, If, Skip, NoTest};
 ghost use Rattle.homeo_syntax.specs.LowView.{plain_lexpr, plain_lcond, plain_lcommand};
 ghost use Rattle.homeo_meaning.specs.LForm.{equal, one_test, within, read_chain, write_chain, fill_chain, all_within};

@@ -1,6 +1,6 @@
 //! The L forms of commands.
 
-ghost use Rattle.std.specs.Prelude.{◌≡◌, ◌<◌, ◌^◌, false, map, length, IfOk, OnOk};
+ghost use Rattle.std.specs.Prelude.{◌≡◌, false, map, IfOk, OnOk};
 ghost use Rattle.homeo_syntax.specs.SourceView.{commands, plain_expr, plain_cond, plain_command, plain_field};
 ghost use Rattle.homeo_syntax.specs.Source.{Assign, Print};
 ghost use Rattle.homeo_syntax.specs.LowView.{low_commands, plain_lcommand};
@@ -325,11 +325,7 @@ fn form(c: &Command, context: &Context<'_>, next: &mut u32) -> Result<LCommand, 
 
 #[cycle(commands)]
 #[tactic(auto, using(homeo_syntax::proofs::Measures::command_parts))]
-fn form_boxed(
-    c: &Command,
-    context: &Context<'_>,
-    next: &mut u32,
-) -> Result<Box<LCommand>, Memory>
+fn form_boxed(c: &Command, context: &Context<'_>, next: &mut u32) -> Result<Box<LCommand>, Memory>
     requires fits { Fits (plain_context context.now) }
     ensures { IfOk result (λ r. IsFormed next.new
         (form (plain_context context.now) (plain_command c.now) next.old) (plain_lcommand r.value)) }
@@ -362,7 +358,12 @@ fn visit(
         outer: context.rows,
     };
     let commands = form_all(body, &context.with(&rows), &mut out.next)?;
-    choice(context.alloc, test, LCommand::Seq { commands }, LCommand::Skip)
+    choice(
+        context.alloc,
+        test,
+        LCommand::Seq { commands },
+        LCommand::Skip,
+    )
 }
 
 /// Puts the commands of a slot behind the others, guarded or not.

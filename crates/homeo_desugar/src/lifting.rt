@@ -1,6 +1,6 @@
 //! The L forms of expressions and conditions.
 
-ghost use Rattle.std.specs.Prelude.{false, ◌≡◌, ◌≤◌, ◌<◌, ◌^◌, map, Option, length, IfOk, OnOk};
+ghost use Rattle.std.specs.Prelude.{false, ◌≡◌, map, Option, IfOk, OnOk};
 ghost use Rattle.homeo_syntax.specs.SourceView.{exprs, tests, plain_expr, plain_test, plain_cond};
 ghost use Rattle.homeo_syntax.specs.LowView.{low_exprs, low_tests, plain_lexpr, plain_ltest, plain_lcond, plain_lcommand};
 ghost use Rattle.homeo_meaning.specs.Schema.{declared_range};
@@ -82,11 +82,7 @@ fn add(alloc: Global, total: u32, term: LExpr) -> Result<LCommand, Memory>
 /// The L form of an expression. The commands that have to run before it stand behind the others.
 #[cycle(phrases)]
 #[tactic(auto, using(homeo_syntax::proofs::Measures::phrase_parts))]
-pub(crate) fn lift(
-    e: &Expr,
-    context: &Context<'_>,
-    out: &mut Making,
-) -> Result<LExpr, Memory>
+pub(crate) fn lift(e: &Expr, context: &Context<'_>, out: &mut Making) -> Result<LExpr, Memory>
     requires fits { Fits (plain_context context.now) }
     ensures { IfOk result (λ r. IsLifted out.old out.new
         (lift (plain_context context.now) (plain_expr e.now) out.old.next) (plain_lexpr r)) }
@@ -113,7 +109,13 @@ pub(crate) fn lift(
             field,
         } => {
             let index = lift(index, context, out)?;
-            indexed(context.alloc, index, context.relation(relation.name), field.name, out)
+            indexed(
+                context.alloc,
+                index,
+                context.relation(relation.name),
+                field.name,
+                out,
+            )
         }
         Expr::Row { row, field } => Ok(read(field_cell(context.row(row.name), field.name))),
         Expr::Count {
@@ -138,11 +140,7 @@ pub(crate) fn lift(
 
 #[cycle(phrases)]
 #[tactic(auto, using(homeo_syntax::proofs::Measures::phrase_parts))]
-fn lift_all(
-    es: &[Expr],
-    context: &Context<'_>,
-    out: &mut Making,
-) -> Result<List<LExpr>, Memory>
+fn lift_all(es: &[Expr], context: &Context<'_>, out: &mut Making) -> Result<List<LExpr>, Memory>
     requires fits { Fits (plain_context context.now) }
     ensures { IfOk result (λ r. IsLifted out.old out.new
         (lift_all (plain_context context.now) (exprs (map plain_expr es.now)) out.old.next)
@@ -184,11 +182,7 @@ fn lift_test(t: &Test, context: &Context<'_>, out: &mut Making) -> Result<LTest,
 /// The L form of a condition. The commands that have to run before it stand behind the others.
 #[cycle(phrases)]
 #[tactic(auto, using(homeo_syntax::proofs::Measures::phrase_parts))]
-pub(crate) fn lift_cond(
-    c: &Cond,
-    context: &Context<'_>,
-    out: &mut Making,
-) -> Result<LCond, Memory>
+pub(crate) fn lift_cond(c: &Cond, context: &Context<'_>, out: &mut Making) -> Result<LCond, Memory>
     requires fits { Fits (plain_context context.now) }
     ensures { IfOk result (λ r. IsLifted out.old out.new
         (lift_cond (plain_context context.now) (plain_cond c.now) out.old.next) (plain_lcond r)) }
