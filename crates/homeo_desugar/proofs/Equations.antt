@@ -14,10 +14,9 @@ use Rattle.homeo_meaning.specs.LowWrites.{object_in, with_number, written, all_w
 use Rattle.homeo_meaning.specs.LForm.{name_of, one_test, equal, fresh, unless_ended, guard, set_flag, within, guarded}
 use Rattle.homeo_desugar.specs.inner.Key.{definitions as desugar_definitions}
 use Rattle.homeo_desugar.specs.inner.Made.{made}
-use Rattle.homeo_desugar.specs.inner.Settings.{plain_spot, setting}
-use Rattle.homeo_desugar.specs.declared.frame.Frame.{Frame}
+use Rattle.homeo_context.specs.Contexts.{plain_context}
 use Rattle.homeo_desugar.specs.declared.making.Making.{Making}
-use Rattle.homeo_desugar.specs.declared.slots.Spot as code
+use Rattle.homeo_context.specs.declared.context.Context.{Context}
 
 pub name_Some : (v : ℤ) (n : ℕ) → name_of (Some v) n ≡ L.Literal v
 unfolding definitions
@@ -27,15 +26,11 @@ pub name_None : (n : ℕ) → name_of None n ≡ L.OfTemp (temp.Named n)
 unfolding definitions
 name_None n = refl
 
-pub setting_arguments : (f : Frame) (n : ℕ) → (setting f).arguments n ≡ arguments_of (map (λ a. a.name) f.arguments.now) (map (λ a. a.value) f.arguments.now) n
-unfolding definitions desugar_definitions
-setting_arguments f n = refl
+pub arguments_are : (x : Context) (n : ℕ) → (plain_context x).arguments n ≡ arguments_of (map (λ a. a.name) x.arguments.now) (map (λ a. a.value) x.arguments.now) n
+unfolding definitions
+arguments_are x n = refl
 
-pub ruleset names = (name_Some, name_None, setting_arguments)
-
-pub spot_is : (s : code.Spot) → (plain_spot s).place ≡ s.place
-unfolding desugar_definitions
-spot_is s = refl
+pub ruleset names = (name_Some, name_None, arguments_are)
 
 -- ---- lists
 pub low_none : low_commands [] ≡ L.NoCommand
@@ -123,12 +118,4 @@ pub guarded_is : (b : Spot) (x : ℕ) (e : L.Expr) → guarded b x e ≡ L.If (w
 unfolding definitions
 guarded_is b x e = refl
 
-pub lo_is : (s : code.Spot) → (plain_spot s).lo ≡ s.lo
-unfolding desugar_definitions
-lo_is s = refl
-
-pub hi_is : (s : code.Spot) → (plain_spot s).hi ≡ s.hi
-unfolding desugar_definitions
-hi_is s = refl
-
-pub ruleset making = (within_is, guarded_is, spot_is, lo_is, hi_is)
+pub ruleset making = (within_is, guarded_is)

@@ -1,5 +1,5 @@
 -- The L form of what is called.
-use Rattle.std.proofs.Common.{◌≡◌, ℕ, zero, suc, ◌+◌, ◌*◌, ◌<◌, ◌≤◌, ◌==◌, Bool, true, false, cond, All, ℤ, Some, List, [], ◌∷◌, map, length, sym, ap, ◌∙◌, subst, arith}
+use Rattle.std.proofs.Common.{◌≡◌, ℕ, zero, suc, ◌+◌, ◌^◌, ◌<◌, ◌≤◌, true, false, ℤ, Some, List, [], ◌∷◌, map, length, sym, ap, ◌∙◌, subst, arith}
 use Rattle.std.specs.Prelude.{slice_get, IsSome}
 use Rattle.std.proofs.lemmas.Bool.{false≢true}
 use Rattle.homeo_syntax.specs.Key.{definitions as syntax_definitions}
@@ -12,7 +12,7 @@ use Rattle.homeo_syntax.specs.declared.workload.Transaction.{Transaction}
 use Rattle.homeo_syntax.specs.declared.workload.Workload.{Workload}
 use Rattle.homeo_meaning.specs.Key.{definitions}
 use Rattle.homeo_meaning.specs.Acceptance.{IsAccepted}
-use Rattle.homeo_meaning.specs.Context.{Context, context, arguments_of, object_count, find_fields}
+use Rattle.homeo_meaning.specs.Context.{Context, context, arguments_of}
 use Rattle.homeo_meaning.specs.Declarations.{Declarations}
 use Rattle.homeo_meaning.specs.Ground.{Ground}
 use Rattle.homeo_context.specs.Contexts.{call_context}
@@ -20,17 +20,15 @@ use Rattle.homeo_context.specs.declared.arguments.Argument.{Argument}
 use Rattle.homeo_meaning.specs.Aborts.{hold_abort}
 use Rattle.homeo_meaning.specs.LowWrites.{all_written}
 use Rattle.homeo_meaning.specs.LForm.{forms, saved_in, undoing, body_by, l_form}
-use Rattle.homeo_meaning.specs.Schema.{Relation, Schema, schema_of}
+use Rattle.homeo_meaning.specs.Schema.{Schema, schema_of}
 use Rattle.homeo_meaning.specs.NumberRules.{limit_faults}
 use Rattle.homeo_meaning.specs.declared.call.Purpose.TheVariants.{Run}
 use Rattle.homeo_meaning.proofs.FaultParts.{parts}
-use Rattle.homeo_meaning.proofs.SoundRelations.{SlotsFit, slots-fit, objects-fit}
-use Rattle.homeo_meaning.proofs.SoundRules.{all_head, all_tail}
+use Rattle.homeo_meaning.proofs.SoundRelations.{objects-fit}
 use Rattle.homeo_desugar.specs.inner.Key.{definitions as desugar_definitions}
 use Rattle.homeo_meaning.specs.CallForm.{body_form, ground_form}
 use Rattle.homeo_desugar.specs.inner.Made.{AreFormed}
-use Rattle.homeo_desugar.specs.inner.Settings.{absent, SchemaFits}
-use Rattle.homeo_desugar.proofs.Objects.{count_least}
+use Rattle.homeo_desugar.specs.inner.Numbers.{SchemaFits}
 
 -- ---- a transaction by its number
 in_list : (ts : List Transaction) (n : ℕ) → IsSome (slice_get (map plain_transaction ts) n) → n < length ts
@@ -43,46 +41,16 @@ unfolding syntax_definitions
 number_within w ts n e h = in_list ts n (subst (λ l. IsSome (slice_get (map plain_transaction l) n)) (sym e) h)
 
 -- ---- the schema of a workload
--- a relation has fewer fields than objects
-fewer : (k slots fields most : ℕ) → 1 ≤ slots → k + slots * (1 + fields) ≤ most → fields ≤ most
-fewer k slots fields most h e =
-    let wide : 1 * (1 + fields) ≤ slots * (1 + fields) = times 1 slots (1 + fields) h in
-    omega arith
-  where
-    times : (a b w : ℕ) → a ≤ b → a * w ≤ b * w
-    times a b w h = grind arith
-
-few_fields : (k : ℕ) (rs : List Relation) (n : ℕ) → All SlotsFit rs → object_count k rs ≤ 1024 → length (find_fields rs n) ≤ 1024
-unfolding definitions
-few_fields k [] n each few = omega arith
-few_fields k (r ∷ rs) n each few =
-    let first : SlotsFit r = all_head SlotsFit r rs each in
-    let room : k + r.slots * (1 + length r.fields) ≤ object_count (k + r.slots * (1 + length r.fields)) rs = count_least (k + r.slots * (1 + length r.fields)) rs in
-    by_name (r.name == n) (fewer k r.slots (length r.fields) 1024 first.least (omega arith)) (few_fields (k + r.slots * (1 + length r.fields)) rs n (all_tail SlotsFit r rs each) few)
-  where
-    by_name : (b : Bool) → length r.fields ≤ 1024 → length (find_fields rs n) ≤ 1024 → length (cond b r.fields (find_fields rs n)) ≤ 1024
-    by_name true h e = h
-    by_name false h e = e
-
--- an accepted workload has few objects and fields
+-- an accepted workload has few objects
 pub schema_fits : (w : Workload) (x : Schema) → x ≡ schema_of (plain_workload w) → IsAccepted (plain_workload w) → SchemaFits x
 schema_fits w x e accepted =
     let limits : limit_faults (plain_workload w) ≡ [] = (parts Run (plain_workload w) accepted.rules).text.limits in
-    subst SchemaFits (sym e) (fits (schema_of (plain_workload w)) (slots-fit (plain_workload w) limits) (objects-fit (plain_workload w) limits))
+    subst SchemaFits (sym e) (few_fit (objects-fit (plain_workload w) limits))
   where
-    fits : (x : Schema) → All SlotsFit x.relations → object_count (length x.objects) x.relations ≤ 1024 → SchemaFits x
-    fits x each few = record {
-      objects = omega arith;
-      fields = λ n. (let h = few_fields (length x.objects) x.relations n each few in omega (arith, h));
-    }
+    few_fit : {n : ℕ} → n ≤ 1024 → n + 1 < 2 ^ 32
+    few_fit h = omega arith
 
 -- ---- its form
--- the frame of a body is the context of its call
-pub frame_context : (d : Declarations) (given : List Argument) (past : ℕ) → past ≡ object_count (length d.schema.objects) d.schema.relations →
-    record { schema = d.schema; arguments = (call_context d given).arguments; rows = λ n. absent past } ≡ call_context d given
-unfolding definitions desugar_definitions
-frame_context d given past e = λ i. record { schema = d.schema; arguments = (call_context d given).arguments; rows = λ n. absent (e i) }
-
 -- a body that can't end its call
 pub plain_body : (x y : Context) (body : s.Commands) (after : ℕ) (made : L.Commands) → y ≡ x → hold_abort body ≡ false → AreFormed after (forms y false body 0) made → L.Seq made ≡ body_by (hold_abort body) x body
 unfolding definitions
@@ -108,7 +76,7 @@ transaction_formed t d bound given params args body r p b g a formed =
     let form : Context → List Command → L.Command = λ x cs. body_by (hold_abort (commands (map plain_command cs))) x (commands (map plain_command cs)) in
     formed
     ∙ (λ i. form (call_context d (g i)) body)
-    ∙ (λ i. form (record { schema = d.schema; arguments = a i; rows = λ n. absent (object_count (length d.schema.objects) d.schema.relations) }) body)
+    ∙ (λ i. form (record { schema = d.schema; arguments = a i; rows = (call_context d given).rows }) body)
     ∙ (λ i. form (context d.schema (map (λ p. p.name.name) (p i)) args) (b i))
 
 -- what a ground call calls

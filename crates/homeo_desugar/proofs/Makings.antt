@@ -1,5 +1,5 @@
 -- Commands and phrases that are made one after another.
-use Rattle.std.proofs.Common.{◌≡◌, ◌≢◌, ℕ, suc, ◌+◌, ◌-◌, ◌<◌, ◌≤◌, Bool, true, false, List, [], ◌∷◌, ◌++◌, drop, get_or, ℤ, pos, Some, None, Option, map, length, refl, sym, ap, ◌∙◌, subst, arith, add-one}
+use Rattle.std.proofs.Common.{◌≡◌, ◌≢◌, ℕ, suc, ◌+◌, ◌<◌, ◌≤◌, Bool, true, false, List, [], ◌∷◌, ◌++◌, drop, get_or, ℤ, pos, Some, None, Option, map, length, refl, sym, ap, ◌∙◌, subst, arith, add-one}
 use Rattle.std.proofs.Math.Seq.{drop-cons}
 use Rattle.std.proofs.lemmas.List.{map-append, drop_all}
 use Rattle.homeo_syntax.specs.Key.{definitions as syntax_definitions}
@@ -18,11 +18,11 @@ use Rattle.homeo_meaning.specs.Context.{Spot, Slot, Context, slots, fields, spot
 use Rattle.homeo_meaning.specs.LForm.{Lifted, Made, AllMade, both, one, in_front, unless_ended, in_turn, within, plain, mapped, combined, visits, counted, equal, read, fresh, literal_of, read_slot, read_chain, indexed_by, indexed, lift, lift_all, lift_test, lift_cond}
 use Rattle.homeo_desugar.specs.inner.Key.{definitions}
 use Rattle.homeo_desugar.specs.inner.Made.{made, IsLifted, IsAdded, IsTurned, IsTested, both_tests}
-use Rattle.homeo_desugar.specs.inner.Settings.{plain_slot, plain_slots, slots_after, slot_of}
+use Rattle.homeo_context.specs.Slots.{plain_slot, slots_of}
+use Rattle.homeo_context.proofs.SlotLists.{slot_of, left, left_next, left_all, left_none}
 use Rattle.homeo_desugar.specs.inner.Visits.{adding, used_and, visit_of}
-use Rattle.homeo_desugar.specs.declared.slots.Slot as one_slot
-use Rattle.homeo_desugar.specs.declared.slots.Slots as code
-use Rattle.homeo_desugar.proofs.SlotLists.{one_on, none_on, all_after}
+use Rattle.homeo_context.specs.declared.slots.Slot as one_slot
+use Rattle.homeo_context.specs.declared.slots.Slots as code
 use Rattle.homeo_desugar.specs.declared.making.Making.{Making}
 use Rattle.homeo_syntax.specs.declared.low.LExpr.{LExpr}
 use Rattle.homeo_syntax.specs.declared.low.LTest.{LTest}
@@ -218,10 +218,11 @@ unfolding definitions
 cond_lifted x old new c u before after r is none e h =
     subst (λ v. IsLifted old new (lift_cond x v old.next) r) (sym is) (record { phrase = e ∙ h.tests ∙ ap (λ b. both_tests b (lift_cond x u old.next).phrase) none; commands = h.commands; next = h.next })
 
-pub visit_lifted : (x : Context) (old new : Making) (slot : Slot) (c u : s.Cond) (before after r : L.Cond) → c ≡ u → before ≡ L.MoreTest (equal (read slot.used) (pos 1)) L.NoTest → r ≡ after → IsTested before after old new (lift_cond x u old.next) → IsLifted old new (used_and slot (lift_cond x c old.next)) r
+pub visit_lifted : (x inner : Context) (old new : Making) (slot : Slot) (c u : s.Cond) (before after r : L.Cond) → inner ≡ x → c ≡ u → before ≡ L.MoreTest (equal (read slot.used) (pos 1)) L.NoTest → r ≡ after → IsTested before after old new (lift_cond inner u old.next) → IsLifted old new (used_and slot (lift_cond x c old.next)) r
 unfolding definitions meaning_definitions
-visit_lifted x old new slot c u before after r is used e h =
-    subst (λ v. IsLifted old new (used_and slot (lift_cond x v old.next)) r) (sym is) (record { phrase = e ∙ h.tests ∙ ap (λ b. both_tests b (lift_cond x u old.next).phrase) used; commands = h.commands; next = h.next })
+visit_lifted x inner old new slot c u before after r bound is used e h =
+    let lifted : IsLifted old new (used_and slot (lift_cond inner u old.next)) r = record { phrase = e ∙ h.tests ∙ ap (λ b. both_tests b (lift_cond inner u old.next).phrase) used; commands = h.commands; next = h.next } in
+    subst (λ y. IsLifted old new (used_and slot (lift_cond y c old.next)) r) bound (subst (λ v. IsLifted old new (used_and slot (lift_cond inner v old.next)) r) (sym is) lifted)
 
 -- ---- visits
 -- What is made of the slots so far and what is left are the whole.
@@ -295,11 +296,10 @@ turn_guarded now start here new v c all guarded none h front is e n =
     }
 
 -- the lifted test of a slot and the form of its body
-pub visit_made : (x inner : Context) (row : ℕ) (b : s.Cond) (body : Slot → ℕ → Made) (slot : Slot) (old mid new : Making) (test : L.Cond) (then choice : L.Command) → inner ≡ bind x row slot → IsLifted old mid (used_and slot (lift_cond inner b old.next)) test →
+pub visit_made : (x : Context) (row : ℕ) (b : s.Cond) (body : Slot → ℕ → Made) (slot : Slot) (old mid new : Making) (test : L.Cond) (then choice : L.Command) → IsLifted old mid (used_and slot (lift_cond (bind x row slot) b old.next)) test →
     then ≡ (body slot mid.next).command → new.next ≡ (body slot mid.next).next → made new ≡ made mid → choice ≡ L.If test then L.Skip → IsLifted old new (visit_of (λ slot. lift_cond (bind x row slot) b) body slot old.next) choice
 unfolding definitions meaning_definitions
-visit_made x inner row b body slot old mid new test then choice bound lifted same next still chosen =
-    let h : IsLifted old mid (used_and slot (lift_cond (bind x row slot) b old.next)) test = subst (λ y. IsLifted old mid (used_and slot (lift_cond y b old.next)) test) bound lifted in
+visit_made x row b body slot old mid new test then choice h same next still chosen =
     let y : Lifted L.Cond = lift_cond (bind x row slot) b old.next in
     record {
       phrase = chosen ∙ ap (λ p. L.If p then L.Skip) h.phrase ∙ ap (λ q. L.If (L.MoreTest (equal (read slot.used) (pos 1)) y.phrase) q L.Skip) (same ∙ ap (λ n. (body slot n).command) h.next);
@@ -368,36 +368,35 @@ indexed_lifted x e all f old mid new i r h k =
     indexed_by_cases (literal_of y.phrase) all f old mid new y r refl (λ is v same. literal_alone x e old.next v (is ∙ same)) h.commands by_next
 
 -- ---- loops of the code over slots
-pub visits_begin : (g later : Bool) (test : Slot → ℕ → Lifted L.Cond) (body : Slot → ℕ → Made) (all : code.Slots) (m : Making) → VisitsLeft m m (visits g later test body (slots_after all 0 (all.count - 0)) m.next) (visits g later test body (plain_slots all) m.next)
+pub visits_begin : (g later : Bool) (test : Slot → ℕ → Lifted L.Cond) (body : Slot → ℕ → Made) (all : code.Slots) (m : Making) → VisitsLeft m m (visits g later test body (left all 0) m.next) (visits g later test body (slots_of all) m.next)
 visits_begin g later test body all m =
-    subst (λ l. VisitsLeft m m (visits g later test body l m.next) (visits g later test body (plain_slots all) m.next)) (sym (all_after all 0 (omega arith))) (record { commands = refl; next = refl })
+    subst (λ l. VisitsLeft m m (visits g later test body l m.next) (visits g later test body (slots_of all) m.next)) (sym (left_all all)) (record { commands = refl; next = refl })
 
-pub visit_step : (x inner : Context) (row number : ℕ) (b : s.Cond) (body : Slot → ℕ → Made) (all : code.Slots) (slot : one_slot.Slot) (old now mid new : Making) (test : L.Cond) (then choice : L.Command) (whole : AllMade) →
-    number < all.count → plain_slot slot ≡ slot_of all number → inner ≡ bind x row (plain_slot slot) → IsLifted now mid (used_and (plain_slot slot) (lift_cond inner b now.next)) test →
+pub visit_step : (x : Context) (row number : ℕ) (b : s.Cond) (body : Slot → ℕ → Made) (all : code.Slots) (slot : one_slot.Slot) (old now mid new : Making) (test : L.Cond) (then choice : L.Command) (whole : AllMade) →
+    number < all.count → plain_slot slot ≡ slot_of all number → IsLifted now mid (used_and (plain_slot slot) (lift_cond (bind x row (plain_slot slot)) b now.next)) test →
     then ≡ (body (plain_slot slot) mid.next).command → new.next ≡ (body (plain_slot slot) mid.next).next → choice ≡ L.If test then L.Skip → made new ≡ both (made mid) (one choice) →
-    VisitsLeft old now (visits false false (λ slot. lift_cond (bind x row slot) b) body (slots_after all number (all.count - number)) now.next) whole →
-    VisitsLeft old new (visits false false (λ slot. lift_cond (bind x row slot) b) body (slots_after all (number + 1) (all.count - (number + 1))) new.next) whole
-visit_step x inner row number b body all slot old now mid new test then choice whole within is bound lifted same next chosen pushed left =
+    VisitsLeft old now (visits false false (λ slot. lift_cond (bind x row slot) b) body (left all number) now.next) whole →
+    VisitsLeft old new (visits false false (λ slot. lift_cond (bind x row slot) b) body (left all (number + 1)) new.next) whole
+visit_step x row number b body all slot old now mid new test then choice whole within is lifted same next chosen pushed rest =
     let here : Slot = slot_of all number in
     let tests : Slot → ℕ → Lifted L.Cond = λ slot. lift_cond (bind x row slot) b in
-    let by_row : IsLifted now mid (used_and (plain_slot slot) (lift_cond (bind x row (plain_slot slot)) b now.next)) test = subst (λ y. IsLifted now mid (used_and (plain_slot slot) (lift_cond y b now.next)) test) bound lifted in
-    let by_slot : IsLifted now mid (used_and here (tests here now.next)) test = subst (λ r. IsLifted now mid (used_and r (lift_cond (bind x row r) b now.next)) test) is by_row in
-    visited tests body old now mid new here (slots_after all (number + 1) (all.count - (number + 1))) test then whole by_slot (same ∙ ap (λ r. (body r mid.next).command) is) (next ∙ ap (λ r. (body r mid.next).next) is) (pushed ∙ ap (λ c. both (made mid) (one c)) chosen)
-    (subst (λ l. VisitsLeft old now (visits false false tests body l now.next) whole) (one_on all number within) left)
+    let by_slot : IsLifted now mid (used_and here (tests here now.next)) test = subst (λ r. IsLifted now mid (used_and r (lift_cond (bind x row r) b now.next)) test) is lifted in
+    visited tests body old now mid new here (left all (number + 1)) test then whole by_slot (same ∙ ap (λ r. (body r mid.next).command) is) (next ∙ ap (λ r. (body r mid.next).next) is) (pushed ∙ ap (λ c. both (made mid) (one c)) chosen)
+    (subst (λ l. VisitsLeft old now (visits false false tests body l now.next) whole) (left_next all number within) rest)
 
 -- of a loop whose slots may be guarded
 pub turn_step : (g later : Bool) (x : Context) (row number : ℕ) (b : s.Cond) (body : Slot → ℕ → Made) (all : code.Slots) (old now new : Making) (whole : AllMade) →
     number < all.count → IsTurned g now new (visit_of (λ slot. lift_cond (bind x row slot) b) body (slot_of all number) now.next) →
-    VisitsLeft old now (visits g later (λ slot. lift_cond (bind x row slot) b) body (slots_after all number (all.count - number)) now.next) whole →
-    VisitsLeft old new (visits later later (λ slot. lift_cond (bind x row slot) b) body (slots_after all (number + 1) (all.count - (number + 1))) new.next) whole
-turn_step g later x row number b body all old now new whole within h left =
+    VisitsLeft old now (visits g later (λ slot. lift_cond (bind x row slot) b) body (left all number) now.next) whole →
+    VisitsLeft old new (visits later later (λ slot. lift_cond (bind x row slot) b) body (left all (number + 1)) new.next) whole
+turn_step g later x row number b body all old now new whole within h rest =
     let tests : Slot → ℕ → Lifted L.Cond = λ slot. lift_cond (bind x row slot) b in
-    turned g later tests body old now new (slot_of all number) (slots_after all (number + 1) (all.count - (number + 1))) whole h
-    (subst (λ l. VisitsLeft old now (visits g later tests body l now.next) whole) (one_on all number within) left)
+    turned g later tests body old now new (slot_of all number) (left all (number + 1)) whole h
+    (subst (λ l. VisitsLeft old now (visits g later tests body l now.next) whole) (left_next all number within) rest)
 
-pub visits_done : (g later : Bool) (test : Slot → ℕ → Lifted L.Cond) (body : Slot → ℕ → Made) (all : code.Slots) (number : ℕ) (old now : Making) (whole : AllMade) → all.count ≤ number → VisitsLeft old now (visits g later test body (slots_after all number (all.count - number)) now.next) whole → IsAdded old now whole
-visits_done g later test body all number old now whole h left =
-    visits_end g later test body old now whole (subst (λ l. VisitsLeft old now (visits g later test body l now.next) whole) (none_on all number h) left)
+pub visits_done : (g later : Bool) (test : Slot → ℕ → Lifted L.Cond) (body : Slot → ℕ → Made) (all : code.Slots) (number : ℕ) (old now : Making) (whole : AllMade) → all.count ≤ number → VisitsLeft old now (visits g later test body (left all number) now.next) whole → IsAdded old now whole
+visits_done g later test body all number old now whole h rest =
+    visits_end g later test body old now whole (subst (λ l. VisitsLeft old now (visits g later test body l now.next) whole) (left_none all number h) rest)
 
 -- slots of the code
 pub counted_as : (test : Slot → ℕ → Lifted L.Cond) (term : Slot → L.Expr) (all wanted : List Slot) (old new : Making) (r : L.Expr) → all ≡ wanted → IsLifted old new (counted test term all old.next) r → IsLifted old new (counted test term wanted old.next) r

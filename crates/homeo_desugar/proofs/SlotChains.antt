@@ -1,7 +1,7 @@
 -- Chains of slots, made from the last slot backwards.
-use Rattle.std.proofs.Common.{◌≡◌, ℕ, suc, ◌+◌, ◌-◌, ◌<◌, ◌≤◌, pos, List, [], ◌∷◌, ◌++◌, drop, get_or, map, length, All, sym, ap, ◌∙◌, subst, add-one}
+use Rattle.std.proofs.Common.{◌≡◌, ℕ, suc, ◌+◌, ◌-◌, ◌<◌, ◌≤◌, pos, List, [], ◌∷◌, ◌++◌, drop, get_or, map, length, sym, ap, ◌∙◌, add-one}
 use Rattle.std.proofs.Math.Seq.{drop-cons}
-use Rattle.std.proofs.lemmas.List.{length-map, drop_all}
+use Rattle.std.proofs.lemmas.List.{drop_all}
 use Rattle.homeo_syntax.specs.Listed.{Listed}
 use Rattle.homeo_syntax.specs.Low as L
 use Rattle.homeo_syntax.specs.declared.low.Temp.TheVariants as temp
@@ -10,32 +10,32 @@ use Rattle.homeo_syntax.specs.declared.low.LCommand.{LCommand}
 use Rattle.homeo_syntax.specs.declared.workload.RangeDecl.{RangeDecl}
 use Rattle.homeo_syntax.specs.LowView.{low_commands, plain_lcommand}
 use Rattle.homeo_meaning.specs.Key.{definitions as meaning_definitions}
-use Rattle.homeo_meaning.specs.Schema.{declared_range}
 use Rattle.homeo_meaning.specs.Context.{Spot, Slot, cell}
 use Rattle.homeo_meaning.specs.LForm.{Target, both, one, read, fresh, equal, one_test, within, read_chain, write_chain, fill_chain, all_within, field_writes}
 use Rattle.homeo_desugar.specs.inner.Key.{definitions}
-use Rattle.homeo_desugar.specs.inner.Settings.{plain_spot, slots_after, slot_of}
+use Rattle.homeo_context.specs.Slots.{plain_spot}
+use Rattle.homeo_context.proofs.SlotLists.{slot_of, left}
 use Rattle.homeo_desugar.specs.inner.Made.{plain_target, both_tests, AreWithin, filled}
 use Rattle.homeo_desugar.specs.declared.making.Target as code
-use Rattle.homeo_desugar.specs.declared.slots.Slots as all
+use Rattle.homeo_context.specs.declared.slots.Slots.{Slots}
 use Rattle.homeo_desugar.proofs.Makings.{both_both, made_push, tests_none, tests_tests}
 use Rattle.homeo_desugar.proofs.SlotLists.{one_more}
 
 -- ---- one slot more
-pub read_more : (s : all.Slots) (number : ℕ) (f : Spot) (e : L.Expr) (t : ℕ) (test : L.Cond) (here more chain : L.Command) → 0 < number → number ≤ s.count → chain ≡ L.If test here more → test ≡ one_test (equal e (pos (number - 1))) →
-    here ≡ L.Assign (temp.Fresh t) (read (cell (slot_of s (number - 1)) f)) → more ≡ read_chain f e t (slots_after s number (s.count - number)) → chain ≡ read_chain f e t (slots_after s (number - 1) (s.count - (number - 1)))
+pub read_more : (s : Slots) (number : ℕ) (f : Spot) (e : L.Expr) (t : ℕ) (test : L.Cond) (here more chain : L.Command) → 0 < number → number ≤ s.count → chain ≡ L.If test here more → test ≡ one_test (equal e (pos (number - 1))) →
+    here ≡ L.Assign (temp.Fresh t) (read (cell (slot_of s (number - 1)) f)) → more ≡ read_chain f e t (left s number) → chain ≡ read_chain f e t (left s (number - 1))
 unfolding definitions meaning_definitions
 read_more s number f e t test here more chain h k a b c d =
     a ∙ (λ i. L.If (b i) (c i) (d i)) ∙ sym (ap (read_chain f e t) (one_more s number h k))
 
-pub write_more : (s : all.Slots) (number : ℕ) (f : Spot) (e v : L.Expr) (test : L.Cond) (here more chain : L.Command) → 0 < number → number ≤ s.count → chain ≡ L.If test here more → test ≡ one_test (equal e (pos (number - 1))) →
-    here ≡ L.Write (split.Whole (cell (slot_of s (number - 1)) f)) v → more ≡ write_chain f e v (slots_after s number (s.count - number)) → chain ≡ write_chain f e v (slots_after s (number - 1) (s.count - (number - 1)))
+pub write_more : (s : Slots) (number : ℕ) (f : Spot) (e v : L.Expr) (test : L.Cond) (here more chain : L.Command) → 0 < number → number ≤ s.count → chain ≡ L.If test here more → test ≡ one_test (equal e (pos (number - 1))) →
+    here ≡ L.Write (split.Whole (cell (slot_of s (number - 1)) f)) v → more ≡ write_chain f e v (left s number) → chain ≡ write_chain f e v (left s (number - 1))
 unfolding definitions meaning_definitions
 write_more s number f e v test here more chain h k a b c d =
     a ∙ (λ i. L.If (b i) (c i) (d i)) ∙ sym (ap (write_chain f e v) (one_more s number h k))
 
-pub fill_more : (s : all.Slots) (number : ℕ) (xs : List Target) (t : ℕ) (test : L.Cond) (here more chain : L.Command) → 0 < number → number ≤ s.count → chain ≡ L.If test here more → test ≡ one_test (equal (read (slot_of s (number - 1)).used) (pos 0)) →
-    here ≡ filled (slot_of s (number - 1)) xs t → more ≡ fill_chain xs t (slots_after s number (s.count - number)) → chain ≡ fill_chain xs t (slots_after s (number - 1) (s.count - (number - 1)))
+pub fill_more : (s : Slots) (number : ℕ) (xs : List Target) (t : ℕ) (test : L.Cond) (here more chain : L.Command) → 0 < number → number ≤ s.count → chain ≡ L.If test here more → test ≡ one_test (equal (read (slot_of s (number - 1)).used) (pos 0)) →
+    here ≡ filled (slot_of s (number - 1)) xs t → more ≡ fill_chain xs t (left s number) → chain ≡ fill_chain xs t (left s (number - 1))
 unfolding definitions meaning_definitions
 fill_more s number xs t test here more chain h k a b c d =
     a ∙ (λ i. L.If (b i) (c i) (d i)) ∙ sym (ap (fill_chain xs t) (one_more s number h k))
@@ -96,13 +96,6 @@ fill_end slot ts i into cs a b k m mid new h first second e f left =
     ∙ sym (ap (λ xs. both made (field_writes slot (map plain_target xs) last)) (drop_all i ts h))
     ∙ left last
     )
-
--- fields that are declared alike
-pub within_same : (a b : List RangeDecl) (ts : List code.Target) → map declared_range a ≡ map declared_range b → AreWithin b ts → AreWithin a ts
-unfolding definitions
-within_same a b ts e h =
-    let same : length b ≡ length a = sym (length-map b declared_range) ∙ sym (ap length e) ∙ length-map a declared_range in
-    subst (λ n. All (λ (t : code.Target). t.field.place ≤ n) ts) same h
 
 -- each of the targets
 pub place_within : (fields : List RangeDecl) (ts : List code.Target) (i : ℕ) (d : code.Target) → i < length ts → AreWithin fields ts → (get_or ts i d).field.place ≤ length fields

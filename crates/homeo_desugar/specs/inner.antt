@@ -1,4 +1,4 @@
 pub mod Key
 pub mod Made
-pub mod Settings
+pub mod Numbers
 pub mod Visits

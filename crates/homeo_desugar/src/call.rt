@@ -10,13 +10,11 @@ ghost use Rattle.homeo_meaning.specs.Aborts.{hold_abort};
 ghost use Rattle.homeo_meaning.specs.LForm.{body_by, l_form};
 ghost use Rattle.homeo_meaning.specs.SameRun.{MeansCall};
 ghost use Rattle.homeo_context.specs.Contexts.{call_context};
-ghost use Rattle.homeo_desugar.specs.inner.Settings.{SchemaFits};
+ghost use Rattle.homeo_desugar.specs.inner.Numbers.{SchemaFits};
 
 use crate::forming::form_all;
-use crate::frame::Frame;
-use crate::slots::Rows;
 use crate::undoing::{first_behind, objects_written, undoing};
-use homeo_context::{Argument, Declarations, bind};
+use homeo_context::{Argument, BoundRows, Context, Declarations, bind};
 use homeo_meaning::{Accepted, GroundCall, hold_abort};
 use homeo_syntax::{Command, LCommand, Memory, Transaction, Workload};
 use std::alloc::Global;
@@ -40,20 +38,18 @@ fn form_body<'a>(
     ensures { IfOk result (λ c. plain_lcommand c ≡ body_by (hold_abort (commands (map plain_command body.now)))
         (call_context declared.now arguments.now) (commands (map plain_command body.now))) }
 {
-    let frame = Frame {
-        declared,
-        arguments,
-        past: declared.object_count() as u32,
-        rows: Rows::Outside,
+    let rows = BoundRows::Outside {
+        objects: declared.object_count(),
     };
+    let context = Context::new(alloc, declared, arguments, &rows);
     let mut next = 0;
-    let commands = form_all(alloc, body, &frame, &mut next)?;
+    let commands = form_all(body, &context, &mut next)?;
     if !hold_abort(body) {
         return Ok(LCommand::Seq { commands });
     }
     let saved = objects_written(alloc, commands.as_slice())?;
     let mut next = first_behind(saved.as_slice())?;
-    let commands = form_all(alloc, body, &frame, &mut next)?;
+    let commands = form_all(body, &context, &mut next)?;
     undoing(alloc, saved.as_slice(), commands)
 }
 

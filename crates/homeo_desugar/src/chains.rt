@@ -1,23 +1,26 @@
 //! Chains of slots: one command for each, and the slot chosen by an index or by its being free.
 
-ghost use Rattle.std.specs.Prelude.{◌≡◌, ◌≤◌, ◌<◌, ◌^◌, pos, map, length, IfOk};
+ghost use Rattle.std.specs.Prelude.{◌≡◌, ◌≤◌, pos, map, length, IfOk};
 ghost use Rattle.homeo_syntax.specs.Low.{Write, If, Skip, NoTest};
 ghost use Rattle.homeo_syntax.specs.LowView.{plain_lexpr, plain_lcond, plain_lcommand};
 ghost use Rattle.homeo_meaning.specs.LForm.{equal, one_test, within, read_chain, write_chain, fill_chain, all_within};
-ghost use Rattle.homeo_desugar.specs.inner.Settings.{plain_spot, plain_slot, plain_slots, SlotsFit, IsLow};
+ghost use Rattle.homeo_context.specs.Slots.{plain_spot, plain_slot, slots_of, IsNumbered};
+ghost use Rattle.homeo_desugar.specs.inner.Numbers.{IsLow};
 ghost use Rattle.homeo_desugar.specs.inner.Made.{plain_target, AreWithin, filled};
 
 use crate::making::{Target, choice, equal, fresh, one_test, push_within, read, within};
-use crate::slots::{Slot, Slots, Spot};
+use crate::objects::{cell, used};
+use homeo_context::{Slot, Slots, Spot};
 use homeo_syntax::{LCommand, LCond, LExpr, List, Memory, SplitName, Temp};
 use std::alloc::Global;
 
-/// Tests whether an index names the slot of a number.
-fn is_slot(alloc: Global, index: &LExpr, number: u32) -> Result<LCond, Memory>
-    ensures { IfOk result (λ c. plain_lcond c ≡ one_test (equal (plain_lexpr index.now) (pos number))) }
+/// Tests whether an index names a slot.
+fn is_slot(alloc: Global, index: &LExpr, slot: Slot<'_>) -> Result<LCond, Memory>
+    requires low { IsLow (plain_slot slot) }
+    ensures { IfOk result (λ c. plain_lcond c ≡ one_test (equal (plain_lexpr index.now) (pos slot.entry.number))) }
 {
     let index = index.copy(alloc)?;
-    one_test(alloc, equal(index, i64::from(number)))
+    one_test(alloc, equal(index, slot.number as i64))
 }
 
 /// Writes a copy of a value.
@@ -37,10 +40,10 @@ pub(crate) fn read_chain(
     field: Spot,
     target: u32,
 ) -> Result<LCommand, Memory>
-    requires slots { SlotsFit slots }
+    requires slots { IsNumbered slots }
     requires within { field.place ≤ length slots.fields.now }
     ensures { IfOk result (λ c. plain_lcommand c ≡
-        read_chain (plain_spot field) (plain_lexpr index.now) target (plain_slots slots.entry)) }
+        read_chain (plain_spot field) (plain_lexpr index.now) target (slots_of slots.entry)) }
 {
     let target = Temp::Fresh(target);
     let mut chain = LCommand::Assign {
@@ -50,8 +53,9 @@ pub(crate) fn read_chain(
     let mut number = slots.count;
     while number > 0 {
         number -= 1;
-        let test = is_slot(alloc, index, number)?;
-        let value = read(slots.slot(number).cell(field));
+        let slot = slots.slot(number);
+        let test = is_slot(alloc, index, slot)?;
+        let value = read(cell(slot, field));
         chain = choice(alloc, test, LCommand::Assign { target, value }, chain)?;
     }
     Ok(chain)
@@ -65,18 +69,18 @@ fn write_chain(
     field: Spot,
     value: &LExpr,
 ) -> Result<LCommand, Memory>
-    requires slots { SlotsFit slots }
+    requires slots { IsNumbered slots }
     requires within { field.place ≤ length slots.fields.now }
     ensures { IfOk result (λ c. plain_lcommand c ≡
-        write_chain (plain_spot field) (plain_lexpr index.now) (plain_lexpr value.now) (plain_slots slots.entry)) }
+        write_chain (plain_spot field) (plain_lexpr index.now) (plain_lexpr value.now) (slots_of slots.entry)) }
 {
     let mut chain = LCommand::Skip;
     let mut number = slots.count;
     while number > 0 {
         number -= 1;
-        let target = SplitName::Whole(slots.slot(number).cell(field));
-        let test = is_slot(alloc, index, number)?;
-        let write = write(alloc, target, value)?;
+        let slot = slots.slot(number);
+        let test = is_slot(alloc, index, slot)?;
+        let write = write(alloc, SplitName::Whole(cell(slot, field)), value)?;
         chain = choice(alloc, test, write, chain)?;
     }
     Ok(chain)
@@ -90,10 +94,10 @@ pub(crate) fn write_by_index(
     field: Spot,
     value: &LExpr,
 ) -> Result<LCommand, Memory>
-    requires slots { SlotsFit slots }
+    requires slots { IsNumbered slots }
     requires within { field.place ≤ length slots.fields.now }
     ensures { IfOk result (λ c. plain_lcommand c ≡ If (within (plain_spot field) (plain_lexpr value.now) NoTest)
-        (write_chain (plain_spot field) (plain_lexpr index.now) (plain_lexpr value.now) (plain_slots slots.entry)) Skip) }
+        (write_chain (plain_spot field) (plain_lexpr index.now) (plain_lexpr value.now) (slots_of slots.entry)) Skip) }
 {
     let test = within(alloc, field, value)?;
     let chain = write_chain(alloc, index, slots, field, value)?;
@@ -119,19 +123,19 @@ fn fill(alloc: Global, slot: Slot<'_>, targets: &[Target], into: u32) -> Result<
 {
     let mut commands = List::new(alloc);
     for target in targets {
-        let object = slot.cell(target.field);
+        let object = cell(slot, target.field);
         commands.push(LCommand::Write {
             target: SplitName::Whole(object),
             value: fresh(target.temp),
         })?;
     }
     commands.push(LCommand::Write {
-        target: SplitName::Whole(slot.used),
+        target: SplitName::Whole(used(slot)),
         value: LExpr::Literal(1),
     })?;
     commands.push(LCommand::Assign {
         target: Temp::Named(into),
-        value: LExpr::Literal(i64::from(slot.number) + 1),
+        value: LExpr::Literal(slot.number as i64 + 1),
     })?;
     Ok(LCommand::Seq { commands })
 }
@@ -143,10 +147,10 @@ pub(crate) fn fill_chain(
     targets: &[Target],
     into: u32,
 ) -> Result<LCommand, Memory>
-    requires slots { SlotsFit slots }
+    requires slots { IsNumbered slots }
     requires within { AreWithin slots.fields.now targets.now }
     ensures { IfOk result (λ c. plain_lcommand c ≡
-        fill_chain (map plain_target targets.now) into (plain_slots slots.entry)) }
+        fill_chain (map plain_target targets.now) into (slots_of slots.entry)) }
 {
     let mut chain = LCommand::Assign {
         target: Temp::Named(into),
@@ -156,7 +160,7 @@ pub(crate) fn fill_chain(
     while number > 0 {
         number -= 1;
         let slot = slots.slot(number);
-        let test = one_test(alloc, equal(read(slot.used), 0))?;
+        let test = one_test(alloc, equal(read(used(slot)), 0))?;
         let filled = fill(alloc, slot, targets, into)?;
         chain = choice(alloc, test, filled, chain)?;
     }

@@ -5,10 +5,9 @@
 mod call;
 mod chains;
 mod forming;
-mod frame;
 mod lifting;
 mod making;
-mod slots;
+mod objects;
 mod undoing;
 
 pub use call::desugar;

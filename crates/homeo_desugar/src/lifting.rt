@@ -1,19 +1,21 @@
 //! The L forms of expressions and conditions.
 
-ghost use Rattle.std.specs.Prelude.{false, ◌≡◌, ◌≤◌, ◌<◌, ◌^◌, map, Option, length, IfOk, OnOk};
+ghost use Rattle.std.specs.Prelude.{false, ◌≡◌, map, Option, IfOk, OnOk};
 ghost use Rattle.homeo_syntax.specs.SourceView.{exprs, tests, plain_expr, plain_test, plain_cond};
 ghost use Rattle.homeo_syntax.specs.LowView.{low_exprs, low_tests, plain_lexpr, plain_ltest, plain_lcond, plain_lcommand};
 ghost use Rattle.homeo_meaning.specs.Schema.{declared_range};
 ghost use Rattle.homeo_meaning.specs.Context.{spot, bind};
-ghost use Rattle.homeo_meaning.specs.LForm.{plain, indexed, visits, counted, lift, lift_all, lift_test, lift_cond};
-ghost use Rattle.homeo_desugar.specs.inner.Settings.{plain_slot, plain_slots, SlotsFit, setting, IsLow, Fits};
+ghost use Rattle.homeo_meaning.specs.LForm.{plain, name_of, indexed, visits, counted, lift, lift_all, lift_test, lift_cond};
+ghost use Rattle.homeo_context.specs.Slots.{plain_slot, slots_of, IsNumbered};
+ghost use Rattle.homeo_context.specs.Contexts.{plain_context};
+ghost use Rattle.homeo_desugar.specs.inner.Numbers.{IsLow, Fits};
 ghost use Rattle.homeo_desugar.specs.inner.Made.{IsLifted, IsTested, IsAdded};
 ghost use Rattle.homeo_desugar.specs.inner.Visits.{term_of, added, adding, used_and};
 
 use crate::chains::read_chain;
-use crate::frame::Frame;
 use crate::making::{Making, choice, equal, fresh, literal_of, read};
-use crate::slots::{Slot, Slots, field};
+use crate::objects::{cell, field_cell, used};
+use homeo_context::{BoundRows, Context, Slot, Slots, argument_of};
 use homeo_syntax::{Cond, Expr, LCommand, LCond, LExpr, LTest, List, Memory, Temp, Test};
 use std::alloc::Global;
 
@@ -25,14 +27,14 @@ fn indexed(
     name: u32,
     out: &mut Making,
 ) -> Result<LExpr, Memory>
-    requires slots { SlotsFit slots }
-    ensures { IfOk result (λ r. IsLifted out.old out.new (indexed (plain_slots slots.entry)
+    requires slots { IsNumbered slots }
+    ensures { IfOk result (λ r. IsLifted out.old out.new (indexed (slots_of slots.entry)
         (spot (map declared_range slots.entry.fields.now) name) (plain (plain_lexpr index) out.old.next)) (plain_lexpr r)) }
 {
-    let field = field(slots.fields, name);
+    let field = slots.field(name);
     if let Some(number) = literal_of(&index) {
         return Ok(match slots.at(number) {
-            Some(slot) => read(slot.cell(field)),
+            Some(slot) => read(cell(slot, field)),
             None => LExpr::Literal(0),
         });
     }
@@ -42,13 +44,24 @@ fn indexed(
     Ok(fresh(temp))
 }
 
+/// A parameter's argument, or else the temporary of the name.
+#[tactic(auto, using(homeo_syntax::proofs::LowViews::low_phrase_views, crate::proofs::Equations::names))]
+fn named(name: u32, context: &Context<'_>) -> LExpr
+    ensures { plain_lexpr result ≡ name_of ((plain_context context.now).arguments name) name }
+{
+    match argument_of(context.arguments, name) {
+        Some(value) => LExpr::Literal(value),
+        None => LExpr::Temp(Temp::Named(name)),
+    }
+}
+
 /// What a used slot adds: 1, or a field.
 fn term(slot: Slot<'_>, field: Option<u32>) -> LExpr
     requires low { IsLow (plain_slot slot) }
     ensures { plain_lexpr result ≡ term_of field (plain_slot slot.entry) }
 {
     match field {
-        Some(name) => read(slot.field_cell(name)),
+        Some(name) => read(field_cell(slot, name)),
         None => LExpr::Literal(1),
     }
 }
@@ -69,48 +82,49 @@ fn add(alloc: Global, total: u32, term: LExpr) -> Result<LCommand, Memory>
 /// The L form of an expression. The commands that have to run before it stand behind the others.
 #[cycle(phrases)]
 #[tactic(auto, using(homeo_syntax::proofs::Measures::phrase_parts))]
-pub(crate) fn lift(
-    alloc: Global,
-    e: &Expr,
-    frame: &Frame<'_>,
-    out: &mut Making,
-) -> Result<LExpr, Memory>
-    requires fits { Fits (setting frame.now) }
+pub(crate) fn lift(e: &Expr, context: &Context<'_>, out: &mut Making) -> Result<LExpr, Memory>
+    requires fits { Fits (plain_context context.now) }
     ensures { IfOk result (λ r. IsLifted out.old out.new
-        (lift (setting frame.now) (plain_expr e.now) out.old.next) (plain_lexpr r)) }
+        (lift (plain_context context.now) (plain_expr e.now) out.old.next) (plain_lexpr r)) }
 {
     match e {
         Expr::Literal(n) => Ok(LExpr::Literal(*n)),
-        Expr::Name(x) => Ok(frame.name(x.name)),
-        Expr::Read(x) => Ok(read(frame.object(x.name).place)),
+        Expr::Name(x) => Ok(named(x.name, context)),
+        Expr::Read(x) => Ok(read(context.object(x.name).place as u32)),
         Expr::Sum(es) => {
-            let terms = lift_all(alloc, es.as_slice(), frame, out)?;
+            let terms = lift_all(es.as_slice(), context, out)?;
             Ok(LExpr::Sum(terms))
         }
         Expr::Product(es) => {
-            let factors = lift_all(alloc, es.as_slice(), frame, out)?;
+            let factors = lift_all(es.as_slice(), context, out)?;
             Ok(LExpr::Product(factors))
         }
         Expr::Neg(inner) => {
-            let inner = lift(alloc, inner, frame, out)?;
-            Ok(LExpr::Neg(Box::new(alloc, inner)?))
+            let inner = lift(inner, context, out)?;
+            Ok(LExpr::Neg(Box::new(context.alloc, inner)?))
         }
         Expr::Field {
             relation,
             index,
             field,
         } => {
-            let index = lift(alloc, index, frame, out)?;
-            indexed(alloc, index, frame.slots(relation.name), field.name, out)
+            let index = lift(index, context, out)?;
+            indexed(
+                context.alloc,
+                index,
+                context.relation(relation.name),
+                field.name,
+                out,
+            )
         }
-        Expr::Row { row, field } => Ok(read(frame.row(row.name).field_cell(field.name))),
+        Expr::Row { row, field } => Ok(read(field_cell(context.row(row.name), field.name))),
         Expr::Count {
             row,
             relation,
             test,
         } => {
-            let slots = frame.slots(relation.name);
-            counted(alloc, test, row.name, slots, None, frame, out)
+            let slots = context.relation(relation.name);
+            counted(test, row.name, slots, None, context, out)
         }
         Expr::Total {
             row,
@@ -118,28 +132,23 @@ pub(crate) fn lift(
             relation,
             test,
         } => {
-            let slots = frame.slots(relation.name);
-            counted(alloc, test, row.name, slots, Some(field.name), frame, out)
+            let slots = context.relation(relation.name);
+            counted(test, row.name, slots, Some(field.name), context, out)
         }
     }
 }
 
 #[cycle(phrases)]
 #[tactic(auto, using(homeo_syntax::proofs::Measures::phrase_parts))]
-fn lift_all(
-    alloc: Global,
-    es: &[Expr],
-    frame: &Frame<'_>,
-    out: &mut Making,
-) -> Result<List<LExpr>, Memory>
-    requires fits { Fits (setting frame.now) }
+fn lift_all(es: &[Expr], context: &Context<'_>, out: &mut Making) -> Result<List<LExpr>, Memory>
+    requires fits { Fits (plain_context context.now) }
     ensures { IfOk result (λ r. IsLifted out.old out.new
-        (lift_all (setting frame.now) (exprs (map plain_expr es.now)) out.old.next)
+        (lift_all (plain_context context.now) (exprs (map plain_expr es.now)) out.old.next)
         (low_exprs (map plain_lexpr r.items))) }
 {
-    let mut lifted = List::new(alloc);
+    let mut lifted = List::new(context.alloc);
     for e in es {
-        let one = lift(alloc, e, frame, out)?;
+        let one = lift(e, context, out)?;
         lifted.push(one)?;
     }
     Ok(lifted)
@@ -147,20 +156,20 @@ fn lift_all(
 
 #[cycle(phrases)]
 #[tactic(auto, using(homeo_syntax::proofs::Measures::phrase_parts))]
-fn lift_test(alloc: Global, t: &Test, frame: &Frame<'_>, out: &mut Making) -> Result<LTest, Memory>
-    requires fits { Fits (setting frame.now) }
+fn lift_test(t: &Test, context: &Context<'_>, out: &mut Making) -> Result<LTest, Memory>
+    requires fits { Fits (plain_context context.now) }
     ensures { IfOk result (λ r. IsLifted out.old out.new
-        (lift_test (setting frame.now) (plain_test t.now) out.old.next) (plain_ltest r)) }
+        (lift_test (plain_context context.now) (plain_test t.now) out.old.next) (plain_ltest r)) }
 {
     match t {
         Test::True => Ok(LTest::True),
         Test::Not(c) => {
-            let inner = lift_cond(alloc, c, frame, out)?;
+            let inner = lift_cond(c, context, out)?;
             Ok(LTest::Not(inner))
         }
         Test::Compare { op, left, right } => {
-            let left = lift(alloc, left, frame, out)?;
-            let right = lift(alloc, right, frame, out)?;
+            let left = lift(left, context, out)?;
+            let right = lift(right, context, out)?;
             Ok(LTest::Compare {
                 op: *op,
                 left,
@@ -173,38 +182,40 @@ fn lift_test(alloc: Global, t: &Test, frame: &Frame<'_>, out: &mut Making) -> Re
 /// The L form of a condition. The commands that have to run before it stand behind the others.
 #[cycle(phrases)]
 #[tactic(auto, using(homeo_syntax::proofs::Measures::phrase_parts))]
-pub(crate) fn lift_cond(
-    alloc: Global,
-    c: &Cond,
-    frame: &Frame<'_>,
-    out: &mut Making,
-) -> Result<LCond, Memory>
-    requires fits { Fits (setting frame.now) }
+pub(crate) fn lift_cond(c: &Cond, context: &Context<'_>, out: &mut Making) -> Result<LCond, Memory>
+    requires fits { Fits (plain_context context.now) }
     ensures { IfOk result (λ r. IsLifted out.old out.new
-        (lift_cond (setting frame.now) (plain_cond c.now) out.old.next) (plain_lcond r)) }
+        (lift_cond (plain_context context.now) (plain_cond c.now) out.old.next) (plain_lcond r)) }
 {
-    let mut lifted = List::new(alloc);
-    lift_tests(alloc, c.tests.as_slice(), frame, &mut lifted, out)?;
+    let mut lifted = List::new(context.alloc);
+    lift_tests(c.tests.as_slice(), context, &mut lifted, out)?;
     Ok(LCond { tests: lifted })
 }
 
-/// The condition that a slot is used and that another holds of it.
+/// The condition that a slot is used and that another holds of the row.
 #[cycle(phrases)]
 #[tactic(auto, using(homeo_syntax::proofs::Measures::phrase_parts))]
 pub(crate) fn lift_visit(
-    alloc: Global,
     c: &Cond,
+    row: u32,
     slot: Slot<'_>,
-    frame: &Frame<'_>,
+    context: &Context<'_>,
     out: &mut Making,
 ) -> Result<LCond, Memory>
-    requires fits { Fits (setting frame.now) }
+    requires fits { Fits (plain_context context.now) }
+    requires low { IsLow (plain_slot slot) }
     ensures { IfOk result (λ r. IsLifted out.old out.new
-        (used_and (plain_slot slot.entry) (lift_cond (setting frame.now) (plain_cond c.now) out.old.next)) (plain_lcond r)) }
+        (used_and (plain_slot slot.entry)
+        (lift_cond (bind (plain_context context.now) row (plain_slot slot.entry)) (plain_cond c.now) out.old.next)) (plain_lcond r)) }
 {
-    let mut lifted = List::new(alloc);
-    lifted.push(equal(read(slot.used), 1))?;
-    lift_tests(alloc, c.tests.as_slice(), frame, &mut lifted, out)?;
+    let mut lifted = List::new(context.alloc);
+    lifted.push(equal(read(used(slot)), 1))?;
+    let rows = BoundRows::Inside {
+        name: row,
+        slot,
+        outer: context.rows,
+    };
+    lift_tests(c.tests.as_slice(), &context.with(&rows), &mut lifted, out)?;
     Ok(LCond { tests: lifted })
 }
 
@@ -212,19 +223,18 @@ pub(crate) fn lift_visit(
 #[cycle(phrases)]
 #[tactic(auto, using(homeo_syntax::proofs::Measures::phrase_parts))]
 fn lift_tests(
-    alloc: Global,
     ts: &[Test],
-    frame: &Frame<'_>,
+    context: &Context<'_>,
     lifted: &mut List<LTest>,
     out: &mut Making,
 ) -> Result<(), Memory>
-    requires fits { Fits (setting frame.now) }
+    requires fits { Fits (plain_context context.now) }
     ensures { OnOk result (IsTested (low_tests (map plain_ltest lifted.old.items))
         (low_tests (map plain_ltest lifted.new.items)) out.old out.new
-        (lift_cond (setting frame.now) (tests (map plain_test ts.now)) out.old.next)) }
+        (lift_cond (plain_context context.now) (tests (map plain_test ts.now)) out.old.next)) }
 {
     for t in ts {
-        let one = lift_test(alloc, t, frame, out)?;
+        let one = lift_test(t, context, out)?;
         lifted.push(one)?;
     }
     Ok(())
@@ -234,18 +244,17 @@ fn lift_tests(
 #[cycle(phrases)]
 #[tactic(auto, using(homeo_syntax::proofs::Measures::phrase_parts))]
 fn counted(
-    alloc: Global,
     test: &Cond,
     row: u32,
     slots: Slots<'_>,
     field: Option<u32>,
-    frame: &Frame<'_>,
+    context: &Context<'_>,
     out: &mut Making,
 ) -> Result<LExpr, Memory>
-    requires fits { Fits (setting frame.now) }
-    requires slots { SlotsFit slots }
+    requires fits { Fits (plain_context context.now) }
+    requires slots { IsNumbered slots }
     ensures { IfOk result (λ r. IsLifted out.old out.new
-        (counted (λ slot. lift_cond (bind (setting frame.now) row slot) (plain_cond test.now)) (term_of field) (plain_slots slots.entry) out.old.next)
+        (counted (λ slot. lift_cond (bind (plain_context context.now) row slot) (plain_cond test.now)) (term_of field) (slots_of slots.entry) out.old.next)
         (plain_lexpr r)) }
 {
     let total = out.fresh()?;
@@ -253,7 +262,7 @@ fn counted(
         target: Temp::Fresh(total),
         value: LExpr::Literal(0),
     })?;
-    add_slots(alloc, test, row, slots, total, field, frame, out)?;
+    add_slots(test, row, slots, total, field, context, out)?;
     Ok(fresh(total))
 }
 
@@ -261,25 +270,24 @@ fn counted(
 #[cycle(phrases)]
 #[tactic(auto, using(homeo_syntax::proofs::Measures::phrase_parts))]
 fn add_slots(
-    alloc: Global,
     test: &Cond,
     row: u32,
     slots: Slots<'_>,
     total: u32,
     field: Option<u32>,
-    frame: &Frame<'_>,
+    context: &Context<'_>,
     out: &mut Making,
 ) -> Result<(), Memory>
-    requires fits { Fits (setting frame.now) }
-    requires slots { SlotsFit slots }
+    requires fits { Fits (plain_context context.now) }
+    requires slots { IsNumbered slots }
     ensures { OnOk result (IsAdded out.old out.new
-        (visits false false (λ slot. lift_cond (bind (setting frame.now) row slot) (plain_cond test.now)) (adding total (term_of field)) (plain_slots slots.entry) out.old.next)) }
+        (visits false false (λ slot. lift_cond (bind (plain_context context.now) row slot) (plain_cond test.now)) (adding total (term_of field)) (slots_of slots.entry) out.old.next)) }
 {
     for number in 0..slots.count {
         let slot = slots.slot(number);
-        let test = lift_visit(alloc, test, slot, &frame.bind(row, slot), out)?;
-        let add = add(alloc, total, term(slot, field))?;
-        out.push(choice(alloc, test, add, LCommand::Skip)?)?;
+        let test = lift_visit(test, row, slot, context, out)?;
+        let add = add(context.alloc, total, term(slot, field))?;
+        out.push(choice(context.alloc, test, add, LCommand::Skip)?)?;
     }
     Ok(())
 }

@@ -4,10 +4,10 @@ ghost use Rattle.std.specs.Prelude.{◌≡◌, suc, map, IfOk, OnOk};
 ghost use Rattle.homeo_syntax.specs.Low.{If, Comparison, NoCommand, NoTest};
 ghost use Rattle.homeo_syntax.specs.LowView.{low_tests, plain_lexpr, plain_ltest, plain_lcond, plain_lcommand};
 ghost use Rattle.homeo_meaning.specs.LForm.{both, one, in_front, read, fresh, literal_of, equal, one_test, unless_ended, guard, set_flag, within, guarded};
-ghost use Rattle.homeo_desugar.specs.inner.Settings.{plain_spot};
+ghost use Rattle.homeo_context.specs.Slots.{plain_spot};
 ghost use Rattle.homeo_desugar.specs.inner.Made.{made, both_tests};
 
-use crate::slots::Spot;
+use homeo_context::Spot;
 use homeo_syntax::{Compare, LCommand, LCond, LExpr, LTest, List, Memory, SplitName, Temp};
 use std::alloc::Global;
 

@@ -8,7 +8,7 @@ use Rattle.homeo_meaning.specs.Context.{Slot}
 use Rattle.homeo_syntax.specs.LowView.{low_commands, plain_lcommand}
 use Rattle.homeo_meaning.specs.LForm.{Lifted, Made, AllMade, Target, both, one, in_turn, field_writes}
 use Rattle.homeo_desugar.specs.inner.Key.{definitions}
-use Rattle.homeo_desugar.specs.inner.Settings.{plain_spot}
+use Rattle.homeo_context.specs.Slots.{plain_spot}
 use Rattle.homeo_desugar.specs.declared.making.Making.{Making}
 use Rattle.homeo_desugar.specs.declared.making.Target as code
 

@@ -7,7 +7,7 @@ use Rattle.homeo_syntax.proofs.LowViews.{low_conjunction_of}
 use Rattle.homeo_meaning.specs.LForm.{all_within, within}
 use Rattle.homeo_desugar.specs.inner.Key.{definitions}
 use Rattle.homeo_desugar.specs.inner.Made.{plain_target, both_tests}
-use Rattle.homeo_desugar.specs.inner.Settings.{plain_spot}
+use Rattle.homeo_context.specs.Slots.{plain_spot}
 use Rattle.homeo_desugar.specs.declared.making.Target as code
 use Rattle.homeo_desugar.proofs.SlotChains.{tests_step, tests_end}
 use Rattle.homeo_desugar.proofs.chains.all_within.Goals as goal

@@ -1,5 +1,5 @@
 -- The write of one target more stands behind the others.
-use Rattle.std.proofs.Common.{◌≡◌, ℕ, ◌<◌, ◌^◌, ℤ, pos, suc, ◌+ℤ◌, w64, to_z, of_z, map, ap, ◌∙◌, rules, arith}
+use Rattle.std.proofs.Common.{◌≡◌, ℕ, ◌<◌, ◌^◌, pos, suc, ◌+ℤ◌, w64, to_z, of_z, map, ap, ◌∙◌, arith}
 use Rattle.std.proofs.lemmas.Int.{ints}
 use Rattle.homeo_syntax.specs.Key.{definitions as syntax_definitions}
 use Rattle.homeo_syntax.specs.Low as L
@@ -11,17 +11,13 @@ use Rattle.homeo_meaning.specs.Key.{definitions as meaning_definitions}
 use Rattle.homeo_meaning.specs.LForm.{both, field_writes}
 use Rattle.homeo_desugar.specs.inner.Key.{definitions}
 use Rattle.homeo_desugar.specs.inner.Made.{plain_target}
-use Rattle.homeo_desugar.specs.inner.Settings.{plain_slot}
+use Rattle.homeo_context.specs.Slots.{plain_slot}
 use Rattle.homeo_desugar.specs.declared.making.Target as code
 use Rattle.homeo_desugar.proofs.SlotChains.{writes_step, fill_end, place_within}
-use Rattle.homeo_desugar.proofs.SlotLists.{low_used}
 use Rattle.homeo_desugar.proofs.chains.fill.Goals as goal
 
-next_number : (v : ℤ) (n : ℕ) → v ≡ pos n → n < 2 ^ 32 → to_z w64 (of_z w64 (to_z w64 (of_z w64 v) +ℤ pos 1)) ≡ pos (suc n)
-next_number v n e h = ap (λ z. to_z w64 (of_z w64 (to_z w64 (of_z w64 z) +ℤ pos 1))) e ∙ kept n h
-  where
-    kept : (n : ℕ) → n < 2 ^ 32 → to_z w64 (of_z w64 (to_z w64 (of_z w64 (pos n)) +ℤ pos 1)) ≡ pos (suc n)
-    kept n h = omega (arith, ints)
+next_number : (n : ℕ) → n < 2 ^ 32 → to_z w64 (of_z w64 (to_z w64 (of_z w64 (pos n)) +ℤ pos 1)) ≡ pos (suc n)
+next_number n h = omega (arith, ints)
 
 abbrev no_target : code.Target
 no_target = record { field = record { place = 0; lo = pos 0; hi = pos 0 }; temp = 0 }
@@ -31,11 +27,8 @@ unfolding meaning_definitions syntax_definitions
 loop-target-init c more =
     ap (λ l. both (low_commands (map plain_lcommand l.items)) (field_writes (plain_slot c.args.slot) (map plain_target c.args.targets.now) more)) c.new-commands.ensures
 
-pub cell-object-requires : goal.cell-object-requires
-cell-object-requires c =
-    let place = place_within c.args.slot.fields.now c.args.targets.now c.loop-target.target-index no_target c.loop-target-test.true c.requires.within in
-    let low = low_used c.args.slot c.requires.low in
-    omega (arith, place, low)
+pub cell-object-requires-clause-within : goal.cell-object-requires-clause-within
+cell-object-requires-clause-within c = place_within c.args.slot.fields.now c.args.targets.now c.loop-target.target-index no_target c.loop-target-test.true c.requires.within
 
 pub loop-target-preserved : goal.loop-target-preserved
 loop-target-preserved c =
@@ -45,8 +38,7 @@ loop-target-preserved c =
 pub returns : goal.returns
 unfolding definitions
 returns c =
-    let few : c.args.slot.number < 2 ^ 32 = search rules in
-    let first = low_Write _ _ ∙ ap (L.Write (split.Whole c.args.slot.used)) (low_Literal (pos 1)) in
-    let last = low_Assign _ _ ∙ ap (L.Assign (temp.Named c.args.into)) (low_Literal _ ∙ ap L.Literal (next_number c.from.result c.args.slot.number c.from.ensures few)) in
+    let first = low_Write _ _ ∙ (λ i. L.Write (split.Whole (c.used.ensures i)) (low_Literal (pos 1) i)) in
+    let last = low_Assign _ _ ∙ ap (L.Assign (temp.Named c.args.into)) (low_Literal _ ∙ ap L.Literal (next_number c.args.slot.number c.requires.low.number)) in
     low_Seq c.push-3.new.self
     ∙ fill_end (plain_slot c.args.slot) c.args.targets.now c.loop-target.target-index c.args.into c.loop-target.commands.items _ _ _ _ c.push-2.new.self c.push-3.new.self c.loop-target-test.false c.in_ok-push-2.ensures.ok c.in_ok-push-3.ensures.ok first last c.loop-target.invariant

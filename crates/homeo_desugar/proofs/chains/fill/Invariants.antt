@@ -4,7 +4,7 @@ use Rattle.homeo_syntax.specs.Low.{Commands}
 use Rattle.homeo_syntax.specs.LowView.{low_commands, plain_lcommand}
 use Rattle.homeo_meaning.specs.LForm.{both, field_writes}
 use Rattle.homeo_desugar.specs.inner.Made.{plain_target}
-use Rattle.homeo_desugar.specs.inner.Settings.{plain_slot}
+use Rattle.homeo_context.specs.Slots.{plain_slot}
 use Rattle.homeo_desugar.proofs.chains.fill.Given as goal
 
 abbrev pub invariant-loop-target : goal.invariant-loop-target

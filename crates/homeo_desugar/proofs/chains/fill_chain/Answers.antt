@@ -1,5 +1,5 @@
 -- One slot more is put in front of the chain.
-use Rattle.std.proofs.Common.{◌-◌, pos, map, sym, ap, ◌∙◌, arith}
+use Rattle.std.proofs.Common.{◌-◌, pos, map, sym, ap, ◌∙◌, subst, arith}
 use Rattle.homeo_syntax.specs.Low as L
 use Rattle.homeo_syntax.specs.LowView.{plain_lcond, plain_lcommand}
 use Rattle.homeo_syntax.specs.declared.low.Temp.TheVariants as temp
@@ -8,9 +8,10 @@ use Rattle.homeo_meaning.specs.Key.{definitions as meaning_definitions}
 use Rattle.homeo_meaning.specs.Context.{Slot}
 use Rattle.homeo_meaning.specs.LForm.{read, equal, one_test, fill_chain}
 use Rattle.homeo_desugar.specs.inner.Key.{definitions}
-use Rattle.homeo_desugar.specs.inner.Made.{plain_target, filled}
-use Rattle.homeo_desugar.proofs.SlotChains.{fill_more, within_same}
-use Rattle.homeo_desugar.proofs.SlotLists.{none_after, all_after, slot_is_low}
+use Rattle.homeo_desugar.specs.inner.Made.{plain_target, AreWithin, filled}
+use Rattle.homeo_context.proofs.SlotLists.{slot_is, left_none}
+use Rattle.homeo_desugar.proofs.SlotChains.{fill_more}
+use Rattle.homeo_desugar.proofs.SlotLists.{all_after, slot_is_low}
 use Rattle.homeo_desugar.proofs.chains.fill_chain.Goals as goal
 
 pub loop-number-init : goal.loop-number-init
@@ -19,24 +20,23 @@ loop-number-init c = record {
   within = omega arith;
   chain =
       low_Assign _ _ ∙ ap (L.Assign (temp.Named c.args.into)) (low_Literal (pos 0))
-      ∙ sym (ap (fill_chain (map plain_target c.args.targets.now) c.args.into) (none_after c.args.slots));
+      ∙ sym (ap (fill_chain (map plain_target c.args.targets.now) c.args.into) (left_none c.args.slots c.args.slots.count (omega arith)));
 }
 
-pub fill-requires-clause-low : goal.fill-requires-clause-low
-fill-requires-clause-low c =
-    slot_is_low c.args.slots (c.loop-number.number - 1) c.slot-slot.result (omega (arith, c.loop-number.invariant.within)) c.requires.slots c.slot-slot.ensures
+pub used-requires : goal.used-requires
+used-requires c = record {
+  low = slot_is_low c.args.slots (c.loop-number.number - 1) c.slot-slot.result (omega (arith, c.loop-number.invariant.within)) c.requires.slots c.slot-slot.ensures.number c.slot-slot.ensures.used c.slot-slot.ensures.fields;
+}
 
 pub fill-requires-clause-within : goal.fill-requires-clause-within
-unfolding definitions
-fill-requires-clause-within c =
-    within_same c.slot-slot.result.fields.now c.args.slots.fields.now c.args.targets.now (ap (λ (x : Slot). x.fields) c.slot-slot.ensures) c.requires.within
+fill-requires-clause-within c = subst (λ l. AreWithin l c.args.targets.now) (sym c.slot-slot.ensures.fields) c.requires.within
 
 pub loop-number-preserved : goal.loop-number-preserved
 unfolding definitions
 loop-number-preserved c =
-    let used = ap (λ (x : Slot). x.used) c.slot-slot.ensures in
-    let test = c.in_ok-test.ensures ∙ ap one_test (c.equal.ensures ∙ ap (λ e. equal e (pos 0)) (c.read.ensures ∙ ap read used)) in
-    let here = c.in_ok-filled.ensures ∙ ap (λ s. filled s (map plain_target c.args.targets.now) c.args.into) c.slot-slot.ensures in
+    let slot = slot_is c.args.slots (c.loop-number.number - 1) c.slot-slot.result c.slot-slot.ensures.number c.slot-slot.ensures.used c.slot-slot.ensures.fields in
+    let test = c.in_ok-test.ensures ∙ ap one_test (c.equal.ensures ∙ ap (λ e. equal e (pos 0)) (c.read.ensures ∙ ap read (c.used.ensures ∙ ap (λ (x : Slot). x.used) slot))) in
+    let here = c.in_ok-filled.ensures ∙ ap (λ s. filled s (map plain_target c.args.targets.now) c.args.into) slot in
     record {
       within = omega (arith, c.loop-number.invariant.within);
       chain =

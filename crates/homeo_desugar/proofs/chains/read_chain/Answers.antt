@@ -6,10 +6,11 @@ use Rattle.homeo_syntax.specs.declared.low.Temp.TheVariants as temp
 use Rattle.homeo_syntax.proofs.LowViews.{low_Assign, low_Literal}
 use Rattle.homeo_meaning.specs.Key.{definitions as meaning_definitions}
 use Rattle.homeo_meaning.specs.Context.{cell}
-use Rattle.homeo_meaning.specs.LForm.{read, read_chain}
-use Rattle.homeo_desugar.specs.inner.Settings.{plain_spot}
+use Rattle.homeo_meaning.specs.LForm.{read, equal, one_test, read_chain}
+use Rattle.homeo_context.specs.Slots.{plain_spot}
+use Rattle.homeo_context.proofs.SlotLists.{slot_is, left_none}
 use Rattle.homeo_desugar.proofs.SlotChains.{read_more}
-use Rattle.homeo_desugar.proofs.SlotLists.{none_after, all_after, cell_fits}
+use Rattle.homeo_desugar.proofs.SlotLists.{all_after, slot_is_low}
 use Rattle.homeo_desugar.proofs.chains.read_chain.Goals as goal
 
 pub loop-number-init : goal.loop-number-init
@@ -18,20 +19,23 @@ loop-number-init c = record {
   within = omega arith;
   chain =
       low_Assign _ _ ∙ ap (L.Assign (temp.Fresh c.args.target)) (low_Literal (pos 0))
-      ∙ sym (ap (read_chain (plain_spot c.args.field) (plain_lexpr c.args.index.now) c.args.target) (none_after c.args.slots));
+      ∙ sym (ap (read_chain (plain_spot c.args.field) (plain_lexpr c.args.index.now) c.args.target) (left_none c.args.slots c.args.slots.count (omega arith)));
 }
 
-pub cell-requires : goal.cell-requires
-cell-requires c =
-    cell_fits c.args.slots (c.loop-number.number - 1) c.args.field.place c.slot.result (omega (arith, c.loop-number.invariant.within)) c.requires.slots c.slot.ensures c.requires.within
+pub is_slot-requires : goal.is_slot-requires
+is_slot-requires c = record {
+  low = slot_is_low c.args.slots (c.loop-number.number - 1) c.slot-slot.result (omega (arith, c.loop-number.invariant.within)) c.requires.slots c.slot-slot.ensures.number c.slot-slot.ensures.used c.slot-slot.ensures.fields;
+}
 
 pub loop-number-preserved : goal.loop-number-preserved
 loop-number-preserved c =
-    let value = c.read-value.ensures ∙ ap read (c.cell.ensures ∙ ap (λ s. cell s (plain_spot c.args.field)) c.slot.ensures) in
+    let slot = slot_is c.args.slots (c.loop-number.number - 1) c.slot-slot.result c.slot-slot.ensures.number c.slot-slot.ensures.used c.slot-slot.ensures.fields in
+    let test = c.in_ok-test.ensures ∙ ap (λ n. one_test (equal (plain_lexpr c.args.index.now) (pos n))) c.slot-slot.ensures.number in
+    let value = c.read-value.ensures ∙ ap read (c.cell.ensures ∙ ap (λ s. cell s (plain_spot c.args.field)) slot) in
     record {
       within = omega (arith, c.loop-number.invariant.within);
       chain =
-          read_more c.args.slots c.loop-number.number (plain_spot c.args.field) (plain_lexpr c.args.index.now) c.args.target (plain_lcond c.in_ok-test.test) _ (plain_lcommand c.loop-number.chain) (plain_lcommand c.in_ok-chain.chain) c.loop-number-test.true c.loop-number.invariant.within c.in_ok-chain.ensures c.in_ok-test.ensures (low_Assign _ _ ∙ ap (L.Assign (temp.Fresh c.args.target)) value) c.loop-number.invariant.chain;
+          read_more c.args.slots c.loop-number.number (plain_spot c.args.field) (plain_lexpr c.args.index.now) c.args.target (plain_lcond c.in_ok-test.test) _ (plain_lcommand c.loop-number.chain) (plain_lcommand c.in_ok-chain.chain) c.loop-number-test.true c.loop-number.invariant.within c.in_ok-chain.ensures test (low_Assign _ _ ∙ ap (L.Assign (temp.Fresh c.args.target)) value) c.loop-number.invariant.chain;
     }
 
 pub returns : goal.returns

@@ -1,14 +1,15 @@
 -- The chain of the slots from a number on is made.
-use Rattle.std.proofs.Common.{◌≡◌, ◌≤◌, ◌-◌}
+use Rattle.std.proofs.Common.{◌≡◌, ◌≤◌}
 use Rattle.homeo_syntax.specs.LowView.{plain_lexpr, plain_lcommand}
 use Rattle.homeo_meaning.specs.LForm.{write_chain}
-use Rattle.homeo_desugar.specs.inner.Settings.{plain_spot, slots_after}
+use Rattle.homeo_context.specs.Slots.{plain_spot}
+use Rattle.homeo_context.proofs.SlotLists.{left}
 use Rattle.homeo_desugar.proofs.chains.write_chain.Given as goal
 
 abbrev pub invariant-loop-number : goal.invariant-loop-number
 invariant-loop-number l = record {
   within : l.number ≤ l.slots.count;
-  chain : plain_lcommand l.chain ≡ write_chain (plain_spot l.field) (plain_lexpr l.index) (plain_lexpr l.value) (slots_after l.slots l.number (l.slots.count - l.number));
+  chain : plain_lcommand l.chain ≡ write_chain (plain_spot l.field) (plain_lexpr l.index) (plain_lexpr l.value) (left l.slots l.number);
 }
 
 abbrev pub decreases-loop-number : goal.decreases-loop-number

@@ -1,5 +1,5 @@
 -- Each command has the form that the definition says, part by part.
-use Rattle.std.proofs.Common.{◌≡◌, ℕ, false, ◌||◌, map, refl, sym, ap, ◌∙◌, subst, rules}
+use Rattle.std.proofs.Common.{◌≡◌, ℕ, false, ◌||◌, map, refl, sym, ap, ◌∙◌, subst, rules, arith}
 use Rattle.std.proofs.lemmas.Result.{IfOk-weaker}
 use Rattle.homeo_syntax.specs.Key.{definitions as syntax_definitions}
 use Rattle.homeo_syntax.specs.Source as s
@@ -11,55 +11,52 @@ use Rattle.homeo_syntax.proofs.SourceViews.{plain_Skip, plain_Assign, plain_Writ
 use Rattle.homeo_syntax.proofs.LowViews.{low_Seq, low_Skip, low_If}
 use Rattle.homeo_meaning.specs.Key.{definitions as meaning_definitions}
 use Rattle.homeo_meaning.specs.Schema.{declared_range}
-use Rattle.homeo_meaning.specs.Context.{Slot, bind, slots, fields, object}
+use Rattle.homeo_meaning.specs.Context.{Spot, Slot, bind, slots, fields, object}
 use Rattle.homeo_meaning.specs.Aborts.{holds_abort, hold_abort}
-use Rattle.homeo_meaning.specs.LForm.{Lifted, both, lift, lift_cond, visits, guard, as_one, clear, form, forms}
+use Rattle.homeo_meaning.specs.LForm.{Lifted, both, lift, lift_cond, visits, guard, clear, form, forms}
 use Rattle.homeo_desugar.specs.inner.Key.{definitions}
-use Rattle.homeo_desugar.specs.inner.Made.{IsLifted, IsTurned, IsFormed}
-use Rattle.homeo_desugar.specs.inner.Settings.{setting, plain_slot, plain_slots, slot_of, plain_spot, Fits}
+use Rattle.homeo_desugar.specs.inner.Made.{IsLifted, IsTurned}
+use Rattle.homeo_context.specs.Slots.{plain_slot, slots_of, plain_spot}
+use Rattle.homeo_context.specs.Contexts.{plain_context}
+use Rattle.homeo_context.proofs.SlotLists.{slot_is}
 use Rattle.homeo_desugar.specs.inner.Visits.{updating, running, visit_of}
 use Rattle.homeo_desugar.proofs.Forms.{loop_formed, or_skip, indexed_as, inserted_as, written_as, set_as, looped_as, ends_as, chosen_formed, forms_step, forms_end, forms_in, command_formed}
 use Rattle.homeo_desugar.proofs.Makings.{visits_begin, visit_made, turn_plain, turn_guarded, turn_step, visits_done}
-use Rattle.homeo_desugar.proofs.Rows.{bind_fits}
+use Rattle.homeo_desugar.proofs.Places.{place_fits}
+use Rattle.homeo_desugar.proofs.Rows.{context_bound, bound_fits}
 use Rattle.homeo_desugar.proofs.SlotLists.{slot_is_low}
 use Rattle.homeo_desugar.specs.declared.making.Making.{Making}
 use Rattle.homeo_desugar.proofs.forming.+commands.Goals as goal
 use Rattle.homeo_desugar.proofs.forming.+commands.Goals.{form_all-then-guarded, form_all-else-guarded}
 
-pub visit-lift_visit-requires : goal.visit-lift_visit-requires
-visit-lift_visit-requires t c =
-    let low = slot_is_low c.args.slots c.args.number c.slot-slot.result c.requires.within c.requires.slots c.slot-slot.ensures in
-    record { fits = subst Fits (sym c.bind-inner.ensures) (bind_fits (setting c.args.frame.now) c.args.row (plain_slot c.slot-slot.result) c.requires.fits low) }
-
 pub visit-form_all-requires : goal.visit-form_all-requires
 visit-form_all-requires t c =
-    let low = slot_is_low c.args.slots c.args.number c.slot-slot.result c.requires.within c.requires.slots c.slot-slot.ensures in
-    (search (rules, the_lemmas), subst Fits (sym c.bind-inner.ensures) (bind_fits (setting c.args.frame.now) c.args.row (plain_slot c.slot-slot.result) c.requires.fits low))
+    (search (rules, the_lemmas), bound_fits c.args.context.now c.with.result c.args.row c.args.slot c.with.ensures.declared c.with.ensures.arguments c.with.ensures.rows c.requires.fits c.requires.low)
 
 pub visit-returns : goal.visit-returns
 unfolding definitions meaning_definitions
 visit-returns t c =
-    let x = setting c.args.frame.now in
-    let inner = setting c.bind-inner.result in
-    let slot = plain_slot c.slot-slot.result in
+    let x = plain_context c.args.context.now in
+    let inner = plain_context c.with.result in
+    let bound = context_bound c.args.context.now c.with.result c.args.row c.args.slot c.with.ensures.declared c.with.ensures.arguments c.with.ensures.rows in
+    let slot = plain_slot c.args.slot in
     let cs = commands (map plain_command c.args.body.now) in
     let old = c.args.out.now in
     let mid = c.lift_visit.new.out in
     let new : Making = record { commands = mid.commands; next = c.form_all.new.next } in
     let test = plain_lcond c.in_ok-test.test in
-    let formed = forms_in (bind x c.args.row slot) inner cs _ mid.next (low_commands (map plain_lcommand c.in_ok-commands.commands.items)) c.bind-inner.ensures c.in_ok-commands.ensures in
+    let formed = forms_in (bind x c.args.row slot) inner cs _ mid.next (low_commands (map plain_lcommand c.in_ok-commands.commands.items)) bound c.in_ok-commands.ensures in
     IfOk-weaker c.choice.result _ _
-    (λ r h. subst (λ z. IsLifted old new (visit_of (λ slot. lift_cond (bind x c.args.row slot) (plain_cond c.args.test.now)) (running x c.args.row cs) z old.next) (plain_lcommand r)) c.slot-slot.ensures
-    (visit_made x inner c.args.row (plain_cond c.args.test.now) (running x c.args.row cs) slot old mid new test _ (plain_lcommand r) c.bind-inner.ensures c.in_ok-test.ensures (low_Seq c.in_ok-commands.commands ∙ ap L.Seq formed.commands) formed.next refl (or_skip test _ _ h)))
+    (λ r h. visit_made x c.args.row (plain_cond c.args.test.now) (running x c.args.row cs) slot old mid new test _ (plain_lcommand r) c.in_ok-test.ensures (low_Seq c.in_ok-commands.commands ∙ ap L.Seq formed.commands) formed.next refl (or_skip test _ _ h))
     c.choice.ensures
 
 pub take_turn-returns-in_ok-push : goal.take_turn-returns-in_ok-push
 unfolding definitions
 take_turn-returns-in_ok-push t c =
-    let x = setting c.args.frame.now in
+    let x = plain_context c.args.context.now in
     let tests : Slot → ℕ → Lifted L.Cond = λ slot. lift_cond (bind x c.args.row slot) (plain_cond c.args.test.now) in
     let body = running x c.args.row (commands (map plain_command c.args.body.now)) in
-    let slot = slot_of c.args.slots c.args.number in
+    let slot = plain_slot c.args.slot in
     let now = c.args.out.now in
     let start = c.from-here.result in
     let here = c.visit.new.out in
@@ -70,51 +67,65 @@ take_turn-returns-in_ok-push t c =
 
 pub take_turn-returns-in_ok-push-2 : goal.take_turn-returns-in_ok-push-2
 take_turn-returns-in_ok-push-2 t c =
-    let x = setting c.args.frame.now in
-    let v = visit_of (λ slot. lift_cond (bind x c.args.row slot) (plain_cond c.args.test.now)) (running x c.args.row (commands (map plain_command c.args.body.now))) (slot_of c.args.slots c.args.number) c.args.out.now.next in
+    let x = plain_context c.args.context.now in
+    let v = visit_of (λ slot. lift_cond (bind x c.args.row slot) (plain_cond c.args.test.now)) (running x c.args.row (commands (map plain_command c.args.body.now))) (plain_slot c.args.slot) c.args.out.now.next in
     subst (λ g. IsTurned g c.args.out.now c.push-else-guarded.new.self v) (sym c.if-guarded.false)
     (turn_plain c.args.out.now c.visit-else-guarded.new.out c.push-else-guarded.new.self v (plain_lcommand c.in_ok-choice-2.choice) c.in_ok-choice-2.ensures c.in_ok-push-2.ensures.pushed c.in_ok-push-2.ensures.next)
 
 pub foreach-loop-number-init : goal.foreach-loop-number-init
 foreach-loop-number-init t c = visits_begin _ _ _ _ c.args.slots c.from-out.result
 
+pub foreach-take_turn-requires : goal.foreach-take_turn-requires
+foreach-take_turn-requires t c =
+    (search (rules, the_lemmas), (c.requires.fits, slot_is_low c.args.slots c.loop-number.number c.slot-slot.result c.loop-number-test.true c.requires.slots c.slot-slot.ensures.number c.slot-slot.ensures.used c.slot-slot.ensures.fields))
+
 pub foreach-loop-number-preserved : goal.foreach-loop-number-preserved
 foreach-loop-number-preserved t c =
-    let x = setting c.args.frame.now in
+    let x = plain_context c.args.context.now in
+    let tests : Slot → ℕ → Lifted L.Cond = λ slot. lift_cond (bind x c.args.row slot) (plain_cond c.args.test.now) in
     let body = running x c.args.row (commands (map plain_command c.args.body.now)) in
-    turn_step c.loop-number.guarded c.hold_abort-later.result x c.args.row c.loop-number.number (plain_cond c.args.test.now) body c.args.slots c.from-out.result c.loop-number.out c.take_turn.new.out _ c.loop-number-test.true c.in_ok-take_turn.ensures c.loop-number.invariant
+    let now = c.loop-number.out in
+    let new = c.take_turn.new.out in
+    let turned = subst (λ slot. IsTurned c.loop-number.guarded now new (visit_of tests body slot now.next)) (slot_is c.args.slots c.loop-number.number c.slot-slot.result c.slot-slot.ensures.number c.slot-slot.ensures.used c.slot-slot.ensures.fields) c.in_ok-take_turn.ensures in
+    turn_step c.loop-number.guarded c.hold_abort-later.result x c.args.row c.loop-number.number (plain_cond c.args.test.now) body c.args.slots c.from-out.result now new _ c.loop-number-test.true turned c.loop-number.invariant
 
 pub foreach-returns : goal.foreach-returns
 unfolding definitions
 foreach-returns t c =
-    let x = setting c.args.frame.now in
+    let x = plain_context c.args.context.now in
     let tests : Slot → ℕ → Lifted L.Cond = λ slot. lift_cond (bind x c.args.row slot) (plain_cond c.args.test.now) in
     let body = running x c.args.row (commands (map plain_command c.args.body.now)) in
-    let made_all = loop_formed c.from-out.result c.loop-number.out c.args.next.now (visits false c.hold_abort-later.result tests body (plain_slots c.args.slots)) _ c.from-out.ensures.empty c.from-out.ensures.next
+    let made_all = loop_formed c.from-out.result c.loop-number.out c.args.next.now (visits false c.hold_abort-later.result tests body (slots_of c.args.slots)) _ c.from-out.ensures.empty c.from-out.ensures.next
     (visits_done _ _ _ _ c.args.slots c.loop-number.number c.from-out.result c.loop-number.out _ c.loop-number-test.false c.loop-number.invariant) (low_Seq c.loop-number.out.commands) in
-    ends_as c.hold_abort-later.result (hold_abort (commands (map plain_command c.args.body.now))) tests body (plain_slots c.args.slots) c.loop-number.out.next c.args.next.now _ c.hold_abort-later.ensures made_all
+    ends_as c.hold_abort-later.result (hold_abort (commands (map plain_command c.args.body.now))) tests body (slots_of c.args.slots) c.loop-number.out.next c.args.next.now _ c.hold_abort-later.ensures made_all
+
+pub form-overflow_cast-object : goal.form-overflow_cast-object
+unfolding meaning_definitions
+form-overflow_cast-object t c =
+    let few = place_fits c.args.context.now.declared.now.schema c.in-Write.object.name c.object-object.result.place c.requires.fits.schema (ap (λ (b : Spot). b.place) c.object-object.ensures) in
+    omega (arith, few)
 
 pub form-returns-in-Skip : goal.form-returns-in-Skip
 unfolding meaning_definitions
 form-returns-in-Skip t c =
-    command_formed (setting c.args.frame.now) c.args.next.now c.args.next.now c.args.c.now s.Skip _ (ap plain_command c.in-Skip.is ∙ plain_Skip) (record { command = low_Skip; next = refl })
+    command_formed (plain_context c.args.context.now) c.args.next.now c.args.next.now c.args.c.now s.Skip _ (ap plain_command c.in-Skip.is ∙ plain_Skip) (record { command = low_Skip; next = refl })
 
 pub form-returns-in-Assign : goal.form-returns-in-Assign
 form-returns-in-Assign t c =
     IfOk-weaker c.assign.result _ _
-    (λ r h. command_formed (setting c.args.frame.now) _ c.args.next.now c.args.c.now _ (plain_lcommand r) (ap plain_command c.in-Assign.is ∙ plain_Assign c.in-Assign.target c.in-Assign.value) h)
+    (λ r h. command_formed (plain_context c.args.context.now) _ c.args.next.now c.args.c.now _ (plain_lcommand r) (ap plain_command c.in-Assign.is ∙ plain_Assign c.in-Assign.target c.in-Assign.value) h)
     c.assign.ensures
 
 pub form-returns-in-Print : goal.form-returns-in-Print
 form-returns-in-Print t c =
     IfOk-weaker c.print.result _ _
-    (λ r h. command_formed (setting c.args.frame.now) _ c.args.next.now c.args.c.now _ (plain_lcommand r) (ap plain_command c.in-Print.is ∙ plain_Print c.in-Print.value) h)
+    (λ r h. command_formed (plain_context c.args.context.now) _ c.args.next.now c.args.c.now _ (plain_lcommand r) (ap plain_command c.in-Print.is ∙ plain_Print c.in-Print.value) h)
     c.print.ensures
 
 pub form-returns-in-Write : goal.form-returns-in-Write
 unfolding definitions meaning_definitions
 form-returns-in-Write t c =
-    let x = setting c.args.frame.now in
+    let x = plain_context c.args.context.now in
     let n = c.args.next.now in
     let o = c.in-Write.object in
     let e = plain_expr c.in-Write.value in
@@ -126,7 +137,7 @@ form-returns-in-Write t c =
 pub form-returns-in_ok-no-in-If : goal.form-returns-in_ok-no-in-If
 unfolding definitions meaning_definitions
 form-returns-in_ok-no-in-If t c =
-    let x = setting c.args.frame.now in
+    let x = plain_context c.args.context.now in
     let n = c.args.next.now in
     let b = plain_cond c.in-If.test in
     let yes = plain_command c.deref.result.now in
@@ -142,12 +153,12 @@ unfolding definitions meaning_definitions
 form-returns-in_ok-commands-in-Block t c =
     let formed = c.in_ok-commands-in-Block.ensures in
     let seen = ap plain_command c.in-Block.is ∙ plain_Block c.in-Block.commands ∙ sym (ap (λ l. s.Block (commands (map plain_command l))) c.as_slice.ensures) in
-    command_formed (setting c.args.frame.now) c.form_all.new.next c.args.next.now c.args.c.now _ _ seen (record { command = low_Seq c.in_ok-commands-in-Block.commands ∙ ap L.Seq formed.commands; next = formed.next })
+    command_formed (plain_context c.args.context.now) c.form_all.new.next c.args.next.now c.args.c.now _ _ seen (record { command = low_Seq c.in_ok-commands-in-Block.commands ∙ ap L.Seq formed.commands; next = formed.next })
 
 pub form-returns-in-SetField : goal.form-returns-in-SetField
 unfolding definitions meaning_definitions
 form-returns-in-SetField t c =
-    let x = setting c.args.frame.now in
+    let x = plain_context c.args.context.now in
     let n = c.args.next.now in
     let q = c.in-SetField.relation in
     let f = c.in-SetField.field in
@@ -155,13 +166,13 @@ form-returns-in-SetField t c =
     let e = plain_expr c.in-SetField.value in
     let after = c.set_field.new.next in
     IfOk-weaker c.set_field.result _ _
-    (λ r h. command_formed x after n c.args.c.now (s.SetField q i f e) (plain_lcommand r) (ap plain_command c.in-SetField.is ∙ plain_SetField q c.in-SetField.index f c.in-SetField.value) (indexed_as (plain_slots c.slots-slots.result) (slots x q.name) (map declared_range c.slots-slots.result.fields.now) (fields x q.name) f.name after (lift x i n) (lift x e) (plain_lcommand r) c.slots-slots.ensures.slots c.slots-slots.ensures.fields h))
+    (λ r h. command_formed x after n c.args.c.now (s.SetField q i f e) (plain_lcommand r) (ap plain_command c.in-SetField.is ∙ plain_SetField q c.in-SetField.index f c.in-SetField.value) (indexed_as (slots_of c.relation-slots.result) (slots x q.name) (map declared_range c.relation-slots.result.fields.now) (fields x q.name) f.name after (lift x i n) (lift x e) (plain_lcommand r) c.relation-slots.ensures.slots c.relation-slots.ensures.fields h))
     c.set_field.ensures
 
 pub form-returns-in-SetRow : goal.form-returns-in-SetRow
 unfolding definitions meaning_definitions
 form-returns-in-SetRow t c =
-    let x = setting c.args.frame.now in
+    let x = plain_context c.args.context.now in
     let n = c.args.next.now in
     let row = c.in-SetRow.row in
     let f = c.in-SetRow.field in
@@ -174,7 +185,7 @@ form-returns-in-SetRow t c =
 pub form-returns-in-Foreach : goal.form-returns-in-Foreach
 unfolding definitions meaning_definitions
 form-returns-in-Foreach t c =
-    let x = setting c.args.frame.now in
+    let x = plain_context c.args.context.now in
     let n = c.args.next.now in
     let row = c.in-Foreach.row in
     let q = c.in-Foreach.relation in
@@ -183,13 +194,13 @@ form-returns-in-Foreach t c =
     let after = c.foreach.new.next in
     let seen = ap plain_command c.in-Foreach.is ∙ plain_Foreach row q c.in-Foreach.test c.in-Foreach.body ∙ sym (ap (λ l. s.Foreach row q b (commands (map plain_command l))) c.as_slice-in-Foreach.ensures) in
     IfOk-weaker c.foreach.result _ _
-    (λ r h. command_formed x after n c.args.c.now (s.Foreach row q b body) (plain_lcommand r) seen (looped_as (hold_abort body) (λ slot. lift_cond (bind x row.name slot) b) (running x row.name body) (plain_slots c.slots-slots-in-Foreach.result) (slots x q.name) after n (plain_lcommand r) c.slots-slots-in-Foreach.ensures.slots h))
+    (λ r h. command_formed x after n c.args.c.now (s.Foreach row q b body) (plain_lcommand r) seen (looped_as (hold_abort body) (λ slot. lift_cond (bind x row.name slot) b) (running x row.name body) (slots_of c.relation-slots-in-Foreach.result) (slots x q.name) after n (plain_lcommand r) c.relation-slots-in-Foreach.ensures.slots h))
     c.foreach.ensures
 
 pub form-returns-in-Insert : goal.form-returns-in-Insert
 unfolding definitions meaning_definitions
 form-returns-in-Insert t c =
-    let x = setting c.args.frame.now in
+    let x = plain_context c.args.context.now in
     let n = c.args.next.now in
     let q = c.in-Insert.relation in
     let into = c.in-Insert.into in
@@ -197,26 +208,26 @@ form-returns-in-Insert t c =
     let after = c.insert.new.next in
     let seen = ap plain_command c.in-Insert.is ∙ plain_Insert q c.in-Insert.fields into ∙ sym (ap (λ l. s.Insert q (map plain_field l) into) c.as_slice-in-Insert.ensures) in
     IfOk-weaker c.insert.result _ _
-    (λ r h. command_formed x after n c.args.c.now (s.Insert q vs into) (plain_lcommand r) seen (inserted_as x (plain_slots c.slots-slots-in-Insert.result) (slots x q.name) (map declared_range c.slots-slots-in-Insert.result.fields.now) (fields x q.name) into.name after n vs (plain_lcommand r) c.slots-slots-in-Insert.ensures.slots c.slots-slots-in-Insert.ensures.fields h))
+    (λ r h. command_formed x after n c.args.c.now (s.Insert q vs into) (plain_lcommand r) seen (inserted_as x (slots_of c.relation-slots-in-Insert.result) (slots x q.name) (map declared_range c.relation-slots-in-Insert.result.fields.now) (fields x q.name) into.name after n vs (plain_lcommand r) c.relation-slots-in-Insert.ensures.slots c.relation-slots-in-Insert.ensures.fields h))
     c.insert.ensures
 
 pub form-returns-in-Delete : goal.form-returns-in-Delete
 unfolding definitions meaning_definitions
 form-returns-in-Delete t c =
-    let x = setting c.args.frame.now in
+    let x = plain_context c.args.context.now in
     let n = c.args.next.now in
     let row = c.in-Delete.row in
     let q = c.in-Delete.relation in
     let b = plain_cond c.in-Delete.test in
     let after = c.delete.new.next in
     IfOk-weaker c.delete.result _ _
-    (λ r h. command_formed x after n c.args.c.now (s.Delete row q b) (plain_lcommand r) (ap plain_command c.in-Delete.is ∙ plain_Delete row q c.in-Delete.test) (looped_as false (λ slot. lift_cond (bind x row.name slot) b) clear (plain_slots c.slots-slots-in-Delete.result) (slots x q.name) after n (plain_lcommand r) c.slots-slots-in-Delete.ensures.slots h))
+    (λ r h. command_formed x after n c.args.c.now (s.Delete row q b) (plain_lcommand r) (ap plain_command c.in-Delete.is ∙ plain_Delete row q c.in-Delete.test) (looped_as false (λ slot. lift_cond (bind x row.name slot) b) clear (slots_of c.relation-slots-in-Delete.result) (slots x q.name) after n (plain_lcommand r) c.relation-slots-in-Delete.ensures.slots h))
     c.delete.ensures
 
 pub form-returns-in-Update : goal.form-returns-in-Update
 unfolding definitions meaning_definitions
 form-returns-in-Update t c =
-    let x = setting c.args.frame.now in
+    let x = plain_context c.args.context.now in
     let n = c.args.next.now in
     let row = c.in-Update.row in
     let q = c.in-Update.relation in
@@ -225,18 +236,18 @@ form-returns-in-Update t c =
     let e = plain_expr c.in-Update.value in
     let after = c.update.new.next in
     IfOk-weaker c.update.result _ _
-    (λ r h. command_formed x after n c.args.c.now (s.Update row q b f e) (plain_lcommand r) (ap plain_command c.in-Update.is ∙ plain_Update row q c.in-Update.test f c.in-Update.value) (looped_as false (λ slot. lift_cond (bind x row.name slot) b) (updating x row.name f.name e) (plain_slots c.slots-slots-in-Update.result) (slots x q.name) after n (plain_lcommand r) c.slots-slots-in-Update.ensures.slots h))
+    (λ r h. command_formed x after n c.args.c.now (s.Update row q b f e) (plain_lcommand r) (ap plain_command c.in-Update.is ∙ plain_Update row q c.in-Update.test f c.in-Update.value) (looped_as false (λ slot. lift_cond (bind x row.name slot) b) (updating x row.name f.name e) (slots_of c.relation-slots-in-Update.result) (slots x q.name) after n (plain_lcommand r) c.relation-slots-in-Update.ensures.slots h))
     c.update.ensures
 
 pub form-returns-in-Abort : goal.form-returns-in-Abort
 unfolding meaning_definitions
 form-returns-in-Abort t c =
-    command_formed (setting c.args.frame.now) c.args.next.now c.args.next.now c.args.c.now s.Abort _ (ap plain_command c.in-Abort.is ∙ plain_Abort) (record { command = c.set_flag.ensures; next = refl })
+    command_formed (plain_context c.args.context.now) c.args.next.now c.args.next.now c.args.c.now s.Abort _ (ap plain_command c.in-Abort.is ∙ plain_Abort) (record { command = c.set_flag.ensures; next = refl })
 
 pub form_all-loop-c-init : goal.form_all-loop-c-init
 unfolding syntax_definitions meaning_definitions
 form_all-loop-c-init t c =
-    let whole = forms (setting c.args.frame.now) false (commands (map plain_command c.args.cs.now)) c.args.next.now in
+    let whole = forms (plain_context c.args.context.now) false (commands (map plain_command c.args.cs.now)) c.args.next.now in
     record { commands = ap (λ l. both (low_commands (map plain_lcommand l.items)) whole.commands) c.new-formed.ensures; next = refl }
 
 pub form_all-loop-c-preserved : goal.form_all-loop-c-preserved
@@ -246,9 +257,9 @@ form_all-loop-c-preserved t c =
       | form_all-then-guarded w ↦ (w.guarded-is ∙ w.if-guarded.true ∙ sym (ap (λ v. v || here) w.if-guarded.true))
       | form_all-else-guarded w ↦ (w.guarded-is ∙ w.holds_abort-guarded.ensures ∙ sym (ap (λ v. v || here) w.if-guarded.false))
     ] in
-    forms_step (setting c.args.frame.now) c.loop-c.guarded c.if-guarded.guarded c.args.cs.now c.loop-c.c-index c.loop-c.next _ c.c-item.result (plain_lcommand c.in_ok-one.one) (guard c.loop-c.guarded (plain_lcommand c.in_ok-one.one)) c.in_ok-guard.field-0 c.loop-c.formed.items c.push.new.self.items _
+    forms_step (plain_context c.args.context.now) c.loop-c.guarded c.if-guarded.guarded c.args.cs.now c.loop-c.c-index c.loop-c.next _ c.c-item.result (plain_lcommand c.in_ok-one.one) (guard c.loop-c.guarded (plain_lcommand c.in_ok-one.one)) c.in_ok-guard.field-0 c.loop-c.formed.items c.push.new.self.items _
     c.loop-c-test.true c.c-item.is c.in_ok-one.ensures refl c.in_ok-guard.ensures (ap (λ l. l.items) c.in_ok-push.ensures.ok) next c.loop-c.invariant
 
 pub form_all-returns : goal.form_all-returns
 form_all-returns t c =
-    forms_end (setting c.args.frame.now) c.loop-c.guarded c.args.cs.now c.loop-c.c-index c.loop-c.next (low_commands (map plain_lcommand c.loop-c.formed.items)) _ c.loop-c-test.false c.loop-c.invariant
+    forms_end (plain_context c.args.context.now) c.loop-c.guarded c.args.cs.now c.loop-c.c-index c.loop-c.next (low_commands (map plain_lcommand c.loop-c.formed.items)) _ c.loop-c-test.false c.loop-c.invariant

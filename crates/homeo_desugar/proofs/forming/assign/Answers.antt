@@ -7,7 +7,7 @@ use Rattle.homeo_syntax.specs.declared.low.Temp.TheVariants as temp
 use Rattle.homeo_syntax.proofs.LowViews.{low_Assign}
 use Rattle.homeo_meaning.specs.Key.{definitions as meaning_definitions}
 use Rattle.homeo_meaning.specs.LForm.{lift}
-use Rattle.homeo_desugar.specs.inner.Settings.{setting}
+use Rattle.homeo_context.specs.Contexts.{plain_context}
 use Rattle.homeo_desugar.proofs.Forms.{placed_formed}
 use Rattle.homeo_desugar.proofs.forming.assign.Goals as goal
 
@@ -15,5 +15,5 @@ pub returns : goal.returns
 unfolding meaning_definitions
 returns c =
     IfOk-weaker c.in_front.result _ _
-    (λ r h. placed_formed (L.Assign (temp.Named c.args.target.name)) c.from-out.result c.lift.new.out c.args.next.now (lift (setting c.args.frame.now) (plain_expr c.args.value.now)) (plain_lexpr c.in_ok-value.value) _ (plain_lcommand r) c.from-out.ensures.empty c.from-out.ensures.next c.in_ok-value.ensures (low_Assign _ _) h)
+    (λ r h. placed_formed (L.Assign (temp.Named c.args.target.name)) c.from-out.result c.lift.new.out c.args.next.now (lift (plain_context c.args.context.now) (plain_expr c.args.value.now)) (plain_lexpr c.in_ok-value.value) _ (plain_lcommand r) c.from-out.ensures.empty c.from-out.ensures.next c.in_ok-value.ensures (low_Assign _ _) h)
     c.in_front.ensures

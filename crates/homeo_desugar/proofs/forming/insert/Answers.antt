@@ -9,7 +9,8 @@ use Rattle.homeo_meaning.specs.Schema.{declared_range}
 use Rattle.homeo_meaning.specs.LForm.{lift_values, all_within, fill_chain}
 use Rattle.homeo_desugar.specs.inner.Key.{definitions}
 use Rattle.homeo_desugar.specs.inner.Made.{plain_target}
-use Rattle.homeo_desugar.specs.inner.Settings.{setting, plain_slots}
+use Rattle.homeo_context.specs.Slots.{slots_of}
+use Rattle.homeo_context.specs.Contexts.{plain_context}
 use Rattle.homeo_desugar.proofs.Forms.{formed_as, inserted_formed}
 use Rattle.homeo_desugar.proofs.forming.insert.Goals as goal
 
@@ -17,8 +18,8 @@ pub returns : goal.returns
 unfolding definitions
 returns c =
     let xs = map plain_target c.in_ok-targets.targets.items in
-    let all = plain_slots c.args.slots in
+    let all = slots_of c.args.slots in
     let test = c.in_ok-test.ensures ∙ ap (λ l. all_within (map plain_target l)) c.as_slice.ensures.value in
     let here = c.in_ok-filled.ensures ∙ ap (λ l. fill_chain (map plain_target l) c.args.into all) c.as_slice-2.ensures.value in
     let none = low_Assign _ _ ∙ ap (L.Assign (temp.Named c.args.into)) (low_Literal (pos 0)) in
-    formed_as _ _ _ _ (low_Seq c.push.new.self.commands) (inserted_formed all c.args.into c.args.next.now (lift_values (setting c.args.frame.now) (map declared_range c.args.slots.fields.now) (map plain_field c.args.values.now)) c.from-out.result c.lift_values.new.out c.push.new.self xs (plain_lcond c.in_ok-test.test) (plain_lcommand c.in_ok-filled.filled) _ _ c.from-out.ensures.empty c.from-out.ensures.next c.in_ok-targets.ensures.lifted test here none c.in_ok-choice.ensures c.in_ok-push.ensures.pushed)
+    formed_as _ _ _ _ (low_Seq c.push.new.self.commands) (inserted_formed all c.args.into c.args.next.now (lift_values (plain_context c.args.context.now) (map declared_range c.args.slots.fields.now) (map plain_field c.args.values.now)) c.from-out.result c.lift_values.new.out c.push.new.self xs (plain_lcond c.in_ok-test.test) (plain_lcommand c.in_ok-filled.filled) _ _ c.from-out.ensures.empty c.from-out.ensures.next c.in_ok-targets.ensures.lifted test here none c.in_ok-choice.ensures c.in_ok-push.ensures.pushed)

@@ -3,13 +3,9 @@ use Rattle.std.proofs.Common.{pos, sym, ap, ◌∙◌}
 use Rattle.homeo_syntax.proofs.LowViews.{low_Literal}
 use Rattle.homeo_meaning.specs.LForm.{read}
 use Rattle.homeo_desugar.specs.inner.Key.{definitions}
-use Rattle.homeo_desugar.specs.inner.Settings.{plain_slot}
+use Rattle.homeo_context.specs.Slots.{plain_slot}
 use Rattle.homeo_desugar.specs.inner.Visits.{term_of}
-use Rattle.homeo_desugar.proofs.SlotLists.{low_used}
 use Rattle.homeo_desugar.proofs.lifting.term.Goals as goal
-
-pub field_cell-requires : goal.field_cell-requires
-field_cell-requires c = low_used c.args.slot c.requires.low
 
 pub returns-in-Some : goal.returns-in-Some
 unfolding definitions

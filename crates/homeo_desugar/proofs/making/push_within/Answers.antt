@@ -7,7 +7,7 @@ use Rattle.homeo_syntax.specs.declared.low.LExpr as code
 use Rattle.homeo_syntax.specs.declared.phrase.Compare.TheVariants as compare
 use Rattle.homeo_syntax.proofs.LowViews.{low_Literal}
 use Rattle.homeo_desugar.specs.inner.Key.{definitions}
-use Rattle.homeo_desugar.specs.inner.Settings.{plain_spot}
+use Rattle.homeo_context.specs.Slots.{plain_spot}
 use Rattle.homeo_desugar.proofs.Makings.{within_push}
 use Rattle.homeo_desugar.proofs.making.push_within.Goals as goal
 

@@ -7,7 +7,7 @@ use Rattle.homeo_syntax.proofs.LowViews.{low_conjunction_of}
 use Rattle.homeo_meaning.specs.LForm.{within}
 use Rattle.homeo_desugar.specs.inner.Key.{definitions}
 use Rattle.homeo_desugar.specs.inner.Made.{both_tests}
-use Rattle.homeo_desugar.specs.inner.Settings.{plain_spot}
+use Rattle.homeo_context.specs.Slots.{plain_spot}
 use Rattle.homeo_desugar.proofs.making.within.Goals as goal
 
 pub returns : goal.returns

@@ -1,5 +1,5 @@
 -- Each object is saved in a temporary of its own, and set again from it.
-use Rattle.std.proofs.Common.{rules, arith, ◌≡◌, ◌<◌, ◌≤◌, suc, get_or, ◌++◌, ◌∷◌, [], map, length, refl, ap, sym, ◌∙◌, pos, to_z, of_z, w64}
+use Rattle.std.proofs.Common.{rules, ◌≡◌, suc, get_or, ◌++◌, ◌∷◌, [], map, refl, ap, ◌∙◌, pos}
 use Rattle.homeo_syntax.specs.Low as L
 use Rattle.homeo_syntax.specs.LowView.{low_commands, plain_lcommand, plain_lcond}
 use Rattle.homeo_syntax.specs.Key.{definitions as syntax_definitions}
@@ -7,7 +7,7 @@ use Rattle.homeo_syntax.specs.declared.low.Temp.TheVariants as temp
 use Rattle.homeo_syntax.specs.declared.low.SplitName.TheVariants as split
 use Rattle.homeo_syntax.proofs.LowViews.{low_Assign, low_Write, low_Seq, low_Skip}
 use Rattle.homeo_meaning.specs.Key.{definitions as meaning_definitions}
-use Rattle.homeo_meaning.specs.LForm.{both, read, fresh, equal, one_test, set_flag, saves, restores}
+use Rattle.homeo_meaning.specs.LForm.{both, equal, one_test, saves, restores}
 use Rattle.homeo_desugar.proofs.UndoSteps.{saved_step, restored_step, saved_end, restored_end, undo_made, undoing_made}
 use Rattle.homeo_desugar.proofs.undoing.undoing.Goals as goal
 

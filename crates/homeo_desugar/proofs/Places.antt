@@ -1,11 +1,11 @@
--- How many objects there are.
+-- The places of names, and how many objects there are.
 use Rattle.std.proofs.Common.{◌≡◌, ℕ, suc, ◌+◌, ◌*◌, ◌^◌, ◌<◌, ◌≤◌, ◌==◌, cond, Bool, true, false, List, [], ◌∷◌, map, length, arith}
 use Rattle.std.proofs.lemmas.List.{length-map}
 use Rattle.homeo_syntax.specs.declared.workload.RangeDecl.{RangeDecl}
 use Rattle.homeo_meaning.specs.Key.{definitions}
 use Rattle.homeo_meaning.specs.Schema.{Declared, Relation, Schema, declared_range}
 use Rattle.homeo_meaning.specs.Context.{spot, spot_from, object_count}
-use Rattle.homeo_desugar.specs.inner.Settings.{SchemaFits}
+use Rattle.homeo_desugar.specs.inner.Numbers.{SchemaFits}
 
 -- there are no fewer objects than stand before a relation
 pub count_least : (k : ℕ) (rs : List Relation) → k ≤ object_count k rs
@@ -36,20 +36,7 @@ field_within ds n place e =
     omega arith
 
 pub place_fits : (x : Schema) (n place : ℕ) → SchemaFits x → place ≡ (spot x.objects n).place → place < 2 ^ 32
-place_fits x n place fits e =
+place_fits x n place few e =
     let h = place_within x.objects n in
     let least = count_least (length x.objects) x.relations in
-    let few = fits.objects in
     omega arith
-
--- ---- the slots of a relation
-pub first_fits : (first count fields : ℕ) → first + count * (1 + fields) < 2 ^ 32 → first < 2 ^ 32
-first_fits first count fields h = omega arith
-
-pub count_fits : (first count fields : ℕ) → first + count * (1 + fields) < 2 ^ 32 → count < 2 ^ 32
-count_fits first count fields h =
-    let k : count ≤ count * (1 + fields) = wider count fields in
-    omega arith
-  where
-    wider : (a n : ℕ) → a ≤ a * (1 + n)
-    wider a n = grind arith

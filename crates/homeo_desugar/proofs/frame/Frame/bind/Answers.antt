@@ -1,9 +1,0 @@
--- The innermost row is found first.
-use Rattle.std.proofs.Common.{refl}
-use Rattle.homeo_meaning.specs.Key.{definitions as meaning_definitions}
-use Rattle.homeo_desugar.specs.inner.Key.{definitions}
-use Rattle.homeo_desugar.proofs.frame.Frame.bind.Goals as goal
-
-pub returns : goal.returns
-unfolding definitions meaning_definitions
-returns c = refl
