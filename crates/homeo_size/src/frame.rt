@@ -9,9 +9,7 @@ ghost use Rattle.homeo_size.specs.inner.Sizing.{bound, missing, literal_in};
 ghost use Rattle.homeo_size.specs.inner.Tables.{setting_for, setting};
 
 use crate::layout::Layout;
-use homeo_context::{
-    Argument, BoundRows, Declarations, Slot, Slots, Spot, argument_of, find_row,
-};
+use homeo_context::{Argument, BoundRows, Declarations, Slot, Slots, Spot, argument_of, find_row};
 use homeo_syntax::Expr;
 
 /// What names stand for: the declarations, the arguments by their parameters' names, and the rows in force.

@@ -103,12 +103,7 @@ impl Extents {
     /// The extent of an expression. The commands of its lifting come behind those before.
     #[cycle(phrases)]
     #[tactic(auto, using(homeo_syntax::proofs::SourceViews::phrase_views, crate::proofs::Equations::phrases))]
-    pub(crate) fn expr(
-        &self,
-        e: &Expr,
-        frame: &Frame<'_>,
-        before: &mut Before,
-    ) -> Extent
+    pub(crate) fn expr(&self, e: &Expr, frame: &Frame<'_>, before: &mut Before) -> Extent
         ensures extent { result ≡ sized (setting frame.now) (plain_expr e.now) (sizes_in self.now) }
         ensures before { before.new ≡
             lifted (setting frame.now) (plain_expr e.now) (sizes_in self.now) before.old }
@@ -147,18 +142,20 @@ impl Extents {
                 field,
                 relation,
                 test,
-            } => self.total(row.name, Some(field.name), relation.name, test, frame, before),
+            } => self.total(
+                row.name,
+                Some(field.name),
+                relation.name,
+                test,
+                frame,
+                before,
+            ),
         }
     }
 
     #[cycle(phrases)]
     #[tactic(auto, using(crate::proofs::Equations::lists, homeo_meaning::proofs::Steps::steps))]
-    fn sum(
-        &self,
-        es: &[Expr],
-        frame: &Frame<'_>,
-        before: &mut Before,
-    ) -> Extent
+    fn sum(&self, es: &[Expr], frame: &Frame<'_>, before: &mut Before) -> Extent
         ensures extent { result ≡ sum_sized (setting frame.now) (exprs (map plain_expr es.now))
             (sizes_in self.now) nothing }
         ensures before { before.new ≡ all_lifted (setting frame.now)
@@ -174,12 +171,7 @@ impl Extents {
 
     #[cycle(phrases)]
     #[tactic(auto, using(crate::proofs::Equations::lists, homeo_meaning::proofs::Steps::steps))]
-    fn product(
-        &self,
-        es: &[Expr],
-        frame: &Frame<'_>,
-        before: &mut Before,
-    ) -> Extent
+    fn product(&self, es: &[Expr], frame: &Frame<'_>, before: &mut Before) -> Extent
         ensures extent { result ≡ product_sized (setting frame.now) (exprs (map plain_expr es.now))
             (sizes_in self.now) no_factor }
         ensures before { before.new ≡ all_lifted (setting frame.now)
@@ -226,12 +218,7 @@ impl Extents {
 
     #[cycle(phrases)]
     #[tactic(auto, using(homeo_syntax::proofs::SourceViews::phrase_views, crate::proofs::Equations::phrases))]
-    fn test(
-        &self,
-        t: &Test,
-        frame: &Frame<'_>,
-        before: &mut Before,
-    ) -> Extent
+    fn test(&self, t: &Test, frame: &Frame<'_>, before: &mut Before) -> Extent
         ensures extent { result ≡ test_sized (setting frame.now) (plain_test t.now) (sizes_in self.now) }
         ensures before { before.new ≡
             test_lifted (setting frame.now) (plain_test t.now) (sizes_in self.now) before.old }

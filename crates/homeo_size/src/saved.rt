@@ -86,7 +86,11 @@ fn put_indexed(
 }
 
 #[tactic(auto, using(crate::proofs::Along::items, crate::proofs::Along::values, crate::proofs::WriteEquations::fields))]
-fn put_filled(fields: &[FieldValue], slot: Slot<'_>, objects: &mut BTreeSet<u128>) -> Result<(), Memory>
+fn put_filled(
+    fields: &[FieldValue],
+    slot: Slot<'_>,
+    objects: &mut BTreeSet<u128>,
+) -> Result<(), Memory>
     ensures { OnOk result (objects.new.keys ≡
         put_filled (map declared_range slot.entry.fields.now) (map plain_field fields.now) (plain_slot slot.entry) objects.old.keys) }
 {
