@@ -10,6 +10,6 @@ mod spot;
 
 pub use arguments::{Argument, argument_of, argument_or, argument_values, bind};
 pub use context::{BoundRows, Context, find_row};
-pub use declarations::Declarations;
+pub use declarations::{Declarations, Places};
 pub use slots::{Slot, Slots};
 pub use spot::{Spot, find_field};
