@@ -36,9 +36,9 @@ pub struct Context<'a> {
     pub rows: &'a BoundRows<'a>,
 }
 
-/// The slot of a row.
+/// The slot of a row: where none of the name is in force, one past all objects.
 #[tactic(auto, unfolding(homeo_meaning::specs::Key::definitions))]
-fn find_row<'a>(rows: &BoundRows<'a>, name: u32) -> Slot<'a>
+pub fn find_row<'a>(rows: &BoundRows<'a>, name: u32) -> Slot<'a>
     ensures { plain_slot result ≡ rows_of rows.now name }
 {
     match rows {

@@ -9,7 +9,7 @@ mod slots;
 mod spot;
 
 pub use arguments::{Argument, argument_of, argument_or, argument_values, bind};
-pub use context::{BoundRows, Context};
+pub use context::{BoundRows, Context, find_row};
 pub use declarations::{Declarations, Places};
 pub use slots::{Slot, Slots};
 pub use spot::{Spot, find_field};

@@ -1,8 +1,8 @@
 -- One more row in force.
-use Rattle.std.proofs.Common.{◌≡◌, ℕ, ◌==◌, cond, List, [], length, Bor, rules, ap, ◌∙◌}
+use Rattle.std.proofs.Common.{◌≡◌, ℕ, ◌==◌, cond, List, [], length, ap, ◌∙◌}
 use Rattle.homeo_context.specs.declared.slots.Slot as code
 use Rattle.homeo_context.specs.declared.context.Context as code_context
-use Rattle.homeo_context.specs.declared.context.BoundRows.{BoundRows, Outside, Inside, the_lemmas}
+use Rattle.homeo_context.specs.declared.context.BoundRows.{Outside, Inside}
 use Rattle.homeo_context.specs.declared.arguments.Argument.{Argument}
 use Rattle.homeo_meaning.specs.Key.{definitions}
 use Rattle.homeo_meaning.specs.Bounds.{all_bounds}
@@ -11,11 +11,8 @@ use Rattle.homeo_meaning.specs.Declarations.{Declarations}
 use Rattle.homeo_lform.specs.RowsFit.{RowsFit}
 use Rattle.homeo_context.specs.Slots.{plain_slot}
 use Rattle.homeo_context.specs.Contexts.{call_context, rows_of, plain_context}
+use Rattle.homeo_context.proofs.Rows.{rows_inside, rows_outside}
 use Rattle.homeo_lform.proofs.ObjectBounds.{bounds_count, no_row_fits}
-
-rows_inside : (name : ℕ) (slot : code.Slot) (outer : Bor BoundRows) (n : ℕ) → rows_of (Inside name slot outer) n ≡ cond (name == n) (plain_slot slot) (rows_of outer.now n)
-unfolding definitions
-rows_inside name slot outer n = search (rules, the_lemmas)
 
 pub context_bound : (f g : code_context.Context) (name : ℕ) (slot : code.Slot) → g.declared.now ≡ f.declared.now → g.arguments.now ≡ f.arguments.now → g.rows.now ≡ Inside name slot f.rows → plain_context g ≡ bind (plain_context f) name (plain_slot slot)
 unfolding definitions
@@ -24,10 +21,6 @@ context_bound f g name slot d a r = λ i. record {
   arguments = (call_context (d i) (a i)).arguments;
   rows = λ n. (ap (λ l. rows_of l n) r ∙ rows_inside name slot f.rows n) i;
 }
-
-rows_outside : (k n : ℕ) → rows_of (Outside k) n ≡ record { number = 0; used = k; fields = [] }
-unfolding definitions
-rows_outside k n = search (rules, the_lemmas)
 
 -- no row in force
 pub context_outside : (f : code_context.Context) (k : ℕ) (d : Declarations) (given : List Argument) → f.declared.now ≡ d → f.arguments.now ≡ given → f.rows.now ≡ Outside k → k ≡ length (all_bounds d.schema) → plain_context f ≡ call_context d given

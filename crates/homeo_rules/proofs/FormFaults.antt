@@ -1,18 +1,18 @@
 -- Which of the faults of L forms decides, by those of sizes and prints, and then of weights and rows.
-use Rattle.std.proofs.Common.{◌≡◌, true, false, List, [], ◌∷◌, ◌++◌, map, Option, Some, None, refl, sym, ap, subst, ◌∙◌, append_assoc}
+use Rattle.std.proofs.Common.{◌≡◌, ◌≤◌, All, true, false, List, [], ◌∷◌, ◌++◌, map, length, Option, Some, None, refl, sym, ap, subst, ◌∙◌, append_assoc}
+use Rattle.std.proofs.lemmas.List.{length-map}
 use Rattle.std.specs.List.{flat_map}
 use Rattle.homeo_syntax.specs.Key.{definitions as syntax_definitions}
 use Rattle.homeo_syntax.specs.Source as s
 use Rattle.homeo_syntax.specs.SourceView.{plain_relation, plain_workload}
-use Rattle.homeo_syntax.specs.declared.workload.ObjectDecl.{ObjectDecl}
-use Rattle.homeo_syntax.specs.declared.workload.RelationDecl.{RelationDecl}
 use Rattle.homeo_syntax.specs.declared.workload.Workload.{Workload}
 use Rattle.homeo_meaning.specs.Key.{definitions as meaning_definitions}
 use Rattle.homeo_rules.specs.inner.Deciding.{keep_all}
 use Rattle.homeo_meaning.specs.Faults.{form_faults}
 use Rattle.homeo_meaning.specs.GlobalNames.{sited_calls}
 use Rattle.homeo_meaning.specs.NumberRules.{ground_calls}
-use Rattle.homeo_meaning.specs.Schema.{schema_of, declared_object, declared_relation}
+use Rattle.homeo_meaning.specs.Context.{object_count}
+use Rattle.homeo_meaning.specs.Schema.{declared_object, declared_relation}
 use Rattle.homeo_meaning.specs.SizeRules.{extent_of, too_large, size_faults, print_faults, heavy_call, weight_faults, too_many_rows, makes_tables, row_faults}
 use Rattle.homeo_meaning.specs.ListRules.{when}
 use Rattle.homeo_meaning.specs.TransactionRules.{each}
@@ -20,8 +20,9 @@ use Rattle.homeo_meaning.specs.declared.call.Purpose.{Purpose}
 use Rattle.homeo_meaning.specs.declared.rules.Fault.{Fault}
 use Rattle.homeo_meaning.proofs.FaultParts.{none_first}
 use Rattle.homeo_rules.proofs.Phases.{sizes_in, later_in, decides_first}
-use Rattle.homeo_meaning.proofs.SoundRelations.{objects-fit}
-use Rattle.homeo_size.specs.Layout.{HasFewObjects, relation_of, schema_with}
+use Rattle.homeo_meaning.proofs.SoundRelations.{slots-fit, objects-fit}
+use Rattle.homeo_context.specs.Placed.{HasSlots}
+use Rattle.homeo_context.proofs.Placing.{have_slots}
 use Rattle.homeo_rules.specs.inner.Decided.{IsFaultless}
 use Rattle.homeo_rules.specs.inner.Printing.{prints_too_much_in}
 use Rattle.homeo_ground.specs.Sited.{sited}
@@ -33,18 +34,14 @@ use Rattle.homeo_rules.proofs.CallsMeasured.{are_measured}
 use Rattle.homeo_rules.proofs.Steps.{keep_all-append}
 
 -- ---- what is laid out
-relations-plain : (rs : List RelationDecl) → map relation_of rs ≡ map declared_relation (map plain_relation rs)
+pub slots-here : (w : Workload) → IsFaultless (plain_workload w) → All HasSlots w.relations.items
 unfolding meaning_definitions syntax_definitions
-relations-plain [] = refl
-relations-plain (r ∷ rs) = ap (λ l. relation_of r ∷ l) (relations-plain rs)
+slots-here w sound = have_slots w.relations.items (slots-fit (plain_workload w) sound.limits)
 
-pub schema-plain : (w : Workload) (os : List ObjectDecl) (rs : List RelationDecl) → os ≡ w.objects.items → rs ≡ w.relations.items → schema_with os rs ≡ schema_of (plain_workload w)
+pub few-objects : (w : Workload) → IsFaultless (plain_workload w) → object_count (length w.objects.items) (map declared_relation (map plain_relation w.relations.items)) ≤ 1024
 unfolding meaning_definitions syntax_definitions
-schema-plain w os rs eo er =
-    (λ i. schema_with (eo i) (er i)) ∙ ap (λ l. record { objects = map declared_object w.objects.items; relations = l }) (relations-plain w.relations.items)
-
-pub few-objects : (w : Workload) (os : List ObjectDecl) (rs : List RelationDecl) → os ≡ w.objects.items → rs ≡ w.relations.items → IsFaultless (plain_workload w) → HasFewObjects (schema_with os rs)
-few-objects w os rs eo er sound = subst HasFewObjects (sym (schema-plain w os rs eo er)) (objects-fit (plain_workload w) sound.limits)
+few-objects w sound =
+    subst (λ n. object_count n (map declared_relation (map plain_relation w.relations.items)) ≤ 1024) (length-map w.objects.items declared_object) (objects-fit (plain_workload w) sound.limits)
 
 -- ---- which decides
 -- a fault of sizes or prints comes before those of weights and rows

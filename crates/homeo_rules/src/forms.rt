@@ -6,7 +6,7 @@ ghost use Rattle.homeo_rules.specs.inner.Deciding.{keep_all};
 ghost use Rattle.homeo_meaning.specs.Faults.{form_faults};
 ghost use Rattle.homeo_meaning.specs.GlobalNames.{scope_of, sited_calls};
 ghost use Rattle.homeo_meaning.specs.NumberRules.{ground_calls};
-ghost use Rattle.homeo_meaning.specs.Schema.{nat_of, schema_of};
+ghost use Rattle.homeo_meaning.specs.Schema.{nat_of};
 ghost use Rattle.homeo_meaning.specs.SizeRules.{size_faults, print_faults, weight_faults, makes_tables, row_faults};
 ghost use Rattle.homeo_rules.specs.inner.Decided.{IsFaultless};
 ghost use Rattle.homeo_rules.specs.inner.Scopes.{scope_in};
@@ -31,20 +31,12 @@ fn site_count(w: &Workload) -> u64
     w.sites.value.max(0) as u64
 }
 
-/// Where the objects and the fields of slots stand.
-fn lay_out<'a>(alloc: Global, w: &'a Workload) -> Result<Layout<'a>, Memory>
-    requires { IsFaultless (plain_workload w.now) }
-    ensures { IfOk result (λ layout. layout ≡ schema_of (plain_workload w.now)) }
-{
-    Layout::of(alloc, w.objects.as_slice(), w.relations.as_slice())
-}
-
 /// The fault that decides, of those of sizes and of prints.
 fn check_sizes_and_prints(
     alloc: Global,
     measured: &[MeasuredCall<'_>],
     calls: &[SitedCall<'_>],
-    measuring: &Measuring<'_, '_>,
+    measuring: &Measuring<'_>,
 ) -> Result<Option<Fault>, Memory>
     requires set_up { IsSetUp measuring.now }
     requires told { AreTold (workload_of measuring.now) 0 measured.now }
@@ -71,7 +63,7 @@ fn makes_tables(purpose: Purpose) -> bool
 fn check_tables(
     purpose: Purpose,
     measured: &[MeasuredCall<'_>],
-    measuring: &Measuring<'_, '_>,
+    measuring: &Measuring<'_>,
     best: Option<Fault>,
 ) -> Option<Fault>
     requires measured { AreMeasured (workload_of measuring.now) measured.now }
@@ -89,7 +81,7 @@ fn check_tables(
 fn check_weights_and_rows(
     purpose: Purpose,
     measured: &[MeasuredCall<'_>],
-    measuring: &Measuring<'_, '_>,
+    measuring: &Measuring<'_>,
 ) -> Option<Fault>
     requires measured { AreMeasured (workload_of measuring.now) measured.now }
     requires grounds { map call_of measured.now ≡ ground_calls (workload_of measuring.now) }
@@ -115,7 +107,7 @@ pub(crate) fn check_forms<'a>(
     requires faultless { IsFaultless (plain_workload w.now) }
     ensures { IfOk result (λ b. b ≡ keep_all None (form_faults purpose (plain_workload w.now))) }
 {
-    let layout = lay_out(alloc, w)?;
+    let layout = Layout::of(alloc, w)?;
     let measuring = Measuring {
         scope: *scope,
         workload: w,

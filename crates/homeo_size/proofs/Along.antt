@@ -1,34 +1,31 @@
 -- The definitions along the code's lists, as equations, which code rewrites by.
-use Rattle.std.proofs.Common.{false, ◌≡◌, ℕ, ◌+◌, ◌<◌, ◌≤◌, ◌==◌, cond, ℤ, pos, Some, None, List, [], ◌∷◌, map, drop, take, get_or, length, refl, sym, ap, arith, add-one, drop_of_length-le, take_all, ◌-◌}
+use Rattle.std.proofs.Common.{false, ◌≡◌, ℕ, zero, suc, ◌+◌, ◌-◌, ◌<◌, ◌≤◌, pos, List, [], ◌∷◌, map, drop, get_or, length, refl, sym, ap, ◌∙◌, arith, add-one, drop_of_length-le}
 use Rattle.std.proofs.lemmas.List.{length-map}
 use Rattle.std.proofs.Math.Seq.{drop-cons}
-use Rattle.std.specs.Ordering.{int_eq}
 use Rattle.homeo_syntax.specs.Key.{definitions as syntax_definitions}
 use Rattle.homeo_syntax.specs.Source as s
 use Rattle.homeo_syntax.specs.SourceView.{plain_expr, plain_field}
 use Rattle.homeo_syntax.specs.declared.command.FieldValue.{FieldValue}
-use Rattle.homeo_syntax.specs.declared.workload.RangeDecl.{RangeDecl}
 use Rattle.homeo_meaning.specs.Key.{definitions as meaning_definitions}
 use Rattle.homeo_meaning.specs.Schema.{Declared, declared_range}
 use Rattle.homeo_meaning.specs.Context as context
-use Rattle.homeo_meaning.specs.Context.{spot_from, spot, slot_at}
+use Rattle.homeo_meaning.specs.Context.{slots_from}
+use Rattle.homeo_context.specs.Slots.{plain_spot, slots_of}
+use Rattle.homeo_context.specs.declared.slots.Slots.{Slots}
+use Rattle.homeo_context.specs.declared.spot.Spot.{Spot as Spot'}
+use Rattle.homeo_context.proofs.SlotLists.{slot_of, left, left_next, left_all, left_none}
 use Rattle.homeo_size.specs.inner.Key.{definitions}
 use Rattle.homeo_size.specs.inner.Measuring.{Filled, filled_tests, fields_writing, fields_filled, cleared, row_set, row_setting, field_set, field_setting, after_all, all_measured, each_after, each_measured}
 use Rattle.homeo_size.specs.inner.Parts.{literal, none, with_one, writing, within_tests, written}
 use Rattle.homeo_size.specs.inner.Sizing.{Setting, bound}
 use Rattle.homeo_size.specs.inner.Store.{Store, set_entry, raise_entry, entry_sized, restored, raised, touched}
-use Rattle.homeo_context.specs.Slots.{plain_spot}
-use Rattle.homeo_size.specs.inner.Slots.{plain_slot}
-use Rattle.homeo_size.specs.inner.Tables.{plain_filled, row_in, sizes_in, store_in, setting}
+use Rattle.homeo_size.specs.inner.Tables.{plain_filled, sizes_in, store_in, setting}
 use Rattle.homeo_size.specs.declared.chains.Filled.{Filled as Filled'}
 use Rattle.homeo_size.specs.declared.extent.Extent.{Extent}
 use Rattle.homeo_size.specs.declared.extents.Entry.{Entry}
 use Rattle.homeo_size.specs.declared.extents.Extents.{Extents}
 use Rattle.homeo_size.specs.declared.extents.Kept.{Kept}
 use Rattle.homeo_size.specs.declared.frame.Frame.{Frame}
-use Rattle.homeo_size.specs.declared.slot.Row.{Row}
-use Rattle.homeo_size.specs.declared.slot.Slot.{Slot as Slot'}
-use Rattle.homeo_context.specs.declared.spot.Spot.{Spot as Spot'}
 use Rattle.homeo_size.specs.declared.measures.Before.{Before}
 
 -- the list that is left begins with the item that is next
@@ -50,36 +47,37 @@ pub plain_place : (s : Spot') → (plain_spot s).place ≡ s.place
 unfolding meaning_definitions
 plain_place s = refl
 
-pub plain_number : (slot : Slot') → (plain_slot slot).number ≡ slot.number
-unfolding definitions
-plain_number slot = refl
+-- ---- slots, from the first on, and from the last back
+pub all_left : (t : Slots) (i : ℕ) → i ≤ 0 → left t i ≡ slots_of t
+all_left t i h =
+    let first : i ≡ 0 = omega arith in
+    ap (left t) first ∙ left_all t
 
-pub plain_used : (slot : Slot') → (plain_slot slot).used ≡ slot.used
-unfolding definitions
-plain_used slot = refl
+pub left_before : (t : Slots) (i : ℕ) → 0 < i → i ≤ t.count → left t (i - 1) ≡ slot_of t (i - 1) ∷ left t i
+left_before t i h k =
+    let next : i - 1 + 1 ≡ i = omega arith in
+    left_next t (i - 1) (omega arith) ∙ ap (λ n. slot_of t (i - 1) ∷ left t n) next
 
--- as many as are listed
+pub ruleset slots = (left_next, left_none, all_left)
+
+pub ruleset backwards = (left_before, left_none, all_left)
+
+-- as many as are counted
+slots_counted : (k first : ℕ) (ds : List Declared) (n : ℕ) → length (slots_from k first ds n) ≡ n
+unfolding meaning_definitions
+slots_counted k first ds zero = refl
+slots_counted k first ds (suc n) = ap suc (slots_counted (suc k) (first + (1 + length ds)) ds n)
+
+pub length_slots : (t : Slots) → length (slots_of t) ≡ t.count
+length_slots t = slots_counted 0 t.first (map declared_range t.fields.now) t.count
+
+pub no_slots : (t : Slots) → t.count ≡ 0 → slots_of t ≡ []
+no_slots t h = sym (left_all t) ∙ left_none t 0 (omega arith)
+
 pub length_mapped : {A B : Type 0} (f : A → B) (xs : List A) → length (map f xs) ≡ length xs
 length_mapped f xs = length-map xs f
 
-pub mapped_none : {A B : Type 0} (f : A → B) (xs : List A) → length xs ≡ 0 → map f xs ≡ []
-mapped_none f [] h = refl
-mapped_none f (x ∷ xs) h = absurd (omega arith)
-
-pub ruleset lengths = (length_mapped, mapped_none)
-
--- a list that is matched by its first item
-pub first_none : {A B : Type 0} (f : A → B) (xs : List A) → length xs < 1 → map f xs ≡ []
-first_none f [] h = refl
-first_none f (x ∷ xs) h = absurd (omega arith)
-
-pub first_more : {A B : Type 0} (f : A → B) (xs : List A) (d : A) → 1 ≤ length xs → map f xs ≡ f (get_or xs 0 d) ∷ map f (take (length xs - 1) (drop 1 xs))
-first_more f [] d h = absurd (omega arith)
-first_more f (y ∷ ys) d h =
-    let all : length ys ≤ length (y ∷ ys) - 1 = omega arith in
-    ap (λ l. f y ∷ map f l) (sym (take_all (length (y ∷ ys) - 1) ys all))
-
-pub ruleset firsts = (first_none, first_more, plain_number, plain_used)
+pub ruleset lengths = (length_mapped, length_slots, no_slots)
 
 -- ---- changes
 pub restored_end : (z : Store) → restored [] z ≡ z
@@ -157,39 +155,6 @@ pub ruleset values = (plain_filled_is, plain_named, plain_value)
 
 pub ruleset fillings = (plain_field_of, plain_extent_of, filled_tests_end, filled_tests_more, fields_writing_end, fields_writing_more, fields_filled_end, fields_filled_more)
 
--- ---- lookups
-pub spot_first : (ds : List Declared) (n : ℕ) → spot_from 0 ds n ≡ spot ds n
-unfolding meaning_definitions
-spot_first ds n = refl
-
-pub spot_end : (k n : ℕ) → spot_from k [] n ≡ record { place = k; lo = pos 0; hi = pos 0 }
-unfolding meaning_definitions
-spot_end k n = refl
-
-pub spot_more : (k : ℕ) (d : Declared) (ds : List Declared) (n : ℕ) → spot_from k (d ∷ ds) n ≡ cond (d.name == n) (record { place = k; lo = d.lo; hi = d.hi }) (spot_from (k + 1) ds n)
-unfolding meaning_definitions
-spot_more k d ds n = rw add-one refl
-
-pub declared_name : (d : RangeDecl) → declared_range d ≡ record { name = d.name.name; lo = d.lo.value; hi = d.hi.value }
-unfolding meaning_definitions
-declared_name d = refl
-
-pub slot_end : (v : ℤ) → slot_at v [] ≡ None
-unfolding meaning_definitions
-slot_end v = refl
-
-pub slot_more : (v : ℤ) (slot : context.Slot) (more : List context.Slot) → slot_at v (slot ∷ more) ≡ cond (int_eq v (pos slot.number)) (Some slot) (slot_at v more)
-unfolding meaning_definitions
-slot_more v slot more = refl
-
-pub row_end : (s : context.Slot) (n : ℕ) → row_in s [] n ≡ s
-unfolding definitions
-row_end s n = refl
-
-pub row_more : (s : context.Slot) (r : Row) (rs : List Row) (n : ℕ) → row_in s (r ∷ rs) n ≡ row_in (cond (r.name == n) (plain_slot r.slot) s) rs n
-unfolding definitions
-row_more s r rs n = refl
-
 -- ---- stores and loops
 pub store_sizes : (t : Extents) → (store_in t).sizes ≡ sizes_in t
 unfolding definitions
@@ -223,6 +188,4 @@ pub each_measured_is : (x : Setting) (r : ℕ) (cs : s.Commands) (slot : context
 unfolding definitions
 each_measured_is x r cs slot z = refl
 
-pub ruleset stores = (each_after_is, each_measured_is, store_sizes, store_log, setting_sites, plain_used, cleared_is, field_set_is, field_setting_is)
-
-pub ruleset lookups = (items, plain_number, spot_first, spot_end, spot_more, declared_name, slot_end, slot_more, row_end, row_more)
+pub ruleset stores = (each_after_is, each_measured_is, store_sizes, store_log, setting_sites, cleared_is, field_set_is, field_setting_is)

@@ -1,5 +1,5 @@
 -- The pass over a call's body measures the call's L form.
-use Rattle.std.proofs.Common.{◌≡◌, ℕ, zero, suc, ◌+◌, ◌<◌, min, Bool, true, false, ℤ, Option, None, List, [], ◌∷◌, map, get_or, refl, sym, ap, ◌∙◌, subst, arith}
+use Rattle.std.proofs.Common.{◌≡◌, ℕ, zero, suc, ◌+◌, ◌<◌, min, Bool, true, false, ℤ, List, [], ◌∷◌, map, get_or, refl, sym, ap, ◌∙◌, subst, arith}
 use Rattle.std.specs.Prelude.{nat_le}
 use Rattle.std.proofs.lemmas.Int.{clamps}
 use Rattle.std.proofs.lemmas.Bool.Decides.{nat_tests}
@@ -9,55 +9,41 @@ use Rattle.homeo_syntax.specs.Key.{definitions as syntax_definitions}
 use Rattle.homeo_syntax.specs.SourceView.{commands, plain_command, plain_transaction}
 use Rattle.homeo_syntax.specs.declared.command.Command.{Command}
 use Rattle.homeo_syntax.specs.declared.phrase.Number.{Number}
-use Rattle.homeo_syntax.specs.declared.workload.RangeDecl.{RangeDecl}
 use Rattle.homeo_syntax.specs.declared.workload.Transaction.{Transaction}
 use Rattle.homeo_meaning.specs.Key.{definitions as meaning_definitions}
 use Rattle.homeo_meaning.specs.Bounds.{Bounds, all_bounds}
 use Rattle.homeo_meaning.specs.Schema.{Schema}
 use Rattle.homeo_meaning.specs.Context as context
-use Rattle.homeo_meaning.specs.Context.{Context, object, slots, fields, arguments_of}
+use Rattle.homeo_meaning.specs.Context.{Context, slots}
 use Rattle.homeo_meaning.specs.Aborts.{hold_abort}
 use Rattle.homeo_meaning.specs.LForm.{l_form}
 use Rattle.homeo_meaning.specs.LowSizes.{first_extents, call_extent, command_extent, rows, prints_in}
 use Rattle.homeo_meaning.specs.LowWeights.{first_weights}
 use Rattle.homeo_meaning.specs.LowWeights.{weight_at}
 use Rattle.homeo_size.specs.inner.Key.{definitions}
-use Rattle.homeo_size.specs.inner.Laid.{capped_weight, outside}
+use Rattle.homeo_size.specs.inner.Laid.{capped_weight}
 use Rattle.homeo_size.specs.Measured.{IsMeasure}
-use Rattle.homeo_size.specs.inner.Writing.{body_measured}
+use Rattle.homeo_size.specs.inner.Measuring.{all_measured}
+use Rattle.homeo_size.specs.inner.Writing.{undoing_by, saved_by, body_measured}
 use Rattle.homeo_size.specs.inner.Nodes.{commands_nodes}
 use Rattle.homeo_size.specs.inner.Numbers.{weight_cap}
-use Rattle.homeo_size.specs.inner.Parts.{single, unwritten}
+use Rattle.homeo_size.specs.inner.Parts.{single, unwritten, none}
 use Rattle.homeo_size.specs.inner.Prints.{all_prints}
 use Rattle.homeo_size.specs.inner.Sizing.{Setting}
 use Rattle.homeo_size.specs.inner.Store.{Store}
-use Rattle.homeo_size.specs.inner.Tables.{setting_of}
+use Rattle.homeo_size.specs.inner.Tables.{setting_for}
 use Rattle.homeo_size.specs.declared.extent.Extent.{Extent}
 use Rattle.homeo_size.specs.declared.extents.Kept.{Kept}
 use Rattle.homeo_size.specs.declared.measures.Measure.{Measure}
 use Rattle.homeo_size.proofs.Heaviest.{heaviest, light_is}
 use Rattle.homeo_size.proofs.Lifting.{seen}
 use Rattle.homeo_size.proofs.Undone.{body_is}
-use Rattle.homeo_size.proofs.LiftedPhrases.{setting_for}
 use Rattle.homeo_size.proofs.Low.{Extents}
 use Rattle.homeo_size.proofs.NodeLaw.{Same, form_has}
 use Rattle.homeo_size.proofs.NodeSizes.{command_size, first_least}
 use Rattle.homeo_size.proofs.PrintLaw.{body_prints}
 use Rattle.homeo_size.proofs.Tables.{sizes_with, store_with}
 use Rattle.homeo_size.proofs.Told.{told, told_measure, measured_told}
-
--- the setting of a call
-pub setting_is : (x : Schema) (params : List ℕ) (args : List ℤ) (arguments : List (Option ℤ)) (sites : ℕ) → ((n : ℕ) → get_or arguments n None ≡ arguments_of params args n) → setting_of x arguments [] sites ≡ setting_for sites (context.context x params args)
-unfolding definitions meaning_definitions
-setting_is x params args arguments sites a =
-    λ i. record {
-      object = λ n. object (context.context x params args) n;
-      slots = λ n. slots (context.context x params args) n;
-      fields = λ n. fields (context.context x params args) n;
-      arguments = λ n. a n i;
-      rows = λ n. outside x;
-      sites = sites;
-    }
 
 -- ---- where a call begins
 first_object : (sites k : ℕ) (bs : List Bounds) → get_or (map (unwritten sites) (map capped_weight bs)) k (unwritten sites 1) ≡ told (record { size = sites + 2; depth = 2 }) (weight_at bs k)
@@ -92,10 +78,7 @@ is_measure x sites form m h = record {
 }
 
 -- ---- a call
-module _ (x : Schema) (params : List ℕ) (args : List ℤ) (body : s.Commands) (arguments : List (Option ℤ)) (sites : ℕ) (a : (n : ℕ) → get_or arguments n None ≡ arguments_of params args n) where
-  abbrev se : Setting
-  se = setting_of x arguments [] sites
-
+module _ (x : Schema) (params : List ℕ) (args : List ℤ) (body : s.Commands) (se : Setting) (sites : ℕ) (e : se ≡ setting_for sites (context.context x params args)) where
   abbrev w : Context
   w = context.context x params args
 
@@ -105,38 +88,36 @@ module _ (x : Schema) (params : List ℕ) (args : List ℤ) (body : s.Commands) 
       let start : Store = store_with (sizes_with sites (map (unwritten sites) (map capped_weight (all_bounds x))) []) [] in
       is_measure x sites (l_form x params args body) m
       (is
-      ∙ (λ i. body_measured (hold_abort body) (setting_is x params args arguments sites a i) body (store_with (sizes_with sites (o i) []) []))
+      ∙ (λ i. body_measured (hold_abort body) (e i) body (store_with (sizes_with sites (o i) []) []))
       ∙ sym (body_is sites (hold_abort body) w body (first x sites) start refl (first_sees x sites))
       ∙ measured_told sites (l_form x params args body) (first x sites) (first_extents sites) (first_weights x) (λ p. refl))
 
   too_large : 2000000 < commands_nodes se body 1 → 2000000 < (call_extent sites (l_form x params args body)).size
   unfolding definitions meaning_definitions
   too_large big =
-      let same : Same se w = record { slots' = λ q. ap (λ (z : Setting). z.slots q) (setting_is x params args arguments sites a); arguments' = a } in
+      let same : Same se w = record { slots' = λ q. ap (λ (z : Setting). z.slots q) e; arguments' = λ n. ap (λ (z : Setting). z.arguments n) e } in
       let nodes = form_has se w same body in
       let size = command_size sites (l_form x params args body) (first_extents sites) (first_least sites) in
       omega (arith, big, nodes, size)
 
 -- a call of a transaction, as the code has its parts
-pub transaction_measured : (x : Schema) (t : Transaction) (args : List Number) (params : List RangeDecl) (cs : List Command) (given arguments : List (Option ℤ)) (objects temps : List Extent) (log : List Kept) (sites : ℕ) (m : Measure) → params ≡ t.params.items → cs ≡ t.body.items → given ≡ arguments → temps ≡ [] → log ≡ [] → ((n : ℕ) → get_or arguments n None ≡ arguments_of (map (λ p. p.name.name) params) (map (λ a. a.value) args) n) → objects ≡ map (unwritten sites) (map capped_weight (all_bounds x)) → m ≡ body_measured (hold_abort (commands (map plain_command cs))) (setting_of x given [] sites) (commands (map plain_command cs)) (store_with (sizes_with sites objects temps) log) → IsMeasure x sites (l_form x (map (λ p. p.name.name) t.params.items) (map (λ a. a.value) args) (plain_transaction t).body) m
-unfolding syntax_definitions
-transaction_measured x t args params cs given arguments objects temps log sites m p b g e n a o is =
-    measured_call x (map (λ p. p.name.name) t.params.items) (map (λ a. a.value) args) (plain_transaction t).body arguments sites
-    (λ k. a k ∙ ap (λ ps. arguments_of (map (λ p. p.name.name) ps) (map (λ a. a.value) args) k) p)
-    objects m o
-    (is ∙ (λ i. body_measured (hold_abort (commands (map plain_command (b i)))) (setting_of x (g i) [] sites) (commands (map plain_command (b i))) (store_with (sizes_with sites objects (e i)) (n i))))
+module _ (x : Schema) (t : Transaction) (args : List Number) (cs : List Command) (se : Setting) (sites : ℕ) (b : cs ≡ t.body.items) (e : se ≡ setting_for sites (context.context x (map (λ p. p.name.name) t.params.items) (map (λ a. a.value) args))) where
+  pub transaction_measured : (objects temps : List Extent) (log : List Kept) (m : Measure) → temps ≡ [] → log ≡ [] → objects ≡ map (unwritten sites) (map capped_weight (all_bounds x)) → m ≡ undoing_by (hold_abort (commands (map plain_command cs))) sites (sizes_with sites objects temps) (saved_by (hold_abort (commands (map plain_command cs))) se (commands (map plain_command cs))) (all_measured se false (commands (map plain_command cs)) (store_with (sizes_with sites objects temps) log) none).all → IsMeasure x sites (l_form x (map (λ p. p.name.name) t.params.items) (map (λ a. a.value) args) (plain_transaction t).body) m
+  unfolding syntax_definitions definitions
+  transaction_measured objects temps log m tn n o is =
+      measured_call x (map (λ p. p.name.name) t.params.items) (map (λ a. a.value) args) (plain_transaction t).body se sites e objects m o
+      (is ∙ (λ i. undoing_by (hold_abort (commands (map plain_command (b i)))) (sym (ap (λ (z : Setting). z.sites) e) i) (sizes_with sites objects (tn i)) (saved_by (hold_abort (commands (map plain_command (b i)))) se (commands (map plain_command (b i)))) (all_measured se false (commands (map plain_command (b i))) (store_with (sizes_with sites objects (tn i)) (n i)) none).all))
 
-pub transaction_large : (x : Schema) (t : Transaction) (args : List Number) (params : List RangeDecl) (cs : List Command) (given arguments : List (Option ℤ)) (sites n : ℕ) → params ≡ t.params.items → cs ≡ t.body.items → given ≡ arguments → ((n : ℕ) → get_or arguments n None ≡ arguments_of (map (λ p. p.name.name) params) (map (λ a. a.value) args) n) → n ≡ commands_nodes (setting_of x given [] sites) (commands (map plain_command cs)) 1 → 2000000 < n → 2000000 < (call_extent sites (l_form x (map (λ p. p.name.name) t.params.items) (map (λ a. a.value) args) (plain_transaction t).body)).size
-unfolding syntax_definitions
-transaction_large x t args params cs given arguments sites n p b g a is big =
-    too_large x (map (λ p. p.name.name) t.params.items) (map (λ a. a.value) args) (plain_transaction t).body arguments sites
-    (λ n. a n ∙ ap (λ ps. arguments_of (map (λ p. p.name.name) ps) (map (λ a. a.value) args) n) p)
-    (subst (λ k. 2000000 < k) (is ∙ (λ i. commands_nodes (setting_of x (g i) [] sites) (commands (map plain_command (b i))) 1)) big)
+  pub transaction_large : (n : ℕ) → n ≡ commands_nodes se (commands (map plain_command cs)) 1 → 2000000 < n → 2000000 < (call_extent sites (l_form x (map (λ p. p.name.name) t.params.items) (map (λ a. a.value) args) (plain_transaction t).body)).size
+  unfolding syntax_definitions
+  transaction_large n is big =
+      too_large x (map (λ p. p.name.name) t.params.items) (map (λ a. a.value) args) (plain_transaction t).body se sites e
+      (subst (λ k. 2000000 < k) (is ∙ (λ i. commands_nodes se (commands (map plain_command (b i))) 1)) big)
 
 -- the prints of a call, whatever its arguments
-pub transaction_prints : (x : Schema) (t : Transaction) (cs : List Command) (n : ℕ) → cs ≡ t.body.items → n ≡ all_prints (setting_of x [] [] 0) (commands (map plain_command cs)) 0 → (args : List ℤ) → n ≡ min 1000001 (prints_in (l_form x (map (λ p. p.name.name) t.params.items) args (plain_transaction t).body))
+pub transaction_prints : (x : Schema) (t : Transaction) (cs : List Command) (se : Setting) (names : List ℕ) (values : List ℤ) (n : ℕ) → cs ≡ t.body.items → se ≡ setting_for 0 (context.context x names values) → n ≡ all_prints se (commands (map plain_command cs)) 0 → (args : List ℤ) → n ≡ min 1000001 (prints_in (l_form x (map (λ p. p.name.name) t.params.items) args (plain_transaction t).body))
 unfolding syntax_definitions meaning_definitions
-transaction_prints x t cs n b is args =
+transaction_prints x t cs se names values n b e is args =
     let params : List ℕ = map (λ p. p.name.name) t.params.items in
-    let slots_are : (q : ℕ) → (setting_of x [] [] 0).slots q ≡ slots (context.context x params args) q = λ q. ap (λ (z : Setting). z.slots q) (setting_is x [] [] [] 0 (λ n. refl)) in
-    is ∙ (λ i. all_prints (setting_of x [] [] 0) (commands (map plain_command (b i))) 0) ∙ body_prints (setting_of x [] [] 0) (context.context x params args) slots_are (plain_transaction t).body
+    let slots_are : (q : ℕ) → se.slots q ≡ slots (context.context x params args) q = λ q. ap (λ (z : Setting). z.slots q) e in
+    is ∙ (λ i. all_prints se (commands (map plain_command (b i))) 0) ∙ body_prints se (context.context x params args) slots_are (plain_transaction t).body

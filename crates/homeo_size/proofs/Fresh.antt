@@ -17,7 +17,8 @@ use Rattle.homeo_size.specs.declared.extent.Extent.{Extent}
 use Rattle.homeo_size.specs.declared.measures.Before.{Before}
 use Rattle.homeo_size.proofs.Branching.{greater_same}
 use Rattle.homeo_size.proofs.Lifting.{at_fresh, Lifts, after_both, after_front, combined_lifts}
-use Rattle.homeo_size.proofs.LiftedPhrases.{setting_for, conds, lifts, lifts_cond}
+use Rattle.homeo_size.specs.inner.Tables.{setting_for}
+use Rattle.homeo_size.proofs.LiftedPhrases.{conds, lifts, lifts_cond}
 use Rattle.homeo_size.proofs.Low.{Extents, low_sized, low_after, low_after_all}
 use Rattle.homeo_size.proofs.Writes.{pair_sized, values_lifts}
 

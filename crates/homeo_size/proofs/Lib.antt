@@ -14,7 +14,6 @@ pub mod Writes
 pub mod Fresh
 pub mod LiftedCommands
 pub mod Layouts
-pub mod LayoutNames
 pub mod NodeEquations
 pub mod NodeLaw
 pub mod NodeSizes

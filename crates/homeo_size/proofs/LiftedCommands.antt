@@ -21,7 +21,8 @@ use Rattle.homeo_size.specs.declared.measures.Before.{Before}
 use Rattle.homeo_size.specs.declared.measures.Measure.{Measure}
 use Rattle.homeo_size.proofs.Branching.{greater_again, greater_turned, greater_sizes, Keeps, keeps_self, keeps_then, set_keeps, closes, reopens, joins}
 use Rattle.homeo_size.proofs.Lifting.{seen, at_fresh, measured_both, after_front, measured_front, alike_self}
-use Rattle.homeo_size.proofs.LiftedPhrases.{setting_for, literal_is, lifts, lifts_cond}
+use Rattle.homeo_size.specs.inner.Tables.{setting_for}
+use Rattle.homeo_size.proofs.LiftedPhrases.{literal_is, lifts, lifts_cond}
 use Rattle.homeo_size.proofs.Fresh.{Takes, Allows, allows_left, allows_right, Ready, ready_then, guard_keeps, row_takes, turn_after, turn_leaves, if_else, visit_keeps, form_takes, forms_take}
 use Rattle.homeo_size.proofs.Low.{Extents, low_sized, low_tests, low_after, low_after_all, low_measured, low_measured_all}
 use Rattle.homeo_size.proofs.Writes.{Does, placed_does, assign_does, write_does, field_does, insert_does}

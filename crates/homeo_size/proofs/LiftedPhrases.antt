@@ -4,21 +4,18 @@ use Rattle.homeo_syntax.specs.declared.low.Temp.TheVariants as temp
 use Rattle.homeo_syntax.specs.Low as L
 use Rattle.homeo_syntax.specs.Source.{Expr, Exprs, Literal, Name, Read, Sum, Product, Neg, Field, Row, Count, Total, NoExpr, MoreExpr, Test, Cond, True, Not, Comparison, NoTest, MoreTest}
 use Rattle.homeo_meaning.specs.Key.{definitions as meaning_definitions}
-use Rattle.homeo_meaning.specs.Context.{Spot, Slot, Context, spot, cell, field_cell, object, slots, fields, bind, slot_at}
+use Rattle.homeo_meaning.specs.Context.{Spot, Slot, Context, spot, cell, field_cell, slots, fields, bind, slot_at}
 use Rattle.homeo_meaning.specs.LowMeaning.{TempAt, BaseAt, put, same_location}
 use Rattle.homeo_meaning.specs.LForm.{Lifted, Made, AllMade, read, fresh, equal, name_of, read_chain, read_slot, literal_of, indexed_by, visits, counted, lift, lift_all, lift_test, lift_cond}
 use Rattle.homeo_size.specs.inner.Key.{definitions}
 use Rattle.homeo_size.specs.inner.Parts.{literal, nothing, no_factor, beside, plus, times, around, summed, compared, greater, empty, valued, chosen, with_one}
 use Rattle.homeo_size.specs.inner.Sizing.{Sizes, Setting, name_sized, slot_sized, chain_sized, chain_measured, field_sized, field_lifted, missing, missing_at, literal_in, term_sized, added, total_sized, used_test, total_measured, sized, sum_sized, product_sized, test_sized, tests_sized, lifted, all_lifted, test_lifted, tests_lifted}
+use Rattle.homeo_size.specs.inner.Tables.{setting_for}
 use Rattle.homeo_size.specs.declared.extent.Extent.{Extent}
 use Rattle.homeo_size.specs.declared.measures.Before.{Before}
 use Rattle.homeo_size.proofs.Branching.{greater_same}
 use Rattle.homeo_size.proofs.Lifting.{seen, at_fresh, Alike, Lifts, after_both, measured_both, alike_self, alike_then, alike_below, alike_put, put_here, plain_lifts, mapped_lifts, combined_lifts, stored_lifts}
 use Rattle.homeo_size.proofs.Low.{Extents, low_sized, low_sum, low_product, low_test, low_tests, low_cond, low_after, low_after_all, low_measured, low_measured_all}
-
--- the setting of a context
-abbrev pub setting_for : ℕ → Context → Setting
-setting_for sites w = record { object = object w; slots = slots w; fields = fields w; arguments = w.arguments; rows = w.rows; sites = sites }
 
 -- ---- literals
 name_literal : (o : Option ℤ) (x : ℕ) → literal_of (name_of o x) ≡ o

@@ -1,13 +1,26 @@
 -- The counts of nodes form by form and along lists, as equations, which code rewrites by.
-use Rattle.std.proofs.Common.{◌≡◌, ℕ, ℤ, ◌+◌, ◌*◌, List, [], ◌∷◌, length, refl}
+use Rattle.std.proofs.Common.{◌≡◌, ℕ, ℤ, ◌+◌, ◌*◌, ◌≤◌, List, [], ◌∷◌, length, None, refl, arith}
 use Rattle.homeo_syntax.specs.Key.{definitions as syntax_definitions}
 use Rattle.homeo_syntax.specs.Source as s
 use Rattle.homeo_syntax.specs.SourceView.{exprs, tests, commands}
 use Rattle.homeo_syntax.specs.declared.phrase.Ident.{Ident}
 use Rattle.homeo_syntax.specs.declared.phrase.Compare.{Compare}
+use Rattle.homeo_meaning.specs.Context.{Slot}
 use Rattle.homeo_size.specs.inner.Key.{definitions}
 use Rattle.homeo_size.specs.inner.Nodes.{few, index_nodes, visit_nodes, nodes, all_nodes, test_nodes, tests_nodes, write_nodes, values_nodes, command_nodes, commands_nodes}
 use Rattle.homeo_size.specs.inner.Sizing.{Setting, literal_in}
+
+-- where there is a slot
+pub some_indexed : (all : List Slot) (n : ℕ) → 1 ≤ length all → index_nodes None all n ≡ few (length all + n)
+some_indexed [] n h = absurd (omega arith)
+some_indexed (slot ∷ more) n h = refl
+
+pub some_written : (all : List Slot) (m n : ℕ) → 1 ≤ length all → write_nodes None all m n ≡ few (length all + few (m + n))
+unfolding definitions
+some_written [] m n h = absurd (omega arith)
+some_written (slot ∷ more) m n h = refl
+
+pub ruleset somewhere = (some_indexed, some_written)
 
 pub nodes_Literal : (x : Setting) (n : ℤ) → nodes x (s.Literal n) ≡ 1
 unfolding definitions

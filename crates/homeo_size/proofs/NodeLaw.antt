@@ -15,7 +15,8 @@ use Rattle.homeo_meaning.specs.LForm.{Lifted, Made, AllMade, both, one, in_front
 use Rattle.homeo_size.specs.inner.Key.{definitions}
 use Rattle.homeo_size.specs.inner.Nodes.{few, index_nodes, visit_nodes, nodes, all_nodes, test_nodes, tests_nodes, slot_nodes, write_nodes, values_nodes, command_nodes, commands_nodes}
 use Rattle.homeo_size.specs.inner.Sizing.{Setting, missing_at, literal_in}
-use Rattle.homeo_size.proofs.LiftedPhrases.{setting_for, literal_is}
+use Rattle.homeo_size.specs.inner.Tables.{setting_for}
+use Rattle.homeo_size.proofs.LiftedPhrases.{literal_is}
 
 -- ---- the nodes of an L form
 abbrev mutual

@@ -10,7 +10,7 @@ use Rattle.homeo_lform.proofs.Written.{forms_written}
 use Rattle.homeo_size.specs.inner.Key.{definitions}
 use Rattle.homeo_size.specs.inner.Sizing.{literal_in, missing, missing_at}
 use Rattle.homeo_size.specs.inner.Writing.{at_each, at_slot, by_index, put_cell, put_field, put_used, put_filled, writes, all_writes}
-use Rattle.homeo_size.proofs.LiftedPhrases.{setting_for}
+use Rattle.homeo_size.specs.inner.Tables.{setting_for}
 
 zero_same : (o : Option Slot) → source.absent_zero o ≡ missing o
 unfolding definitions meaning_definitions

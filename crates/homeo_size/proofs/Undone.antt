@@ -20,7 +20,7 @@ use Rattle.homeo_size.specs.inner.Writing.{saves_measured, restores_measured, un
 use Rattle.homeo_size.specs.declared.measures.Before.{Before}
 use Rattle.homeo_size.proofs.Fresh.{Keeps, Ready, forms_take}
 use Rattle.homeo_size.proofs.LiftedCommands.{none_ends, forms_do}
-use Rattle.homeo_size.proofs.LiftedPhrases.{setting_for}
+use Rattle.homeo_size.specs.inner.Tables.{setting_for}
 use Rattle.homeo_size.proofs.Lifting.{seen, at_fresh, Alike, alike_self, alike_then, alike_put, put_here}
 use Rattle.homeo_size.proofs.Low.{Extents, low_tests, low_after, low_after_all, low_measured, low_measured_all}
 use Rattle.homeo_size.proofs.SavedObjects.{saved_same}

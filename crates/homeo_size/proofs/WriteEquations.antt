@@ -4,6 +4,7 @@ use Rattle.homeo_syntax.specs.Key.{definitions as syntax_definitions}
 use Rattle.homeo_syntax.specs.Source as s
 use Rattle.homeo_syntax.specs.SourceView.{commands}
 use Rattle.homeo_syntax.specs.declared.phrase.Ident.{Ident}
+use Rattle.homeo_meaning.specs.Key.{definitions as meaning_definitions}
 use Rattle.homeo_meaning.specs.Context.{Spot, Slot, spot, cell, field_cell}
 use Rattle.homeo_meaning.specs.LowWrites.{with_number}
 use Rattle.homeo_meaning.specs.Schema.{Declared}
@@ -42,6 +43,10 @@ each_put x r cs slot xs = refl
 pub filled_end : (ds : List Declared) (slot : Slot) (xs : List ℕ) → put_filled ds [] slot xs ≡ with_number slot.used xs
 unfolding definitions
 filled_end ds slot xs = refl
+
+pub cell_named : (slot : Slot) (f : ℕ) → field_cell slot f ≡ cell slot (spot slot.fields f)
+unfolding meaning_definitions
+cell_named slot f = refl
 
 pub filled_more : (ds : List Declared) (slot : Slot) (xs : List ℕ) (f : s.FieldValue) (fs : List s.FieldValue) → put_filled ds (f ∷ fs) slot xs ≡ put_filled ds fs slot (with_number (cell slot (spot ds f.field.name)) xs)
 unfolding definitions
@@ -136,7 +141,7 @@ restores_more n z b x xs = refl
 
 pub ruleset slots = (each_end, each_more, used_put, field_put, cell_put, each_put)
 
-pub ruleset fields = (filled_end, filled_more)
+pub ruleset fields = (cell_named, filled_end, filled_more)
 
 pub ruleset steps = (writes_Skip, writes_Assign, writes_Write, writes_Print, writes_If, writes_Block, writes_SetField, writes_SetRow, writes_Foreach, writes_Insert, writes_Delete, writes_Update, writes_Abort)
 

@@ -23,7 +23,8 @@ use Rattle.homeo_size.specs.declared.measures.Before.{Before}
 use Rattle.homeo_size.specs.declared.measures.Measure.{Measure}
 use Rattle.homeo_size.proofs.Branching.{greater_same, greater_turned, greater_moved, greater_sizes, same_entry, same_is, entry_changed, each_entry, entry_greater, Keeps, keeps_self, keeps_then, set_keeps, closes}
 use Rattle.homeo_size.proofs.Lifting.{seen, at_fresh, Lifts, after_both, measured_both, after_front, measured_front, alike_self, plain_lifts, combined_lifts, stored_lifts}
-use Rattle.homeo_size.proofs.LiftedPhrases.{setting_for, lifts}
+use Rattle.homeo_size.specs.inner.Tables.{setting_for}
+use Rattle.homeo_size.proofs.LiftedPhrases.{lifts}
 use Rattle.homeo_size.proofs.Low.{Extents, low_sized, low_tests, low_cond, low_after, low_after_all, low_measured, low_measured_all}
 
 -- ---- tables that are at least others

@@ -6,7 +6,6 @@ pub mod Numbers
 pub mod Parts
 pub mod Prints
 pub mod Sizing
-pub mod Slots
 pub mod Store
 pub mod Tables
 pub mod Writing

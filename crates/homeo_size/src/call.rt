@@ -6,13 +6,13 @@ ghost use Rattle.homeo_meaning.specs.LForm.{l_form};
 ghost use Rattle.homeo_size.specs.Measured.{IsMeasured};
 ghost use Rattle.homeo_size.specs.inner.Parts.{unwritten};
 
-use crate::arguments::arguments;
 use crate::extent::{Extent, unwritten};
 use crate::extents::Extents;
 use crate::frame::Frame;
 use crate::layout::Layout;
 use crate::measures::Measure;
 use crate::nodes::TOO_MANY;
+use homeo_context::{argument_values, bind};
 use homeo_meaning::hold_abort;
 use homeo_syntax::{Memory, Number, Transaction};
 use std::alloc::Global;
@@ -39,19 +39,15 @@ pub fn measure(
     alloc: Global,
     t: &Transaction,
     args: &[Number],
-    layout: &Layout<'_>,
+    layout: &Layout,
     sites: u64,
 ) -> Result<Option<Measure>, Memory>
     ensures { IfOk result (IsMeasured layout.now sites
         (l_form layout.now (map (λ p. p.name.name) t.now.params.items) (map (λ a. a.value) args.now) (plain_transaction t.now).body)) }
 {
-    let arguments = arguments(alloc, t.params.as_slice(), args)?;
-    let frame = Frame {
-        layout,
-        arguments: arguments.as_slice(),
-        rows: &[],
-        sites,
-    };
+    let values = argument_values(alloc, args)?;
+    let arguments = bind(alloc, t.params.as_slice(), values.as_slice())?;
+    let frame = Frame::of_call(layout, arguments.as_slice(), sites);
     let body = t.body.as_slice();
     if frame.commands_nodes(body, 1) >= TOO_MANY {
         return Ok(None);

@@ -3,8 +3,7 @@
 ghost use Rattle.std.specs.Prelude.{◌≡◌, map, option_map, OnOk};
 ghost use Rattle.homeo_size.specs.inner.Parts.{nothing, none};
 ghost use Rattle.homeo_size.specs.inner.Measuring.{chain_raised, slot_raised, chain_writing, slot_writing, filled_tests, fields_writing, slot_filling, chain_filling, into_sized, fields_filled, slot_filled, chain_filled, inserted, inserting};
-ghost use Rattle.homeo_context.specs.Slots.{plain_spot};
-ghost use Rattle.homeo_size.specs.inner.Slots.{plain_slot};
+ghost use Rattle.homeo_context.specs.Slots.{plain_slot, plain_spot, slots_of, IsCounted};
 ghost use Rattle.homeo_size.specs.inner.Tables.{plain_filled, sizes_in, store_in};
 
 use crate::extent::{
@@ -14,8 +13,8 @@ use crate::extents::{Entry, Extents};
 use crate::measures::{
     Before, EMPTY, Measure, NONE, chosen, guarded, placed, valued, with_one, writing,
 };
-use crate::slot::{Slot, cell};
-use homeo_context::Spot;
+use crate::slot::cell;
+use homeo_context::{Slot, Slots, Spot};
 use homeo_syntax::Memory;
 use std::alloc::Global;
 
@@ -27,18 +26,18 @@ pub(crate) struct Filled {
 }
 
 /// The chain of tests that writes a value to a field of the slot that the index names.
-#[tactic(auto, using(crate::proofs::Along::firsts, crate::proofs::Equations::chains))]
-pub(crate) fn chain_writing(sites: u64, index: Extent, value: Extent, slots: &[Slot<'_>]) -> Measure
-    ensures { result ≡ chain_writing sites index value (map plain_slot slots.now) }
+#[tactic(auto, using(crate::proofs::Along::backwards, crate::proofs::Equations::chains))]
+pub(crate) fn chain_writing(sites: u64, index: Extent, value: Extent, slots: Slots<'_>) -> Measure
+    ensures { result ≡ chain_writing sites index value (slots_of slots.entry) }
 {
-    match slots {
-        [] => EMPTY,
-        [slot, more @ ..] => chosen(
-            is_equal(index, slot.number),
-            writing(sites, value),
-            chain_writing(sites, index, value, more),
-        ),
+    let mut chain = EMPTY;
+    let mut number = slots.count;
+    while number > 0 {
+        number -= 1;
+        let test = is_equal(index, number as u64);
+        chain = chosen(test, writing(sites, value), chain);
     }
+    chain
 }
 
 /// The write of a value to a field of a slot, and nothing where there is no slot.
@@ -88,38 +87,41 @@ fn slot_filling(sites: u64, fields: &[Filled], slot: Slot<'_>) -> Measure
 {
     let fields = fields_writing(sites, fields);
     let used = with_one(fields, writing(sites, natural(1)));
-    with_one(used, valued(successor(slot.number))).all
+    with_one(used, valued(successor(slot.number as u64))).all
 }
 
 /// The temporary that tells which slot was filled.
-#[tactic(auto, using(crate::proofs::Along::firsts, crate::proofs::Equations::chains))]
-fn into(slots: &[Slot<'_>]) -> Extent
-    ensures { result ≡ into_sized (map plain_slot slots.now) }
+#[tactic(auto, using(crate::proofs::Along::backwards, crate::proofs::Equations::chains))]
+fn into(slots: Slots<'_>) -> Extent
+    ensures { result ≡ into_sized (slots_of slots.entry) }
 {
-    match slots {
-        [] => literal(0),
-        [slot, more @ ..] => greater(successor(slot.number), into(more)),
+    let mut into = literal(0);
+    let mut number = slots.count;
+    while number > 0 {
+        number -= 1;
+        into = greater(successor(number as u64), into);
     }
+    into
 }
 
 impl Extents {
     /// Raises the field of each slot: the value may be written to any of them.
-    #[tactic(auto, using(crate::proofs::Along::firsts, crate::proofs::Equations::chains))]
+    #[tactic(auto, using(crate::proofs::Along::backwards, crate::proofs::Equations::chains))]
     pub(crate) fn raise_chain(
         &mut self,
         field: Spot,
         value: Extent,
-        slots: &[Slot<'_>],
+        slots: Slots<'_>,
     ) -> Result<(), Memory>
-        ensures { OnOk result (store_in self.new ≡ chain_raised (plain_spot field) value (map plain_slot slots.now) (store_in self.old)) }
+        requires { IsCounted slots }
+        ensures { OnOk result (store_in self.new ≡ chain_raised (plain_spot field) value (slots_of slots.entry) (store_in self.old)) }
     {
-        match slots {
-            [] => Ok(()),
-            [slot, more @ ..] => {
-                self.raise_chain(field, value, more)?;
-                self.raise(Entry::Object(cell(*slot, field)), value)
-            }
+        let mut number = slots.count;
+        while number > 0 {
+            number -= 1;
+            self.raise(Entry::Object(cell(slots.slot(number), field)), value)?;
         }
+        Ok(())
     }
 
     /// Raises the field of a slot, where there is one.
@@ -139,18 +141,20 @@ impl Extents {
     }
 
     /// The chain of tests that fills the first free slot.
-    #[tactic(auto, using(crate::proofs::Along::firsts, crate::proofs::Equations::chains))]
-    fn chain_filling(&self, sites: u64, fields: &[Filled], slots: &[Slot<'_>]) -> Measure
-        ensures { result ≡ chain_filling sites (map plain_filled fields.now) (map plain_slot slots.now) (sizes_in self.now) }
+    #[tactic(auto, using(crate::proofs::Along::backwards, crate::proofs::Equations::chains))]
+    fn chain_filling(&self, sites: u64, fields: &[Filled], slots: Slots<'_>) -> Measure
+        requires { IsCounted slots }
+        ensures { result ≡ chain_filling sites (map plain_filled fields.now) (slots_of slots.entry) (sizes_in self.now) }
     {
-        match slots {
-            [] => valued(literal(0)),
-            [slot, more @ ..] => {
-                let is_free = is_equal(self.object(slot.used as u128), 0);
-                let fills = slot_filling(sites, fields, *slot);
-                chosen(is_free, fills, self.chain_filling(sites, fields, more))
-            }
+        let mut chain = valued(literal(0));
+        let mut number = slots.count;
+        while number > 0 {
+            number -= 1;
+            let slot = slots.slot(number);
+            let is_free = is_equal(self.object(slot.used as u128), 0);
+            chain = chosen(is_free, slot_filling(sites, fields, slot), chain);
         }
+        chain
     }
 
     #[tactic(auto, using(crate::proofs::Along::items, crate::proofs::Along::fillings))]
@@ -173,25 +177,25 @@ impl Extents {
     }
 
     /// Fills each slot as one of so many branches.
-    #[tactic(auto, using(crate::proofs::Along::firsts, crate::proofs::Along::store_log, crate::proofs::Equations::chains))]
+    #[tactic(auto, using(crate::proofs::Along::backwards, crate::proofs::Along::store_log, crate::proofs::Equations::chains))]
     fn fill_chain(
         &mut self,
         alloc: Global,
         sites: u64,
         fields: &[Filled],
-        slots: &[Slot<'_>],
+        slots: Slots<'_>,
     ) -> Result<(), Memory>
-        ensures { OnOk result (store_in self.new ≡ chain_filled sites (map plain_filled fields.now) (map plain_slot slots.now) (store_in self.old)) }
+        requires { IsCounted slots }
+        ensures { OnOk result (store_in self.new ≡ chain_filled sites (map plain_filled fields.now) (slots_of slots.entry) (store_in self.old)) }
     {
-        match slots {
-            [] => Ok(()),
-            [slot, more @ ..] => {
-                self.fill_chain(alloc, sites, fields, more)?;
-                let start = self.log.len();
-                self.fill_slot(sites, fields, *slot)?;
-                self.close(alloc, start)
-            }
+        let mut number = slots.count;
+        while number > 0 {
+            number -= 1;
+            let start = self.log.len();
+            self.fill_slot(sites, fields, slots.slot(number))?;
+            self.close(alloc, start)?;
         }
+        Ok(())
     }
 
     /// Measures the insert of such values behind their liftings.
@@ -200,10 +204,11 @@ impl Extents {
         &self,
         sites: u64,
         fields: &[Filled],
-        slots: &[Slot<'_>],
+        slots: Slots<'_>,
         before: Before,
     ) -> Measure
-        ensures { result ≡ inserting sites (map plain_filled fields.now) (map plain_slot slots.now) (sizes_in self.now) before }
+        requires { IsCounted slots }
+        ensures { result ≡ inserting sites (map plain_filled fields.now) (slots_of slots.entry) (sizes_in self.now) before }
     {
         let test = around(filled_tests(fields));
         let fills = self.chain_filling(sites, fields, slots);
@@ -217,10 +222,11 @@ impl Extents {
         alloc: Global,
         sites: u64,
         fields: &[Filled],
-        slots: &[Slot<'_>],
+        slots: Slots<'_>,
         target: u32,
     ) -> Result<(), Memory>
-        ensures { OnOk result (store_in self.new ≡ inserted sites (map plain_filled fields.now) (map plain_slot slots.now) target (store_in self.old)) }
+        requires { IsCounted slots }
+        ensures { OnOk result (store_in self.new ≡ inserted sites (map plain_filled fields.now) (slots_of slots.entry) target (store_in self.old)) }
     {
         self.fill_chain(alloc, sites, fields, slots)?;
         self.set(Entry::Temp(target), into(slots))

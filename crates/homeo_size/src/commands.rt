@@ -3,6 +3,7 @@
 ghost use Rattle.std.specs.Prelude.{false, ◌≡◌, ◌||◌, map, IfOk, OnOk};
 ghost use Rattle.homeo_syntax.specs.SourceView.{commands, plain_field, plain_command};
 ghost use Rattle.homeo_meaning.specs.Aborts.{holds_abort};
+ghost use Rattle.homeo_meaning.specs.Schema.{declared_range};
 ghost use Rattle.homeo_size.specs.inner.Parts.{none};
 ghost use Rattle.homeo_size.specs.inner.Measuring.{after, after_all, measured, all_measured, values_lifted, fillings};
 ghost use Rattle.homeo_size.specs.inner.Tables.{plain_filled, sizes_in, store_in, setting};
@@ -15,10 +16,9 @@ use crate::measures::{
     Before, EMPTY, Measure, NONE, before_turn, chosen, guard, guarded, in_turn, placed, valued,
     with_one,
 };
-use crate::rows::with_row;
-use crate::slot::slot_at;
+use homeo_context::find_field;
 use homeo_meaning::{hold_abort, holds_abort};
-use homeo_syntax::{Command, FieldValue, Memory};
+use homeo_syntax::{Command, FieldValue, Memory, RangeDecl};
 use std::alloc::Global;
 
 /// Whether what comes behind a command is guarded.
@@ -34,22 +34,22 @@ impl Extents {
     fn fillings(
         &self,
         alloc: Global,
-        relation: u32,
+        declared: &[RangeDecl],
         fields: &[FieldValue],
         frame: &Frame<'_>,
         before: &mut Before,
     ) -> Result<Vec<Filled>, Memory>
         ensures filled { IfOk result (λ filled. map plain_filled filled.items ≡ fillings (setting frame.now)
-            ((setting frame.now).fields relation) (map plain_field fields.now) (sizes_in self.now)) }
+            (map declared_range declared.now) (map plain_field fields.now) (sizes_in self.now)) }
         ensures before { OnOk result (before.new ≡
             values_lifted (setting frame.now) (map plain_field fields.now) (sizes_in self.now) before.old) }
     {
         let mut all = Vec::new(alloc);
         for field in fields {
-            let extent = self.expr(alloc, &field.value, frame, before)?;
+            let extent = self.expr(&field.value, frame, before);
             *before = with_one(*before, valued(extent));
             all.push(Filled {
-                field: frame.field(relation, field.field.name),
+                field: find_field(declared, field.field.name),
                 extent,
             })?;
         }
@@ -58,7 +58,7 @@ impl Extents {
 
     /// Measures a command, and leaves the extents after it.
     #[cycle(commands)]
-    #[tactic(auto, using(homeo_syntax::proofs::SourceViews::command_views, homeo_syntax::proofs::SourceViews::phrase_views, crate::proofs::Along::items, crate::proofs::Along::stores, crate::proofs::Along::plain_place, crate::proofs::Equations::loops, crate::proofs::Equations::steps))]
+    #[tactic(auto, using(homeo_syntax::proofs::SourceViews::command_views, homeo_syntax::proofs::SourceViews::phrase_views, crate::proofs::Along::slots, crate::proofs::Along::stores, crate::proofs::Along::plain_place, crate::proofs::Equations::loops, crate::proofs::Equations::steps))]
     fn measure_command(
         &mut self,
         alloc: Global,
@@ -73,13 +73,13 @@ impl Extents {
             Command::Skip => Ok(EMPTY),
             Command::Assign { target, value } => {
                 let mut before = NONE;
-                let value = self.expr(alloc, value, frame, &mut before)?;
+                let value = self.expr(value, frame, &mut before);
                 self.set(Entry::Temp(target.name), value)?;
                 Ok(placed(before, valued(value)))
             }
             Command::Write { object, value } => {
                 let mut before = NONE;
-                let value = self.expr(alloc, value, frame, &mut before)?;
+                let value = self.expr(value, frame, &mut before);
                 let bounds = frame.object(object.name);
                 self.raise(
                     Entry::Object(bounds.place as u128),
@@ -89,12 +89,12 @@ impl Extents {
             }
             Command::Print { value } => {
                 let mut before = NONE;
-                let value = self.expr(alloc, value, frame, &mut before)?;
+                let value = self.expr(value, frame, &mut before);
                 Ok(placed(before, valued(value)))
             }
             Command::If { test, yes, no } => {
                 let mut before = NONE;
-                let test = self.tests(alloc, test.tests.as_slice(), NOTHING, frame, &mut before)?;
+                let test = self.tests(test.tests.as_slice(), NOTHING, frame, &mut before);
                 let start = self.log.len();
                 let yes = self.measure_command(alloc, yes, frame)?;
                 let first = self.reopen(alloc, start)?;
@@ -112,19 +112,19 @@ impl Extents {
                 field,
                 value,
             } => {
-                let field = frame.field(relation.name, field.name);
                 let slots = frame.slots(relation.name);
+                let field = slots.field(field.name);
                 let mut before = NONE;
                 match frame.literal(index) {
                     Some(number) => {
-                        let slot = slot_at(number, slots);
-                        let value = self.expr(alloc, value, frame, &mut before)?;
+                        let slot = slots.at(number);
+                        let value = self.expr(value, frame, &mut before);
                         self.raise_slot(field, written(frame.sites, value), slot)?;
                         Ok(slot_writing(frame.sites, field, value, before, slot))
                     }
                     None => {
-                        let index = self.expr(alloc, index, frame, &mut before)?;
-                        let value = self.expr(alloc, value, frame, &mut before)?;
+                        let index = self.expr(index, frame, &mut before);
+                        let value = self.expr(value, frame, &mut before);
                         self.raise_chain(field, written(frame.sites, value), slots)?;
                         let test = around(within_tests(field, value, NOTHING));
                         let chain = chain_writing(frame.sites, index, value, slots);
@@ -133,7 +133,7 @@ impl Extents {
                 }
             }
             Command::SetRow { row, field, value } => {
-                self.set_row(alloc, frame.row(row.name), field.name, value, frame)
+                self.set_row(frame.row(row.name), field.name, value, frame)
             }
             Command::Foreach {
                 row,
@@ -142,13 +142,14 @@ impl Extents {
                 body,
             } => {
                 let later = hold_abort(body.as_slice());
+                let slots = frame.slots(relation.name);
                 let mut guarded = false;
                 let mut all = NONE;
-                for slot in frame.slots(relation.name) {
-                    let rows = with_row(alloc, frame.rows, row.name, *slot)?;
-                    let inner = frame.bound(rows.as_slice(), row.name, *slot);
+                for number in 0..slots.count {
+                    let slot = slots.slot(number);
+                    let inner = frame.bound(row.name, slot);
                     let mut before = before_turn(guarded, all);
-                    let test = self.visit(alloc, test, *slot, &inner, &mut before)?;
+                    let test = self.visit(test, slot, &inner, &mut before);
                     let start = self.log.len();
                     let body = self.measure_commands(alloc, body.as_slice(), &inner)?;
                     self.close(alloc, start)?;
@@ -166,7 +167,7 @@ impl Extents {
                 let mut before = NONE;
                 let filled = self.fillings(
                     alloc,
-                    relation.name,
+                    slots.fields,
                     fields.as_slice(),
                     frame,
                     &mut before,
@@ -179,7 +180,7 @@ impl Extents {
                 row,
                 relation,
                 test,
-            } => self.delete(alloc, row.name, test, frame.slots(relation.name), frame),
+            } => self.delete(alloc, row.name, test, relation.name, frame),
             Command::Update {
                 row,
                 relation,
@@ -192,7 +193,7 @@ impl Extents {
                 test,
                 field.name,
                 value,
-                frame.slots(relation.name),
+                relation.name,
                 frame,
             ),
             Command::Abort => Ok(valued(literal(1))),

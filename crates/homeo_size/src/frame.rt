@@ -1,26 +1,23 @@
 //! What stands fixed while a phrase is measured.
 
-ghost use Rattle.std.specs.Prelude.{◌≡◌, ◌∷◌, ◌++◌, [], map, option_map};
+ghost use Rattle.std.specs.Prelude.{◌≡◌, map, option_map};
 ghost use Rattle.homeo_syntax.specs.SourceView.{plain_expr};
-ghost use Rattle.homeo_meaning.specs.Context.{spot};
+ghost use Rattle.homeo_meaning.specs.Context.{context};
+ghost use Rattle.homeo_meaning.specs.Schema.{declared_range};
+ghost use Rattle.homeo_context.specs.Slots.{plain_slot, plain_spot, slots_of, IsCounted};
 ghost use Rattle.homeo_size.specs.inner.Sizing.{bound, missing, literal_in};
-ghost use Rattle.homeo_context.specs.Slots.{plain_spot};
-ghost use Rattle.homeo_size.specs.inner.Slots.{plain_slot};
-ghost use Rattle.homeo_size.specs.inner.Tables.{setting};
+ghost use Rattle.homeo_size.specs.inner.Tables.{setting_for, setting};
 
 use crate::layout::Layout;
-use crate::slot::{Row, Slot, slot_at};
-use homeo_context::Spot;
-use homeo_meaning::padded::item_or;
+use homeo_context::{Argument, BoundRows, Declarations, Slot, Slots, Spot, argument_of, find_row};
 use homeo_syntax::Expr;
 
-/// What names stand for: the declarations, the arguments by their parameters' names, and the rows in force, of which a
-/// later one hides an earlier one of its name.
+/// What names stand for: the declarations, the arguments by their parameters' names, and the rows in force.
 #[derive(Clone, Copy)]
 pub(crate) struct Frame<'a> {
-    pub(crate) layout: &'a Layout<'a>,
-    pub(crate) arguments: &'a [Option<i64>],
-    pub(crate) rows: &'a [Row<'a>],
+    pub(crate) declared: &'a Declarations,
+    pub(crate) arguments: &'a [Argument],
+    pub(crate) rows: BoundRows<'a>,
     pub(crate) sites: u64,
 }
 
@@ -36,64 +33,53 @@ fn missing(slot: Option<Slot<'_>>) -> Option<i64>
 }
 
 impl<'a> Frame<'a> {
+    /// The frame of a call's body, with no row in force.
+    pub(crate) fn of_call(layout: &'a Layout, arguments: &'a [Argument], sites: u64) -> Frame<'a>
+        ensures { setting result ≡ setting_for sites
+            (context layout.now (map (λ a. a.name) arguments.now) (map (λ a. a.value) arguments.now)) }
+    {
+        let declared = layout.declared();
+        Frame {
+            declared,
+            arguments,
+            rows: BoundRows::Outside {
+                objects: declared.object_count(),
+            },
+            sites,
+        }
+    }
+
     /// The object of a name.
-    #[tactic(auto, unfolding(crate::specs::inner::Key::definitions))]
+    #[tactic(auto, unfolding(crate::specs::inner::Key::definitions, homeo_meaning::specs::Key::definitions))]
     pub(crate) fn object(&self, name: u32) -> Spot
         ensures { plain_spot result ≡ (setting self.now).object name }
     {
-        self.layout.object(name)
+        self.declared.spot(name)
     }
 
     /// The slots of the relation of a name.
-    #[tactic(auto, unfolding(crate::specs::inner::Key::definitions))]
-    pub(crate) fn slots(&self, relation: u32) -> &[Slot<'a>]
-        ensures { map plain_slot result.now ≡ (setting self.now).slots relation }
+    #[tactic(auto, unfolding(crate::specs::inner::Key::definitions, homeo_meaning::specs::Key::definitions))]
+    pub(crate) fn slots(&self, relation: u32) -> Slots<'a>
+        ensures slots { slots_of result ≡ (setting self.now).slots relation }
+        ensures fields { map declared_range result.fields.now ≡ (setting self.now).fields relation }
+        ensures counted { IsCounted result }
     {
-        self.layout.slots(relation)
+        self.declared.relation(relation)
     }
 
-    /// The field of a relation.
-    #[tactic(auto, unfolding(crate::specs::inner::Key::definitions))]
-    pub(crate) fn field(&self, relation: u32, field: u32) -> Spot
-        ensures { plain_spot result ≡ spot ((setting self.now).fields relation) field }
-    {
-        self.layout.field(relation, field)
-    }
-
-    #[tactic(auto, unfolding(crate::specs::inner::Key::definitions))]
+    #[tactic(auto, unfolding(crate::specs::inner::Key::definitions, homeo_meaning::specs::Key::definitions))]
     pub(crate) fn argument(&self, name: u32) -> Option<i64>
         ensures { result ≡ (setting self.now).arguments name }
     {
-        item_or(self.arguments, name as usize, None)
+        argument_of(self.arguments, name)
     }
 
     /// The slot that a row stands for.
-    #[tactic(auto, using(crate::proofs::Along::lookups), unfolding(crate::specs::inner::Key::definitions))]
+    #[tactic(auto, unfolding(crate::specs::inner::Key::definitions))]
     pub(crate) fn row(&self, name: u32) -> Slot<'a>
         ensures { plain_slot result ≡ (setting self.now).rows name }
     {
-        let mut slot = self.layout.outside();
-        for row in self.rows {
-            if row.name == name {
-                slot = row.slot;
-            }
-        }
-        slot
-    }
-
-    /// With one more row in force.
-    pub(crate) fn bound<'b>(&self, rows: &'b [Row<'b>], name: u32, slot: Slot<'b>) -> Frame<'b>
-    where
-        'a: 'b,
-        requires { rows.now ≡ self.now.rows.now ++ record { name = name; slot = slot } ∷ [] }
-        ensures { setting result ≡ bound (setting self.now) name (plain_slot slot.entry) }
-    {
-        Frame {
-            layout: self.layout,
-            arguments: self.arguments,
-            rows,
-            sites: self.sites,
-        }
+        find_row(&self.rows, name)
     }
 
     /// The number that an expression is as a literal.
@@ -109,7 +95,7 @@ impl<'a> Frame<'a> {
                 index,
                 ..
             } => match self.literal(index) {
-                Some(value) => missing(slot_at(value, self.slots(relation.name))),
+                Some(value) => missing(self.slots(relation.name).at(value)),
                 None => None,
             },
             Expr::Read(_)
@@ -119,6 +105,22 @@ impl<'a> Frame<'a> {
             | Expr::Row { .. }
             | Expr::Count { .. }
             | Expr::Total { .. } => None,
+        }
+    }
+}
+
+impl Frame<'_> {
+    /// With one more row in force.
+    pub(crate) fn bound<'b>(&'b self, name: u32, slot: Slot<'b>) -> Frame<'b>
+        ensures { setting result ≡ bound (setting self.now) name (plain_slot slot.entry) }
+    {
+        Frame {
+            rows: BoundRows::Inside {
+                name,
+                slot,
+                outer: &self.rows,
+            },
+            ..*self
         }
     }
 }

@@ -1,7 +1,6 @@
 //! How large the L form of a call is, told without building it.
 #![tactic(auto)]
 
-mod arguments;
 mod call;
 mod chains;
 mod commands;
@@ -15,7 +14,6 @@ mod nodes;
 mod numbers;
 mod phrases;
 mod prints;
-mod rows;
 mod saved;
 mod slot;
 mod undoing;

@@ -6,16 +6,15 @@ ghost use Rattle.homeo_size.specs.inner.Parts.{literal, writing, none};
 ghost use Rattle.homeo_size.specs.inner.Measuring.{cleared, row_set, row_setting, field_set, field_setting, visits};
 ghost use Rattle.homeo_size.specs.inner.Sizing.{tests_sized, tests_lifted, used_test};
 ghost use Rattle.homeo_size.specs.inner.Store.{visited};
-ghost use Rattle.homeo_size.specs.inner.Slots.{plain_slot};
+ghost use Rattle.homeo_context.specs.Slots.{plain_slot};
 ghost use Rattle.homeo_size.specs.inner.Tables.{sizes_in, store_in, setting};
 
 use crate::extent::{Extent, around, literal, written};
 use crate::extents::{Entry, Extents};
 use crate::frame::Frame;
 use crate::measures::{Before, EMPTY, Measure, NONE, chosen, guarded, placed, with_one, writing};
-use crate::rows::with_row;
-use crate::slot::{Slot, field_cell};
-use homeo_context::find_field;
+use crate::slot::field_cell;
+use homeo_context::{Slot, find_field};
 use homeo_syntax::{Cond, Expr, Memory};
 use std::alloc::Global;
 
@@ -24,41 +23,41 @@ impl Extents {
     #[tactic(auto, using(homeo_syntax::proofs::SourceViews::phrase_views))]
     pub(crate) fn visit(
         &self,
-        alloc: Global,
         test: &Cond,
         slot: Slot<'_>,
         frame: &Frame<'_>,
         before: &mut Before,
-    ) -> Result<Extent, Memory>
-        ensures extent { IfOk result (λ e. e ≡ tests_sized (setting frame.now) (plain_cond test.now)
-            (sizes_in self.now) (used_test (plain_slot slot.entry) (sizes_in self.now))) }
-        ensures before { OnOk result (before.new ≡
-            tests_lifted (setting frame.now) (plain_cond test.now) (sizes_in self.now) before.old) }
+    ) -> Extent
+        ensures extent { result ≡ tests_sized (setting frame.now) (plain_cond test.now)
+            (sizes_in self.now) (used_test (plain_slot slot.entry) (sizes_in self.now)) }
+        ensures before { before.new ≡
+            tests_lifted (setting frame.now) (plain_cond test.now) (sizes_in self.now) before.old }
     {
         let used = self.used_test(slot);
-        self.tests(alloc, test.tests.as_slice(), used, frame, before)
+        self.tests(test.tests.as_slice(), used, frame, before)
     }
 
     /// Measures a delete, and leaves the extents after it.
-    #[tactic(auto, using(crate::proofs::Along::items, crate::proofs::Along::stores, crate::proofs::Equations::loops))]
+    #[tactic(auto, using(crate::proofs::Along::slots, crate::proofs::Along::stores, crate::proofs::Equations::loops))]
     pub(crate) fn delete(
         &mut self,
         alloc: Global,
         row: u32,
         test: &Cond,
-        slots: &[Slot<'_>],
+        relation: u32,
         frame: &Frame<'_>,
     ) -> Result<Measure, Memory>
         ensures measure { IfOk result (λ m. m ≡ (visits (setting frame.now) row (plain_cond test.now) false false
-            (λ slot y. writing frame.now.sites (literal (pos 0))) (cleared frame.now.sites) (map plain_slot slots.now) (store_in self.old) none).all) }
+            (λ slot y. writing frame.now.sites (literal (pos 0))) (cleared frame.now.sites) ((setting frame.now).slots relation) (store_in self.old) none).all) }
         ensures store { OnOk result (store_in self.new ≡
-            visited (cleared frame.now.sites) (map plain_slot slots.now) (store_in self.old)) }
+            visited (cleared frame.now.sites) ((setting frame.now).slots relation) (store_in self.old)) }
     {
+        let slots = frame.slots(relation);
         let mut all = NONE;
-        for slot in slots {
-            let rows = with_row(alloc, frame.rows, row, *slot)?;
-            let inner = frame.bound(rows.as_slice(), row, *slot);
-            let test = self.visit(alloc, test, *slot, &inner, &mut all)?;
+        for number in 0..slots.count {
+            let slot = slots.slot(number);
+            let inner = frame.bound(row, slot);
+            let test = self.visit(test, slot, &inner, &mut all);
             let start = self.log.len();
             self.set(
                 Entry::Object(slot.used as u128),
@@ -75,7 +74,6 @@ impl Extents {
     #[tactic(auto, unfolding(crate::specs::inner::Key::definitions))]
     pub(crate) fn set_row(
         &mut self,
-        alloc: Global,
         slot: Slot<'_>,
         field: u32,
         value: &Expr,
@@ -87,7 +85,7 @@ impl Extents {
             row_set (setting frame.now) (plain_slot slot.entry) field (plain_expr value.now) (store_in self.old)) }
     {
         let mut before = NONE;
-        let value = self.expr(alloc, value, frame, &mut before)?;
+        let value = self.expr(value, frame, &mut before);
         self.raise(
             Entry::Object(field_cell(slot, field)),
             written(frame.sites, value),
@@ -97,7 +95,7 @@ impl Extents {
     }
 
     /// Measures an update, and leaves the extents after it.
-    #[tactic(auto, using(crate::proofs::Along::items, crate::proofs::Along::stores, crate::proofs::Equations::loops))]
+    #[tactic(auto, using(crate::proofs::Along::slots, crate::proofs::Along::stores, crate::proofs::Equations::loops))]
     pub(crate) fn update(
         &mut self,
         alloc: Global,
@@ -105,21 +103,22 @@ impl Extents {
         test: &Cond,
         field: u32,
         value: &Expr,
-        slots: &[Slot<'_>],
+        relation: u32,
         frame: &Frame<'_>,
     ) -> Result<Measure, Memory>
         ensures measure { IfOk result (λ m. m ≡ (visits (setting frame.now) row (plain_cond test.now) false false
-            (field_setting (setting frame.now) row field (plain_expr value.now)) (field_set (setting frame.now) row field (plain_expr value.now)) (map plain_slot slots.now) (store_in self.old) none).all) }
+            (field_setting (setting frame.now) row field (plain_expr value.now)) (field_set (setting frame.now) row field (plain_expr value.now)) ((setting frame.now).slots relation) (store_in self.old) none).all) }
         ensures store { OnOk result (store_in self.new ≡
-            visited (field_set (setting frame.now) row field (plain_expr value.now)) (map plain_slot slots.now) (store_in self.old)) }
+            visited (field_set (setting frame.now) row field (plain_expr value.now)) ((setting frame.now).slots relation) (store_in self.old)) }
     {
+        let slots = frame.slots(relation);
         let mut all = NONE;
-        for slot in slots {
-            let rows = with_row(alloc, frame.rows, row, *slot)?;
-            let inner = frame.bound(rows.as_slice(), row, *slot);
-            let test = self.visit(alloc, test, *slot, &inner, &mut all)?;
+        for number in 0..slots.count {
+            let slot = slots.slot(number);
+            let inner = frame.bound(row, slot);
+            let test = self.visit(test, slot, &inner, &mut all);
             let start = self.log.len();
-            let sets = self.set_row(alloc, *slot, field, value, &inner)?;
+            let sets = self.set_row(slot, field, value, &inner)?;
             self.close(alloc, start)?;
             all = with_one(all, chosen(around(test), sets, EMPTY));
         }

@@ -3,11 +3,11 @@
 ghost use Rattle.std.specs.Prelude.{◌≡◌, ◌+◌, ◌*◌, map, option_map};
 ghost use Rattle.homeo_syntax.specs.SourceView.{exprs, tests, commands, plain_expr, plain_test, plain_cond, plain_field, plain_command};
 ghost use Rattle.homeo_size.specs.inner.Nodes.{few, index_nodes, visit_nodes, nodes, all_nodes, test_nodes, tests_nodes, slot_nodes, write_nodes, values_nodes, command_nodes, commands_nodes};
-ghost use Rattle.homeo_size.specs.inner.Slots.{plain_slot};
+ghost use Rattle.homeo_context.specs.Slots.{plain_slot, slots_of, IsCounted};
 ghost use Rattle.homeo_size.specs.inner.Tables.{setting};
 
 use crate::frame::Frame;
-use crate::slot::{Slot, slot_at};
+use homeo_context::{Slot, Slots};
 use homeo_syntax::{Command, Cond, Expr, FieldValue, Test};
 
 /// One more node than a call may have size: none is counted beyond.
@@ -21,17 +21,17 @@ fn few_together(a: u64, b: u64) -> u64
 }
 
 /// The nodes of an index into slots, and of the chain of tests that finds its slot.
-#[tactic(auto, using(crate::proofs::Along::lengths))]
-fn index_nodes(index: Option<i64>, slots: &[Slot<'_>], nodes: u64) -> u64
-    ensures { result ≡ index_nodes index (map plain_slot slots.now) nodes }
+#[tactic(auto, using(crate::proofs::Along::lengths, crate::proofs::NodeEquations::somewhere))]
+fn index_nodes(index: Option<i64>, slots: Slots<'_>, nodes: u64) -> u64
+    ensures { result ≡ index_nodes index (slots_of slots.entry) nodes }
 {
     match index {
         Some(_) => 1,
         None => {
-            if slots.len() == 0 {
+            if slots.count == 0 {
                 1
             } else {
-                few_together(slots.len() as u64, nodes)
+                few_together(slots.count as u64, nodes)
             }
         }
     }
@@ -39,11 +39,11 @@ fn index_nodes(index: Option<i64>, slots: &[Slot<'_>], nodes: u64) -> u64
 
 /// The nodes of the visits of slots.
 #[tactic(auto, using(crate::proofs::Along::lengths))]
-fn visit_nodes(slots: &[Slot<'_>], nodes: u64) -> u64
-    ensures { result ≡ visit_nodes (map plain_slot slots.now) nodes }
+fn visit_nodes(slots: Slots<'_>, nodes: u64) -> u64
+    ensures { result ≡ visit_nodes (slots_of slots.entry) nodes }
 {
     let one = few_together(1, nodes);
-    let all = (slots.len() as u64).saturating_mul(one);
+    let all = (slots.count as u64).saturating_mul(one);
     few_together(1, all)
 }
 
@@ -58,17 +58,18 @@ fn slot_nodes(slot: Option<Slot<'_>>, nodes: u64) -> u64
 }
 
 /// The nodes of a write to a field of the slot that an index names.
-#[tactic(auto, using(crate::proofs::Along::lengths), unfolding(crate::specs::inner::Key::definitions))]
-fn write_nodes(index: Option<i64>, slots: &[Slot<'_>], index_nodes: u64, nodes: u64) -> u64
-    ensures { result ≡ write_nodes index (map plain_slot slots.now) index_nodes nodes }
+#[tactic(auto, using(crate::proofs::Along::lengths, crate::proofs::NodeEquations::somewhere), unfolding(crate::specs::inner::Key::definitions))]
+fn write_nodes(index: Option<i64>, slots: Slots<'_>, index_nodes: u64, nodes: u64) -> u64
+    requires { IsCounted slots }
+    ensures { result ≡ write_nodes index (slots_of slots.entry) index_nodes nodes }
 {
     match index {
-        Some(value) => slot_nodes(slot_at(value, slots), nodes),
+        Some(value) => slot_nodes(slots.at(value), nodes),
         None => {
-            if slots.len() == 0 {
+            if slots.count == 0 {
                 few_together(1, nodes)
             } else {
-                few_together(slots.len() as u64, few_together(index_nodes, nodes))
+                few_together(slots.count as u64, few_together(index_nodes, nodes))
             }
         }
     }
@@ -201,7 +202,7 @@ impl Frame<'_> {
             } => {
                 let fields = fields.as_slice();
                 let one = few_together(1, fields.len() as u64);
-                let slots = self.slots(relation.name).len() as u64;
+                let slots = self.slots(relation.name).count as u64;
                 let fills = few_together(1, slots.saturating_mul(one));
                 self.values_nodes(fields, fills)
             }

@@ -1,11 +1,10 @@
 //! How large expressions and conditions are, and the commands of their liftings.
 
-ghost use Rattle.std.specs.Prelude.{◌≡◌, map, option_map, IfOk, OnOk};
+ghost use Rattle.std.specs.Prelude.{◌≡◌, map, option_map};
 ghost use Rattle.homeo_syntax.specs.SourceView.{exprs, tests, plain_expr, plain_test, plain_cond};
 ghost use Rattle.homeo_size.specs.inner.Parts.{nothing, no_factor};
 ghost use Rattle.homeo_size.specs.inner.Sizing.{name_sized, slot_sized, chain_sized, chain_measured, term_sized, used_test, sized, sum_sized, product_sized, test_sized, tests_sized, lifted, all_lifted, test_lifted, tests_lifted, added, total_of, total_lifted};
-ghost use Rattle.homeo_context.specs.Slots.{plain_spot};
-ghost use Rattle.homeo_size.specs.inner.Slots.{plain_slot};
+ghost use Rattle.homeo_context.specs.Slots.{plain_slot, plain_spot, slots_of, IsCounted};
 ghost use Rattle.homeo_size.specs.inner.Tables.{sizes_in, setting};
 
 use crate::extent::{
@@ -15,11 +14,9 @@ use crate::extent::{
 use crate::extents::Extents;
 use crate::frame::Frame;
 use crate::measures::{Before, EMPTY, Measure, chosen, valued, with_one};
-use crate::rows::with_row;
-use crate::slot::{Slot, cell, field_cell, slot_at};
-use homeo_context::Spot;
-use homeo_syntax::{Cond, Expr, Memory, Test};
-use std::alloc::Global;
+use crate::slot::{cell, field_cell};
+use homeo_context::{Slot, Slots, Spot};
+use homeo_syntax::{Cond, Expr, Test};
 
 impl Extents {
     /// The extent of a parameter's argument, or else of the temporary.
@@ -52,31 +49,33 @@ impl Extents {
     }
 
     /// The temporary that a chain of tests for the slots leaves.
-    #[tactic(auto, using(crate::proofs::Along::firsts, crate::proofs::Equations::chains))]
-    fn chain(&self, field: Spot, slots: &[Slot<'_>]) -> Extent
-        ensures { result ≡ chain_sized (plain_spot field) (map plain_slot slots.now) (sizes_in self.now) }
+    #[tactic(auto, using(crate::proofs::Along::backwards, crate::proofs::Equations::chains))]
+    fn chain(&self, field: Spot, slots: Slots<'_>) -> Extent
+        requires { IsCounted slots }
+        ensures { result ≡ chain_sized (plain_spot field) (slots_of slots.entry) (sizes_in self.now) }
     {
-        match slots {
-            [] => literal(0),
-            [slot, more @ ..] => greater(self.object(cell(*slot, field)), self.chain(field, more)),
+        let mut chain = literal(0);
+        let mut number = slots.count;
+        while number > 0 {
+            number -= 1;
+            chain = greater(self.object(cell(slots.slot(number), field)), chain);
         }
+        chain
     }
 
-    #[tactic(auto, using(crate::proofs::Along::firsts, crate::proofs::Equations::chains))]
-    fn measure_chain(&self, field: Spot, index: Extent, slots: &[Slot<'_>]) -> Measure
-        ensures { result ≡ chain_measured (plain_spot field) index (map plain_slot slots.now) (sizes_in self.now) }
+    #[tactic(auto, using(crate::proofs::Along::backwards, crate::proofs::Equations::chains))]
+    fn measure_chain(&self, field: Spot, index: Extent, slots: Slots<'_>) -> Measure
+        requires { IsCounted slots }
+        ensures { result ≡ chain_measured (plain_spot field) index (slots_of slots.entry) (sizes_in self.now) }
     {
-        match slots {
-            [] => valued(literal(0)),
-            [slot, more @ ..] => {
-                let found = valued(self.object(cell(*slot, field)));
-                chosen(
-                    is_equal(index, slot.number),
-                    found,
-                    self.measure_chain(field, index, more),
-                )
-            }
+        let mut chain = valued(literal(0));
+        let mut number = slots.count;
+        while number > 0 {
+            number -= 1;
+            let found = valued(self.object(cell(slots.slot(number), field)));
+            chain = chosen(is_equal(index, number as u64), found, chain);
         }
+        chain
     }
 
     /// What a slot adds to a count, or to a sum of fields.
@@ -104,75 +103,49 @@ impl Extents {
     /// The extent of an expression. The commands of its lifting come behind those before.
     #[cycle(phrases)]
     #[tactic(auto, using(homeo_syntax::proofs::SourceViews::phrase_views, crate::proofs::Equations::phrases))]
-    pub(crate) fn expr(
-        &self,
-        alloc: Global,
-        e: &Expr,
-        frame: &Frame<'_>,
-        before: &mut Before,
-    ) -> Result<Extent, Memory>
-        ensures extent { IfOk result (λ e'. e' ≡ sized (setting frame.now) (plain_expr e.now) (sizes_in self.now)) }
-        ensures before { OnOk result (before.new ≡
-            lifted (setting frame.now) (plain_expr e.now) (sizes_in self.now) before.old) }
+    pub(crate) fn expr(&self, e: &Expr, frame: &Frame<'_>, before: &mut Before) -> Extent
+        ensures extent { result ≡ sized (setting frame.now) (plain_expr e.now) (sizes_in self.now) }
+        ensures before { before.new ≡
+            lifted (setting frame.now) (plain_expr e.now) (sizes_in self.now) before.old }
     {
         match e {
-            Expr::Literal(n) => Ok(literal(*n)),
-            Expr::Name(x) => Ok(self.name(x.name, frame)),
-            Expr::Read(x) => Ok(self.read(x.name, frame)),
-            Expr::Sum(es) => {
-                let terms = self.sum(alloc, es.as_slice(), frame, before)?;
-                Ok(summed(terms))
-            }
-            Expr::Product(es) => {
-                let factors = self.product(alloc, es.as_slice(), frame, before)?;
-                Ok(around(factors))
-            }
-            Expr::Neg(inner) => {
-                let inner = self.expr(alloc, inner, frame, before)?;
-                Ok(around(inner))
-            }
+            Expr::Literal(n) => literal(*n),
+            Expr::Name(x) => self.name(x.name, frame),
+            Expr::Read(x) => self.read(x.name, frame),
+            Expr::Sum(es) => summed(self.sum(es.as_slice(), frame, before)),
+            Expr::Product(es) => around(self.product(es.as_slice(), frame, before)),
+            Expr::Neg(inner) => around(self.expr(inner, frame, before)),
             Expr::Field {
                 relation,
                 index,
                 field,
             } => {
-                let field = frame.field(relation.name, field.name);
                 let slots = frame.slots(relation.name);
+                let field = slots.field(field.name);
                 match frame.literal(index) {
-                    Some(value) => Ok(self.slot_field(field, slot_at(value, slots))),
+                    Some(value) => self.slot_field(field, slots.at(value)),
                     None => {
-                        let index = self.expr(alloc, index, frame, before)?;
+                        let index = self.expr(index, frame, before);
                         *before = with_one(*before, self.measure_chain(field, index, slots));
-                        Ok(self.chain(field, slots))
+                        self.chain(field, slots)
                     }
                 }
             }
-            Expr::Row { row, field } => {
-                Ok(self.object(field_cell(frame.row(row.name), field.name)))
-            }
+            Expr::Row { row, field } => self.object(field_cell(frame.row(row.name), field.name)),
             Expr::Count {
                 row,
                 relation,
                 test,
-            } => self.total(
-                alloc,
-                row.name,
-                None,
-                frame.slots(relation.name),
-                test,
-                frame,
-                before,
-            ),
+            } => self.total(row.name, None, relation.name, test, frame, before),
             Expr::Total {
                 row,
                 field,
                 relation,
                 test,
             } => self.total(
-                alloc,
                 row.name,
                 Some(field.name),
-                frame.slots(relation.name),
+                relation.name,
                 test,
                 frame,
                 before,
@@ -182,107 +155,84 @@ impl Extents {
 
     #[cycle(phrases)]
     #[tactic(auto, using(crate::proofs::Equations::lists, homeo_meaning::proofs::Steps::steps))]
-    fn sum(
-        &self,
-        alloc: Global,
-        es: &[Expr],
-        frame: &Frame<'_>,
-        before: &mut Before,
-    ) -> Result<Extent, Memory>
-        ensures extent { IfOk result (λ e. e ≡ sum_sized (setting frame.now) (exprs (map plain_expr es.now))
-            (sizes_in self.now) nothing) }
-        ensures before { OnOk result (before.new ≡ all_lifted (setting frame.now)
-            (exprs (map plain_expr es.now)) (sizes_in self.now) before.old) }
+    fn sum(&self, es: &[Expr], frame: &Frame<'_>, before: &mut Before) -> Extent
+        ensures extent { result ≡ sum_sized (setting frame.now) (exprs (map plain_expr es.now))
+            (sizes_in self.now) nothing }
+        ensures before { before.new ≡ all_lifted (setting frame.now)
+            (exprs (map plain_expr es.now)) (sizes_in self.now) before.old }
     {
         let mut all = NOTHING;
         for e in es {
-            let term = self.expr(alloc, e, frame, before)?;
+            let term = self.expr(e, frame, before);
             all = plus(all, term);
         }
-        Ok(all)
+        all
     }
 
     #[cycle(phrases)]
     #[tactic(auto, using(crate::proofs::Equations::lists, homeo_meaning::proofs::Steps::steps))]
-    fn product(
-        &self,
-        alloc: Global,
-        es: &[Expr],
-        frame: &Frame<'_>,
-        before: &mut Before,
-    ) -> Result<Extent, Memory>
-        ensures extent { IfOk result (λ e. e ≡ product_sized (setting frame.now) (exprs (map plain_expr es.now))
-            (sizes_in self.now) no_factor) }
-        ensures before { OnOk result (before.new ≡ all_lifted (setting frame.now)
-            (exprs (map plain_expr es.now)) (sizes_in self.now) before.old) }
+    fn product(&self, es: &[Expr], frame: &Frame<'_>, before: &mut Before) -> Extent
+        ensures extent { result ≡ product_sized (setting frame.now) (exprs (map plain_expr es.now))
+            (sizes_in self.now) no_factor }
+        ensures before { before.new ≡ all_lifted (setting frame.now)
+            (exprs (map plain_expr es.now)) (sizes_in self.now) before.old }
     {
         let mut all = NO_FACTOR;
         for e in es {
-            let factor = self.expr(alloc, e, frame, before)?;
+            let factor = self.expr(e, frame, before);
             all = times(all, factor);
         }
-        Ok(all)
+        all
     }
 
     /// A count over slots, or a sum of their fields: the temporary that they are added up in.
     #[cycle(phrases)]
-    #[tactic(auto, using(crate::proofs::Along::items, crate::proofs::Equations::totals, homeo_syntax::proofs::SourceViews::phrase_views))]
+    #[tactic(auto, using(crate::proofs::Along::slots, crate::proofs::Equations::totals, homeo_syntax::proofs::SourceViews::phrase_views))]
     fn total(
         &self,
-        alloc: Global,
         row: u32,
         field: Option<u32>,
-        slots: &[Slot<'_>],
+        relation: u32,
         test: &Cond,
         frame: &Frame<'_>,
         before: &mut Before,
-    ) -> Result<Extent, Memory>
-        ensures extent { IfOk result (λ e. e ≡ total_of field (map plain_slot slots.now) (sizes_in self.now)) }
-        ensures before { OnOk result (before.new ≡ total_lifted (setting frame.now) row (plain_cond test.now) field
-            (map plain_slot slots.now) (sizes_in self.now) before.old) }
+    ) -> Extent
+        ensures extent { result ≡ total_of field ((setting frame.now).slots relation) (sizes_in self.now) }
+        ensures before { before.new ≡ total_lifted (setting frame.now) row (plain_cond test.now) field
+            ((setting frame.now).slots relation) (sizes_in self.now) before.old }
     {
+        let slots = frame.slots(relation);
         let mut total = literal(0);
         *before = with_one(*before, valued(total));
-        for slot in slots {
-            let rows = with_row(alloc, frame.rows, row, *slot)?;
-            let inner = frame.bound(rows.as_slice(), row, *slot);
-            let visit = self.tests(
-                alloc,
-                test.tests.as_slice(),
-                self.used_test(*slot),
-                &inner,
-                before,
-            )?;
-            let sum = added(total, self.term(field, *slot));
+        for number in 0..slots.count {
+            let slot = slots.slot(number);
+            let inner = frame.bound(row, slot);
+            let used = self.used_test(slot);
+            let visit = self.tests(test.tests.as_slice(), used, &inner, before);
+            let sum = added(total, self.term(field, slot));
             *before = with_one(*before, chosen(around(visit), valued(sum), EMPTY));
             total = greater(sum, total);
         }
-        Ok(total)
+        total
     }
 
     #[cycle(phrases)]
     #[tactic(auto, using(homeo_syntax::proofs::SourceViews::phrase_views, crate::proofs::Equations::phrases))]
-    fn test(
-        &self,
-        alloc: Global,
-        t: &Test,
-        frame: &Frame<'_>,
-        before: &mut Before,
-    ) -> Result<Extent, Memory>
-        ensures extent { IfOk result (λ e. e ≡ test_sized (setting frame.now) (plain_test t.now) (sizes_in self.now)) }
-        ensures before { OnOk result (before.new ≡
-            test_lifted (setting frame.now) (plain_test t.now) (sizes_in self.now) before.old) }
+    fn test(&self, t: &Test, frame: &Frame<'_>, before: &mut Before) -> Extent
+        ensures extent { result ≡ test_sized (setting frame.now) (plain_test t.now) (sizes_in self.now) }
+        ensures before { before.new ≡
+            test_lifted (setting frame.now) (plain_test t.now) (sizes_in self.now) before.old }
     {
         match t {
-            Test::True => Ok(TRUTH),
+            Test::True => TRUTH,
             Test::Not(c) => {
-                let tests = self.tests(alloc, c.tests.as_slice(), NOTHING, frame, before)?;
-                Ok(around(around(tests)))
+                let tests = self.tests(c.tests.as_slice(), NOTHING, frame, before);
+                around(around(tests))
             }
             Test::Compare { op: _, left, right } => {
-                let left = self.expr(alloc, left, frame, before)?;
-                let right = self.expr(alloc, right, frame, before)?;
-                Ok(compared(left, right))
+                let left = self.expr(left, frame, before);
+                let right = self.expr(right, frame, before);
+                compared(left, right)
             }
         }
     }
@@ -292,23 +242,22 @@ impl Extents {
     #[tactic(auto, using(crate::proofs::Equations::lists, homeo_meaning::proofs::Steps::steps))]
     pub(crate) fn tests(
         &self,
-        alloc: Global,
         ts: &[Test],
         first: Extent,
         frame: &Frame<'_>,
         before: &mut Before,
-    ) -> Result<Extent, Memory>
-        ensures extent { IfOk result (λ e. e ≡ tests_sized (setting frame.now) (tests (map plain_test ts.now))
-            (sizes_in self.now) first) }
-        ensures before { OnOk result (before.new ≡ tests_lifted (setting frame.now)
-            (tests (map plain_test ts.now)) (sizes_in self.now) before.old) }
+    ) -> Extent
+        ensures extent { result ≡ tests_sized (setting frame.now) (tests (map plain_test ts.now))
+            (sizes_in self.now) first }
+        ensures before { before.new ≡ tests_lifted (setting frame.now)
+            (tests (map plain_test ts.now)) (sizes_in self.now) before.old }
     {
         let mut all = first;
         for t in ts {
-            let test = self.test(alloc, t, frame, before)?;
+            let test = self.test(t, frame, before);
             all = beside(all, test);
         }
-        Ok(all)
+        all
     }
 }
 

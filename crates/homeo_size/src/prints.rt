@@ -39,7 +39,7 @@ impl Frame<'_> {
             Command::If { test: _, yes, no } => prints_together(self.prints(yes), self.prints(no)),
             Command::Block { commands } => self.all_prints(commands.as_slice()),
             Command::Foreach { relation, body, .. } => {
-                let slots = self.slots(relation.name).len() as u64;
+                let slots = self.slots(relation.name).count as u64;
                 prints_of_each(slots, self.all_prints(body.as_slice()))
             }
             Command::Skip
@@ -69,15 +69,10 @@ impl Frame<'_> {
 
 /// How many print commands the L form of a call has, in both branches of each `if`: the same whatever the arguments.
 /// It is told up to TOO_MANY_PRINTS.
-pub fn count_prints(t: &Transaction, layout: &Layout<'_>) -> u64
+pub fn count_prints(t: &Transaction, layout: &Layout) -> u64
     ensures { (args : List ℤ) → result ≡ min 1000001
         (prints_in (l_form layout.now (map (λ p. p.name.name) t.now.params.items) args (plain_transaction t.now).body)) }
 {
-    let frame = Frame {
-        layout,
-        arguments: &[],
-        rows: &[],
-        sites: 0,
-    };
+    let frame = Frame::of_call(layout, &[], 0);
     frame.all_prints(t.body.as_slice())
 }

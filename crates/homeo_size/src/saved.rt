@@ -4,15 +4,14 @@ ghost use Rattle.std.specs.Prelude.{◌≡◌, map, option_map, IfOk, OnOk};
 ghost use Rattle.homeo_syntax.specs.SourceView.{commands, plain_command, plain_field};
 ghost use Rattle.homeo_meaning.specs.Aborts.{hold_abort};
 ghost use Rattle.homeo_meaning.specs.LowWrites.{with_number};
-ghost use Rattle.homeo_context.specs.Slots.{plain_spot};
-ghost use Rattle.homeo_size.specs.inner.Slots.{plain_slot};
+ghost use Rattle.homeo_meaning.specs.Schema.{declared_range};
+ghost use Rattle.homeo_context.specs.Slots.{plain_slot, plain_spot, slots_of, IsCounted};
 ghost use Rattle.homeo_size.specs.inner.Tables.{setting};
 ghost use Rattle.homeo_size.specs.inner.Writing.{at_each, put_used, put_field, put_cell, at_slot, by_index, put_filled, writes, all_writes, saved_by};
 
 use crate::frame::Frame;
-use crate::rows::with_row;
-use crate::slot::{Slot, cell, field_cell, slot_at};
-use homeo_context::Spot;
+use crate::slot::{cell, field_cell};
+use homeo_context::{Slot, Slots, Spot};
 use homeo_meaning::hold_abort;
 use homeo_syntax::{Command, FieldValue, Memory};
 use std::alloc::Global;
@@ -27,32 +26,35 @@ fn put_number(numbers: &mut BTreeSet<u128>, number: u128) -> Result<(), Memory>
     Ok(())
 }
 
-#[tactic(auto, using(crate::proofs::Along::items, crate::proofs::Along::plain_used, crate::proofs::WriteEquations::slots))]
-fn put_used(slots: &[Slot<'_>], objects: &mut BTreeSet<u128>) -> Result<(), Memory>
-    ensures { OnOk result (objects.new.keys ≡ at_each put_used (map plain_slot slots.now) objects.old.keys) }
+#[tactic(auto, using(crate::proofs::Along::slots, crate::proofs::WriteEquations::slots))]
+fn put_used(slots: Slots<'_>, objects: &mut BTreeSet<u128>) -> Result<(), Memory>
+    requires { IsCounted slots }
+    ensures { OnOk result (objects.new.keys ≡ at_each put_used (slots_of slots.entry) objects.old.keys) }
 {
-    for slot in slots {
-        put_number(objects, slot.used as u128)?;
+    for number in 0..slots.count {
+        put_number(objects, slots.slot(number).used as u128)?;
     }
     Ok(())
 }
 
-#[tactic(auto, using(crate::proofs::Along::items, crate::proofs::WriteEquations::slots))]
-fn put_fields(field: u32, slots: &[Slot<'_>], objects: &mut BTreeSet<u128>) -> Result<(), Memory>
-    ensures { OnOk result (objects.new.keys ≡ at_each (put_field field) (map plain_slot slots.now) objects.old.keys) }
+#[tactic(auto, using(crate::proofs::Along::slots, crate::proofs::WriteEquations::slots))]
+fn put_fields(field: u32, slots: Slots<'_>, objects: &mut BTreeSet<u128>) -> Result<(), Memory>
+    requires { IsCounted slots }
+    ensures { OnOk result (objects.new.keys ≡ at_each (put_field field) (slots_of slots.entry) objects.old.keys) }
 {
-    for slot in slots {
-        put_number(objects, field_cell(*slot, field))?;
+    for number in 0..slots.count {
+        put_number(objects, field_cell(slots.slot(number), field))?;
     }
     Ok(())
 }
 
-#[tactic(auto, using(crate::proofs::Along::items, crate::proofs::WriteEquations::slots))]
-fn put_cells(field: Spot, slots: &[Slot<'_>], objects: &mut BTreeSet<u128>) -> Result<(), Memory>
-    ensures { OnOk result (objects.new.keys ≡ at_each (put_cell (plain_spot field)) (map plain_slot slots.now) objects.old.keys) }
+#[tactic(auto, using(crate::proofs::Along::slots, crate::proofs::WriteEquations::slots))]
+fn put_cells(field: Spot, slots: Slots<'_>, objects: &mut BTreeSet<u128>) -> Result<(), Memory>
+    requires { IsCounted slots }
+    ensures { OnOk result (objects.new.keys ≡ at_each (put_cell (plain_spot field)) (slots_of slots.entry) objects.old.keys) }
 {
-    for slot in slots {
-        put_number(objects, cell(*slot, field))?;
+    for number in 0..slots.count {
+        put_number(objects, cell(slots.slot(number), field))?;
     }
     Ok(())
 }
@@ -71,55 +73,53 @@ fn put_slot(field: Spot, slot: Option<Slot<'_>>, objects: &mut BTreeSet<u128>) -
 fn put_indexed(
     index: Option<i64>,
     field: Spot,
-    slots: &[Slot<'_>],
+    slots: Slots<'_>,
     objects: &mut BTreeSet<u128>,
 ) -> Result<(), Memory>
-    ensures { OnOk result (objects.new.keys ≡ by_index index (map plain_slot slots.now) (plain_spot field) objects.old.keys) }
+    requires { IsCounted slots }
+    ensures { OnOk result (objects.new.keys ≡ by_index index (slots_of slots.entry) (plain_spot field) objects.old.keys) }
 {
     match index {
-        Some(value) => put_slot(field, slot_at(value, slots), objects),
+        Some(value) => put_slot(field, slots.at(value), objects),
         None => put_cells(field, slots, objects),
     }
 }
 
+#[tactic(auto, using(crate::proofs::Along::items, crate::proofs::Along::values, crate::proofs::WriteEquations::fields))]
+fn put_filled(
+    fields: &[FieldValue],
+    slot: Slot<'_>,
+    objects: &mut BTreeSet<u128>,
+) -> Result<(), Memory>
+    ensures { OnOk result (objects.new.keys ≡
+        put_filled (map declared_range slot.entry.fields.now) (map plain_field fields.now) (plain_slot slot.entry) objects.old.keys) }
+{
+    for field in fields {
+        put_number(objects, field_cell(slot, field.field.name))?;
+    }
+    put_number(objects, slot.used as u128)
+}
+
+#[tactic(auto, using(crate::proofs::Along::slots, crate::proofs::WriteEquations::slots))]
+fn put_inserted(
+    fields: &[FieldValue],
+    slots: Slots<'_>,
+    objects: &mut BTreeSet<u128>,
+) -> Result<(), Memory>
+    requires { IsCounted slots }
+    ensures { OnOk result (objects.new.keys ≡
+        at_each (put_filled (map declared_range slots.entry.fields.now) (map plain_field fields.now)) (slots_of slots.entry) objects.old.keys) }
+{
+    for number in 0..slots.count {
+        put_filled(fields, slots.slot(number), objects)?;
+    }
+    Ok(())
+}
+
 impl Frame<'_> {
-    #[tactic(auto, using(crate::proofs::Along::items, crate::proofs::Along::values, crate::proofs::Along::plain_used, crate::proofs::WriteEquations::fields))]
-    fn put_filled(
-        &self,
-        relation: u32,
-        fields: &[FieldValue],
-        slot: Slot<'_>,
-        objects: &mut BTreeSet<u128>,
-    ) -> Result<(), Memory>
-        ensures { OnOk result (objects.new.keys ≡
-            put_filled ((setting self.now).fields relation) (map plain_field fields.now) (plain_slot slot.entry) objects.old.keys) }
-    {
-        for field in fields {
-            put_number(objects, cell(slot, self.field(relation, field.field.name)))?;
-        }
-        put_number(objects, slot.used as u128)
-    }
-
-    #[tactic(auto, using(crate::proofs::Along::items, crate::proofs::WriteEquations::slots))]
-    fn put_inserted(
-        &self,
-        relation: u32,
-        fields: &[FieldValue],
-        slots: &[Slot<'_>],
-        objects: &mut BTreeSet<u128>,
-    ) -> Result<(), Memory>
-        ensures { OnOk result (objects.new.keys ≡
-            at_each (put_filled ((setting self.now).fields relation) (map plain_field fields.now)) (map plain_slot slots.now) objects.old.keys) }
-    {
-        for slot in slots {
-            self.put_filled(relation, fields, *slot, objects)?;
-        }
-        Ok(())
-    }
-
     #[cycle(writes)]
-    #[tactic(auto, using(homeo_syntax::proofs::SourceViews::command_views, homeo_syntax::proofs::SourceViews::phrase_views, crate::proofs::Along::items, crate::proofs::Along::plain_place, crate::proofs::WriteEquations::steps, crate::proofs::WriteEquations::slots))]
-    fn writes(&self, alloc: Global, c: &Command, objects: &mut BTreeSet<u128>) -> Result<(), Memory>
+    #[tactic(auto, using(homeo_syntax::proofs::SourceViews::command_views, homeo_syntax::proofs::SourceViews::phrase_views, crate::proofs::Along::slots, crate::proofs::Along::plain_place, crate::proofs::WriteEquations::steps, crate::proofs::WriteEquations::slots))]
+    fn writes(&self, c: &Command, objects: &mut BTreeSet<u128>) -> Result<(), Memory>
         ensures { OnOk result (objects.new.keys ≡ writes (setting self.now) (plain_command c.now) objects.old.keys) }
     {
         match c {
@@ -130,21 +130,19 @@ impl Frame<'_> {
                 put_number(objects, self.object(object.name).place as u128)
             }
             Command::If { test: _, yes, no } => {
-                self.writes(alloc, yes, objects)?;
-                self.writes(alloc, no, objects)
+                self.writes(yes, objects)?;
+                self.writes(no, objects)
             }
-            Command::Block { commands } => self.all_writes(alloc, commands.as_slice(), objects),
+            Command::Block { commands } => self.all_writes(commands.as_slice(), objects),
             Command::SetField {
                 relation,
                 index,
                 field,
                 value: _,
-            } => put_indexed(
-                self.literal(index),
-                self.field(relation.name, field.name),
-                self.slots(relation.name),
-                objects,
-            ),
+            } => {
+                let slots = self.slots(relation.name);
+                put_indexed(self.literal(index), slots.field(field.name), slots, objects)
+            }
             Command::SetRow {
                 row,
                 field,
@@ -156,10 +154,10 @@ impl Frame<'_> {
                 body,
                 ..
             } => {
-                for slot in self.slots(relation.name) {
-                    let rows = with_row(alloc, self.rows, row.name, *slot)?;
-                    let inner = self.bound(rows.as_slice(), row.name, *slot);
-                    inner.all_writes(alloc, body.as_slice(), objects)?;
+                let slots = self.slots(relation.name);
+                for number in 0..slots.count {
+                    let inner = self.bound(row.name, slots.slot(number));
+                    inner.all_writes(body.as_slice(), objects)?;
                 }
                 Ok(())
             }
@@ -167,12 +165,7 @@ impl Frame<'_> {
                 relation,
                 fields,
                 ..
-            } => self.put_inserted(
-                relation.name,
-                fields.as_slice(),
-                self.slots(relation.name),
-                objects,
-            ),
+            } => put_inserted(fields.as_slice(), self.slots(relation.name), objects),
             Command::Delete { relation, .. } => put_used(self.slots(relation.name), objects),
             Command::Update {
                 relation,
@@ -184,17 +177,12 @@ impl Frame<'_> {
 
     #[cycle(writes)]
     #[tactic(auto, using(crate::proofs::WriteEquations::lists, homeo_meaning::proofs::Steps::steps))]
-    fn all_writes(
-        &self,
-        alloc: Global,
-        cs: &[Command],
-        objects: &mut BTreeSet<u128>,
-    ) -> Result<(), Memory>
+    fn all_writes(&self, cs: &[Command], objects: &mut BTreeSet<u128>) -> Result<(), Memory>
         ensures { OnOk result (objects.new.keys ≡
             all_writes (setting self.now) (commands (map plain_command cs.now)) objects.old.keys) }
     {
         for c in cs {
-            self.writes(alloc, c, objects)?;
+            self.writes(c, objects)?;
         }
         Ok(())
     }
@@ -207,7 +195,7 @@ impl Frame<'_> {
     {
         let mut saved = BTreeSet::new(alloc);
         if hold_abort(body) {
-            self.all_writes(alloc, body, &mut saved)?;
+            self.all_writes(body, &mut saved)?;
         }
         Ok(saved.iter().copied().collect(alloc)?)
     }

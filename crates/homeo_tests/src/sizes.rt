@@ -6,7 +6,7 @@ use crate::same::same;
 use homeo_size::{Layout, Measure, TOO_MANY_PRINTS, count_prints, measure};
 use homeo_syntax::{
     Command, Compare, Cond, Expr, Ident, List, Memory, Number, ObjectDecl, RangeDecl, RelationDecl,
-    Test, Transaction,
+    Test, Transaction, Workload,
 };
 use std::alloc::Global;
 use std::test::Fail;
@@ -66,12 +66,27 @@ fn relation(alloc: Global, slots: u8) -> Result<RelationDecl, Memory>
     })
 }
 
-fn only(alloc: Global, relation: RelationDecl) -> Result<List<RelationDecl>, Memory>
-    ensures { IfOk result (λ l. l.items ≡ relation ∷ []) }
+/// A workload of one object and this relation.
+fn workload(alloc: Global, relation: RelationDecl) -> Result<Workload, Memory>
+    ensures objects { IfOk result (λ w. length w.objects.items ≡ 1) }
+    ensures relations { IfOk result (λ w. w.relations.items ≡ relation ∷ []) }
 {
+    let mut objects = List::new(alloc);
+    objects.push(object())?;
     let mut relations = List::new(alloc);
     relations.push(relation)?;
-    Ok(relations)
+    Ok(Workload {
+        version: 1,
+        names: List::new(alloc),
+        sites: number(SITES as i64),
+        objects,
+        relations,
+        transactions: List::new(alloc),
+        clients: List::new(alloc),
+        schedule: None,
+        end: 0,
+        weights: List::new(alloc),
+    })
 }
 
 fn sum(alloc: Global, a: Expr, b: Expr) -> Result<Expr, Memory> {
@@ -135,12 +150,12 @@ fn transaction(alloc: Global, body: List<Command>) -> Result<Transaction, Memory
 
 /// What is measured of such commands where the argument is 9, and how many print commands there are.
 fn measured(alloc: Global, slots: u8, body: List<Command>) -> Result<(Option<Measure>, u64), Memory>
-    requires { slots ≤ 64 }
+    requires least { 1 ≤ slots }
+    requires most { slots ≤ 64 }
 {
     let relation = relation(alloc, slots)?;
-    let relations = only(alloc, relation)?;
-    let objects = [object()];
-    let layout = Layout::of(alloc, &objects, relations.as_slice())?;
+    let workload = workload(alloc, relation)?;
+    let layout = Layout::of(alloc, &workload)?;
     let transaction = transaction(alloc, body)?;
     let measure = measure(alloc, &transaction, &[number(9)], &layout, SITES)?;
     Ok((measure, count_prints(&transaction, &layout)))

@@ -25,10 +25,10 @@ const NOTHING: Measure = Measure {
 
 /// What calls are measured in, the same for each call.
 #[derive(Clone, Copy)]
-pub(crate) struct Measuring<'a, 'b> {
+pub(crate) struct Measuring<'a> {
     pub(crate) scope: Scope<'a>,
     pub(crate) workload: &'a Workload,
-    pub(crate) layout: &'b Layout<'a>,
+    pub(crate) layout: &'a Layout,
     pub(crate) sites: u64,
 }
 
@@ -51,7 +51,7 @@ fn measure_at(
     alloc: Global,
     place: usize,
     args: &[Number],
-    measuring: &Measuring<'_, '_>,
+    measuring: &Measuring<'_>,
 ) -> Result<Option<Measure>, Memory>
     requires { IsSetUp measuring.now }
     ensures { IfOk result (IsMeasuredBody (workload_of measuring.now)
@@ -77,7 +77,7 @@ fn transaction_place(scope: Scope<'_>, name: u32) -> Option<usize>
 fn measure_call(
     alloc: Global,
     call: SitedCall<'_>,
-    measuring: &Measuring<'_, '_>,
+    measuring: &Measuring<'_>,
 ) -> Result<Option<Measure>, Memory>
     requires { IsSetUp measuring.now }
     ensures { IfOk result (IsMeasuredAs (workload_of measuring.now) (sited call.entry)) }
@@ -115,7 +115,7 @@ impl Bodies {
         &mut self,
         alloc: Global,
         call: SitedCall<'_>,
-        measuring: &Measuring<'_, '_>,
+        measuring: &Measuring<'_>,
     ) -> Result<Option<Measure>, Memory>
         requires set_up { IsSetUp measuring.now }
         requires bodies { AreBodies (workload_of measuring.now) self.old }

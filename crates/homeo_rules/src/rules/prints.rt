@@ -27,7 +27,7 @@ fn capped_sum(a: u64, b: u64) -> u64
 }
 
 /// The print commands of a transaction, which are as many whatever the arguments.
-fn count_in(t: &Transaction, measuring: &Measuring<'_, '_>) -> u64
+fn count_in(t: &Transaction, measuring: &Measuring<'_>) -> u64
     requires { IsSetUp measuring.now }
     ensures { (args : List ℤ) → result ≡ capped_prints (workload_of measuring.now) args t.now }
 {
@@ -38,7 +38,7 @@ fn count_in(t: &Transaction, measuring: &Measuring<'_, '_>) -> u64
 fn count_all_prints(
     alloc: Global,
     ts: &[Transaction],
-    measuring: &Measuring<'_, '_>,
+    measuring: &Measuring<'_>,
 ) -> Result<Vec<u64>, Memory>
     requires { IsSetUp measuring.now }
     ensures { IfOk result (λ counts. (args : List ℤ) →
@@ -104,7 +104,7 @@ fn check_totals(
 pub(crate) fn check_prints(
     alloc: Global,
     calls: &[SitedCall<'_>],
-    measuring: &Measuring<'_, '_>,
+    measuring: &Measuring<'_>,
     best: Option<Fault>,
 ) -> Result<Option<Fault>, Memory>
     requires { IsSetUp measuring.now }

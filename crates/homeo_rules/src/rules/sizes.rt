@@ -68,7 +68,7 @@ fn measure_after(
     alloc: Global,
     total: u64,
     call: SitedCall<'_>,
-    measuring: &Measuring<'_, '_>,
+    measuring: &Measuring<'_>,
     bodies: &mut Bodies,
 ) -> Result<Option<Measure>, Memory>
     requires set_up { IsSetUp measuring.now }
@@ -96,7 +96,7 @@ fn known(measure: Option<Measure>) -> Measure
 pub(crate) fn measure_calls<'a>(
     alloc: Global,
     calls: &[SitedCall<'a>],
-    measuring: &Measuring<'_, '_>,
+    measuring: &Measuring<'_>,
 ) -> Result<Vec<MeasuredCall<'a>>, Memory>
     requires { IsSetUp measuring.now }
     ensures calls { IfOk result (λ all. map call_of all.items ≡ map sited calls.now) }
@@ -130,7 +130,7 @@ fn check_size(measure: Measure, total: u64, x: Ident, best: Option<Fault>) -> Op
 /// The fault that decides, of those of sizes and of one so far.
 pub(crate) fn check_sizes(
     calls: &[MeasuredCall<'_>],
-    measuring: &Measuring<'_, '_>,
+    measuring: &Measuring<'_>,
     best: Option<Fault>,
 ) -> Option<Fault>
     requires { AreTold (workload_of measuring.now) 0 calls.now }
@@ -160,7 +160,7 @@ fn check_weight(weight: u64, x: Ident, best: Option<Fault>) -> Option<Fault>
 /// The fault that decides, of those of weights and of one so far.
 pub(crate) fn check_weights(
     calls: &[MeasuredCall<'_>],
-    measuring: &Measuring<'_, '_>,
+    measuring: &Measuring<'_>,
     best: Option<Fault>,
 ) -> Option<Fault>
     requires { AreMeasured (workload_of measuring.now) calls.now }
@@ -188,7 +188,7 @@ fn check_row_count(rows: u64, total: u64, x: Ident, best: Option<Fault>) -> Opti
 /// The fault that decides, of those of rows and of one so far.
 pub(crate) fn check_rows(
     calls: &[MeasuredCall<'_>],
-    measuring: &Measuring<'_, '_>,
+    measuring: &Measuring<'_>,
     best: Option<Fault>,
 ) -> Option<Fault>
     requires { AreMeasured (workload_of measuring.now) calls.now }

@@ -1,8 +1,14 @@
 use Rattle.std.proofs.Common.{◌∙◌, sym, subst}
 use Rattle.homeo_syntax.specs.SourceView.{plain_workload}
 use Rattle.homeo_rules.specs.inner.Sizes.{AreTold}
-use Rattle.homeo_rules.proofs.FormFaults.{grounds-plain, all-measured, sizes-decide, after-sizes}
+use Rattle.homeo_rules.proofs.FormFaults.{slots-here, few-objects, grounds-plain, all-measured, sizes-decide, after-sizes}
 use Rattle.homeo_rules.proofs.forms.check_forms.Goals as goal
+
+pub of-requires-clause-slots : goal.of-requires-clause-slots
+of-requires-clause-slots c = slots-here c.args.w.now c.requires.faultless
+
+pub of-requires-clause-few : goal.of-requires-clause-few
+of-requires-clause-few c = few-objects c.args.w.now c.requires.faultless
 
 pub check_sizes_and_prints-requires-clause-grounds : goal.check_sizes_and_prints-requires-clause-grounds
 check_sizes_and_prints-requires-clause-grounds c =

@@ -1,8 +1,7 @@
 -- The relations so far, and those that are left, are weighed.
 use Rattle.std.proofs.Common.{◌≡◌, ◌++◌, map, drop}
 use Rattle.homeo_meaning.specs.Bounds.{relation_bounds}
-use Rattle.homeo_size.specs.Layout.{relation_of}
-use Rattle.homeo_size.specs.inner.Laid.{capped_weight}
+use Rattle.homeo_size.specs.inner.Laid.{relation_of, capped_weight}
 use Rattle.homeo_size.proofs.layout.weigh_relations.Given as goal
 
 abbrev pub invariant-loop-relation : goal.invariant-loop-relation

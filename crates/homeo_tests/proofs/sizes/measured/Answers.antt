@@ -1,21 +1,34 @@
 -- So few slots of one field each, beside one object, are few objects.
-use Rattle.std.proofs.Common.{◌≡◌, ◌≤◌, ◌+◌, ◌*◌, ℕ, List, [], ◌∷◌, pos, length, sym, ap₂, ◌∙◌, subst, arith}
+use Rattle.std.proofs.Common.{◌≡◌, ◌≤◌, ◌+◌, ◌*◌, ℕ, All, [], ◌∷◌, map, pos, length, sym, ap, ap₂, ◌∙◌, subst, arith}
 use Rattle.std.proofs.lemmas.List.{length-map}
 use Rattle.homeo_syntax.specs.Key.{definitions as syntax_definitions}
-use Rattle.homeo_syntax.specs.declared.workload.ObjectDecl.{ObjectDecl}
+use Rattle.homeo_syntax.specs.SourceView.{plain_relation}
 use Rattle.homeo_syntax.specs.declared.workload.RelationDecl.{RelationDecl}
+use Rattle.homeo_syntax.specs.declared.workload.Workload.{Workload}
 use Rattle.homeo_meaning.specs.Key.{definitions as meaning_definitions}
-use Rattle.homeo_meaning.specs.Schema.{declared_range, nat_of}
-use Rattle.homeo_size.specs.Layout.{relation_of, HasFewObjects, schema_with}
+use Rattle.homeo_meaning.specs.Context.{object_count}
+use Rattle.homeo_meaning.specs.Schema.{declared_range, declared_relation, nat_of}
+use Rattle.homeo_meaning.proofs.SoundRules.{all_none, all_more}
+use Rattle.homeo_context.specs.Placed.{HasSlots}
 use Rattle.homeo_tests.proofs.sizes.measured.Goals as goal
 
-few : (d : ObjectDecl) (r : RelationDecl) (rs : List RelationDecl) (slots : ℕ) → rs ≡ r ∷ [] → r.slots.value ≡ pos slots → length r.fields.items ≡ 1 → slots ≤ 64 → HasFewObjects (schema_with (d ∷ []) rs)
-unfolding syntax_definitions meaning_definitions
-few d r rs slots is s f h =
-    let size : (relation_of r).slots * (1 + length (relation_of r).fields) ≡ slots * 2 = ap₂ (λ v n. nat_of v * (1 + n)) s (length-map r.fields.items declared_range ∙ f) in
-    let all : 1 + (relation_of r).slots * (1 + length (relation_of r).fields) ≤ 1024 = subst (λ n. 1 + n ≤ 1024) (sym size) (omega (arith, h)) in
-    subst (λ l. HasFewObjects (schema_with (d ∷ []) l)) (sym is) all
+one_slotted : (w : Workload) (r : RelationDecl) (slots : ℕ) → w.relations.items ≡ r ∷ [] → r.slots.value ≡ pos slots → 1 ≤ slots → slots ≤ 64 → All HasSlots w.relations.items
+unfolding meaning_definitions
+one_slotted w r slots is s l m =
+    let here : HasSlots r = record { least = subst (λ v. 1 ≤ nat_of v) (sym s) l; most = subst (λ v. nat_of v ≤ 64) (sym s) m } in
+    subst (All HasSlots) (sym is) (all_more HasSlots r [] here (all_none HasSlots))
 
-pub of-requires : goal.of-requires
-of-requires c =
-    few c.object.result c.in_ok-relation.relation c.as_slice.result.now c.args.slots (c.as_slice.ensures ∙ c.in_ok-relations.ensures) c.in_ok-relation.ensures.slots c.in_ok-relation.ensures.fields c.requires
+few : (w : Workload) (r : RelationDecl) (slots : ℕ) → w.relations.items ≡ r ∷ [] → length w.objects.items ≡ 1 → r.slots.value ≡ pos slots → length r.fields.items ≡ 1 → slots ≤ 64 → object_count (length w.objects.items) (map declared_relation (map plain_relation w.relations.items)) ≤ 1024
+unfolding syntax_definitions meaning_definitions
+few w r slots is o s f h =
+    let size : nat_of r.slots.value * (1 + length (map declared_range r.fields.items)) ≡ slots * 2 = ap₂ (λ v n. nat_of v * (1 + n)) s (length-map r.fields.items declared_range ∙ f) in
+    let all : 1 + nat_of r.slots.value * (1 + length (map declared_range r.fields.items)) ≤ 1024 = subst (λ n. 1 + n ≤ 1024) (sym size) (omega (arith, h)) in
+    subst (λ n. n ≤ 1024) (sym (λ i. object_count (o i) (map declared_relation (map plain_relation (is i))))) all
+
+pub of-requires-clause-slots : goal.of-requires-clause-slots
+of-requires-clause-slots c =
+    one_slotted c.in_ok-workload.workload c.in_ok-relation.relation c.args.slots c.in_ok-workload.ensures.relations c.in_ok-relation.ensures.slots c.requires.least c.requires.most
+
+pub of-requires-clause-few : goal.of-requires-clause-few
+of-requires-clause-few c =
+    few c.in_ok-workload.workload c.in_ok-relation.relation c.args.slots c.in_ok-workload.ensures.relations c.in_ok-workload.ensures.objects c.in_ok-relation.ensures.slots c.in_ok-relation.ensures.fields c.requires.most

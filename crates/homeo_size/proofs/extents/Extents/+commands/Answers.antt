@@ -1,6 +1,5 @@
 -- One more command, guarded or not, and a delete.
-use Rattle.std.proofs.Common.{rules, ◌≡◌, ◌∙◌, IfOk, length, map, sym, ap, subst}
-use Rattle.homeo_size.specs.inner.Slots.{plain_slot}
+use Rattle.std.proofs.Common.{rules, ◌≡◌, ◌∙◌, IfOk, length, sym, ap, subst}
 use Rattle.homeo_size.specs.inner.Tables.{store_in, setting}
 use Rattle.homeo_size.proofs.Along.{store_log, setting_sites}
 use Rattle.homeo_size.proofs.CommandSteps.{store_on, measure_on, delete_measured}
@@ -9,7 +8,7 @@ use Rattle.homeo_size.proofs.extents.Extents.+commands.Goals as goal
 pub measure_command-returns-in-Delete-clause-measure : goal.measure_command-returns-in-Delete-clause-measure
 measure_command-returns-in-Delete-clause-measure t c =
     subst (λ q. IfOk c.delete.result (λ m. m ≡ q))
-    (delete_measured (setting c.args.frame.now) c.args.frame.now.sites (store_in c.args.self.now) c.args.c.now c.in-Delete.row c.in-Delete.relation c.in-Delete.test (map plain_slot c.slots.result.now) c.in-Delete.is (sym (setting_sites c.args.frame.now)) c.slots.ensures)
+    (delete_measured (setting c.args.frame.now) c.args.frame.now.sites (store_in c.args.self.now) c.args.c.now c.in-Delete.row c.in-Delete.relation c.in-Delete.test c.in-Delete.is (sym (setting_sites c.args.frame.now)))
     c.delete.ensures.measure
 
 pub measure_commands-loop-c-preserved : goal.measure_commands-loop-c-preserved

@@ -3,7 +3,7 @@ use Rattle.std.proofs.Common.{◌≡◌, map, drop}
 use Rattle.homeo_syntax.specs.SourceView.{exprs, tests, plain_expr, plain_test, plain_cond}
 use Rattle.homeo_size.specs.inner.Parts.{nothing, no_factor}
 use Rattle.homeo_size.specs.inner.Sizing.{sum_sized, product_sized, tests_sized, all_lifted, tests_lifted, total_sized, total_of, total_visits, total_lifted}
-use Rattle.homeo_size.specs.inner.Slots.{plain_slot}
+use Rattle.homeo_context.proofs.SlotLists.{left}
 use Rattle.homeo_size.specs.inner.Tables.{sizes_in, setting}
 use Rattle.homeo_size.proofs.extents.Extents.+phrases.Given as goal
 
@@ -40,12 +40,12 @@ invariant-tests-loop-t l =
       before : tests_lifted x rest s l.before ≡ tests_lifted x whole s l.initial.before;
     }
 
-abbrev pub invariant-total-loop-slot : goal.invariant-total-loop-slot
-invariant-total-loop-slot l =
+abbrev pub invariant-total-loop-number : goal.invariant-total-loop-number
+invariant-total-loop-number l =
     let x = setting l.frame in
     let s = sizes_in l.self in
-    let rest = map plain_slot (drop l.slot-index l.slots) in
-    let whole = map plain_slot l.slots in
+    let rest = left l.slots l.number in
+    let whole = x.slots l.relation in
     record {
       extent : total_sized l.field rest s l.total ≡ total_of l.field whole s;
       before : total_visits x l.row (plain_cond l.test) l.field rest s l.total l.before ≡ total_lifted x l.row (plain_cond l.test) l.field whole s l.fn.before;

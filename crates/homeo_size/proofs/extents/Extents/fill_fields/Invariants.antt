@@ -1,7 +1,7 @@
 -- The fields that are left make of the tables now what all make of the tables at first.
 use Rattle.std.proofs.Common.{◌≡◌, map, drop}
 use Rattle.homeo_size.specs.inner.Measuring.{fields_filled}
-use Rattle.homeo_size.specs.inner.Slots.{plain_slot}
+use Rattle.homeo_context.specs.Slots.{plain_slot}
 use Rattle.homeo_size.specs.inner.Tables.{plain_filled, store_in}
 use Rattle.homeo_size.proofs.extents.Extents.fill_fields.Given as goal
 

@@ -1,7 +1,9 @@
--- The frame differs in its rows alone.
+-- The innermost row is found first.
 use Rattle.std.proofs.Common.{refl}
-use Rattle.homeo_size.proofs.Calls.{bound_is}
+use Rattle.homeo_size.specs.inner.Key.{definitions}
+use Rattle.homeo_size.proofs.Calls.{inside_setting}
 use Rattle.homeo_size.proofs.frame.Frame.bound.Goals as goal
 
 pub returns : goal.returns
-returns c = bound_is c.args.self.now _ c.args.name c.args.slot refl refl refl c.requires
+unfolding definitions
+returns c = inside_setting c.args.self.now c.args.name c.args.slot _ refl

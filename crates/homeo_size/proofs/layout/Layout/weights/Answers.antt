@@ -6,4 +6,4 @@ use Rattle.homeo_size.proofs.layout.Layout.weights.Goals as goal
 
 pub returns : goal.returns
 returns c =
-    c.as_slice.ensures.value ∙ c.self.invariant.weighed ∙ ap (λ x. map capped_weight (all_bounds x)) c.self.view_is
+    c.as_slice.ensures.value ∙ c.self.invariant ∙ ap (λ x. map capped_weight (all_bounds x)) c.self.view_is
