@@ -3,13 +3,19 @@
 ghost use Rattle.std.specs.Prelude.{◌≡◌, ◌++◌, codes, IfOk, IsErrOf};
 ghost use Rattle.homeo_syntax.specs.declared.workload.Refusal.{Refusal};
 ghost use Rattle.homeo_syntax.specs.SourceView.{plain_workload};
+ghost use Rattle.homeo_meaning.specs.Initial.{initial};
+ghost use Rattle.homeo_plan.specs.PlanView.{plain_config};
+ghost use Rattle.homeo_plan.specs.Planned.{policy};
+ghost use Rattle.homeo_build.specs.Plan.{IsPlanOf};
 ghost use Rattle.homeo_commands.specs.Certified.{IsCertificateLine, IsUncertified};
 
 use crate::stop::Stop;
 use crate::treaty::first_plan;
+use homeo_build::Compiled;
 use homeo_build::compile::compile;
 use homeo_cert::{CertError, certificate};
 use homeo_meaning::Accepted;
+use homeo_plan::RoundPlan;
 use homeo_syntax::{Memory, Refusal};
 use std::alloc::Global;
 
@@ -26,8 +32,28 @@ pub(crate) fn certify(alloc: Global, w: Accepted) -> Result<Vec<u8>, Stop>
     ensures no_other { (IsErrOf result Stop.Usage → ⊥) × (IsErrOf result Stop.ReadFault → ⊥) }
 {
     let compiled = compile(alloc, w)?;
-    let plan = first_plan(alloc, &compiled)?;
-    match certificate(alloc, &compiled, &plan) {
+    first_certificate(alloc, &compiled)
+}
+
+/// The same of a compiled workload.
+fn first_certificate(alloc: Global, c: &Compiled) -> Result<Vec<u8>, Stop>
+    ensures made { IfOk result (λ bytes. IsCertificateLine (plain_workload c.now) bytes.items) }
+    ensures refused { (r : Refusal) → IsErrOf result (Stop.Refused r) → IsUncertified (plain_workload c.now) r }
+    ensures no_other { (IsErrOf result Stop.Usage → ⊥) × (IsErrOf result Stop.ReadFault → ⊥) }
+{
+    let plan = first_plan(alloc, c)?;
+    certificate_line(alloc, c, &plan)
+}
+
+/// The certificate of the plan of that round, and a newline.
+fn certificate_line(alloc: Global, c: &Compiled, plan: &RoundPlan) -> Result<Vec<u8>, Stop>
+    requires plan { IsPlanOf (plain_workload c.now) (initial (plain_workload c.now)) plan.now }
+    requires config { plain_config plan.now.config ≡ policy (plain_workload c.now) (initial (plain_workload c.now)) }
+    ensures made { IfOk result (λ bytes. IsCertificateLine (plain_workload c.now) bytes.items) }
+    ensures refused { (r : Refusal) → IsErrOf result (Stop.Refused r) → IsUncertified (plain_workload c.now) r }
+    ensures no_other { (IsErrOf result Stop.Usage → ⊥) × (IsErrOf result Stop.ReadFault → ⊥) }
+{
+    match certificate(alloc, c, plan) {
         Ok(text) => Ok(ended(text)?),
         Err(CertError::TooLong { .. }) => Err(Stop::Refused(LONG_CERTIFICATE)),
         Err(CertError::Memory) => Err(Stop::Memory),

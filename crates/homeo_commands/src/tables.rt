@@ -26,8 +26,16 @@ pub fn tables(alloc: Global, w: Accepted) -> Result<Vec<u8>, Memory>
     ensures { IfOk result (λ bytes. bytes.items ≡ tables_text (plain_workload w)) }
 {
     let compiled = compile(alloc, w)?;
+    compiled_tables(alloc, &compiled)
+}
+
+/// The same of a compiled workload.
+fn compiled_tables(alloc: Global, c: &Compiled) -> Result<Vec<u8>, Memory>
+    requires { faults purpose.Tables (plain_workload c.now) ≡ [] }
+    ensures { IfOk result (λ bytes. bytes.items ≡ tables_text (plain_workload c.now)) }
+{
     let mut out = Vec::new(alloc);
-    let tables = push_calls(alloc, &mut out, &compiled)?;
+    let tables = push_calls(alloc, &mut out, c)?;
     push_joint(alloc, &mut out, tables.as_slice())?;
     Ok(out)
 }

@@ -23,8 +23,15 @@ pub fn treaty(alloc: Global, w: Accepted) -> Result<Vec<u8>, Memory>
     ensures { IfOk result (λ bytes. bytes.items ≡ treaty_text (plain_workload w)) }
 {
     let compiled = compile(alloc, w)?;
-    let plan = first_plan(alloc, &compiled)?;
-    plan_text(alloc, compiled.workload().workload(), &plan)
+    first_treaty(alloc, &compiled)
+}
+
+/// The same of a compiled workload.
+fn first_treaty(alloc: Global, c: &Compiled) -> Result<Vec<u8>, Memory>
+    ensures { IfOk result (λ bytes. bytes.items ≡ treaty_text (plain_workload c.now)) }
+{
+    let plan = first_plan(alloc, c)?;
+    plan_text(alloc, c.workload().workload(), &plan)
 }
 
 /// The plan of the round that begins at the initial database.

@@ -1,39 +1,12 @@
-use Rattle.std.proofs.Common.{◌++◌, All, length, map, sym, ap, ap₂, subst, ◌∙◌, arith}
-use Rattle.std.proofs.lemmas.List.{length-map}
-use Rattle.homeo_syntax.specs.SourceView.{plain_workload}
-use Rattle.homeo_meaning.specs.Ground.{grounds}
-use Rattle.homeo_joint.specs.Counts.{plain_table}
-use Rattle.homeo_print.specs.Key.{definitions as print_definitions}
-use Rattle.homeo_print.specs.Tables.{call_table, joint_text, tables_text}
-use Rattle.homeo_commands.specs.inner.Key.{definitions}
-use Rattle.homeo_commands.specs.inner.Tabulated.{HasFewRows, calls_text}
-use Rattle.homeo_commands.proofs.Tabulating.{tables_are_few, grounds_few}
+use Rattle.std.proofs.Common.{ap, ◌∙◌}
+use Rattle.std.proofs.lemmas.Result.{IfOk-weaker}
+use Rattle.homeo_meaning.specs.declared.call.Purpose.TheVariants as purpose
+use Rattle.homeo_meaning.specs.Faults.{faults}
+use Rattle.homeo_print.specs.Tables.{tables_text}
 use Rattle.homeo_commands.proofs.tables.tables.Goals as goal
 
-pub push_calls-requires : goal.push_calls-requires
-push_calls-requires c = record {
-  few = subst (λ w. All (HasFewRows w) (grounds w)) (sym c.in_ok-compiled.ensures) (tables_are_few (plain_workload c.args.w) c.requires);
-}
-
-pub push_joint-requires-clause-few : goal.push_joint-requires-clause-few
-push_joint-requires-clause-few c =
-    let w = plain_workload c.in_ok-compiled.compiled in
-    omega (
-      arith,
-      ap length c.as_slice.ensures.value,
-      length-map c.in_ok-tables.tables.items plain_table,
-      ap length c.in_ok-tables.ensures.tables,
-      length-map (grounds w) (call_table w),
-      ap (λ w. length (grounds w)) c.in_ok-compiled.ensures,
-      grounds_few (plain_workload c.args.w) c.requires,
-    )
+pub compiled_tables-requires : goal.compiled_tables-requires
+compiled_tables-requires c = ap (faults purpose.Tables) c.in_ok-compiled.ensures ∙ c.requires
 
 pub returns : goal.returns
-unfolding definitions print_definitions
-returns c =
-    let w = plain_workload c.in_ok-compiled.compiled in
-    c.in_ok-push_joint.ensures
-    ∙ ap₂ (λ l ts. l ++ joint_text ts)
-    (c.in_ok-tables.ensures.text ∙ ap (λ l. l ++ calls_text w (grounds w)) c.new-out.ensures.items)
-    (ap (map plain_table) c.as_slice.ensures.value ∙ c.in_ok-tables.ensures.tables)
-    ∙ ap tables_text c.in_ok-compiled.ensures
+returns c = IfOk-weaker c.compiled_tables.result _ _ (λ bytes is. is ∙ ap tables_text c.in_ok-compiled.ensures) c.compiled_tables.ensures
