@@ -45,7 +45,7 @@ fn copy_logs<N: ClusterNaming>(
     Ok(all)
 }
 
-#[tactic(auto, using(homeo::proofs::Gathering::all_back))]
+#[tactic(auto, using(homeo_commands::proofs::Gathering::all_back))]
 fn run_day_on<N: ClusterNaming + Send + Sync, R: Threads + Wait + Sync, G: Gate>(
     rt: &R,
     alloc: Global,

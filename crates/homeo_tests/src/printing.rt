@@ -30,15 +30,25 @@ fn read_back(rt: &impl Abort, alloc: Global, text: &[u8]) -> Workload {
     }
 }
 
+/// The text of a workload's copy.
+fn printed(alloc: Global, w: &Workload) -> Result<Vec<u8>, Fail> {
+    let copy = w.copy(alloc)?;
+    Ok(print(alloc, &copy)?)
+}
+
+/// The text of what a text reads as.
+fn printed_back(rt: &impl Abort, alloc: Global, text: &[u8]) -> Result<Vec<u8>, Fail> {
+    let workload = read_back(rt, alloc, text);
+    printed(alloc, &workload)
+}
+
 #[test]
 fn what_is_copied_and_printed_reads_back(rt: HostRuntime) -> Result<(), Fail> {
     let alloc = rt.alloc();
     for (text, printed) in [(CROWDED, PRINTED), (CROWDED_2, PRINTED_2)] {
-        let workload = read_back(&rt, alloc, text.as_bytes());
-        let first = print(alloc, &workload.copy(alloc)?)?;
+        let first = printed_back(&rt, alloc, text.as_bytes())?;
         same_items(&rt, first.as_slice(), printed.as_bytes());
-        let workload = read_back(&rt, alloc, first.as_slice());
-        let second = print(alloc, &workload)?;
+        let second = printed_back(&rt, alloc, first.as_slice())?;
         same_items(&rt, second.as_slice(), printed.as_bytes());
     }
     Ok(())

@@ -8,6 +8,7 @@ use crate::same::{same, same_items};
 use crate::shops::{THREE_AND_ONE, compiled, shop};
 use homeo_build::Compiled;
 use homeo_core::clients::{client_count, site_count};
+use homeo_history::History;
 use homeo_plan::Broken;
 use homeo_wire::{Event, Step, Wire, count_calls, drive};
 use std::alloc::Global;
@@ -77,17 +78,60 @@ fn left_of_first(wire: &Wire) -> Result<u64, Fail> {
     Ok(wire.left(0))
 }
 
+/// Makes calls until one breaks the treaty of site 0, delivers the packets that close the round, and says what broke.
+fn close_a_round(rt: &impl Abort, alloc: Global, wire: &mut Wire) -> Result<Broken, Fail> {
+    for client in [0, 0, 1] {
+        buy(rt, alloc, wire, client)?;
+    }
+    let broken = match happen(alloc, wire, Event::Call { client: 0 })? {
+        Step::Wanted(broken) => broken,
+        _ => panic!(rt; "a call that breaks the treaty"),
+    };
+    for (site, packet, taken) in [
+        (0, 0, true),
+        (1, 1, true),
+        (1, 1, false),
+        (0, 1, true),
+        (0, 2, true),
+    ] {
+        same(rt, &is_taken(alloc, wire, site, packet)?, &taken);
+    }
+    Ok(broken)
+}
+
+/// Site 0 is in the next round, which site 1 enters by the last packet.
+fn enter_the_next(rt: &impl Abort, alloc: Global, wire: &mut Wire) -> Result<(), Fail> {
+    assert!(rt; round_and_base(wire, 0)? == (1, Some(1)));
+    match happen(alloc, wire, Event::Call { client: 1 })? {
+        Step::Held => {}
+        _ => panic!(rt; "site 1 is stopped"),
+    }
+    assert!(rt; is_taken(alloc, wire, 1, 3)?);
+    assert!(rt; round_and_base(wire, 1)? == (1, Some(1)));
+    same(rt, &left_of_first(wire)?, &0);
+    Ok(())
+}
+
+/// The first round is closed by a call of site 0 that broke this, and the second one is open.
+fn check_history(rt: &impl Abort, history: &History, broken: Broken) -> Result<(), Fail> {
+    same_items(rt, history.last.as_slice(), [1].as_slice());
+    match history.rounds.as_slice() {
+        [first, open] => {
+            let closing = first.closing.as_ref().ok_or("the first round is closed")?;
+            assert!(rt; closing.site == 0 && closing.broken == broken);
+            same_items(rt, closing.entry.prints.as_slice(), [1].as_slice());
+            assert!(rt; open.closing.is_none());
+        }
+        _ => panic!(rt; "two rounds"),
+    }
+    Ok(())
+}
+
 #[test]
 fn two_nodes_close_a_round_by_packets(rt: HostRuntime) -> Result<(), Fail> {
     let c = compiled_shop(&rt, rt.alloc())?;
     let mut wire = Wire::begin(rt.alloc(), c)?;
-    for client in [0, 0, 1] {
-        buy(&rt, rt.alloc(), &mut wire, client)?;
-    }
-    let broken = match happen(rt.alloc(), &mut wire, Event::Call { client: 0 })? {
-        Step::Wanted(broken) => broken,
-        _ => panic!(rt; "a call that breaks the treaty"),
-    };
+    let broken = close_a_round(&rt, rt.alloc(), &mut wire)?;
     assert!(rt;
         broken
             == Broken {
@@ -96,35 +140,9 @@ fn two_nodes_close_a_round_by_packets(rt: HostRuntime) -> Result<(), Fail> {
                 bound: 2
             }
     );
-    for (site, packet, taken) in [
-        (0, 0, true),
-        (1, 1, true),
-        (1, 1, false),
-        (0, 1, true),
-        (0, 2, true),
-    ] {
-        same(&rt, &is_taken(rt.alloc(), &mut wire, site, packet)?, &taken);
-    }
-    assert!(rt; round_and_base(&wire, 0)? == (1, Some(1)));
-    match happen(rt.alloc(), &mut wire, Event::Call { client: 1 })? {
-        Step::Held => {}
-        _ => panic!(rt; "site 1 is stopped"),
-    }
-    assert!(rt; is_taken(rt.alloc(), &mut wire, 1, 3)?);
-    assert!(rt; round_and_base(&wire, 1)? == (1, Some(1)));
-    same(&rt, &left_of_first(&wire)?, &0);
+    enter_the_next(&rt, rt.alloc(), &mut wire)?;
     let history = wire.finish(rt.alloc())?;
-    same_items(&rt, history.last.as_slice(), [1].as_slice());
-    match history.rounds.as_slice() {
-        [first, open] => {
-            let closing = first.closing.as_ref().ok_or("the first round is closed")?;
-            assert!(rt; closing.site == 0 && closing.broken == broken);
-            same_items(&rt, closing.entry.prints.as_slice(), [1].as_slice());
-            assert!(rt; open.closing.is_none());
-        }
-        _ => panic!(rt; "two rounds"),
-    }
-    Ok(())
+    check_history(&rt, &history, broken)
 }
 
 #[test]
