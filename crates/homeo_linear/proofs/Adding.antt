@@ -1,8 +1,10 @@
 -- Terms in order: one more, and all of them.
-use Rattle.std.proofs.Common.{◌≡◌, ℕ, zero, suc, ◌+◌, ◌-◌, ◌*◌, ◌<◌, ◌≤◌, nat_lt, Bool, true, false, not, cond, List, [], ◌∷◌, ◌++◌, take, drop, get_or, set, length, ℤ, pos, ◌+ℤ◌, ◌*ℤ◌, refl, sym, ap, ◌∙◌, subst, true≢false, add-one, drop_of_length-le, append-nil, arith}
+use Rattle.std.proofs.Common.{◌≡◌, ℕ, zero, suc, ◌+◌, ◌-◌, ◌*◌, ◌<◌, ◌≤◌, nat_lt, Bool, true, false, not, cond, List, [], ◌∷◌, ◌++◌, take, drop, get_or, set, length, map, ℤ, pos, negsuc, ◌+ℤ◌, ◌*ℤ◌, refl, sym, ap, ap₂, ◌∙◌, subst, true≢false, add-one, drop_of_length-le, append-nil, arith}
 use Rattle.std.proofs.Math.Seq.{drop-cons}
-use Rattle.std.proofs.lemmas.Bool.Decides.{nat_tests}
-use Rattle.std.proofs.lemmas.List.{get_or-map}
+use Rattle.std.proofs.lemmas.Bool.Decides.{nat_tests, Decides-int_eq}
+use Rattle.std.proofs.lemmas.Int.{ints}
+use Rattle.std.proofs.lemmas.List.{get_or-map, get_or-append_right, get_or-drop, length-map, length-take-le, take_all}
+use Rattle.std.proofs.lemmas.List.Edits.{map_over_more}
 use Rattle.std.specs.List.{insert, remove}
 use Rattle.std.specs.Ordering.{int_eq}
 use Rattle.homeo_meaning.specs.Key.{definitions as meaning_definitions}
@@ -15,7 +17,7 @@ use Rattle.homeo_plan.specs.declared.forms.Term.{Term}
 use Rattle.homeo_plan.specs.Limit.{form_limit}
 use Rattle.homeo_linear.specs.inner.Key.{definitions}
 use Rattle.homeo_linear.specs.inner.Order.{BeginsBehind, IsPlace, begins_with}
-use Rattle.homeo_linear.specs.inner.Terms.{AreWithin, AreSmall, AreAddedUp, sum_limit, add_at}
+use Rattle.homeo_linear.specs.inner.Terms.{AreWithin, AreSmall, AllCount, AreAddedUp, sum_limit, add_at}
 use Rattle.homeo_linear.proofs.Orders.{before_is_other, before_is_one_way, before_total, Above, above_before, each_at, take_drop, begins_at, begins_past, place_end, place_after, place_below}
 use Rattle.homeo_linear.proofs.Widths.{abs_add}
 
@@ -382,6 +384,39 @@ scaled_none n out ts i x s l p q h =
 pub scaled_end : (n : ℤ) (out ts : List Term) (i : ℕ) → length ts ≤ i → out ≡ scaling_from n out (drop i ts)
 unfolding plan_definitions
 scaled_end n out ts i l = sym (ap (λ r. out ++ scale_terms n r) (drop_of_length-le ts l) ∙ append-nil out)
+
+-- ---- terms with their signs turned
+abbrev pub turned : Term → Term
+turned t = record { delta = t.delta; factor = negsuc 0 *ℤ t.factor }
+
+-- a term whose sign isn't turned yet
+pub left_at : (ts us : List Term) (i : ℕ) (x : Term) → i < length ts → us ≡ map turned (take i ts) ++ drop i ts → get_or us i x ≡ get_or ts i x
+left_at ts us i x l h =
+    let front : length (map turned (take i ts)) ≡ i = length-map (take i ts) turned ∙ length-take-le i ts (omega (arith, l)) in
+    let at : i + (i - i) ≡ i = omega arith in
+    ap (λ vs. get_or vs i x) h ∙ get_or-append_right (map turned (take i ts)) (drop i ts) i i x front (omega arith) ∙ get_or-drop i ts (i - i) x
+    ∙ ap (λ n. get_or ts n x) at
+
+pub turned_more :
+    (ts us : List Term) (i : ℕ) (x s : Term) → i < length ts → us ≡ map turned (take i ts) ++ drop i ts → x ≡ get_or us i x → s.delta ≡ x.delta →
+    s.factor ≡ negsuc 0 *ℤ x.factor → set us i s ≡ map turned (take (i + 1) ts) ++ drop (i + 1) ts
+turned_more ts us i x s l h p d f =
+    let is : s ≡ turned x = λ j. record { delta = d j; factor = f j } in
+    ap (set us i) is ∙ map_over_more turned ts us i x l h p
+
+still_counts : (f : ℤ) → int_eq f (pos 0) ≡ false → int_eq (negsuc 0 *ℤ f) (pos 0) ≡ false
+still_counts f h = grind (arith, ints, Decides-int_eq f (pos 0), Decides-int_eq (negsuc 0 *ℤ f) (pos 0))
+
+all_turned : (ts : List Term) → AllCount ts → map turned ts ≡ scale_terms (negsuc 0) ts
+unfolding definitions plan_definitions
+all_turned [] c = refl
+all_turned (t ∷ ts) c =
+    ap (λ l. turned t ∷ l) (all_turned ts c.1)
+    ∙ sym (ap (λ v. cond v (scale_terms (negsuc 0) ts) (turned t ∷ scale_terms (negsuc 0) ts)) (still_counts t.factor c.0))
+
+pub turned_end : (ts us : List Term) (i : ℕ) → length ts ≤ i → AllCount ts → us ≡ map turned (take i ts) ++ drop i ts → us ≡ scale_terms (negsuc 0) ts
+turned_end ts us i l c h =
+    h ∙ ap₂ (λ vs ws. map turned vs ++ ws) (take_all i ts l) (drop_of_length-le ts l) ∙ append-nil (map turned ts) ∙ all_turned ts c
 
 -- ---- terms that are added up already
 no_rest : (ts : List Term) → drop (length ts) ts ≡ []

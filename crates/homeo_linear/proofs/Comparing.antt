@@ -1,5 +1,7 @@
 -- Comparisons that are kept, and the numbers met in differences.
-use Rattle.std.proofs.Common.{◌≡◌, true, false, cond, List, [], ◌∷◌, ◌++◌, map, ℤ, pos, negsuc, int_lt, sym, ap, ap₂, ◌∙◌, subst, arith}
+use Rattle.std.proofs.Common.{◌≡◌, true, false, cond, List, [], ◌∷◌, ◌++◌, map, ℤ, pos, negsuc, int_lt, refl, sym, ap, ◌∙◌, subst, arith}
+use Rattle.std.proofs.Math.IntN.{+ℤ_idl}
+use Rattle.std.proofs.lemmas.List.{append_assoc, map_push}
 use Rattle.homeo_syntax.specs.declared.phrase.Compare.{Compare}
 use Rattle.homeo_syntax.specs.declared.phrase.Compare.TheVariants.{Equal}
 use Rattle.homeo_meaning.specs.Key.{definitions as meaning_definitions}
@@ -14,57 +16,49 @@ use Rattle.homeo_plan.specs.declared.forms.Atom.{Atom}
 use Rattle.homeo_plan.specs.Limit.{form_limit}
 use Rattle.homeo_linear.specs.inner.Kept.{AreApart, kept_comparison}
 
-bit_small : (n : ℤ) → IsSmall 1 n → IsSmall form_limit n
+pub one_small : IsSmall form_limit (pos 1)
 unfolding meaning_definitions
-bit_small n h = omega (arith, h)
+one_small = omega arith
 
-zero_bit : IsSmall 1 (pos 0)
-unfolding meaning_definitions
-zero_bit = omega arith
+pub apart_constant : (x y a : Linear) → a ≡ add_forms x (scale_form (negsuc 0) y) → AreApart x y → IsSmall form_limit a.constant
+apart_constant x y a p h = subst (λ (b : Linear). IsSmall form_limit b.constant) (sym p) h.apart.constant
 
-one_bit : IsSmall 1 (pos 1)
-unfolding meaning_definitions
-one_bit = omega arith
-
-number_small : (n : ℤ) (a : Linear) → IsSmall 1 n → a ≡ constant_form n → Numbers (IsSmall form_limit) a
+-- a difference to which nothing is added
+pub difference_alone : (x y a : Linear) → a ≡ add_forms x (scale_form (negsuc 0) y) → a ≡ difference x y (pos 0)
 unfolding plan_definitions
-number_small n a h e = subst (Numbers (IsSmall form_limit)) (sym e) (record { constant = bit_small n h; factors = tt })
-
-pub zero_small : (a : Linear) → a ≡ constant_form (pos 0) → Numbers (IsSmall form_limit) a
-zero_small a e = number_small (pos 0) a zero_bit e
-
-pub one_small : (a : Linear) → a ≡ constant_form (pos 1) → Numbers (IsSmall form_limit) a
-one_small a e = number_small (pos 1) a one_bit e
+difference_alone x y a p = alone a ∙ ap (add_forms (constant_form (pos 0))) p
+  where
+    alone : (b : Linear) → b ≡ add_forms (constant_form (pos 0)) b
+    alone b = λ i. record { constant = sym (+ℤ_idl b.constant) i; terms = b.terms; mixed = b.mixed }
 
 pub difference_is :
-    (x y a m d : Linear) (n : ℤ) → a ≡ add_forms x (scale_form (negsuc 0) y) → m ≡ constant_form n → d ≡ add_forms m a → d ≡ difference x y n
+    (x y a d : Linear) (n : ℤ) → a ≡ add_forms x (scale_form (negsuc 0) y) → d ≡ add_forms (constant_form n) a → d ≡ difference x y n
 unfolding plan_definitions
-difference_is x y a m d n p q r = r ∙ ap₂ add_forms q p
+difference_is x y a d n p q = q ∙ ap (add_forms (constant_form n)) p
 
 pub are_apart : (a b : Linear) → Numbers (IsSmall form_limit) a → Numbers (IsSmall form_limit) b → CanSubtract (IsSmall form_limit) a b → AreApart a b
 are_apart a b h k s = record { left = h; right = k; negated = s.negated; apart = s.apart }
 
 -- ---- the atoms of a comparison that holds, and of one that doesn't
-pub kept_true :
-    (op : Compare) (l r : Linear) (atoms : List Atom) (bs : List Linear) → map plain_atom atoms ≡ bs → true ≡ compared op l.constant r.constant →
-    bs ≡ true_comparison op l r → map plain_atom atoms ≡ kept_comparison op l r
-kept_true op l r atoms bs p h q =
-    p ∙ q ∙ ap (λ v. cond v (true_comparison op l r) (false_comparison op (int_lt l.constant r.constant) l r)) h
+pub kept_true : (op : Compare) (l r : Linear) → true ≡ compared op l.constant r.constant → true_comparison op l r ≡ kept_comparison op l r
+kept_true op l r h = ap (λ v. cond v (true_comparison op l r) (false_comparison op (int_lt l.constant r.constant) l r)) h
 
 pub kept_false :
-    (op : Compare) (l r : Linear) (atoms : List Atom) (bs : List Linear) → map plain_atom atoms ≡ bs → false ≡ compared op l.constant r.constant →
-    bs ≡ false_comparison op (int_lt l.constant r.constant) l r → map plain_atom atoms ≡ kept_comparison op l r
-kept_false op l r atoms bs p h q =
-    p ∙ q ∙ ap (λ v. cond v (true_comparison op l r) (false_comparison op (int_lt l.constant r.constant) l r)) h
+    (op : Compare) (l r : Linear) → false ≡ compared op l.constant r.constant → false_comparison op (int_lt l.constant r.constant) l r ≡ kept_comparison op l r
+kept_false op l r h = ap (λ v. cond v (true_comparison op l r) (false_comparison op (int_lt l.constant r.constant) l r)) h
 
-pub one_atom : (atoms : List Atom) (x : Atom) (a : Linear) → atoms ≡ x ∷ [] → plain_atom x ≡ a → map plain_atom atoms ≡ a ∷ []
-one_atom atoms x a p q = ap (map plain_atom) p ∙ ap (λ l. l ∷ []) q
+-- they stand behind others
+pub one_behind :
+    (old new : List Atom) (x : Atom) (a : Linear) (bs : List Linear) → new ≡ old ++ x ∷ [] → plain_atom x ≡ a → a ∷ [] ≡ bs → map plain_atom new ≡ map plain_atom old ++ bs
+one_behind old new x a bs p q r =
+    ap (map plain_atom) p ∙ map_push plain_atom old x ∙ ap (λ b. map plain_atom old ++ b ∷ []) q ∙ ap (λ l. map plain_atom old ++ l) r
 
-pub two_atoms :
-    (atoms all : List Atom) (x y : Atom) (a b : Linear) → atoms ≡ x ∷ [] → all ≡ atoms ++ y ∷ [] → plain_atom x ≡ a → plain_atom y ≡ b →
-    map plain_atom all ≡ a ∷ b ∷ []
-two_atoms atoms all x y a b p q r s =
-    ap (map plain_atom) (q ∙ ap (λ l. l ++ y ∷ []) p) ∙ ap₂ (λ l m. l ∷ m ∷ []) r s
+pub two_behind :
+    (old one new : List Atom) (x y : Atom) (a b : Linear) (bs : List Linear) → one ≡ old ++ x ∷ [] → new ≡ one ++ y ∷ [] → plain_atom x ≡ a → plain_atom y ≡ b →
+    a ∷ b ∷ [] ≡ bs → map plain_atom new ≡ map plain_atom old ++ bs
+two_behind old one new x y a b bs p q r s t =
+    one_behind one new y b (b ∷ []) q s refl ∙ ap (λ l. l ++ b ∷ []) (one_behind old one x a (a ∷ []) p r refl)
+    ∙ append_assoc (map plain_atom old) (a ∷ []) (b ∷ []) ∙ ap (λ l. map plain_atom old ++ l) t
 
 pub apart_less : (l r : Linear) → true ≡ int_lt l.constant r.constant → difference l r (pos 1) ∷ [] ≡ false_comparison Equal (int_lt l.constant r.constant) l r
 unfolding plan_definitions

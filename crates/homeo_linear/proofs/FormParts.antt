@@ -1,7 +1,8 @@
 -- Forms from their parts: a number, lists of terms and of mixed deltas in order.
-use Rattle.std.proofs.Common.{◌≡◌, ℕ, ◌==◌, suc, Bool, true, false, cond, ◌&&◌, List, [], ◌∷◌, ◌++◌, length, ℤ, pos, ◌+ℤ◌, ◌*ℤ◌, refl, sym, ap, ap₂, ◌∙◌, subst, arith}
+use Rattle.std.proofs.Common.{◌≡◌, ℕ, ◌==◌, suc, Bool, true, false, cond, ◌&&◌, List, [], ◌∷◌, ◌++◌, length, ℤ, pos, ◌+ℤ◌, ◌*ℤ◌, refl, sym, ap, ap₂, ◌∙◌, subst, true≢false, arith}
 use Rattle.std.proofs.Math.IntN.{+ℤ_idl}
 use Rattle.std.proofs.lemmas.Bool.Decides.{nat_tests}
+use Rattle.std.proofs.lemmas.Int.{ints}
 use Rattle.homeo_meaning.specs.Small.{IsSmall}
 use Rattle.homeo_plan.specs.Key.{definitions as plan_definitions}
 use Rattle.homeo_plan.specs.FormSizes.{Numbers}
@@ -9,7 +10,10 @@ use Rattle.homeo_plan.specs.Linear.{AreInOrder, Linear, deltas_of, add_deltas, a
 use Rattle.homeo_plan.specs.declared.forms.Delta.{Delta}
 use Rattle.homeo_plan.specs.declared.forms.Term.{Term}
 use Rattle.homeo_plan.specs.Limit.{form_limit}
+use Rattle.homeo_follow.specs.Key.{definitions as follow_definitions}
+use Rattle.homeo_follow.specs.Follow.{object_form}
 use Rattle.homeo_linear.specs.inner.Key.{definitions}
+use Rattle.homeo_linear.specs.inner.Moved.{IsMoved}
 use Rattle.homeo_linear.specs.inner.Terms.{AreSmall, AreAddedUp, term_form}
 use Rattle.homeo_linear.proofs.Orders.{in_order_adds}
 use Rattle.homeo_linear.proofs.Adding.{order_adds, order_scale}
@@ -118,6 +122,17 @@ pub number_more_is :
 unfolding plan_definitions
 number_more_is a m n z ts ds e c = same_form z (n +ℤ m) ts ts ds ds c refl refl ∙ ap (add_forms (constant_form n)) e
 
+swapped : (m n : ℤ) → n +ℤ m ≡ m +ℤ n
+swapped m n = omega (arith, ints)
+
+-- the number behind the form
+pub number_behind_is :
+    (a : Linear) (m n z : ℤ) (ts : List Term) (ds : List Delta) → form_of m ts ds ≡ a → z ≡ n +ℤ m → AreFormParts ts ds → form_of z ts ds ≡ add_forms a (constant_form n)
+unfolding plan_definitions
+number_behind_is a m n z ts ds e c o =
+    same_form z (m +ℤ n) ts (add_terms ts []) ds (add_deltas ds []) (c ∙ swapped m n) (terms_kept ts o.0.order o.0.counts) (deltas_kept ds o.1)
+    ∙ ap (λ b. add_forms b (constant_form n)) e
+
 pub term_more_is :
     (a : Linear) (m z : ℤ) (t : Term) (ts us : List Term) (ds : List Delta) → form_of m (add_terms ts []) ds ≡ a → z ≡ m → us ≡ ts ++ t ∷ [] →
     form_of z (add_terms us []) ds ≡ add_forms (term_form t) a
@@ -154,6 +169,19 @@ no_length (x ∷ xs) = one_more (length xs)
   where
     one_more : (n : ℕ) → (suc n == 0) ≡ false
     one_more n = grind (arith, nat_tests)
+
+no_items : {X : Type 0} (xs : List X) → true ≡ (length xs == 0) → xs ≡ []
+unfolding plan_definitions
+no_items [] h = refl
+no_items (x ∷ xs) h = absurd (true≢false (h ∙ no_length (x ∷ xs)))
+
+pub moved_is :
+    (a : Linear) (x : ℕ) (n : ℤ) (ts xs : List Term) (ds ys : List Delta) → form_of n ts ds ≡ a → xs ≡ ts → ys ≡ ds →
+    xs ≡ record { delta = record { object = x; site = 0 }; factor = pos 1 } ∷ [] → true ≡ (length ys == 0) → IsMoved x a
+unfolding plan_definitions follow_definitions
+moved_is a x n ts xs ds ys e p q h k =
+    sym e ∙ same_form n n ts (record { delta = record { object = x; site = 0 }; factor = pos 1 } ∷ []) ds [] refl (sym p ∙ h) (sym q ∙ no_items ys k)
+    ∙ ap (λ (b : Linear). object_form b.constant x) e
 
 pub pure_is :
     (a : Linear) (n : ℤ) (ts xs : List Term) (ds ys : List Delta) (v : Bool) → form_of n ts ds ≡ a → xs ≡ ts → ys ≡ ds → true ≡ (length xs == 0) →

@@ -2,7 +2,7 @@
 use Rattle.homeo_meaning.specs.Key.{definitions as meaning_definitions}
 use Rattle.homeo_plan.specs.Key.{definitions as plan_definitions}
 use Rattle.homeo_follow.specs.Key.{definitions as follow_definitions}
-use Rattle.std.proofs.Common.{◌≡◌, ℕ, ◌+◌, ◌*◌, ◌-◌, ◌<◌, ◌≤◌, Bool, ◌||◌, List, [], ◌∷◌, ◌++◌, map, drop, get_or, length, ℤ, negsuc, ◌*ℤ◌, refl, sym, ap, ap₂, ◌∙◌, add-one, arith}
+use Rattle.std.proofs.Common.{◌≡◌, ℕ, ◌+◌, ◌*◌, ◌-◌, ◌<◌, ◌≤◌, Bool, cond, ◌||◌, List, [], ◌∷◌, ◌++◌, map, drop, get_or, length, ℤ, pos, negsuc, ◌+ℤ◌, ◌*ℤ◌, refl, sym, ap, ◌∙◌, append-nil, add-one, arith}
 use Rattle.std.specs.List.{list_any}
 use Rattle.std.proofs.Math.Seq.{drop-cons}
 use Rattle.std.specs.Int.RustNames.{unsigned_abs}
@@ -12,11 +12,13 @@ use Rattle.homeo_meaning.specs.Small.{IsSmall}
 use Rattle.homeo_plan.specs.FormSizes.{Numbers}
 use Rattle.homeo_plan.specs.Limit.{form_limit}
 use Rattle.homeo_plan.specs.declared.forms.Delta.{Delta}
-use Rattle.homeo_plan.specs.Linear.{AreInOrder, Linear, Forms, add_delta, add_deltas, scale_form, support}
-use Rattle.homeo_follow.specs.Follow.{object_form, gain, print_needs, write_needs}
+use Rattle.homeo_plan.specs.declared.forms.Term.{Term}
+use Rattle.homeo_plan.specs.Linear.{AreInOrder, Linear, Forms, delta_before, deltas_of, with_term, add_term, add_delta, add_deltas, scale_form, support}
+use Rattle.homeo_follow.specs.Follow.{object_delta, object_form, gain, print_needs, write_needs}
 use Rattle.homeo_follow.proofs.Deltas.{any_add}
-use Rattle.homeo_linear.proofs.DeltasInOrder.{has, or_move, or_none, has_adds, same_deltas, adds_append}
+use Rattle.homeo_linear.proofs.DeltasInOrder.{has, or_move, or_none, has_adds, same_deltas, same_self, adds_append}
 use Rattle.homeo_linear.proofs.Orders.{in_order_adds}
+use Rattle.homeo_linear.specs.inner.Moved.{IsMoved}
 
 -- the objects that deltas stand for
 abbrev objects : List Delta → List ℕ
@@ -69,24 +71,35 @@ module _ (b : ℕ → ℤ) (f : Forms) where
       none (x ∷ xs) = none xs
 
   gains_more :
-      (ds es fs : List Delta) (n : ℕ) (x : Delta) (a : Linear) → n < length ds →
-      a ≡ gain (b (get_or ds n x).object) (get_or ds n x).object (f (BaseAt (get_or ds n x).object)) → fs ≡ es ++ support a →
+      (ds es fs : List Delta) (n : ℕ) (x : Delta) → n < length ds → fs ≡ es ++ gained (get_or ds n x).object →
       add_deltas es [] ≡ write_needs b f (objects (drop (n + 1) ds)) → add_deltas fs [] ≡ write_needs b f (objects (drop n ds))
   unfolding plan_definitions follow_definitions
-  gains_more ds es fs n x a h pa pf pe =
+  gains_more ds es fs n x h pf pe =
       let d : Delta = get_or ds n x in
       let next : drop n ds ≡ d ∷ drop (n + 1) ds = rw add-one (drop-cons ds n x h) in
-      ap (λ l. add_deltas l []) pf ∙ adds_append es (support a) [] ∙ ap₂ add_deltas (ap support pa) pe
+      ap (λ l. add_deltas l []) pf ∙ adds_append es (gained d.object) [] ∙ ap (add_deltas (gained d.object)) pe
       ∙ sym (ap (λ l. write_needs b f (objects l)) next)
 
   -- the last object that is left
   pub gains_place :
-      (ds es fs : List Delta) (p : ℕ) (x : Delta) (a : Linear) → 0 < p → p ≤ length ds →
-      a ≡ gain (b (get_or ds (p - 1) x).object) (get_or ds (p - 1) x).object (f (BaseAt (get_or ds (p - 1) x).object)) → fs ≡ es ++ support a →
+      (ds es fs : List Delta) (p : ℕ) (x : Delta) → 0 < p → p ≤ length ds → fs ≡ es ++ gained (get_or ds (p - 1) x).object →
       add_deltas es [] ≡ write_needs b f (objects (drop p ds)) → add_deltas fs [] ≡ write_needs b f (objects (drop (p - 1) ds))
-  gains_place ds es fs p x a m h pa pf pe =
+  gains_place ds es fs p x m h pf pe =
       let same : p - 1 + 1 ≡ p = omega (arith, m) in
-      gains_more ds es fs (p - 1) x a (omega (arith, m, h)) pa pf (pe ∙ ap (λ n. write_needs b f (objects (drop n ds))) (sym same))
+      gains_more ds es fs (p - 1) x (omega (arith, m, h)) pf (pe ∙ ap (λ n. write_needs b f (objects (drop n ds))) (sym same))
+
+-- ---- gains that are numbers
+moved_gain : (n : ℤ) (x : ℕ) (a : Linear) → IsMoved x a → support (gain n x a) ≡ []
+unfolding plan_definitions follow_definitions
+moved_gain n x a h =
+    let d : Delta = object_delta x in
+    let t : Term = record { delta = d; factor = pos 1 } in
+    ap (λ b. support (gain n x b)) h
+    ∙ ap (λ v. add_deltas (deltas_of (cond v (with_term d (negsuc 0 +ℤ pos 1) []) (cond (delta_before d d) (with_term d (negsuc 0) (t ∷ [])) (t ∷ add_term d (negsuc 0) [])))) [])
+    (same_self d)
+
+pub moved_pushed : (n : ℤ) (x : ℕ) (a : Linear) (ds : List Delta) → IsMoved x a → ds ≡ ds ++ support (gain n x a)
+moved_pushed n x a ds h = sym (ap (λ l. ds ++ l) (moved_gain n x a h) ∙ append-nil ds)
 
 -- ---- prints
 prints_push : (ps : List Linear) (p : Linear) (es : List Delta) → print_needs (ps ++ p ∷ []) es ≡ print_needs ps (add_deltas (support p) es)

@@ -1,6 +1,7 @@
 -- Conditions that are kept, one test after another.
-use Rattle.std.proofs.Common.{◌≡◌, ℕ, ◌+◌, ◌<◌, ◌≤◌, Bool, true, false, not, cond, ◌&&◌, List, [], ◌++◌, map, drop, get_or, length, ℤ, refl, sym, ap, ap₂, ◌∙◌, subst, true≢false, append-nil}
-use Rattle.std.proofs.lemmas.List.{append_assoc}
+use Rattle.std.proofs.Common.{◌≡◌, ℕ, ◌+◌, ◌<◌, ◌≤◌, Bool, true, false, not, cond, ◌&&◌, List, [], ◌++◌, map, take, drop, get_or, length, ℤ, refl, sym, ap, ap₂, ◌∙◌, subst, true≢false, append-nil, length-append, arith}
+use Rattle.std.proofs.Math.Seq.{take-append_seam, drop-append_seam}
+use Rattle.std.proofs.lemmas.List.{append_assoc, map-append, take-map, drop-map, length-map}
 use Rattle.homeo_syntax.specs.Key.{definitions as syntax_definitions}
 use Rattle.homeo_syntax.specs.declared.phrase.Compare.{Compare as Comparing}
 use Rattle.homeo_syntax.specs.Low as l
@@ -34,9 +35,6 @@ use Rattle.homeo_linear.proofs.Comparing.{are_apart}
 -- what keeps a condition whose first tests pass, and have these atoms
 abbrev pub kept_from : Forms → List Linear → l.Cond → List Linear
 kept_from fs ys c = cond (holds_by fs c) (ys ++ passed fs c) (failed fs c)
-
-pub kept_start : (fs : Forms) (ys : List Linear) (c : l.Cond) → ys ≡ [] → kept_from fs ys c ≡ kept_cond fs c
-kept_start fs ys c p = ap (λ xs. cond (holds_by fs c) (xs ++ passed fs c) (failed fs c)) p
 
 kept_more : (fs : Forms) (ys : List Linear) (t : l.Test) (c : l.Cond) → true ≡ passes_by fs t → kept_from fs (ys ++ kept_test fs t) c ≡ kept_from fs ys (l.MoreTest t c)
 unfolding definitions plan_definitions
@@ -120,19 +118,19 @@ module _ (fs : Forms) (t : LTest) where
   unfolding definitions
   true_passes p = sym (ap (λ x. passes_by fs (plain_ltest x)) p ∙ ap (λ x. passes_by fs x) low_True)
 
-  pub true_kept : (ys : List Linear) → t ≡ True → ys ≡ [] → ys ≡ kept_test fs (plain_ltest t)
+  pub true_kept : (ys : List Linear) → t ≡ True → ys ≡ ys ++ kept_test fs (plain_ltest t)
   unfolding definitions plan_definitions
-  true_kept ys p q = q ∙ sym (ap (λ x. kept_test fs (plain_ltest x)) p ∙ ap (kept_test fs) low_True)
+  true_kept ys p = sym (ap (λ x. ys ++ kept_test fs (plain_ltest x)) p ∙ ap (λ x. ys ++ kept_test fs x) low_True ∙ append-nil ys)
 
   pub not_passes : (c : LCond) (v : Bool) → t ≡ Not c → v ≡ holds_by fs (plain_lcond c) → not v ≡ passes_by fs (plain_ltest t)
   unfolding definitions
   not_passes c v p q =
       ap not q ∙ sym (ap (λ x. passes_by fs (plain_ltest x)) p ∙ ap (λ x. passes_by fs x) (low_Not c))
 
-  pub not_kept : (c : LCond) (ys : List Linear) → t ≡ Not c → ys ≡ kept_cond fs (plain_lcond c) → ys ≡ kept_test fs (plain_ltest t)
+  pub not_kept : (c : LCond) → t ≡ Not c → kept_cond fs (plain_lcond c) ≡ kept_test fs (plain_ltest t)
   unfolding definitions plan_definitions
-  not_kept c ys p q =
-      q ∙ swap (holds_by fs (plain_lcond c)) (passed fs (plain_lcond c)) (failed fs (plain_lcond c))
+  not_kept c p =
+      swap (holds_by fs (plain_lcond c)) (passed fs (plain_lcond c)) (failed fs (plain_lcond c))
       ∙ sym (ap (λ x. kept_test fs (plain_ltest x)) p ∙ ap (kept_test fs) (low_Not c))
     where
       swap : (v : Bool) (xs zs : List Linear) → cond v xs zs ≡ cond (not v) zs xs
@@ -160,39 +158,72 @@ module _ (fs : Forms) (t : LTest) where
 pub same_apart : {a a' b b' : Linear} → a ≡ a' → b ≡ b' → AreApart a' b' → AreApart a b
 same_apart {a} {a'} {b} {b'} p q h = subst (λ x. AreApart x b) (sym p) (subst (AreApart a') (sym q) h)
 
-is_false : (v : Bool) → not v ≡ true → v ≡ false
-is_false true n = sym n
-is_false false n = refl
-
-is_true : (v : Bool) → not v ≡ false → v ≡ true
-is_true true n = refl
-is_true false n = sym n
-
 -- ---- the next test fails, or passes
 pub test_fails :
-    {fs : Forms} {ts : List LTest} {i : ℕ} {t : LTest} {w : Bool} → TestStep fs ts i t → (v : Bool) → not v ≡ true → v ≡ passes_by fs (plain_ltest t) →
-    holds_by fs (low_tests (map plain_ltest (drop i ts))) ≡ w → v ≡ w
+    {fs : Forms} {ts : List LTest} {i : ℕ} {t : LTest} {w : Bool} → TestStep fs ts i t → (v : Bool) → v ≡ false → v ≡ passes_by fs (plain_ltest t) →
+    holds_by fs (low_tests (map plain_ltest (drop i ts))) ≡ w → false ≡ w
 test_fails {fs} {ts} {i} {t} {w} k v n q h =
-    let p = is_false v n in
     let rest = holds_by fs (low_tests (map plain_ltest (drop (i + 1) ts))) in
-    p ∙ ap (λ u. u && rest) (sym p ∙ q) ∙ sym k.holds ∙ h
-
-pub test_kept_out :
-    {fs : Forms} {ts : List LTest} {i : ℕ} {t : LTest} {zs out : List Linear} → TestStep fs ts i t → (v : Bool) (ys : List Linear) → not v ≡ true →
-    v ≡ passes_by fs (plain_ltest t) → out ≡ kept_test fs (plain_ltest t) → kept_from fs ys (low_tests (map plain_ltest (drop i ts))) ≡ zs → out ≡ zs
-test_kept_out {fs} {ts} {i} {t} {zs} {out} k v ys n q o h = o ∙ k.fail ys (sym (is_false v n) ∙ q) ∙ h
+    ap (λ u. u && rest) (sym n ∙ q) ∙ sym k.holds ∙ h
 
 pub test_passes :
-    {fs : Forms} {ts : List LTest} {i : ℕ} {t : LTest} {more new : List Linear} → TestStep fs ts i t → (v : Bool) (ys : List Linear) → not v ≡ false →
-    v ≡ passes_by fs (plain_ltest t) → more ≡ kept_test fs (plain_ltest t) → new ≡ ys ++ more →
-    (holds_by fs (low_tests (map plain_ltest (drop (i + 1) ts))) ≡ holds_by fs (low_tests (map plain_ltest (drop i ts))))
-    × (kept_from fs new (low_tests (map plain_ltest (drop (i + 1) ts))) ≡ kept_from fs ys (low_tests (map plain_ltest (drop i ts))))
-test_passes {fs} {ts} {i} {t} {more} {new} k v ys n q o h =
-    let p = is_true v n in
-    let rest = low_tests (map plain_ltest (drop (i + 1) ts)) in (
-      sym (k.holds ∙ ap (λ u. u && holds_by fs rest) (sym q ∙ p)),
-      ap (λ l. kept_from fs l rest) (h ∙ ap (λ l. ys ++ l) o) ∙ k.pass ys (sym p ∙ q),
-    )
+    {fs : Forms} {ts : List LTest} {i : ℕ} {t : LTest} → TestStep fs ts i t → (v : Bool) → v ≡ true → v ≡ passes_by fs (plain_ltest t) →
+    holds_by fs (low_tests (map plain_ltest (drop (i + 1) ts))) ≡ holds_by fs (low_tests (map plain_ltest (drop i ts)))
+test_passes {fs} {ts} {i} {t} k v n q =
+    let rest = holds_by fs (low_tests (map plain_ltest (drop (i + 1) ts))) in
+    sym (k.holds ∙ ap (λ u. u && rest) (sym q ∙ n))
+
+-- ---- atoms behind others
+-- the first tests of a condition pass, and their atoms stand behind others: they and what keeps the tests that are left keep it
+pub record PassedSoFar (fs : Forms) (xs ys : List Linear) (left whole : l.Cond) : Type 0 where
+  pub own : List Linear
+  pub behind : ys ≡ xs ++ own
+  pub kept : kept_from fs own left ≡ kept_cond fs whole
+
+pub none_passed : (fs : Forms) (xs : List Linear) (c : l.Cond) → PassedSoFar fs xs xs c c
+none_passed fs xs c = record { own = []; behind = sym (append-nil xs); kept = refl }
+
+pub one_more_passed :
+    {fs : Forms} {ts : List LTest} {i : ℕ} {t : LTest} {xs ys zs : List Linear} {whole : l.Cond} → TestStep fs ts i t → (v : Bool) → v ≡ true →
+    v ≡ passes_by fs (plain_ltest t) → zs ≡ ys ++ kept_test fs (plain_ltest t) → PassedSoFar fs xs ys (low_tests (map plain_ltest (drop i ts))) whole →
+    PassedSoFar fs xs zs (low_tests (map plain_ltest (drop (i + 1) ts))) whole
+one_more_passed {fs} {ts} {i} {t} {xs} {ys} {zs} {whole} k v n q h s =
+    let more = kept_test fs (plain_ltest t) in
+    record {
+      own = s.own ++ more;
+      behind = h ∙ ap (λ l. l ++ more) s.behind ∙ append_assoc xs s.own more;
+      kept = k.pass s.own (sym n ∙ q) ∙ s.kept;
+    }
+
+pub all_passed :
+    {fs : Forms} {xs ys : List Linear} {whole : l.Cond} (ts : List LTest) (i : ℕ) → length ts ≤ i →
+    PassedSoFar fs xs ys (low_tests (map plain_ltest (drop i ts))) whole → ys ≡ xs ++ kept_cond fs whole
+all_passed {fs} {xs} ts i h s = s.behind ∙ ap (λ l. xs ++ l) (tests_kept fs s.own ts i h ∙ s.kept)
+
+-- where the others end
+pub others_within :
+    {fs : Forms} {left whole : l.Cond} (others before : List Atom) → PassedSoFar fs (map plain_atom others) (map plain_atom before) left whole →
+    length others ≤ length before
+others_within others before s =
+    let same : length (map plain_atom before) ≡ length (map plain_atom others) + length s.own = ap length s.behind ∙ length-append (map plain_atom others) s.own in
+    omega (arith, same, length-map others plain_atom, length-map before plain_atom)
+
+-- of the atoms of a condition that fails those of the test that fails stay
+pub failed_stays :
+    {fs : Forms} {ts : List LTest} {i : ℕ} {t : LTest} {whole : l.Cond} (others before after out : List Atom) (m n : ℕ) → TestStep fs ts i t → (v : Bool) →
+    v ≡ false → v ≡ passes_by fs (plain_ltest t) → map plain_atom after ≡ map plain_atom before ++ kept_test fs (plain_ltest t) →
+    PassedSoFar fs (map plain_atom others) (map plain_atom before) (low_tests (map plain_ltest (drop i ts))) whole → m ≡ length others → n ≡ length before →
+    out ≡ take m after ++ drop n after → map plain_atom out ≡ map plain_atom others ++ kept_cond fs whole
+failed_stays {fs} {ts} {i} {t} {whole} others before after out m n k v w q h s pm pn e =
+    let xs = map plain_atom others in
+    let ys = map plain_atom before in
+    let more = kept_test fs (plain_ltest t) in
+    let front : take m (map plain_atom after) ≡ xs =
+    ap₂ take (pm ∙ sym (length-map others plain_atom)) (h ∙ ap (λ l. l ++ more) s.behind ∙ append_assoc xs s.own more) ∙ take-append_seam xs (s.own ++ more) in
+    let back : drop n (map plain_atom after) ≡ more = ap₂ drop (pn ∙ sym (length-map before plain_atom)) h ∙ drop-append_seam ys more in
+    ap (map plain_atom) e ∙ map-append plain_atom (take m after) (drop n after)
+    ∙ ap₂ ◌++◌ (sym (take-map plain_atom m after) ∙ front) (sym (drop-map plain_atom n after) ∙ back)
+    ∙ ap (λ l. xs ++ l) (k.fail s.own (sym w ∙ q) ∙ s.kept)
 
 -- ---- at a base
 pub atoms_at_base : (db xs : List ℤ) (fs : Forms) (c : l.Cond) → xs ≡ db → fs ≡ base_forms (values_of xs) → holds c (whole (values_of db)) ≡ true → kept_cond fs c ≡ true_cond (values_of db) c
@@ -201,6 +232,10 @@ atoms_at_base db xs fs c p e h =
     let at : fs ≡ base_forms b = e ∙ ap (λ l. base_forms (values_of l)) p in
     let held : holds_by (base_forms b) c ≡ true = sym (holds_at_base b c) ∙ h in
     ap (λ f. kept_cond f c) at ∙ ap (λ v. cond v (passed (base_forms b) c) (failed (base_forms b) c)) held ∙ sym (passed_is b c)
+
+-- atoms that stand behind none
+pub alone : (old new : List Atom) (fs : List Linear) → old ≡ [] → map plain_atom new ≡ map plain_atom old ++ fs → map plain_atom new ≡ fs
+alone old new fs p h = h ∙ ap (λ l. map plain_atom l ++ fs) p
 
 -- what the atoms of a whole formula mean
 pub atoms_mean :

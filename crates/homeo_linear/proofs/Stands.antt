@@ -1,14 +1,17 @@
 -- What a map of places gives for each location.
-use Rattle.std.proofs.Common.{◌≡◌, ℕ, Bool, true, false, cond, Option, Some, None, ℤ, pos, negsuc, refl, sym, ap, ◌∙◌, subst}
+use Rattle.std.proofs.Common.{◌≡◌, ℕ, Bool, true, false, cond, Option, Some, None, ℤ, pos, negsuc, ◌+ℤ◌, ◌*ℤ◌, refl, sym, ap, ◌∙◌, subst}
+use Rattle.std.proofs.Math.IntN.{+ℤ_idl}
 use Rattle.std.specs.HashMap.{HashMap, get, get_by}
 use Rattle.std.specs.Option.{unwrap_or}
 use Rattle.homeo_meaning.specs.Key.{definitions as meaning_definitions}
 use Rattle.homeo_meaning.specs.LowMeaning.{same_location, put}
 use Rattle.homeo_plan.specs.Key.{definitions as plan_definitions}
-use Rattle.homeo_plan.specs.Linear.{Linear, Forms, base_forms, scale_form}
+use Rattle.homeo_plan.specs.Linear.{Linear, Forms, add_term, constant_form, add_forms, scale_form, base_forms}
+use Rattle.homeo_follow.specs.Key.{definitions as follow_definitions}
+use Rattle.homeo_follow.specs.Follow.{object_forms}
 use Rattle.homeo_split.specs.contracts.places.PlacePartialEq.TheImpl.{ghosts}
 use Rattle.homeo_split.specs.declared.places.Place.{Place}
-use Rattle.homeo_split.specs.declared.places.Place.TheVariants.{Delta}
+use Rattle.homeo_split.specs.declared.places.Place.TheVariants.{Base, Delta}
 use Rattle.homeo_linear.specs.inner.Key.{definitions}
 use Rattle.homeo_split.specs.Places.{plain_place}
 use Rattle.homeo_split.proofs.SamePlaces.{is_at, at_each_place, same-places}
@@ -52,3 +55,21 @@ pub base_negated :
     term_form (record { delta = record { object = x; site = j }; factor = negsuc 0 }) ≡ scale_form (negsuc 0) (base_forms b (plain_place p))
 unfolding plan_definitions definitions
 base_negated b p x j e = sym (ap (λ q. scale_form (negsuc 0) (base_forms b (plain_place q))) e)
+
+-- ---- an object that is whole, put into a sum as its base and its delta
+pub object_added :
+    (b : ℕ → ℤ) (p : Place) (x : ℕ) (a : Linear) → p ≡ Base x →
+    add_forms (term_form (record { delta = record { object = x; site = 0 }; factor = pos 1 })) (add_forms (constant_form (b x)) a) ≡ add_forms (object_forms b (plain_place p)) a
+unfolding plan_definitions follow_definitions definitions
+object_added b p x a e =
+    (λ i. record { constant = +ℤ_idl (b x +ℤ a.constant) i; terms = add_term (record { object = x; site = 0 }) (pos 1) a.terms; mixed = a.mixed })
+    ∙ sym (ap (λ q. add_forms (object_forms b (plain_place q)) a) e)
+
+pub object_taken :
+    (b : ℕ → ℤ) (p : Place) (x : ℕ) (a : Linear) → p ≡ Base x →
+    add_forms (term_form (record { delta = record { object = x; site = 0 }; factor = negsuc 0 })) (add_forms (constant_form (negsuc 0 *ℤ b x)) a)
+    ≡ add_forms (scale_form (negsuc 0) (object_forms b (plain_place p))) a
+unfolding plan_definitions follow_definitions definitions
+object_taken b p x a e =
+    (λ i. record { constant = +ℤ_idl ((negsuc 0 *ℤ b x) +ℤ a.constant) i; terms = add_term (record { object = x; site = 0 }) (negsuc 0) a.terms; mixed = a.mixed })
+    ∙ sym (ap (λ q. add_forms (scale_form (negsuc 0) (object_forms b (plain_place q))) a) e)

@@ -16,7 +16,7 @@ ghost use Rattle.homeo_linear.specs.Standing.{forms_of};
 ghost use Rattle.homeo_linear.specs.inner.Course.{followed_so};
 ghost use Rattle.homeo_linear.specs.inner.Kept.{kept_cond};
 
-use crate::conditions::{condition, push_all};
+use crate::conditions::condition;
 use crate::deltas::in_order;
 use crate::expressions::form;
 use crate::form::Form;
@@ -68,10 +68,7 @@ impl<'a> Course<'a> {
         ensures asked { OnOk result (followed_so self.new ≡ and_then (followed_so self.old)
             (asked (kept_cond (forms_of self.old.standing) (plain_lcond test.now)) (nothing (forms_of self.old.standing)))) }
     {
-        let kept = condition(alloc, &self.standing, test)?;
-        let holds = kept.holds;
-        push_all(&mut self.atoms, kept.atoms)?;
-        Ok(holds)
+        condition(alloc, &self.standing, test, &mut self.atoms)
     }
 
     fn assign(&mut self, alloc: Global, target: Temp, value: &LExpr) -> Result<(), Memory>
@@ -232,10 +229,29 @@ fn gained(
     let mut place = written.len();
     while place > 0 {
         place -= 1;
-        let gain = gain(alloc, base, standing, written[place].object)?;
-        push_support(alloc, &mut needed, &gain)?;
+        push_gain(alloc, base, standing, written[place].object, &mut needed)?;
     }
     Ok(needed)
+}
+
+/// Puts what the gain of an object depends on behind the others: nothing, where it is a number.
+fn push_gain(
+    alloc: Global,
+    base: &[i64],
+    standing: &Standing,
+    object: u32,
+    deltas: &mut Vec<Delta>,
+) -> Result<(), Memory>
+    requires left { Numbers (IsSmall form_limit) (forms_of standing.now (BaseAt object)) }
+    requires base { IsSmall form_limit (values_of base.now object) }
+    ensures { OnOk result (deltas.new.items ≡
+        deltas.old.items ++ support (gain (values_of base.now object) object (forms_of standing.now (BaseAt object)))) }
+{
+    if standing.is_moved(object) {
+        return Ok(());
+    }
+    let gain = gain(alloc, base, standing, object)?;
+    push_support(alloc, deltas, &gain)
 }
 
 /// What an object gains where the form that stands for it is written to it.

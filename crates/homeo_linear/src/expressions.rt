@@ -45,6 +45,7 @@ fn sum(alloc: Global, standing: &Standing, es: &[LExpr]) -> Result<Form, Memory>
         total = match item_of(e) {
             Item::Read(place) => standing.add_at(alloc, place, total)?,
             Item::Negated(place) => standing.subtract_at(alloc, place, total)?,
+            Item::Number(n) => total.plus_number(n),
             Item::Other => {
                 let part = form(alloc, standing, e)?;
                 total.plus(alloc, &part)?

@@ -1,12 +1,13 @@
 //! Linear forms, their sums and products.
 
-ghost use Rattle.std.specs.Prelude.{◌≡◌, ◌↔◌, IsTrue, pos, IfOk};
+ghost use Rattle.std.specs.Prelude.{◌≡◌, ◌↔◌, IsTrue, pos, negsuc, IfOk};
 ghost use Rattle.homeo_meaning.specs.Small.{IsSmall};
 ghost use Rattle.homeo_plan.specs.FormSizes.{Numbers};
 ghost use Rattle.homeo_plan.specs.Linear.{AreInOrder, constant_form, delta_form, add_forms, scale_form, multiply_forms, mix_forms, is_pure, support};
 ghost use Rattle.homeo_plan.specs.PlanView.{plain_linear};
 ghost use Rattle.homeo_plan.specs.Limit.{form_limit};
 ghost use Rattle.homeo_follow.specs.Follow.{object_form};
+ghost use Rattle.homeo_linear.specs.inner.Moved.{IsMoved};
 ghost use Rattle.homeo_linear.specs.inner.Terms.{term_form, beside};
 
 mod running;
@@ -22,6 +23,9 @@ use std::marker::Model;
 
 /// The least room of a sum.
 const LEAST_ROOM: usize = 1024;
+
+/// How many terms a sum has room for at first: its form keeps that room, though most of its items may be numbers.
+const FIRST_ROOM: usize = 16;
 
 /// A linear form in the making: the constant and the terms added up. The terms and the mixed deltas are in order, each
 /// delta once, and no factor is 0.
@@ -123,14 +127,43 @@ impl Form {
     }
 
     /// The form with a number added to its constant.
-    fn plus_number(self, n: i128) -> Form
+    pub(crate) fn plus_number(self, n: i128) -> Form
         requires small { IsSmall form_limit self.constant }
         requires number_small { IsSmall form_limit n }
-        ensures { result ≡ add_forms (constant_form n) self }
+        ensures first { result ≡ add_forms (constant_form n) self }
+        ensures last { result ≡ add_forms self (constant_form n) }
     {
         Form {
             constant: added(n, self.constant),
             terms: self.terms,
+            mixed: self.mixed,
+        }
+    }
+
+    /// The difference to another form.
+    pub(crate) fn minus(self, alloc: Global, other: Form) -> Result<Form, Memory>
+        requires small { Numbers (IsSmall form_limit) self }
+        requires other_small { Numbers (IsSmall form_limit) other }
+        requires negated_small { Numbers (IsSmall form_limit) (scale_form (negsuc 0) other) }
+        ensures { IfOk result (λ f. f ≡ add_forms self (scale_form (negsuc 0) other)) }
+    {
+        let less = other.negated();
+        if less.is_number() {
+            return Ok(self.plus_number(less.constant()));
+        }
+        less.plus(alloc, &self)
+    }
+
+    /// The form with its sign turned.
+    fn negated(self) -> Form
+        requires small { Numbers (IsSmall form_limit) self }
+        ensures { result ≡ scale_form (negsuc 0) self }
+    {
+        let mut terms = self.terms;
+        terms::negate(&mut terms);
+        Form {
+            constant: multiplied(-1, self.constant),
+            terms,
             mixed: self.mixed,
         }
     }
@@ -186,6 +219,14 @@ impl Form {
         ensures { result ≡ is_pure self.now }
     {
         self.terms.as_slice().is_empty() && self.mixed.as_slice().is_empty()
+    }
+
+    /// Whether the form is that of the object with some base.
+    pub(crate) fn is_moved(&self, object: u32) -> bool
+        ensures { IsTrue result → IsMoved object self.now }
+    {
+        terms::is_delta(self.terms.as_slice(), Delta { object, site: 0 })
+            && self.mixed.as_slice().is_empty()
     }
 
     /// Whether neither the constant nor a factor is above 4 * 10^18 in size.
@@ -252,13 +293,13 @@ impl Model for Total {
 }
 
 impl Total {
-    /// The sum of no forms, with room for terms.
+    /// The sum of no forms, with room for terms, or for the first of many.
     pub(crate) fn with_room(alloc: Global, terms: usize) -> Result<Total, Memory>
         ensures { IfOk result (λ t. t ≡ constant_form (pos 0)) }
     {
         Ok(Total {
             constant: 0,
-            terms: Vec::with_capacity(alloc, terms)?,
+            terms: Vec::with_capacity(alloc, terms.min(FIRST_ROOM))?,
             mixed: Vec::new(alloc),
             room: LEAST_ROOM,
         })

@@ -42,8 +42,9 @@ pub fn atoms(alloc: Global, formula: &LCond, base: &Database) -> Result<AtomSet,
         Each (AtomHolds s) (plain_atoms a) → holds (plain_lcond formula.now) s ≡ true) }
 {
     let standing = Standing::new(alloc, base.as_slice());
-    let kept = condition(alloc, &standing, formula)?;
+    let mut atoms = Vec::new(alloc);
+    condition(alloc, &standing, formula, &mut atoms)?;
     Ok(AtomSet {
-        atoms: List::from_vec(kept.atoms),
+        atoms: List::from_vec(atoms),
     })
 }

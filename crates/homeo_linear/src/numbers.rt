@@ -1,6 +1,6 @@
 //! Sums and products of the numbers of forms.
 
-ghost use Rattle.std.specs.Prelude.{◌≡◌, ◌↔◌, IsTrue, ◌+ℤ◌, ◌*ℤ◌};
+ghost use Rattle.std.specs.Prelude.{◌≡◌, ◌↔◌, IsTrue, negsuc, ◌+ℤ◌, ◌*ℤ◌};
 ghost use Rattle.homeo_meaning.specs.Small.{IsSmall};
 ghost use Rattle.homeo_plan.specs.Each.{Each};
 ghost use Rattle.homeo_plan.specs.Limit.{form_limit};
@@ -30,6 +30,13 @@ pub(crate) fn widened(n: i64) -> i128
     ensures { result ≡ n }
 {
     n as i128
+}
+
+/// The same with its sign turned.
+pub(crate) fn negative(n: i64) -> i128
+    ensures { result ≡ negsuc 0 *ℤ n }
+{
+    -(n as i128)
 }
 
 /// Whether a number is at most 4 * 10^18 in size.

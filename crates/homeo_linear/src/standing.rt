@@ -1,7 +1,7 @@
 //! The forms of what stands at each place.
 
-ghost use Rattle.std.specs.Prelude.{◌≡◌, negsuc, IfOk, OnOk};
-ghost use Rattle.homeo_meaning.specs.LowMeaning.{put};
+ghost use Rattle.std.specs.Prelude.{◌≡◌, negsuc, IsTrue, IfOk, OnOk};
+ghost use Rattle.homeo_meaning.specs.LowMeaning.{BaseAt, put};
 ghost use Rattle.homeo_meaning.specs.Serial.{values_of};
 ghost use Rattle.homeo_meaning.specs.Small.{IsSmall};
 ghost use Rattle.homeo_plan.specs.FormSizes.{Numbers};
@@ -10,6 +10,7 @@ ghost use Rattle.homeo_plan.specs.Linear.{base_forms, add_forms, scale_form};
 ghost use Rattle.homeo_split.specs.Places.{plain_place};
 ghost use Rattle.homeo_follow.specs.Follow.{object_forms};
 ghost use Rattle.homeo_linear.specs.Standing.{first_forms, forms_of};
+ghost use Rattle.homeo_linear.specs.inner.Moved.{IsMoved};
 
 use crate::form::{Form, Total};
 use crate::numbers::multiplied;
@@ -78,6 +79,16 @@ impl<'a> Standing<'a> {
         }
     }
 
+    /// Whether the form that was set for an object is that of the object with some base.
+    pub(crate) fn is_moved(&self, object: u32) -> bool
+        ensures { IsTrue result → IsMoved object (forms_of self.now (BaseAt object)) }
+    {
+        match self.set.get(&Place::Base(object)) {
+            Some(form) => form.is_moved(object),
+            None => false,
+        }
+    }
+
     /// The form at a place put into a sum.
     pub(crate) fn add_at(&self, alloc: Global, place: Place, total: Total) -> Result<Total, Memory>
         requires small { Numbers (IsSmall form_limit) total }
@@ -86,7 +97,7 @@ impl<'a> Standing<'a> {
     {
         match self.set.get(&place) {
             Some(form) => total.plus(alloc, form),
-            None => self.add_first(alloc, place, total),
+            None => self.add_first(place, total),
         }
     }
 
@@ -107,7 +118,7 @@ impl<'a> Standing<'a> {
                 let negated = form.times(alloc, -1)?;
                 total.plus(alloc, &negated)
             }
-            None => self.subtract_first(alloc, place, total),
+            None => self.subtract_first(place, total),
         }
     }
 
@@ -123,30 +134,27 @@ impl<'a> Standing<'a> {
     }
 
     /// That form put into a sum.
-    fn add_first(&self, alloc: Global, place: Place, total: Total) -> Result<Total, Memory>
+    fn add_first(&self, place: Place, total: Total) -> Result<Total, Memory>
         requires small { Numbers (IsSmall form_limit) total }
         requires place_small { Numbers (IsSmall form_limit) (first_forms self.now.are_whole (values_of self.now.base.now) (plain_place place)) }
         ensures { IfOk result (λ f. f ≡ add_forms (first_forms self.now.are_whole (values_of self.now.base.now) (plain_place place)) total) }
     {
         if self.are_whole {
-            let form = object_form(alloc, self.base, place)?;
-            total.plus(alloc, &form)
+            add_object(self.base, place, total)
         } else {
             add_base(self.base, place, total)
         }
     }
 
     /// Its negative put into a sum.
-    fn subtract_first(&self, alloc: Global, place: Place, total: Total) -> Result<Total, Memory>
+    fn subtract_first(&self, place: Place, total: Total) -> Result<Total, Memory>
         requires small { Numbers (IsSmall form_limit) total }
         requires place_small { Numbers (IsSmall form_limit) (first_forms self.now.are_whole (values_of self.now.base.now) (plain_place place)) }
         requires negated_small { Numbers (IsSmall form_limit) (scale_form (negsuc 0) (first_forms self.now.are_whole (values_of self.now.base.now) (plain_place place))) }
         ensures { IfOk result (λ f. f ≡ add_forms (scale_form (negsuc 0) (first_forms self.now.are_whole (values_of self.now.base.now) (plain_place place))) total) }
     {
         if self.are_whole {
-            let form = object_form(alloc, self.base, place)?;
-            let negated = form.times(alloc, -1)?;
-            total.plus(alloc, &negated)
+            subtract_object(self.base, place, total)
         } else {
             subtract_base(self.base, place, total)
         }
@@ -163,6 +171,47 @@ fn object_form(alloc: Global, base: &[i64], place: Place) -> Result<Form, Memory
         Place::Base(object) => {
             let value = item_or(base, object as usize, 0);
             Form::object(alloc, value, object)
+        }
+    }
+}
+
+/// That form put into a sum.
+#[tactic(auto, unfolding(homeo_plan::specs::Key::definitions, homeo_follow::specs::Key::definitions))]
+fn add_object(base: &[i64], place: Place, total: Total) -> Result<Total, Memory>
+    requires small { Numbers (IsSmall form_limit) total }
+    requires place_small { Numbers (IsSmall form_limit) (object_forms (values_of base.now) (plain_place place)) }
+    ensures { IfOk result (λ f. f ≡ add_forms (object_forms (values_of base.now) (plain_place place)) total) }
+{
+    match place {
+        Place::Named(_) | Place::Fresh(_) | Place::Delta { .. } => Ok(total),
+        Place::Base(object) => {
+            let value = item_or(base, object as usize, 0);
+            total.plus_number(value as i128).plus_term(Term {
+                delta: Delta { object, site: 0 },
+                factor: 1,
+            })
+        }
+    }
+}
+
+/// Its negative put into a sum.
+#[tactic(auto, unfolding(homeo_plan::specs::Key::definitions, homeo_follow::specs::Key::definitions))]
+fn subtract_object(base: &[i64], place: Place, total: Total) -> Result<Total, Memory>
+    requires small { Numbers (IsSmall form_limit) total }
+    requires place_small { Numbers (IsSmall form_limit) (object_forms (values_of base.now) (plain_place place)) }
+    requires negated_small { Numbers (IsSmall form_limit) (scale_form (negsuc 0) (object_forms (values_of base.now) (plain_place place))) }
+    ensures { IfOk result (λ f. f ≡ add_forms (scale_form (negsuc 0) (object_forms (values_of base.now) (plain_place place))) total) }
+{
+    match place {
+        Place::Named(_) | Place::Fresh(_) | Place::Delta { .. } => Ok(total),
+        Place::Base(object) => {
+            let value = item_or(base, object as usize, 0);
+            total
+                .plus_number(multiplied(-1, value as i128))
+                .plus_term(Term {
+                    delta: Delta { object, site: 0 },
+                    factor: -1,
+                })
         }
     }
 }

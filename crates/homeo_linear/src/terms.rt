@@ -1,12 +1,12 @@
 //! Terms in the order of their deltas, each delta once.
 
-ghost use Rattle.std.specs.Prelude.{◌≡◌, ◌<◌, ◌+◌, ◌+ℤ◌, ◌*ℤ◌, pos, not, length, drop, [], IsTrue, IfOk, OnOk};
+ghost use Rattle.std.specs.Prelude.{◌≡◌, ◌<◌, ◌+◌, ◌+ℤ◌, ◌*ℤ◌, pos, negsuc, not, length, drop, [], ◌∷◌, IsTrue, IfOk, OnOk};
 ghost use Rattle.std.specs.Ordering.{int_eq};
 ghost use Rattle.homeo_meaning.specs.Small.{IsSmall};
 ghost use Rattle.homeo_plan.specs.Linear.{AreInOrder, same_delta, deltas_of, add_term, add_terms, scale_terms};
 ghost use Rattle.homeo_plan.specs.Limit.{form_limit};
 ghost use Rattle.homeo_linear.specs.inner.Order.{IsPlace, begins_with};
-ghost use Rattle.homeo_linear.specs.inner.Terms.{AreWithin, AreSmall, AreAddedUp, sum_limit, add_at, share, factor_at};
+ghost use Rattle.homeo_linear.specs.inner.Terms.{AreWithin, AreSmall, AllCount, AreAddedUp, sum_limit, add_at, share, factor_at};
 
 use crate::deltas::is_before;
 use crate::numbers::{added, multiplied};
@@ -55,6 +55,20 @@ fn share(term: &Term, delta: Delta) -> i128
     ensures { result ≡ share delta term.now.delta term.now.factor }
 {
     if is_of(term, delta) { term.factor } else { 0 }
+}
+
+/// Whether the delta by itself is the one term.
+pub(crate) fn is_delta(terms: &[Term], delta: Delta) -> bool
+    ensures { IsTrue result → terms.now ≡ record { delta = delta; factor = pos 1 } ∷ [] }
+{
+    terms.len() == 1 && is_once(&terms[0], delta)
+}
+
+/// Whether the term is the delta by itself.
+fn is_once(term: &Term, delta: Delta) -> bool
+    ensures { IsTrue result → term.now ≡ record { delta = delta; factor = pos 1 } }
+{
+    is_of(term, delta) && term.factor == 1
 }
 
 /// Whether the term at a place is one of the delta.
@@ -204,4 +218,15 @@ pub(crate) fn scaled(alloc: Global, factor: i128, terms: &[Term]) -> Result<Vec<
         }
     }
     Ok(scaled)
+}
+
+/// Turns the signs of terms whose factors aren't 0.
+pub(crate) fn negate(terms: &mut Vec<Term>)
+    requires small { AreSmall terms.old.items }
+    requires counts { AllCount terms.old.items }
+    ensures { terms.new.items ≡ scale_terms (negsuc 0) terms.old.items }
+{
+    for place in 0..terms.len() {
+        terms[place] = times(&terms[place], -1);
+    }
 }

@@ -1,4 +1,4 @@
--- The tests so far pass. What keeps those, and what keeps the tests that are left, keep all of them.
+-- The tests so far pass, and their atoms stand behind those that were there.
 use Rattle.std.proofs.Common.{◌≡◌, map, drop}
 use Rattle.homeo_syntax.specs.LowView.{low_tests, plain_ltest}
 use Rattle.homeo_meaning.specs.Small.{IsSmall}
@@ -6,9 +6,8 @@ use Rattle.homeo_plan.specs.FormSizes.{CanCond}
 use Rattle.homeo_plan.specs.PlanView.{plain_atom}
 use Rattle.homeo_plan.specs.Limit.{form_limit}
 use Rattle.homeo_follow.specs.Follow.{holds_by}
-use Rattle.homeo_linear.specs.inner.Kept.{kept_cond}
 use Rattle.homeo_linear.specs.Standing.{forms_of}
-use Rattle.homeo_linear.proofs.Keeping.{kept_from}
+use Rattle.homeo_linear.proofs.Keeping.{PassedSoFar}
 use Rattle.homeo_linear.proofs.conditions.+conditions.Given as goal
 
 abbrev pub invariant-tests-loop-t : goal.invariant-tests-loop-t
@@ -19,5 +18,5 @@ invariant-tests-loop-t l =
     record {
       small : CanCond (IsSmall form_limit) fs rest;
       holds : holds_by fs rest ≡ holds_by fs all;
-      atoms : kept_from fs (map plain_atom l.atoms.items) rest ≡ kept_cond fs all;
+      atoms : PassedSoFar fs (map plain_atom l.initial.atoms.items) (map plain_atom l.atoms.items) rest all;
     }

@@ -13,16 +13,16 @@ loop-place-init c = record {
   needed = gains_end (values_of c.args.base.now) (forms_of c.args.standing.now) c.args.written.now c.new-needed.result.items c.new-needed.ensures.items;
 }
 
-pub gain-requires-clause-left : goal.gain-requires-clause-left
+pub push_gain-requires-clause-left : goal.push_gain-requires-clause-left
 unfolding definitions
-gain-requires-clause-left c = c.requires.left (BaseAt _)
+push_gain-requires-clause-left c = c.requires.left (BaseAt _)
 
-pub gain-requires-clause-base : goal.gain-requires-clause-base
-gain-requires-clause-base c = c.requires.base _
+pub push_gain-requires-clause-base : goal.push_gain-requires-clause-base
+push_gain-requires-clause-base c = c.requires.base _
 
 pub loop-place-preserved : goal.loop-place-preserved
 loop-place-preserved c = record {
   within = omega (arith, c.loop-place.invariant.within);
   needed = gains_place (values_of c.args.base.now) (forms_of c.args.standing.now) c.args.written.now c.loop-place.needed.items _ c.loop-place.place
-      _ _ c.loop-place-test.true c.loop-place.invariant.within c.in_ok-gain.ensures c.in_ok-push_support.ensures c.loop-place.invariant.needed;
+      _ c.loop-place-test.true c.loop-place.invariant.within c.in_ok-push_gain.ensures c.loop-place.invariant.needed;
 }

@@ -6,13 +6,14 @@ use Rattle.homeo_syntax.specs.declared.low.LExpr.{the_lemmas}
 use Rattle.homeo_meaning.proofs.Numbers.{kept_is}
 use Rattle.homeo_meaning.specs.Small.{IsSmall}
 use Rattle.homeo_plan.specs.FormSizes.{Numbers}
-use Rattle.homeo_plan.specs.Linear.{constant_form}
+use Rattle.homeo_plan.specs.Linear.{constant_form, add_forms}
 use Rattle.homeo_plan.specs.Limit.{form_limit}
 use Rattle.homeo_linear.specs.Standing.{forms_of}
 use Rattle.homeo_linear.proofs.FormSteps.{one_is_small, sum_can, product_can, neg_can, neg_small, literal_form, temp_form, read_form, sum_is_form, product_is_form, neg_form, sum_step, sum_next, sum_stop, product_step, product_next, product_stop}
-use Rattle.homeo_linear.proofs.ItemForms.{item_read, item_negated, negated_small}
+use Rattle.homeo_linear.proofs.ItemForms.{item_read, item_negated, negated_small, item_number, number_small}
+use Rattle.homeo_linear.proofs.Widths.{kept_is as kept_wide}
 use Rattle.homeo_linear.proofs.expressions.+expressions.Goals as goal
-use Rattle.homeo_linear.proofs.expressions.+expressions.Goals.{sum-in-Read+in_ok-total-in-Read, sum-in-Negated+in_ok-total-in-Negated, sum-in-Other+in_ok-part-in-Other+in_ok-total-in-Other}
+use Rattle.homeo_linear.proofs.expressions.+expressions.Goals.{sum-in-Read+in_ok-total-in-Read, sum-in-Negated+in_ok-total-in-Negated, sum-in-Number, sum-in-Other+in_ok-part-in-Other+in_ok-total-in-Other}
 
 pub form-sum-requires : goal.form-sum-requires
 form-sum-requires t c =
@@ -117,6 +118,17 @@ sum-subtract_at-requires-clause-negated_small t c =
     let k = sum_step c.args.es.now c.loop-e.e-index c.e-item.result c.loop-e-test.true c.e-item.is c.loop-e.invariant.small in
     negated_small (forms_of c.args.standing.now) (item_negated c.item_of.result c.in-Negated.place (plain_lexpr c.e-item.result) c.in-Negated.is c.item_of.ensures) k.first
 
+pub sum-plus_number-requires-clause-small : goal.sum-plus_number-requires-clause-small
+sum-plus_number-requires-clause-small t c =
+    (sum_step c.args.es.now c.loop-e.e-index c.e-item.result c.loop-e-test.true c.e-item.is c.loop-e.invariant.small).so_far
+
+pub sum-plus_number-requires-clause-number_small : goal.sum-plus_number-requires-clause-number_small
+sum-plus_number-requires-clause-number_small t c =
+    let f = forms_of c.args.standing.now in
+    let k = sum_step c.args.es.now c.loop-e.e-index c.e-item.result c.loop-e-test.true c.e-item.is c.loop-e.invariant.small in
+    subst (IsSmall form_limit) (sym (kept_wide c.in-Number.n _ (search rules) refl))
+    (number_small f (plain_lexpr c.e-item.result) c.in-Number.n (item_number c.item_of.result c.in-Number.n (plain_lexpr c.e-item.result) c.in-Number.is c.item_of.ensures f) k.first)
+
 pub sum-plus-requires-clause-small : goal.sum-plus-requires-clause-small
 sum-plus-requires-clause-small t c =
     (sum_step c.args.es.now c.loop-e.e-index c.e-item.result c.loop-e-test.true c.e-item.is c.loop-e.invariant.small).so_far
@@ -139,6 +151,10 @@ sum-loop-e-preserved t c =
       | sum-in-Negated+in_ok-total-in-Negated w ↦
           let m = item_negated c.item_of.result w.in-Negated.place e w.in-Negated.is c.item_of.ensures in
           let n = sum_next k (sym (m.made f)) (w.total-is ∙ w.in_ok-total-in-Negated.ensures) in
+          record { small = n.0; left = n.1 ∙ c.loop-e.invariant.left }
+      | sum-in-Number w ↦
+          let m = item_number c.item_of.result w.in-Number.n e w.in-Number.is c.item_of.ensures f in
+          let n = sum_next k (sym m) (w.total-is ∙ w.plus_number.ensures ∙ ap (λ z. add_forms (constant_form z) c.loop-e.total) (kept_wide w.in-Number.n _ (search rules) refl)) in
           record { small = n.0; left = n.1 ∙ c.loop-e.invariant.left }
       | sum-in-Other+in_ok-part-in-Other+in_ok-total-in-Other w ↦
           let n = sum_next k w.in_ok-part-in-Other.ensures (w.total-is ∙ w.in_ok-total-in-Other.ensures) in

@@ -1,6 +1,14 @@
--- What stands at a place, or a negative.
-use Rattle.homeo_linear.proofs.ItemForms.{temp_made, read_made, neg_item}
+-- What stands at a place, a number, or a negative.
+use Rattle.std.proofs.Common.{rules, refl, ◌∙◌}
+use Rattle.homeo_meaning.proofs.Numbers.{kept_is}
+use Rattle.homeo_linear.proofs.Widths.{kept_is as kept_wide}
+use Rattle.homeo_linear.proofs.ItemForms.{number_made, temp_made, read_made, neg_item}
 use Rattle.homeo_linear.proofs.items.item_of.Goals as goal
+
+pub returns-in-Literal : goal.returns-in-Literal
+returns-in-Literal c =
+    number_made c.args.e.now c.in-Literal.n _ c.in-Literal.is
+    (kept_wide c.widened.result _ (search rules) (c.widened.ensures ∙ kept_is c.in-Literal.n _ (search rules) refl))
 
 pub returns-in-Temp : goal.returns-in-Temp
 returns-in-Temp c = temp_made c.args.e.now c.in-Temp.t c.place_of_temp.result c.in-Temp.is c.place_of_temp.ensures

@@ -1,7 +1,7 @@
 -- Its atoms are asked.
-use Rattle.std.proofs.Common.{◌++◌, map, refl, ap, ◌∙◌}
+use Rattle.std.proofs.Common.{refl}
+use Rattle.std.proofs.lemmas.Result.{on_ok_weaker}
 use Rattle.homeo_syntax.specs.LowView.{plain_lcond}
-use Rattle.homeo_plan.specs.PlanView.{plain_atom}
 use Rattle.homeo_linear.specs.Standing.{forms_of}
 use Rattle.homeo_linear.specs.inner.Course.{followed_so}
 use Rattle.homeo_linear.specs.inner.Kept.{kept_cond}
@@ -11,5 +11,5 @@ use Rattle.homeo_linear.proofs.course.Course.ask.Goals as goal
 pub returns-clause-asked : goal.returns-clause-asked
 returns-clause-asked c =
     let old = c.args.self.now in
-    asked_is (followed_so old) _ (kept_cond (forms_of old.standing) (plain_lcond c.args.test.now))
-    (c.in_ok-push_all.ensures ∙ ap (λ l. map plain_atom old.atoms.items ++ l) c.in_ok-kept.ensures.atoms) refl refl refl
+    on_ok_weaker c.condition.result
+    (λ h. asked_is (followed_so old) _ (kept_cond (forms_of old.standing) (plain_lcond c.args.test.now)) h refl refl refl) c.condition.ensures.atoms

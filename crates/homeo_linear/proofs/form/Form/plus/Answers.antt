@@ -8,7 +8,7 @@ use Rattle.homeo_linear.proofs.form.Form.plus.Goals as goal
 
 pub returns-then-is_number : goal.returns-then-is_number
 returns-then-is_number c =
-    c.plus_number.ensures
+    c.plus_number.ensures.first
     ∙ ap (λ n. add_forms (constant_form n) c.args.self) (kept_is c.constant.result _ (search rules) refl ∙ c.constant.ensures)
     ∙ ap (λ (b : Linear). add_forms b c.args.self) (pure_form c.args.other.now c.if-is_number.ensures)
 
