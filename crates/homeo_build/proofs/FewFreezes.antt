@@ -23,9 +23,12 @@ use Rattle.homeo_plan.specs.Planned.{sites_of, planned_call, planned, template_a
 use Rattle.homeo_plan.specs.PlanView.{plain_clause}
 use Rattle.homeo_plan.specs.declared.round.RoundPlan.{RoundPlan}
 use Rattle.homeo_plan.specs.Template.{PlannedCall, atoms_of, needs_of, atoms_of_sets, put_all, Template, template}
+use Rattle.homeo_follow.specs.Key.{definitions as follow_definitions}
+use Rattle.homeo_follow.specs.ObjectTemplate.{expanded_clause}
+use Rattle.homeo_follow.specs.declared.plan.ObjectPlan.{ObjectPlan}
 use Rattle.homeo_follow.proofs.Deltas.{After, Ordered, ordered_adds, each_puts}
 use Rattle.homeo_follow.proofs.Terms.{each_append}
-use Rattle.homeo_build.specs.Plan.{IsPlanOf}
+use Rattle.homeo_build.specs.Plan.{IsPlanOf, IsObjectPlan}
 use Rattle.homeo_build.proofs.FewClauses.{IsSited, planned_sited, clauses_few}
 use Rattle.homeo_build.proofs.FewSites.{sites_few}
 use Rattle.homeo_build.proofs.NamedDeltas.{IsPlaced, mixed_placed, needs_placed}
@@ -147,3 +150,13 @@ plan_few w base p accepted plan =
     let clauses = ap (λ (t : Template). length t.clauses) plan.template in
     let freezes = ap (λ (t : Template). length t.freezes) plan.template in
     omega (arith, clauses, freezes, length-map p.template.clauses.items plain_clause, clauses_few w base accepted, freezes_few w base accepted)
+
+pub object_plan_few :
+    (w : s.Workload) (base : List ℤ) (p : ObjectPlan) → IsAccepted w → IsObjectPlan w base p →
+    length p.template.clauses.items + length p.template.freezes.items < 2 ^ 32
+unfolding follow_definitions
+object_plan_few w base p accepted plan =
+    let clauses = ap (λ (t : Template). length t.clauses) plan.template in
+    let freezes = ap (λ (t : Template). length t.freezes) plan.template in
+    let spread = length-map (map plain_clause p.template.clauses.items) (expanded_clause p.template.sites) in
+    omega (arith, clauses, freezes, spread, length-map p.template.clauses.items plain_clause, clauses_few w base accepted, freezes_few w base accepted)

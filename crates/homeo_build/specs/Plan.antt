@@ -1,5 +1,5 @@
 -- Plans of rounds (Roy et al., SIGMOD 2015): what a workload's round that begins at a base is run by.
-use Rattle.std.specs.Prelude.{◌≡◌, ℕ, List, map, ℤ, Option, Some, None}
+use Rattle.std.specs.Prelude.{◌≡◌, ℕ, List, map, ℤ}
 use Rattle.homeo_syntax.specs.Low.{Commands}
 use Rattle.homeo_syntax.specs.Source as s
 use Rattle.homeo_meaning.specs.Bounds.{IsWithin}
@@ -7,11 +7,12 @@ use Rattle.homeo_meaning.specs.Schema.{schema_of}
 use Rattle.homeo_meaning.specs.Serial.{values_of}
 use Rattle.homeo_plan.specs.declared.rows.Residual.{Residual}
 use Rattle.homeo_plan.specs.declared.round.RoundPlan.{RoundPlan}
-use Rattle.homeo_plan.specs.declared.templates.Config.{Config}
 use Rattle.homeo_plan.specs.Config as config
 use Rattle.homeo_plan.specs.Template.{PlannedCall, base_row}
 use Rattle.homeo_plan.specs.Planned.{sites_of, planned, template_at}
 use Rattle.homeo_plan.specs.PlanView.{plain_residual, plain_template, plain_config}
+use Rattle.homeo_follow.specs.ObjectPlan.{template_in}
+use Rattle.homeo_follow.specs.declared.plan.ObjectPlan.{ObjectPlan}
 use Rattle.homeo_build.specs.Key.{definitions}
 
 -- a residual with the site of its call
@@ -32,12 +33,6 @@ abbrev pub residuals_at : s.Workload → List ℤ → List SitedResidual
 unfolding definitions
 residuals_at w base = map (residual_at (sites_of w) (values_of base)) (planned w)
 
--- the configuration that is given, or else the policy
-abbrev pub config_or : config.Config → Option Config → config.Config
-unfolding definitions
-config_or policy None = policy
-config_or policy (Some given) = plain_config given
-
 -- a workload's plan at a base of these values: its template there, and bounds that fit it
 pub record IsPlanOf (w : s.Workload) (values : List ℤ) (p : RoundPlan) : Type 0 where
   pub within : IsWithin (schema_of w) values
@@ -45,3 +40,10 @@ pub record IsPlanOf (w : s.Workload) (values : List ℤ) (p : RoundPlan) : Type 
   pub sites : p.template.sites ≡ sites_of w
   pub template : plain_template p.template ≡ template_at w values
   pub fits : config.Fits (sites_of w) (template_at w values).clauses (plain_config p.config)
+
+-- a workload's plan over whole objects at a base of these values: over the deltas of the sites its template is the one there
+pub record IsObjectPlan (w : s.Workload) (values : List ℤ) (p : ObjectPlan) : Type 0 where
+  pub within : IsWithin (schema_of w) values
+  pub base : p.base.items ≡ values
+  pub sites : p.template.sites ≡ sites_of w
+  pub template : template_in p ≡ template_at w values

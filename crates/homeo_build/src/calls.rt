@@ -10,9 +10,9 @@ ghost use Rattle.homeo_meaning.specs.Serial.{values_of};
 ghost use Rattle.homeo_meaning.specs.Small.{IsSmall};
 ghost use Rattle.homeo_plan.specs.Each.{Each};
 ghost use Rattle.homeo_plan.specs.Limit.{form_limit};
-ghost use Rattle.homeo_plan.specs.Linear.{AreInOrder};
 ghost use Rattle.homeo_plan.specs.PlanView.{plain_template};
 ghost use Rattle.homeo_plan.specs.Planned.{sites_of, template_at};
+ghost use Rattle.homeo_follow.specs.ObjectTemplate.{expanded_template};
 ghost use Rattle.homeo_build.specs.inner.Followed.{IsSmallAlong, AreFollowed};
 
 use crate::compiled::Compiled;
@@ -47,9 +47,9 @@ fn follow_forms(alloc: Global, forms: &[LCommand], base: &Database) -> Result<Fo
     Ok(FollowedForms { atoms, needs })
 }
 
-/// The template of what the ground calls ask and need at a base. Calls of one form ask the same, and need the same objects of
-/// other sites, so it is made over whole objects.
-pub(crate) fn template_of(
+/// The template, over whole objects, of what the ground calls ask and need at a base. Calls of one form ask the same, and need the
+/// same objects of other sites.
+pub(crate) fn object_template(
     alloc: Global,
     c: &Compiled,
     base: &Database,
@@ -59,16 +59,14 @@ pub(crate) fn template_of(
     requires within { IsWithin (schema_of (plain_workload c.now)) base.now.items }
     requires sites { sites ≡ sites_of (plain_workload c.now) }
     ensures sites { IfOk result (λ t. t.sites ≡ sites) }
-    ensures template { IfOk result (λ t. plain_template t ≡ template_at (plain_workload c.now) base.now.items) }
-    ensures small { IfOk result (λ t. Each (λ c. IsSmall form_limit c.slack) (plain_template t).clauses) }
-    ensures order { IfOk result (λ t. AreInOrder t.freezes.items) }
+    ensures template { IfOk result (λ t. expanded_template sites (plain_template t) ≡ template_at (plain_workload c.now) base.now.items) }
 {
     let forms = c.forms();
     let followed = follow_forms(alloc, forms.forms.as_slice(), base)?;
     let asked = followed.atoms.as_slice();
     let needed = followed.needs.as_slice();
     let places = forms.places.as_slice();
-    let clauses = object_clauses(alloc, asked, places, sites)?;
+    let clauses = object_clauses(alloc, asked, places)?;
     let mut frozen = FrozenObjects::new(alloc);
     for (i, call) in c.calls().iter().enumerate() {
         let place = places[i];

@@ -13,7 +13,8 @@ ghost use Rattle.homeo_plan.specs.Template.{PlannedCall};
 ghost use Rattle.homeo_plan.specs.Treaty.{Treaty};
 ghost use Rattle.homeo_plan.specs.declared.rows.Residual.{Residual};
 ghost use Rattle.homeo_plan.specs.declared.round.RoundPlan.{RoundPlan};
-ghost use Rattle.homeo_build.specs.Plan.{sited_residual, residuals_at, IsPlanOf};
+ghost use Rattle.homeo_follow.specs.declared.plan.ObjectPlan.{ObjectPlan};
+ghost use Rattle.homeo_build.specs.Plan.{sited_residual, residuals_at, IsPlanOf, IsObjectPlan};
 
 /// Where each site's deltas keep its treaty of a plan, a ground call of the workload does on the deltas of all sites what its
 /// local step does on those of its own site: it prints the same, leaves the same deltas of its site, and changes no other.
@@ -29,6 +30,8 @@ pub fn accepted_plans_are_few()
     ensures clauses { (w : Workload) (base : List ℤ) → IsAccepted w → length (template_at w base).clauses ≤ 4000000 }
     ensures freezes { (w : Workload) (base : List ℤ) → IsAccepted w → length (template_at w base).freezes ≤ 16384 }
     ensures plan { (w : Workload) (base : List ℤ) (p : RoundPlan) → IsAccepted w → IsPlanOf w base p →
+        length p.template.clauses.items + length p.template.freezes.items < 2 ^ 32 }
+    ensures object_plan { (w : Workload) (base : List ℤ) (p : ObjectPlan) → IsAccepted w → IsObjectPlan w base p →
         length p.template.clauses.items + length p.template.freezes.items < 2 ^ 32 }
 {}
 

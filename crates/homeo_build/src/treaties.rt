@@ -6,23 +6,27 @@ ghost use Rattle.homeo_meaning.specs.Acceptance.{IsAccepted};
 ghost use Rattle.homeo_meaning.specs.Bounds.{IsWithin};
 ghost use Rattle.homeo_meaning.specs.Schema.{schema_of};
 ghost use Rattle.homeo_meaning.specs.Small.{IsSmall};
-ghost use Rattle.homeo_plan.specs.Config.{Fits, HaveSlack, split_by};
+ghost use Rattle.homeo_plan.specs.Config.{Fits, HaveSlack, even, split_by};
 ghost use Rattle.homeo_plan.specs.Each.{Each};
 ghost use Rattle.homeo_plan.specs.Limit.{form_limit};
 ghost use Rattle.homeo_plan.specs.PlanView.{plain_template, plain_config};
 ghost use Rattle.homeo_plan.specs.Planned.{sites_of, template_at, shares_of, policy};
 ghost use Rattle.homeo_plan.specs.declared.templates.Config.{Config};
 ghost use Rattle.homeo_plan.specs.Linear.{AreInOrder};
-ghost use Rattle.homeo_build.specs.Plan.{config_or, IsPlanOf};
+ghost use Rattle.homeo_follow.specs.ObjectPlan.{config_or, config_in};
+ghost use Rattle.homeo_follow.specs.ObjectTemplate.{expanded_template};
+ghost use Rattle.homeo_build.specs.Plan.{IsPlanOf, IsObjectPlan};
 
-use crate::calls::template_of;
+use crate::calls::object_template;
 use crate::compiled::Compiled;
 use crate::shares::shares;
 use crate::sites::site_count;
 use homeo_config::{split_even, split_weighted};
+use homeo_follow::ObjectPlan;
 use homeo_meaning::Database;
 use homeo_plan::{Config, RoundPlan, Template};
 use homeo_syntax::{List, Memory};
+use homeo_template::at_sites;
 use std::alloc::Global;
 use std::sync::Arc;
 
@@ -66,19 +70,67 @@ pub fn treaties(
     })
 }
 
-/// The plan of the round that begins at a base, by the policy, to be shared. The base must be within the workload's bounds.
+/// The plan, over whole objects and with the bounds of the policy, of the round that begins at a base, to be shared. It takes time and
+/// memory without regard to how many sites there are, unless they have weights. The base must be within the workload's bounds.
 ///
 /// # Errors
 ///
 /// `Memory` when out of memory.
 #[tactic(auto, unfolding(crate::specs::Key::definitions))]
-pub fn plan_at(alloc: Global, c: &Compiled, base: &Database) -> Result<Arc<RoundPlan>, Memory>
+pub fn plan_at(alloc: Global, c: &Compiled, base: &Database) -> Result<Arc<ObjectPlan>, Memory>
     requires within { IsWithin (schema_of (plain_workload c.now)) base.now.items }
-    ensures plan { IfOk result (λ p. IsPlanOf (plain_workload c.now) base.now.items p.value) }
-    ensures policy { IfOk result (λ p. plain_config p.value.config ≡ policy (plain_workload c.now) base.now.items) }
+    ensures plan { IfOk result (λ p. IsObjectPlan (plain_workload c.now) base.now.items p.value) }
+    ensures policy { IfOk result (λ p. config_in p.value ≡ policy (plain_workload c.now) base.now.items) }
 {
-    let plan = treaties(alloc, c, base, None)?;
+    let plan = object_plan(alloc, c, base)?;
     Ok(Arc::new(alloc, plan)?)
+}
+
+/// The plan itself.
+fn object_plan(alloc: Global, c: &Compiled, base: &Database) -> Result<ObjectPlan, Memory>
+    requires within { IsWithin (schema_of (plain_workload c.now)) base.now.items }
+    ensures plan { IfOk result (IsObjectPlan (plain_workload c.now) base.now.items) }
+    ensures policy { IfOk result (λ p. config_in p ≡ policy (plain_workload c.now) base.now.items) }
+{
+    let sites = site_count(c.workload());
+    let template = object_template(alloc, c, base, sites)?;
+    let bounds = bounds_by_weights(alloc, c, &template)?;
+    let values = Vec::from_slice(alloc, base.as_slice())?;
+    Ok(ObjectPlan {
+        base: List::from_vec(values),
+        template,
+        bounds,
+    })
+}
+
+/// The template of what the ground calls ask and need at a base, over the deltas of the sites.
+fn template_of(alloc: Global, c: &Compiled, base: &Database, sites: u32) -> Result<Template, Memory>
+    requires accepted { IsAccepted (plain_workload c.now) }
+    requires within { IsWithin (schema_of (plain_workload c.now)) base.now.items }
+    requires sites { sites ≡ sites_of (plain_workload c.now) }
+    ensures sites { IfOk result (λ t. t.sites ≡ sites) }
+    ensures template { IfOk result (λ t. plain_template t ≡ template_at (plain_workload c.now) base.now.items) }
+    ensures small { IfOk result (λ t. Each (λ c. IsSmall form_limit c.slack) (plain_template t).clauses) }
+    ensures order { IfOk result (λ t. AreInOrder t.freezes.items) }
+{
+    let whole = object_template(alloc, c, base, sites)?;
+    at_sites(alloc, &whole)
+}
+
+/// The bounds, by the sites' weights, of a template over whole objects; without weights none, as they are even.
+fn bounds_by_weights(alloc: Global, c: &Compiled, t: &Template) -> Result<Option<Config>, Memory>
+    requires sites { t.now.sites ≡ sites_of (plain_workload c.now) }
+    requires not_negative { HaveSlack (expanded_template t.now.sites (plain_template t.now)).clauses }
+    requires small { Each (λ c. IsSmall form_limit c.slack) (expanded_template t.now.sites (plain_template t.now)).clauses }
+    ensures { let clauses = (expanded_template t.now.sites (plain_template t.now)).clauses in IfOk result (λ bounds.
+        config_or (even t.now.sites clauses) bounds ≡ split_by (shares_of (plain_workload c.now)) clauses) }
+{
+    if c.workload().workload().weights.as_slice().is_empty() {
+        return Ok(None);
+    }
+    let spread = at_sites(alloc, t)?;
+    let bounds = split_by_weights(alloc, c, &spread)?;
+    Ok(Some(bounds))
 }
 
 /// The given configuration, or else the one by shares.
@@ -110,6 +162,16 @@ fn split_by_shares(alloc: Global, c: &Compiled, t: &Template) -> Result<Config, 
     if c.workload().workload().weights.as_slice().is_empty() {
         return split_even(alloc, t);
     }
+    split_by_weights(alloc, c, t)
+}
+
+/// Splits the slack of each clause by the weights of the sites that take part in it.
+fn split_by_weights(alloc: Global, c: &Compiled, t: &Template) -> Result<Config, Memory>
+    requires sites { t.now.sites ≡ sites_of (plain_workload c.now) }
+    requires not_negative { HaveSlack (plain_template t.now).clauses }
+    requires small { Each (λ c. IsSmall form_limit c.slack) (plain_template t.now).clauses }
+    ensures { IfOk result (λ made. plain_config made ≡ split_by (shares_of (plain_workload c.now)) (plain_template t.now).clauses) }
+{
     let shares = shares(alloc, c, t)?;
     split_weighted(alloc, t, shares.as_slice())
 }

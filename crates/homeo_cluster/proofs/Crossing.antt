@@ -16,7 +16,7 @@ use Rattle.homeo_syntax.proofs.low.LExpr.TheLaws.TheKnot as low_expression
 use Rattle.homeo_syntax.proofs.low.LTest.TheLaws.TheKnot as low_test
 use Rattle.homeo_syntax.proofs.phrase.Expr.TheLaws.TheKnot as phrase
 use Rattle.homeo_meaning.specs.contracts.accepted.Accepted as Accepted
-use Rattle.homeo_plan.specs.contracts.round.RoundPlan as RoundPlan
+use Rattle.homeo_follow.specs.contracts.plan.ObjectPlan as ObjectPlan
 use Rattle.homeo_context.specs.contracts.declarations.Declarations as Declarations
 use Rattle.homeo_ground.specs.contracts.grounding.Grounding as Grounding
 use Rattle.homeo_build.specs.contracts.compiled.Compiled as Compiled
@@ -66,11 +66,11 @@ Compiled-sync =
     let a = Accepted-sync in let b = Grounding-sync in let d = Declarations-sync in
     search (std.crosses, low_expression.crosses, low_test.crosses, low_command.crosses, list.the_sync, sendable) depth 60 fits 20000
 
-RoundPlan-send : IsSend RoundPlan.the_row
-RoundPlan-send = search (std.crosses, low_expression.crosses, low_test.crosses, low_command.crosses, list.the_send, sendable) depth 60 fits 20000
+ObjectPlan-send : IsSend ObjectPlan.the_row
+ObjectPlan-send = search (std.crosses, low_expression.crosses, low_test.crosses, low_command.crosses, list.the_send, sendable) depth 60 fits 20000
 
-RoundPlan-sync : IsSync RoundPlan.the_row
-RoundPlan-sync = search (std.crosses, low_expression.crosses, low_test.crosses, low_command.crosses, list.the_sync, sendable) depth 60 fits 20000
+ObjectPlan-sync : IsSync ObjectPlan.the_row
+ObjectPlan-sync = search (std.crosses, low_expression.crosses, low_test.crosses, low_command.crosses, list.the_sync, sendable) depth 60 fits 20000
 
 Round-send : IsSend Round.the_row
 Round-send = search (std.crosses, list.the_send, sendable) depth 60 fits 20000
@@ -82,14 +82,14 @@ OwnCall-sync : IsSync OwnCall.the_row
 OwnCall-sync = search (std.crosses, low_expression.crosses, low_test.crosses, low_command.crosses, list.the_sync, sendable) depth 60 fits 20000
 
 OwnTreaty-send : IsSend OwnTreaty.the_row
-OwnTreaty-send = let a = RoundPlan-send in let b = RoundPlan-sync in search (std.crosses, list.the_send, sendable) depth 60 fits 20000
+OwnTreaty-send = let a = ObjectPlan-send in let b = ObjectPlan-sync in search (std.crosses, list.the_send, sendable) depth 60 fits 20000
 
 OwnTreaty-sync : IsSync OwnTreaty.the_row
-OwnTreaty-sync = let a = RoundPlan-send in let b = RoundPlan-sync in search (std.crosses, list.the_sync, sendable) depth 60 fits 20000
+OwnTreaty-sync = let a = ObjectPlan-send in let b = ObjectPlan-sync in search (std.crosses, list.the_sync, sendable) depth 60 fits 20000
 
 Site-send : IsSend Site.the_row
 Site-send =
-    let a = Compiled-send in let b = Compiled-sync in let c = RoundPlan-send in let d = RoundPlan-sync in let e = OwnCall-send in let f = OwnCall-sync in
+    let a = Compiled-send in let b = Compiled-sync in let c = ObjectPlan-send in let d = ObjectPlan-sync in let e = OwnCall-send in let f = OwnCall-sync in
     let g = OwnTreaty-send in let h = OwnTreaty-sync in
     search (std.crosses, low_expression.crosses, list.the_send, sendable) depth 60 fits 20000
 

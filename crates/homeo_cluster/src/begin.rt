@@ -4,9 +4,9 @@ ghost use Rattle.std.specs.Prelude.{◌≡◌, ◌+◌, ◌<◌, [], length, vec
 ghost use Rattle.homeo_syntax.specs.SourceView.{plain_workload};
 ghost use Rattle.homeo_meaning.specs.Acceptance.{IsAccepted};
 ghost use Rattle.homeo_meaning.specs.Initial.{initial};
-ghost use Rattle.homeo_plan.specs.PlanView.{plain_config};
 ghost use Rattle.homeo_plan.specs.Planned.{sites_of, policy};
-ghost use Rattle.homeo_build.specs.Plan.{IsPlanOf};
+ghost use Rattle.homeo_follow.specs.ObjectPlan.{config_in};
+ghost use Rattle.homeo_build.specs.Plan.{IsObjectPlan};
 ghost use Rattle.homeo_cluster.specs.Passes.{AreBegun};
 ghost use Rattle.homeo_cluster.specs.Places.{line_count, at_line, bases_line};
 ghost use Rattle.homeo_cluster.specs.inner.Begun.{AreLeft, IsRest, IsFirst, AreFirst, first_line};
@@ -21,9 +21,9 @@ use crate::pass::ClientPass;
 use homeo_build::Compiled;
 use homeo_build::treaties::plan_at;
 use homeo_eval::initial;
+use homeo_follow::ObjectPlan;
 use homeo_meaning::Database;
 use homeo_notes::{Blank, Board, Holder};
-use homeo_plan::RoundPlan;
 use homeo_site::{Site, SiteStart};
 use homeo_syntax::{List, Memory};
 use std::alloc::Global;
@@ -136,11 +136,11 @@ impl<N: ClusterNaming> Frame<N> {
     fn first_sites(
         &self,
         alloc: Global,
-        plan: &Arc<RoundPlan>,
+        plan: &Arc<ObjectPlan>,
         rest: &mut Holder<N>,
     ) -> Result<Vec<Mutex<SiteCell<N>>>, Memory>
-        requires plan { IsPlanOf (plain_workload self.now) plan.now.value.base.items plan.now.value }
-        requires policy { plain_config plan.now.value.config ≡
+        requires plan { IsObjectPlan (plain_workload self.now) plan.now.value.base.items plan.now.value }
+        requires policy { config_in plan.now.value ≡
             policy (plain_workload self.now) plan.now.value.base.items }
         requires base { plan.now.value.base.items ≡ initial N.workload }
         requires rest { IsRest N.workload (initial N.workload) 0 rest.old }
@@ -162,13 +162,13 @@ impl<N: ClusterNaming> Frame<N> {
     fn first_site(
         &self,
         alloc: Global,
-        plan: &Arc<RoundPlan>,
+        plan: &Arc<ObjectPlan>,
         rest: &mut Holder<N>,
         site: u32,
         first: u32,
     ) -> Result<SiteCell<N>, Memory>
-        requires plan { IsPlanOf (plain_workload self.now) plan.now.value.base.items plan.now.value }
-        requires policy { plain_config plan.now.value.config ≡
+        requires plan { IsObjectPlan (plain_workload self.now) plan.now.value.base.items plan.now.value }
+        requires policy { config_in plan.now.value ≡
             policy (plain_workload self.now) plan.now.value.base.items }
         requires base { plan.now.value.base.items ≡ initial N.workload }
         requires site { site < sites_of N.workload }

@@ -1,2 +1,3 @@
+pub mod EvenBounds
 pub mod Splitting
 pub mod Weighted

@@ -7,7 +7,7 @@ use Rattle.std.specs.Prelude.{replicate}
 use Rattle.std.proofs.Math.Nat.{add-mul, div-le_of_le-mul, div-mul-le_self, mul_comm, mul_right_comm, mul-add-div_right, mul-le-mul_left}
 use Rattle.std.proofs.lemmas.Int.{fits_signed_from_abs, to_z-of_z}
 use Rattle.std.proofs.lemmas.List.{append_assoc, append-nil, drop_more, drop_all, take_more, take_all, map_push}
-use Rattle.std.proofs.lemmas.List.Sums.{sum_by_more, sum_by_more_le}
+use Rattle.std.proofs.lemmas.List.Sums.{sum_by_more}
 use Rattle.std.proofs.lemmas.Nat.{div-add-mod', le-div}
 use Rattle.homeo_syntax.specs.Listed.{Listed}
 use Rattle.homeo_meaning.specs.Schema.{nat_of}
@@ -59,9 +59,6 @@ amount_small (negsuc n) amount h e = omega (arith, e)
 -- one more site
 pub shares_more : (shares : List ℕ) (i below : ℕ) → i < length shares → below ≡ sum (take i shares) → below + get_or shares i 0 ≡ sum (take (i + 1) shares)
 shares_more shares i below h e = omega (arith, e, sum_by_more (λ n. n) shares i 0 h)
-
-pub few_shares : (shares : List ℕ) (i below : ℕ) → i < length shares → below ≡ sum (take i shares) → below + get_or shares i 0 ≤ sum shares
-few_shares shares i below h e = omega (arith, e, sum_by_more_le (λ n. n) shares i 0 h)
 
 pub bounds_more :
     (n amount below i : ℕ) (shares : List ℕ) (bound : ℤ) (before after : List ℤ) (whole : List ℤ) → i < length shares →

@@ -3,4 +3,4 @@
 
 mod split;
 
-pub use split::{split_even, split_weighted};
+pub use split::{even_bound, split_even, split_weighted};

@@ -7,6 +7,7 @@ ghost use Rattle.homeo_plan.specs.Each.{Each};
 ghost use Rattle.homeo_plan.specs.Config.{HaveSlack, CanShare, Fits, split, split_each, natural_list, even};
 ghost use Rattle.homeo_plan.specs.PlanView.{plain_template, plain_config};
 ghost use Rattle.homeo_plan.specs.Limit.{form_limit};
+ghost use Rattle.homeo_plan.specs.Treaty.{bound_at};
 
 use homeo_plan::{Config, Template};
 use homeo_syntax::{List, Memory, Numbers};
@@ -60,6 +61,23 @@ pub fn split_weighted(alloc: Global, t: &Template, shares: &[Numbers]) -> Result
     Ok(Config { bounds })
 }
 
+/// What `split_even` gives one of so many sites of a slack, in constant time and without memory.
+pub fn even_bound(slack: i128, sites: u32, site: u32) -> i128
+    requires site { site < sites }
+    requires not_negative { pos 0 ≤ℤ slack }
+    requires small { IsSmall form_limit slack }
+    ensures { result ≡ bound_at (split (replicate sites 1) slack) site }
+{
+    let amount = natural(slack);
+    let all = sites as u64;
+    let each = amount / all;
+    let rest = amount % all;
+    let below = site as u64;
+    let given = part(each, rest, below, all);
+    let part = part(each, rest, below + 1, all);
+    bound(given, part)
+}
+
 /// Shares without a sign.
 fn naturals(alloc: Global, shares: &[i64]) -> Result<Vec<u64>, Memory>
     requires natural { Each (λ n. pos 0 ≤ℤ n) shares.now }
@@ -98,19 +116,19 @@ fn split(alloc: Global, slack: i128, shares: &[u64]) -> Result<List<i128>, Memor
 {
     let amount = natural(slack);
     let all = total(shares);
-    let each = amount / all as u128;
-    let rest = amount % all as u128;
-    let mut bounds = List::new(alloc);
+    let each = amount / all;
+    let rest = amount % all;
+    let mut bounds = Vec::with_capacity(alloc, shares.len())?;
     let mut below = 0;
     let mut given = 0;
     for share in shares {
         let with_it = below + *share;
         let part = part(each, rest, with_it, all);
-        bounds.push(bound(given, part))?;
+        bounds.push_reserved(bound(given, part));
         below = with_it;
         given = part;
     }
-    Ok(bounds)
+    Ok(List::from_vec(bounds))
 }
 
 fn total(shares: &[u64]) -> u64
@@ -121,17 +139,17 @@ fn total(shares: &[u64]) -> u64
 }
 
 /// A slack, which isn't negative.
-fn natural(slack: i128) -> u128
-    requires { pos 0 ≤ℤ slack }
+fn natural(slack: i128) -> u64
+    requires not_negative { pos 0 ≤ℤ slack }
+    requires small { nat_of slack ≤ form_limit }
     ensures { result ≡ nat_of slack }
 {
-    slack as u128
+    slack as u64
 }
 
 /// What the shares up to a site are given, less what those below it are.
-fn bound(given: u128, part: u128) -> i128
-    requires rises { given ≤ part }
-    requires small { part ≤ form_limit }
+fn bound(given: u64, part: u64) -> i128
+    requires { given ≤ part }
     ensures { result ≡ pos (part - given) }
 {
     (part - given) as i128
@@ -139,12 +157,25 @@ fn bound(given: u128, part: u128) -> i128
 
 /// The floor of what a slack gives `shares` of `all` shares, where it gives each so much and leaves this rest: the slack is divided
 /// once, and only the rest for each site.
-fn part(each: u128, rest: u128, shares: u64, all: u64) -> u128
+#[tactic(auto, using(crate::proofs::Splitting::part_within))]
+fn part(each: u64, rest: u64, shares: u64, all: u64) -> u64
     requires some { 1 ≤ all }
     requires few { shares ≤ all }
-    requires rest { rest < all }
     requires small { each * all + rest ≤ form_limit }
     ensures { result ≡ (each * all + rest) * shares / all }
 {
-    each * shares as u128 + rest * shares as u128 / all as u128
+    each * shares + part_of_rest(rest, shares, all)
+}
+
+/// The floor of what a rest gives `shares` of `all` shares. It is divided in 64 bits where their product has room in them.
+#[tactic(auto, using(crate::proofs::Splitting::part_within))]
+fn part_of_rest(rest: u64, shares: u64, all: u64) -> u64
+    requires some { 1 ≤ all }
+    requires few { shares ≤ all }
+    ensures { result ≡ rest * shares / all }
+{
+    match rest.checked_mul(shares) {
+        Some(product) => product / all,
+        None => (rest as u128 * shares as u128 / all as u128) as u64,
+    }
 }

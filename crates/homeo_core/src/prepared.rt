@@ -6,9 +6,9 @@ ghost use Rattle.homeo_meaning.specs.Bounds.{IsWithin};
 ghost use Rattle.homeo_meaning.specs.Calls.{CallExists};
 ghost use Rattle.homeo_meaning.specs.Schema.{schema_of};
 ghost use Rattle.homeo_meaning.specs.Serial.{call_outcome};
-ghost use Rattle.homeo_plan.specs.PlanView.{plain_config};
 ghost use Rattle.homeo_plan.specs.Planned.{sites_of, policy};
-ghost use Rattle.homeo_build.specs.Plan.{IsPlanOf};
+ghost use Rattle.homeo_follow.specs.ObjectPlan.{config_in};
+ghost use Rattle.homeo_build.specs.Plan.{IsObjectPlan};
 ghost use Rattle.homeo_history.specs.Answers.{closing_answer};
 ghost use Rattle.homeo_history.specs.Follows.{site_or_zero};
 ghost use Rattle.homeo_history.specs.HistoryView.{plain_segment, plain_closing, plain_round, plain_answer};
@@ -21,9 +21,10 @@ use crate::gather::Gather;
 use homeo_build::Compiled;
 use homeo_build::treaties::plan_at;
 use homeo_eval::eval_call;
+use homeo_follow::ObjectPlan;
 use homeo_history::{Answer, Closing, Entry, Path, Round, Segment};
 use homeo_meaning::{Accepted, CallId, Database};
-use homeo_plan::{Broken, RoundPlan};
+use homeo_plan::Broken;
 use homeo_site::{Site, SiteStart};
 use homeo_syntax::{List, Memory, Prints};
 use std::alloc::Global;
@@ -194,12 +195,12 @@ fn empty_segments(alloc: Global, w: &Accepted) -> Result<Vec<Segment>, Memory>
 fn starts_after(
     alloc: Global,
     c: &Arc<Compiled>,
-    plan: &Arc<RoundPlan>,
+    plan: &Arc<ObjectPlan>,
     round: u64,
 ) -> Result<Vec<Option<SiteStart>>, Memory>
     requires round { round < 2 ^ 63 }
-    requires plan { IsPlanOf (plain_workload c.now.value) plan.now.value.base.items plan.now.value }
-    requires policy { plain_config plan.now.value.config ≡ policy (plain_workload c.now.value) plan.now.value.base.items }
+    requires plan { IsObjectPlan (plain_workload c.now.value) plan.now.value.base.items plan.now.value }
+    requires policy { config_in plan.now.value ≡ policy (plain_workload c.now.value) plan.now.value.base.items }
     ensures starts { IfOk result (λ s. AreStarts c.now.value round plan.now.value.base.items s.items) }
     ensures waiting { IfOk result (λ s. map waits s.items ≡ replicate (sites_of (plain_workload c.now.value)) true) }
 {

@@ -6,9 +6,9 @@ ghost use Rattle.homeo_meaning.specs.Acceptance.{IsAccepted};
 ghost use Rattle.homeo_meaning.specs.Bounds.{IsWithin};
 ghost use Rattle.homeo_meaning.specs.Initial.{initial};
 ghost use Rattle.homeo_meaning.specs.Schema.{schema_of};
-ghost use Rattle.homeo_plan.specs.PlanView.{plain_config};
 ghost use Rattle.homeo_plan.specs.Planned.{sites_of, policy};
-ghost use Rattle.homeo_build.specs.Plan.{IsPlanOf};
+ghost use Rattle.homeo_follow.specs.ObjectPlan.{config_in};
+ghost use Rattle.homeo_build.specs.Plan.{IsObjectPlan};
 ghost use Rattle.homeo_history.specs.Follows.{Follows};
 ghost use Rattle.homeo_history.specs.HistoryView.{plain_answer, plain_history};
 ghost use Rattle.homeo_history.specs.Legal.{IsCallAt, call_count, IsLegalFrom};
@@ -24,9 +24,9 @@ use crate::rounds::{close_round, gathered_values, into_segments};
 use homeo_build::Compiled;
 use homeo_build::treaties::plan_at;
 use homeo_eval::initial;
+use homeo_follow::ObjectPlan;
 use homeo_history::{Answer, History, Path, Round};
 use homeo_meaning::{Accepted, CallId, Database};
-use homeo_plan::RoundPlan;
 use homeo_site::{Site, SiteStart};
 use homeo_syntax::{List, Memory};
 use std::alloc::Global;
@@ -227,9 +227,13 @@ fn make_call(
 }
 
 /// Each site of a plan, in the round 0, before any call.
-fn begin_sites(alloc: Global, c: &Arc<Compiled>, plan: &Arc<RoundPlan>) -> Result<Vec<Site>, Memory>
-    requires plan { IsPlanOf (plain_workload c.now.value) plan.now.value.base.items plan.now.value }
-    requires policy { plain_config plan.now.value.config ≡ policy (plain_workload c.now.value) plan.now.value.base.items }
+fn begin_sites(
+    alloc: Global,
+    c: &Arc<Compiled>,
+    plan: &Arc<ObjectPlan>,
+) -> Result<Vec<Site>, Memory>
+    requires plan { IsObjectPlan (plain_workload c.now.value) plan.now.value.base.items plan.now.value }
+    requires policy { config_in plan.now.value ≡ policy (plain_workload c.now.value) plan.now.value.base.items }
     ensures states { IfOk result (λ s. states s.items ≡
         begun_sites (sites_of (plain_workload c.now.value)) plan.now.value.base.items) }
     ensures of { IfOk result (λ s. AreOf c.now.value s.items) }

@@ -13,9 +13,10 @@ use Rattle.homeo_plan.specs.declared.forms.Term.{Term}
 use Rattle.homeo_plan.specs.declared.templates.Clause.{Clause}
 use Rattle.homeo_plan.specs.Linear.{delta_of}
 use Rattle.homeo_plan.specs.PlanView.{plain_clause}
+use Rattle.homeo_plan.specs.Template as template
 use Rattle.homeo_effect.specs.Key.{definitions}
-use Rattle.homeo_effect.specs.Touched.{with_delta, written, is_among, are_on, is_touched}
-use Rattle.homeo_effect.specs.inner.Uses.{has, at_object, objects_of, Keeps, KeepsClauses, KeepsFreezes}
+use Rattle.homeo_effect.specs.Touched.{with_delta, written, is_among}
+use Rattle.homeo_effect.specs.inner.Uses.{has, at_object, objects_of, names_object, Keeps, KeepsFreezes, KeepsObjects}
 use Rattle.homeo_effect.proofs.Noting.{one_noted, there_is}
 use Rattle.homeo_effect.proofs.RisingNumbers.{has_more}
 
@@ -31,20 +32,20 @@ module _ {X : Type 0} (test : List Delta → X → Bool) (i first : ℕ) (xs : L
 
 -- ---- clauses
 pub clause_kept :
-    (cs : List Clause) (k : ℕ) (c : Clause) → k < length cs → c ≡ get_or cs k c → (i number : ℕ) → number ≡ k →
-    (ts : List Term) → ts ≡ c.terms.items → (before after : List (List ℕ)) → KeepsClauses i (map plain_clause (take k cs)) before →
-    ((x n : ℕ) → has n (at_object x after) ≡ (has n (at_object x before) || (are_on (delta_of x i ∷ []) ts && (n == number)))) →
-    KeepsClauses i (map plain_clause (take (k + 1) cs)) after
-unfolding definitions
-clause_kept cs k c lt p i number is ts terms before after keeps h =
+    (cs : List Clause) (k : ℕ) (c : Clause) → k < length cs → c ≡ get_or cs k c → (number : ℕ) → number ≡ k →
+    (ts : List Term) → ts ≡ c.terms.items → (before after : List (List ℕ)) → KeepsObjects (map plain_clause (take k cs)) before →
+    ((x n : ℕ) → has n (at_object x after) ≡ (has n (at_object x before) || (names_object x ts && (n == number)))) →
+    KeepsObjects (map plain_clause (take (k + 1) cs)) after
+clause_kept cs k c lt p number is ts terms before after keeps h =
     let so_far = map plain_clause (take k cs) in
     let e : map plain_clause (take (k + 1) cs) ≡ so_far ++ plain_clause c ∷ [] =
     ap (map plain_clause) (take_more cs k c lt ∙ ap (λ d. take k cs ++ d ∷ []) (sym p)) ∙ map-append plain_clause (take k cs) (c ∷ []) in
     let counted : length so_far ≡ k = length-map (take k cs) plain_clause ∙ length-taken in
     let long : number ≡ 0 + length so_far = omega (arith, counted, is) in
-    subst (λ ds. KeepsClauses i ds after) (sym e)
-    (kept_more is_touched i 0 so_far (plain_clause c) before after keeps
-    (λ x n. h x n ∙ ap₂ (λ us m. has n (at_object x before) || (are_on (delta_of x i ∷ []) us && (n == m))) terms long))
+    subst (λ ds. KeepsObjects ds after) (sym e)
+    (λ x n. h x n ∙ ap₂ (λ us m. has n (at_object x before) || (names_object x us && (n == m))) terms long
+    ∙ ap (λ v. v || (names_object x c.terms.items && (n == 0 + length so_far))) (keeps x n)
+    ∙ sym (has_more (λ (d : template.Clause). names_object x d.terms) 0 n so_far (plain_clause c)))
   where
     length-taken : length (take k cs) ≡ k
     length-taken = grind (arith, length-take)

@@ -1,3 +1,4 @@
+pub mod AtEachSite
 pub mod Counted
 pub mod Equations
 pub mod Fitting
@@ -8,6 +9,7 @@ pub mod Literals
 pub mod LocalRuns
 pub mod Localizing
 pub mod MadeSteps
+pub mod Marking
 pub mod Members
 pub mod Noting
 pub mod NumberedParts

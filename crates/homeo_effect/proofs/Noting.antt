@@ -10,8 +10,8 @@ use Rattle.homeo_plan.specs.declared.forms.Delta.{Delta}
 use Rattle.homeo_plan.specs.declared.forms.Term.{Term}
 use Rattle.homeo_plan.specs.Linear.{delta_of}
 use Rattle.homeo_effect.specs.Key.{definitions}
-use Rattle.homeo_effect.specs.Touched.{is_among, are_on}
-use Rattle.homeo_effect.specs.inner.Uses.{has, at_object}
+use Rattle.homeo_effect.specs.Touched.{is_among}
+use Rattle.homeo_effect.specs.inner.Uses.{has, at_object, names_object}
 
 -- ---- one object's numbers
 module _ {A : Type 0} (f : A → List ℕ) where
@@ -57,26 +57,26 @@ there_is d site x q = or_false ((d.object == x) && (d.site == site)) ∙ ap (λ 
     and_false true = refl
     and_false false = refl
 
-on_more : (ds : List Delta) (ts : List Term) (k : ℕ) (t d : Term) → k < length ts → t ≡ get_or ts k d → are_on ds (take (k + 1) ts) ≡ (are_on ds (take k ts) || is_among ds t.delta)
-unfolding definitions
-on_more ds ts k t d h p =
-    list_any_more (λ (u : Term). is_among ds u.delta) ts k d h ∙ ap (λ (u : Term). are_on ds (take k ts) || is_among ds u.delta) (sym p)
+named_more : (x : ℕ) (ts : List Term) (k : ℕ) (t d : Term) → k < length ts → t ≡ get_or ts k d → names_object x (take (k + 1) ts) ≡ (names_object x (take k ts) || (t.delta.object == x))
+named_more x ts k t d h p =
+    list_any_more (λ (u : Term). u.delta.object == x) ts k d h ∙ ap (λ (u : Term). names_object x (take k ts) || (u.delta.object == x)) (sym p)
 
-with_none : (b o e : Bool) → (b || (o && e)) ≡ (b || ((o || false) && e))
-with_none true o e = refl
-with_none false true e = refl
-with_none false false e = refl
+-- what is put at an object
+object_noted :
+    (object number x n : ℕ) (before after : List ℕ) → after ≡ cond (object == x) (before ++ number ∷ []) before →
+    has n after ≡ (has n before || ((object == x) && (n == number)))
+object_noted object number x n before after put = ap (has n) put ∙ go (object == x)
+  where
+    go : (v : Bool) → has n (cond v (before ++ number ∷ []) before) ≡ (has n before || (v && (n == number)))
+    go true = list_any-append (λ m. n == m) before (number ∷ []) ∙ ap (λ v. has n before || v) (or_false (n == number))
+    go false = sym (or_false (has n before))
 
 -- what is put at an object, of which the site's delta is noted
 pub one_noted :
     (d : Delta) (site number x n : ℕ) → d.site ≡ site → (before after : List ℕ) → after ≡ cond (d.object == x) (before ++ number ∷ []) before →
     has n after ≡ (has n before || (is_among (delta_of x site ∷ []) d && (n == number)))
 one_noted d site number x n e before after put =
-    ap (has n) put ∙ go (d.object == x) ∙ ap (λ v. has n before || (v && (n == number))) (sym (here_is d site x e))
-  where
-    go : (v : Bool) → has n (cond v (before ++ number ∷ []) before) ≡ (has n before || (v && (n == number)))
-    go true = list_any-append (λ m. n == m) before (number ∷ []) ∙ ap (λ v. has n before || v) (or_false (n == number))
-    go false = sym (or_false (has n before))
+    object_noted d.object number x n before after put ∙ ap (λ v. has n before || (v && (n == number))) (sym (here_is d site x e))
 
 join_or : (b o v e : Bool) → ((b || (o && e)) || (v && e)) ≡ (b || ((o || v) && e))
 join_or true o v e = refl
@@ -85,26 +85,18 @@ join_or false true true false = refl
 join_or false true false false = refl
 join_or false false v e = refl
 
-module _ (ts : List Term) (k : ℕ) (t d : Term) (lt : k < length ts) (p : t ≡ get_or ts k d) (site number : ℕ) (first before : List (List ℕ))
-    (so_far : (x n : ℕ) → has n (at_object x before) ≡ (has n (at_object x first) || (are_on (delta_of x site ∷ []) (take k ts) && (n == number))))
+module _ (ts : List Term) (k : ℕ) (t d : Term) (lt : k < length ts) (p : t ≡ get_or ts k d) (number : ℕ) (first before : List (List ℕ))
+    (so_far : (x n : ℕ) → has n (at_object x before) ≡ (has n (at_object x first) || (names_object x (take k ts) && (n == number))))
   where
     pub term_noted :
-        t.delta.site ≡ site → (after : List (List ℕ)) →
+        (after : List (List ℕ)) →
         ((x : ℕ) → at_object x after ≡ cond (t.delta.object == x) (at_object x before ++ number ∷ []) (at_object x before)) → (x n : ℕ) →
-        has n (at_object x after) ≡ (has n (at_object x first) || (are_on (delta_of x site ∷ []) (take (k + 1) ts) && (n == number)))
-    term_noted e after put x n =
-        one_noted t.delta site number x n e (at_object x before) (at_object x after) (put x)
-        ∙ ap (λ v. v || (is_among (delta_of x site ∷ []) t.delta && (n == number))) (so_far x n)
-        ∙ join_or (has n (at_object x first)) (are_on (delta_of x site ∷ []) (take k ts)) (is_among (delta_of x site ∷ []) t.delta) (n == number)
-        ∙ ap (λ v. has n (at_object x first) || (v && (n == number))) (sym (on_more (delta_of x site ∷ []) ts k t d lt p))
-
-    pub term_skipped :
-        (t.delta.site == site) ≡ false → (x n : ℕ) →
-        has n (at_object x before) ≡ (has n (at_object x first) || (are_on (delta_of x site ∷ []) (take (k + 1) ts) && (n == number)))
-    term_skipped q x n =
-        so_far x n ∙ with_none (has n (at_object x first)) (are_on (delta_of x site ∷ []) (take k ts)) (n == number)
-        ∙ ap (λ v. has n (at_object x first) || ((are_on (delta_of x site ∷ []) (take k ts) || v) && (n == number))) (sym (there_is t.delta site x q))
-        ∙ ap (λ v. has n (at_object x first) || (v && (n == number))) (sym (on_more (delta_of x site ∷ []) ts k t d lt p))
+        has n (at_object x after) ≡ (has n (at_object x first) || (names_object x (take (k + 1) ts) && (n == number)))
+    term_noted after put x n =
+        object_noted t.delta.object number x n (at_object x before) (at_object x after) (put x)
+        ∙ ap (λ v. v || ((t.delta.object == x) && (n == number))) (so_far x n)
+        ∙ join_or (has n (at_object x first)) (names_object x (take k ts)) (t.delta.object == x) (n == number)
+        ∙ ap (λ v. has n (at_object x first) || (v && (n == number))) (sym (named_more x ts k t d lt p))
 
 pub terms_none : (b e : Bool) → b ≡ (b || (false && e))
 terms_none b e = sym (or_false b)

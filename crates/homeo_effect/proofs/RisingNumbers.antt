@@ -93,7 +93,7 @@ has_none p e first n (x ∷ xs) =
 is_less : (m n : ℕ) → m < n → nat_cmp m n ≡ Less
 is_less m n h = let p : nat_lt m n ≡ true = grind (arith, nat_tests) in ap (λ v. cond v Less (cond (m == n) Equal Greater)) p
 
-numbers_above : {X : Type 0} (test : X → Bool) (m first : ℕ) (xs : List X) → m < first → AllByRecursion (λ y. nat_cmp m y ≡ Less) (numbers_where test first xs)
+pub numbers_above : {X : Type 0} (test : X → Bool) (m first : ℕ) (xs : List X) → m < first → AllByRecursion (λ y. nat_cmp m y ≡ Less) (numbers_where test first xs)
 unfolding definitions
 numbers_above test m first [] h = tt
 numbers_above test m first (x ∷ xs) h = go (test x) (numbers_above test m (suc first) xs (omega arith))
@@ -126,14 +126,14 @@ less_is m n h = go (nat_lt m n) refl
         le_from_cmp : m < n
         le_from_cmp = grind (arith, nat_tests)
 
-absent : (n x : ℕ) (ys : List ℕ) → n ≤ x → AllByRecursion (λ y. nat_cmp x y ≡ Less) ys → has n ys ≡ false
+pub absent : (n x : ℕ) (ys : List ℕ) → n ≤ x → AllByRecursion (λ y. nat_cmp x y ≡ Less) ys → has n ys ≡ false
 absent n x [] h a = refl
 absent n x (y ∷ ys) h a =
     let lt : x < y = less_is x y a.0 in
     let apart : (n == y) ≡ false = grind (arith, nat_tests) in
     ap (λ v. v || has n ys) apart ∙ absent n x ys h a.1
 
-has_first : (x : ℕ) (xs : List ℕ) → has x (x ∷ xs) ≡ true
+pub has_first : (x : ℕ) (xs : List ℕ) → has x (x ∷ xs) ≡ true
 has_first x xs = let e : (x == x) ≡ true = grind (arith, nat_tests) in ap (λ v. v || has x xs) e
 
 first_at_most :

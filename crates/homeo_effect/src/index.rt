@@ -2,11 +2,11 @@
 
 ghost use Rattle.std.specs.Prelude.{◌≡◌, ◌+◌, ◌<◌, ◌^◌, length, map, IfOk};
 ghost use Rattle.homeo_syntax.specs.LowView.{low_commands, plain_lcommand};
-ghost use Rattle.homeo_plan.specs.PlanView.{plain_template};
+ghost use Rattle.homeo_follow.specs.ObjectPlan.{template_in};
 ghost use Rattle.homeo_effect.specs.Touched.{written, WritesOwn, touched_clauses, touched_freezes};
 
 use crate::uses::{clause_uses, freeze_uses, touched};
-use homeo_plan::RoundPlan;
+use homeo_follow::ObjectPlan;
 use homeo_syntax::{LCommand, List, Memory};
 use std::alloc::Global;
 use std::marker::Model;
@@ -17,22 +17,22 @@ use std::sync::Arc;
 #[derive(Drop)]
 pub struct TreatyIndex {
     site: u32,
-    plan: Arc<RoundPlan, Global>,
+    plan: Arc<ObjectPlan, Global>,
     clauses: Vec<Vec<u32>>,
     freezes: Vec<Vec<u32>>,
 }
 
 impl Model for TreatyIndex {
     ghost use Rattle.std.specs.Prelude.{map, length};
-    ghost use Rattle.homeo_plan.specs.PlanView.{plain_template};
+    ghost use Rattle.homeo_follow.specs.ObjectPlan.{template_in};
     ghost use Rattle.homeo_effect.specs.Indexed.{Indexed};
     ghost use Rattle.homeo_effect.specs.inner.Uses.{KeepsClauses, KeepsFreezes};
 
     ghost Value = { Indexed };
 
-    ghost view = { λ x. record { site = x.site; template = plain_template x.plan.value.template } };
+    ghost view = { λ x. record { site = x.site; template = template_in x.plan.value } };
 
-    ghost invariant = { λ x. KeepsClauses x.site (plain_template x.plan.value.template).clauses (map (λ v. v.items) x.clauses.items)
+    ghost invariant = { λ x. KeepsClauses x.site (template_in x.plan.value).clauses (map (λ v. v.items) x.clauses.items)
         × KeepsFreezes x.site (length x.plan.value.template.clauses.items) x.plan.value.template.freezes.items (map (λ v. v.items) x.freezes.items) };
 }
 
@@ -44,19 +44,20 @@ impl TreatyIndex {
     /// # Errors
     ///
     /// `Memory` when out of memory.
+    #[tactic(auto, unfolding(homeo_follow::specs::Key::definitions))]
     pub fn of(
         alloc: Global,
-        plan: &Arc<RoundPlan, Global>,
+        plan: &Arc<ObjectPlan, Global>,
         site: u32,
     ) -> Result<TreatyIndex, Memory>
         requires { length plan.now.value.template.clauses.items + length plan.now.value.template.freezes.items < 2 ^ 32 }
         ensures site { IfOk result (λ x. x.site ≡ site) }
-        ensures template { IfOk result (λ x. x.template ≡ plain_template plan.now.value.template) }
+        ensures template { IfOk result (λ x. x.template ≡ template_in plan.now.value) }
     {
-        let all = plan.template.clauses.as_slice();
-        let clauses = clause_uses(alloc, site, all)?;
-        let first = all.len() as u32;
-        let freezes = freeze_uses(alloc, site, first, plan.template.freezes.as_slice())?;
+        let template = &plan.template;
+        let clauses = clause_uses(alloc, site, template)?;
+        let first = template.clauses.as_slice().len() as u32;
+        let freezes = freeze_uses(alloc, site, first, template.freezes.as_slice())?;
         Ok(TreatyIndex {
             site,
             plan: Arc::try_clone(plan)?,

@@ -3,7 +3,7 @@ use Rattle.std.specs.Prelude.{◌≡◌, ℕ, ◌==◌, nat_lt, Bool, not, ◌||
 use Rattle.std.specs.List.{list_any}
 use Rattle.homeo_plan.specs.declared.forms.Delta.{Delta}
 use Rattle.homeo_plan.specs.Linear.{Linear, same_delta}
-use Rattle.homeo_plan.specs.Template.{PlannedCall, Clause, clauses_from, atoms_of_sets, template}
+use Rattle.homeo_plan.specs.Template.{PlannedCall, Clause, Template, clauses_from, atoms_of_sets, template}
 use Rattle.homeo_follow.specs.Key.{definitions}
 use Rattle.homeo_follow.specs.Expanded.{expanded_terms}
 use Rattle.homeo_follow.specs.Follow.{object_delta, followed, needed}
@@ -12,6 +12,11 @@ use Rattle.homeo_follow.specs.Follow.{object_delta, followed, needed}
 abbrev pub expanded_clause : ℕ → Clause → Clause
 unfolding definitions
 expanded_clause k c = record { terms = expanded_terms k c.terms; slack = c.slack }
+
+-- a template with clauses over whole objects as one over the deltas of k sites
+abbrev pub expanded_template : ℕ → Template → Template
+unfolding definitions
+expanded_template k t = record { clauses = map (expanded_clause k) t.clauses; freezes = t.freezes }
 
 -- the atoms of the commands of ground calls, one call after another
 abbrev pub followed_atoms : (ℕ → ℤ) → List PlannedCall → List Linear

@@ -20,7 +20,6 @@ use Rattle.homeo_plan.specs.Joined.{Deltas, alone}
 use Rattle.homeo_plan.specs.Local.{no_deltas}
 use Rattle.homeo_plan.specs.Planned.{sites_of, planned_at, template_at}
 use Rattle.homeo_plan.specs.PlanView.{plain_clause, plain_template}
-use Rattle.homeo_plan.specs.declared.round.RoundPlan.{RoundPlan}
 use Rattle.homeo_plan.specs.declared.templates.Template as code
 use Rattle.homeo_plan.specs.Template.{PlannedCall, Clause, Template, base_row}
 use Rattle.homeo_split.specs.CanExec.{run_limit, can_exec_all}
@@ -29,6 +28,7 @@ use Rattle.homeo_effect.specs.OwnState.{own_state}
 use Rattle.homeo_effect.specs.Program.{plain_program}
 use Rattle.homeo_effect.specs.Touched.{written, is_touched, is_among, touched_clauses, touched_freezes}
 use Rattle.homeo_effect.specs.declared.program.Program.{Program}
+use Rattle.homeo_follow.specs.declared.plan.ObjectPlan.{ObjectPlan}
 use Rattle.homeo_site.specs.OwnCalls.{RunsAs, IsOwnCall, AreOwnCalls}
 use Rattle.homeo_site.specs.declared.own_calls.OwnCall.{OwnCall}
 use Rattle.homeo_site.specs.declared.own_calls.OwnCalls.{OwnCalls}
@@ -60,27 +60,23 @@ pub call_here :
     IsCallHere w base call site
 call_here prepared exists at = record { accepted = prepared.accepted; within = prepared.plan.within; exists = exists; at = at }
 
-pub template_there :
-    {w : s.Workload} {base : List ℤ} {p : Prepared} → IsPrepared w base p → (q : RoundPlan) → q ≡ p.plan.value → plain_template q.template ≡ template_at w base
-template_there prepared q is = ap (λ (r : RoundPlan). plain_template r.template) is ∙ prepared.plan.template
-
 -- what was made for a call, on a plan that is lent
 pub own_here :
-    {w : s.Workload} (call : CallId) {q plan : RoundPlan} {o made : OwnCall} → q ≡ plan → o ≡ made → IsOwnCall w q.base.items (planned_at w call) made →
+    {w : s.Workload} (call : CallId) {q plan : ObjectPlan} {o made : OwnCall} → q ≡ plan → o ≡ made → IsOwnCall w q.base.items (planned_at w call) made →
     IsOwnCall w plan.base.items (planned_at w call) o
 own_here {w} call {q} {plan} {o} {made} same is own =
     subst (IsOwnCall w plan.base.items (planned_at w call)) (sym is)
-    (subst (λ (r : RoundPlan). IsOwnCall w r.base.items (planned_at w call) made) same own)
+    (subst (λ (r : ObjectPlan). IsOwnCall w r.base.items (planned_at w call) made) same own)
 
 -- the index of the call's site is over the template of this plan
 pub index_there :
-    (w : s.Workload) (q plan : RoundPlan) (u : Template) → q ≡ plan → u ≡ template_at w plan.base.items → u ≡ template_at w q.base.items
-index_there w q plan u same is = is ∙ ap (λ (r : RoundPlan). template_at w r.base.items) (sym same)
+    (w : s.Workload) (q plan : ObjectPlan) (u : Template) → q ≡ plan → u ≡ template_at w plan.base.items → u ≡ template_at w q.base.items
+index_there w q plan u same is = is ∙ ap (λ (r : ObjectPlan). template_at w r.base.items) (sym same)
 
 -- what was made so far, too
 pub still_made :
-    (w : s.Workload) (q plan : RoundPlan) (os : OwnCalls) → q ≡ plan → AreOwnCalls w q.base.items os → AreOwnCalls w plan.base.items os
-still_made w q plan os same made = subst (λ (r : RoundPlan). AreOwnCalls w r.base.items os) same made
+    (w : s.Workload) (q plan : ObjectPlan) (os : OwnCalls) → q ≡ plan → AreOwnCalls w q.base.items os → AreOwnCalls w plan.base.items os
+still_made w q plan os same made = subst (λ (r : ObjectPlan). AreOwnCalls w r.base.items os) same made
 
 abbrev deltas_of : Replay → ℕ → List ℤ
 deltas_of r i = get_or (site_lists r) i []

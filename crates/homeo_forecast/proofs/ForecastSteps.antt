@@ -34,13 +34,13 @@ rebased w base p h = subst (λ b. IsPrepared w b p) (sym h.plan.base) h
 
 pub begun_at :
     (w : s.Workload) (base : List ℤ) (p : Prepared) (r : Replay) → IsPrepared w base p →
-    site_lists r ≡ replicate p.plan.value.template.sites (replicate (length p.plan.value.base.items) (pos 0)) →
-    HaveRooms p.plan.value.template.sites [] (plain_template p.plan.value.template).clauses r.rooms.items → IsReplay w base [] r
+    site_lists r ≡ replicate p.template.sites (replicate (length p.plan.value.base.items) (pos 0)) →
+    HaveRooms p.template.sites [] (plain_template p.template).clauses r.rooms.items → IsReplay w base [] r
 begun_at w base p r h lists rooms =
     begun w base r h.accepted
-    (lists ∙ ap₂ (λ k n. replicate k (replicate n (pos 0))) h.plan.sites (ap length h.plan.base))
-    (subst (λ k. HaveRooms k [] (template_at w base).clauses r.rooms.items) h.plan.sites
-    (subst (λ (t : Template). HaveRooms p.plan.value.template.sites [] t.clauses r.rooms.items) h.plan.template rooms))
+    (lists ∙ ap₂ (λ k n. replicate k (replicate n (pos 0))) h.sites (ap length h.plan.base))
+    (subst (λ k. HaveRooms k [] (template_at w base).clauses r.rooms.items) h.sites
+    (subst (λ (t : Template). HaveRooms p.template.sites [] t.clauses r.rooms.items) h.template rooms))
 
 pub on_plan : (w : s.Workload) (base : List ℤ) (p : Prepared) (calls : List CallId) (r : Replay) → IsPrepared w base p → IsReplay w base calls r →
     IsReplay w p.plan.value.base.items calls r

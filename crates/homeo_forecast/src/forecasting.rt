@@ -42,7 +42,7 @@ pub fn forecast(
 {
     let prepared = Prepared::at(alloc, c, base)?;
     let mut own_calls = OwnCalls::new(alloc, c)?;
-    let mut replay = Replay::begin(alloc, &prepared.plan)?;
+    let mut replay = Replay::begin(alloc, &prepared)?;
     for (kept, call) in calls.iter().enumerate() {
         let stop = replay.call(alloc, c, &prepared, &mut own_calls, *call)?;
         if stop.is_some() {

@@ -1,11 +1,11 @@
 //! Which clauses and freezes stand on each site's deltas.
 
 ghost use Rattle.std.specs.Prelude.{◌+◌, ◌<◌, ◌^◌, length, IfOk};
-ghost use Rattle.homeo_plan.specs.PlanView.{plain_template};
+ghost use Rattle.homeo_follow.specs.ObjectPlan.{template_in};
 ghost use Rattle.homeo_forecast.specs.inner.Prepared.{AreIndexes};
 
 use homeo_effect::TreatyIndex;
-use homeo_plan::RoundPlan;
+use homeo_follow::ObjectPlan;
 use homeo_syntax::{List, Memory};
 use std::alloc::Global;
 use std::sync::Arc;
@@ -13,10 +13,10 @@ use std::sync::Arc;
 /// The index of a plan's template for each site.
 pub(crate) fn indexes(
     alloc: Global,
-    plan: &Arc<RoundPlan, Global>,
+    plan: &Arc<ObjectPlan, Global>,
 ) -> Result<List<TreatyIndex>, Memory>
     requires { length plan.now.value.template.clauses.items + length plan.now.value.template.freezes.items < 2 ^ 32 }
-    ensures { IfOk result (λ xs. AreIndexes plan.now.value.template.sites (plain_template plan.now.value.template) xs.items) }
+    ensures { IfOk result (λ xs. AreIndexes plan.now.value.template.sites (template_in plan.now.value) xs.items) }
 {
     let mut indexes = List::new(alloc);
     for site in 0..plan.template.sites {

@@ -12,16 +12,19 @@ use crate::indexes::indexes;
 use homeo_build::Compiled;
 use homeo_build::treaties::plan_at;
 use homeo_effect::TreatyIndex;
+use homeo_follow::ObjectPlan;
 use homeo_meaning::{CallId, Database};
-use homeo_plan::RoundPlan;
+use homeo_plan::Template;
 use homeo_syntax::{List, Memory};
+use homeo_template::at_sites;
 use std::alloc::Global;
 use std::sync::Arc;
 
-/// The plan at a base, and for each site which clauses and freezes stand on each of its deltas.
+/// The plan at a base, its template over the deltas of the sites, and for each site which clauses and freezes stand on each of its deltas.
 #[derive(Drop)]
 pub(crate) struct Prepared {
-    pub(crate) plan: Arc<RoundPlan, Global>,
+    pub(crate) plan: Arc<ObjectPlan, Global>,
+    pub(crate) template: Template,
     pub(crate) indexes: List<TreatyIndex>,
 }
 
@@ -34,8 +37,13 @@ impl Prepared {
         // its rules hold
         let _workload = c.workload().workload();
         let plan = plan_at(alloc, c, base)?;
+        let template = at_sites(alloc, &plan.template)?;
         let indexes = indexes(alloc, &plan)?;
-        Ok(Prepared { plan, indexes })
+        Ok(Prepared {
+            plan,
+            template,
+            indexes,
+        })
     }
 
     /// The index of the treaty of a call's site.

@@ -27,7 +27,7 @@ use crate::scratch::Scratch;
 use crate::stops::{first_frozen, first_spent};
 use homeo_build::Compiled;
 use homeo_meaning::CallId;
-use homeo_plan::{Clause, Config, RoundPlan, Template};
+use homeo_plan::{Clause, Config, Template};
 use homeo_site::OwnCalls;
 use homeo_syntax::Memory;
 use std::alloc::Global;
@@ -113,14 +113,15 @@ fn config_of(alloc: Global, rooms: &[Room]) -> Result<Config, Memory>
 }
 
 impl Replay {
-    /// Before any call, at the base of a plan.
-    pub(crate) fn begin(alloc: Global, plan: &RoundPlan) -> Result<Replay, Memory>
+    /// Before any call, at the base of what is prepared.
+    pub(crate) fn begin(alloc: Global, prepared: &Prepared) -> Result<Replay, Memory>
         ensures deltas { IfOk result (λ r. map (λ d. d.items) r.deltas.items ≡
-            replicate plan.now.template.sites (replicate (length plan.now.base.items) (pos 0))) }
-        ensures rooms { IfOk result (λ r. HaveRooms plan.now.template.sites [] (plain_template plan.now.template).clauses r.rooms.items) }
+            replicate prepared.now.template.sites (replicate (length prepared.now.plan.value.base.items) (pos 0))) }
+        ensures rooms { IfOk result (λ r. HaveRooms prepared.now.template.sites [] (plain_template prepared.now.template).clauses r.rooms.items) }
     {
-        let template = &plan.template;
-        let deltas = no_deltas(alloc, template.sites, plan.base.as_slice().len())?;
+        let template = &prepared.template;
+        let objects = prepared.plan.base.as_slice().len();
+        let deltas = no_deltas(alloc, template.sites, objects)?;
         let rooms = new_rooms(alloc, template.sites, template.clauses.as_slice())?;
         Ok(Replay {
             deltas,
@@ -159,7 +160,7 @@ impl Replay {
         self.scratch.run(alloc, &own.program, deltas)?;
         let stop = first_stop(
             alloc,
-            &prepared.plan.template,
+            &prepared.template,
             self.rooms.as_slice(),
             own.clauses.as_slice(),
             own.freezes.as_slice(),

@@ -6,7 +6,8 @@ ghost use Rattle.homeo_syntax.specs.LowView.{plain_lexpr};
 ghost use Rattle.homeo_plan_tests.specs.inner.ResidualExample.{lowered, IsExample};
 
 use crate::object::{base, object_sum, pair, sum};
-use homeo_plan::{Clause, Config, Delta, Residual, RoundPlan, Template, Term};
+use homeo_follow::ObjectPlan;
+use homeo_plan::{Clause, Config, Delta, Residual, Template, Term};
 use homeo_syntax::{LCommand, LExpr, List, Memory, SplitName, Temp};
 use std::alloc::Global;
 use std::sync::Arc;
@@ -60,7 +61,7 @@ fn clause(alloc: Global, factor: i128, slack: i128) -> Result<Clause, Memory> {
 }
 
 /// A round in which the object is from 1 to 9: of its delta at site 0 at most 4 may be taken, and 2 added.
-pub(crate) fn plan(alloc: Global) -> Result<Arc<RoundPlan>, Memory>
+pub(crate) fn plan(alloc: Global) -> Result<Arc<ObjectPlan>, Memory>
     ensures { IfOk result (λ p. length p.value.template.clauses.items + length p.value.template.freezes.items < 2 ^ 32) }
 {
     let mut clauses = List::new(alloc);
@@ -69,14 +70,14 @@ pub(crate) fn plan(alloc: Global) -> Result<Arc<RoundPlan>, Memory>
     let mut bounds = List::new(alloc);
     bounds.push(List::from_vec([4, 0].to_vec(alloc)?))?;
     bounds.push(List::from_vec([2, 2].to_vec(alloc)?))?;
-    let plan = RoundPlan {
+    let plan = ObjectPlan {
         base: base(alloc, 5)?,
         template: Template {
             sites: 2,
             clauses,
             freezes: List::new(alloc),
         },
-        config: Config { bounds },
+        bounds: Some(Config { bounds }),
     };
     Ok(Arc::new(alloc, plan)?)
 }

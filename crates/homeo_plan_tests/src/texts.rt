@@ -1,8 +1,7 @@
 //! Reading texts, and one that several tests take.
 
-use homeo_accept::TextRefusal;
 use homeo_meaning::{Accepted, Purpose};
-use std::alloc::{AllocError, Global};
+use std::alloc::Global;
 use std::process::Abort;
 use std::test::Fail;
 
@@ -43,9 +42,6 @@ end
 /// Reads a text that is accepted.
 pub(crate) fn accepted(rt: &impl Abort, alloc: Global, text: &str) -> Result<Accepted, Fail> {
     assert!(rt; text.len() <= 1_048_576);
-    match homeo_accept::accepted(alloc, text.as_bytes(), Purpose::Steps) {
-        Ok(w) => Ok(w),
-        Err(TextRefusal::Memory) => Err(Fail::from(AllocError)),
-        Err(TextRefusal::Refused(_)) => panic!(rt; "refused"),
-    }
+    let w = homeo_accept::accepted(alloc, text.as_bytes(), Purpose::Steps);
+    Ok(w.ok().ok_or("an accepted text")?)
 }

@@ -4,6 +4,7 @@ pub mod FailureSteps
 pub mod FirstFailures
 pub mod Limits
 pub mod LocalSteps
+pub mod ObjectTerms
 pub mod OrderedAtoms
 pub mod OwnChecks
 pub mod OwnFits

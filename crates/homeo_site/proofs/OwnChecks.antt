@@ -1,15 +1,18 @@
 -- A site's clauses are as many as the template's, and what is true of these is true of them.
-use Rattle.std.proofs.Common.{◌≡◌, ℕ, suc, ◌<◌, List, [], ◌∷◌, map, length, All, true, false, Option, Some, None, is_some, refl, sym, ap, ◌∙◌, subst}
+use Rattle.std.proofs.Common.{◌≡◌, ℕ, suc, ◌+◌, ◌<◌, ◌≤◌, List, [], ◌∷◌, map, length, All, true, false, Option, Some, None, is_some, refl, sym, ap, ◌∙◌, subst}
 use Rattle.std.proofs.lemmas.List.{length-map}
 use Rattle.std.proofs.lemmas.List.Elements.{All-nil, All-cons, All-head, All-tail}
 use Rattle.homeo_plan.specs.declared.treaty.Broken.{Broken}
-use Rattle.homeo_plan.specs.Template.{Clause, Template}
-use Rattle.homeo_plan.specs.PlanView.{plain_clause, plain_template}
+use Rattle.homeo_plan.specs.Template.{Clause}
+use Rattle.homeo_plan.specs.PlanView.{plain_clause}
 use Rattle.homeo_plan.specs.declared.forms.Delta.{Delta}
-use Rattle.homeo_plan.specs.declared.round.RoundPlan.{RoundPlan}
 use Rattle.homeo_plan.specs.declared.templates.Clause as clause
 use Rattle.homeo_plan.specs.Config.{Config}
 use Rattle.homeo_plan.specs.Joined.{Deltas}
+use Rattle.homeo_follow.specs.Key.{definitions as follow_definitions}
+use Rattle.homeo_follow.specs.ObjectPlan.{template_in}
+use Rattle.homeo_follow.specs.ObjectTemplate.{expanded_clause}
+use Rattle.homeo_follow.specs.declared.plan.ObjectPlan.{ObjectPlan}
 use Rattle.homeo_site.specs.Key.{definitions}
 use Rattle.homeo_site.specs.declared.own_treaty.OwnClause as code
 use Rattle.homeo_site.specs.inner.Failures.{first_of}
@@ -56,11 +59,21 @@ second_is (Some f) b e = cc
 
 -- ---- the template of a plan
 pub template_count :
-    (p : RoundPlan) (cs : List clause.Clause) (t : Template) → cs ≡ p.template.clauses.items → plain_template p.template ≡ t →
-    length cs ≡ length t.clauses
-template_count p cs t same is =
-    ap length same ∙ sym (length-map p.template.clauses.items plain_clause) ∙ ap (λ (u : Template). length u.clauses) is
+    (p : ObjectPlan) (cs : List clause.Clause) → cs ≡ p.template.clauses.items → length cs ≡ length (template_in p).clauses
+unfolding follow_definitions
+template_count p cs same =
+    let clauses = p.template.clauses.items in
+    ap length same ∙ sym (length-map (map plain_clause clauses) (expanded_clause p.template.sites) ∙ length-map clauses plain_clause)
 
-pub template_freezes :
-    (p : RoundPlan) (ds : List Delta) (t : Template) → ds ≡ p.template.freezes.items → plain_template p.template ≡ t → ds ≡ t.freezes
-template_freezes p ds t same is = same ∙ ap (λ (u : Template). u.freezes) is
+pub template_freezes : (p : ObjectPlan) (ds : List Delta) → ds ≡ p.template.freezes.items → ds ≡ (template_in p).freezes
+unfolding follow_definitions
+template_freezes p ds same = same
+
+-- what is frozen has its numbers after those of the clauses
+pub freezes_there :
+    (p : ObjectPlan) (cs : List clause.Clause) (ds : List Delta) (ns : List ℕ) → cs ≡ p.template.clauses.items → ds ≡ p.template.freezes.items →
+    All (λ n. (length (template_in p).clauses ≤ n) × (n < length (template_in p).clauses + length (template_in p).freezes)) ns →
+    All (λ n. (length cs ≤ n) × (n < length cs + length ds)) ns
+freezes_there p cs ds ns clauses freezes h =
+    subst (λ (l : List Delta). All (λ n. (length cs ≤ n) × (n < length cs + length l)) ns) (sym (template_freezes p ds freezes))
+    (subst (λ m. All (λ n. (m ≤ n) × (n < m + length (template_in p).freezes)) ns) (sym (template_count p cs clauses)) h)

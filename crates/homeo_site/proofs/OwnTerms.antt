@@ -1,22 +1,28 @@
--- The terms of a site, one more at a time, and their sums.
+-- The terms of a site, one clause after another, and their sums.
 use Rattle.std.proofs.Common.{◌≡◌, ℕ, zero, suc, ◌+◌, ◌<◌, ◌≤◌, ◌==◌, Bool, true, false, cond, List, [], ◌∷◌, ◌++◌, length, get_or, map, take, ℤ, pos, ◌+ℤ◌, ◌*ℤ◌, refl, sym, ap, ap₂, ◌∙◌, subst, FitsSigned, arith}
 use Rattle.std.proofs.lemmas.Int.{ints}
 use Rattle.std.specs.Int.{w128}
-use Rattle.std.proofs.lemmas.Bool.Decides.{nat_tests}
+use Rattle.std.specs.Prelude.{replicate}
 use Rattle.std.proofs.Math.Seq.{take-length}
-use Rattle.std.proofs.lemmas.List.{take_more, append-nil, map-append}
+use Rattle.std.proofs.lemmas.List.{take_more, map-append}
 use Rattle.homeo_syntax.specs.Listed.{Listed}
 use Rattle.homeo_plan.specs.Key.{definitions as plan_definitions}
 use Rattle.homeo_plan.specs.declared.forms.Term.{Term}
 use Rattle.homeo_plan.specs.Joined.{Deltas}
-use Rattle.homeo_plan.specs.Config.{Config}
+use Rattle.homeo_plan.specs.Config.{Config, split, even}
 use Rattle.homeo_plan.specs.PlanView.{plain_clause}
+use Rattle.homeo_plan.specs.Template.{Clause}
 use Rattle.homeo_plan.specs.Treaty.{site_sum, bound_at}
 use Rattle.homeo_plan.specs.declared.templates.Clause as code
+use Rattle.homeo_follow.specs.Key.{definitions as follow_definitions}
+use Rattle.homeo_follow.specs.Expanded.{expanded_terms}
+use Rattle.homeo_follow.specs.ObjectTemplate.{expanded_clause}
 use Rattle.homeo_site.specs.Key.{definitions}
 use Rattle.homeo_site.specs.declared.own_treaty.OwnTerm.{OwnTerm}
 use Rattle.homeo_site.specs.OwnTreaty.{own_terms, own_sum, SumsFit, OwnClause, plain_own, own_clauses}
 use Rattle.homeo_site.specs.declared.own_treaty.OwnClause as code_own
+use Rattle.homeo_site.specs.inner.Parts.{own_term}
+use Rattle.homeo_site.proofs.ObjectTerms.{own_all}
 
 -- a site's sum is that of its own terms
 pub own_sum_is : (i : ℕ) (ts : List Term) (x : Deltas) → own_sum (own_terms i ts) x ≡ site_sum i ts x
@@ -30,42 +36,6 @@ own_sum_is i (t ∷ ts) x = go (t.delta.site == i) (own_sum_is i ts x)
         cond v (t.factor *ℤ x t.delta.object) (pos 0) +ℤ site_sum i ts x
     go true ih = ap (λ z. (t.factor *ℤ x t.delta.object) +ℤ z) ih
     go false ih = omega (arith, ints, ih)
-
-own_append : (i : ℕ) (ts us : List Term) → own_terms i (ts ++ us) ≡ own_terms i ts ++ own_terms i us
-unfolding definitions
-own_append i [] us = refl
-own_append i (t ∷ ts) us = go (t.delta.site == i) (own_append i ts us)
-  where
-    one : OwnTerm
-    one = record { object = t.delta.object; factor = t.factor }
-
-    go :
-        (v : Bool) → own_terms i (ts ++ us) ≡ own_terms i ts ++ own_terms i us →
-        cond v (one ∷ own_terms i (ts ++ us)) (own_terms i (ts ++ us)) ≡ cond v (one ∷ own_terms i ts) (own_terms i ts) ++ own_terms i us
-    go true ih = ap (λ os. one ∷ os) ih
-    go false ih = ih
-
--- the next of a list of terms is put to the site's where it is one of its terms
-pub own_more :
-    (i : ℕ) (ts : List Term) (k : ℕ) (d : Term) → k < length ts → (get_or ts k d).delta.site ≡ i →
-    own_terms i (take (k + 1) ts) ≡
-    own_terms i (take k ts) ++ record { object = (get_or ts k d).delta.object; factor = (get_or ts k d).factor } ∷ []
-unfolding definitions
-own_more i ts k d lt here =
-    let q : ((get_or ts k d).delta.site == i) ≡ true = grind (arith, nat_tests) in
-    ap (own_terms i) (take_more ts k d lt) ∙ own_append i (take k ts) (get_or ts k d ∷ [])
-    ∙ ap (λ v. own_terms i (take k ts) ++ cond v (record { object = (get_or ts k d).delta.object; factor = (get_or ts k d).factor } ∷ []) []) q
-
--- and no other
-pub own_other :
-    (i : ℕ) (ts : List Term) (k : ℕ) (d : Term) → k < length ts → ((get_or ts k d).delta.site ≡ i → ⊥) →
-    own_terms i (take (k + 1) ts) ≡ own_terms i (take k ts)
-unfolding definitions
-own_other i ts k d lt other =
-    let q : ((get_or ts k d).delta.site == i) ≡ false = grind (arith, nat_tests) in
-    ap (own_terms i) (take_more ts k d lt) ∙ own_append i (take k ts) (get_or ts k d ∷ [])
-    ∙ ap (λ v. own_terms i (take k ts) ++ cond v (record { object = (get_or ts k d).delta.object; factor = (get_or ts k d).factor } ∷ []) []) q
-    ∙ append-nil (own_terms i (take k ts))
 
 sum_append : (ts us : List OwnTerm) (x : Deltas) → own_sum (ts ++ us) x ≡ own_sum ts x +ℤ own_sum us x
 unfolding definitions
@@ -85,14 +55,6 @@ sum_more ts k d x lt =
     last z = omega (arith, ints)
 
 -- ---- steps of the loops
-pub own_pushed :
-    (i : ℕ) (ts : List Term) (k : ℕ) (d : Term) (one : OwnTerm) (old new : List OwnTerm) → k < length ts →
-    (get_or ts k d).delta.site ≡ i → old ≡ own_terms i (take k ts) →
-    one ≡ record { object = (get_or ts k d).delta.object; factor = (get_or ts k d).factor } → new ≡ old ++ one ∷ [] →
-    new ≡ own_terms i (take (k + 1) ts)
-own_pushed i ts k d one old new lt here so_far same e =
-    e ∙ ap₂ (λ os (o : OwnTerm). os ++ o ∷ []) so_far same ∙ sym (own_more i ts k d lt here)
-
 pub sum_next :
     (ts : List OwnTerm) (k : ℕ) (d : OwnTerm) (x : Deltas) (sum next : ℤ) → k < length ts → sum ≡ own_sum (take k ts) x →
     next ≡ sum +ℤ ((get_or ts k d).factor *ℤ x (get_or ts k d).object) → next ≡ own_sum (take (k + 1) ts) x
@@ -137,37 +99,60 @@ no_bound bs ks n i same le =
     ap (λ l. get_or l i (pos 0)) (sym (no_bounds ks n le))
     ∙ ap (λ l. get_or (get_or (map (λ (l : Listed ℤ). l.items) l) n []) i (pos 0)) same
 
--- ---- clauses
-pub own_clause_more :
-    (i : ℕ) (cs : List code.Clause) (bs : Config) (k : ℕ) (d : code.Clause) → k < length cs →
-    own_clauses i (map plain_clause (take (suc k) cs)) bs ≡
-    own_clauses i (map plain_clause (take k cs)) bs
-    ++ record { terms = own_terms i (get_or cs k d).terms.items; bound = bound_at (get_or bs k []) i } ∷ []
-unfolding definitions plan_definitions
-own_clause_more i [] bs k d lt = absurd (omega arith)
-own_clause_more i (c ∷ cs) [] zero d lt = refl
-own_clause_more i (c ∷ cs) (b ∷ bs) zero d lt = refl
-own_clause_more i (c ∷ cs) [] (suc k) d lt =
-    ap (λ os. record { terms = own_terms i c.terms.items; bound = pos 0 } ∷ os) (own_clause_more i cs [] k d (omega arith))
-own_clause_more i (c ∷ cs) (b ∷ bs) (suc k) d lt =
-    ap (λ os. record { terms = own_terms i c.terms.items; bound = bound_at b i } ∷ os) (own_clause_more i cs bs k d (omega arith))
+-- ---- bounds of a slack that is split evenly
+even_at :
+    (k : ℕ) (cs : List code.Clause) (n : ℕ) (d : code.Clause) → n < length cs →
+    get_or (even k (map (expanded_clause k) (map plain_clause cs))) n [] ≡ split (replicate k 1) (get_or cs n d).slack
+unfolding plan_definitions follow_definitions
+even_at k [] n d lt = absurd (omega arith)
+even_at k (c ∷ cs) zero d lt = refl
+even_at k (c ∷ cs) (suc n) d lt = even_at k cs n d (omega arith)
 
-pub clause_pushed :
-    (i : ℕ) (cs : List code.Clause) (bs : Config) (k : ℕ) (c : code.Clause) (one : code_own.OwnClause)
-    (old new : List code_own.OwnClause) → k < length cs → c ≡ get_or cs k c →
-    map plain_own old ≡ own_clauses i (map plain_clause (take k cs)) bs → one.terms.items ≡ own_terms i c.terms.items →
-    one.bound ≡ bound_at (get_or bs k []) i → new ≡ old ++ one ∷ [] →
-    map plain_own new ≡ own_clauses i (map plain_clause (take (k + 1) cs)) bs
-unfolding definitions
-clause_pushed i cs bs k c one old new lt at so_far terms bound e =
-    ap (map plain_own) e ∙ map-append plain_own old (one ∷ [])
-    ∙ ap₂ (λ os (o : OwnClause). os ++ o ∷ []) so_far (same (terms ∙ ap (λ (d : code.Clause). own_terms i d.terms.items) at) bound)
-    ∙ sym (own_clause_more i cs bs k c lt) ∙ ap (λ n. own_clauses i (map plain_clause (take n cs)) bs) next
-  where
-    next : suc k ≡ k + 1
-    next = omega arith
+pub even_there :
+    (k i : ℕ) (cs : List code.Clause) (n : ℕ) (c : code.Clause) (slack bound : ℤ) → n < length cs → c ≡ get_or cs n c → slack ≡ c.slack →
+    bound ≡ bound_at (split (replicate k 1) slack) i →
+    bound ≡ bound_at (get_or (even k (map (expanded_clause k) (map plain_clause cs))) n []) i
+even_there k i cs n c slack bound lt at same is =
+    is ∙ ap (λ z. bound_at (split (replicate k 1) z) i) (same ∙ ap (λ (d : code.Clause). d.slack) at)
+    ∙ ap (λ b. bound_at b i) (sym (even_at k cs n c lt))
 
-    same :
-        {ts : List OwnTerm} {b : ℤ} → one.terms.items ≡ ts → one.bound ≡ b →
-        plain_own one ≡ record { terms = ts; bound = b }
-    same t b = λ j. record { terms = t j; bound = b j }
+-- ---- clauses over whole objects
+module _ (k i : ℕ) where
+  -- over the deltas of k sites
+  abbrev spread : List code.Clause → List Clause
+  spread cs = map (expanded_clause k) (map plain_clause cs)
+
+  own_clause_more :
+      (cs : List code.Clause) (bs : Config) (n : ℕ) (d : code.Clause) → n < length cs →
+      own_clauses i (spread (take (suc n) cs)) bs ≡
+      own_clauses i (spread (take n cs)) bs
+      ++ record { terms = own_terms i (expanded_terms k (get_or cs n d).terms.items); bound = bound_at (get_or bs n []) i } ∷ []
+  unfolding definitions plan_definitions follow_definitions
+  own_clause_more [] bs n d lt = absurd (omega arith)
+  own_clause_more (c ∷ cs) [] zero d lt = refl
+  own_clause_more (c ∷ cs) (b ∷ bs) zero d lt = refl
+  own_clause_more (c ∷ cs) [] (suc n) d lt =
+      ap (λ os. record { terms = own_terms i (expanded_terms k c.terms.items); bound = pos 0 } ∷ os) (own_clause_more cs [] n d (omega arith))
+  own_clause_more (c ∷ cs) (b ∷ bs) (suc n) d lt =
+      ap (λ os. record { terms = own_terms i (expanded_terms k c.terms.items); bound = bound_at b i } ∷ os) (own_clause_more cs bs n d (omega arith))
+
+  pub clause_pushed :
+      i < k → (cs : List code.Clause) (bs : Config) (n : ℕ) (c : code.Clause) (one : code_own.OwnClause)
+      (old new : List code_own.OwnClause) → n < length cs → c ≡ get_or cs n c →
+      map plain_own old ≡ own_clauses i (spread (take n cs)) bs → one.terms.items ≡ map own_term c.terms.items →
+      one.bound ≡ bound_at (get_or bs n []) i → new ≡ old ++ one ∷ [] →
+      map plain_own new ≡ own_clauses i (spread (take (n + 1) cs)) bs
+  unfolding definitions
+  clause_pushed site cs bs n c one old new lt at so_far terms bound e =
+      ap (map plain_own) e ∙ map-append plain_own old (one ∷ [])
+      ∙ ap₂ (λ os (o : OwnClause). os ++ o ∷ []) so_far
+      (same (terms ∙ sym (own_all k i site c.terms.items) ∙ ap (λ (d : code.Clause). own_terms i (expanded_terms k d.terms.items)) at) bound)
+      ∙ sym (own_clause_more cs bs n c lt) ∙ ap (λ m. own_clauses i (spread (take m cs)) bs) next
+    where
+      next : suc n ≡ n + 1
+      next = omega arith
+
+      same :
+          {ts : List OwnTerm} {b : ℤ} → one.terms.items ≡ ts → one.bound ≡ b →
+          plain_own one ≡ record { terms = ts; bound = b }
+      same t b = λ j. record { terms = t j; bound = b j }

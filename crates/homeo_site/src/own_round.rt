@@ -1,20 +1,21 @@
 //! What a site keeps of a round besides its deltas.
 
-ghost use Rattle.std.specs.Prelude.{◌≡◌, ◌+◌, ◌^◌, ◌<◌, List, length, ℤ, IfOk};
+ghost use Rattle.std.specs.Prelude.{◌≡◌, ◌<◌, List, ℤ, IfOk};
 ghost use Rattle.homeo_syntax.specs.SourceView.{plain_workload};
 ghost use Rattle.homeo_plan.specs.Planned.{sites_of, planned_at, policy};
-ghost use Rattle.homeo_plan.specs.PlanView.{plain_template, plain_config};
-ghost use Rattle.homeo_build.specs.Plan.{IsPlanOf};
+ghost use Rattle.homeo_follow.specs.ObjectPlan.{template_in, config_in};
+ghost use Rattle.homeo_build.specs.Plan.{IsObjectPlan};
 ghost use Rattle.homeo_history.specs.Legal.{IsCallAt};
 ghost use Rattle.homeo_site.specs.OwnCalls.{IsOwnCall, AreOwnCalls};
 ghost use Rattle.homeo_site.specs.TreatyPart.{part_at};
 ghost use Rattle.homeo_site.specs.inner.OwnRound.{AreParts};
+ghost use Rattle.homeo_site.specs.inner.Parts.{CanKeep};
 
 use crate::own_calls::{OwnCall, OwnCalls};
 use crate::own_treaty::OwnTreaty;
 use homeo_build::Compiled;
+use homeo_follow::ObjectPlan;
 use homeo_meaning::CallId;
-use homeo_plan::RoundPlan;
 use homeo_syntax::Memory;
 use std::alloc::Global;
 use std::marker::Model;
@@ -32,7 +33,7 @@ pub(crate) struct OwnParts {
 #[derive(Drop)]
 pub(crate) struct OwnRound {
     compiled: Arc<Compiled, Global>,
-    plan: Arc<RoundPlan, Global>,
+    plan: Arc<ObjectPlan, Global>,
     site: u32,
     round: u64,
     parts: Option<OwnParts>,
@@ -64,14 +65,14 @@ impl OwnParts {
     fn new(
         alloc: Global,
         compiled: &Compiled,
-        plan: &Arc<RoundPlan, Global>,
+        plan: &Arc<ObjectPlan, Global>,
         site: u32,
     ) -> Result<OwnParts, Memory>
-        requires { length plan.now.value.template.clauses.items + length plan.now.value.template.freezes.items < 2 ^ 32 }
+        requires { CanKeep plan.now.value site }
         ensures treaty { IfOk result (λ o. o.treaty.value ≡ record {
           site = site;
-          template = plain_template plan.now.value.template;
-          config = plain_config plan.now.value.config;
+          template = template_in plan.now.value;
+          config = config_in plan.now.value;
         }) }
         ensures calls { (base : List ℤ) → IfOk result (λ o. AreOwnCalls (plain_workload compiled.now) base o.calls) }
     {
@@ -88,12 +89,12 @@ impl OwnRound {
     /// A site's part of the round that this plan is of. It takes no memory but the shares of workload and plan.
     pub(crate) fn new(
         compiled: &Arc<Compiled, Global>,
-        plan: &Arc<RoundPlan, Global>,
+        plan: &Arc<ObjectPlan, Global>,
         site: u32,
         round: u64,
     ) -> Result<OwnRound, Memory>
-        requires plan { IsPlanOf (plain_workload compiled.now.value) plan.now.value.base.items plan.now.value }
-        requires policy { plain_config plan.now.value.config ≡ policy (plain_workload compiled.now.value) plan.now.value.base.items }
+        requires plan { IsObjectPlan (plain_workload compiled.now.value) plan.now.value.base.items plan.now.value }
+        requires policy { config_in plan.now.value ≡ policy (plain_workload compiled.now.value) plan.now.value.base.items }
         requires site { site < sites_of (plain_workload compiled.now.value) }
         ensures { IfOk result (λ r. r ≡ record {
           work = compiled.now.value;

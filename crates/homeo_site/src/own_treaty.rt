@@ -1,17 +1,26 @@
 //! What a site keeps of a treaty: of each clause the terms on its own deltas and its own bound, and which clauses and freezes
 //! stand on each of its deltas.
 
-ghost use Rattle.std.specs.Prelude.{◌≡◌, ◌+◌, ◌^◌, ◌<◌, ◌≤◌, ◌+ℤ◌, ◌*ℤ◌, [], All, length, map, slice_index_or, IfOk, FitsSigned};
+ghost use Rattle.std.specs.Prelude.{◌≡◌, ℕ, ◌+◌, ◌<◌, ◌≤◌, ◌+ℤ◌, ◌*ℤ◌, [], All, length, map, slice_index_or, IfOk, FitsSigned};
 ghost use Rattle.std.specs.Int.{w128};
 ghost use Rattle.homeo_meaning.specs.Serial.{values_of};
-ghost use Rattle.homeo_plan.specs.PlanView.{plain_clause, plain_config, plain_template};
+ghost use Rattle.homeo_meaning.specs.Small.{IsSmall};
+ghost use Rattle.homeo_plan.specs.Config.{HaveSlack, even};
+ghost use Rattle.homeo_plan.specs.Each.{Each};
+ghost use Rattle.homeo_plan.specs.Limit.{form_limit};
+ghost use Rattle.homeo_plan.specs.PlanView.{plain_clause, plain_config};
 ghost use Rattle.homeo_plan.specs.Treaty.{bound_at};
+ghost use Rattle.homeo_follow.specs.ObjectPlan.{template_in, config_in};
+ghost use Rattle.homeo_follow.specs.ObjectTemplate.{expanded_clause};
 ghost use Rattle.homeo_site.specs.inner.Failures.{sum_failure, freeze_failure, first_of, first_failure, own_failure, own_freeze_failure};
-ghost use Rattle.homeo_site.specs.OwnTreaty.{own_terms, own_sum, SumsFit, plain_own, own_clauses};
+ghost use Rattle.homeo_site.specs.inner.Parts.{own_term, CanKeep};
+ghost use Rattle.homeo_site.specs.OwnTreaty.{own_sum, SumsFit, plain_own, own_clauses};
 
+use homeo_config::even_bound;
 use homeo_effect::TreatyIndex;
+use homeo_follow::ObjectPlan;
 use homeo_meaning::padded::item_or;
-use homeo_plan::{Broken, Clause, Config, Delta, RoundPlan, Term};
+use homeo_plan::{Broken, Clause, Config, Delta, Term};
 use homeo_syntax::{List, Memory};
 use std::alloc::Global;
 use std::marker::Model;
@@ -31,8 +40,9 @@ pub(crate) struct OwnClause {
     pub bound: i128,
 }
 
+#[tactic(auto, unfolding(crate::specs::Key::definitions))]
 fn own_term(term: &Term) -> OwnTerm
-    ensures { result ≡ record { object = term.now.delta.object; factor = term.now.factor } }
+    ensures { result ≡ own_term term.now }
 {
     OwnTerm {
         object: term.delta.object,
@@ -40,18 +50,15 @@ fn own_term(term: &Term) -> OwnTerm
     }
 }
 
-/// The terms on deltas of a site.
-#[tactic(auto, unfolding(crate::specs::Key::definitions))]
-fn own_terms(alloc: Global, terms: &[Term], site: u32) -> Result<List<OwnTerm>, Memory>
-    ensures { IfOk result (λ own. own.items ≡ own_terms site terms.now) }
+/// The terms on deltas of a site: all those of a clause over whole objects, as each stands for the site's delta too.
+fn own_terms(alloc: Global, terms: &[Term]) -> Result<List<OwnTerm>, Memory>
+    ensures { IfOk result (λ own. own.items ≡ map own_term terms.now) }
 {
-    let mut own = List::new(alloc);
+    let mut own = Vec::with_capacity(alloc, terms.len())?;
     for term in terms {
-        if term.delta.site == site {
-            own.push(own_term(term))?;
-        }
+        own.push(own_term(term))?;
     }
-    Ok(own)
+    Ok(List::from_vec(own))
 }
 
 /// The bound of a site in a clause, by the clause's number: 0 where there is none.
@@ -66,24 +73,59 @@ fn bound_of(config: &Config, clause: usize, site: u32) -> i128
     }
 }
 
-/// What a site keeps of clauses, one for each.
+/// What a site keeps of clauses over whole objects whose slacks are split evenly among so many sites, one for each clause.
 #[tactic(auto, unfolding(crate::specs::Key::definitions))]
-fn own_clauses(
+fn even_clauses(
+    alloc: Global,
+    clauses: &[Clause],
+    sites: u32,
+    site: u32,
+) -> Result<List<OwnClause>, Memory>
+    requires site { site < sites }
+    requires not_negative { HaveSlack (map plain_clause clauses.now) }
+    requires small { Each (λ c. IsSmall form_limit c.slack) (map plain_clause clauses.now) }
+    ensures { let all = map (expanded_clause sites) (map plain_clause clauses.now) in
+        IfOk result (λ own. map plain_own own.items ≡ own_clauses site all (even sites all)) }
+{
+    let mut own = Vec::with_capacity(alloc, clauses.len())?;
+    for clause in clauses {
+        let terms = own_terms(alloc, clause.terms.as_slice())?;
+        let bound = even_bound(clause.slack, sites, site);
+        own.push(OwnClause { terms, bound })?;
+    }
+    Ok(List::from_vec(own))
+}
+
+/// What a site keeps of clauses over whole objects with given bounds, one for each clause, however many sites there are.
+#[tactic(auto, unfolding(crate::specs::Key::definitions))]
+fn given_clauses(
     alloc: Global,
     clauses: &[Clause],
     config: &Config,
     site: u32,
 ) -> Result<List<OwnClause>, Memory>
-    ensures { IfOk result (λ own. map plain_own own.items ≡
-        own_clauses site (map plain_clause clauses.now) (plain_config config.now)) }
+    ensures { (sites : ℕ) → site < sites → IfOk result (λ own. map plain_own own.items ≡
+        own_clauses site (map (expanded_clause sites) (map plain_clause clauses.now)) (plain_config config.now)) }
 {
-    let mut own = List::new(alloc);
+    let mut own = Vec::with_capacity(alloc, clauses.len())?;
     for (n, clause) in clauses.iter().enumerate() {
-        let terms = own_terms(alloc, clause.terms.as_slice(), site)?;
+        let terms = own_terms(alloc, clause.terms.as_slice())?;
         let bound = bound_of(config, n, site);
         own.push(OwnClause { terms, bound })?;
     }
-    Ok(own)
+    Ok(List::from_vec(own))
+}
+
+/// What a site keeps of a plan's clauses, one for each.
+fn own_clauses(alloc: Global, plan: &ObjectPlan, site: u32) -> Result<List<OwnClause>, Memory>
+    requires { CanKeep plan.now site }
+    ensures { IfOk result (λ own. map plain_own own.items ≡ own_clauses site (template_in plan.now).clauses (config_in plan.now)) }
+{
+    let clauses = plan.template.clauses.as_slice();
+    match &plan.bounds {
+        None => even_clauses(alloc, clauses, plan.template.sites, site),
+        Some(config) => given_clauses(alloc, clauses, config, site),
+    }
 }
 
 /// A sum with one more term's factor times delta.
@@ -185,13 +227,13 @@ fn first_freeze(
 #[derive(Drop)]
 pub struct OwnTreaty {
     site: u32,
-    plan: Arc<RoundPlan, Global>,
+    plan: Arc<ObjectPlan, Global>,
     clauses: List<OwnClause>,
     index: TreatyIndex,
 }
 
 impl Model for OwnTreaty {
-    ghost use Rattle.homeo_plan.specs.PlanView.{plain_template, plain_config};
+    ghost use Rattle.homeo_follow.specs.ObjectPlan.{template_in, config_in};
     ghost use Rattle.homeo_site.specs.TreatyPart.{TreatyPart};
     ghost use Rattle.homeo_site.specs.inner.Parts.{IsOwnTreaty};
 
@@ -199,8 +241,8 @@ impl Model for OwnTreaty {
 
     ghost view = { λ t. record {
       site = t.site;
-      template = plain_template t.plan.value.template;
-      config = plain_config t.plan.value.config;
+      template = template_in t.plan.value;
+      config = config_in t.plan.value;
     } };
 
     ghost invariant = { λ t. IsOwnTreaty t.plan.value t.site t.clauses.items t.index };
@@ -210,17 +252,17 @@ impl OwnTreaty {
     /// The part of a site, from a round's plan, in about the time and the memory of the plan's length.
     pub(crate) fn of(
         alloc: Global,
-        plan: &Arc<RoundPlan, Global>,
+        plan: &Arc<ObjectPlan, Global>,
         site: u32,
     ) -> Result<OwnTreaty, Memory>
-        requires { length plan.now.value.template.clauses.items + length plan.now.value.template.freezes.items < 2 ^ 32 }
+        requires { CanKeep plan.now.value site }
         ensures { IfOk result (λ t. t ≡ record {
           site = site;
-          template = plain_template plan.now.value.template;
-          config = plain_config plan.now.value.config;
+          template = template_in plan.now.value;
+          config = config_in plan.now.value;
         }) }
     {
-        let clauses = own_clauses(alloc, plan.template.clauses.as_slice(), &plan.config, site)?;
+        let clauses = own_clauses(alloc, plan, site)?;
         let index = TreatyIndex::of(alloc, plan, site)?;
         Ok(OwnTreaty {
             site,

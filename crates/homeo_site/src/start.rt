@@ -3,14 +3,14 @@
 ghost use Rattle.std.specs.Prelude.{◌≡◌, ◌<◌, IfOk};
 ghost use Rattle.homeo_syntax.specs.SourceView.{plain_workload};
 ghost use Rattle.homeo_plan.specs.Planned.{sites_of, policy};
-ghost use Rattle.homeo_plan.specs.PlanView.{plain_config};
-ghost use Rattle.homeo_build.specs.Plan.{IsPlanOf};
+ghost use Rattle.homeo_follow.specs.ObjectPlan.{config_in};
+ghost use Rattle.homeo_build.specs.Plan.{IsObjectPlan};
 
 use crate::own_round::OwnRound;
 use homeo_build::Compiled;
+use homeo_follow::ObjectPlan;
 use homeo_history::Segment;
 use homeo_meaning::Database;
-use homeo_plan::RoundPlan;
 use homeo_syntax::{List, Memory};
 use std::alloc::Global;
 use std::marker::Model;
@@ -52,12 +52,12 @@ impl SiteStart {
     pub fn new(
         alloc: Global,
         compiled: &Arc<Compiled, Global>,
-        plan: &Arc<RoundPlan, Global>,
+        plan: &Arc<ObjectPlan, Global>,
         site: u32,
         round: u64,
     ) -> Result<SiteStart, Memory>
-        requires plan { IsPlanOf (plain_workload compiled.now.value) plan.now.value.base.items plan.now.value }
-        requires policy { plain_config plan.now.value.config ≡ policy (plain_workload compiled.now.value) plan.now.value.base.items }
+        requires plan { IsObjectPlan (plain_workload compiled.now.value) plan.now.value.base.items plan.now.value }
+        requires policy { config_in plan.now.value ≡ policy (plain_workload compiled.now.value) plan.now.value.base.items }
         requires site { site < sites_of (plain_workload compiled.now.value) }
         ensures { IfOk result (λ s. s ≡ record {
           work = compiled.now.value;

@@ -11,9 +11,6 @@ use Rattle.homeo_plan.specs.PlanView.{plain_clause}
 use Rattle.homeo_plan.specs.Template as template
 use Rattle.homeo_follow.specs.Expanded.{terms_from, expanded_terms}
 use Rattle.homeo_follow.specs.ObjectTemplate.{expanded_clause}
-use Rattle.homeo_template.specs.declared.key.Key.{Key}
-use Rattle.homeo_template.specs.declared.key.TermKey.{TermKey}
-use Rattle.homeo_template.specs.inner.Keys.{term_of, clause_at}
 
 -- ---- the sites of one object
 module _ (x : ℕ) (f : ℤ) (k : ℕ) (out : List Term) where
@@ -40,36 +37,36 @@ module _ (x : ℕ) (f : ℤ) (k : ℕ) (out : List Term) where
 module _ (k : ℕ) where
   -- ---- one object after another
   pub more_terms :
-      (ts : List TermKey) (out more : List Term) (n : ℕ) (x : TermKey) → n < length ts →
-      more ≡ out ++ terms_from 0 k (get_or ts n x).object (get_or ts n x).factor →
-      more ++ expanded_terms k (map term_of (drop (n + 1) ts)) ≡ out ++ expanded_terms k (map term_of (drop n ts))
+      (ts out more : List Term) (n : ℕ) (x : Term) → n < length ts →
+      more ≡ out ++ terms_from 0 k (get_or ts n x).delta.object (get_or ts n x).factor →
+      more ++ expanded_terms k (drop (n + 1) ts) ≡ out ++ expanded_terms k (drop n ts)
   unfolding definitions
   more_terms ts out more n x h p =
-      let t : TermKey = get_or ts n x in
+      let t : Term = get_or ts n x in
       let next : drop n ts ≡ t ∷ drop (n + 1) ts = rw add-one (drop-cons ts n x h) in
-      ap (λ l. l ++ expanded_terms k (map term_of (drop (n + 1) ts))) p
-      ∙ append_assoc out (terms_from 0 k t.object t.factor) (expanded_terms k (map term_of (drop (n + 1) ts)))
-      ∙ sym (ap (λ l. out ++ expanded_terms k (map term_of l)) next)
+      ap (λ l. l ++ expanded_terms k (drop (n + 1) ts)) p
+      ∙ append_assoc out (terms_from 0 k t.delta.object t.factor) (expanded_terms k (drop (n + 1) ts))
+      ∙ sym (ap (λ l. out ++ expanded_terms k l) next)
 
-  pub all_terms : (ts : List TermKey) (out : List Term) (n : ℕ) → length ts ≤ n → out ≡ out ++ expanded_terms k (map term_of (drop n ts))
+  pub all_terms : (ts out : List Term) (n : ℕ) → length ts ≤ n → out ≡ out ++ expanded_terms k (drop n ts)
   unfolding definitions
-  all_terms ts out n h = sym (ap (λ l. out ++ expanded_terms k (map term_of l)) (drop_of_length-le ts h) ∙ append-nil out)
+  all_terms ts out n h = sym (ap (λ l. out ++ expanded_terms k l) (drop_of_length-le ts h) ∙ append-nil out)
 
   -- ---- clauses
   -- with its terms at all sites
   pub clause_made :
-      (key : Key) (terms : Listed Term) (slack : ℤ) → terms.items ≡ expanded_terms k (map term_of key.terms.items) → slack ≡ key.slack →
-      plain_clause (record { terms = terms; slack = slack }) ≡ expanded_clause k (clause_at key)
+      (c : Clause) (terms : Listed Term) (slack : ℤ) → terms.items ≡ expanded_terms k c.terms.items → slack ≡ c.slack →
+      plain_clause (record { terms = terms; slack = slack }) ≡ expanded_clause k (plain_clause c)
   unfolding definitions
-  clause_made key terms slack p q = λ i. let c : template.Clause = record { terms = p i; slack = q i } in c
+  clause_made c terms slack p q = λ i. let d : template.Clause = record { terms = p i; slack = q i } in d
 
   -- once all are made
   pub clauses_made :
-      (keys : List Key) (made : List Clause) (n : ℕ) → length keys ≤ n →
-      map plain_clause made ≡ map (λ key. expanded_clause k (clause_at key)) (take n keys) →
-      map plain_clause made ≡ map (expanded_clause k) (map clause_at keys)
-  clauses_made keys made n h p = p ∙ ap (map (λ key. expanded_clause k (clause_at key))) (take_all n keys h) ∙ both keys
+      (cs made : List Clause) (n : ℕ) → length cs ≤ n →
+      map plain_clause made ≡ map (λ c. expanded_clause k (plain_clause c)) (take n cs) →
+      map plain_clause made ≡ map (expanded_clause k) (map plain_clause cs)
+  clauses_made cs made n h p = p ∙ ap (map (λ c. expanded_clause k (plain_clause c))) (take_all n cs h) ∙ both cs
     where
-      both : (xs : List Key) → map (λ key. expanded_clause k (clause_at key)) xs ≡ map (expanded_clause k) (map clause_at xs)
+      both : (xs : List Clause) → map (λ c. expanded_clause k (plain_clause c)) xs ≡ map (expanded_clause k) (map plain_clause xs)
       both [] = refl
-      both (x ∷ xs) = ap (λ l. expanded_clause k (clause_at x) ∷ l) (both xs)
+      both (x ∷ xs) = ap (λ l. expanded_clause k (plain_clause x) ∷ l) (both xs)

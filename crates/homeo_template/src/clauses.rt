@@ -34,7 +34,7 @@ pub(crate) fn join_clauses(alloc: Global, sets: &[AtomSet]) -> Result<List<Claus
 }
 
 /// The clauses that have these keys.
-fn clauses_with(alloc: Global, keys: &[Key]) -> Result<List<Clause>, Memory>
+pub(crate) fn clauses_with(alloc: Global, keys: &[Key]) -> Result<List<Clause>, Memory>
     ensures { IfOk result (λ cs. map plain_clause cs.items ≡ map clause_at keys.now) }
 {
     let mut clauses = Vec::with_capacity(alloc, keys.len())?;

@@ -8,5 +8,6 @@ mod joining;
 mod key;
 mod repeated;
 
+pub use expanding::at_sites;
 pub use joining::template;
 pub use repeated::object_clauses;

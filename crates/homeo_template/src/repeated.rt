@@ -1,4 +1,4 @@
-//! The distinct clauses of sets of atoms over whole objects, where a set may come again.
+//! The distinct clauses of sets of atoms, where a set may come again.
 
 ghost use Rattle.std.specs.Prelude.{◌≡◌, ◌<◌, [], length, map, IfOk, OnOk};
 ghost use Rattle.homeo_meaning.specs.Small.{IsSmall};
@@ -6,21 +6,18 @@ ghost use Rattle.homeo_plan.specs.Each.{Each};
 ghost use Rattle.homeo_plan.specs.PlanView.{plain_atoms, plain_clause};
 ghost use Rattle.homeo_plan.specs.Template.{clauses_from, atoms_of_sets};
 ghost use Rattle.homeo_plan.specs.Limit.{form_limit};
-ghost use Rattle.homeo_follow.specs.ObjectTemplate.{expanded_clause};
 ghost use Rattle.homeo_template.specs.Places.{set_at};
 ghost use Rattle.homeo_template.specs.inner.Keys.{clauses_in};
 ghost use Rattle.homeo_template.specs.inner.Met.{AreMet};
 
-use crate::clauses::DistinctClauses;
-use crate::expanding::clauses_at_sites;
+use crate::clauses::{DistinctClauses, clauses_with};
 use homeo_meaning::padded::{item_or, put};
 use homeo_plan::{AtomSet, Clause};
 use homeo_syntax::{List, Memory};
 use std::alloc::Global;
 
-/// The clauses of the sets of atoms over whole objects at these places, one place after another, over the deltas of so many
-/// sites: equal clauses stand once, where the first of them is. They are told apart over whole objects, and only the distinct
-/// ones are spread over the sites. A set whose place comes again brings no more, so it is passed over.
+/// The clauses of the sets of atoms at these places, one place after another: equal clauses stand once, where the first of them
+/// is. A set whose place comes again brings no more, so it is passed over.
 ///
 /// Each place is one of the sets'. No constant of an atom may be above 4 * 10^18 in size.
 ///
@@ -31,19 +28,18 @@ pub fn object_clauses(
     alloc: Global,
     sets: &[AtomSet],
     places: &[usize],
-    sites: u32,
 ) -> Result<List<Clause>, Memory>
     requires places { Each (λ n. n < length sets.now) places.now }
     requires small { Each (Each (λ a. IsSmall form_limit a.constant)) (map plain_atoms sets.now) }
-    ensures { IfOk result (λ cs. map plain_clause cs.items ≡ map (expanded_clause sites)
-        (clauses_from [] (atoms_of_sets (map (set_at (map plain_atoms sets.now)) places.now)))) }
+    ensures { IfOk result (λ cs. map plain_clause cs.items ≡
+        clauses_from [] (atoms_of_sets (map (set_at (map plain_atoms sets.now)) places.now))) }
 {
     let mut distinct = DistinctClauses::new(alloc);
     let mut met = Vec::new(alloc);
     for place in places {
         put_set(alloc, &mut distinct, &mut met, sets, *place)?;
     }
-    clauses_at_sites(alloc, distinct.keys.as_slice(), sites)
+    clauses_with(alloc, distinct.keys.as_slice())
 }
 
 /// Puts the clauses of the set at a place behind the others, unless its place was met.

@@ -4,10 +4,10 @@ use Rattle.homeo_syntax.specs.SourceView.{plain_workload}
 use Rattle.homeo_syntax.specs.declared.workload.Workload.{Workload}
 use Rattle.homeo_meaning.specs.Acceptance.{IsAccepted}
 use Rattle.homeo_meaning.specs.declared.call.CallId.{CallId}
-use Rattle.homeo_plan.specs.declared.round.RoundPlan.{RoundPlan}
 use Rattle.homeo_plan.specs.Planned.{sites_of, policy}
-use Rattle.homeo_plan.specs.PlanView.{plain_config}
 use Rattle.homeo_plan.proofs.Policy.{some_sites}
+use Rattle.homeo_follow.specs.ObjectPlan.{config_in}
+use Rattle.homeo_follow.specs.declared.plan.ObjectPlan.{ObjectPlan}
 use Rattle.homeo_history.specs.Legal.{IsCallAt}
 use Rattle.homeo_site.specs.Key.{definitions}
 use Rattle.homeo_site.specs.Attempts.{IsChange, IsOutcome}
@@ -52,11 +52,9 @@ number_stays old mid new call n m e d = ap (λ (v : SiteValue). v.state.number) 
 
 -- ---- the first site
 pub policy_here :
-    (w v : Workload) (p q : RoundPlan) (base : List ℤ) → q ≡ p → p.base.items ≡ base → v ≡ w →
-    plain_config p.config ≡ policy (plain_workload v) base → plain_config q.config ≡ policy (plain_workload w) q.base.items
-policy_here w v p q base same start work h =
-    ap (λ (r : RoundPlan). plain_config r.config) same ∙ h
-    ∙ ap₂ (λ (u : Workload) b. policy (plain_workload u) b) work (sym start ∙ sym (ap (λ (r : RoundPlan). r.base.items) same))
+    (w v : Workload) (p : ObjectPlan) (base : List ℤ) → p.base.items ≡ base → v ≡ w →
+    config_in p ≡ policy (plain_workload v) base → config_in p ≡ policy (plain_workload w) p.base.items
+policy_here w v p base start work h = h ∙ ap₂ (λ (u : Workload) b. policy (plain_workload u) b) work (sym start)
 
 pub sites_there :
     (inside given made : Workload) (held : Workload) → IsAccepted (plain_workload inside) → inside ≡ given →

@@ -2,7 +2,7 @@
 
 ghost use Rattle.std.specs.Prelude.{◌≡◌};
 ghost use Rattle.homeo_syntax.specs.SourceView.{plain_workload};
-ghost use Rattle.homeo_build.specs.Plan.{IsPlanOf};
+ghost use Rattle.homeo_build.specs.Plan.{IsObjectPlan};
 ghost use Rattle.homeo_print.specs.Names.{object_names};
 
 use crate::same::same_items;
@@ -13,8 +13,9 @@ use homeo_build::residuals::residual;
 use homeo_build::treaties::plan_at;
 use homeo_effect::{SiteEffects, TreatyIndex, effects};
 use homeo_eval::initial;
+use homeo_follow::ObjectPlan;
 use homeo_meaning::Database;
-use homeo_plan::{RoundPlan, Row};
+use homeo_plan::Row;
 use homeo_print::{ObjectNames, print_row};
 use homeo_syntax::{LCommand, LCond, List, Memory, Workload};
 use std::alloc::Global;
@@ -39,9 +40,9 @@ fn first_effects(
     alloc: Global,
     c: &Compiled,
     base: &Database,
-    plan: &Arc<RoundPlan>,
+    plan: &Arc<ObjectPlan>,
 ) -> Result<SiteEffects, Fail>
-    requires plan { IsPlanOf (plain_workload c.now) base.now.items plan.now.value }
+    requires plan { IsObjectPlan (plain_workload c.now) base.now.items plan.now.value }
 {
     let _workload = c.workload().workload();
     let template = &plan.template;

@@ -1,10 +1,9 @@
 //! Texts of two clients that buy from one stock, and reading and compiling texts.
 
-use homeo_accept::TextRefusal;
 use homeo_build::Compiled;
 use homeo_build::compile::compile;
 use homeo_meaning::{Accepted, Purpose};
-use std::alloc::{AllocError, Global};
+use std::alloc::Global;
 use std::process::Abort;
 use std::sync::Arc;
 use std::test::Fail;
@@ -50,11 +49,8 @@ pub(crate) fn shop(alloc: Global, clients: &str) -> Result<String, Fail> {
 /// Reads a text that is accepted.
 pub(crate) fn accepted(rt: &impl Abort, alloc: Global, text: &str) -> Result<Accepted, Fail> {
     assert!(rt; text.len() <= 1_048_576);
-    match homeo_accept::accepted(alloc, text.as_bytes(), Purpose::Run) {
-        Ok(w) => Ok(w),
-        Err(TextRefusal::Memory) => Err(Fail::from(AllocError)),
-        Err(TextRefusal::Refused(refusal)) => panic!(rt; "refused {refusal:?}"),
-    }
+    let w = homeo_accept::accepted(alloc, text.as_bytes(), Purpose::Run);
+    Ok(w.ok().ok_or("an accepted text")?)
 }
 
 /// Reads the text with these clients.

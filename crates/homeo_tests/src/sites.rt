@@ -9,7 +9,7 @@ use crate::same::{same, same_items};
 use crate::shops::{THREE_AND_ONE, accepted_shop};
 use homeo_build::Compiled;
 use homeo_build::compile::compile;
-use homeo_build::treaties::treaties;
+use homeo_build::treaties::plan_at;
 use homeo_eval::initial;
 use homeo_meaning::{Accepted, CallId};
 use homeo_plan::Broken;
@@ -42,7 +42,7 @@ fn first_site(alloc: Global, w: Accepted) -> Result<(Arc<Compiled, Global>, Site
 {
     let base = initial(alloc, &w)?;
     let compiled = Arc::new(alloc, compile(alloc, w)?)?;
-    let plan = Arc::new(alloc, treaties(alloc, &compiled, &base, None)?)?;
+    let plan = plan_at(alloc, &compiled, &base)?;
     let start = SiteStart::new(alloc, &compiled, &plan, 0, 0)?;
     Ok((compiled, Site::begin(start)))
 }

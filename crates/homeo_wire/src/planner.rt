@@ -8,8 +8,8 @@ ghost use Rattle.homeo_plan.specs.Planned.{sites_of};
 
 use homeo_build::Compiled;
 use homeo_build::treaties::plan_at;
+use homeo_follow::ObjectPlan;
 use homeo_meaning::Database;
-use homeo_plan::RoundPlan;
 use homeo_site::SiteStart;
 use homeo_syntax::Memory;
 use std::alloc::Global;
@@ -21,7 +21,7 @@ use std::sync::Arc;
 #[derive(Drop)]
 pub(crate) struct Planner {
     compiled: Arc<Compiled>,
-    last: Option<Arc<RoundPlan>>,
+    last: Option<Arc<ObjectPlan>>,
 }
 
 impl Model for Planner {

@@ -6,9 +6,9 @@ ghost use Rattle.homeo_meaning.specs.Acceptance.{IsAccepted};
 ghost use Rattle.homeo_meaning.specs.Bounds.{IsWithin};
 ghost use Rattle.homeo_meaning.specs.Initial.{initial};
 ghost use Rattle.homeo_meaning.specs.Schema.{schema_of};
-ghost use Rattle.homeo_plan.specs.PlanView.{plain_config};
 ghost use Rattle.homeo_plan.specs.Planned.{sites_of, policy};
-ghost use Rattle.homeo_build.specs.Plan.{IsPlanOf};
+ghost use Rattle.homeo_follow.specs.ObjectPlan.{config_in};
+ghost use Rattle.homeo_build.specs.Plan.{IsObjectPlan};
 ghost use Rattle.homeo_history.specs.HistoryView.{plain_history};
 ghost use Rattle.homeo_history.specs.Legal.{call_count, IsLegal};
 ghost use Rattle.homeo_wire.specs.Laws.{HasOneBase};
@@ -31,9 +31,9 @@ use homeo_build::Compiled;
 use homeo_build::treaties::plan_at;
 use homeo_core::clients::{call_count, client_count, site_count, site_of};
 use homeo_eval::initial;
+use homeo_follow::ObjectPlan;
 use homeo_history::History;
 use homeo_meaning::{Accepted, Database};
-use homeo_plan::RoundPlan;
 use homeo_site::{Site, SiteStart};
 use homeo_syntax::{List, Memory};
 use std::alloc::Global;
@@ -224,13 +224,13 @@ fn first_nodes(alloc: Global, c: &Arc<Compiled>) -> Result<Vec<Node>, Memory>
 fn first_node(
     alloc: Global,
     c: &Arc<Compiled>,
-    plan: &Arc<RoundPlan>,
+    plan: &Arc<ObjectPlan>,
     base: &Database,
     clients: u64,
     site: u32,
 ) -> Result<Node, Memory>
-    requires plan { IsPlanOf (plain_workload c.now.value) plan.now.value.base.items plan.now.value }
-    requires policy { plain_config plan.now.value.config ≡ policy (plain_workload c.now.value) plan.now.value.base.items }
+    requires plan { IsObjectPlan (plain_workload c.now.value) plan.now.value.base.items plan.now.value }
+    requires policy { config_in plan.now.value ≡ policy (plain_workload c.now.value) plan.now.value.base.items }
     requires at { plan.now.value.base.items ≡ initial (plain_workload c.now.value) }
     requires base { base.now.items ≡ initial (plain_workload c.now.value) }
     requires clients { clients ≡ length (plain_workload c.now.value).clients }

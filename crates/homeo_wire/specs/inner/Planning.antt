@@ -2,11 +2,11 @@
 use Rattle.std.specs.Prelude.{◌≡◌}
 use Rattle.homeo_syntax.specs.Source as s
 use Rattle.homeo_plan.specs.Planned.{policy}
-use Rattle.homeo_plan.specs.PlanView.{plain_config}
-use Rattle.homeo_plan.specs.declared.round.RoundPlan.{RoundPlan}
-use Rattle.homeo_build.specs.Plan.{IsPlanOf}
+use Rattle.homeo_follow.specs.ObjectPlan.{config_in}
+use Rattle.homeo_follow.specs.declared.plan.ObjectPlan.{ObjectPlan}
+use Rattle.homeo_build.specs.Plan.{IsObjectPlan}
 
 -- the plan is one of the workload at its own base, with the bounds of the policy
-pub record IsPlan (w : s.Workload) (p : RoundPlan) : Type 0 where
-  pub plan : IsPlanOf w p.base.items p
-  pub policy_is : plain_config p.config ≡ policy w p.base.items
+pub record IsPlan (w : s.Workload) (p : ObjectPlan) : Type 0 where
+  pub plan : IsObjectPlan w p.base.items p
+  pub policy_is : config_in p ≡ policy w p.base.items

@@ -1,12 +1,10 @@
 -- The terms so far.
-use Rattle.std.proofs.Common.{◌≡◌, ℕ, ◌==◌, ◌&&◌, [], ◌∷◌, map, take}
+use Rattle.std.proofs.Common.{◌≡◌, ℕ, ◌==◌, ◌&&◌, map, take}
 use Rattle.std.specs.Prelude.{◌||◌}
-use Rattle.homeo_plan.specs.Linear.{delta_of}
-use Rattle.homeo_effect.specs.Touched.{are_on}
-use Rattle.homeo_effect.specs.inner.Uses.{has, at_object}
+use Rattle.homeo_effect.specs.inner.Uses.{has, at_object, names_object}
 use Rattle.homeo_effect.proofs.uses.note_terms.Given as goal
 
 abbrev pub invariant-loop-term : goal.invariant-loop-term
 invariant-loop-term l =
     (x n : ℕ) → has n (at_object x (map (λ v. v.items) l.uses.items)) ≡
-    (has n (at_object x (map (λ v. v.items) l.fn.uses.items)) || (are_on (delta_of x l.site ∷ []) (take l.term-index l.terms) && (n == l.number)))
+    (has n (at_object x (map (λ v. v.items) l.fn.uses.items)) || (names_object x (take l.term-index l.terms) && (n == l.number)))

@@ -4,8 +4,6 @@ use Rattle.std.specs.Prelude.{Vec}
 use Rattle.homeo_syntax.specs.SourceView.{plain_workload}
 use Rattle.homeo_meaning.specs.declared.call.CallId.{CallId}
 use Rattle.homeo_meaning.specs.Calls.{CallExists}
-use Rattle.homeo_plan.specs.PlanView.{plain_template}
-use Rattle.homeo_plan.specs.declared.round.RoundPlan.{RoundPlan}
 use Rattle.homeo_site.specs.OwnCalls.{AreOwnCalls}
 use Rattle.homeo_forecast.specs.declared.rooms.Room.{Room}
 use Rattle.homeo_forecast.specs.inner.Replays.{CanBound}
@@ -24,12 +22,8 @@ loop-kept-init c =
     let base = c.args.base.now.items in
     let p = c.in_ok-prepared.prepared in
     let r = c.in_ok-replay.replay in
-    let same = c.deref.ensures in
     record {
-      replay =
-          begun_at w base p r c.in_ok-prepared.ensures
-          (c.in_ok-replay.ensures.deltas ∙ ap (λ (q : RoundPlan). replicate q.template.sites (replicate (length q.base.items) (pos 0))) same)
-          (subst (λ (q : RoundPlan). HaveRooms q.template.sites [] (plain_template q.template).clauses r.rooms.items) same c.in_ok-replay.ensures.rooms);
+      replay = begun_at w base p r c.in_ok-prepared.ensures c.in_ok-replay.ensures.deltas c.in_ok-replay.ensures.rooms;
       made = c.in_ok-own_calls.ensures base;
     }
 

@@ -1,18 +1,16 @@
--- Its terms.
-use Rattle.std.proofs.Common.{◌≡◌, List, map, ap, ◌∙◌, to_z, of_z, SFits, rules}
-use mir.Syntax.{w128}
-use Rattle.std.proofs.lemmas.Int.{to_z-of_z}
-use Rattle.homeo_follow.specs.Expanded.{expanded_terms}
-use Rattle.homeo_template.specs.declared.key.TermKey.{TermKey}
-use Rattle.homeo_template.specs.inner.Keys.{term_of}
-use Rattle.homeo_template.proofs.AtSites.{clause_made}
+-- The clauses at the sites, and the same freezes.
+use Rattle.std.proofs.Common.{◌≡◌, List, map, ap, ap₂, ◌∙◌}
+use Rattle.homeo_plan.specs.PlanView.{plain_clause}
+use Rattle.homeo_plan.specs.Template as template
+use Rattle.homeo_plan.specs.declared.forms.Delta.{Delta}
+use Rattle.homeo_plan.specs.declared.templates.Clause.{Clause}
+use Rattle.homeo_follow.specs.Key.{definitions}
+use Rattle.homeo_follow.specs.ObjectTemplate.{expanded_clause}
 use Rattle.homeo_template.proofs.expanding.at_sites.Goals as goal
 
-pub returns : goal.returns
-returns c =
-    let key = c.args.key.now in
-    let fits : SFits w128 key.slack = search rules in
-    let back : to_z w128 (of_z w128 key.slack) ≡ key.slack = to_z-of_z w128 key.slack fits in
-    clause_made c.args.sites key c.from_vec.result _
-    (ap (λ l. l.items) c.from_vec.ensures ∙ c.in_ok-terms.ensures ∙ ap (λ (ts : List TermKey). expanded_terms c.args.sites (map term_of ts)) c.as_slice.ensures.value)
-    back
+pub returns-clause-template : goal.returns-clause-template
+unfolding definitions
+returns-clause-template c =
+    ap₂ (λ (cs : List template.Clause) (ds : List Delta). let t : template.Template = record { clauses = cs; freezes = ds } in t)
+    (c.in_ok-clauses.ensures ∙ ap (λ (l : List Clause). map (expanded_clause c.args.t.now.sites) (map plain_clause l)) c.as_slice.ensures)
+    (ap (λ l. l.items) c.from_vec.ensures ∙ c.in_ok-freezes.ensures.items ∙ c.as_slice-2.ensures)

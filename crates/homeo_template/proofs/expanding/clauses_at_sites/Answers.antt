@@ -7,4 +7,4 @@ use Rattle.homeo_template.proofs.expanding.clauses_at_sites.Goals as goal
 pub returns : goal.returns
 returns c =
     ap (λ l. map plain_clause l.items) c.from_vec.ensures
-    ∙ clauses_made c.args.sites c.args.keys.now c.loop-key.clauses.items c.loop-key.key-index c.loop-key-test.false c.loop-key.invariant
+    ∙ clauses_made c.args.sites c.args.given.now c.loop-clause.clauses.items c.loop-clause.clause-index c.loop-clause-test.false c.loop-clause.invariant

@@ -7,7 +7,7 @@ use Rattle.homeo_template.proofs.expanding.push_terms.Given as goal
 abbrev pub invariant-loop-site : goal.invariant-loop-site
 invariant-loop-site l = record {
   terms :
-      l.terms.items ++ terms_from l.site (l.sites - l.site) l.term.object l.term.factor
-      ≡ l.fn.terms.items ++ terms_from 0 l.sites l.term.object l.term.factor;
+      l.terms.items ++ terms_from l.site (l.sites - l.site) l.term.delta.object l.term.factor
+      ≡ l.fn.terms.items ++ terms_from 0 l.sites l.term.delta.object l.term.factor;
   room : vec_len l.terms + (l.sites - l.site) ≤ vec_capacity l.terms;
 }

@@ -1,12 +1,11 @@
 -- One object more.
-use Rattle.std.proofs.Common.{◌++◌, map, ap, ◌∙◌}
+use Rattle.std.proofs.Common.{◌++◌, ap, ◌∙◌}
 use Rattle.homeo_follow.specs.Expanded.{expanded_terms}
-use Rattle.homeo_template.specs.inner.Keys.{term_of}
 use Rattle.homeo_template.proofs.AtSites.{more_terms, all_terms}
 use Rattle.homeo_template.proofs.expanding.terms_at_sites.Goals as goal
 
 pub loop-term-init : goal.loop-term-init
-loop-term-init c = ap (λ l. l ++ expanded_terms c.args.sites (map term_of c.args.terms.now)) c.new-all.ensures.items
+loop-term-init c = ap (λ l. l ++ expanded_terms c.args.sites c.args.terms.now) c.new-all.ensures.items
 
 pub loop-term-preserved : goal.loop-term-preserved
 loop-term-preserved c =

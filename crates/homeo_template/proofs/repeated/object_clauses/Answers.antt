@@ -1,14 +1,9 @@
 -- The clauses of the set at one place after another.
-use Rattle.std.proofs.Common.{◌<◌, List, length, map, ap, ◌∙◌}
-use Rattle.std.proofs.lemmas.List.{take_all}
+use Rattle.std.proofs.Common.{◌<◌, length, map, ◌∙◌}
 use Rattle.homeo_plan.specs.PlanView.{plain_atoms}
-use Rattle.homeo_plan.specs.Template.{clauses_from, atoms_of_sets}
-use Rattle.homeo_follow.specs.ObjectTemplate.{expanded_clause}
-use Rattle.homeo_template.specs.Places.{set_at}
-use Rattle.homeo_template.specs.declared.key.Key.{Key}
-use Rattle.homeo_template.specs.inner.Keys.{clause_at, clauses_in}
+use Rattle.homeo_template.specs.inner.Keys.{clauses_in}
 use Rattle.homeo_template.proofs.Again.{none_met, each_number, places_more}
-use Rattle.homeo_template.proofs.Appending.{no-sets, all-taken}
+use Rattle.homeo_template.proofs.Appending.{no-sets}
 use Rattle.homeo_template.proofs.repeated.object_clauses.Goals as goal
 
 pub loop-place-init : goal.loop-place-init

@@ -1,19 +1,17 @@
 -- The plan is by the policy, there is a site 0, and the site begins with it.
 use Rattle.std.proofs.Common.{ap, ◌∙◌}
-use Rattle.homeo_build.specs.Key.{definitions as build_definitions}
 use Rattle.homeo_site.specs.Key.{definitions}
 use Rattle.homeo_site.specs.SiteView.{StartValue, SiteValue}
 use Rattle.homeo_tests.proofs.SiteSteps.{policy_here, sites_there}
 use Rattle.homeo_tests.proofs.sites.first_site.Goals as goal
 
-pub new-requires-3-clause-policy : goal.new-requires-3-clause-policy
-unfolding build_definitions
-new-requires-3-clause-policy c =
-    policy_here c.in_ok-compiled.compiled.value c.deref.result.now c.in_ok-treaties.field-0 c.in_ok-plan.plan.value c.in_ok-base.base.items
-    c.in_ok-plan.ensures.ok c.in_ok-treaties.ensures.base c.deref.ensures c.in_ok-treaties.ensures.config
+pub new-requires-2-clause-policy : goal.new-requires-2-clause-policy
+new-requires-2-clause-policy c =
+    policy_here c.in_ok-compiled.compiled.value c.deref.result.now c.in_ok-plan.plan.value c.in_ok-base.base.items c.in_ok-plan.ensures.plan.base
+    c.deref.ensures c.in_ok-plan.ensures.policy
 
-pub new-requires-3-clause-site : goal.new-requires-3-clause-site
-new-requires-3-clause-site c =
+pub new-requires-2-clause-site : goal.new-requires-2-clause-site
+new-requires-2-clause-site c =
     sites_there c.w.inside.workload c.args.w c.in_ok-compile.field-0 c.in_ok-compiled.compiled.value c.w.invariant c.w.view_is
     c.in_ok-compile.ensures c.in_ok-compiled.ensures.ok
 

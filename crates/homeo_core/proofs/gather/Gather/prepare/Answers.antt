@@ -4,7 +4,7 @@ use Rattle.homeo_syntax.specs.declared.workload.Workload.{Workload}
 use Rattle.homeo_syntax.specs.SourceView.{plain_workload}
 use Rattle.homeo_meaning.specs.Serial.{Outcome, call_outcome}
 use Rattle.homeo_plan.specs.Planned.{sites_of}
-use Rattle.homeo_build.specs.Plan.{IsPlanOf}
+use Rattle.homeo_build.specs.Plan.{IsObjectPlan}
 use Rattle.homeo_history.specs.Follows.{site_or_zero}
 use Rattle.homeo_history.specs.HistoryView.{plain_segment, plain_closing}
 use Rattle.homeo_core.specs.Key.{definitions}
@@ -19,7 +19,7 @@ invariant_of-result-3 c =
     let w = c.args.c.now.value in
     let work : c.in_ok-try_clone.field-0.value ≡ w = c.in_ok-try_clone.ensures in
     let starts : AreStarts w c.self.inside.round c.in_ok-plan.plan.value.base.items c.in_ok-starts_after.field-0.items = c.in_ok-starts_after.ensures.starts in
-    let plan : IsPlanOf (plain_workload c.deref-2.result.now) c.run_call.new.database.items c.in_ok-plan.plan.value = c.in_ok-plan.ensures.plan in
+    let plan : IsObjectPlan (plain_workload c.deref-2.result.now) c.run_call.new.database.items c.in_ok-plan.plan.value = c.in_ok-plan.ensures.plan in
     let next : c.next.inside.items.items ≡ c.run_call.new.database.items = ap (λ (l : Listed ℤ). l.items) c.next.view_is in
     let placed : AreStarts w c.self.inside.round c.next.inside.items.items c.in_ok-starts_after.field-0.items = subst (λ (b : List ℤ). AreStarts w c.self.inside.round b c.in_ok-starts_after.field-0.items) (plan.base ∙ sym next) starts in
     let waiting : map waits c.in_ok-starts_after.field-0.items ≡ replicate (sites_of (plain_workload w)) true = c.in_ok-starts_after.ensures.waiting in

@@ -5,7 +5,7 @@ use Rattle.homeo_syntax.specs.declared.workload.Workload.{Workload}
 use Rattle.homeo_syntax.specs.SourceView.{plain_workload}
 use Rattle.homeo_meaning.specs.Acceptance.{IsAccepted}
 use Rattle.homeo_plan.specs.Planned.{sites_of}
-use Rattle.homeo_build.specs.Plan.{IsPlanOf}
+use Rattle.homeo_build.specs.Plan.{IsObjectPlan}
 use Rattle.homeo_history.specs.Follows.{Follows}
 use Rattle.homeo_history.specs.Legal.{IsLegalFrom}
 use Rattle.homeo_history.specs.declared.history.Round.{Round}
@@ -30,7 +30,7 @@ unfolding definitions
 is_begun c =
     let w : Workload = c.args.c.value in
     let closed : c.new.result.items ≡ [] = ap (λ (l : Listed Round). l.items) c.new.ensures in
-    let plan : IsPlanOf (plain_workload w) c.args.base.items c.in_ok-plan.plan.value = subst (λ (v : Workload). IsPlanOf (plain_workload v) c.args.base.items c.in_ok-plan.plan.value) c.deref.ensures c.in_ok-plan.ensures.plan in
+    let plan : IsObjectPlan (plain_workload w) c.args.base.items c.in_ok-plan.plan.value = subst (λ (v : Workload). IsObjectPlan (plain_workload v) c.args.base.items c.in_ok-plan.plan.value) c.deref.ensures c.in_ok-plan.ensures.plan in
     let sites : states c.in_ok-sites.sites.items ≡ begun_sites (sites_of (plain_workload w)) c.args.base.items =
     c.in_ok-sites.ensures.states ∙ (λ j. begun_sites (sites_of (plain_workload w)) (plan.base j)) in
     let zeros : c.in_ok-counts.counts.items ≡ replicate (length (plain_workload w).clients) 0 =

@@ -6,7 +6,7 @@ use Rattle.homeo_syntax.specs.SourceView.{plain_workload}
 use Rattle.homeo_meaning.specs.Bounds.{IsWithin}
 use Rattle.homeo_meaning.specs.Schema.{schema_of}
 use Rattle.homeo_plan.specs.PlanView.{plain_template}
-use Rattle.homeo_plan.specs.declared.round.RoundPlan.{RoundPlan}
+use Rattle.homeo_follow.specs.declared.plan.ObjectPlan.{ObjectPlan}
 use Rattle.homeo_forecast.specs.View.{plain_stop}
 use Rattle.homeo_forecast.specs.declared.replay.Replay.{Replay}
 use Rattle.homeo_forecast.specs.inner.Raising.{SomeRaised}
@@ -58,8 +58,8 @@ first_stop-requires-clause-freezes c =
     let here = ends.call_here c.requires.prepared c.requires.exists own.runs.site in
     let ran = ends.has_run here c.requires.replay.is c.index_mut-deltas.result.now c.index_mut-deltas.ensures.value c.run.new.deltas.items
     c.in_ok-run.ensures.count (c.in_ok-run.ensures.deltas _ _ _ _ own.runs) in
-    ends.freezes_there ran c.requires.replay.is c.as_slice-3.result.now c.deref-2.result.now.template (c.as_slice-3.ensures ∙ own.freezes)
-    (ends.template_there c.requires.prepared c.deref-2.result.now c.deref-2.ensures)
+    ends.freezes_there ran c.requires.replay.is c.as_slice-3.result.now c.args.prepared.now.template (c.as_slice-3.ensures ∙ own.freezes)
+    c.requires.prepared.template
 
 pub first_stop-requires-clause-can : goal.first_stop-requires-clause-can
 first_stop-requires-clause-can c =
@@ -78,9 +78,9 @@ returns-then-is_some-clause-stop c = λ before kept.
     let here = ends.call_here c.requires.prepared c.requires.exists own.runs.site in
     let ran = ends.has_run here kept c.index_mut-deltas.result.now c.index_mut-deltas.ensures.value c.run.new.deltas.items
     c.in_ok-run.ensures.count (c.in_ok-run.ensures.deltas _ _ _ _ own.runs) in
-    ends.stop_there ran kept (option_map plain_stop c.in_ok-stop.stop) c.as_slice-2.result.now c.as_slice-3.result.now (plain_template c.deref-2.result.now.template)
+    ends.stop_there ran kept (option_map plain_stop c.in_ok-stop.stop) c.as_slice-2.result.now c.as_slice-3.result.now (plain_template c.args.prepared.now.template)
     c.as_slice.result.now c.as_slice-4.result.now (c.as_slice-2.ensures ∙ own.clauses) (c.as_slice-3.ensures ∙ own.freezes)
-    (ends.template_there c.requires.prepared c.deref-2.result.now c.deref-2.ensures) c.as_slice.ensures.value c.as_slice-4.ensures.value c.in_ok-stop.ensures.stop
+    c.requires.prepared.template c.as_slice.ensures.value c.as_slice-4.ensures.value c.in_ok-stop.ensures.stop
 
 pub raise_all-requires-clause-numbers : goal.raise_all-requires-clause-numbers
 raise_all-requires-clause-numbers c =
@@ -99,9 +99,9 @@ raise_all-requires-clause-can c =
     let ran = ends.has_run here kept c.index_mut-deltas.result.now c.index_mut-deltas.ensures.value c.run.new.deltas.items
     c.in_ok-run.ensures.count (c.in_ok-run.ensures.deltas _ _ _ _ own.runs) in
     let stop =
-    ends.stop_there ran kept (option_map plain_stop c.in_ok-stop.stop) c.as_slice-2.result.now c.as_slice-3.result.now (plain_template c.deref-2.result.now.template)
+    ends.stop_there ran kept (option_map plain_stop c.in_ok-stop.stop) c.as_slice-2.result.now c.as_slice-3.result.now (plain_template c.args.prepared.now.template)
     c.as_slice.result.now c.as_slice-4.result.now (c.as_slice-2.ensures ∙ own.clauses) (c.as_slice-3.ensures ∙ own.freezes)
-    (ends.template_there c.requires.prepared c.deref-2.result.now c.deref-2.ensures) c.as_slice.ensures.value c.as_slice-4.ensures.value c.in_ok-stop.ensures.stop in
+    c.requires.prepared.template c.as_slice.ensures.value c.as_slice-4.ensures.value c.in_ok-stop.ensures.stop in
     let numbers = ends.clauses_there ran kept c.as_slice-2.result.now c.as_slice.result.now (c.as_slice-2.ensures ∙ own.clauses)
     c.as_slice.ensures.value in
     let site_sums =
@@ -118,9 +118,9 @@ returns-clause-kept c = λ before kept none.
     let ran = ends.has_run here kept c.index_mut-deltas.result.now c.index_mut-deltas.ensures.value c.run.new.deltas.items
     c.in_ok-run.ensures.count (c.in_ok-run.ensures.deltas _ _ _ _ own.runs) in
     let stop =
-    ends.stop_there ran kept (option_map plain_stop c.in_ok-stop.stop) c.as_slice-2.result.now c.as_slice-3.result.now (plain_template c.deref-2.result.now.template)
+    ends.stop_there ran kept (option_map plain_stop c.in_ok-stop.stop) c.as_slice-2.result.now c.as_slice-3.result.now (plain_template c.args.prepared.now.template)
     c.as_slice.result.now c.as_slice-4.result.now (c.as_slice-2.ensures ∙ own.clauses) (c.as_slice-3.ensures ∙ own.freezes)
-    (ends.template_there c.requires.prepared c.deref-2.result.now c.deref-2.ensures) c.as_slice.ensures.value c.as_slice-4.ensures.value c.in_ok-stop.ensures.stop in
+    c.requires.prepared.template c.as_slice.ensures.value c.as_slice-4.ensures.value c.in_ok-stop.ensures.stop in
     let new : Replay = record {
       deltas = with_item c.args.self.now.deltas c.deref-own.result.now.program.site c.run.new.deltas;
       rooms = with_items c.args.self.now.rooms c.raise_all.new.rooms;
@@ -149,13 +149,13 @@ returns-clause-stop c = λ before kept.
     let ran = ends.has_run here kept c.index_mut-deltas.result.now c.index_mut-deltas.ensures.value c.run.new.deltas.items
     c.in_ok-run.ensures.count (c.in_ok-run.ensures.deltas _ _ _ _ own.runs) in
     sym (ap (option_map plain_stop) (none_is c.in_ok-stop.stop (sym c.if-is_some.ensures)))
-    ∙ ends.stop_there ran kept (option_map plain_stop c.in_ok-stop.stop) c.as_slice-2.result.now c.as_slice-3.result.now (plain_template c.deref-2.result.now.template)
+    ∙ ends.stop_there ran kept (option_map plain_stop c.in_ok-stop.stop) c.as_slice-2.result.now c.as_slice-3.result.now (plain_template c.args.prepared.now.template)
     c.as_slice.result.now c.as_slice-4.result.now (c.as_slice-2.ensures ∙ own.clauses) (c.as_slice-3.ensures ∙ own.freezes)
-    (ends.template_there c.requires.prepared c.deref-2.result.now c.deref-2.ensures) c.as_slice.ensures.value c.as_slice-4.ensures.value c.in_ok-stop.ensures.stop
+    c.requires.prepared.template c.as_slice.ensures.value c.as_slice-4.ensures.value c.in_ok-stop.ensures.stop
 
 pub get-requires-clause-within : goal.get-requires-clause-within
 get-requires-clause-within c =
-    subst (λ (q : RoundPlan). IsWithin (schema_of (plain_workload c.args.c.now)) q.base.items) (sym c.deref.ensures) c.requires.prepared.plan.within
+    subst (λ (q : ObjectPlan). IsWithin (schema_of (plain_workload c.args.c.now)) q.base.items) (sym c.deref.ensures) c.requires.prepared.plan.within
 
 pub get-requires-clause-template : goal.get-requires-clause-template
 get-requires-clause-template c =

@@ -5,8 +5,8 @@ use Rattle.homeo_syntax.specs.declared.workload.Workload.{Workload}
 use Rattle.homeo_meaning.specs.Bounds.{IsWithin}
 use Rattle.homeo_meaning.specs.Calls.{CallExists}
 use Rattle.homeo_meaning.specs.Schema.{schema_of}
-use Rattle.homeo_plan.specs.declared.round.RoundPlan.{RoundPlan}
 use Rattle.homeo_plan.specs.Planned.{planned_at, template_at}
+use Rattle.homeo_follow.specs.declared.plan.ObjectPlan.{ObjectPlan}
 use Rattle.homeo_history.specs.Legal.{IsCallAt}
 use Rattle.homeo_site.specs.Key.{definitions}
 use Rattle.homeo_site.specs.OwnCalls.{AreOwnCalls}
@@ -19,7 +19,7 @@ pub get-own-requires-clause-within : goal.get-own-requires-clause-within
 get-own-requires-clause-within c =
     let w = plain_workload c.self.inside.compiled.value in
     subst (λ (v : Workload). IsWithin (schema_of (plain_workload v)) c.deref-3.result.now.base.items) (sym c.deref-2.ensures)
-    (subst (λ (p : RoundPlan). IsWithin (schema_of w) p.base.items) (sym c.deref-3.ensures) c.self.invariant.plan.within)
+    (subst (λ (p : ObjectPlan). IsWithin (schema_of w) p.base.items) (sym c.deref-3.ensures) c.self.invariant.plan.within)
 
 pub get-own-requires-clause-exists : goal.get-own-requires-clause-exists
 get-own-requires-clause-exists c =
@@ -34,7 +34,7 @@ get-own-requires-clause-made c =
     let made =
     subst (λ (v : StartValue). AreOwnCalls (plain_workload v.work) v.base c.in_ok-parts.parts.calls) (sym here) c.in_ok-parts.ensures.parts.calls in
     subst (λ (v : Workload). AreOwnCalls (plain_workload v) c.deref-3.result.now.base.items c.in_ok-parts.parts.calls) (sym c.deref-2.ensures)
-    (subst (λ (p : RoundPlan). AreOwnCalls w p.base.items c.in_ok-parts.parts.calls) (sym c.deref-3.ensures) made)
+    (subst (λ (p : ObjectPlan). AreOwnCalls w p.base.items c.in_ok-parts.parts.calls) (sym c.deref-3.ensures) made)
 
 pub get-own-requires-clause-site : goal.get-own-requires-clause-site
 unfolding definitions
@@ -53,6 +53,6 @@ get-own-requires-clause-template c =
     let w = plain_workload c.self.inside.compiled.value in
     let here = c.self.view_is ∙ c.in_ok-parts.ensures.same in
     subst (λ (v : Workload). t ≡ template_at (plain_workload v) c.deref-3.result.now.base.items) (sym c.deref-2.ensures)
-    (subst (λ (p : RoundPlan). t ≡ template_at w p.base.items) (sym c.deref-3.ensures)
+    (subst (λ (p : ObjectPlan). t ≡ template_at w p.base.items) (sym c.deref-3.ensures)
     (subst (λ (v : StartValue). t ≡ template_at (plain_workload v.work) v.base) (sym here)
     (c.index-index.ensures.template ∙ ap (λ (u : TreatyPart). u.template) (c.deref.ensures ∙ c.in_ok-parts.ensures.parts.treaty))))

@@ -2,11 +2,10 @@
 use Rattle.std.proofs.Common.{IfOk, IfSome, sym, ◌∙◌, subst}
 use Rattle.homeo_syntax.specs.SourceView.{plain_workload}
 use Rattle.homeo_syntax.specs.declared.workload.Workload.{Workload}
-use Rattle.homeo_build.proofs.FewFreezes.{plan_few}
 use Rattle.homeo_site.specs.OwnCalls.{AreOwnCalls}
 use Rattle.homeo_site.specs.SiteView.{StartValue}
 use Rattle.homeo_site.specs.inner.OwnRound.{AreParts}
-use Rattle.homeo_site.proofs.PartsMade.{part_of_plan, are_parts}
+use Rattle.homeo_site.proofs.PartsMade.{part_of_plan, can_keep, are_parts}
 use Rattle.homeo_site.proofs.own_round.OwnRound.take_parts.Goals as goal
 use Rattle.homeo_site.proofs.own_round.OwnRound.take_parts.Goals.{in-Some, in-None}
 
@@ -30,5 +29,5 @@ returns-clause-parts c =
 
 pub new-requires : goal.new-requires
 new-requires c =
-    plan_few (plain_workload c.self.inside.compiled.value) c.self.inside.plan.value.base.items c.self.inside.plan.value c.self.invariant.accepted
-    c.self.invariant.plan
+    can_keep (plain_workload c.self.inside.compiled.value) c.self.inside.plan.value c.self.inside.site c.self.invariant.accepted
+    c.self.invariant.site c.self.invariant.plan

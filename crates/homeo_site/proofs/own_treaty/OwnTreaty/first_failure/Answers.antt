@@ -1,13 +1,13 @@
 -- What the site keeps of the template fails as the template does.
-use Rattle.std.proofs.Common.{◌≡◌, All, ◌<◌, List, length, map, is_some, refl, sym, ap, ap₂, ◌∙◌, subst}
+use Rattle.std.proofs.Common.{◌≡◌, All, ◌+◌, ◌<◌, ◌≤◌, List, length, map, is_some, sym, ap, ap₂, ◌∙◌, subst}
 use Rattle.homeo_meaning.specs.Serial.{values_of}
-use Rattle.homeo_plan.specs.PlanView.{plain_template, plain_config}
-use Rattle.homeo_plan.specs.declared.round.RoundPlan.{RoundPlan}
+use Rattle.homeo_follow.specs.ObjectPlan.{template_in, config_in}
+use Rattle.homeo_follow.specs.declared.plan.ObjectPlan.{ObjectPlan}
 use Rattle.homeo_site.specs.TreatyPart.{TreatyPart}
 use Rattle.homeo_site.specs.declared.own_treaty.OwnClause as code
 use Rattle.homeo_site.specs.inner.Failures.{first_of, first_failure, own_failure, own_freeze_failure}
 use Rattle.homeo_site.specs.OwnTreaty.{OwnClause, plain_own, own_clauses, SumsFit}
-use Rattle.homeo_site.proofs.OwnChecks.{numbers_there, fits_there, first_found, second_is, template_count, template_freezes}
+use Rattle.homeo_site.proofs.OwnChecks.{numbers_there, fits_there, first_found, second_is, template_count, template_freezes, freezes_there}
 use Rattle.homeo_site.proofs.own_treaty.OwnTreaty.first_failure.Goals as goal
 
 pub first_clause-failure-requires-clause-numbers : goal.first_clause-failure-requires-clause-numbers
@@ -17,7 +17,7 @@ first_clause-failure-requires-clause-numbers c =
     let numbers =
     subst (λ (v : TreatyPart). All (λ n. n < length v.template.clauses) c.args.clauses.now) (sym c.self.view_is) c.requires.clauses in
     let all =
-    numbers_there in'.site (plain_template p.template).clauses (plain_config p.config) in'.clauses.items c.args.clauses.now
+    numbers_there in'.site (template_in p).clauses (config_in p) in'.clauses.items c.args.clauses.now
     c.self.invariant.clauses numbers in
     subst (λ (cs : List code.OwnClause). All (λ n. n < length cs) c.args.clauses.now) (sym c.as_slice.ensures) all
 
@@ -30,7 +30,17 @@ first_clause-failure-requires-clause-fit c =
     subst (λ (v : TreatyPart). All (λ (o : OwnClause). SumsFit o.terms x) (own_clauses v.site v.template.clauses v.config))
     (sym c.self.view_is) c.requires.fit in
     subst (λ (cs : List code.OwnClause). All (λ (o : code.OwnClause). SumsFit o.terms.items x) cs) (sym c.as_slice.ensures)
-    (fits_there in'.site (plain_template p.template).clauses (plain_config p.config) in'.clauses.items x c.self.invariant.clauses fit)
+    (fits_there in'.site (template_in p).clauses (config_in p) in'.clauses.items x c.self.invariant.clauses fit)
+
+pub first_freeze-requires : goal.first_freeze-requires
+first_freeze-requires c =
+    freezes_there c.self.inside.plan.value c.as_slice-count.result.now c.as_slice-2.result.now c.args.freezes.now
+    (c.as_slice-count.ensures ∙ ap (λ (q : ObjectPlan). q.template.clauses.items) c.deref.ensures)
+    (c.as_slice-2.ensures ∙ ap (λ (q : ObjectPlan). q.template.freezes.items) c.deref.ensures)
+    (subst
+    (λ (v : TreatyPart). All
+    (λ n. (length v.template.clauses ≤ n) × (n < length v.template.clauses + length v.template.freezes)) c.args.freezes.now)
+    (sym c.self.view_is) c.requires.freezes)
 
 pub returns-then-is_some : goal.returns-then-is_some
 returns-then-is_some c =
@@ -51,7 +61,6 @@ pub returns : goal.returns
 returns c =
     let in' = c.self.inside in
     let p = in'.plan.value in
-    let t = plain_template p.template in
     let x = values_of c.args.deltas.now in
     let cl = c.args.clauses.now in
     let same =
@@ -59,11 +68,9 @@ returns c =
     ∙ ap (λ (os : List code.OwnClause). first_failure (own_failure (map plain_own os) x) cl) c.as_slice.ensures
     ∙ ap (λ os. first_failure (own_failure os x) cl) c.self.invariant.clauses in
     let count =
-    template_count p c.as_slice-count.result.now t (c.as_slice-count.ensures ∙ ap (λ (q : RoundPlan). q.template.clauses.items) c.deref.ensures)
-    refl in
+    template_count p c.as_slice-count.result.now (c.as_slice-count.ensures ∙ ap (λ (q : ObjectPlan). q.template.clauses.items) c.deref.ensures) in
     let freezes =
-    template_freezes p c.as_slice-2.result.now t (c.as_slice-2.ensures ∙ ap (λ (q : RoundPlan). q.template.freezes.items) c.deref.ensures)
-    refl in
+    template_freezes p c.as_slice-2.result.now (c.as_slice-2.ensures ∙ ap (λ (q : ObjectPlan). q.template.freezes.items) c.deref.ensures) in
     let frozen =
     c.first_freeze.ensures
     ∙ ap₂ (λ n ds. first_failure (own_freeze_failure n in'.site ds x) c.args.freezes.now) count freezes in

@@ -11,15 +11,16 @@ use Rattle.homeo_plan.specs.PlanView.{plain_atom, plain_atoms}
 use Rattle.homeo_plan.specs.Template.{Clause, clauses_from}
 use Rattle.homeo_plan.specs.declared.forms.AtomSet.{AtomSet}
 use Rattle.homeo_plan.specs.declared.templates.FreezeSet.{FreezeSet}
+use Rattle.homeo_follow.specs.Key.{definitions}
 use Rattle.homeo_follow.specs.Follow.{followed, needed}
 use Rattle.homeo_follow.specs.ObjectTemplate.{expanded_clause}
 use Rattle.homeo_build.specs.inner.Followed.{IsSmallAlong, AreFollowed}
 use Rattle.homeo_build.specs.inner.Frozen.{frozen_from}
-use Rattle.homeo_build.proofs.ByObjects.{sets_asked, places_within, small_asked, template_is, small_slacks, freezes_in_order, none_frozen, frozen_next, all_frozen}
+use Rattle.homeo_build.proofs.ByObjects.{sets_asked, places_within, small_asked, template_is, none_frozen, frozen_next, all_frozen}
 use Rattle.homeo_build.proofs.Following.{small_forms, small_base, place_within, made_there}
 use Rattle.homeo_build.proofs.FormsMade.{form_here}
 use Rattle.homeo_build.proofs.GroundCalls.{can_here}
-use Rattle.homeo_build.proofs.calls.template_of.Goals as goal
+use Rattle.homeo_build.proofs.calls.object_template.Goals as goal
 
 pub follow_forms-requires-clause-forms : goal.follow_forms-requires-clause-forms
 follow_forms-requires-clause-forms c =
@@ -128,6 +129,7 @@ loop-i-preserved c =
     (c.as_slice-in-loop-i-2.ensures ∙ ap (λ (f : FreezeSet). f.deltas.items) (sym c.index-needed-place.is) ∙ need) c.loop-i.invariant c.in_ok-mix.ensures c.in_ok-need.ensures
 
 pub returns-clause-template : goal.returns-clause-template
+unfolding definitions
 returns-clause-template c =
     let w = plain_workload c.args.c.now in
     let base = c.args.base.now.items in
@@ -138,18 +140,10 @@ returns-clause-template c =
     let made = c.in_ok-followed.followed in
     let are = subst (λ (l : List LCommand). AreFollowed b (map plain_lcommand l) made.atoms.items made.needs.items) c.as_slice.ensures c.in_ok-followed.ensures in
     template_is w base c.requires.accepted c.requires.within _ _ c.loop-i.frozen
+    (ap₂ (λ n (l : List Clause). map (expanded_clause n) l) c.requires.sites
     (c.in_ok-clauses.ensures
-    ∙ ap₂ (λ n (l : List Clause). map (expanded_clause n) l) c.requires.sites
-    (ap (clauses_from [])
+    ∙ ap (clauses_from [])
     (sets_asked w b fs made.atoms.items c.as_slice-asked.result.now forms.result.now.places.items c.as_slice-places.result.now forms.ensures are.atoms
     c.as_slice-asked.ensures.value c.as_slice-places.ensures.value)))
     (ap (λ l. l.items) c.from_vec.ensures ∙ c.in_ok-freezes.ensures ∙ ap (λ n. frozen_from n 0 c.loop-i.frozen.objects.items) c.requires.sites)
     (all_frozen w b calls.result.now c.loop-i.i c.loop-i.frozen c.loop-i-test.false calls.ensures c.loop-i.invariant)
-
-pub returns-clause-small : goal.returns-clause-small
-returns-clause-small c =
-    small_slacks (plain_workload c.args.c.now) c.args.base.now.items c.requires.accepted c.requires.within _ (returns-clause-template c)
-
-pub returns-clause-order : goal.returns-clause-order
-returns-clause-order c =
-    freezes_in_order (plain_workload c.args.c.now) c.args.base.now.items c.requires.accepted c.requires.within _ (returns-clause-template c)

@@ -5,7 +5,7 @@ use Rattle.homeo_meaning.specs.Serial.{values_of}
 use Rattle.homeo_follow.specs.ObjectTemplate.{is_frozen}
 use Rattle.homeo_build.specs.inner.Frozen.{is_frozen_in}
 use Rattle.homeo_build.proofs.ByObjects.{call_planned}
-use Rattle.homeo_build.proofs.calls.template_of.Given as goal
+use Rattle.homeo_build.proofs.calls.object_template.Given as goal
 
 abbrev pub invariant-loop-i : goal.invariant-loop-i
 invariant-loop-i l =

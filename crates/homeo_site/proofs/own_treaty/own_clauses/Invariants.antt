@@ -1,7 +1,0 @@
-use Rattle.std.proofs.Common.{◌≡◌, map, take}
-use Rattle.homeo_plan.specs.PlanView.{plain_clause, plain_config}
-use Rattle.homeo_site.specs.OwnTreaty.{plain_own, own_clauses}
-use Rattle.homeo_site.proofs.own_treaty.own_clauses.Given as goal
-
-abbrev pub invariant-loop-n : goal.invariant-loop-n
-invariant-loop-n l = map plain_own l.own.items ≡ own_clauses l.site (map plain_clause (take l.n l.clauses)) (plain_config l.config)
