@@ -70,8 +70,9 @@ pub fn treaties(
     })
 }
 
-/// The plan, over whole objects and with the bounds of the policy, of the round that begins at a base, to be shared. It takes time and
-/// memory without regard to how many sites there are, unless they have weights. The base must be within the workload's bounds.
+/// The plan, over whole objects and with the bounds of the policy, of the round that begins at a base, to be shared. Its clauses take
+/// time and memory without regard to how many sites there are, and its bounds none, unless sites have weights; of frozen objects the
+/// deltas of all sites are listed. The base must be within the workload's bounds.
 ///
 /// # Errors
 ///
