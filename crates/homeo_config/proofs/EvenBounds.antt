@@ -1,25 +1,12 @@
 -- The bound of one of equal shares.
-use Rattle.homeo_plan.specs.Key.{definitions}
-use Rattle.std.proofs.Common.{◌≡◌, ℕ, zero, suc, ◌+◌, ◌-◌, ◌*◌, ◌/◌, ◌<◌, ◌≤◌, List, length, sum, take, ℤ, pos, refl, sym, ap, ap₂, ◌∙◌, arith}
+use Rattle.std.proofs.Common.{◌≡◌, ℕ, zero, suc, ◌+◌, ◌-◌, ◌*◌, ◌/◌, ◌<◌, ◌≤◌, sum, take, ℤ, pos, refl, sym, ap, ap₂, ◌∙◌, arith}
 use Rattle.std.specs.Prelude.{replicate}
 use Rattle.std.proofs.lemmas.List.Sums.{sum_by-cons}
 use Rattle.homeo_meaning.specs.Schema.{nat_of}
 use Rattle.homeo_plan.specs.Config.{split}
 use Rattle.homeo_plan.specs.Treaty.{bound_at}
+use Rattle.homeo_plan.proofs.Shares.{ones, ones_count, ones_sum}
 use Rattle.homeo_plan.proofs.Splits.{split_bounds}
-
-ones : ℕ → List ℕ
-ones k = replicate k 1
-
-ones_count : (k : ℕ) → length (ones k) ≡ k
-unfolding ones
-ones_count zero = refl
-ones_count (suc k) = ap suc (ones_count k)
-
-ones_sum : (k : ℕ) → sum (ones k) ≡ k
-unfolding ones
-ones_sum zero = refl
-ones_sum (suc k) = omega (arith, sum_by-cons (λ x. x) 1 (ones k), ones_sum k)
 
 ones_below : (k i : ℕ) → i ≤ k → sum (take i (ones k)) ≡ i
 unfolding ones

@@ -1,11 +1,12 @@
 -- The rows in force.
-use Rattle.std.proofs.Common.{◌≡◌, ℕ, ◌==◌, Bool, true, false, cond, List, [], length, Bor, rules, sym, ap, ◌∙◌, subst, arith}
+use Rattle.std.proofs.Common.{◌≡◌, ℕ, ◌==◌, Bool, true, false, cond, List, [], length, sym, ap, ◌∙◌, subst, arith}
 use Rattle.homeo_context.specs.declared.slots.Slot as code
 use Rattle.homeo_context.specs.declared.context.Context as code_context
-use Rattle.homeo_context.specs.declared.context.BoundRows.{BoundRows, Outside, Inside, the_lemmas}
+use Rattle.homeo_context.specs.declared.context.BoundRows.{Outside, Inside}
 use Rattle.homeo_context.specs.declared.arguments.Argument.{Argument}
 use Rattle.homeo_context.specs.Slots.{plain_slot}
 use Rattle.homeo_context.specs.Contexts.{call_context, rows_of, plain_context}
+use Rattle.homeo_context.proofs.Rows.{rows_inside, rows_outside}
 use Rattle.homeo_meaning.specs.Key.{definitions as meaning_definitions}
 use Rattle.homeo_meaning.specs.Context.{Slot, Context, bind, object_count}
 use Rattle.homeo_meaning.specs.Declarations.{Declarations}
@@ -20,10 +21,6 @@ bind_fits : (x : Context) (name : ℕ) (slot : Slot) → Fits x → IsLow slot �
 unfolding meaning_definitions
 bind_fits x name slot h k = record { schema = h.schema; rows = λ n. low_row (name == n) slot (x.rows n) k (h.rows n) }
 
-rows_inside : (name : ℕ) (slot : code.Slot) (outer : Bor BoundRows) (n : ℕ) → rows_of (Inside name slot outer) n ≡ cond (name == n) (plain_slot slot) (rows_of outer.now n)
-unfolding meaning_definitions
-rows_inside name slot outer n = search (rules, the_lemmas)
-
 pub context_bound : (f g : code_context.Context) (name : ℕ) (slot : code.Slot) → g.declared.now ≡ f.declared.now → g.arguments.now ≡ f.arguments.now → g.rows.now ≡ Inside name slot f.rows → plain_context g ≡ bind (plain_context f) name (plain_slot slot)
 unfolding meaning_definitions
 context_bound f g name slot d a r = λ i. record {
@@ -36,10 +33,6 @@ pub bound_fits : (f g : code_context.Context) (name : ℕ) (slot : code.Slot) �
 bound_fits f g name slot d a r h k = subst Fits (sym (context_bound f g name slot d a r)) (bind_fits (plain_context f) name (plain_slot slot) h k)
 
 -- ---- no row
-rows_outside : (k n : ℕ) → rows_of (Outside k) n ≡ record { number = 0; used = k; fields = [] }
-unfolding meaning_definitions
-rows_outside k n = search (rules, the_lemmas)
-
 pub context_outside : (f : code_context.Context) (k : ℕ) (d : Declarations) (given : List Argument) → f.declared.now ≡ d → f.arguments.now ≡ given → f.rows.now ≡ Outside k → k ≡ object_count (length d.schema.objects) d.schema.relations → plain_context f ≡ call_context d given
 unfolding meaning_definitions
 context_outside f k d given n a r e = λ i. record {

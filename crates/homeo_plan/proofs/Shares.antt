@@ -24,22 +24,22 @@ use Rattle.homeo_plan.specs.Shares.{weight_of, takes_part, own_share, or_even, s
 use Rattle.homeo_plan.specs.Template.{PlannedCall, Clause}
 
 -- ---- 1 for each site
-ones : ℕ → List ℕ
+unfoldable pub ones : ℕ → List ℕ
 ones k = replicate k 1
 
-replicate_count : (n : ℕ) → length (ones n) ≡ n
+pub ones_count : (n : ℕ) → length (ones n) ≡ n
 unfolding ones
-replicate_count zero = refl
-replicate_count (suc n) = ap suc (replicate_count n)
+ones_count zero = refl
+ones_count (suc n) = ap suc (ones_count n)
 
-replicate_sum : (n : ℕ) → sum (ones n) ≡ n
+pub ones_sum : (n : ℕ) → sum (ones n) ≡ n
 unfolding ones
-replicate_sum zero = refl
-replicate_sum (suc n) = omega (arith, sum_by-cons (λ x. x) 1 (ones n), replicate_sum n)
+ones_sum zero = refl
+ones_sum (suc n) = omega (arith, sum_by-cons (λ x. x) 1 (ones n), ones_sum n)
 
 pub one_each : (k : ℕ) → 0 < k → AreShares k (replicate k 1)
 unfolding ones
-one_each k lt = record { count = replicate_count k; some = omega (arith, replicate_sum k) }
+one_each k lt = record { count = ones_count k; some = omega (arith, ones_sum k) }
 
 -- ---- by weight
 is_some : (n : ℕ) → (n == 0) ≡ false → 1 ≤ n

@@ -1,5 +1,5 @@
 -- What the shares up to the site get, less what those below it get.
-use Rattle.std.proofs.Common.{◌≡◌, ◌+◌, ◌≤◌, ap, ◌∙◌, to_z, of_z, SFits, arith, rules}
+use Rattle.std.proofs.Common.{◌≡◌, ◌+◌, ap, ◌∙◌, to_z, of_z, SFits, arith, rules}
 use mir.Syntax.{w128}
 use Rattle.std.proofs.lemmas.Int.{to_z-of_z}
 use Rattle.homeo_meaning.specs.Schema.{nat_of}
