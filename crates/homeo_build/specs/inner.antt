@@ -3,3 +3,4 @@ pub mod Followed
 pub mod Frozen
 pub mod Planning
 pub mod Sharing
+pub mod Transformed

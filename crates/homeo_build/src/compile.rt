@@ -1,14 +1,14 @@
 //! What is made of a workload once for all its rounds.
 
-ghost use Rattle.std.specs.Prelude.{◌≡◌, map, IfOk};
+ghost use Rattle.std.specs.Prelude.{◌≡◌, All, map, IfOk};
 ghost use Rattle.homeo_syntax.specs.LowView.{plain_lcommand};
 ghost use Rattle.homeo_syntax.specs.SourceView.{plain_workload};
 ghost use Rattle.homeo_meaning.specs.Declarations.{declarations};
 ghost use Rattle.homeo_meaning.specs.Ground.{plain_ground, grounds};
-ghost use Rattle.homeo_ground.specs.Grounding.{grounding};
+ghost use Rattle.homeo_ground.specs.Grounding.{IsCalled, grounding};
 ghost use Rattle.homeo_plan.specs.Planned.{transformed};
 ghost use Rattle.homeo_build.specs.Forms.{AreForms};
-ghost use Rattle.homeo_build.specs.Written.{AreWritten};
+ghost use Rattle.homeo_build.specs.inner.Transformed.{AreTransformed};
 
 use crate::compiled::Compiled;
 use crate::forms::{Forms, forms_of};
@@ -33,18 +33,24 @@ pub fn compile(alloc: Global, w: Accepted) -> Result<Compiled, Memory>
     let Parts {
         declared,
         calls,
-        forms,
-        commands,
-        written,
+        transformed: Transformed {
+            forms,
+            commands,
+            written,
+        },
     } = compile_parts(alloc, &w)?;
     Ok(Compiled::new(w, declared, calls, forms, commands, written))
 }
 
-/// What is made of a workload: the places of its names, its ground calls, their L forms, their transformed commands, and for
-/// each site which objects these write there.
+/// What is made of a workload: the places of its names, its ground calls, and what these are made into.
 struct Parts {
     declared: Declarations,
     calls: Grounding,
+    transformed: Transformed,
+}
+
+/// What ground calls are made into: their L forms, their transformed commands, and for each site which objects these write there.
+struct Transformed {
     forms: Forms,
     commands: List<LCommand>,
     written: Vec<Vec<bool>>,
@@ -54,19 +60,35 @@ struct Parts {
 fn compile_parts(alloc: Global, w: &Accepted) -> Result<Parts, Memory>
     ensures declared { IfOk result (λ p. p.declared ≡ declarations (plain_workload w.now)) }
     ensures calls { IfOk result (λ p. p.calls ≡ grounding (plain_workload w.now)) }
-    ensures forms { IfOk result (λ p. AreForms (plain_workload w.now) (map plain_lcommand p.forms.forms.items) p.forms.places.items) }
-    ensures commands { IfOk result (λ p. map plain_lcommand p.commands.items ≡ transformed (plain_workload w.now)) }
-    ensures written { IfOk result (λ p. AreWritten (plain_workload w.now) (map (λ row. row.items) p.written.items)) }
+    ensures transformed { IfOk result (λ p. AreTransformed (plain_workload w.now) p.transformed) }
 {
     let declared = Declarations::of(alloc, w)?;
     let calls = Grounding::of(alloc, w, &declared)?;
     let grounds = calls.calls();
-    let forms = forms_of(alloc, w, &declared, grounds)?;
-    let commands = transform_calls(alloc, w, &forms, grounds)?;
-    let written = written_objects(alloc, w, grounds, commands.as_slice())?;
+    let transformed = transform_all(alloc, w, &declared, grounds)?;
     Ok(Parts {
         declared,
         calls,
+        transformed,
+    })
+}
+
+/// Makes what all ground calls are made into.
+fn transform_all(
+    alloc: Global,
+    w: &Accepted,
+    declared: &Declarations,
+    calls: &[GroundCall],
+) -> Result<Transformed, Memory>
+    requires declared { declared.now ≡ declarations (plain_workload w.now) }
+    requires called { All (IsCalled (plain_workload w.now)) (map plain_ground calls.now) }
+    requires calls { map plain_ground calls.now ≡ grounds (plain_workload w.now) }
+    ensures { IfOk result (AreTransformed (plain_workload w.now)) }
+{
+    let forms = forms_of(alloc, w, declared, calls)?;
+    let commands = transform_calls(alloc, w, &forms, calls)?;
+    let written = written_objects(alloc, w, calls, commands.as_slice())?;
+    Ok(Transformed {
         forms,
         commands,
         written,

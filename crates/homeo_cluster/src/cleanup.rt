@@ -116,7 +116,9 @@ impl<N: ClusterNaming> Frame<N> {
         self.accepted();
         book.facts();
         self.meet_row(cells, book);
-        let prepared = self.prepare_row(alloc, book, cells, home, pass.next(), broken)?;
+        let made = self.prepare_row(alloc, book, cells, home, pass.next(), broken)?;
+        // in a box it is dropped in one step, where memory is refused behind it
+        let prepared = Box::new(alloc, made)?;
         let answer = prepared.answer().copy(alloc)?;
         let logged = answer.copy(alloc)?;
         let next = Vec::from_slice(alloc, prepared.next().as_slice())?;
@@ -128,7 +130,7 @@ impl<N: ClusterNaming> Frame<N> {
             &mut book.holder,
             cells,
             &mut pass.holder,
-            prepared,
+            Box::into_inner(prepared),
             next.as_slice(),
             &answer,
             broken,

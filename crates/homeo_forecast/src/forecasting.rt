@@ -9,6 +9,7 @@ ghost use Rattle.homeo_plan.specs.Each.{Each};
 ghost use Rattle.homeo_plan.specs.PlanView.{plain_config};
 ghost use Rattle.homeo_forecast.specs.Forecast.{IsForecast};
 ghost use Rattle.homeo_forecast.specs.View.{plain_stop};
+ghost use Rattle.homeo_forecast.specs.inner.Prepared.{IsPrepared};
 
 use crate::outlook::Outlook;
 use crate::prepared::Prepared;
@@ -41,10 +42,25 @@ pub fn forecast(
         (option_map plain_stop o.stop)) }
 {
     let prepared = Prepared::at(alloc, c, base)?;
+    forecast_on(alloc, c, &prepared, calls)
+}
+
+/// How far a list of calls goes from the base that is prepared.
+fn forecast_on(
+    alloc: Global,
+    c: &Compiled,
+    prepared: &Prepared,
+    calls: &[CallId],
+) -> Result<Outlook, Memory>
+    requires exist { Each (λ call. CallExists (plain_workload c.now) call) calls.now }
+    requires prepared { IsPrepared (plain_workload c.now) prepared.now.plan.value.base.items prepared.now }
+    ensures { IfOk result (λ o. IsForecast (plain_workload c.now) prepared.now.plan.value.base.items calls.now o.kept
+        (plain_config o.config) (option_map plain_stop o.stop)) }
+{
     let mut own_calls = OwnCalls::new(alloc, c)?;
-    let mut replay = Replay::begin(alloc, &prepared)?;
+    let mut replay = Replay::begin(alloc, prepared)?;
     for (kept, call) in calls.iter().enumerate() {
-        let stop = replay.call(alloc, c, &prepared, &mut own_calls, *call)?;
+        let stop = replay.call(alloc, c, prepared, &mut own_calls, *call)?;
         if stop.is_some() {
             let config = replay.config(alloc)?;
             return Ok(Outlook {

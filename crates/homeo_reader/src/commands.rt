@@ -1,14 +1,13 @@
 //! Commands and blocks.
 
-ghost use Rattle.std.specs.Prelude.{◌≡◌, ◌<◌, option_map, IfOk, IfErr};
-ghost use Rattle.homeo_syntax.specs.Source as s;
-ghost use Rattle.homeo_syntax.specs.SourceView.{plain_cond, plain_command};
+ghost use Rattle.std.specs.Prelude.{◌≡◌, ◌<◌, option_map};
+ghost use Rattle.homeo_syntax.specs.SourceView.{plain_command};
 ghost use Rattle.homeo_reader.specs.inner.Reading.{Gives};
 ghost use Rattle.homeo_reader.specs.inner.Commands.{command_views, block_view, abort_read, command_read, if_read, foreach_read, next_command_read, commands_read, block_read};
 
 use crate::conditions::Visit;
 use crate::parser::{Fault, Parser, list_of};
-use homeo_syntax::{Command, Cond, Kind, List, Mark, Version};
+use homeo_syntax::{Command, Kind, List, Mark, Version};
 use std::alloc::Global;
 
 impl<'a> Parser<'a> {
@@ -90,9 +89,24 @@ impl<'a> Parser<'a> {
         }
     }
 
+    /// Takes a command, in a box: where what comes behind it is at fault, that is dropped in one step.
+    #[cycle(command)]
+    fn boxed_command(
+        &mut self,
+        alloc: Global,
+        version: Version,
+        room: u32,
+    ) -> Result<Box<Command>, Fault>
+        requires { 0 < room }
+        ensures { Gives (λ b. plain_command b.value) result self.new.rest.now (command_read version room self.old.rest.now) }
+    {
+        let command = self.command(alloc, version, room)?;
+        Ok(Box::new(alloc, command)?)
+    }
+
     /// What follows `if`.
     #[cycle(command)]
-    #[tactic(auto, unfolding(crate::specs::inner::Commands::if_read))]
+    #[tactic(auto, using(homeo_syntax::proofs::SourceViews::command_views), unfolding(crate::specs::inner::Commands::if_read))]
     fn choice_after_if(
         &mut self,
         alloc: Global,
@@ -104,10 +118,10 @@ impl<'a> Parser<'a> {
     {
         let test = self.cond(alloc, room)?;
         self.expect(Mark::Then)?;
-        let yes = self.command(alloc, version, room)?;
+        let yes = self.boxed_command(alloc, version, room)?;
         self.expect(Mark::Else)?;
-        let no = self.command(alloc, version, room)?;
-        choice(alloc, test, yes, no)
+        let no = self.boxed_command(alloc, version, room)?;
+        Ok(Command::If { test, yes, no })
     }
 
     /// What follows `foreach`.
@@ -192,20 +206,9 @@ impl<'a> Parser<'a> {
         if room == 0 {
             return Err(Fault::Stuck);
         }
-        let first = self.command(alloc, version, room)?;
+        let first = self.boxed_command(alloc, version, room)?;
         let others = self.commands(alloc, version, room)?;
         self.expect(Mark::CloseBrace)?;
-        list_of(first, others)
+        list_of(Box::into_inner(first), others)
     }
-}
-
-/// A choice of two commands.
-#[tactic(auto, using(homeo_syntax::proofs::SourceViews::command_views))]
-fn choice(alloc: Global, test: Cond, yes: Command, no: Command) -> Result<Command, Fault>
-    ensures ok { IfOk result (λ c. plain_command c ≡ s.If (plain_cond test) (plain_command yes) (plain_command no)) }
-    ensures memory { IfErr result (λ e. e ≡ Fault.Memory) }
-{
-    let yes = Box::new(alloc, yes)?;
-    let no = Box::new(alloc, no)?;
-    Ok(Command::If { test, yes, no })
 }

@@ -238,10 +238,10 @@ fn first_node(
     ensures node { IfOk result (λ n. plain_node n ≡ in_round (plain_workload c.now.value) (first_journal (plain_workload c.now.value) site)) }
     ensures is { IfOk result (IsNode c.now.value) }
 {
-    let start = SiteStart::new(alloc, c, plan, site, 0)?;
     let base = copy_values(alloc, base.as_slice())?;
     let made = no_calls(alloc, clients)?;
     let states = no_states(alloc, site_count(c.workload()))?;
+    let start = SiteStart::new(alloc, c, plan, site, 0)?;
     Ok(Node {
         site: Site::begin(start),
         base,

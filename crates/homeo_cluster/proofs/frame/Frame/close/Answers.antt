@@ -42,9 +42,10 @@ end_round-requires-clause-breaks g c =
     let w = g.N.ClusterNaming.workload in
     let vs : List CellValue = held_cells c.meet_row.new.cells.items in
     let b : BookState = book_state c.meet_row.new.book in
-    let p = c.in_ok-prepared.prepared in
+    let p = c.deref.result.now in
     let a : Answer = plain_answer c.in_ok-answer.answer in
-    let ready : IsPrepared w b (site_states vs) c.args.home c.next.result c.args.broken p = c.in_ok-prepared.ensures in
+    let ready : IsPrepared w b (site_states vs) c.args.home c.next.result c.args.broken p =
+    subst (IsPrepared w b (site_states vs) c.args.home c.next.result c.args.broken) (sym (c.deref.ensures ∙ c.in_ok-prepared.ensures.ok)) c.in_ok-made.ensures in
     let is : a ≡ closing_answer p.round (closing_of w b (site_states vs) c.args.home c.next.result c.args.broken) =
     c.in_ok-answer.ensures ∙ c.answer.ensures ∙ ap (closing_answer p.round) ready.closing in
     let site_is : c.in_ok-answer.answer.site ≡ c.args.home = ap (λ (x : Answer). x.site) is in
@@ -58,9 +59,10 @@ end_round-requires-clause-prepared g c =
     let w = g.N.ClusterNaming.workload in
     let vs : List CellValue = held_cells c.meet_row.new.cells.items in
     let b : BookState = book_state c.meet_row.new.book in
-    let p = c.in_ok-prepared.prepared in
+    let p = c.deref.result.now in
     let a : Answer = plain_answer c.in_ok-answer.answer in
-    let ready : IsPrepared w b (site_states vs) c.args.home c.next.result c.args.broken p = c.in_ok-prepared.ensures in
+    let ready : IsPrepared w b (site_states vs) c.args.home c.next.result c.args.broken p =
+    subst (IsPrepared w b (site_states vs) c.args.home c.next.result c.args.broken) (sym (c.deref.ensures ∙ c.in_ok-prepared.ensures.ok)) c.in_ok-made.ensures in
     let is : a ≡ closing_answer p.round (closing_of w b (site_states vs) c.args.home c.next.result c.args.broken) =
     c.in_ok-answer.ensures ∙ c.answer.ensures ∙ ap (closing_answer p.round) ready.closing in
     let site_is : c.in_ok-answer.answer.site ≡ c.args.home = ap (λ (x : Answer). x.site) is in
@@ -69,8 +71,10 @@ end_round-requires-clause-prepared g c =
     let kept : c.book.inside.closed.items ≡ c.reserve.new.self.items = search rules in
     let state : b ≡ book_of c.reserve.new.self.items c.book.inside.base.items =
     (λ i. book_state (view i)) ∙ (λ i. record { closed = map plain_round (kept i); base = c.book.inside.base.items }) in
-    subst (λ (x : BookState). IsPrepared w x (site_states vs) c.in_ok-answer.answer.site (called a) c.args.broken p) state
-    (subst (λ (x : ℕ × CallId). IsPrepared w b (site_states vs) x.0 x.1 c.args.broken p) (λ i. (sym site_is i, sym call_is i)) ready)
+    subst (IsPrepared w (book_of c.reserve.new.self.items c.book.inside.base.items) (site_states vs) c.in_ok-answer.answer.site (called a) c.args.broken)
+    (c.deref.ensures ∙ sym c.into_inner.ensures)
+    (subst (λ (x : BookState). IsPrepared w x (site_states vs) c.in_ok-answer.answer.site (called a) c.args.broken p) state
+    (subst (λ (x : ℕ × CallId). IsPrepared w b (site_states vs) x.0 x.1 c.args.broken p) (λ i. (sym site_is i, sym call_is i)) ready))
 
 pub end_round-requires-clause-asker : goal.end_round-requires-clause-asker
 unfolding history_definitions core_definitions
@@ -78,9 +82,10 @@ end_round-requires-clause-asker g c =
     let w = g.N.ClusterNaming.workload in
     let vs : List CellValue = held_cells c.meet_row.new.cells.items in
     let b : BookState = book_state c.meet_row.new.book in
-    let p = c.in_ok-prepared.prepared in
+    let p = c.deref.result.now in
     let a : Answer = plain_answer c.in_ok-answer.answer in
-    let ready : IsPrepared w b (site_states vs) c.args.home c.next.result c.args.broken p = c.in_ok-prepared.ensures in
+    let ready : IsPrepared w b (site_states vs) c.args.home c.next.result c.args.broken p =
+    subst (IsPrepared w b (site_states vs) c.args.home c.next.result c.args.broken) (sym (c.deref.ensures ∙ c.in_ok-prepared.ensures.ok)) c.in_ok-made.ensures in
     let is : a ≡ closing_answer p.round (closing_of w b (site_states vs) c.args.home c.next.result c.args.broken) =
     c.in_ok-answer.ensures ∙ c.answer.ensures ∙ ap (closing_answer p.round) ready.closing in
     let site_is : c.in_ok-answer.answer.site ≡ c.args.home = ap (λ (x : Answer). x.site) is in
@@ -104,9 +109,10 @@ invariant_of-pass-2 g c =
     let w = g.N.ClusterNaming.workload in
     let vs : List CellValue = held_cells c.meet_row.new.cells.items in
     let b : BookState = book_state c.meet_row.new.book in
-    let p = c.in_ok-prepared.prepared in
+    let p = c.deref.result.now in
     let a : Answer = plain_answer c.in_ok-answer.answer in
-    let ready : IsPrepared w b (site_states vs) c.args.home c.next.result c.args.broken p = c.in_ok-prepared.ensures in
+    let ready : IsPrepared w b (site_states vs) c.args.home c.next.result c.args.broken p =
+    subst (IsPrepared w b (site_states vs) c.args.home c.next.result c.args.broken) (sym (c.deref.ensures ∙ c.in_ok-prepared.ensures.ok)) c.in_ok-made.ensures in
     let is : a ≡ closing_answer p.round (closing_of w b (site_states vs) c.args.home c.next.result c.args.broken) =
     c.in_ok-answer.ensures ∙ c.answer.ensures ∙ ap (closing_answer p.round) ready.closing in
     let site_is : c.in_ok-answer.answer.site ≡ c.args.home = ap (λ (x : Answer). x.site) is in
@@ -131,9 +137,10 @@ returns-clause-replied g c =
     let w = g.N.ClusterNaming.workload in
     let vs : List CellValue = held_cells c.meet_row.new.cells.items in
     let b : BookState = book_state c.meet_row.new.book in
-    let p = c.in_ok-prepared.prepared in
+    let p = c.deref.result.now in
     let a : Answer = plain_answer c.in_ok-answer.answer in
-    let ready : IsPrepared w b (site_states vs) c.args.home c.next.result c.args.broken p = c.in_ok-prepared.ensures in
+    let ready : IsPrepared w b (site_states vs) c.args.home c.next.result c.args.broken p =
+    subst (IsPrepared w b (site_states vs) c.args.home c.next.result c.args.broken) (sym (c.deref.ensures ∙ c.in_ok-prepared.ensures.ok)) c.in_ok-made.ensures in
     let is : a ≡ closing_answer p.round (closing_of w b (site_states vs) c.args.home c.next.result c.args.broken) =
     c.in_ok-answer.ensures ∙ c.answer.ensures ∙ ap (closing_answer p.round) ready.closing in
     let site_is : c.in_ok-answer.answer.site ≡ c.args.home = ap (λ (x : Answer). x.site) is in
